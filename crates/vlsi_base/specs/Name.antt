@@ -1,0 +1,18 @@
+-- The order of names.
+use Rattle.std.specs.Prelude.{ℕ, Option, None, Some}
+use Rattle.std.specs.Ordering.{nat_cmp, ordering_then}
+use Rattle.std.specs.Cmp.Lexicographic.{slice_cmp}
+use Rattle.std.specs.declared.cmp.Ordering.{Ordering}
+use Rattle.std.specs.declared.cmp.Ordering.TheVariants.{Less, Equal, Greater}
+use Rattle.vlsi_base.specs.declared.name.Name.{Name}
+
+-- no bit comes before bits, and these rise
+abbrev pub bit_cmp : Option ℕ → Option ℕ → Ordering
+bit_cmp None None = Equal
+bit_cmp None (Some _) = Less
+bit_cmp (Some _) None = Greater
+bit_cmp (Some a) (Some b) = nat_cmp a b
+
+-- by the bytes of the text, and for one text by the bit
+abbrev pub name_cmp : Name → Name → Ordering
+name_cmp a b = ordering_then (slice_cmp nat_cmp a.text b.text) (bit_cmp a.bit b.bit)

@@ -1,0 +1,172 @@
+// What can be wrong with an input file, where, and which limit it passes.
+ghost use Rattle.std.specs.Prelude.{◌≡◌, codes};
+ghost use Rattle.vlsi_base.specs.Fault.{fault_text, limit_text};
+ghost use Rattle.vlsi_base.specs.declared.fault.ReadError.TheVariants.{Memory};
+
+use crate::Names;
+use std::alloc::{AllocError, AllocFailed};
+use thiserror::Error;
+
+/// What is wrong with an input file, in the words that are printed.
+#[derive(Clone, Copy, Debug, PartialEq, Eq)]
+pub enum FaultKind {
+    /// A byte that begins no token.
+    BadByte,
+    /// A token with which the tokens so far begin no sentence.
+    Syntax,
+    /// A name that is declared twice.
+    Twice,
+    /// A form of the language that this program leaves out.
+    Unsupported,
+    /// A name that isn't declared.
+    Unknown,
+    TwoDrivers,
+    Undriven,
+    /// Signals of which each reads the next, and the last the first.
+    Cycle,
+    /// Vectors of different widths, or an index outside of its vector.
+    Width,
+    /// The clock stands where none may, or a guard is none.
+    ClockUse,
+    NotAssigned,
+    BadState,
+    NoPragma,
+    UnknownCell,
+    BadMap,
+    Unconnected,
+    NoDriver,
+    TimeBack,
+    BadLine,
+    BadLayer,
+    BadTransform,
+    NoEnd,
+    AfterEnd,
+    NotPlaced,
+}
+
+impl FaultKind {
+    /// The words that are printed for it. Takes no memory.
+    pub fn as_str(self) -> &'static str
+        ensures { result.now ≡ fault_text self }
+    {
+        match self {
+            FaultKind::BadByte => "bad byte",
+            FaultKind::Syntax => "syntax",
+            FaultKind::Twice => "twice",
+            FaultKind::Unsupported => "unsupported",
+            FaultKind::Unknown => "unknown",
+            FaultKind::TwoDrivers => "two drivers",
+            FaultKind::Undriven => "undriven",
+            FaultKind::Cycle => "cycle",
+            FaultKind::Width => "width",
+            FaultKind::ClockUse => "clock use",
+            FaultKind::NotAssigned => "not assigned",
+            FaultKind::BadState => "bad state",
+            FaultKind::NoPragma => "no pragma",
+            FaultKind::UnknownCell => "unknown cell",
+            FaultKind::BadMap => "bad map",
+            FaultKind::Unconnected => "unconnected",
+            FaultKind::NoDriver => "no driver",
+            FaultKind::TimeBack => "time back",
+            FaultKind::BadLine => "bad line",
+            FaultKind::BadLayer => "bad layer",
+            FaultKind::BadTransform => "bad transform",
+            FaultKind::NoEnd => "no end",
+            FaultKind::AfterEnd => "after end",
+            FaultKind::NotPlaced => "not placed",
+        }
+    }
+}
+
+/// A fault of an input file: its line, counted from 1, its kind, and the names at fault.
+#[derive(Debug, Drop)]
+pub struct InputFault {
+    pub line: u32,
+    pub kind: FaultKind,
+    pub names: Names,
+}
+
+/// The quantities that have a greatest number.
+#[derive(Clone, Copy, Debug, PartialEq, Eq)]
+pub enum LimitKind {
+    /// Bytes of a file.
+    File,
+    /// Bytes of an identifier.
+    Ident,
+    /// Parentheses, ifs and cases that are open together.
+    Depth,
+    /// Bits of all ports and signals of a source.
+    Bits,
+    /// Operators of one expression, alternatives of one choice, assignments of one bit.
+    Chain,
+    /// A natural number in a source.
+    Number,
+    /// A coordinate or a width of an ap file, at scale 100.
+    Coordinate,
+    /// Port bits without vdd and vss.
+    Ports,
+    /// States of a state machine.
+    States,
+    /// The size of a machine.
+    Size,
+    /// Cells of a library.
+    Cells,
+    /// Columns of a cell.
+    Width,
+}
+
+impl LimitKind {
+    /// The word that is printed for it. Takes no memory.
+    pub fn as_str(self) -> &'static str
+        ensures { result.now ≡ limit_text self }
+    {
+        match self {
+            LimitKind::File => "file",
+            LimitKind::Ident => "ident",
+            LimitKind::Depth => "depth",
+            LimitKind::Bits => "bits",
+            LimitKind::Chain => "chain",
+            LimitKind::Number => "number",
+            LimitKind::Coordinate => "coordinate",
+            LimitKind::Ports => "ports",
+            LimitKind::States => "states",
+            LimitKind::Size => "size",
+            LimitKind::Cells => "cells",
+            LimitKind::Width => "width",
+        }
+    }
+}
+
+/// A quantity that is over its number, and what it reached.
+#[derive(Clone, Copy, Debug, PartialEq, Eq)]
+pub struct Limit {
+    pub which: LimitKind,
+    pub reached: u64,
+}
+
+/// Why a file isn't read.
+#[derive(Debug, Drop, Error)]
+pub enum ReadError {
+    #[error("out of memory")]
+    Memory,
+    #[error("line {}: {}", .0.line, .0.kind.as_str())]
+    Input(InputFault),
+    #[error("limit: {} {}", .0.which.as_str(), .0.reached)]
+    Limit(Limit),
+}
+
+impl From<AllocError> for ReadError {
+    ghost from_gives = { λ _ e. e ≡ Memory };
+
+    fn from(_: AllocError) -> Self {
+        ReadError::Memory
+    }
+}
+
+impl<T: Drop> From<AllocFailed<T>> for ReadError {
+    ghost from_gives = { λ _ e. e ≡ Memory };
+
+    fn from(_: AllocFailed<T>) -> Self {
+        ReadError::Memory
+    }
+}

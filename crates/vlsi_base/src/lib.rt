@@ -1,0 +1,12 @@
+//! The words that every crate speaks: texts, names with a bit, ports, faults and limits of input, decimal numbers.
+#![tactic(auto)]
+
+mod fault;
+mod name;
+mod number;
+mod text;
+
+pub use fault::{FaultKind, InputFault, Limit, LimitKind, ReadError};
+pub use name::{Dir, Name, Names, Port, Ports, Terminal};
+pub use number::{push_u64, read_u64};
+pub use text::{FileBytes, FileName, Text, Texts};
