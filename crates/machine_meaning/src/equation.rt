@@ -30,8 +30,12 @@ pub struct Equations {
 impl Model for Equations {
     ghost use Rattle.std.specs.Prelude.{List};
     ghost use Rattle.machine_meaning.specs.declared.equation.Equation.{Equation};
+    ghost use Rattle.bool_expr.specs.contracts.expr.Expr as e;
+    ghost use Rattle.std.specs.Coded.{codes};
 
     ghost Value = { List Equation };
+
+    ghost coded = { Prim.hlevel (codes, e.the_row.coded) };
 
     ghost view = { λ a. a.items.items };
 }
@@ -77,8 +81,12 @@ pub struct Registers {
 impl Model for Registers {
     ghost use Rattle.std.specs.Prelude.{List};
     ghost use Rattle.machine_meaning.specs.declared.equation.Register.{Register};
+    ghost use Rattle.bool_expr.specs.contracts.expr.Expr as e;
+    ghost use Rattle.std.specs.Coded.{codes};
 
     ghost Value = { List Register };
+
+    ghost coded = { Prim.hlevel (codes, e.the_row.coded) };
 
     ghost view = { λ a. a.items.items };
 }
