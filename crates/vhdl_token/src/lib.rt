@@ -1,13 +1,8 @@
-// A library with one function.
+//! The tokens of VHDL texts: reserved words, signs, names, numbers, bits and texts, each with its line.
 #![tactic(auto)]
 
-ghost use Rattle.std.specs.Prelude.{◌≡◌};
-ghost use Rattle.vhdl_token.specs.Echo.{echo_of};
+mod keyword;
+mod token;
 
-// The `ensures` clause is the contract: what `echo` returns is `echo_of` of its argument, a definition
-// in `specs/Echo.antt`, which a caller's clause can cite too.
-pub fn echo(x: usize) -> usize
-    ensures { result ≡ echo_of x }
-{
-    x
-}
+pub use keyword::Keyword;
+pub use token::{Base, Kind, PlacedToken, PlacedTokens, Sign, Token, Tokens};

@@ -1,0 +1,164 @@
+// Tokens and their kinds.
+ghost use Rattle.std.specs.Prelude.{◌≡◌, ◌++◌, ◌∷◌, [], OnOk, OnErr};
+ghost use Rattle.vhdl_token.specs.Kind.{kind_of};
+
+use crate::Keyword;
+use std::alloc::AllocError;
+use std::marker::Model;
+use vlsi_base::{Pragmas, Text};
+
+/// A sign of punctuation or an operator's sign.
+#[derive(Clone, Copy, Debug, PartialEq, Eq)]
+pub enum Sign {
+    /// `(`
+    LeftParen,
+    /// `)`
+    RightParen,
+    /// `,`
+    Comma,
+    /// `;`
+    Semicolon,
+    /// `:`
+    Colon,
+    /// `<=`
+    Assign,
+    /// `=>`
+    Arrow,
+    /// `:=`
+    Default,
+    /// `=`
+    Equal,
+    /// `/=`
+    Unequal,
+    /// `&`
+    Ampersand,
+    /// `|`
+    Bar,
+    /// `'`
+    Tick,
+    /// `<`
+    Less,
+    /// `>`
+    Greater,
+    /// `+`
+    Plus,
+    /// `?`
+    Question,
+    /// `*`
+    Star,
+}
+
+/// The base of a bit string: 1, 3 or 4 bits a digit.
+#[derive(Clone, Copy, Debug, PartialEq, Eq)]
+pub enum Base {
+    Binary,
+    Octal,
+    Hexadecimal,
+}
+
+/// The smallest part of a VHDL text that means something.
+#[derive(Debug, Drop)]
+pub enum Token {
+    /// In lower case, at most 64 bytes long, and no reserved word.
+    Identifier(Text),
+    Keyword(Keyword),
+    Number(u32),
+    /// `'0'` or `'1'`
+    Bit(bool),
+    /// What stands between two double quotes.
+    Quoted(Text),
+    /// A base and what stands between the double quotes, which may be no digits of that base.
+    BitString(Base, Text),
+    Sign(Sign),
+}
+
+/// What a grammar asks of a token: all but the text, number or bit that it carries.
+#[derive(Clone, Copy, Debug, PartialEq, Eq)]
+pub enum Kind {
+    Identifier,
+    Keyword(Keyword),
+    Number,
+    Bit,
+    Quoted,
+    BitString,
+    Sign(Sign),
+}
+
+impl Token {
+    /// Takes no memory.
+    pub fn kind(&self) -> Kind
+        ensures { result ≡ kind_of self.now }
+    {
+        match self {
+            Token::Identifier(_) => Kind::Identifier,
+            Token::Keyword(word) => Kind::Keyword(*word),
+            Token::Number(_) => Kind::Number,
+            Token::Bit(_) => Kind::Bit,
+            Token::Quoted(_) => Kind::Quoted,
+            Token::BitString(_, _) => Kind::BitString,
+            Token::Sign(sign) => Kind::Sign(*sign),
+        }
+    }
+}
+
+/// A token and the line on which it begins, counted from 1.
+#[derive(Debug, Drop)]
+pub struct PlacedToken {
+    pub token: Token,
+    pub line: u32,
+}
+
+/// Tokens in file order.
+#[derive(Debug, Drop)]
+pub struct PlacedTokens {
+    items: Vec<PlacedToken>,
+}
+
+impl Model for PlacedTokens {
+    ghost use Rattle.std.specs.Prelude.{List};
+    ghost use Rattle.vhdl_token.specs.declared.token.PlacedToken.{PlacedToken};
+
+    ghost Value = { List PlacedToken };
+
+    ghost view = { λ a. a.items.items };
+}
+
+impl PlacedTokens {
+    /// These tokens. Takes no memory.
+    pub fn new(items: Vec<PlacedToken>) -> Self
+        ensures { result ≡ items.items }
+    {
+        PlacedTokens { items }
+    }
+
+    pub fn as_slice(&self) -> &[PlacedToken]
+        ensures { result.now ≡ self.now }
+    {
+        &self.items
+    }
+
+    /// The tokens, given back. Takes no memory.
+    pub fn into_vec(self) -> Vec<PlacedToken>
+        ensures { result.items ≡ self }
+    {
+        let PlacedTokens { items } = self;
+        items
+    }
+
+    /// Puts a token behind those that are there.
+    pub fn push(&mut self, token: PlacedToken) -> Result<(), AllocError>
+        ensures ok { OnOk result (self.new ≡ self.old ++ token ∷ []) }
+        ensures err { OnErr result (self.new ≡ self.old) }
+    {
+        self.items.push(token)?;
+        Ok(())
+    }
+}
+
+/// A whole text: its tokens, its pragmas, which are no tokens, and the line on which its end stands.
+#[derive(Debug, Drop)]
+pub struct Tokens {
+    pub items: PlacedTokens,
+    pub pragmas: Pragmas,
+    pub last_line: u32,
+}
