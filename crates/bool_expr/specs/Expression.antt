@@ -1,5 +1,5 @@
 -- Boolean expressions over numbered variables: their values, by VHDL's operators, and their sizes.
-use Rattle.std.specs.Prelude.{ℕ, ◌+◌, Bool, true, false, not, ◌&&◌, ◌||◌, List, [], ◌∷◌, ◌++◌, if◌then◌else◌}
+use Rattle.std.specs.Prelude.{ℕ, ◌+◌, ◌<◌, Bool, false, not, ◌&&◌, ◌||◌, List, [], ◌∷◌, ◌++◌, if◌then◌else◌}
 use Rattle.std.specs.List.{slice_index_or}
 use Rattle.bool_expr.specs.declared.expr.Gate.{Gate}
 use Rattle.bool_expr.specs.declared.expr.Gate.TheVariants.{And, Or, Nand, Nor, Xor, Xnor}
@@ -55,3 +55,11 @@ variables (variable k) = k ∷ []
 variables (inverse e) = variables e
 variables (pair g a b) = variables a ++ variables b
 variables (choice c a b) = variables c ++ (variables a ++ variables b)
+
+-- each variable is below n
+abbrev pub IsOver : Expression → ℕ → Type 0
+IsOver (constant b) n = Unit {0}
+IsOver (variable k) n = k < n
+IsOver (inverse e) n = IsOver e n
+IsOver (pair g a b) n = IsOver a n × IsOver b n
+IsOver (choice c a b) n = IsOver c n × (IsOver a n × IsOver b n)

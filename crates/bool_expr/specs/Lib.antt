@@ -1,2 +1,4 @@
 pub mod Expression
 pub mod View
+pub mod Steps
+pub mod Support

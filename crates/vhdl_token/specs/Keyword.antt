@@ -1,5 +1,6 @@
 -- The reserved words: their texts, and a number for each.
-use Rattle.std.specs.Prelude.{ℕ, List, [], ◌∷◌, codes}
+use Rattle.std.specs.Prelude.{ℕ, List, [], ◌∷◌, codes, Option, find}
+use Rattle.std.specs.Str.{bytes_eq}
 use Rattle.vhdl_token.specs.declared.keyword.Keyword.{Keyword}
 use Rattle.vhdl_token.specs.declared.keyword.Keyword.TheVariants as word
 
@@ -110,3 +111,11 @@ keyword_number word.Xor = 49
 -- all of them, in the order of their texts
 abbrev pub keywords : List Keyword
 keywords = word.After ∷ word.And ∷ word.Architecture ∷ word.Assert ∷ word.Begin ∷ word.Bit ∷ word.BitVector ∷ word.Block ∷ word.Bus ∷ word.Case ∷ word.Component ∷ word.Constant ∷ word.Downto ∷ word.Else ∷ word.Elsif ∷ word.End ∷ word.Entity ∷ word.Generic ∷ word.Guarded ∷ word.If ∷ word.In ∷ word.Inout ∷ word.Is ∷ word.Map ∷ word.MuxBit ∷ word.MuxVector ∷ word.Nand ∷ word.Nor ∷ word.Not ∷ word.Of ∷ word.Or ∷ word.Others ∷ word.Out ∷ word.Port ∷ word.Process ∷ word.RegBit ∷ word.RegBitVector ∷ word.RegVector ∷ word.Register ∷ word.Report ∷ word.Severity ∷ word.Signal ∷ word.Then ∷ word.To ∷ word.Type ∷ word.When ∷ word.WorBit ∷ word.WorVector ∷ word.Xnor ∷ word.Xor ∷ []
+
+-- the first of some reserved words that has this text, in lower case
+abbrev pub keyword_among : List ℕ → List Keyword → Option Keyword
+keyword_among word ks = find (λ k. bytes_eq (keyword_text k) word) ks
+
+-- the reserved word that has this text
+unfoldable pub keyword_of : List ℕ → Option Keyword
+keyword_of word = keyword_among word keywords

@@ -1,6 +1,7 @@
 // The reserved words.
-ghost use Rattle.std.specs.Prelude.{◌≡◌};
-ghost use Rattle.vhdl_token.specs.Keyword.{keyword_text};
+ghost use Rattle.std.specs.Prelude.{◌≡◌, ◌≢◌, IfSome, IsNone};
+ghost use Rattle.vhdl_token.specs.declared.keyword.Keyword.{Keyword};
+ghost use Rattle.vhdl_token.specs.Keyword.{keyword_text, keyword_among, keyword_of};
 
 /// A reserved word, which is never an identifier of a vbe, fsm or vst text.
 #[derive(Clone, Copy, Debug, PartialEq, Eq)]
@@ -55,6 +56,73 @@ pub enum Keyword {
     WorVector,
     Xnor,
     Xor,
+}
+
+/// All of them, in the order of their texts.
+static KEYWORDS: [Keyword; 50] = [
+    Keyword::After,
+    Keyword::And,
+    Keyword::Architecture,
+    Keyword::Assert,
+    Keyword::Begin,
+    Keyword::Bit,
+    Keyword::BitVector,
+    Keyword::Block,
+    Keyword::Bus,
+    Keyword::Case,
+    Keyword::Component,
+    Keyword::Constant,
+    Keyword::Downto,
+    Keyword::Else,
+    Keyword::Elsif,
+    Keyword::End,
+    Keyword::Entity,
+    Keyword::Generic,
+    Keyword::Guarded,
+    Keyword::If,
+    Keyword::In,
+    Keyword::Inout,
+    Keyword::Is,
+    Keyword::Map,
+    Keyword::MuxBit,
+    Keyword::MuxVector,
+    Keyword::Nand,
+    Keyword::Nor,
+    Keyword::Not,
+    Keyword::Of,
+    Keyword::Or,
+    Keyword::Others,
+    Keyword::Out,
+    Keyword::Port,
+    Keyword::Process,
+    Keyword::RegBit,
+    Keyword::RegBitVector,
+    Keyword::RegVector,
+    Keyword::Register,
+    Keyword::Report,
+    Keyword::Severity,
+    Keyword::Signal,
+    Keyword::Then,
+    Keyword::To,
+    Keyword::Type,
+    Keyword::When,
+    Keyword::WorBit,
+    Keyword::WorVector,
+    Keyword::Xnor,
+    Keyword::Xor,
+];
+
+/// The first of these reserved words that the bytes are.
+fn keyword_among(keywords: &[Keyword], word: &[u8]) -> Option<Keyword>
+    ensures first { result ≡ keyword_among word.now keywords.now }
+    ensures spelled { IfSome result (λ k. keyword_text k ≡ word.now) }
+{
+    for keyword in keywords {
+        if keyword.as_str().as_bytes() == word {
+            return Some(*keyword);
+        }
+    }
+    None
 }
 
 impl Keyword {
@@ -114,5 +182,13 @@ impl Keyword {
             Keyword::Xnor => "xnor",
             Keyword::Xor => "xor",
         }
+    }
+    /// The reserved word that these bytes are, in lower case. Takes no memory.
+    pub fn from_word(word: &[u8]) -> Option<Self>
+        ensures first { result ≡ keyword_of word.now }
+        ensures spelled { IfSome result (λ k. keyword_text k ≡ word.now) }
+        ensures none { IsNone result → (k : Keyword) → keyword_text k ≢ word.now }
+    {
+        keyword_among(&KEYWORDS, word)
     }
 }
