@@ -5,7 +5,7 @@ use Rattle.std.specs.Cmp.Lexicographic.{pointwise, bytes_decides}
 use Rattle.std.proofs.lemmas.Bool.{eqb-true, eq-eqb}
 use Rattle.vlsi_base.specs.declared.name.Name.{Name}
 use Rattle.machine_meaning.specs.Named.{is_same_text, is_same_bit, is_same_name, value_at}
-use Rattle.machine_order.specs.Order.{In, here, there, AllDifferent}
+use Rattle.machine_core.specs.Order.{In, here, there, AllDifferent}
 
 and_parts : (a b : Bool) → (a && b) ≡ true → (a ≡ true) × (b ≡ true)
 and_parts true true h = (refl, refl)

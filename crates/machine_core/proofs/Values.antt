@@ -4,8 +4,8 @@ use Rattle.std.specs.List.{slice_index_or}
 use Rattle.vlsi_base.specs.declared.name.Name.{Name}
 use Rattle.bool_expr.specs.Expression.{Expression, constant, variable, inverse, pair, choice, bit, val, variables, gate_value}
 use Rattle.machine_meaning.specs.Named.{is_same_name, value_at, values_at}
-use Rattle.machine_order.specs.Order.{In, here, there, AllDifferent}
-use Rattle.machine_order.proofs.Names.{same_name-true, same_name-itself, same_name-false, set_at}
+use Rattle.machine_core.specs.Order.{In, here, there, AllDifferent}
+use Rattle.machine_core.proofs.Names.{same_name-true, same_name-itself, same_name-false, set_at}
 
 pub In-split : {A : Type 0} (x : A) (xs ys : List A) → In x (xs ++ ys) → In x xs ⊎ In x ys
 In-split x [] ys h = inr h
@@ -46,10 +46,10 @@ value_at-set_at [] w name b h lengths = elim h [ ]
 value_at-set_at (n ∷ names) [] name b h lengths = absurd (omega arith)
 value_at-set_at (n ∷ names) (c ∷ w) name b h lengths =
     by (is_same_name n name) refl (λ e. value_at-set_at names w name b (later_in n name names e h) (omega arith)) where
-  by : (same : Bool) → is_same_name n name ≡ same → (is_same_name n name ≡ false → value_at names (set_at names w name b) name ≡ b)
-      → value_at (n ∷ names) (if same then b ∷ w else c ∷ set_at names w name b) name ≡ b
-  by true e later = rw e refl
-  by false e later = rw e (later e)
+      by : (same : Bool) → is_same_name n name ≡ same → (is_same_name n name ≡ false → value_at names (set_at names w name b) name ≡ b)
+          → value_at (n ∷ names) (if same then b ∷ w else c ∷ set_at names w name b) name ≡ b
+      by true e later = rw e refl
+      by false e later = rw e (later e)
 
 -- other bits are read as before
 pub value_at-set_other : (names : List Name) (w : List Bool) (name : Name) (b : Bool) (other : Name) → name ≢ other
@@ -58,10 +58,10 @@ value_at-set_other [] w name b other apart = refl
 value_at-set_other (n ∷ names) [] name b other apart = refl
 value_at-set_other (n ∷ names) (c ∷ w) name b other apart =
     by (is_same_name n name) refl (value_at-set_other names w name b other apart) where
-  by : (same : Bool) → is_same_name n name ≡ same → value_at names (set_at names w name b) other ≡ value_at names w other
-      → value_at (n ∷ names) (if same then b ∷ w else c ∷ set_at names w name b) other ≡ value_at (n ∷ names) (c ∷ w) other
-  by true e later = let is = same_name-true n name e in rw (same_name-false n other (λ p. apart (sym is ∙ p))) refl
-  by false e later = ap (λ v. if is_same_name n other then c else v) later
+      by : (same : Bool) → is_same_name n name ≡ same → value_at names (set_at names w name b) other ≡ value_at names w other
+          → value_at (n ∷ names) (if same then b ∷ w else c ∷ set_at names w name b) other ≡ value_at (n ∷ names) (c ∷ w) other
+      by true e later = let is = same_name-true n name e in rw (same_name-false n other (λ p. apart (sym is ∙ p))) refl
+      by false e later = ap (λ v. if is_same_name n other then c else v) later
 
 found : (xs : List Name) (k : ℕ) (d : Name) → k < length xs → (x : Name) → x ≡ slice_index_or xs k d → In x xs
 found [] k d h x p = absurd (omega arith)
@@ -76,7 +76,7 @@ bit-value_at (n ∷ names) [] k d different lengths within = absurd (omega arith
 bit-value_at (n ∷ names) (c ∷ w) zero d different lengths within = rw (same_name-itself n) refl
 bit-value_at (n ∷ names) (c ∷ w) (suc k) d different lengths within =
     rw (same_name-false n (slice_index_or names k d) (λ p. different.0 (found names k d (omega arith) n p)))
-        (bit-value_at names w k d different.1 (omega arith) (omega arith))
+    (bit-value_at names w k d different.1 (omega arith) (omega arith))
 
 -- two lists of bits agree on some names
 abbrev pub AgreeOn : List Name → List Name → List Bool → List Bool → Type 0
@@ -94,8 +94,8 @@ same_from_values (n ∷ names) (c ∷ w) (b ∷ v) different lw lv agree =
     let first : c ≡ b = rw (same_name-itself n) at (agree n here) in
     let rest : w ≡ v = same_from_values names w v different.1 (omega arith) (omega arith) (λ name h. later name h (agree name (there h))) in
     ap (λ x. x ∷ w) first ∙ ap (λ xs. b ∷ xs) rest where
-  later : (name : Name) → In name names → value_at (n ∷ names) (c ∷ w) name ≡ value_at (n ∷ names) (b ∷ v) name → value_at names w name ≡ value_at names v name
-  later name h p = rw (same_name-false n name (λ q. different.0 (rw q h))) at p
+      later : (name : Name) → In name names → value_at (n ∷ names) (c ∷ w) name ≡ value_at (n ∷ names) (b ∷ v) name → value_at names w name ≡ value_at names v name
+      later name h p = rw (same_name-false n name (λ q. different.0 (rw q h))) at p
 
 -- an expression has one value under lists of bits that agree on what it reads
 pub val-agrees : (e : Expression) (w v : List Bool) → ((k : ℕ) → In k (variables e) → bit w k ≡ bit v k) → val e w ≡ val e v
@@ -105,6 +105,8 @@ val-agrees (inverse e) w v agree = rw (val-agrees e w v agree) refl
 val-agrees (pair g a b) w v agree =
     rw (val-agrees a w v (λ k h. agree k (In-left k (variables a) (variables b) h)), val-agrees b w v (λ k h. agree k (In-right k (variables a) (variables b) h))) refl
 val-agrees (choice c a b) w v agree =
-    rw (val-agrees c w v (λ k h. agree k (In-left k (variables c) (variables a ++ variables b) h)),
-        val-agrees a w v (λ k h. agree k (In-right k (variables c) (variables a ++ variables b) (In-left k (variables a) (variables b) h))),
-        val-agrees b w v (λ k h. agree k (In-right k (variables c) (variables a ++ variables b) (In-right k (variables a) (variables b) h)))) refl
+    rw (
+      val-agrees c w v (λ k h. agree k (In-left k (variables c) (variables a ++ variables b) h)),
+      val-agrees a w v (λ k h. agree k (In-right k (variables c) (variables a ++ variables b) (In-left k (variables a) (variables b) h))),
+      val-agrees b w v (λ k h. agree k (In-right k (variables c) (variables a ++ variables b) (In-right k (variables a) (variables b) h))),
+    ) refl

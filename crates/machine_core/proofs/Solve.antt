@@ -8,9 +8,9 @@ use Rattle.bool_expr.specs.Expression.{bit, val, variables}
 use Rattle.machine_meaning.specs.Named.{value_at, values_at}
 use Rattle.machine_meaning.specs.Machine.{Machine, Equation, inputs, register_names}
 use Rattle.machine_meaning.specs.Cycles.{Settles}
-use Rattle.machine_order.specs.Order.{In, here, there, AllDifferent, held_names, equation_names, ReadsKnown, EachReadsKnown, IsOrdered}
-use Rattle.machine_order.proofs.Names.{set_at}
-use Rattle.machine_order.proofs.Values.{In-split, In-left, In-right, length-set_at, value_at-set_at, value_at-set_other, bit-value_at, AgreeOn, same_from_values, val-agrees}
+use Rattle.machine_core.specs.Order.{In, here, there, AllDifferent, held_names, equation_names, ReadsKnown, EachReadsKnown, IsOrdered}
+use Rattle.machine_core.proofs.Names.{set_at}
+use Rattle.machine_core.proofs.Values.{In-split, In-left, In-right, length-set_at, value_at-set_at, value_at-set_other, bit-value_at, AgreeOn, same_from_values, val-agrees}
 
 -- the bits with those of some names put in place
 abbrev pub given : List Name → List Bool → List Name → List Bool → List Bool
@@ -65,7 +65,7 @@ values_at-given vars w (n ∷ names) (b ∷ bits) different inside lengths count
     let changed = set_at vars w n b in
     let first : value_at vars (given vars changed names bits) n ≡ b = value_at-given_other vars changed names bits n different.0 ∙ value_at-set_at vars w n b (inside n here) lengths in
     let rest : values_at vars (given vars changed names bits) names ≡ bits =
-        values_at-given vars changed names bits different.1 (λ name h. inside name (there h)) (length-set_at vars w n b ∙ lengths) (omega arith) in
+    values_at-given vars changed names bits different.1 (λ name h. inside name (there h)) (length-set_at vars w n b ∙ lengths) (omega arith) in
     ap (λ x. x ∷ values_at vars (given vars changed names bits) names) first ∙ ap (λ xs. b ∷ xs) rest
 
 pub values_at-agree : (vars : List Name) (w v : List Bool) (asked : List Name) → AgreeOn vars asked w v → values_at vars w asked ≡ values_at vars v asked
@@ -83,9 +83,9 @@ val-kept : (vars known : List Name) (w v : List Bool) (e : Equation) → AllDiff
     → ReadsKnown vars known e → AgreeOn vars known w v → val e.expr w ≡ val e.expr v
 val-kept vars known w v e different lw lv reads agree =
     val-agrees e.expr w v (λ k h. let r = reads k h in
-        bit-value_at vars w k e.name different lw r.0
-        ∙ agree (slice_index_or vars k e.name) (r.1 e.name)
-        ∙ sym (bit-value_at vars v k e.name different lv r.0))
+    bit-value_at vars w k e.name different lw r.0
+    ∙ agree (slice_index_or vars k e.name) (r.1 e.name)
+    ∙ sym (bit-value_at vars v k e.name different lv r.0))
 
 -- each equation holds of the solved bits
 pub solved-settles : (vars known : List Name) (w : List Bool) (equations : List Equation) → AllDifferent vars → length w ≡ length vars
@@ -100,16 +100,16 @@ solved-settles vars known w (e ∷ rest) different lw reads once apart inside =
     let lc : length changed ≡ length vars = length-set_at vars w e.name b ∙ lw in
     let ll : length last ≡ length vars = length-solved vars changed rest ∙ lc in
     let kept : AgreeOn vars known w last = λ name h.
-        sym (value_at-solved_other vars changed rest name (λ g. apart name h (there g))
-            ∙ value_at-set_other vars w e.name b name (λ p. apart name h (rw p here))) in
+    sym (value_at-solved_other vars changed rest name (λ g. apart name h (there g))
+    ∙ value_at-set_other vars w e.name b name (λ p. apart name h (rw p here))) in
     let first : value_at vars last e.name ≡ val e.expr last =
-        value_at-solved_other vars changed rest e.name once.0 ∙ value_at-set_at vars w e.name b (inside e.name here) lw
-        ∙ val-kept vars known w last e different lw ll reads.0 kept in
+    value_at-solved_other vars changed rest e.name once.0 ∙ value_at-set_at vars w e.name b (inside e.name here) lw
+    ∙ val-kept vars known w last e different lw ll reads.0 kept in
     All-cons (λ x. value_at vars last x.name ≡ val x.expr last) e rest first
-        (solved-settles vars (e.name ∷ known) changed rest different lc reads.1 once.1 (apart_more e rest apart once.0) (λ name h. inside name (there h))) where
-  apart_more : (e : Equation) (rest : List Equation) → Disjoint known (names_of (e ∷ rest)) → (In e.name (names_of rest) → ⊥) → Disjoint (e.name ∷ known) (names_of rest)
-  apart_more e rest apart new name here g = new g
-  apart_more e rest apart new name (there h) g = apart name h (there g)
+    (solved-settles vars (e.name ∷ known) changed rest different lc reads.1 once.1 (apart_more e rest apart once.0) (λ name h. inside name (there h))) where
+      apart_more : (e : Equation) (rest : List Equation) → Disjoint known (names_of (e ∷ rest)) → (In e.name (names_of rest) → ⊥) → Disjoint (e.name ∷ known) (names_of rest)
+      apart_more e rest apart new name here g = new g
+      apart_more e rest apart new name (there h) g = apart name h (there g)
 
 -- lists of bits of which the equations hold agree on all names, if they agree on those that are known
 pub agree-solved : (vars known : List Name) (w v : List Bool) (equations : List Equation) → AllDifferent vars → length w ≡ length vars → length v ≡ length vars
@@ -122,16 +122,16 @@ agree-solved vars known w v (e ∷ rest) different lw lv reads hw hv agree name 
     let pv = All-head (λ x. value_at vars v x.name ≡ val x.expr v) e rest hv in
     let same : value_at vars w e.name ≡ value_at vars v e.name = pw ∙ val-kept vars known w v e different lw lv reads.0 agree ∙ sym pv in
     agree-solved vars (e.name ∷ known) w v rest different lw lv reads.1
-        (All-tail (λ x. value_at vars w x.name ≡ val x.expr w) e rest hw) (All-tail (λ x. value_at vars v x.name ≡ val x.expr v) e rest hv)
-        (more e.name known same agree) name (moved e.name known (names_of rest) name (In-split name known (e.name ∷ names_of rest) h)) where
-  more : (n : Name) (known : List Name) → value_at vars w n ≡ value_at vars v n → AgreeOn vars known w v → AgreeOn vars (n ∷ known) w v
-  more n known same agree name here = same
-  more n known same agree name (there h) = agree name h
+    (All-tail (λ x. value_at vars w x.name ≡ val x.expr w) e rest hw) (All-tail (λ x. value_at vars v x.name ≡ val x.expr v) e rest hv)
+    (more e.name known same agree) name (moved e.name known (names_of rest) name (In-split name known (e.name ∷ names_of rest) h)) where
+      more : (n : Name) (known : List Name) → value_at vars w n ≡ value_at vars v n → AgreeOn vars known w v → AgreeOn vars (n ∷ known) w v
+      more n known same agree name here = same
+      more n known same agree name (there h) = agree name h
 
-  moved : (n : Name) (known rest : List Name) (name : Name) → In name known ⊎ In name (n ∷ rest) → In name ((n ∷ known) ++ rest)
-  moved n known rest name (inl left) = there (In-left name known rest left)
-  moved n known rest name (inr here) = here
-  moved n known rest name (inr (there h)) = there (In-right name known rest h)
+      moved : (n : Name) (known rest : List Name) (name : Name) → In name known ⊎ In name (n ∷ rest) → In name ((n ∷ known) ++ rest)
+      moved n known rest name (inl left) = there (In-left name known rest left)
+      moved n known rest name (inr here) = here
+      moved n known rest name (inr (there h)) = there (In-right name known rest h)
 
 different-left : (xs ys : List Name) → AllDifferent (xs ++ ys) → AllDifferent xs
 different-left [] ys h = tt
@@ -162,23 +162,27 @@ settles_once m s i o ls li =
     let apart_held = different-apart (inputs m) (register_names m) held in
     let kept : AgreeOn m.vars (held_names m) w with_registers = λ name h. value_at-solved_other m.vars with_registers m.equations name (apart name h) in
     let on_inputs : values_at m.vars w (inputs m) ≡ i =
-        values_at-agree m.vars w with_inputs (inputs m) (λ name h.
-            kept name (In-left name (inputs m) (register_names m) h)
-            ∙ value_at-given_other m.vars with_inputs (register_names m) s name (apart_held name h))
-        ∙ values_at-given m.vars blank (inputs m) i (different-left (inputs m) (register_names m) held)
-            (λ name h. o.inside name (In-left name (held_names m) (equation_names m) (In-left name (inputs m) (register_names m) h))) lb li in
+    values_at-agree m.vars w with_inputs (inputs m) (λ name h.
+    kept name (In-left name (inputs m) (register_names m) h)
+    ∙ value_at-given_other m.vars with_inputs (register_names m) s name (apart_held name h))
+    ∙ values_at-given m.vars blank (inputs m) i (different-left (inputs m) (register_names m) held)
+    (λ name h. o.inside name (In-left name (held_names m) (equation_names m) (In-left name (inputs m) (register_names m) h))) lb li in
     let on_registers : values_at m.vars w (register_names m) ≡ s =
-        values_at-agree m.vars w with_registers (register_names m) (λ name h. kept name (In-right name (inputs m) (register_names m) h))
-        ∙ values_at-given m.vars with_inputs (register_names m) s (different-right (inputs m) (register_names m) held)
-            (λ name h. o.inside name (In-left name (held_names m) (equation_names m) (In-right name (inputs m) (register_names m) h))) l1 (ls ∙ sym (length-map m.registers (λ r. r.name))) in
+    values_at-agree m.vars w with_registers (register_names m) (λ name h. kept name (In-right name (inputs m) (register_names m) h))
+    ∙ values_at-given m.vars with_inputs (register_names m) s (different-right (inputs m) (register_names m) held)
+    (λ name h. o.inside name (In-left name (held_names m) (equation_names m) (In-right name (inputs m) (register_names m) h))) l1 (ls ∙ sym (length-map m.registers (λ r. r.name))) in
     let settled = solved-settles m.vars (held_names m) with_registers m.equations o.different l2 o.ordered
-        (different-right (held_names m) (equation_names m) o.once) apart
-        (λ name h. o.inside name (In-right name (held_names m) (equation_names m) h)) in
-    let settles : Settles m s i w = record { each = lw; inputs = on_inputs; registers = on_registers; equations = settled } in
-    (w, settles, λ other h.
-        same_from_values m.vars other w o.different h.each lw (λ name g.
-            agree-solved m.vars (held_names m) other w m.equations o.different h.each lw o.ordered h.equations settled
-                (λ n f. elim (In-split n (inputs m) (register_names m) f) [
-                    inl left ↦ agree_from_values m.vars other w (inputs m) (h.inputs ∙ sym on_inputs) n left
-                    | inr right ↦ agree_from_values m.vars other w (register_names m) (h.registers ∙ sym on_registers) n right ])
-                name (o.covered name g)))
+    (different-right (held_names m) (equation_names m) o.once) apart
+    (λ name h. o.inside name (In-right name (held_names m) (equation_names m) h)) in
+    let settles : Settles m s i w = record { each = lw; inputs = on_inputs; registers = on_registers; equations = settled } in (
+      w,
+      settles,
+      λ other h.
+          same_from_values m.vars other w o.different h.each lw (λ name g.
+          agree-solved m.vars (held_names m) other w m.equations o.different h.each lw o.ordered h.equations settled
+          (λ n f. elim (In-split n (inputs m) (register_names m) f) [
+            | inl left ↦ agree_from_values m.vars other w (inputs m) (h.inputs ∙ sym on_inputs) n left
+            | inr right ↦ agree_from_values m.vars other w (register_names m) (h.registers ∙ sym on_registers) n right
+          ])
+          name (o.covered name g)),
+    )

@@ -1,0 +1,8 @@
+//! Machines that have passed their checks, and what follows from them.
+#![tactic(auto)]
+
+mod law;
+mod machine;
+
+pub use law::settles_once;
+pub use machine::Machine;
