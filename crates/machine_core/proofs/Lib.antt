@@ -1,3 +1,5 @@
 pub mod Names
 pub mod Values
+pub mod Known
 pub mod Solve
+pub mod Built

@@ -1,11 +1,9 @@
 -- Tests of names, and bits by name.
-use Rattle.std.proofs.Common.{◌≡◌, ◌≢◌, ◌<◌, ℕ, ◌+◌, Bool, true, false, ◌&&◌, List, [], ◌∷◌, length, Option, None, Some, refl, sym, ◌∙◌, ap, arith, nat_eq, if◌then◌else◌}
-use Rattle.std.specs.List.{slice_index_or}
-use Rattle.std.specs.Cmp.Lexicographic.{pointwise, bytes_decides}
+use Rattle.std.proofs.Common.{◌≡◌, ◌≢◌, ℕ, Bool, true, false, ◌&&◌, List, [], ◌∷◌, Option, None, Some, refl, ◌∙◌, ap, if◌then◌else◌}
+use Rattle.std.specs.Cmp.Lexicographic.{bytes_decides}
 use Rattle.std.proofs.lemmas.Bool.{eqb-true, eq-eqb}
 use Rattle.vlsi_base.specs.declared.name.Name.{Name}
-use Rattle.machine_meaning.specs.Named.{is_same_text, is_same_bit, is_same_name, value_at}
-use Rattle.machine_core.specs.Order.{In, here, there, AllDifferent}
+use Rattle.machine_meaning.specs.Named.{is_same_text, is_same_bit, is_same_name}
 
 and_parts : (a b : Bool) → (a && b) ≡ true → (a ≡ true) × (b ≡ true)
 and_parts true true h = (refl, refl)

@@ -1,14 +1,15 @@
 -- The one valuation of an ordered machine: what is given is put in place, and then each equation in turn.
-use Rattle.std.proofs.Common.{◌≡◌, ◌≢◌, ◌<◌, ℕ, zero, suc, ◌+◌, Bool, true, false, List, [], ◌∷◌, ◌++◌, length, map, replicate, refl, sym, ◌∙◌, ap, arith, ◌⊎◌, inl, inr}
+use Rattle.std.proofs.Common.{◌≡◌, Bool, false, List, [], ◌∷◌, ◌++◌, length, map, replicate, refl, sym, ◌∙◌, ap, arith, ◌⊎◌, inl, inr}
 use Rattle.std.specs.List.{slice_index_or, All}
 use Rattle.std.proofs.lemmas.List.{length-map, length-replicate}
 use Rattle.std.proofs.lemmas.List.Elements.{All-nil, All-cons, All-head, All-tail}
 use Rattle.vlsi_base.specs.declared.name.Name.{Name}
-use Rattle.bool_expr.specs.Expression.{bit, val, variables}
+use Rattle.bool_expr.specs.Expression.{val}
 use Rattle.machine_meaning.specs.Named.{value_at, values_at}
 use Rattle.machine_meaning.specs.Machine.{Machine, Equation, inputs, register_names}
 use Rattle.machine_meaning.specs.Cycles.{Settles}
-use Rattle.machine_core.specs.Order.{In, here, there, AllDifferent, held_names, equation_names, ReadsKnown, EachReadsKnown, IsOrdered}
+use Rattle.machine_core.specs.Order.{In, here, there, AllDifferent, held_names, equation_names}
+use Rattle.machine_core.proofs.Known.{ReadsKnown, EachReadsKnown, IsKnown}
 use Rattle.machine_core.proofs.Names.{set_at}
 use Rattle.machine_core.proofs.Values.{In-split, In-left, In-right, length-set_at, value_at-set_at, value_at-set_other, bit-value_at, AgreeOn, same_from_values, val-agrees}
 
@@ -146,9 +147,9 @@ different-apart (x ∷ xs) ys h name here g = h.0 (In-right x xs ys g)
 different-apart (x ∷ xs) ys h name (there f) g = different-apart xs ys h.1 name f g
 different-apart [] ys h name f g = elim f [ ]
 
-pub settles_once : (m : Machine) (s i : List Bool) → IsOrdered m → length s ≡ length m.registers → length i ≡ length (inputs m)
+pub settles_once_known : (m : Machine) (s i : List Bool) → IsKnown m → length s ≡ length m.registers → length i ≡ length (inputs m)
     → (w : List Bool) × Settles m s i w × ((other : List Bool) → Settles m s i other → other ≡ w)
-settles_once m s i o ls li =
+settles_once_known m s i o ls li =
     let blank : List Bool = replicate (length m.vars) false in
     let with_inputs = given m.vars blank (inputs m) i in
     let with_registers = given m.vars with_inputs (register_names m) s in

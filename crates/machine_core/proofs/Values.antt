@@ -1,9 +1,9 @@
 -- Bits by name, where a list of different names and a list of as many bits go together.
-use Rattle.std.proofs.Common.{◌≡◌, ◌≢◌, ◌<◌, ℕ, zero, suc, ◌+◌, Bool, true, false, List, [], ◌∷◌, ◌++◌, length, map, refl, sym, ◌∙◌, ap, arith, if◌then◌else◌, ◌⊎◌, inl, inr}
+use Rattle.std.proofs.Common.{◌≡◌, ◌≢◌, ◌<◌, ℕ, zero, suc, Bool, true, false, List, [], ◌∷◌, ◌++◌, length, map, refl, sym, ◌∙◌, ap, arith, if◌then◌else◌, ◌⊎◌, inl, inr}
 use Rattle.std.specs.List.{slice_index_or}
 use Rattle.vlsi_base.specs.declared.name.Name.{Name}
-use Rattle.bool_expr.specs.Expression.{Expression, constant, variable, inverse, pair, choice, bit, val, variables, gate_value}
-use Rattle.machine_meaning.specs.Named.{is_same_name, value_at, values_at}
+use Rattle.bool_expr.specs.Expression.{Expression, constant, variable, inverse, pair, choice, bit, val, variables}
+use Rattle.machine_meaning.specs.Named.{is_same_name, value_at}
 use Rattle.machine_core.specs.Order.{In, here, there, AllDifferent}
 use Rattle.machine_core.proofs.Names.{same_name-true, same_name-itself, same_name-false, set_at}
 

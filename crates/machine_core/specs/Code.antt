@@ -1,6 +1,6 @@
 -- Expressions as lists of steps, by which a proof tells them apart.
 use Rattle.std.specs.Prelude.{◌≡◌, ℕ, Bool, List, [], ◌∷◌, ◌++◌, refl}
-use Rattle.std.proofs.Common.{◌∙◌, ap, append_assoc, sym}
+use Rattle.std.proofs.Common.{◌∙◌, ap, append_assoc}
 use Rattle.std.specs.Coded.{Coded, code_by}
 use Rattle.bool_expr.specs.declared.expr.Gate.{Gate}
 use Rattle.bool_expr.specs.Expression.{Expression, constant, variable, inverse, pair, choice}

@@ -1,4 +1,5 @@
 pub mod Order
+pub mod Built
 pub mod Checked
 pub mod Code
 pub mod View

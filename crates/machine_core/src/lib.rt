@@ -4,5 +4,5 @@
 mod law;
 mod machine;
 
-pub use law::settles_once;
+pub use law::{built_settles, settles_once};
 pub use machine::Machine;
