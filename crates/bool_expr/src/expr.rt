@@ -1,6 +1,7 @@
 // Expressions, bits and variables.
-ghost use Rattle.std.specs.Prelude.{◌≡◌};
+ghost use Rattle.std.specs.Prelude.{◌≡◌, ◌++◌, ◌∷◌, [], OnOk, OnErr};
 
+use std::alloc::AllocError;
 use std::marker::Model;
 
 /// An operator of two operands.
@@ -66,6 +67,15 @@ impl Bits {
         ensures { result.now ≡ self.now }
     {
         &self.items
+    }
+
+    /// Puts a bit behind those that are there.
+    pub fn push(&mut self, bit: bool) -> Result<(), AllocError>
+        ensures ok { OnOk result (self.new ≡ self.old ++ bit ∷ []) }
+        ensures err { OnErr result (self.new ≡ self.old) }
+    {
+        self.items.push(bit)?;
+        Ok(())
     }
 
     /// The bits, given back. Takes no memory.

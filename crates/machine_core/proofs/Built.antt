@@ -12,7 +12,7 @@ use Rattle.machine_core.specs.Order.{In, here, there, AllDifferent, held_names, 
 use Rattle.machine_core.specs.Built.{built}
 use Rattle.machine_core.proofs.Names.{same_name-itself, same_name-false}
 use Rattle.machine_core.proofs.Values.{In-left, val-agrees, bit-value_at}
-use Rattle.machine_core.proofs.Known.{All-In, known}
+use Rattle.machine_core.proofs.Known.{IsOver-In, known}
 use Rattle.machine_core.proofs.Solve.{settles_once_known}
 
 values_at-later : (n : Name) (names : List Name) (b : Bool) (w : List Bool) (asked : List Name) → (In n asked → ⊥)
@@ -58,7 +58,7 @@ built_is w front (b ∷ rest) [] parts lengths below holds = absurd (omega arith
 built_is w front [] (e ∷ equations) parts lengths below holds = absurd (omega arith)
 built_is w front (b ∷ rest) (e ∷ equations) parts lengths below holds =
     let same : val e.expr w ≡ val e.expr front =
-    val-agrees e.expr w front (λ k h. rw parts (bit-front front (b ∷ rest) k (All-In (λ j. j < length front) (variables e.expr) below.0 k h))) in
+    val-agrees e.expr w front (λ k h. rw parts (bit-front front (b ∷ rest) k (IsOver-In e.expr (length front) below.0 k h))) in
     let value : b ≡ val e.expr front = sym (bit-next front b rest) ∙ ap (λ x. bit x (length front)) (sym parts) ∙ holds.0 ∙ same in
     let longer : length (front ++ val e.expr front ∷ []) ≡ length front + 1 = length-append front (val e.expr front ∷ []) in
     built_is w (front ++ val e.expr front ∷ []) rest equations

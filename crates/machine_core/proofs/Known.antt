@@ -1,10 +1,10 @@
 -- The order of equations, by the names that are known.
-use Rattle.std.proofs.Common.{◌≡◌, ◌<◌, ℕ, zero, suc, ◌+◌, List, [], ◌∷◌, ◌++◌, map, length, sym, ◌∙◌, arith, append_assoc, length-append, subst}
+use Rattle.std.proofs.Common.{◌⊎◌, inl, inr, ◌≡◌, ◌<◌, ℕ, zero, suc, ◌+◌, List, [], ◌∷◌, ◌++◌, map, length, sym, ◌∙◌, arith, append_assoc, length-append, subst}
 use Rattle.std.specs.List.{slice_index_or, All}
-use Rattle.std.proofs.lemmas.List.Elements.{All-head, All-tail}
 use Rattle.vlsi_base.specs.declared.name.Name.{Name}
-use Rattle.bool_expr.specs.Expression.{variables}
+use Rattle.bool_expr.specs.Expression.{Expression, constant, variable, inverse, pair, choice, variables, IsOver}
 use Rattle.machine_meaning.specs.Machine.{Machine, Equation}
+use Rattle.machine_core.proofs.Values.{In-split}
 use Rattle.machine_core.specs.Order.{In, here, there, AllDifferent, held_names, equation_names, EachReadsBelow, IsOrdered}
 
 -- each variable of the equation is the number of a name that is known
@@ -23,10 +23,16 @@ pub record IsKnown (m : Machine) : Type 0 where
   pub inside : (name : Name) → In name (held_names m ++ equation_names m) → In name m.vars
   pub ordered : EachReadsKnown m.vars (held_names m) m.equations
 
-pub All-In : {A : Type 0} (P : A → Type 0) (xs : List A) → All P xs → (x : A) → In x xs → P x
-All-In P (y ∷ xs) h x here = All-head P y xs h
-All-In P (y ∷ xs) h x (there g) = All-In P xs (All-tail P y xs h) x g
-All-In P [] h x g = elim g [ ]
+-- the variables of an expression over n are below n
+pub IsOver-In : (e : Expression) (n : ℕ) → IsOver e n → (k : ℕ) → In k (variables e) → k < n
+IsOver-In (constant b) n h k g = elim g [ ]
+IsOver-In (variable j) n h k here = h
+IsOver-In (variable j) n h k (there g) = elim g [ ]
+IsOver-In (inverse e) n h k g = IsOver-In e n h k g
+IsOver-In (pair o a b) n h k g = elim (In-split k (variables a) (variables b) g) [ inl x ↦ IsOver-In a n h.0 k x | inr y ↦ IsOver-In b n h.1 k y ]
+IsOver-In (choice c a b) n h k g = elim (In-split k (variables c) (variables a ++ variables b) g) [
+    inl x ↦ IsOver-In c n h.0 k x
+    | inr y ↦ elim (In-split k (variables a) (variables b) y) [ inl x ↦ IsOver-In a n h.1.0 k x | inr z ↦ IsOver-In b n h.1.1 k z ] ]
 
 In-front : (front back : List Name) (k : ℕ) (d : Name) → k < length front → In (slice_index_or (front ++ back) k d) front
 In-front [] back k d h = absurd (omega arith)
@@ -38,7 +44,7 @@ known_from_below : (vars front known : List Name) (equations : List Equation) �
 known_from_below vars front known [] vars_are covers below = tt
 known_from_below vars front known (e ∷ rest) vars_are covers below = (
   λ k h.
-      let low : k < length front = All-In (λ j. j < length front) (variables e.expr) below.0 k h in (
+      let low : k < length front = IsOver-In e.expr (length front) below.0 k h in (
         rw vars_are (omega (arith, length-append front (e.name ∷ map (λ x. x.name) rest))),
         λ d. rw vars_are (covers (slice_index_or (front ++ (e.name ∷ map (λ x. x.name) rest)) k d) (In-front front (e.name ∷ map (λ x. x.name) rest) k d low)),
       ),

@@ -1,8 +1,7 @@
 -- Machines whose equations stand in an order in which each reads only what is known before it.
-use Rattle.std.specs.Prelude.{◌≡◌, ◌<◌, ℕ, ◌+◌, Bool, List, [], ◌∷◌, ◌++◌, map, length}
-use Rattle.std.specs.List.{All}
+use Rattle.std.specs.Prelude.{◌≡◌, ℕ, ◌+◌, Bool, List, [], ◌∷◌, ◌++◌, map, length}
 use Rattle.vlsi_base.specs.declared.name.Name.{Name}
-use Rattle.bool_expr.specs.Expression.{variables}
+use Rattle.bool_expr.specs.Expression.{IsOver}
 use Rattle.machine_meaning.specs.Machine.{Machine, Equation, inputs, register_names}
 use Rattle.machine_meaning.specs.Cycles.{Settles}
 
@@ -26,7 +25,7 @@ equation_names m = map (λ e. e.name) m.equations
 -- Each equation reads only variables below n, where n grows by one from equation to equation.
 abbrev pub EachReadsBelow : ℕ → List Equation → Type 0
 EachReadsBelow n [] = Unit {0}
-EachReadsBelow n (e ∷ rest) = All (λ k. k < n) (variables e.expr) × EachReadsBelow (n + 1) rest
+EachReadsBelow n (e ∷ rest) = IsOver e.expr n × EachReadsBelow (n + 1) rest
 
 pub record IsOrdered (m : Machine) : Type 0 where
   -- the names are those of inputs, registers and equations, in this order, and no two of them are one
