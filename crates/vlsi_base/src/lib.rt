@@ -5,10 +5,12 @@ mod fault;
 mod name;
 mod number;
 mod pragma;
+mod raw;
 mod text;
 
 pub use fault::{FaultKind, InputFault, Limit, LimitKind, ReadError};
 pub use name::{Dir, Name, Names, Port, Ports, Terminal};
 pub use number::{push_u64, read_u64};
 pub use pragma::{Pragma, Pragmas};
+pub use raw::{Operator, Radix, Range, Raw};
 pub use text::{FileBytes, FileName, Text, Texts};
