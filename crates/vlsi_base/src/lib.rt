@@ -1,6 +1,7 @@
 //! The words that every crate speaks: texts, names with a bit, ports, faults and limits of input, decimal numbers.
 #![tactic(auto)]
 
+mod entity;
 mod fault;
 mod name;
 mod number;
@@ -8,6 +9,10 @@ mod pragma;
 mod raw;
 mod text;
 
+pub use entity::{
+    Declarations, Entity, Generic, Generics, Mode, NewName, NewNames, PortGroup, PortGroups,
+    SignalGroup, SignalGroups, SignalType, TypeWord,
+};
 pub use fault::{FaultKind, InputFault, Limit, LimitKind, ReadError};
 pub use name::{Dir, Name, Names, Port, Ports, Terminal};
 pub use number::{push_u64, read_u64};
