@@ -3,9 +3,9 @@ ghost use Rattle.std.specs.Prelude.{◌≡◌, ◌<◌};
 ghost use Rattle.std.specs.List.{list_all};
 ghost use Rattle.vhdl_token.specs.Keyword.{keyword_number};
 ghost use Rattle.vhdl_token.specs.Kind.{sign_number};
-ghost use Rattle.grammar_theory.specs.Tokens.{code, form_of, is_bit as is_bit_digit, is_digit_of};
+ghost use Rattle.grammar_theory.specs.Tokens.{code, is_of, form_of, is_bit as is_bit_digit, is_digit_of};
 
-use vhdl_token::{Base, Keyword, Sign, Token};
+use vhdl_token::{Base, Keyword, PlacedToken, Sign, Token};
 
 /// What a grammar asks of a token: its kind, and of a text whether it spells bits.
 #[derive(Clone, Copy, Debug, PartialEq, Eq)]
@@ -49,6 +49,14 @@ impl Form {
             }
             Token::Sign(sign) => Form::Sign(*sign),
         }
+    }
+
+    /// Whether the token is of this form. Takes no memory, and time in the length of a text between quotes.
+    #[tactic(auto, unfolding(crate::specs::Tokens::code_of))]
+    pub fn fits(self, token: &PlacedToken) -> bool
+        ensures { result ≡ is_of self token.now }
+    {
+        Form::of(&token.token).code() == self.code()
     }
 
     /// A number for each form.
