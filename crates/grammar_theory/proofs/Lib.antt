@@ -1,0 +1,10 @@
+pub mod Sets
+pub mod Exact
+pub mod Sequence
+pub mod Either
+pub mod Samples
+pub mod Bundle
+pub mod Many
+pub mod Levels
+pub mod End
+pub mod Listing

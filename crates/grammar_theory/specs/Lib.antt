@@ -1,0 +1,5 @@
+pub mod Tokens
+pub mod Marks
+pub mod Grammar
+pub mod Outcome
+pub mod Answers

@@ -1,0 +1,156 @@
+// Taking tokens, with what each does beside standing in its place.
+ghost use Rattle.std.specs.Prelude.{◌≡◌, ◌∷◌, ◌<◌, Ok, IfOk, IfErr, IsTrue, true, option_copied};
+ghost use Rattle.vhdl_token.specs.declared.token.PlacedToken.{PlacedToken};
+ghost use Rattle.grammar_theory.specs.Tokens.{is_of, is_at};
+ghost use Rattle.grammar_theory.specs.Marks.{Mark, State, plain, starts, opens, operator, declares, counts, spells};
+ghost use Rattle.grammar_theory.specs.Outcome.{Gives, Fails, take_from, take_at, take_marked, refusal};
+ghost use Rattle.grammar_theory.specs.declared.form.Form.TheVariants.{Identifier};
+ghost use Rattle.vhdl_front.specs.Cursor.{at_of, state_of, name_of};
+
+use crate::counts::Counts;
+use grammar_theory::{BITS, Breach, CHAIN, Form, Reason, Refusal, Stop};
+use std::alloc::Global;
+use vhdl_token::{PlacedToken, Sign, Token};
+use vlsi_base::Text;
+
+/// The tokens that are left, and what was counted over those before.
+#[derive(Drop)]
+pub struct Cursor<'a> {
+    pub rest: &'a [PlacedToken],
+    pub counts: Counts,
+    pub alloc: Global,
+}
+
+impl<'a> Cursor<'a> {
+    /// Whether the next token is of this form.
+    pub fn at(&self, form: Form) -> bool
+        ensures { result ≡ is_at form self.now.rest.now }
+    {
+        match self.rest.first() {
+            Some(next) => form.fits(next),
+            None => false,
+        }
+    }
+
+    /// The refusal of the next token.
+    pub fn refuse(&self, reason: Reason) -> Stop
+        ensures { result ≡ Stop.Refused (refusal reason self.now.rest.now) }
+    {
+        Stop::Refused(Refusal {
+            reason,
+            left: self.rest.len(),
+        })
+    }
+
+    /// The next token, which has to be of this form, and those behind it.
+    fn next(&self, form: Form) -> Result<(&'a PlacedToken, &'a [PlacedToken]), Stop>
+        ensures ok { IfOk result (λ p. (self.now.rest.now ≡ p.0.now ∷ p.1.now) × (is_of form p.0.now ≡ true)) }
+        ensures err { IfErr result (λ e. (m : PlacedToken → Mark) (s : State) → Fails e (take_from form m s self.now.rest.now)) }
+    {
+        match self.rest.split_first() {
+            Some((next, rest)) if form.fits(next) => Ok((next, rest)),
+            _ => Err(self.refuse(Reason::Syntax)),
+        }
+    }
+
+    #[tactic(auto, unfolding(grammar_theory::specs::Marks::step))]
+    pub fn take(&mut self, form: Form) -> Result<&'a PlacedToken, Stop>
+        ensures { Gives (λ t. t.now) result (at_of self.new.counts self.new.rest.now) (take_at form (at_of self.old.counts self.old.rest.now)) }
+    {
+        let (next, rest) = self.next(form)?;
+        self.rest = rest;
+        Ok(next)
+    }
+
+    /// An operator of an expression.
+    #[tactic(auto, unfolding(grammar_theory::specs::Marks::step))]
+    pub fn take_operator(&mut self, form: Form) -> Result<&'a PlacedToken, Stop>
+        ensures { Gives (λ t. t.now) result (at_of self.new.counts self.new.rest.now) (take_marked form (λ _. operator) (at_of self.old.counts self.old.rest.now)) }
+    {
+        let (next, rest) = self.next(form)?;
+        if self.counts.operators >= CHAIN {
+            return Err(self.refuse(Reason::Breach(Breach::Chain)));
+        }
+        self.counts.operators += 1;
+        self.rest = rest;
+        Ok(next)
+    }
+
+    /// A token behind which an expression begins.
+    #[tactic(auto, unfolding(grammar_theory::specs::Marks::step))]
+    pub fn take_starting(&mut self, form: Form) -> Result<&'a PlacedToken, Stop>
+        ensures { Gives (λ t. t.now) result (at_of self.new.counts self.new.rest.now) (take_marked form (λ _. starts) (at_of self.old.counts self.old.rest.now)) }
+    {
+        let (next, rest) = self.next(form)?;
+        self.counts.operators = 0;
+        self.rest = rest;
+        Ok(next)
+    }
+
+    /// An opening parenthesis, where so many more may be open.
+    #[tactic(auto, unfolding(grammar_theory::specs::Marks::step))]
+    pub fn open(&mut self, room: u32) -> Result<&'a PlacedToken, Stop>
+        ensures taken { Gives (λ t. t.now) result (at_of self.new.counts self.new.rest.now) (take_marked (Form.Sign Sign.LeftParen) (λ _. opens room) (at_of self.old.counts self.old.rest.now)) }
+        ensures fits { IfOk result (λ _. 0 < room) }
+    {
+        let (next, rest) = self.next(Form::Sign(Sign::LeftParen))?;
+        if room == 0 {
+            return Err(self.refuse(Reason::Breach(Breach::Depth)));
+        }
+        self.rest = rest;
+        Ok(next)
+    }
+
+    /// The last token of the type of a declaration with so many bits.
+    #[tactic(auto, unfolding(grammar_theory::specs::Marks::step))]
+    pub fn take_counting(&mut self, form: Form, bits: u64) -> Result<&'a PlacedToken, Stop>
+        ensures { Gives (λ t. t.now) result (at_of self.new.counts self.new.rest.now) (take_marked form (λ _. counts bits) (at_of self.old.counts self.old.rest.now)) }
+    {
+        let (next, rest) = self.next(form)?;
+        let total = self.counts.bits.saturating_add(bits);
+        if total > BITS {
+            return Err(self.refuse(Reason::Breach(Breach::Bits(total))));
+        }
+        self.counts.bits = total;
+        self.rest = rest;
+        Ok(next)
+    }
+
+    /// The name that has to stand here.
+    #[tactic(auto, unfolding(grammar_theory::specs::Marks::step))]
+    pub fn take_spelled(&mut self, wanted: &[u8]) -> Result<&'a PlacedToken, Stop>
+        ensures { Gives (λ t. t.now) result (at_of self.new.counts self.new.rest.now) (take_marked Identifier (λ t. spells wanted.now (name_of t)) (at_of self.old.counts self.old.rest.now)) }
+    {
+        let (next, rest) = self.next(Form::Identifier)?;
+        if wanted != name_bytes(next) {
+            return Err(self.refuse(Reason::Breach(Breach::OtherName)));
+        }
+        self.rest = rest;
+        Ok(next)
+    }
+
+    /// A name that is declared, by a declaration that begins on this line.
+    #[tactic(auto, unfolding(grammar_theory::specs::Marks::step))]
+    pub fn declare(&mut self, line: u32) -> Result<&'a PlacedToken, Stop>
+        ensures { Gives (λ t. t.now) result (at_of self.new.counts self.new.rest.now) (take_marked Identifier (λ t. declares line (name_of t)) (at_of self.old.counts self.old.rest.now)) }
+    {
+        let (next, rest) = self.next(Form::Identifier)?;
+        let name = name_bytes(next);
+        if !self.counts.declare(self.alloc, name)? {
+            let name = Text::from_bytes(self.alloc, name)?;
+            return Err(self.refuse(Reason::Breach(Breach::Twice(line, name))));
+        }
+        self.rest = rest;
+        Ok(next)
+    }
+}
+
+/// The name that an identifier is; of another token none.
+pub fn name_bytes(token: &PlacedToken) -> &[u8]
+    ensures { result.now ≡ name_of token.now }
+{
+    match &token.token {
+        Token::Identifier(name) => name.as_bytes(),
+        _ => &[],
+    }
+}

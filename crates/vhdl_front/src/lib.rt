@@ -1,0 +1,8 @@
+//! A reader of what all VHDL texts share: entities, declarations of signals, expressions.
+#![tactic(auto)]
+
+mod counts;
+mod cursor;
+
+pub use counts::Counts;
+pub use cursor::Cursor;
