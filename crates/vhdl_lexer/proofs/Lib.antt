@@ -1,3 +1,3 @@
-pub mod Tests
+pub mod Conjunctions
 pub mod Saturating
 pub mod Reading

@@ -1,6 +1,6 @@
 use Rattle.std.proofs.Common.{◌∙◌, ap, sym, le-leb, ◌&&◌, Bool, length, get_or, nat_le}
 use Rattle.std.specs.Char.{is_ascii_alphabetic}
-use Rattle.vhdl_lexer.proofs.Tests.{and_last}
+use Rattle.vhdl_lexer.proofs.Conjunctions.{and_last}
 use Rattle.vhdl_lexer.proofs.comment.is_spelled_as_identifier.Goals as goal
 
 pub returns : goal.returns
