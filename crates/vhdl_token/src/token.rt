@@ -1,6 +1,6 @@
 // Tokens and their kinds.
 ghost use Rattle.std.specs.Prelude.{◌≡◌, ◌++◌, ◌∷◌, [], OnOk, OnErr};
-ghost use Rattle.vhdl_token.specs.Kind.{kind_of};
+ghost use Rattle.vhdl_token.specs.Kind.{kind_of, sign_text};
 
 use crate::Keyword;
 use std::alloc::AllocError;
@@ -46,6 +46,34 @@ pub enum Sign {
     Question,
     /// `*`
     Star,
+}
+
+impl Sign {
+    /// The sign as it is spelled. Takes no memory.
+    pub fn as_str(self) -> &'static str
+        ensures { result.now ≡ sign_text self }
+    {
+        match self {
+            Sign::LeftParen => "(",
+            Sign::RightParen => ")",
+            Sign::Comma => ",",
+            Sign::Semicolon => ";",
+            Sign::Colon => ":",
+            Sign::Assign => "<=",
+            Sign::Arrow => "=>",
+            Sign::Default => ":=",
+            Sign::Equal => "=",
+            Sign::Unequal => "/=",
+            Sign::Ampersand => "&",
+            Sign::Bar => "|",
+            Sign::Tick => "'",
+            Sign::Less => "<",
+            Sign::Greater => ">",
+            Sign::Plus => "+",
+            Sign::Question => "?",
+            Sign::Star => "*",
+        }
+    }
 }
 
 /// The base of a bit string: 1, 3 or 4 bits a digit.

@@ -1,0 +1,11 @@
+//! The tokens of VHDL texts: what a text of bytes is cut into, on which lines, and the first place where it can't be.
+#![tactic(auto)]
+
+mod bytes;
+mod comment;
+mod listing;
+mod piece;
+#[cfg(test)]
+mod tests;
+
+pub use listing::tokens;
