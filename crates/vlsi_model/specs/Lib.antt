@@ -1,0 +1,10 @@
+pub mod Symbols
+pub mod Places
+pub mod Formula
+pub mod Widths
+pub mod Drivers
+pub mod Unsupported
+pub mod Clock
+pub mod Elaboration
+pub mod Cycles
+pub mod Checks
