@@ -1,6 +1,6 @@
 -- Which bytes are the ap file of which figure.
-use Rattle.std.specs.Prelude.{◌≡◌, ◌≢◌, ℕ, ◌<◌, ◌^◌, pos, ◌≤ℤ◌, Bool, ◌&&◌, ◌||◌, List, [], ◌∷◌, Option, None, Some, All, AllPairs, IsTrue, OnSome, IfSome, nat_le, nat_eq}
-use Rattle.std.specs.List.{AllPass}
+use Rattle.std.specs.Prelude.{◌≡◌, ◌≢◌, ℕ, ◌<◌, ◌^◌, pos, ◌≤ℤ◌, Bool, ◌&&◌, ◌||◌, List, [], ◌∷◌, Option, None, Some, All, AllPairs, IsTrue, IfSome, nat_le, nat_eq, codes, ◌⊎◌}
+use Rattle.std.specs.List.{AllPass, starts_with}
 use Rattle.vlsi_base.specs.declared.name.Name.{Name}
 use Rattle.sym_geom.specs.Rect.{IsRect}
 use Rattle.sym_geom.specs.declared.item.Direction.{Direction}
@@ -44,7 +44,7 @@ RunsAlong Right s = s.y1 ≡ s.y2
 abbrev pub is_contact_byte : ℕ → Bool
 is_contact_byte c = (nat_le 65 c && nat_le c 90) || (is_digit c || nat_eq c 95)
 
--- a contact that joins no metals has a word that is none of those that do
+-- a contact that joins no metals has a word that begins with CONT_ or C_X_ and is none of those that do
 abbrev pub IsContact : Contact → Type 0
 IsContact Via1 = Unit {0}
 IsContact Via2 = Unit {0}
@@ -52,7 +52,8 @@ IsContact Via3 = Unit {0}
 IsContact Via4 = Unit {0}
 IsContact Via5 = Unit {0}
 IsContact (Other word) =
-    AllPass is_contact_byte word
+    (IsTrue (starts_with nat_eq word (codes "CONT_")) ⊎ IsTrue (starts_with nat_eq word (codes "C_X_")))
+    × AllPass is_contact_byte word
     × (word ≢ contact_text Via1) × (word ≢ contact_text Via2) × (word ≢ contact_text Via3) × (word ≢ contact_text Via4)
     × (word ≢ contact_text Via5)
 
