@@ -16,8 +16,6 @@ use Rattle.ap_io.specs.ApText.{IsWord}
 use Rattle.layout_meaning.specs.Library.{Cell, gate, Library}
 use Rattle.layout_meaning.specs.Netlist.{scalar, vdd, vss}
 use Rattle.layout_meaning.specs.Placement.{comes_before, level_wire, upright_wire, contact_at, west_port}
-use Rattle.layout_meaning.specs.Well.{gate_instance}
-use Rattle.layout_meaning.specs.Report.{count_line}
 use Rattle.ap_io.specs.Spelling.{together, line_end}
 
 -- one scalar name stands before another
@@ -128,7 +126,7 @@ port_items first second =
     ∷ []
 
 abbrev pub placed_inverter : List ℕ → Item
-placed_inverter cell = item.Instance (record { x = pos 1500; y = pos 0; model = cell; name = gate_instance 0; transform = NoSym })
+placed_inverter cell = item.Instance (record { x = pos 1500; y = pos 0; model = cell; name = codes "g0"; transform = NoSym })
 
 -- a strap of one supply, tied to its one rail
 abbrev pub strap_items : ℤ → ℤ → List ℕ → List Item
@@ -165,5 +163,5 @@ inverter_figure entity input output cell pin_in pin_out =
 abbrev pub inverter_report : List ℕ → List ℕ
 inverter_report entity = together (
     codes "source " ∷ entity ∷ line_end
-    ∷ count_line (codes "size") 3 ∷ count_line (codes "cells") 1 ∷ count_line (codes "nets") 2
-    ∷ count_line (codes "length") 10500 ∷ count_line (codes "breaches") 0 ∷ codes "accepted" ∷ line_end ∷ [])
+    ∷ codes "size 3" ∷ line_end ∷ codes "cells 1" ∷ line_end ∷ codes "nets 2" ∷ line_end ∷ codes "length 10500" ∷ line_end
+    ∷ codes "breaches 0" ∷ line_end ∷ codes "accepted" ∷ line_end ∷ [])
