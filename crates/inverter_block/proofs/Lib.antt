@@ -1,1 +1,5 @@
 pub mod Appends
+pub mod Setting
+pub mod Picture
+pub mod Extracted
+pub mod Behaves

@@ -47,7 +47,7 @@ is_access_node c pin q =
     list_any (λ s. nat_eq s.metal 1 && is_named pin s.name && holds (moved s.rect (pos 0 -ℤ c.bounds.x1) (pos 0 -ℤ c.bounds.y1)) (square q.0 q.1 (pos 200))) (drawn c.items)
 
 abbrev pub access_nodes : Cell → Name → List Point
-access_nodes c pin = filter (is_access_node c pin) (grid_points c)
+access_nodes c pin = filter_map (λ q. if is_access_node c pin q then Some q else None) (grid_points c)
 
 -- how many pins have names before this one
 abbrev pub rank_of : Cell → Name → ℕ
