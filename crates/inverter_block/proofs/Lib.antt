@@ -6,3 +6,4 @@ pub mod Behaves
 pub mod WellFormed
 pub mod Clean
 pub mod Placing
+pub mod Lengths
