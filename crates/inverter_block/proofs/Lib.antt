@@ -7,3 +7,5 @@ pub mod WellFormed
 pub mod Clean
 pub mod Placing
 pub mod Lengths
+pub mod File
+pub mod Right
