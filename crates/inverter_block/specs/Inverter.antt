@@ -1,0 +1,167 @@
+-- One inverter: its machine, the library of its one cell, and its layout with private tracks, for all names.
+use Rattle.std.specs.Prelude.{◌≢◌, ℕ, ℤ, pos, Bool, List, [], ◌∷◌, ◌++◌, None, Some, codes, if◌then◌else◌}
+use Rattle.vlsi_base.specs.declared.name.Name.{Name}
+use Rattle.vlsi_base.specs.declared.name.Port.{Port}
+use Rattle.vlsi_base.specs.declared.name.Dir.TheVariants as dir
+use Rattle.bool_expr.specs.Expression.{inverse, variable}
+use Rattle.machine_meaning.specs.Machine.{Machine}
+use Rattle.sym_geom.specs.declared.rect.Transform.TheVariants.{NoSym}
+use Rattle.sym_geom.specs.declared.layer.Layer.TheVariants.{Alu, Calu}
+use Rattle.sym_geom.specs.declared.layer.Level.TheVariants.{One, Two, Three}
+use Rattle.sym_geom.specs.declared.item.Contact.TheVariants.{Via1, Via2}
+use Rattle.sym_geom.specs.declared.item.Item.{Item}
+use Rattle.sym_geom.specs.declared.item.Item.TheVariants as item
+use Rattle.ap_io.specs.declared.figure.Figure.{Figure}
+use Rattle.ap_io.specs.ApText.{IsWord}
+use Rattle.layout_meaning.specs.Library.{Cell, gate, Library}
+use Rattle.layout_meaning.specs.Netlist.{scalar, vdd, vss}
+use Rattle.layout_meaning.specs.Placement.{comes_before, level_wire, upright_wire, contact_at, west_port}
+use Rattle.ap_io.specs.Spelling.{together, line_end}
+
+-- one scalar name stands before another
+abbrev pub stands_before : List ℕ → List ℕ → Bool
+stands_before a b = comes_before (scalar a) (scalar b)
+
+-- two names that a port list or a cell may have beside vdd and vss
+pub record AreProper (a b : List ℕ) : Type 0 where
+  pub first_word : IsWord a
+  pub second_word : IsWord b
+  pub apart : a ≢ b
+  pub first_vdd : a ≢ codes "vdd"
+  pub first_vss : a ≢ codes "vss"
+  pub second_vdd : b ≢ codes "vdd"
+  pub second_vss : b ≢ codes "vss"
+
+-- ---- the machine
+
+abbrev pub input_port : List ℕ → Port
+input_port name = record { name = scalar name; dir = dir.In }
+
+abbrev pub output_port : List ℕ → Port
+output_port name = record { name = scalar name; dir = dir.Out }
+
+-- in the order of names, which `input_first` says
+abbrev pub two_ports : Bool → List ℕ → List ℕ → List Port
+two_ports input_first input output =
+    if input_first then input_port input ∷ output_port output ∷ [] else output_port output ∷ input_port input ∷ []
+
+-- the output is not the input
+abbrev pub inverter_machine : List ℕ → List ℕ → List ℕ → Machine
+inverter_machine entity input output = record {
+  name = entity;
+  ports = two_ports (stands_before input output) input output;
+  clock = None;
+  vars = scalar input ∷ scalar output ∷ [];
+  equations = record { name = scalar output; expr = inverse (variable 0) } ∷ [];
+  registers = [];
+}
+
+-- ---- the cell
+
+-- rails at its foot and at its top, and the two pins, the input in column 1 and the output in column 2
+abbrev pub cell_items : List ℕ → List ℕ → List Item
+cell_items pin_in pin_out =
+    level_wire (Calu One) (pos 600) (pos 0) (pos 1500) (pos 300) (Some vss)
+    ∷ level_wire (Calu One) (pos 600) (pos 0) (pos 1500) (pos 4700) (Some vdd)
+    ∷ upright_wire (Calu One) (pos 200) (pos 500) (pos 1000) (pos 4000) (Some (scalar pin_in))
+    ∷ upright_wire (Calu One) (pos 200) (pos 1000) (pos 1000) (pos 4000) (Some (scalar pin_out))
+    ∷ []
+
+-- the figure of the cell
+abbrev pub cell_figure : List ℕ → List ℕ → List ℕ → Figure
+cell_figure cell pin_in pin_out = record {
+  name = Some (scalar cell);
+  bounds = record { x1 = pos 0; y1 = pos 0; x2 = pos 1500; y2 = pos 5000 };
+  items = cell_items pin_in pin_out;
+}
+
+abbrev pub inverter_cell : List ℕ → List ℕ → List ℕ → Cell
+inverter_cell cell pin_in pin_out = record {
+  name = cell;
+  bounds = record { x1 = pos 0; y1 = pos 0; x2 = pos 1500; y2 = pos 5000 };
+  items = cell_items pin_in pin_out;
+  pins = two_ports (stands_before pin_in pin_out) pin_in pin_out;
+  function = gate (inverse (variable 0));
+}
+
+-- the library of this one cell
+abbrev pub inverter_library : List ℕ → List ℕ → List ℕ → Library
+inverter_library cell pin_in pin_out = inverter_cell cell pin_in pin_out ∷ []
+
+-- ---- the layout
+
+-- The pins of the cell have access nodes at y 1000, 1500 and so on. The pin whose name stands first is reached at the first
+-- of its own, the other at its second.
+abbrev pub input_node : Bool → ℤ
+input_node pin_first = if pin_first then pos 1000 else pos 1500
+
+abbrev pub output_node : Bool → ℤ
+output_node pin_first = if pin_first then pos 1500 else pos 1000
+
+-- A net: its track from the ports' column x 1500 to the column x of its pin, the riser from the pin's access node up to the
+-- track, and the vias.
+abbrev pub net_items : ℤ → ℤ → ℤ → List ℕ → List Item
+net_items y x node name =
+    level_wire (Alu Two) (pos 200) (pos 1500) x y (Some (scalar name))
+    ∷ upright_wire (Alu Three) (pos 200) x node y (Some (scalar name))
+    ∷ contact_at Via1 x node (Some (scalar name))
+    ∷ contact_at Via2 x node (Some (scalar name))
+    ∷ contact_at Via2 x y (Some (scalar name))
+    ∷ []
+
+-- the input's net is first where its name is
+abbrev pub two_nets : Bool → Bool → List ℕ → List ℕ → List Item
+two_nets input_first pin_first input output =
+    if input_first
+    then net_items (pos 5500) (pos 2000) (input_node pin_first) input ++ net_items (pos 6000) (pos 2500) (output_node pin_first) output
+    else net_items (pos 5500) (pos 2500) (output_node pin_first) output ++ net_items (pos 6000) (pos 2000) (input_node pin_first) input
+
+-- the ports in the order of names, on the tracks of their nets
+abbrev pub port_items : List ℕ → List ℕ → List Item
+port_items first second =
+    west_port (Alu One) (pos 600) (pos 500) (pos 300) vss
+    ∷ west_port (Alu One) (pos 600) (pos 500) (pos 4700) vdd
+    ∷ west_port (Alu Two) (pos 200) (pos 1500) (pos 5500) (scalar first)
+    ∷ west_port (Alu Two) (pos 200) (pos 1500) (pos 6000) (scalar second)
+    ∷ []
+
+abbrev pub placed_inverter : List ℕ → Item
+placed_inverter cell = item.Instance (record { x = pos 1500; y = pos 0; model = cell; name = codes "g0"; transform = NoSym })
+
+-- a strap of one supply, tied to its one rail
+abbrev pub strap_items : ℤ → ℤ → List ℕ → List Item
+strap_items x y name =
+    upright_wire (Alu Three) (pos 200) x y y (Some (scalar name))
+    ∷ contact_at Via1 x y (Some (scalar name))
+    ∷ contact_at Via2 x y (Some (scalar name))
+    ∷ []
+
+abbrev pub supply_items : List Item
+supply_items =
+    level_wire (Alu One) (pos 600) (pos 500) (pos 3000) (pos 300) (Some vss)
+    ∷ level_wire (Alu One) (pos 600) (pos 500) (pos 3000) (pos 4700) (Some vdd)
+    ∷ (strap_items (pos 500) (pos 300) (codes "vss") ++ strap_items (pos 1000) (pos 4700) (codes "vdd"))
+
+abbrev pub block_items : Bool → Bool → List ℕ → List ℕ → List ℕ → List Item
+block_items input_first pin_first input output cell =
+    (if input_first then port_items input output else port_items output input)
+    ++ (placed_inverter cell ∷ (supply_items ++ two_nets input_first pin_first input output))
+
+-- the figure by the two orders of names: the ports' and the pins'
+abbrev pub figure_by : Bool → Bool → List ℕ → List ℕ → List ℕ → List ℕ → Figure
+figure_by input_first pin_first entity input output cell = record {
+  name = Some (scalar entity);
+  bounds = record { x1 = pos 0; y1 = pos 0; x2 = pos 3500; y2 = pos 6500 };
+  items = block_items input_first pin_first input output cell;
+}
+
+abbrev pub inverter_figure : List ℕ → List ℕ → List ℕ → List ℕ → List ℕ → List ℕ → Figure
+inverter_figure entity input output cell pin_in pin_out =
+    figure_by (stands_before input output) (stands_before pin_in pin_out) entity input output cell
+
+-- the report, which is one for all orders of names
+abbrev pub inverter_report : List ℕ → List ℕ
+inverter_report entity = together (
+    codes "source " ∷ entity ∷ line_end
+    ∷ codes "size 3" ∷ line_end ∷ codes "cells 1" ∷ line_end ∷ codes "nets 2" ∷ line_end ∷ codes "length 10500" ∷ line_end
+    ∷ codes "breaches 0" ∷ line_end ∷ codes "accepted" ∷ line_end ∷ [])

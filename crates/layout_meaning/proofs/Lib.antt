@@ -1,0 +1,6 @@
+pub mod Texts
+pub mod Tests
+pub mod Labels
+pub mod Paths
+pub mod Runs
+pub mod Lawful

@@ -1,0 +1,14 @@
+pub mod Member
+pub mod Shape
+pub mod Joined
+pub mod Library
+pub mod Netlist
+pub mod Behaviour
+pub mod Agreement
+pub mod Well
+pub mod Breaches
+pub mod Placement
+pub mod Length
+pub mod Order
+pub mod Report
+pub mod RightLayout

@@ -1,0 +1,3 @@
+pub mod Rect
+pub mod Metal
+pub mod Items
