@@ -1,0 +1,21 @@
+use Rattle.std.proofs.Common.{ap, subst, inl, inr, refl}
+use Rattle.std.proofs.lemmas.Result.{IfErr-weaker, IfOk-weaker}
+use Rattle.vlsi_shelf.specs.Shelf.{Reads}
+use Rattle.flow_run.specs.Forms.{cell_of}
+use Rattle.flow_run.specs.Reading.{FileRefused, from_catal, catal_name}
+use Rattle.flow_run.proofs.ReadingLemmas.{comes_ok, comes_err, cell_take}
+use Rattle.flow_run.proofs.read.catal_bytes.Goals as goal
+
+pub returns-clause-ok : goal.returns-clause-ok
+returns-clause-ok g c =
+    let told = g.S.Shelf.files c.args.shelf.now in
+    let command = c.args.command.now in
+    IfOk-weaker c.read_file.result _ _ (λ bytes reads. comes_ok told command (catal_name command) bytes (λ f b. from_catal f command c.args.source.now (cell_of b)) (λ f b. ap (from_catal f command c.args.source.now) (cell_take b)) c.requires (subst (λ n. Reads told n 1048576 bytes) c.in_ok-name.ensures reads)) c.read_file.ensures.ok
+
+pub returns-clause-err : goal.returns-clause-err
+returns-clause-err g c =
+    let told = g.S.Shelf.files c.args.shelf.now in
+    let command = c.args.command.now in
+    let before = g.S.Shelf.counts c.args.shelf.now in
+    let now = g.S.Shelf.counts c.read_file.new.shelf in
+    IfErr-weaker c.read_file.result _ _ (λ error refused. comes_err told before now command (catal_name command) (λ f b. from_catal f command c.args.source.now (cell_of b)) error c.requires (inr (inl refl)) (subst (λ n. FileRefused told before now n error) c.in_ok-name.ensures refused)) c.read_file.ensures.err

@@ -1,0 +1,8 @@
+pub mod Status
+pub mod Words
+pub mod Forms
+pub mod Drawing
+pub mod Reading
+pub mod Causes
+pub mod Finishing
+pub mod Laws

@@ -1,0 +1,21 @@
+//! The top call of the program: words in, files and a report out, a status with its cause.
+//!
+//! `alliance_main` is what the program does. What each status means, when it comes and what it leaves stands in
+//! `specs/Causes.antt`; what reading comes to, in `specs/Reading.antt`; the texts that are read, in `specs/Forms.antt`; the
+//! words of a command, in `specs/Words.antt`.
+#![tactic(auto)]
+
+mod drawing;
+mod flow;
+mod forms;
+mod laws;
+mod line;
+mod read;
+mod status;
+mod words;
+
+pub use flow::alliance_main;
+pub use forms::{First, MOST};
+pub use laws::{first_law, words_law};
+pub use status::{FileCause, Kind, LibraryFault, Status};
+pub use words::{FlowCommand, Words, WordsError, read_words};

@@ -1,0 +1,88 @@
+// How a call ends.
+ghost use Rattle.std.specs.Prelude.{◌≡◌};
+ghost use Rattle.flow_run.specs.Status.{code_of};
+
+use vlsi_base::{FileName, InputFault, Limit, Name, Terminal, Text};
+
+/// Why a file stopped the run.
+#[derive(Clone, Copy, Debug, PartialEq, Eq)]
+pub enum FileCause {
+    /// A file that is read isn't there.
+    Missing,
+    /// A file that is read can't be.
+    ReadFault,
+    /// The layout can't be written.
+    WriteFault,
+    /// The report can't be printed; the layout stands.
+    OutFault,
+}
+
+/// What a library has to have a cell for.
+#[derive(Clone, Copy, Debug, PartialEq, Eq)]
+pub enum Kind {
+    Inv,
+    Nand2,
+    Zero,
+    One,
+    Dff,
+}
+
+/// What is wrong with a library.
+#[derive(Debug, Drop)]
+pub enum LibraryFault {
+    /// A line of CATAL, counted from 1.
+    BadCatal(u32),
+    /// A cell, and the number of the check that it fails, counted from 1.
+    BadCell { cell: Text, cause: u8 },
+}
+
+/// How a call ends. `flow` as it is built so far answers `Accepted`, `Usage`, `File`, `Memory` and `Beyond`.
+#[derive(Debug, Drop)]
+pub enum Status {
+    /// The layout was written and the report was printed.
+    Accepted,
+    /// The words spell no command.
+    Usage,
+    /// A source file has a fault.
+    Source { file: FileName, fault: InputFault },
+    /// The library has a fault.
+    Library(LibraryFault),
+    /// No cell of the library is of a kind that is needed.
+    NoCover(Kind),
+    /// The diagram of an equation is too large; how many nodes it reached.
+    Budget { equation: Name, reached: u64 },
+    /// A net, by its number, has no way to a terminal.
+    NoPath { net: u32, terminal: Terminal },
+    /// A file stopped the run.
+    File { cause: FileCause, name: FileName },
+    /// Memory ran out.
+    Memory,
+    /// A quantity of the input is over its number.
+    Limit(Limit),
+    /// The source, or the library with it, is of a form that isn't built yet.
+    Beyond,
+    /// A tool that compares found a difference.
+    No,
+}
+
+impl Status {
+    /// The number with which the program ends. Takes no memory.
+    pub fn code(&self) -> u8
+        ensures { result ≡ code_of self.now }
+    {
+        match self {
+            Status::Accepted => 0,
+            Status::Usage => 1,
+            Status::Source { .. } => 2,
+            Status::Library(_) => 3,
+            Status::NoCover(_) => 4,
+            Status::Budget { .. } => 5,
+            Status::NoPath { .. } => 6,
+            Status::File { .. } => 7,
+            Status::Memory => 8,
+            Status::Limit(_) => 9,
+            Status::Beyond => 10,
+            Status::No => 11,
+        }
+    }
+}

@@ -1,0 +1,5 @@
+pub mod Files
+pub mod Counts
+pub mod Shelf
+pub mod Sink
+pub mod Memory
