@@ -1,5 +1,5 @@
 -- Closed rectangles, by their edges, in hundredths of a symbolic unit.
-use Rattle.std.specs.Prelude.{◌≡◌, ℕ, ◌<◌, ℤ, pos, negsuc, ◌+ℤ◌, ◌-ℤ◌, ◌≤ℤ◌, ◌<ℤ◌, ◌⊎◌, ◌↔◌, int_div}
+use Rattle.std.specs.Prelude.{◌≡◌, ℕ, ◌<◌, ℤ, pos, negsuc, ◌+ℤ◌, ◌-ℤ◌, ◌≤ℤ◌, ◌<ℤ◌, ◌⊎◌, ◌↔◌, int_div, Bool, true, false}
 use Rattle.sym_geom.specs.declared.rect.Rect.{Rect}
 use Rattle.sym_geom.specs.declared.rect.Transform.{Transform}
 use Rattle.sym_geom.specs.declared.rect.Transform.TheVariants.{NoSym, SymX, SymY, SymXY}
@@ -53,6 +53,19 @@ pub record IsGap (g : ℤ) (a b : Rect) : Type 0 where
 -- the rectangle r moved by (x, y)
 abbrev pub moved : Rect → ℤ → ℤ → Rect
 moved r x y = record { x1 = r.x1 +ℤ x; y1 = r.y1 +ℤ y; x2 = r.x2 +ℤ x; y2 = r.y2 +ℤ y }
+
+-- left and right are exchanged, and bottom and top
+abbrev pub turns_x : Transform → Bool
+turns_x NoSym = false
+turns_x SymX = true
+turns_x SymY = false
+turns_x SymXY = true
+
+abbrev pub turns_y : Transform → Bool
+turns_y NoSym = false
+turns_y SymX = false
+turns_y SymY = true
+turns_y SymXY = true
 
 -- r turned within a box of width w and height h, whose lower left corner is the origin: SYM_X maps x to w - x,
 -- SYM_Y maps y to h - y
