@@ -46,13 +46,13 @@ cancel (t ∷ a) r (u ∷ b) s e f =
 
 -- ---- levels
 
--- grammars of which each is part of the later ones
-pub record Rising {A : Type 0} (G : ℕ → Grammar A) : Type 0 where
+-- grammars of which each is part of those later ones that are above a floor
+pub record Rising {A : Type 0} (G : ℕ → Grammar A) (floor : ℕ) : Type 0 where
   pub null : Bool
   pub firsts : Set
   pub lasts : Set
   pub shape : (e : ℕ) → Shape (G e) null firsts lasts
-  pub rises : (d e : ℕ) → d < e → (p : List Item) (v : A) → G d p v → G e p v
+  pub rises : (d e : ℕ) → d < e → floor < e → (p : List Item) (v : A) → G d p v → G e p v
 
 into_all : {A : Type 0} (G : ℕ → Grammar A) (d : ℕ) (p : List Item) (v : A) → G d p v → at_some G p v
 into_all G d p v h = record { level = d; sentence = h }
@@ -60,18 +60,18 @@ into_all G d p v h = record { level = d; sentence = h }
 at_end : {A : Type 0} (B : Grammar A) (p : List Item) (v : A) → B p v → B (p ++ []) v
 at_end B p v h = subst (λ (k : List Item). B k v) (sym (append-nil p)) h
 
-all_blames : {A : Type 0} (G : ℕ → Grammar A) → Rising G → (f : ℕ) (s : State) (front : List Item) (rest : List PlacedToken) (which : Reason)
+all_blames : {A : Type 0} (G : ℕ → Grammar A) → (f : ℕ) → Rising G f → (s : State) (front : List Item) (rest : List PlacedToken) (which : Reason)
     → ((e : ℕ) → f < e → Blames (G e) s which front rest) → Blames (at_some G) s which front rest
-all_blames G ri f s front rest reason.Syntax all = record {
-  unfinished = λ w v h g. (all (h.level + f + 1) (omega arith)).unfinished w v (ri.rises h.level (h.level + f + 1) (omega arith) (front ++ w) v h.sentence) g;
-  dead = λ w v h m. (all (h.level + f + 1) (omega arith)).dead w v (ri.rises h.level (h.level + f + 1) (omega arith) (front ++ w) v h.sentence) m;
+all_blames G f ri s front rest reason.Syntax all = record {
+  unfinished = λ w v h g. (all (h.level + f + 1) (omega arith)).unfinished w v (ri.rises h.level (h.level + f + 1) (omega arith) (omega arith) (front ++ w) v h.sentence) g;
+  dead = λ w v h m. (all (h.level + f + 1) (omega arith)).dead w v (ri.rises h.level (h.level + f + 1) (omega arith) (omega arith) (front ++ w) v h.sentence) m;
 }
-all_blames G ri f s front rest (reason.Breach b) all =
+all_blames G f ri s front rest (reason.Breach b) all =
     let p = all (f + 1) (omega arith) in
     record { next = p.next; more = p.more; rest_is = p.rest_is; alive = (p.alive.0, p.alive.1, into_all G (f + 1) ((front ++ p.next ∷ []) ++ p.alive.0) p.alive.1 p.alive.2); broken = p.broken }
 
-pub all_answers : {A : Type 0} (G : ℕ → Grammar A) → Rising G → (f : ℕ) (here : At) (o : Outcome A) → ((e : ℕ) → f < e → Answers (G e) here o) → Answers (at_some G) here o
-all_answers {A} G ri f here (Ok (v, there)) all =
+pub all_answers : {A : Type 0} (G : ℕ → Grammar A) → (f : ℕ) → Rising G f → (here : At) (o : Outcome A) → ((e : ℕ) → f < e → Answers (G e) here o) → Answers (at_some G) here o
+all_answers {A} G f ri here (Ok (v, there)) all =
     let a = all (f + 1) (omega arith) in
     record {
       front = a.front;
@@ -82,11 +82,11 @@ all_answers {A} G ri f here (Ok (v, there)) all =
           let e = h.level + f + 2 in
           let b = all e (omega arith) in
           let tokens = (cancel (tokens_of b.front) there.rest (tokens_of a.front) there.rest (sym b.parts ∙ a.parts) refl).0 in
-          let up = ri.rises (f + 1) e (omega arith) a.front v a.sentence in
+          let up = ri.rises (f + 1) e (omega arith) (omega arith) a.front v a.sentence in
           let same = agree (G e) ri.null ri.firsts ri.lasts (ri.shape e) b.front a.front [] [] v v (at_end (G e) b.front v b.sentence) (at_end (G e) a.front v up) tokens in
-          b.longest w u (subst (λ (z : List Item). G e (z ++ w) u) (sym same) (ri.rises h.level e (omega arith) (a.front ++ w) u h.sentence)) m;
+          b.longest w u (subst (λ (z : List Item). G e (z ++ w) u) (sym same) (ri.rises h.level e (omega arith) (omega arith) (a.front ++ w) u h.sentence)) m;
     }
-all_answers {A} G ri f here (Err r) all =
+all_answers {A} G f ri here (Err r) all =
     let a = all (f + 1) (omega arith) in
     record {
       front = a.front;
@@ -96,7 +96,7 @@ all_answers {A} G ri f here (Err r) all =
       place = a.place;
       viable = (a.viable.0, a.viable.1, into_all G (f + 1) (a.front ++ a.viable.0) a.viable.1 a.viable.2);
       clean = a.clean;
-      blame = all_blames G ri f a.state a.front a.rest r.reason (λ e less. blamed e less a (all (e + 1) (omega arith)) (all e less));
+      blame = all_blames G f ri a.state a.front a.rest r.reason (λ e less. blamed e less a (all (e + 1) (omega arith)) (all e less));
     } where
       state_is : (p q : List Item) (s t : State) → p ≡ q → run p here.state ≡ Ok s → run q here.state ≡ Ok t → s ≡ t
       state_is p q s t same h g = let e : run p here.state ≡ run q here.state = ap (λ (z : List Item). run z here.state) same in cc (e, h, g)
@@ -104,8 +104,8 @@ all_answers {A} G ri f here (Err r) all =
       blamed : (e : ℕ) → f < e → (a : Refuses (G (f + 1)) here r) → Refuses (G (e + 1)) here r → (b : Refuses (G e) here r) → Blames (G e) a.state r.reason a.front a.rest
       blamed e less a c b =
           let parted = cancel (tokens_of b.front) b.rest (tokens_of a.front) a.rest (sym b.parts ∙ a.parts) (sym b.place ∙ a.place) in
-          let up = ri.rises (f + 1) (e + 1) (omega arith) (a.front ++ a.viable.0) a.viable.1 a.viable.2 in
-          let over = ri.rises e (e + 1) (omega arith) (b.front ++ b.viable.0) b.viable.1 b.viable.2 in
+          let up = ri.rises (f + 1) (e + 1) (omega arith) (omega arith) (a.front ++ a.viable.0) a.viable.1 a.viable.2 in
+          let over = ri.rises e (e + 1) (omega arith) (omega arith) (b.front ++ b.viable.0) b.viable.1 b.viable.2 in
           let same = agree (G (e + 1)) ri.null ri.firsts ri.lasts (ri.shape (e + 1)) b.front a.front b.viable.0 a.viable.0 b.viable.1 a.viable.1 over up parted.0 in
           let states = state_is b.front a.front b.state a.state same b.clean a.clean in
           subst (λ (z : List Item). Blames (G e) a.state r.reason z a.rest) same

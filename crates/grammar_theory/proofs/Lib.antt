@@ -8,3 +8,4 @@ pub mod Many
 pub mod Levels
 pub mod End
 pub mod Listing
+pub mod Shut

@@ -3,6 +3,7 @@
 
 mod counts;
 mod cursor;
+mod expression;
 
 pub use counts::Counts;
 pub use cursor::Cursor;
