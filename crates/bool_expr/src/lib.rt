@@ -3,6 +3,8 @@
 
 mod copies;
 mod expr;
+#[cfg(test)]
+mod tests;
 mod values;
 mod variables;
 
