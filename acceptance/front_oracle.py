@@ -107,9 +107,11 @@ class Reader:
     def syntax(self):
         return fault(self.line(), "syntax")
 
-    def take(self, *kinds):
+    def take(self, *kinds, counted=None):
         if self.kind() not in kinds:
             raise self.syntax()
+        if counted:
+            self.count(*counted)
         self.at += 1
         return self.tokens[self.at - 1]
 
@@ -223,9 +225,11 @@ class Reader:
             names = self.names_list(start)
             self.take(":")
             word = self.take("bit", "bit_vector", "reg_bit", "reg_vector", "reg_bit_vector")[0]
-            self.count(names, self.range() if word.endswith("vector") else 1)
+            bits = self.range() if word.endswith("vector") else 1
             if word.startswith("reg"):
-                self.take("register")
+                self.take("register", counted=(names, bits))
+            else:
+                self.count(names, bits)
             self.take(";")
             signals += names
         return signals

@@ -40,9 +40,13 @@ is_clock (Some clock) name = is_same_name clock name
 abbrev pub names_of : List Port → List Name
 names_of ports = map (λ p. p.name) ports
 
+-- the bits of the input ports, in the order of names
+abbrev pub input_ports : Machine → List Name
+input_ports m = names_of (filter (λ p. is_input p.dir) m.ports)
+
 -- the input bits but the clock, in the order of names: what a vector has a bit for
 abbrev pub inputs : Machine → List Name
-inputs m = filter (λ name. not (is_clock m.clock name)) (names_of (filter (λ p. is_input p.dir) m.ports))
+inputs m = filter (λ name. not (is_clock m.clock name)) (input_ports m)
 
 -- the output bits in the order of names
 abbrev pub outputs : Machine → List Name

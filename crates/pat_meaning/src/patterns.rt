@@ -161,7 +161,7 @@ impl PatternList {
     }
 }
 
-/// A pattern file: its columns, and its patterns in rising time.
+/// A pattern file: its columns, and its patterns in a time that never falls.
 #[derive(Debug, Drop)]
 pub struct Patterns {
     pub columns: Columns,

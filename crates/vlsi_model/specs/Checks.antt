@@ -1,5 +1,5 @@
 -- What a data-flow text comes to: the first check that fails, in their order, or the machine that it is.
-use Rattle.std.specs.Prelude.{◌≡◌, ◌≤◌, ◌<◌, ◌⊎◌, ℕ, List, [], ◌∷◌, length, Option, None, Some, Result, Ok, Err}
+use Rattle.std.specs.Prelude.{◌^◌, map, sum_by, ◌≡◌, ◌≤◌, ◌<◌, ◌⊎◌, ℕ, List, [], ◌∷◌, length, Option, None, Some, Result, Ok, Err}
 use Rattle.vlsi_base.specs.declared.name.Name.{Name}
 use Rattle.vlsi_base.specs.declared.fault.FaultKind.{FaultKind}
 use Rattle.vlsi_base.specs.declared.fault.FaultKind.TheVariants as kind
@@ -8,9 +8,9 @@ use Rattle.vlsi_base.specs.declared.fault.InputFault.{InputFault}
 use Rattle.vlsi_base.specs.declared.fault.Limit.{Limit}
 use Rattle.vlsi_base.specs.declared.fault.ReadError.{ReadError}
 use Rattle.vlsi_base.specs.declared.fault.ReadError.TheVariants as error
-use Rattle.machine_core.specs.Order.{In}
+use Rattle.machine_core.specs.Order.{In, AllDifferent}
 use Rattle.vlsi_model.specs.declared.statement.RawMachine.{RawMachine}
-use Rattle.vlsi_model.specs.Symbols.{symbols, scalar}
+use Rattle.vlsi_model.specs.Symbols.{symbols, symbol_names, scalar}
 use Rattle.vlsi_model.specs.Places.{Use, in_statements, statement_uses, first_unknown}
 use Rattle.vlsi_model.specs.Widths.{all_width_faults}
 use Rattle.vlsi_model.specs.Drivers.{NameFault, Driver, drivers, all_driven, first_second_driver, first_undriven}
@@ -37,6 +37,11 @@ if_line k (line ∷ _) later = Some (fault k line [])
 abbrev pub if_name : FaultKind → Option NameFault → Option ReadError → Option ReadError
 if_name k None later = later
 if_name k (Some f) later = Some (fault k f.line (f.name ∷ []))
+
+-- no name is declared twice, and there are fewer bits than a variable's number can tell: what readers of texts see to
+pub record IsDeclaredOnce (raw : RawMachine) : Type 0 where
+  pub different : AllDifferent (map (λ s. s.text) (symbols raw))
+  pub bits : sum_by (λ s. length (symbol_names s)) (symbols raw) < 2 ^ 32
 
 -- the checks before that for rings, in their order
 abbrev pub first_fault : RawMachine → Option ReadError

@@ -14,10 +14,18 @@ use Rattle.vlsi_model.specs.Formula.{Formula, fixed, joined, formulas, first_bit
 use Rattle.vlsi_model.specs.Places.{in_choice, in_assignments, in_statements}
 use Rattle.vlsi_model.specs.Widths.{if_not}
 
+-- Guards: the `and`, through parentheses, of one clock, one `not clock'stable` and further conditions. All guards of a text
+-- name one clock, which is read nowhere else. A guard whose further conditions read the clock names none.
+
 -- `e = '1'` is e
 abbrev pub without_one : Tree → Tree
 without_one (binary operator.Equal line e (bit true one)) = e
 without_one e = e
+
+-- a clock's relation with '1' is the clock, on whichever side the '1' stands
+abbrev pub clock_alone : Tree → Tree
+clock_alone (binary operator.Equal line (bit true one) e) = e
+clock_alone e = without_one e
 
 -- what is joined by `and`, through parentheses, from the left
 abbrev pub conjuncts : Tree → List Tree
@@ -52,9 +60,9 @@ steady_names (e ∷ rest) = add (steady_name e) (steady_names rest) where
   add None names = names
   add (Some text) names = text ∷ names
 
--- the part is this clock itself, perhaps as `clock = '1'`
+-- the part is this clock itself, perhaps in a relation with '1'
 abbrev pub is_name : List ℕ → Tree → Bool
-is_name text e = by (plain_name (without_one e)) where
+is_name text e = by (plain_name (clock_alone e)) where
   by : Option (List ℕ) → Bool
   by None = false
   by (Some other) = bytes_eq other text

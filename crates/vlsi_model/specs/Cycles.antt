@@ -4,7 +4,7 @@ use Rattle.std.specs.List.{All}
 use Rattle.std.specs.declared.cmp.Ordering.TheVariants.{Greater}
 use Rattle.vlsi_base.specs.declared.name.Name.{Name}
 use Rattle.vlsi_base.specs.Name.{name_cmp}
-use Rattle.machine_core.specs.Order.{In}
+use Rattle.machine_core.specs.Order.{In, AllDifferent}
 use Rattle.vlsi_model.specs.Formula.{formula_names}
 use Rattle.vlsi_model.specs.Elaboration.{Definition}
 
@@ -17,7 +17,7 @@ abbrev pub ReadsAlong : List Definition → Name → Name → List Name → Type
 ReadsAlong all first a [] = Reads all a first
 ReadsAlong all first a (b ∷ rest) = Reads all a b × ReadsAlong all first b rest
 
--- the names are a ring, named from the least of them on
+-- the names are different, and a ring that is named from the least of them on
 abbrev pub IsRing : List Definition → List Name → Type 0
 IsRing all [] = ⊥
-IsRing all (a ∷ rest) = ReadsAlong all a a rest × All (λ b. name_cmp a b ≡ Greater → ⊥) rest
+IsRing all (a ∷ rest) = AllDifferent (a ∷ rest) × ReadsAlong all a a rest × All (λ b. name_cmp a b ≡ Greater → ⊥) rest

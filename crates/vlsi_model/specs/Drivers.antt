@@ -19,6 +19,14 @@ abbrev pub is_among : List Name → Name → Bool
 is_among [] n = false
 is_among (m ∷ names) n = is_same_name m n || is_among names n
 
+-- outputs, inner signals and registers need a driver
+abbrev pub needs_driver : Role → Bool
+needs_driver input = false
+needs_driver output = true
+needs_driver both = false
+needs_driver inner = true
+needs_driver register = true
+
 -- the bits that a target drives, from the left
 abbrev pub target_names : List Symbol → Target → List Name
 target_names known t = by t.selection where
@@ -37,13 +45,18 @@ abbrev pub least : List Name → Option Name
 least [] = None
 least (n ∷ names) = Some (lesser n (least names))
 
+-- a target of a name that needs no driver, an input above all, counts as none: it is unsupported
+abbrev pub counted_names : Option Symbol → List Name → List Name
+counted_names None names = []
+counted_names (Some s) names = if needs_driver s.role then names else []
+
 -- an assignment's target, with the bits that it drives
 pub record Driver : Type 0 where
   pub line : ℕ
   pub names : List Name
 
 abbrev pub driver_of : List Symbol → Assignment → List Driver
-driver_of known a = record { line = a.target.line; names = target_names known a.target } ∷ []
+driver_of known a = record { line = a.target.line; names = counted_names (find known a.target.name) (target_names known a.target) } ∷ []
 
 abbrev pub statement_drivers : List Symbol → Statement → List Driver
 statement_drivers known (statement.Assert e) = []
@@ -71,14 +84,6 @@ first_second_driver driven (d ∷ rest) = fault_at d.line (least (filter (is_amo
 abbrev pub all_driven : List Driver → List Name
 all_driven [] = []
 all_driven (d ∷ rest) = d.names ++ all_driven rest
-
--- outputs, inner signals and registers need a driver
-abbrev pub needs_driver : Role → Bool
-needs_driver input = false
-needs_driver output = true
-needs_driver both = false
-needs_driver inner = true
-needs_driver register = true
 
 -- the first declared name that has a bit without a driver, with the least such bit
 abbrev pub first_undriven : List Name → List Symbol → Option NameFault

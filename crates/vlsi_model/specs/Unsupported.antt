@@ -63,7 +63,7 @@ port_forms (g ∷ groups) =
 
 abbrev pub signal_forms : List SignalGroup → List ℕ
 signal_forms [] = []
-signal_forms (g ∷ groups) = supply_faults false g.names ++ signal_forms groups
+signal_forms (g ∷ groups) = supply_faults false g.names ++ (if_not (not (is_resolved g.kind.word)) g.kind.line ++ signal_forms groups)
 
 -- registers are driven in blocks alone, outputs and inner signals outside of them, and inputs nowhere
 abbrev pub may_drive : Bool → Option Symbol → Bool

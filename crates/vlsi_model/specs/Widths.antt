@@ -37,16 +37,29 @@ operator_width operator.Equal a b = 1
 operator_width operator.Unequal a b = 1
 operator_width _ a b = a
 
--- how many bits an expression has
-abbrev pub width : List Symbol → Tree → ℕ
-width known (bit b line) = 1
-width known (literal r digits line) = digit_width r * length digits
-width known (name text line) = found_width (find known text)
-width known (index text line k) = 1
-width known (slice text line range) = range_width (Some range)
-width known (stable text line) = 1
+-- the width of what an operator gives; none where an operand has none, or where they should be equal and aren't
+abbrev pub joined_width : Operator → Option ℕ → Option ℕ → Option ℕ
+joined_width op (Some a) (Some b) = if not (needs_equal op) || nat_eq a b then Some (operator_width op a b) else None
+joined_width op _ _ = None
+
+abbrev pub ordered_width : Range → Option ℕ
+ordered_width r = if is_ordered r then Some (length (range_bits r)) else None
+
+-- how many bits an expression has; none where something in it is at fault, so that one fault makes no other
+abbrev pub width : List Symbol → Tree → Option ℕ
+width known (bit b line) = Some 1
+width known (literal r digits line) = Some (digit_width r * length digits)
+width known (name text line) = Some (found_width (find known text))
+width known (index text line k) = Some 1
+width known (slice text line range) = ordered_width range
+width known (stable text line) = Some 1
 width known (inverse line e) = width known e
-width known (binary op line left right) = operator_width op (width known left) (width known right)
+width known (binary op line left right) = joined_width op (width known left) (width known right)
+
+-- two widths are known, and they differ
+abbrev pub differ : Option ℕ → Option ℕ → Bool
+differ (Some a) (Some b) = not (nat_eq a b)
+differ _ _ = false
 
 -- a bit of a name lies in its declaration; a scalar has none
 abbrev pub index_fits : Option Symbol → ℕ → Bool
@@ -80,18 +93,18 @@ width_faults known (stable text line) = []
 width_faults known (inverse line e) = width_faults known e
 width_faults known (binary op line left right) =
     width_faults known left
-    ++ (if_not (not (needs_equal op) || nat_eq (width known left) (width known right)) line ++ width_faults known right)
+    ++ (if_not (not (needs_equal op && differ (width known left) (width known right))) line ++ width_faults known right)
 
 -- a condition is one bit wide, else its first token is at fault
 abbrev pub condition_faults : List Symbol → ℕ → Tree → List ℕ
-condition_faults known line e = if_not (nat_eq (width known e) 1) line ++ width_faults known e
+condition_faults known line e = if_not (not (differ (width known e) (Some 1))) line ++ width_faults known e
 
-abbrev pub target_width : List Symbol → Target → ℕ
+abbrev pub target_width : List Symbol → Target → Option ℕ
 target_width known t = by t.selection where
-  by : Selection → ℕ
-  by selection.Whole = found_width (find known t.name)
-  by (selection.Bit k) = 1
-  by (selection.Bits r) = range_width (Some r)
+  by : Selection → Option ℕ
+  by selection.Whole = Some (found_width (find known t.name))
+  by (selection.Bit k) = Some 1
+  by (selection.Bits r) = ordered_width r
 
 abbrev pub target_faults : List Symbol → Target → List ℕ
 target_faults known t = by t.selection where
@@ -101,9 +114,9 @@ target_faults known t = by t.selection where
   by (selection.Bits r) = if_not (range_fits (find known t.name) r) r.line
 
 -- each value that is assigned is as wide as the target
-abbrev pub all_wide : List Symbol → ℕ → List Guarded → Tree → Bool
-all_wide known n [] otherwise = nat_eq (width known otherwise) n
-all_wide known n (g ∷ rest) otherwise = nat_eq (width known (view g.value)) n && all_wide known n rest otherwise
+abbrev pub all_wide : List Symbol → Option ℕ → List Guarded → Tree → Bool
+all_wide known n [] otherwise = not (differ (width known otherwise) n)
+all_wide known n (g ∷ rest) otherwise = not (differ (width known (view g.value)) n) && all_wide known n rest otherwise
 
 -- a target's own faults and that of what is assigned to it stand at the target, before those of the choice
 abbrev pub assignment_faults : List Symbol → Assignment → List ℕ
