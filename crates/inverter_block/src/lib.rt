@@ -10,3 +10,6 @@ mod report;
 pub use block::{cell_figure, inverter_figure};
 pub use law::inverter_law;
 pub use report::inverter_report;
+
+#[cfg(test)]
+mod tests;

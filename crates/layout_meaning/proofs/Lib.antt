@@ -4,3 +4,4 @@ pub mod Labels
 pub mod Paths
 pub mod Runs
 pub mod Lawful
+pub mod OneNetlist

@@ -12,3 +12,4 @@ pub mod Length
 pub mod Order
 pub mod Report
 pub mod RightLayout
+pub mod Laws

@@ -1,5 +1,5 @@
 -- Cells, and what an instance of one shows.
-use Rattle.std.specs.Prelude.{◌≡◌, ℕ, ◌≤◌, ℤ, ◌-ℤ◌, neg_ℤ, List, [], ◌∷◌, ◌++◌, map, filter, length, not, Option, None, Some, if◌then◌else◌}
+use Rattle.std.specs.Prelude.{◌≡◌, ◌≢◌, ℕ, ◌≤◌, ℤ, ◌-ℤ◌, neg_ℤ, List, [], ◌∷◌, ◌++◌, map, filter, length, not, Option, None, Some, if◌then◌else◌}
 use Rattle.vlsi_base.specs.declared.name.Name.{Name}
 use Rattle.vlsi_base.specs.declared.name.Port.{Port}
 use Rattle.bool_expr.specs.Expression.{Expression}
@@ -63,7 +63,8 @@ cell_of (c ∷ rest) model = if is_same_text c.name model then Some c else cell_
 abbrev pub IsPlain : Cell → Function → Type 0
 IsPlain c (gate e) = (length (cell_outputs c) ≡ 1) × (length (cell_inputs c) ≤ 6)
 IsPlain c (flip_flop data_pin clock_pin) =
-    (length (cell_outputs c) ≡ 1) × (length (cell_inputs c) ≡ 2) × In data_pin (cell_inputs c) × In clock_pin (cell_inputs c)
+    (length (cell_outputs c) ≡ 1) × (length (cell_inputs c) ≡ 2)
+    × In data_pin (cell_inputs c) × In clock_pin (cell_inputs c) × (data_pin ≢ clock_pin)
 IsPlain c other = ⊥
 
 -- on TALU at most level 1

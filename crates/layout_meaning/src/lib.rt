@@ -2,12 +2,14 @@
 //! give, how it behaves, which symbolic rules are broken, and when a file is a right layout of a machine.
 #![tactic(auto)]
 
-ghost use Rattle.std.specs.Prelude.{ℕ, List};
-ghost use Rattle.machine_meaning.specs.Machine.{Machine};
-ghost use Rattle.layout_meaning.specs.Library.{Library};
-ghost use Rattle.layout_meaning.specs.RightLayout.{IsRightLayout};
+ghost use Rattle.layout_meaning.specs.Laws.{GivesOneNetlist, RightLayoutsRun};
 
-/// A law
+/// A layout gives one netlist: two that its lines give have the same ports and instances, and tie the same terminals.
+pub fn one_netlist_law()
+    ensures { GivesOneNetlist }
+{}
+
+/// The netlist of a right layout runs under every list of vectors, and from matched contents it gives the machine's outputs.
 pub fn right_layout_law()
-    ensures { (bytes : List ℕ) → (m : Machine) → (l : Library) → (report : List ℕ) → IsRightLayout bytes m l report → IsRightLayout bytes m l report }
+    ensures { RightLayoutsRun }
 {}
