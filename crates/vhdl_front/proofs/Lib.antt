@@ -1,3 +1,4 @@
 pub mod Names
 pub mod Language
 pub mod Nested
+pub mod EntityLanguage

@@ -1,3 +1,5 @@
 pub mod Cursor
 pub mod Expression
 pub mod Reading
+pub mod Entity
+pub mod EntityReading
