@@ -2,10 +2,7 @@
 use Rattle.std.proofs.Common.{◌≡◌, ℕ, List, [], ◌∷◌, ◌++◌, map, refl}
 use Rattle.vlsi_base.specs.declared.raw.Operator.{Operator}
 use Rattle.vlsi_base.specs.declared.raw.Raw.{Raw, Row_of-Raw-Chain-2-2, end_of-Raw-Chain-2-2, more_of-Raw-Chain-2-2, items-the_row-Raw-Chain-2-2}
-use Rattle.vlsi_base.specs.Tree.{Tree, binary, view, grouped, folded}
-
-abbrev pub operand_of : ℕ × Raw → ℕ × Tree
-operand_of e = (e.0, view e.1)
+use Rattle.vlsi_base.specs.Tree.{Tree, binary, view, grouped, folded, operand_of}
 
 pub grouped_is : (m : _) (k : Row_of-Raw-Chain-2-2 m) (op : Operator) (left : Tree) → grouped op left k ≡ folded op left (map operand_of (items-the_row-Raw-Chain-2-2 m k))
 grouped_is m end_of-Raw-Chain-2-2 op left = refl

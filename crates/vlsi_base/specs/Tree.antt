@@ -37,3 +37,7 @@ abbrev mutual
 abbrev pub folded : Operator → Tree → List (ℕ × Tree) → Tree
 folded op left [] = left
 folded op left (e ∷ others) = folded op (binary op e.0 left e.1) others
+
+-- an operand, with the line of the operator before it
+abbrev pub operand_of : ℕ × Raw → ℕ × Tree
+operand_of e = (e.0, view e.1)
