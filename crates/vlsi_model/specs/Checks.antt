@@ -1,11 +1,9 @@
 -- What a data-flow text comes to: the first check that fails, in their order, or the machine that it is.
-use Rattle.std.specs.Prelude.{◌^◌, map, sum_by, ◌≡◌, ◌≤◌, ◌<◌, ◌⊎◌, ℕ, List, [], ◌∷◌, length, Option, None, Some, Result, Ok, Err}
+use Rattle.std.specs.Prelude.{◌≡◌, ◌≤◌, ◌<◌, ◌^◌, ◌⊎◌, ℕ, List, [], ◌∷◌, length, map, sum_by, Option, None, Some}
 use Rattle.vlsi_base.specs.declared.name.Name.{Name}
 use Rattle.vlsi_base.specs.declared.fault.FaultKind.{FaultKind}
 use Rattle.vlsi_base.specs.declared.fault.FaultKind.TheVariants as kind
 use Rattle.vlsi_base.specs.declared.fault.LimitKind.TheVariants as limit
-use Rattle.vlsi_base.specs.declared.fault.InputFault.{InputFault}
-use Rattle.vlsi_base.specs.declared.fault.Limit.{Limit}
 use Rattle.vlsi_base.specs.declared.fault.ReadError.{ReadError}
 use Rattle.vlsi_base.specs.declared.fault.ReadError.TheVariants as error
 use Rattle.machine_core.specs.Order.{In, AllDifferent}

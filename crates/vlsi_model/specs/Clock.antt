@@ -1,8 +1,6 @@
 -- Guards of blocks, the clock that they name, and where it stands elsewhere.
 use Rattle.std.specs.Prelude.{ℕ, Bool, true, false, not, ◌&&◌, ◌||◌, bytes_eq, List, [], ◌∷◌, ◌++◌, Option, None, Some, is_none, if◌then◌else◌}
-use Rattle.vlsi_base.specs.declared.raw.Operator.{Operator}
 use Rattle.vlsi_base.specs.declared.raw.Operator.TheVariants as operator
-use Rattle.vlsi_base.specs.declared.raw.Range.{Range}
 use Rattle.vlsi_base.specs.Tree.{Tree, bit, literal, name, index, slice, stable, inverse, binary, view}
 use Rattle.bool_expr.specs.declared.expr.Gate.TheVariants as gate
 use Rattle.vlsi_model.specs.declared.statement.Assignment.{Assignment}

@@ -1,18 +1,17 @@
 -- The bits that a text drives, with their formulas, and the machine that it is.
-use Rattle.std.specs.Prelude.{◌≡◌, ℕ, Bool, true, false, not, ◌&&◌, List, [], ◌∷◌, ◌++◌, map, Option, None, Some, option_map, IsPermutation, if◌then◌else◌}
-use Rattle.std.specs.List.{All}
+use Rattle.std.specs.Prelude.{◌≡◌, ℕ, List, [], ◌∷◌, ◌++◌, map, Option, None, Some, option_map, IsPermutation, if◌then◌else◌}
 use Rattle.vlsi_base.specs.declared.name.Name.{Name}
 use Rattle.vlsi_base.specs.declared.name.Port.{Port}
 use Rattle.vlsi_base.specs.declared.name.Dir.{Dir}
 use Rattle.vlsi_base.specs.declared.name.Dir.TheVariants.{In, Out}
 use Rattle.vlsi_base.specs.Tree.{view}
-use Rattle.machine_meaning.specs.Machine.{Machine, Equation, Register}
+use Rattle.machine_meaning.specs.Machine.{Machine}
 use Rattle.machine_core.specs.Checked.{IsChecked}
 use Rattle.vlsi_model.specs.declared.statement.Assignment.{Assignment}
 use Rattle.vlsi_model.specs.declared.statement.Statement.{Statement}
 use Rattle.vlsi_model.specs.declared.statement.Statement.TheVariants as statement
 use Rattle.vlsi_model.specs.declared.statement.RawMachine.{RawMachine}
-use Rattle.vlsi_model.specs.Symbols.{Symbol, symbols, port_symbols, Role, input, output, both, inner, register, symbol_names, is_supply, scalar}
+use Rattle.vlsi_model.specs.Symbols.{Symbol, symbols, Role, input, output, both, inner, register, symbol_names, is_supply, scalar}
 use Rattle.vlsi_model.specs.Formula.{Formula, choice_bits, numbered}
 use Rattle.vlsi_model.specs.Drivers.{target_names}
 use Rattle.vlsi_model.specs.Clock.{clock_text, enable_of}

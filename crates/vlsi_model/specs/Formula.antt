@@ -5,7 +5,6 @@ use Rattle.vlsi_base.specs.declared.raw.Operator.{Operator}
 use Rattle.vlsi_base.specs.declared.raw.Operator.TheVariants as operator
 use Rattle.vlsi_base.specs.declared.raw.Radix.{Radix}
 use Rattle.vlsi_base.specs.declared.raw.Radix.TheVariants as radix
-use Rattle.vlsi_base.specs.declared.raw.Range.{Range}
 use Rattle.vlsi_base.specs.Tree.{Tree, bit, literal, name, index, slice, stable, inverse, binary, view}
 use Rattle.bool_expr.specs.declared.expr.Gate.{Gate}
 use Rattle.bool_expr.specs.declared.expr.Gate.TheVariants as gate
@@ -13,7 +12,7 @@ use Rattle.bool_expr.specs.Expression.{Expression, constant, variable, inverse a
 use Rattle.machine_meaning.specs.Named.{is_same_name}
 use Rattle.vlsi_model.specs.declared.statement.Guarded.{Guarded}
 use Rattle.vlsi_model.specs.declared.statement.Choice.{Choice}
-use Rattle.vlsi_model.specs.Symbols.{Symbol, find, symbol_names, names_in, range_bits, bit_name, is_supply}
+use Rattle.vlsi_model.specs.Symbols.{Symbol, find, symbol_names, names_in, bit_name}
 
 pub data Formula : Type 0 where
   fixed : Bool → Formula

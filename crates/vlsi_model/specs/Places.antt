@@ -1,10 +1,9 @@
 -- What stands where in a text: names that are read or driven, and what a check finds, in file order.
-use Rattle.std.specs.Prelude.{ℕ, Bool, true, false, List, [], ◌∷◌, ◌++◌, Option, None, Some, is_none, if◌then◌else◌}
+use Rattle.std.specs.Prelude.{ℕ, List, [], ◌∷◌, ◌++◌, Option, None, Some, is_none, if◌then◌else◌}
 use Rattle.vlsi_base.specs.Tree.{Tree, bit, literal, name, index, slice, stable, inverse, binary, view}
 use Rattle.vlsi_model.specs.declared.statement.Guarded.{Guarded}
 use Rattle.vlsi_model.specs.declared.statement.Choice.{Choice}
 use Rattle.vlsi_model.specs.declared.statement.Assignment.{Assignment}
-use Rattle.vlsi_model.specs.declared.statement.RawBlock.{RawBlock}
 use Rattle.vlsi_model.specs.declared.statement.Statement.{Statement}
 use Rattle.vlsi_model.specs.declared.statement.Statement.TheVariants as statement
 use Rattle.vlsi_model.specs.Symbols.{Symbol, find}

@@ -1,5 +1,5 @@
 -- What a data-flow text declares: its ports and signals, in file order.
-use Rattle.std.specs.Prelude.{ℕ, zero, suc, ◌+◌, ◌-◌, Bool, true, false, not, ◌&&◌, ◌||◌, nat_le, bytes_eq, List, [], ◌∷◌, ◌++◌, map, length, Option, None, Some, codes, if◌then◌else◌}
+use Rattle.std.specs.Prelude.{ℕ, zero, suc, ◌+◌, ◌-◌, Bool, true, false, ◌&&◌, ◌||◌, nat_le, bytes_eq, List, [], ◌∷◌, ◌++◌, map, Option, None, Some, codes, if◌then◌else◌}
 use Rattle.vlsi_base.specs.declared.name.Name.{Name}
 use Rattle.vlsi_base.specs.declared.raw.Range.{Range}
 use Rattle.vlsi_base.specs.declared.entity.NewName.{NewName}
@@ -7,7 +7,6 @@ use Rattle.vlsi_base.specs.declared.entity.Mode.{Mode}
 use Rattle.vlsi_base.specs.declared.entity.Mode.TheVariants as mode
 use Rattle.vlsi_base.specs.declared.entity.TypeWord.{TypeWord}
 use Rattle.vlsi_base.specs.declared.entity.TypeWord.TheVariants as word
-use Rattle.vlsi_base.specs.declared.entity.SignalType.{SignalType}
 use Rattle.vlsi_base.specs.declared.entity.PortGroup.{PortGroup}
 use Rattle.vlsi_base.specs.declared.entity.SignalGroup.{SignalGroup}
 use Rattle.vlsi_model.specs.declared.statement.RawMachine.{RawMachine}

@@ -1,5 +1,5 @@
 -- Forms of the language that are left out, in file order: the lines of the tokens at fault.
-use Rattle.std.specs.Prelude.{ℕ, Bool, true, false, not, ◌&&◌, ◌||◌, nat_le, List, [], ◌∷◌, ◌++◌, length, ◌*◌, Option, None, Some, is_none, if◌then◌else◌}
+use Rattle.std.specs.Prelude.{ℕ, Bool, true, false, not, ◌&&◌, ◌||◌, nat_le, List, [], ◌∷◌, ◌++◌, length, ◌*◌, Option, None, Some}
 use Rattle.vlsi_base.specs.declared.entity.NewName.{NewName}
 use Rattle.vlsi_base.specs.declared.entity.Mode.{Mode}
 use Rattle.vlsi_base.specs.declared.entity.Mode.TheVariants as mode

@@ -1,5 +1,5 @@
 -- Where widths don't fit, in file order: the lines of the tokens at fault.
-use Rattle.std.specs.Prelude.{ℕ, ◌+◌, ◌*◌, ◌-◌, Bool, true, false, not, ◌&&◌, ◌||◌, nat_eq, nat_le, List, [], ◌∷◌, ◌++◌, length, Option, None, Some, if◌then◌else◌}
+use Rattle.std.specs.Prelude.{ℕ, ◌+◌, ◌*◌, Bool, true, false, not, ◌&&◌, ◌||◌, nat_eq, List, [], ◌∷◌, ◌++◌, length, Option, None, Some, if◌then◌else◌}
 use Rattle.vlsi_base.specs.declared.raw.Operator.{Operator}
 use Rattle.vlsi_base.specs.declared.raw.Operator.TheVariants as operator
 use Rattle.vlsi_base.specs.declared.raw.Range.{Range}
