@@ -5,6 +5,10 @@ unread, the declarations, and then the expression behind each `<=` up to its `;`
 has to print.
 """
 
+import sys
+
+sys.setrecursionlimit(20000)
+
 RESERVED = set(
     """after and architecture assert begin bit bit_vector block bus case component constant downto else elsif end
     entity generic guarded if in inout is map mux_bit mux_vector nand nor not of or others out port process reg_bit
