@@ -1,22 +1,21 @@
 -- How the netlist of one inverter behaves.
-use Rattle.std.proofs.Common.{◌≡◌, ℕ, zero, suc, ◌<◌, Bool, true, false, not, List, [], ◌∷◌, length, refl, Some, None, sym, ◌∙◌, ap, subst, arith}
-use Rattle.std.specs.Prelude.{All}
+use Rattle.std.proofs.Common.{◌≡◌, ℕ, Bool, true, false, not, List, [], ◌∷◌, length, refl, Some, None, sym, ◌∙◌, ap, subst, arith}
 use Rattle.std.specs.List.{AllByRecursion}
 use Rattle.std.proofs.lemmas.List.Elements.{All-from_recursion, recursion_from_All}
 use Rattle.bool_expr.specs.Expression.{bit, val, inverse, variable}
-use Rattle.machine_meaning.specs.Named.{value_at, is_same_name}
-use Rattle.machine_meaning.specs.Machine.{Machine, Equation, inputs, outputs}
+use Rattle.machine_meaning.specs.Named.{value_at}
+use Rattle.machine_meaning.specs.Machine.{Equation, outputs}
 use Rattle.machine_meaning.specs.Runs.{Trace}
 use Rattle.machine_meaning.specs.Cycles.{Settles, outs, next, AreVectors}
-use Rattle.layout_meaning.specs.Member.{In, here, later}
-use Rattle.layout_meaning.specs.Library.{Cell, Library, gate, cell_of, cell_inputs, cell_outputs}
-use Rattle.layout_meaning.specs.Netlist.{Member, Netlist, scalar, port, pin_of}
-use Rattle.layout_meaning.specs.Behaviour.{Contents, NetSettles, Drives, net_next, net_outs, NetTrace}
+use Rattle.layout_meaning.specs.Member.{In, here}
+use Rattle.layout_meaning.specs.Library.{Cell, Library, gate, cell_of}
+use Rattle.layout_meaning.specs.Netlist.{Member, Netlist, scalar}
+use Rattle.layout_meaning.specs.Behaviour.{Contents, NetSettles, Drives, net_next, net_outs}
 use Rattle.layout_meaning.specs.Agreement.{Agrees}
 use Rattle.layout_meaning.proofs.Texts.{scalar_differs, scalar_itself}
 use Rattle.layout_meaning.proofs.Runs.{StepsOnce, trace_once, Matches, run_matched}
 use Rattle.inverter_block.specs.Inverter.{AreProper}
-use Rattle.inverter_block.proofs.Setting.{machine_by, cell_by, library_by, netlist, member, class_of, g0, two, three}
+use Rattle.inverter_block.proofs.Setting.{machine_by, cell_by, library_by, netlist, member, g0, two, three}
 use Rattle.inverter_block.proofs.Extracted.{cell_is, found_cell, one_member}
 
 -- four bits: vss, vdd, the input and the output
@@ -132,7 +131,7 @@ same_outs false e i o cell a io w = rw (three i o io, scalar_differs i o io.apar
 matches : (b p : Bool) (e i o cell a z : List ℕ) (io : AreProper i o) (az : AreProper a z) (s : List Bool) (t : Contents) (iv w : List Bool) → s ≡ []
     → settles p i o cell a z io az t iv w
     → Matches (net_outs (netlist i o cell a) (outputs (machine_by b e i o))) (net_next (netlist i o cell a) (library_by p cell a z))
-        (Settles (machine_by b e i o)) (outs (machine_by b e i o)) (next (machine_by b e i o)) (λ (x : List Bool) (y : Contents). x ≡ []) s iv w
+    (Settles (machine_by b e i o)) (outs (machine_by b e i o)) (next (machine_by b e i o)) (λ (x : List Bool) (y : Contents). x ≡ []) s iv w
 matches b p e i o cell a z io az s t iv w empty h = record {
   u = bit w 2 ∷ bit w 3 ∷ [];
   settled = subst (λ (x : List Bool). Settles (machine_by b e i o) x iv (bit w 2 ∷ bit w 3 ∷ [])) (sym empty) (settled b e i o io iv w (to_plain p i o cell a z io az t iv w h));

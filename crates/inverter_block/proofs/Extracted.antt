@@ -1,13 +1,13 @@
 -- The netlist that the figure of one inverter gives.
 use Rattle.std.proofs.Common.{◌≡◌, ℕ, zero, suc, ◌<◌, Bool, true, false, List, [], ◌∷◌, refl, Some, None, sym, ◌∙◌, ap, subst, inl, inr, get_or, nat_eq, arith, if◌then◌else◌}
-use Rattle.std.specs.Prelude.{pos, codes, ◌↔◌, map}
+use Rattle.std.specs.Prelude.{pos, ◌↔◌, map}
 use Rattle.vlsi_base.specs.declared.name.Name.{Name}
 use Rattle.vlsi_base.specs.declared.name.Terminal.{Terminal}
 use Rattle.sym_geom.specs.declared.item.Instance.{Instance}
 use Rattle.layout_meaning.specs.Member.{In, here, later}
 use Rattle.layout_meaning.specs.Shape.{Shape, connector_names}
 use Rattle.layout_meaning.specs.Joined.{Joined}
-use Rattle.layout_meaning.specs.Library.{Cell, cell_of, shapes, instances_of}
+use Rattle.layout_meaning.specs.Library.{Cell, cell_of, instances_of}
 use Rattle.layout_meaning.specs.Netlist.{Member, port, pin_of, scalar, vdd, vss, IsTerminal, a_port, a_pin, Shows, AreJoined, Extracts}
 use Rattle.layout_meaning.proofs.Texts.{text_itself}
 use Rattle.layout_meaning.proofs.Labels.{labelled, label_of_shown, first_In, last_In}

@@ -1,17 +1,14 @@
 -- The figure of one inverter is one that the ap format can hold.
-use Rattle.std.proofs.Common.{◌≡◌, ℕ, zero, suc, ◌<◌, Bool, true, false, [], ◌∷◌, ◌++◌, List, length, refl, Some, None, sym, ap, arith}
-use Rattle.std.specs.Prelude.{◌≢◌, codes, ℤ, pos, ◌≤ℤ◌, AllPairs, slice_index_or}
+use Rattle.std.proofs.Common.{ℕ, zero, suc, Bool, true, false, [], ◌∷◌, ◌++◌, List, refl, arith}
+use Rattle.std.specs.Prelude.{◌≢◌, codes, ℤ, pos, ◌≤ℤ◌, AllPairs}
 use Rattle.std.specs.List.{AllByRecursion}
 use Rattle.std.proofs.lemmas.List.Elements.{All-from_recursion}
 use Rattle.std.proofs.lemmas.List.Sums.{AllPass-from_list_all}
-use Rattle.vlsi_base.specs.declared.name.Name.{Name}
 use Rattle.sym_geom.specs.declared.item.Item.{Item}
-use Rattle.ap_io.specs.ApText.{IsWord, IsLabel, IsLine, IsFigure, IsApText, is_word_byte, instance_names}
+use Rattle.ap_io.specs.ApText.{IsWord, IsLine, IsApText, is_word_byte, instance_names}
 use Rattle.ap_io.specs.Spelling.{text_of}
-use Rattle.layout_meaning.specs.Netlist.{scalar, vdd, vss}
 use Rattle.inverter_block.specs.Inverter.{AreProper, block_items, figure_by, port_items, two_nets, supply_items, placed_inverter, net_items}
 use Rattle.inverter_block.proofs.Setting.{g0}
-
 
 vss_word : IsWord (codes "vss")
 vss_word = (refl, AllPass-from_list_all is_word_byte (115 ∷ 115 ∷ []) refl)
@@ -35,10 +32,22 @@ ports_fit : (x y : List ℕ) → IsWord x → IsWord y → (rest : List Item) �
 ports_fit x y wx wy rest h = ((broad, (vss_word, tt)), ((broad, (vdd_word, tt)), ((narrow, (wx, tt)), ((narrow, (wy, tt)), h))))
 
 supplies_fit : (rest : List Item) → Lines rest → Lines (supply_items ++ rest)
-supplies_fit rest h =
-    ((broad, refl, (vss_word, tt)), ((broad, refl, (vdd_word, tt)),
-    ((narrow, refl, (vss_word, tt)), ((tt, (vss_word, tt)), ((tt, (vss_word, tt)),
-    ((narrow, refl, (vdd_word, tt)), ((tt, (vdd_word, tt)), ((tt, (vdd_word, tt)), h))))))))
+supplies_fit rest h = (
+  (broad, refl, (vss_word, tt)),
+  (
+    (broad, refl, (vdd_word, tt)),
+    (
+      (narrow, refl, (vss_word, tt)),
+      (
+        (tt, (vss_word, tt)),
+        (
+          (tt, (vss_word, tt)),
+          ((narrow, refl, (vdd_word, tt)), ((tt, (vdd_word, tt)), ((tt, (vdd_word, tt)), h))),
+        ),
+      ),
+    ),
+  ),
+)
 
 net_fits : (y x node : ℤ) (name : List ℕ) → IsWord name → (rest : List Item) → Lines rest → Lines (net_items y x node name ++ rest)
 net_fits y x node name w rest h =

@@ -1,25 +1,24 @@
 -- How long the nets of one inverter are.
-use Rattle.std.proofs.Common.{◌≡◌, ℕ, ◌+◌, ◌%◌, Bool, true, false, not, ◌&&◌, ◌||◌, [], ◌∷◌, ◌++◌, List, length, map, refl, Some, None, Option, sym, ◌∙◌, ap, subst, if◌then◌else◌}
-use Rattle.std.specs.Prelude.{◌≢◌, codes, pos, ℤ, slice_get, nat_eq, count_by}
+use Rattle.std.proofs.Common.{◌≡◌, ℕ, ◌+◌, ◌%◌, Bool, true, false, not, ◌||◌, [], ◌∷◌, List, length, refl, Some, None, Option, sym, ◌∙◌, ap, if◌then◌else◌}
+use Rattle.std.specs.Prelude.{◌≢◌, codes, pos, ℤ, slice_get, nat_eq}
 use Rattle.std.specs.List.{filter_map}
-use Rattle.std.specs.Fmt.{digits, decimal}
-use Rattle.vlsi_base.specs.declared.name.Name.{Name}
+use Rattle.std.specs.Fmt.{digits}
 use Rattle.vlsi_base.specs.declared.name.Terminal.{Terminal}
 use Rattle.ap_io.specs.Spelling.{together, line_end}
 use Rattle.machine_meaning.specs.Machine.{Machine}
 use Rattle.machine_meaning.specs.Size.{machine_size}
 use Rattle.sym_geom.specs.Rect.{square}
 use Rattle.sym_geom.specs.declared.rect.Rect.{Rect}
-use Rattle.layout_meaning.specs.Library.{Cell, Library, cell_of}
+use Rattle.layout_meaning.specs.Library.{Cell}
 use Rattle.layout_meaning.specs.Netlist.{Netlist, scalar, vdd, vss, port, pin_of}
-use Rattle.layout_meaning.specs.Placement.{Placement, comes_before, net_count}
-use Rattle.layout_meaning.specs.Length.{Point, holds, is_access_node, access_nodes, grid_points, rank_of, access_point, shown_point, instance_point, pin_point, port_point, point_of, terminals, net_points, half_box, half_perimeter}
+use Rattle.layout_meaning.specs.Placement.{comes_before, net_count}
+use Rattle.layout_meaning.specs.Length.{Point, holds, is_access_node, access_nodes, grid_points, rank_of, access_point, shown_point, instance_point, point_of, terminals, net_points, half_box, half_perimeter}
 use Rattle.layout_meaning.specs.Report.{report_of, register_lines, count_line}
 use Rattle.layout_meaning.proofs.Texts.{scalar_differs, scalar_itself, text_itself}
 use Rattle.inverter_block.specs.Inverter.{AreProper, input_node, output_node, inverter_report}
-use Rattle.inverter_block.proofs.Setting.{machine_by, cell_by, library_by, netlist, class_of, class_by, g0, two, three}
+use Rattle.inverter_block.proofs.Setting.{machine_by, cell_by, library_by, netlist, class_of, g0, two, three}
 use Rattle.inverter_block.proofs.Picture.{placed_one}
-use Rattle.inverter_block.proofs.Placing.{placement, ports_by}
+use Rattle.inverter_block.proofs.Placing.{placement}
 use Rattle.inverter_block.proofs.Extracted.{found_cell}
 
 -- how the names of the two pins, or of the two ports, stand to one another

@@ -10,7 +10,7 @@ use Rattle.layout_meaning.specs.Library.{instance_shapes, shapes}
 use Rattle.layout_meaning.proofs.Texts.{text_itself}
 use Rattle.layout_meaning.proofs.Labels.{Labelled, with_labels, plain, all_agree, PinsAgree, keeps_labels, label_Joined}
 use Rattle.inverter_block.specs.Inverter.{block_items, AreProper}
-use Rattle.inverter_block.proofs.Setting.{cell_by, library_by, class_of, class_by, g0, two, three}
+use Rattle.inverter_block.proofs.Setting.{cell_by, library_by, class_of, g0, two, three}
 
 abbrev pub placed_one : List ℕ → Instance
 placed_one cell = record { x = pos 1500; y = pos 0; model = cell; name = g0; transform = NoSym }

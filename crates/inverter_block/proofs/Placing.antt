@@ -1,25 +1,20 @@
 -- One inverter is placed on tracks, in the order of its netlist.
-use Rattle.std.proofs.Common.{◌≡◌, ◌⊎◌, ℕ, zero, suc, ◌<◌, ◌≤◌, Bool, true, false, not, [], ◌∷◌, ◌++◌, List, length, map, refl, Some, None, sym, ◌∙◌, ap, subst, inl, inr, arith, rules, if◌then◌else◌}
-use Rattle.std.specs.Prelude.{◌≢◌, codes, ◌↔◌, pos, IsTrue, AllPairs, slice_index_or}
-use Rattle.std.specs.List.Sorted.{IsPermutation}
+use Rattle.std.proofs.Common.{◌≡◌, ℕ, zero, suc, Bool, true, false, not, [], ◌∷◌, List, refl, Some, sym, ◌∙◌, ap, subst, arith, if◌then◌else◌}
+use Rattle.std.specs.Prelude.{◌≢◌, ◌↔◌, pos, IsTrue, AllPairs}
 use Rattle.std.proofs.lemmas.List.Sorted.{IsPermutation-refl}
-use Rattle.std.specs.Fmt.{digits}
 use Rattle.vlsi_base.specs.declared.name.Name.{Name}
-use Rattle.vlsi_base.specs.declared.name.Terminal.{Terminal}
 use Rattle.sym_geom.specs.declared.rect.Rect.{Rect}
-use Rattle.sym_geom.specs.declared.item.Instance.{Instance}
 use Rattle.sym_geom.specs.declared.item.Item.{Item}
 use Rattle.layout_meaning.specs.Member.{In, here, later}
 use Rattle.layout_meaning.specs.Library.{Cell, cell_of, cell_inputs, cell_outputs}
 use Rattle.layout_meaning.specs.Netlist.{Member, scalar, vdd, vss, pin_of}
 use Rattle.layout_meaning.specs.Placement.{Placement, comes_before, IsWiring, IsPlaced}
 use Rattle.layout_meaning.specs.Order.{Reads, IsInNetlistOrder, IsLean}
-use Rattle.layout_meaning.specs.Well.{gate_instance}
 use Rattle.layout_meaning.proofs.Texts.{text_itself}
 use Rattle.inverter_block.specs.Inverter.{AreProper, block_items, two_nets}
-use Rattle.inverter_block.proofs.Setting.{machine_by, cell_by, library_by, netlist, member, class_of, g0, g0_is, two, three, cell_inputs_are, cell_outputs_are}
+use Rattle.inverter_block.proofs.Setting.{machine_by, library_by, netlist, member, class_of, g0_is, two, three, cell_inputs_are, cell_outputs_are}
 use Rattle.inverter_block.proofs.Picture.{placed_one}
-use Rattle.inverter_block.proofs.Extracted.{cell_is, one_member, swapped}
+use Rattle.inverter_block.proofs.Extracted.{cell_is, one_member}
 
 abbrev pub ports_by : Bool → List ℕ → List ℕ → List Name
 ports_by b i o = if b then scalar i ∷ scalar o ∷ [] else scalar o ∷ scalar i ∷ []

@@ -1,6 +1,6 @@
 -- The layout of one inverter is right, for all names.
-use Rattle.std.proofs.Common.{◌≡◌, ℕ, Bool, true, false, not, List, refl, sym, ◌∙◌, ap, subst, Some}
-use Rattle.std.specs.Prelude.{◌≢◌, nat_eq}
+use Rattle.std.proofs.Common.{◌≡◌, ℕ, Bool, true, false, not, List, refl, sym, ◌∙◌, ap}
+use Rattle.std.specs.Prelude.{◌≢◌}
 use Rattle.std.specs.Ordering.{nat_cmp, ordering_then, ordering_reverse, is_lt, is_eq}
 use Rattle.std.specs.declared.cmp.Ordering.{Ordering}
 use Rattle.std.specs.declared.cmp.Ordering.TheVariants.{Less, Equal, Greater}
@@ -9,8 +9,6 @@ use Rattle.std.specs.Cmp.Lexicographic.{slice_cmp, nat_list_cmp_total, lists_tie
 use Rattle.ap_io.specs.ApText.{IsWord}
 use Rattle.ap_io.specs.Spelling.{text_of}
 use Rattle.machine_meaning.specs.Named.{is_same_text}
-use Rattle.layout_meaning.specs.Netlist.{scalar}
-use Rattle.layout_meaning.specs.Placement.{comes_before}
 use Rattle.layout_meaning.specs.RightLayout.{IsRightLayout}
 use Rattle.layout_meaning.proofs.Texts.{text_differs, text_itself}
 use Rattle.inverter_block.specs.Inverter.{AreProper, stands_before, figure_by, inverter_report}

@@ -1,14 +1,14 @@
 -- The netlist of one inverter, and its machine and library by the orders of names.
-use Rattle.std.proofs.Common.{◌≡◌, ℕ, ◌<◌, Bool, true, false, List, [], ◌∷◌, length, Option, None, Some, refl, sym, ◌∙◌, ap, subst, arith, if◌then◌else◌}
+use Rattle.std.proofs.Common.{◌≡◌, ℕ, ◌<◌, Bool, true, false, List, [], ◌∷◌, Option, None, Some, refl, sym, arith, if◌then◌else◌}
 use Rattle.std.specs.Prelude.{◌≢◌, codes, pos}
-use Rattle.std.specs.Fmt.{decimal, digits}
+use Rattle.std.specs.Fmt.{digits}
 use Rattle.vlsi_base.specs.declared.name.Name.{Name}
 use Rattle.vlsi_base.specs.declared.name.Terminal.{Terminal}
 use Rattle.bool_expr.specs.Expression.{inverse, variable}
-use Rattle.machine_meaning.specs.Named.{is_same_name, is_same_text}
+use Rattle.machine_meaning.specs.Named.{is_same_name}
 use Rattle.machine_meaning.specs.Machine.{Machine, inputs, outputs}
 use Rattle.layout_meaning.specs.Library.{Cell, Library, gate, cell_inputs, cell_outputs}
-use Rattle.layout_meaning.specs.Netlist.{Member, Netlist, scalar, vdd, vss, port, pin_of}
+use Rattle.layout_meaning.specs.Netlist.{Member, Netlist, scalar, vdd, vss}
 use Rattle.layout_meaning.specs.Well.{gate_instance}
 use Rattle.layout_meaning.proofs.Texts.{scalar_differs, scalar_itself}
 use Rattle.inverter_block.specs.Inverter.{two_ports, cell_items, AreProper}

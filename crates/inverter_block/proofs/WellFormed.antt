@@ -1,17 +1,17 @@
 -- The netlist of one inverter is well formed.
-use Rattle.std.proofs.Common.{◌≡◌, ◌⊎◌, ℕ, zero, suc, ◌<◌, ◌≤◌, Bool, true, false, [], ◌∷◌, List, refl, Some, None, sym, ◌∙◌, ap, subst, inl, inr, arith, nat_eq, if◌then◌else◌}
+use Rattle.std.proofs.Common.{◌≡◌, ◌⊎◌, ℕ, ◌≤◌, Bool, true, false, [], ◌∷◌, List, refl, Some, None, sym, ◌∙◌, ap, subst, inl, inr, arith, nat_eq, if◌then◌else◌}
 use Rattle.std.specs.Prelude.{◌≢◌, codes, ◌↔◌}
 use Rattle.vlsi_base.specs.declared.name.Name.{Name}
 use Rattle.vlsi_base.specs.declared.name.Port.{Port}
 use Rattle.vlsi_base.specs.declared.name.Terminal.{Terminal}
 use Rattle.machine_meaning.specs.Named.{is_same_text}
-use Rattle.machine_meaning.specs.Machine.{Machine, inputs, names_of}
+use Rattle.machine_meaning.specs.Machine.{Machine, names_of}
 use Rattle.sym_geom.specs.declared.item.Item.{Item}
 use Rattle.layout_meaning.specs.Member.{In, here, later}
 use Rattle.layout_meaning.specs.Shape.{Shape, drawn}
 use Rattle.layout_meaning.specs.Library.{Cell, Library, cell_of, cell_outputs, KeepsLow, IsUsable}
 use Rattle.layout_meaning.specs.Netlist.{Member, Netlist, scalar, vdd, vss, port, pin_of, IsTerminal}
-use Rattle.layout_meaning.specs.Well.{Has, IsDriver, an_input, an_output, OneDriver, IsSpecial, of_vdd, of_vss, IsGateName, named_g, IsWell, IsFlipFlop}
+use Rattle.layout_meaning.specs.Well.{Has, IsDriver, an_input, an_output, OneDriver, IsSpecial, of_vdd, of_vss, named_g, IsWell, IsFlipFlop}
 use Rattle.layout_meaning.proofs.Texts.{text_itself}
 use Rattle.inverter_block.specs.Inverter.{AreProper, cell_items}
 use Rattle.inverter_block.proofs.Setting.{machine_by, cell_by, library_by, netlist, member, class_of, g0, g0_is, two, three, inputs_are}

@@ -1,6 +1,5 @@
 -- One inverter: its machine, the library of its one cell, and its layout with private tracks, for all names.
 use Rattle.std.specs.Prelude.{◌≢◌, ℕ, ℤ, pos, Bool, List, [], ◌∷◌, ◌++◌, None, Some, codes, if◌then◌else◌}
-use Rattle.vlsi_base.specs.declared.name.Name.{Name}
 use Rattle.vlsi_base.specs.declared.name.Port.{Port}
 use Rattle.vlsi_base.specs.declared.name.Dir.TheVariants as dir
 use Rattle.bool_expr.specs.Expression.{inverse, variable}

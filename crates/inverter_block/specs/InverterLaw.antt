@@ -11,4 +11,4 @@ InverterIsRight =
     (entity input output cell pin_in pin_out : List ℕ)
     → IsWord entity → IsWord cell → AreProper input output → AreProper pin_in pin_out
     → IsRightLayout (text_of (inverter_figure entity input output cell pin_in pin_out)) (inverter_machine entity input output)
-        (inverter_library cell pin_in pin_out) (inverter_report entity)
+    (inverter_library cell pin_in pin_out) (inverter_report entity)

@@ -3,8 +3,8 @@
 #![tactic(auto)]
 
 mod block;
-mod lines;
 mod law;
+mod lines;
 mod report;
 
 pub use block::{cell_figure, inverter_figure};

@@ -1,15 +1,14 @@
 -- Layouts whose pairs of near shapes are excused, shape by shape, without a chain.
-use Rattle.std.proofs.Common.{◌≡◌, ℕ, Bool, true, false, not, ◌&&◌, ◌||◌, List, [], ◌∷◌, Option, None, Some, refl, sym, ◌∙◌, ap, subst, inl, inr, map}
-use Rattle.std.specs.Prelude.{pos, ◌+ℤ◌, ◌<ℤ◌, int_lt, nat_eq, is_none, is_some}
+use Rattle.std.proofs.Common.{◌≡◌, ℕ, Bool, true, false, not, ◌&&◌, ◌||◌, List, [], ◌∷◌, Option, None, Some, refl, sym, ◌∙◌, subst, inl, inr}
+use Rattle.std.specs.Prelude.{pos, ◌+ℤ◌, int_lt, nat_eq, is_none, is_some}
 use Rattle.std.specs.List.{list_any, list_all}
-use Rattle.vlsi_base.specs.declared.name.Name.{Name}
 use Rattle.sym_geom.specs.declared.item.Item.{Item}
-use Rattle.layout_meaning.specs.Member.{In, Picks, done, skips, pairs}
+use Rattle.layout_meaning.specs.Member.{Picks, done, skips, pairs}
 use Rattle.layout_meaning.specs.Shape.{Shape}
 use Rattle.layout_meaning.specs.Library.{Library, shapes}
 use Rattle.layout_meaning.specs.Breaches.{IsNarrow, IsOverPin, IsBridged, IsExcused, one_instance, first_over_pin, second_over_pin, first_bridged, second_bridged, AreTooNear, Breaches}
 use Rattle.layout_meaning.proofs.Texts.{both}
-use Rattle.layout_meaning.proofs.Tests.{told, meets, meets_so, is_within, within_so, is_near, near_told, number_told, number_so, same_owner, owner_so, and_told, or_cases, or_left, or_right, list_all_In, list_any_In}
+use Rattle.layout_meaning.proofs.Tests.{told, meets, meets_so, is_within, within_so, is_near, near_told, number_told, number_so, same_owner, owner_so, and_told, or_cases, list_any_In}
 
 -- a drawn shape is at least 200 wide and high; other shapes may be narrow
 abbrev pub is_wide : Shape → Bool
@@ -106,15 +105,15 @@ excused_so all a b h = elim (or_cases (are_of_one_instance a b) _ h) [
   | inl one ↦ let p = both (is_some a.owner) (same_owner a.owner b.owner) one in let owner = some_is a.owner p.0 in
       one_instance owner.0 owner.1 (sym (owner_so a.owner b.owner p.1) ∙ owner.1)
   | inr h1 ↦ elim (or_cases (is_over_pin all a b) _ h1) [
-      | inl over ↦ first_over_pin (over_pin_so all a b over)
-      | inr h2 ↦ elim (or_cases (is_over_pin all b a) _ h2) [
-          | inl over ↦ second_over_pin (over_pin_so all b a over)
-          | inr h3 ↦ elim (or_cases (is_bridged all a b) (is_bridged all b a) h3) [
-              | inl bridged ↦ first_bridged (bridged_so all a b bridged)
-              | inr bridged ↦ second_bridged (bridged_so all b a bridged)
-            ]
-        ]
+    | inl over ↦ first_over_pin (over_pin_so all a b over)
+    | inr h2 ↦ elim (or_cases (is_over_pin all b a) _ h2) [
+      | inl over ↦ second_over_pin (over_pin_so all b a over)
+      | inr h3 ↦ elim (or_cases (is_bridged all a b) (is_bridged all b a) h3) [
+        | inl bridged ↦ first_bridged (bridged_so all a b bridged)
+        | inr bridged ↦ second_bridged (bridged_so all b a bridged)
+      ]
     ]
+  ]
 ]
 
 abbrev pub is_kept : List Shape → Shape × Shape → Bool

@@ -1,11 +1,11 @@
 -- A layout gives one netlist.
-use Rattle.std.proofs.Common.{◌≡◌, sym, ◌∙◌, ap, subst, List}
+use Rattle.std.proofs.Common.{sym, ◌∙◌, subst, List}
 use Rattle.vlsi_base.specs.declared.name.Terminal.{Terminal}
 use Rattle.sym_geom.specs.declared.item.Item.{Item}
 use Rattle.layout_meaning.specs.Member.{In}
 use Rattle.layout_meaning.specs.Library.{Library}
 use Rattle.layout_meaning.specs.Netlist.{Member, Netlist, IsTerminal, a_port, a_pin, Extracts}
-use Rattle.layout_meaning.specs.Laws.{AreSame, GivesOneNetlist}
+use Rattle.layout_meaning.specs.Laws.{GivesOneNetlist}
 
 carried : (items : List Item) (l : Library) (n k : Netlist) → Extracts items l n → Extracts items l k → (t : Terminal) → IsTerminal n l t → IsTerminal k l t
 carried items l n k first second t (a_port {name = name} h) = a_port ((second.ports name).1 ((first.ports name).0 h))

@@ -1,5 +1,5 @@
 -- Chains of links by places in the list of shapes.
-use Rattle.std.proofs.Common.{◌≡◌, ℕ, zero, suc, ◌<◌, Bool, true, false, ◌&&◌, List, [], ◌∷◌, length, refl, subst, arith, ltb, get_or}
+use Rattle.std.proofs.Common.{◌≡◌, ℕ, zero, suc, ◌<◌, Bool, true, ◌&&◌, List, [], ◌∷◌, length, subst, arith, ltb, get_or}
 use Rattle.std.proofs.lemmas.Bool.{ltb-true}
 use Rattle.vlsi_base.specs.declared.name.Terminal.{Terminal}
 use Rattle.layout_meaning.specs.Member.{In, here, later}

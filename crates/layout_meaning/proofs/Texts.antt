@@ -1,10 +1,9 @@
 -- Texts and names that are the same.
-use Rattle.std.proofs.Common.{◌≡◌, ℕ, Bool, true, false, ◌&&◌, List, Option, None, Some, refl, sym, ap, subst}
-use Rattle.std.specs.Prelude.{◌≢◌, nat_eq}
+use Rattle.std.proofs.Common.{◌≡◌, ℕ, Bool, true, false, ◌&&◌, List, refl, ap}
+use Rattle.std.specs.Prelude.{◌≢◌}
 use Rattle.std.specs.Cmp.Lexicographic.{bytes_decides}
-use Rattle.std.proofs.lemmas.Bool.Decides.{Decides-eqb}
 use Rattle.vlsi_base.specs.declared.name.Name.{Name}
-use Rattle.machine_meaning.specs.Named.{is_same_text, is_same_bit, is_same_name}
+use Rattle.machine_meaning.specs.Named.{is_same_text, is_same_name}
 use Rattle.layout_meaning.specs.Netlist.{scalar}
 
 pub both : (a b : Bool) → (a && b) ≡ true → (a ≡ true) × (b ≡ true)

@@ -1,5 +1,5 @@
 -- When two shapes of a layout are joined.
-use Rattle.std.specs.Prelude.{◌≡◌, List, Option, Some}
+use Rattle.std.specs.Prelude.{◌≡◌, List, Some}
 use Rattle.vlsi_base.specs.declared.name.Name.{Name}
 use Rattle.sym_geom.specs.Rect.{Meet}
 use Rattle.layout_meaning.specs.Member.{In}

@@ -1,18 +1,17 @@
 -- How long the nets of a placement are: half perimeters of the boxes of their points.
-use Rattle.std.specs.Prelude.{ℕ, ◌+◌, ◌/◌, ◌%◌, ◌*◌, ℤ, pos, negsuc, ◌+ℤ◌, ◌-ℤ◌, Bool, true, false, not, ◌&&◌, ◌||◌, int_le, List, [], ◌∷◌, ◌++◌, map, filter, length, Option, None, Some, nat_eq, slice_get, if◌then◌else◌, sum, count_by}
+use Rattle.std.specs.Prelude.{ℕ, ◌+◌, ◌/◌, ◌%◌, ◌*◌, ℤ, pos, negsuc, ◌-ℤ◌, Bool, false, not, ◌&&◌, ◌||◌, int_le, List, [], ◌∷◌, ◌++◌, map, filter, length, Option, None, Some, nat_eq, slice_get, if◌then◌else◌, sum, count_by}
 use Prim.Native.Nat.{zero, suc}
 use Rattle.std.specs.Int.{int_min, int_max}
 use Rattle.std.specs.List.{flat_map, filter_map, list_any}
 use Rattle.vlsi_base.specs.declared.name.Name.{Name}
-use Rattle.vlsi_base.specs.declared.name.Port.{Port}
 use Rattle.vlsi_base.specs.declared.name.Terminal.{Terminal}
 use Rattle.machine_meaning.specs.Named.{is_same_name, is_same_text}
 use Rattle.sym_geom.specs.Rect.{square, moved, turned}
 use Rattle.sym_geom.specs.declared.rect.Rect.{Rect}
 use Rattle.sym_geom.specs.declared.item.Instance.{Instance}
-use Rattle.layout_meaning.specs.Shape.{Shape, drawn, connector_names}
+use Rattle.layout_meaning.specs.Shape.{drawn, connector_names}
 use Rattle.layout_meaning.specs.Library.{Cell, Library, cell_of, cell_width, cell_height}
-use Rattle.layout_meaning.specs.Netlist.{Member, Netlist, vdd, vss, port, pin_of}
+use Rattle.layout_meaning.specs.Netlist.{Netlist, vdd, vss, port, pin_of}
 use Rattle.layout_meaning.specs.Placement.{Placement, comes_before, standing_rows, track_y}
 
 abbrev pub Point : Type 0

@@ -10,8 +10,6 @@ use Rattle.sym_geom.specs.Metal.{level_number}
 use Rattle.sym_geom.specs.declared.rect.Rect.{Rect}
 use Rattle.sym_geom.specs.declared.layer.Layer.{Layer}
 use Rattle.sym_geom.specs.declared.layer.Layer.TheVariants.{Talu}
-use Rattle.sym_geom.specs.declared.item.Segment.{Segment}
-use Rattle.sym_geom.specs.declared.item.Connector.{Connector}
 use Rattle.sym_geom.specs.declared.item.Instance.{Instance}
 use Rattle.sym_geom.specs.declared.item.Item.{Item}
 use Rattle.sym_geom.specs.declared.item.Item.TheVariants as item

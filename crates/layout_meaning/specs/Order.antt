@@ -1,10 +1,10 @@
 -- The order of a netlist's instances, and how many gates it may have.
-use Rattle.std.specs.Prelude.{◌≡◌, ℕ, ◌+◌, ◌<◌, ◌≤◌, Bool, true, false, List, [], ◌∷◌, ◌++◌, map, length, count_by, nat_eq}
+use Rattle.std.specs.Prelude.{◌≡◌, ℕ, ◌+◌, ◌<◌, ◌≤◌, Bool, false, List, [], ◌∷◌, ◌++◌, map, length, count_by, nat_eq}
 use Rattle.vlsi_base.specs.declared.name.Name.{Name}
 use Rattle.machine_meaning.specs.Machine.{Machine}
 use Rattle.machine_meaning.specs.Size.{machine_size}
 use Rattle.layout_meaning.specs.Member.{In}
-use Rattle.layout_meaning.specs.Library.{Cell, Library, cell_of, cell_inputs, cell_outputs}
+use Rattle.layout_meaning.specs.Library.{Cell, Library, cell_inputs, cell_outputs}
 use Rattle.layout_meaning.specs.Netlist.{Member, Netlist, pin_of}
 use Rattle.layout_meaning.specs.Agreement.{register_instance}
 use Rattle.layout_meaning.specs.Well.{gate_instance, buffer_instance, Has}

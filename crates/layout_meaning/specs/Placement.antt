@@ -1,5 +1,5 @@
 -- Placed instances, supplies, ports and box of a block whose nets have private tracks.
-use Rattle.std.specs.Prelude.{◌≡◌, ◌≢◌, ◌↔◌, ℕ, ◌+◌, ◌-◌, ◌*◌, ℤ, pos, ◌+ℤ◌, Bool, true, false, not, List, [], ◌∷◌, ◌++◌, map, length, fold, Option, None, Some, AllPairs, IsTrue, if◌then◌else◌}
+use Rattle.std.specs.Prelude.{◌≡◌, ◌≢◌, ◌↔◌, ℕ, ◌+◌, ◌-◌, ◌*◌, ℤ, pos, ◌+ℤ◌, Bool, false, not, List, [], ◌∷◌, ◌++◌, map, Option, None, Some, AllPairs, IsTrue, if◌then◌else◌}
 use Prim.Native.Nat.{suc}
 use Rattle.std.specs.Int.{int_max}
 use Rattle.std.specs.Ordering.{is_lt}

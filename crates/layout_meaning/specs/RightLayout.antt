@@ -1,5 +1,5 @@
 -- When the bytes of a file are a right layout of a machine.
-use Rattle.std.specs.Prelude.{◌≡◌, ℕ, List, [], length, Some}
+use Rattle.std.specs.Prelude.{◌≡◌, ℕ, List, [], Some}
 use Rattle.machine_meaning.specs.Machine.{Machine}
 use Rattle.ap_io.specs.declared.figure.Figure.{Figure}
 use Rattle.ap_io.specs.ApText.{IsApText}
@@ -7,7 +7,7 @@ use Rattle.layout_meaning.specs.Library.{Library}
 use Rattle.layout_meaning.specs.Netlist.{Netlist, Extracts, scalar}
 use Rattle.layout_meaning.specs.Well.{IsWell}
 use Rattle.layout_meaning.specs.Agreement.{Agrees}
-use Rattle.layout_meaning.specs.Breaches.{Breach, Breaches}
+use Rattle.layout_meaning.specs.Breaches.{Breaches}
 use Rattle.layout_meaning.specs.Placement.{Placement, IsPlaced}
 use Rattle.layout_meaning.specs.Order.{IsInNetlistOrder, IsLean}
 use Rattle.layout_meaning.specs.Report.{report_of}

@@ -1,5 +1,5 @@
 -- A rectangle turned axis by axis.
-use Rattle.std.proofs.Common.{◌≡◌, Bool, true, false, if◌then◌else◌}
+use Rattle.std.proofs.Common.{◌≡◌, Bool, if◌then◌else◌}
 use Rattle.std.specs.Prelude.{ℤ, ◌+ℤ◌, ◌-ℤ◌}
 use Rattle.sym_geom.specs.Rect.{turns_x, turns_y, transformed}
 use Rattle.sym_geom.specs.declared.rect.Rect.{Rect}

@@ -1,4 +1,4 @@
-use Rattle.std.proofs.Common.{arith, rules, ℕ, ◌<◌, lit<}
+use Rattle.std.proofs.Common.{arith}
 use Rattle.std.specs.Prelude.{pos, ◌<ℤ◌}
 use Rattle.std.proofs.lemmas.Int.{ints}
 use Rattle.sym_geom.proofs.gaps.gap.Goals as goal
