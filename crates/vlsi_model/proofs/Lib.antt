@@ -1,1 +1,2 @@
 pub mod WholeSize
+pub mod Lookups

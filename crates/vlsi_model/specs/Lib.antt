@@ -8,3 +8,4 @@ pub mod Clock
 pub mod Elaboration
 pub mod Cycles
 pub mod Checks
+pub mod Lookup

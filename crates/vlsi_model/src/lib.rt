@@ -1,10 +1,12 @@
 //! Machines of data-flow texts: their statements as they are written, and the checks that make a machine of them.
 #![tactic(auto)]
 
+mod places;
 mod sizes;
 mod statement;
 
 pub use machine_core::Machine;
+pub use places::{place_of, put_place};
 pub use sizes::machine_size;
 pub use statement::{
     Assignment, Assignments, Choice, Guarded, GuardedList, RawBlock, RawMachine, Selection,
