@@ -31,8 +31,9 @@ IsOver-In (variable j) n h k (there g) = elim g [ ]
 IsOver-In (inverse e) n h k g = IsOver-In e n h k g
 IsOver-In (pair o a b) n h k g = elim (In-split k (variables a) (variables b) g) [ inl x ↦ IsOver-In a n h.0 k x | inr y ↦ IsOver-In b n h.1 k y ]
 IsOver-In (choice c a b) n h k g = elim (In-split k (variables c) (variables a ++ variables b) g) [
-    inl x ↦ IsOver-In c n h.0 k x
-    | inr y ↦ elim (In-split k (variables a) (variables b) y) [ inl x ↦ IsOver-In a n h.1.0 k x | inr z ↦ IsOver-In b n h.1.1 k z ] ]
+  | inl x ↦ IsOver-In c n h.0 k x
+  | inr y ↦ elim (In-split k (variables a) (variables b) y) [ inl x ↦ IsOver-In a n h.1.0 k x | inr z ↦ IsOver-In b n h.1.1 k z ]
+]
 
 In-front : (front back : List Name) (k : ℕ) (d : Name) → k < length front → In (slice_index_or (front ++ back) k d) front
 In-front [] back k d h = absurd (omega arith)

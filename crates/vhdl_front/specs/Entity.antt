@@ -212,8 +212,8 @@ ending name x = do
     u ← marked form.Identifier (λ u. spells name (name_of u))
     w ← one (form.Sign sign.Semicolon)
     nothing x) or (do
-    w ← one (form.Sign sign.Semicolon)
-    nothing x)
+      w ← one (form.Sign sign.Semicolon)
+      nothing x)
 
 -- where so many parentheses more may be open
 unfoldable pub entity : ℕ → Grammar Entity

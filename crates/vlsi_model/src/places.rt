@@ -13,7 +13,12 @@ pub fn place_of(places: &Places, text: &[u8]) -> Option<usize>
     places.get(text).copied()
 }
 
-pub fn put_place(alloc: Global, places: &mut Places, text: &[u8], place: usize) -> Result<(), AllocError>
+pub fn put_place(
+    alloc: Global,
+    places: &mut Places,
+    text: &[u8],
+    place: usize,
+) -> Result<(), AllocError>
     ensures { OnOk result ((t : List ℕ) → place_at places.new t ≡ (if bytes_eq text.now t then Some place else place_at places.old t)) }
 {
     let key = Vec::from_slice(alloc, text)?;
