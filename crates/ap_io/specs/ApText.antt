@@ -1,5 +1,5 @@
 -- Which bytes are the ap file of which figure.
-use Rattle.std.specs.Prelude.{◌≡◌, ◌≢◌, ℕ, ◌<◌, ◌^◌, pos, ◌≤ℤ◌, Bool, ◌&&◌, ◌||◌, List, [], ◌∷◌, Option, None, Some, All, AllPairs, IsTrue, IfSome, nat_le, nat_eq, codes, ◌⊎◌}
+use Rattle.std.specs.Prelude.{◌≡◌, ◌≢◌, ℕ, ◌<◌, ◌^◌, pos, ◌≤ℤ◌, Bool, not, ◌&&◌, ◌||◌, List, [], ◌∷◌, Option, None, Some, All, AllPairs, IsTrue, IfSome, nat_le, nat_eq, codes, ◌⊎◌}
 use Rattle.std.specs.List.{AllPass, starts_with}
 use Rattle.vlsi_base.specs.declared.name.Name.{Name}
 use Rattle.sym_geom.specs.Rect.{IsRect}
@@ -40,11 +40,11 @@ RunsAlong Down s = s.x1 ≡ s.x2
 RunsAlong Left s = s.y1 ≡ s.y2
 RunsAlong Right s = s.y1 ≡ s.y2
 
--- a byte of a contact's word
-abbrev pub is_contact_byte : ℕ → Bool
-is_contact_byte c = (nat_le 65 c && nat_le c 90) || (is_digit c || nat_eq c 95)
+-- a byte that stands within a field: no comma, and no end of a line
+abbrev pub is_field_byte : ℕ → Bool
+is_field_byte c = not (nat_eq c 44 || (nat_eq c 10 || nat_eq c 13))
 
--- a contact that joins no metals has a word that begins with CONT_ or C_X_ and is none of those that do
+-- a contact that joins no metals has any word that begins with CONT_ or C_X_ and is none of those that do
 abbrev pub IsContact : Contact → Type 0
 IsContact Via1 = Unit {0}
 IsContact Via2 = Unit {0}
@@ -53,7 +53,7 @@ IsContact Via4 = Unit {0}
 IsContact Via5 = Unit {0}
 IsContact (Other word) =
     (IsTrue (starts_with nat_eq word (codes "CONT_")) ⊎ IsTrue (starts_with nat_eq word (codes "C_X_")))
-    × AllPass is_contact_byte word
+    × AllPass is_field_byte word
     × (word ≢ contact_text Via1) × (word ≢ contact_text Via2) × (word ≢ contact_text Via3) × (word ≢ contact_text Via4)
     × (word ≢ contact_text Via5)
 

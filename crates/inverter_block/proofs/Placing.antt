@@ -22,7 +22,7 @@ ports_by b i o = if b then scalar i ∷ scalar o ∷ [] else scalar o ∷ scalar
 abbrev pub placement : Bool → List ℕ → List ℕ → List ℕ → Placement
 placement b i o cell = record { rows = (member cell ∷ []) ∷ []; ports = ports_by b i o }
 
-pair_in_order : (x y : Name) → comes_before x y ≡ true → AllPairs (λ s t. IsTrue (comes_before s t)) (x ∷ y ∷ [])
+pub pair_in_order : (x y : Name) → comes_before x y ≡ true → AllPairs (λ s t. IsTrue (comes_before s t)) (x ∷ y ∷ [])
 pair_in_order x y h zero zero d lt below = absurd (omega arith)
 pair_in_order x y h zero (suc zero) d lt below = h
 pair_in_order x y h zero (suc (suc k)) d lt below = absurd (omega (arith, below))
@@ -59,10 +59,10 @@ ten (x ∷ rest) all one here = all.0
 ten (x ∷ rest) all one (later h) = ten rest all.1 one h
 
 wires_only : (b p : Bool) (i o : List ℕ) (one : Item) → In one (two_nets b p i o) → IsWiring one
-wires_only true true i o one h = ten (two_nets true true i o) (tt, (tt, (tt, (tt, (tt, (tt, (tt, (tt, (tt, (tt, tt)))))))))) one h
-wires_only true false i o one h = ten (two_nets true false i o) (tt, (tt, (tt, (tt, (tt, (tt, (tt, (tt, (tt, (tt, tt)))))))))) one h
-wires_only false true i o one h = ten (two_nets false true i o) (tt, (tt, (tt, (tt, (tt, (tt, (tt, (tt, (tt, (tt, tt)))))))))) one h
-wires_only false false i o one h = ten (two_nets false false i o) (tt, (tt, (tt, (tt, (tt, (tt, (tt, (tt, (tt, (tt, tt)))))))))) one h
+wires_only true true i o one h = ten (two_nets true true i o) (refl, (refl, (tt, (tt, (tt, (refl, (refl, (tt, (tt, (tt, tt)))))))))) one h
+wires_only true false i o one h = ten (two_nets true false i o) (refl, (refl, (tt, (tt, (tt, (refl, (refl, (tt, (tt, (tt, tt)))))))))) one h
+wires_only false true i o one h = ten (two_nets false true i o) (refl, (refl, (tt, (tt, (tt, (refl, (refl, (tt, (tt, (tt, tt)))))))))) one h
+wires_only false false i o one h = ten (two_nets false false i o) (refl, (refl, (tt, (tt, (tt, (refl, (refl, (tt, (tt, (tt, tt)))))))))) one h
 
 abbrev box : Rect
 box = record { x1 = pos 0; y1 = pos 0; x2 = pos 3500; y2 = pos 6500 }

@@ -1,5 +1,5 @@
 -- The netlist of one inverter is well formed.
-use Rattle.std.proofs.Common.{◌≡◌, ◌⊎◌, ℕ, ◌≤◌, Bool, true, false, [], ◌∷◌, List, refl, Some, None, sym, ◌∙◌, ap, subst, inl, inr, arith, nat_eq, if◌then◌else◌}
+use Rattle.std.proofs.Common.{◌≡◌, ◌⊎◌, ℕ, ◌≤◌, Bool, true, false, not, lit<, [], ◌∷◌, List, refl, Some, None, sym, ◌∙◌, ap, subst, inl, inr, arith, nat_eq, if◌then◌else◌}
 use Rattle.std.specs.Prelude.{◌≢◌, codes, ◌↔◌}
 use Rattle.vlsi_base.specs.declared.name.Name.{Name}
 use Rattle.vlsi_base.specs.declared.name.Port.{Port}
@@ -15,6 +15,8 @@ use Rattle.layout_meaning.specs.Well.{Has, IsDriver, an_input, an_output, OneDri
 use Rattle.layout_meaning.proofs.Texts.{text_itself}
 use Rattle.inverter_block.specs.Inverter.{AreProper, cell_items}
 use Rattle.inverter_block.proofs.Setting.{machine_by, cell_by, library_by, netlist, member, class_of, g0, g0_is, two, three, inputs_are}
+use Rattle.layout_meaning.specs.Names.{comes_before}
+use Rattle.inverter_block.proofs.Placing.{pair_in_order}
 use Rattle.inverter_block.proofs.Extracted.{cell_is, found_cell, one_member, each, each_port, swapped}
 
 -- a proper name is no supply
@@ -24,9 +26,25 @@ not_supply x supply differ same = differ (ap (λ (n : Name). n.text) same)
 texts_differ : (a b : List ℕ) → is_same_text a b ≡ false → a ≢ b
 texts_differ a b differ same = let yes : is_same_text a b ≡ true = subst (λ (y : List ℕ). is_same_text a y ≡ true) same (text_itself a) in let no : true ≡ false = sym yes ∙ differ in cc no
 
-usable : (p : Bool) (cell a z : List ℕ) → IsUsable (cell_by p cell a z)
-usable true cell a z = record {
-  function = (refl, omega arith);
+-- two names before a list
+two_before : (x y : Name) (names : List Name) (name : Name) → In name (x ∷ y ∷ names) ↔ ((name ≡ y) ⊎ ((name ≡ x) ⊎ In name names))
+two_before x y names name = (to name, λ h. from name h) where
+  to : (name : Name) → In name (x ∷ y ∷ names) → (name ≡ y) ⊎ ((name ≡ x) ⊎ In name names)
+  to name here = inr (inl refl)
+  to name (later here) = inl refl
+  to name (later (later h)) = inr (inr h)
+
+  from : (name : Name) → (name ≡ y) ⊎ ((name ≡ x) ⊎ In name names) → In name (x ∷ y ∷ names)
+  from name h = elim h [
+    | inl is ↦ subst (λ (q : Name). In q (x ∷ y ∷ names)) (sym is) (later here)
+    | inr other ↦ elim other [ inl is ↦ subst (λ (q : Name). In q (x ∷ y ∷ names)) (sym is) here | inr h ↦ later (later h) ]
+  ]
+
+usable : (p : Bool) (cell a z : List ℕ) → comes_before (scalar a) (scalar z) ≡ p → comes_before (scalar z) (scalar a) ≡ not p → IsUsable (cell_by p cell a z)
+usable true cell a z before after = record {
+  function = (refl, omega arith, lit< tt);
+  order = pair_in_order (scalar a) (scalar z) before;
+  connectors = λ name. two_before vss vdd (scalar a ∷ scalar z ∷ []) name;
   scalars = λ q h. each_pin q h;
   metal = λ s h. low_metal s h;
   blockage = λ one h. low_block one h;
@@ -49,8 +67,13 @@ usable true cell a z = record {
   low_block one (later (later here)) = tt
   low_block one (later (later (later here))) = tt
   low_block one (later (later (later (later h)))) = elim h [ ]
-usable false cell a z = record {
-  function = (refl, omega arith);
+usable false cell a z before after = record {
+  function = (refl, omega arith, lit< tt);
+  order = pair_in_order (scalar z) (scalar a) after;
+  connectors = λ name. (
+    λ h. (two_before vss vdd (scalar z ∷ scalar a ∷ []) name).0 (swapped name (scalar a) (scalar z) h),
+    λ h. swapped name (scalar z) (scalar a) ((two_before vss vdd (scalar z ∷ scalar a ∷ []) name).1 h),
+  );
   scalars = λ q h. each_pin q h;
   metal = λ s h. low_metal s h;
   blockage = λ one h. low_block one h;
@@ -78,21 +101,7 @@ machine_ports : (b : Bool) (e i o : List ℕ) (name : Name) → In name (vss ∷
 machine_ports true e i o name = (λ h. h, λ h. h)
 machine_ports false e i o name = (swapped name (scalar i) (scalar o), swapped name (scalar o) (scalar i))
 
--- two names before a list
-two_before : (x y : Name) (names : List Name) (name : Name) → In name (x ∷ y ∷ names) ↔ ((name ≡ y) ⊎ ((name ≡ x) ⊎ In name names))
-two_before x y names name = (to name, λ h. from name h) where
-  to : (name : Name) → In name (x ∷ y ∷ names) → (name ≡ y) ⊎ ((name ≡ x) ⊎ In name names)
-  to name here = inr (inl refl)
-  to name (later here) = inl refl
-  to name (later (later h)) = inr (inr h)
-
-  from : (name : Name) → (name ≡ y) ⊎ ((name ≡ x) ⊎ In name names) → In name (x ∷ y ∷ names)
-  from name h = elim h [
-    | inl is ↦ subst (λ (q : Name). In q (x ∷ y ∷ names)) (sym is) (later here)
-    | inr other ↦ elim other [ inl is ↦ subst (λ (q : Name). In q (x ∷ y ∷ names)) (sym is) here | inr h ↦ later (later h) ]
-  ]
-
-module _ (b p : Bool) (e i o cell a z : List ℕ) (io : AreProper i o) (az : AreProper a z) where
+module _ (b p : Bool) (e i o cell a z : List ℕ) (io : AreProper i o) (az : AreProper a z) (before : comes_before (scalar a) (scalar z) ≡ p) (after : comes_before (scalar z) (scalar a) ≡ not p) where
   abbrev n : Netlist
   n = netlist i o cell a
 
@@ -202,7 +211,7 @@ module _ (b p : Bool) (e i o cell a z : List ℕ) (io : AreProper i o) (az : Are
 
   pub well : IsWell n l m
   well = record {
-    models = λ j h. (cell_by p cell a z, subst (λ (y : Member). cell_of l y.model ≡ Some (cell_by p cell a z)) (one_member cell j h) (found_cell p cell a z), usable p cell a z);
+    models = λ j h. (cell_by p cell a z, subst (λ (y : Member). cell_of l y.model ≡ Some (cell_by p cell a z)) (one_member cell j h) (found_cell p cell a z), usable p cell a z before after);
     ports = λ name. (
       λ h. (two_before vss vdd (names_of m.ports) name).0 ((machine_ports b e i o name).0 h),
       λ h. (machine_ports b e i o name).1 ((two_before vss vdd (names_of m.ports) name).1 h),

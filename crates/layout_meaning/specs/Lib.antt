@@ -1,4 +1,5 @@
 pub mod Member
+pub mod Names
 pub mod Shape
 pub mod Joined
 pub mod Library

@@ -1,8 +1,8 @@
 -- Cells, and what an instance of one shows.
-use Rattle.std.specs.Prelude.{◌≡◌, ◌≢◌, ℕ, ◌≤◌, ℤ, ◌-ℤ◌, neg_ℤ, List, [], ◌∷◌, ◌++◌, map, filter, length, not, Option, None, Some, if◌then◌else◌}
+use Rattle.std.specs.Prelude.{◌≡◌, ◌≢◌, ◌⊎◌, ◌↔◌, AllPairs, IsTrue, ℕ, ◌≤◌, ℤ, ◌-ℤ◌, neg_ℤ, List, [], ◌∷◌, ◌++◌, map, filter, length, not, Option, None, Some, if◌then◌else◌}
 use Rattle.vlsi_base.specs.declared.name.Name.{Name}
 use Rattle.vlsi_base.specs.declared.name.Port.{Port}
-use Rattle.bool_expr.specs.Expression.{Expression}
+use Rattle.bool_expr.specs.Expression.{Expression, IsOver}
 use Rattle.machine_meaning.specs.Named.{is_same_text}
 use Rattle.machine_meaning.specs.Machine.{is_input, names_of}
 use Rattle.sym_geom.specs.Rect.{moved, turned}
@@ -14,7 +14,8 @@ use Rattle.sym_geom.specs.declared.item.Instance.{Instance}
 use Rattle.sym_geom.specs.declared.item.Item.{Item}
 use Rattle.sym_geom.specs.declared.item.Item.TheVariants as item
 use Rattle.layout_meaning.specs.Member.{In}
-use Rattle.layout_meaning.specs.Shape.{Shape, drawn}
+use Rattle.layout_meaning.specs.Names.{vdd, vss, comes_before}
+use Rattle.layout_meaning.specs.Shape.{Shape, drawn, connector_names}
 
 -- what a cell computes
 pub data Function : Type 0 where
@@ -57,9 +58,9 @@ abbrev pub cell_of : Library → List ℕ → Option Cell
 cell_of [] model = None
 cell_of (c ∷ rest) model = if is_same_text c.name model then Some c else cell_of rest model
 
--- A gate has one output and at most 6 inputs. A plain flip-flop has one output, and no inputs but data and clock.
+-- A gate has one output and at most 6 inputs, which its expression is over. A plain flip-flop has one output, and no inputs but data and clock.
 abbrev pub IsPlain : Cell → Function → Type 0
-IsPlain c (gate e) = (length (cell_outputs c) ≡ 1) × (length (cell_inputs c) ≤ 6)
+IsPlain c (gate e) = (length (cell_outputs c) ≡ 1) × (length (cell_inputs c) ≤ 6) × IsOver e (length (cell_inputs c))
 IsPlain c (flip_flop data_pin clock_pin) =
     (length (cell_outputs c) ≡ 1) × (length (cell_inputs c) ≡ 2)
     × In data_pin (cell_inputs c) × In clock_pin (cell_inputs c) × (data_pin ≢ clock_pin)
@@ -75,9 +76,12 @@ KeepsLow (item.Segment s) = IsLowBlockage s.layer
 KeepsLow (item.Connector c) = IsLowBlockage c.layer
 KeepsLow _ = Unit {0}
 
--- a cell that a netlist may use: a gate or a plain flip-flop, whose pins are scalars, with nothing above metal 1
+-- A cell that a netlist may use: a gate or a plain flip-flop, whose pins are scalars, with nothing above metal 1. Its pins
+-- stand in the order of their names, and with vdd and vss they are the connectors of its layout.
 pub record IsUsable (c : Cell) : Type 0 where
   pub function : IsPlain c c.function
+  pub order : AllPairs (λ a b. IsTrue (comes_before a b)) (names_of c.pins)
+  pub connectors : (name : Name) → In name (connector_names c.items) ↔ ((name ≡ vdd) ⊎ ((name ≡ vss) ⊎ In name (names_of c.pins)))
   pub scalars : (p : Port) → In p c.pins → p.name.bit ≡ None
   pub metal : (s : Shape) → In s (drawn c.items) → s.metal ≤ 1
   pub blockage : (one : Item) → In one c.items → KeepsLow one

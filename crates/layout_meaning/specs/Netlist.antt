@@ -1,9 +1,10 @@
 -- The netlist that a layout gives.
-use Rattle.std.specs.Prelude.{◌≡◌, ◌⊎◌, ◌↔◌, ℕ, ◌<◌, List, map, None, Some, codes}
+use Rattle.std.specs.Prelude.{◌≡◌, ◌⊎◌, ◌↔◌, ℕ, ◌<◌, List, map, None, Some}
 use Rattle.vlsi_base.specs.declared.name.Name.{Name}
 use Rattle.vlsi_base.specs.declared.name.Terminal.{Terminal}
 use Rattle.sym_geom.specs.declared.item.Item.{Item}
 use Rattle.layout_meaning.specs.Member.{In}
+pub use Rattle.layout_meaning.specs.Names.{scalar, vdd, vss}
 use Rattle.layout_meaning.specs.Shape.{Shape, connector_names}
 use Rattle.layout_meaning.specs.Joined.{Joined}
 use Rattle.layout_meaning.specs.Library.{Cell, Library, cell_of, instances_of, shapes}
@@ -21,16 +22,6 @@ pub record Netlist : Type 0 where
   -- how many classes of terminals there are; they are numbered from 0
   pub classes : ℕ
   pub class : Terminal → ℕ
-
--- a name without a bit
-abbrev pub scalar : List ℕ → Name
-scalar text = record { text = text; bit = None }
-
-abbrev pub vdd : Name
-vdd = scalar (codes "vdd")
-
-abbrev pub vss : Name
-vss = scalar (codes "vss")
 
 -- a port of the netlist, and a pin of an instance
 abbrev pub port : Name → Terminal

@@ -2,10 +2,8 @@
 use Rattle.std.specs.Prelude.{◌≡◌, ◌≢◌, ◌↔◌, ℕ, ◌+◌, ◌-◌, ◌*◌, ℤ, pos, ◌+ℤ◌, Bool, false, not, List, [], ◌∷◌, ◌++◌, map, Option, None, Some, AllPairs, IsTrue, if◌then◌else◌}
 use Prim.Native.Nat.{suc}
 use Rattle.std.specs.Int.{int_max}
-use Rattle.std.specs.Ordering.{is_lt}
 use Rattle.std.specs.List.Sorted.{IsPermutation}
 use Rattle.vlsi_base.specs.declared.name.Name.{Name}
-use Rattle.vlsi_base.specs.Name.{name_cmp}
 use Rattle.sym_geom.specs.declared.rect.Rect.{Rect}
 use Rattle.sym_geom.specs.declared.rect.Transform.{Transform}
 use Rattle.sym_geom.specs.declared.rect.Transform.TheVariants.{NoSym, SymY}
@@ -21,6 +19,8 @@ use Rattle.sym_geom.specs.declared.item.Instance.{Instance}
 use Rattle.sym_geom.specs.declared.item.Item.{Item}
 use Rattle.sym_geom.specs.declared.item.Item.TheVariants as item
 use Rattle.layout_meaning.specs.Member.{In}
+pub use Rattle.layout_meaning.specs.Names.{comes_before}
+use Rattle.layout_meaning.specs.Shape.{wire_name}
 use Rattle.layout_meaning.specs.Library.{Cell, Library, cell_of, cell_width}
 use Rattle.layout_meaning.specs.Netlist.{Member, Netlist, vdd, vss}
 
@@ -29,10 +29,6 @@ use Rattle.layout_meaning.specs.Netlist.{Member, Netlist, vdd, vss}
 pub record Placement : Type 0 where
   pub rows : List (List Member)
   pub ports : List Name
-
--- one name stands before another: by its bytes, then no bit before bits in rising order
-abbrev pub comes_before : Name → Name → Bool
-comes_before a b = is_lt (name_cmp a b)
 
 -- ---- lines that a block has
 
@@ -151,9 +147,9 @@ track_ports k (name ∷ rest) = west_port (Alu Two) (pos 200) (pos 1500) (track_
 abbrev pub net_count : Netlist → ℕ
 net_count n = n.classes - 2
 
--- a wire or a via, and no connector or instance
+-- a wire or a via, and no connector (a named wire on CALU is one) or instance
 abbrev pub IsWiring : Item → Type 0
-IsWiring (item.Segment s) = Unit {0}
+IsWiring (item.Segment s) = wire_name s.layer s.name ≡ None
 IsWiring (item.Via v) = Unit {0}
 IsWiring (item.Connector c) = ⊥
 IsWiring (item.Instance i) = ⊥
