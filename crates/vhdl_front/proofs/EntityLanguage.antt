@@ -1,5 +1,9 @@
 -- Each reader of entities and declarations reads its grammar.
-use Rattle.std.proofs.Common.{◌++◌, ◌≡◌, ℕ, ◌-◌, ◌*◌, Bool, true, false, List, [], ◌∷◌, length, Some, None, refl}
+use Rattle.std.proofs.Common.{◌++◌, ◌≡◌, ℕ, ◌-◌, ◌*◌, ◌<◌, Bool, true, false, List, [], ◌∷◌, length, Some, None, Ok, refl}
+use Rattle.vlsi_base.specs.declared.entity.NewName.{NewName}
+use Rattle.vlsi_base.specs.declared.entity.Generic.{Generic}
+use Rattle.vlsi_base.specs.declared.entity.PortGroup.{PortGroup}
+use Rattle.vlsi_base.specs.declared.entity.SignalGroup.{SignalGroup}
 use Rattle.vlsi_base.specs.declared.entity.Mode.{Mode}
 use Rattle.vlsi_base.specs.declared.entity.Mode.TheVariants as mode
 use Rattle.vlsi_base.specs.declared.entity.TypeWord.{TypeWord}
@@ -13,18 +17,23 @@ use Rattle.grammar_theory.specs.declared.form.Form.TheVariants as form
 use Rattle.grammar_theory.specs.Tokens.{code}
 use Rattle.grammar_theory.specs.Marks.{opens, declares, counts, spells}
 use Rattle.grammar_theory.specs.Grammar.{Grammar, nothing, ◌or◌}
-use Rattle.grammar_theory.specs.Outcome.{Reader}
+use Rattle.grammar_theory.specs.Outcome.{At, Reader}
 use Rattle.grammar_theory.proofs.Sets.{Set}
 use Rattle.grammar_theory.proofs.Bundle.{Exact, exact_nothing, exact_one, exact_marked, exact_then, exact_behind, within}
 use Rattle.grammar_theory.proofs.Many.{exact_list}
+use Rattle.grammar_theory.proofs.Listing.{consumes}
 use Rattle.vhdl_front.specs.Cursor.{name_of}
-use Rattle.vhdl_front.specs.Entity.{Names, Moded, new_name, declared, another, led_names, own_names, names, width, bounds, range, scalar, vector, port_type, registered, signal_type, default, generic, next_generic, closed, generic_clause, one_mode, port_mode, bus, port_behind, port, next_port, port_clause, entity_head, ending, entity, signal, declarations}
-use Rattle.vhdl_front.specs.EntityReading.{declared_at, another_at, led_names_at, own_names_at, names_at, bounds_at, range_at, scalar_at, vector_at, port_type_at, register_at, registered_at, signal_type_at, given_at, default_at, generic_at, next_generic_at, closed_at, generics_at, generic_clause_at, optional_generics_at, one_mode_at, port_mode_at, taken_bus_at, bus_at, port_behind_at, port_at, next_port_at, ports_at, port_clause_at, entity_head_at, stop_at, repeated_at, ending_at, entity_at, signal_at, signals_at, declarations_at}
+use Rattle.vhdl_front.specs.Entity.{Names, Moded, new_name, identifier, declared, declared_here, another, led_names, own_names, names, width, bounds, range, scalar, vector, port_type, registered, signal_type, default, generic, next_generic, closed, generic_clause, one_mode, port_mode, bus, port_behind, port, next_port, port_clause, entity_head, ending, entity, signal, declarations}
+use Rattle.vhdl_front.specs.EntityReading.{identifier_at, declared_at, declared_here_at, another_at, led_names_at, own_names_at, names_at, bounds_at, range_at, scalar_at, vector_at, port_type_at, register_at, registered_at, signal_type_at, given_at, default_at, generic_at, next_generic_at, closed_at, generics_at, generic_clause_at, optional_generics_at, one_mode_at, port_mode_at, taken_bus_at, bus_at, port_behind_at, port_at, next_port_at, ports_at, port_clause_at, entity_head_at, stop_at, repeated_at, ending_at, entity_at, signal_at, signals_at, declarations_at}
 use Rattle.vhdl_front.proofs.Language.{numbers, exact_number, exact_direction}
 
 -- a grammar without levels, and its reader
 abbrev Language : {A : Type 0} → Grammar A → Bool → Set → Set → Reader A → Type 0
 Language G null f l r = Exact (Unit {0}) G G null f l r
+
+exact_identifier : Language identifier false (numbers (form.Identifier ∷ [])) [] identifier_at
+unfolding identifier identifier_at
+exact_identifier = exact_then (exact_one form.Identifier) (λ t. exact_nothing (name_of t)) refl
 
 abbrev pub comma : Form
 comma = form.Sign sign.Comma
@@ -44,9 +53,13 @@ pub exact_led_names : (w : Keyword) → Language (led_names w) false (code (form
 unfolding led_names led_names_at
 exact_led_names w = exact_then (exact_one (form.Keyword w)) (λ t. exact_then (exact_declared t.line) (λ first. exact_then (exact_list (exact_another t.line) refl) (λ others. exact_nothing (t.line, first ∷ others)) refl) refl) refl
 
+exact_declared_here : Language declared_here false (numbers (form.Identifier ∷ [])) [] declared_here_at
+unfolding declared_here declared_here_at
+exact_declared_here = exact_then (exact_marked form.Identifier (λ t. declares t.line (name_of t))) (λ t. exact_nothing (new_name t)) refl
+
 exact_own_names : Language own_names false (numbers (form.Identifier ∷ [])) names_lasts own_names_at
 unfolding own_names own_names_at
-exact_own_names = exact_then (exact_marked form.Identifier (λ t. declares t.line (name_of t))) (λ t. exact_then (exact_list (exact_another t.line) refl) (λ others. exact_nothing (t.line, new_name t ∷ others)) refl) refl
+exact_own_names = exact_then exact_declared_here (λ first. exact_then (exact_list (exact_another first.line) refl) (λ others. exact_nothing (first.line, first ∷ others)) refl) refl
 
 exact_constants : Language (names word.Constant) false (numbers (form.Keyword word.Constant ∷ form.Identifier ∷ [])) names_lasts (names_at word.Constant)
 unfolding names names_at
@@ -110,7 +123,7 @@ generic_firsts = numbers (form.Keyword word.Constant ∷ form.Identifier ∷ [])
 
 pub exact_generic : Language generic false generic_firsts (numbers (form.Sign sign.Default ∷ [])) generic_at
 unfolding generic generic_at
-exact_generic = exact_then exact_constants (λ n. exact_then (exact_one (form.Sign sign.Colon)) (λ t. exact_then (exact_one form.Identifier) (λ u. exact_then exact_default (λ value. exact_nothing (record { line = n.0; names = n.1; kind = name_of u; value = value })) refl) refl) refl) refl
+exact_generic = exact_then exact_constants (λ n. exact_then (exact_one (form.Sign sign.Colon)) (λ t. exact_then exact_identifier (λ kind. exact_then exact_default (λ value. exact_nothing (record { line = n.0; names = n.1; kind = kind; value = value })) refl) refl) refl) refl
 
 pub exact_next_generic : Language next_generic false (numbers (form.Sign sign.Semicolon ∷ [])) (numbers (form.Sign sign.Default ∷ [])) next_generic_at
 unfolding next_generic next_generic_at
@@ -164,7 +177,7 @@ exact_port_clause room = exact_then (exact_one (form.Keyword word.Port)) (λ t. 
 
 exact_entity_head : Language entity_head false (numbers (form.Keyword word.Entity ∷ [])) [] entity_head_at
 unfolding entity_head entity_head_at
-exact_entity_head = exact_then (exact_one (form.Keyword word.Entity)) (λ t. exact_then (exact_one form.Identifier) (λ u. exact_then (exact_one (form.Keyword word.Is)) (λ w. exact_nothing (name_of u)) refl) refl) refl
+exact_entity_head = exact_then (exact_one (form.Keyword word.Entity)) (λ t. exact_then exact_identifier (λ name. exact_then (exact_one (form.Keyword word.Is)) (λ w. exact_nothing name) refl) refl) refl
 
 exact_ending : {A : Type 0} (name : List ℕ) (x : A) → Language (ending name x) false (numbers (form.Keyword word.End ∷ [])) [] (ending_at name x)
 unfolding ending ending_at repeated_at stop_at
@@ -186,3 +199,20 @@ signal_set = numbers (form.Keyword word.Signal ∷ [])
 pub exact_declarations : (room : ℕ) → Language (declarations room) true signal_set signal_set (declarations_at room)
 unfolding declarations declarations_at signals_at
 exact_declarations room = exact_then (exact_list (exact_signal room) refl) (λ all. exact_nothing (record { signals = all })) refl
+
+-- ---- items of lists take tokens
+
+item_consumes : {A : Type 0} (G : Grammar A) (f l : Set) (r : Reader A) → Language G false f l r → (here there : At) (v : A) → r here ≡ Ok (v, there) → length there.rest < length here.rest
+item_consumes G f l r e here there v h = consumes G f l r e.shape (e.reads tt) here there v h
+
+pub another_consumes : (line : ℕ) (here there : At) (v : NewName) → another_at line here ≡ Ok (v, there) → length there.rest < length here.rest
+another_consumes line here there v h = item_consumes (another line) (numbers (comma ∷ [])) [] (another_at line) (exact_another line) here there v h
+
+pub next_generic_consumes : (here there : At) (v : Generic) → next_generic_at here ≡ Ok (v, there) → length there.rest < length here.rest
+next_generic_consumes here there v h = item_consumes next_generic (numbers (form.Sign sign.Semicolon ∷ [])) (numbers (form.Sign sign.Default ∷ [])) next_generic_at exact_next_generic here there v h
+
+pub next_port_consumes : (room : ℕ) (here there : At) (v : PortGroup) → next_port_at room here ≡ Ok (v, there) → length there.rest < length here.rest
+next_port_consumes room here there v h = item_consumes (next_port room) (numbers (form.Sign sign.Semicolon ∷ [])) port_lasts (next_port_at room) (exact_next_port room) here there v h
+
+pub signal_consumes : (room : ℕ) (here there : At) (v : SignalGroup) → signal_at room here ≡ Ok (v, there) → length there.rest < length here.rest
+signal_consumes room here there v h = item_consumes (signal room) (numbers (form.Keyword word.Signal ∷ [])) [] (signal_at room) (exact_signal room) here there v h

@@ -1,4 +1,5 @@
 pub mod Names
+pub mod Bits
 pub mod Language
 pub mod Nested
 pub mod EntityLanguage

@@ -24,6 +24,11 @@ use Rattle.vhdl_front.specs.Expression.{number, direction}
 
 -- ---- names
 
+unfoldable pub identifier : Grammar (List ℕ)
+identifier = do
+  t ← one form.Identifier
+  nothing (name_of t)
+
 abbrev pub new_name : PlacedToken → NewName
 new_name t = record { text = name_of t; line = t.line }
 
@@ -49,11 +54,17 @@ led_names w = do
   others ← list (another t.line)
   nothing (t.line, first ∷ others)
 
+-- a name with which a declaration begins
+unfoldable pub declared_here : Grammar NewName
+declared_here = do
+  t ← marked form.Identifier (λ t. declares t.line (name_of t))
+  nothing (new_name t)
+
 unfoldable pub own_names : Grammar Names
 own_names = do
-  t ← marked form.Identifier (λ t. declares t.line (name_of t))
-  others ← list (another t.line)
-  nothing (t.line, new_name t ∷ others)
+  first ← declared_here
+  others ← list (another first.line)
+  nothing (first.line, first ∷ others)
 
 -- names behind a word that may be left out
 unfoldable pub names : Keyword → Grammar Names
@@ -127,9 +138,9 @@ unfoldable pub generic : Grammar Generic
 generic = do
   n ← names word.Constant
   t ← one (form.Sign sign.Colon)
-  u ← one form.Identifier
+  kind ← identifier
   value ← default
-  nothing (record { line = n.0; names = n.1; kind = name_of u; value = value })
+  nothing (record { line = n.0; names = n.1; kind = kind; value = value })
 
 unfoldable pub next_generic : Grammar Generic
 next_generic = do
@@ -200,9 +211,9 @@ port_clause room = do
 unfoldable pub entity_head : Grammar (List ℕ)
 entity_head = do
   t ← one (form.Keyword word.Entity)
-  u ← one form.Identifier
+  name ← identifier
   w ← one (form.Keyword word.Is)
-  nothing (name_of u)
+  nothing name
 
 -- the name that was opened may stand behind `end`
 unfoldable pub ending : {A : Type 0} → List ℕ → A → Grammar A

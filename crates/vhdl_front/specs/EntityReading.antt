@@ -23,6 +23,11 @@ use Rattle.vhdl_front.specs.Cursor.{name_of}
 use Rattle.vhdl_front.specs.Reading.{number_at, direction_at}
 use Rattle.vhdl_front.specs.Entity.{Names, Moded, new_name, width}
 
+unfoldable pub identifier_at : Reader (List ℕ)
+identifier_at here = do
+  t ← take_at form.Identifier here
+  Ok (name_of t.0, t.1)
+
 unfoldable pub declared_at : ℕ → Reader NewName
 declared_at line here = do
   t ← take_marked form.Identifier (λ t. declares line (name_of t)) here
@@ -40,11 +45,16 @@ led_names_at w here = do
   others ← list_at (code (form.Sign sign.Comma) ∷ []) (another_at t.0.line) first.1
   Ok ((t.0.line, first.0 ∷ others.0), others.1)
 
+unfoldable pub declared_here_at : Reader NewName
+declared_here_at here = do
+  t ← take_marked form.Identifier (λ t. declares t.line (name_of t)) here
+  Ok (new_name t.0, t.1)
+
 unfoldable pub own_names_at : Reader Names
 own_names_at here = do
-  t ← take_marked form.Identifier (λ t. declares t.line (name_of t)) here
-  others ← list_at (code (form.Sign sign.Comma) ∷ []) (another_at t.0.line) t.1
-  Ok ((t.0.line, new_name t.0 ∷ others.0), others.1)
+  first ← declared_here_at here
+  others ← list_at (code (form.Sign sign.Comma) ∷ []) (another_at first.0.line) first.1
+  Ok ((first.0.line, first.0 ∷ others.0), others.1)
 
 unfoldable pub names_at : Keyword → Reader Names
 names_at w here = if is_at (form.Keyword w) here.rest then led_names_at w here else own_names_at here
@@ -114,9 +124,9 @@ unfoldable pub generic_at : Reader Generic
 generic_at here = do
   n ← names_at word.Constant here
   t ← take_at (form.Sign sign.Colon) n.1
-  u ← take_at form.Identifier t.1
-  value ← default_at u.1
-  Ok (record { line = n.0.0; names = n.0.1; kind = name_of u.0; value = value.0 }, value.1)
+  kind ← identifier_at t.1
+  value ← default_at kind.1
+  Ok (record { line = n.0.0; names = n.0.1; kind = kind.0; value = value.0 }, value.1)
 
 unfoldable pub next_generic_at : Reader Generic
 next_generic_at here = do
@@ -194,9 +204,9 @@ port_clause_at room here = do
 unfoldable pub entity_head_at : Reader (List ℕ)
 entity_head_at here = do
   t ← take_at (form.Keyword word.Entity) here
-  u ← take_at form.Identifier t.1
-  w ← take_at (form.Keyword word.Is) u.1
-  Ok (name_of u.0, w.1)
+  name ← identifier_at t.1
+  w ← take_at (form.Keyword word.Is) name.1
+  Ok (name.0, w.1)
 
 unfoldable pub stop_at : {A : Type 0} → A → Reader A
 stop_at x here = do

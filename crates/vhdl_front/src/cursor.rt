@@ -1,9 +1,9 @@
 // Taking tokens, with what each does beside standing in its place.
-ghost use Rattle.std.specs.Prelude.{◌≡◌, ◌∷◌, ◌<◌, Ok, IfOk, IfErr, IsTrue, true, option_copied};
+ghost use Rattle.std.specs.Prelude.{◌≡◌, ◌∷◌, ◌<◌, ◌+◌, ◌-◌, ◌*◌, ◌^◌, min, Ok, IfOk, IfErr, IsTrue, true, option_copied};
 ghost use Rattle.vhdl_token.specs.declared.token.PlacedToken.{PlacedToken};
 ghost use Rattle.grammar_theory.specs.Tokens.{is_of, is_at};
-ghost use Rattle.grammar_theory.specs.Marks.{Mark, State, plain, starts, opens, operator, declares, counts, spells};
-ghost use Rattle.grammar_theory.specs.Outcome.{Gives, Fails, take_from, take_at, take_marked, refusal};
+ghost use Rattle.grammar_theory.specs.Marks.{Mark, State, starts, opens, operator, declares, counts, spells, step};
+ghost use Rattle.grammar_theory.specs.Outcome.{Gives, Fails, passed, take_from, take_at, take_marked, refusal};
 ghost use Rattle.grammar_theory.specs.declared.form.Form.TheVariants.{Identifier};
 ghost use Rattle.vhdl_front.specs.Cursor.{at_of, state_of, name_of};
 
@@ -101,13 +101,18 @@ impl<'a> Cursor<'a> {
         Ok(next)
     }
 
-    /// The last token of the type of a declaration with so many bits.
+    /// The last token of the type of a declaration of so many names, each of so many bits.
     #[tactic(auto, unfolding(grammar_theory::specs::Marks::step))]
-    pub fn take_counting(&mut self, form: Form, bits: u64) -> Result<&'a PlacedToken, Stop>
-        ensures { Gives (λ t. t.now) result (at_of self.new.counts self.new.rest.now) (take_marked form (λ _. counts bits) (at_of self.old.counts self.old.rest.now)) }
+    pub fn take_counting(
+        &mut self,
+        form: Form,
+        count: usize,
+        width: u64,
+    ) -> Result<&'a PlacedToken, Stop>
+        ensures { Gives (λ t. t.now) result (at_of self.new.counts self.new.rest.now) (take_marked form (λ _. counts (count * width)) (at_of self.old.counts self.old.rest.now)) }
     {
         let (next, rest) = self.next(form)?;
-        let total = self.counts.bits.saturating_add(bits);
+        let total = total_bits(self.counts.bits, count, width);
         if total > BITS {
             return Err(self.refuse(Reason::Breach(Breach::Bits(total))));
         }
@@ -129,12 +134,17 @@ impl<'a> Cursor<'a> {
         Ok(next)
     }
 
-    /// A name that is declared, by a declaration that begins on this line.
+    /// Takes the next token, a name that is declared by a declaration that begins on this line.
     #[tactic(auto, unfolding(grammar_theory::specs::Marks::step))]
-    pub fn declare(&mut self, line: u32) -> Result<&'a PlacedToken, Stop>
-        ensures { Gives (λ t. t.now) result (at_of self.new.counts self.new.rest.now) (take_marked Identifier (λ t. declares line (name_of t)) (at_of self.old.counts self.old.rest.now)) }
+    fn declare_next(
+        &mut self,
+        next: &'a PlacedToken,
+        rest: &'a [PlacedToken],
+        line: u32,
+    ) -> Result<&'a PlacedToken, Stop>
+        requires { self.old.rest.now ≡ next.now ∷ rest.now }
+        ensures { Gives (λ t. t.now) result (at_of self.new.counts self.new.rest.now) (passed next.now rest.now (step (declares line (name_of next.now)) (state_of self.old.counts))) }
     {
-        let (next, rest) = self.next(Form::Identifier)?;
         let name = name_bytes(next);
         if !self.counts.declare(self.alloc, name)? {
             let name = Text::from_bytes(self.alloc, name)?;
@@ -143,6 +153,29 @@ impl<'a> Cursor<'a> {
         self.rest = rest;
         Ok(next)
     }
+
+    /// A name that is declared, by a declaration that begins on this line.
+    pub fn declare(&mut self, line: u32) -> Result<&'a PlacedToken, Stop>
+        ensures { Gives (λ t. t.now) result (at_of self.new.counts self.new.rest.now) (take_marked Identifier (λ t. declares line (name_of t)) (at_of self.old.counts self.old.rest.now)) }
+    {
+        let (next, rest) = self.next(Form::Identifier)?;
+        self.declare_next(next, rest, line)
+    }
+
+    /// A name with which its declaration begins.
+    pub fn declare_first(&mut self) -> Result<&'a PlacedToken, Stop>
+        ensures { Gives (λ t. t.now) result (at_of self.new.counts self.new.rest.now) (take_marked Identifier (λ t. declares t.line (name_of t)) (at_of self.old.counts self.old.rest.now)) }
+    {
+        let (next, rest) = self.next(Form::Identifier)?;
+        self.declare_next(next, rest, next.line)
+    }
+}
+
+/// How many bits there are with those of so many names more, each of so many bits; at most what a `u64` can tell.
+fn total_bits(bits: u64, count: usize, width: u64) -> u64
+    ensures { result ≡ min (bits + count * width) (2 ^ 64 - 1) }
+{
+    bits.saturating_add((count as u64).saturating_mul(width))
 }
 
 /// The name that an identifier is; of another token none.

@@ -3,6 +3,7 @@
 
 mod counts;
 mod cursor;
+mod entity;
 mod expression;
 
 pub use counts::Counts;
