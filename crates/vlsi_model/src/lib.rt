@@ -4,10 +4,12 @@
 mod places;
 mod sizes;
 mod statement;
+mod table;
 
 pub use machine_core::Machine;
-pub use places::{place_of, put_place};
+
 pub use sizes::machine_size;
+pub use table::{Table, Symbol, Role};
 pub use statement::{
     Assignment, Assignments, Choice, Guarded, GuardedList, RawBlock, RawMachine, Selection,
     Statement, Statements, Target,
