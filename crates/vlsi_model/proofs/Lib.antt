@@ -1,2 +1,3 @@
 pub mod WholeSize
 pub mod Lookups
+pub mod Knowing

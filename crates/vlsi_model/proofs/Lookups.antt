@@ -13,7 +13,7 @@ use Rattle.std.proofs.lemmas.Slice.Eq.{bytes_eq-Decides}
 abbrev pub at_text : List ℕ → Vec ℕ → Bool
 at_text t = is_at (λ (x : Vec ℕ). slice_cmp nat_cmp t x.items)
 
-same_of : (x y : List ℕ) → bytes_eq x y ≡ true → x ≡ y
+pub same_of : (x y : List ℕ) → bytes_eq x y ≡ true → x ≡ y
 same_of x y e = (bytes_eq-Decides x y).0 e
 
 itself : (x : List ℕ) → bytes_eq x x ≡ true

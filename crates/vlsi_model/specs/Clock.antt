@@ -7,10 +7,13 @@ use Rattle.vlsi_model.specs.declared.statement.Assignment.{Assignment}
 use Rattle.vlsi_model.specs.declared.statement.Statement.{Statement}
 use Rattle.vlsi_model.specs.declared.statement.Statement.TheVariants as statement
 use Rattle.vlsi_model.specs.declared.statement.RawMachine.{RawMachine}
-use Rattle.vlsi_model.specs.Symbols.{Symbol, symbols, find, Role, input, output, both, inner, register, is_supply}
+use Rattle.vlsi_model.specs.Symbols.{symbols, find, is_supply}
+use Rattle.vlsi_model.specs.declared.table.Symbol.{Symbol}
 use Rattle.vlsi_model.specs.Formula.{Formula, fixed, joined, formulas, first_bit}
 use Rattle.vlsi_model.specs.Places.{in_choice, in_assignments, in_statements}
 use Rattle.vlsi_model.specs.Widths.{if_not}
+use Rattle.vlsi_model.specs.declared.table.Role.{Role}
+use Rattle.vlsi_model.specs.declared.table.Role.TheVariants as role
 
 -- Guards: the `and`, through parentheses, of one clock, one `not clock'stable` and further conditions. All guards of a text
 -- name one clock, which is read nowhere else. A guard whose further conditions read the clock names none.
@@ -35,11 +38,11 @@ abbrev pub may_clock : Option Symbol → Bool
 may_clock None = false
 may_clock (Some s) = by s.role && (is_none s.range && not (is_supply s.text)) where
   by : Role → Bool
-  by input = true
-  by output = false
-  by both = false
-  by inner = false
-  by register = false
+  by role.Input = true
+  by role.Output = false
+  by role.Both = false
+  by role.Inner = false
+  by role.Register = false
 
 -- the name whose `stable` is turned round, if that is what stands here
 abbrev pub steady_name : Tree → Option (List ℕ)

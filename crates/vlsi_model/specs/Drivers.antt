@@ -11,9 +11,12 @@ use Rattle.vlsi_model.specs.declared.statement.Assignment.{Assignment}
 use Rattle.vlsi_model.specs.declared.statement.Statement.{Statement}
 use Rattle.vlsi_model.specs.declared.statement.Statement.TheVariants as statement
 use Rattle.vlsi_model.specs.declared.statement.RawMachine.{RawMachine}
-use Rattle.vlsi_model.specs.Symbols.{Symbol, symbols, find, Role, input, output, both, inner, register, symbol_names, names_in, bit_name}
+use Rattle.vlsi_model.specs.Symbols.{symbols, find, symbol_names, names_in, bit_name}
+use Rattle.vlsi_model.specs.declared.table.Symbol.{Symbol}
 use Rattle.vlsi_model.specs.Formula.{names_of_found}
 use Rattle.vlsi_model.specs.Places.{in_assignments, in_statements}
+use Rattle.vlsi_model.specs.declared.table.Role.{Role}
+use Rattle.vlsi_model.specs.declared.table.Role.TheVariants as role
 
 abbrev pub is_among : List Name → Name → Bool
 is_among [] n = false
@@ -21,11 +24,11 @@ is_among (m ∷ names) n = is_same_name m n || is_among names n
 
 -- outputs, inner signals and registers need a driver
 abbrev pub needs_driver : Role → Bool
-needs_driver input = false
-needs_driver output = true
-needs_driver both = false
-needs_driver inner = true
-needs_driver register = true
+needs_driver role.Input = false
+needs_driver role.Output = true
+needs_driver role.Both = false
+needs_driver role.Inner = true
+needs_driver role.Register = true
 
 -- the bits that a target drives, from the left
 abbrev pub target_names : List Symbol → Target → List Name

@@ -11,11 +11,14 @@ use Rattle.vlsi_model.specs.declared.statement.Assignment.{Assignment}
 use Rattle.vlsi_model.specs.declared.statement.Statement.{Statement}
 use Rattle.vlsi_model.specs.declared.statement.Statement.TheVariants as statement
 use Rattle.vlsi_model.specs.declared.statement.RawMachine.{RawMachine}
-use Rattle.vlsi_model.specs.Symbols.{Symbol, symbols, Role, input, output, both, inner, register, symbol_names, is_supply, scalar}
+use Rattle.vlsi_model.specs.Symbols.{symbols, symbol_names, is_supply, scalar}
+use Rattle.vlsi_model.specs.declared.table.Symbol.{Symbol}
 use Rattle.vlsi_model.specs.Formula.{Formula, choice_bits, numbered}
 use Rattle.vlsi_model.specs.Drivers.{target_names}
 use Rattle.vlsi_model.specs.Clock.{clock_text, enable_of}
 use Rattle.vlsi_model.specs.Places.{in_assignments, in_statements}
+use Rattle.vlsi_model.specs.declared.table.Role.{Role}
+use Rattle.vlsi_model.specs.declared.table.Role.TheVariants as role
 
 -- a bit with what it has the value of
 pub record Definition : Type 0 where
@@ -63,11 +66,11 @@ abbrev pub port_of : Dir → Name → Port
 port_of dir n = record { name = n; dir = dir }
 
 abbrev pub ports_of_role : Role → List Name → List Port
-ports_of_role input names = map (port_of In) names
-ports_of_role output names = map (port_of Out) names
-ports_of_role both names = []
-ports_of_role inner names = []
-ports_of_role register names = []
+ports_of_role role.Input names = map (port_of In) names
+ports_of_role role.Output names = map (port_of Out) names
+ports_of_role role.Both names = []
+ports_of_role role.Inner names = []
+ports_of_role role.Register names = []
 
 -- the bits of the ports but vdd and vss, in file order
 abbrev pub port_bits : List Symbol → List Port

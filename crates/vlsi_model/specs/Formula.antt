@@ -12,7 +12,8 @@ use Rattle.bool_expr.specs.Expression.{Expression, constant, variable, inverse a
 use Rattle.machine_meaning.specs.Named.{is_same_name}
 use Rattle.vlsi_model.specs.declared.statement.Guarded.{Guarded}
 use Rattle.vlsi_model.specs.declared.statement.Choice.{Choice}
-use Rattle.vlsi_model.specs.Symbols.{Symbol, find, symbol_names, names_in, bit_name}
+use Rattle.vlsi_model.specs.Symbols.{find, symbol_names, names_in, bit_name}
+use Rattle.vlsi_model.specs.declared.table.Symbol.{Symbol}
 
 pub data Formula : Type 0 where
   fixed : Bool → Formula

@@ -9,3 +9,4 @@ pub mod Elaboration
 pub mod Cycles
 pub mod Checks
 pub mod Lookup
+pub mod Known

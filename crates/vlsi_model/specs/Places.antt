@@ -6,7 +6,8 @@ use Rattle.vlsi_model.specs.declared.statement.Choice.{Choice}
 use Rattle.vlsi_model.specs.declared.statement.Assignment.{Assignment}
 use Rattle.vlsi_model.specs.declared.statement.Statement.{Statement}
 use Rattle.vlsi_model.specs.declared.statement.Statement.TheVariants as statement
-use Rattle.vlsi_model.specs.Symbols.{Symbol, find}
+use Rattle.vlsi_model.specs.Symbols.{find}
+use Rattle.vlsi_model.specs.declared.table.Symbol.{Symbol}
 
 -- a name and the line on which it stands
 pub record Use : Type 0 where

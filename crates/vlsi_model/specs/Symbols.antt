@@ -10,33 +10,21 @@ use Rattle.vlsi_base.specs.declared.entity.TypeWord.TheVariants as word
 use Rattle.vlsi_base.specs.declared.entity.PortGroup.{PortGroup}
 use Rattle.vlsi_base.specs.declared.entity.SignalGroup.{SignalGroup}
 use Rattle.vlsi_model.specs.declared.statement.RawMachine.{RawMachine}
-
-pub data Role : Type 0 where
-  input : Role
-  output : Role
-  -- a port of mode inout
-  both : Role
-  inner : Role
-  register : Role
-
--- one declared name: its role, the range of a vector, and the line of its declaration
-pub record Symbol : Type 0 where
-  pub text : List ℕ
-  pub role : Role
-  pub range : Option Range
-  pub line : ℕ
+use Rattle.vlsi_model.specs.declared.table.Role.{Role}
+use Rattle.vlsi_model.specs.declared.table.Role.TheVariants as role
+use Rattle.vlsi_model.specs.declared.table.Symbol.{Symbol}
 
 abbrev pub role_of_mode : Mode → Role
-role_of_mode mode.In = input
-role_of_mode mode.Out = output
-role_of_mode mode.Inout = both
+role_of_mode mode.In = role.Input
+role_of_mode mode.Out = role.Output
+role_of_mode mode.Inout = role.Both
 
 -- signals of the three words for registers are registers
 abbrev pub role_of_word : TypeWord → Role
-role_of_word word.RegBit = register
-role_of_word word.RegVector = register
-role_of_word word.RegBitVector = register
-role_of_word _ = inner
+role_of_word word.RegBit = role.Register
+role_of_word word.RegVector = role.Register
+role_of_word word.RegBitVector = role.Register
+role_of_word _ = role.Inner
 
 abbrev pub symbols_named : Role → Option Range → ℕ → List NewName → List Symbol
 symbols_named role range line [] = []
@@ -98,8 +86,8 @@ abbrev pub symbol_names : Symbol → List Name
 symbol_names s = names_in s.text s.range
 
 abbrev pub is_port : Role → Bool
-is_port input = true
-is_port output = true
-is_port both = true
-is_port inner = false
-is_port register = false
+is_port role.Input = true
+is_port role.Output = true
+is_port role.Both = true
+is_port role.Inner = false
+is_port role.Register = false

@@ -12,10 +12,13 @@ use Rattle.vlsi_model.specs.declared.statement.Assignment.{Assignment}
 use Rattle.vlsi_model.specs.declared.statement.Statement.{Statement}
 use Rattle.vlsi_model.specs.declared.statement.Statement.TheVariants as statement
 use Rattle.vlsi_model.specs.declared.statement.RawMachine.{RawMachine}
-use Rattle.vlsi_model.specs.Symbols.{Symbol, symbols, find, Role, input, output, both, inner, register, is_supply}
+use Rattle.vlsi_model.specs.Symbols.{symbols, find, is_supply}
+use Rattle.vlsi_model.specs.declared.table.Symbol.{Symbol}
 use Rattle.vlsi_model.specs.Formula.{digit_width}
 use Rattle.vlsi_model.specs.Places.{in_choice, in_assignments, in_statements}
 use Rattle.vlsi_model.specs.Widths.{if_not}
+use Rattle.vlsi_model.specs.declared.table.Role.{Role}
+use Rattle.vlsi_model.specs.declared.table.Role.TheVariants as role
 
 -- a text of bits has 1 to 128 of them
 abbrev pub literal_faults : Tree → List ℕ
@@ -70,11 +73,11 @@ abbrev pub may_drive : Bool → Option Symbol → Bool
 may_drive in_block None = true
 may_drive in_block (Some s) = by s.role where
   by : Role → Bool
-  by input = false
-  by output = not in_block
-  by both = not in_block
-  by inner = not in_block
-  by register = in_block
+  by role.Input = false
+  by role.Output = not in_block
+  by role.Both = not in_block
+  by role.Inner = not in_block
+  by role.Register = in_block
 
 abbrev pub assignment_forms : List Symbol → Bool → Assignment → List ℕ
 assignment_forms known in_block a =

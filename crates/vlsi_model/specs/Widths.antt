@@ -14,7 +14,8 @@ use Rattle.vlsi_model.specs.declared.statement.Assignment.{Assignment}
 use Rattle.vlsi_model.specs.declared.statement.Statement.{Statement}
 use Rattle.vlsi_model.specs.declared.statement.Statement.TheVariants as statement
 use Rattle.vlsi_model.specs.declared.statement.RawMachine.{RawMachine}
-use Rattle.vlsi_model.specs.Symbols.{Symbol, symbols, find, is_ordered, range_bits, has_bit}
+use Rattle.vlsi_model.specs.Symbols.{symbols, find, is_ordered, range_bits, has_bit}
+use Rattle.vlsi_model.specs.declared.table.Symbol.{Symbol}
 use Rattle.vlsi_model.specs.Formula.{digit_width}
 use Rattle.vlsi_model.specs.Places.{in_choice, in_assignments, in_statements}
 

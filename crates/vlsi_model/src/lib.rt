@@ -4,11 +4,12 @@
 mod places;
 mod sizes;
 mod statement;
+mod table;
 
 pub use machine_core::Machine;
-pub use places::{place_of, put_place};
 pub use sizes::machine_size;
 pub use statement::{
     Assignment, Assignments, Choice, Guarded, GuardedList, RawBlock, RawMachine, Selection,
     Statement, Statements, Target,
 };
+pub use table::{Role, Symbol, Table};

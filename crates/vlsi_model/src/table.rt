@@ -1,0 +1,106 @@
+// What a data-flow text declares, found by its text.
+ghost use Rattle.std.specs.Prelude.{◌≡◌, ◌++◌, ◌∷◌, [], IfOk, OnOk, OnSome};
+ghost use Rattle.std.specs.Option.{option_copied};
+ghost use Rattle.vlsi_model.specs.Symbols.{symbols_named, port_symbols, signal_symbols, role_of_mode, role_of_word, symbols, find};
+ghost use Rattle.vlsi_model.specs.Known.{KnowsPlaces};
+
+use crate::RawMachine;
+use crate::places::{Places, learn_place, place_of};
+use std::alloc::{AllocError, Global};
+use std::collections::BTreeMap;
+use std::marker::Model;
+use vlsi_base::{Mode, NewName, PortGroup, Range, SignalGroup, Text, TypeWord};
+
+/// What a name stands for.
+#[derive(Clone, Copy, Debug, PartialEq, Eq)]
+pub enum Role {
+    Input,
+    Output,
+    /// A port of mode inout.
+    Both,
+    /// An inner signal.
+    Inner,
+    Register,
+}
+
+/// A declared name: its role, the range of a vector, and the line of its declaration.
+#[derive(Debug, Drop)]
+pub struct Symbol {
+    pub text: Text,
+    pub role: Role,
+    pub range: Option<Range>,
+    pub line: u32,
+}
+
+/// The declared names in file order, each found by its text.
+#[derive(Drop)]
+pub struct Table {
+    items: Vec<Symbol>,
+    places: Places,
+}
+
+impl Model for Table {
+    ghost use Rattle.std.specs.Prelude.{List};
+    ghost use Rattle.vlsi_model.specs.declared.table.Symbol.{Symbol};
+    ghost use Rattle.vlsi_model.specs.Known.{KnowsPlaces};
+
+    ghost Value = { List Symbol };
+
+    ghost view = { λ a. a.items.items };
+
+    ghost invariant = { λ a. KnowsPlaces a.places a.items.items };
+}
+
+fn role_of_mode(mode: Mode) -> Role
+    ensures { result ≡ role_of_mode mode }
+{
+    match mode {
+        Mode::In => Role::Input,
+        Mode::Out => Role::Output,
+        Mode::Inout => Role::Both,
+    }
+}
+
+/// Signals of the three words for registers are registers.
+fn role_of_word(word: TypeWord) -> Role
+    ensures { result ≡ role_of_word word }
+{
+    match word {
+        TypeWord::RegBit | TypeWord::RegVector | TypeWord::RegBitVector => Role::Register,
+        _ => Role::Inner,
+    }
+}
+
+/// Puts one symbol behind those that are there.
+fn add(
+    alloc: Global,
+    items: &mut Vec<Symbol>,
+    places: &mut Places,
+    symbol: Symbol,
+) -> Result<(), AllocError>
+    requires { KnowsPlaces places.old items.old.items }
+    ensures knows { OnOk result (KnowsPlaces places.new items.new.items) }
+    ensures items { OnOk result (items.new.items ≡ items.old.items ++ symbol ∷ []) }
+{
+    learn_place(alloc, places, symbol.text.as_bytes(), items.len())?;
+    items.push(symbol)?;
+    Ok(())
+}
+
+impl Table {
+    /// The declared name of this text.
+    pub fn find(&self, text: &[u8]) -> Option<&Symbol>
+        ensures { option_copied result ≡ find self.now text.now }
+    {
+        match place_of(&self.places, text) {
+            Some(place) => Some(&self.items[place]),
+            None => None,
+        }
+    }
+
+    pub fn as_slice(&self) -> &[Symbol]
+        ensures { result.now ≡ self.now }
+    {
+        &self.items
+    }
+}
