@@ -18,6 +18,7 @@ use Rattle.grammar_theory.specs.Tokens.{code}
 use Rattle.grammar_theory.specs.Marks.{opens, declares, counts, spells}
 use Rattle.grammar_theory.specs.Grammar.{Grammar, nothing, ◌or◌}
 use Rattle.grammar_theory.specs.Outcome.{At, Reader}
+use Rattle.grammar_theory.specs.Answers.{Answers}
 use Rattle.grammar_theory.proofs.Sets.{Set}
 use Rattle.grammar_theory.proofs.Bundle.{Exact, exact_nothing, exact_one, exact_marked, exact_then, exact_behind, within}
 use Rattle.grammar_theory.proofs.Many.{exact_list}
@@ -216,3 +217,9 @@ next_port_consumes room here there v h = item_consumes (next_port room) (numbers
 
 pub signal_consumes : (room : ℕ) (here there : At) (v : SignalGroup) → signal_at room here ≡ Ok (v, there) → length there.rest < length here.rest
 signal_consumes room here there v h = item_consumes (signal room) (numbers (form.Keyword word.Signal ∷ [])) [] (signal_at room) (exact_signal room) here there v h
+
+pub entity_answers : (room : ℕ) (here : At) → Answers (entity room) here (entity_at room here)
+entity_answers room here = ((exact_entity room).reads tt).answers here
+
+pub declarations_answers : (room : ℕ) (here : At) → Answers (declarations room) here (declarations_at room here)
+declarations_answers room here = ((exact_declarations room).reads tt).answers here

@@ -3,3 +3,4 @@ pub mod Expression
 pub mod Reading
 pub mod Entity
 pub mod EntityReading
+pub mod Front

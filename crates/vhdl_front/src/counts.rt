@@ -1,5 +1,5 @@
 // What is counted over the tokens.
-ghost use Rattle.std.specs.Prelude.{◌≡◌, IfOk, not};
+ghost use Rattle.std.specs.Prelude.{◌≡◌, [], IfOk, not};
 ghost use Rattle.std.specs.Bool.{OnTrue, OnFalse};
 ghost use Rattle.std.specs.BTreeSet.{insert_key};
 ghost use Rattle.std.specs.Cmp.Lexicographic.{slice_cmp};
@@ -21,7 +21,11 @@ pub struct Counts {
 
 impl Counts {
     /// Nothing so far. Takes no memory.
-    pub fn new(alloc: Global) -> Counts {
+    pub fn new(alloc: Global) -> Counts
+        ensures names { result.names.keys ≡ [] }
+        ensures bits { result.bits ≡ 0 }
+        ensures operators { result.operators ≡ 0 }
+    {
         Counts {
             names: BTreeSet::new(alloc),
             bits: 0,

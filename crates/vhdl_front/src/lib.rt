@@ -5,6 +5,8 @@ mod counts;
 mod cursor;
 mod entity;
 mod expression;
+mod reader;
 
 pub use counts::Counts;
 pub use cursor::Cursor;
+pub use reader::TokenReader;
