@@ -4,5 +4,6 @@
 mod patterns;
 
 pub use patterns::{
-    BitRange, Column, Columns, Format, Pattern, PatternList, Patterns, Time, TimeUnit, Value, Values,
+    BitRange, Column, Columns, Format, Pattern, PatternList, Patterns, Time, TimeUnit, Value,
+    Values,
 };
