@@ -1,2 +1,9 @@
 pub mod Rest
 pub mod LoadLemmas
+pub mod PlaceLemmas
+pub mod ColumnLemmas
+pub mod ValueLemmas
+pub mod Once
+pub mod PlanLemmas
+pub mod SimLemmas
+pub mod Leads

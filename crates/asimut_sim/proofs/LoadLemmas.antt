@@ -1,10 +1,9 @@
 -- Registers from one of them on.
-use Rattle.std.proofs.Common.{◌≡◌, ℕ, suc, ◌+◌, ◌<◌, Bool, List, [], ◌∷◌, ◌++◌, map, length, drop, refl, sym, ◌∙◌, ap, subst, add-one, drop-cons, length-append, append_assoc, arith, if◌then◌else◌}
+use Rattle.std.proofs.Common.{◌≡◌, ℕ, suc, ◌+◌, ◌<◌, Bool, List, [], ◌∷◌, ◌++◌, map, length, drop, refl, sym, ◌∙◌, ap, subst, add-one, drop-cons, append_assoc, if◌then◌else◌}
 use Rattle.std.specs.List.{slice_index_or, All}
 use Rattle.std.proofs.lemmas.List.Elements.{All-nil, All-cons, All-head, All-tail}
 use Rattle.vlsi_base.specs.declared.name.Name.{Name}
 use Rattle.bool_expr.specs.Expression.{val, IsOver}
-use Rattle.bool_expr.specs.View.{view}
 use Rattle.machine_meaning.specs.Named.{value_at, values_at}
 use Rattle.machine_meaning.specs.Machine.{Machine, Register, register_names}
 use Rattle.machine_meaning.specs.Cycles.{next}

@@ -1,5 +1,5 @@
 -- Equations from one of them on.
-use Rattle.std.proofs.Common.{◌≡◌, ℕ, suc, ◌+◌, ◌<◌, Bool, List, [], ◌∷◌, ◌++◌, map, length, drop, refl, sym, ◌∙◌, ap, subst, add-one, drop-cons, length-append, arith}
+use Rattle.std.proofs.Common.{◌≡◌, ℕ, suc, ◌+◌, ◌<◌, Bool, List, [], ◌∷◌, ◌++◌, map, length, drop, sym, ◌∙◌, ap, subst, add-one, drop-cons, length-append}
 use Rattle.std.specs.List.{slice_index_or}
 use Rattle.bool_expr.specs.Expression.{val, IsOver}
 use Rattle.bool_expr.specs.View.{view}

@@ -1,1 +1,5 @@
 pub mod Load
+pub mod Places
+pub mod Listed
+pub mod Plan
+pub mod Answers

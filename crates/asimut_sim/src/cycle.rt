@@ -7,6 +7,7 @@ ghost use Rattle.machine_core.specs.Order.{EachReadsBelow};
 ghost use Rattle.machine_core.specs.View.{equation_view, register_view};
 ghost use Rattle.machine_meaning.specs.Machine.{register_names};
 ghost use Rattle.machine_meaning.specs.Named.{values_at};
+ghost use Rattle.pat_meaning.specs.Simulation.{Takes};
 ghost use Rattle.asimut_sim.specs.Load.{loaded, loaded_bit, LoadsOver};
 
 use bool_expr::{Bits, value};
@@ -96,4 +97,26 @@ pub fn load(
     ensures { IfOk result (λ after. after.items ≡ next machine.now w.now) }
 {
     load_all(alloc, w, machine.registers().as_slice(), contents)
+}
+
+/// What is observed in a pattern with this input vector: where the clock rises, the registers load and all settles again.
+/// It takes memory for one bit a name.
+pub(crate) fn observe(
+    alloc: Global,
+    machine: &Machine,
+    inputs: &[bool],
+    is_rising: bool,
+    contents: &mut Vec<bool>,
+) -> Result<Bits, AllocError>
+    requires inputs { length inputs.now ≡ length (input_names machine.now) }
+    requires contents { length contents.old.items ≡ length machine.now.registers }
+    ensures takes { IfOk result (λ w. Takes is_rising machine.now inputs.now contents.old.items w contents.new.items) }
+    ensures each { IfOk result (λ _. length contents.new.items ≡ length machine.now.registers) }
+{
+    let first = settle(alloc, machine, inputs, contents)?;
+    if !is_rising {
+        return Ok(first);
+    }
+    *contents = load(alloc, machine, &first, contents)?;
+    settle(alloc, machine, inputs, contents)
 }

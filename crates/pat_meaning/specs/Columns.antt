@@ -1,8 +1,7 @@
 -- Which bits a pattern file lists, and what a pattern gives them.
 use Rattle.std.specs.Prelude.{◌≡◌, ℕ, zero, suc, ◌+◌, ◌-◌, Bool, false, nat_le, List, [], ◌∷◌, ◌++◌, length, replicate, Option, None, Some, if◌then◌else◌}
 use Rattle.vlsi_base.specs.declared.name.Name.{Name}
-use Rattle.vlsi_base.specs.declared.name.Dir.{Dir}
-use Rattle.vlsi_base.specs.declared.name.Dir.TheVariants.{In, Out}
+use Rattle.vlsi_base.specs.declared.name.Dir.TheVariants.{Out}
 use Rattle.pat_meaning.specs.declared.patterns.BitRange.{BitRange}
 use Rattle.pat_meaning.specs.declared.patterns.Column.{Column}
 use Rattle.pat_meaning.specs.declared.patterns.Value.{Value}

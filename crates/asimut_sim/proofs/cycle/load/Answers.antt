@@ -1,4 +1,4 @@
-use Rattle.std.proofs.Common.{ap, ◌∙◌, sym}
+use Rattle.std.proofs.Common.{ap, ◌∙◌}
 use Rattle.machine_core.specs.View.{register_view}
 use Rattle.std.proofs.Common.{map}
 use Rattle.asimut_sim.proofs.LoadLemmas.{loaded_is_next_of, loads_over_checked, as_many_held}

@@ -1,4 +1,4 @@
-use Rattle.std.proofs.Common.{false, arith}
+use Rattle.std.proofs.Common.{arith}
 use Rattle.asimut_sim.proofs.LoadLemmas.{loads_over, goes-next}
 use Rattle.asimut_sim.proofs.cycle.load_all.Goals as goal
 

@@ -1,0 +1,110 @@
+// The places of names in lists of names, and bits by place.
+ghost use Rattle.std.specs.Prelude.{◌≡◌, ◌++◌, map, IfOk, OnOk};
+ghost use Rattle.machine_core.specs.Order.{AllDifferent};
+ghost use Rattle.asimut_sim.specs.Places.{place_of, bit_at as bit_of};
+
+use std::alloc::{AllocError, Global};
+use std::collections::BTreeMap;
+use vlsi_base::Name;
+
+/// A name, as an index orders it.
+#[derive(Clone, Copy, PartialEq, Eq, PartialOrd, Ord)]
+struct Key<'a> {
+    text: &'a [u8],
+    bit: Option<u32>,
+}
+
+/// Where the names of a list stand, by name.
+#[derive(Drop)]
+pub(crate) struct Index<'a> {
+    places: BTreeMap<Key<'a>, usize>,
+}
+
+fn key_of(name: &Name) -> Key<'_> {
+    Key {
+        text: name.text.as_bytes(),
+        bit: name.bit,
+    }
+}
+
+impl<'a> Index<'a> {
+    /// The index of a list. It takes memory for one entry a name.
+    pub(crate) fn of(alloc: Global, names: &'a [Name]) -> Result<Index<'a>, AllocError> {
+        let mut places = BTreeMap::new(alloc);
+        for (k, name) in names.iter().enumerate() {
+            let _ = places.insert(key_of(name), k)?;
+        }
+        Ok(Index { places })
+    }
+
+    fn guess(&self, name: &'a Name) -> Option<usize> {
+        self.places.get(&key_of(name)).copied()
+    }
+}
+
+fn walk(names: &[Name], name: &Name) -> Option<usize>
+    ensures { result ≡ place_of names.now name.now }
+{
+    for (k, other) in names.iter().enumerate() {
+        if other.is_same(name) {
+            return Some(k);
+        }
+    }
+    None
+}
+
+/// The place of a name in the list, if it stands there. What the index says is looked at; a name that isn't there is
+/// looked for among all.
+pub(crate) fn place<'a>(index: &Index<'a>, names: &[Name], name: &'a Name) -> Option<usize>
+    requires { AllDifferent names.now }
+    ensures { result ≡ place_of names.now name.now }
+{
+    if let Some(k) = index.guess(name) {
+        if k < names.len() && names[k].is_same(name) {
+            return Some(k);
+        }
+    }
+    walk(names, name)
+}
+
+/// The places of these names in the list. It takes memory for one place a name.
+pub(crate) fn places<'a>(
+    alloc: Global,
+    index: &Index<'a>,
+    names: &[Name],
+    asked: &'a [Name],
+) -> Result<Vec<Option<usize>>, AllocError>
+    requires { AllDifferent names.now }
+    ensures { IfOk result (λ v. v.items ≡ map (place_of names.now) asked.now) }
+{
+    let mut places = Vec::new(alloc);
+    for name in asked {
+        places.push(place(index, names, name))?;
+    }
+    Ok(places)
+}
+
+/// The bit at a place. Where there is none it reads as 0.
+pub(crate) fn bit_at(bits: &[bool], place: Option<usize>) -> bool
+    ensures { result ≡ bit_of bits.now place }
+{
+    match place {
+        Some(k) if k < bits.len() => bits[k],
+        _ => false,
+    }
+}
+
+/// The bits at these places. It takes memory for one bit a place.
+pub(crate) fn bits_at(
+    alloc: Global,
+    bits: &[bool],
+    places: &[Option<usize>],
+) -> Result<Vec<bool>, AllocError>
+    ensures { IfOk result (λ v. v.items ≡ map (bit_of bits.now) places.now) }
+{
+    let mut found = Vec::new(alloc);
+    for place in places {
+        found.push(bit_at(bits, *place))?;
+    }
+    Ok(found)
+}
