@@ -58,5 +58,5 @@ lookup-insert_entry (e ∷ es) k v t = by (lookup-insert_entry es k v t) (slice_
   by behind_it Greater is =
       ap (λ (o : Option ℕ). cond (at_text t e.0) (Some e.1) o) behind_it
       ∙ behind (bytes_eq k.items t) (at_text t e.0) v e.1 (lookup (at_text t) es) (λ p q. let a = same_of k.items t p in let b = same_of e.0.items t (sym (at_text_is t e.0) ∙ q) in let same : k.items ≡ e.0.items = a ∙ sym b in
-          let eq : is_eq (slice_cmp nat_cmp k.items e.0.items) ≡ true = is_eq-slice_cmp k.items e.0.items ∙ subst (λ (x : List ℕ). bytes_eq k.items x ≡ true) same (itself k.items) in
-          let no : false ≡ true = sym (ap is_eq is) ∙ eq in absurd cc)
+      let eq : is_eq (slice_cmp nat_cmp k.items e.0.items) ≡ true = is_eq-slice_cmp k.items e.0.items ∙ subst (λ (x : List ℕ). bytes_eq k.items x ≡ true) same (itself k.items) in
+      let no : false ≡ true = sym (ap is_eq is) ∙ eq in absurd cc)

@@ -7,10 +7,9 @@ mod statement;
 mod table;
 
 pub use machine_core::Machine;
-
 pub use sizes::machine_size;
-pub use table::{Table, Symbol, Role};
 pub use statement::{
     Assignment, Assignments, Choice, Guarded, GuardedList, RawBlock, RawMachine, Selection,
     Statement, Statements, Target,
 };
+pub use table::{Role, Symbol, Table};

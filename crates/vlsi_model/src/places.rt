@@ -15,7 +15,12 @@ pub fn place_of(places: &Places, text: &[u8]) -> Option<usize>
 }
 
 /// Puts a text, at which there is nothing yet, at a place.
-fn put_place(alloc: Global, places: &mut Places, text: &[u8], place: usize) -> Result<(), AllocError>
+fn put_place(
+    alloc: Global,
+    places: &mut Places,
+    text: &[u8],
+    place: usize,
+) -> Result<(), AllocError>
     ensures { OnOk result ((t : List ℕ) → place_at places.new t ≡ (if bytes_eq text.now t then Some place else place_at places.old t)) }
 {
     let key = Vec::from_slice(alloc, text)?;
@@ -24,7 +29,12 @@ fn put_place(alloc: Global, places: &mut Places, text: &[u8], place: usize) -> R
 }
 
 /// Puts a text at a place, unless it has one.
-pub fn learn_place(alloc: Global, places: &mut Places, text: &[u8], place: usize) -> Result<(), AllocError>
+pub fn learn_place(
+    alloc: Global,
+    places: &mut Places,
+    text: &[u8],
+    place: usize,
+) -> Result<(), AllocError>
     ensures { OnOk result (Learns places.old places.new text.now place) }
 {
     match place_of(places, text) {
