@@ -87,7 +87,81 @@ fn add(
     Ok(())
 }
 
+/// Puts the names of one declaration behind those that are there.
+fn add_names(
+    alloc: Global,
+    items: &mut Vec<Symbol>,
+    places: &mut Places,
+    names: &[NewName],
+    kind: (Role, Option<Range>, u32),
+) -> Result<(), AllocError>
+    requires { KnowsPlaces places.old items.old.items }
+    ensures knows { OnOk result (KnowsPlaces places.new items.new.items) }
+    ensures items { OnOk result (items.new.items ≡ items.old.items ++ symbols_named kind.0 kind.1 kind.2 names.now) }
+{
+    for name in names {
+        let symbol = Symbol {
+            text: name.text.copy(alloc)?,
+            role: kind.0,
+            range: kind.1,
+            line: kind.2,
+        };
+        add(alloc, items, places, symbol)?;
+    }
+    Ok(())
+}
+
+fn add_ports(
+    alloc: Global,
+    items: &mut Vec<Symbol>,
+    places: &mut Places,
+    groups: &[PortGroup],
+) -> Result<(), AllocError>
+    requires { KnowsPlaces places.old items.old.items }
+    ensures knows { OnOk result (KnowsPlaces places.new items.new.items) }
+    ensures items { OnOk result (items.new.items ≡ items.old.items ++ port_symbols groups.now) }
+{
+    for group in groups {
+        let kind = (role_of_mode(group.mode), group.kind.range, group.line);
+        add_names(alloc, items, places, group.names.as_slice(), kind)?;
+    }
+    Ok(())
+}
+
+fn add_signals(
+    alloc: Global,
+    items: &mut Vec<Symbol>,
+    places: &mut Places,
+    groups: &[SignalGroup],
+) -> Result<(), AllocError>
+    requires { KnowsPlaces places.old items.old.items }
+    ensures knows { OnOk result (KnowsPlaces places.new items.new.items) }
+    ensures items { OnOk result (items.new.items ≡ items.old.items ++ signal_symbols groups.now) }
+{
+    for group in groups {
+        let kind = (role_of_word(group.kind.word), group.kind.range, group.line);
+        add_names(alloc, items, places, group.names.as_slice(), kind)?;
+    }
+    Ok(())
+}
+
 impl Table {
+    /// The declared names of a text.
+    pub fn new(alloc: Global, raw: &RawMachine) -> Result<Self, AllocError>
+        ensures { IfOk result (λ table. table ≡ symbols raw.now) }
+    {
+        let mut items = Vec::new(alloc);
+        let mut places = BTreeMap::new(alloc);
+        add_ports(alloc, &mut items, &mut places, raw.entity.ports.as_slice())?;
+        add_signals(
+            alloc,
+            &mut items,
+            &mut places,
+            raw.declarations.signals.as_slice(),
+        )?;
+        Ok(Table { items, places })
+    }
+
     /// The declared name of this text.
     pub fn find(&self, text: &[u8]) -> Option<&Symbol>
         ensures { option_copied result ≡ find self.now text.now }

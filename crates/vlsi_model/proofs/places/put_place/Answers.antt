@@ -1,6 +1,5 @@
-use Rattle.std.proofs.Common.{rules, ◌≡◌, ap, ◌∙◌, Some, cond, List, ℕ, sym, bytes_eq}
+use Rattle.std.proofs.Common.{◌≡◌, ap, ◌∙◌, Some, cond, List, ℕ, bytes_eq}
 use Rattle.std.specs.Map.{lookup}
-use Rattle.std.specs.Global.{Vec}
 use Rattle.vlsi_model.specs.Lookup.{place_at}
 use Rattle.vlsi_model.proofs.Lookups.{at_text, lookup-insert_entry}
 use Rattle.vlsi_model.proofs.places.put_place.Goals as goal

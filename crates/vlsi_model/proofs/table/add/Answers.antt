@@ -1,5 +1,4 @@
-use Rattle.std.proofs.Common.{◌≡◌, sym, subst, ◌∙◌, List, ℕ, length}
-use Rattle.std.specs.Global.{Vec}
+use Rattle.std.proofs.Common.{subst, ◌∙◌, List, ℕ}
 use Rattle.vlsi_model.specs.Lookup.{Learns}
 use Rattle.vlsi_model.proofs.Knowing.{still_knows}
 use Rattle.vlsi_model.proofs.table.add.Goals as goal

@@ -1,4 +1,4 @@
-use Rattle.std.proofs.Common.{rules, arith, sym, ap, subst, ◌∙◌, ◌≡◌, Some, None, List}
+use Rattle.std.proofs.Common.{arith, sym, ap, ◌∙◌, ◌≡◌, Some, None, List}
 use Rattle.vlsi_model.specs.declared.table.Symbol.{Symbol}
 use Rattle.vlsi_model.specs.Symbols.{find}
 use Rattle.vlsi_model.specs.Known.{position_of}
