@@ -9,3 +9,4 @@ pub mod Placing
 pub mod Lengths
 pub mod File
 pub mod Right
+pub mod Checked

@@ -44,7 +44,7 @@ before_itself : (a : List ℕ) → stands_before a a ≡ false
 before_itself a = not_before (text_cmp a a) (sym (tie a a) ∙ text_itself a)
 
 -- of two different names the one stands before the other exactly where the other does not
-before_other : (a b : List ℕ) → a ≢ b → stands_before b a ≡ not (stands_before a b)
+pub before_other : (a b : List ℕ) → a ≢ b → stands_before b a ≡ not (stands_before a b)
 before_other a b differ =
     ap (λ (x : Ordering). is_lt (ordering_then x Equal)) (nat_list_cmp_total.antisymm b a)
     ∙ after_of (text_cmp a b) (sym (tie a b) ∙ text_differs a b differ)

@@ -1,7 +1,8 @@
--- The statement on the layout of one inverter.
+-- The statements on one inverter.
 use Rattle.std.specs.Prelude.{ℕ, List}
 use Rattle.ap_io.specs.ApText.{IsWord}
 use Rattle.ap_io.specs.Spelling.{text_of}
+use Rattle.machine_core.specs.Checked.{IsChecked}
 use Rattle.layout_meaning.specs.RightLayout.{IsRightLayout}
 use Rattle.inverter_block.specs.Inverter.{AreProper, inverter_figure, inverter_machine, inverter_library, inverter_report}
 
@@ -12,3 +13,8 @@ InverterIsRight =
     → IsWord entity → IsWord cell → AreProper input output → AreProper pin_in pin_out
     → IsRightLayout (text_of (inverter_figure entity input output cell pin_in pin_out)) (inverter_machine entity input output)
     (inverter_library cell pin_in pin_out) (inverter_report entity)
+
+-- For all names of its ports, the machine of the inverter is one that passes the checks of a source: ports in order, each output
+-- driven once, no cycle.
+abbrev pub InverterMachineIsChecked : Type 0
+InverterMachineIsChecked = (entity input output : List ℕ) → AreProper input output → IsChecked (inverter_machine entity input output)

@@ -8,7 +8,7 @@ mod lines;
 mod report;
 
 pub use block::{cell_figure, inverter_figure};
-pub use law::inverter_law;
+pub use law::{inverter_law, inverter_machine_law};
 pub use report::inverter_report;
 
 #[cfg(test)]
