@@ -3,25 +3,136 @@
 use crate::texts::{add, cell_ap, failing, first, has, holds, report, text};
 use flow_run::{Words, alliance_main};
 use std::alloc::{AllocError, Global};
+use std::process::Abort;
 use std::test::Fail;
 use vlsi_shelf::{FileMap, MemShelf, MemSink};
 
 // Input before output, and likewise the cell's pins.
-const BOTH_RISE: &str =
-    "V ALLIANCE : 6\nH row1,P,01/01/2000,100\nA 0,0,3500,6500\nC 500,300,600,vss,0,WEST,ALU1\nC 500,4700,600,vdd,0,WEST,ALU1\nC 1500,5500,200,i,0,WEST,ALU2\nC 1500,6000,200,nq,0,WEST,ALU2\nI 1500,0,inv_x1,g0,NOSYM\nS 500,300,3000,300,600,vss,RIGHT,ALU1\nS 500,4700,3000,4700,600,vdd,RIGHT,ALU1\nS 500,300,500,300,200,vss,UP,ALU3\nV 500,300,CONT_VIA,vss\nV 500,300,CONT_VIA2,vss\nS 1000,4700,1000,4700,200,vdd,UP,ALU3\nV 1000,4700,CONT_VIA,vdd\nV 1000,4700,CONT_VIA2,vdd\nS 1500,5500,2000,5500,200,i,RIGHT,ALU2\nS 2000,1000,2000,5500,200,i,UP,ALU3\nV 2000,1000,CONT_VIA,i\nV 2000,1000,CONT_VIA2,i\nV 2000,5500,CONT_VIA2,i\nS 1500,6000,2500,6000,200,nq,RIGHT,ALU2\nS 2500,1500,2500,6000,200,nq,UP,ALU3\nV 2500,1500,CONT_VIA,nq\nV 2500,1500,CONT_VIA2,nq\nV 2500,6000,CONT_VIA2,nq\nEOF\n";
+const BOTH_RISE: &str = "\
+V ALLIANCE : 6
+H row1,P,01/01/2000,100
+A 0,0,3500,6500
+C 500,300,600,vss,0,WEST,ALU1
+C 500,4700,600,vdd,0,WEST,ALU1
+C 1500,5500,200,i,0,WEST,ALU2
+C 1500,6000,200,nq,0,WEST,ALU2
+I 1500,0,inv_x1,g0,NOSYM
+S 500,300,3000,300,600,vss,RIGHT,ALU1
+S 500,4700,3000,4700,600,vdd,RIGHT,ALU1
+S 500,300,500,300,200,vss,UP,ALU3
+V 500,300,CONT_VIA,vss
+V 500,300,CONT_VIA2,vss
+S 1000,4700,1000,4700,200,vdd,UP,ALU3
+V 1000,4700,CONT_VIA,vdd
+V 1000,4700,CONT_VIA2,vdd
+S 1500,5500,2000,5500,200,i,RIGHT,ALU2
+S 2000,1000,2000,5500,200,i,UP,ALU3
+V 2000,1000,CONT_VIA,i
+V 2000,1000,CONT_VIA2,i
+V 2000,5500,CONT_VIA2,i
+S 1500,6000,2500,6000,200,nq,RIGHT,ALU2
+S 2500,1500,2500,6000,200,nq,UP,ALU3
+V 2500,1500,CONT_VIA,nq
+V 2500,1500,CONT_VIA2,nq
+V 2500,6000,CONT_VIA2,nq
+EOF
+";
 
 // Output before input: the output has the lower track.
-const PORTS_FALL: &str =
-    "V ALLIANCE : 6\nH swap,P,01/01/2000,100\nA 0,0,3500,6500\nC 500,300,600,vss,0,WEST,ALU1\nC 500,4700,600,vdd,0,WEST,ALU1\nC 1500,5500,200,b,0,WEST,ALU2\nC 1500,6000,200,x,0,WEST,ALU2\nI 1500,0,inv_x1,g0,NOSYM\nS 500,300,3000,300,600,vss,RIGHT,ALU1\nS 500,4700,3000,4700,600,vdd,RIGHT,ALU1\nS 500,300,500,300,200,vss,UP,ALU3\nV 500,300,CONT_VIA,vss\nV 500,300,CONT_VIA2,vss\nS 1000,4700,1000,4700,200,vdd,UP,ALU3\nV 1000,4700,CONT_VIA,vdd\nV 1000,4700,CONT_VIA2,vdd\nS 1500,5500,2500,5500,200,b,RIGHT,ALU2\nS 2500,1500,2500,5500,200,b,UP,ALU3\nV 2500,1500,CONT_VIA,b\nV 2500,1500,CONT_VIA2,b\nV 2500,5500,CONT_VIA2,b\nS 1500,6000,2000,6000,200,x,RIGHT,ALU2\nS 2000,1000,2000,6000,200,x,UP,ALU3\nV 2000,1000,CONT_VIA,x\nV 2000,1000,CONT_VIA2,x\nV 2000,6000,CONT_VIA2,x\nEOF\n";
+const PORTS_FALL: &str = "\
+V ALLIANCE : 6
+H swap,P,01/01/2000,100
+A 0,0,3500,6500
+C 500,300,600,vss,0,WEST,ALU1
+C 500,4700,600,vdd,0,WEST,ALU1
+C 1500,5500,200,b,0,WEST,ALU2
+C 1500,6000,200,x,0,WEST,ALU2
+I 1500,0,inv_x1,g0,NOSYM
+S 500,300,3000,300,600,vss,RIGHT,ALU1
+S 500,4700,3000,4700,600,vdd,RIGHT,ALU1
+S 500,300,500,300,200,vss,UP,ALU3
+V 500,300,CONT_VIA,vss
+V 500,300,CONT_VIA2,vss
+S 1000,4700,1000,4700,200,vdd,UP,ALU3
+V 1000,4700,CONT_VIA,vdd
+V 1000,4700,CONT_VIA2,vdd
+S 1500,5500,2500,5500,200,b,RIGHT,ALU2
+S 2500,1500,2500,5500,200,b,UP,ALU3
+V 2500,1500,CONT_VIA,b
+V 2500,1500,CONT_VIA2,b
+V 2500,5500,CONT_VIA2,b
+S 1500,6000,2000,6000,200,x,RIGHT,ALU2
+S 2000,1000,2000,6000,200,x,UP,ALU3
+V 2000,1000,CONT_VIA,x
+V 2000,1000,CONT_VIA2,x
+V 2000,6000,CONT_VIA2,x
+EOF
+";
 
 // The cell's output pin before its input pin: the output is reached at the lower node. The cell is named like the entity, and its
 // pins like the ports the other way round.
-const PINS_FALL: &str =
-    "V ALLIANCE : 6\nH n,P,01/01/2000,100\nA 0,0,3500,6500\nC 500,300,600,vss,0,WEST,ALU1\nC 500,4700,600,vdd,0,WEST,ALU1\nC 1500,5500,200,a,0,WEST,ALU2\nC 1500,6000,200,z,0,WEST,ALU2\nI 1500,0,n,g0,NOSYM\nS 500,300,3000,300,600,vss,RIGHT,ALU1\nS 500,4700,3000,4700,600,vdd,RIGHT,ALU1\nS 500,300,500,300,200,vss,UP,ALU3\nV 500,300,CONT_VIA,vss\nV 500,300,CONT_VIA2,vss\nS 1000,4700,1000,4700,200,vdd,UP,ALU3\nV 1000,4700,CONT_VIA,vdd\nV 1000,4700,CONT_VIA2,vdd\nS 1500,5500,2000,5500,200,a,RIGHT,ALU2\nS 2000,1500,2000,5500,200,a,UP,ALU3\nV 2000,1500,CONT_VIA,a\nV 2000,1500,CONT_VIA2,a\nV 2000,5500,CONT_VIA2,a\nS 1500,6000,2500,6000,200,z,RIGHT,ALU2\nS 2500,1000,2500,6000,200,z,UP,ALU3\nV 2500,1000,CONT_VIA,z\nV 2500,1000,CONT_VIA2,z\nV 2500,6000,CONT_VIA2,z\nEOF\n";
+const PINS_FALL: &str = "\
+V ALLIANCE : 6
+H n,P,01/01/2000,100
+A 0,0,3500,6500
+C 500,300,600,vss,0,WEST,ALU1
+C 500,4700,600,vdd,0,WEST,ALU1
+C 1500,5500,200,a,0,WEST,ALU2
+C 1500,6000,200,z,0,WEST,ALU2
+I 1500,0,n,g0,NOSYM
+S 500,300,3000,300,600,vss,RIGHT,ALU1
+S 500,4700,3000,4700,600,vdd,RIGHT,ALU1
+S 500,300,500,300,200,vss,UP,ALU3
+V 500,300,CONT_VIA,vss
+V 500,300,CONT_VIA2,vss
+S 1000,4700,1000,4700,200,vdd,UP,ALU3
+V 1000,4700,CONT_VIA,vdd
+V 1000,4700,CONT_VIA2,vdd
+S 1500,5500,2000,5500,200,a,RIGHT,ALU2
+S 2000,1500,2000,5500,200,a,UP,ALU3
+V 2000,1500,CONT_VIA,a
+V 2000,1500,CONT_VIA2,a
+V 2000,5500,CONT_VIA2,a
+S 1500,6000,2500,6000,200,z,RIGHT,ALU2
+S 2500,1000,2500,6000,200,z,UP,ALU3
+V 2500,1000,CONT_VIA,z
+V 2500,1000,CONT_VIA2,z
+V 2500,6000,CONT_VIA2,z
+EOF
+";
 
 // Both fall.
-const BOTH_FALL: &str =
-    "V ALLIANCE : 6\nH m_2,P,01/01/2000,100\nA 0,0,3500,6500\nC 500,300,600,vss,0,WEST,ALU1\nC 500,4700,600,vdd,0,WEST,ALU1\nC 1500,5500,200,o,0,WEST,ALU2\nC 1500,6000,200,o1,0,WEST,ALU2\nI 1500,0,n1,g0,NOSYM\nS 500,300,3000,300,600,vss,RIGHT,ALU1\nS 500,4700,3000,4700,600,vdd,RIGHT,ALU1\nS 500,300,500,300,200,vss,UP,ALU3\nV 500,300,CONT_VIA,vss\nV 500,300,CONT_VIA2,vss\nS 1000,4700,1000,4700,200,vdd,UP,ALU3\nV 1000,4700,CONT_VIA,vdd\nV 1000,4700,CONT_VIA2,vdd\nS 1500,5500,2500,5500,200,o,RIGHT,ALU2\nS 2500,1000,2500,5500,200,o,UP,ALU3\nV 2500,1000,CONT_VIA,o\nV 2500,1000,CONT_VIA2,o\nV 2500,5500,CONT_VIA2,o\nS 1500,6000,2000,6000,200,o1,RIGHT,ALU2\nS 2000,1500,2000,6000,200,o1,UP,ALU3\nV 2000,1500,CONT_VIA,o1\nV 2000,1500,CONT_VIA2,o1\nV 2000,6000,CONT_VIA2,o1\nEOF\n";
+const BOTH_FALL: &str = "\
+V ALLIANCE : 6
+H m_2,P,01/01/2000,100
+A 0,0,3500,6500
+C 500,300,600,vss,0,WEST,ALU1
+C 500,4700,600,vdd,0,WEST,ALU1
+C 1500,5500,200,o,0,WEST,ALU2
+C 1500,6000,200,o1,0,WEST,ALU2
+I 1500,0,n1,g0,NOSYM
+S 500,300,3000,300,600,vss,RIGHT,ALU1
+S 500,4700,3000,4700,600,vdd,RIGHT,ALU1
+S 500,300,500,300,200,vss,UP,ALU3
+V 500,300,CONT_VIA,vss
+V 500,300,CONT_VIA2,vss
+S 1000,4700,1000,4700,200,vdd,UP,ALU3
+V 1000,4700,CONT_VIA,vdd
+V 1000,4700,CONT_VIA2,vdd
+S 1500,5500,2500,5500,200,o,RIGHT,ALU2
+S 2500,1000,2500,5500,200,o,UP,ALU3
+V 2500,1000,CONT_VIA,o
+V 2500,1000,CONT_VIA2,o
+V 2500,5500,CONT_VIA2,o
+S 1500,6000,2000,6000,200,o1,RIGHT,ALU2
+S 2000,1500,2000,6000,200,o1,UP,ALU3
+V 2000,1500,CONT_VIA,o1
+V 2000,1500,CONT_VIA2,o1
+V 2000,6000,CONT_VIA2,o1
+EOF
+";
+
+const TOOLS: &str = "usage: alliance flow ARGUMENTS\n";
 
 const USAGE: &str = "usage: alliance flow SOURCE -l DIR -o NAME --tracks\n";
 
@@ -38,9 +149,10 @@ struct Outcome {
     out: MemSink,
 }
 
-fn words(alloc: Global, line: &[&str]) -> Result<Words, AllocError> {
+// The words of a line, which blanks part.
+fn words(alloc: Global, line: &str) -> Result<Words, AllocError> {
     let mut words = Words::new(Vec::new(alloc));
-    for word in line {
+    for word in line.split_whitespace() {
         words.push(text(alloc, word)?)?;
     }
     Ok(words)
@@ -49,7 +161,7 @@ fn words(alloc: Global, line: &[&str]) -> Result<Words, AllocError> {
 fn run(
     alloc: Global,
     files: FileMap,
-    line: &[&str],
+    line: &str,
     call: u64,
     put: u64,
 ) -> Result<Outcome, AllocError> {
@@ -82,7 +194,7 @@ fn row_but(alloc: Global, name: &str, other: Option<&str>) -> Result<FileMap, Al
     Ok(files)
 }
 
-const ROW: [&str; 7] = ["flow", "row1.vbe", "-l", "lib", "-o", "out", "--tracks"];
+const ROW: &str = "flow row1.vbe -l lib -o out --tracks";
 
 #[test]
 fn layouts_of_all_orders_of_names(rt: HostRuntime) -> Result<(), Fail> {
@@ -119,8 +231,7 @@ fn layouts_of_all_orders_of_names(rt: HostRuntime) -> Result<(), Fail> {
             format!(in alloc; "d/{cell}.ap")?.as_str(),
             cell_ap(alloc, cell, a, z)?.as_bytes(),
         )?;
-        let line = ["flow", "--tracks", "-o", "to", "s.vbe", "-l", "d"];
-        let end = run(alloc, files, &line, 0, 0)?;
+        let end = run(alloc, files, "flow --tracks -o to s.vbe -l d", 0, 0)?;
         assert_eq!(rt; end.code, 0, "{e}");
         assert!(rt;
             holds(alloc, end.shelf.files(), "to.ap", layout.as_bytes())?,
@@ -158,7 +269,7 @@ fn other_forms_are_beyond(rt: HostRuntime) -> Result<(), Fail> {
     for (e, i, o, may) in &names {
         let source = first(alloc, e, i, o)?;
         let files = row_but(alloc, "row1.vbe", Some(source.as_str()))?;
-        let end = run(alloc, files, &ROW, 0, 0)?;
+        let end = run(alloc, files, ROW, 0, 0)?;
         let code = if *may { 0 } else { 10 };
         assert_eq!(rt; end.code, code, "{e} {i} {o}");
         assert_eq!(rt;
@@ -204,7 +315,7 @@ fn other_files_are_beyond(rt: HostRuntime) -> Result<(), Fail> {
     ];
     for (name, bytes) in &texts {
         let files = row_but(alloc, name, Some(*bytes))?;
-        let end = run(alloc, files, &ROW, 0, 0)?;
+        let end = run(alloc, files, ROW, 0, 0)?;
         assert_eq!(rt; end.code, 10, "{name} {bytes}");
         assert_eq!(rt; end.out.bytes(), b"flow: beyond\n".as_slice(), "{name}");
         assert!(rt; !has(alloc, end.shelf.files(), "out.ap")?, "{name}");
@@ -223,7 +334,7 @@ fn long_files_are_beyond(rt: HostRuntime) -> Result<(), Fail> {
         let mut files = row_but(alloc, name, None)?;
         let bytes = vec![in alloc; b' '; *length]?;
         add(alloc, &mut files, name, &bytes)?;
-        let end = run(alloc, files, &ROW, 0, 0)?;
+        let end = run(alloc, files, ROW, 0, 0)?;
         assert_eq!(rt; end.code, 10, "{name}");
     }
     Ok(())
@@ -244,7 +355,7 @@ fn calls_that_fail_are_named(rt: HostRuntime) -> Result<(), Fail> {
     ];
     for (call, put, printed) in &rows {
         let files = row_but(alloc, "", None)?;
-        let end = run(alloc, files, &ROW, *call, *put)?;
+        let end = run(alloc, files, ROW, *call, *put)?;
         assert_eq!(rt; end.code, 7, "{call} {put}");
         assert_eq!(rt; end.out.bytes(), printed.as_bytes(), "{call} {put}");
         let whole = *call == 0;
@@ -260,7 +371,7 @@ fn calls_that_fail_are_named(rt: HostRuntime) -> Result<(), Fail> {
         );
     }
     for call in 6..9u64 {
-        let end = run(alloc, row_but(alloc, "", None)?, &ROW, call, 2)?;
+        let end = run(alloc, row_but(alloc, "", None)?, ROW, call, 2)?;
         assert_eq!(rt; end.code, 0, "{call}");
     }
     Ok(())
@@ -270,7 +381,7 @@ fn calls_that_fail_are_named(rt: HostRuntime) -> Result<(), Fail> {
 fn files_that_lack_are_named(rt: HostRuntime) -> Result<(), Fail> {
     let alloc = rt.alloc();
     for name in &["row1.vbe", "lib/CATAL", "lib/inv_x1.vbe", "lib/inv_x1.ap"] {
-        let end = run(alloc, row_but(alloc, name, None)?, &ROW, 0, 0)?;
+        let end = run(alloc, row_but(alloc, name, None)?, ROW, 0, 0)?;
         let printed = format!(in alloc; "flow: file: missing {name}\n")?;
         assert_eq!(rt; end.code, 7, "{name}");
         assert_eq!(rt; end.out.bytes(), printed.as_bytes(), "{name}");
@@ -278,13 +389,13 @@ fn files_that_lack_are_named(rt: HostRuntime) -> Result<(), Fail> {
     }
     // CATAL's form comes before the files that it names, and the source's form after all of them.
     let two = row_but(alloc, "lib/CATAL", Some("inv_x2 C\n"))?;
-    let end = run(alloc, two, &ROW, 0, 0)?;
+    let end = run(alloc, two, ROW, 0, 0)?;
     assert_eq!(rt;
         end.out.bytes(),
         b"flow: file: missing lib/inv_x2.vbe\n".as_slice()
     );
     let late = row_but(alloc, "row1.vbe", Some("no inverter\n"))?;
-    let end = run(alloc, late, &ROW, 4, 0)?;
+    let end = run(alloc, late, ROW, 4, 0)?;
     assert_eq!(rt;
         end.out.bytes(),
         b"flow: file: read fault lib/inv_x1.ap\n".as_slice()
@@ -292,80 +403,62 @@ fn files_that_lack_are_named(rt: HostRuntime) -> Result<(), Fail> {
     Ok(())
 }
 
+// These words are answered so over the files of the first row, and a layout is there exactly on 0.
+fn answers(
+    rt: &impl Abort,
+    alloc: Global,
+    line: &str,
+    code: u8,
+    printed: &str,
+) -> Result<(), AllocError> {
+    let end = run(alloc, row_but(alloc, "", None)?, line, 0, 0)?;
+    assert_eq!(rt; end.code, code, "{line}");
+    assert_eq!(rt; end.out.bytes(), printed.as_bytes(), "{line}");
+    assert_eq!(rt;
+        has(alloc, end.shelf.files(), "out.ap")?,
+        code == 0,
+        "{line}"
+    );
+    Ok(())
+}
+
 #[test]
 fn words_are_taken_in_any_order(rt: HostRuntime) -> Result<(), Fail> {
     let alloc = rt.alloc();
-    let lines: [(&[&str], u8, &str); 18] = [
-        (&["flow", "row1.vbe", "-l", "lib"], 1, USAGE),
-        (
-            &["flow", "row1.vbe", "-l", "lib", "-l", "lib", "-o", "out"],
-            1,
-            USAGE,
-        ),
-        (&["flow", "row1.txt", "-l", "lib", "-o", "out"], 1, USAGE),
-        (
-            &["flow", "row1.txt", "-l", "lib", "-o", "out", "--tracks"],
-            1,
-            USAGE,
-        ),
-        (&["flow", "row1.vbe", "-l", "lib", "-o", "out"], 1, USAGE),
-        (
-            &[
-                "flow", "row1.vbe", "-l", "lib", "-o", "out", "--tracks", "--tracks",
-            ],
-            1,
-            USAGE,
-        ),
-        (
-            &[
-                "flow", "row1.vbe", "row1.vbe", "-l", "lib", "-o", "out", "--tracks",
-            ],
-            1,
-            USAGE,
-        ),
-        (
-            &["flow", "row1.vbe", "-l", "-o", "out", "--tracks"],
-            1,
-            USAGE,
-        ),
-        (
-            &["flow", "row1.vbe", "-l=lib", "-o", "out", "--tracks"],
-            1,
-            USAGE,
-        ),
-        (
-            &["flow", "row1.vbe", "-l", "lib", "--tracks", "-o"],
-            1,
-            USAGE,
-        ),
-        (
-            &[
-                "flow", "row1.vbe", "-l", "lib", "-o", "out", "--tracks", "--rows", "1",
-            ],
-            1,
-            USAGE,
-        ),
-        (&["flow"], 1, USAGE),
-        (&["flow", "-l", "lib", "-o", "out", "--tracks"], 1, USAGE),
-        (&["--tracks", "flow"], 1, "usage: alliance flow ARGUMENTS\n"),
-        (&["cougar", "out.ap"], 1, "usage: alliance flow ARGUMENTS\n"),
-        (&[], 1, "usage: alliance flow ARGUMENTS\n"),
-        (
-            &["flow", "row1.fsm", "-l", "lib", "-o", "out", "--tracks"],
-            10,
-            "flow: beyond\n",
-        ),
-        (
-            &["flow", "-o", "out", "--tracks", "-l", "lib", "row1.vbe"],
-            0,
-            "source row1\nsize 3\ncells 1\nnets 2\nlength 10500\nbreaches 0\naccepted\n",
-        ),
-    ];
-    for (line, code, printed) in &lines {
-        let end = run(alloc, row_but(alloc, "", None)?, line, 0, 0)?;
-        assert_eq!(rt; end.code, *code);
-        assert_eq!(rt; end.out.bytes(), printed.as_bytes());
-        assert_eq!(rt; has(alloc, end.shelf.files(), "out.ap")?, *code == 0);
+    for line in [
+        "flow row1.vbe -l lib",
+        "flow row1.vbe -l lib -l lib -o out",
+        "flow row1.txt -l lib -o out",
+        "flow row1.txt -l lib -o out --tracks",
+        "flow row1.vbe -l lib -o out",
+        "flow row1.vbe -l lib -o out --tracks --tracks",
+        "flow row1.vbe row1.vbe -l lib -o out --tracks",
+        "flow row1.vbe -l -o out --tracks",
+        "flow row1.vbe -l=lib -o out --tracks",
+        "flow row1.vbe -l lib --tracks -o",
+        "flow row1.vbe -l lib -o out --tracks --rows 1",
+        "flow",
+        "flow -l lib -o out --tracks",
+    ] {
+        answers(&rt, alloc, line, 1, USAGE)?;
     }
+    for line in ["--tracks flow", "cougar out.ap", ""] {
+        answers(&rt, alloc, line, 1, TOOLS)?;
+    }
+    answers(
+        &rt,
+        alloc,
+        "flow row1.fsm -l lib -o out --tracks",
+        10,
+        "flow: beyond\n",
+    )?;
+    let printed = "source row1\nsize 3\ncells 1\nnets 2\nlength 10500\nbreaches 0\naccepted\n";
+    answers(
+        &rt,
+        alloc,
+        "flow -o out --tracks -l lib row1.vbe",
+        0,
+        printed,
+    )?;
     Ok(())
 }
