@@ -165,9 +165,9 @@ impl<'a> TokenReader<'a> {
         ensures some { IsSome self.new.refused }
         ensures same { IsSameText (front self.old) (front self.new) }
     {
-        let error = stop_error(self.cursor.alloc, self.last_line, before, stop);
-        let answer = repeat(self.cursor.alloc, &error);
-        self.refused = Some(error);
+        let kept = stop_error(self.cursor.alloc, self.last_line, before, stop);
+        let answer = repeat(self.cursor.alloc, &kept);
+        self.refused = Some(kept);
         answer
     }
 
