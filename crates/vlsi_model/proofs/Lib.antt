@@ -1,3 +1,4 @@
 pub mod WholeSize
 pub mod Lookups
 pub mod Knowing
+pub mod Unknowns

@@ -10,3 +10,4 @@ pub mod Cycles
 pub mod Checks
 pub mod Lookup
 pub mod Known
+pub mod Uses
