@@ -2,3 +2,4 @@ pub mod WholeSize
 pub mod Lookups
 pub mod Knowing
 pub mod Unknowns
+pub mod Turns

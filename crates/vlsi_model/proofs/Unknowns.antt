@@ -1,5 +1,5 @@
 -- The first name that isn't declared, among names one behind another.
-use Rattle.std.proofs.Common.{◌≡◌, ℕ, Bool, true, false, cond, List, [], ◌∷◌, ◌++◌, map, Option, Some, None, refl, sym, ap, ◌∙◌, append_assoc, append-nil, length, drop, get_or, ◌+◌, ◌<◌}
+use Rattle.std.proofs.Common.{◌≡◌, ℕ, Bool, true, false, cond, List, [], ◌∷◌, ◌++◌, map, Option, Some, refl, sym, ap, ◌∙◌, append_assoc, append-nil, length, drop, get_or, ◌+◌, ◌<◌}
 use Rattle.std.proofs.lemmas.List.{at_drop_more}
 use Rattle.vlsi_base.specs.declared.raw.Raw.{Raw}
 use Rattle.std.specs.Prelude.{is_none}
@@ -9,11 +9,7 @@ use Rattle.vlsi_model.specs.declared.table.Symbol.{Symbol}
 use Rattle.vlsi_model.specs.Symbols.{find}
 use Rattle.vlsi_model.specs.Places.{Use, reads, first_unknown}
 use Rattle.vlsi_model.specs.Uses.{reads_among}
-
--- the first of two, if there is one
-abbrev pub or_first : {A : Type 0} → Option A → Option A → Option A
-or_first None o = o
-or_first (Some x) o = Some x
+use Rattle.vlsi_model.proofs.Turns.{or_first}
 
 pub first_unknown_append : (known : List Symbol) (xs ys : List Use) → first_unknown known (xs ++ ys) ≡ or_first (first_unknown known xs) (first_unknown known ys)
 first_unknown_append known [] ys = refl

@@ -1,7 +1,7 @@
 -- Names and their lines.
 use Rattle.std.specs.Prelude.{ℕ, List, [], ◌∷◌, ◌++◌}
 use Rattle.vlsi_base.specs.Tree.{Tree}
-use Rattle.vlsi_model.specs.declared.unknown.Place.{Place}
+use Rattle.vlsi_model.specs.declared.undeclared.Place.{Place}
 use Rattle.vlsi_model.specs.Places.{Use, reads}
 
 abbrev pub use_of : Place → Use

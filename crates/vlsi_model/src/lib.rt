@@ -5,7 +5,7 @@ mod places;
 mod sizes;
 mod statement;
 mod table;
-mod unknown;
+mod undeclared;
 
 pub use machine_core::Machine;
 pub use sizes::machine_size;

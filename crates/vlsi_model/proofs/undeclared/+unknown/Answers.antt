@@ -6,7 +6,7 @@ use Rattle.vlsi_base.proofs.Groups.{grouped_is}
 use Rattle.vlsi_model.specs.Places.{first_unknown}
 use Rattle.vlsi_model.specs.Uses.{use_of, reads_among}
 use Rattle.vlsi_model.proofs.Unknowns.{in_chain, operands_turn}
-use Rattle.vlsi_model.proofs.unknown.+unknown.Goals as goal
+use Rattle.vlsi_model.proofs.undeclared.+unknown.Goals as goal
 
 pub unknown_in-returns-in-Some-unknown_in : goal.unknown_in-returns-in-Some-unknown_in
 unknown_in-returns-in-Some-unknown_in t c =

@@ -2,7 +2,7 @@ use Rattle.std.proofs.Common.{◌≡◌, map, drop}
 use Rattle.vlsi_base.specs.Tree.{operand_of}
 use Rattle.vlsi_model.specs.Places.{first_unknown}
 use Rattle.vlsi_model.specs.Uses.{reads_among}
-use Rattle.vlsi_model.proofs.unknown.+unknown.Given as goal
+use Rattle.vlsi_model.proofs.undeclared.+unknown.Given as goal
 
 abbrev pub invariant-unknown_among-loop-e : goal.invariant-unknown_among-loop-e
 invariant-unknown_among-loop-e l =
