@@ -3,3 +3,4 @@ pub mod Lookups
 pub mod Knowing
 pub mod Unknowns
 pub mod Turns
+pub mod FirstLines

@@ -11,3 +11,4 @@ pub mod Checks
 pub mod Lookup
 pub mod Known
 pub mod Uses
+pub mod Lines

@@ -6,6 +6,7 @@ mod sizes;
 mod statement;
 mod table;
 mod undeclared;
+mod unsupported;
 
 pub use machine_core::Machine;
 pub use sizes::machine_size;
