@@ -1,3 +1,6 @@
 pub mod WholeSize
 pub mod Lookups
 pub mod Knowing
+pub mod Unknowns
+pub mod Turns
+pub mod FirstLines

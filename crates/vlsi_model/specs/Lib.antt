@@ -10,3 +10,5 @@ pub mod Cycles
 pub mod Checks
 pub mod Lookup
 pub mod Known
+pub mod Uses
+pub mod Lines

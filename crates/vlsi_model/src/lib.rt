@@ -5,6 +5,8 @@ mod places;
 mod sizes;
 mod statement;
 mod table;
+mod undeclared;
+mod unsupported;
 
 pub use machine_core::Machine;
 pub use sizes::machine_size;
