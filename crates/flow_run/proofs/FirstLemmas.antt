@@ -6,7 +6,7 @@ use Rattle.std.proofs.lemmas.Bool.Decides.{nat_tests}
 use Rattle.std.proofs.Math.Seq.{drop-append_seam, take-append_seam}
 use Rattle.vhdl_token.specs.Keyword.{keyword_of}
 use Rattle.flow_run.specs.declared.forms.First.{First}
-use Rattle.flow_run.specs.Forms.{is_name_byte, is_same, is_identifier, is_proper, are_proper, are_different, begins_with_letter, entity_line, body_lines, first_text, IsFirst, catal_text, IsCatal, name_length, name_at, entity_in, input_in, output_in, limited, if_first, first_of, if_cell, cell_of}
+use Rattle.flow_run.specs.Forms.{is_name_byte, is_same, is_identifier, is_proper, are_proper, are_different, begins_with_letter, entity_line, body_lines, first_text, inverter_text, IsFirst, catal_text, IsCatal, name_length, name_at, entity_in, input_in, output_in, limited, if_first, first_of, if_cell, cell_of}
 use Rattle.flow_run.proofs.Proper.{both}
 
 -- where the test ends, in a name that ends with a byte that is none of a name's
@@ -55,13 +55,17 @@ output_at e i o = simp append_assoc
 first_length : (e i o : List ℕ) → length e ≤ 64 → length i ≤ 64 → length o ≤ 64 → length (first_text e i o) ≤ 1048576
 first_length e i o le li lo = simp length-append (omega arith)
 
+-- the text in its four lines is the one that is compared
+lines_are : (e i o : List ℕ) → first_text e i o ≡ inverter_text e i o
+lines_are e i o = simp append_assoc
+
 -- from the test to the text
 if_first_is : (text e i o : List ℕ) (s : First) → if_first text e i o ≡ Some s → IsFirst text s
 if_first_is text e i o s is = by (are_proper e i o) (is_same text (first_text e i o)) refl refl is where
   by : (p q : Bool) → are_proper e i o ≡ p → is_same text (first_text e i o) ≡ q → cond (p && q) (Some (record { entity = e; input = i; output = o })) None ≡ Some s → IsFirst text s
   by true true proper same is =
       let found : record { entity = e; input = i; output = o } ≡ s = cc is in
-      subst (λ (f : First). IsFirst text f) found (record { proper = proper; text_is = (bytes_decides text (first_text e i o)).0 same })
+      subst (λ (f : First). IsFirst text f) found (record { proper = proper; text_is = (bytes_decides text (first_text e i o)).0 same ∙ lines_are e i o })
   by true false proper same is = absurd (cc is)
   by false q proper same is = absurd (cc is)
 
@@ -77,21 +81,22 @@ first_found_by text s f =
     let e = s.entity in
     let i = s.input in
     let o = s.output in
+    let is : text ≡ first_text e i o = f.text_is ∙ sym (lines_are e i o) in
     let a = both (is_proper e && is_proper i && is_proper o) (are_different e i o) f.proper in
     let b = both (is_proper e && is_proper i) (is_proper o) a.0 in
     let d = both (is_proper e) (is_proper i) b.0 in
     let ne = named e d.0 in
     let ni = named i d.1 in
     let no = named o b.1 in
-    let entity_is : entity_in text ≡ e = between (codes "entity ") e _ 32 7 text (f.text_is ∙ entity_at e i o) refl ne.bytes refl in
+    let entity_is : entity_in text ≡ e = between (codes "entity ") e _ 32 7 text (is ∙ entity_at e i o) refl ne.bytes refl in
     let input_is : input_in text ≡ i =
-    between (codes "entity " ++ (e ++ codes " is port (")) i _ 32 (7 + length (entity_in text) + 10) text (f.text_is ∙ input_at e i o)
+    between (codes "entity " ++ (e ++ codes " is port (")) i _ 32 (7 + length (entity_in text) + 10) text (is ∙ input_at e i o)
     (ap (λ (x : List ℕ). 7 + length x + 10) entity_is ∙ input_place e) ni.bytes refl in
     let output_is : output_in text ≡ o =
-    between (codes "entity " ++ (e ++ (codes " is port (" ++ (i ++ codes " : in bit; ")))) o _ 32 (7 + length (entity_in text) + 10 + length (input_in text) + 11) text (f.text_is ∙ output_at e i o)
+    between (codes "entity " ++ (e ++ (codes " is port (" ++ (i ++ codes " : in bit; ")))) o _ 32 (7 + length (entity_in text) + 10 + length (input_in text) + 11) text (is ∙ output_at e i o)
     (ap (λ (x : List ℕ). 7 + length x + 10 + length (input_in text) + 11) entity_is ∙ ap (λ (x : List ℕ). 7 + length e + 10 + length x + 11) input_is ∙ output_place e i) no.bytes refl in
-    let small : leb (length text) 1048576 ≡ true = small_by text (first_text e i o) f.text_is (first_length e i o ne.most ni.most no.most) in
-    let same : is_same text (first_text e i o) ≡ true = (bytes_decides text (first_text e i o)).1 f.text_is in
+    let small : leb (length text) 1048576 ≡ true = small_by text (first_text e i o) is (first_length e i o ne.most ni.most no.most) in
+    let same : is_same text (first_text e i o) ≡ true = (bytes_decides text (first_text e i o)).1 is in
     rw small (
     ap (λ (x : List ℕ). if_first text x (input_in text) (output_in text)) entity_is
     ∙ ap (λ (x : List ℕ). if_first text e x (output_in text)) input_is

@@ -2,6 +2,7 @@
 use Rattle.std.specs.Prelude.{◌≡◌, ℕ, ◌+◌, Bool, true, false, not, ◌&&◌, ◌||◌, List, [], ◌∷◌, ◌++◌, Option, None, Some, is_none, if◌then◌else◌, codes, nat_eq, nat_le, position, unwrap_or, take, drop, length}
 use Rattle.std.specs.List.{list_all}
 use Rattle.std.specs.Cmp.Lexicographic.{pointwise}
+use Rattle.ap_io.specs.Spelling.{together, line_end}
 use Rattle.vhdl_token.specs.Keyword.{keyword_of}
 use Rattle.flow_run.specs.declared.forms.First.{First}
 use Rattle.flow_run.specs.Drawing.{cell_text}
@@ -36,20 +37,18 @@ are_different e i o = not (is_same e i) && not (is_same e o) && not (is_same i o
 abbrev pub are_proper : List ℕ → List ℕ → List ℕ → Bool
 are_proper e i o = (is_proper e && is_proper i && is_proper o) && are_different e i o
 
--- The text of one inverter: the entity e, with the input i, the output o and the two supplies, and its architecture.
-abbrev pub entity_line : List ℕ → List ℕ → List ℕ → List ℕ
-entity_line e i o = codes "entity " ++ (e ++ (codes " is port (" ++ (i ++ (codes " : in bit; " ++ (o ++ codes " : out bit; vdd : in bit; vss : in bit); end ")))))
-
-abbrev pub body_lines : List ℕ → List ℕ → List ℕ → List ℕ
-body_lines e i o = (codes "architecture vbe of " ++ (e ++ (codes " is begin" ++ (10 ∷ [])))) ++ (o ++ (codes " <= not (" ++ (i ++ (codes ");" ++ (10 ∷ (codes "end vbe;" ++ 10 ∷ []))))))
-
-abbrev pub first_text : List ℕ → List ℕ → List ℕ → List ℕ
-first_text e i o = entity_line e i o ++ ((e ++ (codes ";" ++ 10 ∷ [])) ++ body_lines e i o)
+-- The text of one inverter, four lines: the entity e, with the input i, the output o and the two supplies, and its architecture.
+abbrev pub inverter_text : List ℕ → List ℕ → List ℕ → List ℕ
+inverter_text e i o = together (
+    codes "entity " ∷ e ∷ codes " is port (" ∷ i ∷ codes " : in bit; " ∷ o ∷ codes " : out bit; vdd : in bit; vss : in bit); end " ∷ e ∷ codes ";" ∷ line_end
+    ∷ codes "architecture vbe of " ∷ e ∷ codes " is begin" ∷ line_end
+    ∷ o ∷ codes " <= not (" ∷ i ∷ codes ");" ∷ line_end
+    ∷ codes "end vbe;" ∷ line_end ∷ [])
 
 -- the text is that of one inverter with these names
 pub record IsFirst (text : List ℕ) (names : First) : Type 0 where
   pub proper : are_proper names.entity names.input names.output ≡ true
-  pub text_is : text ≡ first_text names.entity names.input names.output
+  pub text_is : text ≡ inverter_text names.entity names.input names.output
 
 -- The text of a library's list that has one cell, in use.
 abbrev pub catal_text : List ℕ → List ℕ
@@ -61,6 +60,16 @@ pub record IsCatal (text cell : List ℕ) : Type 0 where
   pub text_is : text ≡ catal_text cell
 
 -- The same as functions, which read the names where they have to stand and compare the whole text.
+
+-- the text of one inverter, in the parts that are compared
+abbrev pub entity_line : List ℕ → List ℕ → List ℕ → List ℕ
+entity_line e i o = codes "entity " ++ (e ++ (codes " is port (" ++ (i ++ (codes " : in bit; " ++ (o ++ codes " : out bit; vdd : in bit; vss : in bit); end ")))))
+
+abbrev pub body_lines : List ℕ → List ℕ → List ℕ → List ℕ
+body_lines e i o = (codes "architecture vbe of " ++ (e ++ (codes " is begin" ++ (10 ∷ [])))) ++ (o ++ (codes " <= not (" ++ (i ++ (codes ");" ++ (10 ∷ (codes "end vbe;" ++ 10 ∷ []))))))
+
+abbrev pub first_text : List ℕ → List ℕ → List ℕ → List ℕ
+first_text e i o = entity_line e i o ++ ((e ++ (codes ";" ++ 10 ∷ [])) ++ body_lines e i o)
 
 -- where the first byte stands that is none of a name's, or the end
 abbrev pub name_length : List ℕ → ℕ
