@@ -68,6 +68,8 @@ def limits():
         yield entity() + body(declared=f"signal s : bit_vector ({n} downto 1);\n")
         yield entity() + body(declared=f"signal s : reg_vector (1 to {n}) register;\n")
         yield entity(f"a : in bit; q : out bit; b : in bit_vector (1 to {n}) bus") + body()
+    yield entity() + body(declared="signal s : reg_vector\n (1 to 2000000\n);\n")
+    yield entity("a : in bit_vector (0 to 2000000) ; q : out")
     yield entity() + body(declared="signal s : bit_vector (1 downto 9);\nsignal t : bit_vector (0 to 1048573);\n")
     yield entity() + body(declared="signal s, t : bit_vector (4294967295 downto 0);\n")
     # many expressions, each within the limit

@@ -111,11 +111,9 @@ class Reader:
     def syntax(self):
         return fault(self.line(), "syntax")
 
-    def take(self, *kinds, counted=None):
+    def take(self, *kinds):
         if self.kind() not in kinds:
             raise self.syntax()
-        if counted:
-            self.count(*counted)
         self.at += 1
         return self.tokens[self.at - 1]
 
@@ -229,11 +227,9 @@ class Reader:
             names = self.names_list(start)
             self.take(":")
             word = self.take("bit", "bit_vector", "reg_bit", "reg_vector", "reg_bit_vector")[0]
-            bits = self.range() if word.endswith("vector") else 1
+            self.count(names, self.range() if word.endswith("vector") else 1)
             if word.startswith("reg"):
-                self.take("register", counted=(names, bits))
-            else:
-                self.count(names, bits)
+                self.take("register")
             self.take(";")
             signals += names
         return signals
