@@ -14,7 +14,7 @@ use vlsi_base::{Mode, NewName, PortGroup, Radix, Raw, SignalGroup, TypeWord};
 /// The most bits of a literal.
 const MOST_BITS: usize = 128;
 
-fn digit_width(radix: Radix) -> usize
+pub fn digit_width(radix: Radix) -> usize
     ensures { result ≡ digit_width radix }
 {
     match radix {
