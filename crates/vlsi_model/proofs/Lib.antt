@@ -4,3 +4,5 @@ pub mod Knowing
 pub mod Unknowns
 pub mod Turns
 pub mod FirstLines
+pub mod Ranges
+pub mod Measures

@@ -12,3 +12,4 @@ pub mod Lookup
 pub mod Known
 pub mod Uses
 pub mod Lines
+pub mod Measure

@@ -58,15 +58,21 @@ is_resolved word.WorBit = true
 is_resolved word.WorVector = true
 is_resolved _ = false
 
+abbrev pub port_form : PortGroup → List ℕ
+port_form g =
+    supply_faults (is_in_mode g.mode && is_bit_word g.kind.word) g.names
+    ++ (if_not (not (is_inout g.mode)) g.mode_line ++ if_not (not (is_resolved g.kind.word)) g.kind.line)
+
 abbrev pub port_forms : List PortGroup → List ℕ
 port_forms [] = []
-port_forms (g ∷ groups) =
-    supply_faults (is_in_mode g.mode && is_bit_word g.kind.word) g.names
-    ++ (if_not (not (is_inout g.mode)) g.mode_line ++ (if_not (not (is_resolved g.kind.word)) g.kind.line ++ port_forms groups))
+port_forms (g ∷ groups) = port_form g ++ port_forms groups
+
+abbrev pub signal_form : SignalGroup → List ℕ
+signal_form g = supply_faults false g.names ++ if_not (not (is_resolved g.kind.word)) g.kind.line
 
 abbrev pub signal_forms : List SignalGroup → List ℕ
 signal_forms [] = []
-signal_forms (g ∷ groups) = supply_faults false g.names ++ (if_not (not (is_resolved g.kind.word)) g.kind.line ++ signal_forms groups)
+signal_forms (g ∷ groups) = signal_form g ++ signal_forms groups
 
 -- registers are driven in blocks alone, outputs and inner signals outside of them, and inputs nowhere
 abbrev pub may_drive : Bool → Option Symbol → Bool

@@ -7,6 +7,7 @@ mod statement;
 mod table;
 mod undeclared;
 mod unsupported;
+mod widths;
 
 pub use machine_core::Machine;
 pub use sizes::machine_size;
