@@ -15,7 +15,7 @@ ends B s front rest reason.Syntax f = record { unfinished = λ e v h. f.unfinish
 ends B s front rest (reason.Breach b) f = f
 
 behind_it : {A : Type 0} (B : Grammar A) (here : At) (v : A) (s : State) (rest : List PlacedToken) → Accepts B here v (record { state = s; rest = rest }) → AnswersAll B here (finished v s rest)
-behind_it B here v s [] a = a
+behind_it B here v s [] a = (a, refl)
 behind_it B here v s (t ∷ more) a = record {
   front = a.front;
   rest = t ∷ more;

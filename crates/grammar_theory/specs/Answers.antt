@@ -82,6 +82,7 @@ pub record Rejects {A : Type 0} (G : Grammar A) (here : At) (refused : Refusal) 
   pub clean : run front here.state ≡ Ok state
   pub blame : Ends G state refused.reason front rest
 
+-- what is read is a sentence, and nothing is left behind it
 abbrev pub AnswersAll : {A : Type 0} → Grammar A → At → Outcome A → Type 0
-AnswersAll G here (Ok (v, there)) = Accepts G here v there
+AnswersAll G here (Ok (v, there)) = Accepts G here v there × (there.rest ≡ [])
 AnswersAll G here (Err refused) = Rejects G here refused

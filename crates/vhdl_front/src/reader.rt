@@ -175,6 +175,7 @@ impl<'a> TokenReader<'a> {
     pub fn expression(&mut self) -> Result<Raw, ReadError>
         ensures right { IsNone (front self.old).refused → IsRead view (expression_grammar (front self.old).room) (at_first (front self.old).here) (front self.old) result (front self.new) }
         ensures again { IfSome (front self.old).refused (λ k. Again k result) }
+        ensures forever { IsSome (front self.old).refused → (front self.new).refused ≡ (front self.old).refused }
         ensures same { IsSameText (front self.old) (front self.new) }
     {
         if let Some(error) = &self.refused {
@@ -192,6 +193,7 @@ impl<'a> TokenReader<'a> {
     pub fn entity(&mut self) -> Result<Entity, ReadError>
         ensures right { IsNone (front self.old).refused → IsRead (λ e. e) (entity_grammar (front self.old).room) (front self.old).here (front self.old) result (front self.new) }
         ensures again { IfSome (front self.old).refused (λ k. Again k result) }
+        ensures forever { IsSome (front self.old).refused → (front self.new).refused ≡ (front self.old).refused }
         ensures same { IsSameText (front self.old) (front self.new) }
     {
         if let Some(error) = &self.refused {
@@ -208,6 +210,7 @@ impl<'a> TokenReader<'a> {
     pub fn declarations(&mut self) -> Result<Declarations, ReadError>
         ensures right { IsNone (front self.old).refused → IsRead (λ d. d) (declarations_grammar (front self.old).room) (front self.old).here (front self.old) result (front self.new) }
         ensures again { IfSome (front self.old).refused (λ k. Again k result) }
+        ensures forever { IsSome (front self.old).refused → (front self.new).refused ≡ (front self.old).refused }
         ensures same { IsSameText (front self.old) (front self.new) }
     {
         if let Some(error) = &self.refused {
@@ -263,6 +266,9 @@ impl<'a> TokenReader<'a> {
         ensures fits { IsNone (front self.old).refused → 0 < (front self.old).room → IsOk result × ((front self.new).room + 1 ≡ (front self.old).room) }
         ensures deep { IsNone (front self.old).refused → (front self.old).room ≡ 0 → Again (ReadError.Limit (record { which = LimitKind.Depth; reached = DEPTH + 1 })) result }
         ensures again { IfSome (front self.old).refused (λ k. Again k result) }
+        ensures forever { IsSome (front self.old).refused → (front self.new).refused ≡ (front self.old).refused }
+        ensures kept { IsNone (front self.old).refused → (front self.old).room ≡ 0 → (front self.new).refused ≡ Some (ReadError.Limit (record { which = LimitKind.Depth; reached = DEPTH + 1 })) }
+        ensures open { IsNone (front self.old).refused → 0 < (front self.old).room → IsNone (front self.new).refused }
         ensures here { (front self.new).here ≡ (front self.old).here }
     {
         if let Some(error) = &self.refused {
