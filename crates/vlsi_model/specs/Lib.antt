@@ -13,3 +13,5 @@ pub mod Known
 pub mod Uses
 pub mod Lines
 pub mod Measure
+pub mod Marks
+pub mod Codes

@@ -1,6 +1,8 @@
 //! Machines of data-flow texts: their statements as they are written, and the checks that make a machine of them.
 #![tactic(auto)]
 
+mod codes;
+mod marks;
 mod places;
 mod sizes;
 mod statement;
@@ -9,7 +11,9 @@ mod undeclared;
 mod unsupported;
 mod widths;
 
+pub use codes::{codes_in, least_where, selected_codes};
 pub use machine_core::Machine;
+pub use marks::mark;
 pub use sizes::machine_size;
 pub use statement::{
     Assignment, Assignments, Choice, Guarded, GuardedList, RawBlock, RawMachine, Selection,
