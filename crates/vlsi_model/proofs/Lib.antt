@@ -9,3 +9,6 @@ pub mod Measures
 pub mod Marking
 pub mod Least
 pub mod Counting
+pub mod Names
+pub mod Driving
+pub mod DrivenSoFar

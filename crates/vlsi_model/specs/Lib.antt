@@ -15,3 +15,4 @@ pub mod Lines
 pub mod Measure
 pub mod Marks
 pub mod Codes
+pub mod Driving

@@ -89,7 +89,7 @@ fn least_with(
     marked: bool,
     least: Option<u64>,
 ) -> Option<u64>
-    ensures { result ≡ (if same_bool (has marks.now (place, code)) marked then Some (least_with code least) else least) }
+    ensures { result ≡ (if same_bool marked (has marks.now (place, code)) then Some (least_with code least) else least) }
 {
     if is_marked(marks, place, code) != marked {
         return least;
@@ -102,7 +102,7 @@ fn least_with(
 
 /// The least of the codes whose bits are in the set, or of those whose bits aren't.
 pub fn least_where(marks: &Marks, place: usize, codes: &[u64], marked: bool) -> Option<u64>
-    ensures { result ≡ least_code (filter (λ code. same_bool (has marks.now (place, code)) marked) codes.now) }
+    ensures { result ≡ least_code (filter (λ code. same_bool marked (has marks.now (place, code))) codes.now) }
 {
     let mut least: Option<u64> = None;
     for code in codes {

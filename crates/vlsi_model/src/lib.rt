@@ -2,6 +2,7 @@
 #![tactic(auto)]
 
 mod codes;
+mod drivers;
 mod marks;
 mod places;
 mod sizes;
@@ -12,8 +13,8 @@ mod unsupported;
 mod widths;
 
 pub use codes::{codes_in, least_where, selected_codes};
+pub use drivers::NameFault;
 pub use machine_core::Machine;
-pub use marks::mark;
 pub use sizes::machine_size;
 pub use statement::{
     Assignment, Assignments, Choice, Guarded, GuardedList, RawBlock, RawMachine, Selection,

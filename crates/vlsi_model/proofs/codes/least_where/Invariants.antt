@@ -7,5 +7,5 @@ use Rattle.vlsi_model.proofs.codes.least_where.Given as goal
 
 abbrev pub invariant-loop-code : goal.invariant-loop-code
 invariant-loop-code l =
-    together l.least (least_code (filter (λ code. same_bool (has l.marks (l.place, code)) l.marked) (drop l.code-index l.codes)))
-    ≡ least_code (filter (λ code. same_bool (has l.marks (l.place, code)) l.marked) l.codes)
+    together l.least (least_code (filter (λ code. same_bool l.marked (has l.marks (l.place, code))) (drop l.code-index l.codes)))
+    ≡ least_code (filter (λ code. same_bool l.marked (has l.marks (l.place, code))) l.codes)
