@@ -6,3 +6,9 @@ pub mod Turns
 pub mod FirstLines
 pub mod Ranges
 pub mod Measures
+pub mod Marking
+pub mod Least
+pub mod Counting
+pub mod Names
+pub mod Driving
+pub mod DrivenSoFar

@@ -16,7 +16,7 @@ at_text t = is_at (λ (x : Vec ℕ). slice_cmp nat_cmp t x.items)
 pub same_of : (x y : List ℕ) → bytes_eq x y ≡ true → x ≡ y
 same_of x y e = (bytes_eq-Decides x y).0 e
 
-itself : (x : List ℕ) → bytes_eq x x ≡ true
+pub itself : (x : List ℕ) → bytes_eq x x ≡ true
 itself x = (bytes_eq-Decides x x).1 refl
 
 -- a test of texts answers alike both ways round

@@ -11,7 +11,8 @@ use Rattle.vlsi_model.specs.declared.statement.RawMachine.{RawMachine}
 use Rattle.vlsi_model.specs.Symbols.{symbols, symbol_names, scalar}
 use Rattle.vlsi_model.specs.Places.{Use, in_statements, statement_uses, first_unknown}
 use Rattle.vlsi_model.specs.Widths.{all_width_faults}
-use Rattle.vlsi_model.specs.Drivers.{NameFault, Driver, drivers, all_driven, first_second_driver, first_undriven}
+use Rattle.vlsi_model.specs.Drivers.{Driver, drivers, all_driven, first_second_driver, first_undriven}
+use Rattle.vlsi_model.specs.declared.drivers.NameFault.{NameFault}
 use Rattle.vlsi_model.specs.Unsupported.{all_unsupported}
 use Rattle.vlsi_model.specs.Clock.{all_clock_lines}
 use Rattle.vlsi_model.specs.Elaboration.{definitions, port_bits}

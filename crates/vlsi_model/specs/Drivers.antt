@@ -16,6 +16,7 @@ use Rattle.vlsi_model.specs.declared.table.Symbol.{Symbol}
 use Rattle.vlsi_model.specs.Formula.{names_of_found}
 use Rattle.vlsi_model.specs.Places.{in_assignments, in_statements}
 use Rattle.vlsi_model.specs.declared.table.Role.{Role}
+use Rattle.vlsi_model.specs.declared.drivers.NameFault.{NameFault}
 use Rattle.vlsi_model.specs.declared.table.Role.TheVariants as role
 
 abbrev pub is_among : List Name → Name → Bool
@@ -58,8 +59,11 @@ pub record Driver : Type 0 where
   pub line : ℕ
   pub names : List Name
 
+abbrev pub driver_at : List Symbol → Target → Driver
+driver_at known t = record { line = t.line; names = counted_names (find known t.name) (target_names known t) }
+
 abbrev pub driver_of : List Symbol → Assignment → List Driver
-driver_of known a = record { line = a.target.line; names = counted_names (find known a.target.name) (target_names known a.target) } ∷ []
+driver_of known a = driver_at known a.target ∷ []
 
 abbrev pub statement_drivers : List Symbol → Statement → List Driver
 statement_drivers known (statement.Assert e) = []
@@ -69,11 +73,6 @@ statement_drivers known (statement.Block b) = in_assignments (driver_of known) b
 -- all assignments, in file order
 abbrev pub drivers : RawMachine → List Driver
 drivers raw = in_statements (statement_drivers (symbols raw)) raw.statements
-
--- a name at fault, and a line
-pub record NameFault : Type 0 where
-  pub line : ℕ
-  pub name : Name
 
 abbrev pub fault_at : ℕ → Option Name → Option NameFault → Option NameFault
 fault_at line None later = later

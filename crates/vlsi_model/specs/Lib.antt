@@ -13,3 +13,6 @@ pub mod Known
 pub mod Uses
 pub mod Lines
 pub mod Measure
+pub mod Marks
+pub mod Codes
+pub mod Driving

@@ -2,7 +2,7 @@
 ghost use Rattle.std.specs.Prelude.{◌≡◌, ◌++◌, ◌∷◌, [], IfOk, OnOk, OnSome};
 ghost use Rattle.std.specs.Option.{option_copied};
 ghost use Rattle.vlsi_model.specs.Symbols.{symbols_named, port_symbols, signal_symbols, role_of_mode, role_of_word, symbols, find};
-ghost use Rattle.vlsi_model.specs.Known.{KnowsPlaces};
+ghost use Rattle.vlsi_model.specs.Known.{KnowsPlaces, position_of};
 
 use crate::RawMachine;
 use crate::places::{Places, learn_place, place_of};
@@ -170,6 +170,13 @@ impl Table {
             Some(place) => Some(&self.items[place]),
             None => None,
         }
+    }
+
+    /// The place of the declared name of this text.
+    pub fn place(&self, text: &[u8]) -> Option<usize>
+        ensures { result ≡ position_of self.now text.now }
+    {
+        place_of(&self.places, text)
     }
 
     pub fn as_slice(&self) -> &[Symbol]

@@ -33,7 +33,7 @@ fn is_ordered(range: Range) -> bool
 
 /// How many bits a range has: none where its bounds don't stand in the order of its word.
 #[tactic(auto, using(crate::proofs::Ranges::length_of_range))]
-fn range_width(range: Range) -> u64
+pub fn range_width(range: Range) -> u64
     ensures { result ≡ length (range_bits range) }
 {
     let left = u64::from(range.left);
