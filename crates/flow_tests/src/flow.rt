@@ -8,7 +8,8 @@ use std::test::Fail;
 use vlsi_shelf::{FileMap, MemShelf, MemSink};
 
 // Input before output, and likewise the cell's pins.
-const BOTH_RISE: &str = "\
+fn both_rise() -> &'static str {
+    "\
 V ALLIANCE : 6
 H row1,P,01/01/2000,100
 A 0,0,3500,6500
@@ -36,10 +37,12 @@ V 2500,1500,CONT_VIA,nq
 V 2500,1500,CONT_VIA2,nq
 V 2500,6000,CONT_VIA2,nq
 EOF
-";
+"
+}
 
 // Output before input: the output has the lower track.
-const PORTS_FALL: &str = "\
+fn ports_fall() -> &'static str {
+    "\
 V ALLIANCE : 6
 H swap,P,01/01/2000,100
 A 0,0,3500,6500
@@ -67,11 +70,13 @@ V 2000,1000,CONT_VIA,x
 V 2000,1000,CONT_VIA2,x
 V 2000,6000,CONT_VIA2,x
 EOF
-";
+"
+}
 
 // The cell's output pin before its input pin: the output is reached at the lower node. The cell is named like the entity, and its
 // pins like the ports the other way round.
-const PINS_FALL: &str = "\
+fn pins_fall() -> &'static str {
+    "\
 V ALLIANCE : 6
 H n,P,01/01/2000,100
 A 0,0,3500,6500
@@ -99,10 +104,12 @@ V 2500,1000,CONT_VIA,z
 V 2500,1000,CONT_VIA2,z
 V 2500,6000,CONT_VIA2,z
 EOF
-";
+"
+}
 
 // Both fall.
-const BOTH_FALL: &str = "\
+fn both_fall() -> &'static str {
+    "\
 V ALLIANCE : 6
 H m_2,P,01/01/2000,100
 A 0,0,3500,6500
@@ -130,7 +137,8 @@ V 2000,1500,CONT_VIA,o1
 V 2000,1500,CONT_VIA2,o1
 V 2000,6000,CONT_VIA2,o1
 EOF
-";
+"
+}
 
 const TOOLS: &str = "usage: alliance flow ARGUMENTS\n";
 
@@ -200,10 +208,10 @@ const ROW: &str = "flow row1.vbe -l lib -o out --tracks";
 fn layouts_of_all_orders_of_names(rt: HostRuntime) -> Result<(), Fail> {
     let alloc = rt.alloc();
     let rows = [
-        ["row1", "i", "nq", "inv_x1", "i", "nq", BOTH_RISE],
-        ["swap", "x", "b", "inv_x1", "i", "nq", PORTS_FALL],
-        ["n", "a", "z", "n", "z", "a", PINS_FALL],
-        ["m_2", "o1", "o", "n1", "z", "row1", BOTH_FALL],
+        ["row1", "i", "nq", "inv_x1", "i", "nq", both_rise()],
+        ["swap", "x", "b", "inv_x1", "i", "nq", ports_fall()],
+        ["n", "a", "z", "n", "z", "a", pins_fall()],
+        ["m_2", "o1", "o", "n1", "z", "row1", both_fall()],
     ];
     for [e, i, o, cell, a, z, layout] in &rows {
         let mut files = FileMap::new(alloc);
@@ -360,7 +368,7 @@ fn calls_that_fail_are_named(rt: HostRuntime) -> Result<(), Fail> {
         assert_eq!(rt; end.out.bytes(), printed.as_bytes(), "{call} {put}");
         let whole = *call == 0;
         assert_eq!(rt;
-            holds(alloc, end.shelf.files(), "out.ap", BOTH_RISE.as_bytes())?,
+            holds(alloc, end.shelf.files(), "out.ap", both_rise().as_bytes())?,
             whole,
             "{call} {put}"
         );
