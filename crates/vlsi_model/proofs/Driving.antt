@@ -37,7 +37,7 @@ coded_names t [] = refl
 coded_names t (k ∷ ks) =
     ap (λ n. name_at t n ∷ map (bit_name t) ks) (sym (add-one k)) ∙ ap (λ (ns : List Name). name_at t (k + 1) ∷ ns) (coded_names t ks)
 
-coded_range : (t : List ℕ) (range : Option Range) → names_in t range ≡ map (name_at t) (codes_in range)
+pub coded_range : (t : List ℕ) (range : Option Range) → names_in t range ≡ map (name_at t) (codes_in range)
 coded_range t None = refl
 coded_range t (Some r) = coded_names t (range_bits r)
 

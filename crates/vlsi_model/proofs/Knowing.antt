@@ -67,7 +67,7 @@ found_at (x ∷ known) t i e = by (found_at known t) (bytes_eq x.text t) refl e 
       subst (Found (x ∷ known) t) zeroth (record { within = omega arith; there = λ d. ap (λ b. cond b (Some x) (find known t)) here })
   by rest false here e = behind_first x known t (position_of known t) refl rest here i e
 
-not_behind : (o : Option ℕ) → option_map suc o ≡ None → o ≡ None
+pub not_behind : (o : Option ℕ) → option_map suc o ≡ None → o ≡ None
 not_behind None e = refl
 not_behind (Some n) e = absurd cc
 

@@ -12,3 +12,4 @@ pub mod Counting
 pub mod Names
 pub mod Driving
 pub mod DrivenSoFar
+pub mod Undriven

@@ -16,3 +16,4 @@ pub mod Measure
 pub mod Marks
 pub mod Codes
 pub mod Driving
+pub mod DriverFault

@@ -2,18 +2,20 @@
 ghost use Rattle.std.specs.Prelude.{◌≡◌, ◌||◌, ℕ, [], ◌∷◌, List, IfOk, OnOk, MatchOption};
 ghost use Rattle.std.specs.List.{list_any};
 ghost use Rattle.vlsi_base.specs.declared.name.Name.{Name};
-ghost use Rattle.vlsi_model.specs.Codes.{name_at};
+ghost use Rattle.vlsi_model.specs.Codes.{name_at, Tied};
 ghost use Rattle.vlsi_model.specs.Driving.{Drives, Counts, undriven_of};
-ghost use Rattle.vlsi_model.specs.Drivers.{needs_driver, counted_names, driver_at, driver_of, statement_drivers};
+ghost use Rattle.vlsi_model.specs.Drivers.{first_undriven, needs_driver, counted_names, driver_at, driver_of, statement_drivers};
 ghost use Rattle.vlsi_model.specs.Marks.{has, is_key};
 ghost use Rattle.vlsi_model.specs.Places.{in_assignments, in_statements};
-ghost use Rattle.vlsi_model.specs.Symbols.{find};
+ghost use Rattle.vlsi_model.specs.Symbols.{find, symbols};
+ghost use Rattle.vlsi_model.specs.DriverFault.{IsDriverFault};
 
 use crate::codes::{codes_in, least_where, selected_codes};
 use crate::marks::{Marks, mark};
 use crate::table::{Role, Symbol, Table};
-use crate::{Assignment, Statement, Target};
+use crate::{Assignment, RawMachine, Statement, Target};
 use std::alloc::{AllocError, Global};
+use std::collections::BTreeSet;
 use vlsi_base::{Name, Range, Text};
 
 /// A name at fault, and a line.
@@ -175,6 +177,55 @@ fn undriven_bit(
                 name,
             }))
         }
+        None => Ok(None),
+    }
+}
+
+/// The first declared name that has a bit which isn't in the set, with the least such bit.
+fn undriven(alloc: Global, table: &Table, marks: &Marks) -> Result<Option<NameFault>, AllocError>
+    ensures { IfOk result (λ found. (driven : List Name) → Tied table.now marks.now driven → found ≡ first_undriven driven table.now) }
+{
+    let symbols = table.as_slice();
+    for symbol in symbols {
+        // Each declared name has a place.
+        let Some(place) = table.place(symbol.text.as_bytes()) else {
+            return Ok(None);
+        };
+        let found = undriven_bit(alloc, marks, place, symbol)?;
+        if let Some(fault) = found {
+            return Ok(Some(fault));
+        }
+    }
+    Ok(None)
+}
+
+/// What is wrong with the drivers of a text.
+#[derive(Debug, Drop)]
+pub enum DriverFault {
+    /// An assignment drives a bit that an earlier one drives.
+    Again(NameFault),
+    /// A declared bit has no driver.
+    Missing(NameFault),
+}
+
+/// The first assignment that drives a bit again, with the least such bit; or else the first declared name that has a bit
+/// without a driver, with the least such bit.
+pub fn driver_fault(
+    alloc: Global,
+    table: &Table,
+    raw: &RawMachine,
+) -> Result<Option<DriverFault>, AllocError>
+    requires { table.now ≡ symbols raw.now }
+    ensures { IfOk result (λ found. IsDriverFault raw.now found) }
+{
+    let mut marks = BTreeSet::new(alloc);
+    let again = second_driver(alloc, table, &mut marks, raw.statements.as_slice())?;
+    if let Some(fault) = again {
+        return Ok(Some(DriverFault::Again(fault)));
+    }
+    let missing = undriven(alloc, table, &marks)?;
+    match missing {
+        Some(fault) => Ok(Some(DriverFault::Missing(fault))),
         None => Ok(None),
     }
 }
