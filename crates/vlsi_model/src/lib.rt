@@ -1,19 +1,20 @@
-//! Machines of data-flow texts: their statements as they are written, and the checks that make a machine of them.
+//! Data-flow texts: their statements as they are written, their declared names, the checks of names, widths, drivers and
+//! forms, and the size of a machine.
 #![tactic(auto)]
 
 mod codes;
 mod drivers;
+mod forms;
 mod marks;
 mod places;
 mod sizes;
 mod statement;
 mod table;
 mod undeclared;
-mod unsupported;
 mod widths;
 
-pub use codes::{codes_in, least_where, selected_codes};
-pub use drivers::NameFault;
+pub use drivers::{DriverFault, NameFault, driver_fault};
+pub use forms::unsupported;
 pub use machine_core::Machine;
 pub use sizes::machine_size;
 pub use statement::{
@@ -21,3 +22,5 @@ pub use statement::{
     Statement, Statements, Target,
 };
 pub use table::{Role, Symbol, Table};
+pub use undeclared::{Place, unknown};
+pub use widths::width_fault;

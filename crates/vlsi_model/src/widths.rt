@@ -8,8 +8,8 @@ ghost use Rattle.vlsi_model.specs.Symbols.{symbols, find, is_ordered, range_bits
 ghost use Rattle.vlsi_model.specs.Widths.{found_width, needs_equal, joined_width, ordered_width, differ, index_fits, range_fits, if_not, width_faults, condition_faults, all_wide, target_width, target_faults, assignment_faults, statement_faults, declared_faults, port_faults, signal_faults, all_width_faults};
 ghost use Rattle.vlsi_model.specs.Places.{in_alternatives, in_choice, in_assignments, in_statements};
 
+use crate::forms::digit_width;
 use crate::table::Table;
-use crate::unsupported::digit_width;
 use crate::{Assignment, Choice, Guarded, RawMachine, Selection, Statement, Target};
 use std::alloc::AllocError;
 use vlsi_base::{Operator, PortGroup, Radix, Range, Raw, SignalGroup};

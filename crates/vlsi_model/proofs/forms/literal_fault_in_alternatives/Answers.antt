@@ -6,7 +6,7 @@ use Rattle.vlsi_model.specs.Places.{in_alternatives}
 use Rattle.vlsi_model.specs.Unsupported.{literal_faults}
 use Rattle.vlsi_model.proofs.Turns.{turn}
 use Rattle.vlsi_model.proofs.FirstLines.{first_line_append}
-use Rattle.vlsi_model.proofs.unsupported.literal_fault_in_alternatives.Goals as goal
+use Rattle.vlsi_model.proofs.forms.literal_fault_in_alternatives.Goals as goal
 
 pub returns-in-Some : goal.returns-in-Some
 returns-in-Some c =

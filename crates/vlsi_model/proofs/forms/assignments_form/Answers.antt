@@ -4,7 +4,7 @@ use Rattle.vlsi_model.specs.Places.{in_assignments}
 use Rattle.vlsi_model.specs.Unsupported.{assignment_forms}
 use Rattle.vlsi_model.proofs.Turns.{turn}
 use Rattle.vlsi_model.proofs.FirstLines.{first_line_append}
-use Rattle.vlsi_model.proofs.unsupported.assignments_form.Goals as goal
+use Rattle.vlsi_model.proofs.forms.assignments_form.Goals as goal
 
 pub returns-in-Some : goal.returns-in-Some
 returns-in-Some c =

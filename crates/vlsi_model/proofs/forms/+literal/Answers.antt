@@ -7,7 +7,7 @@ use Rattle.vlsi_model.specs.Lines.{first_line, in_operands}
 use Rattle.vlsi_model.specs.Unsupported.{literal_faults}
 use Rattle.vlsi_model.proofs.Turns.{turn}
 use Rattle.vlsi_model.proofs.FirstLines.{first_line_append, line_in_chain}
-use Rattle.vlsi_model.proofs.unsupported.+literal.Goals as goal
+use Rattle.vlsi_model.proofs.forms.+literal.Goals as goal
 
 pub literal_fault-returns-in-Some-literal_fault : goal.literal_fault-returns-in-Some-literal_fault
 literal_fault-returns-in-Some-literal_fault t c =

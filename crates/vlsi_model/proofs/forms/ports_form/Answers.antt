@@ -3,7 +3,7 @@ use Rattle.vlsi_model.specs.Lines.{first_line}
 use Rattle.vlsi_model.specs.Unsupported.{port_form, port_forms}
 use Rattle.vlsi_model.proofs.Turns.{turn}
 use Rattle.vlsi_model.proofs.FirstLines.{first_line_append}
-use Rattle.vlsi_model.proofs.unsupported.ports_form.Goals as goal
+use Rattle.vlsi_model.proofs.forms.ports_form.Goals as goal
 
 pub returns-in-Some : goal.returns-in-Some
 returns-in-Some c =

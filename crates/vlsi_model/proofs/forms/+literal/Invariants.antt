@@ -2,7 +2,7 @@ use Rattle.std.proofs.Common.{◌≡◌, map, drop}
 use Rattle.vlsi_base.specs.Tree.{operand_of}
 use Rattle.vlsi_model.specs.Lines.{first_line, in_operands}
 use Rattle.vlsi_model.specs.Unsupported.{literal_faults}
-use Rattle.vlsi_model.proofs.unsupported.+literal.Given as goal
+use Rattle.vlsi_model.proofs.forms.+literal.Given as goal
 
 abbrev pub invariant-literal_fault_among-loop-e : goal.invariant-literal_fault_among-loop-e
 invariant-literal_fault_among-loop-e l =

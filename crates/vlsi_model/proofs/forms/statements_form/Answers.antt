@@ -4,7 +4,7 @@ use Rattle.vlsi_model.specs.Places.{in_statements}
 use Rattle.vlsi_model.specs.Unsupported.{statement_forms}
 use Rattle.vlsi_model.proofs.Turns.{turn}
 use Rattle.vlsi_model.proofs.FirstLines.{first_line_append}
-use Rattle.vlsi_model.proofs.unsupported.statements_form.Goals as goal
+use Rattle.vlsi_model.proofs.forms.statements_form.Goals as goal
 
 pub returns-in-Some : goal.returns-in-Some
 returns-in-Some c =

@@ -3,7 +3,7 @@ use Rattle.vlsi_model.specs.Lines.{first_line}
 use Rattle.vlsi_model.specs.Unsupported.{signal_form, signal_forms}
 use Rattle.vlsi_model.proofs.Turns.{turn}
 use Rattle.vlsi_model.proofs.FirstLines.{first_line_append}
-use Rattle.vlsi_model.proofs.unsupported.signals_form.Goals as goal
+use Rattle.vlsi_model.proofs.forms.signals_form.Goals as goal
 
 pub returns-in-Some : goal.returns-in-Some
 returns-in-Some c =
