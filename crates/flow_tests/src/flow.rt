@@ -1,4 +1,4 @@
-// The rows of the first path.
+// Runs of the top call: words and files, and what they come to.
 
 use crate::texts::{add, cell_ap, failing, first, has, holds, report, text};
 use flow_run::{Words, alliance_main};
@@ -149,12 +149,18 @@ const LONGEST: &str = "a23456789012345678901234567890123456789012345678901234567
 
 const TOO_LONG: &str = "a2345678901234567890123456789012345678901234567890123456789012345";
 
-// What a run came to.
-#[derive(Drop)]
-struct Outcome {
+const ROW: &str = "flow row1.vbe -l lib -o out --tracks";
+
+// What is asked, and what it has to come to: the words, the call of the shelf and the put that fail (0 for none), the
+// status, what is printed, and the layout that is there afterwards.
+#[derive(Clone, Copy)]
+struct Case<'a> {
+    line: &'a str,
+    call: u64,
+    put: u64,
     code: u8,
-    shelf: MemShelf,
-    out: MemSink,
+    printed: &'a str,
+    layout: Option<&'a str>,
 }
 
 // The words of a line, which blanks part.
@@ -166,132 +172,149 @@ fn words(alloc: Global, line: &str) -> Result<Words, AllocError> {
     Ok(words)
 }
 
-fn run(
-    alloc: Global,
-    files: FileMap,
-    line: &str,
-    call: u64,
-    put: u64,
-) -> Result<Outcome, AllocError> {
-    let words = words(alloc, line)?;
-    let mut shelf = MemShelf::begin(files, failing(alloc, call)?);
-    let mut out = MemSink::begin(alloc, failing(alloc, put)?);
-    let code = alliance_main(alloc, &words, &mut shelf, &mut out).code();
-    Ok(Outcome { code, shelf, out })
+fn has_layout(alloc: Global, files: &FileMap, layout: Option<&str>) -> Result<bool, AllocError> {
+    match layout {
+        Some(bytes) => holds(alloc, files, "out.ap", bytes.as_bytes()),
+        None => Ok(!has(alloc, files, "out.ap")?),
+    }
 }
 
-// The files of the first row, but for one that is another text, or isn't there.
-fn row_but(alloc: Global, name: &str, other: Option<&str>) -> Result<FileMap, AllocError> {
+// Runs the words over the files, and compares.
+fn expect(
+    rt: &impl Abort,
+    alloc: Global,
+    what: &str,
+    files: FileMap,
+    case: &Case,
+) -> Result<(), AllocError> {
+    let words = words(alloc, case.line)?;
+    let mut shelf = MemShelf::begin(files, failing(alloc, case.call)?);
+    let mut out = MemSink::begin(alloc, failing(alloc, case.put)?);
+    let code = alliance_main(alloc, &words, &mut shelf, &mut out).code();
+    let is_right = has_layout(alloc, shelf.files(), case.layout)?;
+    assert!(rt; code == case.code, "{what}: the status");
+    assert!(rt;
+        out.bytes() == case.printed.as_bytes(),
+        "{what}: what is printed"
+    );
+    assert!(rt; is_right, "{what}: the layout");
+    Ok(())
+}
+
+// The files of one inverter and one cell.
+fn files_of(alloc: Global, source: &[&str; 3], cell: &[&str; 3]) -> Result<FileMap, AllocError> {
+    let [e, i, o] = source;
+    let [c, a, z] = cell;
     let mut files = FileMap::new(alloc);
-    let source = first(alloc, "row1", "i", "nq")?;
-    let cell = first(alloc, "inv_x1", "i", "nq")?;
-    let geometry = cell_ap(alloc, "inv_x1", "i", "nq")?;
-    let row = [
-        ("row1.vbe", source.as_str()),
-        ("lib/CATAL", "inv_x1 C\n"),
-        ("lib/inv_x1.vbe", cell.as_str()),
-        ("lib/inv_x1.ap", geometry.as_str()),
-    ];
-    for (file, bytes) in &row {
-        if *file != name {
-            add(alloc, &mut files, file, bytes.as_bytes())?;
-        } else if let Some(bytes) = other {
-            add(alloc, &mut files, file, bytes.as_bytes())?;
-        }
-    }
+    let text = first(alloc, e, i, o)?;
+    add(alloc, &mut files, "row1.vbe", text.as_bytes())?;
+    let catal = format!(in alloc; "{c} C\n")?;
+    add(alloc, &mut files, "lib/CATAL", catal.as_bytes())?;
+    add_cell(alloc, &mut files, c, a, z)?;
     Ok(files)
 }
 
-const ROW: &str = "flow row1.vbe -l lib -o out --tracks";
+fn add_cell(
+    alloc: Global,
+    files: &mut FileMap,
+    cell: &str,
+    a: &str,
+    z: &str,
+) -> Result<(), AllocError> {
+    let vbe = format!(in alloc; "lib/{cell}.vbe")?;
+    let behaviour = first(alloc, cell, a, z)?;
+    add(alloc, files, vbe.as_str(), behaviour.as_bytes())?;
+    let ap = format!(in alloc; "lib/{cell}.ap")?;
+    let geometry = cell_ap(alloc, cell, a, z)?;
+    add(alloc, files, ap.as_str(), geometry.as_bytes())
+}
+
+// The files of the first run.
+fn row(alloc: Global) -> Result<FileMap, AllocError> {
+    files_of(alloc, &["row1", "i", "nq"], &["inv_x1", "i", "nq"])
+}
+
+// The files of the first run, of which one is another text.
+fn row_with(alloc: Global, name: &str, bytes: &[u8]) -> Result<FileMap, AllocError> {
+    let mut files = row(alloc)?;
+    add(alloc, &mut files, name, bytes)?;
+    Ok(files)
+}
 
 #[test]
 fn layouts_of_all_orders_of_names(rt: HostRuntime) -> Result<(), Fail> {
     let alloc = rt.alloc();
-    let rows = [
-        ["row1", "i", "nq", "inv_x1", "i", "nq", both_rise()],
-        ["swap", "x", "b", "inv_x1", "i", "nq", ports_fall()],
-        ["n", "a", "z", "n", "z", "a", pins_fall()],
-        ["m_2", "o1", "o", "n1", "z", "row1", both_fall()],
-    ];
-    for [e, i, o, cell, a, z, layout] in &rows {
-        let mut files = FileMap::new(alloc);
-        add(
-            alloc,
-            &mut files,
-            "s.vbe",
-            first(alloc, e, i, o)?.as_bytes(),
-        )?;
-        add(
-            alloc,
-            &mut files,
-            "d/CATAL",
-            format!(in alloc; "{cell} C\n")?.as_bytes(),
-        )?;
-        add(
-            alloc,
-            &mut files,
-            format!(in alloc; "d/{cell}.vbe")?.as_str(),
-            first(alloc, cell, a, z)?.as_bytes(),
-        )?;
-        add(
-            alloc,
-            &mut files,
-            format!(in alloc; "d/{cell}.ap")?.as_str(),
-            cell_ap(alloc, cell, a, z)?.as_bytes(),
-        )?;
-        let end = run(alloc, files, "flow --tracks -o to s.vbe -l d", 0, 0)?;
-        assert_eq!(rt; end.code, 0, "{e}");
-        assert!(rt;
-            holds(alloc, end.shelf.files(), "to.ap", layout.as_bytes())?,
-            "{e}"
-        );
-        assert_eq!(rt; end.out.bytes(), report(alloc, e)?.as_bytes(), "{e}");
+    for (source, cell, layout) in &[
+        (["row1", "i", "nq"], ["inv_x1", "i", "nq"], both_rise()),
+        (["swap", "x", "b"], ["inv_x1", "i", "nq"], ports_fall()),
+        (["n", "a", "z"], ["n", "z", "a"], pins_fall()),
+        (["m_2", "o1", "o"], ["n1", "z", "row1"], both_fall()),
+    ] {
+        let files = files_of(alloc, source, cell)?;
+        let printed = report(alloc, source[0])?;
+        let case = Case {
+            line: "flow --tracks -o out row1.vbe -l lib",
+            call: 0,
+            put: 0,
+            code: 0,
+            printed: printed.as_str(),
+            layout: Some(*layout),
+        };
+        expect(&rt, alloc, source[0], files, &case)?;
+    }
+    Ok(())
+}
+
+// Nothing is drawn, and that is said.
+const BEYOND: Case = Case {
+    line: ROW,
+    call: 0,
+    put: 0,
+    code: 10,
+    printed: "flow: beyond\n",
+    layout: None,
+};
+
+#[test]
+fn names_that_no_port_may_have_are_beyond(rt: HostRuntime) -> Result<(), Fail> {
+    let alloc = rt.alloc();
+    // Names of an entity, its input and its output.
+    for names in &[
+        [TOO_LONG, "i", "nq"],
+        ["row1", "i", TOO_LONG],
+        ["row1", "i", "i"],
+        ["i", "i", "nq"],
+        ["nq", "i", "nq"],
+        ["row1", "vdd", "nq"],
+        ["row1", "i", "vss"],
+        ["signal", "i", "nq"],
+        ["row1", "reg_bit_vector", "nq"],
+        ["row1", "after", "nq"],
+        ["row1", "i", "1q"],
+        ["row1", "_i", "nq"],
+        ["row1", "I", "nq"],
+        ["row1", "i", ""],
+    ] {
+        let files = files_of(alloc, names, &["inv_x1", "i", "nq"])?;
+        expect(&rt, alloc, names[1], files, &BEYOND)?;
     }
     Ok(())
 }
 
 #[test]
-fn other_forms_are_beyond(rt: HostRuntime) -> Result<(), Fail> {
+fn names_that_a_port_may_have(rt: HostRuntime) -> Result<(), Fail> {
     let alloc = rt.alloc();
-    // Names of an entity, its input and its output, and whether they may be.
-    let names = [
-        ("row1", "i", "nq", true),
-        (LONGEST, "i", "nq", true),
-        (TOO_LONG, "i", "nq", false),
-        ("row1", LONGEST, "nq", true),
-        ("row1", "i", TOO_LONG, false),
-        ("row1", "i", "i", false),
-        ("i", "i", "nq", false),
-        ("nq", "i", "nq", false),
-        ("row1", "vdd", "nq", false),
-        ("row1", "i", "vss", false),
-        ("signal", "i", "nq", false),
-        ("row1", "reg_bit_vector", "nq", false),
-        ("row1", "after", "nq", false),
-        ("row1", "i", "1q", false),
-        ("row1", "_i", "nq", false),
-        ("row1", "I", "nq", false),
-        ("row1", "i", "", false),
-        ("vbe", "i_", "n9", true),
-    ];
-    for (e, i, o, may) in &names {
-        let source = first(alloc, e, i, o)?;
-        let files = row_but(alloc, "row1.vbe", Some(source.as_str()))?;
-        let end = run(alloc, files, ROW, 0, 0)?;
-        let code = if *may { 0 } else { 10 };
-        assert_eq!(rt; end.code, code, "{e} {i} {o}");
-        assert_eq!(rt;
-            has(alloc, end.shelf.files(), "out.ap")?,
-            *may,
-            "{e} {i} {o}"
-        );
-        if !*may {
-            assert_eq!(rt;
-                end.out.bytes(),
-                b"flow: beyond\n".as_slice(),
-                "{e} {i} {o}"
-            );
-        }
+    for names in &[
+        [LONGEST, "i", "nq"],
+        ["row1", LONGEST, "nq"],
+        ["vbe", "i_", "n9"],
+    ] {
+        let files = files_of(alloc, names, &["inv_x1", "i", "nq"])?;
+        let words = words(alloc, ROW)?;
+        let mut shelf = MemShelf::begin(files, failing(alloc, 0)?);
+        let mut out = MemSink::begin(alloc, failing(alloc, 0)?);
+        let code = alliance_main(alloc, &words, &mut shelf, &mut out).code();
+        assert!(rt; code == 0);
     }
     Ok(())
 }
@@ -302,11 +325,8 @@ fn other_files_are_beyond(rt: HostRuntime) -> Result<(), Fail> {
     let cell = first(alloc, "inv_x1", "i", "nq")?;
     let renamed = first(alloc, "inv_x2", "i", "nq")?;
     let turned = first(alloc, "inv_x1", "nq", "i")?;
-    let direct =
-        "entity row1 is port (i : in bit; nq : out bit; vdd : in bit; vss : in bit); end row1;\narchitecture vbe of row1 is begin\nnq <= i;\nend vbe;\n";
     let behind = format!(in alloc; "{}\n", first(alloc, "row1", "i", "nq")?.as_str())?;
-    let texts = [
-        ("row1.vbe", direct),
+    for (name, bytes) in &[
         ("row1.vbe", ""),
         ("row1.vbe", behind.as_str()),
         ("row1.vbe", cell.as_str().split_at(40).0),
@@ -320,13 +340,9 @@ fn other_files_are_beyond(rt: HostRuntime) -> Result<(), Fail> {
         ("lib/inv_x1.vbe", turned.as_str()),
         ("lib/inv_x1.ap", "EOF\n"),
         ("lib/inv_x1.ap", ""),
-    ];
-    for (name, bytes) in &texts {
-        let files = row_but(alloc, name, Some(*bytes))?;
-        let end = run(alloc, files, ROW, 0, 0)?;
-        assert_eq!(rt; end.code, 10, "{name} {bytes}");
-        assert_eq!(rt; end.out.bytes(), b"flow: beyond\n".as_slice(), "{name}");
-        assert!(rt; !has(alloc, end.shelf.files(), "out.ap")?, "{name}");
+    ] {
+        let files = row_with(alloc, name, bytes.as_bytes())?;
+        expect(&rt, alloc, name, files, &BEYOND)?;
     }
     Ok(())
 }
@@ -339,11 +355,9 @@ fn long_files_are_beyond(rt: HostRuntime) -> Result<(), Fail> {
         ("lib/CATAL", 1_048_576),
         ("lib/inv_x1.ap", 1_048_577),
     ] {
-        let mut files = row_but(alloc, name, None)?;
         let bytes = vec![in alloc; b' '; *length]?;
-        add(alloc, &mut files, name, &bytes)?;
-        let end = run(alloc, files, ROW, 0, 0)?;
-        assert_eq!(rt; end.code, 10, "{name}");
+        let files = row_with(alloc, name, &bytes)?;
+        expect(&rt, alloc, name, files, &BEYOND)?;
     }
     Ok(())
 }
@@ -351,83 +365,93 @@ fn long_files_are_beyond(rt: HostRuntime) -> Result<(), Fail> {
 #[test]
 fn calls_that_fail_are_named(rt: HostRuntime) -> Result<(), Fail> {
     let alloc = rt.alloc();
-    // The call of the shelf and the put that fail, and what is printed.
-    let rows = [
-        (1, 0, "flow: file: read fault row1.vbe\n"),
-        (2, 0, "flow: file: read fault lib/CATAL\n"),
-        (3, 0, "flow: file: read fault lib/inv_x1.vbe\n"),
-        (4, 0, "flow: file: read fault lib/inv_x1.ap\n"),
-        (5, 0, "flow: file: write fault out.ap\n"),
-        (0, 1, ""),
-        (3, 1, ""),
-    ];
-    for (call, put, printed) in &rows {
-        let files = row_but(alloc, "", None)?;
-        let end = run(alloc, files, ROW, *call, *put)?;
-        assert_eq!(rt; end.code, 7, "{call} {put}");
-        assert_eq!(rt; end.out.bytes(), printed.as_bytes(), "{call} {put}");
-        let whole = *call == 0;
-        assert_eq!(rt;
-            holds(alloc, end.shelf.files(), "out.ap", both_rise().as_bytes())?,
-            whole,
-            "{call} {put}"
-        );
-        assert_eq!(rt;
-            has(alloc, end.shelf.files(), "out.ap")?,
-            whole,
-            "{call} {put}"
-        );
-    }
-    for call in 6..9u64 {
-        let end = run(alloc, row_but(alloc, "", None)?, ROW, call, 2)?;
-        assert_eq!(rt; end.code, 0, "{call}");
+    // The call of the shelf that fails, and what is printed.
+    for (call, printed) in &[
+        (1, "flow: file: read fault row1.vbe\n"),
+        (2, "flow: file: read fault lib/CATAL\n"),
+        (3, "flow: file: read fault lib/inv_x1.vbe\n"),
+        (4, "flow: file: read fault lib/inv_x1.ap\n"),
+        (5, "flow: file: write fault out.ap\n"),
+    ] {
+        let case = Case {
+            call: *call,
+            code: 7,
+            printed: *printed,
+            ..BEYOND
+        };
+        expect(&rt, alloc, printed, row(alloc)?, &case)?;
     }
     Ok(())
 }
 
 #[test]
-fn files_that_lack_are_named(rt: HostRuntime) -> Result<(), Fail> {
+fn a_put_that_fails_leaves_the_layout(rt: HostRuntime) -> Result<(), Fail> {
     let alloc = rt.alloc();
-    for name in &["row1.vbe", "lib/CATAL", "lib/inv_x1.vbe", "lib/inv_x1.ap"] {
-        let end = run(alloc, row_but(alloc, name, None)?, ROW, 0, 0)?;
-        let printed = format!(in alloc; "flow: file: missing {name}\n")?;
-        assert_eq!(rt; end.code, 7, "{name}");
-        assert_eq!(rt; end.out.bytes(), printed.as_bytes(), "{name}");
-        assert!(rt; !has(alloc, end.shelf.files(), "out.ap")?, "{name}");
-    }
-    // CATAL's form comes before the files that it names, and the source's form after all of them.
-    let two = row_but(alloc, "lib/CATAL", Some("inv_x2 C\n"))?;
-    let end = run(alloc, two, ROW, 0, 0)?;
-    assert_eq!(rt;
-        end.out.bytes(),
-        b"flow: file: missing lib/inv_x2.vbe\n".as_slice()
-    );
-    let late = row_but(alloc, "row1.vbe", Some("no inverter\n"))?;
-    let end = run(alloc, late, ROW, 4, 0)?;
-    assert_eq!(rt;
-        end.out.bytes(),
-        b"flow: file: read fault lib/inv_x1.ap\n".as_slice()
-    );
+    let report_fails = Case {
+        put: 1,
+        code: 7,
+        printed: "",
+        layout: Some(both_rise()),
+        ..BEYOND
+    };
+    expect(&rt, alloc, "the report", row(alloc)?, &report_fails)?;
+    let line_fails = Case {
+        call: 3,
+        put: 1,
+        code: 7,
+        printed: "",
+        ..BEYOND
+    };
+    expect(&rt, alloc, "a refusal's line", row(alloc)?, &line_fails)?;
     Ok(())
 }
 
-// These words are answered so over the files of the first row, and a layout is there exactly on 0.
-fn answers(
-    rt: &impl Abort,
-    alloc: Global,
-    line: &str,
-    code: u8,
-    printed: &str,
-) -> Result<(), AllocError> {
-    let end = run(alloc, row_but(alloc, "", None)?, line, 0, 0)?;
-    assert_eq!(rt; end.code, code, "{line}");
-    assert_eq!(rt; end.out.bytes(), printed.as_bytes(), "{line}");
-    assert_eq!(rt;
-        has(alloc, end.shelf.files(), "out.ap")?,
-        code == 0,
-        "{line}"
-    );
+// The first of the files of the first run.
+fn first_files(alloc: Global, count: usize) -> Result<FileMap, AllocError> {
+    let mut files = FileMap::new(alloc);
+    let source = first(alloc, "row1", "i", "nq")?;
+    let cell = first(alloc, "inv_x1", "i", "nq")?;
+    let texts = [source.as_str(), "inv_x1 C\n", cell.as_str()];
+    let names = ["row1.vbe", "lib/CATAL", "lib/inv_x1.vbe"];
+    for (k, name) in names.iter().enumerate() {
+        if k < count {
+            add(alloc, &mut files, name, texts[k].as_bytes())?;
+        }
+    }
+    Ok(files)
+}
+
+#[test]
+fn files_that_lack_are_named(rt: HostRuntime) -> Result<(), Fail> {
+    let alloc = rt.alloc();
+    for (count, printed) in &[
+        (0, "flow: file: missing row1.vbe\n"),
+        (1, "flow: file: missing lib/CATAL\n"),
+        (2, "flow: file: missing lib/inv_x1.vbe\n"),
+        (3, "flow: file: missing lib/inv_x1.ap\n"),
+    ] {
+        let files = first_files(alloc, *count)?;
+        let case = Case {
+            code: 7,
+            printed: *printed,
+            ..BEYOND
+        };
+        expect(&rt, alloc, printed, files, &case)?;
+    }
     Ok(())
+}
+
+// These words spell no command.
+fn usage(rt: &impl Abort, alloc: Global, line: &str, printed: &str) -> Result<(), AllocError> {
+    let case = Case {
+        line,
+        call: 0,
+        put: 0,
+        code: 1,
+        printed,
+        layout: None,
+    };
+    expect(rt, alloc, line, row(alloc)?, &case)
 }
 
 #[test]
@@ -448,25 +472,15 @@ fn words_are_taken_in_any_order(rt: HostRuntime) -> Result<(), Fail> {
         "flow",
         "flow -l lib -o out --tracks",
     ] {
-        answers(&rt, alloc, line, 1, USAGE)?;
+        usage(&rt, alloc, line, USAGE)?;
     }
     for line in ["--tracks flow", "cougar out.ap", ""] {
-        answers(&rt, alloc, line, 1, TOOLS)?;
+        usage(&rt, alloc, line, TOOLS)?;
     }
-    answers(
-        &rt,
-        alloc,
-        "flow row1.fsm -l lib -o out --tracks",
-        10,
-        "flow: beyond\n",
-    )?;
-    let printed = "source row1\nsize 3\ncells 1\nnets 2\nlength 10500\nbreaches 0\naccepted\n";
-    answers(
-        &rt,
-        alloc,
-        "flow -o out --tracks -l lib row1.vbe",
-        0,
-        printed,
-    )?;
+    let machine = Case {
+        line: "flow row1.fsm -l lib -o out --tracks",
+        ..BEYOND
+    };
+    expect(&rt, alloc, "a state machine", row(alloc)?, &machine)?;
     Ok(())
 }
