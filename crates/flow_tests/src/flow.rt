@@ -1,144 +1,11 @@
 // Runs of the top call: words and files, and what they come to.
 
-use crate::texts::{add, cell_ap, failing, first, has, holds, report, text};
+use crate::texts::{add, cell_ap, failing, first, has, has_line, report, text};
 use flow_run::{Words, alliance_main};
 use std::alloc::{AllocError, Global};
 use std::process::Abort;
 use std::test::Fail;
 use vlsi_shelf::{FileMap, MemShelf, MemSink};
-
-// Input before output, and likewise the cell's pins.
-fn both_rise() -> &'static str {
-    "\
-V ALLIANCE : 6
-H row1,P,01/01/2000,100
-A 0,0,3500,6500
-C 500,300,600,vss,0,WEST,ALU1
-C 500,4700,600,vdd,0,WEST,ALU1
-C 1500,5500,200,i,0,WEST,ALU2
-C 1500,6000,200,nq,0,WEST,ALU2
-I 1500,0,inv_x1,g0,NOSYM
-S 500,300,3000,300,600,vss,RIGHT,ALU1
-S 500,4700,3000,4700,600,vdd,RIGHT,ALU1
-S 500,300,500,300,200,vss,UP,ALU3
-V 500,300,CONT_VIA,vss
-V 500,300,CONT_VIA2,vss
-S 1000,4700,1000,4700,200,vdd,UP,ALU3
-V 1000,4700,CONT_VIA,vdd
-V 1000,4700,CONT_VIA2,vdd
-S 1500,5500,2000,5500,200,i,RIGHT,ALU2
-S 2000,1000,2000,5500,200,i,UP,ALU3
-V 2000,1000,CONT_VIA,i
-V 2000,1000,CONT_VIA2,i
-V 2000,5500,CONT_VIA2,i
-S 1500,6000,2500,6000,200,nq,RIGHT,ALU2
-S 2500,1500,2500,6000,200,nq,UP,ALU3
-V 2500,1500,CONT_VIA,nq
-V 2500,1500,CONT_VIA2,nq
-V 2500,6000,CONT_VIA2,nq
-EOF
-"
-}
-
-// Output before input: the output has the lower track.
-fn ports_fall() -> &'static str {
-    "\
-V ALLIANCE : 6
-H swap,P,01/01/2000,100
-A 0,0,3500,6500
-C 500,300,600,vss,0,WEST,ALU1
-C 500,4700,600,vdd,0,WEST,ALU1
-C 1500,5500,200,b,0,WEST,ALU2
-C 1500,6000,200,x,0,WEST,ALU2
-I 1500,0,inv_x1,g0,NOSYM
-S 500,300,3000,300,600,vss,RIGHT,ALU1
-S 500,4700,3000,4700,600,vdd,RIGHT,ALU1
-S 500,300,500,300,200,vss,UP,ALU3
-V 500,300,CONT_VIA,vss
-V 500,300,CONT_VIA2,vss
-S 1000,4700,1000,4700,200,vdd,UP,ALU3
-V 1000,4700,CONT_VIA,vdd
-V 1000,4700,CONT_VIA2,vdd
-S 1500,5500,2500,5500,200,b,RIGHT,ALU2
-S 2500,1500,2500,5500,200,b,UP,ALU3
-V 2500,1500,CONT_VIA,b
-V 2500,1500,CONT_VIA2,b
-V 2500,5500,CONT_VIA2,b
-S 1500,6000,2000,6000,200,x,RIGHT,ALU2
-S 2000,1000,2000,6000,200,x,UP,ALU3
-V 2000,1000,CONT_VIA,x
-V 2000,1000,CONT_VIA2,x
-V 2000,6000,CONT_VIA2,x
-EOF
-"
-}
-
-// The cell's output pin before its input pin: the output is reached at the lower node. The cell is named like the entity, and its
-// pins like the ports the other way round.
-fn pins_fall() -> &'static str {
-    "\
-V ALLIANCE : 6
-H n,P,01/01/2000,100
-A 0,0,3500,6500
-C 500,300,600,vss,0,WEST,ALU1
-C 500,4700,600,vdd,0,WEST,ALU1
-C 1500,5500,200,a,0,WEST,ALU2
-C 1500,6000,200,z,0,WEST,ALU2
-I 1500,0,n,g0,NOSYM
-S 500,300,3000,300,600,vss,RIGHT,ALU1
-S 500,4700,3000,4700,600,vdd,RIGHT,ALU1
-S 500,300,500,300,200,vss,UP,ALU3
-V 500,300,CONT_VIA,vss
-V 500,300,CONT_VIA2,vss
-S 1000,4700,1000,4700,200,vdd,UP,ALU3
-V 1000,4700,CONT_VIA,vdd
-V 1000,4700,CONT_VIA2,vdd
-S 1500,5500,2000,5500,200,a,RIGHT,ALU2
-S 2000,1500,2000,5500,200,a,UP,ALU3
-V 2000,1500,CONT_VIA,a
-V 2000,1500,CONT_VIA2,a
-V 2000,5500,CONT_VIA2,a
-S 1500,6000,2500,6000,200,z,RIGHT,ALU2
-S 2500,1000,2500,6000,200,z,UP,ALU3
-V 2500,1000,CONT_VIA,z
-V 2500,1000,CONT_VIA2,z
-V 2500,6000,CONT_VIA2,z
-EOF
-"
-}
-
-// Both fall.
-fn both_fall() -> &'static str {
-    "\
-V ALLIANCE : 6
-H m_2,P,01/01/2000,100
-A 0,0,3500,6500
-C 500,300,600,vss,0,WEST,ALU1
-C 500,4700,600,vdd,0,WEST,ALU1
-C 1500,5500,200,o,0,WEST,ALU2
-C 1500,6000,200,o1,0,WEST,ALU2
-I 1500,0,n1,g0,NOSYM
-S 500,300,3000,300,600,vss,RIGHT,ALU1
-S 500,4700,3000,4700,600,vdd,RIGHT,ALU1
-S 500,300,500,300,200,vss,UP,ALU3
-V 500,300,CONT_VIA,vss
-V 500,300,CONT_VIA2,vss
-S 1000,4700,1000,4700,200,vdd,UP,ALU3
-V 1000,4700,CONT_VIA,vdd
-V 1000,4700,CONT_VIA2,vdd
-S 1500,5500,2500,5500,200,o,RIGHT,ALU2
-S 2500,1000,2500,5500,200,o,UP,ALU3
-V 2500,1000,CONT_VIA,o
-V 2500,1000,CONT_VIA2,o
-V 2500,5500,CONT_VIA2,o
-S 1500,6000,2000,6000,200,o1,RIGHT,ALU2
-S 2000,1500,2000,6000,200,o1,UP,ALU3
-V 2000,1500,CONT_VIA,o1
-V 2000,1500,CONT_VIA2,o1
-V 2000,6000,CONT_VIA2,o1
-EOF
-"
-}
 
 const TOOLS: &str = "usage: alliance flow ARGUMENTS\n";
 
@@ -151,16 +18,24 @@ const TOO_LONG: &str = "a2345678901234567890123456789012345678901234567890123456
 
 const ROW: &str = "flow row1.vbe -l lib -o out --tracks";
 
-// What is asked, and what it has to come to: the words, the call of the shelf and the put that fail (0 for none), the
-// status, what is printed, and the layout that is there afterwards.
+// The riser of net 0 in the first run's layout.
+const ROW_RISER: &str = "S 2000,1000,2000,5500,200,i,UP,ALU3\n";
+
+// What goes wrong, and the status that is wanted: the call of the shelf and the put that fail, 0 for none.
 #[derive(Clone, Copy)]
-struct Case<'a> {
-    line: &'a str,
+struct Case {
     call: u64,
     put: u64,
     code: u8,
-    printed: &'a str,
-    layout: Option<&'a str>,
+}
+
+// Nothing goes wrong.
+fn ends(code: u8) -> Case {
+    Case {
+        call: 0,
+        put: 0,
+        code,
+    }
 }
 
 // The words of a line, which blanks part.
@@ -172,33 +47,44 @@ fn words(alloc: Global, line: &str) -> Result<Words, AllocError> {
     Ok(words)
 }
 
-fn has_layout(alloc: Global, files: &FileMap, layout: Option<&str>) -> Result<bool, AllocError> {
-    match layout {
-        Some(bytes) => holds(alloc, files, "out.ap", bytes.as_bytes()),
-        None => Ok(!has(alloc, files, "out.ap")?),
+// Whether NAME.ap holds this line; for no line, whether it isn't there.
+fn has_layout(alloc: Global, files: &FileMap, riser: &str) -> Result<bool, AllocError> {
+    if riser.is_empty() {
+        return Ok(!has(alloc, files, "out.ap")?);
     }
+    has_line(alloc, files, "out.ap", riser)
 }
 
-// Runs the words over the files, and compares.
+// The status. It has no contract of its own, so that the tests rest on what is run alone.
+fn status(alloc: Global, words: &Words, shelf: &mut MemShelf, out: &mut MemSink) -> u8 {
+    alliance_main(alloc, words, shelf, out).code()
+}
+
+// Runs the words over the files, and compares the status, what is printed and the layout.
 fn expect(
     rt: &impl Abort,
     alloc: Global,
-    what: &str,
     files: FileMap,
-    case: &Case,
+    line: &str,
+    case: Case,
+    printed: &str,
+    riser: &str,
 ) -> Result<(), AllocError> {
-    let words = words(alloc, case.line)?;
+    let words = words(alloc, line)?;
     let mut shelf = MemShelf::begin(files, failing(alloc, case.call)?);
     let mut out = MemSink::begin(alloc, failing(alloc, case.put)?);
-    let code = alliance_main(alloc, &words, &mut shelf, &mut out).code();
-    let is_right = has_layout(alloc, shelf.files(), case.layout)?;
-    assert!(rt; code == case.code, "{what}: the status");
-    assert!(rt;
-        out.bytes() == case.printed.as_bytes(),
-        "{what}: what is printed"
-    );
-    assert!(rt; is_right, "{what}: the layout");
+    let code = status(alloc, &words, &mut shelf, &mut out);
+    let is_printed = out.bytes() == printed.as_bytes();
+    let is_drawn = has_layout(alloc, shelf.files(), riser)?;
+    assert!(rt; code == case.code, "{line}: the status");
+    assert!(rt; is_printed, "{line}: {printed} is printed");
+    assert!(rt; is_drawn, "{line}: the layout");
     Ok(())
+}
+
+// Nothing is drawn, and that is said.
+fn beyond(rt: &impl Abort, alloc: Global, files: FileMap) -> Result<(), AllocError> {
+    expect(rt, alloc, files, ROW, ends(10), "flow: beyond\n", "")
 }
 
 // The files of one inverter and one cell.
@@ -241,39 +127,42 @@ fn row_with(alloc: Global, name: &str, bytes: &[u8]) -> Result<FileMap, AllocErr
     Ok(files)
 }
 
+// These names are drawn, with this riser of net 0.
+fn drawn(
+    rt: &impl Abort,
+    alloc: Global,
+    source: &[&str; 3],
+    cell: &[&str; 3],
+    riser: &str,
+) -> Result<(), AllocError> {
+    let files = files_of(alloc, source, cell)?;
+    let printed = report(alloc, source[0])?;
+    expect(rt, alloc, files, ROW, ends(0), printed.as_str(), riser)
+}
+
 #[test]
 fn layouts_of_all_orders_of_names(rt: HostRuntime) -> Result<(), Fail> {
     let alloc = rt.alloc();
-    for (source, cell, layout) in &[
-        (["row1", "i", "nq"], ["inv_x1", "i", "nq"], both_rise()),
-        (["swap", "x", "b"], ["inv_x1", "i", "nq"], ports_fall()),
-        (["n", "a", "z"], ["n", "z", "a"], pins_fall()),
-        (["m_2", "o1", "o"], ["n1", "z", "row1"], both_fall()),
-    ] {
-        let files = files_of(alloc, source, cell)?;
-        let printed = report(alloc, source[0])?;
-        let case = Case {
-            line: "flow --tracks -o out row1.vbe -l lib",
-            call: 0,
-            put: 0,
-            code: 0,
-            printed: printed.as_str(),
-            layout: Some(*layout),
-        };
-        expect(&rt, alloc, source[0], files, &case)?;
-    }
+    let cell = ["inv_x1", "i", "nq"];
+    drawn(&rt, alloc, &["row1", "i", "nq"], &cell, ROW_RISER)?;
+    let riser = "S 2500,1500,2500,5500,200,b,UP,ALU3\n";
+    drawn(&rt, alloc, &["swap", "x", "b"], &cell, riser)?;
+    let riser = "S 2000,1500,2000,5500,200,a,UP,ALU3\n";
+    drawn(&rt, alloc, &["n", "a", "z"], &["n", "z", "a"], riser)?;
+    let riser = "S 2500,1000,2500,5500,200,o,UP,ALU3\n";
+    drawn(&rt, alloc, &["m_2", "o1", "o"], &["n1", "z", "row1"], riser)?;
     Ok(())
 }
 
-// Nothing is drawn, and that is said.
-const BEYOND: Case = Case {
-    line: ROW,
-    call: 0,
-    put: 0,
-    code: 10,
-    printed: "flow: beyond\n",
-    layout: None,
-};
+#[test]
+fn the_longest_names_are_drawn(rt: HostRuntime) -> Result<(), Fail> {
+    let alloc = rt.alloc();
+    let cell = ["inv_x1", "i", "nq"];
+    drawn(&rt, alloc, &[LONGEST, "i", "nq"], &cell, ROW_RISER)?;
+    let riser = "S 2000,1000,2000,5500,200,i_,UP,ALU3\n";
+    drawn(&rt, alloc, &["vbe", "i_", "n9"], &cell, riser)?;
+    Ok(())
+}
 
 #[test]
 fn names_that_no_port_may_have_are_beyond(rt: HostRuntime) -> Result<(), Fail> {
@@ -296,25 +185,7 @@ fn names_that_no_port_may_have_are_beyond(rt: HostRuntime) -> Result<(), Fail> {
         ["row1", "i", ""],
     ] {
         let files = files_of(alloc, names, &["inv_x1", "i", "nq"])?;
-        expect(&rt, alloc, names[1], files, &BEYOND)?;
-    }
-    Ok(())
-}
-
-#[test]
-fn names_that_a_port_may_have(rt: HostRuntime) -> Result<(), Fail> {
-    let alloc = rt.alloc();
-    for names in &[
-        [LONGEST, "i", "nq"],
-        ["row1", LONGEST, "nq"],
-        ["vbe", "i_", "n9"],
-    ] {
-        let files = files_of(alloc, names, &["inv_x1", "i", "nq"])?;
-        let words = words(alloc, ROW)?;
-        let mut shelf = MemShelf::begin(files, failing(alloc, 0)?);
-        let mut out = MemSink::begin(alloc, failing(alloc, 0)?);
-        let code = alliance_main(alloc, &words, &mut shelf, &mut out).code();
-        assert!(rt; code == 0);
+        beyond(&rt, alloc, files)?;
     }
     Ok(())
 }
@@ -342,7 +213,7 @@ fn other_files_are_beyond(rt: HostRuntime) -> Result<(), Fail> {
         ("lib/inv_x1.ap", ""),
     ] {
         let files = row_with(alloc, name, bytes.as_bytes())?;
-        expect(&rt, alloc, name, files, &BEYOND)?;
+        beyond(&rt, alloc, files)?;
     }
     Ok(())
 }
@@ -357,7 +228,7 @@ fn long_files_are_beyond(rt: HostRuntime) -> Result<(), Fail> {
     ] {
         let bytes = vec![in alloc; b' '; *length]?;
         let files = row_with(alloc, name, &bytes)?;
-        expect(&rt, alloc, name, files, &BEYOND)?;
+        beyond(&rt, alloc, files)?;
     }
     Ok(())
 }
@@ -375,11 +246,10 @@ fn calls_that_fail_are_named(rt: HostRuntime) -> Result<(), Fail> {
     ] {
         let case = Case {
             call: *call,
+            put: 0,
             code: 7,
-            printed: *printed,
-            ..BEYOND
         };
-        expect(&rt, alloc, printed, row(alloc)?, &case)?;
+        expect(&rt, alloc, row(alloc)?, ROW, case, printed, "")?;
     }
     Ok(())
 }
@@ -388,21 +258,17 @@ fn calls_that_fail_are_named(rt: HostRuntime) -> Result<(), Fail> {
 fn a_put_that_fails_leaves_the_layout(rt: HostRuntime) -> Result<(), Fail> {
     let alloc = rt.alloc();
     let report_fails = Case {
+        call: 0,
         put: 1,
         code: 7,
-        printed: "",
-        layout: Some(both_rise()),
-        ..BEYOND
     };
-    expect(&rt, alloc, "the report", row(alloc)?, &report_fails)?;
+    expect(&rt, alloc, row(alloc)?, ROW, report_fails, "", ROW_RISER)?;
     let line_fails = Case {
         call: 3,
         put: 1,
         code: 7,
-        printed: "",
-        ..BEYOND
     };
-    expect(&rt, alloc, "a refusal's line", row(alloc)?, &line_fails)?;
+    expect(&rt, alloc, row(alloc)?, ROW, line_fails, "", "")?;
     Ok(())
 }
 
@@ -431,27 +297,14 @@ fn files_that_lack_are_named(rt: HostRuntime) -> Result<(), Fail> {
         (3, "flow: file: missing lib/inv_x1.ap\n"),
     ] {
         let files = first_files(alloc, *count)?;
-        let case = Case {
-            code: 7,
-            printed: *printed,
-            ..BEYOND
-        };
-        expect(&rt, alloc, printed, files, &case)?;
+        expect(&rt, alloc, files, ROW, ends(7), printed, "")?;
     }
     Ok(())
 }
 
 // These words spell no command.
 fn usage(rt: &impl Abort, alloc: Global, line: &str, printed: &str) -> Result<(), AllocError> {
-    let case = Case {
-        line,
-        call: 0,
-        put: 0,
-        code: 1,
-        printed,
-        layout: None,
-    };
-    expect(rt, alloc, line, row(alloc)?, &case)
+    expect(rt, alloc, row(alloc)?, line, ends(1), printed, "")
 }
 
 #[test]
@@ -477,10 +330,15 @@ fn words_are_taken_in_any_order(rt: HostRuntime) -> Result<(), Fail> {
     for line in ["--tracks flow", "cougar out.ap", ""] {
         usage(&rt, alloc, line, TOOLS)?;
     }
-    let machine = Case {
-        line: "flow row1.fsm -l lib -o out --tracks",
-        ..BEYOND
-    };
-    expect(&rt, alloc, "a state machine", row(alloc)?, &machine)?;
+    let machine = "flow row1.fsm -l lib -o out --tracks";
+    expect(
+        &rt,
+        alloc,
+        row(alloc)?,
+        machine,
+        ends(10),
+        "flow: beyond\n",
+        "",
+    )?;
     Ok(())
 }

@@ -3,6 +3,7 @@
 use crate::texts::{add, failing, has, holds};
 use std::alloc::Global;
 use std::env;
+use std::process::Abort;
 use std::test::Fail;
 use vlsi_base::FileName;
 use vlsi_shelf::{
@@ -13,32 +14,91 @@ fn named(alloc: Global, name: &str) -> Result<FileName, Fail> {
     Ok(FileName::from_bytes(alloc, name.as_bytes())?)
 }
 
-#[test]
-fn a_shelf_in_memory(rt: HostRuntime) -> Result<(), Fail> {
-    let alloc = rt.alloc();
+// Writes a whole file.
+fn write(alloc: Global, shelf: &mut impl Shelf, name: &str, bytes: &[u8]) -> Result<(), Fail> {
+    let name = named(alloc, name)?;
+    Ok(shelf.write(alloc, &name, bytes)?)
+}
+
+// These bytes are read.
+fn reads(
+    rt: &impl Abort,
+    alloc: Global,
+    shelf: &mut impl Shelf,
+    name: &str,
+    limit: u64,
+    wanted: &[u8],
+) -> Result<(), Fail> {
+    let name = named(alloc, name)?;
+    let found = shelf.read(alloc, &name, limit)?;
+    let is_wanted = found.as_bytes() == wanted;
+    assert!(rt; is_wanted, "{limit}: the bytes");
+    Ok(())
+}
+
+// There is no such file.
+fn misses(
+    rt: &impl Abort,
+    alloc: Global,
+    shelf: &mut impl Shelf,
+    name: &FileName,
+) -> Result<(), Fail> {
+    let is_missing = matches!(shelf.read(alloc, name, 9), Err(ShelfError::Missing));
+    assert!(rt; is_missing, "a file that isn't there");
+    Ok(())
+}
+
+// The write fails.
+fn writes_not(
+    rt: &impl Abort,
+    alloc: Global,
+    shelf: &mut impl Shelf,
+    name: &str,
+) -> Result<(), Fail> {
+    let name = named(alloc, name)?;
+    let is_failed = matches!(shelf.write(alloc, &name, b"x"), Err(ShelfError::Failed));
+    assert!(rt; is_failed, "a write that fails");
+    Ok(())
+}
+
+// One file.
+fn one_file(alloc: Global) -> Result<FileMap, Fail> {
     let mut files = FileMap::new(alloc);
     add(alloc, &mut files, "a", b"0123456789")?;
-    let mut shelf = MemShelf::begin(files, failing(alloc, 3)?);
-    let a = named(alloc, "a")?;
-    let b = named(alloc, "b")?;
-    let part = shelf.read(alloc, &a, 3)?;
-    assert_eq!(rt; part.as_bytes(), b"0123".as_slice());
-    let all = shelf.read(alloc, &a, 10)?;
-    assert_eq!(rt; all.as_bytes(), b"0123456789".as_slice());
-    // The third call fails, whatever it is, and changes nothing.
-    assert!(rt; matches!(shelf.write(alloc, &a, b"x"), Err(ShelfError::Failed)));
-    assert!(rt; holds(alloc, shelf.files(), "a", b"0123456789")?);
-    assert!(rt; matches!(shelf.read(alloc, &b, 9), Err(ShelfError::Missing)));
-    shelf.write(alloc, &b, b"new")?;
-    shelf.write(alloc, &a, b"")?;
-    assert!(rt; holds(alloc, shelf.files(), "b", b"new")?);
-    assert!(rt; holds(alloc, shelf.files(), "a", b"")?);
+    Ok(files)
+}
 
-    let mut calm = NoFaultShelf::begin(FileMap::new(alloc));
-    assert!(rt; matches!(calm.read(alloc, &a, 9), Err(ShelfError::Missing)));
-    calm.write(alloc, &a, b"text")?;
-    assert_eq!(rt; calm.read(alloc, &a, 3)?.as_bytes(), b"text".as_slice());
-    assert!(rt; !has(alloc, calm.files(), "b")?);
+#[test]
+fn a_call_that_fails_changes_nothing(rt: HostRuntime) -> Result<(), Fail> {
+    let alloc = rt.alloc();
+    let mut shelf = MemShelf::begin(one_file(alloc)?, failing(alloc, 3)?);
+    reads(&rt, alloc, &mut shelf, "a", 3, b"0123")?;
+    reads(&rt, alloc, &mut shelf, "a", 10, b"0123456789")?;
+    writes_not(&rt, alloc, &mut shelf, "a")?;
+    reads(&rt, alloc, &mut shelf, "a", 10, b"0123456789")
+}
+
+#[test]
+fn files_in_memory_are_written(rt: HostRuntime) -> Result<(), Fail> {
+    let alloc = rt.alloc();
+    let mut shelf = MemShelf::begin(one_file(alloc)?, failing(alloc, 0)?);
+    write(alloc, &mut shelf, "b", b"new")?;
+    write(alloc, &mut shelf, "a", b"")?;
+    let has_b = holds(alloc, shelf.files(), "b", b"new")?;
+    let has_a = holds(alloc, shelf.files(), "a", b"")?;
+    assert!(rt; has_b && has_a);
+    Ok(())
+}
+
+#[test]
+fn a_shelf_without_faults(rt: HostRuntime) -> Result<(), Fail> {
+    let alloc = rt.alloc();
+    let mut shelf = NoFaultShelf::begin(FileMap::new(alloc));
+    misses(&rt, alloc, &mut shelf, &named(alloc, "a")?)?;
+    write(alloc, &mut shelf, "a", b"text")?;
+    reads(&rt, alloc, &mut shelf, "a", 3, b"text")?;
+    let has_b = has(alloc, shelf.files(), "b")?;
+    assert!(rt; !has_b);
     Ok(())
 }
 
@@ -59,30 +119,33 @@ fn the_files_of_the_machine(rt: HostRuntime) -> Result<(), Fail> {
     let folder = env::temp_dir(&rt)?;
     let folder = folder.as_path().to_str().expect(&rt, "a folder's name");
     let name = format!(in alloc; "{folder}/vlsi_shelf_test_of_files")?;
-    let file = named(alloc, name.as_str())?;
     let mut shelf = DirShelf::begin(&rt);
     // More bytes than one read takes.
     let bytes = vec![in alloc; b'x'; 10_000]?;
-    shelf.write(alloc, &file, &bytes)?;
-    assert_eq!(rt;
-        shelf.read(alloc, &file, 10_000)?.as_bytes(),
-        bytes.as_slice()
-    );
-    assert_eq!(rt; shelf.read(alloc, &file, 4_999)?.as_bytes().len(), 5_000);
-    shelf.write(alloc, &file, b"short")?;
-    assert_eq!(rt;
-        shelf.read(alloc, &file, 4)?.as_bytes(),
-        b"short".as_slice()
-    );
-    assert_eq!(rt; shelf.read(alloc, &file, 3)?.as_bytes(), b"shor".as_slice());
-    // No such file, a name that is no text, a folder, and a file in a folder that isn't there.
-    let none = named(alloc, "/nowhere/at/all")?;
-    assert!(rt; matches!(shelf.read(alloc, &none, 9), Err(ShelfError::Missing)));
+    write(alloc, &mut shelf, name.as_str(), &bytes)?;
+    reads(&rt, alloc, &mut shelf, name.as_str(), 10_000, &bytes)?;
+    write(alloc, &mut shelf, name.as_str(), b"short")?;
+    reads(&rt, alloc, &mut shelf, name.as_str(), 3, b"shor")
+}
+
+#[test]
+fn files_that_the_machine_has_not(rt: HostRuntime) -> Result<(), Fail> {
+    let alloc = rt.alloc();
+    let mut shelf = DirShelf::begin(&rt);
+    misses(&rt, alloc, &mut shelf, &named(alloc, "/nowhere/at/all")?)?;
+    // A name that is no text.
     let no_text = FileName::from_bytes(alloc, &[0xff, 0xfe])?;
-    assert!(rt; matches!(shelf.read(alloc, &no_text, 9), Err(ShelfError::Missing)));
-    let folder = named(alloc, folder)?;
-    assert!(rt; matches!(shelf.read(alloc, &folder, 9), Err(ShelfError::Failed)));
-    assert!(rt; matches!(shelf.write(alloc, &none, b"x"), Err(ShelfError::Failed)));
+    misses(&rt, alloc, &mut shelf, &no_text)?;
+    writes_not(&rt, alloc, &mut shelf, "/nowhere/at/all")
+}
+
+#[test]
+fn a_folder_is_no_file(rt: HostRuntime) -> Result<(), Fail> {
+    let alloc = rt.alloc();
+    let folder = named(alloc, "/")?;
+    let mut shelf = DirShelf::begin(&rt);
+    let is_failed = matches!(shelf.read(alloc, &folder, 9), Err(ShelfError::Failed));
+    assert!(rt; is_failed);
     Ok(())
 }
 

@@ -30,7 +30,24 @@ pub fn add(alloc: Global, files: &mut FileMap, name: &str, bytes: &[u8]) -> Resu
     files.insert(name, bytes)
 }
 
-/// What a file holds.
+/// Whether a file is text that holds this line.
+pub fn has_line(
+    alloc: Global,
+    files: &FileMap,
+    name: &str,
+    line: &str,
+) -> Result<bool, AllocError> {
+    let name = FileName::from_bytes(alloc, name.as_bytes())?;
+    Ok(match files.get(&name) {
+        Some(found) => match str::from_utf8(found.as_bytes()) {
+            Ok(text) => text.contains(line),
+            Err(_) => false,
+        },
+        None => false,
+    })
+}
+
+/// Whether a file has these bytes.
 pub fn holds(alloc: Global, files: &FileMap, name: &str, bytes: &[u8]) -> Result<bool, AllocError> {
     let name = FileName::from_bytes(alloc, name.as_bytes())?;
     Ok(match files.get(&name) {
