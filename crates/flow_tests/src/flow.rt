@@ -193,14 +193,13 @@ fn names_that_no_port_may_have_are_beyond(rt: HostRuntime) -> Result<(), Fail> {
 #[test]
 fn other_files_are_beyond(rt: HostRuntime) -> Result<(), Fail> {
     let alloc = rt.alloc();
-    let cell = first(alloc, "inv_x1", "i", "nq")?;
     let renamed = first(alloc, "inv_x2", "i", "nq")?;
     let turned = first(alloc, "inv_x1", "nq", "i")?;
     let behind = format!(in alloc; "{}\n", first(alloc, "row1", "i", "nq")?.as_str())?;
     for (name, bytes) in &[
         ("row1.vbe", ""),
         ("row1.vbe", behind.as_str()),
-        ("row1.vbe", cell.as_str().split_at(40).0),
+        ("row1.vbe", "entity row1 is port (i : in bit;"),
         ("lib/CATAL", "inv_x1 C"),
         ("lib/CATAL", "inv_x1 F\n"),
         ("lib/CATAL", "inv_x1  C\n"),
