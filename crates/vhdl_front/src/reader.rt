@@ -270,6 +270,7 @@ impl<'a> TokenReader<'a> {
         ensures kept { IsNone (front self.old).refused → (front self.old).room ≡ 0 → (front self.new).refused ≡ Some (ReadError.Limit (record { which = LimitKind.Depth; reached = DEPTH + 1 })) }
         ensures open { IsNone (front self.old).refused → 0 < (front self.old).room → IsNone (front self.new).refused }
         ensures here { (front self.new).here ≡ (front self.old).here }
+        ensures same { ((front self.new).last_line ≡ (front self.old).last_line) × ((front self.new).pragmas ≡ (front self.old).pragmas) }
     {
         if let Some(error) = &self.refused {
             return Err(repeat(self.cursor.alloc, error));
@@ -290,6 +291,7 @@ impl<'a> TokenReader<'a> {
         ensures room { (front self.new).room ≡ (front self.old).room + 1 }
         ensures here { (front self.new).here ≡ (front self.old).here }
         ensures refused { (front self.new).refused ≡ (front self.old).refused }
+        ensures same { ((front self.new).last_line ≡ (front self.old).last_line) × ((front self.new).pragmas ≡ (front self.old).pragmas) }
     {
         self.room += 1;
     }
