@@ -16,6 +16,7 @@ token_with form.BitText = token.Quoted []
 token_with form.OtherText = token.Quoted (0 ∷ [])
 token_with form.BitString = token.BitString base.Binary []
 token_with form.OtherBitString = token.BitString base.Binary (0 ∷ [])
+token_with form.Digits = token.Digits []
 token_with (form.Sign s) = token.Sign s
 token_with (form.Keyword word) = token.Keyword word
 
@@ -31,5 +32,6 @@ some_of-code form.BitText = refl
 some_of-code form.OtherText = refl
 some_of-code form.BitString = refl
 some_of-code form.OtherBitString = refl
+some_of-code form.Digits = refl
 some_of-code (form.Sign s) = refl
 some_of-code (form.Keyword word) = refl

@@ -29,6 +29,8 @@ pub data Mark : Type 0 where
   counts : ℕ → Mark
   -- a name that has to be the first of these, and is the second
   spells : List ℕ → List ℕ → Mark
+  -- a token that has to be right as it is spelled, and is or isn't
+  fits : Bool → Mark
 
 -- a token of a sentence
 pub record Item : Type 0 where
@@ -58,7 +60,8 @@ acts (opens n) s = if n == 0 then Err broken.Depth else Ok s
 acts operator s = if nat_lt s.operators CHAIN then Ok (record s { operators = s.operators + 1 }) else Err broken.Chain
 acts (declares line name) s = if is_declared name s.names then Err (broken.Twice line name) else Ok (record s { names = insert_key (slice_cmp nat_cmp) s.names name })
 acts (counts n) s = if nat_lt BITS (s.bits + n) then Err (broken.Bits (min (s.bits + n) (2 ^ 64 - 1))) else Ok (record s { bits = s.bits + n })
-acts (spells wanted found) s = if bytes_eq wanted found then Ok s else Err broken.OtherName
+acts (spells wanted found) s = if bytes_eq wanted found then Ok s else Err broken.Spelling
+acts (fits b) s = if b then Ok s else Err broken.Spelling
 
 -- the first token of an alternative is a breach too where this is one more than a choice may have
 abbrev pub checked : State → Result State Breach → Result State Breach

@@ -2,7 +2,7 @@
 use Rattle.std.specs.Prelude.{ℕ, ◌+◌, Bool, true, false, List, [], ◌∷◌, ◌==◌, ◌&&◌, ◌||◌, nat_le, if◌then◌else◌}
 use Rattle.std.specs.List.{list_all}
 use Rattle.vhdl_token.specs.Keyword.{keyword_number}
-use Rattle.vhdl_token.specs.Kind.{sign_number}
+use Rattle.vhdl_token.specs.Signs.{sign_number}
 use Rattle.vhdl_token.specs.declared.token.Base.{Base}
 use Rattle.vhdl_token.specs.declared.token.Base.TheVariants as base
 use Rattle.vhdl_token.specs.declared.token.Token.{Token}
@@ -28,6 +28,7 @@ form_of (token.Number n) = form.Number
 form_of (token.Bit b) = form.Bit
 form_of (token.Quoted text) = if list_all is_bit text then form.BitText else form.OtherText
 form_of (token.BitString base digits) = if list_all (is_digit_of base) digits then form.BitString else form.OtherBitString
+form_of (token.Digits digits) = form.Digits
 form_of (token.Sign s) = form.Sign s
 
 -- a number for each form
@@ -39,6 +40,7 @@ code form.BitText = 3
 code form.OtherText = 4
 code form.BitString = 5
 code form.OtherBitString = 6
+code form.Digits = 7
 code (form.Sign s) = 10 + sign_number s
 code (form.Keyword word) = 40 + keyword_number word
 

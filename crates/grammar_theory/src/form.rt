@@ -2,7 +2,7 @@
 ghost use Rattle.std.specs.Prelude.{◌≡◌, ◌<◌};
 ghost use Rattle.std.specs.List.{list_all};
 ghost use Rattle.vhdl_token.specs.Keyword.{keyword_number};
-ghost use Rattle.vhdl_token.specs.Kind.{sign_number};
+ghost use Rattle.vhdl_token.specs.Signs.{sign_number};
 ghost use Rattle.grammar_theory.specs.Tokens.{code, is_of, form_of, is_bit as is_bit_digit, is_digit_of};
 
 use vhdl_token::{Base, Keyword, PlacedToken, Sign, Token};
@@ -20,6 +20,8 @@ pub enum Form {
     /// A bit string whose digits are all of its base, perhaps without any.
     BitString,
     OtherBitString,
+    /// The digits of a pattern.
+    Digits,
     Sign(Sign),
 }
 
@@ -47,6 +49,7 @@ impl Form {
                     Form::OtherBitString
                 }
             }
+            Token::Digits(_) => Form::Digits,
             Token::Sign(sign) => Form::Sign(*sign),
         }
     }
@@ -71,6 +74,7 @@ impl Form {
             Form::OtherText => 4,
             Form::BitString => 5,
             Form::OtherBitString => 6,
+            Form::Digits => 7,
             Form::Sign(sign) => 10 + sign_code(sign),
             Form::Keyword(word) => 40 + word_code(word),
         }

@@ -16,8 +16,8 @@ pub enum Breach {
     Bits(u64),
     /// It is one operator more than an expression may have.
     Chain,
-    /// It isn't the name that has to stand here.
-    OtherName,
+    /// It is spelled otherwise than what has to stand here, which is a fault of syntax.
+    Spelling,
 }
 
 #[derive(Debug, Drop)]

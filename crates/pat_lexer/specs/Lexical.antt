@@ -6,7 +6,7 @@ use Rattle.vlsi_base.specs.Number.{value_of}
 use Rattle.pat_lexer.specs.declared.token.Token.TheVariants as token
 use Rattle.vhdl_token.specs.declared.token.Sign.{Sign}
 use Rattle.vhdl_token.specs.declared.token.Sign.TheVariants as sign
-use Rattle.vhdl_token.specs.Kind.{sign_text}
+use Rattle.vhdl_token.specs.Signs.{sign_text}
 use Rattle.pat_lexer.specs.declared.piece.Piece.{Piece}
 use Rattle.pat_lexer.specs.declared.piece.Piece.TheVariants as piece
 use Rattle.pat_lexer.specs.Bytes.{is_blank, is_letter_or_digit, is_in_word, is_in_quotes, is_on_line}

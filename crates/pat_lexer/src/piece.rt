@@ -3,7 +3,7 @@ ghost use Rattle.std.specs.Prelude.{◌≡◌, ◌<◌, ◌≤◌, ◌-◌, ◌^
 ghost use Rattle.std.specs.List.{starts_with};
 ghost use Rattle.std.specs.Char.{is_ascii_digit};
 ghost use Rattle.vlsi_base.specs.Number.{value_of};
-ghost use Rattle.vhdl_token.specs.Kind.{sign_text};
+ghost use Rattle.vhdl_token.specs.Signs.{sign_text};
 ghost use Rattle.pat_lexer.specs.Bytes.{is_in_word, is_letter_or_digit as is_letter_or_digit_byte};
 ghost use Rattle.pat_lexer.specs.Listing.{value_behind};
 ghost use Rattle.pat_lexer.specs.Lexical.{IsWithin, length_of, quoted_length, quotation_at, digits_at, word_at, number_at, sign_among, sign_at, comment_at, piece_at};

@@ -14,9 +14,9 @@ use Rattle.vhdl_front.specs.declared.counts.Counts.{Counts}
 abbrev pub names_of : Counts → List (List ℕ)
 names_of c = map (λ name. name.items) c.names.keys
 
--- what was counted so far; choices are no matter of this reader
+-- what was counted so far
 abbrev pub state_of : Counts → State
-state_of c = record { names = names_of c; bits = c.bits; operators = c.operators; alternatives = 0 }
+state_of c = record { names = names_of c; bits = c.bits; operators = c.operators; alternatives = c.alternatives }
 
 abbrev pub at_of : Counts → List PlacedToken → At
 at_of counts rest = record { state = state_of counts; rest = rest }

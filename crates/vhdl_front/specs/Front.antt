@@ -39,7 +39,7 @@ breach_error line (broken.Twice begins name) = errors.Input (record { line = beg
 breach_error line broken.Depth = errors.Limit (record { which = limit.Depth; reached = DEPTH + 1 })
 breach_error line (broken.Bits n) = errors.Limit (record { which = limit.Bits; reached = n })
 breach_error line broken.Chain = errors.Limit (record { which = limit.Chain; reached = CHAIN + 1 })
-breach_error line broken.OtherName = syntax_on line
+breach_error line broken.Spelling = syntax_on line
 
 abbrev pub reason_error : ℕ → Reason → ReadError
 reason_error line reason.Syntax = syntax_on line

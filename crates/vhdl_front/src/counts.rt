@@ -10,13 +10,14 @@ ghost use Rattle.vhdl_front.specs.Cursor.{names_of};
 use std::alloc::{AllocError, Global};
 use std::collections::BTreeSet;
 
-/// What is counted over the tokens: the names that are declared, their bits, and the operators of the expression
-/// that is read.
+/// What is counted over the tokens: the names that are declared, their bits, the operators of the expression that is
+/// read, and the alternatives of its choice.
 #[derive(Drop)]
 pub struct Counts {
     pub names: BTreeSet<Vec<u8>>,
     pub bits: u64,
     pub operators: u32,
+    pub alternatives: u32,
 }
 
 impl Counts {
@@ -25,11 +26,13 @@ impl Counts {
         ensures names { result.names.keys ≡ [] }
         ensures bits { result.bits ≡ 0 }
         ensures operators { result.operators ≡ 0 }
+        ensures alternatives { result.alternatives ≡ 0 }
     {
         Counts {
             names: BTreeSet::new(alloc),
             bits: 0,
             operators: 0,
+            alternatives: 0,
         }
     }
 
@@ -40,6 +43,7 @@ impl Counts {
         ensures kept { IfOk result (λ added. OnFalse added (names_of self.new ≡ names_of self.old)) }
         ensures bits { self.new.bits ≡ self.old.bits }
         ensures operators { self.new.operators ≡ self.old.operators }
+        ensures alternatives { self.new.alternatives ≡ self.old.alternatives }
     {
         let key = name.to_vec(alloc)?;
         let added = self.names.insert(key)?;

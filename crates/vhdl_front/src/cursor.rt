@@ -1,8 +1,8 @@
 // Taking tokens, with what each does beside standing in its place.
-ghost use Rattle.std.specs.Prelude.{◌≡◌, ◌∷◌, ◌<◌, ◌+◌, ◌-◌, ◌*◌, ◌^◌, min, Ok, IfOk, IfErr, IsTrue, true, option_copied};
+ghost use Rattle.std.specs.Prelude.{◌≡◌, ◌∷◌, ◌<◌, ◌+◌, ◌-◌, ◌*◌, ◌^◌, min, Ok, IfOk, OnOk, IfErr, IsTrue, true, false, nat_lt, option_copied};
 ghost use Rattle.vhdl_token.specs.declared.token.PlacedToken.{PlacedToken};
 ghost use Rattle.grammar_theory.specs.Tokens.{is_of, is_at};
-ghost use Rattle.grammar_theory.specs.Marks.{Mark, State, starts, opens, operator, declares, counts, spells, step};
+ghost use Rattle.grammar_theory.specs.Marks.{Mark, State, starts, chooses, again, opens, operator, declares, counts, spells, fits, step};
 ghost use Rattle.grammar_theory.specs.Outcome.{Gives, Fails, passed, take_from, take_at, take_marked, refusal};
 ghost use Rattle.grammar_theory.specs.declared.form.Form.TheVariants.{Identifier};
 ghost use Rattle.vhdl_front.specs.Cursor.{at_of, state_of, name_of};
@@ -53,11 +53,23 @@ impl<'a> Cursor<'a> {
         }
     }
 
+    /// The first token of an alternative is refused where this is one more than a choice may have.
+    fn admit(&self) -> Result<(), Stop>
+        ensures ok { OnOk result (nat_lt CHAIN self.now.counts.alternatives ≡ false) }
+        ensures err { IfErr result (λ e. (nat_lt CHAIN self.now.counts.alternatives ≡ true) × (e ≡ Stop.Refused (refusal (Reason.Breach Breach.Chain) self.now.rest.now))) }
+    {
+        if self.counts.alternatives > CHAIN {
+            return Err(self.refuse(Reason::Breach(Breach::Chain)));
+        }
+        Ok(())
+    }
+
     #[tactic(auto, unfolding(grammar_theory::specs::Marks::step))]
     pub fn take(&mut self, form: Form) -> Result<&'a PlacedToken, Stop>
         ensures { Gives (λ t. t.now) result (at_of self.new.counts self.new.rest.now) (take_at form (at_of self.old.counts self.old.rest.now)) }
     {
         let (next, rest) = self.next(form)?;
+        self.admit()?;
         self.rest = rest;
         Ok(next)
     }
@@ -71,6 +83,7 @@ impl<'a> Cursor<'a> {
         if self.counts.operators >= CHAIN {
             return Err(self.refuse(Reason::Breach(Breach::Chain)));
         }
+        self.admit()?;
         self.counts.operators += 1;
         self.rest = rest;
         Ok(next)
@@ -82,7 +95,52 @@ impl<'a> Cursor<'a> {
         ensures { Gives (λ t. t.now) result (at_of self.new.counts self.new.rest.now) (take_marked form (λ _. starts) (at_of self.old.counts self.old.rest.now)) }
     {
         let (next, rest) = self.next(form)?;
+        self.admit()?;
         self.counts.operators = 0;
+        self.rest = rest;
+        Ok(next)
+    }
+
+    /// A token behind which a choice begins, with its first alternative.
+    #[tactic(auto, unfolding(grammar_theory::specs::Marks::step))]
+    pub fn take_choosing(&mut self, form: Form) -> Result<&'a PlacedToken, Stop>
+        ensures { Gives (λ t. t.now) result (at_of self.new.counts self.new.rest.now) (take_marked form (λ _. chooses) (at_of self.old.counts self.old.rest.now)) }
+    {
+        let (next, rest) = self.next(form)?;
+        self.admit()?;
+        self.counts.operators = 0;
+        self.counts.alternatives = 1;
+        self.rest = rest;
+        Ok(next)
+    }
+
+    /// A token behind which a further alternative of a choice begins.
+    #[tactic(auto, unfolding(grammar_theory::specs::Marks::step))]
+    pub fn take_again(&mut self, form: Form) -> Result<&'a PlacedToken, Stop>
+        ensures { Gives (λ t. t.now) result (at_of self.new.counts self.new.rest.now) (take_marked form (λ _. again) (at_of self.old.counts self.old.rest.now)) }
+    {
+        let (next, rest) = self.next(form)?;
+        self.admit()?;
+        self.counts.operators = 0;
+        self.counts.alternatives += 1;
+        self.rest = rest;
+        Ok(next)
+    }
+
+    /// A token that has to be right as it is spelled, which `is_right` says of it.
+    #[tactic(auto, unfolding(grammar_theory::specs::Marks::step))]
+    pub fn take_fitting(
+        &mut self,
+        form: Form,
+        is_right: bool,
+    ) -> Result<&'a PlacedToken, Stop>
+        ensures { Gives (λ t. t.now) result (at_of self.new.counts self.new.rest.now) (take_marked form (λ _. fits is_right) (at_of self.old.counts self.old.rest.now)) }
+    {
+        let (next, rest) = self.next(form)?;
+        if !is_right {
+            return Err(self.refuse(Reason::Breach(Breach::Spelling)));
+        }
+        self.admit()?;
         self.rest = rest;
         Ok(next)
     }
@@ -97,6 +155,7 @@ impl<'a> Cursor<'a> {
         if room == 0 {
             return Err(self.refuse(Reason::Breach(Breach::Depth)));
         }
+        self.admit()?;
         self.rest = rest;
         Ok(next)
     }
@@ -116,6 +175,7 @@ impl<'a> Cursor<'a> {
         if total > BITS {
             return Err(self.refuse(Reason::Breach(Breach::Bits(total))));
         }
+        self.admit()?;
         self.counts.bits = total;
         self.rest = rest;
         Ok(next)
@@ -128,8 +188,9 @@ impl<'a> Cursor<'a> {
     {
         let (next, rest) = self.next(Form::Identifier)?;
         if wanted != name_bytes(next) {
-            return Err(self.refuse(Reason::Breach(Breach::OtherName)));
+            return Err(self.refuse(Reason::Breach(Breach::Spelling)));
         }
+        self.admit()?;
         self.rest = rest;
         Ok(next)
     }
@@ -150,6 +211,7 @@ impl<'a> Cursor<'a> {
             let name = Text::from_bytes(self.alloc, name)?;
             return Err(self.refuse(Reason::Breach(Breach::Twice(line, name))));
         }
+        self.admit()?;
         self.rest = rest;
         Ok(next)
     }

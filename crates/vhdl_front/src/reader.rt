@@ -104,7 +104,7 @@ fn breach_fault(alloc: Global, line: u32, breach: Breach) -> ReadError
         Breach::Depth => limit(LimitKind::Depth, u64::from(DEPTH) + 1),
         Breach::Bits(reached) => limit(LimitKind::Bits, reached),
         Breach::Chain => limit(LimitKind::Chain, u64::from(CHAIN) + 1),
-        Breach::OtherName => syntax(alloc, line),
+        Breach::Spelling => syntax(alloc, line),
     }
 }
 

@@ -11,7 +11,7 @@ use Rattle.vhdl_token.specs.declared.token.Base.TheVariants.{Binary, Octal, Hexa
 use Rattle.vhdl_token.specs.declared.token.Sign.{Sign}
 use Rattle.vhdl_token.specs.declared.token.Sign.TheVariants as sign
 use Rattle.vhdl_token.specs.Keyword.{keyword_of}
-use Rattle.vhdl_token.specs.Kind.{sign_text}
+use Rattle.vhdl_token.specs.Signs.{sign_text}
 use Rattle.vhdl_lexer.specs.declared.piece.Piece.{Piece}
 use Rattle.vhdl_lexer.specs.declared.piece.Piece.TheVariants as piece
 use Rattle.vhdl_lexer.specs.Bytes.{is_blank, is_in_word, is_in_quotes, is_on_line}

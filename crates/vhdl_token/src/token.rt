@@ -1,6 +1,6 @@
-// Tokens and their kinds.
+// Tokens.
 ghost use Rattle.std.specs.Prelude.{◌≡◌, ◌++◌, ◌∷◌, [], OnOk, OnErr};
-ghost use Rattle.vhdl_token.specs.Kind.{kind_of, sign_text};
+ghost use Rattle.vhdl_token.specs.Signs.{sign_text};
 
 use crate::Keyword;
 use std::alloc::AllocError;
@@ -84,10 +84,11 @@ pub enum Base {
     Hexadecimal,
 }
 
-/// The smallest part of a VHDL text that means something.
+/// The smallest part of a text that means something.
 #[derive(Debug, Drop)]
 pub enum Token {
-    /// In lower case, at most 64 bytes long, and no reserved word.
+    /// A letter, then letters, digits and underscores, at most 64 bytes together, in lower case; no word that is reserved in
+    /// its kind of text.
     Identifier(Text),
     Keyword(Keyword),
     Number(u32),
@@ -97,36 +98,9 @@ pub enum Token {
     Quoted(Text),
     /// A base and what stands between the double quotes, which may be no digits of that base.
     BitString(Base, Text),
+    /// In a pattern file a run of letters and digits between a colon and the next semicolon, of any length, in lower case.
+    Digits(Text),
     Sign(Sign),
-}
-
-/// What a grammar asks of a token: all but the text, number or bit that it carries.
-#[derive(Clone, Copy, Debug, PartialEq, Eq)]
-pub enum Kind {
-    Identifier,
-    Keyword(Keyword),
-    Number,
-    Bit,
-    Quoted,
-    BitString,
-    Sign(Sign),
-}
-
-impl Token {
-    /// Takes no memory.
-    pub fn kind(&self) -> Kind
-        ensures { result ≡ kind_of self.now }
-    {
-        match self {
-            Token::Identifier(_) => Kind::Identifier,
-            Token::Keyword(word) => Kind::Keyword(*word),
-            Token::Number(_) => Kind::Number,
-            Token::Bit(_) => Kind::Bit,
-            Token::Quoted(_) => Kind::Quoted,
-            Token::BitString(_, _) => Kind::BitString,
-            Token::Sign(sign) => Kind::Sign(*sign),
-        }
-    }
 }
 
 /// A token and the line on which it begins, counted from 1.

@@ -20,4 +20,4 @@ pub returns-clause-added : goal.returns-clause-added
 returns-clause-added c =
     let e : c.in_ok-key.key.items ≡ c.args.name.now = search rules in
     let added = ap (λ ks. map (λ v. v.items) ks) c.in_ok-added.ensures.keys ∙ inserted_in (λ v. v.items) _ (λ a b. refl) c.args.self.now.names.keys c.in_ok-key.key in
-    on_true c.in_ok-added.added (names_of (record { names = c.insert.new.self; bits = c.args.self.now.bits; operators = c.args.self.now.operators }) ≡ insert_key (slice_cmp nat_cmp) (names_of c.args.self.now) c.args.name.now) (rw (← e) added)
+    on_true c.in_ok-added.added (names_of (record { names = c.insert.new.self; bits = c.args.self.now.bits; operators = c.args.self.now.operators; alternatives = c.args.self.now.alternatives }) ≡ insert_key (slice_cmp nat_cmp) (names_of c.args.self.now) c.args.name.now) (rw (← e) added)
