@@ -1,0 +1,5 @@
+pub mod Words
+pub mod Steps
+pub mod Commands
+pub mod Wanted
+pub mod Laws
