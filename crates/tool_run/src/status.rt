@@ -1,6 +1,6 @@
 // How a call ends.
 ghost use Rattle.std.specs.Prelude.{◌≡◌};
-ghost use Rattle.flow_run.specs.Status.{code_of};
+ghost use Rattle.tool_run.specs.Status.{code_of, has_line as line_wanted};
 
 use vlsi_base::{FileName, InputFault, Limit, Name, Terminal, Text};
 
@@ -11,9 +11,9 @@ pub enum FileCause {
     Missing,
     /// A file that is read can't be.
     ReadFault,
-    /// The layout can't be written.
+    /// A file that is written can't be.
     WriteFault,
-    /// The report can't be printed; the layout stands.
+    /// What is answered can't be printed; a file that was written stands.
     OutFault,
 }
 
@@ -36,14 +36,22 @@ pub enum LibraryFault {
     BadCell { cell: Text, cause: u8 },
 }
 
-/// How a call ends. `flow` as it is built so far answers `Accepted`, `Usage`, `File`, `Memory` and `Beyond`.
+/// What a tool that compares found.
+#[derive(Debug, Drop)]
+pub enum Verdict {
+    /// A bit that isn't what the pattern expects, and the pattern's label, or its number from 0.
+    Differs { label: Text, name: Name },
+}
+
+/// How a call ends. As they are built so far, `flow` answers `Accepted`, `Usage`, `File`, `Memory` and `Beyond`, and `asimut`
+/// `Accepted`, `Usage`, `Source`, `File`, `Memory`, `Limit` and `No`.
 #[derive(Debug, Drop)]
 pub enum Status {
-    /// The layout was written and the report was printed.
+    /// What was asked is done, and printed.
     Accepted,
     /// The words spell no command.
     Usage,
-    /// A source file has a fault.
+    /// A source file, or the file that stands beside it, has a fault.
     Source { file: FileName, fault: InputFault },
     /// The library has a fault.
     Library(LibraryFault),
@@ -62,7 +70,7 @@ pub enum Status {
     /// The source, or the library with it, is of a form that isn't built yet.
     Beyond,
     /// A tool that compares found a difference.
-    No,
+    No(Verdict),
 }
 
 impl Status {
@@ -82,7 +90,17 @@ impl Status {
             Status::Memory => 8,
             Status::Limit(_) => 9,
             Status::Beyond => 10,
-            Status::No => 11,
+            Status::No(_) => 11,
+        }
+    }
+    /// Whether a refusal with this status prints a line. Takes no memory.
+    pub fn has_line(&self) -> bool
+        ensures { result ≡ line_wanted self.now }
+    {
+        match self {
+            Status::Accepted => false,
+            Status::File { cause, .. } => *cause != FileCause::OutFault,
+            _ => true,
         }
     }
 }
