@@ -1,12 +1,13 @@
 //! The program: the machine's files and its standard output, the words after the program's name, and the top call.
 #![tactic(auto)]
 
-use flow_run::{Words, alliance_main};
+use flow_run::alliance_main;
 use std::alloc::{AllocError, Global};
 use std::env;
 use std::io::ErrorKind;
 use std::process::ExitCode;
 use std::rt::Env;
+use tool_words::Words;
 use vlsi_base::Text;
 use vlsi_shelf::{DirShelf, OutSink};
 

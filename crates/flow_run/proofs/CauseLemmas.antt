@@ -3,16 +3,17 @@ use Rattle.std.proofs.Common.{◌≡◌, ℕ, List, Option, None, Some, sym, sub
 use Rattle.std.proofs.Common.{false, true, ◌&&◌, IfSome}
 use Rattle.vlsi_shelf.specs.Files.{Files}
 use Rattle.vlsi_shelf.specs.Counts.{Counts, NoneFalls}
-use Rattle.flow_run.specs.declared.words.FlowCommand.{FlowCommand}
-use Rattle.flow_run.specs.declared.status.Status.{Status}
-use Rattle.flow_run.specs.declared.status.Status.TheVariants as status
-use Rattle.flow_run.specs.declared.status.FileCause.TheVariants.{Missing, ReadFault, WriteFault, OutFault}
+use Rattle.tool_words.specs.declared.command.FlowCommand.{FlowCommand}
+use Rattle.tool_run.specs.declared.status.Status.{Status}
+use Rattle.tool_run.specs.declared.status.Status.TheVariants as status
+use Rattle.tool_run.specs.declared.status.FileCause.TheVariants.{Missing, ReadFault, WriteFault, OutFault}
 use Rattle.flow_run.specs.declared.read.LoadError.{LoadError}
 use Rattle.flow_run.specs.declared.read.LoadError.TheVariants as load
 use Rattle.flow_run.specs.declared.forms.First.{First}
 use Rattle.flow_run.specs.Drawing.{LayoutIsRight, layout_of, report_of}
 use Rattle.flow_run.specs.Reading.{Comes, built, layout_name, ReadingRefused}
-use Rattle.flow_run.specs.Causes.{Outside, outside, StandsWhole, Caused}
+use Rattle.tool_run.specs.Outside.{Outside, outside}
+use Rattle.flow_run.specs.Causes.{StandsWhole, Caused}
 use Rattle.flow_run.specs.Finishing.{Finished, IsWritten, status_of}
 use Rattle.flow_run.proofs.Proper.{drawable}
 

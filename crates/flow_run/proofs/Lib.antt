@@ -1,7 +1,5 @@
-pub mod WordsLemmas
 pub mod FormLemmas
 pub mod ReadingLemmas
 pub mod Proper
 pub mod FirstLemmas
-pub mod Spelling
 pub mod CauseLemmas

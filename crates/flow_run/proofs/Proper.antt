@@ -9,7 +9,7 @@ use Rattle.vlsi_shelf.specs.Files.{Files}
 use Rattle.ap_io.specs.ApText.{IsWord, is_word_byte}
 use Rattle.inverter_block.specs.Inverter.{AreProper}
 use Rattle.vhdl_token.specs.Keyword.{keyword_of}
-use Rattle.flow_run.specs.declared.words.FlowCommand.{FlowCommand}
+use Rattle.tool_words.specs.declared.command.FlowCommand.{FlowCommand}
 use Rattle.flow_run.specs.declared.forms.First.{First}
 use Rattle.flow_run.specs.Drawing.{AreDrawable}
 use Rattle.flow_run.specs.Forms.{first_of, if_first, are_proper, are_different, is_proper, is_identifier, is_letter, is_name_byte, is_same, begins_with_letter, first_text, entity_in, input_in, output_in, cell_of, is_cell_layout}

@@ -5,24 +5,14 @@ use Rattle.vlsi_shelf.specs.Files.{Files}
 use Rattle.vlsi_shelf.specs.Counts.{Rose, Counts}
 use Rattle.vlsi_shelf.specs.Shelf.{SameBut}
 use Rattle.vlsi_shelf.specs.Sink.{Puts, PutsPart}
-use Rattle.flow_run.specs.declared.status.Status.{Status}
-use Rattle.flow_run.specs.declared.status.Status.TheVariants.{Accepted, Usage, File, Memory, Beyond}
-use Rattle.flow_run.specs.declared.status.FileCause.TheVariants.{Missing, ReadFault, WriteFault, OutFault}
-use Rattle.flow_run.specs.declared.words.FlowCommand.{FlowCommand}
+use Rattle.tool_run.specs.declared.status.Status.{Status}
+use Rattle.tool_run.specs.declared.status.Status.TheVariants.{Accepted, Usage, File, Memory, Beyond}
+use Rattle.tool_run.specs.declared.status.FileCause.TheVariants.{Missing, ReadFault, WriteFault, OutFault}
+use Rattle.tool_words.specs.declared.command.FlowCommand.{FlowCommand}
 use Rattle.flow_run.specs.declared.forms.First.{First}
-use Rattle.flow_run.specs.Words.{is_word}
+use Rattle.tool_run.specs.Outside.{Outside, IsUntouched, NothingFailed}
 use Rattle.flow_run.specs.Drawing.{IsRight}
 use Rattle.flow_run.specs.Reading.{Reading, reading, lacking, not_built, built, Comes, IsRead, layout_name}
-
--- what is outside of the program: the shelf's files and counts, and what the sink was told and how often it failed
-pub record Outside : Type 0 where
-  pub files : Option Files
-  pub counts : Counts
-  pub told : Option (List ℕ)
-  pub faults : ℕ
-
-abbrev pub outside : Option Files → Counts → Option (List ℕ) → ℕ → Outside
-outside files counts told faults = record { files = files; counts = counts; told = told; faults = faults }
 
 -- The layout stands whole: the files that were there are of the first form, with these names; NAME.ap is now the text of a right
 -- layout for this source and this library, on which the report is this one; and every other file is as it was.
@@ -41,10 +31,6 @@ StandsWhole before now c report = IfSome before.files (λ old. IsDrawn old now.f
 -- the files are of the first form
 abbrev pub IsBuildable : Outside → FlowCommand → Type 0
 IsBuildable before c = IfSome before.files (λ old. (source : First) × (cell : First) × (reading old c ≡ built source cell))
-
--- no file changed
-abbrev pub IsUntouched : Outside → Outside → Type 0
-IsUntouched before now = now.files ≡ before.files
 
 -- The headline: NAME.ap is a right layout for the source and the library that were read, nothing else changed, and exactly the
 -- report on it was printed.
@@ -68,10 +54,6 @@ Caused before now c _ = ⊥
 
 -- Completeness: on a shelf that tells its files and on which no call failed, each reading has its one answer, if memory lasts; for
 -- a layout no put may have failed either.
-pub record NothingFailed (before now : Outside) : Type 0 where
-  pub reads : Rose before.counts.read_faults now.counts.read_faults → ⊥
-  pub writes : Rose before.counts.write_faults now.counts.write_faults → ⊥
-
 abbrev pub Answers : Outside → Outside → Reading → Status → Type 0
 Answers before now (lacking name) status = (status ≡ File Missing name) ⊎ (status ≡ Memory)
 Answers before now not_built status = (status ≡ Beyond) ⊎ (status ≡ Memory)
@@ -79,29 +61,3 @@ Answers before now (built source cell) status = (Rose before.faults now.faults �
 
 abbrev pub IsComplete : Outside → Outside → FlowCommand → Status → Type 0
 IsComplete before now c status = IfSome before.files (λ files. NothingFailed before now → Answers before now (reading files c) status)
-
--- whether a refusal prints a line
-abbrev pub has_line : Status → Bool
-has_line Accepted = false
-has_line (File OutFault name) = false
-has_line _ = true
-
--- the line on wrong words: of flow's words, or of the tools
-abbrev pub usage_of : List (List ℕ) → List ℕ
-usage_of [] = codes "usage: alliance flow ARGUMENTS" ++ 10 ∷ []
-usage_of (tool ∷ _) = if is_word tool (codes "flow") then codes "usage: alliance flow SOURCE -l DIR -o NAME --tracks" ++ 10 ∷ [] else codes "usage: alliance flow ARGUMENTS" ++ 10 ∷ []
-
--- the line that a refusal prints
-abbrev pub line_of : List (List ℕ) → Status → List ℕ
-line_of words Usage = usage_of words
-line_of words (File Missing name) = codes "flow: file: missing " ++ name ++ 10 ∷ []
-line_of words (File ReadFault name) = codes "flow: file: read fault " ++ name ++ 10 ∷ []
-line_of words (File WriteFault name) = codes "flow: file: write fault " ++ name ++ 10 ∷ []
-line_of words Memory = codes "flow: memory" ++ 10 ∷ []
-line_of words Beyond = codes "flow: beyond" ++ 10 ∷ []
-line_of words _ = []
-
--- the line was put whole; or some first part of it, and the sink failed; or none of it, since making and putting it takes memory
-abbrev pub IsLine : Option (List ℕ) → ℕ → Option (List ℕ) → ℕ → List ℕ → Type 0
-IsLine told_before faults_before told_now faults_now line =
-    Puts told_before told_now line ⊎ ((PutsPart told_before told_now line × Rose faults_before faults_now) ⊎ (told_now ≡ told_before))

@@ -4,16 +4,16 @@ use Rattle.vlsi_shelf.specs.Files.{Files}
 use Rattle.vlsi_shelf.specs.Counts.{Rose}
 use Rattle.vlsi_shelf.specs.Shelf.{Writes, SameBut}
 use Rattle.vlsi_shelf.specs.Sink.{Puts, PutsPart}
-use Rattle.flow_run.specs.declared.status.Status.{Status}
-use Rattle.flow_run.specs.declared.status.Status.TheVariants.{Accepted, File, Memory, Beyond}
-use Rattle.flow_run.specs.declared.status.FileCause.TheVariants.{Missing, ReadFault, WriteFault, OutFault}
+use Rattle.tool_run.specs.declared.status.Status.{Status}
+use Rattle.tool_run.specs.declared.status.Status.TheVariants.{Accepted, File, Memory, Beyond}
+use Rattle.tool_run.specs.declared.status.FileCause.TheVariants.{Missing, ReadFault, WriteFault, OutFault}
 use Rattle.flow_run.specs.declared.read.LoadError.{LoadError}
 use Rattle.flow_run.specs.declared.read.LoadError.TheVariants as load
-use Rattle.flow_run.specs.declared.words.FlowCommand.{FlowCommand}
+use Rattle.tool_words.specs.declared.command.FlowCommand.{FlowCommand}
 use Rattle.flow_run.specs.declared.forms.First.{First}
 use Rattle.flow_run.specs.Drawing.{layout_of, report_of}
 use Rattle.flow_run.specs.Reading.{layout_name}
-use Rattle.flow_run.specs.Causes.{Outside}
+use Rattle.tool_run.specs.Outside.{Outside}
 
 -- the status of a run that stops while it reads
 abbrev pub status_of : LoadError → Status

@@ -1,13 +1,7 @@
--- What the functions of `Words` and `Forms` come to, said without them.
+-- What the functions of `Forms` come to, said without them.
 use Rattle.std.specs.Prelude.{◌≡◌, ℕ, ◌↔◌, List, Some}
-use Rattle.flow_run.specs.declared.words.FlowCommand.{FlowCommand}
 use Rattle.flow_run.specs.declared.forms.First.{First}
-use Rattle.flow_run.specs.Words.{command_of, Spells}
 use Rattle.flow_run.specs.Forms.{first_of, IsFirst, cell_of, IsCatal}
-
--- a command is answered exactly where the words spell it, and so none exactly where they spell none
-abbrev pub WordsAreExact : Type 0
-WordsAreExact = (words : List (List ℕ)) (c : FlowCommand) → (command_of words ≡ Some c) ↔ Spells words c
 
 -- names are answered exactly where the text is the one of an inverter with these names, and so none exactly where it is no inverter's
 abbrev pub FirstIsExact : Type 0

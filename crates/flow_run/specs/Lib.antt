@@ -1,5 +1,3 @@
-pub mod Status
-pub mod Words
 pub mod Forms
 pub mod Drawing
 pub mod Reading

@@ -4,7 +4,7 @@ use Rattle.std.specs.List.{ends_with}
 use Rattle.std.specs.FinMap.{get}
 use Rattle.vlsi_shelf.specs.Files.{Files}
 use Rattle.vlsi_shelf.specs.Counts.{Rose, Counts}
-use Rattle.flow_run.specs.declared.words.FlowCommand.{FlowCommand}
+use Rattle.tool_words.specs.declared.command.FlowCommand.{FlowCommand}
 use Rattle.flow_run.specs.declared.forms.First.{First}
 use Rattle.flow_run.specs.declared.read.LoadError.{LoadError}
 use Rattle.flow_run.specs.declared.read.LoadError.TheVariants.{Memory, Missing, ReadFault, Beyond}

@@ -1,15 +1,21 @@
 // The top call: words, then what they ask, then the line of a refusal.
 ghost use Rattle.std.specs.Prelude.{◌≡◌, ◌⊎◌, true, ◌≤◌, ◌++◌, IfOk, IfSome, Some, None, codes};
 ghost use Rattle.vlsi_shelf.specs.Counts.{NoneFalls};
-ghost use Rattle.flow_run.specs.Words.{command_of};
+ghost use Rattle.tool_words.specs.Commands.{command_of, flow_of, asimut_of};
+ghost use Rattle.tool_run.specs.Outside.{outside, IsLine};
+ghost use Rattle.tool_run.specs.Status.{has_line};
+ghost use Rattle.tool_run.specs.Lines.{line_of};
+ghost use Rattle.tool_run.specs.Asimut.{Caused as IsSimulationAnswer};
+ghost use Rattle.tool_run.specs.Complete.{IsComplete as IsSimulationComplete};
 ghost use Rattle.flow_run.specs.Reading.{Comes, built, is_fsm as is_state_machine, layout_name as layout_name_of};
-ghost use Rattle.flow_run.specs.Causes.{Caused, IsComplete, IsLine, IsHeadline, has_line, line_of, outside};
+ghost use Rattle.flow_run.specs.Causes.{Caused, IsComplete, IsHeadline};
 ghost use Rattle.flow_run.specs.Finishing.{Finished, status_of as status_of_load};
 
 use crate::read::{Built, LoadError, load};
-use crate::words::{FlowCommand, Words, WordsError, read_words};
-use crate::{FileCause, Status, drawing, line};
+use crate::drawing;
 use std::alloc::{AllocError, Global};
+use tool_run::{FileCause, Status, run_asimut, tell};
+use tool_words::{Command, FlowCommand, Words, WordsError, read_words};
 use vlsi_base::FileName;
 use vlsi_shelf::{Shelf, ShelfError, Sink, SinkError};
 
@@ -116,8 +122,12 @@ fn answer<S: Shelf, T: Sink>(alloc: Global, words: &Words, shelf: &mut S, out: &
     ensures usage { result ≡ Status.Usage → command_of words.now ≡ None }
     ensures words { command_of words.now ≡ None → (result ≡ Status.Usage) ⊎ (result ≡ Status.Memory) }
     ensures nothing { command_of words.now ≡ None → shelf.new ≡ shelf.old }
-    ensures fsm { IfSome (command_of words.now) (λ c. is_state_machine c ≡ true → ((result ≡ Status.Beyond) ⊎ (result ≡ Status.Memory)) × (shelf.new ≡ shelf.old)) }
-    ensures cause { IfSome (command_of words.now) (λ c. Caused (outside (S.files shelf.old) (S.counts shelf.old) (T.told out.old) (T.faults out.old))
+    ensures fsm { IfSome (flow_of words.now) (λ c. is_state_machine c ≡ true → ((result ≡ Status.Beyond) ⊎ (result ≡ Status.Memory)) × (shelf.new ≡ shelf.old)) }
+    ensures cause { IfSome (flow_of words.now) (λ c. Caused (outside (S.files shelf.old) (S.counts shelf.old) (T.told out.old) (T.faults out.old))
+        (outside (S.files shelf.new) (S.counts shelf.new) (T.told out.new) (T.faults out.new)) c result) }
+    ensures simulation { IfSome (asimut_of words.now) (λ c. IsSimulationAnswer (outside (S.files shelf.old) (S.counts shelf.old) (T.told out.old) (T.faults out.old))
+        (outside (S.files shelf.new) (S.counts shelf.new) (T.told out.new) (T.faults out.new)) c result) }
+    ensures simulation_complete { IfSome (asimut_of words.now) (λ c. IsSimulationComplete (outside (S.files shelf.old) (S.counts shelf.old) (T.told out.old) (T.faults out.old))
         (outside (S.files shelf.new) (S.counts shelf.new) (T.told out.new) (T.faults out.new)) c result) }
     ensures quiet { has_line result ≡ true → T.told out.new ≡ T.told out.old }
     ensures faults { T.faults out.old ≤ T.faults out.new }
@@ -127,12 +137,16 @@ fn answer<S: Shelf, T: Sink>(alloc: Global, words: &Words, shelf: &mut S, out: &
         Err(WordsError::Usage) => return Status::Usage,
         Err(WordsError::Memory) => return Status::Memory,
     };
-    perform(alloc, &command, shelf, out)
+    match &command {
+        Command::Flow(flow) => perform(alloc, flow, shelf, out),
+        Command::Asimut(asimut) => run_asimut(alloc, asimut, shelf, out),
+    }
 }
 
-/// Does what the words ask, over a shelf and a sink: `flow` lays the source out with the cells of the library.
+/// Does what the words ask, over a shelf and a sink: `flow` lays the source out with the cells of the library, `asimut` runs
+/// patterns on the source.
 ///
-/// The words are taken apart first, and only then is a file read: SOURCE, then CATAL, then the behaviour and the geometry of its
+/// The words are taken apart first, and only then is a file read. `flow` reads SOURCE, then CATAL, then the behaviour and the geometry of its
 /// cell. The layout is written to NAME.ap, and then the report is printed by one put. A refusal prints its line by one put; if
 /// that fails the status stays as it was. Memory for the files, the layout and the report is taken on `alloc` and given back.
 pub fn alliance_main<S: Shelf, T: Sink>(
@@ -147,26 +161,32 @@ pub fn alliance_main<S: Shelf, T: Sink>(
     ensures nothing { command_of words.now ≡ None → shelf.new ≡ shelf.old }
 
     // A state machine's source is beyond what is built, and then no call was made on the shelf.
-    ensures fsm { IfSome (command_of words.now) (λ c. is_state_machine c ≡ true → ((result ≡ Status.Beyond) ⊎ (result ≡ Status.Memory)) × (shelf.new ≡ shelf.old)) }
+    ensures fsm { IfSome (flow_of words.now) (λ c. is_state_machine c ≡ true → ((result ≡ Status.Beyond) ⊎ (result ≡ Status.Memory)) × (shelf.new ≡ shelf.old)) }
 
     // Every status has its cause and leaves the files that its row says. What was printed is as before the line of a refusal.
-    ensures cause { IfSome (command_of words.now) (λ c. Caused (outside (S.files shelf.old) (S.counts shelf.old) (T.told out.old) (T.faults out.old))
+    ensures cause { IfSome (flow_of words.now) (λ c. Caused (outside (S.files shelf.old) (S.counts shelf.old) (T.told out.old) (T.faults out.old))
         (outside (S.files shelf.new) (S.counts shelf.new) (T.told out.new) (T.faults out.new)) c result) }
 
     // Over told files, where nothing failed, every reading has its one answer.
-    ensures complete { IfSome (command_of words.now) (λ c. IsComplete (outside (S.files shelf.old) (S.counts shelf.old) (T.told out.old) (T.faults out.old))
+    ensures complete { IfSome (flow_of words.now) (λ c. IsComplete (outside (S.files shelf.old) (S.counts shelf.old) (T.told out.old) (T.faults out.old))
         (outside (S.files shelf.new) (S.counts shelf.new) (T.told out.new) (T.faults out.new)) c result) }
 
     // Where the answer is 0, NAME.ap is a right layout of the source by the library, and the report on it was printed.
-    ensures headline { IfSome (command_of words.now) (λ c. result ≡ Status.Accepted → IsHeadline (outside (S.files shelf.old) (S.counts shelf.old) (T.told out.old) (T.faults out.old))
+    ensures headline { IfSome (flow_of words.now) (λ c. result ≡ Status.Accepted → IsHeadline (outside (S.files shelf.old) (S.counts shelf.old) (T.told out.old) (T.faults out.old))
         (outside (S.files shelf.new) (S.counts shelf.new) (T.told out.new) (T.faults out.new)) c) }
+
+    // The answers of asimut: each has its cause, and over told files, where nothing failed, it is what the files come to.
+    ensures simulation { IfSome (asimut_of words.now) (λ c. IsSimulationAnswer (outside (S.files shelf.old) (S.counts shelf.old) (T.told out.old) (T.faults out.old))
+        (outside (S.files shelf.new) (S.counts shelf.new) (T.told out.new) (T.faults out.new)) c result) }
+    ensures simulation_complete { IfSome (asimut_of words.now) (λ c. IsSimulationComplete (outside (S.files shelf.old) (S.counts shelf.old) (T.told out.old) (T.faults out.old))
+        (outside (S.files shelf.new) (S.counts shelf.new) (T.told out.new) (T.faults out.new)) c result) }
 
     // A refusal prints its line and nothing else, as far as memory and the sink let it.
     ensures line { has_line result ≡ true → IsLine (T.told out.old) (T.faults out.old) (T.told out.new) (T.faults out.new) (line_of words.now result) }
 {
     let status = answer(alloc, words, shelf, out);
-    if line::has_line(&status) {
-        line::tell(alloc, words, &status, out);
+    if status.has_line() {
+        tell(alloc, words, &status, out);
     }
     status
 }

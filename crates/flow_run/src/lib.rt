@@ -9,13 +9,8 @@ mod drawing;
 mod flow;
 mod forms;
 mod laws;
-mod line;
 mod read;
-mod status;
-mod words;
 
 pub use flow::alliance_main;
 pub use forms::{First, MOST};
-pub use laws::{first_law, words_law};
-pub use status::{FileCause, Kind, LibraryFault, Status};
-pub use words::{FlowCommand, Words, WordsError, read_words};
+pub use laws::first_law;

@@ -7,10 +7,10 @@ ghost use Rattle.flow_run.specs.Forms.{first_of, cell_of};
 ghost use Rattle.flow_run.specs.Reading.{Comes, HasCell, FileRefused, ReadingRefused, is_fsm, from_source, from_catal, from_vbe, from_forms, not_built, built, catal_name, vbe_name, ap_name};
 
 use crate::forms::{First, MOST};
-use crate::words::FlowCommand;
-use crate::{FileCause, Status, forms};
+use crate::forms;
 use std::alloc::{AllocError, Global};
 use thiserror::Error;
+use tool_words::FlowCommand;
 use vlsi_base::{FileBytes, FileName, Text};
 use vlsi_shelf::{Shelf, ShelfError};
 

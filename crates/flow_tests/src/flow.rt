@@ -1,7 +1,8 @@
 // Runs of the top call: words and files, and what they come to.
 
 use crate::texts::{add, cell_ap, failing, first, has, has_line, report, text};
-use flow_run::{Words, alliance_main};
+use flow_run::alliance_main;
+use tool_words::Words;
 use std::alloc::{AllocError, Global};
 use std::process::Abort;
 use std::test::Fail;

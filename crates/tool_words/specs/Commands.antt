@@ -125,3 +125,19 @@ command_of (tool ∷ words) = option_and_then (command_with tool) (arguments_of 
 abbrev pub Spells : List (List ℕ) → Command → Type 0
 Spells words (command.Flow c) = SpellsFlow words c
 Spells words (command.Asimut c) = SpellsAsimut words c
+
+-- the command of `flow` that they spell
+abbrev pub flow_of : List (List ℕ) → Option FlowCommand
+flow_of words = by (command_of words) where
+  by : Option Command → Option FlowCommand
+  by None = None
+  by (Some (command.Flow c)) = Some c
+  by (Some (command.Asimut c)) = None
+
+-- the command of `asimut` that they spell
+abbrev pub asimut_of : List (List ℕ) → Option AsimutCommand
+asimut_of words = by (command_of words) where
+  by : Option Command → Option AsimutCommand
+  by None = None
+  by (Some (command.Flow c)) = None
+  by (Some (command.Asimut c)) = Some c

@@ -1,4 +1,4 @@
-use Rattle.flow_run.specs.Causes.{outside}
+use Rattle.tool_run.specs.Outside.{outside}
 use Rattle.flow_run.proofs.CauseLemmas.{caused_by_finish}
 use Rattle.flow_run.proofs.flow.perform.Goals as goal
 
