@@ -3,3 +3,4 @@ pub mod ReadingLemmas
 pub mod Proper
 pub mod FirstLemmas
 pub mod CauseLemmas
+pub mod Telling

@@ -126,18 +126,20 @@ abbrev pub Spells : List (List ℕ) → Command → Type 0
 Spells words (command.Flow c) = SpellsFlow words c
 Spells words (command.Asimut c) = SpellsAsimut words c
 
+abbrev pub as_flow : Option Command → Option FlowCommand
+as_flow None = None
+as_flow (Some (command.Flow c)) = Some c
+as_flow (Some (command.Asimut c)) = None
+
+abbrev pub as_asimut : Option Command → Option AsimutCommand
+as_asimut None = None
+as_asimut (Some (command.Flow c)) = None
+as_asimut (Some (command.Asimut c)) = Some c
+
 -- the command of `flow` that they spell
 abbrev pub flow_of : List (List ℕ) → Option FlowCommand
-flow_of words = by (command_of words) where
-  by : Option Command → Option FlowCommand
-  by None = None
-  by (Some (command.Flow c)) = Some c
-  by (Some (command.Asimut c)) = None
+flow_of words = as_flow (command_of words)
 
 -- the command of `asimut` that they spell
 abbrev pub asimut_of : List (List ℕ) → Option AsimutCommand
-asimut_of words = by (command_of words) where
-  by : Option Command → Option AsimutCommand
-  by None = None
-  by (Some (command.Flow c)) = None
-  by (Some (command.Asimut c)) = Some c
+asimut_of words = as_asimut (command_of words)
