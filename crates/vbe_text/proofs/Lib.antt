@@ -1,0 +1,2 @@
+pub mod VbeLanguage
+pub mod Choices

@@ -1,0 +1,5 @@
+pub mod Source
+pub mod Vbe
+pub mod Further
+pub mod VbeReading
+pub mod Text
