@@ -2,7 +2,10 @@
 #![tactic(auto)]
 
 mod choice;
+mod law;
+mod source;
+mod statement;
 mod targets;
 
-pub use choice::{placed_expression, value};
-pub use targets::{target, target_behind};
+pub use law::reads_once;
+pub use source::read_source;
