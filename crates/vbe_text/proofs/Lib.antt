@@ -1,2 +1,3 @@
 pub mod VbeLanguage
 pub mod Choices
+pub mod Whole

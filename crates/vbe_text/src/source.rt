@@ -1,8 +1,9 @@
 // Reading whole texts.
-ghost use Rattle.std.specs.Prelude.{◌≡◌, map, IfOk, IfErr};
+ghost use Rattle.std.specs.Prelude.{◌≡◌, ◌∷◌, [], map, IfOk, IfErr};
+ghost use Rattle.grammar_theory.specs.Tokens.{code, among};
 ghost use Rattle.grammar_theory.specs.Outcome.{Gives, finish};
 ghost use Rattle.vhdl_front.specs.Cursor.{at_of};
-ghost use Rattle.vbe_text.specs.Source.{statement_view, source_view, SourceTree};
+ghost use Rattle.vbe_text.specs.Source.{statement_view, source_view};
 ghost use Rattle.vbe_text.specs.Text.{IsSource, IsRefusedSource};
 ghost use Rattle.vbe_text.specs.VbeReading.{labelled_at, unlabelled_at, plain_at, named_at, statement_at, statement_list_at, statements_at, belonging_at, architecture_head_at, architecture_at, source_at};
 
@@ -61,11 +62,20 @@ fn statement(cursor: &mut Cursor, room: u32) -> Result<Statement, Stop>
     }
 }
 
+/// Whether a statement may begin with the next token.
+#[tactic(auto, using(crate::proofs::Whole::among_two))]
+fn at_statement(cursor: &Cursor) -> bool
+    ensures { result ≡ among (code (Form.Keyword Keyword.Assert) ∷ code Form.Identifier ∷ []) cursor.now.rest.now }
+{
+    cursor.at(Form::Keyword(Keyword::Assert)) || cursor.at(Form::Identifier)
+}
+
+/// Statements as long as there are any.
 fn statement_list(cursor: &mut Cursor, room: u32) -> Result<Vec<Statement>, Stop>
     ensures { Gives (λ v. map statement_view v.items) result (at_of cursor.new.counts cursor.new.rest.now) (statement_list_at room (at_of cursor.old.counts cursor.old.rest.now)) }
 {
     let mut statements = Vec::new(cursor.alloc);
-    while cursor.at(Form::Keyword(Keyword::Assert)) || cursor.at(Form::Identifier) {
+    while at_statement(cursor) {
         let next = statement(cursor, room)?;
         statements.push(next)?;
     }
