@@ -23,9 +23,8 @@ use Rattle.vhdl_front.specs.Cursor.{at_of, names_of}
 use Rattle.vhdl_front.specs.Front.{error_of, OrMemory, Becomes}
 use Rattle.vhdl_front.proofs.Language.{numbers}
 use Rattle.vbe_text.specs.Source.{SourceTree}
-use Rattle.vbe_text.specs.Vbe.{vbe}
+use Rattle.vbe_text.specs.Vbe.{vbe, start, IsSource, IsRefusedSource, OneSource}
 use Rattle.vbe_text.specs.VbeReading.{source_at}
-use Rattle.vbe_text.specs.Text.{start, IsSource, IsRefusedSource, OneSource}
 use Rattle.vbe_text.proofs.VbeLanguage.{exact_source, source_answers}
 
 pub among_two : (f g : Form) (ts : List PlacedToken) → among (code f ∷ code g ∷ []) ts ≡ is_at f ts || is_at g ts

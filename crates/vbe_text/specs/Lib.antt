@@ -1,5 +1,3 @@
 pub mod Source
 pub mod Vbe
-pub mod Further
 pub mod VbeReading
-pub mod Text

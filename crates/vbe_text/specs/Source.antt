@@ -11,12 +11,19 @@ use Rattle.source_checks.specs.declared.statement.RawBlock.{RawBlock}
 use Rattle.source_checks.specs.declared.statement.Statement.{Statement}
 use Rattle.source_checks.specs.declared.statement.Statement.TheVariants as statement
 use Rattle.source_checks.specs.declared.statement.RawMachine.{RawMachine}
+use Rattle.vbe_text.specs.declared.choice.Further.{Further}
 
 -- a value, the condition under which it is taken, and the line of the condition's first token
 pub record GuardedTree : Type 0 where
   pub value : Tree
   pub condition : Tree
   pub line : ℕ
+
+-- a further alternative: a condition, the line of its first token, and the value behind its `else`
+pub record FurtherTree : Type 0 where
+  pub condition : Tree
+  pub line : ℕ
+  pub value : Tree
 
 -- the alternatives in their order, and the value where none is taken
 pub record ChoiceTree : Type 0 where
@@ -47,6 +54,9 @@ pub record SourceTree : Type 0 where
 
 abbrev pub guarded_view : Guarded → GuardedTree
 guarded_view g = record { value = view g.value; condition = view g.condition; line = g.line }
+
+abbrev pub further_view : Further → FurtherTree
+further_view f = record { condition = view f.condition; line = f.line; value = view f.value }
 
 abbrev pub choice_view : Choice → ChoiceTree
 choice_view c = record { alternatives = map guarded_view c.alternatives; otherwise = view c.otherwise }

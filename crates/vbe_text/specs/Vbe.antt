@@ -1,21 +1,28 @@
 -- The grammar of data-flow texts. Here and below, `room` is how many parentheses more may be open.
-use Rattle.std.specs.Prelude.{ℕ, ◌-◌, List, [], ◌∷◌}
+use Rattle.std.specs.Prelude.{◌≡◌, ℕ, ◌-◌, List, [], ◌∷◌, Ok}
 use Rattle.vlsi_base.specs.Tree.{Tree}
 use Rattle.vlsi_base.specs.declared.entity.Entity.{Entity}
+use Rattle.vlsi_base.specs.declared.fault.ReadError.{ReadError}
+use Rattle.vlsi_base.specs.declared.fault.ReadError.TheVariants as errors
 use Rattle.vhdl_token.specs.declared.keyword.Keyword.TheVariants as word
 use Rattle.vhdl_token.specs.declared.token.Sign.TheVariants as sign
 use Rattle.vhdl_token.specs.declared.token.PlacedToken.{PlacedToken}
+use Rattle.vhdl_token.specs.declared.token.Tokens.{Tokens}
 use Rattle.grammar_theory.specs.declared.form.Form.TheVariants as form
 use Rattle.grammar_theory.specs.declared.limits.TheConstants.{DEPTH}
+use Rattle.grammar_theory.specs.declared.refusal.Refusal.{Refusal}
 use Rattle.grammar_theory.specs.Marks.{starts, chooses, again, opens, spells}
 use Rattle.grammar_theory.specs.Grammar.{Grammar, nothing, one, marked, ◌or◌, ◌>>=◌, list, placed}
+use Rattle.grammar_theory.specs.Outcome.{At}
+use Rattle.grammar_theory.specs.Answers.{Rejects, AnswersAll}
 use Rattle.vhdl_front.specs.Cursor.{name_of}
 use Rattle.vhdl_front.specs.Expression.{number, direction, closing, expression}
 use Rattle.vhdl_front.specs.Entity.{identifier, entity, declarations}
+use Rattle.vhdl_front.specs.Front.{error_of}
 use Rattle.source_checks.specs.declared.statement.Selection.{Selection}
 use Rattle.source_checks.specs.declared.statement.Selection.TheVariants as selection
 use Rattle.source_checks.specs.declared.statement.Target.{Target}
-use Rattle.vbe_text.specs.Source.{GuardedTree, ChoiceTree, AssignmentTree, StatementTree, asserted, assigned, blocked, SourceTree}
+use Rattle.vbe_text.specs.Source.{GuardedTree, FurtherTree, ChoiceTree, AssignmentTree, StatementTree, asserted, assigned, blocked, SourceTree}
 
 -- ---- targets
 
@@ -47,25 +54,20 @@ target room = do
 
 -- ---- choices
 
--- a condition, the line of its first token, and the value behind its `else`
-pub record Further : Type 0 where
-  pub condition : Tree
-  pub line : ℕ
-  pub value : Tree
-
--- Each condition belongs to the value before it.
-abbrev pub alternatives_from : Tree → List Further → List GuardedTree
+-- A choice is its first value, and behind it a list of conditions, each with the value behind its `else`: so each
+-- condition belongs to the value before it.
+abbrev pub alternatives_from : Tree → List FurtherTree → List GuardedTree
 alternatives_from value [] = []
 alternatives_from value (f ∷ others) = record { value = value; condition = f.condition; line = f.line } ∷ alternatives_from f.value others
 
-abbrev pub last_value : Tree → List Further → Tree
+abbrev pub last_value : Tree → List FurtherTree → Tree
 last_value value [] = value
 last_value value (f ∷ others) = last_value f.value others
 
-abbrev pub choice_of : Tree → List Further → ChoiceTree
+abbrev pub choice_of : Tree → List FurtherTree → ChoiceTree
 choice_of first others = record { alternatives = alternatives_from first others; otherwise = last_value first others }
 
-unfoldable pub further : ℕ → Grammar Further
+unfoldable pub further : ℕ → Grammar FurtherTree
 further room = do
   t ← marked (form.Keyword word.When) (λ _. starts)
   c ← placed (expression room)
@@ -231,3 +233,30 @@ source room = do
 -- whole data-flow texts
 abbrev pub vbe : Grammar SourceTree
 vbe = source DEPTH
+
+-- ---- answers
+
+-- before the first token: nothing is counted
+abbrev pub start : List PlacedToken → At
+start tokens = record { state = record { names = []; bits = 0; operators = 0; alternatives = 0 }; rest = tokens }
+
+-- All of the tokens are a sentence of the grammar without a breach, and this is its value.
+pub record IsSource (tokens : Tokens) (source : SourceTree) : Type 0 where
+  pub end : At
+  pub read : AnswersAll vbe (start tokens.items) (Ok (source, end))
+
+-- The first token at which the text goes wrong, or its end, and what is answered for it.
+pub record RefusedAs (tokens : Tokens) (error : ReadError) : Type 0 where
+  pub refusal : Refusal
+  pub right : Rejects vbe (start tokens.items) refusal
+  pub is : error ≡ error_of tokens.last_line tokens.items refusal
+
+-- Memory may run out at any time.
+abbrev pub IsRefusedSource : Tokens → ReadError → Type 0
+IsRefusedSource tokens errors.Memory = Unit {0}
+IsRefusedSource tokens (errors.Input f) = RefusedAs tokens (errors.Input f)
+IsRefusedSource tokens (errors.Limit l) = RefusedAs tokens (errors.Limit l)
+
+-- A text is at most one source.
+abbrev pub OneSource : Type 0
+OneSource = (tokens : Tokens) (a b : SourceTree) → IsSource tokens a → IsSource tokens b → a ≡ b

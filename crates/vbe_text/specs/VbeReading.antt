@@ -15,8 +15,8 @@ use Rattle.vhdl_front.specs.EntityReading.{identifier_at, entity_at, declaration
 use Rattle.source_checks.specs.declared.statement.Selection.{Selection}
 use Rattle.source_checks.specs.declared.statement.Selection.TheVariants as selection
 use Rattle.source_checks.specs.declared.statement.Target.{Target}
-use Rattle.vbe_text.specs.Source.{ChoiceTree, AssignmentTree, StatementTree, asserted, assigned, blocked, SourceTree}
-use Rattle.vbe_text.specs.Vbe.{Further, choice_of}
+use Rattle.vbe_text.specs.Source.{ChoiceTree, AssignmentTree, StatementTree, asserted, assigned, blocked, SourceTree, FurtherTree}
+use Rattle.vbe_text.specs.Vbe.{choice_of}
 
 unfoldable pub range_at : ℕ → ℕ → Reader Selection
 range_at paren left here = do
@@ -47,7 +47,7 @@ target_at room here = do
   t ← take_at form.Identifier here
   target_behind_at room t.0 t.1
 
-unfoldable pub further_at : ℕ → Reader Further
+unfoldable pub further_at : ℕ → Reader FurtherTree
 further_at room here = do
   t ← take_marked (form.Keyword word.When) (λ _. starts) here
   c ← placed_at (expression_at room) t.1

@@ -6,7 +6,7 @@ ghost use Rattle.grammar_theory.specs.Tokens.{code};
 ghost use Rattle.vhdl_front.specs.Cursor.{at_of};
 ghost use Rattle.vhdl_front.specs.Reading.{expression_at};
 ghost use Rattle.vbe_text.specs.Source.{choice_view};
-ghost use Rattle.vbe_text.specs.Further.{further_view};
+ghost use Rattle.vbe_text.specs.Source.{further_view};
 ghost use Rattle.vbe_text.specs.Vbe.{choice_of};
 ghost use Rattle.vbe_text.specs.VbeReading.{further_at, choice_at, delay_at, value_at};
 

@@ -4,7 +4,7 @@ ghost use Rattle.grammar_theory.specs.Tokens.{code, among};
 ghost use Rattle.grammar_theory.specs.Outcome.{Gives, finish};
 ghost use Rattle.vhdl_front.specs.Cursor.{at_of};
 ghost use Rattle.vbe_text.specs.Source.{statement_view, source_view};
-ghost use Rattle.vbe_text.specs.Text.{IsSource, IsRefusedSource};
+ghost use Rattle.vbe_text.specs.Vbe.{IsSource, IsRefusedSource};
 ghost use Rattle.vbe_text.specs.VbeReading.{labelled_at, unlabelled_at, plain_at, named_at, statement_at, statement_list_at, statements_at, belonging_at, architecture_head_at, architecture_at, source_at};
 
 use crate::statement::{assertion, assignment, block, repeated};

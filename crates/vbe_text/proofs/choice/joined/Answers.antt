@@ -1,9 +1,8 @@
 use Rattle.std.proofs.Common.{◌≡◌, ◌∙◌, ◌++◌, [], ◌∷◌, List, map, ap, sym, rules}
 use Rattle.std.proofs.lemmas.List.{map_push}
 use Rattle.vlsi_base.specs.Tree.{Tree, view}
-use Rattle.vbe_text.specs.Source.{GuardedTree, guarded_view}
-use Rattle.vbe_text.specs.Further.{further_view}
-use Rattle.vbe_text.specs.Vbe.{Further, alternatives_from, last_value}
+use Rattle.vbe_text.specs.Source.{GuardedTree, guarded_view, further_view, FurtherTree}
+use Rattle.vbe_text.specs.Vbe.{alternatives_from, last_value}
 use Rattle.vbe_text.proofs.Choices.{alternatives_push, last_push}
 use Rattle.vbe_text.proofs.choice.joined.Goals as goal
 

@@ -1,7 +1,6 @@
 use Rattle.std.proofs.Common.{◌≡◌, map}
 use Rattle.vlsi_base.specs.Tree.{view}
-use Rattle.vbe_text.specs.Source.{guarded_view}
-use Rattle.vbe_text.specs.Further.{further_view}
+use Rattle.vbe_text.specs.Source.{guarded_view, further_view}
 use Rattle.vbe_text.specs.Vbe.{alternatives_from, last_value}
 use Rattle.vbe_text.proofs.choice.joined.Given as goal
 

@@ -8,7 +8,7 @@ use Rattle.grammar_theory.specs.Outcome.{Fails, list_at}
 use Rattle.grammar_theory.proofs.Bundle.{among_one}
 use Rattle.grammar_theory.proofs.Listing.{list_begins, list_goes_on, list_fails, list_ends}
 use Rattle.vhdl_front.specs.Cursor.{at_of}
-use Rattle.vbe_text.specs.Further.{further_view}
+use Rattle.vbe_text.specs.Source.{further_view}
 use Rattle.vbe_text.specs.VbeReading.{further_at}
 use Rattle.vbe_text.proofs.VbeLanguage.{further_consumes}
 use Rattle.vbe_text.proofs.choice.others.Goals as goal

@@ -5,7 +5,7 @@ use Rattle.grammar_theory.specs.Tokens.{code}
 use Rattle.grammar_theory.specs.Outcome.{list_at}
 use Rattle.grammar_theory.proofs.Listing.{Listed}
 use Rattle.vhdl_front.specs.Cursor.{at_of}
-use Rattle.vbe_text.specs.Further.{further_view}
+use Rattle.vbe_text.specs.Source.{further_view}
 use Rattle.vbe_text.specs.VbeReading.{further_at}
 use Rattle.vbe_text.proofs.choice.others.Given as goal
 

@@ -3,7 +3,7 @@ use Rattle.vhdl_token.specs.declared.token.PlacedToken.{PlacedToken}
 use Rattle.vhdl_front.specs.Cursor.{at_of}
 use Rattle.vhdl_front.specs.Front.{Becomes}
 use Rattle.vbe_text.specs.Source.{source_view}
-use Rattle.vbe_text.specs.Text.{start}
+use Rattle.vbe_text.specs.Vbe.{start}
 use Rattle.vbe_text.proofs.Whole.{start_is, is_source, is_refused}
 use Rattle.vbe_text.proofs.source.read_source.Goals as goal
 
