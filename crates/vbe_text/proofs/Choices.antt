@@ -1,5 +1,5 @@
 -- One alternative more.
-use Rattle.std.proofs.Common.{◌≡◌, List, [], ◌∷◌, ◌++◌, map, refl, ap, ◌∙◌}
+use Rattle.std.proofs.Common.{◌≡◌, List, [], ◌∷◌, ◌++◌, refl, ap}
 use Rattle.vlsi_base.specs.Tree.{Tree}
 use Rattle.vbe_text.specs.Source.{GuardedTree, FurtherTree}
 use Rattle.vbe_text.specs.Vbe.{alternatives_from, last_value}

@@ -1,5 +1,5 @@
 -- From reading to what the grammar says of a whole text.
-use Rattle.std.proofs.Common.{◌≡◌, ℕ, Bool, true, false, cond, eqb, ◌||◌, List, [], ◌∷◌, ◌++◌, length, map, refl, sym, ap, subst, ◌∙◌, Ok, Err}
+use Rattle.std.proofs.Common.{◌≡◌, ℕ, Bool, true, false, cond, ◌||◌, List, [], ◌∷◌, ◌++◌, length, refl, sym, ap, subst, ◌∙◌, Ok, Err}
 use Rattle.std.proofs.lemmas.List.{append-nil}
 use Rattle.vlsi_base.specs.declared.fault.ReadError.{ReadError}
 use Rattle.vlsi_base.specs.declared.fault.ReadError.TheVariants as errors
@@ -12,7 +12,7 @@ use Rattle.grammar_theory.specs.declared.limits.TheConstants.{DEPTH}
 use Rattle.grammar_theory.specs.declared.refusal.Refusal.{Refusal}
 use Rattle.grammar_theory.specs.declared.refusal.Stop.{Stop}
 use Rattle.grammar_theory.specs.declared.refusal.Stop.TheVariants as stop
-use Rattle.grammar_theory.specs.Tokens.{code, code_of, is_of, is_at, among}
+use Rattle.grammar_theory.specs.Tokens.{code, is_of, is_at, among}
 use Rattle.grammar_theory.specs.Marks.{Item}
 use Rattle.grammar_theory.specs.Outcome.{At, Outcome, Fails, finish}
 use Rattle.grammar_theory.specs.Answers.{Rejects, AnswersAll, tokens_of}

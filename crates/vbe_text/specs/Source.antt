@@ -1,5 +1,5 @@
 -- A data-flow text as its grammar has it: its expressions are trees, wherever they lie in memory.
-use Rattle.std.specs.Prelude.{ℕ, List, [], ◌∷◌, map}
+use Rattle.std.specs.Prelude.{ℕ, List, map}
 use Rattle.vlsi_base.specs.Tree.{Tree, view}
 use Rattle.vlsi_base.specs.declared.entity.Entity.{Entity}
 use Rattle.vlsi_base.specs.declared.entity.Declarations.{Declarations}

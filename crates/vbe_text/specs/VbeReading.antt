@@ -8,7 +8,7 @@ use Rattle.vhdl_token.specs.declared.token.PlacedToken.{PlacedToken}
 use Rattle.grammar_theory.specs.declared.form.Form.TheVariants as form
 use Rattle.grammar_theory.specs.Tokens.{code, is_at}
 use Rattle.grammar_theory.specs.Marks.{starts, chooses, again, opens, spells}
-use Rattle.grammar_theory.specs.Outcome.{Outcome, Reader, ◌>>=◌, take_at, take_marked, list_at, placed_at}
+use Rattle.grammar_theory.specs.Outcome.{Reader, ◌>>=◌, take_at, take_marked, list_at, placed_at}
 use Rattle.vhdl_front.specs.Cursor.{name_of}
 use Rattle.vhdl_front.specs.Reading.{number_at, direction_at, closing_at, expression_at}
 use Rattle.vhdl_front.specs.EntityReading.{identifier_at, entity_at, declarations_at}

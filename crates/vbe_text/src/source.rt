@@ -159,11 +159,6 @@ pub fn read_source(alloc: Global, tokens: &Tokens) -> Result<RawMachine, ReadErr
     };
     match whole(&mut cursor) {
         Ok(raw) => Ok(raw),
-        Err(stop) => Err(stop_error(
-            alloc,
-            tokens.last_line,
-            tokens.items.as_slice(),
-            stop,
-        )),
+        Err(stop) => Err(stop_error(alloc, tokens.last_line, tokens.items.as_slice(), stop)),
     }
 }
