@@ -88,7 +88,11 @@ fn put_assignment(
 }
 
 /// `assert VALUE `, an assignment, or `{GUARD@LINE ASSIGNMENTS} `.
-fn put_statement(alloc: Global, out: &mut Vec<u8>, statement: &Statement) -> Result<(), AllocError> {
+fn put_statement(
+    alloc: Global,
+    out: &mut Vec<u8>,
+    statement: &Statement,
+) -> Result<(), AllocError> {
     match statement {
         Statement::Assert(raw) => {
             out.extend_from_slice(b"assert ")?;
@@ -183,18 +187,12 @@ static STATEMENTS: [(&[u8], &[u8]); 24] = [
     (b"l : block\na begin end block;", b"!4 syntax"),
     (b"\nblock (a) begin end block;", b"!4 syntax"),
     (b"y <=\nguarded a;", b"!4 syntax"),
-    (
-        b"l : block (a) begin y <=\nb; end block;",
-        b"!4 syntax",
-    ),
+    (b"l : block (a) begin y <=\nb; end block;", b"!4 syntax"),
     (
         b"l : block (a) begin m\n: y <= guarded b; end block;",
         b"!4 syntax",
     ),
-    (
-        b"l : block (a) begin\nassert a; end block;",
-        b"!4 syntax",
-    ),
+    (b"l : block (a) begin\nassert a; end block;", b"!4 syntax"),
     (b"y <= a when b\n;", b"!4 syntax"),
     (b"y <= (a\nwhen b else c);", b"!4 syntax"),
     (b"y <= a after\nns;", b"!4 syntax"),
@@ -284,7 +282,13 @@ static LIMITS: [(&[u8], &[u8], u32, &[u8], &[u8]); 9] = [
     (b"y <= ", b"a when b else ", 16383, b"c;", b""),
     (b"y <= ", b"a when b else ", 16384, b"c;", b"!chain 16385"),
     (b"y <= ", b"a and ", 16384, b"a when not b else not c;", b""),
-    (b"y <= a when ", b"a and ", 16384, b"not b else c;", b"!chain 16385"),
+    (
+        b"y <= a when ",
+        b"a and ",
+        16384,
+        b"not b else c;",
+        b"!chain 16385",
+    ),
 ];
 
 #[test]
