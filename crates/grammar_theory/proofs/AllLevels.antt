@@ -1,9 +1,7 @@
 -- The sentences of all levels, as one grammar with its reader.
-use Rattle.std.proofs.Common.{◌≡◌, ℕ, ◌+◌, ◌<◌, List, [], ◌∷◌, ◌++◌, arith}
-use Rattle.vhdl_token.specs.declared.token.PlacedToken.{PlacedToken}
-use Rattle.grammar_theory.specs.Marks.{Item}
+use Rattle.std.proofs.Common.{ℕ, ◌+◌, ◌<◌, ◌∷◌, ◌++◌, arith}
 use Rattle.grammar_theory.specs.Grammar.{Grammar, at_some}
-use Rattle.grammar_theory.specs.Outcome.{At, Reader}
+use Rattle.grammar_theory.specs.Outcome.{Reader}
 use Rattle.grammar_theory.proofs.Exact.{Shape, Reads}
 use Rattle.grammar_theory.proofs.Bundle.{Starts, Exact}
 use Rattle.grammar_theory.proofs.Levels.{Rising, all_answers}

@@ -1,16 +1,15 @@
 -- A sentence with the line of its first token.
-use Rattle.std.proofs.Common.{◌≡◌, ℕ, Bool, true, false, List, [], ◌∷◌, ◌++◌, refl, sym, ap, subst, ◌∙◌, Ok, Err}
+use Rattle.std.proofs.Common.{◌≡◌, ℕ, true, false, List, [], ◌∷◌, ◌++◌, refl, sym, ap, ◌∙◌, Ok, Err}
 use Rattle.vhdl_token.specs.declared.token.PlacedToken.{PlacedToken}
-use Rattle.grammar_theory.specs.declared.refusal.Refusal.{Refusal}
 use Rattle.grammar_theory.specs.declared.refusal.Reason.{Reason}
 use Rattle.grammar_theory.specs.declared.refusal.Reason.TheVariants as reason
 use Rattle.grammar_theory.specs.Marks.{Item, State}
 use Rattle.grammar_theory.specs.Grammar.{Grammar, Begins, placed}
 use Rattle.grammar_theory.specs.Outcome.{At, Outcome, Reader, ◌>>=◌, line_here, placed_at}
-use Rattle.grammar_theory.specs.Answers.{Accepts, Blames, Answers, tokens_of}
+use Rattle.grammar_theory.specs.Answers.{Blames, Answers, tokens_of}
 use Rattle.grammar_theory.proofs.Sets.{Set, has}
-use Rattle.grammar_theory.proofs.Exact.{Shape, Reads}
-use Rattle.grammar_theory.proofs.Bundle.{Starts, Exact}
+use Rattle.grammar_theory.proofs.Exact.{Shape}
+use Rattle.grammar_theory.proofs.Bundle.{Exact}
 
 same_value : {A : Type 0} (v w : ℕ × A) → v.0 ≡ w.0 → v.1 ≡ w.1 → v ≡ w
 same_value (m, x) (n, y) e f = cc
