@@ -9,3 +9,5 @@ pub mod Levels
 pub mod End
 pub mod Listing
 pub mod Shut
+pub mod Placed
+pub mod AllLevels

@@ -52,6 +52,11 @@ abbrev pub ◌or◌ : {A : Type 0} → Grammar A → Grammar A → Grammar A
 abbrev pub after : {A : Type 0} → Form → Grammar A → Grammar A
 after k L = one k >>= λ _. L
 
+-- a sentence of at least one token, with the line of the first
+abbrev pub placed : {A : Type 0} → Grammar A → Grammar (ℕ × A)
+placed L [] v = ⊥
+placed L (t ∷ items) v = L (t ∷ items) v.1 × (v.0 ≡ t.token.line)
+
 -- the tokens are how some sentence begins
 abbrev pub Begins : {A : Type 0} → Grammar A → List Item → Type 0
 Begins {A} L items = (more : List Item) × (v : A) × L (items ++ more) v

@@ -58,6 +58,17 @@ many_at kinds item (suc n) here = if among kinds here.rest then (do
 unfoldable pub list_at : {A : Type 0} → List ℕ → Reader A → Reader (List A)
 list_at kinds item here = many_at kinds item (length here.rest) here
 
+-- the line of the next token; where there is none, 0
+abbrev pub line_here : List PlacedToken → ℕ
+line_here [] = 0
+line_here (t ∷ ts) = t.line
+
+-- what is read, with the line of its first token
+unfoldable pub placed_at : {A : Type 0} → Reader A → Reader (ℕ × A)
+placed_at read here = do
+  v ← read here
+  Ok ((line_here here.rest, v.0), v.1)
+
 -- what was read before, and what is still read
 abbrev pub with_front : {A : Type 0} → List A → Outcome (List A) → Outcome (List A)
 with_front front read = read >>= λ x. Ok (front ++ x.0, x.1)

@@ -29,10 +29,10 @@ use Rattle.vhdl_front.specs.EntityReading.{identifier_at, declared_at, declared_
 use Rattle.vhdl_front.proofs.Language.{numbers, exact_number, exact_direction}
 
 -- a grammar without levels, and its reader
-abbrev Language : {A : Type 0} → Grammar A → Bool → Set → Set → Reader A → Type 0
+abbrev pub Language : {A : Type 0} → Grammar A → Bool → Set → Set → Reader A → Type 0
 Language G null f l r = Exact (Unit {0}) G G null f l r
 
-exact_identifier : Language identifier false (numbers (form.Identifier ∷ [])) [] identifier_at
+pub exact_identifier : Language identifier false (numbers (form.Identifier ∷ [])) [] identifier_at
 unfolding identifier identifier_at
 exact_identifier = exact_then (exact_one form.Identifier) (λ t. exact_nothing (name_of t)) refl
 
@@ -194,7 +194,7 @@ pub exact_signal : (room : ℕ) → Language (signal room) false (numbers (form.
 unfolding signal signal_at
 exact_signal room = exact_then (exact_led_names word.Signal) (λ n. exact_then (exact_one (form.Sign sign.Colon)) (λ t. exact_then (exact_signal_type room (length n.1)) (λ kind. exact_then (exact_one (form.Sign sign.Semicolon)) (λ u. exact_nothing (record { line = n.0; names = n.1; kind = kind })) refl) refl) refl) refl
 
-abbrev signal_set : Set
+abbrev pub signal_set : Set
 signal_set = numbers (form.Keyword word.Signal ∷ [])
 
 pub exact_declarations : (room : ℕ) → Language (declarations room) true signal_set signal_set (declarations_at room)
@@ -203,7 +203,7 @@ exact_declarations room = exact_then (exact_list (exact_signal room) refl) (λ a
 
 -- ---- items of lists take tokens
 
-item_consumes : {A : Type 0} (G : Grammar A) (f l : Set) (r : Reader A) → Language G false f l r → (here there : At) (v : A) → r here ≡ Ok (v, there) → length there.rest < length here.rest
+pub item_consumes : {A : Type 0} (G : Grammar A) (f l : Set) (r : Reader A) → Language G false f l r → (here there : At) (v : A) → r here ≡ Ok (v, there) → length there.rest < length here.rest
 item_consumes G f l r e here there v h = consumes G f l r e.shape (e.reads tt) here there v h
 
 pub another_consumes : (line : ℕ) (here there : At) (v : NewName) → another_at line here ≡ Ok (v, there) → length there.rest < length here.rest

@@ -19,6 +19,7 @@ use Rattle.grammar_theory.proofs.Samples.{some_of, some_of-code}
 use Rattle.grammar_theory.proofs.Bundle.{Exact, exact_marked, exact_then, none_shape}
 use Rattle.grammar_theory.proofs.Shut.{exact_shut}
 use Rattle.grammar_theory.proofs.Levels.{Rising, all_answers}
+use Rattle.grammar_theory.proofs.AllLevels.{exact_all}
 use Rattle.grammar_theory.proofs.Listing.{consumes}
 use Rattle.vhdl_front.specs.Expression.{closing, suffix, named, parenthesized, primary, factor, joined, cat, relation, logical, expression_over, less, nested, expression}
 use Rattle.vhdl_front.specs.Reading.{closing_at, factor_at, joined_at, cat_at, relation_at, expression_over_at, enter_at, expression_at}
@@ -153,6 +154,11 @@ rising room = record {
 
 pub reading_answers : (room : ℕ) (here : At) → Answers (expression room) here (expression_at room here)
 reading_answers room here = all_answers (λ e. nested e room) room (rising room) here (expression_at room here) (λ e above. ((exact_nested e zero room).reads (omega (arith, above), above)).answers here)
+
+pub exact_expression : {P : Type 0} (room : ℕ) → Exact P (expression room) (expression room) false factor_firsts expression_lasts (expression_at room)
+unfolding rising
+exact_expression room = exact_all (λ e. nested e room) room (expression_at room) (rising room)
+    (λ e above. (exact_nested e zero room).reads (omega (arith, above), above)) ((exact_nested (room + 1) zero room).starts (omega arith, omega arith))
 
 -- ---- what stands behind an operator takes tokens
 

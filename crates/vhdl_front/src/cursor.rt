@@ -129,11 +129,7 @@ impl<'a> Cursor<'a> {
 
     /// A token that has to be right as it is spelled, which `is_right` says of it.
     #[tactic(auto, unfolding(grammar_theory::specs::Marks::step))]
-    pub fn take_fitting(
-        &mut self,
-        form: Form,
-        is_right: bool,
-    ) -> Result<&'a PlacedToken, Stop>
+    pub fn take_fitting(&mut self, form: Form, is_right: bool) -> Result<&'a PlacedToken, Stop>
         ensures { Gives (λ t. t.now) result (at_of self.new.counts self.new.rest.now) (take_marked form (λ _. fits is_right) (at_of self.old.counts self.old.rest.now)) }
     {
         let (next, rest) = self.next(form)?;

@@ -33,8 +33,9 @@ fn width(left: u32, falls: bool, right: u32) -> u64
 }
 
 impl Cursor<'_> {
+    /// An identifier.
     #[tactic(auto, unfolding(crate::specs::EntityReading::identifier_at))]
-    fn name(&mut self) -> Result<Text, Stop>
+    pub fn name(&mut self) -> Result<Text, Stop>
         ensures { Gives (λ n. n) result (at_of self.new.counts self.new.rest.now) (identifier_at (at_of self.old.counts self.old.rest.now)) }
     {
         let token = self.take(Form::Identifier)?;

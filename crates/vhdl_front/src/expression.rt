@@ -81,6 +81,7 @@ fn join(alloc: Global, operator: Operator, first: Raw, others: Vec<(u32, Raw)>) 
 }
 
 impl Cursor<'_> {
+    /// A number.
     #[tactic(auto, unfolding(crate::specs::Reading::number_at))]
     pub fn number(&mut self) -> Result<u32, Stop>
         ensures { Gives (λ n. n) result (at_of self.new.counts self.new.rest.now) (number_at (at_of self.old.counts self.old.rest.now)) }

@@ -8,5 +8,5 @@ mod expression;
 mod reader;
 
 pub use counts::Counts;
-pub use cursor::Cursor;
-pub use reader::TokenReader;
+pub use cursor::{Cursor, name_bytes};
+pub use reader::{TokenReader, stop_error};

@@ -108,8 +108,8 @@ fn breach_fault(alloc: Global, line: u32, breach: Breach) -> ReadError
     }
 }
 
-/// What a stop among these tokens is answered by.
-fn stop_error(alloc: Global, last_line: u32, tokens: &[PlacedToken], stop: Stop) -> ReadError
+/// What a stop among these tokens of a text with this last line is answered by.
+pub fn stop_error(alloc: Global, last_line: u32, tokens: &[PlacedToken], stop: Stop) -> ReadError
     ensures { Becomes last_line tokens.now stop result }
 {
     match stop {

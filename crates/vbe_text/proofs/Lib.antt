@@ -1,0 +1,3 @@
+pub mod VbeLanguage
+pub mod Choices
+pub mod Whole

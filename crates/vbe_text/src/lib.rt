@@ -1,0 +1,11 @@
+//! Data-flow texts: their tokens are read into what is written there, or refused at the first token that can't stand.
+#![tactic(auto)]
+
+mod choice;
+mod law;
+mod source;
+mod statement;
+mod targets;
+
+pub use law::reads_once;
+pub use source::read_source;

@@ -1,0 +1,149 @@
+// Reading assertions, assignments and blocks.
+ghost use Rattle.std.specs.Prelude.{◌≡◌, map};
+ghost use Rattle.vlsi_base.specs.Tree.{view, operand_of};
+ghost use Rattle.grammar_theory.specs.Outcome.{Gives};
+ghost use Rattle.vhdl_front.specs.Cursor.{at_of};
+ghost use Rattle.vbe_text.specs.Source.{assignment_view, statement_view};
+ghost use Rattle.vbe_text.specs.VbeReading.{report_at, severity_at, remarks_at, assertion_at, assignment_at, guarded_assignment_at, guarded_list_at, guarded_assignments_at, guard_at, repeated_at, block_at};
+
+use crate::choice::{placed_expression, value};
+use crate::targets::{target, target_behind};
+use grammar_theory::{Form, Stop};
+use source_checks::{Assignment, Assignments, RawBlock, Statement};
+use vhdl_front::Cursor;
+use vhdl_token::{Keyword, PlacedToken, Sign};
+use vlsi_base::Raw;
+
+#[tactic(auto, unfolding(crate::specs::VbeReading::report_at, crate::specs::VbeReading::reported_at, crate::specs::VbeReading::text_at))]
+fn report(cursor: &mut Cursor) -> Result<(), Stop>
+    ensures { Gives (λ _. tt) result (at_of cursor.new.counts cursor.new.rest.now) (report_at (at_of cursor.old.counts cursor.old.rest.now)) }
+{
+    if cursor.at(Form::Keyword(Keyword::Report)) {
+        let _word = cursor.take(Form::Keyword(Keyword::Report))?;
+        let form = if cursor.at(Form::BitText) {
+            Form::BitText
+        } else {
+            Form::OtherText
+        };
+        let _text = cursor.take(form)?;
+    }
+    Ok(())
+}
+
+#[tactic(auto, unfolding(crate::specs::VbeReading::severity_at, crate::specs::VbeReading::severe_at))]
+fn severity(cursor: &mut Cursor) -> Result<(), Stop>
+    ensures { Gives (λ _. tt) result (at_of cursor.new.counts cursor.new.rest.now) (severity_at (at_of cursor.old.counts cursor.old.rest.now)) }
+{
+    if cursor.at(Form::Keyword(Keyword::Severity)) {
+        let _word = cursor.take(Form::Keyword(Keyword::Severity))?;
+        let _level = cursor.take(Form::Identifier)?;
+    }
+    Ok(())
+}
+
+/// What stands behind the expression of an assertion, which has no effect.
+#[tactic(auto, unfolding(crate::specs::VbeReading::remarks_at))]
+fn remarks(cursor: &mut Cursor) -> Result<(), Stop>
+    ensures { Gives (λ _. tt) result (at_of cursor.new.counts cursor.new.rest.now) (remarks_at (at_of cursor.old.counts cursor.old.rest.now)) }
+{
+    report(cursor)?;
+    severity(cursor)?;
+    let _semicolon = cursor.take(Form::Sign(Sign::Semicolon))?;
+    Ok(())
+}
+
+/// An assertion, where so many more parentheses may be open.
+#[tactic(auto, unfolding(crate::specs::VbeReading::assertion_at))]
+pub fn assertion(cursor: &mut Cursor, room: u32) -> Result<Statement, Stop>
+    ensures { Gives statement_view result (at_of cursor.new.counts cursor.new.rest.now) (assertion_at room (at_of cursor.old.counts cursor.old.rest.now)) }
+{
+    let _word = cursor.take_starting(Form::Keyword(Keyword::Assert))?;
+    let raw = cursor.expression(room)?;
+    remarks(cursor)?;
+    Ok(Statement::Assert(raw))
+}
+
+/// An assignment behind the name of its target, which is this token.
+#[tactic(auto, unfolding(crate::specs::VbeReading::assignment_at))]
+pub fn assignment(cursor: &mut Cursor, room: u32, token: &PlacedToken) -> Result<Statement, Stop>
+    ensures { Gives statement_view result (at_of cursor.new.counts cursor.new.rest.now) (assignment_at room token.now (at_of cursor.old.counts cursor.old.rest.now)) }
+{
+    let target = target_behind(cursor, room, token)?;
+    let _sign = cursor.take_choosing(Form::Sign(Sign::Assign))?;
+    let choice = value(cursor, room)?;
+    Ok(Statement::Assign(Assignment { target, choice }))
+}
+
+/// An assignment of a block.
+#[tactic(auto, unfolding(crate::specs::VbeReading::guarded_assignment_at))]
+fn guarded_assignment(cursor: &mut Cursor, room: u32) -> Result<Assignment, Stop>
+    ensures { Gives assignment_view result (at_of cursor.new.counts cursor.new.rest.now) (guarded_assignment_at room (at_of cursor.old.counts cursor.old.rest.now)) }
+{
+    let target = target(cursor, room)?;
+    let _sign = cursor.take(Form::Sign(Sign::Assign))?;
+    let _word = cursor.take_choosing(Form::Keyword(Keyword::Guarded))?;
+    let choice = value(cursor, room)?;
+    Ok(Assignment { target, choice })
+}
+
+fn guarded_list(cursor: &mut Cursor, room: u32) -> Result<Vec<Assignment>, Stop>
+    ensures { Gives (λ v. map assignment_view v.items) result (at_of cursor.new.counts cursor.new.rest.now) (guarded_list_at room (at_of cursor.old.counts cursor.old.rest.now)) }
+{
+    let mut assignments = Vec::new(cursor.alloc);
+    while cursor.at(Form::Identifier) {
+        let next = guarded_assignment(cursor, room)?;
+        assignments.push(next)?;
+    }
+    Ok(assignments)
+}
+
+/// The assignments of a block, from its `begin` to its `end`.
+#[tactic(auto, unfolding(crate::specs::VbeReading::guarded_assignments_at))]
+fn guarded_assignments(cursor: &mut Cursor, room: u32) -> Result<Assignments, Stop>
+    ensures { Gives (λ a. map assignment_view a) result (at_of cursor.new.counts cursor.new.rest.now) (guarded_assignments_at room (at_of cursor.old.counts cursor.old.rest.now)) }
+{
+    let _begin = cursor.take(Form::Keyword(Keyword::Begin))?;
+    let assignments = guarded_list(cursor, room)?;
+    let _end = cursor.take(Form::Keyword(Keyword::End))?;
+    Ok(Assignments::new(assignments))
+}
+
+/// A guard, with the line of its first token, behind the parenthesis.
+#[tactic(auto, unfolding(crate::specs::VbeReading::guard_at, vhdl_front::specs::Reading::closing_at))]
+fn guard(cursor: &mut Cursor, room: u32) -> Result<(u32, Raw), Stop>
+    ensures { Gives operand_of result (at_of cursor.new.counts cursor.new.rest.now) (guard_at room (at_of cursor.old.counts cursor.old.rest.now)) }
+{
+    let _word = cursor.take_starting(Form::Keyword(Keyword::Block))?;
+    let _open = cursor.open(room)?;
+    let guard = placed_expression(cursor, room - 1)?;
+    let _close = cursor.take(Form::Sign(Sign::RightParen))?;
+    Ok(guard)
+}
+
+/// The name that was opened, which may be left out, and a semicolon.
+#[tactic(auto, unfolding(crate::specs::VbeReading::repeated_at, crate::specs::VbeReading::named_stop_at, crate::specs::VbeReading::stop_at))]
+pub fn repeated(cursor: &mut Cursor, name: &[u8]) -> Result<(), Stop>
+    ensures { Gives (λ _. tt) result (at_of cursor.new.counts cursor.new.rest.now) (repeated_at name.now (at_of cursor.old.counts cursor.old.rest.now)) }
+{
+    if cursor.at(Form::Identifier) {
+        let _name = cursor.take_spelled(name)?;
+    }
+    let _semicolon = cursor.take(Form::Sign(Sign::Semicolon))?;
+    Ok(())
+}
+
+/// A block behind this label.
+#[tactic(auto, unfolding(crate::specs::VbeReading::block_at))]
+pub fn block(cursor: &mut Cursor, room: u32, label: &[u8]) -> Result<Statement, Stop>
+    ensures { Gives statement_view result (at_of cursor.new.counts cursor.new.rest.now) (block_at room label.now (at_of cursor.old.counts cursor.old.rest.now)) }
+{
+    let (line, guard) = guard(cursor, room)?;
+    let assignments = guarded_assignments(cursor, room)?;
+    let _word = cursor.take(Form::Keyword(Keyword::Block))?;
+    repeated(cursor, label)?;
+    Ok(Statement::Block(RawBlock {
+        guard,
+        line,
+        assignments,
+    }))
+}
