@@ -1,5 +1,5 @@
 -- What an operand of a guard is.
-use Rattle.std.specs.Prelude.{ℕ, Bool, true, false, ◌&&◌, bytes_eq, List, [], ◌∷◌, ◌++◌, if◌then◌else◌}
+use Rattle.std.specs.Prelude.{ℕ, Bool, true, false, ◌&&◌, bytes_eq, List, [], ◌∷◌, ◌++◌, Option, None, Some, if◌then◌else◌}
 use Rattle.vlsi_base.specs.declared.raw.Operator.{Operator}
 use Rattle.vlsi_base.specs.declared.raw.Operator.TheVariants as operator
 use Rattle.vlsi_base.specs.Tree.{Tree, bit, literal, name, index, slice, stable, inverse, binary}
@@ -49,16 +49,16 @@ is_plain wanted (stable text line) = false
 is_plain wanted (inverse line e) = false
 is_plain wanted (binary op line left right) = false
 
--- `stable` of some name
-abbrev pub is_stable : Tree → Bool
-is_stable (bit b line) = false
-is_stable (literal radix digits line) = false
-is_stable (name text line) = false
-is_stable (index text line k) = false
-is_stable (slice text line range) = false
-is_stable (stable text line) = true
-is_stable (inverse line e) = false
-is_stable (binary op line left right) = false
+-- the name whose `stable` it is
+abbrev pub stable_name : Tree → Option (List ℕ)
+stable_name (bit b line) = None
+stable_name (literal radix digits line) = None
+stable_name (name text line) = None
+stable_name (index text line k) = None
+stable_name (slice text line range) = None
+stable_name (stable text line) = Some text
+stable_name (inverse line e) = None
+stable_name (binary op line left right) = None
 
 -- a clock's relation with '1', on whichever side the '1' stands
 abbrev pub is_beside_one : List ℕ → Tree → Tree → Bool

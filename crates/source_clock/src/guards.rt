@@ -1,12 +1,13 @@
 // What a guard joins by `and`, and which of it are further conditions. Operands of one operator that stand in a chain are
 // walked by a loop, so a walk goes only as deep as parentheses nest.
 ghost use Rattle.std.specs.Prelude.{◌≡◌, ◌++◌, ◌&&◌, ◌||◌, not, is_none, map, IfOk, OnOk, if◌then◌else◌};
+ghost use Rattle.std.specs.Option.{option_copied};
 ghost use Rattle.vlsi_base.specs.Tree.{view, operand_of};
 ghost use Rattle.source_checks.specs.Clock.{without_one, conjuncts, parts_of, is_name, steady_name, conditions_among};
-ghost use Rattle.source_clock.specs.Operands.{is_and, is_equal, is_one, is_plain, is_stable, is_beside_one, conjuncts_of};
+ghost use Rattle.source_clock.specs.Operands.{is_and, is_equal, is_one, is_plain, stable_name, is_beside_one, conjuncts_of};
 
 use std::alloc::{AllocError, Global};
-use vlsi_base::{Operator, Raw};
+use vlsi_base::{Operator, Raw, Text};
 
 fn is_and(operator: Operator) -> bool
     ensures { result ≡ is_and operator }
@@ -42,25 +43,37 @@ fn is_plain(e: &Raw, wanted: &[u8]) -> bool
     }
 }
 
-/// Whether an expression is the `stable` of a name.
-fn is_stable(e: &Raw) -> bool
-    ensures { result ≡ is_stable (view e.now) }
+/// The name whose `stable` an expression is.
+fn stable_name(e: &Raw) -> Option<&Text>
+    ensures { option_copied result ≡ stable_name (view e.now) }
 {
     match e {
-        Raw::Stable(_, _) => true,
-        Raw::Chain(_, first, others) => others.is_empty() && is_stable(first),
-        _ => false,
+        Raw::Stable(text, _) => Some(text),
+        Raw::Chain(_, first, others) => {
+            if others.is_empty() {
+                stable_name(first)
+            } else {
+                None
+            }
+        }
+        _ => None,
     }
 }
 
-/// Whether an expression turns the `stable` of a name round.
-fn is_steady(e: &Raw) -> bool
-    ensures { result ≡ not (is_none (steady_name (view e.now))) }
+/// The name whose `stable` an expression turns round.
+pub(crate) fn steady_name(e: &Raw) -> Option<&Text>
+    ensures { option_copied result ≡ steady_name (view e.now) }
 {
     match e {
-        Raw::Not(_, inner) => is_stable(inner),
-        Raw::Chain(_, first, others) => others.is_empty() && is_steady(first),
-        _ => false,
+        Raw::Not(_, inner) => stable_name(inner),
+        Raw::Chain(_, first, others) => {
+            if others.is_empty() {
+                steady_name(first)
+            } else {
+                None
+            }
+        }
+        _ => None,
     }
 }
 
@@ -76,7 +89,7 @@ fn is_beside_one(left: &Raw, right: &Raw, wanted: &[u8]) -> bool
 }
 
 /// Whether a part is this clock itself, perhaps in a relation with '1'.
-fn is_clock(e: &Raw, clock: &[u8]) -> bool
+pub(crate) fn is_clock(e: &Raw, clock: &[u8]) -> bool
     ensures { result ≡ is_name clock.now (view e.now) }
 {
     match e {
@@ -195,12 +208,16 @@ pub fn parts(alloc: Global, guard: &Raw) -> Result<Vec<&Raw>, AllocError>
 }
 
 /// Those of the parts that are neither the clock nor turn a `stable` round.
-fn further<'a>(alloc: Global, parts: &[&'a Raw], clock: &[u8]) -> Result<Vec<&'a Raw>, AllocError>
+pub(crate) fn further<'a>(
+    alloc: Global,
+    parts: &[&'a Raw],
+    clock: &[u8],
+) -> Result<Vec<&'a Raw>, AllocError>
     ensures { IfOk result (λ found. map (λ r. view r.now) found.items ≡ conditions_among clock.now (map (λ r. view r.now) parts.now)) }
 {
     let mut found = Vec::new(alloc);
     for part in parts {
-        if !is_clock(part, clock) && !is_steady(part) {
+        if !is_clock(part, clock) && steady_name(part).is_none() {
             found.push(*part)?;
         }
     }
