@@ -1,4 +1,8 @@
-ghost use Rattle.std.specs.Prelude.{◌≡◌, IfOk};
+// Copies of expressions, with the same variables or with others.
+ghost use Rattle.std.specs.Prelude.{◌≡◌, length, IfOk};
+ghost use Rattle.std.specs.List.{slice_index_or};
+ghost use Rattle.bool_expr.specs.Expression.{IsOver};
+ghost use Rattle.bool_expr.specs.Renumbering.{renumbered, renumbered_within};
 ghost use Rattle.bool_expr.specs.View.{view};
 ghost use Rattle.bool_expr.specs.Steps.{with_step, with_steps};
 
@@ -14,44 +18,68 @@ enum Step {
 }
 
 /// An equal expression, on this allocator.
-#[cycle(copy)]
-#[tactic(auto, using(crate::proofs::Steps::with_steps_push))]
+#[tactic(auto, using(crate::proofs::OtherVariables::within_none))]
 pub fn copy(alloc: Global, e: &Expr) -> Result<Expr, AllocError>
     ensures { IfOk result (λ made. view made ≡ view e.now) }
 {
-    let (steps, last) = steps(alloc, e)?;
+    walked(alloc, e, &[])
+}
+
+/// The expression with variable k replaced by `numbers[k]`, on this allocator.
+#[tactic(auto, using(crate::proofs::OtherVariables::within_all))]
+pub fn renumbered(alloc: Global, e: &Expr, numbers: &[u32]) -> Result<Expr, AllocError>
+    requires { IsOver (view e.now) (length numbers.now) }
+    ensures { IfOk result (λ made. view made ≡ renumbered numbers.now (view e.now)) }
+{
+    walked(alloc, e, numbers)
+}
+
+/// The expression with variable k replaced by `numbers[k]`, where that list is so long.
+#[cycle(walked)]
+#[tactic(auto, using(crate::proofs::Steps::with_steps_push))]
+fn walked(alloc: Global, e: &Expr, numbers: &[u32]) -> Result<Expr, AllocError>
+    ensures { IfOk result (λ made. view made ≡ renumbered_within numbers.now (view e.now)) }
+{
+    let (steps, last) = steps(alloc, e, numbers)?;
     built(alloc, steps, last)
 }
 
 /// The way down to the name or constant at the end of the chain, and that end.
-#[cycle(copy)]
+#[cycle(walked)]
 #[tactic(auto, using(crate::proofs::Steps::with_steps_push))]
-fn steps(alloc: Global, e: &Expr) -> Result<(Vec<Step>, Expr), AllocError>
-    ensures { IfOk result (λ r. with_steps r.0.items (view r.1) ≡ view e.now) }
+fn steps(alloc: Global, e: &Expr, numbers: &[u32]) -> Result<(Vec<Step>, Expr), AllocError>
+    ensures { IfOk result (λ r. with_steps r.0.items (view r.1) ≡ renumbered_within numbers.now (view e.now)) }
 {
     let mut steps = Vec::new(alloc);
     let mut rest = e;
     loop {
         match rest {
             Expr::Const(bit) => return Ok((steps, Expr::Const(*bit))),
-            Expr::Var(k) => return Ok((steps, Expr::Var(*k))),
+            Expr::Var(k) => return Ok((steps, Expr::Var(number(numbers, *k)))),
             Expr::Not(inner) => {
                 steps.push(Step::Not)?;
                 rest = inner;
             }
             Expr::Pair(gate, left, right) => {
-                let right = Box::new(alloc, copy(alloc, right)?)?;
+                let right = Box::new(alloc, walked(alloc, right, numbers)?)?;
                 steps.push(Step::Pair(*gate, right))?;
                 rest = left;
             }
             Expr::Choice(condition, first, second) => {
-                let condition = Box::new(alloc, copy(alloc, condition)?)?;
-                let first = Box::new(alloc, copy(alloc, first)?)?;
+                let condition = Box::new(alloc, walked(alloc, condition, numbers)?)?;
+                let first = Box::new(alloc, walked(alloc, first, numbers)?)?;
                 steps.push(Step::Choice(condition, first))?;
                 rest = second;
             }
         }
     }
+}
+
+/// What stands in place of a variable.
+fn number(numbers: &[u32], k: u32) -> u32
+    ensures { result ≡ slice_index_or numbers.now k k }
+{
+    numbers.get(k as usize).copied().unwrap_or(k)
 }
 
 /// One operator over what was built.

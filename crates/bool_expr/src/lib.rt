@@ -1,4 +1,4 @@
-//! Boolean expressions over numbered variables: the value of one, its size, its variables, and a copy.
+//! Boolean expressions over numbered variables: the value of one, its size, its variables, a copy, and a copy over other variables.
 #![tactic(auto)]
 
 mod copies;
@@ -8,7 +8,7 @@ mod tests;
 mod values;
 mod variables;
 
-pub use copies::copy;
+pub use copies::{copy, renumbered};
 pub use expr::{Bits, Expr, Gate, Vars};
 pub use values::{size, value};
 pub use variables::support;

@@ -3,7 +3,7 @@ ghost use Rattle.std.specs.Prelude.{◌≡◌, length, IfOk};
 ghost use Rattle.bool_expr.specs.Expression.{IsOver, inverse as inverse_of, pair as pair_of, choice as choice_of};
 ghost use Rattle.bool_expr.specs.View.{view};
 
-use crate::{Bits, Expr, Gate, copy, size, support, value};
+use crate::{Bits, Expr, Gate, copy, renumbered, size, support, value};
 use std::alloc::{AllocError, Global};
 use std::test::Fail;
 
@@ -83,6 +83,18 @@ fn an_expression_and_its_copy(rt: HostRuntime) -> Result<(), Fail> {
         let vars = support(alloc, e)?;
         assert_eq!(rt; vars.as_slice(), [2, 0, 1].as_slice());
     }
+    Ok(())
+}
+
+#[test]
+fn an_expression_over_other_variables(rt: HostRuntime) -> Result<(), Fail> {
+    let alloc = rt.alloc();
+    let sum = pair(alloc, Gate::Xor, Expr::Var(1), Expr::Const(true))?;
+    let e = choice(alloc, Expr::Var(2), Expr::Var(0), sum)?;
+    let made = renumbered(alloc, &e, &[5, 3, 0])?;
+    assert_eq!(rt; size(&made), 8);
+    let vars = support(alloc, &made)?;
+    assert_eq!(rt; vars.as_slice(), [0, 5, 3].as_slice());
     Ok(())
 }
 

@@ -163,7 +163,8 @@ fn statements_form(table: &Table, statements: &[Statement]) -> Option<u32>
     None
 }
 
-fn is_supply(text: &[u8]) -> bool
+/// Whether a name is one of the two supplies.
+pub fn is_supply(text: &[u8]) -> bool
     ensures { result ≡ is_supply text.now }
 {
     text == b"vdd".as_slice() || text == b"vss".as_slice()

@@ -1,7 +1,7 @@
 use Rattle.std.proofs.Common.{rules}
 use Rattle.bool_expr.specs.declared.expr.Expr.TheViews.{the_lemmas}
 use Rattle.bool_expr.proofs.Steps.{with_steps_more}
-use Rattle.bool_expr.proofs.copies.+copy.Goals as goal
+use Rattle.bool_expr.proofs.copies.+walked.Goals as goal
 
 pub steps-loop-rest-preserved-in-Not : goal.steps-loop-rest-preserved-in-Not
 steps-loop-rest-preserved-in-Not t c =

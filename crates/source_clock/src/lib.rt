@@ -1,0 +1,14 @@
+//! Guards of blocks: what they join, the clock that they name, the conditions beside it, and the check that a text has one
+//! clock, which stands nowhere else.
+#![tactic(auto)]
+
+mod clocks;
+mod faults;
+mod guards;
+mod reads;
+#[cfg(test)]
+mod tests;
+
+pub use clocks::clock;
+pub use faults::clock_fault;
+pub use guards::{conditions, parts};
