@@ -6,6 +6,8 @@ mod build;
 mod index;
 mod known;
 mod reader;
+#[cfg(test)]
+mod tests;
 mod times;
 mod widths;
 mod writer;
