@@ -1,6 +1,16 @@
-//! Pattern files: the writer.
+//! Pattern files: the reader with its checks, and the writer.
 #![tactic(auto)]
 
+mod bits;
+mod build;
+mod index;
+mod known;
+mod reader;
+#[cfg(test)]
+mod tests;
+mod times;
+mod widths;
 mod writer;
 
+pub use reader::read_pat;
 pub use writer::write_pat;

@@ -1,2 +1,1 @@
-pub mod Saturating
-pub mod Reading
+pub mod NoPragmas

@@ -1,65 +1,44 @@
 -- What stands at the front of a text: the longest token there, or what may stand between tokens.
-use Rattle.std.specs.Prelude.{ℕ, ◌+◌, ◌-◌, ◌^◌, ◌<◌, ◌≤◌, ◌==◌, Bool, ◌||◌, ◌&&◌, List, [], ◌∷◌, length, map, take, drop, find, min, codes, Option, Some, None, nat_eq, nat_lt, slice_index, if◌then◌else◌}
+use Rattle.std.specs.Prelude.{ℕ, ◌==◌, Bool, true, false, ◌||◌, ◌&&◌, List, map, take, codes, Option, Some, None, nat_eq, nat_lt, slice_index, if◌then◌else◌}
 use Rattle.std.specs.List.{prefix_len, starts_with}
 use Rattle.std.specs.Char.{is_ascii_alphabetic, is_ascii_digit, to_ascii_lowercase}
-use Rattle.vlsi_base.specs.Number.{value_of}
-use Rattle.pat_lexer.specs.declared.token.Token.TheVariants as token
-use Rattle.vhdl_token.specs.declared.token.Sign.{Sign}
+use Rattle.vhdl_token.specs.declared.keyword.Keyword.{Keyword}
+use Rattle.vhdl_token.specs.declared.keyword.Keyword.TheVariants as word
+use Rattle.vhdl_token.specs.declared.token.Token.{Token}
+use Rattle.vhdl_token.specs.declared.token.Token.TheVariants as token
 use Rattle.vhdl_token.specs.declared.token.Sign.TheVariants as sign
-use Rattle.vhdl_token.specs.Signs.{sign_text}
-use Rattle.pat_lexer.specs.declared.piece.Piece.{Piece}
-use Rattle.pat_lexer.specs.declared.piece.Piece.TheVariants as piece
-use Rattle.pat_lexer.specs.Bytes.{is_blank, is_letter_or_digit, is_in_word, is_in_quotes, is_on_line}
+use Rattle.vhdl_token.specs.Keyword.{keyword_of}
+use Rattle.lexer_base.specs.declared.piece.Piece.{Piece}
+use Rattle.lexer_base.specs.declared.piece.Piece.TheVariants as piece
+use Rattle.lexer_base.specs.Bytes.{is_blank, is_in_word, is_on_line}
+use Rattle.lexer_base.specs.Lexical.{number_at, quotation_at, sign_at}
+
+-- a letter or a digit
+abbrev pub is_letter_or_digit : ℕ → Bool
+is_letter_or_digit b = is_ascii_alphabetic b || is_ascii_digit b
+
+-- Of the reserved words only in, out, begin and end mean something in a pattern file; each other word is an identifier.
+abbrev pub word_token : Option Keyword → List ℕ → Token
+word_token (Some word.In) name = token.Keyword word.In
+word_token (Some word.Out) name = token.Keyword word.Out
+word_token (Some word.Begin) name = token.Keyword word.Begin
+word_token (Some word.End) name = token.Keyword word.End
+word_token _ name = token.Identifier name
 
 -- letters, digits and underscores, as many as stand there, read in lower case
 unfoldable pub word_at : List ℕ → Piece
 word_at text =
     let n = prefix_len is_in_word text in
-    if nat_lt 64 n then piece.TooLong n else piece.Token (token.Word (map to_ascii_lowercase (take n text))) n
+    let name = map to_ascii_lowercase (take n text) in
+    if nat_lt 64 n then piece.TooLong n else piece.Token (word_token (keyword_of name) name) n
 
 -- the digits of a value: letters and digits, as many as stand there, read in lower case
 unfoldable pub digits_at : List ℕ → Piece
 digits_at text = let n = prefix_len is_letter_or_digit text in piece.Token (token.Digits (map to_ascii_lowercase (take n text))) n
 
--- decimal digits, as many as stand there
-unfoldable pub number_at : List ℕ → Piece
-number_at text =
-    let n = prefix_len is_ascii_digit text in
-    let value = value_of (take n text) in
-    if nat_lt value (2 ^ 32) then piece.Token (token.Number value) n else piece.TooGreat (min value (2 ^ 64 - 1))
-
--- how many bytes stand before the double quote that closes a text on its line
-unfoldable pub quoted_length : List ℕ → Option ℕ
-quoted_length text = let n = prefix_len is_in_quotes text in if slice_index text n == 34 then Some n else None
-
-abbrev pub quotation_of : Option ℕ → Piece
-quotation_of None = piece.Bad
-quotation_of (Some n) = piece.Token token.Quoted (n + 2)
-
--- a text between double quotes
-unfoldable pub quotation_at : List ℕ → Piece
-quotation_at text = quotation_of (quoted_length (drop 1 text))
-
 -- two dashes, and what follows on the line
 unfoldable pub comment_at : List ℕ → Piece
 comment_at text = piece.Comment (prefix_len is_on_line text)
-
--- the signs, each before those that it begins with
-abbrev pub signs : List Sign
-signs =
-    sign.Assign ∷ sign.Arrow ∷ sign.Default ∷ sign.Unequal ∷ sign.LeftParen ∷ sign.RightParen ∷ sign.Comma ∷ sign.Semicolon ∷ sign.Colon ∷ sign.Equal ∷ sign.Ampersand ∷ sign.Bar ∷ sign.Tick ∷ sign.Less ∷ sign.Greater ∷ sign.Plus ∷ sign.Question ∷ sign.Star ∷ []
-
--- the first of some signs with which a text begins
-abbrev pub sign_among : List ℕ → List Sign → Option Sign
-sign_among text ss = find (λ s. starts_with nat_eq text (sign_text s)) ss
-
-abbrev pub sign_of : Option Sign → Piece
-sign_of None = piece.Bad
-sign_of (Some s) = piece.Token (token.Sign s) (length (sign_text s))
-
--- the longest sign
-unfoldable pub sign_at : List ℕ → Piece
-sign_at text = sign_of (sign_among text signs)
 
 -- the piece at the front of a text that has a byte, where values stand or elsewhere
 unfoldable pub piece_at : Bool → List ℕ → Piece
@@ -74,16 +53,8 @@ piece_at is_value text =
     else (if starts_with nat_eq text (codes "--") then comment_at text
     else sign_at text))))))
 
--- how many bytes a piece takes
-abbrev pub length_of : Piece → ℕ
-length_of piece.Blank = 1
-length_of piece.NewLine = 1
-length_of (piece.Comment n) = n
-length_of (piece.Token t n) = n
-length_of (piece.TooLong n) = 1
-length_of (piece.TooGreat n) = 1
-length_of piece.Bad = 1
-
--- the piece takes some of the bytes of the text
-abbrev pub IsWithin : Piece → List ℕ → Type 0
-IsWithin p text = (0 < length_of p) × (length_of p ≤ length text)
+-- whether values stand behind a piece: they do behind a colon, up to the next semicolon
+abbrev pub value_behind : Piece → Bool → Bool
+value_behind (piece.Token (token.Sign sign.Colon) n) is_value = true
+value_behind (piece.Token (token.Sign sign.Semicolon) n) is_value = false
+value_behind _ is_value = is_value

@@ -1,4 +1,2 @@
-pub mod Bytes
 pub mod Lexical
 pub mod Listing
-pub mod Whole

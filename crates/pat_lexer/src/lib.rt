@@ -4,7 +4,5 @@
 mod bytes;
 mod listing;
 mod piece;
-mod token;
 
 pub use listing::tokens;
-pub use token::{PlacedToken, PlacedTokens, Token, Tokens};

@@ -1,90 +1,29 @@
 // What stands at a place of a text.
-ghost use Rattle.std.specs.Prelude.{◌≡◌, ◌<◌, ◌≤◌, ◌-◌, ◌^◌, length, map, take, min, codes, nat_eq, slice_index, true, IfOk, IfSome};
+ghost use Rattle.std.specs.Prelude.{◌≡◌, ◌<◌, length, codes, nat_eq, slice_index, true, IfOk};
 ghost use Rattle.std.specs.List.{starts_with};
-ghost use Rattle.std.specs.Char.{is_ascii_digit};
-ghost use Rattle.vlsi_base.specs.Number.{value_of};
-ghost use Rattle.vhdl_token.specs.Signs.{sign_text};
-ghost use Rattle.pat_lexer.specs.Bytes.{is_in_word, is_letter_or_digit as is_letter_or_digit_byte};
-ghost use Rattle.pat_lexer.specs.Listing.{value_behind};
-ghost use Rattle.pat_lexer.specs.Lexical.{IsWithin, length_of, quoted_length, quotation_at, digits_at, word_at, number_at, sign_among, sign_at, comment_at, piece_at};
+ghost use Rattle.vhdl_token.specs.Keyword.{keyword_of};
+ghost use Rattle.lexer_base.specs.Bytes.{is_in_word};
+ghost use Rattle.lexer_base.specs.Lexical.{IsWithin};
+ghost use Rattle.pat_lexer.specs.Lexical.{is_letter_or_digit as is_letter_or_digit_byte, value_behind, digits_at, word_token as token_of_word, word_at, comment_at, piece_at};
 
-use crate::bytes::{
-    digits, is_blank, is_letter_or_digit, letters_and_digits, line_length, lower, quoted,
-    word_length,
+use crate::bytes::{is_letter_or_digit, letters_and_digits};
+use lexer_base::{
+    MOST_BYTES, Piece, is_blank, line_length, lower, number, quotation, sign, word_length,
 };
-use crate::token::Token;
 use std::alloc::{AllocError, Global};
-use vhdl_token::Sign;
+use vhdl_token::{Keyword, Sign, Token};
+use vlsi_base::Text;
 
-/// The most bytes of an identifier.
-const MOST_BYTES: usize = 64;
-
-/// What stands at a place of a text: a token or what may stand between tokens, with the number of its bytes, or why there
-/// is no token.
-#[derive(Debug, Drop)]
-pub enum Piece {
-    /// One space, tab or carriage return.
-    Blank,
-    /// The end of a line.
-    NewLine,
-    /// Two dashes and the rest of the line.
-    Comment(usize),
-    Token(Token, usize),
-    /// An identifier of more than 64 bytes.
-    TooLong(usize),
-    /// A number over 32 bits, or the greatest of 64 bits where that is less.
-    TooGreat(u64),
-    /// A byte that begins no token.
-    Bad,
-}
-
-impl Piece {
-    /// How many bytes it takes. What is no token takes one.
-    pub fn length(&self) -> usize
-        ensures { result ≡ length_of self.now }
-    {
-        match self {
-            Piece::Comment(length) => *length,
-            Piece::Token(_, length) => *length,
-            _ => 1,
-        }
-    }
-}
-
-/// The signs, each before those that it begins with.
-static SIGNS: [Sign; 18] = [
-    Sign::Assign,
-    Sign::Arrow,
-    Sign::Default,
-    Sign::Unequal,
-    Sign::LeftParen,
-    Sign::RightParen,
-    Sign::Comma,
-    Sign::Semicolon,
-    Sign::Colon,
-    Sign::Equal,
-    Sign::Ampersand,
-    Sign::Bar,
-    Sign::Tick,
-    Sign::Less,
-    Sign::Greater,
-    Sign::Plus,
-    Sign::Question,
-    Sign::Star,
-];
-
-/// How many bytes stand before the double quote that closes a text on its line, if one does. The text goes on behind the
-/// quote that opens it.
-#[tactic(auto, unfolding(crate::specs::Lexical::quoted_length))]
-fn quoted_length(text: &[u8]) -> Option<usize>
-    ensures count { result ≡ quoted_length text.now }
-    ensures within { IfSome result (λ n. n < length text.now) }
+/// The token that a word in lower case is: only in, out, begin and end mean something.
+fn word_token(name: Text) -> Token
+    ensures { result ≡ token_of_word (keyword_of name) name }
 {
-    let length = quoted(text);
-    if length < text.len() && text[length] == b'"' {
-        Some(length)
-    } else {
-        None
+    match Keyword::from_word(name.as_bytes()) {
+        Some(Keyword::In) => Token::Keyword(Keyword::In),
+        Some(Keyword::Out) => Token::Keyword(Keyword::Out),
+        Some(Keyword::Begin) => Token::Keyword(Keyword::Begin),
+        Some(Keyword::End) => Token::Keyword(Keyword::End),
+        _ => Token::Identifier(name),
     }
 }
 
@@ -100,7 +39,7 @@ fn word(alloc: Global, text: &[u8]) -> Result<Piece, AllocError>
         return Ok(Piece::TooLong(length));
     }
     let name = lower(alloc, &text[..length])?;
-    Ok(Piece::Token(Token::Word(name), length))
+    Ok(Piece::Token(word_token(name), length))
 }
 
 /// The digits of a value at the front of a text, which begins with a letter or a digit.
@@ -115,34 +54,6 @@ fn value_digits(alloc: Global, text: &[u8]) -> Result<Piece, AllocError>
     Ok(Piece::Token(Token::Digits(name), length))
 }
 
-/// The number that digits spell, or the greatest of the type where that is less.
-fn saturating_value(digits: &[u8]) -> u64
-    ensures { result ≡ min (value_of digits.now) (2 ^ 64 - 1) }
-{
-    let mut value = 0u64;
-    for digit in digits {
-        value = value
-            .saturating_mul(10)
-            .saturating_add(u64::from(digit.saturating_sub(b'0')));
-    }
-    value
-}
-
-/// The number at the front of a text, which begins with a digit.
-#[tactic(auto, unfolding(crate::specs::Lexical::number_at))]
-fn number(text: &[u8]) -> Piece
-    requires { is_ascii_digit (slice_index text.now 0) ≡ true }
-    ensures piece { result ≡ number_at text.now }
-    ensures within { IsWithin result text.now }
-{
-    let length = digits(text);
-    let value = saturating_value(&text[..length]);
-    match u32::try_from(value) {
-        Ok(number) => Piece::Token(Token::Number(number), length),
-        Err(_) => Piece::TooGreat(value),
-    }
-}
-
 /// The comment at the front of a text, which begins with two dashes.
 #[tactic(auto, unfolding(crate::specs::Lexical::comment_at))]
 fn comment(text: &[u8]) -> Piece
@@ -151,45 +62,6 @@ fn comment(text: &[u8]) -> Piece
     ensures within { IsWithin result text.now }
 {
     Piece::Comment(line_length(text))
-}
-
-/// The text between double quotes at the front of a text, which begins with one.
-#[tactic(auto, unfolding(crate::specs::Lexical::quotation_at))]
-fn quotation(text: &[u8]) -> Piece
-    requires { 0 < length text.now }
-    ensures piece { result ≡ quotation_at text.now }
-    ensures within { IsWithin result text.now }
-{
-    match quoted_length(&text[1..]) {
-        Some(length) => Piece::Token(Token::Quoted, length + 2),
-        None => Piece::Bad,
-    }
-}
-
-/// The first of these signs with which a text begins.
-fn sign_among(signs: &[Sign], text: &[u8]) -> Option<Sign>
-    ensures first { result ≡ sign_among text.now signs.now }
-    ensures within { IfSome result (λ s. length (sign_text s) ≤ length text.now) }
-{
-    for sign in signs {
-        if text.starts_with(sign.as_str().as_bytes()) {
-            return Some(*sign);
-        }
-    }
-    None
-}
-
-/// The sign at the front of a text.
-#[tactic(auto, unfolding(crate::specs::Lexical::sign_at))]
-fn sign(text: &[u8]) -> Piece
-    requires { 0 < length text.now }
-    ensures piece { result ≡ sign_at text.now }
-    ensures within { IsWithin result text.now }
-{
-    match sign_among(&SIGNS, text) {
-        Some(sign) => Piece::Token(Token::Sign(sign), sign.as_str().len()),
-        None => Piece::Bad,
-    }
 }
 
 /// The longest piece at the front of a text, where values stand or elsewhere.
@@ -216,7 +88,7 @@ pub fn first_piece(alloc: Global, is_value: bool, text: &[u8]) -> Result<Piece, 
         return Ok(number(text));
     }
     if first == b'"' {
-        return Ok(quotation(text));
+        return quotation(alloc, text);
     }
     if text.starts_with(b"--") {
         return Ok(comment(text));

@@ -14,7 +14,7 @@ use Rattle.machine_meaning.specs.Machine.{Machine}
 use Rattle.pat_meaning.specs.declared.patterns.Pattern.{Pattern}
 use Rattle.pat_meaning.specs.declared.patterns.Patterns.{Patterns}
 use Rattle.pat_meaning.specs.Answers.{IsFilled, DiffersAt}
-use Rattle.pat_io.specs.Reading.{IsPatternText, IsPatternRefusal}
+use Rattle.pat_io.specs.PatternText.{IsPatternText, IsPatternRefusal}
 use Rattle.pat_io.specs.Spelling.{text_of}
 use Rattle.vbe_io.specs.Text.{IsVbe, IsVbeRefusal}
 use Rattle.tool_words.specs.declared.command.AsimutCommand.{AsimutCommand}

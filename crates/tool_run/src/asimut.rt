@@ -4,7 +4,7 @@ ghost use Rattle.vlsi_shelf.specs.Counts.{NoneFalls};
 ghost use Rattle.tool_run.specs.Outside.{outside};
 ghost use Rattle.tool_run.specs.Status.{has_line};
 ghost use Rattle.pat_meaning.specs.Answers.{AreFor, IsFilled};
-ghost use Rattle.pat_io.specs.Reading.{IsPatternText};
+ghost use Rattle.pat_io.specs.PatternText.{IsPatternText};
 ghost use Rattle.pat_io.specs.Spelling.{text_of};
 ghost use Rattle.vbe_io.specs.Text.{IsVbe};
 ghost use Rattle.tool_run.specs.Asimut.{label_of, OfBoth, IsSimulation, Caused};

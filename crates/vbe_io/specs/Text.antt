@@ -1,16 +1,43 @@
--- stub
-use Rattle.std.specs.Prelude.{◌≡◌, ℕ, List, [], ◌∷◌}
+-- Which texts of bytes are machines, and why others aren't.
+use Rattle.std.specs.Prelude.{◌≡◌, ◌≤◌, ◌<◌, ℕ, ◌+◌, List, length, Option, None, Some}
+use Rattle.vlsi_base.specs.declared.fault.LimitKind.TheVariants as kind
 use Rattle.vlsi_base.specs.declared.fault.ReadError.{ReadError}
 use Rattle.vlsi_base.specs.declared.fault.ReadError.TheVariants as errors
+use Rattle.vhdl_lexer.specs.Listing.{tokens_in, refusal_in}
 use Rattle.machine_meaning.specs.Machine.{Machine}
+use Rattle.source_checks.specs.declared.statement.RawMachine.{RawMachine}
+use Rattle.source_checks.specs.Checks.{Passes, IsRefused}
+use Rattle.source_checks.specs.Elaboration.{IsMachineOf}
+use Rattle.vbe_text.specs.Source.{source_view}
+use Rattle.vbe_text.specs.Vbe.{IsSource, IsRefusedSource}
 
+-- the most bytes of a text
+abbrev pub most_bytes : ℕ
+most_bytes = 1048576
+
+-- what is written, where the bytes are few enough and are cut into tokens
+pub record IsWritten (bytes : List ℕ) (raw : RawMachine) : Type 0 where
+  pub few : length bytes ≤ most_bytes
+  pub cut : refusal_in bytes ≡ None
+  pub source : IsSource (tokens_in bytes) (source_view raw)
+
+-- The bytes are a data-flow text that passes all checks, and this is its machine.
 pub record IsVbe (bytes : List ℕ) (m : Machine) : Type 0 where
-  pub stub : bytes ≡ m.name
+  pub raw : RawMachine
+  pub written : IsWritten bytes raw
+  pub passes : Passes raw
+  pub machine : IsMachineOf raw m
 
-pub record IsStub (bytes : List ℕ) (e : ReadError) : Type 0 where
-  pub stub : bytes ≡ 0 ∷ []
+-- Why bytes are no machine, in this order: there are too many, they aren't cut into tokens, the tokens are no text, or a check
+-- fails.
+pub data Refused (bytes : List ℕ) (e : ReadError) : Type 0 where
+  long : most_bytes < length bytes → e ≡ errors.Limit (record { which = kind.File; reached = most_bytes + 1 }) → Refused bytes e
+  uncut : length bytes ≤ most_bytes → refusal_in bytes ≡ Some e → Refused bytes e
+  unwritten : length bytes ≤ most_bytes → refusal_in bytes ≡ None → IsRefusedSource (tokens_in bytes) e → Refused bytes e
+  faulty : (raw : RawMachine) → IsWritten bytes raw → IsRefused raw e → Refused bytes e
 
+-- the refusal, or memory has run out
 abbrev pub IsVbeRefusal : List ℕ → ReadError → Type 0
 IsVbeRefusal bytes errors.Memory = Unit {0}
-IsVbeRefusal bytes (errors.Input f) = IsStub bytes (errors.Input f)
-IsVbeRefusal bytes (errors.Limit l) = IsStub bytes (errors.Limit l)
+IsVbeRefusal bytes (errors.Input f) = Refused bytes (errors.Input f)
+IsVbeRefusal bytes (errors.Limit l) = Refused bytes (errors.Limit l)

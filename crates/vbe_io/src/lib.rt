@@ -1,16 +1,6 @@
-//! Stub.
+//! Data-flow texts: from bytes to a machine that has passed all checks.
 #![tactic(auto)]
-ghost use Rattle.std.specs.Prelude.{IfOk, IfErr};
-ghost use Rattle.vbe_io.specs.Text.{IsVbe, IsVbeRefusal};
 
-use machine_core::Machine;
-use std::alloc::Global;
-use vlsi_base::ReadError;
+mod reader;
 
-/// Stub.
-pub fn read_vbe(_alloc: Global, _bytes: &[u8]) -> Result<Machine, ReadError>
-    ensures accepted { IfOk result (λ m. IsVbe _bytes.now m) }
-    ensures refused { IfErr result (λ e. IsVbeRefusal _bytes.now e) }
-{
-    Err(ReadError::Memory)
-}
+pub use reader::read_vbe;

@@ -1,3 +1,1 @@
 pub mod Conjunctions
-pub mod Saturating
-pub mod Reading

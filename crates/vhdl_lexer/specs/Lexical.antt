@@ -1,20 +1,17 @@
 -- What stands at the front of a text: the longest token there, or what may stand between tokens.
-use Rattle.std.specs.Prelude.{ℕ, ◌+◌, ◌-◌, ◌^◌, ◌<◌, ◌≤◌, ◌==◌, true, false, ◌||◌, List, [], ◌∷◌, length, map, take, drop, find, min, codes, Option, Some, None, unwrap_or, nat_eq, nat_lt, slice_index, slice_range, if◌then◌else◌}
+use Rattle.std.specs.Prelude.{ℕ, ◌+◌, ◌==◌, true, false, ◌||◌, List, map, take, drop, codes, Option, Some, None, unwrap_or, nat_eq, nat_lt, slice_index, slice_range, if◌then◌else◌}
 use Rattle.std.specs.List.{prefix_len, starts_with}
 use Rattle.std.specs.Char.{is_ascii_alphabetic, is_ascii_digit, to_ascii_lowercase}
-use Rattle.vlsi_base.specs.Number.{value_of}
 use Rattle.vhdl_token.specs.declared.keyword.Keyword.{Keyword}
 use Rattle.vhdl_token.specs.declared.token.Token.{Token}
 use Rattle.vhdl_token.specs.declared.token.Token.TheVariants as token
 use Rattle.vhdl_token.specs.declared.token.Base.{Base}
 use Rattle.vhdl_token.specs.declared.token.Base.TheVariants.{Binary, Octal, Hexadecimal}
-use Rattle.vhdl_token.specs.declared.token.Sign.{Sign}
-use Rattle.vhdl_token.specs.declared.token.Sign.TheVariants as sign
 use Rattle.vhdl_token.specs.Keyword.{keyword_of}
-use Rattle.vhdl_token.specs.Signs.{sign_text}
-use Rattle.vhdl_lexer.specs.declared.piece.Piece.{Piece}
-use Rattle.vhdl_lexer.specs.declared.piece.Piece.TheVariants as piece
-use Rattle.vhdl_lexer.specs.Bytes.{is_blank, is_in_word, is_in_quotes, is_on_line}
+use Rattle.lexer_base.specs.declared.piece.Piece.{Piece}
+use Rattle.lexer_base.specs.declared.piece.Piece.TheVariants as piece
+use Rattle.lexer_base.specs.Bytes.{is_blank, is_in_word, is_on_line}
+use Rattle.lexer_base.specs.Lexical.{number_at, quoted_length, quotation_at, sign_at}
 use Rattle.vhdl_lexer.specs.Words.{pragma_of}
 
 -- a reserved word, or else an identifier
@@ -28,17 +25,6 @@ word_at text =
     let n = prefix_len is_in_word text in
     let name = map to_ascii_lowercase (take n text) in
     if nat_lt 64 n then piece.TooLong n else piece.Token (word_token (keyword_of name) name) n
-
--- decimal digits, as many as stand there
-unfoldable pub number_at : List ℕ → Piece
-number_at text =
-    let n = prefix_len is_ascii_digit text in
-    let value = value_of (take n text) in
-    if nat_lt value (2 ^ 32) then piece.Token (token.Number value) n else piece.TooGreat (min value (2 ^ 64 - 1))
-
--- how many bytes stand before the double quote that closes a text on its line
-unfoldable pub quoted_length : List ℕ → Option ℕ
-quoted_length text = let n = prefix_len is_in_quotes text in if slice_index text n == 34 then Some n else None
 
 -- the base that a letter stands for: b, o or x
 abbrev pub base_of : ℕ → Option Base
@@ -56,14 +42,6 @@ unfoldable pub bit_string_at : List ℕ → Option Piece
 bit_string_at text =
     if slice_index text 1 == 34 then bit_string_of (base_of (slice_index text 0)) (quoted_length (drop 2 text)) (drop 2 text) else None
 
-abbrev pub quotation_of : Option ℕ → List ℕ → Piece
-quotation_of None inside = piece.Bad
-quotation_of (Some n) inside = piece.Token (token.Quoted (take n inside)) (n + 2)
-
--- a text between double quotes
-unfoldable pub quotation_at : List ℕ → Piece
-quotation_at text = quotation_of (quoted_length (drop 1 text)) (drop 1 text)
-
 abbrev pub comment_of : Option (List ℕ × List ℕ) → ℕ → Piece
 comment_of None n = piece.Comment n
 comment_of (Some words) n = piece.Pragma words.0 words.1 n
@@ -72,23 +50,6 @@ comment_of (Some words) n = piece.Pragma words.0 words.1 n
 unfoldable pub comment_at : List ℕ → Piece
 comment_at text =
     let n = prefix_len is_on_line text in comment_of (pragma_of (slice_range text 2 n)) n
-
--- the signs, each before those that it begins with
-abbrev pub signs : List Sign
-signs =
-    sign.Assign ∷ sign.Arrow ∷ sign.Default ∷ sign.Unequal ∷ sign.LeftParen ∷ sign.RightParen ∷ sign.Comma ∷ sign.Semicolon ∷ sign.Colon ∷ sign.Equal ∷ sign.Ampersand ∷ sign.Bar ∷ sign.Tick ∷ sign.Less ∷ sign.Greater ∷ sign.Plus ∷ sign.Question ∷ sign.Star ∷ []
-
--- the first of some signs with which a text begins
-abbrev pub sign_among : List ℕ → List Sign → Option Sign
-sign_among text ss = find (λ s. starts_with nat_eq text (sign_text s)) ss
-
-abbrev pub sign_of : Option Sign → Piece
-sign_of None = piece.Bad
-sign_of (Some s) = piece.Token (token.Sign s) (length (sign_text s))
-
--- the longest sign
-unfoldable pub sign_at : List ℕ → Piece
-sign_at text = sign_of (sign_among text signs)
 
 -- the piece at the front of a text that has a byte
 unfoldable pub piece_at : List ℕ → Piece
@@ -103,18 +64,3 @@ piece_at text =
     else (if starts_with nat_eq text (codes "'0'") then piece.Token (token.Bit false) 3
     else (if starts_with nat_eq text (codes "'1'") then piece.Token (token.Bit true) 3
     else sign_at text)))))))
-
--- how many bytes a piece takes
-abbrev pub length_of : Piece → ℕ
-length_of piece.Blank = 1
-length_of piece.NewLine = 1
-length_of (piece.Comment n) = n
-length_of (piece.Pragma key name n) = n
-length_of (piece.Token t n) = n
-length_of (piece.TooLong n) = 1
-length_of (piece.TooGreat n) = 1
-length_of piece.Bad = 1
-
--- the piece takes some of the bytes of the text
-abbrev pub IsWithin : Piece → List ℕ → Type 0
-IsWithin p text = (0 < length_of p) × (length_of p ≤ length text)

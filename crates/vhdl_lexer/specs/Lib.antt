@@ -1,5 +1,3 @@
-pub mod Bytes
 pub mod Words
 pub mod Lexical
 pub mod Listing
-pub mod Whole

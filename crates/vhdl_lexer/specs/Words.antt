@@ -1,10 +1,14 @@
 -- Words of comments, and the pragma that a comment may be.
-use Rattle.std.specs.Prelude.{ℕ, ◌-◌, ◌==◌, Bool, ◌&&◌, List, [], length, map, take, drop, take_while, codes, Option, Some, None, is_none, nat_le, slice_index, if◌then◌else◌}
+use Rattle.std.specs.Prelude.{ℕ, ◌-◌, ◌==◌, Bool, not, ◌&&◌, List, [], length, map, take, drop, take_while, codes, Option, Some, None, is_none, nat_le, slice_index, if◌then◌else◌}
 use Rattle.std.specs.List.{prefix_len, list_all}
 use Rattle.std.specs.Str.{bytes_eq}
 use Rattle.std.specs.Char.{is_ascii_alphabetic, to_ascii_lowercase}
 use Rattle.vhdl_token.specs.Keyword.{keyword_of}
-use Rattle.vhdl_lexer.specs.Bytes.{is_blank, is_unblank, is_in_word}
+use Rattle.lexer_base.specs.Bytes.{is_blank, is_in_word}
+
+-- neither a space nor a tab
+abbrev pub is_unblank : ℕ → Bool
+is_unblank b = not (is_blank b)
 
 -- a letter, then letters, digits and underscores, at most 64 bytes
 abbrev pub is_spelled_as_identifier : List ℕ → Bool

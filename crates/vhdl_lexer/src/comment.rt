@@ -3,16 +3,14 @@ ghost use Rattle.std.specs.Prelude.{◌≡◌, IfOk, codes, map};
 ghost use Rattle.std.specs.Str.{bytes_eq};
 ghost use Rattle.std.specs.Char.{to_ascii_lowercase};
 ghost use Rattle.std.specs.List.{list_all};
-ghost use Rattle.vhdl_lexer.specs.Bytes.{is_in_word};
+ghost use Rattle.lexer_base.specs.Bytes.{is_in_word};
 ghost use Rattle.vhdl_lexer.specs.Words.{is_spelled_as_identifier, identifier_of, both, first_word, after_word, without_return, pragma_of};
 
-use crate::bytes::{blanks, is_in_word, lower, unblanked};
+use crate::blanks::{blanks, unblanked};
+use lexer_base::{MOST_BYTES, is_in_word, lower};
 use std::alloc::{AllocError, Global};
 use vhdl_token::Keyword;
 use vlsi_base::Text;
-
-/// The most bytes of an identifier.
-pub const MOST_BYTES: usize = 64;
 
 fn all_in_word(word: &[u8]) -> bool
     ensures { result ≡ list_all is_in_word word.now }

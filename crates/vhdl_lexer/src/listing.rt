@@ -1,85 +1,19 @@
 // The tokens of a whole text.
-ghost use Rattle.std.specs.Prelude.{◌≡◌, ◌++◌, [], None, IfOk, IfErr, OnOk};
-ghost use Rattle.vhdl_lexer.specs.Listing.{line_after, tokens_of, pragmas_of, refusal_of, tokens_in, refusal_in, IsRefusal};
-ghost use Rattle.vhdl_lexer.specs.Whole.{IsWhole};
+ghost use Rattle.std.specs.Prelude.{◌≡◌, None, IfOk, IfErr, OnOk};
+ghost use Rattle.lexer_base.specs.Listing.{IsRefusal};
+ghost use Rattle.lexer_base.specs.Whole.{IsWhole};
+ghost use Rattle.vhdl_lexer.specs.Listing.{pieces, tokens_in, refusal_in};
 
-use crate::piece::{Piece, first_piece};
+use crate::piece::first_piece;
+use lexer_base::Front;
 use std::alloc::Global;
-use vhdl_token::{PlacedToken, PlacedTokens, Tokens};
-use vlsi_base::{FaultKind, InputFault, Limit, LimitKind, Names, Pragma, Pragmas, ReadError};
-
-/// What was read of a text so far.
-#[derive(Debug, Drop)]
-struct Front {
-    items: PlacedTokens,
-    pragmas: Pragmas,
-    /// The line of the next byte.
-    line: u32,
-    /// The line of the last piece.
-    last_line: u32,
-}
-
-impl Front {
-    fn new(alloc: Global) -> Self
-        ensures items { result.items ≡ [] }
-        ensures pragmas { result.pragmas ≡ [] }
-        ensures line { result.line ≡ 1 }
-        ensures last_line { result.last_line ≡ 1 }
-    {
-        Front {
-            items: PlacedTokens::new(Vec::new(alloc)),
-            pragmas: Pragmas::new(Vec::new(alloc)),
-            line: 1,
-            last_line: 1,
-        }
-    }
-
-    /// Takes the next piece, or says why the text is refused there.
-    fn take(&mut self, alloc: Global, piece: Piece) -> Result<(), ReadError>
-        ensures items { OnOk result (self.new.items ≡ self.old.items ++ tokens_of self.old.line piece) }
-        ensures pragmas { OnOk result (self.new.pragmas ≡ self.old.pragmas ++ pragmas_of self.old.line piece) }
-        ensures line { OnOk result (self.new.line ≡ line_after self.old.line piece) }
-        ensures last_line { OnOk result (self.new.last_line ≡ self.old.line) }
-        ensures goes_on { OnOk result (refusal_of self.old.line piece ≡ None) }
-        ensures refused { IfErr result (λ e. IsRefusal e (refusal_of self.old.line piece)) }
-    {
-        let line = self.line;
-        self.last_line = line;
-        match piece {
-            Piece::Blank => Ok(()),
-            Piece::Comment(_) => Ok(()),
-            Piece::NewLine => {
-                self.line = line.saturating_add(1);
-                Ok(())
-            }
-            Piece::Pragma(key, name, _) => {
-                self.pragmas.push(Pragma { key, name, line })?;
-                Ok(())
-            }
-            Piece::Token(token, _) => {
-                self.items.push(PlacedToken { token, line })?;
-                Ok(())
-            }
-            Piece::TooLong(length) => Err(ReadError::Limit(Limit {
-                which: LimitKind::Ident,
-                reached: length as u64,
-            })),
-            Piece::TooGreat(number) => Err(ReadError::Limit(Limit {
-                which: LimitKind::Number,
-                reached: number,
-            })),
-            Piece::Bad => Err(ReadError::Input(InputFault {
-                line,
-                kind: FaultKind::BadByte,
-                names: Names::new(Vec::new(alloc)),
-            })),
-        }
-    }
-}
+use vhdl_token::Tokens;
+use vlsi_base::ReadError;
 
 /// Reads a text from its first byte to its last.
+#[tactic(auto, unfolding(crate::specs::Listing::refusal_in))]
 fn whole_text(alloc: Global, bytes: &[u8]) -> Result<Front, ReadError>
-    ensures read { IfOk result (λ front. IsWhole front bytes.now) }
+    ensures read { IfOk result (λ front. IsWhole front (pieces bytes.now)) }
     ensures refused { IfErr result (λ e. IsRefusal e (refusal_in bytes.now)) }
 {
     let mut front = Front::new(alloc);
@@ -98,21 +32,12 @@ fn whole_text(alloc: Global, bytes: &[u8]) -> Result<Front, ReadError>
 /// A text is refused at the first place where no token, comment, space, tab, carriage return or line feed stands: `Input`
 /// with `BadByte` and no names; `Limit` of `Ident` at an identifier of more than 64 bytes, and of `Number` at a number
 /// over 4,294,967,295. Memory goes by the number of bytes, and so does time.
-#[tactic(auto, unfolding(crate::specs::Listing::tokens_in))]
+#[tactic(auto, unfolding(crate::specs::Listing::tokens_in, crate::specs::Listing::refusal_in))]
 pub fn tokens(alloc: Global, bytes: &[u8]) -> Result<Tokens, ReadError>
     ensures accepted { OnOk result (refusal_in bytes.now ≡ None) }
     ensures read { IfOk result (λ read. read ≡ tokens_in bytes.now) }
     ensures refused { IfErr result (λ e. IsRefusal e (refusal_in bytes.now)) }
 {
-    let Front {
-        items,
-        pragmas,
-        line: _,
-        last_line,
-    } = whole_text(alloc, bytes)?;
-    Ok(Tokens {
-        items,
-        pragmas,
-        last_line,
-    })
+    let front = whole_text(alloc, bytes)?;
+    Ok(front.into_tokens())
 }

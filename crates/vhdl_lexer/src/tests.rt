@@ -33,6 +33,7 @@ fn put_token(alloc: Global, out: &mut Vec<u8>, token: &Token) -> Result<(), Allo
             };
             put_quoted(out, letter, digits.as_bytes())
         }
+        Token::Digits(digits) => out.extend_from_slice(digits.as_bytes()),
         Token::Sign(sign) => out.extend_from_slice(sign.as_str().as_bytes()),
     }
 }

@@ -1,0 +1,4 @@
+pub mod Bytes
+pub mod Lexical
+pub mod Listing
+pub mod Whole

@@ -1,0 +1,63 @@
+-- The values that the grammar gives match the columns.
+use Rattle.std.proofs.Common.{◌≡◌, ℕ, List, [], ◌∷◌, ◌++◌, Option, Some, None, refl, sym, ap, subst, ◌∙◌}
+use Rattle.std.specs.List.{All}
+use Rattle.std.proofs.lemmas.List.Elements.{All-nil, All-cons}
+use Rattle.vlsi_base.specs.declared.name.Dir.{Dir}
+use Rattle.vlsi_base.specs.declared.name.Dir.TheVariants as dir
+use Rattle.vhdl_token.specs.declared.token.PlacedToken.{PlacedToken}
+use Rattle.grammar_theory.specs.Marks.{Item}
+use Rattle.grammar_theory.specs.Grammar.{Grammar, list}
+use Rattle.pat_meaning.specs.declared.patterns.Format.{Format}
+use Rattle.pat_text.specs.declared.raw.RawColumn.{RawColumn}
+use Rattle.pat_text.specs.declared.raw.RawValue.{RawValue}
+use Rattle.pat_text.specs.declared.raw.RawPattern.{RawPattern}
+use Rattle.pat_text.specs.declared.raw.RawPatterns.{RawPatterns}
+use Rattle.pat_text.specs.Patterns.{given, value_of, values, pattern, file_behind, file}
+use Rattle.pat_text.specs.Answers.{IsFile}
+
+-- an input has digits
+abbrev pub Given : Dir → Option (List ℕ) → Type 0
+Given dir.In None = ⊥
+Given dir.In (Some digits) = Unit {0}
+Given dir.Out digits = Unit {0}
+
+-- a value for each column, with digits for an input
+abbrev pub Matches : List RawColumn → List RawValue → Type 0
+Matches [] [] = Unit {0}
+Matches [] (v ∷ vs) = ⊥
+Matches (c ∷ cs) [] = ⊥
+Matches (c ∷ cs) (v ∷ vs) = Given c.dir v.digits × Matches cs vs
+
+given_value : (d : Dir) (f : Format) (items : List Item) (v : RawValue) → value_of d f items v → Given d v.digits
+unfolding value_of given
+given_value dir.In f items v h = let P : RawValue → Type 0 = λ x. Given dir.In x.digits in subst P (sym h.behind.1) tt
+given_value dir.Out f items v h = tt
+
+matching : (cs : List RawColumn) (items : List Item) (vs : List RawValue) → values cs items vs → Matches cs vs
+unfolding values
+matching [] items vs h = let P : List RawValue → Type 0 = λ x. Matches [] x in subst P (sym h.behind.1) tt
+matching (c ∷ cs) items vs h =
+    let P : List RawValue → Type 0 = λ x. Matches (c ∷ cs) x in
+    subst P (sym h.behind.behind.1) (given_value c.dir c.format h.front h.value h.before, matching cs h.behind.front h.behind.value h.behind.before)
+
+matching_pattern : (cs : List RawColumn) (items : List Item) (p : RawPattern) → pattern cs items p → Matches cs p.values
+unfolding pattern
+matching_pattern cs items p h =
+    let P : RawPattern → Type 0 = λ x. Matches cs x.values in
+    let last = h.behind.behind.behind in
+    subst P (sym last.behind.1) (matching cs last.front last.value last.before)
+
+all_of : {A : Type 0} (L : Grammar A) (P : A → Type 0) → ((items : List Item) (v : A) → L items v → P v) → (items : List Item) (vs : List A) → list L items vs → All P vs
+all_of L P each items [] h = All-nil P
+all_of L P each items (v ∷ vs) h = All-cons P v vs (each h.0 v h.3) (all_of L P each h.1 vs h.4)
+
+matching_behind : (cs : List RawColumn) (items : List Item) (raw : RawPatterns) → file_behind cs items raw → All (λ p. Matches raw.columns p.values) raw.patterns
+unfolding file_behind
+matching_behind cs items raw h =
+    let P : RawPatterns → Type 0 = λ x. All (λ p. Matches x.columns p.values) x.patterns in
+    let ps = h.behind in
+    subst P (sym ps.behind.behind.behind.1) (all_of (pattern cs) (λ p. Matches cs p.values) (matching_pattern cs) ps.front ps.value ps.before)
+
+pub matching_file : (ts : List PlacedToken) (raw : RawPatterns) → IsFile ts raw → All (λ p. Matches raw.columns p.values) raw.patterns
+unfolding file
+matching_file ts raw h = matching_behind h.sentence.value h.sentence.back raw h.sentence.behind

@@ -1,0 +1,65 @@
+-- The bits that digits spell, and the patterns that are written.
+use Rattle.std.specs.Prelude.{ℕ, zero, suc, ◌+◌, ◌-◌, ◌/◌, ◌%◌, ◌^◌, Bool, nat_eq, nat_lt, List, [], ◌∷◌, ◌++◌, length, map, drop, Option, None, Some, if◌then◌else◌}
+use Rattle.vlsi_base.specs.declared.raw.Range.{Range}
+use Rattle.pat_meaning.specs.declared.patterns.BitRange.{BitRange}
+use Rattle.pat_meaning.specs.declared.patterns.Column.{Column}
+use Rattle.pat_meaning.specs.declared.patterns.Format.{Format}
+use Rattle.pat_meaning.specs.declared.patterns.Pattern.{Pattern}
+use Rattle.pat_meaning.specs.declared.patterns.Patterns.{Patterns}
+use Rattle.pat_meaning.specs.declared.patterns.Value.{Value}
+use Rattle.pat_meaning.specs.declared.patterns.Value.TheVariants.{Digits, Any}
+use Rattle.pat_text.specs.declared.raw.RawColumn.{RawColumn}
+use Rattle.pat_text.specs.declared.raw.RawValue.{RawValue}
+use Rattle.pat_text.specs.declared.raw.RawPattern.{RawPattern}
+use Rattle.pat_text.specs.declared.raw.RawPatterns.{RawPatterns}
+use Rattle.pat_io.specs.Spelling.{bits_of}
+use Rattle.pat_io.specs.Known.{least, greatest}
+
+-- how many bits a column lists
+abbrev pub range_width : Option Range → ℕ
+range_width None = 1
+range_width (Some r) = greatest r - least r + 1
+
+-- the last k bits of a number, from the left
+abbrev pub number_bits : ℕ → ℕ → List Bool
+number_bits zero n = []
+number_bits (suc k) n = nat_eq (n / 2 ^ k % 2) 1 ∷ number_bits k n
+
+-- what a digit stands for: those of ten and more are letters in lower case
+abbrev pub digit_value : ℕ → ℕ
+digit_value c = if nat_lt c 58 then c - 48 else c - 87
+
+abbrev pub digits_bits : Format → List ℕ → List Bool
+digits_bits f [] = []
+digits_bits f (c ∷ cs) = number_bits (bits_of f) (digit_value c) ++ digits_bits f cs
+
+-- how many of them are more than the column has: the first ones
+abbrev pub unused : RawColumn → List ℕ → ℕ
+unused c digits = length (digits_bits c.format digits) - range_width c.range
+
+abbrev pub column_bits : RawColumn → List ℕ → List Bool
+column_bits c digits = drop (unused c digits) (digits_bits c.format digits)
+
+-- ---- the patterns
+
+abbrev pub bit_range : Option Range → Option BitRange
+bit_range None = None
+bit_range (Some r) = Some (record { left = r.left; right = r.right })
+
+abbrev pub column_of : RawColumn → Column
+column_of c = record { name = c.name; dir = c.dir; range = bit_range c.range; format = c.format }
+
+abbrev pub value_for : RawColumn → Option (List ℕ) → Value
+value_for c None = Any
+value_for c (Some digits) = Digits (column_bits c digits)
+
+abbrev pub values_for : List RawColumn → List RawValue → List Value
+values_for [] vs = []
+values_for (c ∷ cs) [] = []
+values_for (c ∷ cs) (v ∷ vs) = value_for c v.digits ∷ values_for cs vs
+
+abbrev pub pattern_for : List RawColumn → RawPattern → Pattern
+pattern_for columns p = record { time = p.time; label = p.label; values = values_for columns p.values }
+
+abbrev pub patterns_for : RawPatterns → Patterns
+patterns_for raw = record { columns = map column_of raw.columns; patterns = map (pattern_for raw.columns) raw.patterns }

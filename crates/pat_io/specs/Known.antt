@@ -1,0 +1,63 @@
+-- Names that a pattern file may list: which columns are of ports, and which list a bit once more.
+use Rattle.std.specs.Prelude.{ℕ, Bool, true, false, not, ◌&&◌, ◌||◌, nat_le, bytes_eq, List, [], ◌∷◌, ◌++◌, Option, None, Some, codes, if◌then◌else◌}
+use Rattle.std.specs.List.{list_any}
+use Rattle.vlsi_base.specs.declared.name.Dir.{Dir}
+use Rattle.vlsi_base.specs.declared.name.Dir.TheVariants.{In, Out}
+use Rattle.vlsi_base.specs.declared.name.Port.{Port}
+use Rattle.vlsi_base.specs.declared.raw.Range.{Range}
+use Rattle.pat_text.specs.declared.raw.RawColumn.{RawColumn}
+
+abbrev pub is_same_dir : Dir → Dir → Bool
+is_same_dir In In = true
+is_same_dir Out Out = true
+is_same_dir In Out = false
+is_same_dir Out In = false
+
+-- vdd and vss may be listed as inputs, whether or not they are ports
+abbrev pub is_supply : List ℕ → Bool
+is_supply text = bytes_eq text (codes "vdd") || bytes_eq text (codes "vss")
+
+abbrev pub is_supply_input : RawColumn → Bool
+is_supply_input c = is_supply c.name && is_same_dir c.dir In
+
+-- a port of the direction, or some bit of one, has the name
+abbrev pub is_of_port : RawColumn → Port → Bool
+is_of_port c p = bytes_eq p.name.text c.name && is_same_dir p.dir c.dir
+
+abbrev pub is_known : List Port → RawColumn → Bool
+is_known ports c = is_supply_input c || list_any (is_of_port c) ports
+
+-- the least and the greatest bit of a range, whichever its word
+abbrev pub least : Range → ℕ
+least r = if nat_le r.left r.right then r.left else r.right
+
+abbrev pub greatest : Range → ℕ
+greatest r = if nat_le r.left r.right then r.right else r.left
+
+-- two ranges have a bit in common; where there are none both are the one bit of a scalar
+abbrev pub overlap : Option Range → Option Range → Bool
+overlap None None = true
+overlap None (Some s) = false
+overlap (Some r) None = false
+overlap (Some r) (Some s) = nat_le (least r) (greatest s) && nat_le (least s) (greatest r)
+
+-- two columns list one bit
+abbrev pub share_bit : RawColumn → RawColumn → Bool
+share_bit c d = bytes_eq c.name d.name && overlap c.range d.range
+
+-- the column is of no port, or lists a bit that one before it lists
+abbrev pub is_unknown : List Port → List RawColumn → RawColumn → Bool
+is_unknown ports before c = not (is_known ports c) || list_any (share_bit c) before
+
+abbrev pub if_at_fault : Bool → RawColumn → List RawColumn
+if_at_fault true c = c ∷ []
+if_at_fault false c = []
+
+-- the columns at fault behind these
+abbrev pub unknown_behind : List Port → List RawColumn → List RawColumn → List RawColumn
+unknown_behind ports before [] = []
+unknown_behind ports before (c ∷ cs) = if_at_fault (is_unknown ports before c) c ++ unknown_behind ports (before ++ c ∷ []) cs
+
+-- all of them, in file order
+abbrev pub unknown_columns : List Port → List RawColumn → List RawColumn
+unknown_columns ports columns = unknown_behind ports [] columns

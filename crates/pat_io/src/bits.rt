@@ -1,0 +1,135 @@
+// The bits that digits spell.
+ghost use Rattle.std.specs.Prelude.{◌≡◌, ◌++◌, ◌≤◌, ◌^◌, Some, not, IfOk, OnOk};
+ghost use Rattle.std.specs.Option.{option_copied};
+ghost use Rattle.std.specs.List.{list_all};
+ghost use Rattle.pat_io.specs.Spelling.{bits_of};
+ghost use Rattle.pat_io.specs.Digits.{range_width, number_bits, digit_value, digits_bits, unused, column_bits};
+ghost use Rattle.pat_io.specs.Fitting.{value_fits};
+
+use crate::known::{greatest, least};
+use pat_meaning::Format;
+use pat_text::RawColumn;
+use std::alloc::{AllocError, Global};
+use vlsi_base::{Range, Text};
+
+/// How many bits a column lists.
+pub fn range_width(range: Option<Range>) -> usize
+    ensures width { result ≡ range_width range }
+    ensures most { result ≤ 2 ^ 32 }
+{
+    match range {
+        None => 1,
+        Some(range) => (greatest(range) as usize).saturating_sub(least(range) as usize) + 1,
+    }
+}
+
+fn digit_value(digit: u8) -> u8
+    ensures { result ≡ digit_value digit }
+{
+    if digit < b':' {
+        digit.saturating_sub(b'0')
+    } else {
+        digit.saturating_sub(b'W')
+    }
+}
+
+/// How many bits a digit has.
+fn digit_width(format: Format) -> usize
+    ensures { result ≡ bits_of format }
+{
+    match format {
+        Format::Binary => 1,
+        Format::Octal => 3,
+        Format::Hexadecimal => 4,
+    }
+}
+
+fn push_binary(bits: &mut Vec<bool>, value: u8) -> Result<(), AllocError>
+    ensures { OnOk result (bits.new.items ≡ bits.old.items ++ number_bits 1 value) }
+{
+    bits.push(value % 2 == 1)?;
+    Ok(())
+}
+
+fn push_octal(bits: &mut Vec<bool>, value: u8) -> Result<(), AllocError>
+    ensures { OnOk result (bits.new.items ≡ bits.old.items ++ number_bits 3 value) }
+{
+    bits.push(value / 4 % 2 == 1)?;
+    bits.push(value / 2 % 2 == 1)?;
+    push_binary(bits, value)
+}
+
+fn push_hexadecimal(bits: &mut Vec<bool>, value: u8) -> Result<(), AllocError>
+    ensures { OnOk result (bits.new.items ≡ bits.old.items ++ number_bits 4 value) }
+{
+    bits.push(value / 8 % 2 == 1)?;
+    push_octal(bits, value)
+}
+
+fn push_digit(bits: &mut Vec<bool>, format: Format, digit: u8) -> Result<(), AllocError>
+    ensures { OnOk result (bits.new.items ≡ bits.old.items ++ number_bits (bits_of format) (digit_value digit)) }
+{
+    let value = digit_value(digit);
+    match format {
+        Format::Binary => push_binary(bits, value),
+        Format::Octal => push_octal(bits, value),
+        Format::Hexadecimal => push_hexadecimal(bits, value),
+    }
+}
+
+fn digits_bits(alloc: Global, format: Format, digits: &[u8]) -> Result<Vec<bool>, AllocError>
+    ensures { IfOk result (λ bits. bits.items ≡ digits_bits format digits.now) }
+{
+    let mut bits = Vec::new(alloc);
+    for digit in digits {
+        push_digit(&mut bits, format, *digit)?;
+    }
+    Ok(bits)
+}
+
+fn are_zero(bits: &[bool]) -> bool
+    ensures { result ≡ list_all not bits.now }
+{
+    bits.iter().all(|bit| !*bit)
+}
+
+fn digits_fit(alloc: Global, column: &RawColumn, digits: &Text) -> Result<bool, AllocError>
+    ensures { IfOk result (λ fits. fits ≡ value_fits column.now (Some digits.now)) }
+{
+    let width = range_width(column.range);
+    let digits = digits.as_bytes();
+    if digits.len() != width.div_ceil(digit_width(column.format)) {
+        return Ok(false);
+    }
+    let bits = digits_bits(alloc, column.format, digits)?;
+    let unused = bits.len().saturating_sub(width);
+    Ok(are_zero(&bits[..unused]))
+}
+
+/// Whether a value has as many digits as its column needs, and no bit set that the column hasn't. It takes memory for
+/// its bits.
+pub fn value_fits(
+    alloc: Global,
+    column: &RawColumn,
+    digits: Option<&Text>,
+) -> Result<bool, AllocError>
+    ensures { IfOk result (λ fits. fits ≡ value_fits column.now (option_copied digits.entry)) }
+{
+    match digits {
+        None => Ok(true),
+        Some(digits) => digits_fit(alloc, column, digits),
+    }
+}
+
+/// The bits that digits give a column, from the left. It takes memory for them.
+pub fn column_bits(
+    alloc: Global,
+    column: &RawColumn,
+    digits: &[u8],
+) -> Result<Vec<bool>, AllocError>
+    ensures { IfOk result (λ bits. bits.items ≡ column_bits column.now digits.now) }
+{
+    let bits = digits_bits(alloc, column.format, digits)?;
+    let unused = bits.len().saturating_sub(range_width(column.range));
+    bits[unused..].to_vec(alloc)
+}

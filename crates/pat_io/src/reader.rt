@@ -1,0 +1,105 @@
+// The reader.
+ghost use Rattle.std.specs.Prelude.{◌≡◌, ◌≤◌, Some, None, ◌∷◌, [], IfOk, IfErr, OnOk, length};
+ghost use Rattle.std.specs.Option.{option_copied};
+ghost use Rattle.pat_meaning.specs.Answers.{AreFor};
+ghost use Rattle.pat_lexer.specs.Listing.{tokens_in, refusal_in};
+ghost use Rattle.pat_io.specs.Digits.{patterns_for};
+ghost use Rattle.pat_io.specs.PatternText.{most_bytes, unknown_error, line_error, fault_in, OrMemory, IsWritten, IsPatternText, IsPatternRefusal};
+
+use crate::build::patterns;
+use crate::index::Index;
+use crate::known::unknown_column;
+use crate::times::time_fault;
+use crate::widths::width_fault;
+use pat_lexer::tokens;
+use pat_meaning::Patterns;
+use pat_text::{RawColumn, RawPatterns, read_patterns};
+use std::alloc::Global;
+use vlsi_base::{FaultKind, InputFault, Limit, LimitKind, Name, Names, Port, Ports, ReadError};
+
+/// The most bytes of a pattern file.
+const MOST_BYTES: usize = 1_048_576;
+
+fn unknown(alloc: Global, column: &RawColumn) -> ReadError
+    ensures { OrMemory (unknown_error (Some column.now)) result }
+{
+    let Ok(text) = column.name.copy(alloc) else {
+        return ReadError::Memory;
+    };
+    let mut names = Vec::new(alloc);
+    match names.push(Name::scalar(text)) {
+        Ok(()) => ReadError::Input(InputFault {
+            line: column.line,
+            kind: FaultKind::Unknown,
+            names: Names::new(names),
+        }),
+        Err(_) => ReadError::Memory,
+    }
+}
+
+fn at_line(alloc: Global, kind: FaultKind, line: u32) -> ReadError
+    ensures { Some result ≡ line_error kind (Some line) }
+{
+    ReadError::Input(InputFault {
+        line,
+        kind,
+        names: Names::new(Vec::new(alloc)),
+    })
+}
+
+/// Looks for the first fault of what is written.
+#[tactic(auto, unfolding(crate::specs::PatternText::fault_in))]
+fn check(alloc: Global, ports: &[Port], raw: &RawPatterns) -> Result<(), ReadError>
+    ensures faultless { OnOk result (fault_in ports.now raw.now ≡ None) }
+    ensures faulty { IfErr result (λ e. OrMemory (fault_in ports.now raw.now) e) }
+{
+    let index = Index::of(alloc, ports)?;
+    if let Some(column) = unknown_column(&index, ports, raw.columns.as_slice()) {
+        return Err(unknown(alloc, column));
+    }
+    if let Some(line) = width_fault(alloc, &index, ports, raw)? {
+        return Err(at_line(alloc, FaultKind::Width, line));
+    }
+    match time_fault(raw.patterns.as_slice())? {
+        Some(line) => Err(at_line(alloc, FaultKind::TimeBack, line)),
+        None => Ok(()),
+    }
+}
+
+/// What is written in a pattern file.
+fn written(alloc: Global, bytes: &[u8], ports: &Ports) -> Result<RawPatterns, ReadError>
+    ensures written { IfOk result (λ raw. IsWritten bytes.now raw) }
+    ensures refused { IfErr result (λ e. IsPatternRefusal bytes.now ports.now e) }
+{
+    if bytes.len() > MOST_BYTES {
+        return Err(ReadError::Limit(Limit {
+            which: LimitKind::File,
+            reached: 1_048_577,
+        }));
+    }
+    let tokens = tokens(alloc, bytes)?;
+    read_patterns(alloc, &tokens)
+}
+
+/// Reads a pattern file for these ports, a machine's port bits without vdd and vss. The time of a pattern stays as it is
+/// written; the bits of a value are from the left.
+///
+/// It is refused, in this order: `Limit` of `File` with 1,048,577 reached, where it has more than 1,048,576 bytes; what the
+/// lexer refuses; `Input` with `Syntax` at the first token with which the tokens so far begin no pattern file; with
+/// `Unknown` at the first listed name that is no port of its direction, nor vdd or vss as an input, or that lists a bit once
+/// more, with that name; with `Width` at the first name that is listed with other bits than it has, or the first value
+/// with more or fewer digits than its column needs or a bit set that the column hasn't; with `TimeBack` at the first pattern
+/// that is before the one before it. Only `Unknown` has a name. It takes memory by the number of bytes and of port bits.
+pub fn read_pat(alloc: Global, bytes: &[u8], ports: &Ports) -> Result<Patterns, ReadError>
+    ensures accepted { IfOk result (λ p. IsPatternText bytes.now ports.now p) }
+    ensures fits { IfOk result (λ p. AreFor ports.now p) }
+    ensures refused { IfErr result (λ e. IsPatternRefusal bytes.now ports.now e) }
+{
+    let raw = written(alloc, bytes, ports)?;
+    if u32::try_from(raw.patterns.as_slice().len()).is_err() {
+        return Err(ReadError::Memory);
+    }
+    check(alloc, ports.as_slice(), &raw)?;
+    let made = patterns(alloc, &raw)?;
+    Ok(made)
+}

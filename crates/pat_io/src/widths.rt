@@ -1,0 +1,137 @@
+// Where widths don't fit.
+ghost use Rattle.std.specs.Prelude.{◌≡◌, ◌≤◌, ◌+◌, ◌^◌, ◌&&◌, not, Some, IfOk};
+ghost use Rattle.std.specs.List.{list_all};
+ghost use Rattle.pat_meaning.specs.Columns.{rising};
+ghost use Rattle.pat_io.specs.Known.{is_supply, least};
+ghost use Rattle.pat_io.specs.Digits.{range_width};
+ghost use Rattle.pat_io.specs.Fitting.{is_port, is_ordered, column_fits, column_faults, value_faults, pattern_faults, width_faults};
+ghost use Rattle.pat_io.specs.PatternText.{first_line};
+
+use crate::bits::{range_width, value_fits};
+use crate::index::{Index, has_bit};
+use crate::known::{is_supply, is_supply_input, least};
+use pat_text::{RawColumn, RawPattern, RawPatterns, RawValue};
+use std::alloc::{AllocError, Global};
+use vlsi_base::{Dir, Port, Range};
+
+/// Whether the bounds of a range stand in the order of its word.
+fn is_ordered(range: Range) -> bool
+    ensures { result ≡ is_ordered range }
+{
+    if range.falls {
+        range.right <= range.left
+    } else {
+        range.left <= range.right
+    }
+}
+
+/// Whether each of so many bits from the first one on is a port bit of the direction.
+fn has_bits<'a>(
+    index: &Index<'a>,
+    ports: &[Port],
+    text: &'a [u8],
+    first: u32,
+    count: usize,
+    dir: Dir,
+) -> bool
+    requires { first + count ≤ 2 ^ 32 }
+    ensures { result ≡ list_all (λ k. is_port ports.now dir (record { text = text.now; bit = Some k })) (rising first count) }
+{
+    for step in 0..count {
+        let bit = (first as u64 + step as u64) as u32;
+        if !has_bit(index, ports, text, Some(bit), dir) {
+            return false;
+        }
+    }
+    true
+}
+
+fn range_fits<'a>(index: &Index<'a>, ports: &[Port], column: &'a RawColumn, range: Range) -> bool
+    ensures { result ≡ (not (is_supply column.now.name) && (is_ordered range
+        && list_all (λ k. is_port ports.now column.now.dir (record { text = column.now.name; bit = Some k })) (rising (least range) (range_width (Some range))))) }
+{
+    let text = column.name.as_bytes();
+    if is_supply(text) {
+        return false;
+    }
+    if !is_ordered(range) {
+        return false;
+    }
+    let count = range_width(Some(range));
+    has_bits(index, ports, text, least(range), count, column.dir)
+}
+
+/// Whether a vector is listed with a range of bits that it has, and a scalar or a supply without one.
+fn column_fits<'a>(index: &Index<'a>, ports: &[Port], column: &'a RawColumn) -> bool
+    ensures { result ≡ column_fits ports.now column.now }
+{
+    match column.range {
+        None => {
+            is_supply_input(column)
+                || has_bit(index, ports, column.name.as_bytes(), None, column.dir)
+        }
+        Some(range) => range_fits(index, ports, column, range),
+    }
+}
+
+fn columns_fault<'a>(
+    index: &Index<'a>,
+    ports: &[Port],
+    columns: &'a [RawColumn],
+) -> Option<u32>
+    ensures { result ≡ first_line (column_faults ports.now columns.now) }
+{
+    for column in columns {
+        if !column_fits(index, ports, column) {
+            return Some(column.line);
+        }
+    }
+    None
+}
+
+fn values_fault(
+    alloc: Global,
+    columns: &[RawColumn],
+    values: &[RawValue],
+) -> Result<Option<u32>, AllocError>
+    ensures { IfOk result (λ line. line ≡ first_line (value_faults columns.now values.now)) }
+{
+    let count = columns.len().min(values.len());
+    for k in 0..count {
+        if !value_fits(alloc, &columns[k], values[k].digits.as_ref())? {
+            return Ok(Some(values[k].line));
+        }
+    }
+    Ok(None)
+}
+
+fn patterns_fault(
+    alloc: Global,
+    columns: &[RawColumn],
+    patterns: &[RawPattern],
+) -> Result<Option<u32>, AllocError>
+    ensures { IfOk result (λ line. line ≡ first_line (pattern_faults columns.now patterns.now)) }
+{
+    for pattern in patterns {
+        if let Some(line) = values_fault(alloc, columns, pattern.values.as_slice())? {
+            return Ok(Some(line));
+        }
+    }
+    Ok(None)
+}
+
+/// The line of the first column or value whose width doesn't fit. It takes memory for the bits of a value.
+pub fn width_fault<'a>(
+    alloc: Global,
+    index: &Index<'a>,
+    ports: &[Port],
+    raw: &'a RawPatterns,
+) -> Result<Option<u32>, AllocError>
+    ensures { IfOk result (λ line. line ≡ first_line (width_faults ports.now raw.now)) }
+{
+    let columns = raw.columns.as_slice();
+    match columns_fault(index, ports, columns) {
+        Some(line) => Ok(Some(line)),
+        None => patterns_fault(alloc, columns, raw.patterns.as_slice()),
+    }
+}

@@ -1,0 +1,4 @@
+pub mod Fitting
+pub mod PatLanguage
+pub mod Loops
+pub mod Right

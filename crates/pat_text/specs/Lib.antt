@@ -1,0 +1,4 @@
+pub mod Spelled
+pub mod Patterns
+pub mod Reading
+pub mod Answers

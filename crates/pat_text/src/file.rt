@@ -1,0 +1,95 @@
+// Reading whole pattern files.
+ghost use Rattle.std.specs.Prelude.{◌≡◌, IfOk, IfErr};
+ghost use Rattle.grammar_theory.specs.Outcome.{Gives, finish};
+ghost use Rattle.vhdl_front.specs.Cursor.{at_of};
+ghost use Rattle.vhdl_front.specs.Front.{line_left};
+ghost use Rattle.pat_text.specs.Reading.{file_behind_at, file_at};
+ghost use Rattle.pat_text.specs.Answers.{at_start, syntax_for, IsFile, IsRefusal};
+
+use crate::columns::columns;
+use crate::patterns::patterns;
+use crate::raw::{RawColumn, RawColumns, RawPatternList, RawPatterns};
+use grammar_theory::{Form, Reason, Stop};
+use std::alloc::Global;
+use vhdl_front::{Counts, Cursor};
+use vhdl_token::{Keyword, Sign, Tokens};
+use vlsi_base::{FaultKind, InputFault, Names, ReadError};
+
+/// What stands behind the columns.
+#[tactic(auto, unfolding(crate::specs::Reading::file_behind_at))]
+fn file_behind(cursor: &mut Cursor<'_>, columns: Vec<RawColumn>) -> Result<RawPatterns, Stop>
+    ensures { Gives (λ f. f) result (at_of cursor.new.counts cursor.new.rest.now) (file_behind_at columns.items (at_of cursor.old.counts cursor.old.rest.now)) }
+{
+    let _begin = cursor.take(Form::Keyword(Keyword::Begin))?;
+    let patterns = patterns(cursor, &columns)?;
+    let _end = cursor.take(Form::Keyword(Keyword::End))?;
+    let _semicolon = cursor.take(Form::Sign(Sign::Semicolon))?;
+    Ok(RawPatterns {
+        columns: RawColumns::new(columns),
+        patterns: RawPatternList::new(patterns),
+    })
+}
+
+#[tactic(auto, unfolding(crate::specs::Reading::file_at))]
+fn file(cursor: &mut Cursor<'_>) -> Result<RawPatterns, Stop>
+    ensures { Gives (λ f. f) result (at_of cursor.new.counts cursor.new.rest.now) (file_at (at_of cursor.old.counts cursor.old.rest.now)) }
+{
+    let columns = columns(cursor)?;
+    file_behind(cursor, columns)
+}
+
+/// A file with nothing behind it.
+fn whole_file(cursor: &mut Cursor<'_>) -> Result<RawPatterns, Stop>
+    ensures { Gives (λ f. f) result (at_of cursor.new.counts cursor.new.rest.now) (finish (file_at (at_of cursor.old.counts cursor.old.rest.now))) }
+{
+    let raw = file(cursor)?;
+    if !cursor.rest.is_empty() {
+        return Err(cursor.refuse(Reason::Syntax));
+    }
+    Ok(raw)
+}
+
+/// The line of the token from which on so many are left; the end stands on the last line.
+fn line_of(tokens: &Tokens, left: usize) -> u32
+    ensures { result ≡ line_left tokens.now.last_line tokens.now.items left }
+{
+    let all = tokens.items.as_slice();
+    let rest = &all[all.len().saturating_sub(left)..];
+    match rest.first() {
+        Some(token) => token.line,
+        None => tokens.last_line,
+    }
+}
+
+/// The refusal of the token from which on so many are left.
+fn syntax(alloc: Global, tokens: &Tokens, left: usize) -> ReadError
+    ensures { result ≡ syntax_for tokens.now left }
+{
+    ReadError::Input(InputFault {
+        line: line_of(tokens, left),
+        kind: FaultKind::Syntax,
+        names: Names::new(Vec::new(alloc)),
+    })
+}
+
+/// Reads the tokens of a pattern file. A column without a format is binary; a time has its unit as it is written, and values
+/// are digits yet, which nothing is asked of but that they are of their column's format.
+///
+/// `Input` with `Syntax` and no names at the first token with which the tokens so far begin no pattern file: also at a word
+/// or digits that don't fit their place, and at the first value too few or too many. Memory goes by the number of tokens and
+/// their texts, and so does time.
+pub fn read_patterns(alloc: Global, tokens: &Tokens) -> Result<RawPatterns, ReadError>
+    ensures read { IfOk result (λ raw. IsFile tokens.now.items raw) }
+    ensures refused { IfErr result (λ e. IsRefusal tokens.now e) }
+{
+    let mut cursor = Cursor {
+        rest: tokens.items.as_slice(),
+        counts: Counts::new(alloc),
+        alloc,
+    };
+    match whole_file(&mut cursor) {
+        Ok(raw) => Ok(raw),
+        Err(Stop::Memory) => Err(ReadError::Memory),
+        Err(Stop::Refused(refusal)) => Err(syntax(alloc, tokens, refusal.left)),
+    }
+}

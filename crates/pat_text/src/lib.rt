@@ -1,0 +1,13 @@
+//! Pattern files as they are written: their grammar, and a reader of their tokens.
+#![tactic(auto)]
+
+mod columns;
+mod file;
+mod patterns;
+mod raw;
+mod words;
+
+pub use file::read_patterns;
+pub use raw::{
+    RawColumn, RawColumns, RawPattern, RawPatternList, RawPatterns, RawValue, RawValues,
+};

@@ -1,0 +1,55 @@
+// The reader.
+ghost use Rattle.std.specs.Prelude.{◌≡◌, ◌≤◌, None, IfOk, IfErr, length};
+ghost use Rattle.vhdl_lexer.specs.Listing.{tokens_in, refusal_in};
+ghost use Rattle.vbe_io.specs.Text.{most_bytes, IsWritten, IsVbe, IsVbeRefusal};
+
+use machine_core::Machine;
+use source_checks::RawMachine;
+use std::alloc::Global;
+use vbe_text::read_source;
+use vhdl_lexer::tokens;
+use vhdl_token::Tokens;
+use vlsi_base::{Limit, LimitKind, ReadError};
+use vlsi_model::check_machine;
+
+/// The most bytes of a text.
+const MOST_BYTES: usize = 1_048_576;
+
+// The tokens of a text that isn't too long.
+fn tokens_of(alloc: Global, bytes: &[u8]) -> Result<Tokens, ReadError>
+    ensures few { IfOk result (λ _. length bytes.now ≤ most_bytes) }
+    ensures cut { IfOk result (λ read. (refusal_in bytes.now ≡ None) × (read ≡ tokens_in bytes.now)) }
+    ensures refused { IfErr result (λ e. IsVbeRefusal bytes.now e) }
+{
+    if bytes.len() > MOST_BYTES {
+        return Err(ReadError::Limit(Limit {
+            which: LimitKind::File,
+            reached: 1_048_577,
+        }));
+    }
+    tokens(alloc, bytes)
+}
+
+// What is written in a text.
+fn written(alloc: Global, bytes: &[u8]) -> Result<RawMachine, ReadError>
+    ensures written { IfOk result (λ raw. IsWritten bytes.now raw) }
+    ensures refused { IfErr result (λ e. IsVbeRefusal bytes.now e) }
+{
+    let tokens = tokens_of(alloc, bytes)?;
+    read_source(alloc, &tokens)
+}
+
+/// Reads a data-flow text, and makes the machine that it is.
+///
+/// It is refused, in this order: `Limit` of `File` with 1,048,577 reached, where it has more than 1,048,576 bytes; what the
+/// lexer refuses; the first token with which the tokens so far begin no text (`Syntax`), which declares a name twice, or
+/// passes a limit; then by the checks, each at its first place in the text: `Unknown`, `Width`, `TwoDrivers`, `Undriven`,
+/// `Unsupported`, `ClockUse`, `Cycle`, and `Limit` of `Ports`. Memory and time go by the bytes and by the bits of what is
+/// written.
+pub fn read_vbe(alloc: Global, bytes: &[u8]) -> Result<Machine, ReadError>
+    ensures accepted { IfOk result (λ m. IsVbe bytes.now m) }
+    ensures refused { IfErr result (λ e. IsVbeRefusal bytes.now e) }
+{
+    let raw = written(alloc, bytes)?;
+    check_machine(alloc, raw)
+}
