@@ -1,15 +1,13 @@
 -- Digits that were spelled for bits give these bits.
-use Rattle.std.proofs.Common.{◌≡◌, ℕ, zero, suc, ◌+◌, ◌-◌, ◌*◌, ◌/◌, ◌<◌, ◌≤◌, Bool, true, false, not, ◌&&◌, nat_eq, List, [], ◌∷◌, ◌++◌, length, take, drop, replicate, Some, refl, sym, ap, ◌∙◌, append_assoc, arith, length-drop}
+use Rattle.std.proofs.Common.{◌≡◌, ℕ, zero, suc, ◌+◌, ◌-◌, ◌*◌, ◌/◌, ◌<◌, ◌≤◌, Bool, true, false, not, ◌&&◌, nat_eq, List, [], ◌∷◌, ◌++◌, length, take, drop, replicate, refl, sym, ap, ◌∙◌, append_assoc, arith, length-drop}
 use Rattle.std.specs.List.{list_all}
 use Rattle.std.proofs.lemmas.Bool.{eq-eqb}
 use Rattle.std.proofs.lemmas.List.{take-append-drop, length-take-le, length-replicate, length-append}
 use Rattle.std.proofs.Math.Seq.{take-append_seam, drop-append_seam}
 use Rattle.pat_meaning.specs.declared.patterns.Format.{Format}
 use Rattle.pat_meaning.specs.declared.patterns.Format.TheVariants.{Binary, Octal, Hexadecimal}
-use Rattle.pat_text.specs.declared.raw.RawColumn.{RawColumn}
 use Rattle.pat_io.specs.Spelling.{bits_of, number_from, digit_of, digits_text, bits_text}
-use Rattle.pat_io.specs.Digits.{range_width, number_bits, digit_value, digits_bits, unused, column_bits}
-use Rattle.pat_io.specs.Fitting.{value_fits}
+use Rattle.pat_io.specs.Digits.{range_width, number_bits, digit_value, digits_bits, unused}
 use Rattle.pat_io.specs.ReadAgain.{DigitsReadAgain}
 
 -- the bits that the first digit spells, behind zeros

@@ -13,6 +13,6 @@ mod times;
 mod widths;
 mod writer;
 
-pub use laws::digits_read_again;
+pub use laws::{digits_read_again, written_means_itself};
 pub use reader::read_pat;
 pub use writer::write_pat;
