@@ -138,9 +138,9 @@ digits_read_again c bits width =
     let over : unused c digits ≡ length (replicate pad false) = ap (λ i. i - range_width c.range) size ∙ ap (λ i. pad + length bits - i) (sym width) ∙ rest pad (length bits) ∙ sym (length-replicate pad false) in
     let fitting : nat_eq (length digits) ((range_width c.range + (k - 1)) / k) ≡ true = eq-eqb (length digits) ((range_width c.range + (k - 1)) / k) (how_many k n bits ∙ ap (λ i. (i + (k - 1)) / k) width) in
     let first : take (unused c digits) (digits_bits c.format digits) ≡ replicate pad false =
-        ap (λ i. take i (digits_bits c.format digits)) over ∙ ap (take (length (replicate pad false))) spelling ∙ take-append_seam (replicate pad false) bits in
+    ap (λ i. take i (digits_bits c.format digits)) over ∙ ap (take (length (replicate pad false))) spelling ∙ take-append_seam (replicate pad false) bits in
     let last : drop (unused c digits) (digits_bits c.format digits) ≡ bits =
-        ap (λ i. drop i (digits_bits c.format digits)) over ∙ ap (drop (length (replicate pad false))) spelling ∙ drop-append_seam (replicate pad false) bits in
+    ap (λ i. drop i (digits_bits c.format digits)) over ∙ ap (drop (length (replicate pad false))) spelling ∙ drop-append_seam (replicate pad false) bits in
     (both (nat_eq (length digits) ((range_width c.range + (k - 1)) / k)) (list_all not (take (unused c digits) (digits_bits c.format digits))) fitting (ap (list_all not) first ∙ zeros pad), last) where
-  rest : (n m : ℕ) → n + m - m ≡ n
-  rest n m = omega arith
+      rest : (n m : ℕ) → n + m - m ≡ n
+      rest n m = omega arith

@@ -150,8 +150,8 @@ length_digits f (d ∷ ds) =
     let b = length_number (bits_of f) (digit_value d) in
     let c = length_digits f ds in
     a ∙ ap (λ n. n + length (digits_bits f ds)) b ∙ ap (λ n. bits_of f + n) c ∙ more (bits_of f) (length ds) where
-  more : (k n : ℕ) → k + k * n ≡ k * suc n
-  more k n = omega arith
+      more : (k n : ℕ) → k + k * n ≡ k * suc n
+      more k n = omega arith
 
 -- as many digits as are needed have enough bits
 enough : (f : Format) (width count : ℕ) → count ≡ (width + (bits_of f - 1)) / bits_of f → width ≤ bits_of f * count
@@ -166,8 +166,8 @@ fitting_digits c ds h =
     let more = enough c.format (range_width c.range) (length ds) count in
     let all = length_digits c.format ds in
     length-drop (unused c ds) (digits_bits c.format ds) ∙ rest (length (digits_bits c.format ds)) (bits_of c.format * length ds) (range_width c.range) all more ∙ sym (length_names c.name c.range) where
-  rest : (n m w : ℕ) → n ≡ m → w ≤ m → n - (n - w) ≡ w
-  rest n m w e le = omega arith
+      rest : (n m w : ℕ) → n ≡ m → w ≤ m → n - (n - w) ≡ w
+      rest n m w e le = omega arith
 
 fitting_value : (c : RawColumn) (digits : Option (List ℕ)) → Given c.dir digits → value_fits c digits ≡ true → Fits (column_of c) (value_for c digits)
 fitting_value c None g h = out c.dir g where

@@ -149,7 +149,7 @@ rising_different : (text : List ℕ) (n k : ℕ) → AllDifferent (bits_named te
 rising_different text zero k = tt
 rising_different text (suc n) k = (
   λ i. let f = all_in (From (k + 1)) (bits_named text (rising (k + 1) n)) (rising_all (From (k + 1)) text n (k + 1) (λ j a b. record { j = j; bit = refl; least = a })) (bit_name text k) i in
-  let e = some_same k f.j f.bit in let g = f.least in omega arith,
+      let e = some_same k f.j f.bit in let g = f.least in omega arith,
   rising_different text n (k + 1),
 )
 
@@ -157,7 +157,7 @@ falling_different : (text : List ℕ) (n k : ℕ) → AllDifferent (bits_named t
 falling_different text zero k = tt
 falling_different text (suc n) k = (
   λ i. let f = all_in (Below (k + n)) (bits_named text (falling k n)) (falling_all (Below (k + n)) text n k (λ j a b. record { j = j; bit = refl; less = b })) (bit_name text (k + n)) i in
-  let e = some_same (k + n) f.j f.bit in let g = f.less in omega arith,
+      let e = some_same (k + n) f.j f.bit in let g = f.less in omega arith,
   falling_different text n k,
 )
 
