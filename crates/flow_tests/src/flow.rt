@@ -2,10 +2,10 @@
 
 use crate::texts::{add, cell_ap, failing, first, has, has_line, report, text};
 use flow_run::alliance_main;
-use tool_words::Words;
 use std::alloc::{AllocError, Global};
 use std::process::Abort;
 use std::test::Fail;
+use tool_words::Words;
 use vlsi_shelf::{FileMap, MemShelf, MemSink};
 
 const TOOLS: &str = "usage: alliance flow|asimut ARGUMENTS\n";

@@ -10,16 +10,19 @@ use vlsi_shelf::{FileMap, MemShelf, MemSink};
 const USAGE: &str = "usage: alliance asimut SOURCE.vbe -p PATTERNS.pat\n";
 
 // Two signals that read each other.
-const LOOP: &str = "entity loop2 is port (o : out bit); end loop2;\narchitecture vbe of loop2 is\nsignal a : bit;\nsignal b : bit;\nbegin\na <= b;\nb <= a;\no <= a;\nend vbe;\n";
+const LOOP: &str =
+    "entity loop2 is port (o : out bit); end loop2;\narchitecture vbe of loop2 is\nsignal a : bit;\nsignal b : bit;\nbegin\na <= b;\nb <= a;\no <= a;\nend vbe;\n";
 
-const COUNTER_HEAD: &str = "entity cnt4 is port (ck : in bit; en : in bit; q : out bit_vector (3 downto 0)); end cnt4;\narchitecture vbe of cnt4 is\nsignal r0, r1, r2, r3 : reg_bit register;\nbegin\nstep : block ((ck and not ck'stable and en) = '1') begin\n";
+const COUNTER_HEAD: &str =
+    "entity cnt4 is port (ck : in bit; en : in bit; q : out bit_vector (3 downto 0)); end cnt4;\narchitecture vbe of cnt4 is\nsignal r0, r1, r2, r3 : reg_bit register;\nbegin\nstep : block ((ck and not ck'stable and en) = '1') begin\n";
 
-const COUNTER_STEP: &str = "r0 <= guarded not r0;\nr1 <= guarded r1 xor r0;\nr2 <= guarded r2 xor (r0 and r1);\nr3 <= guarded r3 xor (r0 and r1 and r2);\nend block step;\n";
+const COUNTER_STEP: &str =
+    "r0 <= guarded not r0;\nr1 <= guarded r1 xor r0;\nr2 <= guarded r2 xor (r0 and r1);\nr3 <= guarded r3 xor (r0 and r1 and r2);\nend block step;\n";
 
-const COUNTER_END: &str =
-    "q(0) <= r0;\nq(1) <= r1;\nq(2) <= r2;\nq(3) <= r3;\nend vbe;\n";
+const COUNTER_END: &str = "q(0) <= r0;\nq(1) <= r1;\nq(2) <= r2;\nq(3) <= r3;\nend vbe;\n";
 
-const COUNTS: &str = "in en;\nin ck;\nout q (3 downto 0) X;\nbegin\n< 0 ns> : 1 0 ?0;\n< 10 ns> : 1 1 ?1;\n< 20 ns> : 1 0 ?1;\n< 30 ns> : 1 1 ?2;\n< 40 ns> : 0 0 ?2;\n< 50 ns> : 0 1 ?2;\nend;\n";
+const COUNTS: &str =
+    "in en;\nin ck;\nout q (3 downto 0) X;\nbegin\n< 0 ns> : 1 0 ?0;\n< 10 ns> : 1 1 ?1;\n< 20 ns> : 1 0 ?1;\n< 30 ns> : 1 1 ?2;\n< 40 ns> : 0 0 ?2;\n< 50 ns> : 0 1 ?2;\nend;\n";
 
 // A source by its name, and patterns.
 #[derive(Clone, Copy)]
@@ -64,7 +67,9 @@ fn run(
 
 // Patterns of one inverter, of which the second expects this value.
 fn inverted(alloc: Global, second: &str, third: &str) -> Result<String, AllocError> {
-    format!(in alloc; "in i;\nout nq;\nbegin\n< 0 ns> p0 : 0 ?1;\n< 10 ns> p1 : 1 ?{second};\n< 20 ns> p2 : 0 ?{third};\nend;\n")
+    format!(in alloc;
+        "in i;\nout nq;\nbegin\n< 0 ns> p0 : 0 ?1;\n< 10 ns> p1 : 1 ?{second};\n< 20 ns> p2 : 0 ?{third};\nend;\n"
+    )
 }
 
 fn inverter(
@@ -115,7 +120,13 @@ fn a_failing_read_is_named(rt: HostRuntime) -> Result<(), Fail> {
         put: 0,
         code: 7,
     };
-    inverter(&rt, rt.alloc(), "0", case, "asimut: file: read fault t.pat\n")?;
+    inverter(
+        &rt,
+        rt.alloc(),
+        "0",
+        case,
+        "asimut: file: read fault t.pat\n",
+    )?;
     Ok(())
 }
 
@@ -181,7 +192,8 @@ fn a_counter_counts_where_it_is_enabled(rt: HostRuntime) -> Result<(), Fail> {
 
 #[test]
 fn a_pattern_without_label_is_called_by_its_number(rt: HostRuntime) -> Result<(), Fail> {
-    let patterns = "in en;\nin ck;\nout q (3 downto 0) X;\nbegin\n< 0 ns> : 1 0 ?0;\n< 10 ns> : 1 1 ?3;\nend;\n";
+    let patterns =
+        "in en;\nin ck;\nout q (3 downto 0) X;\nbegin\n< 0 ns> : 1 0 ?0;\n< 10 ns> : 1 1 ?3;\nend;\n";
     counter(&rt, rt.alloc(), patterns, 11, "asimut: differs 1 q(1)\n")?;
     Ok(())
 }
@@ -194,7 +206,14 @@ fn wrong_words_print_the_usage_line(rt: HostRuntime) -> Result<(), Fail> {
         "asimut row1.vbe -p t.vbe",
         "asimut row1.vbe -p t.pat --tracks",
     ] {
-        run(&rt, rt.alloc(), FileMap::new(rt.alloc()), line, ends(1), USAGE)?;
+        run(
+            &rt,
+            rt.alloc(),
+            FileMap::new(rt.alloc()),
+            line,
+            ends(1),
+            USAGE,
+        )?;
     }
     Ok(())
 }
@@ -203,6 +222,13 @@ fn wrong_words_print_the_usage_line(rt: HostRuntime) -> Result<(), Fail> {
 fn a_missing_file_is_named(rt: HostRuntime) -> Result<(), Fail> {
     let printed = "asimut: file: missing row1.vbe\n";
     let files = FileMap::new(rt.alloc());
-    run(&rt, rt.alloc(), files, "asimut row1.vbe -p t.pat", ends(7), printed)?;
+    run(
+        &rt,
+        rt.alloc(),
+        files,
+        "asimut row1.vbe -p t.pat",
+        ends(7),
+        printed,
+    )?;
     Ok(())
 }
