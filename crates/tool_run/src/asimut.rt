@@ -222,8 +222,10 @@ fn simulated(alloc: Global, command: &AsimutCommand, files: &Files) -> Result<Fi
     ensures ok { IfOk result (λ text. IsSimulation files.now.source files.now.patterns text) }
     ensures err { IfErr result (λ status. IsTextRefusal command.now files.now.source files.now.patterns status) }
 {
-    let machine = machine_of(alloc, command, files.source.as_bytes())?;
-    filled(alloc, command, &machine, files.patterns.as_bytes())
+    match machine_of(alloc, command, files.source.as_bytes()) {
+        Ok(machine) => filled(alloc, command, &machine, files.patterns.as_bytes()),
+        Err(status) => Err(status),
+    }
 }
 
 // Prints the text by one put.
