@@ -1,0 +1,745 @@
+"""A second reader of data-flow texts, written from docs/FORMATS.md alone, against which `alliance asimut` is run.
+
+`machine(text)` gives the Machine that a text is, or raises Refused with what is wrong with it. pat_oracle.py runs
+patterns on it.
+"""
+
+import sys
+
+from front_oracle import CHAIN, Reader, Refused, fault, lex, limit
+
+sys.setrecursionlimit(100000)
+
+PORTS, FILE = 4096, 1048576
+SUPPLIES = ("vdd", "vss")
+WIDTHS = {"b": 1, "o": 3, "x": 4}
+
+
+class Symbol:
+    """A port or a signal: role is in, out, inout, inner or register; bounds is None or (left, falls, right)."""
+
+    def __init__(self, name, role, bounds, line):
+        self.name, self.role, self.bounds, self.line = name, role, bounds, line
+
+    def bits(self):
+        return bits_of(self.name, self.bounds)
+
+    def needs_driver(self):
+        return self.role in ("out", "inner", "register")
+
+
+def numbers(bounds):
+    left, falls, right = bounds
+    return range(left, right - 1, -1) if falls else range(left, right + 1)
+
+
+def bits_of(name, bounds):
+    return [(name, -1)] if bounds is None else [(name, k) for k in numbers(bounds)]
+
+
+def ordered(bounds):
+    left, falls, right = bounds
+    return left >= right if falls else left <= right
+
+
+def spelled(bit):
+    return bit[0] if bit[1] < 0 else f"{bit[0]}({bit[1]})"
+
+
+# ---- the grammar
+
+
+class SourceReader(Reader):
+    """Trees are tuples: ("literal", line, bits), ("name", line, text), ("index", line, text, k),
+    ("slice", line, text, bounds, line of its parenthesis), ("stable", line, text), ("not", line, tree), and
+    ("join", operator, first tree, [(line, tree)..]) for operators of one kind, grouped from the left."""
+
+    def __init__(self, tokens, last):
+        super().__init__(tokens, last)
+        self.symbols, self.forms, self.ranges = [], [], []
+
+    def new_names(self, start):
+        names = []
+        while True:
+            line = self.line()
+            names.append((self.declare(lambda token: start), line))
+            if self.kind() != ",":
+                return names
+            self.at += 1
+
+    def bounds(self):
+        paren = self.line()
+        self.open()
+        left = self.take("number")[1]
+        falls = self.take("downto", "to")[0] == "downto"
+        right = self.take("number")[1]
+        # the bits are counted at the parenthesis that closes
+        if self.kind() != ")":
+            raise self.syntax()
+        return (left, falls, right), paren
+
+    def typed(self, names, words):
+        line = self.line()
+        word = self.take(*words)[0]
+        bounds = None
+        if word.endswith("vector"):
+            bounds, paren = self.bounds()
+            self.ranges.append((bounds, paren))
+            self.count(len(names), abs(bounds[0] - bounds[2]) + 1 if ordered(bounds) else 0)
+            self.close()
+        else:
+            self.count(len(names), 1)
+        return word, bounds, line
+
+    def port(self):
+        start = self.line()
+        if self.kind() == "signal":
+            self.at += 1
+        names = self.new_names(start)
+        self.take(":")
+        mode_line = self.line()
+        mode = self.take("in", "out", "inout")[0]
+        word, bounds, line = self.typed(names, ("bit", "bit_vector", "mux_bit", "wor_bit", "mux_vector", "wor_vector"))
+        if self.kind() == "bus":
+            self.at += 1
+        for name, at in names:
+            self.symbols.append(Symbol(name, mode, bounds, start))
+            if name in SUPPLIES and (mode, word) != ("in", "bit"):
+                self.forms.append(at)
+        if mode == "inout":
+            self.forms.append(mode_line)
+        if word[:3] in ("mux", "wor"):
+            self.forms.append(line)
+        return len(names)
+
+    def declarations(self):
+        while self.kind() == "signal":
+            start = self.line()
+            self.at += 1
+            names = self.new_names(start)
+            self.take(":")
+            word, bounds, _ = self.typed(names, ("bit", "bit_vector", "reg_bit", "reg_vector", "reg_bit_vector"))
+            if word.startswith("reg"):
+                self.take("register")
+            self.take(";")
+            for name, at in names:
+                self.symbols.append(Symbol(name, "register" if word.startswith("reg") else "inner", bounds, start))
+                if name in SUPPLIES:
+                    self.forms.append(at)
+
+    # expressions
+
+    def expression(self):
+        first = self.relation()
+        word = self.kind()
+        others = []
+        while self.kind() == word and word in ("and", "or", "xor", "xnor"):
+            line = self.line()
+            self.operator()
+            others.append((line, self.relation()))
+        if word in ("nand", "nor"):
+            line = self.line()
+            self.operator()
+            others.append((line, self.relation()))
+        return ("join", word, first, others) if others else first
+
+    def relation(self):
+        first = self.cat()
+        word, line = self.kind(), self.line()
+        if word not in ("=", "/="):
+            return first
+        self.operator()
+        return ("join", word, first, [(line, self.cat())])
+
+    def cat(self):
+        first, others = self.factor(), []
+        while self.kind() == "&":
+            line = self.line()
+            self.operator()
+            others.append((line, self.factor()))
+        return ("join", "&", first, others) if others else first
+
+    def factor(self):
+        if self.kind() != "not":
+            return self.primary()
+        line = self.line()
+        self.operator()
+        return ("not", line, self.primary())
+
+    def primary(self):
+        kind, line = self.kind(), self.line()
+        if kind == "(":
+            self.open()
+            tree = self.expression()
+            self.close()
+            return tree
+        value = self.tokens[self.at][1] if kind else None
+        if kind == "bitlit":
+            self.at += 1
+            return ("bit", line, [int(value)])
+        if kind == "quoted" and all(c in b"01" for c in value):
+            self.at += 1
+            return ("literal", line, [c - 48 for c in value])
+        if kind == "bitstring" and self.fits(*value):
+            self.at += 1
+            width = WIDTHS[value[0]]
+            digits = [int(chr(c), 16) for c in value[1]]
+            return ("literal", line, [d >> (width - 1 - k) & 1 for d in digits for k in range(width)])
+        if kind != "id":
+            raise self.syntax()
+        self.at += 1
+        if self.kind() == "'":
+            self.at += 1
+            if self.kind() != "id" or self.tokens[self.at][1] != "stable":
+                raise self.syntax()
+            self.at += 1
+            return ("stable", line, value)
+        selection = self.selection()
+        if selection is None:
+            return ("name", line, value)
+        if isinstance(selection, int):
+            return ("index", line, value, selection)
+        return ("slice", line, value, *selection)
+
+    def selection(self):
+        """None, the number of a bit, or the bounds of a range with the line of its parenthesis."""
+        if self.kind() != "(":
+            return None
+        paren = self.line()
+        self.open()
+        left = self.take("number")[1]
+        if self.kind() == ")":
+            self.close()
+            return left
+        falls = self.take("downto", "to")[0] == "downto"
+        right = self.take("number")[1]
+        self.close()
+        return (left, falls, right), paren
+
+    # statements
+
+    def alternative(self):
+        """The first token of an alternative is refused where there are too many; what is wrong with it comes first."""
+        if self.alternatives <= CHAIN:
+            return self.expression_anew()
+        before = self.at
+        try:
+            self.expression_anew()
+        except Refused:
+            if self.at == before:
+                raise
+        raise limit("chain", CHAIN + 1)
+
+    def expression_anew(self):
+        self.operators = 0
+        return self.expression()
+
+    def choice(self):
+        self.alternatives = 1
+        alternatives, value = [], self.expression_anew()
+        while self.kind() == "when":
+            self.at += 1
+            line = self.line()
+            condition = self.expression_anew()
+            self.take("else")
+            self.alternatives += 1
+            alternatives.append((value, line, condition))
+            value = self.alternative()
+        if self.kind() == "after":
+            self.at += 1
+            self.take("number")
+            self.take("id")
+        self.take(";")
+        return alternatives, value
+
+    def assignment(self, guarded):
+        _, name, line = self.take("id")
+        selection = self.selection()
+        self.take("<=")
+        if guarded:
+            self.take("guarded")
+        return (name, line, selection), self.choice()
+
+    def assertion(self):
+        self.take("assert")
+        tree = self.expression_anew()
+        if self.kind() == "report":
+            self.at += 1
+            self.take("quoted")
+        if self.kind() == "severity":
+            self.at += 1
+            self.take("id")
+        self.take(";")
+        return ("assert", tree)
+
+    def block(self, label):
+        self.take("block")
+        self.open()
+        line = self.line()
+        guard = self.expression_anew()
+        self.close()
+        self.take("begin")
+        assignments = []
+        while self.kind() == "id":
+            assignments.append(self.assignment(True))
+        self.take("end")
+        self.take("block")
+        self.opened(label)
+        return ("block", line, guard, assignments)
+
+    def opened(self, name):
+        if self.kind() == "id":
+            if self.tokens[self.at][1] != name:
+                raise self.syntax()
+            self.at += 1
+        self.take(";")
+
+    def statement(self):
+        if self.kind() == "assert":
+            return self.assertion()
+        if self.kind() == "id" and self.at + 1 < len(self.tokens) and self.tokens[self.at + 1][0] == ":":
+            label = self.take("id")[1]
+            self.at += 1
+            if self.kind() == "assert":
+                return self.assertion()
+            if self.kind() == "block":
+                return self.block(label)
+        return ("assign", self.assignment(False))
+
+    def source(self):
+        entity, _ = self.entity()
+        self.take("architecture")
+        name = self.take("id")[1]
+        self.take("of")
+        if self.kind() == "id" and self.tokens[self.at][1] != entity:
+            raise self.syntax()
+        self.take("id")
+        self.take("is")
+        self.declarations()
+        self.take("begin")
+        statements = []
+        while self.kind() in ("id", "assert"):
+            statements.append(self.statement())
+        self.take("end")
+        self.opened(name)
+        if self.kind() is not None:
+            raise self.syntax()
+        return statements
+
+
+# ---- formulas of bits: 0, 1, (name, k), ("not", f), ("join", operator, [f..]), ("choice", [(condition, f)..], f)
+
+
+def values(formula, env):
+    if isinstance(formula, int):
+        return formula
+    kind = formula[0]
+    if kind == "not":
+        return 1 - values(formula[1], env)
+    if kind == "choice":
+        for condition, value in formula[1]:
+            if values(condition, env):
+                return values(value, env)
+        return values(formula[2], env)
+    if kind == "join":
+        got = [values(f, env) for f in formula[2]]
+        joined = got[0]
+        for bit in got[1:]:
+            joined = {
+                "and": joined & bit, "or": joined | bit, "xor": joined ^ bit,
+                "xnor": 1 - (joined ^ bit), "nand": 1 - (joined & bit), "nor": 1 - (joined | bit),
+            }[formula[1]]
+        return joined
+    return env[formula[1]]
+
+
+def reads(formula):
+    if isinstance(formula, int):
+        return set()
+    if formula[0] == "bit":
+        return {formula[1]}
+    if formula[0] == "not":
+        return reads(formula[1])
+    if formula[0] == "join":
+        return set().union(*map(reads, formula[2]))
+    return set().union(reads(formula[2]), *(reads(f) for pair in formula[1] for f in pair))
+
+
+class Machine:
+    """ports: bit to mode; equations in an order in which each reads what is before it; registers: bit to (next, enable)."""
+
+    def __init__(self, ports, clock, equations, registers):
+        self.ports, self.clock, self.equations, self.registers = ports, clock, equations, registers
+
+    def settle(self, inputs, contents):
+        env = {**inputs, **contents}
+        for bit, formula in self.equations:
+            env[bit] = values(formula, env)
+        return env
+
+    def load(self, env):
+        return {bit: values(then, env) if values(enable, env) else env[bit] for bit, (then, enable) in self.registers.items()}
+
+
+class Ring(Refused):
+    """Signals that read each other in a ring: which ring is named is open, so a name that is given can be asked for."""
+
+    def __init__(self, equations, lines):
+        super().__init__("a ring")
+        self.reads = {bit: reads(f) for bit, f in equations.items()}
+        self.lines = lines
+
+    def allows(self, line, names):
+        bits = {spelled(bit): bit for bit in self.reads}
+        ring = [bits.get(name) for name in names]
+        if None in ring or not ring or len(set(ring)) < len(ring) or min(ring) != ring[0]:
+            return False
+        return line == self.lines[ring[0]] and all(b in self.reads[a] for a, b in zip(ring, ring[1:] + ring[:1]))
+
+
+# ---- the checks
+
+
+class Checks:
+    def __init__(self, reader, statements):
+        self.reader, self.statements = reader, statements
+        self.symbols = {s.name: s for s in reader.symbols}
+
+    def find(self, name):
+        return self.symbols[name]
+
+    # walks: each yields what it finds, in file order
+
+    def assignments(self):
+        for s in self.statements:
+            if s[0] == "assign":
+                yield s[1], False
+            elif s[0] == "block":
+                yield from ((a, True) for a in s[3])
+
+    def over_choice(self, look, choice):
+        alternatives, otherwise = choice
+        for value, _, condition in alternatives:
+            yield from look(value)
+            yield from look(condition)
+        yield from look(otherwise)
+
+    def over_all(self, look):
+        """Whatever `look` finds in all expressions."""
+        for s in self.statements:
+            if s[0] == "assert":
+                yield from look(s[1])
+            elif s[0] == "assign":
+                yield from self.over_choice(look, s[1][1])
+            else:
+                yield from look(s[2])
+                for a in s[3]:
+                    yield from self.over_choice(look, a[1])
+
+    def leaves(self, tree):
+        if tree[0] == "join":
+            yield from self.leaves(tree[2])
+            for _, other in tree[3]:
+                yield from self.leaves(other)
+        elif tree[0] == "not":
+            yield from self.leaves(tree[2])
+        else:
+            yield tree
+
+    def names_in(self, tree):
+        return ((leaf[2], leaf[1]) for leaf in self.leaves(tree) if leaf[0] in ("name", "index", "slice", "stable"))
+
+    def unknown(self):
+        def of_assignment(a):
+            yield a[0][0], a[0][1]
+            yield from self.over_choice(self.names_in, a[1])
+
+        for s in self.statements:
+            if s[0] == "assert":
+                yield from self.names_in(s[1])
+            elif s[0] == "assign":
+                yield from of_assignment(s[1])
+            else:
+                yield from self.names_in(s[2])
+                for a in s[3]:
+                    yield from of_assignment(a)
+
+    # widths
+
+    def width(self, tree):
+        kind = tree[0]
+        if kind in ("bit", "literal"):
+            return len(tree[2])
+        if kind == "name":
+            bounds = self.find(tree[2]).bounds
+            return 1 if bounds is None else len(numbers(bounds))
+        if kind in ("index", "stable"):
+            return 1
+        if kind == "slice":
+            return len(numbers(tree[3])) if ordered(tree[3]) else None
+        if kind == "not":
+            return self.width(tree[2])
+        width = self.width(tree[2])
+        for _, other in tree[3]:
+            width = self.joined(tree[1], width, self.width(other))
+        return width
+
+    def joined(self, operator, a, b):
+        if a is None or b is None:
+            return None
+        if operator == "&":
+            return a + b
+        return None if a != b else 1 if operator in ("=", "/=") else a
+
+    def fits(self, name, selection):
+        bounds = self.find(name).bounds
+        if bounds is None:
+            return False
+        if isinstance(selection, int):
+            return selection in numbers(bounds)
+        left, falls, right = selection
+        return falls == bounds[1] and ordered(selection) and left in numbers(bounds) and right in numbers(bounds)
+
+    def width_faults(self, tree):
+        kind = tree[0]
+        if kind == "index" and not self.fits(tree[2], tree[3]):
+            yield tree[1]
+        elif kind == "slice" and not self.fits(tree[2], tree[3]):
+            yield tree[4]
+        elif kind == "not":
+            yield from self.width_faults(tree[2])
+        elif kind == "join":
+            yield from self.width_faults(tree[2])
+            width = self.width(tree[2])
+            for line, other in tree[3]:
+                beside = self.width(other)
+                if tree[1] != "&" and None not in (width, beside) and width != beside:
+                    yield line
+                yield from self.width_faults(other)
+                width = self.joined(tree[1], width, beside)
+
+    def assignment_widths(self, a):
+        (name, line, selection), (alternatives, otherwise) = a
+        if selection is None:
+            wanted = self.width(("name", line, name))
+        elif isinstance(selection, int):
+            wanted = 1
+        else:
+            wanted = len(numbers(selection[0])) if ordered(selection[0]) else None
+        given = [self.width(value) for value, _, _ in alternatives] + [self.width(otherwise)]
+        if any(None not in (wanted, width) and wanted != width for width in given):
+            yield line
+        if isinstance(selection, int) and not self.fits(name, selection):
+            yield line
+        if isinstance(selection, tuple) and not self.fits(name, selection[0]):
+            yield selection[1]
+        for value, at, condition in alternatives:
+            yield from self.width_faults(value)
+            if self.width(condition) not in (1, None):
+                yield at
+            yield from self.width_faults(condition)
+        yield from self.width_faults(otherwise)
+
+    def all_widths(self):
+        yield from (line for bounds, line in self.reader.ranges if not ordered(bounds))
+        for s in self.statements:
+            if s[0] == "assert":
+                yield from self.width_faults(s[1])
+            elif s[0] == "assign":
+                yield from self.assignment_widths(s[1])
+            else:
+                yield from self.width_faults(s[2])
+                for a in s[3]:
+                    yield from self.assignment_widths(a)
+
+    # drivers
+
+    def target_bits(self, target):
+        name, _, selection = target
+        if selection is None:
+            return self.find(name).bits()
+        return [(name, selection)] if isinstance(selection, int) else bits_of(name, selection[0])
+
+    def check_drivers(self):
+        driven = {}
+        for (target, _), _ in self.assignments():
+            if not self.find(target[0]).needs_driver():
+                continue
+            bits = self.target_bits(target)
+            again = [bit for bit in bits if bit in driven]
+            if again:
+                raise fault(target[1], "two drivers", spelled(min(again)))
+            driven.update((bit, target[1]) for bit in bits)
+        for symbol in self.reader.symbols:
+            missing = [bit for bit in symbol.bits() if bit not in driven] if symbol.needs_driver() else []
+            if missing:
+                raise fault(symbol.line, "undriven", spelled(min(missing)))
+        return driven
+
+    # forms that are left out
+
+    def literal_faults(self, tree):
+        return (leaf[1] for leaf in self.leaves(tree) if leaf[0] == "literal" and not 1 <= len(leaf[2]) <= 128)
+
+    def all_forms(self):
+        yield from self.reader.forms
+
+        def of_assignment(a, in_block):
+            role = self.find(a[0][0]).role
+            if role == "in" or (role == "register") != in_block:
+                yield a[0][1]
+            yield from self.over_choice(self.literal_faults, a[1])
+
+        for s in self.statements:
+            if s[0] == "assert":
+                yield from self.literal_faults(s[1])
+            elif s[0] == "assign":
+                yield from of_assignment(s[1], False)
+            else:
+                yield from self.literal_faults(s[2])
+                for a in s[3]:
+                    yield from of_assignment(a, True)
+
+    # guards and the clock
+
+    def without_one(self, tree):
+        return tree[2] if tree[0] == "join" and tree[1] == "=" and tree[3][0][1][0] == "bit" and tree[3][0][1][2] == [1] else tree
+
+    def clock_alone(self, tree):
+        if tree[0] == "join" and tree[1] == "=" and tree[2][0] == "bit" and tree[2][2] == [1]:
+            return tree[3][0][1]
+        return self.without_one(tree)
+
+    def conjuncts(self, tree):
+        if tree[0] == "join" and tree[1] == "and":
+            return [part for each in [tree[2], *(other for _, other in tree[3])] for part in self.conjuncts(each)]
+        return [tree]
+
+    def clock_lines(self, clock):
+        def lines(tree):
+            for leaf in self.leaves(tree):
+                if leaf[0] == "stable" or (leaf[0] == "name" and leaf[2] == clock):
+                    yield leaf[1]
+
+        return lines
+
+    def guard(self, tree):
+        """The clock of a guard and its further conditions, or None."""
+        parts = self.conjuncts(self.without_one(tree))
+        steady = [p[2][2] for p in parts if p[0] == "not" and p[2][0] == "stable"]
+        if len(steady) != 1:
+            return None
+        clock = steady[0]
+        symbol = self.find(clock)
+        if symbol.role != "in" or symbol.bounds is not None or clock in SUPPLIES:
+            return None
+        alone = [self.clock_alone(p) for p in parts]
+        clocks = [p for p in alone if p[0] == "name" and p[2] == clock]
+        conditions = [
+            p for p, q in zip(parts, alone)
+            if not (q[0] == "name" and q[2] == clock) and not (p[0] == "not" and p[2][0] == "stable")
+        ]
+        if len(clocks) != 1 or any(True for p in conditions for _ in self.clock_lines(clock)(p)):
+            return None
+        return clock, conditions
+
+    def clock(self):
+        for s in self.statements:
+            if s[0] == "block" and self.guard(s[2]):
+                return self.guard(s[2])[0]
+        return None
+
+    def all_clock_lines(self):
+        clock = self.clock()
+        lines = self.clock_lines(clock)
+        for s in self.statements:
+            if s[0] == "assert":
+                yield from lines(s[1])
+            elif s[0] == "assign":
+                yield from self.over_choice(lines, s[1][1])
+            else:
+                if not self.guard(s[2]) or self.guard(s[2])[0] != clock:
+                    yield s[1]
+                for a in s[3]:
+                    yield from self.over_choice(lines, a[1])
+
+    # formulas
+
+    def formulas(self, tree):
+        kind = tree[0]
+        if kind in ("bit", "literal"):
+            return tree[2]
+        if kind == "not":
+            return [("not", f) for f in self.formulas(tree[2])]
+        if kind == "join":
+            operands = [self.formulas(tree[2]), *(self.formulas(other) for _, other in tree[3])]
+            if tree[1] == "&":
+                return [f for operand in operands for f in operand]
+            if tree[1] in ("=", "/="):
+                equal = ("join", "and", [("join", "xnor", list(pair)) for pair in zip(*operands)])
+                return [equal if tree[1] == "=" else ("not", equal)]
+            return [("join", tree[1], list(column)) for column in zip(*operands)]
+        bounds = self.find(tree[2]).bounds
+        bits = bits_of(tree[2], bounds) if kind == "name" else [(tree[2], tree[3])] if kind == "index" else bits_of(tree[2], tree[3])
+        return [{"vdd": 1, "vss": 0}.get(bit[0], ("bit", bit)) for bit in bits]
+
+    def defined(self, a):
+        """Each bit that an assignment drives, with its formula."""
+        target, (alternatives, otherwise) = a
+        rows = [(self.formulas(condition)[0], self.formulas(value)) for value, _, condition in alternatives]
+        last = self.formulas(otherwise)
+        for k, bit in enumerate(self.target_bits(target)):
+            yield bit, ("choice", [(c, fs[k]) for c, fs in rows], last[k]) if rows else last[k]
+
+    def machine(self, driven):
+        equations, registers = {}, {}
+        for s in self.statements:
+            if s[0] == "assign":
+                equations.update(self.defined(s[1]))
+            elif s[0] == "block":
+                parts = [self.formulas(p)[0] for p in self.guard(s[2])[1]]
+                enable = ("join", "and", parts) if parts else 1
+                registers.update((bit, (f, enable)) for a in s[3] for bit, f in self.defined(a))
+        ports = {bit: s.role for s in self.reader.symbols if s.role in ("in", "out") and s.name not in SUPPLIES for bit in s.bits()}
+        ordered_equations = in_order(equations)
+        if len(ordered_equations) < len(equations):
+            raise Ring(equations, driven)
+        if len(ports) > PORTS:
+            raise limit("ports", len(ports))
+        return Machine(ports, self.clock(), ordered_equations, registers)
+
+
+def in_order(equations):
+    """The equations so that each reads what is before it, without those that can't be computed."""
+    waits = {bit: {b for b in reads(f) if b in equations} for bit, f in equations.items()}
+    readers = {}
+    for bit, others in waits.items():
+        for other in others:
+            readers.setdefault(other, []).append(bit)
+    ready, done = [bit for bit, others in waits.items() if not others], []
+    while ready:
+        bit = ready.pop()
+        done.append((bit, equations[bit]))
+        for reader in readers.get(bit, ()):
+            waits[reader].discard(bit)
+            if not waits[reader]:
+                ready.append(reader)
+    return done
+
+
+def machine(text):
+    if len(text) > FILE:
+        raise limit("file", FILE + 1)
+    reader = SourceReader(*lex(text))
+    checks = Checks(reader, reader.source())
+    for name, line in checks.unknown():
+        if name not in checks.symbols:
+            raise fault(line, "unknown", name)
+    for line in checks.all_widths():
+        raise fault(line, "width")
+    driven = checks.check_drivers()
+    for line in checks.all_forms():
+        raise fault(line, "unsupported")
+    for line in checks.all_clock_lines():
+        raise fault(line, "clock use")
+    return checks.machine(driven)
