@@ -11,8 +11,8 @@ ghost use Rattle.flow_run.specs.Reading.{Comes, built, is_fsm as is_state_machin
 ghost use Rattle.flow_run.specs.Causes.{Caused, IsComplete, IsHeadline};
 ghost use Rattle.flow_run.specs.Finishing.{Finished, status_of as status_of_load};
 
-use crate::read::{Built, LoadError, load};
 use crate::drawing;
+use crate::read::{Built, LoadError, load};
 use std::alloc::{AllocError, Global};
 use tool_run::{FileCause, Status, run_asimut, tell};
 use tool_words::{Command, FlowCommand, Words, WordsError, read_words};

@@ -6,8 +6,8 @@ ghost use Rattle.flow_run.specs.declared.read.LoadError.TheVariants.{Memory};
 ghost use Rattle.flow_run.specs.Forms.{first_of, cell_of};
 ghost use Rattle.flow_run.specs.Reading.{Comes, HasCell, FileRefused, ReadingRefused, is_fsm, from_source, from_catal, from_vbe, from_forms, not_built, built, catal_name, vbe_name, ap_name};
 
-use crate::forms::{First, MOST};
 use crate::forms;
+use crate::forms::{First, MOST};
 use std::alloc::{AllocError, Global};
 use thiserror::Error;
 use tool_words::FlowCommand;

@@ -2,13 +2,13 @@
 
 use crate::texts::{add, cell_ap, failing, first, has, has_line, report, text};
 use flow_run::alliance_main;
-use tool_words::Words;
 use std::alloc::{AllocError, Global};
 use std::process::Abort;
 use std::test::Fail;
+use tool_words::Words;
 use vlsi_shelf::{FileMap, MemShelf, MemSink};
 
-const TOOLS: &str = "usage: alliance flow ARGUMENTS\n";
+const TOOLS: &str = "usage: alliance flow|asimut ARGUMENTS\n";
 
 const USAGE: &str = "usage: alliance flow SOURCE -l DIR -o NAME --tracks\n";
 
@@ -24,14 +24,14 @@ const ROW_RISER: &str = "S 2000,1000,2000,5500,200,i,UP,ALU3\n";
 
 // What goes wrong, and the status that is wanted: the call of the shelf and the put that fail, 0 for none.
 #[derive(Clone, Copy)]
-struct Case {
-    call: u64,
-    put: u64,
-    code: u8,
+pub struct Case {
+    pub call: u64,
+    pub put: u64,
+    pub code: u8,
 }
 
 // Nothing goes wrong.
-fn ends(code: u8) -> Case {
+pub fn ends(code: u8) -> Case {
     Case {
         call: 0,
         put: 0,
@@ -40,7 +40,7 @@ fn ends(code: u8) -> Case {
 }
 
 // The words of a line, which blanks part.
-fn words(alloc: Global, line: &str) -> Result<Words, AllocError> {
+pub fn words(alloc: Global, line: &str) -> Result<Words, AllocError> {
     let mut words = Words::new(Vec::new(alloc));
     for word in line.split_whitespace() {
         words.push(text(alloc, word)?)?;
@@ -57,7 +57,7 @@ fn has_layout(alloc: Global, files: &FileMap, riser: &str) -> Result<bool, Alloc
 }
 
 // The status. It has no contract of its own, so that the tests rest on what is run alone.
-fn status(alloc: Global, words: &Words, shelf: &mut MemShelf, out: &mut MemSink) -> u8 {
+pub fn status(alloc: Global, words: &Words, shelf: &mut MemShelf, out: &mut MemSink) -> u8 {
     alliance_main(alloc, words, shelf, out).code()
 }
 

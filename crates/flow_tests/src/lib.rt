@@ -6,4 +6,6 @@ mod flow;
 #[cfg(test)]
 mod outside;
 #[cfg(test)]
+mod simulation;
+#[cfg(test)]
 mod texts;

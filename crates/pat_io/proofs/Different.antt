@@ -1,15 +1,14 @@
 -- Where no column is unknown, no bit is listed twice.
-use Rattle.std.proofs.Common.{◌≡◌, ℕ, Bool, true, false, not, ◌&&◌, ◌||◌, List, [], ◌∷◌, ◌++◌, map, bytes_eq, refl, sym, ap, ◌∙◌, ◌⊎◌, inl, inr}
+use Rattle.std.proofs.Common.{◌≡◌, Bool, true, false, not, ◌||◌, List, [], ◌∷◌, ◌++◌, map, bytes_eq, refl, sym, ◌∙◌, inl, inr}
 use Rattle.std.specs.List.{list_any}
 use Rattle.std.proofs.lemmas.Slice.Eq.{bytes_eq-Decides}
 use Rattle.vlsi_base.specs.declared.name.Name.{Name}
 use Rattle.vlsi_base.specs.declared.name.Port.{Port}
 use Rattle.machine_core.specs.Order.{In, here, there, AllDifferent}
 use Rattle.machine_core.proofs.Values.{In-split, In-left, In-right}
-use Rattle.pat_meaning.specs.declared.patterns.Column.{Column}
 use Rattle.pat_meaning.specs.Columns.{column_names, listed}
 use Rattle.pat_text.specs.declared.raw.RawColumn.{RawColumn}
-use Rattle.pat_io.specs.Known.{overlap, share_bit, is_known, is_unknown, if_at_fault, unknown_behind}
+use Rattle.pat_io.specs.Known.{share_bit, is_known, is_unknown, if_at_fault, unknown_behind}
 use Rattle.pat_io.specs.Digits.{column_of}
 use Rattle.pat_io.proofs.Ranges.{all_in, IsListed, listed_all, overlap_of, names_different}
 

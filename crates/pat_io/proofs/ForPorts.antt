@@ -1,6 +1,6 @@
 -- What is read without a fault is for the ports.
-use Rattle.std.proofs.Common.{◌≡◌, ℕ, zero, suc, ◌+◌, ◌-◌, ◌*◌, ◌/◌, ◌^◌, ◌<◌, ◌≤◌, Bool, true, false, not, ◌&&◌, ◌||◌, nat_eq, nat_le, bytes_eq, List, [], ◌∷◌, ◌++◌, length, map, take, drop, codes, Option, Some, None, refl, sym, ap, subst, ◌∙◌, ◌⊎◌, inl, inr, arith, length-drop, if◌then◌else◌}
-use Rattle.std.specs.List.{All, list_any, list_all}
+use Rattle.std.proofs.Common.{◌≡◌, ℕ, zero, suc, ◌+◌, ◌-◌, ◌*◌, ◌/◌, ◌^◌, ◌<◌, ◌≤◌, Bool, true, false, not, ◌&&◌, ◌||◌, nat_eq, bytes_eq, List, [], ◌∷◌, ◌++◌, length, map, take, codes, Option, Some, None, refl, sym, ap, subst, ◌∙◌, ◌⊎◌, inl, inr, arith, length-drop}
+use Rattle.std.specs.List.{All, list_all}
 use Rattle.std.proofs.lemmas.Bool.{eqb-true}
 use Rattle.std.proofs.lemmas.List.{length-append}
 use Rattle.std.proofs.lemmas.List.Elements.{All-nil, All-cons, All-head, All-tail}
@@ -19,9 +19,6 @@ use Rattle.machine_core.specs.Order.{In, here, there}
 use Rattle.machine_core.proofs.Names.{same_name-true}
 use Rattle.pat_meaning.specs.declared.patterns.Format.{Format}
 use Rattle.pat_meaning.specs.declared.patterns.Format.TheVariants.{Binary, Octal, Hexadecimal}
-use Rattle.pat_meaning.specs.declared.patterns.Column.{Column}
-use Rattle.pat_meaning.specs.declared.patterns.Value.{Value}
-use Rattle.pat_meaning.specs.declared.patterns.Patterns.{Patterns}
 use Rattle.pat_meaning.specs.Columns.{column_names, Fits, FitsColumns, rising}
 use Rattle.pat_meaning.specs.Answers.{IsSupplyColumn, IsOfPorts, AreFor}
 use Rattle.pat_text.specs.declared.raw.RawColumn.{RawColumn}
@@ -29,7 +26,7 @@ use Rattle.pat_text.specs.declared.raw.RawValue.{RawValue}
 use Rattle.pat_text.specs.declared.raw.RawPattern.{RawPattern}
 use Rattle.pat_text.specs.declared.raw.RawPatterns.{RawPatterns}
 use Rattle.pat_io.specs.Spelling.{bits_of}
-use Rattle.pat_io.specs.Known.{is_same_dir, is_supply, is_supply_input, least, greatest, unknown_columns}
+use Rattle.pat_io.specs.Known.{is_same_dir, is_supply, is_supply_input, least, unknown_columns}
 use Rattle.pat_io.specs.Digits.{range_width, number_bits, digit_value, digits_bits, unused, column_bits, column_of, value_for, values_for, pattern_for, patterns_for}
 use Rattle.pat_io.specs.Fitting.{if_not, is_port, is_ordered, column_fits, column_faults, value_fits, value_faults, pattern_faults, width_faults, time_faults}
 use Rattle.pat_io.specs.PatternText.{first_column, first_line, unknown_error, line_error, or_else, fault_in, OrMemory, IsWritten, IsPatternRefusal, faulty}
@@ -153,8 +150,8 @@ length_digits f (d ∷ ds) =
     let b = length_number (bits_of f) (digit_value d) in
     let c = length_digits f ds in
     a ∙ ap (λ n. n + length (digits_bits f ds)) b ∙ ap (λ n. bits_of f + n) c ∙ more (bits_of f) (length ds) where
-  more : (k n : ℕ) → k + k * n ≡ k * suc n
-  more k n = omega arith
+      more : (k n : ℕ) → k + k * n ≡ k * suc n
+      more k n = omega arith
 
 -- as many digits as are needed have enough bits
 enough : (f : Format) (width count : ℕ) → count ≡ (width + (bits_of f - 1)) / bits_of f → width ≤ bits_of f * count
@@ -169,8 +166,8 @@ fitting_digits c ds h =
     let more = enough c.format (range_width c.range) (length ds) count in
     let all = length_digits c.format ds in
     length-drop (unused c ds) (digits_bits c.format ds) ∙ rest (length (digits_bits c.format ds)) (bits_of c.format * length ds) (range_width c.range) all more ∙ sym (length_names c.name c.range) where
-  rest : (n m w : ℕ) → n ≡ m → w ≤ m → n - (n - w) ≡ w
-  rest n m w e le = omega arith
+      rest : (n m w : ℕ) → n ≡ m → w ≤ m → n - (n - w) ≡ w
+      rest n m w e le = omega arith
 
 fitting_value : (c : RawColumn) (digits : Option (List ℕ)) → Given c.dir digits → value_fits c digits ≡ true → Fits (column_of c) (value_for c digits)
 fitting_value c None g h = out c.dir g where

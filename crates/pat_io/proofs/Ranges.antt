@@ -1,5 +1,5 @@
 -- The bits of ranges, by name.
-use Rattle.std.proofs.Common.{◌≡◌, ℕ, zero, suc, ◌+◌, ◌-◌, ◌<◌, ◌≤◌, Bool, true, false, ◌&&◌, nat_le, List, [], ◌∷◌, ◌++◌, length, Option, Some, None, refl, sym, ap, subst, ◌∙◌, ◌⊎◌, inl, inr, arith, if◌then◌else◌}
+use Rattle.std.proofs.Common.{◌≡◌, ℕ, zero, suc, ◌+◌, ◌-◌, ◌<◌, ◌≤◌, Bool, true, false, ◌&&◌, nat_le, List, [], ◌∷◌, length, Option, Some, None, refl, sym, ap, subst, ◌∙◌, inl, inr, arith}
 use Rattle.std.specs.List.{All, list_all}
 use Rattle.std.proofs.str.Laws.{order}
 use Rattle.std.proofs.lemmas.List.Elements.{All-nil, All-cons, All-head, All-tail}
@@ -149,7 +149,7 @@ rising_different : (text : List ℕ) (n k : ℕ) → AllDifferent (bits_named te
 rising_different text zero k = tt
 rising_different text (suc n) k = (
   λ i. let f = all_in (From (k + 1)) (bits_named text (rising (k + 1) n)) (rising_all (From (k + 1)) text n (k + 1) (λ j a b. record { j = j; bit = refl; least = a })) (bit_name text k) i in
-  let e = some_same k f.j f.bit in let g = f.least in omega arith,
+      let e = some_same k f.j f.bit in let g = f.least in omega arith,
   rising_different text n (k + 1),
 )
 
@@ -157,7 +157,7 @@ falling_different : (text : List ℕ) (n k : ℕ) → AllDifferent (bits_named t
 falling_different text zero k = tt
 falling_different text (suc n) k = (
   λ i. let f = all_in (Below (k + n)) (bits_named text (falling k n)) (falling_all (Below (k + n)) text n k (λ j a b. record { j = j; bit = refl; less = b })) (bit_name text (k + n)) i in
-  let e = some_same (k + n) f.j f.bit in let g = f.less in omega arith,
+      let e = some_same (k + n) f.j f.bit in let g = f.less in omega arith,
   falling_different text n k,
 )
 
@@ -167,3 +167,64 @@ names_different text (Some r) = elim (leb_tells r.left r.right) [
   | inl t ↦ let Different : List ℕ → Type 0 = λ ks. AllDifferent (bits_named text ks) in subst Different (sym (up_range r t.0)) (rising_different text (r.right - r.left + 1) r.left)
   | inr t ↦ let Different : List ℕ → Type 0 = λ ks. AllDifferent (bits_named text ks) in subst Different (sym (down_range r t.0)) (falling_different text (r.left - r.right + 1) r.right)
 ]
+
+-- ---- each bit is there
+
+rising_in : (text : List ℕ) (n k j : ℕ) → k ≤ j → j < k + n → In (bit_name text j) (bits_named text (rising k n))
+rising_in text zero k j a b = absurd (omega arith)
+rising_in text (suc n) k j a b = elim (order k j) [
+  | inl later ↦ there (rising_in text n (k + 1) j (omega arith) (omega arith))
+  | inr first ↦ let e : k ≡ j = omega arith in let P : ℕ → Type 0 = λ i. In (bit_name text i) (bits_named text (rising k (suc n))) in subst P e here
+]
+
+falling_in : (text : List ℕ) (n k j : ℕ) → k ≤ j → j < k + n → In (bit_name text j) (bits_named text (falling k n))
+falling_in text zero k j a b = absurd (omega arith)
+falling_in text (suc n) k j a b = elim (order j (k + n)) [
+  | inl later ↦ there (falling_in text n k j a later)
+  | inr first ↦ let e : k + n ≡ j = omega arith in let P : ℕ → Type 0 = λ i. In (bit_name text i) (bits_named text (falling k (suc n))) in subst P e here
+]
+
+range_in : (text : List ℕ) (r : Range) (j : ℕ) → least r ≤ j → j ≤ greatest r → In (bit_name text j) (bits_named text (range_bits (bounds r)))
+range_in text r j a b = elim (leb_tells r.left r.right) [
+  | inl t ↦
+      let e = up_ends r t.0 t.1 in
+      let There : List ℕ → Type 0 = λ ks. In (bit_name text j) (bits_named text ks) in
+      subst There (sym (up_range r t.0)) (rising_in text (r.right - r.left + 1) r.left j (omega (arith, e.low_is)) (omega (arith, e.high_is, t.1)))
+  | inr t ↦
+      let e = down_ends r t.0 t.1 in
+      let There : List ℕ → Type 0 = λ ks. In (bit_name text j) (bits_named text ks) in
+      subst There (sym (down_range r t.0)) (falling_in text (r.left - r.right + 1) r.right j (omega (arith, e.low_is)) (omega (arith, e.high_is, t.1)))
+]
+
+pub names_in : (text : List ℕ) (b : Option ℕ) (r : Option Range) → InRange b r → In (record { text = text; bit = b }) (names_of_range text (bit_range r))
+names_in text None None i = here
+names_in text None (Some r) i = absurd i
+names_in text (Some k) None i = absurd i
+names_in text (Some k) (Some r) i = range_in text r k i.0 i.1
+
+pub ends_order : (r : Range) → least r ≤ greatest r
+ends_order r = elim (leb_tells r.left r.right) [
+  | inl t ↦ let e = up_ends r t.0 t.1 in omega (arith, e.low_is, e.high_is, t.1)
+  | inr t ↦ let e = down_ends r t.0 t.1 in omega (arith, e.low_is, e.high_is, t.1)
+]
+
+-- ranges that overlap have a bit in common
+pub record Common (r s : Option Range) : Type 0 where
+  pub bit : Option ℕ
+  pub in_first : InRange bit r
+  pub in_second : InRange bit s
+
+pub common : (r s : Option Range) → overlap r s ≡ true → Common r s
+common None None h = record { bit = None; in_first = tt; in_second = tt }
+common None (Some s) h = absurd cc
+common (Some r) None h = absurd cc
+common (Some r) (Some s) h =
+    let parts = and_parts (nat_le (least r) (greatest s)) (nat_le (least s) (greatest r)) h in
+    let a = leb-true (least r) (greatest s) parts.0 in
+    let b = leb-true (least s) (greatest r) parts.1 in
+    let c = ends_order r in
+    let d = ends_order s in
+    elim (order (least r) (least s)) [
+      | inl less ↦ record { bit = Some (least s); in_first = (omega arith, b); in_second = (omega arith, d) }
+      | inr more ↦ record { bit = Some (least r); in_first = (omega arith, c); in_second = (more, a) }
+    ]

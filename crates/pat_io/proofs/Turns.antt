@@ -1,18 +1,15 @@
 -- Loops over what is written.
-use Rattle.std.proofs.Common.{◌≡◌, ℕ, zero, suc, ◌+◌, ◌-◌, ◌<◌, ◌≤◌, Bool, true, false, nat_le, ◌&&◌, List, [], ◌∷◌, ◌++◌, length, take, drop, get_or, min, Option, Some, None, refl, sym, ap, subst, ◌∙◌, ◌⊎◌, inl, inr, append_assoc, append-nil, arith, if◌then◌else◌}
+use Rattle.std.proofs.Common.{◌≡◌, ℕ, suc, ◌+◌, ◌-◌, ◌<◌, ◌≤◌, Bool, true, ◌&&◌, List, [], ◌∷◌, ◌++◌, length, drop, get_or, min, Option, Some, None, refl, sym, ap, ◌∙◌, ◌⊎◌, inl, inr, append-nil, arith}
 use Rattle.std.proofs.str.Laws.{order}
 use Rattle.std.proofs.lemmas.List.{at_drop_more, drop_all}
 use Rattle.std.specs.List.{list_all}
-use Rattle.vlsi_base.specs.declared.name.Port.{Port}
 use Rattle.pat_meaning.specs.Columns.{rising}
 use Rattle.pat_meaning.specs.declared.patterns.Value.{Value}
 use Rattle.pat_text.specs.declared.raw.RawColumn.{RawColumn}
 use Rattle.pat_text.specs.declared.raw.RawValue.{RawValue}
-use Rattle.pat_text.specs.declared.raw.RawPattern.{RawPattern}
-use Rattle.pat_io.specs.Known.{is_unknown, if_at_fault, unknown_behind}
-use Rattle.pat_io.specs.Digits.{value_for, values_for}
-use Rattle.pat_io.specs.Fitting.{if_not, value_fits, value_faults, time_behind, time_faults}
-use Rattle.pat_io.specs.PatternText.{first_column, first_line}
+use Rattle.pat_io.specs.Digits.{values_for}
+use Rattle.pat_io.specs.Fitting.{value_faults}
+use Rattle.pat_io.specs.PatternText.{first_line}
 
 -- the first of two, if there is one
 abbrev pub or_first : {A : Type 0} → Option A → Option A → Option A

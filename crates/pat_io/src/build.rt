@@ -5,9 +5,7 @@ ghost use Rattle.pat_io.specs.Digits.{bit_range, column_of, value_for, values_fo
 
 use crate::bits::column_bits;
 use bool_expr::Bits;
-use pat_meaning::{
-    BitRange, Column, Columns, Pattern, PatternList, Patterns, Value, Values,
-};
+use pat_meaning::{BitRange, Column, Columns, Pattern, PatternList, Patterns, Value, Values};
 use pat_text::{RawColumn, RawPattern, RawPatterns, RawValue};
 use std::alloc::{AllocError, Global};
 use vlsi_base::{Range, Text};
@@ -58,11 +56,7 @@ fn value(alloc: Global, column: &RawColumn, digits: Option<&Text>) -> Result<Val
     }
 }
 
-fn values(
-    alloc: Global,
-    columns: &[RawColumn],
-    raws: &[RawValue],
-) -> Result<Vec<Value>, AllocError>
+fn values(alloc: Global, columns: &[RawColumn], raws: &[RawValue]) -> Result<Vec<Value>, AllocError>
     ensures { IfOk result (λ vs. vs.items ≡ values_for columns.now raws.now) }
 {
     let mut values = Vec::new(alloc);
@@ -83,11 +77,7 @@ fn label(alloc: Global, raw: Option<&Text>) -> Result<Option<Text>, AllocError>
     }
 }
 
-fn pattern(
-    alloc: Global,
-    columns: &[RawColumn],
-    raw: &RawPattern,
-) -> Result<Pattern, AllocError>
+fn pattern(alloc: Global, columns: &[RawColumn], raw: &RawPattern) -> Result<Pattern, AllocError>
     ensures { IfOk result (λ p. p ≡ pattern_for columns.now raw.now) }
 {
     let label = label(alloc, raw.label.as_ref())?;

@@ -5,6 +5,7 @@ mod bits;
 mod build;
 mod index;
 mod known;
+mod laws;
 mod reader;
 #[cfg(test)]
 mod tests;
@@ -12,5 +13,6 @@ mod times;
 mod widths;
 mod writer;
 
+pub use laws::{digits_read_again, written_means_itself};
 pub use reader::read_pat;
 pub use writer::write_pat;

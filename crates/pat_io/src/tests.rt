@@ -18,12 +18,7 @@ fn port(alloc: Global, text: &[u8], bit: Option<u32>, dir: Dir) -> Result<Port, 
 }
 
 /// Four bits of a vector.
-fn put_vector(
-    alloc: Global,
-    ports: &mut Ports,
-    text: &[u8],
-    dir: Dir,
-) -> Result<(), AllocError> {
+fn put_vector(alloc: Global, ports: &mut Ports, text: &[u8], dir: Dir) -> Result<(), AllocError> {
     for bit in 0..4u32 {
         let next = port(alloc, text, Some(bit), dir)?;
         ports.push(next)?;
@@ -90,15 +85,27 @@ static ROWS: [(&[u8], &[u8]); 52] = [
         b"in b (0 to 2) o; out v(1 to 3); begin < 3 ms > in : 6 ?011; end;",
         b"in b (0 to 2) O;\nout v (1 to 3);\nbegin\n< 3 ms> in : 6 ?011;\nend;\n",
     ),
-    (b"in vdd; in vss; begin <0 fs> : 1 0; end;", b"in vdd;\nin vss;\nbegin\n< 0 fs> : 1 0;\nend;\n"),
+    (
+        b"in vdd; in vss; begin <0 fs> : 1 0; end;",
+        b"in vdd;\nin vss;\nbegin\n< 0 fs> : 1 0;\nend;\n",
+    ),
     (b"in a;\nin c;\nbegin end;", b"!unknown 2 c"),
     (b"\nout a; begin end;", b"!unknown 2 a"),
     (b"out vdd; begin end;", b"!unknown 1 vdd"),
     (b"in a;\nin\na; begin end;", b"!unknown 3 a"),
     (b"in vdd; in vdd; begin end;", b"!unknown 1 vdd"),
-    (b"in b (0 to 1);\nin b (3 downto 1);\nbegin end;", b"!unknown 2 b"),
-    (b"in b (0 to 1); in b (3 downto 2); begin end;", b"in b (0 to 1);\nin b (3 downto 2);\nbegin\nend;\n"),
-    (b"in b (0 to 0); begin end;", b"in b (0 downto 0);\nbegin\nend;\n"),
+    (
+        b"in b (0 to 1);\nin b (3 downto 1);\nbegin end;",
+        b"!unknown 2 b",
+    ),
+    (
+        b"in b (0 to 1); in b (3 downto 2); begin end;",
+        b"in b (0 to 1);\nin b (3 downto 2);\nbegin\nend;\n",
+    ),
+    (
+        b"in b (0 to 0); begin end;",
+        b"in b (0 downto 0);\nbegin\nend;\n",
+    ),
     (b"in b;\nin c; begin end;", b"!unknown 2 c"),
     (b"in in; begin end;", b"!unknown 1 in"),
     (b"in b; begin end;", b"!width 1"),
@@ -112,14 +119,29 @@ static ROWS: [(&[u8], &[u8]); 52] = [
     (b"in b (0 to 3); begin <0 fs>: 10101; end;", b"!width 1"),
     (b"in b (0 to 2) x; begin <0 fs>:\n8; end;", b"!width 2"),
     (b"in b (0 to 2) x; begin <0 fs>: 07; end;", b"!width 1"),
-    (b"in b (0 to 3) o; begin <0 fs>: 17; end;", b"in b (0 to 3) O;\nbegin\n< 0 fs> : 17;\nend;\n"),
+    (
+        b"in b (0 to 3) o; begin <0 fs>: 17; end;",
+        b"in b (0 to 3) O;\nbegin\n< 0 fs> : 17;\nend;\n",
+    ),
     (b"in b (0 to 3) o; begin <0 fs>: 27; end;", b"!width 1"),
     (b"out b (0 to 3); begin <0 fs>: ?1; end;", b"!unknown 1 b"),
     (b"out v (0 to 3); begin <0 fs>: ?\n1; end;", b"!width 1"),
-    (b"in a; begin <1 ns>:1; <1000 ps>:0; end;", b"in a;\nbegin\n< 1 ns> : 1;\n< 1000 ps> : 0;\nend;\n"),
-    (b"in a; begin <1 ns>:1;\n\n<999 ps>:0; end;", b"!time back 3"),
-    (b"in a; begin <+1 ns>:1; <+0 fs>:0;\n<999999 fs>:0; end;", b"!time back 2"),
-    (b"in a; begin <1 ms>:1; <999999999 ps>:0; end;", b"!time back 1"),
+    (
+        b"in a; begin <1 ns>:1; <1000 ps>:0; end;",
+        b"in a;\nbegin\n< 1 ns> : 1;\n< 1000 ps> : 0;\nend;\n",
+    ),
+    (
+        b"in a; begin <1 ns>:1;\n\n<999 ps>:0; end;",
+        b"!time back 3",
+    ),
+    (
+        b"in a; begin <+1 ns>:1; <+0 fs>:0;\n<999999 fs>:0; end;",
+        b"!time back 2",
+    ),
+    (
+        b"in a; begin <1 ms>:1; <999999999 ps>:0; end;",
+        b"!time back 1",
+    ),
     (b"in a; begin <1 us>:1; <999 ns>: 11; end;", b"!width 1"),
     (b"in a B begin end;", b"!syntax 1"),
     (b"in a y; begin end;", b"!syntax 1"),

@@ -74,11 +74,7 @@ fn column_fits<'a>(index: &Index<'a>, ports: &[Port], column: &'a RawColumn) -> 
     }
 }
 
-fn columns_fault<'a>(
-    index: &Index<'a>,
-    ports: &[Port],
-    columns: &'a [RawColumn],
-) -> Option<u32>
+fn columns_fault<'a>(index: &Index<'a>, ports: &[Port], columns: &'a [RawColumn]) -> Option<u32>
     ensures { result ≡ first_line (column_faults ports.now columns.now) }
 {
     for column in columns {

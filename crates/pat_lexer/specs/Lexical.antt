@@ -1,5 +1,5 @@
 -- What stands at the front of a text: the longest token there, or what may stand between tokens.
-use Rattle.std.specs.Prelude.{ℕ, ◌==◌, Bool, true, false, ◌||◌, ◌&&◌, List, map, take, codes, Option, Some, None, nat_eq, nat_lt, slice_index, if◌then◌else◌}
+use Rattle.std.specs.Prelude.{ℕ, ◌==◌, Bool, true, false, ◌||◌, ◌&&◌, List, map, take, codes, Option, Some, nat_eq, nat_lt, slice_index, if◌then◌else◌}
 use Rattle.std.specs.List.{prefix_len, starts_with}
 use Rattle.std.specs.Char.{is_ascii_alphabetic, is_ascii_digit, to_ascii_lowercase}
 use Rattle.vhdl_token.specs.declared.keyword.Keyword.{Keyword}

@@ -13,3 +13,4 @@ pub mod Names
 pub mod Driving
 pub mod DrivenSoFar
 pub mod Undriven
+pub mod Repeats

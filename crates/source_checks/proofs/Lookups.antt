@@ -20,7 +20,7 @@ pub itself : (x : List ℕ) → bytes_eq x x ≡ true
 itself x = (bytes_eq-Decides x x).1 refl
 
 -- a test of texts answers alike both ways round
-turned : (x y : List ℕ) → bytes_eq x y ≡ bytes_eq y x
+pub turned : (x y : List ℕ) → bytes_eq x y ≡ bytes_eq y x
 turned x y = by (bytes_eq x y) (bytes_eq y x) refl refl where
   by : (a b : Bool) → bytes_eq x y ≡ a → bytes_eq y x ≡ b → a ≡ b
   by true true p q = refl

@@ -10,6 +10,7 @@ mod places;
 mod sizes;
 mod statement;
 mod table;
+mod twice;
 mod undeclared;
 mod widths;
 
@@ -22,5 +23,6 @@ pub use statement::{
     Statement, Statements, Target,
 };
 pub use table::{Role, Symbol, Table};
+pub use twice::repeated;
 pub use undeclared::{Place, unknown};
 pub use widths::width_fault;

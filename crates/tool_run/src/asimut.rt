@@ -41,11 +41,7 @@ fn file_status(alloc: Global, error: ShelfError, name: &FileName) -> Status
 }
 
 // Reads a file that may not be too long.
-fn read_file<S: Shelf>(
-    alloc: Global,
-    shelf: &mut S,
-    name: &FileName,
-) -> Result<FileBytes, Status>
+fn read_file<S: Shelf>(alloc: Global, shelf: &mut S, name: &FileName) -> Result<FileBytes, Status>
     ensures ok { IfOk result (λ bytes. IsHeld (S.files shelf.old) name.now bytes) }
     ensures err { IfErr result (λ status. IsFileRefusal (S.files shelf.old) (S.counts shelf.old) (S.counts shelf.new) name.now status) }
     ensures same { S.files shelf.new ≡ S.files shelf.old }

@@ -60,9 +60,14 @@ flow_is (Some x) (Some y) (Some z) true true c is = by (ends_in_vbe x || ends_in
   by : (b : Bool) → (ends_in_vbe x || ends_in_fsm x) ≡ b → cond b (Some (record { source = x; library = y; out = z })) None ≡ Some c
       → (Some x ≡ Some c.source) × (Some y ≡ Some c.library) × (Some z ≡ Some c.out) × (true ≡ true) × (true ≡ true) × ((ends_in_vbe c.source || ends_in_fsm c.source) ≡ true)
   by true ends is =
-      let e : record { source = x; library = y; out = z } ≡ c = cc is in
-      (ap (λ (k : FlowCommand). Some k.source) e, ap (λ (k : FlowCommand). Some k.library) e, ap (λ (k : FlowCommand). Some k.out) e, refl, refl,
-        sym (ap (λ (k : FlowCommand). ends_in_vbe k.source || ends_in_fsm k.source) e) ∙ ends)
+      let e : record { source = x; library = y; out = z } ≡ c = cc is in (
+        ap (λ (k : FlowCommand). Some k.source) e,
+        ap (λ (k : FlowCommand). Some k.library) e,
+        ap (λ (k : FlowCommand). Some k.out) e,
+        refl,
+        refl,
+        sym (ap (λ (k : FlowCommand). ends_in_vbe k.source || ends_in_fsm k.source) e) ∙ ends,
+      )
   by false ends is = absurd (cc is)
 flow_is _ _ _ _ _ c is = absurd (cc is)
 
@@ -72,9 +77,14 @@ asimut_is (Some x) (Some y) true true true c is = by (ends_in_vbe x && ends_in_p
   by : (b : Bool) → (ends_in_vbe x && ends_in_pat y) ≡ b → cond b (Some (record { source = x; patterns = y })) None ≡ Some c
       → (Some x ≡ Some c.source) × (Some y ≡ Some c.patterns) × (true ≡ true) × (true ≡ true) × (true ≡ true) × ((ends_in_vbe c.source && ends_in_pat c.patterns) ≡ true)
   by true ends is =
-      let e : record { source = x; patterns = y } ≡ c = cc is in
-      (ap (λ (k : AsimutCommand). Some k.source) e, ap (λ (k : AsimutCommand). Some k.patterns) e, refl, refl, refl,
-        sym (ap (λ (k : AsimutCommand). ends_in_vbe k.source && ends_in_pat k.patterns) e) ∙ ends)
+      let e : record { source = x; patterns = y } ≡ c = cc is in (
+        ap (λ (k : AsimutCommand). Some k.source) e,
+        ap (λ (k : AsimutCommand). Some k.patterns) e,
+        refl,
+        refl,
+        refl,
+        sym (ap (λ (k : AsimutCommand). ends_in_vbe k.source && ends_in_pat k.patterns) e) ∙ ends,
+      )
   by false ends is = absurd (cc is)
 asimut_is _ _ _ _ _ c is = absurd (cc is)
 

@@ -82,9 +82,7 @@ fn only(arguments: &[Argument], which: Wanted) -> Option<&FileName>
 fn has(arguments: &[Argument], setting: Setting) -> bool
     ensures { result ≡ has setting arguments.now }
 {
-    arguments
-        .iter()
-        .any(|argument| picked(Wanted::Value(setting), argument).is_some())
+    arguments.iter().any(|argument| picked(Wanted::Value(setting), argument).is_some())
 }
 
 fn is_tracks(argument: &Argument) -> bool

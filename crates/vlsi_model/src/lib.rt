@@ -1,5 +1,6 @@
 //! Stub.
 #![tactic(auto)]
+
 ghost use Rattle.std.specs.Prelude.{IfOk, IfErr};
 ghost use Rattle.source_checks.specs.Checks.{Passes, IsRefused};
 ghost use Rattle.source_checks.specs.Elaboration.{IsMachineOf};

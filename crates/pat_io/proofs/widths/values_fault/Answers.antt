@@ -1,4 +1,4 @@
-use Rattle.std.proofs.Common.{rules, ◌≡◌, ◌≤◌, ◌∙◌, length, min, ap, sym}
+use Rattle.std.proofs.Common.{rules, ◌≤◌, ◌∙◌, length, min, ap, sym}
 use Rattle.pat_io.specs.PatternText.{first_line}
 use Rattle.pat_io.proofs.Turns.{faults_past}
 use Rattle.pat_io.proofs.widths.values_fault.Goals as goal

@@ -1,0 +1,4 @@
+pub mod Vectors
+pub mod Numbering
+pub mod Formulas
+pub mod Driven
