@@ -220,7 +220,7 @@ def random_machines(runs, seed):
         choose = random.Random(f"{seed} {number}")
         maker = Maker(choose)
         source = maker.source().encode()
-        patterns = maker.pattern_file(b"block0" in source.lower(), choose.randrange(1, 25))
+        patterns = maker.pattern_file(choose.randrange(1, 25))
         made.append((source, patterns))
         status, printed = runs.expect_oracle("a random machine", source, patterns.encode())
         runs.note("a random machine is one", status == 0, printed)

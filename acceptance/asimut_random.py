@@ -115,7 +115,7 @@ class Maker:
         inner = [self.vector(f"s{k}") for k in range(choose.randrange(5))]
         registers = [self.vector(f"r{k}") for k in range(choose.choice([0, 1, 2, 3]))]
         supplies = ["vdd", "vss"] if choose.random() < 0.6 else []
-        self.inputs, self.outputs = inputs, outputs
+        self.inputs, self.outputs, self.has_clock = inputs, outputs, bool(registers)
         ports = [f"{v.name} : in {v.type('bit', 'bit_vector')}" for v in inputs]
         ports += [f"{v.name} : out {v.type('bit', 'bit_vector')}" for v in outputs]
         ports += [f"{name} : in bit" for name in supplies]
@@ -163,23 +163,22 @@ class Maker:
                 for a, b in ((low, cut), (cut + 1, high)):
                     if a <= b:
                         made.append((way, v.name, (a, b) if self.choose.random() < 0.3 else (b, a), self.choose.choice("bBoXx"), b - a + 1))
-        if "ck" in {v.name for v in self.known} or self.choose.random() < 1:
+        if self.has_clock:
             made.append(("in", "ck", None, "b", 1))
         self.choose.shuffle(made)
         return made
 
-    def pattern_file(self, has_clock, count):
+    def pattern_file(self, count):
         """A pattern file in which each output is `?*`."""
-        columns = [c for c in self.columns() if has_clock or c[1] != "ck"]
-        text = ""
+        columns, text = self.columns(), ""
         for way, name, bounds, format, _ in columns:
             text += f"{way} {name}{' ' + span(*bounds) if bounds else ''}{'' if format == 'B' else ' ' + format};\n"
         text += "begin\n"
         for k in range(count):
-            values = [self.digits(c) if c[0] == "in" else "?*" for c in columns]
-            time = f"< {k} ns>" if self.choose.random() < 0.5 else "< + 0 us>" if k == 0 else "< + 1 ns>"
+            time = f"{k} ns" if self.choose.random() < 0.5 else f"+ {min(k, 1)} ns"
             label = f" p{k}" if self.choose.random() < 0.5 else ""
-            text += f"< {k} ns>{label} : {' '.join(values)};\n" if time.startswith(f"< {k}") else f"{time}{label} : {' '.join(values)};\n"
+            values = [self.digits(c) if c[0] == "in" else "?*" for c in columns]
+            text += f"< {time}>{label} : {' '.join(values)};\n"
         return text + "end;\n"
 
     def digits(self, column):

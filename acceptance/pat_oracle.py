@@ -3,6 +3,8 @@
 `answer(..)` gives the status and the printed text that `alliance asimut` has to come to on two texts.
 """
 
+import functools
+
 from asimut_oracle import FILE, SUPPLIES, Ring, machine, spelled
 from front_oracle import DIGITS, IDENT, LETTERS, NUMBER, SIGNS, Refused, fault, limit
 
@@ -280,12 +282,16 @@ def refusal(file, said):
     return 2, f"asimut: {file}:{line}: {what}\n"
 
 
+# The machine of a text is asked for again for other patterns.
+machine_of = functools.lru_cache(maxsize=16)(machine)
+
+
 def answer(source_name, source, patterns_name, patterns):
     """(status, printed text), or (2, Ring) where any of some rings may be named."""
     if len(source) > FILE or len(patterns) > FILE:
         return refusal(None, f"limit file {FILE + 1}")
     try:
-        m = machine(source)
+        m = machine_of(source)
     except Ring as ring:
         return 2, ring
     except Refused as refused:
