@@ -4,7 +4,7 @@
 Usage: acceptance/asimut.py PROGRAM [SEED]
 
 Compared are the status, every byte that is printed, and that no file changed. What is expected comes from the tables of
-asimut_cases.py, which are written by hand, and from a second reader and simulator in this language (asimut_oracle.py,
+asimut_cases.py, which are written by hand, and from a second reader and simulator in this language (vbe_oracle.py,
 pat_oracle.py), which have to agree with the tables too. It prints what differs and `N passed, M failed`.
 """
 import pathlib
@@ -15,9 +15,9 @@ import tempfile
 
 sys.path.insert(0, str(pathlib.Path(__file__).parent))
 import asimut_cases as cases  # noqa: E402
-from asimut_oracle import Ring  # noqa: E402
 from asimut_random import PATTERN_WORDS, WORDS, Maker, changed, flipped  # noqa: E402
 from pat_oracle import answer  # noqa: E402
+from vbe_oracle import Ring  # noqa: E402
 
 EXAMPLES = pathlib.Path(__file__).resolve().parent.parent / "examples"
 MACHINES, CHANGES = 200, 600
@@ -229,6 +229,9 @@ def random_machines(runs, seed):
         if wrong:
             runs.expect_oracle("one wrong bit", source, wrong.encode())
     choose = random.Random(f"{seed} changes")
+    for source in sorted(EXAMPLES.glob("*/*.vbe")):
+        if source.with_suffix(".pat").exists():
+            made += [(source.read_bytes(), source.with_suffix(".pat").read_text())] * 40
     for _ in range(CHANGES):
         source, patterns = choose.choice(made)
         runs.expect_oracle("a changed source", changed(choose, source.decode(), WORDS).encode(), b"begin end;")

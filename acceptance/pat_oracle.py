@@ -5,8 +5,9 @@
 
 import functools
 
-from asimut_oracle import FILE, SUPPLIES, Ring, machine, spelled
 from front_oracle import DIGITS, IDENT, LETTERS, NUMBER, SIGNS, Refused, fault, limit
+from vbe_oracle import FILE, Ring, machine
+from vbe_reader import SUPPLIES, spelled
 
 MEANT = ("in", "out", "begin", "end")
 UNITS = {"fs": 1, "ps": 10**3, "ns": 10**6, "us": 10**9, "ms": 10**12}

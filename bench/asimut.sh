@@ -4,9 +4,12 @@
 #
 # Usage: bench/asimut.sh PROGRAM [SECONDS]      (a run that takes longer than SECONDS, 300 at first, is cut off)
 #
-# Columns: gates, patterns, bytes of the source, seconds and megabytes of asimut; how its seconds grow when the gates
-# double, and when the patterns double; microseconds for 1,000 gates and one pattern; then the seconds of iverilog (it
-# translates), of vvp (it runs), and vvp's megabytes.
+# GATES and PATTERNS in the environment are other lists of numbers, each rising.
+#
+# Columns: gates, patterns, bytes of the source, seconds and megabytes of asimut; by how much its seconds grow when the
+# gates double, and when the patterns double; microseconds for 1,000 gates and one pattern; then the seconds of iverilog
+# (it translates), of vvp (it runs), and vvp's megabytes. Each equation is computed once or twice a pattern, so that gates
+# times patterns is the cost, beside that of reading.
 set -eu
 
 if [ $# -lt 1 ] || [ ! -x "$1" ] || [ ! -x /usr/bin/time ]; then
@@ -34,17 +37,23 @@ measured() {
   fi
 }
 
-# ratio A B POWER: (A / B) to the power, or -.
-ratio() {
-  awk -v a="$1" -v b="$2" -v p="$3" 'BEGIN { if (a + 0 > 0 && b + 0 > 0) printf "%.2f", exp(p * log(a / b)); else printf "-" }'
+# growth SECONDS_BEFORE BEFORE SECONDS NOW: by how much the seconds grow when the number doubles, or -.
+growth() {
+  awk -v s="$1" -v a="$2" -v t="$3" -v b="$4" 'BEGIN { if (s + 0 > 0 && t + 0 > 0) printf "%.2f", exp(log(t / s) * log(2) / log(b / a)); else printf "-" }'
+}
+
+megabytes() {
+  [ "$1" = - ] && echo - || echo $(($1 / 1024))
 }
 
 row='%6s %8s %8s  %8s %5s  %6s %9s %9s  %8s %8s %5s\n'
 printf "$row" gates patterns bytes seconds MB gates*2 patterns*2 us/k-gate iverilog vvp MB
 declare -A seconds
-for gates in 1000 2000 4000 8000 16000; do
-  for patterns in 100 1000 10000; do
-    python3 "$here/asimut_inputs.py" $gates $patterns "$work"
+gates_before=0
+for gates in ${GATES:-1000 2000 4000 8000 16000}; do
+  patterns_before=0
+  for patterns in ${PATTERNS:-100 1000 10000}; do
+    python3 "$here/asimut_inputs.py" "$gates" "$patterns" "$work"
     read -r took memory < <(measured printed "$program" asimut c.vbe -p p.pat)
     seconds[$gates,$patterns]=$took
     translates=- runs=- vvp_memory=-
@@ -57,11 +66,11 @@ for gates in 1000 2000 4000 8000 16000; do
         exit 1
       fi
     fi
-    by_gates=$(ratio "$took" "${seconds[$((gates / 2)),$patterns]:--}" 1)
-    by_patterns=$(ratio "$took" "${seconds[$gates,$((patterns / 10))]:--}" 0.30103)
-    each=$(awk -v t="$took" -v g=$gates -v p=$patterns 'BEGIN { if (t + 0 > 0) printf "%.1f", t * 1e9 / g / p; else printf "-" }')
-    [ "$memory" = - ] || memory=$((memory / 1024))
-    [ "$vvp_memory" = - ] || vvp_memory=$((vvp_memory / 1024))
-    printf "$row" $gates $patterns "$(wc -c <c.vbe)" "$took" "$memory" "$by_gates" "$by_patterns" "$each" "$translates" "$runs" "$vvp_memory"
+    by_gates=$(growth "${seconds[$gates_before,$patterns]:--}" "$gates_before" "$took" "$gates")
+    by_patterns=$(growth "${seconds[$gates,$patterns_before]:--}" "$patterns_before" "$took" "$patterns")
+    each=$(awk -v t="$took" -v g="$gates" -v p="$patterns" 'BEGIN { if (t + 0 > 0) printf "%.1f", t * 1e9 / g / p; else printf "-" }')
+    printf "$row" "$gates" "$patterns" "$(wc -c <c.vbe)" "$took" "$(megabytes "$memory")" "$by_gates" "$by_patterns" "$each" "$translates" "$runs" "$(megabytes "$vvp_memory")"
+    patterns_before=$patterns
   done
+  gates_before=$gates
 done
