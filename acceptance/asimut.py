@@ -20,7 +20,7 @@ from pat_oracle import answer  # noqa: E402
 from vbe_oracle import Ring  # noqa: E402
 
 EXAMPLES = pathlib.Path(__file__).resolve().parent.parent / "examples"
-MACHINES, CHANGES = 200, 600
+MACHINES, RINGS, CHANGES = 200, 60, 600
 LIMIT = "asimut: limit: "
 
 
@@ -228,6 +228,9 @@ def random_machines(runs, seed):
         wrong = flipped(choose, printed)
         if wrong:
             runs.expect_oracle("one wrong bit", source, wrong.encode())
+    for number in range(RINGS):
+        maker = Maker(random.Random(f"{seed} ring {number}"))
+        runs.expect_oracle("signals in rings", maker.source(is_ordered=False).encode(), b"begin < 0 ns> : ; end;")
     choose = random.Random(f"{seed} changes")
     for source in sorted(EXAMPLES.glob("*/*.vbe")):
         if source.with_suffix(".pat").exists():

@@ -213,6 +213,10 @@ SOURCE_FAULTS = [
     ("a ring named from its least", source("q <= z;\nz <= y and a;\ny <= x;\nx <= z or b;\n", "signal x, y, z : bit;\n"), "8: cycle x z y"),
     ("an output that reads itself", source("q <= a when b else q;\n"), "4: cycle q"),
     ("bits of a vector", source("q <= s(0);\ns(0) <= s(1);\ns(1) <= not s(0);\n", "signal s : bit_vector (1 downto 0);\n"), "6: cycle s(0) s(1)"),
+    ("bits by their numbers", source("q <= s(9);\ns(10) <= s(9);\ns(9) <= s(10) xor a;\ns(8) <= b;\n", "signal s : bit_vector (10 downto 8);\n"), "7: cycle s(9) s(10)"),
+    ("a ring by a condition", source("q <= t;\nt <= s;\ns <= a when t = '1' else b;\n", "signal s, t : bit;\n"), "7: cycle s t"),
+    ("a ring that means nothing", source("q <= q and '0';\n"), "4: cycle q"),
+    ("a ring of three beside a chain", source("q <= z1;\nz1 <= z2;\nz2 <= c;\nc <= a xor b3;\nb3 <= b2;\nb2 <= c;\n", "signal z1, z2, b2, b3, c : bit;\n"), "10: cycle b2 c b3"),
     ("a label isn't the line", source("l :\nq <= q;\n"), "5: cycle q"),
 ]
 

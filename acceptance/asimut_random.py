@@ -108,7 +108,8 @@ class Maker:
             at += count
         return made
 
-    def source(self):
+    def source(self, is_ordered=True):
+        """A source; where it isn't ordered, its signals may read each other in rings."""
         choose = self.choose
         inputs = [self.vector(f"i{k}") for k in range(choose.randrange(1, 5))]
         outputs = [self.vector(f"o{k}") for k in range(choose.randrange(1, 4))]
@@ -125,10 +126,11 @@ class Maker:
         declared += [f"signal {v.name} : {v.type('reg_bit', choose.choice(['reg_vector', 'reg_bit_vector']))} register;\n" for v in registers]
         choose.shuffle(declared)
         self.known = inputs + registers + [Vector(name, None) for name in supplies]
+        self.known += [] if is_ordered else inner + outputs
         statements = []
         for v in choose.sample(inner + outputs, len(inner) + len(outputs)):
             statements += self.assignments(v)
-            self.known = self.known + [v]
+            self.known += [v] if is_ordered else []
         for k, v in enumerate(registers):
             statements.append(self.block(f"block{k}", v))
         if choose.random() < 0.3:
