@@ -21,6 +21,7 @@ from vbe_oracle import Ring  # noqa: E402
 
 EXAMPLES = pathlib.Path(__file__).resolve().parent.parent / "examples"
 MACHINES, RINGS, CHANGES = 200, 60, 600
+SECONDS = 100
 LIMIT = "asimut: limit: "
 
 
@@ -52,10 +53,14 @@ class Runs:
         return {name.name: None if name.is_dir() else name.read_bytes() for name in self.folder.iterdir()}
 
     def run(self, files, words, out=subprocess.PIPE):
-        """The status and the printed text; None where a file changed or something stands on standard error."""
+        """The status and the printed text; None where it didn't end, a file changed or something stands on standard error."""
         self.write(files)
         before = self.held()
-        done = subprocess.run([self.program, *words], cwd=self.folder, stdin=subprocess.DEVNULL, stdout=out, stderr=subprocess.PIPE)
+        how = {"cwd": self.folder, "stdin": subprocess.DEVNULL, "stdout": out, "stderr": subprocess.PIPE, "timeout": SECONDS}
+        try:
+            done = subprocess.run([self.program, *words], **how)
+        except subprocess.TimeoutExpired:
+            return None, f"no end within {SECONDS} seconds"
         if done.stderr or self.held() != before:
             return None, f"on standard error {done.stderr!r}, or a file changed"
         return done.returncode, (done.stdout or b"").decode(errors="replace")
@@ -64,12 +69,11 @@ class Runs:
         got = self.run(files, words, out)
         self.note(title, got == (status, printed), f"came to {shown(got)}, wanted {shown((status, printed))}")
 
-    def expect_text(self, title, source, patterns, status, printed, check=True):
+    def expect_text(self, title, source, patterns, status, printed):
         """As the table says; and the second reader says so too."""
         self.expect(title, {"row1.vbe": source, "t.pat": patterns}, ["asimut", "row1.vbe", "-p", "t.pat"], status, printed)
-        if check:
-            second = answer("row1.vbe", source.encode(), "t.pat", patterns.encode())
-            self.note(f"{title} (the table)", is_same((status, printed), second), f"the second reader comes to {shown(second)}")
+        second = answer("row1.vbe", source.encode(), "t.pat", patterns.encode())
+        self.note(f"{title} (the table)", is_same((status, printed), second), f"the second reader comes to {shown(second)}")
 
     def expect_oracle(self, title, source, patterns):
         """As the second reader says, with a line that the file has."""
