@@ -1,4 +1,4 @@
-"""A second reader and runner of pattern files, written from docs/FORMATS.md alone.
+"""A second reader and runner of pattern files, written by the rules of docs/FORMATS.md.
 
 `answer(..)` gives the status and the printed text that `alliance asimut` has to come to on two texts.
 """

@@ -1,4 +1,4 @@
-"""The grammar of data-flow texts, read by a second reader, written from docs/FORMATS.md alone."""
+"""The grammar of data-flow texts, for the second reader, written by the rules of docs/FORMATS.md."""
 
 from front_oracle import CHAIN, Reader, Refused, limit
 
