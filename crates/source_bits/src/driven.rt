@@ -71,7 +71,11 @@ fn range_places(
 }
 
 /// The numbers of the bits that a target drives, from the left.
-fn target_places(alloc: Global, numbers: &Numbers, target: &Target) -> Result<Vec<u32>, AllocError>
+pub fn target_places(
+    alloc: Global,
+    numbers: &Numbers,
+    target: &Target,
+) -> Result<Vec<u32>, AllocError>
     requires { AllDifferent (map (λ s. s.text) numbers.now) }
     ensures { IfOk result (λ made. made.items ≡ map (place (all_names numbers.now)) (target_names numbers.now target.now)) }
 {

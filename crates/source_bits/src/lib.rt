@@ -12,6 +12,6 @@ mod tests;
 mod vectors;
 
 pub use choices::choice_bits;
-pub use driven::{DrivenBit, StoredBit, driven_bits, stored_bits};
+pub use driven::{DrivenBit, StoredBit, driven_bits, stored_bits, target_places};
 pub use formulas::bits;
 pub use numbers::Numbers;

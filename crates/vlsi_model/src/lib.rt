@@ -1,19 +1,21 @@
-//! Stub.
+//! Data-flow sources as machines: all checks of a source in their order, and the machine that it is.
 #![tactic(auto)]
 
-ghost use Rattle.std.specs.Prelude.{IfOk, IfErr};
-ghost use Rattle.source_checks.specs.Checks.{Passes, IsRefused};
-ghost use Rattle.source_checks.specs.Elaboration.{IsMachineOf};
+mod build;
+mod check;
+mod cycle;
+mod equations;
+mod faults;
+mod nodes;
+mod ports;
+mod refusals;
+mod registers;
+mod source;
 
-use machine_core::Machine;
-use source_checks::RawMachine;
-use std::alloc::Global;
-use vlsi_base::ReadError;
-
-/// Stub.
-pub fn check_machine(_alloc: Global, _raw: RawMachine) -> Result<Machine, ReadError>
-    ensures machine { IfOk result (λ m. Passes _raw × IsMachineOf _raw m) }
-    ensures refused { IfErr result (λ e. IsRefused _raw e) }
-{
-    Err(ReadError::Memory)
-}
+pub use check::check_machine;
+pub use machine_core::Machine;
+pub use refusals::refusal;
+pub use source_checks::{
+    Assignment, Assignments, Choice, Guarded, GuardedList, RawBlock, RawMachine, Selection,
+    Statement, Statements, Target, machine_size,
+};

@@ -1,0 +1,7 @@
+use Rattle.std.proofs.Common.{◌≡◌, map}
+use Rattle.source_checks.specs.Symbols.{all_names, rising}
+use Rattle.vlsi_model.specs.Numbered.{named_at}
+use Rattle.vlsi_model.proofs.registers.named_bits.Given as goal
+
+abbrev pub invariant-loop-k : goal.invariant-loop-k
+invariant-loop-k l = l.named.items ≡ map (named_at (all_names l.numbers) l.bits) (rising 0 l.k)

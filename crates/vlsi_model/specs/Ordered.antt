@@ -1,0 +1,28 @@
+-- An order of a source's definitions, or a ring of them.
+use Rattle.std.specs.Prelude.{ℕ, ◌+◌, ◌-◌, ◌<◌, List, length, slice_index}
+use Rattle.std.specs.List.{All}
+use Rattle.vlsi_base.specs.declared.name.Name.{Name}
+use Rattle.bit_order.specs.declared.outcome.Order.{Order}
+use Rattle.bit_order.specs.declared.outcome.Order.TheVariants.{Sorted, Ring}
+use Rattle.bit_order.specs.Order.{NoneTwice}
+use Rattle.source_checks.specs.declared.statement.RawMachine.{RawMachine}
+use Rattle.source_checks.specs.Elaboration.{definitions}
+use Rattle.source_checks.specs.Checks.{HasNoRing}
+use Rattle.source_checks.specs.Cycles.{Reads}
+use Rattle.vlsi_model.specs.Laid.{IsNodeOrder, definition_at}
+
+abbrev pub name_of_node : RawMachine → ℕ → Name
+name_of_node raw k = (definition_at (definitions raw) k).name
+
+-- places of different definitions, of which each reads the next and the last reads the first
+pub record IsNodeRing (raw : RawMachine) (nodes : List ℕ) : Type 0 where
+  pub some : 0 < length nodes
+  pub inside : All (λ k. k < length (definitions raw)) nodes
+  pub once : NoneTwice nodes
+  pub next : (p : ℕ) → p + 1 < length nodes
+      → Reads (definitions raw) (name_of_node raw (slice_index nodes p)) (name_of_node raw (slice_index nodes (p + 1)))
+  pub first : Reads (definitions raw) (name_of_node raw (slice_index nodes (length nodes - 1))) (name_of_node raw (slice_index nodes 0))
+
+abbrev pub IsOrderOfSource : RawMachine → Order → Type 0
+IsOrderOfSource raw (Sorted nodes) = IsNodeOrder raw nodes.items × HasNoRing raw
+IsOrderOfSource raw (Ring nodes) = IsNodeRing raw nodes.items

@@ -1,0 +1,114 @@
+// The machine that a source is, or why it is none.
+ghost use Rattle.std.specs.Prelude.{◌≡◌, None, Some, IfOk, IfErr};
+ghost use Rattle.source_checks.specs.Checks.{first_fault, HasNoRing, Passes, IsRefused, ports_error};
+ghost use Rattle.source_checks.specs.Elaboration.{port_bits, IsMachineOf};
+ghost use Rattle.source_checks.specs.Symbols.{symbols};
+ghost use Rattle.vlsi_model.specs.Laid.{IsNodeOrder};
+ghost use Rattle.vlsi_model.specs.Ordered.{IsOrderOfSource};
+ghost use Rattle.vlsi_model.specs.Sources.{IsSourceOf};
+
+use crate::build::{build, few};
+use crate::cycle::cycle;
+use crate::nodes::node_order;
+use crate::ports::ports;
+use crate::refusals::refusal;
+use crate::source::{Source, elaborated};
+use bit_order::Order;
+use machine_core::Machine;
+use source_checks::{RawMachine, Table};
+use std::alloc::{AllocError, Global};
+use vlsi_base::{Limit, LimitKind, Port, ReadError};
+
+/// The most port bits that a source may have.
+const MOST_PORTS: usize = 4096;
+
+/// An order of the definitions in which each reads only what is known before it, or a ring of them.
+fn definition_order(alloc: Global, source: &Source, raw: &RawMachine) -> Result<Order, AllocError>
+    requires source { IsSourceOf raw.now source.now }
+    requires sound { first_fault raw.now ≡ None }
+    ensures { IfOk result (λ o. IsOrderOfSource raw.now o) }
+{
+    few(source.driven.len())?;
+    let order = node_order(alloc, source.numbers.total(), &source.driven)?;
+    Ok(order)
+}
+
+fn too_many_ports(ports: &[Port], raw: &RawMachine) -> ReadError
+    requires { ports.now ≡ port_bits (symbols raw.now) }
+    ensures { result ≡ ports_error raw.now }
+{
+    ReadError::Limit(Limit {
+        which: LimitKind::Ports,
+        reached: ports.len() as u64,
+    })
+}
+
+/// The machine of a source in which nothing is at fault and nothing reads itself in a ring, unless it has too many port bits.
+fn few_ports(
+    alloc: Global,
+    source: &Source,
+    raw: &RawMachine,
+    nodes: &[u32],
+) -> Result<Machine, ReadError>
+    requires source { IsSourceOf raw.now source.now }
+    requires sound { first_fault raw.now ≡ None }
+    requires nodes { IsNodeOrder raw.now nodes.now }
+    requires no_ring { HasNoRing raw.now }
+    ensures machine { IfOk result (λ m. Passes raw.now × IsMachineOf raw.now m) }
+    ensures refused { IfErr result (λ e. IsRefused raw.now e) }
+{
+    let ports = ports(alloc, &source.numbers)?;
+    if ports.len() > MOST_PORTS {
+        return Err(too_many_ports(&ports, raw));
+    }
+    let machine = build(alloc, source, raw, ports, nodes)?;
+    Ok(machine)
+}
+
+fn without_ring(
+    alloc: Global,
+    source: &Source,
+    raw: &RawMachine,
+    order: Order,
+) -> Result<Machine, ReadError>
+    requires source { IsSourceOf raw.now source.now }
+    requires sound { first_fault raw.now ≡ None }
+    requires order { IsOrderOfSource raw.now order }
+    ensures machine { IfOk result (λ m. Passes raw.now × IsMachineOf raw.now m) }
+    ensures refused { IfErr result (λ e. IsRefused raw.now e) }
+{
+    match order {
+        Order::Sorted(nodes) => few_ports(alloc, source, raw, &nodes),
+        Order::Ring(nodes) => {
+            let e = cycle(alloc, source, raw, &nodes)?;
+            Err(e)
+        }
+    }
+}
+
+/// The machine of a source in which no check before that for rings fails.
+fn sound_machine(alloc: Global, table: Table, raw: &RawMachine) -> Result<Machine, ReadError>
+    requires known { table ≡ symbols raw.now }
+    requires sound { first_fault raw.now ≡ None }
+    ensures machine { IfOk result (λ m. Passes raw.now × IsMachineOf raw.now m) }
+    ensures refused { IfErr result (λ e. IsRefused raw.now e) }
+{
+    let source = elaborated(alloc, table, raw)?;
+    let order = definition_order(alloc, &source, raw)?;
+    without_ring(alloc, &source, raw, order)
+}
+
+/// The machine that a source is, or why it is none: the first check that fails, in this order: a name that is declared
+/// twice, an unknown name, a width, two drivers of a bit, none, a form that is left out, a guard or the clock, signals that
+/// read each other in a ring, more than 4096 port bits. Takes memory for each declared bit and for each formula.
+pub fn check_machine(alloc: Global, raw: RawMachine) -> Result<Machine, ReadError>
+    ensures machine { IfOk result (λ m. Passes raw × IsMachineOf raw m) }
+    ensures refused { IfErr result (λ e. IsRefused raw e) }
+{
+    let table = Table::new(alloc, &raw)?;
+    let refused = refusal(alloc, &table, &raw)?;
+    match refused {
+        Some(e) => Err(e),
+        None => sound_machine(alloc, table, &raw),
+    }
+}

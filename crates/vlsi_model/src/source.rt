@@ -1,0 +1,77 @@
+// A source, elaborated over the numbers of its declared bits.
+ghost use Rattle.std.specs.Prelude.{◌≡◌, map, option_map, IfOk};
+ghost use Rattle.std.specs.Option.{option_copied};
+ghost use Rattle.machine_core.specs.Order.{AllDifferent};
+ghost use Rattle.source_checks.specs.Clock.{clock_text};
+ghost use Rattle.source_checks.specs.Symbols.{symbols, scalar};
+ghost use Rattle.vlsi_model.specs.Sources.{IsSourceOf};
+
+use source_bits::{DrivenBit, Numbers, StoredBit, driven_bits, stored_bits};
+use source_checks::{RawMachine, Table};
+use source_clock::clock;
+use std::alloc::{AllocError, Global};
+use vlsi_base::{Name, Text};
+
+/// The numbers of a source's declared bits, its clock, and the bits that it drives, outside of blocks and in them.
+#[derive(Drop)]
+pub struct Source {
+    pub numbers: Numbers,
+    pub clock: Option<Name>,
+    pub driven: Vec<DrivenBit>,
+    pub stored: Vec<StoredBit>,
+}
+
+fn bytes_of<'a>(text: Option<&'a Text>) -> Option<&'a [u8]>
+    ensures { option_copied result ≡ option_copied text.entry }
+{
+    match text {
+        Some(text) => Some(text.as_bytes()),
+        None => None,
+    }
+}
+
+fn name_of(alloc: Global, text: Option<&Text>) -> Result<Option<Name>, AllocError>
+    ensures { IfOk result (λ name. name ≡ option_map scalar (option_copied text.entry)) }
+{
+    match text {
+        Some(text) => {
+            let text = text.copy(alloc)?;
+            Ok(Some(Name::scalar(text)))
+        }
+        None => Ok(None),
+    }
+}
+
+/// The source of these numbers and this clock.
+fn with_clock(
+    alloc: Global,
+    numbers: Numbers,
+    clock: Option<&Text>,
+    raw: &RawMachine,
+) -> Result<Source, AllocError>
+    requires known { numbers ≡ symbols raw.now }
+    requires different { AllDifferent (map (λ s. s.text) (symbols raw.now)) }
+    requires clock { option_copied clock ≡ clock_text raw.now }
+    ensures { IfOk result (λ s. IsSourceOf raw.now s) }
+{
+    let driven = driven_bits(alloc, &numbers, raw.statements.as_slice())?;
+    let stored = stored_bits(alloc, &numbers, bytes_of(clock), raw.statements.as_slice())?;
+    let clock = name_of(alloc, clock)?;
+    Ok(Source {
+        numbers,
+        clock,
+        driven,
+        stored,
+    })
+}
+
+/// A source whose declared names are these.
+pub fn elaborated(alloc: Global, table: Table, raw: &RawMachine) -> Result<Source, AllocError>
+    requires known { table ≡ symbols raw.now }
+    requires different { AllDifferent (map (λ s. s.text) (symbols raw.now)) }
+    ensures { IfOk result (λ s. IsSourceOf raw.now s) }
+{
+    let clock = clock(alloc, &table, raw.statements.as_slice())?;
+    let numbers = Numbers::new(alloc, table)?;
+    with_clock(alloc, numbers, clock, raw)
+}
