@@ -158,14 +158,14 @@ expect "two cells" 10 'flow: beyond\n' "" flow row1.vbe -l lib -o out --tracks
 
 # Words.
 fresh
-expect "no words" 1 'usage: alliance flow ARGUMENTS\n' ""
-expect "an unknown tool" 1 'usage: alliance flow ARGUMENTS\n' "" place row1.vbe
+expect "no words" 1 'usage: alliance flow|asimut ARGUMENTS\n' ""
+expect "an unknown tool" 1 'usage: alliance flow|asimut ARGUMENTS\n' "" place row1.vbe
 expect "flow alone" 1 "$usage" "" flow
 expect "no output" 1 "$usage" "" flow row1.vbe -l lib --tracks
 expect "no tracks" 1 "$usage" "" flow row1.vbe -l lib -o out
 expect "an option twice" 1 "$usage" "" flow row1.vbe -l lib -l lib -o out --tracks
 expect "another ending" 1 "$usage" "" flow row1.txt -l lib -o out --tracks
-expect "a word that is no text" 1 'usage: alliance flow ARGUMENTS\n' "" flow $'\xff.vbe' -l lib -o out --tracks
+expect "a word that is no text" 1 'usage: alliance flow|asimut ARGUMENTS\n' "" flow $'\xff.vbe' -l lib -o out --tracks
 
 echo "$passed passed, $failed failed"
 [ "$failed" = 0 ]

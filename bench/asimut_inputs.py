@@ -1,0 +1,100 @@
+#!/usr/bin/env python3
+"""Makes a circuit of two-input gates and registers, and patterns for it: as data-flow VHDL with a pattern file, and as
+Verilog with a test bench that gives the same vectors and prints the outputs.
+
+Usage: bench/asimut_inputs.py GATES PATTERNS FOLDER [SEED]
+
+Writes c.vbe, p.pat, c.v and vectors.txt into the folder. One gate in fifty feeds a register; all have one clock, and it
+rises in every other pattern.
+"""
+import pathlib
+import random
+import sys
+
+KINDS = ["and", "or", "xor", "nand", "nor", "xnor"]
+VERILOG = {"and": "{} & {}", "or": "{} | {}", "xor": "{} ^ {}", "nand": "~({} & {})", "nor": "~({} | {})", "xnor": "~({} ^ {})"}
+INPUTS = [f"d({k})" for k in range(8)]
+
+
+def circuit(gates, choose):
+    """Each gate as (name, kind, left, right), and the gate that each register takes. A gate reads registers, inputs and earlier gates."""
+    count = max(gates // 50, 1)
+    registers = [f"r{k}" for k in range(count)]
+    names, made = INPUTS + registers, []
+    for k in range(gates):
+        near = names[-200:]
+        left, right = choose.choice(near), choose.choice(names if choose.random() < 0.3 else near)
+        made.append((f"g{k}", choose.choice(KINDS), left, right))
+        names.append(f"g{k}")
+    return made, [(r, f"g{choose.randrange(gates)}") for r in registers]
+
+
+def signals(names, kind):
+    """Declarations of ten names a line."""
+    return "".join(f"  signal {', '.join(names[k : k + 10])} : {kind};\n" for k in range(0, len(names), 10))
+
+
+def vhdl(made, registers):
+    lines = ["entity c is port (ck : in bit; d : in bit_vector (7 downto 0); q : out bit_vector (7 downto 0)); end c;\n"]
+    lines.append("architecture vbe of c is\n")
+    lines.append(signals([r for r, _ in registers], "reg_bit register"))
+    lines.append(signals([name for name, *_ in made], "bit"))
+    lines.append("begin\n")
+    lines += [f"{name} <= {left} {kind} {right};\n" for name, kind, left, right in made]
+    lines.append("state : block (ck and not ck'stable) begin\n")
+    lines += [f"{r} <= guarded {gate};\n" for r, gate in registers]
+    lines.append("end block;\n")
+    lines += [f"q({k}) <= {made[-1 - k][0]};\n" for k in range(8)]
+    return "".join(lines) + "end vbe;\n"
+
+
+def verilog(made, registers):
+    at = lambda name: name.replace("(", "[").replace(")", "]")
+    lines = ["module c(input ck, input [7:0] d, output [7:0] q);\n"]
+    lines += [f"reg {r} = 0;\n" for r, _ in registers]
+    lines += [f"wire {name} = {VERILOG[kind].format(at(left), at(right))};\n" for name, kind, left, right in made]
+    lines.append("always @(posedge ck) begin\n")
+    lines += [f"{r} <= {gate};\n" for r, gate in registers]
+    lines.append("end\n")
+    lines += [f"assign q[{k}] = {made[-1 - k][0]};\n" for k in range(8)]
+    return "".join(lines) + "endmodule\n" + BENCH
+
+
+# The inputs settle before the clock rises, and the outputs are shown when all has settled again.
+BENCH = """module bench;
+reg ck = 0; reg [7:0] d = 0; wire [7:0] q; integer file, got; reg [7:0] next_d; reg next_ck;
+c dut(ck, d, q);
+initial begin
+  file = $fopen("vectors.txt", "r");
+  got = $fscanf(file, "%b %h", next_ck, next_d);
+  while (got == 2) begin
+    d = next_d; #1 ck = next_ck; #1 $display("%h", q);
+    got = $fscanf(file, "%b %h", next_ck, next_d);
+  end
+  $finish;
+end
+endmodule
+"""
+
+
+def main():
+    gates, patterns, folder = int(sys.argv[1]), int(sys.argv[2]), pathlib.Path(sys.argv[3])
+    choose = random.Random(f"{sys.argv[4] if len(sys.argv) > 4 else 1} {gates} {patterns}")
+    made, registers = circuit(gates, choose)
+    vectors = [(k % 2, choose.getrandbits(8)) for k in range(patterns)]
+    rows = "".join(f"< {k} ns> : {ck} {d:02x} ?*;\n" for k, (ck, d) in enumerate(vectors))
+    texts = {
+        "c.vbe": vhdl(made, registers),
+        "p.pat": f"in ck;\nin d (7 downto 0) X;\nout q (7 downto 0) X;\nbegin\n{rows}end;\n",
+        "c.v": verilog(made, registers),
+        "vectors.txt": "".join(f"{ck} {d:02x}\n" for ck, d in vectors),
+    }
+    for name, text in texts.items():
+        (folder / name).write_text(text)
+    most = max(len(texts["c.vbe"]), len(texts["p.pat"]))
+    if most > 1048576:
+        sys.exit(f"{most} bytes are more than a file may have")
+
+
+if __name__ == "__main__":
+    main()
