@@ -1,0 +1,2 @@
+//! What is written of patterns is read again as these patterns.
+#![tactic(auto)]
