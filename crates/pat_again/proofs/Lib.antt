@@ -3,3 +3,5 @@ pub mod Sentences
 pub mod Letters
 pub mod Words
 pub mod Columns
+pub mod Values
+pub mod Timed

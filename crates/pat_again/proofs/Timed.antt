@@ -1,0 +1,1 @@
+-- Patterns as they are written.
