@@ -27,7 +27,8 @@ use Rattle.pat_text.specs.declared.raw.RawValue.{RawValue}
 use Rattle.pat_text.specs.Spelled.{text_of, is_digit}
 use Rattle.pat_text.specs.Patterns.{digits, given, anything, wanted, expected, value_of, values}
 use Rattle.pat_io.specs.Spelling.{bits_of, number_from, digit_of, digits_text, bits_text, mark_text, value_text, values_text}
-use Rattle.pat_io.specs.ReadAgain.{written_column, written_digits, written_values}
+use Rattle.pat_io.specs.ReadAgain.{written_range, written_column, written_digits, written_values}
+use Rattle.pat_io.proofs.Ranges.{length_names}
 use Rattle.pat_again.proofs.Places.{Place, at, Skips, Takes, takes, blank, line_behind}
 use Rattle.pat_again.proofs.Sentences.{Reads, read_nothing, read_one, read_then, read_left, read_right, read_behind, read_before, read_from}
 use Rattle.pat_again.proofs.Letters.{both, is_hexadecimal, digits_piece}
@@ -151,3 +152,37 @@ read_any dir.Out f line rest is =
     let v : RawValue = record { line = line; digits = None } in
     read_then (record { token = token.Sign sign.Question; line = line }) v (read_sign true true line 63 (42 ∷ rest) sign.Question (question_piece (42 ∷ rest)) refl)
     (read_left (read_then (record { token = token.Sign sign.Star; line = line }) v (read_sign true true line 42 rest sign.Star (star_piece rest) refl) (read_nothing v (at true line rest))))
+
+some_names : (name : List ℕ) (r : Option BitRange) → 0 < length (names_of_range name r)
+some_names name None = omega arith
+some_names name (Some r) = let count = length_names name (written_range 0 (Some r)) in omega (arith, count)
+
+read_value : (c : Column) (v : Value) (line : ℕ) (rest : List ℕ) → Fits c v → is_letter_or_digit (slice_index rest 0) ≡ false
+    → Reads (value_of c.dir c.format) (record { line = line; digits = written_digits c v }) (at true line (value_text c v ++ rest)) (at true line rest)
+read_value c (Digits bits) line rest fit stops =
+    let some = some_names c.name c.range in
+    let width : length bits ≡ length (names_of_range c.name c.range) = fit in
+    read_given c.dir c.format bits line rest (omega (arith, some, width)) stops
+read_value c Any line rest fit stops = read_any c.dir c.format line rest fit
+
+value_stops : (cs : List Column) (vs : List Value) (rest : List ℕ) → is_letter_or_digit (slice_index (values_text cs vs ++ 59 ∷ rest) 0) ≡ false
+value_stops [] vs rest = refl
+value_stops (c ∷ cs) [] rest = refl
+value_stops (c ∷ cs) (v ∷ vs) rest = refl
+
+-- the columns may stand on any lines
+pub read_values : (cs : List Column) (vs : List Value) (before line : ℕ) (rest : List ℕ) → FitsColumns cs vs
+    → Reads (values (columns_from before cs)) (written_values line cs vs) (at true line (values_text cs vs ++ 59 ∷ rest)) (at false line rest)
+unfolding values
+read_values [] [] before line rest fit =
+    read_then (record { token = token.Sign sign.Semicolon; line = line }) [] (read_sign true false line 59 rest sign.Semicolon (value_end_piece rest) refl) (read_nothing [] (at false line rest))
+read_values [] (v ∷ vs) before line rest fit = absurd fit
+read_values (c ∷ cs) [] before line rest fit = absurd fit
+read_values (c ∷ cs) (v ∷ vs) before line rest fit =
+    let behind = values_text cs vs ++ 59 ∷ rest in
+    let first : RawValue = record { line = line; digits = written_digits c v } in
+    read_from true line (ap (λ (t : List ℕ). 32 ∷ t) (append_assoc (value_text c v) (values_text cs vs) (59 ∷ rest)))
+    (read_behind (blank true line (value_text c v ++ behind))
+    (read_then first (first ∷ written_values line cs vs) (read_value c v line behind fit.0 (value_stops cs vs rest))
+    (read_then (written_values line cs vs) (first ∷ written_values line cs vs) (read_values cs vs (line_behind before) line rest fit.1)
+    (read_nothing (first ∷ written_values line cs vs) (at false line rest)))))
