@@ -5,3 +5,5 @@ pub mod Words
 pub mod Columns
 pub mod Values
 pub mod Timed
+pub mod Lines
+pub mod Again
