@@ -7,3 +7,4 @@ pub mod Values
 pub mod Timed
 pub mod Lines
 pub mod Again
+pub mod Samples
