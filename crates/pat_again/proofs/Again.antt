@@ -1,5 +1,5 @@
 -- The text of patterns is a pattern file, and these are its patterns.
-use Rattle.std.proofs.Common.{◌≡◌, ℕ, ◌≤◌, ◌<◌, Bool, true, false, List, [], ◌∷◌, ◌++◌, Option, None, Some, Ok, length, refl, sym, ap, ◌∙◌, append-nil, arith, codes}
+use Rattle.std.proofs.Common.{◌≡◌, ℕ, ◌≤◌, false, List, [], ◌∷◌, ◌++◌, None, length, refl, sym, ap, ◌∙◌, append-nil, arith, codes}
 use Rattle.vhdl_token.specs.Keyword.{keyword_of}
 use Rattle.vhdl_token.specs.declared.keyword.Keyword.TheVariants as word
 use Rattle.vhdl_token.specs.declared.token.PlacedToken.{PlacedToken}
@@ -11,24 +11,19 @@ use Rattle.pat_lexer.specs.Lexical.{word_at, piece_at}
 use Rattle.pat_lexer.specs.Listing.{tokens_in, refusal_in}
 use Rattle.grammar_theory.specs.declared.form.Form.TheVariants as form
 use Rattle.grammar_theory.specs.Tokens.{code_of}
-use Rattle.grammar_theory.specs.Grammar.{nothing, one, ◌>>=◌, list}
 use Rattle.grammar_theory.specs.Answers.{tokens_of}
 use Rattle.pat_meaning.specs.declared.patterns.Patterns.{Patterns}
-use Rattle.pat_meaning.specs.declared.patterns.Pattern.{Pattern}
 use Rattle.pat_meaning.specs.Columns.{FitsColumns}
-use Rattle.pat_text.specs.declared.raw.RawPatterns.{RawPatterns}
-use Rattle.pat_text.specs.Patterns.{column, pattern, file_behind, file}
-use Rattle.pat_text.specs.Answers.{IsFile}
+use Rattle.pat_text.specs.Patterns.{file_behind, file}
 use Rattle.std.specs.List.{All}
 use Rattle.pat_io.specs.Spelling.{together, item_end, columns_text, begin_text, patterns_text, text_of}
 use Rattle.pat_io.specs.PatternText.{most_bytes, IsWritten}
-use Rattle.pat_io.specs.ReadAgain.{written}
 use Rattle.pat_io.proofs.Written.{written_means_itself}
 use Rattle.pat_again.specs.WrittenAgain.{CanBeSpelled, WrittenIsReadAgain}
 use Rattle.pat_again.proofs.Places.{Place, at, tokens_at, refusal_at, takes, line_end, line_behind}
-use Rattle.pat_again.proofs.Sentences.{start, calm_run, Reads, read_nothing, read_then, read_behind, read_before, read_from}
+use Rattle.pat_again.proofs.Sentences.{start, calm_run, Reads, read_nothing, read_then, read_before, read_from}
 use Rattle.pat_again.proofs.Words.{read_plain, read_sign}
-use Rattle.pat_again.proofs.Columns.{onto, together_onto, columns_from, lines_behind, read_columns, semicolon_piece}
+use Rattle.pat_again.proofs.Columns.{together_onto, columns_from, lines_behind, read_columns, semicolon_piece}
 use Rattle.pat_again.proofs.Timed.{patterns_from, read_patterns}
 use Rattle.pat_again.proofs.Lines.{placed, without_fault, same_meaning}
 
@@ -58,15 +53,15 @@ read_file p spelled fit =
     let ends : PlacedToken = record { token = token.Keyword word.End; line = l'' } in
     read_from false 1 (sym (append-nil (together texts)) ∙ together_onto texts [])
     (read_before
-      (read_then cs (placed p) (read_columns p.columns 1 (codes "begin" ++ 10 ∷ patterns) spelled.names spelled.ends)
-      (read_then begins (placed p)
-        (read_before (read_plain (form.Keyword word.Begin) begins (at false l (codes "begin" ++ 10 ∷ patterns)) (at false l (10 ∷ patterns)) (takes false false l (codes "begin") (10 ∷ patterns) (token.Keyword word.Begin) (omega arith) (begin_piece patterns) refl) refl) (line_end false l patterns))
-      (read_then (patterns_from l' p.columns p.patterns) (placed p) (read_patterns p.columns p.patterns 1 l' last fit spelled.labels spelled.numbers)
-      (read_then ends (placed p)
-        (read_plain (form.Keyword word.End) ends (at false l'' last) (at false l'' (59 ∷ 10 ∷ [])) (takes false false l'' (codes "end") (59 ∷ 10 ∷ []) (token.Keyword word.End) (omega arith) (end_piece (10 ∷ [])) refl) refl)
-      (read_then (record { token = token.Sign sign.Semicolon; line = l'' }) (placed p) (read_sign false false l'' 59 (10 ∷ []) sign.Semicolon (semicolon_piece (10 ∷ [])) refl)
-      (read_nothing (placed p) (at false l'' (10 ∷ []))))))))
-      (line_end false l'' []))
+    (read_then cs (placed p) (read_columns p.columns 1 (codes "begin" ++ 10 ∷ patterns) spelled.names spelled.ends)
+    (read_then begins (placed p)
+    (read_before (read_plain (form.Keyword word.Begin) begins (at false l (codes "begin" ++ 10 ∷ patterns)) (at false l (10 ∷ patterns)) (takes false false l (codes "begin") (10 ∷ patterns) (token.Keyword word.Begin) (omega arith) (begin_piece patterns) refl) refl) (line_end false l patterns))
+    (read_then (patterns_from l' p.columns p.patterns) (placed p) (read_patterns p.columns p.patterns 1 l' last fit spelled.labels spelled.numbers)
+    (read_then ends (placed p)
+    (read_plain (form.Keyword word.End) ends (at false l'' last) (at false l'' (59 ∷ 10 ∷ [])) (takes false false l'' (codes "end") (59 ∷ 10 ∷ []) (token.Keyword word.End) (omega arith) (end_piece (10 ∷ [])) refl) refl)
+    (read_then (record { token = token.Sign sign.Semicolon; line = l'' }) (placed p) (read_sign false false l'' 59 (10 ∷ []) sign.Semicolon (semicolon_piece (10 ∷ [])) refl)
+    (read_nothing (placed p) (at false l'' (10 ∷ []))))))))
+    (line_end false l'' []))
 
 no_tokens : (line : ℕ) → tokens_at (at false line []) ≡ []
 unfolding pieces_from pieces_within

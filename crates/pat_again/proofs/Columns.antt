@@ -1,16 +1,14 @@
 -- The columns of patterns as they are written.
-use Rattle.std.proofs.Common.{◌≡◌, ℕ, zero, suc, ◌+◌, ◌^◌, ◌<◌, ◌≤◌, Bool, true, false, nat_le, List, [], ◌∷◌, ◌++◌, Option, None, Some, Ok, is_some, unwrap_or, length, slice_index, refl, sym, ap, ◌∙◌, append_assoc, append-nil, arith, codes, if◌then◌else◌}
+use Rattle.std.proofs.Common.{◌≡◌, ℕ, ◌^◌, ◌<◌, Bool, true, false, nat_le, List, [], ◌∷◌, ◌++◌, Option, None, Some, is_some, slice_index, refl, sym, ap, ◌∙◌, append_assoc, arith, codes, if◌then◌else◌}
 use Rattle.std.specs.List.{All}
 use Rattle.std.specs.Char.{is_ascii_digit}
 use Rattle.std.specs.Fmt.{decimal}
 use Rattle.std.proofs.lemmas.List.Elements.{All-head, All-tail}
 use Rattle.vlsi_base.specs.declared.name.Dir.{Dir}
 use Rattle.vlsi_base.specs.declared.name.Dir.TheVariants as dir
-use Rattle.vlsi_base.specs.declared.raw.Range.{Range}
 use Rattle.vhdl_token.specs.Keyword.{keyword_of}
 use Rattle.vhdl_token.specs.declared.keyword.Keyword.TheVariants as word
 use Rattle.vhdl_token.specs.declared.token.PlacedToken.{PlacedToken}
-use Rattle.vhdl_token.specs.declared.token.Token.{Token}
 use Rattle.vhdl_token.specs.declared.token.Token.TheVariants as token
 use Rattle.vhdl_token.specs.declared.token.Sign.TheVariants as sign
 use Rattle.lexer_base.specs.declared.piece.Piece.TheVariants as piece
@@ -20,8 +18,7 @@ use Rattle.pat_lexer.specs.Lexical.{word_at, piece_at}
 use Rattle.grammar_theory.specs.declared.form.Form.TheVariants as form
 use Rattle.grammar_theory.specs.Tokens.{code_of}
 use Rattle.grammar_theory.specs.Marks.{fits}
-use Rattle.grammar_theory.specs.Grammar.{Grammar, nothing, one, ◌or◌, ◌>>=◌, list}
-use Rattle.vhdl_front.specs.Expression.{number}
+use Rattle.grammar_theory.specs.Grammar.{nothing, one, ◌or◌, list}
 use Rattle.pat_meaning.specs.declared.patterns.BitRange.{BitRange}
 use Rattle.pat_meaning.specs.declared.patterns.Column.{Column}
 use Rattle.pat_meaning.specs.declared.patterns.Format.{Format}
@@ -32,7 +29,7 @@ use Rattle.pat_text.specs.Patterns.{direction, named_format, one_dir, column_dir
 use Rattle.pat_io.specs.Spelling.{together, item_end, word_of, range_text, format_text, dir_text, column_text, columns_text}
 use Rattle.pat_io.specs.ReadAgain.{written_range, written_column}
 use Rattle.pat_again.specs.WrittenAgain.{IsSmallWord, HasSmallEnds}
-use Rattle.pat_again.proofs.Places.{Place, at, Skips, Takes, takes, blank, line_end, line_behind}
+use Rattle.pat_again.proofs.Places.{at, takes, blank, line_end, line_behind}
 use Rattle.pat_again.proofs.Sentences.{Reads, read_nothing, read_one, read_then, read_left, read_right, read_none, read_more, read_behind, read_before, read_from}
 use Rattle.pat_again.proofs.Words.{read_plain, read_same, fits_step, read_sign, read_number, token_of_word, word_text, read_word}
 
@@ -46,7 +43,6 @@ together_onto [] rest = refl
 together_onto (t ∷ ts) rest = append_assoc t (together ts) rest ∙ ap (λ (x : List ℕ). t ++ x) (together_onto ts rest)
 
 -- ---- ranges
-
 
 downto_piece : (rest : List ℕ) → piece_at false (codes "downto" ++ 32 ∷ rest) ≡ piece.Token (token.Identifier (codes "downto")) 6
 unfolding piece_at word_at keyword_of
@@ -83,7 +79,7 @@ number_stops false rest = refl
 
 read_bounds : (left right : ℕ) (falls : Bool) (line : ℕ) (rest : List ℕ) → left < 2 ^ 32 → right < 2 ^ 32
     → Reads range (Some (record { left = left; falls = falls; right = right; line = line }))
-      (at false line (32 ∷ 40 ∷ (decimal left ++ ((if falls then codes " downto " else codes " to ") ++ (decimal right ++ 41 ∷ rest))))) (at false line rest)
+    (at false line (32 ∷ 40 ∷ (decimal left ++ ((if falls then codes " downto " else codes " to ") ++ (decimal right ++ 41 ∷ rest))))) (at false line rest)
 unfolding range
 read_bounds left right falls line rest small small' =
     let behind = decimal right ++ 41 ∷ rest in

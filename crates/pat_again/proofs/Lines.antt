@@ -1,5 +1,5 @@
 -- Whether what is written has a fault, and what it means, doesn't go by its lines.
-use Rattle.std.proofs.Common.{◌≡◌, ℕ, zero, suc, ◌+◌, ◌*◌, ◌≤◌, Bool, true, false, not, ◌&&◌, ◌||◌, nat_le, bytes_eq, List, [], ◌∷◌, ◌++◌, map, Option, None, Some, refl, sym, ap, ◌∙◌}
+use Rattle.std.proofs.Common.{◌≡◌, ℕ, Bool, true, false, not, ◌&&◌, ◌||◌, nat_le, bytes_eq, List, [], ◌∷◌, ◌++◌, map, Option, None, Some, refl, sym, ap, ◌∙◌}
 use Rattle.std.specs.List.{list_any}
 use Rattle.vlsi_base.specs.declared.name.Port.{Port}
 use Rattle.vlsi_base.specs.declared.fault.FaultKind.{FaultKind}
@@ -11,7 +11,6 @@ use Rattle.pat_meaning.specs.declared.patterns.Pattern.{Pattern}
 use Rattle.pat_meaning.specs.declared.patterns.Patterns.{Patterns}
 use Rattle.pat_meaning.specs.declared.patterns.Value.{Value}
 use Rattle.pat_text.specs.declared.raw.RawColumn.{RawColumn}
-use Rattle.pat_text.specs.declared.raw.RawPattern.{RawPattern}
 use Rattle.pat_text.specs.declared.raw.RawPatterns.{RawPatterns}
 use Rattle.pat_io.specs.Known.{share_bit, overlap, is_known, is_unknown, if_at_fault, unknown_behind, unknown_columns}
 use Rattle.pat_io.specs.Digits.{bit_range, column_of, value_for, values_for, pattern_for, patterns_for}

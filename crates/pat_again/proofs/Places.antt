@@ -1,5 +1,5 @@
 -- Places in a text, and tokens that stand there.
-use Rattle.std.proofs.Common.{◌≡◌, ℕ, zero, suc, ◌+◌, ◌-◌, ◌^◌, ◌<◌, ◌≤◌, min, Bool, true, false, List, [], ◌∷◌, ◌++◌, Option, None, length, take, drop, refl, sym, ap, ◌∙◌, append_assoc, arith, length-drop}
+use Rattle.std.proofs.Common.{◌≡◌, ℕ, zero, suc, ◌+◌, ◌-◌, ◌^◌, ◌<◌, ◌≤◌, min, Bool, List, [], ◌∷◌, ◌++◌, Option, length, drop, refl, ap, ◌∙◌, arith, length-drop}
 use Rattle.std.proofs.Math.Seq.{drop-append_seam}
 use Rattle.vlsi_base.specs.declared.fault.ReadError.{ReadError}
 use Rattle.vhdl_token.specs.declared.token.Token.{Token}

@@ -1,5 +1,5 @@
 -- Patterns of which the law speaks, and what is written of them.
-use Rattle.std.proofs.Common.{◌≡◌, ℕ, zero, suc, ◌+◌, ◌^◌, ◌<◌, ◌≤◌, Bool, true, false, ◌||◌, List, [], ◌∷◌, ◌++◌, Option, None, Some, length, refl, ◌⊎◌, inl, inr, arith, codes}
+use Rattle.std.proofs.Common.{◌≡◌, ℕ, ◌^◌, ◌<◌, Bool, true, false, ◌||◌, List, [], ◌∷◌, ◌++◌, None, Some, refl, ◌⊎◌, inr, arith, codes}
 use Rattle.std.specs.Fmt.{digits}
 use Rattle.std.specs.List.{All, list_any}
 use Rattle.std.proofs.lemmas.List.Elements.{All-nil, All-cons}
@@ -16,7 +16,7 @@ use Rattle.pat_meaning.specs.declared.patterns.Patterns.{Patterns}
 use Rattle.pat_meaning.specs.declared.patterns.TimeUnit.TheVariants.{Nanosecond}
 use Rattle.pat_meaning.specs.declared.patterns.Value.TheVariants.{Digits, Any}
 use Rattle.pat_meaning.specs.Columns.{listed, FitsColumns}
-use Rattle.pat_meaning.specs.Answers.{IsSupplyColumn, IsOfPorts, AreFor}
+use Rattle.pat_meaning.specs.Answers.{IsSupplyColumn, IsOfPorts}
 use Rattle.pat_io.specs.Spelling.{text_of}
 use Rattle.pat_io.specs.Known.{is_supply}
 use Rattle.pat_io.specs.PatternText.{IsPatternText}

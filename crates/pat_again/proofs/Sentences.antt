@@ -1,10 +1,10 @@
 -- What stands between two places of a text is a sentence of a grammar.
-use Rattle.std.proofs.Common.{◌≡◌, ℕ, Bool, true, false, List, [], ◌∷◌, ◌++◌, Option, None, Some, Ok, refl, sym, ap, ◌∙◌, append_assoc, ◌⊎◌, inl, inr}
+use Rattle.std.proofs.Common.{◌≡◌, ℕ, Bool, List, [], ◌∷◌, ◌++◌, Ok, refl, sym, ap, ◌∙◌, append_assoc, inl, inr}
 use Rattle.vhdl_token.specs.declared.token.PlacedToken.{PlacedToken}
 use Rattle.grammar_theory.specs.declared.form.Form.{Form}
 use Rattle.grammar_theory.specs.Tokens.{code, code_of}
-use Rattle.grammar_theory.specs.Marks.{Mark, Item, State, step, go_on, run, plain, fits}
-use Rattle.grammar_theory.specs.Grammar.{Grammar, nothing, One, Then, one, item, marked, ◌or◌, ◌>>=◌, list}
+use Rattle.grammar_theory.specs.Marks.{Mark, Item, State, step, run}
+use Rattle.grammar_theory.specs.Grammar.{Grammar, nothing, One, item, ◌or◌, ◌>>=◌, list}
 use Rattle.grammar_theory.specs.Answers.{tokens_of}
 use Rattle.pat_text.specs.Answers.{at_start}
 use Rattle.pat_again.proofs.Places.{Place, at, tokens_at, refusal_at, Skips, Takes}

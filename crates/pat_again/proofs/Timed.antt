@@ -1,7 +1,6 @@
 -- Patterns as they are written.
-use Rattle.std.proofs.Common.{◌≡◌, ℕ, zero, suc, ◌+◌, ◌^◌, ◌<◌, ◌≤◌, Bool, true, false, List, [], ◌∷◌, ◌++◌, Option, None, Some, Ok, is_some, unwrap_or, length, slice_index, refl, sym, ap, ◌∙◌, append_assoc, arith, codes}
+use Rattle.std.proofs.Common.{◌≡◌, ℕ, ◌^◌, ◌<◌, Bool, true, false, List, [], ◌∷◌, ◌++◌, Option, None, Some, is_some, unwrap_or, length, refl, sym, ap, ◌∙◌, append_assoc, arith, codes}
 use Rattle.std.specs.List.{All}
-use Rattle.std.specs.Char.{is_ascii_digit}
 use Rattle.std.specs.Fmt.{decimal}
 use Rattle.std.proofs.lemmas.List.Elements.{All-head, All-tail}
 use Rattle.vhdl_token.specs.Keyword.{keyword_of}
@@ -14,8 +13,7 @@ use Rattle.pat_lexer.specs.Lexical.{word_at, piece_at}
 use Rattle.grammar_theory.specs.declared.form.Form.TheVariants as form
 use Rattle.grammar_theory.specs.Tokens.{code_of}
 use Rattle.grammar_theory.specs.Marks.{fits}
-use Rattle.grammar_theory.specs.Grammar.{nothing, one, ◌or◌, ◌>>=◌, list}
-use Rattle.vhdl_front.specs.Expression.{number}
+use Rattle.grammar_theory.specs.Grammar.{list}
 use Rattle.pat_meaning.specs.declared.patterns.Column.{Column}
 use Rattle.pat_meaning.specs.declared.patterns.Pattern.{Pattern}
 use Rattle.pat_meaning.specs.declared.patterns.Time.{Time}
@@ -25,12 +23,12 @@ use Rattle.pat_meaning.specs.declared.patterns.Value.{Value}
 use Rattle.pat_meaning.specs.Columns.{FitsColumns}
 use Rattle.pat_text.specs.declared.raw.RawPattern.{RawPattern}
 use Rattle.pat_text.specs.Spelled.{text_of, unit_named}
-use Rattle.pat_text.specs.Patterns.{time_unit, added, stamp, label, values, pattern}
+use Rattle.pat_text.specs.Patterns.{time_unit, added, stamp, label, pattern}
 use Rattle.pat_io.specs.Spelling.{item_end, values_text, unit_text, sign_text, time_text, label_text, pattern_text, patterns_text}
 use Rattle.pat_io.specs.ReadAgain.{written_values, written_pattern}
 use Rattle.pat_again.specs.WrittenAgain.{IsSmallLabel}
-use Rattle.pat_again.proofs.Places.{Place, at, Skips, Takes, takes, blank, line_end, line_behind}
-use Rattle.pat_again.proofs.Sentences.{Reads, read_nothing, read_one, read_then, read_left, read_right, read_none, read_more, read_behind, read_before, read_from}
+use Rattle.pat_again.proofs.Places.{at, takes, blank, line_end, line_behind}
+use Rattle.pat_again.proofs.Sentences.{Reads, read_nothing, read_one, read_then, read_left, read_right, read_none, read_more, read_before, read_from}
 use Rattle.pat_again.proofs.Words.{read_same, fits_step, read_sign, read_number, read_label, read_no_label}
 use Rattle.pat_again.proofs.Columns.{together_onto, columns_from, lines_behind}
 use Rattle.pat_again.proofs.Values.{read_values}
@@ -138,12 +136,12 @@ read_pattern cs q before line rest fit w small =
     let given = values_text cs q.values ++ 59 ∷ 10 ∷ rest in
     read_from false line (together_onto (time_text q.time ∷ label_text q.label ∷ codes ":" ∷ values_text cs q.values ∷ item_end ∷ []) rest)
     (read_before
-      (read_then (line, q.time) x (read_stamp q.time line (label_text q.label ++ 58 ∷ given) small)
-      (read_then q.label x (read_labels q.label line (58 ∷ given) w)
-      (read_then (record { token = token.Sign sign.Colon; line = line }) x (read_sign false true line 58 given sign.Colon (colon_piece cs q.values (10 ∷ rest)) refl)
-      (read_then (written_values line cs q.values) x (read_values cs q.values before line (10 ∷ rest) fit)
-      (read_nothing x (at false line (10 ∷ rest)))))))
-      (line_end false line rest))
+    (read_then (line, q.time) x (read_stamp q.time line (label_text q.label ++ 58 ∷ given) small)
+    (read_then q.label x (read_labels q.label line (58 ∷ given) w)
+    (read_then (record { token = token.Sign sign.Colon; line = line }) x (read_sign false true line 58 given sign.Colon (colon_piece cs q.values (10 ∷ rest)) refl)
+    (read_then (written_values line cs q.values) x (read_values cs q.values before line (10 ∷ rest) fit)
+    (read_nothing x (at false line (10 ∷ rest)))))))
+    (line_end false line rest))
 
 -- each on its line
 abbrev pub patterns_from : ℕ → List Column → List Pattern → List RawPattern

@@ -1,11 +1,10 @@
 -- The values of patterns as they are written.
-use Rattle.std.proofs.Common.{◌≡◌, ℕ, zero, suc, ◌+◌, ◌-◌, ◌*◌, ◌/◌, ◌<◌, ◌≤◌, ◌==◌, Bool, true, false, ◌&&◌, ◌||◌, List, [], ◌∷◌, ◌++◌, Option, None, Some, Ok, length, take, drop, slice_index, refl, sym, ap, ◌∙◌, append_assoc, arith, codes, length-drop}
+use Rattle.std.proofs.Common.{◌≡◌, ℕ, zero, suc, ◌+◌, ◌-◌, ◌*◌, ◌/◌, ◌<◌, ◌≤◌, Bool, true, false, ◌&&◌, List, [], ◌∷◌, ◌++◌, Option, None, Some, length, take, drop, slice_index, refl, ap, append_assoc, arith, codes, length-drop}
 use Rattle.std.specs.List.{list_all}
 use Rattle.std.proofs.lemmas.Bool.{and_parts}
 use Rattle.std.proofs.lemmas.List.{length-take-le}
 use Rattle.vlsi_base.specs.declared.name.Dir.{Dir}
 use Rattle.vlsi_base.specs.declared.name.Dir.TheVariants as dir
-use Rattle.vhdl_token.specs.declared.token.PlacedToken.{PlacedToken}
 use Rattle.vhdl_token.specs.declared.token.Token.TheVariants as token
 use Rattle.vhdl_token.specs.declared.token.Sign.TheVariants as sign
 use Rattle.lexer_base.specs.declared.piece.Piece.TheVariants as piece
@@ -14,7 +13,6 @@ use Rattle.pat_lexer.specs.Lexical.{is_letter_or_digit, piece_at}
 use Rattle.grammar_theory.specs.declared.form.Form.TheVariants as form
 use Rattle.grammar_theory.specs.Tokens.{code_of}
 use Rattle.grammar_theory.specs.Marks.{fits}
-use Rattle.grammar_theory.specs.Grammar.{nothing, one, ◌or◌, ◌>>=◌}
 use Rattle.pat_meaning.specs.declared.patterns.BitRange.{BitRange}
 use Rattle.pat_meaning.specs.declared.patterns.Column.{Column}
 use Rattle.pat_meaning.specs.declared.patterns.Format.{Format}
@@ -22,15 +20,14 @@ use Rattle.pat_meaning.specs.declared.patterns.Format.TheVariants.{Binary, Octal
 use Rattle.pat_meaning.specs.declared.patterns.Value.{Value}
 use Rattle.pat_meaning.specs.declared.patterns.Value.TheVariants.{Digits, Any}
 use Rattle.pat_meaning.specs.Columns.{names_of_range, Fits, FitsColumns}
-use Rattle.pat_text.specs.declared.raw.RawColumn.{RawColumn}
 use Rattle.pat_text.specs.declared.raw.RawValue.{RawValue}
 use Rattle.pat_text.specs.Spelled.{text_of, is_digit}
 use Rattle.pat_text.specs.Patterns.{digits, given, anything, wanted, expected, value_of, values}
 use Rattle.pat_io.specs.Spelling.{bits_of, number_from, digit_of, digits_text, bits_text, mark_text, value_text, values_text}
-use Rattle.pat_io.specs.ReadAgain.{written_range, written_column, written_digits, written_values}
+use Rattle.pat_io.specs.ReadAgain.{written_range, written_digits, written_values}
 use Rattle.pat_io.proofs.Ranges.{length_names}
-use Rattle.pat_again.proofs.Places.{Place, at, Skips, Takes, takes, blank, line_behind}
-use Rattle.pat_again.proofs.Sentences.{Reads, read_nothing, read_one, read_then, read_left, read_right, read_behind, read_before, read_from}
+use Rattle.pat_again.proofs.Places.{at, takes, blank, line_behind}
+use Rattle.pat_again.proofs.Sentences.{Reads, read_nothing, read_one, read_then, read_left, read_right, read_behind, read_from}
 use Rattle.pat_again.proofs.Letters.{both, is_hexadecimal, digits_piece}
 use Rattle.pat_again.proofs.Words.{fits_step, read_sign}
 use Rattle.pat_again.proofs.Columns.{columns_from}

@@ -1,5 +1,5 @@
 -- Words, numbers and signs where the grammar asks for them.
-use Rattle.std.proofs.Common.{◌≡◌, ℕ, zero, suc, ◌+◌, ◌^◌, ◌<◌, ◌≤◌, Bool, true, false, List, [], ◌∷◌, ◌++◌, Option, None, Some, Ok, length, slice_index, refl, sym, ap, ◌∙◌, arith, codes, bytes_eq, find, ◌⊎◌, inl, inr, if◌then◌else◌}
+use Rattle.std.proofs.Common.{◌≡◌, ℕ, ◌^◌, ◌<◌, Bool, true, false, List, [], ◌∷◌, ◌++◌, Option, None, Some, Ok, length, slice_index, refl, sym, ap, ◌∙◌, arith, bytes_eq, ◌⊎◌, inl, inr, if◌then◌else◌}
 use Rattle.std.specs.Char.{is_ascii_digit}
 use Rattle.std.specs.Fmt.{decimal}
 use Rattle.std.proofs.lemmas.Slice.Eq.{bytes_eq-Decides}
@@ -7,7 +7,6 @@ use Rattle.vhdl_token.specs.Keyword.{keyword_text, keyword_among, keyword_of, ke
 use Rattle.vhdl_token.specs.declared.keyword.Keyword.{Keyword}
 use Rattle.vhdl_token.specs.declared.keyword.Keyword.TheVariants as word
 use Rattle.vhdl_token.specs.declared.token.PlacedToken.{PlacedToken}
-use Rattle.vhdl_token.specs.declared.token.Token.{Token}
 use Rattle.vhdl_token.specs.declared.token.Token.TheVariants as token
 use Rattle.vhdl_token.specs.declared.token.Sign.{Sign}
 use Rattle.lexer_base.specs.declared.piece.Piece.TheVariants as piece
@@ -16,14 +15,14 @@ use Rattle.pat_lexer.specs.Lexical.{word_token, piece_at, value_behind}
 use Rattle.grammar_theory.specs.declared.form.Form.{Form}
 use Rattle.grammar_theory.specs.declared.form.Form.TheVariants as form
 use Rattle.grammar_theory.specs.Tokens.{code, code_of}
-use Rattle.grammar_theory.specs.Marks.{Mark, plain, fits, step}
-use Rattle.grammar_theory.specs.Grammar.{Grammar, nothing, one, ◌or◌, ◌>>=◌}
+use Rattle.grammar_theory.specs.Marks.{plain, fits, step}
+use Rattle.grammar_theory.specs.Grammar.{nothing, one}
 use Rattle.vhdl_front.specs.Expression.{number}
 use Rattle.pat_text.specs.Spelled.{text_in, text_of}
 use Rattle.pat_text.specs.Patterns.{any_word, labelled, label}
 use Rattle.pat_again.specs.WrittenAgain.{IsSmallWord}
-use Rattle.pat_again.proofs.Places.{Place, at, Skips, Takes, takes, blank}
-use Rattle.pat_again.proofs.Sentences.{start, Reads, read_nothing, read_one, read_then, read_left, read_right, read_before}
+use Rattle.pat_again.proofs.Places.{Place, at, Takes, takes}
+use Rattle.pat_again.proofs.Sentences.{start, Reads, read_nothing, read_one, read_then, read_left, read_right}
 use Rattle.pat_again.proofs.Letters.{word_piece, word_some, number_piece, decimal_is}
 
 -- ---- marks
