@@ -1,10 +1,11 @@
 -- The ring of a source: its names from the least on, and the line of the first one's assignment.
 use Rattle.std.proofs.Common.{◌≡◌, ◌⊎◌, inl, inr, ℕ, zero, suc, ◌+◌, ◌<◌, Bool, true, false, List, [], ◌∷◌, ◌++◌, map, length, get_or, take, drop, None, refl, sym, ap, ◌∙◌, subst, arith}
-use Rattle.std.specs.Prelude.{slice_index, Contains}
-use Rattle.std.specs.List.{All}
+use Rattle.std.specs.Prelude.{slice_index, nat_eq, ◌||◌}
+use Rattle.std.specs.List.{All, list_any}
 use Rattle.std.specs.Ordering.{is_lt, ordering_reverse}
 use Rattle.std.specs.declared.cmp.Ordering.{Ordering}
 use Rattle.std.specs.declared.cmp.Ordering.TheVariants.{Less, Equal, Greater}
+use Rattle.std.proofs.lemmas.Bool.Decides.{nat_tests}
 use Rattle.std.proofs.lemmas.List.{map-append, length-map, get_or-map}
 use Rattle.vlsi_base.specs.declared.name.Name.{Name}
 use Rattle.vlsi_base.specs.Name.{name_cmp}
@@ -193,8 +194,12 @@ cycle_is raw (a ∷ rest) d line h on = record { first = a; rest = rest; line = 
 
 -- what drives it
 
-pub In_Contains : (xs : List ℕ) (x : ℕ) → Contains xs x → In x xs
-In_Contains xs x c = subst (λ y. In y xs) c.2 (In-at xs c.0 x c.1)
+pub any_In : (x : ℕ) (xs : List ℕ) → list_any (λ y. nat_eq y x) xs ≡ true → In x xs
+any_In x [] e = absurd cc
+any_In x (y ∷ xs) e = by (nat_eq y x) refl e (any_In x xs) where
+  by : (b : Bool) → nat_eq y x ≡ b → (b || list_any (λ z. nat_eq z x) xs) ≡ true → (list_any (λ z. nat_eq z x) xs ≡ true → In x xs) → In x (y ∷ xs)
+  by true is e rest = let same : y ≡ x = grind (arith, nat_tests) in subst (λ z. In z (y ∷ xs)) same here
+  by false is e rest = there (rest e)
 
 of_statement : {A : Type 0} (look : Statement → List A) (ss : List Statement) (st : Statement) (x : A) → In st ss → In x (look st) → In x (in_statements look ss)
 of_statement look (s ∷ ss) st x here i = In-left x (look st) (in_statements look ss) i

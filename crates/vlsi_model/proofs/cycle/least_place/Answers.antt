@@ -1,4 +1,4 @@
-use Rattle.std.proofs.Common.{sym, ◌∙◌, subst, arith}
+use Rattle.std.proofs.Common.{◌+◌, sym, ◌∙◌, subst, arith}
 use Rattle.vlsi_model.proofs.Turning.{LeastSoFar, least_first, least_then, least_else, compared, least_of_all}
 use Rattle.vlsi_model.proofs.cycle.least_place.Goals.{then-is_lt, else-is_lt}
 use Rattle.vlsi_model.proofs.cycle.least_place.Goals as goal
