@@ -9,7 +9,6 @@ use Rattle.std.proofs.lemmas.Bool.Decides.{nat_tests}
 use Rattle.std.proofs.lemmas.List.{map-append, length-map, get_or-map}
 use Rattle.vlsi_base.specs.declared.name.Name.{Name}
 use Rattle.vlsi_base.specs.Name.{name_cmp}
-use Rattle.vlsi_base.specs.declared.fault.ReadError.{ReadError}
 use Rattle.vlsi_base.specs.declared.fault.FaultKind.TheVariants as kind
 use Rattle.machine_core.specs.Order.{In, here, there}
 use Rattle.machine_core.proofs.Values.{In-left, In-right, In-map}
@@ -20,7 +19,7 @@ use Rattle.source_checks.specs.declared.table.Symbol.{Symbol}
 use Rattle.source_checks.specs.Symbols.{symbols, all_names}
 use Rattle.source_checks.specs.Formula.{place}
 use Rattle.source_checks.specs.Places.{in_statements}
-use Rattle.source_checks.specs.Drivers.{Driver, driver_at, drivers, statement_drivers, target_names}
+use Rattle.source_checks.specs.Drivers.{driver_at, drivers, statement_drivers, target_names}
 use Rattle.source_checks.specs.Elaboration.{Definition, definitions}
 use Rattle.source_checks.specs.Cycles.{Reads, IsRing}
 use Rattle.source_checks.specs.Checks.{fault, DrivenOn, IsCycle}
@@ -28,7 +27,7 @@ use Rattle.source_bits.specs.declared.driven.DrivenBit.{DrivenBit}
 use Rattle.vlsi_model.specs.declared.source.Source.{Source}
 use Rattle.vlsi_model.specs.Sources.{IsSourceOf}
 use Rattle.vlsi_model.specs.Numbered.{name_at}
-use Rattle.vlsi_model.specs.Laid.{names_defined, definition_at}
+use Rattle.vlsi_model.specs.Laid.{names_defined}
 use Rattle.vlsi_model.specs.Ordered.{IsNodeRing, IsDrivenIn, name_of_node}
 use Rattle.vlsi_model.proofs.Members.{In-map_back}
 use Rattle.vlsi_model.proofs.FineSources.{Facts}
@@ -86,8 +85,8 @@ least_then names least k h within t = record {
   within = within;
   none = λ j low inside e. elim (before_or_last j k low) [
     | inl a ↦
-      let down = name_total.trans (name_at names j) (name_at names k) (name_at names least) (above (name_at names k) (name_at names j) e) (is_less (name_cmp (name_at names k) (name_at names least)) t) in
-      h.none j a inside (name_total.antisymm (name_at names least) (name_at names j) ∙ ap ordering_reverse down)
+        let down = name_total.trans (name_at names j) (name_at names k) (name_at names least) (above (name_at names k) (name_at names j) e) (is_less (name_cmp (name_at names k) (name_at names least)) t) in
+        h.none j a inside (name_total.antisymm (name_at names least) (name_at names j) ∙ ap ordering_reverse down)
     | inr same ↦ not_above_itself (name_at names k) (subst (λ i. name_cmp (name_at names k) (name_at names i) ≡ Greater) same e)
   ];
 }
@@ -98,8 +97,8 @@ least_else names least k h t = record {
   none = λ j low inside e. elim (before_or_last j k low) [
     | inl a ↦ h.none j a inside e
     | inr same ↦
-      let down = above (name_at names least) (name_at names k) (subst (λ i. name_cmp (name_at names least) (name_at names i) ≡ Greater) same e) in
-      let f : true ≡ false = sym (ap is_lt down) ∙ t in absurd cc
+        let down = above (name_at names least) (name_at names k) (subst (λ i. name_cmp (name_at names least) (name_at names i) ≡ Greater) same e) in
+        let f : true ≡ false = sym (ap is_lt down) ∙ t in absurd cc
   ];
 }
 
