@@ -9,7 +9,6 @@ use Rattle.std.proofs.lemmas.Bool.Decides.{nat_tests}
 use Rattle.std.proofs.lemmas.List.{map-append, length-map, get_or-map}
 use Rattle.vlsi_base.specs.declared.name.Name.{Name}
 use Rattle.vlsi_base.specs.Name.{name_cmp}
-use Rattle.vlsi_base.specs.declared.fault.FaultKind.TheVariants as kind
 use Rattle.machine_core.specs.Order.{In, here, there}
 use Rattle.machine_core.proofs.Values.{In-left, In-right, In-map}
 use Rattle.source_checks.specs.declared.statement.Statement.{Statement}
@@ -22,7 +21,7 @@ use Rattle.source_checks.specs.Places.{in_statements}
 use Rattle.source_checks.specs.Drivers.{driver_at, drivers, statement_drivers, target_names}
 use Rattle.source_checks.specs.Elaboration.{Definition, definitions}
 use Rattle.source_checks.specs.Cycles.{Reads, IsRing}
-use Rattle.source_checks.specs.Checks.{fault, DrivenOn, IsCycle}
+use Rattle.source_checks.specs.Checks.{DrivenOn}
 use Rattle.source_bits.specs.declared.driven.DrivenBit.{DrivenBit}
 use Rattle.vlsi_model.specs.declared.source.Source.{Source}
 use Rattle.vlsi_model.specs.Sources.{IsSourceOf}
@@ -178,18 +177,10 @@ turned_to_least raw nodes names m f ring is within least =
 reads_declared : (raw : RawMachine) (a b : Name) → Facts raw → Reads (definitions raw) a b → In a (all_names (symbols raw))
 reads_declared raw a b f r = subst (λ (n : Name). In n (all_names (symbols raw))) r.2 (defined_declared raw f r.0.name (In-map (λ (d : Definition). d.name) r.0 (definitions raw) r.1))
 
-pub ring_some : (defs : List Definition) (names : List Name) → IsRing defs names → 0 < length names
-ring_some defs [] h = absurd h
-ring_some defs (a ∷ rest) h = omega arith
-
 pub first_declared : (raw : RawMachine) (names : List Name) (d : Name) → Facts raw → IsRing (definitions raw) names → In (get_or names 0 d) (all_names (symbols raw))
 first_declared raw [] d f h = absurd h
 first_declared raw (a ∷ []) d f h = reads_declared raw a a f h.1
 first_declared raw (a ∷ b ∷ rest) d f h = reads_declared raw a b f h.1.0
-
-pub cycle_is : (raw : RawMachine) (names : List Name) (d : Name) (line : ℕ) → IsRing (definitions raw) names → DrivenOn (drivers raw) (get_or names 0 d) line → IsCycle raw (fault kind.Cycle line names)
-cycle_is raw [] d line h on = absurd h
-cycle_is raw (a ∷ rest) d line h on = record { first = a; rest = rest; line = line; is = refl; ring = h; driven = on }
 
 -- what drives it
 
