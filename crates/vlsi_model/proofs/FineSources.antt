@@ -16,6 +16,7 @@ use Rattle.machine_meaning.specs.Named.{is_same_name}
 use Rattle.machine_core.specs.Order.{In, here, there, AllDifferent}
 use Rattle.machine_core.proofs.Names.{same_name-true, same_name-itself}
 use Rattle.machine_core.proofs.Values.{In-split, In-left, In-right}
+use Rattle.source_checks.specs.declared.statement.Assignment.{Assignment}
 use Rattle.source_checks.specs.declared.statement.Statement.{Statement}
 use Rattle.source_checks.specs.declared.statement.Statement.TheVariants as statement
 use Rattle.source_checks.specs.declared.statement.RawMachine.{RawMachine}
@@ -26,7 +27,7 @@ use Rattle.source_checks.specs.declared.table.Symbol.{Symbol}
 use Rattle.source_checks.specs.Symbols.{symbols, find, is_supply, symbols_named, port_symbols, signal_symbols, role_of_mode, role_of_word, symbol_names}
 use Rattle.source_checks.specs.Places.{Use, in_statements, statement_uses}
 use Rattle.source_checks.specs.Widths.{if_not, statement_faults, port_faults, signal_faults}
-use Rattle.source_checks.specs.Drivers.{Driver, statement_drivers, drivers, all_driven, is_among, least, fault_at, needs_driver, first_second_driver, first_undriven}
+use Rattle.source_checks.specs.Drivers.{Driver, driver_at, target_names, statement_drivers, drivers, all_driven, is_among, least, fault_at, needs_driver, first_second_driver, first_undriven}
 use Rattle.source_checks.specs.Unsupported.{statement_forms, port_form, port_forms, signal_form, signal_forms, supply_faults, is_in_mode, is_inout, is_bit_word, all_unsupported}
 use Rattle.source_checks.specs.Clock.{statement_clock_lines, clock_text, first_text, statement_clocks, may_clock, clock_of}
 use Rattle.source_checks.specs.Elaboration.{Definition, Storage, definitions, storage, statement_definitions, statement_storage}
@@ -284,6 +285,7 @@ pub record Facts (raw : RawMachine) : Type 0 where
   pub defined_once : AllDifferent (names_defined (definitions raw))
   pub stored_once : AllDifferent (names_stored (storage raw))
   pub driven : (n : Name) (s : Symbol) → IsBit (symbols raw) n s → needs_driver s.role ≡ true → In n (names_defined (definitions raw)) ⊎ In n (names_stored (storage raw))
+  pub counted : (a : Assignment) → In (statement.Assign a) raw.statements → (driver_at (symbols raw) a.target).names ≡ target_names (symbols raw) a.target
 
 pub facts : (raw : RawMachine) → NoFault raw → Facts raw
 facts raw h =
@@ -309,4 +311,5 @@ facts raw h =
       defined_once = different_Sub (names_defined (definitions raw)) (all_driven (drivers raw)) split.defined once;
       stored_once = different_Sub (names_stored (storage raw)) (all_driven (drivers raw)) split.stored once;
       driven = λ n s b needs. split.both n (among_In (all_driven (drivers raw)) n (all_have (all_driven (drivers raw)) known h.missing s (found_in known n.text s b.found) needs n b.among));
+      counted = λ a i. (all (statement.Assign a) i).counted a refl;
     }

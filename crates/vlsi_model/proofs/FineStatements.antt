@@ -237,6 +237,7 @@ pub record IsFineStatement (known : List Symbol) (ck : Option (List ℕ)) (st : 
   pub storage : (r : Storage) → In r (statement_storage known ck st) → Defines known ck true r.name r.next × Holds (IsReadable known ck) r.enable
   pub names : all_driven (statement_drivers known st) ≡ names_defined (statement_definitions known st) ++ names_stored (statement_storage known ck st)
   pub different : (d : Driver) → In d (statement_drivers known st) → AllDifferent d.names
+  pub counted : (a : Assignment) → st ≡ statement.Assign a → (driver_at known a.target).names ≡ target_names known a.target
 
 pub fine_statement : (known : List Symbol) (ck : Option (List ℕ)) (st : Statement) → IsScalarClock known ck → NoBoth known
     → AreKnown known (statement_uses st) → statement_faults known st ≡ [] → statement_forms known st ≡ [] → statement_clock_lines known ck st ≡ [] → IsFineStatement known ck st
@@ -245,6 +246,7 @@ fine_statement known ck (statement.Assert e) scalar both k w f c = record {
   storage = λ r i. elim i [ ];
   names = refl;
   different = λ d i. elim i [ ];
+  counted = λ a e. absurd cc;
 }
 fine_statement known ck (statement.Assign a) scalar both k w f c =
     let h = fine known ck false a scalar both k w f c in record {
@@ -252,6 +254,7 @@ fine_statement known ck (statement.Assign a) scalar both k w f c =
       storage = λ r i. elim i [ ];
       names = append-nil (driver_at known a.target).names ∙ fine_names known ck false a h ∙ sym (append-nil (names_defined (assignment_definitions known a)));
       different = λ d i. subst (λ (x : Driver). AllDifferent x.names) (only_one d (driver_at known a.target) i) (fine_different known ck false a h);
+      counted = λ x e. let same : a ≡ x = cc in subst (λ (y : Assignment). (driver_at known y.target).names ≡ target_names known y.target) same h.counted;
     }
 fine_statement known ck (statement.Block b) scalar both k w f c =
     let guard = view b.guard in
@@ -277,4 +280,5 @@ fine_statement known ck (statement.Block b) scalar both k w f c =
           (subst (λ (n : Name). Defines known ck true n r.next) x.2 (subst (λ (e : Formula). Defines known ck true x.0.name e) x.3 d), subst (Holds (IsReadable known ck)) x.4 enable);
       names = all_names_driven known ck true given h ∙ sym (stored_names (enable_of known text guard) ds) ∙ ap (λ (rs : List Storage). names_stored rs) (sym storage_is);
       different = all_different known ck true given h;
+      counted = λ a e. absurd cc;
     }

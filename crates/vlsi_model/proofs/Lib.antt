@@ -19,3 +19,4 @@ pub mod SourceBits
 pub mod BuildGoals
 pub mod Refusing
 pub mod Rings
+pub mod Turning

@@ -1,11 +1,19 @@
 -- An order of a source's definitions, or a ring of them.
-use Rattle.std.specs.Prelude.{ℕ, ◌+◌, ◌-◌, ◌<◌, List, length, slice_index}
+use Rattle.std.specs.Prelude.{◌≡◌, ℕ, ◌+◌, ◌-◌, ◌<◌, List, map, length, slice_index}
 use Rattle.std.specs.List.{All}
 use Rattle.vlsi_base.specs.declared.name.Name.{Name}
 use Rattle.bit_order.specs.declared.outcome.Order.{Order}
 use Rattle.bit_order.specs.declared.outcome.Order.TheVariants.{Sorted, Ring}
 use Rattle.bit_order.specs.Order.{NoneTwice}
+use Rattle.machine_core.specs.Order.{In}
+use Rattle.source_checks.specs.declared.statement.Assignment.{Assignment}
+use Rattle.source_checks.specs.declared.statement.Statement.{Statement}
+use Rattle.source_checks.specs.declared.statement.Statement.TheVariants as statement
 use Rattle.source_checks.specs.declared.statement.RawMachine.{RawMachine}
+use Rattle.source_checks.specs.declared.table.Symbol.{Symbol}
+use Rattle.source_checks.specs.Symbols.{all_names}
+use Rattle.source_checks.specs.Formula.{place}
+use Rattle.source_checks.specs.Drivers.{target_names}
 use Rattle.source_checks.specs.Elaboration.{definitions}
 use Rattle.source_checks.specs.Checks.{HasNoRing}
 use Rattle.source_checks.specs.Cycles.{Reads}
@@ -26,3 +34,10 @@ pub record IsNodeRing (raw : RawMachine) (nodes : List ℕ) : Type 0 where
 abbrev pub IsOrderOfSource : RawMachine → Order → Type 0
 IsOrderOfSource raw (Sorted nodes) = IsNodeOrder raw nodes.items × HasNoRing raw
 IsOrderOfSource raw (Ring nodes) = IsNodeRing raw nodes.items
+
+-- an assignment outside of blocks, whose target stands on a line and has the bit with a number
+pub record IsDrivenIn (known : List Symbol) (st : Statement) (number line : ℕ) : Type 0 where
+  pub assignment : Assignment
+  pub is : st ≡ statement.Assign assignment
+  pub among : In number (map (place (all_names known)) (target_names known assignment.target))
+  pub on : assignment.target.line ≡ line

@@ -22,7 +22,8 @@ use source_checks::RawMachine;
 use std::alloc::{AllocError, Global};
 use vlsi_base::{Name, Names, Port, Ports};
 
-fn driven_numbers(alloc: Global, driven: &[DrivenBit]) -> Result<Vec<u32>, AllocError>
+/// The numbers of driven bits, in their order.
+pub fn driven_numbers(alloc: Global, driven: &[DrivenBit]) -> Result<Vec<u32>, AllocError>
     ensures { IfOk result (λ numbers. numbers.items ≡ map (λ d. d.bit) driven.now) }
 {
     let mut numbers = Vec::new(alloc);

@@ -1,25 +1,125 @@
 // Rings of definitions.
-ghost use Rattle.std.specs.Prelude.{◌≡◌, None, IfOk};
-ghost use Rattle.source_checks.specs.Checks.{first_fault, IsCycle};
-ghost use Rattle.vlsi_model.specs.Ordered.{IsNodeRing};
+ghost use Rattle.std.specs.Prelude.{◌≡◌, ◌<◌, map, length, None, IfOk, IfSome};
+ghost use Rattle.std.specs.List.{All};
+ghost use Rattle.std.specs.declared.cmp.Ordering.TheVariants.{Greater};
+ghost use Rattle.vlsi_base.specs.Name.{name_cmp};
+ghost use Rattle.machine_core.specs.Order.{In, AllDifferent};
+ghost use Rattle.source_checks.specs.Checks.{first_fault, IsCycle, DrivenOn};
+ghost use Rattle.source_checks.specs.Cycles.{IsRing};
+ghost use Rattle.source_checks.specs.Drivers.{drivers};
+ghost use Rattle.source_checks.specs.Elaboration.{definitions};
+ghost use Rattle.source_checks.specs.Symbols.{symbols, all_names};
+ghost use Rattle.vlsi_model.specs.Numbered.{name_at};
+ghost use Rattle.vlsi_model.specs.Ordered.{IsNodeRing, IsDrivenIn};
 ghost use Rattle.vlsi_model.specs.Sources.{IsSourceOf};
 
+use crate::build::driven_numbers;
+use crate::equations::push_names;
 use crate::source::Source;
-use source_checks::RawMachine;
+use source_bits::{Numbers, target_places};
+use source_checks::{RawMachine, Statement};
 use std::alloc::{AllocError, Global};
-use vlsi_base::ReadError;
+use vlsi_base::{FaultKind, InputFault, Name, Names, ReadError};
+
+/// The place of a name that none of the names is before.
+fn least_place(names: &[Name]) -> usize
+    requires { 0 < length names.now }
+    ensures within { result < length names.now }
+    ensures least { All (λ n. name_cmp (name_at names.now result) n ≡ Greater → ⊥) names.now }
+{
+    let mut least = 0;
+    for k in 1..names.len() {
+        if names[k].compare(&names[least]).is_lt() {
+            least = k;
+        }
+    }
+    least
+}
+
+/// The names of a ring, from the least one on.
+fn ring_names(
+    alloc: Global,
+    source: &Source,
+    raw: &RawMachine,
+    nodes: &[u32],
+) -> Result<Vec<Name>, AllocError>
+    requires source { IsSourceOf raw.now source.now }
+    requires sound { first_fault raw.now ≡ None }
+    requires ring { IsNodeRing raw.now nodes.now }
+    ensures { IfOk result (λ names. IsRing (definitions raw.now) names.items) }
+{
+    let bits = driven_numbers(alloc, &source.driven)?;
+    let mut names = Vec::new(alloc);
+    push_names(alloc, &source.numbers, &bits, nodes, &mut names)?;
+    let first = least_place(&names);
+    names.rotate_left(first);
+    Ok(names)
+}
+
+/// The line of a statement's target, if it is an assignment that drives the bit with this number.
+fn line_in(
+    alloc: Global,
+    numbers: &Numbers,
+    statement: &Statement,
+    number: u32,
+) -> Result<Option<u32>, AllocError>
+    requires { AllDifferent (map (λ s. s.text) numbers.now) }
+    ensures { IfOk result (λ found. IfSome found (λ line. IsDrivenIn numbers.now statement.now number line)) }
+{
+    match statement {
+        Statement::Assert(_) => Ok(None),
+        Statement::Assign(assignment) => {
+            let places = target_places(alloc, numbers, &assignment.target)?;
+            if places.contains(&number) {
+                Ok(Some(assignment.target.line))
+            } else {
+                Ok(None)
+            }
+        }
+        Statement::Block(_) => Ok(None),
+    }
+}
+
+/// The line of the assignment outside of blocks that drives a bit. Where there is none, the answer is want of memory.
+fn driver_line(
+    alloc: Global,
+    source: &Source,
+    raw: &RawMachine,
+    name: &Name,
+) -> Result<u32, AllocError>
+    requires source { IsSourceOf raw.now source.now }
+    requires sound { first_fault raw.now ≡ None }
+    requires declared { In name.now (all_names (symbols raw.now)) }
+    ensures { IfOk result (λ line. DrivenOn (drivers raw.now) name.now line) }
+{
+    let number = source.numbers.number(name.text.as_bytes(), name.bit);
+    for statement in raw.statements.as_slice() {
+        let found = line_in(alloc, &source.numbers, statement, number)?;
+        if let Some(line) = found {
+            return Ok(line);
+        }
+    }
+    Err(AllocError)
+}
 
 /// The fault of a ring, named from its least name on, at the line of that name's assignment.
 pub fn cycle(
-    _alloc: Global,
-    _source: &Source,
-    _raw: &RawMachine,
-    _nodes: &[u32],
+    alloc: Global,
+    source: &Source,
+    raw: &RawMachine,
+    nodes: &[u32],
 ) -> Result<ReadError, AllocError>
-    requires source { IsSourceOf _raw.now _source.now }
-    requires sound { first_fault _raw.now ≡ None }
-    requires ring { IsNodeRing _raw.now _nodes.now }
-    ensures { IfOk result (λ e. IsCycle _raw.now e) }
+    requires source { IsSourceOf raw.now source.now }
+    requires sound { first_fault raw.now ≡ None }
+    requires ring { IsNodeRing raw.now nodes.now }
+    ensures { IfOk result (λ e. IsCycle raw.now e) }
 {
-    Err(AllocError)
+    let names = ring_names(alloc, source, raw, nodes)?;
+    let line = driver_line(alloc, source, raw, &names[0])?;
+    let names = Names::new(names);
+    Ok(ReadError::Input(InputFault {
+        line,
+        kind: FaultKind::Cycle,
+        names,
+    }))
 }
