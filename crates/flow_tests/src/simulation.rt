@@ -13,6 +13,10 @@ const USAGE: &str = "usage: alliance asimut SOURCE.vbe -p PATTERNS.pat\n";
 const LOOP: &str =
     "entity loop2 is port (o : out bit); end loop2;\narchitecture vbe of loop2 is\nsignal a : bit;\nsignal b : bit;\nbegin\na <= b;\nb <= a;\no <= a;\nend vbe;\n";
 
+// One inverter, in upper case and with comments.
+const UPPER: &str =
+    "-- one inverter\nENTITY Row1 IS PORT (I : IN BIT; NQ : OUT BIT); END;\nARCHITECTURE vbe OF ROW1 IS BEGIN -- begins\nnq <= NOT (i);\nEND VBE;\n";
+
 const COUNTER_HEAD: &str =
     "entity cnt4 is port (ck : in bit; en : in bit; q : out bit_vector (3 downto 0)); end cnt4;\narchitecture vbe of cnt4 is\nsignal r0, r1, r2, r3 : reg_bit register;\nbegin\nstep : block ((ck and not ck'stable and en) = '1') begin\n";
 
@@ -24,26 +28,20 @@ const COUNTER_END: &str = "q(0) <= r0;\nq(1) <= r1;\nq(2) <= r2;\nq(3) <= r3;\ne
 const COUNTS: &str =
     "in en;\nin ck;\nout q (3 downto 0) X;\nbegin\n< 0 ns> : 1 0 ?0;\n< 10 ns> : 1 1 ?1;\n< 20 ns> : 1 0 ?1;\n< 30 ns> : 1 1 ?2;\n< 40 ns> : 0 0 ?2;\n< 50 ns> : 0 1 ?2;\nend;\n";
 
-// A source by its name, and patterns.
-#[derive(Clone, Copy)]
-struct Texts<'a> {
-    name: &'a str,
-    source: &'a str,
-    patterns: &'a str,
-}
-
 // Runs the patterns on the source, and compares the status and what is printed. No file changes, since none is written.
 fn expect(
     rt: &impl Abort,
     alloc: Global,
-    texts: Texts,
+    name: &str,
+    source: &str,
+    patterns: &str,
     case: Case,
     printed: &str,
 ) -> Result<(), AllocError> {
     let mut files = FileMap::new(alloc);
-    add(alloc, &mut files, texts.name, texts.source.as_bytes())?;
-    add(alloc, &mut files, "t.pat", texts.patterns.as_bytes())?;
-    let line = format!(in alloc; "asimut {} -p t.pat", texts.name)?;
+    add(alloc, &mut files, name, source.as_bytes())?;
+    add(alloc, &mut files, "t.pat", patterns.as_bytes())?;
+    let line = format!(in alloc; "asimut {name} -p t.pat")?;
     run(rt, alloc, files, line.as_str(), case, printed)
 }
 
@@ -81,12 +79,15 @@ fn inverter(
 ) -> Result<(), AllocError> {
     let source = first(alloc, "row1", "i", "nq")?;
     let patterns = inverted(alloc, second, "*")?;
-    let texts = Texts {
-        name: "row1.vbe",
-        source: source.as_str(),
-        patterns: patterns.as_str(),
-    };
-    expect(rt, alloc, texts, case, printed)
+    expect(
+        rt,
+        alloc,
+        "row1.vbe",
+        source.as_str(),
+        patterns.as_str(),
+        case,
+        printed,
+    )
 }
 
 #[test]
@@ -133,37 +134,41 @@ fn a_failing_read_is_named(rt: HostRuntime) -> Result<(), Fail> {
 #[test]
 fn upper_case_and_comments_are_the_same_machine(rt: HostRuntime) -> Result<(), Fail> {
     let patterns = inverted(rt.alloc(), "0", "1")?;
-    let texts = Texts {
-        name: "row1.vbe",
-        source: "-- one inverter\nENTITY Row1 IS PORT (I : IN BIT; NQ : OUT BIT); END;\nARCHITECTURE vbe OF ROW1 IS BEGIN -- begins\nnq <= NOT (i);\nEND VBE;\n",
-        patterns: patterns.as_str(),
-    };
-    expect(&rt, rt.alloc(), texts, ends(0), patterns.as_str())?;
+    let wanted = patterns.as_str();
+    expect(&rt, rt.alloc(), "row1.vbe", UPPER, wanted, ends(0), wanted)?;
     Ok(())
 }
 
 #[test]
 fn a_cycle_is_named_from_its_least_name(rt: HostRuntime) -> Result<(), Fail> {
-    let texts = Texts {
-        name: "loop2.vbe",
-        source: LOOP,
-        patterns: "out o;\nbegin\nend;\n",
-    };
+    let patterns = "out o;\nbegin\nend;\n";
     let printed = "asimut: loop2.vbe:6: cycle a b\n";
-    expect(&rt, rt.alloc(), texts, ends(2), printed)?;
+    expect(
+        &rt,
+        rt.alloc(),
+        "loop2.vbe",
+        LOOP,
+        patterns,
+        ends(2),
+        printed,
+    )?;
     Ok(())
 }
 
 #[test]
 fn time_never_goes_back(rt: HostRuntime) -> Result<(), Fail> {
     let source = first(rt.alloc(), "row1", "i", "nq")?;
-    let texts = Texts {
-        name: "row1.vbe",
-        source: source.as_str(),
-        patterns: "in i;\nout nq;\nbegin\n< 10 ns> : 0 ?1;\n< 5 ns> : 1 ?0;\nend;\n",
-    };
+    let patterns = "in i;\nout nq;\nbegin\n< 10 ns> : 0 ?1;\n< 5 ns> : 1 ?0;\nend;\n";
     let printed = "asimut: t.pat:5: time back\n";
-    expect(&rt, rt.alloc(), texts, ends(2), printed)?;
+    expect(
+        &rt,
+        rt.alloc(),
+        "row1.vbe",
+        source.as_str(),
+        patterns,
+        ends(2),
+        printed,
+    )?;
     Ok(())
 }
 
@@ -176,12 +181,15 @@ fn counter(
     printed: &str,
 ) -> Result<(), AllocError> {
     let source = format!(in alloc; "{COUNTER_HEAD}{COUNTER_STEP}{COUNTER_END}")?;
-    let texts = Texts {
-        name: "cnt4.vbe",
-        source: source.as_str(),
+    expect(
+        rt,
+        alloc,
+        "cnt4.vbe",
+        source.as_str(),
         patterns,
-    };
-    expect(rt, alloc, texts, ends(code), printed)
+        ends(code),
+        printed,
+    )
 }
 
 #[test]
