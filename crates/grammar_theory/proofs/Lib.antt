@@ -11,3 +11,4 @@ pub mod Listing
 pub mod Shut
 pub mod Placed
 pub mod AllLevels
+pub mod Unique

@@ -3,3 +3,4 @@ pub mod Marks
 pub mod Grammar
 pub mod Outcome
 pub mod Answers
+pub mod Unique

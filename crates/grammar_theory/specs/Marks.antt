@@ -45,6 +45,10 @@ pub record State : Type 0 where
   pub operators : ℕ
   pub alternatives : ℕ
 
+-- before the first token
+abbrev pub uncounted : State
+uncounted = record { names = []; bits = 0; operators = 0; alternatives = 0 }
+
 -- whether the name is one of these
 abbrev pub is_declared : List ℕ → List (List ℕ) → Bool
 is_declared name names = list_any (is_at (slice_cmp nat_cmp name)) names

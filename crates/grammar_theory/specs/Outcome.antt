@@ -9,12 +9,16 @@ use Rattle.grammar_theory.specs.declared.refusal.Refusal.{Refusal}
 use Rattle.grammar_theory.specs.declared.refusal.Stop.{Stop}
 use Rattle.grammar_theory.specs.declared.refusal.Stop.TheVariants as stop
 use Rattle.grammar_theory.specs.Tokens.{code, code_of, is_of, is_at, among}
-use Rattle.grammar_theory.specs.Marks.{Mark, plain, State, step}
+use Rattle.grammar_theory.specs.Marks.{Mark, plain, State, uncounted, step}
 
 -- what was counted so far, and the tokens that are left
 pub record At : Type 0 where
   pub state : State
   pub rest : List PlacedToken
+
+-- at the first of all tokens
+abbrev pub start : List PlacedToken → At
+start tokens = record { state = uncounted; rest = tokens }
 
 -- the first of these tokens is refused
 abbrev pub refusal : Reason → List PlacedToken → Refusal

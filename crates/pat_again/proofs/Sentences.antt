@@ -3,14 +3,13 @@ use Rattle.std.proofs.Common.{◌≡◌, ℕ, Bool, List, [], ◌∷◌, ◌++�
 use Rattle.vhdl_token.specs.declared.token.PlacedToken.{PlacedToken}
 use Rattle.grammar_theory.specs.declared.form.Form.{Form}
 use Rattle.grammar_theory.specs.Tokens.{code, code_of}
-use Rattle.grammar_theory.specs.Marks.{Mark, Item, State, step, run}
+use Rattle.grammar_theory.specs.Marks.{Mark, Item, State, uncounted, step, run}
 use Rattle.grammar_theory.specs.Grammar.{Grammar, nothing, One, item, ◌or◌, ◌>>=◌, list}
 use Rattle.grammar_theory.specs.Answers.{tokens_of}
-use Rattle.pat_text.specs.Answers.{at_start}
 use Rattle.pat_again.proofs.Places.{Place, at, tokens_at, refusal_at, Skips, Takes}
 
 abbrev pub start : State
-start = (at_start []).state
+start = uncounted
 
 -- no mark of these changes the state before the first token
 abbrev pub AreCalm : List Item → Type 0

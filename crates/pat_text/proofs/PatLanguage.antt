@@ -32,7 +32,7 @@ use Rattle.pat_text.specs.Reading.{any_word_at, direction_at, named_format_at, t
 abbrev Language : {A : Type 0} → Grammar A → Bool → Set → Set → Reader A → Type 0
 Language G null f l r = Exact (Unit {0}) G G null f l r
 
-abbrev forms : List Form → Set
+abbrev pub forms : List Form → Set
 forms [] = []
 forms (f ∷ fs) = code f ∷ forms fs
 
@@ -194,7 +194,7 @@ exact_file_behind cs =
     exact_then (exact_one (form.Keyword word.Begin)) (λ t. exact_then (exact_patterns cs) (λ patterns. exact_then (exact_one (form.Keyword word.End)) (λ u. exact_then (exact_one semicolon)
     (λ s. exact_nothing (record { columns = cs; patterns = patterns })) refl) refl) refl) refl
 
-exact_file : Language file false (forms (form.Keyword word.In ∷ form.Keyword word.Out ∷ form.Keyword word.Begin ∷ [])) [] file_at
+pub exact_file : Language file false (forms (form.Keyword word.In ∷ form.Keyword word.Out ∷ form.Keyword word.Begin ∷ [])) [] file_at
 unfolding file file_at
 exact_file = exact_then exact_columns (λ cs. exact_file_behind cs) refl
 

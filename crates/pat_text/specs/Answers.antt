@@ -5,16 +5,12 @@ use Rattle.vlsi_base.specs.declared.fault.ReadError.TheVariants as errors
 use Rattle.vhdl_token.specs.declared.token.PlacedToken.{PlacedToken}
 use Rattle.vhdl_token.specs.declared.token.Tokens.{Tokens}
 use Rattle.grammar_theory.specs.declared.refusal.Refusal.{Refusal}
-use Rattle.grammar_theory.specs.Marks.{Item, State, run}
-use Rattle.grammar_theory.specs.Outcome.{At}
+use Rattle.grammar_theory.specs.Marks.{Item, State, uncounted, run}
+use Rattle.grammar_theory.specs.Outcome.{start}
 use Rattle.grammar_theory.specs.Answers.{tokens_of, Rejects}
 use Rattle.vhdl_front.specs.Front.{line_left, syntax_on}
 use Rattle.pat_text.specs.declared.raw.RawPatterns.{RawPatterns}
 use Rattle.pat_text.specs.Patterns.{file}
-
--- before the first token
-abbrev pub at_start : List PlacedToken → At
-at_start ts = record { state = record { names = []; bits = 0; operators = 0; alternatives = 0 }; rest = ts }
 
 -- All of the tokens are a sentence of the grammar, in which each word and digit fits its place, and this is what is written.
 pub record IsFile (ts : List PlacedToken) (raw : RawPatterns) : Type 0 where
@@ -22,7 +18,7 @@ pub record IsFile (ts : List PlacedToken) (raw : RawPatterns) : Type 0 where
   pub all : ts ≡ tokens_of items
   pub sentence : file items raw
   pub state : State
-  pub fitting : run items (at_start ts).state ≡ Ok state
+  pub fitting : run items uncounted ≡ Ok state
 
 -- the refusal of the token from which on so many are left
 abbrev pub syntax_for : Tokens → ℕ → ReadError
@@ -32,7 +28,7 @@ syntax_for text left = syntax_on (line_left text.last_line text.items left)
 pub record IsSyntaxFault (text : Tokens) (e : ReadError) : Type 0 where
   pub refusal : Refusal
   pub is : e ≡ syntax_for text refusal.left
-  pub right : Rejects file (at_start text.items) refusal
+  pub right : Rejects file (start text.items) refusal
 
 -- the refusal of the first such token, or memory has run out
 abbrev pub IsRefusal : Tokens → ReadError → Type 0

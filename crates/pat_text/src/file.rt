@@ -4,7 +4,7 @@ ghost use Rattle.grammar_theory.specs.Outcome.{Gives, finish};
 ghost use Rattle.vhdl_front.specs.Cursor.{at_of};
 ghost use Rattle.vhdl_front.specs.Front.{line_left};
 ghost use Rattle.pat_text.specs.Reading.{file_behind_at, file_at};
-ghost use Rattle.pat_text.specs.Answers.{at_start, syntax_for, IsFile, IsRefusal};
+ghost use Rattle.pat_text.specs.Answers.{syntax_for, IsFile, IsRefusal};
 
 use crate::columns::columns;
 use crate::patterns::patterns;

@@ -3,11 +3,13 @@
 
 mod columns;
 mod file;
+mod law;
 mod patterns;
 mod raw;
 mod words;
 
 pub use file::read_patterns;
+pub use law::{never_both, one_refusal, reads_once};
 pub use raw::{
     RawColumn, RawColumns, RawPattern, RawPatternList, RawPatterns, RawValue, RawValues,
 };

@@ -1,3 +1,4 @@
 pub mod VbeLanguage
 pub mod Choices
 pub mod Whole
+pub mod Laws

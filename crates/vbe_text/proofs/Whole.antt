@@ -14,7 +14,7 @@ use Rattle.grammar_theory.specs.declared.refusal.Stop.{Stop}
 use Rattle.grammar_theory.specs.declared.refusal.Stop.TheVariants as stop
 use Rattle.grammar_theory.specs.Tokens.{code, is_of, is_at, among}
 use Rattle.grammar_theory.specs.Marks.{Item}
-use Rattle.grammar_theory.specs.Outcome.{At, Outcome, Fails, finish}
+use Rattle.grammar_theory.specs.Outcome.{At, Outcome, Fails, start, finish}
 use Rattle.grammar_theory.specs.Answers.{Rejects, AnswersAll, tokens_of}
 use Rattle.grammar_theory.proofs.End.{answers_all}
 use Rattle.grammar_theory.proofs.Levels.{agree, cancel}
@@ -23,7 +23,7 @@ use Rattle.vhdl_front.specs.Cursor.{at_of, names_of}
 use Rattle.vhdl_front.specs.Front.{error_of, OrMemory, Becomes}
 use Rattle.vhdl_front.proofs.Language.{numbers}
 use Rattle.vbe_text.specs.Source.{SourceTree}
-use Rattle.vbe_text.specs.Vbe.{vbe, start, IsSource, IsRefusedSource, OneSource}
+use Rattle.vbe_text.specs.Vbe.{vbe, IsSource, IsRefusedSource}
 use Rattle.vbe_text.specs.VbeReading.{source_at}
 use Rattle.vbe_text.proofs.VbeLanguage.{exact_source, source_answers}
 
@@ -34,16 +34,6 @@ among_two f g (t ∷ ts) = same (is_of f t) (is_of g t) where
   same true b = refl
   same false true = refl
   same false false = refl
-
--- before the first token
-pub start_is : (c : Counts) (ts : List PlacedToken) → c.names.keys ≡ [] → c.bits ≡ 0 → c.operators ≡ 0 → c.alternatives ≡ 0 → at_of c ts ≡ start ts
-start_is c ts names bits operators alternatives =
-    let made : List (List ℕ) → ℕ → ℕ → ℕ → At = λ n b o a. record { state = record { names = n; bits = b; operators = o; alternatives = a }; rest = ts } in
-    let first : names_of c ≡ [] = rw names refl in
-    ap (λ (n : List (List ℕ)). made n c.bits c.operators c.alternatives) first
-    ∙ ap (λ (n : ℕ). made [] n c.operators c.alternatives) bits
-    ∙ ap (λ (n : ℕ). made [] 0 n c.alternatives) operators
-    ∙ ap (λ (n : ℕ). made [] 0 0 n) alternatives
 
 all_read : (here : At) → AnswersAll vbe here (finish (source_at DEPTH here))
 all_read here = answers_all vbe here (source_at DEPTH here) (source_answers DEPTH here)
@@ -66,14 +56,3 @@ pub is_refused : (tokens : Tokens) (here : At) (s : Stop) (e : ReadError) → he
 is_refused tokens here stop.Memory e at f h = subst (IsRefusedSource tokens) (sym h) tt
 is_refused tokens here (stop.Refused r) e at f h = refused_as tokens r (subst (λ (a : At). Rejects vbe a r) at (rejected here r f)) e h
 
--- a text has one list of items, and so one value
-pub one_source : OneSource
-one_source tokens a b ha hb =
-    let shape = (exact_source DEPTH).shape in
-    let x = ha.read.0 in
-    let y = hb.read.0 in
-    let ends : ha.end.rest ≡ hb.end.rest = ha.read.1 ∙ sym hb.read.1 in
-    let same_tokens = (cancel (tokens_of x.front) ha.end.rest (tokens_of y.front) hb.end.rest (sym x.parts ∙ y.parts) (ap length ends)).0 in
-    let whole : (p : List Item) (v : SourceTree) → vbe p v → vbe (p ++ []) v = λ p v h. subst (λ (q : List Item). vbe q v) (sym (append-nil p)) h in
-    let same : x.front ≡ y.front = agree vbe false (numbers (form.Keyword word.Entity ∷ [])) [] shape x.front y.front [] [] a b (whole x.front a x.sentence) (whole y.front b y.sentence) same_tokens in
-    shape.same y.front a b (subst (λ (q : List Item). vbe q a) same x.sentence) y.sentence

@@ -1,3 +1,4 @@
 pub mod Source
 pub mod Vbe
 pub mod VbeReading
+pub mod Laws

@@ -13,7 +13,7 @@ use Rattle.grammar_theory.specs.declared.limits.TheConstants.{DEPTH}
 use Rattle.grammar_theory.specs.declared.refusal.Refusal.{Refusal}
 use Rattle.grammar_theory.specs.Marks.{starts, chooses, again, opens, spells}
 use Rattle.grammar_theory.specs.Grammar.{Grammar, nothing, one, marked, ◌or◌, ◌>>=◌, list, placed}
-use Rattle.grammar_theory.specs.Outcome.{At}
+use Rattle.grammar_theory.specs.Outcome.{At, start}
 use Rattle.grammar_theory.specs.Answers.{Rejects, AnswersAll}
 use Rattle.vhdl_front.specs.Cursor.{name_of}
 use Rattle.vhdl_front.specs.Expression.{number, direction, closing, expression}
@@ -236,10 +236,6 @@ vbe = source DEPTH
 
 -- ---- answers
 
--- before the first token: nothing is counted
-abbrev pub start : List PlacedToken → At
-start tokens = record { state = record { names = []; bits = 0; operators = 0; alternatives = 0 }; rest = tokens }
-
 -- All of the tokens are a sentence of the grammar without a breach, and this is its value.
 pub record IsSource (tokens : Tokens) (source : SourceTree) : Type 0 where
   pub end : At
@@ -256,7 +252,3 @@ abbrev pub IsRefusedSource : Tokens → ReadError → Type 0
 IsRefusedSource tokens errors.Memory = Unit {0}
 IsRefusedSource tokens (errors.Input f) = RefusedAs tokens (errors.Input f)
 IsRefusedSource tokens (errors.Limit l) = RefusedAs tokens (errors.Limit l)
-
--- A text is at most one source.
-abbrev pub OneSource : Type 0
-OneSource = (tokens : Tokens) (a b : SourceTree) → IsSource tokens a → IsSource tokens b → a ≡ b

@@ -4,8 +4,8 @@ ghost use Rattle.std.specs.Bool.{OnTrue, OnFalse};
 ghost use Rattle.std.specs.BTreeSet.{insert_key};
 ghost use Rattle.std.specs.Cmp.Lexicographic.{slice_cmp};
 ghost use Rattle.std.specs.Ordering.{nat_cmp};
-ghost use Rattle.grammar_theory.specs.Marks.{is_declared};
-ghost use Rattle.vhdl_front.specs.Cursor.{names_of};
+ghost use Rattle.grammar_theory.specs.Marks.{is_declared, uncounted};
+ghost use Rattle.vhdl_front.specs.Cursor.{names_of, state_of};
 
 use std::alloc::{AllocError, Global};
 use std::collections::BTreeSet;
@@ -23,10 +23,7 @@ pub struct Counts {
 impl Counts {
     /// Nothing so far. Takes no memory.
     pub fn new(alloc: Global) -> Counts
-        ensures names { result.names.keys ≡ [] }
-        ensures bits { result.bits ≡ 0 }
-        ensures operators { result.operators ≡ 0 }
-        ensures alternatives { result.alternatives ≡ 0 }
+        ensures { state_of result ≡ uncounted }
     {
         Counts {
             names: BTreeSet::new(alloc),

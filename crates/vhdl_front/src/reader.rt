@@ -3,6 +3,7 @@ ghost use Rattle.std.specs.Prelude.{◌≡◌, ◌+◌, ◌<◌, ◌≤◌, ◌�
 ghost use Rattle.vlsi_base.specs.Tree.{view};
 ghost use Rattle.vlsi_base.specs.declared.fault.ReadError.TheVariants.{Memory};
 ghost use Rattle.grammar_theory.specs.Marks.{State};
+ghost use Rattle.grammar_theory.specs.Outcome.{start};
 ghost use Rattle.vhdl_front.specs.Cursor.{at_of};
 ghost use Rattle.vhdl_front.specs.Front.{line_at, line_left, breach_error, reason_error, OrMemory, Becomes, Again, IsRead, IsSameText, at_first, front, next_token, rest_of};
 ghost use Rattle.vhdl_front.specs.Expression.{expression as expression_grammar};
@@ -138,9 +139,7 @@ pub struct TokenReader<'a> {
 impl<'a> TokenReader<'a> {
     /// At the first token. Takes no memory.
     pub fn begin(alloc: Global, tokens: &'a Tokens) -> TokenReader<'a>
-        ensures rest { (front result).here.rest ≡ tokens.now.items }
-        ensures nothing_declared { (front result).here.state.names ≡ [] }
-        ensures no_bits { (front result).here.state.bits ≡ 0 }
+        ensures here { (front result).here ≡ start tokens.now.items }
         ensures nothing_open { (front result).room ≡ DEPTH }
         ensures last_line { (front result).last_line ≡ tokens.now.last_line }
         ensures pragmas { (front result).pragmas ≡ tokens.now.pragmas }

@@ -1,4 +1,4 @@
-use Rattle.vbe_text.proofs.Whole.{one_source}
+use Rattle.vbe_text.proofs.Laws.{one_source}
 use Rattle.vbe_text.proofs.law.reads_once.Goals as goal
 
 pub returns : goal.returns

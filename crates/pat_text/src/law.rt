@@ -1,0 +1,17 @@
+// What follows from the grammar.
+ghost use Rattle.pat_text.specs.Laws.{NeverBothFile, OneFile, OneSyntaxFault};
+
+/// A text is at most one pattern file.
+pub fn reads_once()
+    ensures { OneFile }
+{}
+
+/// A text that is a pattern file has no refusal.
+pub fn never_both()
+    ensures { NeverBothFile }
+{}
+
+/// A text has at most one refusal.
+pub fn one_refusal()
+    ensures { OneSyntaxFault }
+{}
