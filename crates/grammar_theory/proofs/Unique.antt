@@ -50,9 +50,9 @@ part (i ∷ p) r (j ∷ q) s e =
     let heads : i.token ≡ j.token = cc in
     let tails : tokens_of p ++ r ≡ tokens_of q ++ s = cc in
     elim (part p r q s tails) [
-    | inl same ↦ inl (cc (same.0, heads), same.1)
-    | inr (inl l) ↦ inr (inl (one_more p q s i j heads l))
-    | inr (inr l) ↦ inr (inr (one_more q p r j i (sym heads) l))
+      | inl same ↦ inl (cc (same.0, heads), same.1)
+      | inr (inl l) ↦ inr (inl (one_more p q s i j heads l))
+      | inr (inr l) ↦ inr (inr (one_more q p r j i (sym heads) l))
     ]
 
 -- the first items are the second, and go on with the next token of the rest
@@ -161,38 +161,38 @@ same_reason G null f l sh state front rest (reason.Breach c) (reason.Breach d) a
 
 one_stop : {A : Type 0} (G : Grammar A) (null : Bool) (f l : Set) → Shape G null f l → (here : At) (d e : Refusal) → Stops G here d → Stops G here e → d ≡ e
 one_stop {A} G null f l sh here d e a b = elim (part a.front a.rest b.front b.rest (sym a.parts ∙ b.parts)) [
-    | inl same ↦ level same.0 same.1
-    | inr (inl longer) ↦ absurd (no_farther G null f l sh here.state a.front a.viable.0 a.viable.1 a.state a.viable.2 a.clean b.front b.rest b.state e.reason b.clean b.bars
-        (goes_on G null f l sh a.front b.front a.viable.0 b.viable.0 a.viable.1 b.viable.1 b.rest a.viable.2 b.viable.2 longer))
-    | inr (inr longer) ↦ absurd (no_farther G null f l sh here.state b.front b.viable.0 b.viable.1 b.state b.viable.2 b.clean a.front a.rest a.state d.reason a.clean a.bars
-        (goes_on G null f l sh b.front a.front b.viable.0 a.viable.0 b.viable.1 a.viable.1 a.rest b.viable.2 a.viable.2 longer))
-    ] where
-      level : tokens_of a.front ≡ tokens_of b.front → a.rest ≡ b.rest → d ≡ e
-      level tokens rest =
-          let same = agree G null f l sh a.front b.front a.viable.0 b.viable.0 a.viable.1 b.viable.1 a.viable.2 b.viable.2 tokens in
-          let states = states_are a.front b.front here.state a.state b.state same a.clean b.clean in
-          let bars : Bars G b.state d.reason b.front b.rest =
-              subst (λ (z : State). Bars G z d.reason b.front b.rest) states
-              (subst (λ (z : List Item). Bars G a.state d.reason z b.rest) same
-              (subst (λ (z : List PlacedToken). Bars G a.state d.reason a.front z) rest a.bars)) in
-          refusal_is d e (same_reason G null f l sh b.state b.front b.rest d.reason e.reason bars b.bars) (a.place ∙ ap length rest ∙ sym b.place)
+  | inl same ↦ level same.0 same.1
+  | inr (inl longer) ↦ absurd (no_farther G null f l sh here.state a.front a.viable.0 a.viable.1 a.state a.viable.2 a.clean b.front b.rest b.state e.reason b.clean b.bars
+      (goes_on G null f l sh a.front b.front a.viable.0 b.viable.0 a.viable.1 b.viable.1 b.rest a.viable.2 b.viable.2 longer))
+  | inr (inr longer) ↦ absurd (no_farther G null f l sh here.state b.front b.viable.0 b.viable.1 b.state b.viable.2 b.clean a.front a.rest a.state d.reason a.clean a.bars
+      (goes_on G null f l sh b.front a.front b.viable.0 a.viable.0 b.viable.1 a.viable.1 a.rest b.viable.2 a.viable.2 longer))
+] where
+  level : tokens_of a.front ≡ tokens_of b.front → a.rest ≡ b.rest → d ≡ e
+  level tokens rest =
+      let same = agree G null f l sh a.front b.front a.viable.0 b.viable.0 a.viable.1 b.viable.1 a.viable.2 b.viable.2 tokens in
+      let states = states_are a.front b.front here.state a.state b.state same a.clean b.clean in
+      let bars : Bars G b.state d.reason b.front b.rest =
+      subst (λ (z : State). Bars G z d.reason b.front b.rest) states
+      (subst (λ (z : List Item). Bars G a.state d.reason z b.rest) same
+      (subst (λ (z : List PlacedToken). Bars G a.state d.reason a.front z) rest a.bars)) in
+      refusal_is d e (same_reason G null f l sh b.state b.front b.rest d.reason e.reason bars b.bars) (a.place ∙ ap length rest ∙ sym b.place)
 
 one_value : {A : Type 0} (G : Grammar A) (null : Bool) (f l : Set) → Shape G null f l → (here s t : At) (v u : A) → Accepts G here v s → Accepts G here u t → ◌≡◌ {A = A × At} (v, s) (u, t)
 one_value {A} G null f l sh here s t v u a b = elim (part a.front s.rest b.front t.rest (sym a.parts ∙ b.parts)) [
-    | inl same ↦ level same.0 same.1
-    | inr (inl longer) ↦ absurd (beyond b v (at_end G a.front v a.sentence) (goes_on G null f l sh a.front b.front [] [] v u t.rest (at_end G a.front v a.sentence) (at_end G b.front u b.sentence) longer))
-    | inr (inr longer) ↦ absurd (beyond a u (at_end G b.front u b.sentence) (goes_on G null f l sh b.front a.front [] [] u v s.rest (at_end G b.front u b.sentence) (at_end G a.front v a.sentence) longer))
-    ] where
-      level : tokens_of a.front ≡ tokens_of b.front → s.rest ≡ t.rest → ◌≡◌ {A = A × At} (v, s) (u, t)
-      level tokens rest =
-          let same = agree G null f l sh a.front b.front [] [] v u (at_end G a.front v a.sentence) (at_end G b.front u b.sentence) tokens in
-          let values = sh.same b.front v u (subst (λ (z : List Item). G z v) same a.sentence) b.sentence in
-          let states = states_are a.front b.front here.state s.state t.state same a.clean b.clean in
-          let made : A → State → List PlacedToken → A × At = λ x c ts. (x, record { state = c; rest = ts }) in
-          ap (λ (x : A). made x s.state s.rest) values ∙ ap (λ (c : State). made u c s.rest) states ∙ ap (λ (ts : List PlacedToken). made u t.state ts) rest
+  | inl same ↦ level same.0 same.1
+  | inr (inl longer) ↦ absurd (beyond b v (at_end G a.front v a.sentence) (goes_on G null f l sh a.front b.front [] [] v u t.rest (at_end G a.front v a.sentence) (at_end G b.front u b.sentence) longer))
+  | inr (inr longer) ↦ absurd (beyond a u (at_end G b.front u b.sentence) (goes_on G null f l sh b.front a.front [] [] u v s.rest (at_end G b.front u b.sentence) (at_end G a.front v a.sentence) longer))
+] where
+  level : tokens_of a.front ≡ tokens_of b.front → s.rest ≡ t.rest → ◌≡◌ {A = A × At} (v, s) (u, t)
+  level tokens rest =
+      let same = agree G null f l sh a.front b.front [] [] v u (at_end G a.front v a.sentence) (at_end G b.front u b.sentence) tokens in
+      let values = sh.same b.front v u (subst (λ (z : List Item). G z v) same a.sentence) b.sentence in
+      let states = states_are a.front b.front here.state s.state t.state same a.clean b.clean in
+      let made : A → State → List PlacedToken → A × At = λ x c ts. (x, record { state = c; rest = ts }) in
+      ap (λ (x : A). made x s.state s.rest) values ∙ ap (λ (c : State). made u c s.rest) states ∙ ap (λ (ts : List PlacedToken). made u t.state ts) rest
 
-      beyond : {there : At} {x : A} (c : Accepts G here x there) {p : List Item} (y : A) → G (p ++ []) y → GoesOn p c.front there.rest → ⊥
-      beyond {there} c {p} y h g = c.longest ((g.next ∷ g.more) ++ []) y (continued G p c.front [] y there.rest g h) (meets p c.front there.rest [] g)
+  beyond : {there : At} {x : A} (c : Accepts G here x there) {p : List Item} (y : A) → G (p ++ []) y → GoesOn p c.front there.rest → ⊥
+  beyond {there} c {p} y h g = c.longest ((g.next ∷ g.more) ++ []) y (continued G p c.front [] y there.rest g h) (meets p c.front there.rest [] g)
 
 -- a sentence that is read, and a stop, of which only what is left tells whether they stand at one place
 never_beyond : {A : Type 0} (G : Grammar A) (null : Bool) (f l : Set) → Shape G null f l → (here there : At) (v : A) (r : Refusal) → (a : Accepts G here v there) → (b : Stops G here r)
@@ -200,12 +200,12 @@ never_beyond : {A : Type 0} (G : Grammar A) (null : Bool) (f l : Set) → Shape 
 never_beyond G null f l sh here there v r a b level =
     let whole = at_end G a.front v a.sentence in
     elim (part a.front there.rest b.front b.rest (sym a.parts ∙ b.parts)) [
-    | inl same ↦ level (agree G null f l sh a.front b.front [] b.viable.0 v b.viable.1 whole b.viable.2 same.0) same.1
-    | inr (inl longer) ↦ no_farther G null f l sh here.state a.front [] v there.state whole a.clean b.front b.rest b.state r.reason b.clean b.bars
-        (goes_on G null f l sh a.front b.front [] b.viable.0 v b.viable.1 b.rest whole b.viable.2 longer)
-    | inr (inr longer) ↦
-        let g = goes_on G null f l sh b.front a.front b.viable.0 [] b.viable.1 v there.rest b.viable.2 whole longer in
-        a.longest ((g.next ∷ g.more) ++ b.viable.0) b.viable.1 (continued G b.front a.front b.viable.0 b.viable.1 there.rest g b.viable.2) (meets b.front a.front there.rest b.viable.0 g)
+      | inl same ↦ level (agree G null f l sh a.front b.front [] b.viable.0 v b.viable.1 whole b.viable.2 same.0) same.1
+      | inr (inl longer) ↦ no_farther G null f l sh here.state a.front [] v there.state whole a.clean b.front b.rest b.state r.reason b.clean b.bars
+          (goes_on G null f l sh a.front b.front [] b.viable.0 v b.viable.1 b.rest whole b.viable.2 longer)
+      | inr (inr longer) ↦
+          let g = goes_on G null f l sh b.front a.front b.viable.0 [] b.viable.1 v there.rest b.viable.2 whole longer in
+          a.longest ((g.next ∷ g.more) ++ b.viable.0) b.viable.1 (continued G b.front a.front b.viable.0 b.viable.1 there.rest g b.viable.2) (meets b.front a.front there.rest b.viable.0 g)
     ]
 
 -- a token behind a sentence that is read is no breach
@@ -237,3 +237,24 @@ one_answer_to_all G null f l sh here (Ok (v, s)) (Ok (u, t)) a b = ap (λ x. Ok 
 one_answer_to_all G null f l sh here (Ok (v, s)) (Err r) a b = absurd (accepted_or_rejected G null f l sh here s v r a b)
 one_answer_to_all G null f l sh here (Err r) (Ok (v, s)) a b = absurd (accepted_or_rejected G null f l sh here s v r b a)
 one_answer_to_all G null f l sh here (Err d) (Err e) a b = ap (λ x. Err x) (one_stop G null f l sh here d e (rejects_stops G here d a) (rejects_stops G here e b))
+
+-- ---- what they say of a value and of a refusal
+
+abbrev value_in : {A : Type 0} → A → Outcome A → A
+value_in other (Ok x) = x.0
+value_in other (Err r) = other
+
+abbrev refusal_in : {A : Type 0} → Refusal → Outcome A → Refusal
+refusal_in other (Ok x) = other
+refusal_in other (Err r) = r
+
+pub same_value : {A : Type 0} (G : Grammar A) → OneAnswerToAll G → (here s t : At) (v u : A) → AnswersAll G here (Ok (v, s)) → AnswersAll G here (Ok (u, t)) → v ≡ u
+same_value G one here s t v u a b = ap (value_in v) (one here (Ok (v, s)) (Ok (u, t)) a b)
+
+pub same_refusal : {A : Type 0} (G : Grammar A) → OneAnswerToAll G → (here : At) (d e : Refusal) → AnswersAll G here (Err d) → AnswersAll G here (Err e) → d ≡ e
+same_refusal G one here d e a b = ap (refusal_in d) (one here (Err d) (Err e) a b)
+
+pub never_both : {A : Type 0} (G : Grammar A) → OneAnswerToAll G → (here s : At) (v : A) (r : Refusal) → AnswersAll G here (Ok (v, s)) → AnswersAll G here (Err r) → ⊥
+never_both {A} G one here s v r a b = apart (v, s) r (one here (Ok (v, s)) (Err r) a b) where
+  apart : (x : A × At) (d : Refusal) → ◌≡◌ {A = Outcome A} (Ok x) (Err d) → ⊥
+  apart x d e = cc

@@ -1,5 +1,21 @@
-// What is written is read again.
+// What follows from the definitions.
+ghost use Rattle.pat_io.specs.Laws.{NeverBoth, OneMeaning, OneRefusal};
 ghost use Rattle.pat_io.specs.ReadAgain.{DigitsReadAgain, WrittenMeansItself};
+
+/// A text means at most one list of patterns.
+pub fn means_once()
+    ensures { OneMeaning }
+{}
+
+/// A text that is a pattern file for some ports has no refusal for them.
+pub fn never_both()
+    ensures { NeverBoth }
+{}
+
+/// A text has at most one refusal for the same ports.
+pub fn one_refusal()
+    ensures { OneRefusal }
+{}
 
 /// The digits that are written for a value are those that are read as it.
 pub fn digits_read_again()

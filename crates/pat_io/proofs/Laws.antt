@@ -1,0 +1,51 @@
+-- Of a text one answer is right.
+use Rattle.std.proofs.Common.{◌≡◌, ℕ, ◌<◌, ◌≤◌, List, length, Option, None, Some, refl, sym, ap, subst, ◌∙◌, arith}
+use Rattle.vlsi_base.specs.declared.name.Port.{Port}
+use Rattle.vlsi_base.specs.declared.fault.ReadError.{ReadError}
+use Rattle.pat_lexer.specs.Listing.{tokens_in, refusal_in}
+use Rattle.pat_text.specs.declared.raw.RawPatterns.{RawPatterns}
+use Rattle.pat_text.proofs.Laws as text
+use Rattle.pat_io.specs.Digits.{patterns_for}
+use Rattle.pat_io.specs.PatternText.{most_bytes, fault_in, IsWritten, IsPatternText, Refused, long, uncut, unwritten, faulty}
+use Rattle.pat_io.specs.Laws.{OneMeaning, NeverBoth, OneRefusal}
+
+written_once : (bytes : List ℕ) (a b : RawPatterns) → IsWritten bytes a → IsWritten bytes b → a ≡ b
+written_once bytes a b h g = text.one_file (tokens_in bytes) a b h.file g.file
+
+too_many : (bytes : List ℕ) → most_bytes < length bytes → length bytes ≤ most_bytes → ⊥
+too_many bytes more few = omega (more, few)
+
+cut_or_not : (o : Option ReadError) (e : ReadError) → o ≡ None → o ≡ Some e → ⊥
+cut_or_not o e a b = cc
+
+one_error : (o : Option ReadError) (d e : ReadError) → o ≡ Some d → o ≡ Some e → d ≡ e
+one_error o d e a b = cc
+
+pub means_once : OneMeaning
+means_once bytes ports p q h g = h.is ∙ ap patterns_for (written_once bytes h.raw g.raw h.written g.written) ∙ sym g.is
+
+pub never_both : NeverBoth
+never_both bytes ports p e h (long more is) = too_many bytes more h.written.few
+never_both bytes ports p e h (uncut few is) = cut_or_not (refusal_in bytes) e h.written.cut is
+never_both bytes ports p e h (unwritten few cut fault) = text.never_both (tokens_in bytes) h.raw e h.written.file fault
+never_both bytes ports p e h (faulty raw written fault) =
+    cut_or_not (fault_in ports raw) e (ap (fault_in ports) (written_once bytes raw h.raw written h.written) ∙ h.faultless) fault
+
+pub one_refusal : OneRefusal
+one_refusal bytes ports d e (long m is) (long n as) = is ∙ sym as
+one_refusal bytes ports d e (long m is) (uncut few as) = absurd (too_many bytes m few)
+one_refusal bytes ports d e (long m is) (unwritten few cut as) = absurd (too_many bytes m few)
+one_refusal bytes ports d e (long m is) (faulty raw w as) = absurd (too_many bytes m w.few)
+one_refusal bytes ports d e (uncut few is) (long n as) = absurd (too_many bytes n few)
+one_refusal bytes ports d e (uncut few is) (uncut few' as) = one_error (refusal_in bytes) d e is as
+one_refusal bytes ports d e (uncut few is) (unwritten few' cut as) = absurd (cut_or_not (refusal_in bytes) d cut is)
+one_refusal bytes ports d e (uncut few is) (faulty raw w as) = absurd (cut_or_not (refusal_in bytes) d w.cut is)
+one_refusal bytes ports d e (unwritten few cut is) (long n as) = absurd (too_many bytes n few)
+one_refusal bytes ports d e (unwritten few cut is) (uncut few' as) = absurd (cut_or_not (refusal_in bytes) e cut as)
+one_refusal bytes ports d e (unwritten few cut is) (unwritten few' cut' as) = text.one_fault (tokens_in bytes) d e is as
+one_refusal bytes ports d e (unwritten few cut is) (faulty raw w as) = absurd (text.never_both (tokens_in bytes) raw d w.file is)
+one_refusal bytes ports d e (faulty raw w is) (long n as) = absurd (too_many bytes n w.few)
+one_refusal bytes ports d e (faulty raw w is) (uncut few as) = absurd (cut_or_not (refusal_in bytes) e w.cut as)
+one_refusal bytes ports d e (faulty raw w is) (unwritten few cut as) = absurd (text.never_both (tokens_in bytes) raw e w.file as)
+one_refusal bytes ports d e (faulty raw w is) (faulty raw' w' as) =
+    one_error (fault_in ports raw) d e is (ap (fault_in ports) (written_once bytes raw raw' w w') ∙ as)

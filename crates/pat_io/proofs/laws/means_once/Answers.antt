@@ -1,0 +1,5 @@
+use Rattle.pat_io.proofs.Laws.{means_once}
+use Rattle.pat_io.proofs.laws.means_once.Goals as goal
+
+pub returns : goal.returns
+returns c = means_once

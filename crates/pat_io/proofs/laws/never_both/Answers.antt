@@ -1,0 +1,5 @@
+use Rattle.pat_io.proofs.Laws.{never_both}
+use Rattle.pat_io.proofs.laws.never_both.Goals as goal
+
+pub returns : goal.returns
+returns c = never_both

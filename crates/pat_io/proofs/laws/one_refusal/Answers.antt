@@ -1,0 +1,5 @@
+use Rattle.pat_io.proofs.Laws.{one_refusal}
+use Rattle.pat_io.proofs.laws.one_refusal.Goals as goal
+
+pub returns : goal.returns
+returns c = one_refusal
