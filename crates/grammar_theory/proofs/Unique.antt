@@ -8,11 +8,12 @@ use Rattle.grammar_theory.specs.declared.refusal.Reason.TheVariants as reason
 use Rattle.grammar_theory.specs.declared.refusal.Refusal.{Refusal}
 use Rattle.grammar_theory.specs.Marks.{Item, State, step, run, go_on}
 use Rattle.grammar_theory.specs.Grammar.{Grammar, Begins}
-use Rattle.grammar_theory.specs.Outcome.{At, Outcome}
+use Rattle.grammar_theory.specs.Outcome.{At, Outcome, Reader, finish}
 use Rattle.grammar_theory.specs.Answers.{Meets, Accepts, Refuses, Faults, Breaks, Blames, Misses, Ends, Rejects, Answers, AnswersAll, tokens_of}
 use Rattle.grammar_theory.specs.Unique.{OneAnswer, OneAnswerToAll}
 use Rattle.grammar_theory.proofs.Sets.{Set}
 use Rattle.grammar_theory.proofs.Exact.{Shape}
+use Rattle.grammar_theory.proofs.End.{answers_all}
 use Rattle.grammar_theory.proofs.Sequence.{run-append}
 use Rattle.grammar_theory.proofs.Levels.{agree}
 
@@ -226,17 +227,26 @@ accepted_or_rejected G null f l sh here there v r a b = never_beyond G null f l 
 
 -- ---- the laws
 
-pub one_answer : {A : Type 0} (G : Grammar A) (null : Bool) (f l : Set) → Shape G null f l → OneAnswer G
-one_answer G null f l sh here (Ok (v, s)) (Ok (u, t)) a b = ap (λ x. Ok x) (one_value G null f l sh here s t v u a b)
-one_answer G null f l sh here (Ok (v, s)) (Err r) a b = absurd (accepted_or_refused G null f l sh here s v r a b)
-one_answer G null f l sh here (Err r) (Ok (v, s)) a b = absurd (accepted_or_refused G null f l sh here s v r b a)
-one_answer G null f l sh here (Err d) (Err e) a b = ap (λ x. Err x) (one_stop G null f l sh here d e (refuses_stops G here d a) (refuses_stops G here e b))
+at_most_one : {A : Type 0} (G : Grammar A) (null : Bool) (f l : Set) → Shape G null f l → (here : At) (x y : Outcome A) → Answers G here x → Answers G here y → x ≡ y
+at_most_one G null f l sh here (Ok (v, s)) (Ok (u, t)) a b = ap (λ x. Ok x) (one_value G null f l sh here s t v u a b)
+at_most_one G null f l sh here (Ok (v, s)) (Err r) a b = absurd (accepted_or_refused G null f l sh here s v r a b)
+at_most_one G null f l sh here (Err r) (Ok (v, s)) a b = absurd (accepted_or_refused G null f l sh here s v r b a)
+at_most_one G null f l sh here (Err d) (Err e) a b = ap (λ x. Err x) (one_stop G null f l sh here d e (refuses_stops G here d a) (refuses_stops G here e b))
 
-pub one_answer_to_all : {A : Type 0} (G : Grammar A) (null : Bool) (f l : Set) → Shape G null f l → OneAnswerToAll G
-one_answer_to_all G null f l sh here (Ok (v, s)) (Ok (u, t)) a b = ap (λ x. Ok x) (one_value G null f l sh here s t v u a.0 b.0)
-one_answer_to_all G null f l sh here (Ok (v, s)) (Err r) a b = absurd (accepted_or_rejected G null f l sh here s v r a b)
-one_answer_to_all G null f l sh here (Err r) (Ok (v, s)) a b = absurd (accepted_or_rejected G null f l sh here s v r b a)
-one_answer_to_all G null f l sh here (Err d) (Err e) a b = ap (λ x. Err x) (one_stop G null f l sh here d e (rejects_stops G here d a) (rejects_stops G here e b))
+pub one_answer : {A : Type 0} (G : Grammar A) (null : Bool) (f l : Set) → Shape G null f l → (read : Reader A) → ((here : At) → Answers G here (read here)) → OneAnswer G
+one_answer G null f l sh read right here = (read here, right here, λ y h. at_most_one G null f l sh here y (read here) h (right here))
+
+at_most_one_of_all : {A : Type 0} (G : Grammar A) (null : Bool) (f l : Set) → Shape G null f l → (here : At) (x y : Outcome A) → AnswersAll G here x → AnswersAll G here y → x ≡ y
+at_most_one_of_all G null f l sh here (Ok (v, s)) (Ok (u, t)) a b = ap (λ x. Ok x) (one_value G null f l sh here s t v u a.0 b.0)
+at_most_one_of_all G null f l sh here (Ok (v, s)) (Err r) a b = absurd (accepted_or_rejected G null f l sh here s v r a b)
+at_most_one_of_all G null f l sh here (Err r) (Ok (v, s)) a b = absurd (accepted_or_rejected G null f l sh here s v r b a)
+at_most_one_of_all G null f l sh here (Err d) (Err e) a b = ap (λ x. Err x) (one_stop G null f l sh here d e (rejects_stops G here d a) (rejects_stops G here e b))
+
+pub one_answer_to_all : {A : Type 0} (G : Grammar A) (null : Bool) (f l : Set) → Shape G null f l → (read : Reader A) → ((here : At) → Answers G here (read here)) → OneAnswerToAll G
+one_answer_to_all G null f l sh read right here =
+    let x = finish (read here) in
+    let is = answers_all G here (read here) (right here) in
+    (x, is, λ y h. at_most_one_of_all G null f l sh here y x h is)
 
 -- ---- what they say of a value and of a refusal
 
@@ -248,13 +258,24 @@ abbrev refusal_in : {A : Type 0} → Refusal → Outcome A → Refusal
 refusal_in other (Ok x) = other
 refusal_in other (Err r) = r
 
+same : {A : Type 0} (G : Grammar A) → OneAnswerToAll G → (here : At) (x y : Outcome A) → AnswersAll G here x → AnswersAll G here y → x ≡ y
+same G one here x y a b = (one here).2 x a ∙ sym ((one here).2 y b)
+
 pub same_value : {A : Type 0} (G : Grammar A) → OneAnswerToAll G → (here s t : At) (v u : A) → AnswersAll G here (Ok (v, s)) → AnswersAll G here (Ok (u, t)) → v ≡ u
-same_value G one here s t v u a b = ap (value_in v) (one here (Ok (v, s)) (Ok (u, t)) a b)
+same_value G one here s t v u a b = ap (value_in v) (same G one here (Ok (v, s)) (Ok (u, t)) a b)
 
 pub same_refusal : {A : Type 0} (G : Grammar A) → OneAnswerToAll G → (here : At) (d e : Refusal) → AnswersAll G here (Err d) → AnswersAll G here (Err e) → d ≡ e
-same_refusal G one here d e a b = ap (refusal_in d) (one here (Err d) (Err e) a b)
+same_refusal G one here d e a b = ap (refusal_in d) (same G one here (Err d) (Err e) a b)
 
 pub never_both : {A : Type 0} (G : Grammar A) → OneAnswerToAll G → (here s : At) (v : A) (r : Refusal) → AnswersAll G here (Ok (v, s)) → AnswersAll G here (Err r) → ⊥
-never_both {A} G one here s v r a b = apart (v, s) r (one here (Ok (v, s)) (Err r) a b) where
+never_both {A} G one here s v r a b = apart (v, s) r (same G one here (Ok (v, s)) (Err r) a b) where
   apart : (x : A × At) (d : Refusal) → ◌≡◌ {A = Outcome A} (Ok x) (Err d) → ⊥
   apart x d e = cc
+
+read_or_refused : {A : Type 0} (G : Grammar A) (here : At) (x : Outcome A) → AnswersAll G here x
+    → ((v : A) × (s : At) × AnswersAll G here (Ok (v, s))) ⊎ ((r : Refusal) × AnswersAll G here (Err r))
+read_or_refused G here (Ok (v, s)) a = inl (v, s, a)
+read_or_refused G here (Err r) a = inr (r, a)
+
+pub some_answer : {A : Type 0} (G : Grammar A) → OneAnswerToAll G → (here : At) → ((v : A) × (s : At) × AnswersAll G here (Ok (v, s))) ⊎ ((r : Refusal) × AnswersAll G here (Err r))
+some_answer G one here = read_or_refused G here (one here).0 (one here).1

@@ -1,13 +1,16 @@
 -- Of a text one answer is right.
-use Rattle.std.proofs.Common.{◌≡◌, ℕ, ◌<◌, ◌≤◌, List, length, Option, None, Some, refl, sym, ap, subst, ◌∙◌, arith}
+use Rattle.std.proofs.Common.{◌≡◌, ◌⊎◌, inl, inr, ℕ, ◌<◌, ◌≤◌, Bool, true, false, nat_le, List, length, Option, None, Some, refl, sym, ap, subst, ◌∙◌, arith}
 use Rattle.vlsi_base.specs.declared.name.Port.{Port}
+use Rattle.vlsi_base.specs.declared.fault.LimitKind.TheVariants.{File}
 use Rattle.vlsi_base.specs.declared.fault.ReadError.{ReadError}
+use Rattle.vlsi_base.specs.declared.fault.ReadError.TheVariants as error
+use Rattle.pat_meaning.specs.declared.patterns.Patterns.{Patterns}
 use Rattle.pat_lexer.specs.Listing.{tokens_in, refusal_in}
 use Rattle.pat_text.specs.declared.raw.RawPatterns.{RawPatterns}
 use Rattle.pat_text.proofs.Laws as text
 use Rattle.pat_io.specs.Digits.{patterns_for}
 use Rattle.pat_io.specs.PatternText.{most_bytes, fault_in, IsWritten, IsPatternText, Refused, long, uncut, unwritten, faulty}
-use Rattle.pat_io.specs.Laws.{OneMeaning, NeverBoth, OneRefusal}
+use Rattle.pat_io.specs.Laws.{EachText, OneMeaning, NeverBoth, OneRefusal}
 
 written_once : (bytes : List ℕ) (a b : RawPatterns) → IsWritten bytes a → IsWritten bytes b → a ≡ b
 written_once bytes a b h g = text.one_file (tokens_in bytes) a b h.file g.file
@@ -49,3 +52,20 @@ one_refusal bytes ports d e (faulty raw w is) (uncut few as) = absurd (cut_or_no
 one_refusal bytes ports d e (faulty raw w is) (unwritten few cut as) = absurd (text.never_both (tokens_in bytes) raw e w.file as)
 one_refusal bytes ports d e (faulty raw w is) (faulty raw' w' as) =
     one_error (fault_in ports raw) d e is (ap (fault_in ports) (written_once bytes raw raw' w w') ∙ as)
+
+of_raw : (bytes : List ℕ) (ports : List Port) (raw : RawPatterns) → IsWritten bytes raw → (o : Option ReadError) → fault_in ports raw ≡ o → ((p : Patterns) × IsPatternText bytes ports p) ⊎ ((e : ReadError) × Refused bytes ports e)
+of_raw bytes ports raw w None h = inl (patterns_for raw, record { raw = raw; written = w; faultless = h; is = refl })
+of_raw bytes ports raw w (Some e) h = inr (e, faulty raw w h)
+
+of_cut : (bytes : List ℕ) (ports : List Port) → length bytes ≤ most_bytes → (o : Option ReadError) → refusal_in bytes ≡ o → ((p : Patterns) × IsPatternText bytes ports p) ⊎ ((e : ReadError) × Refused bytes ports e)
+of_cut bytes ports few (Some e) h = inr (e, uncut few h)
+of_cut bytes ports few None h = elim (text.each_file (tokens_in bytes)) [
+    | inl a ↦ let w : IsWritten bytes a.0 = record { few = few; cut = h; file = a.1 } in of_raw bytes ports a.0 w (fault_in ports a.0) refl
+    | inr r ↦ inr (r.0, unwritten few h r.1)
+    ]
+
+pub each_text : EachText
+each_text bytes ports = by-cases (nat_le (length bytes) most_bytes) refl where
+  by-cases : (b : Bool) → nat_le (length bytes) most_bytes ≡ b → ((p : Patterns) × IsPatternText bytes ports p) ⊎ ((e : ReadError) × Refused bytes ports e)
+  by-cases true h = of_cut bytes ports (omega h) (refusal_in bytes) refl
+  by-cases false h = inr (error.Limit (record { which = File; reached = 1048577 }), long (omega h) refl)

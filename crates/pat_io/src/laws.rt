@@ -1,5 +1,5 @@
 // What follows from the definitions.
-ghost use Rattle.pat_io.specs.Laws.{NeverBoth, OneMeaning, OneRefusal};
+ghost use Rattle.pat_io.specs.Laws.{EachText, NeverBoth, OneMeaning, OneRefusal};
 ghost use Rattle.pat_io.specs.ReadAgain.{DigitsReadAgain, WrittenMeansItself};
 
 /// A text means at most one list of patterns.
@@ -15,6 +15,11 @@ pub fn never_both()
 /// A text has at most one refusal for the same ports.
 pub fn one_refusal()
     ensures { OneRefusal }
+{}
+
+/// Each text is a pattern file for some ports or has a refusal for them.
+pub fn each_text()
+    ensures { EachText }
 {}
 
 /// The digits that are written for a value are those that are read as it.

@@ -1,5 +1,5 @@
 -- What follows from the grammar of pattern files.
-use Rattle.std.specs.Prelude.{◌≡◌}
+use Rattle.std.specs.Prelude.{◌≡◌, ◌⊎◌}
 use Rattle.vlsi_base.specs.declared.fault.ReadError.{ReadError}
 use Rattle.vhdl_token.specs.declared.token.Tokens.{Tokens}
 use Rattle.pat_text.specs.declared.raw.RawPatterns.{RawPatterns}
@@ -16,3 +16,7 @@ NeverBothFile = (text : Tokens) (raw : RawPatterns) (e : ReadError) → IsFile t
 -- A text has at most one refusal.
 abbrev pub OneSyntaxFault : Type 0
 OneSyntaxFault = (text : Tokens) (d e : ReadError) → IsSyntaxFault text d → IsSyntaxFault text e → d ≡ e
+
+-- Each text is a pattern file or has a refusal.
+abbrev pub EachFile : Type 0
+EachFile = (text : Tokens) → ((raw : RawPatterns) × IsFile text.items raw) ⊎ ((e : ReadError) × IsSyntaxFault text e)

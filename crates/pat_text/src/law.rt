@@ -1,5 +1,5 @@
 // What follows from the grammar.
-ghost use Rattle.pat_text.specs.Laws.{NeverBothFile, OneFile, OneSyntaxFault};
+ghost use Rattle.pat_text.specs.Laws.{EachFile, NeverBothFile, OneFile, OneSyntaxFault};
 
 /// A text is at most one pattern file.
 pub fn reads_once()
@@ -14,4 +14,9 @@ pub fn never_both()
 /// A text has at most one refusal.
 pub fn one_refusal()
     ensures { OneSyntaxFault }
+{}
+
+/// Each text is a pattern file or has a refusal.
+pub fn each_text()
+    ensures { EachFile }
 {}

@@ -9,7 +9,7 @@ mod raw;
 mod words;
 
 pub use file::read_patterns;
-pub use law::{never_both, one_refusal, reads_once};
+pub use law::{each_text, never_both, one_refusal, reads_once};
 pub use raw::{
     RawColumn, RawColumns, RawPattern, RawPatternList, RawPatterns, RawValue, RawValues,
 };

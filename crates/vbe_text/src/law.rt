@@ -1,5 +1,5 @@
 // What follows from the grammar.
-ghost use Rattle.vbe_text.specs.Laws.{NeverBothSource, OneRefusedSource, OneSource};
+ghost use Rattle.vbe_text.specs.Laws.{EachSource, NeverBothSource, OneRefusedSource, OneSource};
 
 /// A text is at most one source.
 pub fn reads_once()
@@ -14,4 +14,9 @@ pub fn never_both()
 /// A text has at most one refusal.
 pub fn one_refusal()
     ensures { OneRefusedSource }
+{}
+
+/// Each text is a source or has a refusal.
+pub fn each_text()
+    ensures { EachSource }
 {}

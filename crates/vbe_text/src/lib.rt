@@ -7,5 +7,5 @@ mod source;
 mod statement;
 mod targets;
 
-pub use law::{never_both, one_refusal, reads_once};
+pub use law::{each_text, never_both, one_refusal, reads_once};
 pub use source::read_source;

@@ -4,8 +4,8 @@ ghost use Rattle.grammar_theory.specs.Unique.{OneAnswer};
 ghost use Rattle.vhdl_front.specs.Entity.{declarations, entity};
 ghost use Rattle.vhdl_front.specs.Expression.{expression};
 
-/// Of the tokens that are left at most one answer is right, however many parentheses may still be open: none is both
-/// read and refused, what is read has one value and one end, and what is refused has one place and one reason.
+/// Whatever tokens are left, and however many parentheses may still be open, exactly one answer is right: what is read
+/// has one value and one end, what is refused has one place and one reason, and nothing is both or neither.
 pub fn one_answer()
     ensures expression { (room : ℕ) → OneAnswer (expression room) }
     ensures entity { (room : ℕ) → OneAnswer (entity room) }
