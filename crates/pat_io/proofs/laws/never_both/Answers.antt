@@ -1,4 +1,4 @@
-use Rattle.pat_io.proofs.Laws.{never_both}
+use Rattle.pat_io.proofs.Once.{never_both}
 use Rattle.pat_io.proofs.laws.never_both.Goals as goal
 
 pub returns : goal.returns

@@ -1,4 +1,4 @@
-use Rattle.pat_io.proofs.Laws.{one_refusal}
+use Rattle.pat_io.proofs.Once.{one_refusal}
 use Rattle.pat_io.proofs.laws.one_refusal.Goals as goal
 
 pub returns : goal.returns

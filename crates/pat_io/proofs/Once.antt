@@ -1,5 +1,6 @@
 -- Of a text one answer is right.
-use Rattle.std.proofs.Common.{◌≡◌, ◌⊎◌, inl, inr, ℕ, ◌<◌, ◌≤◌, Bool, true, false, nat_le, List, length, Option, None, Some, refl, sym, ap, subst, ◌∙◌, arith}
+use Rattle.std.proofs.Common.{◌≡◌, ◌⊎◌, inl, inr, ℕ, ◌<◌, ◌≤◌, List, length, Option, None, Some, refl, sym, ap, subst, ◌∙◌, arith}
+use Rattle.std.proofs.lemmas.Bool.Decides.{leb_tells}
 use Rattle.vlsi_base.specs.declared.name.Port.{Port}
 use Rattle.vlsi_base.specs.declared.fault.LimitKind.TheVariants.{File}
 use Rattle.vlsi_base.specs.declared.fault.ReadError.{ReadError}
@@ -16,7 +17,7 @@ written_once : (bytes : List ℕ) (a b : RawPatterns) → IsWritten bytes a → 
 written_once bytes a b h g = text.one_file (tokens_in bytes) a b h.file g.file
 
 too_many : (bytes : List ℕ) → most_bytes < length bytes → length bytes ≤ most_bytes → ⊥
-too_many bytes more few = omega (more, few)
+too_many bytes more few = omega (arith, more, few)
 
 cut_or_not : (o : Option ReadError) (e : ReadError) → o ≡ None → o ≡ Some e → ⊥
 cut_or_not o e a b = cc
@@ -35,23 +36,23 @@ never_both bytes ports p e h (faulty raw written fault) =
     cut_or_not (fault_in ports raw) e (ap (fault_in ports) (written_once bytes raw h.raw written h.written) ∙ h.faultless) fault
 
 pub one_refusal : OneRefusal
-one_refusal bytes ports d e (long m is) (long n as) = is ∙ sym as
-one_refusal bytes ports d e (long m is) (uncut few as) = absurd (too_many bytes m few)
-one_refusal bytes ports d e (long m is) (unwritten few cut as) = absurd (too_many bytes m few)
-one_refusal bytes ports d e (long m is) (faulty raw w as) = absurd (too_many bytes m w.few)
-one_refusal bytes ports d e (uncut few is) (long n as) = absurd (too_many bytes n few)
-one_refusal bytes ports d e (uncut few is) (uncut few' as) = one_error (refusal_in bytes) d e is as
-one_refusal bytes ports d e (uncut few is) (unwritten few' cut as) = absurd (cut_or_not (refusal_in bytes) d cut is)
-one_refusal bytes ports d e (uncut few is) (faulty raw w as) = absurd (cut_or_not (refusal_in bytes) d w.cut is)
-one_refusal bytes ports d e (unwritten few cut is) (long n as) = absurd (too_many bytes n few)
-one_refusal bytes ports d e (unwritten few cut is) (uncut few' as) = absurd (cut_or_not (refusal_in bytes) e cut as)
-one_refusal bytes ports d e (unwritten few cut is) (unwritten few' cut' as) = text.one_fault (tokens_in bytes) d e is as
-one_refusal bytes ports d e (unwritten few cut is) (faulty raw w as) = absurd (text.never_both (tokens_in bytes) raw d w.file is)
-one_refusal bytes ports d e (faulty raw w is) (long n as) = absurd (too_many bytes n w.few)
-one_refusal bytes ports d e (faulty raw w is) (uncut few as) = absurd (cut_or_not (refusal_in bytes) e w.cut as)
-one_refusal bytes ports d e (faulty raw w is) (unwritten few cut as) = absurd (text.never_both (tokens_in bytes) raw e w.file as)
-one_refusal bytes ports d e (faulty raw w is) (faulty raw' w' as) =
-    one_error (fault_in ports raw) d e is (ap (fault_in ports) (written_once bytes raw raw' w w') ∙ as)
+one_refusal bytes ports d e (long m is) (long n also) = is ∙ sym also
+one_refusal bytes ports d e (long m is) (uncut few also) = absurd (too_many bytes m few)
+one_refusal bytes ports d e (long m is) (unwritten few cut also) = absurd (too_many bytes m few)
+one_refusal bytes ports d e (long m is) (faulty raw w also) = absurd (too_many bytes m w.few)
+one_refusal bytes ports d e (uncut few is) (long n also) = absurd (too_many bytes n few)
+one_refusal bytes ports d e (uncut few is) (uncut few' also) = one_error (refusal_in bytes) d e is also
+one_refusal bytes ports d e (uncut few is) (unwritten few' cut also) = absurd (cut_or_not (refusal_in bytes) d cut is)
+one_refusal bytes ports d e (uncut few is) (faulty raw w also) = absurd (cut_or_not (refusal_in bytes) d w.cut is)
+one_refusal bytes ports d e (unwritten few cut is) (long n also) = absurd (too_many bytes n few)
+one_refusal bytes ports d e (unwritten few cut is) (uncut few' also) = absurd (cut_or_not (refusal_in bytes) e cut also)
+one_refusal bytes ports d e (unwritten few cut is) (unwritten few' cut' also) = text.one_fault (tokens_in bytes) d e is also
+one_refusal bytes ports d e (unwritten few cut is) (faulty raw w also) = absurd (text.never_both (tokens_in bytes) raw d w.file is)
+one_refusal bytes ports d e (faulty raw w is) (long n also) = absurd (too_many bytes n w.few)
+one_refusal bytes ports d e (faulty raw w is) (uncut few also) = absurd (cut_or_not (refusal_in bytes) e w.cut also)
+one_refusal bytes ports d e (faulty raw w is) (unwritten few cut also) = absurd (text.never_both (tokens_in bytes) raw e w.file also)
+one_refusal bytes ports d e (faulty raw w is) (faulty raw' w' also) =
+    one_error (fault_in ports raw) d e is (ap (fault_in ports) (written_once bytes raw raw' w w') ∙ also)
 
 of_raw : (bytes : List ℕ) (ports : List Port) (raw : RawPatterns) → IsWritten bytes raw → (o : Option ReadError) → fault_in ports raw ≡ o → ((p : Patterns) × IsPatternText bytes ports p) ⊎ ((e : ReadError) × Refused bytes ports e)
 of_raw bytes ports raw w None h = inl (patterns_for raw, record { raw = raw; written = w; faultless = h; is = refl })
@@ -65,7 +66,7 @@ of_cut bytes ports few None h = elim (text.each_file (tokens_in bytes)) [
     ]
 
 pub each_text : EachText
-each_text bytes ports = by-cases (nat_le (length bytes) most_bytes) refl where
-  by-cases : (b : Bool) → nat_le (length bytes) most_bytes ≡ b → ((p : Patterns) × IsPatternText bytes ports p) ⊎ ((e : ReadError) × Refused bytes ports e)
-  by-cases true h = of_cut bytes ports (omega h) (refusal_in bytes) refl
-  by-cases false h = inr (error.Limit (record { which = File; reached = 1048577 }), long (omega h) refl)
+each_text bytes ports = elim (leb_tells (length bytes) most_bytes) [
+    | inl few ↦ of_cut bytes ports few.1 (refusal_in bytes) refl
+    | inr more ↦ inr (error.Limit (record { which = File; reached = 1048577 }), long more.1 refl)
+    ]
