@@ -9,7 +9,7 @@ use Rattle.grammar_theory.specs.declared.refusal.Refusal.{Refusal}
 use Rattle.grammar_theory.specs.Marks.{Item, State, step, run, go_on}
 use Rattle.grammar_theory.specs.Grammar.{Grammar, Begins}
 use Rattle.grammar_theory.specs.Outcome.{At, Outcome, Reader, finish}
-use Rattle.grammar_theory.specs.Answers.{Meets, Accepts, Refuses, Faults, Breaks, Blames, Misses, Ends, Rejects, Answers, AnswersAll, tokens_of}
+use Rattle.grammar_theory.specs.Answers.{Meets, Accepts, StopsAt, Refuses, Faults, Breaks, Blames, Misses, Ends, Rejects, Answers, AnswersAll, tokens_of}
 use Rattle.grammar_theory.specs.Unique.{OneAnswer, OneAnswerToAll}
 use Rattle.grammar_theory.proofs.Sets.{Set}
 use Rattle.grammar_theory.proofs.Exact.{Shape}
@@ -72,15 +72,8 @@ abbrev Bars : {A : Type 0} → Grammar A → State → Reason → List Item → 
 Bars {A} G state reason.Syntax front rest = (w : List Item) (v : A) → G (front ++ w) v → Meets w rest → ⊥
 Bars G state (reason.Breach b) front rest = Breaks G state b front rest
 
-record Stops {A : Type 0} (G : Grammar A) (here : At) (refused : Refusal) : Type 0 where
-  pub front : List Item
-  pub rest : List PlacedToken
-  pub state : State
-  pub parts : here.rest ≡ tokens_of front ++ rest
-  pub place : refused.left ≡ length rest
-  pub viable : Begins G front
-  pub clean : run front here.state ≡ Ok state
-  pub bars : Bars G state refused.reason front rest
+abbrev Stops : {A : Type 0} → Grammar A → At → Refusal → Type 0
+Stops G here refused = StopsAt G (Bars G) here refused
 
 blame_bars : {A : Type 0} (G : Grammar A) (s : State) (front : List Item) (rest : List PlacedToken) (which : Reason) → Blames G s which front rest → Bars G s which front rest
 blame_bars G s front rest reason.Syntax f = f.dead
@@ -91,10 +84,10 @@ end_bars G s front rest reason.Syntax f = f.dead
 end_bars G s front rest (reason.Breach b) f = f
 
 abbrev refuses_stops : {A : Type 0} (G : Grammar A) (here : At) (r : Refusal) → Refuses G here r → Stops G here r
-refuses_stops G here r a = record { front = a.front; rest = a.rest; state = a.state; parts = a.parts; place = a.place; viable = a.viable; clean = a.clean; bars = blame_bars G a.state a.front a.rest r.reason a.blame }
+refuses_stops G here r a = record { front = a.front; rest = a.rest; state = a.state; parts = a.parts; place = a.place; viable = a.viable; clean = a.clean; blame = blame_bars G a.state a.front a.rest r.reason a.blame }
 
 abbrev rejects_stops : {A : Type 0} (G : Grammar A) (here : At) (r : Refusal) → Rejects G here r → Stops G here r
-rejects_stops G here r a = record { front = a.front; rest = a.rest; state = a.state; parts = a.parts; place = a.place; viable = a.viable; clean = a.clean; bars = end_bars G a.state a.front a.rest r.reason a.blame }
+rejects_stops G here r a = record { front = a.front; rest = a.rest; state = a.state; parts = a.parts; place = a.place; viable = a.viable; clean = a.clean; blame = end_bars G a.state a.front a.rest r.reason a.blame }
 
 -- ---- with the shape of a grammar
 
@@ -163,9 +156,9 @@ same_reason G null f l sh state front rest (reason.Breach c) (reason.Breach d) a
 one_stop : {A : Type 0} (G : Grammar A) (null : Bool) (f l : Set) → Shape G null f l → (here : At) (d e : Refusal) → Stops G here d → Stops G here e → d ≡ e
 one_stop {A} G null f l sh here d e a b = elim (part a.front a.rest b.front b.rest (sym a.parts ∙ b.parts)) [
   | inl same ↦ level same.0 same.1
-  | inr (inl longer) ↦ absurd (no_farther G null f l sh here.state a.front a.viable.0 a.viable.1 a.state a.viable.2 a.clean b.front b.rest b.state e.reason b.clean b.bars
+  | inr (inl longer) ↦ absurd (no_farther G null f l sh here.state a.front a.viable.0 a.viable.1 a.state a.viable.2 a.clean b.front b.rest b.state e.reason b.clean b.blame
       (goes_on G null f l sh a.front b.front a.viable.0 b.viable.0 a.viable.1 b.viable.1 b.rest a.viable.2 b.viable.2 longer))
-  | inr (inr longer) ↦ absurd (no_farther G null f l sh here.state b.front b.viable.0 b.viable.1 b.state b.viable.2 b.clean a.front a.rest a.state d.reason a.clean a.bars
+  | inr (inr longer) ↦ absurd (no_farther G null f l sh here.state b.front b.viable.0 b.viable.1 b.state b.viable.2 b.clean a.front a.rest a.state d.reason a.clean a.blame
       (goes_on G null f l sh b.front a.front b.viable.0 a.viable.0 b.viable.1 a.viable.1 a.rest b.viable.2 a.viable.2 longer))
 ] where
   level : tokens_of a.front ≡ tokens_of b.front → a.rest ≡ b.rest → d ≡ e
@@ -175,8 +168,8 @@ one_stop {A} G null f l sh here d e a b = elim (part a.front a.rest b.front b.re
       let bars : Bars G b.state d.reason b.front b.rest =
       subst (λ (z : State). Bars G z d.reason b.front b.rest) states
       (subst (λ (z : List Item). Bars G a.state d.reason z b.rest) same
-      (subst (λ (z : List PlacedToken). Bars G a.state d.reason a.front z) rest a.bars)) in
-      refusal_is d e (same_reason G null f l sh b.state b.front b.rest d.reason e.reason bars b.bars) (a.place ∙ ap length rest ∙ sym b.place)
+      (subst (λ (z : List PlacedToken). Bars G a.state d.reason a.front z) rest a.blame)) in
+      refusal_is d e (same_reason G null f l sh b.state b.front b.rest d.reason e.reason bars b.blame) (a.place ∙ ap length rest ∙ sym b.place)
 
 one_value : {A : Type 0} (G : Grammar A) (null : Bool) (f l : Set) → Shape G null f l → (here s t : At) (v u : A) → Accepts G here v s → Accepts G here u t → ◌≡◌ {A = A × At} (v, s) (u, t)
 one_value {A} G null f l sh here s t v u a b = elim (part a.front s.rest b.front t.rest (sym a.parts ∙ b.parts)) [
@@ -202,7 +195,7 @@ never_beyond G null f l sh here there v r a b level =
     let whole = at_end G a.front v a.sentence in
     elim (part a.front there.rest b.front b.rest (sym a.parts ∙ b.parts)) [
       | inl same ↦ level (agree G null f l sh a.front b.front [] b.viable.0 v b.viable.1 whole b.viable.2 same.0) same.1
-      | inr (inl longer) ↦ no_farther G null f l sh here.state a.front [] v there.state whole a.clean b.front b.rest b.state r.reason b.clean b.bars
+      | inr (inl longer) ↦ no_farther G null f l sh here.state a.front [] v there.state whole a.clean b.front b.rest b.state r.reason b.clean b.blame
           (goes_on G null f l sh a.front b.front [] b.viable.0 v b.viable.1 b.rest whole b.viable.2 longer)
       | inr (inr longer) ↦
           let g = goes_on G null f l sh b.front a.front b.viable.0 [] b.viable.1 v there.rest b.viable.2 whole longer in

@@ -46,8 +46,9 @@ abbrev pub Blames : {A : Type 0} → Grammar A → State → Reason → List Ite
 Blames G state reason.Syntax front rest = Faults G front rest
 Blames G state (reason.Breach b) front rest = Breaks G state b front rest
 
--- What is refused: the first token with which the tokens so far begin no sentence, or which is a breach.
-pub record Refuses {A : Type 0} (G : Grammar A) (here : At) (refused : Refusal) : Type 0 where
+-- A place up to which the tokens begin a sentence without a breach, and from which on so many are left; the next token, or
+-- the end, is to blame for this reason.
+pub record StopsAt {A : Type 0} (G : Grammar A) (blames : State → Reason → List Item → List PlacedToken → Type 0) (here : At) (refused : Refusal) : Type 0 where
   pub front : List Item
   pub rest : List PlacedToken
   pub state : State
@@ -55,7 +56,11 @@ pub record Refuses {A : Type 0} (G : Grammar A) (here : At) (refused : Refusal) 
   pub place : refused.left ≡ length rest
   pub viable : Begins G front
   pub clean : run front here.state ≡ Ok state
-  pub blame : Blames G state refused.reason front rest
+  pub blame : blames state refused.reason front rest
+
+-- What is refused: the first token with which the tokens so far begin no sentence, or which is a breach.
+abbrev pub Refuses : {A : Type 0} → Grammar A → At → Refusal → Type 0
+Refuses G here refused = StopsAt G (Blames G) here refused
 
 abbrev pub Answers : {A : Type 0} → Grammar A → At → Outcome A → Type 0
 Answers G here (Ok (v, there)) = Accepts G here v there
@@ -72,15 +77,9 @@ abbrev pub Ends : {A : Type 0} → Grammar A → State → Reason → List Item 
 Ends G state reason.Syntax front rest = Misses G front rest
 Ends G state (reason.Breach b) front rest = Breaks G state b front rest
 
-pub record Rejects {A : Type 0} (G : Grammar A) (here : At) (refused : Refusal) : Type 0 where
-  pub front : List Item
-  pub rest : List PlacedToken
-  pub state : State
-  pub parts : here.rest ≡ tokens_of front ++ rest
-  pub place : refused.left ≡ length rest
-  pub viable : Begins G front
-  pub clean : run front here.state ≡ Ok state
-  pub blame : Ends G state refused.reason front rest
+-- What is refused of a whole text.
+abbrev pub Rejects : {A : Type 0} → Grammar A → At → Refusal → Type 0
+Rejects G here refused = StopsAt G (Ends G) here refused
 
 -- what is read is a sentence, and nothing is left behind it
 abbrev pub AnswersAll : {A : Type 0} → Grammar A → At → Outcome A → Type 0
