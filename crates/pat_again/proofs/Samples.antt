@@ -18,7 +18,7 @@ use Rattle.pat_meaning.specs.declared.patterns.Value.TheVariants.{Digits, Any}
 use Rattle.pat_meaning.specs.Columns.{listed, FitsColumns}
 use Rattle.pat_meaning.specs.Answers.{IsSupplyColumn, IsOfPorts}
 use Rattle.pat_io.specs.Spelling.{text_of}
-use Rattle.pat_io.specs.Known.{is_supply}
+use Rattle.vlsi_base.specs.Name.{is_supply}
 use Rattle.pat_io.specs.PatternText.{IsPatternText}
 use Rattle.pat_again.specs.WrittenAgain.{IsSmallWord, IsSmallLabel, HasSmallEnds, CanBeSpelled}
 use Rattle.pat_again.proofs.Again.{written_is_read_again}

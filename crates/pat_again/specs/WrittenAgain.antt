@@ -7,7 +7,7 @@ use Rattle.pat_meaning.specs.declared.patterns.BitRange.{BitRange}
 use Rattle.pat_meaning.specs.declared.patterns.Patterns.{Patterns}
 use Rattle.pat_meaning.specs.Answers.{AreFor}
 use Rattle.pat_io.specs.Spelling.{text_of}
-use Rattle.pat_io.specs.Known.{is_supply}
+use Rattle.vlsi_base.specs.Name.{is_supply}
 use Rattle.pat_io.specs.Fitting.{time_faults}
 use Rattle.pat_io.specs.PatternText.{most_bytes, IsPatternText}
 use Rattle.pat_io.specs.ReadAgain.{written}

@@ -7,7 +7,7 @@ use Rattle.std.proofs.Math.Seq.{take-append_seam, drop-append_seam}
 use Rattle.pat_meaning.specs.declared.patterns.Format.{Format}
 use Rattle.pat_meaning.specs.declared.patterns.Format.TheVariants.{Binary, Octal, Hexadecimal}
 use Rattle.pat_io.specs.Spelling.{bits_of, number_from, digit_of, digits_text, bits_text}
-use Rattle.pat_io.specs.Digits.{range_width, number_bits, digit_value, digits_bits, unused}
+use Rattle.pat_io.specs.Digits.{column_width, number_bits, digit_value, digits_bits, unused}
 use Rattle.pat_io.specs.ReadAgain.{DigitsReadAgain}
 
 -- the bits that the first digit spells, behind zeros
@@ -135,12 +135,12 @@ digits_read_again c bits width =
     let spelling : digits_bits c.format digits ≡ padded (k * n - length bits) bits = spelled c.format n bits count.most count.least in
     let pad = k * n - length bits in
     let size : length (digits_bits c.format digits) ≡ pad + length bits = ap length spelling ∙ length-append (replicate pad false) bits ∙ ap (λ i. i + length bits) (length-replicate pad false) in
-    let over : unused c digits ≡ length (replicate pad false) = ap (λ i. i - range_width c.range) size ∙ ap (λ i. pad + length bits - i) (sym width) ∙ rest pad (length bits) ∙ sym (length-replicate pad false) in
-    let fitting : nat_eq (length digits) ((range_width c.range + (k - 1)) / k) ≡ true = eq-eqb (length digits) ((range_width c.range + (k - 1)) / k) (how_many k n bits ∙ ap (λ i. (i + (k - 1)) / k) width) in
+    let over : unused c digits ≡ length (replicate pad false) = ap (λ i. i - column_width c.range) size ∙ ap (λ i. pad + length bits - i) (sym width) ∙ rest pad (length bits) ∙ sym (length-replicate pad false) in
+    let fitting : nat_eq (length digits) ((column_width c.range + (k - 1)) / k) ≡ true = eq-eqb (length digits) ((column_width c.range + (k - 1)) / k) (how_many k n bits ∙ ap (λ i. (i + (k - 1)) / k) width) in
     let first : take (unused c digits) (digits_bits c.format digits) ≡ replicate pad false =
     ap (λ i. take i (digits_bits c.format digits)) over ∙ ap (take (length (replicate pad false))) spelling ∙ take-append_seam (replicate pad false) bits in
     let last : drop (unused c digits) (digits_bits c.format digits) ≡ bits =
     ap (λ i. drop i (digits_bits c.format digits)) over ∙ ap (drop (length (replicate pad false))) spelling ∙ drop-append_seam (replicate pad false) bits in
-    (both (nat_eq (length digits) ((range_width c.range + (k - 1)) / k)) (list_all not (take (unused c digits) (digits_bits c.format digits))) fitting (ap (list_all not) first ∙ zeros pad), last) where
+    (both (nat_eq (length digits) ((column_width c.range + (k - 1)) / k)) (list_all not (take (unused c digits) (digits_bits c.format digits))) fitting (ap (list_all not) first ∙ zeros pad), last) where
       rest : (n m : ℕ) → n + m - m ≡ n
       rest n m = omega arith

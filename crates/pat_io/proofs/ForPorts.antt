@@ -26,9 +26,11 @@ use Rattle.pat_text.specs.declared.raw.RawValue.{RawValue}
 use Rattle.pat_text.specs.declared.raw.RawPattern.{RawPattern}
 use Rattle.pat_text.specs.declared.raw.RawPatterns.{RawPatterns}
 use Rattle.pat_io.specs.Spelling.{bits_of}
-use Rattle.pat_io.specs.Known.{is_same_dir, is_supply, is_supply_input, least, unknown_columns}
-use Rattle.pat_io.specs.Digits.{range_width, number_bits, digit_value, digits_bits, unused, column_bits, column_of, value_for, values_for, pattern_for, patterns_for}
-use Rattle.pat_io.specs.Fitting.{if_not, is_port, is_ordered, column_fits, column_faults, value_fits, value_faults, pattern_faults, width_faults, time_faults}
+use Rattle.vlsi_base.specs.Name.{is_supply}
+use Rattle.vlsi_base.specs.Range.{is_ordered, least}
+use Rattle.pat_io.specs.Known.{is_same_dir, is_supply_input, unknown_columns}
+use Rattle.pat_io.specs.Digits.{column_width, number_bits, digit_value, digits_bits, unused, column_bits, column_of, value_for, values_for, pattern_for, patterns_for}
+use Rattle.pat_io.specs.Fitting.{if_not, is_port, column_fits, column_faults, value_fits, value_faults, pattern_faults, width_faults, time_faults}
 use Rattle.pat_io.specs.PatternText.{first_column, first_line, unknown_error, line_error, or_else, fault_in, OrMemory, IsWritten, IsPatternRefusal, faulty}
 use Rattle.pat_io.proofs.Ranges.{and_parts, range_all, range_test, length_names}
 use Rattle.pat_io.proofs.Different.{different}
@@ -127,8 +129,8 @@ fitting_range ports name line d f None h =
     ]
 fitting_range ports name line d f (Some r) h =
     let p : ℕ → Bool = λ k. is_port ports d (record { text = name; bit = Some k }) in
-    let a = and_parts (not (is_supply name)) (is_ordered r && list_all p (rising (least r) (range_width (Some r)))) h in
-    let b = and_parts (is_ordered r) (list_all p (rising (least r) (range_width (Some r)))) a.1 in
+    let a = and_parts (not (is_supply name)) (is_ordered r && list_all p (rising (least r) (column_width (Some r)))) h in
+    let b = and_parts (is_ordered r) (list_all p (rising (least r) (column_width (Some r)))) a.1 in
     inr (range_all (λ n. In (record { name = n; dir = d }) ports) name r (λ j low high. port_in ports d (record { text = name; bit = Some j }) (range_test p r b.1 j low high)))
 
 fitting_columns : (ports : List Port) (cs : List RawColumn) → column_faults ports cs ≡ [] → All (λ c. IsSupplyColumn c ⊎ IsOfPorts ports c) (map column_of cs)
@@ -161,11 +163,11 @@ enough Hexadecimal width count e = omega (arith, e)
 
 fitting_digits : (c : RawColumn) (ds : List ℕ) → value_fits c (Some ds) ≡ true → length (column_bits c ds) ≡ length (column_names (column_of c))
 fitting_digits c ds h =
-    let parts = and_parts (nat_eq (length ds) ((range_width c.range + (bits_of c.format - 1)) / bits_of c.format)) (list_all not (take (unused c ds) (digits_bits c.format ds))) h in
-    let count = eqb-true (length ds) ((range_width c.range + (bits_of c.format - 1)) / bits_of c.format) parts.0 in
-    let more = enough c.format (range_width c.range) (length ds) count in
+    let parts = and_parts (nat_eq (length ds) ((column_width c.range + (bits_of c.format - 1)) / bits_of c.format)) (list_all not (take (unused c ds) (digits_bits c.format ds))) h in
+    let count = eqb-true (length ds) ((column_width c.range + (bits_of c.format - 1)) / bits_of c.format) parts.0 in
+    let more = enough c.format (column_width c.range) (length ds) count in
     let all = length_digits c.format ds in
-    length-drop (unused c ds) (digits_bits c.format ds) ∙ rest (length (digits_bits c.format ds)) (bits_of c.format * length ds) (range_width c.range) all more ∙ sym (length_names c.name c.range) where
+    length-drop (unused c ds) (digits_bits c.format ds) ∙ rest (length (digits_bits c.format ds)) (bits_of c.format * length ds) (column_width c.range) all more ∙ sym (length_names c.name c.range) where
       rest : (n m w : ℕ) → n ≡ m → w ≤ m → n - (n - w) ≡ w
       rest n m w e le = omega arith
 

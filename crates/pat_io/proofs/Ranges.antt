@@ -10,8 +10,9 @@ use Rattle.vlsi_base.specs.declared.raw.Range.{Range}
 use Rattle.machine_core.specs.Order.{In, here, there, AllDifferent}
 use Rattle.pat_meaning.specs.declared.patterns.BitRange.{BitRange}
 use Rattle.pat_meaning.specs.Columns.{rising, falling, range_bits, bits_named, names_of_range}
-use Rattle.pat_io.specs.Known.{least, greatest, overlap}
-use Rattle.pat_io.specs.Digits.{range_width, bit_range}
+use Rattle.vlsi_base.specs.Range.{least, greatest}
+use Rattle.pat_io.specs.Known.{overlap}
+use Rattle.pat_io.specs.Digits.{column_width, bit_range}
 
 pub and_parts : (a b : Bool) → (a && b) ≡ true → (a ≡ true) × (b ≡ true)
 and_parts true true h = (refl, refl)
@@ -78,8 +79,8 @@ rising_test p (suc n) k h j a b =
       | inr first ↦ let e : j ≡ k = omega arith in ap p e ∙ parts.0
     ]
 
-pub range_test : (p : ℕ → Bool) (r : Range) → list_all p (rising (least r) (range_width (Some r))) ≡ true → (j : ℕ) → least r ≤ j → j ≤ greatest r → p j ≡ true
-range_test p r h j a b = rising_test p (range_width (Some r)) (least r) h j a (omega arith)
+pub range_test : (p : ℕ → Bool) (r : Range) → list_all p (rising (least r) (column_width (Some r))) ≡ true → (j : ℕ) → least r ≤ j → j ≤ greatest r → p j ≡ true
+range_test p r h j a b = rising_test p (column_width (Some r)) (least r) h j a (omega arith)
 
 -- ---- how many
 
@@ -95,7 +96,7 @@ length_falling : (n k : ℕ) → length (falling k n) ≡ n
 length_falling zero k = refl
 length_falling (suc n) k = ap suc (length_falling n k)
 
-pub length_names : (text : List ℕ) (r : Option Range) → length (names_of_range text (bit_range r)) ≡ range_width r
+pub length_names : (text : List ℕ) (r : Option Range) → length (names_of_range text (bit_range r)) ≡ column_width r
 length_names text None = refl
 length_names text (Some r) = length_named text (range_bits (record { left = r.left; right = r.right })) ∙ elim (leb_tells r.left r.right) [
   | inl t ↦ let e = up_ends r t.0 t.1 in ap length (up_range r t.0) ∙ length_rising (r.right - r.left + 1) r.left ∙ omega (arith, e.low_is, e.high_is)

@@ -24,9 +24,11 @@ use Rattle.pat_meaning.specs.declared.patterns.Value.TheVariants.{Digits, Any}
 use Rattle.pat_meaning.specs.Columns.{rising, names_of_range, column_names, listed, FitsColumns}
 use Rattle.pat_meaning.specs.Answers.{IsSupplyColumn, IsOfPorts}
 use Rattle.pat_text.specs.declared.raw.RawColumn.{RawColumn}
-use Rattle.pat_io.specs.Known.{is_same_dir, is_supply, is_supply_input, is_of_port, is_known, least, greatest, share_bit, overlap, is_unknown, if_at_fault, unknown_behind, unknown_columns}
-use Rattle.pat_io.specs.Digits.{range_width, bit_range, column_of, value_for, values_for, pattern_for}
-use Rattle.pat_io.specs.Fitting.{if_not, is_port, is_ordered, column_fits, column_faults, value_fits, value_faults, pattern_faults, width_faults}
+use Rattle.vlsi_base.specs.Name.{is_supply}
+use Rattle.vlsi_base.specs.Range.{is_ordered, least, greatest}
+use Rattle.pat_io.specs.Known.{is_same_dir, is_supply_input, is_of_port, is_known, share_bit, overlap, is_unknown, if_at_fault, unknown_behind, unknown_columns}
+use Rattle.pat_io.specs.Digits.{column_width, bit_range, column_of, value_for, values_for, pattern_for}
+use Rattle.pat_io.specs.Fitting.{if_not, is_port, column_fits, column_faults, value_fits, value_faults, pattern_faults, width_faults}
 use Rattle.pat_io.specs.PatternText.{fault_in}
 use Rattle.pat_io.specs.ReadAgain.{written_range, written_column, written_digits, written_values, written_pattern, written, WrittenMeansItself}
 use Rattle.pat_io.proofs.Ranges.{and_parts, all_in, names_in, ends_order, length_names, common}
@@ -145,9 +147,9 @@ column_fitting ports free name line d f (Some r) ordered (inr h) =
     let first = at (least r) (omega arith) (ends_order r) in
     let plain : is_supply name ≡ false = all_in (λ port. is_supply port.name.text ≡ false) ports free (record { name = record { text = name; bit = Some (least r) }; dir = d }) first in
     let ends = ends_order r in
-    both (not (is_supply name)) (is_ordered r && list_all p (rising (least r) (range_width (Some r)))) (not_true (is_supply name) plain)
-    (both (is_ordered r) (list_all p (rising (least r) (range_width (Some r)))) ordered
-    (rising_holds p (range_width (Some r)) (least r) (λ j a b. port_test ports d (record { text = name; bit = Some j }) (at j a (omega (arith, ends))))))
+    both (not (is_supply name)) (is_ordered r && list_all p (rising (least r) (column_width (Some r)))) (not_true (is_supply name) plain)
+    (both (is_ordered r) (list_all p (rising (least r) (column_width (Some r)))) ordered
+    (rising_holds p (column_width (Some r)) (least r) (λ j a b. port_test ports d (record { text = name; bit = Some j }) (at j a (omega (arith, ends))))))
 
 no_line_of : (b : Bool) (line : ℕ) (rest : List ℕ) → b ≡ true → rest ≡ [] → if_not b line ++ rest ≡ []
 no_line_of b line rest h g = rw (h, g) refl
@@ -227,7 +229,7 @@ record ValueAgain (c : RawColumn) (digits : Option (List ℕ)) (v : Value) : Typ
 value_again : (line : ℕ) (c : Column) (v : Value) (cs : List Column) (vs : List Value) → FitsColumns (c ∷ cs) (v ∷ vs) → ValueAgain (written_column line c) (written_digits c v) v
 value_again line c Any cs vs h = record { fits = refl; is = refl }
 value_again line c (Digits bits) cs vs h =
-    let width : length bits ≡ range_width (written_range line c.range) = h.0 ∙ sym (ap (λ (r : Option BitRange). length (names_of_range c.name r)) (range_back line c.range)) ∙ length_names c.name (written_range line c.range) in
+    let width : length bits ≡ column_width (written_range line c.range) = h.0 ∙ sym (ap (λ (r : Option BitRange). length (names_of_range c.name r)) (range_back line c.range)) ∙ length_names c.name (written_range line c.range) in
     let again = digits_read_again (written_column line c) bits width in
     record { fits = again.0; is = ap (λ x. Digits x) again.1 }
 

@@ -13,12 +13,12 @@ use Rattle.pat_text.specs.declared.raw.RawValue.{RawValue}
 use Rattle.pat_text.specs.declared.raw.RawPattern.{RawPattern}
 use Rattle.pat_text.specs.declared.raw.RawPatterns.{RawPatterns}
 use Rattle.pat_io.specs.Spelling.{bits_of}
-use Rattle.pat_io.specs.Known.{least, greatest}
+use Rattle.vlsi_base.specs.Range.{range_span}
 
 -- how many bits a column lists
-abbrev pub range_width : Option Range → ℕ
-range_width None = 1
-range_width (Some r) = greatest r - least r + 1
+abbrev pub column_width : Option Range → ℕ
+column_width None = 1
+column_width (Some r) = range_span r
 
 -- the last k bits of a number, from the left
 abbrev pub number_bits : ℕ → ℕ → List Bool
@@ -35,7 +35,7 @@ digits_bits f (c ∷ cs) = number_bits (bits_of f) (digit_value c) ++ digits_bit
 
 -- how many of them are more than the column has: the first ones
 abbrev pub unused : RawColumn → List ℕ → ℕ
-unused c digits = length (digits_bits c.format digits) - range_width c.range
+unused c digits = length (digits_bits c.format digits) - column_width c.range
 
 abbrev pub column_bits : RawColumn → List ℕ → List Bool
 column_bits c digits = drop (unused c digits) (digits_bits c.format digits)

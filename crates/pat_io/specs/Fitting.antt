@@ -15,8 +15,10 @@ use Rattle.pat_text.specs.declared.raw.RawValue.{RawValue}
 use Rattle.pat_text.specs.declared.raw.RawPattern.{RawPattern}
 use Rattle.pat_text.specs.declared.raw.RawPatterns.{RawPatterns}
 use Rattle.pat_io.specs.Spelling.{bits_of}
-use Rattle.pat_io.specs.Known.{is_same_dir, is_supply, is_supply_input, least}
-use Rattle.pat_io.specs.Digits.{range_width, digits_bits, unused}
+use Rattle.vlsi_base.specs.Name.{is_supply}
+use Rattle.vlsi_base.specs.Range.{is_ordered, least}
+use Rattle.pat_io.specs.Known.{is_same_dir, is_supply_input}
+use Rattle.pat_io.specs.Digits.{column_width, digits_bits, unused}
 
 abbrev pub if_not : Bool → ℕ → List ℕ
 if_not true line = []
@@ -27,10 +29,6 @@ if_not false line = line ∷ []
 abbrev pub is_port : List Port → Dir → Name → Bool
 is_port ports d name = list_any (λ p. is_same_name p.name name && is_same_dir p.dir d) ports
 
--- The bounds of a range stand in the order of its word, or are one.
-abbrev pub is_ordered : Range → Bool
-is_ordered r = if r.falls then nat_le r.right r.left else nat_le r.left r.right
-
 -- A vector is listed with a range of bits that it has; a scalar, vdd and vss without one.
 abbrev pub column_fits : List Port → RawColumn → Bool
 column_fits ports c = by c.range where
@@ -38,7 +36,7 @@ column_fits ports c = by c.range where
   by None = is_supply_input c || is_port ports c.dir (record { text = c.name; bit = None })
   by (Some r) =
       not (is_supply c.name) && (is_ordered r
-      && list_all (λ k. is_port ports c.dir (record { text = c.name; bit = Some k })) (rising (least r) (range_width (Some r))))
+      && list_all (λ k. is_port ports c.dir (record { text = c.name; bit = Some k })) (rising (least r) (column_width (Some r))))
 
 abbrev pub column_faults : List Port → List RawColumn → List ℕ
 column_faults ports [] = []
@@ -50,7 +48,7 @@ column_faults ports (c ∷ cs) = if_not (column_fits ports c) c.line ++ column_f
 abbrev pub value_fits : RawColumn → Option (List ℕ) → Bool
 value_fits c None = true
 value_fits c (Some digits) =
-    nat_eq (length digits) ((range_width c.range + (bits_of c.format - 1)) / bits_of c.format)
+    nat_eq (length digits) ((column_width c.range + (bits_of c.format - 1)) / bits_of c.format)
     && list_all not (take (unused c digits) (digits_bits c.format digits))
 
 abbrev pub value_faults : List RawColumn → List RawValue → List ℕ

@@ -1,10 +1,12 @@
 -- Names that a pattern file may list: which columns are of ports, and which list a bit once more.
-use Rattle.std.specs.Prelude.{ℕ, Bool, true, false, not, ◌&&◌, ◌||◌, nat_le, bytes_eq, List, [], ◌∷◌, ◌++◌, Option, None, Some, codes, if◌then◌else◌}
+use Rattle.std.specs.Prelude.{ℕ, Bool, true, false, not, ◌&&◌, ◌||◌, nat_le, bytes_eq, List, [], ◌∷◌, ◌++◌, Option, None, Some}
 use Rattle.std.specs.List.{list_any}
 use Rattle.vlsi_base.specs.declared.name.Dir.{Dir}
 use Rattle.vlsi_base.specs.declared.name.Dir.TheVariants.{In, Out}
 use Rattle.vlsi_base.specs.declared.name.Port.{Port}
 use Rattle.vlsi_base.specs.declared.raw.Range.{Range}
+use Rattle.vlsi_base.specs.Name.{is_supply}
+use Rattle.vlsi_base.specs.Range.{least, greatest}
 use Rattle.pat_text.specs.declared.raw.RawColumn.{RawColumn}
 
 abbrev pub is_same_dir : Dir → Dir → Bool
@@ -14,9 +16,6 @@ is_same_dir In Out = false
 is_same_dir Out In = false
 
 -- vdd and vss may be listed as inputs, whether or not they are ports
-abbrev pub is_supply : List ℕ → Bool
-is_supply text = bytes_eq text (codes "vdd") || bytes_eq text (codes "vss")
-
 abbrev pub is_supply_input : RawColumn → Bool
 is_supply_input c = is_supply c.name && is_same_dir c.dir In
 
@@ -26,13 +25,6 @@ is_of_port c p = bytes_eq p.name.text c.name && is_same_dir p.dir c.dir
 
 abbrev pub is_known : List Port → RawColumn → Bool
 is_known ports c = is_supply_input c || list_any (is_of_port c) ports
-
--- the least and the greatest bit of a range, whichever its word
-abbrev pub least : Range → ℕ
-least r = if nat_le r.left r.right then r.left else r.right
-
-abbrev pub greatest : Range → ℕ
-greatest r = if nat_le r.left r.right then r.right else r.left
 
 -- two ranges have a bit in common; where there are none both are the one bit of a scalar
 abbrev pub overlap : Option Range → Option Range → Bool

@@ -16,15 +16,15 @@ use Rattle.pat_text.specs.declared.raw.RawValue.{RawValue}
 use Rattle.pat_text.specs.declared.raw.RawPattern.{RawPattern}
 use Rattle.pat_text.specs.declared.raw.RawPatterns.{RawPatterns}
 use Rattle.pat_io.specs.Spelling.{bits_text}
-use Rattle.pat_io.specs.Known.{is_supply}
-use Rattle.pat_io.specs.Digits.{range_width, column_bits, patterns_for}
+use Rattle.vlsi_base.specs.Name.{is_supply}
+use Rattle.pat_io.specs.Digits.{column_width, column_bits, patterns_for}
 use Rattle.pat_io.specs.Fitting.{value_fits, time_faults}
 use Rattle.pat_io.specs.PatternText.{fault_in}
 
 -- The digits that spell as many bits as a column has fit the column, and give it those bits.
 abbrev pub DigitsReadAgain : Type 0
 DigitsReadAgain =
-    (c : RawColumn) (bits : List Bool) → length bits ≡ range_width c.range
+    (c : RawColumn) (bits : List Bool) → length bits ≡ column_width c.range
     → (value_fits c (Some (bits_text c.format bits)) ≡ true) × (column_bits c (bits_text c.format bits) ≡ bits)
 
 -- ---- what is written of patterns, all on this line

@@ -3,23 +3,22 @@ ghost use Rattle.std.specs.Prelude.{◌≡◌, ◌++◌, ◌≤◌, ◌^◌, Som
 ghost use Rattle.std.specs.Option.{option_copied};
 ghost use Rattle.std.specs.List.{list_all};
 ghost use Rattle.pat_io.specs.Spelling.{bits_of};
-ghost use Rattle.pat_io.specs.Digits.{range_width, number_bits, digit_value, digits_bits, unused, column_bits};
+ghost use Rattle.pat_io.specs.Digits.{column_width, number_bits, digit_value, digits_bits, unused, column_bits};
 ghost use Rattle.pat_io.specs.Fitting.{value_fits};
 
-use crate::known::{greatest, least};
 use pat_meaning::Format;
 use pat_text::RawColumn;
 use std::alloc::{AllocError, Global};
 use vlsi_base::{Range, Text};
 
 /// How many bits a column lists.
-pub fn range_width(range: Option<Range>) -> usize
-    ensures width { result ≡ range_width range }
+pub fn column_width(range: Option<Range>) -> usize
+    ensures width { result ≡ column_width range }
     ensures most { result ≤ 2 ^ 32 }
 {
     match range {
         None => 1,
-        Some(range) => (greatest(range) as usize).saturating_sub(least(range) as usize) + 1,
+        Some(range) => range.span() as usize,
     }
 }
 
@@ -96,7 +95,7 @@ fn are_zero(bits: &[bool]) -> bool
 fn digits_fit(alloc: Global, column: &RawColumn, digits: &Text) -> Result<bool, AllocError>
     ensures { IfOk result (λ fits. fits ≡ value_fits column.now (Some digits.now)) }
 {
-    let width = range_width(column.range);
+    let width = column_width(column.range);
     let digits = digits.as_bytes();
     if digits.len() != width.div_ceil(digit_width(column.format)) {
         return Ok(false);
@@ -130,6 +129,6 @@ pub fn column_bits(
     ensures { IfOk result (λ bits. bits.items ≡ column_bits column.now digits.now) }
 {
     let bits = digits_bits(alloc, column.format, digits)?;
-    let unused = bits.len().saturating_sub(range_width(column.range));
+    let unused = bits.len().saturating_sub(column_width(column.range));
     bits[unused..].to_vec(alloc)
 }

@@ -2,19 +2,12 @@
 ghost use Rattle.std.specs.Prelude.{◌≡◌};
 ghost use Rattle.std.specs.List.{list_any};
 ghost use Rattle.std.specs.Option.{option_copied};
-ghost use Rattle.pat_io.specs.Known.{is_supply, is_supply_input, is_known, least, greatest, overlap, share_bit, is_unknown, unknown_behind, unknown_columns};
+ghost use Rattle.pat_io.specs.Known.{is_supply_input, is_known, overlap, share_bit, is_unknown, unknown_behind, unknown_columns};
 ghost use Rattle.pat_io.specs.PatternText.{first_column};
 
 use crate::index::{Index, has_text, is_same_dir};
 use pat_text::RawColumn;
-use vlsi_base::{Dir, Port, Range};
-
-/// Whether a name is that of a supply.
-pub fn is_supply(text: &[u8]) -> bool
-    ensures { result ≡ is_supply text.now }
-{
-    text == b"vdd".as_slice() || text == b"vss".as_slice()
-}
+use vlsi_base::{Dir, Port, Range, is_supply};
 
 /// Whether a column is a supply, listed as an input.
 pub fn is_supply_input(column: &RawColumn) -> bool
@@ -29,34 +22,12 @@ fn is_known<'a>(index: &Index<'a>, ports: &[Port], column: &'a RawColumn) -> boo
     is_supply_input(column) || has_text(index, ports, column)
 }
 
-/// The least bit of a range.
-pub fn least(range: Range) -> u32
-    ensures { result ≡ least range }
-{
-    if range.left <= range.right {
-        range.left
-    } else {
-        range.right
-    }
-}
-
-/// The greatest bit of a range.
-pub fn greatest(range: Range) -> u32
-    ensures { result ≡ greatest range }
-{
-    if range.left <= range.right {
-        range.right
-    } else {
-        range.left
-    }
-}
-
 fn overlap(a: Option<Range>, b: Option<Range>) -> bool
     ensures { result ≡ overlap a b }
 {
     match (a, b) {
         (None, None) => true,
-        (Some(a), Some(b)) => least(a) <= greatest(b) && least(b) <= greatest(a),
+        (Some(a), Some(b)) => a.least() <= b.greatest() && b.least() <= a.greatest(),
         _ => false,
     }
 }

@@ -2,28 +2,18 @@
 ghost use Rattle.std.specs.Prelude.{◌≡◌, ◌≤◌, ◌+◌, ◌^◌, ◌&&◌, not, Some, IfOk};
 ghost use Rattle.std.specs.List.{list_all};
 ghost use Rattle.pat_meaning.specs.Columns.{rising};
-ghost use Rattle.pat_io.specs.Known.{is_supply, least};
-ghost use Rattle.pat_io.specs.Digits.{range_width};
-ghost use Rattle.pat_io.specs.Fitting.{is_port, is_ordered, column_fits, column_faults, value_faults, pattern_faults, width_faults};
+ghost use Rattle.vlsi_base.specs.Name.{is_supply};
+ghost use Rattle.vlsi_base.specs.Range.{is_ordered, least};
+ghost use Rattle.pat_io.specs.Digits.{column_width};
+ghost use Rattle.pat_io.specs.Fitting.{is_port, column_fits, column_faults, value_faults, pattern_faults, width_faults};
 ghost use Rattle.pat_io.specs.PatternText.{first_line};
 
-use crate::bits::{range_width, value_fits};
+use crate::bits::{column_width, value_fits};
 use crate::index::{Index, has_bit};
-use crate::known::{is_supply, is_supply_input, least};
+use crate::known::is_supply_input;
 use pat_text::{RawColumn, RawPattern, RawPatterns, RawValue};
 use std::alloc::{AllocError, Global};
-use vlsi_base::{Dir, Port, Range};
-
-/// Whether the bounds of a range stand in the order of its word.
-fn is_ordered(range: Range) -> bool
-    ensures { result ≡ is_ordered range }
-{
-    if range.falls {
-        range.right <= range.left
-    } else {
-        range.left <= range.right
-    }
-}
+use vlsi_base::{Dir, Port, Range, is_supply};
 
 /// Whether each of so many bits from the first one on is a port bit of the direction.
 fn has_bits<'a>(
@@ -48,17 +38,17 @@ fn has_bits<'a>(
 
 fn range_fits<'a>(index: &Index<'a>, ports: &[Port], column: &'a RawColumn, range: Range) -> bool
     ensures { result ≡ (not (is_supply column.now.name) && (is_ordered range
-        && list_all (λ k. is_port ports.now column.now.dir (record { text = column.now.name; bit = Some k })) (rising (least range) (range_width (Some range))))) }
+        && list_all (λ k. is_port ports.now column.now.dir (record { text = column.now.name; bit = Some k })) (rising (least range) (column_width (Some range))))) }
 {
     let text = column.name.as_bytes();
     if is_supply(text) {
         return false;
     }
-    if !is_ordered(range) {
+    if !range.is_ordered() {
         return false;
     }
-    let count = range_width(Some(range));
-    has_bits(index, ports, text, least(range), count, column.dir)
+    let count = column_width(Some(range));
+    has_bits(index, ports, text, range.least(), count, column.dir)
 }
 
 /// Whether a vector is listed with a range of bits that it has, and a scalar or a supply without one.

@@ -6,11 +6,12 @@ use Rattle.std.proofs.lemmas.Bool.Decides.{nat_tests}
 use Rattle.vlsi_base.specs.declared.name.Name.{Name}
 use Rattle.vlsi_base.specs.declared.raw.Range.{Range}
 use Rattle.machine_meaning.specs.Named.{is_same_name}
-use Rattle.source_checks.specs.Symbols.{rising, falling, range_bits, bit_name, names_in}
+use Rattle.vlsi_base.specs.Range.{rising, falling, range_bits}
+use Rattle.source_checks.specs.Symbols.{bit_name, names_in}
 use Rattle.source_checks.specs.Formula.{place}
 use Rattle.source_bits.specs.declared.ranges.Declared.{Declared}
 use Rattle.source_bits.specs.Numbering.{named_bit, IsOffset, LiesWithin}
-use Rattle.source_checks.proofs.Ranges.{length_of_range}
+use Rattle.vlsi_base.proofs.Ranges.{length_of_range}
 use Rattle.std.proofs.lemmas.List.{length-map}
 
 pub coded : (text : List ℕ) (ks : List ℕ) → map (named_bit text) (map (λ (k : ℕ). Some k) ks) ≡ map (bit_name text) ks

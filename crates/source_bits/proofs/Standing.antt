@@ -10,7 +10,8 @@ use Rattle.vlsi_base.specs.declared.raw.Range.{Range}
 use Rattle.machine_meaning.specs.Named.{is_same_text, is_same_name, is_same_bit}
 use Rattle.machine_core.specs.Order.{In, here, there, AllDifferent}
 use Rattle.source_checks.specs.declared.table.Symbol.{Symbol}
-use Rattle.source_checks.specs.Symbols.{symbol_names, all_names, bit_name, names_in, range_bits}
+use Rattle.vlsi_base.specs.Range.{range_bits}
+use Rattle.source_checks.specs.Symbols.{symbol_names, all_names, bit_name, names_in}
 use Rattle.source_checks.specs.Formula.{place}
 use Rattle.source_checks.specs.Known.{position_of}
 use Rattle.source_checks.proofs.Lookups.{same_of, itself}

@@ -1,7 +1,8 @@
 // The bits of one name.
 ghost use Rattle.std.specs.Prelude.{◌≡◌, ◌+◌, ◌<◌, ◌≤◌, ◌^◌, ℕ, List, [], length, map, Some, IfOk};
 ghost use Rattle.std.specs.List.{slice_get};
-ghost use Rattle.source_checks.specs.Symbols.{rising, falling, range_bits, names_in};
+ghost use Rattle.vlsi_base.specs.Range.{rising, falling};
+ghost use Rattle.source_checks.specs.Symbols.{names_in};
 ghost use Rattle.source_bits.specs.Numbering.{named_bit, IsOffset, number_in, LiesWithin};
 
 use std::alloc::{AllocError, Global};
@@ -14,26 +15,12 @@ pub(crate) struct Declared {
     pub range: Option<Range>,
 }
 
-/// How many bits a range has: none where its bounds don't stand in the order of its word.
-#[tactic(auto, using(source_checks::proofs::Ranges::length_of_range))]
-fn range_width(range: Range) -> u64
-    ensures { result ≡ length (range_bits range) }
-{
-    let left = u64::from(range.left);
-    let right = u64::from(range.right);
-    if range.falls {
-        (left + 1).saturating_sub(right)
-    } else {
-        (right + 1).saturating_sub(left)
-    }
-}
-
 /// How many bits a name has.
 pub(crate) fn width(range: Option<Range>) -> u64
     ensures { (text : List ℕ) → result ≡ length (names_in text range) }
 {
     match range {
-        Some(range) => range_width(range),
+        Some(range) => range.width(),
         None => 1,
     }
 }
@@ -69,13 +56,13 @@ fn rising(alloc: Global, first: u32, count: u64) -> Result<Vec<Option<u32>>, All
 }
 
 /// The bits of a name, from the left: `None` for a name without bits.
-#[tactic(auto, using(source_checks::proofs::Ranges::length_of_range))]
+#[tactic(auto, using(vlsi_base::proofs::Ranges::length_of_range))]
 pub(crate) fn bits_in(alloc: Global, range: Option<Range>) -> Result<Vec<Option<u32>>, AllocError>
     ensures { IfOk result (λ bits. (text : List ℕ) → map (named_bit text) bits.items ≡ names_in text range) }
 {
     match range {
         Some(range) => {
-            let count = range_width(range);
+            let count = range.width();
             if range.falls {
                 let bits = falling(alloc, range.right, count)?;
                 Ok(bits)

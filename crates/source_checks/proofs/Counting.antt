@@ -1,6 +1,6 @@
 -- Codes of bits, one behind another.
 use Rattle.std.proofs.Common.{◌≡◌, ℕ, zero, suc, ◌+◌, ◌-◌, ◌<◌, List, [], ◌∷◌, ◌++◌, map, ap, ◌∙◌, append_assoc, arith}
-use Rattle.source_checks.specs.Symbols.{rising, falling}
+use Rattle.vlsi_base.specs.Range.{rising, falling}
 
 abbrev coded : List ℕ → List ℕ
 coded ks = map (λ k. k + 1) ks

@@ -10,7 +10,8 @@ use Rattle.source_checks.specs.declared.statement.Selection.TheVariants as selec
 use Rattle.source_checks.specs.declared.statement.Target.{Target}
 use Rattle.source_checks.specs.declared.table.Symbol.{Symbol}
 use Rattle.source_checks.specs.declared.drivers.NameFault.{NameFault}
-use Rattle.source_checks.specs.Symbols.{find, names_in, bit_name, range_bits}
+use Rattle.vlsi_base.specs.Range.{range_bits}
+use Rattle.source_checks.specs.Symbols.{find, names_in, bit_name}
 use Rattle.source_checks.specs.Formula.{names_of_found}
 use Rattle.source_checks.specs.Drivers.{Driver, is_among, needs_driver, counted_names, target_names, driver_at, least, fault_at, first_second_driver, all_driven}
 use Rattle.source_checks.specs.Known.{position_of}

@@ -4,7 +4,6 @@ pub mod Knowing
 pub mod Unknowns
 pub mod Turns
 pub mod FirstLines
-pub mod Ranges
 pub mod Measures
 pub mod Marking
 pub mod Least

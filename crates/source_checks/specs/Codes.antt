@@ -6,7 +6,7 @@ use Rattle.vlsi_base.specs.declared.raw.Range.{Range}
 use Rattle.source_checks.specs.declared.statement.Selection.{Selection}
 use Rattle.source_checks.specs.declared.statement.Selection.TheVariants as selection
 use Rattle.source_checks.specs.declared.table.Symbol.{Symbol}
-use Rattle.source_checks.specs.Symbols.{range_bits}
+use Rattle.vlsi_base.specs.Range.{range_bits}
 use Rattle.source_checks.specs.Drivers.{is_among}
 use Rattle.source_checks.specs.Known.{position_of}
 use Rattle.source_checks.specs.Marks.{has}

@@ -1,7 +1,8 @@
 -- What a data-flow text declares: its ports and signals, in file order.
-use Rattle.std.specs.Prelude.{ℕ, zero, suc, ◌+◌, ◌-◌, Bool, true, false, ◌&&◌, ◌||◌, nat_le, bytes_eq, List, [], ◌∷◌, ◌++◌, map, Option, None, Some, codes, if◌then◌else◌}
+use Rattle.std.specs.Prelude.{ℕ, Bool, true, false, ◌&&◌, nat_le, bytes_eq, List, [], ◌∷◌, ◌++◌, map, Option, None, Some, if◌then◌else◌}
 use Rattle.vlsi_base.specs.declared.name.Name.{Name}
 use Rattle.vlsi_base.specs.declared.raw.Range.{Range}
+use Rattle.vlsi_base.specs.Range.{range_bits}
 use Rattle.vlsi_base.specs.declared.entity.NewName.{NewName}
 use Rattle.vlsi_base.specs.declared.entity.Mode.{Mode}
 use Rattle.vlsi_base.specs.declared.entity.Mode.TheVariants as mode
@@ -45,27 +46,6 @@ symbols raw = port_symbols raw.entity.ports ++ signal_symbols raw.declarations.s
 abbrev pub find : List Symbol → List ℕ → Option Symbol
 find [] text = None
 find (s ∷ rest) text = if bytes_eq s.text text then Some s else find rest text
-
-abbrev pub is_supply : List ℕ → Bool
-is_supply text = bytes_eq text (codes "vdd") || bytes_eq text (codes "vss")
-
--- n numbers that rise from k
-abbrev pub rising : ℕ → ℕ → List ℕ
-rising k zero = []
-rising k (suc n) = k ∷ rising (k + 1) n
-
--- n numbers that fall to k
-abbrev pub falling : ℕ → ℕ → List ℕ
-falling k zero = []
-falling k (suc n) = (k + n) ∷ falling k n
-
--- the bounds of a range stand in the order of its word: `downto` falls or stays, `to` rises or stays
-abbrev pub is_ordered : Range → Bool
-is_ordered r = if r.falls then nat_le r.right r.left else nat_le r.left r.right
-
--- the numbers of the bits of a range, from the left; none where its bounds don't stand in the order of its word
-abbrev pub range_bits : Range → List ℕ
-range_bits r = if r.falls then falling r.right (r.left + 1 - r.right) else rising r.left (r.right + 1 - r.left)
 
 -- the bounds of a range of a declaration hold this number
 abbrev pub has_bit : Range → ℕ → Bool

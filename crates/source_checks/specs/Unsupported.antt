@@ -12,7 +12,8 @@ use Rattle.source_checks.specs.declared.statement.Assignment.{Assignment}
 use Rattle.source_checks.specs.declared.statement.Statement.{Statement}
 use Rattle.source_checks.specs.declared.statement.Statement.TheVariants as statement
 use Rattle.source_checks.specs.declared.statement.RawMachine.{RawMachine}
-use Rattle.source_checks.specs.Symbols.{symbols, find, is_supply}
+use Rattle.vlsi_base.specs.Name.{is_supply}
+use Rattle.source_checks.specs.Symbols.{symbols, find}
 use Rattle.source_checks.specs.declared.table.Symbol.{Symbol}
 use Rattle.source_checks.specs.Formula.{digit_width}
 use Rattle.source_checks.specs.Places.{in_choice, in_assignments, in_statements}

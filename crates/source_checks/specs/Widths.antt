@@ -14,18 +14,20 @@ use Rattle.source_checks.specs.declared.statement.Assignment.{Assignment}
 use Rattle.source_checks.specs.declared.statement.Statement.{Statement}
 use Rattle.source_checks.specs.declared.statement.Statement.TheVariants as statement
 use Rattle.source_checks.specs.declared.statement.RawMachine.{RawMachine}
-use Rattle.source_checks.specs.Symbols.{symbols, find, is_ordered, range_bits, has_bit}
+use Rattle.vlsi_base.specs.Range.{is_ordered, range_width}
+use Rattle.source_checks.specs.Symbols.{symbols, find, has_bit}
 use Rattle.source_checks.specs.declared.table.Symbol.{Symbol}
 use Rattle.source_checks.specs.Formula.{digit_width}
 use Rattle.source_checks.specs.Places.{in_choice, in_assignments, in_statements}
 
-abbrev pub range_width : Option Range → ℕ
-range_width None = 1
-range_width (Some r) = length (range_bits r)
+-- how many bits a name has that is declared so
+abbrev pub declared_width : Option Range → ℕ
+declared_width None = 1
+declared_width (Some r) = range_width r
 
 abbrev pub found_width : Option Symbol → ℕ
 found_width None = 0
-found_width (Some s) = range_width s.range
+found_width (Some s) = declared_width s.range
 
 -- operands of these operators are equally wide, and so is what they give
 abbrev pub needs_equal : Operator → Bool
@@ -44,7 +46,7 @@ joined_width op (Some a) (Some b) = if not (needs_equal op) || nat_eq a b then S
 joined_width op _ _ = None
 
 abbrev pub ordered_width : Range → Option ℕ
-ordered_width r = if is_ordered r then Some (length (range_bits r)) else None
+ordered_width r = if is_ordered r then Some (range_width r) else None
 
 -- how many bits an expression has; none where something in it is at fault, so that one fault makes no other
 abbrev pub width : List Symbol → Tree → Option ℕ

@@ -1,6 +1,6 @@
 // Bits of one name, by numbers: 0 is the name without a bit, and k + 1 its bit k.
 ghost use Rattle.std.specs.Prelude.{◌≡◌, ◌+◌, ◌==◌, ◌<◌, ◌^◌, map, filter, Some, IfOk, if◌then◌else◌};
-ghost use Rattle.source_checks.specs.Symbols.{rising, falling};
+ghost use Rattle.vlsi_base.specs.Range.{rising, falling};
 ghost use Rattle.source_checks.specs.Codes.{codes_in, selected_codes, least_with, least_code, same_bool};
 ghost use Rattle.source_checks.specs.Marks.{has};
 
@@ -40,18 +40,17 @@ fn rising_codes(alloc: Global, first: u32, count: u64) -> Result<Vec<u64>, Alloc
 }
 
 /// The codes of a name's bits, from the left.
-#[tactic(auto, using(crate::proofs::Ranges::length_of_range))]
+#[tactic(auto, using(vlsi_base::proofs::Ranges::length_of_range))]
 pub fn codes_in(alloc: Global, range: Option<Range>) -> Result<Vec<u64>, AllocError>
     ensures { IfOk result (λ codes. codes.items ≡ codes_in range) }
 {
     match range {
         Some(range) => {
-            let left = u64::from(range.left);
-            let right = u64::from(range.right);
+            let count = range.width();
             if range.falls {
-                falling_codes(alloc, range.right, (left + 1).saturating_sub(right))
+                falling_codes(alloc, range.right, count)
             } else {
-                rising_codes(alloc, range.left, (right + 1).saturating_sub(left))
+                rising_codes(alloc, range.left, count)
             }
         }
         None => {

@@ -4,12 +4,13 @@ ghost use Rattle.vlsi_base.specs.Tree.{view, operand_of};
 ghost use Rattle.source_checks.specs.Formula.{digit_width};
 ghost use Rattle.source_checks.specs.Lines.{first_line, in_operands};
 ghost use Rattle.source_checks.specs.Places.{in_alternatives, in_assignments, in_statements};
-ghost use Rattle.source_checks.specs.Symbols.{find, symbols, is_supply};
+ghost use Rattle.vlsi_base.specs.Name.{is_supply};
+ghost use Rattle.source_checks.specs.Symbols.{find, symbols};
 ghost use Rattle.source_checks.specs.Unsupported.{literal_faults, may_drive, assignment_forms, statement_forms, supply_faults, is_resolved, port_form, port_forms, signal_form, signal_forms, all_unsupported};
 
 use crate::table::{Role, Table};
 use crate::{Assignment, Guarded, RawMachine, Statement};
-use vlsi_base::{Mode, NewName, PortGroup, Radix, Raw, SignalGroup, TypeWord};
+use vlsi_base::{Mode, NewName, PortGroup, Radix, Raw, SignalGroup, TypeWord, is_supply};
 
 /// The most bits of a literal.
 const MOST_BITS: usize = 128;
@@ -161,13 +162,6 @@ fn statements_form(table: &Table, statements: &[Statement]) -> Option<u32>
         }
     }
     None
-}
-
-/// Whether a name is one of the two supplies.
-pub fn is_supply(text: &[u8]) -> bool
-    ensures { result ≡ is_supply text.now }
-{
-    text == b"vdd".as_slice() || text == b"vss".as_slice()
 }
 
 /// The line of the first supply among names that aren't of an input of one bit.

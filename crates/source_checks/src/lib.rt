@@ -15,7 +15,7 @@ mod undeclared;
 mod widths;
 
 pub use drivers::{DriverFault, NameFault, driver_fault};
-pub use forms::{is_supply, unsupported};
+pub use forms::unsupported;
 pub use machine_core::Machine;
 pub use sizes::machine_size;
 pub use statement::{

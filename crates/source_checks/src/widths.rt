@@ -4,7 +4,8 @@ ghost use Rattle.vlsi_base.specs.Tree.{view, operand_of};
 ghost use Rattle.source_checks.specs.Formula.{digit_width};
 ghost use Rattle.source_checks.specs.Lines.{first_line};
 ghost use Rattle.source_checks.specs.Measure.{measure_of, joined_measure, folded_measure};
-ghost use Rattle.source_checks.specs.Symbols.{symbols, find, is_ordered, range_bits, has_bit};
+ghost use Rattle.vlsi_base.specs.Range.{is_ordered};
+ghost use Rattle.source_checks.specs.Symbols.{symbols, find, has_bit};
 ghost use Rattle.source_checks.specs.Widths.{found_width, needs_equal, joined_width, ordered_width, differ, index_fits, range_fits, if_not, width_faults, condition_faults, all_wide, target_width, target_faults, assignment_faults, statement_faults, declared_faults, port_faults, signal_faults, all_width_faults};
 ghost use Rattle.source_checks.specs.Places.{in_alternatives, in_choice, in_assignments, in_statements};
 
@@ -21,35 +22,11 @@ pub struct Measure {
     pub fault: Option<u32>,
 }
 
-fn is_ordered(range: Range) -> bool
-    ensures { result ≡ is_ordered range }
-{
-    if range.falls {
-        range.right <= range.left
-    } else {
-        range.left <= range.right
-    }
-}
-
-/// How many bits a range has: none where its bounds don't stand in the order of its word.
-#[tactic(auto, using(crate::proofs::Ranges::length_of_range))]
-pub fn range_width(range: Range) -> u64
-    ensures { result ≡ length (range_bits range) }
-{
-    let left = u64::from(range.left);
-    let right = u64::from(range.right);
-    if range.falls {
-        (left + 1).saturating_sub(right)
-    } else {
-        (right + 1).saturating_sub(left)
-    }
-}
-
 fn ordered_width(range: Range) -> Option<u64>
     ensures { result ≡ ordered_width range }
 {
-    if is_ordered(range) {
-        Some(range_width(range))
+    if range.is_ordered() {
+        Some(range.width())
     } else {
         None
     }
@@ -71,7 +48,7 @@ fn found_width(table: &Table, text: &[u8]) -> u64
 {
     match table.find(text) {
         Some(symbol) => match symbol.range {
-            Some(range) => range_width(range),
+            Some(range) => range.width(),
             None => 1,
         },
         None => 0,
@@ -113,7 +90,7 @@ fn lies_in(declared: Range, range: Range) -> bool
         !declared.falls
     };
     same_word
-        && is_ordered(range)
+        && range.is_ordered()
         && has_bit(declared, range.left)
         && has_bit(declared, range.right)
 }
@@ -430,7 +407,7 @@ fn declared_fault(range: Option<Range>) -> Option<u32>
 {
     match range {
         Some(range) => {
-            if is_ordered(range) {
+            if range.is_ordered() {
                 None
             } else {
                 Some(range.line)

@@ -8,9 +8,9 @@ ghost use Rattle.source_clock.specs.Clocking.{only_text};
 
 use crate::guards::{further, is_clock, parts, steady_name};
 use crate::reads::clock_line;
-use source_checks::{Role, Statement, Symbol, Table, is_supply};
+use source_checks::{Role, Statement, Symbol, Table};
 use std::alloc::{AllocError, Global};
-use vlsi_base::{Raw, Text};
+use vlsi_base::{Raw, Text, is_supply};
 
 /// Whether a name can be a clock: an input of one bit that is no supply.
 fn may_clock(symbol: Option<&Symbol>) -> bool

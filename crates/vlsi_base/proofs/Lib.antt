@@ -1,2 +1,4 @@
 pub mod NumberLemmas
 pub mod Groups
+pub mod Ranges
+pub mod NameOrder

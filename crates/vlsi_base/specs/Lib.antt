@@ -2,3 +2,4 @@ pub mod Name
 pub mod Number
 pub mod Fault
 pub mod Tree
+pub mod Range

@@ -1,5 +1,5 @@
--- The order of names.
-use Rattle.std.specs.Prelude.{ℕ, Option, None, Some}
+-- The order of names, and the names of supplies.
+use Rattle.std.specs.Prelude.{ℕ, Bool, ◌||◌, bytes_eq, List, codes, Option, None, Some}
 use Rattle.std.specs.Ordering.{nat_cmp, ordering_then}
 use Rattle.std.specs.Cmp.Lexicographic.{slice_cmp}
 use Rattle.std.specs.declared.cmp.Ordering.{Ordering}
@@ -16,3 +16,7 @@ bit_cmp (Some a) (Some b) = nat_cmp a b
 -- by the bytes of the text, and for one text by the bit
 abbrev pub name_cmp : Name → Name → Ordering
 name_cmp a b = ordering_then (slice_cmp nat_cmp a.text b.text) (bit_cmp a.bit b.bit)
+
+-- the two supplies are named vdd and vss
+abbrev pub is_supply : List ℕ → Bool
+is_supply text = bytes_eq text (codes "vdd") || bytes_eq text (codes "vss")

@@ -14,7 +14,7 @@ pub use entity::{
     SignalGroup, SignalGroups, SignalType, TypeWord,
 };
 pub use fault::{FaultKind, InputFault, Limit, LimitKind, ReadError};
-pub use name::{Dir, Name, Names, Port, Ports, Terminal};
+pub use name::{Dir, Name, Names, Port, Ports, Terminal, is_supply};
 pub use number::{push_u64, read_u64};
 pub use pragma::{Pragma, Pragmas};
 pub use raw::{Operator, Radix, Range, Raw};

@@ -1,6 +1,6 @@
 // Names of signals, perhaps with a bit, their order, and what is named by them.
 ghost use Rattle.std.specs.Prelude.{◌≡◌, ◌++◌, ◌∷◌, [], IfOk, IsTrue, ◌↔◌, OnOk, OnErr};
-ghost use Rattle.vlsi_base.specs.Name.{name_cmp};
+ghost use Rattle.vlsi_base.specs.Name.{name_cmp, is_supply};
 
 use crate::Text;
 use std::alloc::{AllocError, Global};
@@ -47,6 +47,13 @@ impl Name {
             .compare(&other.text)
             .then(self.bit.cmp(&other.bit))
     }
+}
+
+/// Whether a name is that of one of the two supplies, vdd and vss.
+pub fn is_supply(text: &[u8]) -> bool
+    ensures { result ≡ is_supply text.now }
+{
+    text == b"vdd".as_slice() || text == b"vss".as_slice()
 }
 
 /// Names in their order.

@@ -1,4 +1,7 @@
 // Expressions as they are written.
+ghost use Rattle.std.specs.Prelude.{◌≡◌, ◌≤◌, ◌^◌};
+ghost use Rattle.vlsi_base.specs.Range.{is_ordered, range_width, least, greatest, range_span};
+
 use crate::Text;
 
 /// The operators that stand between two operands.
@@ -34,6 +37,63 @@ pub struct Range {
     pub falls: bool,
     pub right: u32,
     pub line: u32,
+}
+
+impl Range {
+    /// Whether the bounds stand in the order of the word: `downto` falls or stays, `to` rises or stays.
+    pub fn is_ordered(self) -> bool
+        ensures { result ≡ is_ordered self }
+    {
+        if self.falls {
+            self.right <= self.left
+        } else {
+            self.left <= self.right
+        }
+    }
+
+    /// How many bits the range has: none where its bounds don't stand in the order of its word.
+    #[tactic(auto, using(crate::proofs::Ranges::length_of_range))]
+    pub fn width(self) -> u64
+        ensures { result ≡ range_width self }
+    {
+        let left = u64::from(self.left);
+        let right = u64::from(self.right);
+        if self.falls {
+            (left + 1).saturating_sub(right)
+        } else {
+            (right + 1).saturating_sub(left)
+        }
+    }
+
+    /// The number of the lesser bound, whichever the word.
+    pub fn least(self) -> u32
+        ensures { result ≡ least self }
+    {
+        if self.left <= self.right {
+            self.left
+        } else {
+            self.right
+        }
+    }
+
+    /// The number of the greater bound, whichever the word.
+    pub fn greatest(self) -> u32
+        ensures { result ≡ greatest self }
+    {
+        if self.left <= self.right {
+            self.right
+        } else {
+            self.left
+        }
+    }
+
+    /// How many bits there are from one bound to the other, both counted, whichever the word.
+    pub fn span(self) -> u64
+        ensures span { result ≡ range_span self }
+        ensures most { result ≤ 2 ^ 32 }
+    {
+        u64::from(self.greatest()).saturating_sub(u64::from(self.least())) + 1
+    }
 }
 
 /// An expression as it is written. Lines are counted from 1: that of a name, of a literal, of an operator's token.

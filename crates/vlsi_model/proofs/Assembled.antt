@@ -18,7 +18,8 @@ use Rattle.source_checks.specs.declared.statement.RawMachine.{RawMachine}
 use Rattle.source_checks.specs.declared.table.Role.{Role}
 use Rattle.source_checks.specs.declared.table.Role.TheVariants as role
 use Rattle.source_checks.specs.declared.table.Symbol.{Symbol}
-use Rattle.source_checks.specs.Symbols.{symbols, is_supply, scalar, symbol_names, all_names, names_in}
+use Rattle.vlsi_base.specs.Name.{is_supply}
+use Rattle.source_checks.specs.Symbols.{symbols, scalar, symbol_names, all_names, names_in}
 use Rattle.vlsi_base.specs.declared.raw.Range.{Range}
 use Rattle.source_checks.specs.Formula.{Formula, formula_names, place}
 use Rattle.source_checks.specs.Drivers.{needs_driver}

@@ -18,7 +18,8 @@ use Rattle.source_checks.specs.declared.statement.RawMachine.{RawMachine}
 use Rattle.source_checks.specs.declared.table.Role.{Role}
 use Rattle.source_checks.specs.declared.table.Role.TheVariants as role
 use Rattle.source_checks.specs.declared.table.Symbol.{Symbol}
-use Rattle.source_checks.specs.Symbols.{symbols, is_supply, scalar}
+use Rattle.vlsi_base.specs.Name.{is_supply}
+use Rattle.source_checks.specs.Symbols.{symbols, scalar}
 use Rattle.source_checks.specs.Formula.{numbered}
 use Rattle.source_checks.specs.Drivers.{needs_driver}
 use Rattle.source_checks.specs.Clock.{clock_text}

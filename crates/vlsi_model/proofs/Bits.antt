@@ -8,7 +8,8 @@ use Rattle.vlsi_base.specs.declared.raw.Range.{Range}
 use Rattle.machine_core.specs.Order.{In, here, there, AllDifferent}
 use Rattle.machine_core.proofs.Values.{In-split, In-left, In-right, In-map}
 use Rattle.source_checks.specs.declared.table.Symbol.{Symbol}
-use Rattle.source_checks.specs.Symbols.{find, rising, falling, range_bits, has_bit, names_in, bit_name, symbol_names, all_names}
+use Rattle.vlsi_base.specs.Range.{rising, falling, range_bits}
+use Rattle.source_checks.specs.Symbols.{find, has_bit, names_in, bit_name, symbol_names, all_names}
 use Rattle.source_checks.specs.Checks.{first_repeated}
 use Rattle.source_checks.proofs.Lookups.{same_of, itself}
 use Rattle.vlsi_model.proofs.Members.{In-map_back, different_append, different_map}

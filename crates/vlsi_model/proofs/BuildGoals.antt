@@ -12,7 +12,8 @@ use Rattle.machine_core.proofs.Values.{In-split}
 use Rattle.machine_meaning.specs.Machine.{names_of}
 use Rattle.source_checks.specs.declared.table.Symbol.{Symbol}
 use Rattle.source_checks.specs.declared.statement.RawMachine.{RawMachine}
-use Rattle.source_checks.specs.Symbols.{symbols, all_names, rising}
+use Rattle.vlsi_base.specs.Range.{rising}
+use Rattle.source_checks.specs.Symbols.{symbols, all_names}
 use Rattle.source_checks.specs.Elaboration.{Storage, definitions, storage, port_bits, clock_name}
 use Rattle.source_bits.specs.declared.driven.DrivenBit.{DrivenBit}
 use Rattle.source_bits.specs.declared.driven.StoredBit.{StoredBit}

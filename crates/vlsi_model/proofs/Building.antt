@@ -12,7 +12,8 @@ use Rattle.bool_expr.specs.Renumbering.{renumbered}
 use Rattle.machine_meaning.specs.Machine.{Machine, Equation, Register, is_input, is_clock, names_of}
 use Rattle.machine_core.specs.Order.{In, here, there}
 use Rattle.source_checks.specs.declared.statement.RawMachine.{RawMachine}
-use Rattle.source_checks.specs.Symbols.{symbols, all_names, rising}
+use Rattle.vlsi_base.specs.Range.{rising}
+use Rattle.source_checks.specs.Symbols.{symbols, all_names}
 use Rattle.source_checks.specs.Formula.{Formula, place, numbered}
 use Rattle.source_checks.specs.Clock.{clock_text}
 use Rattle.source_checks.specs.Elaboration.{Definition, Storage, definitions, storage, clock_name, IsMachineOf}

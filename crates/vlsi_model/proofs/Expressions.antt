@@ -8,10 +8,12 @@ use Rattle.vlsi_base.specs.Tree.{Tree, bit, literal, name, index, slice, stable,
 use Rattle.machine_core.specs.Order.{In, here}
 use Rattle.machine_core.proofs.Values.{In-left, In-right, In-map}
 use Rattle.source_checks.specs.declared.table.Symbol.{Symbol}
-use Rattle.source_checks.specs.Symbols.{find, range_bits, has_bit, is_ordered, names_in, bit_name, symbol_names, is_supply}
+use Rattle.vlsi_base.specs.Name.{is_supply}
+use Rattle.vlsi_base.specs.Range.{range_bits, is_ordered}
+use Rattle.source_checks.specs.Symbols.{find, has_bit, names_in, bit_name, symbol_names}
 use Rattle.source_checks.specs.Formula.{names_of_found, fixed, opposite, leaf, formulas, literal_bits}
 use Rattle.source_checks.specs.Places.{Use, reads, first_unknown}
-use Rattle.source_checks.specs.Widths.{width, width_faults, if_not, differ, needs_equal, joined_width, operator_width, found_width, range_width, index_fits, range_fits}
+use Rattle.source_checks.specs.Widths.{width, width_faults, if_not, differ, needs_equal, joined_width, operator_width, found_width, declared_width, index_fits, range_fits}
 use Rattle.source_checks.specs.Clock.{clock_lines}
 use Rattle.source_checks.proofs.Lookups.{itself}
 use Rattle.source_checks.proofs.Names.{find_text}
@@ -53,7 +55,7 @@ pub no_line : (b : Bool) (line : ℕ) → if_not b line ≡ [] → b ≡ true
 no_line true line e = refl
 no_line false line e = absurd cc
 
-pub length-names_in : (text : List ℕ) (range : Option Range) → length (names_in text range) ≡ range_width range
+pub length-names_in : (text : List ℕ) (range : Option Range) → length (names_in text range) ≡ declared_width range
 length-names_in text None = refl
 length-names_in text (Some r) = length-map (range_bits r) (bit_name text)
 

@@ -16,7 +16,8 @@ use Rattle.source_checks.specs.declared.statement.Assignment.{Assignment}
 use Rattle.source_checks.specs.declared.table.Role.{Role}
 use Rattle.source_checks.specs.declared.table.Role.TheVariants as role
 use Rattle.source_checks.specs.declared.table.Symbol.{Symbol}
-use Rattle.source_checks.specs.Symbols.{find, range_bits, names_in, bit_name, symbol_names}
+use Rattle.vlsi_base.specs.Range.{range_bits}
+use Rattle.source_checks.specs.Symbols.{find, names_in, bit_name, symbol_names}
 use Rattle.source_checks.specs.Formula.{Formula, formulas, choice_bits, alternative_bits, chosen, first_bit, names_of_found}
 use Rattle.source_checks.specs.Places.{reads, in_choice, in_alternatives, assignment_uses}
 use Rattle.source_checks.specs.Widths.{width, width_faults, condition_faults, if_not, differ, found_width, index_fits, range_fits, all_wide, target_width, target_faults, assignment_faults}

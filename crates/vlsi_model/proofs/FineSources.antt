@@ -24,7 +24,8 @@ use Rattle.source_checks.specs.declared.drivers.NameFault.{NameFault}
 use Rattle.source_checks.specs.declared.table.Role.{Role}
 use Rattle.source_checks.specs.declared.table.Role.TheVariants as role
 use Rattle.source_checks.specs.declared.table.Symbol.{Symbol}
-use Rattle.source_checks.specs.Symbols.{symbols, find, is_supply, symbols_named, port_symbols, signal_symbols, role_of_mode, role_of_word, symbol_names}
+use Rattle.vlsi_base.specs.Name.{is_supply}
+use Rattle.source_checks.specs.Symbols.{symbols, find, symbols_named, port_symbols, signal_symbols, role_of_mode, role_of_word, symbol_names}
 use Rattle.source_checks.specs.Places.{Use, in_statements, statement_uses}
 use Rattle.source_checks.specs.Widths.{if_not, statement_faults, port_faults, signal_faults}
 use Rattle.source_checks.specs.Drivers.{Driver, driver_at, target_names, statement_drivers, drivers, all_driven, is_among, least, fault_at, needs_driver, first_second_driver, first_undriven}

@@ -14,7 +14,8 @@ use Rattle.source_checks.specs.declared.statement.Statement.TheVariants as state
 use Rattle.source_checks.specs.declared.table.Role.{Role}
 use Rattle.source_checks.specs.declared.table.Role.TheVariants as role
 use Rattle.source_checks.specs.declared.table.Symbol.{Symbol}
-use Rattle.source_checks.specs.Symbols.{find, is_supply}
+use Rattle.vlsi_base.specs.Name.{is_supply}
+use Rattle.source_checks.specs.Symbols.{find}
 use Rattle.source_checks.specs.Formula.{Formula, joined, formulas, choice_bits}
 use Rattle.source_checks.specs.Places.{Use, reads, in_assignments, assignment_uses, statement_uses}
 use Rattle.source_checks.specs.Widths.{width_faults, if_not, assignment_faults, statement_faults, needs_equal, differ, width}

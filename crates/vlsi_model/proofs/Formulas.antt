@@ -8,7 +8,7 @@ use Rattle.vlsi_base.specs.declared.raw.Operator.TheVariants as operator
 use Rattle.vlsi_base.specs.declared.raw.Radix.{Radix}
 use Rattle.bool_expr.specs.declared.expr.Gate.TheVariants as gate
 use Rattle.machine_core.specs.Order.{In, here, there}
-use Rattle.source_checks.specs.Symbols.{is_supply}
+use Rattle.vlsi_base.specs.Name.{is_supply}
 use Rattle.source_checks.specs.Formula.{Formula, fixed, named, opposite, joined, chosen, leaf, each_pair, equal_within, equal_bits, unequal_bits, operator_bits, first_bit, low_bits, literal_bits, digit_width, digit_value, choose_bits}
 use Rattle.source_checks.specs.Widths.{needs_equal, operator_width}
 

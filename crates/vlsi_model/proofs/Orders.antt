@@ -9,7 +9,7 @@ use Rattle.bool_expr.specs.Expression.{variables}
 use Rattle.bit_order.specs.Order as order
 use Rattle.machine_core.specs.Order.{In, AllDifferent}
 use Rattle.machine_core.proofs.Values.{In-map}
-use Rattle.source_checks.specs.Symbols.{rising}
+use Rattle.vlsi_base.specs.Range.{rising}
 use Rattle.source_checks.specs.Formula.{formula_names, place, numbered}
 use Rattle.source_checks.specs.Elaboration.{Definition}
 use Rattle.source_checks.specs.Cycles.{Reads, ReadsAlong, IsRing}

@@ -19,7 +19,8 @@ use Rattle.source_checks.specs.declared.statement.RawMachine.{RawMachine}
 use Rattle.source_checks.specs.declared.table.Symbol.{Symbol}
 use Rattle.source_checks.specs.declared.drivers.NameFault.{NameFault}
 use Rattle.source_checks.specs.Places.{Use, in_statements, statement_uses, first_unknown}
-use Rattle.source_checks.specs.Symbols.{symbols, all_names, rising}
+use Rattle.vlsi_base.specs.Range.{rising}
+use Rattle.source_checks.specs.Symbols.{symbols, all_names}
 use Rattle.source_checks.specs.Formula.{place, numbered}
 use Rattle.source_checks.specs.Widths.{all_width_faults}
 use Rattle.source_checks.specs.Drivers.{drivers, all_driven, first_second_driver, first_undriven}

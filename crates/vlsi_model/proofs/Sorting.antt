@@ -3,12 +3,10 @@ use Rattle.std.proofs.Common.{◌≡◌, ◌≢◌, inl, inr, ℕ, zero, suc, �
 use Rattle.std.specs.List.{slice_index_or, AllPairs}
 use Rattle.std.specs.List.Sorted.{IsPermutation, IsSortedBy}
 use Rattle.std.specs.Bool.{Decides}
-use Rattle.std.specs.Cmp.{IsTotalOrder}
 use Rattle.std.specs.Ordering.{nat_cmp, is_lt, is_eq, ordering_then, ordering_reverse}
 use Rattle.std.specs.Cmp.Lexicographic.{slice_cmp}
 use Rattle.std.specs.declared.cmp.Ordering.{Ordering}
 use Rattle.std.specs.declared.cmp.Ordering.TheVariants.{Less, Equal, Greater}
-use Rattle.std.proofs.lemmas.Cmp.{nat_cmp_total, lists_total, on_total, then_total}
 use Rattle.std.proofs.lemmas.List.{length-map}
 use Rattle.std.proofs.lemmas.List.Sorted.{ranks_by, sorted_far, IsPermutation-cons, IsPermutation-middle, IsPermutation-sym, IsPermutation-trans, IsPermutation-refl}
 use Rattle.std.proofs.lemmas.Map.Keys.{IsDistinct-IsPermutation}
@@ -17,6 +15,7 @@ use Rattle.std.proofs.lemmas.Bool.Decides.{nat_tests}
 use Rattle.std.proofs.lemmas.Map.Text.{is_eq-slice_cmp}
 use Rattle.vlsi_base.specs.declared.name.Name.{Name}
 use Rattle.vlsi_base.specs.Name.{name_cmp, bit_cmp}
+use Rattle.vlsi_base.proofs.NameOrder.{name_total}
 use Rattle.machine_meaning.specs.Named.{is_same_name}
 use Rattle.machine_core.specs.Order.{In, here, there, AllDifferent}
 use Rattle.machine_core.specs.Checked.{AreInOrder}
@@ -71,36 +70,6 @@ different_names xs ys p h =
     different_from_pairs ys (AllPairs-from_IsDistinct same_name_decides ys (IsDistinct-IsPermutation is_same_name flips xs ys p (IsDistinct-from_AllPairs same_name_decides xs (pairs_from_different xs h))))
 
 -- the order of names
-
-bit_total : IsTotalOrder bit_cmp
-bit_total = record {
-  antisymm = back;
-  trans = less;
-  congr = alike;
-} where
-  back : (x y : Option ℕ) → bit_cmp x y ≡ ordering_reverse (bit_cmp y x)
-  back None None = refl
-  back None (Some b) = refl
-  back (Some a) None = refl
-  back (Some a) (Some b) = nat_cmp_total.antisymm a b
-
-  less : (x y z : Option ℕ) → bit_cmp x y ≡ Less → bit_cmp y z ≡ Less → bit_cmp x z ≡ Less
-  less None None z p q = absurd cc
-  less None (Some b) None p q = absurd cc
-  less None (Some b) (Some c) p q = refl
-  less (Some a) None z p q = absurd cc
-  less (Some a) (Some b) None p q = absurd cc
-  less (Some a) (Some b) (Some c) p q = nat_cmp_total.trans a b c p q
-
-  alike : (x y z : Option ℕ) → bit_cmp x y ≡ Equal → bit_cmp x z ≡ bit_cmp y z
-  alike None None z p = refl
-  alike None (Some b) z p = absurd cc
-  alike (Some a) None z p = absurd cc
-  alike (Some a) (Some b) None p = refl
-  alike (Some a) (Some b) (Some c) p = nat_cmp_total.congr a b c p
-
-pub name_total : IsTotalOrder name_cmp
-name_total = then_total (on_total (λ (n : Name). n.text) (lists_total nat_cmp_total)) (on_total (λ (n : Name). n.bit) bit_total)
 
 bit_equal : (a b : Option ℕ) → bit_cmp a b ≡ Equal → a ≡ b
 bit_equal None None e = refl

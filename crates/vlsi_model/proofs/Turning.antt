@@ -30,7 +30,8 @@ use Rattle.vlsi_model.specs.Laid.{names_defined}
 use Rattle.vlsi_model.specs.Ordered.{IsNodeRing, IsDrivenIn, name_of_node}
 use Rattle.vlsi_model.proofs.Members.{In-map_back}
 use Rattle.vlsi_model.proofs.FineSources.{Facts}
-use Rattle.vlsi_model.proofs.Sorting.{name_total, In-at, place_of_In}
+use Rattle.vlsi_base.proofs.NameOrder.{name_total}
+use Rattle.vlsi_model.proofs.Sorting.{In-at, place_of_In}
 use Rattle.vlsi_model.proofs.Numbering.{place_same}
 use Rattle.vlsi_model.proofs.Naming.{same_default}
 use Rattle.vlsi_model.proofs.Orders.{name_of_at, names_count}

@@ -8,7 +8,8 @@ use Rattle.machine_meaning.specs.Machine.{is_input, is_clock, names_of}
 use Rattle.machine_core.specs.Checked.{AreInOrder}
 use Rattle.machine_core.specs.Order.{In}
 use Rattle.source_checks.specs.declared.statement.RawMachine.{RawMachine}
-use Rattle.source_checks.specs.Symbols.{symbols, rising}
+use Rattle.vlsi_base.specs.Range.{rising}
+use Rattle.source_checks.specs.Symbols.{symbols}
 use Rattle.source_checks.specs.Formula.{fixed, formula_names}
 use Rattle.source_checks.specs.Elaboration.{Definition, Storage, definitions, storage, port_bits, clock_name}
 

@@ -10,9 +10,9 @@ ghost use Rattle.vlsi_model.specs.Numbered.{input_names};
 ghost use Rattle.vlsi_model.specs.PortNames.{port_of_role, port_named};
 
 use source_bits::Numbers;
-use source_checks::{Role, Table, is_supply};
+use source_checks::{Role, Table};
 use std::alloc::{AllocError, Global};
-use vlsi_base::{Dir, Name, Port};
+use vlsi_base::{Dir, Name, Port, is_supply};
 
 fn port_of_role(role: Role, name: Name) -> Option<Port>
     ensures { result ≡ port_of_role role name }

@@ -1,5 +1,5 @@
 use Rattle.std.proofs.Common.{◌≡◌, ℕ, ◌++◌, ◌≤◌, map, Some}
-use Rattle.source_checks.specs.Symbols.{falling}
+use Rattle.vlsi_base.specs.Range.{falling}
 use Rattle.source_bits.proofs.ranges.falling.Given as goal
 
 abbrev pub invariant-loop-left : goal.invariant-loop-left

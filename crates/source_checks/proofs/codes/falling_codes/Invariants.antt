@@ -1,5 +1,5 @@
 use Rattle.std.proofs.Common.{◌≡◌, ◌+◌, ◌++◌, ◌≤◌, map}
-use Rattle.source_checks.specs.Symbols.{falling}
+use Rattle.vlsi_base.specs.Range.{falling}
 use Rattle.source_checks.proofs.codes.falling_codes.Given as goal
 
 abbrev pub invariant-loop-left : goal.invariant-loop-left

@@ -1,5 +1,5 @@
 use Rattle.std.proofs.Common.{◌≡◌, ◌+◌, ◌++◌, map}
-use Rattle.source_checks.specs.Symbols.{rising}
+use Rattle.vlsi_base.specs.Range.{rising}
 use Rattle.source_checks.proofs.codes.rising_codes.Given as goal
 
 abbrev pub invariant-loop-left : goal.invariant-loop-left

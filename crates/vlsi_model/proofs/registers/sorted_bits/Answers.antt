@@ -3,7 +3,8 @@ use Rattle.std.specs.Ordering.{is_lt}
 use Rattle.std.proofs.lemmas.List.Sorted.{ranks_by, answers_always, IsPermutation-map}
 use Rattle.vlsi_base.specs.Name.{name_cmp}
 use Rattle.vlsi_model.specs.declared.registers.NamedBit.{NamedBit}
-use Rattle.vlsi_model.proofs.Sorting.{name_total, in_order, different_names}
+use Rattle.vlsi_base.proofs.NameOrder.{name_total}
+use Rattle.vlsi_model.proofs.Sorting.{in_order, different_names}
 use Rattle.vlsi_model.proofs.registers.sorted_bits.Goals as goal
 
 pub returns-clause-ordered : goal.returns-clause-ordered

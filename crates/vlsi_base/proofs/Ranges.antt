@@ -1,7 +1,7 @@
 -- How many bits ranges have.
 use Rattle.std.proofs.Common.{◌≡◌, ℕ, zero, suc, ◌+◌, ◌-◌, cond, Bool, true, false, length, refl, arith}
 use Rattle.vlsi_base.specs.declared.raw.Range.{Range}
-use Rattle.source_checks.specs.Symbols.{rising, falling, range_bits}
+use Rattle.vlsi_base.specs.Range.{rising, falling, range_bits}
 
 length_of_rising : (k n : ℕ) → length (rising k n) ≡ n
 length_of_rising k zero = refl
