@@ -61,12 +61,12 @@ of_raw bytes ports raw w (Some e) h = inr (e, faulty raw w h)
 of_cut : (bytes : List ℕ) (ports : List Port) → length bytes ≤ most_bytes → (o : Option ReadError) → refusal_in bytes ≡ o → ((p : Patterns) × IsPatternText bytes ports p) ⊎ ((e : ReadError) × Refused bytes ports e)
 of_cut bytes ports few (Some e) h = inr (e, uncut few h)
 of_cut bytes ports few None h = elim (text.each_file (tokens_in bytes)) [
-    | inl a ↦ let w : IsWritten bytes a.0 = record { few = few; cut = h; file = a.1 } in of_raw bytes ports a.0 w (fault_in ports a.0) refl
-    | inr r ↦ inr (r.0, unwritten few h r.1)
-    ]
+  | inl a ↦ let w : IsWritten bytes a.0 = record { few = few; cut = h; file = a.1 } in of_raw bytes ports a.0 w (fault_in ports a.0) refl
+  | inr r ↦ inr (r.0, unwritten few h r.1)
+]
 
 pub each_text : EachText
 each_text bytes ports = elim (leb_tells (length bytes) most_bytes) [
-    | inl few ↦ of_cut bytes ports few.1 (refusal_in bytes) refl
-    | inr more ↦ inr (error.Limit (record { which = File; reached = 1048577 }), long more.1 refl)
-    ]
+  | inl few ↦ of_cut bytes ports few.1 (refusal_in bytes) refl
+  | inr more ↦ inr (error.Limit (record { which = File; reached = 1048577 }), long more.1 refl)
+]

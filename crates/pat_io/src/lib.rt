@@ -13,6 +13,8 @@ mod times;
 mod widths;
 mod writer;
 
-pub use laws::{digits_read_again, each_text, means_once, never_both, one_refusal, written_means_itself};
+pub use laws::{
+    digits_read_again, each_text, means_once, never_both, one_refusal, written_means_itself,
+};
 pub use reader::read_pat;
 pub use writer::write_pat;

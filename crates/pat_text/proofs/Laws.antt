@@ -28,13 +28,16 @@ nothing_meets w m = no m.next.token m.rest_more m.rest_is where
 
 -- a pattern file is what the grammar asks of a whole text
 answers : (ts : List PlacedToken) (raw : RawPatterns) (f : IsFile ts raw) → AnswersAll file (start ts) (Ok (raw, record { state = f.state; rest = [] }))
-answers ts raw f = (record {
-  front = f.items;
-  parts = f.all ∙ sym (append-nil _);
-  sentence = f.sentence;
-  clean = f.fitting;
-  longest = λ w v h m. nothing_meets w m;
-}, refl)
+answers ts raw f = (
+  record {
+    front = f.items;
+    parts = f.all ∙ sym (append-nil _);
+    sentence = f.sentence;
+    clean = f.fitting;
+    longest = λ w v h m. nothing_meets w m;
+  },
+  refl,
+)
 
 pub one_file : OneFile
 one_file text a b h g = unique.same_value file one (start text.items) _ _ a b (answers text.items a h) (answers text.items b g)
@@ -58,6 +61,6 @@ is_file ts raw there a = record {
 
 pub each_file : EachFile
 each_file text = elim (unique.some_answer file one (start text.items)) [
-    | inl a ↦ inl (a.0, is_file text.items a.0 a.1 a.2)
-    | inr r ↦ inr (syntax_for text r.0.left, record { refusal = r.0; is = refl; right = r.1 })
-    ]
+  | inl a ↦ inl (a.0, is_file text.items a.0 a.1 a.2)
+  | inr r ↦ inr (syntax_for text r.0.left, record { refusal = r.0; is = refl; right = r.1 })
+]

@@ -33,6 +33,6 @@ one_refusal tokens d e h g =
 
 pub each_source : EachSource
 each_source tokens = elim (unique.some_answer vbe one (start tokens.items)) [
-    | inl a ↦ inl (a.0, record { end = a.1; read = a.2 })
-    | inr r ↦ inr (error_of tokens.last_line tokens.items r.0, record { refusal = r.0; right = r.1; is = refl })
-    ]
+  | inl a ↦ inl (a.0, record { end = a.1; read = a.2 })
+  | inr r ↦ inr (error_of tokens.last_line tokens.items r.0, record { refusal = r.0; right = r.1; is = refl })
+]

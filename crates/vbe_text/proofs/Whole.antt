@@ -55,4 +55,3 @@ refused_as tokens r right (errors.Limit l) h = record { refusal = r; right = rig
 pub is_refused : (tokens : Tokens) (here : At) (s : Stop) (e : ReadError) → here ≡ start tokens.items → Fails s (finish (source_at DEPTH here)) → Becomes tokens.last_line tokens.items s e → IsRefusedSource tokens e
 is_refused tokens here stop.Memory e at f h = subst (IsRefusedSource tokens) (sym h) tt
 is_refused tokens here (stop.Refused r) e at f h = refused_as tokens r (subst (λ (a : At). Rejects vbe a r) at (rejected here r f)) e h
-
