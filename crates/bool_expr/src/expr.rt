@@ -63,6 +63,7 @@ impl Bits {
         Bits { items }
     }
 
+    /// The bits, in their order. Takes no memory.
     pub fn as_slice(&self) -> &[bool]
         ensures { result.now ≡ self.now }
     {
@@ -109,6 +110,7 @@ impl Vars {
         Vars { items }
     }
 
+    /// The numbers, in their order. Takes no memory.
     pub fn as_slice(&self) -> &[u32]
         ensures { result.now ≡ self.now }
     {

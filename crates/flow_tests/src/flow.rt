@@ -22,7 +22,7 @@ const ROW: &str = "flow row1.vbe -l lib -o out --tracks";
 // The riser of net 0 in the first run's layout.
 const ROW_RISER: &str = "S 2000,1000,2000,5500,200,i,UP,ALU3\n";
 
-// What goes wrong, and the status that is wanted: the call of the shelf and the put that fail, 0 for none.
+/// What goes wrong, and the status that is wanted: the call of the shelf and the put that fail, 0 for none.
 #[derive(Clone, Copy)]
 pub struct Case {
     pub call: u64,
@@ -30,7 +30,7 @@ pub struct Case {
     pub code: u8,
 }
 
-// Nothing goes wrong.
+/// Nothing goes wrong.
 pub fn ends(code: u8) -> Case {
     Case {
         call: 0,
@@ -39,7 +39,7 @@ pub fn ends(code: u8) -> Case {
     }
 }
 
-// The words of a line, which blanks part.
+/// The words of a line, which blanks part.
 pub fn words(alloc: Global, line: &str) -> Result<Words, AllocError> {
     let mut words = Words::new(Vec::new(alloc));
     for word in line.split_whitespace() {
@@ -56,7 +56,7 @@ fn has_layout(alloc: Global, files: &FileMap, riser: &str) -> Result<bool, Alloc
     has_line(alloc, files, "out.ap", riser)
 }
 
-// The status. It has no contract of its own, so that the tests rest on what is run alone.
+/// The status. It has no contract of its own, so that the tests rest on what is run alone.
 pub fn status(alloc: Global, words: &Words, shelf: &mut MemShelf, out: &mut MemSink) -> u8 {
     alliance_main(alloc, words, shelf, out).code()
 }

@@ -20,6 +20,7 @@ pub enum Breach {
     Spelling,
 }
 
+/// Why a token is refused.
 #[derive(Debug, Drop)]
 pub enum Reason {
     /// With this token the tokens so far begin no sentence.

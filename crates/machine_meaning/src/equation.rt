@@ -48,6 +48,7 @@ impl Equations {
         Equations { items }
     }
 
+    /// The equations, in their order. Takes no memory.
     pub fn as_slice(&self) -> &[Equation]
         ensures { result.now ≡ self.now }
     {
@@ -99,6 +100,7 @@ impl Registers {
         Registers { items }
     }
 
+    /// The registers, in their order. Takes no memory.
     pub fn as_slice(&self) -> &[Register]
         ensures { result.now ≡ self.now }
     {

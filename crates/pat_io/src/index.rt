@@ -47,6 +47,7 @@ impl<'a> Index<'a> {
     }
 }
 
+/// Whether two directions are the same.
 pub fn is_same_dir(a: Dir, b: Dir) -> bool
     ensures { result ≡ is_same_dir a b }
 {

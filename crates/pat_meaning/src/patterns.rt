@@ -30,6 +30,7 @@ pub struct Column {
     pub format: Format,
 }
 
+/// The unit of a time as it is written.
 #[derive(Clone, Copy, Debug, PartialEq, Eq)]
 pub enum TimeUnit {
     Femtosecond,
@@ -77,6 +78,7 @@ impl Values {
         Values { items }
     }
 
+    /// The values, one for each column. Takes no memory.
     pub fn as_slice(&self) -> &[Value]
         ensures { result.now ≡ self.now }
     {
@@ -115,6 +117,7 @@ impl Columns {
         Columns { items }
     }
 
+    /// The columns, in file order. Takes no memory.
     pub fn as_slice(&self) -> &[Column]
         ensures { result.now ≡ self.now }
     {
@@ -145,6 +148,7 @@ impl PatternList {
         PatternList { items }
     }
 
+    /// The patterns, in file order. Takes no memory.
     pub fn as_slice(&self) -> &[Pattern]
         ensures { result.now ≡ self.now }
     {

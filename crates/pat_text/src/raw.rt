@@ -38,6 +38,7 @@ impl RawColumns {
         RawColumns { items }
     }
 
+    /// The columns, in file order. Takes no memory.
     pub fn as_slice(&self) -> &[RawColumn]
         ensures { result.now ≡ self.now }
     {
@@ -83,6 +84,7 @@ impl RawValues {
         RawValues { items }
     }
 
+    /// The values, one for each column. Takes no memory.
     pub fn as_slice(&self) -> &[RawValue]
         ensures { result.now ≡ self.now }
     {
@@ -122,6 +124,7 @@ impl RawPatternList {
         RawPatternList { items }
     }
 
+    /// The patterns, in file order. Takes no memory.
     pub fn as_slice(&self) -> &[RawPattern]
         ensures { result.now ≡ self.now }
     {

@@ -92,6 +92,7 @@ impl Numbers {
         })
     }
 
+    /// The declared names, whose bits have the numbers. Takes no memory.
     pub fn table(&self) -> &Table
         ensures { result.now ≡ self.now }
     {

@@ -15,6 +15,7 @@ use vlsi_base::{Mode, NewName, PortGroup, Radix, Raw, SignalGroup, TypeWord, is_
 /// The most bits of a literal.
 const MOST_BITS: usize = 128;
 
+/// How many bits a digit spells: 1, 3 or 4.
 pub fn digit_width(radix: Radix) -> usize
     ensures { result ≡ digit_width radix }
 {

@@ -5,6 +5,7 @@ ghost use Rattle.source_checks.specs.Lookup.{place_at, Learns};
 use std::alloc::{AllocError, Global};
 use std::collections::BTreeMap;
 
+/// The place of each name in a list of declarations.
 pub type Places = BTreeMap<Vec<u8>, usize>;
 
 /// The place of a text.

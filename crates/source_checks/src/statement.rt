@@ -55,6 +55,7 @@ impl GuardedList {
         GuardedList { items }
     }
 
+    /// The alternatives, in their order. Takes no memory.
     pub fn as_slice(&self) -> &[Guarded]
         ensures { result.now ≡ self.now }
     {
@@ -111,6 +112,7 @@ impl Assignments {
         Assignments { items }
     }
 
+    /// The assignments, in file order. Takes no memory.
     pub fn as_slice(&self) -> &[Assignment]
         ensures { result.now ≡ self.now }
     {
@@ -134,6 +136,7 @@ pub struct RawBlock {
     pub assignments: Assignments,
 }
 
+/// A statement of an architecture.
 #[derive(Debug, Drop)]
 pub enum Statement {
     /// An assertion, which has no effect.
@@ -169,6 +172,7 @@ impl Statements {
         Statements { items }
     }
 
+    /// The statements, in file order. Takes no memory.
     pub fn as_slice(&self) -> &[Statement]
         ensures { result.now ≡ self.now }
     {

@@ -179,6 +179,7 @@ impl Table {
         place_of(&self.places, text)
     }
 
+    /// The declared names, in file order. Takes no memory.
     pub fn as_slice(&self) -> &[Symbol]
         ensures { result.now ≡ self.now }
     {

@@ -30,6 +30,7 @@ pub struct AsimutCommand {
     pub patterns: FileName,
 }
 
+/// What the words of a command ask for.
 #[derive(Debug, Drop)]
 pub enum Command {
     Flow(FlowCommand),

@@ -64,6 +64,7 @@ impl<'a> Cursor<'a> {
         Ok(())
     }
 
+    /// Takes the next token where it is of this form, and else refuses it. Takes no memory.
     #[tactic(auto, unfolding(grammar_theory::specs::Marks::step))]
     pub fn take(&mut self, form: Form) -> Result<&'a PlacedToken, Stop>
         ensures { Gives (λ t. t.now) result (at_of self.new.counts self.new.rest.now) (take_at form (at_of self.old.counts self.old.rest.now)) }

@@ -133,6 +133,7 @@ impl PlacedTokens {
         PlacedTokens { items }
     }
 
+    /// The tokens, in file order. Takes no memory.
     pub fn as_slice(&self) -> &[PlacedToken]
         ensures { result.now ≡ self.now }
     {

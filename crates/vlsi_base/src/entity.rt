@@ -34,6 +34,7 @@ impl NewNames {
         NewNames { items }
     }
 
+    /// The names, in file order. Takes no memory.
     pub fn as_slice(&self) -> &[NewName]
         ensures { result.now ≡ self.now }
     {
@@ -81,6 +82,7 @@ impl Generics {
         Generics { items }
     }
 
+    /// The generics, in file order. Takes no memory.
     pub fn as_slice(&self) -> &[Generic]
         ensures { result.now ≡ self.now }
     {
@@ -161,6 +163,7 @@ impl PortGroups {
         PortGroups { items }
     }
 
+    /// The groups of ports, in file order. Takes no memory.
     pub fn as_slice(&self) -> &[PortGroup]
         ensures { result.now ≡ self.now }
     {
@@ -208,6 +211,7 @@ impl SignalGroups {
         SignalGroups { items }
     }
 
+    /// The groups of signals, in file order. Takes no memory.
     pub fn as_slice(&self) -> &[SignalGroup]
         ensures { result.now ≡ self.now }
     {

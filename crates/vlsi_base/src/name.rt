@@ -79,6 +79,7 @@ impl Names {
         Names { items }
     }
 
+    /// The names, in their order. Takes no memory.
     pub fn as_slice(&self) -> &[Name]
         ensures { result.now ≡ self.now }
     {
@@ -140,6 +141,7 @@ impl Ports {
         Ports { items }
     }
 
+    /// The ports, in their order. Takes no memory.
     pub fn as_slice(&self) -> &[Port]
         ensures { result.now ≡ self.now }
     {

@@ -36,6 +36,7 @@ impl Pragmas {
         Pragmas { items }
     }
 
+    /// The pragmas, in file order. Takes no memory.
     pub fn as_slice(&self) -> &[Pragma]
         ensures { result.now ≡ self.now }
     {

@@ -38,6 +38,7 @@ impl Text {
         })
     }
 
+    /// The bytes. Takes no memory.
     pub fn as_bytes(&self) -> &[u8]
         ensures { result.now ≡ self.now }
     {
@@ -114,6 +115,7 @@ impl FileName {
         })
     }
 
+    /// The bytes. Takes no memory.
     pub fn as_bytes(&self) -> &[u8]
         ensures { result.now ≡ self.now }
     {
@@ -167,6 +169,7 @@ impl FileBytes {
         })
     }
 
+    /// The bytes. Takes no memory.
     pub fn as_bytes(&self) -> &[u8]
         ensures { result.now ≡ self.now }
     {
@@ -205,6 +208,7 @@ impl Texts {
         Texts { items }
     }
 
+    /// The texts, in their order. Takes no memory.
     pub fn as_slice(&self) -> &[Text]
         ensures { result.now ≡ self.now }
     {
