@@ -70,7 +70,7 @@ impl Bits {
         &self.items
     }
 
-    /// Puts a bit behind those that are there.
+    /// Puts a bit behind those that are there. Takes memory for what is put; without it all stays as it was.
     pub fn push(&mut self, bit: bool) -> Result<(), AllocError>
         ensures ok { OnOk result (self.new ≡ self.old ++ bit ∷ []) }
         ensures err { OnErr result (self.new ≡ self.old) }

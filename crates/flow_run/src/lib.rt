@@ -2,7 +2,7 @@
 //!
 //! `alliance_main` is what the program does. What each status means, when it comes and what it leaves stands in
 //! `specs/Causes.antt`; what reading comes to, in `specs/Reading.antt`; the texts that are read, in `specs/Forms.antt`; the
-//! words of a command, in `specs/Words.antt`.
+//! words of a command, in `specs/` of `tool_words`.
 #![tactic(auto)]
 
 mod drawing;

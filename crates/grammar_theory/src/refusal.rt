@@ -14,7 +14,7 @@ pub enum Breach {
     Depth,
     /// With its declaration all ports and signals have so many bits, or as many as a `u64` can tell.
     Bits(u64),
-    /// It is one operator more than an expression may have.
+    /// It is one operator more than an expression may have, or the first of one alternative more than a choice may have.
     Chain,
     /// It is spelled otherwise than what has to stand here, which is a fault of syntax.
     Spelling,
@@ -25,6 +25,7 @@ pub enum Breach {
 pub enum Reason {
     /// With this token the tokens so far begin no sentence.
     Syntax,
+    /// What it does there is a breach.
     Breach(Breach),
 }
 

@@ -21,7 +21,7 @@ pub enum Piece {
     /// A comment that is a pragma, with its key and its name.
     Pragma(Text, Text, usize),
     Token(Token, usize),
-    /// An identifier of more than 64 bytes.
+    /// An identifier of more than 64 bytes, with its length.
     TooLong(usize),
     /// A number over 32 bits, or the greatest of 64 bits where that is less.
     TooGreat(u64),
@@ -30,7 +30,7 @@ pub enum Piece {
 }
 
 impl Piece {
-    /// How many bytes it takes. What is no token takes one.
+    /// How many bytes it takes. A blank, the end of a line and what is refused take one.
     pub fn length(&self) -> usize
         ensures { result ≡ length_of self.now }
     {

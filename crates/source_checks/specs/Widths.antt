@@ -48,7 +48,8 @@ joined_width op _ _ = None
 abbrev pub ordered_width : Range → Option ℕ
 ordered_width r = if is_ordered r then Some (range_width r) else None
 
--- how many bits an expression has; none where something in it is at fault, so that one fault makes no other
+-- how many bits an expression has; none where operands differ or a range stands in the wrong order, so that one fault makes no
+-- other
 abbrev pub width : List Symbol → Tree → Option ℕ
 width known (bit b line) = Some 1
 width known (literal r digits line) = Some (digit_width r * length digits)

@@ -32,7 +32,7 @@ pub enum Kind {
 pub enum LibraryFault {
     /// A line of CATAL, counted from 1.
     BadCatal(u32),
-    /// A cell, and the number of the check that it fails, counted from 1.
+    /// A cell, and the number of the check that it fails, counted from 1. No tool has such checks yet.
     BadCell { cell: Text, cause: u8 },
 }
 

@@ -125,8 +125,9 @@ pub fn stop_error(alloc: Global, last_line: u32, tokens: &[PlacedToken], stop: S
     }
 }
 
-/// Reads entities, declarations of signals and expressions from tokens. After a refusal it answers the same refusal
-/// again, and so it does after want of memory.
+/// Reads entities, declarations of signals and expressions from tokens, as IEEE 1076 has them but for what
+/// `docs/FORMATS.md` says. After a refusal it answers the same refusal again, unless memory runs out for that; after want of
+/// memory it answers that, or the refusal of which the copy had no memory. Memory goes by what is read.
 #[derive(Drop)]
 pub struct TokenReader<'a> {
     cursor: Cursor<'a>,
@@ -170,7 +171,8 @@ impl<'a> TokenReader<'a> {
         answer
     }
 
-    /// Reads the longest expression at the front.
+    /// Reads the longest expression at the front. Its operators are counted anew; whether its names are declared isn't
+    /// looked at. Refused by `Syntax`, and by `Limit` of `Depth` or `Chain`.
     pub fn expression(&mut self) -> Result<Raw, ReadError>
         ensures right { IsNone (front self.old).refused → IsRead view (expression_grammar (front self.old).room) (at_first (front self.old).here) (front self.old) result (front self.new) }
         ensures again { IfSome (front self.old).refused (λ k. Again k result) }
@@ -188,7 +190,7 @@ impl<'a> TokenReader<'a> {
         }
     }
 
-    /// Reads an entity.
+    /// Reads an entity. Refused by `Syntax` and `Twice`, and by `Limit` of `Depth` or `Bits`.
     pub fn entity(&mut self) -> Result<Entity, ReadError>
         ensures right { IsNone (front self.old).refused → IsRead (λ e. e) (entity_grammar (front self.old).room) (front self.old).here (front self.old) result (front self.new) }
         ensures again { IfSome (front self.old).refused (λ k. Again k result) }
@@ -205,7 +207,8 @@ impl<'a> TokenReader<'a> {
         }
     }
 
-    /// Reads declarations of signals, as long as there are any.
+    /// Reads declarations of signals, as long as there are any. Refused by `Syntax` and `Twice`, and by `Limit` of `Depth`
+    /// or `Bits`.
     pub fn declarations(&mut self) -> Result<Declarations, ReadError>
         ensures right { IsNone (front self.old).refused → IsRead (λ d. d) (declarations_grammar (front self.old).room) (front self.old).here (front self.old) result (front self.new) }
         ensures again { IfSome (front self.old).refused (λ k. Again k result) }
@@ -249,7 +252,7 @@ impl<'a> TokenReader<'a> {
         line_of_next(self.last_line, self.cursor.rest)
     }
 
-    /// Takes the next token. Takes no memory.
+    /// Takes the next token, of which there must be one. Takes no memory.
     pub fn skip(&mut self)
         requires { 0 < length (front self.old).here.rest }
         ensures rest { (front self.new).here.rest ≡ rest_of (front self.old).here.rest }
@@ -260,7 +263,8 @@ impl<'a> TokenReader<'a> {
         self.cursor.rest = &self.cursor.rest[1..];
     }
 
-    /// Counts an if or a case into the depth.
+    /// Counts an if or a case into the depth. Refused by `Limit` of `Depth`, with 257 reached, where 256 parentheses, ifs and
+    /// cases are open.
     pub fn enter(&mut self) -> Result<(), ReadError>
         ensures fits { IsNone (front self.old).refused → 0 < (front self.old).room → IsOk result × ((front self.new).room + 1 ≡ (front self.old).room) }
         ensures deep { IsNone (front self.old).refused → (front self.old).room ≡ 0 → Again (ReadError.Limit (record { which = LimitKind.Depth; reached = DEPTH + 1 })) result }
@@ -284,7 +288,7 @@ impl<'a> TokenReader<'a> {
         Ok(())
     }
 
-    /// Ends the innermost if or case. Takes no memory.
+    /// Ends the innermost if or case, of which there must be one. Takes no memory.
     pub fn leave(&mut self)
         requires { (front self.old).room < DEPTH }
         ensures room { (front self.new).room ≡ (front self.old).room + 1 }
@@ -295,7 +299,7 @@ impl<'a> TokenReader<'a> {
         self.room += 1;
     }
 
-    /// From now on this is answered. Takes no memory.
+    /// From now on this is answered; it isn't want of memory, and nothing was refused before. Takes no memory.
     pub fn refuse(&mut self, error: ReadError)
         requires refusal { error ≢ Memory }
         requires first { IsNone (front self.old).refused }

@@ -148,7 +148,7 @@ impl PlacedTokens {
         items
     }
 
-    /// Puts a token behind those that are there.
+    /// Puts a token behind those that are there. Takes memory for what is put; without it all stays as it was.
     pub fn push(&mut self, token: PlacedToken) -> Result<(), AllocError>
         ensures ok { OnOk result (self.new ≡ self.old ++ token ∷ []) }
         ensures err { OnErr result (self.new ≡ self.old) }

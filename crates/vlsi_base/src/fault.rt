@@ -18,29 +18,46 @@ pub enum FaultKind {
     Twice,
     /// A form of the language that this program leaves out.
     Unsupported,
-    /// A name that isn't declared.
+    /// A name that isn't declared, or a bit that a pattern file lists again.
     Unknown,
+    /// A bit that two assignments drive.
     TwoDrivers,
+    /// A bit that none drives.
     Undriven,
     /// Signals of which each reads the next, and the last the first.
     Cycle,
-    /// Vectors of different widths, or an index outside of its vector.
+    /// Vectors of different widths, a condition of more than one bit, a range or an index that isn't in its vector, or a
+    /// pattern's value that doesn't fit its column.
     Width,
-    /// The clock stands where none may, or a guard is none.
+    /// The clock or a `'stable` stands outside of guards, or a guard has none or another than the first.
     ClockUse,
+    /// An output that a state of a state machine doesn't assign.
     NotAssigned,
+    /// A name of no state.
     BadState,
+    /// A pragma of a state machine that is missing, or names no fitting signal.
     NoPragma,
+    /// An instance of a cell that the library lacks.
     UnknownCell,
+    /// Pins of an instance that aren't mapped once each.
     BadMap,
+    /// A pin on no net.
     Unconnected,
+    /// A net that nothing drives.
     NoDriver,
+    /// A pattern before the one before it.
     TimeBack,
+    /// A line of an ap file that is none.
     BadLine,
+    /// A layer that there isn't.
     BadLayer,
+    /// A transform that there isn't.
     BadTransform,
+    /// An ap file without its last line.
     NoEnd,
+    /// Something behind an ap file's last line.
     AfterEnd,
+    /// An instance that isn't placed.
     NotPlaced,
 }
 
@@ -97,7 +114,7 @@ pub enum LimitKind {
     Depth,
     /// Bits of all ports and signals of a source.
     Bits,
-    /// Operators of one expression, alternatives of one choice, assignments of one bit.
+    /// Operators of one expression, alternatives of one choice.
     Chain,
     /// A natural number in a source.
     Number,

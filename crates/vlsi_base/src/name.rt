@@ -22,7 +22,7 @@ impl Name {
         Name { text, bit: None }
     }
 
-    /// An equal name, on this allocator.
+    /// An equal name, on this allocator. Takes memory for its bytes.
     pub fn copy(&self, alloc: Global) -> Result<Self, AllocError>
         ensures { IfOk result (λ made. made ≡ self.now) }
     {
@@ -94,7 +94,7 @@ impl Names {
         items
     }
 
-    /// Puts a name behind those that are there.
+    /// Puts a name behind those that are there. Takes memory for what is put; without it all stays as it was.
     pub fn push(&mut self, name: Name) -> Result<(), AllocError>
         ensures ok { OnOk result (self.new ≡ self.old ++ name ∷ []) }
         ensures err { OnErr result (self.new ≡ self.old) }
@@ -156,7 +156,7 @@ impl Ports {
         items
     }
 
-    /// Puts a port bit behind those that are there.
+    /// Puts a port bit behind those that are there. Takes memory for what is put; without it all stays as it was.
     pub fn push(&mut self, port: Port) -> Result<(), AllocError>
         ensures ok { OnOk result (self.new ≡ self.old ++ port ∷ []) }
         ensures err { OnErr result (self.new ≡ self.old) }

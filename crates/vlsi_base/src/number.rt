@@ -48,7 +48,8 @@ pub fn read_u64(text: &[u8]) -> Option<u64>
     }
 }
 
-/// Puts the decimal digits of `n`, without leading zeros, behind a text.
+/// Puts the decimal digits of `n`, without leading zeros, behind a text. Takes memory for what is put; without it all stays
+/// as it was.
 pub fn push_u64(alloc: Global, to: &mut Text, n: u64) -> Result<(), AllocError>
     ensures ok { OnOk result (to.new ≡ to.old ++ decimal n) }
     ensures err { OnErr result (to.new ≡ to.old) }

@@ -51,7 +51,7 @@ impl Pragmas {
         items
     }
 
-    /// Puts a pragma behind those that are there.
+    /// Puts a pragma behind those that are there. Takes memory for what is put; without it all stays as it was.
     pub fn push(&mut self, pragma: Pragma) -> Result<(), AllocError>
         ensures ok { OnOk result (self.new ≡ self.old ++ pragma ∷ []) }
         ensures err { OnErr result (self.new ≡ self.old) }

@@ -96,17 +96,19 @@ impl Range {
     }
 }
 
-/// An expression as it is written. Lines are counted from 1: that of a name, of a literal, of an operator's token.
+/// An expression as it is written, with names in lower case. Lines are counted from 1: that of a name, of a literal, of an
+/// operator's token. A line is the first number behind a name or a literal.
 #[derive(Debug, Drop)]
 pub enum Raw {
     /// `'0'` or `'1'`
     Bit(bool, u32),
     /// A text of 0 and 1, or a bit string: its digits from the left, in the spelling of the text, perhaps none.
     Literal(Radix, Text, u32),
+    /// A name by itself.
     Name(Text, u32),
-    /// A bit of a name.
+    /// A bit of a name: the name, its line, the bit's number.
     Index(Text, u32, u32),
-    /// Bits of a name.
+    /// Bits of a name: the name, its line, the range.
     Slice(Text, u32, Range),
     /// `name'stable`
     Stable(Text, u32),

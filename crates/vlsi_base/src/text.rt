@@ -29,7 +29,7 @@ impl Text {
         Text { bytes }
     }
 
-    /// A copy of these bytes.
+    /// A copy of these bytes. Takes memory for its bytes.
     pub fn from_bytes(alloc: Global, bytes: &[u8]) -> Result<Self, AllocError>
         ensures { IfOk result (λ made. made ≡ bytes.now) }
     {
@@ -53,14 +53,14 @@ impl Text {
         bytes
     }
 
-    /// An equal text, on this allocator.
+    /// An equal text, on this allocator. Takes memory for its bytes.
     pub fn copy(&self, alloc: Global) -> Result<Self, AllocError>
         ensures { IfOk result (λ made. made ≡ self.now) }
     {
         Text::from_bytes(alloc, self.as_bytes())
     }
 
-    /// Puts bytes behind those that are there.
+    /// Puts bytes behind those that are there. Takes memory for what is put; without it all stays as it was.
     pub fn append(&mut self, bytes: &[u8]) -> Result<(), AllocError>
         ensures ok { OnOk result (self.new ≡ self.old ++ bytes.now) }
         ensures err { OnErr result (self.new ≡ self.old) }
@@ -106,7 +106,7 @@ impl FileName {
         FileName { text }
     }
 
-    /// The file of this name, of which a copy is kept.
+    /// The file of this name, of which a copy is kept. Takes memory for its bytes.
     pub fn from_bytes(alloc: Global, bytes: &[u8]) -> Result<Self, AllocError>
         ensures { IfOk result (λ made. made ≡ bytes.now) }
     {
@@ -122,14 +122,14 @@ impl FileName {
         self.text.as_bytes()
     }
 
-    /// An equal name, on this allocator.
+    /// An equal name, on this allocator. Takes memory for its bytes.
     pub fn copy(&self, alloc: Global) -> Result<Self, AllocError>
         ensures { IfOk result (λ made. made ≡ self.now) }
     {
         FileName::from_bytes(alloc, self.as_bytes())
     }
 
-    /// Puts bytes behind those that are there.
+    /// Puts bytes behind those that are there. Takes memory for what is put; without it all stays as it was.
     pub fn append(&mut self, bytes: &[u8]) -> Result<(), AllocError>
         ensures ok { OnOk result (self.new ≡ self.old ++ bytes.now) }
         ensures err { OnErr result (self.new ≡ self.old) }
@@ -160,7 +160,7 @@ impl FileBytes {
         FileBytes { bytes }
     }
 
-    /// A copy of these bytes.
+    /// A copy of these bytes. Takes memory for its bytes.
     pub fn from_bytes(alloc: Global, bytes: &[u8]) -> Result<Self, AllocError>
         ensures { IfOk result (λ made. made ≡ bytes.now) }
     {
@@ -176,7 +176,7 @@ impl FileBytes {
         &self.bytes
     }
 
-    /// Puts bytes behind those that are there.
+    /// Puts bytes behind those that are there. Takes memory for what is put; without it all stays as it was.
     pub fn append(&mut self, bytes: &[u8]) -> Result<(), AllocError>
         ensures ok { OnOk result (self.new ≡ self.old ++ bytes.now) }
         ensures err { OnErr result (self.new ≡ self.old) }
@@ -223,7 +223,7 @@ impl Texts {
         items
     }
 
-    /// Puts a text behind those that are there.
+    /// Puts a text behind those that are there. Takes memory for what is put; without it all stays as it was.
     pub fn push(&mut self, text: Text) -> Result<(), AllocError>
         ensures ok { OnOk result (self.new ≡ self.old ++ text ∷ []) }
         ensures err { OnErr result (self.new ≡ self.old) }
