@@ -1,1 +1,4 @@
 pub mod Checking
+pub mod Views
+pub mod AlikeStatements
+pub mod AlikeSources
