@@ -2,3 +2,4 @@ pub mod Checking
 pub mod Views
 pub mod AlikeStatements
 pub mod AlikeSources
+pub mod Once
