@@ -1,1 +1,5 @@
 pub mod Checking
+pub mod Views
+pub mod AlikeStatements
+pub mod AlikeSources
+pub mod Once
