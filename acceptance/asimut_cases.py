@@ -297,6 +297,8 @@ PATTERN_FAULTS = [
     ("bits that aren't there", "in v (4 downto 0);\nbegin end;", "1: width"),
     ("bits that aren't there, very many", "in v (4294967295 downto 0);\nbegin end;", "1: width"),
     ("a range that falls by to", "in v (3 to 0);\nbegin end;", "1: width"),
+    ("a range below its column", "in a;\nin v\n(0 downto 3);\nbegin end;", "3: width"),
+    ("a column without its range", "in a;\nin\nv\n;\nbegin end;", "3: width"),
     ("too many digits", patterns("< 0 ns> : 1 05 ?1 ?5;"), "6: width"),
     ("too few digits", "in v (3 downto 0) O;\nbegin\n< 0 ns> : 7;\nend;", "3: width"),
     ("a high digit", "in v (3 downto 0) O;\nbegin\n< 0 ns> : 17;\n< 1 ns> : 20;\nend;", "4: width"),

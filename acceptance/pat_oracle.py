@@ -66,8 +66,9 @@ def lex(text):
 
 
 class Column:
-    def __init__(self, line, way, name, bounds, format):
+    def __init__(self, line, way, name, bounds, format, width_line):
         self.line, self.way, self.name, self.bounds, self.format = line, way, name, bounds, format
+        self.width_line = width_line
 
     def bits(self):
         if self.bounds is None:
@@ -139,9 +140,10 @@ class PatternReader:
 
     def column(self):
         way = self.take("in", "out")
-        line = self.line()
+        line = width_line = self.line()
         name, bounds, format = self.take("id", *MEANT), None, "b"
         if self.kind() == "(":
+            width_line = self.line()
             self.at += 1
             left = self.take("number")
             falls = self.word(("downto", "to")) == "downto"
@@ -152,7 +154,7 @@ class PatternReader:
         self.take(";")
         while self.kind() == ";":
             self.at += 1
-        return Column(line, way, name, bounds, format)
+        return Column(line, way, name, bounds, format, width_line)
 
     def digits(self, column):
         if self.kind() != "digits" or any(c not in FORMATS[column.format][1] for c in self.value()):
@@ -228,7 +230,7 @@ def check(columns, patterns, ports):
     check_columns(columns, ports)
     for column in columns:
         if not column_fits(column, ports):
-            raise fault(column.line, "width")
+            raise fault(column.width_line, "width")
     for pattern in patterns:
         for column, (line, digits) in zip(columns, pattern.values):
             if digits is not None and (len(digits) != column.digit_count() or any(bits_of(column, digits)[1])):

@@ -47,7 +47,7 @@ sign_of (Some s) = piece.Token (token.Sign s) (length (sign_text s))
 unfoldable pub sign_at : List ℕ → Piece
 sign_at text = sign_of (sign_among text signs)
 
--- how many bytes a piece takes
+-- how many bytes a piece takes; of what is refused one is enough, since reading ends there
 abbrev pub length_of : Piece → ℕ
 length_of piece.Blank = 1
 length_of piece.NewLine = 1

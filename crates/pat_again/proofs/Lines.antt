@@ -14,7 +14,7 @@ use Rattle.pat_text.specs.declared.raw.RawColumn.{RawColumn}
 use Rattle.pat_text.specs.declared.raw.RawPatterns.{RawPatterns}
 use Rattle.pat_io.specs.Known.{share_bit, overlap, is_known, is_unknown, if_at_fault, unknown_behind, unknown_columns}
 use Rattle.pat_io.specs.Digits.{bit_range, column_of, value_for, values_for, pattern_for, patterns_for}
-use Rattle.pat_io.specs.Fitting.{if_not, column_fits, column_faults, value_fits, value_faults, pattern_faults, width_faults, time_behind, time_faults}
+use Rattle.pat_io.specs.Fitting.{if_not, column_fits, column_line, column_faults, value_fits, value_faults, pattern_faults, width_faults, time_behind, time_faults}
 use Rattle.pat_io.specs.PatternText.{first_column, first_line, unknown_error, line_error, or_else, fault_in}
 use Rattle.pat_io.specs.ReadAgain.{written_range, written_column, written_digits, written_values, written_pattern, written}
 use Rattle.pat_again.proofs.Places.{line_behind}
@@ -104,8 +104,8 @@ same_column ports c (Some r) l = refl
 all_fit : (ports : List Port) (cs : List Column) (l : ℕ) → column_faults ports (map (written_column 1) cs) ≡ [] → column_faults ports (columns_from l cs) ≡ []
 all_fit ports [] l none = refl
 all_fit ports (c ∷ cs) l none =
-    let parts = held (column_fits ports (written_column 1 c)) 1 (column_faults ports (map (written_column 1) cs)) none in
-    holds (column_fits ports (written_column l c)) l (column_faults ports (columns_from (line_behind l) cs)) (same_column ports c c.range l ∙ parts.0) (all_fit ports cs (line_behind l) parts.1)
+    let parts = held (column_fits ports (written_column 1 c)) (column_line (written_column 1 c)) (column_faults ports (map (written_column 1) cs)) none in
+    holds (column_fits ports (written_column l c)) (column_line (written_column l c)) (column_faults ports (columns_from (line_behind l) cs)) (same_column ports c c.range l ∙ parts.0) (all_fit ports cs (line_behind l) parts.1)
 
 same_value : (c : Column) (r : Option BitRange) (d : Option (List ℕ)) (l : ℕ)
     → value_fits (record { name = c.name; line = l; dir = c.dir; range = written_range l r; format = c.format }) d ≡ value_fits (record { name = c.name; line = 1; dir = c.dir; range = written_range 1 r; format = c.format }) d

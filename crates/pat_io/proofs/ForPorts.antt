@@ -30,7 +30,7 @@ use Rattle.vlsi_base.specs.Name.{is_supply}
 use Rattle.vlsi_base.specs.Range.{is_ordered, least}
 use Rattle.pat_io.specs.Known.{is_same_dir, is_supply_input, unknown_columns}
 use Rattle.pat_io.specs.Digits.{column_width, number_bits, digit_value, digits_bits, unused, column_bits, column_of, value_for, values_for, pattern_for, patterns_for}
-use Rattle.pat_io.specs.Fitting.{if_not, is_port, column_fits, column_faults, value_fits, value_faults, pattern_faults, width_faults, time_faults}
+use Rattle.pat_io.specs.Fitting.{if_not, is_port, column_fits, column_line, column_faults, value_fits, value_faults, pattern_faults, width_faults, time_faults}
 use Rattle.pat_io.specs.PatternText.{first_column, first_line, unknown_error, line_error, or_else, fault_in, OrMemory, IsWritten, IsPatternRefusal, faulty}
 use Rattle.pat_io.proofs.Ranges.{and_parts, range_all, range_test, length_names}
 use Rattle.pat_io.proofs.Different.{different}
@@ -136,7 +136,7 @@ fitting_range ports name line d f (Some r) h =
 fitting_columns : (ports : List Port) (cs : List RawColumn) → column_faults ports cs ≡ [] → All (λ c. IsSupplyColumn c ⊎ IsOfPorts ports c) (map column_of cs)
 fitting_columns ports [] h = All-nil (λ c. IsSupplyColumn c ⊎ IsOfPorts ports c)
 fitting_columns ports (c ∷ cs) h =
-    let parts = no_append (if_not (column_fits ports c) c.line) (column_faults ports cs) h in
+    let parts = no_append (if_not (column_fits ports c) (column_line c)) (column_faults ports cs) h in
     All-cons (λ c. IsSupplyColumn c ⊎ IsOfPorts ports c) (column_of c) (map column_of cs) (fitting_range ports c.name c.line c.dir c.format c.range (holds (column_fits ports c) c.line parts.0)) (fitting_columns ports cs parts.1)
 
 -- ---- values

@@ -28,7 +28,7 @@ use Rattle.vlsi_base.specs.Name.{is_supply}
 use Rattle.vlsi_base.specs.Range.{is_ordered, least, greatest}
 use Rattle.pat_io.specs.Known.{is_same_dir, is_supply_input, is_of_port, is_known, share_bit, overlap, is_unknown, if_at_fault, unknown_behind, unknown_columns}
 use Rattle.pat_io.specs.Digits.{column_width, bit_range, column_of, value_for, values_for, pattern_for}
-use Rattle.pat_io.specs.Fitting.{if_not, is_port, column_fits, column_faults, value_fits, value_faults, pattern_faults, width_faults}
+use Rattle.pat_io.specs.Fitting.{if_not, is_port, column_fits, column_line, column_faults, value_fits, value_faults, pattern_faults, width_faults}
 use Rattle.pat_io.specs.PatternText.{fault_in}
 use Rattle.pat_io.specs.ReadAgain.{written_range, written_column, written_digits, written_values, written_pattern, written, WrittenMeansItself}
 use Rattle.pat_io.proofs.Ranges.{and_parts, all_in, names_in, ends_order, length_names, common}
@@ -159,7 +159,7 @@ columns_fitting ports free [] ordered h = refl
 columns_fitting ports free (c ∷ cs) ordered h =
     let P : Column → Type 0 = λ c. IsSupplyColumn c ⊎ IsOfPorts ports c in
     let O : RawColumn → Type 0 = λ c. InOrder c.range in
-    no_line_of (column_fits ports c) c.line (column_faults ports cs)
+    no_line_of (column_fits ports c) (column_line c) (column_faults ports cs)
     (column_fitting ports free c.name c.line c.dir c.format c.range (All-head O c cs ordered) (All-head P (column_of c) (map column_of cs) h))
     (columns_fitting ports free cs (All-tail O c cs ordered) (All-tail P (column_of c) (map column_of cs) h))
 

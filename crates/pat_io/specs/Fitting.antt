@@ -1,4 +1,4 @@
--- Where widths don't fit and where time goes back, in file order: the lines of the names, values and patterns at fault.
+-- Where widths don't fit and where time goes back, in file order: the lines of the ranges or names, of the values and of the patterns at fault.
 use Rattle.std.specs.Prelude.{ℕ, ◌+◌, ◌-◌, ◌*◌, ◌/◌, ◌^◌, Bool, true, false, not, ◌&&◌, ◌||◌, nat_le, nat_eq, List, [], ◌∷◌, ◌++◌, length, take, Option, None, Some, if◌then◌else◌}
 use Rattle.std.specs.List.{list_any, list_all}
 use Rattle.vlsi_base.specs.declared.name.Name.{Name}
@@ -38,9 +38,16 @@ column_fits ports c = by c.range where
       not (is_supply c.name) && (is_ordered r
       && list_all (λ k. is_port ports c.dir (record { text = c.name; bit = Some k })) (rising (least r) (column_width (Some r))))
 
+-- a range is at fault at its parenthesis, and a name without one at the name
+abbrev pub column_line : RawColumn → ℕ
+column_line c = by c.range where
+  by : Option Range → ℕ
+  by None = c.line
+  by (Some r) = r.line
+
 abbrev pub column_faults : List Port → List RawColumn → List ℕ
 column_faults ports [] = []
-column_faults ports (c ∷ cs) = if_not (column_fits ports c) c.line ++ column_faults ports cs
+column_faults ports (c ∷ cs) = if_not (column_fits ports c) (column_line c) ++ column_faults ports cs
 
 -- ---- values
 

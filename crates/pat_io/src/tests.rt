@@ -112,7 +112,7 @@ static ROWS: [(&[u8], &[u8]); 52] = [
     (b"in a (0 to 0); begin end;", b"!width 1"),
     (b"in b (0 downto 1); begin end;", b"!width 1"),
     (b"in b (1 to 0); begin end;", b"!width 1"),
-    (b"in b (0 to 4); begin end;", b"!width 1"),
+    (b"in b\n(0 to 4); begin end;", b"!width 2"),
     (b"in b (0 to 4294967295); begin end;", b"!width 1"),
     (b"in vdd (0 to 0); begin end;", b"!width 1"),
     (b"in b (0 to 3); begin <0 fs>: 101; end;", b"!width 1"),

@@ -5,7 +5,7 @@ ghost use Rattle.pat_meaning.specs.Columns.{rising};
 ghost use Rattle.vlsi_base.specs.Name.{is_supply};
 ghost use Rattle.vlsi_base.specs.Range.{is_ordered, least};
 ghost use Rattle.pat_io.specs.Digits.{column_width};
-ghost use Rattle.pat_io.specs.Fitting.{is_port, column_fits, column_faults, value_faults, pattern_faults, width_faults};
+ghost use Rattle.pat_io.specs.Fitting.{is_port, column_fits, column_line, column_faults, value_faults, pattern_faults, width_faults};
 ghost use Rattle.pat_io.specs.PatternText.{first_line};
 
 use crate::bits::{column_width, value_fits};
@@ -64,12 +64,22 @@ fn column_fits<'a>(index: &Index<'a>, ports: &[Port], column: &'a RawColumn) -> 
     }
 }
 
+/// The line of a column's range, or of its name where it has none.
+fn column_line(column: &RawColumn) -> u32
+    ensures { result ≡ column_line column.now }
+{
+    match column.range {
+        None => column.line,
+        Some(range) => range.line,
+    }
+}
+
 fn columns_fault<'a>(index: &Index<'a>, ports: &[Port], columns: &'a [RawColumn]) -> Option<u32>
     ensures { result ≡ first_line (column_faults ports.now columns.now) }
 {
     for column in columns {
         if !column_fits(index, ports, column) {
-            return Some(column.line);
+            return Some(column_line(column));
         }
     }
     None

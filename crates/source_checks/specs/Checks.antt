@@ -79,14 +79,19 @@ ports_error raw = error.Limit (record { which = limit.Ports; reached = length (p
 abbrev pub HasNoRing : RawMachine → Type 0
 HasNoRing raw = (ring : List Name) → IsRing (definitions raw) ring → ⊥
 
--- Why a text is no machine: the first check that fails, or a ring, or too many port bits, in this order. Memory may run out
--- at any time.
+-- Why a text is no machine: the first check that fails, or a ring, or too many port bits, in this order.
+abbrev pub IsRefusedFor : RawMachine → ReadError → Type 0
+IsRefusedFor raw error.Memory = ⊥
+IsRefusedFor raw (error.Input f) =
+    (first_fault raw ≡ Some (error.Input f)) ⊎ ((first_fault raw ≡ None) × IsCycle raw (error.Input f))
+IsRefusedFor raw (error.Limit l) =
+    (first_fault raw ≡ None) × HasNoRing raw × (most_ports < length (port_bits (symbols raw))) × (error.Limit l ≡ ports_error raw)
+
+-- the reason, or memory has run out
 abbrev pub IsRefused : RawMachine → ReadError → Type 0
 IsRefused raw error.Memory = Unit {0}
-IsRefused raw (error.Input f) =
-    (first_fault raw ≡ Some (error.Input f)) ⊎ ((first_fault raw ≡ None) × IsCycle raw (error.Input f))
-IsRefused raw (error.Limit l) =
-    (first_fault raw ≡ None) × HasNoRing raw × (most_ports < length (port_bits (symbols raw))) × (error.Limit l ≡ ports_error raw)
+IsRefused raw (error.Input f) = IsRefusedFor raw (error.Input f)
+IsRefused raw (error.Limit l) = IsRefusedFor raw (error.Limit l)
 
 -- A text that is a machine: no check fails.
 pub record Passes (raw : RawMachine) : Type 0 where

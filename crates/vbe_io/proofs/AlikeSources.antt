@@ -15,7 +15,7 @@ use Rattle.source_checks.specs.Unsupported.{port_forms, signal_forms, statement_
 use Rattle.source_checks.specs.Clock.{statement_clocks, first_text, clock_text, statement_clock_lines, all_clock_lines}
 use Rattle.source_checks.specs.Elaboration.{Definition, statement_definitions, definitions, port_bits}
 use Rattle.source_checks.specs.Cycles.{IsRing}
-use Rattle.source_checks.specs.Checks.{most_ports, if_use, if_line, if_name, if_symbol, first_repeated, first_fault, DrivenOn, IsCycle, HasNoRing, IsRefused}
+use Rattle.source_checks.specs.Checks.{most_ports, if_use, if_line, if_name, if_symbol, first_repeated, first_fault, DrivenOn, IsCycle, HasNoRing, IsRefusedFor}
 use Rattle.vbe_text.specs.Source.{SourceTree, statement_view, source_view}
 use Rattle.vbe_io.proofs.Views.{SeenBy, of_view, of_both, of_each}
 use Rattle.vbe_io.proofs.AlikeStatements.{uses_seen, widths_seen, drivers_seen, forms_seen, clocks_seen, clock_lines_seen, definitions_seen}
@@ -95,8 +95,8 @@ no_ring_alike : (a b : RawMachine) → source_view a ≡ source_view b → HasNo
 no_ring_alike a b same none ring is = none ring (subst (λ (ds : List Definition). IsRing ds ring) (sym (definitions_alike a b same)) is)
 
 -- what the checks refuse, they refuse of each text of this tree
-pub refused_alike : (a b : RawMachine) → source_view a ≡ source_view b → (e : ReadError) → IsRefused a e → IsRefused b e
-refused_alike a b same errors.Memory is = tt
+pub refused_alike : (a b : RawMachine) → source_view a ≡ source_view b → (e : ReadError) → IsRefusedFor a e → IsRefusedFor b e
+refused_alike a b same errors.Memory is = is
 refused_alike a b same (errors.Input f) (inl h) = inl (sym (faults_alike a b same) ∙ h)
 refused_alike a b same (errors.Input f) (inr h) = inr (sym (faults_alike a b same) ∙ h.0, cycle_alike a b same (errors.Input f) h.1)
 refused_alike a b same (errors.Limit l) is =

@@ -1,9 +1,8 @@
 -- What follows from the definitions of a text and of its refusals.
-use Rattle.std.specs.Prelude.{◌≡◌, ◌≢◌, ◌⊎◌, ℕ, List}
+use Rattle.std.specs.Prelude.{◌≡◌, ◌⊎◌, ℕ, List}
 use Rattle.vlsi_base.specs.declared.name.Name.{Name}
 use Rattle.vlsi_base.specs.declared.fault.FaultKind.TheVariants as kind
 use Rattle.vlsi_base.specs.declared.fault.ReadError.{ReadError}
-use Rattle.vlsi_base.specs.declared.fault.ReadError.TheVariants as errors
 use Rattle.machine_meaning.specs.Machine.{Machine}
 use Rattle.source_checks.specs.Checks.{fault}
 use Rattle.vbe_io.specs.Text.{IsVbe, Refused}
@@ -12,12 +11,10 @@ use Rattle.vbe_io.specs.Text.{IsVbe, Refused}
 abbrev pub IsRingFault : ReadError → Type 0
 IsRingFault e = (line : ℕ) × (names : List Name) × (e ≡ fault kind.Cycle line names)
 
--- A text that is a machine has no refusal. To run out of memory is none: that can happen at any text, and says nothing of it.
+-- A text that is a machine has no refusal.
 abbrev pub NeverBoth : Type 0
-NeverBoth = (bytes : List ℕ) (m : Machine) (e : ReadError) → e ≢ errors.Memory → IsVbe bytes m → Refused bytes e → ⊥
+NeverBoth = (bytes : List ℕ) (m : Machine) (e : ReadError) → IsVbe bytes m → Refused bytes e → ⊥
 
--- A text has one refusal; only of several rings any may be named. To run out of memory is none.
+-- A text has at most one refusal; only of several rings any may be named.
 abbrev pub OneRefusal : Type 0
-OneRefusal =
-    (bytes : List ℕ) (d e : ReadError) → d ≢ errors.Memory → e ≢ errors.Memory → Refused bytes d → Refused bytes e
-    → (d ≡ e) ⊎ (IsRingFault d × IsRingFault e)
+OneRefusal = (bytes : List ℕ) (d e : ReadError) → Refused bytes d → Refused bytes e → (d ≡ e) ⊎ (IsRingFault d × IsRingFault e)

@@ -1,15 +1,15 @@
 -- Which texts of bytes are machines, and why others aren't.
-use Rattle.std.specs.Prelude.{◌≡◌, ◌≤◌, ◌<◌, ℕ, ◌+◌, List, length, Option, None, Some}
+use Rattle.std.specs.Prelude.{◌≡◌, ◌≤◌, ◌<◌, ℕ, ◌+◌, List, length, None, Some}
 use Rattle.vlsi_base.specs.declared.fault.LimitKind.TheVariants as kind
 use Rattle.vlsi_base.specs.declared.fault.ReadError.{ReadError}
 use Rattle.vlsi_base.specs.declared.fault.ReadError.TheVariants as errors
 use Rattle.vhdl_lexer.specs.Listing.{tokens_in, refusal_in}
 use Rattle.machine_meaning.specs.Machine.{Machine}
 use Rattle.source_checks.specs.declared.statement.RawMachine.{RawMachine}
-use Rattle.source_checks.specs.Checks.{Passes, IsRefused}
+use Rattle.source_checks.specs.Checks.{Passes, IsRefusedFor}
 use Rattle.source_checks.specs.Elaboration.{IsMachineOf}
 use Rattle.vbe_text.specs.Source.{source_view}
-use Rattle.vbe_text.specs.Vbe.{IsSource, IsRefusedSource}
+use Rattle.vbe_text.specs.Vbe.{IsSource, RefusedAs}
 
 -- the most bytes of a text
 abbrev pub most_bytes : ℕ
@@ -29,12 +29,12 @@ pub record IsVbe (bytes : List ℕ) (m : Machine) : Type 0 where
   pub machine : IsMachineOf raw m
 
 -- Why bytes are no machine, in this order: there are too many, they aren't cut into tokens, the tokens are no text, or a check
--- fails.
+-- fails. Want of memory is no reason.
 pub data Refused (bytes : List ℕ) (e : ReadError) : Type 0 where
   long : most_bytes < length bytes → e ≡ errors.Limit (record { which = kind.File; reached = most_bytes + 1 }) → Refused bytes e
   uncut : length bytes ≤ most_bytes → refusal_in bytes ≡ Some e → Refused bytes e
-  unwritten : length bytes ≤ most_bytes → refusal_in bytes ≡ None → IsRefusedSource (tokens_in bytes) e → Refused bytes e
-  faulty : (raw : RawMachine) → IsWritten bytes raw → IsRefused raw e → Refused bytes e
+  unwritten : length bytes ≤ most_bytes → refusal_in bytes ≡ None → RefusedAs (tokens_in bytes) e → Refused bytes e
+  faulty : (raw : RawMachine) → IsWritten bytes raw → IsRefusedFor raw e → Refused bytes e
 
 -- the refusal, or memory has run out
 abbrev pub IsVbeRefusal : List ℕ → ReadError → Type 0

@@ -52,7 +52,7 @@ digits_in _ = []
 abbrev pub digits_of : PlacedToken → List ℕ
 digits_of t = digits_in t.token
 
--- how many bits a digit of a base spells
+-- the base, as expressions have it
 abbrev pub radix_for : Base → Radix
 radix_for base.Binary = radix.Binary
 radix_for base.Octal = radix.Octal
