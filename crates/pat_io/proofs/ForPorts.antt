@@ -137,7 +137,7 @@ fitting_columns : (ports : List Port) (cs : List RawColumn) → column_faults po
 fitting_columns ports [] h = All-nil (λ c. IsSupplyColumn c ⊎ IsOfPorts ports c)
 fitting_columns ports (c ∷ cs) h =
     let parts = no_append (if_not (column_fits ports c) (column_line c)) (column_faults ports cs) h in
-    All-cons (λ c. IsSupplyColumn c ⊎ IsOfPorts ports c) (column_of c) (map column_of cs) (fitting_range ports c.name c.line c.dir c.format c.range (holds (column_fits ports c) c.line parts.0)) (fitting_columns ports cs parts.1)
+    All-cons (λ c. IsSupplyColumn c ⊎ IsOfPorts ports c) (column_of c) (map column_of cs) (fitting_range ports c.name c.line c.dir c.format c.range (holds (column_fits ports c) (column_line c) parts.0)) (fitting_columns ports cs parts.1)
 
 -- ---- values
 
