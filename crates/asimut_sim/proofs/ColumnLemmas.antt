@@ -1,18 +1,12 @@
 -- Bits of ranges, and columns from one of them on.
-use Rattle.std.proofs.Common.{◌≡◌, ℕ, zero, suc, ◌+◌, ◌-◌, ◌<◌, ◌≤◌, true, false, List, [], ◌∷◌, ◌++◌, length, drop, Some, refl, sym, ◌∙◌, ap, add-one, drop-cons, append_assoc, append-nil, arith, rules, nat_le}
+use Rattle.std.proofs.Common.{◌≡◌, ℕ, suc, ◌+◌, ◌-◌, ◌<◌, ◌≤◌, true, false, List, [], ◌∷◌, ◌++◌, length, drop, Some, refl, sym, ◌∙◌, ap, add-one, drop-cons, append_assoc, append-nil, arith, rules, nat_le}
 use Rattle.std.specs.List.{slice_index_or}
 use Rattle.vlsi_base.specs.declared.name.Name.{Name}
+use Rattle.vlsi_base.specs.Range.{rising, falling}
+use Rattle.vlsi_base.proofs.Ranges.{length_of_rising, length_of_falling}
 use Rattle.pat_meaning.specs.declared.patterns.BitRange.{BitRange}
 use Rattle.pat_meaning.specs.declared.patterns.Column.{Column}
-use Rattle.pat_meaning.specs.Columns.{rising, falling, range_bits, bits_named, column_names, listed}
-
-pub length-rising : (n k : ℕ) → length (rising k n) ≡ n
-length-rising zero k = refl
-length-rising (suc n) k = ap suc (length-rising n (k + 1))
-
-pub length-falling : (n k : ℕ) → length (falling k n) ≡ n
-length-falling zero k = refl
-length-falling (suc n) k = ap suc (length-falling n k)
+use Rattle.pat_meaning.specs.Columns.{range_bits, bits_named, column_names, listed}
 
 pub length-bits_named : (text : List ℕ) (ks : List ℕ) → length (bits_named text ks) ≡ length ks
 length-bits_named text [] = refl
@@ -95,10 +89,10 @@ pub range-down : (r : BitRange) → r.right < r.left → range_bits r ≡ fallin
 range-down r h = let e : nat_le r.left r.right ≡ false = search rules in rw e refl
 
 pub length-up : (r : BitRange) → r.left ≤ r.right → length (range_bits r) ≡ r.right - r.left + 1
-length-up r h = ap length (range-up r h) ∙ length-rising (r.right - r.left + 1) r.left
+length-up r h = ap length (range-up r h) ∙ length_of_rising r.left (r.right - r.left + 1)
 
 pub length-down : (r : BitRange) → r.right < r.left → length (range_bits r) ≡ r.left - r.right + 1
-length-down r h = ap length (range-down r h) ∙ length-falling (r.left - r.right + 1) r.right
+length-down r h = ap length (range-down r h) ∙ length_of_falling r.right (r.left - r.right + 1)
 
 pub length-column : (c : Column) (r : BitRange) → c.range ≡ Some r → length (column_names c) ≡ length (range_bits r)
 length-column c r e = rw e (length-bits_named c.name (range_bits r))

@@ -1,6 +1,7 @@
 // The bits that columns list.
 ghost use Rattle.std.specs.Prelude.{◌≡◌, ◌++◌, ◌+◌, ◌^◌, ◌≤◌, IfOk, OnOk, length};
-ghost use Rattle.pat_meaning.specs.Columns.{range_bits, rising, falling, bits_named, column_names, listed};
+ghost use Rattle.vlsi_base.specs.Range.{rising, falling};
+ghost use Rattle.pat_meaning.specs.Columns.{range_bits, bits_named, column_names, listed};
 
 use pat_meaning::{BitRange, Column};
 use std::alloc::{AllocError, Global};

@@ -19,7 +19,7 @@ use Rattle.machine_core.specs.Order.{In, here, there}
 use Rattle.machine_core.proofs.Names.{same_name-true}
 use Rattle.pat_meaning.specs.declared.patterns.Format.{Format}
 use Rattle.pat_meaning.specs.declared.patterns.Format.TheVariants.{Binary, Octal, Hexadecimal}
-use Rattle.pat_meaning.specs.Columns.{column_names, Fits, FitsColumns, rising}
+use Rattle.pat_meaning.specs.Columns.{column_names, Fits, FitsColumns}
 use Rattle.pat_meaning.specs.Answers.{IsSupplyColumn, IsOfPorts, AreFor}
 use Rattle.pat_text.specs.declared.raw.RawColumn.{RawColumn}
 use Rattle.pat_text.specs.declared.raw.RawValue.{RawValue}
@@ -27,7 +27,7 @@ use Rattle.pat_text.specs.declared.raw.RawPattern.{RawPattern}
 use Rattle.pat_text.specs.declared.raw.RawPatterns.{RawPatterns}
 use Rattle.pat_io.specs.Spelling.{bits_of}
 use Rattle.vlsi_base.specs.Name.{is_supply}
-use Rattle.vlsi_base.specs.Range.{is_ordered, least}
+use Rattle.vlsi_base.specs.Range.{rising, is_ordered, least}
 use Rattle.pat_io.specs.Known.{is_same_dir, is_supply_input, unknown_columns}
 use Rattle.pat_io.specs.Digits.{column_width, number_bits, digit_value, digits_bits, unused, column_bits, column_of, value_for, values_for, pattern_for, patterns_for}
 use Rattle.pat_io.specs.Fitting.{if_not, is_port, column_fits, column_line, column_faults, value_fits, value_faults, pattern_faults, width_faults, time_faults}

@@ -9,8 +9,9 @@ use Rattle.vlsi_base.specs.declared.name.Name.{Name}
 use Rattle.vlsi_base.specs.declared.raw.Range.{Range}
 use Rattle.machine_core.specs.Order.{In, here, there, AllDifferent}
 use Rattle.pat_meaning.specs.declared.patterns.BitRange.{BitRange}
-use Rattle.pat_meaning.specs.Columns.{rising, falling, range_bits, bits_named, names_of_range}
-use Rattle.vlsi_base.specs.Range.{least, greatest}
+use Rattle.pat_meaning.specs.Columns.{range_bits, bits_named, names_of_range}
+use Rattle.vlsi_base.specs.Range.{rising, falling, least, greatest}
+use Rattle.vlsi_base.proofs.Ranges.{length_of_rising, length_of_falling}
 use Rattle.pat_io.specs.Known.{overlap}
 use Rattle.pat_io.specs.Digits.{column_width, bit_range}
 
@@ -88,19 +89,11 @@ length_named : (text : List ℕ) (ks : List ℕ) → length (bits_named text ks)
 length_named text [] = refl
 length_named text (k ∷ ks) = ap suc (length_named text ks)
 
-length_rising : (n k : ℕ) → length (rising k n) ≡ n
-length_rising zero k = refl
-length_rising (suc n) k = ap suc (length_rising n (k + 1))
-
-length_falling : (n k : ℕ) → length (falling k n) ≡ n
-length_falling zero k = refl
-length_falling (suc n) k = ap suc (length_falling n k)
-
 pub length_names : (text : List ℕ) (r : Option Range) → length (names_of_range text (bit_range r)) ≡ column_width r
 length_names text None = refl
 length_names text (Some r) = length_named text (range_bits (record { left = r.left; right = r.right })) ∙ elim (leb_tells r.left r.right) [
-  | inl t ↦ let e = up_ends r t.0 t.1 in ap length (up_range r t.0) ∙ length_rising (r.right - r.left + 1) r.left ∙ omega (arith, e.low_is, e.high_is)
-  | inr t ↦ let e = down_ends r t.0 t.1 in ap length (down_range r t.0) ∙ length_falling (r.left - r.right + 1) r.right ∙ omega (arith, e.low_is, e.high_is)
+  | inl t ↦ let e = up_ends r t.0 t.1 in ap length (up_range r t.0) ∙ length_of_rising r.left (r.right - r.left + 1) ∙ omega (arith, e.low_is, e.high_is)
+  | inr t ↦ let e = down_ends r t.0 t.1 in ap length (down_range r t.0) ∙ length_of_falling r.right (r.left - r.right + 1) ∙ omega (arith, e.low_is, e.high_is)
 ]
 
 -- ---- which names

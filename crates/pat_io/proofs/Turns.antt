@@ -3,7 +3,7 @@ use Rattle.std.proofs.Common.{◌≡◌, ℕ, suc, ◌+◌, ◌-◌, ◌<◌, �
 use Rattle.std.proofs.str.Laws.{order}
 use Rattle.std.proofs.lemmas.List.{at_drop_more, drop_all}
 use Rattle.std.specs.List.{list_all}
-use Rattle.pat_meaning.specs.Columns.{rising}
+use Rattle.vlsi_base.specs.Range.{rising}
 use Rattle.pat_meaning.specs.declared.patterns.Value.{Value}
 use Rattle.pat_text.specs.declared.raw.RawColumn.{RawColumn}
 use Rattle.pat_text.specs.declared.raw.RawValue.{RawValue}

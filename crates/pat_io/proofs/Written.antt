@@ -21,11 +21,11 @@ use Rattle.pat_meaning.specs.declared.patterns.Pattern.{Pattern}
 use Rattle.pat_meaning.specs.declared.patterns.Patterns.{Patterns}
 use Rattle.pat_meaning.specs.declared.patterns.Value.{Value}
 use Rattle.pat_meaning.specs.declared.patterns.Value.TheVariants.{Digits, Any}
-use Rattle.pat_meaning.specs.Columns.{rising, names_of_range, column_names, listed, FitsColumns}
+use Rattle.pat_meaning.specs.Columns.{names_of_range, column_names, listed, FitsColumns}
 use Rattle.pat_meaning.specs.Answers.{IsSupplyColumn, IsOfPorts}
 use Rattle.pat_text.specs.declared.raw.RawColumn.{RawColumn}
 use Rattle.vlsi_base.specs.Name.{is_supply}
-use Rattle.vlsi_base.specs.Range.{is_ordered, least, greatest}
+use Rattle.vlsi_base.specs.Range.{rising, is_ordered, least, greatest}
 use Rattle.pat_io.specs.Known.{is_same_dir, is_supply_input, is_of_port, is_known, share_bit, overlap, is_unknown, if_at_fault, unknown_behind, unknown_columns}
 use Rattle.pat_io.specs.Digits.{column_width, bit_range, column_of, value_for, values_for, pattern_for}
 use Rattle.pat_io.specs.Fitting.{if_not, is_port, column_fits, column_line, column_faults, value_fits, value_faults, pattern_faults, width_faults}

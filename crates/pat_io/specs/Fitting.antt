@@ -9,14 +9,13 @@ use Rattle.machine_meaning.specs.Named.{is_same_name}
 use Rattle.pat_meaning.specs.declared.patterns.Time.{Time}
 use Rattle.pat_meaning.specs.declared.patterns.TimeUnit.{TimeUnit}
 use Rattle.pat_meaning.specs.declared.patterns.TimeUnit.TheVariants as unit
-use Rattle.pat_meaning.specs.Columns.{rising}
 use Rattle.pat_text.specs.declared.raw.RawColumn.{RawColumn}
 use Rattle.pat_text.specs.declared.raw.RawValue.{RawValue}
 use Rattle.pat_text.specs.declared.raw.RawPattern.{RawPattern}
 use Rattle.pat_text.specs.declared.raw.RawPatterns.{RawPatterns}
 use Rattle.pat_io.specs.Spelling.{bits_of}
 use Rattle.vlsi_base.specs.Name.{is_supply}
-use Rattle.vlsi_base.specs.Range.{is_ordered, least}
+use Rattle.vlsi_base.specs.Range.{rising, is_ordered, least}
 use Rattle.pat_io.specs.Known.{is_same_dir, is_supply_input}
 use Rattle.pat_io.specs.Digits.{column_width, digits_bits, unused}
 

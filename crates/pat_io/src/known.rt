@@ -1,12 +1,14 @@
 // Columns of no port, and bits that are listed once more.
-ghost use Rattle.std.specs.Prelude.{◌≡◌};
-ghost use Rattle.std.specs.List.{list_any};
+ghost use Rattle.std.specs.Prelude.{◌≡◌, ◌<◌, IfOk, length, take, slice_index_or};
+ghost use Rattle.std.specs.List.{IsDistinct, list_any};
 ghost use Rattle.std.specs.Option.{option_copied};
-ghost use Rattle.pat_io.specs.Known.{is_supply_input, is_known, overlap, share_bit, is_unknown, unknown_behind, unknown_columns};
+ghost use Rattle.pat_io.specs.Known.{is_supply_input, is_known, overlap, share_bit, unknown_columns};
 ghost use Rattle.pat_io.specs.PatternText.{first_column};
 
+use crate::apart::apart_count;
 use crate::index::{Index, has_text, is_same_dir};
 use pat_text::RawColumn;
+use std::alloc::{AllocError, Global};
 use vlsi_base::{Dir, Port, Range, is_supply};
 
 /// Whether a column is a supply, listed as an input.
@@ -39,35 +41,36 @@ fn share_bit(a: &RawColumn, b: &RawColumn) -> bool
     a.name.as_bytes() == b.name.as_bytes() && overlap(a.range, b.range)
 }
 
-fn is_listed(before: &[RawColumn], column: &RawColumn) -> bool
-    ensures { result ≡ list_any (share_bit column.now) before.now }
+/// Whether a column lists a bit that one before it lists. The first ones, as many as `apart` says, list no bit twice, so
+/// only a column behind them is compared with those before it.
+fn is_listed(columns: &[RawColumn], apart: usize, place: usize, column: &RawColumn) -> bool
+    requires inside { place < length columns.now }
+    requires at { column.now ≡ slice_index_or columns.now place column.now }
+    requires apart { IsDistinct share_bit (take apart columns.now) }
+    ensures { result ≡ list_any (share_bit column.now) (take place columns.now) }
 {
-    before.iter().any(|other| share_bit(column, other))
+    if place < apart {
+        return false;
+    }
+    columns[..place]
+        .iter()
+        .any(|other| share_bit(column, other))
 }
 
-fn is_unknown<'a>(
-    index: &Index<'a>,
-    ports: &[Port],
-    before: &[RawColumn],
-    column: &'a RawColumn,
-) -> bool
-    ensures { result ≡ is_unknown ports.now before.now column.now }
-{
-    !is_known(index, ports, column) || is_listed(before, column)
-}
-
-/// The first column that is of no port, or that lists a bit once more.
+/// The first column that is of no port, or that lists a bit once more. It takes memory for a reference a column.
 pub fn unknown_column<'a>(
+    alloc: Global,
     index: &Index<'a>,
     ports: &[Port],
     columns: &'a [RawColumn],
-) -> Option<&'a RawColumn>
-    ensures { option_copied result ≡ first_column (unknown_columns ports.now columns.now) }
+) -> Result<Option<&'a RawColumn>, AllocError>
+    ensures { IfOk result (λ found. option_copied found ≡ first_column (unknown_columns ports.now columns.now)) }
 {
+    let apart = apart_count(alloc, columns)?;
     for (place, column) in columns.iter().enumerate() {
-        if is_unknown(index, ports, &columns[..place], column) {
-            return Some(column);
+        if !is_known(index, ports, column) || is_listed(columns, apart, place, column) {
+            return Ok(Some(column));
         }
     }
-    None
+    Ok(None)
 }

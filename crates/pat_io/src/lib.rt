@@ -1,6 +1,7 @@
 //! Pattern files: the reader with its checks, and the writer.
 #![tactic(auto)]
 
+mod apart;
 mod bits;
 mod build;
 mod index;

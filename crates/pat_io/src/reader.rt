@@ -54,7 +54,7 @@ fn check(alloc: Global, ports: &[Port], raw: &RawPatterns) -> Result<(), ReadErr
     ensures faulty { IfErr result (λ e. OrMemory (fault_in ports.now raw.now) e) }
 {
     let index = Index::of(alloc, ports)?;
-    if let Some(column) = unknown_column(&index, ports, raw.columns.as_slice()) {
+    if let Some(column) = unknown_column(alloc, &index, ports, raw.columns.as_slice())? {
         return Err(unknown(alloc, column));
     }
     if let Some(line) = width_fault(alloc, &index, ports, raw)? {

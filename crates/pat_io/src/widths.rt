@@ -1,9 +1,8 @@
 // Where widths don't fit.
 ghost use Rattle.std.specs.Prelude.{◌≡◌, ◌≤◌, ◌+◌, ◌^◌, ◌&&◌, not, Some, IfOk};
 ghost use Rattle.std.specs.List.{list_all};
-ghost use Rattle.pat_meaning.specs.Columns.{rising};
 ghost use Rattle.vlsi_base.specs.Name.{is_supply};
-ghost use Rattle.vlsi_base.specs.Range.{is_ordered, least};
+ghost use Rattle.vlsi_base.specs.Range.{rising, is_ordered, least};
 ghost use Rattle.pat_io.specs.Digits.{column_width};
 ghost use Rattle.pat_io.specs.Fitting.{is_port, column_fits, column_line, column_faults, value_faults, pattern_faults, width_faults};
 ghost use Rattle.pat_io.specs.PatternText.{first_line};

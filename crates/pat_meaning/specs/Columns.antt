@@ -1,21 +1,12 @@
 -- Which bits a pattern file lists, and what a pattern gives them.
-use Rattle.std.specs.Prelude.{◌≡◌, ℕ, zero, suc, ◌+◌, ◌-◌, Bool, false, nat_le, List, [], ◌∷◌, ◌++◌, length, replicate, Option, None, Some, if◌then◌else◌}
+use Rattle.std.specs.Prelude.{◌≡◌, ℕ, ◌+◌, ◌-◌, Bool, false, nat_le, List, [], ◌∷◌, ◌++◌, length, replicate, Option, None, Some, if◌then◌else◌}
 use Rattle.vlsi_base.specs.declared.name.Name.{Name}
 use Rattle.vlsi_base.specs.declared.name.Dir.TheVariants.{Out}
+use Rattle.vlsi_base.specs.Range.{rising, falling}
 use Rattle.pat_meaning.specs.declared.patterns.BitRange.{BitRange}
 use Rattle.pat_meaning.specs.declared.patterns.Column.{Column}
 use Rattle.pat_meaning.specs.declared.patterns.Value.{Value}
 use Rattle.pat_meaning.specs.declared.patterns.Value.TheVariants.{Digits, Any}
-
--- n numbers that rise from k
-abbrev pub rising : ℕ → ℕ → List ℕ
-rising k zero = []
-rising k (suc n) = k ∷ rising (k + 1) n
-
--- n numbers that fall to k
-abbrev pub falling : ℕ → ℕ → List ℕ
-falling k zero = []
-falling k (suc n) = (k + n) ∷ falling k n
 
 -- the numbers of the bits from the left one to the right one
 abbrev pub range_bits : BitRange → List ℕ

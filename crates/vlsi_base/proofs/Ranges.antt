@@ -3,11 +3,11 @@ use Rattle.std.proofs.Common.{◌≡◌, ℕ, zero, suc, ◌+◌, ◌-◌, cond,
 use Rattle.vlsi_base.specs.declared.raw.Range.{Range}
 use Rattle.vlsi_base.specs.Range.{rising, falling, range_bits}
 
-length_of_rising : (k n : ℕ) → length (rising k n) ≡ n
+pub length_of_rising : (k n : ℕ) → length (rising k n) ≡ n
 length_of_rising k zero = refl
 length_of_rising k (suc n) = omega (arith, length_of_rising (k + 1) n)
 
-length_of_falling : (k n : ℕ) → length (falling k n) ≡ n
+pub length_of_falling : (k n : ℕ) → length (falling k n) ≡ n
 length_of_falling k zero = refl
 length_of_falling k (suc n) = omega (arith, length_of_falling k n)
 

@@ -1,6 +1,6 @@
 use Rattle.std.proofs.Common.{◌≡◌, ◌+◌, ◌-◌, Some}
 use Rattle.std.specs.List.{list_all}
-use Rattle.pat_meaning.specs.Columns.{rising}
+use Rattle.vlsi_base.specs.Range.{rising}
 use Rattle.pat_io.specs.Fitting.{is_port}
 use Rattle.pat_io.proofs.widths.has_bits.Given as goal
 
