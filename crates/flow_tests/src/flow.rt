@@ -39,8 +39,8 @@ pub fn ends(code: u8) -> Case {
     }
 }
 
-/// The words of a line, which blanks part.
-pub fn words(alloc: Global, line: &str) -> Result<Words, AllocError> {
+// The words of a line, which blanks part.
+fn words(alloc: Global, line: &str) -> Result<Words, AllocError> {
     let mut words = Words::new(Vec::new(alloc));
     for word in line.split_whitespace() {
         words.push(text(alloc, word)?)?;
@@ -56,12 +56,31 @@ fn has_layout(alloc: Global, files: &FileMap, riser: &str) -> Result<bool, Alloc
     has_line(alloc, files, "out.ap", riser)
 }
 
-/// The status. It has no contract of its own, so that the tests rest on what is run alone.
-pub fn status(alloc: Global, words: &Words, shelf: &mut MemShelf, out: &mut MemSink) -> u8 {
+// The status. It has no contract of its own, so that the tests rest on what is run alone.
+fn status(alloc: Global, words: &Words, shelf: &mut MemShelf, out: &mut MemSink) -> u8 {
     alliance_main(alloc, words, shelf, out).code()
 }
 
-// Runs the words over the files, and compares the status, what is printed and the layout.
+/// Runs the words over the files, compares the status and what is printed, and gives back the files as they stand then.
+pub fn run(
+    rt: &impl Abort,
+    alloc: Global,
+    files: FileMap,
+    line: &str,
+    case: Case,
+    printed: &str,
+) -> Result<MemShelf, AllocError> {
+    let words = words(alloc, line)?;
+    let mut shelf = MemShelf::begin(files, failing(alloc, case.call)?);
+    let mut out = MemSink::begin(alloc, failing(alloc, case.put)?);
+    let code = status(alloc, &words, &mut shelf, &mut out);
+    let is_printed = out.bytes() == printed.as_bytes();
+    assert!(rt; code == case.code, "{line}: the status");
+    assert!(rt; is_printed, "{line}: {printed} is printed");
+    Ok(shelf)
+}
+
+// Runs the words over the files, and compares the layout too.
 fn expect(
     rt: &impl Abort,
     alloc: Global,
@@ -71,14 +90,8 @@ fn expect(
     printed: &str,
     riser: &str,
 ) -> Result<(), AllocError> {
-    let words = words(alloc, line)?;
-    let mut shelf = MemShelf::begin(files, failing(alloc, case.call)?);
-    let mut out = MemSink::begin(alloc, failing(alloc, case.put)?);
-    let code = status(alloc, &words, &mut shelf, &mut out);
-    let is_printed = out.bytes() == printed.as_bytes();
+    let shelf = run(rt, alloc, files, line, case, printed)?;
     let is_drawn = has_layout(alloc, shelf.files(), riser)?;
-    assert!(rt; code == case.code, "{line}: the status");
-    assert!(rt; is_printed, "{line}: {printed} is printed");
     assert!(rt; is_drawn, "{line}: the layout");
     Ok(())
 }

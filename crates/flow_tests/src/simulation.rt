@@ -1,11 +1,11 @@
 // Runs of asimut: a source and patterns, and what they come to.
 
-use crate::flow::{Case, ends, status, words};
-use crate::texts::{add, failing, first};
+use crate::flow::{Case, ends, run};
+use crate::texts::{add, first};
 use std::alloc::{AllocError, Global};
 use std::process::Abort;
 use std::test::Fail;
-use vlsi_shelf::{FileMap, MemShelf, MemSink};
+use vlsi_shelf::FileMap;
 
 const USAGE: &str = "usage: alliance asimut SOURCE.vbe -p PATTERNS.pat\n";
 
@@ -42,24 +42,7 @@ fn expect(
     add(alloc, &mut files, name, source.as_bytes())?;
     add(alloc, &mut files, "t.pat", patterns.as_bytes())?;
     let line = format!(in alloc; "asimut {name} -p t.pat")?;
-    run(rt, alloc, files, line.as_str(), case, printed)
-}
-
-fn run(
-    rt: &impl Abort,
-    alloc: Global,
-    files: FileMap,
-    line: &str,
-    case: Case,
-    printed: &str,
-) -> Result<(), AllocError> {
-    let words = words(alloc, line)?;
-    let mut shelf = MemShelf::begin(files, failing(alloc, case.call)?);
-    let mut out = MemSink::begin(alloc, failing(alloc, case.put)?);
-    let code = status(alloc, &words, &mut shelf, &mut out);
-    let is_printed = out.bytes() == printed.as_bytes();
-    assert!(rt; code == case.code, "{line}: the status");
-    assert!(rt; is_printed, "{line}: {printed} is printed");
+    let _shelf = run(rt, alloc, files, line.as_str(), case, printed)?;
     Ok(())
 }
 
