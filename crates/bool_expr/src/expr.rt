@@ -1,8 +1,6 @@
 // Expressions, bits and variables.
-ghost use Rattle.std.specs.Prelude.{◌≡◌, ◌++◌, ◌∷◌, [], OnOk, OnErr};
 
-use std::alloc::AllocError;
-use std::marker::Model;
+use vlsi_base::Listed;
 
 /// An operator of two operands.
 #[derive(Clone, Copy, Debug, PartialEq, Eq)]
@@ -42,86 +40,7 @@ impl Drop for Expr {
 }
 
 /// Bits in their order.
-#[derive(Debug, Drop)]
-pub struct Bits {
-    items: Vec<bool>,
-}
-
-impl Model for Bits {
-    ghost use Rattle.std.specs.Prelude.{List, Bool};
-
-    ghost Value = { List Bool };
-
-    ghost view = { λ a. a.items.items };
-}
-
-impl Bits {
-    /// These bits. Takes no memory.
-    pub fn new(items: Vec<bool>) -> Self
-        ensures { result ≡ items.items }
-    {
-        Bits { items }
-    }
-
-    /// The bits, in their order. Takes no memory.
-    pub fn as_slice(&self) -> &[bool]
-        ensures { result.now ≡ self.now }
-    {
-        &self.items
-    }
-
-    /// Puts a bit behind those that are there. Takes memory for what is put; without it all stays as it was.
-    pub fn push(&mut self, bit: bool) -> Result<(), AllocError>
-        ensures ok { OnOk result (self.new ≡ self.old ++ bit ∷ []) }
-        ensures err { OnErr result (self.new ≡ self.old) }
-    {
-        self.items.push(bit)?;
-        Ok(())
-    }
-
-    /// The bits, given back. Takes no memory.
-    pub fn into_vec(self) -> Vec<bool>
-        ensures { result.items ≡ self }
-    {
-        let Bits { items } = self;
-        items
-    }
-}
+pub type Bits = Listed<bool>;
 
 /// Variables in their order.
-#[derive(Debug, Drop)]
-pub struct Vars {
-    items: Vec<u32>,
-}
-
-impl Model for Vars {
-    ghost use Rattle.std.specs.Prelude.{List, ℕ};
-
-    ghost Value = { List ℕ };
-
-    ghost view = { λ a. a.items.items };
-}
-
-impl Vars {
-    /// These variables. Takes no memory.
-    pub fn new(items: Vec<u32>) -> Self
-        ensures { result ≡ items.items }
-    {
-        Vars { items }
-    }
-
-    /// The numbers, in their order. Takes no memory.
-    pub fn as_slice(&self) -> &[u32]
-        ensures { result.now ≡ self.now }
-    {
-        &self.items
-    }
-
-    /// The variables, given back. Takes no memory.
-    pub fn into_vec(self) -> Vec<u32>
-        ensures { result.items ≡ self }
-    {
-        let Vars { items } = self;
-        items
-    }
-}
+pub type Vars = Listed<u32>;

@@ -1,11 +1,9 @@
 // Tokens.
-ghost use Rattle.std.specs.Prelude.{◌≡◌, ◌++◌, ◌∷◌, [], OnOk, OnErr};
+ghost use Rattle.std.specs.Prelude.{◌≡◌};
 ghost use Rattle.vhdl_token.specs.Signs.{sign_text};
 
 use crate::Keyword;
-use std::alloc::AllocError;
-use std::marker::Model;
-use vlsi_base::{Pragmas, Text};
+use vlsi_base::{Listed, Pragmas, Text};
 
 /// A sign of punctuation or an operator's sign.
 #[derive(Clone, Copy, Debug, PartialEq, Eq)]
@@ -111,52 +109,7 @@ pub struct PlacedToken {
 }
 
 /// Tokens in file order.
-#[derive(Debug, Drop)]
-pub struct PlacedTokens {
-    items: Vec<PlacedToken>,
-}
-
-impl Model for PlacedTokens {
-    ghost use Rattle.std.specs.Prelude.{List};
-    ghost use Rattle.vhdl_token.specs.declared.token.PlacedToken.{PlacedToken};
-
-    ghost Value = { List PlacedToken };
-
-    ghost view = { λ a. a.items.items };
-}
-
-impl PlacedTokens {
-    /// These tokens. Takes no memory.
-    pub fn new(items: Vec<PlacedToken>) -> Self
-        ensures { result ≡ items.items }
-    {
-        PlacedTokens { items }
-    }
-
-    /// The tokens, in file order. Takes no memory.
-    pub fn as_slice(&self) -> &[PlacedToken]
-        ensures { result.now ≡ self.now }
-    {
-        &self.items
-    }
-
-    /// The tokens, given back. Takes no memory.
-    pub fn into_vec(self) -> Vec<PlacedToken>
-        ensures { result.items ≡ self }
-    {
-        let PlacedTokens { items } = self;
-        items
-    }
-
-    /// Puts a token behind those that are there. Takes memory for what is put; without it all stays as it was.
-    pub fn push(&mut self, token: PlacedToken) -> Result<(), AllocError>
-        ensures ok { OnOk result (self.new ≡ self.old ++ token ∷ []) }
-        ensures err { OnErr result (self.new ≡ self.old) }
-    {
-        self.items.push(token)?;
-        Ok(())
-    }
-}
+pub type PlacedTokens = Listed<PlacedToken>;
 
 /// A whole text: its tokens, its pragmas, which are no tokens, and the line on which its end stands.
 #[derive(Debug, Drop)]

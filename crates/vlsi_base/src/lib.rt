@@ -3,6 +3,7 @@
 
 mod entity;
 mod fault;
+mod listed;
 mod name;
 mod number;
 mod pragma;
@@ -14,6 +15,7 @@ pub use entity::{
     SignalGroup, SignalGroups, SignalType, TypeWord,
 };
 pub use fault::{FaultKind, InputFault, Limit, LimitKind, ReadError};
+pub use listed::Listed;
 pub use name::{Dir, Name, Names, Port, Ports, Terminal, is_supply};
 pub use number::{push_u64, read_u64};
 pub use pragma::{Pragma, Pragmas};

@@ -1,8 +1,9 @@
 // Texts, file names and the bytes of files, which contracts see as lists of bytes.
-ghost use Rattle.std.specs.Prelude.{◌≡◌, ◌++◌, ◌∷◌, [], IfOk, IsTrue, ◌↔◌, OnOk, OnErr};
+ghost use Rattle.std.specs.Prelude.{◌≡◌, ◌++◌, IfOk, IsTrue, ◌↔◌, OnOk, OnErr};
 ghost use Rattle.std.specs.Cmp.Lexicographic.{slice_cmp};
 ghost use Rattle.std.specs.Ordering.{nat_cmp};
 
+use crate::Listed;
 use std::alloc::{AllocError, Global};
 use std::cmp::Ordering;
 use std::marker::Model;
@@ -187,48 +188,4 @@ impl FileBytes {
 }
 
 /// Texts in their order. Contracts see the list of their bytes' lists.
-#[derive(Debug, Drop)]
-pub struct Texts {
-    items: Vec<Text>,
-}
-
-impl Model for Texts {
-    ghost use Rattle.std.specs.Prelude.{List, ℕ};
-
-    ghost Value = { List (List ℕ) };
-
-    ghost view = { λ a. a.items.items };
-}
-
-impl Texts {
-    /// These texts. Takes no memory.
-    pub fn new(items: Vec<Text>) -> Self
-        ensures { result ≡ items.items }
-    {
-        Texts { items }
-    }
-
-    /// The texts, in their order. Takes no memory.
-    pub fn as_slice(&self) -> &[Text]
-        ensures { result.now ≡ self.now }
-    {
-        &self.items
-    }
-
-    /// The texts, given back. Takes no memory.
-    pub fn into_vec(self) -> Vec<Text>
-        ensures { result.items ≡ self }
-    {
-        let Texts { items } = self;
-        items
-    }
-
-    /// Puts a text behind those that are there. Takes memory for what is put; without it all stays as it was.
-    pub fn push(&mut self, text: Text) -> Result<(), AllocError>
-        ensures ok { OnOk result (self.new ≡ self.old ++ text ∷ []) }
-        ensures err { OnErr result (self.new ≡ self.old) }
-    {
-        self.items.push(text)?;
-        Ok(())
-    }
-}
+pub type Texts = Listed<Text>;
