@@ -1,5 +1,5 @@
 /// How nodes that read each other can be put in order, or why they can't.
-#[derive(Debug, Drop)]
+#[derive(Drop)]
 pub enum Order {
     /// Each node once, behind all that it reads.
     Sorted(Vec<u32>),

@@ -7,7 +7,7 @@ ghost use Rattle.bit_order.specs.Walk.{IsWalkOf, IsLast, IsReadAt, IsRingFrom, E
 use std::alloc::{AllocError, Global};
 
 /// How far the walk has come with a node.
-#[derive(Clone, Copy, Debug)]
+#[derive(Clone, Copy)]
 enum Mark {
     /// It wasn't met yet.
     New,
@@ -18,7 +18,7 @@ enum Mark {
 }
 
 /// Nodes in order so far, and the path to the node that the walk has come to: each of its nodes reads the next.
-#[derive(Debug, Drop)]
+#[derive(Drop)]
 pub struct Walk {
     marks: Vec<Mark>,
     // How many of the nodes that it reads are in order, for each node.

@@ -10,7 +10,7 @@ use crate::{Expr, Gate};
 use std::alloc::{AllocError, Global};
 
 /// An operator whose first operand, or whose last one for a choice, is still to come.
-#[derive(Debug, Drop)]
+#[derive(Drop)]
 enum Step {
     Not,
     Pair(Gate, Box<Expr>),

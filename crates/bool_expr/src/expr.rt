@@ -3,7 +3,7 @@
 use vlsi_base::Listed;
 
 /// An operator of two operands.
-#[derive(Clone, Copy, Debug, PartialEq, Eq)]
+#[derive(Clone, Copy, PartialEq, Eq)]
 pub enum Gate {
     And,
     Or,
@@ -14,7 +14,6 @@ pub enum Gate {
 }
 
 /// An expression over variables that are numbered from 0.
-#[derive(Debug)]
 pub enum Expr {
     Const(bool),
     Var(u32),

@@ -6,7 +6,7 @@ ghost use Rattle.grammar_theory.specs.Tokens.{code, is_of, form_of, is_bit as is
 use vhdl_token::{Base, Keyword, PlacedToken, Sign, Token};
 
 /// What a grammar asks of a token: its kind, and of a text whether it spells bits.
-#[derive(Clone, Copy, Debug, PartialEq, Eq)]
+#[derive(Clone, Copy, PartialEq, Eq)]
 pub enum Form {
     Identifier,
     Keyword(Keyword),

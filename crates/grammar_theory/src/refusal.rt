@@ -6,7 +6,7 @@ use std::alloc::{AllocError, AllocFailed};
 use vlsi_base::Text;
 
 /// What a token does, beside standing in its place, that it must not do.
-#[derive(Debug, Drop)]
+#[derive(Drop)]
 pub enum Breach {
     /// It declares this name a second time, in a declaration that begins on this line.
     Twice(u32, Text),
@@ -21,7 +21,7 @@ pub enum Breach {
 }
 
 /// Why a token is refused.
-#[derive(Debug, Drop)]
+#[derive(Drop)]
 pub enum Reason {
     /// With this token the tokens so far begin no sentence.
     Syntax,
@@ -30,14 +30,14 @@ pub enum Reason {
 }
 
 /// Why a token is refused, and how many tokens are left, with that token; 0 is the end.
-#[derive(Debug, Drop)]
+#[derive(Drop)]
 pub struct Refusal {
     pub reason: Reason,
     pub left: usize,
 }
 
 /// Why a reader stops.
-#[derive(Debug, Drop)]
+#[derive(Drop)]
 pub enum Stop {
     Memory,
     Refused(Refusal),

@@ -8,7 +8,7 @@ use vhdl_token::{PlacedToken, PlacedTokens, Tokens};
 use vlsi_base::{FaultKind, InputFault, Limit, LimitKind, Names, Pragma, Pragmas, ReadError};
 
 /// What was read of a text so far: its tokens and its pragmas.
-#[derive(Debug, Drop)]
+#[derive(Drop)]
 pub struct Front {
     pub items: PlacedTokens,
     pub pragmas: Pragmas,

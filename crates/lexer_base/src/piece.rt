@@ -10,7 +10,7 @@ pub const MOST_BYTES: usize = 64;
 
 /// What stands at a place of a text: a token or what may stand between tokens, with the number of its bytes, or why there
 /// is no token.
-#[derive(Debug, Drop)]
+#[derive(Drop)]
 pub enum Piece {
     /// One space, tab or carriage return.
     Blank,

@@ -11,7 +11,7 @@ use vlsi_base::{Name, Names, Ports, Text};
 /// A machine that has passed its checks: its names are different, its ports and registers stand in the order of names, and
 /// each of its equations reads only inputs, registers and earlier equations. So it has exactly one valuation for each
 /// contents of its registers and each input vector. Variable k of an expression is number k of `vars`.
-#[derive(Debug, Drop)]
+#[derive(Drop)]
 pub struct Machine {
     name: Text,
     ports: Ports,

@@ -4,14 +4,14 @@ use bool_expr::Expr;
 use vlsi_base::{Listed, Name};
 
 /// A signal that has the value of an expression. Variable k of the expression is number k of the machine's names.
-#[derive(Debug, Drop)]
+#[derive(Drop)]
 pub struct Equation {
     pub name: Name,
     pub expr: Expr,
 }
 
 /// One bit of storage. At the clock's rise it takes `next` where `enable` is 1, and keeps its value elsewhere.
-#[derive(Debug, Drop)]
+#[derive(Drop)]
 pub struct Register {
     pub name: Name,
     pub next: Expr,

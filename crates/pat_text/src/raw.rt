@@ -4,7 +4,7 @@ use pat_meaning::{Format, Time};
 use vlsi_base::{Dir, Listed, Range, Text};
 
 /// A column as it is written, and the line of its name. Where no format stands it is binary.
-#[derive(Debug, Drop)]
+#[derive(Drop)]
 pub struct RawColumn {
     pub name: Text,
     pub line: u32,
@@ -17,7 +17,7 @@ pub struct RawColumn {
 pub type RawColumns = Listed<RawColumn>;
 
 /// A value as it is written, without its `?`, and the line of its first token. `?*` has no digits.
-#[derive(Debug, Drop)]
+#[derive(Drop)]
 pub struct RawValue {
     pub line: u32,
     pub digits: Option<Text>,
@@ -27,7 +27,7 @@ pub struct RawValue {
 pub type RawValues = Listed<RawValue>;
 
 /// A pattern as it is written, and the line on which it begins.
-#[derive(Debug, Drop)]
+#[derive(Drop)]
 pub struct RawPattern {
     pub line: u32,
     pub time: Time,
@@ -39,7 +39,7 @@ pub struct RawPattern {
 pub type RawPatternList = Listed<RawPattern>;
 
 /// A pattern file as it is written.
-#[derive(Debug, Drop)]
+#[derive(Drop)]
 pub struct RawPatterns {
     pub columns: RawColumns,
     pub patterns: RawPatternList,

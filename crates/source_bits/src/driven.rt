@@ -22,14 +22,14 @@ use std::alloc::{AllocError, Global};
 use vlsi_base::Range;
 
 /// A bit that an assignment outside of blocks drives: its number, and its formula over numbers.
-#[derive(Debug, Drop)]
+#[derive(Drop)]
 pub struct DrivenBit {
     pub bit: u32,
     pub expr: Expr,
 }
 
 /// A bit that an assignment of a block drives: its number, what it loads, and when.
-#[derive(Debug, Drop)]
+#[derive(Drop)]
 pub struct StoredBit {
     pub bit: u32,
     pub next: Expr,

@@ -19,7 +19,7 @@ use std::collections::BTreeSet;
 use vlsi_base::{Name, Range, Text};
 
 /// A name at fault, and a line.
-#[derive(Debug, Drop)]
+#[derive(Drop)]
 pub struct NameFault {
     pub line: u32,
     pub name: Name,
@@ -200,7 +200,7 @@ fn undriven(alloc: Global, table: &Table, marks: &Marks) -> Result<Option<NameFa
 }
 
 /// What is wrong with the drivers of a text.
-#[derive(Debug, Drop)]
+#[derive(Drop)]
 pub enum DriverFault {
     /// An assignment drives a bit that an earlier one drives.
     Again(NameFault),

@@ -3,7 +3,7 @@
 use vlsi_base::{Declarations, Entity, Listed, Range, Raw, Text};
 
 /// Which bits of its name a target drives.
-#[derive(Clone, Copy, Debug, PartialEq, Eq)]
+#[derive(Clone, Copy, PartialEq, Eq)]
 pub enum Selection {
     Whole,
     Bit(u32),
@@ -11,7 +11,7 @@ pub enum Selection {
 }
 
 /// What an assignment drives, and the line of its name.
-#[derive(Debug, Drop)]
+#[derive(Drop)]
 pub struct Target {
     pub name: Text,
     pub line: u32,
@@ -19,7 +19,7 @@ pub struct Target {
 }
 
 /// A value and the condition under which it is taken, and the line of the condition's first token.
-#[derive(Debug, Drop)]
+#[derive(Drop)]
 pub struct Guarded {
     pub value: Raw,
     pub condition: Raw,
@@ -30,14 +30,14 @@ pub struct Guarded {
 pub type GuardedList = Listed<Guarded>;
 
 /// `VALUE when CONDITION else VALUE when CONDITION else .. VALUE`: the first alternative whose condition is 1 counts.
-#[derive(Debug, Drop)]
+#[derive(Drop)]
 pub struct Choice {
     pub alternatives: GuardedList,
     pub otherwise: Raw,
 }
 
 /// `TARGET <= CHOICE`
-#[derive(Debug, Drop)]
+#[derive(Drop)]
 pub struct Assignment {
     pub target: Target,
     pub choice: Choice,
@@ -47,7 +47,7 @@ pub struct Assignment {
 pub type Assignments = Listed<Assignment>;
 
 /// A block: its guard, the line of the guard's first token, and the guarded assignments.
-#[derive(Debug, Drop)]
+#[derive(Drop)]
 pub struct RawBlock {
     pub guard: Raw,
     pub line: u32,
@@ -55,7 +55,7 @@ pub struct RawBlock {
 }
 
 /// A statement of an architecture.
-#[derive(Debug, Drop)]
+#[derive(Drop)]
 pub enum Statement {
     /// An assertion, which has no effect.
     Assert(Raw),
@@ -67,7 +67,7 @@ pub enum Statement {
 pub type Statements = Listed<Statement>;
 
 /// A data-flow text as it is written.
-#[derive(Debug, Drop)]
+#[derive(Drop)]
 pub struct RawMachine {
     pub entity: Entity,
     pub declarations: Declarations,

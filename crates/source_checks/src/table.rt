@@ -12,7 +12,7 @@ use std::marker::Model;
 use vlsi_base::{Mode, NewName, PortGroup, Range, SignalGroup, Text, TypeWord};
 
 /// What a name stands for.
-#[derive(Clone, Copy, Debug, PartialEq, Eq)]
+#[derive(Clone, Copy, PartialEq, Eq)]
 pub enum Role {
     Input,
     Output,
@@ -24,7 +24,7 @@ pub enum Role {
 }
 
 /// A declared name: its role, the range of a vector, and the line of its declaration.
-#[derive(Debug, Drop)]
+#[derive(Drop)]
 pub struct Symbol {
     pub text: Text,
     pub role: Role,

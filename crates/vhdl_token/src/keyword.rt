@@ -4,7 +4,7 @@ ghost use Rattle.vhdl_token.specs.declared.keyword.Keyword.{Keyword};
 ghost use Rattle.vhdl_token.specs.Keyword.{keyword_text, keyword_among, keyword_of};
 
 /// A reserved word, which is never an identifier of a vbe, fsm or vst text.
-#[derive(Clone, Copy, Debug, PartialEq, Eq)]
+#[derive(Clone, Copy, PartialEq, Eq)]
 pub enum Keyword {
     After,
     And,

@@ -6,7 +6,7 @@ use crate::Keyword;
 use vlsi_base::{Listed, Pragmas, Text};
 
 /// A sign of punctuation or an operator's sign.
-#[derive(Clone, Copy, Debug, PartialEq, Eq)]
+#[derive(Clone, Copy, PartialEq, Eq)]
 pub enum Sign {
     /// `(`
     LeftParen,
@@ -75,7 +75,7 @@ impl Sign {
 }
 
 /// The base of a bit string: 1, 3 or 4 bits a digit.
-#[derive(Clone, Copy, Debug, PartialEq, Eq)]
+#[derive(Clone, Copy, PartialEq, Eq)]
 pub enum Base {
     Binary,
     Octal,
@@ -83,7 +83,7 @@ pub enum Base {
 }
 
 /// The smallest part of a text that means something.
-#[derive(Debug, Drop)]
+#[derive(Drop)]
 pub enum Token {
     /// A letter, then letters, digits and underscores, at most 64 bytes together, in lower case; no word that is reserved in
     /// its kind of text.
@@ -102,7 +102,7 @@ pub enum Token {
 }
 
 /// A token and the line on which it begins, counted from 1.
-#[derive(Debug, Drop)]
+#[derive(Drop)]
 pub struct PlacedToken {
     pub token: Token,
     pub line: u32,
@@ -112,7 +112,7 @@ pub struct PlacedToken {
 pub type PlacedTokens = Listed<PlacedToken>;
 
 /// A whole text: its tokens, its pragmas, which are no tokens, and the line on which its end stands.
-#[derive(Debug, Drop)]
+#[derive(Drop)]
 pub struct Tokens {
     pub items: PlacedTokens,
     pub pragmas: Pragmas,

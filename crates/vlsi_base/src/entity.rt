@@ -3,7 +3,7 @@
 use crate::{Listed, Range, Text};
 
 /// A name that is declared, and its line.
-#[derive(Debug, Drop)]
+#[derive(Drop)]
 pub struct NewName {
     pub text: Text,
     pub line: u32,
@@ -13,7 +13,7 @@ pub struct NewName {
 pub type NewNames = Listed<NewName>;
 
 /// Generics of one type: the line of the first token, the names, the type, and the number behind `:=`.
-#[derive(Debug, Drop)]
+#[derive(Drop)]
 pub struct Generic {
     pub line: u32,
     pub names: NewNames,
@@ -25,7 +25,7 @@ pub struct Generic {
 pub type Generics = Listed<Generic>;
 
 /// The direction of a port as it is written.
-#[derive(Clone, Copy, Debug, PartialEq, Eq)]
+#[derive(Clone, Copy, PartialEq, Eq)]
 pub enum Mode {
     In,
     Out,
@@ -33,7 +33,7 @@ pub enum Mode {
 }
 
 /// The word of a signal's type.
-#[derive(Clone, Copy, Debug, PartialEq, Eq)]
+#[derive(Clone, Copy, PartialEq, Eq)]
 pub enum TypeWord {
     Bit,
     BitVector,
@@ -47,7 +47,7 @@ pub enum TypeWord {
 }
 
 /// A signal's type: its word, the word's line, and the range of a vector.
-#[derive(Clone, Copy, Debug, PartialEq, Eq)]
+#[derive(Clone, Copy, PartialEq, Eq)]
 pub struct SignalType {
     pub word: TypeWord,
     pub line: u32,
@@ -56,7 +56,7 @@ pub struct SignalType {
 
 /// Ports of one mode and type: the line of the first token, the names, the mode and its line, the type, and whether
 /// `bus` stands behind it.
-#[derive(Debug, Drop)]
+#[derive(Drop)]
 pub struct PortGroup {
     pub line: u32,
     pub names: NewNames,
@@ -71,7 +71,7 @@ pub type PortGroups = Listed<PortGroup>;
 
 /// Signals of one type: the line of the word `signal`, the names, and the type. Signals are registers exactly with
 /// the words `RegBit`, `RegVector` and `RegBitVector`.
-#[derive(Debug, Drop)]
+#[derive(Drop)]
 pub struct SignalGroup {
     pub line: u32,
     pub names: NewNames,
@@ -82,7 +82,7 @@ pub struct SignalGroup {
 pub type SignalGroups = Listed<SignalGroup>;
 
 /// An entity.
-#[derive(Debug, Drop)]
+#[derive(Drop)]
 pub struct Entity {
     pub name: Text,
     pub generics: Generics,
@@ -90,7 +90,7 @@ pub struct Entity {
 }
 
 /// The declarations of an architecture.
-#[derive(Debug, Drop)]
+#[derive(Drop)]
 pub struct Declarations {
     pub signals: SignalGroups,
 }

@@ -66,7 +66,7 @@ pub enum Dir {
 }
 
 /// One bit of an entity's ports.
-#[derive(Debug, Drop)]
+#[derive(Drop)]
 pub struct Port {
     pub name: Name,
     pub dir: Dir,
@@ -76,7 +76,7 @@ pub struct Port {
 pub type Ports = Listed<Port>;
 
 /// A place where a net ends: a port of the netlist, which has no instance, or a pin of an instance.
-#[derive(Debug, Drop)]
+#[derive(Drop)]
 pub struct Terminal {
     pub instance: Option<Text>,
     pub pin: Name,

@@ -3,7 +3,7 @@
 use crate::{Listed, Text};
 
 /// A comment `-- pragma KEY NAME`: both words in lower case, and the line of the comment, counted from 1.
-#[derive(Debug, Drop)]
+#[derive(Drop)]
 pub struct Pragma {
     pub key: Text,
     pub name: Text,

@@ -5,7 +5,7 @@ ghost use Rattle.vlsi_base.specs.Range.{is_ordered, range_width, least, greatest
 use crate::Text;
 
 /// The operators that stand between two operands.
-#[derive(Clone, Copy, Debug, PartialEq, Eq)]
+#[derive(Clone, Copy, PartialEq, Eq)]
 pub enum Operator {
     And,
     Or,
@@ -22,7 +22,7 @@ pub enum Operator {
 }
 
 /// How many bits a digit of a literal spells: 1, 3 or 4.
-#[derive(Clone, Copy, Debug, PartialEq, Eq)]
+#[derive(Clone, Copy, PartialEq, Eq)]
 pub enum Radix {
     Binary,
     Octal,
@@ -30,7 +30,7 @@ pub enum Radix {
 }
 
 /// A range of bits as it is written, `(left downto right)` or `(left to right)`, and the line of its parenthesis.
-#[derive(Clone, Copy, Debug, PartialEq, Eq)]
+#[derive(Clone, Copy, PartialEq, Eq)]
 pub struct Range {
     pub left: u32,
     /// Whether the word is `downto`.
@@ -98,7 +98,7 @@ impl Range {
 
 /// An expression as it is written, with names in lower case. Lines are counted from 1: that of a name, of a literal, of an
 /// operator's token. A line is the first number behind a name or a literal.
-#[derive(Debug, Drop)]
+#[derive(Drop)]
 pub enum Raw {
     /// `'0'` or `'1'`
     Bit(bool, u32),

@@ -86,7 +86,7 @@ impl Text {
 }
 
 /// The name of a file, as the words of a command spell it. Contracts see the list of its bytes.
-#[derive(Debug, Drop)]
+#[derive(Drop)]
 pub struct FileName {
     text: Text,
 }
@@ -140,7 +140,7 @@ impl FileName {
 }
 
 /// What a file contains, or what was read of it. Contracts see the list of its bytes.
-#[derive(Debug, Drop)]
+#[derive(Drop)]
 pub struct FileBytes {
     bytes: Vec<u8>,
 }
