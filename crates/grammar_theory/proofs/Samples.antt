@@ -1,6 +1,6 @@
 -- A token of each form.
 use Rattle.std.proofs.Common.{◌≡◌, true, [], ◌∷◌, refl}
-use Rattle.vhdl_token.specs.declared.token.Base.TheVariants as base
+use Rattle.vlsi_base.specs.declared.radix.Radix.TheVariants as base
 use Rattle.vhdl_token.specs.declared.token.Token.{Token}
 use Rattle.vhdl_token.specs.declared.token.Token.TheVariants as token
 use Rattle.vhdl_token.specs.declared.token.PlacedToken.{PlacedToken}

@@ -3,8 +3,8 @@ use Rattle.std.specs.Prelude.{ℕ, ◌+◌, Bool, true, false, List, [], ◌∷�
 use Rattle.std.specs.List.{list_all}
 use Rattle.vhdl_token.specs.Keyword.{keyword_number}
 use Rattle.vhdl_token.specs.Signs.{sign_number}
-use Rattle.vhdl_token.specs.declared.token.Base.{Base}
-use Rattle.vhdl_token.specs.declared.token.Base.TheVariants as base
+use Rattle.vlsi_base.specs.declared.radix.Radix.{Radix}
+use Rattle.vlsi_base.specs.declared.radix.Radix.TheVariants as base
 use Rattle.vhdl_token.specs.declared.token.Token.{Token}
 use Rattle.vhdl_token.specs.declared.token.Token.TheVariants as token
 use Rattle.vhdl_token.specs.declared.token.PlacedToken.{PlacedToken}
@@ -16,7 +16,7 @@ abbrev pub is_bit : ℕ → Bool
 is_bit c = c == 48 || c == 49
 
 -- a digit of the base, the letters in either case
-abbrev pub is_digit_of : Base → ℕ → Bool
+abbrev pub is_digit_of : Radix → ℕ → Bool
 is_digit_of base.Binary c = is_bit c
 is_digit_of base.Octal c = nat_le 48 c && nat_le c 55
 is_digit_of base.Hexadecimal c = (nat_le 48 c && nat_le c 57) || ((nat_le 97 c && nat_le c 102) || (nat_le 65 c && nat_le c 70))

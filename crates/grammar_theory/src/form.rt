@@ -3,7 +3,7 @@ ghost use Rattle.std.specs.Prelude.{◌≡◌};
 ghost use Rattle.std.specs.List.{list_all};
 ghost use Rattle.grammar_theory.specs.Tokens.{code, is_of, form_of, is_bit as is_bit_digit, is_digit_of};
 
-use vhdl_token::{Base, Keyword, PlacedToken, Sign, Token};
+use vhdl_token::{Radix, Keyword, PlacedToken, Sign, Token};
 
 /// What a grammar asks of a token: its kind, and of a text whether it spells bits.
 #[derive(Clone, Copy, PartialEq, Eq)]
@@ -91,17 +91,17 @@ fn is_bits(text: &[u8]) -> bool
     text.iter().all(|c| is_bit(*c))
 }
 
-fn is_digit(base: Base, c: u8) -> bool
+fn is_digit(base: Radix, c: u8) -> bool
     ensures { result ≡ is_digit_of base c }
 {
     match base {
-        Base::Binary => is_bit(c),
-        Base::Octal => (b'0'..=b'7').contains(&c),
-        Base::Hexadecimal => c.is_ascii_hexdigit(),
+        Radix::Binary => is_bit(c),
+        Radix::Octal => (b'0'..=b'7').contains(&c),
+        Radix::Hexadecimal => c.is_ascii_hexdigit(),
     }
 }
 
-fn are_digits(base: Base, text: &[u8]) -> bool
+fn are_digits(base: Radix, text: &[u8]) -> bool
     ensures { result ≡ list_all (is_digit_of base) text.now }
 {
     text.iter().all(|c| is_digit(base, *c))

@@ -3,3 +3,4 @@ pub mod Values
 pub mod Known
 pub mod Solve
 pub mod Built
+pub mod WholeSize

@@ -3,3 +3,4 @@ pub mod Built
 pub mod Checked
 pub mod Code
 pub mod View
+pub mod Size

@@ -3,6 +3,8 @@
 
 mod law;
 mod machine;
+mod size;
 
 pub use law::{built_settles, settles_once};
 pub use machine::Machine;
+pub use size::machine_size;

@@ -92,7 +92,7 @@ pub written_is_read_again : WrittenIsReadAgain
 written_is_read_again ports p for free spelled rise few =
     let means = written_means_itself ports p 1 for free rise in
     record {
-      raw = placed p;
+      parsed = placed p;
       written = written_text p spelled for.values few;
       faultless = without_fault ports p means.0;
       is = sym (same_meaning p ∙ means.1);

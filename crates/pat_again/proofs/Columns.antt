@@ -23,7 +23,7 @@ use Rattle.pat_meaning.specs.declared.patterns.BitRange.{BitRange}
 use Rattle.pat_meaning.specs.declared.patterns.Column.{Column}
 use Rattle.pat_meaning.specs.declared.patterns.Format.{Format}
 use Rattle.pat_meaning.specs.declared.patterns.Format.TheVariants.{Binary, Octal, Hexadecimal}
-use Rattle.pat_text.specs.declared.raw.RawColumn.{RawColumn}
+use Rattle.pat_text.specs.declared.parsed.ParsedColumn.{ParsedColumn}
 use Rattle.pat_text.specs.Spelled.{text_of, direction_named, format_named}
 use Rattle.pat_text.specs.Patterns.{direction, named_format, one_dir, column_dir, range, column_end, column_behind, column}
 use Rattle.pat_io.specs.Spelling.{together, item_end, word_of, range_text, format_text, dir_text, column_text, columns_text}
@@ -166,7 +166,7 @@ read_behind_dir : (c : Column) (line : ℕ) (rest : List ℕ) → IsSmallWord c.
     → Reads (column_behind c.dir) (written_column line c) (at false line (c.name ++ (range_text c.range ++ (format_text c.format ++ 59 ∷ rest)))) (at false line rest)
 unfolding column_behind
 read_behind_dir c line rest w small =
-    let made : List ℕ → RawColumn = λ name. record { name = name; line = line; dir = c.dir; range = written_range line c.range; format = c.format } in
+    let made : List ℕ → ParsedColumn = λ name. record { name = name; line = line; dir = c.dir; range = written_range line c.range; format = c.format } in
     let back = format_text c.format ++ 59 ∷ rest in
     read_then (token_of_word c.name line) (written_column line c) (read_word c.name line (range_text c.range ++ back) w (name_stops c.range c.format rest))
     (read_then (written_range line c.range) (written_column line c) (read_range c.range line back small)
@@ -183,7 +183,7 @@ read_column c line rest w small =
     (line_end false line rest))
 
 -- each on its line
-abbrev pub columns_from : ℕ → List Column → List RawColumn
+abbrev pub columns_from : ℕ → List Column → List ParsedColumn
 columns_from line [] = []
 columns_from line (c ∷ cs) = written_column line c ∷ columns_from (line_behind line) cs
 

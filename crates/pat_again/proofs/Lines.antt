@@ -10,8 +10,8 @@ use Rattle.pat_meaning.specs.declared.patterns.Column.{Column}
 use Rattle.pat_meaning.specs.declared.patterns.Pattern.{Pattern}
 use Rattle.pat_meaning.specs.declared.patterns.Patterns.{Patterns}
 use Rattle.pat_meaning.specs.declared.patterns.Value.{Value}
-use Rattle.pat_text.specs.declared.raw.RawColumn.{RawColumn}
-use Rattle.pat_text.specs.declared.raw.RawPatterns.{RawPatterns}
+use Rattle.pat_text.specs.declared.parsed.ParsedColumn.{ParsedColumn}
+use Rattle.pat_text.specs.declared.parsed.PatternFile.{PatternFile}
 use Rattle.pat_io.specs.Known.{share_bit, overlap, is_known, is_unknown, if_at_fault, unknown_behind, unknown_columns}
 use Rattle.pat_io.specs.Digits.{bit_range, column_of, value_for, values_for, pattern_for, patterns_for}
 use Rattle.pat_io.specs.Fitting.{if_not, column_fits, column_line, column_faults, value_fits, value_faults, pattern_faults, width_faults, time_behind, time_faults}
@@ -27,7 +27,7 @@ or_none : (a b : Option ReadError) → or_else a b ≡ None → (a ≡ None) × 
 or_none None b h = (refl, h)
 or_none (Some e) b h = absurd cc
 
-none_unknown : (cs : List RawColumn) → unknown_error (first_column cs) ≡ None → cs ≡ []
+none_unknown : (cs : List ParsedColumn) → unknown_error (first_column cs) ≡ None → cs ≡ []
 none_unknown [] h = refl
 none_unknown (c ∷ cs) h = absurd cc
 
@@ -46,11 +46,11 @@ held false line rest h = absurd cc
 holds : (b : Bool) (line : ℕ) (rest : List ℕ) → b ≡ true → rest ≡ [] → if_not b line ++ rest ≡ []
 holds b line rest h g = rw (h, g) refl
 
-known : (b : Bool) (c : RawColumn) (rest : List RawColumn) → if_at_fault b c ++ rest ≡ [] → (b ≡ false) × (rest ≡ [])
+known : (b : Bool) (c : ParsedColumn) (rest : List ParsedColumn) → if_at_fault b c ++ rest ≡ [] → (b ≡ false) × (rest ≡ [])
 known false c rest h = (refl, h)
 known true c rest h = absurd cc
 
-stays_known : (b : Bool) (c : RawColumn) (rest : List RawColumn) → b ≡ false → rest ≡ [] → if_at_fault b c ++ rest ≡ []
+stays_known : (b : Bool) (c : ParsedColumn) (rest : List ParsedColumn) → b ≡ false → rest ≡ [] → if_at_fault b c ++ rest ≡ []
 stays_known b c rest h g = rw (h, g) refl
 
 -- ---- names
@@ -64,7 +64,7 @@ same_overlap (Some r) (Some s) l m = refl
 same_share : (c d : Column) (l m : ℕ) → share_bit (written_column l c) (written_column m d) ≡ share_bit (written_column 1 c) (written_column 1 d)
 same_share c d l m = ap (λ (b : Bool). bytes_eq c.name d.name && b) (same_overlap c.range d.range l m)
 
-any_append : (p : RawColumn → Bool) (xs : List RawColumn) (y : RawColumn) → list_any p (xs ++ y ∷ []) ≡ (list_any p xs || p y)
+any_append : (p : ParsedColumn → Bool) (xs : List ParsedColumn) (y : ParsedColumn) → list_any p (xs ++ y ∷ []) ≡ (list_any p xs || p y)
 any_append p [] y = or_false (p y) where
   or_false : (b : Bool) → (b || false) ≡ b
   or_false true = refl
@@ -75,17 +75,17 @@ any_append p (x ∷ xs) y = ap (λ (b : Bool). p x || b) (any_append p xs y) ∙
   or_assoc false b c = refl
 
 -- a column shares as many bits with those before it
-abbrev ShareAlike : List RawColumn → List RawColumn → Type 0
+abbrev ShareAlike : List ParsedColumn → List ParsedColumn → Type 0
 ShareAlike xs ys = (c : Column) (m : ℕ) → list_any (share_bit (written_column m c)) xs ≡ list_any (share_bit (written_column 1 c)) ys
 
-one_more : (xs ys : List RawColumn) (d : Column) (l : ℕ) → ShareAlike xs ys → ShareAlike (xs ++ written_column l d ∷ []) (ys ++ written_column 1 d ∷ [])
+one_more : (xs ys : List ParsedColumn) (d : Column) (l : ℕ) → ShareAlike xs ys → ShareAlike (xs ++ written_column l d ∷ []) (ys ++ written_column 1 d ∷ [])
 one_more xs ys d l h c m =
     any_append (share_bit (written_column m c)) xs (written_column l d)
     ∙ ap (λ (b : Bool). b || share_bit (written_column m c) (written_column l d)) (h c m)
     ∙ ap (λ (b : Bool). list_any (share_bit (written_column 1 c)) ys || b) (same_share c d m l)
     ∙ sym (any_append (share_bit (written_column 1 c)) ys (written_column 1 d))
 
-all_known : (ports : List Port) (cs : List Column) (l : ℕ) (xs ys : List RawColumn) → ShareAlike xs ys
+all_known : (ports : List Port) (cs : List Column) (l : ℕ) (xs ys : List ParsedColumn) → ShareAlike xs ys
     → unknown_behind ports ys (map (written_column 1) cs) ≡ [] → unknown_behind ports xs (columns_from l cs) ≡ []
 all_known ports [] l xs ys h none = refl
 all_known ports (c ∷ cs) l xs ys h none =
@@ -174,7 +174,7 @@ same_patterns cs (q ∷ qs) l line =
 -- ---- all
 
 -- with the lines on which they stand
-abbrev pub placed : Patterns → RawPatterns
+abbrev pub placed : Patterns → PatternFile
 placed p = record { columns = columns_from 1 p.columns; patterns = patterns_from (line_behind (lines_behind 1 p.columns)) p.columns p.patterns }
 
 pub without_fault : (ports : List Port) (p : Patterns) → fault_in ports (written 1 p) ≡ None → fault_in ports (placed p) ≡ None

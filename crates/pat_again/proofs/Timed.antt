@@ -21,7 +21,7 @@ use Rattle.pat_meaning.specs.declared.patterns.TimeUnit.{TimeUnit}
 use Rattle.pat_meaning.specs.declared.patterns.TimeUnit.TheVariants as unit
 use Rattle.pat_meaning.specs.declared.patterns.Value.{Value}
 use Rattle.pat_meaning.specs.Columns.{FitsColumns}
-use Rattle.pat_text.specs.declared.raw.RawPattern.{RawPattern}
+use Rattle.pat_text.specs.declared.parsed.ParsedPattern.{ParsedPattern}
 use Rattle.pat_text.specs.Spelled.{text_of, unit_named}
 use Rattle.pat_text.specs.Patterns.{time_unit, added, stamp, label, pattern}
 use Rattle.pat_io.specs.Spelling.{item_end, values_text, unit_text, sign_text, time_text, label_text, pattern_text, patterns_text}
@@ -144,7 +144,7 @@ read_pattern cs q before line rest fit w small =
     (line_end false line rest))
 
 -- each on its line
-abbrev pub patterns_from : ℕ → List Column → List Pattern → List RawPattern
+abbrev pub patterns_from : ℕ → List Column → List Pattern → List ParsedPattern
 patterns_from line cs [] = []
 patterns_from line cs (q ∷ qs) = written_pattern line cs q ∷ patterns_from (line_behind line) cs qs
 

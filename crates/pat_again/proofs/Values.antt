@@ -20,7 +20,7 @@ use Rattle.pat_meaning.specs.declared.patterns.Format.TheVariants.{Binary, Octal
 use Rattle.pat_meaning.specs.declared.patterns.Value.{Value}
 use Rattle.pat_meaning.specs.declared.patterns.Value.TheVariants.{Digits, Any}
 use Rattle.pat_meaning.specs.Columns.{names_of_range, Fits, FitsColumns}
-use Rattle.pat_text.specs.declared.raw.RawValue.{RawValue}
+use Rattle.pat_text.specs.declared.parsed.ParsedValue.{ParsedValue}
 use Rattle.pat_text.specs.Spelled.{text_of, is_digit}
 use Rattle.pat_text.specs.Patterns.{digits, given, anything, wanted, expected, value_of, values}
 use Rattle.pat_io.specs.Spelling.{bits_of, number_from, digit_of, digits_text, bits_text, mark_text, value_text, values_text}
@@ -135,10 +135,10 @@ read_given : (d : Dir) (f : Format) (bits : List Bool) (line : ℕ) (rest : List
     → Reads (value_of d f) (record { line = line; digits = Some (bits_text f bits) }) (at true line ((mark_text d ++ bits_text f bits) ++ rest)) (at true line rest)
 unfolding value_of given expected wanted
 read_given dir.In f bits line rest some stops =
-    let v : RawValue = record { line = line; digits = Some (bits_text f bits) } in
+    let v : ParsedValue = record { line = line; digits = Some (bits_text f bits) } in
     read_then (record { token = token.Digits (bits_text f bits); line = line }) v (read_digits f bits line rest some stops) (read_nothing v (at true line rest))
 read_given dir.Out f bits line rest some stops =
-    let v : RawValue = record { line = line; digits = Some (bits_text f bits) } in
+    let v : ParsedValue = record { line = line; digits = Some (bits_text f bits) } in
     read_then (record { token = token.Sign sign.Question; line = line }) v (read_sign true true line 63 (bits_text f bits ++ rest) sign.Question (question_piece (bits_text f bits ++ rest)) refl)
     (read_right (read_then (record { token = token.Digits (bits_text f bits); line = line }) v (read_digits f bits line rest some stops) (read_nothing v (at true line rest))))
 
@@ -146,7 +146,7 @@ read_any : (d : Dir) (f : Format) (line : ℕ) (rest : List ℕ) → d ≡ dir.O
 unfolding value_of expected anything
 read_any dir.In f line rest is = absurd cc
 read_any dir.Out f line rest is =
-    let v : RawValue = record { line = line; digits = None } in
+    let v : ParsedValue = record { line = line; digits = None } in
     read_then (record { token = token.Sign sign.Question; line = line }) v (read_sign true true line 63 (42 ∷ rest) sign.Question (question_piece (42 ∷ rest)) refl)
     (read_left (read_then (record { token = token.Sign sign.Star; line = line }) v (read_sign true true line 42 rest sign.Star (star_piece rest) refl) (read_nothing v (at true line rest))))
 
@@ -177,7 +177,7 @@ read_values [] (v ∷ vs) before line rest fit = absurd fit
 read_values (c ∷ cs) [] before line rest fit = absurd fit
 read_values (c ∷ cs) (v ∷ vs) before line rest fit =
     let behind = values_text cs vs ++ 59 ∷ rest in
-    let first : RawValue = record { line = line; digits = written_digits c v } in
+    let first : ParsedValue = record { line = line; digits = written_digits c v } in
     read_from true line (ap (λ (t : List ℕ). 32 ∷ t) (append_assoc (value_text c v) (values_text cs vs) (59 ∷ rest)))
     (read_behind (blank true line (value_text c v ++ behind))
     (read_then first (first ∷ written_values line cs vs) (read_value c v line behind fit.0 (value_stops cs vs rest))

@@ -9,7 +9,7 @@ use Rattle.vlsi_base.specs.declared.name.Name.{Name}
 use Rattle.vlsi_base.specs.declared.name.Dir.{Dir}
 use Rattle.vlsi_base.specs.declared.name.Dir.TheVariants as dir
 use Rattle.vlsi_base.specs.declared.name.Port.{Port}
-use Rattle.vlsi_base.specs.declared.raw.Range.{Range}
+use Rattle.vlsi_base.specs.declared.range.Range.{Range}
 use Rattle.vlsi_base.specs.declared.fault.FaultKind.{FaultKind}
 use Rattle.vlsi_base.specs.declared.fault.FaultKind.TheVariants as kind
 use Rattle.vlsi_base.specs.declared.fault.ReadError.{ReadError}
@@ -21,10 +21,10 @@ use Rattle.pat_meaning.specs.declared.patterns.Format.{Format}
 use Rattle.pat_meaning.specs.declared.patterns.Format.TheVariants.{Binary, Octal, Hexadecimal}
 use Rattle.pat_meaning.specs.Columns.{column_names, Fits, FitsColumns}
 use Rattle.pat_meaning.specs.Answers.{IsSupplyColumn, IsOfPorts, AreFor}
-use Rattle.pat_text.specs.declared.raw.RawColumn.{RawColumn}
-use Rattle.pat_text.specs.declared.raw.RawValue.{RawValue}
-use Rattle.pat_text.specs.declared.raw.RawPattern.{RawPattern}
-use Rattle.pat_text.specs.declared.raw.RawPatterns.{RawPatterns}
+use Rattle.pat_text.specs.declared.parsed.ParsedColumn.{ParsedColumn}
+use Rattle.pat_text.specs.declared.parsed.ParsedValue.{ParsedValue}
+use Rattle.pat_text.specs.declared.parsed.ParsedPattern.{ParsedPattern}
+use Rattle.pat_text.specs.declared.parsed.PatternFile.{PatternFile}
 use Rattle.pat_io.specs.Spelling.{bits_of}
 use Rattle.vlsi_base.specs.Name.{is_supply}
 use Rattle.vlsi_base.specs.Range.{rising, is_ordered, least}
@@ -37,10 +37,10 @@ use Rattle.pat_io.proofs.Different.{different}
 use Rattle.pat_io.proofs.Matching.{Given, Matches, matching_file}
 
 -- a fault of what is written refuses it
-pub fault_refuses : (bytes : List ℕ) (ports : List Port) (raw : RawPatterns) → IsWritten bytes raw → (e : ReadError) → OrMemory (fault_in ports raw) e → IsPatternRefusal bytes ports e
-fault_refuses bytes ports raw w error.Memory h = tt
-fault_refuses bytes ports raw w (error.Input f) h = faulty raw w h
-fault_refuses bytes ports raw w (error.Limit l) h = faulty raw w h
+pub fault_refuses : (bytes : List ℕ) (ports : List Port) (parsed : PatternFile) → IsWritten bytes parsed → (e : ReadError) → OrMemory (fault_in ports parsed) e → IsPatternRefusal bytes ports e
+fault_refuses bytes ports parsed w error.Memory h = tt
+fault_refuses bytes ports parsed w (error.Input f) h = faulty parsed w h
+fault_refuses bytes ports parsed w (error.Limit l) h = faulty parsed w h
 
 -- ---- no fault
 
@@ -48,7 +48,7 @@ or_both : (a b : Option ReadError) → or_else a b ≡ None → (a ≡ None) × 
 or_both None b h = (refl, h)
 or_both (Some e) b h = absurd cc
 
-no_column : (cs : List RawColumn) → unknown_error (first_column cs) ≡ None → cs ≡ []
+no_column : (cs : List ParsedColumn) → unknown_error (first_column cs) ≡ None → cs ≡ []
 no_column [] h = refl
 no_column (c ∷ cs) h = absurd cc
 
@@ -64,18 +64,18 @@ holds : (b : Bool) (line : ℕ) → if_not b line ≡ [] → b ≡ true
 holds true line h = refl
 holds false line h = absurd cc
 
-pub record HasNoFault (ports : List Port) (raw : RawPatterns) : Type 0 where
-  pub known : unknown_columns ports raw.columns ≡ []
-  pub columns : column_faults ports raw.columns ≡ []
-  pub values : pattern_faults raw.columns raw.patterns ≡ []
+pub record HasNoFault (ports : List Port) (parsed : PatternFile) : Type 0 where
+  pub known : unknown_columns ports parsed.columns ≡ []
+  pub columns : column_faults ports parsed.columns ≡ []
+  pub values : pattern_faults parsed.columns parsed.patterns ≡ []
 
-no_fault : (ports : List Port) (raw : RawPatterns) → fault_in ports raw ≡ None → HasNoFault ports raw
+no_fault : (ports : List Port) (parsed : PatternFile) → fault_in ports parsed ≡ None → HasNoFault ports parsed
 unfolding fault_in
-no_fault ports raw h =
-    let a = or_both (unknown_error (first_column (unknown_columns ports raw.columns))) (or_else (line_error kind.Width (first_line (width_faults ports raw))) (line_error kind.TimeBack (first_line (time_faults 0 raw.patterns)))) h in
-    let b = or_both (line_error kind.Width (first_line (width_faults ports raw))) (line_error kind.TimeBack (first_line (time_faults 0 raw.patterns))) a.1 in
-    let w = no_append (column_faults ports raw.columns) (pattern_faults raw.columns raw.patterns) (no_line kind.Width (width_faults ports raw) b.0) in
-    record { known = no_column (unknown_columns ports raw.columns) a.0; columns = w.0; values = w.1 }
+no_fault ports parsed h =
+    let a = or_both (unknown_error (first_column (unknown_columns ports parsed.columns))) (or_else (line_error kind.Width (first_line (width_faults ports parsed))) (line_error kind.TimeBack (first_line (time_faults 0 parsed.patterns)))) h in
+    let b = or_both (line_error kind.Width (first_line (width_faults ports parsed))) (line_error kind.TimeBack (first_line (time_faults 0 parsed.patterns))) a.1 in
+    let w = no_append (column_faults ports parsed.columns) (pattern_faults parsed.columns parsed.patterns) (no_line kind.Width (width_faults ports parsed) b.0) in
+    record { known = no_column (unknown_columns ports parsed.columns) a.0; columns = w.0; values = w.1 }
 
 -- ---- columns
 
@@ -105,7 +105,7 @@ port_in (p ∷ ports) d name h = elim (or_true (is_same_name p.name name && is_s
   | inr later ↦ there (port_in ports d name later)
 ]
 
-supply_column : (c : RawColumn) → c.range ≡ None → is_supply_input c ≡ true → IsSupplyColumn (column_of c)
+supply_column : (c : ParsedColumn) → c.range ≡ None → is_supply_input c ≡ true → IsSupplyColumn (column_of c)
 supply_column c scalar h =
     let parts = and_parts (is_supply c.name) (is_same_dir c.dir dir.In) h in
     record {
@@ -133,7 +133,7 @@ fitting_range ports name line d f (Some r) h =
     let b = and_parts (is_ordered r) (list_all p (rising (least r) (column_width (Some r)))) a.1 in
     inr (range_all (λ n. In (record { name = n; dir = d }) ports) name r (λ j low high. port_in ports d (record { text = name; bit = Some j }) (range_test p r b.1 j low high)))
 
-fitting_columns : (ports : List Port) (cs : List RawColumn) → column_faults ports cs ≡ [] → All (λ c. IsSupplyColumn c ⊎ IsOfPorts ports c) (map column_of cs)
+fitting_columns : (ports : List Port) (cs : List ParsedColumn) → column_faults ports cs ≡ [] → All (λ c. IsSupplyColumn c ⊎ IsOfPorts ports c) (map column_of cs)
 fitting_columns ports [] h = All-nil (λ c. IsSupplyColumn c ⊎ IsOfPorts ports c)
 fitting_columns ports (c ∷ cs) h =
     let parts = no_append (if_not (column_fits ports c) (column_line c)) (column_faults ports cs) h in
@@ -161,7 +161,7 @@ enough Binary width count e = omega (arith, e)
 enough Octal width count e = omega (arith, e)
 enough Hexadecimal width count e = omega (arith, e)
 
-fitting_digits : (c : RawColumn) (ds : List ℕ) → value_fits c (Some ds) ≡ true → length (column_bits c ds) ≡ length (column_names (column_of c))
+fitting_digits : (c : ParsedColumn) (ds : List ℕ) → value_fits c (Some ds) ≡ true → length (column_bits c ds) ≡ length (column_names (column_of c))
 fitting_digits c ds h =
     let parts = and_parts (nat_eq (length ds) ((column_width c.range + (bits_of c.format - 1)) / bits_of c.format)) (list_all not (take (unused c ds) (digits_bits c.format ds))) h in
     let count = eqb-true (length ds) ((column_width c.range + (bits_of c.format - 1)) / bits_of c.format) parts.0 in
@@ -171,14 +171,14 @@ fitting_digits c ds h =
       rest : (n m w : ℕ) → n ≡ m → w ≤ m → n - (n - w) ≡ w
       rest n m w e le = omega arith
 
-fitting_value : (c : RawColumn) (digits : Option (List ℕ)) → Given c.dir digits → value_fits c digits ≡ true → Fits (column_of c) (value_for c digits)
+fitting_value : (c : ParsedColumn) (digits : Option (List ℕ)) → Given c.dir digits → value_fits c digits ≡ true → Fits (column_of c) (value_for c digits)
 fitting_value c None g h = out c.dir g where
   out : (d : Dir) → Given d None → d ≡ dir.Out
   out dir.In g = absurd g
   out dir.Out g = refl
 fitting_value c (Some ds) g h = fitting_digits c ds h
 
-fitting_values : (cs : List RawColumn) (vs : List RawValue) → Matches cs vs → value_faults cs vs ≡ [] → FitsColumns (map column_of cs) (values_for cs vs)
+fitting_values : (cs : List ParsedColumn) (vs : List ParsedValue) → Matches cs vs → value_faults cs vs ≡ [] → FitsColumns (map column_of cs) (values_for cs vs)
 fitting_values [] [] m h = tt
 fitting_values [] (v ∷ vs) m h = absurd m
 fitting_values (c ∷ cs) [] m h = absurd m
@@ -186,26 +186,26 @@ fitting_values (c ∷ cs) (v ∷ vs) m h =
     let parts = no_append (if_not (value_fits c v.digits) v.line) (value_faults cs vs) h in
     (fitting_value c v.digits m.0 (holds (value_fits c v.digits) v.line parts.0), fitting_values cs vs m.1 parts.1)
 
-fitting_patterns : (cs : List RawColumn) (ps : List RawPattern) → All (λ p. Matches cs p.values) ps → pattern_faults cs ps ≡ [] → All (λ q. FitsColumns (map column_of cs) q.values) (map (pattern_for cs) ps)
+fitting_patterns : (cs : List ParsedColumn) (ps : List ParsedPattern) → All (λ p. Matches cs p.values) ps → pattern_faults cs ps ≡ [] → All (λ q. FitsColumns (map column_of cs) q.values) (map (pattern_for cs) ps)
 fitting_patterns cs [] m h = All-nil (λ q. FitsColumns (map column_of cs) q.values)
 fitting_patterns cs (p ∷ ps) m h =
     let parts = no_append (value_faults cs p.values) (pattern_faults cs ps) h in
-    let M : RawPattern → Type 0 = λ p. Matches cs p.values in
+    let M : ParsedPattern → Type 0 = λ p. Matches cs p.values in
     All-cons (λ q. FitsColumns (map column_of cs) q.values) (pattern_for cs p) (map (pattern_for cs) ps) (fitting_values cs p.values (All-head M p ps m) parts.0) (fitting_patterns cs ps (All-tail M p ps m) parts.1)
 
-length_patterns : (cs : List RawColumn) (ps : List RawPattern) → length (map (pattern_for cs) ps) ≡ length ps
+length_patterns : (cs : List ParsedColumn) (ps : List ParsedPattern) → length (map (pattern_for cs) ps) ≡ length ps
 length_patterns cs [] = refl
 length_patterns cs (p ∷ ps) = ap suc (length_patterns cs ps)
 
 -- ---- all
 
-pub are_for : (bytes : List ℕ) (ports : List Port) (raw : RawPatterns) → IsWritten bytes raw → fault_in ports raw ≡ None → length raw.patterns < 2 ^ 32 → AreFor ports (patterns_for raw)
-are_for bytes ports raw w h few =
-    let none = no_fault ports raw h in
-    let count = length_patterns raw.columns raw.patterns in
+pub are_for : (bytes : List ℕ) (ports : List Port) (parsed : PatternFile) → IsWritten bytes parsed → fault_in ports parsed ≡ None → length parsed.patterns < 2 ^ 32 → AreFor ports (patterns_for parsed)
+are_for bytes ports parsed w h few =
+    let none = no_fault ports parsed h in
+    let count = length_patterns parsed.columns parsed.patterns in
     record {
-      columns = fitting_columns ports raw.columns none.columns;
-      different = different ports [] raw.columns none.known;
-      values = fitting_patterns raw.columns raw.patterns (matching_file _ raw w.file) none.values;
+      columns = fitting_columns ports parsed.columns none.columns;
+      different = different ports [] parsed.columns none.known;
+      values = fitting_patterns parsed.columns parsed.patterns (matching_file _ parsed w.file) none.values;
       few = omega (arith, count, few);
     }

@@ -6,7 +6,7 @@ use Rattle.std.proofs.lemmas.List.Elements.{All-nil, All-cons, All-head, All-tai
 use Rattle.std.proofs.lemmas.Bool.{le-leb, leb-true}
 use Rattle.std.proofs.lemmas.Bool.Decides.{leb_tells}
 use Rattle.vlsi_base.specs.declared.name.Name.{Name}
-use Rattle.vlsi_base.specs.declared.raw.Range.{Range}
+use Rattle.vlsi_base.specs.declared.range.Range.{Range}
 use Rattle.machine_core.specs.Order.{In, here, there, AllDifferent}
 use Rattle.pat_meaning.specs.declared.patterns.BitRange.{BitRange}
 use Rattle.pat_meaning.specs.Columns.{range_bits, bits_named, names_of_range}

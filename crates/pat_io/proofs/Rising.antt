@@ -16,11 +16,11 @@ use Rattle.std.proofs.lemmas.List.Elements.{All-from_get_or}
 use Rattle.std.proofs.lemmas.List.Folds.{list_any_none}
 use Rattle.std.proofs.lemmas.List.Sorted.{IsPermutation-map, IsPermutation-sym}
 use Rattle.std.proofs.lemmas.Map.Text.{is_eq-slice_cmp}
-use Rattle.vlsi_base.specs.declared.raw.Range.{Range}
+use Rattle.vlsi_base.specs.declared.range.Range.{Range}
 use Rattle.vlsi_base.specs.Name.{name_cmp, bit_cmp}
 use Rattle.vlsi_base.specs.Range.{least, greatest}
 use Rattle.vlsi_base.proofs.NameOrder.{name_total}
-use Rattle.pat_text.specs.declared.raw.RawColumn.{RawColumn}
+use Rattle.pat_text.specs.declared.parsed.ParsedColumn.{ParsedColumn}
 use Rattle.pat_io.specs.Known.{overlap, share_bit}
 use Rattle.pat_io.specs.Apart.{least_bit, greatest_bit, first_name, last_name, comes_before}
 use Rattle.pat_io.proofs.Ranges.{ends_order}
@@ -41,7 +41,7 @@ no_overlap (Some r) (Some s) h =
       both true q e = e
       both false q e = refl
 
-no_shared : (c d : RawColumn) → comes_before c d ≡ true → share_bit c d ≡ false
+no_shared : (c d : ParsedColumn) → comes_before c d ≡ true → share_bit c d ≡ false
 no_shared c d h = by (slice_cmp nat_cmp c.name d.name) refl h where
   apart : (p : Bool) → overlap c.range d.range ≡ false → (p && overlap c.range d.range) ≡ false
   apart true e = e
@@ -74,7 +74,7 @@ ends text (Some r) = elim (order (least r) (greatest r)) [
   lower : (a b : ℕ) → a < b → nat_cmp a b ≡ Less
   lower a b h = grind (arith, nat_tests)
 
-before_far : (c d e : RawColumn) → comes_before c d ≡ true → comes_before d e ≡ true → comes_before c e ≡ true
+before_far : (c d e : ParsedColumn) → comes_before c d ≡ true → comes_before d e ≡ true → comes_before c e ≡ true
 before_far c d e h k =
     let a = is_less (name_cmp (last_name c) (first_name d)) h in
     let b = is_less (name_cmp (last_name d) (first_name e)) k in
@@ -85,9 +85,9 @@ before_far c d e h k =
 
 -- ---- columns of which each comes before the next
 
-pub distinct_rising : (cs : List RawColumn) → ((k : ℕ) (d : RawColumn) → k + 1 < length cs → comes_before (get_or cs k d) (get_or cs (k + 1) d) ≡ true) → IsDistinct share_bit cs
+pub distinct_rising : (cs : List ParsedColumn) → ((k : ℕ) (d : ParsedColumn) → k + 1 < length cs → comes_before (get_or cs k d) (get_or cs (k + 1) d) ≡ true) → IsDistinct share_bit cs
 distinct_rising cs next = IsDistinct-from_apart share_bit cs (λ i j d a b. no_shared (get_or cs i d) (get_or cs j d) (far i j d a b)) where
-  far : (i j : ℕ) (d : RawColumn) → i < j → j < length cs → comes_before (get_or cs i d) (get_or cs j d) ≡ true
+  far : (i j : ℕ) (d : ParsedColumn) → i < j → j < length cs → comes_before (get_or cs i d) (get_or cs j d) ≡ true
   far i zero d a b = absurd (omega arith)
   far i (suc j) d a b =
       let here : comes_before (get_or cs j d) (get_or cs (suc j) d) ≡ true = subst (λ n. comes_before (get_or cs j d) (get_or cs n d) ≡ true) (omega arith) (next j d (omega arith)) in
@@ -100,17 +100,17 @@ pub distinct_none : IsDistinct share_bit []
 distinct_none = distinct_rising [] (λ j d h. absurd (omega arith))
 
 -- the same of references to them
-pub distinct_references : (refs : List (Bor RawColumn)) (k : ℕ) → length refs ≤ k → ((j : ℕ) (d : Bor RawColumn) → j + 1 < k → comes_before (get_or refs j d).now (get_or refs (j + 1) d).now ≡ true) → IsDistinct share_bit (map (λ r. r.now) refs)
+pub distinct_references : (refs : List (Bor ParsedColumn)) (k : ℕ) → length refs ≤ k → ((j : ℕ) (d : Bor ParsedColumn) → j + 1 < k → comes_before (get_or refs j d).now (get_or refs (j + 1) d).now ≡ true) → IsDistinct share_bit (map (λ r. r.now) refs)
 distinct_references refs k past next = by refs past next where
-  by : (rs : List (Bor RawColumn)) → length rs ≤ k → ((j : ℕ) (d : Bor RawColumn) → j + 1 < k → comes_before (get_or rs j d).now (get_or rs (j + 1) d).now ≡ true) → IsDistinct share_bit (map (λ r. r.now) rs)
+  by : (rs : List (Bor ParsedColumn)) → length rs ≤ k → ((j : ℕ) (d : Bor ParsedColumn) → j + 1 < k → comes_before (get_or rs j d).now (get_or rs (j + 1) d).now ≡ true) → IsDistinct share_bit (map (λ r. r.now) rs)
   by [] past next = distinct_none
   by (r ∷ rs) past next =
       let all = r ∷ rs in
-      distinct_rising (map (λ (x : Bor RawColumn). x.now) all) (λ j d h.
-      let count : length (map (λ (x : Bor RawColumn). x.now) all) ≡ length all = length-map all (λ (x : Bor RawColumn). x.now) in
-      let first = get_or-map (λ (x : Bor RawColumn). x.now) all j r d (omega arith) in
-      let second = get_or-map (λ (x : Bor RawColumn). x.now) all (j + 1) r d (omega arith) in
-      ap (λ (c : RawColumn). comes_before c (get_or (map (λ (x : Bor RawColumn). x.now) all) (j + 1) d)) first ∙ ap (λ (c : RawColumn). comes_before (get_or all j r).now c) second ∙ next j r (omega arith))
+      distinct_rising (map (λ (x : Bor ParsedColumn). x.now) all) (λ j d h.
+      let count : length (map (λ (x : Bor ParsedColumn). x.now) all) ≡ length all = length-map all (λ (x : Bor ParsedColumn). x.now) in
+      let first = get_or-map (λ (x : Bor ParsedColumn). x.now) all j r d (omega arith) in
+      let second = get_or-map (λ (x : Bor ParsedColumn). x.now) all (j + 1) r d (omega arith) in
+      ap (λ (c : ParsedColumn). comes_before c (get_or (map (λ (x : Bor ParsedColumn). x.now) all) (j + 1) d)) first ∙ ap (λ (c : ParsedColumn). comes_before (get_or all j r).now c) second ∙ next j r (omega arith))
 
 -- ---- columns in another order
 
@@ -132,23 +132,23 @@ either (Some r) (Some s) = swap (nat_le (least r) (greatest s)) (nat_le (least s
   swap false true = refl
   swap false false = refl
 
-flips : (c d : RawColumn) → share_bit c d ≡ share_bit d c
+flips : (c d : ParsedColumn) → share_bit c d ≡ share_bit d c
 flips c d = ap (λ b. b && overlap c.range d.range) (same_either c.name d.name) ∙ ap (λ b. bytes_eq d.name c.name && b) (either c.range d.range)
 
-pub distinct_moved : (columns : List RawColumn) (before after : List (Bor RawColumn)) → map (λ r. r.now) before ≡ columns → IsPermutation before after → IsDistinct share_bit (map (λ r. r.now) after) → IsDistinct share_bit columns
+pub distinct_moved : (columns : List ParsedColumn) (before after : List (Bor ParsedColumn)) → map (λ r. r.now) before ≡ columns → IsPermutation before after → IsDistinct share_bit (map (λ r. r.now) after) → IsDistinct share_bit columns
 distinct_moved columns before after is moved h =
     let back = IsPermutation-sym before after moved in
-    subst (IsDistinct share_bit) is (IsDistinct-IsPermutation share_bit flips (map (λ (r : Bor RawColumn). r.now) after) (map (λ (r : Bor RawColumn). r.now) before) (IsPermutation-map (λ (r : Bor RawColumn). r.now) after before back) h)
+    subst (IsDistinct share_bit) is (IsDistinct-IsPermutation share_bit flips (map (λ (r : Bor ParsedColumn). r.now) after) (map (λ (r : Bor ParsedColumn). r.now) before) (IsPermutation-map (λ (r : Bor ParsedColumn). r.now) after before back) h)
 
 -- a column among those that are apart lists no bit that one before it lists
-pub none_before : (columns : List RawColumn) (count place : ℕ) (c : RawColumn) → place < count → place < length columns → c ≡ get_or columns place c → IsDistinct share_bit (take count columns) → list_any (share_bit c) (take place columns) ≡ false
+pub none_before : (columns : List ParsedColumn) (count place : ℕ) (c : ParsedColumn) → place < count → place < length columns → c ≡ get_or columns place c → IsDistinct share_bit (take count columns) → list_any (share_bit c) (take place columns) ≡ false
 none_before columns count place c a b is h =
     list_any_none (share_bit c) (take place columns)
-    (All-from_get_or (λ (x : RawColumn). share_bit c x ≡ false) (take place columns) c (λ i within.
+    (All-from_get_or (λ (x : ParsedColumn). share_bit c x ≡ false) (take place columns) c (λ i within.
     let low : i < place = omega (arith, length-take place columns) in
     let all : place < length (take count columns) = omega (arith, length-take count columns) in
     let here : get_or (take count columns) place c ≡ c = get_or-take count columns place c a ∙ sym is in
     let there : get_or (take count columns) i c ≡ get_or (take place columns) i c = get_or-take count columns i c (omega arith) ∙ sym (get_or-take place columns i c low) in
     flips c (get_or (take place columns) i c)
-    ∙ ap (λ (x : RawColumn). share_bit x c) (sym there) ∙ ap (share_bit (get_or (take count columns) i c)) (sym here)
+    ∙ ap (λ (x : ParsedColumn). share_bit x c) (sym there) ∙ ap (share_bit (get_or (take count columns) i c)) (sym here)
     ∙ apart_from_distinct share_bit (take count columns) i place c h low all))

@@ -5,8 +5,8 @@ use Rattle.std.proofs.lemmas.List.{at_drop_more, drop_all}
 use Rattle.std.specs.List.{list_all}
 use Rattle.vlsi_base.specs.Range.{rising}
 use Rattle.pat_meaning.specs.declared.patterns.Value.{Value}
-use Rattle.pat_text.specs.declared.raw.RawColumn.{RawColumn}
-use Rattle.pat_text.specs.declared.raw.RawValue.{RawValue}
+use Rattle.pat_text.specs.declared.parsed.ParsedColumn.{ParsedColumn}
+use Rattle.pat_text.specs.declared.parsed.ParsedValue.{ParsedValue}
 use Rattle.pat_io.specs.Digits.{values_for}
 use Rattle.pat_io.specs.Fitting.{value_faults}
 use Rattle.pat_io.specs.PatternText.{first_line}
@@ -38,27 +38,27 @@ turn_end {X} all none xs i total past so_far = sym (ap (λ (ys : List X). first_
 
 -- ---- columns and values together
 
-no_faults : (cs : List RawColumn) → value_faults cs [] ≡ []
+no_faults : (cs : List ParsedColumn) → value_faults cs [] ≡ []
 no_faults [] = refl
 no_faults (c ∷ cs) = refl
 
-no_values : (cs : List RawColumn) → values_for cs [] ≡ []
+no_values : (cs : List ParsedColumn) → values_for cs [] ≡ []
 no_values [] = refl
 no_values (c ∷ cs) = refl
 
-pub faults_past : (cs : List RawColumn) (vs : List RawValue) (k : ℕ) → min (length cs) (length vs) ≤ k → value_faults (drop k cs) (drop k vs) ≡ []
+pub faults_past : (cs : List ParsedColumn) (vs : List ParsedValue) (k : ℕ) → min (length cs) (length vs) ≤ k → value_faults (drop k cs) (drop k vs) ≡ []
 faults_past cs vs k past = by_case (order k (length cs)) where
   by_case : (k < length cs) ⊎ (length cs ≤ k) → value_faults (drop k cs) (drop k vs) ≡ []
   by_case (inl more) = ap (value_faults (drop k cs)) (drop_all k vs (omega arith)) ∙ no_faults (drop k cs)
-  by_case (inr less) = ap (λ (x : List RawColumn). value_faults x (drop k vs)) (drop_all k cs less)
+  by_case (inr less) = ap (λ (x : List ParsedColumn). value_faults x (drop k vs)) (drop_all k cs less)
 
-pub values_past : (cs : List RawColumn) (vs : List RawValue) (k : ℕ) → min (length cs) (length vs) ≤ k → values_for (drop k cs) (drop k vs) ≡ []
+pub values_past : (cs : List ParsedColumn) (vs : List ParsedValue) (k : ℕ) → min (length cs) (length vs) ≤ k → values_for (drop k cs) (drop k vs) ≡ []
 values_past cs vs k past = by_case (order k (length cs)) where
   by_case : (k < length cs) ⊎ (length cs ≤ k) → values_for (drop k cs) (drop k vs) ≡ []
   by_case (inl more) = ap (values_for (drop k cs)) (drop_all k vs (omega arith)) ∙ no_values (drop k cs)
-  by_case (inr less) = ap (λ (x : List RawColumn). values_for x (drop k vs)) (drop_all k cs less)
+  by_case (inr less) = ap (λ (x : List ParsedColumn). values_for x (drop k vs)) (drop_all k cs less)
 
-pub made_all : (cs : List RawColumn) (vs : List RawValue) (k : ℕ) (done total : List Value) → min (length cs) (length vs) ≤ k → done ++ values_for (drop k cs) (drop k vs) ≡ total → done ≡ total
+pub made_all : (cs : List ParsedColumn) (vs : List ParsedValue) (k : ℕ) (done total : List Value) → min (length cs) (length vs) ≤ k → done ++ values_for (drop k cs) (drop k vs) ≡ total → done ≡ total
 made_all cs vs k done total past so_far = sym (append-nil done) ∙ ap (λ (ys : List Value). done ++ ys) (sym (values_past cs vs k past)) ∙ so_far
 
 -- ---- bits of a range

@@ -9,7 +9,7 @@ use Rattle.vlsi_base.specs.declared.name.Name.{Name}
 use Rattle.vlsi_base.specs.declared.name.Dir.{Dir}
 use Rattle.vlsi_base.specs.declared.name.Dir.TheVariants as dir
 use Rattle.vlsi_base.specs.declared.name.Port.{Port}
-use Rattle.vlsi_base.specs.declared.raw.Range.{Range}
+use Rattle.vlsi_base.specs.declared.range.Range.{Range}
 use Rattle.machine_meaning.specs.Named.{is_same_name}
 use Rattle.machine_core.specs.Order.{In, here, there, AllDifferent}
 use Rattle.machine_core.proofs.Names.{same_name-itself}
@@ -23,7 +23,7 @@ use Rattle.pat_meaning.specs.declared.patterns.Value.{Value}
 use Rattle.pat_meaning.specs.declared.patterns.Value.TheVariants.{Digits, Any}
 use Rattle.pat_meaning.specs.Columns.{names_of_range, column_names, listed, FitsColumns}
 use Rattle.pat_meaning.specs.Answers.{IsSupplyColumn, IsOfPorts}
-use Rattle.pat_text.specs.declared.raw.RawColumn.{RawColumn}
+use Rattle.pat_text.specs.declared.parsed.ParsedColumn.{ParsedColumn}
 use Rattle.vlsi_base.specs.Name.{is_supply}
 use Rattle.vlsi_base.specs.Range.{rising, is_ordered, least, greatest}
 use Rattle.pat_io.specs.Known.{is_same_dir, is_supply_input, is_of_port, is_known, share_bit, overlap, is_unknown, if_at_fault, unknown_behind, unknown_columns}
@@ -87,12 +87,12 @@ port_test (p ∷ ports) d name here = or_left (is_same_name name name && is_same
 port_test (p ∷ ports) d name (there i) = or_right (is_same_name p.name name && is_same_dir p.dir d) (is_port ports d name) (port_test ports d name i)
 port_test [] d name i = elim i [ ]
 
-text_test : (ports : List Port) (c : RawColumn) (b : Option ℕ) → In (record { name = record { text = c.name; bit = b }; dir = c.dir }) ports → list_any (is_of_port c) ports ≡ true
+text_test : (ports : List Port) (c : ParsedColumn) (b : Option ℕ) → In (record { name = record { text = c.name; bit = b }; dir = c.dir }) ports → list_any (is_of_port c) ports ≡ true
 text_test (p ∷ ports) c b here = or_left (bytes_eq c.name c.name && is_same_dir c.dir c.dir) (list_any (is_of_port c) ports) (both (bytes_eq c.name c.name) (is_same_dir c.dir c.dir) (text_itself c.name) (dir_itself c.dir))
 text_test (p ∷ ports) c b (there i) = or_right (is_of_port c p) (list_any (is_of_port c) ports) (text_test ports c b i)
 text_test [] c b i = elim i [ ]
 
-supply_input : (c : RawColumn) → IsSupplyColumn (column_of c) → is_supply_input c ≡ true
+supply_input : (c : ParsedColumn) → IsSupplyColumn (column_of c) → is_supply_input c ≡ true
 supply_input c s =
     let named : is_supply c.name ≡ true = elim s.name [
       | inl a ↦ or_left (bytes_eq c.name (codes "vdd")) (bytes_eq c.name (codes "vss")) ((bytes_eq-Decides c.name (codes "vdd")).1 a)
@@ -104,7 +104,7 @@ supply_input c s =
 abbrev NoSupply : List Port → Type 0
 NoSupply ports = All (λ port. is_supply port.name.text ≡ false) ports
 
-abbrev Right : List Port → RawColumn → Type 0
+abbrev Right : List Port → ParsedColumn → Type 0
 Right ports c = IsSupplyColumn (column_of c) ⊎ IsOfPorts ports (column_of c)
 
 -- a bit of a column of ports is a port
@@ -115,13 +115,13 @@ bit_of_port ports name d r h b i = all_in (λ n. In (record { name = n; dir = d 
 known_of : (ports : List Port) (name : List ℕ) (line : ℕ) (d : Dir) (f : Format) (r : Option Range)
     → Right ports (record { name = name; line = line; dir = d; range = r; format = f }) → is_known ports (record { name = name; line = line; dir = d; range = r; format = f }) ≡ true
 known_of ports name line d f r (inl s) =
-    let c : RawColumn = record { name = name; line = line; dir = d; range = r; format = f } in
+    let c : ParsedColumn = record { name = name; line = line; dir = d; range = r; format = f } in
     or_left (is_supply_input c) (list_any (is_of_port c) ports) (supply_input c s)
 known_of ports name line d f None (inr h) =
-    let c : RawColumn = record { name = name; line = line; dir = d; range = None; format = f } in
+    let c : ParsedColumn = record { name = name; line = line; dir = d; range = None; format = f } in
     or_right (is_supply_input c) (list_any (is_of_port c) ports) (text_test ports c None (bit_of_port ports name d None h None (names_in name None None tt)))
 known_of ports name line d f (Some r) (inr h) =
-    let c : RawColumn = record { name = name; line = line; dir = d; range = Some r; format = f } in
+    let c : ParsedColumn = record { name = name; line = line; dir = d; range = Some r; format = f } in
     let first = names_in name (Some (least r)) (Some r) (omega arith, ends_order r) in
     or_right (is_supply_input c) (list_any (is_of_port c) ports) (text_test ports c (Some (least r)) (bit_of_port ports name d (Some r) h (Some (least r)) first))
 
@@ -135,10 +135,10 @@ not_true b h = rw h refl
 column_fitting : (ports : List Port) → NoSupply ports → (name : List ℕ) (line : ℕ) (d : Dir) (f : Format) (r : Option Range) → InOrder r
     → Right ports (record { name = name; line = line; dir = d; range = r; format = f }) → column_fits ports (record { name = name; line = line; dir = d; range = r; format = f }) ≡ true
 column_fitting ports free name line d f None ordered (inl s) =
-    let c : RawColumn = record { name = name; line = line; dir = d; range = None; format = f } in
+    let c : ParsedColumn = record { name = name; line = line; dir = d; range = None; format = f } in
     or_left (is_supply_input c) (is_port ports d (record { text = name; bit = None })) (supply_input c s)
 column_fitting ports free name line d f None ordered (inr h) =
-    let c : RawColumn = record { name = name; line = line; dir = d; range = None; format = f } in
+    let c : ParsedColumn = record { name = name; line = line; dir = d; range = None; format = f } in
     or_right (is_supply_input c) (is_port ports d (record { text = name; bit = None })) (port_test ports d (record { text = name; bit = None }) (bit_of_port ports name d None h None (names_in name None None tt)))
 column_fitting ports free name line d f (Some r) ordered (inl s) = let e = s.range in absurd cc
 column_fitting ports free name line d f (Some r) ordered (inr h) =
@@ -154,11 +154,11 @@ column_fitting ports free name line d f (Some r) ordered (inr h) =
 no_line_of : (b : Bool) (line : ℕ) (rest : List ℕ) → b ≡ true → rest ≡ [] → if_not b line ++ rest ≡ []
 no_line_of b line rest h g = rw (h, g) refl
 
-columns_fitting : (ports : List Port) → NoSupply ports → (cs : List RawColumn) → All (λ c. InOrder c.range) cs → All (λ c. IsSupplyColumn c ⊎ IsOfPorts ports c) (map column_of cs) → column_faults ports cs ≡ []
+columns_fitting : (ports : List Port) → NoSupply ports → (cs : List ParsedColumn) → All (λ c. InOrder c.range) cs → All (λ c. IsSupplyColumn c ⊎ IsOfPorts ports c) (map column_of cs) → column_faults ports cs ≡ []
 columns_fitting ports free [] ordered h = refl
 columns_fitting ports free (c ∷ cs) ordered h =
     let P : Column → Type 0 = λ c. IsSupplyColumn c ⊎ IsOfPorts ports c in
-    let O : RawColumn → Type 0 = λ c. InOrder c.range in
+    let O : ParsedColumn → Type 0 = λ c. InOrder c.range in
     no_line_of (column_fits ports c) (column_line c) (column_faults ports cs)
     (column_fitting ports free c.name c.line c.dir c.format c.range (All-head O c cs ordered) (All-head P (column_of c) (map column_of cs) h))
     (columns_fitting ports free cs (All-tail O c cs ordered) (All-tail P (column_of c) (map column_of cs) h))
@@ -174,12 +174,12 @@ behind : (xs ys : List Name) → AllDifferent (xs ++ ys) → AllDifferent ys
 behind [] ys h = h
 behind (x ∷ xs) ys h = behind xs ys h.1
 
-in_listed : (cs : List RawColumn) (d : RawColumn) (n : Name) → In d cs → In n (column_names (column_of d)) → In n (listed (map column_of cs))
+in_listed : (cs : List ParsedColumn) (d : ParsedColumn) (n : Name) → In d cs → In n (column_names (column_of d)) → In n (listed (map column_of cs))
 in_listed (c ∷ cs) d n here j = In-left n (column_names (column_of c)) (listed (map column_of cs)) j
 in_listed (c ∷ cs) d n (there i) j = In-right n (column_names (column_of c)) (listed (map column_of cs)) (in_listed cs d n i j)
 in_listed [] d n i j = elim i [ ]
 
-unshared : (c : RawColumn) (cs : List RawColumn) → AllDifferent (listed (map column_of (c ∷ cs))) → (d : RawColumn) → In d cs → share_bit d c ≡ false
+unshared : (c : ParsedColumn) (cs : List ParsedColumn) → AllDifferent (listed (map column_of (c ∷ cs))) → (d : ParsedColumn) → In d cs → share_bit d c ≡ false
 unshared c cs h d i = by (share_bit d c) refl where
   by : (b : Bool) → share_bit d c ≡ b → share_bit d c ≡ false
   by false e = e
@@ -196,18 +196,18 @@ none_any : {A : Type 0} (p : A → Bool) (xs : List A) → ((x : A) → In x xs 
 none_any p [] h = refl
 none_any p (x ∷ xs) h = rw (h x here) (none_any p xs (λ y i. h y (there i)))
 
-alone : (b c : RawColumn) → In b (c ∷ []) → c ≡ b
+alone : (b c : ParsedColumn) → In b (c ∷ []) → c ≡ b
 alone b c here = refl
 alone b c (there i) = elim i [ ]
 
-no_column_of : (b : Bool) (c : RawColumn) (rest : List RawColumn) → b ≡ false → rest ≡ [] → if_at_fault b c ++ rest ≡ []
+no_column_of : (b : Bool) (c : ParsedColumn) (rest : List ParsedColumn) → b ≡ false → rest ≡ [] → if_at_fault b c ++ rest ≡ []
 no_column_of b c rest h g = rw (h, g) refl
 
 neither : (a b : Bool) → a ≡ true → b ≡ false → (not a || b) ≡ false
 neither a b h g = rw (h, g) refl
 
-none_unknown : (ports : List Port) (before cs : List RawColumn) → All (λ c. IsSupplyColumn c ⊎ IsOfPorts ports c) (map column_of cs) → AllDifferent (listed (map column_of cs))
-    → ((b : RawColumn) → In b before → (d : RawColumn) → In d cs → share_bit d b ≡ false) → unknown_behind ports before cs ≡ []
+none_unknown : (ports : List Port) (before cs : List ParsedColumn) → All (λ c. IsSupplyColumn c ⊎ IsOfPorts ports c) (map column_of cs) → AllDifferent (listed (map column_of cs))
+    → ((b : ParsedColumn) → In b before → (d : ParsedColumn) → In d cs → share_bit d b ≡ false) → unknown_behind ports before cs ≡ []
 none_unknown ports before [] right different earlier = refl
 none_unknown ports before (c ∷ cs) right different earlier =
     let P : Column → Type 0 = λ c. IsSupplyColumn c ⊎ IsOfPorts ports c in
@@ -217,12 +217,12 @@ none_unknown ports before (c ∷ cs) right different earlier =
     (none_unknown ports (before ++ c ∷ []) cs (All-tail P (column_of c) (map column_of cs) right) (behind (column_names (column_of c)) (listed (map column_of cs)) different)
     (λ b i d j. elim (In-split b before (c ∷ []) i) [
       | inl left ↦ earlier b left d (there j)
-      | inr right ↦ let P : RawColumn → Type 0 = λ x. share_bit d x ≡ false in subst P (alone b c right) (unshared c cs different d j)
+      | inr right ↦ let P : ParsedColumn → Type 0 = λ x. share_bit d x ≡ false in subst P (alone b c right) (unshared c cs different d j)
     ]))
 
 -- ---- values
 
-record ValueAgain (c : RawColumn) (digits : Option (List ℕ)) (v : Value) : Type 0 where
+record ValueAgain (c : ParsedColumn) (digits : Option (List ℕ)) (v : Value) : Type 0 where
   pub fits : value_fits c digits ≡ true
   pub is : value_for c digits ≡ v
 

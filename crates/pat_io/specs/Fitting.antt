@@ -4,15 +4,15 @@ use Rattle.std.specs.List.{list_any, list_all}
 use Rattle.vlsi_base.specs.declared.name.Name.{Name}
 use Rattle.vlsi_base.specs.declared.name.Dir.{Dir}
 use Rattle.vlsi_base.specs.declared.name.Port.{Port}
-use Rattle.vlsi_base.specs.declared.raw.Range.{Range}
+use Rattle.vlsi_base.specs.declared.range.Range.{Range}
 use Rattle.machine_meaning.specs.Named.{is_same_name}
 use Rattle.pat_meaning.specs.declared.patterns.Time.{Time}
 use Rattle.pat_meaning.specs.declared.patterns.TimeUnit.{TimeUnit}
 use Rattle.pat_meaning.specs.declared.patterns.TimeUnit.TheVariants as unit
-use Rattle.pat_text.specs.declared.raw.RawColumn.{RawColumn}
-use Rattle.pat_text.specs.declared.raw.RawValue.{RawValue}
-use Rattle.pat_text.specs.declared.raw.RawPattern.{RawPattern}
-use Rattle.pat_text.specs.declared.raw.RawPatterns.{RawPatterns}
+use Rattle.pat_text.specs.declared.parsed.ParsedColumn.{ParsedColumn}
+use Rattle.pat_text.specs.declared.parsed.ParsedValue.{ParsedValue}
+use Rattle.pat_text.specs.declared.parsed.ParsedPattern.{ParsedPattern}
+use Rattle.pat_text.specs.declared.parsed.PatternFile.{PatternFile}
 use Rattle.pat_io.specs.Spelling.{bits_of}
 use Rattle.vlsi_base.specs.Name.{is_supply}
 use Rattle.vlsi_base.specs.Range.{rising, is_ordered, least}
@@ -29,7 +29,7 @@ abbrev pub is_port : List Port → Dir → Name → Bool
 is_port ports d name = list_any (λ p. is_same_name p.name name && is_same_dir p.dir d) ports
 
 -- A vector is listed with a range of bits that it has; a scalar, vdd and vss without one.
-abbrev pub column_fits : List Port → RawColumn → Bool
+abbrev pub column_fits : List Port → ParsedColumn → Bool
 column_fits ports c = by c.range where
   by : Option Range → Bool
   by None = is_supply_input c || is_port ports c.dir (record { text = c.name; bit = None })
@@ -38,36 +38,36 @@ column_fits ports c = by c.range where
       && list_all (λ k. is_port ports c.dir (record { text = c.name; bit = Some k })) (rising (least r) (column_width (Some r))))
 
 -- a range is at fault at its parenthesis, and a name without one at the name
-abbrev pub column_line : RawColumn → ℕ
+abbrev pub column_line : ParsedColumn → ℕ
 column_line c = by c.range where
   by : Option Range → ℕ
   by None = c.line
   by (Some r) = r.line
 
-abbrev pub column_faults : List Port → List RawColumn → List ℕ
+abbrev pub column_faults : List Port → List ParsedColumn → List ℕ
 column_faults ports [] = []
 column_faults ports (c ∷ cs) = if_not (column_fits ports c) (column_line c) ++ column_faults ports cs
 
 -- ---- values
 
 -- as many digits as hold the column's bits, and the bits that are more are 0
-abbrev pub value_fits : RawColumn → Option (List ℕ) → Bool
+abbrev pub value_fits : ParsedColumn → Option (List ℕ) → Bool
 value_fits c None = true
 value_fits c (Some digits) =
     nat_eq (length digits) ((column_width c.range + (bits_of c.format - 1)) / bits_of c.format)
     && list_all not (take (unused c digits) (digits_bits c.format digits))
 
-abbrev pub value_faults : List RawColumn → List RawValue → List ℕ
+abbrev pub value_faults : List ParsedColumn → List ParsedValue → List ℕ
 value_faults [] vs = []
 value_faults (c ∷ cs) [] = []
 value_faults (c ∷ cs) (v ∷ vs) = if_not (value_fits c v.digits) v.line ++ value_faults cs vs
 
-abbrev pub pattern_faults : List RawColumn → List RawPattern → List ℕ
+abbrev pub pattern_faults : List ParsedColumn → List ParsedPattern → List ℕ
 pattern_faults columns [] = []
 pattern_faults columns (p ∷ ps) = value_faults columns p.values ++ pattern_faults columns ps
 
-abbrev pub width_faults : List Port → RawPatterns → List ℕ
-width_faults ports raw = column_faults ports raw.columns ++ pattern_faults raw.columns raw.patterns
+abbrev pub width_faults : List Port → PatternFile → List ℕ
+width_faults ports parsed = column_faults ports parsed.columns ++ pattern_faults parsed.columns parsed.patterns
 
 -- ---- times
 
@@ -84,6 +84,6 @@ abbrev pub time_behind : ℕ → Time → ℕ
 time_behind before t = (if t.is_added then before else 0) + t.number * unit_size t.unit
 
 -- the patterns behind one at this time that are before the one before them
-abbrev pub time_faults : ℕ → List RawPattern → List ℕ
+abbrev pub time_faults : ℕ → List ParsedPattern → List ℕ
 time_faults before [] = []
 time_faults before (p ∷ ps) = if_not (nat_le before (time_behind before p.time)) p.line ++ time_faults (time_behind before p.time) ps

@@ -8,8 +8,8 @@ use Rattle.vlsi_base.specs.declared.fault.ReadError.{ReadError}
 use Rattle.vlsi_base.specs.declared.fault.ReadError.TheVariants as error
 use Rattle.pat_meaning.specs.declared.patterns.Patterns.{Patterns}
 use Rattle.pat_lexer.specs.Listing.{tokens_in, refusal_in}
-use Rattle.pat_text.specs.declared.raw.RawColumn.{RawColumn}
-use Rattle.pat_text.specs.declared.raw.RawPatterns.{RawPatterns}
+use Rattle.pat_text.specs.declared.parsed.ParsedColumn.{ParsedColumn}
+use Rattle.pat_text.specs.declared.parsed.PatternFile.{PatternFile}
 use Rattle.pat_text.specs.Answers.{IsFile, IsSyntaxFault}
 use Rattle.pat_io.specs.Known.{unknown_columns}
 use Rattle.pat_io.specs.Digits.{patterns_for}
@@ -21,7 +21,7 @@ most_bytes = 1048576
 
 -- ---- the first place at fault
 
-abbrev pub first_column : List RawColumn → Option RawColumn
+abbrev pub first_column : List ParsedColumn → Option ParsedColumn
 first_column [] = None
 first_column (c ∷ _) = Some c
 
@@ -30,7 +30,7 @@ first_line [] = None
 first_line (line ∷ _) = Some line
 
 -- an unknown column is told by its name
-abbrev pub unknown_error : Option RawColumn → Option ReadError
+abbrev pub unknown_error : Option ParsedColumn → Option ReadError
 unknown_error None = None
 unknown_error (Some c) = Some (error.Input (record { line = c.line; kind = kind.Unknown; names = record { text = c.name; bit = None } ∷ [] }))
 
@@ -43,10 +43,10 @@ or_else None o = o
 or_else (Some e) o = Some e
 
 -- names first, then widths, then times
-unfoldable pub fault_in : List Port → RawPatterns → Option ReadError
-fault_in ports raw =
-    or_else (unknown_error (first_column (unknown_columns ports raw.columns)))
-    (or_else (line_error kind.Width (first_line (width_faults ports raw))) (line_error kind.TimeBack (first_line (time_faults 0 raw.patterns))))
+unfoldable pub fault_in : List Port → PatternFile → Option ReadError
+fault_in ports parsed =
+    or_else (unknown_error (first_column (unknown_columns ports parsed.columns)))
+    (or_else (line_error kind.Width (first_line (width_faults ports parsed))) (line_error kind.TimeBack (first_line (time_faults 0 parsed.patterns))))
 
 -- this error, or memory has run out
 abbrev pub OrMemory : Option ReadError → ReadError → Type 0
@@ -57,17 +57,17 @@ OrMemory o (error.Limit l) = o ≡ Some (error.Limit l)
 -- ---- texts
 
 -- what is written, where the bytes are few enough and are cut into tokens
-pub record IsWritten (bytes : List ℕ) (raw : RawPatterns) : Type 0 where
+pub record IsWritten (bytes : List ℕ) (parsed : PatternFile) : Type 0 where
   pub few : length bytes ≤ most_bytes
   pub cut : refusal_in bytes ≡ None
-  pub file : IsFile (tokens_in bytes).items raw
+  pub file : IsFile (tokens_in bytes).items parsed
 
 -- The bytes are a pattern file without a fault for these ports, and the patterns are those that are written.
 pub record IsPatternText (bytes : List ℕ) (ports : List Port) (p : Patterns) : Type 0 where
-  pub raw : RawPatterns
-  pub written : IsWritten bytes raw
-  pub faultless : fault_in ports raw ≡ None
-  pub is : p ≡ patterns_for raw
+  pub parsed : PatternFile
+  pub written : IsWritten bytes parsed
+  pub faultless : fault_in ports parsed ≡ None
+  pub is : p ≡ patterns_for parsed
 
 -- Why bytes are no pattern file for these ports: there are too many, they aren't cut into tokens, the tokens are no
 -- pattern file, or what is written is at fault.
@@ -75,7 +75,7 @@ pub data Refused (bytes : List ℕ) (ports : List Port) (e : ReadError) : Type 0
   long : most_bytes < length bytes → e ≡ error.Limit (record { which = File; reached = 1048577 }) → Refused bytes ports e
   uncut : length bytes ≤ most_bytes → refusal_in bytes ≡ Some e → Refused bytes ports e
   unwritten : length bytes ≤ most_bytes → refusal_in bytes ≡ None → IsSyntaxFault (tokens_in bytes) e → Refused bytes ports e
-  faulty : (raw : RawPatterns) → IsWritten bytes raw → fault_in ports raw ≡ Some e → Refused bytes ports e
+  faulty : (parsed : PatternFile) → IsWritten bytes parsed → fault_in ports parsed ≡ Some e → Refused bytes ports e
 
 -- the refusal, or memory has run out
 abbrev pub IsPatternRefusal : List ℕ → List Port → ReadError → Type 0

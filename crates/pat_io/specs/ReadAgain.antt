@@ -2,7 +2,7 @@
 -- spelled.
 use Rattle.std.specs.Prelude.{◌≡◌, ℕ, Bool, true, false, nat_le, List, [], ◌∷◌, map, length, Option, Some, None}
 use Rattle.std.specs.List.{All}
-use Rattle.vlsi_base.specs.declared.raw.Range.{Range}
+use Rattle.vlsi_base.specs.declared.range.Range.{Range}
 use Rattle.vlsi_base.specs.declared.name.Port.{Port}
 use Rattle.pat_meaning.specs.declared.patterns.BitRange.{BitRange}
 use Rattle.pat_meaning.specs.declared.patterns.Column.{Column}
@@ -11,10 +11,10 @@ use Rattle.pat_meaning.specs.declared.patterns.Patterns.{Patterns}
 use Rattle.pat_meaning.specs.declared.patterns.Value.{Value}
 use Rattle.pat_meaning.specs.declared.patterns.Value.TheVariants.{Digits, Any}
 use Rattle.pat_meaning.specs.Answers.{AreFor}
-use Rattle.pat_text.specs.declared.raw.RawColumn.{RawColumn}
-use Rattle.pat_text.specs.declared.raw.RawValue.{RawValue}
-use Rattle.pat_text.specs.declared.raw.RawPattern.{RawPattern}
-use Rattle.pat_text.specs.declared.raw.RawPatterns.{RawPatterns}
+use Rattle.pat_text.specs.declared.parsed.ParsedColumn.{ParsedColumn}
+use Rattle.pat_text.specs.declared.parsed.ParsedValue.{ParsedValue}
+use Rattle.pat_text.specs.declared.parsed.ParsedPattern.{ParsedPattern}
+use Rattle.pat_text.specs.declared.parsed.PatternFile.{PatternFile}
 use Rattle.pat_io.specs.Spelling.{bits_text}
 use Rattle.vlsi_base.specs.Name.{is_supply}
 use Rattle.pat_io.specs.Digits.{column_width, column_bits, patterns_for}
@@ -24,7 +24,7 @@ use Rattle.pat_io.specs.PatternText.{fault_in}
 -- The digits that spell as many bits as a column has fit the column, and give it those bits.
 abbrev pub DigitsReadAgain : Type 0
 DigitsReadAgain =
-    (c : RawColumn) (bits : List Bool) → length bits ≡ column_width c.range
+    (c : ParsedColumn) (bits : List Bool) → length bits ≡ column_width c.range
     → (value_fits c (Some (bits_text c.format bits)) ≡ true) × (column_bits c (bits_text c.format bits) ≡ bits)
 
 -- ---- what is written of patterns, all on this line
@@ -33,22 +33,22 @@ abbrev pub written_range : ℕ → Option BitRange → Option Range
 written_range line None = None
 written_range line (Some r) = Some (record { left = r.left; falls = nat_le r.right r.left; right = r.right; line = line })
 
-abbrev pub written_column : ℕ → Column → RawColumn
+abbrev pub written_column : ℕ → Column → ParsedColumn
 written_column line c = record { name = c.name; line = line; dir = c.dir; range = written_range line c.range; format = c.format }
 
 abbrev pub written_digits : Column → Value → Option (List ℕ)
 written_digits c (Digits bits) = Some (bits_text c.format bits)
 written_digits c Any = None
 
-abbrev pub written_values : ℕ → List Column → List Value → List RawValue
+abbrev pub written_values : ℕ → List Column → List Value → List ParsedValue
 written_values line [] vs = []
 written_values line (c ∷ cs) [] = []
 written_values line (c ∷ cs) (v ∷ vs) = record { line = line; digits = written_digits c v } ∷ written_values line cs vs
 
-abbrev pub written_pattern : ℕ → List Column → Pattern → RawPattern
+abbrev pub written_pattern : ℕ → List Column → Pattern → ParsedPattern
 written_pattern line cs q = record { line = line; time = q.time; label = q.label; values = written_values line cs q.values }
 
-abbrev pub written : ℕ → Patterns → RawPatterns
+abbrev pub written : ℕ → Patterns → PatternFile
 written line p = record { columns = map (written_column line) p.columns; patterns = map (written_pattern line p.columns) p.patterns }
 
 -- Patterns for ports, none of which is a supply, whose times never fall, are written without a fault, and mean themselves.

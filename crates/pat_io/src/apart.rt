@@ -5,7 +5,7 @@ ghost use Rattle.vlsi_base.specs.Name.{name_cmp};
 ghost use Rattle.pat_io.specs.Known.{share_bit};
 ghost use Rattle.pat_io.specs.Apart.{least_bit, greatest_bit, first_name, comes_before};
 
-use pat_text::RawColumn;
+use pat_text::ParsedColumn;
 use std::alloc::{AllocError, Global};
 use std::cmp::Ordering;
 use vlsi_base::Range;
@@ -29,7 +29,7 @@ fn greatest_bit(range: Option<Range>) -> Option<u32>
 }
 
 /// The order of two columns by the first bits that they list.
-fn order(a: &RawColumn, b: &RawColumn) -> Ordering
+fn order(a: &ParsedColumn, b: &ParsedColumn) -> Ordering
     ensures { result ≡ name_cmp (first_name a.now) (first_name b.now) }
 {
     let bits = least_bit(a.range).cmp(&least_bit(b.range));
@@ -37,7 +37,7 @@ fn order(a: &RawColumn, b: &RawColumn) -> Ordering
 }
 
 /// Whether each bit of a column comes before each of another, in the order of names.
-fn comes_before(a: &RawColumn, b: &RawColumn) -> bool
+fn comes_before(a: &ParsedColumn, b: &ParsedColumn) -> bool
     ensures { result ≡ comes_before a.now b.now }
 {
     let bits = greatest_bit(a.range).cmp(&least_bit(b.range));
@@ -45,7 +45,7 @@ fn comes_before(a: &RawColumn, b: &RawColumn) -> bool
 }
 
 /// Whether each of the columns comes before the next.
-fn rise(columns: &[&RawColumn]) -> bool
+fn rise(columns: &[&ParsedColumn]) -> bool
     ensures { IsTrue result → IsDistinct share_bit (map (λ c. c.now) columns.now) }
 {
     for k in 1..columns.len() {
@@ -56,7 +56,7 @@ fn rise(columns: &[&RawColumn]) -> bool
     true
 }
 
-fn references(alloc: Global, columns: &[RawColumn]) -> Result<Vec<&RawColumn>, AllocError>
+fn references(alloc: Global, columns: &[ParsedColumn]) -> Result<Vec<&ParsedColumn>, AllocError>
     ensures { IfOk result (λ found. map (λ c. c.now) found.items ≡ columns.now) }
 {
     let mut found = Vec::new(alloc);
@@ -68,7 +68,7 @@ fn references(alloc: Global, columns: &[RawColumn]) -> Result<Vec<&RawColumn>, A
 
 /// Whether columns are seen to list no bit twice: in the order of their first bits, each comes before the next. It takes
 /// memory for a reference a column.
-fn are_apart(alloc: Global, columns: &[RawColumn]) -> Result<bool, AllocError>
+fn are_apart(alloc: Global, columns: &[ParsedColumn]) -> Result<bool, AllocError>
     ensures { IfOk result (λ apart. IsTrue apart → IsDistinct share_bit columns.now) }
 {
     let mut sorted = references(alloc, columns)?;
@@ -78,7 +78,7 @@ fn are_apart(alloc: Global, columns: &[RawColumn]) -> Result<bool, AllocError>
 
 /// How many columns, from the first one on, are seen to list no bit twice, by halving. It takes memory for a reference a
 /// column, and time for the logarithm of their number, squared, for each.
-pub fn apart_count(alloc: Global, columns: &[RawColumn]) -> Result<usize, AllocError>
+pub fn apart_count(alloc: Global, columns: &[ParsedColumn]) -> Result<usize, AllocError>
     ensures most { IfOk result (λ count. count ≤ length columns.now) }
     ensures apart { IfOk result (λ count. IsDistinct share_bit (take count columns.now)) }
 {

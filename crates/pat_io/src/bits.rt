@@ -7,7 +7,7 @@ ghost use Rattle.pat_io.specs.Digits.{column_width, number_bits, digit_value, di
 ghost use Rattle.pat_io.specs.Fitting.{value_fits};
 
 use pat_meaning::Format;
-use pat_text::RawColumn;
+use pat_text::ParsedColumn;
 use std::alloc::{AllocError, Global};
 use vlsi_base::{Range, Text};
 
@@ -92,7 +92,7 @@ fn are_zero(bits: &[bool]) -> bool
     bits.iter().all(|bit| !*bit)
 }
 
-fn digits_fit(alloc: Global, column: &RawColumn, digits: &Text) -> Result<bool, AllocError>
+fn digits_fit(alloc: Global, column: &ParsedColumn, digits: &Text) -> Result<bool, AllocError>
     ensures { IfOk result (λ fits. fits ≡ value_fits column.now (Some digits.now)) }
 {
     let width = column_width(column.range);
@@ -109,7 +109,7 @@ fn digits_fit(alloc: Global, column: &RawColumn, digits: &Text) -> Result<bool, 
 /// its bits.
 pub fn value_fits(
     alloc: Global,
-    column: &RawColumn,
+    column: &ParsedColumn,
     digits: Option<&Text>,
 ) -> Result<bool, AllocError>
     ensures { IfOk result (λ fits. fits ≡ value_fits column.now (option_copied digits.entry)) }
@@ -123,7 +123,7 @@ pub fn value_fits(
 /// The bits that digits give a column, from the left. It takes memory for them.
 pub fn column_bits(
     alloc: Global,
-    column: &RawColumn,
+    column: &ParsedColumn,
     digits: &[u8],
 ) -> Result<Vec<bool>, AllocError>
     ensures { IfOk result (λ bits. bits.items ≡ column_bits column.now digits.now) }

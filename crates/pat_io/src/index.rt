@@ -5,7 +5,7 @@ ghost use Rattle.machine_meaning.specs.Named.{is_same_name};
 ghost use Rattle.pat_io.specs.Known.{is_same_dir, is_of_port};
 ghost use Rattle.pat_io.specs.Fitting.{is_port};
 
-use pat_text::RawColumn;
+use pat_text::ParsedColumn;
 use std::alloc::{AllocError, Global};
 use std::collections::BTreeMap;
 use vlsi_base::{Dir, Port};
@@ -58,7 +58,7 @@ pub fn is_same_dir(a: Dir, b: Dir) -> bool
     }
 }
 
-fn is_of_port(column: &RawColumn, port: &Port) -> bool
+fn is_of_port(column: &ParsedColumn, port: &Port) -> bool
     ensures { result ≡ is_of_port column.now port.now }
 {
     port.name.text.as_bytes() == column.name.as_bytes() && is_same_dir(port.dir, column.dir)
@@ -70,7 +70,7 @@ fn is_port_bit(port: &Port, text: &[u8], bit: Option<u32>, dir: Dir) -> bool
     port.name.text.as_bytes() == text && port.name.bit == bit && is_same_dir(port.dir, dir)
 }
 
-fn walk_texts(ports: &[Port], column: &RawColumn) -> bool
+fn walk_texts(ports: &[Port], column: &ParsedColumn) -> bool
     ensures { result ≡ list_any (is_of_port column.now) ports.now }
 {
     ports.iter().any(|port| is_of_port(column, port))
@@ -84,7 +84,7 @@ fn walk_bits(ports: &[Port], text: &[u8], bit: Option<u32>, dir: Dir) -> bool
 
 /// Whether some port bit has the name and the direction of a column. What the index says is looked at; where that isn't
 /// it, all ports are.
-pub fn has_text<'a>(index: &Index<'a>, ports: &[Port], column: &'a RawColumn) -> bool
+pub fn has_text<'a>(index: &Index<'a>, ports: &[Port], column: &'a ParsedColumn) -> bool
     ensures { result ≡ list_any (is_of_port column.now) ports.now }
 {
     if let Some(place) = index.guess_text(column.name.as_bytes()) {

@@ -7,18 +7,18 @@ ghost use Rattle.pat_io.specs.PatternText.{first_column};
 
 use crate::apart::apart_count;
 use crate::index::{Index, has_text, is_same_dir};
-use pat_text::RawColumn;
+use pat_text::ParsedColumn;
 use std::alloc::{AllocError, Global};
 use vlsi_base::{Dir, Port, Range, is_supply};
 
 /// Whether a column is a supply, listed as an input.
-pub fn is_supply_input(column: &RawColumn) -> bool
+pub fn is_supply_input(column: &ParsedColumn) -> bool
     ensures { result ≡ is_supply_input column.now }
 {
     is_supply(column.name.as_bytes()) && is_same_dir(column.dir, Dir::In)
 }
 
-fn is_known<'a>(index: &Index<'a>, ports: &[Port], column: &'a RawColumn) -> bool
+fn is_known<'a>(index: &Index<'a>, ports: &[Port], column: &'a ParsedColumn) -> bool
     ensures { result ≡ is_known ports.now column.now }
 {
     is_supply_input(column) || has_text(index, ports, column)
@@ -35,7 +35,7 @@ fn overlap(a: Option<Range>, b: Option<Range>) -> bool
 }
 
 /// Whether two columns list one bit.
-fn share_bit(a: &RawColumn, b: &RawColumn) -> bool
+fn share_bit(a: &ParsedColumn, b: &ParsedColumn) -> bool
     ensures { result ≡ share_bit a.now b.now }
 {
     a.name.as_bytes() == b.name.as_bytes() && overlap(a.range, b.range)
@@ -43,7 +43,7 @@ fn share_bit(a: &RawColumn, b: &RawColumn) -> bool
 
 /// Whether a column lists a bit that one before it lists. The first ones, as many as `apart` says, list no bit twice, so
 /// only a column behind them is compared with those before it.
-fn is_listed(columns: &[RawColumn], apart: usize, place: usize, column: &RawColumn) -> bool
+fn is_listed(columns: &[ParsedColumn], apart: usize, place: usize, column: &ParsedColumn) -> bool
     requires inside { place < length columns.now }
     requires at { column.now ≡ slice_index_or columns.now place column.now }
     requires apart { IsDistinct share_bit (take apart columns.now) }
@@ -62,8 +62,8 @@ pub fn unknown_column<'a>(
     alloc: Global,
     index: &Index<'a>,
     ports: &[Port],
-    columns: &'a [RawColumn],
-) -> Result<Option<&'a RawColumn>, AllocError>
+    columns: &'a [ParsedColumn],
+) -> Result<Option<&'a ParsedColumn>, AllocError>
     ensures { IfOk result (λ found. option_copied found ≡ first_column (unknown_columns ports.now columns.now)) }
 {
     let apart = apart_count(alloc, columns)?;

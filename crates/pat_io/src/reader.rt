@@ -13,14 +13,14 @@ use crate::times::time_fault;
 use crate::widths::width_fault;
 use pat_lexer::tokens;
 use pat_meaning::Patterns;
-use pat_text::{RawColumn, RawPatterns, read_patterns};
+use pat_text::{ParsedColumn, PatternFile, read_patterns};
 use std::alloc::Global;
 use vlsi_base::{FaultKind, InputFault, Limit, LimitKind, Name, Names, Port, Ports, ReadError};
 
 /// The most bytes of a pattern file.
 const MOST_BYTES: usize = 1_048_576;
 
-fn unknown(alloc: Global, column: &RawColumn) -> ReadError
+fn unknown(alloc: Global, column: &ParsedColumn) -> ReadError
     ensures { OrMemory (unknown_error (Some column.now)) result }
 {
     let Ok(text) = column.name.copy(alloc) else {
@@ -49,26 +49,26 @@ fn at_line(alloc: Global, kind: FaultKind, line: u32) -> ReadError
 
 /// Looks for the first fault of what is written.
 #[tactic(auto, unfolding(crate::specs::PatternText::fault_in))]
-fn check(alloc: Global, ports: &[Port], raw: &RawPatterns) -> Result<(), ReadError>
-    ensures faultless { OnOk result (fault_in ports.now raw.now ≡ None) }
-    ensures faulty { IfErr result (λ e. OrMemory (fault_in ports.now raw.now) e) }
+fn check(alloc: Global, ports: &[Port], parsed: &PatternFile) -> Result<(), ReadError>
+    ensures faultless { OnOk result (fault_in ports.now parsed.now ≡ None) }
+    ensures faulty { IfErr result (λ e. OrMemory (fault_in ports.now parsed.now) e) }
 {
     let index = Index::of(alloc, ports)?;
-    if let Some(column) = unknown_column(alloc, &index, ports, raw.columns.as_slice())? {
+    if let Some(column) = unknown_column(alloc, &index, ports, parsed.columns.as_slice())? {
         return Err(unknown(alloc, column));
     }
-    if let Some(line) = width_fault(alloc, &index, ports, raw)? {
+    if let Some(line) = width_fault(alloc, &index, ports, parsed)? {
         return Err(at_line(alloc, FaultKind::Width, line));
     }
-    match time_fault(raw.patterns.as_slice())? {
+    match time_fault(parsed.patterns.as_slice())? {
         Some(line) => Err(at_line(alloc, FaultKind::TimeBack, line)),
         None => Ok(()),
     }
 }
 
 /// What is written in a pattern file.
-fn written(alloc: Global, bytes: &[u8], ports: &Ports) -> Result<RawPatterns, ReadError>
-    ensures written { IfOk result (λ raw. IsWritten bytes.now raw) }
+fn written(alloc: Global, bytes: &[u8], ports: &Ports) -> Result<PatternFile, ReadError>
+    ensures written { IfOk result (λ parsed. IsWritten bytes.now parsed) }
     ensures refused { IfErr result (λ e. IsPatternRefusal bytes.now ports.now e) }
 {
     if bytes.len() > MOST_BYTES {
@@ -95,11 +95,11 @@ pub fn read_pat(alloc: Global, bytes: &[u8], ports: &Ports) -> Result<Patterns, 
     ensures fits { IfOk result (λ p. AreFor ports.now p) }
     ensures refused { IfErr result (λ e. IsPatternRefusal bytes.now ports.now e) }
 {
-    let raw = written(alloc, bytes, ports)?;
-    if u32::try_from(raw.patterns.as_slice().len()).is_err() {
+    let parsed = written(alloc, bytes, ports)?;
+    if u32::try_from(parsed.patterns.as_slice().len()).is_err() {
         return Err(ReadError::Memory);
     }
-    check(alloc, ports.as_slice(), &raw)?;
-    let made = patterns(alloc, &raw)?;
+    check(alloc, ports.as_slice(), &parsed)?;
+    let made = patterns(alloc, &parsed)?;
     Ok(made)
 }

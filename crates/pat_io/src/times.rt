@@ -4,7 +4,7 @@ ghost use Rattle.pat_io.specs.Fitting.{unit_size, time_behind, time_faults};
 ghost use Rattle.pat_io.specs.PatternText.{first_line};
 
 use pat_meaning::{Time, TimeUnit};
-use pat_text::RawPattern;
+use pat_text::ParsedPattern;
 use std::alloc::AllocError;
 
 /// A unit in femtoseconds.
@@ -29,7 +29,7 @@ fn time_behind(before: u128, time: Time) -> Option<u128>
 }
 
 /// The line of the first pattern that is before the one before it. A time over 128 bits is answered as want of memory.
-pub fn time_fault(patterns: &[RawPattern]) -> Result<Option<u32>, AllocError>
+pub fn time_fault(patterns: &[ParsedPattern]) -> Result<Option<u32>, AllocError>
     ensures { IfOk result (λ line. line ≡ first_line (time_faults 0 patterns.now)) }
 {
     let mut before = 0u128;

@@ -10,7 +10,7 @@ ghost use Rattle.pat_io.specs.PatternText.{first_line};
 use crate::bits::{column_width, value_fits};
 use crate::index::{Index, has_bit};
 use crate::known::is_supply_input;
-use pat_text::{RawColumn, RawPattern, RawPatterns, RawValue};
+use pat_text::{ParsedColumn, ParsedPattern, PatternFile, ParsedValue};
 use std::alloc::{AllocError, Global};
 use vlsi_base::{Dir, Port, Range, is_supply};
 
@@ -35,7 +35,7 @@ fn has_bits<'a>(
     true
 }
 
-fn range_fits<'a>(index: &Index<'a>, ports: &[Port], column: &'a RawColumn, range: Range) -> bool
+fn range_fits<'a>(index: &Index<'a>, ports: &[Port], column: &'a ParsedColumn, range: Range) -> bool
     ensures { result ≡ (not (is_supply column.now.name) && (is_ordered range
         && list_all (λ k. is_port ports.now column.now.dir (record { text = column.now.name; bit = Some k })) (rising (least range) (column_width (Some range))))) }
 {
@@ -51,7 +51,7 @@ fn range_fits<'a>(index: &Index<'a>, ports: &[Port], column: &'a RawColumn, rang
 }
 
 /// Whether a vector is listed with a range of bits that it has, and a scalar or a supply without one.
-fn column_fits<'a>(index: &Index<'a>, ports: &[Port], column: &'a RawColumn) -> bool
+fn column_fits<'a>(index: &Index<'a>, ports: &[Port], column: &'a ParsedColumn) -> bool
     ensures { result ≡ column_fits ports.now column.now }
 {
     match column.range {
@@ -64,7 +64,7 @@ fn column_fits<'a>(index: &Index<'a>, ports: &[Port], column: &'a RawColumn) -> 
 }
 
 /// The line of a column's range, or of its name where it has none.
-fn column_line(column: &RawColumn) -> u32
+fn column_line(column: &ParsedColumn) -> u32
     ensures { result ≡ column_line column.now }
 {
     match column.range {
@@ -73,7 +73,7 @@ fn column_line(column: &RawColumn) -> u32
     }
 }
 
-fn columns_fault<'a>(index: &Index<'a>, ports: &[Port], columns: &'a [RawColumn]) -> Option<u32>
+fn columns_fault<'a>(index: &Index<'a>, ports: &[Port], columns: &'a [ParsedColumn]) -> Option<u32>
     ensures { result ≡ first_line (column_faults ports.now columns.now) }
 {
     for column in columns {
@@ -86,8 +86,8 @@ fn columns_fault<'a>(index: &Index<'a>, ports: &[Port], columns: &'a [RawColumn]
 
 fn values_fault(
     alloc: Global,
-    columns: &[RawColumn],
-    values: &[RawValue],
+    columns: &[ParsedColumn],
+    values: &[ParsedValue],
 ) -> Result<Option<u32>, AllocError>
     ensures { IfOk result (λ line. line ≡ first_line (value_faults columns.now values.now)) }
 {
@@ -102,8 +102,8 @@ fn values_fault(
 
 fn patterns_fault(
     alloc: Global,
-    columns: &[RawColumn],
-    patterns: &[RawPattern],
+    columns: &[ParsedColumn],
+    patterns: &[ParsedPattern],
 ) -> Result<Option<u32>, AllocError>
     ensures { IfOk result (λ line. line ≡ first_line (pattern_faults columns.now patterns.now)) }
 {
@@ -120,13 +120,13 @@ pub fn width_fault<'a>(
     alloc: Global,
     index: &Index<'a>,
     ports: &[Port],
-    raw: &'a RawPatterns,
+    parsed: &'a PatternFile,
 ) -> Result<Option<u32>, AllocError>
-    ensures { IfOk result (λ line. line ≡ first_line (width_faults ports.now raw.now)) }
+    ensures { IfOk result (λ line. line ≡ first_line (width_faults ports.now parsed.now)) }
 {
-    let columns = raw.columns.as_slice();
+    let columns = parsed.columns.as_slice();
     match columns_fault(index, ports, columns) {
         Some(line) => Ok(Some(line)),
-        None => patterns_fault(alloc, columns, raw.patterns.as_slice()),
+        None => patterns_fault(alloc, columns, parsed.patterns.as_slice()),
     }
 }

@@ -11,7 +11,7 @@ use Rattle.grammar_theory.specs.Outcome.{At, start}
 use Rattle.grammar_theory.specs.Answers.{Meets, AnswersAll, tokens_of}
 use Rattle.grammar_theory.specs.Unique.{OneAnswerToAll}
 use Rattle.grammar_theory.proofs.Unique as unique
-use Rattle.pat_text.specs.declared.raw.RawPatterns.{RawPatterns}
+use Rattle.pat_text.specs.declared.parsed.PatternFile.{PatternFile}
 use Rattle.pat_text.specs.Patterns.{file}
 use Rattle.pat_text.specs.Answers.{syntax_for, IsFile, IsSyntaxFault}
 use Rattle.pat_text.specs.Reading.{file_at}
@@ -27,8 +27,8 @@ nothing_meets w m = no m.next.token m.rest_more m.rest_is where
   no t ts e = cc
 
 -- a pattern file is what the grammar asks of a whole text
-answers : (ts : List PlacedToken) (raw : RawPatterns) (f : IsFile ts raw) → AnswersAll file (start ts) (Ok (raw, record { state = f.state; rest = [] }))
-answers ts raw f = (
+answers : (ts : List PlacedToken) (parsed : PatternFile) (f : IsFile ts parsed) → AnswersAll file (start ts) (Ok (parsed, record { state = f.state; rest = [] }))
+answers ts parsed f = (
   record {
     front = f.items;
     parts = f.all ∙ sym (append-nil _);
@@ -43,15 +43,15 @@ pub one_file : OneFile
 one_file text a b h g = unique.same_value file one (start text.items) _ _ a b (answers text.items a h) (answers text.items b g)
 
 pub never_both : NeverBothFile
-never_both text raw e h g = unique.never_both file one (start text.items) _ raw g.refusal (answers text.items raw h) g.right
+never_both text parsed e h g = unique.never_both file one (start text.items) _ parsed g.refusal (answers text.items parsed h) g.right
 
 pub one_fault : OneSyntaxFault
 one_fault text d e h g =
     let same : h.refusal ≡ g.refusal = unique.same_refusal file one (start text.items) h.refusal g.refusal h.right g.right in
     h.is ∙ ap (λ (r : Refusal). syntax_for text r.left) same ∙ sym g.is
 
-is_file : (ts : List PlacedToken) (raw : RawPatterns) (there : At) → AnswersAll file (start ts) (Ok (raw, there)) → IsFile ts raw
-is_file ts raw there a = record {
+is_file : (ts : List PlacedToken) (parsed : PatternFile) (there : At) → AnswersAll file (start ts) (Ok (parsed, there)) → IsFile ts parsed
+is_file ts parsed there a = record {
   items = a.0.front;
   all = a.0.parts ∙ ap (λ (z : List PlacedToken). tokens_of a.0.front ++ z) a.1 ∙ append-nil (tokens_of a.0.front);
   sentence = a.0.sentence;

@@ -22,8 +22,8 @@ use Rattle.vhdl_front.proofs.Language.{exact_number}
 use Rattle.pat_meaning.specs.declared.patterns.Format.{Format}
 use Rattle.pat_meaning.specs.declared.patterns.Format.TheVariants.{Binary}
 use Rattle.pat_meaning.specs.declared.patterns.TimeUnit.TheVariants as unit
-use Rattle.pat_text.specs.declared.raw.RawColumn.{RawColumn}
-use Rattle.pat_text.specs.declared.raw.RawPattern.{RawPattern}
+use Rattle.pat_text.specs.declared.parsed.ParsedColumn.{ParsedColumn}
+use Rattle.pat_text.specs.declared.parsed.ParsedPattern.{ParsedPattern}
 use Rattle.pat_text.specs.Spelled.{text_of, direction_named, format_named, unit_named, is_digit}
 use Rattle.pat_text.specs.Patterns.{any_word, direction, named_format, time_unit, one_dir, column_dir, range, column_end, column_behind, column, digits, given, anything, wanted, expected, value_of, values, added, stamp, labelled, label, pattern, file_behind, file}
 use Rattle.pat_text.specs.Reading.{any_word_at, direction_at, named_format_at, time_unit_at, one_dir_at, column_dir_at, range_at, optional_range_at, format_at, semicolons_at, column_end_at, column_behind_at, column_at, digits_at, given_at, anything_at, wanted_at, expected_at, value_at, values_at, plus_at, added_at, stamp_at, labelled_at, label_at, pattern_at, columns_at, patterns_at, file_behind_at, file_at}
@@ -138,11 +138,11 @@ unfolding value_of value_at
 exact_value dir.In f = exact_given f
 exact_value dir.Out f = exact_expected f
 
-abbrev values_firsts : List RawColumn → Set
+abbrev values_firsts : List ParsedColumn → Set
 values_firsts [] = forms (semicolon ∷ [])
 values_firsts (c ∷ cs) = value_firsts c.dir ++ []
 
-exact_values : (cs : List RawColumn) → Language (values cs) false (values_firsts cs) [] (values_at cs)
+exact_values : (cs : List ParsedColumn) → Language (values cs) false (values_firsts cs) [] (values_at cs)
 unfolding values values_at
 exact_values [] = exact_then (exact_one semicolon) (λ t. exact_nothing []) refl
 exact_values (c ∷ cs) = exact_then (exact_value c.dir c.format) (λ v. exact_then (exact_values cs) (λ vs. exact_nothing (v ∷ vs)) refl) refl
@@ -172,7 +172,7 @@ exact_label = within words words
     (exact_behind (form.Keyword word.End) (exact_labelled (form.Keyword word.End))
     (exact_behind form.Identifier (exact_labelled form.Identifier) (exact_nothing None) refl) refl) refl) refl) refl) refl refl refl
 
-pub exact_pattern : (cs : List RawColumn) → Language (pattern cs) false (forms (form.Sign sign.Less ∷ [])) [] (pattern_at cs)
+pub exact_pattern : (cs : List ParsedColumn) → Language (pattern cs) false (forms (form.Sign sign.Less ∷ [])) [] (pattern_at cs)
 unfolding pattern pattern_at
 exact_pattern cs =
     exact_then exact_stamp (λ s. exact_then exact_label (λ l. exact_then (exact_one (form.Sign sign.Colon)) (λ t. exact_then (exact_values cs)
@@ -180,7 +180,7 @@ exact_pattern cs =
 
 -- ---- files
 
-exact_patterns : (cs : List RawColumn) → Language (list (pattern cs)) true (forms (form.Sign sign.Less ∷ [])) (forms (form.Sign sign.Less ∷ [])) (patterns_at cs)
+exact_patterns : (cs : List ParsedColumn) → Language (list (pattern cs)) true (forms (form.Sign sign.Less ∷ [])) (forms (form.Sign sign.Less ∷ [])) (patterns_at cs)
 unfolding patterns_at
 exact_patterns cs = exact_list (exact_pattern cs) refl
 
@@ -188,7 +188,7 @@ exact_columns : Language (list column) true dirs (code semicolon ∷ dirs) colum
 unfolding columns_at
 exact_columns = exact_list exact_column refl
 
-exact_file_behind : (cs : List RawColumn) → Language (file_behind cs) false (forms (form.Keyword word.Begin ∷ [])) [] (file_behind_at cs)
+exact_file_behind : (cs : List ParsedColumn) → Language (file_behind cs) false (forms (form.Keyword word.Begin ∷ [])) [] (file_behind_at cs)
 unfolding file_behind file_behind_at
 exact_file_behind cs =
     exact_then (exact_one (form.Keyword word.Begin)) (λ t. exact_then (exact_patterns cs) (λ patterns. exact_then (exact_one (form.Keyword word.End)) (λ u. exact_then (exact_one semicolon)
@@ -209,8 +209,8 @@ item_consumes G f l r e here there v h = consumes G f l r e.shape (e.reads tt) h
 pub semicolon_consumes : (here there : At) (v : PlacedToken) → take_at semicolon here ≡ Ok (v, there) → length there.rest < length here.rest
 semicolon_consumes here there v h = item_consumes (one semicolon) (forms (semicolon ∷ [])) [] (take_at semicolon) (exact_one semicolon) here there v h
 
-pub column_consumes : (here there : At) (v : RawColumn) → column_at here ≡ Ok (v, there) → length there.rest < length here.rest
+pub column_consumes : (here there : At) (v : ParsedColumn) → column_at here ≡ Ok (v, there) → length there.rest < length here.rest
 column_consumes here there v h = item_consumes column dirs (forms (semicolon ∷ [])) column_at exact_column here there v h
 
-pub pattern_consumes : (cs : List RawColumn) (here there : At) (v : RawPattern) → pattern_at cs here ≡ Ok (v, there) → length there.rest < length here.rest
+pub pattern_consumes : (cs : List ParsedColumn) (here there : At) (v : ParsedPattern) → pattern_at cs here ≡ Ok (v, there) → length there.rest < length here.rest
 pattern_consumes cs here there v h = item_consumes (pattern cs) (forms (form.Sign sign.Less ∷ [])) [] (pattern_at cs) (exact_pattern cs) here there v h

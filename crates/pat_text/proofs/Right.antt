@@ -9,7 +9,7 @@ use Rattle.grammar_theory.specs.Answers.{tokens_of, Rejects, AnswersAll}
 use Rattle.grammar_theory.proofs.End.{answers_all}
 use Rattle.vhdl_front.specs.Cursor.{at_of}
 use Rattle.vhdl_front.specs.declared.counts.Counts.{Counts}
-use Rattle.pat_text.specs.declared.raw.RawPatterns.{RawPatterns}
+use Rattle.pat_text.specs.declared.parsed.PatternFile.{PatternFile}
 use Rattle.pat_text.specs.Patterns.{file}
 use Rattle.pat_text.specs.Reading.{file_at}
 use Rattle.pat_text.specs.Answers.{syntax_for, IsFile, IsSyntaxFault, IsRefusal}
@@ -18,9 +18,9 @@ use Rattle.pat_text.proofs.PatLanguage.{file_answers}
 whole : (here : At) → AnswersAll file here (finish (file_at here))
 whole here = answers_all file here (file_at here) (file_answers here)
 
-pub is_file : (here : At) (ts : List PlacedToken) (raw : RawPatterns) (there : At) → here ≡ start ts → finish (file_at here) ≡ Ok (raw, there) → IsFile ts raw
-is_file here ts raw there first e =
-    let Right : Outcome RawPatterns → Type 0 = λ o. AnswersAll file here o in
+pub is_file : (here : At) (ts : List PlacedToken) (parsed : PatternFile) (there : At) → here ≡ start ts → finish (file_at here) ≡ Ok (parsed, there) → IsFile ts parsed
+is_file here ts parsed there first e =
+    let Right : Outcome PatternFile → Type 0 = λ o. AnswersAll file here o in
     let a = subst Right e (whole here) in
     let at : here.rest ≡ ts = ap (λ (h : At). h.rest) first in
     record {
@@ -33,7 +33,7 @@ is_file here ts raw there first e =
 
 pub is_refused : (text : Tokens) (here : At) (r : Refusal) (e : ReadError) → here ≡ start text.items → finish (file_at here) ≡ Err r → e ≡ syntax_for text r.left → IsRefusal text e
 is_refused text here r e first refused is =
-    let Right : Outcome RawPatterns → Type 0 = λ o. AnswersAll file here o in
+    let Right : Outcome PatternFile → Type 0 = λ o. AnswersAll file here o in
     let At : At → Type 0 = λ h. Rejects file h r in
     let right : Rejects file here r = subst Right refused (whole here) in
     let Refused : ReadError → Type 0 = λ x. IsRefusal text x in

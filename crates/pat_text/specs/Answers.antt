@@ -9,14 +9,14 @@ use Rattle.grammar_theory.specs.Marks.{Item, State, uncounted, run}
 use Rattle.grammar_theory.specs.Outcome.{start}
 use Rattle.grammar_theory.specs.Answers.{tokens_of, Rejects}
 use Rattle.vhdl_front.specs.Front.{line_left, syntax_on}
-use Rattle.pat_text.specs.declared.raw.RawPatterns.{RawPatterns}
+use Rattle.pat_text.specs.declared.parsed.PatternFile.{PatternFile}
 use Rattle.pat_text.specs.Patterns.{file}
 
 -- All of the tokens are a sentence of the grammar, in which each word and digit fits its place, and this is what is written.
-pub record IsFile (ts : List PlacedToken) (raw : RawPatterns) : Type 0 where
+pub record IsFile (ts : List PlacedToken) (parsed : PatternFile) : Type 0 where
   pub items : List Item
   pub all : ts ≡ tokens_of items
-  pub sentence : file items raw
+  pub sentence : file items parsed
   pub state : State
   pub fitting : run items uncounted ≡ Ok state
 

@@ -3,7 +3,7 @@ use Rattle.std.specs.Prelude.{ℕ, Bool, true, false, List, [], ◌∷◌, Optio
 use Rattle.std.specs.List.{list_all}
 use Rattle.vlsi_base.specs.declared.name.Dir.{Dir}
 use Rattle.vlsi_base.specs.declared.name.Dir.TheVariants as dir
-use Rattle.vlsi_base.specs.declared.raw.Range.{Range}
+use Rattle.vlsi_base.specs.declared.range.Range.{Range}
 use Rattle.vhdl_token.specs.declared.keyword.Keyword.{Keyword}
 use Rattle.vhdl_token.specs.declared.keyword.Keyword.TheVariants as word
 use Rattle.vhdl_token.specs.declared.token.Sign.TheVariants as sign
@@ -18,10 +18,10 @@ use Rattle.pat_meaning.specs.declared.patterns.Format.TheVariants.{Binary}
 use Rattle.pat_meaning.specs.declared.patterns.Time.{Time}
 use Rattle.pat_meaning.specs.declared.patterns.TimeUnit.{TimeUnit}
 use Rattle.pat_meaning.specs.declared.patterns.TimeUnit.TheVariants as unit
-use Rattle.pat_text.specs.declared.raw.RawColumn.{RawColumn}
-use Rattle.pat_text.specs.declared.raw.RawValue.{RawValue}
-use Rattle.pat_text.specs.declared.raw.RawPattern.{RawPattern}
-use Rattle.pat_text.specs.declared.raw.RawPatterns.{RawPatterns}
+use Rattle.pat_text.specs.declared.parsed.ParsedColumn.{ParsedColumn}
+use Rattle.pat_text.specs.declared.parsed.ParsedValue.{ParsedValue}
+use Rattle.pat_text.specs.declared.parsed.ParsedPattern.{ParsedPattern}
+use Rattle.pat_text.specs.declared.parsed.PatternFile.{PatternFile}
 use Rattle.pat_text.specs.Spelled.{text_of, direction_named, format_named, unit_named, is_digit}
 
 -- ---- words
@@ -79,7 +79,7 @@ column_end = do
   nothing first
 
 -- behind the direction
-unfoldable pub column_behind : Dir → Grammar RawColumn
+unfoldable pub column_behind : Dir → Grammar ParsedColumn
 column_behind d = do
   name ← any_word
   r ← range or nothing None
@@ -87,7 +87,7 @@ column_behind d = do
   t ← column_end
   nothing (record { name = text_of name; line = name.line; dir = d; range = r; format = f })
 
-unfoldable pub column : Grammar RawColumn
+unfoldable pub column : Grammar ParsedColumn
 column = do
   d ← column_dir
   column_behind d
@@ -98,33 +98,33 @@ unfoldable pub digits : Format → Grammar PlacedToken
 digits f = marked form.Digits (λ t. fits (list_all (is_digit f) (text_of t)))
 
 -- a value of an input
-unfoldable pub given : Format → Grammar RawValue
+unfoldable pub given : Format → Grammar ParsedValue
 given f = do
   t ← digits f
   nothing (record { line = t.line; digits = Some (text_of t) })
 
-unfoldable pub anything : ℕ → Grammar RawValue
+unfoldable pub anything : ℕ → Grammar ParsedValue
 anything line = do
   t ← one (form.Sign sign.Star)
   nothing (record { line = line; digits = None })
 
-unfoldable pub wanted : ℕ → Format → Grammar RawValue
+unfoldable pub wanted : ℕ → Format → Grammar ParsedValue
 wanted line f = do
   t ← digits f
   nothing (record { line = line; digits = Some (text_of t) })
 
 -- a value of an output
-unfoldable pub expected : Format → Grammar RawValue
+unfoldable pub expected : Format → Grammar ParsedValue
 expected f = do
   t ← one (form.Sign sign.Question)
   anything t.line or wanted t.line f
 
-unfoldable pub value_of : Dir → Format → Grammar RawValue
+unfoldable pub value_of : Dir → Format → Grammar ParsedValue
 value_of dir.In f = given f
 value_of dir.Out f = expected f
 
 -- a value for each column, and a semicolon
-unfoldable pub values : List RawColumn → Grammar (List RawValue)
+unfoldable pub values : List ParsedColumn → Grammar (List ParsedValue)
 values [] = do
   t ← one (form.Sign sign.Semicolon)
   nothing []
@@ -165,7 +165,7 @@ label =
     or labelled form.Identifier
     or nothing None
 
-unfoldable pub pattern : List RawColumn → Grammar RawPattern
+unfoldable pub pattern : List ParsedColumn → Grammar ParsedPattern
 pattern columns = do
   s ← stamp
   l ← label
@@ -176,7 +176,7 @@ pattern columns = do
 -- ---- files
 
 -- behind the columns
-unfoldable pub file_behind : List RawColumn → Grammar RawPatterns
+unfoldable pub file_behind : List ParsedColumn → Grammar PatternFile
 file_behind columns = do
   t ← one (form.Keyword word.Begin)
   patterns ← list (pattern columns)
@@ -184,7 +184,7 @@ file_behind columns = do
   s ← one (form.Sign sign.Semicolon)
   nothing (record { columns = columns; patterns = patterns })
 
-unfoldable pub file : Grammar RawPatterns
+unfoldable pub file : Grammar PatternFile
 file = do
   columns ← list column
   file_behind columns

@@ -3,7 +3,7 @@ use Rattle.std.specs.Prelude.{ℕ, Bool, true, false, List, [], ◌∷◌, Optio
 use Rattle.std.specs.List.{list_all}
 use Rattle.vlsi_base.specs.declared.name.Dir.{Dir}
 use Rattle.vlsi_base.specs.declared.name.Dir.TheVariants as dir
-use Rattle.vlsi_base.specs.declared.raw.Range.{Range}
+use Rattle.vlsi_base.specs.declared.range.Range.{Range}
 use Rattle.vhdl_token.specs.declared.keyword.Keyword.{Keyword}
 use Rattle.vhdl_token.specs.declared.keyword.Keyword.TheVariants as word
 use Rattle.vhdl_token.specs.declared.token.Sign.TheVariants as sign
@@ -20,10 +20,10 @@ use Rattle.pat_meaning.specs.declared.patterns.Format.TheVariants.{Binary}
 use Rattle.pat_meaning.specs.declared.patterns.Time.{Time}
 use Rattle.pat_meaning.specs.declared.patterns.TimeUnit.{TimeUnit}
 use Rattle.pat_meaning.specs.declared.patterns.TimeUnit.TheVariants as unit
-use Rattle.pat_text.specs.declared.raw.RawColumn.{RawColumn}
-use Rattle.pat_text.specs.declared.raw.RawValue.{RawValue}
-use Rattle.pat_text.specs.declared.raw.RawPattern.{RawPattern}
-use Rattle.pat_text.specs.declared.raw.RawPatterns.{RawPatterns}
+use Rattle.pat_text.specs.declared.parsed.ParsedColumn.{ParsedColumn}
+use Rattle.pat_text.specs.declared.parsed.ParsedValue.{ParsedValue}
+use Rattle.pat_text.specs.declared.parsed.ParsedPattern.{ParsedPattern}
+use Rattle.pat_text.specs.declared.parsed.PatternFile.{PatternFile}
 use Rattle.pat_text.specs.Spelled.{text_of, direction_named, format_named, unit_named, is_digit}
 
 unfoldable pub any_word_at : Reader PlacedToken
@@ -81,7 +81,7 @@ column_end_at here = do
   others ← semicolons_at first.1
   Ok (first.0, others.1)
 
-unfoldable pub column_behind_at : Dir → Reader RawColumn
+unfoldable pub column_behind_at : Dir → Reader ParsedColumn
 column_behind_at d here = do
   name ← any_word_at here
   r ← optional_range_at name.1
@@ -89,7 +89,7 @@ column_behind_at d here = do
   t ← column_end_at f.1
   Ok (record { name = text_of name.0; line = name.0.line; dir = d; range = r.0; format = f.0 }, t.1)
 
-unfoldable pub column_at : Reader RawColumn
+unfoldable pub column_at : Reader ParsedColumn
 column_at here = do
   d ← column_dir_at here
   column_behind_at d.0 d.1
@@ -97,31 +97,31 @@ column_at here = do
 unfoldable pub digits_at : Format → Reader PlacedToken
 digits_at f here = take_marked form.Digits (λ t. fits (list_all (is_digit f) (text_of t))) here
 
-unfoldable pub given_at : Format → Reader RawValue
+unfoldable pub given_at : Format → Reader ParsedValue
 given_at f here = do
   t ← digits_at f here
   Ok (record { line = t.0.line; digits = Some (text_of t.0) }, t.1)
 
-unfoldable pub anything_at : ℕ → Reader RawValue
+unfoldable pub anything_at : ℕ → Reader ParsedValue
 anything_at line here = do
   t ← take_at (form.Sign sign.Star) here
   Ok (record { line = line; digits = None }, t.1)
 
-unfoldable pub wanted_at : ℕ → Format → Reader RawValue
+unfoldable pub wanted_at : ℕ → Format → Reader ParsedValue
 wanted_at line f here = do
   t ← digits_at f here
   Ok (record { line = line; digits = Some (text_of t.0) }, t.1)
 
-unfoldable pub expected_at : Format → Reader RawValue
+unfoldable pub expected_at : Format → Reader ParsedValue
 expected_at f here = do
   t ← take_at (form.Sign sign.Question) here
   if is_at (form.Sign sign.Star) t.1.rest then anything_at t.0.line t.1 else wanted_at t.0.line f t.1
 
-unfoldable pub value_at : Dir → Format → Reader RawValue
+unfoldable pub value_at : Dir → Format → Reader ParsedValue
 value_at dir.In f here = given_at f here
 value_at dir.Out f here = expected_at f here
 
-unfoldable pub values_at : List RawColumn → Reader (List RawValue)
+unfoldable pub values_at : List ParsedColumn → Reader (List ParsedValue)
 values_at [] here = do
   t ← take_at (form.Sign sign.Semicolon) here
   Ok ([], t.1)
@@ -160,7 +160,7 @@ label_at here =
     else (if is_at (form.Keyword word.End) here.rest then labelled_at (form.Keyword word.End) here
     else (if is_at form.Identifier here.rest then labelled_at form.Identifier here else Ok (None, here)))))
 
-unfoldable pub pattern_at : List RawColumn → Reader RawPattern
+unfoldable pub pattern_at : List ParsedColumn → Reader ParsedPattern
 pattern_at columns here = do
   s ← stamp_at here
   l ← label_at s.1
@@ -172,13 +172,13 @@ pattern_at columns here = do
 abbrev pub column_firsts : List ℕ
 column_firsts = code (form.Keyword word.In) ∷ code (form.Keyword word.Out) ∷ []
 
-unfoldable pub columns_at : Reader (List RawColumn)
+unfoldable pub columns_at : Reader (List ParsedColumn)
 columns_at = list_at column_firsts column_at
 
-unfoldable pub patterns_at : List RawColumn → Reader (List RawPattern)
+unfoldable pub patterns_at : List ParsedColumn → Reader (List ParsedPattern)
 patterns_at columns = list_at (code (form.Sign sign.Less) ∷ []) (pattern_at columns)
 
-unfoldable pub file_behind_at : List RawColumn → Reader RawPatterns
+unfoldable pub file_behind_at : List ParsedColumn → Reader PatternFile
 file_behind_at columns here = do
   t ← take_at (form.Keyword word.Begin) here
   patterns ← patterns_at columns t.1
@@ -186,7 +186,7 @@ file_behind_at columns here = do
   s ← take_at (form.Sign sign.Semicolon) u.1
   Ok (record { columns = columns; patterns = patterns.0 }, s.1)
 
-unfoldable pub file_at : Reader RawPatterns
+unfoldable pub file_at : Reader PatternFile
 file_at here = do
   columns ← columns_at here
   file_behind_at columns.0 columns.1

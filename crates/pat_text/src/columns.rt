@@ -5,7 +5,7 @@ ghost use Rattle.grammar_theory.specs.Outcome.{Gives};
 ghost use Rattle.vhdl_front.specs.Cursor.{at_of};
 ghost use Rattle.pat_text.specs.Reading.{one_dir_at, column_dir_at, range_at, optional_range_at, format_at, semicolons_at, column_end_at, column_behind_at, column_at, columns_at, column_firsts, Skips};
 
-use crate::raw::RawColumn;
+use crate::parsed::ParsedColumn;
 use crate::words::{any_word, direction, named_format, text_of};
 use grammar_theory::{Form, Stop};
 use pat_meaning::Format;
@@ -93,7 +93,7 @@ fn column_end<'a>(cursor: &mut Cursor<'a>) -> Result<&'a PlacedToken, Stop>
 
 /// A column behind its direction.
 #[tactic(auto, unfolding(crate::specs::Reading::column_behind_at))]
-fn column_behind(cursor: &mut Cursor<'_>, dir: Dir) -> Result<RawColumn, Stop>
+fn column_behind(cursor: &mut Cursor<'_>, dir: Dir) -> Result<ParsedColumn, Stop>
     ensures { Gives (λ c. c) result (at_of cursor.new.counts cursor.new.rest.now) (column_behind_at dir (at_of cursor.old.counts cursor.old.rest.now)) }
 {
     let word = any_word(cursor)?;
@@ -101,7 +101,7 @@ fn column_behind(cursor: &mut Cursor<'_>, dir: Dir) -> Result<RawColumn, Stop>
     let range = optional_range(cursor)?;
     let format = format(cursor)?;
     let _end = column_end(cursor)?;
-    Ok(RawColumn {
+    Ok(ParsedColumn {
         name,
         line: word.line,
         dir,
@@ -111,7 +111,7 @@ fn column_behind(cursor: &mut Cursor<'_>, dir: Dir) -> Result<RawColumn, Stop>
 }
 
 #[tactic(auto, unfolding(crate::specs::Reading::column_at))]
-fn column(cursor: &mut Cursor<'_>) -> Result<RawColumn, Stop>
+fn column(cursor: &mut Cursor<'_>) -> Result<ParsedColumn, Stop>
     ensures { Gives (λ c. c) result (at_of cursor.new.counts cursor.new.rest.now) (column_at (at_of cursor.old.counts cursor.old.rest.now)) }
 {
     let dir = column_dir(cursor)?;
@@ -127,7 +127,7 @@ fn at_column(cursor: &Cursor<'_>) -> bool
 
 /// Columns, as many as there are.
 #[tactic(auto, unfolding(crate::specs::Reading::columns_at))]
-pub fn columns(cursor: &mut Cursor<'_>) -> Result<Vec<RawColumn>, Stop>
+pub fn columns(cursor: &mut Cursor<'_>) -> Result<Vec<ParsedColumn>, Stop>
     ensures { Gives (λ v. v.items) result (at_of cursor.new.counts cursor.new.rest.now) (columns_at (at_of cursor.old.counts cursor.old.rest.now)) }
 {
     let mut columns = Vec::new(cursor.alloc);

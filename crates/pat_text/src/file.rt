@@ -8,7 +8,7 @@ ghost use Rattle.pat_text.specs.Answers.{syntax_for, IsFile, IsRefusal};
 
 use crate::columns::columns;
 use crate::patterns::patterns;
-use crate::raw::{RawColumn, RawColumns, RawPatternList, RawPatterns};
+use crate::parsed::{ParsedColumn, ParsedColumns, ParsedPatterns, PatternFile};
 use grammar_theory::{Form, Reason, Stop};
 use std::alloc::Global;
 use vhdl_front::{Counts, Cursor};
@@ -17,21 +17,21 @@ use vlsi_base::{FaultKind, InputFault, Names, ReadError};
 
 /// What stands behind the columns.
 #[tactic(auto, unfolding(crate::specs::Reading::file_behind_at))]
-fn file_behind(cursor: &mut Cursor<'_>, columns: Vec<RawColumn>) -> Result<RawPatterns, Stop>
+fn file_behind(cursor: &mut Cursor<'_>, columns: Vec<ParsedColumn>) -> Result<PatternFile, Stop>
     ensures { Gives (λ f. f) result (at_of cursor.new.counts cursor.new.rest.now) (file_behind_at columns.items (at_of cursor.old.counts cursor.old.rest.now)) }
 {
     let _begin = cursor.take(Form::Keyword(Keyword::Begin))?;
     let patterns = patterns(cursor, &columns)?;
     let _end = cursor.take(Form::Keyword(Keyword::End))?;
     let _semicolon = cursor.take(Form::Sign(Sign::Semicolon))?;
-    Ok(RawPatterns {
-        columns: RawColumns::new(columns),
-        patterns: RawPatternList::new(patterns),
+    Ok(PatternFile {
+        columns: ParsedColumns::new(columns),
+        patterns: ParsedPatterns::new(patterns),
     })
 }
 
 #[tactic(auto, unfolding(crate::specs::Reading::file_at))]
-fn file(cursor: &mut Cursor<'_>) -> Result<RawPatterns, Stop>
+fn file(cursor: &mut Cursor<'_>) -> Result<PatternFile, Stop>
     ensures { Gives (λ f. f) result (at_of cursor.new.counts cursor.new.rest.now) (file_at (at_of cursor.old.counts cursor.old.rest.now)) }
 {
     let columns = columns(cursor)?;
@@ -39,14 +39,14 @@ fn file(cursor: &mut Cursor<'_>) -> Result<RawPatterns, Stop>
 }
 
 /// A file with nothing behind it.
-fn whole_file(cursor: &mut Cursor<'_>) -> Result<RawPatterns, Stop>
+fn whole_file(cursor: &mut Cursor<'_>) -> Result<PatternFile, Stop>
     ensures { Gives (λ f. f) result (at_of cursor.new.counts cursor.new.rest.now) (finish (file_at (at_of cursor.old.counts cursor.old.rest.now))) }
 {
-    let raw = file(cursor)?;
+    let parsed = file(cursor)?;
     if !cursor.rest.is_empty() {
         return Err(cursor.refuse(Reason::Syntax));
     }
-    Ok(raw)
+    Ok(parsed)
 }
 
 /// The line of the token from which on so many are left; the end stands on the last line.
@@ -78,8 +78,8 @@ fn syntax(alloc: Global, tokens: &Tokens, left: usize) -> ReadError
 /// `Input` with `Syntax` and no names at the first token with which the tokens so far begin no pattern file: also at a word
 /// or digits that don't fit their place, and at the first value too few or too many. Memory goes by the number of tokens and
 /// their texts, and so does time.
-pub fn read_patterns(alloc: Global, tokens: &Tokens) -> Result<RawPatterns, ReadError>
-    ensures read { IfOk result (λ raw. IsFile tokens.now.items raw) }
+pub fn read_patterns(alloc: Global, tokens: &Tokens) -> Result<PatternFile, ReadError>
+    ensures read { IfOk result (λ parsed. IsFile tokens.now.items parsed) }
     ensures refused { IfErr result (λ e. IsRefusal tokens.now e) }
 {
     let mut cursor = Cursor {
@@ -88,7 +88,7 @@ pub fn read_patterns(alloc: Global, tokens: &Tokens) -> Result<RawPatterns, Read
         alloc,
     };
     match whole_file(&mut cursor) {
-        Ok(raw) => Ok(raw),
+        Ok(parsed) => Ok(parsed),
         Err(Stop::Memory) => Err(ReadError::Memory),
         Err(Stop::Refused(refusal)) => Err(syntax(alloc, tokens, refusal.left)),
     }

@@ -5,11 +5,11 @@ mod columns;
 mod file;
 mod law;
 mod patterns;
-mod raw;
+mod parsed;
 mod words;
 
 pub use file::read_patterns;
 pub use law::{each_text, never_both, one_refusal, reads_once};
-pub use raw::{
-    RawColumn, RawColumns, RawPattern, RawPatternList, RawPatterns, RawValue, RawValues,
+pub use parsed::{
+    ParsedColumn, ParsedColumns, ParsedPattern, ParsedPatterns, PatternFile, ParsedValue, ParsedValues,
 };

@@ -4,7 +4,7 @@ ghost use Rattle.grammar_theory.specs.Outcome.{Gives};
 ghost use Rattle.vhdl_front.specs.Cursor.{at_of};
 ghost use Rattle.pat_text.specs.Reading.{given_at, anything_at, wanted_at, expected_at, value_at, values_at, plus_at, added_at, stamp_at, labelled_at, label_at, pattern_at, patterns_at};
 
-use crate::raw::{RawColumn, RawPattern, RawValue, RawValues};
+use crate::parsed::{ParsedColumn, ParsedPattern, ParsedValue, ParsedValues};
 use crate::words::{digits, text_of, time_unit};
 use grammar_theory::{Form, Stop};
 use pat_meaning::{Format, Time};
@@ -14,12 +14,12 @@ use vlsi_base::{Dir, Text};
 
 /// A value of an input.
 #[tactic(auto, unfolding(crate::specs::Reading::given_at))]
-fn given(cursor: &mut Cursor<'_>, format: Format) -> Result<RawValue, Stop>
+fn given(cursor: &mut Cursor<'_>, format: Format) -> Result<ParsedValue, Stop>
     ensures { Gives (λ v. v) result (at_of cursor.new.counts cursor.new.rest.now) (given_at format (at_of cursor.old.counts cursor.old.rest.now)) }
 {
     let token = digits(cursor, format)?;
     let digits = Text::from_bytes(cursor.alloc, text_of(token))?;
-    Ok(RawValue {
+    Ok(ParsedValue {
         line: token.line,
         digits: Some(digits),
     })
@@ -27,21 +27,21 @@ fn given(cursor: &mut Cursor<'_>, format: Format) -> Result<RawValue, Stop>
 
 /// The star behind a question mark on this line.
 #[tactic(auto, unfolding(crate::specs::Reading::anything_at))]
-fn anything(cursor: &mut Cursor<'_>, line: u32) -> Result<RawValue, Stop>
+fn anything(cursor: &mut Cursor<'_>, line: u32) -> Result<ParsedValue, Stop>
     ensures { Gives (λ v. v) result (at_of cursor.new.counts cursor.new.rest.now) (anything_at line (at_of cursor.old.counts cursor.old.rest.now)) }
 {
     let _star = cursor.take(Form::Sign(Sign::Star))?;
-    Ok(RawValue { line, digits: None })
+    Ok(ParsedValue { line, digits: None })
 }
 
 /// The digits behind a question mark on this line.
 #[tactic(auto, unfolding(crate::specs::Reading::wanted_at))]
-fn wanted(cursor: &mut Cursor<'_>, line: u32, format: Format) -> Result<RawValue, Stop>
+fn wanted(cursor: &mut Cursor<'_>, line: u32, format: Format) -> Result<ParsedValue, Stop>
     ensures { Gives (λ v. v) result (at_of cursor.new.counts cursor.new.rest.now) (wanted_at line format (at_of cursor.old.counts cursor.old.rest.now)) }
 {
     let token = digits(cursor, format)?;
     let digits = Text::from_bytes(cursor.alloc, text_of(token))?;
-    Ok(RawValue {
+    Ok(ParsedValue {
         line,
         digits: Some(digits),
     })
@@ -49,7 +49,7 @@ fn wanted(cursor: &mut Cursor<'_>, line: u32, format: Format) -> Result<RawValue
 
 /// A value of an output.
 #[tactic(auto, unfolding(crate::specs::Reading::expected_at))]
-fn expected(cursor: &mut Cursor<'_>, format: Format) -> Result<RawValue, Stop>
+fn expected(cursor: &mut Cursor<'_>, format: Format) -> Result<ParsedValue, Stop>
     ensures { Gives (λ v. v) result (at_of cursor.new.counts cursor.new.rest.now) (expected_at format (at_of cursor.old.counts cursor.old.rest.now)) }
 {
     let line = cursor.take(Form::Sign(Sign::Question))?.line;
@@ -61,7 +61,7 @@ fn expected(cursor: &mut Cursor<'_>, format: Format) -> Result<RawValue, Stop>
 }
 
 #[tactic(auto, unfolding(crate::specs::Reading::value_at))]
-fn value(cursor: &mut Cursor<'_>, dir: Dir, format: Format) -> Result<RawValue, Stop>
+fn value(cursor: &mut Cursor<'_>, dir: Dir, format: Format) -> Result<ParsedValue, Stop>
     ensures { Gives (λ v. v) result (at_of cursor.new.counts cursor.new.rest.now) (value_at dir format (at_of cursor.old.counts cursor.old.rest.now)) }
 {
     match dir {
@@ -71,7 +71,7 @@ fn value(cursor: &mut Cursor<'_>, dir: Dir, format: Format) -> Result<RawValue, 
 }
 
 /// A value for each column, and a semicolon.
-fn values(cursor: &mut Cursor<'_>, columns: &[RawColumn]) -> Result<Vec<RawValue>, Stop>
+fn values(cursor: &mut Cursor<'_>, columns: &[ParsedColumn]) -> Result<Vec<ParsedValue>, Stop>
     ensures { Gives (λ v. v.items) result (at_of cursor.new.counts cursor.new.rest.now) (values_at columns.now (at_of cursor.old.counts cursor.old.rest.now)) }
 {
     let mut values = Vec::new(cursor.alloc);
@@ -147,24 +147,24 @@ fn label(cursor: &mut Cursor<'_>) -> Result<Option<Text>, Stop>
 
 /// A pattern for these columns.
 #[tactic(auto, unfolding(crate::specs::Reading::pattern_at))]
-fn pattern(cursor: &mut Cursor<'_>, columns: &[RawColumn]) -> Result<RawPattern, Stop>
+fn pattern(cursor: &mut Cursor<'_>, columns: &[ParsedColumn]) -> Result<ParsedPattern, Stop>
     ensures { Gives (λ p. p) result (at_of cursor.new.counts cursor.new.rest.now) (pattern_at columns.now (at_of cursor.old.counts cursor.old.rest.now)) }
 {
     let (line, time) = stamp(cursor)?;
     let label = label(cursor)?;
     let _colon = cursor.take(Form::Sign(Sign::Colon))?;
     let values = values(cursor, columns)?;
-    Ok(RawPattern {
+    Ok(ParsedPattern {
         line,
         time,
         label,
-        values: RawValues::new(values),
+        values: ParsedValues::new(values),
     })
 }
 
 /// Patterns for these columns, as many as there are.
 #[tactic(auto, unfolding(crate::specs::Reading::patterns_at))]
-pub fn patterns(cursor: &mut Cursor<'_>, columns: &[RawColumn]) -> Result<Vec<RawPattern>, Stop>
+pub fn patterns(cursor: &mut Cursor<'_>, columns: &[ParsedColumn]) -> Result<Vec<ParsedPattern>, Stop>
     ensures { Gives (λ v. v.items) result (at_of cursor.new.counts cursor.new.rest.now) (patterns_at columns.now (at_of cursor.old.counts cursor.old.rest.now)) }
 {
     let mut patterns = Vec::new(cursor.alloc);

@@ -2,15 +2,15 @@
 use Rattle.std.proofs.Common.{◌≡◌, ℕ, ◌+◌, ◌-◌, ◌<◌, List, [], ◌∷◌, map, length, drop, get_or, Bor, refl, sym, ap, ◌∙◌, arith}
 use Rattle.std.proofs.lemmas.List.{at_drop_more}
 use Rattle.vlsi_base.specs.declared.name.Name.{Name}
-use Rattle.vlsi_base.specs.declared.raw.Raw.{Raw}
+use Rattle.vlsi_base.specs.declared.expression.ParsedExpr.{ParsedExpr}
 use Rattle.vlsi_base.specs.Tree.{Tree, view}
 use Rattle.bool_expr.specs.declared.expr.Gate.TheVariants as gate
 use Rattle.bool_expr.specs.Expression.{Expression, choice}
-use Rattle.source_checks.specs.declared.statement.Guarded.{Guarded}
-use Rattle.source_checks.specs.declared.table.Symbol.{Symbol}
-use Rattle.source_checks.specs.Symbols.{all_names}
-use Rattle.source_checks.specs.Formula.{Formula, joined, numbered, formulas, first_bit, alternative_bits}
-use Rattle.source_checks.specs.Clock.{all_of, condition_bits, conditions_among, parts_of, enable_of}
+use Rattle.source_meaning.specs.declared.statement.Guarded.{Guarded}
+use Rattle.source_meaning.specs.declared.symbol_table.Symbol.{Symbol}
+use Rattle.source_meaning.specs.Symbols.{all_names}
+use Rattle.source_meaning.specs.Formula.{Formula, joined, numbered, formulas, first_bit, alternative_bits}
+use Rattle.source_meaning.specs.Clock.{all_of, condition_bits, conditions_among, parts_of, enable_of}
 use Rattle.source_bits.specs.Vectors.{each_two}
 use Rattle.source_bits.specs.Formulas.{bits_of, first_of, alternatives_of, grouped_of, all_in, condition_of}
 use Rattle.source_bits.proofs.Operators.{numbered_choices}
@@ -51,20 +51,20 @@ numbered_conditions known [] = refl
 numbered_conditions known (e ∷ es) =
     ap (λ (x : Expression). x ∷ map (numbered (all_names known)) (condition_bits known es)) (numbered_first (all_names known) (formulas known e)) ∙ ap (λ (xs : List Expression). condition_of known e ∷ xs) (numbered_conditions known es)
 
-each_seen : (known : List Symbol) (rs : List (Bor Raw)) → map (λ (r : Bor Raw). condition_of known (view r.now)) rs ≡ map (condition_of known) (map (λ (r : Bor Raw). view r.now) rs)
+each_seen : (known : List Symbol) (rs : List (Bor ParsedExpr)) → map (λ (r : Bor ParsedExpr). condition_of known (view r.now)) rs ≡ map (condition_of known) (map (λ (r : Bor ParsedExpr). view r.now) rs)
 each_seen known [] = refl
 each_seen known (r ∷ rs) = ap (λ (xs : List Expression). condition_of known (view r.now) ∷ xs) (each_seen known rs)
 
-pub enables : (known : List Symbol) (clock : List ℕ) (guard : Tree) (found seen : List (Bor Raw)) (made : Expression) → map (λ (r : Bor Raw). view r.now) found ≡ conditions_among clock (parts_of guard) → seen ≡ found
-    → made ≡ all_in (map (λ (r : Bor Raw). condition_of known (view r.now)) seen) → made ≡ numbered (all_names known) (enable_of known clock guard)
+pub enables : (known : List Symbol) (clock : List ℕ) (guard : Tree) (found seen : List (Bor ParsedExpr)) (made : Expression) → map (λ (r : Bor ParsedExpr). view r.now) found ≡ conditions_among clock (parts_of guard) → seen ≡ found
+    → made ≡ all_in (map (λ (r : Bor ParsedExpr). condition_of known (view r.now)) seen) → made ≡ numbered (all_names known) (enable_of known clock guard)
 enables known clock guard found seen made are same is =
-    is ∙ ap (λ (rs : List (Bor Raw)). all_in (map (λ (r : Bor Raw). condition_of known (view r.now)) rs)) same ∙ ap all_in (each_seen known found ∙ ap (map (condition_of known)) are ∙ sym (numbered_conditions known (conditions_among clock (parts_of guard))))
+    is ∙ ap (λ (rs : List (Bor ParsedExpr)). all_in (map (λ (r : Bor ParsedExpr). condition_of known (view r.now)) rs)) same ∙ ap all_in (each_seen known found ∙ ap (map (condition_of known)) are ∙ sym (numbered_conditions known (conditions_among clock (parts_of guard))))
     ∙ sym (numbered_all (all_names known) (condition_bits known (conditions_among clock (parts_of guard))))
 
 -- the first condition, and the others behind it
-pub first_and_others : (known : List Symbol) (rs : List (Bor Raw)) (r : Bor Raw) (others : List (Bor Raw)) → r ≡ get_or rs 0 r → 0 < length rs → others ≡ drop 1 rs
-    → grouped_of (condition_of known (view r.now)) (map (λ (r : Bor Raw). condition_of known (view r.now)) others) ≡ all_in (map (λ (r : Bor Raw). condition_of known (view r.now)) rs)
+pub first_and_others : (known : List Symbol) (rs : List (Bor ParsedExpr)) (r : Bor ParsedExpr) (others : List (Bor ParsedExpr)) → r ≡ get_or rs 0 r → 0 < length rs → others ≡ drop 1 rs
+    → grouped_of (condition_of known (view r.now)) (map (λ (r : Bor ParsedExpr). condition_of known (view r.now)) others) ≡ all_in (map (λ (r : Bor ParsedExpr). condition_of known (view r.now)) rs)
 first_and_others known [] r others is some behind = absurd (omega arith)
 first_and_others known (x ∷ rs) r others is some behind =
-    ap (λ (y : Bor Raw). grouped_of (condition_of known (view y.now)) (map (λ (r : Bor Raw). condition_of known (view r.now)) others)) is
-    ∙ ap (λ (ys : List (Bor Raw)). grouped_of (condition_of known (view x.now)) (map (λ (r : Bor Raw). condition_of known (view r.now)) ys)) behind
+    ap (λ (y : Bor ParsedExpr). grouped_of (condition_of known (view y.now)) (map (λ (r : Bor ParsedExpr). condition_of known (view r.now)) others)) is
+    ∙ ap (λ (ys : List (Bor ParsedExpr)). grouped_of (condition_of known (view x.now)) (map (λ (r : Bor ParsedExpr). condition_of known (view r.now)) ys)) behind

@@ -3,17 +3,17 @@ use Rattle.std.proofs.Common.{◌≡◌, ℕ, zero, suc, ◌-◌, ◌*◌, ◌/�
 use Rattle.std.proofs.lemmas.List.{map-append}
 use Rattle.std.specs.Prelude.{option_map, codes}
 use Rattle.vlsi_base.specs.declared.name.Name.{Name}
-use Rattle.vlsi_base.specs.declared.raw.Raw.{Raw}
-use Rattle.vlsi_base.specs.declared.raw.Range.{Range}
-use Rattle.vlsi_base.specs.declared.raw.Operator.{Operator}
+use Rattle.vlsi_base.specs.declared.expression.ParsedExpr.{ParsedExpr}
+use Rattle.vlsi_base.specs.declared.range.Range.{Range}
+use Rattle.vlsi_base.specs.declared.expression.Operator.{Operator}
 use Rattle.vlsi_base.specs.Tree.{Tree, binary, inverse, folded, view, operand_of}
 use Rattle.bool_expr.specs.declared.expr.Expr.{Expr}
 use Rattle.bool_expr.specs.View.{view as expression}
 use Rattle.bool_expr.specs.Expression.{Expression, constant, variable, inverse as not_of}
-use Rattle.source_checks.specs.declared.table.Symbol.{Symbol}
-use Rattle.source_checks.specs.Symbols.{find, names_in, all_names}
-use Rattle.source_checks.specs.Formula.{fixed, named, numbered, leaf, names_of_found, place, is_odd, low_bits, formulas}
-use Rattle.source_checks.proofs.Names.{find_text}
+use Rattle.source_meaning.specs.declared.symbol_table.Symbol.{Symbol}
+use Rattle.source_meaning.specs.Symbols.{find, names_in, all_names}
+use Rattle.source_meaning.specs.Formula.{fixed, named, numbered, leaf, names_of_found, place, is_odd, low_bits, formulas}
+use Rattle.source_meaning.proofs.Names.{find_text}
 use Rattle.source_bits.specs.declared.ranges.Declared.{Declared}
 use Rattle.source_bits.specs.Numbering.{named_bit, number_in}
 use Rattle.source_bits.specs.Vectors.{operator_of}
@@ -63,13 +63,13 @@ pub numbered_fixed : (vars : List Name) (bs : List Bool) → map constant bs ≡
 numbered_fixed vars [] = refl
 numbered_fixed vars (b ∷ bs) = ap (λ (es : List Expression). constant b ∷ es) (numbered_fixed vars bs)
 
-pub bits_of_folded : (known : List Symbol) (op : Operator) (t : Tree) (es : List (ℕ × Raw)) → bits_of known (folded op t (map operand_of es)) ≡ folded_bits known op (bits_of known t) es
+pub bits_of_folded : (known : List Symbol) (op : Operator) (t : Tree) (es : List (ℕ × ParsedExpr)) → bits_of known (folded op t (map operand_of es)) ≡ folded_bits known op (bits_of known t) es
 bits_of_folded known op t [] = refl
 bits_of_folded known op t (e ∷ es) =
     bits_of_folded known op (binary op e.0 t (view e.1)) es ∙ ap (λ (xs : List Expression). folded_bits known op xs es) (numbered_operator (all_names known) op (formulas known t) (formulas known (view e.1)))
 
 -- operands that are joined in a chain
-pub bits_in_chain : (known : List Symbol) (whole l : Tree) (op : Operator) (es : List (ℕ × Raw)) (first all : List Expression) → whole ≡ folded op l (map operand_of es) → first ≡ bits_of known l → all ≡ folded_bits known op first es → all ≡ bits_of known whole
+pub bits_in_chain : (known : List Symbol) (whole l : Tree) (op : Operator) (es : List (ℕ × ParsedExpr)) (first all : List Expression) → whole ≡ folded op l (map operand_of es) → first ≡ bits_of known l → all ≡ folded_bits known op first es → all ≡ bits_of known whole
 bits_in_chain known whole l op es first all is begins goes =
     goes ∙ ap (λ (xs : List Expression). folded_bits known op xs es) begins ∙ sym (bits_of_folded known op l es) ∙ ap (bits_of known) (sym is)
 

@@ -1,15 +1,15 @@
 -- Formulas over the numbers of declared bits.
 use Rattle.std.specs.Prelude.{ℕ, true, false, List, [], ◌∷◌, map, Option, bytes_eq, codes, if◌then◌else◌}
 use Rattle.vlsi_base.specs.declared.name.Name.{Name}
-use Rattle.vlsi_base.specs.declared.raw.Raw.{Raw}
-use Rattle.vlsi_base.specs.declared.raw.Operator.{Operator}
+use Rattle.vlsi_base.specs.declared.expression.ParsedExpr.{ParsedExpr}
+use Rattle.vlsi_base.specs.declared.expression.Operator.{Operator}
 use Rattle.vlsi_base.specs.Tree.{Tree, view}
 use Rattle.bool_expr.specs.declared.expr.Gate.TheVariants as gate
 use Rattle.bool_expr.specs.Expression.{Expression, constant, variable, pair, choice}
-use Rattle.source_checks.specs.declared.statement.Guarded.{Guarded}
-use Rattle.source_checks.specs.declared.table.Symbol.{Symbol}
-use Rattle.source_checks.specs.Symbols.{all_names}
-use Rattle.source_checks.specs.Formula.{formulas, numbered}
+use Rattle.source_meaning.specs.declared.statement.Guarded.{Guarded}
+use Rattle.source_meaning.specs.declared.symbol_table.Symbol.{Symbol}
+use Rattle.source_meaning.specs.Symbols.{all_names}
+use Rattle.source_meaning.specs.Formula.{formulas, numbered}
 use Rattle.source_bits.specs.declared.ranges.Declared.{Declared}
 use Rattle.source_bits.specs.Numbering.{number_in}
 use Rattle.source_bits.specs.Vectors.{each_two, operator_of}
@@ -24,7 +24,7 @@ abbrev pub bits_of : List Symbol → Tree → List Expression
 bits_of known e = map (numbered (all_names known)) (formulas known e)
 
 -- operands that are grouped from the left
-abbrev pub folded_bits : List Symbol → Operator → List Expression → List (ℕ × Raw) → List Expression
+abbrev pub folded_bits : List Symbol → Operator → List Expression → List (ℕ × ParsedExpr) → List Expression
 folded_bits known op xs [] = xs
 folded_bits known op xs (e ∷ others) = folded_bits known op (operator_of op xs (bits_of known (view e.1))) others
 

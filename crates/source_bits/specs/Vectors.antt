@@ -1,7 +1,7 @@
 -- Operators on vectors of expressions over numbers, as they are on those of formulas over names.
 use Rattle.std.specs.Prelude.{ℕ, zero, suc, ◌+◌, ◌/◌, true, List, [], ◌∷◌, ◌++◌, length, take, drop}
-use Rattle.vlsi_base.specs.declared.raw.Operator.{Operator}
-use Rattle.vlsi_base.specs.declared.raw.Operator.TheVariants as operator
+use Rattle.vlsi_base.specs.declared.expression.Operator.{Operator}
+use Rattle.vlsi_base.specs.declared.expression.Operator.TheVariants as operator
 use Rattle.bool_expr.specs.declared.expr.Gate.TheVariants as gate
 use Rattle.bool_expr.specs.Expression.{Expression, constant, inverse, pair}
 

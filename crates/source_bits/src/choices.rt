@@ -4,9 +4,9 @@ ghost use Rattle.vlsi_base.specs.Tree.{view as tree};
 ghost use Rattle.bool_expr.specs.View.{view};
 ghost use Rattle.bool_expr.specs.Expression.{choice as choice_of};
 ghost use Rattle.machine_core.specs.Order.{AllDifferent};
-ghost use Rattle.source_checks.specs.Symbols.{all_names};
-ghost use Rattle.source_checks.specs.Formula.{numbered, choice_bits};
-ghost use Rattle.source_checks.specs.Clock.{enable_of};
+ghost use Rattle.source_meaning.specs.Symbols.{all_names};
+ghost use Rattle.source_meaning.specs.Formula.{numbered, choice_bits};
+ghost use Rattle.source_meaning.specs.Clock.{enable_of};
 ghost use Rattle.source_bits.specs.Vectors.{each_two};
 ghost use Rattle.source_bits.specs.Formulas.{bits_of, first_of, alternatives_of, grouped_of, all_in, condition_of};
 
@@ -14,10 +14,10 @@ use crate::Numbers;
 use crate::formulas::bits;
 use crate::vectors::{choose_bits, pair};
 use bool_expr::{Expr, Gate};
-use source_checks::{Choice, Guarded};
+use source_meaning::{Choice, Guarded};
 use source_clock::conditions;
 use std::alloc::{AllocError, Global};
-use vlsi_base::Raw;
+use vlsi_base::ParsedExpr;
 
 /// The first bit, or 0 where there is none.
 fn first(bits: Vec<Expr>) -> Expr
@@ -29,7 +29,7 @@ fn first(bits: Vec<Expr>) -> Expr
     }
 }
 
-fn condition_bit(alloc: Global, numbers: &Numbers, e: &Raw) -> Result<Expr, AllocError>
+fn condition_bit(alloc: Global, numbers: &Numbers, e: &ParsedExpr) -> Result<Expr, AllocError>
     requires { AllDifferent (map (λ s. s.text) numbers.now) }
     ensures { IfOk result (λ made. view made ≡ condition_of numbers.now (tree e.now)) }
 {
@@ -91,7 +91,7 @@ fn joined(
     alloc: Global,
     numbers: &Numbers,
     first: Expr,
-    others: &[&Raw],
+    others: &[&ParsedExpr],
 ) -> Result<Expr, AllocError>
     requires { AllDifferent (map (λ s. s.text) numbers.now) }
     ensures { IfOk result (λ made. view made ≡ grouped_of (view first) (map (λ r. condition_of numbers.now (tree r.now)) others.now)) }
@@ -105,7 +105,7 @@ fn joined(
 }
 
 /// The And of conditions, grouped from the left: 1 where there is none.
-fn all_of(alloc: Global, numbers: &Numbers, conditions: &[&Raw]) -> Result<Expr, AllocError>
+fn all_of(alloc: Global, numbers: &Numbers, conditions: &[&ParsedExpr]) -> Result<Expr, AllocError>
     requires { AllDifferent (map (λ s. s.text) numbers.now) }
     ensures { IfOk result (λ made. view made ≡ all_in (map (λ r. condition_of numbers.now (tree r.now)) conditions.now)) }
 {
@@ -122,7 +122,7 @@ pub(crate) fn enable(
     alloc: Global,
     numbers: &Numbers,
     clock: &[u8],
-    guard: &Raw,
+    guard: &ParsedExpr,
 ) -> Result<Expr, AllocError>
     requires { AllDifferent (map (λ s. s.text) numbers.now) }
     ensures { IfOk result (λ made. view made ≡ numbered (all_names numbers.now) (enable_of numbers.now clock.now (tree guard.now))) }

@@ -4,8 +4,8 @@ ghost use Rattle.vlsi_base.specs.Tree.{view as tree};
 ghost use Rattle.bool_expr.specs.View.{view};
 ghost use Rattle.bool_expr.specs.Expression.{constant};
 ghost use Rattle.machine_core.specs.Order.{AllDifferent};
-ghost use Rattle.source_checks.specs.Symbols.{all_names, find, names_in};
-ghost use Rattle.source_checks.specs.Formula.{formulas, numbered, leaf as leaf_of, names_of_found, digit_value, digit_width, low_bits, literal_bits};
+ghost use Rattle.source_meaning.specs.Symbols.{all_names, find, names_in};
+ghost use Rattle.source_meaning.specs.Formula.{formulas, numbered, leaf as leaf_of, names_of_found, digit_value, low_bits, literal_bits};
 ghost use Rattle.source_bits.specs.Numbering.{named_bit, LiesWithin};
 ghost use Rattle.source_bits.specs.Formulas.{leaf_in, folded_bits};
 
@@ -14,7 +14,7 @@ use crate::ranges::{Declared, bits_in, number_in};
 use crate::vectors::{one, operate, opposites};
 use bool_expr::Expr;
 use std::alloc::{AllocError, Global};
-use vlsi_base::{Operator, Radix, Range, Raw};
+use vlsi_base::{Operator, Radix, Range, ParsedExpr};
 
 /// A bit of a name: a constant for a supply, and else the variable of its number.
 fn leaf(total: u32, declared: Option<Declared>, text: &[u8], bit: Option<u32>) -> Expr
@@ -92,16 +92,6 @@ fn index_bits(
     Ok(made)
 }
 
-fn digit_width(radix: Radix) -> u8
-    ensures { result ≡ digit_width radix }
-{
-    match radix {
-        Radix::Binary => 1,
-        Radix::Octal => 3,
-        Radix::Hexadecimal => 4,
-    }
-}
-
 fn digit_value(digit: u8) -> u8
     ensures { result ≡ digit_value digit }
 {
@@ -115,7 +105,7 @@ fn digit_value(digit: u8) -> u8
 }
 
 /// Puts the lowest `count` bits of a digit behind what is there. It goes as deep as the digit has bits.
-fn push_digit(bits: &mut Vec<Expr>, count: u8, value: u8) -> Result<(), AllocError>
+fn push_digit(bits: &mut Vec<Expr>, count: usize, value: u8) -> Result<(), AllocError>
     ensures { OnOk result (map view bits.new.items ≡ map view bits.old.items ++ map constant (low_bits count value)) }
 {
     if count == 0 {
@@ -129,7 +119,7 @@ fn push_digit(bits: &mut Vec<Expr>, count: u8, value: u8) -> Result<(), AllocErr
 fn literal_bits(alloc: Global, radix: Radix, digits: &[u8]) -> Result<Vec<Expr>, AllocError>
     ensures { IfOk result (λ made. map view made.items ≡ map constant (literal_bits radix digits.now)) }
 {
-    let count = digit_width(radix);
+    let count = radix.digit_width();
     let mut bits = Vec::new(alloc);
     for digit in digits {
         push_digit(&mut bits, count, digit_value(*digit))?;
@@ -140,32 +130,32 @@ fn literal_bits(alloc: Global, radix: Radix, digits: &[u8]) -> Result<Vec<Expr>,
 /// The formulas of an expression over the numbers of declared bits, one for each bit from the left. What an operator
 /// doesn't fit is cut to the shorter operand, as the definition says.
 #[cycle(bits)]
-pub fn bits(alloc: Global, numbers: &Numbers, e: &Raw) -> Result<Vec<Expr>, AllocError>
+pub fn bits(alloc: Global, numbers: &Numbers, e: &ParsedExpr) -> Result<Vec<Expr>, AllocError>
     requires { AllDifferent (map (λ s. s.text) numbers.now) }
     ensures { IfOk result (λ made. map view made.items ≡ map (numbered (all_names numbers.now)) (formulas numbers.now (tree e.now))) }
 {
     match e {
-        Raw::Bit(bit, _) => one(alloc, Expr::Const(*bit)),
-        Raw::Literal(radix, digits, _) => {
+        ParsedExpr::Bit(bit, _) => one(alloc, Expr::Const(*bit)),
+        ParsedExpr::Literal(radix, digits, _) => {
             let made = literal_bits(alloc, *radix, digits.as_bytes())?;
             Ok(made)
         }
-        Raw::Name(text, _) => name_bits(alloc, numbers, text.as_bytes()),
-        Raw::Index(text, _, k) => index_bits(alloc, numbers, text.as_bytes(), *k),
-        Raw::Slice(text, _, range) => range_bits(alloc, numbers, text.as_bytes(), Some(*range)),
-        Raw::Stable(_, _) => one(alloc, Expr::Const(false)),
-        Raw::Not(_, inner) => {
+        ParsedExpr::Name(text, _) => name_bits(alloc, numbers, text.as_bytes()),
+        ParsedExpr::Index(text, _, k) => index_bits(alloc, numbers, text.as_bytes(), *k),
+        ParsedExpr::Slice(text, _, range) => range_bits(alloc, numbers, text.as_bytes(), Some(*range)),
+        ParsedExpr::Stable(_, _) => one(alloc, Expr::Const(false)),
+        ParsedExpr::Not(_, inner) => {
             let inner = bits(alloc, numbers, inner)?;
             let made = opposites(alloc, inner)?;
             Ok(made)
         }
-        Raw::Binary(operator, _, left, right) => {
+        ParsedExpr::Binary(operator, _, left, right) => {
             let left = bits(alloc, numbers, left)?;
             let right = bits(alloc, numbers, right)?;
             let made = operate(alloc, *operator, left, right)?;
             Ok(made)
         }
-        Raw::Chain(operator, first, others) => {
+        ParsedExpr::Chain(operator, first, others) => {
             let first = bits(alloc, numbers, first)?;
             let all = chain_bits(alloc, numbers, *operator, first, others)?;
             Ok(all)
@@ -179,7 +169,7 @@ fn chain_bits(
     numbers: &Numbers,
     operator: Operator,
     first: Vec<Expr>,
-    others: &[(u32, Raw)],
+    others: &[(u32, ParsedExpr)],
 ) -> Result<Vec<Expr>, AllocError>
     requires { AllDifferent (map (λ s. s.text) numbers.now) }
     ensures { IfOk result (λ made. map view made.items ≡ folded_bits numbers.now operator (map view first.items) others.now) }

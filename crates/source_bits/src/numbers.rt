@@ -3,12 +3,12 @@ ghost use Rattle.std.specs.Prelude.{◌≡◌, ◌+◌, ◌<◌, ◌≤◌, ℕ,
 ghost use Rattle.std.specs.List.{slice_get};
 ghost use Rattle.std.specs.Option.{option_map};
 ghost use Rattle.machine_core.specs.Order.{AllDifferent};
-ghost use Rattle.source_checks.specs.Symbols.{symbol_names, all_names, find};
-ghost use Rattle.source_checks.specs.Formula.{place};
+ghost use Rattle.source_meaning.specs.Symbols.{symbol_names, all_names, find};
+ghost use Rattle.source_meaning.specs.Formula.{place};
 ghost use Rattle.source_bits.specs.Numbering.{named_bit, starts_from, IsNumbered, number_in, LiesWithin, Begins};
 
 use crate::ranges::{Declared, bit_at, number_in, width};
-use source_checks::{Symbol, Table};
+use source_meaning::{Symbol, SymbolTable};
 use std::alloc::{AllocError, Global};
 use std::marker::Model;
 use vlsi_base::{Name, Text};
@@ -17,14 +17,14 @@ use vlsi_base::{Name, Text};
 /// declared names.
 #[derive(Drop)]
 pub struct Numbers {
-    table: Table,
+    table: SymbolTable,
     starts: Vec<u32>,
     total: u32,
 }
 
 impl Model for Numbers {
     ghost use Rattle.std.specs.Prelude.{List};
-    ghost use Rattle.source_checks.specs.declared.table.Symbol.{Symbol};
+    ghost use Rattle.source_meaning.specs.declared.symbol_table.Symbol.{Symbol};
     ghost use Rattle.source_bits.specs.Numbering.{IsNumbered};
 
     ghost Value = { List Symbol };
@@ -81,7 +81,7 @@ fn place_below(starts: &[u32], number: u32) -> usize
 
 impl Numbers {
     /// The numbers of these names' bits. 2^32 bits and more are answered as want of memory.
-    pub fn new(alloc: Global, table: Table) -> Result<Self, AllocError>
+    pub fn new(alloc: Global, table: SymbolTable) -> Result<Self, AllocError>
         ensures { IfOk result (λ numbers. numbers ≡ table) }
     {
         let (starts, total) = starts(alloc, table.as_slice())?;
@@ -93,7 +93,7 @@ impl Numbers {
     }
 
     /// The declared names, whose bits have the numbers. Takes no memory.
-    pub fn table(&self) -> &Table
+    pub fn table(&self) -> &SymbolTable
         ensures { result.now ≡ self.now }
     {
         &self.table

@@ -1,11 +1,11 @@
 -- What `and` joins, and relations with '1'.
 use Rattle.std.proofs.Common.{◌≡◌, ℕ, Bool, true, false, cond, Some, None, List, [], ◌∷◌, ◌++◌, map, Bor, refl, sym, ap, ◌∙◌, append_assoc, append-nil}
 use Rattle.std.proofs.lemmas.List.{map-append}
-use Rattle.vlsi_base.specs.declared.raw.Raw.{Raw}
-use Rattle.vlsi_base.specs.declared.raw.Operator.{Operator}
-use Rattle.vlsi_base.specs.declared.raw.Operator.TheVariants as operator
+use Rattle.vlsi_base.specs.declared.expression.ParsedExpr.{ParsedExpr}
+use Rattle.vlsi_base.specs.declared.expression.Operator.{Operator}
+use Rattle.vlsi_base.specs.declared.expression.Operator.TheVariants as operator
 use Rattle.vlsi_base.specs.Tree.{Tree, bit, literal, name, index, slice, stable, inverse, binary, folded, view}
-use Rattle.source_checks.specs.Clock.{without_one, clock_alone, conjuncts, plain_name, is_name}
+use Rattle.source_meaning.specs.Clock.{without_one, clock_alone, conjuncts, plain_name, is_name}
 use Rattle.source_clock.specs.Operands.{is_and, is_equal, is_one, is_plain, is_beside_one, conjuncts_of}
 use Rattle.std.specs.Prelude.{◌&&◌}
 use Rattle.source_clock.proofs.Chains.{IsPair, IsDeep}
@@ -42,12 +42,12 @@ pub walked : (old mid new : List Tree) (whole first : Tree) (op : Operator) (es 
 walked old mid new whole first op es is and_op begins goes =
     goes ∙ ap (λ (c : List Tree). c ++ conjuncts_of es) begins ∙ append_assoc old (conjuncts first) (conjuncts_of es) ∙ ap (λ (c : List Tree). old ++ c) (sym (conjuncts_folded op first es and_op)) ∙ ap (λ (t : Tree). old ++ conjuncts t) (sym is)
 
-abbrev pub seen : List (Bor Raw) → List Tree
-seen found = map (λ (r : Bor Raw). view r.now) found
+abbrev pub seen : List (Bor ParsedExpr) → List Tree
+seen found = map (λ (r : Bor ParsedExpr). view r.now) found
 
 -- what joins nothing by `and` was put behind
-pub pushed : (old new : List (Bor Raw)) (e : Bor Raw) → new ≡ old ++ e ∷ [] → conjuncts (view e.now) ≡ view e.now ∷ [] → seen new ≡ seen old ++ conjuncts (view e.now)
-pushed old new e is alone = ap seen is ∙ map-append (λ (r : Bor Raw). view r.now) old (e ∷ []) ∙ ap (λ (c : List Tree). seen old ++ c) (sym alone)
+pub pushed : (old new : List (Bor ParsedExpr)) (e : Bor ParsedExpr) → new ≡ old ++ e ∷ [] → conjuncts (view e.now) ≡ view e.now ∷ [] → seen new ≡ seen old ++ conjuncts (view e.now)
+pushed old new e is alone = ap seen is ∙ map-append (λ (r : Bor ParsedExpr). view r.now) old (e ∷ []) ∙ ap (λ (c : List Tree). seen old ++ c) (sym alone)
 
 pub single_pair : (op : Operator) (t : Tree) → IsPair op t → is_and op ≡ false → conjuncts t ≡ t ∷ []
 single_pair op t pair e = ap conjuncts pair.is ∙ single op pair.line pair.left pair.right e ∙ ap (λ (x : Tree). x ∷ []) (sym pair.is)

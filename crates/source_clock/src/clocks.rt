@@ -2,15 +2,15 @@
 ghost use Rattle.std.specs.Prelude.{◌≡◌, Bool, Some, map, length, IfOk};
 ghost use Rattle.std.specs.Option.{option_copied};
 ghost use Rattle.vlsi_base.specs.Tree.{view};
-ghost use Rattle.source_checks.specs.Places.{in_statements};
-ghost use Rattle.source_checks.specs.Clock.{may_clock, steady_names, clocks_among, is_single, none_reads, clock_of, statement_clocks, first_text};
+ghost use Rattle.source_meaning.specs.Places.{in_statements};
+ghost use Rattle.source_meaning.specs.Clock.{may_clock, steady_names, clocks_among, is_single, none_reads, clock_of, statement_clocks, first_text};
 ghost use Rattle.source_clock.specs.Clocking.{only_text};
 
 use crate::guards::{further, is_clock, parts, steady_name};
 use crate::reads::clock_line;
-use source_checks::{Role, Statement, Symbol, Table};
+use source_meaning::{Role, Statement, Symbol, SymbolTable};
 use std::alloc::{AllocError, Global};
-use vlsi_base::{Raw, Text, is_supply};
+use vlsi_base::{ParsedExpr, Text, is_supply};
 
 /// Whether a name can be a clock: an input of one bit that is no supply.
 fn may_clock(symbol: Option<&Symbol>) -> bool
@@ -26,7 +26,7 @@ fn may_clock(symbol: Option<&Symbol>) -> bool
 }
 
 /// The name whose `stable` is turned round among the parts, if there is exactly one such part.
-fn only_steady<'a>(parts: &[&'a Raw]) -> Option<&'a Text>
+fn only_steady<'a>(parts: &[&'a ParsedExpr]) -> Option<&'a Text>
     ensures { option_copied result ≡ only_text (steady_names (map (λ r. view r.now) parts.now)) }
 {
     let mut found = None;
@@ -42,7 +42,7 @@ fn only_steady<'a>(parts: &[&'a Raw]) -> Option<&'a Text>
 }
 
 /// How many of the parts are the clock.
-fn clock_count(parts: &[&Raw], clock: &[u8]) -> usize
+fn clock_count(parts: &[&ParsedExpr], clock: &[u8]) -> usize
     ensures { result ≡ length (clocks_among clock.now (map (λ r. view r.now) parts.now)) }
 {
     let mut count = 0;
@@ -55,7 +55,7 @@ fn clock_count(parts: &[&Raw], clock: &[u8]) -> usize
 }
 
 /// Whether no condition reads the clock or has a `stable`.
-fn none_reads(clock: &Text, conditions: &[&Raw]) -> bool
+fn none_reads(clock: &Text, conditions: &[&ParsedExpr]) -> bool
     ensures { result ≡ none_reads (Some clock.now) (map (λ r. view r.now) conditions.now) }
 {
     for condition in conditions {
@@ -70,8 +70,8 @@ fn none_reads(clock: &Text, conditions: &[&Raw]) -> bool
 /// the guard reads it. Takes memory for the guard's parts.
 pub(crate) fn clock_of<'a>(
     alloc: Global,
-    table: &Table,
-    guard: &'a Raw,
+    table: &SymbolTable,
+    guard: &'a ParsedExpr,
 ) -> Result<Option<&'a Text>, AllocError>
     ensures { IfOk result (λ clock. option_copied clock ≡ clock_of table.now (view guard.now)) }
 {
@@ -95,7 +95,7 @@ pub(crate) fn clock_of<'a>(
 
 fn clock_of_statement<'a>(
     alloc: Global,
-    table: &Table,
+    table: &SymbolTable,
     statement: &'a Statement,
 ) -> Result<Option<&'a Text>, AllocError>
     ensures { IfOk result (λ clock. option_copied clock ≡ first_text (statement_clocks table.now statement.now)) }
@@ -110,7 +110,7 @@ fn clock_of_statement<'a>(
 /// The clock of a text: that of its first guard which has one. Takes memory for the parts of a guard.
 pub fn clock<'a>(
     alloc: Global,
-    table: &Table,
+    table: &SymbolTable,
     statements: &'a [Statement],
 ) -> Result<Option<&'a Text>, AllocError>
     ensures { IfOk result (λ clock. option_copied clock ≡ first_text (in_statements (statement_clocks table.now) statements.now)) }

@@ -1,15 +1,15 @@
 // Guards without the text's clock, and the clock where it may not stand.
 ghost use Rattle.std.specs.Prelude.{◌≡◌, map, IfOk};
 ghost use Rattle.std.specs.Option.{option_copied};
-ghost use Rattle.source_checks.specs.Lines.{first_line};
-ghost use Rattle.source_checks.specs.Places.{in_statements};
-ghost use Rattle.source_checks.specs.Symbols.{symbols};
-ghost use Rattle.source_checks.specs.Clock.{is_same_clock, statement_clock_lines, all_clock_lines};
+ghost use Rattle.source_meaning.specs.Lines.{first_line};
+ghost use Rattle.source_meaning.specs.Places.{in_statements};
+ghost use Rattle.source_meaning.specs.Symbols.{symbols};
+ghost use Rattle.source_meaning.specs.Clock.{is_same_clock, statement_clock_lines, all_clock_lines};
 ghost use Rattle.source_clock.specs.Clocking.{block_clock_lines};
 
 use crate::clocks::{clock, clock_of};
 use crate::reads::{clock_line, clock_line_in_assignment, clock_line_in_assignments};
-use source_checks::{RawBlock, RawMachine, Statement, Table};
+use source_meaning::{BlockStatement, DesignFile, Statement, SymbolTable};
 use std::alloc::{AllocError, Global};
 use vlsi_base::Text;
 
@@ -28,9 +28,9 @@ fn is_same_clock(clock: Option<&Text>, other: Option<&Text>) -> bool
 /// The first line at fault in a block: its own where its guard hasn't the text's clock, or one of its assignments.
 fn block_fault(
     alloc: Global,
-    table: &Table,
+    table: &SymbolTable,
     clock: Option<&Text>,
-    block: &RawBlock,
+    block: &BlockStatement,
 ) -> Result<Option<u32>, AllocError>
     ensures { IfOk result (λ line. line ≡ first_line (block_clock_lines table.now (option_copied clock.entry) block.now)) }
 {
@@ -43,7 +43,7 @@ fn block_fault(
 
 fn statement_fault(
     alloc: Global,
-    table: &Table,
+    table: &SymbolTable,
     clock: Option<&Text>,
     statement: &Statement,
 ) -> Result<Option<u32>, AllocError>
@@ -58,7 +58,7 @@ fn statement_fault(
 
 fn statements_fault(
     alloc: Global,
-    table: &Table,
+    table: &SymbolTable,
     clock: Option<&Text>,
     statements: &[Statement],
 ) -> Result<Option<u32>, AllocError>
@@ -77,13 +77,13 @@ fn statements_fault(
 /// guard, in file order. Takes memory for the parts of a guard.
 pub fn clock_fault(
     alloc: Global,
-    table: &Table,
-    raw: &RawMachine,
+    table: &SymbolTable,
+    design: &DesignFile,
 ) -> Result<Option<u32>, AllocError>
-    requires { table.now ≡ symbols raw.now }
-    ensures { IfOk result (λ line. line ≡ first_line (all_clock_lines raw.now)) }
+    requires { table.now ≡ symbols design.now }
+    ensures { IfOk result (λ line. line ≡ first_line (all_clock_lines design.now)) }
 {
-    let statements = raw.statements.as_slice();
+    let statements = design.statements.as_slice();
     let clock = clock(alloc, table, statements)?;
     statements_fault(alloc, table, clock, statements)
 }

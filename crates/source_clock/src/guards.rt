@@ -3,11 +3,11 @@
 ghost use Rattle.std.specs.Prelude.{◌≡◌, ◌++◌, ◌&&◌, ◌||◌, not, is_none, map, IfOk, OnOk, if◌then◌else◌};
 ghost use Rattle.std.specs.Option.{option_copied};
 ghost use Rattle.vlsi_base.specs.Tree.{view, operand_of};
-ghost use Rattle.source_checks.specs.Clock.{without_one, conjuncts, parts_of, is_name, steady_name, conditions_among};
+ghost use Rattle.source_meaning.specs.Clock.{without_one, conjuncts, parts_of, is_name, steady_name, conditions_among};
 ghost use Rattle.source_clock.specs.Operands.{is_and, is_equal, is_one, is_plain, stable_name, is_beside_one, conjuncts_of};
 
 use std::alloc::{AllocError, Global};
-use vlsi_base::{Operator, Raw, Text};
+use vlsi_base::{Operator, ParsedExpr, Text};
 
 fn is_and(operator: Operator) -> bool
     ensures { result ≡ is_and operator }
@@ -22,34 +22,34 @@ fn is_equal(operator: Operator) -> bool
 }
 
 /// Whether an expression is '1'.
-fn is_one(e: &Raw) -> bool
+fn is_one(e: &ParsedExpr) -> bool
     ensures { result ≡ is_one (view e.now) }
 {
     match e {
-        Raw::Bit(bit, _) => *bit,
-        Raw::Chain(_, first, others) => others.is_empty() && is_one(first),
+        ParsedExpr::Bit(bit, _) => *bit,
+        ParsedExpr::Chain(_, first, others) => others.is_empty() && is_one(first),
         _ => false,
     }
 }
 
 /// Whether an expression is the name of this text, alone.
-fn is_plain(e: &Raw, wanted: &[u8]) -> bool
+fn is_plain(e: &ParsedExpr, wanted: &[u8]) -> bool
     ensures { result ≡ is_plain wanted.now (view e.now) }
 {
     match e {
-        Raw::Name(text, _) => text.as_bytes() == wanted,
-        Raw::Chain(_, first, others) => others.is_empty() && is_plain(first, wanted),
+        ParsedExpr::Name(text, _) => text.as_bytes() == wanted,
+        ParsedExpr::Chain(_, first, others) => others.is_empty() && is_plain(first, wanted),
         _ => false,
     }
 }
 
 /// The name whose `stable` an expression is.
-fn stable_name(e: &Raw) -> Option<&Text>
+fn stable_name(e: &ParsedExpr) -> Option<&Text>
     ensures { option_copied result ≡ stable_name (view e.now) }
 {
     match e {
-        Raw::Stable(text, _) => Some(text),
-        Raw::Chain(_, first, others) => {
+        ParsedExpr::Stable(text, _) => Some(text),
+        ParsedExpr::Chain(_, first, others) => {
             if others.is_empty() {
                 stable_name(first)
             } else {
@@ -61,12 +61,12 @@ fn stable_name(e: &Raw) -> Option<&Text>
 }
 
 /// The name whose `stable` an expression turns round.
-pub(crate) fn steady_name(e: &Raw) -> Option<&Text>
+pub(crate) fn steady_name(e: &ParsedExpr) -> Option<&Text>
     ensures { option_copied result ≡ steady_name (view e.now) }
 {
     match e {
-        Raw::Not(_, inner) => stable_name(inner),
-        Raw::Chain(_, first, others) => {
+        ParsedExpr::Not(_, inner) => stable_name(inner),
+        ParsedExpr::Chain(_, first, others) => {
             if others.is_empty() {
                 steady_name(first)
             } else {
@@ -78,7 +78,7 @@ pub(crate) fn steady_name(e: &Raw) -> Option<&Text>
 }
 
 /// Whether a relation of two expressions is that of this name with '1', on whichever side the '1' stands.
-fn is_beside_one(left: &Raw, right: &Raw, wanted: &[u8]) -> bool
+fn is_beside_one(left: &ParsedExpr, right: &ParsedExpr, wanted: &[u8]) -> bool
     ensures { result ≡ is_beside_one wanted.now (view left.now) (view right.now) }
 {
     if is_one(left) {
@@ -89,15 +89,15 @@ fn is_beside_one(left: &Raw, right: &Raw, wanted: &[u8]) -> bool
 }
 
 /// Whether a part is this clock itself, perhaps in a relation with '1'.
-pub(crate) fn is_clock(e: &Raw, clock: &[u8]) -> bool
+pub(crate) fn is_clock(e: &ParsedExpr, clock: &[u8]) -> bool
     ensures { result ≡ is_name clock.now (view e.now) }
 {
     match e {
-        Raw::Name(text, _) => text.as_bytes() == clock,
-        Raw::Binary(operator, _, left, right) => {
+        ParsedExpr::Name(text, _) => text.as_bytes() == clock,
+        ParsedExpr::Binary(operator, _, left, right) => {
             is_equal(*operator) && is_beside_one(left, right, clock)
         }
-        Raw::Chain(operator, first, others) => {
+        ParsedExpr::Chain(operator, first, others) => {
             if others.is_empty() {
                 return is_clock(first, clock);
             }
@@ -115,18 +115,18 @@ pub(crate) fn is_clock(e: &Raw, clock: &[u8]) -> bool
 
 /// The expression without a relation with '1' on its right. A chain of several relations, which no text has, is answered
 /// as want of memory.
-fn without_one<'a>(e: &'a Raw) -> Result<&'a Raw, AllocError>
+fn without_one<'a>(e: &'a ParsedExpr) -> Result<&'a ParsedExpr, AllocError>
     ensures { IfOk result (λ r. view r.now ≡ without_one (view e.now)) }
 {
     match e {
-        Raw::Binary(operator, _, left, right) => {
+        ParsedExpr::Binary(operator, _, left, right) => {
             if is_equal(*operator) && is_one(right) {
                 Ok(left)
             } else {
                 Ok(e)
             }
         }
-        Raw::Chain(operator, first, others) => {
+        ParsedExpr::Chain(operator, first, others) => {
             if others.is_empty() {
                 return without_one(first);
             }
@@ -148,11 +148,11 @@ fn without_one<'a>(e: &'a Raw) -> Result<&'a Raw, AllocError>
 
 /// Puts what an expression joins by `and` behind what is there.
 #[cycle(collect)]
-fn collect<'a>(found: &mut Vec<&'a Raw>, e: &'a Raw) -> Result<(), AllocError>
+fn collect<'a>(found: &mut Vec<&'a ParsedExpr>, e: &'a ParsedExpr) -> Result<(), AllocError>
     ensures { OnOk result (map (λ r. view r.now) found.new.items ≡ map (λ r. view r.now) found.old.items ++ conjuncts (view e.now)) }
 {
     match e {
-        Raw::Binary(operator, _, left, right) => {
+        ParsedExpr::Binary(operator, _, left, right) => {
             if is_and(*operator) {
                 collect(found, left)?;
                 collect(found, right)?;
@@ -161,7 +161,7 @@ fn collect<'a>(found: &mut Vec<&'a Raw>, e: &'a Raw) -> Result<(), AllocError>
             found.push(e)?;
             Ok(())
         }
-        Raw::Chain(operator, first, others) => {
+        ParsedExpr::Chain(operator, first, others) => {
             if others.is_empty() {
                 return collect(found, first);
             }
@@ -173,13 +173,13 @@ fn collect<'a>(found: &mut Vec<&'a Raw>, e: &'a Raw) -> Result<(), AllocError>
             found.push(e)?;
             Ok(())
         }
-        Raw::Bit(_, _)
-        | Raw::Literal(_, _, _)
-        | Raw::Name(_, _)
-        | Raw::Index(_, _, _)
-        | Raw::Slice(_, _, _)
-        | Raw::Stable(_, _)
-        | Raw::Not(_, _) => {
+        ParsedExpr::Bit(_, _)
+        | ParsedExpr::Literal(_, _, _)
+        | ParsedExpr::Name(_, _)
+        | ParsedExpr::Index(_, _, _)
+        | ParsedExpr::Slice(_, _, _)
+        | ParsedExpr::Stable(_, _)
+        | ParsedExpr::Not(_, _) => {
             found.push(e)?;
             Ok(())
         }
@@ -187,7 +187,7 @@ fn collect<'a>(found: &mut Vec<&'a Raw>, e: &'a Raw) -> Result<(), AllocError>
 }
 
 #[cycle(collect)]
-fn collect_all<'a>(found: &mut Vec<&'a Raw>, others: &'a [(u32, Raw)]) -> Result<(), AllocError>
+fn collect_all<'a>(found: &mut Vec<&'a ParsedExpr>, others: &'a [(u32, ParsedExpr)]) -> Result<(), AllocError>
     ensures { OnOk result (map (λ r. view r.now) found.new.items ≡ map (λ r. view r.now) found.old.items ++ conjuncts_of (map operand_of others.now)) }
 {
     for (_, e) in others {
@@ -198,7 +198,7 @@ fn collect_all<'a>(found: &mut Vec<&'a Raw>, others: &'a [(u32, Raw)]) -> Result
 
 /// What is joined by `and` in a guard, through parentheses, from the left, without an outer `= '1'`. A chain of several
 /// relations, which no text has, is answered as want of memory.
-pub fn parts(alloc: Global, guard: &Raw) -> Result<Vec<&Raw>, AllocError>
+pub fn parts(alloc: Global, guard: &ParsedExpr) -> Result<Vec<&ParsedExpr>, AllocError>
     ensures { IfOk result (λ parts. map (λ r. view r.now) parts.items ≡ parts_of (view guard.now)) }
 {
     let joined = without_one(guard)?;
@@ -210,9 +210,9 @@ pub fn parts(alloc: Global, guard: &Raw) -> Result<Vec<&Raw>, AllocError>
 /// Those of the parts that are neither the clock nor turn a `stable` round.
 pub(crate) fn further<'a>(
     alloc: Global,
-    parts: &[&'a Raw],
+    parts: &[&'a ParsedExpr],
     clock: &[u8],
-) -> Result<Vec<&'a Raw>, AllocError>
+) -> Result<Vec<&'a ParsedExpr>, AllocError>
     ensures { IfOk result (λ found. map (λ r. view r.now) found.items ≡ conditions_among clock.now (map (λ r. view r.now) parts.now)) }
 {
     let mut found = Vec::new(alloc);
@@ -227,9 +227,9 @@ pub(crate) fn further<'a>(
 /// The parts of a guard that are neither the clock nor turn its `stable` round, from the left.
 pub fn conditions<'a>(
     alloc: Global,
-    guard: &'a Raw,
+    guard: &'a ParsedExpr,
     clock: &[u8],
-) -> Result<Vec<&'a Raw>, AllocError>
+) -> Result<Vec<&'a ParsedExpr>, AllocError>
     ensures { IfOk result (λ found. map (λ r. view r.now) found.items ≡ conditions_among clock.now (parts_of (view guard.now))) }
 {
     let parts = parts(alloc, guard)?;

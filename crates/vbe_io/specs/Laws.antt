@@ -4,7 +4,7 @@ use Rattle.vlsi_base.specs.declared.name.Name.{Name}
 use Rattle.vlsi_base.specs.declared.fault.FaultKind.TheVariants as kind
 use Rattle.vlsi_base.specs.declared.fault.ReadError.{ReadError}
 use Rattle.machine_meaning.specs.Machine.{Machine}
-use Rattle.source_checks.specs.Checks.{fault}
+use Rattle.source_meaning.specs.Checks.{fault}
 use Rattle.vbe_io.specs.Text.{IsVbe, Refused}
 
 -- a refusal that names a ring of signals

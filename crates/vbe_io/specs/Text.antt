@@ -5,9 +5,9 @@ use Rattle.vlsi_base.specs.declared.fault.ReadError.{ReadError}
 use Rattle.vlsi_base.specs.declared.fault.ReadError.TheVariants as errors
 use Rattle.vhdl_lexer.specs.Listing.{tokens_in, refusal_in}
 use Rattle.machine_meaning.specs.Machine.{Machine}
-use Rattle.source_checks.specs.declared.statement.RawMachine.{RawMachine}
-use Rattle.source_checks.specs.Checks.{Passes, IsRefusedFor}
-use Rattle.source_checks.specs.Elaboration.{IsMachineOf}
+use Rattle.source_meaning.specs.declared.statement.DesignFile.{DesignFile}
+use Rattle.source_meaning.specs.Checks.{Passes, IsRefusedFor}
+use Rattle.source_meaning.specs.Elaboration.{IsMachineOf}
 use Rattle.vbe_text.specs.Source.{source_view}
 use Rattle.vbe_text.specs.Vbe.{IsSource, RefusedAs}
 
@@ -16,17 +16,17 @@ abbrev pub most_bytes : ℕ
 most_bytes = 1048576
 
 -- what is written, where the bytes are few enough and are cut into tokens
-pub record IsWritten (bytes : List ℕ) (raw : RawMachine) : Type 0 where
+pub record IsWritten (bytes : List ℕ) (design : DesignFile) : Type 0 where
   pub few : length bytes ≤ most_bytes
   pub cut : refusal_in bytes ≡ None
-  pub source : IsSource (tokens_in bytes) (source_view raw)
+  pub source : IsSource (tokens_in bytes) (source_view design)
 
 -- The bytes are a data-flow text that passes all checks, and this is its machine.
 pub record IsVbe (bytes : List ℕ) (m : Machine) : Type 0 where
-  pub raw : RawMachine
-  pub written : IsWritten bytes raw
-  pub passes : Passes raw
-  pub machine : IsMachineOf raw m
+  pub design : DesignFile
+  pub written : IsWritten bytes design
+  pub passes : Passes design
+  pub machine : IsMachineOf design m
 
 -- Why bytes are no machine, in this order: there are too many, they aren't cut into tokens, the tokens are no text, or a check
 -- fails. Want of memory is no reason.
@@ -34,7 +34,7 @@ pub data Refused (bytes : List ℕ) (e : ReadError) : Type 0 where
   long : most_bytes < length bytes → e ≡ errors.Limit (record { which = kind.File; reached = most_bytes + 1 }) → Refused bytes e
   uncut : length bytes ≤ most_bytes → refusal_in bytes ≡ Some e → Refused bytes e
   unwritten : length bytes ≤ most_bytes → refusal_in bytes ≡ None → RefusedAs (tokens_in bytes) e → Refused bytes e
-  faulty : (raw : RawMachine) → IsWritten bytes raw → IsRefusedFor raw e → Refused bytes e
+  faulty : (design : DesignFile) → IsWritten bytes design → IsRefusedFor design e → Refused bytes e
 
 -- the refusal, or memory has run out
 abbrev pub IsVbeRefusal : List ℕ → ReadError → Type 0

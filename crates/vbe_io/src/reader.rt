@@ -4,7 +4,7 @@ ghost use Rattle.vhdl_lexer.specs.Listing.{tokens_in, refusal_in};
 ghost use Rattle.vbe_io.specs.Text.{most_bytes, IsWritten, IsVbe, IsVbeRefusal};
 
 use machine_core::Machine;
-use source_checks::RawMachine;
+use source_meaning::DesignFile;
 use std::alloc::Global;
 use vbe_text::read_source;
 use vhdl_lexer::tokens;
@@ -31,8 +31,8 @@ fn tokens_of(alloc: Global, bytes: &[u8]) -> Result<Tokens, ReadError>
 }
 
 // What is written in a text.
-fn written(alloc: Global, bytes: &[u8]) -> Result<RawMachine, ReadError>
-    ensures written { IfOk result (λ raw. IsWritten bytes.now raw) }
+fn written(alloc: Global, bytes: &[u8]) -> Result<DesignFile, ReadError>
+    ensures written { IfOk result (λ design. IsWritten bytes.now design) }
     ensures refused { IfErr result (λ e. IsVbeRefusal bytes.now e) }
 {
     let tokens = tokens_of(alloc, bytes)?;
@@ -50,6 +50,6 @@ pub fn read_vbe(alloc: Global, bytes: &[u8]) -> Result<Machine, ReadError>
     ensures accepted { IfOk result (λ m. IsVbe bytes.now m) }
     ensures refused { IfErr result (λ e. IsVbeRefusal bytes.now e) }
 {
-    let raw = written(alloc, bytes)?;
-    check_machine(alloc, raw)
+    let design = written(alloc, bytes)?;
+    check_machine(alloc, design)
 }

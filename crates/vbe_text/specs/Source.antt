@@ -3,14 +3,14 @@ use Rattle.std.specs.Prelude.{ℕ, List, map}
 use Rattle.vlsi_base.specs.Tree.{Tree, view}
 use Rattle.vlsi_base.specs.declared.entity.Entity.{Entity}
 use Rattle.vlsi_base.specs.declared.entity.Declarations.{Declarations}
-use Rattle.source_checks.specs.declared.statement.Target.{Target}
-use Rattle.source_checks.specs.declared.statement.Guarded.{Guarded}
-use Rattle.source_checks.specs.declared.statement.Choice.{Choice}
-use Rattle.source_checks.specs.declared.statement.Assignment.{Assignment}
-use Rattle.source_checks.specs.declared.statement.RawBlock.{RawBlock}
-use Rattle.source_checks.specs.declared.statement.Statement.{Statement}
-use Rattle.source_checks.specs.declared.statement.Statement.TheVariants as statement
-use Rattle.source_checks.specs.declared.statement.RawMachine.{RawMachine}
+use Rattle.source_meaning.specs.declared.statement.Target.{Target}
+use Rattle.source_meaning.specs.declared.statement.Guarded.{Guarded}
+use Rattle.source_meaning.specs.declared.statement.Choice.{Choice}
+use Rattle.source_meaning.specs.declared.statement.Assignment.{Assignment}
+use Rattle.source_meaning.specs.declared.statement.BlockStatement.{BlockStatement}
+use Rattle.source_meaning.specs.declared.statement.Statement.{Statement}
+use Rattle.source_meaning.specs.declared.statement.Statement.TheVariants as statement
+use Rattle.source_meaning.specs.declared.statement.DesignFile.{DesignFile}
 use Rattle.vbe_text.specs.declared.choice.Further.{Further}
 
 -- a value, the condition under which it is taken, and the line of the condition's first token
@@ -64,7 +64,7 @@ choice_view c = record { alternatives = map guarded_view c.alternatives; otherwi
 abbrev pub assignment_view : Assignment → AssignmentTree
 assignment_view a = record { target = a.target; choice = choice_view a.choice }
 
-abbrev pub block_view : RawBlock → BlockTree
+abbrev pub block_view : BlockStatement → BlockTree
 block_view b = record { guard = view b.guard; line = b.line; assignments = map assignment_view b.assignments }
 
 abbrev pub statement_view : Statement → StatementTree
@@ -72,5 +72,5 @@ statement_view (statement.Assert e) = asserted (view e)
 statement_view (statement.Assign a) = assigned (assignment_view a)
 statement_view (statement.Block b) = blocked (block_view b)
 
-abbrev pub source_view : RawMachine → SourceTree
-source_view raw = record { entity = raw.entity; declarations = raw.declarations; statements = map statement_view raw.statements }
+abbrev pub source_view : DesignFile → SourceTree
+source_view design = record { entity = design.entity; declarations = design.declarations; statements = map statement_view design.statements }

@@ -11,19 +11,19 @@ ghost use Rattle.vbe_text.specs.Vbe.{choice_of};
 ghost use Rattle.vbe_text.specs.VbeReading.{further_at, choice_at, delay_at, value_at};
 
 use grammar_theory::{Form, Stop};
-use source_checks::{Choice, Guarded, GuardedList};
+use source_meaning::{Choice, Guarded, GuardedList};
 use std::alloc::{AllocError, Global};
 use std::mem;
 use vhdl_front::Cursor;
 use vhdl_token::{Keyword, Sign};
-use vlsi_base::Raw;
+use vlsi_base::ParsedExpr;
 
 /// A condition, the line of its first token, and the value behind its `else`.
 #[derive(Drop)]
 pub struct Further {
-    pub condition: Raw,
+    pub condition: ParsedExpr,
     pub line: u32,
-    pub value: Raw,
+    pub value: ParsedExpr,
 }
 
 /// The line of the next token; 0 at the end.
@@ -38,12 +38,12 @@ fn next_line(cursor: &Cursor) -> u32
 
 /// An expression, with the line of its first token.
 #[tactic(auto, unfolding(grammar_theory::specs::Outcome::placed_at))]
-pub fn placed_expression(cursor: &mut Cursor, room: u32) -> Result<(u32, Raw), Stop>
+pub fn placed_expression(cursor: &mut Cursor, room: u32) -> Result<(u32, ParsedExpr), Stop>
     ensures { Gives operand_of result (at_of cursor.new.counts cursor.new.rest.now) (placed_at (expression_at room) (at_of cursor.old.counts cursor.old.rest.now)) }
 {
     let line = next_line(cursor);
-    let raw = cursor.expression(room)?;
-    Ok((line, raw))
+    let parsed = cursor.expression(room)?;
+    Ok((line, parsed))
 }
 
 /// A condition and the value behind it.
@@ -76,7 +76,7 @@ fn others(cursor: &mut Cursor, room: u32) -> Result<Vec<Further>, Stop>
 }
 
 /// A choice of the first value and the others: each condition belongs to the value before it.
-fn joined(alloc: Global, first: Raw, others: Vec<Further>) -> Result<Choice, AllocError>
+fn joined(alloc: Global, first: ParsedExpr, others: Vec<Further>) -> Result<Choice, AllocError>
     ensures { IfOk result (λ c. choice_view c ≡ choice_of (view first) (map further_view others.items)) }
 {
     let mut alternatives = Vec::new(alloc);

@@ -9,7 +9,7 @@ ghost use Rattle.vbe_text.specs.VbeReading.{labelled_at, unlabelled_at, plain_at
 
 use crate::statement::{assertion, assignment, block, repeated};
 use grammar_theory::{DEPTH, Form, Reason, Stop};
-use source_checks::{RawMachine, Statement, Statements};
+use source_meaning::{DesignFile, Statement, Statements};
 use std::alloc::Global;
 use vhdl_front::{Counts, Cursor, name_bytes, stop_error};
 use vhdl_token::{Keyword, Sign, Tokens};
@@ -117,14 +117,14 @@ fn architecture_head(cursor: &mut Cursor, entity: &[u8]) -> Result<Text, Stop>
 
 /// The architecture of this entity.
 #[tactic(auto, unfolding(crate::specs::VbeReading::architecture_at))]
-fn architecture(cursor: &mut Cursor, room: u32, entity: Entity) -> Result<RawMachine, Stop>
+fn architecture(cursor: &mut Cursor, room: u32, entity: Entity) -> Result<DesignFile, Stop>
     ensures { Gives source_view result (at_of cursor.new.counts cursor.new.rest.now) (architecture_at room entity (at_of cursor.old.counts cursor.old.rest.now)) }
 {
     let name = architecture_head(cursor, entity.name.as_bytes())?;
     let declarations = cursor.declarations(room)?;
     let statements = statements(cursor, room)?;
     repeated(cursor, name.as_bytes())?;
-    Ok(RawMachine {
+    Ok(DesignFile {
         entity,
         declarations,
         statements,
@@ -133,23 +133,23 @@ fn architecture(cursor: &mut Cursor, room: u32, entity: Entity) -> Result<RawMac
 
 /// An entity and its architecture, and nothing behind them.
 #[tactic(auto, unfolding(crate::specs::VbeReading::source_at))]
-fn whole(cursor: &mut Cursor) -> Result<RawMachine, Stop>
+fn whole(cursor: &mut Cursor) -> Result<DesignFile, Stop>
     ensures { Gives source_view result (at_of cursor.new.counts cursor.new.rest.now) (finish (source_at DEPTH (at_of cursor.old.counts cursor.old.rest.now))) }
 {
     let entity = cursor.entity(DEPTH)?;
-    let raw = architecture(cursor, DEPTH, entity)?;
+    let design = architecture(cursor, DEPTH, entity)?;
     if !cursor.rest.is_empty() {
         return Err(cursor.refuse(Reason::Syntax));
     }
-    Ok(raw)
+    Ok(design)
 }
 
 /// Reads the tokens of a whole data-flow text: an entity, its architecture, and nothing behind them. The answer is what is
 /// written there, in file order, with lines counted from 1; nothing is checked but the grammar, that no name is declared
 /// twice, and the limits of depth, bits, operators and alternatives. Else it is the error of the first token with which
 /// the text goes wrong (of the end, on the last line), or `Memory`. Takes memory in proportion to the text.
-pub fn read_source(alloc: Global, tokens: &Tokens) -> Result<RawMachine, ReadError>
-    ensures accepted { IfOk result (λ raw. IsSource tokens.now (source_view raw)) }
+pub fn read_source(alloc: Global, tokens: &Tokens) -> Result<DesignFile, ReadError>
+    ensures accepted { IfOk result (λ design. IsSource tokens.now (source_view design)) }
     ensures refused { IfErr result (λ e. IsRefusedSource tokens.now e) }
 {
     let mut cursor = Cursor {
@@ -158,7 +158,7 @@ pub fn read_source(alloc: Global, tokens: &Tokens) -> Result<RawMachine, ReadErr
         alloc,
     };
     match whole(&mut cursor) {
-        Ok(raw) => Ok(raw),
+        Ok(design) => Ok(design),
         Err(stop) => Err(stop_error(alloc, tokens.last_line, tokens.items.as_slice(), stop)),
     }
 }

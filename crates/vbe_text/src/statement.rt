@@ -9,10 +9,10 @@ ghost use Rattle.vbe_text.specs.VbeReading.{report_at, severity_at, remarks_at, 
 use crate::choice::{placed_expression, value};
 use crate::targets::{target, target_behind};
 use grammar_theory::{Form, Stop};
-use source_checks::{Assignment, Assignments, RawBlock, Statement};
+use source_meaning::{Assignment, Assignments, BlockStatement, Statement};
 use vhdl_front::Cursor;
 use vhdl_token::{Keyword, PlacedToken, Sign};
-use vlsi_base::Raw;
+use vlsi_base::ParsedExpr;
 
 #[tactic(auto, unfolding(crate::specs::VbeReading::report_at, crate::specs::VbeReading::reported_at, crate::specs::VbeReading::text_at))]
 fn report(cursor: &mut Cursor) -> Result<(), Stop>
@@ -58,9 +58,9 @@ pub fn assertion(cursor: &mut Cursor, room: u32) -> Result<Statement, Stop>
     ensures { Gives statement_view result (at_of cursor.new.counts cursor.new.rest.now) (assertion_at room (at_of cursor.old.counts cursor.old.rest.now)) }
 {
     let _word = cursor.take_starting(Form::Keyword(Keyword::Assert))?;
-    let raw = cursor.expression(room)?;
+    let parsed = cursor.expression(room)?;
     remarks(cursor)?;
-    Ok(Statement::Assert(raw))
+    Ok(Statement::Assert(parsed))
 }
 
 /// An assignment behind the name of its target, which is this token.
@@ -110,7 +110,7 @@ fn guarded_assignments(cursor: &mut Cursor, room: u32) -> Result<Assignments, St
 
 /// A guard, with the line of its first token, behind the parenthesis.
 #[tactic(auto, unfolding(crate::specs::VbeReading::guard_at, vhdl_front::specs::Reading::closing_at))]
-fn guard(cursor: &mut Cursor, room: u32) -> Result<(u32, Raw), Stop>
+fn guard(cursor: &mut Cursor, room: u32) -> Result<(u32, ParsedExpr), Stop>
     ensures { Gives operand_of result (at_of cursor.new.counts cursor.new.rest.now) (guard_at room (at_of cursor.old.counts cursor.old.rest.now)) }
 {
     let _word = cursor.take_starting(Form::Keyword(Keyword::Block))?;
@@ -141,7 +141,7 @@ pub fn block(cursor: &mut Cursor, room: u32, label: &[u8]) -> Result<Statement, 
     let assignments = guarded_assignments(cursor, room)?;
     let _word = cursor.take(Form::Keyword(Keyword::Block))?;
     repeated(cursor, label)?;
-    Ok(Statement::Block(RawBlock {
+    Ok(Statement::Block(BlockStatement {
         guard,
         line,
         assignments,

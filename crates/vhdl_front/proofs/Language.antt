@@ -1,8 +1,8 @@
 -- Each reader reads its grammar.
 use Rattle.std.proofs.Common.{◌++◌, ◌≡◌, ℕ, zero, suc, ◌<◌, ◌+◌, Bool, true, false, List, [], ◌∷◌, codes, refl, Err, arith}
-use Rattle.vlsi_base.specs.declared.raw.Operator.{Operator}
-use Rattle.vlsi_base.specs.declared.raw.Operator.TheVariants as operation
-use Rattle.vlsi_base.specs.declared.raw.Radix.TheVariants as radix
+use Rattle.vlsi_base.specs.declared.expression.Operator.{Operator}
+use Rattle.vlsi_base.specs.declared.expression.Operator.TheVariants as operation
+use Rattle.vlsi_base.specs.declared.radix.Radix.TheVariants as radix
 use Rattle.vlsi_base.specs.Tree.{Tree, bit, literal, name, index, slice, stable, inverse, binary, folded}
 use Rattle.vhdl_token.specs.declared.keyword.Keyword.TheVariants as word
 use Rattle.vhdl_token.specs.declared.token.Sign.TheVariants as sign

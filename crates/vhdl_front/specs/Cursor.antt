@@ -1,9 +1,9 @@
 -- Where a cursor stands, and what tokens carry.
 use Rattle.std.specs.Prelude.{ℕ, Bool, false, List, [], map}
-use Rattle.vlsi_base.specs.declared.raw.Radix.{Radix}
-use Rattle.vlsi_base.specs.declared.raw.Radix.TheVariants as radix
-use Rattle.vhdl_token.specs.declared.token.Base.{Base}
-use Rattle.vhdl_token.specs.declared.token.Base.TheVariants as base
+use Rattle.vlsi_base.specs.declared.radix.Radix.{Radix}
+use Rattle.vlsi_base.specs.declared.radix.Radix.TheVariants as radix
+use Rattle.vlsi_base.specs.declared.radix.Radix.{Radix}
+use Rattle.vlsi_base.specs.declared.radix.Radix.TheVariants as base
 use Rattle.vhdl_token.specs.declared.token.Token.{Token}
 use Rattle.vhdl_token.specs.declared.token.Token.TheVariants as token
 use Rattle.vhdl_token.specs.declared.token.PlacedToken.{PlacedToken}
@@ -53,7 +53,7 @@ abbrev pub digits_of : PlacedToken → List ℕ
 digits_of t = digits_in t.token
 
 -- the base, as expressions have it
-abbrev pub radix_for : Base → Radix
+abbrev pub radix_for : Radix → Radix
 radix_for base.Binary = radix.Binary
 radix_for base.Octal = radix.Octal
 radix_for base.Hexadecimal = radix.Hexadecimal

@@ -1,6 +1,6 @@
 -- The grammar of entities and of declarations of signals.
 use Rattle.std.specs.Prelude.{ℕ, ◌+◌, ◌-◌, ◌*◌, nat_le, Bool, true, false, List, [], ◌∷◌, length, Option, Some, None, if◌then◌else◌}
-use Rattle.vlsi_base.specs.declared.raw.Range.{Range}
+use Rattle.vlsi_base.specs.declared.range.Range.{Range}
 use Rattle.vlsi_base.specs.declared.entity.NewName.{NewName}
 use Rattle.vlsi_base.specs.declared.entity.Generic.{Generic}
 use Rattle.vlsi_base.specs.declared.entity.Mode.{Mode}

@@ -10,8 +10,8 @@ ghost use Rattle.vhdl_front.specs.Reading.{number_at, direction_at, slice_at, pl
 use crate::cursor::{Cursor, name_bytes};
 use grammar_theory::{Form, Stop};
 use std::alloc::Global;
-use vhdl_token::{Base, Keyword, PlacedToken, Sign, Token};
-use vlsi_base::{Operator, Radix, Range, Raw, Text};
+use vhdl_token::{Radix, Keyword, PlacedToken, Sign, Token};
+use vlsi_base::{Operator, Radix, Range, ParsedExpr, Text};
 
 /// The number that a token is; of another token 0.
 fn number_value(token: &PlacedToken) -> u32
@@ -48,8 +48,8 @@ fn radix_value(token: &PlacedToken) -> Radix
     ensures { result ≡ radix_of token.now }
 {
     match &token.token {
-        Token::BitString(Base::Octal, _) => Radix::Octal,
-        Token::BitString(Base::Hexadecimal, _) => Radix::Hexadecimal,
+        Token::BitString(Radix::Octal, _) => Radix::Octal,
+        Token::BitString(Radix::Hexadecimal, _) => Radix::Hexadecimal,
         _ => Radix::Binary,
     }
 }
@@ -59,25 +59,25 @@ fn join_two(
     alloc: Global,
     operator: Operator,
     line: u32,
-    left: Raw,
-    right: Raw,
-) -> Result<Raw, Stop>
-    ensures { MatchResult result (λ raw. view raw ≡ binary operator line (view left) (view right)) (λ e. e ≡ Memory) }
+    left: ParsedExpr,
+    right: ParsedExpr,
+) -> Result<ParsedExpr, Stop>
+    ensures { MatchResult result (λ parsed. view parsed ≡ binary operator line (view left) (view right)) (λ e. e ≡ Memory) }
 {
     let left = Box::new(alloc, left)?;
     let right = Box::new(alloc, right)?;
-    Ok(Raw::Binary(operator, line, left, right))
+    Ok(ParsedExpr::Binary(operator, line, left, right))
 }
 
 /// Operands joined by one operator, or the first alone.
-fn join(alloc: Global, operator: Operator, first: Raw, others: Vec<(u32, Raw)>) -> Result<Raw, Stop>
-    ensures { MatchResult result (λ raw. view raw ≡ folded operator (view first) (map operand_of others.items)) (λ e. e ≡ Memory) }
+fn join(alloc: Global, operator: Operator, first: ParsedExpr, others: Vec<(u32, ParsedExpr)>) -> Result<ParsedExpr, Stop>
+    ensures { MatchResult result (λ parsed. view parsed ≡ folded operator (view first) (map operand_of others.items)) (λ e. e ≡ Memory) }
 {
     if others.is_empty() {
         return Ok(first);
     }
     let first = Box::new(alloc, first)?;
-    Ok(Raw::Chain(operator, first, others))
+    Ok(ParsedExpr::Chain(operator, first, others))
 }
 
 impl Cursor<'_> {
@@ -106,7 +106,7 @@ impl Cursor<'_> {
 
     /// A range behind its first number, for the name and its line.
     #[tactic(auto, unfolding(crate::specs::Reading::slice_at, crate::specs::Reading::closing_at))]
-    fn slice(&mut self, name: Text, line: u32, paren: u32, left: u32) -> Result<Raw, Stop>
+    fn slice(&mut self, name: Text, line: u32, paren: u32, left: u32) -> Result<ParsedExpr, Stop>
         ensures { Gives view result (at_of self.new.counts self.new.rest.now) (slice_at name line paren left (at_of self.old.counts self.old.rest.now)) }
     {
         let falls = self.direction()?;
@@ -118,35 +118,35 @@ impl Cursor<'_> {
             right,
             line: paren,
         };
-        Ok(Raw::Slice(name, line, range))
+        Ok(ParsedExpr::Slice(name, line, range))
     }
 
     /// An index or a range behind its parenthesis.
     #[tactic(auto, unfolding(crate::specs::Reading::places_at, crate::specs::Reading::closing_at))]
-    fn places(&mut self, name: Text, line: u32, paren: u32) -> Result<Raw, Stop>
+    fn places(&mut self, name: Text, line: u32, paren: u32) -> Result<ParsedExpr, Stop>
         ensures { Gives view result (at_of self.new.counts self.new.rest.now) (places_at name line paren (at_of self.old.counts self.old.rest.now)) }
     {
         let left = self.number()?;
         if self.at(Form::Sign(Sign::RightParen)) {
             let _close = self.take(Form::Sign(Sign::RightParen))?;
-            Ok(Raw::Index(name, line, left))
+            Ok(ParsedExpr::Index(name, line, left))
         } else {
             self.slice(name, line, paren, left)
         }
     }
 
     #[tactic(auto, unfolding(crate::specs::Reading::stable_at))]
-    fn stable(&mut self, name: Text, line: u32) -> Result<Raw, Stop>
+    fn stable(&mut self, name: Text, line: u32) -> Result<ParsedExpr, Stop>
         ensures { Gives view result (at_of self.new.counts self.new.rest.now) (stable_at name line (at_of self.old.counts self.old.rest.now)) }
     {
         let _tick = self.take(Form::Sign(Sign::Tick))?;
         let _word = self.take_spelled(b"stable")?;
-        Ok(Raw::Stable(name, line))
+        Ok(ParsedExpr::Stable(name, line))
     }
 
     /// What stands behind a name.
     #[tactic(auto, unfolding(crate::specs::Reading::suffix_at, crate::specs::Reading::bounded_at))]
-    fn suffix(&mut self, room: u32, name: Text, line: u32) -> Result<Raw, Stop>
+    fn suffix(&mut self, room: u32, name: Text, line: u32) -> Result<ParsedExpr, Stop>
         ensures { Gives view result (at_of self.new.counts self.new.rest.now) (suffix_at room name line (at_of self.old.counts self.old.rest.now)) }
     {
         if self.at(Form::Sign(Sign::LeftParen)) {
@@ -155,12 +155,12 @@ impl Cursor<'_> {
         } else if self.at(Form::Sign(Sign::Tick)) {
             self.stable(name, line)
         } else {
-            Ok(Raw::Name(name, line))
+            Ok(ParsedExpr::Name(name, line))
         }
     }
 
     #[tactic(auto, unfolding(crate::specs::Reading::named_at))]
-    fn named(&mut self, room: u32) -> Result<Raw, Stop>
+    fn named(&mut self, room: u32) -> Result<ParsedExpr, Stop>
         ensures { Gives view result (at_of self.new.counts self.new.rest.now) (named_at room (at_of self.old.counts self.old.rest.now)) }
     {
         let token = self.take(Form::Identifier)?;
@@ -169,35 +169,35 @@ impl Cursor<'_> {
     }
 
     #[tactic(auto, unfolding(crate::specs::Reading::bit_at))]
-    fn bit(&mut self) -> Result<Raw, Stop>
+    fn bit(&mut self) -> Result<ParsedExpr, Stop>
         ensures { Gives view result (at_of self.new.counts self.new.rest.now) (bit_at (at_of self.old.counts self.old.rest.now)) }
     {
         let token = self.take(Form::Bit)?;
-        Ok(Raw::Bit(bit_value(token), token.line))
+        Ok(ParsedExpr::Bit(bit_value(token), token.line))
     }
 
     #[tactic(auto, unfolding(crate::specs::Reading::text_at))]
-    fn text(&mut self) -> Result<Raw, Stop>
+    fn text(&mut self) -> Result<ParsedExpr, Stop>
         ensures { Gives view result (at_of self.new.counts self.new.rest.now) (text_at (at_of self.old.counts self.old.rest.now)) }
     {
         let token = self.take(Form::BitText)?;
         let digits = Text::from_bytes(self.alloc, digits_bytes(token))?;
-        Ok(Raw::Literal(Radix::Binary, digits, token.line))
+        Ok(ParsedExpr::Literal(Radix::Binary, digits, token.line))
     }
 
     #[tactic(auto, unfolding(crate::specs::Reading::string_at))]
-    fn string(&mut self) -> Result<Raw, Stop>
+    fn string(&mut self) -> Result<ParsedExpr, Stop>
         ensures { Gives view result (at_of self.new.counts self.new.rest.now) (string_at (at_of self.old.counts self.old.rest.now)) }
     {
         let token = self.take(Form::BitString)?;
         let digits = Text::from_bytes(self.alloc, digits_bytes(token))?;
-        Ok(Raw::Literal(radix_value(token), digits, token.line))
+        Ok(ParsedExpr::Literal(radix_value(token), digits, token.line))
     }
 
     /// At an opening parenthesis, where so many more may be open.
     #[cycle(parser)]
     #[tactic(auto, unfolding(crate::specs::Reading::enter_at, crate::specs::Reading::closing_at))]
-    fn parenthesized(&mut self, room: u32) -> Result<Raw, Stop>
+    fn parenthesized(&mut self, room: u32) -> Result<ParsedExpr, Stop>
         ensures { Gives view result (at_of self.new.counts self.new.rest.now) (enter_at room (at_of self.old.counts self.old.rest.now)) }
     {
         let _open = self.open(room)?;
@@ -208,7 +208,7 @@ impl Cursor<'_> {
 
     #[cycle(parser)]
     #[tactic(auto, unfolding(crate::specs::Reading::primary_at))]
-    fn primary(&mut self, room: u32) -> Result<Raw, Stop>
+    fn primary(&mut self, room: u32) -> Result<ParsedExpr, Stop>
         ensures { Gives view result (at_of self.new.counts self.new.rest.now) (primary_at room (enter_at room) (at_of self.old.counts self.old.rest.now)) }
     {
         if self.at(Form::Sign(Sign::LeftParen)) {
@@ -227,17 +227,17 @@ impl Cursor<'_> {
     /// Behind `not`.
     #[cycle(parser)]
     #[tactic(auto, unfolding(crate::specs::Reading::inverse_at))]
-    fn inverse(&mut self, room: u32) -> Result<Raw, Stop>
+    fn inverse(&mut self, room: u32) -> Result<ParsedExpr, Stop>
         ensures { Gives view result (at_of self.new.counts self.new.rest.now) (inverse_at room (enter_at room) (at_of self.old.counts self.old.rest.now)) }
     {
         let line = self.take_operator(Form::Keyword(Keyword::Not))?.line;
         let operand = self.primary(room)?;
-        Ok(Raw::Not(line, Box::new(self.alloc, operand)?))
+        Ok(ParsedExpr::Not(line, Box::new(self.alloc, operand)?))
     }
 
     #[cycle(parser)]
     #[tactic(auto, unfolding(crate::specs::Reading::factor_at))]
-    fn factor(&mut self, room: u32) -> Result<Raw, Stop>
+    fn factor(&mut self, room: u32) -> Result<ParsedExpr, Stop>
         ensures { Gives view result (at_of self.new.counts self.new.rest.now) (factor_at room (enter_at room) (at_of self.old.counts self.old.rest.now)) }
     {
         if self.at(Form::Keyword(Keyword::Not)) {
@@ -250,7 +250,7 @@ impl Cursor<'_> {
     /// A factor behind a `&`.
     #[cycle(parser)]
     #[tactic(auto, unfolding(crate::specs::Reading::joined_at))]
-    fn joined_factor(&mut self, room: u32) -> Result<(u32, Raw), Stop>
+    fn joined_factor(&mut self, room: u32) -> Result<(u32, ParsedExpr), Stop>
         ensures { Gives operand_of result (at_of self.new.counts self.new.rest.now) (joined_at (Form.Sign Sign.Ampersand) (factor_at room (enter_at room)) (at_of self.old.counts self.old.rest.now)) }
     {
         let line = self.take_operator(Form::Sign(Sign::Ampersand))?.line;
@@ -260,7 +260,7 @@ impl Cursor<'_> {
 
     /// Factors, each behind a `&`.
     #[cycle(parser)]
-    fn more_factors(&mut self, room: u32) -> Result<Vec<(u32, Raw)>, Stop>
+    fn more_factors(&mut self, room: u32) -> Result<Vec<(u32, ParsedExpr)>, Stop>
         ensures { Gives (λ v. map operand_of v.items) result (at_of self.new.counts self.new.rest.now)
             (list_at (code (Form.Sign Sign.Ampersand) ∷ []) (joined_at (Form.Sign Sign.Ampersand) (factor_at room (enter_at room))) (at_of self.old.counts self.old.rest.now)) }
     {
@@ -274,7 +274,7 @@ impl Cursor<'_> {
 
     #[cycle(parser)]
     #[tactic(auto, unfolding(crate::specs::Reading::cat_at))]
-    fn cat(&mut self, room: u32) -> Result<Raw, Stop>
+    fn cat(&mut self, room: u32) -> Result<ParsedExpr, Stop>
         ensures { Gives view result (at_of self.new.counts self.new.rest.now) (cat_at room (enter_at room) (at_of self.old.counts self.old.rest.now)) }
     {
         let first = self.factor(room)?;
@@ -289,9 +289,9 @@ impl Cursor<'_> {
         &mut self,
         form: Form,
         operator: Operator,
-        left: Raw,
+        left: ParsedExpr,
         room: u32,
-    ) -> Result<Raw, Stop>
+    ) -> Result<ParsedExpr, Stop>
         ensures { Gives view result (at_of self.new.counts self.new.rest.now) (pair_at form operator (cat_at room (enter_at room)) (view left) (at_of self.old.counts self.old.rest.now)) }
     {
         let line = self.take_operator(form)?.line;
@@ -302,7 +302,7 @@ impl Cursor<'_> {
     /// Behind the first operand of a relation.
     #[cycle(parser)]
     #[tactic(auto, unfolding(crate::specs::Reading::compared_at))]
-    fn compared(&mut self, left: Raw, room: u32) -> Result<Raw, Stop>
+    fn compared(&mut self, left: ParsedExpr, room: u32) -> Result<ParsedExpr, Stop>
         ensures { Gives view result (at_of self.new.counts self.new.rest.now) (compared_at (cat_at room (enter_at room)) (view left) (at_of self.old.counts self.old.rest.now)) }
     {
         if self.at(Form::Sign(Sign::Equal)) {
@@ -316,7 +316,7 @@ impl Cursor<'_> {
 
     #[cycle(parser)]
     #[tactic(auto, unfolding(crate::specs::Reading::relation_at))]
-    fn relation(&mut self, room: u32) -> Result<Raw, Stop>
+    fn relation(&mut self, room: u32) -> Result<ParsedExpr, Stop>
         ensures { Gives view result (at_of self.new.counts self.new.rest.now) (relation_at room (enter_at room) (at_of self.old.counts self.old.rest.now)) }
     {
         let left = self.cat(room)?;
@@ -326,7 +326,7 @@ impl Cursor<'_> {
     /// A relation behind an operator.
     #[cycle(parser)]
     #[tactic(auto, unfolding(crate::specs::Reading::joined_at))]
-    fn joined_relation(&mut self, form: Form, room: u32) -> Result<(u32, Raw), Stop>
+    fn joined_relation(&mut self, form: Form, room: u32) -> Result<(u32, ParsedExpr), Stop>
         ensures { Gives operand_of result (at_of self.new.counts self.new.rest.now) (joined_at form (relation_at room (enter_at room)) (at_of self.old.counts self.old.rest.now)) }
     {
         let line = self.take_operator(form)?.line;
@@ -339,9 +339,9 @@ impl Cursor<'_> {
     fn more_relations(
         &mut self,
         form: Form,
-        first: (u32, Raw),
+        first: (u32, ParsedExpr),
         room: u32,
-    ) -> Result<Vec<(u32, Raw)>, Stop>
+    ) -> Result<Vec<(u32, ParsedExpr)>, Stop>
         ensures { Gives (λ v. map operand_of v.items) result (at_of self.new.counts self.new.rest.now)
             (with_front (operand_of first ∷ []) (list_at (code form ∷ []) (joined_at form (relation_at room (enter_at room))) (at_of self.old.counts self.old.rest.now))) }
     {
@@ -357,7 +357,7 @@ impl Cursor<'_> {
     /// Relations with one operator between them, from the first operator on.
     #[cycle(parser)]
     #[tactic(auto, unfolding(crate::specs::Reading::chain_at))]
-    fn chain(&mut self, form: Form, operator: Operator, left: Raw, room: u32) -> Result<Raw, Stop>
+    fn chain(&mut self, form: Form, operator: Operator, left: ParsedExpr, room: u32) -> Result<ParsedExpr, Stop>
         ensures { Gives view result (at_of self.new.counts self.new.rest.now) (chain_at form operator (relation_at room (enter_at room)) (view left) (at_of self.old.counts self.old.rest.now)) }
     {
         let first = self.joined_relation(form, room)?;
@@ -368,7 +368,7 @@ impl Cursor<'_> {
     /// One more relation, behind an operator that joins two alone.
     #[cycle(parser)]
     #[tactic(auto, unfolding(crate::specs::Reading::pair_at))]
-    fn pair(&mut self, form: Form, operator: Operator, left: Raw, room: u32) -> Result<Raw, Stop>
+    fn pair(&mut self, form: Form, operator: Operator, left: ParsedExpr, room: u32) -> Result<ParsedExpr, Stop>
         ensures { Gives view result (at_of self.new.counts self.new.rest.now) (pair_at form operator (relation_at room (enter_at room)) (view left) (at_of self.old.counts self.old.rest.now)) }
     {
         let (line, right) = self.joined_relation(form, room)?;
@@ -378,7 +378,7 @@ impl Cursor<'_> {
     /// Behind the first relation of an expression.
     #[cycle(parser)]
     #[tactic(auto, unfolding(crate::specs::Reading::logical_at))]
-    fn logical(&mut self, left: Raw, room: u32) -> Result<Raw, Stop>
+    fn logical(&mut self, left: ParsedExpr, room: u32) -> Result<ParsedExpr, Stop>
         ensures { Gives view result (at_of self.new.counts self.new.rest.now) (logical_at (relation_at room (enter_at room)) (view left) (at_of self.old.counts self.old.rest.now)) }
     {
         if self.at(Form::Keyword(Keyword::And)) {
@@ -401,7 +401,7 @@ impl Cursor<'_> {
     /// An expression, where so many more parentheses may be open.
     #[cycle(parser)]
     #[tactic(auto, unfolding(crate::specs::Reading::expression_over_at))]
-    pub fn expression(&mut self, room: u32) -> Result<Raw, Stop>
+    pub fn expression(&mut self, room: u32) -> Result<ParsedExpr, Stop>
         ensures { Gives view result (at_of self.new.counts self.new.rest.now) (expression_at room (at_of self.old.counts self.old.rest.now)) }
     {
         let left = self.relation(room)?;

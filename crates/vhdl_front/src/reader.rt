@@ -15,7 +15,7 @@ use grammar_theory::{Breach, CHAIN, DEPTH, Reason, Stop};
 use std::alloc::{AllocError, Global};
 use vhdl_token::{PlacedToken, Token, Tokens};
 use vlsi_base::{
-    Declarations, Entity, FaultKind, InputFault, Limit, LimitKind, Name, Names, Pragmas, Raw,
+    Declarations, Entity, FaultKind, InputFault, Limit, LimitKind, Name, Names, Pragmas, ParsedExpr,
     ReadError, Text,
 };
 
@@ -173,7 +173,7 @@ impl<'a> TokenReader<'a> {
 
     /// Reads the longest expression at the front. Its operators are counted anew; whether its names are declared isn't
     /// looked at. Refused by `Syntax`, and by `Limit` of `Depth` or `Chain`.
-    pub fn expression(&mut self) -> Result<Raw, ReadError>
+    pub fn expression(&mut self) -> Result<ParsedExpr, ReadError>
         ensures right { IsNone (front self.old).refused → IsRead view (expression_grammar (front self.old).room) (at_first (front self.old).here) (front self.old) result (front self.new) }
         ensures again { IfSome (front self.old).refused (λ k. Again k result) }
         ensures forever { IsSome (front self.old).refused → (front self.new).refused ≡ (front self.old).refused }
@@ -185,7 +185,7 @@ impl<'a> TokenReader<'a> {
         let before = self.cursor.rest;
         self.cursor.counts.operators = 0;
         match self.cursor.expression(self.room) {
-            Ok(raw) => Ok(raw),
+            Ok(parsed) => Ok(parsed),
             Err(stop) => Err(self.stop(before, stop)),
         }
     }

@@ -5,8 +5,8 @@ use Rattle.std.specs.Char.{is_ascii_alphabetic, is_ascii_digit, to_ascii_lowerca
 use Rattle.vhdl_token.specs.declared.keyword.Keyword.{Keyword}
 use Rattle.vhdl_token.specs.declared.token.Token.{Token}
 use Rattle.vhdl_token.specs.declared.token.Token.TheVariants as token
-use Rattle.vhdl_token.specs.declared.token.Base.{Base}
-use Rattle.vhdl_token.specs.declared.token.Base.TheVariants.{Binary, Octal, Hexadecimal}
+use Rattle.vlsi_base.specs.declared.radix.Radix.{Radix}
+use Rattle.vlsi_base.specs.declared.radix.Radix.TheVariants.{Binary, Octal, Hexadecimal}
 use Rattle.vhdl_token.specs.Keyword.{keyword_of}
 use Rattle.lexer_base.specs.declared.piece.Piece.{Piece}
 use Rattle.lexer_base.specs.declared.piece.Piece.TheVariants as piece
@@ -27,12 +27,12 @@ word_at text =
     if nat_lt 64 n then piece.TooLong n else piece.Token (word_token (keyword_of name) name) n
 
 -- the base that a letter stands for: b, o or x
-abbrev pub base_of : ℕ → Option Base
+abbrev pub base_of : ℕ → Option Radix
 base_of letter =
     let b = to_ascii_lowercase letter in
     if b == 98 then Some Binary else (if b == 111 then Some Octal else (if b == 120 then Some Hexadecimal else None))
 
-abbrev pub bit_string_of : Option Base → Option ℕ → List ℕ → Option Piece
+abbrev pub bit_string_of : Option Radix → Option ℕ → List ℕ → Option Piece
 bit_string_of None o inside = None
 bit_string_of (Some base) None inside = None
 bit_string_of (Some base) (Some n) inside = Some (piece.Token (token.BitString base (take n inside)) (n + 3))

@@ -11,17 +11,17 @@ use lexer_base::{
     word_length,
 };
 use std::alloc::{AllocError, Global};
-use vhdl_token::{Base, Keyword, Token};
+use vhdl_token::{Radix, Keyword, Token};
 use vlsi_base::Text;
 
 /// The base that a letter before a double quote stands for.
-fn base_of(letter: u8) -> Option<Base>
+fn base_of(letter: u8) -> Option<Radix>
     ensures { result ≡ base_of letter }
 {
     match letter.to_ascii_lowercase() {
-        b'b' => Some(Base::Binary),
-        b'o' => Some(Base::Octal),
-        b'x' => Some(Base::Hexadecimal),
+        b'b' => Some(Radix::Binary),
+        b'o' => Some(Radix::Octal),
+        b'x' => Some(Radix::Hexadecimal),
         _ => None,
     }
 }

@@ -76,7 +76,7 @@ impl Sign {
 
 /// The base of a bit string: 1, 3 or 4 bits a digit.
 #[derive(Clone, Copy, PartialEq, Eq)]
-pub enum Base {
+pub enum Radix {
     Binary,
     Octal,
     Hexadecimal,
@@ -95,7 +95,7 @@ pub enum Token {
     /// What stands between two double quotes.
     Quoted(Text),
     /// A base and what stands between the double quotes, which may be no digits of that base.
-    BitString(Base, Text),
+    BitString(Radix, Text),
     /// In a pattern file a run of letters and digits between a colon and the next semicolon, of any length, in lower case.
     Digits(Text),
     Sign(Sign),

@@ -3,3 +3,5 @@ pub mod Number
 pub mod Fault
 pub mod Tree
 pub mod Range
+pub mod Radix
+pub mod Limits

@@ -1,5 +1,6 @@
--- The order of names, and the names of supplies.
-use Rattle.std.specs.Prelude.{ℕ, Bool, ◌||◌, bytes_eq, List, codes, Option, None, Some}
+-- The order of names, their text, and the names of supplies.
+use Rattle.std.specs.Prelude.{ℕ, Bool, ◌||◌, bytes_eq, List, [], ◌++◌, codes, Option, None, Some}
+use Rattle.std.specs.Fmt.{decimal}
 use Rattle.std.specs.Ordering.{nat_cmp, ordering_then}
 use Rattle.std.specs.Cmp.Lexicographic.{slice_cmp}
 use Rattle.std.specs.declared.cmp.Ordering.{Ordering}
@@ -20,3 +21,11 @@ name_cmp a b = ordering_then (slice_cmp nat_cmp a.text b.text) (bit_cmp a.bit b.
 -- the two supplies are named vdd and vss
 abbrev pub is_supply : List ℕ → Bool
 is_supply text = bytes_eq text (codes "vdd") || bytes_eq text (codes "vss")
+
+-- a bit of a vector stands in parentheses behind its name
+abbrev pub bit_text : Option ℕ → List ℕ
+bit_text None = []
+bit_text (Some k) = codes "(" ++ (decimal k ++ codes ")")
+
+abbrev pub name_text : Name → List ℕ
+name_text n = n.text ++ bit_text n.bit

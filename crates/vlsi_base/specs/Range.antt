@@ -1,6 +1,6 @@
 -- Ranges of bits: the order of their bounds, and the bits that they hold.
 use Rattle.std.specs.Prelude.{ℕ, zero, suc, ◌+◌, ◌-◌, Bool, nat_le, List, [], ◌∷◌, length, if◌then◌else◌}
-use Rattle.vlsi_base.specs.declared.raw.Range.{Range}
+use Rattle.vlsi_base.specs.declared.range.Range.{Range}
 
 -- n numbers that rise from k
 abbrev pub rising : ℕ → ℕ → List ℕ

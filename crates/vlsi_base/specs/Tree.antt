@@ -1,11 +1,11 @@
 -- The value of an expression as it is written, without where it lies in memory.
 use Rattle.std.specs.Prelude.{ℕ, Bool, List, [], ◌∷◌}
-use Rattle.vlsi_base.specs.declared.raw.Operator.{Operator}
-use Rattle.vlsi_base.specs.declared.raw.Radix.{Radix}
-use Rattle.vlsi_base.specs.declared.raw.Range.{Range}
-use Rattle.vlsi_base.specs.declared.raw.Raw.{Raw, Bit, Literal, Name, Index, Slice, Stable, Not', Binary', Chain', Row_of-Raw-Chain-2-2, end_of-Raw-Chain-2-2, more_of-Raw-Chain-2-2}
+use Rattle.vlsi_base.specs.declared.expression.Operator.{Operator}
+use Rattle.vlsi_base.specs.declared.radix.Radix.{Radix}
+use Rattle.vlsi_base.specs.declared.range.Range.{Range}
+use Rattle.vlsi_base.specs.declared.expression.ParsedExpr.{ParsedExpr, Bit, Literal, Name, Index, Slice, Stable, Not', Binary', Chain', Row_of-ParsedExpr-Chain-2-2, end_of-ParsedExpr-Chain-2-2, more_of-ParsedExpr-Chain-2-2}
 
--- names, numbers and lines as in Raw; operands joined by one operator are grouped from the left
+-- names, numbers and lines as in ParsedExpr; operands joined by one operator are grouped from the left
 pub data Tree : Type 0 where
   bit : Bool → ℕ → Tree
   literal : Radix → List ℕ → ℕ → Tree
@@ -17,7 +17,7 @@ pub data Tree : Type 0 where
   binary : Operator → ℕ → Tree → Tree → Tree
 
 abbrev mutual
-  pub view : Raw → Tree
+  pub view : ParsedExpr → Tree
   view (Bit b line) = bit b line
   view (Literal radix digits line) = literal radix digits line
   view (Name text line) = name text line
@@ -29,9 +29,9 @@ abbrev mutual
   view (Chain' op p first shape others) = grouped op (view first) others
 
   -- operands grouped from the left
-  pub grouped : {m : _} → Operator → Tree → Row_of-Raw-Chain-2-2 m → Tree
-  grouped op left end_of-Raw-Chain-2-2 = left
-  grouped op left (more_of-Raw-Chain-2-2 line e others) = grouped op (binary op line left (view e)) others
+  pub grouped : {m : _} → Operator → Tree → Row_of-ParsedExpr-Chain-2-2 m → Tree
+  grouped op left end_of-ParsedExpr-Chain-2-2 = left
+  grouped op left (more_of-ParsedExpr-Chain-2-2 line e others) = grouped op (binary op line left (view e)) others
 
 -- the same over a list of operands, each with the line of the operator before it
 abbrev pub folded : Operator → Tree → List (ℕ × Tree) → Tree
@@ -39,5 +39,5 @@ folded op left [] = left
 folded op left (e ∷ others) = folded op (binary op e.0 left e.1) others
 
 -- an operand, with the line of the operator before it
-abbrev pub operand_of : ℕ × Raw → ℕ × Tree
+abbrev pub operand_of : ℕ × ParsedExpr → ℕ × Tree
 operand_of e = (e.0, view e.1)

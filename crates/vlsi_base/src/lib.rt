@@ -2,22 +2,28 @@
 #![tactic(auto)]
 
 mod entity;
+mod expression;
 mod fault;
+mod limits;
 mod listed;
 mod name;
 mod number;
 mod pragma;
-mod raw;
+mod radix;
+mod range;
 mod text;
 
 pub use entity::{
     Declarations, Entity, Generic, Generics, Mode, NewName, NewNames, PortGroup, PortGroups,
     SignalGroup, SignalGroups, SignalType, TypeWord,
 };
+pub use expression::{Operator, ParsedExpr};
 pub use fault::{FaultKind, InputFault, Limit, LimitKind, ReadError};
+pub use limits::{MOST_NETLIST_BYTES, MOST_SOURCE_BYTES};
 pub use listed::Listed;
 pub use name::{Dir, Name, Names, Port, Ports, Terminal, is_supply};
 pub use number::{push_u64, read_u64};
 pub use pragma::{Pragma, Pragmas};
-pub use raw::{Operator, Radix, Range, Raw};
+pub use radix::Radix;
+pub use range::Range;
 pub use text::{FileBytes, FileName, Text, Texts};

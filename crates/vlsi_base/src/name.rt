@@ -1,8 +1,8 @@
 // Names of signals, perhaps with a bit, their order, and what is named by them.
-ghost use Rattle.std.specs.Prelude.{◌≡◌, IfOk, IsTrue, ◌↔◌};
-ghost use Rattle.vlsi_base.specs.Name.{name_cmp, is_supply};
+ghost use Rattle.std.specs.Prelude.{◌≡◌, ◌++◌, IfOk, OnOk, IsTrue, ◌↔◌};
+ghost use Rattle.vlsi_base.specs.Name.{name_cmp, bit_text, name_text, is_supply};
 
-use crate::{Listed, Text};
+use crate::{Listed, Text, push_u64};
 use std::alloc::{AllocError, Global};
 use std::cmp::Ordering;
 
@@ -46,6 +46,27 @@ impl Name {
             .compare(&other.text)
             .then(self.bit.cmp(&other.bit))
     }
+
+    /// The name as it is printed, a bit in parentheses behind it. Takes memory for the text.
+    pub fn to_text(&self, alloc: Global) -> Result<Text, AllocError>
+        ensures { IfOk result (λ made. made ≡ name_text self.now) }
+    {
+        let mut text = self.text.copy(alloc)?;
+        push_bit(alloc, &mut text, self.bit)?;
+        Ok(text)
+    }
+}
+
+/// Puts a bit in parentheses behind a text; nothing where there is none.
+fn push_bit(alloc: Global, text: &mut Text, bit: Option<u32>) -> Result<(), AllocError>
+    ensures { OnOk result (text.new ≡ text.old ++ bit_text bit) }
+{
+    let Some(k) = bit else {
+        return Ok(());
+    };
+    text.append(b"(")?;
+    push_u64(alloc, text, u64::from(k))?;
+    text.append(b")")
 }
 
 /// Whether a name is that of one of the two supplies, vdd and vss.

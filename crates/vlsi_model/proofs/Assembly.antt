@@ -14,18 +14,18 @@ use Rattle.machine_core.specs.Order.{In, here, there, AllDifferent}
 use Rattle.machine_core.specs.Checked.{AreInOrder}
 use Rattle.machine_core.proofs.Names.{same_name-false}
 use Rattle.machine_core.proofs.Values.{In-map}
-use Rattle.source_checks.specs.declared.statement.RawMachine.{RawMachine}
-use Rattle.source_checks.specs.declared.table.Role.{Role}
-use Rattle.source_checks.specs.declared.table.Role.TheVariants as role
-use Rattle.source_checks.specs.declared.table.Symbol.{Symbol}
+use Rattle.source_meaning.specs.declared.statement.DesignFile.{DesignFile}
+use Rattle.source_meaning.specs.declared.symbol_table.Role.{Role}
+use Rattle.source_meaning.specs.declared.symbol_table.Role.TheVariants as role
+use Rattle.source_meaning.specs.declared.symbol_table.Symbol.{Symbol}
 use Rattle.vlsi_base.specs.Name.{is_supply}
-use Rattle.source_checks.specs.Symbols.{symbols, scalar}
-use Rattle.source_checks.specs.Formula.{numbered}
-use Rattle.source_checks.specs.Drivers.{needs_driver}
-use Rattle.source_checks.specs.Clock.{clock_text}
-use Rattle.source_checks.specs.Elaboration.{Definition, Storage, definitions, storage, port_of, port_bits, clock_name}
-use Rattle.source_checks.proofs.Lookups.{itself}
-use Rattle.source_checks.proofs.Names.{find_text}
+use Rattle.source_meaning.specs.Symbols.{symbols, scalar}
+use Rattle.source_meaning.specs.Formula.{numbered}
+use Rattle.source_meaning.specs.Drivers.{needs_driver}
+use Rattle.source_meaning.specs.Clock.{clock_text}
+use Rattle.source_meaning.specs.Elaboration.{Definition, Storage, definitions, storage, port_of, port_bits, clock_name}
+use Rattle.source_meaning.proofs.Lookups.{itself}
+use Rattle.source_meaning.proofs.Names.{find_text}
 use Rattle.vlsi_model.specs.Laid.{EachReadsEarlier, inputs_of, vars_of, names_defined, names_stored}
 use Rattle.vlsi_model.proofs.Members.{In-map_back}
 use Rattle.vlsi_model.proofs.Bits.{IsBit, texts, found_in, bit_of_symbol}
@@ -36,13 +36,13 @@ use Rattle.vlsi_model.proofs.Sorting.{In-at, place_of_In}
 use Rattle.vlsi_model.proofs.PortBits.{role_of_dir, IsPortBit, port_is, is_port_bit, In-filter, filter-In}
 
 -- the parts of the machine, in their orders
-pub record Parts (raw : RawMachine) (ps : List Port) (regs : List Storage) (defs : List Definition) : Type 0 where
-  pub ports : IsPermutation (port_bits (symbols raw)) ps
+pub record Parts (design : DesignFile) (ps : List Port) (regs : List Storage) (defs : List Definition) : Type 0 where
+  pub ports : IsPermutation (port_bits (symbols design)) ps
   pub ports_order : AreInOrder (names_of ps)
-  pub registers : IsPermutation (storage raw) regs
+  pub registers : IsPermutation (storage design) regs
   pub registers_order : AreInOrder (names_stored regs)
-  pub equations : IsPermutation (definitions raw) defs
-  pub earlier : EachReadsEarlier (names_defined (definitions raw)) [] defs
+  pub equations : IsPermutation (definitions design) defs
+  pub earlier : EachReadsEarlier (names_defined (definitions design)) [] defs
 
 abbrev pub equation_of : List Name → Definition → Equation
 equation_of vars d = record { name = d.name; expr = numbered vars d.formula }
@@ -50,12 +50,12 @@ equation_of vars d = record { name = d.name; expr = numbered vars d.formula }
 abbrev pub register_of : List Name → Storage → Register
 register_of vars r = record { name = r.name; next = numbered vars r.next; enable = numbered vars r.enable }
 
-abbrev pub assembled : RawMachine → List Port → List Storage → List Definition → Machine
-assembled raw ports regs defs =
-    let vars = vars_of raw ports regs defs in record {
-      name = raw.entity.name;
+abbrev pub assembled : DesignFile → List Port → List Storage → List Definition → Machine
+assembled design ports regs defs =
+    let vars = vars_of design ports regs defs in record {
+      name = design.entity.name;
       ports = ports;
-      clock = clock_name raw;
+      clock = clock_name design;
       vars = vars;
       equations = map (equation_of vars) defs;
       registers = map (register_of vars) regs;
@@ -120,17 +120,17 @@ pub record IsDriven (known : List Symbol) (in_block : Bool) (n : Name) : Type 0 
   pub bit : IsBit known n symbol
   pub role : RoleIn in_block symbol.role
 
-pub defined_is : (raw : RawMachine) → Facts raw → (n : Name) → In n (names_defined (definitions raw)) → IsDriven (symbols raw) false n
-defined_is raw f n i =
-    let m = In-map_back (λ (d : Definition). d.name) n (definitions raw) i in
+pub defined_is : (design : DesignFile) → Facts design → (n : Name) → In n (names_defined (definitions design)) → IsDriven (symbols design) false n
+defined_is design f n i =
+    let m = In-map_back (λ (d : Definition). d.name) n (definitions design) i in
     let d = f.defines m.0 m.1 in
-    subst (IsDriven (symbols raw) false) m.2 (record { symbol = d.symbol; bit = d.bit; role = d.role })
+    subst (IsDriven (symbols design) false) m.2 (record { symbol = d.symbol; bit = d.bit; role = d.role })
 
-pub stored_is : (raw : RawMachine) → Facts raw → (n : Name) → In n (names_stored (storage raw)) → IsDriven (symbols raw) true n
-stored_is raw f n i =
-    let m = In-map_back (λ (r : Storage). r.name) n (storage raw) i in
+pub stored_is : (design : DesignFile) → Facts design → (n : Name) → In n (names_stored (storage design)) → IsDriven (symbols design) true n
+stored_is design f n i =
+    let m = In-map_back (λ (r : Storage). r.name) n (storage design) i in
     let d = (f.stores m.0 m.1).0 in
-    subst (IsDriven (symbols raw) true) m.2 (record { symbol = d.symbol; bit = d.bit; role = d.role })
+    subst (IsDriven (symbols design) true) m.2 (record { symbol = d.symbol; bit = d.bit; role = d.role })
 
 pub record IsInput (known : List Symbol) (clock : Option Name) (n : Name) : Type 0 where
   pub symbol : Symbol
@@ -154,9 +154,9 @@ pub out_dir : (d : Dir) → not (is_input d) ≡ true → role_of_dir d ≡ role
 out_dir dir.In e = absurd cc
 out_dir dir.Out e = refl
 
-pub input_is : (raw : RawMachine) → Facts raw → (ports : List Port) → IsPermutation (port_bits (symbols raw)) ports → (clock : Option Name) (n : Name) → In n (inputs_of clock ports) → IsInput (symbols raw) clock n
-input_is raw f ports p clock n i =
-    let known = symbols raw in
+pub input_is : (design : DesignFile) → Facts design → (ports : List Port) → IsPermutation (port_bits (symbols design)) ports → (clock : Option Name) (n : Name) → In n (inputs_of clock ports) → IsInput (symbols design) clock n
+input_is design f ports p clock n i =
+    let known = symbols design in
     let a = In-filter (λ name. not (is_clock clock name)) (names_of (filter (λ q. is_input q.dir) ports)) n i in
     let m = In-map_back (λ (q : Port). q.name) n (filter (λ q. is_input q.dir) ports) a.0 in
     let b = In-filter (λ (q : Port). is_input q.dir) ports m.0 m.1 in
@@ -173,10 +173,10 @@ not_the_clock None n h = refl
 not_the_clock (Some t) n h = same_name-false (scalar t) n (λ e. h (ap (λ (m : Name). Some m.text) e))
 
 -- an input that is no supply and not the clock is among the inputs
-pub is_input_of : (raw : RawMachine) (ports : List Port) → IsPermutation (port_bits (symbols raw)) ports → (clock : Option Name) (n : Name) (s : Symbol) → IsBit (symbols raw) n s → s.role ≡ role.Input → is_supply n.text ≡ false → is_clock clock n ≡ false
+pub is_input_of : (design : DesignFile) (ports : List Port) → IsPermutation (port_bits (symbols design)) ports → (clock : Option Name) (n : Name) (s : Symbol) → IsBit (symbols design) n s → s.role ≡ role.Input → is_supply n.text ≡ false → is_clock clock n ≡ false
     → In n (inputs_of clock ports)
-is_input_of raw ports p clock n s b r supply apart =
-    let known = symbols raw in
+is_input_of design ports p clock n s b r supply apart =
+    let known = symbols design in
     let text : s.text ≡ n.text = find_text known n.text s b.found in
     let port = is_port_bit known s n dir.In (found_in known n.text s b.found) b.among (ap is_supply text ∙ supply) r in
     let among = In-permutation (port_bits known) ports (port_of dir.In n) p port in
@@ -184,20 +184,20 @@ is_input_of raw ports p clock n s b r supply apart =
     filter-In (λ name. not (is_clock clock name)) (names_of (filter (λ q. is_input q.dir) ports)) n (In-map (λ (q : Port). q.name) (port_of dir.In n) (filter (λ q. is_input q.dir) ports) kept) (ap not apart)
 
 -- what formulas read is an input, a register or defined
-pub record Covers (raw : RawMachine) (ports : List Port) (n : Name) : Type 0 where
-  pub is : In n (inputs_of (clock_name raw) ports) ⊎ (In n (names_stored (storage raw)) ⊎ In n (names_defined (definitions raw)))
+pub record Covers (design : DesignFile) (ports : List Port) (n : Name) : Type 0 where
+  pub is : In n (inputs_of (clock_name design) ports) ⊎ (In n (names_stored (storage design)) ⊎ In n (names_defined (definitions design)))
 
 turned : {A B : Type 0} → A ⊎ B → B ⊎ A
 turned (inl a) = inr a
 turned (inr b) = inl b
 
-pub covered : (raw : RawMachine) → Facts raw → (ports : List Port) → IsPermutation (port_bits (symbols raw)) ports → (n : Name) → IsReadable (symbols raw) (clock_text raw) n → Covers raw ports n
-covered raw f ports p n h = record { is = by h.symbol.role refl } where
+pub covered : (design : DesignFile) → Facts design → (ports : List Port) → IsPermutation (port_bits (symbols design)) ports → (n : Name) → IsReadable (symbols design) (clock_text design) n → Covers design ports n
+covered design f ports p n h = record { is = by h.symbol.role refl } where
   known : List Symbol
-  known = symbols raw
+  known = symbols design
 
-  by : (r : Role) → h.symbol.role ≡ r → In n (inputs_of (clock_name raw) ports) ⊎ (In n (names_stored (storage raw)) ⊎ In n (names_defined (definitions raw)))
-  by role.Input e = inl (is_input_of raw ports p (clock_name raw) n h.symbol h.bit e h.no_supply (not_the_clock (clock_text raw) n h.no_clock))
+  by : (r : Role) → h.symbol.role ≡ r → In n (inputs_of (clock_name design) ports) ⊎ (In n (names_stored (storage design)) ⊎ In n (names_defined (definitions design)))
+  by role.Input e = inl (is_input_of design ports p (clock_name design) n h.symbol h.bit e h.no_supply (not_the_clock (clock_text design) n h.no_clock))
   by role.Output e = inr (turned (f.driven n h.symbol h.bit (ap needs_driver e)))
   by role.Both e = absurd ((f.fine h.symbol (found_in known n.text h.symbol h.bit.found)).not_both e)
   by role.Inner e = inr (turned (f.driven n h.symbol h.bit (ap needs_driver e)))

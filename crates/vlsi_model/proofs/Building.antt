@@ -11,12 +11,12 @@ use Rattle.bool_expr.specs.Expression.{Expression, constant}
 use Rattle.bool_expr.specs.Renumbering.{renumbered}
 use Rattle.machine_meaning.specs.Machine.{Machine, Equation, Register, is_input, is_clock, names_of}
 use Rattle.machine_core.specs.Order.{In, here, there}
-use Rattle.source_checks.specs.declared.statement.RawMachine.{RawMachine}
+use Rattle.source_meaning.specs.declared.statement.DesignFile.{DesignFile}
 use Rattle.vlsi_base.specs.Range.{rising}
-use Rattle.source_checks.specs.Symbols.{symbols, all_names}
-use Rattle.source_checks.specs.Formula.{Formula, place, numbered}
-use Rattle.source_checks.specs.Clock.{clock_text}
-use Rattle.source_checks.specs.Elaboration.{Definition, Storage, definitions, storage, clock_name, IsMachineOf}
+use Rattle.source_meaning.specs.Symbols.{symbols, all_names}
+use Rattle.source_meaning.specs.Formula.{Formula, place, numbered}
+use Rattle.source_meaning.specs.Clock.{clock_text}
+use Rattle.source_meaning.specs.Elaboration.{Definition, Storage, definitions, storage, clock_name, IsMachineOf}
 use Rattle.source_bits.specs.Driven.{Numbered, NumberedStorage, numbered_definition, numbered_storage}
 use Rattle.vlsi_model.specs.Numbered.{name_at, driven_at, stored_at, HasVars, equation_from, register_from, input_names}
 use Rattle.vlsi_model.specs.Laid.{no_definition, definition_at, no_storage, storage_at, Laid, inputs_of, vars_of, names_defined, names_stored}
@@ -33,13 +33,13 @@ use Rattle.vlsi_model.proofs.Assembled.{readable_var, is_machine}
 picked : {A : Type 0} (xs : List A) (d : A) (order : List ℕ) → IsPermutation (rising 0 (length xs)) order → IsPermutation xs (map (λ k. get_or xs k d) order)
 picked xs d order p = subst (λ ys. IsPermutation ys (map (λ k. get_or xs k d) order)) (at_places xs d) (IsPermutation-map (λ k. get_or xs k d) (rising 0 (length xs)) order p)
 
-pub parts : (raw : RawMachine) (ps : List Port) (order nodes : List ℕ) → Laid raw ps order nodes → Parts raw ps (map (storage_at (storage raw)) order) (map (definition_at (definitions raw)) nodes)
-parts raw ps order nodes l = record {
+pub parts : (design : DesignFile) (ps : List Port) (order nodes : List ℕ) → Laid design ps order nodes → Parts design ps (map (storage_at (storage design)) order) (map (definition_at (definitions design)) nodes)
+parts design ps order nodes l = record {
   ports = l.ports;
   ports_order = l.ports_order;
-  registers = picked (storage raw) no_storage order l.order;
+  registers = picked (storage design) no_storage order l.order;
   registers_order = l.registers_order;
-  equations = picked (definitions raw) no_definition nodes l.nodes;
+  equations = picked (definitions design) no_definition nodes l.nodes;
   earlier = l.earlier;
 }
 
@@ -89,86 +89,86 @@ stored_names_at rs order p =
     map_same (λ k. get_or (names_stored rs) k (record { text = []; bit = None })) (λ k. (storage_at rs k).name) order (λ k i. get_or-map (λ (r : Storage). r.name) rs k no_storage (record { text = []; bit = None }) (places_below (length rs) order p k i))
     ∙ sym (map-then (λ (r : Storage). r.name) (storage_at rs) order)
 
-pub defined_declared : (raw : RawMachine) → Facts raw → (n : Name) → In n (names_defined (definitions raw)) → In n (all_names (symbols raw))
-defined_declared raw f n i = let d = defined_is raw f n i in bit_all (symbols raw) n d.symbol d.bit
+pub defined_declared : (design : DesignFile) → Facts design → (n : Name) → In n (names_defined (definitions design)) → In n (all_names (symbols design))
+defined_declared design f n i = let d = defined_is design f n i in bit_all (symbols design) n d.symbol d.bit
 
-pub stored_declared : (raw : RawMachine) → Facts raw → (n : Name) → In n (names_stored (storage raw)) → In n (all_names (symbols raw))
-stored_declared raw f n i = let d = stored_is raw f n i in bit_all (symbols raw) n d.symbol d.bit
+pub stored_declared : (design : DesignFile) → Facts design → (n : Name) → In n (names_stored (storage design)) → In n (all_names (symbols design))
+stored_declared design f n i = let d = stored_is design f n i in bit_all (symbols design) n d.symbol d.bit
 
-pub vars_are : (raw : RawMachine) (ps : List Port) (order nodes sbits dbits : List ℕ) → Facts raw → Laid raw ps order nodes
-    → sbits ≡ map (place (all_names (symbols raw))) (names_stored (storage raw)) → dbits ≡ map (place (all_names (symbols raw))) (names_defined (definitions raw))
-    → (input_names (clock_name raw) ps ++ map (λ k. name_at (all_names (symbols raw)) (slice_index sbits k)) order) ++ map (λ k. name_at (all_names (symbols raw)) (slice_index dbits k)) nodes
-    ≡ vars_of raw ps (map (storage_at (storage raw)) order) (map (definition_at (definitions raw)) nodes)
-vars_are raw ps order nodes sbits dbits f l s d =
-    let all = all_names (symbols raw) in
-    let p : IsPermutation (rising 0 (length (names_stored (storage raw)))) order = subst (λ n. IsPermutation (rising 0 n) order) (sym (length-map (storage raw) (λ (r : Storage). r.name))) l.order in
-    let q : IsPermutation (rising 0 (length (names_defined (definitions raw)))) nodes = subst (λ n. IsPermutation (rising 0 n) nodes) (sym (length-map (definitions raw) (λ (r : Definition). r.name))) l.nodes in
-    let rs = names_by all (names_stored (storage raw)) sbits order s (stored_declared raw f) p ∙ stored_names_at (storage raw) order l.order in
-    let ds = names_by all (names_defined (definitions raw)) dbits nodes d (defined_declared raw f) q ∙ defined_at (definitions raw) nodes l.nodes in
-    ap (λ (ns : List Name). (ns ++ map (λ k. name_at all (slice_index sbits k)) order) ++ map (λ k. name_at all (slice_index dbits k)) nodes) (inputs_are (clock_name raw) ps)
-    ∙ ap (λ (ns : List Name). (inputs_of (clock_name raw) ps ++ ns) ++ map (λ k. name_at all (slice_index dbits k)) nodes) rs
-    ∙ ap (λ (ns : List Name). (inputs_of (clock_name raw) ps ++ names_stored (map (storage_at (storage raw)) order)) ++ ns) ds
+pub vars_are : (design : DesignFile) (ps : List Port) (order nodes sbits dbits : List ℕ) → Facts design → Laid design ps order nodes
+    → sbits ≡ map (place (all_names (symbols design))) (names_stored (storage design)) → dbits ≡ map (place (all_names (symbols design))) (names_defined (definitions design))
+    → (input_names (clock_name design) ps ++ map (λ k. name_at (all_names (symbols design)) (slice_index sbits k)) order) ++ map (λ k. name_at (all_names (symbols design)) (slice_index dbits k)) nodes
+    ≡ vars_of design ps (map (storage_at (storage design)) order) (map (definition_at (definitions design)) nodes)
+vars_are design ps order nodes sbits dbits f l s d =
+    let all = all_names (symbols design) in
+    let p : IsPermutation (rising 0 (length (names_stored (storage design)))) order = subst (λ n. IsPermutation (rising 0 n) order) (sym (length-map (storage design) (λ (r : Storage). r.name))) l.order in
+    let q : IsPermutation (rising 0 (length (names_defined (definitions design)))) nodes = subst (λ n. IsPermutation (rising 0 n) nodes) (sym (length-map (definitions design) (λ (r : Definition). r.name))) l.nodes in
+    let rs = names_by all (names_stored (storage design)) sbits order s (stored_declared design f) p ∙ stored_names_at (storage design) order l.order in
+    let ds = names_by all (names_defined (definitions design)) dbits nodes d (defined_declared design f) q ∙ defined_at (definitions design) nodes l.nodes in
+    ap (λ (ns : List Name). (ns ++ map (λ k. name_at all (slice_index sbits k)) order) ++ map (λ k. name_at all (slice_index dbits k)) nodes) (inputs_are (clock_name design) ps)
+    ∙ ap (λ (ns : List Name). (inputs_of (clock_name design) ps ++ ns) ++ map (λ k. name_at all (slice_index dbits k)) nodes) rs
+    ∙ ap (λ (ns : List Name). (inputs_of (clock_name design) ps ++ names_stored (map (storage_at (storage design)) order)) ++ ns) ds
 
 -- equations and registers
 
-renumbered_is : (raw : RawMachine) (vars : List Name) (table : List ℕ) (f : Formula) → HasVars (all_names (symbols raw)) vars table → Holds (λ n. In n vars) f → renumbered table (numbered (all_names (symbols raw)) f) ≡ numbered vars f
-renumbered_is raw vars table f h reads = renumber (all_names (symbols raw)) vars table f (Holds-weaker (λ n. In n vars) (λ n. slice_index table (place (all_names (symbols raw)) n) ≡ place vars n) (λ n i. h.there n i) f reads)
+renumbered_is : (design : DesignFile) (vars : List Name) (table : List ℕ) (f : Formula) → HasVars (all_names (symbols design)) vars table → Holds (λ n. In n vars) f → renumbered table (numbered (all_names (symbols design)) f) ≡ numbered vars f
+renumbered_is design vars table f h reads = renumber (all_names (symbols design)) vars table f (Holds-weaker (λ n. In n vars) (λ n. slice_index table (place (all_names (symbols design)) n) ≡ place vars n) (λ n i. h.there n i) f reads)
 
-pub equations_are : (raw : RawMachine) (ps : List Port) (order nodes table : List ℕ) (driven : List Numbered) → Facts raw → Laid raw ps order nodes → driven ≡ map (numbered_definition (all_names (symbols raw))) (definitions raw)
-    → HasVars (all_names (symbols raw)) (vars_of raw ps (map (storage_at (storage raw)) order) (map (definition_at (definitions raw)) nodes)) table
-    → map (λ k. equation_from (all_names (symbols raw)) table (driven_at driven k)) nodes ≡ map (equation_of (vars_of raw ps (map (storage_at (storage raw)) order) (map (definition_at (definitions raw)) nodes))) (map (definition_at (definitions raw)) nodes)
-equations_are raw ps order nodes table driven f l is h =
-    let all = all_names (symbols raw) in
-    let regs = map (storage_at (storage raw)) order in
-    let defs = map (definition_at (definitions raw)) nodes in
-    let vars = vars_of raw ps regs defs in
+pub equations_are : (design : DesignFile) (ps : List Port) (order nodes table : List ℕ) (driven : List Numbered) → Facts design → Laid design ps order nodes → driven ≡ map (numbered_definition (all_names (symbols design))) (definitions design)
+    → HasVars (all_names (symbols design)) (vars_of design ps (map (storage_at (storage design)) order) (map (definition_at (definitions design)) nodes)) table
+    → map (λ k. equation_from (all_names (symbols design)) table (driven_at driven k)) nodes ≡ map (equation_of (vars_of design ps (map (storage_at (storage design)) order) (map (definition_at (definitions design)) nodes))) (map (definition_at (definitions design)) nodes)
+equations_are design ps order nodes table driven f l is h =
+    let all = all_names (symbols design) in
+    let regs = map (storage_at (storage design)) order in
+    let defs = map (definition_at (definitions design)) nodes in
+    let vars = vars_of design ps regs defs in
     let made : Name → Expression → Equation = λ n e. record { name = n; expr = e } in
-    map_same (λ k. equation_from all table (driven_at driven k)) (λ k. equation_of vars (definition_at (definitions raw) k)) nodes (λ k i.
-    let low = places_below (length (definitions raw)) nodes l.nodes k i in
-    let d = definition_at (definitions raw) k in
-    let there_is = In-at (definitions raw) k no_definition low in
+    map_same (λ k. equation_from all table (driven_at driven k)) (λ k. equation_of vars (definition_at (definitions design) k)) nodes (λ k i.
+    let low = places_below (length (definitions design)) nodes l.nodes k i in
+    let d = definition_at (definitions design) k in
+    let there_is = In-at (definitions design) k no_definition low in
     let fact = f.defines d there_is in
-    let reads = Holds-weaker (IsReadable (symbols raw) (clock_text raw)) (λ n. In n vars) (λ n r. readable_var raw ps regs defs f (parts raw ps order nodes l) n r) d.formula fact.reads in
+    let reads = Holds-weaker (IsReadable (symbols design) (clock_text design)) (λ n. In n vars) (λ n r. readable_var design ps regs defs f (parts design ps order nodes l) n r) d.formula fact.reads in
     ap (λ (ds : List Numbered). equation_from all table (driven_at ds k)) is
-    ∙ ap (equation_from all table) (get_or-map (numbered_definition all) (definitions raw) k no_definition (record { bit = 0; expr = constant false }) low)
-    ∙ ap (λ (n : Name). made n (renumbered table (numbered all d.formula))) (name_back all d.name (bit_all (symbols raw) d.name fact.symbol fact.bit))
-    ∙ ap (made d.name) (renumbered_is raw vars table d.formula h reads))
-    ∙ sym (map-then (equation_of vars) (definition_at (definitions raw)) nodes)
+    ∙ ap (equation_from all table) (get_or-map (numbered_definition all) (definitions design) k no_definition (record { bit = 0; expr = constant false }) low)
+    ∙ ap (λ (n : Name). made n (renumbered table (numbered all d.formula))) (name_back all d.name (bit_all (symbols design) d.name fact.symbol fact.bit))
+    ∙ ap (made d.name) (renumbered_is design vars table d.formula h reads))
+    ∙ sym (map-then (equation_of vars) (definition_at (definitions design)) nodes)
 
-pub registers_are : (raw : RawMachine) (ps : List Port) (order nodes table : List ℕ) (stored : List NumberedStorage) → Facts raw → Laid raw ps order nodes → stored ≡ map (numbered_storage (all_names (symbols raw))) (storage raw)
-    → HasVars (all_names (symbols raw)) (vars_of raw ps (map (storage_at (storage raw)) order) (map (definition_at (definitions raw)) nodes)) table
-    → map (λ k. register_from (all_names (symbols raw)) table (stored_at stored k)) order ≡ map (register_of (vars_of raw ps (map (storage_at (storage raw)) order) (map (definition_at (definitions raw)) nodes))) (map (storage_at (storage raw)) order)
-registers_are raw ps order nodes table stored f l is h =
-    let all = all_names (symbols raw) in
-    let regs = map (storage_at (storage raw)) order in
-    let defs = map (definition_at (definitions raw)) nodes in
-    let vars = vars_of raw ps regs defs in
+pub registers_are : (design : DesignFile) (ps : List Port) (order nodes table : List ℕ) (stored : List NumberedStorage) → Facts design → Laid design ps order nodes → stored ≡ map (numbered_storage (all_names (symbols design))) (storage design)
+    → HasVars (all_names (symbols design)) (vars_of design ps (map (storage_at (storage design)) order) (map (definition_at (definitions design)) nodes)) table
+    → map (λ k. register_from (all_names (symbols design)) table (stored_at stored k)) order ≡ map (register_of (vars_of design ps (map (storage_at (storage design)) order) (map (definition_at (definitions design)) nodes))) (map (storage_at (storage design)) order)
+registers_are design ps order nodes table stored f l is h =
+    let all = all_names (symbols design) in
+    let regs = map (storage_at (storage design)) order in
+    let defs = map (definition_at (definitions design)) nodes in
+    let vars = vars_of design ps regs defs in
     let made : Name → Expression → Expression → Register = λ n e g. record { name = n; next = e; enable = g } in
-    map_same (λ k. register_from all table (stored_at stored k)) (λ k. register_of vars (storage_at (storage raw) k)) order (λ k i.
-    let low = places_below (length (storage raw)) order l.order k i in
-    let r = storage_at (storage raw) k in
-    let fact = f.stores r (In-at (storage raw) k no_storage low) in
-    let inside = λ (n : Name) (q : IsReadable (symbols raw) (clock_text raw) n). readable_var raw ps regs defs f (parts raw ps order nodes l) n q in
+    map_same (λ k. register_from all table (stored_at stored k)) (λ k. register_of vars (storage_at (storage design) k)) order (λ k i.
+    let low = places_below (length (storage design)) order l.order k i in
+    let r = storage_at (storage design) k in
+    let fact = f.stores r (In-at (storage design) k no_storage low) in
+    let inside = λ (n : Name) (q : IsReadable (symbols design) (clock_text design) n). readable_var design ps regs defs f (parts design ps order nodes l) n q in
     ap (λ (rs : List NumberedStorage). register_from all table (stored_at rs k)) is
-    ∙ ap (register_from all table) (get_or-map (numbered_storage all) (storage raw) k no_storage (record { bit = 0; next = constant false; enable = constant false }) low)
-    ∙ ap (λ (n : Name). made n (renumbered table (numbered all r.next)) (renumbered table (numbered all r.enable))) (name_back all r.name (bit_all (symbols raw) r.name fact.0.symbol fact.0.bit))
-    ∙ ap (λ (e : Expression). made r.name e (renumbered table (numbered all r.enable))) (renumbered_is raw vars table r.next h (Holds-weaker (IsReadable (symbols raw) (clock_text raw)) (λ n. In n vars) inside r.next fact.0.reads))
-    ∙ ap (made r.name (numbered vars r.next)) (renumbered_is raw vars table r.enable h (Holds-weaker (IsReadable (symbols raw) (clock_text raw)) (λ n. In n vars) inside r.enable fact.1)))
-    ∙ sym (map-then (register_of vars) (storage_at (storage raw)) order)
+    ∙ ap (register_from all table) (get_or-map (numbered_storage all) (storage design) k no_storage (record { bit = 0; next = constant false; enable = constant false }) low)
+    ∙ ap (λ (n : Name). made n (renumbered table (numbered all r.next)) (renumbered table (numbered all r.enable))) (name_back all r.name (bit_all (symbols design) r.name fact.0.symbol fact.0.bit))
+    ∙ ap (λ (e : Expression). made r.name e (renumbered table (numbered all r.enable))) (renumbered_is design vars table r.next h (Holds-weaker (IsReadable (symbols design) (clock_text design)) (λ n. In n vars) inside r.next fact.0.reads))
+    ∙ ap (made r.name (numbered vars r.next)) (renumbered_is design vars table r.enable h (Holds-weaker (IsReadable (symbols design) (clock_text design)) (λ n. In n vars) inside r.enable fact.1)))
+    ∙ sym (map-then (register_of vars) (storage_at (storage design)) order)
 
 -- the machine of parts that are these is that of the source
-pub built : (raw : RawMachine) (ps : List Port) (order nodes : List ℕ) → Facts raw → Laid raw ps order nodes → (m : Machine)
-    → m.name ≡ raw.entity.name → m.ports ≡ ps → m.clock ≡ clock_name raw → m.vars ≡ vars_of raw ps (map (storage_at (storage raw)) order) (map (definition_at (definitions raw)) nodes)
-    → m.equations ≡ map (equation_of (vars_of raw ps (map (storage_at (storage raw)) order) (map (definition_at (definitions raw)) nodes))) (map (definition_at (definitions raw)) nodes)
-    → m.registers ≡ map (register_of (vars_of raw ps (map (storage_at (storage raw)) order) (map (definition_at (definitions raw)) nodes))) (map (storage_at (storage raw)) order)
-    → IsMachineOf raw m
-built raw ps order nodes f l m a b c d e g =
+pub built : (design : DesignFile) (ps : List Port) (order nodes : List ℕ) → Facts design → Laid design ps order nodes → (m : Machine)
+    → m.name ≡ design.entity.name → m.ports ≡ ps → m.clock ≡ clock_name design → m.vars ≡ vars_of design ps (map (storage_at (storage design)) order) (map (definition_at (definitions design)) nodes)
+    → m.equations ≡ map (equation_of (vars_of design ps (map (storage_at (storage design)) order) (map (definition_at (definitions design)) nodes))) (map (definition_at (definitions design)) nodes)
+    → m.registers ≡ map (register_of (vars_of design ps (map (storage_at (storage design)) order) (map (definition_at (definitions design)) nodes))) (map (storage_at (storage design)) order)
+    → IsMachineOf design m
+built design ps order nodes f l m a b c d e g =
     let made : List ℕ → List Port → Option Name → List Name → List Equation → List Register → Machine = λ n p k v q r. record { name = n; ports = p; clock = k; vars = v; equations = q; registers = r } in
-    let regs = map (storage_at (storage raw)) order in
-    let defs = map (definition_at (definitions raw)) nodes in
-    let whole : m ≡ assembled raw ps regs defs =
-    ap (λ (x : List ℕ). made x m.ports m.clock m.vars m.equations m.registers) a ∙ ap (λ (x : List Port). made raw.entity.name x m.clock m.vars m.equations m.registers) b
-    ∙ ap (λ (x : Option Name). made raw.entity.name ps x m.vars m.equations m.registers) c ∙ ap (λ (x : List Name). made raw.entity.name ps (clock_name raw) x m.equations m.registers) d
-    ∙ ap (λ (x : List Equation). made raw.entity.name ps (clock_name raw) (vars_of raw ps regs defs) x m.registers) e
-    ∙ ap (λ (x : List Register). made raw.entity.name ps (clock_name raw) (vars_of raw ps regs defs) (map (equation_of (vars_of raw ps regs defs)) defs) x) g in
-    subst (IsMachineOf raw) (sym whole) (is_machine raw ps regs defs f (parts raw ps order nodes l))
+    let regs = map (storage_at (storage design)) order in
+    let defs = map (definition_at (definitions design)) nodes in
+    let whole : m ≡ assembled design ps regs defs =
+    ap (λ (x : List ℕ). made x m.ports m.clock m.vars m.equations m.registers) a ∙ ap (λ (x : List Port). made design.entity.name x m.clock m.vars m.equations m.registers) b
+    ∙ ap (λ (x : Option Name). made design.entity.name ps x m.vars m.equations m.registers) c ∙ ap (λ (x : List Name). made design.entity.name ps (clock_name design) x m.equations m.registers) d
+    ∙ ap (λ (x : List Equation). made design.entity.name ps (clock_name design) (vars_of design ps regs defs) x m.registers) e
+    ∙ ap (λ (x : List Register). made design.entity.name ps (clock_name design) (vars_of design ps regs defs) (map (equation_of (vars_of design ps regs defs)) defs) x) g in
+    subst (IsMachineOf design) (sym whole) (is_machine design ps regs defs f (parts design ps order nodes l))

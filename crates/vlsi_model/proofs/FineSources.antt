@@ -3,7 +3,7 @@ use Rattle.std.proofs.Common.{◌≡◌, ◌⊎◌, inl, inr, ℕ, Bool, true, f
 use Rattle.std.specs.Prelude.{not, ◌||◌, filter}
 use Rattle.std.proofs.lemmas.List.{map-append}
 use Rattle.vlsi_base.specs.declared.name.Name.{Name}
-use Rattle.vlsi_base.specs.declared.raw.Range.{Range}
+use Rattle.vlsi_base.specs.declared.range.Range.{Range}
 use Rattle.vlsi_base.specs.declared.entity.NewName.{NewName}
 use Rattle.vlsi_base.specs.declared.entity.Mode.{Mode}
 use Rattle.vlsi_base.specs.declared.entity.Mode.TheVariants as mode
@@ -16,23 +16,23 @@ use Rattle.machine_meaning.specs.Named.{is_same_name}
 use Rattle.machine_core.specs.Order.{In, here, there, AllDifferent}
 use Rattle.machine_core.proofs.Names.{same_name-true, same_name-itself}
 use Rattle.machine_core.proofs.Values.{In-split, In-left, In-right}
-use Rattle.source_checks.specs.declared.statement.Assignment.{Assignment}
-use Rattle.source_checks.specs.declared.statement.Statement.{Statement}
-use Rattle.source_checks.specs.declared.statement.Statement.TheVariants as statement
-use Rattle.source_checks.specs.declared.statement.RawMachine.{RawMachine}
-use Rattle.source_checks.specs.declared.drivers.NameFault.{NameFault}
-use Rattle.source_checks.specs.declared.table.Role.{Role}
-use Rattle.source_checks.specs.declared.table.Role.TheVariants as role
-use Rattle.source_checks.specs.declared.table.Symbol.{Symbol}
+use Rattle.source_meaning.specs.declared.statement.Assignment.{Assignment}
+use Rattle.source_meaning.specs.declared.statement.Statement.{Statement}
+use Rattle.source_meaning.specs.declared.statement.Statement.TheVariants as statement
+use Rattle.source_meaning.specs.declared.statement.DesignFile.{DesignFile}
+use Rattle.source_meaning.specs.declared.drivers.NameFault.{NameFault}
+use Rattle.source_meaning.specs.declared.symbol_table.Role.{Role}
+use Rattle.source_meaning.specs.declared.symbol_table.Role.TheVariants as role
+use Rattle.source_meaning.specs.declared.symbol_table.Symbol.{Symbol}
 use Rattle.vlsi_base.specs.Name.{is_supply}
-use Rattle.source_checks.specs.Symbols.{symbols, find, symbols_named, port_symbols, signal_symbols, role_of_mode, role_of_word, symbol_names}
-use Rattle.source_checks.specs.Places.{Use, in_statements, statement_uses}
-use Rattle.source_checks.specs.Widths.{if_not, statement_faults, port_faults, signal_faults}
-use Rattle.source_checks.specs.Drivers.{Driver, driver_at, target_names, statement_drivers, drivers, all_driven, is_among, least, fault_at, needs_driver, first_second_driver, first_undriven}
-use Rattle.source_checks.specs.Unsupported.{statement_forms, port_form, port_forms, signal_form, signal_forms, supply_faults, is_in_mode, is_inout, is_bit_word, all_unsupported}
-use Rattle.source_checks.specs.Clock.{statement_clock_lines, clock_text, first_text, statement_clocks, may_clock, clock_of}
-use Rattle.source_checks.specs.Elaboration.{Definition, Storage, definitions, storage, statement_definitions, statement_storage}
-use Rattle.source_checks.proofs.Names.{is_among-append}
+use Rattle.source_meaning.specs.Symbols.{symbols, find, symbols_named, port_symbols, signal_symbols, role_of_mode, role_of_word, symbol_names}
+use Rattle.source_meaning.specs.Places.{Use, in_statements, statement_uses}
+use Rattle.source_meaning.specs.Widths.{if_not, statement_faults, port_faults, signal_faults}
+use Rattle.source_meaning.specs.Drivers.{Driver, driver_at, target_names, statement_drivers, drivers, all_driven, is_among, least, fault_at, needs_driver, first_second_driver, first_undriven}
+use Rattle.source_meaning.specs.Unsupported.{statement_forms, port_form, port_forms, signal_form, signal_forms, supply_faults, is_in_mode, is_inout, is_bit_word, all_unsupported}
+use Rattle.source_meaning.specs.Clock.{statement_clock_lines, clock_text, first_text, statement_clocks, may_clock, clock_of}
+use Rattle.source_meaning.specs.Elaboration.{Definition, Storage, definitions, storage, statement_definitions, statement_storage}
+use Rattle.source_meaning.proofs.Names.{is_among-append}
 use Rattle.vlsi_model.specs.Laid.{names_defined, names_stored}
 use Rattle.vlsi_model.proofs.Stages.{NoFault}
 use Rattle.vlsi_model.proofs.Members.{In-cases, Sub, none, different_Sub, Sub-append, Sub-nothing, Sub-itself, different_append}
@@ -119,10 +119,10 @@ fine_signals (g ∷ gs) s e i = elim (In-split s (symbols_named (role_of_word g.
   | inr b ↦ fine_signals gs s (empty_right (signal_form g) _ e) b
 ]
 
-fine_symbols : (raw : RawMachine) → all_unsupported raw ≡ [] → (s : Symbol) → In s (symbols raw) → IsFineSymbol s
-fine_symbols raw e s i = elim (In-split s (port_symbols raw.entity.ports) (signal_symbols raw.declarations.signals) i) [
-  | inl a ↦ fine_ports raw.entity.ports s (empty_left (port_forms raw.entity.ports) _ e) a
-  | inr b ↦ fine_signals raw.declarations.signals s (empty_left (signal_forms raw.declarations.signals) _ (empty_right (port_forms raw.entity.ports) _ e)) b
+fine_symbols : (design : DesignFile) → all_unsupported design ≡ [] → (s : Symbol) → In s (symbols design) → IsFineSymbol s
+fine_symbols design e s i = elim (In-split s (port_symbols design.entity.ports) (signal_symbols design.declarations.signals) i) [
+  | inl a ↦ fine_ports design.entity.ports s (empty_left (port_forms design.entity.ports) _ e) a
+  | inr b ↦ fine_signals design.declarations.signals s (empty_left (signal_forms design.declarations.signals) _ (empty_right (port_forms design.entity.ports) _ e)) b
 ]
 
 -- the clock
@@ -277,40 +277,40 @@ all_have driven (x ∷ known) e s i needs n j = by (needs_driver x.role) refl e 
 all_have driven [] e s i needs n j = elim i [ ]
 
 -- what is known of a source in which no check fails
-pub record Facts (raw : RawMachine) : Type 0 where
-  pub different : AllDifferent (texts (symbols raw))
-  pub fine : (s : Symbol) → In s (symbols raw) → IsFineSymbol s
-  pub clock : (text : List ℕ) → clock_text raw ≡ Some text → IsClock (symbols raw) text
-  pub defines : (d : Definition) → In d (definitions raw) → Defines (symbols raw) (clock_text raw) false d.name d.formula
-  pub stores : (r : Storage) → In r (storage raw) → Defines (symbols raw) (clock_text raw) true r.name r.next × Holds (IsReadable (symbols raw) (clock_text raw)) r.enable
-  pub defined_once : AllDifferent (names_defined (definitions raw))
-  pub stored_once : AllDifferent (names_stored (storage raw))
-  pub driven : (n : Name) (s : Symbol) → IsBit (symbols raw) n s → needs_driver s.role ≡ true → In n (names_defined (definitions raw)) ⊎ In n (names_stored (storage raw))
-  pub counted : (a : Assignment) → In (statement.Assign a) raw.statements → (driver_at (symbols raw) a.target).names ≡ target_names (symbols raw) a.target
+pub record Facts (design : DesignFile) : Type 0 where
+  pub different : AllDifferent (texts (symbols design))
+  pub fine : (s : Symbol) → In s (symbols design) → IsFineSymbol s
+  pub clock : (text : List ℕ) → clock_text design ≡ Some text → IsClock (symbols design) text
+  pub defines : (d : Definition) → In d (definitions design) → Defines (symbols design) (clock_text design) false d.name d.formula
+  pub stores : (r : Storage) → In r (storage design) → Defines (symbols design) (clock_text design) true r.name r.next × Holds (IsReadable (symbols design) (clock_text design)) r.enable
+  pub defined_once : AllDifferent (names_defined (definitions design))
+  pub stored_once : AllDifferent (names_stored (storage design))
+  pub driven : (n : Name) (s : Symbol) → IsBit (symbols design) n s → needs_driver s.role ≡ true → In n (names_defined (definitions design)) ⊎ In n (names_stored (storage design))
+  pub counted : (a : Assignment) → In (statement.Assign a) design.statements → (driver_at (symbols design) a.target).names ≡ target_names (symbols design) a.target
 
-pub facts : (raw : RawMachine) → NoFault raw → Facts raw
-facts raw h =
-    let known = symbols raw in
-    let ck = clock_text raw in
-    let ss = raw.statements in
+pub facts : (design : DesignFile) → NoFault design → Facts design
+facts design h =
+    let known = symbols design in
+    let ck = clock_text design in
+    let ss = design.statements in
     let clock : (text : List ℕ) → ck ≡ Some text → IsClock known text = λ text e. is_clock known text (clock_may known ss text e) in
     let scalar : IsScalarClock known ck = λ text s e found. let c = clock text e in let same : c.symbol ≡ s = cc in ap (λ (x : Symbol). x.range) (sym same) ∙ c.scalar in
-    let fine = fine_symbols raw h.form in
+    let fine = fine_symbols design h.form in
     let both : NoBoth known = λ text s found. (fine s (found_in known text s found)).not_both in
     let uses = known_uses known (in_statements statement_uses ss) h.unknown in
-    let widths = empty_right (signal_faults raw.declarations.signals) _ (empty_right (port_faults raw.entity.ports) _ h.width) in
-    let forms = empty_right (signal_forms raw.declarations.signals) _ (empty_right (port_forms raw.entity.ports) _ h.form) in
+    let widths = empty_right (signal_faults design.declarations.signals) _ (empty_right (port_faults design.entity.ports) _ h.width) in
+    let forms = empty_right (signal_forms design.declarations.signals) _ (empty_right (port_forms design.entity.ports) _ h.form) in
     let all : AllFineStatements known ck ss = λ st i.
     fine_statement known ck st scalar both (λ u j. uses u (uses_of ss st u i j)) (none_in (statement_faults known) ss st widths i) (none_in (statement_forms known) ss st forms i) (none_in (statement_clock_lines known ck) ss st h.clock i) in
     let split = statements_split known ck ss all in
-    let once = (drivers_once [] (drivers raw) (λ d i. let r = In-statements (statement_drivers known) ss d i in (all r.0 r.1).different d r.2) h.again).0 in record {
+    let once = (drivers_once [] (drivers design) (λ d i. let r = In-statements (statement_drivers known) ss d i in (all r.0 r.1).different d r.2) h.again).0 in record {
       different = different_texts known h.repeated;
       fine = fine;
       clock = clock;
       defines = λ d i. let r = In-statements (statement_definitions known) ss d i in (all r.0 r.1).definitions d r.2;
       stores = λ x i. let r = In-statements (statement_storage known ck) ss x i in (all r.0 r.1).storage x r.2;
-      defined_once = different_Sub (names_defined (definitions raw)) (all_driven (drivers raw)) split.defined once;
-      stored_once = different_Sub (names_stored (storage raw)) (all_driven (drivers raw)) split.stored once;
-      driven = λ n s b needs. split.both n (among_In (all_driven (drivers raw)) n (all_have (all_driven (drivers raw)) known h.missing s (found_in known n.text s b.found) needs n b.among));
+      defined_once = different_Sub (names_defined (definitions design)) (all_driven (drivers design)) split.defined once;
+      stored_once = different_Sub (names_stored (storage design)) (all_driven (drivers design)) split.stored once;
+      driven = λ n s b needs. split.both n (among_In (all_driven (drivers design)) n (all_have (all_driven (drivers design)) known h.missing s (found_in known n.text s b.found) needs n b.among));
       counted = λ a i. (all (statement.Assign a) i).counted a refl;
     }

@@ -15,20 +15,20 @@ use Rattle.bit_order.specs.declared.outcome.Order.TheVariants.{Sorted, Ring}
 use Rattle.bit_order.specs.Order as order
 use Rattle.bit_order.proofs.Rounds.{sorted_leaves_no_ring}
 use Rattle.machine_core.specs.Order.{In}
-use Rattle.source_checks.specs.declared.statement.RawMachine.{RawMachine}
-use Rattle.source_checks.specs.declared.table.Symbol.{Symbol}
-use Rattle.source_checks.specs.declared.drivers.NameFault.{NameFault}
-use Rattle.source_checks.specs.Places.{Use, in_statements, statement_uses, first_unknown}
+use Rattle.source_meaning.specs.declared.statement.DesignFile.{DesignFile}
+use Rattle.source_meaning.specs.declared.symbol_table.Symbol.{Symbol}
+use Rattle.source_meaning.specs.declared.drivers.NameFault.{NameFault}
+use Rattle.source_meaning.specs.Places.{Use, in_statements, statement_uses, first_unknown}
 use Rattle.vlsi_base.specs.Range.{rising}
-use Rattle.source_checks.specs.Symbols.{symbols, all_names}
-use Rattle.source_checks.specs.Formula.{place, numbered}
-use Rattle.source_checks.specs.Widths.{all_width_faults}
-use Rattle.source_checks.specs.Drivers.{drivers, all_driven, first_second_driver, first_undriven}
-use Rattle.source_checks.specs.Unsupported.{all_unsupported}
-use Rattle.source_checks.specs.Clock.{all_clock_lines, clock_text}
-use Rattle.source_checks.specs.Cycles.{Reads}
-use Rattle.source_checks.specs.Checks.{first_fault, if_use, if_line, if_name, if_symbol, first_repeated, IsRefused}
-use Rattle.source_checks.specs.Elaboration.{Definition, definitions}
+use Rattle.source_meaning.specs.Symbols.{symbols, all_names}
+use Rattle.source_meaning.specs.Formula.{place, numbered}
+use Rattle.source_meaning.specs.Widths.{all_width_faults}
+use Rattle.source_meaning.specs.Drivers.{drivers, all_driven, first_second_driver, first_undriven}
+use Rattle.source_meaning.specs.Unsupported.{all_unsupported}
+use Rattle.source_meaning.specs.Clock.{all_clock_lines, clock_text}
+use Rattle.source_meaning.specs.Cycles.{Reads}
+use Rattle.source_meaning.specs.Checks.{first_fault, if_use, if_line, if_name, if_symbol, first_repeated, IsRefused}
+use Rattle.source_meaning.specs.Elaboration.{Definition, definitions}
 use Rattle.source_bits.specs.declared.driven.DrivenBit.{DrivenBit}
 use Rattle.source_bits.specs.Driven.{Numbered, driven_view, numbered_definition}
 use Rattle.vlsi_model.specs.declared.source.Source.{Source}
@@ -69,78 +69,78 @@ name_no : (k : FaultKind) (o : Option NameFault) (e : Option ReadError) → NoLi
 name_no k None e h = h
 name_no k (Some f) e h = tt
 
-no_limit : (raw : RawMachine) → NoLimit (first_fault raw)
-no_limit raw =
-    symbol_no (first_repeated [] (symbols raw)) _ (use_no (first_unknown (symbols raw) (in_statements statement_uses raw.statements)) _ (line_no kind.Width (all_width_faults raw) _
-    (name_no kind.TwoDrivers (first_second_driver [] (drivers raw)) _ (name_no kind.Undriven (first_undriven (all_driven (drivers raw)) (symbols raw)) _
-    (line_no kind.Unsupported (all_unsupported raw) _ (line_no kind.ClockUse (all_clock_lines raw) None tt))))))
+no_limit : (design : DesignFile) → NoLimit (first_fault design)
+no_limit design =
+    symbol_no (first_repeated [] (symbols design)) _ (use_no (first_unknown (symbols design) (in_statements statement_uses design.statements)) _ (line_no kind.Width (all_width_faults design) _
+    (name_no kind.TwoDrivers (first_second_driver [] (drivers design)) _ (name_no kind.Undriven (first_undriven (all_driven (drivers design)) (symbols design)) _
+    (line_no kind.Unsupported (all_unsupported design) _ (line_no kind.ClockUse (all_clock_lines design) None tt))))))
 
-pub refused : (raw : RawMachine) (e : ReadError) → first_fault raw ≡ Some e → IsRefused raw e
-refused raw error.Memory is = tt
-refused raw (error.Input f) is = inl is
-refused raw (error.Limit l) is = absurd (subst NoLimit is (no_limit raw))
+pub refused : (design : DesignFile) (e : ReadError) → first_fault design ≡ Some e → IsRefused design e
+refused design error.Memory is = tt
+refused design (error.Input f) is = inl is
+refused design (error.Limit l) is = absurd (subst NoLimit is (no_limit design))
 
 -- orders and rings of nodes
 
-noded : (raw : RawMachine) (table : List ℕ) (total : ℕ) → Facts raw → total ≡ length (all_names (symbols raw)) → HasNodes (map (place (all_names (symbols raw))) (names_defined (definitions raw))) table total → IsNoded (all_names (symbols raw)) (definitions raw) table
-noded raw table total f e h = record {
-  declared = defined_declared raw f;
-  readable = λ d i n j. let r = holds_In (IsReadable (symbols raw) (clock_text raw)) d.formula (f.defines d i).reads n j in bit_all (symbols raw) n r.symbol r.bit;
-  has = subst (HasNodes (map (place (all_names (symbols raw))) (names_defined (definitions raw))) table) e h;
+noded : (design : DesignFile) (table : List ℕ) (total : ℕ) → Facts design → total ≡ length (all_names (symbols design)) → HasNodes (map (place (all_names (symbols design))) (names_defined (definitions design))) table total → IsNoded (all_names (symbols design)) (definitions design) table
+noded design table total f e h = record {
+  declared = defined_declared design f;
+  readable = λ d i n j. let r = holds_In (IsReadable (symbols design) (clock_text design)) d.formula (f.defines d i).reads n j in bit_all (symbols design) n r.symbol r.bit;
+  has = subst (HasNodes (map (place (all_names (symbols design))) (names_defined (definitions design))) table) e h;
 }
 
-node_order : (raw : RawMachine) (table nodes : List ℕ) → Facts raw → IsNoded (all_names (symbols raw)) (definitions raw) table → order.IsSortedOrder (reads_in (all_names (symbols raw)) (definitions raw) table) nodes → IsNodeOrder raw nodes
-node_order raw table nodes f h s =
-    let all = all_names (symbols raw) in
-    let count : length (reads_in all (definitions raw) table) ≡ length (definitions raw) = length-map (definitions raw) (λ (d : Definition). nodes_read (length (definitions raw)) table (numbered all d.formula)) in record {
-      moved = subst (λ n. IsPermutation (rising 0 n) nodes) count (sorted_permutation (reads_in all (definitions raw) table) nodes s);
-      earlier = sorted_earlier all (definitions raw) table nodes h s;
+node_order : (design : DesignFile) (table nodes : List ℕ) → Facts design → IsNoded (all_names (symbols design)) (definitions design) table → order.IsSortedOrder (reads_in (all_names (symbols design)) (definitions design) table) nodes → IsNodeOrder design nodes
+node_order design table nodes f h s =
+    let all = all_names (symbols design) in
+    let count : length (reads_in all (definitions design) table) ≡ length (definitions design) = length-map (definitions design) (λ (d : Definition). nodes_read (length (definitions design)) table (numbered all d.formula)) in record {
+      moved = subst (λ n. IsPermutation (rising 0 n) nodes) count (sorted_permutation (reads_in all (definitions design) table) nodes s);
+      earlier = sorted_earlier all (definitions design) table nodes h s;
     }
 
-step : (raw : RawMachine) (table : List ℕ) → IsNoded (all_names (symbols raw)) (definitions raw) table → (a b : ℕ) → a < length (definitions raw) → order.Reads (reads_in (all_names (symbols raw)) (definitions raw) table) a b → Reads (definitions raw) (name_of_node raw a) (name_of_node raw b)
-step raw table h a b inside r =
-    let reads = order.reads_of (reads_in (all_names (symbols raw)) (definitions raw) table) a in
+step : (design : DesignFile) (table : List ℕ) → IsNoded (all_names (symbols design)) (definitions design) table → (a b : ℕ) → a < length (definitions design) → order.Reads (reads_in (all_names (symbols design)) (definitions design) table) a b → Reads (definitions design) (name_of_node design a) (name_of_node design b)
+step design table h a b inside r =
+    let reads = order.reads_of (reads_in (all_names (symbols design)) (definitions design) table) a in
     let among : In b reads = subst (λ k. In k reads) r.2 (In-at reads r.0 b r.1) in
-    (definition_at (definitions raw) a, In-at (definitions raw) a no_definition inside, refl, (edge_back (all_names (symbols raw)) (definitions raw) table h a b inside among).1)
+    (definition_at (definitions design) a, In-at (definitions design) a no_definition inside, refl, (edge_back (all_names (symbols design)) (definitions design) table h a b inside among).1)
 
-node_ring : (raw : RawMachine) (table nodes : List ℕ) → IsNoded (all_names (symbols raw)) (definitions raw) table → order.IsRing (reads_in (all_names (symbols raw)) (definitions raw) table) nodes → IsNodeRing raw nodes
-node_ring raw table nodes h r =
-    let all = all_names (symbols raw) in
-    let count : length (reads_in all (definitions raw) table) ≡ length (definitions raw) = length-map (definitions raw) (λ (d : Definition). nodes_read (length (definitions raw)) table (numbered all d.formula)) in
-    let inside : All (λ k. k < length (definitions raw)) nodes = subst (λ n. All (λ k. k < n) nodes) count r.inside in record {
+node_ring : (design : DesignFile) (table nodes : List ℕ) → IsNoded (all_names (symbols design)) (definitions design) table → order.IsRing (reads_in (all_names (symbols design)) (definitions design) table) nodes → IsNodeRing design nodes
+node_ring design table nodes h r =
+    let all = all_names (symbols design) in
+    let count : length (reads_in all (definitions design) table) ≡ length (definitions design) = length-map (definitions design) (λ (d : Definition). nodes_read (length (definitions design)) table (numbered all d.formula)) in
+    let inside : All (λ k. k < length (definitions design)) nodes = subst (λ n. All (λ k. k < n) nodes) count r.inside in record {
       some = r.round.some;
       inside = inside;
       once = r.once;
-      next = λ p q. step raw table h (slice_index nodes p) (slice_index nodes (p + 1)) (inside p 0 (omega (arith, q))) (r.round.next p q);
-      first = step raw table h (slice_index nodes (length nodes - 1)) (slice_index nodes 0) (inside (length nodes - 1) 0 (omega (arith, r.round.some))) r.round.first;
+      next = λ p q. step design table h (slice_index nodes p) (slice_index nodes (p + 1)) (inside p 0 (omega (arith, q))) (r.round.next p q);
+      first = step design table h (slice_index nodes (length nodes - 1)) (slice_index nodes 0) (inside (length nodes - 1) 0 (omega (arith, r.round.some))) r.round.first;
     }
 
-same_reads : (raw : RawMachine) (s : Source) (count : ℕ) (table : List ℕ) → IsSourceOf raw s → count ≡ length (definitions raw) → map (nodes_read count table) (map (λ (d : DrivenBit). view d.expr) s.driven.items) ≡ reads_in (all_names (symbols raw)) (definitions raw) table
-same_reads raw s count table h e =
-    let all = all_names (symbols raw) in
-    let exprs : map (λ (d : DrivenBit). view d.expr) s.driven.items ≡ map (λ (d : Definition). numbered all d.formula) (definitions raw) =
-    sym (map-then (λ (n : Numbered). n.expr) driven_view s.driven.items) ∙ ap (map (λ (n : Numbered). n.expr)) h.driven ∙ map-then (λ (n : Numbered). n.expr) (numbered_definition all) (definitions raw) in
-    ap (map (nodes_read count table)) exprs ∙ map-then (nodes_read count table) (λ (d : Definition). numbered all d.formula) (definitions raw)
-    ∙ ap (λ (n : ℕ). map (λ (d : Definition). nodes_read n table (numbered all d.formula)) (definitions raw)) e
+same_reads : (design : DesignFile) (s : Source) (count : ℕ) (table : List ℕ) → IsSourceOf design s → count ≡ length (definitions design) → map (nodes_read count table) (map (λ (d : DrivenBit). view d.expr) s.driven.items) ≡ reads_in (all_names (symbols design)) (definitions design) table
+same_reads design s count table h e =
+    let all = all_names (symbols design) in
+    let exprs : map (λ (d : DrivenBit). view d.expr) s.driven.items ≡ map (λ (d : Definition). numbered all d.formula) (definitions design) =
+    sym (map-then (λ (n : Numbered). n.expr) driven_view s.driven.items) ∙ ap (map (λ (n : Numbered). n.expr)) h.driven ∙ map-then (λ (n : Numbered). n.expr) (numbered_definition all) (definitions design) in
+    ap (map (nodes_read count table)) exprs ∙ map-then (nodes_read count table) (λ (d : Definition). numbered all d.formula) (definitions design)
+    ∙ ap (λ (n : ℕ). map (λ (d : Definition). nodes_read n table (numbered all d.formula)) (definitions design)) e
 
-pub order_of_source : (raw : RawMachine) (s : Source) (driven : List DrivenBit) (total : ℕ) (o : Order) → Facts raw → IsSourceOf raw s → driven ≡ s.driven.items → total ≡ length (all_names s.numbers)
-    → IsOrderOfBits (map (λ (d : DrivenBit). d.bit) driven) (map (λ (d : DrivenBit). view d.expr) driven) total o → IsOrderOfSource raw o
-order_of_source raw s driven total o f h same count b = by o order_is where
+pub order_of_source : (design : DesignFile) (s : Source) (driven : List DrivenBit) (total : ℕ) (o : Order) → Facts design → IsSourceOf design s → driven ≡ s.driven.items → total ≡ length (all_names s.numbers)
+    → IsOrderOfBits (map (λ (d : DrivenBit). d.bit) driven) (map (λ (d : DrivenBit). view d.expr) driven) total o → IsOrderOfSource design o
+order_of_source design s driven total o f h same count b = by o order_is where
   all : List Name
-  all = all_names (symbols raw)
+  all = all_names (symbols design)
 
-  bits : map (λ (d : DrivenBit). d.bit) driven ≡ map (place all) (names_defined (definitions raw))
-  bits = ap (map (λ (d : DrivenBit). d.bit)) same ∙ driven_bits_are raw s h
+  bits : map (λ (d : DrivenBit). d.bit) driven ≡ map (place all) (names_defined (definitions design))
+  bits = ap (map (λ (d : DrivenBit). d.bit)) same ∙ driven_bits_are design s h
 
-  has : IsNoded all (definitions raw) b.nodes
-  has = noded raw b.nodes total f (count ∙ ap (λ (known : List Symbol). length (all_names known)) h.numbers) (subst (λ (bs : List ℕ). HasNodes bs b.nodes total) bits b.has)
+  has : IsNoded all (definitions design) b.nodes
+  has = noded design b.nodes total f (count ∙ ap (λ (known : List Symbol). length (all_names known)) h.numbers) (subst (λ (bs : List ℕ). HasNodes bs b.nodes total) bits b.has)
 
-  long : length (map (λ (d : DrivenBit). d.bit) driven) ≡ length (definitions raw)
-  long = ap (λ (xs : List ℕ). length xs) bits ∙ length-map (names_defined (definitions raw)) (place all) ∙ names_count (definitions raw)
+  long : length (map (λ (d : DrivenBit). d.bit) driven) ≡ length (definitions design)
+  long = ap (λ (xs : List ℕ). length xs) bits ∙ length-map (names_defined (definitions design)) (place all) ∙ names_count (definitions design)
 
-  order_is : order.IsOrderOf (reads_in all (definitions raw) b.nodes) o
-  order_is = subst (λ (rs : List (List ℕ)). order.IsOrderOf rs o) (ap (λ (ds : List DrivenBit). map (nodes_read (length (map (λ (d : DrivenBit). d.bit) driven)) b.nodes) (map (λ (d : DrivenBit). view d.expr) ds)) same ∙ same_reads raw s (length (map (λ (d : DrivenBit). d.bit) driven)) b.nodes h long) b.order
+  order_is : order.IsOrderOf (reads_in all (definitions design) b.nodes) o
+  order_is = subst (λ (rs : List (List ℕ)). order.IsOrderOf rs o) (ap (λ (ds : List DrivenBit). map (nodes_read (length (map (λ (d : DrivenBit). d.bit) driven)) b.nodes) (map (λ (d : DrivenBit). view d.expr) ds)) same ∙ same_reads design s (length (map (λ (d : DrivenBit). d.bit) driven)) b.nodes h long) b.order
 
-  by : (o : Order) → order.IsOrderOf (reads_in all (definitions raw) b.nodes) o → IsOrderOfSource raw o
-  by (Sorted nodes) h = (node_order raw b.nodes nodes.items f has h, sorted_no_ring all (definitions raw) b.nodes nodes.items has f.defined_once sorted_leaves_no_ring h)
-  by (Ring nodes) h = node_ring raw b.nodes nodes.items has h
+  by : (o : Order) → order.IsOrderOf (reads_in all (definitions design) b.nodes) o → IsOrderOfSource design o
+  by (Sorted nodes) h = (node_order design b.nodes nodes.items f has h, sorted_no_ring all (definitions design) b.nodes nodes.items has f.defined_once sorted_leaves_no_ring h)
+  by (Ring nodes) h = node_ring design b.nodes nodes.items has h

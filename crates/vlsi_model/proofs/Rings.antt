@@ -7,10 +7,10 @@ use Rattle.vlsi_base.specs.declared.name.Name.{Name}
 use Rattle.vlsi_base.specs.Name.{name_cmp}
 use Rattle.machine_core.specs.Order.{In, here, there, AllDifferent}
 use Rattle.machine_core.proofs.Values.{In-left, In-right, In-split, In-map}
-use Rattle.source_checks.specs.declared.statement.RawMachine.{RawMachine}
-use Rattle.source_checks.specs.Elaboration.{Definition, definitions}
-use Rattle.source_checks.specs.Formula.{place}
-use Rattle.source_checks.specs.Cycles.{Reads, ReadsAlong, IsRing}
+use Rattle.source_meaning.specs.declared.statement.DesignFile.{DesignFile}
+use Rattle.source_meaning.specs.Elaboration.{Definition, definitions}
+use Rattle.source_meaning.specs.Formula.{place}
+use Rattle.source_meaning.specs.Cycles.{Reads, ReadsAlong, IsRing}
 use Rattle.vlsi_model.specs.Laid.{names_defined}
 use Rattle.vlsi_model.specs.Ordered.{IsNodeRing, name_of_node}
 use Rattle.vlsi_model.proofs.Members.{different_left, different_right, different_append, different_map, In-map_back}
@@ -69,11 +69,11 @@ linked_end defs f a [] n h r = (r, tt)
 linked_end defs f a (b ∷ rest) n h r = (h.0, linked_end defs f b rest n h.1 r)
 
 -- the whole ring, back to its first name
-pub ring_linked : (raw : RawMachine) (a : ℕ) (rest : List ℕ) → IsNodeRing raw (a ∷ rest) → Linked (definitions raw) (map (name_of_node raw) (a ∷ rest) ++ name_of_node raw a ∷ [])
-ring_linked raw a rest h =
+pub ring_linked : (design : DesignFile) (a : ℕ) (rest : List ℕ) → IsNodeRing design (a ∷ rest) → Linked (definitions design) (map (name_of_node design) (a ∷ rest) ++ name_of_node design a ∷ [])
+ring_linked design a rest h =
     let last : length (a ∷ rest) - 1 ≡ length rest = omega arith in
-    linked_end (definitions raw) (name_of_node raw) a rest (name_of_node raw a) (from_next (definitions raw) (name_of_node raw) (a ∷ rest) h.next)
-    (subst (λ k. Reads (definitions raw) (name_of_node raw (slice_index (a ∷ rest) k)) (name_of_node raw a)) last h.first)
+    linked_end (definitions design) (name_of_node design) a rest (name_of_node design a) (from_next (definitions design) (name_of_node design) (a ∷ rest) h.next)
+    (subst (λ k. Reads (definitions design) (name_of_node design (slice_index (a ∷ rest) k)) (name_of_node design a)) last h.first)
 
 swap_different : {A : Type 0} (xs ys : List A) → AllDifferent (xs ++ ys) → AllDifferent (ys ++ xs)
 swap_different {A} xs ys h = different_append ys xs (different_right xs ys h) (different_left xs ys h) (λ x i j. apart xs h x j i) where
@@ -82,27 +82,27 @@ swap_different {A} xs ys h = different_append ys xs (different_right xs ys h) (d
   apart (z ∷ zs) h x (there i) j = apart zs h.1 x i j
   apart [] h x i j = elim i [ ]
 
-different_ring : (raw : RawMachine) (nodes : List ℕ) → AllDifferent (names_defined (definitions raw)) → IsNodeRing raw nodes → AllDifferent (map (name_of_node raw) nodes)
-different_ring raw nodes different h =
-    let defs = definitions raw in
-    different_map (name_of_node raw) nodes (λ a b i j e.
+different_ring : (design : DesignFile) (nodes : List ℕ) → AllDifferent (names_defined (definitions design)) → IsNodeRing design nodes → AllDifferent (map (name_of_node design) nodes)
+different_ring design nodes different h =
+    let defs = definitions design in
+    different_map (name_of_node design) nodes (λ a b i j e.
     let ra = place_of_In nodes a i in
     let rb = place_of_In nodes b j in
     let low_a : a < length defs = subst (λ k. k < length defs) (ra.2 0) (h.inside ra.0 0 ra.1) in
     let low_b : b < length defs = subst (λ k. k < length defs) (rb.2 0) (h.inside rb.0 0 rb.1) in
-    let n = name_of_node raw a in
+    let n = name_of_node design a in
     sym (place_of_at (names_defined defs) a n different (omega (arith, names_count defs, low_a))) ∙ ap (place (names_defined defs)) (name_of_at defs a n low_a ∙ e ∙ sym (name_of_at defs b n low_b))
     ∙ place_of_at (names_defined defs) b n different (omega (arith, names_count defs, low_b))) (different_nodes nodes h.once)
 
-linked_round : (raw : RawMachine) (xs : List ℕ) (y : ℕ) (ys : List ℕ) → IsNodeRing raw (xs ++ y ∷ ys)
-    → Linked (definitions raw) (name_of_node raw y ∷ ((map (name_of_node raw) ys ++ map (name_of_node raw) xs) ++ name_of_node raw y ∷ []))
-linked_round raw [] y ys h = subst (λ (ns : List Name). Linked (definitions raw) (name_of_node raw y ∷ (ns ++ name_of_node raw y ∷ []))) (sym (append-nil (map (name_of_node raw) ys))) (ring_linked raw y ys h)
-linked_round raw (x ∷ xs) y ys h =
-    let f = name_of_node raw in
-    let whole = ring_linked raw x (xs ++ y ∷ ys) h in
+linked_round : (design : DesignFile) (xs : List ℕ) (y : ℕ) (ys : List ℕ) → IsNodeRing design (xs ++ y ∷ ys)
+    → Linked (definitions design) (name_of_node design y ∷ ((map (name_of_node design) ys ++ map (name_of_node design) xs) ++ name_of_node design y ∷ []))
+linked_round design [] y ys h = subst (λ (ns : List Name). Linked (definitions design) (name_of_node design y ∷ (ns ++ name_of_node design y ∷ []))) (sym (append-nil (map (name_of_node design) ys))) (ring_linked design y ys h)
+linked_round design (x ∷ xs) y ys h =
+    let f = name_of_node design in
+    let whole = ring_linked design x (xs ++ y ∷ ys) h in
     let split : map f (x ∷ (xs ++ y ∷ ys)) ++ f x ∷ [] ≡ map f (x ∷ xs) ++ (map f (y ∷ ys) ++ f x ∷ []) = ap (λ (ns : List Name). f x ∷ (ns ++ f x ∷ [])) (map-append f xs (y ∷ ys)) ∙ append_assoc (map f (x ∷ xs)) (map f (y ∷ ys)) (f x ∷ []) in
-    let turn = turned_ring (definitions raw) (f x) (map f xs) (f y) (map f ys) (subst (Linked (definitions raw)) split whole) in
-    subst (λ (ns : List Name). Linked (definitions raw) (f y ∷ ns)) (sym (append_assoc (map f ys) (map f (x ∷ xs)) (f y ∷ []))) turn
+    let turn = turned_ring (definitions design) (f x) (map f xs) (f y) (map f ys) (subst (Linked (definitions design)) split whole) in
+    subst (λ (ns : List Name). Linked (definitions design) (f y ∷ ns)) (sym (append_assoc (map f ys) (map f (x ∷ xs)) (f y ∷ []))) turn
 
 moved : (f : ℕ → Name) (n : Name) (xs : List ℕ) (y : ℕ) (ys : List ℕ) → In n (map f (ys ++ xs)) → In n (map f (xs ++ y ∷ ys))
 moved f n xs y ys i =
@@ -110,16 +110,16 @@ moved f n xs y ys i =
     subst (λ (z : Name). In z (map f (xs ++ y ∷ ys))) m.2 (In-map f m.0 (xs ++ y ∷ ys) (elim (In-split m.0 ys xs m.1) [ inl a ↦ In-right m.0 xs (y ∷ ys) (there a) | inr b ↦ In-left m.0 xs (y ∷ ys) b ]))
 
 -- a ring turned to a name that none of it is before
-pub is_ring : (raw : RawMachine) (xs : List ℕ) (y : ℕ) (ys : List ℕ) → AllDifferent (names_defined (definitions raw)) → IsNodeRing raw (xs ++ y ∷ ys) → ((n : Name) → In n (map (name_of_node raw) (xs ++ y ∷ ys)) → name_cmp (name_of_node raw y) n ≡ Greater → ⊥)
-    → IsRing (definitions raw) (map (name_of_node raw) ((y ∷ ys) ++ xs))
-is_ring raw xs y ys different h least =
-    let f = name_of_node raw in
+pub is_ring : (design : DesignFile) (xs : List ℕ) (y : ℕ) (ys : List ℕ) → AllDifferent (names_defined (definitions design)) → IsNodeRing design (xs ++ y ∷ ys) → ((n : Name) → In n (map (name_of_node design) (xs ++ y ∷ ys)) → name_cmp (name_of_node design y) n ≡ Greater → ⊥)
+    → IsRing (definitions design) (map (name_of_node design) ((y ∷ ys) ++ xs))
+is_ring design xs y ys different h least =
+    let f = name_of_node design in
     let all = xs ++ y ∷ ys in
     let names : map f ((y ∷ ys) ++ xs) ≡ map f (y ∷ ys) ++ map f xs = map-append f (y ∷ ys) xs in
     let parts : map f all ≡ map f xs ++ map f (y ∷ ys) = map-append f xs (y ∷ ys) in
-    let apart = subst (λ (ns : List Name). AllDifferent ns) parts (different_ring raw all different h) in
+    let apart = subst (λ (ns : List Name). AllDifferent ns) parts (different_ring design all different h) in
     let round = subst (λ (ns : List Name). AllDifferent ns) (sym names) (swap_different (map f xs) (map f (y ∷ ys)) apart) in (
       round,
-      along (definitions raw) (f y) (f y) (map f (ys ++ xs)) (subst (λ (ns : List Name). Linked (definitions raw) (f y ∷ (ns ++ f y ∷ []))) (sym (map-append f ys xs)) (linked_round raw xs y ys h)),
+      along (definitions design) (f y) (f y) (map f (ys ++ xs)) (subst (λ (ns : List Name). Linked (definitions design) (f y ∷ (ns ++ f y ∷ []))) (sym (map-append f ys xs)) (linked_round design xs y ys h)),
       All-from_In (λ n. name_cmp (f y) n ≡ Greater → ⊥) (map f (ys ++ xs)) (λ n i. least n (moved f n xs y ys i)),
     )

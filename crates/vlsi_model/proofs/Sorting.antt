@@ -21,7 +21,7 @@ use Rattle.machine_core.specs.Order.{In, here, there, AllDifferent}
 use Rattle.machine_core.specs.Checked.{AreInOrder}
 use Rattle.machine_core.proofs.Names.{same_name-true, same_name-itself}
 use Rattle.machine_core.proofs.Values.{In-split, In-left, In-right}
-use Rattle.source_checks.proofs.Lookups.{same_of}
+use Rattle.source_meaning.proofs.Lookups.{same_of}
 use Rattle.vlsi_model.proofs.Members.{In-cases}
 
 -- members by places

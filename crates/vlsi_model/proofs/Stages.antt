@@ -3,17 +3,17 @@ use Rattle.std.proofs.Common.{◌≡◌, ℕ, List, [], ◌∷◌, Option, Some,
 use Rattle.vlsi_base.specs.declared.fault.FaultKind.{FaultKind}
 use Rattle.vlsi_base.specs.declared.fault.FaultKind.TheVariants as kind
 use Rattle.vlsi_base.specs.declared.fault.ReadError.{ReadError}
-use Rattle.source_checks.specs.declared.statement.RawMachine.{RawMachine}
-use Rattle.source_checks.specs.declared.table.Symbol.{Symbol}
-use Rattle.source_checks.specs.declared.drivers.NameFault.{NameFault}
-use Rattle.source_checks.specs.Symbols.{symbols}
-use Rattle.source_checks.specs.Places.{Use, in_statements, statement_uses, first_unknown}
-use Rattle.source_checks.specs.Widths.{all_width_faults}
-use Rattle.source_checks.specs.Drivers.{drivers, all_driven, first_second_driver, first_undriven}
-use Rattle.source_checks.specs.Unsupported.{all_unsupported}
-use Rattle.source_checks.specs.Clock.{all_clock_lines}
-use Rattle.source_checks.specs.Checks.{first_fault, if_use, if_line, if_name, if_symbol, first_repeated}
-use Rattle.source_checks.proofs.Turns.{or_first}
+use Rattle.source_meaning.specs.declared.statement.DesignFile.{DesignFile}
+use Rattle.source_meaning.specs.declared.symbol_table.Symbol.{Symbol}
+use Rattle.source_meaning.specs.declared.drivers.NameFault.{NameFault}
+use Rattle.source_meaning.specs.Symbols.{symbols}
+use Rattle.source_meaning.specs.Places.{Use, in_statements, statement_uses, first_unknown}
+use Rattle.source_meaning.specs.Widths.{all_width_faults}
+use Rattle.source_meaning.specs.Drivers.{drivers, all_driven, first_second_driver, first_undriven}
+use Rattle.source_meaning.specs.Unsupported.{all_unsupported}
+use Rattle.source_meaning.specs.Clock.{all_clock_lines}
+use Rattle.source_meaning.specs.Checks.{first_fault, if_use, if_line, if_name, if_symbol, first_repeated}
+use Rattle.source_meaning.proofs.Turns.{or_first}
 use Rattle.vlsi_model.specs.Stages.{name_fault, driver_fault, shape_fault, form_fault}
 
 symbol_or : (o : Option Symbol) (e later : Option ReadError) → if_symbol o (or_first e later) ≡ or_first (if_symbol o e) later
@@ -32,29 +32,29 @@ name_or : (k : FaultKind) (o : Option NameFault) (e later : Option ReadError) �
 name_or k None e later = refl
 name_or k (Some s) e later = refl
 
-pub stages : (raw : RawMachine) → first_fault raw ≡ or_first (name_fault raw) (or_first (shape_fault raw) (form_fault raw))
-stages raw =
-    let repeated = first_repeated [] (symbols raw) in
-    let unknown = first_unknown (symbols raw) (in_statements statement_uses raw.statements) in
-    let again = first_second_driver [] (drivers raw) in
-    let missing = first_undriven (all_driven (drivers raw)) (symbols raw) in
-    let last = form_fault raw in
-    let a : if_name kind.TwoDrivers again (if_name kind.Undriven missing last) ≡ or_first (driver_fault raw) last =
+pub stages : (design : DesignFile) → first_fault design ≡ or_first (name_fault design) (or_first (shape_fault design) (form_fault design))
+stages design =
+    let repeated = first_repeated [] (symbols design) in
+    let unknown = first_unknown (symbols design) (in_statements statement_uses design.statements) in
+    let again = first_second_driver [] (drivers design) in
+    let missing = first_undriven (all_driven (drivers design)) (symbols design) in
+    let last = form_fault design in
+    let a : if_name kind.TwoDrivers again (if_name kind.Undriven missing last) ≡ or_first (driver_fault design) last =
     ap (if_name kind.TwoDrivers again) (name_or kind.Undriven missing None last) ∙ name_or kind.TwoDrivers again (if_name kind.Undriven missing None) last in
-    let b : if_line kind.Width (all_width_faults raw) (if_name kind.TwoDrivers again (if_name kind.Undriven missing last)) ≡ or_first (shape_fault raw) last =
-    ap (if_line kind.Width (all_width_faults raw)) a ∙ line_or kind.Width (all_width_faults raw) (driver_fault raw) last in
-    let c = or_first (shape_fault raw) last in
+    let b : if_line kind.Width (all_width_faults design) (if_name kind.TwoDrivers again (if_name kind.Undriven missing last)) ≡ or_first (shape_fault design) last =
+    ap (if_line kind.Width (all_width_faults design)) a ∙ line_or kind.Width (all_width_faults design) (driver_fault design) last in
+    let c = or_first (shape_fault design) last in
     ap (λ (o : Option ReadError). if_symbol repeated (if_use unknown o)) b ∙ ap (if_symbol repeated) (use_or unknown None c) ∙ symbol_or repeated (if_use unknown None) c
 
 -- no check fails
-pub record NoFault (raw : RawMachine) : Type 0 where
-  pub repeated : first_repeated [] (symbols raw) ≡ None
-  pub unknown : first_unknown (symbols raw) (in_statements statement_uses raw.statements) ≡ None
-  pub width : all_width_faults raw ≡ []
-  pub again : first_second_driver [] (drivers raw) ≡ None
-  pub missing : first_undriven (all_driven (drivers raw)) (symbols raw) ≡ None
-  pub form : all_unsupported raw ≡ []
-  pub clock : all_clock_lines raw ≡ []
+pub record NoFault (design : DesignFile) : Type 0 where
+  pub repeated : first_repeated [] (symbols design) ≡ None
+  pub unknown : first_unknown (symbols design) (in_statements statement_uses design.statements) ≡ None
+  pub width : all_width_faults design ≡ []
+  pub again : first_second_driver [] (drivers design) ≡ None
+  pub missing : first_undriven (all_driven (drivers design)) (symbols design) ≡ None
+  pub form : all_unsupported design ≡ []
+  pub clock : all_clock_lines design ≡ []
 
 of_symbol : (o : Option Symbol) (later : Option ReadError) → if_symbol o later ≡ None → (o ≡ None) × (later ≡ None)
 of_symbol None later e = (refl, e)
@@ -72,13 +72,13 @@ of_name : (k : FaultKind) (o : Option NameFault) (later : Option ReadError) → 
 of_name k None later e = (refl, e)
 of_name k (Some s) later e = absurd cc
 
-pub no_fault : (raw : RawMachine) → first_fault raw ≡ None → NoFault raw
-no_fault raw e =
-    let a = of_symbol (first_repeated [] (symbols raw)) _ e in
-    let b = of_use (first_unknown (symbols raw) (in_statements statement_uses raw.statements)) _ a.1 in
-    let c = of_line kind.Width (all_width_faults raw) _ b.1 in
-    let d = of_name kind.TwoDrivers (first_second_driver [] (drivers raw)) _ c.1 in
-    let f = of_name kind.Undriven (first_undriven (all_driven (drivers raw)) (symbols raw)) _ d.1 in
-    let g = of_line kind.Unsupported (all_unsupported raw) _ f.1 in
-    let h = of_line kind.ClockUse (all_clock_lines raw) None g.1 in
+pub no_fault : (design : DesignFile) → first_fault design ≡ None → NoFault design
+no_fault design e =
+    let a = of_symbol (first_repeated [] (symbols design)) _ e in
+    let b = of_use (first_unknown (symbols design) (in_statements statement_uses design.statements)) _ a.1 in
+    let c = of_line kind.Width (all_width_faults design) _ b.1 in
+    let d = of_name kind.TwoDrivers (first_second_driver [] (drivers design)) _ c.1 in
+    let f = of_name kind.Undriven (first_undriven (all_driven (drivers design)) (symbols design)) _ d.1 in
+    let g = of_line kind.Unsupported (all_unsupported design) _ f.1 in
+    let h = of_line kind.ClockUse (all_clock_lines design) None g.1 in
     record { repeated = a.0; unknown = b.0; width = c.0; again = d.0; missing = f.0; form = g.0; clock = h.0 }

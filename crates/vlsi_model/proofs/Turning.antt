@@ -11,17 +11,17 @@ use Rattle.vlsi_base.specs.declared.name.Name.{Name}
 use Rattle.vlsi_base.specs.Name.{name_cmp}
 use Rattle.machine_core.specs.Order.{In, here, there}
 use Rattle.machine_core.proofs.Values.{In-left, In-right, In-map}
-use Rattle.source_checks.specs.declared.statement.Statement.{Statement}
-use Rattle.source_checks.specs.declared.statement.Statement.TheVariants as statement
-use Rattle.source_checks.specs.declared.statement.RawMachine.{RawMachine}
-use Rattle.source_checks.specs.declared.table.Symbol.{Symbol}
-use Rattle.source_checks.specs.Symbols.{symbols, all_names}
-use Rattle.source_checks.specs.Formula.{place}
-use Rattle.source_checks.specs.Places.{in_statements}
-use Rattle.source_checks.specs.Drivers.{driver_at, drivers, statement_drivers, target_names}
-use Rattle.source_checks.specs.Elaboration.{Definition, definitions}
-use Rattle.source_checks.specs.Cycles.{Reads, IsRing}
-use Rattle.source_checks.specs.Checks.{DrivenOn}
+use Rattle.source_meaning.specs.declared.statement.Statement.{Statement}
+use Rattle.source_meaning.specs.declared.statement.Statement.TheVariants as statement
+use Rattle.source_meaning.specs.declared.statement.DesignFile.{DesignFile}
+use Rattle.source_meaning.specs.declared.symbol_table.Symbol.{Symbol}
+use Rattle.source_meaning.specs.Symbols.{symbols, all_names}
+use Rattle.source_meaning.specs.Formula.{place}
+use Rattle.source_meaning.specs.Places.{in_statements}
+use Rattle.source_meaning.specs.Drivers.{driver_at, drivers, statement_drivers, target_names}
+use Rattle.source_meaning.specs.Elaboration.{Definition, definitions}
+use Rattle.source_meaning.specs.Cycles.{Reads, IsRing}
+use Rattle.source_meaning.specs.Checks.{DrivenOn}
 use Rattle.source_bits.specs.declared.driven.DrivenBit.{DrivenBit}
 use Rattle.vlsi_model.specs.declared.source.Source.{Source}
 use Rattle.vlsi_model.specs.Sources.{IsSourceOf}
@@ -104,20 +104,20 @@ least_else names least k h t = record {
 
 -- names of nodes
 
-pub ring_names_are : (raw : RawMachine) (s : Source) (bits nodes : List ℕ) → Facts raw → IsSourceOf raw s → bits ≡ map (λ (d : DrivenBit). d.bit) s.driven.items → IsNodeRing raw nodes
-    → map (λ k. name_at (all_names s.numbers) (slice_index bits k)) nodes ≡ map (name_of_node raw) nodes
-ring_names_are raw s bits nodes f h is ring =
-    let all = all_names (symbols raw) in
-    let defs = definitions raw in
-    let bits_are : bits ≡ map (place all) (names_defined defs) = is ∙ driven_bits_are raw s h in
+pub ring_names_are : (design : DesignFile) (s : Source) (bits nodes : List ℕ) → Facts design → IsSourceOf design s → bits ≡ map (λ (d : DrivenBit). d.bit) s.driven.items → IsNodeRing design nodes
+    → map (λ k. name_at (all_names s.numbers) (slice_index bits k)) nodes ≡ map (name_of_node design) nodes
+ring_names_are design s bits nodes f h is ring =
+    let all = all_names (symbols design) in
+    let defs = definitions design in
+    let bits_are : bits ≡ map (place all) (names_defined defs) = is ∙ driven_bits_are design s h in
     ap (λ (known : List Symbol). map (λ k. name_at (all_names known) (slice_index bits k)) nodes) h.numbers
-    ∙ map_same (λ k. name_at all (slice_index bits k)) (name_of_node raw) nodes (λ k i.
+    ∙ map_same (λ k. name_at all (slice_index bits k)) (name_of_node design) nodes (λ k i.
     let r = place_of_In nodes k i in
     let low : k < length defs = subst (λ n. n < length defs) (r.2 0) (ring.inside r.0 0 r.1) in
     let inside : k < length (names_defined defs) = omega (arith, names_count defs, low) in
     let n = get_or (names_defined defs) k (record { text = []; bit = None }) in
     ap (λ (bs : List ℕ). name_at all (slice_index bs k)) bits_are ∙ ap (name_at all) (get_or-map (place all) (names_defined defs) k (record { text = []; bit = None }) 0 inside)
-    ∙ name_back all n (defined_declared raw f n (In-at (names_defined defs) k (record { text = []; bit = None }) inside)) ∙ name_of_at defs k (record { text = []; bit = None }) low)
+    ∙ name_back all n (defined_declared design f n (In-at (names_defined defs) k (record { text = []; bit = None }) inside)) ∙ name_of_at defs k (record { text = []; bit = None }) low)
 
 -- a turned ring
 
@@ -147,41 +147,41 @@ at_front : (f : ℕ → Name) (xs : List ℕ) (y : ℕ) (ys : List ℕ) (d : Nam
 at_front f [] y ys d = refl
 at_front f (x ∷ xs) y ys d = at_front f xs y ys d
 
-turned_at : (raw : RawMachine) (xs : List ℕ) (y : ℕ) (ys : List ℕ) → Facts raw → IsNodeRing raw (xs ++ y ∷ ys)
-    → All (λ n. name_cmp (name_at (map (name_of_node raw) (xs ++ y ∷ ys)) (length xs)) n ≡ Greater → ⊥) (map (name_of_node raw) (xs ++ y ∷ ys))
-    → IsRing (definitions raw) (drop (length xs) (map (name_of_node raw) (xs ++ y ∷ ys)) ++ take (length xs) (map (name_of_node raw) (xs ++ y ∷ ys)))
-turned_at raw xs y ys f ring least =
-    let g = name_of_node raw in
+turned_at : (design : DesignFile) (xs : List ℕ) (y : ℕ) (ys : List ℕ) → Facts design → IsNodeRing design (xs ++ y ∷ ys)
+    → All (λ n. name_cmp (name_at (map (name_of_node design) (xs ++ y ∷ ys)) (length xs)) n ≡ Greater → ⊥) (map (name_of_node design) (xs ++ y ∷ ys))
+    → IsRing (definitions design) (drop (length xs) (map (name_of_node design) (xs ++ y ∷ ys)) ++ take (length xs) (map (name_of_node design) (xs ++ y ∷ ys)))
+turned_at design xs y ys f ring least =
+    let g = name_of_node design in
     let nodes = xs ++ y ∷ ys in
     let names : map g ((y ∷ ys) ++ xs) ≡ drop (length xs) (map g nodes) ++ take (length xs) (map g nodes) =
     map-append g (y ∷ ys) xs ∙ ap (λ (ns : List Name). ns ++ map g xs) (sym (drop_front g xs (y ∷ ys))) ∙ ap (λ (ns : List Name). drop (length xs) (map g nodes) ++ ns) (sym (take_front g xs (y ∷ ys))) in
-    subst (λ (ns : List Name). IsRing (definitions raw) ns) names (is_ring raw xs y ys f.defined_once ring (λ n i e.
+    subst (λ (ns : List Name). IsRing (definitions design) ns) names (is_ring design xs y ys f.defined_once ring (λ n i e.
     let r = place_of_In (map g nodes) n i in
     least r.0 n r.1 (ap (λ (m : Name). name_cmp m (get_or (map g nodes) r.0 n)) (at_front g xs y ys (record { text = []; bit = None })) ∙ ap (name_cmp (g y)) (r.2 n) ∙ e)))
 
-abbrev Turned : RawMachine → List ℕ → ℕ → Type 0
-Turned raw nodes m =
-    IsNodeRing raw nodes → All (λ n. name_cmp (name_at (map (name_of_node raw) nodes) m) n ≡ Greater → ⊥) (map (name_of_node raw) nodes)
-    → IsRing (definitions raw) (drop m (map (name_of_node raw) nodes) ++ take m (map (name_of_node raw) nodes))
+abbrev Turned : DesignFile → List ℕ → ℕ → Type 0
+Turned design nodes m =
+    IsNodeRing design nodes → All (λ n. name_cmp (name_at (map (name_of_node design) nodes) m) n ≡ Greater → ⊥) (map (name_of_node design) nodes)
+    → IsRing (definitions design) (drop m (map (name_of_node design) nodes) ++ take m (map (name_of_node design) nodes))
 
-pub turned_to_least : (raw : RawMachine) (nodes : List ℕ) (names : List Name) (m : ℕ) → Facts raw → IsNodeRing raw nodes → names ≡ map (name_of_node raw) nodes → m < length names
-    → All (λ n. name_cmp (name_at names m) n ≡ Greater → ⊥) names → IsRing (definitions raw) (drop m names ++ take m names)
-turned_to_least raw nodes names m f ring is within least =
-    let g = name_of_node raw in
+pub turned_to_least : (design : DesignFile) (nodes : List ℕ) (names : List Name) (m : ℕ) → Facts design → IsNodeRing design nodes → names ≡ map (name_of_node design) nodes → m < length names
+    → All (λ n. name_cmp (name_at names m) n ≡ Greater → ⊥) names → IsRing (definitions design) (drop m names ++ take m names)
+turned_to_least design nodes names m f ring is within least =
+    let g = name_of_node design in
     let count : length names ≡ length nodes = ap (λ (ns : List Name). length ns) is ∙ length-map nodes g in
     let r = split_at nodes m (omega (arith, within, count)) in
-    let turned : Turned raw nodes m = subst (λ k. Turned raw nodes k) (sym r.count) (subst (λ (ks : List ℕ). Turned raw ks (length r.front)) (sym r.is) (turned_at raw r.front r.node r.back f)) in
-    subst (λ (ns : List Name). IsRing (definitions raw) (drop m ns ++ take m ns)) (sym is) (turned ring (subst (λ (ns : List Name). All (λ n. name_cmp (name_at ns m) n ≡ Greater → ⊥) ns) is least))
+    let turned : Turned design nodes m = subst (λ k. Turned design nodes k) (sym r.count) (subst (λ (ks : List ℕ). Turned design ks (length r.front)) (sym r.is) (turned_at design r.front r.node r.back f)) in
+    subst (λ (ns : List Name). IsRing (definitions design) (drop m ns ++ take m ns)) (sym is) (turned ring (subst (λ (ns : List Name). All (λ n. name_cmp (name_at ns m) n ≡ Greater → ⊥) ns) is least))
 
 -- the first name of a ring
 
-reads_declared : (raw : RawMachine) (a b : Name) → Facts raw → Reads (definitions raw) a b → In a (all_names (symbols raw))
-reads_declared raw a b f r = subst (λ (n : Name). In n (all_names (symbols raw))) r.2 (defined_declared raw f r.0.name (In-map (λ (d : Definition). d.name) r.0 (definitions raw) r.1))
+reads_declared : (design : DesignFile) (a b : Name) → Facts design → Reads (definitions design) a b → In a (all_names (symbols design))
+reads_declared design a b f r = subst (λ (n : Name). In n (all_names (symbols design))) r.2 (defined_declared design f r.0.name (In-map (λ (d : Definition). d.name) r.0 (definitions design) r.1))
 
-pub first_declared : (raw : RawMachine) (names : List Name) (d : Name) → Facts raw → IsRing (definitions raw) names → In (get_or names 0 d) (all_names (symbols raw))
-first_declared raw [] d f h = absurd h
-first_declared raw (a ∷ []) d f h = reads_declared raw a a f h.1
-first_declared raw (a ∷ b ∷ rest) d f h = reads_declared raw a b f h.1.0
+pub first_declared : (design : DesignFile) (names : List Name) (d : Name) → Facts design → IsRing (definitions design) names → In (get_or names 0 d) (all_names (symbols design))
+first_declared design [] d f h = absurd h
+first_declared design (a ∷ []) d f h = reads_declared design a a f h.1
+first_declared design (a ∷ b ∷ rest) d f h = reads_declared design a b f h.1.0
 
 -- what drives it
 
@@ -197,18 +197,18 @@ of_statement look (s ∷ ss) st x here i = In-left x (look st) (in_statements lo
 of_statement look (s ∷ ss) st x (there j) i = In-right x (look s) (in_statements look ss) (of_statement look ss st x j i)
 of_statement look [] st x j i = elim j [ ]
 
-pub driven_on : (raw : RawMachine) (st : Statement) (name : Name) (number line : ℕ) → Facts raw → In st raw.statements → In name (all_names (symbols raw)) → number ≡ place (all_names (symbols raw)) name
-    → IsDrivenIn (symbols raw) st number line → DrivenOn (drivers raw) name line
-driven_on raw st name number line f i declared is h =
-    let known = symbols raw in
+pub driven_on : (design : DesignFile) (st : Statement) (name : Name) (number line : ℕ) → Facts design → In st design.statements → In name (all_names (symbols design)) → number ≡ place (all_names (symbols design)) name
+    → IsDrivenIn (symbols design) st number line → DrivenOn (drivers design) name line
+driven_on design st name number line f i declared is h =
+    let known = symbols design in
     let all = all_names known in
     let target = h.assignment.target in
-    let among = subst (λ (s : Statement). In s raw.statements) h.is i in
+    let among = subst (λ (s : Statement). In s design.statements) h.is i in
     let m = In-map_back (place all) number (target_names known target) h.among in
     let same : name ≡ m.0 = place_same all name m.0 declared (sym is ∙ sym m.2) in
     let one : In (driver_at known target) (statement_drivers known (statement.Assign h.assignment)) = here in (
       driver_at known target,
-      of_statement (statement_drivers known) raw.statements (statement.Assign h.assignment) (driver_at known target) among one,
+      of_statement (statement_drivers known) design.statements (statement.Assign h.assignment) (driver_at known target) among one,
       subst (λ (ns : List Name). In name ns) (sym (f.counted h.assignment among)) (subst (λ (n : Name). In n (target_names known target)) (sym same) m.1),
       h.on,
     )

@@ -7,11 +7,11 @@ use Rattle.vlsi_base.specs.declared.name.Port.{Port}
 use Rattle.machine_meaning.specs.Machine.{is_input, is_clock, names_of}
 use Rattle.machine_core.specs.Checked.{AreInOrder}
 use Rattle.machine_core.specs.Order.{In}
-use Rattle.source_checks.specs.declared.statement.RawMachine.{RawMachine}
+use Rattle.source_meaning.specs.declared.statement.DesignFile.{DesignFile}
 use Rattle.vlsi_base.specs.Range.{rising}
-use Rattle.source_checks.specs.Symbols.{symbols}
-use Rattle.source_checks.specs.Formula.{fixed, formula_names}
-use Rattle.source_checks.specs.Elaboration.{Definition, Storage, definitions, storage, port_bits, clock_name}
+use Rattle.source_meaning.specs.Symbols.{symbols}
+use Rattle.source_meaning.specs.Formula.{fixed, formula_names}
+use Rattle.source_meaning.specs.Elaboration.{Definition, Storage, definitions, storage, port_bits, clock_name}
 
 abbrev pub names_defined : List Definition → List Name
 names_defined ds = map (λ d. d.name) ds
@@ -38,26 +38,26 @@ abbrev pub storage_at : List Storage → ℕ → Storage
 storage_at rs k = slice_index_or rs k no_storage
 
 -- the places of definitions in an order in which each reads only what is known before it
-pub record IsNodeOrder (raw : RawMachine) (nodes : List ℕ) : Type 0 where
-  pub moved : IsPermutation (rising 0 (length (definitions raw))) nodes
-  pub earlier : EachReadsEarlier (names_defined (definitions raw)) [] (map (definition_at (definitions raw)) nodes)
+pub record IsNodeOrder (design : DesignFile) (nodes : List ℕ) : Type 0 where
+  pub moved : IsPermutation (rising 0 (length (definitions design))) nodes
+  pub earlier : EachReadsEarlier (names_defined (definitions design)) [] (map (definition_at (definitions design)) nodes)
 
 -- the ports, the places of registers and those of definitions, each in their order
-pub record Laid (raw : RawMachine) (ps : List Port) (places : List ℕ) (at : List ℕ) : Type 0 where
-  pub ports : IsPermutation (port_bits (symbols raw)) ps
+pub record Laid (design : DesignFile) (ps : List Port) (places : List ℕ) (at : List ℕ) : Type 0 where
+  pub ports : IsPermutation (port_bits (symbols design)) ps
   pub ports_order : AreInOrder (names_of ps)
-  pub order : IsPermutation (rising 0 (length (storage raw))) places
-  pub registers_order : AreInOrder (names_stored (map (storage_at (storage raw)) places))
-  pub nodes : IsPermutation (rising 0 (length (definitions raw))) at
-  pub earlier : EachReadsEarlier (names_defined (definitions raw)) [] (map (definition_at (definitions raw)) at)
+  pub order : IsPermutation (rising 0 (length (storage design))) places
+  pub registers_order : AreInOrder (names_stored (map (storage_at (storage design)) places))
+  pub nodes : IsPermutation (rising 0 (length (definitions design))) at
+  pub earlier : EachReadsEarlier (names_defined (definitions design)) [] (map (definition_at (definitions design)) at)
 
 -- the names of the inputs but the clock
 abbrev pub inputs_of : Option Name → List Port → List Name
 inputs_of clock ports = filter (λ name. not (is_clock clock name)) (names_of (filter (λ p. is_input p.dir) ports))
 
 -- the names of the machine: of inputs, registers and equations
-abbrev pub vars_of : RawMachine → List Port → List Storage → List Definition → List Name
-vars_of raw ports regs defs = (inputs_of (clock_name raw) ports ++ names_stored regs) ++ names_defined defs
+abbrev pub vars_of : DesignFile → List Port → List Storage → List Definition → List Name
+vars_of design ports regs defs = (inputs_of (clock_name design) ports ++ names_stored regs) ++ names_defined defs
 
-abbrev pub laid_vars : RawMachine → List Port → List ℕ → List ℕ → List Name
-laid_vars raw ports order nodes = vars_of raw ports (map (storage_at (storage raw)) order) (map (definition_at (definitions raw)) nodes)
+abbrev pub laid_vars : DesignFile → List Port → List ℕ → List ℕ → List Name
+laid_vars design ports order nodes = vars_of design ports (map (storage_at (storage design)) order) (map (definition_at (definitions design)) nodes)

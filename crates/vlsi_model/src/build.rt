@@ -5,9 +5,9 @@ ghost use Rattle.std.specs.List.Sorted.{IsPermutation};
 ghost use Rattle.machine_core.specs.Checked.{AreInOrder};
 ghost use Rattle.machine_core.specs.View.{machine_of};
 ghost use Rattle.machine_meaning.specs.Machine.{names_of};
-ghost use Rattle.source_checks.specs.Checks.{first_fault};
-ghost use Rattle.source_checks.specs.Elaboration.{port_bits, IsMachineOf};
-ghost use Rattle.source_checks.specs.Symbols.{symbols};
+ghost use Rattle.source_meaning.specs.Checks.{first_fault};
+ghost use Rattle.source_meaning.specs.Elaboration.{port_bits, IsMachineOf};
+ghost use Rattle.source_meaning.specs.Symbols.{symbols};
 ghost use Rattle.vlsi_model.specs.Laid.{IsNodeOrder, Laid, laid_vars};
 ghost use Rattle.vlsi_model.specs.Sources.{IsSourceOf};
 
@@ -18,7 +18,7 @@ use crate::source::Source;
 use machine_core::Machine;
 use machine_meaning::{Equation, Equations, Register, Registers};
 use source_bits::{DrivenBit, StoredBit};
-use source_checks::RawMachine;
+use source_meaning::DesignFile;
 use std::alloc::{AllocError, Global};
 use vlsi_base::{Name, Names, Port, Ports};
 
@@ -68,16 +68,16 @@ fn copied(alloc: Global, name: Option<&Name>) -> Result<Option<Name>, AllocError
 /// The machine of parts that are those of the source.
 fn finished(
     alloc: Global,
-    raw: &RawMachine,
+    design: &DesignFile,
     clock: Option<&Name>,
     ports: Vec<Port>,
     vars: Vec<Name>,
     parts: (Vec<Equation>, Vec<Register>),
 ) -> Result<Machine, AllocError>
-    requires { IsMachineOf raw.now (machine_of raw.now.entity.name ports.items (option_copied clock) vars.items parts.0.items parts.1.items) }
-    ensures { IfOk result (λ m. IsMachineOf raw.now m) }
+    requires { IsMachineOf design.now (machine_of design.now.entity.name ports.items (option_copied clock) vars.items parts.0.items parts.1.items) }
+    ensures { IfOk result (λ m. IsMachineOf design.now m) }
 {
-    let name = raw.entity.name.copy(alloc)?;
+    let name = design.entity.name.copy(alloc)?;
     let clock = copied(alloc, clock)?;
     let (equations, registers) = parts;
     Ok(Machine::new(
@@ -94,38 +94,38 @@ fn finished(
 fn over_vars(
     alloc: Global,
     source: &Source,
-    raw: &RawMachine,
+    design: &DesignFile,
     ports: Vec<Port>,
     order: &[u32],
     nodes: &[u32],
     vars: Vec<Name>,
 ) -> Result<Machine, AllocError>
-    requires source { IsSourceOf raw.now source.now }
-    requires sound { first_fault raw.now ≡ None }
-    requires laid { Laid raw.now ports.items order.now nodes.now }
-    requires vars { vars.items ≡ laid_vars raw.now ports.items order.now nodes.now }
-    ensures { IfOk result (λ m. IsMachineOf raw.now m) }
+    requires source { IsSourceOf design.now source.now }
+    requires sound { first_fault design.now ≡ None }
+    requires laid { Laid design.now ports.items order.now nodes.now }
+    requires vars { vars.items ≡ laid_vars design.now ports.items order.now nodes.now }
+    ensures { IfOk result (λ m. IsMachineOf design.now m) }
 {
     let table = var_numbers(alloc, &source.numbers, &vars)?;
     let equations = equations(alloc, &source.numbers, &source.driven, nodes, &table)?;
     let registers = registers(alloc, &source.numbers, &source.stored, order, &table)?;
     let clock = source.clock.as_ref();
-    finished(alloc, raw, clock, ports, vars, (equations, registers))
+    finished(alloc, design, clock, ports, vars, (equations, registers))
 }
 
 /// The names of the machine: of its inputs but the clock, its registers and its equations.
 fn var_names(
     alloc: Global,
     source: &Source,
-    raw: &RawMachine,
+    design: &DesignFile,
     ports: &[Port],
     order: &[u32],
     nodes: &[u32],
 ) -> Result<Vec<Name>, AllocError>
-    requires source { IsSourceOf raw.now source.now }
-    requires sound { first_fault raw.now ≡ None }
-    requires laid { Laid raw.now ports.now order.now nodes.now }
-    ensures { IfOk result (λ names. names.items ≡ laid_vars raw.now ports.now order.now nodes.now) }
+    requires source { IsSourceOf design.now source.now }
+    requires sound { first_fault design.now ≡ None }
+    requires laid { Laid design.now ports.now order.now nodes.now }
+    ensures { IfOk result (λ names. names.items ≡ laid_vars design.now ports.now order.now nodes.now) }
 {
     let mut names = Vec::new(alloc);
     push_inputs(alloc, source.clock.as_ref(), ports, &mut names)?;
@@ -140,16 +140,16 @@ fn var_names(
 fn register_order(
     alloc: Global,
     source: &Source,
-    raw: &RawMachine,
+    design: &DesignFile,
     ports: &[Port],
     nodes: &[u32],
 ) -> Result<Vec<u32>, AllocError>
-    requires source { IsSourceOf raw.now source.now }
-    requires sound { first_fault raw.now ≡ None }
-    requires moved { IsPermutation (port_bits (symbols raw.now)) ports.now }
+    requires source { IsSourceOf design.now source.now }
+    requires sound { first_fault design.now ≡ None }
+    requires moved { IsPermutation (port_bits (symbols design.now)) ports.now }
     requires ordered { AreInOrder (names_of ports.now) }
-    requires nodes { IsNodeOrder raw.now nodes.now }
-    ensures { IfOk result (λ order. Laid raw.now ports.now order.items nodes.now) }
+    requires nodes { IsNodeOrder design.now nodes.now }
+    ensures { IfOk result (λ order. Laid design.now ports.now order.items nodes.now) }
 {
     let bits = stored_numbers(alloc, &source.stored)?;
     few(bits.len())?;
@@ -161,18 +161,18 @@ fn register_order(
 pub fn build(
     alloc: Global,
     source: &Source,
-    raw: &RawMachine,
+    design: &DesignFile,
     ports: Vec<Port>,
     nodes: &[u32],
 ) -> Result<Machine, AllocError>
-    requires source { IsSourceOf raw.now source.now }
-    requires sound { first_fault raw.now ≡ None }
-    requires ports { ports.items ≡ port_bits (symbols raw.now) }
-    requires nodes { IsNodeOrder raw.now nodes.now }
-    ensures { IfOk result (λ m. IsMachineOf raw.now m) }
+    requires source { IsSourceOf design.now source.now }
+    requires sound { first_fault design.now ≡ None }
+    requires ports { ports.items ≡ port_bits (symbols design.now) }
+    requires nodes { IsNodeOrder design.now nodes.now }
+    ensures { IfOk result (λ m. IsMachineOf design.now m) }
 {
     let ports = sorted_ports(ports)?;
-    let order = register_order(alloc, source, raw, &ports, nodes)?;
-    let vars = var_names(alloc, source, raw, &ports, &order, nodes)?;
-    over_vars(alloc, source, raw, ports, &order, nodes, vars)
+    let order = register_order(alloc, source, design, &ports, nodes)?;
+    let vars = var_names(alloc, source, design, &ports, &order, nodes)?;
+    over_vars(alloc, source, design, ports, &order, nodes, vars)
 }

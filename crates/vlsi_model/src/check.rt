@@ -1,8 +1,8 @@
 // The machine that a source is, or why it is none.
 ghost use Rattle.std.specs.Prelude.{◌≡◌, None, Some, IfOk, IfErr};
-ghost use Rattle.source_checks.specs.Checks.{first_fault, HasNoRing, Passes, IsRefused, ports_error};
-ghost use Rattle.source_checks.specs.Elaboration.{port_bits, IsMachineOf};
-ghost use Rattle.source_checks.specs.Symbols.{symbols};
+ghost use Rattle.source_meaning.specs.Checks.{first_fault, HasNoRing, Passes, IsRefused, ports_error};
+ghost use Rattle.source_meaning.specs.Elaboration.{port_bits, IsMachineOf};
+ghost use Rattle.source_meaning.specs.Symbols.{symbols};
 ghost use Rattle.vlsi_model.specs.Laid.{IsNodeOrder};
 ghost use Rattle.vlsi_model.specs.Ordered.{IsOrderOfSource};
 ghost use Rattle.vlsi_model.specs.Sources.{IsSourceOf};
@@ -15,7 +15,7 @@ use crate::refusals::refusal;
 use crate::source::{Source, elaborated};
 use bit_order::Order;
 use machine_core::Machine;
-use source_checks::{RawMachine, Table};
+use source_meaning::{DesignFile, SymbolTable};
 use std::alloc::{AllocError, Global};
 use vlsi_base::{Limit, LimitKind, Port, ReadError};
 
@@ -23,19 +23,19 @@ use vlsi_base::{Limit, LimitKind, Port, ReadError};
 const MOST_PORTS: usize = 4096;
 
 /// An order of the definitions in which each reads only what is known before it, or a ring of them.
-fn definition_order(alloc: Global, source: &Source, raw: &RawMachine) -> Result<Order, AllocError>
-    requires source { IsSourceOf raw.now source.now }
-    requires sound { first_fault raw.now ≡ None }
-    ensures { IfOk result (λ o. IsOrderOfSource raw.now o) }
+fn definition_order(alloc: Global, source: &Source, design: &DesignFile) -> Result<Order, AllocError>
+    requires source { IsSourceOf design.now source.now }
+    requires sound { first_fault design.now ≡ None }
+    ensures { IfOk result (λ o. IsOrderOfSource design.now o) }
 {
     few(source.driven.len())?;
     let order = node_order(alloc, source.numbers.total(), &source.driven)?;
     Ok(order)
 }
 
-fn too_many_ports(ports: &[Port], raw: &RawMachine) -> ReadError
-    requires { ports.now ≡ port_bits (symbols raw.now) }
-    ensures { result ≡ ports_error raw.now }
+fn too_many_ports(ports: &[Port], design: &DesignFile) -> ReadError
+    requires { ports.now ≡ port_bits (symbols design.now) }
+    ensures { result ≡ ports_error design.now }
 {
     ReadError::Limit(Limit {
         which: LimitKind::Ports,
@@ -47,68 +47,68 @@ fn too_many_ports(ports: &[Port], raw: &RawMachine) -> ReadError
 fn few_ports(
     alloc: Global,
     source: &Source,
-    raw: &RawMachine,
+    design: &DesignFile,
     nodes: &[u32],
 ) -> Result<Machine, ReadError>
-    requires source { IsSourceOf raw.now source.now }
-    requires sound { first_fault raw.now ≡ None }
-    requires nodes { IsNodeOrder raw.now nodes.now }
-    requires no_ring { HasNoRing raw.now }
-    ensures machine { IfOk result (λ m. Passes raw.now × IsMachineOf raw.now m) }
-    ensures refused { IfErr result (λ e. IsRefused raw.now e) }
+    requires source { IsSourceOf design.now source.now }
+    requires sound { first_fault design.now ≡ None }
+    requires nodes { IsNodeOrder design.now nodes.now }
+    requires no_ring { HasNoRing design.now }
+    ensures machine { IfOk result (λ m. Passes design.now × IsMachineOf design.now m) }
+    ensures refused { IfErr result (λ e. IsRefused design.now e) }
 {
     let ports = ports(alloc, &source.numbers)?;
     if ports.len() > MOST_PORTS {
-        return Err(too_many_ports(&ports, raw));
+        return Err(too_many_ports(&ports, design));
     }
-    let machine = build(alloc, source, raw, ports, nodes)?;
+    let machine = build(alloc, source, design, ports, nodes)?;
     Ok(machine)
 }
 
 fn without_ring(
     alloc: Global,
     source: &Source,
-    raw: &RawMachine,
+    design: &DesignFile,
     order: Order,
 ) -> Result<Machine, ReadError>
-    requires source { IsSourceOf raw.now source.now }
-    requires sound { first_fault raw.now ≡ None }
-    requires order { IsOrderOfSource raw.now order }
-    ensures machine { IfOk result (λ m. Passes raw.now × IsMachineOf raw.now m) }
-    ensures refused { IfErr result (λ e. IsRefused raw.now e) }
+    requires source { IsSourceOf design.now source.now }
+    requires sound { first_fault design.now ≡ None }
+    requires order { IsOrderOfSource design.now order }
+    ensures machine { IfOk result (λ m. Passes design.now × IsMachineOf design.now m) }
+    ensures refused { IfErr result (λ e. IsRefused design.now e) }
 {
     match order {
-        Order::Sorted(nodes) => few_ports(alloc, source, raw, &nodes),
+        Order::Sorted(nodes) => few_ports(alloc, source, design, &nodes),
         Order::Ring(nodes) => {
-            let e = cycle(alloc, source, raw, &nodes)?;
+            let e = cycle(alloc, source, design, &nodes)?;
             Err(e)
         }
     }
 }
 
 /// The machine of a source in which no check before that for rings fails.
-fn sound_machine(alloc: Global, table: Table, raw: &RawMachine) -> Result<Machine, ReadError>
-    requires known { table ≡ symbols raw.now }
-    requires sound { first_fault raw.now ≡ None }
-    ensures machine { IfOk result (λ m. Passes raw.now × IsMachineOf raw.now m) }
-    ensures refused { IfErr result (λ e. IsRefused raw.now e) }
+fn sound_machine(alloc: Global, table: SymbolTable, design: &DesignFile) -> Result<Machine, ReadError>
+    requires known { table ≡ symbols design.now }
+    requires sound { first_fault design.now ≡ None }
+    ensures machine { IfOk result (λ m. Passes design.now × IsMachineOf design.now m) }
+    ensures refused { IfErr result (λ e. IsRefused design.now e) }
 {
-    let source = elaborated(alloc, table, raw)?;
-    let order = definition_order(alloc, &source, raw)?;
-    without_ring(alloc, &source, raw, order)
+    let source = elaborated(alloc, table, design)?;
+    let order = definition_order(alloc, &source, design)?;
+    without_ring(alloc, &source, design, order)
 }
 
 /// The machine that a source is, or why it is none: the first check that fails, in this order: a name that is declared
 /// twice, an unknown name, a width, two drivers of a bit, none, a form that is left out, a guard or the clock, signals that
 /// read each other in a ring, more than 4096 port bits. Takes memory for each declared bit and for each formula.
-pub fn check_machine(alloc: Global, raw: RawMachine) -> Result<Machine, ReadError>
-    ensures machine { IfOk result (λ m. Passes raw × IsMachineOf raw m) }
-    ensures refused { IfErr result (λ e. IsRefused raw e) }
+pub fn check_machine(alloc: Global, design: DesignFile) -> Result<Machine, ReadError>
+    ensures machine { IfOk result (λ m. Passes design × IsMachineOf design m) }
+    ensures refused { IfErr result (λ e. IsRefused design e) }
 {
-    let table = Table::new(alloc, &raw)?;
-    let refused = refusal(alloc, &table, &raw)?;
+    let table = SymbolTable::new(alloc, &design)?;
+    let refused = refusal(alloc, &table, &design)?;
     match refused {
         Some(e) => Err(e),
-        None => sound_machine(alloc, table, &raw),
+        None => sound_machine(alloc, table, &design),
     }
 }

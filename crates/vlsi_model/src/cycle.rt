@@ -4,11 +4,11 @@ ghost use Rattle.std.specs.List.{All};
 ghost use Rattle.std.specs.declared.cmp.Ordering.TheVariants.{Greater};
 ghost use Rattle.vlsi_base.specs.Name.{name_cmp};
 ghost use Rattle.machine_core.specs.Order.{In, AllDifferent};
-ghost use Rattle.source_checks.specs.Checks.{first_fault, IsCycle, DrivenOn};
-ghost use Rattle.source_checks.specs.Cycles.{IsRing};
-ghost use Rattle.source_checks.specs.Drivers.{drivers};
-ghost use Rattle.source_checks.specs.Elaboration.{definitions};
-ghost use Rattle.source_checks.specs.Symbols.{symbols, all_names};
+ghost use Rattle.source_meaning.specs.Checks.{first_fault, IsCycle, DrivenOn};
+ghost use Rattle.source_meaning.specs.Cycles.{IsRing};
+ghost use Rattle.source_meaning.specs.Drivers.{drivers};
+ghost use Rattle.source_meaning.specs.Elaboration.{definitions};
+ghost use Rattle.source_meaning.specs.Symbols.{symbols, all_names};
 ghost use Rattle.vlsi_model.specs.Numbered.{name_at};
 ghost use Rattle.vlsi_model.specs.Ordered.{IsNodeRing, IsDrivenIn};
 ghost use Rattle.vlsi_model.specs.Sources.{IsSourceOf};
@@ -17,7 +17,7 @@ use crate::build::driven_numbers;
 use crate::equations::push_names;
 use crate::source::Source;
 use source_bits::{Numbers, target_places};
-use source_checks::{RawMachine, Statement};
+use source_meaning::{DesignFile, Statement};
 use std::alloc::{AllocError, Global};
 use vlsi_base::{FaultKind, InputFault, Name, Names, ReadError};
 
@@ -40,13 +40,13 @@ fn least_place(names: &[Name]) -> usize
 fn ring_names(
     alloc: Global,
     source: &Source,
-    raw: &RawMachine,
+    design: &DesignFile,
     nodes: &[u32],
 ) -> Result<Vec<Name>, AllocError>
-    requires source { IsSourceOf raw.now source.now }
-    requires sound { first_fault raw.now ≡ None }
-    requires ring { IsNodeRing raw.now nodes.now }
-    ensures { IfOk result (λ names. IsRing (definitions raw.now) names.items) }
+    requires source { IsSourceOf design.now source.now }
+    requires sound { first_fault design.now ≡ None }
+    requires ring { IsNodeRing design.now nodes.now }
+    ensures { IfOk result (λ names. IsRing (definitions design.now) names.items) }
 {
     let bits = driven_numbers(alloc, &source.driven)?;
     let mut names = Vec::new(alloc);
@@ -84,16 +84,16 @@ fn line_in(
 fn driver_line(
     alloc: Global,
     source: &Source,
-    raw: &RawMachine,
+    design: &DesignFile,
     name: &Name,
 ) -> Result<u32, AllocError>
-    requires source { IsSourceOf raw.now source.now }
-    requires sound { first_fault raw.now ≡ None }
-    requires declared { In name.now (all_names (symbols raw.now)) }
-    ensures { IfOk result (λ line. DrivenOn (drivers raw.now) name.now line) }
+    requires source { IsSourceOf design.now source.now }
+    requires sound { first_fault design.now ≡ None }
+    requires declared { In name.now (all_names (symbols design.now)) }
+    ensures { IfOk result (λ line. DrivenOn (drivers design.now) name.now line) }
 {
     let number = source.numbers.number(name.text.as_bytes(), name.bit);
-    for statement in raw.statements.as_slice() {
+    for statement in design.statements.as_slice() {
         let found = line_in(alloc, &source.numbers, statement, number)?;
         if let Some(line) = found {
             return Ok(line);
@@ -106,16 +106,16 @@ fn driver_line(
 pub fn cycle(
     alloc: Global,
     source: &Source,
-    raw: &RawMachine,
+    design: &DesignFile,
     nodes: &[u32],
 ) -> Result<ReadError, AllocError>
-    requires source { IsSourceOf raw.now source.now }
-    requires sound { first_fault raw.now ≡ None }
-    requires ring { IsNodeRing raw.now nodes.now }
-    ensures { IfOk result (λ e. IsCycle raw.now e) }
+    requires source { IsSourceOf design.now source.now }
+    requires sound { first_fault design.now ≡ None }
+    requires ring { IsNodeRing design.now nodes.now }
+    ensures { IfOk result (λ e. IsCycle design.now e) }
 {
-    let names = ring_names(alloc, source, raw, nodes)?;
-    let line = driver_line(alloc, source, raw, &names[0])?;
+    let names = ring_names(alloc, source, design, nodes)?;
+    let line = driver_line(alloc, source, design, &names[0])?;
     let names = Names::new(names);
     Ok(ReadError::Input(InputFault {
         line,

@@ -15,7 +15,3 @@ mod source;
 pub use check::check_machine;
 pub use machine_core::Machine;
 pub use refusals::refusal;
-pub use source_checks::{
-    Assignment, Assignments, Choice, Guarded, GuardedList, RawBlock, RawMachine, Selection,
-    Statement, Statements, Target, machine_size,
-};

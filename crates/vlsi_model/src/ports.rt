@@ -5,12 +5,12 @@ ghost use Rattle.std.specs.Option.{option_copied, option_to_list};
 ghost use Rattle.machine_core.specs.Checked.{AreInOrder};
 ghost use Rattle.machine_core.specs.Order.{AllDifferent};
 ghost use Rattle.machine_meaning.specs.Machine.{names_of, is_clock};
-ghost use Rattle.source_checks.specs.Elaboration.{port_bits};
+ghost use Rattle.source_meaning.specs.Elaboration.{port_bits};
 ghost use Rattle.vlsi_model.specs.Numbered.{input_names};
 ghost use Rattle.vlsi_model.specs.PortNames.{port_of_role, port_named};
 
 use source_bits::Numbers;
-use source_checks::{Role, Table};
+use source_meaning::{Role, SymbolTable};
 use std::alloc::{AllocError, Global};
 use vlsi_base::{Dir, Name, Port, is_supply};
 
@@ -28,7 +28,7 @@ fn port_of_role(role: Role, name: Name) -> Option<Port>
 }
 
 /// The port bit of a declared bit, if it is one.
-fn port_named(table: &Table, name: Name) -> Option<Port>
+fn port_named(table: &SymbolTable, name: Name) -> Option<Port>
     ensures { result ≡ port_named table.now name }
 {
     match table.find(name.text.as_bytes()) {

@@ -1,12 +1,12 @@
 // The checks of a source before that for rings, in their order.
 ghost use Rattle.std.specs.Prelude.{◌≡◌, IfOk};
-ghost use Rattle.source_checks.specs.Checks.{first_fault};
-ghost use Rattle.source_checks.specs.Symbols.{symbols};
+ghost use Rattle.source_meaning.specs.Checks.{first_fault};
+ghost use Rattle.source_meaning.specs.Symbols.{symbols};
 ghost use Rattle.vlsi_model.specs.Stages.{name_fault, driver_fault, shape_fault, form_fault};
 
 use crate::faults::{line_fault, name_fault, text_fault};
-use source_checks::{
-    DriverFault, RawMachine, Table, driver_fault as find_driver_fault, repeated, unknown,
+use source_meaning::{
+    DriverFault, DesignFile, SymbolTable, driver_fault as find_driver_fault, repeated, unknown,
     unsupported, width_fault,
 };
 use source_clock::clock_fault;
@@ -16,17 +16,17 @@ use vlsi_base::{FaultKind, ReadError};
 /// The first name that is declared twice, or else the first that isn't declared.
 fn names_fault(
     alloc: Global,
-    table: &Table,
-    raw: &RawMachine,
+    table: &SymbolTable,
+    design: &DesignFile,
 ) -> Result<Option<ReadError>, AllocError>
-    requires { table.now ≡ symbols raw.now }
-    ensures { IfOk result (λ e. e ≡ name_fault raw.now) }
+    requires { table.now ≡ symbols design.now }
+    ensures { IfOk result (λ e. e ≡ name_fault design.now) }
 {
     if let Some(symbol) = repeated(table) {
         let e = text_fault(alloc, FaultKind::Twice, symbol.line, &symbol.text)?;
         return Ok(Some(e));
     }
-    if let Some(place) = unknown(table, raw.statements.as_slice()) {
+    if let Some(place) = unknown(table, design.statements.as_slice()) {
         let e = text_fault(alloc, FaultKind::Unknown, place.line, place.text)?;
         return Ok(Some(e));
     }
@@ -36,13 +36,13 @@ fn names_fault(
 /// The first assignment that drives a bit again, or else the first declared name with a bit that has no driver.
 fn drivers_fault(
     alloc: Global,
-    table: &Table,
-    raw: &RawMachine,
+    table: &SymbolTable,
+    design: &DesignFile,
 ) -> Result<Option<ReadError>, AllocError>
-    requires { table.now ≡ symbols raw.now }
-    ensures { IfOk result (λ e. e ≡ driver_fault raw.now) }
+    requires { table.now ≡ symbols design.now }
+    ensures { IfOk result (λ e. e ≡ driver_fault design.now) }
 {
-    let found = find_driver_fault(alloc, table, raw)?;
+    let found = find_driver_fault(alloc, table, design)?;
     match found {
         Some(DriverFault::Again(f)) => {
             let e = name_fault(alloc, FaultKind::TwoDrivers, f.line, f.name)?;
@@ -59,32 +59,32 @@ fn drivers_fault(
 /// The first place where widths don't fit, or else what is wrong with the drivers.
 fn shapes_fault(
     alloc: Global,
-    table: &Table,
-    raw: &RawMachine,
+    table: &SymbolTable,
+    design: &DesignFile,
 ) -> Result<Option<ReadError>, AllocError>
-    requires { table.now ≡ symbols raw.now }
-    ensures { IfOk result (λ e. e ≡ shape_fault raw.now) }
+    requires { table.now ≡ symbols design.now }
+    ensures { IfOk result (λ e. e ≡ shape_fault design.now) }
 {
-    let line = width_fault(table, raw)?;
+    let line = width_fault(table, design)?;
     match line_fault(alloc, FaultKind::Width, line) {
         Some(e) => Ok(Some(e)),
-        None => drivers_fault(alloc, table, raw),
+        None => drivers_fault(alloc, table, design),
     }
 }
 
 /// The first form that is left out, or else the first place where the clock is at fault.
 fn forms_fault(
     alloc: Global,
-    table: &Table,
-    raw: &RawMachine,
+    table: &SymbolTable,
+    design: &DesignFile,
 ) -> Result<Option<ReadError>, AllocError>
-    requires { table.now ≡ symbols raw.now }
-    ensures { IfOk result (λ e. e ≡ form_fault raw.now) }
+    requires { table.now ≡ symbols design.now }
+    ensures { IfOk result (λ e. e ≡ form_fault design.now) }
 {
-    match line_fault(alloc, FaultKind::Unsupported, unsupported(table, raw)) {
+    match line_fault(alloc, FaultKind::Unsupported, unsupported(table, design)) {
         Some(e) => Ok(Some(e)),
         None => {
-            let line = clock_fault(alloc, table, raw)?;
+            let line = clock_fault(alloc, table, design)?;
             Ok(line_fault(alloc, FaultKind::ClockUse, line))
         }
     }
@@ -95,19 +95,19 @@ fn forms_fault(
 #[tactic(auto, using(crate::proofs::Stages::stages))]
 pub fn refusal(
     alloc: Global,
-    table: &Table,
-    raw: &RawMachine,
+    table: &SymbolTable,
+    design: &DesignFile,
 ) -> Result<Option<ReadError>, AllocError>
-    requires { table.now ≡ symbols raw.now }
-    ensures { IfOk result (λ e. e ≡ first_fault raw.now) }
+    requires { table.now ≡ symbols design.now }
+    ensures { IfOk result (λ e. e ≡ first_fault design.now) }
 {
-    let named = names_fault(alloc, table, raw)?;
+    let named = names_fault(alloc, table, design)?;
     if let Some(e) = named {
         return Ok(Some(e));
     }
-    let shaped = shapes_fault(alloc, table, raw)?;
+    let shaped = shapes_fault(alloc, table, design)?;
     if let Some(e) = shaped {
         return Ok(Some(e));
     }
-    forms_fault(alloc, table, raw)
+    forms_fault(alloc, table, design)
 }

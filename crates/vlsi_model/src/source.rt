@@ -2,12 +2,12 @@
 ghost use Rattle.std.specs.Prelude.{◌≡◌, map, option_map, IfOk};
 ghost use Rattle.std.specs.Option.{option_copied};
 ghost use Rattle.machine_core.specs.Order.{AllDifferent};
-ghost use Rattle.source_checks.specs.Clock.{clock_text};
-ghost use Rattle.source_checks.specs.Symbols.{symbols, scalar};
+ghost use Rattle.source_meaning.specs.Clock.{clock_text};
+ghost use Rattle.source_meaning.specs.Symbols.{symbols, scalar};
 ghost use Rattle.vlsi_model.specs.Sources.{IsSourceOf};
 
 use source_bits::{DrivenBit, Numbers, StoredBit, driven_bits, stored_bits};
-use source_checks::{RawMachine, Table};
+use source_meaning::{DesignFile, SymbolTable};
 use source_clock::clock;
 use std::alloc::{AllocError, Global};
 use vlsi_base::{Name, Text};
@@ -47,15 +47,15 @@ fn with_clock(
     alloc: Global,
     numbers: Numbers,
     clock: Option<&Text>,
-    raw: &RawMachine,
+    design: &DesignFile,
 ) -> Result<Source, AllocError>
-    requires known { numbers ≡ symbols raw.now }
-    requires different { AllDifferent (map (λ s. s.text) (symbols raw.now)) }
-    requires clock { option_copied clock ≡ clock_text raw.now }
-    ensures { IfOk result (λ s. IsSourceOf raw.now s) }
+    requires known { numbers ≡ symbols design.now }
+    requires different { AllDifferent (map (λ s. s.text) (symbols design.now)) }
+    requires clock { option_copied clock ≡ clock_text design.now }
+    ensures { IfOk result (λ s. IsSourceOf design.now s) }
 {
-    let driven = driven_bits(alloc, &numbers, raw.statements.as_slice())?;
-    let stored = stored_bits(alloc, &numbers, bytes_of(clock), raw.statements.as_slice())?;
+    let driven = driven_bits(alloc, &numbers, design.statements.as_slice())?;
+    let stored = stored_bits(alloc, &numbers, bytes_of(clock), design.statements.as_slice())?;
     let clock = name_of(alloc, clock)?;
     Ok(Source {
         numbers,
@@ -66,12 +66,12 @@ fn with_clock(
 }
 
 /// A source whose declared names are these.
-pub fn elaborated(alloc: Global, table: Table, raw: &RawMachine) -> Result<Source, AllocError>
-    requires known { table ≡ symbols raw.now }
-    requires different { AllDifferent (map (λ s. s.text) (symbols raw.now)) }
-    ensures { IfOk result (λ s. IsSourceOf raw.now s) }
+pub fn elaborated(alloc: Global, table: SymbolTable, design: &DesignFile) -> Result<Source, AllocError>
+    requires known { table ≡ symbols design.now }
+    requires different { AllDifferent (map (λ s. s.text) (symbols design.now)) }
+    ensures { IfOk result (λ s. IsSourceOf design.now s) }
 {
-    let clock = clock(alloc, &table, raw.statements.as_slice())?;
+    let clock = clock(alloc, &table, design.statements.as_slice())?;
     let numbers = Numbers::new(alloc, table)?;
-    with_clock(alloc, numbers, clock, raw)
+    with_clock(alloc, numbers, clock, design)
 }

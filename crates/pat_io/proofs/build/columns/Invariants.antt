@@ -2,5 +2,5 @@ use Rattle.std.proofs.Common.{◌≡◌, ◌++◌, map, drop}
 use Rattle.pat_io.specs.Digits.{column_of}
 use Rattle.pat_io.proofs.build.columns.Given as goal
 
-abbrev pub invariant-loop-raw : goal.invariant-loop-raw
-invariant-loop-raw l = l.columns.items ++ map column_of (drop l.raw-index l.raws) ≡ map column_of l.raws
+abbrev pub invariant-loop-parsed : goal.invariant-loop-parsed
+invariant-loop-parsed l = l.columns.items ++ map column_of (drop l.parsed-index l.list) ≡ map column_of l.list

@@ -5,5 +5,5 @@ use Rattle.pat_io.proofs.build.values.Goals as goal
 
 pub returns : goal.returns
 returns c =
-    let past : min (length c.args.columns.now) (length c.args.raws.now) ≤ c.loop-k.k = search rules in
-    made_all c.args.columns.now c.args.raws.now c.loop-k.k c.loop-k.values.items (values_for c.args.columns.now c.args.raws.now) past c.loop-k.invariant
+    let past : min (length c.args.columns.now) (length c.args.list.now) ≤ c.loop-k.k = search rules in
+    made_all c.args.columns.now c.args.list.now c.loop-k.k c.loop-k.values.items (values_for c.args.columns.now c.args.list.now) past c.loop-k.invariant

@@ -12,8 +12,8 @@ returns-in-Ok-clause-read c =
     let there = at_of c.whole_file.new.cursor.counts c.whole_file.new.cursor.rest.now in
     let first : c.as_slice.result.now ≡ c.args.tokens.now.items = search rules in
     let begun : at_of c.new.result c.args.tokens.now.items ≡ start c.args.tokens.now.items = ap (λ (s : State). record { state = s; rest = c.args.tokens.now.items }) c.new.ensures in
-    let read : finish (file_at here) ≡ Ok (c.in-Ok.raw, there) = search rules in
-    is_file here c.args.tokens.now.items c.in-Ok.raw there (rw first begun) read
+    let read : finish (file_at here) ≡ Ok (c.in-Ok.parsed, there) = search rules in
+    is_file here c.args.tokens.now.items c.in-Ok.parsed there (rw first begun) read
 
 pub returns-clause-refused : goal.returns-clause-refused
 returns-clause-refused c =

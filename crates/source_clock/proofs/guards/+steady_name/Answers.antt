@@ -1,16 +1,16 @@
 use Rattle.std.proofs.Common.{rules, ◌≡◌, ◌∙◌, ap, sym, map}
-use Rattle.vlsi_base.specs.declared.raw.Raw.{Raw}
-use Rattle.vlsi_base.specs.declared.raw.Raw.TheViews.{the_lemmas}
+use Rattle.vlsi_base.specs.declared.expression.ParsedExpr.{ParsedExpr}
+use Rattle.vlsi_base.specs.declared.expression.ParsedExpr.TheViews.{the_lemmas}
 use Rattle.vlsi_base.specs.Tree.{Tree, view, operand_of, folded}
 use Rattle.vlsi_base.proofs.Groups.{grouped_is}
-use Rattle.source_checks.specs.Clock.{steady_name}
+use Rattle.source_meaning.specs.Clock.{steady_name}
 use Rattle.source_clock.proofs.Chains.{lone_chain, pair_chain}
 use Rattle.source_clock.proofs.guards.+steady_name.Goals as goal
 
 pub returns-then-is_empty : goal.returns-then-is_empty
 returns-then-is_empty t c =
     let viewed : view c.args.e.now ≡ folded c.in-Chain.field-0 (view c.in-Chain.first.value) (map operand_of c.in-Chain.others.items) = search (rules, the_lemmas, grouped_is) in
-    c.steady_name.ensures ∙ ap (λ (x : Raw). steady_name (view x)) c.deref-then-is_empty.ensures
+    c.steady_name.ensures ∙ ap (λ (x : ParsedExpr). steady_name (view x)) c.deref-then-is_empty.ensures
     ∙ ap (λ (x : Tree). steady_name x) (sym (lone_chain _ _ _ _ viewed c.in-Chain.others.ok.0 (sym c.is_empty.ensures ∙ c.if-is_empty.true)))
 
 pub returns-else-is_empty : goal.returns-else-is_empty

@@ -1,10 +1,10 @@
 use Rattle.std.proofs.Common.{rules, ◌≡◌, ◌∙◌, cond, map, Bor, ap, sym, subst, arith}
 use Rattle.std.specs.Prelude.{IfOk}
-use Rattle.vlsi_base.specs.declared.raw.Raw.{Raw}
-use Rattle.vlsi_base.specs.declared.raw.Raw.TheViews.{the_lemmas}
+use Rattle.vlsi_base.specs.declared.expression.ParsedExpr.{ParsedExpr}
+use Rattle.vlsi_base.specs.declared.expression.ParsedExpr.TheViews.{the_lemmas}
 use Rattle.vlsi_base.specs.Tree.{Tree, view, operand_of, folded, binary}
 use Rattle.vlsi_base.proofs.Groups.{grouped_is}
-use Rattle.source_checks.specs.Clock.{without_one}
+use Rattle.source_meaning.specs.Clock.{without_one}
 use Rattle.source_clock.specs.Operands.{is_one}
 use Rattle.source_clock.proofs.Chains.{lone_chain, pair_chain, two_chain}
 use Rattle.source_clock.proofs.Joining.{right_one, no_relation_pair}
@@ -14,7 +14,7 @@ pub returns-then-is_empty : goal.returns-then-is_empty
 returns-then-is_empty t c =
     let viewed : view c.args.e.now ≡ folded c.in-Chain.operator (view c.in-Chain.first.value) (map operand_of c.in-Chain.others.items) = search (rules, the_lemmas, grouped_is) in
     let same : view c.deref-then-is_empty.result.now ≡ view c.args.e.now = ap view c.deref-then-is_empty.ensures ∙ sym (lone_chain _ _ _ _ viewed c.in-Chain.others.ok.0 (sym c.is_empty.ensures ∙ c.if-is_empty.true)) in
-    subst (λ (x : Tree). IfOk c.without_one.result (λ (r : Bor Raw). view r.now ≡ without_one x)) same c.without_one.ensures
+    subst (λ (x : Tree). IfOk c.without_one.result (λ (r : Bor ParsedExpr). view r.now ≡ without_one x)) same c.without_one.ensures
 
 pub returns-then-not-is_equal : goal.returns-then-not-is_equal
 returns-then-not-is_equal t c =

@@ -12,7 +12,7 @@ pub returns-in-Ok-clause-accepted : goal.returns-in-Ok-clause-accepted
 returns-in-Ok-clause-accepted c =
     let here = at_of c.new.result c.as_slice.result.now in
     let first : here ≡ start c.args.tokens.now.items = ap (λ (s : State). record { state = s; rest = c.as_slice.result.now }) c.new.ensures ∙ ap start c.as_slice.ensures in
-    is_source c.args.tokens.now here (at_of c.whole.new.cursor.counts c.whole.new.cursor.rest.now) (source_view c.in-Ok.raw) first c.in-Ok.ensures
+    is_source c.args.tokens.now here (at_of c.whole.new.cursor.counts c.whole.new.cursor.rest.now) (source_view c.in-Ok.design) first c.in-Ok.ensures
 
 pub returns-clause-refused : goal.returns-clause-refused
 returns-clause-refused c =

@@ -1,5 +1,5 @@
 use Rattle.std.proofs.Common.{rules}
-use Rattle.vlsi_base.specs.declared.raw.Raw.TheViews.{the_lemmas}
+use Rattle.vlsi_base.specs.declared.expression.ParsedExpr.TheViews.{the_lemmas}
 use Rattle.vlsi_base.proofs.Groups.{grouped_is}
 use Rattle.vhdl_front.proofs.expression.join.Goals as goal
 

@@ -6,4 +6,4 @@ use Rattle.vlsi_model.proofs.SourceBits.{sound, different_port_names}
 use Rattle.vlsi_model.proofs.build.build.Goals as goal
 
 pub sorted_ports-requires : goal.sorted_ports-requires
-sorted_ports-requires c = subst (λ (ps : List Port). AllDifferent (names_of ps)) (sym c.requires.ports) (different_port_names c.args.raw.now (sound c.args.raw.now c.requires.sound))
+sorted_ports-requires c = subst (λ (ps : List Port). AllDifferent (names_of ps)) (sym c.requires.ports) (different_port_names c.args.design.now (sound c.args.design.now c.requires.sound))

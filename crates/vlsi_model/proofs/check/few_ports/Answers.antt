@@ -1,10 +1,10 @@
 use Rattle.std.proofs.Common.{List}
 use Rattle.machine_core.specs.Order.{AllDifferent}
-use Rattle.source_checks.specs.declared.table.Symbol.{Symbol}
+use Rattle.source_meaning.specs.declared.symbol_table.Symbol.{Symbol}
 use Rattle.vlsi_model.proofs.Bits.{texts}
 use Rattle.vlsi_model.proofs.SourceBits.{sound}
 use Rattle.vlsi_model.proofs.BuildGoals.{over_numbers}
 use Rattle.vlsi_model.proofs.check.few_ports.Goals as goal
 
 pub ports-requires : goal.ports-requires
-ports-requires c = over_numbers (λ (known : List Symbol). AllDifferent (texts known)) c.args.raw.now c.args.source.now c.requires.source (sound c.args.raw.now c.requires.sound).different
+ports-requires c = over_numbers (λ (known : List Symbol). AllDifferent (texts known)) c.args.design.now c.args.source.now c.requires.source (sound c.args.design.now c.requires.sound).different

@@ -2,4 +2,4 @@ use Rattle.vlsi_model.proofs.SourceBits.{sound}
 use Rattle.vlsi_model.proofs.check.sound_machine.Goals as goal
 
 pub elaborated-requires-clause-different : goal.elaborated-requires-clause-different
-elaborated-requires-clause-different c = (sound c.args.raw.now c.requires.sound).different
+elaborated-requires-clause-different c = (sound c.args.design.now c.requires.sound).different

@@ -1,0 +1,14 @@
+pub mod Lookups
+pub mod Knowing
+pub mod Unknowns
+pub mod Turns
+pub mod FirstLines
+pub mod Measures
+pub mod Marking
+pub mod Least
+pub mod Counting
+pub mod Names
+pub mod Driving
+pub mod DrivenSoFar
+pub mod Undriven
+pub mod Repeats

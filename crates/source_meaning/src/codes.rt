@@ -1,0 +1,111 @@
+// Bits of one name, by numbers: 0 is the name without a bit, and k + 1 its bit k.
+ghost use Rattle.std.specs.Prelude.{◌≡◌, ◌+◌, ◌==◌, ◌<◌, ◌^◌, map, filter, Some, IfOk, if◌then◌else◌};
+ghost use Rattle.vlsi_base.specs.Range.{rising, falling};
+ghost use Rattle.source_meaning.specs.Codes.{codes_in, selected_codes, least_with, least_code, same_bool};
+ghost use Rattle.source_meaning.specs.Marks.{has};
+
+use crate::Selection;
+use crate::marks::{Marks, is_marked};
+use std::alloc::{AllocError, Global};
+use vlsi_base::Range;
+
+/// `count` codes of bits that fall to `last`.
+fn falling_codes(alloc: Global, last: u32, count: u64) -> Result<Vec<u64>, AllocError>
+    requires { last + count < 2 ^ 63 }
+    ensures { IfOk result (λ codes. codes.items ≡ map (λ k. k + 1) (falling last count)) }
+{
+    let mut codes = Vec::new(alloc);
+    let mut left = count;
+    while left > 0 {
+        left -= 1;
+        codes.push(u64::from(last) + left + 1)?;
+    }
+    Ok(codes)
+}
+
+/// `count` codes of bits that rise from `first`.
+fn rising_codes(alloc: Global, first: u32, count: u64) -> Result<Vec<u64>, AllocError>
+    requires { first + count < 2 ^ 63 }
+    ensures { IfOk result (λ codes. codes.items ≡ map (λ k. k + 1) (rising first count)) }
+{
+    let mut codes = Vec::new(alloc);
+    let mut left = count;
+    let mut next = u64::from(first);
+    while left > 0 {
+        left -= 1;
+        next += 1;
+        codes.push(next)?;
+    }
+    Ok(codes)
+}
+
+/// The codes of a name's bits, from the left.
+#[tactic(auto, using(vlsi_base::proofs::Ranges::length_of_range))]
+pub fn codes_in(alloc: Global, range: Option<Range>) -> Result<Vec<u64>, AllocError>
+    ensures { IfOk result (λ codes. codes.items ≡ codes_in range) }
+{
+    match range {
+        Some(range) => {
+            let count = range.width();
+            if range.falls {
+                falling_codes(alloc, range.right, count)
+            } else {
+                rising_codes(alloc, range.left, count)
+            }
+        }
+        None => {
+            let mut codes = Vec::new(alloc);
+            codes.push(0)?;
+            Ok(codes)
+        }
+    }
+}
+
+/// The codes of the bits that a target drives, where its name is declared with this range.
+pub fn selected_codes(
+    alloc: Global,
+    range: Option<Range>,
+    selection: Selection,
+) -> Result<Vec<u64>, AllocError>
+    ensures { IfOk result (λ codes. codes.items ≡ selected_codes range selection) }
+{
+    match selection {
+        Selection::Whole => codes_in(alloc, range),
+        Selection::Bit(k) => {
+            let mut codes = Vec::new(alloc);
+            codes.push(u64::from(k) + 1)?;
+            Ok(codes)
+        }
+        Selection::Bits(range) => codes_in(alloc, Some(range)),
+    }
+}
+
+/// The lesser of a code and the least so far, if the code's bit is in the set, or if it isn't.
+fn least_with(
+    marks: &Marks,
+    place: usize,
+    code: u64,
+    marked: bool,
+    least: Option<u64>,
+) -> Option<u64>
+    ensures { result ≡ (if same_bool marked (has marks.now (place, code)) then Some (least_with code least) else least) }
+{
+    if is_marked(marks, place, code) != marked {
+        return least;
+    }
+    match least {
+        Some(before) => Some(code.min(before)),
+        None => Some(code),
+    }
+}
+
+/// The least of the codes whose bits are in the set, or of those whose bits aren't.
+pub fn least_where(marks: &Marks, place: usize, codes: &[u64], marked: bool) -> Option<u64>
+    ensures { result ≡ least_code (filter (λ code. same_bool marked (has marks.now (place, code))) codes.now) }
+{
+    let mut least: Option<u64> = None;
+    for code in codes {
+        least = least_with(marks, place, *code, marked, least);
+    }
+    least
+}

@@ -1,0 +1,25 @@
+//! Data-flow texts: their statements as they are written, their declared names, the checks of names, widths, drivers and
+//! forms, and the size of a machine.
+#![tactic(auto)]
+
+mod codes;
+mod drivers;
+mod forms;
+mod marks;
+mod places;
+mod statement;
+mod symbol_table;
+mod twice;
+mod undeclared;
+mod widths;
+
+pub use drivers::{DriverFault, NameFault, driver_fault};
+pub use forms::unsupported;
+pub use statement::{
+    Assignment, Assignments, Choice, Guarded, GuardedList, BlockStatement, DesignFile, Selection,
+    Statement, Statements, Target,
+};
+pub use symbol_table::{Role, Symbol, SymbolTable};
+pub use twice::repeated;
+pub use undeclared::{Place, unknown};
+pub use widths::width_fault;
