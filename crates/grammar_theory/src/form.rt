@@ -3,7 +3,8 @@ ghost use Rattle.std.specs.Prelude.{◌≡◌};
 ghost use Rattle.std.specs.List.{list_all};
 ghost use Rattle.grammar_theory.specs.Tokens.{code, is_of, form_of, is_bit as is_bit_digit, is_digit_of};
 
-use vhdl_token::{Radix, Keyword, PlacedToken, Sign, Token};
+use vhdl_token::{Keyword, PlacedToken, Sign, Token};
+use vlsi_base::Radix;
 
 /// What a grammar asks of a token: its kind, and of a text whether it spells bits.
 #[derive(Clone, Copy, PartialEq, Eq)]

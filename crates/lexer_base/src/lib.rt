@@ -12,6 +12,6 @@ mod signs;
 pub use bytes::{digits, is_blank, is_in_word, line_length, lower, word_length};
 pub use front::Front;
 pub use numbers::number;
-pub use piece::{MOST_BYTES, Piece};
+pub use piece::{MOST_IDENTIFIER_BYTES, Piece};
 pub use quotations::{quotation, quoted_length};
 pub use signs::sign;

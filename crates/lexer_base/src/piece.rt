@@ -6,7 +6,7 @@ use vhdl_token::Token;
 use vlsi_base::Text;
 
 /// The most bytes of an identifier.
-pub const MOST_BYTES: usize = 64;
+pub const MOST_IDENTIFIER_BYTES: usize = 64;
 
 /// What stands at a place of a text: a token or what may stand between tokens, with the number of its bytes, or why there
 /// is no token.

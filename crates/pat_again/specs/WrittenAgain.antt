@@ -2,6 +2,7 @@
 use Rattle.std.specs.Prelude.{◌≡◌, ℕ, ◌^◌, ◌<◌, ◌≤◌, ◌==◌, Bool, true, false, ◌||◌, ◌&&◌, nat_le, List, [], length, slice_index, Option, Some, None}
 use Rattle.std.specs.List.{All, list_all}
 use Rattle.std.specs.Char.{is_ascii_digit}
+use Rattle.vlsi_base.specs.Limits.{most_source_bytes}
 use Rattle.vlsi_base.specs.declared.name.Port.{Port}
 use Rattle.pat_meaning.specs.declared.patterns.BitRange.{BitRange}
 use Rattle.pat_meaning.specs.declared.patterns.Patterns.{Patterns}
@@ -9,7 +10,7 @@ use Rattle.pat_meaning.specs.Answers.{AreFor}
 use Rattle.pat_io.specs.Spelling.{text_of}
 use Rattle.vlsi_base.specs.Name.{is_supply}
 use Rattle.pat_io.specs.Fitting.{time_faults}
-use Rattle.pat_io.specs.PatternText.{most_bytes, IsPatternText}
+use Rattle.pat_io.specs.PatternText.{IsPatternText}
 use Rattle.pat_io.specs.ReadAgain.{written}
 
 -- a letter in lower case
@@ -47,4 +48,4 @@ pub record CanBeSpelled (p : Patterns) : Type 0 where
 abbrev pub WrittenIsReadAgain : Type 0
 WrittenIsReadAgain =
     (ports : List Port) (p : Patterns) → AreFor ports p → All (λ port. is_supply port.name.text ≡ false) ports → CanBeSpelled p → time_faults 0 (written 1 p).patterns ≡ []
-    → length (text_of p) ≤ most_bytes → IsPatternText (text_of p) ports p
+    → length (text_of p) ≤ most_source_bytes → IsPatternText (text_of p) ports p

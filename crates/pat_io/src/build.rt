@@ -6,7 +6,7 @@ ghost use Rattle.pat_io.specs.Digits.{bit_range, column_of, value_for, values_fo
 use crate::bits::column_bits;
 use bool_expr::Bits;
 use pat_meaning::{BitRange, Column, Columns, Pattern, PatternList, Patterns, Value, Values};
-use pat_text::{ParsedColumn, ParsedPattern, PatternFile, ParsedValue};
+use pat_text::{ParsedColumn, ParsedPattern, ParsedValue, PatternFile};
 use std::alloc::{AllocError, Global};
 use vlsi_base::{Range, Text};
 
@@ -56,7 +56,11 @@ fn value(alloc: Global, column: &ParsedColumn, digits: Option<&Text>) -> Result<
     }
 }
 
-fn values(alloc: Global, columns: &[ParsedColumn], list: &[ParsedValue]) -> Result<Vec<Value>, AllocError>
+fn values(
+    alloc: Global,
+    columns: &[ParsedColumn],
+    list: &[ParsedValue],
+) -> Result<Vec<Value>, AllocError>
     ensures { IfOk result (λ vs. vs.items ≡ values_for columns.now list.now) }
 {
     let mut values = Vec::new(alloc);
@@ -77,7 +81,11 @@ fn label(alloc: Global, parsed: Option<&Text>) -> Result<Option<Text>, AllocErro
     }
 }
 
-fn pattern(alloc: Global, columns: &[ParsedColumn], parsed: &ParsedPattern) -> Result<Pattern, AllocError>
+fn pattern(
+    alloc: Global,
+    columns: &[ParsedColumn],
+    parsed: &ParsedPattern,
+) -> Result<Pattern, AllocError>
     ensures { IfOk result (λ p. p ≡ pattern_for columns.now parsed.now) }
 {
     let label = label(alloc, parsed.label.as_ref())?;

@@ -4,7 +4,7 @@ ghost use Rattle.std.specs.Option.{option_copied};
 ghost use Rattle.pat_meaning.specs.Answers.{AreFor};
 ghost use Rattle.pat_lexer.specs.Listing.{tokens_in, refusal_in};
 ghost use Rattle.pat_io.specs.Digits.{patterns_for};
-ghost use Rattle.pat_io.specs.PatternText.{most_bytes, unknown_error, line_error, fault_in, OrMemory, IsWritten, IsPatternText, IsPatternRefusal};
+ghost use Rattle.pat_io.specs.PatternText.{unknown_error, line_error, fault_in, OrMemory, IsWritten, IsPatternText, IsPatternRefusal};
 
 use crate::build::patterns;
 use crate::index::Index;
@@ -15,10 +15,9 @@ use pat_lexer::tokens;
 use pat_meaning::Patterns;
 use pat_text::{ParsedColumn, PatternFile, read_patterns};
 use std::alloc::Global;
-use vlsi_base::{FaultKind, InputFault, Limit, LimitKind, Name, Names, Port, Ports, ReadError};
-
-/// The most bytes of a pattern file.
-const MOST_BYTES: usize = 1_048_576;
+use vlsi_base::{
+    FaultKind, InputFault, Limit, LimitKind, MOST_SOURCE_BYTES, Name, Names, Port, Ports, ReadError,
+};
 
 fn unknown(alloc: Global, column: &ParsedColumn) -> ReadError
     ensures { OrMemory (unknown_error (Some column.now)) result }
@@ -71,10 +70,10 @@ fn written(alloc: Global, bytes: &[u8], ports: &Ports) -> Result<PatternFile, Re
     ensures written { IfOk result (λ parsed. IsWritten bytes.now parsed) }
     ensures refused { IfErr result (λ e. IsPatternRefusal bytes.now ports.now e) }
 {
-    if bytes.len() > MOST_BYTES {
+    if bytes.len() > MOST_SOURCE_BYTES {
         return Err(ReadError::Limit(Limit {
             which: LimitKind::File,
-            reached: 1_048_577,
+            reached: MOST_SOURCE_BYTES as u64 + 1,
         }));
     }
     let tokens = tokens(alloc, bytes)?;

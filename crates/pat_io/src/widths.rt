@@ -10,7 +10,7 @@ ghost use Rattle.pat_io.specs.PatternText.{first_line};
 use crate::bits::{column_width, value_fits};
 use crate::index::{Index, has_bit};
 use crate::known::is_supply_input;
-use pat_text::{ParsedColumn, ParsedPattern, PatternFile, ParsedValue};
+use pat_text::{ParsedColumn, ParsedPattern, ParsedValue, PatternFile};
 use std::alloc::{AllocError, Global};
 use vlsi_base::{Dir, Port, Range, is_supply};
 

@@ -8,7 +8,8 @@ ghost use Rattle.pat_lexer.specs.Lexical.{is_letter_or_digit as is_letter_or_dig
 
 use crate::bytes::{is_letter_or_digit, letters_and_digits};
 use lexer_base::{
-    MOST_BYTES, Piece, is_blank, line_length, lower, number, quotation, sign, word_length,
+    MOST_IDENTIFIER_BYTES, Piece, is_blank, line_length, lower, number, quotation, sign,
+    word_length,
 };
 use std::alloc::{AllocError, Global};
 use vhdl_token::{Keyword, Sign, Token};
@@ -35,7 +36,7 @@ fn word(alloc: Global, text: &[u8]) -> Result<Piece, AllocError>
     ensures within { IfOk result (λ piece. IsWithin piece text.now) }
 {
     let length = word_length(text);
-    if length > MOST_BYTES {
+    if length > MOST_IDENTIFIER_BYTES {
         return Ok(Piece::TooLong(length));
     }
     let name = lower(alloc, &text[..length])?;

@@ -7,8 +7,8 @@ ghost use Rattle.pat_text.specs.Reading.{file_behind_at, file_at};
 ghost use Rattle.pat_text.specs.Answers.{syntax_for, IsFile, IsRefusal};
 
 use crate::columns::columns;
-use crate::patterns::patterns;
 use crate::parsed::{ParsedColumn, ParsedColumns, ParsedPatterns, PatternFile};
+use crate::patterns::patterns;
 use grammar_theory::{Form, Reason, Stop};
 use std::alloc::Global;
 use vhdl_front::{Counts, Cursor};

@@ -4,12 +4,13 @@
 mod columns;
 mod file;
 mod law;
-mod patterns;
 mod parsed;
+mod patterns;
 mod words;
 
 pub use file::read_patterns;
 pub use law::{each_text, never_both, one_refusal, reads_once};
 pub use parsed::{
-    ParsedColumn, ParsedColumns, ParsedPattern, ParsedPatterns, PatternFile, ParsedValue, ParsedValues,
+    ParsedColumn, ParsedColumns, ParsedPattern, ParsedPatterns, ParsedValue, ParsedValues,
+    PatternFile,
 };

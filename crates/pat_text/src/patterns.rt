@@ -164,7 +164,10 @@ fn pattern(cursor: &mut Cursor<'_>, columns: &[ParsedColumn]) -> Result<ParsedPa
 
 /// Patterns for these columns, as many as there are.
 #[tactic(auto, unfolding(crate::specs::Reading::patterns_at))]
-pub fn patterns(cursor: &mut Cursor<'_>, columns: &[ParsedColumn]) -> Result<Vec<ParsedPattern>, Stop>
+pub fn patterns(
+    cursor: &mut Cursor<'_>,
+    columns: &[ParsedColumn],
+) -> Result<Vec<ParsedPattern>, Stop>
     ensures { Gives (λ v. v.items) result (at_of cursor.new.counts cursor.new.rest.now) (patterns_at columns.now (at_of cursor.old.counts cursor.old.rest.now)) }
 {
     let mut patterns = Vec::new(cursor.alloc);

@@ -152,28 +152,3 @@ nth_rises text o r k at e within =
     (omega arith, ap (λ (x : Option Range). slice_get (names_in text x) k) at ∙ ap (λ (names : List Name). slice_get names k) (names_rise text r e) ∙ at_rising text r.left n k few)
 
 -- turns of the loops
-pub falling_turn : (last n : ℕ) (bits items total : List (Option ℕ)) → 0 < n → items ≡ bits ++ Some (last + (n - 1)) ∷ [] → bits ++ map (λ (k : ℕ). Some k) (falling last n) ≡ total → items ++ map (λ (k : ℕ). Some k) (falling last (n - 1)) ≡ total
-falling_turn last zero bits items total some pushed so_far = absurd (omega arith)
-falling_turn last (suc m) bits items total some pushed so_far =
-    let same : suc m - 1 ≡ m = omega arith in
-    ap (λ (xs : List (Option ℕ)). xs ++ map (λ (k : ℕ). Some k) (falling last (suc m - 1))) pushed
-    ∙ append_assoc bits (Some (last + (suc m - 1)) ∷ []) (map (λ (k : ℕ). Some k) (falling last (suc m - 1)))
-    ∙ ap (λ j. bits ++ (Some (last + j) ∷ map (λ (k : ℕ). Some k) (falling last j))) same ∙ so_far
-
-pub rising_turn : (next n : ℕ) (bits items total : List (Option ℕ)) → 0 < n → items ≡ bits ++ Some next ∷ [] → bits ++ map (λ (k : ℕ). Some k) (rising next n) ≡ total → items ++ map (λ (k : ℕ). Some k) (rising (next + 1) (n - 1)) ≡ total
-rising_turn next zero bits items total some pushed so_far = absurd (omega arith)
-rising_turn next (suc m) bits items total some pushed so_far =
-    let same : suc m - 1 ≡ m = omega arith in
-    ap (λ (xs : List (Option ℕ)). xs ++ map (λ (k : ℕ). Some k) (rising (next + 1) (suc m - 1))) pushed
-    ∙ append_assoc bits (Some next ∷ []) (map (λ (k : ℕ). Some k) (rising (next + 1) (suc m - 1)))
-    ∙ ap (λ j. bits ++ (Some next ∷ map (λ (k : ℕ). Some k) (rising (next + 1) j))) same ∙ so_far
-
-pub fall_bits : (text : List ℕ) (o : Option Range) (r : Range) (n : ℕ) (items : List (Option ℕ)) → o ≡ Some r → r.falls ≡ true → n ≡ length (range_bits r) → items ≡ map (λ (k : ℕ). Some k) (falling r.right n) → map (named_bit text) items ≡ names_in text o
-fall_bits text o r n items at e count is =
-    let many : n ≡ r.left + 1 - r.right = count ∙ length_of_range r ∙ ap (λ b. cond b (r.left + 1 - r.right) (r.right + 1 - r.left)) e in
-    ap (map (named_bit text)) is ∙ coded text (falling r.right n) ∙ ap (λ j. map (bit_name text) (falling r.right j)) many ∙ sym (names_fall text r e) ∙ ap (names_in text) (sym at)
-
-pub rise_bits : (text : List ℕ) (o : Option Range) (r : Range) (n : ℕ) (items : List (Option ℕ)) → o ≡ Some r → r.falls ≡ false → n ≡ length (range_bits r) → items ≡ map (λ (k : ℕ). Some k) (rising r.left n) → map (named_bit text) items ≡ names_in text o
-rise_bits text o r n items at e count is =
-    let many : n ≡ r.right + 1 - r.left = count ∙ length_of_range r ∙ ap (λ b. cond b (r.left + 1 - r.right) (r.right + 1 - r.left)) e in
-    ap (map (named_bit text)) is ∙ coded text (rising r.left n) ∙ ap (λ j. map (bit_name text) (rising r.left j)) many ∙ sym (names_rise text r e) ∙ ap (names_in text) (sym at)

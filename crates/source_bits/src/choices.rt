@@ -14,8 +14,8 @@ use crate::Numbers;
 use crate::formulas::bits;
 use crate::vectors::{choose_bits, pair};
 use bool_expr::{Expr, Gate};
-use source_meaning::{Choice, Guarded};
 use source_clock::conditions;
+use source_meaning::{Choice, Guarded};
 use std::alloc::{AllocError, Global};
 use vlsi_base::ParsedExpr;
 

@@ -14,7 +14,7 @@ use crate::ranges::{Declared, bits_in, number_in};
 use crate::vectors::{one, operate, opposites};
 use bool_expr::Expr;
 use std::alloc::{AllocError, Global};
-use vlsi_base::{Operator, Radix, Range, ParsedExpr};
+use vlsi_base::{Operator, ParsedExpr, Radix, Range};
 
 /// A bit of a name: a constant for a supply, and else the variable of its number.
 fn leaf(total: u32, declared: Option<Declared>, text: &[u8], bit: Option<u32>) -> Expr
@@ -142,7 +142,12 @@ pub fn bits(alloc: Global, numbers: &Numbers, e: &ParsedExpr) -> Result<Vec<Expr
         }
         ParsedExpr::Name(text, _) => name_bits(alloc, numbers, text.as_bytes()),
         ParsedExpr::Index(text, _, k) => index_bits(alloc, numbers, text.as_bytes(), *k),
-        ParsedExpr::Slice(text, _, range) => range_bits(alloc, numbers, text.as_bytes(), Some(*range)),
+        ParsedExpr::Slice(text, _, range) => range_bits(
+            alloc,
+            numbers,
+            text.as_bytes(),
+            Some(*range),
+        ),
         ParsedExpr::Stable(_, _) => one(alloc, Expr::Const(false)),
         ParsedExpr::Not(_, inner) => {
             let inner = bits(alloc, numbers, inner)?;

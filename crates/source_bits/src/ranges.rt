@@ -1,7 +1,6 @@
 // The bits of one name.
 ghost use Rattle.std.specs.Prelude.{◌≡◌, ◌+◌, ◌<◌, ◌≤◌, ◌^◌, ℕ, List, [], length, map, Some, IfOk};
 ghost use Rattle.std.specs.List.{slice_get};
-ghost use Rattle.vlsi_base.specs.Range.{rising, falling};
 ghost use Rattle.source_meaning.specs.Symbols.{names_in};
 ghost use Rattle.source_bits.specs.Numbering.{named_bit, IsOffset, number_in, LiesWithin};
 
@@ -25,51 +24,26 @@ pub(crate) fn width(range: Option<Range>) -> u64
     }
 }
 
-/// `count` bits that fall to `last`.
-fn falling(alloc: Global, last: u32, count: u64) -> Result<Vec<Option<u32>>, AllocError>
-    requires { last + count ≤ 2 ^ 32 }
-    ensures { IfOk result (λ bits. bits.items ≡ map (λ k. Some k) (falling last count)) }
+/// The bits of these numbers.
+fn numbered(alloc: Global, numbers: &[u32]) -> Result<Vec<Option<u32>>, AllocError>
+    ensures { IfOk result (λ bits. bits.items ≡ map (λ k. Some k) numbers.now) }
 {
     let mut bits = Vec::new(alloc);
-    let mut left = count;
-    while left > 0 {
-        left -= 1;
-        bits.push(Some((u64::from(last) + left) as u32))?;
-    }
-    Ok(bits)
-}
-
-/// `count` bits that rise from `first`.
-fn rising(alloc: Global, first: u32, count: u64) -> Result<Vec<Option<u32>>, AllocError>
-    requires { first + count ≤ 2 ^ 32 }
-    ensures { IfOk result (λ bits. bits.items ≡ map (λ k. Some k) (rising first count)) }
-{
-    let mut bits = Vec::new(alloc);
-    let mut left = count;
-    let mut next = u64::from(first);
-    while left > 0 {
-        bits.push(Some(next as u32))?;
-        left -= 1;
-        next += 1;
+    for number in numbers {
+        bits.push(Some(*number))?;
     }
     Ok(bits)
 }
 
 /// The bits of a name, from the left: `None` for a name without bits.
-#[tactic(auto, using(vlsi_base::proofs::Ranges::length_of_range))]
+#[tactic(auto, using(crate::proofs::Ranging::coded))]
 pub(crate) fn bits_in(alloc: Global, range: Option<Range>) -> Result<Vec<Option<u32>>, AllocError>
     ensures { IfOk result (λ bits. (text : List ℕ) → map (named_bit text) bits.items ≡ names_in text range) }
 {
     match range {
         Some(range) => {
-            let count = range.width();
-            if range.falls {
-                let bits = falling(alloc, range.right, count)?;
-                Ok(bits)
-            } else {
-                let bits = rising(alloc, range.left, count)?;
-                Ok(bits)
-            }
+            let numbers = range.bits(alloc)?;
+            numbered(alloc, &numbers)
         }
         None => {
             let mut bits = Vec::new(alloc);

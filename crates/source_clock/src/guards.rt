@@ -187,7 +187,10 @@ fn collect<'a>(found: &mut Vec<&'a ParsedExpr>, e: &'a ParsedExpr) -> Result<(),
 }
 
 #[cycle(collect)]
-fn collect_all<'a>(found: &mut Vec<&'a ParsedExpr>, others: &'a [(u32, ParsedExpr)]) -> Result<(), AllocError>
+fn collect_all<'a>(
+    found: &mut Vec<&'a ParsedExpr>,
+    others: &'a [(u32, ParsedExpr)],
+) -> Result<(), AllocError>
     ensures { OnOk result (map (λ r. view r.now) found.new.items ≡ map (λ r. view r.now) found.old.items ++ conjuncts_of (map operand_of others.now)) }
 {
     for (_, e) in others {

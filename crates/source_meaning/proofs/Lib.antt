@@ -6,7 +6,6 @@ pub mod FirstLines
 pub mod Measures
 pub mod Marking
 pub mod Least
-pub mod Counting
 pub mod Names
 pub mod Driving
 pub mod DrivenSoFar

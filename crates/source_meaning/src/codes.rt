@@ -1,6 +1,5 @@
 // Bits of one name, by numbers: 0 is the name without a bit, and k + 1 its bit k.
-ghost use Rattle.std.specs.Prelude.{◌≡◌, ◌+◌, ◌==◌, ◌<◌, ◌^◌, map, filter, Some, IfOk, if◌then◌else◌};
-ghost use Rattle.vlsi_base.specs.Range.{rising, falling};
+ghost use Rattle.std.specs.Prelude.{◌≡◌, ◌+◌, map, filter, Some, IfOk, if◌then◌else◌};
 ghost use Rattle.source_meaning.specs.Codes.{codes_in, selected_codes, least_with, least_code, same_bool};
 ghost use Rattle.source_meaning.specs.Marks.{has};
 
@@ -9,49 +8,25 @@ use crate::marks::{Marks, is_marked};
 use std::alloc::{AllocError, Global};
 use vlsi_base::Range;
 
-/// `count` codes of bits that fall to `last`.
-fn falling_codes(alloc: Global, last: u32, count: u64) -> Result<Vec<u64>, AllocError>
-    requires { last + count < 2 ^ 63 }
-    ensures { IfOk result (λ codes. codes.items ≡ map (λ k. k + 1) (falling last count)) }
+/// The codes of bits of these numbers.
+fn codes_of(alloc: Global, bits: &[u32]) -> Result<Vec<u64>, AllocError>
+    ensures { IfOk result (λ codes. codes.items ≡ map (λ k. k + 1) bits.now) }
 {
     let mut codes = Vec::new(alloc);
-    let mut left = count;
-    while left > 0 {
-        left -= 1;
-        codes.push(u64::from(last) + left + 1)?;
-    }
-    Ok(codes)
-}
-
-/// `count` codes of bits that rise from `first`.
-fn rising_codes(alloc: Global, first: u32, count: u64) -> Result<Vec<u64>, AllocError>
-    requires { first + count < 2 ^ 63 }
-    ensures { IfOk result (λ codes. codes.items ≡ map (λ k. k + 1) (rising first count)) }
-{
-    let mut codes = Vec::new(alloc);
-    let mut left = count;
-    let mut next = u64::from(first);
-    while left > 0 {
-        left -= 1;
-        next += 1;
-        codes.push(next)?;
+    for bit in bits {
+        codes.push(u64::from(*bit) + 1)?;
     }
     Ok(codes)
 }
 
 /// The codes of a name's bits, from the left.
-#[tactic(auto, using(vlsi_base::proofs::Ranges::length_of_range))]
 pub fn codes_in(alloc: Global, range: Option<Range>) -> Result<Vec<u64>, AllocError>
     ensures { IfOk result (λ codes. codes.items ≡ codes_in range) }
 {
     match range {
         Some(range) => {
-            let count = range.width();
-            if range.falls {
-                falling_codes(alloc, range.right, count)
-            } else {
-                rising_codes(alloc, range.left, count)
-            }
+            let bits = range.bits(alloc)?;
+            codes_of(alloc, &bits)
         }
         None => {
             let mut codes = Vec::new(alloc);

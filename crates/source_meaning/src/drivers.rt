@@ -182,7 +182,11 @@ fn undriven_bit(
 }
 
 /// The first declared name that has a bit which isn't in the set, with the least such bit.
-fn undriven(alloc: Global, table: &SymbolTable, marks: &Marks) -> Result<Option<NameFault>, AllocError>
+fn undriven(
+    alloc: Global,
+    table: &SymbolTable,
+    marks: &Marks,
+) -> Result<Option<NameFault>, AllocError>
     ensures { IfOk result (λ found. (driven : List Name) → Tied table.now marks.now driven → found ≡ first_undriven driven table.now) }
 {
     let symbols = table.as_slice();

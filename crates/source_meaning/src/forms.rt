@@ -9,8 +9,8 @@ ghost use Rattle.source_meaning.specs.Symbols.{find, symbols};
 ghost use Rattle.source_meaning.specs.Unsupported.{literal_faults, may_drive, assignment_forms, statement_forms, supply_faults, is_resolved, port_form, port_forms, signal_form, signal_forms, all_unsupported};
 
 use crate::symbol_table::{Role, SymbolTable};
-use crate::{Assignment, Guarded, DesignFile, Statement};
-use vlsi_base::{Mode, NewName, PortGroup, Radix, ParsedExpr, SignalGroup, TypeWord, is_supply};
+use crate::{Assignment, DesignFile, Guarded, Statement};
+use vlsi_base::{Mode, NewName, ParsedExpr, PortGroup, Radix, SignalGroup, TypeWord, is_supply};
 
 /// The most bits of a literal.
 const MOST_BITS: usize = 128;

@@ -16,7 +16,7 @@ mod widths;
 pub use drivers::{DriverFault, NameFault, driver_fault};
 pub use forms::unsupported;
 pub use statement::{
-    Assignment, Assignments, Choice, Guarded, GuardedList, BlockStatement, DesignFile, Selection,
+    Assignment, Assignments, BlockStatement, Choice, DesignFile, Guarded, GuardedList, Selection,
     Statement, Statements, Target,
 };
 pub use symbol_table::{Role, Symbol, SymbolTable};

@@ -1,6 +1,6 @@
 // Statements of a data-flow architecture as they are written. All lines are counted from 1.
 
-use vlsi_base::{Declarations, Entity, Listed, Range, ParsedExpr, Text};
+use vlsi_base::{Declarations, Entity, Listed, ParsedExpr, Range, Text};
 
 /// Which bits of its name a target drives.
 #[derive(Clone, Copy, PartialEq, Eq)]

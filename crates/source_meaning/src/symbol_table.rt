@@ -152,7 +152,12 @@ impl SymbolTable {
     {
         let mut items = Vec::new(alloc);
         let mut places = BTreeMap::new(alloc);
-        add_ports(alloc, &mut items, &mut places, design.entity.ports.as_slice())?;
+        add_ports(
+            alloc,
+            &mut items,
+            &mut places,
+            design.entity.ports.as_slice(),
+        )?;
         add_signals(
             alloc,
             &mut items,

@@ -75,7 +75,10 @@ fn unknown_in_guarded<'a>(table: &SymbolTable, guarded: &'a Guarded) -> Option<P
 }
 
 #[tactic(auto, using(crate::proofs::Unknowns::first_unknown_append))]
-fn unknown_in_alternatives<'a>(table: &SymbolTable, alternatives: &'a [Guarded]) -> Option<Place<'a>>
+fn unknown_in_alternatives<'a>(
+    table: &SymbolTable,
+    alternatives: &'a [Guarded],
+) -> Option<Place<'a>>
     ensures { option_map use_of result ≡ first_unknown table.now (in_alternatives reads (λ line e. reads e) alternatives.now) }
 {
     for guarded in alternatives {
@@ -102,7 +105,10 @@ fn unknown_in_assignment<'a>(table: &SymbolTable, assignment: &'a Assignment) ->
 }
 
 #[tactic(auto, using(crate::proofs::Unknowns::first_unknown_append))]
-fn unknown_in_assignments<'a>(table: &SymbolTable, assignments: &'a [Assignment]) -> Option<Place<'a>>
+fn unknown_in_assignments<'a>(
+    table: &SymbolTable,
+    assignments: &'a [Assignment],
+) -> Option<Place<'a>>
     ensures { option_map use_of result ≡ first_unknown table.now (in_assignments assignment_uses assignments.now) }
 {
     for assignment in assignments {

@@ -10,9 +10,9 @@ ghost use Rattle.source_meaning.specs.Widths.{found_width, needs_equal, joined_w
 ghost use Rattle.source_meaning.specs.Places.{in_alternatives, in_choice, in_assignments, in_statements};
 
 use crate::symbol_table::SymbolTable;
-use crate::{Assignment, Choice, Guarded, DesignFile, Selection, Statement, Target};
+use crate::{Assignment, Choice, DesignFile, Guarded, Selection, Statement, Target};
 use std::alloc::AllocError;
-use vlsi_base::{Operator, PortGroup, Radix, Range, ParsedExpr, SignalGroup};
+use vlsi_base::{Operator, ParsedExpr, PortGroup, Radix, Range, SignalGroup};
 
 /// How many bits an expression has, unless something in it is at fault, and the line of its first fault.
 #[derive(Clone, Copy)]
@@ -236,7 +236,11 @@ fn value_fault(table: &SymbolTable, e: &ParsedExpr) -> Result<Option<u32>, Alloc
 
 /// The first fault of a condition, which is one bit wide.
 #[tactic(auto, using(crate::proofs::FirstLines::first_line_append))]
-fn condition_fault(table: &SymbolTable, line: u32, e: &ParsedExpr) -> Result<Option<u32>, AllocError>
+fn condition_fault(
+    table: &SymbolTable,
+    line: u32,
+    e: &ParsedExpr,
+) -> Result<Option<u32>, AllocError>
     ensures { IfOk result (λ found. found ≡ first_line (condition_faults table.now line (view e.now))) }
 {
     let made = measured(table, e)?;
@@ -260,7 +264,10 @@ fn guarded_fault(table: &SymbolTable, guarded: &Guarded) -> Result<Option<u32>, 
     }
 }
 
-fn alternatives_fault(table: &SymbolTable, alternatives: &[Guarded]) -> Result<Option<u32>, AllocError>
+fn alternatives_fault(
+    table: &SymbolTable,
+    alternatives: &[Guarded],
+) -> Result<Option<u32>, AllocError>
     ensures { IfOk result (λ found. found ≡ first_line (in_alternatives (width_faults table.now) (condition_faults table.now) alternatives.now)) }
 {
     for guarded in alternatives {
@@ -359,7 +366,10 @@ fn assignment_fault(table: &SymbolTable, assignment: &Assignment) -> Result<Opti
     }
 }
 
-fn assignments_fault(table: &SymbolTable, assignments: &[Assignment]) -> Result<Option<u32>, AllocError>
+fn assignments_fault(
+    table: &SymbolTable,
+    assignments: &[Assignment],
+) -> Result<Option<u32>, AllocError>
     ensures { IfOk result (λ found. found ≡ first_line (in_assignments (assignment_faults table.now) assignments.now)) }
 {
     for assignment in assignments {
@@ -389,7 +399,10 @@ fn statement_fault(table: &SymbolTable, statement: &Statement) -> Result<Option<
     }
 }
 
-fn statements_fault(table: &SymbolTable, statements: &[Statement]) -> Result<Option<u32>, AllocError>
+fn statements_fault(
+    table: &SymbolTable,
+    statements: &[Statement],
+) -> Result<Option<u32>, AllocError>
     ensures { IfOk result (λ found. found ≡ first_line (in_statements (statement_faults table.now) statements.now)) }
 {
     for statement in statements {

@@ -1,7 +1,8 @@
 // The reader.
 ghost use Rattle.std.specs.Prelude.{◌≡◌, ◌≤◌, None, IfOk, IfErr, length};
 ghost use Rattle.vhdl_lexer.specs.Listing.{tokens_in, refusal_in};
-ghost use Rattle.vbe_io.specs.Text.{most_bytes, IsWritten, IsVbe, IsVbeRefusal};
+ghost use Rattle.vlsi_base.specs.Limits.{most_source_bytes};
+ghost use Rattle.vbe_io.specs.Text.{IsWritten, IsVbe, IsVbeRefusal};
 
 use machine_core::Machine;
 use source_meaning::DesignFile;
@@ -9,22 +10,19 @@ use std::alloc::Global;
 use vbe_text::read_source;
 use vhdl_lexer::tokens;
 use vhdl_token::Tokens;
-use vlsi_base::{Limit, LimitKind, ReadError};
+use vlsi_base::{Limit, LimitKind, MOST_SOURCE_BYTES, ReadError};
 use vlsi_model::check_machine;
-
-/// The most bytes of a text.
-const MOST_BYTES: usize = 1_048_576;
 
 // The tokens of a text that isn't too long.
 fn tokens_of(alloc: Global, bytes: &[u8]) -> Result<Tokens, ReadError>
-    ensures few { IfOk result (λ _. length bytes.now ≤ most_bytes) }
+    ensures few { IfOk result (λ _. length bytes.now ≤ most_source_bytes) }
     ensures cut { IfOk result (λ read. (refusal_in bytes.now ≡ None) × (read ≡ tokens_in bytes.now)) }
     ensures refused { IfErr result (λ e. IsVbeRefusal bytes.now e) }
 {
-    if bytes.len() > MOST_BYTES {
+    if bytes.len() > MOST_SOURCE_BYTES {
         return Err(ReadError::Limit(Limit {
             which: LimitKind::File,
-            reached: 1_048_577,
+            reached: MOST_SOURCE_BYTES as u64 + 1,
         }));
     }
     tokens(alloc, bytes)

@@ -1,9 +1,7 @@
 -- Where a cursor stands, and what tokens carry.
 use Rattle.std.specs.Prelude.{ℕ, Bool, false, List, [], map}
 use Rattle.vlsi_base.specs.declared.radix.Radix.{Radix}
-use Rattle.vlsi_base.specs.declared.radix.Radix.TheVariants as radix
-use Rattle.vlsi_base.specs.declared.radix.Radix.{Radix}
-use Rattle.vlsi_base.specs.declared.radix.Radix.TheVariants as base
+use Rattle.vlsi_base.specs.declared.radix.Radix.TheVariants.{Binary}
 use Rattle.vhdl_token.specs.declared.token.Token.{Token}
 use Rattle.vhdl_token.specs.declared.token.Token.TheVariants as token
 use Rattle.vhdl_token.specs.declared.token.PlacedToken.{PlacedToken}
@@ -52,15 +50,10 @@ digits_in _ = []
 abbrev pub digits_of : PlacedToken → List ℕ
 digits_of t = digits_in t.token
 
--- the base, as expressions have it
-abbrev pub radix_for : Radix → Radix
-radix_for base.Binary = radix.Binary
-radix_for base.Octal = radix.Octal
-radix_for base.Hexadecimal = radix.Hexadecimal
-
+-- the radix of a bit string; the digits of a text are binary
 abbrev pub radix_in : Token → Radix
-radix_in (token.BitString base digits) = radix_for base
-radix_in _ = radix.Binary
+radix_in (token.BitString radix digits) = radix
+radix_in _ = Binary
 
 abbrev pub radix_of : PlacedToken → Radix
 radix_of t = radix_in t.token

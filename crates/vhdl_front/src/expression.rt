@@ -10,8 +10,8 @@ ghost use Rattle.vhdl_front.specs.Reading.{number_at, direction_at, slice_at, pl
 use crate::cursor::{Cursor, name_bytes};
 use grammar_theory::{Form, Stop};
 use std::alloc::Global;
-use vhdl_token::{Radix, Keyword, PlacedToken, Sign, Token};
-use vlsi_base::{Operator, Radix, Range, ParsedExpr, Text};
+use vhdl_token::{Keyword, PlacedToken, Sign, Token};
+use vlsi_base::{Operator, ParsedExpr, Radix, Range, Text};
 
 /// The number that a token is; of another token 0.
 fn number_value(token: &PlacedToken) -> u32
@@ -48,8 +48,7 @@ fn radix_value(token: &PlacedToken) -> Radix
     ensures { result ≡ radix_of token.now }
 {
     match &token.token {
-        Token::BitString(Radix::Octal, _) => Radix::Octal,
-        Token::BitString(Radix::Hexadecimal, _) => Radix::Hexadecimal,
+        Token::BitString(radix, _) => *radix,
         _ => Radix::Binary,
     }
 }
@@ -70,7 +69,12 @@ fn join_two(
 }
 
 /// Operands joined by one operator, or the first alone.
-fn join(alloc: Global, operator: Operator, first: ParsedExpr, others: Vec<(u32, ParsedExpr)>) -> Result<ParsedExpr, Stop>
+fn join(
+    alloc: Global,
+    operator: Operator,
+    first: ParsedExpr,
+    others: Vec<(u32, ParsedExpr)>,
+) -> Result<ParsedExpr, Stop>
     ensures { MatchResult result (λ parsed. view parsed ≡ folded operator (view first) (map operand_of others.items)) (λ e. e ≡ Memory) }
 {
     if others.is_empty() {
@@ -357,7 +361,13 @@ impl Cursor<'_> {
     /// Relations with one operator between them, from the first operator on.
     #[cycle(parser)]
     #[tactic(auto, unfolding(crate::specs::Reading::chain_at))]
-    fn chain(&mut self, form: Form, operator: Operator, left: ParsedExpr, room: u32) -> Result<ParsedExpr, Stop>
+    fn chain(
+        &mut self,
+        form: Form,
+        operator: Operator,
+        left: ParsedExpr,
+        room: u32,
+    ) -> Result<ParsedExpr, Stop>
         ensures { Gives view result (at_of self.new.counts self.new.rest.now) (chain_at form operator (relation_at room (enter_at room)) (view left) (at_of self.old.counts self.old.rest.now)) }
     {
         let first = self.joined_relation(form, room)?;
@@ -368,7 +378,13 @@ impl Cursor<'_> {
     /// One more relation, behind an operator that joins two alone.
     #[cycle(parser)]
     #[tactic(auto, unfolding(crate::specs::Reading::pair_at))]
-    fn pair(&mut self, form: Form, operator: Operator, left: ParsedExpr, room: u32) -> Result<ParsedExpr, Stop>
+    fn pair(
+        &mut self,
+        form: Form,
+        operator: Operator,
+        left: ParsedExpr,
+        room: u32,
+    ) -> Result<ParsedExpr, Stop>
         ensures { Gives view result (at_of self.new.counts self.new.rest.now) (pair_at form operator (relation_at room (enter_at room)) (view left) (at_of self.old.counts self.old.rest.now)) }
     {
         let (line, right) = self.joined_relation(form, room)?;

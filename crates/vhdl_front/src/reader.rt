@@ -15,8 +15,8 @@ use grammar_theory::{Breach, CHAIN, DEPTH, Reason, Stop};
 use std::alloc::{AllocError, Global};
 use vhdl_token::{PlacedToken, Token, Tokens};
 use vlsi_base::{
-    Declarations, Entity, FaultKind, InputFault, Limit, LimitKind, Name, Names, Pragmas, ParsedExpr,
-    ReadError, Text,
+    Declarations, Entity, FaultKind, InputFault, Limit, LimitKind, Name, Names, ParsedExpr,
+    Pragmas, ReadError, Text,
 };
 
 /// The names, once more.

@@ -7,7 +7,7 @@ ghost use Rattle.lexer_base.specs.Bytes.{is_in_word};
 ghost use Rattle.vhdl_lexer.specs.Words.{is_spelled_as_identifier, identifier_of, both, first_word, after_word, without_return, pragma_of};
 
 use crate::blanks::{blanks, unblanked};
-use lexer_base::{MOST_BYTES, is_in_word, lower};
+use lexer_base::{MOST_IDENTIFIER_BYTES, is_in_word, lower};
 use std::alloc::{AllocError, Global};
 use vhdl_token::Keyword;
 use vlsi_base::Text;
@@ -22,7 +22,7 @@ fn all_in_word(word: &[u8]) -> bool
 fn is_spelled_as_identifier(word: &[u8]) -> bool
     ensures { result ≡ is_spelled_as_identifier word.now }
 {
-    if word.is_empty() || !word[0].is_ascii_alphabetic() || word.len() > MOST_BYTES {
+    if word.is_empty() || !word[0].is_ascii_alphabetic() || word.len() > MOST_IDENTIFIER_BYTES {
         return false;
     }
     all_in_word(word)

@@ -7,12 +7,12 @@ ghost use Rattle.vhdl_lexer.specs.Lexical.{base_of, bit_string_at, word_at, comm
 
 use crate::comment::pragma;
 use lexer_base::{
-    MOST_BYTES, Piece, is_blank, line_length, lower, number, quotation, quoted_length, sign,
-    word_length,
+    MOST_IDENTIFIER_BYTES, Piece, is_blank, line_length, lower, number, quotation, quoted_length,
+    sign, word_length,
 };
 use std::alloc::{AllocError, Global};
-use vhdl_token::{Radix, Keyword, Token};
-use vlsi_base::Text;
+use vhdl_token::{Keyword, Token};
+use vlsi_base::{Radix, Text};
 
 /// The base that a letter before a double quote stands for.
 fn base_of(letter: u8) -> Option<Radix>
@@ -34,7 +34,7 @@ fn word(alloc: Global, text: &[u8]) -> Result<Piece, AllocError>
     ensures within { IfOk result (λ piece. IsWithin piece text.now) }
 {
     let length = word_length(text);
-    if length > MOST_BYTES {
+    if length > MOST_IDENTIFIER_BYTES {
         return Ok(Piece::TooLong(length));
     }
     let name = lower(alloc, &text[..length])?;

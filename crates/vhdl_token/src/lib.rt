@@ -5,4 +5,4 @@ mod keyword;
 mod token;
 
 pub use keyword::Keyword;
-pub use token::{Radix, PlacedToken, PlacedTokens, Sign, Token, Tokens};
+pub use token::{PlacedToken, PlacedTokens, Sign, Token, Tokens};

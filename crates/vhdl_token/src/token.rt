@@ -3,7 +3,7 @@ ghost use Rattle.std.specs.Prelude.{◌≡◌};
 ghost use Rattle.vhdl_token.specs.Signs.{sign_text};
 
 use crate::Keyword;
-use vlsi_base::{Listed, Pragmas, Text};
+use vlsi_base::{Listed, Pragmas, Radix, Text};
 
 /// A sign of punctuation or an operator's sign.
 #[derive(Clone, Copy, PartialEq, Eq)]
@@ -72,14 +72,6 @@ impl Sign {
             Sign::Star => "*",
         }
     }
-}
-
-/// The base of a bit string: 1, 3 or 4 bits a digit.
-#[derive(Clone, Copy, PartialEq, Eq)]
-pub enum Radix {
-    Binary,
-    Octal,
-    Hexadecimal,
 }
 
 /// The smallest part of a text that means something.

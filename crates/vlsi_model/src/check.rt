@@ -23,7 +23,11 @@ use vlsi_base::{Limit, LimitKind, Port, ReadError};
 const MOST_PORTS: usize = 4096;
 
 /// An order of the definitions in which each reads only what is known before it, or a ring of them.
-fn definition_order(alloc: Global, source: &Source, design: &DesignFile) -> Result<Order, AllocError>
+fn definition_order(
+    alloc: Global,
+    source: &Source,
+    design: &DesignFile,
+) -> Result<Order, AllocError>
     requires source { IsSourceOf design.now source.now }
     requires sound { first_fault design.now ≡ None }
     ensures { IfOk result (λ o. IsOrderOfSource design.now o) }
@@ -87,7 +91,11 @@ fn without_ring(
 }
 
 /// The machine of a source in which no check before that for rings fails.
-fn sound_machine(alloc: Global, table: SymbolTable, design: &DesignFile) -> Result<Machine, ReadError>
+fn sound_machine(
+    alloc: Global,
+    table: SymbolTable,
+    design: &DesignFile,
+) -> Result<Machine, ReadError>
     requires known { table ≡ symbols design.now }
     requires sound { first_fault design.now ≡ None }
     ensures machine { IfOk result (λ m. Passes design.now × IsMachineOf design.now m) }

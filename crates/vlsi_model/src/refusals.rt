@@ -5,11 +5,11 @@ ghost use Rattle.source_meaning.specs.Symbols.{symbols};
 ghost use Rattle.vlsi_model.specs.Stages.{name_fault, driver_fault, shape_fault, form_fault};
 
 use crate::faults::{line_fault, name_fault, text_fault};
+use source_clock::clock_fault;
 use source_meaning::{
-    DriverFault, DesignFile, SymbolTable, driver_fault as find_driver_fault, repeated, unknown,
+    DesignFile, DriverFault, SymbolTable, driver_fault as find_driver_fault, repeated, unknown,
     unsupported, width_fault,
 };
-use source_clock::clock_fault;
 use std::alloc::{AllocError, Global};
 use vlsi_base::{FaultKind, ReadError};
 

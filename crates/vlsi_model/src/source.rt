@@ -7,8 +7,8 @@ ghost use Rattle.source_meaning.specs.Symbols.{symbols, scalar};
 ghost use Rattle.vlsi_model.specs.Sources.{IsSourceOf};
 
 use source_bits::{DrivenBit, Numbers, StoredBit, driven_bits, stored_bits};
-use source_meaning::{DesignFile, SymbolTable};
 use source_clock::clock;
+use source_meaning::{DesignFile, SymbolTable};
 use std::alloc::{AllocError, Global};
 use vlsi_base::{Name, Text};
 
@@ -55,7 +55,12 @@ fn with_clock(
     ensures { IfOk result (λ s. IsSourceOf design.now s) }
 {
     let driven = driven_bits(alloc, &numbers, design.statements.as_slice())?;
-    let stored = stored_bits(alloc, &numbers, bytes_of(clock), design.statements.as_slice())?;
+    let stored = stored_bits(
+        alloc,
+        &numbers,
+        bytes_of(clock),
+        design.statements.as_slice(),
+    )?;
     let clock = name_of(alloc, clock)?;
     Ok(Source {
         numbers,
@@ -66,7 +71,11 @@ fn with_clock(
 }
 
 /// A source whose declared names are these.
-pub fn elaborated(alloc: Global, table: SymbolTable, design: &DesignFile) -> Result<Source, AllocError>
+pub fn elaborated(
+    alloc: Global,
+    table: SymbolTable,
+    design: &DesignFile,
+) -> Result<Source, AllocError>
     requires known { table ≡ symbols design.now }
     requires different { AllDifferent (map (λ s. s.text) (symbols design.now)) }
     ensures { IfOk result (λ s. IsSourceOf design.now s) }
