@@ -2,7 +2,7 @@
 use Rattle.std.specs.Prelude.{◌≡◌, ℕ, ◌+◌, ◌<◌, ◌≤◌, Bool, false, List, [], ◌∷◌, ◌++◌, map, length, count_by, nat_eq}
 use Rattle.vlsi_base.specs.declared.name.Name.{Name}
 use Rattle.machine_meaning.specs.Machine.{Machine}
-use Rattle.machine_core.specs.Size.{machine_size}
+use Rattle.machine_meaning.specs.Size.{machine_size}
 use Rattle.layout_meaning.specs.Member.{In}
 use Rattle.layout_meaning.specs.Library.{Cell, Library, cell_inputs, cell_outputs}
 use Rattle.layout_meaning.specs.Netlist.{Member, Netlist, pin_of}

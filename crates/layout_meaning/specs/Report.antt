@@ -3,7 +3,7 @@ use Rattle.std.specs.Prelude.{ℕ, List, [], ◌∷◌, ◌++◌, length, Some, 
 use Prim.Native.Nat.{suc}
 use Rattle.std.specs.Fmt.{decimal}
 use Rattle.machine_meaning.specs.Machine.{Machine, Register}
-use Rattle.machine_core.specs.Size.{machine_size}
+use Rattle.machine_meaning.specs.Size.{machine_size}
 use Rattle.ap_io.specs.Spelling.{together, line_end, name_text}
 use Rattle.layout_meaning.specs.Library.{Library}
 use Rattle.layout_meaning.specs.Netlist.{Netlist}

@@ -6,7 +6,7 @@ use Rattle.vlsi_base.specs.declared.name.Port.{Port}
 use Rattle.bool_expr.specs.Expression.{size_of}
 use Rattle.bool_expr.specs.View.{view}
 use Rattle.machine_meaning.specs.Machine.{Machine, Equation, Register, is_input}
-use Rattle.machine_core.specs.Size.{machine_size}
+use Rattle.machine_meaning.specs.Size.{machine_size}
 use Rattle.machine_meaning.specs.declared.equation.Equation.{Equation as EquationParts}
 use Rattle.machine_meaning.specs.declared.equation.Register.{Register as RegisterParts}
 use Rattle.machine_core.specs.View.{equation_view, register_view}

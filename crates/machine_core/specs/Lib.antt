@@ -3,4 +3,3 @@ pub mod Built
 pub mod Checked
 pub mod Code
 pub mod View
-pub mod Size

@@ -4,7 +4,7 @@ ghost use Rattle.std.specs.List.{sum_by};
 ghost use Rattle.bool_expr.specs.Expression.{size_of};
 ghost use Rattle.bool_expr.specs.View.{view};
 ghost use Rattle.machine_meaning.specs.Machine.{is_input};
-ghost use Rattle.machine_core.specs.Size.{machine_size};
+ghost use Rattle.machine_meaning.specs.Size.{machine_size};
 
 use crate::Machine;
 use bool_expr::size;

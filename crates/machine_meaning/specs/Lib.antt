@@ -2,3 +2,4 @@ pub mod Named
 pub mod Machine
 pub mod Runs
 pub mod Cycles
+pub mod Size

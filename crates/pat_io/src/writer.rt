@@ -1,7 +1,7 @@
 // The writer: columns and patterns in the one spelling.
 ghost use Rattle.std.specs.Prelude.{◌≡◌, ◌≤◌, ◌<◌, ◌+◌, ◌*◌, if◌then◌else◌, ◌++◌, ◌∷◌, [], length, codes, IfOk, OnOk};
 ghost use Rattle.std.specs.Fmt.{decimal};
-ghost use Rattle.pat_io.specs.Spelling.{item_end as end_of_item, word_of, range_text, format_text, dir_text, column_text, columns_text, bits_of, number_from, digit_of, digits_text, bits_text, mark_text, value_text, values_text, unit_text, sign_text, time_text, label_text, pattern_text, patterns_text, text_of};
+ghost use Rattle.pat_io.specs.Spelling.{item_end as end_of_item, word_of, range_text, format_text, dir_text, column_text, columns_text, number_from, digit_of, digits_text, bits_text, mark_text, value_text, values_text, unit_text, sign_text, time_text, label_text, pattern_text, patterns_text, text_of};
 
 use crate::bits::digit_width;
 use pat_meaning::{BitRange, Column, Format, Pattern, Patterns, Time, TimeUnit, Value};
