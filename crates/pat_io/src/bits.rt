@@ -1,5 +1,5 @@
 // The bits that digits spell.
-ghost use Rattle.std.specs.Prelude.{◌≡◌, ◌++◌, ◌≤◌, ◌^◌, Some, not, IfOk, OnOk};
+ghost use Rattle.std.specs.Prelude.{◌≡◌, ◌++◌, ◌<◌, ◌≤◌, ◌^◌, Some, not, IfOk, OnOk};
 ghost use Rattle.std.specs.Option.{option_copied};
 ghost use Rattle.std.specs.List.{list_all};
 ghost use Rattle.pat_io.specs.Spelling.{bits_of};
@@ -33,8 +33,10 @@ fn digit_value(digit: u8) -> u8
 }
 
 /// How many bits a digit has.
-fn digit_width(format: Format) -> usize
-    ensures { result ≡ bits_of format }
+pub fn digit_width(format: Format) -> usize
+    ensures count { result ≡ bits_of format }
+    ensures some { 0 < result }
+    ensures few { result ≤ 4 }
 {
     match format {
         Format::Binary => 1,

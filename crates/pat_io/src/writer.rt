@@ -3,6 +3,7 @@ ghost use Rattle.std.specs.Prelude.{◌≡◌, ◌≤◌, ◌<◌, ◌+◌, ◌*
 ghost use Rattle.std.specs.Fmt.{decimal};
 ghost use Rattle.pat_io.specs.Spelling.{item_end as end_of_item, word_of, range_text, format_text, dir_text, column_text, columns_text, bits_of, number_from, digit_of, digits_text, bits_text, mark_text, value_text, values_text, unit_text, sign_text, time_text, label_text, pattern_text, patterns_text, text_of};
 
+use crate::bits::digit_width;
 use pat_meaning::{BitRange, Column, Format, Pattern, Patterns, Time, TimeUnit, Value};
 use std::alloc::{AllocError, Global};
 use vlsi_base::{Dir, FileBytes, Text};
@@ -88,18 +89,6 @@ fn columns(alloc: Global, out: &mut FileBytes, items: &[Column]) -> Result<(), A
     Ok(())
 }
 
-fn digit_bits(format: Format) -> usize
-    ensures count { result ≡ bits_of format }
-    ensures some { 0 < result }
-    ensures few { result ≤ 4 }
-{
-    match format {
-        Format::Binary => 1,
-        Format::Octal => 3,
-        Format::Hexadecimal => 4,
-    }
-}
-
 fn twice(value: u8, bit: bool) -> u8
     requires { value < 8 }
     ensures { result ≡ 2 * value + (if bit then 1 else 0) }
@@ -127,7 +116,7 @@ fn digit(bits: &[bool]) -> u8
 fn digits(out: &mut FileBytes, format: Format, bits: &[bool]) -> Result<(), AllocError>
     ensures { OnOk result (out.new ≡ out.old ++ bits_text format bits.now) }
 {
-    let each = digit_bits(format);
+    let each = digit_width(format);
     let count = bits.len().div_ceil(each);
     let mut rest = bits;
     for step in 0..count {

@@ -1,5 +1,5 @@
-//! Data-flow texts: their statements as they are written, their declared names, the checks of names, widths, drivers and
-//! forms, and the size of a machine.
+//! Data-flow sources: their statements as they are written, their symbol table, what they mean, and the checks of names,
+//! widths, drivers and forms.
 #![tactic(auto)]
 
 mod codes;
