@@ -1,7 +1,6 @@
 // Reading whole pattern files.
 ghost use Rattle.std.specs.Prelude.{◌≡◌, IfOk, IfErr};
 ghost use Rattle.grammar_theory.specs.Outcome.{Gives, finish};
-ghost use Rattle.vhdl_front.specs.Front.{line_left};
 ghost use Rattle.pat_text.specs.Reading.{file_behind_at, file_at};
 ghost use Rattle.pat_text.specs.Answers.{syntax_for, IsFile, IsRefusal};
 
@@ -10,7 +9,7 @@ use crate::parsed::{ParsedColumn, ParsedColumns, ParsedPatterns, PatternFile};
 use crate::patterns::patterns;
 use grammar_theory::{Form, Reason, Stop};
 use std::alloc::Global;
-use vhdl_front::Cursor;
+use vhdl_front::{Cursor, line_of};
 use vhdl_token::{Keyword, Sign, Tokens};
 use vlsi_base::{FaultKind, InputFault, Names, ReadError};
 
@@ -48,24 +47,12 @@ fn whole_file(cursor: &mut Cursor<'_>) -> Result<PatternFile, Stop>
     Ok(parsed)
 }
 
-/// The line of the token from which on so many are left; the end stands on the last line.
-fn line_of(tokens: &Tokens, left: usize) -> u32
-    ensures { result ≡ line_left tokens.now.last_line tokens.now.items left }
-{
-    let all = tokens.items.as_slice();
-    let rest = &all[all.len().saturating_sub(left)..];
-    match rest.first() {
-        Some(token) => token.line,
-        None => tokens.last_line,
-    }
-}
-
 /// The refusal of the token from which on so many are left.
 fn syntax(alloc: Global, tokens: &Tokens, left: usize) -> ReadError
     ensures { result ≡ syntax_for tokens.now left }
 {
     ReadError::Input(InputFault {
-        line: line_of(tokens, left),
+        line: line_of(tokens.last_line, tokens.items.as_slice(), left),
         kind: FaultKind::Syntax,
         names: Names::new(Vec::new(alloc)),
     })

@@ -10,4 +10,4 @@ mod reader;
 
 pub use cursor::{Cursor, name_bytes};
 pub use laws::one_answer;
-pub use reader::{TokenReader, stop_error};
+pub use reader::{TokenReader, line_of, stop_error};

@@ -48,8 +48,8 @@ fn repeat(alloc: Global, error: &ReadError) -> ReadError
     }
 }
 
-/// The line of the token from which on so many are left.
-fn line_of(last_line: u32, tokens: &[PlacedToken], left: usize) -> u32
+/// The line of the token from which on so many are left; the end stands on the last line.
+pub fn line_of(last_line: u32, tokens: &[PlacedToken], left: usize) -> u32
     ensures { result ≡ line_left last_line tokens.now left }
 {
     let rest = &tokens[tokens.len().saturating_sub(left)..];
