@@ -79,14 +79,9 @@ fn read(alloc: Global, text: &[u8]) -> Result<Counts, ReadError> {
 }
 
 fn push_name(alloc: Global, line: &mut Text, name: &Name) -> Result<(), AllocError> {
+    let text = name.to_text(alloc)?;
     line.append(b" ")?;
-    line.append(name.text.as_bytes())?;
-    if let Some(bit) = name.bit {
-        line.append(b"(")?;
-        push_u64(alloc, line, u64::from(bit))?;
-        line.append(b")")?;
-    }
-    Ok(())
+    line.append(text.as_bytes())
 }
 
 fn push_counts(alloc: Global, line: &mut Text, counts: &Counts) -> Result<(), AllocError> {

@@ -7,8 +7,6 @@ use Rattle.grammar_theory.specs.declared.refusal.Refusal.{Refusal}
 use Rattle.grammar_theory.specs.Outcome.{At, Outcome, start, finish}
 use Rattle.grammar_theory.specs.Answers.{tokens_of, Rejects, AnswersAll}
 use Rattle.grammar_theory.proofs.End.{answers_all}
-use Rattle.vhdl_front.specs.Cursor.{at_of}
-use Rattle.vhdl_front.specs.declared.counts.Counts.{Counts}
 use Rattle.pat_text.specs.declared.parsed.PatternFile.{PatternFile}
 use Rattle.pat_text.specs.Patterns.{file}
 use Rattle.pat_text.specs.Reading.{file_at}

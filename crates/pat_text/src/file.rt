@@ -1,8 +1,6 @@
 // Reading whole pattern files.
 ghost use Rattle.std.specs.Prelude.{◌≡◌, IfOk, IfErr};
 ghost use Rattle.grammar_theory.specs.Outcome.{Gives, finish};
-ghost use Rattle.vhdl_front.specs.Cursor.{at_of};
-ghost use Rattle.vhdl_front.specs.Front.{line_left};
 ghost use Rattle.pat_text.specs.Reading.{file_behind_at, file_at};
 ghost use Rattle.pat_text.specs.Answers.{syntax_for, IsFile, IsRefusal};
 
@@ -11,14 +9,14 @@ use crate::parsed::{ParsedColumn, ParsedColumns, ParsedPatterns, PatternFile};
 use crate::patterns::patterns;
 use grammar_theory::{Form, Reason, Stop};
 use std::alloc::Global;
-use vhdl_front::{Counts, Cursor};
+use vhdl_front::{Cursor, line_of};
 use vhdl_token::{Keyword, Sign, Tokens};
 use vlsi_base::{FaultKind, InputFault, Names, ReadError};
 
 /// What stands behind the columns.
 #[tactic(auto, unfolding(crate::specs::Reading::file_behind_at))]
 fn file_behind(cursor: &mut Cursor<'_>, columns: Vec<ParsedColumn>) -> Result<PatternFile, Stop>
-    ensures { Gives (λ f. f) result (at_of cursor.new.counts cursor.new.rest.now) (file_behind_at columns.items (at_of cursor.old.counts cursor.old.rest.now)) }
+    ensures { Gives (λ f. f) result cursor.new (file_behind_at columns.items cursor.old) }
 {
     let _begin = cursor.take(Form::Keyword(Keyword::Begin))?;
     let patterns = patterns(cursor, &columns)?;
@@ -32,7 +30,7 @@ fn file_behind(cursor: &mut Cursor<'_>, columns: Vec<ParsedColumn>) -> Result<Pa
 
 #[tactic(auto, unfolding(crate::specs::Reading::file_at))]
 fn file(cursor: &mut Cursor<'_>) -> Result<PatternFile, Stop>
-    ensures { Gives (λ f. f) result (at_of cursor.new.counts cursor.new.rest.now) (file_at (at_of cursor.old.counts cursor.old.rest.now)) }
+    ensures { Gives (λ f. f) result cursor.new (file_at cursor.old) }
 {
     let columns = columns(cursor)?;
     file_behind(cursor, columns)
@@ -40,25 +38,13 @@ fn file(cursor: &mut Cursor<'_>) -> Result<PatternFile, Stop>
 
 /// A file with nothing behind it.
 fn whole_file(cursor: &mut Cursor<'_>) -> Result<PatternFile, Stop>
-    ensures { Gives (λ f. f) result (at_of cursor.new.counts cursor.new.rest.now) (finish (file_at (at_of cursor.old.counts cursor.old.rest.now))) }
+    ensures { Gives (λ f. f) result cursor.new (finish (file_at cursor.old)) }
 {
     let parsed = file(cursor)?;
-    if !cursor.rest.is_empty() {
+    if !cursor.rest().is_empty() {
         return Err(cursor.refuse(Reason::Syntax));
     }
     Ok(parsed)
-}
-
-/// The line of the token from which on so many are left; the end stands on the last line.
-fn line_of(tokens: &Tokens, left: usize) -> u32
-    ensures { result ≡ line_left tokens.now.last_line tokens.now.items left }
-{
-    let all = tokens.items.as_slice();
-    let rest = &all[all.len().saturating_sub(left)..];
-    match rest.first() {
-        Some(token) => token.line,
-        None => tokens.last_line,
-    }
 }
 
 /// The refusal of the token from which on so many are left.
@@ -66,7 +52,7 @@ fn syntax(alloc: Global, tokens: &Tokens, left: usize) -> ReadError
     ensures { result ≡ syntax_for tokens.now left }
 {
     ReadError::Input(InputFault {
-        line: line_of(tokens, left),
+        line: line_of(tokens.last_line, tokens.items.as_slice(), left),
         kind: FaultKind::Syntax,
         names: Names::new(Vec::new(alloc)),
     })
@@ -82,11 +68,7 @@ pub fn read_patterns(alloc: Global, tokens: &Tokens) -> Result<PatternFile, Read
     ensures read { IfOk result (λ parsed. IsFile tokens.now.items parsed) }
     ensures refused { IfErr result (λ e. IsRefusal tokens.now e) }
 {
-    let mut cursor = Cursor {
-        rest: tokens.items.as_slice(),
-        counts: Counts::new(alloc),
-        alloc,
-    };
+    let mut cursor = Cursor::new(alloc, tokens.items.as_slice());
     match whole_file(&mut cursor) {
         Ok(parsed) => Ok(parsed),
         Err(Stop::Memory) => Err(ReadError::Memory),

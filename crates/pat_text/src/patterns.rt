@@ -1,7 +1,6 @@
 // Reading patterns.
 ghost use Rattle.std.specs.Prelude.{◌≡◌};
 ghost use Rattle.grammar_theory.specs.Outcome.{Gives};
-ghost use Rattle.vhdl_front.specs.Cursor.{at_of};
 ghost use Rattle.pat_text.specs.Reading.{given_at, anything_at, wanted_at, expected_at, value_at, values_at, plus_at, added_at, stamp_at, labelled_at, label_at, pattern_at, patterns_at};
 
 use crate::parsed::{ParsedColumn, ParsedPattern, ParsedValue, ParsedValues};
@@ -15,10 +14,10 @@ use vlsi_base::{Dir, Text};
 /// A value of an input.
 #[tactic(auto, unfolding(crate::specs::Reading::given_at))]
 fn given(cursor: &mut Cursor<'_>, format: Format) -> Result<ParsedValue, Stop>
-    ensures { Gives (λ v. v) result (at_of cursor.new.counts cursor.new.rest.now) (given_at format (at_of cursor.old.counts cursor.old.rest.now)) }
+    ensures { Gives (λ v. v) result cursor.new (given_at format cursor.old) }
 {
     let token = digits(cursor, format)?;
-    let digits = Text::from_bytes(cursor.alloc, text_of(token))?;
+    let digits = Text::from_bytes(cursor.alloc(), text_of(token))?;
     Ok(ParsedValue {
         line: token.line,
         digits: Some(digits),
@@ -28,7 +27,7 @@ fn given(cursor: &mut Cursor<'_>, format: Format) -> Result<ParsedValue, Stop>
 /// The star behind a question mark on this line.
 #[tactic(auto, unfolding(crate::specs::Reading::anything_at))]
 fn anything(cursor: &mut Cursor<'_>, line: u32) -> Result<ParsedValue, Stop>
-    ensures { Gives (λ v. v) result (at_of cursor.new.counts cursor.new.rest.now) (anything_at line (at_of cursor.old.counts cursor.old.rest.now)) }
+    ensures { Gives (λ v. v) result cursor.new (anything_at line cursor.old) }
 {
     let _star = cursor.take(Form::Sign(Sign::Star))?;
     Ok(ParsedValue { line, digits: None })
@@ -37,10 +36,10 @@ fn anything(cursor: &mut Cursor<'_>, line: u32) -> Result<ParsedValue, Stop>
 /// The digits behind a question mark on this line.
 #[tactic(auto, unfolding(crate::specs::Reading::wanted_at))]
 fn wanted(cursor: &mut Cursor<'_>, line: u32, format: Format) -> Result<ParsedValue, Stop>
-    ensures { Gives (λ v. v) result (at_of cursor.new.counts cursor.new.rest.now) (wanted_at line format (at_of cursor.old.counts cursor.old.rest.now)) }
+    ensures { Gives (λ v. v) result cursor.new (wanted_at line format cursor.old) }
 {
     let token = digits(cursor, format)?;
-    let digits = Text::from_bytes(cursor.alloc, text_of(token))?;
+    let digits = Text::from_bytes(cursor.alloc(), text_of(token))?;
     Ok(ParsedValue {
         line,
         digits: Some(digits),
@@ -50,7 +49,7 @@ fn wanted(cursor: &mut Cursor<'_>, line: u32, format: Format) -> Result<ParsedVa
 /// A value of an output.
 #[tactic(auto, unfolding(crate::specs::Reading::expected_at))]
 fn expected(cursor: &mut Cursor<'_>, format: Format) -> Result<ParsedValue, Stop>
-    ensures { Gives (λ v. v) result (at_of cursor.new.counts cursor.new.rest.now) (expected_at format (at_of cursor.old.counts cursor.old.rest.now)) }
+    ensures { Gives (λ v. v) result cursor.new (expected_at format cursor.old) }
 {
     let line = cursor.take(Form::Sign(Sign::Question))?.line;
     if cursor.at(Form::Sign(Sign::Star)) {
@@ -62,7 +61,7 @@ fn expected(cursor: &mut Cursor<'_>, format: Format) -> Result<ParsedValue, Stop
 
 #[tactic(auto, unfolding(crate::specs::Reading::value_at))]
 fn value(cursor: &mut Cursor<'_>, dir: Dir, format: Format) -> Result<ParsedValue, Stop>
-    ensures { Gives (λ v. v) result (at_of cursor.new.counts cursor.new.rest.now) (value_at dir format (at_of cursor.old.counts cursor.old.rest.now)) }
+    ensures { Gives (λ v. v) result cursor.new (value_at dir format cursor.old) }
 {
     match dir {
         Dir::In => given(cursor, format),
@@ -72,9 +71,9 @@ fn value(cursor: &mut Cursor<'_>, dir: Dir, format: Format) -> Result<ParsedValu
 
 /// A value for each column, and a semicolon.
 fn values(cursor: &mut Cursor<'_>, columns: &[ParsedColumn]) -> Result<Vec<ParsedValue>, Stop>
-    ensures { Gives (λ v. v.items) result (at_of cursor.new.counts cursor.new.rest.now) (values_at columns.now (at_of cursor.old.counts cursor.old.rest.now)) }
+    ensures { Gives (λ v. v.items) result cursor.new (values_at columns.now cursor.old) }
 {
-    let mut values = Vec::new(cursor.alloc);
+    let mut values = Vec::new(cursor.alloc());
     for column in columns {
         let next = value(cursor, column.dir, column.format)?;
         values.push(next)?;
@@ -86,7 +85,7 @@ fn values(cursor: &mut Cursor<'_>, columns: &[ParsedColumn]) -> Result<Vec<Parse
 /// Whether a time is added to that of the pattern before.
 #[tactic(auto, unfolding(crate::specs::Reading::added_at, crate::specs::Reading::plus_at))]
 fn added(cursor: &mut Cursor<'_>) -> Result<bool, Stop>
-    ensures { Gives (λ b. b) result (at_of cursor.new.counts cursor.new.rest.now) (added_at (at_of cursor.old.counts cursor.old.rest.now)) }
+    ensures { Gives (λ b. b) result cursor.new (added_at cursor.old) }
 {
     if cursor.at(Form::Sign(Sign::Plus)) {
         let _plus = cursor.take(Form::Sign(Sign::Plus))?;
@@ -99,7 +98,7 @@ fn added(cursor: &mut Cursor<'_>) -> Result<bool, Stop>
 /// A time, and the line on which it begins.
 #[tactic(auto, unfolding(crate::specs::Reading::stamp_at))]
 fn stamp(cursor: &mut Cursor<'_>) -> Result<(u32, Time), Stop>
-    ensures { Gives (λ s. s) result (at_of cursor.new.counts cursor.new.rest.now) (stamp_at (at_of cursor.old.counts cursor.old.rest.now)) }
+    ensures { Gives (λ s. s) result cursor.new (stamp_at cursor.old) }
 {
     let line = cursor.take(Form::Sign(Sign::Less))?.line;
     let is_added = added(cursor)?;
@@ -118,17 +117,17 @@ fn stamp(cursor: &mut Cursor<'_>) -> Result<(u32, Time), Stop>
 
 #[tactic(auto, unfolding(crate::specs::Reading::labelled_at))]
 fn labelled(cursor: &mut Cursor<'_>, form: Form) -> Result<Option<Text>, Stop>
-    ensures { Gives (λ l. l) result (at_of cursor.new.counts cursor.new.rest.now) (labelled_at form (at_of cursor.old.counts cursor.old.rest.now)) }
+    ensures { Gives (λ l. l) result cursor.new (labelled_at form cursor.old) }
 {
     let token = cursor.take(form)?;
-    let label = Text::from_bytes(cursor.alloc, text_of(token))?;
+    let label = Text::from_bytes(cursor.alloc(), text_of(token))?;
     Ok(Some(label))
 }
 
 /// A word, or nothing.
 #[tactic(auto, unfolding(crate::specs::Reading::label_at))]
 fn label(cursor: &mut Cursor<'_>) -> Result<Option<Text>, Stop>
-    ensures { Gives (λ l. l) result (at_of cursor.new.counts cursor.new.rest.now) (label_at (at_of cursor.old.counts cursor.old.rest.now)) }
+    ensures { Gives (λ l. l) result cursor.new (label_at cursor.old) }
 {
     if cursor.at(Form::Keyword(Keyword::In)) {
         labelled(cursor, Form::Keyword(Keyword::In))
@@ -148,7 +147,7 @@ fn label(cursor: &mut Cursor<'_>) -> Result<Option<Text>, Stop>
 /// A pattern for these columns.
 #[tactic(auto, unfolding(crate::specs::Reading::pattern_at))]
 fn pattern(cursor: &mut Cursor<'_>, columns: &[ParsedColumn]) -> Result<ParsedPattern, Stop>
-    ensures { Gives (λ p. p) result (at_of cursor.new.counts cursor.new.rest.now) (pattern_at columns.now (at_of cursor.old.counts cursor.old.rest.now)) }
+    ensures { Gives (λ p. p) result cursor.new (pattern_at columns.now cursor.old) }
 {
     let (line, time) = stamp(cursor)?;
     let label = label(cursor)?;
@@ -168,9 +167,9 @@ pub fn patterns(
     cursor: &mut Cursor<'_>,
     columns: &[ParsedColumn],
 ) -> Result<Vec<ParsedPattern>, Stop>
-    ensures { Gives (λ v. v.items) result (at_of cursor.new.counts cursor.new.rest.now) (patterns_at columns.now (at_of cursor.old.counts cursor.old.rest.now)) }
+    ensures { Gives (λ v. v.items) result cursor.new (patterns_at columns.now cursor.old) }
 {
-    let mut patterns = Vec::new(cursor.alloc);
+    let mut patterns = Vec::new(cursor.alloc());
     while cursor.at(Form::Sign(Sign::Less)) {
         let next = pattern(cursor, columns)?;
         patterns.push(next)?;

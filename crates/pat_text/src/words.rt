@@ -2,7 +2,6 @@
 ghost use Rattle.std.specs.Prelude.{◌≡◌};
 ghost use Rattle.std.specs.List.{list_all};
 ghost use Rattle.grammar_theory.specs.Outcome.{Gives};
-ghost use Rattle.vhdl_front.specs.Cursor.{at_of};
 ghost use Rattle.pat_text.specs.Spelled.{text_of, direction_named, format_named, unit_named, is_digit};
 ghost use Rattle.pat_text.specs.Reading.{any_word_at, direction_at, named_format_at, time_unit_at, digits_at};
 
@@ -87,7 +86,7 @@ fn are_digits(format: Format, text: &[u8]) -> bool
 /// A word.
 #[tactic(auto, unfolding(crate::specs::Reading::any_word_at))]
 pub fn any_word<'a>(cursor: &mut Cursor<'a>) -> Result<&'a PlacedToken, Stop>
-    ensures { Gives (λ t. t.now) result (at_of cursor.new.counts cursor.new.rest.now) (any_word_at (at_of cursor.old.counts cursor.old.rest.now)) }
+    ensures { Gives (λ t. t.now) result cursor.new (any_word_at cursor.old) }
 {
     if cursor.at(Form::Keyword(Keyword::In)) {
         cursor.take(Form::Keyword(Keyword::In))
@@ -105,9 +104,9 @@ pub fn any_word<'a>(cursor: &mut Cursor<'a>) -> Result<&'a PlacedToken, Stop>
 /// `downto`, or `to`.
 #[tactic(auto, unfolding(crate::specs::Reading::direction_at))]
 pub fn direction(cursor: &mut Cursor<'_>) -> Result<bool, Stop>
-    ensures { Gives (λ b. b) result (at_of cursor.new.counts cursor.new.rest.now) (direction_at (at_of cursor.old.counts cursor.old.rest.now)) }
+    ensures { Gives (λ b. b) result cursor.new (direction_at cursor.old) }
 {
-    let Some((next, _)) = cursor.rest.split_first() else {
+    let Some((next, _)) = cursor.rest().split_first() else {
         return Err(cursor.refuse(Reason::Syntax));
     };
     let falls = direction_named(text_of(next));
@@ -118,9 +117,9 @@ pub fn direction(cursor: &mut Cursor<'_>) -> Result<bool, Stop>
 /// A word that names a format.
 #[tactic(auto, unfolding(crate::specs::Reading::named_format_at))]
 pub fn named_format(cursor: &mut Cursor<'_>) -> Result<Format, Stop>
-    ensures { Gives (λ f. f) result (at_of cursor.new.counts cursor.new.rest.now) (named_format_at (at_of cursor.old.counts cursor.old.rest.now)) }
+    ensures { Gives (λ f. f) result cursor.new (named_format_at cursor.old) }
 {
-    let Some((next, _)) = cursor.rest.split_first() else {
+    let Some((next, _)) = cursor.rest().split_first() else {
         return Err(cursor.refuse(Reason::Syntax));
     };
     let format = format_named(text_of(next));
@@ -131,9 +130,9 @@ pub fn named_format(cursor: &mut Cursor<'_>) -> Result<Format, Stop>
 /// A word that names a unit of time.
 #[tactic(auto, unfolding(crate::specs::Reading::time_unit_at))]
 pub fn time_unit(cursor: &mut Cursor<'_>) -> Result<TimeUnit, Stop>
-    ensures { Gives (λ u. u) result (at_of cursor.new.counts cursor.new.rest.now) (time_unit_at (at_of cursor.old.counts cursor.old.rest.now)) }
+    ensures { Gives (λ u. u) result cursor.new (time_unit_at cursor.old) }
 {
-    let Some((next, _)) = cursor.rest.split_first() else {
+    let Some((next, _)) = cursor.rest().split_first() else {
         return Err(cursor.refuse(Reason::Syntax));
     };
     let unit = unit_named(text_of(next));
@@ -144,9 +143,9 @@ pub fn time_unit(cursor: &mut Cursor<'_>) -> Result<TimeUnit, Stop>
 /// Digits of this format.
 #[tactic(auto, unfolding(crate::specs::Reading::digits_at))]
 pub fn digits<'a>(cursor: &mut Cursor<'a>, format: Format) -> Result<&'a PlacedToken, Stop>
-    ensures { Gives (λ t. t.now) result (at_of cursor.new.counts cursor.new.rest.now) (digits_at format (at_of cursor.old.counts cursor.old.rest.now)) }
+    ensures { Gives (λ t. t.now) result cursor.new (digits_at format cursor.old) }
 {
-    let Some((next, _)) = cursor.rest.split_first() else {
+    let Some((next, _)) = cursor.rest().split_first() else {
         return Err(cursor.refuse(Reason::Syntax));
     };
     let fits = are_digits(format, text_of(next));

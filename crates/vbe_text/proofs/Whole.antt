@@ -18,8 +18,7 @@ use Rattle.grammar_theory.specs.Outcome.{At, Outcome, Fails, start, finish}
 use Rattle.grammar_theory.specs.Answers.{Rejects, AnswersAll, tokens_of}
 use Rattle.grammar_theory.proofs.End.{answers_all}
 use Rattle.grammar_theory.proofs.Levels.{agree, cancel}
-use Rattle.vhdl_front.specs.declared.counts.Counts.{Counts}
-use Rattle.vhdl_front.specs.Cursor.{at_of, names_of}
+use Rattle.vhdl_front.specs.Cursor.{names_of}
 use Rattle.vhdl_front.specs.Front.{error_of, OrMemory, Becomes}
 use Rattle.vhdl_front.proofs.Language.{numbers}
 use Rattle.vbe_text.specs.Source.{SourceTree}

@@ -3,7 +3,6 @@ ghost use Rattle.std.specs.Prelude.{◌≡◌, ◌∷◌, [], map, IfOk};
 ghost use Rattle.vlsi_base.specs.Tree.{view, operand_of};
 ghost use Rattle.grammar_theory.specs.Outcome.{Gives, line_here, list_at, placed_at};
 ghost use Rattle.grammar_theory.specs.Tokens.{code};
-ghost use Rattle.vhdl_front.specs.Cursor.{at_of};
 ghost use Rattle.vhdl_front.specs.Reading.{expression_at};
 ghost use Rattle.vbe_text.specs.Source.{choice_view};
 ghost use Rattle.vbe_text.specs.Source.{further_view};
@@ -28,9 +27,9 @@ pub struct Further {
 
 /// The line of the next token; 0 at the end.
 fn next_line(cursor: &Cursor) -> u32
-    ensures { result ≡ line_here cursor.now.rest.now }
+    ensures { result ≡ line_here cursor.now.rest }
 {
-    match cursor.rest.first() {
+    match cursor.rest().first() {
         Some(token) => token.line,
         None => 0,
     }
@@ -39,7 +38,7 @@ fn next_line(cursor: &Cursor) -> u32
 /// An expression, with the line of its first token.
 #[tactic(auto, unfolding(grammar_theory::specs::Outcome::placed_at))]
 pub fn placed_expression(cursor: &mut Cursor, room: u32) -> Result<(u32, ParsedExpr), Stop>
-    ensures { Gives operand_of result (at_of cursor.new.counts cursor.new.rest.now) (placed_at (expression_at room) (at_of cursor.old.counts cursor.old.rest.now)) }
+    ensures { Gives operand_of result cursor.new (placed_at (expression_at room) cursor.old) }
 {
     let line = next_line(cursor);
     let parsed = cursor.expression(room)?;
@@ -49,7 +48,7 @@ pub fn placed_expression(cursor: &mut Cursor, room: u32) -> Result<(u32, ParsedE
 /// A condition and the value behind it.
 #[tactic(auto, unfolding(crate::specs::VbeReading::further_at))]
 fn another(cursor: &mut Cursor, room: u32) -> Result<Further, Stop>
-    ensures { Gives further_view result (at_of cursor.new.counts cursor.new.rest.now) (further_at room (at_of cursor.old.counts cursor.old.rest.now)) }
+    ensures { Gives further_view result cursor.new (further_at room cursor.old) }
 {
     let _when = cursor.take_starting(Form::Keyword(Keyword::When))?;
     let (line, condition) = placed_expression(cursor, room)?;
@@ -64,10 +63,10 @@ fn another(cursor: &mut Cursor, room: u32) -> Result<Further, Stop>
 
 /// Conditions, each with the value behind it, as long as there are any.
 fn others(cursor: &mut Cursor, room: u32) -> Result<Vec<Further>, Stop>
-    ensures { Gives (λ v. map further_view v.items) result (at_of cursor.new.counts cursor.new.rest.now)
-        (list_at (code (Form.Keyword Keyword.When) ∷ []) (further_at room) (at_of cursor.old.counts cursor.old.rest.now)) }
+    ensures { Gives (λ v. map further_view v.items) result cursor.new
+        (list_at (code (Form.Keyword Keyword.When) ∷ []) (further_at room) cursor.old) }
 {
-    let mut others = Vec::new(cursor.alloc);
+    let mut others = Vec::new(cursor.alloc());
     while cursor.at(Form::Keyword(Keyword::When)) {
         let next = another(cursor, room)?;
         others.push(next)?;
@@ -97,18 +96,18 @@ fn joined(alloc: Global, first: ParsedExpr, others: Vec<Further>) -> Result<Choi
 
 #[tactic(auto, unfolding(crate::specs::VbeReading::choice_at))]
 fn choice(cursor: &mut Cursor, room: u32) -> Result<Choice, Stop>
-    ensures { Gives choice_view result (at_of cursor.new.counts cursor.new.rest.now) (choice_at room (at_of cursor.old.counts cursor.old.rest.now)) }
+    ensures { Gives choice_view result cursor.new (choice_at room cursor.old) }
 {
     let first = cursor.expression(room)?;
     let others = others(cursor, room)?;
-    let choice = joined(cursor.alloc, first, others)?;
+    let choice = joined(cursor.alloc(), first, others)?;
     Ok(choice)
 }
 
 /// A time, which has no effect and may be left out.
 #[tactic(auto, unfolding(crate::specs::VbeReading::delay_at, crate::specs::VbeReading::delayed_at))]
 fn delay(cursor: &mut Cursor) -> Result<(), Stop>
-    ensures { Gives (λ _. tt) result (at_of cursor.new.counts cursor.new.rest.now) (delay_at (at_of cursor.old.counts cursor.old.rest.now)) }
+    ensures { Gives (λ _. tt) result cursor.new (delay_at cursor.old) }
 {
     if cursor.at(Form::Keyword(Keyword::After)) {
         let _word = cursor.take(Form::Keyword(Keyword::After))?;
@@ -121,7 +120,7 @@ fn delay(cursor: &mut Cursor) -> Result<(), Stop>
 /// What is assigned, to the end of the statement, where so many more parentheses may be open.
 #[tactic(auto, unfolding(crate::specs::VbeReading::value_at))]
 pub fn value(cursor: &mut Cursor, room: u32) -> Result<Choice, Stop>
-    ensures { Gives choice_view result (at_of cursor.new.counts cursor.new.rest.now) (value_at room (at_of cursor.old.counts cursor.old.rest.now)) }
+    ensures { Gives choice_view result cursor.new (value_at room cursor.old) }
 {
     let choice = choice(cursor, room)?;
     delay(cursor)?;

@@ -2,7 +2,6 @@
 ghost use Rattle.std.specs.Prelude.{◌≡◌, map};
 ghost use Rattle.vlsi_base.specs.Tree.{view, operand_of};
 ghost use Rattle.grammar_theory.specs.Outcome.{Gives};
-ghost use Rattle.vhdl_front.specs.Cursor.{at_of};
 ghost use Rattle.vbe_text.specs.Source.{assignment_view, statement_view};
 ghost use Rattle.vbe_text.specs.VbeReading.{report_at, severity_at, remarks_at, assertion_at, assignment_at, guarded_assignment_at, guarded_list_at, guarded_assignments_at, guard_at, repeated_at, block_at};
 
@@ -16,7 +15,7 @@ use vlsi_base::ParsedExpr;
 
 #[tactic(auto, unfolding(crate::specs::VbeReading::report_at, crate::specs::VbeReading::reported_at, crate::specs::VbeReading::text_at))]
 fn report(cursor: &mut Cursor) -> Result<(), Stop>
-    ensures { Gives (λ _. tt) result (at_of cursor.new.counts cursor.new.rest.now) (report_at (at_of cursor.old.counts cursor.old.rest.now)) }
+    ensures { Gives (λ _. tt) result cursor.new (report_at cursor.old) }
 {
     if cursor.at(Form::Keyword(Keyword::Report)) {
         let _word = cursor.take(Form::Keyword(Keyword::Report))?;
@@ -32,7 +31,7 @@ fn report(cursor: &mut Cursor) -> Result<(), Stop>
 
 #[tactic(auto, unfolding(crate::specs::VbeReading::severity_at, crate::specs::VbeReading::severe_at))]
 fn severity(cursor: &mut Cursor) -> Result<(), Stop>
-    ensures { Gives (λ _. tt) result (at_of cursor.new.counts cursor.new.rest.now) (severity_at (at_of cursor.old.counts cursor.old.rest.now)) }
+    ensures { Gives (λ _. tt) result cursor.new (severity_at cursor.old) }
 {
     if cursor.at(Form::Keyword(Keyword::Severity)) {
         let _word = cursor.take(Form::Keyword(Keyword::Severity))?;
@@ -44,7 +43,7 @@ fn severity(cursor: &mut Cursor) -> Result<(), Stop>
 /// What stands behind the expression of an assertion, which has no effect.
 #[tactic(auto, unfolding(crate::specs::VbeReading::remarks_at))]
 fn remarks(cursor: &mut Cursor) -> Result<(), Stop>
-    ensures { Gives (λ _. tt) result (at_of cursor.new.counts cursor.new.rest.now) (remarks_at (at_of cursor.old.counts cursor.old.rest.now)) }
+    ensures { Gives (λ _. tt) result cursor.new (remarks_at cursor.old) }
 {
     report(cursor)?;
     severity(cursor)?;
@@ -55,7 +54,7 @@ fn remarks(cursor: &mut Cursor) -> Result<(), Stop>
 /// An assertion, where so many more parentheses may be open.
 #[tactic(auto, unfolding(crate::specs::VbeReading::assertion_at))]
 pub fn assertion(cursor: &mut Cursor, room: u32) -> Result<Statement, Stop>
-    ensures { Gives statement_view result (at_of cursor.new.counts cursor.new.rest.now) (assertion_at room (at_of cursor.old.counts cursor.old.rest.now)) }
+    ensures { Gives statement_view result cursor.new (assertion_at room cursor.old) }
 {
     let _word = cursor.take_starting(Form::Keyword(Keyword::Assert))?;
     let parsed = cursor.expression(room)?;
@@ -66,7 +65,7 @@ pub fn assertion(cursor: &mut Cursor, room: u32) -> Result<Statement, Stop>
 /// An assignment behind the name of its target, which is this token.
 #[tactic(auto, unfolding(crate::specs::VbeReading::assignment_at))]
 pub fn assignment(cursor: &mut Cursor, room: u32, token: &PlacedToken) -> Result<Statement, Stop>
-    ensures { Gives statement_view result (at_of cursor.new.counts cursor.new.rest.now) (assignment_at room token.now (at_of cursor.old.counts cursor.old.rest.now)) }
+    ensures { Gives statement_view result cursor.new (assignment_at room token.now cursor.old) }
 {
     let target = target_behind(cursor, room, token)?;
     let _sign = cursor.take_choosing(Form::Sign(Sign::Assign))?;
@@ -77,7 +76,7 @@ pub fn assignment(cursor: &mut Cursor, room: u32, token: &PlacedToken) -> Result
 /// An assignment of a block.
 #[tactic(auto, unfolding(crate::specs::VbeReading::guarded_assignment_at))]
 fn guarded_assignment(cursor: &mut Cursor, room: u32) -> Result<Assignment, Stop>
-    ensures { Gives assignment_view result (at_of cursor.new.counts cursor.new.rest.now) (guarded_assignment_at room (at_of cursor.old.counts cursor.old.rest.now)) }
+    ensures { Gives assignment_view result cursor.new (guarded_assignment_at room cursor.old) }
 {
     let target = target(cursor, room)?;
     let _sign = cursor.take(Form::Sign(Sign::Assign))?;
@@ -87,9 +86,9 @@ fn guarded_assignment(cursor: &mut Cursor, room: u32) -> Result<Assignment, Stop
 }
 
 fn guarded_list(cursor: &mut Cursor, room: u32) -> Result<Vec<Assignment>, Stop>
-    ensures { Gives (λ v. map assignment_view v.items) result (at_of cursor.new.counts cursor.new.rest.now) (guarded_list_at room (at_of cursor.old.counts cursor.old.rest.now)) }
+    ensures { Gives (λ v. map assignment_view v.items) result cursor.new (guarded_list_at room cursor.old) }
 {
-    let mut assignments = Vec::new(cursor.alloc);
+    let mut assignments = Vec::new(cursor.alloc());
     while cursor.at(Form::Identifier) {
         let next = guarded_assignment(cursor, room)?;
         assignments.push(next)?;
@@ -100,7 +99,7 @@ fn guarded_list(cursor: &mut Cursor, room: u32) -> Result<Vec<Assignment>, Stop>
 /// The assignments of a block, from its `begin` to its `end`.
 #[tactic(auto, unfolding(crate::specs::VbeReading::guarded_assignments_at))]
 fn guarded_assignments(cursor: &mut Cursor, room: u32) -> Result<Assignments, Stop>
-    ensures { Gives (λ a. map assignment_view a) result (at_of cursor.new.counts cursor.new.rest.now) (guarded_assignments_at room (at_of cursor.old.counts cursor.old.rest.now)) }
+    ensures { Gives (λ a. map assignment_view a) result cursor.new (guarded_assignments_at room cursor.old) }
 {
     let _begin = cursor.take(Form::Keyword(Keyword::Begin))?;
     let assignments = guarded_list(cursor, room)?;
@@ -111,7 +110,7 @@ fn guarded_assignments(cursor: &mut Cursor, room: u32) -> Result<Assignments, St
 /// A guard, with the line of its first token, behind the parenthesis.
 #[tactic(auto, unfolding(crate::specs::VbeReading::guard_at, vhdl_front::specs::Reading::closing_at))]
 fn guard(cursor: &mut Cursor, room: u32) -> Result<(u32, ParsedExpr), Stop>
-    ensures { Gives operand_of result (at_of cursor.new.counts cursor.new.rest.now) (guard_at room (at_of cursor.old.counts cursor.old.rest.now)) }
+    ensures { Gives operand_of result cursor.new (guard_at room cursor.old) }
 {
     let _word = cursor.take_starting(Form::Keyword(Keyword::Block))?;
     let _open = cursor.open(room)?;
@@ -123,7 +122,7 @@ fn guard(cursor: &mut Cursor, room: u32) -> Result<(u32, ParsedExpr), Stop>
 /// The name that was opened, which may be left out, and a semicolon.
 #[tactic(auto, unfolding(crate::specs::VbeReading::repeated_at, crate::specs::VbeReading::named_stop_at, crate::specs::VbeReading::stop_at))]
 pub fn repeated(cursor: &mut Cursor, name: &[u8]) -> Result<(), Stop>
-    ensures { Gives (λ _. tt) result (at_of cursor.new.counts cursor.new.rest.now) (repeated_at name.now (at_of cursor.old.counts cursor.old.rest.now)) }
+    ensures { Gives (λ _. tt) result cursor.new (repeated_at name.now cursor.old) }
 {
     if cursor.at(Form::Identifier) {
         let _name = cursor.take_spelled(name)?;
@@ -135,7 +134,7 @@ pub fn repeated(cursor: &mut Cursor, name: &[u8]) -> Result<(), Stop>
 /// A block behind this label.
 #[tactic(auto, unfolding(crate::specs::VbeReading::block_at))]
 pub fn block(cursor: &mut Cursor, room: u32, label: &[u8]) -> Result<Statement, Stop>
-    ensures { Gives statement_view result (at_of cursor.new.counts cursor.new.rest.now) (block_at room label.now (at_of cursor.old.counts cursor.old.rest.now)) }
+    ensures { Gives statement_view result cursor.new (block_at room label.now cursor.old) }
 {
     let (line, guard) = guard(cursor, room)?;
     let assignments = guarded_assignments(cursor, room)?;

@@ -2,6 +2,7 @@
 use Rattle.std.proofs.Common.{◌≡◌, ℕ, List, Option, None, Some, IsSome, IfSome, Result, Ok, Err, refl, sym, subst}
 use Rattle.vlsi_base.specs.declared.fault.ReadError.{ReadError}
 use Rattle.vlsi_base.specs.declared.fault.ReadError.TheVariants as errors
+use Rattle.vhdl_token.specs.declared.token.PlacedToken.{PlacedToken}
 use Rattle.grammar_theory.specs.declared.refusal.Refusal.{Refusal}
 use Rattle.grammar_theory.specs.declared.refusal.Stop.{Stop}
 use Rattle.grammar_theory.specs.declared.refusal.Stop.TheVariants as stop
@@ -32,6 +33,8 @@ kept_one G read good last here stop.Memory f k h = no_refusal G last here k h
 kept_one G read good last here (stop.Refused r) f k h = refused_as G last here r (is_refused G read good here r f) k h
 
 pub is_kept : {A : Type 0} (G : Grammar A) (read : Reader A) → Reads G read → (last : ℕ) (here : At) (s : Stop) → Fails s (read here) → (e : ReadError) (o : Option ReadError)
-    → IfSome o (λ k. Becomes last here.rest s k × OrMemory k e) → IsSome o → IsKept G last here e o
-is_kept G read good last here s f e None h some = absurd cc
-is_kept G read good last here s f e (Some k) h some = (kept_one G read good last here s f k h.0, h.1)
+    → (ts : List PlacedToken) → ts ≡ here.rest → IfSome o (λ k. Becomes last ts s k × OrMemory k e) → IsSome o → IsKept G last here e o
+is_kept G read good last here s f e None ts same h some = absurd cc
+is_kept G read good last here s f e (Some k) ts same h some =
+    let From : List PlacedToken → Type 0 = λ xs. Becomes last xs s k in
+    (kept_one G read good last here s f k (subst From same h.0), h.1)

@@ -1,5 +1,5 @@
 -- Where a cursor stands, and what tokens carry.
-use Rattle.std.specs.Prelude.{ℕ, Bool, false, List, [], map}
+use Rattle.std.specs.Prelude.{ℕ, Bool, false, List, [], ◌∷◌, map}
 use Rattle.vlsi_base.specs.declared.radix.Radix.{Radix}
 use Rattle.vlsi_base.specs.declared.radix.Radix.TheVariants.{Binary}
 use Rattle.vhdl_token.specs.declared.token.Token.{Token}
@@ -18,6 +18,15 @@ state_of c = record { names = names_of c; bits = c.bits; operators = c.operators
 
 abbrev pub at_of : Counts → List PlacedToken → At
 at_of counts rest = record { state = state_of counts; rest = rest }
+
+-- before the first operator of an expression
+abbrev pub at_first : At → At
+at_first here = record { state = record here.state { operators = 0 }; rest = here.rest }
+
+-- all tokens but the next one
+abbrev pub rest_of : List PlacedToken → List PlacedToken
+rest_of [] = []
+rest_of (t ∷ ts) = ts
 
 abbrev pub identifier_in : Token → List ℕ
 identifier_in (token.Identifier name) = name

@@ -18,7 +18,6 @@ use Rattle.grammar_theory.specs.declared.refusal.Stop.TheVariants as stop
 use Rattle.grammar_theory.specs.Grammar.{Grammar}
 use Rattle.grammar_theory.specs.Outcome.{At}
 use Rattle.grammar_theory.specs.Answers.{Accepts, Refuses}
-use Rattle.vhdl_front.specs.Cursor.{at_of}
 use Rattle.vhdl_front.specs.declared.reader.TokenReader.{TokenReader}
 
 -- the line of the next token; the end stands on the last line
@@ -92,11 +91,7 @@ pub record Front : Type 0 where
   pub refused : Option ReadError
 
 abbrev pub front : TokenReader → Front
-front r = record { here = at_of r.cursor.counts r.cursor.rest.now; room = r.room; last_line = r.last_line; pragmas = r.pragmas.now; refused = r.refused }
-
--- before the first operator of an expression
-abbrev pub at_first : At → At
-at_first here = record { state = record here.state { operators = 0 }; rest = here.rest }
+front r = record { here = r.cursor; room = r.room; last_line = r.last_line; pragmas = r.pragmas.now; refused = r.refused }
 
 -- all but the tokens, what was counted, and what is answered
 pub record IsSameText (old new : Front) : Type 0 where
@@ -114,7 +109,3 @@ abbrev pub next_token : List PlacedToken → Option ReadError → Option Token
 next_token [] refused = None
 next_token (t ∷ ts) None = Some t.token
 next_token (t ∷ ts) (Some e) = None
-
-abbrev pub rest_of : List PlacedToken → List PlacedToken
-rest_of [] = []
-rest_of (t ∷ ts) = ts

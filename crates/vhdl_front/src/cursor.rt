@@ -1,30 +1,78 @@
 // Taking tokens, with what each does beside standing in its place.
-ghost use Rattle.std.specs.Prelude.{◌≡◌, ◌∷◌, ◌<◌, ◌+◌, ◌-◌, ◌*◌, ◌^◌, min, Ok, IfOk, OnOk, IfErr, IsTrue, true, false, nat_lt, option_copied};
+ghost use Rattle.std.specs.Prelude.{◌≡◌, ◌∷◌, ◌<◌, ◌+◌, ◌-◌, ◌*◌, ◌^◌, min, Ok, IfOk, OnOk, IfErr, IsTrue, true, false, nat_lt, length, option_copied};
 ghost use Rattle.vhdl_token.specs.declared.token.PlacedToken.{PlacedToken};
 ghost use Rattle.grammar_theory.specs.Tokens.{is_of, is_at};
 ghost use Rattle.grammar_theory.specs.Marks.{Mark, State, starts, chooses, again, opens, operator, declares, counts, spells, fits, step};
-ghost use Rattle.grammar_theory.specs.Outcome.{Gives, Fails, passed, take_from, take_at, take_marked, refusal};
+ghost use Rattle.grammar_theory.specs.Outcome.{Gives, Fails, start, passed, take_from, take_at, take_marked, refusal};
 ghost use Rattle.grammar_theory.specs.declared.form.Form.TheVariants.{Identifier};
-ghost use Rattle.vhdl_front.specs.Cursor.{at_of, state_of, name_of};
+ghost use Rattle.vhdl_front.specs.Cursor.{name_of, rest_of, at_first};
 
 use crate::counts::Counts;
 use grammar_theory::{BITS, Breach, CHAIN, Form, Reason, Refusal, Stop};
 use std::alloc::Global;
+use std::marker::Model;
 use vhdl_token::{PlacedToken, Sign, Token};
 use vlsi_base::Text;
 
-/// The tokens that are left, and what was counted over those before.
+/// A place in a text: the tokens that are left, and what was counted over those before. Contracts see both.
 #[derive(Drop)]
 pub struct Cursor<'a> {
-    pub rest: &'a [PlacedToken],
-    pub counts: Counts,
-    pub alloc: Global,
+    rest: &'a [PlacedToken],
+    counts: Counts,
+    alloc: Global,
+}
+
+impl<'a> Model for Cursor<'a> {
+    ghost use Rattle.grammar_theory.specs.Outcome.{At};
+    ghost use Rattle.vhdl_front.specs.Cursor.{at_of};
+
+    ghost Value = { At };
+
+    ghost view = { λ a. at_of a.counts a.rest.now };
 }
 
 impl<'a> Cursor<'a> {
+    /// At the first of these tokens. Takes no memory.
+    pub fn new(alloc: Global, tokens: &'a [PlacedToken]) -> Self
+        ensures { result ≡ start tokens.now }
+    {
+        Cursor {
+            rest: tokens,
+            counts: Counts::new(alloc),
+            alloc,
+        }
+    }
+
+    /// Where what is read takes its memory.
+    pub fn alloc(&self) -> Global {
+        self.alloc
+    }
+
+    /// The tokens that are left.
+    pub fn rest(&self) -> &'a [PlacedToken]
+        ensures { result.now ≡ self.now.rest }
+    {
+        self.rest
+    }
+
+    /// Passes over the next token, of which there must be one.
+    pub fn skip(&mut self)
+        requires { 0 < length self.old.rest }
+        ensures { self.new ≡ record { state = self.old.state; rest = rest_of self.old.rest } }
+    {
+        self.rest = &self.rest[1..];
+    }
+
+    /// Before the first operator of an expression.
+    pub fn restart(&mut self)
+        ensures { self.new ≡ at_first self.old }
+    {
+        self.counts.operators = 0;
+    }
+
     /// Whether the next token is of this form.
     pub fn at(&self, form: Form) -> bool
-        ensures { result ≡ is_at form self.now.rest.now }
+        ensures { result ≡ is_at form self.now.rest }
     {
         match self.rest.first() {
             Some(next) => form.fits(next),
@@ -34,7 +82,7 @@ impl<'a> Cursor<'a> {
 
     /// The refusal of the next token.
     pub fn refuse(&self, reason: Reason) -> Stop
-        ensures { result ≡ Stop.Refused (refusal reason self.now.rest.now) }
+        ensures { result ≡ Stop.Refused (refusal reason self.now.rest) }
     {
         Stop::Refused(Refusal {
             reason,
@@ -44,8 +92,8 @@ impl<'a> Cursor<'a> {
 
     /// The next token, which has to be of this form, and those behind it.
     fn next(&self, form: Form) -> Result<(&'a PlacedToken, &'a [PlacedToken]), Stop>
-        ensures ok { IfOk result (λ p. (self.now.rest.now ≡ p.0.now ∷ p.1.now) × (is_of form p.0.now ≡ true)) }
-        ensures err { IfErr result (λ e. (m : PlacedToken → Mark) (s : State) → Fails e (take_from form m s self.now.rest.now)) }
+        ensures ok { IfOk result (λ p. (self.now.rest ≡ p.0.now ∷ p.1.now) × (is_of form p.0.now ≡ true)) }
+        ensures err { IfErr result (λ e. (m : PlacedToken → Mark) (s : State) → Fails e (take_from form m s self.now.rest)) }
     {
         match self.rest.split_first() {
             Some((next, rest)) if form.fits(next) => Ok((next, rest)),
@@ -55,8 +103,8 @@ impl<'a> Cursor<'a> {
 
     /// The first token of an alternative is refused where this is one more than a choice may have.
     fn admit(&self) -> Result<(), Stop>
-        ensures ok { OnOk result (nat_lt CHAIN self.now.counts.alternatives ≡ false) }
-        ensures err { IfErr result (λ e. (nat_lt CHAIN self.now.counts.alternatives ≡ true) × (e ≡ Stop.Refused (refusal (Reason.Breach Breach.Chain) self.now.rest.now))) }
+        ensures ok { OnOk result (nat_lt CHAIN self.now.state.alternatives ≡ false) }
+        ensures err { IfErr result (λ e. (nat_lt CHAIN self.now.state.alternatives ≡ true) × (e ≡ Stop.Refused (refusal (Reason.Breach Breach.Chain) self.now.rest))) }
     {
         if self.counts.alternatives > CHAIN {
             return Err(self.refuse(Reason::Breach(Breach::Chain)));
@@ -67,7 +115,7 @@ impl<'a> Cursor<'a> {
     /// Takes the next token where it is of this form, and else refuses it. Takes no memory.
     #[tactic(auto, unfolding(grammar_theory::specs::Marks::step))]
     pub fn take(&mut self, form: Form) -> Result<&'a PlacedToken, Stop>
-        ensures { Gives (λ t. t.now) result (at_of self.new.counts self.new.rest.now) (take_at form (at_of self.old.counts self.old.rest.now)) }
+        ensures { Gives (λ t. t.now) result self.new (take_at form self.old) }
     {
         let (next, rest) = self.next(form)?;
         self.admit()?;
@@ -78,7 +126,7 @@ impl<'a> Cursor<'a> {
     /// An operator of an expression.
     #[tactic(auto, unfolding(grammar_theory::specs::Marks::step))]
     pub fn take_operator(&mut self, form: Form) -> Result<&'a PlacedToken, Stop>
-        ensures { Gives (λ t. t.now) result (at_of self.new.counts self.new.rest.now) (take_marked form (λ _. operator) (at_of self.old.counts self.old.rest.now)) }
+        ensures { Gives (λ t. t.now) result self.new (take_marked form (λ _. operator) self.old) }
     {
         let (next, rest) = self.next(form)?;
         if self.counts.operators >= CHAIN {
@@ -93,7 +141,7 @@ impl<'a> Cursor<'a> {
     /// A token behind which an expression begins.
     #[tactic(auto, unfolding(grammar_theory::specs::Marks::step))]
     pub fn take_starting(&mut self, form: Form) -> Result<&'a PlacedToken, Stop>
-        ensures { Gives (λ t. t.now) result (at_of self.new.counts self.new.rest.now) (take_marked form (λ _. starts) (at_of self.old.counts self.old.rest.now)) }
+        ensures { Gives (λ t. t.now) result self.new (take_marked form (λ _. starts) self.old) }
     {
         let (next, rest) = self.next(form)?;
         self.admit()?;
@@ -105,7 +153,7 @@ impl<'a> Cursor<'a> {
     /// A token behind which a choice begins, with its first alternative.
     #[tactic(auto, unfolding(grammar_theory::specs::Marks::step))]
     pub fn take_choosing(&mut self, form: Form) -> Result<&'a PlacedToken, Stop>
-        ensures { Gives (λ t. t.now) result (at_of self.new.counts self.new.rest.now) (take_marked form (λ _. chooses) (at_of self.old.counts self.old.rest.now)) }
+        ensures { Gives (λ t. t.now) result self.new (take_marked form (λ _. chooses) self.old) }
     {
         let (next, rest) = self.next(form)?;
         self.admit()?;
@@ -118,7 +166,7 @@ impl<'a> Cursor<'a> {
     /// A token behind which a further alternative of a choice begins.
     #[tactic(auto, unfolding(grammar_theory::specs::Marks::step))]
     pub fn take_again(&mut self, form: Form) -> Result<&'a PlacedToken, Stop>
-        ensures { Gives (λ t. t.now) result (at_of self.new.counts self.new.rest.now) (take_marked form (λ _. again) (at_of self.old.counts self.old.rest.now)) }
+        ensures { Gives (λ t. t.now) result self.new (take_marked form (λ _. again) self.old) }
     {
         let (next, rest) = self.next(form)?;
         self.admit()?;
@@ -131,7 +179,7 @@ impl<'a> Cursor<'a> {
     /// A token that has to be right as it is spelled, which `is_right` says of it.
     #[tactic(auto, unfolding(grammar_theory::specs::Marks::step))]
     pub fn take_fitting(&mut self, form: Form, is_right: bool) -> Result<&'a PlacedToken, Stop>
-        ensures { Gives (λ t. t.now) result (at_of self.new.counts self.new.rest.now) (take_marked form (λ _. fits is_right) (at_of self.old.counts self.old.rest.now)) }
+        ensures { Gives (λ t. t.now) result self.new (take_marked form (λ _. fits is_right) self.old) }
     {
         let (next, rest) = self.next(form)?;
         if !is_right {
@@ -145,7 +193,7 @@ impl<'a> Cursor<'a> {
     /// An opening parenthesis, where so many more may be open.
     #[tactic(auto, unfolding(grammar_theory::specs::Marks::step))]
     pub fn open(&mut self, room: u32) -> Result<&'a PlacedToken, Stop>
-        ensures taken { Gives (λ t. t.now) result (at_of self.new.counts self.new.rest.now) (take_marked (Form.Sign Sign.LeftParen) (λ _. opens room) (at_of self.old.counts self.old.rest.now)) }
+        ensures taken { Gives (λ t. t.now) result self.new (take_marked (Form.Sign Sign.LeftParen) (λ _. opens room) self.old) }
         ensures fits { IfOk result (λ _. 0 < room) }
     {
         let (next, rest) = self.next(Form::Sign(Sign::LeftParen))?;
@@ -165,7 +213,7 @@ impl<'a> Cursor<'a> {
         count: usize,
         width: u64,
     ) -> Result<&'a PlacedToken, Stop>
-        ensures { Gives (λ t. t.now) result (at_of self.new.counts self.new.rest.now) (take_marked form (λ _. counts (count * width)) (at_of self.old.counts self.old.rest.now)) }
+        ensures { Gives (λ t. t.now) result self.new (take_marked form (λ _. counts (count * width)) self.old) }
     {
         let (next, rest) = self.next(form)?;
         let total = total_bits(self.counts.bits, count, width);
@@ -181,7 +229,7 @@ impl<'a> Cursor<'a> {
     /// The name that has to stand here.
     #[tactic(auto, unfolding(grammar_theory::specs::Marks::step))]
     pub fn take_spelled(&mut self, wanted: &[u8]) -> Result<&'a PlacedToken, Stop>
-        ensures { Gives (λ t. t.now) result (at_of self.new.counts self.new.rest.now) (take_marked Identifier (λ t. spells wanted.now (name_of t)) (at_of self.old.counts self.old.rest.now)) }
+        ensures { Gives (λ t. t.now) result self.new (take_marked Identifier (λ t. spells wanted.now (name_of t)) self.old) }
     {
         let (next, rest) = self.next(Form::Identifier)?;
         if wanted != name_bytes(next) {
@@ -200,8 +248,8 @@ impl<'a> Cursor<'a> {
         rest: &'a [PlacedToken],
         line: u32,
     ) -> Result<&'a PlacedToken, Stop>
-        requires { self.old.rest.now ≡ next.now ∷ rest.now }
-        ensures { Gives (λ t. t.now) result (at_of self.new.counts self.new.rest.now) (passed next.now rest.now (step (declares line (name_of next.now)) (state_of self.old.counts))) }
+        requires { self.old.rest ≡ next.now ∷ rest.now }
+        ensures { Gives (λ t. t.now) result self.new (passed next.now rest.now (step (declares line (name_of next.now)) (self.old.state))) }
     {
         let name = name_bytes(next);
         if !self.counts.declare(self.alloc, name)? {
@@ -215,7 +263,7 @@ impl<'a> Cursor<'a> {
 
     /// A name that is declared, by a declaration that begins on this line.
     pub fn declare(&mut self, line: u32) -> Result<&'a PlacedToken, Stop>
-        ensures { Gives (λ t. t.now) result (at_of self.new.counts self.new.rest.now) (take_marked Identifier (λ t. declares line (name_of t)) (at_of self.old.counts self.old.rest.now)) }
+        ensures { Gives (λ t. t.now) result self.new (take_marked Identifier (λ t. declares line (name_of t)) self.old) }
     {
         let (next, rest) = self.next(Form::Identifier)?;
         self.declare_next(next, rest, line)
@@ -223,7 +271,7 @@ impl<'a> Cursor<'a> {
 
     /// A name with which its declaration begins.
     pub fn declare_first(&mut self) -> Result<&'a PlacedToken, Stop>
-        ensures { Gives (λ t. t.now) result (at_of self.new.counts self.new.rest.now) (take_marked Identifier (λ t. declares t.line (name_of t)) (at_of self.old.counts self.old.rest.now)) }
+        ensures { Gives (λ t. t.now) result self.new (take_marked Identifier (λ t. declares t.line (name_of t)) self.old) }
     {
         let (next, rest) = self.next(Form::Identifier)?;
         self.declare_next(next, rest, next.line)

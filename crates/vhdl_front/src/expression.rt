@@ -4,7 +4,7 @@ ghost use Rattle.vlsi_base.specs.Tree.{view, binary, folded, operand_of};
 ghost use Rattle.grammar_theory.specs.Tokens.{code};
 ghost use Rattle.grammar_theory.specs.Outcome.{Gives, list_at, with_front};
 ghost use Rattle.grammar_theory.specs.declared.refusal.Stop.TheVariants.{Memory};
-ghost use Rattle.vhdl_front.specs.Cursor.{at_of, number_of, bit_of, digits_of, radix_of};
+ghost use Rattle.vhdl_front.specs.Cursor.{number_of, bit_of, digits_of, radix_of};
 ghost use Rattle.vhdl_front.specs.Reading.{number_at, direction_at, slice_at, places_at, stable_at, suffix_at, named_at, bit_at, text_at, string_at, primary_at, inverse_at, factor_at, joined_at, cat_at, pair_at, chain_at, compared_at, relation_at, logical_at, enter_at, expression_at};
 
 use crate::cursor::{Cursor, name_bytes};
@@ -88,7 +88,7 @@ impl Cursor<'_> {
     /// A number.
     #[tactic(auto, unfolding(crate::specs::Reading::number_at))]
     pub fn number(&mut self) -> Result<u32, Stop>
-        ensures { Gives (λ n. n) result (at_of self.new.counts self.new.rest.now) (number_at (at_of self.old.counts self.old.rest.now)) }
+        ensures { Gives (λ n. n) result self.new (number_at self.old) }
     {
         let token = self.take(Form::Number)?;
         Ok(number_value(token))
@@ -97,7 +97,7 @@ impl Cursor<'_> {
     /// `downto`, or `to`.
     #[tactic(auto, unfolding(crate::specs::Reading::direction_at))]
     pub fn direction(&mut self) -> Result<bool, Stop>
-        ensures { Gives (λ b. b) result (at_of self.new.counts self.new.rest.now) (direction_at (at_of self.old.counts self.old.rest.now)) }
+        ensures { Gives (λ b. b) result self.new (direction_at self.old) }
     {
         if self.at(Form::Keyword(Keyword::Downto)) {
             let _word = self.take(Form::Keyword(Keyword::Downto))?;
@@ -111,7 +111,7 @@ impl Cursor<'_> {
     /// A range behind its first number, for the name and its line.
     #[tactic(auto, unfolding(crate::specs::Reading::slice_at, crate::specs::Reading::closing_at))]
     fn slice(&mut self, name: Text, line: u32, paren: u32, left: u32) -> Result<ParsedExpr, Stop>
-        ensures { Gives view result (at_of self.new.counts self.new.rest.now) (slice_at name line paren left (at_of self.old.counts self.old.rest.now)) }
+        ensures { Gives view result self.new (slice_at name line paren left self.old) }
     {
         let falls = self.direction()?;
         let right = self.number()?;
@@ -128,7 +128,7 @@ impl Cursor<'_> {
     /// An index or a range behind its parenthesis.
     #[tactic(auto, unfolding(crate::specs::Reading::places_at, crate::specs::Reading::closing_at))]
     fn places(&mut self, name: Text, line: u32, paren: u32) -> Result<ParsedExpr, Stop>
-        ensures { Gives view result (at_of self.new.counts self.new.rest.now) (places_at name line paren (at_of self.old.counts self.old.rest.now)) }
+        ensures { Gives view result self.new (places_at name line paren self.old) }
     {
         let left = self.number()?;
         if self.at(Form::Sign(Sign::RightParen)) {
@@ -141,7 +141,7 @@ impl Cursor<'_> {
 
     #[tactic(auto, unfolding(crate::specs::Reading::stable_at))]
     fn stable(&mut self, name: Text, line: u32) -> Result<ParsedExpr, Stop>
-        ensures { Gives view result (at_of self.new.counts self.new.rest.now) (stable_at name line (at_of self.old.counts self.old.rest.now)) }
+        ensures { Gives view result self.new (stable_at name line self.old) }
     {
         let _tick = self.take(Form::Sign(Sign::Tick))?;
         let _word = self.take_spelled(b"stable")?;
@@ -151,7 +151,7 @@ impl Cursor<'_> {
     /// What stands behind a name.
     #[tactic(auto, unfolding(crate::specs::Reading::suffix_at, crate::specs::Reading::bounded_at))]
     fn suffix(&mut self, room: u32, name: Text, line: u32) -> Result<ParsedExpr, Stop>
-        ensures { Gives view result (at_of self.new.counts self.new.rest.now) (suffix_at room name line (at_of self.old.counts self.old.rest.now)) }
+        ensures { Gives view result self.new (suffix_at room name line self.old) }
     {
         if self.at(Form::Sign(Sign::LeftParen)) {
             let paren = self.open(room)?.line;
@@ -165,16 +165,16 @@ impl Cursor<'_> {
 
     #[tactic(auto, unfolding(crate::specs::Reading::named_at))]
     fn named(&mut self, room: u32) -> Result<ParsedExpr, Stop>
-        ensures { Gives view result (at_of self.new.counts self.new.rest.now) (named_at room (at_of self.old.counts self.old.rest.now)) }
+        ensures { Gives view result self.new (named_at room self.old) }
     {
         let token = self.take(Form::Identifier)?;
-        let name = Text::from_bytes(self.alloc, name_bytes(token))?;
+        let name = Text::from_bytes(self.alloc(), name_bytes(token))?;
         self.suffix(room, name, token.line)
     }
 
     #[tactic(auto, unfolding(crate::specs::Reading::bit_at))]
     fn bit(&mut self) -> Result<ParsedExpr, Stop>
-        ensures { Gives view result (at_of self.new.counts self.new.rest.now) (bit_at (at_of self.old.counts self.old.rest.now)) }
+        ensures { Gives view result self.new (bit_at self.old) }
     {
         let token = self.take(Form::Bit)?;
         Ok(ParsedExpr::Bit(bit_value(token), token.line))
@@ -182,19 +182,19 @@ impl Cursor<'_> {
 
     #[tactic(auto, unfolding(crate::specs::Reading::text_at))]
     fn text(&mut self) -> Result<ParsedExpr, Stop>
-        ensures { Gives view result (at_of self.new.counts self.new.rest.now) (text_at (at_of self.old.counts self.old.rest.now)) }
+        ensures { Gives view result self.new (text_at self.old) }
     {
         let token = self.take(Form::BitText)?;
-        let digits = Text::from_bytes(self.alloc, digits_bytes(token))?;
+        let digits = Text::from_bytes(self.alloc(), digits_bytes(token))?;
         Ok(ParsedExpr::Literal(Radix::Binary, digits, token.line))
     }
 
     #[tactic(auto, unfolding(crate::specs::Reading::string_at))]
     fn string(&mut self) -> Result<ParsedExpr, Stop>
-        ensures { Gives view result (at_of self.new.counts self.new.rest.now) (string_at (at_of self.old.counts self.old.rest.now)) }
+        ensures { Gives view result self.new (string_at self.old) }
     {
         let token = self.take(Form::BitString)?;
-        let digits = Text::from_bytes(self.alloc, digits_bytes(token))?;
+        let digits = Text::from_bytes(self.alloc(), digits_bytes(token))?;
         Ok(ParsedExpr::Literal(radix_value(token), digits, token.line))
     }
 
@@ -202,7 +202,7 @@ impl Cursor<'_> {
     #[cycle(parser)]
     #[tactic(auto, unfolding(crate::specs::Reading::enter_at, crate::specs::Reading::closing_at))]
     fn parenthesized(&mut self, room: u32) -> Result<ParsedExpr, Stop>
-        ensures { Gives view result (at_of self.new.counts self.new.rest.now) (enter_at room (at_of self.old.counts self.old.rest.now)) }
+        ensures { Gives view result self.new (enter_at room self.old) }
     {
         let _open = self.open(room)?;
         let inner = self.expression(room - 1)?;
@@ -213,7 +213,7 @@ impl Cursor<'_> {
     #[cycle(parser)]
     #[tactic(auto, unfolding(crate::specs::Reading::primary_at))]
     fn primary(&mut self, room: u32) -> Result<ParsedExpr, Stop>
-        ensures { Gives view result (at_of self.new.counts self.new.rest.now) (primary_at room (enter_at room) (at_of self.old.counts self.old.rest.now)) }
+        ensures { Gives view result self.new (primary_at room (enter_at room) self.old) }
     {
         if self.at(Form::Sign(Sign::LeftParen)) {
             self.parenthesized(room)
@@ -232,17 +232,17 @@ impl Cursor<'_> {
     #[cycle(parser)]
     #[tactic(auto, unfolding(crate::specs::Reading::inverse_at))]
     fn inverse(&mut self, room: u32) -> Result<ParsedExpr, Stop>
-        ensures { Gives view result (at_of self.new.counts self.new.rest.now) (inverse_at room (enter_at room) (at_of self.old.counts self.old.rest.now)) }
+        ensures { Gives view result self.new (inverse_at room (enter_at room) self.old) }
     {
         let line = self.take_operator(Form::Keyword(Keyword::Not))?.line;
         let operand = self.primary(room)?;
-        Ok(ParsedExpr::Not(line, Box::new(self.alloc, operand)?))
+        Ok(ParsedExpr::Not(line, Box::new(self.alloc(), operand)?))
     }
 
     #[cycle(parser)]
     #[tactic(auto, unfolding(crate::specs::Reading::factor_at))]
     fn factor(&mut self, room: u32) -> Result<ParsedExpr, Stop>
-        ensures { Gives view result (at_of self.new.counts self.new.rest.now) (factor_at room (enter_at room) (at_of self.old.counts self.old.rest.now)) }
+        ensures { Gives view result self.new (factor_at room (enter_at room) self.old) }
     {
         if self.at(Form::Keyword(Keyword::Not)) {
             self.inverse(room)
@@ -255,7 +255,7 @@ impl Cursor<'_> {
     #[cycle(parser)]
     #[tactic(auto, unfolding(crate::specs::Reading::joined_at))]
     fn joined_factor(&mut self, room: u32) -> Result<(u32, ParsedExpr), Stop>
-        ensures { Gives operand_of result (at_of self.new.counts self.new.rest.now) (joined_at (Form.Sign Sign.Ampersand) (factor_at room (enter_at room)) (at_of self.old.counts self.old.rest.now)) }
+        ensures { Gives operand_of result self.new (joined_at (Form.Sign Sign.Ampersand) (factor_at room (enter_at room)) self.old) }
     {
         let line = self.take_operator(Form::Sign(Sign::Ampersand))?.line;
         let operand = self.factor(room)?;
@@ -265,10 +265,10 @@ impl Cursor<'_> {
     /// Factors, each behind a `&`.
     #[cycle(parser)]
     fn more_factors(&mut self, room: u32) -> Result<Vec<(u32, ParsedExpr)>, Stop>
-        ensures { Gives (λ v. map operand_of v.items) result (at_of self.new.counts self.new.rest.now)
-            (list_at (code (Form.Sign Sign.Ampersand) ∷ []) (joined_at (Form.Sign Sign.Ampersand) (factor_at room (enter_at room))) (at_of self.old.counts self.old.rest.now)) }
+        ensures { Gives (λ v. map operand_of v.items) result self.new
+            (list_at (code (Form.Sign Sign.Ampersand) ∷ []) (joined_at (Form.Sign Sign.Ampersand) (factor_at room (enter_at room))) self.old) }
     {
-        let mut others = Vec::new(self.alloc);
+        let mut others = Vec::new(self.alloc());
         while self.at(Form::Sign(Sign::Ampersand)) {
             let item = self.joined_factor(room)?;
             others.push(item)?;
@@ -279,11 +279,11 @@ impl Cursor<'_> {
     #[cycle(parser)]
     #[tactic(auto, unfolding(crate::specs::Reading::cat_at))]
     fn cat(&mut self, room: u32) -> Result<ParsedExpr, Stop>
-        ensures { Gives view result (at_of self.new.counts self.new.rest.now) (cat_at room (enter_at room) (at_of self.old.counts self.old.rest.now)) }
+        ensures { Gives view result self.new (cat_at room (enter_at room) self.old) }
     {
         let first = self.factor(room)?;
         let others = self.more_factors(room)?;
-        join(self.alloc, Operator::Join, first, others)
+        join(self.alloc(), Operator::Join, first, others)
     }
 
     /// An operator and the second of two operands that are compared.
@@ -296,18 +296,18 @@ impl Cursor<'_> {
         left: ParsedExpr,
         room: u32,
     ) -> Result<ParsedExpr, Stop>
-        ensures { Gives view result (at_of self.new.counts self.new.rest.now) (pair_at form operator (cat_at room (enter_at room)) (view left) (at_of self.old.counts self.old.rest.now)) }
+        ensures { Gives view result self.new (pair_at form operator (cat_at room (enter_at room)) (view left) self.old) }
     {
         let line = self.take_operator(form)?.line;
         let right = self.cat(room)?;
-        join_two(self.alloc, operator, line, left, right)
+        join_two(self.alloc(), operator, line, left, right)
     }
 
     /// Behind the first operand of a relation.
     #[cycle(parser)]
     #[tactic(auto, unfolding(crate::specs::Reading::compared_at))]
     fn compared(&mut self, left: ParsedExpr, room: u32) -> Result<ParsedExpr, Stop>
-        ensures { Gives view result (at_of self.new.counts self.new.rest.now) (compared_at (cat_at room (enter_at room)) (view left) (at_of self.old.counts self.old.rest.now)) }
+        ensures { Gives view result self.new (compared_at (cat_at room (enter_at room)) (view left) self.old) }
     {
         if self.at(Form::Sign(Sign::Equal)) {
             self.comparison(Form::Sign(Sign::Equal), Operator::Equal, left, room)
@@ -321,7 +321,7 @@ impl Cursor<'_> {
     #[cycle(parser)]
     #[tactic(auto, unfolding(crate::specs::Reading::relation_at))]
     fn relation(&mut self, room: u32) -> Result<ParsedExpr, Stop>
-        ensures { Gives view result (at_of self.new.counts self.new.rest.now) (relation_at room (enter_at room) (at_of self.old.counts self.old.rest.now)) }
+        ensures { Gives view result self.new (relation_at room (enter_at room) self.old) }
     {
         let left = self.cat(room)?;
         self.compared(left, room)
@@ -331,7 +331,7 @@ impl Cursor<'_> {
     #[cycle(parser)]
     #[tactic(auto, unfolding(crate::specs::Reading::joined_at))]
     fn joined_relation(&mut self, form: Form, room: u32) -> Result<(u32, ParsedExpr), Stop>
-        ensures { Gives operand_of result (at_of self.new.counts self.new.rest.now) (joined_at form (relation_at room (enter_at room)) (at_of self.old.counts self.old.rest.now)) }
+        ensures { Gives operand_of result self.new (joined_at form (relation_at room (enter_at room)) self.old) }
     {
         let line = self.take_operator(form)?.line;
         let operand = self.relation(room)?;
@@ -346,10 +346,10 @@ impl Cursor<'_> {
         first: (u32, ParsedExpr),
         room: u32,
     ) -> Result<Vec<(u32, ParsedExpr)>, Stop>
-        ensures { Gives (λ v. map operand_of v.items) result (at_of self.new.counts self.new.rest.now)
-            (with_front (operand_of first ∷ []) (list_at (code form ∷ []) (joined_at form (relation_at room (enter_at room))) (at_of self.old.counts self.old.rest.now))) }
+        ensures { Gives (λ v. map operand_of v.items) result self.new
+            (with_front (operand_of first ∷ []) (list_at (code form ∷ []) (joined_at form (relation_at room (enter_at room))) self.old)) }
     {
-        let mut others = Vec::new(self.alloc);
+        let mut others = Vec::new(self.alloc());
         others.push(first)?;
         while self.at(form) {
             let item = self.joined_relation(form, room)?;
@@ -368,11 +368,11 @@ impl Cursor<'_> {
         left: ParsedExpr,
         room: u32,
     ) -> Result<ParsedExpr, Stop>
-        ensures { Gives view result (at_of self.new.counts self.new.rest.now) (chain_at form operator (relation_at room (enter_at room)) (view left) (at_of self.old.counts self.old.rest.now)) }
+        ensures { Gives view result self.new (chain_at form operator (relation_at room (enter_at room)) (view left) self.old) }
     {
         let first = self.joined_relation(form, room)?;
         let others = self.more_relations(form, first, room)?;
-        join(self.alloc, operator, left, others)
+        join(self.alloc(), operator, left, others)
     }
 
     /// One more relation, behind an operator that joins two alone.
@@ -385,17 +385,17 @@ impl Cursor<'_> {
         left: ParsedExpr,
         room: u32,
     ) -> Result<ParsedExpr, Stop>
-        ensures { Gives view result (at_of self.new.counts self.new.rest.now) (pair_at form operator (relation_at room (enter_at room)) (view left) (at_of self.old.counts self.old.rest.now)) }
+        ensures { Gives view result self.new (pair_at form operator (relation_at room (enter_at room)) (view left) self.old) }
     {
         let (line, right) = self.joined_relation(form, room)?;
-        join_two(self.alloc, operator, line, left, right)
+        join_two(self.alloc(), operator, line, left, right)
     }
 
     /// Behind the first relation of an expression.
     #[cycle(parser)]
     #[tactic(auto, unfolding(crate::specs::Reading::logical_at))]
     fn logical(&mut self, left: ParsedExpr, room: u32) -> Result<ParsedExpr, Stop>
-        ensures { Gives view result (at_of self.new.counts self.new.rest.now) (logical_at (relation_at room (enter_at room)) (view left) (at_of self.old.counts self.old.rest.now)) }
+        ensures { Gives view result self.new (logical_at (relation_at room (enter_at room)) (view left) self.old) }
     {
         if self.at(Form::Keyword(Keyword::And)) {
             self.chain(Form::Keyword(Keyword::And), Operator::And, left, room)
@@ -418,7 +418,7 @@ impl Cursor<'_> {
     #[cycle(parser)]
     #[tactic(auto, unfolding(crate::specs::Reading::expression_over_at))]
     pub fn expression(&mut self, room: u32) -> Result<ParsedExpr, Stop>
-        ensures { Gives view result (at_of self.new.counts self.new.rest.now) (expression_at room (at_of self.old.counts self.old.rest.now)) }
+        ensures { Gives view result self.new (expression_at room self.old) }
     {
         let left = self.relation(room)?;
         self.logical(left, room)

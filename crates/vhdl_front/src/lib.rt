@@ -8,7 +8,6 @@ mod expression;
 mod laws;
 mod reader;
 
-pub use counts::Counts;
 pub use cursor::{Cursor, name_bytes};
 pub use laws::one_answer;
-pub use reader::{TokenReader, stop_error};
+pub use reader::{TokenReader, line_of, stop_error};

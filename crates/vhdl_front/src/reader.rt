@@ -4,12 +4,11 @@ ghost use Rattle.vlsi_base.specs.Tree.{view};
 ghost use Rattle.vlsi_base.specs.declared.fault.ReadError.TheVariants.{Memory};
 ghost use Rattle.grammar_theory.specs.Marks.{State};
 ghost use Rattle.grammar_theory.specs.Outcome.{start};
-ghost use Rattle.vhdl_front.specs.Cursor.{at_of};
-ghost use Rattle.vhdl_front.specs.Front.{line_at, line_left, breach_error, reason_error, OrMemory, Becomes, Again, IsRead, IsSameText, at_first, front, next_token, rest_of};
+ghost use Rattle.vhdl_front.specs.Cursor.{at_first, rest_of};
+ghost use Rattle.vhdl_front.specs.Front.{line_at, line_left, breach_error, reason_error, OrMemory, Becomes, Again, IsRead, IsSameText, front, next_token};
 ghost use Rattle.vhdl_front.specs.Expression.{expression as expression_grammar};
 ghost use Rattle.vhdl_front.specs.Entity.{entity as entity_grammar, declarations as declarations_grammar};
 
-use crate::counts::Counts;
 use crate::cursor::Cursor;
 use grammar_theory::{Breach, CHAIN, DEPTH, Reason, Stop};
 use std::alloc::{AllocError, Global};
@@ -49,8 +48,8 @@ fn repeat(alloc: Global, error: &ReadError) -> ReadError
     }
 }
 
-/// The line of the token from which on so many are left.
-fn line_of(last_line: u32, tokens: &[PlacedToken], left: usize) -> u32
+/// The line of the token from which on so many are left; the end stands on the last line.
+pub fn line_of(last_line: u32, tokens: &[PlacedToken], left: usize) -> u32
     ensures { result ≡ line_left last_line tokens.now left }
 {
     let rest = &tokens[tokens.len().saturating_sub(left)..];
@@ -147,11 +146,7 @@ impl<'a> TokenReader<'a> {
         ensures fresh { (front result).refused ≡ None }
     {
         TokenReader {
-            cursor: Cursor {
-                rest: tokens.items.as_slice(),
-                counts: Counts::new(alloc),
-                alloc,
-            },
+            cursor: Cursor::new(alloc, tokens.items.as_slice()),
             pragmas: &tokens.pragmas,
             last_line: tokens.last_line,
             room: DEPTH,
@@ -165,8 +160,8 @@ impl<'a> TokenReader<'a> {
         ensures some { IsSome self.new.refused }
         ensures same { IsSameText (front self.old) (front self.new) }
     {
-        let kept = stop_error(self.cursor.alloc, self.last_line, before, stop);
-        let answer = repeat(self.cursor.alloc, &kept);
+        let kept = stop_error(self.cursor.alloc(), self.last_line, before, stop);
+        let answer = repeat(self.cursor.alloc(), &kept);
         self.refused = Some(kept);
         answer
     }
@@ -180,10 +175,10 @@ impl<'a> TokenReader<'a> {
         ensures same { IsSameText (front self.old) (front self.new) }
     {
         if let Some(error) = &self.refused {
-            return Err(repeat(self.cursor.alloc, error));
+            return Err(repeat(self.cursor.alloc(), error));
         }
-        let before = self.cursor.rest;
-        self.cursor.counts.operators = 0;
+        let before = self.cursor.rest();
+        self.cursor.restart();
         match self.cursor.expression(self.room) {
             Ok(parsed) => Ok(parsed),
             Err(stop) => Err(self.stop(before, stop)),
@@ -198,9 +193,9 @@ impl<'a> TokenReader<'a> {
         ensures same { IsSameText (front self.old) (front self.new) }
     {
         if let Some(error) = &self.refused {
-            return Err(repeat(self.cursor.alloc, error));
+            return Err(repeat(self.cursor.alloc(), error));
         }
-        let before = self.cursor.rest;
+        let before = self.cursor.rest();
         match self.cursor.entity(self.room) {
             Ok(entity) => Ok(entity),
             Err(stop) => Err(self.stop(before, stop)),
@@ -216,9 +211,9 @@ impl<'a> TokenReader<'a> {
         ensures same { IsSameText (front self.old) (front self.new) }
     {
         if let Some(error) = &self.refused {
-            return Err(repeat(self.cursor.alloc, error));
+            return Err(repeat(self.cursor.alloc(), error));
         }
-        let before = self.cursor.rest;
+        let before = self.cursor.rest();
         match self.cursor.declarations(self.room) {
             Ok(declarations) => Ok(declarations),
             Err(stop) => Err(self.stop(before, stop)),
@@ -239,7 +234,7 @@ impl<'a> TokenReader<'a> {
         if self.refused.is_some() {
             return None;
         }
-        match self.cursor.rest.first() {
+        match self.cursor.rest().first() {
             Some(next) => Some(&next.token),
             None => None,
         }
@@ -249,7 +244,7 @@ impl<'a> TokenReader<'a> {
     pub fn line(&self) -> u32
         ensures { result ≡ line_at (front self.now).last_line (front self.now).here.rest }
     {
-        line_of_next(self.last_line, self.cursor.rest)
+        line_of_next(self.last_line, self.cursor.rest())
     }
 
     /// Takes the next token, of which there must be one. Takes no memory.
@@ -260,7 +255,7 @@ impl<'a> TokenReader<'a> {
         ensures refused { (front self.new).refused ≡ (front self.old).refused }
         ensures same { IsSameText (front self.old) (front self.new) }
     {
-        self.cursor.rest = &self.cursor.rest[1..];
+        self.cursor.skip();
     }
 
     /// Counts an if or a case into the depth. Refused by `Limit` of `Depth`, with 257 reached, where 256 parentheses, ifs and
@@ -276,11 +271,11 @@ impl<'a> TokenReader<'a> {
         ensures same { ((front self.new).last_line ≡ (front self.old).last_line) × ((front self.new).pragmas ≡ (front self.old).pragmas) }
     {
         if let Some(error) = &self.refused {
-            return Err(repeat(self.cursor.alloc, error));
+            return Err(repeat(self.cursor.alloc(), error));
         }
         if self.room == 0 {
             let error = limit(LimitKind::Depth, u64::from(DEPTH) + 1);
-            let answer = repeat(self.cursor.alloc, &error);
+            let answer = repeat(self.cursor.alloc(), &error);
             self.refused = Some(error);
             return Err(answer);
         }

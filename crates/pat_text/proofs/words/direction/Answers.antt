@@ -1,6 +1,5 @@
 use Rattle.std.proofs.Common.{rules, false, is_some, unwrap_or}
 use Rattle.grammar_theory.specs.declared.form.Form.TheVariants as form
-use Rattle.vhdl_front.specs.Cursor.{at_of}
 use Rattle.pat_text.specs.Spelled.{text_of, direction_named}
 use Rattle.pat_text.specs.Reading.{direction_at}
 use Rattle.pat_text.proofs.Fitting.{fitting}
@@ -10,6 +9,6 @@ pub returns : goal.returns
 unfolding direction_at
 returns c =
     fitting form.Identifier (λ t. is_some (direction_named (text_of t))) (λ t. unwrap_or (direction_named (text_of t)) false)
-    (at_of c.args.cursor.now.counts c.args.cursor.now.rest.now) (at_of c.take_fitting.new.self.counts c.take_fitting.new.self.rest.now)
+    c.args.cursor.now c.take_fitting.new.self
     c.in-Some.next.now c.in-Some.field-0-1.now c.in_ok-_word._word.now c.is_some.result c.unwrap_or.result
     (search rules) (search rules) (search rules) (search rules)

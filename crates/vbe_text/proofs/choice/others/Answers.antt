@@ -7,7 +7,6 @@ use Rattle.grammar_theory.specs.Tokens.{code, is_at, among}
 use Rattle.grammar_theory.specs.Outcome.{Fails, list_at}
 use Rattle.grammar_theory.proofs.Bundle.{among_one}
 use Rattle.grammar_theory.proofs.Listing.{list_begins, list_goes_on, list_fails, list_ends}
-use Rattle.vhdl_front.specs.Cursor.{at_of}
 use Rattle.vbe_text.specs.Source.{further_view}
 use Rattle.vbe_text.specs.VbeReading.{further_at}
 use Rattle.vbe_text.proofs.VbeLanguage.{further_consumes}
@@ -16,39 +15,39 @@ use Rattle.vbe_text.proofs.choice.others.Goals as goal
 pub loop-cursor-init : goal.loop-cursor-init
 loop-cursor-init c =
     let e : map further_view c.new-others.result.items ≡ [] = search rules in
-    rw e (list_begins (code (form.Keyword word.When) ∷ []) (further_at c.args.room) (at_of c.args.cursor.now.counts c.args.cursor.now.rest.now))
+    rw e (list_begins (code (form.Keyword word.When) ∷ []) (further_at c.args.room) c.args.cursor.now)
 
 pub returns-in_err-next : goal.returns-in_err-next
 returns-in_err-next c =
     let p = err_from_is_err_and c.from_residual.result c.from_residual.ensures.1 in
-    let here = at_of c.loop-cursor.cursor.counts c.loop-cursor.cursor.rest.now in
-    let at : is_at (form.Keyword word.When) c.loop-cursor.cursor.rest.now ≡ true = search rules in
-    let any : among (code (form.Keyword word.When) ∷ []) c.loop-cursor.cursor.rest.now ≡ true = among_one (form.Keyword word.When) c.loop-cursor.cursor.rest.now ∙ at in
+    let here = c.loop-cursor.cursor in
+    let at : is_at (form.Keyword word.When) c.loop-cursor.cursor.rest ≡ true = search rules in
+    let any : among (code (form.Keyword word.When) ∷ []) c.loop-cursor.cursor.rest ≡ true = among_one (form.Keyword word.When) c.loop-cursor.cursor.rest ∙ at in
     let read : Fails c.in_err-next.field-0.0 (further_at c.args.room here) = search rules in
     rw (p.1, p.2) (list_fails (code (form.Keyword word.When) ∷ []) (further_at c.args.room) (map further_view c.loop-cursor.others.items) here
-    (list_at (code (form.Keyword word.When) ∷ []) (further_at c.args.room) (at_of c.args.cursor.now.counts c.args.cursor.now.rest.now)) c.loop-cursor.invariant any c.in_err-next.field-0.0 read)
+    (list_at (code (form.Keyword word.When) ∷ []) (further_at c.args.room) c.args.cursor.now) c.loop-cursor.invariant any c.in_err-next.field-0.0 read)
 
 pub loop-cursor-preserved : goal.loop-cursor-preserved
 loop-cursor-preserved c =
-    let at : is_at (form.Keyword word.When) c.loop-cursor.cursor.rest.now ≡ true = search rules in
-    let here = at_of c.loop-cursor.cursor.counts c.loop-cursor.cursor.rest.now in
-    let there = at_of c.another.new.cursor.counts c.another.new.cursor.rest.now in
+    let at : is_at (form.Keyword word.When) c.loop-cursor.cursor.rest ≡ true = search rules in
+    let here = c.loop-cursor.cursor in
+    let there = c.another.new.cursor in
     let read : further_at c.args.room here ≡ Ok (further_view c.in_ok-next.next, there) = search rules in
-    let any : among (code (form.Keyword word.When) ∷ []) c.loop-cursor.cursor.rest.now ≡ true = among_one (form.Keyword word.When) c.loop-cursor.cursor.rest.now ∙ at in
+    let any : among (code (form.Keyword word.When) ∷ []) c.loop-cursor.cursor.rest ≡ true = among_one (form.Keyword word.When) c.loop-cursor.cursor.rest ∙ at in
     let e : map further_view c.push.new.self.items ≡ map further_view c.loop-cursor.others.items ++ further_view c.in_ok-next.next ∷ [] = rw c.in_ok-push.ensures.items (map_push further_view c.loop-cursor.others.items c.in_ok-next.next) in
     rw e (list_goes_on (code (form.Keyword word.When) ∷ []) (further_at c.args.room) (map further_view c.loop-cursor.others.items) here
-    (list_at (code (form.Keyword word.When) ∷ []) (further_at c.args.room) (at_of c.args.cursor.now.counts c.args.cursor.now.rest.now)) c.loop-cursor.invariant any (further_view c.in_ok-next.next) there read (further_consumes c.args.room here there (further_view c.in_ok-next.next) read))
+    (list_at (code (form.Keyword word.When) ∷ []) (further_at c.args.room) c.args.cursor.now) c.loop-cursor.invariant any (further_view c.in_ok-next.next) there read (further_consumes c.args.room here there (further_view c.in_ok-next.next) read))
 
 pub loop-cursor-smaller : goal.loop-cursor-smaller
 loop-cursor-smaller c =
-    let at : is_at (form.Keyword word.When) c.loop-cursor.cursor.rest.now ≡ true = search rules in
-    let here = at_of c.loop-cursor.cursor.counts c.loop-cursor.cursor.rest.now in
-    let there = at_of c.another.new.cursor.counts c.another.new.cursor.rest.now in
+    let at : is_at (form.Keyword word.When) c.loop-cursor.cursor.rest ≡ true = search rules in
+    let here = c.loop-cursor.cursor in
+    let there = c.another.new.cursor in
     let read : further_at c.args.room here ≡ Ok (further_view c.in_ok-next.next, there) = search rules in
     further_consumes c.args.room here there (further_view c.in_ok-next.next) read
 
 pub returns : goal.returns
 returns c =
-    let at : is_at (form.Keyword word.When) c.loop-cursor.cursor.rest.now ≡ false = search rules in
-    list_ends (code (form.Keyword word.When) ∷ []) (further_at c.args.room) (map further_view c.loop-cursor.others.items) (at_of c.loop-cursor.cursor.counts c.loop-cursor.cursor.rest.now)
-    (list_at (code (form.Keyword word.When) ∷ []) (further_at c.args.room) (at_of c.args.cursor.now.counts c.args.cursor.now.rest.now)) c.loop-cursor.invariant (among_one (form.Keyword word.When) c.loop-cursor.cursor.rest.now ∙ at)
+    let at : is_at (form.Keyword word.When) c.loop-cursor.cursor.rest ≡ false = search rules in
+    list_ends (code (form.Keyword word.When) ∷ []) (further_at c.args.room) (map further_view c.loop-cursor.others.items) c.loop-cursor.cursor
+    (list_at (code (form.Keyword word.When) ∷ []) (further_at c.args.room) c.args.cursor.now) c.loop-cursor.invariant (among_one (form.Keyword word.When) c.loop-cursor.cursor.rest ∙ at)

@@ -4,14 +4,13 @@ use Rattle.grammar_theory.specs.declared.form.Form.TheVariants as form
 use Rattle.grammar_theory.specs.Tokens.{code}
 use Rattle.grammar_theory.specs.Outcome.{list_at}
 use Rattle.grammar_theory.proofs.Listing.{Listed}
-use Rattle.vhdl_front.specs.Cursor.{at_of}
 use Rattle.vbe_text.specs.Source.{further_view}
 use Rattle.vbe_text.specs.VbeReading.{further_at}
 use Rattle.vbe_text.proofs.choice.others.Given as goal
 
 abbrev pub invariant-loop-cursor : goal.invariant-loop-cursor
-invariant-loop-cursor l = Listed (code (form.Keyword word.When) ∷ []) (further_at l.room) (map further_view l.others.items) (at_of l.cursor.counts l.cursor.rest.now)
-    (list_at (code (form.Keyword word.When) ∷ []) (further_at l.room) (at_of l.initial.cursor.counts l.initial.cursor.rest.now))
+invariant-loop-cursor l = Listed (code (form.Keyword word.When) ∷ []) (further_at l.room) (map further_view l.others.items) l.cursor
+    (list_at (code (form.Keyword word.When) ∷ []) (further_at l.room) l.initial.cursor)
 
 abbrev pub decreases-loop-cursor : goal.decreases-loop-cursor
-decreases-loop-cursor l = length l.cursor.rest.now
+decreases-loop-cursor l = length l.cursor.rest

@@ -1,8 +1,6 @@
 use Rattle.std.proofs.Common.{◌≡◌, ◌∙◌, List, ap, subst}
 use Rattle.vhdl_token.specs.declared.token.PlacedToken.{PlacedToken}
-use Rattle.grammar_theory.specs.Marks.{State}
-use Rattle.grammar_theory.specs.Outcome.{At, start}
-use Rattle.vhdl_front.specs.Cursor.{at_of}
+use Rattle.grammar_theory.specs.Outcome.{start}
 use Rattle.vhdl_front.specs.Front.{Becomes}
 use Rattle.vbe_text.specs.Source.{source_view}
 use Rattle.vbe_text.proofs.Whole.{is_source, is_refused}
@@ -10,13 +8,9 @@ use Rattle.vbe_text.proofs.source.read_source.Goals as goal
 
 pub returns-in-Ok-clause-accepted : goal.returns-in-Ok-clause-accepted
 returns-in-Ok-clause-accepted c =
-    let here = at_of c.new.result c.as_slice.result.now in
-    let first : here ≡ start c.args.tokens.now.items = ap (λ (s : State). record { state = s; rest = c.as_slice.result.now }) c.new.ensures ∙ ap start c.as_slice.ensures in
-    is_source c.args.tokens.now here (at_of c.whole.new.cursor.counts c.whole.new.cursor.rest.now) (source_view c.in-Ok.design) first c.in-Ok.ensures
+    is_source c.args.tokens.now c.new-cursor.result c.whole.new.cursor (source_view c.in-Ok.design) (c.new-cursor.ensures ∙ ap start c.as_slice.ensures) c.in-Ok.ensures
 
 pub returns-clause-refused : goal.returns-clause-refused
 returns-clause-refused c =
-    let here = at_of c.new.result c.as_slice.result.now in
-    let first : here ≡ start c.args.tokens.now.items = ap (λ (s : State). record { state = s; rest = c.as_slice.result.now }) c.new.ensures ∙ ap start c.as_slice.ensures in
     let Right : List PlacedToken → Type 0 = λ ts. Becomes c.args.tokens.now.last_line ts c.in-Err.stop c.stop_error.result in
-    is_refused c.args.tokens.now here c.in-Err.stop c.stop_error.result first c.in-Err.ensures (subst Right c.as_slice-in-Err.ensures c.stop_error.ensures)
+    is_refused c.args.tokens.now c.new-cursor.result c.in-Err.stop c.stop_error.result (c.new-cursor.ensures ∙ ap start c.as_slice.ensures) c.in-Err.ensures (subst Right c.as_slice-in-Err.ensures c.stop_error.ensures)

@@ -5,7 +5,6 @@ use Rattle.grammar_theory.specs.declared.form.Form.TheVariants as form
 use Rattle.grammar_theory.specs.Tokens.{code}
 use Rattle.grammar_theory.specs.Outcome.{list_at, with_front}
 use Rattle.grammar_theory.proofs.Listing.{Listed}
-use Rattle.vhdl_front.specs.Cursor.{at_of}
 use Rattle.vhdl_front.specs.Reading.{joined_at, factor_at, relation_at, enter_at}
 use Rattle.vhdl_front.proofs.cursor.Cursor.+parser.Given as goal
 
@@ -58,15 +57,15 @@ abbrev pub decreases-expression : goal.decreases-expression
 decreases-expression l = 32 * l.room + 15
 
 abbrev pub invariant-more_factors-loop-self : goal.invariant-more_factors-loop-self
-invariant-more_factors-loop-self l = Listed (code (form.Sign sign.Ampersand) ∷ []) (joined_at (form.Sign sign.Ampersand) (factor_at l.room (enter_at l.room))) (map operand_of l.others.items) (at_of l.self.counts l.self.rest.now)
-    (list_at (code (form.Sign sign.Ampersand) ∷ []) (joined_at (form.Sign sign.Ampersand) (factor_at l.room (enter_at l.room))) (at_of l.initial.self.counts l.initial.self.rest.now))
+invariant-more_factors-loop-self l = Listed (code (form.Sign sign.Ampersand) ∷ []) (joined_at (form.Sign sign.Ampersand) (factor_at l.room (enter_at l.room))) (map operand_of l.others.items) l.self
+    (list_at (code (form.Sign sign.Ampersand) ∷ []) (joined_at (form.Sign sign.Ampersand) (factor_at l.room (enter_at l.room))) l.initial.self)
 
 abbrev pub decreases-more_factors-loop-self : goal.decreases-more_factors-loop-self
-decreases-more_factors-loop-self l = length l.self.rest.now
+decreases-more_factors-loop-self l = length l.self.rest
 
 abbrev pub invariant-more_relations-loop-form : goal.invariant-more_relations-loop-form
-invariant-more_relations-loop-form l = Listed (code l.form ∷ []) (joined_at l.form (relation_at l.room (enter_at l.room))) (map operand_of l.others.items) (at_of l.self.counts l.self.rest.now)
-    (with_front (operand_of l.fn.first ∷ []) (list_at (code l.form ∷ []) (joined_at l.form (relation_at l.room (enter_at l.room))) (at_of l.initial.self.counts l.initial.self.rest.now)))
+invariant-more_relations-loop-form l = Listed (code l.form ∷ []) (joined_at l.form (relation_at l.room (enter_at l.room))) (map operand_of l.others.items) l.self
+    (with_front (operand_of l.fn.first ∷ []) (list_at (code l.form ∷ []) (joined_at l.form (relation_at l.room (enter_at l.room))) l.initial.self))
 
 abbrev pub decreases-more_relations-loop-form : goal.decreases-more_relations-loop-form
-decreases-more_relations-loop-form l = length l.self.rest.now
+decreases-more_relations-loop-form l = length l.self.rest

@@ -5,12 +5,11 @@ use Rattle.grammar_theory.specs.declared.form.Form.TheVariants as form
 use Rattle.grammar_theory.specs.Tokens.{code}
 use Rattle.grammar_theory.specs.Outcome.{list_at, with_front}
 use Rattle.grammar_theory.proofs.Listing.{Listed}
-use Rattle.vhdl_front.specs.Cursor.{at_of}
 use Rattle.vhdl_front.specs.EntityReading.{next_generic_at}
 use Rattle.vhdl_front.proofs.cursor.Cursor.more_generics.Given as goal
 
 abbrev pub invariant-loop-self : goal.invariant-loop-self
-invariant-loop-self l = Listed (code (form.Sign sign.Semicolon) ∷ []) next_generic_at l.generics.items (at_of l.self.counts l.self.rest.now) (with_front (l.fn.first ∷ []) (list_at (code (form.Sign sign.Semicolon) ∷ []) next_generic_at (at_of l.initial.self.counts l.initial.self.rest.now)))
+invariant-loop-self l = Listed (code (form.Sign sign.Semicolon) ∷ []) next_generic_at l.generics.items l.self (with_front (l.fn.first ∷ []) (list_at (code (form.Sign sign.Semicolon) ∷ []) next_generic_at l.initial.self))
 
 abbrev pub decreases-loop-self : goal.decreases-loop-self
-decreases-loop-self l = length l.self.rest.now
+decreases-loop-self l = length l.self.rest

@@ -7,7 +7,6 @@ use Rattle.grammar_theory.specs.Tokens.{code, is_at, among}
 use Rattle.grammar_theory.specs.Outcome.{Fails, list_at, with_front}
 use Rattle.grammar_theory.proofs.Bundle.{among_one}
 use Rattle.grammar_theory.proofs.Listing.{list_begins, list_begins_with, list_goes_on, list_fails, list_ends}
-use Rattle.vhdl_front.specs.Cursor.{at_of}
 use Rattle.vhdl_front.specs.EntityReading.{another_at}
 use Rattle.vhdl_front.proofs.EntityLanguage.{another_consumes}
 use Rattle.vhdl_front.proofs.cursor.Cursor.more_names.Goals as goal
@@ -15,36 +14,36 @@ use Rattle.vhdl_front.proofs.cursor.Cursor.more_names.Goals as goal
 pub loop-self-init : goal.loop-self-init
 loop-self-init c =
     let e : c.push.new.self.items ≡ c.args.first ∷ [] = search rules in
-    rw e (list_begins_with (code (form.Sign sign.Comma) ∷ []) (another_at c.args.line) (c.args.first ∷ []) (at_of c.args.self.now.counts c.args.self.now.rest.now))
+    rw e (list_begins_with (code (form.Sign sign.Comma) ∷ []) (another_at c.args.line) (c.args.first ∷ []) c.args.self.now)
 
 pub returns-in_err-next : goal.returns-in_err-next
 returns-in_err-next c =
     let p = err_from_is_err_and c.from_residual-in_err-next.result c.from_residual-in_err-next.ensures.1 in
-    let here = at_of c.loop-self.self.counts c.loop-self.self.rest.now in
-    let at : is_at (form.Sign sign.Comma) c.loop-self.self.rest.now ≡ true = search rules in
-    let any : among (code (form.Sign sign.Comma) ∷ []) c.loop-self.self.rest.now ≡ true = among_one (form.Sign sign.Comma) c.loop-self.self.rest.now ∙ at in
+    let here = c.loop-self.self in
+    let at : is_at (form.Sign sign.Comma) c.loop-self.self.rest ≡ true = search rules in
+    let any : among (code (form.Sign sign.Comma) ∷ []) c.loop-self.self.rest ≡ true = among_one (form.Sign sign.Comma) c.loop-self.self.rest ∙ at in
     let read : Fails c.in_err-next.field-0.0 ((another_at c.args.line) here) = search rules in
-    rw (p.1, p.2) (list_fails (code (form.Sign sign.Comma) ∷ []) (another_at c.args.line) c.loop-self.names.items here (with_front (c.args.first ∷ []) (list_at (code (form.Sign sign.Comma) ∷ []) (another_at c.args.line) (at_of c.args.self.now.counts c.args.self.now.rest.now))) c.loop-self.invariant any c.in_err-next.field-0.0 read)
+    rw (p.1, p.2) (list_fails (code (form.Sign sign.Comma) ∷ []) (another_at c.args.line) c.loop-self.names.items here (with_front (c.args.first ∷ []) (list_at (code (form.Sign sign.Comma) ∷ []) (another_at c.args.line) c.args.self.now)) c.loop-self.invariant any c.in_err-next.field-0.0 read)
 
 pub loop-self-preserved : goal.loop-self-preserved
 loop-self-preserved c =
-    let here = at_of c.loop-self.self.counts c.loop-self.self.rest.now in
-    let there = at_of c.another.new.self.counts c.another.new.self.rest.now in
-    let at : is_at (form.Sign sign.Comma) c.loop-self.self.rest.now ≡ true = search rules in
+    let here = c.loop-self.self in
+    let there = c.another.new.self in
+    let at : is_at (form.Sign sign.Comma) c.loop-self.self.rest ≡ true = search rules in
     let read : (another_at c.args.line) here ≡ Ok (c.in_ok-next.next, there) = search rules in
-    let any : among (code (form.Sign sign.Comma) ∷ []) c.loop-self.self.rest.now ≡ true = among_one (form.Sign sign.Comma) c.loop-self.self.rest.now ∙ at in
+    let any : among (code (form.Sign sign.Comma) ∷ []) c.loop-self.self.rest ≡ true = among_one (form.Sign sign.Comma) c.loop-self.self.rest ∙ at in
     let e : c.push-in-loop-self.new.self.items ≡ c.loop-self.names.items ++ c.in_ok-next.next ∷ [] = search rules in
-    rw e (list_goes_on (code (form.Sign sign.Comma) ∷ []) (another_at c.args.line) c.loop-self.names.items here (with_front (c.args.first ∷ []) (list_at (code (form.Sign sign.Comma) ∷ []) (another_at c.args.line) (at_of c.args.self.now.counts c.args.self.now.rest.now))) c.loop-self.invariant any c.in_ok-next.next there read (another_consumes c.args.line here there c.in_ok-next.next read))
+    rw e (list_goes_on (code (form.Sign sign.Comma) ∷ []) (another_at c.args.line) c.loop-self.names.items here (with_front (c.args.first ∷ []) (list_at (code (form.Sign sign.Comma) ∷ []) (another_at c.args.line) c.args.self.now)) c.loop-self.invariant any c.in_ok-next.next there read (another_consumes c.args.line here there c.in_ok-next.next read))
 
 pub loop-self-smaller : goal.loop-self-smaller
 loop-self-smaller c =
-    let here = at_of c.loop-self.self.counts c.loop-self.self.rest.now in
-    let there = at_of c.another.new.self.counts c.another.new.self.rest.now in
-    let at : is_at (form.Sign sign.Comma) c.loop-self.self.rest.now ≡ true = search rules in
+    let here = c.loop-self.self in
+    let there = c.another.new.self in
+    let at : is_at (form.Sign sign.Comma) c.loop-self.self.rest ≡ true = search rules in
     let read : (another_at c.args.line) here ≡ Ok (c.in_ok-next.next, there) = search rules in
     another_consumes c.args.line here there c.in_ok-next.next read
 
 pub returns : goal.returns
 returns c =
-    let at : is_at (form.Sign sign.Comma) c.loop-self.self.rest.now ≡ false = search rules in
-    list_ends (code (form.Sign sign.Comma) ∷ []) (another_at c.args.line) c.loop-self.names.items (at_of c.loop-self.self.counts c.loop-self.self.rest.now) (with_front (c.args.first ∷ []) (list_at (code (form.Sign sign.Comma) ∷ []) (another_at c.args.line) (at_of c.args.self.now.counts c.args.self.now.rest.now))) c.loop-self.invariant (among_one (form.Sign sign.Comma) c.loop-self.self.rest.now ∙ at)
+    let at : is_at (form.Sign sign.Comma) c.loop-self.self.rest ≡ false = search rules in
+    list_ends (code (form.Sign sign.Comma) ∷ []) (another_at c.args.line) c.loop-self.names.items c.loop-self.self (with_front (c.args.first ∷ []) (list_at (code (form.Sign sign.Comma) ∷ []) (another_at c.args.line) c.args.self.now)) c.loop-self.invariant (among_one (form.Sign sign.Comma) c.loop-self.self.rest ∙ at)

@@ -7,7 +7,6 @@ use Rattle.grammar_theory.specs.Tokens.{code, is_at, among}
 use Rattle.grammar_theory.specs.Outcome.{Fails, list_at, with_front}
 use Rattle.grammar_theory.proofs.Bundle.{among_one}
 use Rattle.grammar_theory.proofs.Listing.{list_begins, list_begins_with, list_goes_on, list_fails, list_ends}
-use Rattle.vhdl_front.specs.Cursor.{at_of}
 use Rattle.vhdl_front.specs.EntityReading.{signal_at, signals_at}
 use Rattle.vhdl_front.proofs.EntityLanguage.{signal_consumes}
 use Rattle.vhdl_front.proofs.cursor.Cursor.signals.Goals as goal
@@ -16,39 +15,39 @@ pub loop-self-init : goal.loop-self-init
 unfolding signals_at
 loop-self-init c =
     let e : c.new-signals.result.items ≡ [] = search rules in
-    rw e (list_begins (code (form.Keyword word.Signal) ∷ []) (signal_at c.args.room) (at_of c.args.self.now.counts c.args.self.now.rest.now))
+    rw e (list_begins (code (form.Keyword word.Signal) ∷ []) (signal_at c.args.room) c.args.self.now)
 
 pub returns-in_err-next : goal.returns-in_err-next
 unfolding signals_at
 returns-in_err-next c =
     let p = err_from_is_err_and c.from_residual.result c.from_residual.ensures.1 in
-    let here = at_of c.loop-self.self.counts c.loop-self.self.rest.now in
-    let at : is_at (form.Keyword word.Signal) c.loop-self.self.rest.now ≡ true = search rules in
-    let any : among (code (form.Keyword word.Signal) ∷ []) c.loop-self.self.rest.now ≡ true = among_one (form.Keyword word.Signal) c.loop-self.self.rest.now ∙ at in
+    let here = c.loop-self.self in
+    let at : is_at (form.Keyword word.Signal) c.loop-self.self.rest ≡ true = search rules in
+    let any : among (code (form.Keyword word.Signal) ∷ []) c.loop-self.self.rest ≡ true = among_one (form.Keyword word.Signal) c.loop-self.self.rest ∙ at in
     let read : Fails c.in_err-next.field-0.0 ((signal_at c.args.room) here) = search rules in
-    rw (p.1, p.2) (list_fails (code (form.Keyword word.Signal) ∷ []) (signal_at c.args.room) c.loop-self.signals.items here (list_at (code (form.Keyword word.Signal) ∷ []) (signal_at c.args.room) (at_of c.args.self.now.counts c.args.self.now.rest.now)) c.loop-self.invariant any c.in_err-next.field-0.0 read)
+    rw (p.1, p.2) (list_fails (code (form.Keyword word.Signal) ∷ []) (signal_at c.args.room) c.loop-self.signals.items here (list_at (code (form.Keyword word.Signal) ∷ []) (signal_at c.args.room) c.args.self.now) c.loop-self.invariant any c.in_err-next.field-0.0 read)
 
 pub loop-self-preserved : goal.loop-self-preserved
 unfolding signals_at
 loop-self-preserved c =
-    let here = at_of c.loop-self.self.counts c.loop-self.self.rest.now in
-    let there = at_of c.signal.new.self.counts c.signal.new.self.rest.now in
-    let at : is_at (form.Keyword word.Signal) c.loop-self.self.rest.now ≡ true = search rules in
+    let here = c.loop-self.self in
+    let there = c.signal.new.self in
+    let at : is_at (form.Keyword word.Signal) c.loop-self.self.rest ≡ true = search rules in
     let read : (signal_at c.args.room) here ≡ Ok (c.in_ok-next.next, there) = search rules in
-    let any : among (code (form.Keyword word.Signal) ∷ []) c.loop-self.self.rest.now ≡ true = among_one (form.Keyword word.Signal) c.loop-self.self.rest.now ∙ at in
+    let any : among (code (form.Keyword word.Signal) ∷ []) c.loop-self.self.rest ≡ true = among_one (form.Keyword word.Signal) c.loop-self.self.rest ∙ at in
     let e : c.push.new.self.items ≡ c.loop-self.signals.items ++ c.in_ok-next.next ∷ [] = search rules in
-    rw e (list_goes_on (code (form.Keyword word.Signal) ∷ []) (signal_at c.args.room) c.loop-self.signals.items here (list_at (code (form.Keyword word.Signal) ∷ []) (signal_at c.args.room) (at_of c.args.self.now.counts c.args.self.now.rest.now)) c.loop-self.invariant any c.in_ok-next.next there read (signal_consumes c.args.room here there c.in_ok-next.next read))
+    rw e (list_goes_on (code (form.Keyword word.Signal) ∷ []) (signal_at c.args.room) c.loop-self.signals.items here (list_at (code (form.Keyword word.Signal) ∷ []) (signal_at c.args.room) c.args.self.now) c.loop-self.invariant any c.in_ok-next.next there read (signal_consumes c.args.room here there c.in_ok-next.next read))
 
 pub loop-self-smaller : goal.loop-self-smaller
 loop-self-smaller c =
-    let here = at_of c.loop-self.self.counts c.loop-self.self.rest.now in
-    let there = at_of c.signal.new.self.counts c.signal.new.self.rest.now in
-    let at : is_at (form.Keyword word.Signal) c.loop-self.self.rest.now ≡ true = search rules in
+    let here = c.loop-self.self in
+    let there = c.signal.new.self in
+    let at : is_at (form.Keyword word.Signal) c.loop-self.self.rest ≡ true = search rules in
     let read : (signal_at c.args.room) here ≡ Ok (c.in_ok-next.next, there) = search rules in
     signal_consumes c.args.room here there c.in_ok-next.next read
 
 pub returns : goal.returns
 unfolding signals_at
 returns c =
-    let at : is_at (form.Keyword word.Signal) c.loop-self.self.rest.now ≡ false = search rules in
-    list_ends (code (form.Keyword word.Signal) ∷ []) (signal_at c.args.room) c.loop-self.signals.items (at_of c.loop-self.self.counts c.loop-self.self.rest.now) (list_at (code (form.Keyword word.Signal) ∷ []) (signal_at c.args.room) (at_of c.args.self.now.counts c.args.self.now.rest.now)) c.loop-self.invariant (among_one (form.Keyword word.Signal) c.loop-self.self.rest.now ∙ at)
+    let at : is_at (form.Keyword word.Signal) c.loop-self.self.rest ≡ false = search rules in
+    list_ends (code (form.Keyword word.Signal) ∷ []) (signal_at c.args.room) c.loop-self.signals.items c.loop-self.self (list_at (code (form.Keyword word.Signal) ∷ []) (signal_at c.args.room) c.args.self.now) c.loop-self.invariant (among_one (form.Keyword word.Signal) c.loop-self.self.rest ∙ at)

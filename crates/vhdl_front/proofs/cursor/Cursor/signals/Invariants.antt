@@ -5,12 +5,11 @@ use Rattle.grammar_theory.specs.declared.form.Form.TheVariants as form
 use Rattle.grammar_theory.specs.Tokens.{code}
 use Rattle.grammar_theory.specs.Outcome.{list_at, with_front}
 use Rattle.grammar_theory.proofs.Listing.{Listed}
-use Rattle.vhdl_front.specs.Cursor.{at_of}
 use Rattle.vhdl_front.specs.EntityReading.{signal_at}
 use Rattle.vhdl_front.proofs.cursor.Cursor.signals.Given as goal
 
 abbrev pub invariant-loop-self : goal.invariant-loop-self
-invariant-loop-self l = Listed (code (form.Keyword word.Signal) ∷ []) (signal_at l.room) l.signals.items (at_of l.self.counts l.self.rest.now) (list_at (code (form.Keyword word.Signal) ∷ []) (signal_at l.room) (at_of l.initial.self.counts l.initial.self.rest.now))
+invariant-loop-self l = Listed (code (form.Keyword word.Signal) ∷ []) (signal_at l.room) l.signals.items l.self (list_at (code (form.Keyword word.Signal) ∷ []) (signal_at l.room) l.initial.self)
 
 abbrev pub decreases-loop-self : goal.decreases-loop-self
-decreases-loop-self l = length l.self.rest.now
+decreases-loop-self l = length l.self.rest

@@ -1,7 +1,6 @@
 use Rattle.std.proofs.Common.{refl, rules, None}
 use Rattle.vlsi_base.specs.Tree.{view}
-use Rattle.vhdl_front.specs.Cursor.{at_of}
-use Rattle.vhdl_front.specs.Front.{at_first}
+use Rattle.vhdl_front.specs.Cursor.{at_first}
 use Rattle.vhdl_front.specs.Entity.{declarations}
 use Rattle.vhdl_front.specs.EntityReading.{declarations_at}
 use Rattle.vhdl_front.proofs.EntityLanguage.{declarations_answers}
@@ -9,7 +8,7 @@ use Rattle.vhdl_front.proofs.Right.{is_accepted, is_kept}
 use Rattle.vhdl_front.proofs.reader.TokenReader.declarations.Goals as goal
 
 pub returns-in-Ok-clause-right : goal.returns-in-Ok-clause-right
-returns-in-Ok-clause-right c = λ fresh. (is_accepted (declarations c.args.self.now.room) (declarations_at c.args.self.now.room) (declarations_answers c.args.self.now.room) (at_of c.args.self.now.cursor.counts c.args.self.now.cursor.rest.now) (at_of c.declarations.new.self.counts c.declarations.new.self.rest.now) c.in-Ok.declarations c.in-Ok.ensures, search rules)
+returns-in-Ok-clause-right c = λ fresh. (is_accepted (declarations c.args.self.now.room) (declarations_at c.args.self.now.room) (declarations_answers c.args.self.now.room) c.args.self.now.cursor c.declarations.new.self c.in-Ok.declarations c.in-Ok.ensures, search rules)
 
 pub returns-in-Err-clause-right : goal.returns-in-Err-clause-right
-returns-in-Err-clause-right c = λ fresh. is_kept (declarations c.args.self.now.room) (declarations_at c.args.self.now.room) (declarations_answers c.args.self.now.room) c.args.self.now.last_line (at_of c.args.self.now.cursor.counts c.args.self.now.cursor.rest.now) c.in-Err.stop c.in-Err.ensures c.stop.result c.stop.new.self.refused c.stop.ensures.kept c.stop.ensures.some
+returns-in-Err-clause-right c = λ fresh. is_kept (declarations c.args.self.now.room) (declarations_at c.args.self.now.room) (declarations_answers c.args.self.now.room) c.args.self.now.last_line c.args.self.now.cursor c.in-Err.stop c.in-Err.ensures c.stop.result c.stop.new.self.refused _ c.rest-before.ensures c.stop.ensures.kept c.stop.ensures.some
