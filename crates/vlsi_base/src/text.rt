@@ -86,7 +86,7 @@ impl Text {
 }
 
 /// The name of a file, as the words of a command spell it. Contracts see the list of its bytes.
-#[derive(Drop)]
+#[derive(Debug, Drop)]
 pub struct FileName {
     text: Text,
 }
