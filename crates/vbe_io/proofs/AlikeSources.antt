@@ -6,7 +6,7 @@ use Rattle.vlsi_base.specs.declared.fault.ReadError.{ReadError}
 use Rattle.vlsi_base.specs.declared.fault.ReadError.TheVariants as errors
 use Rattle.source_meaning.specs.declared.statement.Statement.{Statement}
 use Rattle.source_meaning.specs.declared.statement.DesignFile.{DesignFile}
-use Rattle.source_meaning.specs.declared.table.Symbol.{Symbol}
+use Rattle.source_meaning.specs.declared.symbol_table.Symbol.{Symbol}
 use Rattle.source_meaning.specs.Symbols.{symbols, port_symbols, signal_symbols}
 use Rattle.source_meaning.specs.Places.{Use, in_statements, statement_uses, first_unknown}
 use Rattle.source_meaning.specs.Widths.{port_faults, signal_faults, statement_faults, all_width_faults}

@@ -7,7 +7,7 @@ use Rattle.source_meaning.specs.declared.statement.Choice.{Choice}
 use Rattle.source_meaning.specs.declared.statement.Assignment.{Assignment}
 use Rattle.source_meaning.specs.declared.statement.Statement.{Statement}
 use Rattle.source_meaning.specs.declared.statement.Statement.TheVariants as statement
-use Rattle.source_meaning.specs.declared.table.Symbol.{Symbol}
+use Rattle.source_meaning.specs.declared.symbol_table.Symbol.{Symbol}
 use Rattle.source_meaning.specs.Symbols.{find}
 use Rattle.source_meaning.specs.Places.{in_alternatives, in_choice, in_assignments, reads, reads_in_choice, assignment_uses, statement_uses}
 use Rattle.source_meaning.specs.Formula.{Formula, formulas, first_bit, choose_bits, alternative_bits, choice_bits}
