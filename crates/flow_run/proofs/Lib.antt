@@ -4,3 +4,4 @@ pub mod Proper
 pub mod FirstLemmas
 pub mod CauseLemmas
 pub mod Telling
+pub mod RightInverter

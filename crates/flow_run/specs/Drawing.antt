@@ -2,7 +2,7 @@
 use Rattle.std.specs.Prelude.{ℕ, List}
 use Rattle.ap_io.specs.Spelling.{text_of}
 use Rattle.ap_io.specs.ApText.{IsWord}
-use Rattle.layout_meaning.specs.RightLayout.{IsRightLayout}
+use Rattle.flow_run.specs.RightLayout.{IsRightLayout}
 use Rattle.inverter_block.specs.Inverter.{AreProper, inverter_figure, cell_figure, inverter_machine, inverter_library, inverter_report}
 use Rattle.flow_run.specs.declared.forms.First.{First}
 

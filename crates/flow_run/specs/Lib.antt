@@ -1,3 +1,5 @@
+pub mod Report
+pub mod RightLayout
 pub mod Forms
 pub mod Drawing
 pub mod Reading

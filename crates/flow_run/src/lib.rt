@@ -10,7 +10,9 @@ mod flow;
 mod forms;
 mod laws;
 mod read;
+mod right_layout;
 
 pub use flow::alliance_main;
 pub use forms::{First, MOST};
 pub use laws::first_law;
+pub use right_layout::right_layout_law;

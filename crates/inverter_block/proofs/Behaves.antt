@@ -7,13 +7,15 @@ use Rattle.machine_meaning.specs.Named.{value_at}
 use Rattle.machine_meaning.specs.Machine.{Equation, outputs}
 use Rattle.machine_meaning.specs.Runs.{Trace}
 use Rattle.machine_meaning.specs.Cycles.{Settles, outs, next, AreVectors}
-use Rattle.layout_meaning.specs.Member.{In, here}
-use Rattle.layout_meaning.specs.Library.{Cell, Library, gate, cell_of}
-use Rattle.layout_meaning.specs.Netlist.{Member, Netlist, scalar}
-use Rattle.layout_meaning.specs.Behaviour.{Contents, NetSettles, Drives, net_next, net_outs}
-use Rattle.layout_meaning.specs.Agreement.{Agrees}
-use Rattle.layout_meaning.proofs.Texts.{scalar_differs, scalar_itself}
-use Rattle.layout_meaning.proofs.Runs.{StepsOnce, trace_once, Matches, run_matched}
+use Rattle.vlsi_base.specs.Member.{In, here}
+use Rattle.cell_model.specs.Cell.{Cell, gate}
+use Rattle.cell_model.specs.Library.{Library, cell_of}
+use Rattle.net_meaning.specs.Netlist.{Member, Netlist}
+use Rattle.vlsi_base.specs.Names.{scalar}
+use Rattle.net_meaning.specs.Behaviour.{Contents, NetSettles, Drives, net_next, net_outs}
+use Rattle.net_meaning.specs.Agreement.{Agrees}
+use Rattle.cell_model.proofs.Texts.{scalar_differs, scalar_itself}
+use Rattle.net_meaning.proofs.Runs.{StepsOnce, trace_once, Matches, run_matched}
 use Rattle.inverter_block.specs.Inverter.{AreProper}
 use Rattle.inverter_block.proofs.Setting.{machine_by, cell_by, library_by, netlist, member, g0, two, three}
 use Rattle.inverter_block.proofs.Extracted.{cell_is, found_cell, one_member}

@@ -1,6 +1,6 @@
 -- The machine of one inverter is a checked one.
-use Rattle.std.proofs.Common.{◌≡◌, ℕ, zero, suc, ◌<◌, Bool, true, false, not, [], ◌∷◌, ◌++◌, List, refl, Some, None, sym, ◌∙◌, ap, arith, lit<}
-use Rattle.std.specs.Prelude.{◌≢◌, codes}
+use Rattle.std.proofs.Common.{◌≡◌, ℕ, zero, suc, ◌<◌, Bool, true, false, not, [], ◌∷◌, List, refl, ◌∙◌, ap, arith, lit<}
+use Rattle.std.specs.Prelude.{◌≢◌}
 use Rattle.std.specs.List.{All, AllPairs}
 use Rattle.std.proofs.lemmas.List.Elements.{All-from_recursion}
 use Rattle.std.specs.Ordering.{is_lt}
@@ -8,11 +8,11 @@ use Rattle.std.specs.declared.cmp.Ordering.{Ordering}
 use Rattle.std.specs.declared.cmp.Ordering.TheVariants.{Less, Equal, Greater}
 use Rattle.vlsi_base.specs.declared.name.Name.{Name}
 use Rattle.vlsi_base.specs.Name.{name_cmp}
-use Rattle.machine_meaning.specs.Machine.{Register, names_of}
+use Rattle.machine_meaning.specs.Machine.{Register}
 use Rattle.bool_expr.specs.Expression.{IsOver}
 use Rattle.machine_core.specs.Order.{In, here, there, IsOrdered}
 use Rattle.machine_core.specs.Checked.{IsNoSupply, IsChecked}
-use Rattle.layout_meaning.specs.Names.{scalar, comes_before}
+use Rattle.vlsi_base.specs.Names.{scalar}
 use Rattle.inverter_block.specs.Inverter.{AreProper, stands_before}
 use Rattle.inverter_block.specs.InverterLaw.{InverterMachineIsChecked}
 use Rattle.inverter_block.proofs.Setting.{machine_by}

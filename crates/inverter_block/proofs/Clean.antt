@@ -1,9 +1,9 @@
 -- One inverter breaks no rule.
 use Rattle.std.proofs.Common.{◌≡◌, ℕ, Bool, true, false, List, [], refl}
 use Rattle.std.specs.List.{list_all}
-use Rattle.layout_meaning.specs.Member.{pairs}
-use Rattle.layout_meaning.specs.Breaches.{Breaches}
-use Rattle.layout_meaning.proofs.Lawful.{is_wide, is_kept, no_breach}
+use Rattle.vlsi_base.specs.Member.{pairs}
+use Rattle.net_meaning.specs.Breaches.{Breaches}
+use Rattle.net_meaning.proofs.Lawful.{is_wide, is_kept, no_breach}
 use Rattle.inverter_block.specs.Inverter.{block_items}
 use Rattle.inverter_block.proofs.Setting.{library_by}
 use Rattle.inverter_block.proofs.Picture.{picture, shapes_are}

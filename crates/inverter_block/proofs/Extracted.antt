@@ -4,14 +4,17 @@ use Rattle.std.specs.Prelude.{pos, ◌↔◌, map}
 use Rattle.vlsi_base.specs.declared.name.Name.{Name}
 use Rattle.vlsi_base.specs.declared.name.Terminal.{Terminal}
 use Rattle.sym_geom.specs.declared.item.Instance.{Instance}
-use Rattle.layout_meaning.specs.Member.{In, here, later}
-use Rattle.layout_meaning.specs.Shape.{Shape, connector_names}
-use Rattle.layout_meaning.specs.Joined.{Joined}
-use Rattle.layout_meaning.specs.Library.{Cell, cell_of, instances_of}
-use Rattle.layout_meaning.specs.Netlist.{Member, port, pin_of, scalar, vdd, vss, IsTerminal, a_port, a_pin, Shows, AreJoined, Extracts}
-use Rattle.layout_meaning.proofs.Texts.{text_itself}
-use Rattle.layout_meaning.proofs.Labels.{labelled, label_of_shown, first_In, last_In}
-use Rattle.layout_meaning.proofs.Paths.{joined_by, path_ok, path_end, Rooted, joined_by_class}
+use Rattle.vlsi_base.specs.Member.{In, here, there}
+use Rattle.sym_shapes.specs.Shape.{Shape, connector_names}
+use Rattle.sym_shapes.specs.Joined.{Joined, Shows, AreJoined}
+use Rattle.cell_model.specs.Cell.{Cell}
+use Rattle.cell_model.specs.Library.{cell_of}
+use Rattle.cell_model.specs.Layout.{instances_of}
+use Rattle.net_meaning.specs.Netlist.{Member, port, pin_of, IsTerminal, a_port, a_pin, Extracts}
+use Rattle.vlsi_base.specs.Names.{scalar, vdd, vss}
+use Rattle.cell_model.proofs.Texts.{text_itself}
+use Rattle.sym_shapes.proofs.Labels.{labelled, label_of_shown, first_In, last_In}
+use Rattle.sym_shapes.proofs.Paths.{joined_by, path_ok, path_end, Rooted, joined_by_class}
 use Rattle.inverter_block.specs.Inverter.{block_items, AreProper}
 use Rattle.inverter_block.proofs.Setting.{cell_by, library_by, class_of, class_small, netlist, member, g0, two, three}
 use Rattle.inverter_block.proofs.Picture.{picture, labelled_picture, shapes_are, pins_agree, one_class}
@@ -122,22 +125,22 @@ cell_pins p cell a z c found name h = subst (λ (k : Cell). In name (connector_n
 -- what holds of each of the eight terminals holds of all
 pub each_pin : (a z : List ℕ) (P : Terminal → Type 0) → P (pin_of g0 vss) → P (pin_of g0 vdd) → P (pin_of g0 (scalar a)) → P (pin_of g0 (scalar z)) → (name : Name) → In name (vss ∷ vdd ∷ scalar a ∷ scalar z ∷ []) → P (pin_of g0 name)
 each_pin a z P f g h k name here = f
-each_pin a z P f g h k name (later here) = g
-each_pin a z P f g h k name (later (later here)) = h
-each_pin a z P f g h k name (later (later (later here))) = k
-each_pin a z P f g h k name (later (later (later (later x)))) = elim x [ ]
+each_pin a z P f g h k name (there here) = g
+each_pin a z P f g h k name (there (there here)) = h
+each_pin a z P f g h k name (there (there (there here))) = k
+each_pin a z P f g h k name (there (there (there (there x)))) = elim x [ ]
 
 pub each_port : (i o : List ℕ) (P : Terminal → Type 0) → P (port vss) → P (port vdd) → P (port (scalar i)) → P (port (scalar o)) → (name : Name) → In name (vss ∷ vdd ∷ scalar i ∷ scalar o ∷ []) → P (port name)
 each_port i o P f g h k name here = f
-each_port i o P f g h k name (later here) = g
-each_port i o P f g h k name (later (later here)) = h
-each_port i o P f g h k name (later (later (later here))) = k
-each_port i o P f g h k name (later (later (later (later x)))) = elim x [ ]
+each_port i o P f g h k name (there here) = g
+each_port i o P f g h k name (there (there here)) = h
+each_port i o P f g h k name (there (there (there here))) = k
+each_port i o P f g h k name (there (there (there (there x)))) = elim x [ ]
 
 -- the one instance
 pub one_member : (cell : List ℕ) (m : Member) → In m (member cell ∷ []) → member cell ≡ m
 one_member cell m here = refl
-one_member cell m (later h) = elim h [ ]
+one_member cell m (there h) = elim h [ ]
 
 pub each : (p : Bool) (i o cell a z : List ℕ) (P : Terminal → Type 0) → P (port vss) → P (port vdd) → P (port (scalar i)) → P (port (scalar o))
     → P (pin_of g0 vss) → P (pin_of g0 vdd) → P (pin_of g0 (scalar a)) → P (pin_of g0 (scalar z))
@@ -173,10 +176,10 @@ class_of_joined b p i o cell a z io az s t h =
 
 pub swapped : (name x y : Name) → In name (vss ∷ vdd ∷ x ∷ y ∷ []) → In name (vss ∷ vdd ∷ y ∷ x ∷ [])
 swapped name x y here = here
-swapped name x y (later here) = later here
-swapped name x y (later (later here)) = later (later (later here))
-swapped name x y (later (later (later here))) = later (later here)
-swapped name x y (later (later (later (later h)))) = elim h [ ]
+swapped name x y (there here) = there here
+swapped name x y (there (there here)) = there (there (there here))
+swapped name x y (there (there (there here))) = there (there here)
+swapped name x y (there (there (there (there h)))) = elim h [ ]
 
 -- the ports of the figure, in whatever order
 figure_ports : (b p : Bool) (i o cell : List ℕ) (name : Name) → In name (vss ∷ vdd ∷ scalar i ∷ scalar o ∷ []) ↔ In name (connector_names (block_items b p i o cell))
@@ -193,9 +196,9 @@ instances_are false false i o cell = refl
 
 used : (p : Bool) (i o cell a z : List ℕ) (io : AreProper i o) (k : ℕ) → k < 4 → (t : Terminal) × IsTerminal (netlist i o cell a) (library_by p cell a z) t × (class_of i a t ≡ k)
 used p i o cell a z io zero h = (port vss, a_port here, refl)
-used p i o cell a z io (suc zero) h = (port vdd, a_port (later here), refl)
-used p i o cell a z io (suc (suc zero)) h = (port (scalar i), a_port (later (later here)), two i o io)
-used p i o cell a z io (suc (suc (suc zero))) h = (port (scalar o), a_port (later (later (later here))), three i o io)
+used p i o cell a z io (suc zero) h = (port vdd, a_port (there here), refl)
+used p i o cell a z io (suc (suc zero)) h = (port (scalar i), a_port (there (there here)), two i o io)
+used p i o cell a z io (suc (suc (suc zero))) h = (port (scalar o), a_port (there (there (there here))), three i o io)
 used p i o cell a z io (suc (suc (suc (suc k)))) h = absurd (omega (arith, h))
 
 pub extracts : (b p : Bool) (i o cell a z : List ℕ) → AreProper i o → AreProper a z → Extracts (block_items b p i o cell) (library_by p cell a z) (netlist i o cell a)

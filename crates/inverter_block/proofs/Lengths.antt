@@ -2,20 +2,17 @@
 use Rattle.std.proofs.Common.{◌≡◌, ℕ, ◌+◌, ◌%◌, Bool, true, false, not, ◌||◌, [], ◌∷◌, List, length, refl, Some, None, Option, sym, ◌∙◌, ap, if◌then◌else◌}
 use Rattle.std.specs.Prelude.{◌≢◌, codes, pos, ℤ, slice_get, nat_eq}
 use Rattle.std.specs.List.{filter_map}
-use Rattle.std.specs.Fmt.{digits}
 use Rattle.vlsi_base.specs.declared.name.Terminal.{Terminal}
-use Rattle.ap_io.specs.Spelling.{together, line_end}
-use Rattle.machine_meaning.specs.Machine.{Machine}
 use Rattle.machine_meaning.specs.Size.{machine_size}
 use Rattle.sym_geom.specs.Rect.{square}
 use Rattle.sym_geom.specs.declared.rect.Rect.{Rect}
-use Rattle.layout_meaning.specs.Library.{Cell}
-use Rattle.layout_meaning.specs.Netlist.{Netlist, scalar, vdd, vss, port, pin_of}
-use Rattle.layout_meaning.specs.Placement.{comes_before, net_count}
-use Rattle.layout_meaning.specs.Length.{Point, holds, is_access_node, access_nodes, grid_points, rank_of, access_point, shown_point, instance_point, point_of, terminals, net_points, half_box, half_perimeter}
-use Rattle.layout_meaning.specs.Report.{report_of, register_lines, count_line}
-use Rattle.layout_meaning.proofs.Texts.{scalar_differs, scalar_itself, text_itself}
-use Rattle.inverter_block.specs.Inverter.{AreProper, input_node, output_node, inverter_report}
+use Rattle.cell_model.specs.Cell.{Cell}
+use Rattle.net_meaning.specs.Netlist.{port, pin_of}
+use Rattle.vlsi_base.specs.Names.{scalar, vdd, vss, comes_before}
+use Rattle.cell_model.specs.Access.{Point, holds, is_access_node, access_nodes, grid_points, rank_of, access_point}
+use Rattle.ocp_rows.specs.Length.{shown_point, instance_point, point_of, terminals, net_points, half_box, half_perimeter}
+use Rattle.cell_model.proofs.Texts.{scalar_differs, scalar_itself, text_itself}
+use Rattle.inverter_block.specs.Inverter.{AreProper, input_node, output_node}
 use Rattle.inverter_block.proofs.Setting.{machine_by, cell_by, library_by, netlist, class_of, g0, two, three}
 use Rattle.inverter_block.proofs.Picture.{placed_one}
 use Rattle.inverter_block.proofs.Placing.{placement}
@@ -154,24 +151,6 @@ lengths_add false false = refl
 pub length_is : (b p : Bool) (i o cell a z : List ℕ) → AreProper i o → AreProper a z → Stands p a z → half_perimeter (netlist i o cell a) (library_by p cell a z) (placement b i o cell) ≡ 10500
 length_is b p i o cell a z io az pins = sum_is b p i o cell a z io az pins ∙ lengths_add b p
 
--- the report, with a number as its length
-abbrev report_with : Machine → Netlist → ℕ → List ℕ
-report_with m n total = together (
-    codes "source " ∷ m.name ∷ line_end
-    ∷ register_lines 0 m.registers
-    ∷ count_line (codes "size") (machine_size m)
-    ∷ count_line (codes "cells") (length n.instances)
-    ∷ count_line (codes "nets") (net_count n)
-    ∷ count_line (codes "length") total
-    ∷ count_line (codes "breaches") 0
-    ∷ codes "accepted" ∷ line_end ∷ [])
-
-known : (b : Bool) (e i o cell a : List ℕ) → inverter_report e ≡ report_with (machine_by b e i o) (netlist i o cell a) 10500
-unfolding digits
-known true e i o cell a = refl
-known false e i o cell a = refl
-
-pub report_is : (b p : Bool) (e i o cell a z : List ℕ) → AreProper i o → AreProper a z → Stands p a z
-    → inverter_report e ≡ report_of (machine_by b e i o) (netlist i o cell a) (library_by p cell a z) (placement b i o cell) 0
-report_is b p e i o cell a z io az pins =
-    known b e i o cell a ∙ ap (report_with (machine_by b e i o) (netlist i o cell a)) (sym (length_is b p i o cell a z io az pins))
+pub size_is : (b : Bool) (e i o : List ℕ) → machine_size (machine_by b e i o) ≡ 3
+size_is true e i o = refl
+size_is false e i o = refl

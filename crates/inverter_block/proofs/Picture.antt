@@ -3,12 +3,12 @@ use Rattle.std.proofs.Common.{◌≡◌, ℕ, Bool, true, false, List, [], ◌�
 use Rattle.std.specs.Prelude.{pos}
 use Rattle.sym_geom.specs.declared.rect.Transform.TheVariants.{NoSym}
 use Rattle.sym_geom.specs.declared.item.Instance.{Instance}
-use Rattle.layout_meaning.specs.Member.{In}
-use Rattle.layout_meaning.specs.Shape.{Shape, drawn}
-use Rattle.layout_meaning.specs.Joined.{Joined}
-use Rattle.layout_meaning.specs.Library.{instance_shapes, shapes}
-use Rattle.layout_meaning.proofs.Texts.{text_itself}
-use Rattle.layout_meaning.proofs.Labels.{Labelled, with_labels, plain, all_agree, PinsAgree, keeps_labels, label_Joined}
+use Rattle.vlsi_base.specs.Member.{In}
+use Rattle.sym_shapes.specs.Shape.{Shape, drawn}
+use Rattle.sym_shapes.specs.Joined.{Joined}
+use Rattle.cell_model.specs.Layout.{instance_shapes, shapes}
+use Rattle.cell_model.proofs.Texts.{text_itself}
+use Rattle.sym_shapes.proofs.Labels.{Labelled, with_labels, plain, all_agree, PinsAgree, keeps_labels, label_Joined}
 use Rattle.inverter_block.specs.Inverter.{block_items, AreProper}
 use Rattle.inverter_block.proofs.Setting.{cell_by, library_by, class_of, g0, two, three}
 

@@ -5,12 +5,14 @@ use Rattle.std.proofs.lemmas.List.Sorted.{IsPermutation-refl}
 use Rattle.vlsi_base.specs.declared.name.Name.{Name}
 use Rattle.sym_geom.specs.declared.rect.Rect.{Rect}
 use Rattle.sym_geom.specs.declared.item.Item.{Item}
-use Rattle.layout_meaning.specs.Member.{In, here, later}
-use Rattle.layout_meaning.specs.Library.{Cell, cell_of, cell_inputs, cell_outputs}
-use Rattle.layout_meaning.specs.Netlist.{Member, scalar, vdd, vss, pin_of}
-use Rattle.layout_meaning.specs.Placement.{Placement, comes_before, IsWiring, IsPlaced}
-use Rattle.layout_meaning.specs.Order.{Reads, IsInNetlistOrder, IsLean}
-use Rattle.layout_meaning.proofs.Texts.{text_itself}
+use Rattle.vlsi_base.specs.Member.{In, here, there}
+use Rattle.cell_model.specs.Cell.{Cell, cell_inputs, cell_outputs}
+use Rattle.cell_model.specs.Library.{cell_of}
+use Rattle.net_meaning.specs.Netlist.{Member, pin_of}
+use Rattle.vlsi_base.specs.Names.{scalar, vdd, vss, comes_before}
+use Rattle.ocp_rows.specs.Placement.{Placement, IsWiring, IsPlaced}
+use Rattle.ocp_rows.specs.Order.{Reads, IsInNetlistOrder, IsLean}
+use Rattle.cell_model.proofs.Texts.{text_itself}
 use Rattle.inverter_block.specs.Inverter.{AreProper, block_items, two_nets}
 use Rattle.inverter_block.proofs.Setting.{machine_by, library_by, netlist, member, class_of, g0_is, two, three, cell_inputs_are, cell_outputs_are}
 use Rattle.inverter_block.proofs.Picture.{placed_one}
@@ -35,19 +37,19 @@ plain_ports : (i o : List ℕ) → AreProper i o → (name : Name)
     → In name (scalar i ∷ scalar o ∷ []) ↔ (In name (vss ∷ vdd ∷ scalar i ∷ scalar o ∷ []) × (name ≢ vdd) × (name ≢ vss))
 plain_ports i o io name = (to name, λ h. from name h.0 h.1 h.2) where
   to : (name : Name) → In name (scalar i ∷ scalar o ∷ []) → In name (vss ∷ vdd ∷ scalar i ∷ scalar o ∷ []) × (name ≢ vdd) × (name ≢ vss)
-  to name here = (later (later here), λ h. io.first_vdd (ap (λ (n : Name). n.text) h), λ h. io.first_vss (ap (λ (n : Name). n.text) h))
-  to name (later here) = (later (later (later here)), λ h. io.second_vdd (ap (λ (n : Name). n.text) h), λ h. io.second_vss (ap (λ (n : Name). n.text) h))
-  to name (later (later h)) = elim h [ ]
+  to name here = (there (there here), λ h. io.first_vdd (ap (λ (n : Name). n.text) h), λ h. io.first_vss (ap (λ (n : Name). n.text) h))
+  to name (there here) = (there (there (there here)), λ h. io.second_vdd (ap (λ (n : Name). n.text) h), λ h. io.second_vss (ap (λ (n : Name). n.text) h))
+  to name (there (there h)) = elim h [ ]
 
   from : (name : Name) → In name (vss ∷ vdd ∷ scalar i ∷ scalar o ∷ []) → name ≢ vdd → name ≢ vss → In name (scalar i ∷ scalar o ∷ [])
   from name here not_vdd not_vss = absurd (not_vss refl)
-  from name (later here) not_vdd not_vss = absurd (not_vdd refl)
-  from name (later (later h)) not_vdd not_vss = h
+  from name (there here) not_vdd not_vss = absurd (not_vdd refl)
+  from name (there (there h)) not_vdd not_vss = h
 
 swap_two : (x y : Name) (name : Name) → In name (x ∷ y ∷ []) → In name (y ∷ x ∷ [])
-swap_two x y name here = later here
-swap_two x y name (later here) = here
-swap_two x y name (later (later h)) = elim h [ ]
+swap_two x y name here = there here
+swap_two x y name (there here) = here
+swap_two x y name (there (there h)) = elim h [ ]
 
 abbrev AllWiring : List Item → Type 0
 AllWiring [] = Unit {0}
@@ -56,7 +58,7 @@ AllWiring (one ∷ rest) = IsWiring one × AllWiring rest
 ten : (items : List Item) → AllWiring items → (one : Item) → In one items → IsWiring one
 ten [] all one h = elim h [ ]
 ten (x ∷ rest) all one here = all.0
-ten (x ∷ rest) all one (later h) = ten rest all.1 one h
+ten (x ∷ rest) all one (there h) = ten rest all.1 one h
 
 wires_only : (b p : Bool) (i o : List ℕ) (one : Item) → In one (two_nets b p i o) → IsWiring one
 wires_only true true i o one h = ten (two_nets true true i o) (refl, (refl, (tt, (tt, (tt, (refl, (refl, (tt, (tt, (tt, tt)))))))))) one h
@@ -125,7 +127,7 @@ reads_none p i o cell a z az k j h =
   where
     only : (x name : Name) → In name (x ∷ []) → name ≡ x
     only x name here = refl
-    only x name (later h) = elim h [ ]
+    only x name (there h) = elim h [ ]
 
 pub in_order : (b p : Bool) (e i o cell a z : List ℕ) → AreProper a z
     → IsInNetlistOrder (netlist i o cell a) (library_by p cell a z) (machine_by b e i o) (placement b i o cell)

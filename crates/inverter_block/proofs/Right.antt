@@ -7,19 +7,18 @@ use Rattle.std.specs.declared.cmp.Ordering.TheVariants.{Less, Equal, Greater}
 use Rattle.std.specs.Cmp.{unsigned_ties}
 use Rattle.std.specs.Cmp.Lexicographic.{slice_cmp, nat_list_cmp_total, lists_ties}
 use Rattle.ap_io.specs.ApText.{IsWord}
-use Rattle.ap_io.specs.Spelling.{text_of}
+use Rattle.machine_meaning.specs.Size.{machine_size}
 use Rattle.machine_meaning.specs.Named.{is_same_text}
-use Rattle.layout_meaning.specs.RightLayout.{IsRightLayout}
-use Rattle.layout_meaning.proofs.Texts.{text_differs, text_itself}
-use Rattle.inverter_block.specs.Inverter.{AreProper, stands_before, figure_by, inverter_report}
-use Rattle.inverter_block.specs.InverterLaw.{InverterIsRight}
+use Rattle.cell_model.proofs.Texts.{text_differs, text_itself}
+use Rattle.inverter_block.specs.Inverter.{AreProper, stands_before, figure_by}
+use Rattle.inverter_block.specs.InverterLaw.{IsRightBlock, InverterIsRight}
 use Rattle.inverter_block.proofs.Setting.{machine_by, library_by, netlist}
 use Rattle.inverter_block.proofs.Extracted.{extracts}
 use Rattle.inverter_block.proofs.Behaves.{agrees}
 use Rattle.inverter_block.proofs.WellFormed.{well}
 use Rattle.inverter_block.proofs.Clean.{lawful}
 use Rattle.inverter_block.proofs.Placing.{placement, is_placed, in_order, lean}
-use Rattle.inverter_block.proofs.Lengths.{Stands, report_is}
+use Rattle.inverter_block.proofs.Lengths.{Stands, length_is, size_is}
 use Rattle.inverter_block.proofs.File.{file}
 
 -- scalars stand to one another as their texts do
@@ -58,22 +57,25 @@ stands first a z az is = record {
 }
 
 by_orders : (b p : Bool) (e i o cell a z : List ℕ) → IsWord e → IsWord cell → AreProper i o → AreProper a z → stands_before i o ≡ b → stands_before a z ≡ p
-    → IsRightLayout (text_of (figure_by b p e i o cell)) (machine_by b e i o) (library_by p cell a z) (inverter_report e)
-by_orders b p e i o cell a z we wc io az ports pins = record {
-  figure = figure_by b p e i o cell;
-  netlist = netlist i o cell a;
-  placement = placement b i o cell;
-  file = file b p e i o cell a z we wc io;
-  named = refl;
-  extracts = extracts b p i o cell a z io az;
-  well = well b p e i o cell a z io az pins (before_other a z az.apart ∙ ap not pins);
-  agrees = agrees b p e i o cell a z io az;
-  lawful = lawful b p i o cell a z;
-  is_placed = is_placed b p i o cell a z io ports (before_other i o io.apart ∙ ap not ports);
-  in_order = in_order b p e i o cell a z az;
-  lean = lean b e i o cell a;
-  reported = report_is b p e i o cell a z io az (stands p a z az pins);
-}
+    → IsRightBlock (figure_by b p e i o cell) (machine_by b e i o) (library_by p cell a z) × (machine_size (machine_by b e i o) ≡ 3)
+by_orders b p e i o cell a z we wc io az ports pins = (
+  record {
+    netlist = netlist i o cell a;
+    placement = placement b i o cell;
+    file = file b p e i o cell a z we wc io;
+    extracts = extracts b p i o cell a z io az;
+    well = well b p e i o cell a z io az pins (before_other a z az.apart ∙ ap not pins);
+    agrees = agrees b p e i o cell a z io az;
+    lawful = lawful b p i o cell a z;
+    is_placed = is_placed b p i o cell a z io ports (before_other i o io.apart ∙ ap not ports);
+    in_order = in_order b p e i o cell a z az;
+    lean = lean b e i o cell a;
+    one_cell = refl;
+    two_nets = refl;
+    net_length = length_is b p i o cell a z io az (stands p a z az pins);
+  },
+  size_is b e i o,
+)
 
 pub inverter_is_right : InverterIsRight
 inverter_is_right e i o cell a z we wc io az = by_orders (stands_before i o) (stands_before a z) e i o cell a z we wc io az refl refl

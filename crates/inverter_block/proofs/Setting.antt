@@ -7,10 +7,12 @@ use Rattle.vlsi_base.specs.declared.name.Terminal.{Terminal}
 use Rattle.bool_expr.specs.Expression.{inverse, variable}
 use Rattle.machine_meaning.specs.Named.{is_same_name}
 use Rattle.machine_meaning.specs.Machine.{Machine, inputs, outputs}
-use Rattle.layout_meaning.specs.Library.{Cell, Library, gate, cell_inputs, cell_outputs}
-use Rattle.layout_meaning.specs.Netlist.{Member, Netlist, scalar, vdd, vss}
-use Rattle.layout_meaning.specs.Well.{gate_instance}
-use Rattle.layout_meaning.proofs.Texts.{scalar_differs, scalar_itself}
+use Rattle.cell_model.specs.Cell.{Cell, gate, cell_inputs, cell_outputs}
+use Rattle.cell_model.specs.Library.{Library}
+use Rattle.net_meaning.specs.Netlist.{Member, Netlist}
+use Rattle.vlsi_base.specs.Names.{scalar, vdd, vss}
+use Rattle.net_meaning.specs.Well.{gate_instance}
+use Rattle.cell_model.proofs.Texts.{scalar_differs, scalar_itself}
 use Rattle.inverter_block.specs.Inverter.{two_ports, cell_items, AreProper}
 
 abbrev pub machine_by : Bool → List ℕ → List ℕ → List ℕ → Machine

@@ -7,15 +7,16 @@ use Rattle.vlsi_base.specs.declared.name.Terminal.{Terminal}
 use Rattle.machine_meaning.specs.Named.{is_same_text}
 use Rattle.machine_meaning.specs.Machine.{Machine, names_of}
 use Rattle.sym_geom.specs.declared.item.Item.{Item}
-use Rattle.layout_meaning.specs.Member.{In, here, later}
-use Rattle.layout_meaning.specs.Shape.{Shape, drawn}
-use Rattle.layout_meaning.specs.Library.{Cell, Library, cell_of, cell_outputs, KeepsLow, IsUsable}
-use Rattle.layout_meaning.specs.Netlist.{Member, Netlist, scalar, vdd, vss, port, pin_of, IsTerminal}
-use Rattle.layout_meaning.specs.Well.{Has, IsDriver, an_input, an_output, OneDriver, IsSpecial, of_vdd, of_vss, named_g, IsWell, IsFlipFlop}
-use Rattle.layout_meaning.proofs.Texts.{text_itself}
+use Rattle.vlsi_base.specs.Member.{In, here, there}
+use Rattle.sym_shapes.specs.Shape.{Shape, drawn}
+use Rattle.cell_model.specs.Cell.{Cell, cell_outputs}
+use Rattle.cell_model.specs.Library.{Library, cell_of, KeepsLow, IsUsable}
+use Rattle.net_meaning.specs.Netlist.{Member, Netlist, port, pin_of, IsTerminal}
+use Rattle.vlsi_base.specs.Names.{scalar, vdd, vss, comes_before}
+use Rattle.net_meaning.specs.Well.{Has, IsDriver, an_input, an_output, OneDriver, IsSpecial, of_vdd, of_vss, named_g, IsWell, IsFlipFlop}
+use Rattle.cell_model.proofs.Texts.{text_itself}
 use Rattle.inverter_block.specs.Inverter.{AreProper, cell_items}
 use Rattle.inverter_block.proofs.Setting.{machine_by, cell_by, library_by, netlist, member, class_of, g0, g0_is, two, three, inputs_are}
-use Rattle.layout_meaning.specs.Names.{comes_before}
 use Rattle.inverter_block.proofs.Placing.{pair_in_order}
 use Rattle.inverter_block.proofs.Extracted.{cell_is, found_cell, one_member, each, each_port, swapped}
 
@@ -31,13 +32,13 @@ two_before : (x y : Name) (names : List Name) (name : Name) → In name (x ∷ y
 two_before x y names name = (to name, λ h. from name h) where
   to : (name : Name) → In name (x ∷ y ∷ names) → (name ≡ y) ⊎ ((name ≡ x) ⊎ In name names)
   to name here = inr (inl refl)
-  to name (later here) = inl refl
-  to name (later (later h)) = inr (inr h)
+  to name (there here) = inl refl
+  to name (there (there h)) = inr (inr h)
 
   from : (name : Name) → (name ≡ y) ⊎ ((name ≡ x) ⊎ In name names) → In name (x ∷ y ∷ names)
   from name h = elim h [
-    | inl is ↦ subst (λ (q : Name). In q (x ∷ y ∷ names)) (sym is) (later here)
-    | inr other ↦ elim other [ inl is ↦ subst (λ (q : Name). In q (x ∷ y ∷ names)) (sym is) here | inr h ↦ later (later h) ]
+    | inl is ↦ subst (λ (q : Name). In q (x ∷ y ∷ names)) (sym is) (there here)
+    | inr other ↦ elim other [ inl is ↦ subst (λ (q : Name). In q (x ∷ y ∷ names)) (sym is) here | inr h ↦ there (there h) ]
   ]
 
 usable : (p : Bool) (cell a z : List ℕ) → comes_before (scalar a) (scalar z) ≡ p → comes_before (scalar z) (scalar a) ≡ not p → IsUsable (cell_by p cell a z)
@@ -51,22 +52,22 @@ usable true cell a z before after = record {
 } where
   each_pin : (q : Port) → In q (cell_by true cell a z).pins → q.name.bit ≡ None
   each_pin q here = refl
-  each_pin q (later here) = refl
-  each_pin q (later (later h)) = elim h [ ]
+  each_pin q (there here) = refl
+  each_pin q (there (there h)) = elim h [ ]
 
   low_metal : (s : Shape) → In s (drawn (cell_items a z)) → s.metal ≤ 1
   low_metal s here = omega arith
-  low_metal s (later here) = omega arith
-  low_metal s (later (later here)) = omega arith
-  low_metal s (later (later (later here))) = omega arith
-  low_metal s (later (later (later (later h)))) = elim h [ ]
+  low_metal s (there here) = omega arith
+  low_metal s (there (there here)) = omega arith
+  low_metal s (there (there (there here))) = omega arith
+  low_metal s (there (there (there (there h)))) = elim h [ ]
 
   low_block : (one : Item) → In one (cell_items a z) → KeepsLow one
   low_block one here = tt
-  low_block one (later here) = tt
-  low_block one (later (later here)) = tt
-  low_block one (later (later (later here))) = tt
-  low_block one (later (later (later (later h)))) = elim h [ ]
+  low_block one (there here) = tt
+  low_block one (there (there here)) = tt
+  low_block one (there (there (there here))) = tt
+  low_block one (there (there (there (there h)))) = elim h [ ]
 usable false cell a z before after = record {
   function = (refl, omega arith, lit< tt);
   order = pair_in_order (scalar z) (scalar a) after;
@@ -80,22 +81,22 @@ usable false cell a z before after = record {
 } where
   each_pin : (q : Port) → In q (cell_by false cell a z).pins → q.name.bit ≡ None
   each_pin q here = refl
-  each_pin q (later here) = refl
-  each_pin q (later (later h)) = elim h [ ]
+  each_pin q (there here) = refl
+  each_pin q (there (there h)) = elim h [ ]
 
   low_metal : (s : Shape) → In s (drawn (cell_items a z)) → s.metal ≤ 1
   low_metal s here = omega arith
-  low_metal s (later here) = omega arith
-  low_metal s (later (later here)) = omega arith
-  low_metal s (later (later (later here))) = omega arith
-  low_metal s (later (later (later (later h)))) = elim h [ ]
+  low_metal s (there here) = omega arith
+  low_metal s (there (there here)) = omega arith
+  low_metal s (there (there (there here))) = omega arith
+  low_metal s (there (there (there (there h)))) = elim h [ ]
 
   low_block : (one : Item) → In one (cell_items a z) → KeepsLow one
   low_block one here = tt
-  low_block one (later here) = tt
-  low_block one (later (later here)) = tt
-  low_block one (later (later (later here))) = tt
-  low_block one (later (later (later (later h)))) = elim h [ ]
+  low_block one (there here) = tt
+  low_block one (there (there here)) = tt
+  low_block one (there (there (there here))) = tt
+  low_block one (there (there (there (there h)))) = elim h [ ]
 
 machine_ports : (b : Bool) (e i o : List ℕ) (name : Name) → In name (vss ∷ vdd ∷ scalar i ∷ scalar o ∷ []) ↔ In name (vss ∷ vdd ∷ names_of (machine_by b e i o).ports)
 machine_ports true e i o name = (λ h. h, λ h. h)
@@ -154,13 +155,13 @@ module _ (b p : Bool) (e i o cell a z : List ℕ) (io : AreProper i o) (az : Are
   -- the input port and the one output pin drive, and nothing else
   by_input : (name : Name) → In name (scalar i ∷ []) → name ≡ scalar i
   by_input name here = refl
-  by_input name (later h) = elim h [ ]
+  by_input name (there h) = elim h [ ]
 
   outputs_of : (p : Bool) (name : Name) → In name (cell_outputs (cell_by p cell a z)) → name ≡ scalar z
   outputs_of true name here = refl
-  outputs_of true name (later h) = elim h [ ]
+  outputs_of true name (there h) = elim h [ ]
   outputs_of false name here = refl
-  outputs_of false name (later h) = elim h [ ]
+  outputs_of false name (there h) = elim h [ ]
 
   by_driver : (t : Terminal) → IsDriver n l m t → (t ≡ port (scalar i)) ⊎ (t ≡ pin_of g0 (scalar z))
   by_driver t (an_input {name = name} h) =

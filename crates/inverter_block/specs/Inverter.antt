@@ -12,9 +12,10 @@ use Rattle.sym_geom.specs.declared.item.Item.{Item}
 use Rattle.sym_geom.specs.declared.item.Item.TheVariants as item
 use Rattle.ap_io.specs.declared.figure.Figure.{Figure}
 use Rattle.ap_io.specs.ApText.{IsWord}
-use Rattle.layout_meaning.specs.Library.{Cell, gate, Library}
-use Rattle.layout_meaning.specs.Netlist.{scalar, vdd, vss}
-use Rattle.layout_meaning.specs.Placement.{comes_before, level_wire, upright_wire, contact_at, west_port}
+use Rattle.cell_model.specs.Cell.{Cell, gate}
+use Rattle.cell_model.specs.Library.{Library}
+use Rattle.vlsi_base.specs.Names.{scalar, vdd, vss, comes_before}
+use Rattle.ocp_rows.specs.Placement.{level_wire, upright_wire, contact_at, west_port}
 use Rattle.ap_io.specs.Spelling.{together, line_end}
 
 -- one scalar name stands before another

@@ -1,7 +1,7 @@
 // The lines that a block is made of.
 ghost use Rattle.std.specs.Prelude.{◌≡◌, ◌++◌, ◌∷◌, [], IfOk, OnOk, Some};
-ghost use Rattle.layout_meaning.specs.Netlist.{scalar};
-ghost use Rattle.layout_meaning.specs.Placement.{level_wire, upright_wire, contact_at, west_port as west_port_of};
+ghost use Rattle.vlsi_base.specs.Names.{scalar};
+ghost use Rattle.ocp_rows.specs.Placement.{level_wire, upright_wire, contact_at, west_port as west_port_of};
 
 use std::alloc::{AllocError, Global};
 use sym_geom::{Connector, Contact, Direction, Item, Items, Layer, Segment, Side, Via};

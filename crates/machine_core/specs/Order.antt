@@ -1,19 +1,10 @@
 -- Machines whose equations stand in an order in which each reads only what is known before it.
 use Rattle.std.specs.Prelude.{◌≡◌, ℕ, ◌+◌, Bool, List, [], ◌∷◌, ◌++◌, map, length}
+pub use Rattle.vlsi_base.specs.Member.{In, here, there, AllDifferent}
 use Rattle.vlsi_base.specs.declared.name.Name.{Name}
 use Rattle.bool_expr.specs.Expression.{IsOver}
 use Rattle.machine_meaning.specs.Machine.{Machine, Equation, inputs, register_names}
 use Rattle.machine_meaning.specs.Cycles.{Settles}
-
--- x stands in the list
-pub data In {A : Type 0} (x : A) : List A → Type 0 where
-  here : {xs : List A} → In x (x ∷ xs)
-  there : {y : A} {xs : List A} → In x xs → In x (y ∷ xs)
-
--- nothing stands twice in the list
-abbrev pub AllDifferent : {A : Type 0} → List A → Type 0
-AllDifferent [] = Unit {0}
-AllDifferent (x ∷ xs) = (In x xs → ⊥) × AllDifferent xs
 
 -- the names whose bits are given in each cycle: of inputs and of registers
 abbrev pub held_names : Machine → List Name

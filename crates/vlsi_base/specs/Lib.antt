@@ -1,4 +1,6 @@
+pub mod Member
 pub mod Name
+pub mod Names
 pub mod Number
 pub mod Fault
 pub mod Tree

@@ -1,0 +1,4 @@
+pub mod Cell
+pub mod Library
+pub mod Layout
+pub mod Access

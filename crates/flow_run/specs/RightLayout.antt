@@ -1,0 +1,45 @@
+-- When the bytes of a file are a right layout of a machine.
+use Rattle.std.specs.Prelude.{◌≡◌, ℕ, Bool, List, [], Some, length, map}
+use Rattle.machine_meaning.specs.Machine.{Machine, outputs}
+use Rattle.machine_meaning.specs.Cycles.{RunOf, AreVectors}
+use Rattle.ap_io.specs.declared.figure.Figure.{Figure}
+use Rattle.ap_io.specs.ApText.{IsApText}
+use Rattle.cell_model.specs.Library.{Library}
+use Rattle.net_meaning.specs.Netlist.{Netlist, Extracts}
+use Rattle.vlsi_base.specs.Names.{scalar}
+use Rattle.net_meaning.specs.Well.{IsWell}
+use Rattle.net_meaning.specs.Behaviour.{Contents, NetTrace, net_outs}
+use Rattle.net_meaning.specs.Agreement.{Agrees, IsMatched}
+use Rattle.net_meaning.specs.Breaches.{Breaches}
+use Rattle.ocp_rows.specs.Placement.{Placement, IsPlaced}
+use Rattle.ocp_rows.specs.Order.{IsInNetlistOrder, IsLean}
+use Rattle.flow_run.specs.Report.{report_of}
+
+-- The bytes are the ap file of a figure that has the machine's name. Joined wherever shapes of one metal meet, the figure
+-- is a netlist of the library's cells that is well formed for the machine, behaves as the machine does, and breaks no
+-- symbolic rule. Its ports, instances, supplies and box are those of a placement, one row in the order of the netlist, and it has
+-- few gates.
+-- The report is that of machine, netlist and placement.
+pub record IsRightLayout (bytes : List ℕ) (m : Machine) (l : Library) (report : List ℕ) : Type 0 where
+  pub figure : Figure
+  pub netlist : Netlist
+  pub placement : Placement
+  pub file : IsApText bytes figure
+  pub named : figure.name ≡ Some (scalar m.name)
+  pub extracts : Extracts figure.items l netlist
+  pub well : IsWell netlist l m
+  pub agrees : Agrees netlist l m
+  pub lawful : Breaches figure.items l []
+  pub is_placed : IsPlaced figure.bounds figure.items netlist l placement
+  pub in_order : IsInNetlistOrder netlist l m placement
+  pub lean : IsLean netlist m
+  pub reported : report ≡ report_of m netlist l placement 0
+
+-- From matched contents and under every list of vectors, the netlist of a right layout runs, and gives the outputs of the
+-- machine.
+abbrev pub RightLayoutsRun : Type 0
+RightLayoutsRun =
+    (bytes : List ℕ) (m : Machine) (l : Library) (report : List ℕ) (right : IsRightLayout bytes m l report)
+    (s : List Bool) (t : Contents) (v : List (List Bool))
+    → length s ≡ length m.registers → IsMatched s t → AreVectors m v
+    → (ws : List (List Bool)) × NetTrace right.netlist l m t v ws × RunOf m s v (map (net_outs right.netlist (outputs m)) ws)

@@ -1,5 +1,0 @@
-use Rattle.layout_meaning.proofs.OneNetlist.{one_netlist}
-use Rattle.layout_meaning.proofs.one_netlist_law.Goals as goal
-
-pub returns : goal.returns
-returns c = one_netlist

@@ -1,0 +1,6 @@
+pub mod Netlist
+pub mod Behaviour
+pub mod Agreement
+pub mod Well
+pub mod Breaches
+pub mod Laws

@@ -1,0 +1,169 @@
+-- Placed instances, supplies, ports and box of a block whose nets have private tracks.
+use Rattle.std.specs.Prelude.{◌≡◌, ◌≢◌, ◌↔◌, ℕ, ◌+◌, ◌-◌, ◌*◌, ℤ, pos, ◌+ℤ◌, Bool, false, not, List, [], ◌∷◌, ◌++◌, map, Option, None, Some, AllPairs, IsTrue, if◌then◌else◌}
+use Prim.Native.Nat.{suc}
+use Rattle.std.specs.Int.{int_max}
+use Rattle.std.specs.List.Sorted.{IsPermutation}
+use Rattle.vlsi_base.specs.declared.name.Name.{Name}
+use Rattle.sym_geom.specs.declared.rect.Rect.{Rect}
+use Rattle.sym_geom.specs.declared.rect.Transform.{Transform}
+use Rattle.sym_geom.specs.declared.rect.Transform.TheVariants.{NoSym, SymY}
+use Rattle.sym_geom.specs.declared.layer.Layer.{Layer}
+use Rattle.sym_geom.specs.declared.layer.Layer.TheVariants.{Alu}
+use Rattle.sym_geom.specs.declared.layer.Level.TheVariants.{One, Two, Three}
+use Rattle.sym_geom.specs.declared.item.Direction.{Direction}
+use Rattle.sym_geom.specs.declared.item.Direction.TheVariants.{Up, Right}
+use Rattle.sym_geom.specs.declared.item.Side.TheVariants.{West}
+use Rattle.sym_geom.specs.declared.item.Contact.{Contact}
+use Rattle.sym_geom.specs.declared.item.Contact.TheVariants.{Via1, Via2}
+use Rattle.sym_geom.specs.declared.item.Instance.{Instance}
+use Rattle.sym_geom.specs.declared.item.Item.{Item}
+use Rattle.sym_geom.specs.declared.item.Item.TheVariants as item
+use Rattle.vlsi_base.specs.Member.{In}
+use Rattle.vlsi_base.specs.Names.{comes_before, vdd, vss}
+use Rattle.sym_shapes.specs.Shape.{wire_name}
+use Rattle.cell_model.specs.Cell.{Cell, cell_width}
+use Rattle.cell_model.specs.Library.{Library, cell_of}
+use Rattle.net_meaning.specs.Netlist.{Member, Netlist}
+
+-- a placement for private tracks: rows of instances, from the left to the right and from the lowest row up, and the port
+-- bits without the supplies in the order of names
+pub record Placement : Type 0 where
+  pub rows : List (List Member)
+  pub ports : List Name
+
+-- ---- lines that a block has
+
+abbrev pub wire : Direction → Layer → ℤ → ℤ → ℤ → ℤ → ℤ → Option Name → Item
+wire direction layer width x1 y1 x2 y2 name =
+    item.Segment (record { x1 = x1; y1 = y1; x2 = x2; y2 = y2; width = width; name = name; direction = direction; layer = layer })
+
+-- a wire from the left to the right, and one upwards
+abbrev pub level_wire : Layer → ℤ → ℤ → ℤ → ℤ → Option Name → Item
+level_wire layer width x1 x2 y name = wire Right layer width x1 y x2 y name
+
+abbrev pub upright_wire : Layer → ℤ → ℤ → ℤ → ℤ → Option Name → Item
+upright_wire layer width x y1 y2 name = wire Up layer width x y1 x y2 name
+
+abbrev pub contact_at : Contact → ℤ → ℤ → Option Name → Item
+contact_at contact x y name = item.Via (record { x = x; y = y; contact = contact; name = name })
+
+-- a port at the west side
+abbrev pub west_port : Layer → ℤ → ℤ → ℤ → Name → Item
+west_port layer width x y name =
+    item.Connector (record { x = x; y = y; width = width; name = Some name; index = pos 0; side = West; layer = layer })
+
+-- ---- instances
+
+abbrev pub width_of : Option Cell → ℤ
+width_of None = pos 0
+width_of (Some c) = cell_width c
+
+abbrev pub model_width : Library → List ℕ → ℤ
+model_width l model = width_of (cell_of l model)
+
+-- the instances of a row abut, from x on
+abbrev pub standing : Library → Transform → ℤ → ℤ → List Member → List Instance
+standing l turn y x [] = []
+standing l turn y x (one ∷ rest) =
+    record { x = x; y = y; model = one.model; name = one.name; transform = turn } ∷ standing l turn y (x +ℤ model_width l one.model) rest
+
+abbrev pub turn_of : Bool → Transform
+turn_of flipped = if flipped then SymY else NoSym
+
+-- Rows are 5000 high and begin at x 1500. The lowest stands at y 0, and every other row is upside down.
+abbrev pub standing_rows : Library → Bool → ℤ → List (List Member) → List Instance
+standing_rows l flipped y [] = []
+standing_rows l flipped y (row ∷ rows) =
+    standing l (turn_of flipped) y (pos 1500) row ++ standing_rows l (not flipped) (y +ℤ pos 5000) rows
+
+abbrev pub row_width : Library → List Member → ℤ
+row_width l [] = pos 0
+row_width l (one ∷ rest) = model_width l one.model +ℤ row_width l rest
+
+-- the width of the widest row
+abbrev pub rows_width : Library → List (List Member) → ℤ
+rows_width l [] = pos 0
+rows_width l (row ∷ rows) = int_max (row_width l row) (rows_width l rows)
+
+-- ---- supplies
+
+-- the middle of the rail of vss is 300 above the foot of a row, that of vdd 4700; in a row upside down they are exchanged
+abbrev pub vss_centre : Bool → ℤ → ℤ
+vss_centre flipped y = if flipped then y +ℤ pos 4700 else y +ℤ pos 300
+
+abbrev pub vdd_centre : Bool → ℤ → ℤ
+vdd_centre flipped y = if flipped then y +ℤ pos 300 else y +ℤ pos 4700
+
+-- the middles of the rails of one supply, from the lowest row up
+abbrev pub centres : (Bool → ℤ → ℤ) → Bool → ℤ → List (List Member) → List ℤ
+centres centre flipped y [] = []
+centres centre flipped y (row ∷ rows) = centre flipped y ∷ centres centre (not flipped) (y +ℤ pos 5000) rows
+
+abbrev pub rail : ℤ → ℤ → Name → Item
+rail end y name = level_wire (Alu One) (pos 600) (pos 500) end y (Some name)
+
+-- the rails row by row, vss first
+abbrev pub rails : ℤ → Bool → ℤ → List (List Member) → List Item
+rails end flipped y [] = []
+rails end flipped y (row ∷ rows) =
+    rail end (vss_centre flipped y) vss ∷ rail end (vdd_centre flipped y) vdd ∷ rails end (not flipped) (y +ℤ pos 5000) rows
+
+-- the vias that tie a strap to the rails with these middles
+abbrev pub strap_vias : ℤ → Name → List ℤ → List Item
+strap_vias x name [] = []
+strap_vias x name (y ∷ ys) = contact_at Via1 x y (Some name) ∷ contact_at Via2 x y (Some name) ∷ strap_vias x name ys
+
+abbrev pub last_of : ℤ → List ℤ → ℤ
+last_of y [] = y
+last_of y (z ∷ zs) = last_of z zs
+
+-- a strap on metal 3 from the lowest to the highest rail of a supply, perhaps of length 0, with its vias
+abbrev pub strap : ℤ → Name → List ℤ → List Item
+strap x name [] = []
+strap x name (y ∷ ys) = upright_wire (Alu Three) (pos 200) x y (last_of y ys) (Some name) ∷ strap_vias x name (y ∷ ys)
+
+-- rails, the strap of vss and that of vdd
+abbrev pub supplies : Library → List (List Member) → List Item
+supplies l rows =
+    rails (pos 1500 +ℤ rows_width l rows) false (pos 0) rows
+    ++ (strap (pos 500) vss (centres vss_centre false (pos 0) rows) ++ strap (pos 1000) vdd (centres vdd_centre false (pos 0) rows))
+
+abbrev pub supply_ports : List Item
+supply_ports =
+    west_port (Alu One) (pos 600) (pos 500) (pos 300) vss ∷ west_port (Alu One) (pos 600) (pos 500) (pos 4700) vdd ∷ []
+
+-- ---- tracks
+
+-- the y of the track of net k
+abbrev pub track_y : ℕ → ℤ
+track_y k = pos (5500 + 500 * k)
+
+-- Each port bit stands at the left end of its net's track. Nets are numbered by their ports in the order of names first, so
+-- port k has net k.
+abbrev pub track_ports : ℕ → List Name → List Item
+track_ports k [] = []
+track_ports k (name ∷ rest) = west_port (Alu Two) (pos 200) (pos 1500) (track_y k) name ∷ track_ports (suc k) rest
+
+-- the nets are the classes without those of vdd and vss
+abbrev pub net_count : Netlist → ℕ
+net_count n = n.classes - 2
+
+-- a wire or a via, and no connector (a named wire on CALU is one) or instance
+abbrev pub IsWiring : Item → Type 0
+IsWiring (item.Segment s) = wire_name s.layer s.name ≡ None
+IsWiring (item.Via v) = Unit {0}
+IsWiring (item.Connector c) = ⊥
+IsWiring (item.Instance i) = ⊥
+
+-- The instances, box, supplies and ports of a figure are those of a placement of the netlist for private tracks. The lines
+-- stand in this order: the supplies' ports, the others' in the order of names, the instances, rails and straps, the nets.
+pub record IsPlaced (bounds : Rect) (items : List Item) (n : Netlist) (l : Library) (p : Placement) : Type 0 where
+  pub order : AllPairs (λ a b. IsTrue (comes_before a b)) p.ports
+  pub ports : (name : Name) → In name p.ports ↔ (In name n.ports × (name ≢ vdd) × (name ≢ vss))
+  -- each instance stands in the rows once, where its line says
+  pub instances : List Instance
+  pub rows : IsPermutation (standing_rows l false (pos 0) p.rows) instances
+  pub wiring : List Item
+  pub wires : (one : Item) → In one wiring → IsWiring one
+  pub lines : items ≡ supply_ports ++ (track_ports 0 p.ports ++ (map item.Instance instances ++ (supplies l p.rows ++ wiring)))
+  pub box : bounds ≡ record { x1 = pos 0; y1 = pos 0; x2 = pos 2000 +ℤ rows_width l p.rows; y2 = track_y (net_count n) }
