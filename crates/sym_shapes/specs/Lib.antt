@@ -1,2 +1,4 @@
 pub mod Shape
 pub mod Joined
+pub mod Joints
+pub mod Sweep
