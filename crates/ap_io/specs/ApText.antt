@@ -40,9 +40,13 @@ RunsAlong Down s = s.x1 ≡ s.x2
 RunsAlong Left s = s.y1 ≡ s.y2
 RunsAlong Right s = s.y1 ≡ s.y2
 
--- a byte that stands within a field: no comma, and no end of a line
+-- a byte that stands within a line: neither a line feed nor a carriage return
+abbrev pub is_line_byte : ℕ → Bool
+is_line_byte c = not (nat_eq c 10 || nat_eq c 13)
+
+-- a byte that stands within a field: no comma either
 abbrev pub is_field_byte : ℕ → Bool
-is_field_byte c = not (nat_eq c 44 || (nat_eq c 10 || nat_eq c 13))
+is_field_byte c = not (nat_eq c 44) && is_line_byte c
 
 -- a contact that joins no metals has any word that begins with CONT_ or C_X_ and is none of those that do
 abbrev pub IsContact : Contact → Type 0
@@ -63,6 +67,8 @@ IsLine (item.Segment s) = (pos 1 ≤ℤ s.width) × RunsAlong s.direction s × I
 IsLine (item.Connector c) = (pos 1 ≤ℤ c.width) × IsLabel c.name
 IsLine (item.Via v) = IsContact v.contact × IsLabel v.name
 IsLine (item.Instance i) = IsWord i.model × IsWord i.name
+IsLine (item.Reference r) = IsWord r.word × AllPass is_field_byte r.name
+IsLine (item.Remark text) = AllPass is_line_byte text
 
 -- the names of the instances, in file order
 abbrev pub instance_names : List Item → List (List ℕ)
@@ -71,6 +77,8 @@ instance_names (item.Segment s ∷ rest) = instance_names rest
 instance_names (item.Connector c ∷ rest) = instance_names rest
 instance_names (item.Via v ∷ rest) = instance_names rest
 instance_names (item.Instance i ∷ rest) = i.name ∷ instance_names rest
+instance_names (item.Reference r ∷ rest) = instance_names rest
+instance_names (item.Remark text ∷ rest) = instance_names rest
 
 -- a figure that the format can hold: each line has its form, the box has its edges in order, and no two instances
 -- have one name
@@ -80,8 +88,8 @@ pub record IsFigure (f : Figure) : Type 0 where
   pub lines : All IsLine f.items
   pub instances : AllPairs (λ a b. a ≢ b) (instance_names f.items)
 
--- The bytes are the ap file of the figure. So far only the spelling that is written counts, which has no reference
--- lines; a reader of all spellings widens this.
+-- The bytes are the ap file of the figure. So far only the spelling that is written counts; a reader of all
+-- spellings widens this.
 pub record IsApText (bytes : List ℕ) (f : Figure) : Type 0 where
   pub figure : IsFigure f
   pub text : bytes ≡ text_of f

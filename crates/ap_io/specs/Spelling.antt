@@ -19,6 +19,7 @@ use Rattle.sym_geom.specs.declared.item.Segment.{Segment}
 use Rattle.sym_geom.specs.declared.item.Connector.{Connector}
 use Rattle.sym_geom.specs.declared.item.Via.{Via}
 use Rattle.sym_geom.specs.declared.item.Instance.{Instance}
+use Rattle.sym_geom.specs.declared.item.Reference.{Reference}
 use Rattle.sym_geom.specs.declared.item.Item.{Item}
 use Rattle.sym_geom.specs.declared.item.Item.TheVariants as item
 use Rattle.ap_io.specs.declared.figure.Figure.{Figure}
@@ -121,11 +122,21 @@ abbrev pub instance_text : Instance → List ℕ
 instance_text i = together (
     codes "I " ∷ field i.x ∷ field i.y ∷ i.model ∷ comma ∷ i.name ∷ comma ∷ transform_text i.transform ∷ line_end ∷ [])
 
+-- R x,y,word,name
+abbrev pub reference_text : Reference → List ℕ
+reference_text r = together (codes "R " ∷ field r.x ∷ field r.y ∷ r.word ∷ comma ∷ r.name ∷ line_end ∷ [])
+
+-- B text
+abbrev pub remark_text : List ℕ → List ℕ
+remark_text text = together (codes "B " ∷ text ∷ line_end ∷ [])
+
 abbrev pub item_text : Item → List ℕ
 item_text (item.Segment s) = segment_text s
 item_text (item.Connector c) = connector_text c
 item_text (item.Via v) = via_text v
 item_text (item.Instance i) = instance_text i
+item_text (item.Reference r) = reference_text r
+item_text (item.Remark text) = remark_text text
 
 -- a line for each item, and then the line that ends the file
 abbrev pub items_text : List Item → List ℕ

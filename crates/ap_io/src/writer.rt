@@ -1,15 +1,15 @@
 // The writer: one line for each item, in the one spelling.
 ghost use Rattle.std.specs.Prelude.{◌≡◌, ◌++◌, IfOk, OnOk};
 ghost use Rattle.std.specs.Fmt.{signed_decimal};
-ghost use Rattle.ap_io.specs.Spelling.{field as field_text, bit_text, name_text, level_text, layer_text, direction_text, side_text, contact_text, transform_text, segment_text, connector_text, via_text, instance_text, item_text, head_text, text_of};
+ghost use Rattle.ap_io.specs.Spelling.{field as field_text, bit_text, name_text, level_text, layer_text, direction_text, side_text, contact_text, transform_text, segment_text, connector_text, via_text, instance_text, reference_text, remark_text, item_text, head_text, text_of};
 
 use crate::Figure;
 use std::alloc::{AllocError, Global};
 use sym_geom::{
-    Connector, Contact, Direction, Instance, Item, Layer, Level, Rect, Segment, Side, Transform,
-    Via,
+    Connector, Contact, Direction, Instance, Item, Layer, Level, Rect, Reference, Segment, Side,
+    Transform, Via,
 };
-use vlsi_base::{FileBytes, Name};
+use vlsi_base::{FileBytes, Name, Text};
 
 /// A number.
 fn number(alloc: Global, out: &mut FileBytes, n: &i64) -> Result<(), AllocError>
@@ -217,6 +217,29 @@ fn instance(alloc: Global, out: &mut FileBytes, i: &Instance) -> Result<(), Allo
     Ok(())
 }
 
+/// An R line.
+fn reference(alloc: Global, out: &mut FileBytes, r: &Reference) -> Result<(), AllocError>
+    ensures { OnOk result (out.new ≡ out.old ++ reference_text r.now) }
+{
+    out.append(b"R ")?;
+    field(alloc, out, &r.x)?;
+    field(alloc, out, &r.y)?;
+    out.append(r.word.as_bytes())?;
+    out.append(b",")?;
+    out.append(r.name.as_bytes())?;
+    out.append(b"\n")?;
+    Ok(())
+}
+
+/// A B line.
+fn remark(out: &mut FileBytes, text: &Text) -> Result<(), AllocError>
+    ensures { OnOk result (out.new ≡ out.old ++ remark_text text.now) }
+{
+    out.append(b"B ")?;
+    out.append(text.as_bytes())?;
+    out.append(b"\n")
+}
+
 /// The line of an item.
 fn line(alloc: Global, out: &mut FileBytes, item: &Item) -> Result<(), AllocError>
     ensures { OnOk result (out.new ≡ out.old ++ item_text item.now) }
@@ -226,6 +249,8 @@ fn line(alloc: Global, out: &mut FileBytes, item: &Item) -> Result<(), AllocErro
         Item::Connector(c) => connector(alloc, out, c),
         Item::Via(v) => via(alloc, out, v),
         Item::Instance(i) => instance(alloc, out, i),
+        Item::Reference(r) => reference(alloc, out, r),
+        Item::Remark(text) => remark(out, text),
     }
 }
 

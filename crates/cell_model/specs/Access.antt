@@ -7,7 +7,7 @@ use Rattle.machine_meaning.specs.Named.{is_same_name}
 use Rattle.sym_geom.specs.Rect.{square, moved}
 use Rattle.sym_geom.specs.declared.rect.Rect.{Rect}
 use Rattle.sym_shapes.specs.Shape.{drawn}
-use Rattle.cell_model.specs.Cell.{Cell, cell_width, cell_height}
+use Rattle.cell_model.specs.Cell.{Cell, pin_ports, cell_width, cell_height}
 use Rattle.vlsi_base.specs.Names.{comes_before}
 
 abbrev pub Point : Type 0
@@ -46,7 +46,7 @@ access_nodes c pin = filter_map (λ q. if is_access_node c pin q then Some q els
 
 -- how many pins have names before this one
 abbrev pub rank_of : Cell → Name → ℕ
-rank_of c pin = count_by (λ p. comes_before p.name pin) c.pins
+rank_of c pin = count_by (λ p. comes_before p.name pin) (pin_ports c)
 
 -- The pin of rank p is reached at number p of its access nodes, where the numbers go round.
 abbrev pub access_point : Cell → Name → Option Point

@@ -27,6 +27,8 @@ instances_of (item.Segment s ∷ rest) = instances_of rest
 instances_of (item.Connector c ∷ rest) = instances_of rest
 instances_of (item.Via v ∷ rest) = instances_of rest
 instances_of (item.Instance i ∷ rest) = i ∷ instances_of rest
+instances_of (item.Reference r ∷ rest) = instances_of rest
+instances_of (item.Remark text ∷ rest) = instances_of rest
 
 abbrev pub all_instances_show : Library → List Instance → List Shape
 all_instances_show l [] = []

@@ -13,7 +13,7 @@ use Rattle.net_meaning.specs.Netlist.{Member, Netlist}
 use Rattle.vlsi_base.specs.Names.{scalar, vdd, vss}
 use Rattle.net_meaning.specs.Well.{gate_instance}
 use Rattle.cell_model.proofs.Texts.{scalar_differs, scalar_itself}
-use Rattle.inverter_block.specs.Inverter.{two_ports, cell_items, AreProper}
+use Rattle.inverter_block.specs.Inverter.{two_ports, two_pins, cell_items, AreProper}
 
 abbrev pub machine_by : Bool → List ℕ → List ℕ → List ℕ → Machine
 machine_by b e i o = record {
@@ -30,12 +30,13 @@ cell_by p cell a z = record {
   name = cell;
   bounds = record { x1 = pos 0; y1 = pos 0; x2 = pos 1500; y2 = pos 5000 };
   items = cell_items a z;
-  pins = two_ports p a z;
+  pins = two_pins p a z;
   function = gate (inverse (variable 0));
+  arcs = [];
 }
 
 abbrev pub library_by : Bool → List ℕ → List ℕ → List ℕ → Library
-library_by p cell a z = cell_by p cell a z ∷ []
+library_by p cell a z = record { cells = cell_by p cell a z ∷ [] }
 
 pub inputs_are : (b : Bool) (e i o : List ℕ) → inputs (machine_by b e i o) ≡ scalar i ∷ []
 inputs_are true e i o = refl

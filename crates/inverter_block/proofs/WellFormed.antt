@@ -9,7 +9,7 @@ use Rattle.machine_meaning.specs.Machine.{Machine, names_of}
 use Rattle.sym_geom.specs.declared.item.Item.{Item}
 use Rattle.vlsi_base.specs.Member.{In, here, there}
 use Rattle.sym_shapes.specs.Shape.{Shape, drawn}
-use Rattle.cell_model.specs.Cell.{Cell, cell_outputs}
+use Rattle.cell_model.specs.Cell.{Cell, pin_ports, cell_outputs}
 use Rattle.cell_model.specs.Library.{Library, cell_of, KeepsLow, IsUsable}
 use Rattle.net_meaning.specs.Netlist.{Member, Netlist, port, pin_of, IsTerminal}
 use Rattle.vlsi_base.specs.Names.{scalar, vdd, vss, comes_before}
@@ -50,7 +50,7 @@ usable true cell a z before after = record {
   metal = λ s h. low_metal s h;
   blockage = λ one h. low_block one h;
 } where
-  each_pin : (q : Port) → In q (cell_by true cell a z).pins → q.name.bit ≡ None
+  each_pin : (q : Port) → In q pin_ports (cell_by true cell a z) → q.name.bit ≡ None
   each_pin q here = refl
   each_pin q (there here) = refl
   each_pin q (there (there h)) = elim h [ ]
@@ -79,7 +79,7 @@ usable false cell a z before after = record {
   metal = λ s h. low_metal s h;
   blockage = λ one h. low_block one h;
 } where
-  each_pin : (q : Port) → In q (cell_by false cell a z).pins → q.name.bit ≡ None
+  each_pin : (q : Port) → In q pin_ports (cell_by false cell a z) → q.name.bit ≡ None
   each_pin q here = refl
   each_pin q (there here) = refl
   each_pin q (there (there h)) = elim h [ ]

@@ -1,5 +1,5 @@
 -- One inverter: its machine, the library of its one cell, and its layout with private tracks, for all names.
-use Rattle.std.specs.Prelude.{◌≢◌, ℕ, ℤ, pos, Bool, List, [], ◌∷◌, ◌++◌, None, Some, codes, if◌then◌else◌}
+use Rattle.std.specs.Prelude.{◌≢◌, ℕ, ℤ, pos, Bool, List, [], ◌∷◌, ◌++◌, map, None, Some, codes, if◌then◌else◌}
 use Rattle.vlsi_base.specs.declared.name.Port.{Port}
 use Rattle.vlsi_base.specs.declared.name.Dir.TheVariants as dir
 use Rattle.bool_expr.specs.Expression.{inverse, variable}
@@ -12,7 +12,7 @@ use Rattle.sym_geom.specs.declared.item.Item.{Item}
 use Rattle.sym_geom.specs.declared.item.Item.TheVariants as item
 use Rattle.ap_io.specs.declared.figure.Figure.{Figure}
 use Rattle.ap_io.specs.ApText.{IsWord}
-use Rattle.cell_model.specs.Cell.{Cell, gate}
+use Rattle.cell_model.specs.Cell.{gate, Pin, Cell}
 use Rattle.cell_model.specs.Library.{Library}
 use Rattle.vlsi_base.specs.Names.{scalar, vdd, vss, comes_before}
 use Rattle.ocp_rows.specs.Placement.{level_wire, upright_wire, contact_at, west_port}
@@ -75,18 +75,23 @@ cell_figure cell pin_in pin_out = record {
   items = cell_items pin_in pin_out;
 }
 
+-- its source says nothing of capacitances and times
+abbrev pub two_pins : Bool → List ℕ → List ℕ → List Pin
+two_pins first pin_in pin_out = map (λ p. record { port = p; capacitance = 0 }) (two_ports first pin_in pin_out)
+
 abbrev pub inverter_cell : List ℕ → List ℕ → List ℕ → Cell
 inverter_cell cell pin_in pin_out = record {
   name = cell;
   bounds = record { x1 = pos 0; y1 = pos 0; x2 = pos 1500; y2 = pos 5000 };
   items = cell_items pin_in pin_out;
-  pins = two_ports (stands_before pin_in pin_out) pin_in pin_out;
+  pins = two_pins (stands_before pin_in pin_out) pin_in pin_out;
   function = gate (inverse (variable 0));
+  arcs = [];
 }
 
 -- the library of this one cell
 abbrev pub inverter_library : List ℕ → List ℕ → List ℕ → Library
-inverter_library cell pin_in pin_out = inverter_cell cell pin_in pin_out ∷ []
+inverter_library cell pin_in pin_out = record { cells = inverter_cell cell pin_in pin_out ∷ [] }
 
 -- ---- the layout
 

@@ -1,5 +1,5 @@
 -- When a netlist behaves as a machine.
-use Rattle.std.specs.Prelude.{◌≡◌, ℕ, ◌<◌, Bool, List, ◌++◌, map, length, codes}
+use Rattle.std.specs.Prelude.{◌≡◌, ℕ, ◌<◌, Bool, List, [], ◌∷◌, ◌++◌, map, length, codes}
 use Rattle.std.specs.Fmt.{decimal}
 use Rattle.bool_expr.specs.Expression.{bit}
 use Rattle.machine_meaning.specs.Machine.{Machine, outputs}
@@ -12,9 +12,9 @@ use Rattle.net_meaning.specs.Behaviour.{Contents, NetTrace, net_outs}
 abbrev pub register_instance : ℕ → List ℕ
 register_instance k = codes "q" ++ decimal k
 
--- the register instances hold what the machine's registers hold, register by register
+-- the register instances hold what the machine's registers hold, one bit each
 pub record IsMatched (s : List Bool) (t : Contents) : Type 0 where
-  pub bits : (k : ℕ) → k < length s → t (register_instance k) ≡ bit s k
+  pub bits : (k : ℕ) → k < length s → t (register_instance k) ≡ bit s k ∷ []
 
 -- From any contents and for every list of vectors, of every length, the netlist has exactly one list of valuations; and
 -- from matched contents its outputs are those of the machine.

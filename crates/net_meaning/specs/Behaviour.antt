@@ -1,20 +1,29 @@
 -- How a netlist of cells behaves.
 use Rattle.std.specs.Prelude.{◌≡◌, ℕ, Bool, true, false, List, [], ◌∷◌, map, length, Option, None, Some, if◌then◌else◌}
+use Rattle.vlsi_base.specs.Member.{In}
+use Rattle.vlsi_base.specs.Names.{vdd, vss}
 use Rattle.vlsi_base.specs.declared.name.Name.{Name}
 use Rattle.vlsi_base.specs.declared.name.Terminal.{Terminal}
 use Rattle.bool_expr.specs.Expression.{val, bit}
 use Rattle.machine_meaning.specs.Named.{is_same_text}
-use Rattle.machine_meaning.specs.Machine.{Machine, inputs}
-use Rattle.machine_meaning.specs.Runs.{Trace}
-use Rattle.vlsi_base.specs.Member.{In}
-use Rattle.cell_model.specs.Cell.{Function, gate, flip_flop, other, Cell, cell_inputs, cell_outputs}
+use Rattle.machine_meaning.specs.Machine.{Machine, inputs, outputs}
+use Rattle.machine_meaning.specs.Cycles.{Settles, outs, next}
+use Rattle.machine_meaning.specs.Runs.{Run}
+use Rattle.cell_model.specs.Cell.{Function, gate, flip_flop, other, opaque, Cell, cell_inputs, cell_outputs}
 use Rattle.cell_model.specs.Library.{Library, cell_of}
 use Rattle.net_meaning.specs.Netlist.{Member, Netlist, port, pin_of}
-use Rattle.vlsi_base.specs.Names.{vdd, vss}
 
--- what the register instances hold, by their names
+-- What the instances hold, by their names: a flip-flop one bit, and an instance of another machine a bit for each of its
+-- registers.
 abbrev pub Contents : Type 0
-Contents = List ℕ → Bool
+Contents = List ℕ → List Bool
+
+-- what a netlist shows in a cycle
+pub record Valuation : Type 0 where
+  -- a bit for each class; the clock's class has none, and stands as 0
+  pub classes : List Bool
+  -- and within an instance of another machine, by the instance's name, a bit for each name of that machine
+  pub inner : List ℕ → List Bool
 
 -- the bit of a terminal's class
 abbrev pub bit_of : Netlist → List Bool → Terminal → Bool
@@ -23,19 +32,25 @@ bit_of n w t = bit w (n.class t)
 abbrev pub pin_bits : Netlist → List Bool → List ℕ → List Name → List Bool
 pin_bits n w owner pins = map (λ p. bit_of n w (pin_of owner p)) pins
 
--- one instance under w: a gate's output has the value of its expression, and a flip-flop's the bit that it holds
-abbrev pub Drives : Netlist → List Bool → Contents → List ℕ → Cell → Function → Type 0
-Drives n w t owner c (gate e) = pin_bits n w owner (cell_outputs c) ≡ val e (pin_bits n w owner (cell_inputs c)) ∷ []
-Drives n w t owner c (flip_flop data_pin clock_pin) = pin_bits n w owner (cell_outputs c) ≡ t owner ∷ []
-Drives n w t owner c other = Unit {0}
+-- One instance under w: a gate's output has the value of its expression, and a flip-flop's the bit that it holds. Another machine
+-- has settled within, from what the instance holds and under its input pins, and its outputs are at the output pins. Of an
+-- opaque cell nothing is said.
+abbrev pub Drives : Netlist → Valuation → Contents → List ℕ → Cell → Function → Type 0
+Drives n w t owner c (gate e) =
+    pin_bits n w.classes owner (cell_outputs c) ≡ val e (pin_bits n w.classes owner (cell_inputs c)) ∷ []
+Drives n w t owner c (flip_flop data_pin clock_pin) = pin_bits n w.classes owner (cell_outputs c) ≡ bit (t owner) 0 ∷ []
+Drives n w t owner c (other m) =
+    Settles m (t owner) (pin_bits n w.classes owner (inputs m)) (w.inner owner)
+    × (pin_bits n w.classes owner (outputs m) ≡ outs m (w.inner owner))
+Drives n w t owner c opaque = Unit {0}
 
--- w gives a bit to each class, from the contents t and under the input vector i. The clock's class has no bit: it stands as 0.
-pub record NetSettles (n : Netlist) (l : Library) (input_names : List Name) (clock : Option Name) (t : Contents) (i w : List Bool) : Type 0 where
-  pub each : length w ≡ n.classes
-  pub high : bit_of n w (port vdd) ≡ true
-  pub low : bit_of n w (port vss) ≡ false
-  pub still : (name : Name) → clock ≡ Some name → bit_of n w (port name) ≡ false
-  pub inputs : map (λ name. bit_of n w (port name)) input_names ≡ i
+-- w is a valuation of the netlist, from the contents t and under the input vector i
+pub record NetSettles (n : Netlist) (l : Library) (input_names : List Name) (clock : Option Name) (t : Contents) (i : List Bool) (w : Valuation) : Type 0 where
+  pub each : length w.classes ≡ n.classes
+  pub high : bit_of n w.classes (port vdd) ≡ true
+  pub low : bit_of n w.classes (port vss) ≡ false
+  pub still : (name : Name) → clock ≡ Some name → bit_of n w.classes (port name) ≡ false
+  pub inputs : map (λ name. bit_of n w.classes (port name)) input_names ≡ i
   pub instances : (one : Member) (c : Cell) → In one n.instances → cell_of l one.model ≡ Some c → Drives n w t one.name c c.function
 
 -- the model of the instance of this name
@@ -47,23 +62,27 @@ abbrev pub cell_at : Library → Option (List ℕ) → Option Cell
 cell_at l None = None
 cell_at l (Some model) = cell_of l model
 
-abbrev pub loaded : Netlist → List Bool → List ℕ → Function → Bool
-loaded n w owner (gate e) = false
-loaded n w owner (flip_flop data_pin clock_pin) = bit_of n w (pin_of owner data_pin)
-loaded n w owner other = false
+-- what an instance holds after the clock's rise: a flip-flop the bit of its data pin's class, and another machine what its
+-- registers take
+abbrev pub loaded : Netlist → Valuation → List ℕ → Function → List Bool
+loaded n w owner (gate e) = []
+loaded n w owner (flip_flop data_pin clock_pin) = bit_of n w.classes (pin_of owner data_pin) ∷ []
+loaded n w owner (other m) = next m (w.inner owner)
+loaded n w owner opaque = []
 
-abbrev pub next_bit : Netlist → List Bool → List ℕ → Option Cell → Bool
-next_bit n w owner None = false
-next_bit n w owner (Some c) = loaded n w owner c.function
+abbrev pub next_held : Netlist → Valuation → List ℕ → Option Cell → List Bool
+next_held n w owner None = []
+next_held n w owner (Some c) = loaded n w owner c.function
 
--- after the clock's rise each register instance holds the bit of its data pin's class; a name that is none reads as 0
-abbrev pub net_next : Netlist → Library → List Bool → Contents
-net_next n l w owner = next_bit n w owner (cell_at l (model_of n.instances owner))
+-- the next contents; a name that is no instance's holds nothing
+abbrev pub net_next : Netlist → Library → Valuation → Contents
+net_next n l w owner = next_held n w owner (cell_at l (model_of n.instances owner))
 
 -- the bits of the output ports
 abbrev pub net_outs : Netlist → List Name → List Bool → List Bool
 net_outs n outputs w = map (λ name. bit_of n w (port name)) outputs
 
--- the valuations of the cycles: from the contents t, under the vectors v, which have a bit for each input of the machine
+-- The bits of the classes in each of the cycles: from the contents t, under the vectors v, which have a bit for each input of
+-- the machine.
 abbrev pub NetTrace : Netlist → Library → Machine → Contents → List (List Bool) → List (List Bool) → Type 0
-NetTrace n l m t v ws = Trace (NetSettles n l (inputs m) m.clock) (net_next n l) t v ws
+NetTrace n l m t v ws = Run (NetSettles n l (inputs m) m.clock) (λ w. w.classes) (net_next n l) t v ws

@@ -5,7 +5,7 @@ use Rattle.vlsi_base.specs.declared.name.Name.{Name}
 use Rattle.vlsi_base.specs.declared.name.Terminal.{Terminal}
 use Rattle.machine_meaning.specs.Machine.{Machine, inputs, names_of}
 use Rattle.vlsi_base.specs.Member.{In}
-use Rattle.cell_model.specs.Cell.{Function, gate, flip_flop, other, Cell, cell_inputs, cell_outputs}
+use Rattle.cell_model.specs.Cell.{Function, gate, flip_flop, other, opaque, Cell, cell_inputs, cell_outputs}
 use Rattle.cell_model.specs.Library.{Library, cell_of, IsUsable}
 use Rattle.net_meaning.specs.Netlist.{Member, Netlist, port, pin_of, IsTerminal}
 use Rattle.vlsi_base.specs.Names.{vdd, vss}
@@ -21,7 +21,8 @@ buffer_instance k = codes "b" ++ decimal k
 abbrev pub IsFlipFlop : Function → Type 0
 IsFlipFlop (gate e) = ⊥
 IsFlipFlop (flip_flop data_pin clock_pin) = Unit {0}
-IsFlipFlop other = ⊥
+IsFlipFlop (other machine) = ⊥
+IsFlipFlop opaque = ⊥
 
 -- the netlist has the instance, of this cell
 pub record Has (n : Netlist) (l : Library) (i : Member) (c : Cell) : Type 0 where

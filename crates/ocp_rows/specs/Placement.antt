@@ -148,12 +148,14 @@ track_ports k (name ∷ rest) = west_port (Alu Two) (pos 200) (pos 1500) (track_
 abbrev pub net_count : Netlist → ℕ
 net_count n = n.classes - 2
 
--- a wire or a via, and no connector (a named wire on CALU is one) or instance
+-- a wire or a via; no connector, which a named wire on CALU is too, and no other line
 abbrev pub IsWiring : Item → Type 0
 IsWiring (item.Segment s) = wire_name s.layer s.name ≡ None
 IsWiring (item.Via v) = Unit {0}
 IsWiring (item.Connector c) = ⊥
 IsWiring (item.Instance i) = ⊥
+IsWiring (item.Reference r) = ⊥
+IsWiring (item.Remark text) = ⊥
 
 -- The instances, box, supplies and ports of a figure are those of a placement of the netlist for private tracks. The lines
 -- stand in this order: the supplies' ports, the others' in the order of names, the instances, rails and straps, the nets.

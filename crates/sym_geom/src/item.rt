@@ -7,7 +7,7 @@ use std::marker::Model;
 use vlsi_base::{Name, Text};
 
 /// Which way a segment runs.
-#[derive(Clone, Copy, Debug, PartialEq, Eq)]
+#[derive(Clone, Copy, PartialEq, Eq)]
 pub enum Direction {
     Up,
     Down,
@@ -16,7 +16,7 @@ pub enum Direction {
 }
 
 /// The side of its figure that a connector faces.
-#[derive(Clone, Copy, Debug, PartialEq, Eq)]
+#[derive(Clone, Copy, PartialEq, Eq)]
 pub enum Side {
     North,
     South,
@@ -25,7 +25,7 @@ pub enum Side {
 }
 
 /// A piece of wire: an S line. Its ends may stand in either order.
-#[derive(Debug, Drop)]
+#[derive(Drop)]
 pub struct Segment {
     pub x1: i64,
     pub y1: i64,
@@ -39,7 +39,7 @@ pub struct Segment {
 }
 
 /// A port of a figure, or a pin of a cell: a C line.
-#[derive(Debug, Drop)]
+#[derive(Drop)]
 pub struct Connector {
     pub x: i64,
     pub y: i64,
@@ -52,7 +52,7 @@ pub struct Connector {
 }
 
 /// What a V line stands for.
-#[derive(Debug, Drop)]
+#[derive(Drop)]
 pub enum Contact {
     /// CONT_VIA, which joins the metals 1 and 2.
     Via1,
@@ -69,7 +69,7 @@ pub enum Contact {
 }
 
 /// A contact at a point: a V line.
-#[derive(Debug, Drop)]
+#[derive(Drop)]
 pub struct Via {
     pub x: i64,
     pub y: i64,
@@ -79,7 +79,7 @@ pub struct Via {
 }
 
 /// A cell that stands in the figure: an I line. The lower left corner of its box, once it is turned, lies at `x`, `y`.
-#[derive(Debug, Drop)]
+#[derive(Drop)]
 pub struct Instance {
     pub x: i64,
     pub y: i64,
@@ -88,17 +88,31 @@ pub struct Instance {
     pub transform: Transform,
 }
 
+/// A point of the figure that has a name: an R line. It shows no shape.
+#[derive(Drop)]
+pub struct Reference {
+    pub x: i64,
+    pub y: i64,
+    /// What the point is for: an identifier.
+    pub word: Text,
+    /// Any text without a comma.
+    pub name: Text,
+}
+
 /// One line of a figure.
-#[derive(Debug, Drop)]
+#[derive(Drop)]
 pub enum Item {
     Segment(Segment),
     Connector(Connector),
     Via(Via),
     Instance(Instance),
+    Reference(Reference),
+    /// Any text: a B line. It shows no shape.
+    Remark(Text),
 }
 
 /// The lines of a figure in file order.
-#[derive(Debug, Drop)]
+#[derive(Drop)]
 pub struct Items {
     items: Vec<Item>,
 }

@@ -2,7 +2,7 @@ ghost use Rattle.std.specs.Prelude.{◌≡◌};
 ghost use Rattle.sym_geom.specs.Metal.{metal_of as metal_of_layer, routing_metal as routing_metal_of};
 
 /// Which of the nine layers of a metal's family is meant.
-#[derive(Clone, Copy, Debug, PartialEq, Eq)]
+#[derive(Clone, Copy, PartialEq, Eq)]
 pub enum Level {
     One,
     Two,
@@ -16,7 +16,7 @@ pub enum Level {
 }
 
 /// The layers of the symbolic layout.
-#[derive(Clone, Copy, Debug, PartialEq, Eq)]
+#[derive(Clone, Copy, PartialEq, Eq)]
 pub enum Layer {
     /// NWELL: the well of the p transistors.
     NWell,

@@ -10,7 +10,9 @@ mod rect;
 mod rects;
 
 pub use gaps::gap;
-pub use item::{Connector, Contact, Direction, Instance, Item, Items, Segment, Side, Via};
+pub use item::{
+    Connector, Contact, Direction, Instance, Item, Items, Reference, Segment, Side, Via,
+};
 pub use layer::{Layer, Level, metal_of};
 pub use placing::transform;
 pub use rect::{Rect, Transform, touches};

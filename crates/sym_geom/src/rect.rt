@@ -2,7 +2,7 @@ ghost use Rattle.std.specs.Prelude.{◌↔◌, IsTrue};
 ghost use Rattle.sym_geom.specs.Rect.{Meet};
 
 /// A closed rectangle by its edges, at scale 100 (500 is one column): `x1 <= x2` and `y1 <= y2`.
-#[derive(Clone, Copy, Debug, PartialEq, Eq)]
+#[derive(Clone, Copy, PartialEq, Eq)]
 pub struct Rect {
     pub x1: i64,
     pub y1: i64,
@@ -11,7 +11,7 @@ pub struct Rect {
 }
 
 /// How an instance is turned before it is placed.
-#[derive(Clone, Copy, Debug, PartialEq, Eq)]
+#[derive(Clone, Copy, PartialEq, Eq)]
 pub enum Transform {
     /// NOSYM: as it is.
     NoSym,

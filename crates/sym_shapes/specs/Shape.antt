@@ -48,12 +48,14 @@ abbrev pub pad_shapes : ℕ → Option (List (ℕ × Rect)) → List Shape
 pad_shapes line None = []
 pad_shapes line (Some pads) = map (λ p. record { metal = p.0; rect = p.1; owner = None; line = line; name = None }) pads
 
--- what line `line` draws; an instance draws nothing itself
+-- what line `line` draws; an instance draws nothing itself, and references and remarks show nothing
 abbrev pub item_shapes : ℕ → Item → List Shape
 item_shapes line (item.Segment s) = on_metal (metal_of s.layer) line (segment_rect s) (wire_name s.layer s.name)
 item_shapes line (item.Connector c) = on_metal (metal_of c.layer) line (square c.x c.y c.width) c.name
 item_shapes line (item.Via v) = pad_shapes line (via_pads v)
 item_shapes line (item.Instance i) = []
+item_shapes line (item.Reference r) = []
+item_shapes line (item.Remark text) = []
 
 -- what items draw, in their order, where the first is line `line`
 abbrev pub drawn_from : ℕ → List Item → List Shape
@@ -72,6 +74,8 @@ connector_name (item.Segment s) = label (wire_name s.layer s.name)
 connector_name (item.Connector c) = label c.name
 connector_name (item.Via v) = []
 connector_name (item.Instance i) = []
+connector_name (item.Reference r) = []
+connector_name (item.Remark text) = []
 
 -- the names of the connectors of a figure, on whatever layer, in file order
 abbrev pub connector_names : List Item → List Name
