@@ -5,7 +5,7 @@ use Rattle.vlsi_base.specs.declared.name.Name.{Name}
 use Rattle.vlsi_base.specs.declared.name.Terminal.{Terminal}
 use Rattle.machine_meaning.specs.Machine.{Machine, inputs, outputs}
 use Rattle.vlsi_base.specs.Member.{In, here, there}
-use Rattle.cell_model.specs.Cell.{Function, gate, flip_flop, other, Cell, cell_inputs, cell_outputs}
+use Rattle.cell_model.specs.Cell.{Function, gate, flip_flop, other, opaque, Cell, cell_inputs, cell_outputs}
 use Rattle.cell_model.specs.Library.{Library, IsUsable, IsPlain}
 use Rattle.net_meaning.specs.Netlist.{Netlist, port, pin_of, IsTerminal, a_port, a_pin}
 use Rattle.vlsi_base.specs.Names.{vdd, vss}
@@ -64,7 +64,8 @@ module _ (n : Sourced) (k : Netlist) (l : Library) (m : Machine) (f : Values) (r
     loads = source_same (pin_of p.member.name d) (input_terminal n.netlist l p.member c d has usable plain.2) ∙ old.loads;
     clocked = source_same (pin_of p.member.name q) (input_terminal n.netlist l p.member c q has usable plain.3) ∙ old.clocked;
   }
-  plays p c other has usable is plain old = absurd old
+  plays p c (other machine) has usable is plain old = absurd old
+  plays p c opaque has usable is plain old = absurd old
 
   supply : (p : Seat) (c : Cell) (name : Name) → Has n.netlist l p.member c → IsUsable c → (name ≡ vdd) ⊎ (name ≡ vss) → IsTerminal n.netlist l (pin_of p.member.name name)
   supply p c name has usable is = a_pin p.member c has.listed has.found ((usable.connectors name).1 (elim is [ inl a ↦ inl a | inr b ↦ inr (inl b) ]))

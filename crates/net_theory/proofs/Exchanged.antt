@@ -5,7 +5,7 @@ use Rattle.vlsi_base.specs.declared.name.Port.{Port}
 use Rattle.vlsi_base.specs.declared.name.Terminal.{Terminal}
 use Rattle.machine_meaning.specs.Machine.{Machine, inputs, is_input, names_of}
 use Rattle.vlsi_base.specs.Member.{In}
-use Rattle.cell_model.specs.Cell.{Function, gate, flip_flop, other, Cell, cell_inputs, cell_outputs}
+use Rattle.cell_model.specs.Cell.{Function, gate, flip_flop, other, opaque, Cell, pin_ports, cell_inputs, cell_outputs}
 use Rattle.cell_model.specs.Library.{Library, cell_of, IsUsable}
 use Rattle.net_meaning.specs.Netlist.{Member, Netlist, port, pin_of, IsTerminal, a_port, a_pin}
 use Rattle.vlsi_base.specs.Names.{vdd, vss}
@@ -36,12 +36,12 @@ module _ (n : Sourced) (k : Netlist) (l : Library) (m : Machine) (f : Values) (r
   pins_same : (owner other_owner : List ℕ) (pins : List Name) → owner ≡ other_owner → pin_sources there owner pins ≡ pin_sources n other_owner pins
   pins_same owner other_owner pins is = ap (λ (c : Terminal → ℕ). map (λ (p : Name). n.source (c (pin_of owner p))) pins) x.class ∙ ap (λ (o : List ℕ). pin_sources n o pins) is
 
-  gate_name : (p : Seat) (c d : Cell) → d.pins ≡ c.pins → IsGateName p.member c → IsGateName (x.drive p.member) d
+  gate_name : (p : Seat) (c d : Cell) → pin_ports d ≡ pin_ports c → IsGateName p.member c → IsGateName (x.drive p.member) d
   gate_name p c d pins (named_g j is) = named_g j (x.named p.member ∙ is)
   gate_name p c d pins (named_b j is one) =
       named_b j (x.named p.member ∙ is) (ap (λ (ps : List Port). length (names_of (filter (λ q. is_input q.dir) ps))) pins ∙ one)
 
-  plays : (p : Seat) (c d : Cell) (u v : Function) → d.pins ≡ c.pins → IsSameFunction u v → Plays n m f r p c u → Plays there m f r (changed p) d v
+  plays : (p : Seat) (c d : Cell) (u v : Function) → pin_ports d ≡ pin_ports c → IsSameFunction u v → Plays n m f r p c u → Plays there m f r (changed p) d v
   plays p c d (gate e) (gate y) pins alike old = record {
     beyond = old.beyond;
     named = gate_name p c d pins old.named;
@@ -66,10 +66,13 @@ module _ (n : Sourced) (k : Netlist) (l : Library) (m : Machine) (f : Values) (r
         ∙ ap (λ (z : Name). source_of n (pin_of p.member.name z)) alike.1 ∙ old.clocked;
   }
   plays p c d (gate e) (flip_flop b j) pins alike old = absurd alike
-  plays p c d (gate e) other pins alike old = absurd alike
+  plays p c d (gate e) (other machine) pins alike old = absurd alike
+  plays p c d (gate e) opaque pins alike old = absurd alike
   plays p c d (flip_flop a q) (gate y) pins alike old = absurd alike
-  plays p c d (flip_flop a q) other pins alike old = absurd alike
-  plays p c d other v pins alike old = absurd old
+  plays p c d (flip_flop a q) (other machine) pins alike old = absurd alike
+  plays p c d (flip_flop a q) opaque pins alike old = absurd alike
+  plays p c d (other machine) v pins alike old = absurd old
+  plays p c d opaque v pins alike old = absurd old
 
   seated : (p : Seat) → In p h.seats → IsSeated there l m f r (changed p)
   seated p g =
@@ -102,7 +105,7 @@ module _ (n : Sourced) (k : Netlist) (l : Library) (m : Machine) (f : Values) (r
             let found_d : cell_of l i.model ≡ Some e.0 = subst (λ (z : Member). cell_of l z.model ≡ Some e.0) is e.1 in
             let same : e.0 ≡ d = cc (found, found_d) in
             let usable : IsUsable d = subst (λ (z : Cell). IsUsable z) same e.2 in
-            let pins : d.pins ≡ s.cell.pins = ap (λ (z : Cell). z.pins) (sym same) ∙ e.3.pins in
+            let pins : pin_ports d ≡ pin_ports s.cell = ap pin_ports (sym same) ∙ e.3.pins in
             let into : In name _ = (s.usable.connectors name).1 (subst (λ (ps : List Port). (name ≡ vdd) ⊎ ((name ≡ vss) ⊎ In name (names_of ps))) pins ((usable.connectors name).0 named)) in
             subst (λ (o : List ℕ). IsTerminal n.netlist l (pin_of o name)) (sym (x.named j) ∙ ap (λ (z : Member). z.name) is) (a_pin j s.cell old found_c into)
 

@@ -4,7 +4,7 @@ use Rattle.vlsi_base.specs.declared.name.Name.{Name}
 use Rattle.vlsi_base.specs.declared.name.Terminal.{Terminal}
 use Rattle.machine_meaning.specs.Machine.{Machine, inputs, outputs, names_of}
 use Rattle.vlsi_base.specs.Member.{In, here, there}
-use Rattle.cell_model.specs.Cell.{Function, gate, flip_flop, other, Cell, cell_inputs, cell_outputs}
+use Rattle.cell_model.specs.Cell.{Function, gate, flip_flop, other, opaque, Cell, pin_ports, cell_inputs, cell_outputs}
 use Rattle.cell_model.specs.Library.{Library, cell_of, IsUsable, IsPlain}
 use Rattle.net_meaning.specs.Netlist.{Member, Netlist, port, pin_of, IsTerminal, a_port, a_pin}
 use Rattle.vlsi_base.specs.Names.{vdd, vss}
@@ -83,22 +83,24 @@ seat_has n l m f r h p g = record {
 pub shown : (n : Sourced) (m : Machine) (f : Values) (r : Roots) (p : Seat) (c : Cell) (u : Function) → Plays n m f r p c u → pin_sources n p.member.name (cell_outputs c) ≡ node p.node ∷ []
 shown n m f r p c (gate e) h = h.shows
 shown n m f r p c (flip_flop d k) h = h.shows
-shown n m f r p c other h = absurd h
+shown n m f r p c (other machine) h = absurd h
+shown n m f r p c opaque h = absurd h
 
 pub above : (n : Sourced) (m : Machine) (f : Values) (r : Roots) (p : Seat) (c : Cell) (u : Function) → Plays n m f r p c u → length (inputs m) ≤ p.node
 above n m f r p c (gate e) h = let b = h.beyond in omega (arith, b)
 above n m f r p c (flip_flop d k) h = let b = h.place in omega (arith, b)
-above n m f r p c other h = absurd h
+above n m f r p c (other machine) h = absurd h
+above n m f r p c opaque h = absurd h
 
 -- the pins of a cell are terminals
-pub pin_terminal : (n : Netlist) (l : Library) (i : Member) (c : Cell) (name : Name) → Has n l i c → IsUsable c → In name (names_of c.pins) → IsTerminal n l (pin_of i.name name)
+pub pin_terminal : (n : Netlist) (l : Library) (i : Member) (c : Cell) (name : Name) → Has n l i c → IsUsable c → In name (names_of (pin_ports c)) → IsTerminal n l (pin_of i.name name)
 pin_terminal n l i c name has usable h = a_pin i c has.listed has.found ((usable.connectors name).1 (inr (inr h)))
 
 pub output_terminal : (n : Netlist) (l : Library) (i : Member) (c : Cell) (name : Name) → Has n l i c → IsUsable c → In name (cell_outputs c) → IsTerminal n l (pin_of i.name name)
-output_terminal n l i c name has usable h = pin_terminal n l i c name has usable (In-names _ c.pins name h)
+output_terminal n l i c name has usable h = pin_terminal n l i c name has usable (In-names _ (pin_ports c) name h)
 
 pub input_terminal : (n : Netlist) (l : Library) (i : Member) (c : Cell) (name : Name) → Has n l i c → IsUsable c → In name (cell_inputs c) → IsTerminal n l (pin_of i.name name)
-input_terminal n l i c name has usable h = pin_terminal n l i c name has usable (In-names _ c.pins name h)
+input_terminal n l i c name has usable h = pin_terminal n l i c name has usable (In-names _ (pin_ports c) name h)
 
 -- what source a terminal has, and why
 pub data At (n : Sourced) (l : Library) (m : Machine) (t : Terminal) : Type 0 where
@@ -132,7 +134,8 @@ input_at n l m f r p c (flip_flop d k) has is plain plays name h =
       | inr on_k ↦
           subst (λ (x : Name). At n l m (pin_of p.member.name x)) (sym on_k) (at_clock_pin (a_clock_pin p.member c d k has is) plays.clocked)
     ]
-input_at n l m f r p c other has is plain plays name h = absurd plays
+input_at n l m f r p c (other machine) has is plain plays name h = absurd plays
+input_at n l m f r p c opaque has is plain plays name h = absurd plays
 
 port_at : (n : Sourced) (l : Library) (m : Machine) (f : Values) (r : Roots) → Shows n l m f r → (name : Name) → In name n.netlist.ports → At n l m (port name)
 port_at n l m f r h name listed = elim ((h.ports name).0 listed) [
@@ -158,7 +161,7 @@ at n l m f r h t (a_pin {name = name} i c listed found named) =
       | inl is_vdd ↦ at_high is_vdd (subst (λ (x : Name). source_of n (pin_of i.name x) ≡ high) (sym is_vdd) s.on_vdd)
       | inr rest ↦ elim rest [
         | inl is_vss ↦ at_low is_vss (subst (λ (x : Name). source_of n (pin_of i.name x) ≡ low) (sym is_vss) s.on_vss)
-        | inr pin ↦ subst (λ (x : Member). At n l m (pin_of x.name name)) s.member (elim (In-pins c.pins name pin) [
+        | inr pin ↦ subst (λ (x : Member). At n l m (pin_of x.name name)) s.member (elim (In-pins (pin_ports c) name pin) [
           | inl x ↦ input_at n l m f r s.seat c c.function has refl s.usable.function s.plays name x
           | inr y ↦ at_node s.seat.node (output_at n l m f r s.seat c s.plays name y)
         ])

@@ -6,11 +6,11 @@ use Rattle.bool_expr.specs.Expression.{bit, val}
 use Rattle.machine_meaning.specs.Machine.{Machine, inputs}
 use Rattle.machine_core.specs.Checked.{IsChecked}
 use Rattle.vlsi_base.specs.Member.{In, here, there}
-use Rattle.cell_model.specs.Cell.{Function, gate, flip_flop, other, Cell, cell_inputs, cell_outputs}
+use Rattle.cell_model.specs.Cell.{Function, gate, flip_flop, other, opaque, Cell, cell_inputs, cell_outputs}
 use Rattle.cell_model.specs.Library.{Library, IsUsable}
 use Rattle.net_meaning.specs.Netlist.{Member, port, pin_of, IsTerminal}
 use Rattle.vlsi_base.specs.Names.{vdd, vss}
-use Rattle.net_meaning.specs.Behaviour.{Contents, bit_of, pin_bits, Drives, NetSettles}
+use Rattle.net_meaning.specs.Behaviour.{Contents, Valuation, bit_of, pin_bits, Drives, NetSettles}
 use Rattle.net_meaning.specs.Agreement.{register_instance}
 use Rattle.net_meaning.specs.Well.{Has}
 use Rattle.net_theory.specs.Sources.{Source, high, low, ticking, node, IsNumber, Values, AreHeld, Seat, Roots, Sourced, source_of, pin_sources, Plays, ComesFrom, Shows}
@@ -28,7 +28,7 @@ bit_from g (node a) = g a
 
 -- the bits of the registers, by the contents of their instances
 abbrev pub held_bits : Machine → Contents → List Bool
-held_bits m t = listed (length m.registers) (λ k. t (register_instance k))
+held_bits m t = listed (length m.registers) (λ k. bit (t (register_instance k)) 0)
 
 node_bits : (g : ℕ → Bool) (leaves : List ℕ) → map (bit_from g) (map node leaves) ≡ map g leaves
 node_bits g [] = refl
@@ -61,11 +61,15 @@ module _ (n : Sourced) (l : Library) (m : Machine) (f : Values) (r : Roots) (che
   bits = f i (held_bits m t)
 
   held : AreHeld m i (held_bits m t)
-  held = record { for_inputs = counts; for_registers = length-listed (length m.registers) (λ k. t (register_instance k)) }
+  held = record { for_inputs = counts; for_registers = length-listed (length m.registers) (λ k. bit (t (register_instance k)) 0) }
 
   -- each class has the bit of its source
   abbrev pub valuation : List Bool
   valuation = listed n.netlist.classes (λ k. bit_from bits (n.source k))
+
+  -- and no instance has anything within
+  abbrev pub whole : Valuation
+  whole = record { classes = valuation; inner = λ owner. [] }
 
   pub bit_at : (u : Terminal) → IsTerminal n.netlist l u → bit_of n.netlist valuation u ≡ bit_from bits (source_of n u)
   bit_at u is = bit-listed n.netlist.classes (λ k. bit_from bits (n.source k)) (n.netlist.class u) (h.numbered u is)
@@ -75,12 +79,12 @@ module _ (n : Sourced) (l : Library) (m : Machine) (f : Values) (r : Roots) (che
       bit_at (port name) (in_port n l m f r checked h name (number_in (inputs m) k name is))
       ∙ ap (bit_from bits) (h.in_ports k name is) ∙ means.held_inputs i (held_bits m t) held k (number_below (inputs m) k name is)
 
-  register_bit : (p : Seat) (number : ℕ) → number < length m.registers → p.member.name ≡ register_instance number → p.node ≡ length (inputs m) + number → bits p.node ≡ t p.member.name
+  register_bit : (p : Seat) (number : ℕ) → number < length m.registers → p.member.name ≡ register_instance number → p.node ≡ length (inputs m) + number → bits p.node ≡ bit (t p.member.name) 0
   register_bit p number within named place =
       ap bits place ∙ means.held_registers i (held_bits m t) held number within
-      ∙ bit-listed (length m.registers) (λ k. t (register_instance k)) number within ∙ ap t (sym named)
+      ∙ bit-listed (length m.registers) (λ k. bit (t (register_instance k)) 0) number within ∙ ap (λ (x : List ℕ). bit (t x) 0) (sym named)
 
-  drives : (p : Seat) (c : Cell) (u : Function) → Plays n m f r p c u → Has n.netlist l p.member c → IsUsable c → Drives n.netlist valuation t p.member.name c u
+  drives : (p : Seat) (c : Cell) (u : Function) → Plays n m f r p c u → Has n.netlist l p.member c → IsUsable c → Drives n.netlist whole t p.member.name c u
   drives p c (gate e) plays has usable =
       let ins : pin_bits n.netlist valuation p.member.name (cell_inputs c) ≡ map bits plays.leaves =
       pins_from n bits valuation p.member.name (cell_inputs c) (λ q g. bit_at (pin_of p.member.name q) (input_terminal n.netlist l p.member c q has usable g))
@@ -94,9 +98,10 @@ module _ (n : Sourced) (l : Library) (m : Machine) (f : Values) (r : Roots) (che
       pins_from n bits valuation p.member.name (cell_outputs c) (λ q g. bit_at (pin_of p.member.name q) (output_terminal n.netlist l p.member c q has usable g))
       ∙ ap (map (bit_from bits)) plays.shows in
       outs ∙ ap (λ (b : Bool). b ∷ []) (register_bit p plays.number plays.within plays.named plays.place)
-  drives p c other plays has usable = absurd plays
+  drives p c (other machine) plays has usable = absurd plays
+  drives p c opaque plays has usable = absurd plays
 
-  pub settles : NetSettles n.netlist l (inputs m) m.clock t i valuation
+  pub settles : NetSettles n.netlist l (inputs m) m.clock t i whole
   settles = record {
     each = length-listed n.netlist.classes (λ k. bit_from bits (n.source k));
     high = bit_at (port vdd) (vdd_port n l m f r checked h) ∙ ap (bit_from bits) h.on_vdd;
@@ -106,25 +111,26 @@ module _ (n : Sourced) (l : Library) (m : Machine) (f : Values) (r : Roots) (che
     instances = λ one c listed found.
         let s = sits n l m f r h one c listed found in
         let has : Has n.netlist l s.seat.member c = subst (λ (x : Member). Has n.netlist l x c) (sym s.member) (record { listed = listed; found = found }) in
-        subst (λ (x : Member). Drives n.netlist valuation t x.name c c.function) s.member (drives s.seat c c.function s.plays has s.usable);
+        subst (λ (x : Member). Drives n.netlist whole t x.name c c.function) s.member (drives s.seat c c.function s.plays has s.usable);
   }
 
-  module _ (w : List Bool) (settled : NetSettles n.netlist l (inputs m) m.clock t i w) where
+  module _ (w : Valuation) (settled : NetSettles n.netlist l (inputs m) m.clock t i w) where
     -- each instance shows its node's bit, where the nodes that it reads have theirs
     shows_bit : (p : Seat) (c : Cell) (u : Function) → Plays n m f r p c u → Has n.netlist l p.member c → IsUsable c → Drives n.netlist w t p.member.name c u
-        → ((k a : ℕ) → k < n.netlist.classes → n.source k ≡ node a → n.rank a < n.rank p.node → bit w k ≡ bits a)
-        → pin_bits n.netlist w p.member.name (cell_outputs c) ≡ bits p.node ∷ []
+        → ((k a : ℕ) → k < n.netlist.classes → n.source k ≡ node a → n.rank a < n.rank p.node → bit w.classes k ≡ bits a)
+        → pin_bits n.netlist w.classes p.member.name (cell_outputs c) ≡ bits p.node ∷ []
     shows_bit p c (gate e) plays has usable drives before =
-        let ins : pin_bits n.netlist w p.member.name (cell_inputs c) ≡ map bits plays.leaves =
-        pins_are n bits w p.member.name (cell_inputs c) plays.leaves plays.reads
+        let ins : pin_bits n.netlist w.classes p.member.name (cell_inputs c) ≡ map bits plays.leaves =
+        pins_are n bits w.classes p.member.name (cell_inputs c) plays.leaves plays.reads
         (λ q x g is_leaf same. before (n.netlist.class (pin_of p.member.name q)) x (h.numbered (pin_of p.member.name q) (input_terminal n.netlist l p.member c q has usable g)) same (plays.earlier x is_leaf)) in
         drives ∙ ap (λ (bs : List Bool). val e bs ∷ []) ins ∙ ap (λ (b : Bool). b ∷ []) (sym (plays.value i (held_bits m t) held))
     shows_bit p c (flip_flop d k) plays has usable drives before =
         drives ∙ ap (λ (b : Bool). b ∷ []) (sym (register_bit p plays.number plays.within plays.named plays.place))
-    shows_bit p c other plays has usable drives before = absurd plays
+    shows_bit p c (other machine) plays has usable drives before = absurd plays
+    shows_bit p c opaque plays has usable drives before = absurd plays
 
     seat_bit : (p : Seat) (g : In p h.seats) (k : ℕ) → k < n.netlist.classes → n.source k ≡ node p.node
-        → ((j a : ℕ) → j < n.netlist.classes → n.source j ≡ node a → n.rank a < n.rank p.node → bit w j ≡ bits a) → bit w k ≡ bits p.node
+        → ((j a : ℕ) → j < n.netlist.classes → n.source j ≡ node a → n.rank a < n.rank p.node → bit w.classes j ≡ bits a) → bit w.classes k ≡ bits p.node
     seat_bit p g k below is before =
         let seated = h.seated p g in
         let c = seated.cell in
@@ -134,23 +140,23 @@ module _ (n : Sourced) (l : Library) (m : Machine) (f : Values) (r : Roots) (che
         let place : n.netlist.class (pin_of p.member.name one.0) ≡ k =
         h.one_class (n.netlist.class (pin_of p.member.name one.0)) k (h.numbered (pin_of p.member.name one.0) (output_terminal n.netlist l p.member c one.0 has seated.usable listed)) below (one.2 ∙ sym is) in
         let drives = settled.instances p.member c has.listed has.found in
-        let all : pin_bits n.netlist w p.member.name (cell_outputs c) ≡ bits p.node ∷ [] = shows_bit p c c.function seated.plays has seated.usable drives before in
-        let alone : bit w (n.netlist.class (pin_of p.member.name one.0)) ∷ [] ≡ bits p.node ∷ [] =
-        subst (λ (pins : List Name). pin_bits n.netlist w p.member.name pins ≡ bits p.node ∷ []) one.1 all in
-        let first : bit w (n.netlist.class (pin_of p.member.name one.0)) ≡ bits p.node = cc alone in
-        ap (bit w) (sym place) ∙ first
+        let all : pin_bits n.netlist w.classes p.member.name (cell_outputs c) ≡ bits p.node ∷ [] = shows_bit p c c.function seated.plays has seated.usable drives before in
+        let alone : bit w.classes (n.netlist.class (pin_of p.member.name one.0)) ∷ [] ≡ bits p.node ∷ [] =
+        subst (λ (pins : List Name). pin_bits n.netlist w.classes p.member.name pins ≡ bits p.node ∷ []) one.1 all in
+        let first : bit w.classes (n.netlist.class (pin_of p.member.name one.0)) ≡ bits p.node = cc alone in
+        ap (bit w.classes) (sym place) ∙ first
 
-    in_bit : (a k : ℕ) → k < n.netlist.classes → n.source k ≡ node a → a < length (inputs m) → bit w k ≡ bits a
+    in_bit : (a k : ℕ) → k < n.netlist.classes → n.source k ≡ node a → a < length (inputs m) → bit w.classes k ≡ bits a
     in_bit a k below is low_one =
         let one = at_number (inputs m) a low_one in
         let listed = number_in (inputs m) a one.0 one.1 in
         let place : n.netlist.class (port one.0) ≡ k =
         h.one_class (n.netlist.class (port one.0)) k (h.numbered (port one.0) (in_port n l m f r checked h one.0 listed)) below (h.in_ports a one.0 one.1 ∙ sym is) in
-        let seen : bit i a ≡ bit_of n.netlist w (port one.0) =
-        ap (λ (bs : List Bool). bit bs a) (sym settled.inputs) ∙ bit-map (λ name. bit_of n.netlist w (port name)) (inputs m) a one.0 one.1 in
-        ap (bit w) (sym place) ∙ sym seen ∙ sym (means.held_inputs i (held_bits m t) held a low_one)
+        let seen : bit i a ≡ bit_of n.netlist w.classes (port one.0) =
+        ap (λ (bs : List Bool). bit bs a) (sym settled.inputs) ∙ bit-map (λ name. bit_of n.netlist w.classes (port name)) (inputs m) a one.0 one.1 in
+        ap (bit w.classes) (sym place) ∙ sym seen ∙ sym (means.held_inputs i (held_bits m t) held a low_one)
 
-    node_bit : (limit a k : ℕ) → k < n.netlist.classes → n.source k ≡ node a → n.rank a < limit → bit w k ≡ bits a
+    node_bit : (limit a k : ℕ) → k < n.netlist.classes → n.source k ≡ node a → n.rank a < limit → bit w.classes k ≡ bits a
     node_bit zero a k below is within = absurd (omega (arith, within))
     node_bit (suc limit) a k below is within =
         elim (subst (λ (s : Source). ComesFrom m h.seats s) is (h.origins k below)) [
@@ -161,17 +167,17 @@ module _ (n : Sourced) (l : Library) (m : Machine) (f : Values) (r : Roots) (che
               ∙ ap bits p.2
         ]
 
-    class_bit : (k : ℕ) → k < n.netlist.classes → (s : Source) → n.source k ≡ s → ComesFrom m h.seats s → bit w k ≡ bit_from bits s
+    class_bit : (k : ℕ) → k < n.netlist.classes → (s : Source) → n.source k ≡ s → ComesFrom m h.seats s → bit w.classes k ≡ bit_from bits s
     class_bit k below high is from =
         let place = h.one_class k (n.netlist.class (port vdd)) below (h.numbered (port vdd) (vdd_port n l m f r checked h)) (is ∙ sym h.on_vdd) in
-        ap (bit w) place ∙ settled.high
+        ap (bit w.classes) place ∙ settled.high
     class_bit k below low is from =
         let place = h.one_class k (n.netlist.class (port vss)) below (h.numbered (port vss) (vss_port n l m f r checked h)) (is ∙ sym h.on_vss) in
-        ap (bit w) place ∙ settled.low
+        ap (bit w.classes) place ∙ settled.low
     class_bit k below ticking is from =
         let place = h.one_class k (n.netlist.class (port from.0)) below (h.numbered (port from.0) (clock_terminal n l m f r checked h from.0 from.1)) (is ∙ sym (h.on_clock from.0 from.1)) in
-        ap (bit w) place ∙ settled.still from.0 from.1
+        ap (bit w.classes) place ∙ settled.still from.0 from.1
     class_bit k below (node a) is from = node_bit (suc (n.rank a)) a k below is (omega arith)
 
-    pub alone : w ≡ valuation
-    alone = is_listed n.netlist.classes (λ k. bit_from bits (n.source k)) w settled.each (λ k below. class_bit k below (n.source k) refl (h.origins k below))
+    pub alone : w.classes ≡ valuation
+    alone = is_listed n.netlist.classes (λ k. bit_from bits (n.source k)) w.classes settled.each (λ k below. class_bit k below (n.source k) refl (h.origins k below))

@@ -8,7 +8,7 @@ use Rattle.machine_meaning.specs.Machine.{Machine, inputs, outputs, names_of}
 use Rattle.machine_core.specs.Checked.{IsChecked}
 use Rattle.sym_shapes.specs.Shape.{connector_names}
 use Rattle.vlsi_base.specs.Member.{In, here, there}
-use Rattle.cell_model.specs.Cell.{Function, gate, flip_flop, other, Cell, cell_inputs, cell_outputs}
+use Rattle.cell_model.specs.Cell.{Function, gate, flip_flop, other, opaque, Cell, pin_ports, cell_inputs, cell_outputs}
 use Rattle.cell_model.specs.Library.{Library, cell_of, IsUsable, IsPlain}
 use Rattle.net_meaning.specs.Netlist.{Member, Netlist, port, pin_of, IsTerminal, a_port, a_pin}
 use Rattle.vlsi_base.specs.Names.{vdd, vss}
@@ -189,7 +189,8 @@ module _ (n : Sourced) (k : Netlist) (l : Library) (m : Machine) (f : Values) (r
     choose : (b : Bool) (y : ℕ) (s : Source) → s ≡ node y → (if b then node fresh else s) ≡ node (if b then fresh else y)
     choose true y s is = refl
     choose false y s is = is
-  plays p c other g has usable is plain old = absurd old
+  plays p c (other machine) g has usable is plain old = absurd old
+  plays p c opaque g has usable is plain old = absurd old
 
   supply : (i : Member) (c : Cell) (name : Name) → Has n.netlist l i c → IsUsable c → (name ≡ vdd) ⊎ (name ≡ vss) → IsTerminal n.netlist l (pin_of i.name name)
   supply i c name has usable is = a_pin i c has.listed has.found ((usable.connectors name).1 (elim is [ inl z ↦ inl z | inr w ↦ inr (inl w) ]))
@@ -293,7 +294,7 @@ module _ (n : Sourced) (k : Netlist) (l : Library) (m : Machine) (f : Values) (r
         | inl is ↦ let e = ap (λ (z : Name). k.class (pin_of x.buffer.name z)) is in let d = x.on_vdd in let low_one = vdd_low in omega (arith, e, d, low_one, all)
         | inr others ↦ elim others [
           | inl is ↦ let e = ap (λ (z : Name). k.class (pin_of x.buffer.name z)) is in let d = x.on_vss in let low_one = vss_low in omega (arith, e, d, low_one, all)
-          | inr pin ↦ elim (In-pins x.cell.pins name pin) [
+          | inr pin ↦ elim (In-pins (pin_ports x.cell) name pin) [
             | inl i ↦
                 let is = In-only b.input name (cell_inputs x.cell) b.one_input i in
                 let e = ap (λ (z : Name). k.class (pin_of x.buffer.name z)) is in

@@ -5,7 +5,7 @@ use Rattle.vlsi_base.specs.declared.name.Terminal.{Terminal}
 use Rattle.machine_meaning.specs.Machine.{Machine, Register, inputs, outputs}
 use Rattle.machine_core.specs.Checked.{IsChecked}
 use Rattle.vlsi_base.specs.Member.{In, here}
-use Rattle.cell_model.specs.Cell.{Function, gate, flip_flop, other, Cell, cell_outputs}
+use Rattle.cell_model.specs.Cell.{Function, gate, flip_flop, other, opaque, Cell, cell_outputs}
 use Rattle.cell_model.specs.Library.{Library, cell_of, IsUsable}
 use Rattle.net_meaning.specs.Netlist.{Member, port, pin_of, IsTerminal, a_port, a_pin}
 use Rattle.vlsi_base.specs.Names.{vdd, vss}
@@ -67,7 +67,8 @@ module _ (n : Sourced) (l : Library) (m : Machine) (f : Values) (r : Roots) (che
   clocked_by p c (gate e) plays d k is = absurd (cc is)
   clocked_by p c (flip_flop d' k') plays d k is =
       let same : k' ≡ k = cc is in subst (λ (x : Name). source_of n (pin_of p.member.name x) ≡ ticking) same plays.clocked
-  clocked_by p c other plays d k is = absurd plays
+  clocked_by p c (other machine) plays d k is = absurd plays
+  clocked_by p c opaque plays d k is = absurd plays
 
   from_clock_pin : (t : Terminal) → IsClockPin n.netlist l t → source_of n t ≡ ticking
   from_clock_pin t (a_clock_pin i c d k has is) =
@@ -174,12 +175,14 @@ module _ (n : Sourced) (l : Library) (m : Machine) (f : Values) (r : Roots) (che
   a_register : (p : Seat) (c : Cell) (u : Function) → Plays n m f r p c u → IsFlipFlop u → (k : ℕ) × (k < length m.registers) × (p.member.name ≡ register_instance k)
   a_register p c (gate e) plays is = absurd is
   a_register p c (flip_flop d k) plays is = (plays.number, plays.within, plays.named)
-  a_register p c other plays is = absurd is
+  a_register p c (other machine) plays is = absurd is
+  a_register p c opaque plays is = absurd is
 
   a_gate : (p : Seat) (c : Cell) (u : Function) → Plays n m f r p c u → (IsFlipFlop u → ⊥) → IsGateName p.member c
   a_gate p c (gate e) plays no_register = plays.named
   a_gate p c (flip_flop d k) plays no_register = absurd (no_register tt)
-  a_gate p c other plays no_register = absurd plays
+  a_gate p c (other machine) plays no_register = absurd plays
+  a_gate p c opaque plays no_register = absurd plays
 
   pub at_place : (p : Seat) (c : Cell) (u : Function) → Plays n m f r p c u → (k : ℕ) → k < length m.registers → p.node ≡ length (inputs m) + k
       → IsFlipFlop u × (p.member.name ≡ register_instance k)
@@ -187,7 +190,8 @@ module _ (n : Sourced) (l : Library) (m : Machine) (f : Values) (r : Roots) (che
   at_place p c (flip_flop d q) plays k within is =
       let place = plays.place in
       let same : plays.number ≡ k = omega (arith, place, is) in (tt, plays.named ∙ ap register_instance same)
-  at_place p c other plays k within is = absurd plays
+  at_place p c (other machine) plays k within is = absurd plays
+  at_place p c opaque plays k within is = absurd plays
 
   no_less : (all : List Register) → all ≡ [] → (k : ℕ) → k < length all → ⊥
   no_less [] is k h = omega arith

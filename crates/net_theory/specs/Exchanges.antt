@@ -3,7 +3,7 @@ use Rattle.std.specs.Prelude.{◌≡◌, ℕ, ◌+◌, ◌<◌, Bool, List, map,
 use Rattle.bool_expr.specs.Expression.{val}
 use Rattle.machine_meaning.specs.Machine.{Machine, inputs, outputs}
 use Rattle.vlsi_base.specs.Member.{In}
-use Rattle.cell_model.specs.Cell.{Function, gate, flip_flop, Cell}
+use Rattle.cell_model.specs.Cell.{Function, gate, flip_flop, Cell, pin_ports}
 use Rattle.cell_model.specs.Library.{Library, cell_of, IsUsable}
 use Rattle.net_meaning.specs.Netlist.{Member, Netlist}
 use Rattle.net_theory.specs.Sources.{Values, Roots, Sourced, Shows}
@@ -15,9 +15,9 @@ IsSameFunction (gate e) (gate x) = (w : List Bool) → val x w ≡ val e w
 IsSameFunction (flip_flop d k) (flip_flop b j) = (b ≡ d) × (j ≡ k)
 IsSameFunction _ _ = ⊥
 
--- the second cell is a drive of the first
+-- the second cell is a drive of the first: it has the same ports, whatever their capacitances are
 pub record IsDrive (c d : Cell) : Type 0 where
-  pub pins : d.pins ≡ c.pins
+  pub pins : pin_ports d ≡ pin_ports c
   pub function : IsSameFunction c.function d.function
 
 -- the second netlist has, for each instance, one of the same name whose cell is a drive of its cell

@@ -6,7 +6,7 @@ use Rattle.vlsi_base.specs.declared.name.Terminal.{Terminal}
 use Rattle.bool_expr.specs.Expression.{Expression, val}
 use Rattle.machine_meaning.specs.Machine.{Machine, inputs, outputs, names_of}
 use Rattle.vlsi_base.specs.Member.{In}
-use Rattle.cell_model.specs.Cell.{Function, gate, flip_flop, other, Cell, cell_inputs, cell_outputs}
+use Rattle.cell_model.specs.Cell.{Function, gate, flip_flop, other, opaque, Cell, cell_inputs, cell_outputs}
 use Rattle.cell_model.specs.Library.{Library, cell_of, IsUsable}
 use Rattle.net_meaning.specs.Netlist.{Member, Netlist, port, pin_of, IsTerminal}
 use Rattle.vlsi_base.specs.Names.{vdd, vss}
@@ -82,7 +82,8 @@ pub record IsRegisterOf (n : Sourced) (m : Machine) (r : Roots) (p : Seat) (c : 
 abbrev pub Plays : Sourced → Machine → Values → Roots → Seat → Cell → Function → Type 0
 Plays n m f r p c (gate e) = IsGateOf n m f p c e
 Plays n m f r p c (flip_flop data_pin clock_pin) = IsRegisterOf n m r p c data_pin clock_pin
-Plays n m f r p c other = ⊥
+Plays n m f r p c (other machine) = ⊥
+Plays n m f r p c opaque = ⊥
 
 -- an instance has a usable cell, whose supply pins are in the classes of the supplies
 pub record IsSeated (n : Sourced) (l : Library) (m : Machine) (f : Values) (r : Roots) (p : Seat) : Type 0 where
