@@ -50,7 +50,7 @@ usable true cell a z before after = record {
   metal = λ s h. low_metal s h;
   blockage = λ one h. low_block one h;
 } where
-  each_pin : (q : Port) → In q pin_ports (cell_by true cell a z) → q.name.bit ≡ None
+  each_pin : (q : Port) → In q (pin_ports (cell_by true cell a z)) → q.name.bit ≡ None
   each_pin q here = refl
   each_pin q (there here) = refl
   each_pin q (there (there h)) = elim h [ ]
@@ -79,7 +79,7 @@ usable false cell a z before after = record {
   metal = λ s h. low_metal s h;
   blockage = λ one h. low_block one h;
 } where
-  each_pin : (q : Port) → In q pin_ports (cell_by false cell a z) → q.name.bit ≡ None
+  each_pin : (q : Port) → In q (pin_ports (cell_by false cell a z)) → q.name.bit ≡ None
   each_pin q here = refl
   each_pin q (there here) = refl
   each_pin q (there (there h)) = elim h [ ]
