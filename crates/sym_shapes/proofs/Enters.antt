@@ -1,52 +1,79 @@
--- Entries of all shapes in one band, sorted: each two touching shapes share it.
-use Rattle.std.proofs.Common.{◌≡◌, ℕ, ◌<◌, pos, List, length, get_or, None, sym, ◌∙◌, ap}
+-- Entries of all shapes in their bands, sorted: each two touching shapes share one.
+use Rattle.std.proofs.Common.{◌≡◌, ℕ, ◌≤◌, ◌≤ℤ◌, inl, inr, ℤ, true, false, Bool, min, List, length, get_or, sym, ◌∙◌, ap, subst, arith}
+use Rattle.std.specs.List.{Contains}
 use Rattle.std.specs.List.Sorted.{IsPermutation}
+use Rattle.std.proofs.lemmas.Bool.{cases_lt}
 use Rattle.std.proofs.lemmas.Grind.{get_or_moved}
+use Rattle.std.proofs.lemmas.Int.{ints}
 use Rattle.std.proofs.lemmas.List.Sorted.{Contains-permutation}
+use Rattle.std.proofs.Math.Pow.{shr_mono}
+use Rattle.sym_geom.specs.Rect.{Meet}
+use Rattle.sym_geom.specs.declared.rect.Rect.{Rect}
 use Rattle.sym_shapes.specs.Shape.{Shape}
+use Rattle.sym_shapes.specs.declared.bands.Cut.{Cut}
 use Rattle.sym_shapes.specs.declared.sweep.Entry.{Entry}
-use Rattle.sym_shapes.specs.Sweep.{EntersEach, PlacesWithin, Ordered, CoversRuns, CoversTouching}
-use Rattle.sym_shapes.proofs.Joins.{any_default}
+use Rattle.sym_shapes.specs.Bands.{laid, IsLevel, band_of, entry_of, IsEntered, EntersAll, uncut, cut_for}
+use Rattle.sym_shapes.specs.Sweep.{PlacesWithin, Ordered, CoversRuns, CoversTouching}
 use Rattle.sym_shapes.proofs.Sweeps.{none, any_entry, Share, covers_touching}
 
-abbrev pub some_shape : Shape
-some_shape = record { metal = 0; rect = record { x1 = pos 0; y1 = pos 0; x2 = pos 0; y2 = pos 0 }; owner = None; line = 0; name = None }
-
-abbrev pub entry_at : List Shape → ℕ → Shape → Entry
-entry_at shapes k d = record { metal = (get_or shapes k d).metal; band = pos 0; left = (get_or shapes k d).rect.x1; place = k }
-
-pub places_moved : (shapes : List Shape) (xs ys : List Entry) → length xs ≡ length shapes → EntersEach shapes xs → IsPermutation xs ys → PlacesWithin shapes ys
-places_moved shapes xs ys many each w p e hp =
+-- entries that are moved are of shapes as before
+pub places_moved : (shapes : List Shape) (xs ys : List Entry) → PlacesWithin shapes xs → IsPermutation xs ys → PlacesWithin shapes ys
+places_moved shapes xs ys places w p e hp =
     let r = get_or_moved xs w.moves p e w.below (rw (← w.is) hp) in
-    let is : get_or ys p e ≡ entry_at shapes r.1.0 some_shape = rw w.is (r.1.2 ∙ each r.1.0 e some_shape r.1.1) in
-    rw is (rw (← many) r.1.1)
+    let is : get_or ys p e ≡ get_or xs r.1.0 e = rw w.is r.1.2 in
+    rw is (places r.1.0 e r.1.1)
 
-pub record Found (shapes : List Shape) (ys : List Entry) (i : ℕ) (d : Shape) : Type 0 where
-  pub p : ℕ
-  pub within : p < length ys
-  pub is : get_or ys p none ≡ entry_at shapes i d
+-- rectangles that meet still meet once both are laid
+laid_meet : (upright : Bool) (shift : ℕ) (a b : Rect) → Meet a b → Meet (laid (record { upright = upright; shift = shift }) a) (laid (record { upright = upright; shift = shift }) b)
+laid_meet true shift a b m = record { left = m.low; right = m.high; low = m.left; high = m.right }
+laid_meet false shift a b m = m
 
-pub found : (shapes : List Shape) (xs ys : List Entry) (i : ℕ) (d : Shape) → length xs ≡ length shapes → EntersEach shapes xs → IsPermutation xs ys → i < length shapes → Found shapes ys i d
-found shapes xs ys i d many each w hi =
-    let hx : i < length xs = rw many hi in
-    let k = Contains-permutation xs ys (entry_at shapes i d) w (i, hx, each i (entry_at shapes i d) d hx) in
-    record { p = k.0; within = k.1; is = any_entry ys k.0 none (entry_at shapes i d) k.1 ∙ k.2 }
+-- a higher coordinate has no lower level
+level_rises : (a b : ℤ) (x y : ℕ) → IsLevel a x → IsLevel b y → a ≤ℤ b → x ≤ y
+level_rises a b x y is_x is_y le = omega (arith, ints, is_x, is_y, le)
 
-pub covers_touching_all : (shapes : List Shape) (xs ys : List Entry) (ps : List ℕ) → length xs ≡ length shapes → EntersEach shapes xs → IsPermutation xs ys
+-- the entry of one shape stands in the band of the other's low edge, or the other way round
+share_from : (xs : List Entry) (cut : Cut) (a b : Shape) (i j : ℕ) (e : IsEntered cut a i xs) (f : IsEntered cut b j xs) → Meet (laid cut a.rect) (laid cut b.rect)
+    → (k : ℕ) × Contains xs (entry_of cut a i k) × Contains xs (entry_of cut b j k)
+share_from xs cut a b i j e f m =
+    let a_in : band_of cut f.low ≤ band_of cut e.high =
+    shr_mono (min cut.shift 63) (level_rises (laid cut b.rect).y1 (laid cut a.rect).y2 f.low e.high f.low_is e.high_is m.high) in
+    let b_in : band_of cut e.low ≤ band_of cut f.high =
+    shr_mono (min cut.shift 63) (level_rises (laid cut a.rect).y1 (laid cut b.rect).y2 e.low f.high e.low_is f.high_is m.low) in
+    elim (cases_lt (band_of cut e.low) (band_of cut f.low)) [
+      | inl lt ↦ (band_of cut f.low, e.each (band_of cut f.low) (omega arith) a_in, f.first)
+      | inr ge ↦ (band_of cut e.low, e.first, f.each (band_of cut e.low) ge b_in)
+    ]
+
+-- both stand among the sorted entries
+shared : (xs ys : List Entry) (cut : Cut) (a b : Shape) (i j k : ℕ) → IsPermutation xs ys → a.metal ≡ b.metal → Meet (laid cut a.rect) (laid cut b.rect)
+    → Contains xs (entry_of cut a i k) → Contains xs (entry_of cut b j k) → Share ys i j
+shared xs ys cut a b i j k w same m first second =
+    let p = Contains-permutation xs ys (entry_of cut a i k) w first in
+    let q = Contains-permutation xs ys (entry_of cut b j k) w second in
+    let p_is : get_or ys p.0 none ≡ entry_of cut a i k = any_entry ys p.0 none (entry_of cut a i k) p.1 ∙ p.2 in
+    let q_is : get_or ys q.0 none ≡ entry_of cut b j k = any_entry ys q.0 none (entry_of cut b j k) q.1 ∙ q.2 in
+    record {
+      p = p.0;
+      q = q.0;
+      p_within = p.1;
+      q_within = q.1;
+      p_is = ap (λ (x : Entry). x.place) p_is;
+      q_is = ap (λ (x : Entry). x.place) q_is;
+      metal = ap (λ (x : Entry). x.metal) p_is ∙ same ∙ sym (ap (λ (x : Entry). x.metal) q_is);
+      band = ap (λ (x : Entry). x.band) p_is ∙ sym (ap (λ (x : Entry). x.band) q_is);
+      left_q = rw (p_is, q_is) m.right;
+      left_p = rw (p_is, q_is) m.left;
+    }
+
+pub covers_touching_all : (shapes : List Shape) (cuts : List Cut) (xs ys : List Entry) (ps : List ℕ) → EntersAll shapes cuts xs → IsPermutation xs ys
     → Ordered ys → CoversRuns shapes ys ps (length ys) → CoversTouching shapes ps
-covers_touching_all shapes xs ys ps many each w ordered runs i j d hi hj t =
-    let a = found shapes xs ys i d many each w hi in
-    let b = found shapes xs ys j d many each w hj in
-    let share : Share shapes ys i j = record {
-      p = a.p;
-      q = b.p;
-      p_within = a.within;
-      q_within = b.within;
-      p_is = ap (λ (x : Entry). x.place) a.is;
-      q_is = ap (λ (x : Entry). x.place) b.is;
-      metal = ap (λ (x : Entry). x.metal) a.is ∙ (t.0 ∙ sym (ap (λ (x : Entry). x.metal) b.is));
-      band = ap (λ (x : Entry). x.band) a.is ∙ sym (ap (λ (x : Entry). x.band) b.is);
-      left_p = λ e. ap (λ (x : Entry). x.left) a.is ∙ ap (λ (s : Shape). s.rect.x1) (any_default shapes i d e hi);
-      left_q = λ e. ap (λ (x : Entry). x.left) b.is ∙ ap (λ (s : Shape). s.rect.x1) (any_default shapes j d e hj);
-    } in
-    covers_touching shapes ys ps ordered runs i j d t share
+covers_touching_all shapes cuts xs ys ps each w ordered runs i j d hi hj t =
+    let a = get_or shapes i d in
+    let b = get_or shapes j d in
+    let cut = cut_for cuts a in
+    let same : cut_for cuts b ≡ cut = ap (λ (k : ℕ). get_or cuts k uncut) (sym t.0) in
+    let f : IsEntered cut b j xs = subst (λ (x : Cut). IsEntered x b j xs) same (each j d hj) in
+    let m : Meet (laid cut a.rect) (laid cut b.rect) = laid_meet cut.upright cut.shift a.rect b.rect t.1 in
+    let k = share_from xs cut a b i j (each i d hi) f m in
+    covers_touching shapes ys ps ordered runs i j d t (shared xs ys cut a b i j k.0 w t.0 m k.1 k.2)

@@ -6,3 +6,4 @@ pub mod Joins
 pub mod Enters
 pub mod Orders
 pub mod Sweeps
+pub mod Grown

@@ -2,3 +2,4 @@ pub mod Shape
 pub mod Joined
 pub mod Joints
 pub mod Sweep
+pub mod Bands

@@ -1,9 +1,8 @@
-ghost use Rattle.std.specs.Prelude.{◌≡◌, ◌↔◌, IsTrue, pos};
+ghost use Rattle.std.specs.Prelude.{◌≡◌, ◌↔◌, IsTrue};
 ghost use Rattle.sym_shapes.specs.Joined.{Linked};
 ghost use Rattle.sym_geom.specs.Rect.{Meet};
 ghost use Rattle.vlsi_base.specs.declared.name.Name.{Name as Named};
 
-use crate::Entry;
 use std::marker::Model;
 use sym_geom::{Rect, touches};
 use vlsi_base::{Name, Text};
@@ -48,16 +47,11 @@ impl Shape {
         self.rect
     }
 
-    /// Its entry at a place, in a band that holds all. Takes no memory.
-    pub fn entry(&self, place: u32) -> Entry
-        ensures { result ≡ record { metal = self.now.metal; band = pos 0; left = self.now.rect.x1; place = place } }
+    /// Its metal. Takes no memory.
+    pub fn metal(&self) -> u8
+        ensures { result ≡ self.now.metal }
     {
-        Entry {
-            metal: self.metal,
-            band: 0,
-            left: self.rect.x1,
-            place,
-        }
+        self.metal
     }
 }
 

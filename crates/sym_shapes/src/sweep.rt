@@ -1,38 +1,42 @@
-// Shapes of one metal that meet, found along bands of rows.
-ghost use Rattle.std.specs.Prelude.{◌≡◌, ℕ, ◌<◌, ◌≤◌, ◌↔◌, length, slice_index_or, IsTrue, OnOk, IfOk, ◌^◌};
+// Shapes of one metal that meet, found along bands.
+ghost use Rattle.std.specs.Prelude.{◌≡◌, ℕ, ◌<◌, ◌≤◌, ◌↔◌, length, slice_index_or, IsTrue, OnOk, ◌^◌};
 ghost use Rattle.std.specs.List.Sorted.{IsPermutation};
 ghost use Rattle.sym_shapes.specs.Joints.{Grows};
-ghost use Rattle.sym_shapes.specs.Sweep.{InBand, PlacesWithin, CoversRuns, CoversFrom, Ordered, EntersEach, CoversTouching};
+ghost use Rattle.sym_shapes.specs.Sweep.{InBand, PlacesWithin, CoversRuns, CoversFrom, Ordered, CoversTouching};
 
+use crate::bands::{cuts, entries};
 use crate::{Shape, touching};
 use std::alloc::{AllocError, Global};
 use sym_groups::Groups;
 
-/// A shape in one band of rows that it touches: entries stand in the order of their metals, bands and left edges.
+/// A shape in one band that it touches, from its left to its right end there: entries stand in the order of their metals, bands
+/// and left ends.
 #[derive(Clone, Copy, PartialEq, Eq, PartialOrd, Ord)]
 pub struct Entry {
     pub metal: u8,
-    pub band: i64,
+    pub band: u64,
     pub left: i64,
+    pub right: i64,
     pub place: u32,
 }
 
-/// Whether an entry is in the band of the first, and no further right than `right`.
-fn in_band(first: &Entry, right: &i64, entry: &Entry) -> bool
-    ensures { IsTrue result ↔ InBand first.now right.now entry.now }
+/// Whether an entry is in the band of the first, and not right of it.
+fn in_band(first: &Entry, entry: &Entry) -> bool
+    ensures { IsTrue result ↔ InBand first.now entry.now }
 {
-    entry.metal == first.metal && entry.band == first.band && entry.left <= *right
+    entry.metal == first.metal && entry.band == first.band && entry.left <= first.right
 }
 
-/// Where the run of an entry ends: the entries behind it in its band that begin no further right than `right`.
-fn run_end(entries: &[Entry], p: usize, right: &i64) -> usize
+/// Where the run of an entry ends: the entries behind it in its band that aren't right of it.
+fn run_end(entries: &[Entry], p: usize) -> usize
     requires { p < length entries.now }
     ensures after { p < result }
     ensures within { result ≤ length entries.now }
-    ensures last { (d : Entry) → result < length entries.now → ¬ (InBand (slice_index_or entries.now p d) right.now (slice_index_or entries.now result d)) }
+    ensures last { (d : Entry) → result < length entries.now
+        → ¬ (InBand (slice_index_or entries.now p d) (slice_index_or entries.now result d)) }
 {
     let mut end = p + 1;
-    while end < entries.len() && in_band(&entries[p], right, &entries[end]) {
+    while end < entries.len() && in_band(&entries[p], &entries[end]) {
         end += 1;
     }
     end
@@ -47,8 +51,7 @@ fn join_run(groups: &mut Groups, shapes: &[Shape], entries: &[Entry], p: usize)
     ensures covers { CoversFrom shapes.now entries.now groups.new p }
 {
     let first = entries[p].place;
-    let rect = shapes[first as usize].rect();
-    let end = run_end(entries, p, &rect.x2);
+    let end = run_end(entries, p);
     for q in p + 1..end {
         let second = entries[q].place;
         if touching(&shapes[first as usize], &shapes[second as usize]) {
@@ -58,7 +61,7 @@ fn join_run(groups: &mut Groups, shapes: &[Shape], entries: &[Entry], p: usize)
 }
 
 /// Puts shapes that meet into one group, as far as one entry is in the run of the other.
-pub fn join_runs(groups: &mut Groups, shapes: &[Shape], entries: &[Entry])
+fn join_runs(groups: &mut Groups, shapes: &[Shape], entries: &[Entry])
     requires count { length groups.old ≡ length shapes.now }
     requires places { PlacesWithin shapes.now entries.now }
     ensures grows { Grows shapes.now groups.old groups.new }
@@ -78,28 +81,15 @@ fn in_order(entries: &mut Vec<Entry>) -> Result<(), AllocError>
     Ok(())
 }
 
-/// An entry for each shape, all in one band.
-fn entries(alloc: Global, shapes: &[Shape]) -> Result<Vec<Entry>, AllocError>
-    requires { length shapes.now < 2 ^ 32 }
-    ensures count { IfOk result (λ entries. length entries.items ≡ length shapes.now) }
-    ensures each { IfOk result (λ entries. EntersEach shapes.now entries.items) }
-{
-    let mut entries = Vec::with_capacity(alloc, shapes.len())?;
-    for k in 0..shapes.len() {
-        let entry = shapes[k].entry(k as u32);
-        entries.push(entry)?;
-    }
-    Ok(entries)
-}
-
-/// Puts each two shapes that meet on one metal into one group. Takes memory for an entry a shape.
+/// Puts each two shapes that meet on one metal into one group. Takes memory for a few entries a shape.
 pub fn join_touching(alloc: Global, groups: &mut Groups, shapes: &[Shape]) -> Result<(), AllocError>
     requires room { length shapes.now < 2 ^ 32 }
     requires count { length groups.old ≡ length shapes.now }
     ensures grows { OnOk result (Grows shapes.now groups.old groups.new) }
     ensures covers { OnOk result (CoversTouching shapes.now groups.new) }
 {
-    let mut entries = entries(alloc, shapes)?;
+    let cuts = cuts(shapes);
+    let mut entries = entries(alloc, shapes, &cuts)?;
     in_order(&mut entries)?;
     join_runs(groups, shapes, &entries);
     Ok(())

@@ -1,13 +1,11 @@
-use Rattle.std.proofs.Common.{◌≡◌, ◌∙◌, ◌<◌, ℕ, length, get_or, sym, ap, IsTrue, arith, rules}
+use Rattle.std.proofs.Common.{◌≡◌, ◌∙◌, ◌<◌, ℕ, length, get_or, sym, IsTrue, arith, rules}
 use Rattle.sym_shapes.specs.Shape.{Shape}
 use Rattle.sym_shapes.specs.Joined.{Linked, touching}
-use Rattle.sym_geom.specs.declared.rect.Rect.{Rect}
 use Rattle.sym_groups.specs.Ties.{JoinsTies, Tied}
-use Rattle.sym_shapes.specs.declared.sweep.Entry.{Entry}
 use Rattle.sym_shapes.specs.Joints.{Grows}
 use Rattle.sym_shapes.specs.Sweep.{Touch, CoversRun}
-use Rattle.sym_shapes.proofs.Joins.{grows_by, grows_none, grows_then, read_at}
-use Rattle.sym_shapes.proofs.Sweeps.{none, any_entry, touch_at, run_next, run_whole}
+use Rattle.sym_shapes.proofs.Joins.{grows_by, grows_none, grows_then}
+use Rattle.sym_shapes.proofs.Sweeps.{none, touch_at, run_next, run_whole}
 use Rattle.sym_shapes.proofs.sweep.join_run.Goals as goal
 use Rattle.sym_shapes.proofs.sweep.join_run.Goals.{then-touching, else-touching}
 
@@ -22,12 +20,12 @@ loop-q-preserved c =
     let j : ℕ = (get_or entries q none).place in
     let hi : i < length shapes = c.requires.places p none c.requires.p_within in
     let hj : j < length shapes = c.requires.places q none hq in
-    let meets = touch_at shapes i j c.index-shapes-first-in-loop-q.result c.index-shapes-second.result hi hj c.index-shapes-first-in-loop-q.is c.index-shapes-second.is in
+    let meets = touch_at shapes i j c.index-shapes-first.result c.index-shapes-second.result hi hj c.index-shapes-first.is c.index-shapes-second.is in
     let inv = c.loop-q.invariant in
     elim c.if-touching.branch [
       | then-touching w ↦
           let joins : JoinsTies c.loop-q.groups c.if-touching.groups i j = rw w.groups-is w.join.ensures in
-          let told : Touch c.index-shapes-first-in-loop-q.result c.index-shapes-second.result = c.touching.ensures.0 (search (rules, w.if-touching.true)) in
+          let told : Touch c.index-shapes-first.result c.index-shapes-second.result = c.touching.ensures.0 (search (rules, w.if-touching.true)) in
           let link : (d : Shape) → Linked (get_or shapes i d) (get_or shapes j d) = λ d. let t = (meets d).0 told in touching t.0 t.1 in
           let grows : Grows shapes c.loop-q.groups c.if-touching.groups = grows_by shapes c.loop-q.groups c.if-touching.groups i j hi hj link joins in
           record {
@@ -54,8 +52,4 @@ returns-clause-covers c =
     let hi : i < length shapes = c.requires.places p none c.requires.p_within in
     let e : c.loop-q.q ≡ c.run_end-end.result = omega (arith, c.loop-q-test.false, c.loop-q.auto.q-end, c.run_end-end.ensures.after) in
     let run : CoversRun shapes entries c.loop-q.groups p c.run_end-end.result = rw e at c.loop-q.invariant.run in
-    run_whole shapes entries c.loop-q.groups p c.run_end-end.result c.rect-rect.result.x2 run c.run_end-end.ensures.after
-    (λ e d. ap (λ (r : Rect). r.x2) c.rect-rect.ensures
-    ∙ (ap (λ (s : Shape). s.rect.x2) (read_at shapes i d c.index-shapes-first.result hi c.index-shapes-first.is)
-    ∙ ap (λ (x : Entry). (get_or shapes x.place d).rect.x2) (any_entry entries p none e c.requires.p_within)))
-    (λ e. c.run_end-end.ensures.last e)
+    run_whole shapes entries c.loop-q.groups p c.run_end-end.result run c.run_end-end.ensures.after (λ e. c.run_end-end.ensures.last e)
