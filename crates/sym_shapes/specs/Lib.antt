@@ -1,2 +1,5 @@
 pub mod Shape
 pub mod Joined
+pub mod Joints
+pub mod Sweep
+pub mod Bands

@@ -1,2 +1,11 @@
-//! What a layout shows, in `specs/`: the shapes that its lines draw, and which shapes are joined.
+//! What a layout shows: its shapes, and which of them are joined.
 #![tactic(auto)]
+
+mod bands;
+mod numbers;
+mod shape;
+mod sweep;
+
+pub use numbers::joints;
+pub use shape::{Shape, linked, touching};
+pub use sweep::{Entry, join_touching};

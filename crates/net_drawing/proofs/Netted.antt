@@ -1,0 +1,261 @@
+-- The drawing of a netlist that may be drawn gives it, and breaks no rule.
+use Rattle.std.proofs.Common.{◌≡◌, ◌≢◌, ℕ, ◌<◌, ◌⊎◌, inl, inr, ⊎_elim, Bool, true, false, List, [], ◌∷◌, map, length, Option, Some, None, refl, sym, ap, ◌∙◌, subst, arith}
+use Rattle.std.specs.Prelude.{ℤ, pos, ◌+ℤ◌, slice_get, slice_index_or, AllPairs, IsTrue, ◌↔◌}
+use Rattle.std.proofs.lemmas.Bool.{cases_lt}
+use Rattle.std.proofs.lemmas.Option.{slice_get_within, get_or_from_slice_get}
+use Rattle.vlsi_base.specs.declared.name.Name as name
+use Rattle.vlsi_base.specs.declared.name.Terminal as terminal
+use Rattle.machine_meaning.specs.Named.{is_same_name}
+use Rattle.machine_meaning.specs.Machine.{names_of}
+use Rattle.sym_geom.specs.declared.rect.Transform.TheVariants.{NoSym}
+use Rattle.sym_geom.specs.declared.item.Instance.{Instance}
+use Rattle.vlsi_base.specs.Member.{In, here, there}
+use Rattle.vlsi_base.specs.Names.{comes_before}
+use Rattle.sym_shapes.specs.Shape.{connector_names}
+use Rattle.cell_model.specs.Cell.{pin_ports}
+use Rattle.cell_model.specs.Cell as cells
+use Rattle.cell_model.specs.Library.{Library, cell_of}
+use Rattle.net_meaning.specs.Netlist.{Member, Netlist, port, pin_of, IsTerminal, a_port, a_pin}
+use Rattle.vlsi_base.specs.Names.{vdd, vss}
+use Rattle.ocp_rows.specs.Placement.{model_width, standing, IsPlaced}
+use Rattle.net_geom.specs.Figure.{Vss, Vdd, Name, Power, Bit}
+use Rattle.net_geom.specs.Block as block
+use Rattle.net_geom.specs.Block.{Cell, Net, PowerNet, Signal, AtPort, AtPin, Exists, net_of, terminal_at}
+use Rattle.net_drawing.specs.Picture.{terminal_of, IsPictureOf}
+use Rattle.net_drawing.specs.Drawing.{Numbering, track_items, IsDrawable}
+use Rattle.net_drawing.proofs.Coding.{In_get, get_In, get_there, name_or, code, decode, same_name_true, same_name_itself}
+use Rattle.net_drawing.proofs.Cells.{code_at}
+use Rattle.net_drawing.proofs.Numbers.{low, high, own, call, block_of, model_of, member_there, cell_is, pins_are, own_is, sound}
+use Rattle.net_drawing.proofs.Tracked.{pin_is, net_is, pin_there, pin_listed, pin_signal, port_there, has_tracks}
+use Rattle.net_drawing.specs.Drawing.{wiring}
+use Rattle.net_drawing.specs.Law.{one_row, track_box, DrawingsAreRight}
+use Rattle.net_drawing.proofs.Pieces.{wires_all}
+use Rattle.net_drawing.proofs.Bridge.{pictures_extract}
+use Rattle.std.specs.List.Sorted.{IsPermutation}
+use Rattle.std.proofs.lemmas.List.{append-nil}
+use Rattle.std.proofs.lemmas.List.Sorted.{IsPermutation-refl}
+use Rattle.net_drawing.proofs.Wired.{wiring_drawn, its_instances, its_names, its_shapes}
+
+apart_places : {A : Type 0} (R : A → A → Type 0) (xs : List A) → AllPairs R xs → (i k : ℕ) (a b : A) → slice_get xs i ≡ Some a → slice_get xs k ≡ Some b → (R a b → ⊥) → (R b a → ⊥) → i ≡ k
+apart_places {A = A} R xs all i k a b e f no_ab no_ba =
+    ⊎_elim
+    (λ lt. absurd (no_ab (both i k a b e f lt)))
+    (λ ge. ⊎_elim (λ gt. absurd (no_ba (both k i b a f e gt))) (λ le. omega arith) (cases_lt k i))
+    (cases_lt i k)
+  where
+    both : (i k : ℕ) (a b : A) → slice_get xs i ≡ Some a → slice_get xs k ≡ Some b → i < k → R a b
+    both i k a b e f lt =
+        let h = all i k a lt (slice_get_within xs k b f) in
+        let p : slice_index_or xs i a ≡ a = get_or_from_slice_get xs i a a e in
+        let q : slice_index_or xs k a ≡ b = get_or_from_slice_get xs k b a f in
+        subst (λ v. R a v) q (subst (λ v. R v (slice_index_or xs k a)) p h)
+
+vdd_vss : vdd ≢ vss
+vdd_vss e = let a : is_same_name vdd vdd ≡ is_same_name vdd vss = ap (is_same_name vdd) e in let b : true ≡ false = a in cc b
+
+decide : (m : name.Name) → (m ≡ vdd) ⊎ ((m ≡ vss) ⊎ ((m ≢ vdd) × (m ≢ vss)))
+decide m = by (is_same_name m vdd) (is_same_name m vss) refl refl
+  where
+    by : (r q : Bool) → is_same_name m vdd ≡ r → is_same_name m vss ≡ q → (m ≡ vdd) ⊎ ((m ≡ vss) ⊎ ((m ≢ vdd) × (m ≢ vss)))
+    by true q e f = inl (same_name_true m vdd e)
+    by false true e f = inr (inl (same_name_true m vss f))
+    by false false e f = inr (inr (
+      λ g. let a : is_same_name m vdd ≡ true = subst (λ v. is_same_name v vdd ≡ true) (sym g) (same_name_itself vdd) in let d : true ≡ false = sym a ∙ e in cc d,
+      λ g. let a : is_same_name m vss ≡ true = subst (λ v. is_same_name v vss ≡ true) (sym g) (same_name_itself vss) in let d : true ≡ false = sym a ∙ f in cc d,
+    ))
+
+-- the number of a name comes back
+abbrev IsLow : List name.Name → Name → Type 0
+IsLow xs (Power u) = Unit {0}
+IsLow xs (Bit p) = p < length xs
+
+decode_code : (xs : List name.Name) → AllPairs (λ a b. IsTrue (comes_before a b)) xs → ((m : name.Name) → In m xs → (m ≢ vdd) × (m ≢ vss)) → (m : Name) → IsLow xs m → code xs (decode xs m) ≡ m
+decode_code xs order off (Power Vdd) h = refl
+decode_code xs order off (Power Vss) h = refl
+decode_code xs order off (Bit p) h =
+    let r = get_there xs p h in let s = off r.0 (In_get xs p r.0 r.1) in
+    ap (λ o. code xs (name_or o)) r.1 ∙ code_at xs order p r.0 r.1 s.0 s.1
+
+head_or : (m x : name.Name) (xs : List name.Name) → In m (x ∷ xs) → (m ≡ x) ⊎ In m xs
+head_or m x xs here = inl refl
+head_or m x xs (there h) = inr h
+
+-- what a terminal of a net is
+data About (n : Netlist) (net : Numbering) (t : terminal.Terminal) : Net → Type 0 where
+  at_vdd : t.pin ≡ vdd → About n net t (PowerNet Vdd)
+  at_vss : t.pin ≡ vss → About n net t (PowerNet Vss)
+  at_net : {k : ℕ} → t.pin ≢ vdd → t.pin ≢ vss → net (n.class t) ≡ k → About n net t (Signal k)
+
+abbrev number_of : Net → ℕ
+number_of (PowerNet u) = 0
+number_of (Signal k) = k
+
+module _ (n : Netlist) (l : Library) (net : Numbering) (ports : List name.Name) (ok : IsDrawable n l net ports) where
+  -- ---- nets
+  forward : (t u : terminal.Terminal) (a b : Net) → IsTerminal n l t → IsTerminal n l u → About n net t a → About n net u b → n.class t ≡ n.class u → a ≡ b
+  forward t u a b ht hu (at_vdd p) (at_vdd q) e = refl
+  forward t u a b ht hu (at_vss p) (at_vss q) e = refl
+  forward t u a b ht hu (at_vdd p) (at_vss q) e = absurd (vdd_vss (sym ((ok.high u hu).0 (sym e ∙ (ok.high t ht).1 p)) ∙ q))
+  forward t u a b ht hu (at_vss p) (at_vdd q) e = absurd (vdd_vss (sym q ∙ (ok.low u hu).0 (sym e ∙ (ok.low t ht).1 p)))
+  forward t u a b ht hu (at_vdd p) (at_net f g h) e = absurd (f ((ok.high u hu).0 (sym e ∙ (ok.high t ht).1 p)))
+  forward t u a b ht hu (at_vss p) (at_net f g h) e = absurd (g ((ok.low u hu).0 (sym e ∙ (ok.low t ht).1 p)))
+  forward t u a b ht hu (at_net f g h) (at_vdd q) e = absurd (f ((ok.high t ht).0 (e ∙ (ok.high u hu).1 q)))
+  forward t u a b ht hu (at_net f g h) (at_vss q) e = absurd (g ((ok.low t ht).0 (e ∙ (ok.low u hu).1 q)))
+  forward t u a b ht hu (at_net f g h) (at_net f2 g2 h2) e = ap Signal (sym h ∙ ap net e ∙ h2)
+
+  backward : (t u : terminal.Terminal) (a b : Net) → IsTerminal n l t → IsTerminal n l u → About n net t a → About n net u b → a ≡ b → n.class t ≡ n.class u
+  backward t u a b ht hu (at_vdd p) (at_vdd q) e = (ok.high t ht).1 p ∙ sym ((ok.high u hu).1 q)
+  backward t u a b ht hu (at_vss p) (at_vss q) e = (ok.low t ht).1 p ∙ sym ((ok.low u hu).1 q)
+  backward t u a b ht hu (at_vdd p) (at_vss q) e = absurd (cc e)
+  backward t u a b ht hu (at_vss p) (at_vdd q) e = absurd (cc e)
+  backward t u a b ht hu (at_vdd p) (at_net f g h) e = absurd (cc e)
+  backward t u a b ht hu (at_vss p) (at_net f g h) e = absurd (cc e)
+  backward t u a b ht hu (at_net f g h) (at_vdd q) e = absurd (cc e)
+  backward t u a b ht hu (at_net f g h) (at_vss q) e = absurd (cc e)
+  backward t u a b ht hu (at_net f g h) (at_net f2 g2 h2) e = ok.one_class t u ht hu f g f2 g2 (h ∙ ap number_of e ∙ sym h2)
+
+  -- ---- terminals
+  abbrev Stands : terminal.Terminal → Net → Type 0
+  Stands t k = IsTerminal n l t × About n net t k
+
+  about : (u : block.Terminal) → Exists (block_of n l net ports) u → IsTerminal n l (terminal_of (own n) (call n l ports) u) × About n net (terminal_of (own n) (call n l ports) u) (net_of (block_of n l net ports) u)
+  about (AtPort (Power Vdd)) h = (a_port ok.has_vdd, at_vdd refl)
+  about (AtPort (Power Vss)) h = (a_port ok.has_vss, at_vss refl)
+  about (AtPort (Bit k)) h =
+      let r = get_there ports k h in let t = port_there n l net ports ok k r.0 r.1 in
+      let e : port r.0 ≡ port (name_or (slice_get ports k)) = ap (λ o. port (name_or o)) (sym r.1) in
+      subst (λ v. IsTerminal n l v × About n net v (Signal k)) e (t.0, at_net t.1 t.2 (ok.port_nets k r.0 r.1))
+  about (AtPin i (Power Vdd)) h =
+      let r = member_there n l net ports ok i h in
+      let e : pin_of r.0.name vdd ≡ pin_of (own n i) vdd = ap (λ v. pin_of v vdd) (sym (own_is n l net ports ok i r.0 r.1)) in
+      subst (λ v. IsTerminal n l v × About n net v (PowerNet Vdd)) e (a_pin r.0 r.2.cell (In_get n.instances i r.0 r.1) r.2.found ((r.2.usable.connectors vdd).1 (inl refl)), at_vdd refl)
+  about (AtPin i (Power Vss)) h =
+      let r = member_there n l net ports ok i h in
+      let e : pin_of r.0.name vss ≡ pin_of (own n i) vss = ap (λ v. pin_of v vss) (sym (own_is n l net ports ok i r.0 r.1)) in
+      subst (λ v. IsTerminal n l v × About n net v (PowerNet Vss)) e (a_pin r.0 r.2.cell (In_get n.instances i r.0 r.1) r.2.found ((r.2.usable.connectors vss).1 (inr (inl refl))), at_vss refl)
+  about (AtPin i (Bit p)) h =
+      let r = pin_there n l net ports ok i p h.0 h.1 in
+      let s = pin_signal n l net ports ok i p r.0 r.1 r.2 r.3 in
+      subst (λ v. IsTerminal n l v × About n net v (Signal ((block_of n l net ports).net i p))) (sym (pin_is n l net ports ok i p r.0 r.1 r.2 r.3))
+      (pin_listed n l net ports ok i p r.0 r.1 r.2 r.3, at_net s.0 s.1 (sym (net_is n l net ports ok i p r.0 r.1 r.2 r.3)))
+
+  abbrev Found : terminal.Terminal → Type 0
+  Found t = (u : block.Terminal) × Exists (block_of n l net ports) u × (t ≡ terminal_of (own n) (call n l ports) u)
+
+  port_found : (m : name.Name) → In m n.ports → (u : block.Terminal) × Exists (block_of n l net ports) u × (port m ≡ terminal_of (own n) (call n l ports) u)
+  port_found m h =
+      ⊎_elim
+      (λ e. (AtPort (Power Vdd), tt, ap port e))
+      (⊎_elim
+      (λ e. (AtPort (Power Vss), tt, ap port e))
+      (λ f. let r = get_In ports m ((ok.port_names m).1 (h, f.0, f.1)) in (AtPort (Bit r.0), slice_get_within ports r.0 m r.1, ap (λ o. port (name_or o)) (sym r.1))))
+      (decide m)
+
+  pin_found : (one : Member) (m : name.Name) (listed : In one n.instances) → (c : cells.Cell) → cell_of l one.model ≡ Some c → In m (connector_names c.items) → (u : block.Terminal) × Exists (block_of n l net ports) u × (pin_of one.name m ≡ terminal_of (own n) (call n l ports) u)
+  pin_found one m listed c found h =
+      let j = get_In n.instances one listed in
+      let mo = model_of n l net ports ok one listed in
+      let lt = slice_get_within n.instances j.0 one j.1 in
+      let e : c ≡ mo.cell = same_some c mo.cell (sym found ∙ mo.found) in
+      let h2 : In m (connector_names mo.cell.items) = subst (λ (v : cells.Cell). In m (connector_names v.items)) e h in
+      let o = own_is n l net ports ok j.0 one j.1 in
+      ⊎_elim
+      (λ e. (AtPin j.0 (Power Vdd), lt, ap (λ v. pin_of one.name v) e ∙ ap (λ v. pin_of v vdd) (sym o)))
+      (⊎_elim
+      (λ e. (AtPin j.0 (Power Vss), lt, ap (λ v. pin_of one.name v) e ∙ ap (λ v. pin_of v vss) (sym o)))
+      (λ f. let p = get_In (names_of (pin_ports mo.cell)) m f in
+      let c2 : ((block_of n l net ports).cell j.0).pins ≡ length (names_of (pin_ports mo.cell)) = ap (λ (v : Cell). v.pins) (cell_is n l net ports ok j.0 one mo j.1) in
+      let w = slice_get_within (names_of (pin_ports mo.cell)) p.0 m p.1 in
+      (AtPin j.0 (Bit p.0), (lt, subst (λ v. p.0 < v) (sym c2) w), sym (pin_is n l net ports ok j.0 p.0 one mo m (j.1, p.1)))))
+      ((mo.usable.connectors m).0 h2)
+    where
+      same_some : (c d : cells.Cell) → Some c ≡ Some d → c ≡ d
+      same_some c d e = cc
+
+  found : (t : terminal.Terminal) → IsTerminal n l t → (u : block.Terminal) × Exists (block_of n l net ports) u × (t ≡ terminal_of (own n) (call n l ports) u)
+  found t (a_port {name = m} h) = port_found m h
+  found t (a_pin {name = m} one c listed at h) = pin_found one m listed c at h
+
+  -- ---- names
+  owners_apart : (i k : ℕ) → i < length n.instances → k < length n.instances → own n i ≡ own n k → i ≡ k
+  owners_apart i k hi hk e =
+      let r = member_there n l net ports ok i hi in let s = member_there n l net ports ok k hk in
+      let f : r.0.name ≡ s.0.name = sym (own_is n l net ports ok i r.0 r.1) ∙ e ∙ own_is n l net ports ok k s.0 s.1 in
+      apart_places (λ (a b : Member). a.name ≢ b.name) n.instances ok.names i k r.0 s.0 r.1 s.1 (λ d. d f) (λ d. d (sym f))
+
+  names_apart : (o : Option ℕ) (m d : Name) → Exists (block_of n l net ports) (terminal_at o m) → Exists (block_of n l net ports) (terminal_at o d) → call n l ports o m ≡ call n l ports o d → m ≡ d
+  names_apart None m d hm hd e =
+      sym (decode_code ports ok.order ports_off m (low_port m hm)) ∙ ap (code ports) e ∙ decode_code ports ok.order ports_off d (low_port d hd)
+    where
+      ports_off : (x : name.Name) → In x ports → (x ≢ vdd) × (x ≢ vss)
+      ports_off x h = let r = (ok.port_names x).0 h in (r.1, r.2)
+
+      low_port : (m : Name) → Exists (block_of n l net ports) (AtPort m) → IsLow ports m
+      low_port (Power u) h = tt
+      low_port (Bit p) h = h
+  names_apart (Some i) m d hm hd e =
+      let r = member_there n l net ports ok i (there m hm) in
+      let xs = names_of (pin_ports r.2.cell) in
+      let q = pins_are n l net ports ok i r.0 r.2 r.1 in
+      let e2 : decode xs m ≡ decode xs d = ap (λ v. decode v m) (sym q) ∙ e ∙ ap (λ v. decode v d) q in
+      let c : ((block_of n l net ports).cell i).pins ≡ length xs = ap (λ (v : Cell). v.pins) (cell_is n l net ports ok i r.0 r.2 r.1) in
+      sym (decode_code xs r.2.usable.order r.2.clean.signals m (low_pin xs c m hm)) ∙ ap (code xs) e2 ∙ decode_code xs r.2.usable.order r.2.clean.signals d (low_pin xs c d hd)
+    where
+      there : (m : Name) → Exists (block_of n l net ports) (AtPin i m) → i < length n.instances
+      there (Power u) h = h
+      there (Bit p) h = h.0
+
+      low_pin : (xs : List name.Name) → ((block_of n l net ports).cell i).pins ≡ length xs → (m : Name) → Exists (block_of n l net ports) (AtPin i m) → IsLow xs m
+      low_pin xs c (Power u) h = tt
+      low_pin xs c (Bit p) h = subst (λ v. p < v) c h.1
+
+  -- ---- what the lines say of ports and instances
+  ports_said : (m : name.Name) → In m n.ports ↔ In m (connector_names (track_items n l net ports))
+  ports_said m = (
+    λ h. subst (λ v. In m v) (sym (its_names n l net ports ok))
+        (⊎_elim (λ e. subst (λ v. In v (vss ∷ (vdd ∷ ports))) (sym e) (there here)) (⊎_elim (λ e. subst (λ v. In v (vss ∷ (vdd ∷ ports))) (sym e) here) (λ f. there (there ((ok.port_names m).1 (h, f.0, f.1))))) (decide m)),
+    λ h. back (subst (λ v. In m v) (its_names n l net ports ok) h),
+  )
+    where
+      back : In m (vss ∷ (vdd ∷ ports)) → In m n.ports
+      back h =
+          ⊎_elim (λ e. subst (λ v. In v n.ports) (sym e) ok.has_vss)
+          (λ g. ⊎_elim (λ e. subst (λ v. In v n.ports) (sym e) ok.has_vdd) (λ k. ((ok.port_names m).0 k).0) (head_or m vdd ports g))
+          (head_or m vss (vdd ∷ ports) h)
+
+standing_back : (l : Library) (x : ℤ) (ms : List Member) → ms ≡ map (λ (i : Instance). record { name = i.name; model = i.model }) (standing l NoSym (pos 0) x ms)
+standing_back l x [] = refl
+standing_back l x (one ∷ rest) = ap (λ v. one ∷ v) (standing_back l (x +ℤ model_width l one.model) rest)
+
+pub picture : (n : Netlist) (l : Library) (net : Numbering) (ports : List name.Name) → IsDrawable n l net ports → IsPictureOf (track_items n l net ports) l n (block_of n l net ports) (low n l net ports) (high n l net ports) (own n) (call n l ports)
+picture n l net ports ok = record {
+  sound = sound n l net ports ok;
+  tracks = has_tracks n l net ports ok;
+  apart = record { owners = owners_apart n l net ports ok; names = names_apart n l net ports ok };
+  shapes = its_shapes n l net ports ok;
+  terminals = found n l net ports ok;
+  nets = λ t u ht hu.
+      let a = about n l net ports ok t ht in let b = about n l net ports ok u hu in
+      (λ e. forward n l net ports ok _ _ _ _ a.0 b.0 a.1 b.1 e, λ e. backward n l net ports ok _ _ _ _ a.0 b.0 a.1 b.1 e);
+  ports = ports_said n l net ports ok;
+  instances = standing_back l (pos 1500) n.instances ∙ ap (map (λ (i : Instance). record { name = i.name; model = i.model })) (sym (its_instances n l net ports ok));
+  numbered = ok.numbered;
+  used = ok.used;
+}
+
+its_place : (n : Netlist) (l : Library) (net : Numbering) (ports : List name.Name) → IsDrawable n l net ports → IsPlaced (track_box n l) (track_items n l net ports) n l (one_row n ports)
+its_place n l net ports ok = record {
+  order = ok.order;
+  ports = ok.port_names;
+  instances = standing l NoSym (pos 0) (pos 1500) n.instances;
+  rows = subst (λ (xs : List Instance). IsPermutation xs (standing l NoSym (pos 0) (pos 1500) n.instances)) (sym (append-nil (standing l NoSym (pos 0) (pos 1500) n.instances))) (IsPermutation-refl (standing l NoSym (pos 0) (pos 1500) n.instances));
+  wiring = wiring n l net ports;
+  wires = wires_all (wiring n l net ports) (wiring_drawn n l net ports ok).wires;
+  lines = refl;
+  box = refl;
+}
+
+pub drawings_are_right : DrawingsAreRight
+drawings_are_right n l net ports ok =
+    let r = pictures_extract (track_items n l net ports) l n (block_of n l net ports) (low n l net ports) (high n l net ports) (own n) (call n l ports) (picture n l net ports ok) in
+    (r.0, r.1, its_place n l net ports ok)

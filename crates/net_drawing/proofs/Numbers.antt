@@ -1,0 +1,174 @@
+-- The block by numbers of a netlist that may be drawn.
+use Rattle.std.proofs.Common.{◌≡◌, ℕ, zero, suc, ◌+◌, ◌*◌, ◌<◌, ◌≤◌, inl, inr, ⊎_elim, Bool, true, false, List, [], ◌∷◌, ◌++◌, length, Option, Some, None, sym, ap, ◌∙◌, subst, arith}
+use Rattle.std.specs.Prelude.{ℤ, pos, ◌+ℤ◌, ◌-ℤ◌, slice_get, ◌/◌}
+use Rattle.std.proofs.lemmas.Int.{ints}
+use Rattle.std.proofs.lemmas.Bool.{cases_lt}
+use Rattle.vlsi_base.specs.declared.name.Name as name
+use Rattle.vlsi_base.specs.declared.name.Terminal.{Terminal}
+use Rattle.machine_meaning.specs.Machine.{names_of}
+use Rattle.sym_geom.specs.declared.rect.Rect.{Rect}
+use Rattle.vlsi_base.specs.Member as member
+use Rattle.cell_model.specs.Cell as cells
+use Rattle.cell_model.specs.Cell.{cell_width, pin_ports}
+use Rattle.cell_model.specs.Library.{Library, cell_of, IsUsable}
+use Rattle.net_meaning.specs.Netlist.{Member, Netlist, pin_of}
+use Rattle.ocp_rows.specs.Placement.{model_width, width_of, net_count}
+use Rattle.ocp_rows.specs.Length.{least, greatest, natural}
+use Rattle.net_geom.specs.Figure.{Name}
+use Rattle.net_geom.specs.Block.{Cell, Block, Passes, HasOwnColumns, IsSound, at_x}
+use Rattle.net_drawing.specs.Clean.{IsClean}
+use Rattle.net_drawing.specs.Drawing.{Numbering, of_pins, port_xs, IsDrawable}
+use Rattle.net_drawing.proofs.Coding.{In_get, get_there, name_or, decode, cell_by}
+use Rattle.net_drawing.proofs.Cells.{passes, own_columns, width_is}
+use Rattle.net_drawing.proofs.Pieces.{x_at}
+
+abbrev pub signals : Option cells.Cell → List name.Name
+signals None = []
+signals (Some c) = names_of (pin_ports c)
+
+abbrev pub cell_or : Option cells.Cell → Cell
+cell_or None = record { width = 0; shapes = []; pins = 0; column = λ p. 0; row = λ p. 0 }
+cell_or (Some c) = cell_by c
+
+abbrev pub member_or : Option Member → Member
+member_or None = record { name = []; model = [] }
+member_or (Some one) = one
+
+abbrev pub member_at : List Member → ℕ → Member
+member_at ms i = member_or (slice_get ms i)
+
+abbrev pub columns_wide : Library → Member → ℕ
+columns_wide l one = (cell_or (cell_of l one.model)).width
+
+-- the column of instance i of a row that begins at column k
+abbrev pub column_at : Library → ℕ → List Member → ℕ → ℕ
+column_at l k [] i = k
+column_at l k (one ∷ rest) zero = k
+column_at l k (one ∷ rest) (suc i) = column_at l (k + columns_wide l one) rest i
+
+abbrev pub all_columns : Library → List Member → ℕ
+all_columns l [] = 0
+all_columns l (one ∷ rest) = columns_wide l one + all_columns l rest
+
+abbrev pub low_of : List ℤ → List ℤ → ℕ
+low_of [] ps = 0
+low_of (x ∷ xs) ps = natural (least x (xs ++ ps)) / 500
+
+abbrev pub high_of : List ℤ → List ℤ → ℕ
+high_of [] ps = 0
+high_of (x ∷ xs) ps = natural (greatest x (xs ++ ps)) / 500
+
+abbrev pub has_some : List ℤ → Bool
+has_some [] = false
+has_some (x ∷ xs) = true
+
+-- the x of the pins on net k
+abbrev pub pin_xs : Netlist → Library → Numbering → ℕ → List ℤ
+pin_xs n l net k = of_pins n l net k (λ q. q.0 ∷ [])
+
+abbrev pub low : Netlist → Library → Numbering → List name.Name → ℕ → ℕ
+low n l net ports k = low_of (pin_xs n l net k) (port_xs (slice_get ports k))
+
+abbrev pub high : Netlist → Library → Numbering → List name.Name → ℕ → ℕ
+high n l net ports k = high_of (pin_xs n l net k) (port_xs (slice_get ports k))
+
+abbrev pub own : Netlist → ℕ → List ℕ
+own n i = (member_at n.instances i).name
+
+abbrev pub pins_at : Netlist → Library → ℕ → List name.Name
+pins_at n l i = signals (cell_of l (member_at n.instances i).model)
+
+abbrev pub call : Netlist → Library → List name.Name → Option ℕ → Name → name.Name
+call n l ports None m = decode ports m
+call n l ports (Some i) m = decode (pins_at n l i) m
+
+abbrev pub pin_terminal : Netlist → Library → ℕ → ℕ → Terminal
+pin_terminal n l i p = pin_of (own n i) (name_or (slice_get (pins_at n l i) p))
+
+abbrev pub block_of : Netlist → Library → Numbering → List name.Name → Block
+block_of n l net ports = record {
+  count = length n.instances;
+  cell = λ i. cell_or (cell_of l (member_at n.instances i).model);
+  column = λ i. column_at l 3 n.instances i;
+  row = λ i. 0;
+  net = λ i p. net (n.class (pin_terminal n l i p));
+  ports = length ports;
+  port_net = λ k. k;
+  nets = net_count n;
+  many = λ k. has_some (pin_xs n l net k);
+  rows = 1;
+  columns = all_columns l n.instances;
+}
+
+column_low : (l : Library) (k : ℕ) (ms : List Member) (i : ℕ) → k ≤ column_at l k ms i
+column_low l k [] i = omega arith
+column_low l k (one ∷ rest) zero = omega arith
+column_low l k (one ∷ rest) (suc i) = let a = column_low l (k + columns_wide l one) rest i in omega arith
+
+column_end : (l : Library) (k : ℕ) (ms : List Member) (i : ℕ) → i < length ms → column_at l k ms i + columns_wide l (member_at ms i) ≤ k + all_columns l ms
+column_end l k [] i lt = absurd (omega arith)
+column_end l k (one ∷ rest) zero lt = omega arith
+column_end l k (one ∷ rest) (suc i) lt = let a = column_end l (k + columns_wide l one) rest i (omega arith) in omega arith
+
+column_step : (l : Library) (k : ℕ) (ms : List Member) (i j : ℕ) → i < j → j < length ms → column_at l k ms i + columns_wide l (member_at ms i) ≤ column_at l k ms j
+column_step l k [] i j le lt = absurd (omega arith)
+column_step l k (one ∷ rest) i zero le lt = absurd (omega arith)
+column_step l k (one ∷ rest) zero (suc j) le lt = column_low l (k + columns_wide l one) rest j
+column_step l k (one ∷ rest) (suc i) (suc j) le lt = column_step l (k + columns_wide l one) rest i j (omega arith) (omega arith)
+
+-- the cell of an instance
+pub record IsModel (l : Library) (one : Member) : Type 0 where
+  pub cell : cells.Cell
+  pub found : cell_of l one.model ≡ Some cell
+  pub usable : IsUsable cell
+  pub clean : IsClean cell
+
+pub wide_is : (l : Library) (one : Member) → IsModel l one → model_width l one.model ≡ pos (500 * columns_wide l one)
+wide_is l one m =
+    let w = width_is m.cell m.usable m.clean in
+    let a : model_width l one.model ≡ cell_width m.cell = ap width_of m.found in
+    let b : cell_width m.cell ≡ pos (500 * m.clean.columns) -ℤ pos 0 = ap (λ (v : Rect). v.x2 -ℤ v.x1) m.clean.box in
+    let c : columns_wide l one ≡ (cell_by m.cell).width = ap (λ o. (cell_or o).width) m.found in
+    let d : columns_wide l one ≡ m.clean.columns = c ∙ w in
+    let e : pos (500 * m.clean.columns) -ℤ pos 0 ≡ pos (500 * m.clean.columns) = omega (arith, ints) in
+    a ∙ b ∙ e ∙ ap (λ v. pos (500 * v)) (sym d)
+
+pub x_is : (l : Library) (ms : List Member) (x : ℤ) (k : ℕ) → x ≡ at_x k → ((one : Member) → member.In one ms → IsModel l one) → (i : ℕ) → i < length ms → x_at l x ms i ≡ at_x (column_at l k ms i)
+x_is l [] x k e all i lt = absurd (omega arith)
+x_is l (one ∷ rest) x k e all zero lt = e
+x_is l (one ∷ rest) x k e all (suc i) lt =
+    let w = wide_is l one (all one member.here) in
+    x_is l rest (x +ℤ model_width l one.model) (k + columns_wide l one) (omega (arith, ints)) (λ one h. all one (member.there h)) i (omega arith)
+
+module _ (n : Netlist) (l : Library) (net : Numbering) (ports : List name.Name) (ok : IsDrawable n l net ports) where
+  pub model_of : (one : Member) → member.In one n.instances → IsModel l one
+  model_of one h = let r = ok.models one h in record { cell = r.0; found = r.1; usable = r.2; clean = r.3 }
+
+  -- instance i
+  pub member_there : (i : ℕ) → i < length n.instances → (one : Member) × (slice_get n.instances i ≡ Some one) × IsModel l one
+  member_there i lt = let r = get_there n.instances i lt in (r.0, r.1, model_of r.0 (In_get n.instances i r.0 r.1))
+
+  pub cell_is : (i : ℕ) (one : Member) (m : IsModel l one) → slice_get n.instances i ≡ Some one → (block_of n l net ports).cell i ≡ cell_by m.cell
+  cell_is i one m e = ap (λ o. cell_or (cell_of l (member_or o).model)) e ∙ ap cell_or m.found
+
+  pub pins_are : (i : ℕ) (one : Member) (m : IsModel l one) → slice_get n.instances i ≡ Some one → pins_at n l i ≡ names_of (pin_ports m.cell)
+  pins_are i one m e = ap (λ o. signals (cell_of l (member_or o).model)) e ∙ ap signals m.found
+
+  pub own_is : (i : ℕ) (one : Member) → slice_get n.instances i ≡ Some one → own n i ≡ one.name
+  own_is i one e = ap (λ o. (member_or o).name) e
+
+  pub sound : IsSound (block_of n l net ports)
+  sound = record {
+    cells = λ i lt. let r = member_there i lt in subst Passes (sym (cell_is i r.0 r.2 r.1)) (passes r.2.cell r.2.usable r.2.clean);
+    start = λ i lt. column_low l 3 n.instances i;
+    end = λ i lt. column_end l 3 n.instances i lt;
+    row = λ i lt. omega arith;
+    abut = λ i j hi hj e.
+        ⊎_elim
+        (λ lt. inr (inl (column_step l 3 n.instances i j lt hj)))
+        (λ ge. ⊎_elim (λ gt. inr (inr (column_step l 3 n.instances j i gt hi))) (λ le. inl (omega arith)) (cases_lt j i))
+        (cases_lt i j);
+  }
+
+  pub cells_own : (i : ℕ) → i < length n.instances → HasOwnColumns ((block_of n l net ports).cell i)
+  cells_own i lt = let r = member_there i lt in subst HasOwnColumns (sym (cell_is i r.0 r.2 r.1)) (own_columns r.2.cell r.2.usable r.2.clean)

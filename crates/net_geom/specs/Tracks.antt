@@ -1,0 +1,100 @@
+-- The drawing of a block of one row, with a private track for each net.
+use Rattle.std.specs.Prelude.{◌≡◌, ℕ, ◌+◌, ◌*◌, ◌<◌, ◌≤◌, pos, true, false, nat_eq, if◌then◌else◌, List, [], ◌∷◌, ◌++◌, None}
+use Rattle.net_geom.specs.Figure.{Supply, Vss, Vdd, Power, Bit, Segment, Connector, Via, Blank, up_to}
+use Rattle.net_geom.specs.Block.{PowerNet, Signal, Block, HasOwnColumns, Tagged, at_x, pin_column, pin_row}
+
+-- the row of net n's track
+abbrev pub track : ℕ → ℕ
+track n = 11 + n
+
+-- the lines of pin p of instance i, on net n
+abbrev pub pin_lines : Block → ℕ → ℕ → ℕ → List Tagged
+pin_lines b n i p =
+    record {
+      net = Signal n;
+      line = Segment 3 200 true (at_x (pin_column b i p)) (at_x (pin_row b i p)) (at_x (pin_column b i p)) (at_x (track n)) None;
+    }
+    ∷ (record { net = Signal n; line = Via 1 (at_x (pin_column b i p)) (at_x (pin_row b i p)) }
+    ∷ (record { net = Signal n; line = Via 2 (at_x (pin_column b i p)) (at_x (pin_row b i p)) }
+    ∷ (record { net = Signal n; line = Via 2 (at_x (pin_column b i p)) (at_x (track n)) } ∷ [])))
+
+-- of the pins that are on net n
+abbrev pub terminal_lines : Block → ℕ → List Tagged
+terminal_lines b n = up_to b.count (λ i. up_to (b.cell i).pins (λ p. if nat_eq (b.net i p) n then pin_lines b n i p else []))
+
+-- a track from the least to the greatest of its points' columns
+abbrev pub track_line : ℕ → ℕ → ℕ → Tagged
+track_line n lo hi =
+    record { net = Signal n; line = Segment 2 200 false (at_x lo) (at_x (track n)) (at_x hi) (at_x (track n)) None }
+
+-- a port stands on its net's track, in the first column
+abbrev pub port_line : Block → ℕ → Tagged
+port_line b k = record { net = Signal (b.port_net k); line = Connector 2 200 (at_x 3) (at_x (track (b.port_net k))) (Bit k) }
+
+abbrev pub port_lines : Block → List Tagged
+port_lines b = up_to b.ports (λ k. port_line b k ∷ [])
+
+-- the track of a net that has one
+abbrev pub drawn_track : Block → (ℕ → ℕ) → (ℕ → ℕ) → ℕ → List Tagged
+drawn_track b lo hi n = if b.many n then track_line n (lo n) (hi n) ∷ [] else []
+
+-- the lines of all nets, net by net: its track, then its pins
+abbrev pub net_lines : Block → (ℕ → ℕ) → (ℕ → ℕ) → List Tagged
+net_lines b lo hi = up_to b.nets (λ n. drawn_track b lo hi n ++ terminal_lines b n)
+
+-- ---- supplies, in one row
+
+-- the middle of a supply's rail, and the column of its strap
+abbrev pub centre : Supply → ℕ
+centre Vss = 300
+centre Vdd = 4700
+
+abbrev pub strap_column : Supply → ℕ
+strap_column Vss = 1
+strap_column Vdd = 2
+
+-- a supply's port, its rail, and its strap with the vias
+abbrev pub supply_port : Supply → Tagged
+supply_port s = record { net = PowerNet s; line = Connector 1 600 (pos 500) (pos (centre s)) (Power s) }
+
+abbrev pub rail_line : Block → Supply → Tagged
+rail_line b s = record {
+  net = PowerNet s;
+  line = Segment 1 600 false (pos 500) (pos (centre s)) (pos (1500 + 500 * b.columns)) (pos (centre s)) None;
+}
+
+abbrev pub strap_lines : Supply → List Tagged
+strap_lines s =
+    record {
+      net = PowerNet s;
+      line = Segment 3 200 true (at_x (strap_column s)) (pos (centre s)) (at_x (strap_column s)) (pos (centre s)) None;
+    }
+    ∷ (record { net = PowerNet s; line = Via 1 (at_x (strap_column s)) (pos (centre s)) }
+    ∷ (record { net = PowerNet s; line = Via 2 (at_x (strap_column s)) (pos (centre s)) } ∷ []))
+
+-- rails, the strap of vss and that of vdd
+abbrev pub supply_lines : Block → List Tagged
+supply_lines b = (rail_line b Vss ∷ (rail_line b Vdd ∷ [])) ++ (strap_lines Vss ++ strap_lines Vdd)
+
+-- a line for each instance, which draws nothing itself
+abbrev pub blank_lines : Block → List Tagged
+blank_lines b = up_to b.count (λ i. record { net = PowerNet Vss; line = Blank } ∷ [])
+
+-- all lines, in the order of the file
+abbrev pub block_lines : Block → (ℕ → ℕ) → (ℕ → ℕ) → List Tagged
+block_lines b lo hi =
+    (supply_port Vss ∷ (supply_port Vdd ∷ port_lines b)) ++ (blank_lines b ++ (supply_lines b ++ net_lines b lo hi))
+
+-- one row; each track reaches all the points of its net; no two pins of a cell have one column
+pub record HasTracks (b : Block) (lo hi : ℕ → ℕ) : Type 0 where
+  pub one_row : b.rows ≡ 1
+  pub columns : (i : ℕ) → i < b.count → HasOwnColumns (b.cell i)
+  pub nets : (i p : ℕ) → i < b.count → p < (b.cell i).pins → b.net i p < b.nets
+  pub port_nets : (k : ℕ) → k < b.ports → b.port_net k < b.nets
+  pub order : (n : ℕ) → n < b.nets → b.many n ≡ true → lo n ≤ hi n
+  pub start : (n : ℕ) → n < b.nets → b.many n ≡ true → 3 ≤ lo n
+  pub reached : (i p : ℕ) → i < b.count → p < (b.cell i).pins → b.many (b.net i p) ≡ true
+  pub pins : (i p : ℕ) → i < b.count → p < (b.cell i).pins
+      → (lo (b.net i p) ≤ pin_column b i p) × (pin_column b i p ≤ hi (b.net i p))
+  pub ports : (k : ℕ) → k < b.ports → b.many (b.port_net k) ≡ true → lo (b.port_net k) ≡ 3
+  pub alone : (k q : ℕ) → k < b.ports → q < b.ports → b.many (b.port_net k) ≡ false → b.port_net k ≡ b.port_net q → k ≡ q

@@ -1,0 +1,103 @@
+// The table of nodes.
+ghost use Rattle.std.specs.Prelude.{◌≡◌, ◌+◌, ◌-◌, ◌^◌, ◌<◌, IfOk, IfSome, length, not, ◌&&◌};
+ghost use Rattle.graph_theory.specs.Graph.{ReadsBelow};
+ghost use Rattle.subject_table.specs.View.{kinds, node_view, end_of};
+ghost use Rattle.subject_table.specs.Grows.{IsSound, IsNode, IsKnown, Adds, node_value, logic_cost};
+
+use indexmap::IndexSet;
+use std::alloc::AllocError;
+
+/// A node: a constant, an inverter, or a gate that is 0 where both of its inputs are 1.
+#[derive(Clone, Copy, PartialEq, Eq, Hash)]
+pub enum Node {
+    Fixed(bool),
+    Inv(u32),
+    Nand(u32, u32),
+}
+
+/// The nodes behind inputs and registers, which have the numbers below `held`. No two are equal.
+#[derive(Drop)]
+pub struct Table {
+    pub held: u32,
+    pub nodes: IndexSet<Node>,
+}
+
+impl Table {
+    /// The node of this number, where it is no input and no register.
+    pub fn node(&self, number: u32) -> Option<Node>
+        ensures { IfSome result (λ kind. IsNode self.now number (node_view kind)) }
+    {
+        if number < self.held {
+            return None;
+        }
+        self.nodes.get_index((number - self.held) as usize).copied()
+    }
+
+    /// The number of an equal node, which is added where there is none. Takes memory for it; past 2^32 numbers there is none.
+    pub fn add(&mut self, node: Node) -> Result<u32, AllocError>
+        requires sound { IsSound self.now }
+        requires below { ReadsBelow (end_of self.now) (node_view node) }
+        ensures { IfOk result (λ r. Adds self.old self.new (logic_cost (node_view node)) (node_value (node_view node)) r) }
+    {
+        if self.nodes.len() >= (u32::MAX - self.held) as usize {
+            return Err(AllocError);
+        }
+        let (place, _) = self.nodes.insert_full(node)?;
+        Ok(self.held + place as u32)
+    }
+
+    /// The inverse of a node. The inverse of an inverse is what that one reads.
+    pub fn inv(&mut self, a: u32) -> Result<u32, AllocError>
+        requires sound { IsSound self.now }
+        requires below { a < end_of self.now }
+        ensures { IfOk result (λ r. Adds self.old self.new 1 (λ v. not (v a)) r) }
+    {
+        match self.node(a) {
+            Some(Node::Inv(b)) => Ok(b),
+            Some(Node::Fixed(bit)) => self.add(Node::Fixed(!bit)),
+            _ => self.add(Node::Inv(a)),
+        }
+    }
+
+    /// The bit that a node always has, where it is a constant.
+    pub fn known(&self, a: u32) -> Option<bool>
+        requires sound { IsSound self.now }
+        ensures { IfSome result (λ b. IsKnown self.now a b) }
+    {
+        match self.node(a) {
+            Some(Node::Fixed(bit)) => Some(bit),
+            _ => None,
+        }
+    }
+
+    /// The number that is 0 where both are 1. Its sons have no order, and constants and equal sons are simplified.
+    pub fn nand(&mut self, a: u32, b: u32) -> Result<u32, AllocError>
+        requires sound { IsSound self.now }
+        requires first { a < end_of self.now }
+        requires second { b < end_of self.now }
+        ensures { IfOk result (λ r. Adds self.old self.new 1 (λ v. not (v a && v b)) r) }
+    {
+        if a == b {
+            return self.inv(a);
+        }
+        if let Some(bit) = self.known(a) {
+            return if bit {
+                self.inv(b)
+            } else {
+                self.add(Node::Fixed(true))
+            };
+        }
+        if let Some(bit) = self.known(b) {
+            return if bit {
+                self.inv(a)
+            } else {
+                self.add(Node::Fixed(true))
+            };
+        }
+        if a < b {
+            self.add(Node::Nand(a, b))
+        } else {
+            self.add(Node::Nand(b, a))
+        }
+    }
+}
