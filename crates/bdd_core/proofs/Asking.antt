@@ -1,149 +1,208 @@
 -- One question after another.
-use Rattle.std.proofs.Common.{◌≡◌, ℕ, suc, ◌<◌, List, [], ◌∷◌, ◌++◌, length, Result, Ok, Err, IfOk, refl, sym, ap, subst, ◌∙◌, arith, append_assoc}
+use Rattle.std.proofs.Common.{◌≡◌, ℕ, suc, ◌⊎◌, inl, inr, List, [], ◌∷◌, ◌++◌, None, Some, Result, Ok, Err, IfOk, refl, sym, subst, ◌∙◌, arith, append_assoc}
 use Rattle.std.specs.List.{Contains, All}
-use Rattle.std.proofs.lemmas.List.Elements.{Contains-append_right}
+use Rattle.std.proofs.lemmas.List.Elements.{Contains-append_cases, Contains-append_left, Contains-append_right}
 use Rattle.bool_expr.specs.declared.expr.Gate.{Gate}
-use Rattle.bool_expr.specs.Expression.{Expression, pair}
-use Rattle.bdd_core.specs.declared.operators.Operator.TheVariants.{Pair}
-use Rattle.bdd_core.specs.Combined.{combined}
-use Rattle.bdd_core.specs.declared.table.Refusal.{Refusal}
-use Rattle.bdd_core.specs.declared.table.Refusal.TheVariants.{Budget}
+use Rattle.bool_expr.specs.declared.expr.Gate.TheVariants.{Nand}
+use Rattle.bool_expr.specs.Expression.{Expression, pair, choice, inverse}
+use Rattle.bdd_core.specs.declared.node.NodeId.{NodeId}
+use Rattle.bdd_core.specs.declared.node.BddError.{BddError}
 use Rattle.bdd_core.specs.Truths.{Truths, IsCounted, IsOver}
-use Rattle.bdd_core.specs.Nodes.{Lists}
-use Rattle.bdd_core.specs.Counting.{function, Holds, Keeps, IsAsked}
-use Rattle.bdd_core.specs.Asked.{denoted, asked_of, functions_of, AreAsked}
+use Rattle.bdd_core.specs.Counting.{Holds}
+use Rattle.bdd_core.specs.Diagram.{Diagram, IsNode, function_of, functions_of, gate_of, choice_of, Keeps, IsAsked, IsAnswer}
+use Rattle.bdd_core.specs.Asked.{denoted, asked_of, IsAnswerOf}
 
-pub counted_sub : (fs gs : List Truths) (x : Truths) → ((f : Truths) → Contains fs f → Contains gs f) → IsCounted fs x → IsCounted gs x
-counted_sub fs gs x sub c = (c.0, (c.1.0, sub c.1.0 c.1.1, c.1.2))
+abbrev good : NodeId → Result NodeId BddError
+good a = Ok a
 
-pub over_sub : (fs gs : List Truths) (budget : ℕ) → ((f : Truths) → Contains fs f → Contains gs f) → IsOver fs budget → IsOver gs budget
-over_sub fs gs budget sub o = (o.0, o.1, λ x c. counted_sub fs gs x sub (o.2 x c), o.3)
+abbrev wrong : BddError → Result NodeId BddError
+wrong e = Err e
 
--- one more in front is over too
-pub over_more : (f : Truths) (fs : List Truths) (budget : ℕ) → IsOver fs budget → IsOver (f ∷ fs) budget
-over_more f fs budget o = over_sub fs (f ∷ fs) budget (λ g c. Contains-append_right (f ∷ []) fs g c) o
+ok_err : (a : NodeId) (e : BddError) → good a ≡ wrong e → ⊥
+ok_err a e p = (cc)
 
-pub over_front : (front fs : List Truths) (budget : ℕ) → IsOver fs budget → IsOver (front ++ fs) budget
-over_front front fs budget o = over_sub fs (front ++ fs) budget (λ g c. Contains-append_right front fs g c) o
+over_sub : (fs gs : List Truths) (budget : ℕ) → ((f : Truths) → Contains fs f → Contains gs f) → IsOver fs budget → IsOver gs budget
+over_sub fs gs budget sub o = (o.0, o.1, λ x c. let k : IsCounted fs x = o.2 x c in (k.0, (k.1.0, sub k.1.0 k.1.1, k.1.2)), o.3)
 
-pub same_functions : (d0 d1 : Lists) (bound : List ℕ) → Keeps d0 d1 → All (λ a. a < length d0.lists) bound → functions_of d1 bound ≡ functions_of d0 bound
-same_functions d0 d1 [] keeps all = refl
-same_functions d0 d1 (a ∷ bound) keeps all =
-    let here : a < length d0.lists = all 0 0 (omega arith) in
-    λ j. (keeps a here).1 j ∷ same_functions d0 d1 bound keeps (λ k d w. all (suc k) d (omega arith)) j
+-- what is asked for and what the expression denotes, over the functions that the nodes have
+abbrev pub Asks : Diagram → List NodeId → Expression → List Truths
+Asks d bound e = asked_of d.table.vars (functions_of d bound) e
 
-pub bound_kept : (d0 d1 : Lists) (bound : List ℕ) → Keeps d0 d1 → All (λ a. a < length d0.lists) bound → All (λ a. a < length d1.lists) bound
-bound_kept d0 d1 bound keeps all k d w = (keeps _ (all k d w)).0
+abbrev pub Denotes : Diagram → List NodeId → Expression → Truths
+Denotes d bound e = denoted d.table.vars (functions_of d bound) e
 
-pub keeps_then : (d0 d1 d2 : Lists) → Keeps d0 d1 → Keeps d1 d2 → Keeps d0 d2
+keeps_then : (d0 d1 d2 : Diagram) → Keeps d0 d1 → Keeps d1 d2 → Keeps d0 d2
 keeps_then d0 d1 d2 a b i w = ((b i (a i w).0).0, (b i (a i w).0).1 ∙ (a i w).1)
 
--- the functions that are bound, after more was asked
-denoted_same : (d0 d1 : Lists) (bound : List ℕ) (e : Expression) → d1.vars ≡ d0.vars → Keeps d0 d1 → All (λ a. a < length d0.lists) bound
-    → denoted d1.vars (functions_of d1 bound) e ≡ denoted d0.vars (functions_of d0 bound) e
-denoted_same d0 d1 bound e vars keeps all = λ j. denoted (vars j) (same_functions d0 d1 bound keeps all j) e
+same_functions : (d0 d1 : Diagram) (bound : List NodeId) → Keeps d0 d1 → All (λ a. IsNode d0 a) bound → functions_of d1 bound ≡ functions_of d0 bound
+same_functions d0 d1 [] keeps all = refl
+same_functions d0 d1 (a ∷ bound) keeps all =
+    let here : IsNode d0 a = all 0 a (omega arith) in
+    λ j. (keeps a here).1 j ∷ same_functions d0 d1 bound keeps (λ k d w. all (suc k) d (omega arith)) j
 
-asked_same : (d0 d1 : Lists) (bound : List ℕ) (e : Expression) → d1.vars ≡ d0.vars → Keeps d0 d1 → All (λ a. a < length d0.lists) bound
-    → asked_of d1.vars (functions_of d1 bound) e ≡ asked_of d0.vars (functions_of d0 bound) e
-asked_same d0 d1 bound e vars keeps all = λ j. asked_of (vars j) (same_functions d0 d1 bound keeps all j) e
-
-pub record Answered (d0 d1 : Lists) (bound : List ℕ) (e : Expression) (at : ℕ) : Type 0 where
-  pub vars : d1.vars ≡ d0.vars
-  pub budget : d1.budget ≡ d0.budget
-  pub keeps : Keeps d0 d1
-  pub ok : AreAsked d0 d1 (asked_of d0.vars (functions_of d0 bound) e) (denoted d0.vars (functions_of d0 bound) e) at
-
-module _ (d0 : Lists) (bound : List ℕ) (all : All (λ a. a < length d0.lists) bound) where
-  -- after a first answer, that of a second expression
-  module _ (d1 : Lists) (l : Expression) (a : ℕ) (p : Answered d0 d1 bound l a) where
-    -- what is over after the first is over from the start
-    pub over_second : (r : Expression) (fs : List Truths)
-        → ((gs : List Truths) → Holds gs d1 → IsOver (asked_of d1.vars (functions_of d1 bound) r ++ gs) d1.budget) → Holds fs d0
-        → IsOver (asked_of d0.vars (functions_of d0 bound) r ++ (asked_of d0.vars (functions_of d0 bound) l ++ fs)) d0.budget
-    over_second r fs over h =
-        subst (λ (n : ℕ). IsOver (asked_of d0.vars (functions_of d0 bound) r ++ (asked_of d0.vars (functions_of d0 bound) l ++ fs)) n) p.budget
-        (subst (λ (q : List Truths). IsOver (q ++ (asked_of d0.vars (functions_of d0 bound) l ++ fs)) d1.budget) (asked_same d0 d1 bound r p.vars p.keeps all)
-        (over (asked_of d0.vars (functions_of d0 bound) l ++ fs) (p.ok.holds fs h)))
-
-    module _ (d2 : Lists) (r : Expression) (b : ℕ) (q : Answered d1 d2 bound r b) where
-      pub holds_second : (fs : List Truths) → Holds fs d0 → Holds (asked_of d0.vars (functions_of d0 bound) r ++ (asked_of d0.vars (functions_of d0 bound) l ++ fs)) d2
-      holds_second fs h =
-          subst (λ (s : List Truths). Holds (s ++ (asked_of d0.vars (functions_of d0 bound) l ++ fs)) d2) (asked_same d0 d1 bound r p.vars p.keeps all)
-          (q.ok.holds (asked_of d0.vars (functions_of d0 bound) l ++ fs) (p.ok.holds fs h))
-
-      pub first_function : function d2 a ≡ denoted d0.vars (functions_of d0 bound) l
-      first_function = (q.keeps a p.ok.within).1 ∙ p.ok.is
-
-      pub second_function : function d2 b ≡ denoted d0.vars (functions_of d0 bound) r
-      second_function = q.ok.is ∙ denoted_same d0 d1 bound r p.vars p.keeps all
-
-      pub pair_asked : (d3 : Lists) (g : Gate) (at : ℕ) → IsAsked d2 d3 (combined (Pair g) (function d2 a) (function d2 b) (function d2 a)) at
-          → AreAsked d0 d3 (asked_of d0.vars (functions_of d0 bound) (pair g l r)) (denoted d0.vars (functions_of d0 bound) (pair g l r)) at
-      pair_asked d3 g at k = record {
-        within = k.within;
-        is = k.is ∙ same;
-        holds = λ fs h. subst (λ (s : List Truths). Holds s d3) (λ j. same j ∷ sym (append_assoc (asked_of d0.vars (functions_of d0 bound) r) (asked_of d0.vars (functions_of d0 bound) l) fs) j)
-            (k.holds _ (holds_second fs h));
-      }
-        where
-          same : combined (Pair g) (function d2 a) (function d2 b) (function d2 a) ≡ denoted d0.vars (functions_of d0 bound) (pair g l r)
-          same = λ j. combined (Pair g) (first_function j) (second_function j) (first_function j)
+-- nodes that were bound are nodes after a question too
+pub bound_kept : (d0 d1 : Diagram) (bound : List NodeId) → Keeps d0 d1 → All (λ a. IsNode d0 a) bound → All (λ a. IsNode d1 a) bound
+bound_kept d0 d1 bound keeps all k d w = (keeps _ (all k d w)).0
 
 -- what was asked so far, and where that led
-pub record SoFar (d0 d : Lists) (asked : List Truths) : Type 0 where
-  pub vars : d.vars ≡ d0.vars
-  pub budget : d.budget ≡ d0.budget
+pub record SoFar (d0 d : Diagram) (asked : List Truths) : Type 0 where
+  pub vars : d.table.vars ≡ d0.table.vars
+  pub budget : d.table.budget ≡ d0.table.budget
   pub keeps : Keeps d0 d
-  pub holds : (fs : List Truths) → Holds fs d0 → Holds (asked ++ fs) d
+  pub holds : (fs : List Truths) → Holds fs d0.table → Holds (asked ++ fs) d.table
+  pub live : d.refused ≡ None
+  pub was_live : (e : BddError) → d0.refused ≡ Some e → ⊥
 
-pub first : (d0 d1 : Lists) (bound : List ℕ) (l : Expression) (a : ℕ) → Answered d0 d1 bound l a → SoFar d0 d1 (asked_of d0.vars (functions_of d0 bound) l)
-first d0 d1 bound l a p = record { vars = p.vars; budget = p.budget; keeps = p.keeps; holds = p.ok.holds }
+first : (d0 d1 : Diagram) (asked : List Truths) (f : Truths) (a : NodeId) → IsAnswer d0 d1 asked f (Ok a) → SoFar d0 d1 asked
+first d0 d1 asked f a p = record {
+  vars = p.vars;
+  budget = p.budget;
+  keeps = p.keeps;
+  holds = p.ok.holds;
+  live = p.live;
+  was_live = λ e was. ok_err a e (p.still e was);
+}
 
-module _ (d0 d1 : Lists) (bound : List ℕ) (asked : List Truths) (all : All (λ a. a < length d0.lists) bound) (s : SoFar d0 d1 asked) where
-  pub next_over : (r : Expression) (fs : List Truths) → ((gs : List Truths) → Holds gs d1 → IsOver (asked_of d1.vars (functions_of d1 bound) r ++ gs) d1.budget) → Holds fs d0
-      → IsOver ((asked_of d0.vars (functions_of d0 bound) r ++ asked) ++ fs) d0.budget
-  next_over r fs over h =
-      subst (λ (q : List Truths). IsOver q d0.budget) (sym (append_assoc (asked_of d0.vars (functions_of d0 bound) r) asked fs))
-      (subst (λ (n : ℕ). IsOver (asked_of d0.vars (functions_of d0 bound) r ++ (asked ++ fs)) n) s.budget
-      (subst (λ (q : List Truths). IsOver (q ++ (asked ++ fs)) d1.budget) (asked_same d0 d1 bound r s.vars s.keeps all) (over (asked ++ fs) (s.holds fs h))))
-
-  module _ (d2 : Lists) (r : Expression) (b : ℕ) (q : Answered d1 d2 bound r b) where
-    pub next : SoFar d0 d2 (asked_of d0.vars (functions_of d0 bound) r ++ asked)
-    next = record {
-      vars = q.vars ∙ s.vars;
-      budget = q.budget ∙ s.budget;
-      keeps = keeps_then d0 d1 d2 s.keeps q.keeps;
-      holds = λ fs h. subst (λ (l : List Truths). Holds l d2) (sym (append_assoc (asked_of d0.vars (functions_of d0 bound) r) asked fs))
-          (subst (λ (l : List Truths). Holds (l ++ (asked ++ fs)) d2) (asked_same d0 d1 bound r s.vars s.keeps all) (q.ok.holds (asked ++ fs) (s.holds fs h)));
+-- an answer after others
+after : (d0 d1 d2 : Diagram) (xs ys : List Truths) (f : Truths) → SoFar d0 d1 xs → (r : Result NodeId BddError) → IsAnswer d1 d2 ys f r → IsAnswer d0 d2 (ys ++ xs) f r
+after d0 d1 d2 xs ys f s r a = record {
+  vars = a.vars ∙ s.vars;
+  budget = a.budget ∙ s.budget;
+  keeps = keeps_then d0 d1 d2 s.keeps a.keeps;
+  ok = ok r a.ok;
+  live = a.live;
+  over = λ was is fs h.
+      subst (λ (l : List Truths). IsOver l d0.table.budget) (sym (append_assoc ys xs fs))
+      (subst (λ (n : ℕ). IsOver (ys ++ (xs ++ fs)) n) s.budget (a.over s.live is (xs ++ fs) (s.holds fs h)));
+  refused = a.refused;
+  still = λ e was. absurd (s.was_live e was);
+}
+  where
+    ok : (r : Result NodeId BddError) → IfOk r (λ at. IsAsked d1 d2 ys f at) → IfOk r (λ at. IsAsked d0 d2 (ys ++ xs) f at)
+    ok (Err e) k = tt
+    ok (Ok at) k = record {
+      node = k.node;
+      is = k.is;
+      holds = λ fs h. subst (λ (l : List Truths). Holds l d2.table) (sym (append_assoc ys xs fs)) (k.holds (xs ++ fs) (s.holds fs h));
+      within = λ fs h o.
+          k.within (xs ++ fs) (s.holds fs h)
+          (subst (λ (n : ℕ). IsOver (ys ++ (xs ++ fs)) n) (sym s.budget)
+          (subst (λ (l : List Truths). IsOver l d0.table.budget) (append_assoc ys xs fs) o));
     }
 
-    pub next_function : function d2 b ≡ denoted d0.vars (functions_of d0 bound) r
-    next_function = q.ok.is ∙ denoted_same d0 d1 bound r s.vars s.keeps all
+same_answer : (d0 d1 : Diagram) (xs ys : List Truths) (f g : Truths) (r : Result NodeId BddError) → xs ≡ ys → f ≡ g → IsAnswer d0 d1 xs f r → IsAnswer d0 d1 ys g r
+same_answer d0 d1 xs ys f g r e h a =
+    subst (λ (l : List Truths). IsAnswer d0 d1 l g r) e (subst (λ (t : Truths). IsAnswer d0 d1 xs t r) h a)
 
-    pub next_kept : (a : ℕ) (f : Truths) → a < length d1.lists → function d1 a ≡ f → function d2 a ≡ f
-    next_kept a f within is = (q.keeps a within).1 ∙ is
-
--- the question itself
-pub asked_last : (d0 d2 d3 : Lists) (asked : List Truths) (f g : Truths) (r : Result ℕ Refusal) → SoFar d0 d2 asked → f ≡ g → IfOk r (λ at. IsAsked d2 d3 f at) → IfOk r (λ at. AreAsked d0 d3 (g ∷ asked) g at)
-asked_last d0 d2 d3 asked f g (Ok at) s e k = record {
-  within = k.within;
-  is = k.is ∙ e;
-  holds = λ fs h. subst (λ (t : Truths). Holds (t ∷ (asked ++ fs)) d3) e (k.holds (asked ++ fs) (s.holds fs h));
+-- a refusal, where more was to be asked
+pub wider : (d0 d1 : Diagram) (xs ys : List Truths) (f g : Truths) (e : BddError) → ((x : Truths) → Contains xs x → Contains ys x)
+    → IsAnswer d0 d1 xs f (Err e) → IsAnswer d0 d1 ys g (Err e)
+wider d0 d1 xs ys f g e sub a = record {
+  vars = a.vars;
+  budget = a.budget;
+  keeps = a.keeps;
+  ok = tt;
+  live = tt;
+  over = λ was is fs h. over_sub (xs ++ fs) (ys ++ fs) d0.table.budget (λ x c. front x fs (Contains-append_cases xs fs x c)) (a.over was is fs h);
+  refused = a.refused;
+  still = a.still;
 }
-asked_last d0 d2 d3 asked f g (Err x) s e k = tt
+  where
+    front : (x : Truths) (fs : List Truths) → (Contains xs x ⊎ Contains fs x) → Contains (ys ++ fs) x
+    front x fs (inl c) = Contains-append_left ys fs x (sub x c)
+    front x fs (inr c) = Contains-append_right ys fs x c
 
-pub over_last : (d0 d2 : Lists) (asked : List Truths) (f g : Truths) (fs : List Truths) → SoFar d0 d2 asked → f ≡ g → ((gs : List Truths) → Holds gs d2 → IsOver (f ∷ gs) d2.budget) → Holds fs d0 → IsOver ((g ∷ asked) ++ fs) d0.budget
-over_last d0 d2 asked f g fs s e over h =
-    subst (λ (t : Truths). IsOver (t ∷ (asked ++ fs)) d0.budget) e (subst (λ (n : ℕ). IsOver (f ∷ (asked ++ fs)) n) s.budget (over (asked ++ fs) (s.holds fs h)))
+module _ (d0 : Diagram) (bound : List NodeId) (all : All (λ a. IsNode d0 a) bound) where
+  -- the answer for a second expression
+  after_of : (d1 d2 : Diagram) (xs : List Truths) (e : Expression) → SoFar d0 d1 xs → (r : Result NodeId BddError) → IsAnswerOf d1 d2 bound e r
+      → IsAnswer d0 d2 (Asks d0 bound e ++ xs) (Denotes d0 bound e) r
+  after_of d1 d2 xs e s r a =
+      let same = same_functions d0 d1 bound s.keeps all in
+      let asks : Asks d1 bound e ≡ Asks d0 bound e = λ j. asked_of (s.vars j) (same j) e in
+      let denotes : Denotes d1 bound e ≡ Denotes d0 bound e = λ j. denoted (s.vars j) (same j) e in
+      after d0 d1 d2 xs (Asks d0 bound e) (Denotes d0 bound e) s r
+      (same_answer d1 d2 (Asks d1 bound e) (Asks d0 bound e) (Denotes d1 bound e) (Denotes d0 bound e) r asks denotes a)
 
--- with more asked before and after
-pub over_wider : (d front back : List Truths) (fs : List Truths) (budget : ℕ) → IsOver (back ++ fs) budget → IsOver ((d ++ (front ++ back)) ++ fs) budget
-over_wider d front back fs budget o =
-    subst (λ (l : List Truths). IsOver l budget) (sym (append_assoc d (front ++ back) fs)) (over_front d ((front ++ back) ++ fs) budget
-    (subst (λ (l : List Truths). IsOver l budget) (sym (append_assoc front back fs)) (over_front front (back ++ fs) budget o)))
+  -- the last question
+  last : (d1 d2 : Diagram) (xs : List Truths) (f g : Truths) → SoFar d0 d1 xs → f ≡ g → (r : Result NodeId BddError) → IsAnswer d1 d2 (f ∷ []) f r → IsAnswer d0 d2 (g ∷ xs) g r
+  last d1 d2 xs f g s e r a = after d0 d1 d2 xs (g ∷ []) g s r (same_answer d1 d2 (f ∷ []) (g ∷ []) f g r (λ j. e j ∷ []) e a)
 
-abbrev pub wrong : Refusal → Result ℕ Refusal
-wrong r = Err r
+  pub opposite_answer : (d1 d2 : Diagram) (e : Expression) (a : NodeId) (r : Result NodeId BddError) → IsAnswerOf d0 d1 bound e (Ok a)
+      → IsAnswer d1 d2 (gate_of Nand (function_of d1 a) (function_of d1 a) ∷ []) (gate_of Nand (function_of d1 a) (function_of d1 a)) r
+      → IsAnswerOf d0 d2 bound (inverse e) r
+  opposite_answer d1 d2 e a r p q =
+      last d1 d2 (Asks d0 bound e) _ (Denotes d0 bound (inverse e)) (first d0 d1 (Asks d0 bound e) _ a p) (λ j. gate_of Nand (p.ok.is j) (p.ok.is j)) r q
 
-pub is_budget : (a : Refusal) → a ≡ Budget → wrong a ≡ wrong Budget
-is_budget a e = ap wrong e
+  pub pair_answer : (d1 d2 d3 : Diagram) (g : Gate) (l e : Expression) (a b : NodeId) (r : Result NodeId BddError) → IsAnswerOf d0 d1 bound l (Ok a)
+      → IsAnswerOf d1 d2 bound e (Ok b)
+      → IsAnswer d2 d3 (gate_of g (function_of d2 a) (function_of d2 b) ∷ []) (gate_of g (function_of d2 a) (function_of d2 b)) r
+      → IsAnswerOf d0 d3 bound (pair g l e) r
+  pair_answer d1 d2 d3 g l e a b r p n q =
+      let xs = Asks d0 bound l in
+      let m : IsAnswer d0 d2 (Asks d0 bound e ++ xs) (Denotes d0 bound e) (Ok b) = after_of d1 d2 xs e (first d0 d1 xs _ a p) (Ok b) n in
+      let x : function_of d2 a ≡ Denotes d0 bound l = (n.keeps a p.ok.node).1 ∙ p.ok.is in
+      last d2 d3 (Asks d0 bound e ++ xs) _ (Denotes d0 bound (pair g l e)) (first d0 d2 (Asks d0 bound e ++ xs) _ b m) (λ j. gate_of g (x j) (m.ok.is j)) r q
+
+  -- the answer of a second one after a first
+  second : (d1 d2 : Diagram) (l e : Expression) (a : NodeId) (r : Result NodeId BddError) → IsAnswerOf d0 d1 bound l (Ok a) → IsAnswerOf d1 d2 bound e r
+      → IsAnswer d0 d2 (Asks d0 bound e ++ Asks d0 bound l) (Denotes d0 bound e) r
+  second d1 d2 l e a r p n = after_of d1 d2 (Asks d0 bound l) e (first d0 d1 (Asks d0 bound l) _ a p) r n
+
+  -- of a third one after two
+  third : (d1 d2 d3 : Diagram) (c l e : Expression) (s a : NodeId) (r : Result NodeId BddError) → IsAnswerOf d0 d1 bound c (Ok s)
+      → IsAnswerOf d1 d2 bound l (Ok a) → IsAnswerOf d2 d3 bound e r
+      → IsAnswer d0 d3 (Asks d0 bound e ++ (Asks d0 bound l ++ Asks d0 bound c)) (Denotes d0 bound e) r
+  third d1 d2 d3 c l e s a r p n m =
+      after_of d2 d3 (Asks d0 bound l ++ Asks d0 bound c) e
+      (first d0 d2 (Asks d0 bound l ++ Asks d0 bound c) _ a (second d1 d2 c l s (Ok a) p n)) r m
+
+  pub choice_answer : (d1 d2 d3 d4 : Diagram) (c l e : Expression) (s a b : NodeId) (r : Result NodeId BddError) → IsAnswerOf d0 d1 bound c (Ok s)
+      → IsAnswerOf d1 d2 bound l (Ok a) → IsAnswerOf d2 d3 bound e (Ok b)
+      → IsAnswer d3 d4 (choice_of (function_of d3 s) (function_of d3 a) (function_of d3 b) ∷ []) (choice_of (function_of d3 s) (function_of d3 a) (function_of d3 b)) r
+      → IsAnswerOf d0 d4 bound (choice c l e) r
+  choice_answer d1 d2 d3 d4 c l e s a b r p n m q =
+      let xs = Asks d0 bound e ++ (Asks d0 bound l ++ Asks d0 bound c) in
+      let y = second d1 d2 c l s (Ok a) p n in
+      let z = third d1 d2 d3 c l e s a (Ok b) p n m in
+      let kept = keeps_then d1 d2 d3 n.keeps m.keeps in
+      let is_s : function_of d3 s ≡ Denotes d0 bound c = (kept s p.ok.node).1 ∙ p.ok.is in
+      let is_a : function_of d3 a ≡ Denotes d0 bound l = (m.keeps a y.ok.node).1 ∙ y.ok.is in
+      last d3 d4 xs _ (Denotes d0 bound (choice c l e)) (first d0 d3 xs _ b z) (λ j. choice_of (is_s j) (is_a j) (z.ok.is j)) r q
+
+  -- where an operand is refused, the whole is
+  pub opposite_refused : (d1 : Diagram) (e : Expression) (x : BddError) → IsAnswerOf d0 d1 bound e (Err x) → IsAnswerOf d0 d1 bound (inverse e) (Err x)
+  opposite_refused d1 e x p =
+      wider d0 d1 (Asks d0 bound e) (Asks d0 bound (inverse e)) _ _ x
+      (λ f c. Contains-append_right (Denotes d0 bound (inverse e) ∷ []) (Asks d0 bound e) f c) p
+
+  pub first_refused : (d1 : Diagram) (g : Gate) (l e : Expression) (x : BddError) → IsAnswerOf d0 d1 bound l (Err x) → IsAnswerOf d0 d1 bound (pair g l e) (Err x)
+  first_refused d1 g l e x p =
+      wider d0 d1 (Asks d0 bound l) (Asks d0 bound (pair g l e)) _ _ x
+      (λ f c. Contains-append_right (Denotes d0 bound (pair g l e) ∷ Asks d0 bound e) (Asks d0 bound l) f c) p
+
+  pub second_refused : (d1 d2 : Diagram) (g : Gate) (l e : Expression) (a : NodeId) (x : BddError) → IsAnswerOf d0 d1 bound l (Ok a)
+      → IsAnswerOf d1 d2 bound e (Err x) → IsAnswerOf d0 d2 bound (pair g l e) (Err x)
+  second_refused d1 d2 g l e a x p n =
+      wider d0 d2 (Asks d0 bound e ++ Asks d0 bound l) (Asks d0 bound (pair g l e)) _ _ x
+      (λ f c. Contains-append_right (Denotes d0 bound (pair g l e) ∷ []) (Asks d0 bound e ++ Asks d0 bound l) f c)
+      (second d1 d2 l e a (Err x) p n)
+
+  pub condition_refused : (d1 : Diagram) (c l e : Expression) (x : BddError) → IsAnswerOf d0 d1 bound c (Err x) → IsAnswerOf d0 d1 bound (choice c l e) (Err x)
+  condition_refused d1 c l e x p =
+      wider d0 d1 (Asks d0 bound c) (Asks d0 bound (choice c l e)) _ _ x
+      (λ f k. Contains-append_right (Denotes d0 bound (choice c l e) ∷ Asks d0 bound e) (Asks d0 bound l ++ Asks d0 bound c) f
+      (Contains-append_right (Asks d0 bound l) (Asks d0 bound c) f k)) p
+
+  pub one_refused : (d1 d2 : Diagram) (c l e : Expression) (s : NodeId) (x : BddError) → IsAnswerOf d0 d1 bound c (Ok s)
+      → IsAnswerOf d1 d2 bound l (Err x) → IsAnswerOf d0 d2 bound (choice c l e) (Err x)
+  one_refused d1 d2 c l e s x p n =
+      wider d0 d2 (Asks d0 bound l ++ Asks d0 bound c) (Asks d0 bound (choice c l e)) _ _ x
+      (λ f k. Contains-append_right (Denotes d0 bound (choice c l e) ∷ Asks d0 bound e) (Asks d0 bound l ++ Asks d0 bound c) f k)
+      (second d1 d2 c l s (Err x) p n)
+
+  pub other_refused : (d1 d2 d3 : Diagram) (c l e : Expression) (s a : NodeId) (x : BddError) → IsAnswerOf d0 d1 bound c (Ok s)
+      → IsAnswerOf d1 d2 bound l (Ok a) → IsAnswerOf d2 d3 bound e (Err x) → IsAnswerOf d0 d3 bound (choice c l e) (Err x)
+  other_refused d1 d2 d3 c l e s a x p n m =
+      wider d0 d3 (Asks d0 bound e ++ (Asks d0 bound l ++ Asks d0 bound c)) (Asks d0 bound (choice c l e)) _ _ x
+      (λ f k. Contains-append_right (Denotes d0 bound (choice c l e) ∷ []) (Asks d0 bound e ++ (Asks d0 bound l ++ Asks d0 bound c)) f k)
+      (third d1 d2 d3 c l e s a (Err x) p n m)

@@ -3,7 +3,7 @@ use Rattle.std.proofs.Common.{◌≡◌, ℕ, zero, suc, ◌+◌, ◌-◌, ◌<�
 use Rattle.std.specs.List.{Contains, slice_index_or}
 use Rattle.std.proofs.lemmas.List.{get_or_default}
 use Rattle.std.proofs.lemmas.Option.{slice_get-get_or}
-use Rattle.bdd_core.specs.declared.Node.{Node}
+use Rattle.bdd_core.specs.declared.node.Node.{Node}
 use Rattle.bdd_core.specs.Truths.{Truths, constant, IsPart, IsUneven}
 use Rattle.bdd_core.specs.Nodes.{raised_to, height, place, meaning, IsSound, AreSound, Lists, IsWhole}
 use Rattle.bdd_core.proofs.Raised.{part-raised_to, raised_to-injective}

@@ -5,11 +5,12 @@ use Rattle.std.proofs.lemmas.List.Elements.{Contains-append_cases, Contains-appe
 use Rattle.bdd_core.specs.Truths.{Truths, constant, IsPart, IsUneven, IsCounted, IsDistinct, IsCountOf, IsOver}
 use Rattle.bdd_core.specs.Nodes.{raised_to, place, Lists, IsWhole}
 use Rattle.bdd_core.specs.Combined.{Grown, IsOverBy, IsOutcome, AreFrom, combined, combined_at}
-use Rattle.bdd_core.specs.declared.table.Refusal.{Refusal}
-use Rattle.bdd_core.specs.declared.table.Refusal.TheVariants.{Budget}
+use Rattle.bdd_core.specs.declared.node.BddError.{BddError}
+use Rattle.bdd_core.specs.declared.node.BddError.TheVariants.{Budget}
 use Rattle.bdd_core.specs.declared.operators.Operator.{Operator}
 use Rattle.bdd_core.specs.declared.operators.Triple.{Triple}
-use Rattle.bdd_core.specs.Counting.{function, Holds, Keeps, IsAsked}
+use Rattle.bdd_core.specs.Counting.{function, Holds}
+use Rattle.bdd_core.proofs.Standing.{KeepsPlaces, Stands}
 use Rattle.bdd_core.proofs.Raised.{part-raised_to}
 use Rattle.bdd_core.proofs.Closing.{place_in, at_place}
 use Rattle.bdd_core.proofs.Pushing.{place-kept}
@@ -143,7 +144,7 @@ holds_none d e = record {
         by (suc zero) w is = subst IsUneven (sym is) uneven
         by (suc (suc i)) w is = omega arith
 
-pub keeps_grown : (d0 d1 : Lists) (f : Truths) → d1.vars ≡ d0.vars → Grown d0.lists d1.lists f → Keeps d0 d1
+pub keeps_grown : (d0 d1 : Lists) (f : Truths) → d1.vars ≡ d0.vars → Grown d0.lists d1.lists f → KeepsPlaces d0 d1
 keeps_grown d0 d1 f vars g i within = (
   omega (arith, ap length g.grown, length-append d0.lists g.more),
   (λ j. raised_to (vars j) (place d1.lists i)) ∙ ap (λ (t : Truths). raised_to d0.vars t) (ap (λ (l : List Truths). place l i) g.grown ∙ place-kept d0.lists g.more i within),
@@ -163,7 +164,7 @@ are_first d k w x y z = record {
 }
 
 pub asked_is : (o : Operator) (d0 d1 : Lists) (k : Triple) (at : ℕ) → IsWhole d1 → d1.vars ≡ d0.vars
-    → IsOutcome d0.vars d0.budget d0.lists d1.lists 0 (combined_at o d0.vars d0.lists 0 k) (Ok at) → IsAsked d0 d1 (combined o (function d0 k.x) (function d0 k.y) (function d0 k.z)) at
+    → IsOutcome d0.vars d0.budget d0.lists d1.lists 0 (combined_at o d0.vars d0.lists 0 k) (Ok at) → Stands d0 d1 (combined o (function d0 k.x) (function d0 k.y) (function d0 k.z)) at
 asked_is o d0 d1 k at w vars out =
     let e : d0.vars - 0 ≡ d0.vars = omega arith in
     let is : function d1 at ≡ combined o (function d0 k.x) (function d0 k.y) (function d0 k.z) =
@@ -175,7 +176,7 @@ asked_is o d0 d1 k at w vars out =
       holds = λ fs h. holds_asked d0 d1 _ fs at w g out.ok.from_on.within is h;
     }
 
-pub over_asked : (o : Operator) (d0 d1 : Lists) (k : Triple) (r : Refusal) (fs : List Truths) → IsWhole d1
+pub over_asked : (o : Operator) (d0 d1 : Lists) (k : Triple) (r : BddError) (fs : List Truths) → IsWhole d1
     → IsOutcome d0.vars d0.budget d0.lists d1.lists 0 (combined_at o d0.vars d0.lists 0 k) (Err r) → r ≡ Budget → Holds fs d0
     → IsOver (combined o (function d0 k.x) (function d0 k.y) (function d0 k.z) ∷ fs) d0.budget
 over_asked o d0 d1 k r fs w out b h =

@@ -10,7 +10,7 @@ use Rattle.bdd_core.specs.Combined.{operator_value, combined}
 use Rattle.bdd_core.specs.Asked.{denoted}
 use Rattle.bdd_core.proofs.Single.{even}
 
-combined_is : (o : Operator) (n : ℕ) (f g h : List Bool → Bool) → combined o (truths n f) (truths n g) (truths n h) ≡ truths n (λ w. operator_value o (f w) (g w) (h w))
+pub combined_is : (o : Operator) (n : ℕ) (f g h : List Bool → Bool) → combined o (truths n f) (truths n g) (truths n h) ≡ truths n (λ w. operator_value o (f w) (g w) (h w))
 combined_is o zero f g h = refl
 combined_is o (suc n) f g h =
     let low = combined_is o n (λ w. f (false ∷ w)) (λ w. g (false ∷ w)) (λ w. h (false ∷ w)) in

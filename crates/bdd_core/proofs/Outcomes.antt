@@ -1,8 +1,8 @@
 -- What one turn of the recursion leaves.
 use Rattle.std.proofs.Common.{◌≡◌, ℕ, ◌+◌, ◌-◌, ◌≤◌, ◌⊎◌, inl, inr, List, ◌++◌, Result, Ok, Err, sym, ap, subst, ◌∙◌, arith}
 use Rattle.std.specs.List.{Contains}
-use Rattle.bdd_core.specs.declared.table.Refusal.{Refusal}
-use Rattle.bdd_core.specs.declared.table.Refusal.TheVariants.{Budget}
+use Rattle.bdd_core.specs.declared.node.BddError.{BddError}
+use Rattle.bdd_core.specs.declared.node.BddError.TheVariants.{Budget}
 use Rattle.bdd_core.specs.declared.operators.Operator.{Operator}
 use Rattle.bdd_core.specs.declared.operators.Triple.{Triple}
 use Rattle.bdd_core.specs.Truths.{Truths, halves, IsPart}
@@ -28,7 +28,7 @@ module _ (o : Operator) (d0 : Lists) (v : ℕ) (k k0 k1 : Triple) (l : IsLeast d
   into : (from : ℕ) → from ≤ v → (t : Truths) → IsPart t (halves (combined_at o d0.vars d0.lists (v + 1) k0) (combined_at o d0.vars d0.lists (v + 1) k1)) → IsPart t (combined_at o d0.vars d0.lists from k)
   into from early t part = subst (λ (f : Truths). IsPart t f) (sym (whole from early)) (part-in_raised (v - from) _ t part)
 
-  pub err_low : (from : ℕ) → from ≤ v → (new : List Truths) (e : Refusal) → IsOutcome d0.vars d0.budget d0.lists new (v + 1) (combined_at o d0.vars d0.lists (v + 1) k0) (Err e)
+  pub err_low : (from : ℕ) → from ≤ v → (new : List Truths) (e : BddError) → IsOutcome d0.vars d0.budget d0.lists new (v + 1) (combined_at o d0.vars d0.lists (v + 1) k0) (Err e)
       → IsOutcome d0.vars d0.budget d0.lists new from (combined_at o d0.vars d0.lists from k) (Err e)
   err_low from early new e was = record {
     grown = grown-part d0.lists new _ _ (λ t q. into from early t (inr (inl q))) was.grown;
@@ -48,14 +48,14 @@ module _ (o : Operator) (d0 : Lists) (v : ℕ) (k k0 k1 : Triple) (l : IsLeast d
     grown1 : (from : ℕ) → from ≤ v → Grown d0.lists d1.lists (combined_at o d0.vars d0.lists from k)
     grown1 from early = grown-part d0.lists d1.lists _ _ (λ t q. into from early t (inr (inl q))) o0.grown
 
-    as_high : (new : List Truths) (r : Result ℕ Refusal) → IsOutcome d1.vars d1.budget d1.lists new (v + 1) (combined_at o d1.vars d1.lists (v + 1) k1) r
+    as_high : (new : List Truths) (r : Result ℕ BddError) → IsOutcome d1.vars d1.budget d1.lists new (v + 1) (combined_at o d1.vars d1.lists (v + 1) k1) r
         → IsOutcome d0.vars d0.budget d1.lists new (v + 1) (combined_at o d0.vars d0.lists (v + 1) k1) r
     as_high new r was =
         subst (λ (f : Truths). IsOutcome d0.vars d0.budget d1.lists new (v + 1) f r) same_high
         (subst (λ (b : ℕ). IsOutcome d0.vars b d1.lists new (v + 1) (combined_at o d1.vars d1.lists (v + 1) k1) r) budget1
         (subst (λ (n : ℕ). IsOutcome n d1.budget d1.lists new (v + 1) (combined_at o d1.vars d1.lists (v + 1) k1) r) vars1 was))
 
-    pub err_high : (from : ℕ) → from ≤ v → (new : List Truths) (e : Refusal) → IsOutcome d1.vars d1.budget d1.lists new (v + 1) (combined_at o d1.vars d1.lists (v + 1) k1) (Err e)
+    pub err_high : (from : ℕ) → from ≤ v → (new : List Truths) (e : BddError) → IsOutcome d1.vars d1.budget d1.lists new (v + 1) (combined_at o d1.vars d1.lists (v + 1) k1) (Err e)
         → IsOutcome d0.vars d0.budget d0.lists new from (combined_at o d0.vars d0.lists from k) (Err e)
     err_high from early new e was =
         let w = as_high new (Err e) was in
@@ -93,7 +93,7 @@ module _ (o : Operator) (d0 : Lists) (v : ℕ) (k k0 k1 : Triple) (l : IsLeast d
       made_into : (from : ℕ) → from ≤ v → (t : Truths) → IsPart t (joined d2.vars d2.lists v low high) → IsPart t (combined_at o d0.vars d0.lists from k)
       made_into from early t q = into from early t (subst (λ (f : Truths). IsPart t f) joins q)
 
-      pub err_made : (from : ℕ) → from ≤ v → (new : List Truths) (e : Refusal) → new ≡ d2.lists → (e ≡ Budget → IsFull d2 v low high)
+      pub err_made : (from : ℕ) → from ≤ v → (new : List Truths) (e : BddError) → new ≡ d2.lists → (e ≡ Budget → IsFull d2 v low high)
           → IsOutcome d0.vars d0.budget d0.lists new from (combined_at o d0.vars d0.lists from k) (Err e)
       err_made from early new e same full = subst (λ (ls : List Truths). IsOutcome d0.vars d0.budget d0.lists ls from (combined_at o d0.vars d0.lists from k) (Err e)) (sym same) (record {
         grown = grown2 from early;
@@ -127,7 +127,7 @@ module _ (o : Operator) (d0 : Lists) (v : ℕ) (k k0 k1 : Triple) (l : IsLeast d
         pub outcome_ok : (from : ℕ) → from ≤ v → IsOutcome d0.vars d0.budget d0.lists d3.lists from (combined_at o d0.vars d0.lists from k) (Ok at)
         outcome_ok from early = record { grown = grown3 from early; ok = is_place from early; over = tt }
 
-        pub outcome_memory : (from : ℕ) → from ≤ v → (e : Refusal) → (e ≡ Budget → ⊥) → IsOutcome d0.vars d0.budget d0.lists d3.lists from (combined_at o d0.vars d0.lists from k) (Err e)
+        pub outcome_memory : (from : ℕ) → from ≤ v → (e : BddError) → (e ≡ Budget → ⊥) → IsOutcome d0.vars d0.budget d0.lists d3.lists from (combined_at o d0.vars d0.lists from k) (Err e)
         outcome_memory from early e not = record { grown = grown3 from early; ok = tt; over = λ b. absurd (not b) }
 
         back : (from : ℕ) → AreFrom d3.vars d3.lists from k → AreFrom d0.vars d0.lists from k

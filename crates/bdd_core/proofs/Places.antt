@@ -3,7 +3,7 @@ use Rattle.std.proofs.Common.{◌≡◌, ℕ, zero, suc, false, nat_eq, ◌+◌,
 use Rattle.std.specs.List.{slice_index_or, Contains}
 use Rattle.std.proofs.lemmas.Option.{slice_get_within, slice_get-get_or}
 use Rattle.std.proofs.Math.Seq.{get_or-append_seam}
-use Rattle.bdd_core.specs.declared.Node.{Node}
+use Rattle.bdd_core.specs.declared.node.Node.{Node}
 use Rattle.bdd_core.specs.Truths.{Truths, constant, halves, IsUneven}
 use Rattle.bdd_core.specs.Nodes.{raised_to, height, place, joined, meaning, lists_of, Lists, IsSon, AreSound, IsMade, IsFull}
 use Rattle.bdd_core.proofs.Raised.{height-raised_to, raised_to-suc, raised_to-itself}

@@ -5,7 +5,7 @@ use Rattle.std.proofs.lemmas.List.{get_or_append_left}
 use Rattle.std.proofs.lemmas.Option.{slice_get_within, get_or_from_slice_get, slice_get-get_or}
 use Rattle.std.proofs.Math.Seq.{get_or-append_seam}
 use Rattle.std.proofs.lemmas.Bool.{cases_lt}
-use Rattle.bdd_core.specs.declared.Node.{Node}
+use Rattle.bdd_core.specs.declared.node.Node.{Node}
 use Rattle.bdd_core.specs.Truths.{Truths, constant, halves, IsUneven}
 use Rattle.bdd_core.specs.Nodes.{raised_to, height, place, joined, meaning, lists_after, lists_of, IsSon, IsSound, AreSound}
 use Rattle.bdd_core.proofs.Raised.{IsReduced, height-raised_to, raised_to-injective}

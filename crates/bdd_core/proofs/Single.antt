@@ -4,7 +4,8 @@ use Rattle.bool_expr.specs.Expression.{bit}
 use Rattle.bdd_core.specs.Truths.{Truths, constant, halves, truths, IsPart, IsOver}
 use Rattle.bdd_core.specs.Nodes.{raised, raised_to, height, place, joined, Lists, IsSon, IsMade, IsFull, IsWhole}
 use Rattle.bdd_core.specs.Combined.{Grown}
-use Rattle.bdd_core.specs.Counting.{function, Holds, Keeps, IsAsked}
+use Rattle.bdd_core.specs.Counting.{function, Holds}
+use Rattle.bdd_core.proofs.Standing.{KeepsPlaces, Stands}
 use Rattle.bdd_core.proofs.Raised.{part-itself, part-in_raised}
 use Rattle.bdd_core.proofs.Combining.{from_earlier, grown-made, grown-part, grown-none}
 use Rattle.bdd_core.proofs.Counts.{holds_asked, over_is, keeps_grown}
@@ -23,7 +24,7 @@ single (suc k) r =
     ap (λ (n : ℕ). truths n (λ w. bit w (suc k))) e ∙ (λ j. halves (single k r j) (single k r j))
 
 -- a constant over all variables
-constant_to : (h : ℕ) (t : Truths) (b : Bool) → t ≡ constant b → raised_to h t ≡ raised h (constant b)
+pub constant_to : (h : ℕ) (t : Truths) (b : Bool) → t ≡ constant b → raised_to h t ≡ raised h (constant b)
 unfolding raised_to
 constant_to h t b e = let z : h - 0 ≡ h = omega arith in ap (λ (t : Truths). raised (h - height t) t) e ∙ ap (λ (n : ℕ). raised n (constant b)) z
 
@@ -45,14 +46,14 @@ grown_variable : (d0 d1 : Lists) (k low high at : ℕ) → k < d0.vars → place
     → Grown d0.lists d1.lists (truths d0.vars (λ w. bit w k))
 grown_variable d0 d1 k low high at within z o m = grown-part d0.lists d1.lists _ _ (into d0 k low high within z o) (grown-made d0 d1 k low high at m)
 
-pub variable_keeps : (d0 d1 : Lists) (k low high at : ℕ) → k < d0.vars → place d0.lists low ≡ constant false → place d0.lists high ≡ constant true → IsMade d0 d1 k low high at → d1.vars ≡ d0.vars → Keeps d0 d1
+pub variable_keeps : (d0 d1 : Lists) (k low high at : ℕ) → k < d0.vars → place d0.lists low ≡ constant false → place d0.lists high ≡ constant true → IsMade d0 d1 k low high at → d1.vars ≡ d0.vars → KeepsPlaces d0 d1
 variable_keeps d0 d1 k low high at within z o m vars = keeps_grown d0 d1 _ vars (grown_variable d0 d1 k low high at within z o m)
 
-pub keeps_same : (d0 d1 : Lists) → d1.vars ≡ d0.vars → d1.lists ≡ d0.lists → Keeps d0 d1
+pub keeps_same : (d0 d1 : Lists) → d1.vars ≡ d0.vars → d1.lists ≡ d0.lists → KeepsPlaces d0 d1
 keeps_same d0 d1 vars lists = keeps_grown d0 d1 (constant false) vars (subst (λ (l : List Truths). Grown d0.lists l (constant false)) (sym lists) (grown-none d0.lists (constant false)))
 
 pub variable_asked : (d0 d1 : Lists) (k low high at : ℕ) → k < d0.vars → place d0.lists low ≡ constant false → place d0.lists high ≡ constant true → IsMade d0 d1 k low high at
-    → d1.vars ≡ d0.vars → IsWhole d1 → IsAsked d0 d1 (truths d0.vars (λ w. bit w k)) at
+    → d1.vars ≡ d0.vars → IsWhole d1 → Stands d0 d1 (truths d0.vars (λ w. bit w k)) at
 variable_asked d0 d1 k low high at within z o m vars w =
     let e : d0.vars - 0 ≡ d0.vars = omega arith in
     let k0 : k - 0 ≡ k = omega arith in
@@ -77,12 +78,9 @@ variable_over d0 d1 k low high fs within z o f w h =
       absent = f.absent;
     }) h
 
-pub asked_again : (d : Lists) (at : ℕ) → IsWhole d → at < length d.lists → IsAsked d d (function d at) at
-asked_again d at w within = record {
+pub stands_again : (d : Lists) (at : ℕ) → IsWhole d → at < length d.lists → Stands d d (function d at) at
+stands_again d at w within = record {
   within = within;
   is = refl;
   holds = λ fs h. holds_asked d d (function d at) fs at w (grown-none d.lists (function d at)) within refl h;
 }
-
-pub asked_constant : (d : Lists) (at : ℕ) (b : Bool) → place d.lists at ≡ constant b → IsAsked d d (function d at) at → IsAsked d d (raised d.vars (constant b)) at
-asked_constant d at b is a = subst (λ (f : Truths). IsAsked d d f at) (constant_to d.vars (place d.lists at) b is) a

@@ -38,7 +38,9 @@ IsDistinct (x ∷ xs) = (Contains xs x → ⊥) × IsDistinct xs
 
 -- exactly those of a list without repetition
 abbrev pub HasCounted : List Truths → List Truths → Type 0
-HasCounted functions xs = IsDistinct xs × ((x : Truths) → Contains xs x → IsCounted functions x) × ((x : Truths) → IsCounted functions x → Contains xs x)
+HasCounted functions xs =
+    IsDistinct xs × ((x : Truths) → Contains xs x → IsCounted functions x)
+    × ((x : Truths) → IsCounted functions x → Contains xs x)
 
 -- how many are counted
 abbrev pub IsCountOf : List Truths → ℕ → Type 0
@@ -46,4 +48,5 @@ IsCountOf functions n = (xs : List Truths) × HasCounted functions xs × (length
 
 -- more are counted than the budget
 abbrev pub IsOver : List Truths → ℕ → Type 0
-IsOver functions budget = (xs : List Truths) × IsDistinct xs × ((x : Truths) → Contains xs x → IsCounted functions x) × (budget < length xs)
+IsOver functions budget =
+    (xs : List Truths) × IsDistinct xs × ((x : Truths) → Contains xs x → IsCounted functions x) × (budget < length xs)

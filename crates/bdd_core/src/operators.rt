@@ -3,20 +3,21 @@ ghost use Rattle.std.specs.Prelude.{◌≡◌, ℕ, ◌+◌, ◌≤◌, ◌<◌,
 ghost use Rattle.std.specs.List.{Contains};
 ghost use Rattle.bdd_core.specs.Combined.{operator_value, combined_at, AreFrom, AreKnown, IsPlaceOf, IsParted, IsOutcome};
 
-use crate::table::{Refusal, Table};
+use crate::node::BddError;
+use crate::table::Table;
 use bool_expr::Gate;
 use indexmap::IndexMap;
 
 /// What is made of the functions: a gate of the first two, or a choice of the second and the third by the first.
 #[derive(Clone, Copy)]
-pub enum Operator {
+pub(crate) enum Operator {
     Pair(Gate),
     Choice,
 }
 
 /// The places of three functions.
 #[derive(Clone, Copy, PartialEq, Eq, Hash)]
-pub struct Triple {
+pub(crate) struct Triple {
     pub x: usize,
     pub y: usize,
     pub z: usize,
@@ -44,13 +45,14 @@ fn recall(memo: &IndexMap<Triple, usize>, key: Triple) -> Option<usize>
     memo.get(&key).copied()
 }
 
-fn remember(memo: &mut IndexMap<Triple, usize>, key: Triple, at: usize) -> Result<(), Refusal>
-    ensures kind { IfErr result (λ e. e ≡ Refusal.Memory) }
-    ensures entries { (k : Triple) (b : ℕ) → Contains memo.new.entries (k, b) → Contains memo.old.entries (k, b) ⊎ (k ≡ key) × (b ≡ at) }
+fn remember(memo: &mut IndexMap<Triple, usize>, key: Triple, at: usize) -> Result<(), BddError>
+    ensures kind { IfErr result (λ e. e ≡ BddError.Memory) }
+    ensures entries { (k : Triple) (b : ℕ) → Contains memo.new.entries (k, b)
+        → Contains memo.old.entries (k, b) ⊎ (k ≡ key) × (b ≡ at) }
 {
     match memo.insert(key, at) {
         Ok(_) => Ok(()),
-        Err(_) => Err(Refusal::Memory),
+        Err(_) => Err(BddError::Memory),
     }
 }
 
@@ -95,7 +97,8 @@ fn parted(table: &Table, key: Triple, variable: u32) -> (Triple, Triple)
 fn settled(table: &Table, operator: Operator, key: Triple, from: u32) -> usize
     requires from { from ≤ table.now.vars }
     requires key { AreFrom table.now.vars table.now.lists table.now.vars key }
-    ensures { IsPlaceOf table.now.vars table.now.lists from (combined_at operator table.now.vars table.now.lists from key) result }
+    ensures { IsPlaceOf table.now.vars table.now.lists from
+        (combined_at operator table.now.vars table.now.lists from key) result }
 {
     let bit = operator_value(
         operator,
@@ -107,13 +110,13 @@ fn settled(table: &Table, operator: Operator, key: Triple, from: u32) -> usize
 }
 
 /// The node of what the operator gives. Each answer is kept, so that none is sought twice.
-pub fn combine(
+pub(crate) fn combine(
     table: &mut Table,
     memo: &mut IndexMap<Triple, usize>,
     operator: Operator,
     key: Triple,
     from: u32,
-) -> Result<usize, Refusal>
+) -> Result<usize, BddError>
     requires key { AreFrom table.old.vars table.old.lists from key }
     requires known { AreKnown operator table.old memo.old.entries }
     ensures vars { table.new.vars ≡ table.old.vars }

@@ -4,19 +4,10 @@ ghost use Rattle.std.specs.List.{Contains};
 ghost use Rattle.bdd_core.specs.Truths.{constant};
 ghost use Rattle.bdd_core.specs.Nodes.{height, raised_to, place, joined, IsSon, IsMade, IsFull, IsWhole};
 
-use crate::Node;
+use crate::node::{BddError, Node};
 use indexmap::IndexSet;
 use std::alloc::Global;
 use std::marker::Model;
-
-/// Why there is no node.
-#[derive(Clone, Copy, Drop)]
-pub enum Refusal {
-    /// More truth lists than the budget.
-    Budget,
-    /// No memory.
-    Memory,
-}
 
 fn find(nodes: &IndexSet<Node>, node: Node) -> Option<usize>
     ensures some { IfSome result (λ i. slice_get nodes.now.keys i ≡ Some node) }
@@ -25,21 +16,21 @@ fn find(nodes: &IndexSet<Node>, node: Node) -> Option<usize>
     nodes.get_index_of(&node)
 }
 
-fn add(nodes: &mut IndexSet<Node>, node: Node) -> Result<(), Refusal>
+fn add(nodes: &mut IndexSet<Node>, node: Node) -> Result<(), BddError>
     requires { Contains nodes.old.keys node → ⊥ }
     ensures ok { OnOk result (nodes.new.keys ≡ nodes.old.keys ++ node ∷ []) }
     ensures err { OnErr result (nodes.new.keys ≡ nodes.old.keys) }
-    ensures kind { IfErr result (λ e. e ≡ Refusal.Memory) }
+    ensures kind { IfErr result (λ e. e ≡ BddError.Memory) }
 {
     match nodes.insert_full(node) {
         Ok(_) => Ok(()),
-        Err(_) => Err(Refusal::Memory),
+        Err(_) => Err(BddError::Memory),
     }
 }
 
 /// The nodes of a diagram, the sons before those above them. Place 0 is the constant 0, and place 1 the constant 1.
 #[derive(Drop)]
-pub struct Table {
+pub(crate) struct Table {
     vars: u32,
     budget: u32,
     nodes: IndexSet<Node>,
@@ -129,7 +120,8 @@ impl Table {
         requires variable { variable < self.now.vars }
         ensures low { IsSon self.now.vars self.now.lists variable result.0 }
         ensures high { IsSon self.now.vars self.now.lists variable result.1 }
-        ensures joined { raised_to (self.now.vars - variable) (place self.now.lists at) ≡ joined self.now.vars self.now.lists variable result.0 result.1 }
+        ensures joined { raised_to (self.now.vars - variable) (place self.now.lists at)
+            ≡ joined self.now.vars self.now.lists variable result.0 result.1 }
     {
         let _ = &self.nodes;
         if at < 2 {
@@ -148,14 +140,14 @@ impl Table {
     }
 
     /// The node with these sons.
-    pub fn make(&mut self, variable: u32, low: usize, high: usize) -> Result<usize, Refusal>
+    pub fn make(&mut self, variable: u32, low: usize, high: usize) -> Result<usize, BddError>
         requires low { IsSon self.old.vars self.old.lists variable low }
         requires high { IsSon self.old.vars self.old.lists variable high }
         ensures vars { self.new.vars ≡ self.old.vars }
         ensures budget { self.new.budget ≡ self.old.budget }
         ensures ok { IfOk result (λ at. IsMade self.old self.new variable low high at) }
         ensures err { OnErr result (self.new.lists ≡ self.old.lists) }
-        ensures over { IfErr result (λ e. e ≡ Refusal.Budget → IsFull self.old variable low high) }
+        ensures over { IfErr result (λ e. e ≡ BddError.Budget → IsFull self.old variable low high) }
     {
         if low == high {
             return Ok(low);
@@ -170,7 +162,7 @@ impl Table {
             return Ok(found + 2);
         }
         if count >= self.budget as usize {
-            return Err(Refusal::Budget);
+            return Err(BddError::Budget);
         }
         add(&mut self.nodes, node)?;
         Ok(count + 2)

@@ -1,6 +1,6 @@
 use Rattle.std.proofs.Common.{◌≡◌, sym, ◌∙◌}
 use Rattle.std.proofs.lemmas.Result.{err_from_is_err_and}
-use Rattle.bdd_core.specs.declared.table.Refusal.TheVariants.{Budget, Memory}
+use Rattle.bdd_core.specs.declared.node.BddError.TheVariants.{Budget, Memory}
 use Rattle.bdd_core.proofs.Outcomes.{least_is, outcome_same, err_low, err_high, err_made, outcome_ok, outcome_memory, known_more, known_same}
 use Rattle.bdd_core.proofs.operators.+combine.Goals as goal
 

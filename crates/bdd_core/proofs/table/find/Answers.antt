@@ -3,8 +3,8 @@ use Rattle.std.proofs.lemmas.List.Quantifiers.{position-Some}
 use Rattle.std.proofs.lemmas.Option.{slice_get-get_or}
 use Rattle.std.specs.List.{slice_index_or}
 use Rattle.std.proofs.lemmas.Bool.{eqb-true}
-use Rattle.bdd_core.specs.declared.Node.{Node}
-use Rattle.bdd_core.specs.contracts.NodePartialEq.TheImpl.{eq-value}
+use Rattle.bdd_core.specs.declared.node.Node.{Node}
+use Rattle.bdd_core.specs.contracts.node.NodePartialEq.TheImpl.{eq-value}
 use Rattle.bdd_core.proofs.table.find.Goals as goal
 
 same : (a b : Node) → eq-value.it a b ≡ true → a ≡ b

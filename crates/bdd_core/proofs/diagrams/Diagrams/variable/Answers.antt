@@ -1,15 +1,17 @@
-use Rattle.std.proofs.Common.{◌≡◌}
-use Rattle.bdd_core.specs.declared.table.Refusal.TheVariants.{Budget}
-use Rattle.bdd_core.proofs.Single.{variable_asked, variable_over}
+use Rattle.bdd_core.proofs.Answering.{none_of, variable_ok, variable_err}
 use Rattle.bdd_core.proofs.diagrams.Diagrams.variable.Goals as goal
 
-pub returns-in-Ok-clause-ok : goal.returns-in-Ok-clause-ok
-returns-in-Ok-clause-ok c =
-    variable_asked c.args.self.now.table c.make-answer.new.self c.args.k c.constant-zero.result c.constant-one.result c.in-Ok.at c.requires
-    c.constant-zero.ensures.place c.constant-one.ensures.place c.in-Ok.ensures.ok c.make-answer.ensures.vars c.nodes-after.ensures.whole
+pub returns-in-Ok : goal.returns-in-Ok
+returns-in-Ok c =
+    let m = c.make-answer.ensures in
+    let n = c.nodes-after.ensures in
+    variable_ok c.self.inside.table c.make-answer.new.self c.self.inside.refused c.args.self.now c.self.view_is (none_of c.self.inside.refused c.in_default.not-Some) c.args.k
+    c.constant-zero.result c.constant-one.result c.requires c.constant-zero.ensures.place c.constant-one.ensures.place m.vars m.budget
+    c.in-Ok.place c.nodes-after.result c.in-Ok.ensures.ok n.whole n.count n.within
 
-pub returns-in-Err-clause-over : goal.returns-in-Err-clause-over
-returns-in-Err-clause-over c was is fs h =
-    let b : c.in-Err.refusal ≡ Budget = (cc) in
-    variable_over c.args.self.now.table c.make-answer.new.self c.args.k c.constant-zero.result c.constant-one.result fs c.requires
-    c.constant-zero.ensures.place c.constant-one.ensures.place (c.in-Err.ensures.over b) c.nodes-before.ensures.whole h
+pub returns-in-Err : goal.returns-in-Err
+returns-in-Err c =
+    let m = c.make-answer.ensures in
+    variable_err c.self.inside.table c.make-answer.new.self c.self.inside.refused c.args.self.now c.self.view_is (none_of c.self.inside.refused c.in_default.not-Some) c.args.k
+    c.constant-zero.result c.constant-one.result c.requires c.constant-zero.ensures.place c.constant-one.ensures.place m.vars m.budget
+    c.in-Err.refusal c.in-Err.ensures.err c.in-Err.ensures.over c.nodes-before.ensures.whole

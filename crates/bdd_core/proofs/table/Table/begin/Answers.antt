@@ -1,5 +1,5 @@
 use Rattle.std.proofs.Common.{◌≡◌, List, [], ◌∷◌, length, refl, ap, subst, sym, ◌∙◌, arith}
-use Rattle.bdd_core.specs.declared.Node.{Node}
+use Rattle.bdd_core.specs.declared.node.Node.{Node}
 use Rattle.bdd_core.specs.Nodes.{lists_of, AreSound}
 use Rattle.bdd_core.proofs.Pushing.{sound-none, lists_of-none}
 use Rattle.bdd_core.proofs.table.Table.begin.Goals as goal

@@ -1,7 +1,7 @@
 use Rattle.std.proofs.Common.{◌≡◌, ℕ, ◌+◌, ◌<◌, ◌≤◌, List, [], ◌∷◌, ◌++◌, length-append, arith, sym, ap, length, subst}
 use Rattle.std.proofs.lemmas.Option.{slice_get_within}
 use Rattle.bdd_core.specs.Nodes.{Lists, IsSon, IsMade, lists_of}
-use Rattle.bdd_core.specs.declared.Node.{Node}
+use Rattle.bdd_core.specs.declared.node.Node.{Node}
 use Rattle.bdd_core.proofs.Places.{opened, made_same, made_found, made_new, is_full, still_sound, table}
 use Rattle.bdd_core.proofs.table.Table.make.Goals as goal
 
