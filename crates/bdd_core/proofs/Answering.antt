@@ -1,5 +1,5 @@
 -- Answers, from what stands at places.
-use Rattle.std.proofs.Common.{◌≡◌, ℕ, ◌+◌, ◌-◌, ◌<◌, ◌≤◌, Bool, true, false, List, [], ◌∷◌, length, Option, None, Some, Result, Ok, Err, sym, ap, subst, ◌∙◌, arith}
+use Rattle.std.proofs.Common.{◌≡◌, ℕ, ◌+◌, ◌-◌, ◌<◌, ◌≤◌, Bool, true, false, List, [], ◌∷◌, length, Option, None, Some, Result, Ok, Err, sym, subst, ◌∙◌, arith}
 use Rattle.bdd_core.specs.declared.node.NodeId.{NodeId}
 use Rattle.bdd_core.specs.declared.node.BddError.{BddError}
 use Rattle.bdd_core.specs.declared.node.BddError.TheVariants.{Budget}
@@ -80,19 +80,6 @@ answer_err d0 d1 f e vars budget keeps over was now = record {
 
 keeps_itself : (d : Diagram) → Keeps d d
 keeps_itself d a w = (w, (λ j. function_of d a))
-
--- a refusal of each further question
-pub answer_still : (d : Diagram) (fs : List Truths) (f : Truths) (e : BddError) → d.refused ≡ Some e → IsAnswer d d fs f (Err e)
-answer_still d fs f e was = record {
-  vars = λ j. d.table.vars;
-  budget = λ j. d.table.budget;
-  keeps = keeps_itself d;
-  ok = tt;
-  live = tt;
-  over = λ live is gs h. absurd (none_some d.refused e live was);
-  refused = was;
-  still = λ x once. ap wrong (same_known e x (sym was ∙ once));
-}
 
 -- a node that was there
 pub answer_again : (d : Diagram) (a : NodeId) (n : ℕ) → IsNode d a → IsWhole d.table → n + 2 ≡ length d.table.lists → n ≤ d.table.budget → d.refused ≡ None

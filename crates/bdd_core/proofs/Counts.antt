@@ -4,7 +4,7 @@ use Rattle.std.specs.List.{Contains}
 use Rattle.std.proofs.lemmas.List.Elements.{Contains-append_cases, Contains-append_left, Contains-append_right, Contains-get_or}
 use Rattle.bdd_core.specs.Truths.{Truths, constant, IsPart, IsUneven, IsCounted, IsDistinct, IsCountOf, IsOver}
 use Rattle.bdd_core.specs.Nodes.{raised_to, place, Lists, IsWhole}
-use Rattle.bdd_core.specs.Combined.{Grown, IsOverBy, IsOutcome, AreFrom, combined, combined_at}
+use Rattle.bdd_core.specs.Combined.{Grown, IsOverBy, IsOutcome, combined, combined_at}
 use Rattle.bdd_core.specs.declared.node.BddError.{BddError}
 use Rattle.bdd_core.specs.declared.node.BddError.TheVariants.{Budget}
 use Rattle.bdd_core.specs.declared.operators.Operator.{Operator}
@@ -127,23 +127,6 @@ over_is d0 d1 budget f fs w g o h = (
         let p = rest_in d1.vars d1.budget d1.lists w x c in
         counted_grown d0 d1.lists f fs x g h p.0 p.1
 
-pub holds_none : (d : Lists) → d.lists ≡ constant false ∷ constant true ∷ [] → Holds [] d
-holds_none d e = record {
-  counted = λ x uneven c. absurd (only_constants x uneven (subst (λ (l : List Truths). Contains l x) e c));
-  complete = λ x c. absurd (nothing c.1.0 c.1.1);
-}
-  where
-    nothing : (f : Truths) → Contains [] f → ⊥
-    nothing f c = let w : c.0 < 0 = c.1 in omega arith
-
-    only_constants : (x : Truths) → IsUneven x → Contains (constant false ∷ (constant true ∷ [])) x → ⊥
-    only_constants x uneven c = by c.0 c.1 (at_place (constant false ∷ (constant true ∷ [])) x c)
-      where
-        by : (i : ℕ) → i < 2 → place (constant false ∷ (constant true ∷ [])) i ≡ x → ⊥
-        by zero w is = subst IsUneven (sym is) uneven
-        by (suc zero) w is = subst IsUneven (sym is) uneven
-        by (suc (suc i)) w is = omega arith
-
 pub keeps_grown : (d0 d1 : Lists) (f : Truths) → d1.vars ≡ d0.vars → Grown d0.lists d1.lists f → KeepsPlaces d0 d1
 keeps_grown d0 d1 f vars g i within = (
   omega (arith, ap length g.grown, length-append d0.lists g.more),
@@ -155,13 +138,6 @@ unfolding combined_at
 first_is o d k =
     let e : d.vars - 0 ≡ d.vars = omega arith in
     λ j. combined o (raised_to (e j) (place d.lists k.x)) (raised_to (e j) (place d.lists k.y)) (raised_to (e j) (place d.lists k.z))
-
-pub are_first : (d : Lists) (k : Triple) → IsWhole d → k.x < length d.lists → k.y < length d.lists → k.z < length d.lists → AreFrom d.vars d.lists 0 k
-are_first d k w x y z = record {
-  x = record { within = x; below = omega (arith, w.small k.x x) };
-  y = record { within = y; below = omega (arith, w.small k.y y) };
-  z = record { within = z; below = omega (arith, w.small k.z z) };
-}
 
 pub asked_is : (o : Operator) (d0 d1 : Lists) (k : Triple) (at : ℕ) → IsWhole d1 → d1.vars ≡ d0.vars
     → IsOutcome d0.vars d0.budget d0.lists d1.lists 0 (combined_at o d0.vars d0.lists 0 k) (Ok at) → Stands d0 d1 (combined o (function d0 k.x) (function d0 k.y) (function d0 k.z)) at

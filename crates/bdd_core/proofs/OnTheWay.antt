@@ -17,15 +17,6 @@ pub record IsOnTheWay (d : Lists) (start at v : ℕ) (bits : List Bool) : Type 0
   pub count : length bits ≡ v
   pub goes_on : (w : List Bool) → truth_at (function d start) (bits ++ w) ≡ truth_at (raised_to (d.vars - v) (place d.lists at)) w
 
-pub begun : (d : Lists) (start : ℕ) → IsWhole d → start < length d.lists → (place d.lists start ≡ constant false → ⊥) → IsOnTheWay d start start 0 []
-begun d start w within some = record {
-  within = within;
-  early = omega (arith, w.small start within);
-  some = some;
-  count = refl;
-  goes_on = λ rest. let z : d.vars - 0 ≡ d.vars = omega arith in ap (λ (n : ℕ). truth_at (raised_to n (place d.lists start)) rest) (sym z);
-}
-
 -- the way on, by the half for this bit
 step : (d : Lists) (start at v son : ℕ) (bits : List Bool) (b : Bool) → IsOnTheWay d start at v bits → v < d.vars → IsSon d.vars d.lists v son
     → (place d.lists son ≡ constant false → ⊥)

@@ -6,7 +6,7 @@ use Rattle.bdd_core.specs.declared.node.BddError.TheVariants.{Budget}
 use Rattle.bdd_core.specs.declared.operators.Operator.{Operator}
 use Rattle.bdd_core.specs.declared.operators.Triple.{Triple}
 use Rattle.bdd_core.specs.Truths.{Truths, halves, IsPart}
-use Rattle.bdd_core.specs.Nodes.{raised, raised_to, height, place, joined, Lists, IsSon, IsMade, IsFull}
+use Rattle.bdd_core.specs.Nodes.{raised, raised_to, height, place, joined, Lists, IsMade, IsFull}
 use Rattle.bdd_core.specs.Combined.{combined_at, AreFrom, Grown, IsPlaceOf, IsOverBy, IsKnown, AreKnown, IsParted, IsOutcome}
 use Rattle.bdd_core.proofs.Raised.{part-itself, part-in_raised}
 use Rattle.bdd_core.proofs.Combining.{combined_earlier, from_earlier, from-back, are-grown, known-grown, place_of-grown, combined-grown, grown-none, grown-part, grown-then, over-part, grown-made}
@@ -80,12 +80,6 @@ module _ (o : Operator) (d0 : Lists) (v : ℕ) (k k0 k1 : Triple) (l : IsLeast d
 
       same_vars : d2.vars ≡ d0.vars
       same_vars = vars2 ∙ vars1
-
-      pub low_son : IsSon d2.vars d2.lists v low
-      low_son = record { within = low2.from_on.within; below = omega (arith, low2.from_on.below, same_vars) }
-
-      pub high_son : IsSon d2.vars d2.lists v high
-      high_son = record { within = w1.ok.from_on.within; below = omega (arith, w1.ok.from_on.below, same_vars) }
 
       joins : joined d2.vars d2.lists v low high ≡ halves (combined_at o d0.vars d0.lists (v + 1) k0) (combined_at o d0.vars d0.lists (v + 1) k1)
       joins = ap (λ (n : ℕ). joined n d2.lists v low high) same_vars ∙ (λ j. halves (low2.is j) (w1.ok.is j))

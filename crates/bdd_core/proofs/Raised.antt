@@ -53,10 +53,6 @@ pub part-in_raised : (j : ℕ) (t x : Truths) → IsPart x t → IsPart x (raise
 part-in_raised zero t x part = part
 part-in_raised (suc j) t x part = inr (inl (part-in_raised j t x part))
 
-pub part-in_raised_to : (h : ℕ) (t x : Truths) → IsPart x t → IsPart x (raised_to h t)
-unfolding raised_to
-part-in_raised_to h t x part = part-in_raised (h - height t) t x part
-
 -- a list over fewer variables has equal halves
 pub raised_to-suc : (h : ℕ) (t : Truths) → height t ≤ h → raised_to (suc h) t ≡ halves (raised_to h t) (raised_to h t)
 unfolding raised_to

@@ -2,7 +2,7 @@
 use Rattle.std.proofs.Common.{◌≡◌, ℕ, zero, suc, ◌+◌, ◌-◌, ◌<◌, Bool, false, true, List, ◌∷◌, length, refl, sym, ap, subst, ◌∙◌, arith}
 use Rattle.bool_expr.specs.Expression.{bit}
 use Rattle.bdd_core.specs.Truths.{Truths, constant, halves, truths, IsPart, IsOver}
-use Rattle.bdd_core.specs.Nodes.{raised, raised_to, height, place, joined, Lists, IsSon, IsMade, IsFull, IsWhole}
+use Rattle.bdd_core.specs.Nodes.{raised, raised_to, height, place, joined, Lists, IsMade, IsFull, IsWhole}
 use Rattle.bdd_core.specs.Combined.{Grown}
 use Rattle.bdd_core.specs.Counting.{function, Holds}
 use Rattle.bdd_core.proofs.Standing.{KeepsPlaces, Stands}
@@ -34,9 +34,6 @@ variable_joined d k low high within zero_is one_is =
     let e : d.vars ≡ k + suc (d.vars - (k + 1)) = omega arith in
     ap (λ (n : ℕ). truths n (λ w. bit w k)) e ∙ single k (d.vars - (k + 1))
     ∙ (λ j. raised k (halves (sym (constant_to (d.vars - (k + 1)) (place d.lists low) false zero_is) j) (sym (constant_to (d.vars - (k + 1)) (place d.lists high) true one_is) j)))
-
-pub constant_son : (d : Lists) (k at : ℕ) (b : Bool) → k < d.vars → at < length d.lists → place d.lists at ≡ constant b → IsSon d.vars d.lists k at
-constant_son d k at b within inside is = record { within = inside; below = omega (arith, ap height is) }
 
 into : (d : Lists) (k low high : ℕ) → k < d.vars → place d.lists low ≡ constant false → place d.lists high ≡ constant true
     → (t : Truths) → IsPart t (joined d.vars d.lists k low high) → IsPart t (truths d.vars (λ w. bit w k))

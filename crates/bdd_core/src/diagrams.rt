@@ -63,7 +63,8 @@ impl Diagrams {
         }
     }
 
-    /// How many truth lists the functions that were asked for count; after `Budget` the budget, and after `Memory` at most that.
+    /// How many truth lists the functions that were asked for count; after `Budget` the budget, and after `Memory` at most
+    /// that.
     pub fn nodes(&self) -> u32
         ensures count { (functions : List Truths) → Holds functions self.now.table → IsCountOf functions result }
         ensures within { result ≤ self.now.table.budget }
@@ -83,8 +84,8 @@ impl Diagrams {
         a.place == b.place
     }
 
-    /// The first variable on which a node's function depends, with the nodes of its two halves; `None` exactly where the function
-    /// is constant. Takes no memory.
+    /// The first variable on which a node's function depends, with the nodes of the function with it 0 and 1; `None` exactly
+    /// where the function is constant. Takes no memory.
     pub fn branch(&self, a: NodeId) -> Option<Branch>
         requires { IsNode self.now a }
         ensures none { IfNone result ((b : Bool) × (function_of self.now a ≡ raised self.now.table.vars (constant b))) }
@@ -106,7 +107,8 @@ impl Diagrams {
         })
     }
 
-    /// Bits of all variables on which a node's function is 1; `None` exactly where it is 0 on all.
+    /// Bits of all variables on which a node's function is 1, that of variable 0 first; `None` exactly where it is 0 on all.
+    /// Takes memory for these bits.
     pub fn pick_true(&self, a: NodeId) -> Result<Option<Vec<bool>>, AllocError>
         requires { IsNode self.now a }
         ensures length { IfOk result (λ o. IfSome o (λ bits. length bits.items ≡ self.now.table.vars)) }

@@ -8,8 +8,8 @@ ghost use Rattle.bdd_core.specs.Counting.{function};
 use crate::table::Table;
 use std::alloc::{AllocError, Global};
 
-// Bits of all variables on which the function of the start is 1, which isn't 0 on all: each bit is 0, unless the function with it
-// 0 is.
+// Bits of all variables on which the function of the start is 1, where it isn't 0 on all: each bit is 0, unless the function
+// with it 0 is.
 pub(crate) fn bits_of_one(
     alloc: Global,
     table: &Table,

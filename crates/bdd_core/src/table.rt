@@ -63,7 +63,7 @@ impl Table {
         }
     }
 
-    /// How many nodes there are besides the constants.
+    /// How many nodes there are besides the constants. The table is whole.
     pub fn nodes(&self) -> u32
         ensures count { result + 2 ≡ length self.now.lists }
         ensures within { result ≤ self.now.budget }
