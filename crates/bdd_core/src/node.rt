@@ -1,0 +1,32 @@
+// Nodes, and why there is none.
+
+/// A node of some `Diagrams`. It stays one for as long as they last.
+#[derive(Clone, Copy, PartialEq, Eq, Hash)]
+pub struct NodeId {
+    pub(crate) place: usize,
+}
+
+/// The first variable on which a function depends, and the nodes of the function with that variable 0 and 1.
+#[derive(Clone, Copy)]
+pub struct Branch {
+    pub variable: u32,
+    pub low: NodeId,
+    pub high: NodeId,
+}
+
+/// Why there is no node.
+#[derive(Clone, Copy, Drop)]
+pub enum BddError {
+    /// More truth lists than the budget.
+    Budget,
+    /// No memory.
+    Memory,
+}
+
+/// A variable, and the places of the nodes for 0 and for 1.
+#[derive(Clone, Copy, PartialEq, Eq, Hash)]
+pub(crate) struct Node {
+    pub variable: u32,
+    pub low: usize,
+    pub high: usize,
+}
