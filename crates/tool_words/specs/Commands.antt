@@ -23,7 +23,8 @@ asimut_with (Some source) (Some patterns) = Some (record { source = source; patt
 asimut_with _ _ = None
 
 abbrev pub command_from : Tool → List Argument → Option Command
-command_from tool.Flow a = option_map command.Flow (flow_with (only (files a)) (only (values library.word a)) (only (values out.word a)))
+command_from tool.Flow a =
+    option_map command.Flow (flow_with (only (files a)) (only (values library.word a)) (only (values out.word a)))
 command_from tool.Asimut a = option_map command.Asimut (asimut_with (only (files a)) (only (values patterns.word a)))
 
 -- ---- all tools
@@ -51,14 +52,12 @@ command_of [] = None
 command_of (tool ∷ words) = command_by (tool_of tool) words
 
 abbrev pub as_flow : Option Command → Option FlowCommand
-as_flow None = None
 as_flow (Some (command.Flow c)) = Some c
-as_flow (Some (command.Asimut c)) = None
+as_flow _ = None
 
 abbrev pub as_asimut : Option Command → Option AsimutCommand
-as_asimut None = None
-as_asimut (Some (command.Flow c)) = None
 as_asimut (Some (command.Asimut c)) = Some c
+as_asimut _ = None
 
 -- the command of `flow` that they spell
 abbrev pub flow_of : List (List ℕ) → Option FlowCommand

@@ -52,11 +52,14 @@ patterns = record { word = codes "-p"; value = codes "PATTERNS"; need = Once; fo
 abbrev pub tracks : Setting
 tracks = record { word = codes "--tracks"; value = []; need = Once; form = Flag }
 
+abbrev pub flow : Entry
+flow = record { tool = tool.Flow; word = codes "flow"; endings = codes ".vbe" ∷ codes ".fsm" ∷ []; settings = library ∷ out ∷ tracks ∷ [] }
+
+abbrev pub asimut : Entry
+asimut = record { tool = tool.Asimut; word = codes "asimut"; endings = codes ".vbe" ∷ []; settings = patterns ∷ [] }
+
 abbrev pub tools : List Entry
-tools =
-    record { tool = tool.Flow; word = codes "flow"; endings = codes ".vbe" ∷ codes ".fsm" ∷ []; settings = library ∷ out ∷ tracks ∷ [] }
-    ∷ record { tool = tool.Asimut; word = codes "asimut"; endings = codes ".vbe" ∷ []; settings = patterns ∷ [] }
-    ∷ []
+tools = flow ∷ asimut ∷ []
 
 -- the tool with this word
 abbrev pub tool_of : List ℕ → Option Entry
