@@ -8,6 +8,7 @@ use Rattle.machine_core.specs.Order.{IsOrdered, SettlesOnce}
 use Rattle.pat_meaning.specs.declared.patterns.Column.{Column}
 use Rattle.pat_meaning.specs.declared.patterns.Pattern.{Pattern}
 use Rattle.pat_meaning.specs.Columns.{listed, given_bits}
+use Rattle.pat_meaning.specs.Circuit.{of_machine}
 use Rattle.pat_meaning.specs.Simulation.{vector, clock_bit, rises, Takes, Observes}
 use Rattle.pat_meaning.specs.Answers.{ObservesOnce}
 use Rattle.bool_expr.specs.Expression.{val}
@@ -15,7 +16,7 @@ use Rattle.bool_expr.specs.Expression.{val}
 pub length-next : (m : Machine) (w : List Bool) → length (next m w) ≡ length m.registers
 length-next m w = length-map m.registers (λ r. if val r.enable w then val r.next w else value_at m.vars w r.name)
 
-pub length-vector : (m : Machine) (columns : List Column) (p : Pattern) → length (vector m columns p.values) ≡ length (inputs m)
+pub length-vector : (m : Machine) (columns : List Column) (p : Pattern) → length (vector (inputs m) columns p.values) ≡ length (inputs m)
 length-vector m columns p = length-map (inputs m) (value_at (listed columns) (given_bits columns p.values))
 
 -- what one pattern comes to
@@ -23,8 +24,8 @@ pub record TakesOnce (rises : Bool) (m : Machine) (i s : List Bool) : Type 0 whe
   pub w : List Bool
   pub t : List Bool
   pub each : length t ≡ length m.registers
-  pub takes : Takes rises m i s w t
-  pub only : (w' t' : List Bool) → Takes rises m i s w' t' → (w' ≡ w) × (t' ≡ t)
+  pub takes : Takes rises (of_machine m) i s w t
+  pub only : (w' t' : List Bool) → Takes rises (of_machine m) i s w' t' → (w' ≡ w) × (t' ≡ t)
 
 pub takes_once : SettlesOnce → (m : Machine) → IsOrdered m → (rises : Bool) (i s : List Bool) → length s ≡ length m.registers → length i ≡ length (inputs m)
     → TakesOnce rises m i s
@@ -56,15 +57,15 @@ takes_once law m ordered true i s hs hi =
 
 pub record Once (m : Machine) (columns : List Column) (s : List Bool) (before : Bool) (patterns : List Pattern) : Type 0 where
   pub all : List (List Bool)
-  pub are : Observes m columns s before patterns all
-  pub only : (other : List (List Bool)) → Observes m columns s before patterns other → other ≡ all
+  pub are : Observes (of_machine m) columns s before patterns all
+  pub only : (other : List (List Bool)) → Observes (of_machine m) columns s before patterns other → other ≡ all
 
 pub once : SettlesOnce → (m : Machine) → IsOrdered m → (columns : List Column) (patterns : List Pattern) (s : List Bool) (before : Bool)
     → length s ≡ length m.registers → Once m columns s before patterns
 once law m ordered columns [] s before hs = record { all = []; are = refl; only = λ other h. h }
 once law m ordered columns (p ∷ rest) s before hs =
     let now : Bool = clock_bit m.clock columns p.values in
-    let i : List Bool = vector m columns p.values in
+    let i : List Bool = vector (inputs m) columns p.values in
     let one = takes_once law m ordered (rises before now) i s hs (length-vector m columns p) in
     let more = once law m ordered columns rest one.t now one.each in
     record {
@@ -72,7 +73,7 @@ once law m ordered columns (p ∷ rest) s before hs =
       are = (one.w, one.t, one.takes, (more.all, refl, more.are));
       only = λ other h.
           let e = one.only h.0 h.1 h.2 in
-          let P : List Bool → Type 0 = λ c. Observes m columns c now rest h.3.0 in
+          let P : List Bool → Type 0 = λ c. Observes (of_machine m) columns c now rest h.3.0 in
           let f = more.only h.3.0 (subst P e.1 h.3.2) in
           h.3.1 ∙ ap (λ x. x ∷ h.3.0) e.0 ∙ ap (λ x. one.w ∷ x) f;
     }

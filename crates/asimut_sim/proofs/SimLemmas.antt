@@ -12,6 +12,7 @@ use Rattle.pat_meaning.specs.declared.patterns.Value.{Value}
 use Rattle.pat_meaning.specs.declared.patterns.Value.TheVariants.{Digits, Any}
 use Rattle.pat_meaning.specs.declared.patterns.Pattern.{Pattern}
 use Rattle.pat_meaning.specs.Columns.{column_names, listed, given_bits, Fits, FitsColumns}
+use Rattle.pat_meaning.specs.Circuit.{of_machine}
 use Rattle.pat_meaning.specs.Simulation.{vector, clock_bit, Compared, compared_bits, compared_value, compared_values, is_different, first_difference, filled_value, filled_values}
 use Rattle.asimut_sim.specs.Places.{one_on, bit_at}
 use Rattle.asimut_sim.specs.Listed.{wanted_value, wanted_bits, is_other, other_place, shown_value, shown}
@@ -71,13 +72,13 @@ flat-nothing m w n [] = refl
 flat-nothing m w n (name ∷ names) = flat-nothing m w n names
 
 pub flat-bits : (m : Machine) (w : List Bool) (n : ℕ) (names : List Name) (bits : List Bool)
-    → first_difference (compared_bits m w n names bits) ≡ flat m w n names (map (λ b. Some b) bits)
+    → first_difference (compared_bits (value_at m.vars w) n names bits) ≡ flat m w n names (map (λ b. Some b) bits)
 flat-bits m w n [] bits = refl
 flat-bits m w n (name ∷ names) [] = refl
 flat-bits m w n (name ∷ names) (b ∷ bits) = ap (λ x. if is_other (Some b) (value_at m.vars w name) then Some (record { pattern = n; name = name; expected = b; observed = value_at m.vars w name }) else x) (flat-bits m w n names bits)
 
 pub flat-value : (m : Machine) (w : List Bool) (n : ℕ) (d : Dir) (names : List Name) (v : Value)
-    → first_difference (compared_value m w n d names v) ≡ flat m w n names (wanted_value d (length names) v)
+    → first_difference (compared_value (value_at m.vars w) n d names v) ≡ flat m w n names (wanted_value d (length names) v)
 flat-value m w n In names v = sym (flat-nothing m w n names)
 flat-value m w n Out names Any = sym (flat-nothing m w n names)
 flat-value m w n Out names (Digits bits) = flat-bits m w n names bits
@@ -98,12 +99,12 @@ length-wanted_bits (c ∷ cs) (v ∷ values) f =
     omega (arith, a, b, d, e)
 
 pub flat-values : (m : Machine) (w : List Bool) (n : ℕ) (columns : List Column) (values : List Value) → FitsColumns columns values
-    → first_difference (compared_values m w n columns values) ≡ flat m w n (listed columns) (wanted_bits columns values)
+    → first_difference (compared_values (value_at m.vars w) n columns values) ≡ flat m w n (listed columns) (wanted_bits columns values)
 flat-values m w n [] values f = refl
 flat-values m w n (c ∷ cs) [] f = absurd f
 flat-values m w n (c ∷ cs) (v ∷ values) f =
-    first-append (compared_value m w n c.dir (column_names c) v) (compared_values m w n cs values)
-    ∙ ap (λ x. or_else x (first_difference (compared_values m w n cs values))) (flat-value m w n c.dir (column_names c) v)
+    first-append (compared_value (value_at m.vars w) n c.dir (column_names c) v) (compared_values (value_at m.vars w) n cs values)
+    ∙ ap (λ x. or_else x (first_difference (compared_values (value_at m.vars w) n cs values))) (flat-value m w n c.dir (column_names c) v)
     ∙ ap (λ x. or_else (flat m w n (column_names c) (wanted_value c.dir (length (column_names c)) v)) x) (flat-values m w n cs values f.1)
     ∙ sym (flat-append m w n (column_names c) (listed cs) (wanted_value c.dir (length (column_names c)) v) (wanted_bits cs values) (length-wanted c c.dir v f.0))
 
@@ -183,14 +184,14 @@ pub drop-values : (names : List Name) (w : List Bool) (xs ys : List Name) → dr
 drop-values names w [] ys = refl
 drop-values names w (x ∷ xs) ys = drop-values names w xs ys
 
-pub filled-shown : (m : Machine) (w : List Bool) (c : Column) (v : Value) → shown_value c.dir v (values_at m.vars w (column_names c)) ≡ filled_value m w c v
+pub filled-shown : (m : Machine) (w : List Bool) (c : Column) (v : Value) → shown_value c.dir v (values_at m.vars w (column_names c)) ≡ filled_value (value_at m.vars w) c v
 filled-shown m w c v = by c.dir refl where
-  by : (d : Dir) → c.dir ≡ d → shown_value c.dir v (values_at m.vars w (column_names c)) ≡ filled_value m w c v
+  by : (d : Dir) → c.dir ≡ d → shown_value c.dir v (values_at m.vars w (column_names c)) ≡ filled_value (value_at m.vars w) c v
   by In e = rw e refl
   by Out e = rw e refl
 
 pub shown-filled : (m : Machine) (w : List Bool) (columns : List Column) (values : List Value)
-    → shown columns values (values_at m.vars w (listed columns)) ≡ filled_values m w columns values
+    → shown columns values (values_at m.vars w (listed columns)) ≡ filled_values (value_at m.vars w) columns values
 shown-filled m w [] values = refl
 shown-filled m w (c ∷ cs) [] = refl
 shown-filled m w (c ∷ cs) (v ∷ values) =
@@ -199,7 +200,7 @@ shown-filled m w (c ∷ cs) (v ∷ values) =
     ap (λ x. shown_value c.dir v x ∷ shown cs values (drop n seen)) (take-values m.vars w (column_names c) (listed cs))
     ∙ ap (λ x. shown_value c.dir v (values_at m.vars w (column_names c)) ∷ shown cs values x) (drop-values m.vars w (column_names c) (listed cs))
     ∙ ap (λ x. x ∷ shown cs values (values_at m.vars w (listed cs))) (filled-shown m w c v)
-    ∙ ap (λ x. filled_value m w c v ∷ x) (shown-filled m w cs values)
+    ∙ ap (λ x. filled_value (value_at m.vars w) c v ∷ x) (shown-filled m w cs values)
 
 -- what is seen of the listed bits
 pub seen-is : (m : Machine) (columns : List Column) (names : List Name) (from_bits : List (Option ℕ)) (from_clock : Option ℕ) (into into1 : List (Option ℕ))
@@ -211,18 +212,18 @@ seen-is m columns names from_bits from_clock into into1 w w1 seen plan e f h =
 pub sees-from : (m : Machine) (columns : List Column) (p : Pattern) (names : List Name) (from_bits from1 : List (Option ℕ)) (from_clock : Option ℕ) (into : List (Option ℕ))
     (values : List Value) (bits bits1 bits2 inputs1 inputs2 s t w : List Bool) (before now : Bool)
     → IsPlan m columns names from_bits from_clock into → values ≡ p.values → bits ≡ given_bits columns values → bits1 ≡ bits → bits2 ≡ bits → from1 ≡ from_bits
-    → inputs1 ≡ map (bit_at bits1) from1 → inputs2 ≡ inputs1 → now ≡ bit_at bits2 from_clock → Takes (rises before now) m inputs2 s w t
+    → inputs1 ≡ map (bit_at bits1) from1 → inputs2 ≡ inputs1 → now ≡ bit_at bits2 from_clock → Takes (rises before now) (of_machine m) inputs2 s w t
     → Sees m columns p s before t now w
 sees-from m columns p names from_bits from1 from_clock into values bits bits1 bits2 inputs1 inputs2 s t w before now plan v b b1 b2 f i1 i2 c takes =
     let given : bits ≡ given_bits columns p.values = b ∙ ap (given_bits columns) v in
     let clock : now ≡ clock_bit m.clock columns p.values =
     c ∙ ap (λ x. bit_at x from_clock) (b2 ∙ given) ∙ ap (bit_at (given_bits columns p.values)) plan.clock ∙ clock-place m columns p.values m.clock in
-    let inputs : inputs2 ≡ vector m columns p.values =
+    let given_inputs : inputs2 ≡ vector (inputs m) columns p.values =
     i2 ∙ i1 ∙ ap (λ x. map (bit_at x) from1) (b1 ∙ given) ∙ ap (map (bit_at (given_bits columns p.values))) (f ∙ plan.inputs)
     ∙ bits-values (listed columns) (given_bits columns p.values) (inputs m) in
-    let P : List Bool → Type 0 = λ x. Takes (rises before now) m x s w t in
-    let Q : Bool → Type 0 = λ x. Takes (rises before x) m (vector m columns p.values) s w t in
-    record { clock = clock; takes = subst Q clock (subst P inputs takes) }
+    let P : List Bool → Type 0 = λ x. Takes (rises before now) (of_machine m) x s w t in
+    let Q : Bool → Type 0 = λ x. Takes (rises before x) (of_machine m) (vector (inputs m) columns p.values) s w t in
+    record { clock = clock; takes = subst Q clock (subst P given_inputs takes) }
 
 pub as-long : (m : Machine) (columns : List Column) (p : Pattern) (values : List Value) (wanted wanted1 : List (Option Bool)) (w seen seen1 : List Bool)
     → FitsColumns columns p.values → values ≡ p.values → wanted ≡ wanted_bits columns values → wanted1 ≡ wanted → seen1 ≡ seen

@@ -1,10 +1,12 @@
 -- What one pattern comes to, and why patterns aren't filled in.
 use Rattle.std.specs.Prelude.{◌≡◌, ℕ, Bool, List, Option, None, Some, length, slice_index_or}
 use Rattle.vlsi_base.specs.declared.name.Name.{Name}
-use Rattle.machine_meaning.specs.Machine.{Machine}
+use Rattle.machine_meaning.specs.Named.{value_at}
+use Rattle.machine_meaning.specs.Machine.{Machine, inputs}
 use Rattle.pat_meaning.specs.declared.patterns.Column.{Column}
 use Rattle.pat_meaning.specs.declared.patterns.Pattern.{Pattern}
 use Rattle.pat_meaning.specs.declared.patterns.Patterns.{Patterns}
+use Rattle.pat_meaning.specs.Circuit.{of_machine}
 use Rattle.pat_meaning.specs.Simulation.{vector, clock_bit, rises, Takes, Compared, compared_values, first_difference, filled_values}
 use Rattle.pat_meaning.specs.Answers.{DiffersAt}
 use Rattle.asimut_sim.specs.Listed.{other_place}
@@ -14,17 +16,17 @@ use Rattle.asimut_sim.specs.declared.refusal.SimError.TheVariants.{Memory, Diffe
 -- One pattern is observed as w: the registers go from s to t, and the clock from `before` to `now`.
 pub record Sees (m : Machine) (columns : List Column) (p : Pattern) (s : List Bool) (before : Bool) (t : List Bool) (now : Bool) (w : List Bool) : Type 0 where
   pub clock : now ≡ clock_bit m.clock columns p.values
-  pub takes : Takes (rises before (clock_bit m.clock columns p.values)) m (vector m columns p.values) s w t
+  pub takes : Takes (rises before (clock_bit m.clock columns p.values)) (of_machine m) (vector (inputs m) columns p.values) s w t
 
 -- the pattern expects what is observed as w, and `made` is the pattern with every output filled in
 pub record Agrees (m : Machine) (columns : List Column) (p : Pattern) (number : ℕ) (w : List Bool) (made : Pattern) : Type 0 where
-  pub none_differs : first_difference (compared_values m w number columns p.values) ≡ None
-  pub answer : made ≡ record p { values = filled_values m w columns p.values }
+  pub none_differs : first_difference (compared_values (value_at m.vars w) number columns p.values) ≡ None
+  pub answer : made ≡ record p { values = filled_values (value_at m.vars w) columns p.values }
 
 -- of what is observed as w, this bit is the first that isn't what the pattern expects
 pub record Disagrees (m : Machine) (columns : List Column) (p : Pattern) (number : ℕ) (w : List Bool) (pattern : ℕ) (bit : Name) : Type 0 where
   pub at : Compared
-  pub first : first_difference (compared_values m w number columns p.values) ≡ Some at
+  pub first : first_difference (compared_values (value_at m.vars w) number columns p.values) ≡ Some at
   pub told : at.pattern ≡ pattern
   pub name : at.name ≡ bit
 

@@ -7,6 +7,7 @@ ghost use Rattle.machine_core.specs.Order.{EachReadsBelow};
 ghost use Rattle.machine_core.specs.View.{equation_view, register_view};
 ghost use Rattle.machine_meaning.specs.Machine.{register_names};
 ghost use Rattle.machine_meaning.specs.Named.{values_at};
+ghost use Rattle.pat_meaning.specs.Circuit.{of_machine};
 ghost use Rattle.pat_meaning.specs.Simulation.{Takes};
 ghost use Rattle.asimut_sim.specs.Load.{loaded, loaded_bit, LoadsOver};
 
@@ -110,7 +111,7 @@ pub(crate) fn observe(
 ) -> Result<Bits, AllocError>
     requires inputs { length inputs.now ≡ length (input_names machine.now) }
     requires contents { length contents.old.items ≡ length machine.now.registers }
-    ensures takes { IfOk result (λ w. Takes is_rising machine.now inputs.now contents.old.items w contents.new.items) }
+    ensures takes { IfOk result (λ w. Takes is_rising (of_machine machine.now) inputs.now contents.old.items w contents.new.items) }
     ensures each { IfOk result (λ _. length contents.new.items ≡ length machine.now.registers) }
 {
     let first = settle(alloc, machine, inputs, contents)?;

@@ -10,6 +10,7 @@ use Rattle.pat_meaning.specs.declared.patterns.Column.{Column}
 use Rattle.pat_meaning.specs.declared.patterns.Pattern.{Pattern}
 use Rattle.pat_meaning.specs.declared.patterns.Patterns.{Patterns}
 use Rattle.pat_meaning.specs.Columns.{column_names, listed, FitsColumns}
+use Rattle.pat_meaning.specs.Circuit.{Circuit, of_machine}
 use Rattle.pat_meaning.specs.Simulation.{IsObserved, Compared, compared, first_difference, filled}
 
 -- vdd or vss, as an input of one bit, whether or not it is a port
@@ -30,24 +31,31 @@ pub record AreFor (ports : List Port) (p : Patterns) : Type 0 where
   pub values : All (λ q. FitsColumns p.columns q.values) p.patterns
   pub few : length p.patterns < 2 ^ 32
 
--- The machine gives what the patterns expect, and `out` are the patterns with every output filled in.
-pub record IsFilled (m : Machine) (p out : Patterns) : Type 0 where
-  pub observed : List (List Bool)
-  pub are_observed : IsObserved m p.columns p.patterns observed
-  pub none_differs : first_difference (compared m p.columns 0 p.patterns observed) ≡ None
-  pub answer : out ≡ record { columns = p.columns; patterns = filled m p.columns p.patterns observed }
+-- The circuit gives what the patterns expect, and `out` are the patterns with every output filled in.
+pub record IsFilledBy (c : Circuit) (p out : Patterns) : Type 0 where
+  pub observed : List c.Valuation
+  pub are_observed : IsObserved c p.columns p.patterns observed
+  pub none_differs : first_difference (compared c p.columns 0 p.patterns observed) ≡ None
+  pub answer : out ≡ record { columns = p.columns; patterns = filled c p.columns p.patterns observed }
 
 -- The first bit that isn't what the patterns expect is this one of this pattern, counted from 0.
-pub record DiffersAt (m : Machine) (p : Patterns) (number : ℕ) (bit : Name) : Type 0 where
-  pub observed : List (List Bool)
-  pub are_observed : IsObserved m p.columns p.patterns observed
+pub record DiffersOn (c : Circuit) (p : Patterns) (number : ℕ) (bit : Name) : Type 0 where
+  pub observed : List c.Valuation
+  pub are_observed : IsObserved c p.columns p.patterns observed
   pub at : Compared
-  pub first : first_difference (compared m p.columns 0 p.patterns observed) ≡ Some at
+  pub first : first_difference (compared c p.columns 0 p.patterns observed) ≡ Some at
   pub pattern : at.pattern ≡ number
   pub name : at.name ≡ bit
+
+-- the same on a machine
+abbrev pub IsFilled : Machine → Patterns → Patterns → Type 0
+IsFilled m p out = IsFilledBy (of_machine m) p out
+
+abbrev pub DiffersAt : Machine → Patterns → ℕ → Name → Type 0
+DiffersAt m p number bit = DiffersOn (of_machine m) p number bit
 
 -- For each machine and any patterns there is exactly one list of observed valuations.
 abbrev pub ObservesOnce : Type 0
 ObservesOnce =
     (m : Machine) (columns : List Column) (patterns : List Pattern) → IsOrdered m
-    → (ws : List (List Bool)) × IsObserved m columns patterns ws × ((other : List (List Bool)) → IsObserved m columns patterns other → other ≡ ws)
+    → (ws : List (List Bool)) × IsObserved (of_machine m) columns patterns ws × ((other : List (List Bool)) → IsObserved (of_machine m) columns patterns other → other ≡ ws)

@@ -1,3 +1,4 @@
 pub mod Columns
+pub mod Circuit
 pub mod Simulation
 pub mod Answers

@@ -1,21 +1,25 @@
--- The words that make a command are exactly those that spell it.
-use Rattle.std.proofs.Common.{◌≡◌, ◌⊎◌, ℕ, Bool, true, false, not, ◌&&◌, ◌||◌, cond, List, [], ◌∷◌, ◌++◌, Option, None, Some, option_map, option_and_then, refl, sym, ◌∙◌, ap, inl, inr, length, filter, nat_eq, codes}
-use Rattle.std.specs.List.{flat_map, filter_map, list_all, list_any}
+-- The arguments that words make are exactly those that they spell.
+use Rattle.std.proofs.Common.{◌≡◌, ◌⊎◌, ℕ, Bool, true, false, not, ◌&&◌, cond, List, [], ◌∷◌, ◌++◌, Option, None, Some, refl, sym, ap, inl, inr}
+use Rattle.std.specs.List.{flat_map, list_all}
 use Rattle.std.specs.Cmp.Lexicographic.{bytes_decides}
-use Rattle.tool_words.specs.declared.words.Setting.{Setting}
-use Rattle.tool_words.specs.declared.words.Setting.TheVariants.{Library, Out, Patterns}
-use Rattle.tool_words.specs.declared.words.Argument.{Argument}
-use Rattle.tool_words.specs.declared.words.Argument.TheVariants as argument
-use Rattle.tool_words.specs.Words.{is_word, is_option, option_text, spelling, is_valid, with_argument, arguments_behind, arguments_of}
+use Rattle.tool_words.specs.declared.arguments.Argument.{Argument}
+use Rattle.tool_words.specs.declared.arguments.Argument.TheVariants as argument
+use Rattle.tool_words.specs.Words.{is_word, is_option}
+use Rattle.tool_words.specs.Table.{Setting}
+use Rattle.tool_words.specs.Arguments.{setting_of, is_flag, is_flag_of, has_value_of, names_flag, names_value, spelling, is_valid, with_argument, arguments_behind, arguments_of}
 
 -- the arguments are spelled by these words
-pub record Written (words : List (List ℕ)) (arguments : List Argument) : Type 0 where
+pub record Written (settings : List Setting) (words : List (List ℕ)) (arguments : List Argument) : Type 0 where
   pub words_are : words ≡ flat_map spelling arguments
-  pub valid : list_all is_valid arguments ≡ true
+  pub valid : list_all (is_valid settings) arguments ≡ true
 
-abbrev waiting : Option Setting → List (List ℕ) → List (List ℕ)
+abbrev waiting : Option (List ℕ) → List (List ℕ) → List (List ℕ)
 waiting None words = words
-waiting (Some setting) words = option_text setting ∷ words
+waiting (Some option) words = option ∷ words
+
+abbrev Awaits : List Setting → Option (List ℕ) → Type 0
+Awaits settings None = Unit {0}
+Awaits settings (Some option) = names_value settings option ≡ true
 
 -- which way a test went
 split : (b : Bool) (x y : Option (List Argument)) (found : List Argument) → cond b x y ≡ Some found → ((b ≡ true) × (x ≡ Some found)) ⊎ ((b ≡ false) × (y ≡ Some found))
@@ -36,52 +40,41 @@ joined a None found is = absurd (cc is)
 joined a (Some more) found is = record { more = more; rest_is = refl; found_is = sym (some_is (a ∷ more) found is) }
 
 -- with one argument in front
-in_front : (a : Argument) (words : List (List ℕ)) (more found : List Argument) → is_valid a ≡ true → found ≡ a ∷ more → Written words more → Written (spelling a ++ words) found
-in_front a words more found valid is w = rw is (record {
+in_front : (settings : List Setting) (a : Argument) (words : List (List ℕ)) (more found : List Argument) → is_valid settings a ≡ true → found ≡ a ∷ more → Written settings words more → Written settings (spelling a ++ words) found
+in_front settings a words more found valid is w = rw is (record {
   words_are = ap (λ (ws : List (List ℕ)). spelling a ++ ws) w.words_are;
   valid = rw valid w.valid;
 })
 
-spell_value : (setting : Setting) (word : List ℕ) (words : List (List ℕ)) (more found : List Argument) → is_option word ≡ false → found ≡ argument.Value setting word ∷ more → Written words more → Written (option_text setting ∷ word ∷ words) found
-spell_value setting word words more found plain is w = in_front (argument.Value setting word) words more found (ap not plain) is w
-
-spell_file : (word : List ℕ) (words : List (List ℕ)) (more found : List Argument) → is_option word ≡ false → found ≡ argument.File word ∷ more → Written words more → Written (word ∷ words) found
-spell_file word words more found plain is w = in_front (argument.File word) words more found (ap not plain) is w
-
-spell_tracks : (word : List ℕ) (words : List (List ℕ)) (more found : List Argument) → word ≡ codes "--tracks" → found ≡ argument.Tracks ∷ more → Written words more → Written (word ∷ words) found
-spell_tracks word words more found same is w = rw same (in_front argument.Tracks words more found refl is w)
-
-same_word : (word other : List ℕ) (words : List (List ℕ)) (found : List Argument) → word ≡ other → Written (other ∷ words) found → Written (word ∷ words) found
-same_word word other words found same w = rw same w
+spell_value : (settings : List Setting) (option word : List ℕ) (words : List (List ℕ)) (more found : List Argument) → names_value settings option ≡ true → is_option word ≡ false
+    → found ≡ argument.Value option word ∷ more → Written settings words more → Written settings (option ∷ word ∷ words) found
+spell_value settings option word words more found named plain is w = in_front settings (argument.Value option word) words more found (rw (named, plain) refl) is w
 
 -- words that make arguments spell them
-pub written : (awaits : Option Setting) (words : List (List ℕ)) (found : List Argument) → arguments_behind awaits words ≡ Some found → Written (waiting awaits words) found
-written None [] found is = rw (sym (some_is [] found is)) (record { words_are = refl; valid = refl })
-written (Some setting) [] found is = absurd (cc is)
-written (Some setting) (word ∷ words) found is = elim (split (is_option word) None (with_argument (argument.Value setting word) (arguments_behind None words)) found is) [
+pub written : (settings : List Setting) (awaits : Option (List ℕ)) (words : List (List ℕ)) (found : List Argument) → Awaits settings awaits → arguments_behind settings awaits words ≡ Some found → Written settings (waiting awaits words) found
+written settings None [] found named is = rw (sym (some_is [] found is)) (record { words_are = refl; valid = refl })
+written settings (Some option) [] found named is = absurd (cc is)
+written settings (Some option) (word ∷ words) found named is = elim (split (is_option word) None (with_argument (argument.Value option word) (arguments_behind settings None words)) found is) [
   | inl r ↦ absurd (cc r.1)
-  | inr r ↦ let j = joined (argument.Value setting word) (arguments_behind None words) found r.1 in spell_value setting word words j.more found r.0 j.found_is (written None words j.more j.rest_is)
+  | inr r ↦ let j = joined (argument.Value option word) (arguments_behind settings None words) found r.1 in
+      spell_value settings option word words j.more found named r.0 j.found_is (written settings None words j.more tt j.rest_is)
 ]
-written None (word ∷ words) found is = elim (split (is_word word (codes "--tracks")) _ _ found is) [
-  | inl r ↦ let j = joined argument.Tracks (arguments_behind None words) found r.1 in spell_tracks word words j.more found ((bytes_decides word (codes "--tracks")).0 r.0) j.found_is (written None words j.more j.rest_is)
-  | inr r ↦ elim (split (is_word word (codes "-l")) _ _ found r.1) [
-    | inl q ↦ same_word word (codes "-l") words found ((bytes_decides word (codes "-l")).0 q.0) (written (Some Library) words found q.1)
-    | inr q ↦ elim (split (is_word word (codes "-o")) _ _ found q.1) [
-      | inl p ↦ same_word word (codes "-o") words found ((bytes_decides word (codes "-o")).0 p.0) (written (Some Out) words found p.1)
-      | inr p ↦ elim (split (is_word word (codes "-p")) _ _ found p.1) [
-        | inl n ↦ same_word word (codes "-p") words found ((bytes_decides word (codes "-p")).0 n.0) (written (Some Patterns) words found n.1)
-        | inr n ↦ elim (split (is_option word) None (with_argument (argument.File word) (arguments_behind None words)) found n.1) [
-          | inl m ↦ absurd (cc m.1)
-          | inr m ↦ let j = joined (argument.File word) (arguments_behind None words) found m.1 in spell_file word words j.more found m.0 j.found_is (written None words j.more j.rest_is)
-        ]
-      ]
+written settings None (word ∷ words) found named is = elim (split (names_flag settings word) _ _ found is) [
+  | inl r ↦ let j = joined (argument.Flag word) (arguments_behind settings None words) found r.1 in
+      in_front settings (argument.Flag word) words j.more found r.0 j.found_is (written settings None words j.more tt j.rest_is)
+  | inr r ↦ elim (split (names_value settings word) _ _ found r.1) [
+    | inl q ↦ written settings (Some word) words found q.0 q.1
+    | inr q ↦ elim (split (is_option word) None (with_argument (argument.File word) (arguments_behind settings None words)) found q.1) [
+      | inl m ↦ absurd (cc m.1)
+      | inr m ↦ let j = joined (argument.File word) (arguments_behind settings None words) found m.1 in
+          in_front settings (argument.File word) words j.more found (ap not m.0) j.found_is (written settings None words j.more tt j.rest_is)
     ]
   ]
 ]
 
 -- ---- and words that spell arguments make them
 
-both : (a b : Bool) → (a && b) ≡ true → (a ≡ true) × (b ≡ true)
+pub both : (a b : Bool) → (a && b) ≡ true → (a ≡ true) × (b ≡ true)
 both true b h = (refl, h)
 both false b h = absurd (cc h)
 
@@ -89,25 +82,36 @@ not_true : (b : Bool) → not b ≡ true → b ≡ false
 not_true true h = absurd (cc h)
 not_true false h = refl
 
--- a word that is no option is none of the options
-plain_word : (w option : List ℕ) → is_option w ≡ false → is_option option ≡ true → is_word w option ≡ false
-plain_word w option plain dash = by (is_word w option) refl where
-  by : (b : Bool) → is_word w option ≡ b → is_word w option ≡ false
-  by false is = is
-  by true is = let same : is_option w ≡ is_option option = ap is_option ((bytes_decides w option).0 is) in absurd (cc (same, plain, dash))
+-- every option of a tool begins with `-`
+abbrev pub are_options : List Setting → Bool
+are_options settings = list_all (λ (s : Setting). is_option s.word) settings
 
-value_read : (setting : Setting) (word : List ℕ) (words : List (List ℕ)) → is_option word ≡ false → arguments_behind None (option_text setting ∷ word ∷ words) ≡ with_argument (argument.Value setting word) (arguments_behind None words)
-value_read Library word words plain = rw plain refl
-value_read Out word words plain = rw plain refl
-value_read Patterns word words plain = rw plain refl
+none_by : (s : Setting) (rest : Option Setting) (word : List ℕ) → is_option s.word ≡ true → is_option word ≡ false → rest ≡ None → (b : Bool) → is_word s.word word ≡ b → cond b (Some s) rest ≡ None
+none_by s rest word dash plain none true e = let same : is_option s.word ≡ is_option word = ap is_option ((bytes_decides s.word word).0 e) in absurd (cc (same, plain, dash))
+none_by s rest word dash plain none false e = none
 
-pub read_back : (arguments : List Argument) → list_all is_valid arguments ≡ true → arguments_of (flat_map spelling arguments) ≡ Some arguments
-read_back [] valid = refl
-read_back (argument.File word ∷ more) valid =
-    let v = both (not (is_option word)) (list_all is_valid more) valid in
+-- so that a word that doesn't is none of them
+plain_word : (settings : List Setting) (word : List ℕ) → are_options settings ≡ true → is_option word ≡ false → setting_of settings word ≡ None
+plain_word [] word dashes plain = refl
+plain_word (s ∷ settings) word dashes plain =
+    let d = both (is_option s.word) (are_options settings) dashes in
+    none_by s (setting_of settings word) word d.0 plain (plain_word settings word d.1 plain) (is_word s.word word) refl
+
+-- an option with a value is no flag
+no_flag : (s : Option Setting) → has_value_of s ≡ true → is_flag_of s ≡ false
+no_flag None h = refl
+no_flag (Some s) h = not_true (is_flag s.form) h
+
+pub read_back : (settings : List Setting) → are_options settings ≡ true → (arguments : List Argument) → list_all (is_valid settings) arguments ≡ true → arguments_of settings (flat_map spelling arguments) ≡ Some arguments
+read_back settings dashes [] valid = refl
+read_back settings dashes (argument.File word ∷ more) valid =
+    let v = both (not (is_option word)) (list_all (is_valid settings) more) valid in
     let plain = not_true (is_option word) v.0 in
-    rw (plain_word word (codes "--tracks") plain refl, plain_word word (codes "-l") plain refl, plain_word word (codes "-o") plain refl, plain_word word (codes "-p") plain refl, plain, read_back more v.1) refl
-read_back (argument.Value setting word ∷ more) valid =
-    let v = both (not (is_option word)) (list_all is_valid more) valid in
-    value_read setting word (flat_map spelling more) (not_true (is_option word) v.0) ∙ ap (with_argument (argument.Value setting word)) (read_back more v.1)
-read_back (argument.Tracks ∷ more) valid = ap (with_argument argument.Tracks) (read_back more valid)
+    rw (plain_word settings word dashes plain, plain, read_back settings dashes more v.1) refl
+read_back settings dashes (argument.Value option word ∷ more) valid =
+    let v = both (names_value settings option && not (is_option word)) (list_all (is_valid settings) more) valid in
+    let h = both (names_value settings option) (not (is_option word)) v.0 in
+    rw (no_flag (setting_of settings option) h.0, h.0, not_true (is_option word) h.1, read_back settings dashes more v.1) refl
+read_back settings dashes (argument.Flag option ∷ more) valid =
+    let v = both (names_flag settings option) (list_all (is_valid settings) more) valid in
+    rw (v.0, read_back settings dashes more v.1) refl

@@ -1,5 +1,10 @@
 pub mod Words
+pub mod Table
+pub mod Arguments
 pub mod Steps
-pub mod Commands
+pub mod Values
 pub mod Wanted
+pub mod Commands
+pub mod Usage
+pub mod View
 pub mod Laws

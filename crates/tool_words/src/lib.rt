@@ -1,10 +1,15 @@
 //! The words of a command line, taken apart before any file is read.
 #![tactic(auto)]
 
+mod arguments;
 mod command;
 mod laws;
+mod table;
+mod usage;
+mod values;
 mod words;
 
 pub use command::{AsimutCommand, Command, FlowCommand, read_words};
 pub use laws::words_law;
-pub use words::{Argument, Setting, Words, WordsError, is_same};
+pub use usage::usage_line;
+pub use words::{Words, WordsError, is_same};

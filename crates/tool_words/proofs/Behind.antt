@@ -1,7 +1,7 @@
 -- Arguments behind those that were found.
 use Rattle.std.proofs.Common.{◌≡◌, ℕ, suc, ◌<◌, ◌+◌, add-one, get_or, List, [], ◌∷◌, ◌++◌, length, drop, Option, None, Some, refl, sym, ap, ◌∙◌, append_assoc, drop-cons}
-use Rattle.tool_words.specs.declared.words.Argument.{Argument}
-use Rattle.tool_words.specs.Words.{with_argument}
+use Rattle.tool_words.specs.declared.arguments.Argument.{Argument}
+use Rattle.tool_words.specs.Arguments.{with_argument}
 use Rattle.tool_words.specs.Steps.{behind}
 
 pub behind_one : (found : List Argument) (a : Argument) (rest : Option (List Argument)) → behind (found ++ a ∷ []) rest ≡ behind found (with_argument a rest)

@@ -1,5 +1,4 @@
-use Rattle.std.proofs.Common.{rules}
-use Rattle.tool_words.proofs.words.read_word.Goals as goal
+use Rattle.tool_words.proofs.arguments.read_word.Goals as goal
 
 pub returns-in-Some-clause-usage : goal.returns-in-Some-clause-usage
 returns-in-Some-clause-usage c = rw c.in-Some.is c.value.ensures.usage

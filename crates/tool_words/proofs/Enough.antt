@@ -1,0 +1,66 @@
+-- Arguments that fit a tool's entry make a command. A tool more is a lemma more, and its place in `each`.
+use Rattle.std.proofs.Common.{◌≡◌, ℕ, Bool, true, false, ◌&&◌, cond, List, [], ◌∷◌, length, nat_eq, Option, None, Some, IsSome, option_map, refl, subst, arith}
+use Rattle.std.proofs.lemmas.Bool.{eqb-true}
+use Rattle.std.specs.List.{find, list_all}
+use Rattle.tool_words.specs.declared.arguments.Argument.{Argument}
+use Rattle.tool_words.specs.declared.command.Command.TheVariants as command
+use Rattle.tool_words.specs.Words.{is_word}
+use Rattle.tool_words.specs.Table.{Entry, Setting, flow, asimut, library, out, tracks, patterns, tools}
+use Rattle.tool_words.specs.Values.{files, values, only, has_any_ending, setting_fits, is_source, fits}
+use Rattle.tool_words.specs.Commands.{flow_with, asimut_with, command_from}
+use Rattle.tool_words.specs.Laws.{FittingIsEnough}
+use Rattle.tool_words.proofs.Spelling.{both}
+
+abbrev Each : (Entry → Type 0) → List Entry → Type 0
+Each P [] = Unit {0}
+Each P (x ∷ xs) = P x × Each P xs
+
+-- what is found is one of the list
+found_by : (P : Entry → Type 0) (x e : Entry) (rest : Option Entry) → P x → (rest ≡ Some e → P e) → (b : Bool) → cond b (Some x) rest ≡ Some e → P e
+found_by P x e rest here behind true h = let same : x ≡ e = cc h in subst P same here
+found_by P x e rest here behind false h = behind h
+
+found : (P : Entry → Type 0) (p : Entry → Bool) (xs : List Entry) (e : Entry) → Each P xs → find p xs ≡ Some e → P e
+found P p [] e all h = absurd (cc h)
+found P p (x ∷ xs) e all h = found_by P x e (find p xs) all.0 (found P p xs e all.1) (p x) h
+
+one : (xs : List (List ℕ)) → length xs ≡ 1 → (x : List ℕ) × (only xs ≡ Some x)
+one [] h = absurd (omega arith)
+one (x ∷ []) h = (x, refl)
+one (x ∷ y ∷ rest) h = absurd (omega arith)
+
+-- the value of an option that stands once
+value_of_one : (arguments : List Argument) (s : Setting) (rest : Bool) → (nat_eq (length (values s.word arguments)) 1 && rest) ≡ true → (x : List ℕ) × (only (values s.word arguments) ≡ Some x)
+value_of_one arguments s rest h = one (values s.word arguments) (eqb-true _ _ (both (nat_eq (length (values s.word arguments)) 1) rest h).0)
+
+has_some : (endings : List (List ℕ)) (o : Option (List ℕ)) → has_any_ending endings o ≡ true → (x : List ℕ) × (o ≡ Some x)
+has_some endings None h = absurd (cc h)
+has_some endings (Some x) h = (x, refl)
+
+abbrev Enough : Entry → Type 0
+Enough e = (arguments : List Argument) → fits e arguments ≡ true → IsSome (command_from e.tool arguments)
+
+flow_from : (s l o : Option (List ℕ)) (x y z : List ℕ) → s ≡ Some x → l ≡ Some y → o ≡ Some z → IsSome (option_map command.Flow (flow_with s l o))
+flow_from s l o x y z a b c = rw (a, b, c) refl
+
+flow_enough : Enough flow
+flow_enough a fit =
+    let f = both (is_source flow.endings (files a)) (list_all (setting_fits a) flow.settings) fit in
+    let l = both (setting_fits a library) (list_all (setting_fits a) (out ∷ tracks ∷ [])) f.1 in
+    let o = both (setting_fits a out) (list_all (setting_fits a) (tracks ∷ [])) l.1 in
+    flow_from _ _ _ _ _ _ (has_some flow.endings (only (files a)) f.0).1 (value_of_one a library _ l.0).1 (value_of_one a out _ o.0).1
+
+asimut_from : (s p : Option (List ℕ)) (x y : List ℕ) → s ≡ Some x → p ≡ Some y → IsSome (option_map command.Asimut (asimut_with s p))
+asimut_from s p x y a b = rw (a, b) refl
+
+asimut_enough : Enough asimut
+asimut_enough a fit =
+    let f = both (is_source asimut.endings (files a)) (list_all (setting_fits a) asimut.settings) fit in
+    let p = both (setting_fits a patterns) true f.1 in
+    asimut_from _ _ _ _ (has_some asimut.endings (only (files a)) f.0).1 (value_of_one a patterns _ p.0).1
+
+each : Each Enough tools
+each = (flow_enough, (asimut_enough, tt))
+
+pub enough : FittingIsEnough
+enough e arguments h fit = found Enough (λ (x : Entry). is_word x.word e.word) tools e each h arguments fit

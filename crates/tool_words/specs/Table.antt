@@ -1,0 +1,66 @@
+-- The table of tools: for each its word, its SOURCE and its options. A tool more is an entry more.
+use Rattle.std.specs.Prelude.{ℕ, List, [], ◌∷◌, Option, codes}
+use Rattle.std.specs.List.{find}
+use Rattle.tool_words.specs.declared.table.Tool.{Tool}
+use Rattle.tool_words.specs.declared.table.Tool.TheVariants as tool
+use Rattle.tool_words.specs.Words.{is_word}
+
+-- what an option's value is
+pub data Form : Type 0 where
+  -- it has none: the option is a flag
+  Flag : Form
+  -- any text
+  Text : Form
+  -- a text with this ending
+  Ending : List ℕ → Form
+  -- a number in decimal digits, from the first to the second
+  Number : ℕ → ℕ → Form
+  -- one of these letters
+  Letter : List ℕ → Form
+
+-- how often an option stands among the words
+pub data Need : Type 0 where
+  Once : Need
+  -- at most once; where it doesn't stand, this number or letter is its value, if there is one
+  Perhaps : Option ℕ → Need
+  -- once where SOURCE has this ending, and never elsewhere
+  With : List ℕ → Need
+
+-- an option: its word, how the usage line calls its value, how often it stands, and what its value is
+pub record Setting : Type 0 where
+  pub word : List ℕ
+  pub value : List ℕ
+  pub need : Need
+  pub form : Form
+
+-- a tool: its word, the endings of which its SOURCE has one, and its options; without endings it has no SOURCE
+pub record Entry : Type 0 where
+  pub tool : Tool
+  pub word : List ℕ
+  pub endings : List (List ℕ)
+  pub settings : List Setting
+
+abbrev pub library : Setting
+library = record { word = codes "-l"; value = codes "DIR"; need = Once; form = Text }
+
+abbrev pub out : Setting
+out = record { word = codes "-o"; value = codes "NAME"; need = Once; form = Text }
+
+abbrev pub patterns : Setting
+patterns = record { word = codes "-p"; value = codes "PATTERNS"; need = Once; form = Ending (codes ".pat") }
+
+abbrev pub tracks : Setting
+tracks = record { word = codes "--tracks"; value = []; need = Once; form = Flag }
+
+abbrev pub flow : Entry
+flow = record { tool = tool.Flow; word = codes "flow"; endings = codes ".vbe" ∷ codes ".fsm" ∷ []; settings = library ∷ out ∷ tracks ∷ [] }
+
+abbrev pub asimut : Entry
+asimut = record { tool = tool.Asimut; word = codes "asimut"; endings = codes ".vbe" ∷ []; settings = patterns ∷ [] }
+
+abbrev pub tools : List Entry
+tools = flow ∷ asimut ∷ []
+
+-- the tool with this word
+abbrev pub tool_of : List ℕ → Option Entry
+tool_of word = find (λ (e : Entry). is_word e.word word) tools

@@ -1,0 +1,119 @@
+// The table of tools: for each its word, its SOURCE and its options. A tool more is an entry more.
+ghost use Rattle.std.specs.Prelude.{◌≡◌, map, option_map};
+ghost use Rattle.tool_words.specs.Table.{tools, tool_of};
+ghost use Rattle.tool_words.specs.View.{entry_view};
+
+use crate::words::is_same;
+
+/// The tools.
+#[derive(Clone, Copy)]
+pub enum Tool {
+    Flow,
+    Asimut,
+}
+
+/// What an option's value is.
+#[derive(Clone, Copy)]
+pub(crate) enum Form {
+    /// It has none: the option is a flag.
+    Flag,
+    /// Any text.
+    Text,
+    /// A text with this ending.
+    Ending(&'static str),
+    /// A number in decimal digits, from the first to the second.
+    Number(u32, u32),
+    /// One of these letters.
+    Letter(&'static str),
+}
+
+/// How often an option stands among the words.
+#[derive(Clone, Copy)]
+pub(crate) enum Need {
+    Once,
+    /// At most once. Where it doesn't stand, this number or letter is its value, if there is one.
+    Perhaps(Option<u32>),
+    /// Once where SOURCE has this ending, and never elsewhere.
+    With(&'static str),
+}
+
+/// An option: its word, how the usage line calls its value, how often it stands, and what its value is.
+#[derive(Clone, Copy)]
+pub(crate) struct Setting {
+    pub(crate) word: &'static str,
+    pub(crate) value: &'static str,
+    pub(crate) need: Need,
+    pub(crate) form: Form,
+}
+
+/// A tool: its word, the endings of which its SOURCE has one, and its options. Without endings it has no SOURCE.
+#[derive(Clone, Copy)]
+pub(crate) struct Entry {
+    pub(crate) tool: Tool,
+    pub(crate) word: &'static str,
+    pub(crate) endings: &'static [&'static str],
+    pub(crate) settings: &'static [Setting],
+}
+
+const LIBRARY: Setting = Setting {
+    word: "-l",
+    value: "DIR",
+    need: Need::Once,
+    form: Form::Text,
+};
+
+const OUT: Setting = Setting {
+    word: "-o",
+    value: "NAME",
+    need: Need::Once,
+    form: Form::Text,
+};
+
+const PATTERNS: Setting = Setting {
+    word: "-p",
+    value: "PATTERNS",
+    need: Need::Once,
+    form: Form::Ending(".pat"),
+};
+
+const TRACKS: Setting = Setting {
+    word: "--tracks",
+    value: "",
+    need: Need::Once,
+    form: Form::Flag,
+};
+
+const TOOLS: &[Entry] = &[
+    Entry {
+        tool: Tool::Flow,
+        word: "flow",
+        endings: &[".vbe", ".fsm"],
+        settings: &[LIBRARY, OUT, TRACKS],
+    },
+    Entry {
+        tool: Tool::Asimut,
+        word: "asimut",
+        endings: &[".vbe"],
+        settings: &[PATTERNS],
+    },
+];
+
+/// All tools.
+pub(crate) fn tools() -> &'static [Entry]
+    ensures { map entry_view result.now ≡ tools }
+{
+    TOOLS
+}
+
+/// The tool with this word.
+pub(crate) fn tool_of(word: &[u8]) -> Option<Entry>
+    ensures { option_map entry_view result ≡ tool_of word.now }
+{
+    let entries = tools();
+    for entry in entries {
+        if is_same(entry.word.as_bytes(), word) {
+            return Some(*entry);
+        }
+    }
+    None
+}

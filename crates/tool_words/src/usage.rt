@@ -1,0 +1,120 @@
+// The usage lines, from the table.
+ghost use Rattle.std.specs.Prelude.{◌≡◌, ◌++◌, map, OnOk, IfOk, option_map};
+ghost use Rattle.tool_words.specs.Usage.{source_usage, value_usage, setting_usage, settings_usage, entry_usage, more_words, tool_words, of_words, usage_of};
+ghost use Rattle.tool_words.specs.View.{form_view, setting_view, settings_view, texts_view, entry_view};
+
+use crate::table::{Entry, Form, Need, Setting, tool_of, tools};
+use crate::words::Words;
+use std::alloc::{AllocError, Global};
+use vlsi_base::FileBytes;
+
+// SOURCE, with its ending where it may have but one.
+fn source(out: &mut FileBytes, endings: &[&'static str]) -> Result<(), AllocError>
+    ensures { OnOk result (out.new ≡ out.old ++ source_usage (texts_view endings.now)) }
+{
+    match endings {
+        [] => Ok(()),
+        [ending] => {
+            out.append(b" SOURCE")?;
+            out.append(ending.as_bytes())
+        }
+        _ => out.append(b" SOURCE"),
+    }
+}
+
+fn value(out: &mut FileBytes, form: Form, value: &str) -> Result<(), AllocError>
+    ensures { OnOk result (out.new ≡ out.old ++ value_usage (form_view form) value.now) }
+{
+    match form {
+        Form::Flag => Ok(()),
+        Form::Ending(ending) => {
+            out.append(b" ")?;
+            out.append(value.as_bytes())?;
+            out.append(ending.as_bytes())
+        }
+        _ => {
+            out.append(b" ")?;
+            out.append(value.as_bytes())
+        }
+    }
+}
+
+// What may be left out stands in brackets.
+fn setting(out: &mut FileBytes, setting: Setting) -> Result<(), AllocError>
+    ensures { OnOk result (out.new ≡ out.old ++ setting_usage (setting_view setting)) }
+{
+    if let Need::Once = setting.need {
+        out.append(b" ")?;
+        out.append(setting.word.as_bytes())?;
+        value(out, setting.form, setting.value)
+    } else {
+        out.append(b" [")?;
+        out.append(setting.word.as_bytes())?;
+        value(out, setting.form, setting.value)?;
+        out.append(b"]")
+    }
+}
+
+fn settings(out: &mut FileBytes, items: &[Setting]) -> Result<(), AllocError>
+    ensures { OnOk result (out.new ≡ out.old ++ settings_usage (settings_view items.now)) }
+{
+    for item in items {
+        setting(out, *item)?;
+    }
+    Ok(())
+}
+
+// A tool's word, its SOURCE and its options.
+fn entry(out: &mut FileBytes, entry: Entry) -> Result<(), AllocError>
+    ensures { OnOk result (out.new ≡ out.old ++ entry_usage (entry_view entry)) }
+{
+    out.append(entry.word.as_bytes())?;
+    source(out, entry.endings)?;
+    settings(out, entry.settings)
+}
+
+// The tools' words, with bars between.
+fn all_tools(out: &mut FileBytes, entries: &[Entry]) -> Result<(), AllocError>
+    ensures { OnOk result (out.new ≡ out.old ++ tool_words (map entry_view entries.now)) }
+{
+    let Some((first, rest)) = entries.split_first() else {
+        return Ok(());
+    };
+    out.append(first.word.as_bytes())?;
+    more_words(out, rest)
+}
+
+fn more_words(out: &mut FileBytes, entries: &[Entry]) -> Result<(), AllocError>
+    ensures { OnOk result (out.new ≡ out.old ++ more_words (map entry_view entries.now)) }
+{
+    for entry in entries {
+        out.append(b"|")?;
+        out.append(entry.word.as_bytes())?;
+    }
+    Ok(())
+}
+
+fn entry_of(words: &Words) -> Option<Entry>
+    ensures { option_map entry_view result ≡ of_words words.now }
+{
+    match words.as_slice() {
+        [] => None,
+        [tool, ..] => tool_of(tool.as_bytes()),
+    }
+}
+
+/// The line on wrong words: of the tool that the first word names, or of all tools. It takes memory for the line.
+pub fn usage_line(alloc: Global, words: &Words) -> Result<FileBytes, AllocError>
+    ensures { IfOk result (λ bytes. bytes ≡ usage_of words.now) }
+{
+    let mut line = FileBytes::from_bytes(alloc, b"usage: alliance ")?;
+    match entry_of(words) {
+        Some(tool) => entry(&mut line, tool)?,
+        None => {
+            all_tools(&mut line, tools())?;
+            line.append(b" ARGUMENTS")?;
+        }
+    }
+    line.append(b"\n")?;
+    Ok(line)
+}
