@@ -3,7 +3,7 @@ ghost use Rattle.std.specs.Prelude.{◌≡◌, length, IfOk};
 ghost use Rattle.bool_expr.specs.Expression.{IsOver, inverse as inverse_of, pair as pair_of, choice as choice_of};
 ghost use Rattle.bool_expr.specs.View.{view};
 
-use crate::{Bits, Expr, Gate, copy, renumbered, size, support, value};
+use bool_expr::{Bits, Expr, Gate, copy, renumbered, size, support, value};
 use std::alloc::{AllocError, Global};
 use std::test::Fail;
 

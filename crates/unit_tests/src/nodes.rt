@@ -2,7 +2,7 @@
 ghost use Rattle.std.specs.Prelude.{◌<◌, length, IsTrue};
 ghost use Rattle.std.specs.List.{All};
 
-use crate::{Order, order};
+use bit_order::{Order, order};
 use std::alloc::{AllocError, Global};
 use std::test::Fail;
 

@@ -1,7 +1,7 @@
 // Texts and what they are cut into, written by hand from the language's rules.
-use crate::tokens;
 use std::alloc::{AllocError, Global};
 use std::test::Fail;
+use vhdl_lexer::tokens;
 use vhdl_token::{Base, Token, Tokens};
 use vlsi_base::{FaultKind, LimitKind, Pragma, ReadError};
 
