@@ -1,19 +1,13 @@
-#!/usr/bin/env python3
-"""Runs the reader of VHDL fronts (the program front_probe) against a second reader, front_oracle.py, on many texts.
+"""The program front_probe against the second reader of VHDL, on many texts.
 
-Usage: acceptance/front.py PROGRAM [SEED]
-
-The texts are every prefix of each example, each byte of each example changed to each of a dozen others, every limit at
-its number and one past it, and texts made at random of tokens. Each answer has to be the oracle's, line and names
-included. It prints the texts that differ and `N passed, M failed`.
+The texts are every prefix of two examples, each byte of them changed to each of a dozen others, every limit at its number
+and one past it, and texts made at random of tokens.
 """
-import pathlib
+
 import random
 import subprocess
-import sys
 
-sys.path.insert(0, str(pathlib.Path(__file__).parent))
-from front_oracle import answer  # noqa: E402
+from vhdl_reader import Reader, Refused, lex
 
 EXAMPLES = [
     b"""-- one inverter
@@ -42,6 +36,33 @@ END;
 """,
 ]
 CHANGES = b"(;\"'a0-_ \n<x"
+RANDOM = 3000
+CHUNK = 1500
+
+
+def answer(text):
+    """The line that the probe has to print: of the entity, of the declarations behind the first `signal` or `begin`, and of
+    the expression behind each `<=` up to its `;`."""
+    try:
+        reader = Reader(*lex(text))
+        name = reader.entity()
+        ports = len(reader.symbols)
+        while reader.kind() not in ("signal", "begin", None):
+            reader.at += 1
+        reader.declarations()
+        signals = len(reader.symbols) - ports
+        expressions = 0
+        while reader.kind() is not None:
+            if reader.kind() == "<=":
+                reader.at += 1
+                reader.expression_anew()
+                expressions += 1
+                if reader.kind() != ";":
+                    raise reader.syntax()
+            reader.at += 1
+        return f"read {name} {ports} {signals} {expressions}"
+    except Refused as refused:
+        return str(refused)
 
 
 def entity(ports="a : in bit; q : out bit"):
@@ -103,7 +124,7 @@ def at_random(choose, count):
         yield entity() + b"begin q <= " + expression + b" ;"
 
 
-def texts(seed):
+def texts(seed, times):
     for example in EXAMPLES:
         for at in range(len(example) + 1):
             yield example[:at]
@@ -112,26 +133,22 @@ def texts(seed):
                 yield example[:at] + bytes([byte]) + example[at + 1 :]
             yield example[:at] + example[at + 1 :]
     yield from limits()
-    yield from at_random(random.Random(seed), 3000)
+    yield from at_random(random.Random(seed), RANDOM * times)
 
 
-def main():
-    program, seed = sys.argv[1], int(sys.argv[2]) if len(sys.argv) > 2 else 1
-    cases = list(dict.fromkeys(texts(seed)))
-    given = b"".join(b"%d\n" % len(case) + case for case in cases)
-    printed = subprocess.run([program], input=given, stdout=subprocess.PIPE).stdout.decode().split("\n")
-    passed, failed = 0, 0
-    for case, line in zip(cases, printed + [""] * len(cases)):
-        wanted = answer(case)
-        if line == wanted:
-            passed += 1
-            continue
-        failed += 1
-        if failed <= 20:
-            print(f"FAILED: {case[:300]!r}: printed {line!r}, wanted {wanted!r}")
-    print(f"{passed} passed, {failed} failed")
-    return 1 if failed or len(printed) != len(cases) + 1 else 0
+def check(results, probe, chunk):
+    """One run of the probe on all these texts: the number of bytes, LF, the bytes, and so on."""
+    given = b"".join(b"%d\n" % len(text) + text for text in chunk)
+    done = subprocess.run([probe], input=given, stdout=subprocess.PIPE, stderr=subprocess.PIPE)
+    printed = done.stdout.decode().split("\n")
+    if done.returncode or done.stderr or len(printed) != len(chunk) + 1:
+        results.note("the probe's end", False, f"status {done.returncode}, {len(printed) - 1} lines for {len(chunk)} texts, {done.stderr[:200]!r}")
+    for text, line in zip(chunk, printed + [""] * len(chunk)):
+        wanted = answer(text)
+        results.note(f"the front {text[:300]!r}", line == wanted, f"printed {line!r}, wanted {wanted!r}")
 
 
-if __name__ == "__main__":
-    sys.exit(main())
+def jobs(probe, seed, times):
+    all_texts = list(dict.fromkeys(texts(seed, times)))
+    for at in range(0, len(all_texts), CHUNK):
+        yield check, (probe, all_texts[at : at + CHUNK])

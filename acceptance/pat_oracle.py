@@ -5,9 +5,8 @@
 
 import functools
 
-from front_oracle import DIGITS, IDENT, LETTERS, NUMBER, SIGNS, Refused, fault, limit
 from vbe_oracle import FILE, Ring, machine
-from vbe_reader import SUPPLIES, spelled
+from vhdl_reader import DIGITS, LETTERS, SUPPLIES, Refused, Scanner, fault, limit, spelled
 
 MEANT = ("in", "out", "begin", "end")
 UNITS = {"fs": 1, "ps": 10**3, "ns": 10**6, "us": 10**9, "ms": 10**12}
@@ -16,53 +15,24 @@ FORMATS = {"b": (1, "01"), "o": (3, "01234567"), "x": (4, "0123456789abcdef")}
 
 def lex(text):
     """The tokens as (kind, value, line), and the line of the end. Behind a colon, up to a semicolon, digits are cut."""
-    tokens, at, line, behind = [], 0, 1, False
-    while at < len(text):
-        c = text[at]
-        end = at
-        if c in b" \t\r\n":
-            line += c == 10
-            at += 1
-        elif (c in LETTERS or c in DIGITS) and behind:
-            while end < len(text) and (text[end] in LETTERS or text[end] in DIGITS):
-                end += 1
-            tokens.append(("digits", text[at:end].decode().lower(), line))
-            at = end
+    scan, behind = Scanner(text), False
+    while scan.at < len(text):
+        c = text[scan.at]
+        if scan.passes_blank():
+            continue
+        if (c in LETTERS or c in DIGITS) and behind:
+            end = scan.past(LETTERS | DIGITS)
+            scan.push("digits", text[scan.at : end].decode().lower(), end)
         elif c in LETTERS:
-            while end < len(text) and (text[end] in LETTERS or text[end] in DIGITS or text[end] == 95):
-                end += 1
-            word = text[at:end].decode().lower()
-            if len(word) > IDENT:
-                raise limit("ident", len(word))
-            tokens.append((word if word in MEANT else "id", word, line))
-            at = end
+            scan.word(MEANT)
         elif c in DIGITS:
-            while end < len(text) and text[end] in DIGITS:
-                end += 1
-            value = int(text[at:end].lstrip(b"0")[:40] or b"0")
-            if value > NUMBER:
-                raise limit("number", value)
-            tokens.append(("number", value, line))
-            at = end
+            scan.number()
         elif c == 34:
-            end = at + 1
-            while end < len(text) and text[end] not in b'"\n':
-                end += 1
-            if text[end : end + 1] != b'"':
-                raise fault(line, "bad byte")
-            tokens.append(("quoted", None, line))
-            at = end + 1
-        elif text.startswith(b"--", at):
-            while at < len(text) and text[at] != 10:
-                at += 1
+            scan.quoted()
         else:
-            sign = next((s for s in SIGNS if text.startswith(s.encode(), at)), None)
-            if sign is None:
-                raise fault(line, "bad byte")
+            sign = scan.sign()
             behind = True if sign == ":" else False if sign == ";" else behind
-            tokens.append((sign, sign, line))
-            at += len(sign)
-    return tokens, max(text.count(b"\n") + (not text.endswith(b"\n")), 1)
+    return scan.tokens, scan.last_line()
 
 
 class Column:

@@ -4,12 +4,8 @@
 patterns on it.
 """
 
-import sys
-
-from front_oracle import Refused, fault, lex, limit
-from vbe_reader import SUPPLIES, SourceReader, bits_of, numbers, ordered, spelled
-
-sys.setrecursionlimit(100000)
+from vbe_reader import SourceReader
+from vhdl_reader import SUPPLIES, Refused, bits_of, fault, lex, limit, numbers, ordered, spelled
 
 PORTS, FILE = 4096, 1048576
 

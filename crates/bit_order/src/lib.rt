@@ -4,8 +4,6 @@
 mod law;
 mod outcome;
 mod sorting;
-#[cfg(test)]
-mod tests;
 mod walk;
 
 pub use law::an_order_leaves_no_ring;

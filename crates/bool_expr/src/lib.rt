@@ -3,8 +3,6 @@
 
 mod copies;
 mod expr;
-#[cfg(test)]
-mod tests;
 mod values;
 mod variables;
 

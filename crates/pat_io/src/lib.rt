@@ -8,8 +8,6 @@ mod index;
 mod known;
 mod laws;
 mod reader;
-#[cfg(test)]
-mod tests;
 mod times;
 mod widths;
 mod writer;

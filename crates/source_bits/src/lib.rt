@@ -7,8 +7,6 @@ mod driven;
 mod formulas;
 mod numbers;
 mod ranges;
-#[cfg(test)]
-mod tests;
 mod vectors;
 
 pub use choices::choice_bits;

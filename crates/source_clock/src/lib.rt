@@ -6,8 +6,6 @@ mod clocks;
 mod faults;
 mod guards;
 mod reads;
-#[cfg(test)]
-mod tests;
 
 pub use clocks::clock;
 pub use faults::clock_fault;

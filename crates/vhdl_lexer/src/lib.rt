@@ -5,7 +5,5 @@ mod blanks;
 mod comment;
 mod listing;
 mod piece;
-#[cfg(test)]
-mod tests;
 
 pub use listing::tokens;

@@ -57,30 +57,3 @@ pub fn push_u64(alloc: Global, to: &mut Text, n: u64) -> Result<(), AllocError>
     let digits = n.to_string(alloc)?;
     to.append(digits.as_bytes())
 }
-
-#[cfg(test)]
-mod tests {
-    use super::*;
-    use std::test::Fail;
-
-    #[test]
-    fn reads_and_writes_numbers(rt: HostRuntime) -> Result<(), Fail> {
-        for (text, number) in [
-            ("0", Some(0)),
-            ("007", Some(7)),
-            ("18446744073709551615", Some(u64::MAX)),
-            ("18446744073709551616", None),
-            ("00000000000000000001", Some(1)),
-            ("000000000000000000001", None),
-            ("", None),
-            ("-1", None),
-            ("1 ", None),
-        ] {
-            assert_eq!(rt; read_u64(text.as_bytes()), number, "at {text}");
-        }
-        let mut text = Text::from_bytes(rt.alloc(), b"q")?;
-        push_u64(rt.alloc(), &mut text, 120)?;
-        assert_eq!(rt; text.as_bytes(), b"q120".as_slice());
-        Ok(())
-    }
-}

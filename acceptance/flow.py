@@ -1,0 +1,29 @@
+"""What no case of `flow` has: paths from the root, words that are no text, and a very long source."""
+
+from case_file import ROWS, Case
+from results import Room, compare
+
+ROW = ROWS / "flow-layouts/one-inverter.txt"
+USAGE = b"usage: alliance flow|asimut ARGUMENTS\n"
+WORDS = ["flow", "row1.vbe", "-l", "lib", "-o", "out", "--tracks"]
+
+
+def check(results, program):
+    case = Case(ROW)
+    with Room() as room:
+        room.write(case.before)
+        status, printed = room.run(program, ["flow", "row1.vbe", "-l", f"{room.folder}/lib", "-o", f"{room.folder}/out", "--tracks"])
+        compare(results, "flow with paths from the root", (status, printed, room.held()), 0, case.printed, {**case.before, **case.after})
+    rows = [
+        ("a word of flow that is no text", case.before, ["flow", b"\xff.vbe", *WORDS[2:]], 1, USAGE),
+        ("a source of 3000000 bytes", {**case.before, "row1.vbe": bytes(3000000)}, WORDS, 10, b"flow: beyond\n"),
+        ("an output in a folder that isn't there", case.before, [*WORDS[:5], "nowhere/out", WORDS[6]], 7, b"flow: file: write fault nowhere/out.ap\n"),
+    ]
+    for title, files, words, status, line in rows:
+        with Room() as room:
+            room.write(files)
+            compare(results, title, (*room.run(program, words), room.held()), status, line, files)
+
+
+def jobs(program, seed, times):
+    yield check, (program,)

@@ -1,0 +1,70 @@
+#!/usr/bin/env python3
+"""Runs the built programs on real files and on many texts.
+
+Usage: acceptance/run.py PROGRAM FRONT_PROBE [--many] [--seed N]
+
+PROGRAM is `alliance`, FRONT_PROBE the program that reads fronts of VHDL texts. Run are the cases of crates/rows/data and of
+acceptance/large, each as its file says; each again with a folder in the place of every file that it reads or writes, with
+that file missing, and on a full disk; the second readers on the same cases; and then the texts that each tool's module makes. Each
+language has one second reader, written from docs/FORMATS.md in this language; nothing that a program printed is wanted of it.
+
+--many makes ten times as many random texts. What can't be run on this machine is skipped with a line. The last line is
+`N passed, N failed, N skipped`.
+"""
+import argparse
+import os
+import pathlib
+import sys
+from multiprocessing import Pool
+
+sys.path.insert(0, str(pathlib.Path(__file__).parent))
+import front  # noqa: E402
+from case_file import case_files  # noqa: E402
+from cases import check_case  # noqa: E402
+from results import Results  # noqa: E402
+from tools import TOOLS  # noqa: E402
+
+MOST_SHOWN = 40
+
+
+def jobs_of(program, probe, seed, times):
+    """Functions with what they are given behind the results, the longest first."""
+    yield from front.jobs(probe, seed, times)
+    for tool in TOOLS.values():
+        yield from tool.jobs(program, seed, times)
+    for path in case_files():
+        yield check_case, (program, path)
+
+
+def work(job):
+    function, given = job
+    results = Results()
+    function(results, *given)
+    return results
+
+
+def main():
+    reader = argparse.ArgumentParser(usage="%(prog)s PROGRAM FRONT_PROBE [--many] [--seed N]")
+    reader.add_argument("program", type=pathlib.Path)
+    reader.add_argument("front_probe", type=pathlib.Path)
+    reader.add_argument("--many", action="store_true")
+    reader.add_argument("--seed", type=int, default=1)
+    given = reader.parse_args()
+    for program in (given.program, given.front_probe):
+        if not os.access(program, os.X_OK):
+            reader.error(f"{program} can't be run")
+    jobs = list(jobs_of(str(given.program.resolve()), str(given.front_probe.resolve()), given.seed, 10 if given.many else 1))
+    total = Results()
+    with Pool(os.cpu_count()) as pool:
+        for results in pool.imap_unordered(work, jobs):
+            total.add(results)
+    for line in total.failures[:MOST_SHOWN]:
+        print(f"FAILED: {line}")
+    for line in sorted(set(total.skips)):
+        print(f"skipped: {line}")
+    print(f"{total.passed} passed, {len(total.failures)} failed, {len(total.skips)} skipped")
+    return 1 if total.failures else 0
+
+
+if __name__ == "__main__":
+    sys.exit(main())

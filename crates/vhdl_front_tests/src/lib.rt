@@ -1,5 +1,0 @@
-//! Texts, and what the reader of their front part answers.
-#![tactic(auto)]
-
-#[cfg(test)]
-mod tests;
