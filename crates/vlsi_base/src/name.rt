@@ -97,7 +97,7 @@ pub struct Port {
 pub type Ports = Listed<Port>;
 
 /// A place where a net ends: a port of the netlist, which has no instance, or a pin of an instance.
-#[derive(Drop)]
+#[derive(Debug, Drop)]
 pub struct Terminal {
     pub instance: Option<Text>,
     pub pin: Name,
