@@ -23,7 +23,8 @@ abbrev pub grid_lines : ℤ → ℕ
 grid_lines (pos n) = n / 500 + 1
 grid_lines (negsuc n) = 0
 
--- the points of a cell's box, with the corner as origin, both of whose coordinates are multiples of 500; in order of x and then of y
+-- the points of a cell's box, with the corner as origin, both of whose coordinates are multiples of 500; in order of x and
+-- then of y
 abbrev pub grid_points : Cell → List Point
 grid_points c =
     flat_map (λ a. map (λ b. (pos (500 * a), pos (500 * b))) (count_to (grid_lines (cell_height c)))) (count_to (grid_lines (cell_width c)))
@@ -35,11 +36,15 @@ abbrev pub is_named : Name → Option Name → Bool
 is_named pin None = false
 is_named pin (Some name) = is_same_name name pin
 
+-- a rectangle of a cell, counted from the lower left corner of its box
+abbrev pub from_corner : Cell → Rect → Rect
+from_corner c r = moved r (pos 0 -ℤ c.bounds.x1) (pos 0 -ℤ c.bounds.y1)
+
 -- The square of 200 about the point lies within one connector rectangle of the pin on metal 1. (All such points of a
 -- usable cell lie in its box.)
 abbrev pub is_access_node : Cell → Name → Point → Bool
 is_access_node c pin q =
-    list_any (λ s. nat_eq s.metal 1 && is_named pin s.name && holds (moved s.rect (pos 0 -ℤ c.bounds.x1) (pos 0 -ℤ c.bounds.y1)) (square q.0 q.1 (pos 200))) (drawn c.items)
+    list_any (λ s. nat_eq s.metal 1 && is_named pin s.name && holds (from_corner c s.rect) (square q.0 q.1 (pos 200))) (drawn c.items)
 
 abbrev pub access_nodes : Cell → Name → List Point
 access_nodes c pin = filter_map (λ q. if is_access_node c pin q then Some q else None) (grid_points c)

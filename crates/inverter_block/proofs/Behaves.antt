@@ -12,7 +12,7 @@ use Rattle.cell_model.specs.Cell.{Cell, gate}
 use Rattle.cell_model.specs.Library.{Library, cell_of, IsPlain}
 use Rattle.net_meaning.specs.Netlist.{Member, Netlist}
 use Rattle.vlsi_base.specs.Names.{scalar}
-use Rattle.net_meaning.specs.Behaviour.{Contents, Valuation, NetSettles, Drives, NetTrace, net_next, net_outs}
+use Rattle.net_meaning.specs.Behaviour.{Contents, Valuation, NetSettles, Drives, net_next, net_outs}
 use Rattle.net_meaning.specs.Agreement.{Agrees}
 use Rattle.cell_model.proofs.Texts.{scalar_differs, scalar_itself}
 use Rattle.net_meaning.proofs.Plain.{ArePlain, next_same}

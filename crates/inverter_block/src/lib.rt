@@ -10,6 +10,3 @@ mod report;
 pub use block::{cell_figure, inverter_figure};
 pub use law::{inverter_law, inverter_machine_law};
 pub use report::inverter_report;
-
-#[cfg(test)]
-mod tests;

@@ -29,11 +29,27 @@ high_half w = w -ℤ int_div w (pos 2)
 
 -- The rectangle of a segment between its ends, whatever their order: widened across by its width, and 100 longer at
 -- both ends.
+abbrev pub upright_rect : Segment → Rect
+upright_rect s = record {
+  x1 = int_min s.x1 s.x2 -ℤ low_half s.width;
+  y1 = int_min s.y1 s.y2 -ℤ pos 100;
+  x2 = int_max s.x1 s.x2 +ℤ high_half s.width;
+  y2 = int_max s.y1 s.y2 +ℤ pos 100;
+}
+
+abbrev pub level_rect : Segment → Rect
+level_rect s = record {
+  x1 = int_min s.x1 s.x2 -ℤ pos 100;
+  y1 = int_min s.y1 s.y2 -ℤ low_half s.width;
+  x2 = int_max s.x1 s.x2 +ℤ pos 100;
+  y2 = int_max s.y1 s.y2 +ℤ high_half s.width;
+}
+
 abbrev pub run_rect : Direction → Segment → Rect
-run_rect Up s = record { x1 = int_min s.x1 s.x2 -ℤ low_half s.width; y1 = int_min s.y1 s.y2 -ℤ pos 100; x2 = int_max s.x1 s.x2 +ℤ high_half s.width; y2 = int_max s.y1 s.y2 +ℤ pos 100 }
-run_rect Down s = record { x1 = int_min s.x1 s.x2 -ℤ low_half s.width; y1 = int_min s.y1 s.y2 -ℤ pos 100; x2 = int_max s.x1 s.x2 +ℤ high_half s.width; y2 = int_max s.y1 s.y2 +ℤ pos 100 }
-run_rect Left s = record { x1 = int_min s.x1 s.x2 -ℤ pos 100; y1 = int_min s.y1 s.y2 -ℤ low_half s.width; x2 = int_max s.x1 s.x2 +ℤ pos 100; y2 = int_max s.y1 s.y2 +ℤ high_half s.width }
-run_rect Right s = record { x1 = int_min s.x1 s.x2 -ℤ pos 100; y1 = int_min s.y1 s.y2 -ℤ low_half s.width; x2 = int_max s.x1 s.x2 +ℤ pos 100; y2 = int_max s.y1 s.y2 +ℤ high_half s.width }
+run_rect Up s = upright_rect s
+run_rect Down s = upright_rect s
+run_rect Left s = level_rect s
+run_rect Right s = level_rect s
 
 abbrev pub segment_rect : Segment → Rect
 segment_rect s = run_rect s.direction s
