@@ -14,17 +14,6 @@ pub record Climbs (olds news : List Entry) (metal : ℕ) (r : Rect) (place low h
   pub adds : AddsOf olds news place
   pub each : (b : ℕ) → low ≤ b → b ≤ high → Contains news (entry_at metal r place b)
 
-pub begins : (xs : List Entry) (metal : ℕ) (r : Rect) (place low : ℕ) → Climbs xs (xs ++ entry_at metal r place low ∷ []) metal r place low low
-begins xs metal r place low =
-    let first : Entry = entry_at metal r place low in
-    record {
-      adds = record {
-        kept = λ e h. Contains-append_left xs (first ∷ []) e h;
-        only = λ e h other. elim (Contains-push_cases xs first e h) [ inl before ↦ before | inr is ↦ absurd (other (ap (λ (x : Entry). x.place) (sym is))) ];
-      };
-      each = λ b from upto. let e : low ≡ b = omega arith in subst (λ (k : ℕ). Contains (xs ++ first ∷ []) (entry_at metal r place k)) e (Contains-push xs first);
-    }
-
 pub climbs : (olds news : List Entry) (metal : ℕ) (r : Rect) (place low high : ℕ) → Climbs olds news metal r place low high
     → Climbs olds (news ++ entry_at metal r place (high + 1) ∷ []) metal r place low (high + 1)
 climbs olds news metal r place low high c =

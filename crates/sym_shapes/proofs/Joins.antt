@@ -1,12 +1,11 @@
 -- Groups that hold joined shapes alone, and all that are linked, are the chains of links.
-use Rattle.std.proofs.Common.{◌≡◌, ℕ, zero, suc, ◌+◌, ◌<◌, ◌↔◌, inl, inr, List, [], ◌∷◌, length, get_or, refl, sym, ◌∙◌, subst, arith}
-use Rattle.std.proofs.lemmas.Bool.{cases_lt}
+use Rattle.std.proofs.Common.{◌≡◌, ℕ, zero, suc, ◌<◌, List, [], ◌∷◌, length, get_or, refl, sym, ◌∙◌, subst, arith}
 use Rattle.vlsi_base.specs.Member.{In, here, there}
 use Rattle.sym_shapes.specs.Shape.{Shape}
 use Rattle.sym_shapes.specs.Joined.{Linked, touching, one_line, one_name, Joined, itself, through}
-use Rattle.sym_groups.specs.Ties.{Tied, same, Bridged, before, over, back, JoinsTies, Alone, LabelsTies}
-use Rattle.sym_groups.proofs.Steps.{tied_then, tied_back}
-use Rattle.sym_shapes.specs.Joints.{NumbersJoined, AreJoined, Grows, Covers}
+use Rattle.sym_groups.specs.Ties.{Tied, Bridged, before, over, back, JoinsTies, Alone, LabelsTies}
+use Rattle.sym_groups.proofs.Steps.{tied_then}
+use Rattle.sym_shapes.specs.Joints.{NumbersJoined, TiesJoined, Grows, Covers}
 
 pub in_at : (xs : List Shape) (k : ℕ) (d : Shape) → k < length xs → In (get_or xs k d) xs
 in_at [] k d h = absurd (omega arith)
@@ -58,7 +57,7 @@ grows_none shapes ps = record { many = refl; kept = λ i j t. t; joined = λ h. 
 pub grows_then : {shapes : List Shape} {ps qs rs : List ℕ} → Grows shapes ps qs → Grows shapes qs rs → Grows shapes ps rs
 grows_then v w = record { many = v.many ∙ w.many; kept = λ i j t. w.kept i j (v.kept i j t); joined = λ h. w.joined (v.joined h) }
 
-pub alone_joined : (shapes : List Shape) (ps : List ℕ) → Alone ps → AreJoined shapes ps
+pub alone_joined : (shapes : List Shape) (ps : List ℕ) → Alone ps → TiesJoined shapes ps
 alone_joined shapes ps alone i j d hi hj t =
     subst (λ (k : ℕ). Joined shapes (get_or shapes i d) (get_or shapes k d)) (alone i j t) (itself (in_at shapes i d hi))
 
@@ -72,47 +71,10 @@ tied_so shapes ps d covers (through {b = mid} h link rest) i j hi hj ia jb =
     tied_then (covers i k.at d hi k.within (rw (ia, k.is) link)) (tied_so shapes ps d covers rest k.at j k.within hj k.is jb)
 
 -- the theorem of the groups
-pub numbers_so : (shapes : List Shape) (ps numbers : List ℕ) → length ps ≡ length shapes → AreJoined shapes ps → Covers shapes ps → LabelsTies ps numbers → NumbersJoined shapes numbers
+pub numbers_so : (shapes : List Shape) (ps numbers : List ℕ) → length ps ≡ length shapes → TiesJoined shapes ps → Covers shapes ps → LabelsTies ps numbers → NumbersJoined shapes numbers
 numbers_so shapes ps numbers many sound covers labels i j d hi hj =
     let both = labels i j (rw many hi) (rw many hj) in
     (λ e. sound i j d hi hj (both.0 e), λ joined. both.1 (tied_so shapes ps d covers joined i j hi hj refl refl))
-
--- the pairs that have been looked at: all below n, and those of i with what is below m
-abbrev pub CoversBelow : List Shape → List ℕ → ℕ → Type 0
-CoversBelow shapes ps n = (i j : ℕ) (d : Shape) → i < length shapes → i < n → j < i → Linked (get_or shapes i d) (get_or shapes j d) → Tied ps i j
-
-abbrev pub CoversRow : List Shape → List ℕ → ℕ → ℕ → Type 0
-CoversRow shapes ps i m = (j : ℕ) (d : Shape) → j < m → Linked (get_or shapes i d) (get_or shapes j d) → Tied ps i j
-
-pub covers_kept : {shapes : List Shape} {ps qs : List ℕ} {n : ℕ} → Grows shapes ps qs → CoversBelow shapes ps n → CoversBelow shapes qs n
-covers_kept w h i j d hi hn hj link = w.kept i j (h i j d hi hn hj link)
-
-pub covers_next : (shapes : List Shape) {ps : List ℕ} (n : ℕ) → CoversBelow shapes ps n → CoversRow shapes ps n n → CoversBelow shapes ps (n + 1)
-covers_next shapes {ps} n h row i j d hi hn hj link = elim (cases_lt i n) [
-  | inl lt ↦ h i j d hi lt hj link
-  | inr ge ↦ let e : n ≡ i = omega arith in
-      let lower : j < n = omega arith in
-      let moved : Linked (get_or shapes n d) (get_or shapes j d) = rw e link in
-      subst (λ (k : ℕ). Tied ps k j) e (row j d lower moved)
-]
-
-pub row_next : {shapes : List Shape} {ps qs : List ℕ} (i m : ℕ) → Grows shapes ps qs → CoversRow shapes ps i m
-    → ((d : Shape) → Linked (get_or shapes i d) (get_or shapes m d) → Tied qs i m) → CoversRow shapes qs i (m + 1)
-row_next {shapes} {ps} {qs} i m w row last j d hj link = elim (cases_lt j m) [
-  | inl lt ↦ w.kept i j (row j d lt link)
-  | inr ge ↦ let e : m ≡ j = omega arith in
-      let moved : Linked (get_or shapes i d) (get_or shapes m d) = rw e link in
-      subst (λ (k : ℕ). Tied qs i k) e (last d moved)
-]
-
-pub covers_all : (shapes : List Shape) {ps : List ℕ} → CoversBelow shapes ps (length shapes) → Covers shapes ps
-covers_all shapes {ps} h i j d hi hj link = elim (cases_lt j i) [
-  | inl lt ↦ h i j d hi hi lt link
-  | inr ge ↦ elim (cases_lt i j) [
-    | inl lt ↦ tied_back (h j i d hj hj lt (linked_back link))
-    | inr ge2 ↦ let e : i ≡ j = omega arith in subst (λ (k : ℕ). Tied ps i k) e same
-  ]
-]
 
 pub any_default : (xs : List Shape) (k : ℕ) (d e : Shape) → k < length xs → get_or xs k d ≡ get_or xs k e
 any_default [] k d e h = absurd (omega arith)
@@ -122,12 +84,3 @@ any_default (x ∷ xs) (suc k) d e h = any_default xs k d e (omega arith)
 -- what was read at a place is what stands there
 pub read_at : (xs : List Shape) (k : ℕ) (d a : Shape) → k < length xs → a ≡ get_or xs k a → a ≡ get_or xs k d
 read_at xs k d a h e = e ∙ any_default xs k a d h
-
-pub linked_at : (xs : List Shape) (i j : ℕ) (a b : Shape) → i < length xs → j < length xs → a ≡ get_or xs i a → b ≡ get_or xs j b
-    → (d : Shape) → Linked a b ↔ Linked (get_or xs i d) (get_or xs j d)
-linked_at xs i j a b hi hj ea eb d =
-    let fa = read_at xs i d a hi ea in
-    let fb = read_at xs j d b hj eb in (
-      λ h. subst (λ (x : Shape). Linked x (get_or xs j d)) fa (subst (λ (y : Shape). Linked a y) fb h),
-      λ h. subst (λ (x : Shape). Linked x b) (sym fa) (subst (λ (y : Shape). Linked (get_or xs i d) y) (sym fb) h),
-    )

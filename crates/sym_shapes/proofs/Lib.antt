@@ -1,9 +1,9 @@
 pub mod Tests
 pub mod Labels
 pub mod Paths
-pub mod Links
 pub mod Joins
 pub mod Enters
 pub mod Orders
 pub mod Sweeps
 pub mod Grown
+pub mod Marked

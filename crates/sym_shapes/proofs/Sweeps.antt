@@ -1,13 +1,11 @@
 -- What a sweep covers.
-use Rattle.std.proofs.Common.{◌≡◌, ℕ, zero, suc, ◌+◌, ◌<◌, ◌↔◌, ◌≤ℤ◌, pos, List, [], ◌∷◌, Some, inl, inr, length, get_or, refl, sym, ◌∙◌, ap, subst, arith}
+use Rattle.std.proofs.Common.{◌≡◌, ℕ, zero, suc, ◌+◌, ◌<◌, ◌↔◌, ◌≤ℤ◌, pos, List, [], ◌∷◌, inl, inr, length, get_or, refl, sym, ◌∙◌, ap, subst, arith}
 use Rattle.std.proofs.lemmas.Bool.{cases_lt}
 use Rattle.sym_shapes.specs.Shape.{Shape}
 use Rattle.sym_groups.specs.Ties.{Tied, same}
 use Rattle.sym_groups.proofs.Steps.{tied_back}
 use Rattle.sym_shapes.specs.declared.sweep.Entry.{Entry}
-use Rattle.vlsi_base.specs.declared.name.Name.{Name}
-use Rattle.sym_shapes.specs.Joined.{touching, one_line, one_name}
-use Rattle.sym_shapes.specs.Joints.{Grows, Covers}
+use Rattle.sym_shapes.specs.Joints.{Grows}
 use Rattle.std.proofs.lemmas.Int.{ints}
 use Rattle.sym_shapes.specs.Sweep.{Precedes, by_metal, by_band, by_left, Ordered, InBand, InRun, Touch, CoversRun, CoversFrom, CoversRuns}
 use Rattle.sym_shapes.proofs.Joins.{read_at}
@@ -54,12 +52,6 @@ pub run_whole : (shapes : List Shape) (entries : List Entry) (ps : List ℕ) (p 
 run_whole shapes entries ps p end run after last q e d hq within in_run t = elim (cases_lt q end) [
   | inl lt ↦ run q e d hq lt t
   | inr ge ↦ absurd (last e (omega arith) (in_run end after ge))
-]
-
-pub runs_kept : (shapes : List Shape) (entries : List Entry) (ps qs : List ℕ) (m : ℕ) → Grows shapes ps qs → CoversRuns shapes entries ps m → CoversFrom shapes entries qs m → CoversRuns shapes entries qs (m + 1)
-runs_kept shapes entries ps qs m w runs last p hp = elim (cases_lt p m) [
-  | inl lt ↦ λ q e d after hq in_run t. w.kept _ _ (runs p lt q e d after hq in_run t)
-  | inr ge ↦ let en : m ≡ p = omega arith in subst (λ (k : ℕ). CoversFrom shapes entries qs k) en last
 ]
 
 between_left : (a k b : Entry) → Precedes a k → Precedes k b → a.metal ≡ b.metal → a.band ≡ b.band → (k.metal ≡ a.metal) × (k.band ≡ a.band) × (k.left ≤ℤ b.left)
@@ -121,15 +113,3 @@ covers_touching shapes entries ps ordered runs i j d t s =
             let ij : i ≡ j = sym s.p_is ∙ (ap (λ (x : ℕ). (get_or entries x none).place) e ∙ s.q_is) in subst (λ (x : ℕ). Tied ps i x) ij same
       ]
     ]
-
--- the three kinds of link, each covered
-pub covers_by_kinds : (shapes : List Shape) (ps : List ℕ)
-    → ((i j : ℕ) (d : Shape) → i < length shapes → j < length shapes → Touch (get_or shapes i d) (get_or shapes j d) → Tied ps i j)
-    → ((i j : ℕ) (d : Shape) → i < length shapes → j < length shapes → (get_or shapes i d).owner ≡ (get_or shapes j d).owner → (get_or shapes i d).line ≡ (get_or shapes j d).line → Tied ps i j)
-    → ((i j : ℕ) (d : Shape) (name : Name) → i < length shapes → j < length shapes → (get_or shapes i d).owner ≡ (get_or shapes j d).owner → (get_or shapes i d).name ≡ Some name → (get_or shapes j d).name ≡ Some name → Tied ps i j)
-    → Covers shapes ps
-covers_by_kinds shapes ps touches lines names i j d hi hj link = elim link [
-  | touching e m ↦ touches i j d hi hj (e, m)
-  | one_line o l ↦ lines i j d hi hj o l
-  | one_name o name f s ↦ names i j d name hi hj o f s
-]

@@ -11,15 +11,15 @@ NumbersJoined shapes numbers = (i j : ℕ) (d : Shape) → i < length shapes →
     ↔ Joined shapes (slice_index_or shapes i d) (slice_index_or shapes j d)
 
 -- shapes in one group are joined
-abbrev pub AreJoined : List Shape → List ℕ → Type 0
-AreJoined shapes ps = (i j : ℕ) (d : Shape) → i < length shapes → j < length shapes → Tied ps i j
+abbrev pub TiesJoined : List Shape → List ℕ → Type 0
+TiesJoined shapes ps = (i j : ℕ) (d : Shape) → i < length shapes → j < length shapes → Tied ps i j
     → Joined shapes (slice_index_or shapes i d) (slice_index_or shapes j d)
 
 -- groups have grown, by joined shapes alone
 pub record Grows (shapes : List Shape) (ps qs : List ℕ) : Type 0 where
   pub many : length ps ≡ length qs
   pub kept : (i j : ℕ) → Tied ps i j → Tied qs i j
-  pub joined : AreJoined shapes ps → AreJoined shapes qs
+  pub joined : TiesJoined shapes ps → TiesJoined shapes qs
 
 -- linked shapes are in one group
 abbrev pub Covers : List Shape → List ℕ → Type 0

@@ -23,17 +23,20 @@ InRun entries p q e = (k : ℕ) → p < k → k ≤ q → InBand (slice_index_or
 abbrev pub Touch : Shape → Shape → Type 0
 Touch a b = (a.metal ≡ b.metal) × Meet a.rect b.rect
 
--- each shape is in one group with the touching shapes of its run: those that the entry p has up to below n
+-- the shapes of two entries are in one group, if they touch
+abbrev pub TiesTouching : List Shape → List ℕ → Shape → Entry → Entry → Type 0
+TiesTouching shapes ps d a b =
+    Touch (slice_index_or shapes a.place d) (slice_index_or shapes b.place d) → Tied ps a.place b.place
+
+-- so are those of the entry p and of the entries behind it that are below n
 abbrev pub CoversRun : List Shape → List Entry → List ℕ → ℕ → ℕ → Type 0
 CoversRun shapes entries ps p n = (q : ℕ) (e : Entry) (d : Shape) → p < q → q < n
-    → Touch (slice_index_or shapes (slice_index_or entries p e).place d) (slice_index_or shapes (slice_index_or entries q e).place d)
-    → Tied ps (slice_index_or entries p e).place (slice_index_or entries q e).place
+    → TiesTouching shapes ps d (slice_index_or entries p e) (slice_index_or entries q e)
 
--- that run whole, from the entry p
+-- and those of the entry p and of its whole run
 abbrev pub CoversFrom : List Shape → List Entry → List ℕ → ℕ → Type 0
 CoversFrom shapes entries ps p = (q : ℕ) (e : Entry) (d : Shape) → p < q → q < length entries → InRun entries p q e
-    → Touch (slice_index_or shapes (slice_index_or entries p e).place d) (slice_index_or shapes (slice_index_or entries q e).place d)
-    → Tied ps (slice_index_or entries p e).place (slice_index_or entries q e).place
+    → TiesTouching shapes ps d (slice_index_or entries p e) (slice_index_or entries q e)
 
 -- so from each entry below m
 abbrev pub CoversRuns : List Shape → List Entry → List ℕ → ℕ → Type 0
@@ -47,8 +50,10 @@ pub data Precedes (a b : Entry) : Type 0 where
 
 -- each is behind those before it
 abbrev pub Ordered : List Entry → Type 0
-Ordered entries = (p q : ℕ) (e : Entry) → p < q → q < length entries → Precedes (slice_index_or entries p e) (slice_index_or entries q e)
+Ordered entries = (p q : ℕ) (e : Entry) → p < q → q < length entries
+    → Precedes (slice_index_or entries p e) (slice_index_or entries q e)
 
 -- touching shapes are in one group
 abbrev pub CoversTouching : List Shape → List ℕ → Type 0
-CoversTouching shapes ps = (i j : ℕ) (d : Shape) → i < length shapes → j < length shapes → Touch (slice_index_or shapes i d) (slice_index_or shapes j d) → Tied ps i j
+CoversTouching shapes ps = (i j : ℕ) (d : Shape) → i < length shapes → j < length shapes
+    → Touch (slice_index_or shapes i d) (slice_index_or shapes j d) → Tied ps i j

@@ -3,7 +3,8 @@ ghost use Rattle.std.specs.Prelude.{◌≡◌, ℕ, ◌<◌, ◌^◌, ◌+ℤ◌
 ghost use Rattle.sym_shapes.specs.Bands.{laid, IsLevel, entry_at, IsEntered, AddsOf, EntersAll};
 ghost use Rattle.sym_shapes.specs.Sweep.{PlacesWithin};
 
-use crate::{Entry, Shape};
+use crate::Shape;
+use crate::sweep::Entry;
 use std::alloc::{AllocError, Global};
 use sym_geom::Rect;
 

@@ -2,10 +2,10 @@
 #![tactic(auto)]
 
 mod bands;
+mod marks;
 mod numbers;
 mod shape;
 mod sweep;
 
 pub use numbers::joints;
-pub use shape::{Shape, linked, touching};
-pub use sweep::{Entry, join_touching};
+pub use shape::Shape;

@@ -1,8 +1,9 @@
 ghost use Rattle.std.specs.Prelude.{◌≡◌, ◌↔◌, IsTrue};
-ghost use Rattle.sym_shapes.specs.Joined.{Linked};
 ghost use Rattle.sym_geom.specs.Rect.{Meet};
-ghost use Rattle.vlsi_base.specs.declared.name.Name.{Name as Named};
+ghost use Rattle.sym_shapes.specs.Marks.{mark_of};
+ghost use Rattle.sym_shapes.specs.View.{view_of};
 
+use crate::marks::{Kind, Mark, Sign};
 use std::marker::Model;
 use sym_geom::{Rect, touches};
 use vlsi_base::{Name, Text};
@@ -47,6 +48,29 @@ impl Shape {
         self.rect
     }
 
+    /// The mark of a kind that it has. Takes no memory.
+    pub(crate) fn mark(&self, kind: Kind) -> Option<Mark<'_>>
+        ensures { view_of result ≡ mark_of kind self.now }
+    {
+        let owner = match &self.owner {
+            Some(owner) => Some(owner.as_bytes()),
+            None => None,
+        };
+        match kind {
+            Kind::Line => Some(Mark {
+                owner,
+                sign: Sign::Line(self.line),
+            }),
+            Kind::Name => match &self.name {
+                Some(name) => Some(Mark {
+                    owner,
+                    sign: Sign::Connector(name.text.as_bytes(), name.bit),
+                }),
+                None => None,
+            },
+        }
+    }
+
     /// Its metal. Takes no memory.
     pub fn metal(&self) -> u8
         ensures { result ≡ self.now.metal }
@@ -55,47 +79,9 @@ impl Shape {
     }
 }
 
-/// Whether the two belong to one instance, or both to the figure itself.
-fn same_owner(a: &Option<Text>, b: &Option<Text>) -> bool
-    ensures { IsTrue result ↔ (a.now ≡ b.now) }
-{
-    match (a, b) {
-        (None, None) => true,
-        (Some(a), Some(b)) => a.is_same(b),
-        _ => false,
-    }
-}
-
-/// Whether the two are connectors of one name.
-fn same_name(a: &Option<Name>, b: &Option<Name>) -> bool
-    ensures one { IsTrue result → (a.now ≡ b.now) × ((name : Named) × (a.now ≡ Some name)) }
-    ensures all { (name : Named) → a.now ≡ Some name → b.now ≡ Some name → IsTrue result }
-{
-    match (a, b) {
-        (Some(a), Some(b)) => a.is_same(b),
-        _ => false,
-    }
-}
-
 /// Whether the two meet on one metal.
 pub fn touching(a: &Shape, b: &Shape) -> bool
     ensures { IsTrue result ↔ ((a.now.metal ≡ b.now.metal) × Meet a.now.rect b.now.rect) }
 {
     a.metal == b.metal && touches(a.rect, b.rect)
-}
-
-/// Whether two shapes are linked: they meet on one metal, one line gives both, or they are connectors of one name.
-pub fn linked(a: &Shape, b: &Shape) -> bool
-    ensures { IsTrue result ↔ Linked a.now b.now }
-{
-    if touching(a, b) {
-        return true;
-    }
-    if !same_owner(&a.owner, &b.owner) {
-        return false;
-    }
-    if a.line == b.line {
-        return true;
-    }
-    same_name(&a.name, &b.name)
 }

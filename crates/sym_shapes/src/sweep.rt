@@ -4,8 +4,9 @@ ghost use Rattle.std.specs.List.Sorted.{IsPermutation};
 ghost use Rattle.sym_shapes.specs.Joints.{Grows};
 ghost use Rattle.sym_shapes.specs.Sweep.{InBand, PlacesWithin, CoversRuns, CoversFrom, Ordered, CoversTouching};
 
+use crate::Shape;
 use crate::bands::{cuts, entries};
-use crate::{Shape, touching};
+use crate::shape::touching;
 use std::alloc::{AllocError, Global};
 use sym_groups::Groups;
 
