@@ -5,7 +5,7 @@ ghost use Rattle.tool_words.specs.Commands.{command_from, command_among, command
 ghost use Rattle.tool_words.specs.View.{entry_view};
 
 use crate::arguments::{Argument, arguments};
-use crate::table::{Entry, Tool, tool_of};
+use crate::table::{Entry, LIBRARY, OUT, PATTERNS, Tool, tool_of};
 use crate::values::{Wanted, fits, only};
 use crate::words::{Words, WordsError};
 use std::alloc::{AllocError, Global};
@@ -43,8 +43,8 @@ fn flow(alloc: Global, arguments: &[Argument]) -> Result<Command, WordsError>
     ensures usage { IsErrOf result Usage → command_from Tool.Flow arguments.now ≡ None }
 {
     let source = only(arguments, Wanted::File);
-    let library = only(arguments, Wanted::Value("-l"));
-    let out = only(arguments, Wanted::Value("-o"));
+    let library = only(arguments, Wanted::Value(LIBRARY.word));
+    let out = only(arguments, Wanted::Value(OUT.word));
     let (Some(source), Some(library), Some(out)) = (source, library, out) else {
         return Err(WordsError::Usage);
     };
@@ -60,7 +60,7 @@ fn asimut(alloc: Global, arguments: &[Argument]) -> Result<Command, WordsError>
     ensures usage { IsErrOf result Usage → command_from Tool.Asimut arguments.now ≡ None }
 {
     let source = only(arguments, Wanted::File);
-    let patterns = only(arguments, Wanted::Value("-p"));
+    let patterns = only(arguments, Wanted::Value(PATTERNS.word));
     let (Some(source), Some(patterns)) = (source, patterns) else {
         return Err(WordsError::Usage);
     };

@@ -55,21 +55,21 @@ pub(crate) struct Entry {
     pub(crate) settings: &'static [Setting],
 }
 
-const LIBRARY: Setting = Setting {
+pub(crate) const LIBRARY: Setting = Setting {
     word: "-l",
     value: "DIR",
     need: Need::Once,
     form: Form::Text,
 };
 
-const OUT: Setting = Setting {
+pub(crate) const OUT: Setting = Setting {
     word: "-o",
     value: "NAME",
     need: Need::Once,
     form: Form::Text,
 };
 
-const PATTERNS: Setting = Setting {
+pub(crate) const PATTERNS: Setting = Setting {
     word: "-p",
     value: "PATTERNS",
     need: Need::Once,
