@@ -1,9 +1,12 @@
 """What no case of `flow` has: paths from the root, words that are no text, and a very long source."""
 
+import pathlib
+
 from case_file import ROWS, Case
-from results import Room, compare
+from results import Room, compare, run_in
 
 ROW = ROWS / "flow-layouts/one-inverter.txt"
+EXAMPLE = pathlib.Path(__file__).resolve().parent.parent / "examples/inverter"
 USAGE = b"usage: alliance flow|asimut ARGUMENTS\n"
 WORDS = ["flow", "row1.vbe", "-l", "lib", "-o", "out", "--tracks"]
 
@@ -20,9 +23,9 @@ def check(results, program):
         ("an output in a folder that isn't there", case.before, [*WORDS[:5], "nowhere/out", WORDS[6]], 7, b"flow: file: write fault nowhere/out.ap\n"),
     ]
     for title, files, words, status, line in rows:
-        with Room() as room:
-            room.write(files)
-            compare(results, title, (*room.run(program, words), room.held()), status, line, files)
+        compare(results, title, run_in(files, program, words), status, line, files)
+    example = {str(path.relative_to(EXAMPLE)): path.read_bytes() for path in EXAMPLE.rglob("*") if path.is_file()}
+    compare(results, "the example of flow", run_in(example, program, WORDS), 0, case.printed, {**example, **case.after})
 
 
 def jobs(program, seed, times):
