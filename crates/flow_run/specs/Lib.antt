@@ -1,6 +1,5 @@
 pub mod Forms
 pub mod Drawing
-pub mod Reading
+pub mod Flow
 pub mod Causes
-pub mod Finishing
 pub mod Laws

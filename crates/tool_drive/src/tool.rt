@@ -1,5 +1,5 @@
 // What a tool says of itself: what it reads, and what it answers to what was read.
-ghost use Rattle.std.specs.Prelude.{◌≡◌, None, IfOk, length};
+ghost use Rattle.std.specs.Prelude.{◌≡◌, None, IfOk, [], get_or, length};
 ghost use Rattle.tool_drive.specs.Plan.{limited, cut};
 
 use crate::Status;
@@ -47,6 +47,16 @@ impl Wanted {
             most: MOST_BYTES,
             over: Over::Cut,
         }
+    }
+}
+
+/// The bytes of a file that was read, by its number from 0; none where there are fewer files.
+pub fn bytes_at(read: &[FileBytes], number: usize) -> &[u8]
+    ensures { result.now ≡ get_or read.now number [] }
+{
+    match read.get(number) {
+        Some(bytes) => bytes.as_bytes(),
+        None => &[],
     }
 }
 
