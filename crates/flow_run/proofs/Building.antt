@@ -1,10 +1,12 @@
 -- What is built of what was read, and that it is laid out right.
-use Rattle.std.proofs.Common.{◌≡◌, ℕ, Bool, true, false, ◌&&◌, cond, List, [], get_or, Option, None, Some, Result, Ok, Err, refl, sym, ◌∙◌, ap, subst}
+use Rattle.std.proofs.Common.{◌≡◌, ℕ, Bool, true, false, ◌&&◌, cond, List, [], get_or, Option, None, Some, Result, Ok, Err, IfOk, refl, sym, ◌∙◌, ap, subst}
 use Rattle.std.specs.Cmp.Lexicographic.{bytes_decides}
+use Rattle.std.proofs.lemmas.Result.{IfOk-weaker}
+use Rattle.std.specs.declared.alloc.AllocError.{AllocError}
 use Rattle.tool_words.specs.declared.command.FlowCommand.{FlowCommand}
 use Rattle.tool_drive.specs.declared.status.Status.TheVariants.{Beyond}
 use Rattle.tool_drive.specs.declared.tool.Product.{Product}
-use Rattle.tool_drive.specs.Plan.{Inputs}
+use Rattle.tool_drive.specs.Plan.{Inputs, inputs}
 use Rattle.tool_drive.specs.Table.{refusal}
 use Rattle.flow_run.specs.declared.forms.First.{First}
 use Rattle.flow_run.specs.declared.flow.Built.{Built}
@@ -60,6 +62,18 @@ built_from source cell pins geometry b h =
     tested p q e f = rw (e, f) refl
 
 -- ---- answers
+
+-- what is built of the four texts, by their places
+pub found_at : (r : Result (Option Built) AllocError) (first more : List (List ℕ)) (source : Option First) (cell : Option (List ℕ)) (pins : Option First) (a b d e : List ℕ)
+    → a ≡ get_or first 0 [] → b ≡ get_or first 1 [] → d ≡ get_or more 0 [] → e ≡ get_or more 1 [] → source ≡ first_of a → cell ≡ cell_of b → pins ≡ first_of d
+    → IfOk r (λ f. f ≡ built_with source cell pins e) → IfOk r (λ f. f ≡ built_of (inputs first more))
+found_at r first more source cell pins a b d e at_a at_b at_d at_e is_source is_cell is_pins h =
+    IfOk-weaker r _ _ (λ f is.
+    is
+    ∙ ap (λ (x : Option First). built_with x cell pins e) (is_source ∙ ap first_of at_a)
+    ∙ ap (λ (x : Option (List ℕ)). built_with (first_of (get_or first 0 [])) x pins e) (is_cell ∙ ap cell_of at_b)
+    ∙ ap (λ (x : Option First). built_with (first_of (get_or first 0 [])) (cell_of (get_or first 1 [])) x e) (is_pins ∙ ap first_of at_d)
+    ∙ ap (λ (x : List ℕ). built_with (first_of (get_or first 0 [])) (cell_of (get_or first 1 [])) (first_of (get_or more 0 [])) x) at_e) h
 
 pub lays_right : LayoutIsRight → (c : FlowCommand) (i : Inputs) (b : Built) (p : Product) → built_of i ≡ Some b → p.name ≡ layout_name c
     → p.file ≡ Some (layout_of b.source b.cell) → p.text ≡ report_of b.source → Lays c (built_of i) (Ok p)

@@ -21,9 +21,9 @@ limited_take : {X : Type 0} (form : List ℕ → Option X) (bytes : List ℕ) �
 limited_take form bytes = elim (cases_lt 1048576 (length bytes)) [
   | inr short ↦ rw (take_all 1048577 bytes (omega (arith, short))) refl
   | inl over ↦
-    let a : leb (length bytes) 1048576 ≡ false = grind (arith, nat_tests) in
-    let b : leb (length (take 1048577 bytes)) 1048576 ≡ false = grind (arith, nat_tests, length-take 1048577 bytes) in
-    rw (a, b) refl
+      let a : leb (length bytes) 1048576 ≡ false = grind (arith, nat_tests) in
+      let b : leb (length (take 1048577 bytes)) 1048576 ≡ false = grind (arith, nat_tests, length-take 1048577 bytes) in
+      rw (a, b) refl
 ]
 
 first_take : (bytes : List ℕ) → first_of (take 1048577 bytes) ≡ first_of bytes
@@ -36,9 +36,9 @@ layout_take : (cell a z bytes : List ℕ) → is_cell_layout cell a z (take 1048
 layout_take cell a z bytes = elim (cases_lt 1048576 (length bytes)) [
   | inr short ↦ rw (take_all 1048577 bytes (omega (arith, short))) refl
   | inl over ↦
-    let a : leb (length bytes) 1048576 ≡ false = grind (arith, nat_tests) in
-    let b : leb (length (take 1048577 bytes)) 1048576 ≡ false = grind (arith, nat_tests, length-take 1048577 bytes) in
-    rw (a, b) refl
+      let a : leb (length bytes) 1048576 ≡ false = grind (arith, nat_tests) in
+      let b : leb (length (take 1048577 bytes)) 1048576 ≡ false = grind (arith, nat_tests, length-take 1048577 bytes) in
+      rw (a, b) refl
 ]
 
 -- what a form makes of a file and of its first bytes
@@ -112,7 +112,7 @@ is_of_form files c first more b g h is =
       catal = file_of cell_of cell_take files (catal_name c) (get_or first 1 []) (Some b.cell.entity) r.catal w.cell_is;
       behaviour = file_of first_of first_take files (vbe_name c b.cell.entity) (get_or more 0 []) (Some b.cell) r.behaviour w.pins_are;
       geometry = file_of (is_cell_layout b.cell.entity b.cell.input b.cell.output) (layout_take b.cell.entity b.cell.input b.cell.output)
-        files (ap_name c b.cell.entity) (get_or more 1 []) true r.geometry w.layout;
+          files (ap_name c b.cell.entity) (get_or more 1 []) true r.geometry w.layout;
     }
 
 from_form : (files : Files) (c : FlowCommand) (first more : List (List ℕ)) (b : Built) → gather files (flow_plan c).first ≡ got first → gather files ((flow_plan c).more first) ≡ got more
@@ -126,7 +126,7 @@ from_form files c first more b g h f =
       cell_is = cell_is;
       pins_are = bytes_of first_of first_take files (vbe_name c b.cell.entity) (get_or more 0 []) (Some b.cell) r.behaviour f.behaviour;
       layout = bytes_of (is_cell_layout b.cell.entity b.cell.input b.cell.output) (layout_take b.cell.entity b.cell.input b.cell.output)
-        files (ap_name c b.cell.entity) (get_or more 1 []) true r.geometry f.geometry;
+          files (ap_name c b.cell.entity) (get_or more 1 []) true r.geometry f.geometry;
     })
 
 -- reading all is reading both lists

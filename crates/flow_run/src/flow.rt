@@ -6,10 +6,10 @@ ghost use Rattle.tool_drive.specs.Lines.{line_of};
 ghost use Rattle.tool_drive.specs.Plan.{inputs};
 ghost use Rattle.tool_drive.specs.Table.{Caused, IsComplete};
 ghost use Rattle.flow_run.specs.Drawing.{layout_of, report_of};
-ghost use Rattle.flow_run.specs.Flow.{is_fsm as is_state_machine, catal_name as catal_name_of, cell_name as cell_name_of, layout_name as layout_name_of, cell_files as cell_files_of, built_of, flow_plan, flow_answers};
+ghost use Rattle.flow_run.specs.Flow.{is_fsm as is_state_machine, catal_name as catal_name_of, cell_name as cell_name_of, layout_name as layout_name_of, cell_files as cell_files_of, built_with, built_of, flow_plan, flow_answers};
 
-use crate::forms::{First, catal_cell, has_layout, is_same, read_first};
 use crate::drawing;
+use crate::forms::{First, catal_cell, has_layout, is_same, read_first};
 use std::alloc::{AllocError, Global};
 use tool_drive::{Product, Refusal, Status, Tool, Wanted, bytes_at, drive, tell};
 use tool_words::FlowCommand;
@@ -82,8 +82,29 @@ fn cell_files(
     Ok(wanted)
 }
 
+// The names that are built from, where the three texts are of the form and of one cell.
+fn check_forms(
+    alloc: Global,
+    source: Option<First>,
+    cell: Option<Text>,
+    pins: Option<First>,
+    geometry: &[u8],
+) -> Result<Option<Built>, AllocError>
+    ensures { IfOk result (λ found. found ≡ built_with source cell pins geometry.now) }
+{
+    let (Some(source), Some(cell), Some(pins)) = (source, cell, pins) else {
+        return Ok(None);
+    };
+    if is_same(pins.entity.as_bytes(), cell.as_bytes())
+        && has_layout(alloc, &cell, &pins.input, &pins.output, geometry)?
+    {
+        return Ok(Some(Built { source, cell: pins }));
+    }
+    Ok(None)
+}
+
 // The names of the source and of the library's cell, where what was read is of the form that is built.
-fn built(
+fn recognise(
     alloc: Global,
     first: &[FileBytes],
     more: &[FileBytes],
@@ -93,15 +114,7 @@ fn built(
     let source = read_first(alloc, bytes_at(first, 0))?;
     let cell = catal_cell(alloc, bytes_at(first, 1))?;
     let pins = read_first(alloc, bytes_at(more, 0))?;
-    let (Some(source), Some(cell), Some(pins)) = (source, cell, pins) else {
-        return Ok(None);
-    };
-    if is_same(pins.entity.as_bytes(), cell.as_bytes())
-        && has_layout(alloc, &cell, &pins.input, &pins.output, bytes_at(more, 1))?
-    {
-        return Ok(Some(Built { source, cell: pins }));
-    }
-    Ok(None)
+    check_forms(alloc, source, cell, pins, bytes_at(more, 1))
 }
 
 fn laid_out(alloc: Global, command: &FlowCommand, built: &Built) -> Result<Product, AllocError>
@@ -148,7 +161,7 @@ impl Tool for Flow<'_> {
         more: &[FileBytes],
     ) -> Result<Product, Refusal> {
         drawing::layout_law();
-        match built(alloc, first, more)? {
+        match recognise(alloc, first, more)? {
             Some(built) => Ok(laid_out(alloc, self.command, &built)?),
             None => Err(Refusal::plain(Status::Beyond)),
         }

@@ -1,8 +1,8 @@
 //! The top call of the program: words in, files and a report out, a status with its cause.
 //!
-//! `alliance_main` is what the program does. What `flow` reads and answers stands in `specs/Flow.antt`, and what its layout is, in
-//! `specs/Causes.antt`; when each status comes and what it leaves, for all tools, in `specs/Table.antt` of `tool_drive`; the texts
-//! that are read, in `specs/Forms.antt`; the words of a command, in `specs/` of `tool_words`.
+//! `alliance_main` is what the program does. What `flow` reads and answers stands in `specs/Flow.antt`, and what its layout is,
+//! in `specs/Causes.antt`; when each status comes and what it leaves, for all tools, in `specs/Table.antt` of `tool_drive`; the
+//! texts that are read, in `specs/Forms.antt`; the words of a command, in `specs/` of `tool_words`.
 #![tactic(auto)]
 
 mod drawing;

@@ -18,7 +18,8 @@ use vlsi_shelf::{Shelf, Sink};
 
 // Runs the tool that a command is for.
 fn run<S: Shelf, T: Sink>(alloc: Global, command: &Command, shelf: &mut S, out: &mut T) -> Status
-    ensures fsm { IfSome (as_flow (Some command.now)) (λ c. is_fsm c ≡ true → (result ≡ Status.Beyond) × (shelf.new ≡ shelf.old)) }
+    ensures fsm { IfSome (as_flow (Some command.now)) (λ c. is_fsm c ≡ true
+        → (result ≡ Status.Beyond) × (shelf.new ≡ shelf.old)) }
     ensures cause { IfSome (as_flow (Some command.now)) (λ c. Caused (flow_plan c) (flow_answers c)
         (outside (S.seen shelf.old) (T.seen out.old)) (outside (S.seen shelf.new) (T.seen out.new)) result) }
     ensures complete { IfSome (as_flow (Some command.now)) (λ c. IsComplete (flow_plan c) (flow_answers c)
@@ -27,7 +28,8 @@ fn run<S: Shelf, T: Sink>(alloc: Global, command: &Command, shelf: &mut S, out: 
         (outside (S.seen shelf.old) (T.seen out.old)) (outside (S.seen shelf.new) (T.seen out.new)) result) }
     ensures simulation_complete { IfSome (as_asimut (Some command.now)) (λ c. IsComplete (asimut_plan c) (asimut_answers c)
         (outside (S.seen shelf.old) (T.seen out.old)) (outside (S.seen shelf.new) (T.seen out.new)) result) }
-    ensures line { has_line result ≡ true → IsLine (T.seen out.old) (T.seen out.new) (line_of_tool (word_of command.now) result) }
+    ensures line { has_line result ≡ true
+        → IsLine (T.seen out.old) (T.seen out.new) (line_of_tool (word_of command.now) result) }
     ensures never_usage { result ≡ Status.Usage → ⊥ }
 {
     match command {
@@ -39,10 +41,10 @@ fn run<S: Shelf, T: Sink>(alloc: Global, command: &Command, shelf: &mut S, out: 
 /// Does what the words ask, over a shelf and a sink: `flow` lays the source out with the cells of the library, `asimut` runs
 /// patterns on the source.
 ///
-/// The words are taken apart first, and only then is a file read. A tool reads its files in their order, each at most once, then
-/// writes its file, if it has one, and then prints its text by one put. `flow` reads SOURCE, CATAL, and the behaviour and the
-/// geometry of its cell, writes the layout to NAME.ap and prints the report. A refusal prints its line by one put; if that fails
-/// the status stays as it was. Memory for what is read and answered is taken on `alloc` and given back.
+/// The words are taken apart first, and only then is a file read. A tool reads its files in their order, then writes its file,
+/// if it has one, and then prints its text by one put. `flow` reads SOURCE, CATAL, and the behaviour and the geometry of its
+/// cell, writes the layout to NAME.ap and prints the report. A refusal prints its line by one put; if that fails the status
+/// stays as it was. Memory for what is read and answered is taken on `alloc` and given back.
 pub fn alliance_main<S: Shelf, T: Sink>(
     alloc: Global,
     words: &Words,

@@ -16,12 +16,7 @@ use tool_words::Command;
 use vlsi_shelf::{Shelf, Sink};
 
 /// Runs the tool that a command is for. `flow` isn't run here, but by the crate that has the top call.
-pub fn run_tool<S: Shelf, T: Sink>(
-    alloc: Global,
-    c: &Command,
-    shelf: &mut S,
-    out: &mut T,
-) -> Status
+pub fn run_tool<S: Shelf, T: Sink>(alloc: Global, c: &Command, shelf: &mut S, out: &mut T) -> Status
     requires { is_flow c.now ≡ false }
     // asimut: every status has its cause and leaves the files that its row says, and over told files, where nothing failed, it
     // is what the files come to.

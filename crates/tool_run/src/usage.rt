@@ -56,12 +56,7 @@ fn tool(words: &Words) -> &[u8]
 }
 
 /// Answers words that no command was read from, and prints the line by one put: how the tool is called, or that memory ran out.
-pub fn refuse_words<T: Sink>(
-    alloc: Global,
-    words: &Words,
-    error: WordsError,
-    out: &mut T,
-) -> Status
+pub fn refuse_words<T: Sink>(alloc: Global, words: &Words, error: WordsError, out: &mut T) -> Status
     ensures status { result ≡ status_of error }
     ensures line { IsLine (T.seen out.old) (T.seen out.new) (line_of words.now result) }
 {
