@@ -1,7 +1,8 @@
 pub mod FormLemmas
-pub mod ReadingLemmas
 pub mod Proper
 pub mod FirstLemmas
-pub mod CauseLemmas
-pub mod Telling
 pub mod RightInverter
+pub mod Building
+pub mod OfForm
+pub mod Rows
+pub mod Words

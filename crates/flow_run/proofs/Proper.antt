@@ -4,16 +4,12 @@ use Rattle.std.proofs.lemmas.Bool.Decides.{nat_tests}
 use Rattle.std.specs.List.{list_all}
 use Rattle.std.proofs.lemmas.List.Sums.{AllPass-from_list_all}
 use Rattle.std.specs.Cmp.Lexicographic.{bytes_decides}
-use Rattle.std.specs.FinMap.{get}
-use Rattle.vlsi_shelf.specs.Files.{Files}
 use Rattle.ap_io.specs.ApText.{IsWord, is_word_byte}
 use Rattle.inverter_block.specs.Inverter.{AreProper}
 use Rattle.vhdl_token.specs.Keyword.{keyword_of}
-use Rattle.tool_words.specs.declared.command.FlowCommand.{FlowCommand}
 use Rattle.flow_run.specs.declared.forms.First.{First}
 use Rattle.flow_run.specs.Drawing.{AreDrawable}
-use Rattle.flow_run.specs.Forms.{first_of, if_first, are_proper, are_different, is_proper, is_identifier, is_letter, is_name_byte, is_same, begins_with_letter, first_text, entity_in, input_in, output_in, cell_of, is_cell_layout}
-use Rattle.flow_run.specs.Reading.{Reading, not_built, built, at, from_source, from_catal, from_vbe, from_forms, if_layout, reading, is_fsm, catal_name, vbe_name, ap_name}
+use Rattle.flow_run.specs.Forms.{first_of, if_first, are_proper, are_different, is_proper, is_identifier, is_letter, is_name_byte, is_same, begins_with_letter, first_text, entity_in, input_in, output_in}
 
 pub both : (a b : Bool) → (a && b) ≡ true → (a ≡ true) × (b ≡ true)
 both true b h = (refl, h)
@@ -95,34 +91,6 @@ names_of names proper =
       },
     )
 
-at_built : (o : Option (List ℕ)) (name : List ℕ) (g : List ℕ → Reading) (s k : First) → at o name g ≡ built s k → (x : List ℕ) × (g x ≡ built s k)
-at_built None name g s k e = absurd (cc e)
-at_built (Some x) name g s k e = (x, e)
-
-catal_built : (files : Files) (c : FlowCommand) (source : Option First) (cell : Option (List ℕ)) (s k : First) → from_catal files c source cell ≡ built s k → (name : List ℕ) × (x : List ℕ) × (from_vbe files c source name (first_of x) ≡ built s k)
-catal_built files c source None s k e = absurd (cc e)
-catal_built files c source (Some name) s k e = let r = at_built (get files (vbe_name c name)) (vbe_name c name) (λ vbe. from_vbe files c source name (first_of vbe)) s k e in (name, r.0, r.1)
-
-layout_built : (b : Bool) (f g s k : First) → if_layout b f g ≡ built s k → (f ≡ s) × (g ≡ k)
-layout_built true f g s k e = (cc e, cc e)
-layout_built false f g s k e = absurd (cc e)
-
-forms_built : (cell : List ℕ) (source pins : Option First) (p : List ℕ) (s k : First) → from_forms cell source pins p ≡ built s k → (source ≡ Some s) × (pins ≡ Some k)
-forms_built cell (Some f) (Some g) p s k e = let r = layout_built (is_same g.entity cell && is_cell_layout cell g.input g.output p) f g s k e in (ap Some r.0, ap Some r.1)
-forms_built cell (Some f) None p s k e = absurd (cc e)
-forms_built cell None pins p s k e = absurd (cc e)
-
-begun : (b : Bool) (r : Reading) (s k : First) → cond b not_built r ≡ built s k → r ≡ built s k
-begun true r s k e = absurd (cc e)
-begun false r s k e = e
-
--- what was read and built has proper names
-pub drawable : (files : Files) (c : FlowCommand) (s k : First) → reading files c ≡ built s k → AreDrawable s × AreDrawable k
-drawable files c s k is =
-    let start = begun (is_fsm c) (at (get files c.source) c.source (λ source. from_source files c (first_of source))) s k is in
-    let source = at_built (get files c.source) c.source (λ source. from_source files c (first_of source)) s k start in
-    let catal = at_built (get files (catal_name c)) (catal_name c) (λ catal. from_catal files c (first_of source.0) (cell_of catal)) s k source.1 in
-    let vbe = catal_built files c (first_of source.0) (cell_of catal.0) s k catal.1 in
-    let layout = at_built (get files (ap_name c vbe.0)) (ap_name c vbe.0) (from_forms vbe.0 (first_of source.0) (first_of vbe.1)) s k vbe.2 in
-    let forms = forms_built vbe.0 (first_of source.0) (first_of vbe.1) layout.0 s k layout.1 in
-    (names_of s (first_proper source.0 s forms.0), names_of k (first_proper vbe.1 k forms.1))
+-- names that are found in texts of the form can be drawn
+pub drawable : (text : List ℕ) (names : First) → first_of text ≡ Some names → AreDrawable names
+drawable text names is = names_of names (first_proper text names is)

@@ -2,7 +2,6 @@ pub mod Report
 pub mod RightLayout
 pub mod Forms
 pub mod Drawing
-pub mod Reading
+pub mod Flow
 pub mod Causes
-pub mod Finishing
 pub mod Laws

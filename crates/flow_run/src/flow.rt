@@ -1,23 +1,63 @@
-// The top call: words, then what they ask, then the line of a refusal.
-ghost use Rattle.std.specs.Prelude.{◌≡◌, ◌⊎◌, true, ◌≤◌, ◌++◌, IfOk, IfSome, Some, None, codes};
-ghost use Rattle.vlsi_shelf.specs.Counts.{NoneFalls};
-ghost use Rattle.tool_words.specs.Commands.{command_of, flow_of, asimut_of};
-ghost use Rattle.tool_run.specs.Outside.{outside, IsLine};
-ghost use Rattle.tool_run.specs.Status.{has_line};
-ghost use Rattle.tool_run.specs.Lines.{line_of};
-ghost use Rattle.tool_run.specs.Asimut.{Caused as IsSimulationAnswer};
-ghost use Rattle.tool_run.specs.Complete.{IsComplete as IsSimulationComplete};
-ghost use Rattle.flow_run.specs.Reading.{Comes, built, is_fsm as is_state_machine, layout_name as layout_name_of};
-ghost use Rattle.flow_run.specs.Causes.{Caused, IsComplete, IsHeadline};
-ghost use Rattle.flow_run.specs.Finishing.{Finished, status_of as status_of_load};
+// `flow` as a tool: what it reads, and the layout that it answers.
+ghost use Rattle.std.specs.Prelude.{◌≡◌, Some, true, IfOk, codes};
+ghost use Rattle.tool_drive.specs.Outside.{outside, IsLine};
+ghost use Rattle.tool_drive.specs.Status.{has_line};
+ghost use Rattle.tool_drive.specs.Lines.{line_of};
+ghost use Rattle.tool_drive.specs.Plan.{inputs};
+ghost use Rattle.tool_drive.specs.Table.{Caused, IsComplete};
+ghost use Rattle.flow_run.specs.Drawing.{layout_of, report_of};
+ghost use Rattle.flow_run.specs.Flow.{is_fsm as is_state_machine, catal_name as catal_name_of, cell_name as cell_name_of, layout_name as layout_name_of, cell_files as cell_files_of, built_with, built_of, flow_plan, flow_answers};
 
 use crate::drawing;
-use crate::read::{Built, LoadError, load};
+use crate::forms::{First, catal_cell, has_layout, is_same, read_first};
 use std::alloc::{AllocError, Global};
-use tool_run::{FileCause, Status, run_asimut, tell};
-use tool_words::{Command, FlowCommand, Words, WordsError, read_words};
-use vlsi_base::FileName;
-use vlsi_shelf::{Shelf, ShelfError, Sink, SinkError};
+use tool_drive::{Product, Refusal, Status, Tool, Wanted, bytes_at, drive, tell};
+use tool_words::FlowCommand;
+use vlsi_base::{FileBytes, FileName, Text};
+use vlsi_shelf::{Shelf, Sink};
+
+/// `flow`, with what it is asked.
+#[derive(Drop)]
+struct Flow<'a> {
+    command: &'a FlowCommand,
+}
+
+/// What was read: the source's names, and those of the library's cell.
+#[derive(Drop)]
+pub struct Built {
+    pub source: First,
+    pub cell: First,
+}
+
+fn is_fsm(command: &FlowCommand) -> bool
+    ensures { result ≡ is_state_machine command.now }
+{
+    command.source.as_bytes().ends_with(b".fsm")
+}
+
+fn catal_name(alloc: Global, command: &FlowCommand) -> Result<FileName, AllocError>
+    ensures { IfOk result (λ name. name ≡ catal_name_of command.now) }
+{
+    let mut name = command.library.copy(alloc)?;
+    name.append(b"/CATAL")?;
+    Ok(name)
+}
+
+// The name of a file of the library's cell.
+fn cell_name(
+    alloc: Global,
+    command: &FlowCommand,
+    cell: &Text,
+    ending: &[u8],
+) -> Result<FileName, AllocError>
+    ensures { IfOk result (λ name. name ≡ cell_name_of command.now cell.now ending.now) }
+{
+    let mut name = command.library.copy(alloc)?;
+    name.append(b"/")?;
+    name.append(cell.as_bytes())?;
+    name.append(ending)?;
+    Ok(name)
+}
 
 fn layout_name(alloc: Global, command: &FlowCommand) -> Result<FileName, AllocError>
     ensures { IfOk result (λ name. name ≡ layout_name_of command.now) }
@@ -27,166 +67,126 @@ fn layout_name(alloc: Global, command: &FlowCommand) -> Result<FileName, AllocEr
     Ok(name)
 }
 
-// Writes the layout, then prints the report by one put. Both are made before either goes out.
-fn finish<S: Shelf, T: Sink>(
+fn cell_files(
     alloc: Global,
     command: &FlowCommand,
-    built: &Built,
-    shelf: &mut S,
-    out: &mut T,
-) -> Status
-    ensures cause { Finished (outside (S.files shelf.old) (S.counts shelf.old) (T.told out.old) (T.faults out.old))
-        (outside (S.files shelf.new) (S.counts shelf.new) (T.told out.new) (T.faults out.new)) command.now built.now.source built.now.cell result }
-    ensures faults { T.faults out.old ≤ T.faults out.new }
+    cell: &Option<Text>,
+) -> Result<Vec<Wanted>, AllocError>
+    ensures { IfOk result (λ wanted. wanted.items ≡ cell_files_of command.now cell.now) }
 {
-    let Ok(name) = layout_name(alloc, command) else {
-        return Status::Memory;
+    let mut wanted = Vec::new(alloc);
+    if let Some(cell) = cell {
+        wanted.push(Wanted::cut(cell_name(alloc, command, cell, b".vbe")?))?;
+        wanted.push(Wanted::cut(cell_name(alloc, command, cell, b".ap")?))?;
+    }
+    Ok(wanted)
+}
+
+// The names that are built from, where the three texts are of the form and of one cell.
+fn check_forms(
+    alloc: Global,
+    source: Option<First>,
+    cell: Option<Text>,
+    pins: Option<First>,
+    geometry: &[u8],
+) -> Result<Option<Built>, AllocError>
+    ensures { IfOk result (λ found. found ≡ built_with source cell pins geometry.now) }
+{
+    let (Some(source), Some(cell), Some(pins)) = (source, cell, pins) else {
+        return Ok(None);
     };
-    let Ok(bytes) = drawing::layout(alloc, &built.source, &built.cell) else {
-        return Status::Memory;
-    };
-    let Ok(report) = drawing::report(alloc, &built.source) else {
-        return Status::Memory;
-    };
-    match shelf.write(alloc, &name, bytes.as_bytes()) {
-        Ok(()) => {}
-        Err(ShelfError::Memory) => return Status::Memory,
-        Err(ShelfError::Failed) => {
-            return Status::File {
-                cause: FileCause::WriteFault,
-                name,
-            };
+    if is_same(pins.entity.as_bytes(), cell.as_bytes())
+        && has_layout(alloc, &cell, &pins.input, &pins.output, geometry)?
+    {
+        return Ok(Some(Built { source, cell: pins }));
+    }
+    Ok(None)
+}
+
+// The names of the source and of the library's cell, where what was read is of the form that is built.
+fn recognise(
+    alloc: Global,
+    first: &[FileBytes],
+    more: &[FileBytes],
+) -> Result<Option<Built>, AllocError>
+    ensures { IfOk result (λ found. found ≡ built_of (inputs first.now more.now)) }
+{
+    let source = read_first(alloc, bytes_at(first, 0))?;
+    let cell = catal_cell(alloc, bytes_at(first, 1))?;
+    let pins = read_first(alloc, bytes_at(more, 0))?;
+    check_forms(alloc, source, cell, pins, bytes_at(more, 1))
+}
+
+fn laid_out(alloc: Global, command: &FlowCommand, built: &Built) -> Result<Product, AllocError>
+    ensures name { IfOk result (λ p. p.name ≡ layout_name_of command.now) }
+    ensures file { IfOk result (λ p. p.file ≡ Some (layout_of built.now.source built.now.cell)) }
+    ensures text { IfOk result (λ p. p.text ≡ report_of built.now.source) }
+{
+    let name = layout_name(alloc, command)?;
+    let file = drawing::layout(alloc, &built.source, &built.cell)?;
+    let text = drawing::report(alloc, &built.source)?;
+    Ok(Product {
+        name,
+        file: Some(file),
+        text,
+    })
+}
+
+impl Tool for Flow<'_> {
+    ghost use Rattle.flow_run.specs.Flow.{flow_plan, flow_answers};
+
+    ghost plan = { λ t. flow_plan t.command.now };
+
+    ghost answers = { λ t. flow_answers t.command.now };
+
+    fn first(&self, alloc: Global) -> Result<Vec<Wanted>, AllocError> {
+        let mut wanted = Vec::new(alloc);
+        if is_fsm(self.command) {
+            return Ok(wanted);
         }
-        Err(ShelfError::Missing) => unreachable!(),
+        wanted.push(Wanted::cut(self.command.source.copy(alloc)?))?;
+        wanted.push(Wanted::cut(catal_name(alloc, self.command)?))?;
+        Ok(wanted)
     }
-    match out.put(report.as_bytes()) {
-        Ok(()) => Status::Accepted,
-        Err(SinkError::Memory) => Status::Memory,
-        Err(SinkError::Failed) => Status::File {
-            cause: FileCause::OutFault,
-            name,
-        },
-    }
-}
 
-// The status of a run that stops while it reads.
-fn status_of(error: LoadError) -> Status
-    ensures { result ≡ status_of_load error }
-{
-    match error {
-        LoadError::Memory => Status::Memory,
-        LoadError::Missing(name) => Status::File {
-            cause: FileCause::Missing,
-            name,
-        },
-        LoadError::ReadFault(name) => Status::File {
-            cause: FileCause::ReadFault,
-            name,
-        },
-        LoadError::Beyond => Status::Beyond,
+    fn more(&self, alloc: Global, first: &[FileBytes]) -> Result<Vec<Wanted>, AllocError> {
+        let cell = catal_cell(alloc, bytes_at(first, 1))?;
+        cell_files(alloc, self.command, &cell)
+    }
+
+    fn judge(
+        &self,
+        alloc: Global,
+        first: &[FileBytes],
+        more: &[FileBytes],
+    ) -> Result<Product, Refusal> {
+        drawing::layout_law();
+        match recognise(alloc, first, more)? {
+            Some(built) => Ok(laid_out(alloc, self.command, &built)?),
+            None => Err(Refusal::plain(Status::Beyond)),
+        }
     }
 }
 
-fn is_fsm(command: &FlowCommand) -> bool
-    ensures { result ≡ is_state_machine command.now }
-{
-    command.source.as_bytes().ends_with(b".fsm")
-}
-
-// Reads, writes and prints.
-fn perform<S: Shelf, T: Sink>(
+/// Runs `flow` by the driver. A state machine's source is refused before it.
+pub fn run_flow<S: Shelf, T: Sink>(
     alloc: Global,
     command: &FlowCommand,
     shelf: &mut S,
     out: &mut T,
 ) -> Status
-    ensures cause { Caused (outside (S.files shelf.old) (S.counts shelf.old) (T.told out.old) (T.faults out.old))
-        (outside (S.files shelf.new) (S.counts shelf.new) (T.told out.new) (T.faults out.new)) command.now result }
     ensures fsm { is_state_machine command.now ≡ true → (result ≡ Status.Beyond) × (shelf.new ≡ shelf.old) }
-    ensures quiet { has_line result ≡ true → T.told out.new ≡ T.told out.old }
-    ensures faults { T.faults out.old ≤ T.faults out.new }
-    ensures not_usage { result ≡ Status.Usage → ⊥ }
+    ensures cause { Caused (flow_plan command.now) (flow_answers command.now)
+        (outside (S.seen shelf.old) (T.seen out.old)) (outside (S.seen shelf.new) (T.seen out.new)) result }
+    ensures complete { IsComplete (flow_plan command.now) (flow_answers command.now)
+        (outside (S.seen shelf.old) (T.seen out.old)) (outside (S.seen shelf.new) (T.seen out.new)) result }
+    ensures line { has_line result ≡ true → IsLine (T.seen out.old) (T.seen out.new) (line_of (codes "flow") result) }
+    ensures never_usage { result ≡ Status.Usage → ⊥ }
 {
     if is_fsm(command) {
+        tell(alloc, b"flow", &Status::Beyond, out);
         return Status::Beyond;
     }
-    drawing::layout_law();
-    match load(alloc, command, shelf) {
-        Ok(built) => finish(alloc, command, &built, shelf, out),
-        Err(error) => status_of(error),
-    }
-}
-
-// The answer, without the line of a refusal.
-fn answer<S: Shelf, T: Sink>(alloc: Global, words: &Words, shelf: &mut S, out: &mut T) -> Status
-    ensures usage { result ≡ Status.Usage → command_of words.now ≡ None }
-    ensures words { command_of words.now ≡ None → (result ≡ Status.Usage) ⊎ (result ≡ Status.Memory) }
-    ensures nothing { command_of words.now ≡ None → shelf.new ≡ shelf.old }
-    ensures fsm { IfSome (flow_of words.now) (λ c. is_state_machine c ≡ true → ((result ≡ Status.Beyond) ⊎ (result ≡ Status.Memory)) × (shelf.new ≡ shelf.old)) }
-    ensures cause { IfSome (flow_of words.now) (λ c. Caused (outside (S.files shelf.old) (S.counts shelf.old) (T.told out.old) (T.faults out.old))
-        (outside (S.files shelf.new) (S.counts shelf.new) (T.told out.new) (T.faults out.new)) c result) }
-    ensures simulation { IfSome (asimut_of words.now) (λ c. IsSimulationAnswer (outside (S.files shelf.old) (S.counts shelf.old) (T.told out.old) (T.faults out.old))
-        (outside (S.files shelf.new) (S.counts shelf.new) (T.told out.new) (T.faults out.new)) c result) }
-    ensures simulation_complete { IfSome (asimut_of words.now) (λ c. IsSimulationComplete (outside (S.files shelf.old) (S.counts shelf.old) (T.told out.old) (T.faults out.old))
-        (outside (S.files shelf.new) (S.counts shelf.new) (T.told out.new) (T.faults out.new)) c result) }
-    ensures quiet { has_line result ≡ true → T.told out.new ≡ T.told out.old }
-    ensures faults { T.faults out.old ≤ T.faults out.new }
-{
-    let command = match read_words(alloc, words) {
-        Ok(command) => command,
-        Err(WordsError::Usage) => return Status::Usage,
-        Err(WordsError::Memory) => return Status::Memory,
-    };
-    match &command {
-        Command::Flow(flow) => perform(alloc, flow, shelf, out),
-        Command::Asimut(asimut) => run_asimut(alloc, asimut, shelf, out),
-    }
-}
-
-/// Does what the words ask, over a shelf and a sink: `flow` lays the source out with the cells of the library, `asimut` runs
-/// patterns on the source.
-///
-/// The words are taken apart first, and only then is a file read. `flow` reads SOURCE, then CATAL, then the behaviour and the geometry of its
-/// cell. The layout is written to NAME.ap, and then the report is printed by one put. A refusal prints its line by one put; if
-/// that fails the status stays as it was. Memory for the files, the layout and the report is taken on `alloc` and given back.
-pub fn alliance_main<S: Shelf, T: Sink>(
-    alloc: Global,
-    words: &Words,
-    shelf: &mut S,
-    out: &mut T,
-) -> Status
-    // Usage comes exactly where the words spell no command, and then no call was made on the shelf.
-    ensures usage { result ≡ Status.Usage → command_of words.now ≡ None }
-    ensures words { command_of words.now ≡ None → (result ≡ Status.Usage) ⊎ (result ≡ Status.Memory) }
-    ensures nothing { command_of words.now ≡ None → shelf.new ≡ shelf.old }
-
-    // A state machine's source is beyond what is built, and then no call was made on the shelf.
-    ensures fsm { IfSome (flow_of words.now) (λ c. is_state_machine c ≡ true → ((result ≡ Status.Beyond) ⊎ (result ≡ Status.Memory)) × (shelf.new ≡ shelf.old)) }
-
-    // Every status has its cause and leaves the files that its row says. What was printed is as before the line of a refusal.
-    ensures cause { IfSome (flow_of words.now) (λ c. Caused (outside (S.files shelf.old) (S.counts shelf.old) (T.told out.old) (T.faults out.old))
-        (outside (S.files shelf.new) (S.counts shelf.new) (T.told out.new) (T.faults out.new)) c result) }
-
-    // Over told files, where nothing failed, every reading has its one answer.
-    ensures complete { IfSome (flow_of words.now) (λ c. IsComplete (outside (S.files shelf.old) (S.counts shelf.old) (T.told out.old) (T.faults out.old))
-        (outside (S.files shelf.new) (S.counts shelf.new) (T.told out.new) (T.faults out.new)) c result) }
-
-    // Where the answer is 0, NAME.ap is a right layout of the source by the library, and the report on it was printed.
-    ensures headline { IfSome (flow_of words.now) (λ c. result ≡ Status.Accepted → IsHeadline (outside (S.files shelf.old) (S.counts shelf.old) (T.told out.old) (T.faults out.old))
-        (outside (S.files shelf.new) (S.counts shelf.new) (T.told out.new) (T.faults out.new)) c) }
-
-    // The answers of asimut: each has its cause, and over told files, where nothing failed, it is what the files come to.
-    ensures simulation { IfSome (asimut_of words.now) (λ c. IsSimulationAnswer (outside (S.files shelf.old) (S.counts shelf.old) (T.told out.old) (T.faults out.old))
-        (outside (S.files shelf.new) (S.counts shelf.new) (T.told out.new) (T.faults out.new)) c result) }
-    ensures simulation_complete { IfSome (asimut_of words.now) (λ c. IsSimulationComplete (outside (S.files shelf.old) (S.counts shelf.old) (T.told out.old) (T.faults out.old))
-        (outside (S.files shelf.new) (S.counts shelf.new) (T.told out.new) (T.faults out.new)) c result) }
-
-    // A refusal prints its line and nothing else, as far as memory and the sink let it.
-    ensures line { has_line result ≡ true → IsLine (T.told out.old) (T.faults out.old) (T.told out.new) (T.faults out.new) (line_of words.now result) }
-{
-    let status = answer(alloc, words, shelf, out);
-    if status.has_line() {
-        tell(alloc, words, &status, out);
-    }
-    status
+    let tool = Flow { command };
+    drive(alloc, b"flow", &tool, shelf, out)
 }

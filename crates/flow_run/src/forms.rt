@@ -5,17 +5,15 @@ ghost use Rattle.flow_run.specs.Forms.{is_name_byte as name_byte, is_letter as l
 
 use crate::drawing::cell_text;
 use std::alloc::{AllocError, Global};
+use tool_drive::MOST_BYTES;
 use vhdl_token::Keyword;
 use vlsi_base::{FileBytes, Text};
-
-/// The most bytes of a file that is read.
-pub const MOST: u64 = 1_048_576;
 
 // The most bytes of a name.
 const LONGEST: usize = 64;
 
 /// The names of one inverter: its entity, its input and its output. No two are one.
-#[derive(Debug, Drop)]
+#[derive(Drop)]
 pub struct First {
     pub entity: Text,
     pub input: Text,
@@ -194,11 +192,10 @@ fn output_name(text: &[u8]) -> &[u8]
 }
 
 /// The names of one inverter, where the bytes are the text of one; `None` exactly where they are none's.
-pub fn read_first(alloc: Global, bytes: &FileBytes) -> Result<Option<First>, AllocError>
-    ensures { IfOk result (λ found. found ≡ first_of bytes.now) }
+pub fn read_first(alloc: Global, text: &[u8]) -> Result<Option<First>, AllocError>
+    ensures { IfOk result (λ found. found ≡ first_of text.now) }
 {
-    let text = bytes.as_bytes();
-    if text.len() as u64 > MOST {
+    if text.len() as u64 > MOST_BYTES {
         return Ok(None);
     }
     first_by(
@@ -232,11 +229,10 @@ fn cell_by(alloc: Global, text: &[u8], cell: &[u8]) -> Result<Option<Text>, Allo
 }
 
 /// The name of the cell, where the bytes are the list of a library with one cell; `None` exactly where they aren't.
-pub fn cell(alloc: Global, bytes: &FileBytes) -> Result<Option<Text>, AllocError>
-    ensures { IfOk result (λ found. found ≡ cell_of bytes.now) }
+pub fn catal_cell(alloc: Global, text: &[u8]) -> Result<Option<Text>, AllocError>
+    ensures { IfOk result (λ found. found ≡ cell_of text.now) }
 {
-    let text = bytes.as_bytes();
-    if text.len() as u64 > MOST {
+    if text.len() as u64 > MOST_BYTES {
         return Ok(None);
     }
     cell_by(alloc, text, name_at(0, text))
@@ -248,10 +244,10 @@ pub fn has_layout(
     cell: &Text,
     a: &Text,
     z: &Text,
-    bytes: &FileBytes,
+    text: &[u8],
 ) -> Result<bool, AllocError>
-    ensures { IfOk result (λ found. found ≡ is_cell_layout cell.now a.now z.now bytes.now) }
+    ensures { IfOk result (λ found. found ≡ is_cell_layout cell.now a.now z.now text.now) }
 {
     let expected = cell_text(alloc, cell, a, z)?;
-    Ok(bytes.as_bytes().len() as u64 <= MOST && is_same(bytes.as_bytes(), expected.as_bytes()))
+    Ok(text.len() as u64 <= MOST_BYTES && is_same(text, expected.as_bytes()))
 }

@@ -1,18 +1,18 @@
 //! The top call of the program: words in, files and a report out, a status with its cause.
 //!
-//! `alliance_main` is what the program does. What each status means, when it comes and what it leaves stands in
-//! `specs/Causes.antt`; what reading comes to, in `specs/Reading.antt`; the texts that are read, in `specs/Forms.antt`; the
-//! words of a command, in `specs/` of `tool_words`.
+//! `alliance_main` is what the program does. What `flow` reads and answers stands in `specs/Flow.antt`, and what its layout is,
+//! in `specs/Causes.antt`; when each status comes and what it leaves, for all tools, in `specs/Table.antt` of `tool_drive`; the
+//! texts that are read, in `specs/Forms.antt`; the words of a command, in `specs/` of `tool_words`.
 #![tactic(auto)]
 
 mod drawing;
 mod flow;
 mod forms;
 mod laws;
-mod read;
 mod right_layout;
+mod top;
 
-pub use flow::alliance_main;
-pub use forms::{First, MOST};
-pub use laws::first_law;
+pub use forms::First;
+pub use laws::{first_law, form_law};
 pub use right_layout::right_layout_law;
+pub use top::alliance_main;

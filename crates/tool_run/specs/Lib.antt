@@ -1,6 +1,3 @@
-pub mod Status
-pub mod Outside
-pub mod Lines
+pub mod Usage
 pub mod Asimut
-pub mod Complete
-pub mod Stages
+pub mod Laws

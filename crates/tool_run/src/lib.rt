@@ -1,12 +1,15 @@
-//! How calls end, the lines that refusals print, and the tools beside `flow`.
+//! The tools beside `flow`, by the driver of `tool_drive`, and the line on words that spell no command.
 //!
-//! When each status comes and what it leaves stands in `specs/Asimut.antt` for `asimut`; the lines, in `specs/Lines.antt`.
+//! What `asimut` reads and answers stands in `specs/Asimut.antt`; when each status comes and what it leaves, for all tools, in
+//! `specs/Table.antt` of `tool_drive`.
 #![tactic(auto)]
 
 mod asimut;
-mod line;
-mod status;
+mod laws;
+mod run;
+mod usage;
 
-pub use asimut::run_asimut;
-pub use line::tell;
-pub use status::{FileCause, Kind, LibraryFault, Status, Verdict};
+pub use laws::asimut_law;
+pub use run::run_tool;
+pub use tool_drive::{FileCause, Kind, LibraryFault, Status, Verdict};
+pub use usage::refuse_words;

@@ -1,5 +1,6 @@
 pub mod Files
 pub mod Counts
+pub mod Seen
 pub mod Shelf
 pub mod Sink
 pub mod Memory

@@ -92,9 +92,7 @@ impl<'a, R: Files> DirShelf<'a, R> {
 }
 
 impl<R: Files> Shelf for DirShelf<'_, R> {
-    ghost files = { λ s. None };
-
-    ghost counts = { λ s. record { read_faults = s.read_faults; write_faults = s.write_faults; misses = s.misses } };
+    ghost seen = { λ s. record { files = None; counts = record { read_faults = s.read_faults; write_faults = s.write_faults; misses = s.misses } } };
 
     fn read(&mut self, alloc: Global, name: &FileName, most: u64) -> Result<FileBytes, ShelfError> {
         let Ok(path) = str::from_utf8(name.as_bytes()) else {
@@ -173,9 +171,7 @@ fn print_all<P: Print>(out: &P, bytes: &[u8]) -> bool {
 }
 
 impl<P: Print> Sink for OutSink<'_, P> {
-    ghost told = { λ s. None };
-
-    ghost faults = { λ s. s.faults };
+    ghost seen = { λ s. record { told = None; faults = s.faults } };
 
     fn put(&mut self, bytes: &[u8]) -> Result<(), SinkError> {
         if print_all(self.out, bytes) {

@@ -79,9 +79,7 @@ impl MemShelf {
 }
 
 impl Shelf for MemShelf {
-    ghost files = { λ s. Some s.files };
-
-    ghost counts = { λ s. s.counts };
+    ghost seen = { λ s. record { files = Some s.files; counts = s.counts } };
 
     fn read(&mut self, alloc: Global, name: &FileName, most: u64) -> Result<FileBytes, ShelfError>
         ensures ok { IfOk result (λ bytes. Reads (Some self.old.files) name.now most bytes) }
@@ -156,9 +154,7 @@ impl NoFaultShelf {
 }
 
 impl Shelf for NoFaultShelf {
-    ghost files = { λ s. Some s.files };
-
-    ghost counts = { λ s. record { read_faults = 0; write_faults = 0; misses = s.misses } };
+    ghost seen = { λ s. record { files = Some s.files; counts = record { read_faults = 0; write_faults = 0; misses = s.misses } } };
 
     fn read(&mut self, alloc: Global, name: &FileName, most: u64) -> Result<FileBytes, ShelfError> {
         match self.files.get(name) {
@@ -220,9 +216,7 @@ impl MemSink {
 }
 
 impl Sink for MemSink {
-    ghost told = { λ s. Some s.bytes };
-
-    ghost faults = { λ s. s.faults };
+    ghost seen = { λ s. record { told = Some s.bytes; faults = s.faults } };
 
     fn put(&mut self, bytes: &[u8]) -> Result<(), SinkError>
         ensures ok { OnOk result (Puts (Some self.old.bytes) (Some self.new.bytes) bytes.now) }

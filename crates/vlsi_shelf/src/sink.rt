@@ -1,6 +1,7 @@
-ghost use Rattle.std.specs.Prelude.{◌≡◌, ℕ, ◌≤◌, List, Option, OnOk, IsErrOf};
+ghost use Rattle.std.specs.Prelude.{◌≡◌, ◌≤◌, OnOk, IsErrOf};
 ghost use Rattle.vlsi_shelf.specs.declared.sink.SinkError.TheVariants.{Memory, Failed};
 ghost use Rattle.vlsi_shelf.specs.Counts.{Rose};
+ghost use Rattle.vlsi_shelf.specs.Seen.{SinkSeen};
 ghost use Rattle.vlsi_shelf.specs.Sink.{Puts, PutsPart};
 
 use std::alloc::{AllocError, AllocFailed};
@@ -35,17 +36,14 @@ impl<T: Drop> From<AllocFailed<T>> for SinkError {
 
 /// Where a program prints.
 pub trait Sink {
-    /// The bytes that were put so far, at a sink that tells them.
-    ghost told: { Self → Option (List ℕ) };
-
-    /// How often it has failed. The count never falls.
-    ghost faults: { Self → ℕ };
+    /// The bytes that were put so far, where it tells them, and how often it has failed. The count never falls.
+    ghost seen: { Self → SinkSeen };
 
     /// Puts bytes behind those so far. After `Failed` some first part of them was put, after `Memory` none.
     fn put(&mut self, bytes: &[u8]) -> Result<(), SinkError>
-        ensures ok { OnOk result (Puts (told self.old) (told self.new) bytes.now) }
-        ensures memory { IsErrOf result Memory → told self.new ≡ told self.old }
-        ensures failed { IsErrOf result Failed → Rose (faults self.old) (faults self.new) }
-        ensures part { IsErrOf result Failed → PutsPart (told self.old) (told self.new) bytes.now }
-        ensures counts { faults self.old ≤ faults self.new };
+        ensures ok { OnOk result (Puts (seen self.old).told (seen self.new).told bytes.now) }
+        ensures memory { IsErrOf result Memory → (seen self.new).told ≡ (seen self.old).told }
+        ensures failed { IsErrOf result Failed → Rose (seen self.old).faults (seen self.new).faults }
+        ensures part { IsErrOf result Failed → PutsPart (seen self.old).told (seen self.new).told bytes.now }
+        ensures counts { (seen self.old).faults ≤ (seen self.new).faults };
 }

@@ -1,16 +1,22 @@
-use Rattle.std.proofs.Common.{ℕ, List, IfErr, subst}
-use Rattle.vbe_io.specs.Text.{IsVbe}
-use Rattle.tool_run.specs.Stages.{IsSourceRefusal, IsFilledRefusal}
-use Rattle.tool_run.proofs.Refusing.{text_by_source, text_refused}
+use Rattle.std.proofs.Common.{List, Err, sym, subst}
+use Rattle.vlsi_base.specs.declared.name.Port.{Port}
+use Rattle.pat_meaning.specs.declared.patterns.Pattern.{Pattern}
+use Rattle.pat_io.specs.PatternText.{IsPatternText}
+use Rattle.tool_drive.specs.declared.tool.Refusal.{Refusal}
+use Rattle.tool_drive.specs.Table.{IsJudged}
+use Rattle.tool_run.specs.Asimut.{Simulates, IsToldOf}
+use Rattle.tool_run.proofs.Refusing.{by_source, by_difference}
 use Rattle.tool_run.proofs.asimut.simulated.Goals as goal
 
-pub returns-in-Err-clause-err : goal.returns-in-Err-clause-err
-returns-in-Err-clause-err c =
-    let refused = subst (λ (source : List ℕ). IsSourceRefusal c.args.command.now source c.in-Err.status) c.as_bytes.ensures c.in-Err.ensures.err in
-    text_by_source c.args.command.now c.args.files.now.source c.args.files.now.patterns c.in-Err.status refused
+pub returns-in-Err : goal.returns-in-Err
+returns-in-Err c =
+    subst (λ (r : Refusal). IsJudged (Simulates c.args.command.now c.args.source.now c.args.patterns.now) (Err r)) (sym c.plain.ensures)
+    (by_source c.args.command.now c.args.source.now c.args.patterns.now c.in-Err.error c.refused.result c.in-Err.ensures.refused c.refused.ensures)
 
-pub returns-in-Ok-clause-err : goal.returns-in-Ok-clause-err
-returns-in-Ok-clause-err c =
-    let machine = subst (λ (source : List ℕ). IsVbe source c.in-Ok.machine) c.as_bytes.ensures c.in-Ok.ensures.ok in
-    let refused = subst (λ (patterns : List ℕ). IfErr c.filled.result (λ s. IsFilledRefusal c.args.command.now c.in-Ok.machine patterns s)) c.as_bytes-in-Ok.ensures c.filled.ensures.err in
-    text_refused c.args.command.now c.in-Ok.machine c.args.files.now.source c.args.files.now.patterns machine c.filled.result refused
+pub returns-in-Err-simulate : goal.returns-in-Err-simulate
+returns-in-Err-simulate c =
+    let fits = subst (λ (ports : List Port). IsPatternText c.args.patterns.now ports c.in-Ok-read_pat.read) c.ports.ensures.value c.in-Ok-read_pat.ensures.accepted in
+    let told = subst (λ (ps : List Pattern). IsToldOf ps c.in-Err-simulate.error c.different.result) c.as_slice-patterns.ensures c.different.ensures in
+    subst (λ (r : Refusal). IsJudged (Simulates c.args.command.now c.args.source.now c.args.patterns.now) (Err r)) (sym c.plain-in-Err-simulate.ensures)
+    (by_difference c.args.command.now c.args.source.now c.args.patterns.now c.in-Ok.machine c.in-Ok-read_pat.read c.in-Err-simulate.error c.different.result
+    c.in-Ok.ensures.accepted fits c.in-Err-simulate.ensures.differs told)

@@ -1,0 +1,69 @@
+-- The word of a command's tool, the line of its refusals, and words that no command is read from.
+use Rattle.std.proofs.Common.{◌≡◌, ℕ, List, Option, None, Some, IfSome, Err, IsErrOf, refl, sym, ◌∙◌, ap, subst}
+use Rattle.tool_words.specs.declared.command.Command.{Command}
+use Rattle.tool_words.specs.declared.command.Command.TheVariants as command
+use Rattle.tool_words.specs.declared.words.WordsError.{WordsError}
+use Rattle.tool_words.specs.declared.words.WordsError.TheVariants as words
+use Rattle.tool_words.specs.Commands.{command_of, as_flow, as_asimut, flow_of, asimut_of, Spells}
+use Rattle.tool_words.specs.Laws.{WordsAreExact}
+use Rattle.vlsi_shelf.specs.Seen.{SinkSeen}
+use Rattle.tool_drive.specs.declared.status.Status.{Status}
+use Rattle.tool_drive.specs.declared.status.Status.TheVariants as status
+use Rattle.tool_drive.specs.Lines.{line_of as line_of_tool}
+use Rattle.tool_drive.specs.Outside.{Outside, IsLine}
+use Rattle.tool_drive.specs.Table.{Caused, IsComplete, memory_complete}
+use Rattle.tool_run.specs.Usage.{word_of, tool_of, line_of, status_of}
+use Rattle.tool_run.specs.Asimut.{asimut_plan, asimut_answers}
+use Rattle.flow_run.specs.Flow.{flow_plan, flow_answers}
+use Rattle.flow_run.specs.Causes.{IsHeadline}
+use Rattle.flow_run.proofs.Rows.{if_some, headline_of}
+
+spelled : (words : List (List ℕ)) (k : Command) → Spells words k → tool_of words ≡ word_of k
+spelled words (command.Flow c) h = ap tool_of h.words_are
+spelled words (command.Asimut c) h = ap tool_of h.words_are
+
+line_is : (words : List (List ℕ)) (s : Status) → (s ≡ status.Usage → ⊥) → line_of_tool (tool_of words) s ≡ line_of words s
+line_is words status.Usage other = absurd (other refl)
+line_is words _ other = refl
+
+-- the line behind the tool's word is the line that the words' refusal prints
+pub line_by : WordsAreExact → (words : List (List ℕ)) (k : Command) (s : Status) (before now : SinkSeen) → command_of words ≡ Some k → (s ≡ status.Usage → ⊥)
+    → IsLine before now (line_of_tool (word_of k) s) → IsLine before now (line_of words s)
+line_by law words k s before now is other h =
+    subst (λ (l : List ℕ). IsLine before now l)
+    (ap (λ (w : List ℕ). line_of_tool w s) (sym (spelled words k ((law words k).0 is))) ∙ line_is words s other) h
+
+pub headline_at : (words : List (List ℕ)) (k : Command) (before now : Outside) (s : Status) → command_of words ≡ Some k
+    → IfSome (as_flow (Some k)) (λ c. Caused (flow_plan c) (flow_answers c) before now s) → IfSome (flow_of words) (λ c. s ≡ status.Accepted → IsHeadline c before now)
+headline_at words k before now s is h =
+    subst (λ (o : Option Command). IfSome (as_flow o) (λ c. s ≡ status.Accepted → IsHeadline c before now)) (sym is)
+    (if_some (as_flow (Some k)) (λ c caused. headline_of c before now s caused) h)
+
+-- ---- words that no command is read from
+
+all_some : {A : Type 0} {P : A → Type 0} (o : Option A) → ((x : A) → P x) → IfSome o P
+all_some None f = tt
+all_some (Some x) f = f x
+
+not_accepted : (e : WordsError) (s : Status) → s ≡ status_of e → s ≡ status.Accepted → ⊥
+not_accepted words.Usage s is accepted = cc (sym is ∙ accepted)
+not_accepted words.Memory s is accepted = cc (sym is ∙ accepted)
+
+pub no_headline : (ws : List (List ℕ)) (e : WordsError) (before now : Outside) (s : Status) → s ≡ status_of e → IfSome (flow_of ws) (λ c. s ≡ status.Accepted → IsHeadline c before now)
+no_headline ws e before now s is = all_some (flow_of ws) (λ c accepted. absurd (not_accepted e s is accepted))
+
+pub flow_unread : (ws : List (List ℕ)) (e : WordsError) (before now : Outside) (s : Status) → s ≡ status_of e → (IsErrOf {T = Command} (Err e) words.Usage → command_of ws ≡ None)
+    → IfSome (flow_of ws) (λ c. IsComplete (flow_plan c) (flow_answers c) before now s)
+flow_unread ws words.Usage before now s is none =
+    subst (λ (o : Option Command). IfSome (as_flow o) (λ c. IsComplete (flow_plan c) (flow_answers c) before now s)) (sym (none refl)) tt
+flow_unread ws words.Memory before now s is none =
+    subst (λ (x : Status). IfSome (flow_of ws) (λ c. IsComplete (flow_plan c) (flow_answers c) before now x)) (sym is)
+    (all_some (flow_of ws) (λ c. memory_complete (flow_plan c) (flow_answers c) before now))
+
+pub asimut_unread : (ws : List (List ℕ)) (e : WordsError) (before now : Outside) (s : Status) → s ≡ status_of e → (IsErrOf {T = Command} (Err e) words.Usage → command_of ws ≡ None)
+    → IfSome (asimut_of ws) (λ c. IsComplete (asimut_plan c) (asimut_answers c) before now s)
+asimut_unread ws words.Usage before now s is none =
+    subst (λ (o : Option Command). IfSome (as_asimut o) (λ c. IsComplete (asimut_plan c) (asimut_answers c) before now s)) (sym (none refl)) tt
+asimut_unread ws words.Memory before now s is none =
+    subst (λ (x : Status). IfSome (asimut_of ws) (λ c. IsComplete (asimut_plan c) (asimut_answers c) before now x)) (sym is)
+    (all_some (asimut_of ws) (λ c. memory_complete (asimut_plan c) (asimut_answers c) before now))

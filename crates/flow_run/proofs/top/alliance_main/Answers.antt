@@ -1,0 +1,28 @@
+use Rattle.tool_drive.specs.Outside.{outside}
+use Rattle.flow_run.proofs.Words.{line_by, headline_at, no_headline, flow_unread, asimut_unread}
+use Rattle.flow_run.proofs.top.alliance_main.Goals as goal
+
+pub returns-in-Ok-clause-headline : goal.returns-in-Ok-clause-headline
+returns-in-Ok-clause-headline g c =
+    headline_at c.args.words.now c.in-Ok.command (outside (g.S.Shelf.seen c.args.shelf.now) (g.T.Sink.seen c.args.out.now)) (outside (g.S.Shelf.seen c.run.new.shelf) (g.T.Sink.seen c.run.new.out))
+    c.run.result c.in-Ok.ensures.ok c.run.ensures.cause
+
+pub returns-in-Ok-clause-line : goal.returns-in-Ok-clause-line
+returns-in-Ok-clause-line g c lined =
+    line_by c.words_law.ensures c.args.words.now c.in-Ok.command c.run.result (g.T.Sink.seen c.args.out.now) (g.T.Sink.seen c.run.new.out)
+    c.in-Ok.ensures.ok c.run.ensures.never_usage (c.run.ensures.line lined)
+
+pub returns-in-Err-clause-complete : goal.returns-in-Err-clause-complete
+returns-in-Err-clause-complete g c =
+    flow_unread c.args.words.now c.in-Err.error (outside (g.S.Shelf.seen c.args.shelf.now) (g.T.Sink.seen c.args.out.now)) (outside (g.S.Shelf.seen c.args.shelf.now) (g.T.Sink.seen c.refuse_words.new.out))
+    c.refuse_words.result c.refuse_words.ensures.status c.in-Err.ensures.usage
+
+pub returns-in-Err-clause-headline : goal.returns-in-Err-clause-headline
+returns-in-Err-clause-headline g c =
+    no_headline c.args.words.now c.in-Err.error (outside (g.S.Shelf.seen c.args.shelf.now) (g.T.Sink.seen c.args.out.now)) (outside (g.S.Shelf.seen c.args.shelf.now) (g.T.Sink.seen c.refuse_words.new.out))
+    c.refuse_words.result c.refuse_words.ensures.status
+
+pub returns-in-Err-clause-simulation_complete : goal.returns-in-Err-clause-simulation_complete
+returns-in-Err-clause-simulation_complete g c =
+    asimut_unread c.args.words.now c.in-Err.error (outside (g.S.Shelf.seen c.args.shelf.now) (g.T.Sink.seen c.args.out.now)) (outside (g.S.Shelf.seen c.args.shelf.now) (g.T.Sink.seen c.refuse_words.new.out))
+    c.refuse_words.result c.refuse_words.ensures.status c.in-Err.ensures.usage

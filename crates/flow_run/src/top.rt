@@ -1,0 +1,89 @@
+// The top call: words, and then the tool that they ask for.
+ghost use Rattle.std.specs.Prelude.{◌≡◌, ◌⊎◌, true, IfSome, Some, None};
+ghost use Rattle.tool_words.specs.Commands.{command_of, as_flow, as_asimut, flow_of, asimut_of};
+ghost use Rattle.tool_drive.specs.Outside.{outside, IsLine};
+ghost use Rattle.tool_drive.specs.Status.{has_line};
+ghost use Rattle.tool_drive.specs.Lines.{line_of as line_of_tool};
+ghost use Rattle.tool_drive.specs.Table.{Caused, IsComplete};
+ghost use Rattle.tool_run.specs.Usage.{word_of, line_of};
+ghost use Rattle.tool_run.specs.Asimut.{asimut_plan, asimut_answers};
+ghost use Rattle.flow_run.specs.Flow.{is_fsm, flow_plan, flow_answers};
+ghost use Rattle.flow_run.specs.Causes.{IsHeadline};
+
+use crate::flow::run_flow;
+use std::alloc::Global;
+use tool_run::{Status, refuse_words, run_tool};
+use tool_words::{Command, Words, read_words, words_law};
+use vlsi_shelf::{Shelf, Sink};
+
+// Runs the tool that a command is for.
+fn run<S: Shelf, T: Sink>(alloc: Global, command: &Command, shelf: &mut S, out: &mut T) -> Status
+    ensures fsm { IfSome (as_flow (Some command.now)) (λ c. is_fsm c ≡ true
+        → (result ≡ Status.Beyond) × (shelf.new ≡ shelf.old)) }
+    ensures cause { IfSome (as_flow (Some command.now)) (λ c. Caused (flow_plan c) (flow_answers c)
+        (outside (S.seen shelf.old) (T.seen out.old)) (outside (S.seen shelf.new) (T.seen out.new)) result) }
+    ensures complete { IfSome (as_flow (Some command.now)) (λ c. IsComplete (flow_plan c) (flow_answers c)
+        (outside (S.seen shelf.old) (T.seen out.old)) (outside (S.seen shelf.new) (T.seen out.new)) result) }
+    ensures simulation { IfSome (as_asimut (Some command.now)) (λ c. Caused (asimut_plan c) (asimut_answers c)
+        (outside (S.seen shelf.old) (T.seen out.old)) (outside (S.seen shelf.new) (T.seen out.new)) result) }
+    ensures simulation_complete { IfSome (as_asimut (Some command.now)) (λ c. IsComplete (asimut_plan c) (asimut_answers c)
+        (outside (S.seen shelf.old) (T.seen out.old)) (outside (S.seen shelf.new) (T.seen out.new)) result) }
+    ensures line { has_line result ≡ true
+        → IsLine (T.seen out.old) (T.seen out.new) (line_of_tool (word_of command.now) result) }
+    ensures never_usage { result ≡ Status.Usage → ⊥ }
+{
+    match command {
+        Command::Flow(flow) => run_flow(alloc, flow, shelf, out),
+        Command::Asimut(_) => run_tool(alloc, command, shelf, out),
+    }
+}
+
+/// Does what the words ask, over a shelf and a sink: `flow` lays the source out with the cells of the library, `asimut` runs
+/// patterns on the source.
+///
+/// The words are taken apart first, and only then is a file read. A tool reads its files in their order, then writes its file,
+/// if it has one, and then prints its text by one put. `flow` reads SOURCE, CATAL, and the behaviour and the geometry of its
+/// cell, writes the layout to NAME.ap and prints the report. A refusal prints its line by one put; if that fails the status
+/// stays as it was. Memory for what is read and answered is taken on `alloc` and given back.
+pub fn alliance_main<S: Shelf, T: Sink>(
+    alloc: Global,
+    words: &Words,
+    shelf: &mut S,
+    out: &mut T,
+) -> Status
+    // Usage comes exactly where the words spell no command, and then no call was made on the shelf.
+    ensures usage { result ≡ Status.Usage → command_of words.now ≡ None }
+    ensures words { command_of words.now ≡ None → (result ≡ Status.Usage) ⊎ (result ≡ Status.Memory) }
+    ensures nothing { command_of words.now ≡ None → shelf.new ≡ shelf.old }
+
+    // A state machine's source is beyond what is built, and then no call was made on the shelf.
+    ensures fsm { IfSome (flow_of words.now) (λ c. is_fsm c ≡ true
+        → ((result ≡ Status.Beyond) ⊎ (result ≡ Status.Memory)) × (shelf.new ≡ shelf.old)) }
+
+    // Every status has its cause and leaves the files that its row says. What was printed is as before the line of a refusal.
+    ensures cause { IfSome (flow_of words.now) (λ c. Caused (flow_plan c) (flow_answers c)
+        (outside (S.seen shelf.old) (T.seen out.old)) (outside (S.seen shelf.new) (T.seen out.new)) result) }
+
+    // Over told files, where nothing failed, every reading has its one answer.
+    ensures complete { IfSome (flow_of words.now) (λ c. IsComplete (flow_plan c) (flow_answers c)
+        (outside (S.seen shelf.old) (T.seen out.old)) (outside (S.seen shelf.new) (T.seen out.new)) result) }
+
+    // Where the answer is 0, NAME.ap is a right layout of the source by the library, and the report on it was printed.
+    ensures headline { IfSome (flow_of words.now) (λ c. result ≡ Status.Accepted
+        → IsHeadline c (outside (S.seen shelf.old) (T.seen out.old)) (outside (S.seen shelf.new) (T.seen out.new))) }
+
+    // The answers of asimut: each has its cause, and over told files, where nothing failed, it is what the files come to.
+    ensures simulation { IfSome (asimut_of words.now) (λ c. Caused (asimut_plan c) (asimut_answers c)
+        (outside (S.seen shelf.old) (T.seen out.old)) (outside (S.seen shelf.new) (T.seen out.new)) result) }
+    ensures simulation_complete { IfSome (asimut_of words.now) (λ c. IsComplete (asimut_plan c) (asimut_answers c)
+        (outside (S.seen shelf.old) (T.seen out.old)) (outside (S.seen shelf.new) (T.seen out.new)) result) }
+
+    // A refusal prints its line and nothing else, as far as memory and the sink let it.
+    ensures line { has_line result ≡ true → IsLine (T.seen out.old) (T.seen out.new) (line_of words.now result) }
+{
+    words_law();
+    match read_words(alloc, words) {
+        Ok(command) => run(alloc, &command, shelf, out),
+        Err(error) => refuse_words(alloc, words, error, out),
+    }
+}

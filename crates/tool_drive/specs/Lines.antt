@@ -1,0 +1,86 @@
+-- The lines that refusals print.
+use Rattle.std.specs.Prelude.{ℕ, List, [], ◌∷◌, ◌++◌, Option, None, Some, codes}
+use Rattle.std.specs.Fmt.{decimal}
+use Rattle.vlsi_base.specs.Fault.{fault_text, limit_text}
+use Rattle.vlsi_base.specs.declared.name.Name.{Name}
+use Rattle.vlsi_base.specs.declared.name.Terminal.{Terminal}
+use Rattle.vlsi_base.specs.declared.fault.InputFault.{InputFault}
+use Rattle.vlsi_base.specs.declared.fault.Limit.{Limit}
+use Rattle.tool_drive.specs.declared.status.Status.{Status}
+use Rattle.tool_drive.specs.declared.status.Status.TheVariants as status
+use Rattle.tool_drive.specs.declared.status.FileCause.{FileCause}
+use Rattle.tool_drive.specs.declared.status.FileCause.TheVariants.{Missing, ReadFault, WriteFault, OutFault}
+use Rattle.tool_drive.specs.declared.status.Kind.{Kind}
+use Rattle.tool_drive.specs.declared.status.Kind.TheVariants as kind
+use Rattle.tool_drive.specs.declared.status.LibraryFault.{LibraryFault}
+use Rattle.tool_drive.specs.declared.status.LibraryFault.TheVariants.{BadCatal, BadCell}
+use Rattle.tool_drive.specs.declared.status.Verdict.{Verdict}
+use Rattle.tool_drive.specs.declared.status.Verdict.TheVariants as verdict
+
+-- a bit of a vector stands in parentheses behind its name
+abbrev pub bit_text : Option ℕ → List ℕ
+bit_text None = []
+bit_text (Some k) = codes "(" ++ (decimal k ++ codes ")")
+
+abbrev pub name_text : Name → List ℕ
+name_text n = n.text ++ bit_text n.bit
+
+-- each name behind a blank
+abbrev pub names_text : List Name → List ℕ
+names_text [] = []
+names_text (n ∷ names) = codes " " ++ (name_text n ++ names_text names)
+
+-- a fault of a file: the file, the line, what is wrong, and the names at fault
+abbrev pub source_text : List ℕ → InputFault → List ℕ
+source_text file f = file ++ (codes ":" ++ (decimal f.line ++ (codes ": " ++ (fault_text f.kind ++ names_text f.names))))
+
+-- a line of CATAL, or a cell and the check that it fails
+abbrev pub library_text : LibraryFault → List ℕ
+library_text (BadCatal line) = codes "catal " ++ decimal line
+library_text (BadCell cell cause) = cell ++ (codes " " ++ decimal cause)
+
+abbrev pub kind_text : Kind → List ℕ
+kind_text kind.Inv = codes "inv"
+kind_text kind.Nand2 = codes "nand2"
+kind_text kind.Zero = codes "zero"
+kind_text kind.One = codes "one"
+kind_text kind.Dff = codes "dff"
+
+-- an instance stands before its pin
+abbrev pub instance_text : Option (List ℕ) → List ℕ
+instance_text None = []
+instance_text (Some instance) = instance ++ codes "."
+
+abbrev pub terminal_text : Terminal → List ℕ
+terminal_text t = instance_text t.instance ++ name_text t.pin
+
+abbrev pub limit_line : Limit → List ℕ
+limit_line l = codes "limit: " ++ (limit_text l.which ++ (codes " " ++ decimal l.reached))
+
+abbrev pub file_text : FileCause → List ℕ → List ℕ
+file_text Missing name = codes "file: missing " ++ name
+file_text ReadFault name = codes "file: read fault " ++ name
+file_text WriteFault name = codes "file: write fault " ++ name
+file_text OutFault name = []
+
+abbrev pub verdict_text : Verdict → List ℕ
+verdict_text (verdict.Differs label name) = codes "differs " ++ (label ++ (codes " " ++ name_text name))
+
+-- What a refusal says behind the tool's word. Wrong words have a line of their own; what has no line says nothing.
+abbrev pub refusal_text : Status → List ℕ
+refusal_text status.Accepted = []
+refusal_text status.Usage = []
+refusal_text (status.Source file fault) = source_text file fault
+refusal_text (status.Library fault) = codes "library: " ++ library_text fault
+refusal_text (status.NoCover which) = codes "no cover: " ++ kind_text which
+refusal_text (status.Budget equation reached) = codes "budget: " ++ (name_text equation ++ (codes " " ++ decimal reached))
+refusal_text (status.NoPath net terminal) = codes "no path: " ++ (decimal net ++ (codes " " ++ terminal_text terminal))
+refusal_text (status.File cause name) = file_text cause name
+refusal_text status.Memory = codes "memory"
+refusal_text (status.Limit l) = limit_line l
+refusal_text status.Beyond = codes "beyond"
+refusal_text (status.No v) = verdict_text v
+
+-- the line that a tool's refusal prints
+abbrev pub line_of : List ℕ → Status → List ℕ
+line_of word s = word ++ (codes ": " ++ (refusal_text s ++ 10 ∷ []))

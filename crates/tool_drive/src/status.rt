@@ -1,0 +1,124 @@
+// How a call ends.
+ghost use Rattle.std.specs.Prelude.{◌≡◌};
+ghost use Rattle.tool_drive.specs.Lines.{kind_text};
+ghost use Rattle.tool_drive.specs.Status.{code_of, has_line as line_wanted};
+
+use vlsi_base::{FileName, InputFault, Limit, Name, Terminal, Text};
+
+/// Why a file stopped the run.
+#[derive(Clone, Copy, Debug, PartialEq, Eq)]
+pub enum FileCause {
+    /// A file that is read isn't there.
+    Missing,
+    /// A file that is read can't be.
+    ReadFault,
+    /// A file that is written can't be.
+    WriteFault,
+    /// What is answered can't be printed; a file that was written stands.
+    OutFault,
+}
+
+/// What a library has to have a cell for.
+#[derive(Clone, Copy, Debug, PartialEq, Eq)]
+pub enum Kind {
+    Inv,
+    Nand2,
+    Zero,
+    One,
+    Dff,
+}
+
+impl Kind {
+    /// The word that is printed for it. Takes no memory.
+    pub fn as_str(self) -> &'static str
+        ensures { result.now ≡ kind_text self }
+    {
+        match self {
+            Kind::Inv => "inv",
+            Kind::Nand2 => "nand2",
+            Kind::Zero => "zero",
+            Kind::One => "one",
+            Kind::Dff => "dff",
+        }
+    }
+}
+
+/// What is wrong with a library.
+#[derive(Drop)]
+pub enum LibraryFault {
+    /// A line of CATAL, counted from 1.
+    BadCatal(u32),
+    /// A cell, and the number of the check that it fails, counted from 1. No tool has such checks yet.
+    BadCell { cell: Text, cause: u8 },
+}
+
+/// What a tool that compares found.
+#[derive(Drop)]
+pub enum Verdict {
+    /// A bit that isn't what the pattern expects, and the pattern's label, or its number from 0.
+    Differs { label: Text, name: Name },
+}
+
+/// How a call ends. As they are built so far, `flow` answers `Accepted`, `Usage`, `File`, `Memory` and `Beyond`, and `asimut`
+/// `Accepted`, `Usage`, `Source`, `File`, `Memory`, `Limit` and `No`. The driver itself answers `File`, `Memory` and the limit
+/// file; the other refusals are the tools'.
+#[derive(Drop)]
+pub enum Status {
+    /// What was asked is done, and printed.
+    Accepted,
+    /// The words spell no command.
+    Usage,
+    /// A source file, or the file that stands beside it, has a fault.
+    Source { file: FileName, fault: InputFault },
+    /// The library has a fault.
+    Library(LibraryFault),
+    /// No cell of the library is of a kind that is needed.
+    NoCover(Kind),
+    /// The diagram of an equation is too large; how many nodes it reached.
+    Budget { equation: Name, reached: u64 },
+    /// A net, by its number, has no way to a terminal.
+    NoPath { net: u32, terminal: Terminal },
+    /// A file stopped the run.
+    File { cause: FileCause, name: FileName },
+    /// Memory ran out.
+    Memory,
+    /// A quantity of the input is over its number.
+    Limit(Limit),
+    /// The source, or the library with it, is of a form that isn't built yet.
+    Beyond,
+    /// A tool that compares found a difference.
+    No(Verdict),
+}
+
+impl Status {
+    /// The number with which the program ends. Takes no memory.
+    pub fn code(&self) -> u8
+        ensures { result ≡ code_of self.now }
+    {
+        match self {
+            Status::Accepted => 0,
+            Status::Usage => 1,
+            Status::Source { .. } => 2,
+            Status::Library(_) => 3,
+            Status::NoCover(_) => 4,
+            Status::Budget { .. } => 5,
+            Status::NoPath { .. } => 6,
+            Status::File { .. } => 7,
+            Status::Memory => 8,
+            Status::Limit(_) => 9,
+            Status::Beyond => 10,
+            Status::No(_) => 11,
+        }
+    }
+
+    /// Whether a refusal with this status prints a line. Takes no memory.
+    pub fn has_line(&self) -> bool
+        ensures { result ≡ line_wanted self.now }
+    {
+        match self {
+            Status::Accepted => false,
+            Status::File { cause, .. } => *cause != FileCause::OutFault,
+            _ => true,
+        }
+    }
+}

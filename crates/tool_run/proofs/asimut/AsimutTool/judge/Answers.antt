@@ -1,0 +1,10 @@
+use Rattle.std.proofs.Common.{List, [], get_or, subst}
+use Rattle.tool_drive.specs.Table.{IsJudged}
+use Rattle.tool_run.specs.Asimut.{Simulates}
+use Rattle.tool_run.proofs.asimut.AsimutTool.judge.Goals as goal
+
+pub returns : goal.returns
+returns c =
+    let command = c.args.self.now.command.now in
+    subst (λ p. IsJudged (Simulates command (get_or c.args.first.now 0 []) p) c.simulated.result) c.bytes_at-2.ensures
+    (subst (λ s. IsJudged (Simulates command s c.bytes_at-2.result.now) c.simulated.result) c.bytes_at.ensures c.simulated.ensures)

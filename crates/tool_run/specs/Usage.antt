@@ -1,0 +1,42 @@
+-- The lines that refusals print, whatever the words.
+use Rattle.std.specs.Prelude.{ℕ, Bool, true, false, List, [], ◌∷◌, ◌++◌, codes, if◌then◌else◌}
+use Rattle.tool_words.specs.Words.{is_word}
+use Rattle.tool_words.specs.declared.words.WordsError.{WordsError}
+use Rattle.tool_words.specs.declared.words.WordsError.TheVariants as words
+use Rattle.tool_words.specs.declared.command.Command.{Command}
+use Rattle.tool_words.specs.declared.command.Command.TheVariants as command
+use Rattle.tool_drive.specs.declared.status.Status.{Status}
+use Rattle.tool_drive.specs.declared.status.Status.TheVariants as status
+use Rattle.tool_drive.specs.Lines.{line_of as line_of_tool}
+
+-- the word of a command's tool
+abbrev pub word_of : Command → List ℕ
+word_of (command.Flow c) = codes "flow"
+word_of (command.Asimut c) = codes "asimut"
+
+abbrev pub is_flow : Command → Bool
+is_flow (command.Flow c) = true
+is_flow (command.Asimut c) = false
+
+-- the line on wrong words: of the tool's words, or of the tools
+abbrev pub usage_of : List (List ℕ) → List ℕ
+usage_of [] = codes "usage: alliance flow|asimut ARGUMENTS" ++ 10 ∷ []
+usage_of (tool ∷ _) =
+    if is_word tool (codes "flow") then codes "usage: alliance flow SOURCE -l DIR -o NAME --tracks" ++ 10 ∷ []
+    else if is_word tool (codes "asimut") then codes "usage: alliance asimut SOURCE.vbe -p PATTERNS.pat" ++ 10 ∷ []
+    else codes "usage: alliance flow|asimut ARGUMENTS" ++ 10 ∷ []
+
+-- the word that stands first
+abbrev pub tool_of : List (List ℕ) → List ℕ
+tool_of [] = []
+tool_of (tool ∷ _) = tool
+
+-- the line that a refusal prints
+abbrev pub line_of : List (List ℕ) → Status → List ℕ
+line_of words status.Usage = usage_of words
+line_of words s = line_of_tool (tool_of words) s
+
+-- the status of words that no command was read from
+abbrev pub status_of : WordsError → Status
+status_of words.Usage = status.Usage
+status_of words.Memory = status.Memory

@@ -1,0 +1,39 @@
+// The tools beside `flow`, each by the driver.
+ghost use Rattle.std.specs.Prelude.{◌≡◌, Some, true, false, IfSome};
+ghost use Rattle.vlsi_shelf.specs.Seen.{ShelfSeen};
+ghost use Rattle.tool_words.specs.Commands.{as_asimut};
+ghost use Rattle.tool_drive.specs.Outside.{outside, IsLine};
+ghost use Rattle.tool_drive.specs.Status.{has_line};
+ghost use Rattle.tool_drive.specs.Lines.{line_of};
+ghost use Rattle.tool_drive.specs.Table.{Caused, IsComplete};
+ghost use Rattle.tool_run.specs.Asimut.{asimut_plan, asimut_answers};
+ghost use Rattle.tool_run.specs.Usage.{is_flow, word_of};
+
+use crate::asimut::Asimut;
+use std::alloc::Global;
+use tool_drive::{Status, drive};
+use tool_words::Command;
+use vlsi_shelf::{Shelf, Sink};
+
+/// Runs the tool that a command is for. `flow` isn't run here, but by the crate that has the top call.
+pub fn run_tool<S: Shelf, T: Sink>(alloc: Global, c: &Command, shelf: &mut S, out: &mut T) -> Status
+    requires { is_flow c.now ≡ false }
+    // asimut: every status has its cause and leaves the files that its row says, and over told files, where nothing failed, it
+    // is what the files come to.
+    ensures simulation { IfSome (as_asimut (Some c.now)) (λ a. Caused (asimut_plan a) (asimut_answers a)
+        (outside (S.seen shelf.old) (T.seen out.old)) (outside (S.seen shelf.new) (T.seen out.new)) result) }
+    ensures simulation_complete { IfSome (as_asimut (Some c.now)) (λ a. IsComplete (asimut_plan a) (asimut_answers a)
+        (outside (S.seen shelf.old) (T.seen out.old)) (outside (S.seen shelf.new) (T.seen out.new)) result) }
+
+    // A refusal prints its line and nothing else, as far as memory and the sink let it.
+    ensures line { has_line result ≡ true → IsLine (T.seen out.old) (T.seen out.new) (line_of (word_of c.now) result) }
+    ensures never_usage { result ≡ Status.Usage → ⊥ }
+{
+    match c {
+        Command::Flow(_) => unreachable!(),
+        Command::Asimut(command) => {
+            let tool = Asimut { command };
+            drive(alloc, b"asimut", &tool, shelf, out)
+        }
+    }
+}
