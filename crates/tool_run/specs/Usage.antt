@@ -1,6 +1,6 @@
 -- The lines that refusals print, whatever the words.
-use Rattle.std.specs.Prelude.{ℕ, Bool, true, false, List, [], ◌∷◌, ◌++◌, codes, if◌then◌else◌}
-use Rattle.tool_words.specs.Words.{is_word}
+use Rattle.std.specs.Prelude.{ℕ, Bool, true, false, List, [], ◌∷◌, codes}
+use Rattle.tool_words.specs.Usage.{usage_of}
 use Rattle.tool_words.specs.declared.words.WordsError.{WordsError}
 use Rattle.tool_words.specs.declared.words.WordsError.TheVariants as words
 use Rattle.tool_words.specs.declared.command.Command.{Command}
@@ -17,14 +17,6 @@ word_of (command.Asimut c) = codes "asimut"
 abbrev pub is_flow : Command → Bool
 is_flow (command.Flow c) = true
 is_flow (command.Asimut c) = false
-
--- the line on wrong words: of the tool's words, or of the tools
-abbrev pub usage_of : List (List ℕ) → List ℕ
-usage_of [] = codes "usage: alliance flow|asimut ARGUMENTS" ++ 10 ∷ []
-usage_of (tool ∷ _) =
-    if is_word tool (codes "flow") then codes "usage: alliance flow SOURCE -l DIR -o NAME --tracks" ++ 10 ∷ []
-    else if is_word tool (codes "asimut") then codes "usage: alliance asimut SOURCE.vbe -p PATTERNS.pat" ++ 10 ∷ []
-    else codes "usage: alliance flow|asimut ARGUMENTS" ++ 10 ∷ []
 
 -- the word that stands first
 abbrev pub tool_of : List (List ℕ) → List ℕ

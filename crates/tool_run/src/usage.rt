@@ -1,46 +1,18 @@
 // The lines on words that no command was read from.
-ghost use Rattle.std.specs.Prelude.{◌≡◌, ◌≤◌, ◌∷◌, [], true, IfOk};
+ghost use Rattle.std.specs.Prelude.{◌≡◌};
 ghost use Rattle.tool_drive.specs.Outside.{IsLine};
-ghost use Rattle.tool_run.specs.Usage.{usage_of, tool_of, line_of, status_of};
+ghost use Rattle.tool_words.specs.Usage.{usage_of};
+ghost use Rattle.tool_run.specs.Usage.{tool_of, line_of, status_of};
 
-use std::alloc::{AllocError, Global};
+use std::alloc::Global;
 use tool_drive::{Status, tell};
-use tool_words::{Words, WordsError, is_same};
-use vlsi_base::FileBytes;
+use tool_words::{Words, WordsError, usage_line};
 use vlsi_shelf::Sink;
-
-// The line on wrong words.
-fn usage(alloc: Global, words: &Words) -> Result<FileBytes, AllocError>
-    ensures { IfOk result (λ bytes. bytes ≡ usage_of words.now) }
-{
-    match words.as_slice() {
-        [] => FileBytes::from_bytes(alloc, b"usage: alliance flow|asimut ARGUMENTS\n"),
-        [tool, ..] => usage_of_tool(alloc, tool.as_bytes()),
-    }
-}
-
-fn usage_of_tool(alloc: Global, tool: &[u8]) -> Result<FileBytes, AllocError>
-    ensures { IfOk result (λ bytes. bytes ≡ usage_of (tool.now ∷ [])) }
-{
-    if is_same(tool, b"flow") {
-        FileBytes::from_bytes(
-            alloc,
-            b"usage: alliance flow SOURCE -l DIR -o NAME --tracks\n",
-        )
-    } else if is_same(tool, b"asimut") {
-        FileBytes::from_bytes(
-            alloc,
-            b"usage: alliance asimut SOURCE.vbe -p PATTERNS.pat\n",
-        )
-    } else {
-        FileBytes::from_bytes(alloc, b"usage: alliance flow|asimut ARGUMENTS\n")
-    }
-}
 
 fn tell_usage<T: Sink>(alloc: Global, words: &Words, out: &mut T)
     ensures { IsLine (T.seen out.old) (T.seen out.new) (usage_of words.now) }
 {
-    if let Ok(line) = usage(alloc, words) {
+    if let Ok(line) = usage_line(alloc, words) {
         let _ = out.put(line.as_bytes());
     }
 }
