@@ -247,6 +247,7 @@ its_place : (n : Netlist) (l : Library) (net : Numbering) (ports : List name.Nam
 its_place n l net ports ok = record {
   order = ok.order;
   ports = ok.port_names;
+  each_once = subst (λ (ms : List Member). IsPermutation ms n.instances) (sym (append-nil n.instances)) (IsPermutation-refl n.instances);
   instances = standing l NoSym (pos 0) (pos 1500) n.instances;
   rows = subst (λ (xs : List Instance). IsPermutation xs (standing l NoSym (pos 0) (pos 1500) n.instances)) (sym (append-nil (standing l NoSym (pos 0) (pos 1500) n.instances))) (IsPermutation-refl (standing l NoSym (pos 0) (pos 1500) n.instances));
   wiring = wiring n l net ports;

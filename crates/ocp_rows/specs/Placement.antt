@@ -2,6 +2,7 @@
 use Rattle.std.specs.Prelude.{◌≡◌, ◌≢◌, ◌↔◌, ℕ, ◌+◌, ◌-◌, ◌*◌, ℤ, pos, ◌+ℤ◌, Bool, false, not, List, [], ◌∷◌, ◌++◌, map, Option, None, Some, AllPairs, IsTrue, if◌then◌else◌}
 use Prim.Native.Nat.{suc}
 use Rattle.std.specs.Int.{int_max}
+use Rattle.std.specs.List.{flat_map}
 use Rattle.std.specs.List.Sorted.{IsPermutation}
 use Rattle.vlsi_base.specs.declared.name.Name.{Name}
 use Rattle.sym_geom.specs.declared.rect.Rect.{Rect}
@@ -162,7 +163,8 @@ IsWiring (item.Remark text) = ⊥
 pub record IsPlaced (bounds : Rect) (items : List Item) (n : Netlist) (l : Library) (p : Placement) : Type 0 where
   pub order : AllPairs (λ a b. IsTrue (comes_before a b)) p.ports
   pub ports : (name : Name) → In name p.ports ↔ (In name n.ports × (name ≢ vdd) × (name ≢ vss))
-  -- each instance stands in the rows once, where its line says
+  -- each instance of the netlist stands in the rows once, and where its line says
+  pub each_once : IsPermutation (flat_map (λ row. row) p.rows) n.instances
   pub instances : List Instance
   pub rows : IsPermutation (standing_rows l false (pos 0) p.rows) instances
   pub wiring : List Item
