@@ -1,7 +1,7 @@
 // The table of nodes.
-ghost use Rattle.std.specs.Prelude.{◌≡◌, ◌+◌, ◌-◌, ◌^◌, ◌<◌, IfOk, IfSome, length, not, ◌&&◌};
+ghost use Rattle.std.specs.Prelude.{◌+◌, ◌-◌, ◌<◌, IfOk, IfSome, not, ◌&&◌};
 ghost use Rattle.graph_theory.specs.Graph.{ReadsBelow};
-ghost use Rattle.subject_table.specs.View.{kinds, node_view, end_of};
+ghost use Rattle.subject_table.specs.View.{node_view, end_of};
 ghost use Rattle.subject_table.specs.Grows.{IsSound, IsNode, IsKnown, Adds, node_value, logic_cost};
 
 use indexmap::IndexSet;

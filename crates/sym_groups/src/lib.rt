@@ -1,7 +1,7 @@
 //! Groups of numbers that are put together pair by pair.
 #![tactic(auto)]
 
-ghost use Rattle.std.specs.Prelude.{◌≡◌, ℕ, ◌<◌, ◌≤◌, ◌^◌, length, slice_index_or, IfOk};
+ghost use Rattle.std.specs.Prelude.{◌≡◌, ℕ, ◌<◌, ◌≤◌, length, slice_index_or, IfOk};
 ghost use Rattle.sym_groups.specs.Ties.{Falls, Tied, SameTies, KeepsRoots, JoinsTies, Alone, LabelsTies};
 
 use std::alloc::{AllocError, Global};

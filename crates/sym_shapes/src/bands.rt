@@ -1,5 +1,5 @@
 // Bands of a metal, and the entries of shapes in them.
-ghost use Rattle.std.specs.Prelude.{◌≡◌, ℕ, ◌<◌, ◌^◌, ◌+ℤ◌, pos, length, slice_index_or, All, OnOk, IfOk};
+ghost use Rattle.std.specs.Prelude.{◌≡◌, ◌<◌, ◌^◌, length, OnOk, IfOk};
 ghost use Rattle.sym_shapes.specs.Bands.{laid, IsLevel, entry_at, IsEntered, AddsOf, EntersAll};
 ghost use Rattle.sym_shapes.specs.Sweep.{PlacesWithin};
 

@@ -1,5 +1,5 @@
 // Shapes of one metal that meet, found along bands.
-ghost use Rattle.std.specs.Prelude.{◌≡◌, ℕ, ◌<◌, ◌≤◌, ◌↔◌, length, slice_index_or, IsTrue, OnOk, ◌^◌};
+ghost use Rattle.std.specs.Prelude.{◌≡◌, ◌<◌, ◌≤◌, ◌↔◌, length, slice_index_or, IsTrue, OnOk, ◌^◌};
 ghost use Rattle.std.specs.List.Sorted.{IsPermutation};
 ghost use Rattle.sym_shapes.specs.Joints.{Grows};
 ghost use Rattle.sym_shapes.specs.Sweep.{InBand, PlacesWithin, CoversRuns, CoversFrom, Ordered, CoversTouching};
