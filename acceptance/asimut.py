@@ -188,7 +188,7 @@ def chunks(items):
 
 
 def jobs(program, seed, times):
-    yield check_chain, (program, 15000)
+    yield check_chain, (program, 8000)
     for numbers in chunks(range(MACHINES * times)):
         yield check_machines, (program, seed, numbers)
     for numbers in chunks(range(RINGS * times)):
