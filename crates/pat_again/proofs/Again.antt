@@ -16,7 +16,7 @@ use Rattle.pat_meaning.specs.declared.patterns.Patterns.{Patterns}
 use Rattle.pat_meaning.specs.Columns.{FitsColumns}
 use Rattle.pat_text.specs.Patterns.{file_behind, file}
 use Rattle.std.specs.List.{All}
-use Rattle.vlsi_base.specs.Limits.{most_source_bytes}
+use Rattle.vlsi_base.specs.declared.limits.TheConstants.{MOST_SOURCE_BYTES}
 use Rattle.pat_io.specs.Spelling.{together, item_end, columns_text, begin_text, patterns_text, text_of}
 use Rattle.pat_io.specs.PatternText.{IsWritten}
 use Rattle.pat_io.proofs.Written.{written_means_itself}
@@ -72,7 +72,7 @@ no_refusal : (line : ℕ) → refusal_at (at false line []) ≡ None
 unfolding pieces_from pieces_within
 no_refusal line = refl
 
-written_text : (p : Patterns) → CanBeSpelled p → All (λ q. FitsColumns p.columns q.values) p.patterns → length (text_of p) ≤ most_source_bytes → IsWritten (text_of p) (placed p)
+written_text : (p : Patterns) → CanBeSpelled p → All (λ q. FitsColumns p.columns q.values) p.patterns → length (text_of p) ≤ MOST_SOURCE_BYTES → IsWritten (text_of p) (placed p)
 unfolding tokens_in refusal_in
 written_text p spelled fit few =
     let r = read_file p spelled fit in

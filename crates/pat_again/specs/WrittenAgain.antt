@@ -2,7 +2,7 @@
 use Rattle.std.specs.Prelude.{◌≡◌, ℕ, ◌^◌, ◌<◌, ◌≤◌, ◌==◌, Bool, true, false, ◌||◌, ◌&&◌, nat_le, List, [], length, slice_index, Option, Some, None}
 use Rattle.std.specs.List.{All, list_all}
 use Rattle.std.specs.Char.{is_ascii_digit}
-use Rattle.vlsi_base.specs.Limits.{most_source_bytes}
+use Rattle.vlsi_base.specs.declared.limits.TheConstants.{MOST_SOURCE_BYTES}
 use Rattle.vlsi_base.specs.declared.name.Port.{Port}
 use Rattle.pat_meaning.specs.declared.patterns.BitRange.{BitRange}
 use Rattle.pat_meaning.specs.declared.patterns.Patterns.{Patterns}
@@ -48,4 +48,4 @@ pub record CanBeSpelled (p : Patterns) : Type 0 where
 abbrev pub WrittenIsReadAgain : Type 0
 WrittenIsReadAgain =
     (ports : List Port) (p : Patterns) → AreFor ports p → All (λ port. is_supply port.name.text ≡ false) ports → CanBeSpelled p → time_faults 0 (written 1 p).patterns ≡ []
-    → length (text_of p) ≤ most_source_bytes → IsPatternText (text_of p) ports p
+    → length (text_of p) ≤ MOST_SOURCE_BYTES → IsPatternText (text_of p) ports p

@@ -1,7 +1,7 @@
 -- Of a text one answer is right.
 use Rattle.std.proofs.Common.{◌≡◌, ◌+◌, ◌⊎◌, inl, inr, ℕ, ◌<◌, ◌≤◌, List, length, Option, None, Some, refl, sym, ap, subst, ◌∙◌, arith}
 use Rattle.std.proofs.lemmas.Bool.Decides.{leb_tells}
-use Rattle.vlsi_base.specs.Limits.{most_source_bytes}
+use Rattle.vlsi_base.specs.declared.limits.TheConstants.{MOST_SOURCE_BYTES}
 use Rattle.vlsi_base.specs.declared.name.Port.{Port}
 use Rattle.vlsi_base.specs.declared.fault.LimitKind.TheVariants.{File}
 use Rattle.vlsi_base.specs.declared.fault.ReadError.{ReadError}
@@ -17,7 +17,7 @@ use Rattle.pat_io.specs.Laws.{EachText, OneMeaning, NeverBoth, OneRefusal}
 written_once : (bytes : List ℕ) (a b : PatternFile) → IsWritten bytes a → IsWritten bytes b → a ≡ b
 written_once bytes a b h g = text.one_file (tokens_in bytes) a b h.file g.file
 
-too_many : (bytes : List ℕ) → most_source_bytes < length bytes → length bytes ≤ most_source_bytes → ⊥
+too_many : (bytes : List ℕ) → MOST_SOURCE_BYTES < length bytes → length bytes ≤ MOST_SOURCE_BYTES → ⊥
 too_many bytes more few = omega (arith, more, few)
 
 cut_or_not : (o : Option ReadError) (e : ReadError) → o ≡ None → o ≡ Some e → ⊥
@@ -59,7 +59,7 @@ of_parsed : (bytes : List ℕ) (ports : List Port) (parsed : PatternFile) → Is
 of_parsed bytes ports parsed w None h = inl (patterns_for parsed, record { parsed = parsed; written = w; faultless = h; is = refl })
 of_parsed bytes ports parsed w (Some e) h = inr (e, faulty parsed w h)
 
-of_cut : (bytes : List ℕ) (ports : List Port) → length bytes ≤ most_source_bytes → (o : Option ReadError) → refusal_in bytes ≡ o → ((p : Patterns) × IsPatternText bytes ports p) ⊎ ((e : ReadError) × Refused bytes ports e)
+of_cut : (bytes : List ℕ) (ports : List Port) → length bytes ≤ MOST_SOURCE_BYTES → (o : Option ReadError) → refusal_in bytes ≡ o → ((p : Patterns) × IsPatternText bytes ports p) ⊎ ((e : ReadError) × Refused bytes ports e)
 of_cut bytes ports few (Some e) h = inr (e, uncut few h)
 of_cut bytes ports few None h = elim (text.each_file (tokens_in bytes)) [
   | inl a ↦ let w : IsWritten bytes a.0 = record { few = few; cut = h; file = a.1 } in of_parsed bytes ports a.0 w (fault_in ports a.0) refl
@@ -67,7 +67,7 @@ of_cut bytes ports few None h = elim (text.each_file (tokens_in bytes)) [
 ]
 
 pub each_text : EachText
-each_text bytes ports = elim (leb_tells (length bytes) most_source_bytes) [
+each_text bytes ports = elim (leb_tells (length bytes) MOST_SOURCE_BYTES) [
   | inl few ↦ of_cut bytes ports few.1 (refusal_in bytes) refl
-  | inr more ↦ inr (error.Limit (record { which = File; reached = most_source_bytes + 1 }), long more.1 refl)
+  | inr more ↦ inr (error.Limit (record { which = File; reached = MOST_SOURCE_BYTES + 1 }), long more.1 refl)
 ]

@@ -1,6 +1,6 @@
 -- Which bytes are a pattern file for some ports, with which patterns, and why others aren't.
 use Rattle.std.specs.Prelude.{◌≡◌, ℕ, ◌+◌, ◌<◌, ◌≤◌, List, [], ◌∷◌, length, Option, None, Some}
-use Rattle.vlsi_base.specs.Limits.{most_source_bytes}
+use Rattle.vlsi_base.specs.declared.limits.TheConstants.{MOST_SOURCE_BYTES}
 use Rattle.vlsi_base.specs.declared.name.Port.{Port}
 use Rattle.vlsi_base.specs.declared.fault.FaultKind.{FaultKind}
 use Rattle.vlsi_base.specs.declared.fault.FaultKind.TheVariants as kind
@@ -55,7 +55,7 @@ OrMemory o (error.Limit l) = o ≡ Some (error.Limit l)
 
 -- what is written, where the bytes are few enough and are cut into tokens
 pub record IsWritten (bytes : List ℕ) (parsed : PatternFile) : Type 0 where
-  pub few : length bytes ≤ most_source_bytes
+  pub few : length bytes ≤ MOST_SOURCE_BYTES
   pub cut : refusal_in bytes ≡ None
   pub file : IsFile (tokens_in bytes).items parsed
 
@@ -69,9 +69,9 @@ pub record IsPatternText (bytes : List ℕ) (ports : List Port) (p : Patterns) :
 -- Why bytes are no pattern file for these ports: there are too many, they aren't cut into tokens, the tokens are no
 -- pattern file, or what is written is at fault.
 pub data Refused (bytes : List ℕ) (ports : List Port) (e : ReadError) : Type 0 where
-  long : most_source_bytes < length bytes → e ≡ error.Limit (record { which = File; reached = most_source_bytes + 1 }) → Refused bytes ports e
-  uncut : length bytes ≤ most_source_bytes → refusal_in bytes ≡ Some e → Refused bytes ports e
-  unwritten : length bytes ≤ most_source_bytes → refusal_in bytes ≡ None → IsSyntaxFault (tokens_in bytes) e → Refused bytes ports e
+  long : MOST_SOURCE_BYTES < length bytes → e ≡ error.Limit (record { which = File; reached = MOST_SOURCE_BYTES + 1 }) → Refused bytes ports e
+  uncut : length bytes ≤ MOST_SOURCE_BYTES → refusal_in bytes ≡ Some e → Refused bytes ports e
+  unwritten : length bytes ≤ MOST_SOURCE_BYTES → refusal_in bytes ≡ None → IsSyntaxFault (tokens_in bytes) e → Refused bytes ports e
   faulty : (parsed : PatternFile) → IsWritten bytes parsed → fault_in ports parsed ≡ Some e → Refused bytes ports e
 
 -- the refusal, or memory has run out

@@ -1,6 +1,6 @@
 -- Which texts of bytes are machines, and why others aren't.
 use Rattle.std.specs.Prelude.{◌≡◌, ◌≤◌, ◌<◌, ℕ, ◌+◌, List, length, None, Some}
-use Rattle.vlsi_base.specs.Limits.{most_source_bytes}
+use Rattle.vlsi_base.specs.declared.limits.TheConstants.{MOST_SOURCE_BYTES}
 use Rattle.vlsi_base.specs.declared.fault.LimitKind.TheVariants as kind
 use Rattle.vlsi_base.specs.declared.fault.ReadError.{ReadError}
 use Rattle.vlsi_base.specs.declared.fault.ReadError.TheVariants as errors
@@ -14,7 +14,7 @@ use Rattle.vbe_text.specs.Vbe.{IsSource, RefusedAs}
 
 -- what is written, where the bytes are few enough and are cut into tokens
 pub record IsWritten (bytes : List ℕ) (design : DesignFile) : Type 0 where
-  pub few : length bytes ≤ most_source_bytes
+  pub few : length bytes ≤ MOST_SOURCE_BYTES
   pub cut : refusal_in bytes ≡ None
   pub source : IsSource (tokens_in bytes) (source_view design)
 
@@ -28,9 +28,9 @@ pub record IsVbe (bytes : List ℕ) (m : Machine) : Type 0 where
 -- Why bytes are no machine, in this order: there are too many, they aren't cut into tokens, the tokens are no text, or a check
 -- fails. Want of memory is no reason.
 pub data Refused (bytes : List ℕ) (e : ReadError) : Type 0 where
-  long : most_source_bytes < length bytes → e ≡ errors.Limit (record { which = kind.File; reached = most_source_bytes + 1 }) → Refused bytes e
-  uncut : length bytes ≤ most_source_bytes → refusal_in bytes ≡ Some e → Refused bytes e
-  unwritten : length bytes ≤ most_source_bytes → refusal_in bytes ≡ None → RefusedAs (tokens_in bytes) e → Refused bytes e
+  long : MOST_SOURCE_BYTES < length bytes → e ≡ errors.Limit (record { which = kind.File; reached = MOST_SOURCE_BYTES + 1 }) → Refused bytes e
+  uncut : length bytes ≤ MOST_SOURCE_BYTES → refusal_in bytes ≡ Some e → Refused bytes e
+  unwritten : length bytes ≤ MOST_SOURCE_BYTES → refusal_in bytes ≡ None → RefusedAs (tokens_in bytes) e → Refused bytes e
   faulty : (design : DesignFile) → IsWritten bytes design → IsRefusedFor design e → Refused bytes e
 
 -- the refusal, or memory has run out

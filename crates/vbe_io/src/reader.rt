@@ -1,7 +1,6 @@
 // The reader.
 ghost use Rattle.std.specs.Prelude.{◌≡◌, ◌≤◌, None, IfOk, IfErr, length};
 ghost use Rattle.vhdl_lexer.specs.Listing.{tokens_in, refusal_in};
-ghost use Rattle.vlsi_base.specs.Limits.{most_source_bytes};
 ghost use Rattle.vbe_io.specs.Text.{IsWritten, IsVbe, IsVbeRefusal};
 
 use machine_core::Machine;
@@ -15,7 +14,7 @@ use vlsi_model::check_machine;
 
 // The tokens of a text that isn't too long.
 fn tokens_of(alloc: Global, bytes: &[u8]) -> Result<Tokens, ReadError>
-    ensures few { IfOk result (λ _. length bytes.now ≤ most_source_bytes) }
+    ensures few { IfOk result (λ _. length bytes.now ≤ MOST_SOURCE_BYTES) }
     ensures cut { IfOk result (λ read. (refusal_in bytes.now ≡ None) × (read ≡ tokens_in bytes.now)) }
     ensures refused { IfErr result (λ e. IsVbeRefusal bytes.now e) }
 {

@@ -6,4 +6,3 @@ pub mod Fault
 pub mod Tree
 pub mod Range
 pub mod Radix
-pub mod Limits
