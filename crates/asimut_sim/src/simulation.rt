@@ -51,7 +51,8 @@ fn see(
     requires plan { IsPlan machine.now columns.now plan.now.listed.items plan.now.inputs.items plan.now.clock plan.now.seen.items }
     requires values { FitsColumns columns.now pattern.now.values }
     requires contents { length state.old.contents.items ≡ length machine.now.registers }
-    ensures sees { IfOk result (λ w. Sees machine.now columns.now pattern.now state.old.contents.items state.old.clock state.new.contents.items state.new.clock w) }
+    ensures sees { IfOk result (λ w. Sees machine.now columns.now pattern.now state.old.contents.items state.old.clock
+        state.new.contents.items state.new.clock w) }
     ensures each { IfOk result (λ _. length state.new.contents.items ≡ length machine.now.registers) }
 {
     let bits = given(alloc, columns, pattern.values.as_slice())?;
@@ -116,7 +117,8 @@ fn pass(
     requires plan { IsPlan machine.now columns.now plan.now.listed.items plan.now.inputs.items plan.now.clock plan.now.seen.items }
     requires values { FitsColumns columns.now pattern.now.values }
     requires contents { length state.old.contents.items ≡ length machine.now.registers }
-    ensures passes { IfOk result (λ made. Passes machine.now columns.now pattern.now number state.old.contents.items state.old.clock state.new.contents.items state.new.clock made) }
+    ensures passes { IfOk result (λ made. Passes machine.now columns.now pattern.now number state.old.contents.items
+        state.old.clock state.new.contents.items state.new.clock made) }
     ensures each { IfOk result (λ _. length state.new.contents.items ≡ length machine.now.registers) }
     ensures stops { IfErr result (λ e. StopsAt machine.now columns.now pattern.now number state.old.contents.items state.old.clock e) }
 {
@@ -137,7 +139,8 @@ fn fill(
     requires plan { IsPlan machine.now columns.now plan.now.listed.items plan.now.inputs.items plan.now.clock plan.now.seen.items }
     requires values { All (λ p. FitsColumns columns.now p.values) patterns.now }
     requires few { length patterns.now < 2 ^ 32 }
-    ensures filled { IfOk result (λ made. IsFilled machine.now (record { columns = columns.now; patterns = patterns.now }) (record { columns = columns.now; patterns = made })) }
+    ensures filled { IfOk result (λ made. IsFilled machine.now (record { columns = columns.now; patterns = patterns.now })
+        (record { columns = columns.now; patterns = made })) }
     ensures differs { IfErr result (λ e. IsRefusal machine.now (record { columns = columns.now; patterns = patterns.now }) e) }
 {
     settles_once();

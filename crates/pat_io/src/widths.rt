@@ -37,7 +37,8 @@ fn has_bits<'a>(
 
 fn range_fits<'a>(index: &Index<'a>, ports: &[Port], column: &'a ParsedColumn, range: Range) -> bool
     ensures { result ≡ (not (is_supply column.now.name) && (is_ordered range
-        && list_all (λ k. is_port ports.now column.now.dir (record { text = column.now.name; bit = Some k })) (rising (least range) (column_width (Some range))))) }
+        && list_all (λ k. is_port ports.now column.now.dir (record { text = column.now.name; bit = Some k }))
+        (rising (least range) (column_width (Some range))))) }
 {
     let text = column.name.as_bytes();
     if is_supply(text) {

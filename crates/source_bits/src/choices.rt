@@ -45,7 +45,9 @@ fn guarded_bits(
     otherwise: Vec<Expr>,
 ) -> Result<Vec<Expr>, AllocError>
     requires { AllDifferent (map (λ s. s.text) numbers.now) }
-    ensures { IfOk result (λ made. map view made.items ≡ each_two (choice_of (condition_of numbers.now (tree guarded.now.condition))) (bits_of numbers.now (tree guarded.now.value)) (map view otherwise.items)) }
+    ensures { IfOk result (λ made. map view made.items
+        ≡ each_two (choice_of (condition_of numbers.now (tree guarded.now.condition)))
+        (bits_of numbers.now (tree guarded.now.value)) (map view otherwise.items)) }
 {
     let condition = condition_bit(alloc, numbers, &guarded.condition)?;
     let values = bits(alloc, numbers, &guarded.value)?;

@@ -125,7 +125,8 @@ fn drive(
     assignment: &Assignment,
 ) -> Result<(), AllocError>
     requires { AllDifferent (map (λ s. s.text) numbers.now) }
-    ensures { OnOk result (map driven_view made.new.items ≡ map driven_view made.old.items ++ map (numbered_definition (all_names numbers.now)) (assignment_definitions numbers.now assignment.now)) }
+    ensures { OnOk result (map driven_view made.new.items ≡ map driven_view made.old.items
+        ++ map (numbered_definition (all_names numbers.now)) (assignment_definitions numbers.now assignment.now)) }
 {
     let bits = target_places(alloc, numbers, &assignment.target)?;
     let exprs = choice_bits(alloc, numbers, &assignment.choice)?;
@@ -140,7 +141,8 @@ fn drive_in(
     statement: &Statement,
 ) -> Result<(), AllocError>
     requires { AllDifferent (map (λ s. s.text) numbers.now) }
-    ensures { OnOk result (map driven_view made.new.items ≡ map driven_view made.old.items ++ map (numbered_definition (all_names numbers.now)) (statement_definitions numbers.now statement.now)) }
+    ensures { OnOk result (map driven_view made.new.items ≡ map driven_view made.old.items
+        ++ map (numbered_definition (all_names numbers.now)) (statement_definitions numbers.now statement.now)) }
 {
     match statement {
         Statement::Assert(_) => Ok(()),
@@ -158,7 +160,9 @@ pub fn driven_bits(
     statements: &[Statement],
 ) -> Result<Vec<DrivenBit>, AllocError>
     requires { AllDifferent (map (λ s. s.text) numbers.now) }
-    ensures { IfOk result (λ made. map driven_view made.items ≡ map (numbered_definition (all_names numbers.now)) (in_statements (statement_definitions numbers.now) statements.now)) }
+    ensures { IfOk result (λ made. map driven_view made.items
+        ≡ map (numbered_definition (all_names numbers.now))
+        (in_statements (statement_definitions numbers.now) statements.now)) }
 {
     let mut made = Vec::new(alloc);
     for statement in statements {
@@ -175,7 +179,8 @@ fn push_stored(
     exprs: Vec<Expr>,
     enable: &Expr,
 ) -> Result<(), AllocError>
-    ensures { OnOk result (map stored_view made.new.items ≡ map stored_view made.old.items ++ stored_pairs (view enable.now) bits.items (map view exprs.items)) }
+    ensures { OnOk result (map stored_view made.new.items ≡ map stored_view made.old.items
+        ++ stored_pairs (view enable.now) bits.items (map view exprs.items)) }
 {
     let mut rest = exprs.into_iter();
     for bit in bits {
@@ -212,7 +217,8 @@ fn store_all(
     assignments: &[Assignment],
 ) -> Result<(), AllocError>
     requires { AllDifferent (map (λ s. s.text) numbers.now) }
-    ensures { OnOk result (map stored_view made.new.items ≡ map stored_view made.old.items ++ in_assignments (stored_in numbers.now (view enable.now)) assignments.now) }
+    ensures { OnOk result (map stored_view made.new.items ≡ map stored_view made.old.items
+        ++ in_assignments (stored_in numbers.now (view enable.now)) assignments.now) }
 {
     for assignment in assignments {
         store(alloc, numbers, made, enable, assignment)?;
@@ -228,7 +234,9 @@ fn store_block(
     block: &BlockStatement,
 ) -> Result<(), AllocError>
     requires { AllDifferent (map (λ s. s.text) numbers.now) }
-    ensures { OnOk result (map stored_view made.new.items ≡ map stored_view made.old.items ++ map (numbered_storage (all_names numbers.now)) (stored (enable_of numbers.now clock.now (tree block.now.guard)) (in_assignments (assignment_definitions numbers.now) block.now.assignments))) }
+    ensures { OnOk result (map stored_view made.new.items ≡ map stored_view made.old.items
+        ++ map (numbered_storage (all_names numbers.now)) (stored (enable_of numbers.now clock.now (tree block.now.guard))
+        (in_assignments (assignment_definitions numbers.now) block.now.assignments))) }
 {
     let enable = enable(alloc, numbers, clock, &block.guard)?;
     store_all(alloc, numbers, made, &enable, block.assignments.as_slice())?;
@@ -243,7 +251,8 @@ fn store_in(
     statement: &Statement,
 ) -> Result<(), AllocError>
     requires { AllDifferent (map (λ s. s.text) numbers.now) }
-    ensures { OnOk result (map stored_view made.new.items ≡ map stored_view made.old.items ++ map (numbered_storage (all_names numbers.now)) (statement_storage numbers.now (Some clock.now) statement.now)) }
+    ensures { OnOk result (map stored_view made.new.items ≡ map stored_view made.old.items
+        ++ map (numbered_storage (all_names numbers.now)) (statement_storage numbers.now (Some clock.now) statement.now)) }
 {
     match statement {
         Statement::Assert(_) => Ok(()),
@@ -260,7 +269,9 @@ fn stored_under(
     statements: &[Statement],
 ) -> Result<Vec<StoredBit>, AllocError>
     requires { AllDifferent (map (λ s. s.text) numbers.now) }
-    ensures { IfOk result (λ made. map stored_view made.items ≡ map (numbered_storage (all_names numbers.now)) (in_statements (statement_storage numbers.now (Some clock.now)) statements.now)) }
+    ensures { IfOk result (λ made. map stored_view made.items
+        ≡ map (numbered_storage (all_names numbers.now))
+        (in_statements (statement_storage numbers.now (Some clock.now)) statements.now)) }
 {
     let mut made = Vec::new(alloc);
     for statement in statements {
@@ -278,7 +289,9 @@ pub fn stored_bits(
     statements: &[Statement],
 ) -> Result<Vec<StoredBit>, AllocError>
     requires { AllDifferent (map (λ s. s.text) numbers.now) }
-    ensures { IfOk result (λ made. map stored_view made.items ≡ map (numbered_storage (all_names numbers.now)) (in_statements (statement_storage numbers.now (option_copied clock.entry)) statements.now)) }
+    ensures { IfOk result (λ made. map stored_view made.items
+        ≡ map (numbered_storage (all_names numbers.now))
+        (in_statements (statement_storage numbers.now (option_copied clock.entry)) statements.now)) }
 {
     match clock {
         Some(clock) => {

@@ -109,7 +109,8 @@ impl Numbers {
     /// How a name is declared.
     pub(crate) fn declared(&self, text: &[u8]) -> Option<Declared>
         requires { AllDifferent (map (λ s. s.text) self.now) }
-        ensures number { (bit : Option ℕ) → number_in (length (all_names self.now)) result (named_bit text.now bit) ≡ place (all_names self.now) (named_bit text.now bit) }
+        ensures number { (bit : Option ℕ) → number_in (length (all_names self.now)) result (named_bit text.now bit)
+            ≡ place (all_names self.now) (named_bit text.now bit) }
         ensures within { LiesWithin (length (all_names self.now)) result }
         ensures range { option_map (λ d. d.range) result ≡ option_map (λ s. s.range) (find self.now text.now) }
     {

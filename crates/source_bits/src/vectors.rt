@@ -99,7 +99,8 @@ pub(crate) fn choose_bits(
 /// The And of the last `count` bits, which are taken away, by halves. It goes as deep as `count` can be halved.
 fn all_within(alloc: Global, bits: &mut Vec<Expr>, count: usize) -> Result<Expr, AllocError>
     ensures rest { OnOk result ((before last : List Expr) → bits.old.items ≡ before ++ last → length last ≡ count → bits.new.items ≡ before) }
-    ensures value { IfOk result (λ made. (before last : List Expr) → bits.old.items ≡ before ++ last → length last ≡ count → (bound : ℕ) → count ≤ bound → view made ≡ all_within bound (map view last)) }
+    ensures value { IfOk result (λ made. (before last : List Expr) → bits.old.items ≡ before ++ last → length last ≡ count
+        → (bound : ℕ) → count ≤ bound → view made ≡ all_within bound (map view last)) }
 {
     if count > 1 {
         let half = count / 2;

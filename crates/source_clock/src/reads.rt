@@ -67,7 +67,8 @@ fn clock_line_among(clock: Option<&Text>, others: &[(u32, ParsedExpr)]) -> Optio
 /// The same of an alternative: of its value, then of its condition.
 #[tactic(auto, using(source_meaning::proofs::FirstLines::first_line_append))]
 fn clock_line_in_guarded(clock: Option<&Text>, guarded: &Guarded) -> Option<u32>
-    ensures { result ≡ first_line (clock_lines (option_copied clock.entry) (view guarded.now.value) ++ clock_lines (option_copied clock.entry) (view guarded.now.condition)) }
+    ensures { result ≡ first_line (clock_lines (option_copied clock.entry) (view guarded.now.value)
+        ++ clock_lines (option_copied clock.entry) (view guarded.now.condition)) }
 {
     match clock_line(clock, &guarded.value) {
         Some(line) => Some(line),
@@ -76,7 +77,8 @@ fn clock_line_in_guarded(clock: Option<&Text>, guarded: &Guarded) -> Option<u32>
 }
 
 fn clock_line_in_alternatives(clock: Option<&Text>, alternatives: &[Guarded]) -> Option<u32>
-    ensures { result ≡ first_line (in_alternatives (clock_lines (option_copied clock.entry)) (λ line e. clock_lines (option_copied clock.entry) e) alternatives.now) }
+    ensures { result ≡ first_line (in_alternatives (clock_lines (option_copied clock.entry))
+        (λ line e. clock_lines (option_copied clock.entry) e) alternatives.now) }
 {
     for guarded in alternatives {
         if let Some(line) = clock_line_in_guarded(clock, guarded) {

@@ -81,7 +81,8 @@ fn range_fits(table: &SymbolTable, text: &[u8], range: Range) -> bool
 }
 
 fn lies_in(declared: Range, range: Range) -> bool
-    ensures { result ≡ ((if range.falls then declared.falls else not declared.falls) && is_ordered range && has_bit declared range.left && has_bit declared range.right) }
+    ensures { result ≡ ((if range.falls then declared.falls else not declared.falls) && is_ordered range &&
+        has_bit declared range.left && has_bit declared range.right) }
 {
     let same_word = if range.falls {
         declared.falls
@@ -254,7 +255,8 @@ fn condition_fault(
 /// The first fault of an alternative: of its value, then of its condition.
 #[tactic(auto, using(crate::proofs::FirstLines::first_line_append))]
 fn guarded_fault(table: &SymbolTable, guarded: &Guarded) -> Result<Option<u32>, AllocError>
-    ensures { IfOk result (λ found. found ≡ first_line (width_faults table.now (view guarded.now.value) ++ condition_faults table.now guarded.now.line (view guarded.now.condition))) }
+    ensures { IfOk result (λ found. found ≡ first_line (width_faults table.now (view guarded.now.value)
+        ++ condition_faults table.now guarded.now.line (view guarded.now.condition))) }
 {
     let value = value_fault(table, &guarded.value)?;
     let condition = condition_fault(table, guarded.line, &guarded.condition)?;

@@ -104,7 +104,8 @@ impl<'a> Cursor<'a> {
     /// The first token of an alternative is refused where this is one more than a choice may have.
     fn admit(&self) -> Result<(), Stop>
         ensures ok { OnOk result (nat_lt CHAIN self.now.state.alternatives ≡ false) }
-        ensures err { IfErr result (λ e. (nat_lt CHAIN self.now.state.alternatives ≡ true) × (e ≡ Stop.Refused (refusal (Reason.Breach Breach.Chain) self.now.rest))) }
+        ensures err { IfErr result (λ e. (nat_lt CHAIN self.now.state.alternatives ≡ true)
+            × (e ≡ Stop.Refused (refusal (Reason.Breach Breach.Chain) self.now.rest))) }
     {
         if self.counts.alternatives > CHAIN {
             return Err(self.refuse(Reason::Breach(Breach::Chain)));

@@ -169,7 +169,9 @@ impl<'a> TokenReader<'a> {
     /// Reads the longest expression at the front. Its operators are counted anew; whether its names are declared isn't
     /// looked at. Refused by `Syntax`, and by `Limit` of `Depth` or `Chain`.
     pub fn expression(&mut self) -> Result<ParsedExpr, ReadError>
-        ensures right { IsNone (front self.old).refused → IsRead view (expression_grammar (front self.old).room) (at_first (front self.old).here) (front self.old) result (front self.new) }
+        ensures right { IsNone (front self.old).refused
+            → IsRead view (expression_grammar (front self.old).room) (at_first (front self.old).here)
+            (front self.old) result (front self.new) }
         ensures again { IfSome (front self.old).refused (λ k. Again k result) }
         ensures forever { IsSome (front self.old).refused → (front self.new).refused ≡ (front self.old).refused }
         ensures same { IsSameText (front self.old) (front self.new) }
@@ -187,7 +189,8 @@ impl<'a> TokenReader<'a> {
 
     /// Reads an entity. Refused by `Syntax` and `Twice`, and by `Limit` of `Depth` or `Bits`.
     pub fn entity(&mut self) -> Result<Entity, ReadError>
-        ensures right { IsNone (front self.old).refused → IsRead (λ e. e) (entity_grammar (front self.old).room) (front self.old).here (front self.old) result (front self.new) }
+        ensures right { IsNone (front self.old).refused → IsRead (λ e. e) (entity_grammar (front self.old).room)
+            (front self.old).here (front self.old) result (front self.new) }
         ensures again { IfSome (front self.old).refused (λ k. Again k result) }
         ensures forever { IsSome (front self.old).refused → (front self.new).refused ≡ (front self.old).refused }
         ensures same { IsSameText (front self.old) (front self.new) }
@@ -205,7 +208,8 @@ impl<'a> TokenReader<'a> {
     /// Reads declarations of signals, as long as there are any. Refused by `Syntax` and `Twice`, and by `Limit` of `Depth`
     /// or `Bits`.
     pub fn declarations(&mut self) -> Result<Declarations, ReadError>
-        ensures right { IsNone (front self.old).refused → IsRead (λ d. d) (declarations_grammar (front self.old).room) (front self.old).here (front self.old) result (front self.new) }
+        ensures right { IsNone (front self.old).refused → IsRead (λ d. d) (declarations_grammar (front self.old).room)
+            (front self.old).here (front self.old) result (front self.new) }
         ensures again { IfSome (front self.old).refused (λ k. Again k result) }
         ensures forever { IsSome (front self.old).refused → (front self.new).refused ≡ (front self.old).refused }
         ensures same { IsSameText (front self.old) (front self.new) }
@@ -262,10 +266,12 @@ impl<'a> TokenReader<'a> {
     /// cases are open.
     pub fn enter(&mut self) -> Result<(), ReadError>
         ensures fits { IsNone (front self.old).refused → 0 < (front self.old).room → IsOk result × ((front self.new).room + 1 ≡ (front self.old).room) }
-        ensures deep { IsNone (front self.old).refused → (front self.old).room ≡ 0 → Again (ReadError.Limit (record { which = LimitKind.Depth; reached = DEPTH + 1 })) result }
+        ensures deep { IsNone (front self.old).refused → (front self.old).room ≡ 0
+            → Again (ReadError.Limit (record { which = LimitKind.Depth; reached = DEPTH + 1 })) result }
         ensures again { IfSome (front self.old).refused (λ k. Again k result) }
         ensures forever { IsSome (front self.old).refused → (front self.new).refused ≡ (front self.old).refused }
-        ensures kept { IsNone (front self.old).refused → (front self.old).room ≡ 0 → (front self.new).refused ≡ Some (ReadError.Limit (record { which = LimitKind.Depth; reached = DEPTH + 1 })) }
+        ensures kept { IsNone (front self.old).refused → (front self.old).room ≡ 0
+            → (front self.new).refused ≡ Some (ReadError.Limit (record { which = LimitKind.Depth; reached = DEPTH + 1 })) }
         ensures open { IsNone (front self.old).refused → 0 < (front self.old).room → IsNone (front self.new).refused }
         ensures here { (front self.new).here ≡ (front self.old).here }
         ensures same { ((front self.new).last_line ≡ (front self.old).last_line) × ((front self.new).pragmas ≡ (front self.old).pragmas) }

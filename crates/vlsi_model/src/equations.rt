@@ -60,7 +60,8 @@ pub fn equations(
     requires places { All (λ k. k < length driven.now) order.now }
     requires inside { All (λ d. d.bit < length (all_names numbers.now)) driven.now }
     requires over { All (λ d. IsOver (view d.expr) (length table.now)) driven.now }
-    ensures { IfOk result (λ made. map equation_view made.items ≡ map (λ k. equation_from (all_names numbers.now) table.now (driven_at (map driven_view driven.now) k)) order.now) }
+    ensures { IfOk result (λ made. map equation_view made.items ≡ map
+        (λ k. equation_from (all_names numbers.now) table.now (driven_at (map driven_view driven.now) k)) order.now) }
 {
     let mut made = Vec::new(alloc);
     for k in order {

@@ -106,7 +106,8 @@ pub fn registers(
     requires inside { All (λ s. s.bit < length (all_names numbers.now)) stored.now }
     requires next { All (λ s. IsOver (view s.next) (length table.now)) stored.now }
     requires enable { All (λ s. IsOver (view s.enable) (length table.now)) stored.now }
-    ensures { IfOk result (λ made. map register_view made.items ≡ map (λ k. register_from (all_names numbers.now) table.now (stored_at (map stored_view stored.now) k)) order.now) }
+    ensures { IfOk result (λ made. map register_view made.items ≡ map
+        (λ k. register_from (all_names numbers.now) table.now (stored_at (map stored_view stored.now) k)) order.now) }
 {
     let mut made = Vec::new(alloc);
     for k in order {
