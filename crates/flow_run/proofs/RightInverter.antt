@@ -1,12 +1,12 @@
 -- The layout of one inverter is right, with its report.
-use Rattle.std.proofs.Common.{◌≡◌, ℕ, List, [], ◌∷◌, refl, sym, ◌∙◌}
+use Rattle.std.proofs.Common.{◌≡◌, ℕ, List, [], ◌∷◌, refl}
 use Rattle.std.specs.Prelude.{codes}
 use Rattle.std.specs.Fmt.{digits}
 use Rattle.ap_io.specs.ApText.{IsWord}
 use Rattle.ap_io.specs.Spelling.{together, line_end, text_of}
 use Rattle.inverter_block.specs.Inverter.{AreProper, inverter_figure, inverter_machine, inverter_library, inverter_report}
-use Rattle.inverter_block.specs.InverterLaw.{IsRightBlock, InverterIsRight}
-use Rattle.flow_run.specs.Report.{count_line, report_of}
+use Rattle.inverter_block.specs.InverterLaw.{InverterIsRight}
+use Rattle.flow_run.specs.Report.{count_line}
 use Rattle.flow_run.specs.RightLayout.{IsRightLayout}
 
 -- the report on a machine without registers, by its numbers
