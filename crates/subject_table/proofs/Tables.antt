@@ -1,5 +1,5 @@
 -- Lists of nodes that grow by a key.
-use Rattle.std.proofs.Common.{◌≡◌, ℕ, zero, suc, ◌+◌, ◌<◌, Bool, true, false, List, [], ◌∷◌, ◌++◌, length, map, slice_get, Some, refl, sym, ◌∙◌, ap, subst, arith, append-nil, append_assoc, length-append, count_by, not, ◌≤◌, ◌&&◌, ◌==◌, eqb-true, if◌then◌else◌}
+use Rattle.std.proofs.Common.{◌≡◌, ℕ, zero, suc, ◌+◌, ◌<◌, ◌≤◌, Bool, true, false, List, [], ◌∷◌, ◌++◌, length, map, slice_get, None, Some, refl, sym, ◌∙◌, ap, subst, arith, append-nil, append_assoc, length-append, count_by, not, ◌≤◌, ◌&&◌, ◌==◌, eqb-true, if◌then◌else◌}
 use Rattle.std.proofs.Common.{Result, Ok, Err, IfOk}
 use Rattle.std.specs.List.{list_any}
 use Rattle.indexmap.specs.IndexSet.{insert_key}
@@ -21,6 +21,12 @@ pub number_from_get : {A B : Type 0} (f : A → B) (xs : List A) (k : ℕ) (x : 
 number_from_get f [] k x h = absurd (cc h)
 number_from_get {A} f (y ∷ xs) zero x h = let same : y ≡ x = cc h in ap f (sym same)
 number_from_get f (y ∷ xs) (suc k) x h = number_from_get f xs k x h
+
+-- where nothing is found, the list has ended
+pub ended : {A B : Type 0} (f : A → B) (xs : List A) (k : ℕ) → slice_get xs k ≡ None → length (map f xs) ≤ k
+ended f [] k h = omega arith
+ended f (y ∷ xs) zero h = absurd (cc h)
+ended f (y ∷ xs) (suc k) h = let rest = ended f xs k h in omega (arith, rest)
 
 reads_append : (n : ℕ) (xs : List Node) (k : Node) → EachReadsEarlier n xs → ReadsBelow (n + length xs) k → EachReadsEarlier n (xs ++ k ∷ [])
 reads_append n [] k each reads = let e : n + 0 ≡ n = omega arith in (let P : ℕ → Type 0 = λ c. ReadsBelow c k in subst P e reads, tt)

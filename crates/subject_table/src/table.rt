@@ -1,5 +1,5 @@
 // The table of nodes.
-ghost use Rattle.std.specs.Prelude.{◌+◌, ◌-◌, ◌<◌, IfOk, IfSome, not, ◌&&◌};
+ghost use Rattle.std.specs.Prelude.{◌+◌, ◌-◌, ◌<◌, ◌≤◌, ◌⊎◌, IfOk, IfSome, IfNone, not, ◌&&◌};
 ghost use Rattle.graph_theory.specs.Graph.{ReadsBelow};
 ghost use Rattle.subject_table.specs.View.{node_view, end_of};
 ghost use Rattle.subject_table.specs.Grows.{IsSound, IsNode, IsKnown, Adds, node_value, logic_cost};
@@ -25,7 +25,8 @@ pub struct Table {
 impl Table {
     /// The node of this number, where it is no input and no register.
     pub fn node(&self, number: u32) -> Option<Node>
-        ensures { IfSome result (λ kind. IsNode self.now number (node_view kind)) }
+        ensures some { IfSome result (λ kind. IsNode self.now number (node_view kind)) }
+        ensures none { IfNone result ((number < self.now.held) ⊎ (end_of self.now ≤ number)) }
     {
         if number < self.held {
             return None;
@@ -60,7 +61,7 @@ impl Table {
     }
 
     /// The bit that a node always has, where it is a constant.
-    pub fn known(&self, a: u32) -> Option<bool>
+    fn known(&self, a: u32) -> Option<bool>
         requires sound { IsSound self.now }
         ensures { IfSome result (λ b. IsKnown self.now a b) }
     {
