@@ -152,8 +152,7 @@ impl Walk {
     pub fn follow(&mut self, reads: &[Vec<u32>]) -> Result<Option<usize>, AllocError>
         requires walk { IsWalkOf (map (λ nodes. nodes.items) reads.now) self.old }
         requires inside { All (λ nodes. All (λ node. node < length reads.now) nodes.items) reads.now }
-        ensures { IfOk result (λ found. MatchOption found
-            (Followed (map (λ nodes. nodes.items) reads.now) self.old self.new)
+        ensures { IfOk result (λ found. MatchOption found (Followed (map (λ nodes. nodes.items) reads.now) self.old self.new)
             (λ first. IsRingFrom (map (λ nodes. nodes.items) reads.now) self.new first)) }
     {
         while !self.path.is_empty() {

@@ -160,8 +160,7 @@ pub fn driven_bits(
     statements: &[Statement],
 ) -> Result<Vec<DrivenBit>, AllocError>
     requires { AllDifferent (map (λ s. s.text) numbers.now) }
-    ensures { IfOk result (λ made. map driven_view made.items
-        ≡ map (numbered_definition (all_names numbers.now))
+    ensures { IfOk result (λ made. map driven_view made.items ≡ map (numbered_definition (all_names numbers.now))
         (in_statements (statement_definitions numbers.now) statements.now)) }
 {
     let mut made = Vec::new(alloc);
@@ -289,8 +288,7 @@ pub fn stored_bits(
     statements: &[Statement],
 ) -> Result<Vec<StoredBit>, AllocError>
     requires { AllDifferent (map (λ s. s.text) numbers.now) }
-    ensures { IfOk result (λ made. map stored_view made.items
-        ≡ map (numbered_storage (all_names numbers.now))
+    ensures { IfOk result (λ made. map stored_view made.items ≡ map (numbered_storage (all_names numbers.now))
         (in_statements (statement_storage numbers.now (option_copied clock.entry)) statements.now)) }
 {
     match clock {

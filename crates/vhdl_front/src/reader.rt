@@ -169,9 +169,8 @@ impl<'a> TokenReader<'a> {
     /// Reads the longest expression at the front. Its operators are counted anew; whether its names are declared isn't
     /// looked at. Refused by `Syntax`, and by `Limit` of `Depth` or `Chain`.
     pub fn expression(&mut self) -> Result<ParsedExpr, ReadError>
-        ensures right { IsNone (front self.old).refused
-            → IsRead view (expression_grammar (front self.old).room) (at_first (front self.old).here)
-            (front self.old) result (front self.new) }
+        ensures right { IsNone (front self.old).refused → IsRead view (expression_grammar (front self.old).room)
+            (at_first (front self.old).here) (front self.old) result (front self.new) }
         ensures again { IfSome (front self.old).refused (λ k. Again k result) }
         ensures forever { IsSome (front self.old).refused → (front self.new).refused ≡ (front self.old).refused }
         ensures same { IsSameText (front self.old) (front self.new) }
