@@ -12,7 +12,7 @@ use Rattle.flow_run.specs.declared.forms.First.{First}
 use Rattle.flow_run.specs.declared.flow.Built.{Built}
 use Rattle.flow_run.specs.Drawing.{LayoutIsRight, IsRight, layout_of, report_of}
 use Rattle.flow_run.specs.Forms.{first_of, cell_of, is_same, is_cell_layout}
-use Rattle.flow_run.specs.Flow.{layout_name, built_with, built_of, IsLaidOut, Lays}
+use Rattle.flow_run.specs.Flow.{layout_name, built_with, built_of, Lays}
 use Rattle.flow_run.proofs.Proper.{both, drawable}
 
 -- the parts of what is built

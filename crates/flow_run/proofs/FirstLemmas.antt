@@ -1,12 +1,12 @@
 -- The texts that are recognised are exactly those of the form.
-use Rattle.std.proofs.Common.{◌≡◌, ℕ, ◌+◌, ◌<◌, ◌≤◌, Bool, true, false, not, ◌&&◌, cond, List, [], ◌∷◌, ◌++◌, take, drop, length, Option, None, Some, is_none, position, unwrap_or, refl, sym, ◌∙◌, ap, subst, leb, ltb, nat_eq, codes, arith, append_assoc, length-append}
+use Rattle.std.proofs.Common.{◌≡◌, ℕ, ◌+◌, ◌≤◌, Bool, true, false, not, ◌&&◌, cond, List, [], ◌∷◌, ◌++◌, take, drop, length, None, Some, is_none, refl, sym, ◌∙◌, ap, subst, leb, ltb, codes, arith, append_assoc, length-append}
 use Rattle.std.specs.List.{list_all, prefix_len}
 use Rattle.std.specs.Cmp.Lexicographic.{bytes_decides}
 use Rattle.std.proofs.lemmas.Bool.Decides.{nat_tests}
 use Rattle.std.proofs.Math.Seq.{drop-append_seam, take-append_seam}
 use Rattle.vhdl_token.specs.Keyword.{keyword_of}
 use Rattle.flow_run.specs.declared.forms.First.{First}
-use Rattle.flow_run.specs.Forms.{is_name_byte, is_same, is_identifier, is_proper, are_proper, are_different, begins_with_letter, entity_line, body_lines, first_text, inverter_text, IsFirst, catal_text, IsCatal, name_length, name_at, entity_in, input_in, output_in, limited, if_first, first_of, if_cell, cell_of}
+use Rattle.flow_run.specs.Forms.{is_name_byte, is_same, is_identifier, is_proper, are_proper, are_different, begins_with_letter, body_lines, first_text, inverter_text, IsFirst, catal_text, IsCatal, name_length, name_at, entity_in, input_in, output_in, if_first, first_of, if_cell, cell_of}
 use Rattle.flow_run.proofs.Proper.{both}
 
 -- where the test ends, in a name that ends with a byte that is none of a name's

@@ -1,5 +1,5 @@
 -- From what was read to the files themselves, and back.
-use Rattle.std.proofs.Common.{◌≡◌, ℕ, Bool, true, false, cond, List, [], ◌∷◌, get_or, length, take, Option, None, Some, IsSomeAnd, refl, sym, ◌∙◌, ap, subst, arith, leb, inl, inr}
+use Rattle.std.proofs.Common.{◌≡◌, ℕ, Bool, true, false, cond, List, [], ◌∷◌, get_or, length, take, Option, Some, IsSomeAnd, refl, sym, ◌∙◌, ap, subst, arith, leb, inl, inr}
 use Rattle.std.proofs.lemmas.Bool.{cases_lt}
 use Rattle.std.proofs.lemmas.Bool.Decides.{nat_tests}
 use Rattle.std.proofs.lemmas.List.{take_all, length-take}
@@ -8,12 +8,11 @@ use Rattle.vlsi_shelf.specs.Files.{Files}
 use Rattle.tool_words.specs.declared.command.FlowCommand.{FlowCommand}
 use Rattle.tool_drive.specs.Plan.{Plan, Inputs, inputs, Reading, got, lacking, long, go_on, cut, gather, reading}
 use Rattle.tool_drive.specs.Held.{Begins, AreHad, are_had, begins}
-use Rattle.flow_run.specs.declared.forms.First.{First}
 use Rattle.flow_run.specs.declared.flow.Built.{Built}
 use Rattle.flow_run.specs.Forms.{limited, first_of, cell_of, is_cell_layout, if_first, entity_in, input_in, output_in, if_cell, name_at}
-use Rattle.flow_run.specs.Flow.{is_fsm, catal_name, vbe_name, ap_name, cell_files, flow_plan, built_with, built_of}
+use Rattle.flow_run.specs.Flow.{is_fsm, catal_name, vbe_name, ap_name, cell_files, flow_plan, built_of}
 use Rattle.flow_run.specs.Causes.{IsOfForm}
-use Rattle.flow_run.proofs.Building.{IsBuilt, built_is, built_from}
+use Rattle.flow_run.proofs.Building.{built_is, built_from}
 
 -- ---- the first bytes of a file are of the form exactly where the file is
 

@@ -1,11 +1,9 @@
 -- What the forms say of the names that were read.
-use Rattle.std.proofs.Common.{◌≡◌, ◌≢◌, ℕ, Bool, true, false, not, ◌&&◌, ◌||◌, cond, List, [], ◌∷◌, length, Option, None, Some, is_none, refl, sym, ◌∙◌, ap, subst, leb, nat_eq, codes, arith}
-use Rattle.std.proofs.lemmas.Bool.Decides.{nat_tests}
+use Rattle.std.proofs.Common.{◌≡◌, ◌≢◌, ℕ, Bool, true, false, not, ◌&&◌, ◌||◌, cond, List, [], ◌∷◌, length, None, Some, is_none, refl, sym, ◌∙◌, subst, leb, nat_eq, codes}
 use Rattle.std.specs.List.{list_all}
 use Rattle.std.proofs.lemmas.List.Sums.{AllPass-from_list_all}
 use Rattle.std.specs.Cmp.Lexicographic.{bytes_decides}
 use Rattle.ap_io.specs.ApText.{IsWord, is_word_byte}
-use Rattle.inverter_block.specs.Inverter.{AreProper}
 use Rattle.vhdl_token.specs.Keyword.{keyword_of}
 use Rattle.flow_run.specs.declared.forms.First.{First}
 use Rattle.flow_run.specs.Drawing.{AreDrawable}

@@ -1,5 +1,5 @@
 -- The rows of `flow`: the headline, and a state machine's source.
-use Rattle.std.proofs.Common.{◌≡◌, ℕ, Bool, true, List, [], ◌∷◌, Option, None, Some, IfSome, Result, Ok, Err, refl, sym, ◌∙◌, ap, subst, inl, inr}
+use Rattle.std.proofs.Common.{◌≡◌, ℕ, true, List, [], Option, None, Some, IfSome, Ok, Err, refl, sym, subst, inl}
 use Rattle.vlsi_shelf.specs.Files.{Files}
 use Rattle.vlsi_shelf.specs.Seen.{ShelfSeen, SinkSeen}
 use Rattle.vlsi_shelf.specs.Shelf.{Writes}
@@ -7,13 +7,12 @@ use Rattle.tool_words.specs.declared.command.FlowCommand.{FlowCommand}
 use Rattle.tool_drive.specs.declared.status.Status.{Status}
 use Rattle.tool_drive.specs.declared.status.Status.TheVariants.{Accepted, Beyond}
 use Rattle.tool_drive.specs.declared.tool.Product.{Product}
-use Rattle.tool_drive.specs.declared.tool.Refusal.{Refusal}
 use Rattle.tool_drive.specs.Outside.{Outside, outside, NothingFailed}
-use Rattle.tool_drive.specs.Plan.{Plan, Inputs, inputs, Reading, got, gather, reading, Gathers}
+use Rattle.tool_drive.specs.Plan.{Inputs, inputs, Reading, got, reading, Gathers}
 use Rattle.tool_drive.specs.Table.{refusal, ComesTo, IsStored, Caused, Follows, IsComplete}
 use Rattle.flow_run.specs.declared.flow.Built.{Built}
-use Rattle.flow_run.specs.Flow.{is_fsm, layout_name, flow_plan, flow_answers, built_of, IsLaidOut, Lays}
-use Rattle.flow_run.specs.Causes.{IsDrawn, StandsWhole, IsHeadline}
+use Rattle.flow_run.specs.Flow.{is_fsm, flow_plan, flow_answers, built_of, IsLaidOut, Lays}
+use Rattle.flow_run.specs.Causes.{IsDrawn, IsHeadline}
 use Rattle.flow_run.proofs.OfForm.{is_of_form}
 
 pub if_some : {A : Type 0} {P Q : A → Type 0} (o : Option A) → ((x : A) → P x → Q x) → IfSome o P → IfSome o Q

@@ -1,5 +1,5 @@
 -- What stands behind an answer of 0, said of the files themselves.
-use Rattle.std.specs.Prelude.{◌≡◌, ℕ, List, Bool, true, false, Option, Some, IfSome, IsSomeAnd}
+use Rattle.std.specs.Prelude.{◌≡◌, ℕ, List, true, false, Option, Some, IfSome, IsSomeAnd}
 use Rattle.std.specs.FinMap.{get, insert}
 use Rattle.vlsi_shelf.specs.Files.{Files}
 use Rattle.vlsi_shelf.specs.Sink.{Puts}

@@ -1,5 +1,5 @@
 -- Reading files one by one, and what it comes to.
-use Rattle.std.proofs.Common.{◌≡◌, ◌≤◌, ◌<◌, ◌+◌, ℕ, suc, List, [], ◌∷◌, ◌++◌, Option, None, Some, IfSome, length, take, drop, get_or, add-one, refl, sym, ◌∙◌, ap, subst, arith}
+use Rattle.std.proofs.Common.{◌≡◌, ◌<◌, ◌+◌, ℕ, suc, List, [], ◌∷◌, ◌++◌, Option, None, Some, length, take, drop, get_or, add-one, refl, sym, ◌∙◌, ap, subst, arith}
 use Rattle.std.proofs.Math.Seq.{take-suc, split_at}
 use Rattle.std.specs.FinMap.{get}
 use Rattle.vlsi_shelf.specs.Files.{Files}
@@ -8,7 +8,7 @@ use Rattle.tool_drive.specs.declared.read.Stop.{Stop}
 use Rattle.tool_drive.specs.declared.read.Stop.TheVariants as stop
 use Rattle.tool_drive.specs.declared.tool.Wanted.{Wanted}
 use Rattle.tool_drive.specs.Outside.{OnlyReads}
-use Rattle.tool_drive.specs.Plan.{Reading, got, lacking, long, go_on, held, gather, Comes, Gathers, IsReached}
+use Rattle.tool_drive.specs.Plan.{Reading, got, lacking, long, go_on, held, gather, Comes, Gathers}
 use Rattle.tool_drive.specs.Stops.{IsFileStop, IsListStop}
 
 -- ---- lists of files

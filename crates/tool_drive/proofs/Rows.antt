@@ -1,5 +1,5 @@
 -- The rows of the table, from what was read, judged and left.
-use Rattle.std.proofs.Common.{◌≡◌, ◌⊎◌, ℕ, List, Option, None, Some, Result, Ok, Err, refl, sym, ◌∙◌, subst, inl, inr, arith}
+use Rattle.std.proofs.Common.{◌≡◌, ℕ, List, Option, Result, Ok, Err, refl, sym, ◌∙◌, subst, inl, inr, arith}
 use Rattle.vlsi_shelf.specs.Files.{Files}
 use Rattle.vlsi_shelf.specs.Seen.{ShelfSeen, SinkSeen}
 use Rattle.vlsi_shelf.specs.Shelf.{SameBut}
@@ -10,7 +10,7 @@ use Rattle.tool_drive.specs.declared.tool.Written.{Written}
 use Rattle.tool_drive.specs.declared.tool.Product.{Product}
 use Rattle.tool_drive.specs.declared.tool.Refusal.{Refusal}
 use Rattle.tool_drive.specs.Outside.{Outside, outside, OnlyReads}
-use Rattle.tool_drive.specs.Plan.{Plan, Inputs, inputs, got, Gathers, WasRead}
+use Rattle.tool_drive.specs.Plan.{Plan, Inputs, inputs, WasRead}
 use Rattle.tool_drive.specs.Table.{refusal, IsJudged, IsFair, IsStored, IsLeft, IsPart, IsWriting, ComesTo, Left, Caused}
 
 -- ---- judging

@@ -6,7 +6,6 @@ use Rattle.tool_drive.specs.declared.read.Stop.{Stop}
 use Rattle.tool_drive.specs.declared.read.Stop.TheVariants as stop
 use Rattle.tool_drive.specs.declared.tool.Product.{Product}
 use Rattle.tool_drive.specs.declared.tool.Refusal.{Refusal}
-use Rattle.tool_drive.specs.declared.tool.Wanted.{Wanted}
 use Rattle.tool_drive.specs.Outside.{outside, OnlyReads}
 use Rattle.tool_drive.specs.Plan.{Plan, Inputs, inputs, Reading, got, lacking, long, go_on, gather, reading, Gathers, IsReached}
 use Rattle.tool_drive.specs.Table.{Caused}

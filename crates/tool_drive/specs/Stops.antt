@@ -1,5 +1,5 @@
 -- Why reading stops, stage by stage.
-use Rattle.std.specs.Prelude.{◌≡◌, ℕ, List, Option, IfSome}
+use Rattle.std.specs.Prelude.{◌≡◌, List, IfSome}
 use Rattle.vlsi_shelf.specs.Counts.{Rose}
 use Rattle.vlsi_shelf.specs.Seen.{ShelfSeen}
 use Rattle.tool_drive.specs.declared.status.Status.{Status}

@@ -27,7 +27,8 @@ fn store<S: Shelf>(
     ensures ok { OnOk result (IsStored (S.seen shelf.old).files (S.seen shelf.new).files name.now file.now) }
     ensures memory { IsErrOf result Memory → (S.seen shelf.new).files ≡ (S.seen shelf.old).files }
     ensures never_missing { IsErrOf result Missing → ⊥ }
-    ensures failed { IsErrOf result Failed → Rose (S.seen shelf.old).counts.write_faults (S.seen shelf.new).counts.write_faults }
+    ensures failed { IsErrOf result Failed
+        → Rose (S.seen shelf.old).counts.write_faults (S.seen shelf.new).counts.write_faults }
     ensures others { IsErrOf result Failed → SameBut (S.seen shelf.old).files (S.seen shelf.new).files name.now }
     ensures some { IsErrOf result Failed → IsSome file.now }
 {
@@ -68,7 +69,8 @@ fn deliver<S: Shelf, T: Sink>(alloc: Global, product: Product, shelf: &mut S, ou
 // Leaves what a refusal leaves.
 fn refuse<S: Shelf>(alloc: Global, refusal: Refusal, shelf: &mut S) -> Status
     requires { IsFair refusal.status refusal.part (Unit {0}) }
-    ensures { (t : SinkSeen) → Left (λ r. r ≡ Err refusal) (outside (S.seen shelf.old) t) (outside (S.seen shelf.new) t) result }
+    ensures { (t : SinkSeen)
+        → Left (λ r. r ≡ Err refusal) (outside (S.seen shelf.old) t) (outside (S.seen shelf.new) t) result }
 {
     let Refusal { status, part } = refusal;
     let Some(part) = part else {

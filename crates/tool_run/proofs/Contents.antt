@@ -1,5 +1,5 @@
 -- From what reading comes to, to the files' contents, and what is left of them.
-use Rattle.std.proofs.Common.{◌≡◌, ℕ, List, [], ◌∷◌, get_or, Option, None, Some, IfSome, IsSome, Result, Ok, Err, subst, inl, inr}
+use Rattle.std.proofs.Common.{◌≡◌, ℕ, List, [], ◌∷◌, get_or, Option, None, Some, IsSome, Result, Ok, Err, subst, inl, inr}
 use Rattle.vlsi_shelf.specs.Files.{Files}
 use Rattle.tool_words.specs.declared.command.AsimutCommand.{AsimutCommand}
 use Rattle.tool_drive.specs.declared.status.Status.{Status}
@@ -10,7 +10,7 @@ use Rattle.tool_drive.specs.declared.tool.Product.{Product}
 use Rattle.tool_drive.specs.declared.tool.Refusal.{Refusal}
 use Rattle.tool_drive.specs.Outside.{Outside, IsUntouched}
 use Rattle.tool_drive.specs.Held.{Holds, AreHad, are_had, holds}
-use Rattle.tool_drive.specs.Table.{refusal, IsStored, IsLeft, IsPart, IsWriting, ComesTo, Left, Caused}
+use Rattle.tool_drive.specs.Table.{refusal, IsStored, IsLeft, IsPart, IsWriting, ComesTo, Caused}
 use Rattle.tool_run.specs.Asimut.{asimut_plan, asimut_answers, Simulates}
 use Rattle.tool_run.specs.Laws.{OfBoth}
 

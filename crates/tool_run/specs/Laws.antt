@@ -1,5 +1,5 @@
 -- What the tools' plans and answers come to, said of files.
-use Rattle.std.specs.Prelude.{◌≡◌, ℕ, List, Option, Some, IfSome, Result}
+use Rattle.std.specs.Prelude.{ℕ, List, Option, IfSome, Result}
 use Rattle.vlsi_shelf.specs.Files.{Files}
 use Rattle.tool_words.specs.declared.command.AsimutCommand.{AsimutCommand}
 use Rattle.tool_drive.specs.declared.status.Status.{Status}

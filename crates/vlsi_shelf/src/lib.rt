@@ -1,5 +1,5 @@
-//! The outside of the program: a shelf of files and a sink of bytes, as traits whose contracts say what each call reads, writes and
-//! counts, with implementations in memory, for tests and for tools, and over the machine.
+//! The outside of the program: a shelf of files and a sink of bytes, as traits whose contracts say what each call reads, writes
+//! and counts, with implementations in memory, for tests and for tools, and over the machine.
 #![tactic(auto)]
 
 mod files;

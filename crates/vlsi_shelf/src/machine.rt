@@ -92,7 +92,10 @@ impl<'a, R: Files> DirShelf<'a, R> {
 }
 
 impl<R: Files> Shelf for DirShelf<'_, R> {
-    ghost seen = { λ s. record { files = None; counts = record { read_faults = s.read_faults; write_faults = s.write_faults; misses = s.misses } } };
+    ghost seen = { λ s. record {
+      files = None;
+      counts = record { read_faults = s.read_faults; write_faults = s.write_faults; misses = s.misses };
+    } };
 
     fn read(&mut self, alloc: Global, name: &FileName, most: u64) -> Result<FileBytes, ShelfError> {
         let Ok(path) = str::from_utf8(name.as_bytes()) else {

@@ -32,7 +32,12 @@ impl Model for MemShelf {
 
     ghost coded = { memory_code };
 
-    ghost view = { λ s. record { files = s.files; failing = s.failing; calls = s.calls; counts = record { read_faults = s.read_faults; write_faults = s.write_faults; misses = s.misses } } };
+    ghost view = { λ s. record {
+      files = s.files;
+      failing = s.failing;
+      calls = s.calls;
+      counts = record { read_faults = s.read_faults; write_faults = s.write_faults; misses = s.misses };
+    } };
 }
 
 // The first `most + 1` bytes, or all if there are fewer.
@@ -154,7 +159,10 @@ impl NoFaultShelf {
 }
 
 impl Shelf for NoFaultShelf {
-    ghost seen = { λ s. record { files = Some s.files; counts = record { read_faults = 0; write_faults = 0; misses = s.misses } } };
+    ghost seen = { λ s. record {
+      files = Some s.files;
+      counts = record { read_faults = 0; write_faults = 0; misses = s.misses };
+    } };
 
     fn read(&mut self, alloc: Global, name: &FileName, most: u64) -> Result<FileBytes, ShelfError> {
         match self.files.get(name) {

@@ -1,6 +1,6 @@
 use Rattle.std.proofs.Common.{Err}
 use Rattle.tool_drive.specs.Outside.{outside}
-use Rattle.tool_drive.proofs.Rows.{fair, lifts_at}
+use Rattle.tool_drive.proofs.Rows.{lifts_at}
 use Rattle.tool_drive.proofs.run.answer.Goals as goal
 
 pub returns-in-Err-clause-left : goal.returns-in-Err-clause-left

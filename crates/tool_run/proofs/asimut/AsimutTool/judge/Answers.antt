@@ -1,4 +1,4 @@
-use Rattle.std.proofs.Common.{List, [], get_or, subst}
+use Rattle.std.proofs.Common.{[], get_or, subst}
 use Rattle.tool_drive.specs.Table.{IsJudged}
 use Rattle.tool_run.specs.Asimut.{Simulates}
 use Rattle.tool_run.proofs.asimut.AsimutTool.judge.Goals as goal
