@@ -7,7 +7,7 @@
 
 use crate::archive::{Place, Section, append_expanded, append_line, begun};
 use anyhow::{Context, Result, bail, ensure};
-use std::alloc::{AllocError, Global};
+use std::alloc::Global;
 
 /// What a tool calls on the shelf.
 #[derive(Clone, Copy, PartialEq, Eq)]
