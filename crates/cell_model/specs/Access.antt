@@ -28,7 +28,8 @@ grid_lines (negsuc n) = 0
 -- of x and then of y
 abbrev pub grid_points : Cell → List Point
 grid_points c =
-    flat_map (λ a. map (λ b. (pos (PITCH * a), pos (PITCH * b))) (count_to (grid_lines (cell_height c)))) (count_to (grid_lines (cell_width c)))
+    flat_map (λ a. map (λ b. (pos (PITCH * a), pos (PITCH * b))) (count_to (grid_lines (cell_height c))))
+    (count_to (grid_lines (cell_width c)))
 
 abbrev pub holds : Rect → Rect → Bool
 holds outer r = int_le outer.x1 r.x1 && int_le r.x2 outer.x2 && int_le outer.y1 r.y1 && int_le r.y2 outer.y2
@@ -45,7 +46,8 @@ from_corner c r = moved r (pos 0 -ℤ c.bounds.x1) (pos 0 -ℤ c.bounds.y1)
 -- usable cell lie in its box.)
 abbrev pub is_access_node : Cell → Name → Point → Bool
 is_access_node c pin q =
-    list_any (λ s. nat_eq s.metal 1 && is_named pin s.name && holds (from_corner c s.rect) (square q.0 q.1 (pos PAD_WIDTH))) (drawn c.items)
+    list_any (λ s. nat_eq s.metal 1 && is_named pin s.name && holds (from_corner c s.rect) (square q.0 q.1 (pos PAD_WIDTH)))
+    (drawn c.items)
 
 abbrev pub access_nodes : Cell → Name → List Point
 access_nodes c pin = filter_map (λ q. if is_access_node c pin q then Some q else None) (grid_points c)

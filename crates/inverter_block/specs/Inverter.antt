@@ -97,8 +97,8 @@ inverter_library cell pin_in pin_out = record { cells = inverter_cell cell pin_i
 
 -- ---- the layout
 
--- The pins of the cell have access nodes at their lower ends and so on up, one a pitch. The pin whose name stands first is reached at the first
--- of its own, the other at its second.
+-- The pins of the cell have access nodes from their lower ends on, one a pitch. The pin whose name stands first is reached
+-- at the first of its own, the other at its second.
 abbrev pub input_node : Bool → ℤ
 input_node pin_first = if pin_first then pos FIRST_NODE_Y else pos SECOND_NODE_Y
 
@@ -120,11 +120,9 @@ net_items y x node name =
 abbrev pub two_nets : Bool → Bool → List ℕ → List ℕ → List Item
 two_nets input_first pin_first input output =
     if input_first
-    then
-    net_items (pos FIRST_TRACK_Y) (pos INPUT_X) (input_node pin_first) input
+    then net_items (pos FIRST_TRACK_Y) (pos INPUT_X) (input_node pin_first) input
     ++ net_items (pos SECOND_TRACK_Y) (pos OUTPUT_X) (output_node pin_first) output
-    else
-    net_items (pos FIRST_TRACK_Y) (pos OUTPUT_X) (output_node pin_first) output
+    else net_items (pos FIRST_TRACK_Y) (pos OUTPUT_X) (output_node pin_first) output
     ++ net_items (pos SECOND_TRACK_Y) (pos INPUT_X) (input_node pin_first) input
 
 -- the ports in the order of names, on the tracks of their nets
@@ -137,7 +135,8 @@ port_items first second =
     ∷ []
 
 abbrev pub placed_inverter : List ℕ → Item
-placed_inverter cell = item.Instance (record { x = pos FIRST_CELL_X; y = pos 0; model = cell; name = codes "g0"; transform = NoSym })
+placed_inverter cell =
+    item.Instance (record { x = pos FIRST_CELL_X; y = pos 0; model = cell; name = codes "g0"; transform = NoSym })
 
 -- a strap of one supply, tied to its one rail
 abbrev pub strap_items : ℤ → ℤ → List ℕ → List Item
@@ -151,7 +150,8 @@ abbrev pub supply_items : List Item
 supply_items =
     level_wire (Alu One) (pos RAIL_WIDTH) (pos VSS_STRAP_X) (pos RAIL_END_X) (pos VSS_RAIL_Y) (Some vss)
     ∷ level_wire (Alu One) (pos RAIL_WIDTH) (pos VSS_STRAP_X) (pos RAIL_END_X) (pos VDD_RAIL_Y) (Some vdd)
-    ∷ (strap_items (pos VSS_STRAP_X) (pos VSS_RAIL_Y) (codes "vss") ++ strap_items (pos VDD_STRAP_X) (pos VDD_RAIL_Y) (codes "vdd"))
+    ∷ (strap_items (pos VSS_STRAP_X) (pos VSS_RAIL_Y) (codes "vss")
+    ++ strap_items (pos VDD_STRAP_X) (pos VDD_RAIL_Y) (codes "vdd"))
 
 abbrev pub block_items : Bool → Bool → List ℕ → List ℕ → List ℕ → List Item
 block_items input_first pin_first input output cell =

@@ -25,7 +25,8 @@ pub fn level(
     y: u16,
     name: &Text,
 ) -> Result<(), AllocError>
-    ensures { OnOk result (items.new ≡ items.old ++ level_wire layer (pos width) (pos x1) (pos x2) (pos y) (Some (scalar name.now)) ∷ []) }
+    ensures { OnOk result (items.new ≡ items.old
+        ++ level_wire layer (pos width) (pos x1) (pos x2) (pos y) (Some (scalar name.now)) ∷ []) }
 {
     let name = label(alloc, name)?;
     items.push(Item::Segment(Segment {
@@ -51,7 +52,8 @@ pub fn upright(
     y2: u16,
     name: &Text,
 ) -> Result<(), AllocError>
-    ensures { OnOk result (items.new ≡ items.old ++ upright_wire layer (pos width) (pos x) (pos y1) (pos y2) (Some (scalar name.now)) ∷ []) }
+    ensures { OnOk result (items.new ≡ items.old
+        ++ upright_wire layer (pos width) (pos x) (pos y1) (pos y2) (Some (scalar name.now)) ∷ []) }
 {
     let name = label(alloc, name)?;
     items.push(Item::Segment(Segment {

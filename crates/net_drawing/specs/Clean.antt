@@ -17,7 +17,8 @@ pub record HasStrip (c : Cell) (name : Name) (columns from to : ℕ) : Type 0 wh
   pub pin : Shape
   pub listed : In pin (drawn c.items)
   pub named : pin.name ≡ Some name
-  pub holds : Within (record { x1 = pos RAIL_INSET; y1 = pos from; x2 = pos (PITCH * columns) -ℤ pos RAIL_INSET; y2 = pos to }) pin.rect
+  pub holds : Within
+      (record { x1 = pos RAIL_INSET; y1 = pos from; x2 = pos (PITCH * columns) -ℤ pos RAIL_INSET; y2 = pos to }) pin.rect
 
 -- within the cell, away from its sides
 pub record IsInside (columns : ℕ) (r : Rect) : Type 0 where

@@ -1,8 +1,8 @@
 -- Cells by numbers, and a block of placed instances with its nets.
 use Rattle.std.specs.Prelude.{◌≡◌, ℕ, zero, suc, ◌+◌, ◌-◌, ◌*◌, ◌<◌, ◌≤◌, ◌/◌, ℤ, pos, ◌+ℤ◌, ◌-ℤ◌, ◌≤ℤ◌, Bool, true, false, List, ◌++◌, map, Option, Some, None, ◌⊎◌}
-use Rattle.sym_geom.specs.declared.grid.TheConstants.{PITCH, ROW_HEIGHT, RAIL_WIDTH, PAD_WIDTH, WIRE_OVERHANG, LEAST_GAP, VSS_RAIL_Y, VDD_RAIL_Y, VDD_STRIP_Y, RAIL_INSET, CELL_MARGIN}
+use Rattle.sym_geom.specs.declared.grid.TheConstants.{PITCH, ROW_HEIGHT, RAIL_WIDTH, WIRE_OVERHANG, LEAST_GAP, VSS_RAIL_Y, VDD_RAIL_Y, VDD_STRIP_Y, FIRST_CELL_X, RAIL_INSET, CELL_MARGIN}
 use Rattle.net_geom.specs.Rect.{Rect, IsRect, Within}
-use Rattle.net_geom.specs.Figure.{Supply, Vss, Vdd, Name, Power, Bit, Line, Shape, drawn_shapes, placed, square, up_to, In}
+use Rattle.net_geom.specs.Figure.{Supply, Vss, Vdd, Name, Power, Bit, Line, Shape, drawn_shapes, placed, pad, up_to, In}
 use Rattle.net_geom.specs.Joined.{Joined}
 
 -- a cell: its shapes, and for each signal pin the grid point at which it is reached
@@ -62,7 +62,7 @@ pub record Access (c : Cell) (p : ℕ) : Type 0 where
   pub pin : Shape
   pub within : In pin (cell_shapes c)
   pub named : pin.name ≡ Some (Bit p)
-  pub holds : Within (square (PAD_WIDTH / 2) (PAD_WIDTH / 2) (pos (PITCH * c.column p)) (pos (PITCH * c.row p))) pin.rect
+  pub holds : Within (pad (pos (PITCH * c.column p)) (pos (PITCH * c.row p))) pin.rect
 
 -- a connector of the supply over the width of its strip
 pub record HasStrip (c : Cell) (s : Supply) (from to : ℕ) : Type 0 where
@@ -94,11 +94,15 @@ pub record Passes (c : Cell) : Type 0 where
 abbrev pub HasOwnColumns : Cell → Type 0
 HasOwnColumns c = (p q : ℕ) → p < c.pins → q < c.pins → c.column p ≡ c.column q → p ≡ q
 
+-- the column of the grid at which rows of cells begin
+abbrev pub first_column : ℕ
+first_column = FIRST_CELL_X / PITCH
+
 -- placed cells that pass
 pub record IsSound (b : Block) : Type 0 where
   pub cells : (i : ℕ) → i < b.count → Passes (b.cell i)
-  pub start : (i : ℕ) → i < b.count → 3 ≤ b.column i
-  pub end : (i : ℕ) → i < b.count → b.column i + (b.cell i).width ≤ 3 + b.columns
+  pub start : (i : ℕ) → i < b.count → first_column ≤ b.column i
+  pub end : (i : ℕ) → i < b.count → b.column i + (b.cell i).width ≤ first_column + b.columns
   pub row : (i : ℕ) → i < b.count → b.row i < b.rows
   pub abut : (i j : ℕ) → i < b.count → j < b.count → b.row i ≡ b.row j
       → (i ≡ j) ⊎ (b.column i + (b.cell i).width ≤ b.column j) ⊎ (b.column j + (b.cell j).width ≤ b.column i)
@@ -149,11 +153,11 @@ pin_column b i p = b.column i + (b.cell i).column p
 
 -- a row of a cell, as it lies once the cell is turned
 abbrev pub turned_row : Bool → ℕ → ℕ
-turned_row true r = 10 - r
+turned_row true r = ROW_HEIGHT / PITCH - r
 turned_row false r = r
 
 abbrev pub pin_row : Block → ℕ → ℕ → ℕ
-pin_row b i p = 10 * b.row i + turned_row (flip_of (b.row i)) ((b.cell i).row p)
+pin_row b i p = ROW_HEIGHT / PITCH * b.row i + turned_row (flip_of (b.row i)) ((b.cell i).row p)
 
 -- a shape of the cell of instance i, where it lies in the block
 abbrev pub in_block : Block → ℕ → Shape → Shape

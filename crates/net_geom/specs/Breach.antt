@@ -31,7 +31,8 @@ HasNoGapBreach xs = (a b : Shape) → In a xs → In b xs → IsGapBreach xs a b
 -- a drawn rectangle narrower than the least width
 pub record IsWidthBreach (s : Shape) : Type 0 where
   pub drawn : s.owner ≡ None
-  pub narrow : ((s.rect.x2 +ℤ pos 1) ≤ℤ (s.rect.x1 +ℤ pos LEAST_WIDTH)) ⊎ ((s.rect.y2 +ℤ pos 1) ≤ℤ (s.rect.y1 +ℤ pos LEAST_WIDTH))
+  pub narrow : ((s.rect.x2 +ℤ pos 1) ≤ℤ (s.rect.x1 +ℤ pos LEAST_WIDTH))
+      ⊎ ((s.rect.y2 +ℤ pos 1) ≤ℤ (s.rect.y1 +ℤ pos LEAST_WIDTH))
 
 -- and no drawn one is too narrow
 pub record HasNoBreach (xs : List Shape) : Type 0 where

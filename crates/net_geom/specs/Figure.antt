@@ -31,12 +31,18 @@ pub record Shape : Type 0 where
 
 -- the line from (x1, y1) to (x2, y2), widened by a and b across and longer by an overhang at both ends
 abbrev pub line_rect : Bool → ℕ → ℕ → ℤ → ℤ → ℤ → ℤ → Rect
-line_rect true a b x1 y1 x2 y2 = record { x1 = x1 -ℤ pos a; y1 = y1 -ℤ pos WIRE_OVERHANG; x2 = x2 +ℤ pos b; y2 = y2 +ℤ pos WIRE_OVERHANG }
-line_rect false a b x1 y1 x2 y2 = record { x1 = x1 -ℤ pos WIRE_OVERHANG; y1 = y1 -ℤ pos a; x2 = x2 +ℤ pos WIRE_OVERHANG; y2 = y2 +ℤ pos b }
+line_rect true a b x1 y1 x2 y2 =
+    record { x1 = x1 -ℤ pos a; y1 = y1 -ℤ pos WIRE_OVERHANG; x2 = x2 +ℤ pos b; y2 = y2 +ℤ pos WIRE_OVERHANG }
+line_rect false a b x1 y1 x2 y2 =
+    record { x1 = x1 -ℤ pos WIRE_OVERHANG; y1 = y1 -ℤ pos a; x2 = x2 +ℤ pos WIRE_OVERHANG; y2 = y2 +ℤ pos b }
 
 -- the square about a point
 abbrev pub square : ℕ → ℕ → ℤ → ℤ → Rect
 square a b x y = record { x1 = x -ℤ pos a; y1 = y -ℤ pos a; x2 = x +ℤ pos b; y2 = y +ℤ pos b }
+
+-- the pad of a via
+abbrev pub pad : ℤ → ℤ → Rect
+pad x y = square (PAD_WIDTH / 2) (PAD_WIDTH / 2) x y
 
 -- the shapes of line k
 abbrev pub line_shapes : ℕ → Line → List Shape
@@ -51,8 +57,8 @@ line_shapes k (Segment metal width upright x1 y1 x2 y2 name) =
 line_shapes k (Connector metal width x y name) =
     record { metal = metal; rect = square (width / 2) (width - width / 2) x y; owner = None; line = k; name = Some name } ∷ []
 line_shapes k (Via lower x y) =
-    record { metal = lower; rect = square (PAD_WIDTH / 2) (PAD_WIDTH / 2) x y; owner = None; line = k; name = None }
-    ∷ (record { metal = lower + 1; rect = square (PAD_WIDTH / 2) (PAD_WIDTH / 2) x y; owner = None; line = k; name = None } ∷ [])
+    record { metal = lower; rect = pad x y; owner = None; line = k; name = None }
+    ∷ (record { metal = lower + 1; rect = pad x y; owner = None; line = k; name = None } ∷ [])
 line_shapes k Blank = []
 
 -- the shapes of lines, the first of which is line k

@@ -37,7 +37,8 @@ pin_point l (i ∷ rest) owner pin = if is_same_text i.name owner then instance_
 -- the point of a port, from number k on: at the left end of its track
 abbrev pub port_point : ℕ → List Name → Name → Option Point
 port_point k [] name = None
-port_point k (one ∷ rest) name = if is_same_name one name then Some (pos FIRST_CELL_X, track_y k) else port_point (suc k) rest name
+port_point k (one ∷ rest) name =
+    if is_same_name one name then Some (pos FIRST_CELL_X, track_y k) else port_point (suc k) rest name
 
 abbrev pub point_of : Library → Placement → Option (List ℕ) → Name → Option Point
 point_of l p None name = port_point 0 p.ports name

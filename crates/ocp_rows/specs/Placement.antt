@@ -108,7 +108,8 @@ rail end y name = level_wire (Alu One) (pos RAIL_WIDTH) (pos VSS_STRAP_X) end y 
 abbrev pub rails : ℤ → Bool → ℤ → List (List Member) → List Item
 rails end flipped y [] = []
 rails end flipped y (row ∷ rows) =
-    rail end (vss_centre flipped y) vss ∷ rail end (vdd_centre flipped y) vdd ∷ rails end (not flipped) (y +ℤ pos ROW_HEIGHT) rows
+    rail end (vss_centre flipped y) vss ∷ rail end (vdd_centre flipped y) vdd
+    ∷ rails end (not flipped) (y +ℤ pos ROW_HEIGHT) rows
 
 -- the vias that tie a strap to the rails with these middles
 abbrev pub strap_vias : ℤ → Name → List ℤ → List Item
@@ -128,7 +129,8 @@ strap x name (y ∷ ys) = upright_wire (Alu Three) (pos WIRE_WIDTH) x y (last_of
 abbrev pub supplies : Library → List (List Member) → List Item
 supplies l rows =
     rails (pos FIRST_CELL_X +ℤ rows_width l rows) false (pos 0) rows
-    ++ (strap (pos VSS_STRAP_X) vss (centres vss_centre false (pos 0) rows) ++ strap (pos VDD_STRAP_X) vdd (centres vdd_centre false (pos 0) rows))
+    ++ (strap (pos VSS_STRAP_X) vss (centres vss_centre false (pos 0) rows)
+    ++ strap (pos VDD_STRAP_X) vdd (centres vdd_centre false (pos 0) rows))
 
 abbrev pub supply_ports : List Item
 supply_ports =
@@ -146,7 +148,8 @@ track_y k = pos (FIRST_TRACK_Y + PITCH * k)
 -- port k has net k.
 abbrev pub track_ports : ℕ → List Name → List Item
 track_ports k [] = []
-track_ports k (name ∷ rest) = west_port (Alu Two) (pos WIRE_WIDTH) (pos FIRST_CELL_X) (track_y k) name ∷ track_ports (suc k) rest
+track_ports k (name ∷ rest) =
+    west_port (Alu Two) (pos WIRE_WIDTH) (pos FIRST_CELL_X) (track_y k) name ∷ track_ports (suc k) rest
 
 -- the nets are the classes without those of vdd and vss
 abbrev pub net_count : Netlist → ℕ
@@ -173,4 +176,5 @@ pub record IsPlaced (bounds : Rect) (items : List Item) (n : Netlist) (l : Libra
   pub wiring : List Item
   pub wires : (one : Item) → In one wiring → IsWiring one
   pub lines : items ≡ supply_ports ++ (track_ports 0 p.ports ++ (map item.Instance instances ++ (supplies l p.rows ++ wiring)))
-  pub box : bounds ≡ record { x1 = pos 0; y1 = pos 0; x2 = pos (FIRST_CELL_X + PITCH) +ℤ rows_width l p.rows; y2 = track_y (net_count n) }
+  pub box : bounds
+      ≡ record { x1 = pos 0; y1 = pos 0; x2 = pos (FIRST_CELL_X + PITCH) +ℤ rows_width l p.rows; y2 = track_y (net_count n) }
