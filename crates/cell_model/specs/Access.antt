@@ -1,5 +1,6 @@
 -- Where the pins of a cell are reached.
 use Rattle.std.specs.Prelude.{ℕ, ◌+◌, ◌/◌, ◌%◌, ◌*◌, ℤ, pos, negsuc, ◌-ℤ◌, Bool, false, ◌&&◌, int_le, List, [], ◌∷◌, ◌++◌, map, length, Option, None, Some, nat_eq, slice_get, if◌then◌else◌, count_by}
+use Rattle.sym_geom.specs.declared.grid.TheConstants.{PITCH, PAD_WIDTH}
 use Prim.Native.Nat.{zero, suc}
 use Rattle.std.specs.List.{flat_map, filter_map, list_any}
 use Rattle.vlsi_base.specs.declared.name.Name.{Name}
@@ -18,16 +19,17 @@ abbrev pub count_to : ℕ → List ℕ
 count_to zero = []
 count_to (suc n) = count_to n ++ n ∷ []
 
--- how many multiples of 500 there are from 0 to a width or height
+-- how many multiples of the pitch there are from 0 to a width or height
 abbrev pub grid_lines : ℤ → ℕ
-grid_lines (pos n) = n / 500 + 1
+grid_lines (pos n) = n / PITCH + 1
 grid_lines (negsuc n) = 0
 
--- the points of a cell's box, with the corner as origin, both of whose coordinates are multiples of 500; in order of x and
--- then of y
+-- the points of a cell's box, with the corner as origin, both of whose coordinates are multiples of the pitch; in order
+-- of x and then of y
 abbrev pub grid_points : Cell → List Point
 grid_points c =
-    flat_map (λ a. map (λ b. (pos (500 * a), pos (500 * b))) (count_to (grid_lines (cell_height c)))) (count_to (grid_lines (cell_width c)))
+    flat_map (λ a. map (λ b. (pos (PITCH * a), pos (PITCH * b))) (count_to (grid_lines (cell_height c))))
+    (count_to (grid_lines (cell_width c)))
 
 abbrev pub holds : Rect → Rect → Bool
 holds outer r = int_le outer.x1 r.x1 && int_le r.x2 outer.x2 && int_le outer.y1 r.y1 && int_le r.y2 outer.y2
@@ -40,11 +42,12 @@ is_named pin (Some name) = is_same_name name pin
 abbrev pub from_corner : Cell → Rect → Rect
 from_corner c r = moved r (pos 0 -ℤ c.bounds.x1) (pos 0 -ℤ c.bounds.y1)
 
--- The square of 200 about the point lies within one connector rectangle of the pin on metal 1. (All such points of a
+-- The square of a via's pad about the point lies within one connector rectangle of the pin on metal 1. (All such points of a
 -- usable cell lie in its box.)
 abbrev pub is_access_node : Cell → Name → Point → Bool
 is_access_node c pin q =
-    list_any (λ s. nat_eq s.metal 1 && is_named pin s.name && holds (from_corner c s.rect) (square q.0 q.1 (pos 200))) (drawn c.items)
+    list_any (λ s. nat_eq s.metal 1 && is_named pin s.name && holds (from_corner c s.rect) (square q.0 q.1 (pos PAD_WIDTH)))
+    (drawn c.items)
 
 abbrev pub access_nodes : Cell → Name → List Point
 access_nodes c pin = filter_map (λ q. if is_access_node c pin q then Some q else None) (grid_points c)

@@ -1,5 +1,7 @@
 -- One inverter: its machine, the library of its one cell, and its layout with private tracks, for all names.
 use Rattle.std.specs.Prelude.{◌≢◌, ℕ, ℤ, pos, Bool, List, [], ◌∷◌, ◌++◌, map, None, Some, codes, if◌then◌else◌}
+use Rattle.sym_geom.specs.declared.grid.TheConstants.{ROW_HEIGHT, WIRE_WIDTH, RAIL_WIDTH, VSS_RAIL_Y, VDD_RAIL_Y, VSS_STRAP_X, VDD_STRAP_X, FIRST_CELL_X, FIRST_TRACK_Y}
+use Rattle.inverter_block.specs.declared.plan.TheConstants.{CELL_WIDTH, INPUT_PIN_X, OUTPUT_PIN_X, FIRST_NODE_Y, SECOND_NODE_Y, PIN_TOP_Y, INPUT_X, OUTPUT_X, RAIL_END_X, SECOND_TRACK_Y, BLOCK_WIDTH, BLOCK_HEIGHT}
 use Rattle.vlsi_base.specs.declared.name.Port.{Port}
 use Rattle.vlsi_base.specs.declared.name.Dir.TheVariants as dir
 use Rattle.bool_expr.specs.Expression.{inverse, variable}
@@ -61,17 +63,17 @@ inverter_machine entity input output = record {
 -- rails at its foot and at its top, and the two pins, the input in column 1 and the output in column 2
 abbrev pub cell_items : List ℕ → List ℕ → List Item
 cell_items pin_in pin_out =
-    level_wire (Calu One) (pos 600) (pos 0) (pos 1500) (pos 300) (Some vss)
-    ∷ level_wire (Calu One) (pos 600) (pos 0) (pos 1500) (pos 4700) (Some vdd)
-    ∷ upright_wire (Calu One) (pos 200) (pos 500) (pos 1000) (pos 4000) (Some (scalar pin_in))
-    ∷ upright_wire (Calu One) (pos 200) (pos 1000) (pos 1000) (pos 4000) (Some (scalar pin_out))
+    level_wire (Calu One) (pos RAIL_WIDTH) (pos 0) (pos CELL_WIDTH) (pos VSS_RAIL_Y) (Some vss)
+    ∷ level_wire (Calu One) (pos RAIL_WIDTH) (pos 0) (pos CELL_WIDTH) (pos VDD_RAIL_Y) (Some vdd)
+    ∷ upright_wire (Calu One) (pos WIRE_WIDTH) (pos INPUT_PIN_X) (pos FIRST_NODE_Y) (pos PIN_TOP_Y) (Some (scalar pin_in))
+    ∷ upright_wire (Calu One) (pos WIRE_WIDTH) (pos OUTPUT_PIN_X) (pos FIRST_NODE_Y) (pos PIN_TOP_Y) (Some (scalar pin_out))
     ∷ []
 
 -- the figure of the cell
 abbrev pub cell_figure : List ℕ → List ℕ → List ℕ → Figure
 cell_figure cell pin_in pin_out = record {
   name = Some (scalar cell);
-  bounds = record { x1 = pos 0; y1 = pos 0; x2 = pos 1500; y2 = pos 5000 };
+  bounds = record { x1 = pos 0; y1 = pos 0; x2 = pos CELL_WIDTH; y2 = pos ROW_HEIGHT };
   items = cell_items pin_in pin_out;
 }
 
@@ -82,7 +84,7 @@ two_pins first pin_in pin_out = map (λ p. record { port = p; capacitance = 0 })
 abbrev pub inverter_cell : List ℕ → List ℕ → List ℕ → Cell
 inverter_cell cell pin_in pin_out = record {
   name = cell;
-  bounds = record { x1 = pos 0; y1 = pos 0; x2 = pos 1500; y2 = pos 5000 };
+  bounds = record { x1 = pos 0; y1 = pos 0; x2 = pos CELL_WIDTH; y2 = pos ROW_HEIGHT };
   items = cell_items pin_in pin_out;
   pins = two_pins (stands_before pin_in pin_out) pin_in pin_out;
   function = gate (inverse (variable 0));
@@ -95,20 +97,20 @@ inverter_library cell pin_in pin_out = record { cells = inverter_cell cell pin_i
 
 -- ---- the layout
 
--- The pins of the cell have access nodes at y 1000, 1500 and so on. The pin whose name stands first is reached at the first
--- of its own, the other at its second.
+-- The pins of the cell have access nodes from their lower ends on, one a pitch. The pin whose name stands first is reached
+-- at the first of its own, the other at its second.
 abbrev pub input_node : Bool → ℤ
-input_node pin_first = if pin_first then pos 1000 else pos 1500
+input_node pin_first = if pin_first then pos FIRST_NODE_Y else pos SECOND_NODE_Y
 
 abbrev pub output_node : Bool → ℤ
-output_node pin_first = if pin_first then pos 1500 else pos 1000
+output_node pin_first = if pin_first then pos SECOND_NODE_Y else pos FIRST_NODE_Y
 
--- A net: its track from the ports' column x 1500 to the column x of its pin, the riser from the pin's access node up to the
+-- A net: its track from the ports' column to the column x of its pin, the riser from the pin's access node up to the
 -- track, and the vias.
 abbrev pub net_items : ℤ → ℤ → ℤ → List ℕ → List Item
 net_items y x node name =
-    level_wire (Alu Two) (pos 200) (pos 1500) x y (Some (scalar name))
-    ∷ upright_wire (Alu Three) (pos 200) x node y (Some (scalar name))
+    level_wire (Alu Two) (pos WIRE_WIDTH) (pos FIRST_CELL_X) x y (Some (scalar name))
+    ∷ upright_wire (Alu Three) (pos WIRE_WIDTH) x node y (Some (scalar name))
     ∷ contact_at Via1 x node (Some (scalar name))
     ∷ contact_at Via2 x node (Some (scalar name))
     ∷ contact_at Via2 x y (Some (scalar name))
@@ -118,34 +120,38 @@ net_items y x node name =
 abbrev pub two_nets : Bool → Bool → List ℕ → List ℕ → List Item
 two_nets input_first pin_first input output =
     if input_first
-    then net_items (pos 5500) (pos 2000) (input_node pin_first) input ++ net_items (pos 6000) (pos 2500) (output_node pin_first) output
-    else net_items (pos 5500) (pos 2500) (output_node pin_first) output ++ net_items (pos 6000) (pos 2000) (input_node pin_first) input
+    then net_items (pos FIRST_TRACK_Y) (pos INPUT_X) (input_node pin_first) input
+    ++ net_items (pos SECOND_TRACK_Y) (pos OUTPUT_X) (output_node pin_first) output
+    else net_items (pos FIRST_TRACK_Y) (pos OUTPUT_X) (output_node pin_first) output
+    ++ net_items (pos SECOND_TRACK_Y) (pos INPUT_X) (input_node pin_first) input
 
 -- the ports in the order of names, on the tracks of their nets
 abbrev pub port_items : List ℕ → List ℕ → List Item
 port_items first second =
-    west_port (Alu One) (pos 600) (pos 500) (pos 300) vss
-    ∷ west_port (Alu One) (pos 600) (pos 500) (pos 4700) vdd
-    ∷ west_port (Alu Two) (pos 200) (pos 1500) (pos 5500) (scalar first)
-    ∷ west_port (Alu Two) (pos 200) (pos 1500) (pos 6000) (scalar second)
+    west_port (Alu One) (pos RAIL_WIDTH) (pos VSS_STRAP_X) (pos VSS_RAIL_Y) vss
+    ∷ west_port (Alu One) (pos RAIL_WIDTH) (pos VSS_STRAP_X) (pos VDD_RAIL_Y) vdd
+    ∷ west_port (Alu Two) (pos WIRE_WIDTH) (pos FIRST_CELL_X) (pos FIRST_TRACK_Y) (scalar first)
+    ∷ west_port (Alu Two) (pos WIRE_WIDTH) (pos FIRST_CELL_X) (pos SECOND_TRACK_Y) (scalar second)
     ∷ []
 
 abbrev pub placed_inverter : List ℕ → Item
-placed_inverter cell = item.Instance (record { x = pos 1500; y = pos 0; model = cell; name = codes "g0"; transform = NoSym })
+placed_inverter cell =
+    item.Instance (record { x = pos FIRST_CELL_X; y = pos 0; model = cell; name = codes "g0"; transform = NoSym })
 
 -- a strap of one supply, tied to its one rail
 abbrev pub strap_items : ℤ → ℤ → List ℕ → List Item
 strap_items x y name =
-    upright_wire (Alu Three) (pos 200) x y y (Some (scalar name))
+    upright_wire (Alu Three) (pos WIRE_WIDTH) x y y (Some (scalar name))
     ∷ contact_at Via1 x y (Some (scalar name))
     ∷ contact_at Via2 x y (Some (scalar name))
     ∷ []
 
 abbrev pub supply_items : List Item
 supply_items =
-    level_wire (Alu One) (pos 600) (pos 500) (pos 3000) (pos 300) (Some vss)
-    ∷ level_wire (Alu One) (pos 600) (pos 500) (pos 3000) (pos 4700) (Some vdd)
-    ∷ (strap_items (pos 500) (pos 300) (codes "vss") ++ strap_items (pos 1000) (pos 4700) (codes "vdd"))
+    level_wire (Alu One) (pos RAIL_WIDTH) (pos VSS_STRAP_X) (pos RAIL_END_X) (pos VSS_RAIL_Y) (Some vss)
+    ∷ level_wire (Alu One) (pos RAIL_WIDTH) (pos VSS_STRAP_X) (pos RAIL_END_X) (pos VDD_RAIL_Y) (Some vdd)
+    ∷ (strap_items (pos VSS_STRAP_X) (pos VSS_RAIL_Y) (codes "vss")
+    ++ strap_items (pos VDD_STRAP_X) (pos VDD_RAIL_Y) (codes "vdd"))
 
 abbrev pub block_items : Bool → Bool → List ℕ → List ℕ → List ℕ → List Item
 block_items input_first pin_first input output cell =
@@ -156,7 +162,7 @@ block_items input_first pin_first input output cell =
 abbrev pub figure_by : Bool → Bool → List ℕ → List ℕ → List ℕ → List ℕ → Figure
 figure_by input_first pin_first entity input output cell = record {
   name = Some (scalar entity);
-  bounds = record { x1 = pos 0; y1 = pos 0; x2 = pos 3500; y2 = pos 6500 };
+  bounds = record { x1 = pos 0; y1 = pos 0; x2 = pos BLOCK_WIDTH; y2 = pos BLOCK_HEIGHT };
   items = block_items input_first pin_first input output cell;
 }
 

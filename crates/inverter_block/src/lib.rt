@@ -5,6 +5,7 @@
 mod block;
 mod law;
 mod lines;
+mod plan;
 mod report;
 
 pub use block::{cell_figure, inverter_figure};

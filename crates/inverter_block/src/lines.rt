@@ -1,5 +1,5 @@
 // The lines that a block is made of.
-ghost use Rattle.std.specs.Prelude.{◌≡◌, ◌++◌, ◌∷◌, [], IfOk, OnOk, Some};
+ghost use Rattle.std.specs.Prelude.{◌≡◌, ◌++◌, ◌∷◌, [], IfOk, OnOk, Some, pos};
 ghost use Rattle.vlsi_base.specs.Names.{scalar};
 ghost use Rattle.ocp_rows.specs.Placement.{level_wire, upright_wire, contact_at, west_port as west_port_of};
 
@@ -19,21 +19,22 @@ pub fn level(
     alloc: Global,
     items: &mut Items,
     layer: Layer,
-    width: i64,
-    x1: i64,
-    x2: i64,
-    y: i64,
+    width: u16,
+    x1: u16,
+    x2: u16,
+    y: u16,
     name: &Text,
 ) -> Result<(), AllocError>
-    ensures { OnOk result (items.new ≡ items.old ++ level_wire layer width x1 x2 y (Some (scalar name.now)) ∷ []) }
+    ensures { OnOk result (items.new ≡ items.old
+        ++ level_wire layer (pos width) (pos x1) (pos x2) (pos y) (Some (scalar name.now)) ∷ []) }
 {
     let name = label(alloc, name)?;
     items.push(Item::Segment(Segment {
-        x1,
-        y1: y,
-        x2,
-        y2: y,
-        width,
+        x1: i64::from(x1),
+        y1: i64::from(y),
+        x2: i64::from(x2),
+        y2: i64::from(y),
+        width: i64::from(width),
         name: Some(name),
         direction: Direction::Right,
         layer,
@@ -45,21 +46,22 @@ pub fn upright(
     alloc: Global,
     items: &mut Items,
     layer: Layer,
-    width: i64,
-    x: i64,
-    y1: i64,
-    y2: i64,
+    width: u16,
+    x: u16,
+    y1: u16,
+    y2: u16,
     name: &Text,
 ) -> Result<(), AllocError>
-    ensures { OnOk result (items.new ≡ items.old ++ upright_wire layer width x y1 y2 (Some (scalar name.now)) ∷ []) }
+    ensures { OnOk result (items.new ≡ items.old
+        ++ upright_wire layer (pos width) (pos x) (pos y1) (pos y2) (Some (scalar name.now)) ∷ []) }
 {
     let name = label(alloc, name)?;
     items.push(Item::Segment(Segment {
-        x1: x,
-        y1,
-        x2: x,
-        y2,
-        width,
+        x1: i64::from(x),
+        y1: i64::from(y1),
+        x2: i64::from(x),
+        y2: i64::from(y2),
+        width: i64::from(width),
         name: Some(name),
         direction: Direction::Up,
         layer,
@@ -71,16 +73,16 @@ pub fn contact_line(
     alloc: Global,
     items: &mut Items,
     contact: Contact,
-    x: i64,
-    y: i64,
+    x: u16,
+    y: u16,
     name: &Text,
 ) -> Result<(), AllocError>
-    ensures { OnOk result (items.new ≡ items.old ++ contact_at contact x y (Some (scalar name.now)) ∷ []) }
+    ensures { OnOk result (items.new ≡ items.old ++ contact_at contact (pos x) (pos y) (Some (scalar name.now)) ∷ []) }
 {
     let name = label(alloc, name)?;
     items.push(Item::Via(Via {
-        x,
-        y,
+        x: i64::from(x),
+        y: i64::from(y),
         contact,
         name: Some(name),
     }))
@@ -91,18 +93,18 @@ pub fn west_port(
     alloc: Global,
     items: &mut Items,
     layer: Layer,
-    width: i64,
-    x: i64,
-    y: i64,
+    width: u16,
+    x: u16,
+    y: u16,
     name: &Text,
 ) -> Result<(), AllocError>
-    ensures { OnOk result (items.new ≡ items.old ++ west_port_of layer width x y (scalar name.now) ∷ []) }
+    ensures { OnOk result (items.new ≡ items.old ++ west_port_of layer (pos width) (pos x) (pos y) (scalar name.now) ∷ []) }
 {
     let name = label(alloc, name)?;
     items.push(Item::Connector(Connector {
-        x,
-        y,
-        width,
+        x: i64::from(x),
+        y: i64::from(y),
+        width: i64::from(width),
         name: Some(name),
         index: 0,
         side: Side::West,

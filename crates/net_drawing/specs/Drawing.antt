@@ -1,5 +1,6 @@
 -- The wiring of a netlist by private tracks, over cells in one row.
 use Rattle.std.specs.Prelude.{◌≡◌, ◌≢◌, ◌↔◌, ℕ, ◌<◌, ℤ, pos, ◌+ℤ◌, Bool, List, [], ◌∷◌, ◌++◌, map, flat_map, Option, None, Some, AllPairs, IsTrue, slice_get, nat_eq, if◌then◌else◌}
+use Rattle.sym_geom.specs.declared.grid.TheConstants.{WIRE_WIDTH, FIRST_CELL_X}
 use Rattle.vlsi_base.specs.declared.name.Name.{Name}
 use Rattle.vlsi_base.specs.declared.name.Terminal.{Terminal}
 use Rattle.machine_meaning.specs.Machine.{names_of}
@@ -49,24 +50,24 @@ of_cell n net k g x owner (Some c) = flat_map (of_pin n net k g x owner c) (name
 
 -- what g gives for the points of the pins on net k, in the order of instances and of names
 abbrev pub of_pins : {A : Type 0} → Netlist → Library → Numbering → ℕ → (Point → List A) → List A
-of_pins n l net k g = along l (λ x one. of_cell n net k g x one.name (cell_of l one.model)) (pos 1500) n.instances
+of_pins n l net k g = along l (λ x one. of_cell n net k g x one.name (cell_of l one.model)) (pos FIRST_CELL_X) n.instances
 
 -- a terminal's wire on metal 3 up to the track of net k, and its vias
 abbrev pub riser : ℕ → Option Name → Point → List Item
 riser k name q =
-    upright_wire (Alu Three) (pos 200) q.0 q.1 (track_y k) name
+    upright_wire (Alu Three) (pos WIRE_WIDTH) q.0 q.1 (track_y k) name
     ∷ contact_at Via1 q.0 q.1 name ∷ contact_at Via2 q.0 q.1 name ∷ contact_at Via2 q.0 (track_y k) name ∷ []
 
 -- a port stands at the left end of its track
 abbrev pub port_xs : Option Name → List ℤ
 port_xs None = []
-port_xs (Some name) = pos 1500 ∷ []
+port_xs (Some name) = pos FIRST_CELL_X ∷ []
 
 -- the track of a net from its least to its greatest x; none for a port alone
 abbrev pub track_over : ℕ → Option Name → List ℤ → List ℤ → List Item
 track_over k name ports [] = []
 track_over k name ports (x ∷ xs) =
-    level_wire (Alu Two) (pos 200) (least x (xs ++ ports)) (greatest x (xs ++ ports)) (track_y k) name ∷ []
+    level_wire (Alu Two) (pos WIRE_WIDTH) (least x (xs ++ ports)) (greatest x (xs ++ ports)) (track_y k) name ∷ []
 
 -- the lines of net k, and those of all nets
 abbrev pub net_wiring : Netlist → Library → Numbering → List Name → ℕ → List Item
@@ -81,7 +82,7 @@ wiring n l net ports = flat_map (net_wiring n l net ports) (count_to (net_count 
 abbrev pub track_items : Netlist → Library → Numbering → List Name → List Item
 track_items n l net ports =
     supply_ports ++ (track_ports 0 ports
-    ++ (map item.Instance (standing l NoSym (pos 0) (pos 1500) n.instances)
+    ++ (map item.Instance (standing l NoSym (pos 0) (pos FIRST_CELL_X) n.instances)
     ++ (supplies l (n.instances ∷ []) ++ wiring n l net ports)))
 
 -- the netlist may be drawn: its instances are usable and clean cells, and its ports the supplies and these

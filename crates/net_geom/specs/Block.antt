@@ -1,12 +1,13 @@
 -- Cells by numbers, and a block of placed instances with its nets.
-use Rattle.std.specs.Prelude.{◌≡◌, ℕ, zero, suc, ◌+◌, ◌-◌, ◌*◌, ◌<◌, ◌≤◌, ℤ, pos, ◌+ℤ◌, ◌-ℤ◌, ◌≤ℤ◌, Bool, true, false, List, ◌++◌, map, Option, Some, None, ◌⊎◌}
+use Rattle.std.specs.Prelude.{◌≡◌, ℕ, zero, suc, ◌+◌, ◌-◌, ◌*◌, ◌<◌, ◌≤◌, ◌/◌, ℤ, pos, ◌+ℤ◌, ◌-ℤ◌, ◌≤ℤ◌, Bool, true, false, List, ◌++◌, map, Option, Some, None, ◌⊎◌}
+use Rattle.sym_geom.specs.declared.grid.TheConstants.{PITCH, ROW_HEIGHT, RAIL_WIDTH, WIRE_OVERHANG, LEAST_GAP, VSS_RAIL_Y, VDD_RAIL_Y, VDD_STRIP_Y, FIRST_CELL_X, RAIL_INSET, CELL_MARGIN}
 use Rattle.net_geom.specs.Rect.{Rect, IsRect, Within}
-use Rattle.net_geom.specs.Figure.{Supply, Vss, Vdd, Name, Power, Bit, Line, Shape, drawn_shapes, placed, square, up_to, In}
+use Rattle.net_geom.specs.Figure.{Supply, Vss, Vdd, Name, Power, Bit, Line, Shape, drawn_shapes, placed, pad, up_to, In}
 use Rattle.net_geom.specs.Joined.{Joined}
 
 -- a cell: its shapes, and for each signal pin the grid point at which it is reached
 pub record Cell : Type 0 where
-  pub width : ℕ  -- in columns of 500
+  pub width : ℕ  -- in columns
   pub shapes : List Shape
   pub pins : ℕ  -- the signal pins, Bit 0 and so on
   pub column : ℕ → ℕ  -- of the access node of a pin
@@ -25,8 +26,8 @@ pub data Net : Type 0 where
 pub record Block : Type 0 where
   pub count : ℕ
   pub cell : ℕ → Cell
-  pub column : ℕ → ℕ  -- of the instance's corner, at x = 500 * column
-  pub row : ℕ → ℕ  -- of the instance, at y = 5000 * row
+  pub column : ℕ → ℕ  -- of the instance's corner, a column of the grid
+  pub row : ℕ → ℕ  -- of the instance: which row of cells
   pub net : ℕ → ℕ → ℕ  -- of pin p of instance i
   pub ports : ℕ
   pub port_net : ℕ → ℕ
@@ -37,15 +38,15 @@ pub record Block : Type 0 where
 
 -- within a cell of w columns, away from its neighbours
 pub record IsInside (w : ℕ) (r : Rect) : Type 0 where
-  pub left : pos 100 ≤ℤ r.x1
-  pub right : (r.x2 +ℤ pos 100) ≤ℤ pos (500 * w)
+  pub left : pos CELL_MARGIN ≤ℤ r.x1
+  pub right : (r.x2 +ℤ pos CELL_MARGIN) ≤ℤ pos (PITCH * w)
   pub low : pos 0 ≤ℤ r.y1
-  pub high : r.y2 ≤ℤ pos 5000
+  pub high : r.y2 ≤ℤ pos ROW_HEIGHT
 
 -- in the strip at the foot or at the top of a cell of w columns
 pub record IsInStrip (w from to : ℕ) (r : Rect) : Type 0 where
-  pub left : (pos 0 -ℤ pos 100) ≤ℤ r.x1
-  pub right : r.x2 ≤ℤ pos (500 * w + 100)
+  pub left : (pos 0 -ℤ pos WIRE_OVERHANG) ≤ℤ r.x1
+  pub right : r.x2 ≤ℤ pos (PITCH * w + WIRE_OVERHANG)
   pub low : pos from ≤ℤ r.y1
   pub high : r.y2 ≤ℤ pos to
 
@@ -61,15 +62,15 @@ pub record Access (c : Cell) (p : ℕ) : Type 0 where
   pub pin : Shape
   pub within : In pin (cell_shapes c)
   pub named : pin.name ≡ Some (Bit p)
-  pub holds : Within (square 100 100 (pos (500 * c.column p)) (pos (500 * c.row p))) pin.rect
+  pub holds : Within (pad (pos (PITCH * c.column p)) (pos (PITCH * c.row p))) pin.rect
 
 -- a connector of the supply over the width of its strip
 pub record HasStrip (c : Cell) (s : Supply) (from to : ℕ) : Type 0 where
   pub pin : Shape
   pub within : In pin (cell_shapes c)
   pub named : pin.name ≡ Some (Power s)
-  pub left : pin.rect.x1 ≤ℤ pos 200
-  pub right : pos (500 * c.width) ≤ℤ (pin.rect.x2 +ℤ pos 200)
+  pub left : pin.rect.x1 ≤ℤ pos RAIL_INSET
+  pub right : pos (PITCH * c.width) ≤ℤ (pin.rect.x2 +ℤ pos RAIL_INSET)
   pub low : pin.rect.y1 ≤ℤ pos from
   pub high : pos to ≤ℤ pin.rect.y2
 
@@ -79,25 +80,29 @@ pub record Passes (c : Cell) : Type 0 where
   pub drawn : (s : Shape) → In s (cell_shapes c) → s.owner ≡ None
   pub metal : (s : Shape) → In s (cell_shapes c) → s.metal ≡ 1
   pub order : (s : Shape) → In s (cell_shapes c) → IsRect s.rect
-  pub vss : HasStrip c Vss 0 600
-  pub vdd : HasStrip c Vdd 4400 5000
+  pub vss : HasStrip c Vss 0 RAIL_WIDTH
+  pub vdd : HasStrip c Vdd VDD_STRIP_Y ROW_HEIGHT
   pub access : (p : ℕ) → p < c.pins → Access c p
   pub names : (s : Shape) (p : ℕ) → In s (cell_shapes c) → s.name ≡ Some (Bit p) → p < c.pins
   pub apart : (s : Shape) (n m : Name) → IsJoinedTo c s n → IsJoinedTo c s m → n ≡ m
   pub inside : (s : Shape) → In s (cell_shapes c)
-      → IsInside c.width s.rect ⊎ IsInStrip c.width 0 600 s.rect ⊎ IsInStrip c.width 4400 5000 s.rect
-  pub off_vss : (s : Shape) → In s (cell_shapes c) → IsJoinedTo c s (Power Vss) ⊎ (pos 800 ≤ℤ s.rect.y1)
-  pub off_vdd : (s : Shape) → In s (cell_shapes c) → IsJoinedTo c s (Power Vdd) ⊎ (s.rect.y2 ≤ℤ pos 4200)
+      → IsInside c.width s.rect ⊎ IsInStrip c.width 0 RAIL_WIDTH s.rect ⊎ IsInStrip c.width VDD_STRIP_Y ROW_HEIGHT s.rect
+  pub off_vss : (s : Shape) → In s (cell_shapes c) → IsJoinedTo c s (Power Vss) ⊎ (pos (RAIL_WIDTH + LEAST_GAP) ≤ℤ s.rect.y1)
+  pub off_vdd : (s : Shape) → In s (cell_shapes c) → IsJoinedTo c s (Power Vdd) ⊎ (s.rect.y2 ≤ℤ pos (VDD_STRIP_Y - LEAST_GAP))
 
 -- with private tracks
 abbrev pub HasOwnColumns : Cell → Type 0
 HasOwnColumns c = (p q : ℕ) → p < c.pins → q < c.pins → c.column p ≡ c.column q → p ≡ q
 
+-- the column of the grid at which rows of cells begin
+abbrev pub first_column : ℕ
+first_column = FIRST_CELL_X / PITCH
+
 -- placed cells that pass
 pub record IsSound (b : Block) : Type 0 where
   pub cells : (i : ℕ) → i < b.count → Passes (b.cell i)
-  pub start : (i : ℕ) → i < b.count → 3 ≤ b.column i
-  pub end : (i : ℕ) → i < b.count → b.column i + (b.cell i).width ≤ 3 + b.columns
+  pub start : (i : ℕ) → i < b.count → first_column ≤ b.column i
+  pub end : (i : ℕ) → i < b.count → b.column i + (b.cell i).width ≤ first_column + b.columns
   pub row : (i : ℕ) → i < b.count → b.row i < b.rows
   pub abut : (i j : ℕ) → i < b.count → j < b.count → b.row i ≡ b.row j
       → (i ≡ j) ⊎ (b.column i + (b.cell i).width ≤ b.column j) ⊎ (b.column j + (b.cell j).width ≤ b.column i)
@@ -111,7 +116,7 @@ pub record Tagged : Type 0 where
 
 -- the coordinate of a column or row
 abbrev pub at_x : ℕ → ℤ
-at_x c = pos (500 * c)
+at_x c = pos (PITCH * c)
 
 -- the supply that isn't this one
 abbrev pub other : Supply → Supply
@@ -133,10 +138,10 @@ flip_of j = is_vdd (supply_at j)
 
 -- the middle of the strip of supply u in row j, whose foot has the supply f
 abbrev pub strip_y : Supply → Supply → ℕ → ℕ
-strip_y Vss Vss j = 5000 * j + 300
-strip_y Vss Vdd j = 5000 * j + 4700
-strip_y Vdd Vss j = 5000 * j + 4700
-strip_y Vdd Vdd j = 5000 * j + 300
+strip_y Vss Vss j = ROW_HEIGHT * j + VSS_RAIL_Y
+strip_y Vss Vdd j = ROW_HEIGHT * j + VDD_RAIL_Y
+strip_y Vdd Vss j = ROW_HEIGHT * j + VDD_RAIL_Y
+strip_y Vdd Vdd j = ROW_HEIGHT * j + VSS_RAIL_Y
 
 -- the middle of the rail of supply u in row j
 abbrev pub rail_y : ℕ → Supply → ℕ
@@ -148,15 +153,15 @@ pin_column b i p = b.column i + (b.cell i).column p
 
 -- a row of a cell, as it lies once the cell is turned
 abbrev pub turned_row : Bool → ℕ → ℕ
-turned_row true r = 10 - r
+turned_row true r = ROW_HEIGHT / PITCH - r
 turned_row false r = r
 
 abbrev pub pin_row : Block → ℕ → ℕ → ℕ
-pin_row b i p = 10 * b.row i + turned_row (flip_of (b.row i)) ((b.cell i).row p)
+pin_row b i p = ROW_HEIGHT / PITCH * b.row i + turned_row (flip_of (b.row i)) ((b.cell i).row p)
 
 -- a shape of the cell of instance i, where it lies in the block
 abbrev pub in_block : Block → ℕ → Shape → Shape
-in_block b i s = placed i (flip_of (b.row i)) (at_x (b.column i)) (pos (5000 * b.row i)) s
+in_block b i s = placed i (flip_of (b.row i)) (at_x (b.column i)) (pos (ROW_HEIGHT * b.row i)) s
 
 -- the shapes of all instances
 abbrev pub instance_shapes : Block → List Shape

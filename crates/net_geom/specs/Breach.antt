@@ -1,5 +1,6 @@
 -- Rectangles that are too near.
 use Rattle.std.specs.Prelude.{◌≡◌, ℕ, pos, ◌+ℤ◌, ◌≤ℤ◌, List, Some, None, ◌⊎◌}
+use Rattle.sym_geom.specs.declared.grid.TheConstants.{LEAST_WIDTH, LEAST_GAP}
 use Rattle.net_geom.specs.Rect.{Meet, Within, Apart}
 use Rattle.net_geom.specs.Figure.{Shape, Name, In}
 use Rattle.net_geom.specs.Joined.{Joined}
@@ -20,17 +21,18 @@ pub data IsExcused (xs : List Shape) (a b : Shape) : Type 0 where
 pub record IsGapBreach (xs : List Shape) (a b : Shape) : Type 0 where
   pub metal : a.metal ≡ b.metal
   pub not_touching : Meet a.rect b.rect → ⊥
-  pub too_near : Apart 200 a.rect b.rect → ⊥
+  pub too_near : Apart LEAST_GAP a.rect b.rect → ⊥
   pub not_excused : IsExcused xs a b → ⊥
 
 -- no two shapes are too near
 abbrev pub HasNoGapBreach : List Shape → Type 0
 HasNoGapBreach xs = (a b : Shape) → In a xs → In b xs → IsGapBreach xs a b → ⊥
 
--- a drawn rectangle narrower than 200
+-- a drawn rectangle narrower than the least width
 pub record IsWidthBreach (s : Shape) : Type 0 where
   pub drawn : s.owner ≡ None
-  pub narrow : ((s.rect.x2 +ℤ pos 1) ≤ℤ (s.rect.x1 +ℤ pos 200)) ⊎ ((s.rect.y2 +ℤ pos 1) ≤ℤ (s.rect.y1 +ℤ pos 200))
+  pub narrow : ((s.rect.x2 +ℤ pos 1) ≤ℤ (s.rect.x1 +ℤ pos LEAST_WIDTH))
+      ⊎ ((s.rect.y2 +ℤ pos 1) ≤ℤ (s.rect.y1 +ℤ pos LEAST_WIDTH))
 
 -- and no drawn one is too narrow
 pub record HasNoBreach (xs : List Shape) : Type 0 where

@@ -1,5 +1,6 @@
 -- The lines of a figure, and the shapes that they give.
 use Rattle.std.specs.Prelude.{◌≡◌, ℕ, zero, suc, ◌+◌, ◌-◌, ◌/◌, ℤ, pos, ◌+ℤ◌, ◌-ℤ◌, Bool, true, false, List, [], ◌∷◌, ◌++◌, Option, Some, None, ◌⊎◌}
+use Rattle.sym_geom.specs.declared.grid.TheConstants.{ROW_HEIGHT, PAD_WIDTH, WIRE_OVERHANG}
 use Rattle.net_geom.specs.Rect.{Rect, moved}
 
 -- the two supplies
@@ -28,14 +29,20 @@ pub record Shape : Type 0 where
   pub line : ℕ
   pub name : Option Name
 
--- the line from (x1, y1) to (x2, y2), widened by a and b across and lengthened by 100 at both ends
+-- the line from (x1, y1) to (x2, y2), widened by a and b across and longer by an overhang at both ends
 abbrev pub line_rect : Bool → ℕ → ℕ → ℤ → ℤ → ℤ → ℤ → Rect
-line_rect true a b x1 y1 x2 y2 = record { x1 = x1 -ℤ pos a; y1 = y1 -ℤ pos 100; x2 = x2 +ℤ pos b; y2 = y2 +ℤ pos 100 }
-line_rect false a b x1 y1 x2 y2 = record { x1 = x1 -ℤ pos 100; y1 = y1 -ℤ pos a; x2 = x2 +ℤ pos 100; y2 = y2 +ℤ pos b }
+line_rect true a b x1 y1 x2 y2 =
+    record { x1 = x1 -ℤ pos a; y1 = y1 -ℤ pos WIRE_OVERHANG; x2 = x2 +ℤ pos b; y2 = y2 +ℤ pos WIRE_OVERHANG }
+line_rect false a b x1 y1 x2 y2 =
+    record { x1 = x1 -ℤ pos WIRE_OVERHANG; y1 = y1 -ℤ pos a; x2 = x2 +ℤ pos WIRE_OVERHANG; y2 = y2 +ℤ pos b }
 
 -- the square about a point
 abbrev pub square : ℕ → ℕ → ℤ → ℤ → Rect
 square a b x y = record { x1 = x -ℤ pos a; y1 = y -ℤ pos a; x2 = x +ℤ pos b; y2 = y +ℤ pos b }
+
+-- the pad of a via
+abbrev pub pad : ℤ → ℤ → Rect
+pad x y = square (PAD_WIDTH / 2) (PAD_WIDTH / 2) x y
 
 -- the shapes of line k
 abbrev pub line_shapes : ℕ → Line → List Shape
@@ -50,8 +57,8 @@ line_shapes k (Segment metal width upright x1 y1 x2 y2 name) =
 line_shapes k (Connector metal width x y name) =
     record { metal = metal; rect = square (width / 2) (width - width / 2) x y; owner = None; line = k; name = Some name } ∷ []
 line_shapes k (Via lower x y) =
-    record { metal = lower; rect = square 100 100 x y; owner = None; line = k; name = None }
-    ∷ (record { metal = lower + 1; rect = square 100 100 x y; owner = None; line = k; name = None } ∷ [])
+    record { metal = lower; rect = pad x y; owner = None; line = k; name = None }
+    ∷ (record { metal = lower + 1; rect = pad x y; owner = None; line = k; name = None } ∷ [])
 line_shapes k Blank = []
 
 -- the shapes of lines, the first of which is line k
@@ -59,9 +66,9 @@ abbrev pub drawn_shapes : ℕ → List Line → List Shape
 drawn_shapes k [] = []
 drawn_shapes k (l ∷ ls) = line_shapes k l ++ drawn_shapes (suc k) ls
 
--- upside down within a height of 5000, or as it is
+-- upside down within the height of a row, or as it is
 abbrev pub turned : Bool → Rect → Rect
-turned true r = record { x1 = r.x1; y1 = pos 5000 -ℤ r.y2; x2 = r.x2; y2 = pos 5000 -ℤ r.y1 }
+turned true r = record { x1 = r.x1; y1 = pos ROW_HEIGHT -ℤ r.y2; x2 = r.x2; y2 = pos ROW_HEIGHT -ℤ r.y1 }
 turned false r = r
 
 -- the shape s of a cell, in the instance i of it whose lower left corner lies at (x, y)

@@ -1,18 +1,21 @@
 -- The drawing of a block of one row, with a private track for each net.
-use Rattle.std.specs.Prelude.{◌≡◌, ℕ, ◌+◌, ◌*◌, ◌<◌, ◌≤◌, pos, true, false, nat_eq, if◌then◌else◌, List, [], ◌∷◌, ◌++◌, None}
+use Rattle.std.specs.Prelude.{◌≡◌, ℕ, ◌+◌, ◌*◌, ◌/◌, ◌<◌, ◌≤◌, pos, true, false, nat_eq, if◌then◌else◌, List, [], ◌∷◌, ◌++◌, None}
+use Rattle.sym_geom.specs.declared.grid.TheConstants.{PITCH, WIRE_WIDTH, RAIL_WIDTH, VSS_RAIL_Y, VDD_RAIL_Y, VSS_STRAP_X, VDD_STRAP_X, FIRST_CELL_X, FIRST_TRACK_Y}
 use Rattle.net_geom.specs.Figure.{Supply, Vss, Vdd, Power, Bit, Segment, Connector, Via, Blank, up_to}
-use Rattle.net_geom.specs.Block.{PowerNet, Signal, Block, HasOwnColumns, Tagged, at_x, pin_column, pin_row}
+use Rattle.net_geom.specs.Block.{PowerNet, Signal, Block, HasOwnColumns, Tagged, at_x, first_column, pin_column, pin_row}
 
 -- the row of net n's track
 abbrev pub track : ℕ → ℕ
-track n = 11 + n
+track n = FIRST_TRACK_Y / PITCH + n
 
 -- the lines of pin p of instance i, on net n
 abbrev pub pin_lines : Block → ℕ → ℕ → ℕ → List Tagged
 pin_lines b n i p =
     record {
       net = Signal n;
-      line = Segment 3 200 true (at_x (pin_column b i p)) (at_x (pin_row b i p)) (at_x (pin_column b i p)) (at_x (track n)) None;
+      line =
+          Segment 3 WIRE_WIDTH true (at_x (pin_column b i p)) (at_x (pin_row b i p)) (at_x (pin_column b i p))
+          (at_x (track n)) None;
     }
     ∷ (record { net = Signal n; line = Via 1 (at_x (pin_column b i p)) (at_x (pin_row b i p)) }
     ∷ (record { net = Signal n; line = Via 2 (at_x (pin_column b i p)) (at_x (pin_row b i p)) }
@@ -25,11 +28,15 @@ terminal_lines b n = up_to b.count (λ i. up_to (b.cell i).pins (λ p. if nat_eq
 -- a track from the least to the greatest of its points' columns
 abbrev pub track_line : ℕ → ℕ → ℕ → Tagged
 track_line n lo hi =
-    record { net = Signal n; line = Segment 2 200 false (at_x lo) (at_x (track n)) (at_x hi) (at_x (track n)) None }
+    record { net = Signal n; line = Segment 2 WIRE_WIDTH false (at_x lo) (at_x (track n)) (at_x hi) (at_x (track n)) None }
 
 -- a port stands on its net's track, in the first column
 abbrev pub port_line : Block → ℕ → Tagged
-port_line b k = record { net = Signal (b.port_net k); line = Connector 2 200 (at_x 3) (at_x (track (b.port_net k))) (Bit k) }
+port_line b k =
+    record {
+      net = Signal (b.port_net k);
+      line = Connector 2 WIRE_WIDTH (at_x first_column) (at_x (track (b.port_net k))) (Bit k);
+    }
 
 abbrev pub port_lines : Block → List Tagged
 port_lines b = up_to b.ports (λ k. port_line b k ∷ [])
@@ -46,28 +53,30 @@ net_lines b lo hi = up_to b.nets (λ n. drawn_track b lo hi n ++ terminal_lines 
 
 -- the middle of a supply's rail, and the column of its strap
 abbrev pub centre : Supply → ℕ
-centre Vss = 300
-centre Vdd = 4700
+centre Vss = VSS_RAIL_Y
+centre Vdd = VDD_RAIL_Y
 
 abbrev pub strap_column : Supply → ℕ
-strap_column Vss = 1
-strap_column Vdd = 2
+strap_column Vss = VSS_STRAP_X / PITCH
+strap_column Vdd = VDD_STRAP_X / PITCH
 
 -- a supply's port, its rail, and its strap with the vias
 abbrev pub supply_port : Supply → Tagged
-supply_port s = record { net = PowerNet s; line = Connector 1 600 (pos 500) (pos (centre s)) (Power s) }
+supply_port s = record { net = PowerNet s; line = Connector 1 RAIL_WIDTH (pos VSS_STRAP_X) (pos (centre s)) (Power s) }
 
 abbrev pub rail_line : Block → Supply → Tagged
 rail_line b s = record {
   net = PowerNet s;
-  line = Segment 1 600 false (pos 500) (pos (centre s)) (pos (1500 + 500 * b.columns)) (pos (centre s)) None;
+  line =
+      Segment 1 RAIL_WIDTH false (pos VSS_STRAP_X) (pos (centre s)) (pos (FIRST_CELL_X + PITCH * b.columns))
+      (pos (centre s)) None;
 }
 
 abbrev pub strap_lines : Supply → List Tagged
 strap_lines s =
     record {
       net = PowerNet s;
-      line = Segment 3 200 true (at_x (strap_column s)) (pos (centre s)) (at_x (strap_column s)) (pos (centre s)) None;
+      line = Segment 3 WIRE_WIDTH true (at_x (strap_column s)) (pos (centre s)) (at_x (strap_column s)) (pos (centre s)) None;
     }
     ∷ (record { net = PowerNet s; line = Via 1 (at_x (strap_column s)) (pos (centre s)) }
     ∷ (record { net = PowerNet s; line = Via 2 (at_x (strap_column s)) (pos (centre s)) } ∷ []))
@@ -92,9 +101,9 @@ pub record HasTracks (b : Block) (lo hi : ℕ → ℕ) : Type 0 where
   pub nets : (i p : ℕ) → i < b.count → p < (b.cell i).pins → b.net i p < b.nets
   pub port_nets : (k : ℕ) → k < b.ports → b.port_net k < b.nets
   pub order : (n : ℕ) → n < b.nets → b.many n ≡ true → lo n ≤ hi n
-  pub start : (n : ℕ) → n < b.nets → b.many n ≡ true → 3 ≤ lo n
+  pub start : (n : ℕ) → n < b.nets → b.many n ≡ true → first_column ≤ lo n
   pub reached : (i p : ℕ) → i < b.count → p < (b.cell i).pins → b.many (b.net i p) ≡ true
   pub pins : (i p : ℕ) → i < b.count → p < (b.cell i).pins
       → (lo (b.net i p) ≤ pin_column b i p) × (pin_column b i p ≤ hi (b.net i p))
-  pub ports : (k : ℕ) → k < b.ports → b.many (b.port_net k) ≡ true → lo (b.port_net k) ≡ 3
+  pub ports : (k : ℕ) → k < b.ports → b.many (b.port_net k) ≡ true → lo (b.port_net k) ≡ first_column
   pub alone : (k q : ℕ) → k < b.ports → q < b.ports → b.many (b.port_net k) ≡ false → b.port_net k ≡ b.port_net q → k ≡ q

@@ -1,5 +1,6 @@
 -- The symbolic rules: which drawn shapes are too narrow, and which pairs of shapes are too near.
 use Rattle.std.specs.Prelude.{◌≡◌, ◌⊎◌, ℕ, pos, ◌+ℤ◌, ◌<ℤ◌, List, ◌++◌, map, None, Some}
+use Rattle.sym_geom.specs.declared.grid.TheConstants.{LEAST_WIDTH, LEAST_GAP}
 use Rattle.vlsi_base.specs.declared.name.Name.{Name}
 use Rattle.sym_geom.specs.Rect.{Meet, Within, Near}
 use Rattle.sym_geom.specs.declared.rect.Rect.{Rect}
@@ -15,10 +16,10 @@ pub data Breach : Type 0 where
   width : ℕ → Rect → Breach
   gap : ℕ → Rect → Rect → Breach
 
--- a drawn rectangle narrower than 200 in x or y
+-- a drawn rectangle narrower than the least width in x or y
 pub record IsNarrow (s : Shape) : Type 0 where
   pub drawn : s.owner ≡ None
-  pub narrow : (s.rect.x2 <ℤ (s.rect.x1 +ℤ pos 200)) ⊎ (s.rect.y2 <ℤ (s.rect.y1 +ℤ pos 200))
+  pub narrow : (s.rect.x2 <ℤ (s.rect.x1 +ℤ pos LEAST_WIDTH)) ⊎ (s.rect.y2 <ℤ (s.rect.y1 +ℤ pos LEAST_WIDTH))
 
 -- the first is drawn and lies within a connector, of its metal, of the second's instance
 pub record IsOverPin (all : List Shape) (a b : Shape) : Type 0 where
@@ -52,11 +53,11 @@ pub data IsExcused (all : List Shape) (a b : Shape) : Type 0 where
   first_bridged : IsBridged all a b → IsExcused all a b
   second_bridged : IsBridged all b a → IsExcused all a b
 
--- two shapes of one metal that don't touch, whose gap is less than 200, and which nothing excuses
+-- two shapes of one metal that don't touch, whose gap is less than the least, and which nothing excuses
 pub record AreTooNear (all : List Shape) (a b : Shape) : Type 0 where
   pub metal : a.metal ≡ b.metal
   pub apart : Meet a.rect b.rect → ⊥
-  pub near : Near 200 a.rect b.rect
+  pub near : Near LEAST_GAP a.rect b.rect
   pub unexcused : IsExcused all a b → ⊥
 
 -- The list of a layout's breaches: widths in the order of shapes, then gaps in the order of the first and then of the

@@ -1,5 +1,6 @@
 -- How long the nets of a placement are: half perimeters of the boxes of their points.
 use Rattle.std.specs.Prelude.{ℕ, ◌+◌, ℤ, pos, negsuc, ◌-ℤ◌, Bool, false, not, ◌||◌, List, [], ◌∷◌, ◌++◌, map, filter, Option, None, Some, nat_eq, if◌then◌else◌, sum}
+use Rattle.sym_geom.specs.declared.grid.TheConstants.{FIRST_CELL_X}
 use Prim.Native.Nat.{suc}
 use Rattle.std.specs.Int.{int_min, int_max}
 use Rattle.std.specs.List.{flat_map, filter_map}
@@ -36,7 +37,8 @@ pin_point l (i ∷ rest) owner pin = if is_same_text i.name owner then instance_
 -- the point of a port, from number k on: at the left end of its track
 abbrev pub port_point : ℕ → List Name → Name → Option Point
 port_point k [] name = None
-port_point k (one ∷ rest) name = if is_same_name one name then Some (pos 1500, track_y k) else port_point (suc k) rest name
+port_point k (one ∷ rest) name =
+    if is_same_name one name then Some (pos FIRST_CELL_X, track_y k) else port_point (suc k) rest name
 
 abbrev pub point_of : Library → Placement → Option (List ℕ) → Name → Option Point
 point_of l p None name = port_point 0 p.ports name

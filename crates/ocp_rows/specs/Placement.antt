@@ -1,5 +1,6 @@
 -- Placed instances, supplies, ports and box of a block whose nets have private tracks.
 use Rattle.std.specs.Prelude.{◌≡◌, ◌≢◌, ◌↔◌, ℕ, ◌+◌, ◌-◌, ◌*◌, ℤ, pos, ◌+ℤ◌, Bool, false, not, List, [], ◌∷◌, ◌++◌, map, Option, None, Some, AllPairs, IsTrue, if◌then◌else◌}
+use Rattle.sym_geom.specs.declared.grid.TheConstants.{PITCH, ROW_HEIGHT, WIRE_WIDTH, RAIL_WIDTH, VSS_RAIL_Y, VDD_RAIL_Y, VSS_STRAP_X, VDD_STRAP_X, FIRST_CELL_X, FIRST_TRACK_Y}
 use Prim.Native.Nat.{suc}
 use Rattle.std.specs.Int.{int_max}
 use Rattle.std.specs.List.{flat_map}
@@ -71,11 +72,11 @@ standing l turn y x (one ∷ rest) =
 abbrev pub turn_of : Bool → Transform
 turn_of flipped = if flipped then SymY else NoSym
 
--- Rows are 5000 high and begin at x 1500. The lowest stands at y 0, and every other row is upside down.
+-- Rows are of one height and begin at the first cell's x. The lowest stands at y 0, and every other row is upside down.
 abbrev pub standing_rows : Library → Bool → ℤ → List (List Member) → List Instance
 standing_rows l flipped y [] = []
 standing_rows l flipped y (row ∷ rows) =
-    standing l (turn_of flipped) y (pos 1500) row ++ standing_rows l (not flipped) (y +ℤ pos 5000) rows
+    standing l (turn_of flipped) y (pos FIRST_CELL_X) row ++ standing_rows l (not flipped) (y +ℤ pos ROW_HEIGHT) rows
 
 abbrev pub row_width : Library → List Member → ℤ
 row_width l [] = pos 0
@@ -88,26 +89,27 @@ rows_width l (row ∷ rows) = int_max (row_width l row) (rows_width l rows)
 
 -- ---- supplies
 
--- the middle of the rail of vss is 300 above the foot of a row, that of vdd 4700; in a row upside down they are exchanged
+-- the middles of the rails of vss and of vdd, above the foot y of a row; in a row upside down they are exchanged
 abbrev pub vss_centre : Bool → ℤ → ℤ
-vss_centre flipped y = if flipped then y +ℤ pos 4700 else y +ℤ pos 300
+vss_centre flipped y = if flipped then y +ℤ pos VDD_RAIL_Y else y +ℤ pos VSS_RAIL_Y
 
 abbrev pub vdd_centre : Bool → ℤ → ℤ
-vdd_centre flipped y = if flipped then y +ℤ pos 300 else y +ℤ pos 4700
+vdd_centre flipped y = if flipped then y +ℤ pos VSS_RAIL_Y else y +ℤ pos VDD_RAIL_Y
 
 -- the middles of the rails of one supply, from the lowest row up
 abbrev pub centres : (Bool → ℤ → ℤ) → Bool → ℤ → List (List Member) → List ℤ
 centres centre flipped y [] = []
-centres centre flipped y (row ∷ rows) = centre flipped y ∷ centres centre (not flipped) (y +ℤ pos 5000) rows
+centres centre flipped y (row ∷ rows) = centre flipped y ∷ centres centre (not flipped) (y +ℤ pos ROW_HEIGHT) rows
 
 abbrev pub rail : ℤ → ℤ → Name → Item
-rail end y name = level_wire (Alu One) (pos 600) (pos 500) end y (Some name)
+rail end y name = level_wire (Alu One) (pos RAIL_WIDTH) (pos VSS_STRAP_X) end y (Some name)
 
 -- the rails row by row, vss first
 abbrev pub rails : ℤ → Bool → ℤ → List (List Member) → List Item
 rails end flipped y [] = []
 rails end flipped y (row ∷ rows) =
-    rail end (vss_centre flipped y) vss ∷ rail end (vdd_centre flipped y) vdd ∷ rails end (not flipped) (y +ℤ pos 5000) rows
+    rail end (vss_centre flipped y) vss ∷ rail end (vdd_centre flipped y) vdd
+    ∷ rails end (not flipped) (y +ℤ pos ROW_HEIGHT) rows
 
 -- the vias that tie a strap to the rails with these middles
 abbrev pub strap_vias : ℤ → Name → List ℤ → List Item
@@ -121,29 +123,33 @@ last_of y (z ∷ zs) = last_of z zs
 -- a strap on metal 3 from the lowest to the highest rail of a supply, perhaps of length 0, with its vias
 abbrev pub strap : ℤ → Name → List ℤ → List Item
 strap x name [] = []
-strap x name (y ∷ ys) = upright_wire (Alu Three) (pos 200) x y (last_of y ys) (Some name) ∷ strap_vias x name (y ∷ ys)
+strap x name (y ∷ ys) = upright_wire (Alu Three) (pos WIRE_WIDTH) x y (last_of y ys) (Some name) ∷ strap_vias x name (y ∷ ys)
 
 -- rails, the strap of vss and that of vdd
 abbrev pub supplies : Library → List (List Member) → List Item
 supplies l rows =
-    rails (pos 1500 +ℤ rows_width l rows) false (pos 0) rows
-    ++ (strap (pos 500) vss (centres vss_centre false (pos 0) rows) ++ strap (pos 1000) vdd (centres vdd_centre false (pos 0) rows))
+    rails (pos FIRST_CELL_X +ℤ rows_width l rows) false (pos 0) rows
+    ++ (strap (pos VSS_STRAP_X) vss (centres vss_centre false (pos 0) rows)
+    ++ strap (pos VDD_STRAP_X) vdd (centres vdd_centre false (pos 0) rows))
 
 abbrev pub supply_ports : List Item
 supply_ports =
-    west_port (Alu One) (pos 600) (pos 500) (pos 300) vss ∷ west_port (Alu One) (pos 600) (pos 500) (pos 4700) vdd ∷ []
+    west_port (Alu One) (pos RAIL_WIDTH) (pos VSS_STRAP_X) (pos VSS_RAIL_Y) vss
+    ∷ west_port (Alu One) (pos RAIL_WIDTH) (pos VSS_STRAP_X) (pos VDD_RAIL_Y) vdd
+    ∷ []
 
 -- ---- tracks
 
 -- the y of the track of net k
 abbrev pub track_y : ℕ → ℤ
-track_y k = pos (5500 + 500 * k)
+track_y k = pos (FIRST_TRACK_Y + PITCH * k)
 
 -- Each port bit stands at the left end of its net's track. Nets are numbered by their ports in the order of names first, so
 -- port k has net k.
 abbrev pub track_ports : ℕ → List Name → List Item
 track_ports k [] = []
-track_ports k (name ∷ rest) = west_port (Alu Two) (pos 200) (pos 1500) (track_y k) name ∷ track_ports (suc k) rest
+track_ports k (name ∷ rest) =
+    west_port (Alu Two) (pos WIRE_WIDTH) (pos FIRST_CELL_X) (track_y k) name ∷ track_ports (suc k) rest
 
 -- the nets are the classes without those of vdd and vss
 abbrev pub net_count : Netlist → ℕ
@@ -170,4 +176,5 @@ pub record IsPlaced (bounds : Rect) (items : List Item) (n : Netlist) (l : Libra
   pub wiring : List Item
   pub wires : (one : Item) → In one wiring → IsWiring one
   pub lines : items ≡ supply_ports ++ (track_ports 0 p.ports ++ (map item.Instance instances ++ (supplies l p.rows ++ wiring)))
-  pub box : bounds ≡ record { x1 = pos 0; y1 = pos 0; x2 = pos 2000 +ℤ rows_width l p.rows; y2 = track_y (net_count n) }
+  pub box : bounds
+      ≡ record { x1 = pos 0; y1 = pos 0; x2 = pos (FIRST_CELL_X + PITCH) +ℤ rows_width l p.rows; y2 = track_y (net_count n) }

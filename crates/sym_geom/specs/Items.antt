@@ -2,6 +2,7 @@
 use Rattle.std.specs.Prelude.{ℕ, ◌+◌, ℤ, pos, ◌+ℤ◌, ◌-ℤ◌, ◌≤ℤ◌, List, [], ◌∷◌, Option, None, Some, int_div}
 use Rattle.std.specs.Int.{int_min, int_max}
 use Rattle.sym_geom.specs.Rect.{IsCoordinate, square}
+use Rattle.sym_geom.specs.declared.grid.TheConstants.{WIRE_OVERHANG, PAD_WIDTH}
 use Rattle.sym_geom.specs.declared.rect.Rect.{Rect}
 use Rattle.sym_geom.specs.declared.item.Direction.{Direction}
 use Rattle.sym_geom.specs.declared.item.Direction.TheVariants.{Up, Down, Left, Right}
@@ -27,21 +28,21 @@ low_half w = int_div w (pos 2)
 abbrev pub high_half : ℤ → ℤ
 high_half w = w -ℤ int_div w (pos 2)
 
--- The rectangle of a segment between its ends, whatever their order: widened across by its width, and 100 longer at
--- both ends.
+-- The rectangle of a segment between its ends, whatever their order: widened across by its width, and longer by
+-- an overhang at both ends.
 abbrev pub upright_rect : Segment → Rect
 upright_rect s = record {
   x1 = int_min s.x1 s.x2 -ℤ low_half s.width;
-  y1 = int_min s.y1 s.y2 -ℤ pos 100;
+  y1 = int_min s.y1 s.y2 -ℤ pos WIRE_OVERHANG;
   x2 = int_max s.x1 s.x2 +ℤ high_half s.width;
-  y2 = int_max s.y1 s.y2 +ℤ pos 100;
+  y2 = int_max s.y1 s.y2 +ℤ pos WIRE_OVERHANG;
 }
 
 abbrev pub level_rect : Segment → Rect
 level_rect s = record {
-  x1 = int_min s.x1 s.x2 -ℤ pos 100;
+  x1 = int_min s.x1 s.x2 -ℤ pos WIRE_OVERHANG;
   y1 = int_min s.y1 s.y2 -ℤ low_half s.width;
-  x2 = int_max s.x1 s.x2 +ℤ pos 100;
+  x2 = int_max s.x1 s.x2 +ℤ pos WIRE_OVERHANG;
   y2 = int_max s.y1 s.y2 +ℤ high_half s.width;
 }
 
@@ -63,10 +64,10 @@ lower_metal Via4 = Some 4
 lower_metal Via5 = Some 5
 lower_metal (Other word) = None
 
--- two squares of 200 on neighbouring metals
+-- two squares on neighbouring metals
 abbrev pub pads_on : Option ℕ → Rect → Option (List (ℕ × Rect))
 pads_on None pad = None
 pads_on (Some k) pad = Some ((k, pad) ∷ (k + 1, pad) ∷ [])
 
 abbrev pub via_pads : Via → Option (List (ℕ × Rect))
-via_pads v = pads_on (lower_metal v.contact) (square v.x v.y (pos 200))
+via_pads v = pads_on (lower_metal v.contact) (square v.x v.y (pos PAD_WIDTH))

@@ -1,7 +1,7 @@
 ghost use Rattle.std.specs.Prelude.{◌↔◌, IsTrue};
 ghost use Rattle.sym_geom.specs.Rect.{Meet};
 
-/// A closed rectangle by its edges, at scale 100 (500 is one column): `x1 <= x2` and `y1 <= y2`.
+/// A closed rectangle by its edges, at scale 100: `x1 <= x2` and `y1 <= y2`.
 #[derive(Clone, Copy, PartialEq, Eq)]
 pub struct Rect {
     pub x1: i64,

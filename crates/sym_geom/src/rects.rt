@@ -4,7 +4,7 @@ ghost use Rattle.std.specs.Int.{int_min, int_max};
 ghost use Rattle.sym_geom.specs.Rect.{IsCoordinate, square};
 ghost use Rattle.sym_geom.specs.Items.{IsReadySegment, low_half as low_half_of, segment_rect as rect_of_segment, via_pads as pads_of_via};
 
-use crate::{Connector, Contact, Direction, Rect, Segment, Via};
+use crate::{Connector, Contact, Direction, PAD_WIDTH, Rect, Segment, Via, WIRE_OVERHANG};
 
 /// Half of a width, rounded down.
 fn low_half(width: &i64) -> i64
@@ -34,17 +34,18 @@ fn spread(a: &i64, b: &i64, below: &i64, above: &i64) -> (i64, i64)
 }
 
 /// The rectangle of a segment: its line, widened across by half of its width, rounded down on the low side and up on
-/// the high side, and 100 longer at both ends. Takes no memory.
+/// the high side, and longer by `WIRE_OVERHANG` at both ends. Takes no memory.
 pub fn segment_rect(s: &Segment) -> Rect
     requires { IsReadySegment s.now }
     ensures { result ≡ rect_of_segment s.now }
 {
     let low = low_half(&s.width);
     let high = s.width - low;
+    let overhang = i64::from(WIRE_OVERHANG);
     match s.direction {
         Direction::Up | Direction::Down => {
             let across = spread(&s.x1, &s.x2, &low, &high);
-            let along = spread(&s.y1, &s.y2, &100, &100);
+            let along = spread(&s.y1, &s.y2, &overhang, &overhang);
             Rect {
                 x1: across.0,
                 y1: along.0,
@@ -53,7 +54,7 @@ pub fn segment_rect(s: &Segment) -> Rect
             }
         }
         Direction::Left | Direction::Right => {
-            let across = spread(&s.x1, &s.x2, &100, &100);
+            let across = spread(&s.x1, &s.x2, &overhang, &overhang);
             let along = spread(&s.y1, &s.y2, &low, &high);
             Rect {
                 x1: across.0,
@@ -96,14 +97,14 @@ pub fn connector_rect(c: &Connector) -> Rect
     square_about(&c.x, &c.y, &c.width)
 }
 
-/// The two pads of a via, the lower first, each with its metal: squares of 200. None exactly for a contact that isn't
+/// The two pads of a via, the lower first, each with its metal: squares of `PAD_WIDTH`. None exactly for a contact that isn't
 /// CONT_VIA to CONT_VIA5. Takes no memory.
 pub fn via_pads(v: &Via) -> Option<[(u8, Rect); 2]>
     requires x_fits { IsCoordinate v.now.x }
     requires y_fits { IsCoordinate v.now.y }
     ensures { result ≡ pads_of_via v.now }
 {
-    let pad = square_about(&v.x, &v.y, &200);
+    let pad = square_about(&v.x, &v.y, &i64::from(PAD_WIDTH));
     match v.contact {
         Contact::Via1 => Some([(1, pad), (2, pad)]),
         Contact::Via2 => Some([(2, pad), (3, pad)]),
