@@ -4,7 +4,7 @@ use Rattle.std.specs.List.{list_all}
 use Rattle.std.specs.Cmp.Lexicographic.{pointwise}
 use Rattle.ap_io.specs.Spelling.{together, line_end}
 use Rattle.vhdl_token.specs.Keyword.{keyword_of}
-use Rattle.tool_drive.specs.declared.tool.TheConstants.{MOST_BYTES}
+use Rattle.vlsi_base.specs.declared.limits.TheConstants.{MOST_SOURCE_BYTES}
 use Rattle.flow_run.specs.declared.forms.First.{First}
 use Rattle.flow_run.specs.Drawing.{cell_text}
 
@@ -90,7 +90,7 @@ output_in text = name_at (7 + length (entity_in text) + 10 + length (input_in te
 
 -- a file over the limit of length is of no form
 abbrev pub limited : {X : Type 0} → (List ℕ → Option X) → List ℕ → Option X
-limited form bytes = if nat_le (length bytes) MOST_BYTES then form bytes else None
+limited form bytes = if nat_le (length bytes) MOST_SOURCE_BYTES then form bytes else None
 
 abbrev pub if_first : List ℕ → List ℕ → List ℕ → List ℕ → Option First
 if_first text e i o = if are_proper e i o && is_same text (first_text e i o) then Some (record { entity = e; input = i; output = o }) else None
@@ -108,4 +108,4 @@ cell_of = limited (λ text. if_cell text (name_at 0 text))
 
 -- whether the text is the geometry of the cell, with these pins
 abbrev pub is_cell_layout : List ℕ → List ℕ → List ℕ → List ℕ → Bool
-is_cell_layout cell a z bytes = nat_le (length bytes) MOST_BYTES && is_same bytes (cell_text cell a z)
+is_cell_layout cell a z bytes = nat_le (length bytes) MOST_SOURCE_BYTES && is_same bytes (cell_text cell a z)

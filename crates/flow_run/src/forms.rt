@@ -5,9 +5,8 @@ ghost use Rattle.flow_run.specs.Forms.{is_name_byte as name_byte, is_letter as l
 
 use crate::drawing::cell_text;
 use std::alloc::{AllocError, Global};
-use tool_drive::MOST_BYTES;
 use vhdl_token::Keyword;
-use vlsi_base::{FileBytes, Text};
+use vlsi_base::{FileBytes, MOST_SOURCE_BYTES, Text};
 
 // The most bytes of a name.
 const LONGEST: usize = 64;
@@ -195,7 +194,7 @@ fn output_name(text: &[u8]) -> &[u8]
 pub fn read_first(alloc: Global, text: &[u8]) -> Result<Option<First>, AllocError>
     ensures { IfOk result (λ found. found ≡ first_of text.now) }
 {
-    if text.len() as u64 > MOST_BYTES {
+    if text.len() > MOST_SOURCE_BYTES {
         return Ok(None);
     }
     first_by(
@@ -232,7 +231,7 @@ fn cell_by(alloc: Global, text: &[u8], cell: &[u8]) -> Result<Option<Text>, Allo
 pub fn catal_cell(alloc: Global, text: &[u8]) -> Result<Option<Text>, AllocError>
     ensures { IfOk result (λ found. found ≡ cell_of text.now) }
 {
-    if text.len() as u64 > MOST_BYTES {
+    if text.len() > MOST_SOURCE_BYTES {
         return Ok(None);
     }
     cell_by(alloc, text, name_at(0, text))
@@ -249,5 +248,5 @@ pub fn has_layout(
     ensures { IfOk result (λ found. found ≡ is_cell_layout cell.now a.now z.now text.now) }
 {
     let expected = cell_text(alloc, cell, a, z)?;
-    Ok(text.len() as u64 <= MOST_BYTES && is_same(text, expected.as_bytes()))
+    Ok(text.len() <= MOST_SOURCE_BYTES && is_same(text, expected.as_bytes()))
 }

@@ -21,8 +21,8 @@ use Rattle.grammar_theory.specs.Marks.{fits}
 use Rattle.grammar_theory.specs.Grammar.{nothing, one, ◌or◌, list}
 use Rattle.pat_meaning.specs.declared.patterns.BitRange.{BitRange}
 use Rattle.pat_meaning.specs.declared.patterns.Column.{Column}
-use Rattle.pat_meaning.specs.declared.patterns.Format.{Format}
-use Rattle.pat_meaning.specs.declared.patterns.Format.TheVariants.{Binary, Octal, Hexadecimal}
+use Rattle.vlsi_base.specs.declared.radix.Radix.{Radix}
+use Rattle.vlsi_base.specs.declared.radix.Radix.TheVariants.{Binary, Octal, Hexadecimal}
 use Rattle.pat_text.specs.declared.parsed.ParsedColumn.{ParsedColumn}
 use Rattle.pat_text.specs.Spelled.{text_of, direction_named, format_named}
 use Rattle.pat_text.specs.Patterns.{direction, named_format, one_dir, column_dir, range, column_end, column_behind, column}
@@ -110,7 +110,7 @@ hexadecimal_piece : (rest : List ℕ) → piece_at false (88 ∷ 59 ∷ rest) �
 unfolding piece_at word_at keyword_of
 hexadecimal_piece rest = refl
 
-read_format : (f : Format) (line : ℕ) (rest : List ℕ) → Reads (named_format or nothing Binary) f (at false line (format_text f ++ 59 ∷ rest)) (at false line (59 ∷ rest))
+read_format : (f : Radix) (line : ℕ) (rest : List ℕ) → Reads (named_format or nothing Binary) f (at false line (format_text f ++ 59 ∷ rest)) (at false line (59 ∷ rest))
 unfolding named_format code_of
 read_format Binary line rest = read_right (read_nothing Binary (at false line (59 ∷ rest)))
 read_format Octal line rest =
@@ -156,7 +156,7 @@ read_dir dir.Out line rest =
     let here = takes false false line (111 ∷ 117 ∷ 116 ∷ []) (32 ∷ rest) (token.Keyword word.Out) (omega arith) (out_piece rest) refl in
     read_before (read_right (read_then t dir.Out (read_plain (form.Keyword word.Out) t (at false line (111 ∷ 117 ∷ 116 ∷ 32 ∷ rest)) (at false line (32 ∷ rest)) here refl) (read_nothing dir.Out (at false line (32 ∷ rest))))) (blank false line rest)
 
-name_stops : (r : Option BitRange) (f : Format) (rest : List ℕ) → is_in_word (slice_index (range_text r ++ (format_text f ++ 59 ∷ rest)) 0) ≡ false
+name_stops : (r : Option BitRange) (f : Radix) (rest : List ℕ) → is_in_word (slice_index (range_text r ++ (format_text f ++ 59 ∷ rest)) 0) ≡ false
 name_stops None Binary rest = refl
 name_stops None Octal rest = refl
 name_stops None Hexadecimal rest = refl

@@ -10,7 +10,7 @@ use Rattle.machine_meaning.specs.Named.{is_same_name}
 use Rattle.machine_core.proofs.Names.{same_name-itself}
 use Rattle.machine_core.specs.Order.{In, here, there, AllDifferent}
 use Rattle.pat_meaning.specs.declared.patterns.Column.{Column}
-use Rattle.pat_meaning.specs.declared.patterns.Format.TheVariants.{Binary, Octal}
+use Rattle.vlsi_base.specs.declared.radix.Radix.TheVariants.{Binary, Octal}
 use Rattle.pat_meaning.specs.declared.patterns.Pattern.{Pattern}
 use Rattle.pat_meaning.specs.declared.patterns.Patterns.{Patterns}
 use Rattle.pat_meaning.specs.declared.patterns.TimeUnit.TheVariants.{Nanosecond}

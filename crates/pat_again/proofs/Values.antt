@@ -15,15 +15,16 @@ use Rattle.grammar_theory.specs.Tokens.{code_of}
 use Rattle.grammar_theory.specs.Marks.{fits}
 use Rattle.pat_meaning.specs.declared.patterns.BitRange.{BitRange}
 use Rattle.pat_meaning.specs.declared.patterns.Column.{Column}
-use Rattle.pat_meaning.specs.declared.patterns.Format.{Format}
-use Rattle.pat_meaning.specs.declared.patterns.Format.TheVariants.{Binary, Octal, Hexadecimal}
+use Rattle.vlsi_base.specs.declared.radix.Radix.{Radix}
+use Rattle.vlsi_base.specs.declared.radix.Radix.TheVariants.{Binary, Octal, Hexadecimal}
 use Rattle.pat_meaning.specs.declared.patterns.Value.{Value}
 use Rattle.pat_meaning.specs.declared.patterns.Value.TheVariants.{Digits, Any}
 use Rattle.pat_meaning.specs.Columns.{names_of_range, Fits, FitsColumns}
 use Rattle.pat_text.specs.declared.parsed.ParsedValue.{ParsedValue}
 use Rattle.pat_text.specs.Spelled.{text_of, is_digit}
 use Rattle.pat_text.specs.Patterns.{digits, given, anything, wanted, expected, value_of, values}
-use Rattle.pat_io.specs.Spelling.{bits_of, number_from, digit_of, digits_text, bits_text, mark_text, value_text, values_text}
+use Rattle.vlsi_base.specs.Radix.{digit_width}
+use Rattle.pat_io.specs.Spelling.{number_from, digit_of, digits_text, bits_text, mark_text, value_text, values_text}
 use Rattle.pat_io.specs.ReadAgain.{written_range, written_digits, written_values}
 use Rattle.pat_io.proofs.Ranges.{length_names}
 use Rattle.pat_again.proofs.Places.{at, takes, blank, line_behind}
@@ -35,10 +36,10 @@ use Rattle.pat_again.proofs.Columns.{columns_from}
 -- ---- digits
 
 -- a digit of the format, that the lexer takes for one
-abbrev is_fine : Format → ℕ → Bool
+abbrev is_fine : Radix → ℕ → Bool
 is_fine f c = is_digit f c && is_hexadecimal c
 
-abbrev fine : Format → List Bool → Bool
+abbrev fine : Radix → List Bool → Bool
 fine f bits = is_fine f (digit_of (number_from 0 bits))
 
 abbrev every : (Bool → Bool) → Bool
@@ -48,7 +49,7 @@ each : (f : Bool → Bool) → every f ≡ true → (b : Bool) → f b ≡ true
 each f h true = (and_parts (f true) (f false) h).0
 each f h false = (and_parts (f true) (f false) h).1
 
-fine_digit : (f : Format) (bits : List Bool) → length bits ≤ bits_of f → fine f bits ≡ true
+fine_digit : (f : Radix) (bits : List Bool) → length bits ≤ digit_width f → fine f bits ≡ true
 fine_digit Binary [] h = refl
 fine_digit Binary (a ∷ []) h = each (λ a. fine Binary (a ∷ [])) refl a
 fine_digit Binary (a ∷ b ∷ bs) h = absurd (omega arith)
@@ -73,10 +74,10 @@ fine_digit Hexadecimal (a ∷ b ∷ c ∷ d ∷ e ∷ bs) h = absurd (omega arit
 times_more : (k n : ℕ) → k * suc n ≡ k + k * n
 times_more k n = omega arith
 
-fine_digits : (f : Format) (n : ℕ) (bits : List Bool) → length bits ≤ bits_of f * n → list_all (is_fine f) (digits_text (bits_of f) n bits) ≡ true
+fine_digits : (f : Radix) (n : ℕ) (bits : List Bool) → length bits ≤ digit_width f * n → list_all (is_fine f) (digits_text (digit_width f) n bits) ≡ true
 fine_digits f zero bits most = refl
 fine_digits f (suc n) bits most =
-    let k = bits_of f in
+    let k = digit_width f in
     let m = times_more k n in
     let front = length bits - k * n in
     let in_front : length (take front bits) ≡ front = length-take-le front bits (omega (arith, m)) in
@@ -92,7 +93,7 @@ record Enough (k n count : ℕ) : Type 0 where
   most : n ≤ k * count
   some : 0 < count
 
-enough : (f : Format) (n : ℕ) → 0 < n → Enough (bits_of f) n ((n + (bits_of f - 1)) / bits_of f)
+enough : (f : Radix) (n : ℕ) → 0 < n → Enough (digit_width f) n ((n + (digit_width f - 1)) / digit_width f)
 enough Binary n h = record { most = omega arith; some = omega arith }
 enough Octal n h = record { most = omega arith; some = omega arith }
 enough Hexadecimal n h = record { most = omega arith; some = omega arith }
@@ -105,14 +106,14 @@ second_of_both : (a b : ℕ → Bool) (s : List ℕ) → list_all (λ c. a c && 
 second_of_both a b [] h = refl
 second_of_both a b (c ∷ cs) h = let p = and_parts (a c && b c) (list_all (λ c. a c && b c) cs) h in both (b c) (list_all b cs) (and_parts (a c) (b c) p.0).1 (second_of_both a b cs p.1)
 
-read_digits : (f : Format) (bits : List Bool) (line : ℕ) (rest : List ℕ) → 0 < length bits → is_letter_or_digit (slice_index rest 0) ≡ false
+read_digits : (f : Radix) (bits : List Bool) (line : ℕ) (rest : List ℕ) → 0 < length bits → is_letter_or_digit (slice_index rest 0) ≡ false
     → Reads (digits f) (record { token = token.Digits (bits_text f bits); line = line }) (at true line (bits_text f bits ++ rest)) (at true line rest)
 unfolding digits code_of
 read_digits f bits line rest some stops =
     let s = bits_text f bits in
     let e = enough f (length bits) some in
-    let all = fine_digits f ((length bits + (bits_of f - 1)) / bits_of f) bits e.most in
-    let there = some_digits (bits_of f) ((length bits + (bits_of f - 1)) / bits_of f) bits e.some in
+    let all = fine_digits f ((length bits + (digit_width f - 1)) / digit_width f) bits e.most in
+    let there = some_digits (digit_width f) ((length bits + (digit_width f - 1)) / digit_width f) bits e.some in
     let here = takes true true line s rest (token.Digits s) there (digits_piece s rest there (second_of_both (is_digit f) is_hexadecimal s all) stops) refl in
     read_one form.Digits (λ t. fits (list_all (is_digit f) (text_of t))) (record { token = token.Digits s; line = line }) (at true line (s ++ rest)) (at true line rest) here refl
     (fits_step (list_all (is_digit f) s) (first_of_both (is_digit f) is_hexadecimal s all))
@@ -131,7 +132,7 @@ value_end_piece : (rest : List ℕ) → piece_at true (59 ∷ rest) ≡ piece.To
 unfolding piece_at sign_at
 value_end_piece rest = refl
 
-read_given : (d : Dir) (f : Format) (bits : List Bool) (line : ℕ) (rest : List ℕ) → 0 < length bits → is_letter_or_digit (slice_index rest 0) ≡ false
+read_given : (d : Dir) (f : Radix) (bits : List Bool) (line : ℕ) (rest : List ℕ) → 0 < length bits → is_letter_or_digit (slice_index rest 0) ≡ false
     → Reads (value_of d f) (record { line = line; digits = Some (bits_text f bits) }) (at true line ((mark_text d ++ bits_text f bits) ++ rest)) (at true line rest)
 unfolding value_of given expected wanted
 read_given dir.In f bits line rest some stops =
@@ -142,7 +143,7 @@ read_given dir.Out f bits line rest some stops =
     read_then (record { token = token.Sign sign.Question; line = line }) v (read_sign true true line 63 (bits_text f bits ++ rest) sign.Question (question_piece (bits_text f bits ++ rest)) refl)
     (read_right (read_then (record { token = token.Digits (bits_text f bits); line = line }) v (read_digits f bits line rest some stops) (read_nothing v (at true line rest))))
 
-read_any : (d : Dir) (f : Format) (line : ℕ) (rest : List ℕ) → d ≡ dir.Out → Reads (value_of d f) (record { line = line; digits = None }) (at true line (codes "?*" ++ rest)) (at true line rest)
+read_any : (d : Dir) (f : Radix) (line : ℕ) (rest : List ℕ) → d ≡ dir.Out → Reads (value_of d f) (record { line = line; digits = None }) (at true line (codes "?*" ++ rest)) (at true line rest)
 unfolding value_of expected anything
 read_any dir.In f line rest is = absurd cc
 read_any dir.Out f line rest is =

@@ -4,9 +4,10 @@ use Rattle.std.specs.List.{list_all}
 use Rattle.std.proofs.lemmas.Bool.{eq-eqb}
 use Rattle.std.proofs.lemmas.List.{take-append-drop, length-take-le, length-replicate, length-append}
 use Rattle.std.proofs.Math.Seq.{take-append_seam, drop-append_seam}
-use Rattle.pat_meaning.specs.declared.patterns.Format.{Format}
-use Rattle.pat_meaning.specs.declared.patterns.Format.TheVariants.{Binary, Octal, Hexadecimal}
-use Rattle.pat_io.specs.Spelling.{bits_of, number_from, digit_of, digits_text, bits_text}
+use Rattle.vlsi_base.specs.declared.radix.Radix.{Radix}
+use Rattle.vlsi_base.specs.declared.radix.Radix.TheVariants.{Binary, Octal, Hexadecimal}
+use Rattle.vlsi_base.specs.Radix.{digit_width}
+use Rattle.pat_io.specs.Spelling.{number_from, digit_of, digits_text, bits_text}
 use Rattle.pat_io.specs.Digits.{column_width, number_bits, digit_value, digits_bits, unused}
 use Rattle.pat_io.specs.ReadAgain.{DigitsReadAgain}
 
@@ -14,7 +15,7 @@ use Rattle.pat_io.specs.ReadAgain.{DigitsReadAgain}
 abbrev padded : ℕ → List Bool → List Bool
 padded n bits = replicate n false ++ bits
 
-one_digit : (f : Format) (fs : List Bool) → length fs ≤ bits_of f → number_bits (bits_of f) (digit_value (digit_of (number_from 0 fs))) ≡ padded (bits_of f - length fs) fs
+one_digit : (f : Radix) (fs : List Bool) → length fs ≤ digit_width f → number_bits (digit_width f) (digit_value (digit_of (number_from 0 fs))) ≡ padded (digit_width f - length fs) fs
 one_digit Binary [] h = refl
 one_digit Binary (true ∷ []) h = refl
 one_digit Binary (false ∷ []) h = refl
@@ -69,10 +70,10 @@ one_digit Hexadecimal (false ∷ false ∷ false ∷ false ∷ []) h = refl
 one_digit Hexadecimal (b0 ∷ b1 ∷ b2 ∷ b3 ∷ b4 ∷ bs) h = absurd (omega arith)
 
 -- all digits: the first has the bits in front of those of the others
-abbrev Spelled : Format → ℕ → List Bool → Type 0
-Spelled f n bits = digits_bits f (digits_text (bits_of f) n bits) ≡ padded (bits_of f * n - length bits) bits
+abbrev Spelled : Radix → ℕ → List Bool → Type 0
+Spelled f n bits = digits_bits f (digits_text (digit_width f) n bits) ≡ padded (digit_width f * n - length bits) bits
 
-some_bits : (f : Format) → 0 < bits_of f
+some_bits : (f : Radix) → 0 < digit_width f
 some_bits Binary = omega arith
 some_bits Octal = omega arith
 some_bits Hexadecimal = omega arith
@@ -83,11 +84,11 @@ no_padding n bits e = ap (λ m. padded m bits) e
 times_more : (k n : ℕ) → k * suc n ≡ k + k * n
 times_more k n = omega arith
 
-spelled : (f : Format) (n : ℕ) (bits : List Bool) → length bits ≤ bits_of f * n → bits_of f * n < length bits + bits_of f → Spelled f n bits
-spelled f zero [] most least = sym (no_padding (bits_of f * 0 - 0) [] (omega arith))
+spelled : (f : Radix) (n : ℕ) (bits : List Bool) → length bits ≤ digit_width f * n → digit_width f * n < length bits + digit_width f → Spelled f n bits
+spelled f zero [] most least = sym (no_padding (digit_width f * 0 - 0) [] (omega arith))
 spelled f zero (b ∷ bits) most least = absurd (omega arith)
 spelled f (suc n) bits most least =
-    let k = bits_of f in
+    let k = digit_width f in
     let m = times_more k n in
     let some = some_bits f in
     let front = length bits - k * n in
@@ -114,7 +115,7 @@ record Counted (k n count : ℕ) : Type 0 where
   pub most : n ≤ k * count
   pub least : k * count < n + k
 
-counted : (f : Format) (n : ℕ) → Counted (bits_of f) n ((n + (bits_of f - 1)) / bits_of f)
+counted : (f : Radix) (n : ℕ) → Counted (digit_width f) n ((n + (digit_width f - 1)) / digit_width f)
 counted Binary n = record { most = omega arith; least = omega arith }
 counted Octal n = record { most = omega arith; least = omega arith }
 counted Hexadecimal n = record { most = omega arith; least = omega arith }
@@ -128,7 +129,7 @@ both a b h g = rw (h, g) refl
 
 pub digits_read_again : DigitsReadAgain
 digits_read_again c bits width =
-    let k = bits_of c.format in
+    let k = digit_width c.format in
     let n = (length bits + (k - 1)) / k in
     let digits = bits_text c.format bits in
     let count = counted c.format (length bits) in

@@ -17,15 +17,15 @@ use Rattle.vlsi_base.specs.declared.fault.ReadError.TheVariants as error
 use Rattle.machine_meaning.specs.Named.{is_same_name}
 use Rattle.machine_core.specs.Order.{In, here, there}
 use Rattle.machine_core.proofs.Names.{same_name-true}
-use Rattle.pat_meaning.specs.declared.patterns.Format.{Format}
-use Rattle.pat_meaning.specs.declared.patterns.Format.TheVariants.{Binary, Octal, Hexadecimal}
+use Rattle.vlsi_base.specs.declared.radix.Radix.{Radix}
+use Rattle.vlsi_base.specs.declared.radix.Radix.TheVariants.{Binary, Octal, Hexadecimal}
 use Rattle.pat_meaning.specs.Columns.{column_names, Fits, FitsColumns}
 use Rattle.pat_meaning.specs.Answers.{IsSupplyColumn, IsOfPorts, AreFor}
 use Rattle.pat_text.specs.declared.parsed.ParsedColumn.{ParsedColumn}
 use Rattle.pat_text.specs.declared.parsed.ParsedValue.{ParsedValue}
 use Rattle.pat_text.specs.declared.parsed.ParsedPattern.{ParsedPattern}
 use Rattle.pat_text.specs.declared.parsed.PatternFile.{PatternFile}
-use Rattle.pat_io.specs.Spelling.{bits_of}
+use Rattle.vlsi_base.specs.Radix.{digit_width}
 use Rattle.vlsi_base.specs.Name.{is_supply}
 use Rattle.vlsi_base.specs.Range.{rising, is_ordered, least}
 use Rattle.pat_io.specs.Known.{is_same_dir, is_supply_input, unknown_columns}
@@ -117,7 +117,7 @@ supply_column c scalar h =
       range = rw scalar refl;
     }
 
-fitting_range : (ports : List Port) (name : List ℕ) (line : ℕ) (d : Dir) (f : Format) (range : Option Range)
+fitting_range : (ports : List Port) (name : List ℕ) (line : ℕ) (d : Dir) (f : Radix) (range : Option Range)
     → column_fits ports (record { name = name; line = line; dir = d; range = range; format = f }) ≡ true
     → IsSupplyColumn (column_of (record { name = name; line = line; dir = d; range = range; format = f })) ⊎ IsOfPorts ports (column_of (record { name = name; line = line; dir = d; range = range; format = f }))
 fitting_range ports name line d f None h =
@@ -145,29 +145,29 @@ length_number : (k n : ℕ) → length (number_bits k n) ≡ k
 length_number zero n = refl
 length_number (suc k) n = ap suc (length_number k n)
 
-length_digits : (f : Format) (ds : List ℕ) → length (digits_bits f ds) ≡ bits_of f * length ds
+length_digits : (f : Radix) (ds : List ℕ) → length (digits_bits f ds) ≡ digit_width f * length ds
 length_digits f [] = omega arith
 length_digits f (d ∷ ds) =
-    let a = length-append (number_bits (bits_of f) (digit_value d)) (digits_bits f ds) in
-    let b = length_number (bits_of f) (digit_value d) in
+    let a = length-append (number_bits (digit_width f) (digit_value d)) (digits_bits f ds) in
+    let b = length_number (digit_width f) (digit_value d) in
     let c = length_digits f ds in
-    a ∙ ap (λ n. n + length (digits_bits f ds)) b ∙ ap (λ n. bits_of f + n) c ∙ more (bits_of f) (length ds) where
+    a ∙ ap (λ n. n + length (digits_bits f ds)) b ∙ ap (λ n. digit_width f + n) c ∙ more (digit_width f) (length ds) where
       more : (k n : ℕ) → k + k * n ≡ k * suc n
       more k n = omega arith
 
 -- as many digits as are needed have enough bits
-enough : (f : Format) (width count : ℕ) → count ≡ (width + (bits_of f - 1)) / bits_of f → width ≤ bits_of f * count
+enough : (f : Radix) (width count : ℕ) → count ≡ (width + (digit_width f - 1)) / digit_width f → width ≤ digit_width f * count
 enough Binary width count e = omega (arith, e)
 enough Octal width count e = omega (arith, e)
 enough Hexadecimal width count e = omega (arith, e)
 
 fitting_digits : (c : ParsedColumn) (ds : List ℕ) → value_fits c (Some ds) ≡ true → length (column_bits c ds) ≡ length (column_names (column_of c))
 fitting_digits c ds h =
-    let parts = and_parts (nat_eq (length ds) ((column_width c.range + (bits_of c.format - 1)) / bits_of c.format)) (list_all not (take (unused c ds) (digits_bits c.format ds))) h in
-    let count = eqb-true (length ds) ((column_width c.range + (bits_of c.format - 1)) / bits_of c.format) parts.0 in
+    let parts = and_parts (nat_eq (length ds) ((column_width c.range + (digit_width c.format - 1)) / digit_width c.format)) (list_all not (take (unused c ds) (digits_bits c.format ds))) h in
+    let count = eqb-true (length ds) ((column_width c.range + (digit_width c.format - 1)) / digit_width c.format) parts.0 in
     let more = enough c.format (column_width c.range) (length ds) count in
     let all = length_digits c.format ds in
-    length-drop (unused c ds) (digits_bits c.format ds) ∙ rest (length (digits_bits c.format ds)) (bits_of c.format * length ds) (column_width c.range) all more ∙ sym (length_names c.name c.range) where
+    length-drop (unused c ds) (digits_bits c.format ds) ∙ rest (length (digits_bits c.format ds)) (digit_width c.format * length ds) (column_width c.range) all more ∙ sym (length_names c.name c.range) where
       rest : (n m w : ℕ) → n ≡ m → w ≤ m → n - (n - w) ≡ w
       rest n m w e le = omega arith
 

@@ -7,7 +7,7 @@ use Rattle.vlsi_base.specs.declared.name.Dir.TheVariants as dir
 use Rattle.vhdl_token.specs.declared.token.PlacedToken.{PlacedToken}
 use Rattle.grammar_theory.specs.Marks.{Item}
 use Rattle.grammar_theory.specs.Grammar.{Grammar, list}
-use Rattle.pat_meaning.specs.declared.patterns.Format.{Format}
+use Rattle.vlsi_base.specs.declared.radix.Radix.{Radix}
 use Rattle.pat_text.specs.declared.parsed.ParsedColumn.{ParsedColumn}
 use Rattle.pat_text.specs.declared.parsed.ParsedValue.{ParsedValue}
 use Rattle.pat_text.specs.declared.parsed.ParsedPattern.{ParsedPattern}
@@ -28,7 +28,7 @@ Matches [] (v ∷ vs) = ⊥
 Matches (c ∷ cs) [] = ⊥
 Matches (c ∷ cs) (v ∷ vs) = Given c.dir v.digits × Matches cs vs
 
-given_value : (d : Dir) (f : Format) (items : List Item) (v : ParsedValue) → value_of d f items v → Given d v.digits
+given_value : (d : Dir) (f : Radix) (items : List Item) (v : ParsedValue) → value_of d f items v → Given d v.digits
 unfolding value_of given
 given_value dir.In f items v h = let P : ParsedValue → Type 0 = λ x. Given dir.In x.digits in subst P (sym h.behind.1) tt
 given_value dir.Out f items v h = tt

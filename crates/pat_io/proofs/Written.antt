@@ -15,7 +15,7 @@ use Rattle.machine_core.specs.Order.{In, here, there, AllDifferent}
 use Rattle.machine_core.proofs.Names.{same_name-itself}
 use Rattle.machine_core.proofs.Values.{In-split, In-left, In-right}
 use Rattle.pat_meaning.specs.declared.patterns.BitRange.{BitRange}
-use Rattle.pat_meaning.specs.declared.patterns.Format.{Format}
+use Rattle.vlsi_base.specs.declared.radix.Radix.{Radix}
 use Rattle.pat_meaning.specs.declared.patterns.Column.{Column}
 use Rattle.pat_meaning.specs.declared.patterns.Pattern.{Pattern}
 use Rattle.pat_meaning.specs.declared.patterns.Patterns.{Patterns}
@@ -112,7 +112,7 @@ bit_of_port : (ports : List Port) (name : List ℕ) (d : Dir) (r : Option Range)
     → In (record { text = name; bit = b }) (names_of_range name (bit_range r)) → In (record { name = record { text = name; bit = b }; dir = d }) ports
 bit_of_port ports name d r h b i = all_in (λ n. In (record { name = n; dir = d }) ports) (names_of_range name (bit_range r)) h (record { text = name; bit = b }) i
 
-known_of : (ports : List Port) (name : List ℕ) (line : ℕ) (d : Dir) (f : Format) (r : Option Range)
+known_of : (ports : List Port) (name : List ℕ) (line : ℕ) (d : Dir) (f : Radix) (r : Option Range)
     → Right ports (record { name = name; line = line; dir = d; range = r; format = f }) → is_known ports (record { name = name; line = line; dir = d; range = r; format = f }) ≡ true
 known_of ports name line d f r (inl s) =
     let c : ParsedColumn = record { name = name; line = line; dir = d; range = r; format = f } in
@@ -132,7 +132,7 @@ rising_holds p (suc n) k h = both (p k) (list_all p (rising (k + 1) n)) (h k (om
 not_true : (b : Bool) → b ≡ false → not b ≡ true
 not_true b h = rw h refl
 
-column_fitting : (ports : List Port) → NoSupply ports → (name : List ℕ) (line : ℕ) (d : Dir) (f : Format) (r : Option Range) → InOrder r
+column_fitting : (ports : List Port) → NoSupply ports → (name : List ℕ) (line : ℕ) (d : Dir) (f : Radix) (r : Option Range) → InOrder r
     → Right ports (record { name = name; line = line; dir = d; range = r; format = f }) → column_fits ports (record { name = name; line = line; dir = d; range = r; format = f }) ≡ true
 column_fitting ports free name line d f None ordered (inl s) =
     let c : ParsedColumn = record { name = name; line = line; dir = d; range = None; format = f } in

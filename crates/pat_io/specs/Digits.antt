@@ -3,7 +3,7 @@ use Rattle.std.specs.Prelude.{ℕ, zero, suc, ◌-◌, ◌/◌, ◌%◌, ◌^◌
 use Rattle.vlsi_base.specs.declared.range.Range.{Range}
 use Rattle.pat_meaning.specs.declared.patterns.BitRange.{BitRange}
 use Rattle.pat_meaning.specs.declared.patterns.Column.{Column}
-use Rattle.pat_meaning.specs.declared.patterns.Format.{Format}
+use Rattle.vlsi_base.specs.declared.radix.Radix.{Radix}
 use Rattle.pat_meaning.specs.declared.patterns.Pattern.{Pattern}
 use Rattle.pat_meaning.specs.declared.patterns.Patterns.{Patterns}
 use Rattle.pat_meaning.specs.declared.patterns.Value.{Value}
@@ -12,7 +12,7 @@ use Rattle.pat_text.specs.declared.parsed.ParsedColumn.{ParsedColumn}
 use Rattle.pat_text.specs.declared.parsed.ParsedValue.{ParsedValue}
 use Rattle.pat_text.specs.declared.parsed.ParsedPattern.{ParsedPattern}
 use Rattle.pat_text.specs.declared.parsed.PatternFile.{PatternFile}
-use Rattle.pat_io.specs.Spelling.{bits_of}
+use Rattle.vlsi_base.specs.Radix.{digit_width}
 use Rattle.vlsi_base.specs.Range.{range_span}
 
 -- how many bits a column lists
@@ -29,9 +29,9 @@ number_bits (suc k) n = nat_eq (n / 2 ^ k % 2) 1 ∷ number_bits k n
 abbrev pub digit_value : ℕ → ℕ
 digit_value c = if nat_lt c 58 then c - 48 else c - 87
 
-abbrev pub digits_bits : Format → List ℕ → List Bool
+abbrev pub digits_bits : Radix → List ℕ → List Bool
 digits_bits f [] = []
-digits_bits f (c ∷ cs) = number_bits (bits_of f) (digit_value c) ++ digits_bits f cs
+digits_bits f (c ∷ cs) = number_bits (digit_width f) (digit_value c) ++ digits_bits f cs
 
 -- how many of them are more than the column has: the first ones
 abbrev pub unused : ParsedColumn → List ℕ → ℕ

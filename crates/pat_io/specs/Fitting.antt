@@ -13,7 +13,7 @@ use Rattle.pat_text.specs.declared.parsed.ParsedColumn.{ParsedColumn}
 use Rattle.pat_text.specs.declared.parsed.ParsedValue.{ParsedValue}
 use Rattle.pat_text.specs.declared.parsed.ParsedPattern.{ParsedPattern}
 use Rattle.pat_text.specs.declared.parsed.PatternFile.{PatternFile}
-use Rattle.pat_io.specs.Spelling.{bits_of}
+use Rattle.vlsi_base.specs.Radix.{digit_width}
 use Rattle.vlsi_base.specs.Name.{is_supply}
 use Rattle.vlsi_base.specs.Range.{rising, is_ordered, least}
 use Rattle.pat_io.specs.Known.{is_same_dir, is_supply_input}
@@ -54,7 +54,7 @@ column_faults ports (c ∷ cs) = if_not (column_fits ports c) (column_line c) ++
 abbrev pub value_fits : ParsedColumn → Option (List ℕ) → Bool
 value_fits c None = true
 value_fits c (Some digits) =
-    nat_eq (length digits) ((column_width c.range + (bits_of c.format - 1)) / bits_of c.format)
+    nat_eq (length digits) ((column_width c.range + (digit_width c.format - 1)) / digit_width c.format)
     && list_all not (take (unused c digits) (digits_bits c.format digits))
 
 abbrev pub value_faults : List ParsedColumn → List ParsedValue → List ℕ

@@ -5,8 +5,9 @@ use Rattle.vlsi_base.specs.declared.name.Dir.{Dir}
 use Rattle.vlsi_base.specs.declared.name.Dir.TheVariants.{In, Out}
 use Rattle.pat_meaning.specs.declared.patterns.BitRange.{BitRange}
 use Rattle.pat_meaning.specs.declared.patterns.Column.{Column}
-use Rattle.pat_meaning.specs.declared.patterns.Format.{Format}
-use Rattle.pat_meaning.specs.declared.patterns.Format.TheVariants.{Binary, Octal, Hexadecimal}
+use Rattle.vlsi_base.specs.Radix.{digit_width}
+use Rattle.vlsi_base.specs.declared.radix.Radix.{Radix}
+use Rattle.vlsi_base.specs.declared.radix.Radix.TheVariants.{Binary, Octal, Hexadecimal}
 use Rattle.pat_meaning.specs.declared.patterns.Pattern.{Pattern}
 use Rattle.pat_meaning.specs.declared.patterns.Patterns.{Patterns}
 use Rattle.pat_meaning.specs.declared.patterns.Time.{Time}
@@ -35,7 +36,7 @@ range_text None = []
 range_text (Some r) = together (codes " (" ∷ decimal r.left ∷ word_of r ∷ decimal r.right ∷ codes ")" ∷ [])
 
 -- binary is what stands where no format is written
-abbrev pub format_text : Format → List ℕ
+abbrev pub format_text : Radix → List ℕ
 format_text Binary = []
 format_text Octal = codes " O"
 format_text Hexadecimal = codes " X"
@@ -53,12 +54,6 @@ columns_text (c ∷ cs) = column_text c ++ columns_text cs
 
 -- ---- values
 
--- how many bits a digit has
-abbrev pub bits_of : Format → ℕ
-bits_of Binary = 1
-bits_of Octal = 3
-bits_of Hexadecimal = 4
-
 -- the number that bits spell behind others that spell n
 abbrev pub number_from : ℕ → List Bool → ℕ
 number_from n [] = n
@@ -74,8 +69,8 @@ digits_text k zero bits = []
 digits_text k (suc n) bits = let front = length bits - k * n in digit_of (number_from 0 (take front bits)) ∷ digits_text k n (drop front bits)
 
 -- as many digits as hold the bits
-abbrev pub bits_text : Format → List Bool → List ℕ
-bits_text f bits = digits_text (bits_of f) ((length bits + (bits_of f - 1)) / bits_of f) bits
+abbrev pub bits_text : Radix → List Bool → List ℕ
+bits_text f bits = digits_text (digit_width f) ((length bits + (digit_width f - 1)) / digit_width f) bits
 
 -- what an output's value begins with
 abbrev pub mark_text : Dir → List ℕ

@@ -2,14 +2,13 @@
 ghost use Rattle.std.specs.Prelude.{◌≡◌, ◌++◌, ◌<◌, ◌≤◌, ◌^◌, Some, not, IfOk, OnOk};
 ghost use Rattle.std.specs.Option.{option_copied};
 ghost use Rattle.std.specs.List.{list_all};
-ghost use Rattle.pat_io.specs.Spelling.{bits_of};
+ghost use Rattle.vlsi_base.specs.Radix.{digit_width};
 ghost use Rattle.pat_io.specs.Digits.{column_width, number_bits, digit_value, digits_bits, unused, column_bits};
 ghost use Rattle.pat_io.specs.Fitting.{value_fits};
 
-use pat_meaning::Format;
 use pat_text::ParsedColumn;
 use std::alloc::{AllocError, Global};
-use vlsi_base::{Range, Text};
+use vlsi_base::{Radix, Range, Text};
 
 /// How many bits a column lists.
 pub fn column_width(range: Option<Range>) -> usize
@@ -29,19 +28,6 @@ fn digit_value(digit: u8) -> u8
         digit.saturating_sub(b'0')
     } else {
         digit.saturating_sub(b'W')
-    }
-}
-
-/// How many bits a digit has.
-pub fn digit_width(format: Format) -> usize
-    ensures count { result ≡ bits_of format }
-    ensures some { 0 < result }
-    ensures few { result ≤ 4 }
-{
-    match format {
-        Format::Binary => 1,
-        Format::Octal => 3,
-        Format::Hexadecimal => 4,
     }
 }
 
@@ -67,18 +53,18 @@ fn push_hexadecimal(bits: &mut Vec<bool>, value: u8) -> Result<(), AllocError>
     push_octal(bits, value)
 }
 
-fn push_digit(bits: &mut Vec<bool>, format: Format, digit: u8) -> Result<(), AllocError>
-    ensures { OnOk result (bits.new.items ≡ bits.old.items ++ number_bits (bits_of format) (digit_value digit)) }
+fn push_digit(bits: &mut Vec<bool>, format: Radix, digit: u8) -> Result<(), AllocError>
+    ensures { OnOk result (bits.new.items ≡ bits.old.items ++ number_bits (digit_width format) (digit_value digit)) }
 {
     let value = digit_value(digit);
     match format {
-        Format::Binary => push_binary(bits, value),
-        Format::Octal => push_octal(bits, value),
-        Format::Hexadecimal => push_hexadecimal(bits, value),
+        Radix::Binary => push_binary(bits, value),
+        Radix::Octal => push_octal(bits, value),
+        Radix::Hexadecimal => push_hexadecimal(bits, value),
     }
 }
 
-fn digits_bits(alloc: Global, format: Format, digits: &[u8]) -> Result<Vec<bool>, AllocError>
+fn digits_bits(alloc: Global, format: Radix, digits: &[u8]) -> Result<Vec<bool>, AllocError>
     ensures { IfOk result (λ bits. bits.items ≡ digits_bits format digits.now) }
 {
     let mut bits = Vec::new(alloc);
@@ -99,7 +85,7 @@ fn digits_fit(alloc: Global, column: &ParsedColumn, digits: &Text) -> Result<boo
 {
     let width = column_width(column.range);
     let digits = digits.as_bytes();
-    if digits.len() != width.div_ceil(digit_width(column.format)) {
+    if digits.len() != width.div_ceil(column.format.digit_width()) {
         return Ok(false);
     }
     let bits = digits_bits(alloc, column.format, digits)?;

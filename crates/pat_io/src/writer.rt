@@ -3,10 +3,9 @@ ghost use Rattle.std.specs.Prelude.{◌≡◌, ◌≤◌, ◌<◌, ◌+◌, ◌*
 ghost use Rattle.std.specs.Fmt.{decimal};
 ghost use Rattle.pat_io.specs.Spelling.{item_end as end_of_item, word_of, range_text, format_text, dir_text, column_text, columns_text, number_from, digit_of, digits_text, bits_text, mark_text, value_text, values_text, unit_text, sign_text, time_text, label_text, pattern_text, patterns_text, text_of};
 
-use crate::bits::digit_width;
-use pat_meaning::{BitRange, Column, Format, Pattern, Patterns, Time, TimeUnit, Value};
+use pat_meaning::{BitRange, Column, Pattern, Patterns, Time, TimeUnit, Value};
 use std::alloc::{AllocError, Global};
-use vlsi_base::{Dir, FileBytes, Text};
+use vlsi_base::{Dir, FileBytes, Radix, Text};
 
 /// A number.
 fn number(alloc: Global, out: &mut FileBytes, n: u32) -> Result<(), AllocError>
@@ -51,13 +50,13 @@ fn range(alloc: Global, out: &mut FileBytes, bits: Option<BitRange>) -> Result<(
     }
 }
 
-fn format(out: &mut FileBytes, format: Format) -> Result<(), AllocError>
+fn format(out: &mut FileBytes, format: Radix) -> Result<(), AllocError>
     ensures { OnOk result (out.new ≡ out.old ++ format_text format) }
 {
     match format {
-        Format::Binary => Ok(()),
-        Format::Octal => out.append(b" O"),
-        Format::Hexadecimal => out.append(b" X"),
+        Radix::Binary => Ok(()),
+        Radix::Octal => out.append(b" O"),
+        Radix::Hexadecimal => out.append(b" X"),
     }
 }
 
@@ -113,10 +112,10 @@ fn digit(bits: &[bool]) -> u8
 }
 
 /// So many digits, of the format.
-fn digits(out: &mut FileBytes, format: Format, bits: &[bool]) -> Result<(), AllocError>
+fn digits(out: &mut FileBytes, format: Radix, bits: &[bool]) -> Result<(), AllocError>
     ensures { OnOk result (out.new ≡ out.old ++ bits_text format bits.now) }
 {
-    let each = digit_width(format);
+    let each = format.digit_width();
     let count = bits.len().div_ceil(each);
     let mut rest = bits;
     for step in 0..count {

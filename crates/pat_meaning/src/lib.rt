@@ -4,6 +4,5 @@
 mod patterns;
 
 pub use patterns::{
-    BitRange, Column, Columns, Format, Pattern, PatternList, Patterns, Time, TimeUnit, Value,
-    Values,
+    BitRange, Column, Columns, Pattern, PatternList, Patterns, Time, TimeUnit, Value, Values,
 };

@@ -4,34 +4,26 @@ ghost use Rattle.std.specs.Prelude.{◌≡◌, ◌++◌, ◌∷◌, [], OnOk, On
 use bool_expr::Bits;
 use std::alloc::AllocError;
 use std::marker::Model;
-use vlsi_base::{Dir, Text};
-
-/// How the digits of a column spell bits: 1, 3 or 4 bits a digit.
-#[derive(Clone, Copy, Debug, PartialEq, Eq)]
-pub enum Format {
-    Binary,
-    Octal,
-    Hexadecimal,
-}
+use vlsi_base::{Dir, Radix, Text};
 
 /// The bits of a vector that a column lists, from the leftmost to the rightmost.
-#[derive(Clone, Copy, Debug, PartialEq, Eq)]
+#[derive(Clone, Copy, PartialEq, Eq)]
 pub struct BitRange {
     pub left: u32,
     pub right: u32,
 }
 
-/// A port or bits of one, as a pattern file lists them; a scalar has no range.
-#[derive(Debug, Drop)]
+/// A port or bits of one, as a pattern file lists them, and what its digits spell; a scalar has no range.
+#[derive(Drop)]
 pub struct Column {
     pub name: Text,
     pub dir: Dir,
     pub range: Option<BitRange>,
-    pub format: Format,
+    pub format: Radix,
 }
 
 /// The unit of a time as it is written.
-#[derive(Clone, Copy, Debug, PartialEq, Eq)]
+#[derive(Clone, Copy, PartialEq, Eq)]
 pub enum TimeUnit {
     Femtosecond,
     Picosecond,
@@ -41,7 +33,7 @@ pub enum TimeUnit {
 }
 
 /// A pattern's time as it is written: by itself, or added to the time of the pattern before.
-#[derive(Clone, Copy, Debug, PartialEq, Eq)]
+#[derive(Clone, Copy, PartialEq, Eq)]
 pub struct Time {
     pub is_added: bool,
     pub number: u32,
@@ -49,14 +41,14 @@ pub struct Time {
 }
 
 /// What a pattern says of a column: its bits from the left, or nothing, which only an output may have.
-#[derive(Debug, Drop)]
+#[derive(Drop)]
 pub enum Value {
     Digits(Bits),
     Any,
 }
 
 /// A value for each column, in their order.
-#[derive(Debug, Drop)]
+#[derive(Drop)]
 pub struct Values {
     items: Vec<Value>,
 }
@@ -87,7 +79,7 @@ impl Values {
 }
 
 /// One pattern.
-#[derive(Debug, Drop)]
+#[derive(Drop)]
 pub struct Pattern {
     pub time: Time,
     pub label: Option<Text>,
@@ -95,7 +87,7 @@ pub struct Pattern {
 }
 
 /// Columns in file order.
-#[derive(Debug, Drop)]
+#[derive(Drop)]
 pub struct Columns {
     items: Vec<Column>,
 }
@@ -126,7 +118,7 @@ impl Columns {
 }
 
 /// Patterns in file order.
-#[derive(Debug, Drop)]
+#[derive(Drop)]
 pub struct PatternList {
     items: Vec<Pattern>,
 }
@@ -166,7 +158,7 @@ impl PatternList {
 }
 
 /// A pattern file: its columns, and its patterns in a time that never falls.
-#[derive(Debug, Drop)]
+#[derive(Drop)]
 pub struct Patterns {
     pub columns: Columns,
     pub patterns: PatternList,

@@ -19,8 +19,8 @@ use Rattle.grammar_theory.proofs.Bundle.{Exact, exact_nothing, exact_one, exact_
 use Rattle.grammar_theory.proofs.Many.{exact_list}
 use Rattle.grammar_theory.proofs.Listing.{consumes}
 use Rattle.vhdl_front.proofs.Language.{exact_number}
-use Rattle.pat_meaning.specs.declared.patterns.Format.{Format}
-use Rattle.pat_meaning.specs.declared.patterns.Format.TheVariants.{Binary}
+use Rattle.vlsi_base.specs.declared.radix.Radix.{Radix}
+use Rattle.vlsi_base.specs.declared.radix.Radix.TheVariants.{Binary}
 use Rattle.pat_meaning.specs.declared.patterns.TimeUnit.TheVariants as unit
 use Rattle.pat_text.specs.declared.parsed.ParsedColumn.{ParsedColumn}
 use Rattle.pat_text.specs.declared.parsed.ParsedPattern.{ParsedPattern}
@@ -109,11 +109,11 @@ exact_column = exact_then exact_column_dir (λ d. exact_column_behind d) refl
 
 -- ---- values
 
-exact_digits : (f : Format) → Language (digits f) false (forms (form.Digits ∷ [])) [] (digits_at f)
+exact_digits : (f : Radix) → Language (digits f) false (forms (form.Digits ∷ [])) [] (digits_at f)
 unfolding digits digits_at
 exact_digits f = exact_marked form.Digits (λ t. fits (list_all (is_digit f) (text_of t)))
 
-exact_given : (f : Format) → Language (given f) false (forms (form.Digits ∷ [])) [] (given_at f)
+exact_given : (f : Radix) → Language (given f) false (forms (form.Digits ∷ [])) [] (given_at f)
 unfolding given given_at
 exact_given f = exact_then (exact_digits f) (λ t. exact_nothing (record { line = t.line; digits = Some (text_of t) })) refl
 
@@ -121,11 +121,11 @@ exact_anything : (line : ℕ) → Language (anything line) false (forms (form.Si
 unfolding anything anything_at
 exact_anything line = exact_then (exact_one (form.Sign sign.Star)) (λ t. exact_nothing (record { line = line; digits = None })) refl
 
-exact_wanted : (line : ℕ) (f : Format) → Language (wanted line f) false (forms (form.Digits ∷ [])) [] (wanted_at line f)
+exact_wanted : (line : ℕ) (f : Radix) → Language (wanted line f) false (forms (form.Digits ∷ [])) [] (wanted_at line f)
 unfolding wanted wanted_at
 exact_wanted line f = exact_then (exact_digits f) (λ t. exact_nothing (record { line = line; digits = Some (text_of t) })) refl
 
-exact_expected : (f : Format) → Language (expected f) false (forms (form.Sign sign.Question ∷ [])) [] (expected_at f)
+exact_expected : (f : Radix) → Language (expected f) false (forms (form.Sign sign.Question ∷ [])) [] (expected_at f)
 unfolding expected expected_at
 exact_expected f = exact_then (exact_one (form.Sign sign.Question)) (λ t. exact_behind (form.Sign sign.Star) (exact_anything t.line) (exact_wanted t.line f) refl) refl
 
@@ -133,7 +133,7 @@ abbrev value_firsts : Dir → Set
 value_firsts dir.In = forms (form.Digits ∷ [])
 value_firsts dir.Out = forms (form.Sign sign.Question ∷ [])
 
-exact_value : (d : Dir) (f : Format) → Language (value_of d f) false (value_firsts d) [] (value_at d f)
+exact_value : (d : Dir) (f : Radix) → Language (value_of d f) false (value_firsts d) [] (value_at d f)
 unfolding value_of value_at
 exact_value dir.In f = exact_given f
 exact_value dir.Out f = exact_expected f

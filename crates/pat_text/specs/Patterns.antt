@@ -13,8 +13,8 @@ use Rattle.grammar_theory.specs.declared.form.Form.TheVariants as form
 use Rattle.grammar_theory.specs.Marks.{fits}
 use Rattle.grammar_theory.specs.Grammar.{Grammar, nothing, one, marked, ◌or◌, ◌>>=◌, list}
 use Rattle.vhdl_front.specs.Expression.{number}
-use Rattle.pat_meaning.specs.declared.patterns.Format.{Format}
-use Rattle.pat_meaning.specs.declared.patterns.Format.TheVariants.{Binary}
+use Rattle.vlsi_base.specs.declared.radix.Radix.{Radix}
+use Rattle.vlsi_base.specs.declared.radix.Radix.TheVariants.{Binary}
 use Rattle.pat_meaning.specs.declared.patterns.Time.{Time}
 use Rattle.pat_meaning.specs.declared.patterns.TimeUnit.{TimeUnit}
 use Rattle.pat_meaning.specs.declared.patterns.TimeUnit.TheVariants as unit
@@ -41,7 +41,7 @@ direction = do
   nothing (unwrap_or (direction_named (text_of t)) false)
 
 -- a word that names a format
-unfoldable pub named_format : Grammar Format
+unfoldable pub named_format : Grammar Radix
 named_format = do
   t ← marked form.Identifier (λ t. fits (is_some (format_named (text_of t))))
   nothing (unwrap_or (format_named (text_of t)) Binary)
@@ -94,11 +94,11 @@ column = do
 
 -- ---- values
 
-unfoldable pub digits : Format → Grammar PlacedToken
+unfoldable pub digits : Radix → Grammar PlacedToken
 digits f = marked form.Digits (λ t. fits (list_all (is_digit f) (text_of t)))
 
 -- a value of an input
-unfoldable pub given : Format → Grammar ParsedValue
+unfoldable pub given : Radix → Grammar ParsedValue
 given f = do
   t ← digits f
   nothing (record { line = t.line; digits = Some (text_of t) })
@@ -108,18 +108,18 @@ anything line = do
   t ← one (form.Sign sign.Star)
   nothing (record { line = line; digits = None })
 
-unfoldable pub wanted : ℕ → Format → Grammar ParsedValue
+unfoldable pub wanted : ℕ → Radix → Grammar ParsedValue
 wanted line f = do
   t ← digits f
   nothing (record { line = line; digits = Some (text_of t) })
 
 -- a value of an output
-unfoldable pub expected : Format → Grammar ParsedValue
+unfoldable pub expected : Radix → Grammar ParsedValue
 expected f = do
   t ← one (form.Sign sign.Question)
   anything t.line or wanted t.line f
 
-unfoldable pub value_of : Dir → Format → Grammar ParsedValue
+unfoldable pub value_of : Dir → Radix → Grammar ParsedValue
 value_of dir.In f = given f
 value_of dir.Out f = expected f
 

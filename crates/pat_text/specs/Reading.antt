@@ -15,8 +15,8 @@ use Rattle.grammar_theory.specs.Tokens.{code, is_at}
 use Rattle.grammar_theory.specs.Marks.{fits}
 use Rattle.grammar_theory.specs.Outcome.{At, Outcome, Reader, Fails, ◌>>=◌, take_at, take_marked, list_at}
 use Rattle.vhdl_front.specs.Reading.{number_at}
-use Rattle.pat_meaning.specs.declared.patterns.Format.{Format}
-use Rattle.pat_meaning.specs.declared.patterns.Format.TheVariants.{Binary}
+use Rattle.vlsi_base.specs.declared.radix.Radix.{Radix}
+use Rattle.vlsi_base.specs.declared.radix.Radix.TheVariants.{Binary}
 use Rattle.pat_meaning.specs.declared.patterns.Time.{Time}
 use Rattle.pat_meaning.specs.declared.patterns.TimeUnit.{TimeUnit}
 use Rattle.pat_meaning.specs.declared.patterns.TimeUnit.TheVariants as unit
@@ -39,7 +39,7 @@ direction_at here = do
   t ← take_marked form.Identifier (λ t. fits (is_some (direction_named (text_of t)))) here
   Ok (unwrap_or (direction_named (text_of t.0)) false, t.1)
 
-unfoldable pub named_format_at : Reader Format
+unfoldable pub named_format_at : Reader Radix
 named_format_at here = do
   t ← take_marked form.Identifier (λ t. fits (is_some (format_named (text_of t)))) here
   Ok (unwrap_or (format_named (text_of t.0)) Binary, t.1)
@@ -69,7 +69,7 @@ range_at here = do
 unfoldable pub optional_range_at : Reader (Option Range)
 optional_range_at here = if is_at (form.Sign sign.LeftParen) here.rest then range_at here else Ok (None, here)
 
-unfoldable pub format_at : Reader Format
+unfoldable pub format_at : Reader Radix
 format_at here = if is_at form.Identifier here.rest then named_format_at here else Ok (Binary, here)
 
 unfoldable pub semicolons_at : Reader (List PlacedToken)
@@ -94,10 +94,10 @@ column_at here = do
   d ← column_dir_at here
   column_behind_at d.0 d.1
 
-unfoldable pub digits_at : Format → Reader PlacedToken
+unfoldable pub digits_at : Radix → Reader PlacedToken
 digits_at f here = take_marked form.Digits (λ t. fits (list_all (is_digit f) (text_of t))) here
 
-unfoldable pub given_at : Format → Reader ParsedValue
+unfoldable pub given_at : Radix → Reader ParsedValue
 given_at f here = do
   t ← digits_at f here
   Ok (record { line = t.0.line; digits = Some (text_of t.0) }, t.1)
@@ -107,17 +107,17 @@ anything_at line here = do
   t ← take_at (form.Sign sign.Star) here
   Ok (record { line = line; digits = None }, t.1)
 
-unfoldable pub wanted_at : ℕ → Format → Reader ParsedValue
+unfoldable pub wanted_at : ℕ → Radix → Reader ParsedValue
 wanted_at line f here = do
   t ← digits_at f here
   Ok (record { line = line; digits = Some (text_of t.0) }, t.1)
 
-unfoldable pub expected_at : Format → Reader ParsedValue
+unfoldable pub expected_at : Radix → Reader ParsedValue
 expected_at f here = do
   t ← take_at (form.Sign sign.Question) here
   if is_at (form.Sign sign.Star) t.1.rest then anything_at t.0.line t.1 else wanted_at t.0.line f t.1
 
-unfoldable pub value_at : Dir → Format → Reader ParsedValue
+unfoldable pub value_at : Dir → Radix → Reader ParsedValue
 value_at dir.In f here = given_at f here
 value_at dir.Out f here = expected_at f here
 

@@ -1,7 +1,7 @@
 -- Words of pattern files that mean something by their place, and digits.
 use Rattle.std.specs.Prelude.{ℕ, ◌==◌, ◌||◌, ◌&&◌, Bool, nat_le, bytes_eq, List, [], codes, Option, None, Some, if◌then◌else◌}
-use Rattle.pat_meaning.specs.declared.patterns.Format.{Format}
-use Rattle.pat_meaning.specs.declared.patterns.Format.TheVariants.{Binary, Octal, Hexadecimal}
+use Rattle.vlsi_base.specs.declared.radix.Radix.{Radix}
+use Rattle.vlsi_base.specs.declared.radix.Radix.TheVariants.{Binary, Octal, Hexadecimal}
 use Rattle.pat_meaning.specs.declared.patterns.TimeUnit.{TimeUnit}
 use Rattle.pat_meaning.specs.declared.patterns.TimeUnit.TheVariants as unit
 use Rattle.vhdl_token.specs.Keyword.{keyword_text}
@@ -24,7 +24,7 @@ abbrev pub direction_named : List ℕ → Option Bool
 direction_named text =
     if bytes_eq text (codes "downto") then Some Bool.true else (if bytes_eq text (codes "to") then Some Bool.false else None)
 
-abbrev pub format_named : List ℕ → Option Format
+abbrev pub format_named : List ℕ → Option Radix
 format_named text =
     if bytes_eq text (codes "b") then Some Binary
     else (if bytes_eq text (codes "o") then Some Octal
@@ -39,7 +39,7 @@ unit_named text =
     else (if bytes_eq text (codes "ms") then Some unit.Millisecond else None))))
 
 -- a digit of a format, a letter in lower case
-abbrev pub is_digit : Format → ℕ → Bool
+abbrev pub is_digit : Radix → ℕ → Bool
 is_digit Binary c = c == 48 || c == 49
 is_digit Octal c = nat_le 48 c && nat_le c 55
 is_digit Hexadecimal c = (nat_le 48 c && nat_le c 57) || (nat_le 97 c && nat_le c 102)

@@ -7,10 +7,9 @@ ghost use Rattle.pat_text.specs.Reading.{one_dir_at, column_dir_at, range_at, op
 use crate::parsed::ParsedColumn;
 use crate::words::{any_word, direction, named_format, text_of};
 use grammar_theory::{Form, Stop};
-use pat_meaning::Format;
 use vhdl_front::Cursor;
 use vhdl_token::{Keyword, PlacedToken, Sign};
-use vlsi_base::{Dir, Range, Text};
+use vlsi_base::{Dir, Radix, Range, Text};
 
 #[tactic(auto, unfolding(crate::specs::Reading::one_dir_at))]
 fn one_dir(cursor: &mut Cursor<'_>, word: Keyword, dir: Dir) -> Result<Dir, Stop>
@@ -60,13 +59,13 @@ fn optional_range(cursor: &mut Cursor<'_>) -> Result<Option<Range>, Stop>
 }
 
 #[tactic(auto, unfolding(crate::specs::Reading::format_at))]
-fn format(cursor: &mut Cursor<'_>) -> Result<Format, Stop>
+fn format(cursor: &mut Cursor<'_>) -> Result<Radix, Stop>
     ensures { Gives (λ f. f) result cursor.new (format_at cursor.old) }
 {
     if cursor.at(Form::Identifier) {
         named_format(cursor)
     } else {
-        Ok(Format::Binary)
+        Ok(Radix::Binary)
     }
 }
 

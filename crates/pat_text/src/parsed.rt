@@ -1,7 +1,7 @@
 // The parts of a pattern file as they are written, with their lines.
 
-use pat_meaning::{Format, Time};
-use vlsi_base::{Dir, Listed, Range, Text};
+use pat_meaning::Time;
+use vlsi_base::{Dir, Listed, Radix, Range, Text};
 
 /// A column as it is written, and the line of its name. Where no format stands it is binary.
 #[derive(Drop)]
@@ -10,7 +10,7 @@ pub struct ParsedColumn {
     pub line: u32,
     pub dir: Dir,
     pub range: Option<Range>,
-    pub format: Format,
+    pub format: Radix,
 }
 
 /// Columns in file order.

@@ -6,14 +6,14 @@ ghost use Rattle.pat_text.specs.Reading.{given_at, anything_at, wanted_at, expec
 use crate::parsed::{ParsedColumn, ParsedPattern, ParsedValue, ParsedValues};
 use crate::words::{digits, text_of, time_unit};
 use grammar_theory::{Form, Stop};
-use pat_meaning::{Format, Time};
+use pat_meaning::Time;
 use vhdl_front::Cursor;
 use vhdl_token::{Keyword, Sign};
-use vlsi_base::{Dir, Text};
+use vlsi_base::{Dir, Radix, Text};
 
 /// A value of an input.
 #[tactic(auto, unfolding(crate::specs::Reading::given_at))]
-fn given(cursor: &mut Cursor<'_>, format: Format) -> Result<ParsedValue, Stop>
+fn given(cursor: &mut Cursor<'_>, format: Radix) -> Result<ParsedValue, Stop>
     ensures { Gives (λ v. v) result cursor.new (given_at format cursor.old) }
 {
     let token = digits(cursor, format)?;
@@ -35,7 +35,7 @@ fn anything(cursor: &mut Cursor<'_>, line: u32) -> Result<ParsedValue, Stop>
 
 /// The digits behind a question mark on this line.
 #[tactic(auto, unfolding(crate::specs::Reading::wanted_at))]
-fn wanted(cursor: &mut Cursor<'_>, line: u32, format: Format) -> Result<ParsedValue, Stop>
+fn wanted(cursor: &mut Cursor<'_>, line: u32, format: Radix) -> Result<ParsedValue, Stop>
     ensures { Gives (λ v. v) result cursor.new (wanted_at line format cursor.old) }
 {
     let token = digits(cursor, format)?;
@@ -48,7 +48,7 @@ fn wanted(cursor: &mut Cursor<'_>, line: u32, format: Format) -> Result<ParsedVa
 
 /// A value of an output.
 #[tactic(auto, unfolding(crate::specs::Reading::expected_at))]
-fn expected(cursor: &mut Cursor<'_>, format: Format) -> Result<ParsedValue, Stop>
+fn expected(cursor: &mut Cursor<'_>, format: Radix) -> Result<ParsedValue, Stop>
     ensures { Gives (λ v. v) result cursor.new (expected_at format cursor.old) }
 {
     let line = cursor.take(Form::Sign(Sign::Question))?.line;
@@ -60,7 +60,7 @@ fn expected(cursor: &mut Cursor<'_>, format: Format) -> Result<ParsedValue, Stop
 }
 
 #[tactic(auto, unfolding(crate::specs::Reading::value_at))]
-fn value(cursor: &mut Cursor<'_>, dir: Dir, format: Format) -> Result<ParsedValue, Stop>
+fn value(cursor: &mut Cursor<'_>, dir: Dir, format: Radix) -> Result<ParsedValue, Stop>
     ensures { Gives (λ v. v) result cursor.new (value_at dir format cursor.old) }
 {
     match dir {

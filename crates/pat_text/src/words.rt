@@ -6,9 +6,10 @@ ghost use Rattle.pat_text.specs.Spelled.{text_of, direction_named, format_named,
 ghost use Rattle.pat_text.specs.Reading.{any_word_at, direction_at, named_format_at, time_unit_at, digits_at};
 
 use grammar_theory::{Form, Reason, Stop};
-use pat_meaning::{Format, TimeUnit};
+use pat_meaning::TimeUnit;
 use vhdl_front::Cursor;
 use vhdl_token::{Keyword, PlacedToken, Token};
+use vlsi_base::Radix;
 
 /// The text of a word or of digits; of another token none.
 pub fn text_of(token: &PlacedToken) -> &[u8]
@@ -35,15 +36,15 @@ fn direction_named(text: &[u8]) -> Option<bool>
     }
 }
 
-fn format_named(text: &[u8]) -> Option<Format>
+fn format_named(text: &[u8]) -> Option<Radix>
     ensures { result ≡ format_named text.now }
 {
     if text == b"b".as_slice() {
-        Some(Format::Binary)
+        Some(Radix::Binary)
     } else if text == b"o".as_slice() {
-        Some(Format::Octal)
+        Some(Radix::Octal)
     } else if text == b"x".as_slice() {
-        Some(Format::Hexadecimal)
+        Some(Radix::Hexadecimal)
     } else {
         None
     }
@@ -67,17 +68,17 @@ fn unit_named(text: &[u8]) -> Option<TimeUnit>
     }
 }
 
-fn is_digit(format: Format, c: u8) -> bool
+fn is_digit(format: Radix, c: u8) -> bool
     ensures { result ≡ is_digit format c }
 {
     match format {
-        Format::Binary => c == b'0' || c == b'1',
-        Format::Octal => (b'0'..=b'7').contains(&c),
-        Format::Hexadecimal => c.is_ascii_digit() || (b'a'..=b'f').contains(&c),
+        Radix::Binary => c == b'0' || c == b'1',
+        Radix::Octal => (b'0'..=b'7').contains(&c),
+        Radix::Hexadecimal => c.is_ascii_digit() || (b'a'..=b'f').contains(&c),
     }
 }
 
-fn are_digits(format: Format, text: &[u8]) -> bool
+fn are_digits(format: Radix, text: &[u8]) -> bool
     ensures { result ≡ list_all (is_digit format) text.now }
 {
     text.iter().all(|c| is_digit(format, *c))
@@ -116,7 +117,7 @@ pub fn direction(cursor: &mut Cursor<'_>) -> Result<bool, Stop>
 
 /// A word that names a format.
 #[tactic(auto, unfolding(crate::specs::Reading::named_format_at))]
-pub fn named_format(cursor: &mut Cursor<'_>) -> Result<Format, Stop>
+pub fn named_format(cursor: &mut Cursor<'_>) -> Result<Radix, Stop>
     ensures { Gives (λ f. f) result cursor.new (named_format_at cursor.old) }
 {
     let Some((next, _)) = cursor.rest().split_first() else {
@@ -124,7 +125,7 @@ pub fn named_format(cursor: &mut Cursor<'_>) -> Result<Format, Stop>
     };
     let format = format_named(text_of(next));
     let _word = cursor.take_fitting(Form::Identifier, format.is_some())?;
-    Ok(format.unwrap_or(Format::Binary))
+    Ok(format.unwrap_or(Radix::Binary))
 }
 
 /// A word that names a unit of time.
@@ -142,7 +143,7 @@ pub fn time_unit(cursor: &mut Cursor<'_>) -> Result<TimeUnit, Stop>
 
 /// Digits of this format.
 #[tactic(auto, unfolding(crate::specs::Reading::digits_at))]
-pub fn digits<'a>(cursor: &mut Cursor<'a>, format: Format) -> Result<&'a PlacedToken, Stop>
+pub fn digits<'a>(cursor: &mut Cursor<'a>, format: Radix) -> Result<&'a PlacedToken, Stop>
     ensures { Gives (λ t. t.now) result cursor.new (digits_at format cursor.old) }
 {
     let Some((next, _)) = cursor.rest().split_first() else {

@@ -3,20 +3,20 @@ use Rattle.std.specs.Prelude.{◌≡◌, ◌≤◌, ℕ, ◌+◌, Bool, true, fa
 use Rattle.std.proofs.Common.{◌∙◌, sym, ap, subst, arith}
 use Rattle.std.specs.FinMap.{get}
 use Rattle.vlsi_shelf.specs.Files.{Files}
-use Rattle.tool_drive.specs.declared.tool.TheConstants.{MOST_BYTES}
+use Rattle.vlsi_base.specs.declared.limits.TheConstants.{MOST_SOURCE_BYTES}
 use Rattle.tool_drive.specs.declared.tool.Wanted.{Wanted}
 use Rattle.tool_drive.specs.Plan.{Reading, got, lacking, long, go_on, limited, cut, held, gather}
 
 -- a file that isn't longer than it may be has these bytes
 pub record Holds (files : Files) (name bytes : List ℕ) : Type 0 where
   pub is : get files name ≡ Some bytes
-  pub fits : length bytes ≤ MOST_BYTES
+  pub fits : length bytes ≤ MOST_SOURCE_BYTES
 
 -- these are the first bytes of a file
 pub record Begins (files : Files) (name bytes : List ℕ) : Type 0 where
   pub content : List ℕ
   pub is : get files name ≡ Some content
-  pub bytes_are : bytes ≡ take (MOST_BYTES + 1) content
+  pub bytes_are : bytes ≡ take (MOST_SOURCE_BYTES + 1) content
 
 -- file by file, this was had
 abbrev pub AreHad : Files → List Wanted → List (List ℕ) → Type 0
@@ -42,11 +42,11 @@ are_had files (w ∷ ws) read h = by (held (get files w.name) w) (gather files w
   by (lacking name) more read again e f h = absurd (cc h)
   by (long most) more read again e f h = absurd (cc h)
 
-fitting : (files : Files) (name content bytes : List ℕ) (b : Bool) → get files name ≡ Some content → nat_le (length content) MOST_BYTES ≡ b
-    → cond b (got content) (long MOST_BYTES) ≡ got bytes → Holds files name bytes
+fitting : (files : Files) (name content bytes : List ℕ) (b : Bool) → get files name ≡ Some content → nat_le (length content) MOST_SOURCE_BYTES ≡ b
+    → cond b (got content) (long MOST_SOURCE_BYTES) ≡ got bytes → Holds files name bytes
 fitting files name content bytes true e f h =
     let same = got_same content bytes h in
-    record { is = e ∙ ap (λ (x : List ℕ). Some x) same; fits = subst (λ (x : List ℕ). length x ≤ MOST_BYTES) same (grind (arith, f)) }
+    record { is = e ∙ ap (λ (x : List ℕ). Some x) same; fits = subst (λ (x : List ℕ). length x ≤ MOST_SOURCE_BYTES) same (grind (arith, f)) }
 fitting files name content bytes false e f h = absurd (cc h)
 
 -- a file that was had whole
@@ -54,11 +54,11 @@ pub holds : (files : Files) (name bytes : List ℕ) → held (get files name) (l
 holds files name bytes h = by (get files name) refl h where
   by : (found : Option (List ℕ)) → get files name ≡ found → held found (limited name) ≡ got bytes → Holds files name bytes
   by None e h = absurd (cc h)
-  by (Some content) e h = fitting files name content bytes (nat_le (length content) MOST_BYTES) e refl h
+  by (Some content) e h = fitting files name content bytes (nat_le (length content) MOST_SOURCE_BYTES) e refl h
 
 -- a file of which the first bytes were had
 pub begins : (files : Files) (name bytes : List ℕ) → held (get files name) (cut name) ≡ got bytes → Begins files name bytes
 begins files name bytes h = by (get files name) refl h where
   by : (found : Option (List ℕ)) → get files name ≡ found → held found (cut name) ≡ got bytes → Begins files name bytes
   by None e h = absurd (cc h)
-  by (Some content) e h = record { content = content; is = e; bytes_are = sym (got_same (take (MOST_BYTES + 1) content) bytes h) }
+  by (Some content) e h = record { content = content; is = e; bytes_are = sym (got_same (take (MOST_SOURCE_BYTES + 1) content) bytes h) }

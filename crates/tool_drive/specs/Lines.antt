@@ -2,6 +2,7 @@
 use Rattle.std.specs.Prelude.{ℕ, List, [], ◌∷◌, ◌++◌, Option, None, Some, codes}
 use Rattle.std.specs.Fmt.{decimal}
 use Rattle.vlsi_base.specs.Fault.{fault_text, limit_text}
+use Rattle.vlsi_base.specs.Name.{name_text}
 use Rattle.vlsi_base.specs.declared.name.Name.{Name}
 use Rattle.vlsi_base.specs.declared.name.Terminal.{Terminal}
 use Rattle.vlsi_base.specs.declared.fault.InputFault.{InputFault}
@@ -16,14 +17,6 @@ use Rattle.tool_drive.specs.declared.status.LibraryFault.{LibraryFault}
 use Rattle.tool_drive.specs.declared.status.LibraryFault.TheVariants.{BadCatal, BadCell}
 use Rattle.tool_drive.specs.declared.status.Verdict.{Verdict}
 use Rattle.tool_drive.specs.declared.status.Verdict.TheVariants as verdict
-
--- a bit of a vector stands in parentheses behind its name
-abbrev pub bit_text : Option ℕ → List ℕ
-bit_text None = []
-bit_text (Some k) = codes "(" ++ (decimal k ++ codes ")")
-
-abbrev pub name_text : Name → List ℕ
-name_text n = n.text ++ bit_text n.bit
 
 -- each name behind a blank
 abbrev pub names_text : List Name → List ℕ

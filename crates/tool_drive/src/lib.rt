@@ -16,4 +16,4 @@ pub use line::tell;
 pub use refusals::refused;
 pub use run::drive;
 pub use status::{FileCause, Kind, LibraryFault, Status, Verdict};
-pub use tool::{MOST_BYTES, Over, Product, Refusal, Tool, Wanted, Written, bytes_at};
+pub use tool::{Over, Product, Refusal, Tool, Wanted, Written, bytes_at};

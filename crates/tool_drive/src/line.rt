@@ -1,8 +1,9 @@
 // The line that a refusal prints.
 ghost use Rattle.std.specs.Prelude.{◌≡◌, ◌≤◌, [], ◌∷◌, ◌++◌, OnOk, IfOk, codes};
 ghost use Rattle.std.specs.Fmt.{decimal};
-ghost use Rattle.tool_drive.specs.Lines.{bit_text, name_text, names_text, source_text, library_text, terminal_text, limit_line, file_text, verdict_text, refusal_text, line_of};
+ghost use Rattle.tool_drive.specs.Lines.{names_text, source_text, library_text, terminal_text, limit_line, file_text, verdict_text, refusal_text, line_of};
 ghost use Rattle.tool_drive.specs.Outside.{IsLine};
+ghost use Rattle.vlsi_base.specs.Name.{name_text};
 
 use crate::{FileCause, LibraryFault, Status, Verdict};
 use std::alloc::{AllocError, Global};
@@ -16,24 +17,11 @@ fn number(alloc: Global, out: &mut FileBytes, n: u64) -> Result<(), AllocError>
     out.append(digits.as_bytes())
 }
 
-fn bit(alloc: Global, out: &mut FileBytes, bit: Option<u32>) -> Result<(), AllocError>
-    ensures { OnOk result (out.new ≡ out.old ++ bit_text bit) }
-{
-    match bit {
-        Some(k) => {
-            out.append(b"(")?;
-            number(alloc, out, u64::from(k))?;
-            out.append(b")")
-        }
-        None => Ok(()),
-    }
-}
-
 fn name(alloc: Global, out: &mut FileBytes, name: &Name) -> Result<(), AllocError>
     ensures { OnOk result (out.new ≡ out.old ++ name_text name.now) }
 {
-    out.append(name.text.as_bytes())?;
-    bit(alloc, out, name.bit)
+    let text = name.to_text(alloc)?;
+    out.append(text.as_bytes())
 }
 
 fn spaced_name(alloc: Global, out: &mut FileBytes, item: &Name) -> Result<(), AllocError>

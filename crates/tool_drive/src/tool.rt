@@ -4,10 +4,7 @@ ghost use Rattle.tool_drive.specs.Plan.{limited, cut};
 
 use crate::Status;
 use std::alloc::{AllocError, Global};
-use vlsi_base::{FileBytes, FileName};
-
-/// The most bytes of a file that is read.
-pub const MOST_BYTES: u64 = 1_048_576;
+use vlsi_base::{FileBytes, FileName, MOST_SOURCE_BYTES};
 
 /// What a file comes to that is longer than it may be.
 #[derive(Clone, Copy, Debug, PartialEq, Eq)]
@@ -27,24 +24,24 @@ pub struct Wanted {
 }
 
 impl Wanted {
-    /// A file of at most `MOST_BYTES` bytes; a longer one is refused.
+    /// A file of at most `MOST_SOURCE_BYTES` bytes; a longer one is refused.
     pub fn limited(name: FileName) -> Self
         ensures { result ≡ limited name }
     {
         Wanted {
             name,
-            most: MOST_BYTES,
+            most: MOST_SOURCE_BYTES as u64,
             over: Over::Refused,
         }
     }
 
-    /// A file of at most `MOST_BYTES` bytes; of a longer one the tool gets one byte more.
+    /// A file of at most `MOST_SOURCE_BYTES` bytes; of a longer one the tool gets one byte more.
     pub fn cut(name: FileName) -> Self
         ensures { result ≡ cut name }
     {
         Wanted {
             name,
-            most: MOST_BYTES,
+            most: MOST_SOURCE_BYTES as u64,
             over: Over::Cut,
         }
     }

@@ -13,7 +13,9 @@ pub enum Radix {
 impl Radix {
     /// How many bits a digit spells. Takes no memory.
     pub fn digit_width(self) -> usize
-        ensures { result ≡ digit_width self }
+        ensures width { result ≡ digit_width self }
+        ensures some { 0 < result }
+        ensures most { result ≤ 4 }
     {
         match self {
             Radix::Binary => 1,

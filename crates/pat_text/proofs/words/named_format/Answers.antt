@@ -1,5 +1,5 @@
 use Rattle.std.proofs.Common.{rules, is_some, unwrap_or}
-use Rattle.pat_meaning.specs.declared.patterns.Format.TheVariants.{Binary}
+use Rattle.vlsi_base.specs.declared.radix.Radix.TheVariants.{Binary}
 use Rattle.grammar_theory.specs.declared.form.Form.TheVariants as form
 use Rattle.pat_text.specs.Spelled.{text_of, format_named}
 use Rattle.pat_text.specs.Reading.{named_format_at}
