@@ -3,8 +3,8 @@ use Rattle.std.specs.Prelude.{ℕ, ◌+◌, ◌-◌, ◌^◌, min, true, false, 
 use Rattle.std.specs.Fmt.{decimal}
 use Rattle.vhdl_token.specs.Keyword.{keyword_text}
 use Rattle.vhdl_token.specs.Signs.{sign_text}
-use Rattle.vhdl_token.specs.declared.token.Base.{Base}
-use Rattle.vhdl_token.specs.declared.token.Base.TheVariants as base
+use Rattle.vlsi_base.specs.declared.radix.Radix.{Radix}
+use Rattle.vlsi_base.specs.declared.radix.Radix.TheVariants as base
 use Rattle.vhdl_token.specs.declared.token.Token.{Token}
 use Rattle.vhdl_token.specs.declared.token.Token.TheVariants as token
 use Rattle.vhdl_token.specs.declared.token.PlacedToken.{PlacedToken}
@@ -19,7 +19,7 @@ pub data Written : Type 0 where
   says : Token → Written
 
 -- the letter in front of the digits of a bit string
-abbrev pub base_letter : Base → ℕ
+abbrev pub base_letter : Radix → ℕ
 base_letter base.Binary = 98
 base_letter base.Octal = 111
 base_letter base.Hexadecimal = 120

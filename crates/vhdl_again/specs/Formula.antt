@@ -1,8 +1,8 @@
 -- Expressions as they are to be written: names, bits, `not`, and two operands behind one another, with parentheses round
 -- what isn't a name or a bit.
 use Rattle.std.specs.Prelude.{◌≡◌, ℕ, zero, suc, ◌+◌, ◌≤◌, Bool, List, [], ◌∷◌, ◌++◌, None, Ok}
-use Rattle.vlsi_base.specs.declared.raw.Operator.{Operator}
-use Rattle.vlsi_base.specs.declared.raw.Operator.TheVariants as operation
+use Rattle.vlsi_base.specs.declared.expression.Operator.{Operator}
+use Rattle.vlsi_base.specs.declared.expression.Operator.TheVariants as operation
 use Rattle.vlsi_base.specs.Tree.{Tree, bit, name, inverse, binary}
 use Rattle.vhdl_token.specs.declared.keyword.Keyword.{Keyword}
 use Rattle.vhdl_token.specs.declared.keyword.Keyword.TheVariants as word
