@@ -1,4 +1,4 @@
-//! The program: the machine's files and its standard output, the words after the program's name, and the top call.
+//! The program: real files and standard output, the words after the program's name, and the top call.
 #![tactic(auto)]
 
 use flow_run::alliance_main;

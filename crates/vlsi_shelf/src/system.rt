@@ -1,4 +1,4 @@
-// The shelf over the files of the machine, and the sink over its standard output. They tell nothing of what they hold.
+// The shelf over the operating system's files, and the sink over standard output. They tell nothing of what they hold.
 ghost use Rattle.std.specs.Prelude.{◌≡◌, ◌≤◌, ◌+◌, None, OnErr, IsErrOf, IfOk, length};
 ghost use Rattle.vlsi_shelf.specs.declared.shelf.ShelfError.TheVariants.{Missing};
 
@@ -12,8 +12,8 @@ use vlsi_base::{FileBytes, FileName};
 // How many bytes one read asks for at the most.
 const CHUNK: usize = 4096;
 
-/// Files of the machine. A name is a path of the machine, and one that isn't UTF-8 is the name of no file. A call that the
-/// machine interrupts is made again.
+/// The operating system's files. A name is a path, and one that isn't UTF-8 is the name of no file. A call that is
+/// interrupted is made again.
 #[derive(Drop)]
 pub struct DirShelf<'a, R: Files> {
     files: &'a R,
@@ -139,7 +139,7 @@ impl<R: Files> Shelf for DirShelf<'_, R> {
     }
 }
 
-/// The machine's standard output. A call that the machine interrupts is made again.
+/// Standard output. A call that is interrupted is made again.
 #[derive(Drop)]
 pub struct OutSink<'a, P: Print> {
     out: &'a P,
