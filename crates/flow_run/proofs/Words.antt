@@ -1,10 +1,17 @@
 -- The word of a command's tool, the line of its refusals, and words that no command is read from.
-use Rattle.std.proofs.Common.{◌≡◌, ℕ, List, Option, None, Some, IfSome, Err, IsErrOf, refl, sym, ◌∙◌, ap, subst}
+use Rattle.std.proofs.Common.{◌≡◌, ℕ, Bool, true, false, cond, List, [], ◌∷◌, Option, None, Some, option_map, IfSome, Err, IsErrOf, refl, sym, ◌∙◌, ap, subst}
+use Rattle.std.specs.Prelude.{codes}
+use Rattle.std.specs.List.{find}
 use Rattle.tool_words.specs.declared.command.Command.{Command}
 use Rattle.tool_words.specs.declared.command.Command.TheVariants as command
 use Rattle.tool_words.specs.declared.words.WordsError.{WordsError}
 use Rattle.tool_words.specs.declared.words.WordsError.TheVariants as words
-use Rattle.tool_words.specs.Commands.{command_of, as_flow, as_asimut, flow_of, asimut_of, Spells}
+use Rattle.tool_words.specs.declared.command.FlowCommand.{FlowCommand}
+use Rattle.tool_words.specs.declared.command.AsimutCommand.{AsimutCommand}
+use Rattle.tool_words.specs.Words.{is_word}
+use Rattle.tool_words.specs.Table.{Entry, library, out, patterns, flow, asimut, tools}
+use Rattle.tool_words.specs.Values.{files, values, only}
+use Rattle.tool_words.specs.Commands.{flow_with, asimut_with, command_from, command_of, as_flow, as_asimut, flow_of, asimut_of, Spells}
 use Rattle.tool_words.specs.Laws.{WordsAreExact}
 use Rattle.vlsi_shelf.specs.Seen.{SinkSeen}
 use Rattle.tool_drive.specs.declared.status.Status.{Status}
@@ -18,9 +25,42 @@ use Rattle.flow_run.specs.Flow.{flow_plan, flow_answers}
 use Rattle.flow_run.specs.Causes.{IsHeadline}
 use Rattle.flow_run.proofs.Rows.{if_some, headline_of}
 
+-- ---- the entry's word is that of the command's tool
+
+flow_word : (x : Option FlowCommand) (k : Command) → option_map command.Flow x ≡ Some k → codes "flow" ≡ word_of k
+flow_word None k h = absurd (cc h)
+flow_word (Some c) k h = let same : command.Flow c ≡ k = cc h in subst (λ (other : Command). codes "flow" ≡ word_of other) same refl
+
+asimut_word : (x : Option AsimutCommand) (k : Command) → option_map command.Asimut x ≡ Some k → codes "asimut" ≡ word_of k
+asimut_word None k h = absurd (cc h)
+asimut_word (Some c) k h = let same : command.Asimut c ≡ k = cc h in subst (λ (other : Command). codes "asimut" ≡ word_of other) same refl
+
+abbrev NamesItsCommands : Entry → Type 0
+NamesItsCommands e = (arguments : List _) (k : Command) → command_from e.tool arguments ≡ Some k → e.word ≡ word_of k
+
+flow_names : NamesItsCommands flow
+flow_names a k h = flow_word (flow_with (only (files a)) (only (values library.word a)) (only (values out.word a))) k h
+
+asimut_names : NamesItsCommands asimut
+asimut_names a k h = asimut_word (asimut_with (only (files a)) (only (values patterns.word a))) k h
+
+abbrev Each : (Entry → Type 0) → List Entry → Type 0
+Each P [] = Unit {0}
+Each P (x ∷ xs) = P x × Each P xs
+
+-- what is found is one of the list
+found_by : (P : Entry → Type 0) (x e : Entry) (rest : Option Entry) → P x → (rest ≡ Some e → P e) → (b : Bool) → cond b (Some x) rest ≡ Some e → P e
+found_by P x e rest here behind true h = let same : x ≡ e = cc h in subst P same here
+found_by P x e rest here behind false h = behind h
+
+found : (P : Entry → Type 0) (p : Entry → Bool) (xs : List Entry) (e : Entry) → Each P xs → find p xs ≡ Some e → P e
+found P p [] e all h = absurd (cc h)
+found P p (x ∷ xs) e all h = found_by P x e (find p xs) all.0 (found P p xs e all.1) (p x) h
+
 spelled : (words : List (List ℕ)) (k : Command) → Spells words k → tool_of words ≡ word_of k
-spelled words (command.Flow c) h = ap tool_of h.words_are
-spelled words (command.Asimut c) h = ap tool_of h.words_are
+spelled words k h =
+    ap tool_of h.words_are
+    ∙ found NamesItsCommands (λ (e : Entry). is_word e.word h.entry.word) tools h.entry (flow_names, (asimut_names, tt)) h.in_table h.arguments k h.command
 
 line_is : (words : List (List ℕ)) (s : Status) → (s ≡ status.Usage → ⊥) → line_of_tool (tool_of words) s ≡ line_of words s
 line_is words status.Usage other = absurd (other refl)

@@ -9,7 +9,7 @@ returns-in-Ok-clause-headline g c =
 
 pub returns-in-Ok-clause-line : goal.returns-in-Ok-clause-line
 returns-in-Ok-clause-line g c lined =
-    line_by c.words_law.ensures c.args.words.now c.in-Ok.command c.run.result (g.T.Sink.seen c.args.out.now) (g.T.Sink.seen c.run.new.out)
+    line_by c.words_law.ensures.exact c.args.words.now c.in-Ok.command c.run.result (g.T.Sink.seen c.args.out.now) (g.T.Sink.seen c.run.new.out)
     c.in-Ok.ensures.ok c.run.ensures.never_usage (c.run.ensures.line lined)
 
 pub returns-in-Err-clause-complete : goal.returns-in-Err-clause-complete
