@@ -4,41 +4,24 @@ ghost use Rattle.machine_core.specs.Order.{AllDifferent};
 ghost use Rattle.asimut_sim.specs.Places.{place_of, bit_at as bit_of};
 
 use std::alloc::{AllocError, Global};
-use std::collections::BTreeMap;
-use vlsi_base::Name;
-
-/// A name, as an index orders it.
-#[derive(Clone, Copy, PartialEq, Eq, PartialOrd, Ord)]
-struct Key<'a> {
-    text: &'a [u8],
-    bit: Option<u32>,
-}
+use vlsi_base::{Name, NameIndex};
 
 /// Where the names of a list stand, by name.
 #[derive(Drop)]
 pub(crate) struct Index<'a> {
-    places: BTreeMap<Key<'a>, usize>,
-}
-
-fn key_of(name: &Name) -> Key<'_> {
-    Key {
-        text: name.text.as_bytes(),
-        bit: name.bit,
-    }
+    places: NameIndex<'a>,
 }
 
 impl<'a> Index<'a> {
     /// The index of a list. It takes memory for one entry a name.
     pub(crate) fn of(alloc: Global, names: &'a [Name]) -> Result<Index<'a>, AllocError> {
-        let mut places = BTreeMap::new(alloc);
-        for (k, name) in names.iter().enumerate() {
-            let _ = places.insert(key_of(name), k)?;
-        }
+        let mut places = NameIndex::new(alloc);
+        places.insert_all(names)?;
         Ok(Index { places })
     }
 
     fn guess(&self, name: &'a Name) -> Option<usize> {
-        self.places.get(&key_of(name)).copied()
+        self.places.guess(name.text.as_bytes(), name.bit)
     }
 }
 

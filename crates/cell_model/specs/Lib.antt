@@ -2,3 +2,4 @@ pub mod Cell
 pub mod Library
 pub mod Layout
 pub mod Access
+pub mod Kind

@@ -1,7 +1,7 @@
 // What is true of the drawing.
 ghost use Rattle.inverter_block.specs.InverterLaw.{InverterIsRight, InverterMachineIsChecked};
 
-/// The text of the inverter's figure is a right layout of the inverter, whatever the names are.
+/// The inverter's figure is a right block of the inverter, whatever the names are, with the numbers that the report prints.
 pub fn inverter_law()
     ensures { InverterIsRight }
 {}

@@ -1,5 +1,5 @@
 -- The drawing of a netlist by private tracks is right.
-use Rattle.std.specs.Prelude.{◌≡◌, ◌≢◌, ◌↔◌, ℕ, ◌<◌, pos, ◌+ℤ◌, List, [], ◌∷◌, Some, AllPairs, IsTrue, slice_get}
+use Rattle.std.specs.Prelude.{◌≡◌, ◌≢◌, ◌↔◌, ℕ, ◌+◌, ◌<◌, pos, ◌+ℤ◌, List, [], ◌∷◌, Some, AllPairs, IsTrue, slice_get}
 use Rattle.vlsi_base.specs.declared.name.Name.{Name}
 use Rattle.sym_geom.specs.declared.rect.Rect.{Rect}
 use Rattle.vlsi_base.specs.declared.name.Terminal.{Terminal}
@@ -12,6 +12,7 @@ use Rattle.cell_model.specs.Library.{Library, cell_of}
 use Rattle.net_meaning.specs.Netlist.{Member, Netlist, Extracts, port, IsTerminal}
 use Rattle.vlsi_base.specs.Names.{vdd, vss}
 use Rattle.net_drawing.specs.Clean.{IsClean}
+use Rattle.sym_geom.specs.declared.grid.TheConstants.{PITCH, FIRST_CELL_X}
 use Rattle.net_meaning.specs.Breaches.{Breaches}
 use Rattle.ocp_rows.specs.Placement.{Placement, IsPlaced, rows_width, track_y, net_count}
 use Rattle.net_drawing.specs.Drawing.{Numbering, track_items, IsDrawable}
@@ -22,7 +23,7 @@ one_row n ports = record { rows = n.instances ∷ []; ports = ports }
 
 -- the box of the drawing
 abbrev pub track_box : Netlist → Library → Rect
-track_box n l = record { x1 = pos 0; y1 = pos 0; x2 = pos 2000 +ℤ rows_width l (n.instances ∷ []); y2 = track_y (net_count n) }
+track_box n l = record { x1 = pos 0; y1 = pos 0; x2 = pos (FIRST_CELL_X + PITCH) +ℤ rows_width l (n.instances ∷ []); y2 = track_y (net_count n) }
 
 -- The drawing gives the netlist, breaks no rule, and is that of the placement in one row.
 abbrev pub DrawingsAreRight : Type 0

@@ -7,43 +7,34 @@ ghost use Rattle.pat_io.specs.Fitting.{is_port};
 
 use pat_text::ParsedColumn;
 use std::alloc::{AllocError, Global};
-use std::collections::BTreeMap;
-use vlsi_base::{Dir, Port};
-
-/// A name, as an index orders it.
-#[derive(Clone, Copy, PartialEq, Eq, PartialOrd, Ord)]
-struct Key<'a> {
-    text: &'a [u8],
-    bit: Option<u32>,
-}
+use vlsi_base::{Dir, NameIndex, Port};
 
 /// Where a port bit stands, by its name, and where one of a text stands.
 #[derive(Drop)]
 pub struct Index<'a> {
-    bits: BTreeMap<Key<'a>, usize>,
-    texts: BTreeMap<&'a [u8], usize>,
+    bits: NameIndex<'a>,
+    texts: NameIndex<'a>,
 }
 
 impl<'a> Index<'a> {
     /// The index of some ports. It takes memory for two entries a port bit.
     pub fn of(alloc: Global, ports: &'a [Port]) -> Result<Index<'a>, AllocError> {
-        let mut bits = BTreeMap::new(alloc);
-        let mut texts = BTreeMap::new(alloc);
+        let mut bits = NameIndex::new(alloc);
+        let mut texts = NameIndex::new(alloc);
         for (place, port) in ports.iter().enumerate() {
             let text = port.name.text.as_bytes();
-            let bit = port.name.bit;
-            let _ = bits.insert(Key { text, bit }, place)?;
-            let _ = texts.insert(text, place)?;
+            bits.insert(text, port.name.bit, place)?;
+            texts.insert(text, None, place)?;
         }
         Ok(Index { bits, texts })
     }
 
     fn guess_bit(&self, text: &'a [u8], bit: Option<u32>) -> Option<usize> {
-        self.bits.get(&Key { text, bit }).copied()
+        self.bits.guess(text, bit)
     }
 
     fn guess_text(&self, text: &'a [u8]) -> Option<usize> {
-        self.texts.get(&text).copied()
+        self.texts.guess(text, None)
     }
 }
 

@@ -11,8 +11,7 @@ use Rattle.tool_drive.specs.declared.status.Status.{Status}
 use Rattle.tool_drive.specs.declared.status.Status.TheVariants as status
 use Rattle.tool_drive.specs.declared.status.FileCause.{FileCause}
 use Rattle.tool_drive.specs.declared.status.FileCause.TheVariants.{Missing, ReadFault, WriteFault, OutFault}
-use Rattle.tool_drive.specs.declared.status.Kind.{Kind}
-use Rattle.tool_drive.specs.declared.status.Kind.TheVariants as kind
+use Rattle.cell_model.specs.Kind.{kind_text}
 use Rattle.tool_drive.specs.declared.status.LibraryFault.{LibraryFault}
 use Rattle.tool_drive.specs.declared.status.LibraryFault.TheVariants.{BadCatal, BadCell}
 use Rattle.tool_drive.specs.declared.status.Verdict.{Verdict}
@@ -31,13 +30,6 @@ source_text file f = file ++ (codes ":" ++ (decimal f.line ++ (codes ": " ++ (fa
 abbrev pub library_text : LibraryFault → List ℕ
 library_text (BadCatal line) = codes "catal " ++ decimal line
 library_text (BadCell cell cause) = cell ++ (codes " " ++ decimal cause)
-
-abbrev pub kind_text : Kind → List ℕ
-kind_text kind.Inv = codes "inv"
-kind_text kind.Nand2 = codes "nand2"
-kind_text kind.Zero = codes "zero"
-kind_text kind.One = codes "one"
-kind_text kind.Dff = codes "dff"
 
 -- an instance stands before its pin
 abbrev pub instance_text : Option (List ℕ) → List ℕ

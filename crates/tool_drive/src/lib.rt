@@ -12,8 +12,9 @@ mod run;
 mod status;
 mod tool;
 
+pub use cell_model::Kind;
 pub use line::tell;
 pub use refusals::refused;
 pub use run::drive;
-pub use status::{FileCause, Kind, LibraryFault, Status, Verdict};
+pub use status::{FileCause, LibraryFault, Status, Verdict};
 pub use tool::{Over, Product, Refusal, Tool, Wanted, Written, bytes_at};

@@ -1,8 +1,8 @@
 // How a call ends.
 ghost use Rattle.std.specs.Prelude.{◌≡◌};
-ghost use Rattle.tool_drive.specs.Lines.{kind_text};
 ghost use Rattle.tool_drive.specs.Status.{code_of, has_line as line_wanted};
 
+use cell_model::Kind;
 use vlsi_base::{FileName, InputFault, Limit, Name, Terminal, Text};
 
 /// Why a file stopped the run.
@@ -16,31 +16,6 @@ pub enum FileCause {
     WriteFault,
     /// What is answered can't be printed; a file that was written stands.
     OutFault,
-}
-
-/// What a library has to have a cell for.
-#[derive(Clone, Copy, Debug, PartialEq, Eq)]
-pub enum Kind {
-    Inv,
-    Nand2,
-    Zero,
-    One,
-    Dff,
-}
-
-impl Kind {
-    /// The word that is printed for it. Takes no memory.
-    pub fn as_str(self) -> &'static str
-        ensures { result.now ≡ kind_text self }
-    {
-        match self {
-            Kind::Inv => "inv",
-            Kind::Nand2 => "nand2",
-            Kind::Zero => "zero",
-            Kind::One => "one",
-            Kind::Dff => "dff",
-        }
-    }
 }
 
 /// What is wrong with a library.

@@ -2,8 +2,8 @@
 use std::alloc::{AllocError, Global};
 use std::test::Fail;
 use vhdl_lexer::tokens;
-use vhdl_token::{Base, Token, Tokens};
-use vlsi_base::{FaultKind, LimitKind, Pragma, ReadError};
+use vhdl_token::{Token, Tokens};
+use vlsi_base::{FaultKind, LimitKind, Pragma, Radix, ReadError};
 
 fn put_number(alloc: Global, out: &mut Vec<u8>, n: u64) -> Result<(), AllocError> {
     let digits = n.to_string(alloc)?;
@@ -27,9 +27,9 @@ fn put_token(alloc: Global, out: &mut Vec<u8>, token: &Token) -> Result<(), Allo
         Token::Quoted(text) => put_quoted(out, b"", text.as_bytes()),
         Token::BitString(base, digits) => {
             let letter: &[u8] = match base {
-                Base::Binary => b"b",
-                Base::Octal => b"o",
-                Base::Hexadecimal => b"x",
+                Radix::Binary => b"b",
+                Radix::Octal => b"o",
+                Radix::Hexadecimal => b"x",
             };
             put_quoted(out, letter, digits.as_bytes())
         }
