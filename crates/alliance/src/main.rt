@@ -11,7 +11,7 @@ use tool_words::Words;
 use vlsi_base::Text;
 use vlsi_shelf::{DirShelf, OutSink};
 
-// The status on want of memory before there are words.
+// The status where memory runs out before there are words.
 const MEMORY: u8 = 8;
 
 // The words after the program's name. Where one isn't text there are none, so that they spell no command.

@@ -52,7 +52,7 @@ abbrev pub StopsAt : Machine → List Column → Pattern → ℕ → List Bool �
 StopsAt m columns p number s before Memory = Unit {0}
 StopsAt m columns p number s before (Differs pattern bit) = Stops m columns p number s before pattern bit
 
--- why the patterns aren't filled in: for want of memory, or since they differ there
+-- why the patterns aren't filled in: for lack of memory, or since they differ there
 abbrev pub IsRefusal : Machine → Patterns → SimError → Type 0
 IsRefusal m p Memory = Unit {0}
 IsRefusal m p (Differs pattern bit) = DiffersAt m p pattern bit

@@ -28,7 +28,7 @@ fn time_behind(before: u128, time: Time) -> Option<u128>
     base.checked_add(u128::from(time.number) * u128::from(unit_size(time.unit)))
 }
 
-/// The line of the first pattern that is before the one before it. A time over 128 bits is answered as want of memory.
+/// The line of the first pattern that is before the one before it. A time over 128 bits is answered as out of memory.
 pub fn time_fault(patterns: &[ParsedPattern]) -> Result<Option<u32>, AllocError>
     ensures { IfOk result (λ line. line ≡ first_line (time_faults 0 patterns.now)) }
 {

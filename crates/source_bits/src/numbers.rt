@@ -34,7 +34,7 @@ impl Model for Numbers {
     ghost invariant = { λ a. IsNumbered a.starts.items a.total a.table };
 }
 
-/// The number behind so many further bits. A number over 32 bits is answered as want of memory.
+/// The number behind so many further bits. A number over 32 bits is answered as out of memory.
 fn behind(number: u32, bits: u64) -> Result<u32, AllocError>
     ensures { IfOk result (λ next. next ≡ number + bits) }
 {
@@ -80,7 +80,7 @@ fn place_below(starts: &[u32], number: u32) -> usize
 }
 
 impl Numbers {
-    /// The numbers of these names' bits. 2^32 bits and more are answered as want of memory.
+    /// The numbers of these names' bits. 2^32 bits and more are answered as out of memory.
     pub fn new(alloc: Global, table: SymbolTable) -> Result<Self, AllocError>
         ensures { IfOk result (λ numbers. numbers ≡ table) }
     {

@@ -114,7 +114,7 @@ pub(crate) fn is_clock(e: &ParsedExpr, clock: &[u8]) -> bool
 }
 
 /// The expression without a relation with '1' on its right. A chain of several relations, which no text has, is answered
-/// as want of memory.
+/// as out of memory.
 fn without_one<'a>(e: &'a ParsedExpr) -> Result<&'a ParsedExpr, AllocError>
     ensures { IfOk result (λ r. view r.now ≡ without_one (view e.now)) }
 {
@@ -200,7 +200,7 @@ fn collect_all<'a>(
 }
 
 /// What is joined by `and` in a guard, through parentheses, from the left, without an outer `= '1'`. A chain of several
-/// relations, which no text has, is answered as want of memory.
+/// relations, which no text has, is answered as out of memory.
 pub fn parts(alloc: Global, guard: &ParsedExpr) -> Result<Vec<&ParsedExpr>, AllocError>
     ensures { IfOk result (λ parts. map (λ r. view r.now) parts.items ≡ parts_of (view guard.now)) }
 {

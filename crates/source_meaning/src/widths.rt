@@ -113,7 +113,7 @@ fn differ(a: Option<u64>, b: Option<u64>) -> bool
     }
 }
 
-/// The width of what an operator gives. A width over 64 bits is answered as want of memory.
+/// The width of what an operator gives. A width over 64 bits is answered as out of memory.
 fn joined_width(
     operator: Operator,
     a: Option<u64>,
@@ -149,7 +149,7 @@ fn joined(operator: Operator, line: u32, a: Measure, b: Measure) -> Result<Measu
     Ok(Measure { width, fault })
 }
 
-/// How many bits a literal has. A width over 64 bits is answered as want of memory.
+/// How many bits a literal has. A width over 64 bits is answered as out of memory.
 fn literal_width(radix: Radix, digits: &[u8]) -> Result<u64, AllocError>
     ensures { IfOk result (λ width. width ≡ digit_width radix * length digits.now) }
 {
@@ -453,7 +453,7 @@ fn signals_fault(groups: &[SignalGroup]) -> Option<u32>
     None
 }
 
-/// The line of the first place where widths don't fit. A width over 64 bits is answered as want of memory.
+/// The line of the first place where widths don't fit. A width over 64 bits is answered as out of memory.
 #[tactic(auto, using(crate::proofs::FirstLines::first_line_append))]
 pub fn width_fault(table: &SymbolTable, design: &DesignFile) -> Result<Option<u32>, AllocError>
     requires { table.now ≡ symbols design.now }

@@ -9,7 +9,7 @@ use Rattle.tool_drive.specs.declared.tool.Product.{Product}
 use Rattle.tool_drive.specs.declared.tool.Refusal.{Refusal}
 use Rattle.tool_drive.specs.Table.{IsJudged, refusal}
 
--- want of memory, or this
+-- out of memory, or this
 abbrev pub MemoryOr : Status → Type 0 → Type 0
 MemoryOr status.Memory P = Unit {0}
 MemoryOr s P = P

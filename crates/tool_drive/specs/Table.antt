@@ -21,7 +21,7 @@ use Rattle.tool_drive.specs.Plan.{Plan, Inputs, inputs, Reading, got, lacking, l
 abbrev pub refusal : Status → Option Written → Refusal
 refusal s part = record { status = s; part = part }
 
--- A refusal has a status of judging, for which this holds; only want of memory is free, and it leaves no file.
+-- A refusal has a status of judging, for which this holds; only out of memory is free, and it leaves no file.
 abbrev pub IsFair : Status → Option Written → Type 0 → Type 0
 IsFair status.Memory part P = part ≡ None
 IsFair status.Accepted part P = ⊥
@@ -29,7 +29,7 @@ IsFair status.Usage part P = ⊥
 IsFair (status.File cause name) part P = ⊥
 IsFair s part P = P
 
--- a tool's answer is one that its definition has, or want of memory
+-- a tool's answer is one that its definition has, or out of memory
 abbrev pub IsJudged : (Result Product Refusal → Type 0) → Result Product Refusal → Type 0
 IsJudged A (Ok p) = A (Ok p)
 IsJudged A (Err r) = IsFair r.status r.part (A (Err r))
@@ -98,7 +98,7 @@ Caused plan A before now s = Left (ComesTo before.files plan A) before now s
 
 -- ---- completeness
 
--- this status, or want of memory
+-- this status, or out of memory
 abbrev pub OrMemory : Status → Status → Type 0
 OrMemory wanted s = (s ≡ wanted) ⊎ (s ≡ status.Memory)
 
@@ -114,13 +114,13 @@ Follows A before now (long most) s = OrMemory (status.Limit (file_limit most)) s
 Follows A before now (got i) s =
     (Rose before.faults now.faults → ⊥) → ((r : Result Product Refusal) × A i r × (s ≡ status_of r)) ⊎ (s ≡ status.Memory)
 
--- over files that are told, where no call on the shelf failed, the status is what they come to, or want of memory
+-- over files that are told, where no call on the shelf failed, the status is what they come to, or out of memory
 abbrev pub IsComplete : Plan → (Inputs → Result Product Refusal → Type 0) → Outside → Outside → Status → Type 0
 IsComplete plan A before now s = IfSome before.files (λ files. NothingFailed before now → Follows A before now (reading files plan) s)
 
 -- ---- lemmas that tools' proofs cite
 
--- want of memory answers everything
+-- out of memory answers everything
 pub memory_complete : (plan : Plan) (A : Inputs → Result Product Refusal → Type 0) (before now : Outside) → IsComplete plan A before now status.Memory
 memory_complete plan A before now = by before.files where
   memory : (r : Reading Inputs) → Follows A before now r status.Memory

@@ -37,7 +37,7 @@ impl Words {
         &self.items
     }
 
-    /// Puts a word behind those that are there. After want of memory they are as before.
+    /// Puts a word behind those that are there. After running out of memory they are as before.
     pub fn push(&mut self, word: Text) -> Result<(), AllocError>
         ensures ok { OnOk result (self.new ≡ self.old ++ word ∷ []) }
         ensures err { OnErr result (self.new ≡ self.old) }

@@ -26,7 +26,7 @@ pub record IsVbe (bytes : List ℕ) (m : Machine) : Type 0 where
   pub machine : IsMachineOf design m
 
 -- Why bytes are no machine, in this order: there are too many, they aren't cut into tokens, the tokens are no text, or a check
--- fails. Want of memory is no reason.
+-- fails. Out of memory is no reason.
 pub data Refused (bytes : List ℕ) (e : ReadError) : Type 0 where
   long : MOST_SOURCE_BYTES < length bytes → e ≡ errors.Limit (record { which = kind.File; reached = MOST_SOURCE_BYTES + 1 }) → Refused bytes e
   uncut : length bytes ≤ MOST_SOURCE_BYTES → refusal_in bytes ≡ Some e → Refused bytes e

@@ -299,7 +299,7 @@ impl<'a> TokenReader<'a> {
         self.room += 1;
     }
 
-    /// From now on this is answered; it isn't want of memory, and nothing was refused before. Takes no memory.
+    /// From now on this is answered; it isn't out of memory, and nothing was refused before. Takes no memory.
     pub fn refuse(&mut self, error: ReadError)
         requires refusal { error ≢ Memory }
         requires first { IsNone (front self.old).refused }

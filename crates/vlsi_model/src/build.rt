@@ -43,7 +43,7 @@ fn stored_numbers(alloc: Global, stored: &[StoredBit]) -> Result<Vec<u32>, Alloc
     Ok(numbers)
 }
 
-/// More than 32 bits can number are answered as want of memory.
+/// More than 32 bits can number are answered as out of memory.
 pub fn few(count: usize) -> Result<(), AllocError>
     ensures { OnOk result (count < 2 ^ 32) }
 {

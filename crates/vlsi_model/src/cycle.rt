@@ -80,7 +80,7 @@ fn line_in(
     }
 }
 
-/// The line of the assignment outside of blocks that drives a bit. Where there is none, the answer is want of memory.
+/// The line of the assignment outside of blocks that drives a bit. Where there is none, the answer is out of memory.
 fn driver_line(
     alloc: Global,
     source: &Source,

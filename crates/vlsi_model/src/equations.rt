@@ -70,7 +70,7 @@ pub fn equations(
     Ok(made)
 }
 
-/// The number, if it has at most 32 bits; a greater one is answered as want of memory.
+/// The number, if it has at most 32 bits; a greater one is answered as out of memory.
 fn small(k: usize) -> Result<u32, AllocError>
     ensures { IfOk result (λ n. n ≡ k) }
 {

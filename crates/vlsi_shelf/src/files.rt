@@ -47,7 +47,7 @@ impl FileMap {
         None
     }
 
-    /// Makes these the contents of the file, whether there was one or not. After want of memory the map is as before.
+    /// Makes these the contents of the file, whether there was one or not. After running out of memory the map is as before.
     pub fn insert(&mut self, name: FileName, bytes: FileBytes) -> Result<(), AllocError>
         ensures ok { OnOk result (self.new ≡ map.insert self.old name bytes) }
         ensures err { OnErr result (self.new ≡ self.old) }
