@@ -1,7 +1,10 @@
 -- Names are totally ordered.
-use Rattle.std.proofs.Common.{◌≡◌, ℕ, Option, None, Some, refl}
+use Rattle.std.proofs.Common.{◌≡◌, ℕ, List, Option, None, Some, refl, ap, ◌∙◌}
 use Rattle.std.specs.Cmp.{IsTotalOrder}
-use Rattle.std.specs.Ordering.{ordering_reverse}
+use Rattle.std.specs.Cmp.Lexicographic.{slice_cmp}
+use Rattle.std.specs.FinMap.{IsAntisymmetric, nat_cmp-IsAntisymmetric, slice_cmp-IsAntisymmetric}
+use Rattle.std.specs.Ordering.{nat_cmp, ordering_reverse, ordering_then}
+use Rattle.std.specs.declared.cmp.Ordering.{Ordering}
 use Rattle.std.specs.declared.cmp.Ordering.TheVariants.{Less, Equal, Greater}
 use Rattle.std.proofs.lemmas.Cmp.{nat_cmp_total, lists_total, on_total, then_total}
 use Rattle.vlsi_base.specs.declared.name.Name.{Name}
@@ -36,3 +39,22 @@ bit_total = record {
 
 pub name_total : IsTotalOrder name_cmp
 name_total = then_total (on_total (λ (n : Name). n.text) (lists_total nat_cmp_total)) (on_total (λ (n : Name). n.bit) bit_total)
+
+bit_exact : IsAntisymmetric bit_cmp
+bit_exact None None e = refl
+bit_exact None (Some b) e = absurd cc
+bit_exact (Some a) None e = absurd cc
+bit_exact (Some a) (Some b) e = ap Some (nat_cmp-IsAntisymmetric a b e)
+
+-- names that tie are one
+pub name_exact : IsAntisymmetric name_cmp
+name_exact a b e = by (slice_cmp nat_cmp a.text b.text) refl e where
+  made : List ℕ → Option ℕ → Name
+  made text bit = record { text = text; bit = bit }
+
+  by : (o : Ordering) → slice_cmp nat_cmp a.text b.text ≡ o → ordering_then o (bit_cmp a.bit b.bit) ≡ Equal → a ≡ b
+  by Less is e = absurd cc
+  by Greater is e = absurd cc
+  by Equal is e =
+      ap (λ (t : List ℕ). made t a.bit) (slice_cmp-IsAntisymmetric nat_cmp-IsAntisymmetric a.text b.text is)
+      ∙ ap (made b.text) (bit_exact a.bit b.bit e)

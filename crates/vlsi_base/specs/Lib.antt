@@ -1,6 +1,7 @@
 pub mod Member
 pub mod Name
 pub mod Names
+pub mod NamePlaces
 pub mod Number
 pub mod Fault
 pub mod Tree
