@@ -1,7 +1,8 @@
 // The places of names in lists of names, and bits by place.
 ghost use Rattle.std.specs.Prelude.{◌≡◌, ◌++◌, map, IfOk, OnOk};
 ghost use Rattle.machine_core.specs.Order.{AllDifferent};
-ghost use Rattle.asimut_sim.specs.Places.{place_of, bit_at as bit_of};
+ghost use Rattle.std.specs.FinMap.{get};
+ghost use Rattle.asimut_sim.specs.Places.{IsIndexOf, bit_at as bit_of};
 
 use std::alloc::{AllocError, Global};
 use vlsi_base::{Name, NameIndex};
@@ -14,57 +15,36 @@ pub(crate) struct Index<'a> {
 
 impl<'a> Index<'a> {
     /// The index of a list. It takes memory for one entry a name.
-    pub(crate) fn of(alloc: Global, names: &'a [Name]) -> Result<Index<'a>, AllocError> {
+    pub(crate) fn of(alloc: Global, names: &'a [Name]) -> Result<Index<'a>, AllocError>
+        requires { AllDifferent names.now }
+        ensures { IfOk result (λ index. IsIndexOf index.places names.now) }
+    {
         let mut places = NameIndex::new(alloc);
         places.insert_all(names)?;
         Ok(Index { places })
     }
 
-    fn guess(&self, name: &'a Name) -> Option<usize> {
-        self.places.guess(name.text.as_bytes(), name.bit)
+    /// The place of a name in the list, if it stands there.
+    pub(crate) fn find(&self, name: &'a Name) -> Option<usize>
+        ensures { result ≡ get self.now.places name.now }
+    {
+        self.places.find(name.text.as_bytes(), name.bit)
     }
-}
 
-fn walk(names: &[Name], name: &Name) -> Option<usize>
-    ensures { result ≡ place_of names.now name.now }
-{
-    for (k, other) in names.iter().enumerate() {
-        if other.is_same(name) {
-            return Some(k);
+    /// The places of these names in the list. It takes memory for one place a name.
+    pub(crate) fn find_all(
+        &self,
+        alloc: Global,
+        asked: &'a [Name],
+    ) -> Result<Vec<Option<usize>>, AllocError>
+        ensures { IfOk result (λ v. v.items ≡ map (get self.now.places) asked.now) }
+    {
+        let mut places = Vec::new(alloc);
+        for name in asked {
+            places.push(self.find(name))?;
         }
+        Ok(places)
     }
-    None
-}
-
-/// The place of a name in the list, if it stands there. What the index says is looked at; a name that isn't there is
-/// looked for among all.
-pub(crate) fn place<'a>(index: &Index<'a>, names: &[Name], name: &'a Name) -> Option<usize>
-    requires { AllDifferent names.now }
-    ensures { result ≡ place_of names.now name.now }
-{
-    if let Some(k) = index.guess(name) {
-        if k < names.len() && names[k].is_same(name) {
-            return Some(k);
-        }
-    }
-    walk(names, name)
-}
-
-/// The places of these names in the list. It takes memory for one place a name.
-pub(crate) fn places<'a>(
-    alloc: Global,
-    index: &Index<'a>,
-    names: &[Name],
-    asked: &'a [Name],
-) -> Result<Vec<Option<usize>>, AllocError>
-    requires { AllDifferent names.now }
-    ensures { IfOk result (λ v. v.items ≡ map (place_of names.now) asked.now) }
-{
-    let mut places = Vec::new(alloc);
-    for name in asked {
-        places.push(place(index, names, name))?;
-    }
-    Ok(places)
 }
 
 /// The bit at a place. Where there is none it reads as 0.

@@ -1,5 +1,6 @@
 // Where a machine's names stand among the bits that patterns list.
 ghost use Rattle.std.specs.Prelude.{◌≡◌, map, IfOk};
+ghost use Rattle.std.specs.FinMap.{get};
 ghost use Rattle.std.specs.Option.{option_copied};
 ghost use Rattle.machine_meaning.specs.Machine.{is_clock as is_clock_name};
 ghost use Rattle.machine_core.specs.Order.{AllDifferent};
@@ -8,7 +9,7 @@ ghost use Rattle.asimut_sim.specs.Places.{place_of};
 ghost use Rattle.asimut_sim.specs.Plan.{IsPlan, clock_place as place_of_clock, inputs_among, is_vector_bit as is_bit_of_vector};
 
 use crate::columns::listed_names;
-use crate::places::{Index, place, places};
+use crate::places::Index;
 use machine_core::Machine;
 use pat_meaning::Column;
 use std::alloc::{AllocError, Global};
@@ -45,30 +46,18 @@ fn is_vector_bit(clock: Option<&Name>, port: &Port) -> bool
 fn input_places<'a>(
     alloc: Global,
     index: &Index<'a>,
-    names: &[Name],
     clock: Option<&Name>,
     ports: &'a [Port],
 ) -> Result<Vec<Option<usize>>, AllocError>
-    requires { AllDifferent names.now }
-    ensures { IfOk result (λ v. v.items ≡ map (place_of names.now) (inputs_among (option_copied clock.entry) ports.now)) }
+    ensures { IfOk result (λ v. v.items ≡ map (get index.now.places) (inputs_among (option_copied clock.entry) ports.now)) }
 {
     let mut places = Vec::new(alloc);
     for port in ports {
         if is_vector_bit(clock, port) {
-            places.push(place(index, names, &port.name))?;
+            places.push(index.find(&port.name))?;
         }
     }
     Ok(places)
-}
-
-fn clock_place<'a>(index: &Index<'a>, names: &[Name], clock: Option<&'a Name>) -> Option<usize>
-    requires { AllDifferent names.now }
-    ensures { result ≡ place_of_clock names.now (option_copied clock.entry) }
-{
-    match clock {
-        Some(name) => place(index, names, name),
-        None => None,
-    }
 }
 
 #[derive(Drop)]
@@ -84,8 +73,11 @@ fn given_places(alloc: Global, machine: &Machine, listed: &[Name]) -> Result<Giv
 {
     let index = Index::of(alloc, listed)?;
     let ports = machine.ports().as_slice();
-    let inputs = input_places(alloc, &index, listed, machine.clock(), ports)?;
-    let clock = clock_place(&index, listed, machine.clock());
+    let inputs = input_places(alloc, &index, machine.clock(), ports)?;
+    let clock = match machine.clock() {
+        Some(name) => index.find(name),
+        None => None,
+    };
     Ok(Given { inputs, clock })
 }
 
@@ -98,7 +90,7 @@ fn seen_places(
 {
     let vars = machine.vars().as_slice();
     let index = Index::of(alloc, vars)?;
-    places(alloc, &index, vars, listed)
+    index.find_all(alloc, listed)
 }
 
 /// The plan of a machine and columns. It takes memory for the names of their bits, and while it is made for an index of

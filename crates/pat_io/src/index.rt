@@ -29,12 +29,12 @@ impl<'a> Index<'a> {
         Ok(Index { bits, texts })
     }
 
-    fn guess_bit(&self, text: &'a [u8], bit: Option<u32>) -> Option<usize> {
-        self.bits.guess(text, bit)
+    fn find_bit(&self, text: &'a [u8], bit: Option<u32>) -> Option<usize> {
+        self.bits.find(text, bit)
     }
 
-    fn guess_text(&self, text: &'a [u8]) -> Option<usize> {
-        self.texts.guess(text, None)
+    fn find_text(&self, text: &'a [u8]) -> Option<usize> {
+        self.texts.find(text, None)
     }
 }
 
@@ -78,7 +78,7 @@ fn walk_bits(ports: &[Port], text: &[u8], bit: Option<u32>, dir: Dir) -> bool
 pub fn has_text<'a>(index: &Index<'a>, ports: &[Port], column: &'a ParsedColumn) -> bool
     ensures { result ≡ list_any (is_of_port column.now) ports.now }
 {
-    if let Some(place) = index.guess_text(column.name.as_bytes()) {
+    if let Some(place) = index.find_text(column.name.as_bytes()) {
         if place < ports.len() && is_of_port(column, &ports[place]) {
             return true;
         }
@@ -96,7 +96,7 @@ pub fn has_bit<'a>(
 ) -> bool
     ensures { result ≡ is_port ports.now dir (record { text = text.now; bit = bit }) }
 {
-    if let Some(place) = index.guess_bit(text, bit) {
+    if let Some(place) = index.find_bit(text, bit) {
         if place < ports.len() && is_port_bit(&ports[place], text, bit, dir) {
             return true;
         }
