@@ -4,9 +4,11 @@ use Rattle.vlsi_base.specs.declared.name.Name.{Name}
 use Rattle.vlsi_base.specs.declared.name.Port.{Port}
 use Rattle.machine_meaning.specs.Machine.{is_input, names_of}
 pub use Rattle.cell_model.specs.Function.{Function, gate, flip_flop, other, opaque}
-pub use Rattle.cell_model.specs.declared.cell.Pin.{Pin}
-pub use Rattle.cell_model.specs.declared.cell.Arc.{Arc}
-pub use Rattle.cell_model.specs.declared.cell.Cell.{Cell}
+use Rattle.cell_model.specs.declared.cell.Cell.{Cell as CellParts}
+
+-- a cell of a library, by its parts
+abbrev pub Cell : Type 0
+Cell = CellParts
 
 abbrev pub pin_ports : Cell → List Port
 pin_ports c = map (λ p. p.port) c.pins
