@@ -1,3 +1,5 @@
+pub mod Function
+pub mod View
 pub mod Cell
 pub mod Library
 pub mod Layout
