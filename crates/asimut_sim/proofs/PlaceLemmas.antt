@@ -1,5 +1,5 @@
 -- Names by their places.
-use Rattle.std.proofs.Common.{◌≡◌, ◌≢◌, ℕ, zero, suc, ◌+◌, ◌<◌, Bool, true, false, List, [], ◌∷◌, map, length, drop, Option, None, Some, refl, sym, ◌∙◌, ap, subst, add-one, drop-cons, arith, if◌then◌else◌}
+use Rattle.std.proofs.Common.{◌≡◌, ◌≢◌, ℕ, zero, suc, ◌+◌, Bool, true, false, List, [], ◌∷◌, map, Option, None, Some, refl, ◌∙◌, ap, subst, add-one, arith, if◌then◌else◌}
 use Rattle.std.specs.Prelude.{option_map}
 use Rattle.std.specs.Option.{option_or}
 use Rattle.std.specs.Cmp.{eq_by_cmp_equiv}
@@ -61,10 +61,10 @@ last-place (n ∷ names) apart name =
     ap (λ (o : Option ℕ). option_or (option_map (λ k. k + 1) o) (if eq_by_cmp name_cmp n name then Some 0 else None)) (last-place names apart.1 name)
     ∙ ap (λ (b : Bool). option_or (option_map (λ k. k + 1) (place_of names name)) (if b then Some 0 else None)) (ties n name)
     ∙ by (is_same_name n name) (place_of names name) (λ e. let P : Name → Type 0 = λ x. In x names → ⊥ in place_of-none names name (subst P (same_name-true n name e) apart.0)) where
-  by : (b : Bool) (o : Option ℕ) → (b ≡ true → o ≡ None) → option_or (option_map (λ k. k + 1) o) (if b then Some 0 else None) ≡ (if b then Some 0 else one_on o)
-  by true o none = ap (λ (o : Option ℕ). option_or (option_map (λ k. k + 1) o) (Some 0)) (none refl)
-  by false None none = refl
-  by false (Some k) none = refl
+      by : (b : Bool) (o : Option ℕ) → (b ≡ true → o ≡ None) → option_or (option_map (λ k. k + 1) o) (if b then Some 0 else None) ≡ (if b then Some 0 else one_on o)
+      by true o none = ap (λ (o : Option ℕ). option_or (option_map (λ k. k + 1) o) (Some 0)) (none refl)
+      by false None none = refl
+      by false (Some k) none = refl
 
 or_none : (o : Option ℕ) → option_or o None ≡ o
 or_none None = refl

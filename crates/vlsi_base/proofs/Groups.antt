@@ -1,7 +1,7 @@
 -- The view of a chain is that of its operands, as a list.
 use Rattle.std.proofs.Common.{◌≡◌, ℕ, List, [], ◌∷◌, ◌++◌, map, refl}
 use Rattle.vlsi_base.specs.declared.expression.Operator.{Operator}
-use Rattle.vlsi_base.specs.declared.expression.ParsedExpr.{ParsedExpr, Row_of-ParsedExpr-Chain-2-2, end_of-ParsedExpr-Chain-2-2, more_of-ParsedExpr-Chain-2-2, items-the_row-ParsedExpr-Chain-2-2}
+use Rattle.vlsi_base.specs.declared.expression.ParsedExpr.{Row_of-ParsedExpr-Chain-2-2, end_of-ParsedExpr-Chain-2-2, more_of-ParsedExpr-Chain-2-2, items-the_row-ParsedExpr-Chain-2-2}
 use Rattle.vlsi_base.specs.Tree.{Tree, binary, view, grouped, folded, operand_of}
 
 pub grouped_is : (m : _) (k : Row_of-ParsedExpr-Chain-2-2 m) (op : Operator) (left : Tree) → grouped op left k ≡ folded op left (map operand_of (items-the_row-ParsedExpr-Chain-2-2 m k))

@@ -1,5 +1,5 @@
 -- An index of names, as the map that contracts see.
-use Rattle.std.proofs.Common.{◌≡◌, ℕ, ◌+◌, Bool, true, false, cond, List, [], ◌∷◌, ◌++◌, map, length, take, get_or, ◌<◌, Option, None, Some, refl, sym, ap, ◌∙◌, Bor, arith, add-one}
+use Rattle.std.proofs.Common.{◌≡◌, ℕ, ◌+◌, Bool, true, false, cond, List, [], ◌∷◌, ◌++◌, map, length, take, ◌<◌, Option, None, Some, refl, sym, ap, ◌∙◌, Bor, arith, add-one}
 use Rattle.std.specs.Prelude.{option_map}
 use Rattle.std.specs.List.{slice_index_or}
 use Rattle.std.proofs.lemmas.List.{take_more, length-take-le}
@@ -72,13 +72,13 @@ last_place-push [] x q = by (eq_by_cmp name_cmp x q) where
   by false = refl
 last_place-push (n ∷ xs) x q =
     ap (λ (o : Option ℕ). option_or (option_map (λ k. k + 1) o) first) (last_place-push xs x q) ∙ by (eq_by_cmp name_cmp x q) where
-  first : Option ℕ
-  first = cond (eq_by_cmp name_cmp n q) (Some 0) None
+      first : Option ℕ
+      first = cond (eq_by_cmp name_cmp n q) (Some 0) None
 
-  by : (b : Bool) → option_or (option_map (λ k. k + 1) (option_or (cond b (Some (length xs)) None) (last_place xs q))) first
-      ≡ option_or (cond b (Some (length (n ∷ xs))) None) (option_or (option_map (λ k. k + 1) (last_place xs q)) first)
-  by true = ap (λ (k : ℕ). Some k) (add-one (length xs))
-  by false = refl
+      by : (b : Bool) → option_or (option_map (λ k. k + 1) (option_or (cond b (Some (length xs)) None) (last_place xs q))) first
+          ≡ option_or (cond b (Some (length (n ∷ xs))) None) (option_or (option_map (λ k. k + 1) (last_place xs q)) first)
+      by true = ap (λ (k : ℕ). Some k) (add-one (length xs))
+      by false = refl
 
 -- an index has the place at which each of these names stands last, and else what the old one had
 abbrev pub HasPlaces : NamePlaces → NamePlaces → List Name → Type 0
@@ -91,9 +91,9 @@ inserted old now xs x has q =
     ∙ ap (λ b. cond b (Some (length xs)) (option_or (last_place xs q) (get old q))) ((eq_by_cmp_equiv name_total).symm q x)
     ∙ by (eq_by_cmp name_cmp x q)
     ∙ ap (λ (o : Option ℕ). option_or o (get old q)) (sym (last_place-push xs x q)) where
-  by : (b : Bool) → cond b (Some (length xs)) (option_or (last_place xs q) (get old q)) ≡ option_or (option_or (cond b (Some (length xs)) None) (last_place xs q)) (get old q)
-  by true = refl
-  by false = refl
+      by : (b : Bool) → cond b (Some (length xs)) (option_or (last_place xs q) (get old q)) ≡ option_or (option_or (cond b (Some (length xs)) None) (last_place xs q)) (get old q)
+      by true = refl
+      by false = refl
 
 -- it has the name at place k too, once that one is inserted
 pub has_next : (old now new : NamePlaces) (names : List Name) (k : ℕ) (x : Name) → k < length names → x ≡ slice_index_or names k x
