@@ -328,6 +328,31 @@ def too_wide(choose, cell):
     cell.widen(choose.choice([33, 33, 34, 60]))
 
 
+def shifted(choose, item):
+    """The wire or point a little aside, longer or wider; it keeps its direction."""
+    by = choose.choice([-1, 1, -2, 2, -50, 50, -100, 100, -200, 200, -500, 500])
+    item, way = list(item), choose.randrange(4)
+    width = 5 if item[0] == "S" else 3
+    if way == 0:
+        item[width] = max(1, item[width] + by)
+    elif item[0] == "C":
+        item[1 + way % 2] += by
+    elif way == 3:
+        item[4 if item[7] in (b"UP", b"DOWN") else 3] += by
+    else:
+        for k in (way, way + 2):
+            item[k] += by
+    return tuple(item)
+
+
+def shift(choose, cell):
+    """One of the items that count is shifted, whatever comes of it."""
+    of_one = choose.choice([some for some in (*cell.rails.values(), *cell.pins.values(), cell.extra) if some])
+    k = choose.randrange(len(of_one))
+    if of_one[k][0] in "SC":
+        of_one[k] = shifted(choose, of_one[k])
+
+
 WIDTH = 11
 CHANGES = {
     1: broken_behaviour, 2: broken_layout, 3: other_names, 4: other_box, 5: other_rail, 6: without_access,

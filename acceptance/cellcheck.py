@@ -155,6 +155,15 @@ def multiples(low, high):
     return range(first, high - HALF_SQUARE + 1, COLUMN)
 
 
+def blocks(spans):
+    """Neighbouring columns with nodes in the same rows: the first x, how many columns, how many rows. Spans are (xs, ys)."""
+    edges = sorted({x for xs, ys in spans if xs and ys for x in (xs[0], xs[-1] + COLUMN)})
+    for x, end in zip(edges, edges[1:]):
+        rows = {y for xs, ys in spans if xs and xs[0] <= x <= xs[-1] for y in ys}
+        if rows:
+            yield x, (end - x) // COLUMN, len(rows)
+
+
 def groups(shapes):
     """For each shape the number of its group: those that touch, and the connectors of one name, belong together."""
     group = list(range(len(shapes)))
@@ -226,12 +235,17 @@ class Cell:
         joined = {g for s, g in zip(self.shapes, self.groups()) if s.pin == (supply, -1)}
         return all(g in joined or gap(s.box, self.strip(supply)) >= GAP for s, g in zip(self.shapes, self.groups()))
 
-    def access(self, rank, pin):
-        nodes = sorted({node for b in self.rects(pin) for node in itertools.product(multiples(b[0], b[2]), multiples(b[1], b[3]))})
-        return nodes[rank % len(nodes)]
+    def access_column(self, rank, pin):
+        """The x of the pin's access node: number `rank mod c` of its c nodes in the order of x, then y."""
+        spans = [(multiples(b[0], b[2]), multiples(b[1], b[3])) for b in self.rects(pin)]
+        left = rank % sum(columns * rows for _, columns, rows in blocks(spans))
+        for x, columns, rows in blocks(spans):
+            if left < columns * rows:
+                return x + left // rows * COLUMN
+            left -= columns * rows
 
     def has_columns_of_their_own(self):
-        columns = [self.access(rank, pin)[0] for rank, pin in enumerate(self.signals())]
+        columns = [self.access_column(rank, pin) for rank, pin in enumerate(self.signals())]
         return len(set(columns)) == len(columns)
 
     def failing(self, with_tracks):

@@ -29,7 +29,7 @@ import ap  # noqa: E402
 import ap_maker  # noqa: E402
 import cellcheck  # noqa: E402
 from case_file import expanded  # noqa: E402
-from cell_maker import CHANGES, WIDTH, CellMaker, can_change  # noqa: E402
+from cell_maker import CHANGES, WIDTH, CellMaker, can_change, shift  # noqa: E402
 from results import Results, Room  # noqa: E402
 
 CASES, LIBRARY = HERE / "cells", HERE.parent / "cells"
@@ -52,7 +52,7 @@ def sections(path):
     head, parts = [], []
     for line in path.read_bytes().removesuffix(b"\n").split(b"\n"):
         if line.startswith(b"-- ") and line.endswith(b" --"):
-            parts.append((line[3:-3].decode(), []))
+            parts.append((expanded(line[3:-3]).decode(), []))
         elif parts:
             whole = expanded(line.removesuffix(b"<<open>>")).replace(b"<<cr>>", b"\r").replace(b"<<tab>>", b"\t")
             parts[-1][1].append(whole if line.endswith(b"<<open>>") else whole + b"\n")
@@ -62,20 +62,26 @@ def sections(path):
 
 
 def worked_case(path):
-    """The cases of one file. `written` after an ap file is the writer's text of it; else only the answer's first words count."""
+    """The cases of one file, of which the name says what it holds; acceptance/cells/README.md has the form."""
     title = f"cells/{path.name}"
     head, parts = sections(path)
+    head = [line for line in head if line and not line.startswith("#")]
     if path.name.startswith("library-"):
-        wanted = [line.split(": ", 1) for line in head if line and not line.startswith("#")]
-        yield from ((title, kind, dict(parts), line) for kind, line in wanted)
-        return
-    kind = AP if path.name.startswith("ap-") else PLAIN
+        yield from ((title, kind, dict(parts), line) for kind, line in (line.split(": ", 1) for line in head))
+    elif path.name.startswith("catal-"):
+        yield from ((f"{title} ({k})", PLAIN, {"CATAL": data}, line) for k, (line, data) in enumerate(parts, 1))
+    else:
+        yield from ap_cases(title, "".join(f"{line}\n" for line in head).encode(), parts)
+
+
+def ap_cases(title, head, parts):
+    """Each file begins with the head. `written` is the writer's text of the file before it."""
     for k, (line, data) in enumerate(parts):
         if line == "written":
             continue
         if parts[k + 1 : k + 2] and parts[k + 1][0] == "written":
-            line += " " + ap.quoted(parts[k + 1][1])
-        yield f"{title}: {line[:60]} ({k + 1})", kind, data if kind == AP else {"CATAL": data}, line
+            line += " " + ap.quoted(head + parts[k + 1][1])
+        yield f"{title} ({k + 1})", AP, head + data, line
 
 
 def worked():
@@ -121,8 +127,12 @@ def files_of(choose, cell):
 
 
 def changed_cell(choose, name):
-    """A cell with no, one or two causes brought in."""
+    """A cell with no, one or two causes brought in, or with some items shifted."""
     cell = CellMaker(choose).cell(name)
+    if choose.random() < 0.4:
+        for _ in range(choose.choice([1, 1, 1, 2, 4])):
+            shift(choose, cell)
+        return cell
     for cause in choose.sample(list(CHANGES), choose.choice([0, 0, 1, 1, 2])):
         if can_change(cell, cause):
             CHANGES[cause](choose, cell)
