@@ -12,7 +12,7 @@ import sys
 import ap
 import catal
 import vhdl_reader
-from vbe_oracle import machine_of, values
+from vbe_oracle import checked_machine, values
 from vbe_reader import SourceReader
 from vhdl_reader import SUPPLIES
 
@@ -53,7 +53,7 @@ class Behaviour:
         self.generics = reader.generics
         self.ports = {bit: s.role for s in reader.symbols if s.role in ("in", "out", "inout") for bit in s.bits()}
         try:
-            self.machine = machine_of(reader, statements)
+            self.machine = checked_machine(reader, statements)
         except vhdl_reader.Refused as refused:
             if not str(refused).endswith((" unsupported", " clock use")):
                 raise

@@ -21,6 +21,7 @@ import argparse
 import os
 import pathlib
 import random
+import subprocess
 import sys
 
 HERE = pathlib.Path(__file__).resolve().parent
@@ -37,7 +38,8 @@ CHUNK, MOST_SHOWN, COUNT = 250, 40, 1000
 AP, PLAIN, TRACKS = "ap", "library", "tracks"
 
 
-# ---- texts with their answers: (title, kind, files, wanted), files being those of the folder, or the bytes of one ap file
+# ---- cases: (title, kind, files, wanted), files being those of the folder, or the bytes of one ap file; wanted is None where
+# the second readers say it
 
 
 def answer(kind, files):
@@ -85,8 +87,11 @@ def ap_cases(title, head, parts):
 
 
 def worked():
+    """The worked cases, and the row library, which passes its checks."""
     for path in sorted(CASES.glob("*.txt")):
         yield from worked_case(path)
+    for kind in (PLAIN, TRACKS):
+        yield "the row library", kind, cellcheck.folder(LIBRARY), "ok"
 
 
 def begins(got, wanted):
@@ -205,6 +210,12 @@ def check_known(results, seed, count):
                 check_second(results, [("a changed cell", PLAIN, files, "ok")])
 
 
+def check_made(results):
+    """The row library's files are those that its table makes."""
+    done = subprocess.run([sys.executable, HERE.parent / "bench/cells.py", "--check"], stdout=subprocess.PIPE, text=True)
+    results.note("the files of the row library", done.returncode == 0, done.stdout)
+
+
 def shown(files):
     return repr(files[:1500]) if isinstance(files, bytes) else "\n".join(f"{name}: {data[:1500]!r}" for name, data in files.items())
 
@@ -219,27 +230,30 @@ def check_program(results, program, kind, cases):
     lines = printed.decode(errors="replace").split("\n")
     results.note("the program's end", status == 0 and len(lines) == len(cases) + 1, f"status {status}, {len(lines) - 1} lines for {len(cases)} texts")
     for name, (title, _, files, wanted), got in zip(names, cases, lines + [""] * len(cases)):
+        wanted = answer(kind, files) if wanted is None else wanted
         wanted = wanted.replace("missing ", f"missing {name}/") if kind != AP else wanted
         results.note(f"{title} ({kind})", begins(got, wanted), f"printed {got!r}, wanted {wanted!r} for {shown(files)}")
 
 
 def all_cases(seed, count):
-    """The worked cases with their own answers, and random files with those of the second readers."""
+    """The worked cases with their own answers, and random files."""
     yield from worked()
     choose = random.Random(seed)
     for data in random_ap(choose, count):
-        yield "an ap file", AP, data, answer(AP, data)
+        yield "an ap file", AP, data, None
     for _ in range(count):
         files = random_library(choose)
         for kind in (PLAIN, TRACKS):
-            yield "a library", kind, files, answer(kind, files)
+            yield "a library", kind, files, None
 
 
 def jobs(program, seed, count):
-    """Functions with what they are given behind the results."""
+    """Functions with what they are given behind the results. Where there is no program the second readers run alone."""
     yield check_second, (list(worked()),)
     yield check_known, (seed, count)
+    yield check_made, ()
     if program is None:
+        yield Results.skip, ("there is no program that reads cells: the second readers are run alone",)
         return
     waiting = {AP: [], PLAIN: [], TRACKS: []}
     for case in all_cases(seed, count):
@@ -253,6 +267,11 @@ def jobs(program, seed, count):
             yield check_program, (program, kind, cases)
 
 
+def runnable(program):
+    """The program's whole name, or None."""
+    return str(program.resolve()) if program and os.access(program, os.X_OK) else None
+
+
 def main():
     reader = argparse.ArgumentParser(usage="%(prog)s [PROGRAM] [--count N] [--seed N]")
     reader.add_argument("program", type=pathlib.Path, nargs="?")
@@ -260,10 +279,7 @@ def main():
     reader.add_argument("--seed", type=int, default=1)
     given = reader.parse_args()
     results = Results()
-    program = str(given.program.resolve()) if given.program and os.access(given.program, os.X_OK) else None
-    if program is None:
-        results.skip(f"{given.program or 'the program that reads cells'} can't be run: the second readers are run alone")
-    for function, words in jobs(program, given.seed, given.count):
+    for function, words in jobs(runnable(given.program), given.seed, given.count):
         function(results, *words)
     for line in results.failures[:MOST_SHOWN]:
         print(f"FAILED: {line}")

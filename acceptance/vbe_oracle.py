@@ -413,10 +413,10 @@ def machine(text):
     if len(text) > FILE:
         raise limit("file", FILE + 1)
     reader = SourceReader(*lex(text))
-    return machine_of(reader, reader.source())
+    return checked_machine(reader, reader.source())
 
 
-def machine_of(reader, statements):
+def checked_machine(reader, statements):
     """The machine of statements that the reader has read."""
     checks = Checks(reader, statements)
     for name, line in checks.unknown():

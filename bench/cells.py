@@ -181,9 +181,10 @@ def library():
 
 
 def differences(files):
-    """Names of files that are missing, differ, or are kept and not made."""
-    kept = {path.name: path.read_text() for path in FOLDER.iterdir() if path.name != "README.md"}
-    return sorted(name for name in {*files, *kept} if files.get(name) != kept.get(name))
+    """Names of files that are missing, differ, or are kept and not made; README.md where it lacks the table."""
+    kept = {path.name: path.read_text() for path in FOLDER.iterdir()}
+    has_table = "\n".join(table()) in kept.pop("README.md", "")
+    return sorted(name for name in {*files, *kept} if files.get(name) != kept.get(name)) + ([] if has_table else ["README.md"])
 
 
 def table():
