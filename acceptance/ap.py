@@ -12,9 +12,10 @@ LAYERS |= {f"{kind}{k}" for kind in ("ALU", "CALU", "TALU") for k in range(1, 10
 TRANSFORMS = {"NOSYM", "SYM_X", "SYM_Y", "SYMXY"}
 SIDES = {b"NORTH", b"SOUTH", b"EAST", b"WEST"}
 UPRIGHT, LEVEL = {b"UP", b"DOWN"}, {b"LEFT", b"RIGHT"}
-SCALES = {1, 10, 100}
+SCALES = {b"1": 1, b"10": 10, b"100": 100}
 IDENT, INDEX, COORDINATE, U64 = 64, 4294967295, 10**12, 2**64 - 1
 
+VERSION = b"V ALLIANCE : "
 NUMBER = re.compile(rb"-?[0-9]+")
 WORD = re.compile(rb"[A-Za-z][A-Za-z0-9_]*")
 NAME = re.compile(rb"([A-Za-z][A-Za-z0-9_]*)(?: ([0-9]+)|\(([0-9]+)\))?")
@@ -166,7 +167,7 @@ class Line:
 
     def via(self, line):
         x, y, contact, *name = fields_of(line, b"V", 3, 4)
-        need(CONTACT.fullmatch(contact))
+        need(CONTACT.fullmatch(text(contact)))
         return ("V", self.length(x), self.length(y), contact, self.name(name[0] if name else b"*"))
 
     def instance(self, line):
@@ -178,7 +179,7 @@ class Line:
     def reference(self, line):
         x, y, word, name = fields_of(line, b"R", 4)
         place = self.length(x), self.length(y)
-        return ("R", *place, self.identifier(word).encode(), text(name))
+        return ("R", *place, self.identifier(word).lower().encode(), text(name))
 
     def remark(self, line):
         need(line[1:2] in (b" ", b"\t"))
@@ -200,16 +201,16 @@ class FileReader:
         self.next = self.version
 
     def version(self, line, row):
-        need(row[:1] == b"V" and row[1:2] in (b" ", b"\t") and row[2:].startswith(b"ALLIANCE : "))
-        number(row[2:].removeprefix(b"ALLIANCE : "))
+        need(row.startswith(VERSION))
+        number(row.removeprefix(VERSION))
         self.next = self.head
 
     def head(self, line, row):
-        name, p, _, scale = fields_of(row, b"H", 4)
-        need(p == b"P")
+        name, p, date, scale = fields_of(row, b"H", 4)
+        need(p == b"P" and scale in SCALES)
+        text(date)
         self.figure.name = line.name(name)
-        self.scale = number(scale)
-        need(self.scale in SCALES)
+        self.scale = SCALES[scale]
         self.next = self.box
 
     def box(self, line, row):

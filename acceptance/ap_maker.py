@@ -21,6 +21,8 @@ LINES = [
     b"S 0,0,0,0,1," + b"n" * 65 + b",UP,ALU0", b"S 0,0,0,0,9999999999999," + b"n" * 66 + b",UP,ALU1", b"I 0,0,m," + b"g" * 65 + b",NOSYM",
 ]
 
+# How many lines stand before the first that may be blank.
+FIRST_BLANK = 0
 KINDS = {
     rb"-?[0-9]+": [b"0", b"1", b"-1", b"100", b"-7", b"500", b"1000000000000", b"-1000000000000", b"1000000000001", b"-90000000000", b"9" * 21, b"8" * 400],
     rb"[A-Z_]+[0-9]?": [*LAYERS, *TRANSFORMS, *SIDES, b"ALU10", b"METAL", b"ROT_P", b"SY_RM", b"UP", b"DOWN", b"LEFT", b"RIGHT"],
@@ -58,7 +60,7 @@ class FigureMaker:
         if letter == "S":
             return self.segment()
         if letter == "C":
-            return ("C", x, y, self.width(), self.name(), choose.choice([0, 1, -1, 10**20]), choose.choice(SIDES), choose.choice(LAYERS))
+            return ("C", x, y, self.width(), self.name(), choose.choice([0, 1, -1, 2**62]), choose.choice(SIDES), choose.choice(LAYERS))
         if letter == "V":
             return ("V", x, y, choose.choice(CONTACTS), self.name())
         if letter == "I":
@@ -133,7 +135,7 @@ class Speller:
         """The rows with blank lines among them and with their ends; the last may have none."""
         if self.some(0.3):
             for _ in range(3):
-                rows.insert(self.choose.randrange(len(rows) + 1), self.choose.choice([b"", b" ", b"\t "]))
+                rows.insert(self.choose.randrange(FIRST_BLANK, len(rows) + 1), self.choose.choice([b"", b" ", b"\t "]))
         ends = self.choose.choice([b"\n", b"\n", b"\r\n"]) if not self.plain else b"\n"
         text = b"".join(row + (self.choose.choice([b"\n", b"\r\n"]) if self.some(0.1) else ends) for row in rows)
         return text.removesuffix(b"\n").removesuffix(b"\r") if self.some(0.1) else text
