@@ -24,7 +24,9 @@ LINES = [
 # How many lines stand before the first that may be blank.
 FIRST_BLANK = 0
 KINDS = {
-    rb"-?[0-9]+": [b"0", b"1", b"-1", b"100", b"-7", b"500", b"1000000000000", b"-1000000000000", b"1000000000001", b"-90000000000", b"9" * 21, b"8" * 400],
+    rb"-?[0-9]+": [
+        b"0", b"1", b"-1", b"100", b"-7", b"500", b"1000000000000", b"-1000000000000", b"1000000000001", b"-90000000000", b"9" * 21, b"8" * 400,
+    ],
     rb"[A-Z_]+[0-9]?": [*LAYERS, *TRANSFORMS, *SIDES, b"ALU10", b"METAL", b"ROT_P", b"SY_RM", b"UP", b"DOWN", b"LEFT", b"RIGHT"],
     rb".*": [b"a", b"b 1", b"c(9)", b"*", b"g1", b"n" * 64, b"n" * 65, b"m" * 66 + b"(1)", b"k(4294967296)", b"X", b"2x"],
 }

@@ -246,7 +246,9 @@ def other_names(choose, cell):
 
 def other_box(choose, cell):
     x1, y1, x2, y2 = cell.box
-    cell.box = choose.choice([(x1, y1, x2, y2 - 1), (x1, y1, x2, y2 + 5000), (x1, y1, x2 + 1, y2), (x1, y1, x1, y2), (x1 - 500, y1, x2, y2), (x1, y1 + 1, x2, y2 + 1)])
+    cell.box = choose.choice([
+        (x1, y1, x2, y2 - 1), (x1, y1, x2, y2 + 5000), (x1, y1, x2 + 1, y2), (x1, y1, x1, y2), (x1 - 500, y1, x2, y2), (x1, y1 + 1, x2, y2 + 1),
+    ])
 
 
 def other_rail(choose, cell):

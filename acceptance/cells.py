@@ -165,10 +165,21 @@ def random_library(choose):
     return {"CATAL": catal(choose, names), **files}
 
 
+def cut_libraries(choose):
+    """A library of one cell with each of its files cut at every byte."""
+    cell = CellMaker(choose).flip_flop("x1")
+    files = {"CATAL": b"feed G\n\nx1 C\n", **files_of(choose, cell)}
+    for name, data in files.items():
+        for k in range(len(data)):
+            if not data[:k].endswith(b"\r"):
+                yield {**files, name: data[:k]}
+
+
 def spoil(choose, files):
     """One file with a limit passed."""
     name = choose.choice(list(files))
-    old, new = choose.choice([(b"entity ", b"entity " + b"n" * 65), (b":= 1", b":= 4294967296"), (b"A 0", b"A 0000000000001000000000001"), (b",P,", b"_" * 65 + b",P,")])
+    changes = [(b"entity ", b"entity " + b"n" * 65), (b":= 1", b":= 4294967296"), (b"A 0,0,", b"A 0,-1000000000001,"), (b",P,", b"_" * 65 + b",P,")]
+    old, new = choose.choice(changes)
     files[name] = files[name].replace(old, new, 1)
 
 
@@ -241,6 +252,8 @@ def all_cases(seed, count):
     choose = random.Random(seed)
     for data in random_ap(choose, count):
         yield "an ap file", AP, data, None
+    for files in cut_libraries(choose):
+        yield "a library with a file that is cut", PLAIN, files, None
     for _ in range(count):
         files = random_library(choose)
         for kind in (PLAIN, TRACKS):
