@@ -21,7 +21,6 @@ import argparse
 import os
 import pathlib
 import random
-import subprocess
 import sys
 
 HERE = pathlib.Path(__file__).resolve().parent
@@ -29,11 +28,12 @@ sys.path.insert(0, str(HERE))
 import ap  # noqa: E402
 import ap_maker  # noqa: E402
 import cellcheck  # noqa: E402
+import row_library  # noqa: E402
 from case_file import expanded  # noqa: E402
 from cell_maker import CHANGES, WIDTH, CellMaker, can_change, shift  # noqa: E402
 from results import Results, Room  # noqa: E402
 
-CASES, LIBRARY = HERE / "cells", HERE.parent / "cells"
+CASES = HERE / "cells"
 CHUNK, MOST_SHOWN, COUNT = 250, 40, 1000
 AP, PLAIN, TRACKS = "ap", "library", "tracks"
 
@@ -91,7 +91,7 @@ def worked():
     for path in sorted(CASES.glob("*.txt")):
         yield from worked_case(path)
     for kind in (PLAIN, TRACKS):
-        yield "the row library", kind, cellcheck.folder(LIBRARY), "ok"
+        yield "the row library", kind, cellcheck.folder(row_library.LIBRARY), "ok"
 
 
 def begins(got, wanted):
@@ -103,7 +103,7 @@ def begins(got, wanted):
 
 
 def random_ap(choose, count):
-    library = [path.read_bytes() for path in sorted(LIBRARY.glob("*.ap"))]
+    library = [path.read_bytes() for path in sorted(row_library.LIBRARY.glob("*.ap"))]
     for data in (choose.choice(library), whole_file(choose)):
         yield from ap_maker.cuts(data)
         yield from ap_maker.cuts(data.replace(b"\n", b"\r\n"))
@@ -221,12 +221,6 @@ def check_known(results, seed, count):
                 check_second(results, [("a changed cell", PLAIN, files, "ok")])
 
 
-def check_made(results):
-    """The row library's files are those that its table makes."""
-    done = subprocess.run([sys.executable, HERE.parent / "bench/cells.py", "--check"], stdout=subprocess.PIPE, text=True)
-    results.note("the files of the row library", done.returncode == 0, done.stdout)
-
-
 def shown(files):
     return repr(files[:1500]) if isinstance(files, bytes) else "\n".join(f"{name}: {data[:1500]!r}" for name, data in files.items())
 
@@ -264,7 +258,7 @@ def jobs(program, seed, count):
     """Functions with what they are given behind the results. Where there is no program the second readers run alone."""
     yield check_second, (list(worked()),)
     yield check_known, (seed, count)
-    yield check_made, ()
+    yield row_library.check, ()
     if program is None:
         yield Results.skip, ("there is no program that reads cells: the second readers are run alone",)
         return
