@@ -45,7 +45,8 @@ class FigureMaker:
         return self.choose.choice(WORDS), self.choose.choice([-1, -1, -1, 0, 3, 4294967295])
 
     def place(self):
-        return self.choose.choice([0, 500, -500, 100, -100, 12300, 10**12, -(10**12), self.choose.randrange(-10**6, 10**6), 100 * self.choose.randrange(-999, 999)])
+        choose = self.choose
+        return choose.choice([0, 500, -500, 100, -100, 12300, 10**12, -(10**12), choose.randrange(-(10**6), 10**6), 100 * choose.randrange(-999, 999)])
 
     def width(self):
         return self.choose.choice([1, 100, 200, 600, 10**12, 100 * self.choose.randrange(1, 99)])

@@ -1,10 +1,9 @@
 """Cells made at random that pass all checks, and changes of a cell that each bring one cause of refusal."""
 
 COLUMN, FOOT, HEAD, HEIGHT = 500, 1000, 4000, 5000
-NAMES = "i i0 i1 i2 i3 i4 i5 a b c d e en cmd x x1 y_ in port".split()
+NAMES = "i i0 i1 i2 i3 i4 i5 a b c d e en cmd x x1 y_".split()
 OUTPUTS = "q nq z o f_out".split()
 SUPPLIES = {"vss": 300, "vdd": 4700}
-RESERVED = {"in", "port"}
 
 
 def wire(x1, y1, x2, y2, width, name, layer=b"CALU1"):
@@ -17,7 +16,8 @@ def point(x, y, width, name, layer=b"CALU1"):
 
 
 class MadeCell:
-    """A cell: its ports and statements as text, its box, and the items of each pin. `cause` is None, or what was brought in."""
+    """A cell: its ports and statements as text, its box, the items of each rail and pin, and others. `vbe` takes the place of
+    its text where it isn't None."""
 
     def __init__(self, name, ports, declared, statements, is_mappable):
         self.name, self.ports, self.declared, self.statements = name, ports, declared, statements
@@ -76,7 +76,7 @@ class CellMaker:
         return f"generic ({'; '.join(given)});\n" if given else ""
 
     def named(self, count):
-        return self.choose.sample([name for name in NAMES if name not in RESERVED], count)
+        return self.choose.sample(NAMES, count)
 
     def ports(self, inputs, outputs):
         ports = [f"{name} : in bit" for name in inputs] + [f"{name} : out bit" for name in outputs]

@@ -88,10 +88,6 @@ class Behaviour:
 # ---- the geometry
 
 
-def square(x, y, width):
-    return across(x, width) + across(y, width)
-
-
 def across(at, width):
     return at - width // 2, at - width // 2 + width
 
