@@ -2,6 +2,7 @@
 right and wrong patterns, random rings, and a circuit that Icarus Verilog runs too. The second readers say what is wanted.
 """
 
+import itertools
 import pathlib
 import random
 import shutil
@@ -12,10 +13,10 @@ from case_file import ROWS, Case
 from pat_oracle import answer
 from random_sources import PATTERN_WORDS, WORDS, Maker, changed, flipped
 from results import Room, compare, run_in, shown
-from vbe_oracle import Ring
+from vbe_oracle import Ring, machine
 
 HERE = pathlib.Path(__file__).resolve().parent
-EXAMPLES = HERE.parent / "examples"
+EXAMPLES, CELLS = HERE.parent / "examples", HERE.parent / "cells"
 ROW = ROWS / "asimut-runs/the-inverter.txt"
 TEXT_WORDS = ["asimut", "row1.vbe", "-p", "t.pat"]
 USAGE = b"usage: alliance flow|asimut ARGUMENTS\n"
@@ -146,6 +147,25 @@ def check_examples(results, program):
         compare(results, f"the example {path.name}", run_in(files, program, words), 0, printed.encode(), files)
 
 
+def all_inputs(source):
+    """Patterns in which the inputs of a cell take all their values, the clock last and so the fastest."""
+    m = machine(source)
+    inputs = sorted((name for (name, _), way in m.ports.items() if way == "in"), key=lambda name: (name == m.clock, name))
+    outputs = [name for (name, _), way in m.ports.items() if way == "out"]
+    columns = [f"in {name};\n" for name in inputs] + [f"out {name};\n" for name in outputs]
+    rows = [f"< {k} ns> : {' '.join([*bits, *('?*' for _ in outputs)])};\n" for k, bits in enumerate(itertools.product("01", repeat=len(inputs)))]
+    return "".join([*columns, "begin\n", *rows, "end;\n"]).encode()
+
+
+def check_cells(results, program):
+    """The behaviour of each cell of the row library."""
+    with Room() as room:
+        for path in sorted(CELLS.glob("*.vbe")):
+            source = path.read_bytes()
+            status, printed = expect(results, room, program, f"the cell {path.name}", source, all_inputs(source))
+            results.note(f"the cell {path.name} in the second reader", status == 0, printed)
+
+
 def check_words(results, program):
     case = Case(ROW)
     words = [b"asimut", b"\xff.vbe", b"-p", b"t.pat"]
@@ -197,6 +217,6 @@ def jobs(program, seed, times):
         yield check_changes, (program, seed, numbers)
     for texts in chunks(cut_texts()):
         yield check_cut, (program, texts)
-    for check in (check_examples, check_words):
+    for check in (check_examples, check_cells, check_words):
         yield check, (program,)
     yield check_verilog, (program, seed)

@@ -1,9 +1,10 @@
 #!/usr/bin/env python3
 """Runs the built programs on real files and on many texts.
 
-Usage: acceptance/run.py PROGRAM FRONT_PROBE [--many] [--seed N]
+Usage: acceptance/run.py PROGRAM FRONT_PROBE [CELL_PROBE] [--many] [--seed N]
 
-PROGRAM is `alliance`, FRONT_PROBE the program that reads fronts of VHDL texts. Run are the cases of crates/rows/data and of
+PROGRAM is `alliance`, FRONT_PROBE the program that reads fronts of VHDL texts, CELL_PROBE the one that reads ap files and
+libraries, of which cells.py says what it prints. Run are the cases of crates/rows/data and of
 acceptance/large, each as its file says; each again with a folder in the place of every file that it reads or writes, with
 that file missing, and on a full disk; the second readers on the same cases; and then the texts that each tool's module makes. Each
 language has one second reader, written from docs/FORMATS.md in this language; nothing that a program printed is wanted of it.
@@ -18,6 +19,7 @@ import sys
 from multiprocessing import Pool
 
 sys.path.insert(0, str(pathlib.Path(__file__).parent))
+import cells  # noqa: E402
 import front  # noqa: E402
 from case_file import case_files  # noqa: E402
 from cases import check_case  # noqa: E402
@@ -27,9 +29,10 @@ from tools import TOOLS  # noqa: E402
 MOST_SHOWN = 40
 
 
-def jobs_of(program, probe, seed, times):
+def jobs_of(program, probe, cell_probe, seed, times):
     """Functions with what they are given behind the results, the longest first."""
     yield from front.jobs(probe, seed, times)
+    yield from cells.jobs(cell_probe, seed, cells.COUNT * times)
     for tool in TOOLS.values():
         yield from tool.jobs(program, seed, times)
     for path in case_files():
@@ -44,16 +47,18 @@ def work(job):
 
 
 def main():
-    reader = argparse.ArgumentParser(usage="%(prog)s PROGRAM FRONT_PROBE [--many] [--seed N]")
+    reader = argparse.ArgumentParser(usage="%(prog)s PROGRAM FRONT_PROBE [CELL_PROBE] [--many] [--seed N]")
     reader.add_argument("program", type=pathlib.Path)
     reader.add_argument("front_probe", type=pathlib.Path)
+    reader.add_argument("cell_probe", type=pathlib.Path, nargs="?")
     reader.add_argument("--many", action="store_true")
     reader.add_argument("--seed", type=int, default=1)
     given = reader.parse_args()
     for program in (given.program, given.front_probe):
         if not os.access(program, os.X_OK):
             reader.error(f"{program} can't be run")
-    jobs = list(jobs_of(str(given.program.resolve()), str(given.front_probe.resolve()), given.seed, 10 if given.many else 1))
+    programs = str(given.program.resolve()), str(given.front_probe.resolve()), cells.runnable(given.cell_probe)
+    jobs = list(jobs_of(*programs, given.seed, 10 if given.many else 1))
     total = Results()
     with Pool(os.cpu_count()) as pool:
         for results in pool.imap_unordered(work, jobs):

@@ -413,7 +413,12 @@ def machine(text):
     if len(text) > FILE:
         raise limit("file", FILE + 1)
     reader = SourceReader(*lex(text))
-    checks = Checks(reader, reader.source())
+    return checked_machine(reader, reader.source())
+
+
+def checked_machine(reader, statements):
+    """The machine of statements that the reader has read."""
+    checks = Checks(reader, statements)
     for name, line in checks.unknown():
         if name not in checks.symbols:
             raise fault(line, "unknown", name)
