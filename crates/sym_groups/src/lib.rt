@@ -1,7 +1,7 @@
 //! Groups of numbers that are put together pair by pair.
 #![tactic(auto)]
 
-ghost use Rattle.std.specs.Prelude.{◌≡◌, ℕ, ◌<◌, ◌≤◌, ◌↔◌, length, slice_index_or, IsTrue, IfOk};
+ghost use Rattle.std.specs.Prelude.{◌≡◌, ℕ, ◌<◌, ◌≤◌, length, slice_index_or, MatchBool, IfOk};
 ghost use Rattle.sym_groups.specs.Ties.{Falls, Tied, SameTies, KeepsRoots, JoinsTies, Alone, LabelsTies};
 
 use std::alloc::{AllocError, Global};
@@ -53,7 +53,7 @@ fn join(parents: &mut [u32], a: u32, b: u32) -> bool
     requires b_within { b < length parents.old }
     ensures falls { Falls parents.new }
     ensures joins { JoinsTies parents.old parents.new a b }
-    ensures apart { IsTrue result ↔ (¬ (Tied parents.old a b)) }
+    ensures apart { MatchBool result (¬ (Tied parents.old a b)) (Tied parents.old a b) }
 {
     let first = root(parents, a as usize);
     let second = root(parents, b as usize);
@@ -102,7 +102,7 @@ impl Groups {
         requires a_within { a < length self.old }
         requires b_within { b < length self.old }
         ensures joins { JoinsTies self.old self.new a b }
-        ensures apart { IsTrue result ↔ (¬ (Tied self.old a b)) }
+        ensures apart { MatchBool result (¬ (Tied self.old a b)) (Tied self.old a b) }
     {
         join(&mut self.parents, a, b)
     }

@@ -2,6 +2,7 @@
 #![tactic(auto)]
 
 mod bands;
+mod forest;
 mod marks;
 mod numbers;
 mod shape;
