@@ -6,3 +6,5 @@ pub mod Bands
 pub mod Marks
 pub mod View
 pub mod Seen
+pub mod Chain
+pub mod Search

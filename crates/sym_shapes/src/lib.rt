@@ -2,11 +2,14 @@
 #![tactic(auto)]
 
 mod bands;
+mod chains;
 mod forest;
 mod marks;
 mod numbers;
+mod search;
 mod shape;
 mod sweep;
 
+pub use chains::chain;
 pub use numbers::joints;
 pub use shape::Shape;

@@ -1,0 +1,104 @@
+-- Ways from step to step are chains of links.
+use Rattle.std.proofs.Common.{◌≡◌, ◌≢◌, ℕ, zero, suc, ◌+◌, ◌-◌, ◌<◌, ◌≤◌, inl, inr, List, [], ◌∷◌, ◌++◌, length, length-append, get_or, refl, sym, ◌∙◌, ap, subst, arith}
+use Rattle.std.proofs.lemmas.Bool.{cases_lt}
+use Rattle.std.proofs.lemmas.List.{get_or_append_left, get_or_push}
+use Rattle.sym_shapes.specs.Shape.{Shape}
+use Rattle.sym_shapes.specs.Joined.{Linked, Joined, itself, through}
+use Rattle.sym_shapes.specs.Chain.{LinkedAt, IsChain}
+use Rattle.sym_shapes.specs.declared.search.Step.{Step}
+use Rattle.sym_shapes.specs.Search.{step, Falls, Follows, StepsDiffer, StepsWithin}
+use Rattle.sym_shapes.proofs.Joins.{in_at, linked_back, joined_then}
+
+pub chain_one : (shapes : List Shape) (k : ℕ) → k < length shapes → IsChain shapes (k ∷ []) k k
+chain_one shapes k h = record {
+  some = omega arith;
+  first = refl;
+  last = refl;
+  within = λ n low. let e : 0 ≡ n = omega (arith, low) in subst (λ (x : ℕ). get_or (k ∷ []) x 0 < length shapes) e h;
+  linked = λ n low. absurd (omega (arith, low));
+  different = λ m n before low. absurd (omega (arith, before, low));
+}
+
+-- a chain goes on to one more shape
+pub chain_on : (shapes : List Shape) (places : List ℕ) (from mid to : ℕ) → IsChain shapes places from mid → LinkedAt shapes mid to → to < length shapes
+    → ((k : ℕ) → k < length places → get_or places k 0 ≢ to) → IsChain shapes (places ++ to ∷ []) from to
+chain_on shapes places from mid to c truly within new =
+    let more : List ℕ = places ++ to ∷ [] in
+    let many : length more ≡ length places + 1 = length-append places (to ∷ []) in
+    let kept : (k : ℕ) → k < length places → get_or more k 0 ≡ get_or places k 0 = λ k h. get_or_append_left places (to ∷ []) 0 k h in
+    let last : (k : ℕ) → length places ≡ k → get_or more k 0 ≡ to = λ k e. get_or_push places to 0 k e in
+    record {
+      some = omega (arith, many);
+      first = kept 0 c.some ∙ c.first;
+      last = last (length more - 1) (omega (arith, many));
+      within = λ k low. elim (cases_lt k (length places)) [
+        | inl lt ↦ rw (kept k lt) (c.within k lt)
+        | inr ge ↦ rw (last k (omega (arith, many, low, ge))) within
+      ];
+      linked = λ k low. elim (cases_lt (k + 1) (length places)) [
+        | inl lt ↦ rw (kept k (omega (arith, lt)), kept (k + 1) lt) (c.linked k lt)
+        | inr ge ↦
+            let end : length places ≡ k + 1 = omega (arith, many, low, ge) in
+            let is : get_or places k 0 ≡ mid = ap (λ (x : ℕ). get_or places x 0) (let e : k ≡ length places - 1 = omega (arith, end) in e) ∙ c.last in
+            rw (kept k (omega (arith, end)), last (k + 1) end, is) truly
+      ];
+      different = λ j k before low. elim (cases_lt k (length places)) [
+        | inl lt ↦ rw (kept k lt, kept j (omega (arith, before, lt))) (c.different j k before lt)
+        | inr ge ↦ let hj : j < length places = omega (arith, many, low, before) in rw (last k (omega (arith, many, low, ge)), kept j hj) (new j hj)
+      ];
+    }
+
+-- the way from one step to another, so far: a chain, over places of steps at or behind that one
+pub record WayTo (steps : List Step) (places : List ℕ) (start at : ℕ) : Type 0 where
+  pub chain : (shapes : List Shape) → Follows (LinkedAt shapes) steps → StepsDiffer steps → StepsWithin shapes steps
+      → IsChain shapes places (step steps start).place (step steps at).place
+  pub over : (k : ℕ) → k < length places → (j : ℕ) × (at ≤ j) × (j < length steps) × ((step steps j).place ≡ get_or places k 0)
+
+pub way_begin : (steps : List Step) (start : ℕ) → start < length steps → WayTo steps ((step steps start).place ∷ []) start start
+way_begin steps start low = record {
+  chain = λ shapes follows differ within. chain_one shapes (step steps start).place (within start low);
+  over = λ n upto. let e : 0 ≡ n = omega (arith, upto) in
+      (start, omega arith, low, ap (λ (x : ℕ). get_or ((step steps start).place ∷ []) x 0) e);
+}
+
+pub way_on : (steps : List Step) (places : List ℕ) (start at next : ℕ) → Falls steps → at < length steps → at ≢ 0 → next ≡ (step steps at).next
+    → WayTo steps places start at → WayTo steps (places ++ (step steps next).place ∷ []) start next
+way_on steps places start at next falls low moves is w =
+    let pos : 0 < at = omega (arith, moves) in
+    let less : next < at = rw is (falls at pos low) in
+    let place : ℕ = (step steps next).place in
+    let more : List ℕ = places ++ place ∷ [] in
+    record {
+      chain = λ shapes follows differ within.
+          let truly : LinkedAt shapes (step steps at).place place = λ d. linked_back (rw is (follows at pos low d)) in
+          chain_on shapes places (step steps start).place (step steps at).place place (w.chain shapes follows differ within) truly (within next (omega (arith, less, low)))
+          (λ k hk e. let r = w.over k hk in let from = r.1 in differ next r.0 (omega (arith, less, from)) r.2 (sym (r.3 ∙ e)));
+      over = λ k upto. elim (cases_lt k (length places)) [
+        | inl lt ↦ let r = w.over k lt in (r.0, let from = r.1 in omega (arith, less, from), r.2, r.3 ∙ sym (get_or_append_left places (place ∷ []) 0 k lt))
+        | inr ge ↦ (
+          next,
+          omega arith,
+          omega (arith, less, low),
+          sym (get_or_push places place 0 k (let many = length-append places (place ∷ []) in omega (arith, many, upto, ge))),
+        )
+      ];
+    }
+
+joined_upto : (shapes : List Shape) (places : List ℕ) (from to : ℕ) (d : Shape) → IsChain shapes places from to → (k : ℕ) → k < length places
+    → Joined shapes (get_or shapes from d) (get_or shapes (get_or places k 0) d)
+joined_upto shapes places from to d c zero low = rw c.first (itself (in_at shapes from d (rw (← c.first) (c.within 0 low))))
+joined_upto shapes places from to d c (suc k) low =
+    let before : k < length places = omega arith in
+    let e : k + 1 ≡ suc k = omega arith in
+    let next : k + 1 < length places = omega arith in
+    let step : Linked (get_or shapes (get_or places k 0) d) (get_or shapes (get_or places (suc k) 0) d) =
+    subst (λ (x : ℕ). Linked (get_or shapes (get_or places k 0) d) (get_or shapes (get_or places x 0) d)) e (c.linked k next d) in
+    joined_then (joined_upto shapes places from to d c k before)
+    (through (in_at shapes (get_or places k 0) d (c.within k before)) step (itself (in_at shapes (get_or places (suc k) 0) d (c.within (suc k) low))))
+
+-- a chain joins its ends
+pub chain_joined : (shapes : List Shape) (places : List ℕ) (from to : ℕ) (d : Shape) → IsChain shapes places from to
+    → Joined shapes (get_or shapes from d) (get_or shapes to d)
+chain_joined shapes places from to d c =
+    let end : length places - 1 < length places = let s = c.some in omega (arith, s) in
+    subst (λ (x : ℕ). Joined shapes (get_or shapes from d) (get_or shapes x d)) c.last (joined_upto shapes places from to d c (length places - 1) end)
