@@ -80,17 +80,17 @@ led_before ps links a b true e h leads bridge = absurd (cc e)
 -- links that are true, and one more between linked shapes
 pub linked_more : (shapes : List Shape) (olds news : List Link) (a b : ℕ) → a < length shapes → b < length shapes
     → ((d : Shape) → Linked (get_or shapes a d) (get_or shapes b d)) → AddsLink olds news a b → AllLinked shapes olds → AllLinked shapes news
-linked_more shapes olds news a b ha hb truly adds olds_linked i j d h = elim (adds.only (link i j) h) [
-  | inl old ↦ olds_linked i j d old
+linked_more shapes olds news a b ha hb truly adds olds_linked i j h = elim (adds.only (link i j) h) [
+  | inl old ↦ olds_linked i j old
   | inr new ↦ elim new [
     | inl is ↦
         let ia : i ≡ a = ap (λ (l : Link). l.from) is in
         let jb : j ≡ b = ap (λ (l : Link). l.to) is in
-        (rw ia ha, rw jb hb, rw (ia, jb) (truly d))
+        (rw ia ha, rw jb hb, rw (ia, jb) truly)
     | inr is ↦
         let ib : i ≡ b = ap (λ (l : Link). l.from) is in
         let ja : j ≡ a = ap (λ (l : Link). l.to) is in
-        (rw ib hb, rw ja ha, rw (ib, ja) (linked_back (truly d)))
+        (rw ib hb, rw ja ha, rw (ib, ja) (λ d. linked_back (truly d)))
   ]
 ]
 
@@ -112,7 +112,7 @@ grows_then v w = record { many = v.many ∙ w.many; kept = λ i j t. w.kept i j 
 
 pub alone_spans : (shapes : List Shape) (f : Forest) → Alone f.groups → f.links.items ≡ [] → Spans shapes f
 alone_spans shapes f alone none = record {
-  linked = λ i j d h. absurd (none_within (link i j) (subst (λ (ls : List Link). Contains ls (link i j)) none h));
+  linked = λ i j h. absurd (none_within (link i j) (subst (λ (ls : List Link). Contains ls (link i j)) none h));
   leads = λ i j t. subst (λ (k : ℕ). Leads f.links.items i k) (alone i j t) arrived;
 }
 
@@ -120,8 +120,8 @@ joined_led : (shapes : List Shape) (links : List Link) (d : Shape) → AllLinked
     → Joined shapes (get_or shapes i d) (get_or shapes j d)
 joined_led shapes links d truly within arrived = itself (in_at shapes _ d within)
 joined_led shapes links d truly within (along {i} {k} h rest) =
-    let l = truly i k d h in
-    through (in_at shapes i d l.0) l.2 (joined_led shapes links d truly within rest)
+    let l = truly i k h in
+    through (in_at shapes i d l.0) (l.2 d) (joined_led shapes links d truly within rest)
 
 -- shapes in one group are joined
 pub ties_joined : (shapes : List Shape) (f : Forest) → Spans shapes f → TiesJoined shapes f.groups

@@ -1,6 +1,5 @@
 -- What a search along links reaches.
 use Rattle.std.proofs.Common.{◌≡◌, ◌≢◌, ℕ, zero, suc, ◌+◌, ◌<◌, ◌≤◌, inl, inr, Bool, true, false, cond, List, [], ◌∷◌, ◌++◌, length, length-append, get_or, slice_set, length-set, get_or-set_same, get_or-set_other, refl, sym, ◌∙◌, ap, subst, arith}
-use Rattle.std.specs.List.{Contains}
 use Rattle.std.specs.List.Sorted.{IsNonDecreasingBy}
 use Rattle.std.proofs.lemmas.Bool.{cases_lt, cases_eq}
 use Rattle.std.proofs.lemmas.List.{get_or_append_left, get_or_push}
@@ -8,7 +7,7 @@ use Rattle.std.proofs.lemmas.List.Sums.{sum_by-set}
 use Rattle.sym_shapes.specs.declared.forest.Link.{Link}
 use Rattle.sym_shapes.specs.declared.search.Step.{Step}
 use Rattle.sym_shapes.specs.Joints.{link, Leads, arrived, along}
-use Rattle.sym_shapes.specs.Search.{step, Falls, Follows, StepsDiffer, HasLink, HasStep, IsSeen, unseen, IsSearch, GoesOn, Spread, EndWithin, IsFirstFrom}
+use Rattle.sym_shapes.specs.Search.{step, HasLink, IsSeen, IsSearch, GoesOn, Spread, EndWithin, IsFirstFrom}
 
 pub marked_more : (seen : List Bool) (place p : ℕ) → place < length seen → IsSeen seen p → IsSeen (slice_set seen place true) p
 marked_more seen place p within is = elim (cases_eq p place) [

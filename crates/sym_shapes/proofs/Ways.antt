@@ -2,12 +2,18 @@
 use Rattle.std.proofs.Common.{◌≡◌, ◌≢◌, ℕ, zero, suc, ◌+◌, ◌-◌, ◌<◌, ◌≤◌, inl, inr, List, [], ◌∷◌, ◌++◌, length, length-append, get_or, refl, sym, ◌∙◌, ap, subst, arith}
 use Rattle.std.proofs.lemmas.Bool.{cases_lt}
 use Rattle.std.proofs.lemmas.List.{get_or_append_left, get_or_push}
+use Rattle.std.specs.List.Sorted.{IsPermutation}
+use Rattle.std.proofs.lemmas.List.Sorted.{IsPermutation-sym, Contains-permutation}
+use Rattle.sym_groups.proofs.Steps.{tied_back}
 use Rattle.sym_shapes.specs.Shape.{Shape}
+use Rattle.sym_shapes.specs.declared.forest.Link.{Link}
+use Rattle.sym_shapes.specs.declared.forest.Forest.{Forest}
+use Rattle.sym_shapes.specs.Joints.{link, Leads, AllLinked, Spans, Covers}
 use Rattle.sym_shapes.specs.Joined.{Linked, Joined, itself, through}
-use Rattle.sym_shapes.specs.Chain.{LinkedAt, IsChain}
+use Rattle.sym_shapes.specs.Chain.{LinkedAt, IsChain, Apart}
 use Rattle.sym_shapes.specs.declared.search.Step.{Step}
-use Rattle.sym_shapes.specs.Search.{step, Falls, Follows, StepsDiffer, StepsWithin}
-use Rattle.sym_shapes.proofs.Joins.{in_at, linked_back, joined_then}
+use Rattle.sym_shapes.specs.Search.{step, Falls, Follows, HasLink, EndWithin, StepsDiffer, StepsWithin}
+use Rattle.sym_shapes.proofs.Joins.{in_at, linked_back, joined_then, leads_more, tied_so}
 
 pub chain_one : (shapes : List Shape) (k : ℕ) → k < length shapes → IsChain shapes (k ∷ []) k k
 chain_one shapes k h = record {
@@ -102,3 +108,32 @@ pub chain_joined : (shapes : List Shape) (places : List ℕ) (from to : ℕ) (d 
 chain_joined shapes places from to d c =
     let end : length places - 1 < length places = let s = c.some in omega (arith, s) in
     subst (λ (x : ℕ). Joined shapes (get_or shapes from d) (get_or shapes x d)) c.last (joined_upto shapes places from to d c (length places - 1) end)
+
+-- links in another order
+pub links_moved : (shapes : List Shape) (olds news : List Link) → IsPermutation olds news → AllLinked shapes olds → AllLinked shapes news
+links_moved shapes olds news moved all i j has = all i j (Contains-permutation news olds (link i j) (IsPermutation-sym olds news moved) has)
+
+pub ends_within : (shapes : List Shape) (links : List Link) → AllLinked shapes links → EndWithin links (length shapes)
+ends_within shapes links all i j has = (all i j has).1
+
+-- steps along links are steps from shape to shape
+pub follows_linked : (shapes : List Shape) (links : List Link) (steps : List Step) → AllLinked shapes links → Follows (HasLink links) steps → Follows (LinkedAt shapes) steps
+follows_linked shapes links steps all follows k pos low = (all _ _ (follows k pos low)).2
+
+pub steps_within : (shapes : List Shape) (links : List Link) (steps : List Step) → AllLinked shapes links → Follows (HasLink links) steps
+    → (step steps 0).place < length shapes → StepsWithin shapes steps
+steps_within shapes links steps all follows first k low = elim (cases_lt 0 k) [
+  | inl pos ↦ (all _ _ (follows k pos low)).1
+  | inr none ↦ let e : 0 ≡ k = omega (arith, none) in subst (λ (x : ℕ). (step steps x).place < length shapes) e first
+]
+
+-- where links tell the groups of joined shapes, they lead from each shape to all that it is joined to
+pub joined_leads : (shapes : List Shape) (f : Forest) (links : List Link) (from to : ℕ) (d : Shape) → Spans shapes f → Covers shapes f.groups
+    → IsPermutation f.links.items links → from < length shapes → to < length shapes → Joined shapes (get_or shapes from d) (get_or shapes to d) → Leads links to from
+joined_leads shapes f links from to d spans covers moved hf ht joined =
+    leads_more (λ l has. Contains-permutation f.links.items links l moved has)
+    (spans.leads to from (tied_back (tied_so shapes f.groups d covers joined from to hf ht refl refl)))
+
+pub not_apart : (shapes : List Shape) (places : List ℕ) (from to : ℕ) → from < length shapes → IsChain shapes places from to → Apart shapes from to → ⊥
+not_apart [] places from to low c apart = absurd (omega (arith, low))
+not_apart (s ∷ shapes) places from to low c apart = apart s (chain_joined (s ∷ shapes) places from to s c)

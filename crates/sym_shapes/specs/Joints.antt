@@ -2,6 +2,7 @@
 use Rattle.std.specs.Prelude.{◌≡◌, ℕ, ◌<◌, ◌↔◌, ◌⊎◌, List, length, slice_index_or, Contains}
 use Rattle.sym_shapes.specs.Shape.{Shape}
 use Rattle.sym_shapes.specs.Joined.{Linked, Joined}
+use Rattle.sym_shapes.specs.Chain.{LinkedAt}
 use Rattle.sym_groups.specs.Ties.{Tied}
 use Rattle.sym_shapes.specs.declared.forest.Link.{Link}
 use Rattle.sym_shapes.specs.declared.forest.Forest.{Forest}
@@ -36,8 +37,7 @@ LinksLead f = (i j : ℕ) → Tied f.groups i j → Leads f.links.items i j
 
 -- each link is one between two shapes
 abbrev pub AllLinked : List Shape → List Link → Type 0
-AllLinked shapes links = (i j : ℕ) (d : Shape) → Contains links (link i j)
-    → (i < length shapes) × (j < length shapes) × Linked (slice_index_or shapes i d) (slice_index_or shapes j d)
+AllLinked shapes links = (i j : ℕ) → Contains links (link i j) → (i < length shapes) × (j < length shapes) × LinkedAt shapes i j
 
 -- the links are true, and lead from each shape of a group to each other one
 pub record Spans (shapes : List Shape) (f : Forest) : Type 0 where

@@ -34,7 +34,10 @@ impl Search {
         let mut seen = vec![in alloc; false; count]?;
         seen[goal as usize] = true;
         let mut steps = Vec::new(alloc);
-        steps.push(Step { place: goal, next: 0 })?;
+        steps.push(Step {
+            place: goal,
+            next: 0,
+        })?;
         Ok(Search { steps, seen })
     }
 

@@ -68,11 +68,7 @@ fn join_run(
 }
 
 /// Puts shapes that meet into one group, as far as one entry is in the run of the other.
-fn join_runs(
-    forest: &mut Forest,
-    shapes: &[Shape],
-    entries: &[Entry],
-) -> Result<(), AllocError>
+fn join_runs(forest: &mut Forest, shapes: &[Shape], entries: &[Entry]) -> Result<(), AllocError>
     requires count { length forest.old.groups ≡ length shapes.now }
     requires places { PlacesWithin shapes.now entries.now }
     ensures grows { OnOk result (Grows shapes.now forest.old forest.new) }

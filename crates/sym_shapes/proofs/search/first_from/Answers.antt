@@ -1,4 +1,4 @@
-use Rattle.std.proofs.Common.{◌≡◌, ltb, List, refl, rules, tests, arith}
+use Rattle.std.proofs.Common.{ltb, List, rules, tests, arith}
 use Rattle.std.proofs.lemmas.List.Sorted.{IsPartitionedBy-ltb, IsPartitionPoint-from_clause}
 use Rattle.sym_shapes.specs.declared.forest.Link.{Link}
 use Rattle.sym_shapes.proofs.search.first_from.Goals as goal

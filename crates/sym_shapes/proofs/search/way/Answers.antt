@@ -1,8 +1,8 @@
-use Rattle.std.proofs.Common.{◌≡◌, ◌<◌, ℕ, List, refl, subst, arith}
+use Rattle.std.proofs.Common.{◌<◌, ℕ, List, refl, subst, arith}
 use Rattle.sym_shapes.specs.declared.search.Step.{Step}
 use Rattle.sym_shapes.specs.Search.{step}
 use Rattle.sym_shapes.specs.Chain.{IsChain}
-use Rattle.sym_shapes.proofs.Ways.{WayTo, way_on}
+use Rattle.sym_shapes.proofs.Ways.{way_on}
 use Rattle.sym_shapes.proofs.search.way.Goals as goal
 
 pub loop-at-preserved : goal.loop-at-preserved

@@ -1,5 +1,4 @@
-use Rattle.std.proofs.Common.{◌≡◌, ℕ, ◌<◌, List, length}
-use Rattle.sym_shapes.specs.Search.{step}
+use Rattle.std.proofs.Common.{◌<◌, length}
 use Rattle.sym_shapes.proofs.Ways.{WayTo}
 use Rattle.sym_shapes.proofs.search.way.Given as goal
 

@@ -1,9 +1,6 @@
-use Rattle.std.proofs.Common.{ℕ, List, [], ◌∷◌, ◌++◌, ◌≡◌, rules}
-use Rattle.std.specs.List.{Contains}
-use Rattle.std.proofs.lemmas.List.Elements.{Contains-append_left, Contains-push}
-use Rattle.sym_groups.specs.Ties.{Tied, Bridged}
+use Rattle.std.proofs.Common.{ℕ, List, [], ◌∷◌, ◌++◌, ◌≡◌}
 use Rattle.sym_shapes.specs.declared.forest.Link.{Link}
-use Rattle.sym_shapes.specs.Joints.{link, Leads}
+use Rattle.sym_shapes.specs.Joints.{link}
 use Rattle.sym_shapes.proofs.Joins.{both_ways, led_before}
 use Rattle.sym_shapes.proofs.forest.Forest.link.Goals as goal
 

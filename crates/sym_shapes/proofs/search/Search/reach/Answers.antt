@@ -1,4 +1,4 @@
-use Rattle.std.proofs.Common.{◌≡◌, Bool, false, List, get_or, sym, ◌∙◌, subst, rules}
+use Rattle.std.proofs.Common.{◌≡◌, Bool, false, List, get_or, rules}
 use Rattle.sym_shapes.proofs.Searches.{reached_search}
 use Rattle.sym_shapes.proofs.search.Search.reach.Goals as goal
 

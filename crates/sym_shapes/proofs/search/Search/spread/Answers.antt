@@ -1,7 +1,7 @@
-use Rattle.std.proofs.Common.{◌≡◌, ◌<◌, ℕ, List, length, sym, ap, ◌∙◌, subst, arith}
+use Rattle.std.proofs.Common.{◌≡◌, ℕ, List, sym, ap, ◌∙◌, subst, arith}
 use Rattle.sym_shapes.specs.declared.forest.Link.{Link}
 use Rattle.sym_shapes.specs.declared.search.Step.{Step}
-use Rattle.sym_shapes.specs.Search.{step, HasLink, Spread}
+use Rattle.sym_shapes.specs.Search.{step, Spread}
 use Rattle.sym_shapes.proofs.Searches.{ends_at, has_link, on_then, read_step, spread_next, spread_whole}
 use Rattle.sym_shapes.proofs.search.Search.spread.Goals as goal
 

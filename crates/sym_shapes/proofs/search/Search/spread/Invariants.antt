@@ -1,4 +1,4 @@
-use Rattle.std.proofs.Common.{length, ◌-◌, ◌≡◌}
+use Rattle.std.proofs.Common.{length, ◌-◌}
 use Rattle.sym_shapes.specs.Search.{IsSearch, GoesOn}
 use Rattle.sym_shapes.proofs.Searches.{Spreading}
 use Rattle.sym_shapes.proofs.search.Search.spread.Given as goal
