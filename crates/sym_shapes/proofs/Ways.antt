@@ -12,7 +12,7 @@ use Rattle.sym_shapes.specs.Joints.{link, Leads, AllLinked, Spans, Covers}
 use Rattle.sym_shapes.specs.Joined.{Linked, Joined, itself, through}
 use Rattle.sym_shapes.specs.Chain.{LinkedAt, IsChain, Apart}
 use Rattle.sym_shapes.specs.declared.search.Step.{Step}
-use Rattle.sym_shapes.specs.Search.{step, Falls, Follows, HasLink, EndWithin, StepsDiffer, StepsWithin}
+use Rattle.sym_shapes.specs.Search.{step, Falls, Follows, HasLink, EndWithin, StepsDiffer, AreOver}
 use Rattle.sym_shapes.proofs.Joins.{in_at, linked_back, joined_then, leads_more, tied_so}
 
 pub chain_one : (shapes : List Shape) (k : ℕ) → k < length shapes → IsChain shapes (k ∷ []) k k
@@ -56,13 +56,12 @@ chain_on shapes places from mid to c truly within new =
 
 -- the way from one step to another, so far: a chain, over places of steps at or behind that one
 pub record WayTo (steps : List Step) (places : List ℕ) (start at : ℕ) : Type 0 where
-  pub chain : (shapes : List Shape) → Follows (LinkedAt shapes) steps → StepsDiffer steps → StepsWithin shapes steps
-      → IsChain shapes places (step steps start).place (step steps at).place
+  pub chain : (shapes : List Shape) → AreOver shapes steps → IsChain shapes places (step steps start).place (step steps at).place
   pub over : (k : ℕ) → k < length places → (j : ℕ) × (at ≤ j) × (j < length steps) × ((step steps j).place ≡ get_or places k 0)
 
 pub way_begin : (steps : List Step) (start : ℕ) → start < length steps → WayTo steps ((step steps start).place ∷ []) start start
 way_begin steps start low = record {
-  chain = λ shapes follows differ within. chain_one shapes (step steps start).place (within start low);
+  chain = λ shapes over. chain_one shapes (step steps start).place (over.within start low);
   over = λ n upto. let e : 0 ≡ n = omega (arith, upto) in
       (start, omega arith, low, ap (λ (x : ℕ). get_or ((step steps start).place ∷ []) x 0) e);
 }
@@ -75,10 +74,10 @@ way_on steps places start at next falls low moves is w =
     let place : ℕ = (step steps next).place in
     let more : List ℕ = places ++ place ∷ [] in
     record {
-      chain = λ shapes follows differ within.
-          let truly : LinkedAt shapes (step steps at).place place = λ d. linked_back (rw is (follows at pos low d)) in
-          chain_on shapes places (step steps start).place (step steps at).place place (w.chain shapes follows differ within) truly (within next (omega (arith, less, low)))
-          (λ k hk e. let r = w.over k hk in let from = r.1 in differ next r.0 (omega (arith, less, from)) r.2 (sym (r.3 ∙ e)));
+      chain = λ shapes over.
+          let truly : LinkedAt shapes (step steps at).place place = λ d. linked_back (rw is (over.linked at pos low d)) in
+          chain_on shapes places (step steps start).place (step steps at).place place (w.chain shapes over) truly (over.within next (omega (arith, less, low)))
+          (λ k hk e. let r = w.over k hk in let from = r.1 in over.differ next r.0 (omega (arith, less, from)) r.2 (sym (r.3 ∙ e)));
       over = λ k upto. elim (cases_lt k (length places)) [
         | inl lt ↦ let r = w.over k lt in (r.0, let from = r.1 in omega (arith, less, from), r.2, r.3 ∙ sym (get_or_append_left places (place ∷ []) 0 k lt))
         | inr ge ↦ (
@@ -117,15 +116,16 @@ pub ends_within : (shapes : List Shape) (links : List Link) → AllLinked shapes
 ends_within shapes links all i j has = (all i j has).1
 
 -- steps along links are steps from shape to shape
-pub follows_linked : (shapes : List Shape) (links : List Link) (steps : List Step) → AllLinked shapes links → Follows (HasLink links) steps → Follows (LinkedAt shapes) steps
-follows_linked shapes links steps all follows k pos low = (all _ _ (follows k pos low)).2
-
-pub steps_within : (shapes : List Shape) (links : List Link) (steps : List Step) → AllLinked shapes links → Follows (HasLink links) steps
-    → (step steps 0).place < length shapes → StepsWithin shapes steps
-steps_within shapes links steps all follows first k low = elim (cases_lt 0 k) [
-  | inl pos ↦ (all _ _ (follows k pos low)).1
-  | inr none ↦ let e : 0 ≡ k = omega (arith, none) in subst (λ (x : ℕ). (step steps x).place < length shapes) e first
-]
+pub over_shapes : (shapes : List Shape) (links : List Link) (steps : List Step) → AllLinked shapes links → Follows (HasLink links) steps
+    → StepsDiffer steps → (step steps 0).place < length shapes → AreOver shapes steps
+over_shapes shapes links steps all follows differ first = record {
+  within = λ k low. elim (cases_lt 0 k) [
+    | inl pos ↦ (all _ _ (follows k pos low)).1
+    | inr none ↦ let e : 0 ≡ k = omega (arith, none) in subst (λ (x : ℕ). (step steps x).place < length shapes) e first
+  ];
+  linked = λ k pos low. (all _ _ (follows k pos low)).2;
+  differ = differ;
+}
 
 -- where links tell the groups of joined shapes, they lead from each shape to all that it is joined to
 pub joined_leads : (shapes : List Shape) (f : Forest) (links : List Link) (from to : ℕ) (d : Shape) → Spans shapes f → Covers shapes f.groups

@@ -2,6 +2,7 @@
 use Rattle.std.specs.Prelude.{◌≡◌, ◌≢◌, ℕ, ◌+◌, ◌<◌, ◌≤◌, Bool, true, false, if◌then◌else◌, List, length, slice_index_or, Contains}
 use Rattle.std.specs.List.{sum_by}
 use Rattle.sym_shapes.specs.Shape.{Shape}
+use Rattle.sym_shapes.specs.Chain.{LinkedAt}
 use Rattle.sym_shapes.specs.Joints.{link}
 use Rattle.sym_shapes.specs.declared.forest.Link.{Link}
 use Rattle.sym_shapes.specs.declared.search.Step.{Step}
@@ -30,9 +31,11 @@ HasLink links i j = Contains links (link i j)
 abbrev pub HasStep : List Step → ℕ → Type 0
 HasStep steps place = (k : ℕ) × (k < length steps) × ((step steps k).place ≡ place)
 
--- each step is that of a shape
-abbrev pub StepsWithin : List Shape → List Step → Type 0
-StepsWithin shapes steps = (k : ℕ) → k < length steps → (step steps k).place < length shapes
+-- the steps are over shapes: each but the first goes on to that of a linked shape, and no shape has two
+pub record AreOver (shapes : List Shape) (steps : List Step) : Type 0 where
+  pub within : (k : ℕ) → k < length steps → (step steps k).place < length shapes
+  pub linked : Follows (LinkedAt shapes) steps
+  pub differ : StepsDiffer steps
 
 -- the place is marked as one that has a step
 abbrev pub IsSeen : List Bool → ℕ → Type 0

@@ -2,9 +2,10 @@
 ghost use Rattle.std.specs.Prelude.{◌≡◌, ℕ, ◌<◌, List, length, MatchOption, IfOk, OnOk};
 ghost use Rattle.std.specs.List.Sorted.{IsNonDecreasingBy, IsPermutation};
 ghost use Rattle.sym_shapes.specs.Shape.{Shape};
-ghost use Rattle.sym_shapes.specs.Chain.{LinkedAt, IsChain};
+ghost use Rattle.sym_shapes.specs.Chain.{IsChain};
 ghost use Rattle.sym_shapes.specs.Joints.{Leads};
-ghost use Rattle.sym_shapes.specs.Search.{step, Falls, Follows, StepsDiffer, HasLink, HasStep, IsSeen, IsSearch, GoesOn, Spread, EndWithin, StepsWithin, IsFirstFrom};
+ghost use Rattle.sym_shapes.specs.Search.{step, Falls, Follows, StepsDiffer, AreOver};
+ghost use Rattle.sym_shapes.specs.Search.{HasLink, HasStep, IsSeen, IsSearch, GoesOn, Spread, EndWithin, IsFirstFrom};
 
 use crate::forest::Link;
 use std::alloc::{AllocError, Global};
@@ -56,6 +57,7 @@ impl Search {
         }
         Ok(())
     }
+
     /// Reaches the other end of each link from the place of a step. The links stand in the order of the places from which
     /// they lead.
     fn spread(&mut self, links: &[Link], at: usize) -> Result<(), AllocError>
@@ -94,8 +96,8 @@ pub fn in_order(links: &mut Vec<Link>) -> Result<(), AllocError>
     Ok(())
 }
 
-/// A step for each place to which links lead from the goal, one of `count` places. Takes memory for a step a place, and
-/// for a mark.
+/// A step for each place to which links lead from the goal, one of `count` places. Takes memory for a step and a mark a
+/// place.
 pub fn steps_from(
     alloc: Global,
     links: &[Link],
@@ -131,7 +133,7 @@ pub fn step_of(steps: &[Step], place: u32) -> Option<usize>
 pub fn way(alloc: Global, steps: &[Step], start: usize) -> Result<Vec<u32>, AllocError>
     requires start { start < length steps.now }
     requires falls { Falls steps.now }
-    ensures { IfOk result (λ places. (shapes : List Shape) → Follows (LinkedAt shapes) steps.now → StepsDiffer steps.now → StepsWithin shapes steps.now
+    ensures { IfOk result (λ places. (shapes : List Shape) → AreOver shapes steps.now
         → IsChain shapes places.items (step steps.now start).place (step steps.now 0).place) }
 {
     let mut at = start;

@@ -2,10 +2,10 @@ use Rattle.std.proofs.Common.{◌≡◌, ◌<◌, ℕ, List, length, refl, subst
 use Rattle.sym_shapes.specs.Shape.{Shape}
 use Rattle.sym_shapes.specs.declared.forest.Link.{Link}
 use Rattle.sym_shapes.specs.declared.search.Step.{Step}
-use Rattle.sym_shapes.specs.Chain.{LinkedAt, IsChain}
+use Rattle.sym_shapes.specs.Chain.{IsChain}
 use Rattle.sym_shapes.specs.Joints.{Leads, AllLinked}
-use Rattle.sym_shapes.specs.Search.{step, Follows, HasLink, HasStep, StepsDiffer, StepsWithin}
-use Rattle.sym_shapes.proofs.Ways.{links_moved, ends_within, follows_linked, steps_within, joined_leads, not_apart}
+use Rattle.sym_shapes.specs.Search.{step, Follows, HasLink, HasStep, AreOver}
+use Rattle.sym_shapes.proofs.Ways.{links_moved, ends_within, over_shapes, joined_leads, not_apart}
 use Rattle.sym_shapes.proofs.chains.chain.Goals as goal
 
 pub steps_from-requires-clause-ends : goal.steps_from-requires-clause-ends
@@ -30,10 +30,10 @@ returns-clause-chain c =
     let follows : Follows (HasLink links) steps = rw c.deref.ensures.value at c.in_ok-steps.ensures.follows in
     let goal_is : (step steps 0).place ≡ c.args.to = c.in_ok-steps.ensures.goal in
     let first : (step steps 0).place < length shapes = rw goal_is c.requires.to_within in
-    let made : (all : List Shape) → Follows (LinkedAt all) steps → StepsDiffer steps → StepsWithin all steps
-    → IsChain all c.in_ok-places.places.items (step steps c.in-Some.start).place (step steps 0).place = rw c.deref-3.ensures.value at c.in_ok-places.ensures in
+    let made : (all : List Shape) → AreOver all steps → IsChain all c.in_ok-places.places.items (step steps c.in-Some.start).place (step steps 0).place =
+    rw c.deref-3.ensures.value at c.in_ok-places.ensures in
     let start_is : (step steps c.in-Some.start).place ≡ c.args.from = (rw c.deref-2.ensures.value at c.in-Some.ensures).1 in
-    let chain = made shapes (follows_linked shapes links steps all follows) c.in_ok-steps.ensures.differ (steps_within shapes links steps all follows first) in
+    let chain = made shapes (over_shapes shapes links steps all follows c.in_ok-steps.ensures.differ first) in
     subst (λ (x : ℕ). IsChain shapes c.in_ok-places.places.items x c.args.to) start_is
     (subst (λ (x : ℕ). IsChain shapes c.in_ok-places.places.items (step steps c.in-Some.start).place x) goal_is chain)
 

@@ -18,7 +18,7 @@ loop-at-preserved c =
     }
 
 pub returns : goal.returns
-returns c = λ shapes follows differ within.
+returns c = λ shapes over.
     let steps : List Step = c.args.steps.now in
     subst (λ (x : ℕ). IsChain shapes c.loop-at.places.items (step steps c.args.start).place (step steps x).place) c.loop-at-test.false
-    (c.loop-at.invariant.so_far.chain shapes follows differ within)
+    (c.loop-at.invariant.so_far.chain shapes over)
