@@ -1,7 +1,7 @@
 //! Groups of numbers that are put together pair by pair.
 #![tactic(auto)]
 
-ghost use Rattle.std.specs.Prelude.{◌≡◌, ℕ, ◌<◌, ◌≤◌, length, slice_index_or, IfOk};
+ghost use Rattle.std.specs.Prelude.{◌≡◌, ℕ, ◌<◌, ◌≤◌, length, slice_index_or, MatchBool, IfOk};
 ghost use Rattle.sym_groups.specs.Ties.{Falls, Tied, SameTies, KeepsRoots, JoinsTies, Alone, LabelsTies};
 
 use std::alloc::{AllocError, Global};
@@ -46,13 +46,14 @@ fn root(parents: &mut [u32], start: usize) -> usize
     at
 }
 
-/// Puts the groups of two numbers into one: the larger root then points to the smaller.
-fn join(parents: &mut [u32], a: u32, b: u32)
+/// Puts the groups of two numbers into one: the larger root then points to the smaller. Tells whether they were two.
+fn join(parents: &mut [u32], a: u32, b: u32) -> bool
     requires falls { Falls parents.old }
     requires a_within { a < length parents.old }
     requires b_within { b < length parents.old }
     ensures falls { Falls parents.new }
     ensures joins { JoinsTies parents.old parents.new a b }
+    ensures apart { MatchBool result (¬ (Tied parents.old a b)) (Tied parents.old a b) }
 {
     let first = root(parents, a as usize);
     let second = root(parents, b as usize);
@@ -61,6 +62,7 @@ fn join(parents: &mut [u32], a: u32, b: u32)
     } else {
         parents[first] = second as u32;
     }
+    first != second
 }
 
 /// A label for each number: those of one group have the same.
@@ -95,13 +97,14 @@ impl Groups {
         Ok(Groups { parents })
     }
 
-    /// Puts the groups of two numbers into one. Takes no memory.
-    pub fn join(&mut self, a: u32, b: u32)
+    /// Puts the groups of two numbers into one, and tells whether they were two. Takes no memory.
+    pub fn join(&mut self, a: u32, b: u32) -> bool
         requires a_within { a < length self.old }
         requires b_within { b < length self.old }
-        ensures { JoinsTies self.old self.new a b }
+        ensures joins { JoinsTies self.old self.new a b }
+        ensures apart { MatchBool result (¬ (Tied self.old a b)) (Tied self.old a b) }
     {
-        join(&mut self.parents, a, b);
+        join(&mut self.parents, a, b)
     }
 
     /// A label for each number: those of one group have the same. Takes memory for them.

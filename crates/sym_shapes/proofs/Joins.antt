@@ -1,11 +1,18 @@
 -- Groups that hold joined shapes alone, and all that are linked, are the chains of links.
-use Rattle.std.proofs.Common.{◌≡◌, ℕ, zero, suc, ◌<◌, List, [], ◌∷◌, length, get_or, refl, sym, ◌∙◌, subst, arith}
+use Rattle.std.specs.List.{Contains}
+use Rattle.std.proofs.lemmas.List.Elements.{Contains-append_left, Contains-push}
+use Rattle.std.proofs.Common.{◌≡◌, ℕ, zero, suc, ◌<◌, inl, inr, ap, Bool, true, false, MatchBool, List, [], ◌∷◌, ◌++◌, length, get_or, refl, sym, ◌∙◌, subst, arith}
 use Rattle.vlsi_base.specs.Member.{In, here, there}
 use Rattle.sym_shapes.specs.Shape.{Shape}
 use Rattle.sym_shapes.specs.Joined.{Linked, touching, one_line, one_name, Joined, itself, through}
 use Rattle.sym_groups.specs.Ties.{Tied, Bridged, before, over, back, JoinsTies, Alone, LabelsTies}
-use Rattle.sym_groups.proofs.Steps.{tied_then}
-use Rattle.sym_shapes.specs.Joints.{NumbersJoined, TiesJoined, Grows, Covers}
+use Rattle.sym_groups.proofs.Steps.{tied_then, tied_back}
+use Rattle.sym_shapes.specs.declared.forest.Link.{Link}
+use Rattle.sym_shapes.specs.declared.forest.Forest.{Forest}
+use Rattle.sym_shapes.specs.Joints.{NumbersJoined, TiesJoined, link, AddsLink, Leads, arrived, along, LinksLead, AllLinked, Spans, Grows, Covers}
+
+none_within : (l : Link) → Contains [] l → ⊥
+none_within l h = let low = h.1 in omega (arith, low)
 
 pub in_at : (xs : List Shape) (k : ℕ) (d : Shape) → k < length xs → In (get_or xs k d) xs
 in_at [] k d h = absurd (omega arith)
@@ -36,33 +43,92 @@ first_in : {all : List Shape} {a b : Shape} → Joined all a b → In a all
 first_in (itself h) = h
 first_in (through h link rest) = h
 
+pub leads_then : {links : List Link} {i k j : ℕ} → Leads links i k → Leads links k j → Leads links i j
+leads_then arrived second = second
+leads_then (along h rest) second = along h (leads_then rest second)
+
+pub leads_more : {olds news : List Link} → ((l : Link) → Contains olds l → Contains news l) → {i j : ℕ} → Leads olds i j → Leads news i j
+leads_more kept arrived = arrived
+leads_more kept (along {i} {k} h rest) = along (kept (link i k) h) (leads_more kept rest)
+
+-- a link both ways leads over the bridge that it is
+pub leads_bridged : (ps : List ℕ) (links : List Link) (a b : ℕ) → Contains links (link a b) → Contains links (link b a)
+    → ((i j : ℕ) → Tied ps i j → Leads links i j) → {i j : ℕ} → Bridged ps a b i j → Leads links i j
+leads_bridged ps links a b forth again leads (before t) = leads _ _ t
+leads_bridged ps links a b forth again leads (over t u) = leads_then (leads _ _ t) (along forth (leads _ _ u))
+leads_bridged ps links a b forth again leads (back t u) = leads_then (leads _ _ t) (along again (leads _ _ u))
+
+pub both_ways : (ps : List ℕ) (olds : List Link) (a b : ℕ) → ((i j : ℕ) → Tied ps i j → Leads olds i j) → {i j : ℕ} → Bridged ps a b i j
+    → Leads ((olds ++ link a b ∷ []) ++ link b a ∷ []) i j
+both_ways ps olds a b leads h =
+    let mids : List Link = olds ++ link a b ∷ [] in
+    leads_bridged ps (mids ++ link b a ∷ []) a b (Contains-append_left mids (link b a ∷ []) (link a b) (Contains-push olds (link a b))) (Contains-push mids (link b a))
+    (λ i j t. leads_more (λ l g. Contains-append_left mids (link b a ∷ []) l (Contains-append_left olds (link a b ∷ []) l g)) (leads i j t)) h
+
+-- the bridge of two numbers that are not apart leads nowhere else
+tied_bridged : {ps : List ℕ} {a b i j : ℕ} → Tied ps a b → Bridged ps a b i j → Tied ps i j
+tied_bridged t (before u) = u
+tied_bridged t (over u v) = tied_then u (tied_then t v)
+tied_bridged t (back u v) = tied_then u (tied_then (tied_back t) v)
+
+-- nor does that of two numbers that a join found in one group
+pub led_before : (ps : List ℕ) (links : List Link) (a b : ℕ) (r : Bool) → r ≡ false → MatchBool r (Tied ps a b → ⊥) (Tied ps a b)
+    → ((i j : ℕ) → Tied ps i j → Leads links i j) → {i j : ℕ} → Bridged ps a b i j → Leads links i j
+led_before ps links a b false e h leads bridge = leads _ _ (tied_bridged h bridge)
+led_before ps links a b true e h leads bridge = absurd (cc e)
+
+-- links that are true, and one more between linked shapes
+pub linked_more : (shapes : List Shape) (olds news : List Link) (a b : ℕ) → a < length shapes → b < length shapes
+    → ((d : Shape) → Linked (get_or shapes a d) (get_or shapes b d)) → AddsLink olds news a b → AllLinked shapes olds → AllLinked shapes news
+linked_more shapes olds news a b ha hb truly adds olds_linked i j h = elim (adds.only (link i j) h) [
+  | inl old ↦ olds_linked i j old
+  | inr new ↦ elim new [
+    | inl is ↦
+        let ia : i ≡ a = ap (λ (l : Link). l.from) is in
+        let jb : j ≡ b = ap (λ (l : Link). l.to) is in
+        (rw ia ha, rw jb hb, rw (ia, jb) truly)
+    | inr is ↦
+        let ib : i ≡ b = ap (λ (l : Link). l.from) is in
+        let ja : j ≡ a = ap (λ (l : Link). l.to) is in
+        (rw ib hb, rw ja ha, rw (ib, ja) (λ d. linked_back (truly d)))
+  ]
+]
+
 -- two linked shapes are put into one group
-pub grows_by : (shapes : List Shape) (ps qs : List ℕ) (a b : ℕ) → a < length shapes → b < length shapes
-    → ((d : Shape) → Linked (get_or shapes a d) (get_or shapes b d)) → JoinsTies ps qs a b → Grows shapes ps qs
-grows_by shapes ps qs a b ha hb link w = record {
+pub grows_by : (shapes : List Shape) (f g : Forest) (a b : ℕ) → a < length shapes → b < length shapes
+    → ((d : Shape) → Linked (get_or shapes a d) (get_or shapes b d)) → JoinsTies f.groups g.groups a b
+    → AddsLink f.links.items g.links.items a b → (LinksLead f → LinksLead g) → Grows shapes f g
+grows_by shapes f g a b ha hb truly w adds leads = record {
   many = w.many;
   kept = w.kept;
-  joined = λ sound i j d hi hj t.
-      let go : Bridged ps a b i j → Joined shapes (get_or shapes i d) (get_or shapes j d) = λ h. elim h [
-        | before u ↦ sound i j d hi hj u
-        | over u v ↦ joined_then (sound i a d hi ha u) (through (in_at shapes a d ha) (link d) (sound b j d hb hj v))
-        | back u v ↦ joined_then (sound i b d hi hb u) (through (in_at shapes b d hb) (linked_back (link d)) (sound a j d ha hj v))
-      ] in
-      go (w.only i j t);
+  spans = λ s. record { linked = linked_more shapes f.links.items g.links.items a b ha hb truly adds s.linked; leads = leads s.leads };
 }
 
-pub grows_none : (shapes : List Shape) (ps : List ℕ) → Grows shapes ps ps
-grows_none shapes ps = record { many = refl; kept = λ i j t. t; joined = λ h. h }
+pub grows_none : (shapes : List Shape) (f : Forest) → Grows shapes f f
+grows_none shapes f = record { many = refl; kept = λ i j t. t; spans = λ h. h }
 
-pub grows_then : {shapes : List Shape} {ps qs rs : List ℕ} → Grows shapes ps qs → Grows shapes qs rs → Grows shapes ps rs
-grows_then v w = record { many = v.many ∙ w.many; kept = λ i j t. w.kept i j (v.kept i j t); joined = λ h. w.joined (v.joined h) }
+pub grows_then : {shapes : List Shape} {f g h : Forest} → Grows shapes f g → Grows shapes g h → Grows shapes f h
+grows_then v w = record { many = v.many ∙ w.many; kept = λ i j t. w.kept i j (v.kept i j t); spans = λ s. w.spans (v.spans s) }
 
-pub alone_joined : (shapes : List Shape) (ps : List ℕ) → Alone ps → TiesJoined shapes ps
-alone_joined shapes ps alone i j d hi hj t =
-    subst (λ (k : ℕ). Joined shapes (get_or shapes i d) (get_or shapes k d)) (alone i j t) (itself (in_at shapes i d hi))
+pub alone_spans : (shapes : List Shape) (f : Forest) → Alone f.groups → f.links.items ≡ [] → Spans shapes f
+alone_spans shapes f alone none = record {
+  linked = λ i j h. absurd (none_within (link i j) (subst (λ (ls : List Link). Contains ls (link i j)) none h));
+  leads = λ i j t. subst (λ (k : ℕ). Leads f.links.items i k) (alone i j t) arrived;
+}
+
+joined_led : (shapes : List Shape) (links : List Link) (d : Shape) → AllLinked shapes links → {i j : ℕ} → j < length shapes → Leads links i j
+    → Joined shapes (get_or shapes i d) (get_or shapes j d)
+joined_led shapes links d truly within arrived = itself (in_at shapes _ d within)
+joined_led shapes links d truly within (along {i} {k} h rest) =
+    let l = truly i k h in
+    through (in_at shapes i d l.0) (l.2 d) (joined_led shapes links d truly within rest)
+
+-- shapes in one group are joined
+pub ties_joined : (shapes : List Shape) (f : Forest) → Spans shapes f → TiesJoined shapes f.groups
+ties_joined shapes f s i j d hi hj t = joined_led shapes f.links.items d s.linked hj (s.leads i j t)
 
 -- a chain of links stays in one group
-tied_so : (shapes : List Shape) (ps : List ℕ) (d : Shape) → Covers shapes ps → {a b : Shape} → Joined shapes a b
+pub tied_so : (shapes : List Shape) (ps : List ℕ) (d : Shape) → Covers shapes ps → {a b : Shape} → Joined shapes a b
     → (i j : ℕ) → i < length shapes → j < length shapes → get_or shapes i d ≡ a → get_or shapes j d ≡ b → Tied ps i j
 tied_so shapes ps d covers (itself h) i j hi hj ia jb =
     covers i j d hi hj (rw (ia, jb) (one_line refl refl))

@@ -7,3 +7,5 @@ pub mod Orders
 pub mod Sweeps
 pub mod Grown
 pub mod Marked
+pub mod Searches
+pub mod Ways

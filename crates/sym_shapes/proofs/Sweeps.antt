@@ -5,6 +5,7 @@ use Rattle.sym_shapes.specs.Shape.{Shape}
 use Rattle.sym_groups.specs.Ties.{Tied, same}
 use Rattle.sym_groups.proofs.Steps.{tied_back}
 use Rattle.sym_shapes.specs.declared.sweep.Entry.{Entry}
+use Rattle.sym_shapes.specs.declared.forest.Forest.{Forest}
 use Rattle.sym_shapes.specs.Joints.{Grows}
 use Rattle.std.proofs.lemmas.Int.{ints}
 use Rattle.sym_shapes.specs.Sweep.{Precedes, by_metal, by_band, by_left, Ordered, InBand, InRun, Touch, CoversRun, CoversFrom, CoversRuns}
@@ -27,11 +28,11 @@ touch_at xs i j a b hi hj ea eb d =
       λ h. subst (λ (x : Shape). Touch x b) (sym fa) (subst (λ (y : Shape). Touch (get_or xs i d) y) (sym fb) h),
     )
 
-pub run_next : (shapes : List Shape) (entries : List Entry) (ps qs : List ℕ) (p n : ℕ) → p < length entries → n < length entries → Grows shapes ps qs
-    → CoversRun shapes entries ps p n
-    → ((d : Shape) → Touch (get_or shapes (get_or entries p none).place d) (get_or shapes (get_or entries n none).place d) → Tied qs (get_or entries p none).place (get_or entries n none).place)
-    → CoversRun shapes entries qs p (n + 1)
-run_next shapes entries ps qs p n hp hn w run last q e d after hq t = elim (cases_lt q n) [
+pub run_next : (shapes : List Shape) (entries : List Entry) (f g : Forest) (p n : ℕ) → p < length entries → n < length entries → Grows shapes f g
+    → CoversRun shapes entries f.groups p n
+    → ((d : Shape) → Touch (get_or shapes (get_or entries p none).place d) (get_or shapes (get_or entries n none).place d) → Tied g.groups (get_or entries p none).place (get_or entries n none).place)
+    → CoversRun shapes entries g.groups p (n + 1)
+run_next shapes entries f g p n hp hn w run last q e d after hq t = elim (cases_lt q n) [
   | inl lt ↦ w.kept _ _ (run q e d after lt t)
   | inr ge ↦
       let en : n ≡ q = omega arith in
@@ -41,9 +42,9 @@ run_next shapes entries ps qs p n hp hn w run last q e d after hq t = elim (case
       subst (λ (x : Entry). Touch (get_or shapes x.place d) (get_or shapes (get_or entries n e).place d)) (any_entry entries p e none hp) t1 in
       let t3 : Touch (get_or shapes (get_or entries p none).place d) (get_or shapes (get_or entries n none).place d) =
       subst (λ (x : Entry). Touch (get_or shapes (get_or entries p none).place d) (get_or shapes x.place d)) (any_entry entries n e none hn) t2 in
-      subst (λ (k : ℕ). Tied qs (get_or entries p e).place (get_or entries k e).place) en
-      (subst (λ (x : Entry). Tied qs x.place (get_or entries n e).place) (any_entry entries p none e hp)
-      (subst (λ (x : Entry). Tied qs (get_or entries p none).place x.place) (any_entry entries n none e hn) (last d t3)))
+      subst (λ (k : ℕ). Tied g.groups (get_or entries p e).place (get_or entries k e).place) en
+      (subst (λ (x : Entry). Tied g.groups x.place (get_or entries n e).place) (any_entry entries p none e hp)
+      (subst (λ (x : Entry). Tied g.groups (get_or entries p none).place x.place) (any_entry entries n none e hn) (last d t3)))
 ]
 
 pub run_whole : (shapes : List Shape) (entries : List Entry) (ps : List ℕ) (p end : ℕ) → CoversRun shapes entries ps p end → p < end

@@ -7,3 +7,5 @@ pub mod Marks
 pub mod View
 pub mod Seen
 pub mod Ready
+pub mod Chain
+pub mod Search

@@ -2,12 +2,16 @@
 #![tactic(auto)]
 
 mod bands;
+mod chains;
 mod drawing;
+mod forest;
 mod marks;
 mod numbers;
+mod search;
 mod shape;
 mod sweep;
 
+pub use chains::chain;
 pub use drawing::drawn;
 pub use numbers::joints;
 pub use shape::Shape;

@@ -6,9 +6,9 @@ ghost use Rattle.sym_shapes.specs.Sweep.{InBand, PlacesWithin, CoversRuns, Cover
 
 use crate::Shape;
 use crate::bands::{cuts, entries};
+use crate::forest::Forest;
 use crate::shape::touching;
 use std::alloc::{AllocError, Global};
-use sym_groups::Groups;
 
 /// A shape in one band that it touches, from its left to its right end there: entries stand in the order of their metals, bands
 /// and left ends.
@@ -44,33 +44,40 @@ fn run_end(entries: &[Entry], p: usize) -> usize
 }
 
 /// Puts the shape of an entry into one group with those of its run that it meets.
-fn join_run(groups: &mut Groups, shapes: &[Shape], entries: &[Entry], p: usize)
-    requires count { length groups.old ≡ length shapes.now }
+fn join_run(
+    forest: &mut Forest,
+    shapes: &[Shape],
+    entries: &[Entry],
+    p: usize,
+) -> Result<(), AllocError>
+    requires count { length forest.old.groups ≡ length shapes.now }
     requires places { PlacesWithin shapes.now entries.now }
     requires p_within { p < length entries.now }
-    ensures grows { Grows shapes.now groups.old groups.new }
-    ensures covers { CoversFrom shapes.now entries.now groups.new p }
+    ensures grows { OnOk result (Grows shapes.now forest.old forest.new) }
+    ensures covers { OnOk result (CoversFrom shapes.now entries.now forest.new.groups p) }
 {
     let first = entries[p].place;
     let end = run_end(entries, p);
     for q in p + 1..end {
         let second = entries[q].place;
         if touching(&shapes[first as usize], &shapes[second as usize]) {
-            groups.join(first, second);
+            forest.link(first, second)?;
         }
     }
+    Ok(())
 }
 
 /// Puts shapes that meet into one group, as far as one entry is in the run of the other.
-fn join_runs(groups: &mut Groups, shapes: &[Shape], entries: &[Entry])
-    requires count { length groups.old ≡ length shapes.now }
+fn join_runs(forest: &mut Forest, shapes: &[Shape], entries: &[Entry]) -> Result<(), AllocError>
+    requires count { length forest.old.groups ≡ length shapes.now }
     requires places { PlacesWithin shapes.now entries.now }
-    ensures grows { Grows shapes.now groups.old groups.new }
-    ensures covers { CoversRuns shapes.now entries.now groups.new (length entries.now) }
+    ensures grows { OnOk result (Grows shapes.now forest.old forest.new) }
+    ensures covers { OnOk result (CoversRuns shapes.now entries.now forest.new.groups (length entries.now)) }
 {
     for p in 0..entries.len() {
-        join_run(groups, shapes, entries, p);
+        join_run(forest, shapes, entries, p)?;
     }
+    Ok(())
 }
 
 /// The entries in order.
@@ -83,15 +90,15 @@ fn in_order(entries: &mut Vec<Entry>) -> Result<(), AllocError>
 }
 
 /// Puts each two shapes that meet on one metal into one group. Takes memory for a few entries a shape.
-pub fn join_touching(alloc: Global, groups: &mut Groups, shapes: &[Shape]) -> Result<(), AllocError>
+pub fn join_touching(alloc: Global, forest: &mut Forest, shapes: &[Shape]) -> Result<(), AllocError>
     requires room { length shapes.now < 2 ^ 32 }
-    requires count { length groups.old ≡ length shapes.now }
-    ensures grows { OnOk result (Grows shapes.now groups.old groups.new) }
-    ensures covers { OnOk result (CoversTouching shapes.now groups.new) }
+    requires count { length forest.old.groups ≡ length shapes.now }
+    ensures grows { OnOk result (Grows shapes.now forest.old forest.new) }
+    ensures covers { OnOk result (CoversTouching shapes.now forest.new.groups) }
 {
     let cuts = cuts(shapes);
     let mut entries = entries(alloc, shapes, &cuts)?;
     in_order(&mut entries)?;
-    join_runs(groups, shapes, &entries);
+    join_runs(forest, shapes, &entries)?;
     Ok(())
 }

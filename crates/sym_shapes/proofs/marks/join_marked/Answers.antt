@@ -6,5 +6,5 @@ use Rattle.sym_shapes.proofs.marks.join_marked.Goals as goal
 pub returns-clause-covers : goal.returns-clause-covers
 returns-clause-covers c =
     let end : c.loop-place.place ≡ length c.args.shapes.now = omega (arith, c.loop-place-test.false, c.loop-place.auto.place-end) in
-    covers_marks c.args.shapes.now c.args.kind c.loop-place.groups (place_of c.loop-place.seen)
-    (subst (λ (n : ℕ). Seen c.args.shapes.now c.args.kind c.loop-place.groups (place_of c.loop-place.seen) n) end c.loop-place.invariant.seen)
+    covers_marks c.args.shapes.now c.args.kind c.loop-place.forest.groups (place_of c.loop-place.seen)
+    (subst (λ (n : ℕ). Seen c.args.shapes.now c.args.kind c.loop-place.forest.groups (place_of c.loop-place.seen) n) end c.loop-place.invariant.seen)

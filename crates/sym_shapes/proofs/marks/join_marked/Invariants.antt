@@ -5,7 +5,7 @@ use Rattle.sym_shapes.proofs.marks.join_marked.Given as goal
 
 abbrev pub invariant-loop-place : goal.invariant-loop-place
 invariant-loop-place l = record {
-  count : length l.groups ≡ length l.shapes;
-  grows : Grows l.shapes l.initial.groups l.groups;
-  seen : Seen l.shapes l.kind l.groups (place_of l.seen) l.place;
+  count : length l.forest.groups ≡ length l.shapes;
+  grows : Grows l.shapes l.initial.forest l.forest;
+  seen : Seen l.shapes l.kind l.forest.groups (place_of l.seen) l.place;
 }
