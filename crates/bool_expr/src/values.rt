@@ -61,7 +61,11 @@ pub fn value_at(e: &Expr, bits: &[bool]) -> bool
                 rest = left;
             }
             Expr::Choice(condition, first, second) => {
-                rest = if value_at(condition, bits) { first } else { second };
+                rest = if value_at(condition, bits) {
+                    first
+                } else {
+                    second
+                };
             }
         }
     }
