@@ -7,8 +7,9 @@ use crate::forest::join_all;
 use crate::search::{in_order, step_of, steps_from, way};
 use std::alloc::{AllocError, Global};
 
-/// Which shapes join two: the places of a chain, the first `from` and the last `to`, each linked with the next. None
-/// where no chain of links joins the two. Takes memory for a few entries a shape.
+/// Which shapes join two: the places of a chain, the first `from` and the last `to`, each linked with the next and none
+/// twice. It isn't always the shortest. None where no chain of links joins the two. Takes memory for a few entries a
+/// shape.
 pub fn chain(
     alloc: Global,
     shapes: &[Shape],

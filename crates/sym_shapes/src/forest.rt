@@ -38,7 +38,7 @@ impl Forest {
         })
     }
 
-    /// Puts the groups of two linked shapes into one.
+    /// Puts the groups of two linked shapes into one, and keeps the link if they were two.
     pub fn link(&mut self, a: u32, b: u32) -> Result<(), AllocError>
         requires a_within { a < length self.old.groups }
         requires b_within { b < length self.old.groups }
