@@ -13,7 +13,7 @@ TRANSFORMS = {"NOSYM", "SYM_X", "SYM_Y", "SYMXY"}
 SIDES = {b"NORTH", b"SOUTH", b"EAST", b"WEST"}
 UPRIGHT, LEVEL = {b"UP", b"DOWN"}, {b"LEFT", b"RIGHT"}
 SCALES = {b"1": 1, b"10": 10, b"100": 100}
-IDENT, INDEX, COORDINATE, U64 = 64, 4294967295, 10**12, 2**64 - 1
+IDENT, BIT, INDEX, COORDINATE, U64 = 64, 2**32 - 1, 2**63 - 1, 10**12, 2**64 - 1
 
 VERSION = b"V ALLIANCE : "
 NUMBER = re.compile(rb"-?[0-9]+")
@@ -66,10 +66,9 @@ def item_text(item):
 
 
 def lines_of(data):
-    """The lines without their ends. A carriage return counts as a part of the end only before LF."""
+    """The lines without their ends: LF, or the end of the file, perhaps with a carriage return before it."""
     *ended, rest = data.split(b"\n")
-    lines = [line.removesuffix(b"\r") for line in ended]
-    return lines + [rest] if rest else lines
+    return [line.removesuffix(b"\r") for line in (ended + [rest] if rest else ended)]
 
 
 # ---- fields
@@ -123,7 +122,7 @@ class Line:
         found = NAME.fullmatch(field)
         need(found)
         bit = found[2] or found[3]
-        need(bit is None or int(bit) <= INDEX)
+        need(bit is None or int(bit) <= BIT)
         return self.identifier(found[1]).lower(), -1 if bit is None else int(bit)
 
     def length(self, field):
@@ -156,7 +155,9 @@ class Line:
     def connector(self, line):
         x, y, w, name, index, side, layer = fields_of(line, b"C", 7)
         place = self.length(x), self.length(y), self.width(w)
-        return ("C", *place, self.name(name), number(index), one_of(SIDES, side), self.layer(layer))
+        index = number(index)
+        need(abs(index) <= INDEX)
+        return ("C", *place, self.name(name), index, one_of(SIDES, side), self.layer(layer))
 
     def segment(self, line):
         x1, y1, x2, y2, w, name, way, layer = fields_of(line, b"S", 8)
@@ -200,6 +201,10 @@ class FileReader:
         self.figure, self.scale, self.instances = Figure(), 100, set()
         self.next = self.version
 
+    def is_skipped(self, row):
+        """Blank lines are skipped behind the first three."""
+        return not row.strip(BLANK) and self.next in (self.items, None)
+
     def version(self, line, row):
         need(row.startswith(VERSION))
         number(row.removeprefix(VERSION))
@@ -240,7 +245,7 @@ class FileReader:
 
     def read(self, rows):
         for k, row in enumerate(rows, 1):
-            line, found = self.take(row) if row.strip(BLANK) else (Line(self.scale), None)
+            line, found = (Line(self.scale), None) if self.is_skipped(row) else self.take(row)
             if found:
                 raise fault(k, found)
             if k == len(rows) and self.next is not None:

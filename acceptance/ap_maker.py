@@ -22,7 +22,7 @@ LINES = [
 ]
 
 # How many lines stand before the first that may be blank.
-FIRST_BLANK = 0
+FIRST_BLANK = 3
 KINDS = {
     rb"-?[0-9]+": [
         b"0", b"1", b"-1", b"100", b"-7", b"500", b"1000000000000", b"-1000000000000", b"1000000000001", b"-90000000000", b"9" * 21, b"8" * 400,
