@@ -56,6 +56,7 @@ fn pin_names(alloc: Global, pins: &[Pin]) -> Result<Vec<Name>, AllocError>
 }
 
 /// Whether a name stands in a list. What the index says is looked at; a name that isn't there is looked for among all.
+#[tactic(auto, using(crate::proofs::Among::among_at, crate::proofs::Among::none_among))]
 fn is_among<'a>(index: &NameIndex<'a>, names: &[Name], name: &'a Name) -> bool
     ensures { IsTrue result ↔ In name.now names.now }
 {
@@ -73,6 +74,7 @@ fn is_among<'a>(index: &NameIndex<'a>, names: &[Name], name: &'a Name) -> bool
 }
 
 /// Whether each name of a list stands in another. Takes memory for one entry a name.
+#[tactic(auto, using(crate::proofs::Among::all_of, crate::proofs::Among::not_all))]
 fn all_among(alloc: Global, names: &[Name], others: &[Name]) -> Result<bool, AllocError>
     ensures { IfOk result (λ all. IsTrue all ↔ ((name : Name) → In name names.now → In name others.now)) }
 {
@@ -88,6 +90,7 @@ fn all_among(alloc: Global, names: &[Name], others: &[Name]) -> Result<bool, All
 
 /// Whether the names of the pins, with vdd and vss, are those of the layout's connectors, on whatever layer. Takes memory for
 /// the names.
+#[tactic(auto, using(crate::proofs::Among::both_ways, crate::proofs::Among::one_way, crate::proofs::Among::other_way))]
 pub fn pins_are_connectors(alloc: Global, cell: &Cell) -> Result<bool, AllocError>
     ensures { IfOk result (λ same. IsTrue same ↔ PinsAreConnectors cell.now) }
 {
