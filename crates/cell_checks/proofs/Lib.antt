@@ -1,1 +1,3 @@
 pub mod Among
+pub mod Pads
+pub mod Loops

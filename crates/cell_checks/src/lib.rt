@@ -2,6 +2,8 @@
 #![tactic(auto)]
 
 mod connectors;
+mod row;
+mod shapes;
 mod verdict;
 
 pub use verdict::{CellVerdict, Check, MOST_COLUMNS};
