@@ -1,3 +1,4 @@
 pub mod Among
 pub mod Pads
 pub mod Loops
+pub mod Numbers

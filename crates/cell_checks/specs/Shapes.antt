@@ -62,6 +62,10 @@ pub record HasNumber (shapes : List Shape) (numbers : List ℕ) (name : Name) (n
   pub named : (d : Shape) → (slice_index_or shapes place d).name ≡ Some name
   pub number : slice_index_or numbers place 0 ≡ n
 
+-- the shape is no connector of this name
+abbrev pub IsNoConnector : Name → Shape → Type 0
+IsNoConnector name s = s.name ≡ Some name → ⊥
+
 -- no connector of the one name is joined to one of the other
 abbrev pub AreApart : List Shape → Name → Name → Type 0
 AreApart shapes m n = (a b : Shape) → a.name ≡ Some m → b.name ≡ Some n → Joined shapes a b → ⊥

@@ -2,6 +2,7 @@
 #![tactic(auto)]
 
 mod connectors;
+mod joined;
 mod row;
 mod shapes;
 mod verdict;
