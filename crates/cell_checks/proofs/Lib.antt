@@ -2,3 +2,4 @@ pub mod Among
 pub mod Pads
 pub mod Loops
 pub mod Numbers
+pub mod Layouts

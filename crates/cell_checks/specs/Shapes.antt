@@ -1,14 +1,17 @@
 -- What the checks ask of single shapes.
-use Rattle.std.specs.Prelude.{◌≡◌, ◌⊎◌, ℕ, ◌<◌, ℤ, pos, ◌+ℤ◌, ◌-ℤ◌, ◌*ℤ◌, ◌≤ℤ◌, List, length, Some, None, slice_index_or, All, Any}
+use Rattle.std.specs.Prelude.{◌≡◌, ◌⊎◌, ℕ, ◌<◌, ℤ, pos, ◌+ℤ◌, ◌-ℤ◌, ◌*ℤ◌, ◌≤ℤ◌, List, ◌∷◌, length, Some, None, slice_index_or, All, Any}
 use Rattle.vlsi_base.specs.declared.name.Name.{Name}
 use Rattle.vlsi_base.specs.Member.{In}
-use Rattle.sym_geom.specs.declared.grid.TheConstants.{PITCH, PAD_WIDTH, LEAST_GAP, RAIL_WIDTH, VDD_STRIP_Y, ROW_HEIGHT}
+use Rattle.vlsi_base.specs.Names.{vdd, vss}
+use Rattle.machine_meaning.specs.Machine.{names_of}
+use Rattle.cell_model.specs.Cell.{Cell, pin_ports}
+use Rattle.sym_geom.specs.declared.grid.TheConstants.{PITCH, LEAST_GAP}
 use Rattle.sym_geom.specs.declared.rect.Rect.{Rect}
 use Rattle.sym_geom.specs.Rect.{Within, Apart}
 use Rattle.sym_shapes.specs.Shape.{Shape}
 use Rattle.sym_shapes.specs.Joined.{Joined}
 use Rattle.sym_shapes.specs.Joints.{NumbersJoined}
-use Rattle.cell_checks.specs.Checks.{IsInside, strip}
+use Rattle.cell_checks.specs.Checks.{IsInside}
 
 -- the shape is a connector of this name on metal 1 that holds the rectangle
 pub record IsRail (name : Name) (r : Rect) (s : Shape) : Type 0 where
@@ -45,9 +48,8 @@ pub record HasReach (shapes : List Shape) (name : Name) : Type 0 where
   pub any : Any (IsReachedBy name) shapes
 
 -- on metal 1 it lies within the box, or within one of the two strips
-abbrev pub KeepsIn : ℤ → Shape → Type 0
-KeepsIn width s = s.metal ≡ 1
-    → IsInside width s.rect ⊎ Within s.rect (strip width 0 RAIL_WIDTH) ⊎ Within s.rect (strip width VDD_STRIP_Y ROW_HEIGHT)
+abbrev pub KeepsIn : ℤ → Rect → Rect → Shape → Type 0
+KeepsIn width low high s = s.metal ≡ 1 → IsInside width s.rect ⊎ Within s.rect low ⊎ Within s.rect high
 
 -- the shapes are drawn, and their numbers tell which are joined
 pub record AreNumbered (shapes : List Shape) (numbers : List ℕ) : Type 0 where
@@ -73,3 +75,7 @@ AreApart shapes m n = (a b : Shape) → a.name ≡ Some m → b.name ≡ Some n 
 -- on metal 1 it is joined to a connector of the name, or far enough from the rectangle
 abbrev pub KeepsOff : List Shape → Name → Rect → Shape → Type 0
 KeepsOff shapes name r s = s.metal ≡ 1 → ((pin : Shape) × (pin.name ≡ Some name) × Joined shapes pin s) ⊎ Apart LEAST_GAP s.rect r
+
+-- the names of vdd, of vss and of the pins
+abbrev pub wanted : Cell → List Name
+wanted c = vdd ∷ vss ∷ names_of (pin_ports c)

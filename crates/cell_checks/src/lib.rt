@@ -3,6 +3,7 @@
 
 mod connectors;
 mod joined;
+mod layout;
 mod row;
 mod shapes;
 mod verdict;

@@ -1,8 +1,8 @@
 // The box of a cell, and the strips of the supplies along it.
-ghost use Rattle.std.specs.Prelude.{◌≡◌, IfSome, IfNone, pos, ◌-ℤ◌, ◌≤ℤ◌};
-ghost use Rattle.sym_geom.specs.Rect.{HasCoordinates};
+ghost use Rattle.std.specs.Prelude.{◌≡◌, IfSome, IfNone, pos, ◌≤ℤ◌};
 ghost use Rattle.cell_model.specs.Cell.{cell_width};
-ghost use Rattle.cell_checks.specs.Checks.{HasColumns, StandsInRow, strip};
+ghost use Rattle.cell_model.specs.Usable.{IsFormed};
+ghost use Rattle.cell_checks.specs.Checks.{HasColumns, StandsInRow, strip, rail};
 
 use cell_model::Cell;
 use sym_geom::{PITCH, RAIL_INSET, ROW_HEIGHT, Rect, WIRE_OVERHANG};
@@ -35,38 +35,38 @@ pub fn columns_of(cell: &Cell) -> Option<u64>
 
 /// The width of the box.
 pub fn width_of(cell: &Cell) -> i64
-    requires { HasCoordinates cell.now.bounds }
-    ensures { result ≡ cell_width cell.now }
+    requires { IsFormed cell.now }
+    ensures value { result ≡ cell_width cell.now }
+    ensures low { pos 0 ≤ℤ result }
+    ensures high { result ≤ℤ pos 20000000000000 }
 {
     cell.bounds.x2 - cell.bounds.x1
 }
 
 /// The strip of a supply between two heights.
-pub fn strip(width: &i64, from: u16, to: u16) -> Rect
-    requires low { pos 0 ≤ℤ width.now }
-    requires high { width.now ≤ℤ pos 20000000000000 }
-    ensures { result ≡ strip width.now from to }
+pub fn strip(cell: &Cell, from: u16, to: u16) -> Rect
+    requires { IsFormed cell.now }
+    ensures { result ≡ strip (cell_width cell.now) from to }
 {
     let overhang = i64::from(WIRE_OVERHANG);
     Rect {
         x1: -overhang,
         y1: i64::from(from),
-        x2: *width + overhang,
+        x2: width_of(cell) + overhang,
         y2: i64::from(to),
     }
 }
 
 /// What a rail has to hold between two heights.
-pub fn rail(width: &i64, from: u16, to: u16) -> Rect
-    requires low { pos 0 ≤ℤ width.now }
-    requires high { width.now ≤ℤ pos 20000000000000 }
-    ensures { result ≡ record { x1 = pos RAIL_INSET; y1 = pos from; x2 = width.now -ℤ pos RAIL_INSET; y2 = pos to } }
+pub fn rail(cell: &Cell, from: u16, to: u16) -> Rect
+    requires { IsFormed cell.now }
+    ensures { result ≡ rail (cell_width cell.now) from to }
 {
     let inset = i64::from(RAIL_INSET);
     Rect {
         x1: inset,
         y1: i64::from(from),
-        x2: *width - inset,
+        x2: width_of(cell) - inset,
         y2: i64::from(to),
     }
 }

@@ -1,14 +1,11 @@
 // What the checks ask of single shapes.
 ghost use Rattle.std.specs.Prelude.{◌≡◌, ◌↔◌, ◌⊎◌, ◌≤ℤ◌, ◌-ℤ◌, ◌+ℤ◌, pos, IsTrue, Any, All, Some, IfSome, IfNone, ℤ, ◌^◌, ◌-◌};
 ghost use Rattle.sym_geom.specs.Rect.{Within, Apart};
-ghost use Rattle.cell_checks.specs.Checks.{IsInside, strip as strip_of};
+ghost use Rattle.cell_checks.specs.Checks.{IsInside};
 ghost use Rattle.cell_checks.specs.Shapes.{IsRail, FitsPad, IsReachedBy, KeepsIn, HasReach, IsLineAbove, IsFirstLine};
 
-use crate::row::strip;
 use cell_model::Pin;
-use sym_geom::{
-    CELL_MARGIN, LEAST_GAP, PAD_WIDTH, PITCH, RAIL_WIDTH, ROW_HEIGHT, Rect, VDD_STRIP_Y,
-};
+use sym_geom::{CELL_MARGIN, LEAST_GAP, PAD_WIDTH, PITCH, ROW_HEIGHT, Rect};
 use sym_shapes::Shape;
 use vlsi_base::Name;
 
@@ -107,10 +104,10 @@ fn is_inside(rect: Rect, width: &i64) -> bool
 }
 
 /// Whether a shape of metal 1 lies within the box or a strip; one of another metal does in any case.
-pub fn keeps_in(shape: &Shape, width: &i64) -> bool
-    requires low { pos 0 ≤ℤ width.now }
-    requires high { width.now ≤ℤ pos 20000000000000 }
-    ensures { IsTrue result ↔ KeepsIn width.now shape.now }
+fn keeps_in(shape: &Shape, width: &i64, low: Rect, high: Rect) -> bool
+    requires least { pos 0 ≤ℤ width.now }
+    requires most { width.now ≤ℤ pos 20000000000000 }
+    ensures { IsTrue result ↔ KeepsIn width.now low high shape.now }
 {
     if shape.metal() != 1 {
         return true;
@@ -119,10 +116,21 @@ pub fn keeps_in(shape: &Shape, width: &i64) -> bool
     if is_inside(rect, width) {
         return true;
     }
-    if within(rect, strip(width, 0, RAIL_WIDTH)) {
+    if within(rect, low) {
         return true;
     }
-    within(rect, strip(width, VDD_STRIP_Y, ROW_HEIGHT))
+    within(rect, high)
+}
+
+/// Whether each shape of metal 1 lies within the box or a strip.
+pub fn all_keep_in(shapes: &[Shape], width: &i64, low: Rect, high: Rect) -> bool
+    requires least { pos 0 ≤ℤ width.now }
+    requires most { width.now ≤ℤ pos 20000000000000 }
+    ensures { IsTrue result ↔ All (KeepsIn width.now low high) shapes.now }
+{
+    shapes
+        .iter()
+        .all(|shape| keeps_in(shape, width, low, high))
 }
 
 /// Whether a shape is a connector of this name on metal 1 that holds the rectangle.
