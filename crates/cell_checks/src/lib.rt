@@ -1,11 +1,14 @@
 //! The checks of a cell's layout, each by a definition of its own, and libraries of cells that pass them.
 #![tactic(auto)]
 
+mod checker;
 mod connectors;
 mod joined;
 mod layout;
+mod nodes;
 mod row;
 mod shapes;
 mod verdict;
 
+pub use checker::check_cell;
 pub use verdict::{CellVerdict, Check, MOST_COLUMNS};
