@@ -4,3 +4,4 @@ pub mod Loops
 pub mod Numbers
 pub mod Layouts
 pub mod PinsApart
+pub mod Firsts

@@ -54,3 +54,10 @@ IsVerdict tracks c (verdict.TooWide columns) = ((k : Check) → PassesCheck trac
 abbrev pub IsFirstFailure : Bool → Cell → Option Check → Type 0
 IsFirstFailure tracks c None = (k : Check) → PassesCheck tracks c k
 IsFirstFailure tracks c (Some k) = FailsFirst tracks c k
+
+-- what is known of a mappable cell whose joined shapes are looked at
+pub record PassesFirst (c : Cell) : Type 0 where
+  pub connectors : PinsAreConnectors c
+  pub row : StandsInRow c
+  pub rails : HasRails c
+  pub reached : IsReached c

@@ -5,7 +5,6 @@ mod checker;
 mod connectors;
 mod joined;
 mod layout;
-mod nodes;
 mod row;
 mod shapes;
 mod verdict;
