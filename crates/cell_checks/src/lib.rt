@@ -5,9 +5,11 @@ mod checker;
 mod connectors;
 mod joined;
 mod layout;
+mod library;
 mod row;
 mod shapes;
 mod verdict;
 
 pub use checker::check_cell;
+pub use library::Library;
 pub use verdict::{CellVerdict, Check, MOST_COLUMNS};
