@@ -4,4 +4,6 @@ pub mod Cell
 pub mod Library
 pub mod Layout
 pub mod Access
+pub mod Usable
+pub mod Connectors
 pub mod Kind
