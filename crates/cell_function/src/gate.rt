@@ -3,6 +3,7 @@ ghost use Rattle.std.specs.Prelude.{◌≡◌, [], length, IfOk};
 ghost use Rattle.std.specs.Option.{option_copied};
 ghost use Rattle.bool_expr.specs.Expression.{IsOver};
 ghost use Rattle.bool_expr.specs.View.{view};
+ghost use Rattle.machine_core.specs.Checked.{IsChecked};
 ghost use Rattle.machine_meaning.specs.Machine.{inputs};
 ghost use Rattle.cell_function.specs.Row.{row, HasRows, HasGateShape, IsGateOutput, IsGateOr};
 
@@ -18,7 +19,8 @@ const MOST_INPUTS: usize = 6;
 
 /// The output of a machine that is a gate.
 fn gate_output(machine: &Machine) -> Option<&Name>
-    ensures { IsGateOutput machine.now (option_copied result) }
+    ensures output { IsGateOutput machine.now (option_copied result) }
+    ensures checked { IsChecked machine.now }
 {
     if machine.clock().is_some() {
         return None;

@@ -1,5 +1,5 @@
 use Rattle.std.proofs.Common.{◌+◌, ◌*◌}
-use Rattle.cell_function.proofs.rows.+split.Given as goal
+use Rattle.cell_function.proofs.rows.+table.Given as goal
 
 -- the two go by how many inputs are left
 abbrev pub decreases-split : goal.decreases-split
