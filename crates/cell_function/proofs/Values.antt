@@ -91,18 +91,19 @@ only_equation m output e checked shape is =
     subst (λ (es : List Equation). EachReadsBelow (length (inputs m)) es) is (subst (λ n. EachReadsBelow n m.equations) held checked.ordered.below) in
     let named : output ≡ e.name =
     In-one output e.name (subst (λ (es : List Equation). In output (map (λ (x : Equation). x.name) es)) is (checked.driven output (subst (λ (ns : List Name). In output ns) (sym shape.one) here))) in
-    let none : length {A = Bool} [] ≡ length m.registers = ap (λ (rs : List Register). length rs) (sym shape.stateless) in
-    ((λ back size.
-        let w = built (back ++ []) m.equations in
-        let settles = built_settles m [] back checked.ordered none size in
-        let w_is : w ≡ (back ++ []) ++ val e.expr (back ++ []) ∷ [] = ap (built (back ++ [])) is in
-        let value : value_at m.vars w e.name ≡ val e.expr w =
-        All-head (λ (x : Equation). value_at m.vars w x.name ≡ val x.expr w) e [] (subst (λ (es : List Equation). All (λ x. value_at m.vars w x.name ≡ val x.expr w) es) is settles.equations) in
-        let flat : w ≡ back ++ val e.expr (back ++ []) ∷ [] = w_is ∙ ap (λ (xs : List Bool). xs ++ val e.expr (back ++ []) ∷ []) (append-nil back) in
-        let agrees : val e.expr back ≡ val e.expr w =
-        val-agrees e.expr back w (λ k h. sym (ap (λ (x : List Bool). bit x k) flat ∙ bit_front back (val e.expr (back ++ []) ∷ []) k (subst (λ n. k < n) (sym size) (IsOver-In e.expr (length (inputs m)) below.0 k h)))) in
-        agrees ∙ sym value ∙ ap (value_at m.vars w) (sym named)),
-    below.0)
+    let none : length {A = Bool} [] ≡ length m.registers = ap (λ (rs : List Register). length rs) (sym shape.stateless) in (
+      (λ back size.
+          let w = built (back ++ []) m.equations in
+          let settles = built_settles m [] back checked.ordered none size in
+          let w_is : w ≡ (back ++ []) ++ val e.expr (back ++ []) ∷ [] = ap (built (back ++ [])) is in
+          let value : value_at m.vars w e.name ≡ val e.expr w =
+          All-head (λ (x : Equation). value_at m.vars w x.name ≡ val x.expr w) e [] (subst (λ (es : List Equation). All (λ x. value_at m.vars w x.name ≡ val x.expr w) es) is settles.equations) in
+          let flat : w ≡ back ++ val e.expr (back ++ []) ∷ [] = w_is ∙ ap (λ (xs : List Bool). xs ++ val e.expr (back ++ []) ∷ []) (append-nil back) in
+          let agrees : val e.expr back ≡ val e.expr w =
+          val-agrees e.expr back w (λ k h. sym (ap (λ (x : List Bool). bit x k) flat ∙ bit_front back (val e.expr (back ++ []) ∷ []) k (subst (λ n. k < n) (sym size) (IsOver-In e.expr (length (inputs m)) below.0 k h)))) in
+          agrees ∙ sym value ∙ ap (value_at m.vars w) (sym named)),
+      below.0,
+    )
 
 as_parts : (m : Machine) (es : List EquationParts) (e : EquationParts) → map equation_view es ≡ m.equations → length es ≡ 1 → e ≡ slice_index_or es 0 e → m.equations ≡ equation_view e ∷ []
 as_parts m [] e is size same_one = absurd (omega (arith, size))
@@ -168,10 +169,13 @@ each_kept : (m : Machine) (output : Name) → keeps_always m output ≡ true →
 each_kept m output h held given = pick held given where
   first : (keeps m output false false ≡ true) × ((keeps m output false true && (keeps m output true false && keeps m output true true)) ≡ true)
   first = both (keeps m output false false) (keeps m output false true && (keeps m output true false && keeps m output true true)) h
+
   second : (keeps m output false true ≡ true) × ((keeps m output true false && keeps m output true true) ≡ true)
   second = both (keeps m output false true) (keeps m output true false && keeps m output true true) first.1
+
   third : (keeps m output true false ≡ true) × (keeps m output true true ≡ true)
   third = both (keeps m output true false) (keeps m output true true) second.1
+
   pick : (held given : Bool) → keeps m output held given ≡ true
   pick false false = first.0
   pick false true = second.0
@@ -203,13 +207,13 @@ no_flip_flop m output checked shape h data_pin clock_pin ff =
     let named : ff.output ≡ output = one_head ff.output output (outputs m) ff.one shape.one in
     let always : keeps_always m output ≡ true =
     all_kept m output (λ s i.
-        let held : length (s ∷ []) ≡ length m.registers = ap (λ (rs : List Register). length rs) (sym ff.stored) in
-        let w = built ((i ∷ []) ++ (s ∷ [])) m.equations in
-        let settles = built_settles m (s ∷ []) (i ∷ []) checked.ordered held (sym shape.data_input) in
-        let p = ff.plain s i w settles in
-        ap (λ (rs : List Register). kept rs m.vars output s i w) ff.stored
-        ∙ and_true (same (val ff.register.next w) i) (val ff.register.enable w && same (value_at m.vars w output) s) (same_itself (val ff.register.next w) i p.0)
-        (and_true (val ff.register.enable w) (same (value_at m.vars w output) s) p.1 (same_itself (value_at m.vars w output) s (ap (value_at m.vars w) (sym named) ∙ p.2)))) in
+    let held : length (s ∷ []) ≡ length m.registers = ap (λ (rs : List Register). length rs) (sym ff.stored) in
+    let w = built ((i ∷ []) ++ (s ∷ [])) m.equations in
+    let settles = built_settles m (s ∷ []) (i ∷ []) checked.ordered held (sym shape.data_input) in
+    let p = ff.plain s i w settles in
+    ap (λ (rs : List Register). kept rs m.vars output s i w) ff.stored
+    ∙ and_true (same (val ff.register.next w) i) (val ff.register.enable w && same (value_at m.vars w output) s) (same_itself (val ff.register.next w) i p.0)
+    (and_true (val ff.register.enable w) (same (value_at m.vars w output) s) p.1 (same_itself (value_at m.vars w output) s (ap (value_at m.vars w) (sym named) ∙ p.2)))) in
     let never : true ≡ false = sym always ∙ h in absurd cc
 
 one_member : {A : Type 0} (xs : List A) → length xs ≡ 1 → (x : A) × (xs ≡ x ∷ [])

@@ -4,3 +4,4 @@ pub mod AlikeStatements
 pub mod AlikeSources
 pub mod Once
 pub mod Cells
+pub mod CellLaws

@@ -8,5 +8,5 @@ mod reader;
 
 pub use cell::read_cell_vbe;
 pub use cell_text::{CellText, GenericValue, GenericValues};
-pub use laws::{never_both, one_refusal};
+pub use laws::{cell_is_machine, cell_never_both, never_both, one_refusal};
 pub use reader::read_vbe;
