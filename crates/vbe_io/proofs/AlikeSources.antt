@@ -28,7 +28,7 @@ in_source key look keyed seen a b e =
     ∙ of_each statement_view (λ s xs. look (key b) s ++ xs) (in_statements (look (key b))) (λ s rest. refl) (λ s t same. ap (λ found. λ xs. found ++ xs) (seen (key b) s t same))
     a.statements b.statements (ap (λ (t : SourceTree). t.statements) e)
 
-symbols_alike : SeenBy source_view symbols
+pub symbols_alike : SeenBy source_view symbols
 symbols_alike = of_view source_view (λ t. port_symbols t.entity.ports ++ signal_symbols t.declarations.signals)
 
 drivers_alike : SeenBy source_view drivers

@@ -3,3 +3,5 @@ pub mod Views
 pub mod AlikeStatements
 pub mod AlikeSources
 pub mod Once
+pub mod Cells
+pub mod CellLaws

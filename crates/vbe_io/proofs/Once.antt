@@ -23,13 +23,13 @@ cycle_is_ring design e is = (is.line, is.first ∷ is.rest, is.is)
 cycle_or_none : (design : DesignFile) (e : ReadError) → IsCycle design e → HasNoRing design → ⊥
 cycle_or_none design e is none = none (is.first ∷ is.rest) is.ring
 
-pass_or_fail : (design : DesignFile) (e : ReadError) → Passes design → IsRefusedFor design e → ⊥
+pub pass_or_fail : (design : DesignFile) (e : ReadError) → Passes design → IsRefusedFor design e → ⊥
 pass_or_fail design errors.Memory passes is = is
 pass_or_fail design (errors.Input f) passes (inl h) = let both : None ≡ Some (errors.Input f) = sym passes.no_fault ∙ h in absurd (cc)
 pass_or_fail design (errors.Input f) passes (inr h) = cycle_or_none design (errors.Input f) h.1 passes.no_ring
 pass_or_fail design (errors.Limit l) passes is = let few = passes.few_ports in let many = is.2 in omega arith
 
-fault_or_limit : (design : DesignFile) (f : InputFault) (l : Limit) → IsRefusedFor design (errors.Input f) → IsRefusedFor design (errors.Limit l) → ⊥
+pub fault_or_limit : (design : DesignFile) (f : InputFault) (l : Limit) → IsRefusedFor design (errors.Input f) → IsRefusedFor design (errors.Limit l) → ⊥
 fault_or_limit design f l (inl h) many = let both : Some (errors.Input f) ≡ None = sym h ∙ many.0 in absurd (cc)
 fault_or_limit design f l (inr h) many = cycle_or_none design (errors.Input f) h.1 many.1
 
@@ -52,15 +52,15 @@ one_fault design (errors.Limit l) (errors.Limit m) is it = inl (is.3 ∙ sym it.
 -- ---- the stages before
 
 -- two readings of one text are of one tree
-written_once : (bytes : List ℕ) (a b : DesignFile) → IsWritten bytes a → IsWritten bytes b → source_view a ≡ source_view b
+pub written_once : (bytes : List ℕ) (a b : DesignFile) → IsWritten bytes a → IsWritten bytes b → source_view a ≡ source_view b
 written_once bytes a b wa wb = text.one_source (tokens_in bytes) (source_view a) (source_view b) wa.source wb.source
 
-cut_or_not : (bytes : List ℕ) (e : ReadError) → refusal_in bytes ≡ None → refusal_in bytes ≡ Some e → ⊥
+pub cut_or_not : (bytes : List ℕ) (e : ReadError) → refusal_in bytes ≡ None → refusal_in bytes ≡ Some e → ⊥
 cut_or_not bytes e none some = let both : None ≡ Some e = sym none ∙ some in absurd (cc)
 
 -- ---- whole texts
 
-written_or_not : (bytes : List ℕ) (design : DesignFile) (e : ReadError) → IsWritten bytes design → RefusedAs (tokens_in bytes) e → ⊥
+pub written_or_not : (bytes : List ℕ) (design : DesignFile) (e : ReadError) → IsWritten bytes design → RefusedAs (tokens_in bytes) e → ⊥
 written_or_not bytes design e written is = text.never_both (tokens_in bytes) (source_view design) e written.source is
 
 pub never_both : NeverBoth

@@ -1,0 +1,3 @@
+pub mod Function
+pub mod Row
+pub mod Timing
