@@ -1,0 +1,4 @@
+pub mod Places
+pub mod Netlist
+pub mod Frame
+pub mod Joins
