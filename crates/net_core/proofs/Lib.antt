@@ -1,2 +1,4 @@
 pub mod Lookups
 pub mod Standing
+pub mod Searching
+pub mod Frames

@@ -1,12 +1,15 @@
 -- A netlist whose terminals aren't joined yet.
-use Rattle.std.specs.Prelude.{◌≡◌, ℕ, ◌+◌, ◌<◌, List, [], map, length, slice_index_or, take}
+use Rattle.std.specs.Prelude.{◌≡◌, ℕ, ◌+◌, ◌<◌, ◌^◌, Option, None, Some, List, [], ◌∷◌, ◌++◌, map, length, slice_index_or, take}
 use Rattle.std.specs.Global.{Vec}
 use Rattle.std.specs.BTreeMap.{BTreeMap}
 use Rattle.std.specs.List.{All, flat_map}
+use Rattle.vlsi_base.specs.declared.name.Name.{Name}
 use Rattle.vlsi_base.specs.declared.name.Port.{Port}
 use Rattle.vlsi_base.specs.declared.name.Terminal.{Terminal}
 use Rattle.net_core.specs.declared.frame.Node.{Node}
-use Rattle.net_core.specs.Places.{NoneTwice, KnowsPlaces}
+use Rattle.net_core.specs.declared.error.BuildError.{BuildError}
+use Rattle.net_core.specs.declared.error.BuildError.TheVariants as error
+use Rattle.net_core.specs.Places.{Stands, IsThere, NoneTwice}
 use Rattle.net_core.specs.Netlist.{Instance, pin_of, terminals_of, AreInOrder}
 
 pub record Frame : Type 0 where
@@ -29,11 +32,33 @@ frame_terminals f = terminals_of f.ports f.instances
 
 -- what is known of the parts of a frame
 pub record IsFrame (ports : List Port) (models : List (List ℕ)) (nodes : List Node) (names : List (List ℕ)) (count : ℕ) : Type 0 where
-  pub ports : AreInOrder (map (λ p. p.name) ports)
-  pub names : names ≡ map (λ i. i.name) nodes
+  pub sorted : AreInOrder (map (λ p. p.name) ports)
+  pub listed : names ≡ map (λ i. i.name) nodes
   pub once : NoneTwice names
   pub pins : All (λ i. AreInOrder i.pins) nodes
-  pub models : All (λ i. i.model < length models) nodes
+  pub known : All (λ i. i.model < length models) nodes
   -- the number of an instance's first pin is that of the terminals before it
   pub firsts : (k : ℕ) (d : Node) → k < length nodes → (slice_index_or nodes k d).first ≡ length ports + length (flat_map node_pins (take k nodes))
-  pub count : count ≡ length ports + length (flat_map node_pins nodes)
+  pub counted : count ≡ length ports + length (flat_map node_pins nodes)
+  pub few : count < 2 ^ 32
+
+-- one more instance behind the others
+pub record AddsInstance (old new : Frame) (i : Instance) : Type 0 where
+  pub ports : new.ports ≡ old.ports
+  pub instances : new.instances ≡ old.instances ++ i ∷ []
+
+-- the same ports and instances; there may be more models that instances can be given
+pub record HasSameParts (old new : Frame) : Type 0 where
+  pub ports : new.ports ≡ old.ports
+  pub instances : new.instances ≡ old.instances
+
+-- why an instance of this name isn't added, if memory hasn't run out
+abbrev pub IsNoPlaceFor : List Instance → List ℕ → BuildError → Type 0
+IsNoPlaceFor instances name error.Memory = Unit {0}
+IsNoPlaceFor instances name error.Twice = IsThere (map (λ i. i.name) instances) name
+IsNoPlaceFor instances name error.Unknown = ⊥
+
+-- the number of an instance's pin of this name; none exactly where it has none
+abbrev pub IsPinPlace : Node → Name → Option ℕ → Type 0
+IsPinPlace i pin None = IsThere i.pins pin → ⊥
+IsPinPlace i pin (Some k) = (j : ℕ) × Stands i.pins j pin × (k ≡ i.first + j)
