@@ -2,3 +2,4 @@ pub mod Lookups
 pub mod Standing
 pub mod Searching
 pub mod Frames
+pub mod Growing
