@@ -10,7 +10,7 @@ use Rattle.net_core.specs.declared.frame.Node.{Node}
 use Rattle.net_core.specs.declared.error.BuildError.{BuildError}
 use Rattle.net_core.specs.declared.error.BuildError.TheVariants as error
 use Rattle.net_core.specs.Places.{Stands, IsThere, NoneTwice}
-use Rattle.net_core.specs.Netlist.{Instance, pin_of, terminals_of, AreInOrder}
+use Rattle.net_core.specs.Netlist.{Instance, Netlist, pin_of, terminals_of, AreInOrder}
 
 pub record Frame : Type 0 where
   pub ports : List Port
@@ -62,3 +62,20 @@ IsNoPlaceFor instances name error.Unknown = ⊥
 abbrev pub IsPinPlace : Node → Name → Option ℕ → Type 0
 IsPinPlace i pin None = IsThere i.pins pin → ⊥
 IsPinPlace i pin (Some k) = (j : ℕ) × Stands i.pins j pin × (k ≡ i.first + j)
+
+-- what is known of each frame
+pub record IsSound (f : Frame) : Type 0 where
+  pub ports : AreInOrder (map (λ p. p.name) f.ports)
+  pub names : NoneTwice (map (λ i. i.name) f.instances)
+  pub pins : All (λ i. AreInOrder i.pins) f.instances
+  pub models : All (λ i. IsThere f.models i.model) f.instances
+
+abbrev pub netlist_of : List ℕ → Frame → List ℕ → ℕ → Netlist
+netlist_of name frame classes count = record {
+  name = name;
+  ports = frame.ports;
+  models = frame.models;
+  instances = frame.instances;
+  classes = classes;
+  count = count;
+}

@@ -72,6 +72,11 @@ HasClass n t class = (k : ℕ) × Stands (terminals n) k t × Stands n.classes k
 pub record IsClassFunction (n : Netlist) (class : Terminal → ℕ) : Type 0 where
   pub each : (t : Terminal) (k : ℕ) → HasClass n t k → class t ≡ k
 
+-- why a terminal has no class: it isn't there
+abbrev pub IsClassOf : Netlist → Terminal → Option ℕ → Type 0
+IsClassOf n t None = IsThere (terminals n) t → ⊥
+IsClassOf n t (Some class) = HasClass n t class
+
 -- the same netlist but for the model of one instance
 pub record SetsModel (old new : Netlist) (place : ℕ) (model : List ℕ) : Type 0 where
   pub was : Instance

@@ -2,7 +2,7 @@
 ghost use Rattle.std.specs.Prelude.{◌≡◌, ◌++◌, ◌∷◌, [], ◌+◌, ◌<◌, ◌^◌, None, map, length, IfOk, OnOk, OnErr, IfErr};
 ghost use Rattle.net_core.specs.Places.{IsThere, IsPlaceOf, position_of};
 ghost use Rattle.net_core.specs.Netlist.{AreInOrder};
-ghost use Rattle.net_core.specs.Frame.{frame_terminals, AddsInstance, HasSameParts, IsNoPlaceFor, IsPinPlace};
+ghost use Rattle.net_core.specs.Frame.{frame_terminals, AddsInstance, HasSameParts, IsNoPlaceFor, IsPinPlace, IsSound};
 
 use crate::error::BuildError;
 use crate::roll::Roll;
@@ -163,6 +163,7 @@ impl Frame {
     /// The number of terminals. Takes no memory.
     pub fn count(&self) -> u32
         ensures count { result ≡ length (frame_terminals self.now) }
+        ensures sound { IsSound self.now }
     {
         self.count
     }

@@ -1,10 +1,15 @@
 //! Netlists in memory: their terminals, and the classes of those that are joined.
 #![tactic(auto)]
 
+mod builder;
 mod error;
 mod frame;
+mod netlist;
 mod pins;
 mod roll;
+mod turns;
 
+pub use builder::Builder;
 pub use error::BuildError;
+pub use netlist::Netlist;
 pub use pins::{ModelPin, ModelPins, PinPlaces, PinTable};

@@ -1,0 +1,82 @@
+// Netlists in memory.
+ghost use Rattle.std.specs.Prelude.{◌≡◌, ◌<◌, map, length, OnOk, OnErr};
+ghost use Rattle.net_core.specs.Netlist.{IsNetlist, InTurn, IsClassOf, SetsModel, ReservesModels};
+ghost use Rattle.net_core.specs.Frame.{frame_terminals, netlist_of};
+
+use crate::frame::Frame;
+use std::alloc::{AllocError, Global};
+use std::marker::Model;
+use vlsi_base::{Terminal, Text};
+
+/// A netlist: its ports, its instances, and the class of each terminal, where joined terminals are in one class. Ports and the
+/// pins of an instance stand in the order of names, names of instances differ, and classes are numbered from 0 on in the order
+/// of their least terminals.
+#[derive(Drop)]
+pub struct Netlist {
+    name: Text,
+    frame: Frame,
+    classes: Vec<u32>,
+    count: u32,
+}
+
+impl Model for Netlist {
+    ghost use Rattle.std.specs.Prelude.{◌≡◌, length};
+    ghost use Rattle.net_core.specs.Netlist.{Netlist as Meaning, InTurn};
+    ghost use Rattle.net_core.specs.Frame.{frame_terminals, netlist_of};
+
+    ghost Value = { Meaning };
+
+    ghost view = { λ a. netlist_of a.name a.frame a.classes.items a.count };
+
+    ghost invariant = { λ a. (length a.classes.items ≡ length (frame_terminals a.frame)) × InTurn 0 a.classes.items a.count };
+}
+
+impl Netlist {
+    /// The netlist of these parts. Takes no memory.
+    pub(crate) fn new(name: Text, frame: Frame, classes: Vec<u32>, count: u32) -> Self
+        requires each { length classes.items ≡ length (frame_terminals frame) }
+        requires turns { InTurn 0 classes.items count }
+        ensures { result ≡ netlist_of name frame classes.items count }
+    {
+        Netlist {
+            name,
+            frame,
+            classes,
+            count,
+        }
+    }
+
+    /// Its name.
+    pub fn name(&self) -> &Text
+        ensures { result.now ≡ self.now.name }
+    {
+        &self.name
+    }
+
+    /// The class of each terminal: of the ports in the order of names, then of the pins of each instance.
+    pub fn classes(&self) -> &[u32]
+        ensures classes { result.now ≡ self.now.classes }
+        ensures sound { IsNetlist self.now }
+    {
+        let _ = self.frame.count();
+        &self.classes
+    }
+
+    /// How many classes there are.
+    pub fn count(&self) -> u32
+        ensures { result ≡ self.now.count }
+    {
+        self.count
+    }
+
+    /// The class of a terminal; none exactly where it isn't there. Takes no memory, and time for the logarithms of the numbers of
+    /// instances, ports and pins.
+    pub fn class(&self, terminal: &Terminal) -> Option<u32>
+        ensures { IsClassOf self.now terminal.now result }
+    {
+        match self.frame.place(terminal) {
+            Some(place) => Some(self.classes[place as usize]),
+            None => None,
+        }
+    }
+}
