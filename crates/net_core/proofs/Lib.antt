@@ -6,3 +6,4 @@ pub mod Growing
 pub mod Sound
 pub mod InTurns
 pub mod Joining
+pub mod Finishing
