@@ -2,3 +2,4 @@ pub mod Places
 pub mod Netlist
 pub mod Frame
 pub mod Joins
+pub mod Checks

@@ -7,6 +7,7 @@ mod frame;
 mod netlist;
 mod pins;
 mod roll;
+mod tally;
 mod turns;
 
 pub use builder::Builder;

@@ -1,0 +1,202 @@
+-- When a netlist is sound, and which fault it has where it isn't.
+use Rattle.std.specs.Prelude.{◌≡◌, IsTrue, ℕ, ◌+◌, ◌-◌, ◌<◌, Bool, true, false, not, ◌&&◌, ◌||◌, List, [], ◌∷◌, ◌++◌, map, length, Option, None, Some, nat_eq, nat_le, nat_lt, bytes_eq, slice_get, if◌then◌else◌}
+use Rattle.std.specs.List.{All, flat_map, zip, sum_by}
+use Rattle.vlsi_base.specs.declared.name.Name.{Name}
+use Rattle.vlsi_base.specs.declared.name.Port.{Port}
+use Rattle.vlsi_base.specs.declared.name.Dir.{Dir}
+use Rattle.vlsi_base.specs.declared.name.Dir.TheVariants.{In, Out}
+use Rattle.vlsi_base.specs.declared.name.Terminal.{Terminal}
+use Rattle.vlsi_base.specs.declared.fault.FaultKind.{FaultKind}
+use Rattle.vlsi_base.specs.declared.fault.FaultKind.TheVariants as kind
+use Rattle.vlsi_base.specs.Names.{scalar, comes_before}
+use Rattle.net_core.specs.declared.pins.ModelPin.{ModelPin}
+use Rattle.net_core.specs.declared.pins.ModelPins.{ModelPins}
+use Rattle.net_core.specs.declared.tally.Role.{Role}
+use Rattle.net_core.specs.declared.tally.Role.TheVariants as role
+use Rattle.net_core.specs.declared.tally.Tally.{Tally}
+use Rattle.net_core.specs.Places.{Stands, IsThere, NoneTwice}
+use Rattle.net_core.specs.Netlist.{Instance, Netlist, port, pin_of, terminals, HasClass}
+
+-- the pins of the first model of this name in a table
+abbrev pub pins_named : List ModelPins → List ℕ → List ModelPin
+pins_named [] model = []
+pins_named (m ∷ rest) model = if bytes_eq m.model model then m.pins else pins_named rest model
+
+-- an output depends on pins of its model
+abbrev pub DependsWithin : ModelPins → Type 0
+DependsWithin m = All (λ p. All (λ k. k < length m.pins) p.depends_on) m.pins
+
+-- The table lists each of the netlist's models, and each instance has exactly the pins of its model. No model is listed twice.
+pub record Fits (n : Netlist) (table : List ModelPins) : Type 0 where
+  pub once : NoneTwice (map (λ m. m.model) table)
+  pub listed : All (λ i. IsThere (map (λ m. m.model) table) i.model) n.instances
+  pub pins : All (λ i. i.pins ≡ map (λ p. p.name) (pins_named table i.model)) n.instances
+  pub depends : All DependsWithin table
+
+-- what a terminal does in its class
+
+abbrev pub port_role_of : Dir → Role
+port_role_of In = role.InputPort
+port_role_of Out = role.OutputPort
+
+abbrev pub port_role : Port → Role
+port_role p = port_role_of p.dir
+
+abbrev pub pin_role_of : Dir → Bool → Role
+pin_role_of In true = role.ClockPin
+pin_role_of In false = role.InputPin
+pin_role_of Out clocks = role.OutputPin
+
+abbrev pub pin_role : ModelPin → Role
+pin_role p = pin_role_of p.dir p.is_clock
+
+-- of each terminal, in the order of terminals
+abbrev pub roles : List ModelPins → Netlist → List Role
+roles table n = map port_role n.ports ++ flat_map (λ i. map pin_role (pins_named table i.model)) n.instances
+
+-- one more terminal of a role
+abbrev pub with_one : Role → Tally → Tally
+with_one role.InputPort t = record t { input_ports = t.input_ports + 1 }
+with_one role.OutputPort t = record t { output_ports = t.output_ports + 1 }
+with_one role.InputPin t = record t { input_pins = t.input_pins + 1 }
+with_one role.ClockPin t = record t { clock_pins = t.clock_pins + 1 }
+with_one role.OutputPin t = record t { output_pins = t.output_pins + 1 }
+
+abbrev pub no_terminals : Tally
+no_terminals = record { input_ports = 0; output_ports = 0; input_pins = 0; clock_pins = 0; output_pins = 0 }
+
+-- how many terminals of each role a class has, where each terminal stands with its class
+abbrev pub tally_of : List (Role × ℕ) → ℕ → Tally
+tally_of [] class = no_terminals
+tally_of (t ∷ rest) class = if nat_eq t.1 class then with_one t.0 (tally_of rest class) else tally_of rest class
+
+abbrev pub tally : List ModelPins → Netlist → ℕ → Tally
+tally table n class = tally_of (zip (roles table n) n.classes) class
+
+abbrev pub is_clock_pin : Role → Bool
+is_clock_pin role.InputPort = false
+is_clock_pin role.OutputPort = false
+is_clock_pin role.InputPin = false
+is_clock_pin role.ClockPin = true
+is_clock_pin role.OutputPin = false
+
+-- how many clock pins the whole netlist has
+abbrev pub all_clocks : List Role → ℕ
+all_clocks rs = sum_by (λ r. if is_clock_pin r then 1 else 0) rs
+
+-- an input pin is alone in its class
+abbrev pub is_unconnected : Tally → Bool
+is_unconnected t = nat_eq (t.input_pins + t.clock_pins) 1 && nat_eq (t.input_ports + t.output_ports + t.output_pins) 0
+
+-- input ports and output pins drive their class
+abbrev pub drivers : Tally → ℕ
+drivers t = t.input_ports + t.output_pins
+
+-- a class that isn't unconnected has an input pin or an output port, and no driver
+abbrev pub is_undriven : Tally → Bool
+is_undriven t = not (is_unconnected t) && nat_le 1 (t.input_pins + t.clock_pins + t.output_ports) && nat_eq (drivers t) 0
+
+-- a class has two drivers
+abbrev pub is_driven_twice : Tally → Bool
+is_driven_twice t = nat_le 2 (drivers t)
+
+-- a class with a clock pin has no input port, or lacks another clock pin, or has an output port or an input pin that isn't a
+-- clock pin
+abbrev pub is_misused_clock : ℕ → Tally → Bool
+is_misused_clock clocks t =
+    nat_le 1 t.clock_pins && (nat_eq t.input_ports 0 || nat_lt t.clock_pins clocks || nat_le 1 t.output_ports || nat_le 1 t.input_pins)
+
+-- the first class that passes a test, and that none does
+pub record IsFirstClass (n : Netlist) (test : ℕ → Bool) (class : ℕ) : Type 0 where
+  pub inside : class < n.count
+  pub passes : test class ≡ true
+  pub first : (c : ℕ) → c < class → test c ≡ false
+
+abbrev pub NoClass : Netlist → (ℕ → Bool) → Type 0
+NoClass n test = (c : ℕ) → c < n.count → test c ≡ false
+
+-- the least terminal of a class
+pub record IsLeast (n : Netlist) (class : ℕ) (t : Terminal) : Type 0 where
+  pub place : ℕ
+  pub stands : Stands (terminals n) place t
+  pub here : Stands n.classes place class
+  pub first : (k : ℕ) → k < place → Stands n.classes k class → ⊥
+
+-- a port by its name, a pin by its instance and its own name
+abbrev pub owner_names : Option (List ℕ) → List Name
+owner_names None = []
+owner_names (Some owner) = scalar owner ∷ []
+
+abbrev pub terminal_names : Terminal → List Name
+terminal_names t = owner_names t.instance ++ t.pin ∷ []
+
+-- a pin of an instance, as the table has it
+pub record IsPinOf (table : List ModelPins) (n : Netlist) (i : Instance) (p : ModelPin) (t : Terminal) : Type 0 where
+  pub listed : IsThere n.instances i
+  pub known : IsThere (pins_named table i.model) p
+  pub is : t ≡ pin_of i.name p.name
+
+-- one output pin depends at once on an input pin in the class of another
+pub record DependsOn (table : List ModelPins) (n : Netlist) (a b : Terminal) : Type 0 where
+  pub owner : Instance
+  pub output : ModelPin
+  pub is_pin : IsPinOf table n owner output a
+  pub gives : output.dir ≡ Out
+  -- the input pin on which it depends, and its class
+  pub place : ℕ
+  pub input : ModelPin
+  pub depends : IsThere output.depends_on place
+  pub there : Stands (pins_named table owner.model) place input
+  pub class : ℕ
+  pub reads : HasClass n (pin_of owner.name input.name) class
+  -- the output pin in that class
+  pub other : Instance
+  pub driver : ModelPin
+  pub is_driver : IsPinOf table n other driver b
+  pub drives : driver.dir ≡ Out
+  pub joined : HasClass n b class
+
+-- different output pins, of which each depends at once on an input pin in the class of the next, and the last on one in that
+-- of the first
+pub record IsRing (table : List ModelPins) (n : Netlist) (ring : List Terminal) : Type 0 where
+  pub some : 0 < length ring
+  pub once : NoneTwice ring
+  pub next : (k : ℕ) (a b : Terminal) → Stands ring k a → Stands ring (k + 1) b → DependsOn table n a b
+  pub close : (a b : Terminal) → Stands ring (length ring - 1) a → Stands ring 0 b → DependsOn table n a b
+
+-- a ring's instances, from the least name
+pub record NamesRing (ring : List Terminal) (names : List Name) : Type 0 where
+  pub owners : map (λ t. t.instance) ring ≡ map (λ name. Some name.text) names
+  pub scalars : All (λ name. name.bit ≡ None) names
+  pub least : (first other : Name) → Stands names 0 first → IsThere names other → comes_before other first ≡ false
+
+-- no fault by classes
+pub record HasSoundClasses (table : List ModelPins) (n : Netlist) : Type 0 where
+  pub connected : NoClass n (λ c. is_unconnected (tally table n c))
+  pub driven : NoClass n (λ c. is_undriven (tally table n c))
+  pub once : NoClass n (λ c. is_driven_twice (tally table n c))
+  pub clocks : NoClass n (λ c. is_misused_clock (all_clocks (roles table n)) (tally table n c))
+
+-- the netlist has no fault
+pub record Passes (table : List ModelPins) (n : Netlist) : Type 0 where
+  pub classes : HasSoundClasses table n
+  pub rings : (ring : List Terminal) → IsRing table n ring → ⊥
+
+-- The fault of a netlist: the first kind in this order that it has, at the first class that has it, named by the least terminal
+-- of that class; or a ring.
+pub data IsFault (table : List ModelPins) (n : Netlist) : FaultKind → List Name → Type 0 where
+  unconnected : (c : ℕ) (t : Terminal) → IsFirstClass n (λ c. is_unconnected (tally table n c)) c → IsLeast n c t
+      → IsFault table n kind.Unconnected (terminal_names t)
+  undriven : (c : ℕ) (t : Terminal) → NoClass n (λ c. is_unconnected (tally table n c))
+      → IsFirstClass n (λ c. is_undriven (tally table n c)) c → IsLeast n c t
+      → IsFault table n kind.NoDriver (terminal_names t)
+  twice : (c : ℕ) (t : Terminal) → NoClass n (λ c. is_unconnected (tally table n c)) → NoClass n (λ c. is_undriven (tally table n c))
+      → IsFirstClass n (λ c. is_driven_twice (tally table n c)) c → IsLeast n c t
+      → IsFault table n kind.TwoDrivers (terminal_names t)
+  clocks : (c : ℕ) (t : Terminal) → NoClass n (λ c. is_unconnected (tally table n c)) → NoClass n (λ c. is_undriven (tally table n c))
+      → NoClass n (λ c. is_driven_twice (tally table n c))
+      → IsFirstClass n (λ c. is_misused_clock (all_clocks (roles table n)) (tally table n c)) c → IsLeast n c t
+      → IsFault table n kind.ClockUse (terminal_names t)
+  cycle : (ring : List Terminal) (names : List Name) → HasSoundClasses table n → IsRing table n ring → NamesRing ring names
+      → IsFault table n kind.Cycle names
+
