@@ -32,7 +32,7 @@ named_alike models rest i l = ap (λ (m : List ℕ). made m) (get_left models re
   made : List ℕ → Instance
   made m = record { name = i.name; model = m; pins = i.pins }
 
-mapped_alike : (models rest : List (List ℕ)) (nodes : List Node) → All (λ i. i.model < length models) nodes → map (instance_of (models ++ rest)) nodes ≡ map (instance_of models) nodes
+pub mapped_alike : (models rest : List (List ℕ)) (nodes : List Node) → All (λ i. i.model < length models) nodes → map (instance_of (models ++ rest)) nodes ≡ map (instance_of models) nodes
 mapped_alike models rest [] known = refl
 mapped_alike models rest (i ∷ nodes) known =
     let e = named_alike models rest i (known 0 i (omega arith)) in

@@ -7,3 +7,5 @@ pub mod Sound
 pub mod InTurns
 pub mod Joining
 pub mod Finishing
+pub mod Learning
+pub mod Changing

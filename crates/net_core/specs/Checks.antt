@@ -22,9 +22,13 @@ abbrev pub pins_named : List ModelPins → List ℕ → List ModelPin
 pins_named [] model = []
 pins_named (m ∷ rest) model = if bytes_eq m.model model then m.pins else pins_named rest model
 
--- an output depends on pins of its model
+-- an input pin stands at this place
+abbrev pub IsInputAt : List ModelPin → ℕ → Type 0
+IsInputAt pins k = (q : ModelPin) × Stands pins k q × (q.dir ≡ In)
+
+-- an output depends on input pins of its model
 abbrev pub DependsWithin : ModelPins → Type 0
-DependsWithin m = All (λ p. All (λ k. k < length m.pins) p.depends_on) m.pins
+DependsWithin m = All (λ p. All (IsInputAt m.pins) p.depends_on) m.pins
 
 -- The table lists each of the netlist's models, and each instance has exactly the pins of its model. No model is listed twice.
 pub record Fits (n : Netlist) (table : List ModelPins) : Type 0 where
@@ -147,6 +151,7 @@ pub record DependsOn (table : List ModelPins) (n : Netlist) (a b : Terminal) : T
   pub input : ModelPin
   pub depends : IsThere output.depends_on place
   pub there : Stands (pins_named table owner.model) place input
+  pub takes : input.dir ≡ In
   pub class : ℕ
   pub reads : HasClass n (pin_of owner.name input.name) class
   -- the output pin in that class
@@ -199,4 +204,3 @@ pub data IsFault (table : List ModelPins) (n : Netlist) : FaultKind → List Nam
       → IsFault table n kind.ClockUse (terminal_names t)
   cycle : (ring : List Terminal) (names : List Name) → HasSoundClasses table n → IsRing table n ring → NamesRing ring names
       → IsFault table n kind.Cycle names
-

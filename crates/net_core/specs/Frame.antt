@@ -1,5 +1,5 @@
 -- A netlist whose terminals aren't joined yet.
-use Rattle.std.specs.Prelude.{◌≡◌, ℕ, ◌+◌, ◌<◌, ◌^◌, Option, None, Some, List, [], ◌∷◌, ◌++◌, map, length, slice_index_or, take}
+use Rattle.std.specs.Prelude.{◌≡◌, ℕ, ◌+◌, ◌<◌, ◌^◌, Option, None, Some, List, [], ◌∷◌, ◌++◌, map, length, slice_index_or, slice_set, take}
 use Rattle.std.specs.Global.{Vec}
 use Rattle.std.specs.BTreeMap.{BTreeMap}
 use Rattle.std.specs.List.{All, flat_map}
@@ -9,7 +9,7 @@ use Rattle.vlsi_base.specs.declared.name.Terminal.{Terminal}
 use Rattle.net_core.specs.declared.frame.Node.{Node}
 use Rattle.net_core.specs.declared.error.BuildError.{BuildError}
 use Rattle.net_core.specs.declared.error.BuildError.TheVariants as error
-use Rattle.net_core.specs.Places.{Stands, IsThere, NoneTwice}
+use Rattle.net_core.specs.Places.{Stands, IsThere, NoneTwice, Begins}
 use Rattle.net_core.specs.Netlist.{Instance, Netlist, pin_of, terminals_of, AreInOrder}
 
 pub record Frame : Type 0 where
@@ -79,3 +79,16 @@ netlist_of name frame classes count = record {
   classes = classes;
   count = count;
 }
+
+-- the same frame but for the model of one instance
+pub record SetsModelAt (old new : Frame) (place : ℕ) (model : List ℕ) : Type 0 where
+  pub was : Instance
+  pub stood : Stands old.instances place was
+  pub now : new ≡ record old { instances = slice_set old.instances place (record was { model = model }) }
+
+-- the same frame but for more models behind those that instances can be given, so that each of these names is among them
+pub record ReservesNames (old new : Frame) (names : List (List ℕ)) : Type 0 where
+  pub ports : new.ports ≡ old.ports
+  pub instances : new.instances ≡ old.instances
+  pub grown : Begins old.models new.models
+  pub there : All (IsThere new.models) names

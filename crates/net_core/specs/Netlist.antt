@@ -5,7 +5,7 @@ use Rattle.vlsi_base.specs.declared.name.Name.{Name}
 use Rattle.vlsi_base.specs.declared.name.Port.{Port}
 use Rattle.vlsi_base.specs.declared.name.Terminal.{Terminal}
 use Rattle.vlsi_base.specs.Names.{comes_before}
-use Rattle.net_core.specs.Places.{Stands, IsThere, NoneTwice}
+use Rattle.net_core.specs.Places.{Stands, IsThere, NoneTwice, Begins}
 
 pub record Instance : Type 0 where
   pub name : List ℕ
@@ -83,8 +83,8 @@ pub record SetsModel (old new : Netlist) (place : ℕ) (model : List ℕ) : Type
   pub stood : Stands old.instances place was
   pub now : new ≡ record old { instances = slice_set old.instances place (record was { model = model }) }
 
--- the same netlist but for the models that can be given, to which these are added
+-- the same netlist but for more models behind those that can be given, so that each of these names is among them
 pub record ReservesModels (old new : Netlist) (names : List (List ℕ)) : Type 0 where
   pub now : new ≡ record old { models = new.models }
-  pub kept : (name : List ℕ) → IsThere old.models name → IsThere new.models name
+  pub kept : Begins old.models new.models
   pub added : All (IsThere new.models) names

@@ -38,3 +38,7 @@ pub record KnowsPlaces (places : BTreeMap (Vec ℕ) ℕ) (texts : List (List ℕ
 -- a text is there, as it was before or as the last
 abbrev pub Learned : List (List ℕ) → List (List ℕ) → List ℕ → Type 0
 Learned old new text = MatchOption (position_of old text) (new ≡ old ++ text ∷ []) (λ _. new ≡ old)
+
+-- a list is the beginning of another
+abbrev pub Begins : {X : Type 0} → List X → List X → Type 0
+Begins {X} xs ys = (rest : List X) × (ys ≡ xs ++ rest)

@@ -1,8 +1,9 @@
 // The ports and instances of a netlist.
 ghost use Rattle.std.specs.Prelude.{◌≡◌, ◌++◌, ◌∷◌, [], ◌+◌, ◌<◌, ◌^◌, None, map, length, IfOk, OnOk, OnErr, IfErr};
+ghost use Rattle.std.specs.List.{All};
 ghost use Rattle.net_core.specs.Places.{IsThere, IsPlaceOf, position_of};
 ghost use Rattle.net_core.specs.Netlist.{AreInOrder};
-ghost use Rattle.net_core.specs.Frame.{frame_terminals, AddsInstance, HasSameParts, IsNoPlaceFor, IsPinPlace, IsSound};
+ghost use Rattle.net_core.specs.Frame.{frame_terminals, AddsInstance, HasSameParts, IsNoPlaceFor, IsPinPlace, IsSound, instance_of, SetsModelAt, ReservesNames};
 
 use crate::error::BuildError;
 use crate::roll::Roll;
@@ -207,5 +208,48 @@ impl Frame {
         put(alloc, &mut self.nodes, &mut self.names, name, node)?;
         self.count += pins.as_slice().len() as u32;
         Ok(number)
+    }
+
+    /// The ports. Takes no memory.
+    pub fn ports(&self) -> &[Port]
+        ensures { result.now ≡ self.now.ports }
+    {
+        self.ports.as_slice()
+    }
+
+    /// The models that instances can be given. Takes no memory.
+    pub fn models(&self) -> &[Text]
+        ensures { result.now ≡ self.now.models }
+    {
+        self.models.texts()
+    }
+
+    /// The instances. Takes no memory.
+    pub fn nodes(&self) -> &[Node]
+        ensures seen { map (instance_of self.now.models) result.now ≡ self.now.instances }
+        ensures known { All (λ i. i.model < length self.now.models) result.now }
+    {
+        &self.nodes
+    }
+
+    /// Makes room for models behind those that instances can be given. Takes memory for all; without it all stays as it was.
+    pub fn reserve_models(&mut self, alloc: Global, names: &[Text]) -> Result<(), AllocError>
+        ensures reserved { OnOk result (ReservesNames self.old self.new names.now) }
+        ensures kept { OnErr result (self.new ≡ self.old) }
+    {
+        let models = self.models.extended(alloc, names)?;
+        self.models = models;
+        Ok(())
+    }
+
+    /// Gives an instance another model. Takes no memory.
+    pub fn set_model(&mut self, number: u32, model: &Text)
+        requires there { number < length self.old.instances }
+        requires known { IsThere self.old.models model.now }
+        ensures { SetsModelAt self.old self.new number model.now }
+    {
+        if let Some(place) = self.models.place(model) {
+            self.nodes[number as usize].model = place;
+        }
     }
 }

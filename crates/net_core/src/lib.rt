@@ -12,5 +12,6 @@ mod turns;
 
 pub use builder::Builder;
 pub use error::BuildError;
+pub use frame::Node;
 pub use netlist::Netlist;
 pub use pins::{ModelPin, ModelPins, PinPlaces, PinTable};

@@ -1,12 +1,14 @@
 // Netlists in memory.
 ghost use Rattle.std.specs.Prelude.{◌≡◌, ◌<◌, map, length, OnOk, OnErr};
 ghost use Rattle.net_core.specs.Netlist.{IsNetlist, InTurn, IsClassOf, SetsModel, ReservesModels};
-ghost use Rattle.net_core.specs.Frame.{frame_terminals, netlist_of};
+ghost use Rattle.net_core.specs.Frame.{frame_terminals, instance_of, netlist_of};
+ghost use Rattle.net_core.specs.Places.{IsThere};
+ghost use Rattle.std.specs.List.{All};
 
-use crate::frame::Frame;
+use crate::frame::{Frame, Node};
 use std::alloc::{AllocError, Global};
 use std::marker::Model;
-use vlsi_base::{Terminal, Text};
+use vlsi_base::{Port, Terminal, Text, Texts};
 
 /// A netlist: its ports, its instances, and the class of each terminal, where joined terminals are in one class. Ports and the
 /// pins of an instance stand in the order of names, names of instances differ, and classes are numbered from 0 on in the order
@@ -78,5 +80,46 @@ impl Netlist {
             Some(place) => Some(self.classes[place as usize]),
             None => None,
         }
+    }
+
+    /// Its ports in the order of names.
+    pub fn ports(&self) -> &[Port]
+        ensures { result.now ≡ self.now.ports }
+    {
+        self.frame.ports()
+    }
+
+    /// The models that instances can be given, each once.
+    pub fn models(&self) -> &[Text]
+        ensures { result.now ≡ self.now.models }
+    {
+        self.frame.models()
+    }
+
+    /// Its instances in their order, each with the place of its model among the models.
+    pub fn nodes(&self) -> &[Node]
+        ensures seen { map (instance_of self.now.models) result.now ≡ self.now.instances }
+        ensures known { All (λ i. i.model < length self.now.models) result.now }
+    {
+        self.frame.nodes()
+    }
+
+    /// Makes room for models: afterwards each of these names is one that instances can be given, and all else is as it was. Takes
+    /// memory for all models; without it all stays as it was.
+    pub fn reserve_models(&mut self, alloc: Global, names: &Texts) -> Result<(), AllocError>
+        ensures reserved { OnOk result (ReservesModels self.old self.new names.now) }
+        ensures kept { OnErr result (self.new ≡ self.old) }
+    {
+        self.frame.reserve_models(alloc, names.as_slice())
+    }
+
+    /// Gives an instance, by its number, another model, which room was made for or another instance has. Takes no memory, and time
+    /// for the logarithm of the number of models.
+    pub fn set_model(&mut self, number: u32, model: &Text)
+        requires there { number < length self.old.instances }
+        requires known { IsThere self.old.models model.now }
+        ensures { SetsModel self.old self.new number model.now }
+    {
+        self.frame.set_model(number, model);
     }
 }

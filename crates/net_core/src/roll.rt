@@ -1,6 +1,7 @@
 // Different texts in their order, each found by its text.
 ghost use Rattle.std.specs.Prelude.{◌≡◌, ◌++◌, ◌∷◌, [], None, Some, IfOk, OnOk, OnErr, ℕ, List, bytes_eq, if◌then◌else◌, slice_get};
-ghost use Rattle.net_core.specs.Places.{place_at, position_of, Learned};
+ghost use Rattle.std.specs.List.{All};
+ghost use Rattle.net_core.specs.Places.{place_at, position_of, Learned, IsThere, Begins, NoneTwice};
 
 use std::alloc::{AllocError, Global};
 use std::collections::BTreeMap;
@@ -105,5 +106,28 @@ impl Roll {
                 Ok(place)
             }
         }
+    }
+
+    /// Learns texts in their order. Without memory some may have been learned.
+    pub fn learn_all(&mut self, alloc: Global, texts: &[Text]) -> Result<(), AllocError>
+        ensures grown { OnOk result (Begins self.old self.new) }
+        ensures there { OnOk result (All (IsThere self.new) texts.now) }
+        ensures same { OnOk result (self.old ≡ [] → NoneTwice texts.now → self.new ≡ texts.now) }
+    {
+        for text in texts {
+            self.learn(alloc, text)?;
+        }
+        Ok(())
+    }
+
+    /// These texts, and behind them those of `more` that aren't among them. Takes memory for all.
+    pub fn extended(&self, alloc: Global, more: &[Text]) -> Result<Self, AllocError>
+        ensures grown { IfOk result (λ roll. Begins self.now roll) }
+        ensures there { IfOk result (λ roll. All (IsThere roll) more.now) }
+    {
+        let mut roll = Roll::new(alloc);
+        roll.learn_all(alloc, &self.texts)?;
+        roll.learn_all(alloc, more)?;
+        Ok(roll)
     }
 }
