@@ -1,5 +1,5 @@
 -- When a netlist is sound, and which fault it has where it isn't.
-use Rattle.std.specs.Prelude.{◌≡◌, IsTrue, ℕ, ◌+◌, ◌-◌, ◌<◌, Bool, true, false, not, ◌&&◌, ◌||◌, List, [], ◌∷◌, ◌++◌, map, length, Option, None, Some, nat_eq, nat_le, nat_lt, bytes_eq, slice_get, if◌then◌else◌}
+use Rattle.std.specs.Prelude.{◌≡◌, IsTrue, ℕ, ◌+◌, ◌-◌, ◌<◌, ◌≤◌, Bool, true, false, not, ◌&&◌, ◌||◌, List, [], ◌∷◌, ◌++◌, map, length, Option, None, Some, nat_eq, nat_le, nat_lt, bytes_eq, slice_get, slice_index_or, take, if◌then◌else◌}
 use Rattle.std.specs.List.{All, flat_map, zip, sum_by}
 use Rattle.vlsi_base.specs.declared.name.Name.{Name}
 use Rattle.vlsi_base.specs.declared.name.Port.{Port}
@@ -14,6 +14,10 @@ use Rattle.net_core.specs.declared.pins.ModelPins.{ModelPins}
 use Rattle.net_core.specs.declared.tally.Role.{Role}
 use Rattle.net_core.specs.declared.tally.Role.TheVariants as role
 use Rattle.net_core.specs.declared.tally.Tally.{Tally}
+use Rattle.net_core.specs.declared.tally.ClassFault.{ClassFault}
+use Rattle.net_core.specs.declared.tally.ClassFault.TheVariants as fault
+use Rattle.net_core.specs.declared.error.CheckError.{CheckError}
+use Rattle.net_core.specs.declared.error.CheckError.TheVariants as error
 use Rattle.net_core.specs.Places.{Stands, IsThere, NoneTwice}
 use Rattle.net_core.specs.Netlist.{Instance, Netlist, port, pin_of, terminals, HasClass}
 
@@ -175,32 +179,80 @@ pub record NamesRing (ring : List Terminal) (names : List Name) : Type 0 where
   pub scalars : All (λ name. name.bit ≡ None) names
   pub least : (first other : Name) → Stands names 0 first → IsThere names other → comes_before other first ≡ false
 
--- no fault by classes
-pub record HasSoundClasses (table : List ModelPins) (n : Netlist) : Type 0 where
-  pub connected : NoClass n (λ c. is_unconnected (tally table n c))
-  pub driven : NoClass n (λ c. is_undriven (tally table n c))
-  pub once : NoClass n (λ c. is_driven_twice (tally table n c))
-  pub clocks : NoClass n (λ c. is_misused_clock (all_clocks (roles table n)) (tally table n c))
+-- a class has a fault, in a netlist with so many clock pins
+abbrev pub has_fault : ClassFault → ℕ → Tally → Bool
+has_fault fault.Unconnected clocks t = is_unconnected t
+has_fault fault.NoDriver clocks t = is_undriven t
+has_fault fault.TwoDrivers clocks t = is_driven_twice t
+has_fault fault.ClockUse clocks t = is_misused_clock clocks t
+
+abbrev pub kind_of : ClassFault → FaultKind
+kind_of fault.Unconnected = kind.Unconnected
+kind_of fault.NoDriver = kind.NoDriver
+kind_of fault.TwoDrivers = kind.TwoDrivers
+kind_of fault.ClockUse = kind.ClockUse
+
+-- the kinds of faults before one
+abbrev pub earlier : ClassFault → List ClassFault
+earlier fault.Unconnected = []
+earlier fault.NoDriver = fault.Unconnected ∷ []
+earlier fault.TwoDrivers = fault.Unconnected ∷ fault.NoDriver ∷ []
+earlier fault.ClockUse = fault.Unconnected ∷ fault.NoDriver ∷ fault.TwoDrivers ∷ []
+
+abbrev pub class_test : List ModelPins → Netlist → ClassFault → ℕ → Bool
+class_test table n f class = has_fault f (all_clocks (roles table n)) (tally table n class)
+
+-- no class has a fault
+abbrev pub HasSoundClasses : List ModelPins → Netlist → Type 0
+HasSoundClasses table n = (f : ClassFault) → NoClass n (class_test table n f)
+
+-- The fault of a netlist's classes: the first kind in this order that a class has, at the first class that has it, named by the
+-- least terminal of that class.
+pub record IsClassFault (table : List ModelPins) (n : Netlist) (k : FaultKind) (names : List Name) : Type 0 where
+  pub fault : ClassFault
+  pub is : k ≡ kind_of fault
+  pub none : All (λ f. NoClass n (class_test table n f)) (earlier fault)
+  pub class : ℕ
+  pub first : IsFirstClass n (class_test table n fault) class
+  pub terminal : Terminal
+  pub least : IsLeast n class terminal
+  pub named : names ≡ terminal_names terminal
 
 -- the netlist has no fault
 pub record Passes (table : List ModelPins) (n : Netlist) : Type 0 where
   pub classes : HasSoundClasses table n
   pub rings : (ring : List Terminal) → IsRing table n ring → ⊥
 
--- The fault of a netlist: the first kind in this order that it has, at the first class that has it, named by the least terminal
--- of that class; or a ring.
-pub data IsFault (table : List ModelPins) (n : Netlist) : FaultKind → List Name → Type 0 where
-  unconnected : (c : ℕ) (t : Terminal) → IsFirstClass n (λ c. is_unconnected (tally table n c)) c → IsLeast n c t
-      → IsFault table n kind.Unconnected (terminal_names t)
-  undriven : (c : ℕ) (t : Terminal) → NoClass n (λ c. is_unconnected (tally table n c))
-      → IsFirstClass n (λ c. is_undriven (tally table n c)) c → IsLeast n c t
-      → IsFault table n kind.NoDriver (terminal_names t)
-  twice : (c : ℕ) (t : Terminal) → NoClass n (λ c. is_unconnected (tally table n c)) → NoClass n (λ c. is_undriven (tally table n c))
-      → IsFirstClass n (λ c. is_driven_twice (tally table n c)) c → IsLeast n c t
-      → IsFault table n kind.TwoDrivers (terminal_names t)
-  clocks : (c : ℕ) (t : Terminal) → NoClass n (λ c. is_unconnected (tally table n c)) → NoClass n (λ c. is_undriven (tally table n c))
-      → NoClass n (λ c. is_driven_twice (tally table n c))
-      → IsFirstClass n (λ c. is_misused_clock (all_clocks (roles table n)) (tally table n c)) c → IsLeast n c t
-      → IsFault table n kind.ClockUse (terminal_names t)
-  cycle : (ring : List Terminal) (names : List Name) → HasSoundClasses table n → IsRing table n ring → NamesRing ring names
-      → IsFault table n kind.Cycle names
+-- the fault of a netlist: that of its classes, and where these are sound a ring
+pub data IsFault (table : List ModelPins) (n : Netlist) (k : FaultKind) (names : List Name) : Type 0 where
+  by_class : IsClassFault table n k names → IsFault table n k names
+  by_ring : (ring : List Terminal) → HasSoundClasses table n → IsRing table n ring → NamesRing ring names → k ≡ kind.Cycle → IsFault table n k names
+
+-- why a netlist's classes are refused, if memory hasn't run out
+abbrev pub IsClassRefusal : List ModelPins → Netlist → CheckError → Type 0
+IsClassRefusal table n error.Memory = Unit {0}
+IsClassRefusal table n (error.Fault f) = IsClassFault table n f.kind f.names
+
+-- each number is at most n
+pub record AtMost (n : ℕ) (t : Tally) : Type 0 where
+  pub input_ports : t.input_ports ≤ n
+  pub output_ports : t.output_ports ≤ n
+  pub input_pins : t.input_pins ≤ n
+  pub clock_pins : t.clock_pins ≤ n
+  pub output_pins : t.output_pins ≤ n
+
+-- tallies of the classes below their number
+pub record AreTallies (members : List (Role × ℕ)) (tallies : List Tally) : Type 0 where
+  pub each : (c : ℕ) (d : Tally) → c < length tallies → slice_index_or tallies c d ≡ tally_of members c
+
+-- the first tally with a fault; none exactly where no tally has it
+abbrev pub IsFirstTally : List Tally → ClassFault → ℕ → Option ℕ → Type 0
+IsFirstTally tallies f clocks None = All (λ t. has_fault f clocks t ≡ false) tallies
+IsFirstTally tallies f clocks (Some c) =
+    (c < length tallies) × ((d : Tally) → has_fault f clocks (slice_index_or tallies c d) ≡ true) × All (λ t. has_fault f clocks t ≡ false) (take c tallies)
+
+-- the first fault that a tally has, at the first such; none exactly where no tally has a fault
+abbrev pub IsFirstFault : List Tally → ℕ → Option (ClassFault × ℕ) → Type 0
+IsFirstFault tallies clocks None = (f : ClassFault) → All (λ t. has_fault f clocks t ≡ false) tallies
+IsFirstFault tallies clocks (Some r) =
+    All (λ f. All (λ t. has_fault f clocks t ≡ false) tallies) (earlier r.0) × IsFirstTally tallies r.0 clocks (Some r.1)

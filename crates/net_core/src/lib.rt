@@ -11,7 +11,7 @@ mod tally;
 mod turns;
 
 pub use builder::Builder;
-pub use error::BuildError;
+pub use error::{BuildError, CheckError, NetFault};
 pub use frame::Node;
 pub use netlist::Netlist;
 pub use pins::{ModelPin, ModelPins, PinPlaces, PinTable};
