@@ -9,3 +9,4 @@ pub mod Joining
 pub mod Finishing
 pub mod Learning
 pub mod Changing
+pub mod Counting

@@ -6,6 +6,7 @@ mod error;
 mod frame;
 mod netlist;
 mod pins;
+mod roles;
 mod roll;
 mod tally;
 mod turns;

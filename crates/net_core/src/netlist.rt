@@ -1,5 +1,5 @@
 // Netlists in memory.
-ghost use Rattle.std.specs.Prelude.{◌≡◌, ◌<◌, map, length, OnOk, OnErr};
+ghost use Rattle.std.specs.Prelude.{◌≡◌, ◌<◌, ◌^◌, map, length, OnOk, OnErr};
 ghost use Rattle.net_core.specs.Netlist.{IsNetlist, InTurn, IsClassOf, SetsModel, ReservesModels};
 ghost use Rattle.net_core.specs.Frame.{frame_terminals, instance_of, netlist_of};
 ghost use Rattle.net_core.specs.Places.{IsThere};
@@ -58,6 +58,7 @@ impl Netlist {
     /// The class of each terminal: of the ports in the order of names, then of the pins of each instance.
     pub fn classes(&self) -> &[u32]
         ensures classes { result.now ≡ self.now.classes }
+        ensures few { length result.now < 2 ^ 32 }
         ensures sound { IsNetlist self.now }
     {
         let _ = self.frame.count();

@@ -128,7 +128,8 @@ pub fn tallies(
 {
     let mut tallies = vec![in alloc; Tally::NONE; count as usize]?;
     for k in 0..classes.len() {
-        tallies[classes[k] as usize].add(roles[k]);
+        let role = roles[k];
+        tallies[classes[k] as usize].add(role);
     }
     Ok(tallies)
 }
