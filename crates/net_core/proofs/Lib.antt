@@ -10,3 +10,4 @@ pub mod Finishing
 pub mod Learning
 pub mod Changing
 pub mod Counting
+pub mod Tables

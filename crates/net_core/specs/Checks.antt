@@ -8,7 +8,8 @@ use Rattle.vlsi_base.specs.declared.name.Dir.TheVariants.{In, Out}
 use Rattle.vlsi_base.specs.declared.name.Terminal.{Terminal}
 use Rattle.vlsi_base.specs.declared.fault.FaultKind.{FaultKind}
 use Rattle.vlsi_base.specs.declared.fault.FaultKind.TheVariants as kind
-use Rattle.vlsi_base.specs.Names.{scalar, comes_before}
+use Rattle.vlsi_base.specs.Names.{comes_before}
+use Rattle.net_core.specs.Named.{terminal_names}
 use Rattle.net_core.specs.declared.pins.ModelPin.{ModelPin}
 use Rattle.net_core.specs.declared.pins.ModelPins.{ModelPins}
 use Rattle.net_core.specs.declared.tally.Role.{Role}
@@ -130,13 +131,11 @@ pub record IsLeast (n : Netlist) (class : ℕ) (t : Terminal) : Type 0 where
   pub here : Stands n.classes place class
   pub first : (k : ℕ) → k < place → Stands n.classes k class → ⊥
 
--- a port by its name, a pin by its instance and its own name
-abbrev pub owner_names : Option (List ℕ) → List Name
-owner_names None = []
-owner_names (Some owner) = scalar owner ∷ []
-
-abbrev pub terminal_names : Terminal → List Name
-terminal_names t = owner_names t.instance ++ t.pin ∷ []
+-- the names of the least terminal of a class
+pub record HasNamesOfLeast (n : Netlist) (class : ℕ) (names : List Name) : Type 0 where
+  pub terminal : Terminal
+  pub least : IsLeast n class terminal
+  pub named : names ≡ terminal_names terminal
 
 -- a pin of an instance, as the table has it
 pub record IsPinOf (table : List ModelPins) (n : Netlist) (i : Instance) (p : ModelPin) (t : Terminal) : Type 0 where
@@ -214,9 +213,7 @@ pub record IsClassFault (table : List ModelPins) (n : Netlist) (k : FaultKind) (
   pub none : All (λ f. NoClass n (class_test table n f)) (earlier fault)
   pub class : ℕ
   pub first : IsFirstClass n (class_test table n fault) class
-  pub terminal : Terminal
-  pub least : IsLeast n class terminal
-  pub named : names ≡ terminal_names terminal
+  pub least : HasNamesOfLeast n class names
 
 -- the netlist has no fault
 pub record Passes (table : List ModelPins) (n : Netlist) : Type 0 where

@@ -1,5 +1,5 @@
 -- Where an element stands in a list.
-use Rattle.std.specs.Prelude.{◌≡◌, ℕ, suc, List, [], ◌∷◌, ◌++◌, Option, None, Some, option_map, MatchOption, bytes_eq, slice_get, if◌then◌else◌}
+use Rattle.std.specs.Prelude.{◌≡◌, ℕ, ◌<◌, suc, List, [], ◌∷◌, ◌++◌, Option, None, Some, option_map, MatchOption, bytes_eq, slice_get, if◌then◌else◌}
 use Rattle.std.specs.Global.{Vec}
 use Rattle.std.specs.BTreeMap.{BTreeMap, get_by}
 use Rattle.std.specs.Cmp.Lexicographic.{slice_cmp}
@@ -42,3 +42,8 @@ Learned old new text = MatchOption (position_of old text) (new ≡ old ++ text �
 -- a list is the beginning of another
 abbrev pub Begins : {X : Type 0} → List X → List X → Type 0
 Begins {X} xs ys = (rest : List X) × (ys ≡ xs ++ rest)
+
+-- the first place at which a number stands; none exactly where it stands nowhere
+abbrev pub IsFirstPlace : List ℕ → ℕ → Option ℕ → Type 0
+IsFirstPlace xs x None = IsThere xs x → ⊥
+IsFirstPlace xs x (Some k) = Stands xs k x × ((j : ℕ) → j < k → Stands xs j x → ⊥)

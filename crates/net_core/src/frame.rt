@@ -1,9 +1,11 @@
 // The ports and instances of a netlist.
 ghost use Rattle.std.specs.Prelude.{◌≡◌, ◌++◌, ◌∷◌, [], ◌+◌, ◌<◌, ◌^◌, None, map, length, IfOk, OnOk, OnErr, IfErr};
-ghost use Rattle.std.specs.List.{All};
+ghost use Rattle.std.specs.List.{All, flat_map};
+ghost use Rattle.net_core.specs.Netlist.{port};
+ghost use Rattle.net_core.specs.Named.{terminal_names, HasNamesAt};
 ghost use Rattle.net_core.specs.Places.{IsThere, IsPlaceOf, position_of};
 ghost use Rattle.net_core.specs.Netlist.{AreInOrder};
-ghost use Rattle.net_core.specs.Frame.{frame_terminals, AddsInstance, HasSameParts, IsNoPlaceFor, IsPinPlace, IsSound, instance_of, SetsModelAt, ReservesNames};
+ghost use Rattle.net_core.specs.Frame.{frame_terminals, AddsInstance, HasSameParts, IsNoPlaceFor, IsPinPlace, IsSound, instance_of, SetsModelAt, ReservesNames, node_pins};
 
 use crate::error::BuildError;
 use crate::roll::Roll;
@@ -252,4 +254,44 @@ impl Frame {
             self.nodes[number as usize].model = place;
         }
     }
+
+    /// The names of a terminal, by its number: a port by its name, a pin by its instance and its own name. Takes memory for them, and
+    /// time for each instance.
+    pub fn names_at(&self, alloc: Global, place: usize) -> Result<Names, AllocError>
+        requires { place < length (frame_terminals self.now) }
+        ensures { IfOk result (λ names. HasNamesAt (frame_terminals self.now) place names) }
+    {
+        let ports = self.ports.as_slice();
+        match ports.get(place) {
+            Some(port) => port_names(alloc, port),
+            None => pin_names(alloc, &self.nodes, place - ports.len()),
+        }
+    }
+}
+
+fn port_names(alloc: Global, port: &Port) -> Result<Names, AllocError>
+    ensures { IfOk result (λ names. names ≡ terminal_names (port port.now.name)) }
+{
+    let mut names = Names::new(Vec::new(alloc));
+    names.push(port.name.copy(alloc)?)?;
+    Ok(names)
+}
+
+/// The name of an instance and of its pin that is number `place` among all pins; none where there are fewer.
+fn pin_names(alloc: Global, nodes: &[Node], place: usize) -> Result<Names, AllocError>
+    ensures { IfOk result (λ names. place < length (flat_map node_pins nodes.now) → HasNamesAt (flat_map node_pins nodes.now) place names) }
+{
+    let mut names = Names::new(Vec::new(alloc));
+    let mut rest = place;
+    for node in nodes {
+        match node.pins.as_slice().get(rest) {
+            Some(pin) => {
+                names.push(Name::scalar(node.name.copy(alloc)?))?;
+                names.push(pin.copy(alloc)?)?;
+                return Ok(names);
+            }
+            None => rest -= node.pins.as_slice().len(),
+        }
+    }
+    Ok(names)
 }

@@ -2,6 +2,7 @@
 #![tactic(auto)]
 
 mod builder;
+mod check;
 mod error;
 mod frame;
 mod netlist;
@@ -12,6 +13,7 @@ mod tally;
 mod turns;
 
 pub use builder::Builder;
+pub use check::check_classes;
 pub use error::{BuildError, CheckError, NetFault};
 pub use frame::Node;
 pub use netlist::Netlist;

@@ -1,14 +1,15 @@
 // Netlists in memory.
-ghost use Rattle.std.specs.Prelude.{◌≡◌, ◌<◌, ◌^◌, map, length, OnOk, OnErr};
+ghost use Rattle.std.specs.Prelude.{◌≡◌, ◌<◌, ◌^◌, map, length, IfOk, OnOk, OnErr};
+ghost use Rattle.net_core.specs.Checks.{HasNamesOfLeast};
 ghost use Rattle.net_core.specs.Netlist.{IsNetlist, InTurn, IsClassOf, SetsModel, ReservesModels};
 ghost use Rattle.net_core.specs.Frame.{frame_terminals, instance_of, netlist_of};
-ghost use Rattle.net_core.specs.Places.{IsThere};
+ghost use Rattle.net_core.specs.Places.{IsThere, IsFirstPlace};
 ghost use Rattle.std.specs.List.{All};
 
 use crate::frame::{Frame, Node};
 use std::alloc::{AllocError, Global};
 use std::marker::Model;
-use vlsi_base::{Port, Terminal, Text, Texts};
+use vlsi_base::{Names, Port, Terminal, Text, Texts};
 
 /// A netlist: its ports, its instances, and the class of each terminal, where joined terminals are in one class. Ports and the
 /// pins of an instance stand in the order of names, names of instances differ, and classes are numbered from 0 on in the order
@@ -123,4 +124,28 @@ impl Netlist {
     {
         self.frame.set_model(number, model);
     }
+
+    /// The names of the least terminal of a class: a port by its name, a pin by its instance and its own name. Takes memory for
+    /// them, and time for each terminal.
+    pub(crate) fn least_names(&self, alloc: Global, class: u32) -> Result<Names, AllocError>
+        requires { class < self.now.count }
+        ensures { IfOk result (λ names. HasNamesOfLeast self.now class names) }
+    {
+        match first_place(&self.classes, class) {
+            Some(place) => self.frame.names_at(alloc, place),
+            None => Ok(Names::new(Vec::new(alloc))),
+        }
+    }
+}
+
+/// The first place at which a class stands.
+fn first_place(classes: &[u32], class: u32) -> Option<usize>
+    ensures { IsFirstPlace classes.now class result }
+{
+    for k in 0..classes.len() {
+        if classes[k] == class {
+            return Some(k);
+        }
+    }
+    None
 }

@@ -1,8 +1,11 @@
 // What each terminal of a netlist does, by a table of pins.
-ghost use Rattle.std.specs.Prelude.{◌≡◌, ◌++◌, map, length, IfOk, OnOk};
+ghost use Rattle.std.specs.Prelude.{◌≡◌, ◌<◌, ◌++◌, map, length, IfOk, OnOk};
+ghost use Rattle.std.specs.List.{All, flat_map};
+ghost use Rattle.net_core.specs.Frame.{instance_of};
 ghost use Rattle.net_core.specs.Places.{NoneTwice};
 ghost use Rattle.net_core.specs.Checks.{Fits, port_role, pin_role, pins_named, roles, all_clocks};
 
+use crate::frame::Node;
 use crate::netlist::Netlist;
 use crate::pins::{ModelPin, ModelPins, PinTable};
 use crate::roll::Roll;
@@ -28,7 +31,10 @@ fn pins_of<'t>(names: &Roll, table: &'t [ModelPins], model: &Text) -> &'t [Model
     ensures { result.now ≡ pins_named table.now model.now }
 {
     match names.place(model) {
-        Some(place) => table[place].pins.as_slice(),
+        Some(place) => match table.get(place) {
+            Some(model) => model.pins.as_slice(),
+            None => &[],
+        },
         None => &[],
     }
 }
@@ -51,20 +57,39 @@ fn push_pins(roles: &mut Vec<Role>, pins: &[ModelPin]) -> Result<(), AllocError>
     Ok(())
 }
 
+fn push_nodes(
+    roles: &mut Vec<Role>,
+    names: &Roll,
+    table: &[ModelPins],
+    models: &[Text],
+    nodes: &[Node],
+) -> Result<(), AllocError>
+    requires names { names.now ≡ map (λ m. m.model) table.now }
+    requires known { All (λ i. i.model < length models.now) nodes.now }
+    ensures { OnOk result (roles.new.items ≡ roles.old.items ++ flat_map (λ i. map pin_role (pins_named table.now i.model)) (map (instance_of models.now) nodes.now)) }
+{
+    for node in nodes {
+        let pins = pins_of(names, table, &models[node.model]);
+        push_pins(roles, pins)?;
+    }
+    Ok(())
+}
+
 /// What each terminal does, in the order of terminals. Takes memory for each, and for the names of the table's models.
 pub fn roles(alloc: Global, netlist: &Netlist, table: &PinTable) -> Result<Vec<Role>, AllocError>
     requires { Fits netlist.now table.now }
     ensures { IfOk result (λ v. v.items ≡ roles table.now netlist.now) }
 {
-    let table = table.as_slice();
-    let names = model_names(alloc, table)?;
+    let names = model_names(alloc, table.as_slice())?;
     let mut roles = Vec::new(alloc);
     push_ports(&mut roles, netlist.ports())?;
-    let models = netlist.models();
-    for node in netlist.nodes() {
-        let pins = pins_of(&names, table, &models[node.model]);
-        push_pins(&mut roles, pins)?;
-    }
+    push_nodes(
+        &mut roles,
+        &names,
+        table.as_slice(),
+        netlist.models(),
+        netlist.nodes(),
+    )?;
     Ok(roles)
 }
 
