@@ -2,7 +2,7 @@
 use Rattle.std.proofs.Common.{◌≡◌, ℕ, zero, suc, ◌+◌, ◌<◌, ◌≤◌, ◌⊎◌, inl, inr, List, [], ◌∷◌, ◌++◌, length, get_or, take, map, Option, Some, None, refl, sym, ap, subst, ◌∙◌, arith}
 use Rattle.std.specs.Prelude.{option_map, slice_get}
 use Rattle.std.specs.List.{All, flat_map}
-use Rattle.std.proofs.lemmas.List.{length-map, length-append, take-append-le, map-append}
+use Rattle.std.proofs.lemmas.List.{length-map, length-append, take-append-le, map-append, take_more}
 use Rattle.std.proofs.lemmas.Grind.{flat_map-append}
 use Rattle.std.proofs.lemmas.List.Folds.{flat_map-map, length-flat_map-take}
 use Rattle.std.proofs.lemmas.Option.{slice_get_within, get_or_from_slice_get, slice_get-get_or}
@@ -176,3 +176,15 @@ pins_at {ports} {models} {nodes} {names} {count} frame i node s = subst (λ (x :
 
 pub names_count : {ports : List Port} {models : List (List ℕ)} {nodes : List Node} {names : List (List ℕ)} {count : ℕ} → IsFrame ports models nodes names count → length names ≡ length nodes
 names_count {ports} {models} {nodes} {names} {count} frame = ap length frame.listed ∙ length-map nodes (λ (i : Node). i.name)
+
+pub pins_step : (nodes : List Node) (i : ℕ) (node : Node) → Stands nodes i node → length (flat_map node_pins (take (i + 1) nodes)) ≡ length (flat_map node_pins (take i nodes)) + length node.pins
+pins_step nodes i node s =
+    let l = slice_get_within nodes i node s in
+    let g : get_or nodes i node ≡ node = get_or_from_slice_get nodes i node node s in
+    let t : take (i + 1) nodes ≡ take i nodes ++ node ∷ [] = take_more nodes i node l ∙ ap (λ (x : Node). take i nodes ++ x ∷ []) g in
+    let e : flat_map node_pins (take (i + 1) nodes) ≡ flat_map node_pins (take i nodes) ++ flat_map node_pins (node ∷ []) = ap (flat_map node_pins) t ∙ flat_map-append node_pins (take i nodes) (node ∷ []) in
+    let n = length-append (flat_map node_pins (take i nodes)) (flat_map node_pins (node ∷ [])) in
+    let m = length-append (node_pins node) [] in
+    let o : length (node_pins node) ≡ length node.pins = length-map node.pins (pin_of node.name) in
+    let f : length (flat_map node_pins (take (i + 1) nodes)) ≡ length (flat_map node_pins (take i nodes) ++ flat_map node_pins (node ∷ [])) = ap length e in
+    omega (arith, f, n, m, o)

@@ -11,3 +11,5 @@ pub mod Learning
 pub mod Changing
 pub mod Counting
 pub mod Tables
+pub mod Namings
+pub mod Classes

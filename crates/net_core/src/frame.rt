@@ -263,17 +263,17 @@ impl Frame {
     {
         let ports = self.ports.as_slice();
         match ports.get(place) {
-            Some(port) => port_names(alloc, port),
+            Some(port) => port_names(alloc, &port.name),
             None => pin_names(alloc, &self.nodes, place - ports.len()),
         }
     }
 }
 
-fn port_names(alloc: Global, port: &Port) -> Result<Names, AllocError>
-    ensures { IfOk result (λ names. names ≡ terminal_names (port port.now.name)) }
+fn port_names(alloc: Global, name: &Name) -> Result<Names, AllocError>
+    ensures { IfOk result (λ names. names ≡ terminal_names (port name.now)) }
 {
     let mut names = Names::new(Vec::new(alloc));
-    names.push(port.name.copy(alloc)?)?;
+    names.push(name.copy(alloc)?)?;
     Ok(names)
 }
 
