@@ -1,21 +1,20 @@
 -- A frame in which one instance gets another model, or that gets room for models.
-use Rattle.std.proofs.Common.{◌≡◌, ℕ, zero, suc, ◌+◌, ◌<◌, ◌≤◌, List, [], ◌∷◌, ◌++◌, length, get_or, take, map, Option, Some, None, Result, Ok, Err, refl, sym, ap, subst, ◌∙◌, arith}
-use Rattle.std.specs.Prelude.{slice_set, slice_get}
+use Rattle.std.proofs.Common.{◌≡◌, ℕ, zero, suc, ◌+◌, ◌<◌, List, [], ◌∷◌, ◌++◌, length, get_or, take, map, Option, Some, None, refl, sym, ap, subst, ◌∙◌, arith}
+use Rattle.std.specs.Prelude.{slice_set}
 use Rattle.std.specs.List.{All, flat_map, take-map}
-use Rattle.std.specs.Result.{OnOk}
 use Rattle.std.proofs.lemmas.List.{length-map, map-set}
 use Rattle.std.proofs.Math.Seq.{map-set_same}
 use Rattle.std.proofs.lemmas.List.Elements.{All-set}
 use Rattle.std.proofs.lemmas.List.Folds.{flat_map-map}
-use Rattle.std.proofs.lemmas.Option.{slice_get_within, get_or_from_slice_get, slice_get-get_or}
+use Rattle.std.proofs.lemmas.Option.{get_or_from_slice_get}
 use Rattle.vlsi_base.specs.declared.name.Name.{Name}
 use Rattle.vlsi_base.specs.declared.name.Port.{Port}
 use Rattle.vlsi_base.specs.declared.name.Terminal.{Terminal}
 use Rattle.net_core.specs.declared.frame.Node.{Node}
 use Rattle.net_core.specs.Places.{Stands, IsThere, Begins, position_of}
-use Rattle.net_core.specs.Netlist.{Instance, Netlist, port, pin_of, pins_of, terminals_of, AreInOrder, ReservesModels}
+use Rattle.net_core.specs.Netlist.{Instance, Netlist, port, pin_of, pins_of, AreInOrder, ReservesModels}
 use Rattle.net_core.specs.Frame.{Frame, instance_of, frame_of, node_pins, frame_terminals, netlist_of, IsFrame, SetsModelAt, ReservesNames}
-use Rattle.net_core.proofs.Standing.{position_stands, position_absent}
+use Rattle.net_core.proofs.Standing.{position_absent}
 use Rattle.net_core.proofs.Frames.{mapped}
 use Rattle.net_core.proofs.Growing.{mapped_alike}
 

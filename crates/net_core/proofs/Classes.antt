@@ -1,5 +1,5 @@
 -- The faults of a netlist's classes, from their tallies.
-use Rattle.std.proofs.Common.{◌≡◌, ℕ, zero, suc, ◌+◌, ◌<◌, ◌≤◌, Bool, true, false, List, [], ◌∷◌, ◌++◌, length, get_or, take, map, Option, Some, None, refl, sym, ap, subst, ◌∙◌, arith}
+use Rattle.std.proofs.Common.{◌≡◌, ℕ, suc, ◌<◌, ◌≤◌, false, List, [], ◌∷◌, length, get_or, take, map, Some, None, refl, sym, ap, ◌∙◌, arith}
 use Rattle.std.specs.List.{All, flat_map, zip}
 use Rattle.std.proofs.lemmas.List.{length-map, length-append, get_or-take, length-take-le}
 use Rattle.std.proofs.lemmas.List.Elements.{All-weaker}
@@ -12,8 +12,8 @@ use Rattle.net_core.specs.declared.tally.Role.{Role}
 use Rattle.net_core.specs.declared.tally.Tally.{Tally}
 use Rattle.net_core.specs.declared.tally.ClassFault.{ClassFault}
 use Rattle.net_core.specs.Netlist.{Instance, Netlist, port, pin_of, pins_of, terminals}
-use Rattle.net_core.specs.Checks.{pins_named, Fits, port_role, pin_role, roles, tally, tally_of, all_clocks, has_fault, kind_of, earlier, class_test, NoClass, IsFirstClass, HasSoundClasses, IsClassFault, HasNamesOfLeast, AtMost, AreTallies, IsFirstFault}
-use Rattle.net_core.proofs.Counting.{few_of, zip_length}
+use Rattle.net_core.specs.Checks.{pins_named, Fits, port_role, pin_role, roles, tally, all_clocks, has_fault, kind_of, earlier, class_test, NoClass, HasSoundClasses, IsClassFault, HasNamesOfLeast, AtMost, AreTallies, IsFirstFault}
+use Rattle.net_core.proofs.Counting.{few_of}
 
 pieces_same : (table : List ModelPins) (is : List Instance) → All (λ i. i.pins ≡ map (λ p. p.name) (pins_named table i.model)) is
     → length (flat_map (λ i. map pin_role (pins_named table i.model)) is) ≡ length (flat_map pins_of is)

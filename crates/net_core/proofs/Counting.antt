@@ -1,8 +1,8 @@
 -- How many terminals do what, as they are counted.
-use Rattle.std.proofs.Common.{◌≡◌, ℕ, zero, suc, ◌+◌, ◌<◌, ◌≤◌, ◌⊎◌, inl, inr, Bool, true, false, cond, List, [], ◌∷◌, ◌++◌, length, get_or, take, nat_eq, refl, sym, ap, subst, ◌∙◌, arith}
+use Rattle.std.proofs.Common.{◌≡◌, ℕ, zero, suc, ◌+◌, ◌<◌, ◌≤◌, Bool, true, false, cond, List, [], ◌∷◌, ◌++◌, length, get_or, take, nat_eq, refl, sym, ap, subst, ◌∙◌, arith}
 use Rattle.std.specs.Prelude.{slice_set}
-use Rattle.std.specs.List.{All, zip}
-use Rattle.std.proofs.lemmas.List.{length-append, length-take-le, get_or-set_same, get_or-set_other, length-set}
+use Rattle.std.specs.List.{zip}
+use Rattle.std.proofs.lemmas.List.{get_or-set_same, get_or-set_other, length-set}
 use Rattle.std.proofs.lemmas.Bool.{eqb-true, eq-eqb}
 use Rattle.net_core.specs.declared.tally.Role.{Role}
 use Rattle.net_core.specs.declared.tally.Role.TheVariants as role
@@ -49,17 +49,17 @@ tally_push (x ∷ ms) m c = by (nat_eq x.1 c) (tally_push ms m c) where
   by false e = e
 
 one_more : (r : Role) (t : Tally) (n : ℕ) → AtMost n t → AtMost (suc n) (with_one r t)
-one_more role.InputPort t n m = record { input_ports = let h = m.input_ports in omega (arith, h); output_ports = let h = m.output_ports in omega (arith, h); input_pins = let h = m.input_pins in omega (arith, h); clock_pins = let h = m.clock_pins in omega (arith, h); output_pins = let h = m.output_pins in omega (arith, h); }
-one_more role.OutputPort t n m = record { input_ports = let h = m.input_ports in omega (arith, h); output_ports = let h = m.output_ports in omega (arith, h); input_pins = let h = m.input_pins in omega (arith, h); clock_pins = let h = m.clock_pins in omega (arith, h); output_pins = let h = m.output_pins in omega (arith, h); }
-one_more role.InputPin t n m = record { input_ports = let h = m.input_ports in omega (arith, h); output_ports = let h = m.output_ports in omega (arith, h); input_pins = let h = m.input_pins in omega (arith, h); clock_pins = let h = m.clock_pins in omega (arith, h); output_pins = let h = m.output_pins in omega (arith, h); }
-one_more role.ClockPin t n m = record { input_ports = let h = m.input_ports in omega (arith, h); output_ports = let h = m.output_ports in omega (arith, h); input_pins = let h = m.input_pins in omega (arith, h); clock_pins = let h = m.clock_pins in omega (arith, h); output_pins = let h = m.output_pins in omega (arith, h); }
-one_more role.OutputPin t n m = record { input_ports = let h = m.input_ports in omega (arith, h); output_ports = let h = m.output_ports in omega (arith, h); input_pins = let h = m.input_pins in omega (arith, h); clock_pins = let h = m.clock_pins in omega (arith, h); output_pins = let h = m.output_pins in omega (arith, h); }
+one_more role.InputPort t n m = record { input_ports = let h = m.input_ports in omega (arith, h); output_ports = let h = m.output_ports in omega (arith, h); input_pins = let h = m.input_pins in omega (arith, h); clock_pins = let h = m.clock_pins in omega (arith, h); output_pins = let h = m.output_pins in omega (arith, h) }
+one_more role.OutputPort t n m = record { input_ports = let h = m.input_ports in omega (arith, h); output_ports = let h = m.output_ports in omega (arith, h); input_pins = let h = m.input_pins in omega (arith, h); clock_pins = let h = m.clock_pins in omega (arith, h); output_pins = let h = m.output_pins in omega (arith, h) }
+one_more role.InputPin t n m = record { input_ports = let h = m.input_ports in omega (arith, h); output_ports = let h = m.output_ports in omega (arith, h); input_pins = let h = m.input_pins in omega (arith, h); clock_pins = let h = m.clock_pins in omega (arith, h); output_pins = let h = m.output_pins in omega (arith, h) }
+one_more role.ClockPin t n m = record { input_ports = let h = m.input_ports in omega (arith, h); output_ports = let h = m.output_ports in omega (arith, h); input_pins = let h = m.input_pins in omega (arith, h); clock_pins = let h = m.clock_pins in omega (arith, h); output_pins = let h = m.output_pins in omega (arith, h) }
+one_more role.OutputPin t n m = record { input_ports = let h = m.input_ports in omega (arith, h); output_ports = let h = m.output_ports in omega (arith, h); input_pins = let h = m.input_pins in omega (arith, h); clock_pins = let h = m.clock_pins in omega (arith, h); output_pins = let h = m.output_pins in omega (arith, h) }
 
 weaker : (t : Tally) (n k : ℕ) → n ≤ k → AtMost n t → AtMost k t
-weaker t n k l m = record { input_ports = let h = m.input_ports in omega (arith, h, l); output_ports = let h = m.output_ports in omega (arith, h, l); input_pins = let h = m.input_pins in omega (arith, h, l); clock_pins = let h = m.clock_pins in omega (arith, h, l); output_pins = let h = m.output_pins in omega (arith, h, l); }
+weaker t n k l m = record { input_ports = let h = m.input_ports in omega (arith, h, l); output_ports = let h = m.output_ports in omega (arith, h, l); input_pins = let h = m.input_pins in omega (arith, h, l); clock_pins = let h = m.clock_pins in omega (arith, h, l); output_pins = let h = m.output_pins in omega (arith, h, l) }
 
 pub at_most : (ms : List (Role × ℕ)) (c : ℕ) → AtMost (length ms) (tally_of ms c)
-at_most [] c = record { input_ports = omega arith; output_ports = omega arith; input_pins = omega arith; clock_pins = omega arith; output_pins = omega arith; }
+at_most [] c = record { input_ports = omega arith; output_ports = omega arith; input_pins = omega arith; clock_pins = omega arith; output_pins = omega arith }
 at_most (m ∷ ms) c = by (nat_eq m.1 c) (at_most ms c) where
   by : (b : Bool) → AtMost (length ms) (tally_of ms c) → AtMost (suc (length ms)) (cond b (with_one m.0 (tally_of ms c)) (tally_of ms c))
   by true h = one_more m.0 (tally_of ms c) (length ms) h
@@ -84,11 +84,11 @@ zip_length (x ∷ rs) [] e = refl
 zip_length (x ∷ rs) (c ∷ cs) e = ap suc (zip_length rs cs (omega (arith, e)))
 
 pub tallied_start : (n : ℕ) (tallies : List Tally) → ((c : ℕ) (d : Tally) → c < length tallies → get_or tallies c d ≡ no_terminals) → AreTallies [] tallies
-tallied_start n tallies all = record { each = all; }
+tallied_start n tallies all = record { each = all }
 
 pub tallied_step : (ms : List (Role × ℕ)) (m : Role × ℕ) (tallies : List Tally) (old : Tally) → AreTallies ms tallies → m.1 < length tallies → old ≡ get_or tallies m.1 old
     → AreTallies (ms ++ m ∷ []) (slice_set tallies m.1 (with_one m.0 old))
-tallied_step ms m tallies old are less is = record { each = λ c d l. by c d l (nat_eq m.1 c) refl; } where
+tallied_step ms m tallies old are less is = record { each = λ c d l. by c d l (nat_eq m.1 c) refl } where
   same : tally_of ms m.1 ≡ old
   same = sym (are.each m.1 old less) ∙ sym is
 

@@ -1,18 +1,18 @@
 -- The terminals of a netlist's parts, and parts that grow.
-use Rattle.std.proofs.Common.{◌≡◌, ℕ, zero, suc, ◌+◌, ◌<◌, ◌≤◌, ◌⊎◌, inl, inr, List, [], ◌∷◌, ◌++◌, length, get_or, take, map, Option, Some, None, refl, sym, ap, subst, ◌∙◌, arith}
-use Rattle.std.specs.Prelude.{option_map, slice_get}
-use Rattle.std.specs.List.{All, flat_map}
-use Rattle.std.proofs.lemmas.List.{length-map, length-append, take-append-le, map-append, take_more}
+use Rattle.std.proofs.Common.{◌≡◌, ℕ, zero, suc, ◌+◌, ◌≤◌, List, [], ◌∷◌, ◌++◌, length, get_or, take, map, Option, Some, None, refl, sym, ap, subst, ◌∙◌, arith}
+use Rattle.std.specs.Prelude.{slice_get}
+use Rattle.std.specs.List.{flat_map}
+use Rattle.std.proofs.lemmas.List.{length-map, length-append, take_more}
 use Rattle.std.proofs.lemmas.Grind.{flat_map-append}
 use Rattle.std.proofs.lemmas.List.Folds.{flat_map-map, length-flat_map-take}
-use Rattle.std.proofs.lemmas.Option.{slice_get_within, get_or_from_slice_get, slice_get-get_or}
+use Rattle.std.proofs.lemmas.Option.{slice_get_within, get_or_from_slice_get}
 use Rattle.vlsi_base.specs.declared.name.Name.{Name}
 use Rattle.vlsi_base.specs.declared.name.Port.{Port}
 use Rattle.vlsi_base.specs.declared.name.Terminal.{Terminal}
 use Rattle.net_core.specs.declared.frame.Node.{Node}
-use Rattle.net_core.specs.Places.{Stands, IsThere, IsPlaceOf, NoneTwice}
-use Rattle.net_core.specs.Netlist.{Instance, port, pin_of, pins_of, terminals_of, AreInOrder}
-use Rattle.net_core.specs.Frame.{Frame, instance_of, frame_of, node_pins, frame_terminals, IsFrame, IsPinPlace}
+use Rattle.net_core.specs.Places.{Stands, IsThere, IsPlaceOf}
+use Rattle.net_core.specs.Netlist.{port, pin_of, pins_of, AreInOrder}
+use Rattle.net_core.specs.Frame.{instance_of, frame_of, node_pins, frame_terminals, IsFrame, IsPinPlace}
 use Rattle.net_core.proofs.Standing.{Split, left, right, split, stands_left, stands_right}
 
 -- an element of the pieces of a list's elements: of which element it is, and where it stands in its piece

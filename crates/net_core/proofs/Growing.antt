@@ -1,17 +1,17 @@
 -- Parts of a netlist that grow.
-use Rattle.std.proofs.Common.{◌≡◌, ℕ, zero, suc, ◌+◌, ◌<◌, ◌≤◌, ◌^◌, ◌⊎◌, inl, inr, List, [], ◌∷◌, ◌++◌, length, get_or, take, map, Option, Some, None, Bool, true, false, Result, Ok, Err, refl, sym, ap, subst, ◌∙◌, append-nil, arith}
-use Rattle.std.specs.Prelude.{option_map, slice_get, MatchOption}
+use Rattle.std.proofs.Common.{◌≡◌, ℕ, zero, suc, ◌+◌, ◌<◌, ◌≤◌, ◌^◌, ◌⊎◌, inl, inr, List, [], ◌∷◌, ◌++◌, length, get_or, take, map, Option, Some, None, true, false, Result, Ok, Err, refl, sym, ap, subst, ◌∙◌, append-nil, arith}
+use Rattle.std.specs.Prelude.{MatchOption}
 use Rattle.std.specs.List.{All, flat_map}
 use Rattle.std.specs.Option.{is_some}
 use Rattle.std.specs.Result.{OnErr}
 use Rattle.std.proofs.lemmas.List.{length-map, length-append, take-append-le, map-append}
-use Rattle.std.proofs.lemmas.List.Elements.{All-push, All-weaker}
+use Rattle.std.proofs.lemmas.List.Elements.{All-push}
 use Rattle.std.proofs.lemmas.Grind.{flat_map-append}
 use Rattle.std.proofs.lemmas.Bool.{cases_lt}
-use Rattle.std.proofs.lemmas.Option.{slice_get_within, get_or_from_slice_get, slice_get-get_or}
+use Rattle.std.proofs.lemmas.Option.{get_or_from_slice_get}
 use Rattle.vlsi_base.specs.declared.name.Port.{Port}
 use Rattle.net_core.specs.declared.frame.Node.{Node}
-use Rattle.net_core.specs.Places.{Stands, IsThere, NoneTwice, Learned, position_of}
+use Rattle.net_core.specs.Places.{Stands, IsThere, Learned, position_of}
 use Rattle.net_core.specs.Netlist.{Instance, pin_of, AreInOrder}
 use Rattle.net_core.specs.Frame.{Frame, instance_of, frame_of, node_pins, IsFrame, HasSameParts, AddsInstance}
 use Rattle.net_core.proofs.Standing.{position_absent, position_stands, none_twice_push}

@@ -1,19 +1,14 @@
 -- Pairs that join numbers, and the terminals with these numbers.
-use Rattle.std.proofs.Common.{◌≡◌, ℕ, zero, suc, ◌+◌, ◌<◌, ◌≤◌, ◌⊎◌, inl, inr, List, [], ◌∷◌, ◌++◌, length, get_or, map, Option, Some, None, refl, sym, ap, subst, ◌∙◌, append_assoc, arith}
-use Rattle.std.specs.Prelude.{◌↔◌, slice_get, unwrap_or}
-use Rattle.std.specs.List.{All, flat_map}
-use Rattle.std.proofs.lemmas.List.{length-append}
-use Rattle.std.proofs.lemmas.Grind.{flat_map-append}
-use Rattle.std.proofs.lemmas.Option.{slice_get_within, get_or_from_slice_get, slice_get-get_or}
-use Rattle.vlsi_base.specs.declared.name.Port.{Port}
+use Rattle.std.proofs.Common.{◌≡◌, ℕ, zero, suc, ◌<◌, ◌⊎◌, inl, inr, List, [], ◌∷◌, ◌++◌, length, Option, None, refl, sym, ap, subst, arith}
+use Rattle.std.specs.Prelude.{unwrap_or}
+use Rattle.std.specs.List.{All}
 use Rattle.vlsi_base.specs.declared.name.Terminal.{Terminal}
 use Rattle.vlsi_base.specs.Member.{In, here, there}
 use Rattle.sym_groups.specs.Ties.{Tied, Bridged, before, over, back, JoinsTies, Alone}
 use Rattle.sym_groups.proofs.Steps.{tied_then, tied_back}
-use Rattle.net_core.specs.Places.{Stands, IsThere, NoneTwice}
-use Rattle.net_core.specs.Netlist.{Instance, port, pins_of, terminals_of, HasClass}
-use Rattle.net_core.specs.Frame.{Frame, frame_terminals, AddsInstance, IsSound}
-use Rattle.net_core.specs.Joins.{Joined, same, along, against, AreWithin, LabelsJoined, NumbersLabels, terminal_at, pairs_at}
+use Rattle.net_core.specs.Places.{Stands, NoneTwice}
+use Rattle.net_core.specs.Netlist.{port}
+use Rattle.net_core.specs.Joins.{Joined, same, along, against, AreWithin, terminal_at, pairs_at}
 use Rattle.net_core.proofs.Standing.{stands_same}
 
 pub in_left : {A : Type 0} {x : A} {xs : List A} (ys : List A) → In x xs → In x (xs ++ ys)

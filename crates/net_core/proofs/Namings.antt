@@ -1,10 +1,9 @@
 -- The names of terminals by their places.
-use Rattle.std.proofs.Common.{◌≡◌, ℕ, zero, suc, ◌+◌, ◌-◌, ◌<◌, ◌≤◌, ◌⊎◌, inl, inr, List, [], ◌∷◌, ◌++◌, length, get_or, take, map, Option, Some, None, Result, Ok, Err, refl, sym, ap, subst, ◌∙◌, arith}
+use Rattle.std.proofs.Common.{◌≡◌, ℕ, zero, suc, ◌+◌, ◌-◌, ◌<◌, ◌≤◌, ◌⊎◌, inl, inr, List, [], ◌∷◌, ◌++◌, length, take, Some, Result, Ok, Err, sym, ap, subst, ◌∙◌, arith}
 use Rattle.std.specs.List.{All, flat_map}
 use Rattle.std.specs.Prelude.{IfOk}
 use Rattle.std.proofs.lemmas.Bool.{cases_lt}
-use Rattle.std.proofs.lemmas.List.{length-map, length-append}
-use Rattle.std.proofs.lemmas.Option.{slice_get_within}
+use Rattle.std.proofs.lemmas.List.{length-map}
 use Rattle.vlsi_base.specs.declared.name.Name.{Name}
 use Rattle.vlsi_base.specs.declared.name.Port.{Port}
 use Rattle.vlsi_base.specs.declared.name.Terminal.{Terminal}
@@ -12,7 +11,7 @@ use Rattle.vlsi_base.specs.Names.{scalar}
 use Rattle.net_core.specs.declared.frame.Node.{Node}
 use Rattle.net_core.specs.Places.{Stands, IsThere, IsFirstPlace}
 use Rattle.net_core.specs.Netlist.{Netlist, port, pin_of, InTurn, ended, again, first, terminals}
-use Rattle.net_core.specs.Frame.{Frame, frame_of, node_pins, frame_terminals, netlist_of}
+use Rattle.net_core.specs.Frame.{Frame, frame_of, node_pins, frame_terminals}
 use Rattle.net_core.specs.Named.{terminal_names, HasNamesAt}
 use Rattle.net_core.specs.Checks.{HasNamesOfLeast}
 use Rattle.net_core.proofs.Standing.{stands_left, stands_right}
@@ -37,8 +36,8 @@ pub pin_at : (ports : List Port) (models : List (List ℕ)) (nodes : List Node) 
 pin_at ports models nodes f k names view more h = subst (λ (g : Frame). HasNamesAt (frame_terminals g) k names) view (record {
   terminal = h.terminal;
   stands = subst (λ (ts : List Terminal). Stands ts k h.terminal) (sym (terminals_are ports models nodes))
-  (let n = length-map ports (λ (p : Port). port p.name) in let e : length (port_terminals ports) + (k - length ports) ≡ k = omega (arith, more, n) in
-   subst (λ j. Stands (port_terminals ports ++ flat_map node_pins nodes) j h.terminal) e (stands_right (port_terminals ports) (flat_map node_pins nodes) (k - length ports) h.terminal h.stands));
+      (let n = length-map ports (λ (p : Port). port p.name) in let e : length (port_terminals ports) + (k - length ports) ≡ k = omega (arith, more, n) in
+      subst (λ j. Stands (port_terminals ports ++ flat_map node_pins nodes) j h.terminal) e (stands_right (port_terminals ports) (flat_map node_pins nodes) (k - length ports) h.terminal h.stands));
   named = h.named;
 })
 
@@ -72,7 +71,7 @@ turn_below met count (x ∷ ks) (first t) (suc k) d l = turn_below (met + 1) cou
 pub least_named : (n : Netlist) (class place : ℕ) (names : List Name) → IsFirstPlace n.classes class (Some place) → HasNamesAt (terminals n) place names → HasNamesOfLeast n class names
 least_named n class place names at h = record {
   terminal = h.terminal;
-  least = record { place = place; stands = h.stands; here = at.0; first = at.1; };
+  least = record { place = place; stands = h.stands; here = at.0; first = at.1 };
   named = h.named;
 }
 

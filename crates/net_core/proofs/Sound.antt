@@ -1,6 +1,5 @@
 -- What is known of a frame as it is seen: its terminals are different.
-use Rattle.std.proofs.Common.{◌≡◌, ℕ, zero, suc, ◌+◌, ◌<◌, List, [], ◌∷◌, ◌++◌, length, get_or, take, map, Option, Some, None, refl, sym, ap, subst, ◌∙◌, arith}
-use Rattle.std.specs.Prelude.{slice_get}
+use Rattle.std.proofs.Common.{◌≡◌, ℕ, List, [], length, get_or, take, map, Some, None, sym, ap, subst, ◌∙◌, arith}
 use Rattle.std.specs.List.{All, flat_map}
 use Rattle.std.proofs.lemmas.List.Elements.{All-map}
 use Rattle.std.proofs.lemmas.Option.{slice_get_within, get_or_from_slice_get, slice_get-get_or}
@@ -13,7 +12,7 @@ use Rattle.net_core.specs.Netlist.{Instance, port, pin_of, pins_of, AreInOrder}
 use Rattle.net_core.specs.Frame.{Frame, instance_of, frame_of, frame_terminals, IsFrame, IsSound}
 use Rattle.net_core.proofs.Standing.{none_twice_append, stands_same}
 use Rattle.net_core.proofs.Searching.{order_none_twice}
-use Rattle.net_core.proofs.Frames.{Within, flat_split, mapped, unmapped, port_terminals}
+use Rattle.net_core.proofs.Frames.{flat_split, mapped, unmapped, port_terminals}
 use Rattle.net_core.proofs.Growing.{names_seen}
 
 pub frame_sound : {ports : List Port} {models : List (List ℕ)} {nodes : List Node} {names : List (List ℕ)} {count : ℕ} → IsFrame ports models nodes names count

@@ -1,5 +1,5 @@
 -- When a netlist is sound, and which fault it has where it isn't.
-use Rattle.std.specs.Prelude.{◌≡◌, IsTrue, ℕ, ◌+◌, ◌-◌, ◌<◌, ◌≤◌, Bool, true, false, not, ◌&&◌, ◌||◌, List, [], ◌∷◌, ◌++◌, map, length, Option, None, Some, nat_eq, nat_le, nat_lt, bytes_eq, slice_get, slice_index_or, take, if◌then◌else◌}
+use Rattle.std.specs.Prelude.{◌≡◌, ℕ, ◌+◌, ◌-◌, ◌<◌, ◌≤◌, Bool, true, false, not, ◌&&◌, ◌||◌, List, [], ◌∷◌, ◌++◌, map, length, Option, None, Some, nat_eq, nat_le, nat_lt, bytes_eq, slice_index_or, take, if◌then◌else◌}
 use Rattle.std.specs.List.{All, flat_map, zip, sum_by}
 use Rattle.vlsi_base.specs.declared.name.Name.{Name}
 use Rattle.vlsi_base.specs.declared.name.Port.{Port}
@@ -20,7 +20,7 @@ use Rattle.net_core.specs.declared.tally.ClassFault.TheVariants as fault
 use Rattle.net_core.specs.declared.error.CheckError.{CheckError}
 use Rattle.net_core.specs.declared.error.CheckError.TheVariants as error
 use Rattle.net_core.specs.Places.{Stands, IsThere, NoneTwice}
-use Rattle.net_core.specs.Netlist.{Instance, Netlist, port, pin_of, terminals, HasClass}
+use Rattle.net_core.specs.Netlist.{Instance, Netlist, pin_of, terminals, HasClass}
 
 -- the pins of the first model of this name in a table
 abbrev pub pins_named : List ModelPins → List ℕ → List ModelPin

@@ -1,6 +1,6 @@
 -- Netlists in memory: ports, instances, their terminals, and the classes of these.
-use Rattle.std.specs.Prelude.{◌≡◌, AllPairs, IsTrue, ℕ, ◌+◌, ◌<◌, List, [], ◌∷◌, ◌++◌, map, length, Option, None, Some, slice_get, slice_set}
-use Rattle.std.specs.List.{All, flat_map, zip}
+use Rattle.std.specs.Prelude.{◌≡◌, AllPairs, IsTrue, ℕ, ◌+◌, ◌<◌, List, [], ◌∷◌, ◌++◌, map, length, Option, None, Some, slice_set}
+use Rattle.std.specs.List.{All, flat_map}
 use Rattle.vlsi_base.specs.declared.name.Name.{Name}
 use Rattle.vlsi_base.specs.declared.name.Port.{Port}
 use Rattle.vlsi_base.specs.declared.name.Terminal.{Terminal}

@@ -1,10 +1,10 @@
-use Rattle.std.proofs.Common.{◌≡◌, ◌∙◌, ◌+◌, ◌<◌, ap, sym, subst, length, get_or, take, map, List, [], ℕ, refl, arith}
+use Rattle.std.proofs.Common.{◌≡◌, sym, subst, length, get_or, map, List, [], ℕ, refl, arith}
 use Rattle.std.proofs.lemmas.Option.{slice_get_read, get_or_from_slice_get}
 use Rattle.std.proofs.lemmas.List.{length-map}
 use Rattle.net_core.specs.declared.pins.ModelPins.{ModelPins}
 use Rattle.net_core.specs.Places.{Stands, Learned}
 use Rattle.net_core.proofs.Frames.{mapped}
-use Rattle.net_core.proofs.Learning.{AreLearned, learned_step}
+use Rattle.net_core.proofs.Learning.{learned_step}
 use Rattle.net_core.proofs.roles.model_names.Goals as goal
 
 pub loop-model-preserved : goal.loop-model-preserved

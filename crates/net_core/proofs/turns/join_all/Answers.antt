@@ -1,8 +1,6 @@
-use Rattle.std.proofs.Common.{◌≡◌, ◌∙◌, ◌+◌, ℕ, List, take, length, get_or, sym, ap, subst, refl, arith}
+use Rattle.std.proofs.Common.{◌≡◌, ◌∙◌, ℕ, List, take, length, get_or, sym, ap, subst, refl, arith}
 use Rattle.std.proofs.lemmas.List.{take_more}
 use Rattle.std.proofs.Math.Seq.{take-length}
-use Rattle.sym_groups.specs.Ties.{Tied}
-use Rattle.net_core.specs.Joins.{Joined}
 use Rattle.net_core.proofs.Joining.{IsGrouped, grouped_start, grouped_step, grouped_done}
 use Rattle.net_core.proofs.turns.join_all.Goals as goal
 

@@ -1,9 +1,9 @@
-use Rattle.std.proofs.Common.{◌≡◌, ◌∙◌, ◌+◌, ℕ, List, [], ◌∷◌, ◌++◌, Some, None, true, false, take, length, get_or, sym, ap, subst, refl, arith}
+use Rattle.std.proofs.Common.{◌≡◌, ℕ, false, get_or, sym, ap, arith}
 use Rattle.std.specs.Ordering.{nat_cmp, is_eq}
 use Rattle.std.specs.Map.{lookup}
 use Rattle.std.specs.BTreeMap.{get, is_at}
 use Rattle.std.proofs.lemmas.Bool.Decides.{nat_tests}
-use Rattle.net_core.proofs.InTurns.{Numbered, numbered_start, numbered_again, numbered_first}
+use Rattle.net_core.proofs.InTurns.{numbered_start, numbered_again, numbered_first}
 use Rattle.net_core.proofs.turns.numbers.Goals.{in-Some+in_ok-push-in-Some, in-None+in_ok-insert-in-None+in_ok-push-in-None}
 use Rattle.net_core.proofs.turns.numbers.Goals as goal
 

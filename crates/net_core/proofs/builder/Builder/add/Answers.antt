@@ -1,4 +1,4 @@
-use Rattle.std.proofs.Common.{◌≡◌, ◌∙◌, ap, sym, ℕ, List}
+use Rattle.std.proofs.Common.{◌∙◌, ap}
 use Rattle.net_core.specs.Netlist.{Instance}
 use Rattle.net_core.specs.Frame.{AddsInstance}
 use Rattle.net_core.specs.Joins.{Draft, with_instance}

@@ -1,7 +1,7 @@
-use Rattle.std.proofs.Common.{◌≡◌, ◌∙◌, ap, sym, subst, ℕ, List, length}
+use Rattle.std.proofs.Common.{◌≡◌, ◌∙◌, sym, subst, ℕ, List, length}
 use Rattle.net_core.specs.Netlist.{Netlist, IsNetlist}
 use Rattle.net_core.specs.Frame.{frame_terminals, netlist_of}
-use Rattle.net_core.specs.Joins.{Draft, draft_of, LabelsJoined, NumbersLabels, IsFinished}
+use Rattle.net_core.specs.Joins.{Draft, LabelsJoined, NumbersLabels, IsFinished}
 use Rattle.net_core.proofs.Finishing.{finished, netlist_sound}
 use Rattle.net_core.proofs.builder.Builder.finish.Goals as goal
 

@@ -1,9 +1,8 @@
-use Rattle.std.proofs.Common.{◌≡◌, ◌∙◌, ◌+◌, ◌<◌, ◌^◌, ◌++◌, ◌∷◌, [], ℕ, List, Option, None, Some, length, map, sym, ap, subst, refl, arith}
+use Rattle.std.proofs.Common.{◌≡◌, ◌∙◌, ◌+◌, ◌<◌, ◌^◌, ◌++◌, ◌∷◌, [], ℕ, List, None, length, sym, ap, subst, refl, arith}
 use Rattle.std.proofs.lemmas.Option.{slice_get_within}
-use Rattle.vlsi_base.specs.declared.name.Name.{Name}
 use Rattle.net_core.specs.declared.frame.Node.{Node}
 use Rattle.net_core.specs.Places.{IsThere, position_of}
-use Rattle.net_core.specs.Frame.{Frame, frame_terminals, IsFrame}
+use Rattle.net_core.specs.Frame.{Frame, frame_terminals}
 use Rattle.net_core.proofs.Standing.{position_absent}
 use Rattle.net_core.proofs.Frames.{terminals_count}
 use Rattle.net_core.proofs.Growing.{frame_push, frame_models, learned_more, names_seen, some_there, none_of, on_err, same_parts, adds_instance}

@@ -1,4 +1,4 @@
-use Rattle.std.proofs.Common.{◌≡◌, ◌∙◌, sym, ap, length}
+use Rattle.std.proofs.Common.{◌∙◌, sym, ap, length}
 use Rattle.net_core.specs.Frame.{Frame, frame_terminals}
 use Rattle.net_core.proofs.Frames.{terminals_count}
 use Rattle.net_core.proofs.Sound.{frame_sound}

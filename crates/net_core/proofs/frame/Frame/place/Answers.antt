@@ -1,13 +1,13 @@
-use Rattle.std.proofs.Common.{◌≡◌, ◌∙◌, ◌+◌, ◌<◌, ◌++◌, ℕ, List, Option, None, Some, length, map, sym, ap, subst, refl, arith}
+use Rattle.std.proofs.Common.{◌≡◌, ◌<◌, ◌++◌, ℕ, List, Option, None, Some, length, map, sym, ap, subst, refl, arith}
 use Rattle.std.specs.List.{flat_map}
 use Rattle.std.proofs.lemmas.Option.{slice_get_read, slice_get_within}
 use Rattle.vlsi_base.specs.declared.name.Name.{Name}
 use Rattle.vlsi_base.specs.declared.name.Port.{Port}
 use Rattle.vlsi_base.specs.declared.name.Terminal.{Terminal}
 use Rattle.net_core.specs.declared.frame.Node.{Node}
-use Rattle.net_core.specs.Places.{Stands, IsThere, IsPlaceOf, position_of}
+use Rattle.net_core.specs.Places.{Stands, IsPlaceOf, position_of}
 use Rattle.net_core.specs.Netlist.{port, pin_of}
-use Rattle.net_core.specs.Frame.{Frame, frame_of, frame_terminals, node_pins, IsFrame, IsPinPlace}
+use Rattle.net_core.specs.Frame.{Frame, frame_of, frame_terminals, node_pins, IsFrame}
 use Rattle.net_core.proofs.Standing.{position_stands, position_absent, stands_same}
 use Rattle.net_core.proofs.Frames.{port_terminals, terminals_are, port_answers, pin_answers, no_owner, first_fits, pins_at, names_count, mapped}
 use Rattle.net_core.proofs.frame.Frame.place.Goals as goal

@@ -1,4 +1,4 @@
-use Rattle.std.proofs.Common.{◌≡◌, subst}
+use Rattle.std.proofs.Common.{subst}
 use Rattle.net_core.specs.Netlist.{Netlist, IsNetlist}
 use Rattle.net_core.proofs.Finishing.{netlist_sound}
 use Rattle.net_core.proofs.netlist.Netlist.classes.Goals as goal

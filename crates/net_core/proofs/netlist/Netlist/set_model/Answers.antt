@@ -1,4 +1,4 @@
-use Rattle.std.proofs.Common.{◌≡◌, ◌∙◌, ap, sym, length}
+use Rattle.std.proofs.Common.{◌∙◌, ap, sym, length}
 use Rattle.net_core.proofs.Changing.{terminals_set}
 use Rattle.net_core.proofs.netlist.Netlist.set_model.Goals as goal
 

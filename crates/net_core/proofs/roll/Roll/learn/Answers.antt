@@ -1,5 +1,4 @@
-use Rattle.std.proofs.Common.{◌≡◌, sym, ap, subst, ◌∙◌, None, List, ℕ, length, ◌++◌, ◌∷◌, [], arith}
-use Rattle.net_core.specs.Places.{Stands, position_of}
+use Rattle.std.proofs.Common.{◌≡◌, sym, length, ◌++◌, ◌∷◌, [], arith}
 use Rattle.net_core.proofs.Standing.{position_stands, stands_last}
 use Rattle.net_core.proofs.roll.Roll.learn.Goals as goal
 

@@ -1,9 +1,9 @@
-use Rattle.std.proofs.Common.{◌≡◌, ◌∙◌, ◌+◌, ◌<◌, ap, sym, subst, length, get_or, take, List, [], ℕ, refl, arith}
+use Rattle.std.proofs.Common.{◌≡◌, ◌∙◌, ap, sym, subst, length, get_or, take, List, [], ℕ, refl, arith}
 use Rattle.std.proofs.Math.Seq.{take-length}
 use Rattle.std.proofs.lemmas.Option.{slice_get_read, get_or_from_slice_get}
 use Rattle.std.specs.List.{All}
 use Rattle.net_core.specs.Places.{Stands, IsThere, Learned}
-use Rattle.net_core.proofs.Learning.{AreLearned, learned_step, learned_all}
+use Rattle.net_core.proofs.Learning.{learned_step}
 use Rattle.net_core.proofs.roll.Roll.learn_all.Goals as goal
 
 pub loop-text-preserved : goal.loop-text-preserved

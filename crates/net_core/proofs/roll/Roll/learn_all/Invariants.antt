@@ -1,4 +1,3 @@
-use Rattle.std.proofs.Common.{take}
 use Rattle.net_core.proofs.Learning.{AreLearned}
 use Rattle.net_core.proofs.roll.Roll.learn_all.Given as goal
 

@@ -1,4 +1,4 @@
-use Rattle.std.proofs.Common.{◌≡◌, sym, ap, ◌∙◌, None, List, ℕ, arith}
+use Rattle.std.proofs.Common.{ap, ◌∙◌, List, ℕ, arith}
 use Rattle.net_core.specs.Places.{position_of}
 use Rattle.net_core.proofs.Standing.{knows_push}
 use Rattle.net_core.proofs.roll.Roll.push.Goals as goal
