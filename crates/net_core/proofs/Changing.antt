@@ -11,7 +11,7 @@ use Rattle.vlsi_base.specs.declared.name.Name.{Name}
 use Rattle.vlsi_base.specs.declared.name.Port.{Port}
 use Rattle.vlsi_base.specs.declared.name.Terminal.{Terminal}
 use Rattle.net_core.specs.declared.frame.Node.{Node}
-use Rattle.net_core.specs.Places.{Stands, IsThere, Begins, position_of}
+use Rattle.net_core.specs.Places.{Stands, IsThere, Begins, AddsOnly, position_of}
 use Rattle.net_core.specs.Netlist.{Instance, Netlist, port, pin_of, pins_of, AreInOrder, ReservesModels}
 use Rattle.net_core.specs.Frame.{Frame, instance_of, frame_of, node_pins, frame_terminals, netlist_of, IsFrame, SetsModelAt, ReservesNames}
 use Rattle.net_core.proofs.Standing.{position_absent}
@@ -97,13 +97,14 @@ terminals_set old new k model sets =
           ∙ flat_map-map (λ (ts : List Terminal). ts) pins_of old.instances
 
 pub reserves : {ports : List Port} {models : List (List ℕ)} {nodes : List Node} {names : List (List ℕ)} {count : ℕ} → IsFrame ports models nodes names count
-    → (f : Frame) → frame_of ports models nodes ≡ f → (new : List (List ℕ)) (more : List (List ℕ)) → Begins models new → All (IsThere new) more → ReservesNames f (frame_of ports new nodes) more
-reserves {ports} {models} {nodes} {names} {count} frame f view new more grown there =
+    → (f : Frame) → frame_of ports models nodes ≡ f → (new : List (List ℕ)) (more : List (List ℕ)) → Begins models new → All (IsThere new) more → AddsOnly models new more → ReservesNames f (frame_of ports new nodes) more
+reserves {ports} {models} {nodes} {names} {count} frame f view new more grown there only =
     subst (λ (g : Frame). ReservesNames g (frame_of ports new nodes) more) view (record {
       ports = refl;
       instances = ap (λ (ms : List (List ℕ)). map (instance_of ms) nodes) grown.1 ∙ mapped_alike models grown.0 nodes frame.known;
       grown = grown;
       there = there;
+      only = only;
     })
 
 pub reserves_models : (name : List ℕ) (old new : Frame) (classes : List ℕ) (count : ℕ) (n : Netlist) (more : List (List ℕ)) → netlist_of name old classes count ≡ n → ReservesNames old new more → ReservesModels n (netlist_of name new classes count) more
@@ -112,6 +113,7 @@ reserves_models name old new classes count n more view r =
       now = ap (λ (ps : List Port). made ps new.instances) r.ports ∙ ap (made old.ports) r.instances;
       kept = r.grown;
       added = r.there;
+      only = r.only;
     }) where
       made : List Port → List Instance → Netlist
       made ports instances = record { name = name; ports = ports; models = new.models; instances = instances; classes = classes; count = count }

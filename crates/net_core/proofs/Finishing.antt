@@ -47,6 +47,7 @@ netlist_sound name frame classes count sound each turns = record {
   names = sound.names;
   pins = sound.pins;
   models = sound.models;
+  different = sound.different;
   each = each;
   turns = turns;
 }

@@ -16,8 +16,9 @@ use Rattle.net_core.proofs.Frames.{flat_split, mapped, unmapped, port_terminals}
 use Rattle.net_core.proofs.Growing.{names_seen}
 
 pub frame_sound : {ports : List Port} {models : List (List ℕ)} {nodes : List Node} {names : List (List ℕ)} {count : ℕ} → IsFrame ports models nodes names count
-    → (f : Frame) → frame_of ports models nodes ≡ f → IsSound f
-frame_sound {ports} {models} {nodes} {names} {count} frame f view = record {
+    → NoneTwice models → (f : Frame) → frame_of ports models nodes ≡ f → IsSound f
+frame_sound {ports} {models} {nodes} {names} {count} frame once f view = record {
+  different = subst (λ (g : Frame). NoneTwice g.models) view once;
   ports = subst (λ (g : Frame). AreInOrder (map (λ p. p.name) g.ports)) view frame.sorted;
   names = subst (λ (xs : List (List ℕ)). NoneTwice xs) (sym (names_seen frame f view)) frame.once;
   pins = subst (λ (g : Frame). All (λ i. AreInOrder i.pins) g.instances) view (All-map (λ (i : Instance). AreInOrder i.pins) (instance_of models) nodes frame.pins);

@@ -20,7 +20,7 @@ use Rattle.net_core.specs.declared.tally.ClassFault.TheVariants as fault
 use Rattle.net_core.specs.declared.error.CheckError.{CheckError}
 use Rattle.net_core.specs.declared.error.CheckError.TheVariants as error
 use Rattle.net_core.specs.Places.{Stands, IsThere, NoneTwice}
-use Rattle.net_core.specs.Netlist.{Instance, Netlist, pin_of, terminals, HasClass}
+use Rattle.net_core.specs.Netlist.{Instance, Netlist, pin_of, AreInOrder, terminals, HasClass}
 
 -- the pins of the first model of this name in a table
 abbrev pub pins_named : List ModelPins → List ℕ → List ModelPin
@@ -35,12 +35,17 @@ IsInputAt pins k = (q : ModelPin) × Stands pins k q × (q.dir ≡ In)
 abbrev pub DependsWithin : ModelPins → Type 0
 DependsWithin m = All (λ p. All (IsInputAt m.pins) p.depends_on) m.pins
 
--- The table lists each of the netlist's models, and each instance has exactly the pins of its model. No model is listed twice.
-pub record Fits (n : Netlist) (table : List ModelPins) : Type 0 where
+-- A table of pins: no model is listed twice, pins stand in the order of names, and outputs depend on input pins of their model.
+pub record IsPinTable (table : List ModelPins) : Type 0 where
   pub once : NoneTwice (map (λ m. m.model) table)
+  pub order : All (λ m. AreInOrder (map (λ p. p.name) m.pins)) table
+  pub depends : All DependsWithin table
+
+-- the table lists the model of each instance, and each instance has exactly the pins of its model
+pub record Fits (n : Netlist) (table : List ModelPins) : Type 0 where
+  pub table_is : IsPinTable table
   pub listed : All (λ i. IsThere (map (λ m. m.model) table) i.model) n.instances
   pub pins : All (λ i. i.pins ≡ map (λ p. p.name) (pins_named table i.model)) n.instances
-  pub depends : All DependsWithin table
 
 -- what a terminal does in its class
 

@@ -7,7 +7,7 @@ use Rattle.vlsi_base.specs.declared.name.Terminal.{Terminal}
 use Rattle.net_core.specs.declared.frame.Node.{Node}
 use Rattle.net_core.specs.declared.error.BuildError.{BuildError}
 use Rattle.net_core.specs.declared.error.BuildError.TheVariants as error
-use Rattle.net_core.specs.Places.{Stands, IsThere, NoneTwice, Begins}
+use Rattle.net_core.specs.Places.{Stands, IsThere, NoneTwice, Begins, AddsOnly}
 use Rattle.net_core.specs.Netlist.{Instance, Netlist, pin_of, terminals_of, AreInOrder}
 
 pub record Frame : Type 0 where
@@ -67,6 +67,7 @@ pub record IsSound (f : Frame) : Type 0 where
   pub names : NoneTwice (map (λ i. i.name) f.instances)
   pub pins : All (λ i. AreInOrder i.pins) f.instances
   pub models : All (λ i. IsThere f.models i.model) f.instances
+  pub different : NoneTwice f.models
 
 abbrev pub netlist_of : List ℕ → Frame → List ℕ → ℕ → Netlist
 netlist_of name frame classes count = record {
@@ -90,3 +91,4 @@ pub record ReservesNames (old new : Frame) (names : List (List ℕ)) : Type 0 wh
   pub instances : new.instances ≡ old.instances
   pub grown : Begins old.models new.models
   pub there : All (IsThere new.models) names
+  pub only : AddsOnly old.models new.models names

@@ -5,7 +5,7 @@ use Rattle.vlsi_base.specs.declared.name.Name.{Name}
 use Rattle.vlsi_base.specs.declared.name.Port.{Port}
 use Rattle.vlsi_base.specs.declared.name.Terminal.{Terminal}
 use Rattle.vlsi_base.specs.Names.{comes_before}
-use Rattle.net_core.specs.Places.{Stands, IsThere, NoneTwice, Begins}
+use Rattle.net_core.specs.Places.{Stands, IsThere, NoneTwice, Begins, AddsOnly}
 
 pub record Instance : Type 0 where
   pub name : List ℕ
@@ -61,6 +61,7 @@ pub record IsNetlist (n : Netlist) : Type 0 where
   pub names : NoneTwice (map (λ i. i.name) n.instances)
   pub pins : All (λ i. AreInOrder i.pins) n.instances
   pub models : All (λ i. IsThere n.models i.model) n.instances
+  pub different : NoneTwice n.models
   pub each : length n.classes ≡ length (terminals n)
   pub turns : InTurn 0 n.classes n.count
 
@@ -88,3 +89,4 @@ pub record ReservesModels (old new : Netlist) (names : List (List ℕ)) : Type 0
   pub now : new ≡ record old { models = new.models }
   pub kept : Begins old.models new.models
   pub added : All (IsThere new.models) names
+  pub only : AddsOnly old.models new.models names

@@ -1,5 +1,5 @@
 -- Where an element stands in a list.
-use Rattle.std.specs.Prelude.{◌≡◌, ℕ, ◌<◌, suc, List, [], ◌∷◌, ◌++◌, Option, None, Some, option_map, MatchOption, bytes_eq, slice_get, if◌then◌else◌}
+use Rattle.std.specs.Prelude.{◌≡◌, ◌⊎◌, ℕ, ◌<◌, suc, List, [], ◌∷◌, ◌++◌, Option, None, Some, option_map, MatchOption, bytes_eq, slice_get, if◌then◌else◌}
 use Rattle.std.specs.Global.{Vec}
 use Rattle.std.specs.BTreeMap.{BTreeMap, get_by}
 use Rattle.std.specs.Cmp.Lexicographic.{slice_cmp}
@@ -42,6 +42,10 @@ Learned old new text = MatchOption (position_of old text) (new ≡ old ++ text �
 -- a list is the beginning of another
 abbrev pub Begins : {X : Type 0} → List X → List X → Type 0
 Begins {X} xs ys = (rest : List X) × (ys ≡ xs ++ rest)
+
+-- what stands in the new list stands in the old one or is one of these
+abbrev pub AddsOnly : {X : Type 0} → List X → List X → List X → Type 0
+AddsOnly {X} old new more = (x : X) → IsThere new x → IsThere old x ⊎ IsThere more x
 
 -- the first place at which a number stands; none exactly where it stands nowhere
 abbrev pub IsFirstPlace : List ℕ → ℕ → Option ℕ → Type 0

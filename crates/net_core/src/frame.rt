@@ -168,6 +168,7 @@ impl Frame {
         ensures count { result ≡ length (frame_terminals self.now) }
         ensures sound { IsSound self.now }
     {
+        let _ = self.models.texts();
         self.count
     }
 

@@ -1,7 +1,7 @@
 // Different texts in their order, each found by its text.
 ghost use Rattle.std.specs.Prelude.{◌≡◌, ◌++◌, ◌∷◌, [], None, Some, IfOk, OnOk, OnErr, ℕ, List, bytes_eq, if◌then◌else◌, slice_get};
 ghost use Rattle.std.specs.List.{All};
-ghost use Rattle.net_core.specs.Places.{place_at, position_of, Learned, IsThere, Begins, NoneTwice};
+ghost use Rattle.net_core.specs.Places.{place_at, position_of, Learned, IsThere, Begins, AddsOnly, NoneTwice};
 
 use std::alloc::{AllocError, Global};
 use std::collections::BTreeMap;
@@ -69,7 +69,8 @@ impl Roll {
 
     /// The texts. Takes no memory.
     pub fn texts(&self) -> &[Text]
-        ensures { result.now ≡ self.now }
+        ensures texts { result.now ≡ self.now }
+        ensures once { NoneTwice self.now }
     {
         &self.texts
     }
@@ -112,6 +113,7 @@ impl Roll {
     pub fn learn_all(&mut self, alloc: Global, texts: &[Text]) -> Result<(), AllocError>
         ensures grown { OnOk result (Begins self.old self.new) }
         ensures there { OnOk result (All (IsThere self.new) texts.now) }
+        ensures only { OnOk result (AddsOnly self.old self.new texts.now) }
         ensures same { OnOk result (self.old ≡ [] → NoneTwice texts.now → self.new ≡ texts.now) }
     {
         for text in texts {
@@ -124,6 +126,7 @@ impl Roll {
     pub fn extended(&self, alloc: Global, more: &[Text]) -> Result<Self, AllocError>
         ensures grown { IfOk result (λ roll. Begins self.now roll) }
         ensures there { IfOk result (λ roll. All (IsThere roll) more.now) }
+        ensures only { IfOk result (λ roll. AddsOnly self.now roll more.now) }
     {
         let mut roll = Roll::new(alloc);
         roll.learn_all(alloc, &self.texts)?;

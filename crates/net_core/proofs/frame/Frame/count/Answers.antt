@@ -7,5 +7,5 @@ use Rattle.net_core.proofs.frame.Frame.count.Goals as goal
 pub returns : goal.returns
 returns c = record {
   count = c.self.invariant.counted ∙ sym (terminals_count c.self.inside.ports c.self.inside.models c.self.inside.nodes.items) ∙ ap (λ (f : Frame). length (frame_terminals f)) c.self.view_is;
-  sound = frame_sound c.self.invariant c.args.self.now c.self.view_is;
+  sound = frame_sound c.self.invariant c.texts.ensures.once c.args.self.now c.self.view_is;
 }

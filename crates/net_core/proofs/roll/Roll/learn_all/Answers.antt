@@ -2,7 +2,7 @@ use Rattle.std.proofs.Common.{◌≡◌, ◌∙◌, ap, sym, subst, length, get_
 use Rattle.std.proofs.Math.Seq.{take-length}
 use Rattle.std.proofs.lemmas.Option.{slice_get_read, get_or_from_slice_get}
 use Rattle.std.specs.List.{All}
-use Rattle.net_core.specs.Places.{Stands, IsThere, Learned}
+use Rattle.net_core.specs.Places.{AddsOnly, Stands, IsThere, Learned}
 use Rattle.net_core.proofs.Learning.{learned_step}
 use Rattle.net_core.proofs.roll.Roll.learn_all.Goals as goal
 
@@ -18,3 +18,8 @@ pub returns-clause-there : goal.returns-clause-there
 returns-clause-there c =
     let e : c.loop-text.text-index ≡ length c.args.texts.now = omega (arith, c.loop-text-test.false, c.loop-text.auto.text-index-end) in
     subst (λ (xs : List (List ℕ)). All (IsThere c.loop-text.self) xs) (ap (λ n. take n c.args.texts.now) e ∙ take-length c.args.texts.now) c.loop-text.invariant.there
+
+pub returns-clause-only : goal.returns-clause-only
+returns-clause-only c =
+    let e : c.loop-text.text-index ≡ length c.args.texts.now = omega (arith, c.loop-text-test.false, c.loop-text.auto.text-index-end) in
+    subst (λ (xs : List (List ℕ)). AddsOnly c.args.self.now c.loop-text.self xs) (ap (λ n. take n c.args.texts.now) e ∙ take-length c.args.texts.now) c.loop-text.invariant.only
