@@ -1,0 +1,15 @@
+pub mod Lookups
+pub mod Standing
+pub mod Searching
+pub mod Frames
+pub mod Growing
+pub mod Sound
+pub mod InTurns
+pub mod Joining
+pub mod Finishing
+pub mod Learning
+pub mod Changing
+pub mod Counting
+pub mod Tables
+pub mod Namings
+pub mod Classes

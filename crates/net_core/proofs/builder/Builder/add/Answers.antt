@@ -1,0 +1,12 @@
+use Rattle.std.proofs.Common.{◌∙◌, ap}
+use Rattle.net_core.specs.Netlist.{Instance}
+use Rattle.net_core.specs.Frame.{AddsInstance}
+use Rattle.net_core.specs.Joins.{Draft, with_instance}
+use Rattle.net_core.proofs.Finishing.{draft_grows, on_ok}
+use Rattle.net_core.proofs.builder.Builder.add.Goals as goal
+
+pub returns-clause-added : goal.returns-clause-added
+returns-clause-added c =
+    let i : Instance = record { name = c.args.name.now; model = c.args.model.now; pins = c.args.pins.now } in
+    on_ok c.add.result (λ (adds : AddsInstance c.self.inside.frame c.add.new.self i).
+    draft_grows c.self.inside.name c.self.inside.frame c.add.new.self c.self.inside.joins.items i adds c.self.invariant ∙ ap (λ (d : Draft). with_instance d i) c.self.view_is) c.add.ensures.added

@@ -1,0 +1,9 @@
+use Rattle.std.proofs.Common.{◌-◌, map}
+use Rattle.net_core.proofs.Searching.{Narrowed}
+use Rattle.net_core.proofs.frame.port_place.Given as goal
+
+abbrev pub invariant-loop-low : goal.invariant-loop-low
+invariant-loop-low l = Narrowed (map (λ p. p.name) l.ports) l.name l.low l.high
+
+abbrev pub decreases-loop-low : goal.decreases-loop-low
+decreases-loop-low l = l.high - l.low
