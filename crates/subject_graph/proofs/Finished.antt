@@ -1,5 +1,5 @@
 -- A table with its roots, and the further inverters of outputs, are a subject graph.
-use Rattle.std.proofs.Common.{◌≡◌, ℕ, zero, suc, ◌+◌, ◌*◌, ◌^◌, ◌<◌, ◌≤◌, Bool, false, true, List, [], ◌∷◌, ◌++◌, map, length, refl, sym, ◌∙◌, ap, subst, arith, length-append, count_by}
+use Rattle.std.proofs.Common.{◌≡◌, ℕ, zero, suc, ◌+◌, ◌-◌, ◌*◌, ◌^◌, ◌<◌, ◌≤◌, Bool, false, true, List, [], ◌∷◌, ◌++◌, map, length, refl, sym, ◌∙◌, ap, subst, arith, length-append, count_by}
 use Rattle.std.specs.List.{IsDistinct}
 use Rattle.bool_expr.specs.Expression.{bit}
 use Rattle.vlsi_base.specs.Member.{In}
@@ -11,13 +11,14 @@ use Rattle.net_theory.proofs.Basics.{length-map, number_in}
 use Rattle.graph_theory.specs.Graph.{Node, Graph, grown, node_bit, is_logic, is_fixed, held_count, EachReadsEarlier, IsGraphOf, IsApart, IsSmall}
 use Rattle.graph_theory.proofs.Values.{grown_keeps}
 use Rattle.graph_theory.proofs.Ordered.{count_by-append}
+use Rattle.subject_table.specs.declared.table.Node.{Node as Kind}
 use Rattle.subject_table.specs.declared.table.Table.{Table}
 use Rattle.subject_table.specs.View.{node_view, kinds, end_of}
 use Rattle.subject_table.specs.Grows.{AreBelow, AreSorted}
 use Rattle.subject_table.proofs.Tables.{node_eq}
 use Rattle.subject_table.proofs.Operators.{same_numbers}
 use Rattle.subject_graph.specs.Subject.{IsNumberable, IsSubjectGraph, AreShared, roots_apart, inverters_apart}
-use Rattle.subject_graph.specs.Stages.{IsRooted}
+use Rattle.subject_graph.specs.Stages.{IsRooted, ShowsBehind}
 use Rattle.subject_graph.proofs.Apart.{length_roots, shown_values, further_reads, roots_are, roots_differ, number_apart, further_logic, further_fixed}
 use Rattle.subject_graph.proofs.Shared.{are_shared, constant_once, all_kinds}
 
@@ -145,12 +146,35 @@ pub finished : (m : Machine) (t : Table) (plain loads : List ℕ) → IsRooted m
     → (first behind : ℕ) → first ≡ length (inputs m) → behind ≡ held_count m + length (kinds t) → (nodes : List Node) (roots : List ℕ)
     → nodes ≡ kinds t ++ inverters_apart first behind [] plain → roots ≡ roots_apart first behind [] plain
     → IsSubjectGraph m (record { nodes = nodes; outputs = roots; loads = loads })
-finished m t plain loads r distinct first behind is_first is_behind nodes roots is_nodes is_roots =
+finished m t plain loads r distinct low_end behind_end is_first is_behind nodes roots is_nodes is_roots =
     let all_nodes : nodes ≡ kinds t ++ inverters_apart (length (inputs m)) (held_count m + length (kinds t)) [] plain =
-    is_nodes ∙ ap (λ (n : ℕ). kinds t ++ inverters_apart n behind [] plain) is_first ∙ ap (λ (n : ℕ). kinds t ++ inverters_apart (length (inputs m)) n [] plain) is_behind in
+    is_nodes ∙ ap (λ (n : ℕ). kinds t ++ inverters_apart n behind_end [] plain) is_first ∙ ap (λ (n : ℕ). kinds t ++ inverters_apart (length (inputs m)) n [] plain) is_behind in
     let all_roots : roots ≡ roots_apart (length (inputs m)) (held_count m + length (kinds t)) [] plain =
-    is_roots ∙ ap (λ (n : ℕ). roots_apart n behind [] plain) is_first ∙ ap (λ (n : ℕ). roots_apart (length (inputs m)) n [] plain) is_behind in
+    is_roots ∙ ap (λ (n : ℕ). roots_apart n behind_end [] plain) is_first ∙ ap (λ (n : ℕ). roots_apart (length (inputs m)) n [] plain) is_behind in
     let made : List Node → List ℕ → Graph = λ xs rs. record { nodes = xs; outputs = rs; loads = loads } in
     let same : made nodes roots ≡ made (kinds t ++ inverters_apart (length (inputs m)) (held_count m + length (kinds t)) [] plain) (roots_apart (length (inputs m)) (held_count m + length (kinds t)) [] plain) =
     ap (λ (xs : List Node). made xs roots) all_nodes ∙ ap (made (kinds t ++ inverters_apart (length (inputs m)) (held_count m + length (kinds t)) [] plain)) all_roots in
     subst (IsSubjectGraph m) (sym same) (is_subject_graph m t plain loads r distinct)
+
+-- the same of what was lent
+pub graph_made : (m : Machine) (t : Table) (plain loads : List ℕ) (old new : List Kind) (lent roots : List ℕ) (first : ℕ) → IsRooted m t plain loads → IsDistinct node_eq t.nodes.keys
+    → old ≡ t.nodes.keys → lent ≡ plain → first ≡ t.held - length loads → ShowsBehind old new first t.held lent roots
+    → IsSubjectGraph m (record { nodes = map node_view new; outputs = roots; loads = loads })
+graph_made m t plain loads old new lent roots first r distinct is_old is_lent is_first s =
+    let held = r.held in
+    let each = r.each in
+    let low : first ≡ length (inputs m) = omega (arith, held, each, is_first) in
+    let size : length old ≡ length (kinds t) = ap (λ (xs : List Kind). length xs) is_old ∙ sym (length-map node_view t.nodes.keys) in
+    let behind : t.held + length old ≡ held_count m + length (kinds t) = omega (arith, held, size) in
+    finished m t plain loads r distinct first (t.held + length old) low behind (map node_view new) roots
+    (s.nodes ∙ ap (λ (xs : List Kind). map node_view xs ++ inverters_apart first (t.held + length old) [] lent) is_old
+    ∙ ap (λ (xs : List ℕ). kinds t ++ inverters_apart first (t.held + length old) [] xs) is_lent)
+    (s.shown ∙ ap (roots_apart first (t.held + length old) []) is_lent)
+
+pub room_lent : (m : Machine) (t : Table) (plain loads : List ℕ) (old : List Kind) (lent : List ℕ) → IsNumberable m → IsRooted m t plain loads → IsDistinct node_eq t.nodes.keys
+    → old ≡ t.nodes.keys → lent ≡ plain → t.held + length old + 2 * length lent < 2 ^ 32
+room_lent m t plain loads old lent small r distinct is_old is_lent =
+    let size : length old ≡ length (kinds t) = ap (λ (xs : List Kind). length xs) is_old ∙ sym (length-map node_view t.nodes.keys) in
+    let count = ap (λ (xs : List ℕ). length xs) is_lent in
+    let fits = room m t plain loads small r distinct in
+    omega (arith, size, count, fits)

@@ -5,3 +5,4 @@ pub mod Rooted
 pub mod Looking
 pub mod Loading
 pub mod Showing
+pub mod Solving

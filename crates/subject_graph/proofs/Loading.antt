@@ -41,7 +41,7 @@ chooses t u v x r numbers own c a s below low first second third =
     ∙ ap (λ (k : Bool). if val e (map (value t w) numbers) then val d (map (value t w) numbers) else k) (same own low))
 
 -- an element of a list with one more behind it
-number_more : {A : Type 0} (xs : List A) (x y : A) (k : ℕ) → IsNumber (xs ++ x ∷ []) k y → IsNumber xs k y ⊎ ((k ≡ length xs) × (y ≡ x))
+pub number_more : {A : Type 0} (xs : List A) (x y : A) (k : ℕ) → IsNumber (xs ++ x ∷ []) k y → IsNumber xs k y ⊎ ((k ≡ length xs) × (y ≡ x))
 number_more [] x y zero h = inr (refl, h)
 number_more [] x y (suc k) h = absurd h
 number_more (z ∷ xs) x y zero h = inl h

@@ -17,6 +17,7 @@ use Rattle.vlsi_base.proofs.NameOrder.{name_total, name_exact}
 use Rattle.machine_meaning.specs.Machine.{is_input, names_of}
 use Rattle.net_theory.specs.Sources.{IsNumber}
 use Rattle.subject_graph.specs.Stages.{IsNumberOf}
+use Rattle.subject_graph.proofs.Apart.{In-first}
 
 pub number_from_index : (xs : List ℕ) (k x : ℕ) → k < length xs → x ≡ slice_index_or xs k x → IsNumber xs k x
 number_from_index [] k x h is = absurd (omega arith)
@@ -47,10 +48,7 @@ place_is (n ∷ names) name = by (last_place names name) (eq_by_cmp name_cmp n n
   by : (o : Option ℕ) (b : Bool) → eq_by_cmp name_cmp n name ≡ b → IsPlace names name o
       → IsPlace (n ∷ names) name (option_or (option_map (λ k. k + 1) o) (if b then Some 0 else None))
   by None true e h = tie n name e
-  by None false e h = out e h where
-    out : eq_by_cmp name_cmp n name ≡ false → (In name names → ⊥) → In name (n ∷ names) → ⊥
-    out e h here = no_tie n n e refl
-    out e h (there g) = h g
+  by None false e h = λ g. elim (In-first name n names g) [ inl same ↦ no_tie n name e same | inr later ↦ h later ]
   by (Some j) b e h = let P : ℕ → Type 0 = λ k. IsNumber (n ∷ names) k name in let plus : suc j ≡ j + 1 = sym (add-one j) in subst P plus h
 
 -- an index of names has a place for each of them

@@ -1,16 +1,19 @@
 -- The stages of a machine's table make a graph.
-use Rattle.std.proofs.Common.{◌≡◌, ◌⊎◌, inl, inr, ℕ, zero, suc, ◌+◌, ◌*◌, ◌-◌, ◌<◌, ◌≤◌, Bool, List, [], ◌∷◌, ◌++◌, map, length, refl, sym, ◌∙◌, ap, subst, arith, length-append, count_by, if◌then◌else◌}
+use Rattle.std.proofs.Common.{◌≡◌, ◌⊎◌, inl, inr, ℕ, zero, suc, ◌+◌, ◌*◌, ◌-◌, ◌<◌, ◌≤◌, Bool, List, [], ◌∷◌, ◌++◌, map, length, refl, sym, ◌∙◌, ap, subst, arith, length-append, count_by, if◌then◌else◌, filter, not}
 use Rattle.std.specs.List.{AllZip, sum_by}
 use Rattle.std.proofs.lemmas.List.Sums.{sum_by-append}
 use Rattle.vlsi_base.specs.declared.name.Name.{Name}
+use Rattle.vlsi_base.specs.declared.name.Port.{Port}
 use Rattle.vlsi_base.specs.Member.{In, here, there}
 use Rattle.bool_expr.specs.Expression.{val, size_of}
-use Rattle.machine_meaning.specs.Machine.{Machine, Equation, Register, inputs, outputs}
+use Rattle.machine_meaning.specs.Machine.{Machine, Equation, Register, inputs, outputs, names_of, is_input}
+use Rattle.machine_meaning.specs.declared.equation.Register.{Register as RegisterParts}
+use Rattle.machine_core.specs.View.{register_view}
 use Rattle.machine_meaning.specs.Size.{machine_size}
 use Rattle.machine_core.specs.Built.{built}
 use Rattle.machine_core.specs.Checked.{IsChecked}
 use Rattle.net_theory.specs.Sources.{IsNumber}
-use Rattle.net_theory.proofs.Basics.{number_in, number_of, at_number, number_below, number_once}
+use Rattle.net_theory.proofs.Basics.{number_in, number_below, length-map}
 use Rattle.graph_theory.specs.Graph.{Node, is_logic, held_count, IsGraphOf}
 use Rattle.subject_table.specs.declared.table.Table.{Table}
 use Rattle.subject_table.specs.View.{kinds, end_of}
@@ -129,3 +132,20 @@ module _ (m : Machine) (t u : Table) (numbers plain loads : List ℕ) (checked :
     known_loads = taken.known;
     graph = table_is_graph m u numbers plain loads checked held taken.sound values takes_outputs takes_loads;
   }
+
+-- the same of what the stages were lent
+pub rooted_from : (m : Machine) (t u : Table) (numbers first last plain loads : List ℕ) (names : List Name) (ports : List Port) (registers : List RegisterParts) → IsChecked m → IsSolved m t numbers
+    → first ≡ numbers → last ≡ numbers → names ≡ m.vars → ports ≡ m.ports → map register_view registers ≡ m.registers
+    → AllZip (IsNumberOf names first) (names_of (filter (λ p. not (is_input p.dir)) ports)) plain
+    → Loads t u last (t.held - length registers) (map register_view registers) loads → IsRooted m u plain loads
+rooted_from m t u numbers first last plain loads names ports registers checked solved is_first is_last is_names is_ports is_registers takes taken =
+    let as_lent : AllZip (IsNumberOf m.vars numbers) (outputs m) plain =
+    subst (λ (ns : List Name). AllZip (IsNumberOf ns numbers) (outputs m) plain) is_names
+    (subst (λ (xs : List ℕ). AllZip (IsNumberOf names xs) (outputs m) plain) is_first
+    (subst (λ (ps : List Port). AllZip (IsNumberOf names first) (names_of (filter (λ p. not (is_input p.dir)) ps)) plain) is_ports takes)) in
+    let count : length registers ≡ length m.registers = sym (length-map register_view registers) ∙ ap (λ (rs : List Register). length rs) is_registers in
+    let loads_lent : Loads t u numbers (t.held - length m.registers) m.registers loads =
+    subst (λ (rs : List Register). Loads t u numbers (t.held - length m.registers) rs loads) is_registers
+    (subst (λ (k : ℕ). Loads t u numbers (t.held - k) (map register_view registers) loads) count
+    (subst (λ (xs : List ℕ). Loads t u xs (t.held - length registers) (map register_view registers) loads) is_last taken)) in
+    rooted m t u numbers plain loads checked solved as_lent loads_lent

@@ -1,10 +1,9 @@
 -- Outputs that are shown one after another.
-use Rattle.std.proofs.Common.{◌≡◌, ℕ, suc, ◌+◌, ◌*◌, ◌^◌, ◌<◌, ◌≤◌, Bool, true, false, not, ◌||◌, nat_lt, List, [], ◌∷◌, ◌++◌, map, length, drop, refl, sym, ◌∙◌, ap, subst, arith, append_assoc, append-nil, add-one, drop-cons, length-append, if◌then◌else◌}
+use Rattle.std.proofs.Common.{◌≡◌, ℕ, zero, suc, ◌+◌, ◌*◌, ◌^◌, ◌<◌, ◌≤◌, Bool, true, false, List, [], ◌∷◌, ◌++◌, map, length, drop, refl, sym, ◌∙◌, ap, subst, arith, append_assoc, append-nil, add-one, drop-cons, length-append, if◌then◌else◌}
 use Rattle.std.specs.List.{slice_index_or}
 use Rattle.std.specs.Ordering.{nat_cmp}
 use Rattle.std.specs.BTreeSet.{BTreeSet, contains}
-use Rattle.std.proofs.lemmas.Bool.{le-ltb, lt-ltb}
-use Rattle.bool_expr.specs.Support.{Knows, among}
+use Rattle.bool_expr.specs.Support.{Knows}
 use Rattle.net_theory.proofs.Basics.{length-map}
 use Rattle.graph_theory.specs.Graph.{Node, inv}
 use Rattle.subject_table.specs.declared.table.Node.{Node as Kind}
@@ -35,6 +34,12 @@ shows_none old first held plain met none small = record {
 rest-cons : (plain : List ℕ) (i a : ℕ) → i < length plain → a ≡ slice_index_or plain i a → drop i plain ≡ a ∷ drop (i + 1) plain
 rest-cons plain i a h is = drop-cons plain i a h ∙ ap (λ x. x ∷ drop (suc i) plain) (sym is) ∙ ap (λ j. a ∷ drop j plain) (sym (add-one i))
 
+-- which number stands for what is past the end makes nothing of what is within
+pub index_same : (xs : List ℕ) (i d e : ℕ) → i < length xs → slice_index_or xs i d ≡ slice_index_or xs i e
+index_same [] i d e h = absurd (omega arith)
+index_same (x ∷ xs) zero d e h = refl
+index_same (x ∷ xs) (suc i) d e h = index_same xs i d e (omega arith)
+
 map-append : {A B : Type 0} (f : A → B) (xs ys : List A) → map f (xs ++ ys) ≡ map f xs ++ map f ys
 map-append f [] ys = refl
 map-append {B = B} f (x ∷ xs) ys = ap (λ (zs : List B). f x ∷ zs) (map-append f xs ys)
@@ -46,14 +51,14 @@ room_for_two old new first held plain met shown i a h is s =
     let rest = ap (λ (xs : List ℕ). length xs) (rest-cons plain i a h is) in let small = s.room in omega (arith, rest, small)
 
 -- an output that shows its own node
-pub shows_itself : (old new : List Kind) (first held : ℕ) (plain : List ℕ) (met more : BTreeSet ℕ) (shown : List ℕ) (i a : ℕ) (is_new : Bool) → i < length plain
-    → a ≡ slice_index_or plain i a → ((before : List ℕ) → Knows met before → Knows more (a ∷ before) × (is_new ≡ not (among a before))) → is_new ≡ true → first ≤ a
+pub shows_itself : (old new : List Kind) (first held : ℕ) (plain : List ℕ) (met more : BTreeSet ℕ) (shown : List ℕ) (i a : ℕ) (taken : Bool) → i < length plain
+    → a ≡ slice_index_or plain i a → ((before : List ℕ) → Knows met before → Knows more (a ∷ before) × (taken ≡ is_taken first before a)) → taken ≡ false
     → Shows old new first held plain met shown i → Shows old new first held plain more (shown ++ a ∷ []) (i + 1)
-shows_itself old new first held plain met more shown i a is_new h is meets fresh far s =
+shows_itself old new first held plain met more shown i a taken h is meets free_is s =
     let n = held + length new in
     let rest = rest-cons plain i a h is in
     let m = meets s.before s.knows in
-    let free : is_taken first s.before a ≡ false = no_taken (nat_lt a first) (among a s.before) (le-ltb a first far) (not_true (among a s.before) (sym m.1 ∙ fresh)) in
+    let free : is_taken first s.before a ≡ false = sym m.1 ∙ free_is in
     let made : roots_apart first n s.before (drop i plain) ≡ a ∷ roots_apart first n (a ∷ s.before) (drop (i + 1) plain) =
     ap (roots_apart first n s.before) rest
     ∙ ap (λ (b : Bool). if b then (n + 1) ∷ roots_apart first (n + 2) (a ∷ s.before) (drop (i + 1) plain) else a ∷ roots_apart first n (a ∷ s.before) (drop (i + 1) plain)) free in
@@ -66,25 +71,18 @@ shows_itself old new first held plain met more shown i a is_new h is meets fresh
       nodes = ap (λ (xs : List Node). map node_view new ++ xs) (sym none) ∙ s.nodes;
       roots = append_assoc shown (a ∷ []) (roots_apart first n (a ∷ s.before) (drop (i + 1) plain)) ∙ ap (λ (xs : List ℕ). shown ++ xs) (sym made) ∙ s.roots;
       room = let all = ap (λ (xs : List ℕ). length xs) rest in let small = s.room in omega (arith, all, small);
-    } where
-      not_true : (b : Bool) → not b ≡ true → b ≡ false
-      not_true true e = absurd (cc e)
-      not_true false e = refl
-
-      no_taken : (a b : Bool) → a ≡ false → b ≡ false → (a || b) ≡ false
-      no_taken a b p q = rw (p, q) refl
+    }
 
 -- an output whose node is taken
-pub shows_through : (old new next : List Kind) (first held : ℕ) (plain : List ℕ) (met more : BTreeSet ℕ) (shown : List ℕ) (i a root : ℕ) (is_new : Bool) → i < length plain
-    → a ≡ slice_index_or plain i a → ((before : List ℕ) → Knows met before → Knows more (a ∷ before) × (is_new ≡ not (among a before)))
-    → ((before : List ℕ) → is_new ≡ not (among a before) → is_taken first before a ≡ true)
+pub shows_through : (old new next : List Kind) (first held : ℕ) (plain : List ℕ) (met more : BTreeSet ℕ) (shown : List ℕ) (i a root : ℕ) (taken_is : Bool) → i < length plain
+    → a ≡ slice_index_or plain i a → ((before : List ℕ) → Knows met before → Knows more (a ∷ before) × (taken_is ≡ is_taken first before a)) → taken_is ≡ true
     → next ≡ new ++ kind.Inv a ∷ kind.Inv (held + length new) ∷ [] → root ≡ held + length new + 1
     → Shows old new first held plain met shown i → Shows old next first held plain more (shown ++ root ∷ []) (i + 1)
-shows_through old new next first held plain met more shown i a root is_new h is meets test is_next is_root s =
+shows_through old new next first held plain met more shown i a root taken_is h is meets test is_next is_root s =
     let n = held + length new in
     let rest = rest-cons plain i a h is in
     let m = meets s.before s.knows in
-    let taken : is_taken first s.before a ≡ true = test s.before m.1 in
+    let taken : is_taken first s.before a ≡ true = sym m.1 ∙ test in
     let longer : length next ≡ length new + 2 = ap (λ (xs : List Kind). length xs) is_next ∙ length-append new (kind.Inv a ∷ kind.Inv n ∷ []) in
     let place : n + 2 ≡ held + length next = omega (arith, longer) in
     let made : roots_apart first n s.before (drop i plain) ≡ root ∷ roots_apart first (held + length next) (a ∷ s.before) (drop (i + 1) plain) =
@@ -108,17 +106,6 @@ shows_through old new next first held plain met more shown i a root is_new h is 
           append_assoc shown (root ∷ []) (roots_apart first (held + length next) (a ∷ s.before) (drop (i + 1) plain)) ∙ ap (λ (xs : List ℕ). shown ++ xs) (sym made) ∙ s.roots;
       room = let all = ap (λ (xs : List ℕ). length xs) rest in let small = s.room in omega (arith, all, small, longer);
     }
-
--- what makes a node taken
-pub taken_met : (first a : ℕ) (is_new : Bool) → is_new ≡ false → (before : List ℕ) → is_new ≡ not (among a before) → is_taken first before a ≡ true
-taken_met first a is_new old before is = by (nat_lt a first) (among a before) (sym old ∙ is) where
-  by : (b c : Bool) → false ≡ not c → (b || c) ≡ true
-  by true c e = refl
-  by false true e = refl
-  by false false e = absurd (cc e)
-
-pub taken_input : (first a : ℕ) (is_new : Bool) → a < first → (before : List ℕ) → is_new ≡ not (among a before) → is_taken first before a ≡ true
-taken_input first a is_new low before is = rw (lt-ltb a first low) refl
 
 pub shows_end : (old new : List Kind) (first held : ℕ) (plain : List ℕ) (met : BTreeSet ℕ) (shown : List ℕ) (i : ℕ) → drop i plain ≡ [] → Shows old new first held plain met shown i
     → ShowsBehind old new first held plain shown

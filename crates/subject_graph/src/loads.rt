@@ -1,6 +1,6 @@
 // The numbers of what registers load.
-ghost use Rattle.std.specs.Prelude.{◌≡◌, ◌+◌, ◌-◌, ◌<◌, ◌≤◌, length, map, IfOk};
-ghost use Rattle.bool_expr.specs.Expression.{size_of};
+ghost use Rattle.std.specs.Prelude.{◌≡◌, ◌+◌, ◌-◌, ◌<◌, ◌≤◌, ◌↔◌, true, length, map, IsTrue, IfOk};
+ghost use Rattle.bool_expr.specs.Expression.{constant, size_of};
 ghost use Rattle.bool_expr.specs.View.{view};
 ghost use Rattle.machine_core.specs.View.{register_view};
 ghost use Rattle.subject_table.specs.View.{end_of};
@@ -11,6 +11,16 @@ use bool_expr::Expr;
 use machine_meaning::Register;
 use std::alloc::{AllocError, Global};
 use subject_table::Table;
+
+/// Whether an expression is the constant 1.
+fn is_one(e: &Expr) -> bool
+    ensures { IsTrue result ↔ (view e.now ≡ constant true) }
+{
+    match e {
+        Expr::Const(bit) => *bit,
+        _ => false,
+    }
+}
 
 /// The number of what a register loads: its next bit where it always loads, else that or its own bit, by its enable.
 fn load_number(
@@ -26,7 +36,7 @@ fn load_number(
     ensures { IfOk result (λ r. Adds table.old table.new (4 + (size_of (view register.now.next) + size_of (view register.now.enable)))
         (λ v. load_value (register_view register.now) (map v numbers.now) (v own)) r) }
 {
-    if let Expr::Const(true) = register.enable {
+    if is_one(&register.enable) {
         return table.expr(&register.next, numbers);
     }
     let enable = table.expr(&register.enable, numbers)?;

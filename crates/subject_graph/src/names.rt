@@ -48,6 +48,12 @@ fn number_at(numbers: &[u32], place: Option<usize>) -> u32
     }
 }
 
+fn is_output(port: &Port) -> bool
+    ensures { result ≡ not (is_input port.now.dir) }
+{
+    port.dir == Dir::Out
+}
+
 /// The numbers of the outputs among these ports, in their order. Takes memory for them and, while they are looked up, for
 /// an index of the names.
 pub(crate) fn output_numbers(
@@ -64,10 +70,11 @@ pub(crate) fn output_numbers(
     index.insert_all(names)?;
     let mut found = Vec::new(alloc);
     for port in ports {
-        if port.dir == Dir::Out {
-            let place = index.find(port.name.text.as_bytes(), port.name.bit);
-            found.push(number_at(numbers, place))?;
+        if !is_output(port) {
+            continue;
         }
+        let place = index.find(port.name.text.as_bytes(), port.name.bit);
+        found.push(number_at(numbers, place))?;
     }
     Ok(found)
 }

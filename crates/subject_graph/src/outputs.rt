@@ -2,6 +2,7 @@
 ghost use Rattle.std.specs.Prelude.{◌≡◌, ◌+◌, ◌*◌, ◌^◌, ◌<◌, ◌≤◌, ◌++◌, ◌∷◌, [], not, length, List, ℕ, IfOk, OnOk};
 ghost use Rattle.bool_expr.specs.Support.{Knows, among};
 ghost use Rattle.subject_table.specs.declared.table.Node.TheVariants as kind;
+ghost use Rattle.subject_graph.specs.Subject.{is_taken as is_taken_by};
 ghost use Rattle.subject_graph.specs.Stages.{ShowsBehind};
 
 use std::alloc::{AllocError, Global};
@@ -14,6 +15,16 @@ fn is_first(met: &mut BTreeSet<u32>, number: u32) -> Result<bool, AllocError>
         → Knows met.new (number ∷ before) × (is_new ≡ not (among number before))) }
 {
     Ok(met.insert(number)?)
+}
+
+/// Whether an output can't show its node, which is met: it is one of the inputs, which come first, or it was met before.
+/// Takes memory for the number.
+fn is_taken(met: &mut BTreeSet<u32>, inputs: u32, number: u32) -> Result<bool, AllocError>
+    ensures { IfOk result (λ taken. (before : List ℕ) → Knows met.old before
+        → Knows met.new (number ∷ before) × (taken ≡ is_taken_by inputs before number)) }
+{
+    let is_new = is_first(met, number)?;
+    Ok(number < inputs || !is_new)
 }
 
 /// Puts two inverters behind one another, the first of which reads this node, and answers the number of the second. Takes
@@ -45,11 +56,12 @@ pub(crate) fn shown_numbers(
     let mut met = BTreeSet::new(alloc);
     let mut shown = Vec::new(alloc);
     for number in plain {
-        if is_first(&mut met, *number)? && *number >= inputs {
+        if !is_taken(&mut met, inputs, *number)? {
             shown.push(*number)?;
-        } else {
-            shown.push(push_twice(nodes, held, *number)?)?;
+            continue;
         }
+        let root = push_twice(nodes, held, *number)?;
+        shown.push(root)?;
     }
     Ok(shown)
 }
