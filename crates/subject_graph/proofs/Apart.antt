@@ -8,7 +8,7 @@ use Rattle.net_theory.specs.Sources.{IsNumber}
 use Rattle.net_theory.proofs.Basics.{number_in}
 use Rattle.graph_theory.specs.Graph.{Node, fixed, inv, nand, node_bit, grown, is_logic, is_fixed, EachReadsEarlier}
 use Rattle.graph_theory.proofs.Values.{bit-left, bit-right, grown_keeps}
-use Rattle.graph_theory.proofs.Ordered.{count_by-append}
+use Rattle.subject_table.proofs.Shared.{count-first}
 use Rattle.subject_table.specs.Grows.{AreBelow}
 use Rattle.subject_table.proofs.Operators.{same_numbers}
 use Rattle.subject_graph.specs.Subject.{is_taken, roots_apart, inverters_apart}
@@ -167,10 +167,6 @@ number_apart (x ∷ xs) apart zero zero a p q = refl
 number_apart (x ∷ xs) apart zero (suc k) a p q = absurd (apart.0 (subst (λ (y : ℕ). In y xs) p (number_in xs k a q)))
 number_apart (x ∷ xs) apart (suc j) zero a p q = absurd (apart.0 (subst (λ (y : ℕ). In y xs) q (number_in xs j a p)))
 number_apart (x ∷ xs) apart (suc j) (suc k) a p q = ap suc (number_apart xs apart.1 j k a p q)
-
--- a count, from the first on
-pub count-first : {A : Type 0} (p : A → Bool) (x : A) (xs : List A) → count_by p (x ∷ xs) ≡ count_by p (x ∷ []) + count_by p xs
-count-first p x xs = count_by-append p (x ∷ []) xs
 
 pub further_logic : (first n : ℕ) (before plain : List ℕ) → count_by is_logic (inverters_apart first n before plain) ≤ 2 * length plain
 further_logic first n before [] = omega arith

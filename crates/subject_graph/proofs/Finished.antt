@@ -17,10 +17,11 @@ use Rattle.subject_table.specs.View.{node_view, kinds, end_of}
 use Rattle.subject_table.specs.Grows.{AreBelow, AreSorted}
 use Rattle.subject_table.proofs.Tables.{node_eq}
 use Rattle.subject_table.proofs.Operators.{same_numbers}
-use Rattle.subject_graph.specs.Subject.{IsNumberable, IsSubjectGraph, AreShared, roots_apart, inverters_apart}
+use Rattle.subject_table.specs.Shared.{AreShared}
+use Rattle.subject_graph.specs.Subject.{IsNumberable, IsSubjectGraph, roots_apart, inverters_apart}
 use Rattle.subject_graph.specs.Stages.{IsRooted, ShowsBehind}
 use Rattle.subject_graph.proofs.Apart.{length_roots, shown_values, further_reads, roots_are, roots_differ, number_apart, further_logic, further_fixed}
-use Rattle.subject_graph.proofs.Shared.{are_shared, constant_once, all_kinds}
+use Rattle.subject_table.proofs.Shared.{are_shared, constant_once, all_kinds}
 
 grown-append : (w : List Bool) (xs ys : List Node) → grown w (xs ++ ys) ≡ grown (grown w xs) ys
 grown-append w [] ys = refl

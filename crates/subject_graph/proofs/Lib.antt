@@ -1,5 +1,4 @@
 pub mod Apart
-pub mod Shared
 pub mod Finished
 pub mod Rooted
 pub mod Looking

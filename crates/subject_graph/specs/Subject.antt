@@ -1,25 +1,14 @@
 -- The subject graph of a machine: its nodes are shared, and its outputs show different nodes.
-use Rattle.std.specs.Prelude.{◌≡◌, ◌⊎◌, ℕ, ◌+◌, ◌^◌, ◌<◌, Bool, ◌||◌, nat_lt, List, [], ◌∷◌, ◌++◌, length, if◌then◌else◌}
+use Rattle.std.specs.Prelude.{◌≡◌, ℕ, ◌+◌, ◌^◌, ◌<◌, Bool, ◌||◌, nat_lt, List, [], ◌∷◌, ◌++◌, length, if◌then◌else◌}
 use Rattle.bool_expr.specs.Support.{among}
 use Rattle.machine_meaning.specs.Machine.{Machine, inputs}
 use Rattle.machine_meaning.specs.Size.{machine_size}
-use Rattle.net_theory.specs.Sources.{IsNumber}
-use Rattle.graph_theory.specs.Graph.{Node, fixed, inv, nand, Graph, held_count, IsGraphOf, IsApart, IsSmall}
+use Rattle.graph_theory.specs.Graph.{Node, inv, Graph, held_count, IsGraphOf, IsApart, IsSmall}
+use Rattle.subject_table.specs.Shared.{AreShared}
 
 -- inputs, registers and nodes of logic, with the two constants, are fewer than 2^32
 abbrev pub IsNumberable : Machine → Type 0
 IsNumberable m = held_count m + machine_size m + 2 < 2 ^ 32
-
--- the nodes are of one kind and have the same sons; those of a gate have no order
-abbrev pub IsSameNode : Node → Node → Type 0
-IsSameNode (fixed b) (fixed c) = b ≡ c
-IsSameNode (inv a) (inv c) = a ≡ c
-IsSameNode (nand a b) (nand c d) = ((a ≡ c) × (b ≡ d)) ⊎ ((a ≡ d) × (b ≡ c))
-IsSameNode _ _ = ⊥
-
--- no two nodes of the list are the same
-abbrev pub AreShared : List Node → Type 0
-AreShared nodes = (j k : ℕ) (x y : Node) → IsNumber nodes j x → IsNumber nodes k y → IsSameNode x y → j ≡ k
 
 -- an output's node that an output can't show: an input, or the node of an output before
 abbrev pub is_taken : ℕ → List ℕ → ℕ → Bool

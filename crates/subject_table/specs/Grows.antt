@@ -1,5 +1,5 @@
 -- How a table of nodes grows.
-use Rattle.std.specs.Prelude.{◌≡◌, ℕ, ◌+◌, ◌<◌, ◌≤◌, Bool, not, ◌&&◌, List, [], ◌∷◌, ◌++◌, map, length, count_by}
+use Rattle.std.specs.Prelude.{◌≡◌, ℕ, ◌+◌, ◌^◌, ◌<◌, ◌≤◌, Bool, not, ◌&&◌, List, [], ◌∷◌, ◌++◌, map, length, count_by}
 use Rattle.bool_expr.specs.Expression.{bit, size_of}
 use Rattle.machine_meaning.specs.Machine.{Equation}
 use Rattle.machine_core.specs.Built.{built}
@@ -33,6 +33,10 @@ pub record IsNode (t : Table) (r : ℕ) (kind : Node) : Type 0 where
 -- the bit of number r
 abbrev pub value : Table → List Bool → ℕ → Bool
 value t w r = bit (grown w (kinds t)) r
+
+-- the numbers of n more nodes of logic, and of the two constants, are below 2^32
+abbrev pub HasRoom : Table → ℕ → Type 0
+HasRoom t n = t.held + count_by is_logic (kinds t) + n + 2 < 2 ^ 32
 
 -- a number of a known bit
 abbrev pub IsKnown : Table → ℕ → Bool → Type 0

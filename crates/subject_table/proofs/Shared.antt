@@ -1,5 +1,5 @@
 -- Nodes that stand in a table once.
-use Rattle.std.proofs.Common.{◌≡◌, ◌⊎◌, inl, inr, ℕ, zero, suc, ◌+◌, ◌<◌, ◌≤◌, Bool, true, false, ◌&&◌, ◌==◌, List, [], ◌∷◌, map, length, refl, sym, ◌∙◌, ap, subst, arith, count_by}
+use Rattle.std.proofs.Common.{◌≡◌, ◌⊎◌, inl, inr, ℕ, zero, suc, ◌+◌, ◌^◌, ◌<◌, ◌≤◌, Bool, true, false, ◌&&◌, ◌==◌, List, [], ◌∷◌, map, length, refl, sym, ◌∙◌, ap, subst, arith, count_by}
 use Rattle.std.specs.List.{IsDistinct, AllByRecursion}
 use Rattle.std.proofs.lemmas.Bool.{eq-eqb}
 use Rattle.std.proofs.lemmas.Map.Keys.{IsDistinct-head, IsDistinct-tail}
@@ -10,9 +10,16 @@ use Rattle.subject_table.specs.declared.table.Node.{Node as Kind}
 use Rattle.subject_table.specs.declared.table.Node.TheVariants as kind
 use Rattle.subject_table.specs.View.{node_view}
 use Rattle.subject_table.specs.Grows.{HasSortedSons, AreSorted}
-use Rattle.subject_table.proofs.Tables.{node_eq}
-use Rattle.subject_graph.specs.Subject.{IsSameNode, AreShared}
-use Rattle.subject_graph.proofs.Apart.{count-first}
+use Rattle.subject_table.proofs.Tables.{node_eq, IsGrown}
+use Rattle.subject_table.specs.declared.table.Table.{Table}
+use Rattle.subject_table.specs.View.{kinds}
+use Rattle.subject_table.specs.Grows.{HasRoom, Adds, logic_cost}
+use Rattle.subject_table.specs.Shared.{IsSameNode, AreShared}
+use Rattle.graph_theory.proofs.Ordered.{count_by-append}
+
+-- a count, from the first on
+pub count-first : {A : Type 0} (p : A → Bool) (x : A) (xs : List A) → count_by p (x ∷ xs) ≡ count_by p (x ∷ []) + count_by p xs
+count-first p x xs = count_by-append p (x ∷ []) xs
 
 -- the derived test passes of one node
 bool_same : (b : Bool) → bool_eq.ghosts.eq b b ≡ true
@@ -142,3 +149,29 @@ all_kinds (x ∷ nodes) =
     let b = count-first (is_fixed false) x nodes in
     let d = count-first (is_fixed true) x nodes in
     omega (arith, rest, one, a, b, d)
+
+-- logic, and each constant at most once
+pub few_nodes : (keys : List Kind) → IsDistinct node_eq keys → AreSorted (map node_view keys) → length (map node_view keys) ≤ count_by is_logic (map node_view keys) + 2
+few_nodes keys distinct sorted =
+    let once = are_shared keys distinct sorted in
+    let all = all_kinds (map node_view keys) in
+    let zero_once = constant_once false (map node_view keys) once in
+    let one_once = constant_once true (map node_view keys) once in
+    omega (arith, all, zero_once, one_once)
+
+length-views : (keys : List Kind) → length (map node_view keys) ≡ length keys
+length-views [] = refl
+length-views (x ∷ keys) = let h = length-views keys in omega (arith, h)
+
+-- a node that is added has a number
+pub number_fits : (t : Table) (new : List Kind) (k : Kind) (place : ℕ) → HasRoom t (logic_cost (node_view k)) → IsGrown t.held (kinds t) (map node_view new) (node_view k)
+    → IsDistinct node_eq new → place < length new → t.held + place < 2 ^ 32
+number_fits t new k place room g distinct within =
+    let few = few_nodes new distinct g.sorted in
+    let cost = g.cost in
+    let size = length-views new in
+    omega (arith, room, few, cost, size, within)
+
+-- what is left of the room
+pub room_grows : (t u : Table) (n q k r : ℕ) (f : (ℕ → Bool) → Bool) → Adds t u n f r → HasRoom t q → n + k ≤ q → HasRoom u k
+room_grows t u n q k r f a room fits = let held = a.held in let cost = a.cost in omega (arith, held, cost, room, fits)
