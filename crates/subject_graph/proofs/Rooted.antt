@@ -25,14 +25,14 @@ use Rattle.subject_table.proofs.Roots.{table_is_graph}
 use Rattle.subject_graph.specs.Stages.{IsSolved, IsNumberOf, load_value, load_weight, Loads, IsRooted}
 
 -- sizes, from the first on
-weight_is : (equations : List Equation) → sum_by (λ (e : Equation). size_of e.expr) equations ≡ weight equations
+pub weight_is : (equations : List Equation) → sum_by (λ (e : Equation). size_of e.expr) equations ≡ weight equations
 weight_is [] = refl
 weight_is (e ∷ rest) =
     let parts = sum_by-append (λ (x : Equation). size_of x.expr) (e ∷ []) rest in
     let h = weight_is rest in
     omega (arith, parts, h)
 
-load_weight_is : (registers : List Register)
+pub load_weight_is : (registers : List Register)
     → load_weight registers ≡ sum_by (λ (r : Register). size_of r.next + size_of r.enable) registers + 4 * length registers
 load_weight_is [] = refl
 load_weight_is (r ∷ rest) =

@@ -22,10 +22,12 @@ use Rattle.graph_theory.specs.Graph.{Node, grown, is_logic, held_count}
 use Rattle.graph_theory.proofs.Shown.{In-split}
 use Rattle.subject_table.specs.declared.table.Table.{Table}
 use Rattle.subject_table.specs.View.{kinds, end_of}
-use Rattle.subject_table.specs.Grows.{AreBelow, value, weight, Solves}
-use Rattle.subject_graph.specs.Stages.{IsSolved, IsNumberOf, LoadsOver, EachLoadsOver}
+use Rattle.subject_table.specs.Grows.{HasRoom, value, weight, Solves}
+use Rattle.subject_graph.specs.Subject.{IsNumberable}
+use Rattle.subject_graph.specs.Stages.{IsSolved, IsNumberOf, LoadsOver, EachLoadsOver, Loads, load_size, load_weight}
 use Rattle.subject_graph.proofs.Loading.{number_more}
 use Rattle.subject_graph.proofs.Looking.{Found}
+use Rattle.subject_graph.proofs.Rooted.{weight_is, load_weight_is}
 
 pub number_get : (xs : List ℕ) (k : ℕ) → k < length xs → IsNumber xs k (get_or xs k 0)
 number_get [] k h = absurd (omega arith)
@@ -172,3 +174,37 @@ pub place_number : (o : Option ℕ) (places : NamePlaces) (names : List Name) (n
     → IsSomeAnd o (λ j. IsNumber numbers j a) → IsNumberOf names numbers name a
 place_number o places names numbers name a is f h =
     (f.place, f.stands, subst (λ (x : Option ℕ). IsSomeAnd x (λ j. IsNumber numbers j a)) (is ∙ f.is) h)
+
+-- there is room for the equations, and behind them for what registers load
+pub equations_fit : (m : Machine) (t : Table) (es : List EquationParts) (n : ℕ) → IsNumberable m → n ≡ held_count m → t.held ≡ n → kinds t ≡ [] → map equation_view es ≡ m.equations
+    → HasRoom t (weight (map equation_view es))
+equations_fit m t es n small is_n held none is_es =
+    let zero_logic : count_by is_logic (kinds t) ≡ 0 = ap (count_by is_logic) none in
+    let all : weight (map equation_view es) ≡ weight m.equations = ap weight is_es in
+    let size = weight_is m.equations in
+    omega (arith, small, is_n, held, zero_logic, all, size)
+
+pub loads_fit : (m : Machine) (t : Table) (numbers : List ℕ) (registers : List RegisterParts) → IsNumberable m → IsSolved m t numbers → map register_view registers ≡ m.registers
+    → HasRoom t (load_weight (map register_view registers))
+loads_fit m t numbers registers small s is =
+    let held = s.held in
+    let cost = s.cost in
+    let all : load_weight (map register_view registers) ≡ load_weight m.registers = ap load_weight is in
+    let equations = weight_is m.equations in
+    let rest = load_weight_is m.registers in
+    omega (arith, small, held, cost, all, equations, rest)
+
+part_weighs : (registers : List RegisterParts) (k : ℕ) (r : RegisterParts) → k < length registers → r ≡ slice_index_or registers k r
+    → load_weight (map register_view (take k registers)) + load_size (register_view r) ≤ load_weight (map register_view registers)
+part_weighs [] k r h is = absurd (omega arith)
+part_weighs (q ∷ registers) zero r h is =
+    let same : load_size (register_view r) ≡ load_size (register_view q) = ap (λ (x : RegisterParts). load_size (register_view x)) is in omega (arith, same)
+part_weighs (q ∷ registers) (suc k) r h is = let rest = part_weighs registers k r (omega arith) is in omega (arith, rest)
+
+pub one_fits : (t u : Table) (numbers : List ℕ) (first : ℕ) (registers : List RegisterParts) (loads : List ℕ) (k : ℕ) (r : RegisterParts) → k < length registers → r ≡ slice_index_or registers k r
+    → HasRoom t (load_weight (map register_view registers)) → Loads t u numbers first (map register_view (take k registers)) loads → HasRoom u (load_size (register_view r))
+one_fits t u numbers first registers loads k r h is room l =
+    let held = l.held in
+    let cost = l.cost in
+    let part = part_weighs registers k r h is in
+    omega (arith, held, cost, part, room)

@@ -32,9 +32,12 @@ abbrev pub load_value : Register → List Bool → Bool → Bool
 load_value r w own = if val r.enable w then val r.next w else own
 
 -- at most how much of logic that is, and that of all of these registers
+abbrev pub load_size : Register → ℕ
+load_size r = 4 + (size_of r.next + size_of r.enable)
+
 abbrev pub load_weight : List Register → ℕ
 load_weight [] = 0
-load_weight (r ∷ rest) = 4 + (size_of r.next + size_of r.enable) + load_weight rest
+load_weight (r ∷ rest) = load_size r + load_weight rest
 
 -- what a register loads reads n names
 abbrev pub LoadsOver : ℕ → Register → Type 0

@@ -1,11 +1,11 @@
 // The numbers of what registers load.
-ghost use Rattle.std.specs.Prelude.{◌≡◌, ◌+◌, ◌-◌, ◌<◌, ◌≤◌, ◌↔◌, true, length, map, IsTrue, IfOk};
-ghost use Rattle.bool_expr.specs.Expression.{constant, size_of};
+ghost use Rattle.std.specs.Prelude.{◌≡◌, ◌-◌, ◌<◌, ◌≤◌, ◌↔◌, true, length, map, IsTrue, IfOk};
+ghost use Rattle.bool_expr.specs.Expression.{constant};
 ghost use Rattle.bool_expr.specs.View.{view};
 ghost use Rattle.machine_core.specs.View.{register_view};
 ghost use Rattle.subject_table.specs.View.{end_of};
-ghost use Rattle.subject_table.specs.Grows.{IsSound, AreBelow, Adds};
-ghost use Rattle.subject_graph.specs.Stages.{LoadsOver, EachLoadsOver, Loads, load_value};
+ghost use Rattle.subject_table.specs.Grows.{IsSound, HasRoom, AreBelow, Adds};
+ghost use Rattle.subject_graph.specs.Stages.{LoadsOver, EachLoadsOver, Loads, load_value, load_size, load_weight};
 
 use bool_expr::Expr;
 use machine_meaning::Register;
@@ -33,7 +33,8 @@ fn load_number(
     requires known { AreBelow (end_of table.now) numbers.now }
     requires own { own < end_of table.now }
     requires over { LoadsOver (length numbers.now) (register_view register.now) }
-    ensures { IfOk result (λ r. Adds table.old table.new (4 + (size_of (view register.now.next) + size_of (view register.now.enable)))
+    requires room { HasRoom table.now (load_size (register_view register.now)) }
+    ensures { IfOk result (λ r. Adds table.old table.new (load_size (register_view register.now))
         (λ v. load_value (register_view register.now) (map v numbers.now) (v own)) r) }
 {
     if is_one(&register.enable) {
@@ -56,6 +57,7 @@ pub(crate) fn load_numbers(
     requires known { AreBelow (end_of table.now) numbers.now }
     requires held { length registers.now ≤ table.now.held }
     requires over { EachLoadsOver (length numbers.now) (map register_view registers.now) }
+    requires room { HasRoom table.now (load_weight (map register_view registers.now)) }
     ensures { IfOk result (λ v. Loads table.old table.new numbers.now (table.old.held - length registers.now)
         (map register_view registers.now) v.items) }
 {

@@ -5,7 +5,7 @@ use Rattle.vlsi_base.specs.Member.{In}
 use Rattle.machine_meaning.specs.Machine.{is_input, names_of}
 use Rattle.machine_core.specs.View.{register_view}
 use Rattle.subject_graph.proofs.Rooted.{rooted_from}
-use Rattle.subject_graph.proofs.Solving.{as_many, outputs_named, over_names}
+use Rattle.subject_graph.proofs.Solving.{as_many, loads_fit, outputs_named, over_names}
 use Rattle.subject_graph.proofs.roots.make_rooted.Goals as goal
 
 pub output_numbers-requires-clause-count : goal.output_numbers-requires-clause-count
@@ -27,6 +27,11 @@ load_numbers-requires-clause-over c =
     let size =
     ap (λ (xs : List ℕ). length xs) c.deref-2.ensures.value ∙ as_many c.args.m.now c.in_ok-table.table c.in_ok-table.numbers.items c.vars.ensures.checked c.in_ok-table.ensures in
     over_names c.args.m.now c.as_slice-2.result.now (length c.deref-2.result.now) c.vars.ensures.checked registers size
+
+pub load_numbers-requires-clause-room : goal.load_numbers-requires-clause-room
+load_numbers-requires-clause-room c =
+    let registers = ap (map register_view) c.as_slice-2.ensures ∙ c.registers.ensures.value in
+    loads_fit c.args.m.now c.in_ok-table.table c.in_ok-table.numbers.items c.as_slice-2.result.now c.requires c.in_ok-table.ensures registers
 
 pub returns : goal.returns
 returns c =
