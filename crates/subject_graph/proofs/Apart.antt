@@ -1,12 +1,12 @@
 -- Outputs that are shown through further inverters.
-use Rattle.std.proofs.Common.{◌≡◌, ◌⊎◌, inl, inr, ℕ, zero, suc, ◌+◌, ◌*◌, ◌<◌, ◌≤◌, Bool, true, false, not, ◌||◌, ◌==◌, List, [], ◌∷◌, ◌++◌, map, length, refl, sym, ◌∙◌, ap, subst, arith, length-append, count_by, if◌then◌else◌, eqb-true, nat_lt}
+use Rattle.std.proofs.Common.{◌≡◌, ◌⊎◌, inl, inr, ℕ, zero, suc, ◌+◌, ◌*◌, ◌<◌, ◌≤◌, Bool, true, false, not, ◌||◌, ◌==◌, List, [], ◌∷◌, ◌++◌, map, length, refl, sym, ◌∙◌, ap, subst, arith, length-append, count_by, if◌then◌else◌, nat_lt}
 use Rattle.std.proofs.lemmas.Bool.{eq-eqb, ltb-false}
 use Rattle.bool_expr.specs.Expression.{bit}
 use Rattle.bool_expr.specs.Support.{among}
 use Rattle.vlsi_base.specs.Member.{In, here, there, AllDifferent}
 use Rattle.net_theory.specs.Sources.{IsNumber}
 use Rattle.net_theory.proofs.Basics.{number_in}
-use Rattle.graph_theory.specs.Graph.{Node, fixed, inv, nand, node_bit, grown, is_logic, is_fixed, EachReadsEarlier}
+use Rattle.graph_theory.specs.Graph.{Node, inv, grown, is_logic, is_fixed, EachReadsEarlier}
 use Rattle.graph_theory.proofs.Values.{bit-left, bit-right, grown_keeps}
 use Rattle.subject_table.proofs.Shared.{count-first}
 use Rattle.subject_table.specs.Grows.{AreBelow}

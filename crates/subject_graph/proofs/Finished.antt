@@ -1,20 +1,18 @@
 -- A table with its roots, and the further inverters of outputs, are a subject graph.
-use Rattle.std.proofs.Common.{◌≡◌, ℕ, zero, suc, ◌+◌, ◌-◌, ◌*◌, ◌^◌, ◌<◌, ◌≤◌, Bool, false, true, List, [], ◌∷◌, ◌++◌, map, length, refl, sym, ◌∙◌, ap, subst, arith, length-append, count_by}
+use Rattle.std.proofs.Common.{◌≡◌, ℕ, suc, ◌+◌, ◌-◌, ◌*◌, ◌^◌, ◌<◌, ◌≤◌, Bool, false, true, List, [], ◌∷◌, ◌++◌, map, length, refl, sym, ◌∙◌, ap, subst, arith, length-append}
 use Rattle.std.specs.List.{IsDistinct}
 use Rattle.bool_expr.specs.Expression.{bit}
-use Rattle.vlsi_base.specs.Member.{In}
-use Rattle.machine_meaning.specs.Machine.{Machine, inputs, outputs, register_names}
+use Rattle.machine_meaning.specs.Machine.{Machine, inputs, register_names}
 use Rattle.machine_meaning.specs.Named.{value_at}
 use Rattle.machine_meaning.specs.Cycles.{Settles, outs, next}
-use Rattle.net_theory.specs.Sources.{IsNumber}
 use Rattle.net_theory.proofs.Basics.{length-map, number_in}
-use Rattle.graph_theory.specs.Graph.{Node, Graph, grown, node_bit, is_logic, is_fixed, held_count, EachReadsEarlier, IsGraphOf, IsApart, IsSmall}
+use Rattle.graph_theory.specs.Graph.{Node, Graph, grown, node_bit, is_logic, is_fixed, held_count, EachReadsEarlier, IsApart, IsSmall}
 use Rattle.graph_theory.proofs.Values.{grown_keeps}
 use Rattle.graph_theory.proofs.Ordered.{count_by-append}
 use Rattle.subject_table.specs.declared.table.Node.{Node as Kind}
 use Rattle.subject_table.specs.declared.table.Table.{Table}
 use Rattle.subject_table.specs.View.{node_view, kinds, end_of}
-use Rattle.subject_table.specs.Grows.{AreBelow, AreSorted}
+use Rattle.subject_table.specs.Grows.{AreBelow}
 use Rattle.subject_table.proofs.Tables.{node_eq}
 use Rattle.subject_table.proofs.Operators.{same_numbers}
 use Rattle.subject_table.specs.Shared.{AreShared}

@@ -1,16 +1,16 @@
 -- What registers load, one after another.
-use Rattle.std.proofs.Common.{◌≡◌, ◌⊎◌, inl, inr, ℕ, zero, suc, ◌+◌, ◌-◌, ◌<◌, ◌≤◌, Bool, true, List, [], ◌∷◌, ◌++◌, map, length, take, refl, sym, ◌∙◌, ap, subst, arith, append_assoc, append-nil, length-append, count_by, if◌then◌else◌}
+use Rattle.std.proofs.Common.{◌≡◌, ◌⊎◌, inl, inr, ℕ, zero, suc, ◌+◌, ◌<◌, ◌≤◌, Bool, true, List, [], ◌∷◌, ◌++◌, map, length, refl, sym, ◌∙◌, ap, subst, arith, append_assoc, append-nil, length-append, if◌then◌else◌}
 use Rattle.bool_expr.specs.Expression.{Expression, constant, val, size_of}
 use Rattle.vlsi_base.specs.Member.{In, here, there}
 use Rattle.machine_meaning.specs.Machine.{Register}
 use Rattle.net_theory.specs.Sources.{IsNumber}
 use Rattle.net_theory.proofs.Basics.{number_below, number_in}
-use Rattle.graph_theory.specs.Graph.{Node, is_logic}
+use Rattle.graph_theory.specs.Graph.{Node}
 use Rattle.graph_theory.proofs.Shown.{In-split}
 use Rattle.subject_table.specs.declared.table.Table.{Table}
 use Rattle.subject_table.specs.View.{kinds, end_of}
 use Rattle.subject_table.specs.Grows.{IsSound, AreBelow, value, Adds}
-use Rattle.subject_table.proofs.Tables.{also, follow, kept, end_grows}
+use Rattle.subject_table.proofs.Tables.{also, follow, kept}
 use Rattle.subject_table.proofs.Operators.{still, still_value, below_grows, same_numbers}
 use Rattle.subject_graph.specs.Stages.{load_value, load_weight, Loads}
 

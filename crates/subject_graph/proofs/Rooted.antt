@@ -1,11 +1,11 @@
 -- The stages of a machine's table make a graph.
-use Rattle.std.proofs.Common.{◌≡◌, ◌⊎◌, inl, inr, ℕ, zero, suc, ◌+◌, ◌*◌, ◌-◌, ◌<◌, ◌≤◌, Bool, List, [], ◌∷◌, ◌++◌, map, length, refl, sym, ◌∙◌, ap, subst, arith, length-append, count_by, if◌then◌else◌, filter, not}
+use Rattle.std.proofs.Common.{◌≡◌, ℕ, zero, suc, ◌+◌, ◌*◌, ◌-◌, ◌<◌, ◌≤◌, Bool, List, [], ◌∷◌, map, length, refl, sym, ◌∙◌, ap, subst, arith, length-append, count_by, filter, not}
 use Rattle.std.specs.List.{AllZip, sum_by}
 use Rattle.std.proofs.lemmas.List.Sums.{sum_by-append}
 use Rattle.vlsi_base.specs.declared.name.Name.{Name}
 use Rattle.vlsi_base.specs.declared.name.Port.{Port}
 use Rattle.vlsi_base.specs.Member.{In, here, there}
-use Rattle.bool_expr.specs.Expression.{val, size_of}
+use Rattle.bool_expr.specs.Expression.{size_of}
 use Rattle.machine_meaning.specs.Machine.{Machine, Equation, Register, inputs, outputs, names_of, is_input}
 use Rattle.machine_meaning.specs.declared.equation.Register.{Register as RegisterParts}
 use Rattle.machine_core.specs.View.{register_view}
@@ -14,10 +14,10 @@ use Rattle.machine_core.specs.Built.{built}
 use Rattle.machine_core.specs.Checked.{IsChecked}
 use Rattle.net_theory.specs.Sources.{IsNumber}
 use Rattle.net_theory.proofs.Basics.{number_in, number_below, length-map}
-use Rattle.graph_theory.specs.Graph.{Node, is_logic, held_count, IsGraphOf}
+use Rattle.graph_theory.specs.Graph.{Node, is_logic, held_count}
 use Rattle.subject_table.specs.declared.table.Table.{Table}
 use Rattle.subject_table.specs.View.{kinds, end_of}
-use Rattle.subject_table.specs.Grows.{IsSound, AreBelow, value, weight}
+use Rattle.subject_table.specs.Grows.{AreBelow, value, weight}
 use Rattle.subject_table.specs.Roots.{TakesOutputs, TakesLoads}
 use Rattle.subject_table.proofs.Tables.{kept}
 use Rattle.subject_table.proofs.Operators.{same_numbers}

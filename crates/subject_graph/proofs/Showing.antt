@@ -1,10 +1,9 @@
 -- Outputs that are shown one after another.
-use Rattle.std.proofs.Common.{◌≡◌, ℕ, zero, suc, ◌+◌, ◌*◌, ◌^◌, ◌<◌, ◌≤◌, Bool, true, false, List, [], ◌∷◌, ◌++◌, map, length, drop, refl, sym, ◌∙◌, ap, subst, arith, append_assoc, append-nil, add-one, drop-cons, length-append, if◌then◌else◌}
+use Rattle.std.proofs.Common.{◌≡◌, ℕ, zero, suc, ◌+◌, ◌*◌, ◌^◌, ◌<◌, Bool, true, false, List, [], ◌∷◌, ◌++◌, map, length, drop, refl, sym, ◌∙◌, ap, arith, append_assoc, append-nil, add-one, drop-cons, length-append, if◌then◌else◌}
 use Rattle.std.specs.List.{slice_index_or}
 use Rattle.std.specs.Ordering.{nat_cmp}
 use Rattle.std.specs.BTreeSet.{BTreeSet, contains}
 use Rattle.bool_expr.specs.Support.{Knows}
-use Rattle.net_theory.proofs.Basics.{length-map}
 use Rattle.graph_theory.specs.Graph.{Node, inv}
 use Rattle.subject_table.specs.declared.table.Node.{Node as Kind}
 use Rattle.subject_table.specs.declared.table.Node.TheVariants as kind

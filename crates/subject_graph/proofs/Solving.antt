@@ -1,9 +1,8 @@
 -- The numbers of a machine's names.
-use Rattle.std.proofs.Common.{◌≡◌, ◌⊎◌, inl, inr, ℕ, zero, suc, ◌+◌, ◌-◌, ◌<◌, ◌≤◌, Bool, false, not, List, [], ◌∷◌, ◌++◌, map, length, filter, refl, sym, ◌∙◌, ap, subst, arith, length-append, count_by, get_or, take, IsSomeAnd, Option, Some}
-use Rattle.std.specs.List.{slice_index_or, All}
+use Rattle.std.proofs.Common.{◌≡◌, inl, inr, ℕ, zero, suc, ◌+◌, ◌-◌, ◌<◌, ◌≤◌, Bool, false, List, [], ◌∷◌, ◌++◌, map, length, refl, sym, ◌∙◌, ap, subst, arith, length-append, count_by, get_or, take, IsSomeAnd, Option}
+use Rattle.std.specs.List.{slice_index_or}
 use Rattle.std.specs.FinMap.{get}
 use Rattle.vlsi_base.specs.declared.name.Name.{Name}
-use Rattle.vlsi_base.specs.declared.name.Port.{Port}
 use Rattle.vlsi_base.specs.Member.{In, here, there}
 use Rattle.vlsi_base.specs.NamePlaces.{NamePlaces}
 use Rattle.bool_expr.specs.Expression.{bit, val}
@@ -21,7 +20,7 @@ use Rattle.net_theory.proofs.Basics.{length-map, map_is, listed, length-listed}
 use Rattle.graph_theory.specs.Graph.{Node, grown, is_logic, held_count}
 use Rattle.graph_theory.proofs.Shown.{In-split}
 use Rattle.subject_table.specs.declared.table.Table.{Table}
-use Rattle.subject_table.specs.View.{kinds, end_of}
+use Rattle.subject_table.specs.View.{kinds}
 use Rattle.subject_table.specs.Grows.{HasRoom, value, weight, Solves}
 use Rattle.subject_graph.specs.Subject.{IsNumberable}
 use Rattle.subject_graph.specs.Stages.{IsSolved, IsNumberOf, LoadsOver, EachLoadsOver, Loads, load_size, load_weight}

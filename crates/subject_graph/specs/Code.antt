@@ -1,6 +1,6 @@
 -- Graphs by lists of numbers, by which a proof tells them apart.
-use Rattle.std.specs.Prelude.{◌≡◌, ◌⊎◌, ℕ, Bool, List, [], ◌∷◌, map, refl}
-use Rattle.std.proofs.Common.{◌∙◌, ap, inl, inr}
+use Rattle.std.specs.Prelude.{◌≡◌, ◌⊎◌, ℕ, Bool, List, refl}
+use Rattle.std.proofs.Common.{inl, inr}
 use Rattle.std.specs.Coded.{Coded, code_by, coded×, coded⊎, coded_bool, coded_list, coded_ℕ}
 use Rattle.graph_theory.specs.Graph.{Node, fixed, inv, nand, Graph}
 

@@ -1,9 +1,7 @@
 -- What the stages of a machine's graph give.
 use Rattle.std.specs.Prelude.{◌≡◌, ℕ, ◌+◌, ◌*◌, ◌≤◌, Bool, List, [], ◌∷◌, ◌++◌, map, length, count_by, if◌then◌else◌}
-use Rattle.std.specs.List.{AllZip}
 use Rattle.vlsi_base.specs.declared.name.Name.{Name}
 use Rattle.bool_expr.specs.Expression.{val, size_of, IsOver}
-use Rattle.vlsi_base.specs.Member.{In}
 use Rattle.machine_meaning.specs.Machine.{Machine, Register, outputs}
 use Rattle.machine_meaning.specs.Size.{machine_size}
 use Rattle.machine_core.specs.Built.{built}

@@ -4,7 +4,7 @@ use Rattle.machine_core.specs.View.{register_view}
 use Rattle.subject_table.specs.Grows.{Adds}
 use Rattle.subject_table.proofs.Tables.{on_ok}
 use Rattle.subject_graph.specs.Stages.{load_value}
-use Rattle.subject_graph.proofs.Loading.{always_loads, chooses}
+use Rattle.subject_graph.proofs.Loading.{chooses}
 use Rattle.subject_graph.proofs.loads.load_number.Goals as goal
 
 pub returns : goal.returns

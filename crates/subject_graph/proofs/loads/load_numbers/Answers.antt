@@ -1,4 +1,4 @@
-use Rattle.std.proofs.Common.{◌≡◌, ◌+◌, ◌-◌, arith, length, map, take, sym}
+use Rattle.std.proofs.Common.{◌+◌, ◌-◌, arith, length, map, take}
 use Rattle.machine_core.specs.View.{register_view}
 use Rattle.subject_graph.proofs.Loading.{starts, one_more}
 use Rattle.subject_graph.proofs.Solving.{one_fits, one_over, take_views}

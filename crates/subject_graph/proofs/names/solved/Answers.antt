@@ -1,4 +1,4 @@
-use Rattle.std.proofs.Common.{◌≡◌, ◌∙◌, ◌-◌, ap, arith, length, map, subst, List, ℕ}
+use Rattle.std.proofs.Common.{◌∙◌, ◌-◌, ap, arith, length, map, subst, List, ℕ}
 use Rattle.vlsi_base.specs.Member.{In}
 use Rattle.machine_core.specs.View.{equation_view}
 use Rattle.subject_graph.proofs.Solving.{equations_fit, held_is, reads_below, solved_from, count_below}

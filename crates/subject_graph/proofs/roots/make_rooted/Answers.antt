@@ -1,4 +1,4 @@
-use Rattle.std.proofs.Common.{◌≡◌, ◌∙◌, sym, ap, subst, List, ℕ, length, map, filter, not}
+use Rattle.std.proofs.Common.{◌∙◌, sym, ap, subst, List, ℕ, length, map, filter, not}
 use Rattle.vlsi_base.specs.declared.name.Name.{Name}
 use Rattle.vlsi_base.specs.declared.name.Port.{Port}
 use Rattle.vlsi_base.specs.Member.{In}
