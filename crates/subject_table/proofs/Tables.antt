@@ -15,7 +15,7 @@ use Rattle.subject_table.specs.contracts.table.NodePartialEq.TheImpl as the_eq
 use Rattle.std.specs.contracts.prelude.BoolPartialEq.TheImpl as bool_eq
 use Rattle.subject_table.specs.declared.table.Table.{Table}
 use Rattle.subject_table.specs.View.{node_view, kinds, end_of}
-use Rattle.subject_table.specs.Grows.{IsSound, IsNode, IsKnown, value, node_value, logic_cost, Adds}
+use Rattle.subject_table.specs.Grows.{IsSound, HasSortedSons, AreSorted, IsNode, IsKnown, value, node_value, logic_cost, Adds}
 
 pub number_from_get : {A B : Type 0} (f : A → B) (xs : List A) (k : ℕ) (x : A) → slice_get xs k ≡ Some x → IsNumber (map f xs) k (f x)
 number_from_get f [] k x h = absurd (cc h)
@@ -34,14 +34,25 @@ reads_append n (x ∷ xs) k each reads =
     let e : n + suc (length xs) ≡ n + 1 + length xs = omega arith in
     (each.0, reads_append (n + 1) xs k each.1 (let P : ℕ → Type 0 = λ c. ReadsBelow c k in subst P e reads))
 
+sorted_append : (xs : List Node) (k : Node) → AreSorted xs → HasSortedSons k → AreSorted (xs ++ k ∷ [])
+sorted_append [] k each sons = (sons, tt)
+sorted_append (x ∷ xs) k each sons = (each.0, sorted_append xs k each.1 sons)
+
 map-append : {A B : Type 0} (f : A → B) (xs ys : List A) → map f (xs ++ ys) ≡ map f xs ++ map f ys
 map-append f [] ys = refl
 map-append {B = B} f (x ∷ xs) ys = ap (λ (zs : List B). f x ∷ zs) (map-append f xs ys)
+
+pub sound_empty : (t : Table) → kinds t ≡ [] → IsSound t
+sound_empty t none = record {
+  earlier = let P : List Node → Type 0 = λ xs. EachReadsEarlier t.held xs in subst P (sym none) tt;
+  sorted = subst AreSorted (sym none) tt;
+}
 
 pub record IsGrown (held : ℕ) (old new : List Node) (k : Node) : Type 0 where
   pub more : List Node
   pub nodes : new ≡ old ++ more
   pub sound : EachReadsEarlier held new
+  pub sorted : AreSorted new
   pub cost : count_by is_logic new ≤ count_by is_logic old + logic_cost k
 
 count_one : (k : Node) (xs : List Node) → count_by is_logic (xs ++ k ∷ []) ≡ count_by is_logic xs + logic_cost k
@@ -52,8 +63,8 @@ count_one k xs = count_by-append is_logic xs (k ∷ []) ∙ ap (λ (c : ℕ). co
   alone (nand a b) = refl
 
 pub grown_keys : (eq : Kind → Kind → Bool) (held : ℕ) (keys new : List Kind) (k : Kind) → new ≡ insert_key eq keys k → EachReadsEarlier held (map node_view keys)
-    → ReadsBelow (held + length (map node_view keys)) (node_view k) → IsGrown held (map node_view keys) (map node_view new) (node_view k)
-grown_keys eq held keys new k is sound below = by (list_any (eq k) keys) is where
+    → AreSorted (map node_view keys) → ReadsBelow (held + length (map node_view keys)) (node_view k) → HasSortedSons (node_view k) → IsGrown held (map node_view keys) (map node_view new) (node_view k)
+grown_keys eq held keys new k is sound sorted below sons = by (list_any (eq k) keys) is where
   by : (b : Bool) → new ≡ (if b then keys else keys ++ k ∷ []) → IsGrown held (map node_view keys) (map node_view new) (node_view k)
   by true e =
       let same : map node_view new ≡ map node_view keys = ap (map node_view) e in
@@ -61,6 +72,7 @@ grown_keys eq held keys new k is sound below = by (list_any (eq k) keys) is wher
         more = [];
         nodes = same ∙ sym (append-nil (map node_view keys));
         sound = let P : List Node → Type 0 = λ xs. EachReadsEarlier held xs in subst P (sym same) sound;
+        sorted = subst AreSorted (sym same) sorted;
         cost = let all = ap (count_by is_logic) same in omega (arith, all);
       }
   by false e =
@@ -69,6 +81,7 @@ grown_keys eq held keys new k is sound below = by (list_any (eq k) keys) is wher
         more = node_view k ∷ [];
         nodes = same;
         sound = let P : List Node → Type 0 = λ xs. EachReadsEarlier held xs in subst P (sym same) (reads_append held (map node_view keys) (node_view k) sound below);
+        sorted = subst AreSorted (sym same) (sorted_append (map node_view keys) (node_view k) sorted sons);
         cost = let all = ap (count_by is_logic) same in let one = count_one (node_view k) (map node_view keys) in omega (arith, all, one);
       }
 
@@ -100,7 +113,7 @@ pub node_at : (t : Table) (r : ℕ) (k : Node) (w : List Bool) → IsSound t →
 node_at t r k w sound is size =
     let place : r ≡ length w + is.place = let e = is.is_place in omega (arith, e, size) in
     ap (value t w) place
-    ∙ grown_at w (kinds t) is.place k (let P : ℕ → Type 0 = λ c. EachReadsEarlier c (kinds t) in subst P (sym size) sound) is.is_node ∙ by_values k (grown w (kinds t))
+    ∙ grown_at w (kinds t) is.place k (let P : ℕ → Type 0 = λ c. EachReadsEarlier c (kinds t) in subst P (sym size) sound.earlier) is.is_node ∙ by_values k (grown w (kinds t))
 
 pub number_below_end : (t : Table) (r : ℕ) (k : Node) → IsNode t r k → r < end_of t
 number_below_end t r k is = let e = is.is_place in let low = number_below (kinds t) is.place k is.is_node in omega (arith, e, low)
@@ -108,7 +121,8 @@ number_below_end t r k is = let e = is.is_place in let low = number_below (kinds
 -- what `add` does
 pub added : (t u : Table) (r : ℕ) (k : Node) → u.held ≡ t.held → IsGrown t.held (kinds t) (kinds u) k → ReadsBelow (end_of t) k → IsNode u r k → Adds t u (logic_cost k) (node_value k) r
 added t u r k held g reads is =
-    let sound : IsSound u = let P : ℕ → Type 0 = λ c. EachReadsEarlier c (kinds u) in subst P (sym held) g.sound in
+    let earlier : EachReadsEarlier u.held (kinds u) = let P : ℕ → Type 0 = λ c. EachReadsEarlier c (kinds u) in subst P (sym held) g.sound in
+    let sound : IsSound u = record { earlier = earlier; sorted = g.sorted } in
     record {
       held = held;
       more = g.more;
@@ -165,7 +179,7 @@ not_not false false h = absurd (cc h)
 -- the inverse of an inverse
 pub inverse_back : (t : Table) (a b : ℕ) → IsSound t → IsNode t a (inv b) → Adds t t 1 (λ v. not (v a)) b
 inverse_back t a b sound is =
-    let below : b < t.held + is.place = reads_at t.held (kinds t) is.place (inv b) sound is.is_node in
+    let below : b < t.held + is.place = reads_at t.held (kinds t) is.place (inv b) sound.earlier is.is_node in
     let low = number_below (kinds t) is.place (inv b) is.is_node in
     stays t 1 (λ v. not (v a)) b sound (omega (arith, below, low)) (λ w size. not_not (value t w a) (value t w b) (node_at t a (inv b) w sound is size))
 

@@ -1,5 +1,5 @@
 -- How a table of nodes grows.
-use Rattle.std.specs.Prelude.{◌≡◌, ℕ, ◌+◌, ◌<◌, ◌≤◌, Bool, not, ◌&&◌, List, [], ◌∷◌, ◌++◌, map, length, count_by}
+use Rattle.std.specs.Prelude.{◌≡◌, ℕ, ◌+◌, ◌^◌, ◌<◌, ◌≤◌, Bool, not, ◌&&◌, List, [], ◌∷◌, ◌++◌, map, length, count_by}
 use Rattle.bool_expr.specs.Expression.{bit, size_of}
 use Rattle.machine_meaning.specs.Machine.{Equation}
 use Rattle.machine_core.specs.Built.{built}
@@ -9,9 +9,20 @@ use Rattle.graph_theory.specs.Graph.{Node, fixed, inv, nand, grown, is_logic, Ea
 use Rattle.subject_table.specs.declared.table.Table.{Table}
 use Rattle.subject_table.specs.View.{kinds, end_of}
 
--- each node reads inputs, registers and earlier nodes
-abbrev pub IsSound : Table → Type 0
-IsSound t = EachReadsEarlier t.held (kinds t)
+-- a gate's sons stand in the order of their numbers, and so do those of each node of a list
+abbrev pub HasSortedSons : Node → Type 0
+HasSortedSons (fixed b) = Unit {0}
+HasSortedSons (inv a) = Unit {0}
+HasSortedSons (nand a b) = a < b
+
+abbrev pub AreSorted : List Node → Type 0
+AreSorted [] = Unit {0}
+AreSorted (one ∷ rest) = HasSortedSons one × AreSorted rest
+
+-- each node reads inputs, registers and earlier nodes, and its sons are sorted
+pub record IsSound (t : Table) : Type 0 where
+  pub earlier : EachReadsEarlier t.held (kinds t)
+  pub sorted : AreSorted (kinds t)
 
 -- number r is a node of this kind
 pub record IsNode (t : Table) (r : ℕ) (kind : Node) : Type 0 where
@@ -22,6 +33,10 @@ pub record IsNode (t : Table) (r : ℕ) (kind : Node) : Type 0 where
 -- the bit of number r
 abbrev pub value : Table → List Bool → ℕ → Bool
 value t w r = bit (grown w (kinds t)) r
+
+-- the numbers of n more nodes of logic, and of the two constants, are below 2^32
+abbrev pub HasRoom : Table → ℕ → Type 0
+HasRoom t n = t.held + count_by is_logic (kinds t) + n + 2 < 2 ^ 32
 
 -- a number of a known bit
 abbrev pub IsKnown : Table → ℕ → Bool → Type 0

@@ -1,11 +1,11 @@
 // The table of nodes.
-ghost use Rattle.std.specs.Prelude.{◌+◌, ◌-◌, ◌<◌, ◌≤◌, ◌⊎◌, IfOk, IfSome, IfNone, not, ◌&&◌};
+ghost use Rattle.std.specs.Prelude.{◌≡◌, [], ◌+◌, ◌-◌, ◌<◌, ◌≤◌, ◌⊎◌, IfOk, IfSome, IfNone, not, ◌&&◌};
 ghost use Rattle.graph_theory.specs.Graph.{ReadsBelow};
-ghost use Rattle.subject_table.specs.View.{node_view, end_of};
-ghost use Rattle.subject_table.specs.Grows.{IsSound, IsNode, IsKnown, Adds, node_value, logic_cost};
+ghost use Rattle.subject_table.specs.View.{node_view, kinds, end_of};
+ghost use Rattle.subject_table.specs.Grows.{IsSound, HasRoom, HasSortedSons, IsNode, IsKnown, Adds, node_value, logic_cost};
 
 use indexmap::IndexSet;
-use std::alloc::AllocError;
+use std::alloc::{AllocError, Global};
 
 /// A node: a constant, an inverter, or a gate that is 0 where both of its inputs are 1.
 #[derive(Clone, Copy, PartialEq, Eq, Hash)]
@@ -23,6 +23,19 @@ pub struct Table {
 }
 
 impl Table {
+    /// A table of no nodes behind so many inputs and registers. Takes no memory.
+    #[tactic(auto, using(crate::proofs::Tables::sound_empty))]
+    pub fn new(alloc: Global, held: u32) -> Self
+        ensures held { result.held ≡ held }
+        ensures nodes { kinds result ≡ [] }
+        ensures sound { IsSound result }
+    {
+        Table {
+            held,
+            nodes: IndexSet::new(alloc),
+        }
+    }
+
     /// The node of this number, where it is no input and no register.
     pub fn node(&self, number: u32) -> Option<Node>
         ensures some { IfSome result (λ kind. IsNode self.now number (node_view kind)) }
@@ -34,15 +47,14 @@ impl Table {
         self.nodes.get_index((number - self.held) as usize).copied()
     }
 
-    /// The number of an equal node, which is added where there is none. Takes memory for it; past 2^32 numbers there is none.
+    /// The number of an equal node, which is added where there is none. Takes memory for it.
     pub fn add(&mut self, node: Node) -> Result<u32, AllocError>
         requires sound { IsSound self.now }
         requires below { ReadsBelow (end_of self.now) (node_view node) }
+        requires sorted { HasSortedSons (node_view node) }
+        requires room { HasRoom self.now (logic_cost (node_view node)) }
         ensures { IfOk result (λ r. Adds self.old self.new (logic_cost (node_view node)) (node_value (node_view node)) r) }
     {
-        if self.nodes.len() >= (u32::MAX - self.held) as usize {
-            return Err(AllocError);
-        }
         let (place, _) = self.nodes.insert_full(node)?;
         Ok(self.held + place as u32)
     }
@@ -51,6 +63,7 @@ impl Table {
     pub fn inv(&mut self, a: u32) -> Result<u32, AllocError>
         requires sound { IsSound self.now }
         requires below { a < end_of self.now }
+        requires room { HasRoom self.now 1 }
         ensures { IfOk result (λ r. Adds self.old self.new 1 (λ v. not (v a)) r) }
     {
         match self.node(a) {
@@ -76,6 +89,7 @@ impl Table {
         requires sound { IsSound self.now }
         requires first { a < end_of self.now }
         requires second { b < end_of self.now }
+        requires room { HasRoom self.now 1 }
         ensures { IfOk result (λ r. Adds self.old self.new 1 (λ v. not (v a && v b)) r) }
     {
         if a == b {

@@ -1,0 +1,8 @@
+use Rattle.std.proofs.Common.{◌-◌, length, map, take}
+use Rattle.machine_core.specs.View.{register_view}
+use Rattle.subject_graph.specs.Stages.{Loads}
+use Rattle.subject_graph.proofs.loads.load_numbers.Given as goal
+
+abbrev pub invariant-loop-k : goal.invariant-loop-k
+invariant-loop-k l =
+    Loads l.fn.table l.table l.numbers (l.fn.table.held - length l.registers) (map register_view (take l.k l.registers)) l.loads.items
