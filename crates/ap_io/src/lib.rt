@@ -1,8 +1,14 @@
-//! The ap format of symbolic layouts: figures, and the one spelling in which they are written.
+//! The ap format of symbolic layouts: figures, the reader of all spellings, and the one spelling in which figures are written.
 #![tactic(auto)]
 
+mod fault;
 mod figure;
+mod limits;
+mod scale;
 mod writer;
 
+pub use fault::LineFault;
 pub use figure::Figure;
+pub use limits::{MOST_COORDINATE, MOST_NAME_BYTES};
+pub use scale::Scale;
 pub use writer::write_ap;
