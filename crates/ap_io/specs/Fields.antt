@@ -9,6 +9,10 @@ use Rattle.text_lines.specs.Lines.{put_before}
 use Rattle.ap_io.specs.declared.scale.Scale.{Scale}
 use Rattle.ap_io.specs.declared.scale.Scale.TheVariants.{One, Ten, Hundred}
 
+-- anything but a comma
+abbrev pub is_in_field : ℕ → Bool
+is_in_field b = not (b == 44)
+
 -- what stands between the commas of a text; there is one more than commas
 unfoldable pub fields_of : List ℕ → List (List ℕ)
 fields_of [] = [] ∷ []
@@ -47,6 +51,10 @@ is_number text = is_digits (digits_of text)
 -- its absolute value
 abbrev pub size_of : List ℕ → ℕ
 size_of text = value_of (digits_of text)
+
+-- digits without the zeros in front
+abbrev pub significant : List ℕ → List ℕ
+significant digits = drop (prefix_len (λ b. b == 48) digits) digits
 
 -- the number with this absolute value
 abbrev pub signed : Bool → ℕ → ℤ

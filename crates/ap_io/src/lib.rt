@@ -2,9 +2,13 @@
 #![tactic(auto)]
 
 mod fault;
+mod fields;
 mod figure;
 mod limits;
+mod names;
+mod numbers;
 mod scale;
+mod words;
 mod writer;
 
 pub use fault::LineFault;
