@@ -2,6 +2,7 @@ pub mod Spelling
 pub mod Fields
 pub mod Words
 pub mod LineFaults
+pub mod Instances
 pub mod Items
 pub mod ApText
 pub mod Refusal

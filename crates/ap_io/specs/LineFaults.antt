@@ -75,7 +75,7 @@ is_head f =
 -- A x1,y1,x2,y2
 abbrev pub is_box : List (List ℕ) → Bool
 is_box f =
-    (length f == 4) && list_all is_number f && is_le (int_cmp (number_of (at f 0)) (number_of (at f 2)))
+    (length f == 4) && list_all is_number (take 4 f) && is_le (int_cmp (number_of (at f 0)) (number_of (at f 2)))
     && is_le (int_cmp (number_of (at f 1)) (number_of (at f 3)))
 
 -- ---- the first fault of a line of each kind
@@ -112,7 +112,7 @@ abbrev pub head_fault : List (List ℕ) → Option LineFault
 head_fault f = if not (is_head f) then Some BadLine else limit_fault (long_name (at f 0)) None
 
 abbrev pub box_fault : Scale → List (List ℕ) → Option LineFault
-box_fault scale f = if not (is_box f) then Some BadLine else limit_fault None (far_coordinate scale f)
+box_fault scale f = if not (is_box f) then Some BadLine else limit_fault None (far_coordinate scale (take 4 f))
 
 -- any text
 abbrev pub remark_fault : List ℕ → Option LineFault

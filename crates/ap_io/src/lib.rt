@@ -4,6 +4,9 @@
 mod fault;
 mod fields;
 mod figure;
+mod instances;
+mod items;
+mod judge;
 mod limits;
 mod names;
 mod numbers;
