@@ -1,5 +1,5 @@
 -- Which figures the format can hold, and which bytes are the ap file of which figure.
-use Rattle.std.specs.Prelude.{◌≡◌, ◌≢◌, ℕ, ◌<◌, ◌≤◌, ◌^◌, ◌++◌, length, map, ℤ, nat_abs, pos, ◌≤ℤ◌, Bool, not, ◌&&◌, ◌||◌, List, [], ◌∷◌, Option, None, Some, All, AllPairs, IsTrue, IfSome, nat_le, nat_eq, codes, ◌⊎◌}
+use Rattle.std.specs.Prelude.{◌≡◌, ◌≢◌, false, ℕ, ◌<◌, ◌≤◌, ◌^◌, ◌++◌, length, map, ℤ, nat_abs, pos, ◌≤ℤ◌, Bool, not, ◌&&◌, ◌||◌, List, [], ◌∷◌, Option, None, Some, All, AllPairs, IsTrue, IfSome, nat_le, nat_eq, codes, ◌⊎◌}
 use Rattle.std.specs.List.{AllPass, starts_with, list_all}
 use Rattle.vlsi_base.specs.declared.name.Name.{Name}
 use Rattle.sym_geom.specs.Rect.{IsRect}
@@ -18,7 +18,7 @@ use Rattle.ap_io.specs.declared.limits.TheConstants.{MOST_NAME_BYTES, MOST_COORD
 use Rattle.ap_io.specs.Spelling.{text_of, contact_text}
 use Rattle.ap_io.specs.Fields.{at, is_text_byte, label_of}
 use Rattle.ap_io.specs.Words.{scale_of}
-use Rattle.ap_io.specs.LineFaults.{fields_behind, is_blank_line, is_end, version_fault, name_line_fault, box_line_fault, item_fault}
+use Rattle.ap_io.specs.LineFaults.{fields_behind, is_blank_line, is_end, version_fault, name_line_fault, box_line_fault, is_taken, item_fault}
 use Rattle.ap_io.specs.Items.{IsItem, IsBox}
 
 abbrev pub is_letter : ℕ → Bool
@@ -140,7 +140,7 @@ pub data AreItems (scale : Scale) : List (List ℕ) → List (List ℕ) → List
       → AreItems scale names (line ∷ rest) []
   blank : {names rest : List (List ℕ)} {line : List ℕ} {items : List Item} → IsTrue (is_blank_line line)
       → AreItems scale names rest items → AreItems scale names (line ∷ rest) items
-  next : {names rest : List (List ℕ)} {line : List ℕ} {one : Item} {items : List Item} → item_fault scale names line ≡ None
+  next : {names rest : List (List ℕ)} {line : List ℕ} {one : Item} {items : List Item} → is_blank_line line ≡ false → item_fault scale (is_taken names line) line ≡ None
       → IsItem scale line one → AreItems scale (names ++ names_of one) rest items → AreItems scale names (line ∷ rest) (one ∷ items)
 
 -- The bytes are the ap file of the figure: its version, its name with the scale, its box and its items, each on a line without
@@ -160,4 +160,8 @@ pub record IsApText (bytes : List ℕ) (f : Figure) : Type 0 where
   pub right_box : box_line_fault scale box ≡ None
   pub bounds : IsBox scale (fields_behind box) f.bounds
   pub items : AreItems scale [] others f.items
+
+-- the one spelling of a figure
+pub record IsWrittenText (bytes : List ℕ) (f : Figure) : Type 0 where
   pub figure : IsFigure f
+  pub text : bytes ≡ text_of f

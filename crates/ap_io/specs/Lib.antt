@@ -4,6 +4,7 @@ pub mod Words
 pub mod LineFaults
 pub mod Instances
 pub mod Items
+pub mod Taking
 pub mod ApText
 pub mod Refusal
 pub mod Laws

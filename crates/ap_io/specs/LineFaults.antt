@@ -55,11 +55,11 @@ abbrev pub is_via : List (List ℕ) → Bool
 is_via f =
     (length f == 3 || (length f == 4 && is_label (at f 3))) && list_all is_number (take 2 f) && is_contact (at f 2)
 
--- I x,y,model,name,transform, of a name that no instance has so far
-abbrev pub is_instance : List (List ℕ) → List (List ℕ) → Bool
-is_instance names f =
+-- I x,y,model,name,transform, of a name that isn't taken
+abbrev pub is_instance : Bool → List (List ℕ) → Bool
+is_instance taken f =
     (length f == 5) && list_all is_number (take 2 f) && is_identifier (at f 2) && is_identifier (at f 3)
-    && not (list_any (bytes_eq (lower (at f 3))) names)
+    && not taken
 
 -- R x,y,word,name
 abbrev pub is_reference : List (List ℕ) → Bool
@@ -97,9 +97,9 @@ via_fault scale f =
     if not (is_via f) then Some BadLine
     else limit_fault (long_name (at f 3)) (far_coordinate scale (take 2 f))
 
-abbrev pub instance_fault : Scale → List (List ℕ) → List (List ℕ) → Option LineFault
-instance_fault scale names f =
-    if not (is_instance names f) then Some BadLine
+abbrev pub instance_fault : Scale → Bool → List (List ℕ) → Option LineFault
+instance_fault scale taken f =
+    if not (is_instance taken f) then Some BadLine
     else if is_none (transform_of (at f 4)) then Some BadTransform
     else limit_fault (option_or (long_name (at f 2)) (long_name (at f 3))) (far_coordinate scale (take 2 f))
 
@@ -159,18 +159,25 @@ name_line_fault line = if has_letter 72 line then head_fault (fields_behind line
 abbrev pub box_line_fault : Scale → List ℕ → Option LineFault
 box_line_fault scale line = if has_letter 65 line then box_fault scale (fields_behind line) else Some BadLine
 
+-- the name of the instance of an I line, and whether an instance has it so far
+abbrev pub name_on : List ℕ → List ℕ
+name_on line = lower (at (fields_behind line) 3)
+
+abbrev pub is_taken : List (List ℕ) → List ℕ → Bool
+is_taken names line = has_letter 73 line && list_any (bytes_eq (name_on line)) names
+
 -- of a line with this letter: S, C, V, I, R or B
-abbrev pub fault_by : Option ℕ → Scale → List (List ℕ) → List ℕ → Option LineFault
-fault_by None scale names line = Some BadLine
-fault_by (Some c) scale names line =
+abbrev pub fault_by : Option ℕ → Scale → Bool → List ℕ → Option LineFault
+fault_by None scale taken line = Some BadLine
+fault_by (Some c) scale taken line =
     if c == 83 then segment_fault scale (fields_behind line)
     else if c == 67 then connector_fault scale (fields_behind line)
     else if c == 86 then via_fault scale (fields_behind line)
-    else if c == 73 then instance_fault scale names (fields_behind line)
+    else if c == 73 then instance_fault scale taken (fields_behind line)
     else if c == 82 then reference_fault scale (fields_behind line)
     else if c == 66 then remark_fault (behind_letter line)
     else Some BadLine
 
--- of a line behind the first three, where instances have these names so far
-abbrev pub item_fault : Scale → List (List ℕ) → List ℕ → Option LineFault
-item_fault scale names line = if is_blank_line line then None else fault_by (letter_of line) scale names line
+-- of a line behind the first three
+abbrev pub item_fault : Scale → Bool → List ℕ → Option LineFault
+item_fault scale taken line = if is_blank_line line then None else fault_by (letter_of line) scale taken line

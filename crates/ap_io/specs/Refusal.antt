@@ -12,7 +12,7 @@ use Rattle.ap_io.specs.declared.fault.LineFault.{LineFault}
 use Rattle.ap_io.specs.declared.fault.LineFault.TheVariants.{BadLine, BadLayer, BadTransform, LongName, FarCoordinate}
 use Rattle.ap_io.specs.Fields.{at, lower}
 use Rattle.ap_io.specs.Words.{scale_of}
-use Rattle.ap_io.specs.LineFaults.{version_fault, name_line_fault, box_line_fault, item_fault, is_end, is_blank_line, has_letter, fields_behind}
+use Rattle.ap_io.specs.LineFaults.{version_fault, name_line_fault, box_line_fault, item_fault, is_taken, name_on, is_end, is_blank_line, has_letter, fields_behind}
 use Rattle.ap_io.specs.ApText.{lines_in}
 
 abbrev pub fault_on : ℕ → FaultKind → ReadError
@@ -48,14 +48,14 @@ end_refusal before (line ∷ rest) = if is_blank_line line then end_refusal (bef
 
 -- the name of the instance on a line, if it has one
 abbrev pub names_on : List ℕ → List (List ℕ)
-names_on line = if is_blank_line line then [] else if has_letter 73 line then lower (at (fields_behind line) 3) ∷ [] else []
+names_on line = if has_letter 73 line then name_on line ∷ [] else []
 
 -- behind the first three lines, where instances have these names so far
 unfoldable pub items_refusal : Scale → ℕ → List (List ℕ) → List (List ℕ) → Option ReadError
 items_refusal scale before names [] = Some (fault_on before kind.NoEnd)
 items_refusal scale before names (line ∷ rest) =
     if is_end line then end_refusal (before + 1) rest
-    else or_behind (before + 1) rest (item_fault scale names line) (items_refusal scale (before + 1) (names ++ names_on line) rest)
+    else or_behind (before + 1) rest (item_fault scale (is_taken names line) line) (items_refusal scale (before + 1) (names ++ names_on line) rest)
 
 -- from the third line on
 abbrev pub box_refusal : Option Scale → List (List ℕ) → Option ReadError
@@ -72,6 +72,12 @@ head_refusal (line ∷ rest) = or_behind 2 rest (name_line_fault line) (box_refu
 unfoldable pub first_refusal : List (List ℕ) → Option ReadError
 first_refusal [] = Some (fault_on 1 kind.BadLine)
 first_refusal (line ∷ rest) = or_behind 1 rest (version_fault line) (head_refusal rest)
+
+-- the error is this refusal, or memory has run out
+abbrev pub IsRefusal : ReadError → Option ReadError → Type 0
+IsRefusal errors.Memory o = Unit {0}
+IsRefusal (errors.Input f) o = o ≡ Some (errors.Input f)
+IsRefusal (errors.Limit l) o = o ≡ Some (errors.Limit l)
 
 -- Why bytes are no ap file: there are too many, or a line has a fault. Out of memory is no reason.
 pub data Refused (bytes : List ℕ) (e : ReadError) : Type 0 where

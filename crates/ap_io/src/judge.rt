@@ -3,12 +3,12 @@ ghost use Rattle.std.specs.Prelude.{◌≡◌, ◌≤◌, true, length, take};
 ghost use Rattle.std.specs.List.{list_all};
 ghost use Rattle.ap_io.specs.Fields.{at, is_number};
 ghost use Rattle.ap_io.specs.Words.{direction_of};
-ghost use Rattle.ap_io.specs.LineFaults.{far_coordinate, limit_fault, is_along, is_segment, is_connector, is_via, is_reference, is_head, is_box, segment_fault, connector_fault, via_fault, reference_fault, head_fault, box_fault};
+ghost use Rattle.ap_io.specs.LineFaults.{far_coordinate, limit_fault, is_along, is_segment, is_connector, is_via, is_instance, is_reference, is_head, is_box, segment_fault, connector_fault, via_fault, instance_fault, reference_fault, head_fault, box_fault};
 
 use crate::fields::Fields;
 use crate::names::{is_identifier, is_label, is_text, long_name};
 use crate::numbers::{compare_numbers, is_index, is_width, reach};
-use crate::words::{direction_of, is_contact, layer_of, scale_of, side_of};
+use crate::words::{direction_of, is_contact, layer_of, scale_of, side_of, transform_of};
 use crate::{LineFault, MOST_COORDINATE, Scale};
 use sym_geom::Direction;
 
@@ -86,6 +86,17 @@ fn is_via(fields: &Fields) -> bool
         && is_contact(fields.at(2))
 }
 
+/// Whether the fields are `x,y,model,name,transform`, of a name that isn't taken.
+fn is_instance(taken: bool, fields: &Fields) -> bool
+    ensures { result ≡ is_instance taken fields.now }
+{
+    fields.count() == 5
+        && fields.begin_with_numbers(2)
+        && is_identifier(fields.at(2))
+        && is_identifier(fields.at(3))
+        && !taken
+}
+
 /// Whether the fields are `x,y,word,name`.
 fn is_reference(fields: &Fields) -> bool
     ensures { result ≡ is_reference fields.now }
@@ -151,6 +162,20 @@ pub fn via_fault(scale: Scale, fields: &Fields) -> Option<LineFault>
         return Some(LineFault::BadLine);
     }
     limit_fault(long_name(fields.at(3)), far_coordinate(scale, fields, 2))
+}
+
+/// What is wrong with the fields of an I line, whose name is taken or isn't.
+pub fn instance_fault(scale: Scale, taken: bool, fields: &Fields) -> Option<LineFault>
+    ensures { result ≡ instance_fault scale taken fields.now }
+{
+    if !is_instance(taken, fields) {
+        return Some(LineFault::BadLine);
+    }
+    if transform_of(fields.at(4)).is_none() {
+        return Some(LineFault::BadTransform);
+    }
+    let long = long_name(fields.at(2)).or(long_name(fields.at(3)));
+    limit_fault(long, far_coordinate(scale, fields, 2))
 }
 
 /// What is wrong with the fields of an R line.

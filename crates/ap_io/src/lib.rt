@@ -1,6 +1,7 @@
 //! The ap format of symbolic layouts: figures, the reader of all spellings, and the one spelling in which figures are written.
 #![tactic(auto)]
 
+mod body;
 mod fault;
 mod fields;
 mod figure;
@@ -8,8 +9,10 @@ mod instances;
 mod items;
 mod judge;
 mod limits;
+mod lines;
 mod names;
 mod numbers;
+mod reader;
 mod scale;
 mod words;
 mod writer;
