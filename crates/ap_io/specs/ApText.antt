@@ -18,7 +18,7 @@ use Rattle.ap_io.specs.declared.limits.TheConstants.{MOST_NAME_BYTES, MOST_COORD
 use Rattle.ap_io.specs.Spelling.{text_of, contact_text}
 use Rattle.ap_io.specs.Fields.{at, is_text_byte, label_of}
 use Rattle.ap_io.specs.Words.{scale_of}
-use Rattle.ap_io.specs.LineFaults.{fields_behind, is_blank_line, is_end, version_fault, name_line_fault, box_line_fault, is_taken, item_fault}
+use Rattle.ap_io.specs.LineFaults.{fields_behind, is_blank_line, is_end, version_fault, name_line_fault, box_line_fault, is_taken, names_on, item_fault}
 use Rattle.ap_io.specs.Items.{IsItem, IsBox}
 
 abbrev pub is_letter : ℕ → Bool
@@ -129,10 +129,6 @@ pub record IsWithinLimits (f : Figure) : Type 0 where
 abbrev pub lines_in : List ℕ → List (List ℕ)
 lines_in bytes = map without_return (lines_of bytes)
 
--- the name of an instance, if the item is one
-abbrev pub names_of : Item → List (List ℕ)
-names_of one = instance_names (one ∷ [])
-
 -- The items of the lines behind the first three, where instances have these names so far: a line without a fault is an item
 -- or blank, and behind the line EOF all are blank.
 pub data AreItems (scale : Scale) : List (List ℕ) → List (List ℕ) → List Item → Type 0 where
@@ -141,7 +137,7 @@ pub data AreItems (scale : Scale) : List (List ℕ) → List (List ℕ) → List
   blank : {names rest : List (List ℕ)} {line : List ℕ} {items : List Item} → IsTrue (is_blank_line line)
       → AreItems scale names rest items → AreItems scale names (line ∷ rest) items
   next : {names rest : List (List ℕ)} {line : List ℕ} {one : Item} {items : List Item} → is_blank_line line ≡ false → item_fault scale (is_taken names line) line ≡ None
-      → IsItem scale line one → AreItems scale (names ++ names_of one) rest items → AreItems scale names (line ∷ rest) (one ∷ items)
+      → IsItem scale line one → AreItems scale (names ++ names_on line) rest items → AreItems scale names (line ∷ rest) (one ∷ items)
 
 -- The bytes are the ap file of the figure: its version, its name with the scale, its box and its items, each on a line without
 -- a fault.

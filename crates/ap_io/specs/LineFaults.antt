@@ -166,6 +166,10 @@ name_on line = lower (at (fields_behind line) 3)
 abbrev pub is_taken : List (List ℕ) → List ℕ → Bool
 is_taken names line = has_letter 73 line && list_any (bytes_eq (name_on line)) names
 
+-- the name of the instance of a line, if it is an I line
+abbrev pub names_on : List ℕ → List (List ℕ)
+names_on line = if is_blank_line line then [] else if has_letter 73 line then name_on line ∷ [] else []
+
 -- of a line with this letter: S, C, V, I, R or B
 abbrev pub fault_by : Option ℕ → Scale → Bool → List ℕ → Option LineFault
 fault_by None scale taken line = Some BadLine

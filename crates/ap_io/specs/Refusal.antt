@@ -10,9 +10,9 @@ use Rattle.vlsi_base.specs.declared.fault.ReadError.TheVariants as errors
 use Rattle.ap_io.specs.declared.scale.Scale.{Scale}
 use Rattle.ap_io.specs.declared.fault.LineFault.{LineFault}
 use Rattle.ap_io.specs.declared.fault.LineFault.TheVariants.{BadLine, BadLayer, BadTransform, LongName, FarCoordinate}
-use Rattle.ap_io.specs.Fields.{at, lower}
+use Rattle.ap_io.specs.Fields.{at}
 use Rattle.ap_io.specs.Words.{scale_of}
-use Rattle.ap_io.specs.LineFaults.{version_fault, name_line_fault, box_line_fault, item_fault, is_taken, name_on, is_end, is_blank_line, has_letter, fields_behind}
+use Rattle.ap_io.specs.LineFaults.{version_fault, name_line_fault, box_line_fault, item_fault, is_taken, names_on, is_end, is_blank_line, fields_behind}
 use Rattle.ap_io.specs.ApText.{lines_in}
 
 abbrev pub fault_on : ℕ → FaultKind → ReadError
@@ -45,10 +45,6 @@ or_behind line rest (Some fault) behind = Some (refusal_on line rest fault)
 unfoldable pub end_refusal : ℕ → List (List ℕ) → Option ReadError
 end_refusal before [] = None
 end_refusal before (line ∷ rest) = if is_blank_line line then end_refusal (before + 1) rest else Some (fault_on (before + 1) kind.AfterEnd)
-
--- the name of the instance on a line, if it has one
-abbrev pub names_on : List ℕ → List (List ℕ)
-names_on line = if has_letter 73 line then name_on line ∷ [] else []
 
 -- behind the first three lines, where instances have these names so far
 unfoldable pub items_refusal : Scale → ℕ → List (List ℕ) → List (List ℕ) → Option ReadError
