@@ -64,8 +64,9 @@ end_nothing before = refl
 pub end_done : (lines0 : List (List ℕ)) (before0 : ℕ) (lines : List (List ℕ)) (before : ℕ) → WalksEnd lines0 before0 lines before → lines ≡ []
     → (list_all is_blank_line (map without_return lines0) ≡ true) × (end_refusal before0 (map without_return lines0) ≡ None)
 end_done lines0 before0 lines before w is = (
-    sym w.blanks ∙ ap (λ (ls : List (List ℕ)). list_all is_blank_line (map without_return ls)) is,
-    sym w.refusal ∙ ap (λ (ls : List (List ℕ)). end_refusal before (map without_return ls)) is ∙ end_nothing before)
+  sym w.blanks ∙ ap (λ (ls : List (List ℕ)). list_all is_blank_line (map without_return ls)) is,
+  sym w.refusal ∙ ap (λ (ls : List (List ℕ)). end_refusal before (map without_return ls)) is ∙ end_nothing before,
+)
 
 -- ---- items
 
@@ -147,9 +148,9 @@ walks_blank scale lines0 before0 body new lines before line rest w is is_blank r
       known = λ name. sym (ap (λ (b : Body). is_known name b.names) same) ∙ w.known name;
       refusal = sym (ap (λ (ns : List (List ℕ)). items_refusal scale (before + 1) ns (map without_return rest)) all) ∙ refusals;
       items = λ more are.
-        let P : List (List ℕ) → Type 0 = λ ls. AreItems scale w.names (map without_return ls) more in
-        let Q : Body → Type 0 = λ b. AreItems scale [] (map without_return lines0) (b.items ++ more) in
-        subst Q same (w.items more (subst P (sym is) (blank is_blank are)));
+          let P : List (List ℕ) → Type 0 = λ ls. AreItems scale w.names (map without_return ls) more in
+          let Q : Body → Type 0 = λ b. AreItems scale [] (map without_return lines0) (b.items ++ more) in
+          subst Q same (w.items more (subst P (sym is) (blank is_blank are)));
     }
 
 walks_item : (scale : Scale) (lines0 : List (List ℕ)) (before0 : ℕ) (body new : Body) (lines : List (List ℕ)) (before : ℕ) (line : List ℕ) (rest : List (List ℕ))
@@ -165,14 +166,14 @@ walks_item scale lines0 before0 body new lines before line rest w is some room c
       names = w.names ++ names_on (without_return line);
       room = room;
       known = λ name. takes.1 name ∙ ap (λ b. (has_letter 73 l && bytes_eq name (name_on l)) || b) (w.known name)
-        ∙ ap (λ b. b || list_any (bytes_eq name) w.names) (sym (one_name name (name_on l) (has_letter 73 l)) ∙ sym (ap (list_any (bytes_eq name)) on))
-        ∙ sym (any_append (bytes_eq name) w.names (names_on (without_return line)));
+          ∙ ap (λ b. b || list_any (bytes_eq name) w.names) (sym (one_name name (name_on l) (has_letter 73 l)) ∙ sym (ap (list_any (bytes_eq name)) on))
+          ∙ sym (any_append (bytes_eq name) w.names (names_on (without_return line)));
       refusal = refusals;
       items = λ more are.
-        let P : List (List ℕ) → Type 0 = λ ls. AreItems scale w.names (map without_return ls) (one ∷ more) in
-        let Q : List Item → Type 0 = λ is. AreItems scale [] (map without_return lines0) is in
-        let joined : body.items ++ (one ∷ more) ≡ new.items ++ more = sym (append_assoc body.items (one ∷ []) more) ∙ sym (ap (λ (is : List Item). is ++ more) takes.0.2) in
-        subst Q joined (w.items (one ∷ more) (subst P (sym is) (next some clean takes.0.1 are)));
+          let P : List (List ℕ) → Type 0 = λ ls. AreItems scale w.names (map without_return ls) (one ∷ more) in
+          let Q : List Item → Type 0 = λ is. AreItems scale [] (map without_return lines0) is in
+          let joined : body.items ++ (one ∷ more) ≡ new.items ++ more = sym (append_assoc body.items (one ∷ []) more) ∙ sym (ap (λ (is : List Item). is ++ more) takes.0.2) in
+          subst Q joined (w.items (one ∷ more) (subst P (sym is) (next some clean takes.0.1 are)));
     }
 
 by_blank : (scale : Scale) (lines0 : List (List ℕ)) (before0 : ℕ) (body new : Body) (lines : List (List ℕ)) (before : ℕ) (line : List ℕ) (rest : List (List ℕ))

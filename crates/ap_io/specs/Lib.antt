@@ -6,5 +6,6 @@ pub mod Instances
 pub mod Items
 pub mod Taking
 pub mod ApText
+pub mod Stages
 pub mod Refusal
 pub mod Laws

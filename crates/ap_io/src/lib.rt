@@ -20,5 +20,6 @@ mod writer;
 pub use fault::LineFault;
 pub use figure::Figure;
 pub use limits::{MOST_COORDINATE, MOST_NAME_BYTES};
+pub use reader::read_ap;
 pub use scale::Scale;
 pub use writer::write_ap;

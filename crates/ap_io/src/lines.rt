@@ -3,7 +3,7 @@ ghost use Rattle.std.specs.Prelude.{◌≡◌, ◌&&◌, IfOk, false};
 ghost use Rattle.ap_io.specs.declared.scale.Scale.{Scale};
 ghost use Rattle.ap_io.specs.Instances.{is_known};
 ghost use Rattle.ap_io.specs.Items.{IsItem};
-ghost use Rattle.ap_io.specs.LineFaults.{letter_of, behind_letter, fields_behind, has_letter, name_on, is_version, version_fault, name_line_fault, box_line_fault, segment_fault, connector_fault, via_fault, instance_fault, reference_fault, remark_fault, fault_by, item_fault};
+ghost use Rattle.ap_io.specs.LineFaults.{letter_of, behind_letter, fields_behind, has_letter, name_on, is_end, is_version, version_fault, name_line_fault, box_line_fault, segment_fault, connector_fault, via_fault, instance_fault, reference_fault, remark_fault, fault_by, item_fault};
 
 use crate::fields::Fields;
 use crate::instances::InstanceNames;
@@ -60,6 +60,13 @@ fn is_version(line: &[u8]) -> bool
     ensures { result ≡ is_version line.now }
 {
     line.starts_with(b"V ALLIANCE : ") && is_number(&line[13..])
+}
+
+/// Whether a line ends the figure. Takes no memory.
+pub fn is_end(line: &[u8]) -> bool
+    ensures { result ≡ is_end line.now }
+{
+    line == b"EOF".as_slice()
 }
 
 /// What is wrong with the first line.
