@@ -7,7 +7,7 @@ use Rattle.ap_io.specs.declared.fault.LineFault.{LineFault}
 use Rattle.ap_io.specs.declared.fault.LineFault.TheVariants.{BadLine, BadLayer, BadTransform}
 use Rattle.ap_io.specs.Fields.{at, is_identifier, is_number, is_width, is_label, is_index}
 use Rattle.ap_io.specs.Words.{layer_of, side_of, direction_of, transform_of}
-use Rattle.ap_io.specs.LineFaults.{fault_by, item_fault, letter_of, fields_behind, behind_letter, is_blank_line, is_instance, instance_fault, via_fault, reference_fault, remark_fault, is_segment, is_connector, is_along, segment_fault, connector_fault, limit_fault, long_name, far_coordinate}
+use Rattle.ap_io.specs.LineFaults.{box_line_fault, has_letter, is_box, fault_by, item_fault, letter_of, fields_behind, behind_letter, is_blank_line, is_instance, instance_fault, via_fault, reference_fault, remark_fault, is_segment, is_connector, is_along, segment_fault, connector_fault, limit_fault, long_name, far_coordinate}
 use Rattle.ap_io.proofs.Digits.{both_true}
 
 is_there : {A : Type 0} (o : Option A) → is_some o ≡ true → IsSome o
@@ -97,3 +97,14 @@ free_name false o k line h = h
 
 pub not_blank : (taken : Bool) (k : Scale) (line : List ℕ) → is_blank_line line ≡ false → item_fault k taken line ≡ None → fault_by (letter_of line) k taken line ≡ None
 not_blank taken k line some h = sym (ap (λ (b : Bool). if b then None else fault_by (letter_of line) k taken line) some) ∙ h
+
+-- ---- the box
+
+two_ifs : (a b : Bool) (l : Option LineFault) → (if a then (if not b then Some BadLine else l) else Some BadLine) ≡ None → l ≡ None
+two_ifs true true l h = h
+two_ifs true false l h = absurd (cc)
+two_ifs false b l h = absurd (cc)
+
+pub box_near : (k : Scale) (line : List ℕ) → box_line_fault k line ≡ None → far_coordinate k (take 4 (fields_behind line)) ≡ None
+box_near k line h =
+    near_limit None (far_coordinate k (take 4 (fields_behind line))) (two_ifs (has_letter 65 line) (is_box (fields_behind line)) (limit_fault None (far_coordinate k (take 4 (fields_behind line)))) h)

@@ -8,6 +8,7 @@ mod figure;
 mod instances;
 mod items;
 mod judge;
+mod laws;
 mod limits;
 mod lines;
 mod names;
@@ -19,6 +20,7 @@ mod writer;
 
 pub use fault::LineFault;
 pub use figure::Figure;
+pub use laws::{never_both, one_figure, one_refusal};
 pub use limits::{MOST_COORDINATE, MOST_NAME_BYTES};
 pub use reader::read_ap;
 pub use scale::Scale;

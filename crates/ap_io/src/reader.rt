@@ -157,6 +157,7 @@ fn head(alloc: Global, lines: &mut Lines) -> Result<(Option<Name>, Scale), ReadE
 }
 
 /// Reads the first line.
+#[tactic(auto, unfolding(crate::specs::Refusal::first_refusal))]
 fn version(alloc: Global, lines: &mut Lines) -> Result<(), ReadError>
     ensures read { OnOk result (IsVersionRead lines.old lines.new) }
     ensures refused { IfErr result (λ e. first_refusal (map without_return lines.old) ≡ Some e) }

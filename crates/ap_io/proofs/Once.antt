@@ -1,0 +1,129 @@
+-- Of a file one answer is right.
+use Rattle.std.proofs.Common.{◌≡◌, ℕ, suc, zero, ◌+◌, ◌<◌, ◌≤◌, Bool, true, false, List, [], ◌∷◌, ◌++◌, length, map, bytes_eq, refl, sym, ap, ◌∙◌, arith, subst, Option, None, Some, if◌then◌else◌}
+use Rattle.std.specs.Prelude.{ℤ, IsTrue}
+use Rattle.std.specs.List.{list_all}
+use Rattle.vlsi_base.specs.declared.name.Name.{Name}
+use Rattle.vlsi_base.specs.declared.fault.ReadError.{ReadError}
+use Rattle.vlsi_base.specs.declared.fault.FaultKind.TheVariants as kind
+use Rattle.sym_geom.specs.declared.rect.Rect.{Rect}
+use Rattle.sym_geom.specs.declared.layer.Layer.{Layer}
+use Rattle.sym_geom.specs.declared.rect.Transform.{Transform}
+use Rattle.sym_geom.specs.declared.item.Direction.{Direction}
+use Rattle.sym_geom.specs.declared.item.Side.{Side}
+use Rattle.sym_geom.specs.declared.item.Contact.{Contact}
+use Rattle.sym_geom.specs.declared.item.Segment.{Segment}
+use Rattle.sym_geom.specs.declared.item.Connector.{Connector}
+use Rattle.sym_geom.specs.declared.item.Via.{Via}
+use Rattle.sym_geom.specs.declared.item.Instance.{Instance}
+use Rattle.sym_geom.specs.declared.item.Reference.{Reference}
+use Rattle.sym_geom.specs.declared.item.Item.{Item}
+use Rattle.sym_geom.specs.declared.item.Item.TheVariants as item
+use Rattle.ap_io.specs.declared.scale.Scale.{Scale}
+use Rattle.ap_io.specs.declared.figure.Figure.{Figure}
+use Rattle.ap_io.specs.declared.fault.LineFault.{LineFault}
+use Rattle.ap_io.specs.Fields.{at}
+use Rattle.ap_io.specs.Words.{scale_of}
+use Rattle.ap_io.proofs.Digits.{both_true}
+use Rattle.ap_io.specs.Items.{IsSegment, IsConnector, IsVia, IsInstance, IsReference, IsBox, IsItem}
+use Rattle.ap_io.specs.LineFaults.{has_letter, name_on, letter_of, fields_behind, behind_letter, is_blank_line, is_end, is_taken, names_on, item_fault, fault_by, version_fault, name_line_fault, box_line_fault}
+use Rattle.ap_io.specs.ApText.{lines_in, AreItems, ends, blank, next, IsApText}
+use Rattle.ap_io.specs.Refusal.{fault_on, or_behind, end_refusal, items_refusal, box_refusal, head_refusal, first_refusal, long, faulty, Refused}
+use Rattle.ap_io.specs.Laws.{OneFigure, NeverBoth, OneRefusal}
+
+some_once : {A : Type 0} (x y : A) → Some x ≡ Some y → x ≡ y
+some_once x y h = cc
+
+-- ---- one refusal
+
+pub one_refusal : OneRefusal
+one_refusal bytes d e (long many same) (long more also_same) = same ∙ sym also_same
+one_refusal bytes d e (long many same) (faulty few other) = absurd (omega (arith, many, few))
+one_refusal bytes d e (faulty few this) (long more same) = absurd (omega (arith, more, few))
+one_refusal bytes d e (faulty few this) (faulty less other) = some_once d e (sym this ∙ other)
+
+-- ---- a line of an item isn't the end
+
+eof_blank : is_blank_line (69 ∷ 79 ∷ 70 ∷ []) ≡ false
+unfolding is_blank_line
+eof_blank = refl
+
+eof_letter : letter_of (69 ∷ 79 ∷ 70 ∷ []) ≡ None
+unfolding letter_of
+eof_letter = refl
+
+eof_is : (line : List ℕ) → is_end line ≡ true → line ≡ 69 ∷ 79 ∷ 70 ∷ []
+eof_is line h = (bytes_eq-Decides line (69 ∷ 79 ∷ 70 ∷ [])).0 h
+
+not_end : (line : List ℕ) (e : Bool) → is_end line ≡ e → (is_end line ≡ true → ⊥) → is_end line ≡ false
+not_end line true is no_end = absurd (no_end is)
+not_end line false is no_end = is
+
+blank_goes_on : (line : List ℕ) → is_blank_line line ≡ true → is_end line ≡ false
+blank_goes_on line is = not_end line (is_end line) refl (λ h. let e = eof_is line h in let both : true ≡ false = sym is ∙ ap is_blank_line e ∙ eof_blank in absurd (cc))
+
+clean_blank : (scale : Scale) (taken : Bool) (line : List ℕ) → is_blank_line line ≡ true → item_fault scale taken line ≡ None
+clean_blank scale taken line is = ap (λ (b : Bool). if b then None else fault_by (letter_of line) scale taken line) is
+
+-- the letter of an item's line
+letter_is : (scale : Scale) (line : List ℕ) (one : Item) → IsItem scale line one → letter_of line ≡ None → ⊥
+letter_is scale line (item.Segment s) is none = let both : None ≡ Some 83 = sym none ∙ is.0 in absurd (cc)
+letter_is scale line (item.Connector s) is none = let both : None ≡ Some 67 = sym none ∙ is.0 in absurd (cc)
+letter_is scale line (item.Via s) is none = let both : None ≡ Some 86 = sym none ∙ is.0 in absurd (cc)
+letter_is scale line (item.Instance s) is none = let both : None ≡ Some 73 = sym none ∙ is.0 in absurd (cc)
+letter_is scale line (item.Reference s) is none = let both : None ≡ Some 82 = sym none ∙ is.0 in absurd (cc)
+letter_is scale line (item.Remark s) is none = let both : None ≡ Some 66 = sym none ∙ is.0 in absurd (cc)
+
+item_goes_on : (scale : Scale) (line : List ℕ) (one : Item) → IsItem scale line one → is_end line ≡ false
+item_goes_on scale line one is = not_end line (is_end line) refl (λ h. letter_is scale line one is (ap letter_of (eof_is line h) ∙ eof_letter))
+
+-- ---- items have no refusal
+
+blanks_end : (before : ℕ) (lines : List (List ℕ)) → list_all is_blank_line lines ≡ true → end_refusal before lines ≡ None
+unfolding end_refusal
+blanks_end before [] all = refl
+blanks_end before (line ∷ rest) all =
+    let both = both_true (is_blank_line line) (list_all is_blank_line rest) all in
+    ap (λ (b : Bool). if b then end_refusal (before + 1) rest else Some (fault_on (before + 1) kind.AfterEnd)) both.0 ∙ blanks_end (before + 1) rest both.1
+
+abbrev by_end : Scale → ℕ → List (List ℕ) → List ℕ → List (List ℕ) → Bool → Option LineFault → Option ReadError
+by_end scale before names line rest e fault =
+    if e then end_refusal (before + 1) rest else or_behind (before + 1) rest fault (items_refusal scale (before + 1) (names ++ names_on line) rest)
+
+append_none : (xs : List (List ℕ)) → xs ++ [] ≡ xs
+append_none [] = refl
+append_none (x ∷ xs) = ap (λ (ys : List (List ℕ)). x ∷ ys) (append_none xs)
+
+no_names : (names : List (List ℕ)) (line : List ℕ) → is_blank_line line ≡ true → names ++ names_on line ≡ names
+no_names names line is = ap (λ (b : Bool). names ++ (if b then [] else if has_letter 73 line then name_on line ∷ [] else [])) is ∙ append_none names
+
+items_clean : (scale : Scale) (before : ℕ) (names lines : List (List ℕ)) (items : List Item) → AreItems scale names lines items → items_refusal scale before names lines ≡ None
+unfolding items_refusal
+items_clean scale before names (line ∷ rest) items (ends over blanks) =
+    ap (λ (b : Bool). by_end scale before names line rest b (item_fault scale (is_taken names line) line)) over ∙ blanks_end (before + 1) rest blanks
+items_clean scale before names (line ∷ rest) items (blank is more) =
+    ap (λ (b : Bool). by_end scale before names line rest b (item_fault scale (is_taken names line) line)) (blank_goes_on line is)
+    ∙ ap (by_end scale before names line rest false) (clean_blank scale (is_taken names line) line is)
+    ∙ ap (λ (ns : List (List ℕ)). items_refusal scale (before + 1) ns rest) (no_names names line is) ∙ items_clean scale (before + 1) names rest items more
+items_clean scale before names (line ∷ rest) (one ∷ items) (next some clean is more) =
+    ap (λ (b : Bool). by_end scale before names line rest b (item_fault scale (is_taken names line) line)) (item_goes_on scale line one is)
+    ∙ ap (by_end scale before names line rest false) clean ∙ items_clean scale (before + 1) (names ++ names_on line) rest items more
+
+whole_clean : (bytes : List ℕ) (f : Figure) → IsApText bytes f → first_refusal (lines_in bytes) ≡ None
+unfolding first_refusal
+whole_clean bytes f is =
+    let k = is.scale in
+    ap first_refusal is.lines
+    ∙ ap (λ (x : Option LineFault). or_behind 1 (is.head ∷ is.box ∷ is.others) x (head_refusal (is.head ∷ is.box ∷ is.others))) is.right_version
+    ∙ ap (λ (x : Option LineFault). or_behind 2 (is.box ∷ is.others) x (box_refusal (scale_of (at (fields_behind is.head) 3)) (is.box ∷ is.others))) is.right_head
+    ∙ ap (λ (o : Option Scale). box_refusal o (is.box ∷ is.others)) is.at_scale
+    ∙ ap (λ (x : Option LineFault). or_behind 3 is.others x (items_refusal k 3 [] is.others)) is.right_box
+    ∙ items_clean k 3 [] is.others f.items is.items
+
+pub never_both : NeverBoth
+never_both bytes f e is (long many same) = let few = is.few in absurd (omega (arith, many, few))
+never_both bytes f e is (faulty few refused) = let both : None ≡ Some e = sym (whole_clean bytes f is) ∙ refused in absurd (cc)
+
+-- ---- one figure
+
+pub one_figure : OneFigure
+one_figure bytes f g is also_is = ?
