@@ -1,5 +1,5 @@
 -- The first check that a mappable cell fails.
-use Rattle.std.proofs.Common.{◌≡◌, ℕ, suc, ◌+◌, ◌*◌, ◌^◌, ◌<◌, ◌≤◌, Bool, true, false, IsTrue, List, [], ◌∷◌, ◌++◌, map, length, Option, None, Some, All, refl, sym, ap, subst, ◌∙◌, arith, length-append, inl, inr, ⊎_elim}
+use Rattle.std.proofs.Common.{◌≡◌, ℕ, suc, ◌*◌, ◌^◌, ◌<◌, ◌≤◌, Bool, true, false, IsTrue, List, [], ◌∷◌, length, Option, None, Some, All, refl, sym, ap, subst, arith, length-append, ⊎_elim}
 use Rattle.vlsi_base.specs.declared.name.Name.{Name}
 use Rattle.vlsi_base.specs.Member.{In, here, there}
 use Rattle.sym_geom.specs.declared.rect.Rect.{Rect}

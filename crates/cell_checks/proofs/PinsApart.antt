@@ -1,5 +1,5 @@
 -- Pins of different names that aren't joined.
-use Rattle.std.proofs.Common.{◌≡◌, ◌≢◌, ℕ, zero, suc, ◌+◌, ◌<◌, ◌⊎◌, inl, inr, Bool, true, false, IsTrue, List, [], ◌∷◌, ◌++◌, map, length, get_or, Option, None, Some, All, AllPairs, refl, sym, ap, subst, ◌∙◌, arith, ⊎_elim}
+use Rattle.std.proofs.Common.{◌≡◌, ◌≢◌, ℕ, zero, suc, inl, inr, true, false, IsTrue, List, [], ◌∷◌, get_or, Option, None, Some, AllPairs, refl, sym, ap, subst, ◌∙◌, arith, ⊎_elim}
 use Rattle.std.specs.Prelude.{codes}
 use Rattle.std.proofs.lemmas.Bool.{cases_lt}
 use Rattle.std.specs.Cmp.Lexicographic.{bytes_decides}
@@ -98,22 +98,24 @@ drawn_named line (one ∷ rest) s n h e =
 
 pub apart_pins : (c : Cell) (shapes : List Shape) (names : List Name) → IsFormed c → PinsAreConnectors c → shapes ≡ drawn c.items → names ≡ wanted c
     → AllPairs (AreApart shapes) names → PinsAreApart c
-apart_pins c shapes names formed connectors is same all = record { same = λ a b m n is_m is_n j.
-    let each : AllPairs (AreApart (drawn c.items)) (wanted c) =
-        subst (λ (ns : List Name). AllPairs (AreApart (drawn c.items)) ns) same (subst (λ (xs : List Shape). AllPairs (AreApart xs) names) is all) in
-    let p = place-In m (wanted c) (one_way c connectors m (drawn_named 0 c.items a m (first_In j) is_m)) in
-    let q = place-In n (wanted c) (one_way c connectors n (drawn_named 0 c.items b n (last_In j) is_n)) in
-    elim (cases_lt p.0 q.0) [
-      | inl lt ↦ absurd (each p.0 q.0 m lt q.1 a b (is_m ∙ ap Some (sym (p.2 m))) (is_n ∙ ap Some (sym (q.2 m))) j)
-      | inr ge ↦ elim (cases_lt q.0 p.0) [
-        | inl lt ↦ absurd (each q.0 p.0 m lt p.1 b a (is_n ∙ ap Some (sym (q.2 m))) (is_m ∙ ap Some (sym (p.2 m))) (Joined_sym j))
-        | inr le ↦ let e : p.0 ≡ q.0 = omega arith in sym (p.2 m) ∙ ap (λ (k : ℕ). get_or (wanted c) k m) e ∙ q.2 m
-      ]
-    ] }
+apart_pins c shapes names formed connectors is same all = record {
+  same = λ a b m n is_m is_n j.
+      let each : AllPairs (AreApart (drawn c.items)) (wanted c) =
+      subst (λ (ns : List Name). AllPairs (AreApart (drawn c.items)) ns) same (subst (λ (xs : List Shape). AllPairs (AreApart xs) names) is all) in
+      let p = place-In m (wanted c) (one_way c connectors m (drawn_named 0 c.items a m (first_In j) is_m)) in
+      let q = place-In n (wanted c) (one_way c connectors n (drawn_named 0 c.items b n (last_In j) is_n)) in
+      elim (cases_lt p.0 q.0) [
+        | inl lt ↦ absurd (each p.0 q.0 m lt q.1 a b (is_m ∙ ap Some (sym (p.2 m))) (is_n ∙ ap Some (sym (q.2 m))) j)
+        | inr ge ↦ elim (cases_lt q.0 p.0) [
+          | inl lt ↦ absurd (each q.0 p.0 m lt p.1 b a (is_n ∙ ap Some (sym (q.2 m))) (is_m ∙ ap Some (sym (p.2 m))) (Joined_sym j))
+          | inr le ↦ let e : p.0 ≡ q.0 = omega arith in sym (p.2 m) ∙ ap (λ (k : ℕ). get_or (wanted c) k m) e ∙ q.2 m
+        ]
+      ];
+}
 
 pub pins_apart : (c : Cell) (shapes : List Shape) (names : List Name) → IsFormed c → shapes ≡ drawn c.items → names ≡ wanted c → PinsAreApart c
     → AllPairs (AreApart shapes) names
 pins_apart c shapes names formed is same apart =
     let each : AllPairs (AreApart (drawn c.items)) (wanted c) = λ i j d before within a b is_m is_n chain.
-        wanted_differ c formed i j d before within (apart.same a b (get_or (wanted c) i d) (get_or (wanted c) j d) is_m is_n chain) in
+    wanted_differ c formed i j d before within (apart.same a b (get_or (wanted c) i d) (get_or (wanted c) j d) is_m is_n chain) in
     subst (λ (xs : List Shape). AllPairs (AreApart xs) names) (sym is) (subst (λ (ns : List Name). AllPairs (AreApart (drawn c.items)) ns) (sym same) each)

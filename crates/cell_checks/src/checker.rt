@@ -55,10 +55,7 @@ fn joined_failure(
 
 /// The first check that a mappable cell fails behind that of its connectors.
 #[tactic(auto, using(crate::proofs::Firsts::fails_box, crate::proofs::Firsts::fails_rails, crate::proofs::Firsts::fails_access, crate::proofs::Firsts::passes_first))]
-fn layout_failure(
-    alloc: Global,
-    cell: &Cell,
-) -> Result<Option<Check>, AllocError>
+fn layout_failure(alloc: Global, cell: &Cell) -> Result<Option<Check>, AllocError>
     requires formed { IsFormed cell.now }
     requires connectors { PinsAreConnectors cell.now }
     requires mappable { IsMappable cell.now }
@@ -79,10 +76,7 @@ fn layout_failure(
 }
 
 /// The first check that a cell fails.
-fn first_failure(
-    alloc: Global,
-    cell: &Cell,
-) -> Result<Option<Check>, AllocError>
+fn first_failure(alloc: Global, cell: &Cell) -> Result<Option<Check>, AllocError>
     requires formed { IsFormed cell.now }
     ensures { IfOk result (λ found. IsFirstFailure false cell.now found) }
 {

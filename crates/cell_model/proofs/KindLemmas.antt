@@ -11,7 +11,7 @@ use Rattle.cell_model.specs.Function.{Function, gate, flip_flop, other, opaque}
 use Rattle.cell_model.specs.Cell.{Cell, cell_inputs}
 use Rattle.cell_model.specs.Library.{IsUsable}
 use Rattle.cell_model.specs.Usable.{FitsPins}
-use Rattle.cell_model.specs.Kind.{IsGateOf, IsFunctionOf, HasKind, HasCellOf, needed, IsFirstMissing, first, later}
+use Rattle.cell_model.specs.Covering.{IsGateOf, IsFunctionOf, HasKind, HasCellOf, needed, IsFirstMissing, first, later}
 use Rattle.cell_model.proofs.Members.{place-In, In-at}
 
 -- how many pins are inputs

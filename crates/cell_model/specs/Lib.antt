@@ -7,3 +7,4 @@ pub mod Access
 pub mod Usable
 pub mod Connectors
 pub mod Kind
+pub mod Covering

@@ -7,7 +7,7 @@ ghost use Rattle.machine_meaning.specs.Machine.{is_input};
 ghost use Rattle.cell_model.specs.Library.{IsUsable};
 ghost use Rattle.cell_model.specs.Usable.{IsFormed};
 ghost use Rattle.cell_model.specs.Connectors.{PinsAreConnectors};
-ghost use Rattle.cell_model.specs.Kind.{IsGateOf, HasKind, HasCellOf, needed, IsFirstMissing};
+ghost use Rattle.cell_model.specs.Covering.{IsGateOf, HasKind, HasCellOf, needed, IsFirstMissing};
 ghost use Rattle.cell_model.specs.declared.kind.Kind.{Kind};
 
 use crate::{Cell, Function, Kind, Pin, usable};

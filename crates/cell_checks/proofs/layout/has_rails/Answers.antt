@@ -8,20 +8,22 @@ use Rattle.cell_checks.proofs.layout.has_rails.Goals as goal
 
 pub returns-then-not-has_rail : goal.returns-then-not-has_rail
 returns-then-not-has_rail c =
-    let n = second_wanted c.args.cell.now c.args.names.now c.index-names-1.result c.requires.names c.index-names-1.is in
-    (λ h. absurd (search (rules, h)),
-    λ k. absurd (denied c.has_rail.result c.has_rail.ensures (search rules)
-      (by_rail c.args.cell.now c.args.shapes.now vss c.index-names-1.result 0 RAIL_WIDTH c.rail.result c.requires.shapes n c.rail.ensures k.low)))
+    let n = second_wanted c.args.cell.now c.args.names.now c.index-names-1.result c.requires.names c.index-names-1.is in (
+      λ h. absurd (search (rules, h)),
+      λ k. absurd (denied c.has_rail.result c.has_rail.ensures (search rules)
+          (by_rail c.args.cell.now c.args.shapes.now vss c.index-names-1.result 0 RAIL_WIDTH c.rail.result c.requires.shapes n c.rail.ensures k.low)),
+    )
 
 pub returns : goal.returns
 returns c =
     let n = second_wanted c.args.cell.now c.args.names.now c.index-names-1.result c.requires.names c.index-names-1.is in
     let m = first_wanted c.args.cell.now c.args.names.now c.index-names-0.result c.requires.names c.index-names-0.is in
     let low : HasRail c.args.cell.now vss 0 RAIL_WIDTH =
-        rail_by c.args.cell.now c.args.shapes.now vss c.index-names-1.result 0 RAIL_WIDTH c.rail.result c.requires.shapes n c.rail.ensures
-        (told c.has_rail.result c.has_rail.ensures (search rules)) in
-    (λ h. record {
-      low = low;
-      high = rail_by c.args.cell.now c.args.shapes.now vdd c.index-names-0.result VDD_STRIP_Y ROW_HEIGHT c.rail-2.result c.requires.shapes m c.rail-2.ensures (c.has_rail-2.ensures.0 h);
-    },
-    λ k. c.has_rail-2.ensures.1 (by_rail c.args.cell.now c.args.shapes.now vdd c.index-names-0.result VDD_STRIP_Y ROW_HEIGHT c.rail-2.result c.requires.shapes m c.rail-2.ensures k.high))
+    rail_by c.args.cell.now c.args.shapes.now vss c.index-names-1.result 0 RAIL_WIDTH c.rail.result c.requires.shapes n c.rail.ensures
+    (told c.has_rail.result c.has_rail.ensures (search rules)) in (
+      λ h. record {
+        low = low;
+        high = rail_by c.args.cell.now c.args.shapes.now vdd c.index-names-0.result VDD_STRIP_Y ROW_HEIGHT c.rail-2.result c.requires.shapes m c.rail-2.ensures (c.has_rail-2.ensures.0 h);
+      },
+      λ k. c.has_rail-2.ensures.1 (by_rail c.args.cell.now c.args.shapes.now vdd c.index-names-0.result VDD_STRIP_Y ROW_HEIGHT c.rail-2.result c.requires.shapes m c.rail-2.ensures k.high),
+    )

@@ -1,5 +1,5 @@
 use Rattle.std.proofs.Common.{rules}
-use Rattle.cell_model.specs.Kind.{first, later}
+use Rattle.cell_model.specs.Covering.{first, later}
 use Rattle.cell_model.proofs.KindLemmas.{told, denied, dff_missing, all_there}
 use Rattle.cell_model.proofs.kinds.first_missing.Goals as goal
 use Rattle.cell_model.proofs.kinds.first_missing.Goals.{else-registers-via-then-registers+else-not-has_cell_of-5, else-registers-via-else-registers}
