@@ -1,5 +1,5 @@
 // The valuation of a machine under an input vector, and the expression that has an output's value under each.
-ghost use Rattle.std.specs.Prelude.{◌≡◌, ◌++◌, ◌∷◌, [], ◌+◌, ◌≤◌, ◌<◌, ℕ, List, Bool, true, false, length, map, if◌then◌else◌, IfOk, OnOk, IfSome};
+ghost use Rattle.std.specs.Prelude.{◌≡◌, ◌++◌, ◌∷◌, [], ◌+◌, ◌≤◌, ◌<◌, ℕ, List, Bool, true, false, length, map, if◌then◌else◌, IfOk, OnOk, IfSome, IsTrue};
 ghost use Rattle.bool_expr.specs.Expression.{bit, constant, val, IsOver};
 ghost use Rattle.bool_expr.specs.View.{view};
 ghost use Rattle.machine_core.specs.Built.{built};
@@ -90,20 +90,48 @@ fn constant(e: &Expr) -> Option<bool>
     }
 }
 
-/// What has the first value where a variable is 1, and the second elsewhere. Constants that are equal are one, and those that
-/// differ are the variable or its inverse.
+/// Whether two expressions are spelled alike. Of pairs, which no table gives, this isn't asked.
+fn is_same(a: &Expr, b: &Expr) -> bool
+    ensures { IsTrue result → view a.now ≡ view b.now }
+{
+    match a {
+        Expr::Const(bit) => match b {
+            Expr::Const(other) => bit == other,
+            _ => false,
+        },
+        Expr::Var(k) => match b {
+            Expr::Var(other) => k == other,
+            _ => false,
+        },
+        Expr::Not(inner) => match b {
+            Expr::Not(other) => is_same(inner, other),
+            _ => false,
+        },
+        Expr::Choice(condition, high, low) => match b {
+            Expr::Choice(other, first, second) => {
+                is_same(condition, other) && is_same(high, first) && is_same(low, second)
+            }
+            _ => false,
+        },
+        Expr::Pair(_, _, _) => false,
+    }
+}
+
+/// What has the first value where a variable is 1, and the second elsewhere. Halves that are alike
+/// are one, and constants that differ are the variable or its inverse.
 fn chosen(alloc: Global, variable: u32, high: Expr, low: Expr) -> Result<Expr, AllocError>
     ensures value { IfOk result (λ e. (w : List Bool) → val (view e) w ≡ (if bit w variable then val (view high) w else val (view low) w)) }
     ensures over { IfOk result (λ e. (n : ℕ) → variable < n → IsOver (view high) n → IsOver (view low) n → IsOver (view e) n) }
 {
+    if is_same(&high, &low) {
+        return Ok(high);
+    }
     match (constant(&high), constant(&low)) {
         (Some(true), Some(false)) => Ok(Expr::Var(variable)),
         (Some(false), Some(true)) => {
             let inner = Box::new(alloc, Expr::Var(variable))?;
             Ok(Expr::Not(inner))
         }
-        (Some(true), Some(true)) => Ok(Expr::Const(true)),
-        (Some(false), Some(false)) => Ok(Expr::Const(false)),
         _ => {
             let condition = Box::new(alloc, Expr::Var(variable))?;
             let high = Box::new(alloc, high)?;
