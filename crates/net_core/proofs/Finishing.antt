@@ -1,15 +1,19 @@
 -- Drafts that grow, and the netlist of a draft.
-use Rattle.std.proofs.Common.{◌≡◌, ℕ, zero, suc, ◌<◌, List, [], ◌∷◌, ◌++◌, length, get_or, map, Result, Ok, Err, refl, sym, ap, ◌∙◌, append_assoc, arith}
+use Rattle.std.proofs.Common.{◌≡◌, ℕ, zero, suc, ◌<◌, List, [], ◌∷◌, ◌++◌, length, get_or, map, Result, Ok, Err, refl, sym, ap, ◌∙◌, append_assoc, arith, ◌⊎◌, inl, inr, subst}
 use Rattle.std.specs.List.{flat_map}
-use Rattle.std.specs.Result.{OnOk}
+use Rattle.std.specs.Result.{OnOk, OnErr}
 use Rattle.std.proofs.lemmas.Grind.{flat_map-append}
 use Rattle.std.proofs.lemmas.Option.{slice_get_within, get_or_from_slice_get}
 use Rattle.vlsi_base.specs.declared.name.Port.{Port}
 use Rattle.vlsi_base.specs.declared.name.Terminal.{Terminal}
-use Rattle.net_core.specs.Places.{Stands}
+use Rattle.net_core.specs.Places.{IsThere, Stands}
 use Rattle.net_core.specs.Netlist.{Instance, Netlist, IsNetlist, InTurn, port, pins_of, terminals_of, HasClass}
-use Rattle.net_core.specs.Frame.{Frame, frame_terminals, AddsInstance, IsSound, netlist_of}
+use Rattle.net_core.specs.Frame.{Frame, frame_terminals, AddsInstance, IsSound, IsUsed, netlist_of}
 use Rattle.net_core.specs.Joins.{Draft, Joined, AreWithin, LabelsJoined, NumbersLabels, terminal_at, pairs_at, draft_of, with_instance, IsFinished}
+use Rattle.std.proofs.lemmas.List.{length-append, map-append}
+use Rattle.net_core.proofs.Standing.{stands_left, stands_last}
+use Rattle.net_core.proofs.Frames.{unmapped}
+use Rattle.net_core.proofs.Learning.{learned_only}
 use Rattle.net_core.proofs.Sound.{terminals_once}
 use Rattle.net_core.proofs.Joining.{numbers_to_terminals, terminals_to_numbers}
 
@@ -52,12 +56,47 @@ netlist_sound name frame classes count sound each turns = record {
   turns = turns;
 }
 
-pub finished : (name : List ℕ) (frame : Frame) (js : List (ℕ × ℕ)) (labels classes : List ℕ) (count : ℕ) → IsSound frame → AreWithin (length (frame_terminals frame)) js
+-- the model of an instance is one that instances can be given
+has_model : (f : Frame) → IsSound f → (model : List ℕ) → IsThere (map (λ (i : Instance). i.model) f.instances) model → IsThere f.models model
+has_model f sound model t =
+    let u = unmapped (λ (i : Instance). i.model) f.instances t.0 model t.1 in
+    let w = slice_get_within f.instances t.0 u.0 u.1 in
+    let g : get_or f.instances t.0 u.0 ≡ u.0 = get_or_from_slice_get f.instances t.0 u.0 u.0 u.1 in
+    subst (λ (m : List ℕ). IsThere f.models m) u.2 (subst (λ (i : Instance). IsThere f.models i.model) g (sound.models t.0 u.0 w))
+
+-- an added instance keeps each model in use
+pub used_more : (old new : Frame) (i : Instance) → IsUsed old → AddsInstance old new i → IsUsed new
+used_more old new i used adds model there = by (learned_only old.models new.models i.model adds.models model there) where
+  grown : map (λ (x : Instance). x.model) new.instances ≡ map (λ (x : Instance). x.model) old.instances ++ i.model ∷ []
+  grown = ap (map (λ (x : Instance). x.model)) adds.instances ∙ map-append (λ (x : Instance). x.model) old.instances (i ∷ [])
+
+  by : IsThere old.models model ⊎ (i.model ≡ model) → IsThere (map (λ (x : Instance). x.model) new.instances) model
+  by (inl t) = let u = used model t in subst (λ (xs : List (List ℕ)). IsThere xs model) (sym grown) (u.0, stands_left (map (λ (x : Instance). x.model) old.instances) (i.model ∷ []) u.0 model u.1)
+  by (inr e) = subst (λ (xs : List (List ℕ)). IsThere xs model) (sym grown)
+      (subst (λ (m : List ℕ). IsThere (map (λ (x : Instance). x.model) old.instances ++ i.model ∷ []) m) e (length (map (λ (x : Instance). x.model) old.instances), stands_last (map (λ (x : Instance). x.model) old.instances) i.model))
+
+pub used_after : {T E : Type 0} (r : Result T E) (old new : Frame) (i : Instance) → IsUsed old → OnOk r (AddsInstance old new i) → OnErr r (new ≡ old) → IsUsed new
+used_after (Ok x) old new i used adds same = used_more old new i used adds
+used_after (Err e) old new i used adds same = subst (λ (f : Frame). IsUsed f) (sym same) used
+
+within_more : (old new : Frame) (js : List (ℕ × ℕ)) (i : Instance) → AddsInstance old new i → AreWithin (length (frame_terminals old)) js → AreWithin (length (frame_terminals new)) js
+within_more old new js i adds within k d l =
+    let w = within k d l in
+    let g = length-append (frame_terminals old) (flat_map pins_of (i ∷ [])) in
+    let e : length (frame_terminals new) ≡ length (frame_terminals old ++ flat_map pins_of (i ∷ [])) = ap length (terminals_grow old new i adds) in
+    (omega (arith, w.0, g, e), omega (arith, w.1, g, e))
+
+pub within_after : {T E : Type 0} (r : Result T E) (old new : Frame) (js : List (ℕ × ℕ)) (i : Instance) → AreWithin (length (frame_terminals old)) js → OnOk r (AddsInstance old new i) → OnErr r (new ≡ old) → AreWithin (length (frame_terminals new)) js
+within_after (Ok x) old new js i within adds same = within_more old new js i adds within
+within_after (Err e) old new js i within adds same = subst (λ (f : Frame). AreWithin (length (frame_terminals f)) js) (sym same) within
+
+pub finished : (name : List ℕ) (frame : Frame) (js : List (ℕ × ℕ)) (labels classes : List ℕ) (count : ℕ) → IsSound frame → IsUsed frame → AreWithin (length (frame_terminals frame)) js
     → length labels ≡ length (frame_terminals frame) → LabelsJoined js labels → NumbersLabels labels classes count → IsFinished (draft_of name frame js) (netlist_of name frame classes count)
-finished name frame js labels classes count sound within each joined numbers = record {
+finished name frame js labels classes count sound used within each joined numbers = record {
   name = refl;
   ports = refl;
   instances = refl;
+  models = λ model. (used model, λ t. has_model frame sound model t);
   classes = λ a b j k h g. (to a b j k h g, from a b j k h g);
 } where
   n : Netlist

@@ -11,9 +11,9 @@ use Rattle.std.proofs.lemmas.Bool.{cases_lt}
 use Rattle.std.proofs.lemmas.Option.{get_or_from_slice_get}
 use Rattle.vlsi_base.specs.declared.name.Port.{Port}
 use Rattle.net_core.specs.declared.frame.Node.{Node}
-use Rattle.net_core.specs.Places.{Stands, IsThere, Learned, position_of}
+use Rattle.net_core.specs.Places.{Stands, IsThere, Learned, IsShortened, position_of}
 use Rattle.net_core.specs.Netlist.{Instance, pin_of, AreInOrder}
-use Rattle.net_core.specs.Frame.{Frame, instance_of, frame_of, node_pins, IsFrame, HasSameParts, AddsInstance}
+use Rattle.net_core.specs.Frame.{Frame, instance_of, frame_of, node_pins, IsFrame, AddsInstance}
 use Rattle.net_core.proofs.Standing.{position_absent, position_stands, none_twice_push}
 
 pub learned_grows : (old new : List (List ℕ)) (t : List ℕ) → Learned old new t → (rest : List (List ℕ)) × (new ≡ old ++ rest)
@@ -125,18 +125,12 @@ pub on_err : {T E P : Type 0} (r : Result T E) → P → OnErr r P
 on_err (Ok x) p = tt
 on_err (Err e) p = p
 
-pub same_parts : {ports : List Port} {models : List (List ℕ)} {nodes : List Node} {names : List (List ℕ)} {count : ℕ} → IsFrame ports models nodes names count
-    → (f : Frame) → frame_of ports models nodes ≡ f → (new : List (List ℕ)) (t : List ℕ) (items : List Node) → Learned models new t → items ≡ nodes → HasSameParts f (frame_of ports new items)
-same_parts {ports} {models} {nodes} {names} {count} frame f view new t items learned same = record {
-  ports = ap (λ (g : Frame). g.ports) view;
-  instances = ap (map (instance_of new)) same ∙ models_same models new t nodes learned frame.known ∙ ap (λ (g : Frame). g.instances) view;
-}
-
 pub adds_instance : {ports : List Port} {models : List (List ℕ)} {nodes : List Node} {names : List (List ℕ)} {count : ℕ} → IsFrame ports models nodes names count
     → (f : Frame) → frame_of ports models nodes ≡ f → (new : List (List ℕ)) (t : List ℕ) (items : List Node) (node : Node) → Learned models new t → Stands new node.model t → items ≡ nodes ++ node ∷ []
     → AddsInstance f (frame_of ports new items) (record { name = node.name; model = t; pins = node.pins })
 adds_instance {ports} {models} {nodes} {names} {count} frame f view new t items node learned stands pushed = record {
   ports = ap (λ (g : Frame). g.ports) view;
+  models = subst (λ (g : Frame). Learned g.models new t) view learned;
   instances =
       ap (map (instance_of new)) pushed ∙ map-append (instance_of new) nodes (node ∷ [])
       ∙ ap (λ (xs : List Instance). xs ++ instance_of new node ∷ []) (models_same models new t nodes learned frame.known ∙ ap (λ (g : Frame). g.instances) view)
@@ -144,3 +138,10 @@ adds_instance {ports} {models} {nodes} {names} {count} frame f view new t items 
 } where
   made : List ℕ → Instance
   made m = record { name = node.name; model = m; pins = node.pins }
+
+-- what was learned is taken away again
+pub unlearned : (old mid new : List (List ℕ)) (t : List ℕ) (count : ℕ) → Learned old mid t → count ≡ length old → IsShortened mid new count → new ≡ old
+unlearned old mid new t count l e short = by (position_of old t) l where
+  by : (o : Option ℕ) → MatchOption o (mid ≡ old ++ t ∷ []) (λ _. mid ≡ old) → new ≡ old
+  by None p = short.last old t p (sym e)
+  by (Some k) p = short.kept (let n : length mid ≡ length old = ap length p in omega (arith, n, e)) ∙ p

@@ -38,7 +38,7 @@ absent_of texts i l once = by (position_of (take i texts) (get_or texts i [])) r
       absurd (omega (arith, same, w, n))
 
 -- what stands there once a text was learned
-learned_only : (now new : List (List ℕ)) (t : List ℕ) → Learned now new t → (x : List ℕ) → IsThere new x → IsThere now x ⊎ (t ≡ x)
+pub learned_only : (now new : List (List ℕ)) (t : List ℕ) → Learned now new t → (x : List ℕ) → IsThere new x → IsThere now x ⊎ (t ≡ x)
 learned_only now new t l x there = by (position_of now t) l where
   by : (o : Option ℕ) → MatchOption o (new ≡ now ++ t ∷ []) (λ _. new ≡ now) → IsThere now x ⊎ (t ≡ x)
   by None e = cases (split now (t ∷ []) there.0 x (subst (λ (xs : List (List ℕ)). Stands xs there.0 x) e there.1)) where

@@ -1,7 +1,7 @@
 -- A map from texts, with one more text.
 use Rattle.std.proofs.Common.{◌≡◌, ℕ, Bool, true, false, cond, List, [], ◌∷◌, Option, Some, None, refl, sym, ap, subst, ◌∙◌, bytes_eq}
 use Rattle.std.specs.Global.{Vec}
-use Rattle.std.specs.Map.{lookup}
+use Rattle.std.specs.Map.{lookup, remove_entry}
 use Rattle.std.specs.BTreeMap.{is_at, insert_entry}
 use Rattle.std.specs.Cmp.Lexicographic.{slice_cmp}
 use Rattle.std.specs.Ordering.{nat_cmp, is_eq, match_ordering}
@@ -60,3 +60,15 @@ lookup-insert_entry (e ∷ es) k v t = by (lookup-insert_entry es k v t) (slice_
       ∙ behind (bytes_eq k.items t) (at_text t e.0) v e.1 (lookup (at_text t) es) (λ p q. let a = same_of k.items t p in let b = same_of e.0.items t (sym (at_text_is t e.0) ∙ q) in let same : k.items ≡ e.0.items = a ∙ sym b in
       let eq : is_eq (slice_cmp nat_cmp k.items e.0.items) ≡ true = is_eq-slice_cmp k.items e.0.items ∙ subst (λ (x : List ℕ). bytes_eq k.items x ≡ true) same (itself k.items) in
       let no : false ≡ true = sym (ap is_eq is) ∙ eq in absurd cc)
+
+-- without the entry of a text
+pub lookup-remove_entry : (es : List (Vec ℕ × ℕ)) (x t : List ℕ) → bytes_eq x t ≡ false → lookup (at_text t) (remove_entry (at_text x) es) ≡ lookup (at_text t) es
+lookup-remove_entry [] x t apart = refl
+lookup-remove_entry (e ∷ es) x t apart = by (lookup-remove_entry es x t apart) (at_text x e.0) refl where
+  by : lookup (at_text t) (remove_entry (at_text x) es) ≡ lookup (at_text t) es → (b : Bool) → at_text x e.0 ≡ b
+      → lookup (at_text t) (cond b es (e ∷ remove_entry (at_text x) es)) ≡ cond (at_text t e.0) (Some e.1) (lookup (at_text t) es)
+  by rest true here =
+      let same : e.0.items ≡ x = same_of e.0.items x (sym (at_text_is x e.0) ∙ here) in
+      let other : at_text t e.0 ≡ false = at_text_is t e.0 ∙ ap (λ (y : List ℕ). bytes_eq y t) same ∙ apart in
+      ap (λ b. cond b (Some e.1) (lookup (at_text t) es)) (sym other)
+  by rest false here = ap (λ (o : Option ℕ). cond (at_text t e.0) (Some e.1) o) rest

@@ -3,6 +3,7 @@ use Rattle.std.proofs.Common.{◌≡◌, ℕ, suc, zero, ◌+◌, Bool, true, fa
 use Rattle.std.specs.Prelude.{option_map}
 use Rattle.std.specs.Global.{Vec}
 use Rattle.std.specs.BTreeMap.{BTreeMap}
+use Rattle.std.proofs.lemmas.Option.{slice_get_within}
 use Rattle.net_core.specs.Places.{Stands, IsThere, NoneTwice, position_of, place_at, KnowsPlaces}
 use Rattle.net_core.proofs.Lookups.{same_of, itself}
 
@@ -109,3 +110,33 @@ knows_push old new texts items text n knows lacks count puts pushed = record {
 pub stands_last : {X : Type 0} (xs : List X) (x : X) → Stands (xs ++ x ∷ []) (length xs) x
 stands_last [] x = refl
 stands_last (y ∷ xs) x = stands_last xs x
+
+none_twice_left : {X : Type 0} (xs : List X) (x : X) → NoneTwice (xs ++ x ∷ []) → NoneTwice xs
+none_twice_left xs x once i j y p q = once i j y (stands_left xs (x ∷ []) i y p) (stands_left xs (x ∷ []) j y q)
+
+none_twice_last : {X : Type 0} (xs : List X) (x : X) → NoneTwice (xs ++ x ∷ []) → IsThere xs x → ⊥
+none_twice_last xs x once t =
+    let e : t.0 ≡ length xs = once t.0 (length xs) x (stands_left xs (x ∷ []) t.0 x t.1) (stands_last xs x) in
+    let w = slice_get_within xs t.0 x t.1 in omega (arith, e, w)
+
+absent_position : (texts : List (List ℕ)) (t : List ℕ) → (IsThere texts t → ⊥) → position_of texts t ≡ None
+absent_position texts t lacks = by (position_of texts t) refl where
+  by : (o : Option ℕ) → position_of texts t ≡ o → o ≡ None
+  by None e = refl
+  by (Some k) e = absurd (lacks (k, position_stands texts t k e))
+
+pub knows_pop : (old new : BTreeMap (Vec ℕ) ℕ) (items texts : List (List ℕ)) (text : List ℕ) → KnowsPlaces old items → items ≡ texts ++ text ∷ []
+    → ((t : List ℕ) → place_at new t ≡ cond (bytes_eq text t) None (place_at old t)) → KnowsPlaces new texts
+knows_pop old new items texts text knows is puts = record {
+  each = λ t. puts t ∙ by t (bytes_eq text t) refl;
+  once = none_twice_left texts text once;
+} where
+  once : NoneTwice (texts ++ text ∷ [])
+  once = subst (λ (xs : List (List ℕ)). NoneTwice xs) is knows.once
+
+  lacks : position_of texts text ≡ None
+  lacks = absent_position texts text (none_twice_last texts text once)
+
+  by : (t : List ℕ) (b : Bool) → bytes_eq text t ≡ b → cond b None (place_at old t) ≡ position_of texts t
+  by t true e = sym (ap (position_of texts) (sym (same_of text t e)) ∙ lacks)
+  by t false e = knows.each t ∙ ap (λ (xs : List (List ℕ)). position_of xs t) is ∙ position_push texts text t lacks ∙ ap (λ b. cond b (Some (length texts)) (position_of texts t)) e

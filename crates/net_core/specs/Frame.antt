@@ -7,7 +7,7 @@ use Rattle.vlsi_base.specs.declared.name.Terminal.{Terminal}
 use Rattle.net_core.specs.declared.frame.Node.{Node}
 use Rattle.net_core.specs.declared.error.BuildError.{BuildError}
 use Rattle.net_core.specs.declared.error.BuildError.TheVariants as error
-use Rattle.net_core.specs.Places.{Stands, IsThere, NoneTwice, Begins, AddsOnly}
+use Rattle.net_core.specs.Places.{Stands, IsThere, NoneTwice, Begins, AddsOnly, Learned}
 use Rattle.net_core.specs.Netlist.{Instance, Netlist, pin_of, terminals_of, AreInOrder}
 
 pub record Frame : Type 0 where
@@ -40,15 +40,15 @@ pub record IsFrame (ports : List Port) (models : List (List ℕ)) (nodes : List 
   pub counted : count ≡ length ports + length (flat_map node_pins nodes)
   pub few : count < 2 ^ 32
 
--- one more instance behind the others
+-- one more instance behind the others, whose model is then one that instances can be given
 pub record AddsInstance (old new : Frame) (i : Instance) : Type 0 where
   pub ports : new.ports ≡ old.ports
+  pub models : Learned old.models new.models i.model
   pub instances : new.instances ≡ old.instances ++ i ∷ []
 
--- the same ports and instances; there may be more models that instances can be given
-pub record HasSameParts (old new : Frame) : Type 0 where
-  pub ports : new.ports ≡ old.ports
-  pub instances : new.instances ≡ old.instances
+-- each model that instances can be given is that of an instance
+abbrev pub IsUsed : Frame → Type 0
+IsUsed f = (model : List ℕ) → IsThere f.models model → IsThere (map (λ i. i.model) f.instances) model
 
 -- why an instance of this name isn't added, if memory hasn't run out
 abbrev pub IsNoPlaceFor : List Instance → List ℕ → BuildError → Type 0

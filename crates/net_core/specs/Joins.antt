@@ -71,9 +71,11 @@ IsNoJoin d a b error.Memory = Unit {0}
 IsNoJoin d a b error.Twice = ⊥
 IsNoJoin d a b error.Unknown = IsThere (draft_terminals d) a → IsThere (draft_terminals d) b → ⊥
 
--- the netlist of a draft: two terminals have one class exactly where the draft's pairs join them
+-- The netlist of a draft: two terminals have one class exactly where the draft's pairs join them. Its models are those of its
+-- instances.
 pub record IsFinished (d : Draft) (n : Netlist) : Type 0 where
   pub name : n.name ≡ d.name
   pub ports : n.ports ≡ d.ports
   pub instances : n.instances ≡ d.instances
+  pub models : (model : List ℕ) → IsThere n.models model ↔ IsThere (map (λ i. i.model) d.instances) model
   pub classes : (a b : Terminal) (j k : ℕ) → HasClass n a j → HasClass n b k → (j ≡ k) ↔ Joined d.joins a b

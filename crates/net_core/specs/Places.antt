@@ -1,5 +1,5 @@
 -- Where an element stands in a list.
-use Rattle.std.specs.Prelude.{◌≡◌, ◌⊎◌, ℕ, ◌<◌, suc, List, [], ◌∷◌, ◌++◌, Option, None, Some, option_map, MatchOption, bytes_eq, slice_get, if◌then◌else◌}
+use Rattle.std.specs.Prelude.{◌≡◌, ◌⊎◌, ℕ, ◌<◌, ◌≤◌, suc, List, [], ◌∷◌, ◌++◌, Option, None, Some, length, option_map, MatchOption, bytes_eq, slice_get, if◌then◌else◌}
 use Rattle.std.specs.Global.{Vec}
 use Rattle.std.specs.BTreeMap.{BTreeMap, get_by}
 use Rattle.std.specs.Cmp.Lexicographic.{slice_cmp}
@@ -51,3 +51,8 @@ AddsOnly {X} old new more = (x : X) → IsThere new x → IsThere old x ⊎ IsTh
 abbrev pub IsFirstPlace : List ℕ → ℕ → Option ℕ → Type 0
 IsFirstPlace xs x None = IsThere xs x → ⊥
 IsFirstPlace xs x (Some k) = Stands xs k x × ((j : ℕ) → j < k → Stands xs j x → ⊥)
+
+-- the last element was taken away, where there were more than so many
+pub record IsShortened {X : Type 0} (old new : List X) (count : ℕ) : Type 0 where
+  pub last : (xs : List X) (x : X) → old ≡ xs ++ x ∷ [] → length xs ≡ count → new ≡ xs
+  pub kept : length old ≤ count → new ≡ old

@@ -23,14 +23,14 @@ pub struct Builder {
 
 impl Model for Builder {
     ghost use Rattle.std.specs.Prelude.{length};
-    ghost use Rattle.net_core.specs.Frame.{frame_terminals};
+    ghost use Rattle.net_core.specs.Frame.{frame_terminals, IsUsed};
     ghost use Rattle.net_core.specs.Joins.{Draft, draft_of, AreWithin};
 
     ghost Value = { Draft };
 
     ghost view = { λ a. draft_of a.name a.frame a.joins.items };
 
-    ghost invariant = { λ a. AreWithin (length (frame_terminals a.frame)) a.joins.items };
+    ghost invariant = { λ a. AreWithin (length (frame_terminals a.frame)) a.joins.items × IsUsed a.frame };
 }
 
 impl Builder {

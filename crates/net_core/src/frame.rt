@@ -5,7 +5,7 @@ ghost use Rattle.net_core.specs.Netlist.{port};
 ghost use Rattle.net_core.specs.Named.{terminal_names, HasNamesAt};
 ghost use Rattle.net_core.specs.Places.{IsThere, IsPlaceOf, position_of};
 ghost use Rattle.net_core.specs.Netlist.{AreInOrder};
-ghost use Rattle.net_core.specs.Frame.{frame_terminals, AddsInstance, HasSameParts, IsNoPlaceFor, IsPinPlace, IsSound, instance_of, SetsModelAt, ReservesNames, node_pins};
+ghost use Rattle.net_core.specs.Frame.{frame_terminals, AddsInstance, IsNoPlaceFor, IsPinPlace, IsSound, instance_of, SetsModelAt, ReservesNames, node_pins};
 
 use crate::error::BuildError;
 use crate::roll::Roll;
@@ -185,7 +185,7 @@ impl Frame {
         }
     }
 
-    /// Puts an instance behind the others; answers its number.
+    /// Puts an instance behind the others; answers its number. Without memory all stays as it was.
     pub fn add(
         &mut self,
         alloc: Global,
@@ -200,17 +200,25 @@ impl Frame {
         ensures added { OnOk result (AddsInstance self.old self.new (record { name = name.now; model = model.now; pins = pins.now })) }
         ensures fresh { OnOk result (IsThere (map (λ i. i.name) self.old.instances) name.now → ⊥) }
         ensures refused { IfErr result (λ e. IsNoPlaceFor self.old.instances name.now e) }
-        ensures kept { OnErr result (HasSameParts self.old self.new) }
+        ensures kept { OnErr result (self.new ≡ self.old) }
     {
         if self.names.place(name).is_some() {
             return Err(BuildError::Twice);
         }
         let number = self.nodes.len() as u32;
-        let model = self.models.learn(alloc, model)?;
-        let node = node_of(alloc, name, model, self.count, pins)?;
-        put(alloc, &mut self.nodes, &mut self.names, name, node)?;
-        self.count += pins.as_slice().len() as u32;
-        Ok(number)
+        let mut node = node_of(alloc, name, 0, self.count, pins)?;
+        let known = self.models.texts().len();
+        node.model = self.models.learn(alloc, model)?;
+        match put(alloc, &mut self.nodes, &mut self.names, name, node) {
+            Ok(()) => {
+                self.count += pins.as_slice().len() as u32;
+                Ok(number)
+            }
+            Err(AllocError) => {
+                self.models.shorten(known);
+                Err(BuildError::Memory)
+            }
+        }
     }
 
     /// The ports. Takes no memory.

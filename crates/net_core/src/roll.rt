@@ -1,7 +1,7 @@
 // Different texts in their order, each found by its text.
 ghost use Rattle.std.specs.Prelude.{◌≡◌, ◌++◌, ◌∷◌, [], None, Some, IfOk, OnOk, OnErr, ℕ, List, bytes_eq, if◌then◌else◌, slice_get};
 ghost use Rattle.std.specs.List.{All};
-ghost use Rattle.net_core.specs.Places.{place_at, position_of, Learned, IsThere, Begins, AddsOnly, NoneTwice};
+ghost use Rattle.net_core.specs.Places.{place_at, position_of, Learned, IsThere, Begins, AddsOnly, IsShortened, NoneTwice};
 
 use std::alloc::{AllocError, Global};
 use std::collections::BTreeMap;
@@ -29,6 +29,13 @@ fn put_place(
     let key = Vec::from_slice(alloc, text)?;
     places.insert(key, place)?;
     Ok(())
+}
+
+/// Takes the place of a text away.
+fn forget(places: &mut Places, text: &[u8])
+    ensures { (t : List ℕ) → place_at places.new t ≡ (if bytes_eq text.now t then None else place_at places.old t) }
+{
+    let _ = places.remove(text);
 }
 
 /// Different texts in their order. Contracts see the list of their bytes' lists.
@@ -105,6 +112,17 @@ impl Roll {
                 let place = self.texts.len();
                 self.push(alloc, text)?;
                 Ok(place)
+            }
+        }
+    }
+
+    /// Takes the last text away, where there are more than `count`. Takes no memory.
+    pub fn shorten(&mut self, count: usize)
+        ensures { IsShortened self.old self.new count }
+    {
+        if self.texts.len() > count {
+            if let Some(text) = self.texts.pop() {
+                forget(&mut self.places, text.as_bytes());
             }
         }
     }

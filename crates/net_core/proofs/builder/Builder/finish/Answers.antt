@@ -13,7 +13,7 @@ returns-clause-finished c =
     subst (λ (ls : List ℕ). NumbersLabels ls c.in_ok-classes.classes.items c.in_ok-classes.count) c.deref-2.ensures.value c.in_ok-classes.ensures in
     subst (λ (n : Netlist). IsFinished c.args.self n) (sym c.new.ensures)
     (subst (λ (d : Draft). IsFinished d (netlist_of c.self.inside.name c.self.inside.frame c.in_ok-classes.classes.items c.in_ok-classes.count)) c.self.view_is
-    (finished c.self.inside.name c.self.inside.frame c.self.inside.joins.items c.in_ok-labels.labels.items c.in_ok-classes.classes.items c.in_ok-classes.count c.count.ensures.sound c.self.invariant each joined numbers))
+    (finished c.self.inside.name c.self.inside.frame c.self.inside.joins.items c.in_ok-labels.labels.items c.in_ok-classes.classes.items c.in_ok-classes.count c.count.ensures.sound c.self.invariant.1 c.self.invariant.0 each joined numbers))
 
 pub returns-clause-sound : goal.returns-clause-sound
 returns-clause-sound c =
