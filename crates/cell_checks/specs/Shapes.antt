@@ -18,7 +18,7 @@ pub record IsRail (name : Name) (r : Rect) (s : Shape) : Type 0 where
   pub metal : s.metal ≡ 1
   pub holds : Within r s.rect
 
--- a line of the grid, a multiple of the pitch, about which a pad doesn't stand out below the coordinate
+-- a line of the grid, a multiple of the pitch, about which a pad, 100 to either side, doesn't stand out below the coordinate
 pub record IsLineAbove (low line : ℤ) : Type 0 where
   pub number : ℤ
   pub grid : line ≡ pos PITCH *ℤ number

@@ -26,7 +26,7 @@ fn numbered(alloc: Global, cell: &Cell, shapes: &[Shape]) -> Result<Vec<u32>, Al
 }
 
 /// The first check of joined shapes that a mappable cell fails.
-#[tactic(auto, using(crate::proofs::Firsts::fails_apart, crate::proofs::Firsts::fails_within, crate::proofs::Firsts::fails_gaps, crate::proofs::Firsts::passes_without))]
+#[tactic(auto, using(crate::proofs::Firsts::fails_apart, crate::proofs::Firsts::fails_within, crate::proofs::Firsts::passes_without))]
 fn joined_failure(
     alloc: Global,
     cell: &Cell,
@@ -54,7 +54,7 @@ fn joined_failure(
 }
 
 /// The first check that a mappable cell fails behind that of its connectors.
-#[tactic(auto, using(crate::proofs::Firsts::fails_box, crate::proofs::Firsts::fails_rails, crate::proofs::Firsts::fails_access, crate::proofs::Firsts::passes_first))]
+#[tactic(auto, using(crate::proofs::Firsts::fails_box, crate::proofs::Firsts::fails_rails, crate::proofs::Firsts::fails_access))]
 fn layout_failure(alloc: Global, cell: &Cell) -> Result<Option<Check>, AllocError>
     requires formed { IsFormed cell.now }
     requires connectors { PinsAreConnectors cell.now }
