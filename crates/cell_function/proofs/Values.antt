@@ -1,16 +1,16 @@
 -- Values by name, and the one valuation of a machine.
 use Rattle.std.proofs.Common.{◌≡◌, IfOk, Result, Ok, Err, ◌<◌, ℕ, zero, suc, ◌+◌, ◌&&◌, Bool, true, false, cond, List, [], ◌∷◌, ◌++◌, map, length, drop, drop-cons, add-one, arith, refl, sym, ap, ◌∙◌, subst, length-append, append-nil, append_assoc, Option, None, Some}
 use Rattle.std.specs.List.{slice_index_or, All}
+use Rattle.std.specs.Prelude.{filter, not}
 use Rattle.std.proofs.lemmas.List.{length-map}
 use Rattle.std.proofs.lemmas.List.Elements.{All-head}
 use Rattle.vlsi_base.specs.declared.name.Name.{Name}
-use Rattle.vlsi_base.specs.declared.name.Port.{Port}
-use Rattle.bool_expr.specs.Expression.{Expression, bit, val, variables, constant, IsOver}
+use Rattle.bool_expr.specs.Expression.{Expression, bit, val, constant, IsOver}
 use Rattle.bool_expr.specs.View.{view}
 use Rattle.machine_meaning.specs.declared.equation.Equation.{Equation as EquationParts}
 use Rattle.machine_meaning.specs.declared.equation.Register.{Register as RegisterParts}
-use Rattle.machine_meaning.specs.Named.{is_same_name, value_at, values_at}
-use Rattle.machine_meaning.specs.Machine.{Machine, Equation, Register, inputs, outputs, register_names}
+use Rattle.machine_meaning.specs.Named.{is_same_name, value_at}
+use Rattle.machine_meaning.specs.Machine.{Machine, Equation, Register, inputs, input_ports, is_clock, outputs, register_names}
 use Rattle.machine_meaning.specs.Cycles.{Settles}
 use Rattle.machine_core.specs.Built.{built}
 use Rattle.machine_core.specs.Order.{In, here, there, IsOrdered, EachReadsBelow, held_names, equation_names}
@@ -248,3 +248,13 @@ first_data xs vars x d e is same_list = e ∙ is ∙ ap (λ (ys : List Name). sl
 pub in_ok : {X E : Type 0} {P Q : X → Type 0} → ((x : X) → P x → Q x) → (r : Result X E) → IfOk r P → IfOk r Q
 in_ok step (Ok x) is = step x is
 in_ok step (Err e) is = tt
+
+-- ---- for callers
+
+without_clock : (names : List Name) → filter (λ name. not (is_clock None name)) names ≡ names
+without_clock [] = refl
+without_clock (n ∷ names) = ap (λ (ns : List Name). n ∷ ns) (without_clock names)
+
+-- without a clock all input ports are inputs of a vector: variable k of a gate is input pin k
+pub all_inputs : (m : Machine) → m.clock ≡ None → inputs m ≡ input_ports m
+all_inputs m none = ap (λ (clock : Option Name). filter (λ name. not (is_clock clock name)) (input_ports m)) none ∙ without_clock (input_ports m)

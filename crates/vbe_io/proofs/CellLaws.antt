@@ -1,19 +1,16 @@
 -- A cell's text: with a machine it is that machine's, and it isn't refused.
-use Rattle.std.proofs.Common.{◌≡◌, ◌<◌, ◌≤◌, ℕ, Bool, true, false, List, length, Option, None, Some, inl, inr, arith, refl, sym, ap, ◌∙◌, subst}
+use Rattle.std.proofs.Common.{◌≡◌, ◌<◌, ℕ, true, false, List, length, Option, None, Some, inl, inr, arith, refl, sym, ap, ◌∙◌, subst}
 use Rattle.std.proofs.lemmas.List.Sorted.{length_permutation}
 use Rattle.vlsi_base.specs.declared.name.Port.{Port}
 use Rattle.vlsi_base.specs.declared.fault.ReadError.{ReadError}
 use Rattle.vlsi_base.specs.declared.fault.ReadError.TheVariants as errors
 use Rattle.machine_meaning.specs.Machine.{Machine}
-use Rattle.vhdl_lexer.specs.Listing.{tokens_in, refusal_in}
 use Rattle.source_meaning.specs.declared.statement.DesignFile.{DesignFile}
 use Rattle.source_meaning.specs.declared.symbol_table.Symbol.{Symbol}
 use Rattle.source_meaning.specs.Symbols.{symbols}
-use Rattle.source_meaning.specs.Checks.{most_ports, first_fault, IsRefusedFor}
-use Rattle.vbe_text.specs.Source.{source_view}
-use Rattle.vbe_io.specs.declared.cell_text.CellText.{CellText}
-use Rattle.vbe_io.specs.Text.{IsWritten, IsVbe, Refused, long, uncut, unwritten, faulty}
-use Rattle.vbe_io.specs.Cell.{pin_bits, is_left_out, IsOpaque, IsBehaviour, ArePins, IsCellText, CellRefused, other, wide}
+use Rattle.source_meaning.specs.Checks.{most_ports, IsRefusedFor}
+use Rattle.vbe_io.specs.Text.{IsWritten, Refused, long, uncut, unwritten, faulty}
+use Rattle.vbe_io.specs.Cell.{pin_bits, is_left_out, IsOpaque, IsBehaviour, ArePins, other, wide}
 use Rattle.vbe_io.specs.Laws.{CellIsMachine, CellNeverBoth}
 use Rattle.vbe_io.proofs.AlikeSources.{refused_alike, symbols_alike}
 use Rattle.vbe_io.proofs.Once.{pass_or_fail, written_once, cut_or_not, written_or_not, never_both}

@@ -1,5 +1,5 @@
 -- The pins of a cell have different names, and what is apart cell is refused.
-use Rattle.std.proofs.Common.{◌≡◌, IfErr, Result, Ok, Err, ℕ, Bool, true, false, cond, List, [], ◌∷◌, ◌++◌, map, Option, None, Some, refl, sym, ap, ◌∙◌, subst}
+use Rattle.std.proofs.Common.{◌≡◌, IfErr, Result, Ok, Err, ℕ, Bool, true, false, cond, List, [], ◌∷◌, map, Option, None, Some, refl, sym, ap, ◌∙◌, subst}
 use Rattle.std.proofs.lemmas.List.{map-append}
 use Rattle.vlsi_base.specs.declared.name.Name.{Name}
 use Rattle.vlsi_base.specs.declared.name.Port.{Port}
@@ -25,13 +25,13 @@ use Rattle.source_meaning.specs.declared.statement.DesignFile.{DesignFile}
 use Rattle.source_meaning.specs.declared.symbol_table.Symbol.{Symbol}
 use Rattle.source_meaning.specs.Symbols.{symbols, symbol_names, all_names, scalar}
 use Rattle.source_meaning.specs.Elaboration.{port_of}
-use Rattle.source_meaning.specs.Checks.{fault, if_symbol, first_repeated, first_fault, IsRefused}
+use Rattle.source_meaning.specs.Checks.{fault, if_symbol, first_repeated, IsRefused}
 use Rattle.vbe_text.specs.Vbe.{RefusedAs, IsRefusedSource}
 use Rattle.vlsi_model.proofs.Members.{Sub, none, Sub-append, Sub-nothing, Sub-itself, different_Sub}
 use Rattle.vlsi_model.proofs.Bits.{different_texts, different_bits}
 use Rattle.vlsi_model.proofs.Stages.{no_fault}
 use Rattle.vbe_io.specs.Text.{IsWritten, IsVbeRefusal, faulty}
-use Rattle.vbe_io.specs.Cell.{pin_dir, pins_towards, symbol_pins, pin_bits, is_left_out, IsOpaque, IsBehaviour, ArePins, IsTooWide, Unfit, CellRefused, IsCellRefusal, IsUnfit, IsPinsRefusal, at_fault, too_wide, other, wide}
+use Rattle.vbe_io.specs.Cell.{pin_dir, pins_towards, symbol_pins, pin_bits, is_left_out, IsBehaviour, IsTooWide, Unfit, CellRefused, IsCellRefusal, IsUnfit, IsPinsRefusal, at_fault, too_wide, other, wide}
 
 -- ---- names of pins
 

@@ -1,4 +1,4 @@
-use Rattle.std.proofs.Common.{◌≡◌, ◌+◌, ◌-◌, arith, ℕ}
+use Rattle.std.proofs.Common.{◌≡◌, ◌+◌, ◌-◌, arith}
 use Rattle.bool_expr.specs.View.{view}
 use Rattle.cell_function.specs.Row.{row}
 use Rattle.cell_function.proofs.Values.{in_ok, rows_split}
