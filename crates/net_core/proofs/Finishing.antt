@@ -6,12 +6,12 @@ use Rattle.std.proofs.lemmas.Grind.{flat_map-append}
 use Rattle.std.proofs.lemmas.Option.{slice_get_within, get_or_from_slice_get}
 use Rattle.vlsi_base.specs.declared.name.Port.{Port}
 use Rattle.vlsi_base.specs.declared.name.Terminal.{Terminal}
-use Rattle.net_core.specs.Places.{IsThere, Stands}
-use Rattle.net_core.specs.Netlist.{Instance, Netlist, IsNetlist, InTurn, port, pins_of, terminals_of, HasClass}
+use Rattle.net_core.specs.Places.{IsThere, Stands, NoneTwice}
+use Rattle.net_core.specs.Netlist.{Instance, Netlist, IsNetlist, InTurn, port, pins_of, terminals, terminals_of, HasClass}
 use Rattle.net_core.specs.Frame.{Frame, frame_terminals, AddsInstance, IsSound, IsUsed, netlist_of}
 use Rattle.net_core.specs.Joins.{Draft, Joined, AreWithin, LabelsJoined, NumbersLabels, terminal_at, pairs_at, draft_of, with_instance, IsFinished}
 use Rattle.std.proofs.lemmas.List.{length-append, map-append}
-use Rattle.net_core.proofs.Standing.{stands_left, stands_last}
+use Rattle.net_core.proofs.Standing.{stands_left, stands_last, stands_same}
 use Rattle.net_core.proofs.Frames.{unmapped}
 use Rattle.net_core.proofs.Learning.{learned_only}
 use Rattle.net_core.proofs.Sound.{terminals_once}
@@ -124,3 +124,15 @@ finished name frame js labels classes count sound used within each joined number
 pub on_ok : {T E P Q : Type 0} (r : Result T E) → (P → Q) → OnOk r P → OnOk r Q
 on_ok (Ok x) f p = f p
 on_ok (Err e) f p = tt
+
+sound_of : (n : Netlist) → IsNetlist n → IsSound (record { ports = n.ports; models = n.models; instances = n.instances })
+sound_of n is = record { ports = is.ports; names = is.names; pins = is.pins; models = is.models; different = is.different }
+
+-- the terminals of a netlist are different, so each has one class
+pub netlist_terminals_once : (n : Netlist) → IsNetlist n → NoneTwice (terminals n)
+netlist_terminals_once n is = terminals_once (record { ports = n.ports; models = n.models; instances = n.instances }) (sound_of n is)
+
+pub class_once : (n : Netlist) → IsNetlist n → (t : Terminal) (j k : ℕ) → HasClass n t j → HasClass n t k → j ≡ k
+class_once n is t j k h g =
+    let e : g.0 ≡ h.0 = netlist_terminals_once n is g.0 h.0 t g.1 h.1 in
+    stands_same n.classes h.0 j k h.2 (subst (λ p. Stands n.classes p k) e g.2)

@@ -64,9 +64,13 @@ pin_role_of Out clocks = role.OutputPin
 abbrev pub pin_role : ModelPin → Role
 pin_role p = pin_role_of p.dir p.is_clock
 
+-- of each pin, in the order of instances
+abbrev pub pin_roles : List ModelPins → List Instance → List Role
+pin_roles table instances = flat_map (λ i. map pin_role (pins_named table i.model)) instances
+
 -- of each terminal, in the order of terminals
 abbrev pub roles : List ModelPins → Netlist → List Role
-roles table n = map port_role n.ports ++ flat_map (λ i. map pin_role (pins_named table i.model)) n.instances
+roles table n = map port_role n.ports ++ pin_roles table n.instances
 
 -- one more terminal of a role
 abbrev pub with_one : Role → Tally → Tally
@@ -251,7 +255,8 @@ pub record AreTallies (members : List (Role × ℕ)) (tallies : List Tally) : Ty
 abbrev pub IsFirstTally : List Tally → ClassFault → ℕ → Option ℕ → Type 0
 IsFirstTally tallies f clocks None = All (λ t. has_fault f clocks t ≡ false) tallies
 IsFirstTally tallies f clocks (Some c) =
-    (c < length tallies) × ((d : Tally) → has_fault f clocks (slice_index_or tallies c d) ≡ true) × All (λ t. has_fault f clocks t ≡ false) (take c tallies)
+    (c < length tallies) × ((d : Tally) → has_fault f clocks (slice_index_or tallies c d) ≡ true)
+    × All (λ t. has_fault f clocks t ≡ false) (take c tallies)
 
 -- the first fault that a tally has, at the first such; none exactly where no tally has a fault
 abbrev pub IsFirstFault : List Tally → ℕ → Option (ClassFault × ℕ) → Type 0

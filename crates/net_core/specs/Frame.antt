@@ -28,6 +28,11 @@ node_pins i = map (pin_of i.name) i.pins
 abbrev pub frame_terminals : Frame → List Terminal
 frame_terminals f = terminals_of f.ports f.instances
 
+-- the number of an instance's first pin is that of the terminals before it
+abbrev pub AreNumbered : List Port → List Node → Type 0
+AreNumbered ports nodes =
+    (k : ℕ) (d : Node) → k < length nodes → (slice_index_or nodes k d).first ≡ length ports + length (flat_map node_pins (take k nodes))
+
 -- what is known of the parts of a frame
 pub record IsFrame (ports : List Port) (models : List (List ℕ)) (nodes : List Node) (names : List (List ℕ)) (count : ℕ) : Type 0 where
   pub sorted : AreInOrder (map (λ p. p.name) ports)
@@ -35,8 +40,7 @@ pub record IsFrame (ports : List Port) (models : List (List ℕ)) (nodes : List 
   pub once : NoneTwice names
   pub pins : All (λ i. AreInOrder i.pins) nodes
   pub known : All (λ i. i.model < length models) nodes
-  -- the number of an instance's first pin is that of the terminals before it
-  pub firsts : (k : ℕ) (d : Node) → k < length nodes → (slice_index_or nodes k d).first ≡ length ports + length (flat_map node_pins (take k nodes))
+  pub firsts : AreNumbered ports nodes
   pub counted : count ≡ length ports + length (flat_map node_pins nodes)
   pub few : count < 2 ^ 32
 

@@ -5,7 +5,7 @@ ghost use Rattle.net_core.specs.Netlist.{port};
 ghost use Rattle.net_core.specs.Named.{terminal_names, HasNamesAt};
 ghost use Rattle.net_core.specs.Places.{IsThere, IsPlaceOf, position_of};
 ghost use Rattle.net_core.specs.Netlist.{AreInOrder};
-ghost use Rattle.net_core.specs.Frame.{frame_terminals, AddsInstance, IsNoPlaceFor, IsPinPlace, IsSound, instance_of, SetsModelAt, ReservesNames, node_pins};
+ghost use Rattle.net_core.specs.Frame.{frame_terminals, AddsInstance, IsNoPlaceFor, IsPinPlace, IsSound, instance_of, AreNumbered, SetsModelAt, ReservesNames, node_pins};
 
 use crate::error::BuildError;
 use crate::roll::Roll;
@@ -239,6 +239,7 @@ impl Frame {
     pub fn nodes(&self) -> &[Node]
         ensures seen { map (instance_of self.now.models) result.now ≡ self.now.instances }
         ensures known { All (λ i. i.model < length self.now.models) result.now }
+        ensures numbered { AreNumbered self.now.ports result.now }
     {
         &self.nodes
     }

@@ -2,7 +2,7 @@
 ghost use Rattle.std.specs.Prelude.{◌≡◌, ◌<◌, ◌^◌, map, length, IfOk, OnOk, OnErr};
 ghost use Rattle.net_core.specs.Checks.{HasNamesOfLeast};
 ghost use Rattle.net_core.specs.Netlist.{IsNetlist, InTurn, IsClassOf, SetsModel, ReservesModels};
-ghost use Rattle.net_core.specs.Frame.{frame_terminals, instance_of, netlist_of};
+ghost use Rattle.net_core.specs.Frame.{frame_terminals, instance_of, AreNumbered, netlist_of};
 ghost use Rattle.net_core.specs.Places.{IsThere, IsFirstPlace};
 ghost use Rattle.std.specs.List.{All};
 
@@ -102,6 +102,7 @@ impl Netlist {
     pub fn nodes(&self) -> &[Node]
         ensures seen { map (instance_of self.now.models) result.now ≡ self.now.instances }
         ensures known { All (λ i. i.model < length self.now.models) result.now }
+        ensures numbered { AreNumbered self.now.ports result.now }
     {
         self.frame.nodes()
     }

@@ -3,7 +3,7 @@ ghost use Rattle.std.specs.Prelude.{◌≡◌, ◌<◌, ◌++◌, map, length, I
 ghost use Rattle.std.specs.List.{All, flat_map};
 ghost use Rattle.net_core.specs.Frame.{instance_of};
 ghost use Rattle.net_core.specs.Places.{NoneTwice};
-ghost use Rattle.net_core.specs.Checks.{Fits, port_role, pin_role, pins_named, roles, all_clocks};
+ghost use Rattle.net_core.specs.Checks.{Fits, port_role, pin_role, pins_named, pin_roles, roles, all_clocks};
 
 use crate::frame::Node;
 use crate::netlist::Netlist;
@@ -66,7 +66,7 @@ fn push_nodes(
 ) -> Result<(), AllocError>
     requires names { names.now ≡ map (λ m. m.model) table.now }
     requires known { All (λ i. i.model < length models.now) nodes.now }
-    ensures { OnOk result (roles.new.items ≡ roles.old.items ++ flat_map (λ i. map pin_role (pins_named table.now i.model)) (map (instance_of models.now) nodes.now)) }
+    ensures { OnOk result (roles.new.items ≡ roles.old.items ++ pin_roles table.now (map (instance_of models.now) nodes.now)) }
 {
     for node in nodes {
         let pins = pins_of(names, table, &models[node.model]);

@@ -1,4 +1,4 @@
-use Rattle.std.proofs.Common.{◌≡◌, ◌∙◌, ap, sym, subst, List, ℕ, None, cond, bytes_eq}
+use Rattle.std.proofs.Common.{◌∙◌, ap, List, ℕ, None, cond, bytes_eq}
 use Rattle.net_core.specs.Places.{place_at}
 use Rattle.net_core.proofs.Standing.{knows_pop}
 use Rattle.net_core.proofs.roll.Roll.shorten.Goals as goal
