@@ -22,7 +22,7 @@ use Rattle.vlsi_base.specs.declared.limits.TheConstants.{MOST_SOURCE_BYTES}
 
 -- ---- one line
 
-no_bytes : (text : List ℕ) → (length text == 0) ≡ true → text ≡ []
+pub no_bytes : (text : List ℕ) → (length text == 0) ≡ true → text ≡ []
 no_bytes [] h = refl
 no_bytes (b ∷ bs) h = let e : length (b ∷ bs) ≡ 0 = eqb-true (length (b ∷ bs)) 0 h in absurd (omega (arith, e))
 

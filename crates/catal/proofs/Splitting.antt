@@ -9,7 +9,7 @@ use Rattle.catal.specs.Line.{is_identifier, is_run, IsSpelled}
 
 -- ---- runs of bytes
 
-both : (a b : Bool) → (a && b) ≡ true → (a ≡ true) × (b ≡ true)
+pub both : (a b : Bool) → (a && b) ≡ true → (a ≡ true) × (b ≡ true)
 both true b h = (refl, h)
 both false b h = absurd cc
 
@@ -103,7 +103,7 @@ split_is line name rest gap word first second n w s =
     let b = cut_is is_blank rest gap word s.blanks w second (sym a.1) (run_all is_blank s.blanks s.blanks_are) stop in
     (a.0, b.1, subst (λ (l : List ℕ). is_run is_blank l ≡ true) b.0 s.blanks_are)
 
-some_of : (kind : ℕ → Bool) (text : List ℕ) → is_run kind text ≡ true → (length text == 0) ≡ false
+pub some_of : (kind : ℕ → Bool) (text : List ℕ) → is_run kind text ≡ true → (length text == 0) ≡ false
 some_of kind text h = by (length text == 0) refl where
   by : (e : Bool) → (length text == 0) ≡ e → (length text == 0) ≡ false
   by false is = is

@@ -5,8 +5,10 @@
 
 mod entry;
 mod error;
+mod laws;
 mod reader;
 mod used;
 
 pub use error::CatalError;
+pub use laws::{never_both, none_refused, one_list};
 pub use reader::{MOST_CELLS, read_catal};
