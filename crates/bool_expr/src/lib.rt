@@ -8,5 +8,5 @@ mod variables;
 
 pub use copies::{copy, renumbered};
 pub use expr::{Bits, Expr, Gate, Vars};
-pub use values::{size, value};
+pub use values::{size, value, value_at};
 pub use variables::support;

@@ -22,7 +22,14 @@ pub fn value(e: &Expr, w: &Bits) -> bool
     requires { IsOver (view e.now) (length w.now) }
     ensures { result ≡ val (view e.now) w.now }
 {
-    let bits = w.as_slice();
+    value_at(e, w.as_slice())
+}
+
+/// The value of an expression where variable `k` is bit `k` of a slice. Takes no memory.
+pub fn value_at(e: &Expr, bits: &[bool]) -> bool
+    requires { IsOver (view e.now) (length bits.now) }
+    ensures { result ≡ val (view e.now) bits.now }
+{
     // What the whole gives where the part that is left to compute gives 0, and where it gives 1.
     let mut at_zero = false;
     let mut at_one = true;
@@ -38,7 +45,7 @@ pub fn value(e: &Expr, w: &Bits) -> bool
                 rest = inner;
             }
             Expr::Pair(operator, left, right) => {
-                let right = value(right, w);
+                let right = value_at(right, bits);
                 let zero = if gate(*operator, false, right) {
                     at_one
                 } else {
@@ -54,7 +61,7 @@ pub fn value(e: &Expr, w: &Bits) -> bool
                 rest = left;
             }
             Expr::Choice(condition, first, second) => {
-                rest = if value(condition, w) { first } else { second };
+                rest = if value_at(condition, bits) { first } else { second };
             }
         }
     }

@@ -1,1 +1,5 @@
 pub mod Texts
+pub mod Members
+pub mod Low
+pub mod Mapped
+pub mod KindLemmas

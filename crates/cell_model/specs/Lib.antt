@@ -1,5 +1,9 @@
+pub mod Function
+pub mod View
 pub mod Cell
 pub mod Library
 pub mod Layout
 pub mod Access
+pub mod Usable
+pub mod Connectors
 pub mod Kind

@@ -6,3 +6,4 @@ pub mod Bands
 pub mod Marks
 pub mod View
 pub mod Seen
+pub mod Ready

@@ -2,10 +2,12 @@
 #![tactic(auto)]
 
 mod bands;
+mod drawing;
 mod marks;
 mod numbers;
 mod shape;
 mod sweep;
 
+pub use drawing::drawn;
 pub use numbers::joints;
 pub use shape::Shape;

@@ -1,4 +1,5 @@
 ghost use Rattle.std.specs.Prelude.{◌≡◌, ◌↔◌, IsTrue};
+ghost use Rattle.std.specs.Option.{option_copied};
 ghost use Rattle.sym_geom.specs.Rect.{Meet};
 ghost use Rattle.sym_shapes.specs.Marks.{mark_of};
 ghost use Rattle.sym_shapes.specs.View.{view_of};
@@ -69,6 +70,13 @@ impl Shape {
                 None => None,
             },
         }
+    }
+
+    /// Its name where it is a connector. Takes no memory.
+    pub fn name(&self) -> Option<&Name>
+        ensures { option_copied result ≡ self.now.name }
+    {
+        self.name.as_ref()
     }
 
     /// Its metal. Takes no memory.

@@ -1,0 +1,7 @@
+//! The checks of a cell's layout, each by a definition of its own, and libraries of cells that pass them.
+#![tactic(auto)]
+
+mod connectors;
+mod verdict;
+
+pub use verdict::{CellVerdict, Check, MOST_COLUMNS};
