@@ -4,10 +4,12 @@
 //! layout, `NAME.ap`.
 #![tactic(auto)]
 
+mod cells;
 mod error;
 mod files;
 mod load;
 
+pub use cells::{CellMaker, cells_of};
 pub use error::LibError;
 pub use files::{catal_file, cell_files, named_files};
 pub use load::{LibraryFiles, load_library};
