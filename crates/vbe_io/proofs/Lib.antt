@@ -3,3 +3,4 @@ pub mod Views
 pub mod AlikeStatements
 pub mod AlikeSources
 pub mod Once
+pub mod Cells

@@ -1,7 +1,8 @@
 // The reader.
-ghost use Rattle.std.specs.Prelude.{◌≡◌, ◌≤◌, None, IfOk, IfErr, length};
+ghost use Rattle.std.specs.Prelude.{◌≡◌, ◌≤◌, false, None, IfOk, IfErr, length};
 ghost use Rattle.vhdl_lexer.specs.Listing.{tokens_in, refusal_in};
 ghost use Rattle.vbe_io.specs.Text.{IsWritten, IsVbe, IsVbeRefusal};
+ghost use Rattle.vbe_io.specs.Cell.{is_left_out};
 
 use machine_core::Machine;
 use source_meaning::DesignFile;
@@ -17,6 +18,7 @@ fn tokens_of(alloc: Global, bytes: &[u8]) -> Result<Tokens, ReadError>
     ensures few { IfOk result (λ _. length bytes.now ≤ MOST_SOURCE_BYTES) }
     ensures cut { IfOk result (λ read. (refusal_in bytes.now ≡ None) × (read ≡ tokens_in bytes.now)) }
     ensures refused { IfErr result (λ e. IsVbeRefusal bytes.now e) }
+    ensures other { IfErr result (λ e. is_left_out e ≡ false) }
 {
     if bytes.len() > MOST_SOURCE_BYTES {
         return Err(ReadError::Limit(Limit {
@@ -27,10 +29,11 @@ fn tokens_of(alloc: Global, bytes: &[u8]) -> Result<Tokens, ReadError>
     tokens(alloc, bytes)
 }
 
-// What is written in a text.
-fn written(alloc: Global, bytes: &[u8]) -> Result<DesignFile, ReadError>
+// What is written in a text. No form of the language is left out here.
+pub(crate) fn written(alloc: Global, bytes: &[u8]) -> Result<DesignFile, ReadError>
     ensures written { IfOk result (λ design. IsWritten bytes.now design) }
     ensures refused { IfErr result (λ e. IsVbeRefusal bytes.now e) }
+    ensures other { IfErr result (λ e. is_left_out e ≡ false) }
 {
     let tokens = tokens_of(alloc, bytes)?;
     read_source(alloc, &tokens)
