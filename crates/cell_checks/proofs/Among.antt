@@ -7,6 +7,7 @@ use Rattle.machine_meaning.specs.Machine.{names_of}
 use Rattle.sym_shapes.specs.Shape.{connector_names}
 use Rattle.cell_model.specs.Cell.{Cell, pin_ports}
 use Rattle.cell_model.specs.Connectors.{PinsAreConnectors}
+use Rattle.cell_checks.specs.Shapes.{wanted}
 use Rattle.cell_model.proofs.Members.{In-at, place-In}
 
 pub among_at : (names : List Name) (name x : Name) (k : ℕ) → k < length names → x ≡ get_or names k x → x ≡ name → In name names
@@ -29,10 +30,6 @@ all_of names others first name h = let r = place-In name names h in subst (λ n.
 pub not_all : (names others : List Name) (k : ℕ) (x : Name) → k < length names → x ≡ get_or names k x → (In x others → ⊥)
     → ((name : Name) → In name names → In name others) → ⊥
 not_all names others k x h at none all = none (all x (among_at names x x k h at refl))
-
--- the names of the supplies and of the pins
-abbrev pub wanted : Cell → List Name
-wanted c = vdd ∷ vss ∷ names_of (pin_ports c)
 
 pub wanted_cases : (c : Cell) (n : Name) → In n (wanted c) → (n ≡ vdd) ⊎ ((n ≡ vss) ⊎ In n (names_of (pin_ports c)))
 wanted_cases c n here = inl refl

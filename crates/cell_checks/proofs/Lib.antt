@@ -1,1 +1,5 @@
 pub mod Among
+pub mod Pads
+pub mod Loops
+pub mod Numbers
+pub mod Layouts

@@ -25,14 +25,17 @@ pub record StandsInRow (c : Cell) : Type 0 where
   pub columns : ℕ
   pub box : HasColumns c columns
 
--- one connector of this name on metal 1 holds the strip at these heights, but for an inset at both ends
+-- what a rail has to hold: the strip at these heights, but for an inset at both ends
+abbrev pub rail : ℤ → ℕ → ℕ → Rect
+rail width from to = record { x1 = pos RAIL_INSET; y1 = pos from; x2 = width -ℤ pos RAIL_INSET; y2 = pos to }
+
+-- one connector of this name on metal 1 holds the rail
 pub record HasRail (c : Cell) (name : Name) (from to : ℕ) : Type 0 where
   pub pin : Shape
   pub listed : In pin (drawn c.items)
   pub named : pin.name ≡ Some name
   pub metal : pin.metal ≡ 1
-  pub holds : Within
-      (record { x1 = pos RAIL_INSET; y1 = pos from; x2 = cell_width c -ℤ pos RAIL_INSET; y2 = pos to }) pin.rect
+  pub holds : Within (rail (cell_width c) from to) pin.rect
 
 -- vss has its rail at the foot of the box, and vdd at its head
 pub record HasRails (c : Cell) : Type 0 where
@@ -46,12 +49,12 @@ pub record HasAccessNode (c : Cell) (pin : Name) : Type 0 where
   pub node : IsTrue (is_access_node c pin (pos PITCH *ℤ column, pos PITCH *ℤ row))
 
 -- each signal pin has an access node
-abbrev pub IsReached : Cell → Type 0
-IsReached c = (name : Name) → In name (names_of (pin_ports c)) → HasAccessNode c name
+pub record IsReached (c : Cell) : Type 0 where
+  pub each : (name : Name) → In name (names_of (pin_ports c)) → HasAccessNode c name
 
 -- no two pins of different names are joined, supplies among them
-abbrev pub PinsAreApart : Cell → Type 0
-PinsAreApart c = (a b : Shape) (m n : Name) → a.name ≡ Some m → b.name ≡ Some n → Joined (drawn c.items) a b → m ≡ n
+pub record PinsAreApart (c : Cell) : Type 0 where
+  pub same : (a b : Shape) (m n : Name) → a.name ≡ Some m → b.name ≡ Some n → Joined (drawn c.items) a b → m ≡ n
 
 -- within the box, away from its sides
 pub record IsInside (width : ℤ) (r : Rect) : Type 0 where
@@ -71,9 +74,9 @@ abbrev pub vdd_strip : Cell → Rect
 vdd_strip c = strip (cell_width c) VDD_STRIP_Y ROW_HEIGHT
 
 -- each shape on metal 1 lies within the box, or within one of the two strips
-abbrev pub KeepsToItsBox : Cell → Type 0
-KeepsToItsBox c = (s : Shape) → In s (drawn c.items) → s.metal ≡ 1
-    → IsInside (cell_width c) s.rect ⊎ Within s.rect (vss_strip c) ⊎ Within s.rect (vdd_strip c)
+pub record KeepsToItsBox (c : Cell) : Type 0 where
+  pub each : (s : Shape) → In s (drawn c.items) → s.metal ≡ 1
+      → IsInside (cell_width c) s.rect ⊎ Within s.rect (vss_strip c) ⊎ Within s.rect (vdd_strip c)
 
 -- the shape is joined to a connector of this name
 pub record IsTied (c : Cell) (s : Shape) (name : Name) : Type 0 where
@@ -90,6 +93,6 @@ pub record KeepsFromRails (c : Cell) : Type 0 where
   pub high : KeepsFromRail c vdd (vdd_strip c)
 
 -- no two signal pins are reached at one x
-abbrev pub ColumnsDiffer : Cell → Type 0
-ColumnsDiffer c = (m n : Name) (x y z : ℤ) → In m (names_of (pin_ports c)) → In n (names_of (pin_ports c))
-    → access_point c m ≡ Some (x, y) → access_point c n ≡ Some (x, z) → m ≡ n
+pub record ColumnsDiffer (c : Cell) : Type 0 where
+  pub same : (m n : Name) (x y z : ℤ) → In m (names_of (pin_ports c)) → In n (names_of (pin_ports c))
+      → access_point c m ≡ Some (x, y) → access_point c n ≡ Some (x, z) → m ≡ n

@@ -2,6 +2,10 @@
 #![tactic(auto)]
 
 mod connectors;
+mod joined;
+mod layout;
+mod row;
+mod shapes;
 mod verdict;
 
 pub use verdict::{CellVerdict, Check, MOST_COLUMNS};
