@@ -4,11 +4,13 @@
 //! layout, `NAME.ap`.
 #![tactic(auto)]
 
+mod behaviour;
 mod cells;
 mod error;
 mod files;
 mod load;
 
+pub use behaviour::read_behaviour;
 pub use cells::{CellMaker, cells_of};
 pub use error::LibError;
 pub use files::{catal_file, cell_files, named_files};
