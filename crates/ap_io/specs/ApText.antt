@@ -1,6 +1,6 @@
--- Which bytes are the ap file of which figure.
-use Rattle.std.specs.Prelude.{◌≡◌, ◌≢◌, ℕ, ◌<◌, ◌^◌, pos, ◌≤ℤ◌, Bool, not, ◌&&◌, ◌||◌, List, [], ◌∷◌, Option, None, Some, All, AllPairs, IsTrue, IfSome, nat_le, nat_eq, codes, ◌⊎◌}
-use Rattle.std.specs.List.{AllPass, starts_with}
+-- Which figures the format can hold, and which bytes are the ap file of which figure.
+use Rattle.std.specs.Prelude.{◌≡◌, ◌≢◌, false, ℕ, ◌<◌, ◌≤◌, ◌^◌, ◌++◌, length, map, ℤ, nat_abs, pos, ◌≤ℤ◌, Bool, not, ◌&&◌, ◌||◌, List, [], ◌∷◌, Option, None, Some, All, AllPairs, IsTrue, IfSome, nat_le, nat_eq, codes, ◌⊎◌}
+use Rattle.std.specs.List.{AllPass, starts_with, list_all}
 use Rattle.vlsi_base.specs.declared.name.Name.{Name}
 use Rattle.sym_geom.specs.Rect.{IsRect}
 use Rattle.sym_geom.specs.declared.item.Direction.{Direction}
@@ -11,7 +11,15 @@ use Rattle.sym_geom.specs.declared.item.Segment.{Segment}
 use Rattle.sym_geom.specs.declared.item.Item.{Item}
 use Rattle.sym_geom.specs.declared.item.Item.TheVariants as item
 use Rattle.ap_io.specs.declared.figure.Figure.{Figure}
+use Rattle.vlsi_base.specs.declared.limits.TheConstants.{MOST_NETLIST_BYTES}
+use Rattle.text_lines.specs.Lines.{lines_of, without_return}
+use Rattle.ap_io.specs.declared.scale.Scale.{Scale}
+use Rattle.ap_io.specs.declared.limits.TheConstants.{MOST_NAME_BYTES, MOST_COORDINATE}
 use Rattle.ap_io.specs.Spelling.{text_of, contact_text}
+use Rattle.ap_io.specs.Fields.{at, is_text_byte, label_of}
+use Rattle.ap_io.specs.Words.{scale_of}
+use Rattle.ap_io.specs.LineFaults.{fields_behind, is_blank_line, is_end, version_fault, name_line_fault, box_line_fault, is_taken, names_on, item_fault}
+use Rattle.ap_io.specs.Items.{IsItem, IsBox}
 
 abbrev pub is_letter : ℕ → Bool
 is_letter c = nat_le 97 c && nat_le c 122
@@ -40,13 +48,9 @@ RunsAlong Down s = s.x1 ≡ s.x2
 RunsAlong Left s = s.y1 ≡ s.y2
 RunsAlong Right s = s.y1 ≡ s.y2
 
--- a byte that stands within a line: neither a line feed nor a carriage return
-abbrev pub is_line_byte : ℕ → Bool
-is_line_byte c = not (nat_eq c 10 || nat_eq c 13)
-
 -- a byte that stands within a field: no comma either
 abbrev pub is_field_byte : ℕ → Bool
-is_field_byte c = not (nat_eq c 44) && is_line_byte c
+is_field_byte c = not (nat_eq c 44) && is_text_byte c
 
 -- a contact that joins no metals has any word that begins with CONT_ or C_X_ and is none of those that do
 abbrev pub IsContact : Contact → Type 0
@@ -68,7 +72,7 @@ IsLine (item.Connector c) = (pos 1 ≤ℤ c.width) × IsLabel c.name
 IsLine (item.Via v) = IsContact v.contact × IsLabel v.name
 IsLine (item.Instance i) = IsWord i.model × IsWord i.name
 IsLine (item.Reference r) = IsWord r.word × AllPass is_field_byte r.name
-IsLine (item.Remark text) = AllPass is_line_byte text
+IsLine (item.Remark text) = AllPass is_text_byte text
 
 -- the names of the instances, in file order
 abbrev pub instance_names : List Item → List (List ℕ)
@@ -88,8 +92,72 @@ pub record IsFigure (f : Figure) : Type 0 where
   pub lines : All IsLine f.items
   pub instances : AllPairs (λ a b. a ≢ b) (instance_names f.items)
 
--- The bytes are the ap file of the figure. So far only the spelling that is written counts; a reader of all
--- spellings widens this.
+-- ---- limits
+
+abbrev pub IsNear : ℤ → Type 0
+IsNear c = nat_abs c ≤ MOST_COORDINATE
+
+abbrev pub IsShort : List ℕ → Type 0
+IsShort text = length text ≤ MOST_NAME_BYTES
+
+abbrev pub IsShortLabel : Option Name → Type 0
+IsShortLabel None = Unit {0}
+IsShortLabel (Some name) = IsShort name.text
+
+-- coordinates and widths are at most 1,000,000,000,000 in absolute value, names have at most 64 bytes
+abbrev pub IsItemWithin : Item → Type 0
+IsItemWithin (item.Segment s) = IsNear s.x1 × IsNear s.y1 × IsNear s.x2 × IsNear s.y2 × IsNear s.width × IsShortLabel s.name
+IsItemWithin (item.Connector c) = IsNear c.x × IsNear c.y × IsNear c.width × IsShortLabel c.name × (nat_abs c.index < 2 ^ 63)
+IsItemWithin (item.Via v) = IsNear v.x × IsNear v.y × IsShortLabel v.name
+IsItemWithin (item.Instance i) = IsNear i.x × IsNear i.y × IsShort i.model × IsShort i.name
+IsItemWithin (item.Reference r) = IsNear r.x × IsNear r.y × IsShort r.word
+IsItemWithin (item.Remark text) = Unit {0}
+
+-- a figure whose text is within the limits
+pub record IsWithinLimits (f : Figure) : Type 0 where
+  pub few : length (text_of f) ≤ MOST_NETLIST_BYTES
+  pub name : IsShortLabel f.name
+  pub x1 : IsNear f.bounds.x1
+  pub y1 : IsNear f.bounds.y1
+  pub x2 : IsNear f.bounds.x2
+  pub y2 : IsNear f.bounds.y2
+  pub items : All IsItemWithin f.items
+
+-- ---- files
+
+-- the lines of a file, each without the carriage return at its end
+abbrev pub lines_in : List ℕ → List (List ℕ)
+lines_in bytes = map without_return (lines_of bytes)
+
+-- The items of the lines behind the first three, where instances have these names so far: a line without a fault is an item
+-- or blank, and behind the line EOF all are blank.
+pub data AreItems (scale : Scale) : List (List ℕ) → List (List ℕ) → List Item → Type 0 where
+  ends : {names rest : List (List ℕ)} {line : List ℕ} → IsTrue (is_end line) → IsTrue (list_all is_blank_line rest)
+      → AreItems scale names (line ∷ rest) []
+  blank : {names rest : List (List ℕ)} {line : List ℕ} {items : List Item} → IsTrue (is_blank_line line)
+      → AreItems scale names rest items → AreItems scale names (line ∷ rest) items
+  next : {names rest : List (List ℕ)} {line : List ℕ} {one : Item} {items : List Item} → is_blank_line line ≡ false → item_fault scale (is_taken names line) line ≡ None
+      → IsItem scale line one → AreItems scale (names ++ names_on line) rest items → AreItems scale names (line ∷ rest) (one ∷ items)
+
+-- The bytes are the ap file of the figure: its version, its name with the scale, its box and its items, each on a line without
+-- a fault.
 pub record IsApText (bytes : List ℕ) (f : Figure) : Type 0 where
+  pub few : length bytes ≤ MOST_NETLIST_BYTES
+  pub version : List ℕ
+  pub head : List ℕ
+  pub scale : Scale
+  pub box : List ℕ
+  pub others : List (List ℕ)
+  pub lines : lines_in bytes ≡ version ∷ head ∷ box ∷ others
+  pub right_version : version_fault version ≡ None
+  pub right_head : name_line_fault head ≡ None
+  pub name : f.name ≡ label_of (at (fields_behind head) 0)
+  pub at_scale : scale_of (at (fields_behind head) 3) ≡ Some scale
+  pub right_box : box_line_fault scale box ≡ None
+  pub bounds : IsBox scale (fields_behind box) f.bounds
+  pub items : AreItems scale [] others f.items
+
+-- the one spelling of a figure
+pub record IsWrittenText (bytes : List ℕ) (f : Figure) : Type 0 where
   pub figure : IsFigure f
   pub text : bytes ≡ text_of f

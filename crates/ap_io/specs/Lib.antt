@@ -1,2 +1,11 @@
 pub mod Spelling
+pub mod Fields
+pub mod Words
+pub mod LineFaults
+pub mod Instances
+pub mod Items
+pub mod Taking
 pub mod ApText
+pub mod Stages
+pub mod Refusal
+pub mod Laws

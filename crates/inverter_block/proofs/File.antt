@@ -5,7 +5,7 @@ use Rattle.std.specs.List.{AllByRecursion}
 use Rattle.std.proofs.lemmas.List.Elements.{All-from_recursion}
 use Rattle.std.proofs.lemmas.List.Sums.{AllPass-from_list_all}
 use Rattle.sym_geom.specs.declared.item.Item.{Item}
-use Rattle.ap_io.specs.ApText.{IsWord, IsLine, IsApText, is_word_byte, instance_names}
+use Rattle.ap_io.specs.ApText.{IsWord, IsLine, IsWrittenText, is_word_byte, instance_names}
 use Rattle.ap_io.specs.Spelling.{text_of}
 use Rattle.inverter_block.specs.Inverter.{AreProper, block_items, figure_by, port_items, two_nets, supply_items, placed_inverter, net_items}
 use Rattle.inverter_block.proofs.Setting.{g0}
@@ -79,7 +79,7 @@ names_alone true false i o cell = alone g0
 names_alone false true i o cell = alone g0
 names_alone false false i o cell = alone g0
 
-pub file : (b p : Bool) (e i o cell a z : List ℕ) → IsWord e → IsWord cell → AreProper i o → IsApText (text_of (figure_by b p e i o cell)) (figure_by b p e i o cell)
+pub file : (b p : Bool) (e i o cell a z : List ℕ) → IsWord e → IsWord cell → AreProper i o → IsWrittenText (text_of (figure_by b p e i o cell)) (figure_by b p e i o cell)
 file b p e i o cell a z we wc io = record {
   figure = record {
     name = (we, tt);

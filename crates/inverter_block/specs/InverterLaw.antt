@@ -4,7 +4,7 @@ use Rattle.machine_meaning.specs.Machine.{Machine}
 use Rattle.machine_meaning.specs.Size.{machine_size}
 use Rattle.machine_core.specs.Checked.{IsChecked}
 use Rattle.ap_io.specs.declared.figure.Figure.{Figure}
-use Rattle.ap_io.specs.ApText.{IsWord, IsApText}
+use Rattle.ap_io.specs.ApText.{IsWord, IsWrittenText}
 use Rattle.ap_io.specs.Spelling.{text_of}
 use Rattle.cell_model.specs.Library.{Library}
 use Rattle.net_meaning.specs.Netlist.{Netlist, Extracts}
@@ -22,7 +22,7 @@ use Rattle.inverter_block.specs.Inverter.{AreProper, inverter_figure, inverter_m
 pub record IsRightBlock (f : Figure) (m : Machine) (l : Library) : Type 0 where
   pub netlist : Netlist
   pub placement : Placement
-  pub file : IsApText (text_of f) f
+  pub file : IsWrittenText (text_of f) f
   pub extracts : Extracts f.items l netlist
   pub well : IsWell netlist l m
   pub agrees : Agrees netlist l m

@@ -1,5 +1,5 @@
 -- The first line of a text, and the lines behind it.
-use Rattle.std.proofs.Common.{◌≡◌, ℕ, suc, ◌+◌, ◌<◌, Bool, true, false, not, ◌==◌, List, [], ◌∷◌, length, take, drop, refl, sym, ap, ◌∙◌, arith, if◌then◌else◌}
+use Rattle.std.proofs.Common.{◌≡◌, ℕ, suc, ◌+◌, ◌<◌, ◌≤◌, Bool, true, false, not, ◌==◌, List, [], ◌∷◌, length, take, drop, refl, sym, ap, ◌∙◌, arith, if◌then◌else◌}
 use Rattle.std.specs.Prelude.{IsTrue, ◌↔◌}
 use Rattle.std.proofs.lemmas.Bool.{eqb-false, eqb-true, eq-eqb}
 use Rattle.std.specs.List.{prefix_len}
@@ -58,3 +58,19 @@ pub ends_exactly : (text : List ℕ) (e : Bool) (seen : List (List ℕ)) → lin
 ends_exactly text e seen view is = (
     λ ends. sym view ∙ lines_end text e is ends,
     λ none. is ∙ eq-eqb (length text) 0 (ap length (no_lines text (view ∙ none))))
+
+-- ---- lengths
+
+put_length : (b : ℕ) (lines : List (List ℕ)) (n : ℕ) → length lines ≤ n → length (put_before b lines) ≤ suc n
+put_length b [] n few = omega arith
+put_length b (line ∷ lines) n few = omega (arith, few)
+
+count_by_end : (b : ℕ) (bs : List ℕ) (e : Bool) → length (lines_of bs) ≤ length bs → length (if e then [] ∷ lines_of bs else put_before b (lines_of bs)) ≤ suc (length bs)
+count_by_end b bs true few = omega (arith, few)
+count_by_end b bs false few = put_length b (lines_of bs) (length bs) few
+
+-- there are no more lines than bytes
+pub count_lines : (text : List ℕ) → length (lines_of text) ≤ length text
+unfolding lines_of
+count_lines [] = omega arith
+count_lines (b ∷ bs) = count_by_end b bs (b == 10) (count_lines bs)

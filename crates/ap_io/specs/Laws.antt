@@ -1,0 +1,23 @@
+-- What follows from the definitions of an ap file and of its refusals.
+use Rattle.std.specs.Prelude.{◌≡◌, ℕ, List}
+use Rattle.vlsi_base.specs.declared.fault.ReadError.{ReadError}
+use Rattle.ap_io.specs.declared.figure.Figure.{Figure}
+use Rattle.ap_io.specs.ApText.{IsFigure, IsWithinLimits, IsApText}
+use Rattle.ap_io.specs.Spelling.{text_of}
+use Rattle.ap_io.specs.Refusal.{Refused}
+
+-- A file is that of at most one figure.
+abbrev pub OneFigure : Type 0
+OneFigure = (bytes : List ℕ) (f g : Figure) → IsApText bytes f → IsApText bytes g → f ≡ g
+
+-- A file that is a figure's has no refusal.
+abbrev pub NeverBoth : Type 0
+NeverBoth = (bytes : List ℕ) (f : Figure) (e : ReadError) → IsApText bytes f → Refused bytes e → ⊥
+
+-- A file has at most one refusal.
+abbrev pub OneRefusal : Type 0
+OneRefusal = (bytes : List ℕ) (d e : ReadError) → Refused bytes d → Refused bytes e → d ≡ e
+
+-- What is written of a figure that the format can hold, and that is within the limits, is the ap file of this figure.
+abbrev pub WrittenIsReadAgain : Type 0
+WrittenIsReadAgain = (f : Figure) → IsFigure f → IsWithinLimits f → IsApText (text_of f) f
