@@ -1,26 +1,25 @@
 -- The checks of a layout, by the tests of its shapes.
-use Rattle.std.proofs.Common.{◌≡◌, ◌≢◌, ℕ, zero, suc, ◌+◌, ◌*◌, ◌<◌, ◌≤◌, ◌⊎◌, inl, inr, ℤ, pos, ◌+ℤ◌, ◌-ℤ◌, ◌*ℤ◌, ◌≤ℤ◌, Bool, true, false, ◌&&◌, ◌||◌, IsTrue, List, [], ◌∷◌, ◌++◌, length, get_or, Option, None, Some, All, Any, AllPairs, refl, sym, ap, subst, ◌∙◌, arith, rules, nat_eq, ⊎_elim}
+use Rattle.std.proofs.Common.{◌≡◌, ℕ, inl, inr, ℤ, pos, ◌*ℤ◌, Bool, true, false, ◌&&◌, ◌||◌, List, [], ◌∷◌, get_or, Option, None, Some, All, Any, refl, sym, ap, subst, ◌∙◌, arith, nat_eq, ⊎_elim}
 use Rattle.std.proofs.lemmas.Int.{ints}
 use Rattle.std.specs.List.{list_any}
 use Rattle.std.specs.Prelude.{int_le}
 use Rattle.vlsi_base.specs.declared.name.Name.{Name}
 use Rattle.vlsi_base.specs.declared.name.Port.{Port}
 use Rattle.vlsi_base.specs.Member.{In, here, there}
-use Rattle.vlsi_base.specs.Names.{vdd, vss, comes_before}
+use Rattle.vlsi_base.specs.Names.{vdd, vss}
 use Rattle.machine_meaning.specs.Machine.{names_of}
 use Rattle.machine_core.proofs.Names.{same_name-true, same_name-itself}
-use Rattle.sym_geom.specs.declared.grid.TheConstants.{PITCH, ROW_HEIGHT, RAIL_WIDTH, LEAST_GAP, VDD_STRIP_Y, PAD_WIDTH}
+use Rattle.sym_geom.specs.declared.grid.TheConstants.{PITCH, PAD_WIDTH}
 use Rattle.sym_geom.specs.declared.rect.Rect.{Rect}
-use Rattle.sym_geom.specs.Rect.{Within, Apart, square}
+use Rattle.sym_geom.specs.Rect.{Within, square}
 use Rattle.sym_shapes.specs.Shape.{Shape, drawn}
-use Rattle.sym_shapes.specs.Joined.{Joined}
-use Rattle.sym_shapes.proofs.Tests.{both, told, four_and, four_parts, within_so, number_told, number_so, list_any_In}
+use Rattle.sym_shapes.proofs.Tests.{both, told, four_and, within_so, number_told, number_so, list_any_In}
 use Rattle.cell_model.specs.declared.cell.Pin.{Pin}
 use Rattle.cell_model.specs.Cell.{Cell, pin_ports, cell_width}
-use Rattle.cell_model.specs.Access.{Point, holds, is_named, from_corner, is_access_node}
+use Rattle.cell_model.specs.Access.{Point, holds, is_named, from_corner}
 use Rattle.cell_model.proofs.Members.{In-at, place-In, All-In, All-from, In-map, In-map_back}
-use Rattle.cell_checks.specs.Checks.{StandsInRow, HasRail, HasRails, HasAccessNode, IsReached, KeepsToItsBox, KeepsFromRail, KeepsFromRails, IsTied, rail, vss_strip, vdd_strip}
-use Rattle.cell_checks.specs.Shapes.{IsRail, FitsPad, IsReachedBy, HasReach, KeepsIn, KeepsOff, wanted}
+use Rattle.cell_checks.specs.Checks.{StandsInRow, HasRail, HasAccessNode, IsReached, KeepsToItsBox, KeepsFromRail, rail, vss_strip, vdd_strip}
+use Rattle.cell_checks.specs.Shapes.{IsRail, IsReachedBy, HasReach, KeepsIn, KeepsOff, wanted}
 
 pub Any-In : {A : Type 0} (P : A → Type 0) (xs : List A) → Any P xs → (x : A) × In x xs × P x
 Any-In P xs a = (a.1, subst (λ x. In x xs) a.3 (In-at xs a.0 a.1 a.2), a.4)
@@ -39,8 +38,8 @@ pub rail_by : (c : Cell) (shapes : List Shape) (name n : Name) (from to : ℕ) (
     → Any (IsRail n r) shapes → HasRail c name from to
 rail_by c shapes name n from to r is same at a =
     let b : Any (IsRail name (rail (cell_width c) from to)) (drawn c.items) =
-        subst (λ (xs : List Shape). Any (IsRail name (rail (cell_width c) from to)) xs) is
-        (subst (λ (m : Name). Any (IsRail m (rail (cell_width c) from to)) shapes) same (subst (λ (q : Rect). Any (IsRail n q) shapes) at a)) in
+    subst (λ (xs : List Shape). Any (IsRail name (rail (cell_width c) from to)) xs) is
+    (subst (λ (m : Name). Any (IsRail m (rail (cell_width c) from to)) shapes) same (subst (λ (q : Rect). Any (IsRail n q) shapes) at a)) in
     let t = Any-In (IsRail name (rail (cell_width c) from to)) (drawn c.items) b in
     record { pin = t.0; listed = t.1; named = t.2.named; metal = t.2.metal; holds = t.2.holds }
 
@@ -54,35 +53,37 @@ by_rail c shapes name n from to r is same at h =
 
 pub kept_in : (c : Cell) (shapes : List Shape) (low high : Rect) (width : ℤ) → shapes ≡ drawn c.items → low ≡ vss_strip c → high ≡ vdd_strip c → width ≡ cell_width c
     → All (KeepsIn width low high) shapes → KeepsToItsBox c
-kept_in c shapes low high width is l h w all = record { each = λ s i metal.
-    All-In (KeepsIn (cell_width c) (vss_strip c) (vdd_strip c)) (drawn c.items)
-    (subst (λ (xs : List Shape). All (KeepsIn (cell_width c) (vss_strip c) (vdd_strip c)) xs) is
+kept_in c shapes low high width is l h w all = record {
+  each = λ s i metal.
+      All-In (KeepsIn (cell_width c) (vss_strip c) (vdd_strip c)) (drawn c.items)
+      (subst (λ (xs : List Shape). All (KeepsIn (cell_width c) (vss_strip c) (vdd_strip c)) xs) is
       (subst (λ (v : ℤ). All (KeepsIn v (vss_strip c) (vdd_strip c)) shapes) w
-        (subst (λ (q : Rect). All (KeepsIn width q (vdd_strip c)) shapes) l
-          (subst (λ (q : Rect). All (KeepsIn width low q) shapes) h all)))) s i metal }
+      (subst (λ (q : Rect). All (KeepsIn width q (vdd_strip c)) shapes) l
+      (subst (λ (q : Rect). All (KeepsIn width low q) shapes) h all)))) s i metal;
+}
 
 pub keeping_in : (c : Cell) (shapes : List Shape) (low high : Rect) (width : ℤ) → shapes ≡ drawn c.items → low ≡ vss_strip c → high ≡ vdd_strip c → width ≡ cell_width c
     → KeepsToItsBox c → All (KeepsIn width low high) shapes
 keeping_in c shapes low high width is l h w keeps =
     subst (λ (q : Rect). All (KeepsIn width low q) shapes) (sym h)
     (subst (λ (q : Rect). All (KeepsIn width q (vdd_strip c)) shapes) (sym l)
-      (subst (λ (v : ℤ). All (KeepsIn v (vss_strip c) (vdd_strip c)) shapes) (sym w)
-        (subst (λ (xs : List Shape). All (KeepsIn (cell_width c) (vss_strip c) (vdd_strip c)) xs) (sym is)
-          (All-from (KeepsIn (cell_width c) (vss_strip c) (vdd_strip c)) (drawn c.items) keeps.each))))
+    (subst (λ (v : ℤ). All (KeepsIn v (vss_strip c) (vdd_strip c)) shapes) (sym w)
+    (subst (λ (xs : List Shape). All (KeepsIn (cell_width c) (vss_strip c) (vdd_strip c)) xs) (sym is)
+    (All-from (KeepsIn (cell_width c) (vss_strip c) (vdd_strip c)) (drawn c.items) keeps.each))))
 
 pub kept_off : (c : Cell) (shapes : List Shape) (name n : Name) (r strip_ : Rect) → shapes ≡ drawn c.items → n ≡ name → r ≡ strip_
     → All (KeepsOff shapes n r) shapes → KeepsFromRail c name strip_
 kept_off c shapes name n r strip_ is same at all s h metal =
     let b : All (KeepsOff (drawn c.items) name strip_) (drawn c.items) =
-        subst (λ (xs : List Shape). All (KeepsOff xs name strip_) xs) is
-        (subst (λ (m : Name). All (KeepsOff shapes m strip_) shapes) same (subst (λ (q : Rect). All (KeepsOff shapes n q) shapes) at all)) in
+    subst (λ (xs : List Shape). All (KeepsOff xs name strip_) xs) is
+    (subst (λ (m : Name). All (KeepsOff shapes m strip_) shapes) same (subst (λ (q : Rect). All (KeepsOff shapes n q) shapes) at all)) in
     ⊎_elim (λ t. inl (record { pin = t.0; named = t.1; joined = t.2 })) (λ g. inr g) (All-In (KeepsOff (drawn c.items) name strip_) (drawn c.items) b s h metal)
 
 pub keeping_off : (c : Cell) (shapes : List Shape) (name n : Name) (r strip_ : Rect) → shapes ≡ drawn c.items → n ≡ name → r ≡ strip_
     → KeepsFromRail c name strip_ → All (KeepsOff shapes n r) shapes
 keeping_off c shapes name n r strip_ is same at keeps =
     let b = All-from (KeepsOff (drawn c.items) name strip_) (drawn c.items)
-        (λ s h metal. ⊎_elim (λ t. inl (t.pin, t.named, t.joined)) (λ g. inr g) (keeps s h metal)) in
+    (λ s h metal. ⊎_elim (λ t. inl (t.pin, t.named, t.joined)) (λ g. inr g) (keeps s h metal)) in
     subst (λ (q : Rect). All (KeepsOff shapes n q) shapes) (sym at)
     (subst (λ (m : Name). All (KeepsOff shapes m strip_) shapes) (sym same)
     (subst (λ (xs : List Shape). All (KeepsOff xs name strip_) xs) (sym is) b))
@@ -117,13 +118,16 @@ reached_at c name s ex ey listed r =
     let a = r.across.above in let b = r.along.above in
     let ga = a.grid in let gb = b.grid in let fa = a.from in let fb = b.from in let ta = r.across.to in let tb = r.along.to in
     let w : Within (square (pos PITCH *ℤ a.number) (pos PITCH *ℤ b.number) (pos PAD_WIDTH)) (from_corner c s.rect) =
-        record { left = omega (arith, ints); right = omega (arith, ints); low = omega (arith, ints); high = omega (arith, ints) } in
+    record { left = omega (arith, ints); right = omega (arith, ints); low = omega (arith, ints); high = omega (arith, ints) } in
     record {
       column = a.number;
       row = b.number;
       node = list_any_from (node_test c name (pos PITCH *ℤ a.number, pos PITCH *ℤ b.number)) (drawn c.items) s listed
-          (rw (number_told s.metal 1 r.metal, named_told name s.name r.named,
-            within_told (square (pos PITCH *ℤ a.number) (pos PITCH *ℤ b.number) (pos PAD_WIDTH)) (from_corner c s.rect) w) refl);
+          (rw (
+            number_told s.metal 1 r.metal,
+            named_told name s.name r.named,
+            within_told (square (pos PITCH *ℤ a.number) (pos PITCH *ℤ b.number) (pos PAD_WIDTH)) (from_corner c s.rect) w,
+          ) refl);
     }
 
 pub node_reached : (c : Cell) (name : Name) → c.bounds.x1 ≡ pos 0 → c.bounds.y1 ≡ pos 0 → HasAccessNode c name → HasReach (drawn c.items) name
@@ -135,12 +139,14 @@ node_reached c name ex ey h =
     let v = both (nat_eq s.metal 1) (is_named name s.name) u.0 in
     let w = within_so (square (pos PITCH *ℤ h.column) (pos PITCH *ℤ h.row) (pos PAD_WIDTH)) (from_corner c s.rect) u.1 in
     let wl = w.left in let wr = w.right in let wd = w.low in let wh = w.high in
-    record { any = Any-from (IsReachedBy name) (drawn c.items) s found.1 (record {
-      named = named_so name s.name v.1;
-      metal = number_so s.metal 1 v.0;
-      across = record { line = pos PITCH *ℤ h.column; above = record { number = h.column; grid = refl; from = omega (arith, ints) }; to = omega (arith, ints) };
-      along = record { line = pos PITCH *ℤ h.row; above = record { number = h.row; grid = refl; from = omega (arith, ints) }; to = omega (arith, ints) };
-    }) }
+    record {
+      any = Any-from (IsReachedBy name) (drawn c.items) s found.1 (record {
+        named = named_so name s.name v.1;
+        metal = number_so s.metal 1 v.0;
+        across = record { line = pos PITCH *ℤ h.column; above = record { number = h.column; grid = refl; from = omega (arith, ints) }; to = omega (arith, ints) };
+        along = record { line = pos PITCH *ℤ h.row; above = record { number = h.row; grid = refl; from = omega (arith, ints) }; to = omega (arith, ints) };
+      });
+    }
 
 pub pin_of : (c : Cell) (name : Name) → In name (names_of (pin_ports c)) → (p : Pin) × In p c.pins × (p.port.name ≡ name)
 pin_of c name h =
@@ -149,16 +155,18 @@ pin_of c name h =
     (s.0, s.1, ap (λ (q : Port). q.name) s.2 ∙ r.2)
 
 pub reached : (c : Cell) (shapes : List Shape) → StandsInRow c → shapes ≡ drawn c.items → All (λ (p : Pin). HasReach shapes p.port.name) c.pins → IsReached c
-reached c shapes row is all = record { each = λ name h.
-    let p = pin_of c name h in
-    let reach : HasReach shapes p.0.port.name = All-In (λ (q : Pin). HasReach shapes q.port.name) c.pins all p.0 p.1 in
-    let own : HasReach (drawn c.items) name = subst (HasReach (drawn c.items)) p.2 (subst (λ (xs : List Shape). HasReach xs p.0.port.name) is reach) in
-    let t = Any-In (IsReachedBy name) (drawn c.items) own.any in
-    reached_at c name t.0 row.box.left row.box.low t.1 t.2 }
+reached c shapes row is all = record {
+  each = λ name h.
+      let p = pin_of c name h in
+      let reach : HasReach shapes p.0.port.name = All-In (λ (q : Pin). HasReach shapes q.port.name) c.pins all p.0 p.1 in
+      let own : HasReach (drawn c.items) name = subst (HasReach (drawn c.items)) p.2 (subst (λ (xs : List Shape). HasReach xs p.0.port.name) is reach) in
+      let t = Any-In (IsReachedBy name) (drawn c.items) own.any in
+      reached_at c name t.0 row.box.left row.box.low t.1 t.2;
+}
 
 pub reaching : (c : Cell) (shapes : List Shape) → StandsInRow c → shapes ≡ drawn c.items → IsReached c → All (λ (p : Pin). HasReach shapes p.port.name) c.pins
 reaching c shapes row is h =
     All-from (λ (p : Pin). HasReach shapes p.port.name) c.pins (λ p i.
-      subst (λ (xs : List Shape). HasReach xs p.port.name) (sym is)
-      (node_reached c p.port.name row.box.left row.box.low
-        (h.each p.port.name (In-map (λ (q : Port). q.name) p.port (pin_ports c) (In-map (λ (q : Pin). q.port) p c.pins i)))))
+    subst (λ (xs : List Shape). HasReach xs p.port.name) (sym is)
+    (node_reached c p.port.name row.box.left row.box.low
+    (h.each p.port.name (In-map (λ (q : Port). q.name) p.port (pin_ports c) (In-map (λ (q : Pin). q.port) p c.pins i)))))

@@ -3,3 +3,5 @@ pub mod Pads
 pub mod Loops
 pub mod Numbers
 pub mod Layouts
+pub mod PinsApart
+pub mod Firsts

@@ -1,6 +1,6 @@
 -- Loops over a list that stop at the first element without a property.
-use Rattle.std.proofs.Common.{◌≡◌, ℕ, ◌+◌, ◌<◌, List, length, get_or, take, min, AllPairs, Bool, true, false, not, IsTrue, nat_eq, All, inl, inr, subst, sym, ◌∙◌, arith}
-use Rattle.std.proofs.lemmas.Bool.{cases_eq, cases_lt}
+use Rattle.std.proofs.Common.{◌≡◌, ℕ, ◌+◌, ◌<◌, List, length, get_or, take, AllPairs, true, not, nat_eq, All, inl, inr, subst, sym, arith}
+use Rattle.std.proofs.lemmas.Bool.{cases_lt}
 use Rattle.std.proofs.lemmas.List.{get_or_read, get_or-take, length-take}
 use Rattle.std.proofs.lemmas.Bool.Decides.{nat_tests}
 
@@ -35,7 +35,7 @@ one_more_pair R xs n x first lt at all p q d before below =
       | inr h ↦ let e : n ≡ q = omega arith in
           subst (λ k. R (get_or xs p d) (get_or xs k d)) e
           (subst (R (get_or xs p d)) (get_or_read xs n x lt at d)
-            (subst (λ y. R y x) (get_or-take n xs p d (omega arith)) (all p d (omega (arith, length-take n xs)))))
+          (subst (λ y. R y x) (get_or-take n xs p d (omega arith)) (all p d (omega (arith, length-take n xs)))))
     ]
 
 pub differ : (a b : ℕ) → not (nat_eq a b) ≡ true → a ≡ b → ⊥

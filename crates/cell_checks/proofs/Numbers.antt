@@ -1,5 +1,5 @@
 -- Joined shapes by their numbers.
-use Rattle.std.proofs.Common.{◌≡◌, ◌≢◌, pos, ℕ, ◌+◌, ◌<◌, ◌⊎◌, inl, inr, List, length, get_or, Option, None, Some, IfSome, IfNone, All, refl, sym, ap, subst, ◌∙◌, arith}
+use Rattle.std.proofs.Common.{◌≡◌, pos, ℕ, ◌<◌, ◌⊎◌, inl, inr, List, length, get_or, Option, None, Some, IfSome, IfNone, All, sym, ap, subst, ◌∙◌}
 use Rattle.vlsi_base.specs.declared.name.Name.{Name}
 use Rattle.vlsi_base.specs.Member.{In}
 use Rattle.sym_geom.specs.declared.rect.Rect.{Rect}
@@ -8,7 +8,6 @@ use Rattle.sym_geom.specs.declared.grid.TheConstants.{LEAST_GAP}
 use Rattle.sym_shapes.specs.Shape.{Shape}
 use Rattle.sym_shapes.specs.Joined.{Joined, itself, through, one_name}
 use Rattle.sym_shapes.proofs.Labels.{first_In, last_In}
-use Rattle.sym_shapes.proofs.Paths.{Joined_trans}
 use Rattle.cell_model.proofs.Members.{In-at, place-In, All-In}
 use Rattle.cell_checks.specs.Shapes.{AreNumbered, HasNumber, IsNoConnector, AreApart, KeepsOff}
 
@@ -18,7 +17,7 @@ pub tied_number : (shapes : List Shape) (numbers : List ℕ) → AreNumbered sha
 tied_number shapes numbers numbered name n has pin named i d lt j =
     let first : In (get_or shapes has.place d) shapes = In-at shapes has.place d has.within in
     let owner : (get_or shapes has.place d).owner ≡ pin.owner =
-        numbered.drawn has.place d has.within ∙ sym (All-In (λ (s : Shape). s.owner ≡ None) shapes numbered.drawn pin (first_In j)) in
+    numbered.drawn has.place d has.within ∙ sym (All-In (λ (s : Shape). s.owner ≡ None) shapes numbered.drawn pin (first_In j)) in
     let chain : Joined shapes (get_or shapes has.place d) (get_or shapes i d) = through first (one_name owner name (has.named d) named) j in
     sym ((numbered.joined has.place i d has.within lt).1 chain) ∙ has.number
 
@@ -95,7 +94,7 @@ pub off_it : (shapes : List Shape) (numbers : List ℕ) → AreNumbered shapes n
 off_it shapes numbers numbered name tied r i s known lt at off =
     subst (KeepsOff shapes name r) (sym at)
     (off_at shapes numbers numbered name tied r i s known lt
-      (subst (λ (x : Shape). x.metal ≡ 1 → (tied ≡ Some (get_or numbers i 0)) ⊎ Apart LEAST_GAP x.rect r) at off))
+    (subst (λ (x : Shape). x.metal ≡ 1 → (tied ≡ Some (get_or numbers i 0)) ⊎ Apart LEAST_GAP x.rect r) at off))
 
 pub it_off : (shapes : List Shape) (numbers : List ℕ) → AreNumbered shapes numbers → (name : Name) (tied : Option ℕ) (r : Rect) (i : ℕ) (s : Shape)
     → Told shapes numbers name tied → i < length shapes → s ≡ get_or shapes i s

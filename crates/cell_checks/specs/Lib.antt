@@ -1,3 +1,4 @@
 pub mod Checks
 pub mod Shapes
 pub mod Verdict
+pub mod Checked

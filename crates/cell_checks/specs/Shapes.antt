@@ -1,7 +1,6 @@
 -- What the checks ask of single shapes.
-use Rattle.std.specs.Prelude.{◌≡◌, ◌⊎◌, ℕ, ◌<◌, ℤ, pos, ◌+ℤ◌, ◌-ℤ◌, ◌*ℤ◌, ◌≤ℤ◌, List, ◌∷◌, length, Some, None, slice_index_or, All, Any}
+use Rattle.std.specs.Prelude.{◌≡◌, ◌⊎◌, ℕ, ◌<◌, ℤ, pos, ◌+ℤ◌, ◌*ℤ◌, ◌≤ℤ◌, List, ◌∷◌, length, Some, None, slice_index_or, All, Any}
 use Rattle.vlsi_base.specs.declared.name.Name.{Name}
-use Rattle.vlsi_base.specs.Member.{In}
 use Rattle.vlsi_base.specs.Names.{vdd, vss}
 use Rattle.machine_meaning.specs.Machine.{names_of}
 use Rattle.cell_model.specs.Cell.{Cell, pin_ports}

@@ -1,5 +1,5 @@
 -- What the checks of a cell come to.
-use Rattle.std.specs.Prelude.{ℕ, ◌<◌, Bool, IsTrue}
+use Rattle.std.specs.Prelude.{ℕ, ◌<◌, Bool, IsTrue, Option, None, Some}
 use Rattle.cell_model.specs.Cell.{Cell}
 use Rattle.cell_model.specs.Usable.{IsMappable}
 use Rattle.cell_model.specs.Connectors.{PinsAreConnectors}
@@ -49,3 +49,15 @@ abbrev pub IsVerdict : Bool → Cell → CellVerdict → Type 0
 IsVerdict tracks c verdict.Passes = ((k : Check) → PassesCheck tracks c k) × ((columns : ℕ) → IsTooWide c columns → ⊥)
 IsVerdict tracks c (verdict.Fails k) = FailsFirst tracks c k
 IsVerdict tracks c (verdict.TooWide columns) = ((k : Check) → PassesCheck tracks c k) × IsTooWide c columns
+
+-- the first check that a cell fails, if it fails one
+abbrev pub IsFirstFailure : Bool → Cell → Option Check → Type 0
+IsFirstFailure tracks c None = (k : Check) → PassesCheck tracks c k
+IsFirstFailure tracks c (Some k) = FailsFirst tracks c k
+
+-- what is known of a mappable cell whose joined shapes are looked at
+pub record PassesFirst (c : Cell) : Type 0 where
+  pub connectors : PinsAreConnectors c
+  pub row : StandsInRow c
+  pub rails : HasRails c
+  pub reached : IsReached c

@@ -43,7 +43,7 @@ fn connector_names(alloc: Global, items: &[Item]) -> Result<Vec<Name>, AllocErro
 }
 
 /// The names of vdd, of vss and of the pins. Takes memory for the names.
-fn pin_names(alloc: Global, pins: &[Pin]) -> Result<Vec<Name>, AllocError>
+pub fn pin_names(alloc: Global, pins: &[Pin]) -> Result<Vec<Name>, AllocError>
     ensures { IfOk result (λ names. names.items ≡ vdd ∷ vss ∷ names_of (map (λ p. p.port) pins.now)) }
 {
     let mut names = Vec::new(alloc);

@@ -1,11 +1,15 @@
 //! The checks of a cell's layout, each by a definition of its own, and libraries of cells that pass them.
 #![tactic(auto)]
 
+mod checker;
 mod connectors;
 mod joined;
 mod layout;
+mod library;
 mod row;
 mod shapes;
 mod verdict;
 
+pub use checker::check_cell;
+pub use library::Library;
 pub use verdict::{CellVerdict, Check, MOST_COLUMNS};

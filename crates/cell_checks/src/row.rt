@@ -1,5 +1,5 @@
 // The box of a cell, and the strips of the supplies along it.
-ghost use Rattle.std.specs.Prelude.{◌≡◌, IfSome, IfNone, pos, ◌≤ℤ◌};
+ghost use Rattle.std.specs.Prelude.{◌≡◌, ◌↔◌, IsTrue, IfSome, IfNone, pos, ◌≤ℤ◌};
 ghost use Rattle.cell_model.specs.Cell.{cell_width};
 ghost use Rattle.cell_model.specs.Usable.{IsFormed};
 ghost use Rattle.cell_checks.specs.Checks.{HasColumns, StandsInRow, strip, rail};
@@ -31,6 +31,16 @@ pub fn columns_of(cell: &Cell) -> Option<u64>
         return None;
     }
     Some(width / u64::from(PITCH))
+}
+
+/// Whether the box of a cell stands in a row of cells.
+pub fn stands_in_row(cell: &Cell) -> bool
+    ensures { IsTrue result ↔ StandsInRow cell.now }
+{
+    match columns_of(cell) {
+        Some(_) => true,
+        None => false,
+    }
 }
 
 /// The width of the box.

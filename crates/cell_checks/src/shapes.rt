@@ -128,9 +128,7 @@ pub fn all_keep_in(shapes: &[Shape], width: &i64, low: Rect, high: Rect) -> bool
     requires most { width.now ≤ℤ pos 20000000000000 }
     ensures { IsTrue result ↔ All (KeepsIn width.now low high) shapes.now }
 {
-    shapes
-        .iter()
-        .all(|shape| keeps_in(shape, width, low, high))
+    shapes.iter().all(|shape| keeps_in(shape, width, low, high))
 }
 
 /// Whether a shape is a connector of this name on metal 1 that holds the rectangle.

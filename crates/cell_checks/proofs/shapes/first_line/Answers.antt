@@ -1,4 +1,4 @@
-use Rattle.std.proofs.Common.{◌≡◌, ℕ, zero, suc, ◌<◌, ℤ, pos, ap, ◌∙◌, refl, arith, rules, w64, to_z, of_z}
+use Rattle.std.proofs.Common.{◌≡◌, ℕ, zero, suc, ◌<◌, ℤ, pos, ap, ◌∙◌, arith, w64, to_z, of_z}
 use Rattle.std.proofs.lemmas.Int.{ints}
 use Rattle.std.specs.Int.{int_rem_euclid}
 use Rattle.cell_checks.proofs.Pads.{lies, on_line, next_line}
@@ -14,7 +14,7 @@ returns-then-past-eq0-clause-line c =
     let l = lies (to_z w64 (of_z w64 c.in_ok-least.least)) (omega (arith, ints)) in
     let p : to_z w64 (of_z w64 c.from-pitch.result) ≡ pos 500 = omega (arith, ints) in
     let e : c.rem_euclid-past.result ≡ pos l.past =
-        c.rem_euclid-past.ensures.value ∙ ap (int_rem_euclid (to_z w64 (of_z w64 c.in_ok-least.least))) p ∙ l.remainder in
+    c.rem_euclid-past.ensures.value ∙ ap (int_rem_euclid (to_z w64 (of_z w64 c.in_ok-least.least))) p ∙ l.remainder in
     let s = l.less in
     on_line c.args.low.now (to_z w64 (of_z w64 c.in_ok-least.least)) (omega (arith, ints)) l (omega (arith, ints))
 
@@ -25,7 +25,7 @@ returns-clause-line c =
     let l = lies (to_z w64 (of_z w64 c.in_ok-least.least)) (omega (arith, ints)) in
     let p : to_z w64 (of_z w64 c.from-pitch.result) ≡ pos 500 = omega (arith, ints) in
     let e : c.rem_euclid-past.result ≡ pos l.past =
-        c.rem_euclid-past.ensures.value ∙ ap (int_rem_euclid (to_z w64 (of_z w64 c.in_ok-least.least))) p ∙ l.remainder in
+    c.rem_euclid-past.ensures.value ∙ ap (int_rem_euclid (to_z w64 (of_z w64 c.in_ok-least.least))) p ∙ l.remainder in
     let s = l.less in
     next_line c.args.low.now (to_z w64 (of_z w64 c.in_ok-least.least)) (to_z w64 (of_z w64 c.in_ok-line.line)) (omega (arith, ints)) l
     (positive l.past c.rem_euclid-past.result e c.if-past-eq0.false) (omega (arith, ints))

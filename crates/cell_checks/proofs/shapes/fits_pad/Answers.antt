@@ -1,7 +1,6 @@
-use Rattle.std.proofs.Common.{◌≡◌, ◌∷◌, refl, arith, rules, w64, FitsSigned, IsTrue, false}
+use Rattle.std.proofs.Common.{arith, rules, w64, FitsSigned}
 use Rattle.std.proofs.lemmas.Int.{ints}
-use Rattle.cell_checks.specs.Shapes.{FitsPad}
-use Rattle.cell_checks.proofs.Pads.{no_line, no_room, too_low, room}
+use Rattle.cell_checks.proofs.Pads.{no_line, no_room, too_low}
 use Rattle.cell_checks.proofs.shapes.fits_pad.Goals as goal
 
 pub returns-in_default : goal.returns-in_default
