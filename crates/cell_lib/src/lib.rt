@@ -5,13 +5,16 @@
 #![tactic(auto)]
 
 mod behaviour;
+mod causes;
 mod cells;
 mod error;
 mod files;
+mod layout;
 mod load;
 
 pub use behaviour::read_behaviour;
 pub use cells::{CellMaker, cells_of};
 pub use error::LibError;
 pub use files::{catal_file, cell_files, named_files};
+pub use layout::read_layout;
 pub use load::{LibraryFiles, load_library};
