@@ -14,6 +14,7 @@ mod tool;
 
 pub use cell_model::Kind;
 pub use line::tell;
+pub use read::{Stop, read_list};
 pub use refusals::refused;
 pub use run::drive;
 pub use status::{FileCause, LibraryFault, Status, Verdict};

@@ -63,8 +63,8 @@ fn read_file<S: Shelf>(alloc: Global, wanted: &Wanted, shelf: &mut S) -> Result<
     }
 }
 
-// Reads files in their order.
-fn read_list<S: Shelf>(
+/// Reads files in their order, and stops at the first that isn't had. No file is written. Memory goes by their bytes.
+pub fn read_list<S: Shelf>(
     alloc: Global,
     wanted: &[Wanted],
     shelf: &mut S,

@@ -1,0 +1,4 @@
+mod Splitting
+mod Using
+mod Listing
+pub mod Once

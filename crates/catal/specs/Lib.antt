@@ -1,0 +1,7 @@
+pub mod Line
+pub mod Used
+pub mod Read
+pub mod Catal
+pub mod Lines
+pub mod Cells
+pub mod Laws

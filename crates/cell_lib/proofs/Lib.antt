@@ -1,0 +1,3 @@
+mod Loading
+mod Making
+mod Telling

@@ -1,0 +1,4 @@
+pub mod Files
+pub mod Load
+pub mod Cells
+pub mod Causes

@@ -1,0 +1,20 @@
+//! Libraries of cells: the files that one has, and what stands in them.
+//!
+//! A library is a folder with the list CATAL of its cells, and for each cell that this list uses a behaviour, `NAME.vbe`, and a
+//! layout, `NAME.ap`.
+#![tactic(auto)]
+
+mod behaviour;
+mod causes;
+mod cells;
+mod error;
+mod files;
+mod layout;
+mod load;
+
+pub use behaviour::read_behaviour;
+pub use cells::{CellMaker, cells_of};
+pub use error::LibError;
+pub use files::{catal_file, cell_files, named_files};
+pub use layout::read_layout;
+pub use load::{LibraryFiles, load_library};
