@@ -7,8 +7,8 @@ use Rattle.bool_expr.specs.View.{view}
 use Rattle.machine_meaning.specs.Machine.{Machine, Register, inputs, outputs}
 use Rattle.machine_meaning.specs.Named.{value_at}
 use Rattle.machine_meaning.specs.Cycles.{Settles}
-use Rattle.cell_function.specs.declared.function.Function.{Function}
-use Rattle.cell_function.specs.declared.function.Function.TheVariants as function
+use Rattle.cell_model.specs.declared.function.Function.{Function}
+use Rattle.cell_model.specs.declared.function.Function.TheVariants as function
 
 -- the most inputs of a gate
 abbrev pub most_inputs : ℕ

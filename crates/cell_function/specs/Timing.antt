@@ -5,11 +5,11 @@ use Rattle.vlsi_base.specs.declared.name.Port.{Port}
 use Rattle.machine_meaning.specs.Machine.{is_input}
 use Rattle.machine_meaning.specs.Named.{is_same_text, is_same_name}
 use Rattle.vbe_io.specs.declared.cell_text.GenericValue.{GenericValue}
-use Rattle.cell_function.specs.declared.function.Function.{Function}
-use Rattle.cell_function.specs.declared.function.Function.TheVariants as function
-use Rattle.cell_function.specs.declared.timing.Pin.{Pin}
+use Rattle.cell_model.specs.declared.function.Function.{Function}
+use Rattle.cell_model.specs.declared.function.Function.TheVariants as function
+use Rattle.cell_model.specs.declared.cell.Pin.{Pin}
 use Rattle.cell_function.specs.declared.timing.Edge.{Edge}
-use Rattle.cell_function.specs.declared.timing.Arc.{Arc}
+use Rattle.cell_model.specs.declared.cell.Arc.{Arc}
 use Rattle.cell_function.specs.Row.{only_output}
 
 -- the number of the generic of this name; none where it isn't listed, or has no number

@@ -4,23 +4,9 @@ ghost use Rattle.cell_function.specs.Function.{IsFunction, IsFunctionOf};
 
 use crate::gate::gate_of;
 use crate::storage::flip_flop_of;
-use bool_expr::Expr;
+use cell_model::Function;
 use machine_core::Machine;
 use std::alloc::{AllocError, Global};
-use vlsi_base::Name;
-
-/// What a cell computes.
-#[derive(Drop)]
-pub enum Function {
-    /// Its one output has this value, where variable k is input pin k in the order of names.
-    Gate(Expr),
-    /// A plain flip-flop: at the clock's rise it takes the bit of its data pin, and its output shows the bit that it holds.
-    FlipFlop { data: Name, clock: Name },
-    /// What a machine does whose ports are the pins.
-    Other(Machine),
-    /// Nothing is known of it.
-    Opaque,
-}
 
 /// What a machine is as a cell.
 fn computed(alloc: Global, machine: Machine) -> Result<Function, AllocError>

@@ -8,5 +8,5 @@ mod shape;
 mod storage;
 mod timing;
 
-pub use function::{Function, function_of};
-pub use timing::{Arc, Arcs, Pin, Pins, arcs_of, pins_of};
+pub use function::function_of;
+pub use timing::{Arcs, Pins, arcs_of, pins_of};

@@ -2,45 +2,14 @@
 ghost use Rattle.std.specs.Prelude.{◌≡◌, ◌++◌, codes, map, IfOk};
 ghost use Rattle.cell_function.specs.Timing.{value_of, or_zero, capacitance_of, pin_of, arc_value, fall_of, rise_of, arc_of, begins_arc, arcs_to, arcs_of};
 
-use crate::Function;
 use crate::shape::only_output;
+use cell_model::{Arc, Function, Pin};
 use std::alloc::{AllocError, Global};
 use vbe_io::GenericValue;
 use vlsi_base::{Dir, Listed, Name, Port, Text};
 
-/// A pin of a cell, and its input capacitance in femtofarads.
-#[derive(Drop)]
-pub struct Pin {
-    pub port: Port,
-    pub capacitance: u32,
-}
-
 /// Pins in their order.
 pub type Pins = Listed<Pin>;
-
-/// How an output pin follows an edge of another pin. The times are in picoseconds, where they are given; the resistances in ohm,
-/// by which a load adds to them.
-#[derive(Drop)]
-pub struct Arc {
-    pub from: Name,
-    pub to: Name,
-    /// The output falls after a rise of the other pin.
-    pub tphl: Option<u32>,
-    /// The output falls after a fall of it.
-    pub tpll: Option<u32>,
-    /// The output falls after either.
-    pub taf: Option<u32>,
-    /// The resistance for a falling output.
-    pub rdown: u32,
-    /// The output rises after a fall of the other pin.
-    pub tplh: Option<u32>,
-    /// The output rises after a rise of it.
-    pub tphh: Option<u32>,
-    /// The output rises after either.
-    pub tar: Option<u32>,
-    /// The resistance for a rising output.
-    pub rup: u32,
-}
 
 /// Arcs in their order.
 pub type Arcs = Listed<Arc>;
