@@ -1,7 +1,7 @@
 -- Down a chain of operators, and up again.
-use Rattle.std.proofs.Common.{◌≡◌, ℕ, ◌+◌, ◌<◌, ◌≤◌, Bool, not, List, [], ◌∷◌, ◌++◌, map, length, refl, sym, ◌∙◌, ap, subst, arith, append_assoc, append-nil, length-append, count_by, if◌then◌else◌}
+use Rattle.std.proofs.Common.{◌≡◌, ℕ, ◌+◌, ◌<◌, ◌≤◌, Bool, List, [], ◌∷◌, ◌++◌, map, length, refl, sym, ◌∙◌, ap, subst, arith, append_assoc, append-nil, length-append, count_by, if◌then◌else◌}
 use Rattle.bool_expr.specs.declared.expr.Gate.{Gate}
-use Rattle.bool_expr.specs.Expression.{Expression, inverse, pair, choice, val, gate_value, gate_size, size_of, IsOver}
+use Rattle.bool_expr.specs.Expression.{Expression, inverse, pair, choice, val, gate_value, size_of, IsOver}
 use Rattle.graph_theory.specs.Graph.{Node, is_logic}
 use Rattle.subject_table.specs.declared.steps.Step.{Step}
 use Rattle.subject_table.specs.declared.steps.Step.TheVariants as step
@@ -9,7 +9,7 @@ use Rattle.subject_table.specs.declared.table.Table.{Table}
 use Rattle.subject_table.specs.View.{kinds, end_of}
 use Rattle.subject_table.specs.Grows.{IsSound, HasRoom, AreBelow, value, Adds}
 use Rattle.subject_table.specs.Steps.{step_value, step_size, steps_value, steps_size, IsStepBelow, AreStepsBelow, Walks}
-use Rattle.subject_table.proofs.Tables.{follow, stays, kept, end_grows}
+use Rattle.subject_table.proofs.Tables.{follow, stays, end_grows}
 use Rattle.subject_table.proofs.Operators.{still, still_value, below_grows, same_numbers}
 
 -- one operator more inside the others

@@ -6,7 +6,7 @@ use Rattle.subject_table.specs.declared.steps.Step.{Step}
 use Rattle.subject_table.specs.declared.steps.Step.TheVariants as step
 use Rattle.subject_table.specs.declared.table.Table.{Table}
 use Rattle.subject_table.specs.View.{kinds, end_of}
-use Rattle.subject_table.specs.Grows.{IsSound, AreBelow, value}
+use Rattle.subject_table.specs.Grows.{IsSound, value}
 
 -- the value of an operator, from that of the operand that it lacks
 abbrev pub step_value : Step → (ℕ → Bool) → Bool → Bool
