@@ -115,7 +115,7 @@ one_more _ _ line given none g = subst (λ (l : List (List ℕ)). Lists (line �
 one_more _ _ line given (more {line = first} {lines = lines} {given = a} {names = b} h t) g =
     subst (λ (l : List (List ℕ)). Lists (first ∷ (lines ++ line ∷ [])) l) (sym (append_assoc a b given)) (more h (one_more lines b line given t g))
 
-in_parts : {A : Type 0} (x : A) (xs ys : List A) → In x (xs ++ ys) → In x xs ⊎ In x ys
+pub in_parts : {A : Type 0} (x : A) (xs ys : List A) → In x (xs ++ ys) → In x xs ⊎ In x ys
 in_parts x [] ys h = inr h
 in_parts x (y ∷ xs) ys here = inl here
 in_parts x (y ∷ xs) ys (there h) = elim (in_parts x xs ys h) [ inl k ↦ inl (there k) | inr k ↦ inr k ]

@@ -1,11 +1,12 @@
 -- A text has one list of cells, or one refusal.
-use Rattle.std.proofs.Common.{◌≡◌, ◌==◌, ◌<◌, ◌≤◌, ℕ, ◌+◌, Bool, true, false, not, ◌&&◌, ◌||◌, List, [], ◌∷◌, ◌++◌, length, take, drop, codes, refl, sym, ap, ◌∙◌, subst, bytes_eq, arith, Option, None, Some, nat_le, if◌then◌else◌}
+use Rattle.std.proofs.Common.{◌≡◌, ◌==◌, ◌<◌, ◌≤◌, ℕ, ◌+◌, Bool, true, false, not, ◌&&◌, ◌||◌, List, [], ◌∷◌, ◌++◌, length, take, drop, codes, refl, sym, ap, ◌∙◌, subst, bytes_eq, arith, Option, None, Some, nat_le, if◌then◌else◌, inl, inr}
 use Rattle.std.specs.Option.{is_none, unwrap_or}
 use Rattle.std.specs.List.{prefix_len, list_any}
-use Rattle.std.specs.Char.{is_ascii_uppercase}
+use Rattle.std.specs.Char.{is_ascii_uppercase, to_ascii_lowercase}
 use Rattle.std.proofs.lemmas.Bool.{eqb-true, le-leb, lt-leb, leb-true}
-use Rattle.std.proofs.lemmas.List.{append_assoc, length-append}
+use Rattle.std.proofs.lemmas.List.{append_assoc, length-append, length-map}
 use Rattle.std.proofs.lemmas.Slice.Eq.{bytes_eq-Decides}
+use Rattle.vlsi_base.specs.declared.fault.LimitKind.TheVariants as kind
 use Rattle.vlsi_base.specs.Member.{In, here, there, AllDifferent}
 use Rattle.vlsi_base.specs.declared.limits.TheConstants.{MOST_SOURCE_BYTES}
 use Rattle.vhdl_token.specs.Keyword.{keyword_of}
@@ -15,10 +16,10 @@ use Rattle.text_lines.specs.Lines.{lines_of}
 use Rattle.catal.specs.declared.error.CatalError.{CatalError}
 use Rattle.catal.specs.declared.reader.TheConstants.{MOST_CELLS}
 use Rattle.catal.specs.Line.{lower, is_identifier, is_run, IsEntry}
-use Rattle.catal.specs.Catal.{Gives, empty, used, unused, Lists, none, more, AreUsed, IsCatal, formless, again, IsLineRefusal, bad, ident, IsFirstFault, Refused, too_long, at_line, too_many}
+use Rattle.catal.specs.Catal.{Gives, empty, used, unused, Lists, none, more, AreUsed, IsCatal, formless, again, IsLineRefusal, bad, ident, limit_error, IsFirstFault, Refused, too_long, at_line, too_many, IsBad}
 use Rattle.catal.specs.Cells.{given_by, names_on, joined, names_among, are_different, if_few, cells_in}
 use Rattle.catal.proofs.Splitting.{both, some_of, split_is, one_spelling, is_split}
-use Rattle.catal.proofs.Listing.{no_bytes}
+use Rattle.catal.proofs.Listing.{no_bytes, in_parts}
 
 some_same : {A : Type 0} (d a b : A) → Some a ≡ Some b → a ≡ b
 some_same d a b e = ap (λ o. unwrap_or o d) e
@@ -275,3 +276,100 @@ none_refused bytes e (too_many names short u many is) =
     ap (λ b. if b then if_few (names_among (lines_of bytes)) else []) (le-leb (length bytes) MOST_SOURCE_BYTES short)
     ∙ ap if_few (of_lists (lines_of bytes) names u.lists)
     ∙ ap (λ b. if are_different names && b then names else []) (lt-leb (length names) MOST_CELLS many) ∙ either_false (are_different names) names
+
+-- ---- one refusal
+
+gives_short : (line name : List ℕ) (names : List (List ℕ)) → Gives line names → In name names → length name ≤ MOST_IDENTIFIER_BYTES
+gives_short line name _ (empty is) i = elim i [ ]
+gives_short line _ _ (used n e fits) here = subst (λ k. k ≤ MOST_IDENTIFIER_BYTES) (sym (length-map n to_ascii_lowercase)) fits
+gives_short line _ _ (used n e fits) (there i) = elim i [ ]
+gives_short line name _ (unused n w e other fits) i = elim i [ ]
+
+lists_short : (lines : List (List ℕ)) (name : List ℕ) (names : List (List ℕ)) → Lists lines names → In name names → length name ≤ MOST_IDENTIFIER_BYTES
+lists_short _ name _ none i = elim i [ ]
+lists_short _ name _ (more {line = line} {lines = lines} {given = a} {names = b} g t) i =
+    elim (in_parts name a b i) [ inl j ↦ gives_short line name a g j | inr j ↦ lists_short lines name b t j ]
+
+-- a bad line has no entry with a long name
+bad_short : (names : List (List ℕ)) (line name word : List ℕ) → ((m : List ℕ) → In m names → length m ≤ MOST_IDENTIFIER_BYTES) → IsBad names line → IsEntry line name word
+    → MOST_IDENTIFIER_BYTES < length name → ⊥
+bad_short names line name word short (formless some other) e long = other name word e
+bad_short names line name word short (again n f i) e long =
+    let same : n ≡ name = (one_spelling line n name (codes "C") word f.spelled e.spelled).0 in
+    let fits = short (lower n) i in
+    let l : length (lower n) ≡ length n = length-map n to_ascii_lowercase in
+    let k : length n ≡ length name = ap length same in
+    omega (arith, fits, l, k, long)
+
+one_on_line : (names : List (List ℕ)) (number : ℕ) (line : List ℕ) (d e : CatalError) → ((m : List ℕ) → In m names → length m ≤ MOST_IDENTIFIER_BYTES)
+    → IsLineRefusal names number line d → IsLineRefusal names number line e → d ≡ e
+one_on_line names number line d e short (bad b i) (bad c j) = i ∙ sym j
+one_on_line names number line d e short (bad b i) (ident name word f long j) = absurd (bad_short names line name word short b f long)
+one_on_line names number line d e short (ident name word f long j) (bad b i) = absurd (bad_short names line name word short b f long)
+one_on_line names number line d e short (ident n v f long i) (ident m w g wide j) =
+    let same : n ≡ m = (one_spelling line n m v w f.spelled g.spelled).0 in
+    i ∙ ap (λ (x : List ℕ). limit_error kind.Ident (length x)) same ∙ sym j
+
+-- which of two lines of a list stands before the other
+data Places (a b : List (List ℕ)) (x y : List ℕ) : Type 0 where
+  same : a ≡ b → x ≡ y → Places a b x y
+  first : (rest : List (List ℕ)) → b ≡ a ++ x ∷ rest → Places a b x y
+  second : (rest : List (List ℕ)) → a ≡ b ++ y ∷ rest → Places a b x y
+
+front_of : List (List ℕ) → List ℕ
+front_of [] = []
+front_of (x ∷ xs) = x
+
+rest_of : List (List ℕ) → List (List ℕ)
+rest_of [] = []
+rest_of (x ∷ xs) = xs
+
+heads : (x y : List ℕ) (xs ys : List (List ℕ)) → x ∷ xs ≡ y ∷ ys → x ≡ y
+unfolding front_of
+heads x y xs ys e = ap front_of e
+
+tails : (x y : List ℕ) (xs ys : List (List ℕ)) → x ∷ xs ≡ y ∷ ys → xs ≡ ys
+unfolding rest_of
+tails x y xs ys e = ap rest_of e
+
+places : (a b c d : List (List ℕ)) (x y : List ℕ) → a ++ x ∷ c ≡ b ++ y ∷ d → Places a b x y
+places [] [] c d x y e = same refl (heads x y c d e)
+places [] (z ∷ b) c d x y e = first b (ap (λ (h : List ℕ). h ∷ b) (sym (heads x z c (b ++ y ∷ d) e)))
+places (z ∷ a) [] c d x y e = second a (ap (λ (h : List ℕ). h ∷ a) (heads z y (a ++ x ∷ c) d e))
+places (z ∷ a) (w ∷ b) c d x y e =
+    elim (places a b c d x y (tails z w (a ++ x ∷ c) (b ++ y ∷ d) e)) [
+      | same p q ↦ same (ap (λ (l : List (List ℕ)). z ∷ l) p ∙ ap (λ (h : List ℕ). h ∷ b) (heads z w (a ++ x ∷ c) (b ++ y ∷ d) e)) q
+      | first rest p ↦ first rest (ap (λ (l : List (List ℕ)). w ∷ l) p ∙ ap (λ (h : List ℕ). h ∷ (a ++ x ∷ rest)) (sym (heads z w (a ++ x ∷ c) (b ++ y ∷ d) e)))
+      | second rest p ↦ second rest (ap (λ (l : List (List ℕ)). z ∷ l) p ∙ ap (λ (h : List ℕ). h ∷ (b ++ y ∷ rest)) (heads z w (a ++ x ∷ c) (b ++ y ∷ d) e))
+    ]
+
+-- lines that use cells have no fault among them
+earlier : (lines before rest names : List (List ℕ)) (e : CatalError) (f : IsFirstFault lines e) → before ≡ f.before ++ f.line ∷ rest → AreUsed before names → ⊥
+earlier lines before rest names e f is u =
+    no_fault before names e (record { before = f.before; behind = rest; names = f.names; line = f.line; lines_are = is; used = f.used; refused = f.refused }) u
+
+one_fault : (lines : List (List ℕ)) (d e : CatalError) → IsFirstFault lines d → IsFirstFault lines e → d ≡ e
+one_fault lines d e f g = by (places f.before g.before f.behind g.behind f.line g.line (sym f.lines_are ∙ g.lines_are)) where
+  by : Places f.before g.before f.line g.line → d ≡ e
+  by (first rest is) = absurd (earlier lines g.before rest g.names d f is g.used)
+  by (second rest is) = absurd (earlier lines f.before rest f.names e g is f.used)
+  by (same is on) =
+      let names : g.names ≡ f.names =
+      same_names g.before g.names f.names g.used.lists (subst (λ (l : List (List ℕ)). Lists l f.names) is f.used.lists) in
+      let a : IsLineRefusal f.names (length f.before + 1) f.line e =
+      subst (λ (l : List (List ℕ)). IsLineRefusal l (length f.before + 1) f.line e) names
+      (subst (λ n. IsLineRefusal g.names (n + 1) f.line e) (sym (ap length is))
+      (subst (λ (l : List ℕ). IsLineRefusal g.names (length g.before + 1) l e) (sym on) g.refused)) in
+      one_on_line f.names (length f.before + 1) f.line d e (λ m i. lists_short f.before m f.names f.used.lists i) f.refused a
+
+pub one_refusal : (bytes : List ℕ) (d e : CatalError) → Refused bytes d → Refused bytes e → d ≡ e
+one_refusal bytes d e (too_long long is) (too_long wide js) = is ∙ sym js
+one_refusal bytes d e (too_long long is) (at_line short g) = absurd (omega (arith, long, short))
+one_refusal bytes d e (too_long long is) (too_many names short u many js) = absurd (omega (arith, long, short))
+one_refusal bytes d e (at_line short f) (too_long long js) = absurd (omega (arith, long, short))
+one_refusal bytes d e (at_line short f) (at_line brief g) = one_fault (lines_of bytes) d e f g
+one_refusal bytes d e (at_line short f) (too_many names brief u many js) = absurd (no_fault (lines_of bytes) names d f u)
+one_refusal bytes d e (too_many names short u many is) (too_long long js) = absurd (omega (arith, long, short))
+one_refusal bytes d e (too_many names short u many is) (at_line brief g) = absurd (no_fault (lines_of bytes) names e g u)
+one_refusal bytes d e (too_many names short u many is) (too_many others brief v more_than js) =
+    is ∙ ap (λ (l : List (List ℕ)). limit_error kind.Cells (length l)) (same_names (lines_of bytes) names others u.lists v.lists) ∙ sym js

@@ -15,3 +15,7 @@ NoneRefused = (bytes : List ℕ) (e : CatalError) → Refused bytes e → cells_
 -- a text that is a CATAL has no refusal
 abbrev pub NeverBoth : Type 0
 NeverBoth = (bytes : List ℕ) (names : List (List ℕ)) (e : CatalError) → IsCatal bytes names → Refused bytes e → ⊥
+
+-- a text has at most one refusal
+abbrev pub OneRefusal : Type 0
+OneRefusal = (bytes : List ℕ) (d e : CatalError) → Refused bytes d → Refused bytes e → d ≡ e

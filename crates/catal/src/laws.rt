@@ -1,5 +1,5 @@
 // What follows from the definitions of a CATAL and of its refusals.
-ghost use Rattle.catal.specs.Laws.{OneList, NoneRefused, NeverBoth};
+ghost use Rattle.catal.specs.Laws.{OneList, NoneRefused, NeverBoth, OneRefusal};
 
 /// A text has at most one list of cells.
 pub fn one_list()
@@ -14,4 +14,9 @@ pub fn none_refused()
 /// A text that is a CATAL has no refusal.
 pub fn never_both()
     ensures { NeverBoth }
+{}
+
+/// A text has at most one refusal.
+pub fn one_refusal()
+    ensures { OneRefusal }
 {}

@@ -10,5 +10,5 @@ mod reader;
 mod used;
 
 pub use error::CatalError;
-pub use laws::{never_both, none_refused, one_list};
+pub use laws::{never_both, none_refused, one_list, one_refusal};
 pub use reader::{MOST_CELLS, read_catal};

@@ -37,4 +37,5 @@ pub record IsLayout (ap : List ℕ) (figure : Figure) : Type 0 where
 -- check 2: the ap is read, and has no instance
 pub data IsLayoutRefusal (cell ap : List ℕ) (e : LibError) : Type 0 where
   unread : (fault : ReadError) → Refused ap fault → e ≡ told_as cell UNREAD_LAYOUT fault → IsLayoutRefusal cell ap e
-  placed : (figure : Figure) → IsApText ap figure → list_any is_instance figure.items ≡ true → e ≡ errors.BadCell cell UNREAD_LAYOUT → IsLayoutRefusal cell ap e
+  placed : (figure : Figure) → IsApText ap figure → list_any is_instance figure.items ≡ true
+      → e ≡ errors.BadCell cell UNREAD_LAYOUT → IsLayoutRefusal cell ap e

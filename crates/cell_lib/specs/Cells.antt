@@ -18,7 +18,8 @@ sources (name ∷ names) files = record { name = name; vbe = get_or files 0 []; 
 -- each of these is a cell in its place
 pub data AreCells (Makes : Source → Cell → Type 0) : List Source → List Cell → Type 0 where
   none : AreCells Makes [] []
-  next : {source : Source} {rest : List Source} {cell : Cell} {cells : List Cell} → Makes source cell → AreCells Makes rest cells → AreCells Makes (source ∷ rest) (cell ∷ cells)
+  next : {source : Source} {rest : List Source} {cell : Cell} {cells : List Cell}
+      → Makes source cell → AreCells Makes rest cells → AreCells Makes (source ∷ rest) (cell ∷ cells)
 
 -- the first that is no cell is refused so
 pub record IsFirstRefused (Makes : Source → Cell → Type 0) (Refuses : Source → LibError → Type 0) (all : List Source) (e : LibError) : Type 0 where

@@ -2,3 +2,4 @@ pub mod Files
 pub mod Load
 pub mod Cells
 pub mod Causes
+pub mod Library
