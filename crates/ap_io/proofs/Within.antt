@@ -197,37 +197,51 @@ small_index text z index is =
 
 segment_within : (k : Scale) (f : List (List ℕ)) (s : Segment) → segment_fault k f ≡ None → IsSegment k f s → IsItemWithin (item.Segment s)
 segment_within k f s h is =
-    let clean = segment_clean k f h in
-    (near_field k f 5 0 s.x1 clean.2 (omega arith) is.x1, near_field k f 5 1 s.y1 clean.2 (omega arith) is.y1,
-     near_field k f 5 2 s.x2 clean.2 (omega arith) is.x2, near_field k f 5 3 s.y2 clean.2 (omega arith) is.y2,
-     near_field k f 5 4 s.width clean.2 (omega arith) is.width, label_kept s.name (at f 5) clean.1 is.name)
+    let clean = segment_clean k f h in (
+      near_field k f 5 0 s.x1 clean.2 (omega arith) is.x1,
+      near_field k f 5 1 s.y1 clean.2 (omega arith) is.y1,
+      near_field k f 5 2 s.x2 clean.2 (omega arith) is.x2,
+      near_field k f 5 3 s.y2 clean.2 (omega arith) is.y2,
+      near_field k f 5 4 s.width clean.2 (omega arith) is.width,
+      label_kept s.name (at f 5) clean.1 is.name,
+    )
 
 connector_within : (k : Scale) (f : List (List ℕ)) (c : Connector) → connector_fault k f ≡ None → IsConnector k f c → IsItemWithin (item.Connector c)
 connector_within k f c h is =
-    let clean = connector_clean k f h in
-    (near_field k f 3 0 c.x clean.2 (omega arith) is.x, near_field k f 3 1 c.y clean.2 (omega arith) is.y,
-     near_field k f 3 2 c.width clean.2 (omega arith) is.width, label_kept c.name (at f 3) clean.1 is.name,
-     small_index (at f 4) c.index (connector_form f clean.0).2 is.index)
+    let clean = connector_clean k f h in (
+      near_field k f 3 0 c.x clean.2 (omega arith) is.x,
+      near_field k f 3 1 c.y clean.2 (omega arith) is.y,
+      near_field k f 3 2 c.width clean.2 (omega arith) is.width,
+      label_kept c.name (at f 3) clean.1 is.name,
+      small_index (at f 4) c.index (connector_form f clean.0).2 is.index,
+    )
 
 via_within : (k : Scale) (f : List (List ℕ)) (v : Via) → via_fault k f ≡ None → IsVia k f v → IsItemWithin (item.Via v)
 via_within k f v h is =
-    let clean = via_clean k f h in
-    (near_field k f 2 0 v.x clean.2 (omega arith) is.x, near_field k f 2 1 v.y clean.2 (omega arith) is.y,
-     via_name (length f == 3) v.name (at f 3) clean.1 is.name)
+    let clean = via_clean k f h in (
+      near_field k f 2 0 v.x clean.2 (omega arith) is.x,
+      near_field k f 2 1 v.y clean.2 (omega arith) is.y,
+      via_name (length f == 3) v.name (at f 3) clean.1 is.name,
+    )
 
 instance_within : (k : Scale) (taken : Bool) (f : List (List ℕ)) (i : Instance) → instance_fault k taken f ≡ None → IsInstance k f i → IsItemWithin (item.Instance i)
 instance_within k taken f i h is =
     let clean = instance_clean k taken f h in
     let form = instance_form taken f clean.0 in
-    let long = neither (long_name (at f 2)) (long_name (at f 3)) clean.1 in
-    (near_field k f 2 0 i.x clean.2 (omega arith) is.x, near_field k f 2 1 i.y clean.2 (omega arith) is.y,
-     short_word i.model (at f 2) form.0 long.0 is.model, short_word i.name (at f 3) form.1 long.1 is.name)
+    let long = neither (long_name (at f 2)) (long_name (at f 3)) clean.1 in (
+      near_field k f 2 0 i.x clean.2 (omega arith) is.x,
+      near_field k f 2 1 i.y clean.2 (omega arith) is.y,
+      short_word i.model (at f 2) form.0 long.0 is.model,
+      short_word i.name (at f 3) form.1 long.1 is.name,
+    )
 
 reference_within : (k : Scale) (f : List (List ℕ)) (r : Reference) → reference_fault k f ≡ None → IsReference k f r → IsItemWithin (item.Reference r)
 reference_within k f r h is =
-    let clean = reference_clean k f h in
-    (near_field k f 2 0 r.x clean.2 (omega arith) is.x, near_field k f 2 1 r.y clean.2 (omega arith) is.y,
-     short_word r.word (at f 2) (reference_form f clean.0).0 clean.1 is.word)
+    let clean = reference_clean k f h in (
+      near_field k f 2 0 r.x clean.2 (omega arith) is.x,
+      near_field k f 2 1 r.y clean.2 (omega arith) is.y,
+      short_word r.word (at f 2) (reference_form f clean.0).0 clean.1 is.word,
+    )
 
 item_within : (k : Scale) (taken : Bool) (line : List ℕ) (one : Item) → is_blank_line line ≡ false → item_fault k taken line ≡ None → IsItem k line one → IsItemWithin one
 item_within k taken line (item.Segment s) some clean is = segment_within k (fields_behind line) s (fault_of 83 k taken line some clean is.0) is.1
@@ -274,9 +288,12 @@ pub box_ready : (bytes : List ℕ) (f : Figure) → IsApText bytes f → IsNear 
 box_ready bytes f is =
     let k = is.scale in
     let fields = fields_behind is.box in
-    let near = box_near k is.box is.right_box in
-    (near_field k fields 4 0 f.bounds.x1 near (omega arith) is.bounds.x1, near_field k fields 4 1 f.bounds.y1 near (omega arith) is.bounds.y1,
-     near_field k fields 4 2 f.bounds.x2 near (omega arith) is.bounds.x2, near_field k fields 4 3 f.bounds.y2 near (omega arith) is.bounds.y2)
+    let near = box_near k is.box is.right_box in (
+      near_field k fields 4 0 f.bounds.x1 near (omega arith) is.bounds.x1,
+      near_field k fields 4 1 f.bounds.y1 near (omega arith) is.bounds.y1,
+      near_field k fields 4 2 f.bounds.x2 near (omega arith) is.bounds.x2,
+      near_field k fields 4 3 f.bounds.y2 near (omega arith) is.bounds.y2,
+    )
 
 -- ---- the name
 

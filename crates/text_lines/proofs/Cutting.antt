@@ -18,7 +18,7 @@ cut_alone b false = refl
 
 cut_before : (b : ℕ) (bs : List ℕ) (e : Bool) → IsCut bs
     → (if e then [] ∷ lines_of bs else put_before b (lines_of bs))
-      ≡ take (if not e then 1 + prefix_len is_on_line bs else 0) (b ∷ bs) ∷ lines_of (drop ((if not e then 1 + prefix_len is_on_line bs else 0) + 1) (b ∷ bs))
+    ≡ take (if not e then 1 + prefix_len is_on_line bs else 0) (b ∷ bs) ∷ lines_of (drop ((if not e then 1 + prefix_len is_on_line bs else 0) + 1) (b ∷ bs))
 cut_before b bs true cut = refl
 cut_before b bs false cut =
     let n = prefix_len is_on_line bs in
@@ -56,8 +56,9 @@ lines_end text e is ends = lines_of_none text (eqb-true (length text) 0 (sym is 
 
 pub ends_exactly : (text : List ℕ) (e : Bool) (seen : List (List ℕ)) → lines_of text ≡ seen → e ≡ (length text == 0) → IsTrue e ↔ (seen ≡ [])
 ends_exactly text e seen view is = (
-    λ ends. sym view ∙ lines_end text e is ends,
-    λ none. is ∙ eq-eqb (length text) 0 (ap length (no_lines text (view ∙ none))))
+  λ ends. sym view ∙ lines_end text e is ends,
+  λ none. is ∙ eq-eqb (length text) 0 (ap length (no_lines text (view ∙ none))),
+)
 
 -- ---- lengths
 
