@@ -1,6 +1,6 @@
 -- A figure that is read is one that the format can hold.
-use Rattle.std.proofs.Common.{◌≡◌, ℕ, suc, zero, ◌+◌, ◌-◌, ◌*◌, ◌^◌, ◌<◌, ◌≤◌, Bool, true, false, not, ◌==◌, ◌&&◌, ◌||◌, List, [], ◌∷◌, ◌++◌, length, take, drop, map, bytes_eq, codes, refl, sym, ap, ◌∙◌, arith, subst, mul-le-mul_right, ◌⊎◌, inl, inr, Option, None, Some, if◌then◌else◌}
-use Rattle.std.specs.Prelude.{ℤ, pos, neg_ℤ, nat_abs, ◌≤ℤ◌, ◌≢◌, nat_lt, nat_le, nat_eq, slice_index, slice_index_or, cond, All, AllPairs, IfSome, IsTrue}
+use Rattle.std.proofs.Common.{◌≡◌, ℕ, suc, zero, ◌+◌, ◌*◌, ◌^◌, ◌<◌, ◌≤◌, Bool, true, false, not, ◌==◌, ◌&&◌, ◌||◌, List, [], ◌∷◌, ◌++◌, length, take, map, bytes_eq, codes, refl, sym, ap, ◌∙◌, arith, subst, mul-le-mul_right, ◌⊎◌, inl, inr, Option, None, Some, if◌then◌else◌}
+use Rattle.std.specs.Prelude.{ℤ, ◌≤ℤ◌, ◌≢◌, nat_lt, nat_eq, slice_index, slice_index_or, cond, All, AllPairs, IfSome, IsTrue}
 use Rattle.std.specs.List.{AllPass, list_all, list_any, prefix_len, starts_with}
 use Rattle.std.specs.Option.{is_some, option_map, unwrap_or}
 use Rattle.std.specs.Char.{is_ascii_alphabetic, is_ascii_digit, to_ascii_lowercase}
@@ -22,7 +22,6 @@ use Rattle.sym_geom.specs.Rect.{IsRect}
 use Rattle.sym_geom.specs.declared.rect.Rect.{Rect}
 use Rattle.sym_geom.specs.declared.item.Direction.{Direction}
 use Rattle.sym_geom.specs.declared.item.Direction.TheVariants.{Up, Down, Left, Right}
-use Rattle.sym_geom.specs.declared.item.Contact.{Contact}
 use Rattle.sym_geom.specs.declared.item.Contact.TheVariants.{Via1, Via2, Via3, Via4, Via5, Other}
 use Rattle.sym_geom.specs.declared.item.Segment.{Segment}
 use Rattle.sym_geom.specs.declared.item.Connector.{Connector}
@@ -34,23 +33,25 @@ use Rattle.sym_geom.specs.declared.item.Item.TheVariants as item
 use Rattle.text_lines.specs.Lines.{put_before}
 use Rattle.ap_io.specs.declared.scale.Scale.{Scale}
 use Rattle.ap_io.specs.declared.figure.Figure.{Figure}
-use Rattle.ap_io.specs.declared.fault.LineFault.{LineFault}
 use Rattle.ap_io.specs.declared.fault.LineFault.TheVariants.{BadLine}
 use Rattle.ap_io.specs.Spelling.{contact_text}
 use Rattle.ap_io.specs.Fields.{at, fields_of, is_in_field, is_text_byte, size_of, has_minus, signed, factor, coordinate_of, number_of, is_number, is_digits, is_identifier, is_label, is_in_word, is_bit_of, lower, word_of, behind_word, bit_digits, label_of}
-use Rattle.ap_io.specs.Words.{direction_of, side_of, is_contact, contact_of, joining_contact_of, scale_of}
-use Rattle.ap_io.specs.LineFaults.{is_letter as has_code, limit_fault, far_coordinate, letter_of, has_letter, behind_letter, fields_behind, name_on, names_on, is_taken, is_blank_line, is_end, item_fault, segment_fault, connector_fault, via_fault, instance_fault, reference_fault, remark_fault, is_along, is_via, is_head, is_box, box_fault, box_line_fault, name_line_fault}
+use Rattle.ap_io.specs.Words.{is_contact, contact_of, joining_contact_of, scale_of}
+use Rattle.ap_io.specs.LineFaults.{is_letter as has_code, limit_fault, far_coordinate, has_letter, behind_letter, fields_behind, name_on, names_on, is_taken, is_blank_line, item_fault, segment_fault, connector_fault, via_fault, instance_fault, reference_fault, remark_fault, is_along, is_head, is_box, box_fault, box_line_fault}
 use Rattle.ap_io.specs.Items.{IsSegment, IsConnector, IsVia, IsInstance, IsReference, IsBox, IsItem}
-use Rattle.ap_io.specs.ApText.{is_letter, is_digit, is_word_byte, IsWord, IsLabel, RunsAlong, is_field_byte, IsContact, IsLine, instance_names, IsFigure, AreItems, ends, blank, next, IsApText}
+use Rattle.ap_io.specs.ApText.{is_letter, is_word_byte, IsWord, IsLabel, RunsAlong, is_field_byte, IsContact, IsLine, instance_names, IsFigure, AreItems, ends, blank, next, IsApText}
 use Rattle.ap_io.specs.Laws.{ReadIsAFigure}
 use Rattle.ap_io.proofs.Digits.{both_true}
-use Rattle.ap_io.proofs.Within.{size_signed, wide_field, fault_of, one_test, segment_clean, connector_clean, via_clean, instance_clean, reference_clean, head_clean, segment_form, connector_form, instance_form, reference_form, all_items, figure_within, few_items}
+use Rattle.ap_io.proofs.Within.{wide_field, fault_of, one_test, segment_clean, connector_clean, via_clean, instance_clean, reference_clean, head_clean, segment_form, connector_form, instance_form, reference_form, all_items, figure_within, few_items}
 
 -- ---- numbers at scale 100
 
 signed_order : (a b : Bool) (n m c : ℕ) → signed a n ≤ℤ signed b m → signed a (n * c) ≤ℤ signed b (m * c)
 signed_order false false n m c h = let less : n ≤ m = omega (arith, ints, h) in omega (arith, ints, mul-le-mul_right c less)
-signed_order false true n m c h = let none : n ≤ 0 = omega (arith, ints, h) in let other : m ≤ 0 = omega (arith, ints, h) in omega (arith, ints, mul-le-mul_right c none, mul-le-mul_right c other)
+signed_order false true n m c h =
+    let none : n ≤ 0 = omega (arith, ints, h) in
+    let other : m ≤ 0 = omega (arith, ints, h) in
+    omega (arith, ints, mul-le-mul_right c none, mul-le-mul_right c other)
 signed_order true false n m c h = omega (arith, ints)
 signed_order true true n m c h = let less : m ≤ n = omega (arith, ints, h) in omega (arith, ints, mul-le-mul_right c less)
 
@@ -81,7 +82,8 @@ order_tested a b Greater is h = absurd (cc)
 equal_fields : (k : Scale) (s t : List ℕ) → is_eq (int_cmp (number_of s) (number_of t)) ≡ true → coordinate_of k s ≡ coordinate_of k t
 equal_fields k s t h = same_scaled k s t (equal_tested (number_of s) (number_of t) (int_cmp (number_of s) (number_of t)) refl h)
 
-ordered_fields : (k : Scale) (s t : List ℕ) (x y : ℤ) → is_le (int_cmp (number_of s) (number_of t)) ≡ true → x ≡ coordinate_of k s → y ≡ coordinate_of k t → x ≤ℤ y
+ordered_fields : (k : Scale) (s t : List ℕ) (x y : ℤ) → is_le (int_cmp (number_of s) (number_of t)) ≡ true → x ≡ coordinate_of k s
+    → y ≡ coordinate_of k t → x ≤ℤ y
 ordered_fields k s t x y h is also =
     let low = in_order k s t (order_tested (number_of s) (number_of t) (int_cmp (number_of s) (number_of t)) refl h) in
     omega (arith, ints, low, is, also)
@@ -147,8 +149,8 @@ label_word [] h = absurd (cc)
 label_word (b ∷ bs) h =
     let one_more : 1 + prefix_len is_in_word bs ≡ suc (prefix_len is_in_word bs) = omega arith in
     let same : word_of (b ∷ bs) ≡ b ∷ word_of bs =
-      ap (λ (t : Bool). take (cond t (1 + prefix_len is_in_word bs) 0) (b ∷ bs)) (in_word (is_ascii_alphabetic b) (is_ascii_digit b) (b == 95) h)
-      ∙ ap (λ n. take n (b ∷ bs)) one_more in
+    ap (λ (t : Bool). take (cond t (1 + prefix_len is_in_word bs) 0) (b ∷ bs)) (in_word (is_ascii_alphabetic b) (is_ascii_digit b) (b == 95) h)
+    ∙ ap (λ n. take n (b ∷ bs)) one_more in
     let P : List ℕ → Type 0 = λ w. IsWord (lower w) in
     subst P (sym same) (letter_lowered b h, AllPass-from_list_all is_word_byte (lower (word_of bs)) (lowered (word_of bs) (prefix_passes is_in_word bs)))
 
@@ -174,7 +176,8 @@ word_named word text form is = subst IsWord (sym is) (word_read text form)
 
 -- ---- fields
 
-put_bytes : (b : ℕ) (fields : List (List ℕ)) → is_in_field b ≡ true → ((i : ℕ) → list_all is_in_field (at fields i) ≡ true) → (i : ℕ) → list_all is_in_field (at (put_before b fields) i) ≡ true
+put_bytes : (b : ℕ) (fields : List (List ℕ)) → is_in_field b ≡ true → ((i : ℕ) → list_all is_in_field (at fields i) ≡ true) → (i : ℕ)
+    → list_all is_in_field (at (put_before b fields) i) ≡ true
 put_bytes b [] no_comma each zero = both_hold (is_in_field b) true no_comma refl
 put_bytes b [] no_comma each (suc i) = refl
 put_bytes b (line ∷ lines) no_comma each zero = both_hold (is_in_field b) (list_all is_in_field line) no_comma (each 0)
@@ -223,18 +226,23 @@ unfolding joining_contact_of
 contact_read word form field =
     by_word (bytes_eq word (contact_text Via1)) (bytes_eq word (contact_text Via2)) (bytes_eq word (contact_text Via3)) (bytes_eq word (contact_text Via4))
     (bytes_eq word (contact_text Via5)) refl refl refl refl refl where
-  by_word : (a b c d e : Bool) → bytes_eq word (contact_text Via1) ≡ a → bytes_eq word (contact_text Via2) ≡ b → bytes_eq word (contact_text Via3) ≡ c
-      → bytes_eq word (contact_text Via4) ≡ d → bytes_eq word (contact_text Via5) ≡ e
-      → IsContact (unwrap_or (cond a (Some Via1) (cond b (Some Via2) (cond c (Some Via3) (cond d (Some Via4) (cond e (Some Via5) None))))) (Other word))
-  by_word true b c d e one two three four five = tt
-  by_word false true c d e one two three four five = tt
-  by_word false false true d e one two three four five = tt
-  by_word false false false true e one two three four five = tt
-  by_word false false false false true one two three four five = tt
-  by_word false false false false false one two three four five =
-      (one_of (starts_with nat_eq word (codes "CONT_")) (starts_with nat_eq word (codes "C_X_")) (contact_form word form).0, field,
-       differs word (contact_text Via1) one, differs word (contact_text Via2) two, differs word (contact_text Via3) three,
-       differs word (contact_text Via4) four, differs word (contact_text Via5) five)
+      by_word : (a b c d e : Bool) → bytes_eq word (contact_text Via1) ≡ a → bytes_eq word (contact_text Via2) ≡ b → bytes_eq word (contact_text Via3) ≡ c
+          → bytes_eq word (contact_text Via4) ≡ d → bytes_eq word (contact_text Via5) ≡ e
+          → IsContact (unwrap_or (cond a (Some Via1) (cond b (Some Via2) (cond c (Some Via3) (cond d (Some Via4) (cond e (Some Via5) None))))) (Other word))
+      by_word true b c d e one two three four five = tt
+      by_word false true c d e one two three four five = tt
+      by_word false false true d e one two three four five = tt
+      by_word false false false true e one two three four five = tt
+      by_word false false false false true one two three four five = tt
+      by_word false false false false false one two three four five = (
+        one_of (starts_with nat_eq word (codes "CONT_")) (starts_with nat_eq word (codes "C_X_")) (contact_form word form).0,
+        field,
+        differs word (contact_text Via1) one,
+        differs word (contact_text Via2) two,
+        differs word (contact_text Via3) three,
+        differs word (contact_text Via4) four,
+        differs word (contact_text Via5) five,
+      )
 
 -- ---- items
 
@@ -249,7 +257,8 @@ connector_line k f c h is =
     let form = connector_form f (connector_clean k f h).0 in
     (wide_field k (at f 2) c.width form.0 is.width, label_named c.name (at f 3) form.1 is.name)
 
-via_label : (b four : Bool) (name : Option Name) (text : List ℕ) → b || (four && is_label text) ≡ true → name ≡ (if b then None else label_of text) → IsLabel name
+via_label : (b four : Bool) (name : Option Name) (text : List ℕ) → b || (four && is_label text) ≡ true → name ≡ (if b then None else label_of text)
+    → IsLabel name
 via_label true four name text form is = subst IsLabel (sym is) tt
 via_label false four name text form is = label_named name text (both_true four (is_label text) form).1 is
 
@@ -257,16 +266,18 @@ via_line : (k : Scale) (text : List ℕ) (v : Via) → via_fault k (fields_of te
 via_line k text v h is =
     let f = fields_of text in
     let two = both_true ((length f == 3 || (length f == 4 && is_label (at f 3))) && list_all is_number (take 2 f)) (is_contact (at f 2)) (via_clean k f h).0 in
-    let one = both_true (length f == 3 || (length f == 4 && is_label (at f 3))) (list_all is_number (take 2 f)) two.0 in
-    (subst IsContact (sym is.contact) (contact_read (at f 2) two.1 (field_passes text 2 (contact_form (at f 2) two.1).1)),
-     via_label (length f == 3) (length f == 4) v.name (at f 3) one.0 is.name)
+    let one = both_true (length f == 3 || (length f == 4 && is_label (at f 3))) (list_all is_number (take 2 f)) two.0 in (
+      subst IsContact (sym is.contact) (contact_read (at f 2) two.1 (field_passes text 2 (contact_form (at f 2) two.1).1)),
+      via_label (length f == 3) (length f == 4) v.name (at f 3) one.0 is.name,
+    )
 
 instance_line : (k : Scale) (taken : Bool) (f : List (List ℕ)) (i : Instance) → instance_fault k taken f ≡ None → IsInstance k f i → IsLine (item.Instance i)
 instance_line k taken f i h is =
     let form = instance_form taken f (instance_clean k taken f h).0 in
     (word_named i.model (at f 2) form.0 is.model, word_named i.name (at f 3) form.1 is.name)
 
-reference_line : (k : Scale) (text : List ℕ) (r : Reference) → reference_fault k (fields_of text) ≡ None → IsReference k (fields_of text) r → IsLine (item.Reference r)
+reference_line : (k : Scale) (text : List ℕ) (r : Reference) → reference_fault k (fields_of text) ≡ None → IsReference k (fields_of text) r
+    → IsLine (item.Reference r)
 reference_line k text r h is =
     let f = fields_of text in
     let form = reference_form f (reference_clean k f h).0 in
@@ -279,7 +290,8 @@ remark_passes false h = absurd (cc)
 remark_line : (text remark : List ℕ) → remark_fault text ≡ None → remark ≡ text → IsLine (item.Remark remark)
 remark_line text remark h is = subst (AllPass is_text_byte) (sym is) (AllPass-from_list_all is_text_byte text (remark_passes (list_all is_text_byte text) h))
 
-item_line : (k : Scale) (taken : Bool) (line : List ℕ) (one : Item) → is_blank_line line ≡ false → item_fault k taken line ≡ None → IsItem k line one → IsLine one
+item_line : (k : Scale) (taken : Bool) (line : List ℕ) (one : Item) → is_blank_line line ≡ false → item_fault k taken line ≡ None
+    → IsItem k line one → IsLine one
 item_line k taken line (item.Segment s) some clean is = segment_line k (fields_behind line) s (fault_of 83 k taken line some clean is.0) is.1
 item_line k taken line (item.Connector c) some clean is = connector_line k (fields_behind line) c (fault_of 67 k taken line some clean is.0) is.1
 item_line k taken line (item.Via v) some clean is = via_line k (behind_letter line) v (fault_of 86 k taken line some clean is.0) is.1
@@ -304,7 +316,8 @@ untaken : (letter taken : Bool) → letter ≡ true → not (letter && taken) �
 untaken letter true is h = absurd (cc)
 untaken letter false is h = refl
 
-one_name : (blank_line letter : Bool) (name : List ℕ) → blank_line ≡ false → letter ≡ true → (if blank_line then [] else if letter then name ∷ [] else []) ≡ name ∷ []
+one_name : (blank_line letter : Bool) (name : List ℕ) → blank_line ≡ false → letter ≡ true
+    → (if blank_line then [] else if letter then name ∷ [] else []) ≡ name ∷ []
 one_name false true name some is = refl
 one_name true letter name some is = absurd (cc)
 one_name false false name some is = absurd (cc)
@@ -327,14 +340,17 @@ fewer_names : (names more : List (List ℕ)) (items : List Item) → AreApart (n
 fewer_names names more items both =
     (weaker (IsFree (names ++ more)) (IsFree names) (λ name free. (free_of_both names more name free).0) (instance_names items) both.0, both.1)
 
-instance_apart : (names : List (List ℕ)) (i : Instance) (items : List Item) → IsFree names i.name → AreApart (names ++ i.name ∷ []) items → AreApart names (item.Instance i ∷ items)
-instance_apart names i items free both =
-    (All-cons (IsFree names) i.name (instance_names items) free (fewer_names names (i.name ∷ []) items both).0,
-     AllPairs-cons (λ a b. a ≢ b) i.name (instance_names items)
-       (weaker (IsFree (names ++ i.name ∷ [])) (λ b. i.name ≢ b) (λ name other. apart_from i.name name (free_of_both names (i.name ∷ []) name other).1) (instance_names items) both.0)
-       both.1)
+instance_apart : (names : List (List ℕ)) (i : Instance) (items : List Item) → IsFree names i.name → AreApart (names ++ i.name ∷ []) items
+    → AreApart names (item.Instance i ∷ items)
+instance_apart names i items free both = (
+  All-cons (IsFree names) i.name (instance_names items) free (fewer_names names (i.name ∷ []) items both).0,
+  AllPairs-cons (λ a b. a ≢ b) i.name (instance_names items)
+      (weaker (IsFree (names ++ i.name ∷ [])) (λ b. i.name ≢ b) (λ name other. apart_from i.name name (free_of_both names (i.name ∷ []) name other).1) (instance_names items) both.0)
+      both.1,
+)
 
-next_apart : (k : Scale) (names : List (List ℕ)) (line : List ℕ) (one : Item) (items : List Item) → is_blank_line line ≡ false → item_fault k (is_taken names line) line ≡ None
+next_apart : (k : Scale) (names : List (List ℕ)) (line : List ℕ) (one : Item) (items : List Item) → is_blank_line line ≡ false
+    → item_fault k (is_taken names line) line ≡ None
     → IsItem k line one → AreApart (names ++ names_on line) items → AreApart names (one ∷ items)
 next_apart k names line (item.Segment s) items some clean is both = fewer_names names (names_on line) items both
 next_apart k names line (item.Connector c) items some clean is both = fewer_names names (names_on line) items both

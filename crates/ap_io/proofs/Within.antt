@@ -1,13 +1,12 @@
 -- The items of a figure that is read are within the limits.
-use Rattle.std.proofs.Common.{◌≡◌, ℕ, suc, zero, ◌+◌, ◌-◌, ◌*◌, ◌^◌, ◌<◌, ◌≤◌, Bool, true, false, not, ◌==◌, ◌&&◌, List, [], ◌∷◌, ◌++◌, length, take, map, bytes_eq, codes, refl, sym, ap, ◌∙◌, arith, subst, Option, None, Some, if◌then◌else◌}
-use Rattle.std.specs.Prelude.{slice_index, cond, ℤ, pos, negsuc, neg_ℤ, nat_abs, ◌≤ℤ◌, nat_lt, All}
+use Rattle.std.proofs.Common.{◌≡◌, ℕ, suc, zero, ◌+◌, ◌*◌, ◌^◌, ◌<◌, ◌≤◌, Bool, true, false, not, ◌==◌, ◌&&◌, List, [], ◌∷◌, ◌++◌, length, take, bytes_eq, codes, refl, sym, ap, ◌∙◌, arith, subst, Option, None, Some, if◌then◌else◌}
+use Rattle.std.specs.Prelude.{slice_index, cond, ℤ, pos, nat_abs, ◌≤ℤ◌, nat_lt, All}
 use Rattle.std.specs.List.{list_all, prefix_len}
 use Rattle.std.specs.Option.{is_none, is_some, option_or, option_map}
 use Rattle.std.specs.Char.{is_ascii_alphabetic, to_ascii_lowercase}
 use Rattle.std.proofs.lemmas.Int.{ints}
 use Rattle.std.proofs.lemmas.List.{length-map}
 use Rattle.std.proofs.lemmas.List.Elements.{All-nil, All-cons}
-use Rattle.std.proofs.lemmas.List.Sums.{prefix_len-le-length}
 use Rattle.std.proofs.lemmas.List.Folds.{length-prefix_len}
 use Rattle.std.proofs.lemmas.Bool.Decides.{nat_tests}
 use Rattle.std.proofs.lemmas.Bool.{ltb-true}
@@ -28,10 +27,10 @@ use Rattle.ap_io.specs.declared.fault.LineFault.{LineFault}
 use Rattle.ap_io.specs.declared.fault.LineFault.TheVariants.{BadLine, BadLayer, BadTransform}
 use Rattle.ap_io.specs.declared.limits.TheConstants.{MOST_NAME_BYTES, MOST_COORDINATE}
 use Rattle.ap_io.specs.Fields.{at, is_text_byte, size_of, has_minus, signed, factor, reach, coordinate_of, number_of, is_number, is_width, is_index, is_identifier, is_label, is_in_word, lower, word_of, behind_word, bit_digits, label_of}
-use Rattle.ap_io.specs.Words.{layer_of, side_of, direction_of, transform_of, is_contact}
-use Rattle.ap_io.specs.LineFaults.{is_along, is_head, head_fault, has_letter, long_name, far_coordinate, limit_fault, letter_of, fields_behind, behind_letter, is_blank_line, is_end, is_taken, names_on, item_fault, fault_by, segment_fault, connector_fault, via_fault, instance_fault, reference_fault, is_segment, is_connector, is_via, is_instance, is_reference, box_line_fault}
-use Rattle.ap_io.specs.Items.{IsSegment, IsConnector, IsVia, IsInstance, IsReference, IsBox, IsItem}
-use Rattle.ap_io.specs.ApText.{IsNear, IsShort, IsShortLabel, IsItemWithin, lines_in, AreItems, ends, blank, next, IsApText}
+use Rattle.ap_io.specs.Words.{layer_of, side_of, direction_of, transform_of}
+use Rattle.ap_io.specs.LineFaults.{is_along, is_head, head_fault, has_letter, long_name, far_coordinate, limit_fault, letter_of, fields_behind, is_blank_line, is_taken, names_on, item_fault, fault_by, segment_fault, connector_fault, via_fault, instance_fault, reference_fault, is_segment, is_connector, is_via, is_instance, is_reference}
+use Rattle.ap_io.specs.Items.{IsSegment, IsConnector, IsVia, IsInstance, IsReference, IsItem}
+use Rattle.ap_io.specs.ApText.{IsNear, IsShort, IsShortLabel, IsItemWithin, AreItems, ends, blank, next, IsApText}
 use Rattle.ap_io.specs.Within.{IsWide, IsWithin}
 use Rattle.ap_io.proofs.Digits.{both_true}
 use Rattle.ap_io.proofs.Near.{near_first}
@@ -71,7 +70,8 @@ wide_field k text z width is =
 
 -- ---- what a line without a fault has
 
-pub fault_of : (c : ℕ) (k : Scale) (taken : Bool) (line : List ℕ) → is_blank_line line ≡ false → item_fault k taken line ≡ None → letter_of line ≡ Some c → fault_by (Some c) k taken line ≡ None
+pub fault_of : (c : ℕ) (k : Scale) (taken : Bool) (line : List ℕ) → is_blank_line line ≡ false → item_fault k taken line ≡ None
+    → letter_of line ≡ Some c → fault_by (Some c) k taken line ≡ None
 fault_of c k taken line some clean letter = sym (ap (λ (o : Option ℕ). fault_by o k taken line) letter) ∙ not_blank taken k line some clean
 
 limits : (long far : Option ℕ) → limit_fault long far ≡ None → (long ≡ None) × (far ≡ None)
@@ -83,17 +83,20 @@ pub one_test : (form : Bool) (limit : Option LineFault) → (if not form then So
 one_test true limit h = (refl, h)
 one_test false limit h = absurd (cc)
 
-two_tests : (form missing : Bool) (other : LineFault) (limit : Option LineFault) → (if not form then Some BadLine else if missing then Some other else limit) ≡ None → (form ≡ true) × (limit ≡ None)
+two_tests : (form missing : Bool) (other : LineFault) (limit : Option LineFault)
+    → (if not form then Some BadLine else if missing then Some other else limit) ≡ None → (form ≡ true) × (limit ≡ None)
 two_tests true true other limit h = absurd (cc)
 two_tests true false other limit h = (refl, h)
 two_tests false missing other limit h = absurd (cc)
 
-pub segment_clean : (k : Scale) (f : List (List ℕ)) → segment_fault k f ≡ None → (is_segment f ≡ true) × (long_name (at f 5) ≡ None) × (far_coordinate k (take 5 f) ≡ None)
+pub segment_clean : (k : Scale) (f : List (List ℕ)) → segment_fault k f ≡ None
+    → (is_segment f ≡ true) × (long_name (at f 5) ≡ None) × (far_coordinate k (take 5 f) ≡ None)
 segment_clean k f h =
     let both = two_tests (is_segment f) (is_none (layer_of (at f 7))) BadLayer (limit_fault (long_name (at f 5)) (far_coordinate k (take 5 f))) h in
     let near = limits (long_name (at f 5)) (far_coordinate k (take 5 f)) both.1 in (both.0, near.0, near.1)
 
-pub connector_clean : (k : Scale) (f : List (List ℕ)) → connector_fault k f ≡ None → (is_connector f ≡ true) × (long_name (at f 3) ≡ None) × (far_coordinate k (take 3 f) ≡ None)
+pub connector_clean : (k : Scale) (f : List (List ℕ)) → connector_fault k f ≡ None
+    → (is_connector f ≡ true) × (long_name (at f 3) ≡ None) × (far_coordinate k (take 3 f) ≡ None)
 connector_clean k f h =
     let both = two_tests (is_connector f) (is_none (layer_of (at f 6))) BadLayer (limit_fault (long_name (at f 3)) (far_coordinate k (take 3 f))) h in
     let near = limits (long_name (at f 3)) (far_coordinate k (take 3 f)) both.1 in (both.0, near.0, near.1)
@@ -109,7 +112,8 @@ instance_clean k taken f h =
     let both = two_tests (is_instance taken f) (is_none (transform_of (at f 4))) BadTransform (limit_fault (option_or (long_name (at f 2)) (long_name (at f 3))) (far_coordinate k (take 2 f))) h in
     let near = limits (option_or (long_name (at f 2)) (long_name (at f 3))) (far_coordinate k (take 2 f)) both.1 in (both.0, near.0, near.1)
 
-pub reference_clean : (k : Scale) (f : List (List ℕ)) → reference_fault k f ≡ None → (is_reference f ≡ true) × (long_name (at f 2) ≡ None) × (far_coordinate k (take 2 f) ≡ None)
+pub reference_clean : (k : Scale) (f : List (List ℕ)) → reference_fault k f ≡ None
+    → (is_reference f ≡ true) × (long_name (at f 2) ≡ None) × (far_coordinate k (take 2 f) ≡ None)
 reference_clean k f h =
     let both = one_test (is_reference f) (limit_fault (long_name (at f 2)) (far_coordinate k (take 2 f))) h in
     let near = limits (long_name (at f 2)) (far_coordinate k (take 2 f)) both.1 in (both.0, near.0, near.1)
@@ -128,14 +132,16 @@ connector_form f h =
     let two = both_true ((length f == 7) && list_all is_number (take 2 f)) (is_width (at f 2)) three.0 in
     (two.1, three.1, four.1)
 
-pub segment_form : (f : List (List ℕ)) → is_segment f ≡ true → (is_width (at f 4) ≡ true) × (is_label (at f 5) ≡ true) × (is_along (direction_of (at f 6)) f ≡ true)
+pub segment_form : (f : List (List ℕ)) → is_segment f ≡ true
+    → (is_width (at f 4) ≡ true) × (is_label (at f 5) ≡ true) × (is_along (direction_of (at f 6)) f ≡ true)
 segment_form f h =
     let four = both_true ((length f == 8) && list_all is_number (take 4 f) && is_width (at f 4) && is_label (at f 5)) (is_along (direction_of (at f 6)) f) h in
     let three = both_true ((length f == 8) && list_all is_number (take 4 f) && is_width (at f 4)) (is_label (at f 5)) four.0 in
     let two = both_true ((length f == 8) && list_all is_number (take 4 f)) (is_width (at f 4)) three.0 in
     (two.1, three.1, four.1)
 
-pub instance_form : (taken : Bool) (f : List (List ℕ)) → is_instance taken f ≡ true → (is_identifier (at f 2) ≡ true) × (is_identifier (at f 3) ≡ true) × (not taken ≡ true)
+pub instance_form : (taken : Bool) (f : List (List ℕ)) → is_instance taken f ≡ true
+    → (is_identifier (at f 2) ≡ true) × (is_identifier (at f 3) ≡ true) × (not taken ≡ true)
 instance_form taken f h =
     let four = both_true ((length f == 5) && list_all is_number (take 2 f) && is_identifier (at f 2) && is_identifier (at f 3)) (not taken) h in
     let three = both_true ((length f == 5) && list_all is_number (take 2 f) && is_identifier (at f 2)) (is_identifier (at f 3)) four.0 in
@@ -197,39 +203,55 @@ small_index text z index is =
 
 segment_within : (k : Scale) (f : List (List ℕ)) (s : Segment) → segment_fault k f ≡ None → IsSegment k f s → IsItemWithin (item.Segment s)
 segment_within k f s h is =
-    let clean = segment_clean k f h in
-    (near_field k f 5 0 s.x1 clean.2 (omega arith) is.x1, near_field k f 5 1 s.y1 clean.2 (omega arith) is.y1,
-     near_field k f 5 2 s.x2 clean.2 (omega arith) is.x2, near_field k f 5 3 s.y2 clean.2 (omega arith) is.y2,
-     near_field k f 5 4 s.width clean.2 (omega arith) is.width, label_kept s.name (at f 5) clean.1 is.name)
+    let clean = segment_clean k f h in (
+      near_field k f 5 0 s.x1 clean.2 (omega arith) is.x1,
+      near_field k f 5 1 s.y1 clean.2 (omega arith) is.y1,
+      near_field k f 5 2 s.x2 clean.2 (omega arith) is.x2,
+      near_field k f 5 3 s.y2 clean.2 (omega arith) is.y2,
+      near_field k f 5 4 s.width clean.2 (omega arith) is.width,
+      label_kept s.name (at f 5) clean.1 is.name,
+    )
 
 connector_within : (k : Scale) (f : List (List ℕ)) (c : Connector) → connector_fault k f ≡ None → IsConnector k f c → IsItemWithin (item.Connector c)
 connector_within k f c h is =
-    let clean = connector_clean k f h in
-    (near_field k f 3 0 c.x clean.2 (omega arith) is.x, near_field k f 3 1 c.y clean.2 (omega arith) is.y,
-     near_field k f 3 2 c.width clean.2 (omega arith) is.width, label_kept c.name (at f 3) clean.1 is.name,
-     small_index (at f 4) c.index (connector_form f clean.0).2 is.index)
+    let clean = connector_clean k f h in (
+      near_field k f 3 0 c.x clean.2 (omega arith) is.x,
+      near_field k f 3 1 c.y clean.2 (omega arith) is.y,
+      near_field k f 3 2 c.width clean.2 (omega arith) is.width,
+      label_kept c.name (at f 3) clean.1 is.name,
+      small_index (at f 4) c.index (connector_form f clean.0).2 is.index,
+    )
 
 via_within : (k : Scale) (f : List (List ℕ)) (v : Via) → via_fault k f ≡ None → IsVia k f v → IsItemWithin (item.Via v)
 via_within k f v h is =
-    let clean = via_clean k f h in
-    (near_field k f 2 0 v.x clean.2 (omega arith) is.x, near_field k f 2 1 v.y clean.2 (omega arith) is.y,
-     via_name (length f == 3) v.name (at f 3) clean.1 is.name)
+    let clean = via_clean k f h in (
+      near_field k f 2 0 v.x clean.2 (omega arith) is.x,
+      near_field k f 2 1 v.y clean.2 (omega arith) is.y,
+      via_name (length f == 3) v.name (at f 3) clean.1 is.name,
+    )
 
-instance_within : (k : Scale) (taken : Bool) (f : List (List ℕ)) (i : Instance) → instance_fault k taken f ≡ None → IsInstance k f i → IsItemWithin (item.Instance i)
+instance_within : (k : Scale) (taken : Bool) (f : List (List ℕ)) (i : Instance) → instance_fault k taken f ≡ None → IsInstance k f i
+    → IsItemWithin (item.Instance i)
 instance_within k taken f i h is =
     let clean = instance_clean k taken f h in
     let form = instance_form taken f clean.0 in
-    let long = neither (long_name (at f 2)) (long_name (at f 3)) clean.1 in
-    (near_field k f 2 0 i.x clean.2 (omega arith) is.x, near_field k f 2 1 i.y clean.2 (omega arith) is.y,
-     short_word i.model (at f 2) form.0 long.0 is.model, short_word i.name (at f 3) form.1 long.1 is.name)
+    let long = neither (long_name (at f 2)) (long_name (at f 3)) clean.1 in (
+      near_field k f 2 0 i.x clean.2 (omega arith) is.x,
+      near_field k f 2 1 i.y clean.2 (omega arith) is.y,
+      short_word i.model (at f 2) form.0 long.0 is.model,
+      short_word i.name (at f 3) form.1 long.1 is.name,
+    )
 
 reference_within : (k : Scale) (f : List (List ℕ)) (r : Reference) → reference_fault k f ≡ None → IsReference k f r → IsItemWithin (item.Reference r)
 reference_within k f r h is =
-    let clean = reference_clean k f h in
-    (near_field k f 2 0 r.x clean.2 (omega arith) is.x, near_field k f 2 1 r.y clean.2 (omega arith) is.y,
-     short_word r.word (at f 2) (reference_form f clean.0).0 clean.1 is.word)
+    let clean = reference_clean k f h in (
+      near_field k f 2 0 r.x clean.2 (omega arith) is.x,
+      near_field k f 2 1 r.y clean.2 (omega arith) is.y,
+      short_word r.word (at f 2) (reference_form f clean.0).0 clean.1 is.word,
+    )
 
-item_within : (k : Scale) (taken : Bool) (line : List ℕ) (one : Item) → is_blank_line line ≡ false → item_fault k taken line ≡ None → IsItem k line one → IsItemWithin one
+item_within : (k : Scale) (taken : Bool) (line : List ℕ) (one : Item) → is_blank_line line ≡ false → item_fault k taken line ≡ None
+    → IsItem k line one → IsItemWithin one
 item_within k taken line (item.Segment s) some clean is = segment_within k (fields_behind line) s (fault_of 83 k taken line some clean is.0) is.1
 item_within k taken line (item.Connector c) some clean is = connector_within k (fields_behind line) c (fault_of 67 k taken line some clean is.0) is.1
 item_within k taken line (item.Via v) some clean is = via_within k (fields_behind line) v (fault_of 86 k taken line some clean is.0) is.1
@@ -237,7 +259,8 @@ item_within k taken line (item.Instance i) some clean is = instance_within k tak
 item_within k taken line (item.Reference r) some clean is = reference_within k (fields_behind line) r (fault_of 82 k taken line some clean is.0) is.1
 item_within k taken line (item.Remark text) some clean is = tt
 
-item_wide : (k : Scale) (taken : Bool) (line : List ℕ) (one : Item) → is_blank_line line ≡ false → item_fault k taken line ≡ None → IsItem k line one → IsWide one
+item_wide : (k : Scale) (taken : Bool) (line : List ℕ) (one : Item) → is_blank_line line ≡ false → item_fault k taken line ≡ None
+    → IsItem k line one → IsWide one
 item_wide k taken line (item.Segment s) some clean is =
     let f = fields_behind line in
     wide_field k (at f 4) s.width (segment_form f (segment_clean k f (fault_of 83 k taken line some clean is.0)).0).0 is.1.width
@@ -274,9 +297,12 @@ pub box_ready : (bytes : List ℕ) (f : Figure) → IsApText bytes f → IsNear 
 box_ready bytes f is =
     let k = is.scale in
     let fields = fields_behind is.box in
-    let near = box_near k is.box is.right_box in
-    (near_field k fields 4 0 f.bounds.x1 near (omega arith) is.bounds.x1, near_field k fields 4 1 f.bounds.y1 near (omega arith) is.bounds.y1,
-     near_field k fields 4 2 f.bounds.x2 near (omega arith) is.bounds.x2, near_field k fields 4 3 f.bounds.y2 near (omega arith) is.bounds.y2)
+    let near = box_near k is.box is.right_box in (
+      near_field k fields 4 0 f.bounds.x1 near (omega arith) is.bounds.x1,
+      near_field k fields 4 1 f.bounds.y1 near (omega arith) is.bounds.y1,
+      near_field k fields 4 2 f.bounds.x2 near (omega arith) is.bounds.x2,
+      near_field k fields 4 3 f.bounds.y2 near (omega arith) is.bounds.y2,
+    )
 
 -- ---- the name
 
