@@ -1,5 +1,5 @@
--- What each item of a figure that is read has.
-use Rattle.std.specs.Prelude.{ℤ, pos, ◌≤ℤ◌, All}
+-- Widths of items, and figures within the limits.
+use Rattle.std.specs.Prelude.{pos, ◌≤ℤ◌, All}
 use Rattle.sym_geom.specs.declared.item.Item.{Item}
 use Rattle.sym_geom.specs.declared.item.Item.TheVariants as item
 use Rattle.ap_io.specs.declared.figure.Figure.{Figure}
