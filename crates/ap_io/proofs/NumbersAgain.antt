@@ -44,7 +44,7 @@ no_minus (d ∷ ds) all = let r = digit_range d (head_digit d ds all).0 in other
   other : (d : ℕ) → 48 ≤ d → has_minus (d ∷ []) ≡ false
   other d h = grind (arith, nat_tests)
 
-digits_some : (ds : List ℕ) → 0 < length ds → list_all is_ascii_digit ds ≡ true → is_digits ds ≡ true
+pub digits_some : (ds : List ℕ) → 0 < length ds → list_all is_ascii_digit ds ≡ true → is_digits ds ≡ true
 digits_some [] some all = absurd (omega (arith, some))
 digits_some (d ∷ ds) some all = let has : not (length (d ∷ ds) == 0) ≡ true = grind (arith, nat_tests) in both (not (length (d ∷ ds) == 0)) (list_all is_ascii_digit (d ∷ ds)) has all
 

@@ -1,4 +1,6 @@
-use Rattle.ap_io.proofs.NumbersAgain.{number_again}
+use Rattle.ap_io.proofs.NamesAgain.{label_again}
+use Rattle.ap_io.proofs.LinesAgain.{fields_again}
+use Rattle.ap_io.proofs.ContactsAgain.{contact_again}
 use Rattle.ap_io.proofs.laws.written_is_read_again.Goals as goal
 
 pub returns : goal.returns
