@@ -1,6 +1,6 @@
 -- What is written is read again: contacts.
-use Rattle.std.proofs.Common.{◌≡◌, ◌≢◌, ℕ, Bool, true, false, ◌&&◌, ◌||◌, ◌⊎◌, inl, inr, List, [], ◌∷◌, refl, sym, ap, ◌∙◌, bytes_eq, codes, Option, None, Some, if◌then◌else◌}
-use Rattle.std.specs.Prelude.{nat_eq, find, IsTrue}
+use Rattle.std.proofs.Common.{◌≡◌, ◌≢◌, ℕ, Bool, true, false, ◌||◌, ◌⊎◌, inl, inr, List, refl, sym, ap, bytes_eq, codes, Option, None}
+use Rattle.std.specs.Prelude.{nat_eq}
 use Rattle.std.specs.List.{list_all, starts_with}
 use Rattle.std.specs.Option.{unwrap_or}
 use Rattle.std.proofs.lemmas.Slice.Eq.{bytes_eq-Decides}

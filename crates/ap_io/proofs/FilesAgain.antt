@@ -1,5 +1,5 @@
 -- What is written is read again: the lines of the items, the head, and the whole file.
-use Rattle.std.proofs.Common.{◌≡◌, ◌≢◌, ℕ, suc, zero, ◌+◌, ◌<◌, ◌≤◌, Bool, true, false, not, ◌==◌, ◌&&◌, ◌||◌, List, [], ◌∷◌, ◌++◌, length, take, drop, refl, sym, ap, ◌∙◌, arith, append_assoc, length-append, append-nil, bytes_eq, codes, subst, Option, None, Some, if◌then◌else◌}
+use Rattle.std.proofs.Common.{◌≡◌, ◌≢◌, ℕ, suc, ◌<◌, Bool, true, false, ◌==◌, ◌&&◌, ◌||◌, List, [], ◌∷◌, ◌++◌, length, take, drop, refl, sym, ap, ◌∙◌, arith, append_assoc, length-append, bytes_eq, codes, Option, None, Some, if◌then◌else◌}
 use Rattle.std.specs.Prelude.{All, AllPairs, get_or}
 use Rattle.std.specs.List.{list_all, list_any}
 use Rattle.std.specs.Option.{is_some}
@@ -15,19 +15,17 @@ use Rattle.sym_geom.specs.declared.item.Item.TheVariants as item
 use Rattle.text_lines.specs.Lines.{lines_of}
 use Rattle.ap_io.specs.declared.figure.Figure.{Figure}
 use Rattle.ap_io.specs.declared.scale.Scale.TheVariants.{Hundred}
-use Rattle.ap_io.specs.declared.fault.LineFault.{LineFault}
 use Rattle.ap_io.specs.declared.fault.LineFault.TheVariants.{BadLine}
-use Rattle.ap_io.specs.Spelling.{item_text, items_text, head_text, name_text, text_of}
+use Rattle.ap_io.specs.Spelling.{items_text, head_text, name_text, text_of}
 use Rattle.ap_io.specs.Fields.{at, is_number, is_label, is_text_byte, lower, number_of, label_of}
 use Rattle.ap_io.specs.Words.{scale_of}
-use Rattle.ap_io.specs.LineFaults.{is_end, is_blank_line, item_fault, is_taken, names_on, name_on, has_letter, is_letter, letter_of, fields_behind, head_fault, is_head, name_line_fault, is_box, box_fault, box_line_fault, version_fault, is_version, long_name, far_coordinate, limit_fault}
-use Rattle.ap_io.specs.Items.{IsItem, IsBox}
-use Rattle.ap_io.specs.ApText.{IsLine, IsItemWithin, IsFigure, IsWithinLimits, IsLabel, IsShortLabel, AreItems, IsApText, instance_names, lines_in, is_field_byte, IsNear}
-use Rattle.ap_io.proofs.Bytes.{both}
+use Rattle.ap_io.specs.LineFaults.{is_blank_line, item_fault, is_taken, names_on, name_on, is_letter, letter_of, fields_behind, head_fault, is_head, name_line_fault, is_box, box_fault, box_line_fault, version_fault, is_version, long_name, far_coordinate, limit_fault}
+use Rattle.ap_io.specs.Items.{IsBox}
+use Rattle.ap_io.specs.ApText.{IsLine, IsItemWithin, IsFigure, IsWithinLimits, IsLabel, IsShortLabel, AreItems, IsApText, instance_names, lines_in, IsNear}
 use Rattle.ap_io.proofs.NumbersAgain.{coordinate_again}
 use Rattle.ap_io.proofs.NamesAgain.{label_again, word_again}
 use Rattle.ap_io.proofs.ContactsAgain.{differ}
-use Rattle.ap_io.proofs.LinesAgain.{joined, then_text, all_fields, behind_joined, comma_behind, next_line}
+use Rattle.ap_io.proofs.LinesAgain.{joined, then_text, behind_joined, comma_behind, next_line}
 use Rattle.ap_io.proofs.FormsAgain.{four, order_again, without_fault, no_limit, near_next, lined}
 use Rattle.ap_io.proofs.ItemsAgain.{IsAgain, all_next, segment_fields, connector_fields, segment_item_again, connector_item_again}
 use Rattle.ap_io.proofs.PointsAgain.{via_fields, instance_fields, reference_fields, via_item_again, instance_item_again, instance_behind, reference_item_again, remark_item_again}
@@ -94,7 +92,7 @@ unfolding letter_of
 nameless c names text other some = (
   ap (λ (b : Bool). b && is_among names (name_on (c ∷ 32 ∷ text))) other,
   ap (λ (b : Bool). if b then [] else if 73 == c then name_on (c ∷ 32 ∷ text) ∷ [] else []) some
-  ∙ ap (λ (b : Bool). if b then name_on (c ∷ 32 ∷ text) ∷ [] else []) other,
+      ∙ ap (λ (b : Bool). if b then name_on (c ∷ 32 ∷ text) ∷ [] else []) other,
 )
 
 named_again : (names : List (List ℕ)) (one : Item) (more : List (List ℕ)) → IsLine one → IsItemWithin one
@@ -135,7 +133,7 @@ items_again names (one ∷ rest) lines within pairs =
     let n = named_again names one (instance_names rest) line near apart in
     let next : AllPairs (λ a b. a ≢ b) ((names ++ own_names one) ++ instance_names rest) = rw (append_assoc names (own_names one) (instance_names rest)) apart in
     let more : AreItems Hundred (names ++ names_on (line_of one)) (lines_in (items_text rest)) rest =
-        rw (n.own) (items_again (names ++ own_names one) rest (All-tail IsLine one rest lines) (All-tail IsItemWithin one rest within) next) in
+    rw (n.own) (items_again (names ++ own_names one) rest (All-tail IsLine one rest lines) (All-tail IsItemWithin one rest within) next) in
     rw (next_line (items_text (one ∷ rest)) (line_of one) (items_text rest) (a.text (items_text rest)) a.bytes)
     (AreItems.next a.filled (ap (λ (b : Bool). item_fault Hundred b (line_of one)) n.free ∙ a.right) a.item more)
 
@@ -203,14 +201,14 @@ box_again b rect n1 n2 n3 n4 =
     let x2 = coordinate_again b.x2 n3 in
     let y2 = coordinate_again b.y2 n4 in
     let l = lined 65 (signed_decimal b.x1) (drop 1 f) refl refl
-        (all_next (at f 0) (drop 1 f) x1.bytes (all_next (at f 1) (drop 2 f) y1.bytes (all_next (at f 2) (drop 3 f) x2.bytes (all_next (at f 3) [] y2.bytes refl)))) in
+    (all_next (at f 0) (drop 1 f) x1.bytes (all_next (at f 1) (drop 2 f) y1.bytes (all_next (at f 2) (drop 3 f) x2.bytes (all_next (at f 3) [] y2.bytes refl)))) in
     let form : is_box f ≡ true =
-        box_form (list_all is_number (take 4 f)) (is_le (int_cmp (number_of (at f 0)) (number_of (at f 2)))) (is_le (int_cmp (number_of (at f 1)) (number_of (at f 3))))
-        (four (is_number (at f 0)) (is_number (at f 1)) (is_number (at f 2)) (is_number (at f 3)) x1.is_number y1.is_number x2.is_number y2.is_number)
-        (order_again b.x1 b.x2 (number_of (at f 0)) (number_of (at f 2)) x1.number x2.number rect.wide)
-        (order_again b.y1 b.y2 (number_of (at f 1)) (number_of (at f 3)) y1.number y2.number rect.tall) in
+    box_form (list_all is_number (take 4 f)) (is_le (int_cmp (number_of (at f 0)) (number_of (at f 2)))) (is_le (int_cmp (number_of (at f 1)) (number_of (at f 3))))
+    (four (is_number (at f 0)) (is_number (at f 1)) (is_number (at f 2)) (is_number (at f 3)) x1.is_number y1.is_number x2.is_number y2.is_number)
+    (order_again b.x1 b.x2 (number_of (at f 0)) (number_of (at f 2)) x1.number x2.number rect.wide)
+    (order_again b.y1 b.y2 (number_of (at f 1)) (number_of (at f 3)) y1.number y2.number rect.tall) in
     let far : far_coordinate Hundred (take 4 f) ≡ None =
-        near_next b.x1 (take 3 (drop 1 f)) x1 (near_next b.y1 (take 2 (drop 2 f)) y1 (near_next b.x2 (take 1 (drop 3 f)) x2 (near_next b.y2 [] y2 refl))) in
+    near_next b.x1 (take 3 (drop 1 f)) x1 (near_next b.y1 (take 2 (drop 2 f)) y1 (near_next b.x2 (take 1 (drop 3 f)) x2 (near_next b.y2 [] y2 refl))) in
     record {
       bytes = l.bytes;
       right = ap (λ (o : Option ℕ). if is_letter 65 o then box_fault Hundred (fields_behind (box_line b)) else Some BadLine) l.letter ∙ ap (box_fault Hundred) l.behind
@@ -232,15 +230,15 @@ head_text_again name b rest =
     let box : List ℕ = 10 ∷ 65 ∷ 32 ∷ then_text (box_fields b) (10 ∷ []) in
     let tail : List ℕ = codes ",P,01/01/2000,100" ++ box in
     let inner : head_text name b ≡ version_line ++ 10 ∷ 72 ∷ 32 ∷ (name_text name ++ tail) =
-        ap (λ (t : List ℕ). version_line ++ 10 ∷ 72 ∷ 32 ∷ (name_text name ++ (codes ",P,01/01/2000,100" ++ 10 ∷ 65 ∷ 32 ∷ t)))
-        (comma_behind (signed_decimal b.x1) _ _ (comma_behind (signed_decimal b.y1) _ _ (comma_behind (signed_decimal b.x2) _ _ refl))) in
+    ap (λ (t : List ℕ). version_line ++ 10 ∷ 72 ∷ 32 ∷ (name_text name ++ (codes ",P,01/01/2000,100" ++ 10 ∷ 65 ∷ 32 ∷ t)))
+    (comma_behind (signed_decimal b.x1) _ _ (comma_behind (signed_decimal b.y1) _ _ (comma_behind (signed_decimal b.x2) _ _ refl))) in
     let boxed : then_text (box_fields b) (10 ∷ []) ++ rest ≡ joined (box_fields b) ++ 10 ∷ rest =
-        behind_joined (box_fields b) (10 ∷ []) rest ∙ sym (behind_joined (box_fields b) [] (10 ∷ rest)) in
+    behind_joined (box_fields b) (10 ∷ []) rest ∙ sym (behind_joined (box_fields b) [] (10 ∷ rest)) in
     let headed : name_text name ++ (codes ",P,01/01/2000,100" ++ 10 ∷ from_box b rest) ≡ joined (head_fields name) ++ 10 ∷ from_box b rest =
-        sym (behind_joined (head_fields name) [] (10 ∷ from_box b rest)) in
+    sym (behind_joined (head_fields name) [] (10 ∷ from_box b rest)) in
     ap (λ (t : List ℕ). t ++ rest) inner
     ∙ ap (λ (t : List ℕ). version_line ++ 10 ∷ 72 ∷ 32 ∷ t) (append_assoc (name_text name) tail rest
-      ∙ ap (λ (t : List ℕ). name_text name ++ (codes ",P,01/01/2000,100" ++ 10 ∷ 65 ∷ 32 ∷ t)) boxed ∙ headed)
+    ∙ ap (λ (t : List ℕ). name_text name ++ (codes ",P,01/01/2000,100" ++ 10 ∷ 65 ∷ 32 ∷ t)) boxed ∙ headed)
 
 pub written_again : (f : Figure) → IsFigure f → IsWithinLimits f → IsApText (text_of f) f
 written_again f figure within =

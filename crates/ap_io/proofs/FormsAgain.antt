@@ -1,21 +1,18 @@
 -- What is written is read again: the steps by which a line of fields has no fault.
-use Rattle.std.proofs.Common.{◌≡◌, ℕ, suc, zero, Bool, true, false, not, ◌==◌, ◌&&◌, ◌||◌, List, [], ◌∷◌, ◌++◌, length, take, drop, refl, sym, ap, ◌∙◌, arith, min, ◌^◌, ◌-◌, Option, None, Some, if◌then◌else◌}
-use Rattle.std.specs.Prelude.{ℤ, ◌≤ℤ◌, ◌<ℤ◌, nat_lt, slice_index}
+use Rattle.std.proofs.Common.{◌≡◌, ℕ, Bool, true, false, not, ◌&&◌, List, ◌∷◌, refl, sym, ap, ◌∙◌, arith, min, ◌^◌, ◌-◌, Option, None, Some, if◌then◌else◌}
+use Rattle.std.specs.Prelude.{ℤ, ◌≤ℤ◌, ◌<ℤ◌}
 use Rattle.std.specs.List.{list_all}
-use Rattle.std.specs.Option.{is_some, is_none}
 use Rattle.std.specs.Ordering.{int_cmp, is_eq, is_le, MatchOrdering}
 use Rattle.std.specs.Cmp.{int_cmp_is, int_ranks}
 use Rattle.std.specs.declared.cmp.Ordering.{Ordering}
 use Rattle.std.specs.declared.cmp.Ordering.TheVariants.{Less, Equal, Greater}
 use Rattle.std.specs.Fmt.{signed_decimal}
 use Rattle.std.proofs.lemmas.Int.{ints}
-use Rattle.std.proofs.lemmas.Bool.{and_parts}
 use Rattle.ap_io.specs.declared.scale.Scale.TheVariants.{Hundred}
 use Rattle.ap_io.specs.declared.fault.LineFault.{LineFault}
 use Rattle.ap_io.specs.declared.fault.LineFault.TheVariants.{BadLine}
-use Rattle.ap_io.specs.declared.limits.TheConstants.{MOST_COORDINATE}
-use Rattle.ap_io.specs.Fields.{is_blank, is_text_byte, number_of, reach}
-use Rattle.ap_io.specs.LineFaults.{far_coordinate, limit_fault, letter_of, is_blank_line, fields_behind, fault_by, item_fault, has_letter}
+use Rattle.ap_io.specs.Fields.{is_blank, is_text_byte, reach}
+use Rattle.ap_io.specs.LineFaults.{far_coordinate, limit_fault, letter_of, is_blank_line, fields_behind, fault_by, item_fault}
 use Rattle.ap_io.proofs.Bytes.{both}
 use Rattle.ap_io.proofs.NumbersAgain.{IsCoordinate}
 use Rattle.ap_io.proofs.LinesAgain.{joined, all_fields, fields_again, joined_bytes}

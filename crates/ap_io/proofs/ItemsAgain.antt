@@ -1,14 +1,10 @@
 -- What is written is read again: segments and connectors.
-use Rattle.std.proofs.Common.{◌≡◌, ℕ, suc, zero, Bool, true, false, not, ◌==◌, ◌&&◌, ◌||◌, List, [], ◌∷◌, ◌++◌, length, take, drop, refl, sym, ap, ◌∙◌, arith, Option, None, Some, if◌then◌else◌}
-use Rattle.std.specs.Prelude.{ℤ, slice_index, nat_abs}
+use Rattle.std.proofs.Common.{◌≡◌, ℕ, Bool, true, false, ◌&&◌, List, [], ◌∷◌, ◌++◌, take, drop, refl, sym, ap, ◌∙◌, arith, Option, None, Some}
 use Rattle.std.specs.List.{list_all}
 use Rattle.std.specs.Option.{is_some, is_none}
-use Rattle.std.specs.Ordering.{int_cmp, is_eq}
 use Rattle.std.specs.Fmt.{signed_decimal}
-use Rattle.sym_geom.specs.declared.layer.Layer.{Layer}
 use Rattle.sym_geom.specs.declared.item.Direction.{Direction}
 use Rattle.sym_geom.specs.declared.item.Direction.TheVariants.{Up, Down, Left, Right}
-use Rattle.sym_geom.specs.declared.item.Side.{Side}
 use Rattle.sym_geom.specs.declared.item.Segment.{Segment}
 use Rattle.sym_geom.specs.declared.item.Connector.{Connector}
 use Rattle.sym_geom.specs.declared.item.Item.{Item}
@@ -18,8 +14,8 @@ use Rattle.ap_io.specs.declared.fault.LineFault.TheVariants.{BadLayer}
 use Rattle.ap_io.specs.Spelling.{item_text, name_text, layer_text, direction_text, side_text}
 use Rattle.ap_io.specs.Fields.{at, is_text_byte, is_number, is_width, is_index, is_label, number_of}
 use Rattle.ap_io.specs.Words.{layer_of, direction_of, side_of}
-use Rattle.ap_io.specs.LineFaults.{is_along, is_segment, is_connector, segment_fault, connector_fault, long_name, far_coordinate, limit_fault, letter_of, is_blank_line, fields_behind, fault_by, item_fault, has_letter}
-use Rattle.ap_io.specs.Items.{IsItem, IsSegment, IsConnector}
+use Rattle.ap_io.specs.LineFaults.{is_along, is_segment, is_connector, segment_fault, connector_fault, long_name, far_coordinate, limit_fault, is_blank_line, item_fault}
+use Rattle.ap_io.specs.Items.{IsItem}
 use Rattle.ap_io.specs.ApText.{IsLine, IsItemWithin, is_field_byte, RunsAlong}
 use Rattle.ap_io.proofs.Again.{layer_again, direction_again, side_again}
 use Rattle.ap_io.proofs.Bytes.{both}
@@ -67,13 +63,13 @@ segment_right s line within =
     let w = coordinate_again s.width within.4 in
     let n = label_again s.name line.2 within.5 in
     let along : is_along (direction_of (at f 6)) f ≡ true =
-        ap (λ (o : Option Direction). is_along o f) (direction_again s.direction) ∙ along_again s.direction s f line.1 x1.number y1.number x2.number y2.number in
+    ap (λ (o : Option Direction). is_along o f) (direction_again s.direction) ∙ along_again s.direction s f line.1 x1.number y1.number x2.number y2.number in
     let form : is_segment f ≡ true =
-        five (list_all is_number (take 4 f)) (is_width (at f 4)) (is_label (at f 5)) (is_along (direction_of (at f 6)) f)
-        (four (is_number (at f 0)) (is_number (at f 1)) (is_number (at f 2)) (is_number (at f 3)) x1.is_number y1.is_number x2.is_number y2.is_number)
-        (width_again s.width within.4 line.0) n.right along in
+    five (list_all is_number (take 4 f)) (is_width (at f 4)) (is_label (at f 5)) (is_along (direction_of (at f 6)) f)
+    (four (is_number (at f 0)) (is_number (at f 1)) (is_number (at f 2)) (is_number (at f 3)) x1.is_number y1.is_number x2.is_number y2.is_number)
+    (width_again s.width within.4 line.0) n.right along in
     let far : far_coordinate Hundred (take 5 f) ≡ None =
-        near_next s.x1 (take 4 (drop 1 f)) x1 (near_next s.y1 (take 3 (drop 2 f)) y1 (near_next s.x2 (take 2 (drop 3 f)) x2 (near_next s.y2 (take 1 (drop 4 f)) y2 (near_next s.width [] w refl)))) in
+    near_next s.x1 (take 4 (drop 1 f)) x1 (near_next s.y1 (take 3 (drop 2 f)) y1 (near_next s.x2 (take 2 (drop 3 f)) x2 (near_next s.y2 (take 1 (drop 4 f)) y2 (near_next s.width [] w refl)))) in
     without_faults (is_segment f) (is_none (layer_of (at f 7))) BadLayer (limit_fault (long_name (at f 5)) (far_coordinate Hundred (take 5 f))) form
     (ap is_none (layer_again s.layer)) (no_limit (long_name (at f 5)) (far_coordinate Hundred (take 5 f)) n.short far)
 
@@ -88,8 +84,8 @@ segment_bytes s line within =
 segment_text_again : (s : Segment) (rest : List ℕ) → item_text (item.Segment s) ++ rest ≡ (83 ∷ 32 ∷ joined (segment_fields s)) ++ 10 ∷ rest
 segment_text_again s rest =
     let whole : item_text (item.Segment s) ≡ 83 ∷ 32 ∷ then_text (segment_fields s) (10 ∷ []) =
-        ap (λ (t : List ℕ). 83 ∷ 32 ∷ t) (comma_behind (signed_decimal s.x1) _ _ (comma_behind (signed_decimal s.y1) _ _ (comma_behind (signed_decimal s.x2) _ _
-        (comma_behind (signed_decimal s.y2) _ _ (comma_behind (signed_decimal s.width) _ _ refl))))) in
+    ap (λ (t : List ℕ). 83 ∷ 32 ∷ t) (comma_behind (signed_decimal s.x1) _ _ (comma_behind (signed_decimal s.y1) _ _ (comma_behind (signed_decimal s.x2) _ _
+    (comma_behind (signed_decimal s.y2) _ _ (comma_behind (signed_decimal s.width) _ _ refl))))) in
     ap (λ (t : List ℕ). t ++ rest) whole
     ∙ ap (λ (t : List ℕ). 83 ∷ 32 ∷ t) (behind_joined (segment_fields s) (10 ∷ []) rest ∙ sym (behind_joined (segment_fields s) [] (10 ∷ rest)))
 
@@ -102,16 +98,19 @@ segment_item_again s line within =
       bytes = l.bytes;
       filled = l.filled;
       right = fault_again 83 t l.filled l.letter ∙ ap (segment_fault Hundred) l.behind ∙ segment_right s line within;
-      item = (l.letter, rw (l.behind) (record {
-        x1 = (coordinate_again s.x1 within.0).coordinate;
-        y1 = (coordinate_again s.y1 within.1).coordinate;
-        x2 = (coordinate_again s.x2 within.2).coordinate;
-        y2 = (coordinate_again s.y2 within.3).coordinate;
-        width = (coordinate_again s.width within.4).coordinate;
-        name = (label_again s.name line.2 within.5).name;
-        direction = direction_again s.direction;
-        layer = layer_again s.layer;
-      }));
+      item = (
+        l.letter,
+        rw (l.behind) (record {
+          x1 = (coordinate_again s.x1 within.0).coordinate;
+          y1 = (coordinate_again s.y1 within.1).coordinate;
+          x2 = (coordinate_again s.x2 within.2).coordinate;
+          y2 = (coordinate_again s.y2 within.3).coordinate;
+          width = (coordinate_again s.width within.4).coordinate;
+          name = (label_again s.name line.2 within.5).name;
+          direction = direction_again s.direction;
+          layer = layer_again s.layer;
+        }),
+      );
     }
 
 -- ---- connectors
@@ -132,11 +131,11 @@ connector_right c line within =
     let w = coordinate_again c.width within.2 in
     let n = label_again c.name line.1 within.3 in
     let form : is_connector f ≡ true =
-        six (list_all is_number (take 2 f)) (is_width (at f 2)) (is_label (at f 3)) (is_index (at f 4)) (is_some (side_of (at f 5)))
-        (two (is_number (at f 0)) (is_number (at f 1)) x.is_number y.is_number) (width_again c.width within.2 line.0) n.right
-        (index_again c.index within.4) (ap is_some (side_again c.side)) in
+    six (list_all is_number (take 2 f)) (is_width (at f 2)) (is_label (at f 3)) (is_index (at f 4)) (is_some (side_of (at f 5)))
+    (two (is_number (at f 0)) (is_number (at f 1)) x.is_number y.is_number) (width_again c.width within.2 line.0) n.right
+    (index_again c.index within.4) (ap is_some (side_again c.side)) in
     let far : far_coordinate Hundred (take 3 f) ≡ None =
-        near_next c.x (take 2 (drop 1 f)) x (near_next c.y (take 1 (drop 2 f)) y (near_next c.width [] w refl)) in
+    near_next c.x (take 2 (drop 1 f)) x (near_next c.y (take 1 (drop 2 f)) y (near_next c.width [] w refl)) in
     without_faults (is_connector f) (is_none (layer_of (at f 6))) BadLayer (limit_fault (long_name (at f 3)) (far_coordinate Hundred (take 3 f))) form
     (ap is_none (layer_again c.layer)) (no_limit (long_name (at f 3)) (far_coordinate Hundred (take 3 f)) n.short far)
 
@@ -151,8 +150,8 @@ connector_bytes c line within =
 connector_text_again : (c : Connector) (rest : List ℕ) → item_text (item.Connector c) ++ rest ≡ (67 ∷ 32 ∷ joined (connector_fields c)) ++ 10 ∷ rest
 connector_text_again c rest =
     let whole : item_text (item.Connector c) ≡ 67 ∷ 32 ∷ then_text (connector_fields c) (10 ∷ []) =
-        ap (λ (t : List ℕ). 67 ∷ 32 ∷ t) (comma_behind (signed_decimal c.x) _ _ (comma_behind (signed_decimal c.y) _ _ (comma_behind (signed_decimal c.width) _ _
-        (ap (λ (t : List ℕ). name_text c.name ++ 44 ∷ t) (comma_behind (signed_decimal c.index) _ _ refl))))) in
+    ap (λ (t : List ℕ). 67 ∷ 32 ∷ t) (comma_behind (signed_decimal c.x) _ _ (comma_behind (signed_decimal c.y) _ _ (comma_behind (signed_decimal c.width) _ _
+    (ap (λ (t : List ℕ). name_text c.name ++ 44 ∷ t) (comma_behind (signed_decimal c.index) _ _ refl))))) in
     ap (λ (t : List ℕ). t ++ rest) whole
     ∙ ap (λ (t : List ℕ). 67 ∷ 32 ∷ t) (behind_joined (connector_fields c) (10 ∷ []) rest ∙ sym (behind_joined (connector_fields c) [] (10 ∷ rest)))
 
@@ -166,13 +165,16 @@ connector_item_again c line within =
       bytes = l.bytes;
       filled = l.filled;
       right = fault_again 67 t l.filled l.letter ∙ ap (connector_fault Hundred) l.behind ∙ connector_right c line within;
-      item = (l.letter, rw (l.behind) (record {
-        x = (coordinate_again c.x within.0).coordinate;
-        y = (coordinate_again c.y within.1).coordinate;
-        width = (coordinate_again c.width within.2).coordinate;
-        name = (label_again c.name line.1 within.3).name;
-        index = sym (number_again c.index (omega (arith, within.4))).number;
-        side = side_again c.side;
-        layer = layer_again c.layer;
-      }));
+      item = (
+        l.letter,
+        rw (l.behind) (record {
+          x = (coordinate_again c.x within.0).coordinate;
+          y = (coordinate_again c.y within.1).coordinate;
+          width = (coordinate_again c.width within.2).coordinate;
+          name = (label_again c.name line.1 within.3).name;
+          index = sym (number_again c.index (omega (arith, within.4))).number;
+          side = side_again c.side;
+          layer = layer_again c.layer;
+        }),
+      );
     }

@@ -1,13 +1,13 @@
 -- What is written is read again: lines, and fields between commas.
-use Rattle.std.proofs.Common.{◌≡◌, ℕ, suc, zero, ◌+◌, ◌-◌, ◌<◌, ◌≤◌, Bool, true, false, not, ◌==◌, ◌&&◌, ◌||◌, List, [], ◌∷◌, ◌++◌, map, length, take, drop, refl, sym, ap, ◌∙◌, arith, append_assoc, append-nil, if◌then◌else◌}
+use Rattle.std.proofs.Common.{◌≡◌, ℕ, ◌-◌, Bool, true, false, not, ◌==◌, ◌||◌, List, [], ◌∷◌, ◌++◌, map, length, take, refl, ap, ◌∙◌, arith, append_assoc, append-nil, if◌then◌else◌}
 use Rattle.std.specs.Prelude.{slice_index}
 use Rattle.std.specs.List.{list_all}
 use Rattle.std.proofs.lemmas.Bool.{and_parts}
 use Rattle.text_lines.specs.Lines.{lines_of, without_return, put_before}
-use Rattle.ap_io.specs.Fields.{fields_of, is_in_field, is_text_byte}
+use Rattle.ap_io.specs.Fields.{fields_of, is_text_byte}
 use Rattle.ap_io.specs.ApText.{is_field_byte, lines_in}
 use Rattle.ap_io.proofs.Again.{field_alone, field_first}
-use Rattle.ap_io.proofs.Bytes.{both, all_append, fields_have, texts_have, not_so}
+use Rattle.ap_io.proofs.Bytes.{both, all_append, fields_have, texts_have}
 
 -- ---- lines
 

@@ -1,8 +1,8 @@
 -- What is written is read again: identifiers, names and contacts.
-use Rattle.std.proofs.Common.{◌≡◌, ◌≢◌, ℕ, suc, zero, ◌+◌, ◌-◌, ◌^◌, ◌<◌, ◌≤◌, Bool, true, false, not, ◌==◌, ◌&&◌, ◌||◌, ◌⊎◌, inl, inr, List, [], ◌∷◌, ◌++◌, map, length, take, drop, refl, sym, ap, ◌∙◌, arith, length-append, bytes_eq, codes, Option, None, Some, if◌then◌else◌}
-use Rattle.std.specs.Prelude.{slice_index, IfSome, nat_le, nat_lt, nat_eq}
-use Rattle.std.specs.List.{list_all, prefix_len, starts_with, ends_with}
-use Rattle.std.specs.Option.{option_map, unwrap_or}
+use Rattle.std.proofs.Common.{◌≡◌, ℕ, ◌-◌, ◌^◌, ◌<◌, ◌≤◌, Bool, true, false, ◌==◌, ◌&&◌, ◌||◌, List, [], ◌∷◌, ◌++◌, length, take, drop, refl, sym, ap, ◌∙◌, arith, length-append, bytes_eq, codes, Option, None, Some, if◌then◌else◌}
+use Rattle.std.specs.Prelude.{slice_index, IfSome, nat_lt, nat_eq}
+use Rattle.std.specs.List.{list_all, prefix_len, ends_with}
+use Rattle.std.specs.Option.{option_map}
 use Rattle.std.specs.Char.{is_ascii_digit, is_ascii_alphabetic}
 use Rattle.std.specs.Fmt.{decimal}
 use Rattle.std.proofs.Math.Seq.{take-append_seam, drop-append_seam}
@@ -15,8 +15,8 @@ use Rattle.ap_io.specs.declared.limits.TheConstants.{MOST_NAME_BYTES}
 use Rattle.ap_io.specs.Spelling.{name_text, bit_text}
 use Rattle.ap_io.specs.Fields.{is_digits, is_in_word, is_identifier, lower, word_of, behind_word, bit_digits, is_bit_of, is_label, label_of}
 use Rattle.ap_io.specs.LineFaults.{long_name}
-use Rattle.ap_io.specs.ApText.{is_letter, is_word_byte, is_field_byte, IsWord, IsLabel, IsShort, IsShortLabel}
-use Rattle.ap_io.proofs.Bytes.{both, not_so, letter_in_word, letter_begins, letter_no_star, word_byte_in_word, word_byte_in_field, digit_in_field, all_implied, all_append, all_same, prefix_all}
+use Rattle.ap_io.specs.ApText.{is_word_byte, is_field_byte, IsWord, IsLabel, IsShort, IsShortLabel}
+use Rattle.ap_io.proofs.Bytes.{both, letter_in_word, letter_begins, letter_no_star, word_byte_in_word, word_byte_in_field, digit_in_field, all_implied, all_append, all_same, prefix_all}
 use Rattle.ap_io.proofs.NumbersAgain.{decimal_is, digits_some}
 
 -- ---- identifiers

@@ -1,7 +1,7 @@
 -- What is written is read again: numbers.
-use Rattle.std.proofs.Common.{◌≡◌, ℕ, suc, zero, ◌+◌, ◌-◌, ◌*◌, ◌%◌, ◌^◌, ◌<◌, ◌≤◌, Bool, true, false, not, ◌==◌, ◌&&◌, List, [], ◌∷◌, ◌++◌, length, take, drop, refl, sym, ap, ◌∙◌, arith, le-leb, length-append, if◌then◌else◌}
-use Rattle.std.specs.Prelude.{ℤ, pos, negsuc, ◌≤ℤ◌, neg_ℤ, nat_abs, nat_le, nat_lt, nat_eq, codes}
-use Rattle.std.specs.List.{list_all, starts_with}
+use Rattle.std.proofs.Common.{◌≡◌, ℕ, suc, ◌+◌, ◌-◌, ◌*◌, ◌%◌, ◌^◌, ◌<◌, ◌≤◌, Bool, true, false, not, ◌==◌, ◌&&◌, List, [], ◌∷◌, ◌++◌, length, drop, refl, sym, ap, ◌∙◌, arith, le-leb, length-append, if◌then◌else◌}
+use Rattle.std.specs.Prelude.{ℤ, pos, negsuc, ◌≤ℤ◌, neg_ℤ, nat_abs, nat_le, nat_lt}
+use Rattle.std.specs.List.{list_all}
 use Rattle.std.specs.Char.{is_ascii_digit}
 use Rattle.std.specs.Fmt.{decimal, signed_decimal}
 use Rattle.std.proofs.lemmas.Fmt.{decimal_by_steps}
@@ -10,7 +10,7 @@ use Rattle.std.proofs.lemmas.Int.{ints}
 use Rattle.vlsi_base.specs.Number.{value_of, value_from}
 use Rattle.ap_io.specs.declared.scale.Scale.TheVariants.{Hundred}
 use Rattle.ap_io.specs.declared.limits.TheConstants.{MOST_COORDINATE}
-use Rattle.ap_io.specs.Fields.{has_minus, digits_of, is_digits, is_number, is_in_field, signed, size_of, number_of, reach, coordinate_of, is_width, is_index}
+use Rattle.ap_io.specs.Fields.{has_minus, digits_of, is_digits, is_number, signed, size_of, number_of, reach, coordinate_of, is_width, is_index}
 use Rattle.ap_io.specs.ApText.{is_field_byte, IsNear}
 use Rattle.ap_io.proofs.Digits.{digit_range, head_digit}
 use Rattle.ap_io.proofs.Bytes.{both, all_append, all_implied, digit_in_field}

@@ -1,26 +1,22 @@
 -- What is written is read again: contacts, instances, references and remarks.
-use Rattle.std.proofs.Common.{◌≡◌, ℕ, suc, zero, Bool, true, false, not, ◌==◌, ◌&&◌, ◌||◌, List, [], ◌∷◌, ◌++◌, length, take, drop, refl, sym, ap, ◌∙◌, arith, append_assoc, Option, None, Some, if◌then◌else◌}
+use Rattle.std.proofs.Common.{◌≡◌, ℕ, Bool, true, false, not, ◌&&◌, ◌||◌, List, [], ◌∷◌, ◌++◌, take, drop, refl, sym, ap, ◌∙◌, append_assoc, Option, None, Some, if◌then◌else◌}
 use Rattle.std.specs.List.{list_all}
-use Rattle.std.specs.Option.{is_some, is_none, option_or}
+use Rattle.std.specs.Option.{is_none, option_or}
 use Rattle.std.specs.Fmt.{signed_decimal}
 use Rattle.std.proofs.lemmas.List.Sums.{list_all-from_AllPass}
-use Rattle.sym_geom.specs.declared.rect.Transform.{Transform}
 use Rattle.sym_geom.specs.declared.item.Via.{Via}
 use Rattle.sym_geom.specs.declared.item.Instance.{Instance}
 use Rattle.sym_geom.specs.declared.item.Reference.{Reference}
-use Rattle.sym_geom.specs.declared.item.Item.{Item}
 use Rattle.sym_geom.specs.declared.item.Item.TheVariants as item
 use Rattle.ap_io.specs.declared.scale.Scale.TheVariants.{Hundred}
-use Rattle.ap_io.specs.declared.fault.LineFault.{LineFault}
 use Rattle.ap_io.specs.declared.fault.LineFault.TheVariants.{BadLine, BadTransform}
 use Rattle.ap_io.specs.Spelling.{item_text, name_text, contact_text, transform_text}
 use Rattle.ap_io.specs.Fields.{at, is_text_byte, is_number, is_label, is_identifier}
 use Rattle.ap_io.specs.Words.{transform_of, is_contact}
-use Rattle.ap_io.specs.LineFaults.{is_via, is_instance, is_reference, via_fault, instance_fault, reference_fault, remark_fault, long_name, far_coordinate, limit_fault, letter_of, is_blank_line, fields_behind, fault_by, item_fault}
-use Rattle.ap_io.specs.Items.{IsItem, IsVia, IsInstance, IsReference}
+use Rattle.ap_io.specs.LineFaults.{is_via, is_instance, is_reference, via_fault, instance_fault, reference_fault, long_name, far_coordinate, limit_fault, fields_behind}
 use Rattle.ap_io.specs.ApText.{IsLine, IsItemWithin, is_field_byte}
 use Rattle.ap_io.proofs.Again.{transform_again}
-use Rattle.ap_io.proofs.Bytes.{both, texts_have}
+use Rattle.ap_io.proofs.Bytes.{texts_have}
 use Rattle.ap_io.proofs.NumbersAgain.{coordinate_again}
 use Rattle.ap_io.proofs.NamesAgain.{label_again, word_again, identifier_again, word_short}
 use Rattle.ap_io.proofs.ContactsAgain.{contact_again}
@@ -44,8 +40,8 @@ via_right v line within =
     let y = coordinate_again v.y within.1 in
     let n = label_again v.name line.1 within.2 in
     let form : is_via f ≡ true =
-        via_form (is_label (at f 3)) (list_all is_number (take 2 f)) (is_contact (at f 2)) n.right
-        (two (is_number (at f 0)) (is_number (at f 1)) x.is_number y.is_number) (contact_again v.contact line.0).right in
+    via_form (is_label (at f 3)) (list_all is_number (take 2 f)) (is_contact (at f 2)) n.right
+    (two (is_number (at f 0)) (is_number (at f 1)) x.is_number y.is_number) (contact_again v.contact line.0).right in
     let far : far_coordinate Hundred (take 2 f) ≡ None = near_next v.x (take 1 (drop 1 f)) x (near_next v.y [] y refl) in
     without_fault (is_via f) (limit_fault (long_name (at f 3)) (far_coordinate Hundred (take 2 f))) form
     (no_limit (long_name (at f 3)) (far_coordinate Hundred (take 2 f)) n.short far)
@@ -59,7 +55,7 @@ via_bytes v line within =
 via_text_again : (v : Via) (rest : List ℕ) → item_text (item.Via v) ++ rest ≡ (86 ∷ 32 ∷ joined (via_fields v)) ++ 10 ∷ rest
 via_text_again v rest =
     let whole : item_text (item.Via v) ≡ 86 ∷ 32 ∷ then_text (via_fields v) (10 ∷ []) =
-        ap (λ (t : List ℕ). 86 ∷ 32 ∷ t) (comma_behind (signed_decimal v.x) _ _ (comma_behind (signed_decimal v.y) _ _ refl)) in
+    ap (λ (t : List ℕ). 86 ∷ 32 ∷ t) (comma_behind (signed_decimal v.x) _ _ (comma_behind (signed_decimal v.y) _ _ refl)) in
     ap (λ (t : List ℕ). t ++ rest) whole
     ∙ ap (λ (t : List ℕ). 86 ∷ 32 ∷ t) (behind_joined (via_fields v) (10 ∷ []) rest ∙ sym (behind_joined (via_fields v) [] (10 ∷ rest)))
 
@@ -72,12 +68,15 @@ via_item_again v line within =
       bytes = l.bytes;
       filled = l.filled;
       right = fault_again 86 t l.filled l.letter ∙ ap (via_fault Hundred) l.behind ∙ via_right v line within;
-      item = (l.letter, rw (l.behind) (record {
-        x = (coordinate_again v.x within.0).coordinate;
-        y = (coordinate_again v.y within.1).coordinate;
-        contact = (contact_again v.contact line.0).contact;
-        name = (label_again v.name line.1 within.2).name;
-      }));
+      item = (
+        l.letter,
+        rw (l.behind) (record {
+          x = (coordinate_again v.x within.0).coordinate;
+          y = (coordinate_again v.y within.1).coordinate;
+          contact = (contact_again v.contact line.0).contact;
+          name = (label_again v.name line.1 within.2).name;
+        }),
+      );
     }
 
 -- ---- instances
@@ -94,10 +93,10 @@ instance_right i line within =
     let x = coordinate_again i.x within.0 in
     let y = coordinate_again i.y within.1 in
     let form : is_instance false f ≡ true =
-        instance_form (list_all is_number (take 2 f)) (is_identifier (at f 2)) (is_identifier (at f 3))
-        (two (is_number (at f 0)) (is_number (at f 1)) x.is_number y.is_number) (identifier_again i.model line.0) (identifier_again i.name line.1) in
+    instance_form (list_all is_number (take 2 f)) (is_identifier (at f 2)) (is_identifier (at f 3))
+    (two (is_number (at f 0)) (is_number (at f 1)) x.is_number y.is_number) (identifier_again i.model line.0) (identifier_again i.name line.1) in
     let short : option_or (long_name (at f 2)) (long_name (at f 3)) ≡ None =
-        ap (λ (o : Option ℕ). option_or o (long_name (at f 3))) (word_short i.model line.0 within.2) ∙ word_short i.name line.1 within.3 in
+    ap (λ (o : Option ℕ). option_or o (long_name (at f 3))) (word_short i.model line.0 within.2) ∙ word_short i.name line.1 within.3 in
     let far : far_coordinate Hundred (take 2 f) ≡ None = near_next i.x (take 1 (drop 1 f)) x (near_next i.y [] y refl) in
     without_faults (is_instance false f) (is_none (transform_of (at f 4))) BadTransform
     (limit_fault (option_or (long_name (at f 2)) (long_name (at f 3))) (far_coordinate Hundred (take 2 f))) form
@@ -113,7 +112,7 @@ instance_bytes i line within =
 instance_text_again : (i : Instance) (rest : List ℕ) → item_text (item.Instance i) ++ rest ≡ (73 ∷ 32 ∷ joined (instance_fields i)) ++ 10 ∷ rest
 instance_text_again i rest =
     let whole : item_text (item.Instance i) ≡ 73 ∷ 32 ∷ then_text (instance_fields i) (10 ∷ []) =
-        ap (λ (t : List ℕ). 73 ∷ 32 ∷ t) (comma_behind (signed_decimal i.x) _ _ (comma_behind (signed_decimal i.y) _ _ refl)) in
+    ap (λ (t : List ℕ). 73 ∷ 32 ∷ t) (comma_behind (signed_decimal i.x) _ _ (comma_behind (signed_decimal i.y) _ _ refl)) in
     ap (λ (t : List ℕ). t ++ rest) whole
     ∙ ap (λ (t : List ℕ). 73 ∷ 32 ∷ t) (behind_joined (instance_fields i) (10 ∷ []) rest ∙ sym (behind_joined (instance_fields i) [] (10 ∷ rest)))
 
@@ -131,13 +130,16 @@ instance_item_again i line within =
       bytes = l.bytes;
       filled = l.filled;
       right = fault_again 73 t l.filled l.letter ∙ ap (instance_fault Hundred false) l.behind ∙ instance_right i line within;
-      item = (l.letter, rw (l.behind) (record {
-        x = (coordinate_again i.x within.0).coordinate;
-        y = (coordinate_again i.y within.1).coordinate;
-        model = sym (word_again i.model line.0).same;
-        name = sym (word_again i.name line.1).same;
-        transform = transform_again i.transform;
-      }));
+      item = (
+        l.letter,
+        rw (l.behind) (record {
+          x = (coordinate_again i.x within.0).coordinate;
+          y = (coordinate_again i.y within.1).coordinate;
+          model = sym (word_again i.model line.0).same;
+          name = sym (word_again i.name line.1).same;
+          transform = transform_again i.transform;
+        }),
+      );
     }
 
 -- ---- references
@@ -154,9 +156,9 @@ reference_right r line within =
     let x = coordinate_again r.x within.0 in
     let y = coordinate_again r.y within.1 in
     let form : is_reference f ≡ true =
-        reference_form (list_all is_number (take 2 f)) (is_identifier (at f 2)) (list_all is_text_byte (at f 3))
-        (two (is_number (at f 0)) (is_number (at f 1)) x.is_number y.is_number) (identifier_again r.word line.0)
-        (texts_have r.name (list_all-from_AllPass is_field_byte r.name line.1)) in
+    reference_form (list_all is_number (take 2 f)) (is_identifier (at f 2)) (list_all is_text_byte (at f 3))
+    (two (is_number (at f 0)) (is_number (at f 1)) x.is_number y.is_number) (identifier_again r.word line.0)
+    (texts_have r.name (list_all-from_AllPass is_field_byte r.name line.1)) in
     let far : far_coordinate Hundred (take 2 f) ≡ None = near_next r.x (take 1 (drop 1 f)) x (near_next r.y [] y refl) in
     without_fault (is_reference f) (limit_fault (long_name (at f 2)) (far_coordinate Hundred (take 2 f))) form
     (no_limit (long_name (at f 2)) (far_coordinate Hundred (take 2 f)) (word_short r.word line.0 within.2) far)
@@ -170,7 +172,7 @@ reference_bytes r line within =
 reference_text_again : (r : Reference) (rest : List ℕ) → item_text (item.Reference r) ++ rest ≡ (82 ∷ 32 ∷ joined (reference_fields r)) ++ 10 ∷ rest
 reference_text_again r rest =
     let whole : item_text (item.Reference r) ≡ 82 ∷ 32 ∷ then_text (reference_fields r) (10 ∷ []) =
-        ap (λ (t : List ℕ). 82 ∷ 32 ∷ t) (comma_behind (signed_decimal r.x) _ _ (comma_behind (signed_decimal r.y) _ _ refl)) in
+    ap (λ (t : List ℕ). 82 ∷ 32 ∷ t) (comma_behind (signed_decimal r.x) _ _ (comma_behind (signed_decimal r.y) _ _ refl)) in
     ap (λ (t : List ℕ). t ++ rest) whole
     ∙ ap (λ (t : List ℕ). 82 ∷ 32 ∷ t) (behind_joined (reference_fields r) (10 ∷ []) rest ∙ sym (behind_joined (reference_fields r) [] (10 ∷ rest)))
 
@@ -184,12 +186,15 @@ reference_item_again r line within =
       bytes = l.bytes;
       filled = l.filled;
       right = fault_again 82 t l.filled l.letter ∙ ap (reference_fault Hundred) l.behind ∙ reference_right r line within;
-      item = (l.letter, rw (l.behind) (record {
-        x = (coordinate_again r.x within.0).coordinate;
-        y = (coordinate_again r.y within.1).coordinate;
-        word = sym (word_again r.word line.0).same;
-        name = refl;
-      }));
+      item = (
+        l.letter,
+        rw (l.behind) (record {
+          x = (coordinate_again r.x within.0).coordinate;
+          y = (coordinate_again r.y within.1).coordinate;
+          word = sym (word_again r.word line.0).same;
+          name = refl;
+        }),
+      );
     }
 
 -- ---- remarks

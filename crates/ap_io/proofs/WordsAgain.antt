@@ -1,5 +1,5 @@
 -- Words of layers, directions, sides and transforms have bytes of a field.
-use Rattle.std.proofs.Common.{◌≡◌, ℕ, Bool, true, List, ◌++◌, refl, codes}
+use Rattle.std.proofs.Common.{◌≡◌, true, refl, codes}
 use Rattle.std.specs.List.{list_all}
 use Rattle.sym_geom.specs.declared.layer.Level.{Level}
 use Rattle.sym_geom.specs.declared.layer.Level.TheVariants.{One, Two, Three, Four, Five, Six, Seven, Eight, Nine}
