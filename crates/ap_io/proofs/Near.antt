@@ -1,12 +1,11 @@
 -- Coordinates that are not too far off.
-use Rattle.std.proofs.Common.{◌≡◌, ℕ, suc, zero, ◌+◌, ◌*◌, ◌-◌, ◌^◌, ◌<◌, ◌≤◌, Bool, true, false, List, [], ◌∷◌, length, take, drop, min, refl, sym, ap, ◌∙◌, arith, Option, None, Some, if◌then◌else◌}
+use Rattle.std.proofs.Common.{◌≡◌, ℕ, suc, zero, ◌*◌, ◌-◌, ◌^◌, ◌<◌, Bool, true, false, List, [], ◌∷◌, take, min, refl, ap, ◌∙◌, arith, Option, None, Some, if◌then◌else◌}
 use Rattle.std.specs.Prelude.{ℤ, nat_lt}
 use Rattle.std.proofs.lemmas.Int.{ints, clamps}
 use lib.Signed.{mag}
 use mir.Syntax.{w64}
 use mir.Val.{to_z, of_z}
 use Rattle.ap_io.proofs.Digits.{both_true}
-use Rattle.std.proofs.lemmas.Bool.Decides.{nat_tests}
 use Rattle.ap_io.specs.declared.scale.Scale.{Scale}
 use Rattle.ap_io.specs.declared.limits.TheConstants.{MOST_COORDINATE}
 use Rattle.ap_io.specs.Fields.{at, reach, factor, coordinate_of, is_index, is_number, size_of, number_of}

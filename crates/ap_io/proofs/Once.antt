@@ -1,17 +1,10 @@
 -- Of a file one answer is right.
-use Rattle.std.proofs.Common.{◌≡◌, ℕ, suc, zero, ◌+◌, ◌<◌, ◌≤◌, Bool, true, false, List, [], ◌∷◌, ◌++◌, length, map, bytes_eq, refl, sym, ap, ◌∙◌, arith, subst, Option, None, Some, if◌then◌else◌}
-use Rattle.std.specs.Prelude.{ℤ, IsTrue}
+use Rattle.std.proofs.Common.{◌≡◌, ℕ, ◌+◌, Bool, true, false, List, [], ◌∷◌, ◌++◌, refl, sym, ap, ◌∙◌, arith, subst, Option, None, Some, if◌then◌else◌}
 use Rattle.std.specs.List.{list_all}
 use Rattle.std.proofs.lemmas.Slice.Eq.{bytes_eq-Decides}
-use Rattle.vlsi_base.specs.declared.name.Name.{Name}
 use Rattle.vlsi_base.specs.declared.fault.ReadError.{ReadError}
 use Rattle.vlsi_base.specs.declared.fault.FaultKind.TheVariants as kind
 use Rattle.sym_geom.specs.declared.rect.Rect.{Rect}
-use Rattle.sym_geom.specs.declared.layer.Layer.{Layer}
-use Rattle.sym_geom.specs.declared.rect.Transform.{Transform}
-use Rattle.sym_geom.specs.declared.item.Direction.{Direction}
-use Rattle.sym_geom.specs.declared.item.Side.{Side}
-use Rattle.sym_geom.specs.declared.item.Contact.{Contact}
 use Rattle.sym_geom.specs.declared.item.Segment.{Segment}
 use Rattle.sym_geom.specs.declared.item.Connector.{Connector}
 use Rattle.sym_geom.specs.declared.item.Via.{Via}
@@ -26,9 +19,9 @@ use Rattle.ap_io.specs.Fields.{at, label_of}
 use Rattle.ap_io.specs.Words.{scale_of}
 use Rattle.ap_io.proofs.Digits.{both_true}
 use Rattle.ap_io.specs.Items.{IsSegment, IsConnector, IsVia, IsInstance, IsReference, IsBox, IsItem}
-use Rattle.ap_io.specs.LineFaults.{has_letter, name_on, letter_of, fields_behind, behind_letter, is_blank_line, is_end, is_taken, names_on, item_fault, fault_by, version_fault, name_line_fault, box_line_fault}
+use Rattle.ap_io.specs.LineFaults.{has_letter, name_on, letter_of, fields_behind, is_blank_line, is_end, is_taken, names_on, item_fault, fault_by}
 use Rattle.ap_io.specs.ApText.{lines_in, AreItems, ends, blank, next, IsApText}
-use Rattle.ap_io.specs.Refusal.{fault_on, or_behind, end_refusal, items_refusal, box_refusal, head_refusal, first_refusal, long, faulty, Refused}
+use Rattle.ap_io.specs.Refusal.{fault_on, or_behind, end_refusal, items_refusal, box_refusal, head_refusal, first_refusal, long, faulty}
 use Rattle.ap_io.specs.Laws.{OneFigure, NeverBoth, OneRefusal}
 
 some_once : {A : Type 0} (x y : A) → Some x ≡ Some y → x ≡ y

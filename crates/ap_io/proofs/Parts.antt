@@ -7,7 +7,7 @@ use Rattle.ap_io.specs.declared.fault.LineFault.{LineFault}
 use Rattle.ap_io.specs.declared.fault.LineFault.TheVariants.{BadLine, BadLayer, BadTransform}
 use Rattle.ap_io.specs.Fields.{at, is_identifier, is_number, is_width, is_label, is_index}
 use Rattle.ap_io.specs.Words.{layer_of, side_of, direction_of, transform_of}
-use Rattle.ap_io.specs.LineFaults.{box_line_fault, has_letter, is_box, fault_by, item_fault, letter_of, fields_behind, behind_letter, is_blank_line, is_instance, instance_fault, via_fault, reference_fault, remark_fault, is_segment, is_connector, is_along, segment_fault, connector_fault, limit_fault, long_name, far_coordinate}
+use Rattle.ap_io.specs.LineFaults.{box_line_fault, has_letter, is_box, fault_by, item_fault, letter_of, fields_behind, behind_letter, is_blank_line, instance_fault, via_fault, reference_fault, remark_fault, is_segment, is_connector, is_along, segment_fault, connector_fault, limit_fault, long_name, far_coordinate}
 use Rattle.ap_io.proofs.Digits.{both_true}
 
 is_there : {A : Type 0} (o : Option A) → is_some o ≡ true → IsSome o

@@ -1,5 +1,5 @@
 -- Going over the lines of a file.
-use Rattle.std.proofs.Common.{◌≡◌, ℕ, ◌+◌, ◌<◌, ◌^◌, ◌==◌, ◌&&◌, ◌||◌, Bool, true, false, List, [], ◌∷◌, ◌++◌, length, map, bytes_eq, refl, sym, ap, ◌∙◌, arith, append_assoc, append-nil, subst, Option, None, Some, if◌then◌else◌}
+use Rattle.std.proofs.Common.{◌≡◌, ℕ, ◌+◌, ◌<◌, ◌^◌, ◌&&◌, ◌||◌, Bool, true, false, List, [], ◌∷◌, ◌++◌, length, map, bytes_eq, refl, sym, ap, ◌∙◌, arith, append_assoc, append-nil, subst, Option, None, Some, if◌then◌else◌}
 use Rattle.std.specs.Prelude.{IsTrue, ◌↔◌}
 use Rattle.std.specs.List.{list_all, list_any}
 use Rattle.vlsi_base.specs.declared.fault.FaultKind.TheVariants as kind
@@ -11,9 +11,8 @@ use Rattle.ap_io.specs.declared.scale.Scale.{Scale}
 use Rattle.ap_io.specs.declared.body.Body.{Body}
 use Rattle.ap_io.specs.declared.fault.LineFault.{LineFault}
 use Rattle.ap_io.specs.Instances.{is_known}
-use Rattle.ap_io.specs.Items.{IsItem}
 use Rattle.ap_io.specs.LineFaults.{is_blank_line, is_end, has_letter, name_on, names_on, is_taken, item_fault}
-use Rattle.ap_io.specs.Taking.{Takes, TakesLine, HasName}
+use Rattle.ap_io.specs.Taking.{Takes, TakesLine}
 use Rattle.ap_io.specs.ApText.{AreItems, ends, blank, next}
 use Rattle.ap_io.specs.Refusal.{is_empty, fault_on, limit_on, refusal_on, or_behind, end_refusal, items_refusal, IsRefusal}
 

@@ -1,5 +1,5 @@
 -- Whole files.
-use Rattle.std.proofs.Common.{◌≡◌, ℕ, suc, ◌+◌, ◌<◌, ◌≤◌, ◌^◌, List, [], ◌∷◌, length, map, refl, sym, ap, ◌∙◌, arith, Option, None, Some, Result, Ok, Err, IfErr}
+use Rattle.std.proofs.Common.{◌≡◌, ℕ, ◌<◌, ◌≤◌, ◌^◌, List, ◌∷◌, length, map, sym, ap, ◌∙◌, arith, Option, None, Result, Ok, Err, IfErr}
 use Rattle.vlsi_base.specs.declared.limits.TheConstants.{MOST_NETLIST_BYTES}
 use Rattle.vlsi_base.specs.declared.fault.ReadError.{ReadError}
 use Rattle.vlsi_base.specs.declared.fault.ReadError.TheVariants as errors
@@ -10,7 +10,7 @@ use Rattle.ap_io.specs.declared.fault.LineFault.{LineFault}
 use Rattle.ap_io.specs.LineFaults.{version_fault}
 use Rattle.ap_io.specs.ApText.{lines_in}
 use Rattle.ap_io.specs.Stages.{IsVersionRead}
-use Rattle.ap_io.specs.Refusal.{or_behind, head_refusal, first_refusal, faulty, Refused, IsRefusal, IsApRefusal}
+use Rattle.ap_io.specs.Refusal.{or_behind, head_refusal, first_refusal, faulty, IsRefusal, IsApRefusal}
 
 pub room_after : (bytes : List ℕ) (lines new : List (List ℕ)) → lines ≡ lines_of bytes → length bytes ≤ MOST_NETLIST_BYTES → IsVersionRead lines new → length new < 2 ^ 31
 room_after bytes lines new are few read =

@@ -1,5 +1,5 @@
 -- The fields of a line, and the numbers and names that they spell.
-use Rattle.std.specs.Prelude.{ℕ, ◌-◌, ◌*◌, ◌^◌, ◌==◌, ℤ, pos, neg_ℤ, Bool, true, false, not, ◌&&◌, ◌||◌, nat_le, nat_lt, nat_eq, bytes_eq, List, [], ◌∷◌, length, take, drop, map, slice_index, slice_index_or, Option, None, Some, codes, if◌then◌else◌}
+use Rattle.std.specs.Prelude.{ℕ, ◌-◌, ◌*◌, ◌^◌, ◌==◌, ℤ, pos, neg_ℤ, Bool, not, ◌&&◌, ◌||◌, nat_lt, nat_eq, bytes_eq, List, [], ◌∷◌, length, take, drop, map, slice_index, slice_index_or, Option, None, Some, codes, if◌then◌else◌}
 use Rattle.std.specs.List.{list_all, prefix_len, starts_with, ends_with}
 use Rattle.std.specs.Option.{option_map}
 use Rattle.std.specs.Char.{is_ascii_digit, is_ascii_alphabetic, to_ascii_lowercase}

@@ -1,6 +1,5 @@
 -- The item of a line, the name and the box.
-use Rattle.std.specs.Prelude.{◌≡◌, ℕ, List, Option, None, Some, ◌==◌, length, if◌then◌else◌}
-use Rattle.vlsi_base.specs.declared.name.Name.{Name}
+use Rattle.std.specs.Prelude.{◌≡◌, ℕ, List, None, Some, ◌==◌, length, if◌then◌else◌}
 use Rattle.sym_geom.specs.declared.rect.Rect.{Rect}
 use Rattle.sym_geom.specs.declared.item.Segment.{Segment}
 use Rattle.sym_geom.specs.declared.item.Connector.{Connector}

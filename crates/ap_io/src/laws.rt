@@ -1,5 +1,5 @@
 // What follows from the definitions of an ap file and of its refusals.
-ghost use Rattle.ap_io.specs.Laws.{NeverBoth, OneFigure, OneRefusal, ReadIsAFigure};
+ghost use Rattle.ap_io.specs.Laws.{NeverBoth, OneFigure, OneRefusal, ReadIsAFigure, WrittenIsReadAgain};
 
 /// A file is that of at most one figure.
 pub fn one_figure()
@@ -21,4 +21,9 @@ pub fn one_refusal()
 /// bytes.
 pub fn what_is_read_is_a_figure()
     ensures { ReadIsAFigure }
+{}
+
+/// What is written of a figure that the format can hold, and that is within the limits, is the ap file of this figure.
+pub fn written_is_read_again()
+    ensures { WrittenIsReadAgain }
 {}

@@ -14,7 +14,8 @@ use Rattle.sym_geom.specs.declared.item.Item.{Item}
 use Rattle.sym_geom.specs.declared.item.Item.TheVariants as item
 use Rattle.ap_io.specs.declared.figure.Figure.{Figure}
 use Rattle.ap_io.specs.ApText.{IsWord}
-use Rattle.cell_model.specs.Cell.{gate, Pin, Cell}
+use Rattle.cell_model.specs.Cell.{gate, Cell}
+use Rattle.cell_model.specs.declared.cell.Pin.{Pin}
 use Rattle.cell_model.specs.Library.{Library}
 use Rattle.vlsi_base.specs.Names.{scalar, vdd, vss, comes_before}
 use Rattle.ocp_rows.specs.Placement.{level_wire, upright_wire, contact_at, west_port}

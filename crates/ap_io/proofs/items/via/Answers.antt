@@ -1,7 +1,6 @@
-use Rattle.std.proofs.Common.{arith, ◌≡◌, ◌∙◌, ap, sym, List, ℕ}
-use Rattle.ap_io.specs.Fields.{label_of, lower}
-use Rattle.ap_io.specs.Words.{direction_of, layer_of, side_of, contact_of}
-use Rattle.ap_io.proofs.Near.{read_at, index_at}
+use Rattle.std.proofs.Common.{arith, ◌∙◌, ap}
+use Rattle.ap_io.specs.Words.{contact_of}
+use Rattle.ap_io.proofs.Near.{read_at}
 use Rattle.ap_io.proofs.items.via.Goals as goal
 
 pub returns : goal.returns

@@ -1,4 +1,4 @@
-use Rattle.std.proofs.Common.{◌≡◌, ◌≤◌, ◌-◌, take, drop, length}
+use Rattle.std.proofs.Common.{◌≡◌, ◌-◌, take, drop}
 use Rattle.ap_io.specs.LineFaults.{far_coordinate}
 use Rattle.ap_io.proofs.judge.far_coordinate.Given as goal
 

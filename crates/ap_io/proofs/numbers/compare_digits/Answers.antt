@@ -1,4 +1,3 @@
-use Rattle.std.proofs.Common.{◌∙◌}
 use Rattle.ap_io.proofs.Digits.{in_order, all_of}
 use Rattle.ap_io.proofs.numbers.compare_digits.Goals as goal
 

@@ -1,4 +1,4 @@
-use Rattle.std.proofs.Common.{◌∙◌, ap, sym, not}
+use Rattle.std.proofs.Common.{◌∙◌, sym}
 use Rattle.ap_io.proofs.Digits.{is_negative_number}
 use Rattle.ap_io.proofs.numbers.is_negative.Goals as goal
 

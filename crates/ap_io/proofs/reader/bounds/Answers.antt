@@ -1,5 +1,4 @@
-use Rattle.std.proofs.Common.{sym, ap, ◌∙◌}
-use Rattle.ap_io.specs.LineFaults.{box_line_fault, far_coordinate}
+use Rattle.std.proofs.Common.{sym, ◌∙◌}
 use Rattle.ap_io.proofs.Parts.{box_near}
 use Rattle.ap_io.proofs.reader.bounds.Goals as goal
 

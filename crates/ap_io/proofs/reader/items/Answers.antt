@@ -1,7 +1,7 @@
 use Rattle.std.proofs.Common.{sym, ap, ◌∙◌, refl, ◌≡◌, true, false}
 use Rattle.std.proofs.lemmas.Result.{err_from_is_err_and}
 use Rattle.text_lines.specs.Lines.{without_return}
-use Rattle.ap_io.specs.LineFaults.{is_end, item_fault, has_letter, name_on}
+use Rattle.ap_io.specs.LineFaults.{is_end}
 use Rattle.ap_io.proofs.Walking.{goes_on, refuses, end_none, end_some, end_items, no_end}
 use Rattle.ap_io.proofs.reader.items.Goals as goal
 

@@ -1,4 +1,4 @@
-use Rattle.std.proofs.Common.{ap, ◌∙◌, refl, List, ℕ, rules, ◌≡◌}
+use Rattle.std.proofs.Common.{ap, ◌∙◌, refl, rules, ◌≡◌}
 use Rattle.std.specs.List.{list_any}
 use Rattle.std.specs.BTreeMap.{is_at}
 use Rattle.std.specs.Ordering.{nat_cmp}
