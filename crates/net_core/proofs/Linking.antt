@@ -1,26 +1,24 @@
 -- The links of a netlist, instance by instance and pin by pin.
-use Rattle.std.proofs.Common.{◌≡◌, ℕ, zero, suc, ◌+◌, ◌-◌, ◌<◌, ◌≤◌, Bool, true, false, cond, List, [], ◌∷◌, ◌++◌, length, get_or, take, drop, map, Some, None, bytes_eq, refl, sym, ap, subst, ◌∙◌, arith, append-nil, append_assoc}
+use Rattle.std.proofs.Common.{◌≡◌, ℕ, zero, suc, ◌+◌, ◌<◌, ◌≤◌, Bool, true, false, cond, List, [], ◌∷◌, ◌++◌, length, get_or, take, drop, map, Some, bytes_eq, refl, sym, ap, subst, ◌∙◌, arith, append-nil, append_assoc}
 use Rattle.std.specs.Prelude.{slice_index, slice_index_or}
 use Rattle.std.specs.List.{All, flat_map}
-use Rattle.std.proofs.lemmas.List.{length-map, get_or-take, get_or-drop, length-take-le, length-drop}
+use Rattle.std.proofs.lemmas.List.{get_or-take, get_or-drop, length-take-le, length-drop}
 use Rattle.std.proofs.lemmas.Option.{slice_get_within, slice_get-get_or, get_or_from_slice_get, slice_get_read}
 use Rattle.std.proofs.lemmas.List.Folds.{length-flat_map-take}
 use Rattle.vlsi_base.specs.declared.name.Name.{Name}
 use Rattle.vlsi_base.specs.declared.name.Dir.{Dir}
 use Rattle.vlsi_base.specs.declared.name.Dir.TheVariants.{In, Out}
-use Rattle.vlsi_base.specs.declared.name.Port.{Port}
 use Rattle.vlsi_base.specs.declared.name.Terminal.{Terminal}
 use Rattle.net_core.specs.declared.frame.Node.{Node}
 use Rattle.net_core.specs.declared.pins.ModelPin.{ModelPin}
 use Rattle.net_core.specs.declared.pins.ModelPins.{ModelPins}
 use Rattle.net_core.specs.declared.links.Link.{Link}
 use Rattle.net_core.specs.Places.{Stands, IsThere}
-use Rattle.net_core.specs.Netlist.{Instance, Netlist, IsNetlist, pin_of, pins_of, terminals, terminals_of, HasClass}
+use Rattle.net_core.specs.Netlist.{Instance, Netlist, IsNetlist, pin_of, terminals, terminals_of, HasClass}
 use Rattle.net_core.specs.Frame.{instance_of, node_pins, AreNumbered}
 use Rattle.net_core.specs.Checks.{pins_named, IsInputAt, DependsWithin, Fits, DependsOn}
 use Rattle.net_core.specs.Links.{IsLinkOf, AreLinks, pieces_from, links_of_dir, pin_links, instance_links}
-use Rattle.net_core.proofs.Standing.{stands_same}
-use Rattle.net_core.proofs.Frames.{mapped, unmapped, port_terminals, terminals_are, terminals_count, pin_found, pins_step}
+use Rattle.net_core.proofs.Frames.{mapped, unmapped, port_terminals, terminals_are, terminals_count, pin_found}
 use Rattle.net_core.proofs.Finishing.{class_once}
 use Rattle.net_core.proofs.Pieces.{pieces_next, pieces_split, pieces_join}
 

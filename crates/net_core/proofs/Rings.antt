@@ -1,9 +1,9 @@
 -- Rings of classes, and the links and output pins in them.
-use Rattle.std.proofs.Common.{◌≡◌, ◌⊎◌, inl, inr, ℕ, zero, suc, ◌+◌, ◌-◌, ◌<◌, ◌≤◌, Bool, true, false, cond, List, [], ◌∷◌, ◌++◌, length, get_or, take, drop, map, nat_eq, Option, Some, None, refl, sym, ap, subst, ◌∙◌, arith}
-use Rattle.std.specs.Prelude.{slice_index, slice_index_or, nat_lt, filter, Contains}
+use Rattle.std.proofs.Common.{◌≡◌, ◌⊎◌, inl, inr, ℕ, zero, suc, ◌+◌, ◌-◌, ◌<◌, ◌≤◌, true, false, cond, List, [], ◌∷◌, ◌++◌, length, get_or, map, nat_eq, Some, None, refl, sym, ap, subst, ◌∙◌, arith}
+use Rattle.std.specs.Prelude.{slice_index, slice_index_or, nat_lt, Contains}
 use Rattle.std.specs.List.{All}
 use Rattle.std.specs.Global.{Vec}
-use Rattle.std.proofs.lemmas.List.{length-map, length-append, get_or-map, length-drop}
+use Rattle.std.proofs.lemmas.List.{length-map, length-append, get_or-map}
 use Rattle.std.proofs.lemmas.Option.{slice_get_within, slice_get-get_or, get_or_from_slice_get, slice_get_read}
 use Rattle.std.proofs.lemmas.Bool.{cases_lt, eqb-true, eq-eqb}
 use Rattle.std.proofs.lemmas.Bool.Decides.{nat_tests}
@@ -12,12 +12,12 @@ use Rattle.vlsi_base.specs.declared.name.Terminal.{Terminal}
 use Rattle.net_core.specs.declared.pins.ModelPins.{ModelPins}
 use Rattle.net_core.specs.declared.frame.Node.{Node}
 use Rattle.net_core.specs.declared.links.Link.{Link}
-use Rattle.net_core.specs.Places.{Stands, IsThere, NoneTwice}
+use Rattle.net_core.specs.Places.{Stands, IsThere}
 use Rattle.net_core.specs.Netlist.{Instance, Netlist, IsNetlist, pin_of, HasClass}
 use Rattle.net_core.specs.Frame.{instance_of}
 use Rattle.net_core.specs.Checks.{DependsOn, IsRing}
 use Rattle.net_core.specs.Links.{IsLinkOf, AreLinks, AreGrouped, inputs_of, IsLinkTo, next_in, AreChosen}
-use Rattle.net_core.proofs.Standing.{Split, left, right, split, stands_left, stands_right, stands_same, only_one}
+use Rattle.net_core.proofs.Standing.{Split, left, right, split, only_one}
 use Rattle.net_core.proofs.Frames.{mapped, unmapped}
 use Rattle.net_core.proofs.Finishing.{class_once}
 use Rattle.net_core.proofs.Namings.{turn_below}

@@ -1,11 +1,11 @@
 -- A ring that is turned, and its names.
-use Rattle.std.proofs.Common.{◌≡◌, ℕ, zero, suc, ◌+◌, ◌-◌, ◌<◌, false, List, [], ◌∷◌, ◌++◌, length, get_or, take, drop, map, Option, Some, None, refl, sym, ap, subst, ◌∙◌, arith}
+use Rattle.std.proofs.Common.{◌≡◌, ℕ, zero, suc, ◌+◌, ◌-◌, ◌<◌, false, List, [], ◌∷◌, ◌++◌, length, take, drop, map, Option, Some, None, refl, sym, ap, subst, ◌∙◌, arith}
 use Rattle.std.specs.Prelude.{slice_index_or}
 use Rattle.std.specs.List.{All}
 use Rattle.std.specs.Global.{Vec}
-use Rattle.std.proofs.lemmas.List.{length-map, length-append, length-drop, map-append, take-append-drop}
+use Rattle.std.proofs.lemmas.List.{length-append, length-drop, map-append, take-append-drop}
 use Rattle.std.proofs.lemmas.List.Elements.{All-map}
-use Rattle.std.proofs.lemmas.Option.{slice_get_within, slice_get-get_or, get_or_from_slice_get}
+use Rattle.std.proofs.lemmas.Option.{slice_get_within, get_or_from_slice_get}
 use Rattle.bit_order.specs.Order as order
 use Rattle.vlsi_base.specs.declared.name.Name.{Name}
 use Rattle.vlsi_base.specs.declared.name.Terminal.{Terminal}
@@ -20,7 +20,7 @@ use Rattle.net_core.specs.Checks.{DependsOn, IsRing, NamesRing}
 use Rattle.net_core.specs.Links.{IsLinkOf, AreLinks, AreGrouped, inputs_of, owner_name, name_at, IsLeastName, NamesLinks, IsCycle}
 use Rattle.net_core.proofs.Standing.{Split, left, right, split, stands_left, stands_right}
 use Rattle.net_core.proofs.Frames.{mapped, unmapped}
-use Rattle.net_core.proofs.Rings.{Makes, terminal_ring}
+use Rattle.net_core.proofs.Rings.{terminal_ring}
 
 turned : (table : List ModelPins) (n : Netlist) (ys zs : List Terminal) → IsRing table n (ys ++ zs) → IsRing table n (zs ++ ys)
 turned table n ys zs r = record {

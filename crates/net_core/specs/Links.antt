@@ -11,11 +11,9 @@ use Rattle.net_core.specs.declared.frame.Node.{Node}
 use Rattle.net_core.specs.declared.pins.ModelPin.{ModelPin}
 use Rattle.net_core.specs.declared.pins.ModelPins.{ModelPins}
 use Rattle.net_core.specs.declared.links.Link.{Link}
-use Rattle.net_core.specs.declared.error.CheckError.{CheckError}
-use Rattle.net_core.specs.declared.error.CheckError.TheVariants as error
 use Rattle.net_core.specs.Places.{Stands, IsThere}
 use Rattle.net_core.specs.Netlist.{Instance, Netlist, pin_of, HasClass}
-use Rattle.net_core.specs.Checks.{pins_named, DependsOn, IsRing, NamesRing, IsFault}
+use Rattle.net_core.specs.Checks.{pins_named, DependsOn, IsRing, NamesRing}
 
 -- an output pin of the instance with this number depends at once on an input pin, and these are the classes of the two
 pub record IsLinkOf (table : List ModelPins) (n : Netlist) (l : Link) (t : Terminal) : Type 0 where
@@ -101,8 +99,3 @@ pub record NamesLinks (nodes : List Node) (groups : List (Vec Link)) (ring : Lis
 abbrev pub IsCycle : List ModelPins → Netlist → Option (List Name) → Type 0
 IsCycle table n None = (ring : List Terminal) → IsRing table n ring → ⊥
 IsCycle table n (Some names) = (ring : List Terminal) × IsRing table n ring × NamesRing ring names
-
--- why a netlist is refused, if memory hasn't run out
-abbrev pub IsRefusal : List ModelPins → Netlist → CheckError → Type 0
-IsRefusal table n error.Memory = Unit {0}
-IsRefusal table n (error.Fault f) = IsFault table n f.kind f.names

@@ -1,7 +1,6 @@
 // Whether a netlist is sound.
 ghost use Rattle.std.specs.Prelude.{◌≡◌, ◌<◌, IfOk, IfErr, OnOk};
-ghost use Rattle.net_core.specs.Checks.{Fits, Passes, HasSoundClasses, IsClassRefusal, kind_of, HasNamesOfLeast};
-ghost use Rattle.net_core.specs.Links.{IsRefusal};
+ghost use Rattle.net_core.specs.Checks.{Fits, Passes, HasSoundClasses, IsClassRefusal, IsRefusal, kind_of, HasNamesOfLeast};
 
 use crate::cycle::cycle;
 use crate::error::{CheckError, NetFault};

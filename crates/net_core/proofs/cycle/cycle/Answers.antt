@@ -3,7 +3,7 @@ use Rattle.std.specs.List.{All}
 use Rattle.std.specs.Global.{Vec}
 use Rattle.bit_order.specs.Order as order
 use Rattle.net_core.specs.declared.links.Link.{Link}
-use Rattle.net_core.specs.Links.{AreLinks, AreGrouped, inputs_of}
+use Rattle.net_core.specs.Links.{AreGrouped, inputs_of}
 use Rattle.net_core.proofs.Rings.{link_below, each_there, group_link, inputs_inside, inputs_count, nodes_count, no_ring}
 use Rattle.net_core.proofs.Turned.{ring_named}
 use Rattle.net_core.proofs.cycle.cycle.Goals as goal

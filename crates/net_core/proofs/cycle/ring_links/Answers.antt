@@ -1,4 +1,4 @@
-use Rattle.std.proofs.Common.{◌≡◌, ◌∙◌, List, None, Some, sym, ap, subst}
+use Rattle.std.proofs.Common.{◌≡◌, ◌∙◌, List, None, Some, sym, subst}
 use Rattle.net_core.specs.declared.links.Link.{Link}
 use Rattle.net_core.specs.Links.{next_in, IsLinkTo}
 use Rattle.net_core.proofs.Rings.{chosen_step, chosen_there, next_inner, next_last, ring_inside}

@@ -1,4 +1,4 @@
-use Rattle.std.proofs.Common.{◌≡◌, ◌∙◌, List, ℕ, length, take, sym, ap, subst, arith}
+use Rattle.std.proofs.Common.{◌≡◌, ◌∙◌, List, ℕ, length, take, ap, arith}
 use Rattle.std.proofs.Math.Seq.{take-length}
 use Rattle.net_core.specs.declared.frame.Node.{Node}
 use Rattle.net_core.specs.declared.pins.ModelPins.{ModelPins}
