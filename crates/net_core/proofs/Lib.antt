@@ -13,3 +13,8 @@ pub mod Counting
 pub mod Tables
 pub mod Namings
 pub mod Classes
+pub mod Least
+pub mod Pieces
+pub mod Linking
+pub mod Rings
+pub mod Turned

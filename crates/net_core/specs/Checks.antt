@@ -239,6 +239,11 @@ abbrev pub IsClassRefusal : List ModelPins → Netlist → CheckError → Type 0
 IsClassRefusal table n error.Memory = Unit {0}
 IsClassRefusal table n (error.Fault f) = IsClassFault table n f.kind f.names
 
+-- why a netlist is refused, if memory hasn't run out
+abbrev pub IsRefusal : List ModelPins → Netlist → CheckError → Type 0
+IsRefusal table n error.Memory = Unit {0}
+IsRefusal table n (error.Fault f) = IsFault table n f.kind f.names
+
 -- each number is at most n
 pub record AtMost (n : ℕ) (t : Tally) : Type 0 where
   pub input_ports : t.input_ports ≤ n

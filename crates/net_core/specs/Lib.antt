@@ -4,3 +4,4 @@ pub mod Named
 pub mod Frame
 pub mod Joins
 pub mod Checks
+pub mod Links

@@ -2,9 +2,11 @@
 #![tactic(auto)]
 
 mod builder;
-mod check;
+mod checking;
+mod cycle;
 mod error;
 mod frame;
+mod links;
 mod netlist;
 mod pins;
 mod roles;
@@ -13,7 +15,7 @@ mod tally;
 mod turns;
 
 pub use builder::Builder;
-pub use check::check_classes;
+pub use checking::{check, check_classes};
 pub use error::{BuildError, CheckError, NetFault};
 pub use frame::Node;
 pub use netlist::Netlist;

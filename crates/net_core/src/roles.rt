@@ -13,8 +13,8 @@ use crate::tally::{Role, pin_role, port_role};
 use std::alloc::{AllocError, Global};
 use vlsi_base::{Port, Text};
 
-/// The names of a table's models.
-fn model_names(alloc: Global, table: &[ModelPins]) -> Result<Roll, AllocError>
+/// The names of a table's models. Takes memory for them.
+pub fn model_names(alloc: Global, table: &[ModelPins]) -> Result<Roll, AllocError>
     requires { NoneTwice (map (λ m. m.model) table.now) }
     ensures { IfOk result (λ names. names ≡ map (λ m. m.model) table.now) }
 {
@@ -25,8 +25,8 @@ fn model_names(alloc: Global, table: &[ModelPins]) -> Result<Roll, AllocError>
     Ok(names)
 }
 
-/// The pins of a model; none where the table doesn't list it.
-fn pins_of<'t>(names: &Roll, table: &'t [ModelPins], model: &Text) -> &'t [ModelPin]
+/// The pins of a model; none where the table doesn't list it. Takes no memory.
+pub fn pins_of<'t>(names: &Roll, table: &'t [ModelPins], model: &Text) -> &'t [ModelPin]
     requires { names.now ≡ map (λ m. m.model) table.now }
     ensures { result.now ≡ pins_named table.now model.now }
 {

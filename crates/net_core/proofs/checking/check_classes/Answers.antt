@@ -8,7 +8,7 @@ use Rattle.net_core.specs.Checks.{Fits, roles, all_clocks, AtMost, AreTallies}
 use Rattle.net_core.proofs.Counting.{zip_length}
 use Rattle.net_core.proofs.Namings.{turn_below}
 use Rattle.net_core.proofs.Classes.{roles_length, all_few, Counted, sound_classes, class_fault}
-use Rattle.net_core.proofs.check.check_classes.Goals as goal
+use Rattle.net_core.proofs.checking.check_classes.Goals as goal
 
 each_of : (table : List ModelPins) (n : Netlist) (rs : List Role) (cs : List ℕ) → rs ≡ roles table n → cs ≡ n.classes → length n.classes ≡ length (terminals n) → Fits n table → length rs ≡ length cs
 each_of table n rs cs e f each fits = ap length e ∙ roles_length table n fits ∙ sym each ∙ ap length (sym f)

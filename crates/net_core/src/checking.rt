@@ -1,14 +1,15 @@
-// Whether the classes of a netlist are sound.
+// Whether a netlist is sound.
 ghost use Rattle.std.specs.Prelude.{◌≡◌, ◌<◌, IfOk, IfErr, OnOk};
-ghost use Rattle.net_core.specs.Checks.{Fits, HasSoundClasses, IsClassRefusal, kind_of, HasNamesOfLeast};
+ghost use Rattle.net_core.specs.Checks.{Fits, Passes, HasSoundClasses, IsClassRefusal, IsRefusal, kind_of, HasNamesOfLeast};
 
+use crate::cycle::cycle;
 use crate::error::{CheckError, NetFault};
 use crate::netlist::Netlist;
 use crate::pins::PinTable;
 use crate::roles::{clock_count, roles};
 use crate::tally::{ClassFault, first_fault, tallies};
 use std::alloc::{AllocError, Global};
-use vlsi_base::FaultKind;
+use vlsi_base::{FaultKind, Names};
 
 /// The kind of a fault of a class.
 fn kind_of(fault: ClassFault) -> FaultKind
@@ -64,5 +65,27 @@ pub fn check_classes(alloc: Global, netlist: &Netlist, table: &PinTable) -> Resu
             let fault = fault_of(alloc, netlist, fault, class as u32)?;
             Err(CheckError::Fault(fault))
         }
+    }
+}
+
+/// Checks a netlist, by a table that lists its models. It is refused by `Fault` exactly where one of the faults of `check_classes`
+/// holds, as that answers it, or where its classes are sound and there is a ring:
+///
+/// - `Cycle`: output pins of instances stand in a ring, and each depends at once on an input pin in the class of the next. It names
+///   the instances of a ring in turn, from the least name on; an instance of which two output pins stand in the ring is named twice.
+///
+/// Takes memory and time for each terminal, each class, and each input pin on which an output pin depends.
+pub fn check(alloc: Global, netlist: &Netlist, table: &PinTable) -> Result<(), CheckError>
+    requires { Fits netlist.now table.now }
+    ensures passes { OnOk result (Passes table.now netlist.now) }
+    ensures refused { IfErr result (λ e. IsRefusal table.now netlist.now e) }
+{
+    check_classes(alloc, netlist, table)?;
+    match cycle(alloc, netlist, table)? {
+        None => Ok(()),
+        Some(names) => Err(CheckError::Fault(NetFault {
+            kind: FaultKind::Cycle,
+            names: Names::new(names),
+        })),
     }
 }
