@@ -1,0 +1,4 @@
+pub mod Pins
+pub mod Follows
+pub mod Table
+pub mod Marks

@@ -1,0 +1,8 @@
+//! The pins of a library's cells, as a netlist that uses these cells asks for them.
+#![tactic(auto)]
+
+mod follows;
+mod pins;
+mod table;
+
+pub use table::pin_table;
