@@ -108,26 +108,45 @@ IsBrief (item.Remark text) = length text ≤ 64
 pub line_brief : (one : Item) → IsLine one → IsItemWithin one → IsBrief one → length (item_text one) ≤ 256
 line_brief (item.Segment s) line within brief =
     let whole : length (item_text (item.Segment s)) ≡ total (
-          codes "S " ∷ field s.x1 ∷ field s.y1 ∷ field s.x2 ∷ field s.y2 ∷ field s.width ∷ name_text s.name ∷ comma
-          ∷ direction_text s.direction ∷ comma ∷ layer_text s.layer ∷ line_end ∷ []) = total_is (
-          codes "S " ∷ field s.x1 ∷ field s.y1 ∷ field s.x2 ∷ field s.y2 ∷ field s.width ∷ name_text s.name ∷ comma
-          ∷ direction_text s.direction ∷ comma ∷ layer_text s.layer ∷ line_end ∷ []) in
-    omega (arith, whole, near_brief s.x1 within.0, near_brief s.y1 within.1, near_brief s.x2 within.2, near_brief s.y2 within.3, near_brief s.width within.4,
-    label_brief s.name line.2 within.5, direction_brief s.direction, layer_brief s.layer)
+    codes "S " ∷ field s.x1 ∷ field s.y1 ∷ field s.x2 ∷ field s.y2 ∷ field s.width ∷ name_text s.name ∷ comma
+    ∷ direction_text s.direction ∷ comma ∷ layer_text s.layer ∷ line_end ∷ []) = total_is (
+    codes "S " ∷ field s.x1 ∷ field s.y1 ∷ field s.x2 ∷ field s.y2 ∷ field s.width ∷ name_text s.name ∷ comma
+    ∷ direction_text s.direction ∷ comma ∷ layer_text s.layer ∷ line_end ∷ []) in
+    omega (
+      arith,
+      whole,
+      near_brief s.x1 within.0,
+      near_brief s.y1 within.1,
+      near_brief s.x2 within.2,
+      near_brief s.y2 within.3,
+      near_brief s.width within.4,
+      label_brief s.name line.2 within.5,
+      direction_brief s.direction,
+      layer_brief s.layer,
+    )
 line_brief (item.Connector c) line within brief =
     let pieces : List (List ℕ) =
-        codes "C " ∷ field c.x ∷ field c.y ∷ field c.width ∷ name_text c.name ∷ comma ∷ field c.index ∷ side_text c.side ∷ comma
-        ∷ layer_text c.layer ∷ line_end ∷ [] in
+    codes "C " ∷ field c.x ∷ field c.y ∷ field c.width ∷ name_text c.name ∷ comma ∷ field c.index ∷ side_text c.side ∷ comma
+    ∷ layer_text c.layer ∷ line_end ∷ [] in
     let whole : length (item_text (item.Connector c)) ≡ total pieces = total_is pieces in
-    omega (arith, whole, near_brief c.x within.0, near_brief c.y within.1, near_brief c.width within.2, label_brief c.name line.1 within.3,
-    field_brief c.index within.4, side_brief c.side, layer_brief c.layer)
+    omega (
+      arith,
+      whole,
+      near_brief c.x within.0,
+      near_brief c.y within.1,
+      near_brief c.width within.2,
+      label_brief c.name line.1 within.3,
+      field_brief c.index within.4,
+      side_brief c.side,
+      layer_brief c.layer,
+    )
 line_brief (item.Via v) line within brief =
     let pieces : List (List ℕ) = codes "V " ∷ field v.x ∷ field v.y ∷ contact_text v.contact ∷ comma ∷ name_text v.name ∷ line_end ∷ [] in
     let whole : length (item_text (item.Via v)) ≡ total pieces = total_is pieces in
     omega (arith, whole, near_brief v.x within.0, near_brief v.y within.1, label_brief v.name line.1 within.2, brief)
 line_brief (item.Instance i) line within brief =
     let pieces : List (List ℕ) =
-        codes "I " ∷ field i.x ∷ field i.y ∷ i.model ∷ comma ∷ i.name ∷ comma ∷ transform_text i.transform ∷ line_end ∷ [] in
+    codes "I " ∷ field i.x ∷ field i.y ∷ i.model ∷ comma ∷ i.name ∷ comma ∷ transform_text i.transform ∷ line_end ∷ [] in
     let whole : length (item_text (item.Instance i)) ≡ total pieces = total_is pieces in
     omega (arith, whole, near_brief i.x within.0, near_brief i.y within.1, within.2, within.3, transform_brief i.transform)
 line_brief (item.Reference r) line within brief =
@@ -148,7 +167,7 @@ pub head_brief : (name : Option Name) (b : Rect) → IsLabel name → IsShortLab
     → length (head_text name b) ≤ 256
 head_brief name b label short x1 y1 x2 y2 =
     let pieces : List (List ℕ) =
-        codes "V ALLIANCE : 6" ∷ line_end ∷ codes "H " ∷ name_text name ∷ codes ",P,01/01/2000,100" ∷ line_end
-        ∷ codes "A " ∷ field b.x1 ∷ field b.y1 ∷ field b.x2 ∷ signed_decimal b.y2 ∷ line_end ∷ [] in
+    codes "V ALLIANCE : 6" ∷ line_end ∷ codes "H " ∷ name_text name ∷ codes ",P,01/01/2000,100" ∷ line_end
+    ∷ codes "A " ∷ field b.x1 ∷ field b.y1 ∷ field b.x2 ∷ signed_decimal b.y2 ∷ line_end ∷ [] in
     let whole : length (head_text name b) ≡ total pieces = total_is pieces in
     omega (arith, whole, label_brief name label short, near_brief b.x1 x1, near_brief b.y1 y1, near_brief b.x2 x2, number_brief b.y2 (omega (arith, y2)))

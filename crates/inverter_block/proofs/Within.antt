@@ -1,11 +1,10 @@
 -- The figure of one inverter is within the limits of the ap format where its names are.
-use Rattle.std.proofs.Common.{◌≡◌, ℕ, ◌+◌, ◌*◌, ◌<◌, ◌≤◌, Bool, true, false, [], ◌∷◌, ◌++◌, List, length, length-append, refl, arith}
-use Rattle.std.specs.Prelude.{codes, ℤ, pos}
+use Rattle.std.proofs.Common.{◌≡◌, ℕ, ◌+◌, Bool, true, false, [], ◌∷◌, ◌++◌, List, length, length-append, refl, arith}
+use Rattle.std.specs.Prelude.{ℤ, pos}
 use Rattle.std.specs.List.{AllByRecursion}
 use Rattle.std.proofs.lemmas.List.Elements.{All-from_recursion}
-use Rattle.vlsi_base.specs.declared.limits.TheConstants.{MOST_NETLIST_BYTES}
 use Rattle.sym_geom.specs.declared.item.Item.{Item}
-use Rattle.ap_io.specs.ApText.{IsWord, IsLine, IsNear, IsShort, IsItemWithin, IsWithinLimits}
+use Rattle.ap_io.specs.ApText.{IsWord, IsNear, IsShort, IsItemWithin, IsWithinLimits}
 use Rattle.ap_io.specs.Spelling.{text_of, head_text, items_text}
 use Rattle.ap_io.specs.Laws.{WrittenIsReadAgain}
 use Rattle.ap_io.proofs.Brief.{IsBrief, lines_brief, head_brief}
