@@ -156,8 +156,3 @@ pub record IsApText (bytes : List ℕ) (f : Figure) : Type 0 where
   pub right_box : box_line_fault scale box ≡ None
   pub bounds : IsBox scale (fields_behind box) f.bounds
   pub items : AreItems scale [] others f.items
-
--- the one spelling of a figure
-pub record IsWrittenText (bytes : List ℕ) (f : Figure) : Type 0 where
-  pub figure : IsFigure f
-  pub text : bytes ≡ text_of f

@@ -2,8 +2,9 @@
 use Rattle.std.proofs.Common.{◌≡◌, ◌≢◌, ℕ, Bool, true, false, not, ◌&&◌, ◌||◌, cond, List, [], ◌∷◌, length, None, Some, is_none, refl, sym, ◌∙◌, subst, leb, nat_eq, codes}
 use Rattle.std.specs.List.{list_all}
 use Rattle.std.proofs.lemmas.List.Sums.{AllPass-from_list_all}
+use Rattle.std.proofs.lemmas.Bool.{leb-true}
 use Rattle.std.specs.Cmp.Lexicographic.{bytes_decides}
-use Rattle.ap_io.specs.ApText.{IsWord, is_word_byte}
+use Rattle.ap_io.specs.ApText.{IsWord, IsShort, is_word_byte}
 use Rattle.vhdl_token.specs.Keyword.{keyword_of}
 use Rattle.flow_run.specs.declared.forms.First.{First}
 use Rattle.flow_run.specs.Drawing.{AreDrawable}
@@ -56,6 +57,7 @@ record IsName (name : List ℕ) : Type 0 where
   is_word : IsWord name
   no_vdd : name ≢ codes "vdd"
   no_vss : name ≢ codes "vss"
+  short : IsShort name
 
 name_of : (name : List ℕ) → is_proper name ≡ true → IsName name
 name_of name proper =
@@ -64,7 +66,7 @@ name_of name proper =
     let d = both (begins_with_letter name && list_all is_name_byte name && leb (length name) 64) (is_none (keyword_of name)) b.0 in
     let e = both (begins_with_letter name && list_all is_name_byte name) (leb (length name) 64) d.0 in
     let f = both (begins_with_letter name) (list_all is_name_byte name) e.0 in
-    record { is_word = word name f.0 f.1; no_vdd = differ name (codes "vdd") b.1; no_vss = differ name (codes "vss") a.1 }
+    record { is_word = word name f.0 f.1; no_vdd = differ name (codes "vdd") b.1; no_vss = differ name (codes "vss") a.1; short = leb-true (length name) 64 e.1 }
 
 names_of : (names : First) → are_proper names.entity names.input names.output ≡ true → AreDrawable names
 names_of names proper =
@@ -76,8 +78,9 @@ names_of names proper =
     let d = both (is_proper e) (is_proper i) b.0 in
     let f = both (not (is_same e i) && not (is_same e o)) (not (is_same i o)) a.1 in
     let first = name_of i d.1 in
-    let second = name_of o b.1 in (
-      (name_of e d.0).is_word,
+    let second = name_of o b.1 in
+    let whole = name_of e d.0 in (
+      whole.is_word,
       record {
         first_word = first.is_word;
         second_word = second.is_word;
@@ -87,6 +90,9 @@ names_of names proper =
         second_vdd = second.no_vdd;
         second_vss = second.no_vss;
       },
+      whole.short,
+      first.short,
+      second.short,
     )
 
 -- names that are found in texts of the form can be drawn

@@ -2,10 +2,10 @@
 use Rattle.std.proofs.Common.{◌≡◌, ℕ, List, [], ◌∷◌, refl}
 use Rattle.std.specs.Prelude.{codes}
 use Rattle.std.specs.Fmt.{digits}
-use Rattle.ap_io.specs.ApText.{IsWord}
+use Rattle.ap_io.specs.ApText.{IsWord, IsShort}
 use Rattle.ap_io.specs.Spelling.{together, line_end, text_of}
 use Rattle.inverter_block.specs.Inverter.{AreProper, inverter_figure, inverter_machine, inverter_library, inverter_report}
-use Rattle.inverter_block.specs.InverterLaw.{InverterIsRight}
+use Rattle.inverter_block.specs.InverterLaw.{InverterIsRead, InverterIsRight}
 use Rattle.flow_run.specs.Report.{count_line}
 use Rattle.flow_run.specs.RightLayout.{IsRightLayout}
 
@@ -25,15 +25,15 @@ known : (entity : List ℕ) → inverter_report entity ≡ counted entity 3 1 2 
 unfolding digits
 known entity = refl
 
-pub inverter_layout : InverterIsRight → (e i o cell a z : List ℕ) → IsWord e → IsWord cell → AreProper i o → AreProper a z
+pub inverter_layout : InverterIsRight → InverterIsRead → (e i o cell a z : List ℕ) → IsWord e → IsWord cell → AreProper i o → AreProper a z → IsShort e → IsShort cell → IsShort i → IsShort o
     → IsRightLayout (text_of (inverter_figure e i o cell a z)) (inverter_machine e i o) (inverter_library cell a z) (inverter_report e)
-inverter_layout law e i o cell a z we wc io az =
+inverter_layout law read e i o cell a z we wc io az se sc si so =
     let block = law e i o cell a z we wc io az in
     record {
       figure = inverter_figure e i o cell a z;
       netlist = block.0.netlist;
       placement = block.0.placement;
-      file = block.0.file;
+      file = read e i o cell a z we wc io se sc si so;
       named = refl;
       extracts = block.0.extracts;
       well = block.0.well;

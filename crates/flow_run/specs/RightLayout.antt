@@ -3,7 +3,7 @@ use Rattle.std.specs.Prelude.{◌≡◌, ℕ, Bool, List, [], Some, length, map}
 use Rattle.machine_meaning.specs.Machine.{Machine, outputs}
 use Rattle.machine_meaning.specs.Cycles.{RunOf, AreVectors}
 use Rattle.ap_io.specs.declared.figure.Figure.{Figure}
-use Rattle.ap_io.specs.ApText.{IsWrittenText}
+use Rattle.ap_io.specs.ApText.{IsApText}
 use Rattle.cell_model.specs.Library.{Library}
 use Rattle.net_meaning.specs.Netlist.{Netlist, Extracts}
 use Rattle.vlsi_base.specs.Names.{scalar}
@@ -24,7 +24,7 @@ pub record IsRightLayout (bytes : List ℕ) (m : Machine) (l : Library) (report 
   pub figure : Figure
   pub netlist : Netlist
   pub placement : Placement
-  pub file : IsWrittenText bytes figure
+  pub file : IsApText bytes figure
   pub named : figure.name ≡ Some (scalar m.name)
   pub extracts : Extracts figure.items l netlist
   pub well : IsWell netlist l m

@@ -4,7 +4,7 @@ ghost use Rattle.flow_run.specs.Drawing.{cell_text as text_of_cell, layout_of, r
 
 use crate::First;
 use ap_io::write_ap;
-use inverter_block::{cell_figure, inverter_figure, inverter_law, inverter_report};
+use inverter_block::{cell_figure, inverter_figure, inverter_law, inverter_report, inverter_text_law};
 use std::alloc::{AllocError, Global};
 use vlsi_base::{FileBytes, Text};
 
@@ -47,9 +47,10 @@ pub fn report(alloc: Global, source: &First) -> Result<FileBytes, AllocError>
     inverter_report(alloc, &source.entity)
 }
 
-/// The layout is right whatever the names are. It costs nothing when it is called.
+/// The layout is right whatever the names are, of at most 64 bytes each. It costs nothing when it is called.
 pub fn layout_law()
     ensures { LayoutIsRight }
 {
     inverter_law();
+    inverter_text_law();
 }

@@ -5,8 +5,7 @@ use Rattle.std.specs.List.{AllByRecursion}
 use Rattle.std.proofs.lemmas.List.Elements.{All-from_recursion}
 use Rattle.std.proofs.lemmas.List.Sums.{AllPass-from_list_all}
 use Rattle.sym_geom.specs.declared.item.Item.{Item}
-use Rattle.ap_io.specs.ApText.{IsWord, IsLine, IsWrittenText, is_word_byte, instance_names}
-use Rattle.ap_io.specs.Spelling.{text_of}
+use Rattle.ap_io.specs.ApText.{IsWord, IsLine, IsFigure, is_word_byte, instance_names}
 use Rattle.inverter_block.specs.Inverter.{AreProper, block_items, figure_by, port_items, two_nets, supply_items, placed_inverter, net_items}
 use Rattle.inverter_block.proofs.Setting.{g0}
 
@@ -53,7 +52,7 @@ net_fits : (y x node : ℤ) (name : List ℕ) → IsWord name → (rest : List I
 net_fits y x node name w rest h =
     ((narrow, refl, (w, tt)), ((narrow, refl, (w, tt)), ((tt, (w, tt)), ((tt, (w, tt)), ((tt, (w, tt)), h)))))
 
-lines_fit : (b p : Bool) (i o cell a z : List ℕ) → IsWord cell → AreProper i o → Lines (block_items b p i o cell)
+pub lines_fit : (b p : Bool) (i o cell a z : List ℕ) → IsWord cell → AreProper i o → Lines (block_items b p i o cell)
 lines_fit true true i o cell a z wc io =
     ports_fit i o io.first_word io.second_word (placed_inverter cell ∷ (supply_items ++ two_nets true true i o))
     ((wc, g0_word), supplies_fit (two_nets true true i o) (net_fits (pos 5500) (pos 2000) (pos 1000) i io.first_word (net_items (pos 6000) (pos 2500) (pos 1500) o) (net_fits (pos 6000) (pos 2500) (pos 1500) o io.second_word [] tt)))
@@ -79,13 +78,10 @@ names_alone true false i o cell = alone g0
 names_alone false true i o cell = alone g0
 names_alone false false i o cell = alone g0
 
-pub file : (b p : Bool) (e i o cell a z : List ℕ) → IsWord e → IsWord cell → AreProper i o → IsWrittenText (text_of (figure_by b p e i o cell)) (figure_by b p e i o cell)
+pub file : (b p : Bool) (e i o cell a z : List ℕ) → IsWord e → IsWord cell → AreProper i o → IsFigure (figure_by b p e i o cell)
 file b p e i o cell a z we wc io = record {
-  figure = record {
-    name = (we, tt);
-    box = record { wide = record { le = tt }; tall = record { le = tt } };
-    lines = All-from_recursion IsLine (block_items b p i o cell) (lines_fit b p i o cell a z wc io);
-    instances = names_alone b p i o cell;
-  };
-  text = refl;
+  name = (we, tt);
+  box = record { wide = record { le = tt }; tall = record { le = tt } };
+  lines = All-from_recursion IsLine (block_items b p i o cell) (lines_fit b p i o cell a z wc io);
+  instances = names_alone b p i o cell;
 }

@@ -8,5 +8,6 @@ pub mod Clean
 pub mod Placing
 pub mod Lengths
 pub mod File
+pub mod Within
 pub mod Right
 pub mod Checked

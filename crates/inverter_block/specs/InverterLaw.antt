@@ -4,7 +4,7 @@ use Rattle.machine_meaning.specs.Machine.{Machine}
 use Rattle.machine_meaning.specs.Size.{machine_size}
 use Rattle.machine_core.specs.Checked.{IsChecked}
 use Rattle.ap_io.specs.declared.figure.Figure.{Figure}
-use Rattle.ap_io.specs.ApText.{IsWord, IsWrittenText}
+use Rattle.ap_io.specs.ApText.{IsWord, IsFigure, IsShort, IsApText}
 use Rattle.ap_io.specs.Spelling.{text_of}
 use Rattle.cell_model.specs.Library.{Library}
 use Rattle.net_meaning.specs.Netlist.{Netlist, Extracts}
@@ -22,7 +22,7 @@ use Rattle.inverter_block.specs.Inverter.{AreProper, inverter_figure, inverter_m
 pub record IsRightBlock (f : Figure) (m : Machine) (l : Library) : Type 0 where
   pub netlist : Netlist
   pub placement : Placement
-  pub file : IsWrittenText (text_of f) f
+  pub file : IsFigure f
   pub extracts : Extracts f.items l netlist
   pub well : IsWell netlist l m
   pub agrees : Agrees netlist l m
@@ -42,6 +42,13 @@ InverterIsRight =
     → IsWord entity → IsWord cell → AreProper input output → AreProper pin_in pin_out
     → IsRightBlock (inverter_figure entity input output cell pin_in pin_out) (inverter_machine entity input output)
     (inverter_library cell pin_in pin_out) × (machine_size (inverter_machine entity input output) ≡ 3)
+
+-- For all names of at most 64 bytes, the text of the figure is the ap file of the figure.
+abbrev pub InverterIsRead : Type 0
+InverterIsRead =
+    (entity input output cell pin_in pin_out : List ℕ)
+    → IsWord entity → IsWord cell → AreProper input output → IsShort entity → IsShort cell → IsShort input → IsShort output
+    → IsApText (text_of (inverter_figure entity input output cell pin_in pin_out)) (inverter_figure entity input output cell pin_in pin_out)
 
 -- For all names of its ports, the machine of the inverter is one that passes the checks of a source: ports in order, each output
 -- driven once, no cycle.

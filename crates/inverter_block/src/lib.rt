@@ -9,5 +9,5 @@ mod plan;
 mod report;
 
 pub use block::{cell_figure, inverter_figure};
-pub use law::{inverter_law, inverter_machine_law};
+pub use law::{inverter_law, inverter_machine_law, inverter_text_law};
 pub use report::inverter_report;
