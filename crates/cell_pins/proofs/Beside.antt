@@ -22,4 +22,3 @@ pub value_later : (names : List Name) (bits : List Bool) (name other : Name) (k 
     → is_same_name other name ≡ false → value_at (drop k names) (drop k bits) name ≡ value_at names bits name → value_at (drop (k + 1) names) (drop (k + 1) bits) name ≡ value_at names bits name
 value_later names bits name other k h lengths is apart inv =
     sym (value_step names bits name other k h lengths is ∙ ap (λ t. cond t (slice_index_or bits k false) (value_at (drop (k + 1) names) (drop (k + 1) bits) name)) apart) ∙ inv
-

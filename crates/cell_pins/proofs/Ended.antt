@@ -5,7 +5,7 @@ use Rattle.machine_meaning.specs.declared.equation.Equation.{Equation as Equatio
 use Rattle.machine_meaning.specs.Machine.{Machine, Equation}
 use Rattle.machine_meaning.specs.Named.{value_at}
 use Rattle.machine_core.specs.Checked.{IsChecked}
-use Rattle.machine_core.specs.Order.{EachReadsBelow, held_names}
+use Rattle.machine_core.specs.Order.{EachReadsBelow}
 use Rattle.machine_core.specs.View.{equation_view}
 use Rattle.cell_pins.specs.Follows.{Follows}
 use Rattle.cell_pins.specs.Marks.{starts, marked}

@@ -1,5 +1,5 @@
 -- Lists that grow by one: places that are picked, pins, models.
-use Rattle.std.proofs.Common.{◌≡◌, ◌⊎◌, inl, inr, ℕ, suc, zero, ◌+◌, ◌<◌, List, [], ◌∷◌, ◌++◌, length, take, refl, sym, ◌∙◌, ap, subst, add-one, Some, slice_get, get_or, Bool, true, false}
+use Rattle.std.proofs.Common.{◌≡◌, ◌⊎◌, inl, inr, ℕ, ◌+◌, ◌<◌, List, [], ◌∷◌, ◌++◌, length, take, refl, sym, ◌∙◌, ap, subst, add-one, Some, slice_get, get_or, Bool, true, false}
 use Rattle.std.specs.Prelude.{◌↔◌}
 use Rattle.cell_pins.specs.Follows.{DependsOn}
 use Rattle.std.proofs.lemmas.List.{take_more}
@@ -8,7 +8,7 @@ use Rattle.vlsi_base.specs.Member.{In, here, there, Picks, done, takes, skips}
 use Rattle.net_core.specs.declared.pins.ModelPin.{ModelPin}
 use Rattle.net_core.specs.declared.pins.ModelPins.{ModelPins}
 use Rattle.cell_model.specs.Cell.{Cell, Function}
-use Rattle.cell_pins.specs.Table.{first_places, DependsAt, AreDependences, IsPinOf, ArePins, no_pins, one_pin, IsModelOf, AreModels, no_models, listed, left_out}
+use Rattle.cell_pins.specs.Table.{first_places, DependsAt, IsPinOf, ArePins, no_pins, one_pin, IsModelOf, AreModels, no_models, listed, left_out}
 
 takes_last : {A : Type 0} (P : A → Type 0) (xs ys : List A) (x : A) → Picks P xs ys → P x → Picks P (xs ++ x ∷ []) (ys ++ x ∷ [])
 takes_last P [] [] x done h = takes h done

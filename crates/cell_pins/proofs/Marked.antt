@@ -1,14 +1,14 @@
 -- The marks of a machine's names, when all equations are through, are those of the names that depend on the input.
-use Rattle.std.proofs.Common.{◌≡◌, ◌⊎◌, inl, inr, ◌↔◌, ℕ, zero, suc, ◌+◌, ◌<◌, ◌≤◌, Bool, true, false, ◌||◌, List, [], ◌∷◌, ◌++◌, map, length, refl, sym, ◌∙◌, ap, subst, arith, append_assoc, length-append, Option, Some, None, slice_get, cond}
+use Rattle.std.proofs.Common.{◌≡◌, ◌↔◌, ℕ, zero, suc, ◌<◌, Bool, true, false, ◌||◌, List, [], ◌∷◌, ◌++◌, map, length, refl, sym, ◌∙◌, ap, subst, arith, append_assoc, length-append, Some, slice_get, cond}
 use Rattle.std.specs.List.{list_any}
 use Rattle.vlsi_base.specs.declared.name.Name.{Name}
-use Rattle.bool_expr.specs.Expression.{Expression, variables, bit, IsOver}
+use Rattle.bool_expr.specs.Expression.{variables, bit, IsOver}
 use Rattle.machine_meaning.specs.Machine.{Machine, Equation, Register, inputs, register_names}
 use Rattle.machine_meaning.specs.Named.{is_same_name, value_at}
 use Rattle.machine_core.specs.Order.{In, here, there, AllDifferent, held_names, equation_names, EachReadsBelow, IsOrdered}
 use Rattle.machine_core.proofs.Known.{IsOver-In}
 use Rattle.machine_core.proofs.Names.{same_name-true, same_name-itself}
-use Rattle.cell_model.proofs.Members.{In-split, In-left, In-right, In-map}
+use Rattle.cell_model.proofs.Members.{In-left, In-right, In-map}
 use Rattle.cell_pins.specs.Follows.{Reads, Follows, itself, reads}
 use Rattle.cell_pins.specs.Marks.{reads_mark, starts, marked}
 
@@ -88,8 +88,8 @@ right_registers m input (r ∷ rs) p within = (
   (
     λ t. absurd cc,
     λ f. let i = within r.name here in
-      let h = held_follows m input r.name p (In-right r.name (inputs m) (register_names m) i) f in
-      absurd (p.registers r.name i (subst (λ x. In x (inputs m)) (sym h.0) h.1)),
+        let h = held_follows m input r.name p (In-right r.name (inputs m) (register_names m) i) f in
+        absurd (p.registers r.name i (subst (λ x. In x (inputs m)) (sym h.0) h.1)),
   ),
   right_registers m input rs p (λ x i. within x (there i)),
 )
@@ -155,9 +155,9 @@ right_all : (m : Machine) (input : Name) (front : List Name) (marks : List Bool)
     → m.vars ≡ front ++ map (λ e. e.name) es → EachReadsBelow (length front) es → Right m input front marks → Right m input m.vars (marked marks es)
 right_all m input front marks [] p within vars below right =
     subst (λ (ns : List Name). Right m input ns marks) (sym (vars ∙ append_nil front)) right where
-  append_nil : (ns : List Name) → ns ++ [] ≡ ns
-  append_nil [] = refl
-  append_nil (n ∷ ns) = ap (λ (xs : List Name). n ∷ xs) (append_nil ns)
+      append_nil : (ns : List Name) → ns ++ [] ≡ ns
+      append_nil [] = refl
+      append_nil (n ∷ ns) = ap (λ (xs : List Name). n ∷ xs) (append_nil ns)
 right_all m input front marks (e ∷ es) p within vars below right =
     right_all m input (front ++ e.name ∷ []) (marks ++ reads_mark marks e.expr ∷ []) es p (λ x i. within x (there i))
     (vars ∙ sym (append_assoc front (e.name ∷ []) (map (λ x. x.name) es)))

@@ -1,6 +1,6 @@
 -- The pins of a cell with its supplies stand in the order of names, and there are few.
-use Rattle.std.proofs.Common.{◌≡◌, ◌⊎◌, inl, inr, ℕ, zero, suc, ◌+◌, ◌<◌, ◌≤◌, ◌^◌, Bool, true, false, List, [], ◌∷◌, ◌++◌, map, length, filter, get_or, refl, sym, ◌∙◌, ap, subst, arith, length-append, Option, Some, None, cond}
-use Rattle.std.specs.Prelude.{IsTrue, AllPairs, All}
+use Rattle.std.proofs.Common.{◌≡◌, ◌⊎◌, inl, inr, ℕ, suc, ◌+◌, ◌<◌, ◌≤◌, ◌^◌, Bool, true, false, List, [], ◌∷◌, ◌++◌, length, filter, refl, sym, ◌∙◌, ap, subst, arith, length-append, Option, Some, None, cond}
+use Rattle.std.specs.Prelude.{IsTrue, AllPairs}
 use Rattle.std.specs.Ordering.{is_lt, ordering_reverse}
 use Rattle.std.specs.declared.cmp.Ordering.{Ordering}
 use Rattle.std.specs.declared.cmp.Ordering.TheVariants.{Less, Equal, Greater}
@@ -48,7 +48,7 @@ sorted_of : (ps : List Port) → AllPairs (λ a b. IsTrue (comes_before a b)) (n
 sorted_of [] h = tt
 sorted_of (p ∷ ps) h = (
   λ q i. let r = place-In q.name (names_of ps) (In-map (λ x. x.name) q ps i) in
-    subst (λ n. IsTrue (comes_before p.name n)) (r.2 p.name) (h 0 (suc r.0) p.name (omega arith) (omega (arith, r.1))),
+      subst (λ n. IsTrue (comes_before p.name n)) (r.2 p.name) (h 0 (suc r.0) p.name (omega arith) (omega (arith, r.1))),
   sorted_of ps (λ i j d low high. h (suc i) (suc j) d (omega (arith, low)) (omega (arith, high))),
 )
 
@@ -179,7 +179,7 @@ few_names (i ∷ items) = omega (arith, length-append (connector_name i) (connec
 few : (c : Cell) → IsFormed c → PinsAreConnectors c → length (all_ports c) ≤ length c.items
 few c h k =
     let a = fits (names_of (all_ports c)) (connector_names c.items) (sorted_different (all_ports c) (all_sorted c h))
-      (λ n i. let r = In-map_back (λ p. p.name) n (all_ports c) i in subst (λ m. In m (connector_names c.items)) r.2 (port_connected c k r.0 r.1)) in
+    (λ n i. let r = In-map_back (λ p. p.name) n (all_ports c) i in subst (λ m. In m (connector_names c.items)) r.2 (port_connected c k r.0 r.1)) in
     omega (arith, a, few_names c.items, length-map (all_ports c) (λ p. p.name))
 
 pub few_ports : (c : Cell) (ports : List Port) → IsFormed c → PinsAreConnectors c → ports ≡ all_ports c → length ports < 2 ^ 32

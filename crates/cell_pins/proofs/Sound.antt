@@ -1,25 +1,24 @@
 -- A table of cells' pins is what the checks of netlists ask for.
-use Rattle.std.proofs.Common.{◌≡◌, ◌≢◌, ◌⊎◌, inl, inr, ℕ, zero, suc, ◌+◌, ◌<◌, List, [], ◌∷◌, map, length, get_or, refl, sym, ◌∙◌, ap, subst, arith, Some, None, slice_get, Bool, false}
-use Rattle.std.specs.Prelude.{AllPairs, All, IsTrue}
+use Rattle.std.proofs.Common.{◌≡◌, ◌≢◌, inl, inr, ℕ, zero, suc, List, [], ◌∷◌, map, length, refl, sym, ◌∙◌, ap, subst, arith, Some, slice_get, false}
+use Rattle.std.specs.Prelude.{AllPairs, All}
 use Rattle.vlsi_base.specs.declared.name.Name.{Name}
 use Rattle.vlsi_base.specs.declared.name.Port.{Port}
-use Rattle.vlsi_base.specs.Names.{comes_before}
 use Rattle.vlsi_base.specs.Member.{In, here, there, AllDifferent}
 use Rattle.machine_meaning.specs.Machine.{names_of}
 use Rattle.net_core.specs.declared.pins.ModelPin.{ModelPin}
 use Rattle.net_core.specs.declared.pins.ModelPins.{ModelPins}
-use Rattle.net_core.specs.Places.{Stands, NoneTwice}
+use Rattle.net_core.specs.Places.{NoneTwice}
 use Rattle.net_core.specs.Netlist.{AreInOrder}
 use Rattle.net_core.specs.Checks.{IsInputAt, DependsWithin, IsPinTable}
 use Rattle.cell_model.specs.Cell.{Cell, Function}
 use Rattle.cell_model.specs.Library.{Library}
 use Rattle.cell_model.specs.Usable.{IsFormed}
 use Rattle.cell_model.specs.Connectors.{PinsAreConnectors}
-use Rattle.cell_model.proofs.Members.{In-map, In-map_back, place-In, All-In, All-from}
+use Rattle.cell_model.proofs.Members.{In-map_back, place-In, All-In, All-from}
 use Rattle.cell_checks.specs.Checked.{IsChecked}
 use Rattle.cell_checks.specs.declared.verdict.Check.TheVariants as check
 use Rattle.cell_pins.specs.Pins.{all_ports}
-use Rattle.cell_pins.specs.Table.{first_places, DependsAt, AreDependences, IsPinOf, ArePins, no_pins, one_pin, IsModelOf, AreModels, no_models, listed, left_out, IsListed}
+use Rattle.cell_pins.specs.Table.{first_places, DependsAt, IsPinOf, ArePins, one_pin, IsModelOf, AreModels, listed, left_out}
 use Rattle.cell_pins.proofs.Listed.{picked_has, member_cases}
 use Rattle.cell_pins.proofs.Ports.{sorted_pairs, all_sorted}
 
@@ -72,9 +71,9 @@ models_differ P cells [] h r = tt
 models_differ P [] (m ∷ table) h r = elim r [ ]
 models_differ P (c ∷ cells) (m ∷ table) h (listed p is rest) = (
   λ i.
-    let n = In-map_back (λ x. x.model) m.model table i in
-    let b = cell_of_model P cells table n.0 rest n.1 in
-    apart_first c b.cell cells h b.listed (sym is.name ∙ sym n.2 ∙ b.is.name),
+      let n = In-map_back (λ x. x.model) m.model table i in
+      let b = cell_of_model P cells table n.0 rest n.1 in
+      apart_first c b.cell cells h b.listed (sym is.name ∙ sym n.2 ∙ b.is.name),
   models_differ P cells table (apart_rest c cells h) rest,
 )
 models_differ P (c ∷ cells) (m ∷ table) h (left_out p rest) = models_differ P cells (m ∷ table) (apart_rest c cells h) rest
@@ -106,12 +105,12 @@ within : (f : Function) (ports : List Port) (m : ModelPins) → ArePins f ports 
 within f ports m r =
     All-from (λ p. All (IsInputAt m.pins) p.depends_on) m.pins
     (λ p i.
-        let x = port_of_pin f ports ports m.pins p r i in
-        All-from (IsInputAt m.pins) p.depends_on
-        (λ k j.
-            let d = picked_has (DependsAt f ports x.0) (first_places (length ports)) p.depends_on k x.1.depends j in
-            let q = pin_at f ports ports m.pins k d.0 r d.1 in
-            (q.0, q.1, q.2 ∙ d.2.1)))
+    let x = port_of_pin f ports ports m.pins p r i in
+    All-from (IsInputAt m.pins) p.depends_on
+    (λ k j.
+    let d = picked_has (DependsAt f ports x.0) (first_places (length ports)) p.depends_on k x.1.depends j in
+    let q = pin_at f ports ports m.pins k d.0 r d.1 in
+    (q.0, q.1, q.2 ∙ d.2.1)))
 
 in_order : (c : Cell) (m : ModelPins) → IsFormed c → IsModelOf c m → AreInOrder (map (λ p. p.name) m.pins)
 in_order c m h is =

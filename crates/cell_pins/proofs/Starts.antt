@@ -1,9 +1,8 @@
 -- The inputs stand first among a machine's names, and the marks that are put first.
-use Rattle.std.proofs.Common.{◌≡◌, ◌⊎◌, ℕ, ◌+◌, ◌<◌, ◌≤◌, Bool, true, false, ◌||◌, List, [], ◌∷◌, ◌++◌, map, length, take, refl, sym, ◌∙◌, ap, subst, arith, append_assoc, length-append, if◌then◌else◌}
+use Rattle.std.proofs.Common.{◌≡◌, ℕ, ◌<◌, ◌≤◌, Bool, true, false, ◌||◌, List, [], ◌∷◌, ◌++◌, map, length, take, refl, sym, ◌∙◌, ap, subst, arith, append_assoc, length-append, if◌then◌else◌}
 use Rattle.std.specs.List.{list_any, slice_index_or}
 use Rattle.std.specs.Prelude.{◌==◌}
 use Rattle.std.proofs.Math.Seq.{take-append_seam}
-use Rattle.std.proofs.lemmas.List.{length-map}
 use Rattle.std.specs.Prelude.{◌↔◌}
 use Rattle.std.proofs.lemmas.Bool.Decides.{nat_tests}
 use Rattle.std.proofs.lemmas.List.Folds.{list_any-append, list_any_at}
@@ -14,12 +13,11 @@ use Rattle.cell_pins.proofs.Marked.{any_member}
 use Rattle.vlsi_base.specs.declared.name.Name.{Name}
 use Rattle.bool_expr.specs.Support.{among, first_meetings, meetings_after}
 use Rattle.machine_meaning.specs.declared.equation.Register.{Register as RegisterParts}
-use Rattle.machine_meaning.specs.declared.equation.Equation.{Equation as EquationParts}
-use Rattle.machine_meaning.specs.Machine.{Machine, Equation, Register, inputs, register_names}
+use Rattle.machine_meaning.specs.Machine.{Machine, Register, inputs, register_names}
 use Rattle.machine_meaning.specs.Named.{is_same_name}
 use Rattle.machine_core.specs.Checked.{IsChecked}
-use Rattle.machine_core.specs.Order.{held_names, equation_names}
-use Rattle.machine_core.specs.View.{equation_view, register_view}
+use Rattle.machine_core.specs.Order.{equation_names}
+use Rattle.machine_core.specs.View.{register_view}
 use Rattle.cell_pins.specs.Marks.{starts}
 
 vars_split : (m : Machine) → IsChecked m → m.vars ≡ inputs m ++ (register_names m ++ equation_names m)

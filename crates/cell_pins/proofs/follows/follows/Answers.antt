@@ -1,8 +1,5 @@
-use Rattle.std.proofs.Common.{◌≡◌, ◌∙◌, ap, sym, map, List, Bool, length, subst, true, ◌↔◌}
+use Rattle.std.proofs.Common.{◌∙◌, ap, map}
 use Rattle.machine_core.specs.View.{equation_view}
-use Rattle.machine_core.specs.Order.{EachReadsBelow}
-use Rattle.machine_meaning.specs.Named.{value_at}
-use Rattle.cell_pins.specs.Follows.{Follows}
 use Rattle.cell_pins.proofs.Ended.{ended_fit, ended_right}
 use Rattle.cell_pins.proofs.follows.follows.Goals as goal
 

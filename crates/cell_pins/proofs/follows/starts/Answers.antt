@@ -1,4 +1,4 @@
-use Rattle.std.proofs.Common.{◌≡◌, ◌∙◌, ◌++◌, ap, map, false, List, Bool}
+use Rattle.std.proofs.Common.{◌∙◌, ◌++◌, ap, map, false, List, Bool}
 use Rattle.machine_core.specs.View.{register_view}
 use Rattle.cell_pins.proofs.Starts.{started}
 use Rattle.cell_pins.proofs.follows.starts.Goals as goal

@@ -1,4 +1,4 @@
-use Rattle.std.proofs.Common.{◌≡◌, ◌∷◌, [], filter, append_assoc}
+use Rattle.std.proofs.Common.{◌∷◌, [], filter, append_assoc}
 use Rattle.vlsi_base.specs.Names.{scalar, comes_before}
 use Rattle.cell_pins.specs.Pins.{supply}
 use Rattle.cell_pins.proofs.pins.add_supply.Goals as goal

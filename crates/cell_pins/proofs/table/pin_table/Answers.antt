@@ -1,4 +1,4 @@
-use Rattle.std.proofs.Common.{◌≡◌, ap, sym, subst, List, All}
+use Rattle.std.proofs.Common.{ap, sym, subst, List, All}
 use Rattle.cell_model.specs.Cell.{Cell}
 use Rattle.cell_model.specs.Library.{Library}
 use Rattle.cell_model.specs.Usable.{IsFormed}
