@@ -6,3 +6,4 @@ pub mod Layouts
 pub mod PinsApart
 pub mod Firsts
 pub mod NodeLemmas
+pub mod BareColumns
