@@ -7,3 +7,4 @@ pub mod PinsApart
 pub mod Firsts
 pub mod NodeLemmas
 pub mod BareColumns
+pub mod NodeFronts
