@@ -8,3 +8,5 @@ pub mod Firsts
 pub mod NodeLemmas
 pub mod BareColumns
 pub mod NodeFronts
+pub mod NodeColumns
+pub mod OtherColumns
