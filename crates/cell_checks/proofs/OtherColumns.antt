@@ -79,7 +79,7 @@ one_column : (c : Cell) (m n : Name) (x y z : ℤ) (one other : Option ℕ) → 
 one_column c m n x y z one other at_one at_other is_m is_n apart =
     let p = at_column one x (sym at_one ∙ ap (option_map first) is_m) in
     let q = at_column other x (sym at_other ∙ ap (option_map first) is_n) in
-    apart p.0 p.1.0 (q.1.0 ∙ ap (λ k. Some k) (across_same q.0 p.0 (q.1.1 ∙ sym p.1.1)))
+    apart p.0 p.1 (q.1 ∙ ap (λ k. Some k) (across_same q.0 p.0 (q.2 ∙ sym p.2)))
 
 pub other_differ : (c : Cell) (columns : List (Option ℕ)) → AreReachedAt c columns → AllPairs AreOther columns → ColumnsDiffer c
 other_differ c columns reached all = record {
