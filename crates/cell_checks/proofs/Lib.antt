@@ -10,3 +10,4 @@ pub mod BareColumns
 pub mod NodeFronts
 pub mod NodeColumns
 pub mod OtherColumns
+pub mod Tracks

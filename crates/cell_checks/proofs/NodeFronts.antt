@@ -12,9 +12,10 @@ columns_rest c name from zero order = let same : from ≡ zero = omega arith in 
 columns_rest c name from (suc n) order =
     elim (cases_lt n from) [
       | inl less ↦ let same : from ≡ suc n = omega arith in ([], append-nil (node_columns c name from) ∙ ap (node_columns c name) same)
-      | inr most ↦ let r = columns_rest c name from n most in
-          (r.0 ++ column_nodes c name n 11,
-          sym (append_assoc (node_columns c name from) r.0 (column_nodes c name n 11)) ∙ ap (λ xs. xs ++ column_nodes c name n 11) r.1)
+      | inr most ↦ let r = columns_rest c name from n most in (
+        r.0 ++ column_nodes c name n 11,
+        sym (append_assoc (node_columns c name from) r.0 (column_nodes c name n 11)) ∙ ap (λ xs. xs ++ column_nodes c name n 11) r.1,
+      )
     ]
 
 pub more_than : (c : Cell) (name : Name) (from end lines rank : ℕ) (nodes : List ℕ) → from ≤ end → end ≡ lines → nodes ≡ node_columns c name from → rank < length nodes

@@ -28,10 +28,13 @@ pad_node c name a b row any =
     let ex = row.box.left in let ey = row.box.low in
     let hl = r.2.holds.left in let hr = r.2.holds.right in let hd = r.2.holds.low in let hh = r.2.holds.high in
     let w : Within (square (pos (PITCH * a)) (pos (PITCH * b)) (pos PAD_WIDTH)) (from_corner c r.0.rect) =
-        record { left = omega (arith, ints); right = omega (arith, ints); low = omega (arith, ints); high = omega (arith, ints) } in
+    record { left = omega (arith, ints); right = omega (arith, ints); low = omega (arith, ints); high = omega (arith, ints) } in
     list_any_from (node_test c name (pos (PITCH * a), pos (PITCH * b))) (drawn c.items) r.0 r.1
-    (rw (number_told r.0.metal 1 r.2.metal, named_told name r.0.name r.2.named,
-      within_told (square (pos (PITCH * a)) (pos (PITCH * b)) (pos PAD_WIDTH)) (from_corner c r.0.rect) w) refl)
+    (rw (
+      number_told r.0.metal 1 r.2.metal,
+      named_told name r.0.name r.2.named,
+      within_told (square (pos (PITCH * a)) (pos (PITCH * b)) (pos PAD_WIDTH)) (from_corner c r.0.rect) w,
+    ) refl)
 
 pub node_pad : (c : Cell) (name : Name) (a b : ℕ) → StandsInRow c → is_access_node c name (pos (PITCH * a), pos (PITCH * b)) ≡ true
     → Any (IsRail name (square (pos (PITCH * a)) (pos (PITCH * b)) (pos PAD_WIDTH))) (drawn c.items)
@@ -55,6 +58,6 @@ pub node_told : (c : Cell) (shapes : List Shape) (name : Name) (a b : ℕ) (pad 
 node_told c shapes name a b pad r row is at iff =
     same_truth r (is_access_node c name (pos (PITCH * a), pos (PITCH * b)))
     (λ h. pad_node c name a b row (subst (λ (xs : List Shape). Any (IsRail name (square (pos (PITCH * a)) (pos (PITCH * b)) (pos PAD_WIDTH))) xs) is
-      (subst (λ (q : Rect). Any (IsRail name q) shapes) at (iff.0 h))))
+    (subst (λ (q : Rect). Any (IsRail name q) shapes) at (iff.0 h))))
     (λ h. iff.1 (subst (λ (q : Rect). Any (IsRail name q) shapes) (sym at)
-      (subst (λ (xs : List Shape). Any (IsRail name (square (pos (PITCH * a)) (pos (PITCH * b)) (pos PAD_WIDTH))) xs) (sym is) (node_pad c name a b row h))))
+    (subst (λ (xs : List Shape). Any (IsRail name (square (pos (PITCH * a)) (pos (PITCH * b)) (pos PAD_WIDTH))) xs) (sym is) (node_pad c name a b row h))))

@@ -108,7 +108,7 @@ differ_other c columns formed reached differ i j d before within k at_i at_j =
     (In-at (names_of (pin_ports c)) i vdd (omega arith))
     (In-at (names_of (pin_ports c)) j vdd (omega arith))
     (before_differs (get_or (names_of (pin_ports c)) i vdd) (get_or (names_of (pin_ports c)) j vdd) (formed.order i j vdd before (omega arith)))
-    where
-      by : (m n : Name) → (y : ℤ) × (access_point c m ≡ Some (across k, y)) → (z : ℤ) × (access_point c n ≡ Some (across k, z))
-          → In m (names_of (pin_ports c)) → In n (names_of (pin_ports c)) → m ≢ n → ⊥
-      by m n p q in_m in_n apart = apart (differ.same m n (across k) p.0 q.0 in_m in_n p.1 q.1)
+  where
+    by : (m n : Name) → (y : ℤ) × (access_point c m ≡ Some (across k, y)) → (z : ℤ) × (access_point c n ≡ Some (across k, z))
+        → In m (names_of (pin_ports c)) → In n (names_of (pin_ports c)) → m ≢ n → ⊥
+    by m n p q in_m in_n apart = apart (differ.same m n (across k) p.0 q.0 in_m in_n p.1 q.1)

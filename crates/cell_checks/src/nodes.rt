@@ -139,8 +139,8 @@ fn grid_columns(cell: &Cell) -> u64
     width_of(cell) as u64 / u64::from(PITCH) + 1
 }
 
-/// The columns of the first access nodes of a pin, more than its rank, or all. A cell may be 20,000,000,000 columns wide: those
-/// without nodes are left out in one step for each shape.
+/// The columns of the first access nodes of a pin, more of them than its rank, or all: of billions of nodes no more than the few
+/// that are needed. Columns without nodes are left out in one step, however many they are.
 fn first_nodes(
     alloc: Global,
     cell: &Cell,
