@@ -6,6 +6,7 @@ pub mod Instances
 pub mod Items
 pub mod Taking
 pub mod ApText
+pub mod Within
 pub mod Stages
 pub mod Refusal
 pub mod Laws

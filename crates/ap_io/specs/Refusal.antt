@@ -64,9 +64,9 @@ abbrev pub head_refusal : List (List ℕ) → Option ReadError
 head_refusal [] = Some (fault_on 1 kind.NoEnd)
 head_refusal (line ∷ rest) = or_behind 2 rest (name_line_fault line) (box_refusal (scale_of (at (fields_behind line) 3)) rest)
 
--- from the first line on; a file of no lines lacks its first line
+-- from the first line on; a file of no lines lacks its end alone
 unfoldable pub first_refusal : List (List ℕ) → Option ReadError
-first_refusal [] = Some (fault_on 1 kind.BadLine)
+first_refusal [] = Some (fault_on 1 kind.NoEnd)
 first_refusal (line ∷ rest) = or_behind 1 rest (version_fault line) (head_refusal rest)
 
 -- the error is this refusal, or memory has run out

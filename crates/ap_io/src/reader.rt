@@ -163,7 +163,7 @@ fn version(alloc: Global, lines: &mut Lines) -> Result<(), ReadError>
     ensures refused { IfErr result (λ e. first_refusal (map without_return lines.old) ≡ Some e) }
 {
     let Some(line) = lines.next_line() else {
-        return Err(fault_on(alloc, 1, FaultKind::BadLine));
+        return Err(fault_on(alloc, 1, FaultKind::NoEnd));
     };
     let line = without_return(line);
     match version_fault(line) {

@@ -88,7 +88,7 @@ keeping_off c shapes name n r strip_ is same at keeps =
     (subst (λ (m : Name). All (KeepsOff shapes m strip_) shapes) (sym same)
     (subst (λ (xs : List Shape). All (KeepsOff xs name strip_) xs) (sym is) b))
 
-list_any_from : {A : Type 0} (test : A → Bool) (xs : List A) (x : A) → In x xs → test x ≡ true → list_any test xs ≡ true
+pub list_any_from : {A : Type 0} (test : A → Bool) (xs : List A) (x : A) → In x xs → test x ≡ true → list_any test xs ≡ true
 list_any_from test [] x h is = elim h [ ]
 list_any_from test (y ∷ xs) x here is = rw is refl
 list_any_from test (y ∷ xs) x (there h) is = by (test y) (list_any test xs) (list_any_from test xs x h is) where
@@ -96,11 +96,11 @@ list_any_from test (y ∷ xs) x (there h) is = by (test y) (list_any test xs) (l
   by true b e = refl
   by false b e = e
 
-named_told : (m : Name) (o : Option Name) → o ≡ Some m → is_named m o ≡ true
+pub named_told : (m : Name) (o : Option Name) → o ≡ Some m → is_named m o ≡ true
 named_told m None h = absurd (cc h)
 named_told m (Some x) h = let e : x ≡ m = cc in rw e (same_name-itself m)
 
-named_so : (m : Name) (o : Option Name) → is_named m o ≡ true → o ≡ Some m
+pub named_so : (m : Name) (o : Option Name) → is_named m o ≡ true → o ≡ Some m
 named_so m None h = absurd (cc h)
 named_so m (Some x) h = ap (λ v. Some v) (same_name-true x m h)
 
@@ -108,7 +108,7 @@ named_so m (Some x) h = ap (λ v. Some v) (same_name-true x m h)
 abbrev pub node_test : Cell → Name → Point → Shape → Bool
 node_test c pin q s = nat_eq s.metal 1 && is_named pin s.name && holds (from_corner c s.rect) (square q.0 q.1 (pos PAD_WIDTH))
 
-within_told : (a b : Rect) → Within a b → holds b a ≡ true
+pub within_told : (a b : Rect) → Within a b → holds b a ≡ true
 within_told a b w =
     four_and (int_le b.x1 a.x1) (int_le a.x2 b.x2) (int_le b.y1 a.y1) (int_le a.y2 b.y2)
     (told (int_le b.x1 a.x1) w.left.le) (told (int_le a.x2 b.x2) w.right.le) (told (int_le b.y1 a.y1) w.low.le) (told (int_le a.y2 b.y2) w.high.le)

@@ -5,3 +5,4 @@ pub mod Numbers
 pub mod Layouts
 pub mod PinsApart
 pub mod Firsts
+pub mod NodeLemmas

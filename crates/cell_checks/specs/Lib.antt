@@ -2,3 +2,4 @@ pub mod Checks
 pub mod Shapes
 pub mod Verdict
 pub mod Checked
+pub mod Nodes

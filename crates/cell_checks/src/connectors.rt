@@ -60,7 +60,7 @@ pub fn pin_names(alloc: Global, pins: &[Pin]) -> Result<Vec<Name>, AllocError>
 fn is_among<'a>(index: &NameIndex<'a>, names: &[Name], name: &'a Name) -> bool
     ensures { IsTrue result ↔ In name.now names.now }
 {
-    if let Some(k) = index.guess(name.text.as_bytes(), name.bit) {
+    if let Some(k) = index.find(name.text.as_bytes(), name.bit) {
         if k < names.len() && names[k].is_same(name) {
             return true;
         }

@@ -6,6 +6,7 @@ mod connectors;
 mod joined;
 mod layout;
 mod library;
+mod nodes;
 mod row;
 mod shapes;
 mod verdict;

@@ -9,9 +9,9 @@ loop-a-init c = record { many = refl; grouped = grouped_start c.args.groups.now 
 
 pub loop-a-preserved : goal.loop-a-preserved
 loop-a-preserved c = record {
-  many = sym c.join.ensures.many ∙ c.loop-a.invariant.many;
+  many = sym c.join.ensures.joins.many ∙ c.loop-a.invariant.many;
   grouped = subst (λ (js : List (ℕ × ℕ)). IsGrouped js c.join.new.self) (sym (take_more c.args.joins.now c.loop-a.a-index (0, 0) c.loop-a-test.true))
-      (grouped_step (take c.loop-a.a-index c.args.joins.now) c.loop-a.groups c.join.new.self (get_or c.args.joins.now c.loop-a.a-index (0, 0)).0 (get_or c.args.joins.now c.loop-a.a-index (0, 0)).1 c.loop-a.invariant.grouped c.join.ensures);
+      (grouped_step (take c.loop-a.a-index c.args.joins.now) c.loop-a.groups c.join.new.self (get_or c.args.joins.now c.loop-a.a-index (0, 0)).0 (get_or c.args.joins.now c.loop-a.a-index (0, 0)).1 c.loop-a.invariant.grouped c.join.ensures.joins);
 }
 
 pub returns-clause-joined : goal.returns-clause-joined
