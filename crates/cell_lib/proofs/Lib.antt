@@ -1,3 +1,4 @@
+mod Forming
 mod Loading
 mod Making
 mod Telling
