@@ -39,7 +39,7 @@ use Rattle.ap_io.proofs.Parts.{not_blank, box_near}
 
 -- ---- coordinates
 
-size_signed : (minus : Bool) (n : ℕ) → nat_abs (signed minus n) ≡ n
+pub size_signed : (minus : Bool) (n : ℕ) → nat_abs (signed minus n) ≡ n
 size_signed false n = refl
 size_signed true zero = refl
 size_signed true (suc n) = refl
@@ -71,7 +71,7 @@ wide_field k text z width is =
 
 -- ---- what a line without a fault has
 
-fault_of : (c : ℕ) (k : Scale) (taken : Bool) (line : List ℕ) → is_blank_line line ≡ false → item_fault k taken line ≡ None → letter_of line ≡ Some c → fault_by (Some c) k taken line ≡ None
+pub fault_of : (c : ℕ) (k : Scale) (taken : Bool) (line : List ℕ) → is_blank_line line ≡ false → item_fault k taken line ≡ None → letter_of line ≡ Some c → fault_by (Some c) k taken line ≡ None
 fault_of c k taken line some clean letter = sym (ap (λ (o : Option ℕ). fault_by o k taken line) letter) ∙ not_blank taken k line some clean
 
 limits : (long far : Option ℕ) → limit_fault long far ≡ None → (long ≡ None) × (far ≡ None)
@@ -79,7 +79,7 @@ limits (Some n) far h = absurd (cc)
 limits None (Some n) h = absurd (cc)
 limits None None h = (refl, refl)
 
-one_test : (form : Bool) (limit : Option LineFault) → (if not form then Some BadLine else limit) ≡ None → (form ≡ true) × (limit ≡ None)
+pub one_test : (form : Bool) (limit : Option LineFault) → (if not form then Some BadLine else limit) ≡ None → (form ≡ true) × (limit ≡ None)
 one_test true limit h = (refl, h)
 one_test false limit h = absurd (cc)
 
@@ -88,28 +88,28 @@ two_tests true true other limit h = absurd (cc)
 two_tests true false other limit h = (refl, h)
 two_tests false missing other limit h = absurd (cc)
 
-segment_clean : (k : Scale) (f : List (List ℕ)) → segment_fault k f ≡ None → (is_segment f ≡ true) × (long_name (at f 5) ≡ None) × (far_coordinate k (take 5 f) ≡ None)
+pub segment_clean : (k : Scale) (f : List (List ℕ)) → segment_fault k f ≡ None → (is_segment f ≡ true) × (long_name (at f 5) ≡ None) × (far_coordinate k (take 5 f) ≡ None)
 segment_clean k f h =
     let both = two_tests (is_segment f) (is_none (layer_of (at f 7))) BadLayer (limit_fault (long_name (at f 5)) (far_coordinate k (take 5 f))) h in
     let near = limits (long_name (at f 5)) (far_coordinate k (take 5 f)) both.1 in (both.0, near.0, near.1)
 
-connector_clean : (k : Scale) (f : List (List ℕ)) → connector_fault k f ≡ None → (is_connector f ≡ true) × (long_name (at f 3) ≡ None) × (far_coordinate k (take 3 f) ≡ None)
+pub connector_clean : (k : Scale) (f : List (List ℕ)) → connector_fault k f ≡ None → (is_connector f ≡ true) × (long_name (at f 3) ≡ None) × (far_coordinate k (take 3 f) ≡ None)
 connector_clean k f h =
     let both = two_tests (is_connector f) (is_none (layer_of (at f 6))) BadLayer (limit_fault (long_name (at f 3)) (far_coordinate k (take 3 f))) h in
     let near = limits (long_name (at f 3)) (far_coordinate k (take 3 f)) both.1 in (both.0, near.0, near.1)
 
-via_clean : (k : Scale) (f : List (List ℕ)) → via_fault k f ≡ None → (is_via f ≡ true) × (long_name (at f 3) ≡ None) × (far_coordinate k (take 2 f) ≡ None)
+pub via_clean : (k : Scale) (f : List (List ℕ)) → via_fault k f ≡ None → (is_via f ≡ true) × (long_name (at f 3) ≡ None) × (far_coordinate k (take 2 f) ≡ None)
 via_clean k f h =
     let both = one_test (is_via f) (limit_fault (long_name (at f 3)) (far_coordinate k (take 2 f))) h in
     let near = limits (long_name (at f 3)) (far_coordinate k (take 2 f)) both.1 in (both.0, near.0, near.1)
 
-instance_clean : (k : Scale) (taken : Bool) (f : List (List ℕ)) → instance_fault k taken f ≡ None
+pub instance_clean : (k : Scale) (taken : Bool) (f : List (List ℕ)) → instance_fault k taken f ≡ None
     → (is_instance taken f ≡ true) × (option_or (long_name (at f 2)) (long_name (at f 3)) ≡ None) × (far_coordinate k (take 2 f) ≡ None)
 instance_clean k taken f h =
     let both = two_tests (is_instance taken f) (is_none (transform_of (at f 4))) BadTransform (limit_fault (option_or (long_name (at f 2)) (long_name (at f 3))) (far_coordinate k (take 2 f))) h in
     let near = limits (option_or (long_name (at f 2)) (long_name (at f 3))) (far_coordinate k (take 2 f)) both.1 in (both.0, near.0, near.1)
 
-reference_clean : (k : Scale) (f : List (List ℕ)) → reference_fault k f ≡ None → (is_reference f ≡ true) × (long_name (at f 2) ≡ None) × (far_coordinate k (take 2 f) ≡ None)
+pub reference_clean : (k : Scale) (f : List (List ℕ)) → reference_fault k f ≡ None → (is_reference f ≡ true) × (long_name (at f 2) ≡ None) × (far_coordinate k (take 2 f) ≡ None)
 reference_clean k f h =
     let both = one_test (is_reference f) (limit_fault (long_name (at f 2)) (far_coordinate k (take 2 f))) h in
     let near = limits (long_name (at f 2)) (far_coordinate k (take 2 f)) both.1 in (both.0, near.0, near.1)
@@ -120,7 +120,7 @@ neither (Some n) b h = absurd (cc)
 
 -- ---- the parts of a form
 
-connector_form : (f : List (List ℕ)) → is_connector f ≡ true → (is_width (at f 2) ≡ true) × (is_label (at f 3) ≡ true) × (is_index (at f 4) ≡ true)
+pub connector_form : (f : List (List ℕ)) → is_connector f ≡ true → (is_width (at f 2) ≡ true) × (is_label (at f 3) ≡ true) × (is_index (at f 4) ≡ true)
 connector_form f h =
     let five = both_true ((length f == 7) && list_all is_number (take 2 f) && is_width (at f 2) && is_label (at f 3) && is_index (at f 4)) (is_some (side_of (at f 5))) h in
     let four = both_true ((length f == 7) && list_all is_number (take 2 f) && is_width (at f 2) && is_label (at f 3)) (is_index (at f 4)) five.0 in
@@ -128,21 +128,21 @@ connector_form f h =
     let two = both_true ((length f == 7) && list_all is_number (take 2 f)) (is_width (at f 2)) three.0 in
     (two.1, three.1, four.1)
 
-segment_form : (f : List (List ℕ)) → is_segment f ≡ true → (is_width (at f 4) ≡ true) × (is_label (at f 5) ≡ true) × (is_along (direction_of (at f 6)) f ≡ true)
+pub segment_form : (f : List (List ℕ)) → is_segment f ≡ true → (is_width (at f 4) ≡ true) × (is_label (at f 5) ≡ true) × (is_along (direction_of (at f 6)) f ≡ true)
 segment_form f h =
     let four = both_true ((length f == 8) && list_all is_number (take 4 f) && is_width (at f 4) && is_label (at f 5)) (is_along (direction_of (at f 6)) f) h in
     let three = both_true ((length f == 8) && list_all is_number (take 4 f) && is_width (at f 4)) (is_label (at f 5)) four.0 in
     let two = both_true ((length f == 8) && list_all is_number (take 4 f)) (is_width (at f 4)) three.0 in
     (two.1, three.1, four.1)
 
-instance_form : (taken : Bool) (f : List (List ℕ)) → is_instance taken f ≡ true → (is_identifier (at f 2) ≡ true) × (is_identifier (at f 3) ≡ true) × (not taken ≡ true)
+pub instance_form : (taken : Bool) (f : List (List ℕ)) → is_instance taken f ≡ true → (is_identifier (at f 2) ≡ true) × (is_identifier (at f 3) ≡ true) × (not taken ≡ true)
 instance_form taken f h =
     let four = both_true ((length f == 5) && list_all is_number (take 2 f) && is_identifier (at f 2) && is_identifier (at f 3)) (not taken) h in
     let three = both_true ((length f == 5) && list_all is_number (take 2 f) && is_identifier (at f 2)) (is_identifier (at f 3)) four.0 in
     let two = both_true ((length f == 5) && list_all is_number (take 2 f)) (is_identifier (at f 2)) three.0 in
     (two.1, three.1, four.1)
 
-reference_form : (f : List (List ℕ)) → is_reference f ≡ true → (is_identifier (at f 2) ≡ true) × (list_all is_text_byte (at f 3) ≡ true)
+pub reference_form : (f : List (List ℕ)) → is_reference f ≡ true → (is_identifier (at f 2) ≡ true) × (list_all is_text_byte (at f 3) ≡ true)
 reference_form f h =
     let three = both_true ((length f == 4) && list_all is_number (take 2 f) && is_identifier (at f 2)) (list_all is_text_byte (at f 3)) h in
     let two = both_true ((length f == 4) && list_all is_number (take 2 f)) (is_identifier (at f 2)) three.0 in
@@ -250,7 +250,7 @@ item_wide k taken line (item.Reference r) some clean is = tt
 item_wide k taken line (item.Remark text) some clean is = tt
 
 -- what each line without a fault gives holds of all items
-all_items : (P : Item → Type 0) (k : Scale)
+pub all_items : (P : Item → Type 0) (k : Scale)
     → ((taken : Bool) (line : List ℕ) (one : Item) → is_blank_line line ≡ false → item_fault k taken line ≡ None → IsItem k line one → P one)
     → (names lines : List (List ℕ)) (items : List Item) → AreItems k names lines items → All P items
 all_items P k each names [] items none = elim none [ ]
@@ -280,7 +280,7 @@ box_ready bytes f is =
 
 -- ---- the name
 
-head_clean : (letter : Bool) (f : List (List ℕ)) → (if letter then head_fault f else Some BadLine) ≡ None → (is_head f ≡ true) × (long_name (at f 0) ≡ None)
+pub head_clean : (letter : Bool) (f : List (List ℕ)) → (if letter then head_fault f else Some BadLine) ≡ None → (is_head f ≡ true) × (long_name (at f 0) ≡ None)
 head_clean false f h = absurd (cc)
 head_clean true f h =
     let both = one_test (is_head f) (limit_fault (long_name (at f 0)) None) h in (both.0, (limits (long_name (at f 0)) None both.1).0)

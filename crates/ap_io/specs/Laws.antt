@@ -1,8 +1,9 @@
 -- What follows from the definitions of an ap file and of its refusals.
-use Rattle.std.specs.Prelude.{◌≡◌, ℕ, List}
+use Rattle.std.specs.Prelude.{◌≡◌, ℕ, ◌<◌, List, length}
 use Rattle.vlsi_base.specs.declared.fault.ReadError.{ReadError}
 use Rattle.ap_io.specs.declared.figure.Figure.{Figure}
 use Rattle.ap_io.specs.ApText.{IsFigure, IsWithinLimits, IsApText}
+use Rattle.ap_io.specs.Within.{IsWithin}
 use Rattle.ap_io.specs.Spelling.{text_of}
 use Rattle.ap_io.specs.Refusal.{Refused}
 
@@ -21,3 +22,8 @@ OneRefusal = (bytes : List ℕ) (d e : ReadError) → Refused bytes d → Refuse
 -- What is written of a figure that the format can hold, and that is within the limits, is the ap file of this figure.
 abbrev pub WrittenIsReadAgain : Type 0
 WrittenIsReadAgain = (f : Figure) → IsFigure f → IsWithinLimits f → IsApText (text_of f) f
+
+-- The figure of an ap file is one that the format can hold, it is within the limits, and it has fewer items than the file has
+-- bytes.
+abbrev pub ReadIsAFigure : Type 0
+ReadIsAFigure = (bytes : List ℕ) (f : Figure) → IsApText bytes f → IsFigure f × IsWithin f × (length f.items < length bytes)

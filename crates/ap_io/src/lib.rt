@@ -20,7 +20,7 @@ mod writer;
 
 pub use fault::LineFault;
 pub use figure::Figure;
-pub use laws::{never_both, one_figure, one_refusal};
+pub use laws::{never_both, one_figure, one_refusal, what_is_read_is_a_figure};
 pub use limits::{MOST_COORDINATE, MOST_NAME_BYTES};
 pub use reader::read_ap;
 pub use scale::Scale;
