@@ -1,5 +1,5 @@
 -- What is known of each cell that its two files say.
-use Rattle.std.proofs.Common.{◌≡◌, ℕ, zero, suc, ◌+◌, ◌^◌, ◌<◌, ◌≤◌, Bool, true, false, not, cond, List, [], ◌∷◌, ◌++◌, map, length, get_or, Option, None, Some, All, AllPairs, refl, sym, ◌∙◌, ap, subst, arith, ⊎_elim}
+use Rattle.std.proofs.Common.{◌≡◌, ℕ, zero, suc, ◌+◌, ◌^◌, ◌<◌, ◌≤◌, Bool, true, false, not, cond, List, [], ◌∷◌, ◌++◌, map, length, get_or, Option, None, Some, All, AllPairs, refl, sym, ◌∙◌, ap, subst, arith, inl, inr, ⊎_elim}
 use Rattle.std.specs.Prelude.{◌≢◌, filter, ℤ, IsTrue}
 use Rattle.std.specs.declared.cmp.Ordering.TheVariants.{Less, Greater}
 use Rattle.std.specs.Ordering.{is_lt, ordering_reverse}
@@ -11,7 +11,8 @@ use Rattle.std.proofs.lemmas.List.Sorted.{IsPermutation-sym}
 use Rattle.vlsi_base.specs.declared.name.Name.{Name}
 use Rattle.vlsi_base.specs.declared.name.Port.{Port}
 use Rattle.vlsi_base.specs.declared.name.Dir.{Dir}
-use Rattle.vlsi_base.specs.declared.name.Range.{Range}
+use Rattle.vlsi_base.specs.declared.range.Range.{Range}
+use Rattle.vlsi_base.specs.Range.{range_bits}
 use Rattle.vlsi_base.specs.Member.{In, here, there, AllDifferent}
 use Rattle.vlsi_base.specs.Name.{name_cmp, is_supply}
 use Rattle.vlsi_base.specs.Names.{vdd, vss, comes_before}
@@ -24,7 +25,7 @@ use Rattle.machine_core.specs.Checked.{AreInOrder, IsNoSupply, IsChecked}
 use Rattle.machine_core.proofs.Names.{same_name-true, same_name-itself, same_name-false}
 use Rattle.source_meaning.specs.declared.statement.DesignFile.{DesignFile}
 use Rattle.source_meaning.specs.declared.symbol_table.Symbol.{Symbol}
-use Rattle.source_meaning.specs.Symbols.{symbols, symbol_names, names_in, bit_name, range_bits}
+use Rattle.source_meaning.specs.Symbols.{symbols, symbol_names, names_in, bit_name}
 use Rattle.vlsi_model.proofs.Members.{In-cases, Sub, none, keep, skip, different_Sub}
 use Rattle.vlsi_model.proofs.Assembly.{In-permutation, supply_not}
 use Rattle.vbe_io.specs.declared.cell_text.GenericValue.{GenericValue}
@@ -40,6 +41,7 @@ use Rattle.ap_io.specs.declared.figure.Figure.{Figure}
 use Rattle.ap_io.specs.ApText.{IsNear, IsItemWithin, IsApText}
 use Rattle.ap_io.specs.Within.{IsWide}
 use Rattle.ap_io.proofs.Within.{items_within, widths_positive, box_ready, few_items}
+use Rattle.ap_io.proofs.Figures.{what_is_read}
 use Rattle.cell_model.specs.declared.function.Function.{Function as Parts}
 use Rattle.cell_model.specs.declared.function.Function.TheVariants as parts
 use Rattle.cell_model.specs.declared.cell.Pin.{Pin}
@@ -114,14 +116,14 @@ one_less k (n ∷ l) d h =
 
 In-filter : (p : Name → Bool) (x : Name) (l : List Name) → In x (filter p l) → In x l × (p x ≡ true)
 In-filter p x [] h = elim h [ ]
-In-filter p x (y ∷ l) h = by (p y) refl h where
-  by : (b : Bool) → p y ≡ b → In x (cond b (y ∷ filter p l) (filter p l)) → In x (y ∷ l) × (p x ≡ true)
-  by true e i =
+In-filter p x (y ∷ l) h = by (p y) (In-filter p x l) refl h where
+  by : (b : Bool) → (In x (filter p l) → In x l × (p x ≡ true)) → p y ≡ b → In x (cond b (y ∷ filter p l) (filter p l)) → In x (y ∷ l) × (p x ≡ true)
+  by true rest e i =
       elim (In-cases x y (filter p l) i) [
         | inl same ↦ (subst (λ (z : Name). In z (y ∷ l)) same here, subst (λ (z : Name). p z ≡ true) same e)
-        | inr j ↦ let r = In-filter p x l j in (there r.0, r.1)
+        | inr j ↦ let r = rest j in (there r.0, r.1)
       ]
-  by false e i = let r = In-filter p x l i in (there r.0, r.1)
+  by false rest e i = let r = rest i in (there r.0, r.1)
 
 -- ---- the function fits the pins
 
@@ -263,7 +265,7 @@ drawable layout f t =
     let box = box_ready layout f t in
     let few = t.few in
     record {
-      rect = box_is_rect layout f t;
+      rect = (what_is_read layout f t).0.box;
       coordinates = record { x1 = coordinate f.bounds.x1 box.0; y1 = coordinate f.bounds.y1 box.1; x2 = coordinate f.bounds.x2 box.2; y2 = coordinate f.bounds.y2 box.3 };
       ready = λ k d h. item_ready (get_or f.items k d) (within k d h) (wide k d h);
       few = omega (arith, few_items layout f t, few);

@@ -1,4 +1,5 @@
 mod Forming
+mod Judging
 mod Loading
 mod Making
 mod Telling
