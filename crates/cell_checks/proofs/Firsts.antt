@@ -1,5 +1,5 @@
 -- The first check that a mappable cell fails.
-use Rattle.std.proofs.Common.{◌≡◌, ℕ, suc, ◌*◌, ◌^◌, ◌<◌, ◌≤◌, Bool, true, false, IsTrue, List, [], ◌∷◌, length, Option, None, Some, All, refl, sym, ap, subst, arith, length-append, ⊎_elim}
+use Rattle.std.proofs.Common.{◌≡◌, ℕ, suc, ◌*◌, ◌^◌, ◌<◌, ◌≤◌, Bool, true, false, IsTrue, List, [], ◌∷◌, length, Option, None, Some, All, refl, sym, ap, subst, ◌∙◌, arith, length-append, ⊎_elim}
 use Rattle.vlsi_base.specs.declared.name.Name.{Name}
 use Rattle.vlsi_base.specs.Member.{In, here, there}
 use Rattle.sym_geom.specs.declared.rect.Rect.{Rect}
@@ -93,8 +93,13 @@ passes_all tracks c f apart within gaps columns check.RailGaps = λ m. gaps
 passes_all tracks c f apart within gaps columns check.Columns = λ m is. columns is
 
 -- without tracks columns may be the same
-pub passes_without : (c : Cell) → PassesFirst c → PinsAreApart c → KeepsToItsBox c → KeepsFromRails c → (k : Check) → PassesCheck false c k
-passes_without c f apart within gaps = passes_all false c f apart within gaps (λ is. absurd (let h : false ≡ true = is in cc))
+pub passes_without : (tracks : Bool) (c : Cell) → tracks ≡ false → PassesFirst c → PinsAreApart c → KeepsToItsBox c → KeepsFromRails c
+    → (k : Check) → PassesCheck tracks c k
+passes_without tracks c none f apart within gaps = passes_all tracks c f apart within gaps (λ is. absurd (let h : false ≡ true = sym none ∙ is in cc))
+
+pub passes_with : (tracks : Bool) (c : Cell) → PassesFirst c → PinsAreApart c → KeepsToItsBox c → KeepsFromRails c → ColumnsDiffer c
+    → (k : Check) → PassesCheck tracks c k
+passes_with tracks c f apart within gaps differ = passes_all tracks c f apart within gaps (λ is. differ)
 
 -- shapes that are drawn belong to no instance
 wire_owner : (m : Option ℕ) (line : ℕ) (r : Rect) (name : Option Name) (s : Shape) → In s (on_metal m line r name) → s.owner ≡ None

@@ -6,3 +6,7 @@ pub mod Layouts
 pub mod PinsApart
 pub mod Firsts
 pub mod NodeLemmas
+pub mod BareColumns
+pub mod NodeFronts
+pub mod NodeColumns
+pub mod OtherColumns

@@ -1,7 +1,8 @@
 -- Loops over a list that stop at the first element without a property.
-use Rattle.std.proofs.Common.{◌≡◌, ℕ, ◌+◌, ◌<◌, List, length, get_or, take, AllPairs, true, not, nat_eq, All, inl, inr, subst, sym, arith}
+use Rattle.std.proofs.Common.{◌≡◌, ℕ, ◌+◌, ◌<◌, List, length, get_or, take, AllPairs, true, not, nat_eq, All, inl, inr, Some, subst, sym, ◌∙◌, arith}
 use Rattle.std.proofs.lemmas.Bool.{cases_lt}
 use Rattle.std.proofs.lemmas.List.{get_or_read, get_or-take, length-take}
+use Rattle.std.proofs.lemmas.Option.{slice_get-get_or}
 use Rattle.std.proofs.lemmas.Bool.Decides.{nat_tests}
 
 -- the first n elements have the property
@@ -43,3 +44,8 @@ differ a b h e = grind (arith, nat_tests)
 
 pub differs : (a b : ℕ) → (a ≡ b → ⊥) → not (nat_eq a b) ≡ true
 differs a b h = grind (arith, nat_tests)
+
+-- an element read with a default, by itself
+pub read_itself : {A : Type 0} (xs : List A) (n : ℕ) (d : A) → n < length xs → get_or xs n d ≡ get_or xs n (get_or xs n d)
+read_itself xs n d lt =
+    let e : Some (get_or xs n d) ≡ Some (get_or xs n (get_or xs n d)) = sym (slice_get-get_or xs n d lt) ∙ slice_get-get_or xs n (get_or xs n d) lt in cc

@@ -33,7 +33,7 @@ pad_node c name a b row any =
     (rw (number_told r.0.metal 1 r.2.metal, named_told name r.0.name r.2.named,
       within_told (square (pos (PITCH * a)) (pos (PITCH * b)) (pos PAD_WIDTH)) (from_corner c r.0.rect) w) refl)
 
-node_pad : (c : Cell) (name : Name) (a b : ℕ) → StandsInRow c → is_access_node c name (pos (PITCH * a), pos (PITCH * b)) ≡ true
+pub node_pad : (c : Cell) (name : Name) (a b : ℕ) → StandsInRow c → is_access_node c name (pos (PITCH * a), pos (PITCH * b)) ≡ true
     → Any (IsRail name (square (pos (PITCH * a)) (pos (PITCH * b)) (pos PAD_WIDTH))) (drawn c.items)
 node_pad c name a b row node =
     let found = list_any_In (node_test c name (pos (PITCH * a), pos (PITCH * b))) (drawn c.items) node in

@@ -44,7 +44,7 @@ reversed Less h = absurd cc
 reversed Equal h = refl
 reversed Greater h = refl
 
-before_differs : (a b : Name) → IsTrue (comes_before a b) → a ≢ b
+pub before_differs : (a b : Name) → IsTrue (comes_before a b) → a ≢ b
 before_differs a b h e =
     let f : comes_before a a ≡ true = subst (λ (n : Name). comes_before a n ≡ true) (sym e) h in
     let g : is_lt (name_cmp a a) ≡ false = reversed (name_cmp a a) (name_total.antisymm a a) in

@@ -1,11 +1,12 @@
 // The first check that a cell fails, and its verdict.
-ghost use Rattle.std.specs.Prelude.{◌≡◌, false, IfOk};
+ghost use Rattle.std.specs.Prelude.{◌≡◌, IfOk};
 ghost use Rattle.cell_model.specs.Usable.{IsFormed, IsMappable};
 ghost use Rattle.cell_model.specs.Connectors.{PinsAreConnectors};
 ghost use Rattle.sym_shapes.specs.Shape.{drawn};
 ghost use Rattle.cell_checks.specs.Shapes.{AreNumbered, wanted};
 ghost use Rattle.cell_checks.specs.Verdict.{PassesFirst, IsFirstFailure, IsVerdict};
 
+use crate::columns::columns_differ;
 use crate::connectors::{pin_names, pins_are_connectors};
 use crate::layout::{has_rails, keeps_from_rails, keeps_to_box, pins_are_apart, reaches_pins};
 use crate::row::{columns_of, stands_in_row};
@@ -25,20 +26,21 @@ fn numbered(alloc: Global, cell: &Cell, shapes: &[Shape]) -> Result<Vec<u32>, Al
     joints(alloc, shapes)
 }
 
-/// The first check of joined shapes that a mappable cell fails.
-#[tactic(auto, using(crate::proofs::Firsts::fails_apart, crate::proofs::Firsts::fails_within, crate::proofs::Firsts::passes_without))]
+/// The first check of joined shapes, and with tracks of columns, that a mappable cell fails.
+#[tactic(auto, using(crate::proofs::Firsts::fails_apart, crate::proofs::Firsts::fails_within, crate::proofs::Firsts::passes_without, crate::proofs::Firsts::passes_with))]
 fn joined_failure(
     alloc: Global,
     cell: &Cell,
     shapes: &[Shape],
     names: &[Name],
+    tracks: bool,
 ) -> Result<Option<Check>, AllocError>
     requires formed { IsFormed cell.now }
     requires mappable { IsMappable cell.now }
     requires before { PassesFirst cell.now }
     requires shapes { shapes.now ≡ drawn cell.now.items }
     requires names { names.now ≡ wanted cell.now }
-    ensures { IfOk result (λ found. IsFirstFailure false cell.now found) }
+    ensures { IfOk result (λ found. IsFirstFailure tracks cell.now found) }
 {
     let numbers = numbered(alloc, cell, shapes)?;
     if !pins_are_apart(cell, shapes, &numbers, names) {
@@ -50,16 +52,22 @@ fn joined_failure(
     if !keeps_from_rails(cell, shapes, &numbers, names) {
         return Ok(Some(Check::RailGaps));
     }
+    if !tracks {
+        return Ok(None);
+    }
+    if !columns_differ(alloc, cell, shapes)? {
+        return Ok(Some(Check::Columns));
+    }
     Ok(None)
 }
 
 /// The first check that a mappable cell fails behind that of its connectors.
 #[tactic(auto, using(crate::proofs::Firsts::fails_box, crate::proofs::Firsts::fails_rails, crate::proofs::Firsts::fails_access))]
-fn layout_failure(alloc: Global, cell: &Cell) -> Result<Option<Check>, AllocError>
+fn layout_failure(alloc: Global, cell: &Cell, tracks: bool) -> Result<Option<Check>, AllocError>
     requires formed { IsFormed cell.now }
     requires connectors { PinsAreConnectors cell.now }
     requires mappable { IsMappable cell.now }
-    ensures { IfOk result (λ found. IsFirstFailure false cell.now found) }
+    ensures { IfOk result (λ found. IsFirstFailure tracks cell.now found) }
 {
     if !stands_in_row(cell) {
         return Ok(Some(Check::Box));
@@ -72,13 +80,13 @@ fn layout_failure(alloc: Global, cell: &Cell) -> Result<Option<Check>, AllocErro
     if !reaches_pins(cell, &shapes) {
         return Ok(Some(Check::Access));
     }
-    joined_failure(alloc, cell, &shapes, &names)
+    joined_failure(alloc, cell, &shapes, &names, tracks)
 }
 
 /// The first check that a cell fails.
-fn first_failure(alloc: Global, cell: &Cell) -> Result<Option<Check>, AllocError>
+fn first_failure(alloc: Global, cell: &Cell, tracks: bool) -> Result<Option<Check>, AllocError>
     requires formed { IsFormed cell.now }
-    ensures { IfOk result (λ found. IsFirstFailure false cell.now found) }
+    ensures { IfOk result (λ found. IsFirstFailure tracks cell.now found) }
 {
     if !pins_are_connectors(alloc, cell)? {
         return Ok(Some(Check::Connectors));
@@ -86,16 +94,16 @@ fn first_failure(alloc: Global, cell: &Cell) -> Result<Option<Check>, AllocError
     if !is_mappable(cell) {
         return Ok(None);
     }
-    layout_failure(alloc, cell)
+    layout_failure(alloc, cell, tracks)
 }
 
-/// What the checks of a cell come to, but for that of columns, which only tracks ask for. Takes memory for a few entries a line
-/// of its layout.
-pub fn check_cell(alloc: Global, cell: &Cell) -> Result<CellVerdict, AllocError>
+/// What the checks of a cell come to, where that of columns is made with tracks alone. Takes memory for a few entries a line of
+/// its layout.
+pub fn check_cell(alloc: Global, cell: &Cell, tracks: bool) -> Result<CellVerdict, AllocError>
     requires { IsFormed cell.now }
-    ensures { IfOk result (λ verdict. IsVerdict false cell.now verdict) }
+    ensures { IfOk result (λ verdict. IsVerdict tracks cell.now verdict) }
 {
-    if let Some(check) = first_failure(alloc, cell)? {
+    if let Some(check) = first_failure(alloc, cell, tracks)? {
         return Ok(CellVerdict::Fails(check));
     }
     if !is_mappable(cell) {

@@ -2,6 +2,7 @@
 #![tactic(auto)]
 
 mod checker;
+mod columns;
 mod connectors;
 mod joined;
 mod layout;

@@ -184,7 +184,7 @@ fn fits_pad(low: &i64, high: &i64) -> bool
 }
 
 /// Whether a shape is a connector of this name on metal 1 that holds a pad about a point of the grid.
-fn reaches(shape: &Shape, name: &Name) -> bool
+pub fn reaches(shape: &Shape, name: &Name) -> bool
     ensures { IsTrue result ↔ IsReachedBy name.now shape.now }
 {
     if shape.metal() != 1 {
