@@ -1,5 +1,5 @@
 // The cells of a library, one after another.
-ghost use Rattle.std.specs.Prelude.{◌≡◌, false, IfOk, IfErr, drop};
+ghost use Rattle.std.specs.Prelude.{◌≡◌, IfOk, IfErr, drop};
 ghost use Rattle.cell_model.specs.Usable.{IsFormed};
 ghost use Rattle.cell_checks.specs.declared.verdict.CellVerdict.TheVariants.{Passes};
 ghost use Rattle.cell_checks.specs.Verdict.{IsVerdict};
@@ -16,13 +16,13 @@ use tool_drive::bytes_at;
 use vlsi_base::{FileBytes, Limit, LimitKind, Text};
 
 /// A cell that passes its checks.
-fn checked(alloc: Global, cell: Cell) -> Result<Cell, LibError>
+fn checked(alloc: Global, cell: Cell, tracks: bool) -> Result<Cell, LibError>
     requires { IsFormed cell }
     ensures same { IfOk result (λ c. c ≡ cell) }
-    ensures passes { IfOk result (λ c. IsVerdict false cell Passes) }
-    ensures err { IfErr result (λ e. OrMemory (IsCheckRefusal false cell) e) }
+    ensures passes { IfOk result (λ c. IsVerdict tracks cell Passes) }
+    ensures err { IfErr result (λ e. OrMemory (IsCheckRefusal tracks cell) e) }
 {
-    match check_cell(alloc, &cell)? {
+    match check_cell(alloc, &cell, tracks)? {
         CellVerdict::Passes => Ok(cell),
         CellVerdict::Fails(check) => Err(bad_cell(alloc, &cell.name, check.number())),
         CellVerdict::TooWide(columns) => Err(LibError::Limit(Limit {
@@ -33,12 +33,18 @@ fn checked(alloc: Global, cell: Cell) -> Result<Cell, LibError>
 }
 
 /// The cell of this name, from its two files.
-fn checked_cell(alloc: Global, name: &Text, vbe: &[u8], ap: &[u8]) -> Result<Cell, LibError>
-    ensures ok { IfOk result (λ c. IsCell false (record { name = name.now; vbe = vbe.now; ap = ap.now }) c) }
-    ensures err { IfErr result (λ e. OrMemory (IsCellRefusal false (record { name = name.now; vbe = vbe.now; ap = ap.now })) e) }
+fn checked_cell(
+    alloc: Global,
+    name: &Text,
+    vbe: &[u8],
+    ap: &[u8],
+    tracks: bool,
+) -> Result<Cell, LibError>
+    ensures ok { IfOk result (λ c. IsCell tracks (record { name = name.now; vbe = vbe.now; ap = ap.now }) c) }
+    ensures err { IfErr result (λ e. OrMemory (IsCellRefusal tracks (record { name = name.now; vbe = vbe.now; ap = ap.now })) e) }
 {
     let cell = said_cell(alloc, name, vbe, ap)?;
-    checked(alloc, cell)
+    checked(alloc, cell, tracks)
 }
 
 fn behind_two(files: &[FileBytes]) -> &[FileBytes]
@@ -53,14 +59,15 @@ pub(crate) fn cells_of(
     alloc: Global,
     names: &[Text],
     files: &[FileBytes],
+    tracks: bool,
 ) -> Result<Vec<Cell>, LibError>
-    ensures ok { IfOk result (λ cells. AreCells (IsCell false) (sources names.now files.now) cells.items) }
-    ensures err { IfErr result (λ e. OrMemory (IsFirstRefused (IsCell false) (IsCellRefusal false) (sources names.now files.now)) e) }
+    ensures ok { IfOk result (λ cells. AreCells (IsCell tracks) (sources names.now files.now) cells.items) }
+    ensures err { IfErr result (λ e. OrMemory (IsFirstRefused (IsCell tracks) (IsCellRefusal tracks) (sources names.now files.now)) e) }
 {
     let mut cells = Vec::new(alloc);
     let mut rest = files;
     for name in names {
-        match checked_cell(alloc, name, bytes_at(rest, 0), bytes_at(rest, 1)) {
+        match checked_cell(alloc, name, bytes_at(rest, 0), bytes_at(rest, 1), tracks) {
             Ok(cell) => cells.push(cell)?,
             Err(e) => return Err(e),
         }

@@ -1,4 +1,4 @@
-use Rattle.std.proofs.Common.{false, rules}
+use Rattle.std.proofs.Common.{rules}
 use Rattle.cell_lib.specs.Cells.{OrMemory}
 use Rattle.cell_lib.specs.Library.{IsCellRefusal}
 use Rattle.cell_lib.proofs.Forming.{formed}
@@ -7,8 +7,8 @@ use Rattle.cell_lib.proofs.cells.checked_cell.Goals as goal
 
 pub returns-in_err-cell-clause-err : goal.returns-in_err-cell-clause-err
 returns-in_err-cell-clause-err c =
-    let refused : OrMemory (IsCellRefusal false (record { name = c.args.name.now; vbe = c.args.vbe.now; ap = c.args.ap.now })) c.in_err-cell.field-0.0 =
-    unsaid_so false (record { name = c.args.name.now; vbe = c.args.vbe.now; ap = c.args.ap.now }) c.in_err-cell.field-0.0 c.in_err-cell.ensures.err in
+    let refused : OrMemory (IsCellRefusal c.args.tracks (record { name = c.args.name.now; vbe = c.args.vbe.now; ap = c.args.ap.now })) c.in_err-cell.field-0.0 =
+    unsaid_so c.args.tracks (record { name = c.args.name.now; vbe = c.args.vbe.now; ap = c.args.ap.now }) c.in_err-cell.field-0.0 c.in_err-cell.ensures.err in
     search rules
 
 pub checked-requires : goal.checked-requires
@@ -16,9 +16,9 @@ checked-requires c = formed (record { name = c.args.name.now; vbe = c.args.vbe.n
 
 pub returns-clause-ok : goal.returns-clause-ok
 returns-clause-ok c =
-    is_cell false (record { name = c.args.name.now; vbe = c.args.vbe.now; ap = c.args.ap.now }) c.in_ok-cell.cell c.checked.result c.in_ok-cell.ensures.ok c.checked.ensures.same
+    is_cell c.args.tracks (record { name = c.args.name.now; vbe = c.args.vbe.now; ap = c.args.ap.now }) c.in_ok-cell.cell c.checked.result c.in_ok-cell.ensures.ok c.checked.ensures.same
     c.checked.ensures.passes
 
 pub returns-clause-err : goal.returns-clause-err
 returns-clause-err c =
-    unfit_so false (record { name = c.args.name.now; vbe = c.args.vbe.now; ap = c.args.ap.now }) c.in_ok-cell.cell c.checked.result c.in_ok-cell.ensures.ok c.checked.ensures.err
+    unfit_so c.args.tracks (record { name = c.args.name.now; vbe = c.args.vbe.now; ap = c.args.ap.now }) c.in_ok-cell.cell c.checked.result c.in_ok-cell.ensures.ok c.checked.ensures.err
