@@ -1,6 +1,6 @@
 -- What is known of each cell that its two files say.
-use Rattle.std.proofs.Common.{◌≡◌, ℕ, zero, suc, ◌+◌, ◌^◌, ◌<◌, ◌≤◌, Bool, true, false, not, cond, List, [], ◌∷◌, ◌++◌, map, length, get_or, Option, None, Some, All, AllPairs, refl, sym, ◌∙◌, ap, subst, arith, inl, inr, ⊎_elim}
-use Rattle.std.specs.Prelude.{◌≢◌, filter, ℤ, IsTrue}
+use Rattle.std.proofs.Common.{◌≡◌, ℕ, zero, suc, ◌+◌, ◌^◌, ◌<◌, ◌≤◌, Bool, true, false, not, cond, List, [], ◌∷◌, ◌++◌, map, length, get_or, Option, None, Some, All, refl, sym, ◌∙◌, ap, subst, arith, inl, inr, ⊎_elim}
+use Rattle.std.specs.Prelude.{◌≢◌, filter, ℤ}
 use Rattle.std.specs.declared.cmp.Ordering.TheVariants.{Less, Greater}
 use Rattle.std.specs.Ordering.{is_lt, ordering_reverse}
 use Rattle.std.proofs.lemmas.Bool.{cond_both}
@@ -15,14 +15,14 @@ use Rattle.vlsi_base.specs.declared.range.Range.{Range}
 use Rattle.vlsi_base.specs.Range.{range_bits}
 use Rattle.vlsi_base.specs.Member.{In, here, there, AllDifferent}
 use Rattle.vlsi_base.specs.Name.{name_cmp, is_supply}
-use Rattle.vlsi_base.specs.Names.{vdd, vss, comes_before}
+use Rattle.vlsi_base.specs.Names.{vdd, vss}
 use Rattle.vlsi_base.proofs.NameOrder.{name_total}
 use Rattle.bool_expr.specs.Expression.{Expression, IsOver}
 use Rattle.bool_expr.specs.View.{view}
-use Rattle.machine_meaning.specs.Machine.{Machine, is_input, is_clock, names_of, input_ports, inputs, outputs}
+use Rattle.machine_meaning.specs.Machine.{Machine, is_input, is_clock, names_of, input_ports, inputs}
 use Rattle.machine_meaning.specs.Named.{is_same_name}
 use Rattle.machine_core.specs.Checked.{AreInOrder, IsNoSupply, IsChecked}
-use Rattle.machine_core.proofs.Names.{same_name-true, same_name-itself, same_name-false}
+use Rattle.machine_core.proofs.Names.{same_name-itself, same_name-false}
 use Rattle.source_meaning.specs.declared.statement.DesignFile.{DesignFile}
 use Rattle.source_meaning.specs.declared.symbol_table.Symbol.{Symbol}
 use Rattle.source_meaning.specs.Symbols.{symbols, symbol_names, names_in, bit_name}
@@ -45,7 +45,7 @@ use Rattle.ap_io.proofs.Figures.{what_is_read}
 use Rattle.cell_model.specs.declared.function.Function.{Function as Parts}
 use Rattle.cell_model.specs.declared.function.Function.TheVariants as parts
 use Rattle.cell_model.specs.declared.cell.Pin.{Pin}
-use Rattle.cell_model.specs.Function.{Function, gate, flip_flop, other, opaque}
+use Rattle.cell_model.specs.Function.{Function, gate, flip_flop}
 use Rattle.cell_model.specs.View.{function_view}
 use Rattle.cell_model.specs.Cell.{Cell, pin_ports, cell_inputs, cell_outputs}
 use Rattle.cell_model.specs.Usable.{FitsPins, IsFormed}

@@ -1,6 +1,6 @@
 -- From a cell that two files say, by its verdict, to a cell of a library or its refusal.
 use Rattle.std.proofs.Common.{◌≡◌, ℕ, Bool, true, false, List, [], ◌∷◌, map, All, AllPairs, Result, Ok, Err, IfOk, IfErr, refl, sym, ◌∙◌, ap, subst, arith}
-use Rattle.std.specs.Prelude.{◌≢◌, IsTrue, drop}
+use Rattle.std.specs.Prelude.{◌≢◌, drop}
 use Rattle.std.proofs.lemmas.List.Elements.{All-nil, All-cons}
 use Rattle.std.proofs.lemmas.List.Kept.{AllPairs-cons}
 use Rattle.vlsi_base.specs.Member.{In, AllDifferent}

@@ -15,11 +15,7 @@ use std::alloc::Global;
 /// read (1), its layout is read and has no instance (2), and the checks of its layout follow (3 to 9, and with tracks 10). Where a
 /// file passes a limit, this `Limit` stands in the place of its check; a mappable cell that passes all checks, but is wider than 32
 /// columns, is refused by `Limit` of `Width`. Memory goes by the bytes of the files.
-pub fn check_library(
-    alloc: Global,
-    files: &LibraryFiles,
-    tracks: bool,
-) -> Result<Library, LibError>
+pub fn check_library(alloc: Global, files: &LibraryFiles, tracks: bool) -> Result<Library, LibError>
     requires { AllDifferent files.now.names }
     ensures ok { IfOk result (λ library. AreLibrary tracks files.now library.cells) }
     ensures err { IfErr result (λ e. OrMemory (IsLibraryRefusal tracks files.now) e) }

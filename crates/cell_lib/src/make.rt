@@ -12,12 +12,7 @@ use vbe_io::CellText;
 use vlsi_base::Text;
 
 /// The cell of this name that a text and a layout say.
-fn make_cell(
-    alloc: Global,
-    name: &Text,
-    text: CellText,
-    figure: Figure,
-) -> Result<Cell, AllocError>
+fn make_cell(alloc: Global, name: &Text, text: CellText, figure: Figure) -> Result<Cell, AllocError>
     ensures name { IfOk result (λ c. c.name ≡ name.now) }
     ensures does { IfOk result (λ c. DoesAs text c) }
     ensures looks { IfOk result (λ c. LooksAs figure c) }
@@ -43,12 +38,7 @@ fn make_cell(
 }
 
 /// The cell of this name that its two files say, the behaviour read first.
-pub(crate) fn said_cell(
-    alloc: Global,
-    name: &Text,
-    vbe: &[u8],
-    ap: &[u8],
-) -> Result<Cell, LibError>
+pub(crate) fn said_cell(alloc: Global, name: &Text, vbe: &[u8], ap: &[u8]) -> Result<Cell, LibError>
     ensures ok { IfOk result (λ c. IsSaid (record { name = name.now; vbe = vbe.now; ap = ap.now }) c) }
     ensures err { IfErr result (λ e. OrMemory (IsUnsaid (record { name = name.now; vbe = vbe.now; ap = ap.now })) e) }
 {
