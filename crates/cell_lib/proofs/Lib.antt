@@ -1,3 +1,5 @@
+mod Forming
+mod Judging
 mod Loading
 mod Making
 mod Telling

@@ -11,7 +11,13 @@ use Rattle.ap_io.specs.ApText.{IsApText}
 use Rattle.ap_io.specs.Refusal.{Refused}
 use Rattle.cell_lib.specs.declared.error.LibError.{LibError}
 use Rattle.cell_lib.specs.declared.error.LibError.TheVariants as errors
-use Rattle.cell_lib.specs.declared.causes.TheConstants.{UNREAD_BEHAVIOUR, UNREAD_LAYOUT}
+
+-- the numbers of the checks of a cell's two files
+abbrev pub behaviour_check : ℕ
+behaviour_check = 1
+
+abbrev pub layout_check : ℕ
+layout_check = 2
 
 -- a fault of a cell's file is told by the number of its check, and a limit as it is
 abbrev pub told_as : List ℕ → ℕ → ReadError → LibError
@@ -23,7 +29,7 @@ told_as cell cause (reading.Limit l) = errors.Limit l
 pub record IsVbeRefusal (cell vbe : List ℕ) (e : LibError) : Type 0 where
   pub fault : ReadError
   pub refused : CellRefused vbe fault
-  pub told : e ≡ told_as cell UNREAD_BEHAVIOUR fault
+  pub told : e ≡ told_as cell behaviour_check fault
 
 abbrev pub is_instance : Item → Bool
 is_instance (item.Instance i) = true
@@ -36,6 +42,6 @@ pub record IsLayout (ap : List ℕ) (figure : Figure) : Type 0 where
 
 -- check 2: the ap is read, and has no instance
 pub data IsLayoutRefusal (cell ap : List ℕ) (e : LibError) : Type 0 where
-  unread : (fault : ReadError) → Refused ap fault → e ≡ told_as cell UNREAD_LAYOUT fault → IsLayoutRefusal cell ap e
+  unread : (fault : ReadError) → Refused ap fault → e ≡ told_as cell layout_check fault → IsLayoutRefusal cell ap e
   placed : (figure : Figure) → IsApText ap figure → list_any is_instance figure.items ≡ true
-      → e ≡ errors.BadCell cell UNREAD_LAYOUT → IsLayoutRefusal cell ap e
+      → e ≡ errors.BadCell cell layout_check → IsLayoutRefusal cell ap e

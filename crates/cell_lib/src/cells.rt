@@ -1,30 +1,50 @@
 // The cells of a library, one after another.
 ghost use Rattle.std.specs.Prelude.{◌≡◌, IfOk, IfErr, drop};
+ghost use Rattle.cell_model.specs.Usable.{IsFormed};
+ghost use Rattle.cell_checks.specs.declared.verdict.CellVerdict.TheVariants.{Passes};
+ghost use Rattle.cell_checks.specs.Verdict.{IsVerdict};
 ghost use Rattle.cell_lib.specs.Cells.{sources, AreCells, IsFirstRefused, OrMemory};
+ghost use Rattle.cell_lib.specs.Library.{IsCell, IsCellRefusal, IsCheckRefusal};
 
 use crate::LibError;
+use crate::causes::bad_cell;
+use crate::make::said_cell;
+use cell_checks::{CellVerdict, check_cell};
 use cell_model::Cell;
 use std::alloc::Global;
 use tool_drive::bytes_at;
-use vlsi_base::{FileBytes, Text};
+use vlsi_base::{FileBytes, Limit, LimitKind, Text};
 
-/// How a cell is made of its two files, and why it is none.
-pub trait CellMaker {
-    ghost use Rattle.std.specs.Prelude.{IfOk, IfErr};
-    ghost use Rattle.cell_model.specs.declared.cell.Cell.{Cell};
-    ghost use Rattle.cell_lib.specs.declared.error.LibError.{LibError};
-    ghost use Rattle.cell_lib.specs.Cells.{Source, OrMemory};
+/// A cell that passes its checks.
+fn checked(alloc: Global, cell: Cell, tracks: bool) -> Result<Cell, LibError>
+    requires { IsFormed cell }
+    ensures same { IfOk result (λ c. c ≡ cell) }
+    ensures passes { IfOk result (λ c. IsVerdict tracks cell Passes) }
+    ensures err { IfErr result (λ e. OrMemory (IsCheckRefusal tracks cell) e) }
+{
+    match check_cell(alloc, &cell, tracks)? {
+        CellVerdict::Passes => Ok(cell),
+        CellVerdict::Fails(check) => Err(bad_cell(alloc, &cell.name, check.number())),
+        CellVerdict::TooWide(columns) => Err(LibError::Limit(Limit {
+            which: LimitKind::Width,
+            reached: columns,
+        })),
+    }
+}
 
-    /// These are a cell.
-    ghost makes: { Self → Source → Cell → Type 0 };
-
-    /// Why these are none.
-    ghost refuses: { Self → Source → LibError → Type 0 };
-
-    /// The cell of this name.
-    fn cell(&self, alloc: Global, name: &Text, vbe: &[u8], ap: &[u8]) -> Result<Cell, LibError>
-        ensures made { IfOk result (λ cell. makes self.now (record { name = name.now; vbe = vbe.now; ap = ap.now }) cell) }
-        ensures refused { IfErr result (λ e. OrMemory (refuses self.now (record { name = name.now; vbe = vbe.now; ap = ap.now })) e) };
+/// The cell of this name, from its two files.
+fn checked_cell(
+    alloc: Global,
+    name: &Text,
+    vbe: &[u8],
+    ap: &[u8],
+    tracks: bool,
+) -> Result<Cell, LibError>
+    ensures ok { IfOk result (λ c. IsCell tracks (record { name = name.now; vbe = vbe.now; ap = ap.now }) c) }
+    ensures err { IfErr result (λ e. OrMemory (IsCellRefusal tracks (record { name = name.now; vbe = vbe.now; ap = ap.now })) e) }
+{
+    let cell = said_cell(alloc, name, vbe, ap)?;
+    checked(alloc, cell, tracks)
 }
 
 fn behind_two(files: &[FileBytes]) -> &[FileBytes]
@@ -35,20 +55,19 @@ fn behind_two(files: &[FileBytes]) -> &[FileBytes]
 
 /// The cells with these names, whose behaviours and layouts stand in `files` one behind the other. Each is made before the next,
 /// and the first that is none is told.
-pub fn cells_of<M: CellMaker>(
+pub(crate) fn cells_of(
     alloc: Global,
-    maker: &M,
     names: &[Text],
     files: &[FileBytes],
+    tracks: bool,
 ) -> Result<Vec<Cell>, LibError>
-    ensures ok { IfOk result (λ cells. AreCells (M.makes maker.now) (sources names.now files.now) cells.items) }
-    ensures err { IfErr result (λ e.
-        OrMemory (IsFirstRefused (M.makes maker.now) (M.refuses maker.now) (sources names.now files.now)) e) }
+    ensures ok { IfOk result (λ cells. AreCells (IsCell tracks) (sources names.now files.now) cells.items) }
+    ensures err { IfErr result (λ e. OrMemory (IsFirstRefused (IsCell tracks) (IsCellRefusal tracks) (sources names.now files.now)) e) }
 {
     let mut cells = Vec::new(alloc);
     let mut rest = files;
     for name in names {
-        match maker.cell(alloc, name, bytes_at(rest, 0), bytes_at(rest, 1)) {
+        match checked_cell(alloc, name, bytes_at(rest, 0), bytes_at(rest, 1), tracks) {
             Ok(cell) => cells.push(cell)?,
             Err(e) => return Err(e),
         }

@@ -10,11 +10,13 @@ mod cells;
 mod error;
 mod files;
 mod layout;
+mod library;
 mod load;
+mod make;
 
 pub use behaviour::read_behaviour;
-pub use cells::{CellMaker, cells_of};
 pub use error::LibError;
 pub use files::{catal_file, cell_files, named_files};
 pub use layout::read_layout;
+pub use library::check_library;
 pub use load::{LibraryFiles, load_library};
