@@ -4,7 +4,9 @@ ghost use Rattle.flow_run.specs.Drawing.{cell_text as text_of_cell, layout_of, r
 
 use crate::First;
 use ap_io::write_ap;
-use inverter_block::{cell_figure, inverter_figure, inverter_law, inverter_report, inverter_text_law};
+use inverter_block::{
+    cell_figure, inverter_figure, inverter_law, inverter_report, inverter_text_law,
+};
 use std::alloc::{AllocError, Global};
 use vlsi_base::{FileBytes, Text};
 
