@@ -1,5 +1,6 @@
 // What is read of a file or a folder, as a line.
 use crate::escape::push_shown;
+use crate::joined::read_joined;
 use ap_io::{Figure, read_ap, write_ap};
 use cell_lib::{LibError, check_library, load_library};
 use std::alloc::{AllocError, Global};
@@ -13,6 +14,8 @@ pub enum Kind {
     Ap,
     /// Ap files: how many lines are read.
     Figure,
+    /// Ap files: how many shapes they draw, and into how many groups these are joined.
+    Joints,
     /// Libraries.
     Library,
     /// Libraries for layouts by private tracks.
@@ -25,6 +28,7 @@ impl Kind {
         match word {
             "ap" => Some(Kind::Ap),
             "figure" => Some(Kind::Figure),
+            "joints" => Some(Kind::Joints),
             "library" => Some(Kind::Library),
             "tracks" => Some(Kind::Tracks),
             _ => None,
@@ -99,15 +103,29 @@ fn push_ap<S: Shelf>(
     alloc: Global,
     line: &mut Text,
     name: &FileName,
-    with_text: bool,
+    kind: Kind,
     shelf: &mut S,
 ) -> Result<(), AllocError> {
     match shelf.read(alloc, name, MOST_NETLIST_BYTES as u64) {
-        Ok(bytes) => push_read(alloc, line, bytes.as_bytes(), with_text),
+        Ok(bytes) if kind == Kind::Joints => push_joined(alloc, line, bytes.as_bytes()),
+        Ok(bytes) => push_read(alloc, line, bytes.as_bytes(), kind == Kind::Ap),
         Err(ShelfError::Memory) => Err(AllocError),
         Err(ShelfError::Missing) => push_file(line, b"missing ", name),
         Err(ShelfError::Failed) => push_file(line, b"read fault ", name),
     }
+}
+
+// ok SHAPES GROUPS
+fn push_joined(alloc: Global, line: &mut Text, bytes: &[u8]) -> Result<(), AllocError> {
+    let joined = match read_joined(alloc, bytes) {
+        Ok(Some(joined)) => joined,
+        Ok(None) => return line.append(b"too many shapes"),
+        Err(error) => return push_refusal(alloc, line, &error),
+    };
+    line.append(b"ok ")?;
+    push_u64(alloc, line, joined.shapes)?;
+    line.append(b" ")?;
+    push_u64(alloc, line, joined.groups)
 }
 
 // Why a library is refused.
@@ -155,8 +173,7 @@ pub fn line<S: Shelf>(
 ) -> Result<Text, AllocError> {
     let mut line = Text::new(Vec::new(alloc));
     match kind {
-        Kind::Ap => push_ap(alloc, &mut line, name, true, shelf)?,
-        Kind::Figure => push_ap(alloc, &mut line, name, false, shelf)?,
+        Kind::Ap | Kind::Figure | Kind::Joints => push_ap(alloc, &mut line, name, kind, shelf)?,
         Kind::Library => push_library(alloc, &mut line, name, false, shelf)?,
         Kind::Tracks => push_library(alloc, &mut line, name, true, shelf)?,
     }

@@ -1,13 +1,14 @@
 //! Reads ap files and libraries of cells as the tools read them, and prints a line for each. It serves the runs against
 //! second readers and the measurements; it is no tool of `alliance`.
 //!
-//! The first word is `ap` or `figure`, before names of ap files, or `library` or `tracks`, before names of folders. With `ap` the
-//! text of what is read stands on the line too; with `tracks` a library also passes the check that only layouts by private
-//! tracks ask for.
+//! The first word is `ap`, `figure` or `joints`, before names of ap files, or `library` or `tracks`, before names of folders.
+//! With `ap` the text of what is read stands on the line too; with `tracks` a library also passes the check that only layouts
+//! by private tracks ask for.
 #![tactic(auto)]
 
 mod answer;
 mod escape;
+mod joined;
 
 use anyhow::Result;
 use std::env;
