@@ -1,4 +1,4 @@
-use Rattle.std.proofs.Common.{rules, false}
+use Rattle.std.proofs.Common.{rules}
 use Rattle.cell_model.proofs.KindLemmas.{told, denied}
 use Rattle.cell_checks.proofs.Firsts.{fails_gaps, fails_columns, passes_with}
 use Rattle.cell_checks.proofs.checker.joined_failure.Goals as goal
