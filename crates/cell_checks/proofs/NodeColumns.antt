@@ -1,6 +1,6 @@
 -- Where a pin is reached, by the columns of its first access nodes.
-use Rattle.std.proofs.Common.{◌≡◌, ◌⊎◌, inl, inr, ℕ, zero, suc, ◌+◌, ◌*◌, ◌<◌, ◌≤◌, ◌%◌, pos, ℤ, ◌-ℤ◌, Bool, true, false, List, [], ◌∷◌, ◌++◌, map, filter, length, get_or, Option, None, Some, refl, sym, ap, ◌∙◌, arith, if◌then◌else◌, cond}
-use Rattle.std.specs.Prelude.{slice_get, option_map, count_by, flat_map, filter_map}
+use Rattle.std.proofs.Common.{◌≡◌, ◌⊎◌, inl, inr, ℕ, zero, suc, ◌*◌, ◌<◌, ◌%◌, pos, ℤ, Bool, true, false, List, [], ◌∷◌, ◌++◌, map, filter, length, Option, None, Some, refl, sym, ap, ◌∙◌, arith, if◌then◌else◌, cond}
+use Rattle.std.specs.Prelude.{slice_get, option_map, flat_map, filter_map}
 use Rattle.std.proofs.Math.Nat.{mod-eq_of_lt}
 use Rattle.std.proofs.lemmas.Int.{ints}
 use Rattle.std.proofs.lemmas.List.{append-nil, map-append, length-map, length-append, get_or_append_left}
@@ -11,10 +11,10 @@ use Rattle.std.proofs.lemmas.Option.{slice_get-map, slice_get-get_or}
 use Rattle.vlsi_base.specs.declared.name.Name.{Name}
 use Rattle.vlsi_base.specs.declared.name.Port.{Port}
 use Rattle.vlsi_base.specs.Names.{comes_before}
-use Rattle.sym_geom.specs.declared.grid.TheConstants.{PITCH, ROW_HEIGHT}
+use Rattle.sym_geom.specs.declared.grid.TheConstants.{PITCH}
 use Rattle.cell_model.specs.declared.cell.Pin.{Pin}
 use Rattle.cell_model.specs.Cell.{Cell, pin_ports, cell_width, cell_height}
-use Rattle.cell_model.specs.Access.{Point, count_to, grid_lines, grid_points, is_access_node, access_nodes, access_point, rank_of}
+use Rattle.cell_model.specs.Access.{Point, count_to, grid_lines, is_access_node, access_nodes, rank_of}
 use Rattle.cell_checks.specs.Checks.{StandsInRow}
 use Rattle.cell_checks.specs.Nodes.{column_nodes, node_columns, IsFront, IsReachedAt}
 

@@ -1,15 +1,14 @@
 -- Access nodes, by the connectors that hold a pad.
-use Rattle.std.proofs.Common.{◌≡◌, ℕ, ◌*◌, pos, ◌-ℤ◌, Bool, true, false, ◌&&◌, IsTrue, List, Any, refl, sym, ap, subst, ◌∙◌, arith, nat_eq}
+use Rattle.std.proofs.Common.{◌≡◌, ℕ, ◌*◌, pos, Bool, true, false, ◌&&◌, IsTrue, List, Any, refl, sym, subst, arith, nat_eq}
 use Rattle.std.proofs.lemmas.Int.{ints}
 use Rattle.vlsi_base.specs.declared.name.Name.{Name}
-use Rattle.vlsi_base.specs.Member.{In}
 use Rattle.sym_geom.specs.declared.grid.TheConstants.{PITCH, PAD_WIDTH}
 use Rattle.sym_geom.specs.declared.rect.Rect.{Rect}
 use Rattle.sym_geom.specs.Rect.{Within, square}
 use Rattle.sym_shapes.specs.Shape.{Shape, drawn}
 use Rattle.sym_shapes.proofs.Tests.{both, within_so, number_told, number_so, list_any_In}
 use Rattle.cell_model.specs.Cell.{Cell}
-use Rattle.cell_model.specs.Access.{Point, holds, is_named, from_corner, is_access_node}
+use Rattle.cell_model.specs.Access.{holds, is_named, from_corner, is_access_node}
 use Rattle.cell_checks.specs.Checks.{StandsInRow}
 use Rattle.cell_checks.specs.Shapes.{IsRail}
 use Rattle.cell_checks.proofs.Layouts.{Any-In, Any-from, list_any_from, named_told, named_so, within_told, node_test}

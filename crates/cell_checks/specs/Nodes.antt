@@ -1,5 +1,5 @@
 -- The columns of a pin's access nodes, in the order of the nodes.
-use Rattle.std.specs.Prelude.{◌≡◌, ◌⊎◌, ℕ, zero, suc, ◌+◌, ◌*◌, ◌<◌, ◌≤ℤ◌, ◌+ℤ◌, ◌-ℤ◌, ℤ, pos, List, [], ◌∷◌, ◌++◌, length, get_or, Option, None, Some, option_map, if◌then◌else◌}
+use Rattle.std.specs.Prelude.{◌≡◌, ◌⊎◌, ℕ, zero, suc, ◌*◌, ◌<◌, ◌≤ℤ◌, ◌+ℤ◌, pos, List, [], ◌∷◌, ◌++◌, length, get_or, Option, Some, option_map, if◌then◌else◌}
 use Rattle.vlsi_base.specs.declared.name.Name.{Name}
 use Rattle.machine_meaning.specs.Machine.{names_of}
 use Rattle.sym_geom.specs.declared.grid.TheConstants.{PITCH}

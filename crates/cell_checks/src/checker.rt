@@ -27,7 +27,7 @@ fn numbered(alloc: Global, cell: &Cell, shapes: &[Shape]) -> Result<Vec<u32>, Al
 }
 
 /// The first check of joined shapes, and with tracks of columns, that a mappable cell fails.
-#[tactic(auto, using(crate::proofs::Firsts::fails_apart, crate::proofs::Firsts::fails_within, crate::proofs::Firsts::passes_without, crate::proofs::Firsts::passes_with))]
+#[tactic(auto, using(crate::proofs::Firsts::fails_apart, crate::proofs::Firsts::fails_within, crate::proofs::Firsts::passes_without))]
 fn joined_failure(
     alloc: Global,
     cell: &Cell,

@@ -1,4 +1,4 @@
-use Rattle.std.proofs.Common.{◌≡◌, List, Option, ℕ, AllPairs, sym, subst}
+use Rattle.std.proofs.Common.{List, Option, ℕ, AllPairs, sym, subst}
 use Rattle.cell_checks.specs.Nodes.{AreOther}
 use Rattle.cell_checks.proofs.OtherColumns.{other_differ, differ_other}
 use Rattle.cell_checks.proofs.columns.columns_differ.Goals as goal

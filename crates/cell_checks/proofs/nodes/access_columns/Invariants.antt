@@ -1,6 +1,3 @@
-use Rattle.std.proofs.Common.{◌≡◌, ◌<◌, ℕ, length, get_or, Option}
-use Rattle.vlsi_base.specs.declared.name.Name.{Name}
-use Rattle.machine_meaning.specs.Machine.{names_of}
 use Rattle.cell_checks.proofs.OtherColumns.{FirstReached}
 use Rattle.cell_checks.proofs.nodes.access_columns.Given as goal
 

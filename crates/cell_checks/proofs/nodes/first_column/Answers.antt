@@ -1,4 +1,4 @@
-use Rattle.std.proofs.Common.{◌≡◌, ◌*◌, ◌<ℤ◌, ◌+ℤ◌, pos, inl, inr, ap, arith, to_z, of_z, w64}
+use Rattle.std.proofs.Common.{◌≡◌, ◌*◌, inl, inr, ap, arith}
 use Rattle.std.proofs.lemmas.Int.{ints}
 use Rattle.std.proofs.lemmas.Bool.{cases_lt}
 use Rattle.sym_geom.specs.declared.rect.Rect.{Rect}
