@@ -1,5 +1,5 @@
 -- What the tokens of a sentence do beside standing in their order: a mark at each, and what the marks so far come to.
-use Rattle.std.specs.Prelude.{ℕ, ◌+◌, ◌-◌, ◌^◌, ◌==◌, nat_lt, min, Bool, bytes_eq, List, [], ◌∷◌, Result, Ok, Err, if◌then◌else◌}
+use Rattle.std.specs.Prelude.{ℕ, ◌+◌, ◌-◌, ◌^◌, ◌==◌, nat_lt, min, Bool, bytes_eq, List, [], ◌∷◌, ◌++◌, Result, Ok, Err, if◌then◌else◌}
 use Rattle.std.specs.List.{list_any}
 use Rattle.std.specs.BTreeMap.{is_at}
 use Rattle.std.specs.BTreeSet.{insert_key}
@@ -25,6 +25,9 @@ pub data Mark : Type 0 where
   operator : Mark
   -- the name that the declaration which begins on this line declares
   declares : ℕ → List ℕ → Mark
+  -- the name that it declares in a list of its own: the names of that list are kept with these bytes in front, which no
+  -- identifier has
+  enters : List ℕ → ℕ → List ℕ → Mark
   -- the last token of the type of a declaration with so many bits
   counts : ℕ → Mark
   -- a name that has to be the first of these, and is the second
@@ -63,6 +66,8 @@ acts again s = Ok (record s { operators = 0; alternatives = s.alternatives + 1 }
 acts (opens n) s = if n == 0 then Err broken.Depth else Ok s
 acts operator s = if nat_lt s.operators CHAIN then Ok (record s { operators = s.operators + 1 }) else Err broken.Chain
 acts (declares line name) s = if is_declared name s.names then Err (broken.Twice line name) else Ok (record s { names = insert_key (slice_cmp nat_cmp) s.names name })
+acts (enters key line name) s =
+    if is_declared (key ++ name) s.names then Err (broken.Twice line name) else Ok (record s { names = insert_key (slice_cmp nat_cmp) s.names (key ++ name) })
 acts (counts n) s = if nat_lt BITS (s.bits + n) then Err (broken.Bits (min (s.bits + n) (2 ^ 64 - 1))) else Ok (record s { bits = s.bits + n })
 acts (spells wanted found) s = if bytes_eq wanted found then Ok s else Err broken.Spelling
 acts (fits b) s = if b then Ok s else Err broken.Spelling

@@ -47,8 +47,9 @@ Drives n w t owner c opaque = Unit {0}
 -- w is a valuation of the netlist, from the contents t and under the input vector i
 pub record NetSettles (n : Netlist) (l : Library) (input_names : List Name) (clock : Option Name) (t : Contents) (i : List Bool) (w : Valuation) : Type 0 where
   pub each : length w.classes ≡ n.classes
-  pub high : bit_of n w.classes (port vdd) ≡ true
-  pub low : bit_of n w.classes (port vss) ≡ false
+  -- vdd is 1 and vss is 0, where they are ports
+  pub high : In vdd n.ports → bit_of n w.classes (port vdd) ≡ true
+  pub low : In vss n.ports → bit_of n w.classes (port vss) ≡ false
   pub still : (name : Name) → clock ≡ Some name → bit_of n w.classes (port name) ≡ false
   pub inputs : map (λ name. bit_of n w.classes (port name)) input_names ≡ i
   pub instances : (one : Member) (c : Cell) → In one n.instances → cell_of l one.model ≡ Some c → Drives n w t one.name c c.function

@@ -104,8 +104,8 @@ module _ (n : Sourced) (l : Library) (m : Machine) (f : Values) (r : Roots) (che
   pub settles : NetSettles n.netlist l (inputs m) m.clock t i whole
   settles = record {
     each = length-listed n.netlist.classes (λ k. bit_from bits (n.source k));
-    high = bit_at (port vdd) (vdd_port n l m f r checked h) ∙ ap (bit_from bits) h.on_vdd;
-    low = bit_at (port vss) (vss_port n l m f r checked h) ∙ ap (bit_from bits) h.on_vss;
+    high = λ _. bit_at (port vdd) (vdd_port n l m f r checked h) ∙ ap (bit_from bits) h.on_vdd;
+    low = λ _. bit_at (port vss) (vss_port n l m f r checked h) ∙ ap (bit_from bits) h.on_vss;
     still = λ name is. bit_at (port name) (clock_terminal n l m f r checked h name is) ∙ ap (bit_from bits) (h.on_clock name is);
     inputs = map_is (λ name. bit_of n.netlist valuation (port name)) (inputs m) i counts input_bit;
     instances = λ one c listed found.
@@ -170,10 +170,10 @@ module _ (n : Sourced) (l : Library) (m : Machine) (f : Values) (r : Roots) (che
     class_bit : (k : ℕ) → k < n.netlist.classes → (s : Source) → n.source k ≡ s → ComesFrom m h.seats s → bit w.classes k ≡ bit_from bits s
     class_bit k below high is from =
         let place = h.one_class k (n.netlist.class (port vdd)) below (h.numbered (port vdd) (vdd_port n l m f r checked h)) (is ∙ sym h.on_vdd) in
-        ap (bit w.classes) place ∙ settled.high
+        ap (bit w.classes) place ∙ settled.high ((h.ports vdd).1 (inl refl))
     class_bit k below low is from =
         let place = h.one_class k (n.netlist.class (port vss)) below (h.numbered (port vss) (vss_port n l m f r checked h)) (is ∙ sym h.on_vss) in
-        ap (bit w.classes) place ∙ settled.low
+        ap (bit w.classes) place ∙ settled.low ((h.ports vss).1 (inr (inl refl)))
     class_bit k below ticking is from =
         let place = h.one_class k (n.netlist.class (port from.0)) below (h.numbered (port from.0) (clock_terminal n l m f r checked h from.0 from.1)) (is ∙ sym (h.on_clock from.0 from.1)) in
         ap (bit w.classes) place ∙ settled.still from.0 from.1

@@ -8,4 +8,6 @@ mod statement;
 mod targets;
 
 pub use law::{each_text, never_both, one_refusal, reads_once};
-pub use source::read_source;
+pub use source::{architecture_head, read_source};
+pub use statement::repeated;
+pub use targets::target;

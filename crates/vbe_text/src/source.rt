@@ -103,9 +103,9 @@ fn belonging(cursor: &mut Cursor, entity: &[u8]) -> Result<(), Stop>
     Ok(())
 }
 
-/// The name of an architecture of this entity.
+/// The head of an architecture of this entity, and the architecture's name.
 #[tactic(auto, unfolding(crate::specs::VbeReading::architecture_head_at))]
-fn architecture_head(cursor: &mut Cursor, entity: &[u8]) -> Result<Text, Stop>
+pub fn architecture_head(cursor: &mut Cursor, entity: &[u8]) -> Result<Text, Stop>
     ensures { Gives (λ n. n) result cursor.new (architecture_head_at entity.now cursor.old) }
 {
     let _word = cursor.take(Form::Keyword(Keyword::Architecture))?;

@@ -2,7 +2,7 @@
 ghost use Rattle.std.specs.Prelude.{◌≡◌, ◌∷◌, ◌<◌, ◌+◌, ◌-◌, ◌*◌, ◌^◌, min, Ok, IfOk, OnOk, IfErr, IsTrue, true, false, nat_lt, length, option_copied};
 ghost use Rattle.vhdl_token.specs.declared.token.PlacedToken.{PlacedToken};
 ghost use Rattle.grammar_theory.specs.Tokens.{is_of, is_at};
-ghost use Rattle.grammar_theory.specs.Marks.{Mark, State, starts, chooses, again, opens, operator, declares, counts, spells, fits, step};
+ghost use Rattle.grammar_theory.specs.Marks.{Mark, State, starts, chooses, again, opens, operator, declares, enters, counts, spells, fits, step};
 ghost use Rattle.grammar_theory.specs.Outcome.{Gives, Fails, start, passed, take_from, take_at, take_marked, refusal};
 ghost use Rattle.grammar_theory.specs.declared.form.Form.TheVariants.{Identifier};
 ghost use Rattle.vhdl_front.specs.Cursor.{name_of, rest_of, at_first};
@@ -262,6 +262,30 @@ impl<'a> Cursor<'a> {
         Ok(next)
     }
 
+    /// Takes the next token, a name that is declared in a list of its own, by a declaration that begins on this line.
+    #[tactic(auto, unfolding(grammar_theory::specs::Marks::step))]
+    fn enter_next(
+        &mut self,
+        next: &'a PlacedToken,
+        rest: &'a [PlacedToken],
+        list: &[u8],
+        line: u32,
+    ) -> Result<&'a PlacedToken, Stop>
+        requires { self.old.rest ≡ next.now ∷ rest.now }
+        ensures { Gives (λ t. t.now) result self.new (passed next.now rest.now (step (enters list.now line (name_of next.now)) (self.old.state))) }
+    {
+        let name = name_bytes(next);
+        let mut key = list.to_vec(self.alloc)?;
+        key.extend_from_slice(name)?;
+        if !self.counts.declare(self.alloc, &key)? {
+            let name = Text::from_bytes(self.alloc, name)?;
+            return Err(self.refuse(Reason::Breach(Breach::Twice(line, name))));
+        }
+        self.admit()?;
+        self.rest = rest;
+        Ok(next)
+    }
+
     /// A name that is declared, by a declaration that begins on this line.
     pub fn declare(&mut self, line: u32) -> Result<&'a PlacedToken, Stop>
         ensures { Gives (λ t. t.now) result self.new (take_marked Identifier (λ t. declares line (name_of t)) self.old) }
@@ -276,6 +300,25 @@ impl<'a> Cursor<'a> {
     {
         let (next, rest) = self.next(Form::Identifier)?;
         self.declare_next(next, rest, next.line)
+    }
+}
+
+impl<'a> Cursor<'a> {
+    /// A name that is declared in a list of its own, by a declaration that begins on this line. The names of that list are kept
+    /// with `list` in front, which no identifier has.
+    pub fn enter(&mut self, list: &[u8], line: u32) -> Result<&'a PlacedToken, Stop>
+        ensures { Gives (λ t. t.now) result self.new (take_marked Identifier (λ t. enters list.now line (name_of t)) self.old) }
+    {
+        let (next, rest) = self.next(Form::Identifier)?;
+        self.enter_next(next, rest, list, line)
+    }
+
+    /// A name with which its declaration begins, declared in a list of its own.
+    pub fn enter_first(&mut self, list: &[u8]) -> Result<&'a PlacedToken, Stop>
+        ensures { Gives (λ t. t.now) result self.new (take_marked Identifier (λ t. enters list.now t.line (name_of t)) self.old) }
+    {
+        let (next, rest) = self.next(Form::Identifier)?;
+        self.enter_next(next, rest, list, next.line)
     }
 }
 

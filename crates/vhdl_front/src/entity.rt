@@ -90,9 +90,9 @@ impl Cursor<'_> {
         Ok(names)
     }
 
-    /// Names behind a word, and its line.
+    /// Names that are declared behind a word, and its line.
     #[tactic(auto, unfolding(crate::specs::EntityReading::led_names_at))]
-    fn led_names(&mut self, word: Keyword) -> Result<(u32, NewNames), Stop>
+    pub fn led_names(&mut self, word: Keyword) -> Result<(u32, NewNames), Stop>
         ensures { Gives (λ n. n) result self.new (led_names_at word self.old) }
     {
         let line = self.take(Form::Keyword(word))?.line;
@@ -183,8 +183,9 @@ impl Cursor<'_> {
         })
     }
 
+    /// The type in a declaration of so many names.
     #[tactic(auto, unfolding(crate::specs::EntityReading::port_type_at))]
-    fn port_type(&mut self, room: u32, count: usize) -> Result<SignalType, Stop>
+    pub fn port_type(&mut self, room: u32, count: usize) -> Result<SignalType, Stop>
         ensures { Gives (λ k. k) result self.new (port_type_at room count self.old) }
     {
         if self.at(Form::Keyword(Keyword::Bit)) {
@@ -358,9 +359,9 @@ impl Cursor<'_> {
         }
     }
 
-    /// Behind the names of ports.
+    /// Mode and type of ports behind their names, which begin on this line.
     #[tactic(auto, unfolding(crate::specs::EntityReading::port_behind_at))]
-    fn port_behind(&mut self, room: u32, line: u32, names: NewNames) -> Result<PortGroup, Stop>
+    pub fn port_behind(&mut self, room: u32, line: u32, names: NewNames) -> Result<PortGroup, Stop>
         ensures { Gives (λ p. p) result self.new (port_behind_at room (line, names) self.old) }
     {
         let _colon = self.take(Form::Sign(Sign::Colon))?;
