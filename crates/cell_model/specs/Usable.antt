@@ -38,11 +38,11 @@ pub record IsMappable (c : Cell) : Type 0 where
   pub metal : (s : Shape) → In s (drawn c.items) → s.metal ≤ 1
   pub blockage : (one : Item) → In one c.items → KeepsLow one
 
--- A gate and a plain flip-flop fit the pins, and the ports of any other machine are the pins.
+-- a gate and a plain flip-flop fit the pins, and the ports of another machine, which has passed its checks, are the pins
 abbrev pub FitsPins : Cell → Function → Type 0
 FitsPins c (gate e) = IsPlain c (gate e)
 FitsPins c (flip_flop data_pin clock_pin) = IsPlain c (flip_flop data_pin clock_pin)
-FitsPins c (other machine) = (pin_ports c ≡ machine.ports) × IsChecked machine
+FitsPins c (other machine) = (machine.ports ≡ pin_ports c) × IsChecked machine
 FitsPins c opaque = Unit {0}
 
 -- What is known of a cell that was made of its two files, before any check of its layout: its function fits its pins, which are
