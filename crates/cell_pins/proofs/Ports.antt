@@ -59,11 +59,11 @@ sorted_pairs (p ∷ ps) s =
     (All-from (λ n. IsTrue (comes_before p.name n)) (names_of ps) (λ n i. let r = In-map_back (λ x. x.name) n ps i in subst (λ x. IsTrue (comes_before p.name x)) r.2 (s.0 r.0 r.1)))
     (sorted_pairs ps s.1)
 
-first : (q p : Port) (xs ps : List Port) (t : Port → Bool) → t p ≡ true → In q (p ∷ xs) → (In q xs → In q ps × (t q ≡ true)) → In q (p ∷ ps) × (t q ≡ true)
+first : {A : Type 0} (q p : A) (xs ps : List A) (t : A → Bool) → t p ≡ true → In q (p ∷ xs) → (In q xs → In q ps × (t q ≡ true)) → In q (p ∷ ps) × (t q ≡ true)
 first q p xs ps t is here later = (here, is)
 first q p xs ps t is (there j) later = let r = later j in (there r.0, r.1)
 
-in_filter : (t : Port → Bool) (ps : List Port) (q : Port) → In q (filter t ps) → In q ps × (t q ≡ true)
+pub in_filter : {A : Type 0} (t : A → Bool) (ps : List A) (q : A) → In q (filter t ps) → In q ps × (t q ≡ true)
 in_filter t [] q i = elim i [ ]
 in_filter t (p ∷ ps) q i = by (t p) refl i (λ j. in_filter t ps q j) where
   by : (b : Bool) → t p ≡ b → In q (cond b (p ∷ filter t ps) (filter t ps)) → (In q (filter t ps) → In q ps × (t q ≡ true)) → In q (p ∷ ps) × (t q ≡ true)
@@ -106,21 +106,21 @@ supply_cases : (name : Name) (q : Port) (g : List Port) → In q (supply name �
 supply_cases name q g here = inl refl
 supply_cases name q g (there i) = inr i
 
-with_cases : (name : Name) (ps : List Port) (q : Port) → In q (with_supply name ps) → (q.name ≡ name) ⊎ In q ps
+pub with_cases : (name : Name) (ps : List Port) (q : Port) → In q (with_supply name ps) → (q ≡ supply name) ⊎ In q ps
 with_cases name ps q i =
     elim (In-split q (filter (λ p. comes_before p.name name) ps) (supply name ∷ filter (λ p. comes_before name p.name) ps) i) [
       | inl a ↦ inr (in_filter (λ p. comes_before p.name name) ps q a).0
       | inr b ↦ elim (supply_cases name q (filter (λ p. comes_before name p.name) ps) b) [
-        | inl is ↦ inl (ap (λ (p : Port). p.name) is)
+        | inl is ↦ inl is
         | inr j ↦ inr (in_filter (λ p. comes_before name p.name) ps q j).0
       ]
     ]
 
 port_connected : (c : Cell) → PinsAreConnectors c → (q : Port) → In q (all_ports c) → In q.name (connector_names c.items)
 port_connected c h q i = elim (with_cases vss (with_supply vdd (pin_ports c)) q i) [
-  | inl is ↦ (h q.name).1 (inr (inl is))
+  | inl is ↦ (h q.name).1 (inr (inl (ap (λ (p : Port). p.name) is)))
   | inr j ↦ elim (with_cases vdd (pin_ports c) q j) [
-    | inl is ↦ (h q.name).1 (inl is)
+    | inl is ↦ (h q.name).1 (inl (ap (λ (p : Port). p.name) is))
     | inr k ↦ (h q.name).1 (inr (inr (In-map (λ p. p.name) q (pin_ports c) k)))
   ]
 ]

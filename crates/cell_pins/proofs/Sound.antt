@@ -27,7 +27,7 @@ connected l h k d low = (h.passes k d low).0 check.Connectors
 
 -- ---- names
 
-member_at : {A : Type 0} (xs : List A) (k : ℕ) (x : A) → slice_get xs k ≡ Some x → In x xs
+pub member_at : {A : Type 0} (xs : List A) (k : ℕ) (x : A) → slice_get xs k ≡ Some x → In x xs
 member_at [] k x h = absurd cc
 member_at (y ∷ xs) zero x h = let is : y ≡ x = cc in subst (λ z. In z (y ∷ xs)) is here
 member_at (y ∷ xs) (suc k) x h = there (member_at xs k x h)
@@ -60,10 +60,10 @@ cell_of_model P (c ∷ cells) (n ∷ table) m (listed p is rest) i = elim (membe
 ]
 cell_of_model P (c ∷ cells) (n ∷ table) m (left_out p rest) i = one_behind c cells m (cell_of_model P cells (n ∷ table) m rest i)
 
-apart_rest : (c : Cell) (cells : List Cell) → Apart (c ∷ cells) → Apart cells
+pub apart_rest : (c : Cell) (cells : List Cell) → Apart (c ∷ cells) → Apart cells
 apart_rest c cells h i j d low high = h (suc i) (suc j) d (omega (arith, low)) (omega (arith, high))
 
-apart_first : (c b : Cell) (cells : List Cell) → Apart (c ∷ cells) → In b cells → c.name ≢ b.name
+pub apart_first : (c b : Cell) (cells : List Cell) → Apart (c ∷ cells) → In b cells → c.name ≢ b.name
 apart_first c b cells h i = let r = place-In b cells i in subst (λ (x : Cell). c.name ≢ x.name) (r.2 c) (h 0 (suc r.0) c (omega arith) (omega (arith, r.1)))
 
 models_differ : (P : Cell → Type 0) (cells : List Cell) (table : List ModelPins) → Apart cells → AreModels P cells table → AllDifferent (map (λ m. m.model) table)
@@ -80,25 +80,25 @@ models_differ P (c ∷ cells) (m ∷ table) h (left_out p rest) = models_differ 
 
 -- ---- the pins of one model
 
-pin_names : (f : Function) (ports xs : List Port) (ps : List ModelPin) → ArePins f ports xs ps → map (λ p. p.name) ps ≡ names_of xs
+pub pin_names : (f : Function) (ports xs : List Port) (ps : List ModelPin) → ArePins f ports xs ps → map (λ p. p.name) ps ≡ names_of xs
 pin_names f ports [] [] r = refl
 pin_names f ports [] (p ∷ ps) r = elim r [ ]
 pin_names f ports (x ∷ xs) [] r = elim r [ ]
 pin_names f ports (x ∷ xs) (p ∷ ps) (one_pin is rest) = ap (λ n. n ∷ map (λ q. q.name) ps) is.name ∙ ap (λ (ns : List Name). x.name ∷ ns) (pin_names f ports xs ps rest)
 
-pin_at : (f : Function) (ports xs : List Port) (ps : List ModelPin) (k : ℕ) (x : Port) → ArePins f ports xs ps → slice_get xs k ≡ Some x
-    → (p : ModelPin) × (slice_get ps k ≡ Some p) × (p.dir ≡ x.dir)
+pub pin_at : (f : Function) (ports xs : List Port) (ps : List ModelPin) (k : ℕ) (x : Port) → ArePins f ports xs ps → slice_get xs k ≡ Some x
+    → (p : ModelPin) × (slice_get ps k ≡ Some p) × IsPinOf f ports x p
 pin_at f ports [] ps k x r at = absurd cc
 pin_at f ports (y ∷ xs) [] k x r at = elim r [ ]
-pin_at f ports (y ∷ xs) (p ∷ ps) zero x (one_pin is rest) at = let same : y ≡ x = cc in (p, refl, is.dir ∙ ap (λ (z : Port). z.dir) same)
+pin_at f ports (y ∷ xs) (p ∷ ps) zero x (one_pin is rest) at = let same : y ≡ x = cc in (p, refl, subst (λ (z : Port). IsPinOf f ports z p) same is)
 pin_at f ports (y ∷ xs) (p ∷ ps) (suc k) x (one_pin is rest) at = pin_at f ports xs ps k x rest at
 
-port_of_pin : (f : Function) (ports xs : List Port) (ps : List ModelPin) (p : ModelPin) → ArePins f ports xs ps → In p ps → (x : Port) × IsPinOf f ports x p
+pub port_of_pin : (f : Function) (ports xs : List Port) (ps : List ModelPin) (p : ModelPin) → ArePins f ports xs ps → In p ps → (x : Port) × In x xs × IsPinOf f ports x p
 port_of_pin f ports xs [] p r i = elim i [ ]
 port_of_pin f ports [] (q ∷ ps) p r i = elim r [ ]
 port_of_pin f ports (x ∷ xs) (q ∷ ps) p (one_pin is rest) i = elim (member_cases p q ps i) [
-  | inl same ↦ (x, subst (λ (y : ModelPin). IsPinOf f ports x y) (sym same) is)
-  | inr j ↦ port_of_pin f ports xs ps p rest j
+  | inl same ↦ (x, here, subst (λ (y : ModelPin). IsPinOf f ports x y) (sym same) is)
+  | inr j ↦ let r = port_of_pin f ports xs ps p rest j in (r.0, there r.1, r.2)
 ]
 
 within : (f : Function) (ports : List Port) (m : ModelPins) → ArePins f ports ports m.pins → DependsWithin m
@@ -108,9 +108,9 @@ within f ports m r =
     let x = port_of_pin f ports ports m.pins p r i in
     All-from (IsInputAt m.pins) p.depends_on
     (λ k j.
-    let d = picked_has (DependsAt f ports x.0) (first_places (length ports)) p.depends_on k x.1.depends j in
+    let d = picked_has (DependsAt f ports x.0) (first_places (length ports)) p.depends_on k x.2.depends j in
     let q = pin_at f ports ports m.pins k d.0 r d.1 in
-    (q.0, q.1, q.2 ∙ d.2.1)))
+    (q.0, q.1, q.2.dir ∙ d.2.1)))
 
 in_order : (c : Cell) (m : ModelPins) → IsFormed c → IsModelOf c m → AreInOrder (map (λ p. p.name) m.pins)
 in_order c m h is =

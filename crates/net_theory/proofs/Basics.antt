@@ -97,7 +97,7 @@ In-map_back f y [] h = elim h [ ]
 In-map_back f y (x ∷ xs) here = (x, here, refl)
 In-map_back f y (x ∷ xs) (there h) = let r = In-map_back f y xs h in (r.0, there r.1, r.2)
 
-clock_is : (clock : Option Name) (name : Name) → is_clock clock name ≡ true → clock ≡ Some name
+pub clock_is : (clock : Option Name) (name : Name) → is_clock clock name ≡ true → clock ≡ Some name
 clock_is None name h = absurd (cc h)
 clock_is (Some c) name h = ap (λ (x : Name). Some x) (same_name-true c name h)
 

@@ -1,0 +1,12 @@
+pub mod Lists
+pub mod Tallies
+pub mod Ports
+pub mod Models
+pub mod Places
+pub mod Terminals
+pub mod Seen
+pub mod Filled
+pub mod Driven
+pub mod Soundness
+pub mod Meets
+pub mod Same

@@ -1,3 +1,5 @@
 pub mod View
 pub mod Condition
 pub mod Right
+pub mod Laws
+pub mod Same
