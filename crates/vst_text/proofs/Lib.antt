@@ -1,0 +1,3 @@
+pub mod VstLanguage
+pub mod Whole
+pub mod Laws
