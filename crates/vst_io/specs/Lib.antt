@@ -1,0 +1,3 @@
+pub mod Nets
+pub mod Faults
+pub mod Text

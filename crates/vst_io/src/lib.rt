@@ -1,0 +1,13 @@
+//! Structural texts as netlists.
+#![tactic(auto)]
+
+mod bits;
+mod build;
+mod components;
+mod declared;
+mod known;
+mod linking;
+mod maps;
+mod reader;
+
+pub use reader::read_vst;
