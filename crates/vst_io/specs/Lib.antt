@@ -1,3 +1,5 @@
 pub mod Nets
 pub mod Faults
 pub mod Text
+pub mod Known
+pub mod Checked
