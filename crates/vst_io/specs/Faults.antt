@@ -76,12 +76,13 @@ goes role.Input dir.In = true
 goes role.Output dir.Out = true
 goes _ _ = false
 
--- a model's pin is a bit of a component's port, with its direction
+abbrev pub declares_pin : Option Symbol → ModelPin → Bool
+declares_pin None p = false
+declares_pin (Some s) p = lies_in s.range p.name.bit && goes s.role p.dir
+
+-- a model's pin is a bit of the component's port of its name, with its direction
 abbrev pub is_declared_pin : List Symbol → ModelPin → Bool
-is_declared_pin known p = by (find known p.name.text) where
-  by : Option Symbol → Bool
-  by None = false
-  by (Some s) = lies_in s.range p.name.bit && goes s.role p.dir
+is_declared_pin known p = declares_pin (find known p.name.text) p
 
 -- the ports of a component are the pins of its model: as many bits as pins, and each pin is one of them
 abbrev pub has_pins : List Symbol → List ModelPin → Bool
@@ -112,23 +113,26 @@ is_tied known_nets a = not (is_supply a.pin.text) || (bytes_eq a.net.name a.pin.
 abbrev pub fits : List Symbol → Association → ℕ → Bool
 fits known_nets a width = nat_eq (length (net_bits known_nets a.net)) width && is_tied known_nets a
 
-abbrev pub association_faults : List Symbol → List ModelPin → List Symbol → List Name → List Association → List ℕ
-association_faults known model known_nets mapped [] = []
-association_faults known model known_nets mapped (a ∷ rest) =
+-- the lines at fault among the associations of a map, where these pins are mapped before
+abbrev pub association_faults : List Symbol → List Symbol → List ModelPin → List Name → List Association → List ℕ
+association_faults known known_nets model mapped [] = []
+association_faults known known_nets model mapped (a ∷ rest) =
     if_not (is_free model mapped (pin_names known a)) a.pin.line
     ++ (if_not (fits known_nets a (length (pin_bits known a.pin))) a.net.line
-    ++ association_faults known model known_nets (mapped ++ pin_names known a) rest)
+    ++ association_faults known known_nets model (mapped ++ pin_names known a) rest)
 
 -- each pin is mapped, else the map's end is at fault
 abbrev pub end_faults : List Symbol → List ModelPin → InstanceStatement → List ℕ
 end_faults known model i = if_not (list_all (λ p. stands (flat_map (pin_names known) i.associations) p.name) model) i.end_line
 
+-- where the instance's component, with these pins, is declared
+abbrev pub map_faults : List ModelPins → StructuralFile → InstanceStatement → Option (List Symbol) → List ℕ
+map_faults table f i None = i.component_line ∷ []
+map_faults table f i (Some known) =
+    association_faults known (nets f) (pins_named table i.component) [] i.associations ++ end_faults known (pins_named table i.component) i
+
 abbrev pub instance_faults : List ModelPins → StructuralFile → InstanceStatement → List ℕ
-instance_faults table f i = by (pins_of f.declarations i.component) where
-  by : Option (List Symbol) → List ℕ
-  by None = i.component_line ∷ []
-  by (Some known) =
-      association_faults known (pins_named table i.component) (nets f) [] i.associations ++ end_faults known (pins_named table i.component) i
+instance_faults table f i = map_faults table f i (pins_of f.declarations i.component)
 
 abbrev pub bad_maps : List ModelPins → StructuralFile → List ℕ
 bad_maps table f = flat_map (component_faults table) f.declarations ++ flat_map (instance_faults table f) f.instances

@@ -3,3 +3,4 @@ pub mod Faults
 pub mod Text
 pub mod Known
 pub mod Checked
+pub mod Drafts

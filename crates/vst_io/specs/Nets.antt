@@ -104,11 +104,12 @@ instance_of table i = record { name = i.label; model = i.component; pins = map (
 abbrev pub links_of : List Symbol → List Symbol → List ℕ → Association → List (Terminal × Name)
 links_of known_pins known_nets label a = zip (map (pin_of label) (pin_names known_pins a)) (net_names known_nets a)
 
+abbrev pub map_links : StructuralFile → InstanceStatement → Option (List Symbol) → List (Terminal × Name)
+map_links f i None = []
+map_links f i (Some known) = flat_map (links_of known (nets f) i.label) i.associations
+
 abbrev pub instance_links : StructuralFile → InstanceStatement → List (Terminal × Name)
-instance_links f i = by (pins_of f.declarations i.component) where
-  by : Option (List Symbol) → List (Terminal × Name)
-  by None = []
-  by (Some known) = flat_map (links_of known (nets f) i.label) i.associations
+instance_links f i = map_links f i (pins_of f.declarations i.component)
 
 -- each terminal with the bit of a net that it stands for: a port with its own, a pin with the one that it is mapped to
 abbrev pub links : StructuralFile → List (Terminal × Name)

@@ -11,12 +11,13 @@ ghost use Rattle.net_core.specs.declared.error.BuildError.TheVariants.{Memory};
 ghost use Rattle.net_core.specs.Places.{IsThere};
 ghost use Rattle.net_core.specs.Netlist.{AreInOrder, IsNetlist};
 ghost use Rattle.net_core.specs.Joins.{draft_terminals};
-ghost use Rattle.net_core.specs.Checks.{IsPinTable};
+ghost use Rattle.net_core.specs.Checks.{IsPinTable, pins_named};
 ghost use Rattle.vst_io.specs.Nets.{nets, port_bits, instance_of};
 ghost use Rattle.vst_io.specs.Faults.{first_label_again, terminal_count};
 ghost use Rattle.vst_io.specs.Checked.{IsChecked, IsFaultOf};
 ghost use Rattle.vst_io.specs.Text.{IsNetlistOf};
-ghost use Rattle.vst_io.specs.Drafts.{joins_of, with_instances, IsAgain};
+ghost use Rattle.vst_io.specs.Drafts.{joins_of, with_instances, IsAgain, IsLabelFault};
+ghost use Rattle.vst_text.specs.declared.file.InstanceStatement.{InstanceStatement};
 
 use crate::checking::named;
 use crate::known::{Known, pin_names};
@@ -110,4 +111,35 @@ fn join_links<'l>(
         }
     }
     Ok(())
+}
+
+/// Joins the terminals that stand for the same bit of a net. Takes memory for an index of the links.
+fn join_all(alloc: Global, builder: &mut Builder, links: &[Link]) -> Result<(), AllocError>
+    requires there { All (λ l. IsThere (draft_terminals builder.old) l.0) links.now }
+    ensures joined { OnOk result (builder.new ≡ record builder.old { joins = builder.old.joins ++ joins_of links.now }) }
+{
+    let index = places(alloc, links)?;
+    match join_links(builder, links, &index) {
+        Ok(()) => Ok(()),
+        Err(_) => Err(AllocError),
+    }
+}
+
+/// The netlist of a text that has passed its checks, with these bits of ports. It is refused where two instances have one label.
+pub fn netlist_of(alloc: Global, known: &Known, ports: Vec<Port>) -> Result<Netlist, ReadError>
+    requires table { IsPinTable known.now.table }
+    requires checked { IsChecked known.now.table known.now.file }
+    requires ports { ports.items ≡ port_bits (nets known.now.file) }
+    requires some { (i : InstanceStatement) → IsThere known.now.file.instances i → 0 < length i.associations }
+    ensures netlist { IfOk result (λ n. IsNetlistOf known.now.table known.now.file n) }
+    ensures once { OnOk result (first_label_again [] known.now.file.instances ≡ None) }
+    ensures refused { IfErr result (λ e. IsLabelFault known.now.file.instances e) }
+{
+    let links = links(alloc, known, &ports)?;
+    let name = known.file().entity.name.copy(alloc)?;
+    let mut builder = Builder::begin(alloc, name, Ports::new(sorted(ports)?))?;
+    add_instances(alloc, &mut builder, known)?;
+    join_all(alloc, &mut builder, &links)?;
+    let netlist = builder.finish(alloc)?;
+    Ok(netlist)
 }

@@ -3,6 +3,7 @@
 
 mod bits;
 mod build;
+mod checking;
 mod components;
 mod declared;
 mod known;

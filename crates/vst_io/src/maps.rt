@@ -100,7 +100,7 @@ fn map_fault<'a>(
     instance: &'a InstanceStatement,
 ) -> Result<Option<u32>, AllocError>
     ensures { IfOk result (λ found. found ≡ first_line (
-        association_faults component.now (pins_named known.now.table instance.now.component) (nets known.now.file) [] instance.now.associations
+        association_faults component.now (nets known.now.file) (pins_named known.now.table instance.now.component) [] instance.now.associations
         ++ end_faults component.now (pins_named known.now.table instance.now.component) instance.now)) }
 {
     let names = pin_names(alloc, known.model(&instance.component))?;
