@@ -63,14 +63,17 @@ abbrev pub holds : Option Range → ℕ → Bool
 holds None k = false
 holds (Some r) k = has_bit r k
 
--- The bits that are selected of a declared name, a range's in its own order. None are where the name isn't declared, where an index or
--- a range stands on a scalar or isn't in the declaration, and where a range's bounds don't stand in the order of its word.
+-- The bits of a declaration that are selected, a range's in its own order. None are where an index or a range stands on a scalar or
+-- isn't in the declaration, and where a range's bounds don't stand in the order of its word.
+abbrev pub part_of : Option Range → Selection → List (Option ℕ)
+part_of declared selection.Whole = bits_of declared
+part_of declared (selection.Bit k) = if holds declared k then Some k ∷ [] else []
+part_of declared (selection.Bits r) = if is_ordered r && (holds declared r.left && holds declared r.right) then bits_of (Some r) else []
+
+-- those of a name; none where it isn't declared
 abbrev pub selected : Option Symbol → Selection → List (Option ℕ)
 selected None s = []
-selected (Some declared) selection.Whole = bits_of declared.range
-selected (Some declared) (selection.Bit k) = if holds declared.range k then Some k ∷ [] else []
-selected (Some declared) (selection.Bits r) =
-    if is_ordered r && (holds declared.range r.left && holds declared.range r.right) then bits_of (Some r) else []
+selected (Some declared) s = part_of declared.range s
 
 abbrev pub pin_selection : Option ℕ → Selection
 pin_selection None = selection.Whole
