@@ -9,11 +9,12 @@ use Rattle.source_meaning.proofs.Lookups.{same_of, itself, turned}
 use Rattle.net_core.specs.declared.pins.ModelPin.{ModelPin}
 use Rattle.net_core.specs.declared.pins.ModelPins.{ModelPins}
 use Rattle.net_core.specs.Places.{Stands, IsThere}
-use Rattle.net_core.specs.Netlist.{Instance, AreInOrder, pins_of}
+use Rattle.net_core.specs.Netlist.{Instance, AreInOrder, pin_of, pins_of}
 use Rattle.net_core.specs.Checks.{pins_named, IsPinTable}
 use Rattle.vst_text.specs.declared.file.InstanceStatement.{InstanceStatement}
 use Rattle.vst_io.specs.Nets.{instance_of}
 use Rattle.vst_io.specs.Faults.{first_label_again}
+use Rattle.vst_io.proofs.Fine.{map_length}
 use Rattle.vst_io.proofs.Linked.{labels}
 
 -- what is found from the instance at k on, where these labels stand before the first
@@ -100,15 +101,11 @@ again_here table is k i found s twice so_far =
 abbrev pub pin_count : List ModelPins → InstanceStatement → ℕ
 pin_count table i = length (pins_named table i.component)
 
-map_length : {X Y : Type 0} (f : X → Y) (xs : List X) → length (map f xs) ≡ length xs
-map_length f [] = refl
-map_length f (x ∷ xs) = let n : length (map f xs) ≡ length xs = map_length f xs in omega (arith, n)
-
 pub pins_counted : (table : List ModelPins) (is : List InstanceStatement) → length (flat_map pins_of (map (instance_of table) is)) ≡ sum_by (pin_count table) is
 pins_counted table [] = refl
 pins_counted table (i ∷ is) =
     let own : length (pins_of (instance_of table i)) ≡ pin_count table i =
-    map_length _ (map (λ (p : ModelPin). p.name) (pins_named table i.component)) ∙ map_length (λ (p : ModelPin). p.name) (pins_named table i.component) in
+    map_length (pin_of i.label) (map (λ (p : ModelPin). p.name) (pins_named table i.component)) ∙ map_length (λ (p : ModelPin). p.name) (pins_named table i.component) in
     let rest : length (flat_map pins_of (map (instance_of table) is)) ≡ sum_by (pin_count table) is = pins_counted table is in
     length-append (pins_of (instance_of table i)) (flat_map pins_of (map (instance_of table) is)) ∙ ap (λ (n : ℕ). n + length (flat_map pins_of (map (instance_of table) is))) own ∙ ap (λ (n : ℕ). pin_count table i + n) rest
 

@@ -55,12 +55,12 @@ pair_of links a b h =
 
 pub joined_same : (links : Links) → StandsForOne links → {a b : Terminal} → Joined (joins_of links) a b → (x y : Name) → In (a, x) links → In (b, y) links → x ≡ y
 joined_same links one {a} {b} same x y p q = one a x y p q
-joined_same links one {a} {c} (along {a} {b} {c} pair rest) x y p q =
-    let r = pair_of links a b pair in
+joined_same links one {a} {b} (along {b = c} pair rest) x y p q =
+    let r = pair_of links a c pair in
     one a x r.0 p r.1 ∙ joined_same links one rest r.0 y r.2 q
-joined_same links one {b} {c} (against {a} {b} {c} pair rest) x y p q =
-    let r = pair_of links a b pair in
-    one b x r.0 p r.2 ∙ joined_same links one rest r.0 y r.1 q
+joined_same links one {a} {b} (against {a = c} pair rest) x y p q =
+    let r = pair_of links c a pair in
+    one a x r.0 p r.2 ∙ joined_same links one rest r.0 y r.1 q
 
 pub same_joined : (links : Links) (a b : Terminal) (x : Name) → In (a, x) links → In (b, x) links → Joined (joins_of links) a b
 same_joined links a b x p q =

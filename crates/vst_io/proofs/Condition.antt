@@ -47,7 +47,7 @@ use Rattle.vst_io.specs.Faults.{first_unlisted, is_net_port, is_tied, all_forms}
 use Rattle.vst_io.specs.Checked.{IsDeclared}
 use Rattle.vst_io.specs.Text.{IsNetlistOf, ListsSupplies}
 use Rattle.vst_io.proofs.Places.{stands_in, in_stands, last_is, stands_map, IsLast}
-use Rattle.vst_io.proofs.Fine.{IsFine, IsMapped, both_true, in_flat, flat_in}
+use Rattle.vst_io.proofs.Fine.{IsFine, IsMapped, map_length, both_true, in_flat, flat_in}
 use Rattle.vst_io.proofs.Ports.{text_of, ports_at}
 use Rattle.vst_io.proofs.Linked.{end_of, end_there, port_link}
 use Rattle.vst_io.proofs.Supplies.{supply_net, supply_port}
@@ -190,10 +190,7 @@ supply_links table f forms i listed m supply which pin =
     (
       In-left (port supply, supply) (map port_link (port_bits (nets f))) (flat_map (instance_links f) f.instances) link,
       In-right (pin_of i.label supply, supply) (map port_link (port_bits (nets f))) (flat_map (instance_links f) f.instances) (flat_in (instance_links f) f.instances i (pin_of i.label supply, supply) listed own),
-    ) where
-      map_length : {X Y : Type 0} (f : X → Y) (xs : List X) → length (map f xs) ≡ length xs
-      map_length f [] = refl
-      map_length f (x ∷ xs) = let n : length (map f xs) ≡ length xs = map_length f xs in omega (arith, n)
+    )
 
 -- a port of the netlist is linked to itself
 port_linked : (table : List ModelPins) (f : StructuralFile) (n : Netlist) → IsNetlistOf table f n → (a : Name) (k : ℕ) → HasClass n (port a) k → In (port a, a) (links f)

@@ -3,6 +3,7 @@ use Rattle.std.proofs.Common.{◌≡◌, ℕ, zero, suc, ◌+◌, ◌<◌, Bool,
 use Rattle.std.specs.Prelude.{nat_eq, nat_lt}
 use Rattle.std.specs.List.{flat_map, list_all, list_any, zip}
 use Rattle.std.proofs.lemmas.Bool.Decides.{nat_tests}
+use Rattle.std.proofs.lemmas.List.{length-map}
 use Rattle.vlsi_base.specs.declared.name.Name.{Name}
 use Rattle.vlsi_base.specs.declared.name.Terminal.{Terminal}
 use Rattle.vlsi_base.specs.declared.range.Range.{Range}
@@ -71,16 +72,20 @@ flat_in f [] x y g h = elim g [ ]
 
 pub map_append : {X Y : Type 0} (f : X → Y) (xs ys : List X) → map f (xs ++ ys) ≡ map f xs ++ map f ys
 map_append f [] ys = refl
-map_append f (x ∷ xs) ys = ap (λ (zs : List _). f x ∷ zs) (map_append f xs ys)
+map_append {X} {Y} f (x ∷ xs) ys = ap (λ (zs : List Y). f x ∷ zs) (map_append f xs ys)
 
 pub map_twice : {X Y Z : Type 0} (f : Y → Z) (g : X → Y) (xs : List X) → map f (map g xs) ≡ map (λ x. f (g x)) xs
 map_twice f g [] = refl
-map_twice f g (x ∷ xs) = ap (λ (zs : List _). f (g x) ∷ zs) (map_twice f g xs)
+map_twice {X} {Y} {Z} f g (x ∷ xs) = ap (λ (zs : List Z). f (g x) ∷ zs) (map_twice f g xs)
+
+pub map_length : {X Y : Type 0} (f : X → Y) (xs : List X) → length (map f xs) ≡ length xs
+map_length f xs = length-map xs f
 
 pub zip_first : {X Y : Type 0} (xs : List X) (ys : List Y) → length xs ≡ length ys → map (λ p. p.0) (zip xs ys) ≡ xs
-zip_first [] ys e = refl
+zip_first [] [] e = refl
+zip_first [] (y ∷ ys) e = absurd (omega (arith, e))
 zip_first (x ∷ xs) [] e = absurd (omega (arith, e))
-zip_first (x ∷ xs) (y ∷ ys) e = ap (λ (zs : List _). x ∷ zs) (zip_first xs ys (omega (arith, e)))
+zip_first {X} {Y} (x ∷ xs) (y ∷ ys) e = ap (λ (zs : List X). x ∷ zs) (zip_first xs ys (omega (arith, e)))
 
 -- ---- bits of one name are different
 
@@ -158,9 +163,6 @@ are_fine known known_nets model mapped (a ∷ as) d e =
       equal_of : (m n : ℕ) → nat_eq m n ≡ true → m ≡ n
       equal_of m n h = grind (arith, nat_tests)
 
-      map_length : {X Y : Type 0} (f : X → Y) (xs : List X) → length (map f xs) ≡ length xs
-      map_length f [] = refl
-      map_length f (x ∷ xs) = let n : length (map f xs) ≡ length xs = map_length f xs in omega (arith, n)
 
 pub record IsMapped (table : List ModelPins) (f : StructuralFile) (i : InstanceStatement) : Type 0 where
   pub known : List Symbol
@@ -195,10 +197,7 @@ ends_are known known_nets label (a ∷ as) h =
     map_append first (links_of known known_nets label a) (flat_map (links_of known known_nets label) as)
     ∙ ap (λ (ts : List Terminal). ts ++ map first (flat_map (links_of known known_nets label) as)) (zip_first (map (pin_of label) (pin_names known a)) (net_names known_nets a) (m1 ∙ sym fine.wide ∙ sym m2))
     ∙ ap (λ (ts : List Terminal). map (pin_of label) (pin_names known a) ++ ts) (ends_are known known_nets label as (λ b g. h b (there g)))
-    ∙ sym (map_append (pin_of label) (pin_names known a) (flat_map (pin_names known) as)) where
-      map_length : {X Y : Type 0} (f : X → Y) (xs : List X) → length (map f xs) ≡ length xs
-      map_length f [] = refl
-      map_length f (x ∷ xs) = let n : length (map f xs) ≡ length xs = map_length f xs in omega (arith, n)
+    ∙ sym (map_append (pin_of label) (pin_names known a) (flat_map (pin_names known) as))
 
 pub instance_ends : (table : List ModelPins) (f : StructuralFile) (i : InstanceStatement) (m : IsMapped table f i) → map (λ l. l.0) (instance_links f i) ≡ map (pin_of i.label) (flat_map (pin_names m.known) i.associations)
 instance_ends table f i m =

@@ -8,3 +8,4 @@ pub mod Linked
 pub mod Adding
 pub mod Supplies
 pub mod Condition
+pub mod Drafted

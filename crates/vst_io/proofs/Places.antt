@@ -58,6 +58,10 @@ no_tie n name h same =
     let no : eq_by_cmp name_cmp n n ≡ false = subst (λ (x : Name). eq_by_cmp name_cmp n x ≡ false) same h in
     absurd (cc (yes, no))
 
+nowhere : (names : List Name) (name n : Name) → In name (n ∷ names) → (name ≡ n → ⊥) → (In name names → ⊥) → ⊥
+nowhere names name n here p q = p refl
+nowhere names name n (there g) p q = q g
+
 -- where a name stands last, it stands; without such a place it stands nowhere
 abbrev pub IsLast : List Name → Name → Option ℕ → Type 0
 IsLast names name None = In name names → ⊥
@@ -69,10 +73,7 @@ last_is (n ∷ names) name = by (last_place names name) (eq_by_cmp name_cmp n na
   by : (o : Option ℕ) (b : Bool) → eq_by_cmp name_cmp n name ≡ b → IsLast names name o
       → IsLast (n ∷ names) name (option_or (option_map (λ k. k + 1) o) (if b then Some 0 else None))
   by None true e h = ap Some (sym (tie n name e))
-  by None false e h = λ g. first names name n g (no_tie n name e) h where
-    first : (names : List Name) (name n : Name) → In name (n ∷ names) → (name ≡ n → ⊥) → (In name names → ⊥) → ⊥
-    first names name n here p q = p refl
-    first names name n (there g) p q = q g
+  by None false e h = λ g. nowhere names name n g (no_tie n name e) h
   by (Some j) b e h = let P : ℕ → Type 0 = λ k. Stands (n ∷ names) k name in let plus : suc j ≡ j + 1 = sym (add-one j) in subst P plus h
 
 -- of a name that is there

@@ -10,7 +10,7 @@ ghost use Rattle.vst_io.specs.Checked.{IsDeclared, IsChecked, IsFaultOf};
 
 use crate::bits::port_bits;
 use crate::components::unlisted;
-use crate::declared::{form_fault, width_fault};
+use crate::forms::{form_fault, width_fault};
 use crate::known::Known;
 use crate::maps::map_faults;
 use source_meaning::repeated;

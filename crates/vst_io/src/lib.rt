@@ -1,14 +1,2 @@
 //! Structural texts as netlists.
 #![tactic(auto)]
-
-mod bits;
-mod build;
-mod checking;
-mod components;
-mod declared;
-mod known;
-mod linking;
-mod maps;
-mod reader;
-
-pub use reader::read_vst;

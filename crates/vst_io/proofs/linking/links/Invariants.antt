@@ -7,5 +7,5 @@ use Rattle.vst_io.proofs.linking.links.Given as goal
 
 abbrev pub invariant-loop-instance : goal.invariant-loop-instance
 invariant-loop-instance l =
-    l.links.items ++ flat_map (instance_links l.known.file) (drop l.instance-index l.known.file.instances)
-    ≡ map (λ (p : Port). (port p.name, p.name)) l.ports ++ flat_map (instance_links l.known.file) l.known.file.instances
+    l.links.items ++ flat_map (instance_links l.known.file) (drop l.instance-index l.instance-items)
+    ≡ map (λ (p : Port). (port p.name, p.name)) l.ports ++ flat_map (instance_links l.known.file) l.instance-items

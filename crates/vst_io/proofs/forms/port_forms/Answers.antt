@@ -4,7 +4,7 @@ use Rattle.source_meaning.specs.Lines.{first_line}
 use Rattle.source_meaning.proofs.Turns.{turn}
 use Rattle.source_meaning.proofs.FirstLines.{first_line_append}
 use Rattle.vst_io.specs.Faults.{port_form}
-use Rattle.vst_io.proofs.declared.port_forms.Goals as goal
+use Rattle.vst_io.proofs.forms.port_forms.Goals as goal
 
 pub returns-in-Some : goal.returns-in-Some
 returns-in-Some c =
