@@ -154,8 +154,8 @@ fn statements_form(table: &SymbolTable, statements: &[Statement]) -> Option<u32>
     None
 }
 
-/// The line of the first supply among names that aren't of an input of one bit.
-fn supply_fault(fits: bool, names: &[NewName]) -> Option<u32>
+/// The line of the first supply among names that aren't of an input of one bit. Takes no memory.
+pub fn supply_fault(fits: bool, names: &[NewName]) -> Option<u32>
     ensures { result ≡ first_line (supply_faults fits names.now) }
 {
     for name in names {
@@ -166,7 +166,8 @@ fn supply_fault(fits: bool, names: &[NewName]) -> Option<u32>
     None
 }
 
-fn is_resolved(word: TypeWord) -> bool
+/// Whether this is one of the types mux and wor, which are left out.
+pub fn is_resolved(word: TypeWord) -> bool
     ensures { result ≡ is_resolved word }
 {
     matches!(

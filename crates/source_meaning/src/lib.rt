@@ -14,7 +14,7 @@ mod undeclared;
 mod widths;
 
 pub use drivers::{DriverFault, NameFault, driver_fault};
-pub use forms::unsupported;
+pub use forms::{is_resolved, supply_fault, unsupported};
 pub use statement::{
     Assignment, Assignments, BlockStatement, Choice, DesignFile, Guarded, GuardedList, Selection,
     Statement, Statements, Target,
@@ -22,4 +22,4 @@ pub use statement::{
 pub use symbol_table::{Role, Symbol, SymbolTable};
 pub use twice::repeated;
 pub use undeclared::{Place, unknown};
-pub use widths::width_fault;
+pub use widths::{declared_fault, has_bit, ports_fault, width_fault};

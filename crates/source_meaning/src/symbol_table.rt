@@ -167,6 +167,47 @@ impl SymbolTable {
         Ok(SymbolTable { items, places })
     }
 
+    /// No names. Takes no memory.
+    pub fn empty(alloc: Global) -> Self
+        ensures { result ≡ [] }
+    {
+        SymbolTable {
+            items: Vec::new(alloc),
+            places: BTreeMap::new(alloc),
+        }
+    }
+
+    /// These names, and behind them those of ports. Takes memory for them, and time for the logarithm of the number of names beside.
+    pub fn with_ports(self, alloc: Global, groups: &[PortGroup]) -> Result<Self, AllocError>
+        ensures { IfOk result (λ table. table ≡ self ++ port_symbols groups.now) }
+    {
+        let SymbolTable {
+            mut items,
+            mut places,
+        } = self;
+        add_ports(alloc, &mut items, &mut places, groups)?;
+        Ok(SymbolTable { items, places })
+    }
+
+    /// These names, and behind them those of one declaration of signals. Takes memory and time as `with_ports`.
+    pub fn with_signals(self, alloc: Global, group: &SignalGroup) -> Result<Self, AllocError>
+        ensures { IfOk result (λ table. table ≡ self ++ symbols_named (role_of_word group.now.kind.word) group.now.kind.range group.now.line group.now.names) }
+    {
+        let SymbolTable {
+            mut items,
+            mut places,
+        } = self;
+        let kind = (role_of_word(group.kind.word), group.kind.range, group.line);
+        add_names(
+            alloc,
+            &mut items,
+            &mut places,
+            group.names.as_slice(),
+            kind,
+        )?;
+        Ok(SymbolTable { items, places })
+    }
+
     /// The declared name of this text.
     pub fn find(&self, text: &[u8]) -> Option<&Symbol>
         ensures { option_copied result ≡ find self.now text.now }

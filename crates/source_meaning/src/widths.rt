@@ -31,7 +31,8 @@ fn ordered_width(range: Range) -> Option<u64>
     }
 }
 
-fn has_bit(range: Range, k: u32) -> bool
+/// Whether the bounds of a range of a declaration hold this number.
+pub fn has_bit(range: Range, k: u32) -> bool
     ensures { result ≡ has_bit range k }
 {
     if range.falls {
@@ -416,7 +417,8 @@ fn statements_fault(
     Ok(None)
 }
 
-fn declared_fault(range: Option<Range>) -> Option<u32>
+/// The line of a range of a declaration whose bounds don't stand in the order of its word. Takes no memory.
+pub fn declared_fault(range: Option<Range>) -> Option<u32>
     ensures { result ≡ first_line (declared_faults range) }
 {
     match range {
@@ -431,7 +433,8 @@ fn declared_fault(range: Option<Range>) -> Option<u32>
     }
 }
 
-fn ports_fault(groups: &[PortGroup]) -> Option<u32>
+/// The line of the first range of ports whose bounds don't stand in the order of its word. Takes no memory.
+pub fn ports_fault(groups: &[PortGroup]) -> Option<u32>
     ensures { result ≡ first_line (port_faults groups.now) }
 {
     for group in groups {

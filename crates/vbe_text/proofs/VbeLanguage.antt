@@ -53,7 +53,7 @@ exact_target_behind : (room : ℕ) (t : PlacedToken) → Language (target_behind
 unfolding target_behind target_behind_at
 exact_target_behind room t = exact_then (exact_selecting room) (λ s. exact_nothing (record { name = name_of t; line = t.line; selection = s })) refl
 
-exact_target : (room : ℕ) → Language (target room) false (numbers (form.Identifier ∷ [])) (numbers (paren ∷ [])) (target_at room)
+pub exact_target : (room : ℕ) → Language (target room) false (numbers (form.Identifier ∷ [])) (numbers (paren ∷ [])) (target_at room)
 unfolding target target_at
 exact_target room = exact_then (exact_one form.Identifier) (λ t. exact_target_behind room t) refl
 
@@ -133,7 +133,7 @@ exact_guard : (room : ℕ) → Language (guard room) false (numbers (form.Keywor
 unfolding guard guard_at
 exact_guard room = exact_then (exact_marked (form.Keyword word.Block) (λ _. starts)) (λ t. exact_then (exact_marked paren (λ _. opens room)) (λ u. exact_then (exact_condition (room - 1)) (λ e. exact_closing e) refl) refl) refl
 
-exact_repeated : (name : List ℕ) → Language (repeated name) false (numbers (form.Identifier ∷ semicolon ∷ [])) [] (repeated_at name)
+pub exact_repeated : (name : List ℕ) → Language (repeated name) false (numbers (form.Identifier ∷ semicolon ∷ [])) [] (repeated_at name)
 unfolding repeated repeated_at named_stop_at stop_at
 exact_repeated name = exact_behind form.Identifier
     (exact_then (exact_marked form.Identifier (λ t. spells name (name_of t))) (λ t. exact_then (exact_one semicolon) (λ u. exact_nothing tt) refl) refl)
@@ -168,7 +168,7 @@ exact_belonging : (name : List ℕ) → Language (belonging name) false (numbers
 unfolding belonging belonging_at
 exact_belonging name = exact_then (exact_one (form.Keyword word.Of)) (λ t. exact_then (exact_marked form.Identifier (λ u. spells name (name_of u))) (λ u. exact_then (exact_one (form.Keyword word.Is)) (λ w. exact_nothing tt) refl) refl) refl
 
-exact_architecture_head : (name : List ℕ) → Language (architecture_head name) false (numbers (form.Keyword word.Architecture ∷ [])) [] (architecture_head_at name)
+pub exact_architecture_head : (name : List ℕ) → Language (architecture_head name) false (numbers (form.Keyword word.Architecture ∷ [])) [] (architecture_head_at name)
 unfolding architecture_head architecture_head_at
 exact_architecture_head name = exact_then (exact_one (form.Keyword word.Architecture)) (λ t. exact_then exact_identifier (λ own. exact_then (exact_belonging name) (λ u. exact_nothing own) refl) refl) refl
 

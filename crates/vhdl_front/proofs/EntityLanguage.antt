@@ -89,7 +89,7 @@ exact_vector w kind room count = exact_then (exact_one (form.Keyword w)) (λ t. 
 abbrev port_types : Set
 port_types = numbers (form.Keyword word.Bit ∷ form.Keyword word.BitVector ∷ form.Keyword word.MuxBit ∷ form.Keyword word.WorBit ∷ form.Keyword word.MuxVector ∷ form.Keyword word.WorVector ∷ [])
 
-exact_port_type : (room count : ℕ) → Language (port_type room count) false port_types [] (port_type_at room count)
+pub exact_port_type : (room count : ℕ) → Language (port_type room count) false port_types [] (port_type_at room count)
 unfolding port_type port_type_at
 exact_port_type room count =
     exact_behind (form.Keyword word.Bit) (exact_scalar word.Bit type.Bit count)
@@ -130,7 +130,7 @@ pub exact_next_generic : Language next_generic false (numbers (form.Sign sign.Se
 unfolding next_generic next_generic_at
 exact_next_generic = exact_then (exact_one (form.Sign sign.Semicolon)) (λ t. exact_generic) refl
 
-exact_closed : {A : Type 0} (x : A) → Language (closed x) false (numbers (form.Sign sign.RightParen ∷ [])) [] (closed_at x)
+pub exact_closed : {A : Type 0} (x : A) → Language (closed x) false (numbers (form.Sign sign.RightParen ∷ [])) [] (closed_at x)
 unfolding closed closed_at
 exact_closed x = exact_then (exact_one (form.Sign sign.RightParen)) (λ t. exact_then (exact_one (form.Sign sign.Semicolon)) (λ u. exact_nothing x) refl) refl
 
@@ -157,7 +157,7 @@ exact_bus = exact_behind (form.Keyword word.Bus) (exact_then (exact_one (form.Ke
 abbrev port_lasts : Set
 port_lasts = numbers (form.Keyword word.Bus ∷ [])
 
-exact_port_behind : (room : ℕ) (n : Names) → Language (port_behind room n) false (numbers (form.Sign sign.Colon ∷ [])) port_lasts (port_behind_at room n)
+pub exact_port_behind : (room : ℕ) (n : Names) → Language (port_behind room n) false (numbers (form.Sign sign.Colon ∷ [])) port_lasts (port_behind_at room n)
 unfolding port_behind port_behind_at
 exact_port_behind room n = exact_then (exact_one (form.Sign sign.Colon)) (λ t. exact_then exact_port_mode (λ m. exact_then (exact_port_type room (length n.1)) (λ kind. exact_then exact_bus (λ b. exact_nothing (record { line = n.0; names = n.1; mode = m.0; mode_line = m.1; kind = kind; bus = b })) refl) refl) refl) refl
 

@@ -1,0 +1,4 @@
+pub mod VstLanguage
+pub mod Whole
+pub mod Laws
+pub mod Mapped

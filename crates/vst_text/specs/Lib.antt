@@ -1,1 +1,3 @@
 pub mod Vst
+pub mod VstReading
+pub mod Laws

@@ -1,0 +1,2 @@
+//! Structural texts as netlists.
+#![tactic(auto)]
