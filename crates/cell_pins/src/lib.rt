@@ -5,4 +5,5 @@ mod follows;
 mod pins;
 mod table;
 
+pub use pins::{all_ports, with_supplies};
 pub use table::pin_table;
