@@ -177,39 +177,47 @@ module _ (m : Machine) (checked : IsChecked m) (g : Graph) (sub : IsSubjectGraph
 
   -- ---- drivers
 
+  -- where a signal comes from
+  abbrev pub Begins : Signal → Type 0
+  Begins signal.High = Unit {0}
+  Begins signal.Low = Unit {0}
+  Begins signal.Clock = (name : Name) × (m.clock ≡ Some name)
+  Begins (signal.Node a) = (a < length (inputs m)) ⊎ ((s : Spot) × In s spots × (s.shown ≡ a))
+
   module _ (d : Drivers) (drv : AreDrivers m.clock (drivers_of m g ps marks) d) where
     abbrev pub Good : Signal → Type 0
-    Good s = In (driver d s, s) told × IsNumbered d s
+    Good s = In (driver d s, s) told × IsNumbered d s × Begins s
 
     abbrev drivers : List Terminal
     drivers = drivers_of m g ps marks
 
     good_high : Good signal.High
-    good_high = (subst (λ (t : Terminal). In (t, signal.High) told) (sym drv.on_high) on_vdd, tt)
+    good_high = (subst (λ (t : Terminal). In (t, signal.High) told) (sym drv.on_high) on_vdd, tt, tt)
 
     good_low : Good signal.Low
-    good_low = (subst (λ (t : Terminal). In (t, signal.Low) told) (sym drv.on_low) on_vss, tt)
+    good_low = (subst (λ (t : Terminal). In (t, signal.Low) told) (sym drv.on_low) on_vss, tt, tt)
 
     good_clock : (name : Name) → m.clock ≡ Some name → Good signal.Clock
     good_clock name is =
         let e : d.clock ≡ port name = drv.on_clock ∙ ap (λ (c : Option Name). port (unwrap_or c vss)) is in
-        (subst (λ (t : Terminal). In (t, signal.Clock) told) (sym e) (on_clock name is), tt)
+        (subst (λ (t : Terminal). In (t, signal.Clock) told) (sym e) (on_clock name is), tt, (name, is))
 
-    driven_by : (a : ℕ) (t : Terminal) → Stands drivers a t → In (t, signal.Node a) told → Good (signal.Node a)
-    driven_by a t stands h =
+    driven_by : (a : ℕ) (t : Terminal) → Begins (signal.Node a) → Stands drivers a t → In (t, signal.Node a) told → Good (signal.Node a)
+    driven_by a t begins stands h =
         let there_is : Stands d.nodes.items a t = subst (λ (ts : List Terminal). Stands ts a t) (sym drv.on_nodes) stands in
         (
           subst (λ (u : Terminal). In (u, signal.Node a) told) (sym (got d.nodes.items a t d.low there_is)) h,
           within d.nodes.items a t there_is,
+          begins,
         )
 
     of_spot : (s : Spot) (a : ℕ) → In s spots → s.shown ≡ a → Stands drivers a (output_terminal ps s) → Good (signal.Node a)
-    of_spot s a h e stands = driven_by a (output_terminal ps s) stands (subst (λ (x : ℕ). In (output_terminal ps s, signal.Node x) told) e (shows_told s h))
+    of_spot s a h e stands = driven_by a (output_terminal ps s) (inr (s, h, e)) stands (subst (λ (x : ℕ). In (output_terminal ps s, signal.Node x) told) e (shows_told s h))
 
     good_input : (a : ℕ) → a < length (inputs m) → Good (signal.Node a)
     good_input a low =
         let r = at_number (inputs m) a low in
-        driven_by a (port r.0)
+        driven_by a (port r.0) (inl low)
         (stands_left (map port (inputs m)) (map (output_terminal ps) registers ++ gate_drivers ps marks (held_count m) 0 g.nodes) a (port r.0)
         (mapped port (inputs m) a r.0 (number_stands (inputs m) a r.0 r.1)))
         (on_input a r.0 r.1)

@@ -5,3 +5,6 @@ pub mod PortSignals
 pub mod Spots
 pub mod Pins
 pub mod Driven
+pub mod Drawable
+pub mod Mapping
+pub mod Given

@@ -1,5 +1,5 @@
 -- What mapping asks of a machine and of a library, and what it gives beside a right netlist.
-use Rattle.std.specs.Prelude.{◌≡◌, ◌==◌, ◌↔◌, ℕ, ◌+◌, ◌*◌, ◌^◌, ◌<◌, Bool, not, List, [], ◌∷◌, length, Some, slice_get, IsTrue, count_by}
+use Rattle.std.specs.Prelude.{◌≡◌, ◌==◌, ◌↔◌, ℕ, ◌+◌, ◌*◌, ◌^◌, ◌<◌, Bool, not, List, [], ◌∷◌, length, Some, slice_get, IsTrue, filter}
 use Rattle.vlsi_base.specs.Member.{In}
 use Rattle.bool_expr.specs.Expression.{bit}
 use Rattle.machine_meaning.specs.Machine.{Machine}
@@ -57,7 +57,7 @@ pub record HasOneCellEach (n : InMemory) (m : Machine) (g : Graph) : Type 0 wher
   pub reached : List Bool
   pub many : length reached ≡ length g.nodes
   pub each : (j : ℕ) → j < length g.nodes → IsTrue (bit reached j) ↔ IsReached (held_count m) g (held_count m + j)
-  pub count : length n.instances ≡ length m.registers + count_by (λ b. b) reached
+  pub count : length n.instances ≡ length m.registers + length (filter (λ b. b) reached)
 
 -- so at most 2 more gates than the machine's size
 abbrev pub IsLeanFor : InMemory → Machine → Type 0

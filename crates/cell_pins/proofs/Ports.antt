@@ -70,7 +70,7 @@ in_filter t (p ∷ ps) q i = by (t p) refl i (λ j. in_filter t ps q j) where
   by true is j later = first q p (filter t ps) ps t is j later
   by false is j later = let r = later j in (there r.0, r.1)
 
-sorted_filter : (t : Port → Bool) (ps : List Port) → Sorted ps → Sorted (filter t ps)
+pub sorted_filter : (t : Port → Bool) (ps : List Port) → Sorted ps → Sorted (filter t ps)
 sorted_filter t [] s = tt
 sorted_filter t (p ∷ ps) s = by (t p) (sorted_filter t ps s.1) where
   by : (b : Bool) → Sorted (filter t ps) → Sorted (cond b (p ∷ filter t ps) (filter t ps))
