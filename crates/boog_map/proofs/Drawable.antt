@@ -7,7 +7,7 @@ use Rattle.vlsi_base.specs.declared.name.Port.{Port}
 use Rattle.vlsi_base.specs.declared.name.Terminal.{Terminal}
 use Rattle.vlsi_base.specs.Names.{vdd, vss}
 use Rattle.vlsi_base.specs.Member.{In}
-use Rattle.machine_meaning.specs.Machine.{Machine, inputs, input_ports, is_input, is_clock, names_of}
+use Rattle.machine_meaning.specs.Machine.{Machine, inputs, is_input, names_of}
 use Rattle.machine_meaning.specs.Size.{machine_size}
 use Rattle.machine_core.specs.Checked.{IsChecked}
 use Rattle.cell_model.specs.declared.kind.Kind.{Kind}
@@ -27,7 +27,6 @@ use Rattle.net_meaning.specs.Well.{gate_instance}
 use Rattle.net_theory.proofs.Basics.{In-map, length-map}
 use Rattle.graph_theory.specs.Graph.{Node, Graph, held_count}
 use Rattle.graph_theory.proofs.Names.{register_names, gate_names, not_both}
-use Rattle.subject_table.proofs.Shared.{all_kinds}
 use Rattle.subject_graph.specs.Subject.{IsSubjectGraph}
 use Rattle.boog_map.specs.declared.part.Part.{Part}
 use Rattle.boog_map.specs.declared.part.Parts.{Parts}
@@ -41,13 +40,11 @@ use Rattle.boog_map.specs.Tied.{part_of, AreParts, IsPart, kind_for}
 use Rattle.boog_map.specs.Draft.{instance_of, register_spots, gate_spots, gate_spot, port_signals, spot_signals, all_signals, tied_ports, driver, AreDrivers, CanJoin, IsDrawable}
 use Rattle.boog_map.specs.Mapped.{spots_of, drivers_of, IsSketch}
 use Rattle.boog_map.proofs.Lists.{in_there, within, stands_number}
+use Rattle.boog_map.proofs.Rooms.{few_nodes}
 use Rattle.boog_map.proofs.Spots.{register_at, register_count, gate_at, gate_count, named_is}
 use Rattle.boog_map.proofs.Supplied.{sorted_both, two_longer}
 use Rattle.boog_map.proofs.Pins.{gate_of}
 use Rattle.boog_map.proofs.Driven.{sorted, apart, told, is_part, formed, driven, terminals_told}
-
-pub filter_most : {A : Type 0} (p : A → Bool) (xs : List A) → length (filter p xs) ≤ length xs
-filter_most p xs = let h = length-filter_both p (λ x. not (p x)) (λ x. refl) xs in omega (arith, h)
 
 -- ---- how many pins a cell has
 
@@ -110,16 +107,6 @@ module _ (m : Machine) (checked : IsChecked m) (g : Graph) (sub : IsSubjectGraph
 
   -- ---- how many there are
 
-  pub few_nodes : length g.nodes ≤ machine_size m + 2
-  few_nodes = let all = all_kinds g.nodes in let a = sub.small.logic in let b = sub.small.zero in let c = sub.small.one in omega (arith, all, a, b, c)
-
-  pub few_inputs_held : length (inputs m) ≤ length m.ports
-  few_inputs_held =
-      let a = filter_most (λ name. not (is_clock m.clock name)) (input_ports m) in
-      let b = length-map (λ (p : Port). p.name) (filter (λ p. is_input p.dir) m.ports) in
-      let c = filter_most (λ (p : Port). is_input p.dir) m.ports in
-      omega (arith, a, b, c)
-
   registers_long : length registers ≡ length m.registers
   registers_long = register_count (length (inputs m)) 0 g.loads ∙ sub.roots.each
 
@@ -128,7 +115,7 @@ module _ (m : Machine) (checked : IsChecked m) (g : Graph) (sub : IsSubjectGraph
       let both = length-append registers gates in
       let a = registers_long in
       let b = gate_count marks (held_count m) 0 g.nodes in
-      let c = few_nodes in
+      let c = few_nodes m g sub in
       omega (arith, both, a, b, c)
 
   abbrev ports : List Port

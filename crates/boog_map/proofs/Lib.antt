@@ -1,10 +1,14 @@
 pub mod Lists
+pub mod Marking
 pub mod Classes
 pub mod Supplied
 pub mod PortSignals
 pub mod Spots
 pub mod Pins
 pub mod Driven
+pub mod Rooms
 pub mod Drawable
 pub mod Mapping
+pub mod Building
+pub mod Planning
 pub mod Given
