@@ -9,6 +9,7 @@ pub mod Driven
 pub mod Rooms
 pub mod Drawable
 pub mod Mapping
+pub mod Tests
 pub mod Building
 pub mod Planning
 pub mod Given

@@ -115,7 +115,8 @@ fn join_pins(
     requires { CanJoin (draft_terminals builder.now) drivers.now (spot_signals parts.now spot.now) }
     ensures { OnOk result (builder.new ≡ with_joins builder.old (map (join_of drivers.now) (spot_signals parts.now spot.now))) }
 {
-    for pin in &parts.of(spot.kind).ties {
+    let part = parts.of(spot.kind);
+    for pin in &part.ties {
         let terminal = Terminal {
             instance: Some(spot.name.copy(alloc)?),
             pin: pin.name.copy(alloc)?,

@@ -15,7 +15,7 @@ ghost use Rattle.boog_map.specs.Netlist.{IsChosen};
 ghost use Rattle.boog_map.specs.Tied.{is_pin, first_of, tie_of, tied_pin, part_of, IsPart, IsPartOf, AreParts};
 
 use cell_model::{Cell, Function, Kind, Pin, kind_of, usable};
-use cell_pins::all_ports;
+use cell_pins::{all_ports, is_scalar};
 use std::alloc::{AllocError, Global};
 use vlsi_base::{Dir, Name, Names, Port, Text};
 
@@ -72,13 +72,6 @@ impl Parts {
             Kind::Dff => &self.dff,
         }
     }
-}
-
-/// Whether a name is this scalar.
-pub(crate) fn is_scalar(name: &Name, text: &[u8]) -> bool
-    ensures { result ≡ is_same_name name.now (scalar text.now) }
-{
-    name.bit.is_none() && name.text.as_bytes() == text
 }
 
 fn first_input(pins: &[Pin]) -> Option<&Name>

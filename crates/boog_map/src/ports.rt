@@ -4,8 +4,8 @@ ghost use Rattle.std.specs.Option.{option_copied};
 ghost use Rattle.machine_meaning.specs.Machine.{is_input, is_clock};
 ghost use Rattle.boog_map.specs.Draft.{port_use, use_signal, inputs_after, outputs_after, HasOutput, tied_ports};
 
-use crate::part::is_scalar;
 use crate::place::Signal;
+use cell_pins::is_scalar;
 use std::alloc::{AllocError, Global};
 use vlsi_base::{Dir, Name, Port};
 
@@ -52,6 +52,7 @@ fn port_use(clock: Option<&Name>, port: &Port) -> PortUse
 }
 
 /// How many inputs and outputs came so far.
+#[derive(Drop)]
 pub(crate) struct Counts {
     inputs: u32,
     outputs: usize,
