@@ -55,11 +55,11 @@ signal_is : (ks : List ℕ) (told : List (Terminal × Signal)) (c i : ℕ) (x : 
 unfolding signal_at
 signal_is [] told c i x alike p q = absurd cc
 signal_is (k ∷ ks) [] c i x alike p q = absurd cc
-signal_is (k ∷ ks) (t ∷ ts) c i x alike p q = by (k == c) refl i p q where
-  by : (b : Bool) → (k == c) ≡ b → (i : ℕ) → Stands (k ∷ ks) i c → Stands (t ∷ ts) i x → (if b then t.1 else signal_at ks ts c) ≡ x.1
-  by true e i p q = let same_number : k ≡ c = eqb-true k c e in alike 0 i t x (ap Some same_number) p refl q
-  by false e zero p q = let same_number : k ≡ c = cc in absurd (let t : (k == c) ≡ true = eq-eqb k c same_number in let no : true ≡ false = sym t ∙ e in cc)
-  by false e (suc i) p q = signal_is ks ts c i x (λ i j x y a b f g. alike (suc i) (suc j) x y a b f g) p q
+signal_is (k ∷ ks) (t ∷ ts) c i x alike p q = by (λ j f g. signal_is ks ts c j x (λ i j x y a b f g. alike (suc i) (suc j) x y a b f g) f g) (k == c) refl i p q where
+  by : ((j : ℕ) → Stands ks j c → Stands ts j x → signal_at ks ts c ≡ x.1) → (b : Bool) → (k == c) ≡ b → (i : ℕ) → Stands (k ∷ ks) i c → Stands (t ∷ ts) i x → (if b then t.1 else signal_at ks ts c) ≡ x.1
+  by rest true e i p q = let same_number : k ≡ c = eqb-true k c e in alike 0 i t x (ap Some same_number) p refl q
+  by rest false e zero p q = let same_number : k ≡ c = cc in absurd (let t : (k == c) ≡ true = eq-eqb k c same_number in let no : true ≡ false = sym t ∙ e in cc)
+  by rest false e (suc i) p q = rest i p q
 
 unsourced : (s u : Signal) → source_of_signal s ≡ source_of_signal u → s ≡ u
 unsourced signal.High signal.High e = refl

@@ -43,7 +43,7 @@ use Rattle.boog_map.specs.Mapped.{spots_of, IsSketch, IsMapped}
 use Rattle.boog_map.proofs.Spots.{register_count, behind_count, behind_length, behind_bit, marks_behind}
 use Rattle.boog_map.proofs.Driven.{told}
 use Rattle.boog_map.proofs.Drawable.{drawable, instances_are, signals_are, few_count}
-use Rattle.boog_map.proofs.Mapping.{maps, found, sourced}
+use Rattle.boog_map.proofs.Seating.{maps, found, sourced}
 
 -- ---- the class of each terminal
 
@@ -93,15 +93,17 @@ class_is : (us : List Terminal) (ks : List ℕ) (t : Terminal) (i k : ℕ) → N
 unfolding class_at
 class_is [] ks t i k once p q = absurd cc
 class_is (u ∷ us) [] t i k once p q = absurd cc
-class_is (u ∷ us) (c ∷ ks) t i k once p q = by (is_same_terminal u t) refl i p q where
-  by : (b : Bool) → is_same_terminal u t ≡ b → (i : ℕ) → Stands (u ∷ us) i t → Stands (c ∷ ks) i k → (if b then c else class_at us ks t) ≡ k
-  by true e zero p q = cc
-  by true e (suc i) p q =
+class_is (u ∷ us) (c ∷ ks) t i k once p q = by (λ i p q. class_is us ks t i k later p q) (is_same_terminal u t) refl i p q where
+  later : NoneTwice us
+  later x y z a b = let h : suc x ≡ suc y = once (suc x) (suc y) z a b in omega (arith, h)
+
+  by : ((i : ℕ) → Stands us i t → Stands ks i k → class_at us ks t ≡ k) → (b : Bool) → is_same_terminal u t ≡ b → (i : ℕ) → Stands (u ∷ us) i t → Stands (c ∷ ks) i k → (if b then c else class_at us ks t) ≡ k
+  by rest true e zero p q = cc
+  by rest true e (suc i) p q =
       let same : u ≡ t = terminal_same u t e in
       let twice : suc i ≡ 0 = once (suc i) 0 t p (ap Some same) in absurd (omega (arith, twice))
-  by false e zero p q = let same : u ≡ t = cc in absurd (let yes = subst (λ (x : Terminal). is_same_terminal u x ≡ true) same (terminal_itself u) in let no : true ≡ false = sym yes ∙ e in cc)
-  by false e (suc i) p q =
-      class_is us ks t i k (λ x y z a b. let h : suc x ≡ suc y = once (suc x) (suc y) z a b in omega (arith, h)) p q
+  by rest false e zero p q = let same : u ≡ t = cc in absurd (let yes = subst (λ (x : Terminal). is_same_terminal u x ≡ true) same (terminal_itself u) in let no : true ≡ false = sym yes ∙ e in cc)
+  by rest false e (suc i) p q = rest i p q
 
 abbrev class_of : InMemory → Terminal → ℕ
 class_of n t = class_at (terminals n) n.classes t

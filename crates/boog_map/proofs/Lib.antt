@@ -1,4 +1,5 @@
 pub mod Lists
+pub mod Firsts
 pub mod Marking
 pub mod Classes
 pub mod Supplied
@@ -8,8 +9,9 @@ pub mod Pins
 pub mod Driven
 pub mod Rooms
 pub mod Drawable
-pub mod Mapping
+pub mod Seating
 pub mod Tests
+pub mod Steps
 pub mod Building
 pub mod Planning
 pub mod Given

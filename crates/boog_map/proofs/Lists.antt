@@ -1,5 +1,5 @@
 -- Places of a list's elements.
-use Rattle.std.proofs.Common.{◌≡◌, ℕ, zero, suc, ◌+◌, ◌<◌, List, [], ◌∷◌, ◌++◌, map, length, Some, refl, sym, ap, ◌∙◌, subst, arith, get_or}
+use Rattle.std.proofs.Common.{◌≡◌, ℕ, zero, suc, ◌+◌, ◌<◌, List, [], ◌∷◌, ◌++◌, map, length, Some, refl, sym, ap, ◌∙◌, subst, arith, get_or, drop, drop-cons, add-one}
 use Rattle.std.proofs.lemmas.Option.{slice_get_within, get_or_from_slice_get}
 use Rattle.vlsi_base.specs.Member.{In, here, there}
 use Rattle.net_core.specs.Places.{Stands, IsThere}
@@ -42,3 +42,7 @@ in_insert x y (z ∷ xs) ys (there h) = there (in_insert x y xs ys h)
 pub in_middle : {A : Type 0} (y : A) (xs ys : List A) → In y (xs ++ y ∷ ys)
 in_middle y [] ys = here
 in_middle y (z ∷ xs) ys = there (in_middle y xs ys)
+
+-- what is left from an element on
+pub drop_next : {A : Type 0} (xs : List A) (i : ℕ) (x : A) → i < length xs → x ≡ get_or xs i x → drop i xs ≡ x ∷ drop (i + 1) xs
+drop_next {A} xs i x low is = drop-cons xs i x low ∙ ap (λ (y : A). y ∷ drop (suc i) xs) (sym is) ∙ ap (λ (j : ℕ). x ∷ drop j xs) (sym (add-one i))

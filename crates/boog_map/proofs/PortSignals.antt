@@ -66,9 +66,9 @@ front_back clock outs i o ys v e port_use_of.Low is h = elim (first_or e (tied v
   | inl a ↦ inl (inr (ap (λ (t : TiedPort). t.signal) a))
   | inr a ↦ inr a
 ]
-front_back clock outs i o ys v e port_use_of.Output is h = absurd (elim is [ inl a ↦ cc | inr a ↦ cc ])
-front_back clock outs i o ys v e port_use_of.Clock is h = absurd (elim is [ inl a ↦ cc | inr a ↦ cc ])
-front_back clock outs i o ys v e port_use_of.Input is h = absurd (elim is [ inl a ↦ cc | inr a ↦ cc ])
+front_back clock outs i o ys v e port_use_of.Output is h = elim is [ inl a ↦ absurd (cc a) | inr a ↦ absurd (cc a) ]
+front_back clock outs i o ys v e port_use_of.Clock is h = elim is [ inl a ↦ absurd (cc a) | inr a ↦ absurd (cc a) ]
+front_back clock outs i o ys v e port_use_of.Input is h = elim is [ inl a ↦ absurd (cc a) | inr a ↦ absurd (cc a) ]
 
 insert_back : (clock : Option Name) (outs : List ℕ) (i o : ℕ) (xs ys : List Port) (v : Port) (e : TiedPort) → IsSupplyUse (port_use clock v)
     → In e (tied_ports clock outs i o (xs ++ v ∷ ys)) → IsSupplySignal e.signal ⊎ In e (tied_ports clock outs i o (xs ++ ys))
@@ -198,13 +198,14 @@ pub input_told : (clock : Option Name) (outs : List ℕ) (i o : ℕ) (ps : List 
     → In (tied name (signal.Node (i + j))) (tied_ports clock outs i o ps)
 unfolding plain_use
 input_told clock outs i o [] apart j name h = absurd h
-input_told clock outs i o (p ∷ ps) apart j name h = by (is_input p.dir) (is_clock clock p.name) refl refl where
-  by : (d c : Bool) → is_input p.dir ≡ d → is_clock clock p.name ≡ c → In (tied name (signal.Node (i + j))) (tied_ports clock outs i o (p ∷ ps))
-  by d c e f =
+input_told clock outs i o (p ∷ ps) apart j name h =
+    by (λ i o j h. input_told clock outs i o ps (λ q k. apart q (there k)) j name h) (is_input p.dir) (is_clock clock p.name) refl refl where
+  by : ((i o j : ℕ) → IsNumber (plain_inputs clock ps) j name → In (tied name (signal.Node (i + j))) (tied_ports clock outs i o ps)) → (d c : Bool) → is_input p.dir ≡ d → is_clock clock p.name ≡ c → In (tied name (signal.Node (i + j))) (tied_ports clock outs i o (p ∷ ps))
+  by rest d c e f =
       subst (λ (ts : List TiedPort). In (tied name (signal.Node (i + j))) ts) (sym (tied_are clock outs i o p ps (plain_use d c) (use_is clock p (apart p here) d c e f)))
       (go d c j (subst (λ (xs : List Name). IsNumber xs j name) (inputs_are clock p ps d c e f) h)) where
         go : (d c : Bool) (j : ℕ) → IsNumber (inputs_front d c p.name (plain_inputs clock ps)) j name → In (tied name (signal.Node (i + j))) (front clock outs i o p (plain_use d c) ps)
-        go true true j h = there (input_told clock outs i o ps (λ q k. apart q (there k)) j name h)
+        go true true j h = there (rest i o j h)
         go true false zero h =
             let e : i + 0 ≡ i = omega arith in
             subst (λ (x : Name). In (tied x (signal.Node (i + 0))) (front clock outs i o p port_use_of.Input ps)) (sym h)
@@ -212,23 +213,24 @@ input_told clock outs i o (p ∷ ps) apart j name h = by (is_input p.dir) (is_cl
         go true false (suc j) h =
             let e : i + 1 + j ≡ i + suc j = omega arith in
             there (subst (λ (s : Signal). In (tied name s) (tied_ports clock outs (i + 1) o ps)) (number_move (i + 1 + j) (i + suc j) e)
-            (input_told clock outs (i + 1) o ps (λ q k. apart q (there k)) j name h))
-        go false c j h = there (input_told clock outs i (o + 1) ps (λ q k. apart q (there k)) j name h)
+            (rest (i + 1) o j h))
+        go false c j h = there (rest i (o + 1) j h)
 
 -- output k, behind o outputs, has the number that stands at o + k
 pub output_told : (clock : Option Name) (outs : List ℕ) (i o : ℕ) (ps : List Port) → NoSupplies ps → (k : ℕ) (name : Name) → IsNumber (plain_outputs ps) k name
     → In (tied name (signal.Node (get_or outs (o + k) 0))) (tied_ports clock outs i o ps)
 unfolding plain_use
 output_told clock outs i o [] apart k name h = absurd h
-output_told clock outs i o (p ∷ ps) apart k name h = by (is_input p.dir) (is_clock clock p.name) refl refl where
-  by : (d c : Bool) → is_input p.dir ≡ d → is_clock clock p.name ≡ c → In (tied name (signal.Node (get_or outs (o + k) 0))) (tied_ports clock outs i o (p ∷ ps))
-  by d c e f =
+output_told clock outs i o (p ∷ ps) apart k name h =
+    by (λ i o k h. output_told clock outs i o ps (λ q j. apart q (there j)) k name h) (is_input p.dir) (is_clock clock p.name) refl refl where
+  by : ((i o k : ℕ) → IsNumber (plain_outputs ps) k name → In (tied name (signal.Node (get_or outs (o + k) 0))) (tied_ports clock outs i o ps)) → (d c : Bool) → is_input p.dir ≡ d → is_clock clock p.name ≡ c → In (tied name (signal.Node (get_or outs (o + k) 0))) (tied_ports clock outs i o (p ∷ ps))
+  by rest d c e f =
       subst (λ (ts : List TiedPort). In (tied name (signal.Node (get_or outs (o + k) 0))) ts) (sym (tied_are clock outs i o p ps (plain_use d c) (use_is clock p (apart p here) d c e f)))
       (go d c k (subst (λ (xs : List Name). IsNumber xs k name) (outputs_are p ps d e) h)) where
         go : (d c : Bool) (k : ℕ) → IsNumber (outputs_front d p.name (plain_outputs ps)) k name
             → In (tied name (signal.Node (get_or outs (o + k) 0))) (front clock outs i o p (plain_use d c) ps)
-        go true true k h = there (output_told clock outs i o ps (λ q j. apart q (there j)) k name h)
-        go true false k h = there (output_told clock outs (i + 1) o ps (λ q j. apart q (there j)) k name h)
+        go true true k h = there (rest i o k h)
+        go true false k h = there (rest (i + 1) o k h)
         go false c zero h =
             let e : o + 0 ≡ o = omega arith in
             subst (λ (x : Name). In (tied x (signal.Node (get_or outs (o + 0) 0))) (front clock outs i o p port_use_of.Output ps)) (sym h)
@@ -236,14 +238,14 @@ output_told clock outs i o (p ∷ ps) apart k name h = by (is_input p.dir) (is_c
         go false c (suc k) h =
             let e : o + 1 + k ≡ o + suc k = omega arith in
             there (subst (λ (n : ℕ). In (tied name (signal.Node (get_or outs n 0))) (tied_ports clock outs i (o + 1) ps)) e
-            (output_told clock outs i (o + 1) ps (λ q j. apart q (there j)) k name h))
+            (rest i (o + 1) k h))
 
 -- the clock
 pub clock_told : (clock : Option Name) (outs : List ℕ) (i o : ℕ) (ps : List Port) → NoSupplies ps → (name : Name) → is_clock clock name ≡ true → In name (input_names ps)
     → In (tied name signal.Clock) (tied_ports clock outs i o ps)
 unfolding plain_use
 clock_told clock outs i o [] apart name is h = elim h [ ]
-clock_told clock outs i o (p ∷ ps) apart name is h = by (is_input p.dir) refl h where
+clock_told clock outs i o (p ∷ ps) apart name is h = by (λ i o h. clock_told clock outs i o ps (λ q j. apart q (there j)) name is h) (is_input p.dir) refl h where
   abbrev Goal : List TiedPort → Type 0
   Goal ts = In (tied name signal.Clock) ts
 
@@ -251,23 +253,23 @@ clock_told clock outs i o (p ∷ ps) apart name is h = by (is_input p.dir) refl 
   first_name ys here = inl refl
   first_name ys (there i) = inr i
 
-  by : (d : Bool) → is_input p.dir ≡ d → In name (names_of (if d then p ∷ filter (λ q. is_input q.dir) ps else filter (λ q. is_input q.dir) ps))
+  by : ((i o : ℕ) → In name (input_names ps) → In (tied name signal.Clock) (tied_ports clock outs i o ps)) → (d : Bool) → is_input p.dir ≡ d → In name (names_of (if d then p ∷ filter (λ q. is_input q.dir) ps else filter (λ q. is_input q.dir) ps))
       → Goal (tied_ports clock outs i o (p ∷ ps))
-  by false e h =
+  by rest false e h =
       subst Goal (sym (tied_are clock outs i o p ps port_use_of.Output (use_is clock p (apart p here) false (is_clock clock p.name) e refl)))
-      (there (clock_told clock outs i (o + 1) ps (λ q j. apart q (there j)) name is h))
-  by true e h = go (is_clock clock p.name) refl (first_name (input_names ps) h) where
+      (there (rest i (o + 1) h))
+  by rest true e h = go (is_clock clock p.name) refl (first_name (input_names ps) h) where
     go : (c : Bool) → is_clock clock p.name ≡ c → (name ≡ p.name) ⊎ In name (input_names ps) → Goal (tied_ports clock outs i o (p ∷ ps))
     go true f (inl same) =
         subst Goal (sym (tied_are clock outs i o p ps port_use_of.Clock (use_is clock p (apart p here) true true e f)))
         (subst (λ (x : Name). In (tied x signal.Clock) (front clock outs i o p port_use_of.Clock ps)) (sym same) here)
     go true f (inr later) =
         subst Goal (sym (tied_are clock outs i o p ps port_use_of.Clock (use_is clock p (apart p here) true true e f)))
-        (there (clock_told clock outs i o ps (λ q j. apart q (there j)) name is later))
+        (there (rest i o later))
     go false f (inl same) = absurd (let no : true ≡ false = sym is ∙ ap (is_clock clock) same ∙ f in cc)
     go false f (inr later) =
         subst Goal (sym (tied_are clock outs i o p ps port_use_of.Input (use_is clock p (apart p here) true false e f)))
-        (there (clock_told clock outs (i + 1) o ps (λ q j. apart q (there j)) name is later))
+        (there (rest (i + 1) o later))
 
 -- what a port's signal is, by the names of inputs and outputs
 pub data IsPortSignal (clock : Option Name) (outs : List ℕ) (i o : ℕ) (xs ys : List Name) (s : Signal) : Type 0 where
@@ -292,9 +294,9 @@ pub signal_told : (clock : Option Name) (outs : List ℕ) (i o : ℕ) (ps : List
     → IsPortSignal clock outs i o (plain_inputs clock ps) (plain_outputs ps) e.signal
 unfolding plain_use
 signal_told clock outs i o [] apart e h = elim h [ ]
-signal_told clock outs i o (p ∷ ps) apart e h = by (is_input p.dir) (is_clock clock p.name) refl refl where
-  by : (d c : Bool) → is_input p.dir ≡ d → is_clock clock p.name ≡ c → IsPortSignal clock outs i o (plain_inputs clock (p ∷ ps)) (plain_outputs (p ∷ ps)) e.signal
-  by d c f g =
+signal_told clock outs i o (p ∷ ps) apart e h = by (λ i o h. signal_told clock outs i o ps (λ q j. apart q (there j)) e h) (is_input p.dir) (is_clock clock p.name) refl refl where
+  by : ((i o : ℕ) → In e (tied_ports clock outs i o ps) → IsPortSignal clock outs i o (plain_inputs clock ps) (plain_outputs ps) e.signal) → (d c : Bool) → is_input p.dir ≡ d → is_clock clock p.name ≡ c → IsPortSignal clock outs i o (plain_inputs clock (p ∷ ps)) (plain_outputs (p ∷ ps)) e.signal
+  by rest d c f g =
       subst (λ (xs : List Name). IsPortSignal clock outs i o xs (plain_outputs (p ∷ ps)) e.signal) (sym (inputs_are clock p ps d c f g))
       (subst (λ (ys : List Name). IsPortSignal clock outs i o (inputs_front d c p.name (plain_inputs clock ps)) ys e.signal) (sym (outputs_are p ps d f))
       (go d c g (subst (λ (ts : List TiedPort). In e ts) (tied_are clock outs i o p ps (plain_use d c) (use_is clock p (apart p here) d c f g)) h))) where
@@ -302,15 +304,15 @@ signal_told clock outs i o (p ∷ ps) apart e h = by (is_input p.dir) (is_clock 
             → IsPortSignal clock outs i o (inputs_front d c p.name (plain_inputs clock ps)) (outputs_front d p.name (plain_outputs ps)) e.signal
         go true true g h = elim (first_or e (tied p.name signal.Clock) (tied_ports clock outs i o ps) h) [
           | inl a ↦ of_clock p.name g (ap (λ (t : TiedPort). t.signal) a)
-          | inr a ↦ signal_told clock outs i o ps (λ q j. apart q (there j)) e a
+          | inr a ↦ rest i o a
         ]
         go true false g h = elim (first_or e (tied p.name (signal.Node i)) (tied_ports clock outs (i + 1) o ps) h) [
           | inl a ↦ let n : i ≡ i + 0 = omega arith in of_input 0 p.name refl (ap (λ (t : TiedPort). t.signal) a ∙ number_move i (i + 0) n)
-          | inr a ↦ after_input clock outs i o p.name (plain_inputs clock ps) (plain_outputs ps) e.signal (signal_told clock outs (i + 1) o ps (λ q j. apart q (there j)) e a)
+          | inr a ↦ after_input clock outs i o p.name (plain_inputs clock ps) (plain_outputs ps) e.signal (rest (i + 1) o a)
         ]
         go false c g h = elim (first_or e (tied p.name (signal.Node (get_or outs o 0))) (tied_ports clock outs i (o + 1) ps) h) [
           | inl a ↦
               let n : o ≡ o + 0 = omega arith in
               of_output 0 p.name refl (ap (λ (t : TiedPort). t.signal) a ∙ ap (λ (x : ℕ). signal.Node (get_or outs x 0)) n)
-          | inr a ↦ after_output clock outs i o (plain_inputs clock ps) p.name (plain_outputs ps) e.signal (signal_told clock outs i (o + 1) ps (λ q j. apart q (there j)) e a)
+          | inr a ↦ after_output clock outs i o (plain_inputs clock ps) p.name (plain_outputs ps) e.signal (rest i (o + 1) a)
         ]

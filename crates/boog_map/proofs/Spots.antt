@@ -59,21 +59,21 @@ shift marks number k first nodes j m s same r =
 
 pub gate_at : (marks : List Bool) (number k : ℕ) (nodes : List Node) (j : ℕ) (s : Spot) → IsNumber (gate_spots marks number k nodes) j s → GateAt marks number k nodes j s
 gate_at marks number k [] j s h = absurd h
-gate_at marks number k (first ∷ nodes) j s h = by (bit marks number) refl j h where
-  by : (b : Bool) → bit marks number ≡ b → (j : ℕ)
+gate_at marks number k (first ∷ nodes) j s h = by (λ k j h. gate_at marks (suc number) k nodes j s h) (bit marks number) refl j h where
+  by : ((k j : ℕ) → IsNumber (gate_spots marks (suc number) k nodes) j s → GateAt marks (suc number) k nodes j s) → (b : Bool) → bit marks number ≡ b → (j : ℕ)
       → IsNumber (if b then gate_spot k number first ∷ gate_spots marks (suc number) (suc k) nodes else gate_spots marks (suc number) k nodes) j s
       → GateAt marks number k (first ∷ nodes) j s
-  by true e zero h =
+  by rest true e zero h =
       let n : number ≡ number + 0 = omega arith in
       let m : k ≡ k + 0 = omega arith in
       let P : ℕ → Type 0 = λ x. bit marks x ≡ true in
       (0, first, refl, subst P n e, h ∙ ap (λ (x : ℕ). gate_spot x number first) m ∙ ap (λ (x : ℕ). gate_spot (k + 0) x first) n)
-  by true e (suc j) h =
-      let r = gate_at marks (suc number) (suc k) nodes j s h in
+  by rest true e (suc j) h =
+      let r = rest (suc k) j h in
       let n : suc k + j ≡ k + suc j = omega arith in
       let moved : GateAt marks (suc number) k nodes (suc j) s = (r.0, r.1, r.2, r.3, r.4 ∙ ap (λ (x : ℕ). gate_spot x (suc number + r.0) r.1) n) in
       shift marks number k first nodes (suc j) (suc j) s refl moved
-  by false e j h = shift marks number k first nodes j j s refl (gate_at marks (suc number) k nodes j s h)
+  by rest false e j h = shift marks number k first nodes j j s refl (rest k j h)
 
 -- a marked node is a gate, whose output pin drives its number
 pub GateFound : Parts → List Bool → ℕ → ℕ → List Node → ℕ → Node → Type 0
@@ -103,21 +103,21 @@ gate_found ps marks number k (first ∷ nodes) zero one h is = by (bit marks num
       0 (output_terminal ps (gate_spot (k + j) (number + 0) one))
   by true e = (0, the_spot, ap (output_terminal ps) the_spot)
   by false e = absurd (let no : true ≡ false = sym here_is ∙ e in cc)
-gate_found ps marks number k (first ∷ nodes) (suc i) one h is = by (bit marks number) where
+gate_found ps marks number k (first ∷ nodes) (suc i) one h is = by (λ k m. gate_found ps marks (suc number) k nodes i one h m) (bit marks number) where
   same : suc number + i ≡ number + suc i
   same = omega arith
 
   marked : bit marks (suc number + i) ≡ true
   marked = let P : ℕ → Type 0 = λ x. bit marks x ≡ true in subst P (sym same) is
 
-  by : (b : Bool)
+  by : ((k : ℕ) → bit marks (suc number + i) ≡ true → GateFound ps marks (suc number) k nodes i one) → (b : Bool)
       → (j : ℕ)
       × IsNumber (if b then gate_spot k number first ∷ gate_spots marks (suc number) (suc k) nodes else gate_spots marks (suc number) k nodes) j (gate_spot (k + j) (number + suc i) one)
       × IsNumber
       (if b then output_terminal ps (gate_spot k number first) ∷ gate_drivers ps marks (suc number) (suc k) nodes else port vss ∷ gate_drivers ps marks (suc number) k nodes)
       (suc i) (output_terminal ps (gate_spot (k + j) (number + suc i) one))
-  by true =
-      let r = gate_found ps marks (suc number) (suc k) nodes i one h marked in
+  by rest true =
+      let r = rest (suc k) marked in
       let n : suc k + r.0 ≡ k + suc r.0 = omega arith in
       let spot : gate_spot (suc k + r.0) (suc number + i) one ≡ gate_spot (k + suc r.0) (number + suc i) one =
       ap (λ (x : ℕ). gate_spot x (suc number + i) one) n ∙ ap (λ (x : ℕ). gate_spot (k + suc r.0) x one) same in
@@ -126,8 +126,8 @@ gate_found ps marks number k (first ∷ nodes) (suc i) one h is = by (bit marks 
         subst (λ (s : Spot). IsNumber (gate_spots marks (suc number) (suc k) nodes) r.0 s) spot r.1,
         subst (λ (s : Spot). IsNumber (gate_drivers ps marks (suc number) (suc k) nodes) i (output_terminal ps s)) spot r.2,
       )
-  by false =
-      let r = gate_found ps marks (suc number) k nodes i one h marked in
+  by rest false =
+      let r = rest k marked in
       let spot : gate_spot (k + r.0) (suc number + i) one ≡ gate_spot (k + r.0) (number + suc i) one = ap (λ (x : ℕ). gate_spot (k + r.0) x one) same in
       (
         r.0,
@@ -158,26 +158,26 @@ shown_low marks number k nodes j s h =
 pub rising : (marks : List Bool) (number k : ℕ) (nodes : List Node) (i j : ℕ) (s u : Spot) → IsNumber (gate_spots marks number k nodes) i s
     → IsNumber (gate_spots marks number k nodes) j u → i < j → s.shown < u.shown
 rising marks number k [] i j s u p q less = absurd p
-rising marks number k (first ∷ nodes) i j s u p q less = by (bit marks number) i j p q less where
-  by : (b : Bool) (i j : ℕ)
+rising marks number k (first ∷ nodes) i j s u p q less = by (λ k i j p q less. rising marks (suc number) k nodes i j s u p q less) (bit marks number) i j p q less where
+  by : ((k i j : ℕ) → IsNumber (gate_spots marks (suc number) k nodes) i s → IsNumber (gate_spots marks (suc number) k nodes) j u → i < j → s.shown < u.shown) → (b : Bool) (i j : ℕ)
       → IsNumber (if b then gate_spot k number first ∷ gate_spots marks (suc number) (suc k) nodes else gate_spots marks (suc number) k nodes) i s
       → IsNumber (if b then gate_spot k number first ∷ gate_spots marks (suc number) (suc k) nodes else gate_spots marks (suc number) k nodes) j u
       → i < j → s.shown < u.shown
-  by true i zero p q less = absurd (omega (arith, less))
-  by true zero (suc j) p q less =
+  by rest true i zero p q less = absurd (omega (arith, less))
+  by rest true zero (suc j) p q less =
       let low = shown_low marks (suc number) (suc k) nodes j u q in
       let e : s.shown ≡ number = ap (λ (x : Spot). x.shown) p ∙ shown_is k number first in omega (arith, low, e)
-  by true (suc i) (suc j) p q less = rising marks (suc number) (suc k) nodes i j s u p q (omega (arith, less))
-  by false i j p q less = rising marks (suc number) k nodes i j s u p q less
+  by rest true (suc i) (suc j) p q less = rest (suc k) i j p q (omega (arith, less))
+  by rest false i j p q less = rest k i j p q less
 
 -- ---- how many
 
 pub gate_count : (marks : List Bool) (number k : ℕ) (nodes : List Node) → length (gate_spots marks number k nodes) ≤ length nodes
 gate_count marks number k [] = omega arith
-gate_count marks number k (first ∷ nodes) = by (bit marks number) where
-  by : (b : Bool) → length (if b then gate_spot k number first ∷ gate_spots marks (suc number) (suc k) nodes else gate_spots marks (suc number) k nodes) ≤ length (first ∷ nodes)
-  by true = let h = gate_count marks (suc number) (suc k) nodes in omega (arith, h)
-  by false = let h = gate_count marks (suc number) k nodes in omega (arith, h)
+gate_count marks number k (first ∷ nodes) = by (λ k. gate_count marks (suc number) k nodes) (bit marks number) where
+  by : ((k : ℕ) → length (gate_spots marks (suc number) k nodes) ≤ length nodes) → (b : Bool) → length (if b then gate_spot k number first ∷ gate_spots marks (suc number) (suc k) nodes else gate_spots marks (suc number) k nodes) ≤ length (first ∷ nodes)
+  by rest true = let h = rest (suc k) in omega (arith, h)
+  by rest false = let h = rest k in omega (arith, h)
 
 -- the marks of nodes, behind those of inputs and registers
 pub marks_behind : List Bool → ℕ → List Node → List Bool
@@ -187,11 +187,11 @@ marks_behind marks number (first ∷ nodes) = bit marks number ∷ marks_behind 
 pub behind_count : (marks : List Bool) (number k : ℕ) (nodes : List Node) → length (gate_spots marks number k nodes) ≡ length (filter (λ b. b) (marks_behind marks number nodes))
 unfolding marks_behind
 behind_count marks number k [] = refl
-behind_count marks number k (first ∷ nodes) = by (bit marks number) where
-  by : (b : Bool) → length (if b then gate_spot k number first ∷ gate_spots marks (suc number) (suc k) nodes else gate_spots marks (suc number) k nodes)
+behind_count marks number k (first ∷ nodes) = by (λ k. behind_count marks (suc number) k nodes) (bit marks number) where
+  by : ((k : ℕ) → length (gate_spots marks (suc number) k nodes) ≡ length (filter (λ c. c) (marks_behind marks (suc number) nodes))) → (b : Bool) → length (if b then gate_spot k number first ∷ gate_spots marks (suc number) (suc k) nodes else gate_spots marks (suc number) k nodes)
       ≡ length (if b then b ∷ filter (λ c. c) (marks_behind marks (suc number) nodes) else filter (λ c. c) (marks_behind marks (suc number) nodes))
-  by true = let h = behind_count marks (suc number) (suc k) nodes in omega (arith, h)
-  by false = behind_count marks (suc number) k nodes
+  by rest true = let h = rest (suc k) in omega (arith, h)
+  by rest false = rest k
 
 pub behind_length : (marks : List Bool) (number : ℕ) (nodes : List Node) → length (marks_behind marks number nodes) ≡ length nodes
 unfolding marks_behind

@@ -11,6 +11,7 @@ use Rattle.vlsi_base.specs.Names.{vdd, vss, comes_before}
 use Rattle.vlsi_base.specs.Member.{In, here, there}
 use Rattle.vlsi_base.proofs.NameOrder.{name_total, name_exact}
 use Rattle.machine_meaning.specs.Machine.{names_of}
+use Rattle.machine_meaning.specs.Named.{is_same_name}
 use Rattle.net_theory.proofs.Basics.{In-map, In-map_back}
 use Rattle.cell_pins.specs.Pins.{supply, with_supply}
 use Rattle.cell_pins.proofs.Ports.{Sorted, sorted_supply, with_cases, before_less}
@@ -35,23 +36,17 @@ before_trans a b c p q = ap is_lt (name_total.trans a b c (before_less a b p) (b
 
 filter_all : (t : Port → Bool) (ps : List Port) → ((p : Port) → In p ps → t p ≡ true) → filter t ps ≡ ps
 filter_all t [] each = refl
-filter_all t (p ∷ ps) each = by (t p) (each p here) where
-  rest : filter t ps ≡ ps
-  rest = filter_all t ps (λ q i. each q (there i))
-
-  by : (b : Bool) → b ≡ true → cond b (p ∷ filter t ps) (filter t ps) ≡ p ∷ ps
-  by true e = ap (λ (qs : List Port). p ∷ qs) rest
-  by false e = absurd cc
+filter_all t (p ∷ ps) each = by (t p) (each p here) (filter_all t ps (λ q i. each q (there i))) where
+  by : (b : Bool) → b ≡ true → filter t ps ≡ ps → cond b (p ∷ filter t ps) (filter t ps) ≡ p ∷ ps
+  by true e rest = ap (λ (qs : List Port). p ∷ qs) rest
+  by false e rest = absurd cc
 
 filter_none : (t : Port → Bool) (ps : List Port) → ((p : Port) → In p ps → t p ≡ false) → filter t ps ≡ []
 filter_none t [] each = refl
-filter_none t (p ∷ ps) each = by (t p) (each p here) where
-  rest : filter t ps ≡ []
-  rest = filter_none t ps (λ q i. each q (there i))
-
-  by : (b : Bool) → b ≡ false → cond b (p ∷ filter t ps) (filter t ps) ≡ []
-  by true e = absurd cc
-  by false e = rest
+filter_none t (p ∷ ps) each = by (t p) (each p here) (filter_none t ps (λ q i. each q (there i))) where
+  by : (b : Bool) → b ≡ false → filter t ps ≡ [] → cond b (p ∷ filter t ps) (filter t ps) ≡ []
+  by true e rest = absurd cc
+  by false e rest = rest
 
 pub parted : (name : Name) (ps : List Port) → Sorted ps → ((p : Port) → In p ps → p.name ≢ name)
     → ps ≡ filter (λ p. comes_before p.name name) ps ++ filter (λ p. comes_before name p.name) ps
@@ -95,7 +90,7 @@ one_longer name ps s apart =
     (λ xs ys. let a = length-append xs ys in let b = length-append xs (supply name ∷ ys) in omega (arith, a, b))
 
 vdd_is_not : vdd ≢ vss
-vdd_is_not e = let f : comes_before vdd vss ≡ comes_before vss vss = ap (λ (n : Name). comes_before n vss) e in absurd (let no : true ≡ false = f in cc)
+vdd_is_not e = let a : is_same_name vdd vdd ≡ is_same_name vdd vss = ap (is_same_name vdd) e in let b : true ≡ false = a in cc b
 
 module _ (ps : List Port) (sorted : Sorted ps) (apart : (p : Port) → In p ps → (p.name ≢ vdd) × (p.name ≢ vss)) where
   abbrev pub with_vdd : List Port

@@ -30,3 +30,13 @@ pub use_tests : (clock : Option Name) (p : Port) (a b d e : Bool) → is_same_na
 use_tests clock p a b d e h i j k =
     ap (λ (x : Bool). use_by x (is_same_name p.name vss) (is_input p.dir) (is_clock clock p.name)) h ∙ ap (λ (x : Bool). use_by a x (is_input p.dir) (is_clock clock p.name)) i
     ∙ ap (λ (x : Bool). use_by a b x (is_clock clock p.name)) j ∙ ap (λ (x : Bool). use_by a b d x) k
+
+-- an output by its use is no input
+pub use_out : (clock : Option Name) (p : Port) → port_use clock p ≡ port_use_of.Output → is_input p.dir ≡ false
+use_out clock p e = by (is_same_name p.name vdd) (is_same_name p.name vss) (is_input p.dir) (is_clock clock p.name) refl e where
+  by : (a b d c : Bool) → is_input p.dir ≡ d → use_by a b d c ≡ port_use_of.Output → is_input p.dir ≡ false
+  by true b d c f e = absurd (cc e)
+  by false true d c f e = absurd (cc e)
+  by false false true true f e = absurd (cc e)
+  by false false true false f e = absurd (cc e)
+  by false false false c f e = f
