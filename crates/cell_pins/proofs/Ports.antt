@@ -24,7 +24,7 @@ use Rattle.cell_pins.specs.Pins.{supply, with_supply, all_ports}
 
 -- ---- the order of names
 
-before_less : (a b : Name) → IsTrue (comes_before a b) → name_cmp a b ≡ Less
+pub before_less : (a b : Name) → IsTrue (comes_before a b) → name_cmp a b ≡ Less
 before_less a b h = by (name_cmp a b) h where
   by : (o : Ordering) → is_lt o ≡ true → o ≡ Less
   by Less e = refl
@@ -44,7 +44,7 @@ abbrev pub Sorted : List Port → Type 0
 Sorted [] = Unit {0}
 Sorted (p ∷ ps) = ((q : Port) → In q ps → IsTrue (comes_before p.name q.name)) × Sorted ps
 
-sorted_of : (ps : List Port) → AllPairs (λ a b. IsTrue (comes_before a b)) (names_of ps) → Sorted ps
+pub sorted_of : (ps : List Port) → AllPairs (λ a b. IsTrue (comes_before a b)) (names_of ps) → Sorted ps
 sorted_of [] h = tt
 sorted_of (p ∷ ps) h = (
   λ q i. let r = place-In q.name (names_of ps) (In-map (λ x. x.name) q ps i) in
@@ -70,7 +70,7 @@ in_filter t (p ∷ ps) q i = by (t p) refl i (λ j. in_filter t ps q j) where
   by true is j later = first q p (filter t ps) ps t is j later
   by false is j later = let r = later j in (there r.0, r.1)
 
-sorted_filter : (t : Port → Bool) (ps : List Port) → Sorted ps → Sorted (filter t ps)
+pub sorted_filter : (t : Port → Bool) (ps : List Port) → Sorted ps → Sorted (filter t ps)
 sorted_filter t [] s = tt
 sorted_filter t (p ∷ ps) s = by (t p) (sorted_filter t ps s.1) where
   by : (b : Bool) → Sorted (filter t ps) → Sorted (cond b (p ∷ filter t ps) (filter t ps))
@@ -89,7 +89,7 @@ behind_cases : (name : Name) (p q : Port) (g : List Port) → IsTrue (comes_befo
 behind_cases name p q g low high here = low
 behind_cases name p q g low high (there i) = before_trans p.name name q.name low (high q i)
 
-sorted_supply : (name : Name) (ps : List Port) → Sorted ps → Sorted (with_supply name ps)
+pub sorted_supply : (name : Name) (ps : List Port) → Sorted ps → Sorted (with_supply name ps)
 sorted_supply name ps s =
     let high = λ (r : Port) (i : In r (filter (λ p. comes_before name p.name) ps)). (in_filter (λ p. comes_before name p.name) ps r i).1 in
     sorted_append (filter (λ p. comes_before p.name name) ps) (supply name ∷ filter (λ p. comes_before name p.name) ps)
@@ -125,7 +125,7 @@ port_connected c h q i = elim (with_cases vss (with_supply vdd (pin_ports c)) q 
   ]
 ]
 
-sorted_different : (ps : List Port) → Sorted ps → AllDifferent (names_of ps)
+pub sorted_different : (ps : List Port) → Sorted ps → AllDifferent (names_of ps)
 sorted_different [] s = tt
 sorted_different (p ∷ ps) s = (
   λ i. let r = In-map_back (λ x. x.name) p.name ps i in before_itself p.name (subst (λ n. IsTrue (comes_before p.name n)) r.2 (s.0 r.0 r.1)),

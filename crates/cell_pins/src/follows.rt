@@ -110,7 +110,8 @@ fn follows(alloc: Global, machine: &Machine, input: &Name, name: &Name) -> Resul
     Ok(value_at(machine.vars().as_slice(), &marks, name))
 }
 
-fn is_scalar(name: &Name, text: &[u8]) -> bool
+/// Whether a name is this text without a bit. Takes no memory.
+pub fn is_scalar(name: &Name, text: &[u8]) -> bool
     ensures { IsTrue result ↔ (name.now ≡ scalar text.now) }
 {
     name.bit.is_none() && name.text.as_bytes() == text

@@ -5,4 +5,6 @@ mod follows;
 mod pins;
 mod table;
 
+pub use follows::is_scalar;
+pub use pins::{all_ports, with_supplies};
 pub use table::pin_table;

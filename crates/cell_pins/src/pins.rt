@@ -1,6 +1,6 @@
 // The pins of a cell, with its supplies.
 ghost use Rattle.std.specs.Prelude.{◌≡◌, ◌↔◌, ◌++◌, map, filter, IsTrue, IfOk, OnOk};
-ghost use Rattle.vlsi_base.specs.Names.{scalar, comes_before};
+ghost use Rattle.vlsi_base.specs.Names.{scalar, vdd, vss, comes_before};
 ghost use Rattle.cell_model.specs.View.{function_view};
 ghost use Rattle.cell_model.specs.Cell.{pin_ports};
 ghost use Rattle.cell_pins.specs.Pins.{with_supply, all_ports, IsClockPin};
@@ -77,13 +77,20 @@ fn add_supply(alloc: Global, ports: &[Port], text: &[u8]) -> Result<Vec<Port>, A
     Ok(made)
 }
 
+/// Ports in the order of names with vdd and vss where their names belong. Takes memory for their names.
+pub fn with_supplies(alloc: Global, ports: &[Port]) -> Result<Vec<Port>, AllocError>
+    ensures { IfOk result (λ made. made.items ≡ with_supply vss (with_supply vdd ports.now)) }
+{
+    let ports = add_supply(alloc, ports, b"vdd")?;
+    add_supply(alloc, &ports, b"vss")
+}
+
 /// The pins of a cell in the order of names, vdd and vss among them. Takes memory for their names.
-pub(crate) fn all_ports(alloc: Global, cell: &Cell) -> Result<Vec<Port>, AllocError>
+pub fn all_ports(alloc: Global, cell: &Cell) -> Result<Vec<Port>, AllocError>
     ensures { IfOk result (λ ports. ports.items ≡ all_ports cell.now) }
 {
     let ports = signal_ports(alloc, cell.pins.as_slice())?;
-    let ports = add_supply(alloc, &ports, b"vdd")?;
-    add_supply(alloc, &ports, b"vss")
+    with_supplies(alloc, &ports)
 }
 
 /// Whether a pin of a cell with this function is a clock pin. Takes no memory.

@@ -137,6 +137,25 @@ roots_are first n before (a ∷ plain) low x is =
     ])
     is
 
+-- each root is below the number behind the further inverters
+pub roots_below : (first n : ℕ) (before plain : List ℕ) → AreBelow n plain → AreBelow (n + length (inverters_apart first n before plain)) (roots_apart first n before plain)
+roots_below first n before [] below x h = elim h [ ]
+roots_below first n before (a ∷ plain) below x is =
+    by_test
+    (λ b.
+    In x (if b then (n + 1) ∷ roots_apart first (n + 2) (a ∷ before) plain else a ∷ roots_apart first n (a ∷ before) plain)
+    → x < n + length (if b then inv a ∷ inv n ∷ inverters_apart first (n + 2) (a ∷ before) plain else inverters_apart first n (a ∷ before) plain))
+    (is_taken first before a)
+    (λ _ h. elim (In-first x (n + 1) (roots_apart first (n + 2) (a ∷ before) plain) h) [
+      | inl same ↦ omega (arith, same)
+      | inr rest ↦ let r = roots_below first (n + 2) (a ∷ before) plain (below_more n 2 plain (below_tail n a plain below)) x rest in omega (arith, r)
+    ])
+    (λ _ h. elim (In-first x a (roots_apart first n (a ∷ before) plain) h) [
+      | inl same ↦ let low = below a here in omega (arith, same, low)
+      | inr rest ↦ roots_below first n (a ∷ before) plain (below_tail n a plain below) x rest
+    ])
+    is
+
 pub roots_differ : (first n : ℕ) (before plain : List ℕ) → first ≤ n → AreBelow n plain → AllDifferent (roots_apart first n before plain)
 roots_differ first n before [] low below = tt
 roots_differ first n before (a ∷ plain) low below =

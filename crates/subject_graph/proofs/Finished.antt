@@ -16,9 +16,9 @@ use Rattle.subject_table.specs.Grows.{AreBelow}
 use Rattle.subject_table.proofs.Tables.{node_eq}
 use Rattle.subject_table.proofs.Operators.{same_numbers}
 use Rattle.subject_table.specs.Shared.{AreShared}
-use Rattle.subject_graph.specs.Subject.{IsNumberable, IsSubjectGraph, roots_apart, inverters_apart}
+use Rattle.subject_graph.specs.Subject.{IsNumberable, IsSubjectGraph, HasRoots, roots_apart, inverters_apart}
 use Rattle.subject_graph.specs.Stages.{IsRooted, ShowsBehind}
-use Rattle.subject_graph.proofs.Apart.{length_roots, shown_values, further_reads, roots_are, roots_differ, number_apart, further_logic, further_fixed}
+use Rattle.subject_graph.proofs.Apart.{length_roots, shown_values, further_reads, roots_are, roots_below, roots_differ, number_apart, further_logic, further_fixed}
 use Rattle.subject_table.proofs.Shared.{are_shared, constant_once, all_kinds}
 
 grown-append : (w : List Bool) (xs ys : List Node) → grown w (xs ++ ys) ≡ grown (grown w xs) ys
@@ -133,12 +133,20 @@ module _ (m : Machine) (t : Table) (plain loads : List ℕ) (r : IsRooted m t pl
         omega (arith, all, last, one);
   }
 
+  roots : HasRoots m graph
+  roots = record {
+    shown = λ a h. let low = roots_below first behind [] plain below a h in let all = length-append (kinds t) further in omega (arith, low, all);
+    loaded = λ a h. let low = below_loads a h in let all = length-append (kinds t) further in omega (arith, low, all);
+    each = r.each;
+  }
+
   is_subject_graph : IsSubjectGraph m graph
   is_subject_graph = record {
     graph = record { earlier = earlier; shown = shown; loaded = loaded };
     apart = apart;
     small = small;
     shared = record { plain = plain; shared = kinds t; once = once; nodes = refl; roots = refl };
+    roots = roots;
   }
 
 pub finished : (m : Machine) (t : Table) (plain loads : List ℕ) → IsRooted m t plain loads → IsDistinct node_eq t.nodes.keys

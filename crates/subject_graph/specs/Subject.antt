@@ -4,6 +4,7 @@ use Rattle.bool_expr.specs.Support.{among}
 use Rattle.machine_meaning.specs.Machine.{Machine, inputs}
 use Rattle.machine_meaning.specs.Size.{machine_size}
 use Rattle.graph_theory.specs.Graph.{Node, inv, Graph, held_count, IsGraphOf, IsApart, IsSmall}
+use Rattle.subject_table.specs.Grows.{AreBelow}
 use Rattle.subject_table.specs.Shared.{AreShared}
 
 -- inputs, registers and nodes of logic, with the two constants, are fewer than 2^32
@@ -37,9 +38,16 @@ pub record IsSharedBehind (m : Machine) (g : Graph) : Type 0 where
   pub nodes : g.nodes ≡ shared ++ inverters_apart (length (inputs m)) (held_count m + length shared) [] plain
   pub roots : g.outputs ≡ roots_apart (length (inputs m)) (held_count m + length shared) [] plain
 
+-- each root is the number of an input, a register or a node, and each register has one
+pub record HasRoots (m : Machine) (g : Graph) : Type 0 where
+  pub shown : AreBelow (held_count m + length g.nodes) g.outputs
+  pub loaded : AreBelow (held_count m + length g.nodes) g.loads
+  pub each : length g.loads ≡ length m.registers
+
 -- the graph has the machine's functions, its outputs show different nodes, it is small, and its nodes are shared
 pub record IsSubjectGraph (m : Machine) (g : Graph) : Type 0 where
   pub graph : IsGraphOf m g
   pub apart : IsApart m g
   pub small : IsSmall m g
   pub shared : IsSharedBehind m g
+  pub roots : HasRoots m g

@@ -1,0 +1,17 @@
+pub mod Lists
+pub mod Firsts
+pub mod Marking
+pub mod Classes
+pub mod Supplied
+pub mod PortSignals
+pub mod Spots
+pub mod Pins
+pub mod Driven
+pub mod Rooms
+pub mod Drawable
+pub mod Seating
+pub mod Tests
+pub mod Steps
+pub mod Building
+pub mod Planning
+pub mod Given
