@@ -1,4 +1,4 @@
-use Rattle.vbe_words.proofs.Named.{pins_are_named}
+use Rattle.vbe_words.proofs.Supplied.{pins_are_named}
 use Rattle.vbe_words.proofs.laws.pins_are_named.Goals as goal
 
 pub returns : goal.returns

@@ -1,0 +1,7 @@
+mod Letters
+mod Cut
+mod Saying
+mod Sources
+mod Declaring
+mod Supplied
+mod Named
