@@ -31,10 +31,10 @@ before_less a b h = by (name_cmp a b) h where
   by Equal e = absurd cc
   by Greater e = absurd cc
 
-before_trans : (a b c : Name) → IsTrue (comes_before a b) → IsTrue (comes_before b c) → IsTrue (comes_before a c)
+pub before_trans : (a b c : Name) → IsTrue (comes_before a b) → IsTrue (comes_before b c) → IsTrue (comes_before a c)
 before_trans a b c p q = ap is_lt (name_total.trans a b c (before_less a b p) (before_less b c q))
 
-before_itself : (a : Name) → IsTrue (comes_before a a) → ⊥
+pub before_itself : (a : Name) → IsTrue (comes_before a a) → ⊥
 before_itself a h =
     let less = before_less a a h in
     let turned : Less ≡ Greater = sym less ∙ name_total.antisymm a a ∙ ap ordering_reverse less in absurd cc
@@ -44,7 +44,7 @@ abbrev pub Sorted : List Port → Type 0
 Sorted [] = Unit {0}
 Sorted (p ∷ ps) = ((q : Port) → In q ps → IsTrue (comes_before p.name q.name)) × Sorted ps
 
-sorted_of : (ps : List Port) → AllPairs (λ a b. IsTrue (comes_before a b)) (names_of ps) → Sorted ps
+pub sorted_of : (ps : List Port) → AllPairs (λ a b. IsTrue (comes_before a b)) (names_of ps) → Sorted ps
 sorted_of [] h = tt
 sorted_of (p ∷ ps) h = (
   λ q i. let r = place-In q.name (names_of ps) (In-map (λ x. x.name) q ps i) in
@@ -89,7 +89,7 @@ behind_cases : (name : Name) (p q : Port) (g : List Port) → IsTrue (comes_befo
 behind_cases name p q g low high here = low
 behind_cases name p q g low high (there i) = before_trans p.name name q.name low (high q i)
 
-sorted_supply : (name : Name) (ps : List Port) → Sorted ps → Sorted (with_supply name ps)
+pub sorted_supply : (name : Name) (ps : List Port) → Sorted ps → Sorted (with_supply name ps)
 sorted_supply name ps s =
     let high = λ (r : Port) (i : In r (filter (λ p. comes_before name p.name) ps)). (in_filter (λ p. comes_before name p.name) ps r i).1 in
     sorted_append (filter (λ p. comes_before p.name name) ps) (supply name ∷ filter (λ p. comes_before name p.name) ps)

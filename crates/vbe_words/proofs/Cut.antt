@@ -1,5 +1,6 @@
 -- The identifiers into which a text is cut are words.
-use Rattle.std.proofs.Common.{◌≡◌, ℕ, zero, suc, ◌+◌, ◌-◌, ◌^◌, ◌==◌, Bool, true, false, ◌||◌, List, [], ◌∷◌, ◌++◌, Option, None, Some, unwrap_or, length, map, take, drop, min, nat_lt, nat_eq, codes, slice_index, slice_range, refl, if◌then◌else◌}
+use Rattle.std.proofs.Common.{◌≡◌, ℕ, zero, suc, ◌+◌, ◌-◌, ◌^◌, ◌==◌, Bool, true, false, ◌||◌, List, [], ◌∷◌, ◌++◌, Option, None, Some, unwrap_or, length, map, take, drop, min, nat_lt, nat_eq, codes, slice_index, refl, if◌then◌else◌}
+use Rattle.std.specs.Prelude.{slice_range}
 use Rattle.std.specs.List.{prefix_len, starts_with}
 use Rattle.std.specs.Char.{is_ascii_alphabetic, is_ascii_digit, to_ascii_lowercase}
 use Rattle.vlsi_base.specs.Number.{value_of}
@@ -10,7 +11,7 @@ use Rattle.vhdl_token.specs.declared.token.Token.{Token}
 use Rattle.vhdl_token.specs.declared.token.Token.TheVariants as token
 use Rattle.vhdl_token.specs.declared.token.Sign.{Sign}
 use Rattle.vhdl_token.specs.declared.token.PlacedToken.{PlacedToken}
-use Rattle.port_words.specs.Words.{IsWord}
+use Rattle.port_words.specs.Words.{IsIdentifier}
 use Rattle.lexer_base.specs.Bytes.{is_blank, is_in_word, is_on_line}
 use Rattle.lexer_base.specs.declared.piece.Piece.{Piece}
 use Rattle.lexer_base.specs.declared.piece.Piece.TheVariants as piece
@@ -23,7 +24,7 @@ use Rattle.vbe_words.proofs.Letters.{word_of, taken_all, taken_first}
 
 -- an identifier is a word
 abbrev pub IsNamed : Token → Type 0
-IsNamed (token.Identifier name) = IsWord name
+IsNamed (token.Identifier name) = IsIdentifier name
 IsNamed _ = Unit {0}
 
 abbrev pub AreNamed : List PlacedToken → Type 0
@@ -46,7 +47,7 @@ either : (b : Bool) (p q : Piece) → (b ≡ true → Gives p) → Gives q → G
 either true p q h g = h refl
 either false p q h g = g
 
-of_word : (o : Option Keyword) (name : List ℕ) → (o ≡ None → IsWord name) → IsNamed (word_token o name)
+of_word : (o : Option Keyword) (name : List ℕ) → (o ≡ None → IsIdentifier name) → IsNamed (word_token o name)
 of_word None name h = h refl
 of_word (Some k) name h = tt
 

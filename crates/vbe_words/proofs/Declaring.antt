@@ -1,5 +1,5 @@
 -- The port bits of declared names are those that an entity can declare.
-use Rattle.std.proofs.Common.{◌≡◌, ◌≤◌, inl, inr, ℕ, Bool, true, false, cond, ◌&&◌, leb, List, [], ◌∷◌, ◌++◌, map, Option, None, Some, refl, sym, ◌∙◌, ap, subst}
+use Rattle.std.proofs.Common.{◌≡◌, ◌≤◌, inl, inr, ℕ, Bool, true, false, cond, ◌&&◌, leb, List, [], ◌∷◌, ◌++◌, map, Option, None, Some, refl, sym, ◌∙◌, ap, subst, arith}
 use Rattle.vlsi_base.specs.declared.name.Name.{Name}
 use Rattle.vlsi_base.specs.declared.name.Port.{Port}
 use Rattle.vlsi_base.specs.declared.name.Dir.{Dir}
@@ -8,7 +8,7 @@ use Rattle.vlsi_base.specs.declared.range.Range.{Range}
 use Rattle.vlsi_base.specs.Range.{range_bits}
 use Rattle.vlsi_base.specs.Name.{is_supply}
 use Rattle.vlsi_base.specs.Member.{In, here, there, AllDifferent}
-use Rattle.port_words.specs.Words.{IsWord, HasBit, ArePortsNamed}
+use Rattle.port_words.specs.Words.{IsIdentifier, HasBit, ArePortsNamed}
 use Rattle.machine_core.proofs.Values.{In-split, In-left, In-right, In-map}
 use Rattle.source_meaning.specs.declared.symbol_table.Role.{Role}
 use Rattle.source_meaning.specs.declared.symbol_table.Role.TheVariants as role
@@ -19,6 +19,7 @@ use Rattle.vlsi_model.proofs.Members.{In-map_back}
 use Rattle.vlsi_model.proofs.Bits.{both_le, le_both, range-has, has-range, text_in, texts, in_found}
 use Rattle.vlsi_model.proofs.PortBits.{role_of_dir, port_is, is_port_bit}
 use Rattle.vbe_io.specs.Cell.{pin_dir, pins_towards, symbol_pins, pin_bits}
+use Rattle.vbe_words.specs.Laws.{NoneIsSupply}
 use Rattle.vbe_words.proofs.Saying.{Every, every_in}
 use Rattle.vbe_words.proofs.Sources.{IsSymbolWord}
 
@@ -75,7 +76,7 @@ same_symbol : (known : List Symbol) (s t : Symbol) → AllDifferent (texts known
 same_symbol known s t different i j e =
     let both : Some s ≡ Some t = sym (in_found known s different i) ∙ ap (find known) e ∙ in_found known t different j in cc
 
-abbrev text_of : (towards : Role → Option Dir) (known : List Symbol) (p : Port) (b : IsBit towards known p) → p.name.text ≡ b.symbol.text
+text_of : (towards : Role → Option Dir) (known : List Symbol) (p : Port) (b : IsBit towards known p) → p.name.text ≡ b.symbol.text
 text_of towards known p b = text_in b.symbol.text b.symbol.range p.name b.bit
 
 one_symbol : (towards : Role → Option Dir) (known : List Symbol) (p q : Port) (b : IsBit towards known p) (c : IsBit towards known q) → AllDifferent (texts known)
@@ -95,7 +96,7 @@ pub bits_named : (towards : Role → Option Dir) (known : List Symbol) (ports : 
 bits_named towards known ports different words bits = record {
   words = λ p i.
       let b = bits.only p i in
-      subst IsWord (sym (text_of towards known p b)) (every_in IsSymbolWord known b.symbol words b.declared);
+      subst IsIdentifier (sym (text_of towards known p b)) (every_in IsSymbolWord known b.symbol words b.declared);
   scalars = λ p q i j e none.
       let b = bits.only p i in
       let c = bits.only q j in
@@ -119,6 +120,10 @@ bits_named towards known ports different words bits = record {
       let c = bits.only q j in
       one_direction towards known p q b c (one_symbol towards known p q b c different e);
 }
+
+-- none of them has the text of a supply
+pub none_supply : (towards : Role → Option Dir) (known : List Symbol) (ports : List Port) → AreBits towards known ports → NoneIsSupply ports
+none_supply towards known ports bits p i = let b = bits.only p i in ap is_supply (text_of towards known p b) ∙ b.no_supply
 
 -- ---- the ports of machines
 

@@ -4,4 +4,5 @@ mod Saying
 mod Sources
 mod Declaring
 mod Supplied
+mod Running
 mod Named

@@ -7,7 +7,7 @@ use Rattle.vhdl_token.specs.Signs.{sign_number}
 use Rattle.vhdl_token.specs.declared.token.Token.{Token}
 use Rattle.vhdl_token.specs.declared.token.Token.TheVariants as token
 use Rattle.vhdl_token.specs.declared.token.PlacedToken.{PlacedToken}
-use Rattle.port_words.specs.Words.{IsWord}
+use Rattle.port_words.specs.Words.{IsIdentifier}
 use Rattle.grammar_theory.specs.declared.form.Form.{Form}
 use Rattle.grammar_theory.specs.declared.form.Form.TheVariants as form
 use Rattle.grammar_theory.specs.Tokens.{is_bit, is_digit_of, form_of, code, code_of}
@@ -87,7 +87,7 @@ not_either false f g h k e = k e
 some : (m n : ℕ) → m ≡ n + 1 → m ≡ 0 → ⊥
 some m n e f = absurd (omega (arith, e, f))
 
-name_word : (t : Token) → IsNamed t → code (form_of t) ≡ 0 → IsWord (identifier_in t)
+name_word : (t : Token) → IsNamed t → code (form_of t) ≡ 0 → IsIdentifier (identifier_in t)
 name_word (token.Identifier name) h e = h
 name_word (token.Keyword k) h e = let never : 40 + keyword_number k ≡ 0 = e in absurd (omega (arith, never))
 name_word (token.Number n) h e = absurd (some 1 0 (omega arith) e)
@@ -98,9 +98,9 @@ name_word (token.BitString base digits) h e =
 name_word (token.Digits digits) h e = absurd (some 7 6 (omega arith) e)
 name_word (token.Sign s) h e = let never : 10 + sign_number s ≡ 0 = e in absurd (omega (arith, never))
 
-token_word : (t : PlacedToken) → IsNamed t.token → code_of t ≡ code form.Identifier → IsWord (name_of t)
+token_word : (t : PlacedToken) → IsNamed t.token → code_of t ≡ code form.Identifier → IsIdentifier (name_of t)
 unfolding code_of
 token_word t h e = name_word t.token h e
 
-pub says_name : (m : PlacedToken → Mark) → Says (marked form.Identifier m) (λ t. IsWord (name_of t))
+pub says_name : (m : PlacedToken → Mark) → Says (marked form.Identifier m) (λ t. IsIdentifier (name_of t))
 says_name m = record { each = λ items v w h. let alone = subst Words h.alone w in token_word v alone.0 h.kind }

@@ -8,7 +8,7 @@ use Rattle.vlsi_base.specs.declared.entity.Entity.{Entity}
 use Rattle.vlsi_base.specs.declared.entity.Declarations.{Declarations}
 use Rattle.vhdl_token.specs.declared.keyword.Keyword.{Keyword}
 use Rattle.vhdl_token.specs.declared.keyword.Keyword.TheVariants as word
-use Rattle.port_words.specs.Words.{IsWord}
+use Rattle.port_words.specs.Words.{IsIdentifier}
 use Rattle.grammar_theory.specs.Marks.{plain, declares, spells}
 use Rattle.grammar_theory.specs.declared.limits.TheConstants.{DEPTH}
 use Rattle.vhdl_lexer.specs.Listing.{tokens_in}
@@ -27,11 +27,11 @@ use Rattle.vbe_words.proofs.Saying.{Every, every_append, words_of, Says, says_th
 -- ---- names
 
 abbrev pub IsNewWord : NewName → Type 0
-IsNewWord n = IsWord n.text
+IsNewWord n = IsIdentifier n.text
 
-says_identifier : Says identifier IsWord
+says_identifier : Says identifier IsIdentifier
 unfolding identifier
-says_identifier = says_then (says_name (λ _. plain)) (λ t h. says_nothing IsWord (name_of t) h)
+says_identifier = says_then (says_name (λ _. plain)) (λ t h. says_nothing IsIdentifier (name_of t) h)
 
 says_declared : (line : ℕ) → Says (declared line) IsNewWord
 unfolding declared
@@ -96,11 +96,11 @@ says_port_clause room =
 -- ---- entities
 
 abbrev pub IsEntityWord : Entity → Type 0
-IsEntityWord e = IsWord e.name × Every IsPortWord e.ports
+IsEntityWord e = IsIdentifier e.name × Every IsPortWord e.ports
 
-says_head : Says entity_head IsWord
+says_head : Says entity_head IsIdentifier
 unfolding entity_head
-says_head = says_behind (λ t. says_then says_identifier (λ name h. says_behind (λ w. says_nothing IsWord name h)))
+says_head = says_behind (λ t. says_then says_identifier (λ name h. says_behind (λ w. says_nothing IsIdentifier name h)))
 
 says_ending : {A : Type 0} (P : A → Type 0) (name : List ℕ) (x : A) → P x → Says (ending name x) P
 unfolding ending
@@ -154,7 +154,7 @@ written_words bytes design w =
 -- ---- symbols
 
 abbrev pub IsSymbolWord : Symbol → Type 0
-IsSymbolWord s = IsWord s.text
+IsSymbolWord s = IsIdentifier s.text
 
 named_words : (r : Role) (range : Option Range) (line : ℕ) (ns : List NewName) → Every IsNewWord ns → Every IsSymbolWord (symbols_named r range line ns)
 named_words r range line [] h = tt

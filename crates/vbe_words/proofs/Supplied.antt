@@ -10,17 +10,17 @@ use Rattle.vlsi_base.specs.Name.{name_cmp, is_supply}
 use Rattle.vlsi_base.specs.Names.{vdd, vss, comes_before}
 use Rattle.vlsi_base.proofs.NameOrder.{name_total, name_exact}
 use Rattle.vhdl_token.specs.Keyword.{keyword_of}
-use Rattle.port_words.specs.Words.{IsWord, HasBit, ArePortsNamed}
+use Rattle.port_words.specs.Words.{IsIdentifier, HasBit, ArePortsNamed}
 use Rattle.machine_core.proofs.Values.{In-split, In-left, In-right}
 use Rattle.vlsi_model.proofs.Members.{In-cases}
 use Rattle.vlsi_model.proofs.PortBits.{In-filter, filter-In}
 use Rattle.cell_pins.specs.Pins.{supply, with_supply}
 use Rattle.vbe_words.specs.Laws.{PinsAreNamed}
 
-abbrev lesser : Name → List Port → List Port
+abbrev pub lesser : Name → List Port → List Port
 lesser name ports = filter (λ p. comes_before p.name name) ports
 
-abbrev greater : Name → List Port → List Port
+abbrev pub greater : Name → List Port → List Port
 greater name ports = filter (λ p. comes_before name p.name) ports
 
 -- which ports are there with one supply
@@ -63,10 +63,10 @@ text_of name p e = ap (λ (x : Port). x.name.text) e
 no_bit : (name : Name) (p : Port) (k : ℕ) → name.bit ≡ None → p ≡ supply name → p.name.bit ≡ Some k → ⊥
 no_bit name p k none e f = let never : Some k ≡ None = sym f ∙ ap (λ (x : Port). x.name.bit) e ∙ none in absurd cc
 
-one_more : (name : Name) (ports : List Port) → name.bit ≡ None → IsWord name.text → Apart name ports → ArePortsNamed ports → ArePortsNamed (with_supply name ports)
+one_more : (name : Name) (ports : List Port) → name.bit ≡ None → IsIdentifier name.text → Apart name ports → ArePortsNamed ports → ArePortsNamed (with_supply name ports)
 one_more name ports none word apart h = record {
   words = λ p i. elim (cases name ports p i) [
-    | inl e ↦ subst IsWord (sym (text_of name p e)) word
+    | inl e ↦ subst IsIdentifier (sym (text_of name p e)) word
     | inr a ↦ h.words p a
   ];
   scalars = λ p q i j same bit. elim (cases name ports p i) [
@@ -100,13 +100,13 @@ one_more name ports none word apart h = record {
 
 -- both
 
-word_vdd : IsWord (codes "vdd")
+word_vdd : IsIdentifier (codes "vdd")
 unfolding keyword_of
-word_vdd = record { first = refl; letters = refl; unreserved = refl }
+word_vdd = (refl, refl)
 
-word_vss : IsWord (codes "vss")
+word_vss : IsIdentifier (codes "vss")
 unfolding keyword_of
-word_vss = record { first = refl; letters = refl; unreserved = refl }
+word_vss = (refl, refl)
 
 not_supply : (text other : List ℕ) → is_supply text ≡ false → is_supply other ≡ true → text ≡ other → ⊥
 not_supply text other no yes_it e = let never : false ≡ true = sym no ∙ ap is_supply e ∙ yes_it in absurd cc

@@ -3,4 +3,7 @@
 
 mod laws;
 
-pub use laws::{catal_is_named, cell_is_named, machine_is_named, pins_are_named};
+pub use laws::{
+    catal_is_named, cell_can_be_written, cell_is_named, machine_can_be_written, machine_is_named,
+    pins_are_named,
+};
