@@ -31,10 +31,10 @@ before_less a b h = by (name_cmp a b) h where
   by Equal e = absurd cc
   by Greater e = absurd cc
 
-before_trans : (a b c : Name) → IsTrue (comes_before a b) → IsTrue (comes_before b c) → IsTrue (comes_before a c)
+pub before_trans : (a b c : Name) → IsTrue (comes_before a b) → IsTrue (comes_before b c) → IsTrue (comes_before a c)
 before_trans a b c p q = ap is_lt (name_total.trans a b c (before_less a b p) (before_less b c q))
 
-before_itself : (a : Name) → IsTrue (comes_before a a) → ⊥
+pub before_itself : (a : Name) → IsTrue (comes_before a a) → ⊥
 before_itself a h =
     let less = before_less a a h in
     let turned : Less ≡ Greater = sym less ∙ name_total.antisymm a a ∙ ap ordering_reverse less in absurd cc

@@ -1,0 +1,45 @@
+-- What is read has names that can be written again.
+use Rattle.std.specs.Prelude.{◌≡◌, false, ℕ, List}
+use Rattle.vlsi_base.specs.declared.name.Port.{Port}
+use Rattle.vlsi_base.specs.Member.{In}
+use Rattle.vlsi_base.specs.Name.{is_supply}
+use Rattle.vlsi_base.specs.Names.{vdd, vss}
+use Rattle.machine_meaning.specs.Machine.{Machine}
+use Rattle.port_words.specs.Words.{IsIdentifier, ArePortsNamed, CanBePorts}
+use Rattle.vbe_io.specs.Text.{IsVbe}
+use Rattle.vbe_io.specs.Cell.{IsCellText}
+use Rattle.vbe_io.specs.declared.cell_text.CellText.{CellText}
+use Rattle.catal.specs.Catal.{IsCatal}
+use Rattle.cell_pins.specs.Pins.{with_supply}
+
+-- The name of a machine that is read is a word, and an entity can declare its ports.
+abbrev pub MachineIsNamed : Type 0
+MachineIsNamed = (bytes : List ℕ) (m : Machine) → IsVbe bytes m → IsIdentifier m.name × ArePortsNamed m.ports
+
+-- An entity can declare the pins of a cell that is read, with and without a machine.
+abbrev pub CellIsNamed : Type 0
+CellIsNamed = (bytes : List ℕ) (cell : CellText) → IsCellText bytes cell → ArePortsNamed cell.ports
+
+-- no port has the text of a supply
+abbrev pub NoneIsSupply : List Port → Type 0
+NoneIsSupply ports = (p : Port) → In p ports → is_supply p.name.text ≡ false
+
+-- the ports, with the two supplies put in
+abbrev pub with_supplies : List Port → List Port
+with_supplies ports = with_supply vss (with_supply vdd ports)
+
+-- With the supplies, an entity can still declare the ports.
+abbrev pub PinsAreNamed : Type 0
+PinsAreNamed = (ports : List Port) → ArePortsNamed ports → NoneIsSupply ports → ArePortsNamed (with_supplies ports)
+
+-- The names of the cells that a CATAL uses are words.
+abbrev pub CatalIsNamed : Type 0
+CatalIsNamed = (bytes : List ℕ) (names : List (List ℕ)) → IsCatal bytes names → (name : List ℕ) → In name names → IsIdentifier name
+
+-- With the supplies, the ports of a machine that is read can be those of a text.
+abbrev pub MachineCanBeWritten : Type 0
+MachineCanBeWritten = (bytes : List ℕ) (m : Machine) → IsVbe bytes m → CanBePorts (with_supplies m.ports)
+
+-- With the supplies, the pins of a cell that is read can be the ports of a text.
+abbrev pub CellCanBeWritten : Type 0
+CellCanBeWritten = (bytes : List ℕ) (cell : CellText) → IsCellText bytes cell → CanBePorts (with_supplies cell.ports)

@@ -1,0 +1,32 @@
+// What is read has names that can be written again.
+ghost use Rattle.vbe_words.specs.Laws.{MachineIsNamed, CellIsNamed, PinsAreNamed, CatalIsNamed, MachineCanBeWritten, CellCanBeWritten};
+
+/// The name of a machine that is read is a word, and an entity can declare its ports.
+pub fn machine_is_named()
+    ensures { MachineIsNamed }
+{}
+
+/// An entity can declare the pins of a cell that is read, with and without a machine.
+pub fn cell_is_named()
+    ensures { CellIsNamed }
+{}
+
+/// With the two supplies put in, ports that an entity can declare are still such ports.
+pub fn pins_are_named()
+    ensures { PinsAreNamed }
+{}
+
+/// The names of the cells that a CATAL uses are words.
+pub fn catal_is_named()
+    ensures { CatalIsNamed }
+{}
+
+/// With the two supplies, the ports of a machine that is read can be those of a text.
+pub fn machine_can_be_written()
+    ensures { MachineCanBeWritten }
+{}
+
+/// With the two supplies, the pins of a cell that is read can be the ports of a text.
+pub fn cell_can_be_written()
+    ensures { CellCanBeWritten }
+{}
