@@ -1,3 +1,4 @@
 pub mod View
 pub mod Condition
 pub mod Right
+pub mod Writable

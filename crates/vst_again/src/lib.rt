@@ -1,0 +1,2 @@
+//! What is written of a netlist says what it is.
+#![tactic(auto)]
