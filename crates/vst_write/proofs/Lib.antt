@@ -1,0 +1,5 @@
+pub mod Texts
+pub mod Runs
+pub mod Once
+pub mod Signals
+pub mod Joined
