@@ -3,3 +3,6 @@ pub mod Entries
 pub mod Whole
 pub mod Fits
 pub mod Grouped
+pub mod Names
+pub mod Netlists
+pub mod Sentence

@@ -1,5 +1,5 @@
 -- What is written of a netlist is a sentence, and what the sentence says.
-use Rattle.std.specs.Prelude.{◌≡◌, ◌↔◌, ℕ, ◌+◌, ◌^◌, ◌<◌, ◌≤◌, List, [], ◌∷◌, ◌++◌, map, length, Option, None, Some}
+use Rattle.std.specs.Prelude.{◌≡◌, ◌↔◌, ℕ, ◌+◌, ◌-◌, ◌^◌, ◌<◌, ◌≤◌, List, [], ◌∷◌, ◌++◌, map, length, Option, None, Some}
 use Rattle.std.specs.List.{All, flat_map}
 use Rattle.vlsi_base.specs.declared.name.Name.{Name}
 use Rattle.vlsi_base.specs.declared.name.Port.{Port}
@@ -31,7 +31,7 @@ use Rattle.net_core.specs.Places.{Stands, IsThere, NoneTwice}
 use Rattle.net_core.specs.Netlist.{Instance, Netlist, IsNetlist, port, pin_of, HasClass}
 use Rattle.net_core.specs.Checks.{Fits, pins_named}
 use Rattle.net_view.specs.Writable.{port_of, CanBeNamed, PinsCanBeWritten}
-use Rattle.vst_write.specs.Nets.{signal_nets}
+use Rattle.vst_write.specs.Nets.{port_nets}
 use Rattle.vst_write.specs.Written.{used_models, layout}
 use Rattle.vst_again.specs.Placed.{file_of}
 
@@ -111,14 +111,13 @@ abbrev pub pin_count : List ModelPins → List (List ℕ) → ℕ
 pin_count table models = length (flat_map (pins_named table) models)
 
 -- Names have at most 64 bytes, numbers of bits are below 2 ^ 32, and the bits that are declared are within the limit: those of the
--- ports, of the pins of each model once, and of the signals.
+-- ports, of the pins of each model once, and of the signals, one for each class without a port.
 pub record IsWithinLimits (n : Netlist) (table : List ModelPins) : Type 0 where
   pub name : IsShort n.name
   pub ports : All IsSmallPort n.ports
   pub instances : All (λ i. IsShort i.name × IsShort i.model) n.instances
   pub pins : All (λ i. All (λ p. IsSmallPort (port_of p)) (pins_named table i.model)) n.instances
-  pub bits : length n.ports + pin_count table (used_models n.instances) + length (signal_nets n) ≤ BITS
-  pub count : n.count + length n.ports < 2 ^ 32
+  pub bits : length n.ports + pin_count table (used_models n.instances) + (n.count - length (port_nets n)) ≤ BITS
 
 -- no two ports have one class
 abbrev pub PortsAreApart : Netlist → Type 0
