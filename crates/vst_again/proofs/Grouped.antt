@@ -72,6 +72,9 @@ Good None high = Unit {0}
 Good (Some low) None = ⊥
 Good (Some low) (Some high) = low ≤ high
 
+abbrev pub GoodBits : Group → Type 0
+GoodBits g = Good g.low g.high
+
 good_alone : (b : Option ℕ) → Good b b
 good_alone None = tt
 good_alone (Some k) = omega arith
@@ -130,6 +133,7 @@ pub record Led (p : Port) (ps : List Port) (gs : List Group) : Type 0 where
   pub dir : group.dir ≡ p.dir
   pub low : group.low ≡ p.name.bit
   pub good : Good group.low group.high
+  pub all : All (λ g. Good g.low g.high) (group ∷ rest)
   pub ports : group_ports group ++ flat_map group_ports rest ≡ p ∷ ps
   pub rise : Ascends (group ∷ rest)
 
@@ -142,6 +146,7 @@ led p [] c = record {
   dir = refl;
   low = refl;
   good = good_alone p.name.bit;
+  all = All-cons GoodBits (group_of p p) [] (good_alone p.name.bit) (All-nil GoodBits);
   ports = append-nil (bound_ports p.name.text p.dir (bounds_of p.name.bit p.name.bit)) ∙ alone_is p.name.text p.dir p.name.bit;
   rise = tt;
 }
@@ -162,6 +167,9 @@ led p (q ∷ qs) c = by (led q qs c.1) where
           dir = refl;
           low = refl;
           good = good_more p.name.bit i.group.low i.group.high bit i.good;
+          all =
+              All-cons GoodBits (record i.group { dir = p.dir; low = p.name.bit }) i.rest (good_more p.name.bit i.group.low i.group.high bit i.good)
+              (All-tail GoodBits i.group i.rest i.all);
           ports =
               ap (λ (xs : List Port). xs ++ flat_map group_ports i.rest) (bits_more i.group.text p.dir p.name.bit i.group.low i.group.high bit i.good)
               ∙ ap (λ (t : List ℕ). one_port t p.dir p.name.bit ∷ bound_ports i.group.text p.dir (bounds_of i.group.low i.group.high) ++ flat_map group_ports i.rest) (sym same)
@@ -179,6 +187,7 @@ led p (q ∷ qs) c = by (led q qs c.1) where
           dir = refl;
           low = refl;
           good = good_alone p.name.bit;
+          all = All-cons GoodBits (group_of p p) (i.group ∷ i.rest) (good_alone p.name.bit) i.all;
           ports = ap (λ (xs : List Port). xs ++ (group_ports i.group ++ flat_map group_ports i.rest)) (alone_is p.name.text p.dir p.name.bit) ∙ ap (λ (xs : List Port). p ∷ xs) i.ports;
           rise = (ap (text_cmp p.name.text) i.text ∙ before_text p.name q.name c.0.1 other, i.rise);
         } where
@@ -190,6 +199,10 @@ led p (q ∷ qs) c = by (led q qs c.1) where
 pub ports_again : (ports : List Port) → Chained ports → flat_map group_ports (grouped ports) ≡ ports
 ports_again [] c = refl
 ports_again (p ∷ ps) c = let i = led p ps c in ap (flat_map group_ports) i.are ∙ i.ports
+
+pub bits_good : (ports : List Port) → Chained ports → All GoodBits (grouped ports)
+bits_good [] c = All-nil GoodBits
+bits_good (p ∷ ps) c = let i = led p ps c in subst (All GoodBits) (sym i.are) i.all
 
 bits_of : (text : List ℕ) (d : Dir) (low high : Option ℕ) → port_bits (bounds_of low high) ≡ length (bound_ports text d (bounds_of low high))
 bits_of text d None high = refl

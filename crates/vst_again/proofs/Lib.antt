@@ -6,3 +6,4 @@ pub mod Grouped
 pub mod Names
 pub mod Netlists
 pub mod Sentence
+pub mod Saying
