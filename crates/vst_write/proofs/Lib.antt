@@ -3,3 +3,4 @@ pub mod Runs
 pub mod Once
 pub mod Signals
 pub mod Joined
+pub mod Tested

@@ -1,5 +1,6 @@
 -- Ports of one text, which are declared together.
-use Rattle.std.proofs.Common.{◌≡◌, ℕ, zero, suc, ◌+◌, ◌-◌, ◌<◌, ◌≤◌, Bool, true, false, cond, List, [], ◌∷◌, ◌++◌, map, length, drop, get_or, bytes_eq, refl, sym, ap, subst, ◌∙◌, append_assoc, append-nil, drop-cons, arith}
+use Rattle.std.proofs.Common.{◌≡◌, ◌⊎◌, inl, inr, ℕ, zero, suc, ◌+◌, ◌-◌, ◌<◌, ◌≤◌, Bool, true, false, cond, List, [], ◌∷◌, ◌++◌, map, length, drop, get_or, bytes_eq, refl, sym, ap, subst, ◌∙◌, append_assoc, append-nil, drop-cons, arith}
+use Rattle.std.proofs.lemmas.Bool.{cases_lt}
 use Rattle.std.proofs.lemmas.List.{drop_all, length-map}
 use Rattle.std.proofs.lemmas.Option.{slice_get_within, get_or_from_slice_get, slice_get-get_or}
 use Rattle.std.proofs.lemmas.Slice.Eq.{bytes_eq-Decides}
@@ -129,3 +130,49 @@ groups_next start ports k end last a z out new e s t r put w =
 pub groups_end : (start : List ℕ) (ports : List Port) (k : ℕ) (out : List ℕ) → length ports ≤ k → Groups start ports k out → out ≡ start ++ ports_text (map declared (grouped ports))
 groups_end start ports k out past w =
     sym (append-nil out) ∙ sym (ap (λ (ps : List Port). out ++ text_of (ports_layout (map declared (grouped ps)))) (drop_all k ports past)) ∙ w.whole
+
+-- ---- where a run ends
+
+-- the ports from one on up to this place have its text
+pub record OneText (ports : List Port) (start end : ℕ) : Type 0 where
+  pub some : start < end
+  pub within : end ≤ length ports
+  pub same : (k : ℕ) (p q : Port) → Stands ports start p → Stands ports k q → start ≤ k → k < end → p.name.text ≡ q.name.text
+
+pub one_first : (ports : List Port) (start : ℕ) → start < length ports → OneText ports start (start + 1)
+one_first ports start less = record {
+  some = omega arith;
+  within = omega (arith, less);
+  same = λ k p q s t l m.
+      let e : start ≡ k = omega (arith, l, m) in
+      ap (λ (x : Port). x.name.text) (stands_same ports k p q (subst (λ i. Stands ports i p) e s) t);
+}
+
+pub one_more : (ports : List Port) (start end : ℕ) (a z : Port) → Stands ports start a → Stands ports end z → a.name.text ≡ z.name.text → end < length ports → OneText ports start end → OneText ports start (end + 1)
+one_more ports start end a z s t same less w = record {
+  some = let l = w.some in omega (arith, l);
+  within = omega (arith, less);
+  same = λ k p q u v l m. by k p q u v l m (cases_lt k end);
+} where
+  by : (k : ℕ) (p q : Port) → Stands ports start p → Stands ports k q → start ≤ k → k < end + 1 → (k < end) ⊎ (end ≤ k) → p.name.text ≡ q.name.text
+  by k p q u v l m (inl lower) = w.same k p q u v l lower
+  by k p q u v l m (inr upper) =
+      let e : end ≡ k = omega (arith, m, upper) in
+      ap (λ (x : Port). x.name.text) (stands_same ports start p a u s) ∙ same ∙ ap (λ (x : Port). x.name.text) (stands_same ports k z q (subst (λ i. Stands ports i z) e t) v)
+
+-- it ends at the end of all ports, or in front of another text
+pub one_all : (ports : List Port) (start end : ℕ) → length ports ≤ end → OneText ports start end → IsRunEnd ports start end
+one_all ports start end past w = record {
+  some = w.some;
+  within = w.within;
+  same = w.same;
+  other = λ p q s t e. let l = slice_get_within ports end q t in absurd (omega (arith, l, past));
+}
+
+pub one_other : (ports : List Port) (start end : ℕ) (a z : Port) → Stands ports start a → Stands ports end z → (a.name.text ≡ z.name.text → ⊥) → OneText ports start end → IsRunEnd ports start end
+one_other ports start end a z s t other w = record {
+  some = w.some;
+  within = w.within;
+  same = w.same;
+  other = λ p q u v e. other (ap (λ (x : Port). x.name.text) (stands_same ports start a p s u) ∙ e ∙ ap (λ (x : Port). x.name.text) (stands_same ports end q z v t));
+}

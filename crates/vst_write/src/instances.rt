@@ -65,8 +65,9 @@ pub fn instances(
     ensures { OnOk result (out.new ≡ out.old ++ text_of (instances_layout (instances_with nets.now netlist.now.instances (drop (length netlist.now.ports) netlist.now.classes)))) }
 {
     let models = netlist.models();
+    let nodes = netlist.nodes();
     let mut rest = &netlist.classes()[netlist.ports().len()..];
-    for node in netlist.nodes() {
+    for node in nodes {
         let pins = node.pins.as_slice();
         let (own, others) = rest.split_at(pins.len());
         label(out, &node.name, &models[node.model])?;

@@ -43,7 +43,8 @@ fn components(
 {
     let names = model_names(alloc, table.as_slice())?;
     let used = used_models(alloc, netlist.models(), netlist.nodes())?;
-    for model in used.texts() {
+    let models = used.texts();
+    for model in models {
         let pins = pins_of(&names, table.as_slice(), model);
         component(alloc, out, model, pins)?;
     }
