@@ -3,3 +3,4 @@ pub mod Condition
 pub mod Right
 pub mod Laws
 pub mod Same
+pub mod Writable
