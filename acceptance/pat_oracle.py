@@ -226,7 +226,7 @@ def simulate(m, columns, patterns):
             if column.way == "in" and not is_supply(column):
                 given.update(zip(column.bits(), bits_of(column, digits)[0]))
         env = m.settle(given, contents)
-        clock = given[(m.clock, -1)] if m.clock else 0
+        clock = m.clock_of(given)
         if clock and not clock_before:
             contents = m.load(env)
             env = m.settle(given, contents)
