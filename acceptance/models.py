@@ -10,6 +10,7 @@ import ap
 import cellcheck
 from vbe_oracle import reads
 from vhdl_reader import SUPPLIES
+from words import of_folder
 
 KINDS = ("inv", "nand2", "zero", "one", "dff")
 # the values of a gate of each kind, over its inputs from all 0 to all 1
@@ -86,9 +87,8 @@ def refusal(folder, said):
 
 
 def library(files, folder):
-    of_folder = {name.removeprefix(f"{folder}/"): data for name, data in files.items() if name.startswith(f"{folder}/")}
     try:
-        return {name: Model(name, cell) for name, cell in cellcheck.cells(of_folder, False).items()}
+        return {name: Model(name, cell) for name, cell in cellcheck.cells(of_folder(files, folder), False).items()}
     except ap.Refused as refused:
         raise refusal(folder, str(refused)) from None
 
