@@ -13,12 +13,13 @@ from answers import agrees, refusal
 from cell_maker import CellMaker
 from mapping import MOST_SIZE, Graph, Shapes, drawn_graph, drawn_netlist, machine_size
 from models import IN, Refusal, first_missing, first_of, library
-from pat_oracle import answer
+from pat_oracle import answer, machine_of
 from random_sources import Maker, flipped
 from results import Room, compare, run_in, shown
-from vbe_oracle import FILE, Ring, machine
-from vhdl_reader import SUPPLIES, Refused
+from vbe_oracle import FILE, Ring
+from vhdl_reader import SUPPLIES, Refused, lex
 from vst import netlist
+from vst_reader import StructureReader
 from words import TOOLS_LINE, command, held, trouble
 
 HERE = pathlib.Path(__file__).resolve().parent
@@ -26,7 +27,7 @@ EXAMPLES, CELLS = HERE.parent / "examples", HERE.parent / "cells"
 USAGE = "usage: alliance boog SOURCE.vbe -l DIR -o NAME\n"
 FIVE = ["inv_x1", "na2_x1", "zero_x0", "one_x0", "sff1_x4"]
 WORDS = ["boog", "s.vbe", "-l", "lib", "-o", "r"]
-MACHINES, CHUNK = 300, 50
+MACHINES, CHUNK = 200, 25
 
 
 # ---- the second answer
@@ -58,7 +59,7 @@ def second(words, files):
         return refused[0], f"boog: {refused[1]}\n"
     try:
         models = library(files, folder)
-        m = machine(held(files, source))
+        m = machine_of(held(files, source))
     except Refusal as refused:
         return refused.status, f"boog: {refused.line}\n"
     except Ring as ring:
@@ -103,12 +104,19 @@ def netlist_faults(m, models, n):
         yield "the nodes, or what outputs and registers take"
 
 
+def rising_ranges(text):
+    """Ranges are declared from the highest bit down."""
+    reader = StructureReader(*lex(text))
+    reader.structure()
+    return [f"the range of line {line} rises" for (_, falls, _), line in reader.ranges if not falls]
+
+
 def written_faults(words, files, text):
     """What is wrong with the text that a command wrote, or nothing."""
     source, folder, _ = parsed(words)
-    m, models = machine(held(files, source)), library(files, folder)
+    m, models = machine_of(held(files, source)), library(files, folder)
     try:
-        return list(netlist_faults(m, models, netlist(text, models)))
+        return [*netlist_faults(m, models, netlist(text, models)), *rising_ranges(text)]
     except Refused as refused:
         return [f"it is refused: {refused}"]
 

@@ -4,6 +4,7 @@
 raises Refusal with the status and the line behind a tool's word.
 """
 
+import functools
 import itertools
 
 import ap
@@ -86,9 +87,14 @@ def refusal(folder, said):
     return Refusal(3, f"library: {said}")
 
 
+@functools.lru_cache(maxsize=16)
+def models_of(files):
+    return {name: Model(name, cell) for name, cell in cellcheck.cells(dict(files), False).items()}
+
+
 def library(files, folder):
     try:
-        return {name: Model(name, cell) for name, cell in cellcheck.cells(of_folder(files, folder), False).items()}
+        return models_of(tuple(sorted(of_folder(files, folder).items())))
     except ap.Refused as refused:
         raise refusal(folder, str(refused)) from None
 

@@ -7,7 +7,7 @@ import functools
 
 from answers import refusal
 from vbe_oracle import FILE, Ring, machine
-from vhdl_reader import DIGITS, LETTERS, SUPPLIES, Refused, Scanner, fault, limit, spelled
+from vhdl_reader import DIGITS, LETTERS, SUPPLIES, Refused, Scanner, fault, spelled
 
 MEANT = ("in", "out", "begin", "end")
 UNITS = {"fs": 1, "ps": 10**3, "ns": 10**6, "us": 10**9, "ms": 10**12}
