@@ -14,7 +14,8 @@ from cell_maker import CellMaker
 from mapping import MOST_SIZE, Graph, Shapes, drawn_graph, drawn_netlist, machine_size
 from models import IN, Refusal, first_missing, first_of, library
 from pat_oracle import answer, machine_of
-from random_sources import Maker, flipped
+from random_sources import WORDS as SOURCE_WORDS
+from random_sources import Maker, changed, flipped
 from results import Room, compare, run_in, shown
 from vbe_oracle import FILE, Ring
 from vhdl_reader import SUPPLIES, Refused, lex
@@ -163,6 +164,7 @@ def run_mapped(results, room, program, title, files, patterns):
     got = room.run(program, WORDS)
     results.note(title, agrees(got, wanted), f"came to {shown(*got)}, wanted {wanted} for {files['s.vbe'][:2000]!r}")
     if got[0] or wanted[0]:
+        results.note(f"{title}: files behind a refusal", room.held() == {**files, "t.pat": patterns}, "a file changed")
         return
     text = (room.folder / "r.vst").read_bytes()
     faults = written_faults(WORDS, files, text)
@@ -188,10 +190,11 @@ def check_machines(results, program, seed, numbers):
     for number in numbers:
         choose = random.Random(f"{seed} boog {number}")
         maker = Maker(choose)
-        source = maker.source().encode()
-        files = {**random_files(choose), "s.vbe": source}
+        source = maker.source()
+        source = changed(choose, source, SOURCE_WORDS) if choose.random() < 0.2 else source
+        files = {**random_files(choose), "s.vbe": source.encode()}
         with Room() as room:
-            run_mapped(results, room, program, "a random machine and library", files, maker.pattern_file(choose.randrange(1, 20)).encode())
+            run_mapped(results, room, program, "a random source and library", files, maker.pattern_file(choose.randrange(1, 20)).encode())
 
 
 def check_circuit(results, program, seed, gates):
@@ -209,7 +212,8 @@ def check_examples(results, program):
             continue
         for names in (FIVE, [line.split()[0] for line in (CELLS / "CATAL").read_text().splitlines()]):
             with Room() as room:
-                run_mapped(results, room, program, f"the example {path.name}", {**of_cells(names), "s.vbe": path.read_bytes()}, patterns.read_bytes())
+                files = {**of_cells(names), "s.vbe": path.read_bytes(), "r.vst": b"what was there before\n"}
+                run_mapped(results, room, program, f"the example {path.name}", files, patterns.read_bytes())
 
 
 def check_words(results, program):
