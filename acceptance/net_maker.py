@@ -12,11 +12,15 @@ CHANGES = (
     "entity architecture vdd vss ck u0 u1 s0 s0(0) i0 i1 o0 nosuch_x1 inv_x1 a b q r i nq bus generic '1' \"01\""
 ).split()
 TOKEN = re.compile(r"\w+|=>|<=|:=|[^\w\s]")
-# what may be exchanged for another of its kind: nets, nets with their bits, pins, numbers, directions, types, cells
+# what is exchanged for another of its kind in the text: nets, nets with their bits, pins, numbers, bits and ranges, cells, names
 KINDS = (
-    r"(?<==> )\w+", r"(?<==> )[^,)]+\)?(?=[,)])", r"\w+(?= =>)", r"\b\d+\b", r"\b(in|out)\b", r"\b(downto|to)\b", r"\b(bit|mux_bit)\b", r"\bx\d\b",
-    r"\bu\d+(?= :)", r"\b[a-z]\d\b", r"\((\d+|\d+ (down)?to \d+)\)",
+    r"(?<==> )\w+", r"(?<==> )[^,)]+\)?(?=[,)])", r"\w+(?= =>)", r"\b\d+\b", r"\((\d+|\d+ (down)?to \d+)\)", r"\bx\d\b", r"\b[a-z]\d\b",
 )
+# and for one of these words
+WORDS = {
+    r"\b(in|out)\b": ("in", "out", "inout"), r"\b(downto|to)\b": ("downto", "to"), r"\bbit\b": ("mux_bit", "wor_bit", "bit_vector (0 to 0)", "bit bus"),
+    r"\bbit_vector\b": ("mux_vector", "wor_vector"), r"(end )?component": ("end", "component", "end component"), r"\bnet\b": ("net", "made"),
+}
 PARTS = (r"\w+(\(\d+\))? => [^,;]+,\s*", r"\w+ : (in|out) \w+( \([^)]*\))?; ", r"\n  \w+ : \w+ port map [^;]*;", r"  signal [^;]*;\n")
 COUNTS = (0, 1, 1, 2, 3, 3, 5, 8, 12)
 
@@ -157,13 +161,20 @@ class NetMaker:
         return f"{head}{''.join(declared)}begin\n{''.join(instances)}end net;\n"
 
     def component(self, model):
-        ports = []
-        for name in {name for name, _ in model.pins}:
+        """Its ports in any order, some of those with one type in one declaration."""
+        choose, of_type = self.choose, {}
+        for name in sorted({name for name, _ in model.pins}):
             bits = self.pin_bits(model, name)
             kind = "bit" if bits[0][1] < 0 else f"bit_vector {span(bits[0][1], bits[-1][1], True)}"
-            ports.append(f"{name} : {model.pins[bits[0]]} {kind}")
-        self.choose.shuffle(ports)
-        return f"  component {model.name}\n    port ({'; '.join(ports)});\n  end component;\n"
+            of_type.setdefault(f"{model.pins[bits[0]]} {kind}", []).append(name)
+        ports = []
+        for kind, names in of_type.items():
+            cut = choose.choice([0, 0, len(names), choose.randrange(len(names) + 1)])
+            groups = [names[:cut]] if cut else []
+            ports += [f"{choose.choice(['', '', 'signal '])}{', '.join(group)} : {kind}" for group in groups + [[name] for name in names[cut:]]]
+        choose.shuffle(ports)
+        name = choose.choice(["", "", f" {model.name}"])
+        return f"  component {model.name}\n    port ({'; '.join(ports)});\n  end component{name};\n"
 
     def instance(self, name, model, pairs):
         pairs = [f"{pin} => {net}" for pin, (net, _) in pairs.items()]
@@ -181,14 +192,15 @@ class NetMaker:
         return self.maker.pattern_file(count)
 
 
-def exchanged(choose, text, kinds=KINDS):
+def exchanged(choose, text):
     """The text with one token exchanged for another of its kind, or text where there is none."""
-    kind = choose.choice(kinds)
+    kind = choose.choice([*KINDS, *WORDS])
     found = list(re.finditer(kind, text))
     if not found:
         return text
-    one, other = choose.choice(found), choose.choice(found)
-    return text[: one.start()] + other[0] + text[one.end() :]
+    one = choose.choice(found)
+    other = choose.choice(WORDS[kind] if kind in WORDS else [place[0] for place in found])
+    return text[: one.start()] + other + text[one.end() :]
 
 
 def without_or_twice(choose, text):
