@@ -83,6 +83,21 @@ def check_cut(results, program):
             expect(results, room, program, "a netlist that is cut or changed", text, b"in i; out nq; begin < 0 ns> : 0 ?1; end;", models)
 
 
+def check_chain(results, program, count):
+    """Inverters in a chain, and the same in a ring."""
+    files = of_cells(["inv_x1"])
+    models = library(files, "lib")
+    head, middle = SMALL.decode().split("begin\n")[0], "".join(f"signal s{k} : bit;\n" for k in range(count))
+    text = f"{head}{middle}begin\ng : inv_x1 port map (i => s0, nq => nq, vdd => vdd, vss => vss);\n"
+    for k in range(count):
+        text += f"g{k} : inv_x1 port map (i => s{k + 1}, nq => s{k}, vdd => vdd, vss => vss);\n"
+    with Room() as room:
+        room.write(files)
+        for last in ("i", "s0"):
+            whole = text.replace(f"=> s{count},", f"=> {last},") + "end x;\n"
+            expect(results, room, program, f"{count} inverters", whole.encode(), b"in i; out nq; begin < 0 ns> : 0 ?*; < 1 ns> : 1 ?*; end;", models)
+
+
 def check_long(results, program):
     """A file of as many bytes as a netlist may have, and one of one byte more; all are 0, which begins no token."""
     files = {**of_cells(["inv_x1"]), "t.pat": b"begin end;", "r.vst": b""}
@@ -96,6 +111,7 @@ def check_long(results, program):
 
 def jobs(program, seed, times):
     yield check_long, (program,)
+    yield check_chain, (program, 4000)
     yield check_cut, (program,)
     numbers = range(NETLISTS * times)
     for at in range(0, len(numbers), CHUNK):

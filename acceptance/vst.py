@@ -145,13 +145,24 @@ class NetRing(Ring):
         """Whether these are the instances of a ring of different outputs, from the least name on."""
         if line != 1 or not names or min(names) != names[0] or any(name not in self.outputs for name in names):
             return False
-        return any(self.closes([first], names) for first in self.outputs[names[0]])
+        return any(self.is_ring(first, names) for first in self.outputs[names[0]])
 
-    def closes(self, ring, names):
-        if len(ring) == len(names):
-            return ring[0] in self.links[ring[-1]]
-        nexts = [end for end in self.outputs[names[len(ring)]] if end in self.links[ring[-1]] and end not in ring]
-        return any(self.closes([*ring, end], names) for end in nexts)
+    def is_ring(self, first, names):
+        """Whether outputs of these instances, from this one on, lead to each other and back; no output stands twice."""
+        path, met, waiting = [], set(), [(0, first)]
+        while waiting:
+            depth, end = waiting.pop()
+            while len(path) > depth:
+                met.remove(path.pop())
+            if end in met:
+                continue
+            path.append(end)
+            met.add(end)
+            if len(path) < len(names):
+                waiting += [(len(path), other) for other in self.outputs[names[len(path)]] if other in self.links[end]]
+            elif first in self.links[end]:
+                return True
+        return False
 
 
 class Netlist:

@@ -21,6 +21,7 @@ program=$(realpath "$1")
 most=${2:-300}
 patterns=${PATTERNS:-100}
 here=$(dirname "$(realpath "$0")")
+. "$here/measure.sh"
 work=$(mktemp -d)
 trap 'rm -rf "$work"' EXIT
 cp -r "$here/../cells" "$work/lib"
@@ -30,26 +31,6 @@ abc=$(command -v berkeley-abc || command -v yosys-abc || true)
 [ -n "$abc" ] || echo "berkeley-abc isn't installed: its columns are left out"
 cd "$work"
 python3 "$here/blif.py" --genlib >gates.genlib
-
-# measured OUT WORDS..: runs the words with their output in OUT, and prints `seconds kilobytes`, or `- -` where they failed.
-measured() {
-  local out=$1
-  shift
-  if timeout "$most" /usr/bin/time -f '%e %M' -o times "$@" >"$out" 2>errors; then
-    cat times
-  else
-    echo "- -"
-  fi
-}
-
-# growth SECONDS_BEFORE BEFORE SECONDS NOW: by how much the seconds grow when the number doubles, or -.
-growth() {
-  awk -v s="$1" -v a="$2" -v t="$3" -v b="$4" 'BEGIN { if (s + 0 > 0 && t + 0 > 0) printf "%.2f", exp(log(t / s) * log(2) / log(b / a)); else printf "-" }'
-}
-
-megabytes() {
-  [ "$1" = - ] && echo - || echo $(($1 / 1024))
-}
 
 # each SECONDS NUMBER: microseconds for 1,000 of them and one pattern, or -.
 each() {
