@@ -37,8 +37,8 @@ each() {
   awk -v t="$1" -v n="$2" -v p="$patterns" 'BEGIN { if (t + 0 > 0 && n + 0 > 0) printf "%.1f", t * 1e9 / n / p; else printf "-" }'
 }
 
-# Of the numbers that abc prints behind `lat =` and `nd =`, and of the last `Number of cells` of yosys, or the count before
-# `cells`, which newer ones print.
+# The cells that were printed: of abc the sum of what stands behind `lat =` and `nd =`; of yosys the last `Number of cells`, or
+# the count before `cells`, which newer ones print.
 abc_cells() {
   awk '{ gsub("=", " = ") } / nd /{ for (k = 1; k < NF; k++) if ($k == "nd" || $k == "lat") n += $(k + 2) } END { print n ? n : "-" }' "$1"
 }
