@@ -103,7 +103,7 @@ module _ (ps : List Port) (sorted : Sorted ps) (apart : (p : Port) → In p ps �
   no_vdd p i = (apart p i).0
 
   pub no_vss : (p : Port) → In p with_vdd → p.name ≢ vss
-  no_vss p i = elim (with_cases vdd ps p i) [ inl is ↦ λ e. vdd_is_not (sym is ∙ e) | inr j ↦ (apart p j).1 ]
+  no_vss p i = elim (with_cases vdd ps p i) [ inl is ↦ λ e. vdd_is_not (sym (ap (λ (q : Port). q.name) is) ∙ e) | inr j ↦ (apart p j).1 ]
 
   pub sorted_vdd : Sorted with_vdd
   sorted_vdd = sorted_supply vdd ps sorted
@@ -122,8 +122,8 @@ module _ (ps : List Port) (sorted : Sorted ps) (apart : (p : Port) → In p ps �
 
   pub cases : (p : Port) → In p with_both → (p.name ≡ vdd) ⊎ ((p.name ≡ vss) ⊎ In p ps)
   cases p i = elim (with_cases vss with_vdd p i) [
-    | inl is ↦ inr (inl is)
-    | inr j ↦ elim (with_cases vdd ps p j) [ inl is ↦ inl is | inr k ↦ inr (inr k) ]
+    | inl is ↦ inr (inl (ap (λ (q : Port). q.name) is))
+    | inr j ↦ elim (with_cases vdd ps p j) [ inl is ↦ inl (ap (λ (q : Port). q.name) is) | inr k ↦ inr (inr k) ]
   ]
 
   pub names : (name : Name) → In name (names_of with_both) ↔ ((name ≡ vdd) ⊎ ((name ≡ vss) ⊎ In name (names_of ps)))
