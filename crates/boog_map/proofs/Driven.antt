@@ -204,8 +204,7 @@ module _ (m : Machine) (checked : IsChecked m) (g : Graph) (sub : IsSubjectGraph
 
     driven_by : (a : ℕ) (t : Terminal) → Begins (signal.Node a) → Stands drivers a t → In (t, signal.Node a) told → Good (signal.Node a)
     driven_by a t begins stands h =
-        let there_is : Stands d.nodes.items a t = subst (λ (ts : List Terminal). Stands ts a t) (sym drv.on_nodes) stands in
-        (
+        let there_is : Stands d.nodes.items a t = subst (λ (ts : List Terminal). Stands ts a t) (sym drv.on_nodes) stands in (
           subst (λ (u : Terminal). In (u, signal.Node a) told) (sym (got d.nodes.items a t d.low there_is)) h,
           within d.nodes.items a t there_is,
           begins,

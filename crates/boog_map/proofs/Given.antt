@@ -179,8 +179,7 @@ module _ (m : Machine) (checked : IsChecked m) (g : Graph) (sub : IsSubjectGraph
 
     first : UsesFirstCells n l
     first i h =
-        let s = of_spot i h in
-        (
+        let s = of_spot i h in (
           kind_for (has_registers m) s.0.kind,
           (parts.each s.0.kind).cell,
           (parts.each s.0.kind).chosen,

@@ -301,11 +301,10 @@ module _ (m : Machine) (checked : IsChecked m) (g : Graph) (sub : IsSubjectGraph
               let r = In-map_back (λ (p : Port). p.name) name (all_ports (cell_for s.kind)) i in
               let t = tied_pin (first_of (cell_for s.kind)) r.0 in
               let one : In t (part_of ps s.kind).ties.items =
-              subst (λ (ts : List TiedPin). In t ts) (sym (ties_of s)) (In-map (tied_pin (first_of (cell_for s.kind))) r.0 (all_ports (cell_for s.kind)) r.1) in
-              (
+              subst (λ (ts : List TiedPin). In t ts) (sym (ties_of s)) (In-map (tied_pin (first_of (cell_for s.kind))) r.0 (all_ports (cell_for s.kind)) r.1) in (
                 tied_signal s t.tie,
                 subst (λ (x : Name). In (pin_of s.name x, tied_signal s t.tie) (spot_signals ps s)) r.2
-                (In-map (λ (p : TiedPin). (pin_of s.name p.name, tied_signal s p.tie)) t (part_of ps s.kind).ties.items one),
+                    (In-map (λ (p : TiedPin). (pin_of s.name p.name, tied_signal s p.tie)) t (part_of ps s.kind).ties.items one),
               )
 
     terminal_told : (t : Terminal) → IsTerminal k l t → (s : Signal) × In (t, s) signals

@@ -48,8 +48,7 @@ shift : (marks : List Bool) (number k : ℕ) (first : Node) (nodes : List Node) 
     → (i : ℕ) × (one : Node) × IsNumber (first ∷ nodes) i one × (bit marks (number + i) ≡ true) × (s ≡ gate_spot (k + m) (number + i) one)
 shift marks number k first nodes j m s same r =
     let e : suc number + r.0 ≡ number + suc r.0 = omega arith in
-    let P : ℕ → Type 0 = λ x. bit marks x ≡ true in
-    (
+    let P : ℕ → Type 0 = λ x. bit marks x ≡ true in (
       suc r.0,
       r.1,
       r.2,
@@ -120,16 +119,14 @@ gate_found ps marks number k (first ∷ nodes) (suc i) one h is = by (λ k m. ga
       let r = rest (suc k) marked in
       let n : suc k + r.0 ≡ k + suc r.0 = omega arith in
       let spot : gate_spot (suc k + r.0) (suc number + i) one ≡ gate_spot (k + suc r.0) (number + suc i) one =
-      ap (λ (x : ℕ). gate_spot x (suc number + i) one) n ∙ ap (λ (x : ℕ). gate_spot (k + suc r.0) x one) same in
-      (
+      ap (λ (x : ℕ). gate_spot x (suc number + i) one) n ∙ ap (λ (x : ℕ). gate_spot (k + suc r.0) x one) same in (
         suc r.0,
         subst (λ (s : Spot). IsNumber (gate_spots marks (suc number) (suc k) nodes) r.0 s) spot r.1,
         subst (λ (s : Spot). IsNumber (gate_drivers ps marks (suc number) (suc k) nodes) i (output_terminal ps s)) spot r.2,
       )
   by rest false =
       let r = rest k marked in
-      let spot : gate_spot (k + r.0) (suc number + i) one ≡ gate_spot (k + r.0) (number + suc i) one = ap (λ (x : ℕ). gate_spot (k + r.0) x one) same in
-      (
+      let spot : gate_spot (k + r.0) (suc number + i) one ≡ gate_spot (k + r.0) (number + suc i) one = ap (λ (x : ℕ). gate_spot (k + r.0) x one) same in (
         r.0,
         subst (λ (s : Spot). IsNumber (gate_spots marks (suc number) k nodes) r.0 s) spot r.1,
         subst (λ (s : Spot). IsNumber (gate_drivers ps marks (suc number) k nodes) i (output_terminal ps s)) spot r.2,

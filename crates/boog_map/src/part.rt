@@ -210,7 +210,11 @@ fn chosen_part(alloc: Global, cells: &[Cell], kind: Kind) -> Result<Part, AllocE
 
 /// For each kind the first usable cell. Without registers no flip-flop is needed, and an inverter stands for it. Takes memory
 /// for the names of pins.
-pub(crate) fn chosen_parts(alloc: Global, cells: &[Cell], registers: bool) -> Result<Parts, AllocError>
+pub(crate) fn chosen_parts(
+    alloc: Global,
+    cells: &[Cell],
+    registers: bool,
+) -> Result<Parts, AllocError>
     requires formed { All IsFormed cells.now }
     requires connectors { All PinsAreConnectors cells.now }
     requires there { (k : Kind) → In k (needed registers) → HasCellOf cells.now k }

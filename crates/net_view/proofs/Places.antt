@@ -42,7 +42,7 @@ pin_there n i name h g =
     let place = length (flat_map pins_of (take h.0 n.instances)) + g.0 in (
       length (port_terminals n.ports) + place,
       stands_right (port_terminals n.ports) (flat_map pins_of n.instances) place (pin_of i.name name)
-      (flat_join pins_of n.instances h.0 g.0 i (pin_of i.name name) h.1 (mapped (pin_of i.name) i.pins g.0 name g.1)),
+          (flat_join pins_of n.instances h.0 g.0 i (pin_of i.name name) h.1 (mapped (pin_of i.name) i.pins g.0 name g.1)),
     )
 
 -- a terminal that is there has a class

@@ -48,7 +48,7 @@ says_led : (w : Keyword) → Says (led_names w) AreNewWords
 unfolding led_names
 says_led w =
     says_behind (λ t. says_then (says_declared t.line) (λ first h. says_then (says_list (says_another t.line)) (λ others hs.
-          says_nothing AreNewWords (t.line, first ∷ others) (h, hs))))
+    says_nothing AreNewWords (t.line, first ∷ others) (h, hs))))
 
 says_here : Says declared_here IsNewWord
 unfolding declared_here
@@ -58,7 +58,7 @@ says_own : Says own_names AreNewWords
 unfolding own_names
 says_own =
     says_then says_here (λ first h. says_then (says_list (says_another first.line)) (λ others hs.
-        says_nothing AreNewWords (first.line, first ∷ others) (h, hs)))
+    says_nothing AreNewWords (first.line, first ∷ others) (h, hs)))
 
 says_names : (w : Keyword) → Says (names w) AreNewWords
 unfolding names
@@ -73,7 +73,7 @@ says_port_behind : (room : ℕ) (n : Names) → AreNewWords n → Says (port_beh
 unfolding port_behind
 says_port_behind room n h =
     says_behind (λ t. says_behind (λ m. says_behind (λ kind. says_behind (λ b.
-            says_nothing IsPortWord (record { line = n.0; names = n.1; mode = m.0; mode_line = m.1; kind = kind; bus = b }) h))))
+    says_nothing IsPortWord (record { line = n.0; names = n.1; mode = m.0; mode_line = m.1; kind = kind; bus = b }) h))))
 
 says_port : (room : ℕ) → Says (port room) IsPortWord
 unfolding port
@@ -91,7 +91,7 @@ says_port_clause : (room : ℕ) → Says (port_clause room) (Every IsPortWord)
 unfolding port_clause
 says_port_clause room =
     says_behind (λ t. says_behind (λ u. says_then (says_port (room - 1)) (λ first h. says_then (says_list (says_next_port (room - 1))) (λ others hs.
-            says_closed (Every IsPortWord) (first ∷ others) (h, hs)))))
+    says_closed (Every IsPortWord) (first ∷ others) (h, hs)))))
 
 -- ---- entities
 
@@ -110,7 +110,7 @@ says_entity : (room : ℕ) → Says (entity room) IsEntityWord
 unfolding entity
 says_entity room =
     says_then says_head (λ name h. says_behind (λ generics. says_then (says_port_clause room) (λ ports hs.
-          says_ending IsEntityWord name (record { name = name; generics = generics; ports = ports }) (h, hs))))
+    says_ending IsEntityWord name (record { name = name; generics = generics; ports = ports }) (h, hs))))
 
 -- ---- declarations
 
@@ -121,7 +121,7 @@ says_signal : (room : ℕ) → Says (signal room) IsSignalWord
 unfolding signal
 says_signal room =
     says_then (says_led word.Signal) (λ n h. says_behind (λ t. says_behind (λ kind. says_behind (λ u.
-            says_nothing IsSignalWord (record { line = n.0; names = n.1; kind = kind }) h))))
+    says_nothing IsSignalWord (record { line = n.0; names = n.1; kind = kind }) h))))
 
 abbrev pub AreSignalWords : Declarations → Type 0
 AreSignalWords d = Every IsSignalWord d.signals
@@ -139,7 +139,7 @@ says_architecture : (room : ℕ) (e : Entity) → IsEntityWord e → Says (archi
 unfolding architecture
 says_architecture room e h =
     says_behind (λ name. says_then (says_declarations room) (λ d g. says_behind (λ all. says_behind (λ u.
-            says_nothing IsSourceWord (record { entity = e; declarations = d; statements = all }) (h, g)))))
+    says_nothing IsSourceWord (record { entity = e; declarations = d; statements = all }) (h, g)))))
 
 says_source : (room : ℕ) → Says (source room) IsSourceWord
 unfolding source

@@ -67,7 +67,7 @@ fit_component c next can =
           (
             (tt, refl),
             fit_both (port_layout c.first) more next (fit_port c.first (first_byte more next) can.1 (behind_pins c.others next))
-            (fit_both (ports_layout c.others) component_end next (fit_ports c.others 41 can.2 refl) (fit_component_end next)),
+                (fit_both (ports_layout c.others) component_end next (fit_ports c.others 41 can.2 refl) (fit_component_end next)),
           ),
         ),
       ),
@@ -128,7 +128,7 @@ fit_instance i next can =
               (
                 (tt, refl),
                 fit_both (mapping_layout i.first) more next (fit_mapping i.first (first_byte more next) can.2 (behind_maps i.others next))
-                (fit_both (mappings_layout i.others) instance_end next (fit_mappings i.others 41 can.3 refl) ((tt, refl), ((tt, refl), tt))),
+                    (fit_both (mappings_layout i.others) instance_end next (fit_mappings i.others 41 can.3 refl) ((tt, refl), ((tt, refl), tt))),
               ),
             ),
           ),
@@ -170,8 +170,7 @@ sentence st can =
     let behind = with_entries (map instance_entry st.instances) (with_entries (map signal_entry st.signals) (with_entries (map component_entry st.components) (with_entries (map port_entry (st.entity.first ∷ st.entity.others)) uncounted))) in
     let r = spell_structure DEPTH st 1 uncounted refl refl refl can.new in
     let c = cut_again vhdl false 1 (structure_layout st) (fit_structure st 0 can) in
-    let Right : List PlacedToken → Type 0 = λ ts. AnswersAll vst (start ts) (Ok (placed_structure 1 st, record { state = behind; rest = [] })) in
-    (
+    let Right : List PlacedToken → Type 0 = λ ts. AnswersAll vst (start ts) (Ok (placed_structure 1 st, record { state = behind; rest = [] })) in (
       c.refusal,
       record {
         end = record { state = behind; rest = [] };

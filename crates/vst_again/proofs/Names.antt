@@ -53,8 +53,7 @@ pub signal_name : (k : ℕ) → k < 2 ^ 32 → IsName (signal_text k)
 unfolding keyword_of
 signal_name k small =
     let d = decimal_is k (omega (arith, small)) in
-    let n = length-decimal-le 10 k (omega arith) (omega (arith, small)) (omega (arith, small)) in
-    (
+    let n = length-decimal-le 10 k (omega arith) (omega (arith, small)) (omega (arith, small)) in (
       record {
         begins = refl;
         letters = both (is_in_small_word 110) (list_all is_in_small_word (decimal k)) refl (all_implied is_ascii_digit is_in_small_word digit_in_word (decimal k) d.digits);

@@ -57,12 +57,7 @@ fn kind(
 }
 
 /// Ports of one text, from the first to the last.
-fn group(
-    alloc: Global,
-    out: &mut FileBytes,
-    first: &Port,
-    last: &Port,
-) -> Result<(), AllocError>
+fn group(alloc: Global, out: &mut FileBytes, first: &Port, last: &Port) -> Result<(), AllocError>
     ensures { OnOk result (out.new ≡ out.old ++ text_of (port_layout (declared (group_of first.now last.now)))) }
 {
     out.append(b"  ")?;

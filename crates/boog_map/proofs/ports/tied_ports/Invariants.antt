@@ -9,5 +9,5 @@ invariant-loop-port l = record {
   tied : l.tied.items ++ tied_ports (option_copied l.clock) l.outputs l.counts.inputs l.counts.outputs (drop l.port-index l.ports)
       ≡ tied_ports (option_copied l.clock) l.outputs 0 0 l.ports;
   inputs : l.counts.inputs ≤ l.port-index;
-  outputs : l.counts.outputs + length (filter (λ p. not (is_input p.dir)) (drop l.port-index l.ports)) ≤ length l.outputs
+  outputs : l.counts.outputs + length (filter (λ p. not (is_input p.dir)) (drop l.port-index l.ports)) ≤ length l.outputs;
 }

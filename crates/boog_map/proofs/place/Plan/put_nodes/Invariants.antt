@@ -10,5 +10,5 @@ invariant-loop-node l = record {
   drivers : l.self.drivers.items ++ gate_drivers l.parts l.marks (length l.self.drivers.items) l.count (map node_view (drop l.node-index l.nodes))
       ≡ l.fn.self.drivers.items ++ gate_drivers l.parts l.marks (length l.fn.self.drivers.items) 0 (map node_view l.nodes);
   number : length l.self.drivers.items ≡ length l.fn.self.drivers.items + l.node-index;
-  few : l.count ≤ l.node-index
+  few : l.count ≤ l.node-index;
 }

@@ -7,5 +7,5 @@ invariant-loop-k l = record {
   spots : l.self.spots.items ++ register_spots l.first l.k (drop l.k l.loads)
       ≡ l.fn.self.spots.items ++ register_spots l.first 0 l.loads;
   drivers : l.self.drivers.items ++ map (output_terminal l.parts) (register_spots l.first l.k (drop l.k l.loads))
-      ≡ l.fn.self.drivers.items ++ map (output_terminal l.parts) (register_spots l.first 0 l.loads)
+      ≡ l.fn.self.drivers.items ++ map (output_terminal l.parts) (register_spots l.first 0 l.loads);
 }
