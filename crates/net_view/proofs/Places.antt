@@ -1,5 +1,5 @@
 -- What stands at a place of a netlist's terminals, and what it does there.
-use Rattle.std.proofs.Common.{◌≡◌, ℕ, suc, ◌+◌, ◌<◌, List, [], ◌∷◌, ◌++◌, map, length, All, flat_map, zip, take, Some, None, refl, sym, ◌∙◌, ap, subst, arith}
+use Rattle.std.proofs.Common.{◌≡◌, ℕ, suc, ◌+◌, List, [], ◌∷◌, ◌++◌, map, length, All, flat_map, zip, take, refl, sym, ◌∙◌, ap, subst, arith}
 use Rattle.std.proofs.lemmas.List.{map-append}
 use Rattle.std.proofs.lemmas.Option.{slice_get_within}
 use Rattle.vlsi_base.specs.declared.name.Name.{Name}
@@ -42,7 +42,7 @@ pin_there n i name h g =
     let place = length (flat_map pins_of (take h.0 n.instances)) + g.0 in (
       length (port_terminals n.ports) + place,
       stands_right (port_terminals n.ports) (flat_map pins_of n.instances) place (pin_of i.name name)
-      (flat_join pins_of n.instances h.0 g.0 i (pin_of i.name name) h.1 (mapped (pin_of i.name) i.pins g.0 name g.1)),
+          (flat_join pins_of n.instances h.0 g.0 i (pin_of i.name name) h.1 (mapped (pin_of i.name) i.pins g.0 name g.1)),
     )
 
 -- a terminal that is there has a class
