@@ -7,7 +7,7 @@ use Rattle.machine_meaning.specs.Named.{value_at}
 use Rattle.machine_meaning.specs.Machine.{Equation, outputs}
 use Rattle.machine_meaning.specs.Runs.{Run}
 use Rattle.machine_meaning.specs.Cycles.{Settles, outs, next, AreVectors}
-use Rattle.vlsi_base.specs.Member.{In, here}
+use Rattle.vlsi_base.specs.Member.{In, here, there}
 use Rattle.cell_model.specs.Cell.{Cell, gate}
 use Rattle.cell_model.specs.Library.{Library, cell_of, IsPlain}
 use Rattle.net_meaning.specs.Netlist.{Member, Netlist}
@@ -53,8 +53,8 @@ module _ (p : Bool) (i o cell a z : List ℕ) (io : AreProper i o) (az : AreProp
       let inputs : bit w.classes 2 ∷ [] ≡ iv = rw (two i o io) at h.inputs in
       record {
         each = h.each;
-        low = h.low;
-        high = h.high;
+        low = h.low here;
+        high = h.high (there here);
         input = inputs;
         output = gate_out p i o cell a z az w t (h.instances (member cell) (cell_by p cell a z) here (found_cell p cell a z));
       }
@@ -69,8 +69,8 @@ module _ (p : Bool) (i o cell a z : List ℕ) (io : AreProper i o) (az : AreProp
   from_plain : (t : Contents) (iv : List Bool) (w : Valuation) → Plain iv w.classes → settles p i o cell a z io az t iv w
   from_plain t iv w h = record {
     each = h.each;
-    high = h.high;
-    low = h.low;
+    high = λ _. h.high;
+    low = λ _. h.low;
     still = λ name is. absurd (cc is);
     inputs = rw (two i o io) h.input;
     instances = drives t w h.output;

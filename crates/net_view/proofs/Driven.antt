@@ -1,5 +1,5 @@
 -- Each class of a right netlist has one driver.
-use Rattle.std.proofs.Common.{◌≡◌, ◌≢◌, ◌⊎◌, inl, inr, ℕ, ◌<◌, ◌≤◌, Bool, true, false, not, List, [], ◌∷◌, ◌++◌, map, length, filter, Some, codes, refl, sym, ◌∙◌, ap, subst, arith}
+use Rattle.std.proofs.Common.{◌≡◌, inl, inr, ℕ, ◌<◌, ◌≤◌, Bool, true, not, List, [], ◌∷◌, ◌++◌, filter, Some, refl, sym, ◌∙◌, ap, subst, arith}
 use Rattle.std.proofs.lemmas.Option.{same_Some, slice_get_within}
 use Rattle.vlsi_base.specs.declared.name.Name.{Name}
 use Rattle.vlsi_base.specs.declared.name.Port.{Port}
@@ -25,7 +25,7 @@ use Rattle.cell_model.proofs.Members.{In-left, In-map, In-map_back, All-In}
 use Rattle.cell_pins.specs.Pins.{supply, all_ports}
 use Rattle.cell_pins.specs.Table.{IsPinOf}
 use Rattle.cell_pins.proofs.Ports.{in_filter}
-use Rattle.cell_pins.proofs.Sound.{member_at as in_from_place, pin_at}
+use Rattle.cell_pins.proofs.Sound.{pin_at}
 use Rattle.net_meaning.specs.Netlist.{Member}
 use Rattle.net_theory.specs.Sources.{Source, high, low, ticking, node, IsNumber, Seat, ComesFrom}
 use Rattle.net_theory.proofs.Basics.{at_number, number_below, number_once, number_in, In-held}

@@ -15,12 +15,12 @@ use Rattle.net_core.specs.declared.pins.ModelPins.{ModelPins}
 use Rattle.net_core.specs.Places.{IsThere}
 use Rattle.net_core.specs.Netlist.{Instance, Netlist as InMemory, port, pin_of, terminals, HasClass}
 use Rattle.net_core.proofs.Lookups.{same_of}
-use Rattle.cell_model.specs.Cell.{Cell, pin_ports}
+use Rattle.cell_model.specs.Cell.{pin_ports}
 use Rattle.cell_model.specs.Library.{Library}
 use Rattle.cell_model.proofs.Members.{In-left, In-map, All-In}
 use Rattle.cell_pins.specs.Pins.{supply, all_ports}
 use Rattle.cell_pins.proofs.Sound.{member_at as in_from_place}
-use Rattle.net_meaning.specs.Netlist.{Netlist, IsTerminal, a_port}
+use Rattle.net_meaning.specs.Netlist.{Netlist, IsTerminal}
 use Rattle.net_theory.proofs.Well.{vdd_port, vss_port, joined}
 use Rattle.net_view.specs.Condition.{AreTogether, MeetsCondition}
 use Rattle.net_view.specs.Right.{RightMeetsCondition}

@@ -1,5 +1,5 @@
 -- The models of a table and the cells of a library.
-use Rattle.std.proofs.Common.{◌≡◌, ◌≢◌, ◌⊎◌, inl, inr, ℕ, zero, suc, Bool, true, false, cond, List, [], ◌∷◌, map, Some, None, refl, sym, ◌∙◌, ap, subst, bytes_eq}
+use Rattle.std.proofs.Common.{◌≡◌, ℕ, zero, suc, Bool, true, false, cond, List, [], ◌∷◌, map, Some, None, refl, sym, ◌∙◌, ap, subst, bytes_eq}
 use Rattle.std.proofs.lemmas.Bool.{cond-true, cond-false, false_from_ne_true}
 use Rattle.std.proofs.lemmas.Option.{same_Some}
 use Rattle.vlsi_base.specs.Member.{In, here, there}
@@ -11,7 +11,7 @@ use Rattle.net_core.proofs.Lookups.{same_of, itself}
 use Rattle.cell_model.specs.Cell.{Cell}
 use Rattle.cell_model.specs.Library.{cell_named}
 use Rattle.cell_model.proofs.Texts.{text_same, text_itself}
-use Rattle.cell_pins.specs.Table.{IsModelOf, AreModels, no_models, listed, left_out}
+use Rattle.cell_pins.specs.Table.{IsModelOf, AreModels, listed, left_out}
 use Rattle.cell_pins.proofs.Sound.{Apart, apart_rest, apart_first}
 
 -- ---- cells by their names

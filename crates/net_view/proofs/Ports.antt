@@ -1,5 +1,5 @@
 -- Ports with the supplies put in.
-use Rattle.std.proofs.Common.{◌≡◌, ◌≢◌, ◌⊎◌, inl, inr, true, false, List, filter, refl, sym, ◌∙◌, ap, subst, bytes_eq, codes}
+use Rattle.std.proofs.Common.{◌≡◌, ◌≢◌, ◌⊎◌, inl, inr, true, false, List, filter, refl, sym, ◌∙◌, ap, subst}
 use Rattle.std.specs.Ordering.{is_lt, ordering_reverse}
 use Rattle.std.specs.declared.cmp.Ordering.{Ordering}
 use Rattle.std.specs.declared.cmp.Ordering.TheVariants.{Less, Equal, Greater}
@@ -10,7 +10,6 @@ use Rattle.vlsi_base.specs.Names.{vdd, vss, comes_before}
 use Rattle.vlsi_base.specs.Member.{In, here, there}
 use Rattle.vlsi_base.proofs.NameOrder.{name_total, name_exact}
 use Rattle.machine_meaning.specs.Machine.{names_of}
-use Rattle.machine_core.proofs.Names.{same_name-itself}
 use Rattle.machine_meaning.specs.Named.{is_same_name}
 use Rattle.cell_model.proofs.Members.{In-left, In-right, In-map, In-map_back}
 use Rattle.cell_pins.specs.Pins.{supply, with_supply}

@@ -1,9 +1,6 @@
 -- To be the same by name is an equivalence.
-use Rattle.std.proofs.Common.{◌≡◌, ◌↔◌, ℕ, List}
-use Rattle.vlsi_base.specs.declared.name.Port.{Port}
-use Rattle.vlsi_base.specs.declared.name.Terminal.{Terminal}
-use Rattle.net_core.specs.Netlist.{Netlist}
-use Rattle.net_view.specs.Same.{AreSameByName, SameByNameIsEquivalence}
+use Rattle.std.proofs.Common.{◌↔◌}
+use Rattle.net_view.specs.Same.{SameByNameIsEquivalence}
 
 turn : {P Q : Type 0} → (P ↔ Q) → (Q ↔ P)
 turn h = (h.1, h.0)

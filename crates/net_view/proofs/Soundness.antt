@@ -1,5 +1,5 @@
 -- The classes of a right netlist have no fault, and its output pins make no ring.
-use Rattle.std.proofs.Common.{◌≡◌, ◌≢◌, ◌⊎◌, inl, inr, ℕ, zero, suc, ◌+◌, ◌-◌, ◌<◌, ◌≤◌, Bool, true, false, not, ◌&&◌, ◌||◌, List, [], ◌∷◌, map, length, filter, nat_eq, nat_le, nat_lt, Some, refl, sym, ◌∙◌, ap, subst, arith}
+use Rattle.std.proofs.Common.{◌≡◌, ◌≢◌, inl, inr, ℕ, zero, suc, ◌+◌, ◌-◌, ◌<◌, ◌≤◌, Bool, false, not, ◌&&◌, ◌||◌, List, length, filter, nat_eq, nat_le, nat_lt, refl, sym, ◌∙◌, ap, subst, arith}
 use Rattle.std.proofs.lemmas.Bool.{cases_lt, ne_eqb, lt-leb, le-ltb, and_left, and_right, or_from}
 use Rattle.std.proofs.lemmas.Option.{slice_get_within}
 use Rattle.vlsi_base.specs.declared.name.Name.{Name}
@@ -9,16 +9,15 @@ use Rattle.vlsi_base.specs.declared.name.Dir.TheVariants as dir
 use Rattle.vlsi_base.specs.declared.name.Terminal.{Terminal}
 use Rattle.vlsi_base.specs.Names.{vdd, vss}
 use Rattle.vlsi_base.specs.Member.{In}
-use Rattle.machine_meaning.specs.Machine.{Machine, is_input, input_ports}
+use Rattle.machine_meaning.specs.Machine.{Machine, is_input}
 use Rattle.net_core.specs.declared.pins.ModelPin.{ModelPin}
 use Rattle.net_core.specs.declared.pins.ModelPins.{ModelPins}
 use Rattle.net_core.specs.declared.tally.Role.{Role}
 use Rattle.net_core.specs.declared.tally.Role.TheVariants as role
 use Rattle.net_core.specs.declared.tally.Tally.{Tally}
-use Rattle.net_core.specs.declared.tally.ClassFault.{ClassFault}
 use Rattle.net_core.specs.declared.tally.ClassFault.TheVariants as fault
-use Rattle.net_core.specs.Places.{IsThere, Stands}
-use Rattle.net_core.specs.Netlist.{Instance, Netlist as InMemory, pin_of, terminals, HasClass}
+use Rattle.net_core.specs.Places.{Stands}
+use Rattle.net_core.specs.Netlist.{Netlist as InMemory, pin_of, terminals, HasClass}
 use Rattle.net_core.specs.Checks.{roles, tally, drivers, all_clocks, is_unconnected, class_test, HasSoundClasses, DependsOn, IsRing, Passes}
 use Rattle.net_core.proofs.Classes.{roles_length}
 use Rattle.net_core.proofs.Finishing.{netlist_terminals_once}
@@ -27,7 +26,7 @@ use Rattle.net_core.proofs.Standing.{stands_same}
 use Rattle.cell_model.specs.Cell.{Function, gate, flip_flop, other, opaque, Cell, pin_ports, cell_inputs, cell_outputs}
 use Rattle.cell_model.specs.Library.{Library}
 use Rattle.cell_model.proofs.Members.{In-map}
-use Rattle.cell_pins.specs.Pins.{supply, all_ports}
+use Rattle.cell_pins.specs.Pins.{all_ports}
 use Rattle.cell_pins.specs.Follows.{DependsAtOnce}
 use Rattle.cell_pins.specs.Table.{first_places, DependsAt}
 use Rattle.cell_pins.proofs.Listed.{picked_has}
@@ -35,11 +34,10 @@ use Rattle.cell_pins.proofs.Sound.{member_at as in_from_place, pin_at}
 use Rattle.net_meaning.specs.Netlist.{Member}
 use Rattle.net_theory.specs.Sources.{Source, high, low, ticking, node, Seat, Plays}
 use Rattle.net_theory.proofs.Seats.{pin_source, output_at}
-use Rattle.net_view.specs.View.{member_of}
 use Rattle.net_view.proofs.Lists.{filter_in, zip_place}
-use Rattle.net_view.proofs.Tallies.{in_class, weighed, drives, input_port, output_port, input_pin, clock_pin, drives_light, drivers_are, input_ports_are, output_ports_are, input_pins_are, clock_pins_are, Weighs, some_weigh, TwoWeigh, two_weigh, weighs_place, weightless, clocks_weigh}
+use Rattle.net_view.proofs.Tallies.{in_class, weighed, drives, input_port, output_port, input_pin, clock_pin, drives_light, drivers_are, input_ports_are, output_ports_are, input_pins_are, clock_pins_are, some_weigh, TwoWeigh, two_weigh, weighs_place, weightless, clocks_weigh}
 use Rattle.net_view.proofs.Ports.{both_cases}
-use Rattle.net_view.proofs.Places.{Does, members, IsMember, member_at}
+use Rattle.net_view.proofs.Places.{members, member_at}
 use Rattle.net_view.proofs.Terminals.{seen_classes}
 use Rattle.net_view.proofs.Filled.{Given, cell_at, model_at, fits, port_at, seat_at, DrivesFrom, Fills, at, fills}
 use Rattle.net_view.proofs.Driven.{one_driver, clocked, driven}

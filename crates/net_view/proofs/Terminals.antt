@@ -1,10 +1,9 @@
 -- The terminals of a netlist in memory are those of the netlist that it is seen as.
-use Rattle.std.proofs.Common.{◌≡◌, ◌⊎◌, ◌↔◌, inl, inr, ℕ, Bool, List, map, All, Some, None, refl, sym, ◌∙◌, ap, subst}
+use Rattle.std.proofs.Common.{◌≡◌, Bool, List, map, All, Some, sym, ◌∙◌, ap, subst}
 use Rattle.std.proofs.lemmas.Option.{same_Some}
 use Rattle.vlsi_base.specs.declared.name.Name.{Name}
 use Rattle.vlsi_base.specs.declared.name.Port.{Port}
 use Rattle.vlsi_base.specs.declared.name.Terminal.{Terminal}
-use Rattle.vlsi_base.specs.Names.{vdd, vss}
 use Rattle.vlsi_base.specs.Member.{In}
 use Rattle.machine_meaning.specs.Machine.{names_of}
 use Rattle.net_core.specs.declared.pins.ModelPin.{ModelPin}
@@ -27,7 +26,7 @@ use Rattle.net_view.specs.View.{member_of, IsSeenAs}
 use Rattle.net_view.specs.Laws.{TerminalsAreThere}
 use Rattle.net_view.proofs.Lists.{in_place}
 use Rattle.net_view.proofs.Ports.{names_to, names_from}
-use Rattle.net_view.proofs.Models.{named_cell, HasModel, model_found, cell_listed}
+use Rattle.net_view.proofs.Models.{named_cell, model_found, cell_listed}
 use Rattle.net_view.proofs.Places.{Which, which_port, which_pin, which, port_there, pin_there}
 
 pub seen_ports : (n : InMemory) (k : Netlist) → IsSeenAs n k → k.ports ≡ map (λ p. p.name) n.ports
