@@ -1,20 +1,17 @@
 -- The terminals of a mapped machine: each has a signal whose driver is there.
 use Rattle.std.proofs.Common.{◌≡◌, ◌≢◌, ◌⊎◌, inl, inr, ℕ, zero, suc, ◌+◌, ◌-◌, ◌<◌, ◌≤◌, ◌==◌, ◌||◌, Bool, true, false, List, [], ◌∷◌, ◌++◌, length, map, refl, sym, ◌∙◌, ap, subst, arith, Option, None, Some, get_or, length-append}
-use Rattle.std.specs.Prelude.{IsTrue, unwrap_or}
+use Rattle.std.specs.Prelude.{unwrap_or}
 use Rattle.std.specs.List.{flat_map}
-use Rattle.std.specs.Ordering.{is_lt}
-use Rattle.std.specs.declared.cmp.Ordering.TheVariants.{Less}
 use Rattle.std.proofs.lemmas.Bool.{eq-eqb, cases_lt}
 use Rattle.std.proofs.lemmas.List.{map-append}
 use Rattle.vlsi_base.specs.declared.name.Name.{Name}
 use Rattle.vlsi_base.specs.declared.name.Port.{Port}
 use Rattle.vlsi_base.specs.declared.name.Terminal.{Terminal}
-use Rattle.vlsi_base.specs.Name.{name_cmp}
-use Rattle.vlsi_base.specs.Names.{vdd, vss, comes_before}
+use Rattle.vlsi_base.specs.Names.{vdd, vss}
 use Rattle.vlsi_base.specs.Member.{In, here, there}
 use Rattle.bool_expr.specs.Expression.{bit}
 use Rattle.machine_meaning.specs.Machine.{Machine, inputs, outputs, is_clock, is_input, names_of}
-use Rattle.machine_core.specs.Checked.{IsChecked, IsNoSupply}
+use Rattle.machine_core.specs.Checked.{IsChecked}
 use Rattle.machine_core.proofs.Names.{same_name-itself}
 use Rattle.cell_model.specs.declared.kind.Kind.{Kind}
 use Rattle.cell_model.specs.Cell.{Cell, cell_outputs}
@@ -23,7 +20,7 @@ use Rattle.cell_model.specs.Usable.{IsFormed}
 use Rattle.cell_model.proofs.Members.{All-In, In-at, In-split, In-left, In-right}
 use Rattle.cell_checks.specs.Checked.{IsChecked as HasPassed}
 use Rattle.cell_pins.specs.Pins.{supply, with_supply, all_ports}
-use Rattle.cell_pins.proofs.Ports.{Sorted, sorted_of}
+use Rattle.cell_pins.proofs.Ports.{Sorted}
 use Rattle.net_core.specs.Places.{Stands, IsThere}
 use Rattle.net_core.specs.Netlist.{Instance, port, pin_of, pins_of, terminals_of}
 use Rattle.net_core.proofs.Frames.{mapped}
@@ -48,6 +45,7 @@ use Rattle.boog_map.specs.Tied.{part_of, tied_pin, first_of, IsPart, IsPartOf, A
 use Rattle.boog_map.specs.Draft.{tied_ports, port_signals, spot_signals, tied_signal, driver, IsNumbered, AreDrivers, instance_of, output_terminal, register_spot, register_spots, gate_spot, gate_spots, gate_drivers}
 use Rattle.boog_map.specs.Mapped.{spots_of, drivers_of}
 use Rattle.boog_map.proofs.Lists.{number_stands, stands_number, there_in, within, got}
+use Rattle.boog_map.proofs.MachinePorts.{ports_sorted, ports_apart}
 use Rattle.boog_map.proofs.PortSignals.{tied, ports_told, both_keep, both_back, supply_told, input_told, output_told, clock_told, signal_told, IsPortSignal, of_clock, of_input, of_output}
 use Rattle.boog_map.proofs.Spots.{register_at, register_found, register_count, gate_at, gate_found, GateFound, shown_is}
 use Rattle.boog_map.proofs.Supplied.{has_vdd, has_vss}
@@ -112,14 +110,10 @@ module _ (m : Machine) (checked : IsChecked m) (g : Graph) (sub : IsSubjectGraph
   -- ---- the ports of the machine
 
   pub sorted : Sorted m.ports
-  sorted = sorted_of m.ports (λ i j d low high. let h = checked.ports i j d low high in less h) where
-    less : {a b : Name} → name_cmp a b ≡ Less → IsTrue (comes_before a b)
-    less {a} {b} e = ap is_lt e
+  sorted = ports_sorted m checked
 
   pub apart : (p : Port) → In p m.ports → (p.name ≢ vdd) × (p.name ≢ vss)
-  apart p h =
-      let no = All-In IsNoSupply (names_of m.ports ++ m.vars) checked.supplies p.name (In-left p.name (names_of m.ports) m.vars (In-map (λ (q : Port). q.name) p m.ports h)) in
-      (λ e. no.0 (ap (λ (n : Name). n.text) e), λ e. no.1 (ap (λ (n : Name). n.text) e))
+  apart = ports_apart m checked
 
   pub port_told : (name : Name) (s : Signal) → In (tied name s) told_ports → In (port name, s) told
   port_told name s h = In-left (port name, s) (port_signals told_ports) (flat_map (spot_signals ps) spots) (In-map (λ (p : TiedPort). (port p.name, p.signal)) (tied name s) told_ports h)

@@ -1,8 +1,9 @@
 -- What mapping gives.
 use Rattle.std.proofs.Common.{◌≡◌, ◌≢◌, ◌⊎◌, inl, inr, ◌↔◌, ℕ, zero, suc, ◌+◌, ◌^◌, ◌<◌, Bool, true, false, ◌&&◌, List, [], ◌∷◌, ◌++◌, length, map, filter, refl, sym, ◌∙◌, ap, subst, arith, Option, None, Some, length-append, if◌then◌else◌}
-use Rattle.std.specs.Prelude.{IsTrue}
+use Rattle.std.specs.Prelude.{IsTrue, IfOk, Result, Ok, Err}
 use Rattle.std.specs.Cmp.Lexicographic.{bytes_decides}
 use Rattle.vlsi_base.specs.declared.name.Name.{Name}
+use Rattle.vlsi_base.specs.declared.name.Port.{Port}
 use Rattle.vlsi_base.specs.declared.name.Terminal.{Terminal}
 use Rattle.vlsi_base.specs.Names.{vdd, vss}
 use Rattle.bool_expr.specs.Expression.{bit}
@@ -14,7 +15,7 @@ use Rattle.cell_model.specs.declared.kind.Kind.{Kind}
 use Rattle.cell_model.specs.Cell.{Cell}
 use Rattle.cell_model.specs.Library.{Library, cell_of}
 use Rattle.cell_model.proofs.Texts.{text_same, text_itself}
-use Rattle.cell_checks.specs.Checked.{IsChecked as HasPassed}
+use Rattle.cell_checks.specs.Checked.{IsChecked as HasPassed, library_of}
 use Rattle.cell_pins.specs.Pins.{with_supply, all_ports}
 use Rattle.net_core.specs.Places.{Stands, IsThere, NoneTwice}
 use Rattle.net_core.specs.Netlist.{Instance, Netlist as InMemory, IsNetlist, terminals, HasClass}
@@ -223,3 +224,30 @@ module _ (m : Machine) (checked : IsChecked m) (g : Graph) (sub : IsSubjectGraph
 
     pub is_mapped : IsMapped n l m g
     is_mapped = record { right = right; pins = pins; first = first; order = order; each = each; lean = lean; sound = sound }
+
+pub ok_both : {T E : Type 0} {P Q R : T → Type 0} (r : Result T E) → ((x : T) → P x → Q x → R x) → IfOk r P → IfOk r Q → IfOk r R
+ok_both (Ok x) f p q = f x p q
+ok_both (Err e) f p q = tt
+
+-- what is said of the cells of a library
+pub of_library : (cells : List Cell) (l : Library) → library_of cells ≡ l → (P : List Cell → Type 0) → P l.cells → P cells
+of_library cells l is P h = subst P (sym (ap (λ (x : Library). x.cells) is)) h
+
+pub parts_of_library : (cells : List Cell) (l : Library) (m : Machine) (b : Bool) (ps : Parts) → library_of cells ≡ l → b ≡ has_registers m → AreParts cells b ps
+    → AreParts l.cells (has_registers m) ps
+parts_of_library cells l m b ps is same h =
+    subst (λ (cs : List Cell). AreParts cs (has_registers m) ps) (ap (λ (x : Library). x.cells) is) (subst (λ (r : Bool). AreParts cells r ps) same h)
+
+-- the netlist of what was lent
+pub lent_draw : (m : Machine) → IsChecked m → (g : Graph) → IsSubjectGraph m g → (l : Library) → HasPassed false l → HasRoomForCells m
+    → (ps : Parts) → AreParts l.cells (has_registers m) ps → (k : Sketch) → IsSketch m g ps k → (ports : List Port) → ports ≡ with_supply vss (with_supply vdd m.ports)
+    → IsDrawable ports k
+lent_draw m checked g sub l passed room ps parts k sk ports is =
+    subst (λ (xs : List Port). IsDrawable xs k) (sym is) (can_draw m checked g sub l passed room ps parts k sk)
+
+pub lent_mapped : (m : Machine) → IsChecked m → (g : Graph) → IsSubjectGraph m g → (l : Library) → HasPassed false l → HasRoomForCells m
+    → (ps : Parts) → AreParts l.cells (has_registers m) ps → (k : Sketch) → IsSketch m g ps k → (name : List ℕ) (ports : List Port) → name ≡ m.name
+    → ports ≡ with_supply vss (with_supply vdd m.ports) → (n : InMemory) → IsFinished (draft_by name ports k) n → IsNetlist n → IsMapped n l m g
+lent_mapped m checked g sub l passed room ps parts k sk name ports is_name is_ports n finished sound =
+    is_mapped m checked g sub l passed room ps parts k sk n
+    (subst (λ (xs : List Port). IsFinished (draft_by m.name xs k) n) is_ports (subst (λ (t : List ℕ). IsFinished (draft_by t ports k) n) is_name finished)) sound

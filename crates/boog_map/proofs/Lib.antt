@@ -4,6 +4,7 @@ pub mod Marking
 pub mod Classes
 pub mod Supplied
 pub mod PortSignals
+pub mod MachinePorts
 pub mod Spots
 pub mod Pins
 pub mod Driven

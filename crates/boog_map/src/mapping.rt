@@ -30,6 +30,7 @@ fn has_registers(machine: &Machine) -> bool
 }
 
 /// How many inputs and registers there are.
+#[tactic(auto, using(crate::proofs::Rooms::few_inputs))]
 fn held_count(machine: &Machine) -> u32
     requires { HasRoomForCells machine.now }
     ensures { result ≡ held_count machine.now }
@@ -50,12 +51,15 @@ fn planned(
 {
     let held = held_count(machine);
     let marks = reached(alloc, graph, held)?;
-    let inputs = held as usize - graph.loads().len();
+    let loads = graph.loads();
+    let inputs = held as usize - loads.len();
+    let names = &machine.vars().as_slice()[..inputs];
+    let drivers = input_ports(alloc, names)?;
     let mut plan = Plan {
         spots: Vec::new(alloc),
-        drivers: input_ports(alloc, &machine.vars().as_slice()[..inputs])?,
+        drivers,
     };
-    plan.put_registers(alloc, parts, graph.loads())?;
+    plan.put_registers(alloc, parts, loads)?;
     plan.put_nodes(alloc, parts, graph.nodes(), &marks)?;
     Ok(plan)
 }

@@ -74,6 +74,20 @@ impl Parts {
     }
 }
 
+/// Whether the two are one name.
+pub(crate) fn is_same(a: &Name, b: &Name) -> bool
+    ensures { result ≡ is_same_name a.now b.now }
+{
+    a.is_same(b)
+}
+
+/// Whether a name is this text without a bit.
+pub(crate) fn is_named(name: &Name, text: &[u8]) -> bool
+    ensures { result ≡ is_same_name name.now (scalar text.now) }
+{
+    is_scalar(name, text)
+}
+
 fn first_input(pins: &[Pin]) -> Option<&Name>
     ensures { option_copied result ≡ slice_get (names_of (filter (λ p. is_input p.dir) (map (λ p. p.port) pins.now))) 0 }
 {
@@ -99,7 +113,7 @@ fn is_pin(pin: Option<&Name>, name: &Name) -> bool
     ensures { result ≡ is_pin (option_copied pin.entry) name.now }
 {
     match pin {
-        Some(pin) => pin.is_same(name),
+        Some(pin) => is_same(pin, name),
         None => false,
     }
 }
@@ -107,17 +121,19 @@ fn is_pin(pin: Option<&Name>, name: &Name) -> bool
 fn tie_of(first: Option<&Name>, port: &Port) -> Tie
     ensures { result ≡ tie_of (option_copied first.entry) port.now }
 {
-    if is_scalar(&port.name, b"vdd") {
+    if is_named(&port.name, b"vdd") {
         return Tie::High;
     }
-    if is_scalar(&port.name, b"vss") {
+    if is_named(&port.name, b"vss") {
         return Tie::Low;
     }
-    match port.dir {
-        Dir::Out => Tie::Shown,
-        Dir::In if is_pin(first, &port.name) => Tie::First,
-        Dir::In => Tie::Second,
+    if port.dir == Dir::Out {
+        return Tie::Shown;
     }
+    if is_pin(first, &port.name) {
+        return Tie::First;
+    }
+    Tie::Second
 }
 
 fn tied_pins(

@@ -4,8 +4,8 @@ ghost use Rattle.std.specs.Option.{option_copied};
 ghost use Rattle.machine_meaning.specs.Machine.{is_input, is_clock};
 ghost use Rattle.boog_map.specs.Draft.{port_use, use_signal, inputs_after, outputs_after, HasOutput, tied_ports};
 
+use crate::part::{is_named, is_same};
 use crate::place::Signal;
-use cell_pins::is_scalar;
 use std::alloc::{AllocError, Global};
 use vlsi_base::{Dir, Name, Port};
 
@@ -30,7 +30,7 @@ fn is_clock(clock: Option<&Name>, name: &Name) -> bool
     ensures { result ≡ is_clock (option_copied clock.entry) name.now }
 {
     match clock {
-        Some(clock) => clock.is_same(name),
+        Some(clock) => is_same(clock, name),
         None => false,
     }
 }
@@ -38,17 +38,19 @@ fn is_clock(clock: Option<&Name>, name: &Name) -> bool
 fn port_use(clock: Option<&Name>, port: &Port) -> PortUse
     ensures { result ≡ port_use (option_copied clock.entry) port.now }
 {
-    if is_scalar(&port.name, b"vdd") {
+    if is_named(&port.name, b"vdd") {
         return PortUse::High;
     }
-    if is_scalar(&port.name, b"vss") {
+    if is_named(&port.name, b"vss") {
         return PortUse::Low;
     }
-    match port.dir {
-        Dir::Out => PortUse::Output,
-        Dir::In if is_clock(clock, &port.name) => PortUse::Clock,
-        Dir::In => PortUse::Input,
+    if port.dir == Dir::Out {
+        return PortUse::Output;
     }
+    if is_clock(clock, &port.name) {
+        return PortUse::Clock;
+    }
+    PortUse::Input
 }
 
 /// How many inputs and outputs came so far.
