@@ -1,5 +1,5 @@
 -- When a netlist in memory is right for a machine.
-use Rattle.std.specs.Prelude.{◌≡◌, Some}
+use Rattle.std.specs.Prelude.{◌≡◌, false, Some}
 use Rattle.vlsi_base.specs.Names.{vdd, vss}
 use Rattle.machine_meaning.specs.Machine.{Machine, names_of}
 use Rattle.machine_core.specs.Checked.{IsChecked}
