@@ -37,10 +37,10 @@ turn_below (first t) k (there h) = turn_below t k h
 turn_used : {met count : ℕ} {ks : List ℕ} → InTurn met ks count → (k : ℕ) → met ≤ k → k < count → In k ks
 turn_used ended k low high = absurd (omega (arith, low, high))
 turn_used (again l t) k low high = there (turn_used t k low high)
-turn_used {met} {count} (first {rest = rest} t) k low high = by (cases_lt met k) where
-  by : (met < k) ⊎ (k ≤ met) → In k (met ∷ rest)
-  by (inl less) = there (turn_used t k (omega (arith, less)) high)
-  by (inr most) = let e : met ≡ k = omega (arith, low, most) in subst (λ (x : ℕ). In k (x ∷ rest)) (sym e) here
+turn_used {met} {count} (first {rest = rest} t) k low high = by (λ l. turn_used t k l high) (cases_lt met k) where
+  by : (met + 1 ≤ k → In k rest) → (met < k) ⊎ (k ≤ met) → In k (met ∷ rest)
+  by later (inl less) = there (later (omega (arith, less)))
+  by later (inr most) = let e : met ≡ k = omega (arith, low, most) in subst (λ (x : ℕ). In k (x ∷ rest)) (sym e) here
 
 -- ---- the signal of a class: that of the first terminal in it
 

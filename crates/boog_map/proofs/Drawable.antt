@@ -160,19 +160,19 @@ module _ (m : Machine) (checked : IsChecked m) (g : Graph) (sub : IsSubjectGraph
   names_apart room i j x p q =
       let a = unmapped (λ (s : Spot). s.name) spots i x p in
       let b = unmapped (λ (s : Spot). s.name) spots j x q in
-      by (named i a.0 a.1) (named j b.0 b.1) (a.2 ∙ sym b.2) where
+      by a.0 b.0 (named i a.0 a.1) (named j b.0 b.1) (a.2 ∙ sym b.2) where
         small : length registers + length gates < 2 ^ 64
         small = let both = length-append registers gates in let few = few_count room in omega (arith, both, few)
 
-        by : {s u : Spot} → IsNamed i s → IsNamed j u → s.name ≡ u.name → i ≡ j
-        by (inl a) (inl b) e =
+        by : (s u : Spot) → IsNamed i s → IsNamed j u → s.name ≡ u.name → i ≡ j
+        by s u (inl a) (inl b) e =
             let low = a.0 in
             let high = b.0 in
             let few = small in
             register_names i j (omega (arith, low, few)) (omega (arith, high, few)) (sym a.1 ∙ e ∙ b.1)
-        by (inl a) (inr b) e = absurd (not_both i b.0 (sym a.1 ∙ e ∙ b.3))
-        by (inr a) (inl b) e = absurd (not_both j a.0 (sym b.1 ∙ sym e ∙ a.3))
-        by (inr a) (inr b) e =
+        by s u (inl a) (inr b) e = absurd (not_both i b.0 (sym a.1 ∙ e ∙ b.3))
+        by s u (inr a) (inl b) e = absurd (not_both j a.0 (sym b.1 ∙ sym e ∙ a.3))
+        by s u (inr a) (inr b) e =
             let low = a.2 in
             let high = b.2 in
             let few = small in

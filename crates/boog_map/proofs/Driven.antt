@@ -238,7 +238,6 @@ module _ (m : Machine) (checked : IsChecked m) (g : Graph) (sub : IsSubjectGraph
         (let P : ℕ → Type 0 = λ x. Stands drivers x (output_terminal ps s) in subst P place stands)
 
     good_gate : (i : ℕ) (one : Node) → IsNumber g.nodes i one → bit marks (held_count m + i) ≡ true → Good (signal.Node (held_count m + i))
-    unfolding GateFound
     good_gate i one h marked =
         let r = gate_found ps marks (held_count m) 0 g.nodes i one h marked in
         let s = gate_spot (0 + r.0) (held_count m + i) one in

@@ -1,5 +1,5 @@
 -- The ports of a machine, with the supplies among them.
-use Rattle.std.proofs.Common.{◌≡◌, ◌≢◌, ℕ, ◌+◌, ◌*◌, ◌^◌, ◌<◌, ◌≤◌, List, ◌++◌, length, filter, not, refl, sym, ◌∙◌, ap, subst, arith}
+use Rattle.std.proofs.Common.{◌≡◌, ◌≢◌, ℕ, ◌+◌, ◌*◌, ◌^◌, ◌<◌, ◌≤◌, List, ◌++◌, length, filter, not, refl, sym, ◌∙◌, ap, subst, arith, get_or}
 use Rattle.std.specs.Prelude.{IsTrue}
 use Rattle.std.specs.Ordering.{is_lt}
 use Rattle.std.specs.declared.cmp.Ordering.TheVariants.{Less}
@@ -20,11 +20,11 @@ use Rattle.boog_map.specs.Netlist.{HasRoomForCells}
 use Rattle.boog_map.proofs.Supplied.{two_longer}
 use Rattle.boog_map.proofs.PortSignals.{outputs_kept}
 
-less : {a b : Name} → name_cmp a b ≡ Less → IsTrue (comes_before a b)
-less e = ap is_lt e
+less : (a b : Name) → name_cmp a b ≡ Less → IsTrue (comes_before a b)
+less a b e = ap is_lt e
 
 pub ports_sorted : (m : Machine) → IsChecked m → Sorted m.ports
-ports_sorted m checked = sorted_of m.ports (λ i j d low high. less (checked.ports i j d low high))
+ports_sorted m checked = sorted_of m.ports (λ i j d low high. less (get_or (names_of m.ports) i d) (get_or (names_of m.ports) j d) (checked.ports i j d low high))
 
 pub ports_apart : (m : Machine) → IsChecked m → (p : Port) → In p m.ports → (p.name ≢ vdd) × (p.name ≢ vss)
 ports_apart m checked p h =

@@ -118,7 +118,8 @@ outputs_kept ps sorted apart =
 
 pub supply_told : (clock : Option Name) (outs : List ℕ) (i o : ℕ) (ps : List Port) (p : Port) (s : Signal) → In p ps
     → ((i o : ℕ) → use_signal outs i o (port_use clock p) ≡ s) → In (tied p.name s) (tied_ports clock outs i o ps)
-supply_told clock outs i o (p ∷ ps) p s here is = subst (λ (u : Signal). In (tied p.name s) (tied p.name u ∷ tied_ports clock outs (inputs_after i (port_use clock p)) (outputs_after o (port_use clock p)) ps)) (sym (is i o)) here
+supply_told clock outs i o (q ∷ ps) p s here is =
+    subst (λ (u : Signal). In (tied q.name s) (tied q.name u ∷ tied_ports clock outs (inputs_after i (port_use clock q)) (outputs_after o (port_use clock q)) ps)) (sym (is i o)) here
 supply_told clock outs i o (q ∷ ps) p s (there h) is = there (supply_told clock outs (inputs_after i (port_use clock q)) (outputs_after o (port_use clock q)) ps p s h is)
 supply_told clock outs i o [] p s h is = elim h [ ]
 
@@ -240,35 +241,35 @@ output_told clock outs i o (p ∷ ps) apart k name h =
             there (subst (λ (n : ℕ). In (tied name (signal.Node (get_or outs n 0))) (tied_ports clock outs i (o + 1) ps)) e
             (rest i (o + 1) k h))
 
+first_name : (name x : Name) (ys : List Name) → In name (x ∷ ys) → (name ≡ x) ⊎ In name ys
+first_name name x ys here = inl refl
+first_name name x ys (there i) = inr i
+
 -- the clock
+abbrev ClockIn : Name → List TiedPort → Type 0
+ClockIn name ts = In (tied name signal.Clock) ts
+
 pub clock_told : (clock : Option Name) (outs : List ℕ) (i o : ℕ) (ps : List Port) → NoSupplies ps → (name : Name) → is_clock clock name ≡ true → In name (input_names ps)
     → In (tied name signal.Clock) (tied_ports clock outs i o ps)
 unfolding plain_use
 clock_told clock outs i o [] apart name is h = elim h [ ]
 clock_told clock outs i o (p ∷ ps) apart name is h = by (λ i o h. clock_told clock outs i o ps (λ q j. apart q (there j)) name is h) (is_input p.dir) refl h where
-  abbrev Goal : List TiedPort → Type 0
-  Goal ts = In (tied name signal.Clock) ts
-
-  first_name : (ys : List Name) → In name (p.name ∷ ys) → (name ≡ p.name) ⊎ In name ys
-  first_name ys here = inl refl
-  first_name ys (there i) = inr i
-
   by : ((i o : ℕ) → In name (input_names ps) → In (tied name signal.Clock) (tied_ports clock outs i o ps)) → (d : Bool) → is_input p.dir ≡ d → In name (names_of (if d then p ∷ filter (λ q. is_input q.dir) ps else filter (λ q. is_input q.dir) ps))
-      → Goal (tied_ports clock outs i o (p ∷ ps))
+      → ClockIn name (tied_ports clock outs i o (p ∷ ps))
   by rest false e h =
-      subst Goal (sym (tied_are clock outs i o p ps port_use_of.Output (use_is clock p (apart p here) false (is_clock clock p.name) e refl)))
+      subst (ClockIn name) (sym (tied_are clock outs i o p ps port_use_of.Output (use_is clock p (apart p here) false (is_clock clock p.name) e refl)))
       (there (rest i (o + 1) h))
-  by rest true e h = go (is_clock clock p.name) refl (first_name (input_names ps) h) where
-    go : (c : Bool) → is_clock clock p.name ≡ c → (name ≡ p.name) ⊎ In name (input_names ps) → Goal (tied_ports clock outs i o (p ∷ ps))
+  by rest true e h = go (is_clock clock p.name) refl (first_name name p.name (input_names ps) h) where
+    go : (c : Bool) → is_clock clock p.name ≡ c → (name ≡ p.name) ⊎ In name (input_names ps) → ClockIn name (tied_ports clock outs i o (p ∷ ps))
     go true f (inl same) =
-        subst Goal (sym (tied_are clock outs i o p ps port_use_of.Clock (use_is clock p (apart p here) true true e f)))
+        subst (ClockIn name) (sym (tied_are clock outs i o p ps port_use_of.Clock (use_is clock p (apart p here) true true e f)))
         (subst (λ (x : Name). In (tied x signal.Clock) (front clock outs i o p port_use_of.Clock ps)) (sym same) here)
     go true f (inr later) =
-        subst Goal (sym (tied_are clock outs i o p ps port_use_of.Clock (use_is clock p (apart p here) true true e f)))
+        subst (ClockIn name) (sym (tied_are clock outs i o p ps port_use_of.Clock (use_is clock p (apart p here) true true e f)))
         (there (rest i o later))
     go false f (inl same) = absurd (let no : true ≡ false = sym is ∙ ap (is_clock clock) same ∙ f in cc)
     go false f (inr later) =
-        subst Goal (sym (tied_are clock outs i o p ps port_use_of.Input (use_is clock p (apart p here) true false e f)))
+        subst (ClockIn name) (sym (tied_are clock outs i o p ps port_use_of.Input (use_is clock p (apart p here) true false e f)))
         (there (rest (i + 1) o later))
 
 -- what a port's signal is, by the names of inputs and outputs

@@ -2,6 +2,7 @@
 use Rattle.std.proofs.Common.{◌≡◌, ◌≢◌, ◌⊎◌, inl, inr, ◌↔◌, ℕ, zero, suc, ◌+◌, ◌^◌, ◌<◌, ◌≤◌, ◌==◌, Bool, true, false, not, List, [], ◌∷◌, ◌++◌, length, map, filter, refl, sym, ◌∙◌, ap, subst, arith, Option, None, Some, get_or, length-append, if◌then◌else◌}
 use Rattle.std.specs.Prelude.{IsTrue, AllPairs}
 use Rattle.std.specs.List.{flat_map}
+use Rattle.std.proofs.lemmas.Bool.{eqb-true}
 use Rattle.std.proofs.lemmas.List.{map-append}
 use Rattle.vlsi_base.specs.declared.name.Name.{Name}
 use Rattle.vlsi_base.specs.declared.name.Port.{Port}
@@ -159,10 +160,10 @@ module _ (m : Machine) (checked : IsChecked m) (g : Graph) (sub : IsSubjectGraph
     needs_registers j load h =
         let low = number_below g.loads j load h in
         let each = sub.roots.each in
-        by (length m.registers) (omega (arith, low, each)) where
-          by : (c : ℕ) → 0 < c → not (c == 0) ≡ true
-          by zero some = absurd (omega (arith, some))
-          by (suc c) some = refl
+        by (length m.registers == 0) refl (omega (arith, low, each)) where
+          by : (b : Bool) → (length m.registers == 0) ≡ b → 0 < length m.registers → not b ≡ true
+          by true e some = absurd (let none : length m.registers ≡ 0 = eqb-true (length m.registers) 0 e in omega (arith, some, none))
+          by false e some = refl
 
     register_seat : (j load : ℕ) → IsNumber g.loads j load → In (register_spot (length (inputs m)) (0 + j) load) spots
         → IsRegisterSeat sourced l m g j (seat ps (register_spot (length (inputs m)) (0 + j) load))
@@ -224,9 +225,9 @@ module _ (m : Machine) (checked : IsChecked m) (g : Graph) (sub : IsSubjectGraph
     -- what is known of the cell of a kind
     kind_gate : (t : Kind) → t ≢ kind.Dff → kind_for (has_registers m) t ≡ t
         → (e : Expression) × ((cell_for t).function ≡ gate e) × IsGateOf e (length (cell_inputs (cell_for t))) t
-    kind_gate t no same =
+    kind_gate t other_kind same =
         let c = cell_for t in
-        gate_of c.function (length (cell_inputs c)) t (subst (λ (u : Kind). HasKind c u) same (parts.each t).chosen.kind) no
+        gate_of c.function (length (cell_inputs c)) t (subst (λ (u : Kind). HasKind c u) same (parts.each t).chosen.kind) other_kind
 
     at_gate : (j i : ℕ) (one : Node) → IsNumber g.nodes i one → In (gate_spot (0 + j) (held_count m + i) one) spots
         → IsGateSeat sourced l m g j (seat ps (gate_spot (0 + j) (held_count m + i) one))
@@ -340,7 +341,7 @@ module _ (m : Machine) (checked : IsChecked m) (g : Graph) (sub : IsSubjectGraph
     comes signal.High b = tt
     comes signal.Low b = tt
     comes signal.Clock b = b
-    comes (signal.Node a) b = elim b [ inl low ↦ inl low | inr r ↦ inr (seat ps r.0, seats_hold r.0 r.1, r.2) ]
+    comes (signal.Node a) b = elim b [ inl within ↦ inl within | inr r ↦ inr (seat ps r.0, seats_hold r.0 r.1, r.2) ]
 
     origin : (c : ℕ) → c < k.classes → ComesFrom m (map (seat ps) registers ++ map (seat ps) gates) (sourced.source c)
     origin c h =

@@ -75,14 +75,13 @@ gate_at marks number k (first ∷ nodes) j s h = by (λ k j h. gate_at marks (su
   by rest false e j h = shift marks number k first nodes j j s refl (rest k j h)
 
 -- a marked node is a gate, whose output pin drives its number
-pub GateFound : Parts → List Bool → ℕ → ℕ → List Node → ℕ → Node → Type 0
+abbrev pub GateFound : Parts → List Bool → ℕ → ℕ → List Node → ℕ → Node → Type 0
 GateFound ps marks number k nodes i one =
     (j : ℕ) × IsNumber (gate_spots marks number k nodes) j (gate_spot (k + j) (number + i) one)
     × IsNumber (gate_drivers ps marks number k nodes) i (output_terminal ps (gate_spot (k + j) (number + i) one))
 
 pub gate_found : (ps : Parts) (marks : List Bool) (number k : ℕ) (nodes : List Node) (i : ℕ) (one : Node) → IsNumber nodes i one → bit marks (number + i) ≡ true
     → GateFound ps marks number k nodes i one
-unfolding GateFound
 gate_found ps marks number k [] i one h is = absurd h
 gate_found ps marks number k (first ∷ nodes) zero one h is = by (bit marks number) refl where
   here_is : bit marks number ≡ true

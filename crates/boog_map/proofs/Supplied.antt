@@ -89,6 +89,9 @@ one_longer name ps s apart =
     supplied name ps s apart (λ qs rs. length rs ≡ length qs + 1)
     (λ xs ys. let a = length-append xs ys in let b = length-append xs (supply name ∷ ys) in omega (arith, a, b))
 
+abbrev name_in : Port → Name
+name_in p = p.name
+
 vdd_is_not : vdd ≢ vss
 vdd_is_not e = let a : is_same_name vdd vdd ≡ is_same_name vdd vss = ap (is_same_name vdd) e in let b : true ≡ false = a in cc b
 
@@ -128,9 +131,6 @@ module _ (ps : List Port) (sorted : Sorted ps) (apart : (p : Port) → In p ps �
 
   pub names : (name : Name) → In name (names_of with_both) ↔ ((name ≡ vdd) ⊎ ((name ≡ vss) ⊎ In name (names_of ps)))
   names name = (to, from) where
-    abbrev name_in : Port → Name
-    name_in p = p.name
-
     to : In name (names_of with_both) → (name ≡ vdd) ⊎ ((name ≡ vss) ⊎ In name (names_of ps))
     to h =
         let r = In-map_back name_in name with_both h in
