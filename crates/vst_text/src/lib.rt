@@ -8,6 +8,8 @@ mod instances;
 mod law;
 mod structure;
 
-pub use file::{Association, Component, Declaration, InstanceStatement, NetName, PinName, StructuralFile};
+pub use file::{
+    Association, Component, Declaration, InstanceStatement, NetName, PinName, StructuralFile,
+};
 pub use law::{each_text, never_both, one_refusal, reads_once};
 pub use structure::read_structure;
