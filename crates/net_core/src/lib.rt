@@ -20,5 +20,3 @@ pub use error::{BuildError, CheckError, NetFault};
 pub use frame::Node;
 pub use netlist::Netlist;
 pub use pins::{ModelPin, ModelPins, PinPlaces, PinTable};
-pub use roles::{model_names, pins_of};
-pub use roll::Roll;

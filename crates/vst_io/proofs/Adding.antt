@@ -132,7 +132,7 @@ pub in_take : (is : List InstanceStatement) (k : ℕ) (i : InstanceStatement) �
 in_take [] zero i h = elim h [ ]
 in_take [] (suc k) i h = elim h [ ]
 in_take (x ∷ is) zero i h = elim h [ ]
-in_take (x ∷ is) (suc k) x here = here
+in_take (x ∷ is) (suc k) i here = here
 in_take (x ∷ is) (suc k) i (there h) = there (in_take is k i h)
 
 -- ---- the pins of a model stand in order

@@ -56,7 +56,7 @@ pub all_from : {X : Type 0} (P : X → Type 0) (xs : List X) → ((x : X) → In
 all_from P xs h k d l = h (get_or xs k d) (In-at xs k d l)
 
 all_in : {X : Type 0} (P : X → Type 0) (xs : List X) → All P xs → (x : X) → In x xs → P x
-all_in P (x ∷ xs) h x here = h 0 x (omega arith)
+all_in P (y ∷ xs) h x here = h 0 y (omega arith)
 all_in P (y ∷ xs) h x (there g) = all_in P xs (λ k d l. h (suc k) d (omega (arith, l))) x g
 all_in P [] h x g = elim g [ ]
 
@@ -85,7 +85,7 @@ model_listed table f e i m =
 
 -- and has the supplies among its pins
 supply_pin : (table : List ModelPins) → ListsSupplies table → (model : List ℕ) → IsThere (map (λ m. m.model) table) model → (supply : Name) → (supply ≡ vdd) ⊎ (supply ≡ vss) → In supply (map (λ p. p.name) (pins_named table model))
-supply_pin table lists model there supply which = by (position_of (map (λ m. m.model) table) model) refl where
+supply_pin table lists model listed supply which = by (position_of (map (λ m. m.model) table) model) refl where
   at_model : (m : ModelPins) → In m table → m.pins ≡ pins_named table model → In supply (map (λ p. p.name) (pins_named table model))
   at_model m h e =
       let two = all_in (λ (n : ModelPins). IsThere (map (λ p. p.name) n.pins) vdd × IsThere (map (λ p. p.name) n.pins) vss) table lists m h in
@@ -97,7 +97,7 @@ supply_pin table lists model there supply which = by (position_of (map (λ m. m.
       subst (λ (ps : List ModelPin). In supply (map (λ p. p.name) ps)) e pin
 
   by : (o : Option ℕ) → position_of (map (λ m. m.model) table) model ≡ o → In supply (map (λ p. p.name) (pins_named table model))
-  by None e = absurd (position_absent (map (λ m. m.model) table) model e there)
+  by None e = absurd (position_absent (map (λ m. m.model) table) model e listed)
   by (Some k) e = let r = pins_found table model k e in at_model r.0 (stands_in table k r.0 r.1) r.2
 
 -- ---- terminals and their classes
@@ -114,7 +114,7 @@ has_class n sound t h =
       get_same (x ∷ xs) (suc k) l = get_same xs k (omega (arith, l))
 
 zip_in : {X Y : Type 0} (xs : List X) (ys : List Y) (x : X) → length xs ≡ length ys → In x xs → (y : Y) × In (x, y) (zip xs ys) × In y ys
-zip_in (x ∷ xs) (y ∷ ys) x e here = (y, here, here)
+zip_in (x ∷ xs) (y ∷ ys) z e here = (y, here, here)
 zip_in (x ∷ xs) (y ∷ ys) z e (there h) = let r = zip_in xs ys z (omega (arith, e)) h in (r.0, there r.1, there r.2)
 zip_in (x ∷ xs) [] z e h = absurd (omega (arith, e))
 zip_in [] ys z e h = elim h [ ]
@@ -150,9 +150,9 @@ tied_net f forms a tied supply y h =
       by : (o : Option Symbol) → find (nets f) a.net.name ≡ o → is_net_port o ≡ true → a.net.name ≡ a.pin.text → (b : Option ℕ) × In b (net_bits (nets f) a.net) × (name_of a.net.name b ≡ y) → IsTiedTo f a y
       by None e p text bit = absurd cc
       by (Some s) e p text bit =
-          let there = found_in (nets f) a.net.name s e in
+          let symbol_in = found_in (nets f) a.net.name s e in
           let named : s.text ≡ a.net.name = find_text (nets f) a.net.name s e in
-          let known = supply_net f forms s there p (ap is_supply (named ∙ text) ∙ supply) in
+          let known = supply_net f forms s symbol_in p (ap is_supply (named ∙ text) ∙ supply) in
           let among : In bit.0 (part_of s.range a.net.selection) = subst (λ (o : Option Symbol). In bit.0 (selected o a.net.selection)) e bit.1 in
           let none : bit.0 ≡ None = scalar_bit a.net.selection bit.0 (subst (λ (o : Option Range). In bit.0 (part_of o a.net.selection)) known.1 among) in
           let at : In (port_of dir.In (name_of s.text None)) (ports_at s) =
@@ -160,7 +160,7 @@ tied_net f forms a tied supply y h =
           (subst (λ (o : Option Range). In (port_of dir.In (name_of s.text None)) (ports_of_role role.Input (names s.text (bits_of o)))) (sym known.1) here) in
           record {
             same = sym bit.2 ∙ ap (name_of a.net.name) none ∙ ap (λ (t : List ℕ). name_of t None) text;
-            port_there = subst (λ (t : List ℕ). In (port_of dir.In (name_of t None)) (port_bits (nets f))) (named ∙ text) (flat_in ports_at (nets f) s (port_of dir.In (name_of s.text None)) there at);
+            port_there = subst (λ (t : List ℕ). In (port_of dir.In (name_of t None)) (port_bits (nets f))) (named ∙ text) (flat_in ports_at (nets f) s (port_of dir.In (name_of s.text None)) symbol_in at);
           }
 
 abbrev Mapped : List ModelPins → StructuralFile → Type 0
@@ -217,8 +217,8 @@ meets table f n is_table declared mapped of fits passes lists = record {
   tied = tied;
   apart = λ a b k p q. (of.classes (port a) (port b) a b k k (port_linked table f n of a k p) (port_linked table f n of b k q) p q).0 refl;
 } where
-  there : (t : Terminal) (x : Name) → In (t, x) (links f) → IsThere (terminals n) t
-  there t x h =
+  is_there : (t : Terminal) (x : Name) → In (t, x) (links f) → IsThere (terminals n) t
+  is_there t x h =
       let at = end_there table f n.ports mapped (IsPermutation-sym n.ports (port_bits (nets f)) of.ports) t (In-map end_of (t, x) (links f) h) in
       subst (λ (is : List Instance). IsThere (map (λ (p : Port). port p.name) n.ports ++ flat_map pins_of is) t) (sym of.instances) at
 
@@ -229,8 +229,8 @@ meets table f n is_table declared mapped of fits passes lists = record {
       let m = mapped j r.1 in
       let pin = supply_pin table lists j.component (model_listed table f declared.listed j m) supply which in
       let two = supply_links table f declared.forms j r.1 m supply which pin in
-      let a = has_class n of.sound (port supply) (there (port supply) supply two.0) in
-      let b = has_class n of.sound (pin_of j.label supply) (there (pin_of j.label supply) supply two.1) in
+      let a = has_class n of.sound (port supply) (is_there (port supply) supply two.0) in
+      let b = has_class n of.sound (pin_of j.label supply) (is_there (pin_of j.label supply) supply two.1) in
       let same : b.0 ≡ a.0 = (of.classes (pin_of j.label supply) (port supply) supply supply b.0 a.0 two.1 two.0 b.1 a.1).1 refl in
       let owner : j.label ≡ i.name = ap (λ (x : Instance). x.name) r.2 in
       record {

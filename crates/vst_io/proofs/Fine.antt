@@ -41,7 +41,7 @@ if_nothing true line e = refl
 if_nothing false line e = absurd cc
 
 pub flat_nothing : {X Y : Type 0} (f : X → List Y) (xs : List X) → flat_map f xs ≡ [] → (x : X) → In x xs → f x ≡ []
-flat_nothing f (y ∷ xs) e y here = (append_nothing (f y) (flat_map f xs) e).0
+flat_nothing f (y ∷ xs) e x here = (append_nothing (f y) (flat_map f xs) e).0
 flat_nothing f (y ∷ xs) e x (there h) = flat_nothing f xs (append_nothing (f y) (flat_map f xs) e).1 x h
 flat_nothing f [] e x h = elim h [ ]
 
@@ -50,7 +50,7 @@ both_true true b e = (refl, e)
 both_true false b e = absurd cc
 
 pub all_true : {X : Type 0} (test : X → Bool) (xs : List X) → list_all test xs ≡ true → (x : X) → In x xs → test x ≡ true
-all_true test (y ∷ xs) e y here = (both_true (test y) (list_all test xs) e).0
+all_true test (y ∷ xs) e x here = (both_true (test y) (list_all test xs) e).0
 all_true test (y ∷ xs) e x (there h) = all_true test xs (both_true (test y) (list_all test xs) e).1 x h
 all_true test [] e x h = elim h [ ]
 
@@ -66,7 +66,7 @@ in_flat f (x ∷ xs) y h = elim (In-split y (f x) (flat_map f xs) h) [
 ]
 
 pub flat_in : {X Y : Type 0} (f : X → List Y) (xs : List X) (x : X) (y : Y) → In x xs → In y (f x) → In y (flat_map f xs)
-flat_in f (x ∷ xs) x y here h = In-left y (f x) (flat_map f xs) h
+flat_in f (z ∷ xs) x y here h = In-left y (f x) (flat_map f xs) h
 flat_in f (z ∷ xs) x y (there g) h = In-right y (f z) (flat_map f xs) (flat_in f xs x y g h)
 flat_in f [] x y g h = elim g [ ]
 
@@ -116,25 +116,25 @@ different_pins known a = different_names a.pin.text (pin_bits known a.pin) (diff
 
 -- ---- an instance whose map has no fault
 
--- an association that joins as many bits of a net as it names of a pin, by which a supply is tied
+-- an association that as as many bits of a net as it names of a pin, by which a supply is tied
 pub record IsFine (known known_nets : List Symbol) (a : Association) : Type 0 where
   pub some : 0 < length (pin_bits known a.pin)
   pub wide : length (net_bits known_nets a.net) ≡ length (pin_bits known a.pin)
   pub tied : is_tied known_nets a ≡ true
 
-pub record AreFine (known known_nets : List Symbol) (model : List ModelPin) (mapped : List Name) (as : List Association) : Type 0 where
-  pub each : (a : Association) → In a as → IsFine known known_nets a
-  pub once : AllDifferent (mapped ++ flat_map (pin_names known) as)
-  pub pins : (n : Name) → In n (flat_map (pin_names known) as) → In n (map (λ p. p.name) model)
+pub record AreFine (known known_nets : List Symbol) (model : List ModelPin) (mapped : List Name) (joins : List Association) : Type 0 where
+  pub each : (a : Association) → In a joins → IsFine known known_nets a
+  pub once : AllDifferent (mapped ++ flat_map (pin_names known) joins)
+  pub pins : (n : Name) → In n (flat_map (pin_names known) joins) → In n (map (λ p. p.name) model)
 
-pub are_fine : (known known_nets : List Symbol) (model : List ModelPin) (mapped : List Name) (as : List Association) → AllDifferent mapped
-    → association_faults known known_nets model mapped as ≡ [] → AreFine known known_nets model mapped as
+pub are_fine : (known known_nets : List Symbol) (model : List ModelPin) (mapped : List Name) (joins : List Association) → AllDifferent mapped
+    → association_faults known known_nets model mapped joins ≡ [] → AreFine known known_nets model mapped joins
 are_fine known known_nets model mapped [] d e = record {
   each = λ a h. elim h [ ];
   once = subst (λ (ns : List Name). AllDifferent ns) (sym (append-nil mapped)) d;
   pins = λ n h. elim h [ ];
 }
-are_fine known known_nets model mapped (a ∷ as) d e =
+are_fine known known_nets model mapped (a ∷ joins) d e =
     let ns = pin_names known a in
     let p = append_nothing (if_not (is_free model mapped ns) a.pin.line) _ e in
     let q = append_nothing (if_not (fits known_nets a (length (pin_bits known a.pin))) a.net.line) _ p.1 in
@@ -143,17 +143,17 @@ are_fine known known_nets model mapped (a ∷ as) d e =
     let test : Name → Bool = λ n. stands (map (λ (p : ModelPin). p.name) model) n && not (stands mapped n) in
     let good : (n : Name) → In n ns → (stands (map (λ (p : ModelPin). p.name) model) n ≡ true) × (not (stands mapped n) ≡ true) = λ n h. both_true (stands (map (λ (p : ModelPin). p.name) model) n) (not (stands mapped n)) (all_true test ns free.1 n h) in
     let apart : (n : Name) → In n mapped → In n ns → ⊥ = λ n g h. stands_not mapped n (not_true (stands mapped n) (good n h).1) g in
-    let later = are_fine known known_nets model (mapped ++ ns) as (different_append mapped ns d (different_pins known a) apart) q.1 in
+    let later = are_fine known known_nets model (mapped ++ ns) joins (different_append mapped ns d (different_pins known a) apart) q.1 in
     let many : length ns ≡ length (pin_bits known a.pin) = map_length (name_of a.pin.text) (pin_bits known a.pin) in
     record {
       each = λ b h. by b h (record { some = some_of (length ns) (length (pin_bits known a.pin)) many free.0; wide = equal_of (length (net_bits known_nets a.net)) (length (pin_bits known a.pin)) fit.0; tied = fit.1 }) later.each;
-      once = subst (λ (xs : List Name). AllDifferent xs) (append_assoc mapped ns (flat_map (pin_names known) as)) later.once;
-      pins = λ n h. elim (In-split n ns (flat_map (pin_names known) as) h) [
+      once = subst (λ (xs : List Name). AllDifferent xs) (append_assoc mapped ns (flat_map (pin_names known) joins)) later.once;
+      pins = λ n h. elim (In-split n ns (flat_map (pin_names known) joins) h) [
         | inl left ↦ stands_there (map (λ (p : ModelPin). p.name) model) n (good n left).0
         | inr right ↦ later.pins n right
       ];
     } where
-      by : (b : Association) → In b (a ∷ as) → IsFine known known_nets a → ((c : Association) → In c as → IsFine known known_nets c) → IsFine known known_nets b
+      by : (b : Association) → In b (a ∷ joins) → IsFine known known_nets a → ((c : Association) → In c joins → IsFine known known_nets c) → IsFine known known_nets b
       by b here one rest = one
       by b (there h) one rest = rest b h
 
@@ -186,18 +186,18 @@ is_mapped table f i e = by (pins_of f.declarations i.component) refl e where
       }
 
 -- the terminals of its links are its pins
-ends_are : (known known_nets : List Symbol) (label : List ℕ) (as : List Association) → ((a : Association) → In a as → IsFine known known_nets a)
-    → map (λ l. l.0) (flat_map (links_of known known_nets label) as) ≡ map (pin_of label) (flat_map (pin_names known) as)
+ends_are : (known known_nets : List Symbol) (label : List ℕ) (joins : List Association) → ((a : Association) → In a joins → IsFine known known_nets a)
+    → map (λ l. l.0) (flat_map (links_of known known_nets label) joins) ≡ map (pin_of label) (flat_map (pin_names known) joins)
 ends_are known known_nets label [] h = refl
-ends_are known known_nets label (a ∷ as) h =
+ends_are known known_nets label (a ∷ joins) h =
     let first : Terminal × Name → Terminal = λ l. l.0 in
     let fine = h a here in
     let m1 : length (map (pin_of label) (pin_names known a)) ≡ length (pin_bits known a.pin) = map_length (pin_of label) (pin_names known a) ∙ map_length (name_of a.pin.text) (pin_bits known a.pin) in
     let m2 : length (net_names known_nets a) ≡ length (net_bits known_nets a.net) = map_length (name_of a.net.name) (net_bits known_nets a.net) in
-    map_append first (links_of known known_nets label a) (flat_map (links_of known known_nets label) as)
-    ∙ ap (λ (ts : List Terminal). ts ++ map first (flat_map (links_of known known_nets label) as)) (zip_first (map (pin_of label) (pin_names known a)) (net_names known_nets a) (m1 ∙ sym fine.wide ∙ sym m2))
-    ∙ ap (λ (ts : List Terminal). map (pin_of label) (pin_names known a) ++ ts) (ends_are known known_nets label as (λ b g. h b (there g)))
-    ∙ sym (map_append (pin_of label) (pin_names known a) (flat_map (pin_names known) as))
+    map_append first (links_of known known_nets label a) (flat_map (links_of known known_nets label) joins)
+    ∙ ap (λ (ts : List Terminal). ts ++ map first (flat_map (links_of known known_nets label) joins)) (zip_first (map (pin_of label) (pin_names known a)) (net_names known_nets a) (m1 ∙ sym fine.wide ∙ sym m2))
+    ∙ ap (λ (ts : List Terminal). map (pin_of label) (pin_names known a) ++ ts) (ends_are known known_nets label joins (λ b g. h b (there g)))
+    ∙ sym (map_append (pin_of label) (pin_names known a) (flat_map (pin_names known) joins))
 
 pub instance_ends : (table : List ModelPins) (f : StructuralFile) (i : InstanceStatement) (m : IsMapped table f i) → map (λ l. l.0) (instance_links f i) ≡ map (pin_of i.label) (flat_map (pin_names m.known) i.associations)
 instance_ends table f i m =

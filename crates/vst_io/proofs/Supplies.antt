@@ -70,7 +70,7 @@ word_no_port word.RegBitVector = refl
 
 -- a name of a supply is at fault but as an input of one bit
 supply_fits : (fits : Bool) (ns : List NewName) → supply_faults fits ns ≡ [] → (n : NewName) → In n ns → is_supply n.text ≡ true → fits ≡ true
-supply_fits fits (n ∷ ns) e n here s =
+supply_fits fits (m ∷ ns) e n here s =
     let p = append_nothing (if_not (fits || not (is_supply n.text)) n.line) (supply_faults fits ns) e in
     by fits (ap (λ b. fits || not b) (sym s) ∙ if_nothing (fits || not (is_supply n.text)) n.line p.0) where
       by : (b : Bool) → (b || not true) ≡ true → b ≡ true

@@ -1,5 +1,6 @@
 -- What is wrong with a structural text, in the order in which it is answered.
-use Rattle.std.specs.Prelude.{◌≡◌, ℕ, ◌+◌, ◌-◌, ◌^◌, Bool, true, false, not, ◌&&◌, ◌||◌, nat_eq, nat_lt, min, is_none, is_some, bytes_eq, List, [], ◌∷◌, ◌++◌, map, length, Option, None, Some, if◌then◌else◌}
+use Rattle.std.specs.Prelude.{ℕ, ◌+◌, ◌-◌, ◌^◌, Bool, true, false, not, ◌&&◌, ◌||◌, nat_eq, nat_lt, min, is_none, is_some, bytes_eq}
+use Rattle.std.specs.Prelude.{List, [], ◌∷◌, ◌++◌, map, length, Option, None, Some, if◌then◌else◌}
 use Rattle.std.specs.List.{flat_map, list_all, list_any, sum_by}
 use Rattle.vlsi_base.specs.declared.name.Name.{Name}
 use Rattle.vlsi_base.specs.declared.name.Dir.{Dir}
@@ -12,7 +13,7 @@ use Rattle.vlsi_base.specs.declared.fault.ReadError.{ReadError}
 use Rattle.vlsi_base.specs.declared.fault.ReadError.TheVariants as error
 use Rattle.vlsi_base.specs.Name.{is_supply}
 use Rattle.vlsi_base.specs.Names.{scalar}
-use Rattle.vlsi_base.specs.NamePlaces.{name_of, last_place}
+use Rattle.vlsi_base.specs.NamePlaces.{last_place}
 use Rattle.source_meaning.specs.declared.symbol_table.Role.{Role}
 use Rattle.source_meaning.specs.declared.symbol_table.Role.TheVariants as role
 use Rattle.source_meaning.specs.declared.symbol_table.Symbol.{Symbol}
@@ -30,7 +31,7 @@ use Rattle.vst_text.specs.declared.file.Declaration.TheVariants as declares
 use Rattle.vst_text.specs.declared.file.Association.{Association}
 use Rattle.vst_text.specs.declared.file.InstanceStatement.{InstanceStatement}
 use Rattle.vst_text.specs.declared.file.StructuralFile.{StructuralFile}
-use Rattle.vst_io.specs.Nets.{nets, pins, pins_of, components, pin_bits, net_bits, pin_names, names, port_bits}
+use Rattle.vst_io.specs.Nets.{nets, pins, pins_of, components, pin_bits, net_bits, pin_names, port_bits}
 
 -- ---- declarations: the lines of the tokens at fault, in file order
 

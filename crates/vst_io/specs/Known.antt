@@ -15,9 +15,9 @@ pub record Source : Type 0 where
   pub file : StructuralFile
 
 -- what is known of a source: its nets, the places and the pins of its components, and the names of the models
-pub record IsKnown (table : List ModelPins) (file : StructuralFile) (known_nets : List Symbol) (places : NamePlaces) (tables : List (List Symbol))
-    (models : List (List ℕ)) : Type 0 where
-  pub nets : known_nets ≡ nets file
-  pub places : (n : Name) → get places n ≡ last_place (map (λ c. scalar c.name) (components file.declarations)) n
-  pub pins : tables ≡ map pins (components file.declarations)
-  pub models : models ≡ map (λ m. m.model) table
+pub record IsKnown (table : List ModelPins) (file : StructuralFile) (known_nets : List Symbol) (index : NamePlaces) (tables : List (List Symbol))
+    (listed : List (List ℕ)) : Type 0 where
+  pub nets_are : known_nets ≡ nets file
+  pub places : (n : Name) → get index n ≡ last_place (map (λ c. scalar c.name) (components file.declarations)) n
+  pub pins_are : tables ≡ map pins (components file.declarations)
+  pub models : listed ≡ map (λ m. m.model) table

@@ -17,11 +17,11 @@ one_maps room items i h =
     let first = m.before.behind.behind.behind in
     let all = first.behind in
     let is : i.associations ≡ first.value ∷ all.value = ap (λ (s : InstanceStatement). s.associations) m.behind.1 ∙ ap (λ (p : List Association × ℕ). p.0) all.behind.behind.behind.1 in
-    let many : length i.associations ≡ suc (length all.value) = ap (λ (as : List Association). length as) is in
+    let many : length i.associations ≡ suc (length all.value) = ap (λ (xs : List Association). length xs) is in
     omega (arith, many)
 
 each_maps : (room : ℕ) (items : List Item) (is : List InstanceStatement) → list (instance_statement room) items is → (i : InstanceStatement) → In i is → 0 < length i.associations
-each_maps room items (i ∷ is) h i here = one_maps room h.0 i h.3
+each_maps room items (x ∷ is) h i here = one_maps room h.0 i h.3
 each_maps room items (x ∷ is) h i (there g) = each_maps room h.1 is h.4 i g
 each_maps room items [] h i g = elim g [ ]
 
