@@ -109,7 +109,7 @@ unfolding keyword_of
 word_vss = (refl, refl)
 
 not_supply : (text other : List ℕ) → is_supply text ≡ false → is_supply other ≡ true → text ≡ other → ⊥
-not_supply text other no yes_it e = let never : false ≡ true = sym no ∙ ap is_supply e ∙ yes_it in absurd cc
+not_supply text other first second e = let never : false ≡ true = sym first ∙ ap is_supply e ∙ second in absurd cc
 
 not_both : codes "vdd" ≡ codes "vss" → ⊥
 not_both e = let never : true ≡ false = ap (λ (t : List ℕ). bytes_eq t (codes "vdd")) e in absurd cc
