@@ -20,6 +20,8 @@ use Rattle.cell_function.specs.Timing.{pin_of}
 use Rattle.cell_lib.specs.Cells.{Source, sources, AreCells, none, next}
 use Rattle.cell_lib.specs.Library.{IsCell, IsLibraryOf}
 use Rattle.cell_pins.specs.Pins.{all_ports, with_supply}
+use Rattle.cell_pins.proofs.Sound.{member_at}
+use Rattle.net_view.proofs.Lists.{in_place}
 use Rattle.cell_pins.specs.Table.{IsPinOf, ArePins, no_pins, one_pin, IsModelOf, AreModels, no_models, listed, left_out, IsTableOf, IsListed}
 use Rattle.net_core.specs.declared.pins.ModelPin.{ModelPin}
 use Rattle.net_core.specs.declared.pins.ModelPins.{ModelPins}
@@ -148,3 +150,18 @@ module _ (machines : MachineIsNamed) (lists : CatalIsNamed) (written : MachineCa
         let sum = many (length m.registers) in_order.gates in_order.buffers in
         named_so (length m.registers) in_order.gates in_order.buffers i.name (omega (arith, few, count, same, sum))
         (subst (λ (ns : List (List ℕ)). In i.name ns) names_are (In-map (λ i. i.name) i n.instances there_is))
+
+    model_named : (i : Instance) → In i n.instances → IsIdentifier i.model
+    model_named i at =
+        let u = netlist.first i (in_place i n.instances at) in
+        subst (λ (t : List ℕ). IsIdentifier t) (sym u.3) (cell_named u.1 (member_at l.cells u.2.place u.1 u.2.stands))
+
+    pub can_be_named : CanBeNamed n
+    can_be_named = record {
+      name = subst (λ (t : List ℕ). IsIdentifier t) (sym netlist.right.name) (machines source m machine).0;
+      ports = subst (λ (ps : List Port). CanBePorts ps) (sym netlist.right.ports) (written source m machine);
+      instances = All-from CanBeAnInstance n.instances (λ i at. (instance_named i at, model_named i at));
+    }
+
+    pub writable : IsWritable l n
+    writable = record { condition = netlist.condition; named = can_be_named; pins = pins_can }
