@@ -201,21 +201,21 @@ unfolding plain_use
 input_told clock outs i o [] apart j name h = absurd h
 input_told clock outs i o (p ∷ ps) apart j name h =
     by (λ i o j h. input_told clock outs i o ps (λ q k. apart q (there k)) j name h) (is_input p.dir) (is_clock clock p.name) refl refl where
-  by : ((i o j : ℕ) → IsNumber (plain_inputs clock ps) j name → In (tied name (signal.Node (i + j))) (tied_ports clock outs i o ps)) → (d c : Bool) → is_input p.dir ≡ d → is_clock clock p.name ≡ c → In (tied name (signal.Node (i + j))) (tied_ports clock outs i o (p ∷ ps))
-  by rest d c e f =
-      subst (λ (ts : List TiedPort). In (tied name (signal.Node (i + j))) ts) (sym (tied_are clock outs i o p ps (plain_use d c) (use_is clock p (apart p here) d c e f)))
-      (go d c j (subst (λ (xs : List Name). IsNumber xs j name) (inputs_are clock p ps d c e f) h)) where
-        go : (d c : Bool) (j : ℕ) → IsNumber (inputs_front d c p.name (plain_inputs clock ps)) j name → In (tied name (signal.Node (i + j))) (front clock outs i o p (plain_use d c) ps)
-        go true true j h = there (rest i o j h)
-        go true false zero h =
-            let e : i + 0 ≡ i = omega arith in
-            subst (λ (x : Name). In (tied x (signal.Node (i + 0))) (front clock outs i o p port_use_of.Input ps)) (sym h)
-            (subst (λ (s : Signal). In (tied p.name s) (front clock outs i o p port_use_of.Input ps)) (sym (number_move (i + 0) i e)) here)
-        go true false (suc j) h =
-            let e : i + 1 + j ≡ i + suc j = omega arith in
-            there (subst (λ (s : Signal). In (tied name s) (tied_ports clock outs (i + 1) o ps)) (number_move (i + 1 + j) (i + suc j) e)
-            (rest (i + 1) o j h))
-        go false c j h = there (rest i (o + 1) j h)
+      by : ((i o j : ℕ) → IsNumber (plain_inputs clock ps) j name → In (tied name (signal.Node (i + j))) (tied_ports clock outs i o ps)) → (d c : Bool) → is_input p.dir ≡ d → is_clock clock p.name ≡ c → In (tied name (signal.Node (i + j))) (tied_ports clock outs i o (p ∷ ps))
+      by rest d c e f =
+          subst (λ (ts : List TiedPort). In (tied name (signal.Node (i + j))) ts) (sym (tied_are clock outs i o p ps (plain_use d c) (use_is clock p (apart p here) d c e f)))
+          (go d c j (subst (λ (xs : List Name). IsNumber xs j name) (inputs_are clock p ps d c e f) h)) where
+            go : (d c : Bool) (j : ℕ) → IsNumber (inputs_front d c p.name (plain_inputs clock ps)) j name → In (tied name (signal.Node (i + j))) (front clock outs i o p (plain_use d c) ps)
+            go true true j h = there (rest i o j h)
+            go true false zero h =
+                let e : i + 0 ≡ i = omega arith in
+                subst (λ (x : Name). In (tied x (signal.Node (i + 0))) (front clock outs i o p port_use_of.Input ps)) (sym h)
+                (subst (λ (s : Signal). In (tied p.name s) (front clock outs i o p port_use_of.Input ps)) (sym (number_move (i + 0) i e)) here)
+            go true false (suc j) h =
+                let e : i + 1 + j ≡ i + suc j = omega arith in
+                there (subst (λ (s : Signal). In (tied name s) (tied_ports clock outs (i + 1) o ps)) (number_move (i + 1 + j) (i + suc j) e)
+                (rest (i + 1) o j h))
+            go false c j h = there (rest i (o + 1) j h)
 
 -- output k, behind o outputs, has the number that stands at o + k
 pub output_told : (clock : Option Name) (outs : List ℕ) (i o : ℕ) (ps : List Port) → NoSupplies ps → (k : ℕ) (name : Name) → IsNumber (plain_outputs ps) k name
@@ -224,22 +224,22 @@ unfolding plain_use
 output_told clock outs i o [] apart k name h = absurd h
 output_told clock outs i o (p ∷ ps) apart k name h =
     by (λ i o k h. output_told clock outs i o ps (λ q j. apart q (there j)) k name h) (is_input p.dir) (is_clock clock p.name) refl refl where
-  by : ((i o k : ℕ) → IsNumber (plain_outputs ps) k name → In (tied name (signal.Node (get_or outs (o + k) 0))) (tied_ports clock outs i o ps)) → (d c : Bool) → is_input p.dir ≡ d → is_clock clock p.name ≡ c → In (tied name (signal.Node (get_or outs (o + k) 0))) (tied_ports clock outs i o (p ∷ ps))
-  by rest d c e f =
-      subst (λ (ts : List TiedPort). In (tied name (signal.Node (get_or outs (o + k) 0))) ts) (sym (tied_are clock outs i o p ps (plain_use d c) (use_is clock p (apart p here) d c e f)))
-      (go d c k (subst (λ (xs : List Name). IsNumber xs k name) (outputs_are p ps d e) h)) where
-        go : (d c : Bool) (k : ℕ) → IsNumber (outputs_front d p.name (plain_outputs ps)) k name
-            → In (tied name (signal.Node (get_or outs (o + k) 0))) (front clock outs i o p (plain_use d c) ps)
-        go true true k h = there (rest i o k h)
-        go true false k h = there (rest (i + 1) o k h)
-        go false c zero h =
-            let e : o + 0 ≡ o = omega arith in
-            subst (λ (x : Name). In (tied x (signal.Node (get_or outs (o + 0) 0))) (front clock outs i o p port_use_of.Output ps)) (sym h)
-            (subst (λ (n : ℕ). In (tied p.name (signal.Node (get_or outs n 0))) (front clock outs i o p port_use_of.Output ps)) (sym e) here)
-        go false c (suc k) h =
-            let e : o + 1 + k ≡ o + suc k = omega arith in
-            there (subst (λ (n : ℕ). In (tied name (signal.Node (get_or outs n 0))) (tied_ports clock outs i (o + 1) ps)) e
-            (rest i (o + 1) k h))
+      by : ((i o k : ℕ) → IsNumber (plain_outputs ps) k name → In (tied name (signal.Node (get_or outs (o + k) 0))) (tied_ports clock outs i o ps)) → (d c : Bool) → is_input p.dir ≡ d → is_clock clock p.name ≡ c → In (tied name (signal.Node (get_or outs (o + k) 0))) (tied_ports clock outs i o (p ∷ ps))
+      by rest d c e f =
+          subst (λ (ts : List TiedPort). In (tied name (signal.Node (get_or outs (o + k) 0))) ts) (sym (tied_are clock outs i o p ps (plain_use d c) (use_is clock p (apart p here) d c e f)))
+          (go d c k (subst (λ (xs : List Name). IsNumber xs k name) (outputs_are p ps d e) h)) where
+            go : (d c : Bool) (k : ℕ) → IsNumber (outputs_front d p.name (plain_outputs ps)) k name
+                → In (tied name (signal.Node (get_or outs (o + k) 0))) (front clock outs i o p (plain_use d c) ps)
+            go true true k h = there (rest i o k h)
+            go true false k h = there (rest (i + 1) o k h)
+            go false c zero h =
+                let e : o + 0 ≡ o = omega arith in
+                subst (λ (x : Name). In (tied x (signal.Node (get_or outs (o + 0) 0))) (front clock outs i o p port_use_of.Output ps)) (sym h)
+                (subst (λ (n : ℕ). In (tied p.name (signal.Node (get_or outs n 0))) (front clock outs i o p port_use_of.Output ps)) (sym e) here)
+            go false c (suc k) h =
+                let e : o + 1 + k ≡ o + suc k = omega arith in
+                there (subst (λ (n : ℕ). In (tied name (signal.Node (get_or outs n 0))) (tied_ports clock outs i (o + 1) ps)) e
+                (rest i (o + 1) k h))
 
 first_name : (name x : Name) (ys : List Name) → In name (x ∷ ys) → (name ≡ x) ⊎ In name ys
 first_name name x ys here = inl refl

@@ -36,8 +36,7 @@ pub numbered : (letter k : ℕ) → is_small_letter letter ≡ true → is_in_sm
 unfolding keyword_of
 numbered letter k small within few =
     let d = decimal_is k few in
-    let letters = both (is_in_small_word letter) (list_all is_in_small_word (decimal k)) within (all_implied is_ascii_digit is_in_small_word digit_in_word (decimal k) d.digits) in
-    (
+    let letters = both (is_in_small_word letter) (list_all is_in_small_word (decimal k)) within (all_implied is_ascii_digit is_in_small_word digit_in_word (decimal k) d.digits) in (
       both (is_small_letter letter) (list_all is_in_small_word (letter ∷ decimal k)) small letters,
       none_among (letter ∷ decimal k) keywords refl (first_digit (decimal k) d.digits d.some),
     )
