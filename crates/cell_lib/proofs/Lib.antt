@@ -3,4 +3,3 @@ mod Judging
 mod Loading
 mod Making
 mod Telling
-pub mod Plain

@@ -9,7 +9,6 @@ use crate::words::is_same;
 #[derive(Clone, Copy)]
 pub enum Tool {
     Flow,
-    Boog,
     Asimut,
 }
 
@@ -90,12 +89,6 @@ const TOOLS: &[Entry] = &[
         word: "flow",
         endings: &[".vbe", ".fsm"],
         settings: &[LIBRARY, OUT, TRACKS],
-    },
-    Entry {
-        tool: Tool::Boog,
-        word: "boog",
-        endings: &[".vbe"],
-        settings: &[LIBRARY, OUT],
     },
     Entry {
         tool: Tool::Asimut,

@@ -1,2 +1,0 @@
-//! Structural texts as netlists.
-#![tactic(auto)]
