@@ -1,5 +1,5 @@
 -- What is read has names that can be written again.
-use Rattle.std.proofs.Common.{◌≡◌, ℕ, Bool, true, false, codes, List, [], ◌∷◌, ◌++◌, Option, None, Some, inl, inr, refl, sym, ◌∙◌, ap, subst}
+use Rattle.std.proofs.Common.{◌≡◌, ℕ, true, false, codes, List, [], ◌∷◌, Option, None, Some, inl, inr, refl, sym, ◌∙◌, ap, subst}
 use Rattle.std.specs.List.{list_all}
 use Rattle.std.specs.List.Sorted.{IsPermutation}
 use Rattle.std.specs.Char.{is_ascii_alphabetic}
@@ -10,7 +10,7 @@ use Rattle.vlsi_base.specs.declared.name.Port.{Port}
 use Rattle.vlsi_base.specs.declared.name.Dir.{Dir}
 use Rattle.vlsi_base.specs.declared.fault.FaultKind.TheVariants as kind
 use Rattle.vlsi_base.specs.declared.fault.ReadError.{ReadError}
-use Rattle.vlsi_base.specs.Member.{In, here, there, AllDifferent}
+use Rattle.vlsi_base.specs.Member.{In, here, there}
 use Rattle.port_words.specs.Words.{IsIdentifier, ArePortsNamed, CanBePorts}
 use Rattle.lexer_base.specs.Bytes.{is_in_word}
 use Rattle.machine_meaning.specs.Machine.{Machine, names_of}
@@ -23,9 +23,8 @@ use Rattle.source_meaning.specs.Symbols.{symbols, scalar}
 use Rattle.source_meaning.specs.Checks.{fault, if_symbol, first_repeated, Passes}
 use Rattle.source_meaning.specs.Elaboration.{port_bits, IsMachineOf}
 use Rattle.vlsi_model.proofs.Assembly.{In-permutation}
-use Rattle.vlsi_model.proofs.Bits.{texts, different_texts}
+use Rattle.vlsi_model.proofs.Bits.{different_texts}
 use Rattle.vlsi_model.proofs.Stages.{no_fault}
-use Rattle.vbe_text.specs.Source.{source_view}
 use Rattle.vbe_io.specs.Text.{IsWritten, IsVbe}
 use Rattle.vbe_io.specs.Cell.{pin_dir, pin_bits, is_left_out, IsBehaviour, ArePins, IsCellText}
 use Rattle.vbe_io.specs.declared.cell_text.CellText.{CellText}

@@ -1,5 +1,5 @@
 -- Ports in the order of names go on from one to the next.
-use Rattle.std.proofs.Common.{◌≡◌, ◌⊎◌, inl, inr, ℕ, zero, suc, ◌+◌, ◌<◌, ◌≤◌, Bool, true, false, List, [], ◌∷◌, ◌++◌, length, filter, Option, None, Some, refl, sym, ◌∙◌, ap, subst, arith, length-append, nat_eq}
+use Rattle.std.proofs.Common.{◌≡◌, ℕ, zero, suc, ◌+◌, ◌<◌, ◌≤◌, Bool, true, false, List, [], ◌∷◌, length, Option, None, Some, refl, sym, ◌∙◌, ap, subst, arith, length-append, nat_eq}
 use Rattle.std.specs.Prelude.{IsTrue, slice_get}
 use Rattle.std.specs.Ordering.{is_lt, nat_cmp, ordering_reverse, ordering_then}
 use Rattle.std.specs.declared.cmp.Ordering.{Ordering}
@@ -12,13 +12,13 @@ use Rattle.vlsi_base.specs.declared.name.Port.{Port}
 use Rattle.vlsi_base.specs.Name.{name_cmp, bit_cmp}
 use Rattle.vlsi_base.specs.Names.{vdd, vss, comes_before}
 use Rattle.vlsi_base.specs.Member.{In, here, there}
-use Rattle.port_words.specs.Words.{IsIdentifier, is_next_bit, HasBit, ArePortsNamed, GoesOn, CanBePorts}
+use Rattle.port_words.specs.Words.{IsIdentifier, is_next_bit, ArePortsNamed, GoesOn, CanBePorts}
 use Rattle.machine_meaning.specs.Machine.{names_of}
 use Rattle.machine_core.specs.Checked.{AreInOrder}
 use Rattle.cell_model.proofs.Members.{All-from}
 use Rattle.cell_pins.specs.Pins.{supply, with_supply}
 use Rattle.cell_pins.proofs.Ports.{Sorted, before_trans, before_itself, sorted_of, sorted_supply}
-use Rattle.vbe_words.specs.Laws.{NoneIsSupply, with_supplies}
+use Rattle.vbe_words.specs.Laws.{NoneIsSupply, with_supplies, InOrderCanBeWritten}
 use Rattle.vbe_words.proofs.Supplied.{lesser, greater, pins_are_named}
 
 -- ---- places
@@ -113,6 +113,9 @@ ordered ports h s some = record {
   words = All-from (λ (p : Port). IsIdentifier p.name.text) ports h.words;
   runs = λ k p q e f same. let next : k + 1 ≡ suc k = omega arith in goes_on ports k p q h s e (ap (slice_get ports) (sym next) ∙ f) same;
 }
+
+pub in_order : InOrderCanBeWritten
+in_order ports h order some = ordered ports h (sorted_of ports order) some
 
 some_port : (name : Name) (ports : List Port) → 0 < length (with_supply name ports)
 some_port name ports = omega (arith, length-append (lesser name ports) (supply name ∷ greater name ports))

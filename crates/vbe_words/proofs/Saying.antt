@@ -1,5 +1,5 @@
 -- What a grammar says of the names that it declares, where the identifiers of the text are words.
-use Rattle.std.proofs.Common.{◌≡◌, ◌+◌, ℕ, Bool, true, false, List, [], ◌∷◌, ◌++◌, inl, inr, refl, sym, subst, arith, if◌then◌else◌}
+use Rattle.std.proofs.Common.{◌≡◌, ◌+◌, ℕ, Bool, true, false, List, [], ◌∷◌, ◌++◌, inl, inr, sym, subst, arith, if◌then◌else◌}
 use Rattle.std.specs.List.{list_all}
 use Rattle.vlsi_base.specs.Member.{In, here, there}
 use Rattle.vhdl_token.specs.Keyword.{keyword_number}
@@ -12,7 +12,7 @@ use Rattle.grammar_theory.specs.declared.form.Form.{Form}
 use Rattle.grammar_theory.specs.declared.form.Form.TheVariants as form
 use Rattle.grammar_theory.specs.Tokens.{is_bit, is_digit_of, form_of, code, code_of}
 use Rattle.grammar_theory.specs.Marks.{Mark, Item}
-use Rattle.grammar_theory.specs.Grammar.{Grammar, nothing, item, marked, Then, ◌or◌, list}
+use Rattle.grammar_theory.specs.Grammar.{Grammar, nothing, marked, Then, ◌or◌, list}
 use Rattle.grammar_theory.specs.Answers.{tokens_of}
 use Rattle.vhdl_front.specs.Cursor.{identifier_in, name_of}
 use Rattle.vbe_words.proofs.Cut.{IsNamed, AreNamed}

@@ -1,5 +1,5 @@
 -- The names that a data-flow text declares are words.
-use Rattle.std.proofs.Common.{◌≡◌, ◌-◌, ℕ, Bool, List, [], ◌∷◌, ◌++◌, Option, Ok, refl, subst}
+use Rattle.std.proofs.Common.{◌-◌, ℕ, List, [], ◌∷◌, Option, subst}
 use Rattle.vlsi_base.specs.declared.range.Range.{Range}
 use Rattle.vlsi_base.specs.declared.entity.NewName.{NewName}
 use Rattle.vlsi_base.specs.declared.entity.PortGroup.{PortGroup}
@@ -9,9 +9,8 @@ use Rattle.vlsi_base.specs.declared.entity.Declarations.{Declarations}
 use Rattle.vhdl_token.specs.declared.keyword.Keyword.{Keyword}
 use Rattle.vhdl_token.specs.declared.keyword.Keyword.TheVariants as word
 use Rattle.port_words.specs.Words.{IsIdentifier}
-use Rattle.grammar_theory.specs.Marks.{plain, declares, spells}
+use Rattle.grammar_theory.specs.Marks.{plain, declares}
 use Rattle.grammar_theory.specs.declared.limits.TheConstants.{DEPTH}
-use Rattle.vhdl_lexer.specs.Listing.{tokens_in}
 use Rattle.vhdl_front.specs.Cursor.{name_of}
 use Rattle.vhdl_front.specs.Entity.{Names, new_name, identifier, declared, another, led_names, declared_here, own_names, names, closed, port_behind, port, next_port, port_clause, entity_head, ending, entity, signal, declarations}
 use Rattle.source_meaning.specs.declared.statement.DesignFile.{DesignFile}

@@ -1,18 +1,19 @@
 -- What is read has names that can be written again.
-use Rattle.std.specs.Prelude.{◌≡◌, false, ℕ, List}
+use Rattle.std.specs.Prelude.{◌≡◌, ◌<◌, false, ℕ, List, length}
 use Rattle.vlsi_base.specs.declared.name.Port.{Port}
 use Rattle.vlsi_base.specs.Member.{In}
 use Rattle.vlsi_base.specs.Name.{is_supply}
 use Rattle.vlsi_base.specs.Names.{vdd, vss}
-use Rattle.machine_meaning.specs.Machine.{Machine}
+use Rattle.machine_meaning.specs.Machine.{Machine, names_of}
 use Rattle.port_words.specs.Words.{IsIdentifier, ArePortsNamed, CanBePorts}
 use Rattle.vbe_io.specs.Text.{IsVbe}
 use Rattle.vbe_io.specs.Cell.{IsCellText}
 use Rattle.vbe_io.specs.declared.cell_text.CellText.{CellText}
 use Rattle.catal.specs.Catal.{IsCatal}
+use Rattle.net_core.specs.Netlist.{AreInOrder}
 use Rattle.cell_pins.specs.Pins.{with_supply}
 
--- The name of a machine that is read is a word, and an entity can declare its ports.
+-- The name of a machine that is read is an identifier, and an entity can declare its ports.
 abbrev pub MachineIsNamed : Type 0
 MachineIsNamed = (bytes : List ℕ) (m : Machine) → IsVbe bytes m → IsIdentifier m.name × ArePortsNamed m.ports
 
@@ -32,9 +33,13 @@ with_supplies ports = with_supply vss (with_supply vdd ports)
 abbrev pub PinsAreNamed : Type 0
 PinsAreNamed = (ports : List Port) → ArePortsNamed ports → NoneIsSupply ports → ArePortsNamed (with_supplies ports)
 
--- The names of the cells that a CATAL uses are words.
+-- The names of the cells that a CATAL uses are identifiers.
 abbrev pub CatalIsNamed : Type 0
 CatalIsNamed = (bytes : List ℕ) (names : List (List ℕ)) → IsCatal bytes names → (name : List ℕ) → In name names → IsIdentifier name
+
+-- Ports that an entity can declare can be those of a text in the order of names, where there are some.
+abbrev pub InOrderCanBeWritten : Type 0
+InOrderCanBeWritten = (ports : List Port) → ArePortsNamed ports → AreInOrder (names_of ports) → 0 < length ports → CanBePorts ports
 
 -- With the supplies, the ports of a machine that is read can be those of a text.
 abbrev pub MachineCanBeWritten : Type 0

@@ -1,7 +1,7 @@
 // What is read has names that can be written again.
-ghost use Rattle.vbe_words.specs.Laws.{MachineIsNamed, CellIsNamed, PinsAreNamed, CatalIsNamed, MachineCanBeWritten, CellCanBeWritten};
+ghost use Rattle.vbe_words.specs.Laws.{MachineIsNamed, CellIsNamed, PinsAreNamed, CatalIsNamed, InOrderCanBeWritten, MachineCanBeWritten, CellCanBeWritten};
 
-/// The name of a machine that is read is a word, and an entity can declare its ports.
+/// The name of a machine that is read is an identifier, and an entity can declare its ports.
 pub fn machine_is_named()
     ensures { MachineIsNamed }
 {}
@@ -16,9 +16,14 @@ pub fn pins_are_named()
     ensures { PinsAreNamed }
 {}
 
-/// The names of the cells that a CATAL uses are words.
+/// The names of the cells that a CATAL uses are identifiers.
 pub fn catal_is_named()
     ensures { CatalIsNamed }
+{}
+
+/// Ports that an entity can declare can be those of a text in the order of names, where there are some.
+pub fn in_order_can_be_written()
+    ensures { InOrderCanBeWritten }
 {}
 
 /// With the two supplies, the ports of a machine that is read can be those of a text.

@@ -1,0 +1,224 @@
+-- The draft of a mapped machine can be built: names of instances differ, and there is room for all terminals.
+use Rattle.std.proofs.Common.{◌≡◌, ◌⊎◌, inl, inr, ℕ, zero, suc, ◌+◌, ◌*◌, ◌^◌, ◌<◌, ◌≤◌, Bool, true, false, not, List, [], ◌∷◌, ◌++◌, length, map, filter, refl, sym, ◌∙◌, ap, subst, arith, length-append, if◌then◌else◌}
+use Rattle.std.specs.List.{flat_map}
+use Rattle.std.proofs.lemmas.List.Filters.{length-filter_both}
+use Rattle.vlsi_base.specs.declared.name.Name.{Name}
+use Rattle.vlsi_base.specs.declared.name.Port.{Port}
+use Rattle.vlsi_base.specs.declared.name.Terminal.{Terminal}
+use Rattle.vlsi_base.specs.Names.{vdd, vss}
+use Rattle.vlsi_base.specs.Member.{In}
+use Rattle.machine_meaning.specs.Machine.{Machine, inputs, is_input, names_of}
+use Rattle.machine_meaning.specs.Size.{machine_size}
+use Rattle.machine_core.specs.Checked.{IsChecked}
+use Rattle.cell_model.specs.declared.kind.Kind.{Kind}
+use Rattle.cell_model.specs.declared.kind.Kind.TheVariants as kind
+use Rattle.cell_model.specs.Cell.{Function, gate, flip_flop, other, opaque, Cell, pin_ports, cell_inputs, cell_outputs}
+use Rattle.cell_model.specs.Library.{Library, IsPlain}
+use Rattle.cell_model.specs.Covering.{IsGateOf, IsFunctionOf}
+use Rattle.cell_checks.specs.Checked.{IsChecked as HasPassed}
+use Rattle.cell_pins.specs.Pins.{with_supply, all_ports}
+use Rattle.cell_pins.proofs.Ports.{Sorted, sorted_of, sorted_pairs, all_sorted}
+use Rattle.net_core.specs.Places.{Stands, IsThere, NoneTwice}
+use Rattle.net_core.specs.Netlist.{Instance, AreInOrder, pins_of, terminals_of, port, pin_of}
+use Rattle.net_core.proofs.Frames.{unmapped}
+use Rattle.net_core.proofs.Standing.{Split, left, right, split}
+use Rattle.net_meaning.specs.Agreement.{register_instance}
+use Rattle.net_meaning.specs.Well.{gate_instance}
+use Rattle.net_theory.proofs.Basics.{In-map, length-map}
+use Rattle.graph_theory.specs.Graph.{Node, Graph, held_count}
+use Rattle.graph_theory.proofs.Names.{register_names, gate_names, not_both}
+use Rattle.subject_graph.specs.Subject.{IsSubjectGraph}
+use Rattle.boog_map.specs.declared.part.Part.{Part}
+use Rattle.boog_map.specs.declared.part.Parts.{Parts}
+use Rattle.boog_map.specs.declared.place.Signal.{Signal}
+use Rattle.boog_map.specs.declared.place.Spot.{Spot}
+use Rattle.boog_map.specs.declared.ports.TiedPort.{TiedPort}
+use Rattle.boog_map.specs.declared.build.Sketch.{Sketch}
+use Rattle.boog_map.specs.Reached.{AreReached}
+use Rattle.boog_map.specs.Netlist.{has_registers, HasRoomForCells}
+use Rattle.boog_map.specs.Tied.{part_of, AreParts, IsPart, kind_for}
+use Rattle.boog_map.specs.Draft.{instance_of, register_spots, gate_spots, gate_spot, port_signals, spot_signals, all_signals, tied_ports, driver, AreDrivers, CanJoin, IsDrawable}
+use Rattle.boog_map.specs.Mapped.{spots_of, drivers_of, IsSketch}
+use Rattle.boog_map.proofs.Lists.{in_there, within, stands_number}
+use Rattle.boog_map.proofs.Rooms.{few_nodes}
+use Rattle.boog_map.proofs.Spots.{register_at, register_count, gate_at, gate_count, named_is}
+use Rattle.boog_map.proofs.Supplied.{sorted_both, two_longer}
+use Rattle.boog_map.proofs.Pins.{gate_of}
+use Rattle.boog_map.proofs.Driven.{sorted, apart, told, is_part, formed, driven, terminals_told}
+
+-- ---- how many pins a cell has
+
+few_inputs : (c : Cell) (f : Function) (n : ℕ) (k : Kind) → IsPlain c f → n ≡ length (cell_inputs c) → IsFunctionOf f n k → n ≤ 2
+few_inputs c (gate e) n kind.Inv plain is h = let a = h.0 in omega (arith, a)
+few_inputs c (gate e) n kind.Nand2 plain is h = let a = h.0 in omega (arith, a)
+few_inputs c (gate e) n kind.Zero plain is h = let a = h.0 in omega (arith, a)
+few_inputs c (gate e) n kind.One plain is h = let a = h.0 in omega (arith, a)
+few_inputs c (gate e) n kind.Dff plain is h = absurd h
+few_inputs c (flip_flop data_pin clock_pin) n k plain is h = let a = plain.1 in omega (arith, a, is)
+few_inputs c (other m) n k plain is h = absurd h
+few_inputs c opaque n k plain is h = absurd h
+
+pins_count : (c : Cell) → length (cell_inputs c) + length (cell_outputs c) ≡ length (pin_ports c)
+pins_count c =
+    let a = length-map (λ (p : Port). p.name) (filter (λ p. is_input p.dir) (pin_ports c)) in
+    let b = length-map (λ (p : Port). p.name) (filter (λ p. not (is_input p.dir)) (pin_ports c)) in
+    let both = length-filter_both (λ (p : Port). is_input p.dir) (λ p. not (is_input p.dir)) (λ p. refl) (pin_ports c) in
+    omega (arith, a, b, both)
+
+module _ (m : Machine) (checked : IsChecked m) (g : Graph) (sub : IsSubjectGraph m g) (l : Library) (passed : HasPassed false l) (ps : Parts)
+    (parts : AreParts l.cells (has_registers m) ps) (marks : List Bool) (reached : AreReached (held_count m) g marks) where
+  abbrev spots : List Spot
+  spots = spots_of m g marks
+
+  abbrev registers : List Spot
+  registers = register_spots (length (inputs m)) 0 g.loads
+
+  abbrev gates : List Spot
+  gates = gate_spots marks (held_count m) 0 g.nodes
+
+  abbrev cell_for : Kind → Cell
+  cell_for k = (parts.each k).cell
+
+  the_part : (k : Kind) → IsPart (cell_for k) (part_of ps k)
+  the_part k = is_part m checked g sub l passed ps parts marks reached k
+
+  five_pins : (k : Kind) → length (part_of ps k).pins ≤ 5
+  five_pins k =
+      let c = cell_for k in
+      let chosen = (parts.each k).chosen in
+      let ok = formed m checked g sub l passed ps parts marks reached k in
+      let ports_apart = λ (q : Port) (h : In q (pin_ports c)). ok.signals q.name (In-map (λ (p : Port). p.name) q (pin_ports c) h) in
+      let own = few_inputs c c.function (length (cell_inputs c)) (kind_for (has_registers m) k) chosen.usable.function refl chosen.kind in
+      let one = ap length (the_part k).output in
+      let all = pins_count c in
+      let two = two_longer (pin_ports c) (sorted_of (pin_ports c) ok.order) ports_apart in
+      let size = ap length (the_part k).pins in
+      let names = length-map (λ (p : Port). p.name) (all_ports c) in
+      omega (arith, own, one, all, two, size, names)
+
+  all_pins : (ss : List Spot) → length (flat_map pins_of (map (instance_of ps) ss)) ≤ 5 * length ss
+  all_pins [] = omega arith
+  all_pins (s ∷ ss) =
+      let rest = all_pins ss in
+      let own = five_pins s.kind in
+      let both = length-append (pins_of (instance_of ps s)) (flat_map pins_of (map (instance_of ps) ss)) in
+      let size = length-map (pin_of s.name) (part_of ps s.kind).pins in
+      omega (arith, rest, own, both, size)
+
+  -- ---- how many there are
+
+  registers_long : length registers ≡ length m.registers
+  registers_long = register_count (length (inputs m)) 0 g.loads ∙ sub.roots.each
+
+  few_spots : length spots ≤ length m.registers + (machine_size m + 2)
+  few_spots =
+      let both = length-append registers gates in
+      let a = registers_long in
+      let b = gate_count marks (held_count m) 0 g.nodes in
+      let c = few_nodes m g sub in
+      omega (arith, both, a, b, c)
+
+  abbrev ports : List Port
+  ports = with_supply vss (with_supply vdd m.ports)
+
+  ports_sorted : Sorted m.ports
+  ports_sorted = sorted m checked g sub l passed ps parts marks reached
+
+  ports_long : length ports ≡ length m.ports + 2
+  ports_long = two_longer m.ports ports_sorted (apart m checked g sub l passed ps parts marks reached)
+
+  few_terminals : HasRoomForCells m → length (terminals_of ports (map (instance_of ps) spots)) < 2 ^ 32
+  few_terminals room =
+      let both = length-append (map (λ (p : Port). port p.name) ports) (flat_map pins_of (map (instance_of ps) spots)) in
+      let own = length-map (λ (p : Port). port p.name) ports in
+      let long = ports_long in
+      let pins = all_pins spots in
+      let few = few_spots in
+      omega (arith, room, both, own, long, pins, few)
+
+  pub few_count : HasRoomForCells m → length spots < 2 ^ 32
+  few_count room = let few = few_spots in omega (arith, room, few)
+
+  -- ---- names
+
+  abbrev IsNamed : ℕ → Spot → Type 0
+  IsNamed i s = ((i < length registers) × (s.name ≡ register_instance i)) ⊎ ((j : ℕ) × (i ≡ length registers + j) × (j < length gates) × (s.name ≡ gate_instance j))
+
+  named : (i : ℕ) (s : Spot) → Stands spots i s → IsNamed i s
+  named i s h = by (split registers gates i s h) where
+    by : Split registers gates i s → IsNamed i s
+    by (left a) =
+        let r = register_at (length (inputs m)) 0 g.loads i s (stands_number registers i s a) in
+        let e : 0 + i ≡ i = omega arith in
+        inl (within registers i s a, ap (λ (u : Spot). u.name) r.2 ∙ ap register_instance e)
+    by (right j n b) =
+        let r = gate_at marks (held_count m) 0 g.nodes j s (stands_number gates j s b) in
+        let e : 0 + j ≡ j = omega arith in
+        inr (j, n, within gates j s b, ap (λ (u : Spot). u.name) r.4 ∙ named_is (0 + j) (held_count m + r.0) r.1 ∙ ap gate_instance e)
+
+  names_apart : HasRoomForCells m → NoneTwice (map (λ (s : Spot). s.name) spots)
+  names_apart room i j x p q =
+      let a = unmapped (λ (s : Spot). s.name) spots i x p in
+      let b = unmapped (λ (s : Spot). s.name) spots j x q in
+      by a.0 b.0 (named i a.0 a.1) (named j b.0 b.1) (a.2 ∙ sym b.2) where
+        small : length registers + length gates < 2 ^ 64
+        small = let both = length-append registers gates in let few = few_count room in omega (arith, both, few)
+
+        by : (s u : Spot) → IsNamed i s → IsNamed j u → s.name ≡ u.name → i ≡ j
+        by s u (inl a) (inl b) e =
+            let low = a.0 in
+            let high = b.0 in
+            let few = small in
+            register_names i j (omega (arith, low, few)) (omega (arith, high, few)) (sym a.1 ∙ e ∙ b.1)
+        by s u (inl a) (inr b) e = absurd (not_both i b.0 (sym a.1 ∙ e ∙ b.3))
+        by s u (inr a) (inl b) e = absurd (not_both j a.0 (sym b.1 ∙ sym e ∙ a.3))
+        by s u (inr a) (inr b) e =
+            let low = a.2 in
+            let high = b.2 in
+            let few = small in
+            let same : a.0 ≡ b.0 = gate_names a.0 b.0 (omega (arith, low, few)) (omega (arith, high, few)) (sym a.3 ∙ e ∙ b.3) in
+            let first = a.1 in
+            let second = b.1 in
+            omega (arith, same, first, second)
+
+  pins_ordered : (k : Kind) → AreInOrder (part_of ps k).pins
+  pins_ordered k =
+      subst (λ (xs : List Name). AreInOrder xs) (sym (the_part k).pins)
+      (sorted_pairs (all_ports (cell_for k)) (all_sorted (cell_for k) (formed m checked g sub l passed ps parts marks reached k)))
+
+  -- ---- a sketch of it
+
+  module _ (k : Sketch) (same : k.parts ≡ ps) (spots_are : k.spots.items ≡ spots) (drv : AreDrivers m.clock (drivers_of m g ps marks) k.drivers)
+      (ports_are : k.ports.items ≡ tied_ports m.clock g.outputs 0 0 ports) where
+    pub instances_are : map (instance_of k.parts) k.spots.items ≡ map (instance_of ps) spots
+    instances_are = ap (λ (q : Parts). map (instance_of q) k.spots.items) same ∙ ap (map (instance_of ps)) spots_are
+
+    pub signals_are : all_signals k ≡ told m checked g sub l passed ps parts marks reached
+    signals_are =
+        ap (λ (ts : List TiedPort). port_signals ts ++ flat_map (spot_signals k.parts) k.spots.items) ports_are
+        ∙ ap (λ (q : Parts). port_signals (tied_ports m.clock g.outputs 0 0 ports) ++ flat_map (spot_signals q) k.spots.items) same
+        ∙ ap (λ (ss : List Spot). port_signals (tied_ports m.clock g.outputs 0 0 ports) ++ flat_map (spot_signals ps) ss) spots_are
+
+    there_told : (t : Terminal) (s : Signal) → In (t, s) (told m checked g sub l passed ps parts marks reached)
+        → IsThere (terminals_of ports (map (instance_of ps) spots)) t
+    there_told t s h =
+        subst (λ (ts : List Terminal). IsThere ts t) (sym (terminals_told m checked g sub l passed ps parts marks reached))
+        (in_there t (map (λ (x : Terminal × Signal). x.0) (told m checked g sub l passed ps parts marks reached))
+        (In-map (λ (x : Terminal × Signal). x.0) (t, s) (told m checked g sub l passed ps parts marks reached) h))
+
+    can_join : CanJoin (terminals_of ports (map (instance_of ps) spots)) k.drivers (told m checked g sub l passed ps parts marks reached)
+    can_join t h =
+        let good = driven m checked g sub l passed ps parts marks reached k.drivers drv t h in
+        (there_told t.0 t.1 h, there_told (driver k.drivers t.1) t.1 good.0, good.1)
+
+    pub drawable : HasRoomForCells m → IsDrawable ports k
+    drawable room = record {
+      order = sorted_pairs ports (sorted_both m.ports ports_sorted (apart m checked g sub l passed ps parts marks reached));
+      pins = λ s h. subst (λ (q : Parts). AreInOrder (part_of q s.kind).pins) (sym same) (pins_ordered s.kind);
+      names = subst (λ (ss : List Spot). NoneTwice (map (λ (s : Spot). s.name) ss)) (sym spots_are) (names_apart room);
+      many = subst (λ (ss : List Spot). length ss < 2 ^ 32) (sym spots_are) (few_count room);
+      few = subst (λ (is : List Instance). length (terminals_of ports is) < 2 ^ 32) (sym instances_are) (few_terminals room);
+      joins =
+          subst (λ (is : List Instance). CanJoin (terminals_of ports is) k.drivers (all_signals k)) (sym instances_are)
+          (subst (λ (ts : List (Terminal × Signal)). CanJoin (terminals_of ports (map (instance_of ps) spots)) k.drivers ts) (sym signals_are) can_join);
+    }

@@ -1,0 +1,253 @@
+-- What mapping gives.
+use Rattle.std.proofs.Common.{◌≡◌, ◌≢◌, ◌⊎◌, inl, inr, ◌↔◌, ℕ, zero, suc, ◌+◌, ◌^◌, ◌<◌, Bool, true, false, ◌&&◌, List, [], ◌∷◌, ◌++◌, length, map, filter, refl, sym, ◌∙◌, ap, subst, arith, Option, None, Some, length-append, if◌then◌else◌}
+use Rattle.std.specs.Prelude.{IsTrue, IfOk, Result, Ok, Err}
+use Rattle.std.specs.Cmp.Lexicographic.{bytes_decides}
+use Rattle.vlsi_base.specs.declared.name.Name.{Name}
+use Rattle.vlsi_base.specs.declared.name.Port.{Port}
+use Rattle.vlsi_base.specs.declared.name.Terminal.{Terminal}
+use Rattle.vlsi_base.specs.Names.{vdd, vss}
+use Rattle.bool_expr.specs.Expression.{bit}
+use Rattle.machine_meaning.specs.Machine.{Machine, inputs, names_of}
+use Rattle.machine_meaning.specs.Named.{is_same_text, is_same_name}
+use Rattle.machine_core.specs.Checked.{IsChecked}
+use Rattle.machine_core.proofs.Names.{same_name-true, same_name-itself}
+use Rattle.cell_model.specs.declared.kind.Kind.{Kind}
+use Rattle.cell_model.specs.Cell.{Cell}
+use Rattle.cell_model.specs.Library.{Library, cell_of}
+use Rattle.cell_model.proofs.Texts.{text_same, text_itself}
+use Rattle.cell_checks.specs.Checked.{IsChecked as HasPassed, library_of}
+use Rattle.cell_pins.specs.Pins.{with_supply, all_ports}
+use Rattle.net_core.specs.Places.{Stands, IsThere, NoneTwice}
+use Rattle.net_core.specs.Netlist.{Instance, Netlist as InMemory, IsNetlist, terminals, HasClass}
+use Rattle.net_core.specs.Joins.{Joined, IsFinished}
+use Rattle.net_core.proofs.Frames.{unmapped}
+use Rattle.net_core.proofs.Finishing.{netlist_terminals_once}
+use Rattle.net_meaning.specs.Netlist.{Netlist}
+use Rattle.net_theory.proofs.Basics.{length-map}
+use Rattle.net_view.specs.View.{IsSeenAs, netlist_by}
+use Rattle.net_view.specs.Right.{IsRightNetlist, HasPinsOfCells}
+use Rattle.graph_theory.specs.Graph.{Graph, held_count, graph_values, graph_roots}
+use Rattle.graph_theory.specs.Maps.{Maps}
+use Rattle.graph_theory.proofs.Values.{graph_means}
+use Rattle.graph_theory.proofs.Shown.{mapped_shows}
+use Rattle.graph_theory.proofs.Ordered.{mapped_is_lean, names, mapped_after}
+use Rattle.subject_graph.specs.Subject.{IsSubjectGraph}
+use Rattle.boog_map.specs.declared.part.Parts.{Parts}
+use Rattle.boog_map.specs.declared.place.Signal.{Signal}
+use Rattle.boog_map.specs.declared.place.Spot.{Spot}
+use Rattle.boog_map.specs.declared.build.Sketch.{Sketch}
+use Rattle.boog_map.specs.Reached.{IsReached}
+use Rattle.boog_map.specs.Netlist.{has_registers, HasRoomForCells, UsesFirstCells, StandsInOrder, HasOneCellEach, IsLeanFor}
+use Rattle.boog_map.specs.Tied.{part_of, AreParts, kind_for}
+use Rattle.boog_map.specs.Draft.{instance_of, register_spots, gate_spots, join_of, draft_by, IsDrawable}
+use Rattle.boog_map.specs.Mapped.{spots_of, IsSketch, IsMapped}
+use Rattle.boog_map.proofs.Spots.{register_count, behind_count, behind_length, behind_bit, marks_behind}
+use Rattle.boog_map.proofs.Driven.{told}
+use Rattle.boog_map.proofs.Drawable.{drawable, instances_are, signals_are, few_count}
+use Rattle.boog_map.proofs.Seating.{maps, found, sourced}
+
+-- ---- the class of each terminal
+
+is_same_owner : Option (List ℕ) → Option (List ℕ) → Bool
+is_same_owner None None = true
+is_same_owner (Some a) (Some b) = is_same_text a b
+is_same_owner None (Some b) = false
+is_same_owner (Some a) None = false
+
+is_same_terminal : Terminal → Terminal → Bool
+is_same_terminal a b = is_same_owner a.instance b.instance && is_same_name a.pin b.pin
+
+owner_same : (a b : Option (List ℕ)) → is_same_owner a b ≡ true → a ≡ b
+unfolding is_same_owner
+owner_same None None h = refl
+owner_same (Some a) (Some b) h = ap Some (text_same a b h)
+owner_same None (Some b) h = absurd (cc h)
+owner_same (Some a) None h = absurd (cc h)
+
+owner_itself : (a : Option (List ℕ)) → is_same_owner a a ≡ true
+unfolding is_same_owner
+owner_itself None = refl
+owner_itself (Some a) = text_itself a
+
+both : (a b : Bool) → (a && b) ≡ true → (a ≡ true) × (b ≡ true)
+both true true h = (refl, refl)
+both true false h = absurd (cc h)
+both false b h = absurd (cc h)
+
+terminal_same : (a b : Terminal) → is_same_terminal a b ≡ true → a ≡ b
+unfolding is_same_terminal
+terminal_same a b h =
+    let p = both (is_same_owner a.instance b.instance) (is_same_name a.pin b.pin) h in
+    let made : Option (List ℕ) → Name → Terminal = λ o x. record { instance = o; pin = x } in
+    ap (λ (o : Option (List ℕ)). made o a.pin) (owner_same a.instance b.instance p.0) ∙ ap (made b.instance) (same_name-true a.pin b.pin p.1)
+
+terminal_itself : (a : Terminal) → is_same_terminal a a ≡ true
+unfolding is_same_terminal
+terminal_itself a = rw (owner_itself a.instance, same_name-itself a.pin) refl
+
+class_at : List Terminal → List ℕ → Terminal → ℕ
+class_at [] ks t = 0
+class_at (u ∷ us) [] t = 0
+class_at (u ∷ us) (k ∷ ks) t = if is_same_terminal u t then k else class_at us ks t
+
+class_is : (us : List Terminal) (ks : List ℕ) (t : Terminal) (i k : ℕ) → NoneTwice us → Stands us i t → Stands ks i k → class_at us ks t ≡ k
+unfolding class_at
+class_is [] ks t i k once p q = absurd cc
+class_is (u ∷ us) [] t i k once p q = absurd cc
+class_is (u ∷ us) (c ∷ ks) t i k once p q = by (λ i p q. class_is us ks t i k later p q) (is_same_terminal u t) refl i p q where
+  later : NoneTwice us
+  later x y z a b = let h : suc x ≡ suc y = once (suc x) (suc y) z a b in omega (arith, h)
+
+  by : ((i : ℕ) → Stands us i t → Stands ks i k → class_at us ks t ≡ k) → (b : Bool) → is_same_terminal u t ≡ b → (i : ℕ) → Stands (u ∷ us) i t → Stands (c ∷ ks) i k → (if b then c else class_at us ks t) ≡ k
+  by rest true e zero p q = cc
+  by rest true e (suc i) p q =
+      let same : u ≡ t = terminal_same u t e in
+      let twice : suc i ≡ 0 = once (suc i) 0 t p (ap Some same) in absurd (omega (arith, twice))
+  by rest false e zero p q = let same : u ≡ t = cc in absurd (let yes = subst (λ (x : Terminal). is_same_terminal u x ≡ true) same (terminal_itself u) in let no : true ≡ false = sym yes ∙ e in cc)
+  by rest false e (suc i) p q = rest i p q
+
+abbrev class_of : InMemory → Terminal → ℕ
+class_of n t = class_at (terminals n) n.classes t
+
+seen_by : (n : InMemory) → IsNetlist n → IsSeenAs n (netlist_by (class_of n) n)
+seen_by n sound = record {
+  is = refl;
+  classes = record { each = λ t k h. class_is (terminals n) n.classes t h.0 k (netlist_terminals_once n sound) h.1 h.2 };
+}
+
+-- ---- the netlist
+
+module _ (m : Machine) (checked : IsChecked m) (g : Graph) (sub : IsSubjectGraph m g) (l : Library) (passed : HasPassed false l) (room : HasRoomForCells m)
+    (ps : Parts) (parts : AreParts l.cells (has_registers m) ps) (k : Sketch) (sk : IsSketch m g ps k) where
+  pub can_draw : IsDrawable (with_supply vss (with_supply vdd m.ports)) k
+  can_draw = drawable m checked g sub l passed ps parts sk.marks sk.reached k sk.parts sk.spots sk.drivers sk.ports room
+
+  module _ (n : InMemory) (finished : IsFinished (draft_by m.name (with_supply vss (with_supply vdd m.ports)) k) n) (sound : IsNetlist n) where
+    abbrev spots : List Spot
+    spots = spots_of m g sk.marks
+
+    instances_is : n.instances ≡ map (instance_of ps) spots
+    instances_is = finished.instances ∙ instances_are m checked g sub l passed ps parts sk.marks sk.reached k sk.parts sk.spots sk.drivers sk.ports
+
+    joined : (a b : Terminal) (i j : ℕ) → HasClass n a i → HasClass n b j
+        → (i ≡ j) ↔ Joined (map (join_of k.drivers) (told m checked g sub l passed ps parts sk.marks sk.reached)) a b
+    joined =
+        subst (λ (ts : List (Terminal × Signal)). (a b : Terminal) (i j : ℕ) → HasClass n a i → HasClass n b j → (i ≡ j) ↔ Joined (map (join_of k.drivers) ts) a b)
+        (signals_are m checked g sub l passed ps parts sk.marks sk.reached k sk.parts sk.spots sk.drivers sk.ports) finished.classes
+
+    few : length spots < 2 ^ 32
+    few = few_count m checked g sub l passed ps parts sk.marks sk.reached room
+
+    abbrev source_netlist : Netlist → Type 0
+    source_netlist x = IsSeenAs n x
+
+    maps_it : (x : Netlist) (seen : IsSeenAs n x)
+        → Maps (sourced m checked g sub l passed ps parts sk.marks sk.reached k.drivers sk.drivers n sound finished.ports instances_is joined x seen) l m g
+    maps_it x seen = maps m checked g sub l passed ps parts sk.marks sk.reached k.drivers sk.drivers n sound finished.ports instances_is joined x seen few
+
+    right : IsRightNetlist n l m
+    right =
+        let x = netlist_by (class_of n) n in
+        let seen = seen_by n sound in
+        record {
+          name = finished.name;
+          ports = finished.ports;
+          sourced = sourced m checked g sub l passed ps parts sk.marks sk.reached k.drivers sk.drivers n sound finished.ports instances_is joined x seen;
+          seen = seen;
+          values = graph_values g;
+          roots = graph_roots g;
+          shows =
+              mapped_shows (sourced m checked g sub l passed ps parts sk.marks sk.reached k.drivers sk.drivers n sound finished.ports instances_is joined x seen) l m g sub.apart
+              (maps_it x seen);
+          means = graph_means m g sub.graph;
+        }
+
+    -- an instance is that of a spot
+    of_spot : (i : Instance) → IsThere n.instances i → (s : Spot) × (instance_of ps s ≡ i)
+    of_spot i h =
+        let there_is = subst (λ (is : List Instance). IsThere is i) instances_is h in
+        let u = unmapped (instance_of ps) spots there_is.0 i there_is.1 in
+        (u.0, u.2)
+
+    pins : HasPinsOfCells n l
+    pins i c h is =
+        let s = of_spot i h in
+        let cell : Some (parts.each s.0.kind).cell ≡ Some c =
+        sym (found m checked g sub l passed ps parts sk.marks sk.reached k.drivers sk.drivers n sound finished.ports instances_is joined s.0.kind)
+        ∙ ap (λ (x : Instance). cell_of l x.model) s.1 ∙ is in
+        let same : (parts.each s.0.kind).cell ≡ c = cc cell in
+        ap (λ (x : Instance). x.pins) (sym s.1) ∙ (parts.each s.0.kind).is_part.pins ∙ ap (λ (x : Cell). names_of (all_ports x)) same
+
+    first : UsesFirstCells n l
+    first i h =
+        let s = of_spot i h in (
+          kind_for (has_registers m) s.0.kind,
+          (parts.each s.0.kind).cell,
+          (parts.each s.0.kind).chosen,
+          ap (λ (x : Instance). x.model) (sym s.1) ∙ (parts.each s.0.kind).is_part.model,
+        )
+
+    order : StandsInOrder n l m
+    order x p seen row =
+        let z = sourced m checked g sub l passed ps parts sk.marks sk.reached k.drivers sk.drivers n sound finished.ports instances_is joined x seen in
+        let is = maps_it x seen in
+        record {
+          one_row = row;
+          gates = length is.gates;
+          buffers = 0;
+          unbuffered = refl;
+          names = names z l m g is;
+          after = mapped_after z l m g is;
+        }
+
+    each : HasOneCellEach n m g
+    each = record {
+      reached = marks_behind sk.marks (held_count m) g.nodes;
+      many = behind_length sk.marks (held_count m) g.nodes;
+      each = λ j low.
+          subst (λ (b : Bool). IsTrue b ↔ IsReached (held_count m) g (held_count m + j)) (sym (behind_bit sk.marks (held_count m) g.nodes j low))
+          (sk.reached.each (held_count m + j));
+      count =
+          let a = ap length instances_is in
+          let b = length-map (instance_of ps) spots in
+          let c = length-append (register_spots (length (inputs m)) 0 g.loads) (gate_spots sk.marks (held_count m) 0 g.nodes) in
+          let d = register_count (length (inputs m)) 0 g.loads in
+          let e = sub.roots.each in
+          let f = behind_count sk.marks (held_count m) 0 g.nodes in
+          omega (arith, a, b, c, d, e, f);
+    }
+
+    lean : IsLeanFor n m
+    lean x seen =
+        mapped_is_lean (sourced m checked g sub l passed ps parts sk.marks sk.reached k.drivers sk.drivers n sound finished.ports instances_is joined x seen) l m g
+        (maps_it x seen) sub.small
+
+    pub is_mapped : IsMapped n l m g
+    is_mapped = record { right = right; pins = pins; first = first; order = order; each = each; lean = lean; sound = sound }
+
+pub ok_both : {T E : Type 0} {P Q R : T → Type 0} (r : Result T E) → ((x : T) → P x → Q x → R x) → IfOk r P → IfOk r Q → IfOk r R
+ok_both (Ok x) f p q = f x p q
+ok_both (Err e) f p q = tt
+
+-- what is said of the cells of a library
+pub of_library : (cells : List Cell) (l : Library) → library_of cells ≡ l → (P : List Cell → Type 0) → P l.cells → P cells
+of_library cells l is P h = subst P (sym (ap (λ (x : Library). x.cells) is)) h
+
+pub parts_of_library : (cells : List Cell) (l : Library) (m : Machine) (b : Bool) (ps : Parts) → library_of cells ≡ l → b ≡ has_registers m → AreParts cells b ps
+    → AreParts l.cells (has_registers m) ps
+parts_of_library cells l m b ps is same h =
+    subst (λ (cs : List Cell). AreParts cs (has_registers m) ps) (ap (λ (x : Library). x.cells) is) (subst (λ (r : Bool). AreParts cells r ps) same h)
+
+-- the netlist of what was lent
+pub lent_draw : (m : Machine) → IsChecked m → (g : Graph) → IsSubjectGraph m g → (l : Library) → HasPassed false l → HasRoomForCells m
+    → (ps : Parts) → AreParts l.cells (has_registers m) ps → (k : Sketch) → IsSketch m g ps k → (ports : List Port) → ports ≡ with_supply vss (with_supply vdd m.ports)
+    → IsDrawable ports k
+lent_draw m checked g sub l passed room ps parts k sk ports is =
+    subst (λ (xs : List Port). IsDrawable xs k) (sym is) (can_draw m checked g sub l passed room ps parts k sk)
+
+pub lent_mapped : (m : Machine) → IsChecked m → (g : Graph) → IsSubjectGraph m g → (l : Library) → HasPassed false l → HasRoomForCells m
+    → (ps : Parts) → AreParts l.cells (has_registers m) ps → (k : Sketch) → IsSketch m g ps k → (name : List ℕ) (ports : List Port) → name ≡ m.name
+    → ports ≡ with_supply vss (with_supply vdd m.ports) → (n : InMemory) → IsFinished (draft_by name ports k) n → IsNetlist n → IsMapped n l m g
+lent_mapped m checked g sub l passed room ps parts k sk name ports is_name is_ports n finished sound =
+    is_mapped m checked g sub l passed room ps parts k sk n
+    (subst (λ (xs : List Port). IsFinished (draft_by m.name xs k) n) is_ports (subst (λ (t : List ℕ). IsFinished (draft_by t ports k) n) is_name finished)) sound

@@ -1,0 +1,5 @@
+pub mod Reached
+pub mod Netlist
+pub mod Tied
+pub mod Draft
+pub mod Mapped

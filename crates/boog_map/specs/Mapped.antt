@@ -1,0 +1,51 @@
+-- The stages of mapping.
+use Rattle.std.specs.Prelude.{◌≡◌, Bool, List, ◌++◌, map, length}
+use Rattle.vlsi_base.specs.declared.name.Terminal.{Terminal}
+use Rattle.vlsi_base.specs.Names.{vdd, vss}
+use Rattle.machine_meaning.specs.Machine.{Machine, inputs}
+use Rattle.cell_model.specs.Library.{Library}
+use Rattle.cell_pins.specs.Pins.{with_supply}
+use Rattle.net_core.specs.Netlist.{Netlist as InMemory, IsNetlist, port}
+use Rattle.net_view.specs.Right.{IsRightNetlist, HasPinsOfCells}
+use Rattle.graph_theory.specs.Graph.{Graph, held_count}
+use Rattle.boog_map.specs.declared.part.Parts.{Parts}
+use Rattle.boog_map.specs.declared.place.Plan.{Plan}
+use Rattle.boog_map.specs.declared.place.Spot.{Spot}
+use Rattle.boog_map.specs.declared.build.Sketch.{Sketch}
+use Rattle.boog_map.specs.Reached.{AreReached}
+use Rattle.boog_map.specs.Draft.{register_spots, gate_spots, gate_drivers, output_terminal, tied_ports, AreDrivers}
+use Rattle.boog_map.specs.Netlist.{UsesFirstCells, StandsInOrder, HasOneCellEach, IsLeanFor}
+
+-- the instances of registers and of marked nodes
+abbrev pub spots_of : Machine → Graph → List Bool → List Spot
+spots_of m g marks = register_spots (length (inputs m)) 0 g.loads ++ gate_spots marks (held_count m) 0 g.nodes
+
+-- the terminals that show inputs, registers and nodes
+abbrev pub drivers_of : Machine → Graph → Parts → List Bool → List Terminal
+drivers_of m g ps marks =
+    map port (inputs m)
+    ++ (map (output_terminal ps) (register_spots (length (inputs m)) 0 g.loads) ++ gate_drivers ps marks (held_count m) 0 g.nodes)
+
+pub record IsPlan (m : Machine) (g : Graph) (ps : Parts) (plan : Plan) : Type 0 where
+  pub marks : List Bool
+  pub reached : AreReached (held_count m) g marks
+  pub spots : plan.spots.items ≡ spots_of m g marks
+  pub drivers : plan.drivers.items ≡ drivers_of m g ps marks
+
+pub record IsSketch (m : Machine) (g : Graph) (ps : Parts) (k : Sketch) : Type 0 where
+  pub parts : k.parts ≡ ps
+  pub marks : List Bool
+  pub reached : AreReached (held_count m) g marks
+  pub spots : k.spots.items ≡ spots_of m g marks
+  pub drivers : AreDrivers m.clock (drivers_of m g ps marks) k.drivers
+  pub ports : k.ports.items ≡ tied_ports m.clock g.outputs 0 0 (with_supply vss (with_supply vdd m.ports))
+
+-- what is known of the netlist
+pub record IsMapped (n : InMemory) (l : Library) (m : Machine) (g : Graph) : Type 0 where
+  pub right : IsRightNetlist n l m
+  pub pins : HasPinsOfCells n l
+  pub first : UsesFirstCells n l
+  pub order : StandsInOrder n l m
+  pub each : HasOneCellEach n m g
+  pub lean : IsLeanFor n m
+  pub sound : IsNetlist n

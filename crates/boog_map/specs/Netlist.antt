@@ -1,0 +1,64 @@
+-- What mapping asks of a machine and of a library, and what it gives beside a right netlist.
+use Rattle.std.specs.Prelude.{◌≡◌, ◌==◌, ◌↔◌, ℕ, ◌+◌, ◌*◌, ◌^◌, ◌<◌, Bool, not, List, [], ◌∷◌, length, Some, slice_get, IsTrue, filter}
+use Rattle.vlsi_base.specs.Member.{In}
+use Rattle.bool_expr.specs.Expression.{bit}
+use Rattle.machine_meaning.specs.Machine.{Machine}
+use Rattle.machine_meaning.specs.Size.{machine_size}
+use Rattle.cell_model.specs.declared.kind.Kind.{Kind}
+use Rattle.cell_model.specs.Cell.{Cell}
+use Rattle.cell_model.specs.Library.{Library, IsUsable}
+use Rattle.cell_model.specs.Covering.{HasKind, HasCellOf, needed, IsFirstMissing}
+use Rattle.net_core.specs.Netlist.{Instance, Netlist as InMemory}
+use Rattle.net_core.specs.Places.{IsThere}
+use Rattle.net_meaning.specs.Netlist.{Netlist}
+use Rattle.net_view.specs.View.{IsSeenAs}
+use Rattle.ocp_rows.specs.Placement.{Placement}
+use Rattle.ocp_rows.specs.Order.{IsInNetlistOrder, IsLean}
+use Rattle.graph_theory.specs.Graph.{Graph, held_count}
+use Rattle.boog_map.specs.declared.error.MapError.{MapError}
+use Rattle.boog_map.specs.declared.error.MapError.TheVariants as error
+use Rattle.boog_map.specs.Reached.{IsReached}
+
+abbrev pub has_registers : Machine → Bool
+has_registers m = not (length m.registers == 0)
+
+-- the pins of a netlist's instances are fewer than 2^32
+abbrev pub HasRoomForCells : Machine → Type 0
+HasRoomForCells m = 8 * (length m.ports + length m.registers + machine_size m + 4) < 2 ^ 32
+
+-- the library has a usable cell of each kind that mapping needs
+abbrev pub Covers : Library → Machine → Type 0
+Covers l m = (k : Kind) → In k (needed (has_registers m)) → HasCellOf l.cells k
+
+-- why a machine isn't mapped, if memory hasn't run out
+abbrev pub IsMapRefusal : Library → Machine → MapError → Type 0
+IsMapRefusal l m error.Memory = Unit {0}
+IsMapRefusal l m (error.NoCover k) = IsFirstMissing l.cells k (needed (has_registers m))
+
+-- the first usable cell of a kind
+pub record IsChosen (cells : List Cell) (k : Kind) (c : Cell) : Type 0 where
+  pub place : ℕ
+  pub stands : slice_get cells place ≡ Some c
+  pub usable : IsUsable c
+  pub kind : HasKind c k
+  pub first : (j : ℕ) (d : Cell) → j < place → slice_get cells j ≡ Some d → IsUsable d → HasKind d k → ⊥
+
+-- each instance has the first usable cell of some kind
+abbrev pub UsesFirstCells : InMemory → Library → Type 0
+UsesFirstCells n l = (i : Instance) → IsThere n.instances i → (k : Kind) × (c : Cell) × IsChosen l.cells k c × (i.model ≡ c.name)
+
+-- in one row its instances stand in the order of a netlist: q0, q1 and so on, then g0, g1 and so on, each gate after those
+-- that it reads
+abbrev pub StandsInOrder : InMemory → Library → Machine → Type 0
+StandsInOrder n l m = (k : Netlist) (p : Placement) → IsSeenAs n k → p.rows ≡ k.instances ∷ [] → IsInNetlistOrder k l m p
+
+-- there is one cell for each register and for each node that is reached from a root
+pub record HasOneCellEach (n : InMemory) (m : Machine) (g : Graph) : Type 0 where
+  pub reached : List Bool
+  pub many : length reached ≡ length g.nodes
+  pub each : (j : ℕ) → j < length g.nodes → IsTrue (bit reached j) ↔ IsReached (held_count m) g (held_count m + j)
+  pub count : length n.instances ≡ length m.registers + length (filter (λ b. b) reached)
+
+-- so at most 2 more gates than the machine's size
+abbrev pub IsLeanFor : InMemory → Machine → Type 0
+IsLeanFor n m = (k : Netlist) → IsSeenAs n k → IsLean k m
