@@ -22,3 +22,5 @@ pub use frame::Node;
 pub use netlist::Netlist;
 pub use ordering::class_order;
 pub use pins::{ModelPin, ModelPins, PinPlaces, PinTable};
+pub use roles::{model_names, pins_of};
+pub use roll::Roll;

@@ -1,0 +1,6 @@
+pub mod Texts
+pub mod Runs
+pub mod Once
+pub mod Signals
+pub mod Joined
+pub mod Tested

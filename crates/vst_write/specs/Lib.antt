@@ -1,0 +1,5 @@
+pub mod Groups
+pub mod Structure
+pub mod Nets
+pub mod Written
+pub mod Pieces
