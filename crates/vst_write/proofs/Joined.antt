@@ -1,11 +1,15 @@
 -- Pins and their nets, and instances, one after the other.
-use Rattle.std.proofs.Common.{◌≡◌, ℕ, zero, suc, ◌+◌, ◌-◌, ◌<◌, ◌≤◌, List, [], ◌∷◌, ◌++◌, map, length, take, drop, get_or, refl, sym, ap, subst, ◌∙◌, append_assoc, append-nil, length-append, length-drop, length-take, arith}
+use Rattle.std.proofs.Common.{◌≡◌, ℕ, zero, suc, ◌+◌, ◌-◌, ◌<◌, ◌≤◌, List, [], ◌∷◌, ◌++◌, map, length, take, drop, get_or, refl, sym, ap, subst, ◌∙◌, append_assoc, append-nil, length-append, length-drop, arith}
 use Rattle.std.specs.List.{All, flat_map}
-use Rattle.std.proofs.lemmas.List.{drop_more, drop_all, length-map, length-take-le}
+use Rattle.std.proofs.lemmas.List.{drop_more, drop_all, length-map, length-take-le, take_all}
+use Rattle.std.proofs.lemmas.List.Elements.{All-drop}
 use Rattle.vlsi_base.specs.declared.name.Name.{Name}
+use Rattle.vlsi_base.specs.declared.name.Port.{Port}
 use Rattle.vlsi_base.specs.Names.{scalar}
 use Rattle.spell_theory.specs.Layout.{text_of}
-use Rattle.net_core.specs.Netlist.{Instance, pins_of, pin_of}
+use Rattle.net_core.specs.declared.frame.Node.{Node}
+use Rattle.net_core.specs.Frame.{instance_of}
+use Rattle.net_core.specs.Netlist.{Instance, Netlist, IsNetlist, port, pins_of, pin_of}
 use Rattle.vst_write.specs.Structure.{Mapping, mapping_layout, mappings_layout, instance_end, instances_layout, instance_layout}
 use Rattle.vst_write.specs.Written.{mapped, instance_with, instances_with}
 use Rattle.vst_write.specs.Pieces.{label_text, maps_text}
@@ -125,3 +129,28 @@ pub instances_end : (start : List ℕ) (nets : List Name) (all : List Instance) 
     → out ≡ start ++ text_of (instances_layout (instances_with nets all classes))
 instances_end start nets all classes k rest out past w =
     sym (append-nil out) ∙ sym (ap (λ (is : List Instance). out ++ text_of (instances_layout (instances_with nets is rest))) (drop_all k all past)) ∙ w.whole
+
+-- before the first instance
+pub instances_start : (n : Netlist) (nets : List Name) (models : List (List ℕ)) (nodes : List Node) (start classes : List ℕ) (ports : List Port) → classes ≡ n.classes → ports ≡ n.ports
+    → map (instance_of models) nodes ≡ n.instances → IsNetlist n → All (λ class. class < length nets) n.classes
+    → Instances start nets (map (instance_of models) nodes) (drop (length n.ports) n.classes) 0 (take (length classes - length ports) (drop (length ports) classes)) start
+instances_start n nets models nodes start classes ports cs ps seen sound within =
+    let own = drop (length n.ports) n.classes in
+    let rest : take (length classes - length ports) (drop (length ports) classes) ≡ own =
+    ap (λ (ks : List ℕ). take (length ks - length ports) (drop (length ports) ks)) cs
+    ∙ ap (λ (qs : List Port). take (length n.classes - length qs) (drop (length qs) n.classes)) ps
+    ∙ take_all (length n.classes - length n.ports) own (let l = length-drop (length n.ports) n.classes in omega (arith, l)) in
+    let all = map (instance_of models) nodes in
+    let many : length own ≡ pin_total all =
+    let each = sound.each in
+    let a = length-append (map (λ (p : Port). port p.name) n.ports) (flat_map pins_of n.instances) in
+    let b : length (map (λ (p : Port). port p.name) n.ports) ≡ length n.ports = length-map n.ports (λ (p : Port). port p.name) in
+    let t = total_pins n.instances in
+    let d : length own ≡ length n.classes - length n.ports = length-drop (length n.ports) n.classes in
+    let same : pin_total all ≡ pin_total n.instances = ap pin_total seen in
+    omega (arith, each, a, b, t, d, same) in
+    record {
+      whole = ap (λ (ks : List ℕ). start ++ text_of (instances_layout (instances_with nets all ks))) rest;
+      many = ap (λ (ks : List ℕ). length ks) rest ∙ many;
+      inside = subst (All (λ class. class < length nets)) (sym rest) (All-drop (λ class. class < length nets) (length n.ports) n.classes within);
+    }

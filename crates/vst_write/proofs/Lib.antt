@@ -4,3 +4,4 @@ pub mod Once
 pub mod Signals
 pub mod Joined
 pub mod Tested
+pub mod Whole

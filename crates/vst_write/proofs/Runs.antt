@@ -6,7 +6,7 @@ use Rattle.std.proofs.lemmas.Option.{slice_get_within, get_or_from_slice_get, sl
 use Rattle.std.proofs.lemmas.Slice.Eq.{bytes_eq-Decides}
 use Rattle.vlsi_base.specs.declared.name.Port.{Port}
 use Rattle.spell_theory.specs.Layout.{text_of}
-use Rattle.vhdl_again.specs.Outline.{OnePort, port_layout, ports_layout}
+use Rattle.vhdl_again.specs.Outline.{port_layout, ports_layout}
 use Rattle.net_core.specs.Places.{Stands}
 use Rattle.net_core.proofs.Standing.{stands_same}
 use Rattle.net_core.proofs.Lookups.{same_of}

@@ -1,11 +1,11 @@
 -- Names of classes: ports that are the first of their class, and signals whose text no port has.
 use Rattle.std.proofs.Common.{◌≡◌, ℕ, zero, suc, ◌+◌, ◌-◌, ◌<◌, ◌≤◌, ◌^◌, Bool, true, false, not, ◌&&◌, cond, List, [], ◌∷◌, ◌++◌, map, length, take, drop, get_or, Option, None, Some, is_none, is_some, nat_eq, bytes_eq, filter, refl, sym, ap, subst, ◌∙◌, append_assoc, append-nil, arith}
 use Rattle.std.specs.Prelude.{MatchOption}
-use Rattle.std.specs.List.{list_all}
+use Rattle.std.specs.List.{list_all, flat_map}
 use Rattle.std.specs.Fmt.{decimal}
 use Rattle.std.proofs.lemmas.List.{take_more, drop_more, drop_all, length_push, length-append, length-map, length-take-le}
 use Rattle.std.proofs.lemmas.List.Folds.{list_all-append}
-use Rattle.std.proofs.lemmas.Bool.{eqb-true, eq-eqb, ne_eqb}
+use Rattle.std.proofs.lemmas.Bool.{eq-eqb, ne_eqb}
 use Rattle.vlsi_base.specs.declared.name.Name.{Name}
 use Rattle.vlsi_base.specs.declared.name.Port.{Port}
 use Rattle.vlsi_base.specs.Names.{scalar}
@@ -13,8 +13,8 @@ use Rattle.vlsi_base.specs.Number.{value_of}
 use Rattle.vlsi_base.specs.Range.{rising}
 use Rattle.spell_theory.proofs.Letters.{decimal_is}
 use Rattle.net_core.specs.Places.{position_of, Learned}
-use Rattle.net_core.specs.Netlist.{Netlist, IsNetlist, InTurn, ended, again, first}
-use Rattle.net_core.proofs.Lookups.{same_of, itself}
+use Rattle.net_core.specs.Netlist.{Netlist, IsNetlist, InTurn, ended, again, first, port, pins_of}
+use Rattle.net_core.proofs.Lookups.{same_of}
 use Rattle.net_core.proofs.Standing.{position_push}
 use Rattle.net_core.proofs.Namings.{turn_grows}
 use Rattle.vst_write.specs.Nets.{first_ports, signal_text, is_free, signal_numbers, port_nets, signal_nets, net_names}
@@ -232,6 +232,28 @@ names_many n turns small =
     let c : length (signal_nets n) ≡ length (signal_numbers n.ports many) = length-map (signal_numbers n.ports many) signal_text in
     let d = signals_many n.ports many (omega (arith, small)) in
     omega (arith, few, a, b, c, d)
+
+turn_many : (met count : ℕ) (ks : List ℕ) → InTurn met ks count → count ≤ met + length ks
+turn_many met count [] ended = omega arith
+turn_many met count (k ∷ ks) (again l t) = let r = turn_many met count ks t in omega (arith, r)
+turn_many met count (k ∷ ks) (first t) = let r = turn_many (met + 1) count ks t in omega (arith, r)
+
+-- so has each class of a netlist, by the names as they are made
+pub each_named : (n : Netlist) (ports : List Port) (classes : List ℕ) (old new : List Name) (many : ℕ) → ports ≡ n.ports → classes ≡ n.classes → length classes < 2 ^ 32 → IsNetlist n
+    → old ≡ first_ports 0 ports classes → many ≡ n.count - length old → new ≡ old ++ map scalar (map signal_text (signal_numbers ports many)) → length new ≡ n.count
+each_named n ports classes old new many ps cs few sound old_is many_is new_is =
+    let first_is : old ≡ port_nets n = old_is ∙ ap (λ (qs : List Port). first_ports 0 qs classes) ps ∙ ap (first_ports 0 n.ports) cs in
+    let left_is : many ≡ n.count - length (port_nets n) = many_is ∙ ap (λ (os : List Name). n.count - length os) first_is in
+    let all_is : new ≡ net_names n =
+    new_is ∙ ap (λ (os : List Name). os ++ map scalar (map signal_text (signal_numbers ports many))) first_is
+    ∙ ap (λ (qs : List Port). port_nets n ++ map scalar (map signal_text (signal_numbers qs many))) ps
+    ∙ ap (λ (m : ℕ). port_nets n ++ map scalar (map signal_text (signal_numbers n.ports m))) left_is in
+    let fits : length n.classes < 2 ^ 32 = subst (λ (ks : List ℕ). length ks < 2 ^ 32) cs few in
+    let most = turn_many 0 n.count n.classes sound.turns in
+    let each = sound.each in
+    let a = length-append (map (λ (p : Port). port p.name) n.ports) (flat_map pins_of n.instances) in
+    let b : length (map (λ (p : Port). port p.name) n.ports) ≡ length n.ports = length-map n.ports (λ (p : Port). port p.name) in
+    ap (λ (ns : List Name). length ns) all_is ∙ names_many n sound.turns (omega (arith, fits, most, each, a, b))
 
 -- the port at a place
 pub a_port : (ports : List Port) (k : ℕ) → k < length ports → (p : Port) × (p ≡ get_or ports k p)

@@ -1,10 +1,10 @@
 -- Texts of layouts, one behind the other.
-use Rattle.std.proofs.Common.{◌≡◌, ℕ, ◌<◌, List, [], ◌∷◌, ◌++◌, length, Option, None, Some, refl, sym, ap, ◌∙◌, append_assoc, append-nil, arith}
+use Rattle.std.proofs.Common.{◌≡◌, ℕ, ◌<◌, List, [], ◌∷◌, ◌++◌, length, Option, None, Some, refl, sym, ap, ◌∙◌, append_assoc, arith}
 use Rattle.std.specs.Fmt.{decimal}
 use Rattle.vlsi_base.specs.declared.name.Name.{Name}
 use Rattle.vlsi_base.specs.Name.{bit_text, name_text}
 use Rattle.spell_theory.specs.Layout.{Written, gap, turn, says, spelling, text_of}
-use Rattle.vhdl_again.specs.Outline.{OnePort, Outline, port_layout, ports_layout, end_layout, entity_layout}
+use Rattle.vhdl_again.specs.Outline.{OnePort, port_layout, ports_layout, end_layout, entity_layout}
 use Rattle.net_core.specs.Netlist.{Instance}
 use Rattle.vst_write.specs.Groups.{outline_of}
 use Rattle.vst_write.specs.Structure.{Mapping, bit_layout, name_layout, mapping_layout, mappings_layout, component_end, component_layout, instance_end, instance_layout}
@@ -87,3 +87,40 @@ six out a b c d e f = append_assoc ((((out ++ a) ++ b) ++ c) ++ d) e f ∙ five 
 pub label_put : (out name model : List ℕ)
     → (((out ++ name) ++ (32 ∷ 58 ∷ 32 ∷ [])) ++ model) ++ (10 ∷ 112 ∷ 111 ∷ 114 ∷ 116 ∷ 32 ∷ 109 ∷ 97 ∷ 112 ∷ 32 ∷ 40 ∷ 10 ∷ []) ≡ out ++ label_text name model
 label_put out name model = four out name (32 ∷ 58 ∷ 32 ∷ []) model (10 ∷ 112 ∷ 111 ∷ 114 ∷ 116 ∷ 32 ∷ 109 ∷ 97 ∷ 112 ∷ 32 ∷ 40 ∷ 10 ∷ [])
+
+-- what is put one behind the other for an entity and a component
+
+pub entity_put : (out name : List ℕ) (ps : List OnePort) (a b c d e f n m : List ℕ) → 0 < length ps
+    → a ≡ out ++ 101 ∷ 110 ∷ 116 ∷ 105 ∷ 116 ∷ 121 ∷ 32 ∷ [] → n ≡ name → b ≡ a ++ n → c ≡ b ++ 32 ∷ 105 ∷ 115 ∷ 10 ∷ 112 ∷ 111 ∷ 114 ∷ 116 ∷ 32 ∷ 40 ∷ 10 ∷ []
+    → d ≡ c ++ ports_text ps → e ≡ d ++ 41 ∷ 59 ∷ 10 ∷ 101 ∷ 110 ∷ 100 ∷ 32 ∷ [] → m ≡ name → f ≡ e ++ m
+    → f ++ 59 ∷ 10 ∷ [] ≡ out ++ text_of (entity_layout (outline_of name ps))
+entity_put out name ps a b c d e f n m some ae ne be ce de ee me fe =
+    let E : List ℕ = 101 ∷ 110 ∷ 116 ∷ 105 ∷ 116 ∷ 121 ∷ 32 ∷ [] in
+    let M : List ℕ = 32 ∷ 105 ∷ 115 ∷ 10 ∷ 112 ∷ 111 ∷ 114 ∷ 116 ∷ 32 ∷ 40 ∷ 10 ∷ [] in
+    let N : List ℕ = 41 ∷ 59 ∷ 10 ∷ 101 ∷ 110 ∷ 100 ∷ 32 ∷ [] in
+    let S : List ℕ = 59 ∷ 10 ∷ [] in
+    let P : List ℕ = ports_text ps in
+    let b_is : b ≡ (out ++ E) ++ name = be ∙ ap (λ (x : List ℕ). x ++ n) ae ∙ ap (λ (x : List ℕ). (out ++ E) ++ x) ne in
+    let c_is : c ≡ ((out ++ E) ++ name) ++ M = ce ∙ ap (λ (x : List ℕ). x ++ M) b_is in
+    let d_is : d ≡ (((out ++ E) ++ name) ++ M) ++ P = de ∙ ap (λ (x : List ℕ). x ++ P) c_is in
+    let e_is : e ≡ ((((out ++ E) ++ name) ++ M) ++ P) ++ N = ee ∙ ap (λ (x : List ℕ). x ++ N) d_is in
+    let f_is : f ≡ (((((out ++ E) ++ name) ++ M) ++ P) ++ N) ++ name = fe ∙ ap (λ (x : List ℕ). x ++ m) e_is ∙ ap (λ (x : List ℕ). (((((out ++ E) ++ name) ++ M) ++ P) ++ N) ++ x) me in
+    ap (λ (x : List ℕ). x ++ S) f_is
+    ∙ append_assoc (((((out ++ E) ++ name) ++ M) ++ P) ++ N) name S
+    ∙ six out E name M P N (name ++ S)
+    ∙ ap (λ (x : List ℕ). out ++ x) (sym (entity_says name ps some))
+
+pub component_put : (out name : List ℕ) (ps : List OnePort) (a b c d n : List ℕ) → 0 < length ps
+    → a ≡ out ++ 99 ∷ 111 ∷ 109 ∷ 112 ∷ 111 ∷ 110 ∷ 101 ∷ 110 ∷ 116 ∷ 32 ∷ [] → n ≡ name → b ≡ a ++ n → c ≡ b ++ 10 ∷ 112 ∷ 111 ∷ 114 ∷ 116 ∷ 32 ∷ 40 ∷ 10 ∷ []
+    → d ≡ c ++ ports_text ps
+    → d ++ text_of component_end ≡ out ++ text_of (component_layout (outline_of name ps))
+component_put out name ps a b c d n some ae ne be ce de =
+    let C : List ℕ = 99 ∷ 111 ∷ 109 ∷ 112 ∷ 111 ∷ 110 ∷ 101 ∷ 110 ∷ 116 ∷ 32 ∷ [] in
+    let M : List ℕ = 10 ∷ 112 ∷ 111 ∷ 114 ∷ 116 ∷ 32 ∷ 40 ∷ 10 ∷ [] in
+    let P : List ℕ = ports_text ps in
+    let b_is : b ≡ (out ++ C) ++ name = be ∙ ap (λ (x : List ℕ). x ++ n) ae ∙ ap (λ (x : List ℕ). (out ++ C) ++ x) ne in
+    let c_is : c ≡ ((out ++ C) ++ name) ++ M = ce ∙ ap (λ (x : List ℕ). x ++ M) b_is in
+    let d_is : d ≡ (((out ++ C) ++ name) ++ M) ++ P = de ∙ ap (λ (x : List ℕ). x ++ P) c_is in
+    ap (λ (x : List ℕ). x ++ text_of component_end) d_is
+    ∙ five out C name M P (text_of component_end)
+    ∙ ap (λ (x : List ℕ). out ++ x) (sym (component_says name ps some))

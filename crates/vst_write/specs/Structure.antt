@@ -4,7 +4,7 @@ use Rattle.vlsi_base.specs.declared.name.Name.{Name}
 use Rattle.vhdl_token.specs.declared.keyword.Keyword.TheVariants as word
 use Rattle.vhdl_token.specs.declared.token.Sign.TheVariants as sign
 use Rattle.spell_theory.specs.Layout.{Written, gap, turn}
-use Rattle.vhdl_again.specs.Outline.{OnePort, Outline, a_word, a_sign, a_name, a_number, port_layout, ports_layout, entity_layout}
+use Rattle.vhdl_again.specs.Outline.{Outline, a_word, a_sign, a_name, a_number, port_layout, ports_layout, entity_layout}
 
 -- a pin and the net that it is joined to, by the names that the text has for them
 pub record Mapping : Type 0 where

@@ -3,14 +3,15 @@ ghost use Rattle.std.specs.Prelude.{◌≡◌, ◌++◌, ◌∷◌, ◌<◌, ◌
 ghost use Rattle.std.specs.Fmt.{decimal};
 ghost use Rattle.vlsi_base.specs.declared.name.Port.{Port};
 ghost use Rattle.spell_theory.specs.Layout.{text_of};
-ghost use Rattle.vhdl_again.specs.Outline.{type_layout, mode_word, a_word, port_layout};
+ghost use Rattle.vhdl_again.specs.Outline.{type_layout, mode_word, a_word, port_layout, entity_layout};
 ghost use Rattle.net_view.specs.Writable.{port_of};
-ghost use Rattle.vst_write.specs.Groups.{group_of, bounds_of, mode_of, declared, grouped};
+ghost use Rattle.vst_write.specs.Groups.{group_of, bounds_of, mode_of, declared, grouped, outline};
+ghost use Rattle.vst_write.specs.Structure.{component_layout};
 ghost use Rattle.vst_write.specs.Pieces.{IsRunEnd, ports_text};
 
 use net_core::ModelPin;
 use std::alloc::{AllocError, Global};
-use vlsi_base::{Dir, FileBytes, Port};
+use vlsi_base::{Dir, FileBytes, Name, Port, Text};
 
 /// A number.
 pub fn number(alloc: Global, out: &mut FileBytes, n: u32) -> Result<(), AllocError>
@@ -80,7 +81,7 @@ fn run_end(ports: &[Port], start: usize) -> usize
 }
 
 /// Ports in the order of names, each group of one text on a line.
-pub fn groups(alloc: Global, out: &mut FileBytes, ports: &[Port]) -> Result<(), AllocError>
+fn groups(alloc: Global, out: &mut FileBytes, ports: &[Port]) -> Result<(), AllocError>
     requires { 0 < length ports.now }
     ensures { OnOk result (out.new ≡ out.old ++ ports_text (map declared (grouped ports.now))) }
 {
@@ -95,8 +96,27 @@ pub fn groups(alloc: Global, out: &mut FileBytes, ports: &[Port]) -> Result<(), 
     Ok(())
 }
 
+/// The entity.
+pub fn entity(
+    alloc: Global,
+    out: &mut FileBytes,
+    name: &Text,
+    ports: &[Port],
+) -> Result<(), AllocError>
+    requires { 0 < length ports.now }
+    ensures { OnOk result (out.new ≡ out.old ++ text_of (entity_layout (outline name.now ports.now))) }
+{
+    out.append(b"entity ")?;
+    out.append(name.as_bytes())?;
+    out.append(b" is\nport (\n")?;
+    groups(alloc, out, ports)?;
+    out.append(b");\nend ")?;
+    out.append(name.as_bytes())?;
+    out.append(b";\n")
+}
+
 /// Pins as the ports of their model.
-pub fn pin_ports(alloc: Global, pins: &[ModelPin]) -> Result<Vec<Port>, AllocError>
+fn pin_ports(alloc: Global, pins: &[ModelPin]) -> Result<Vec<Port>, AllocError>
     ensures { IfOk result (λ ports. ports.items ≡ map port_of pins.now) }
 {
     let mut ports = Vec::with_capacity(alloc, pins.len())?;
@@ -107,4 +127,22 @@ pub fn pin_ports(alloc: Global, pins: &[ModelPin]) -> Result<Vec<Port>, AllocErr
         })?;
     }
     Ok(ports)
+}
+
+/// The component of a model with these pins.
+pub fn component(
+    alloc: Global,
+    out: &mut FileBytes,
+    model: &Text,
+    pins: &[ModelPin],
+) -> Result<(), AllocError>
+    requires { 0 < length pins.now }
+    ensures { OnOk result (out.new ≡ out.old ++ text_of (component_layout (outline model.now (map port_of pins.now)))) }
+{
+    let ports = pin_ports(alloc, pins)?;
+    out.append(b"component ")?;
+    out.append(model.as_bytes())?;
+    out.append(b"\nport (\n")?;
+    groups(alloc, out, &ports)?;
+    out.append(b");\nend component;\n")
 }

@@ -1,10 +1,12 @@
-//! Netlists in memory as structural texts: how they are laid out, and parts of the writer.
+//! Netlists in memory, written as structural texts.
 #![tactic(auto)]
 
 mod error;
 mod groups;
+mod instances;
 mod nets;
+mod test;
+mod writer;
 
 pub use error::WriteError;
-pub use groups::{groups as port_groups, pin_ports};
-pub use nets::net_names;
+pub use writer::write_vst;

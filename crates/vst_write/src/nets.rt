@@ -72,6 +72,7 @@ fn push_signals(
 pub fn net_names(alloc: Global, netlist: &Netlist) -> Result<(Vec<Name>, usize), AllocError>
     ensures names { IfOk result (λ made. made.0.items ≡ net_names netlist.now) }
     ensures ports { IfOk result (λ made. made.1 ≡ length (port_nets netlist.now)) }
+    ensures each { IfOk result (λ made. length made.0.items ≡ netlist.now.count) }
     ensures sound { OnOk result (IsNetlist netlist.now) }
 {
     let ports = netlist.ports();

@@ -1,4 +1,4 @@
-use Rattle.std.proofs.Common.{◌≡◌, ◌++◌, ◌-◌, ◌∙◌, List, ℕ, ap, arith}
+use Rattle.std.proofs.Common.{◌++◌, ◌-◌, ◌∙◌, List, ℕ, ap, arith}
 use Rattle.spell_theory.specs.Layout.{text_of}
 use Rattle.vhdl_again.specs.Outline.{port_layout}
 use Rattle.vst_write.specs.Groups.{group_of, declared}

@@ -1,5 +1,4 @@
-use Rattle.std.proofs.Common.{◌≡◌, ◌<◌, ◌≤◌, ◌-◌, ℕ, length}
-use Rattle.vlsi_base.specs.declared.name.Port.{Port}
+use Rattle.std.proofs.Common.{◌-◌, length}
 use Rattle.vst_write.proofs.Runs.{OneText}
 use Rattle.vst_write.proofs.groups.run_end.Given as goal
 
