@@ -6,23 +6,20 @@ use Rattle.std.proofs.lemmas.List.{map-append, take_more}
 use Rattle.vlsi_base.specs.declared.name.Name.{Name}
 use Rattle.vlsi_base.specs.declared.name.Port.{Port}
 use Rattle.vlsi_base.specs.declared.name.Terminal.{Terminal}
-use Rattle.vlsi_base.specs.Member.{In, here, there}
-use Rattle.cell_model.proofs.Members.{In-at, In-left, In-right}
+use Rattle.vlsi_base.specs.Member.{In}
+use Rattle.cell_model.proofs.Members.{In-at}
 use Rattle.net_core.specs.declared.error.BuildError.{BuildError}
 use Rattle.net_core.specs.declared.error.BuildError.TheVariants as error
-use Rattle.net_core.specs.Places.{Stands, IsThere, NoneTwice}
-use Rattle.net_core.specs.Netlist.{Instance, AreInOrder, pins_of, terminals_of, port}
+use Rattle.net_core.specs.Places.{Stands, IsThere}
+use Rattle.net_core.specs.Netlist.{Instance, pins_of, terminals_of, port}
 use Rattle.net_core.specs.Frame.{IsNoPlaceFor}
 use Rattle.net_core.specs.Joins.{Draft, draft_terminals, with_instance, with_join, IsNoJoin}
 use Rattle.net_core.proofs.Frames.{mapped, unmapped}
 use Rattle.net_theory.proofs.Basics.{length-map}
-use Rattle.boog_map.specs.declared.part.Part.{Part}
 use Rattle.boog_map.specs.declared.part.Parts.{Parts}
-use Rattle.boog_map.specs.declared.place.Signal.{Signal}
 use Rattle.boog_map.specs.declared.place.Spot.{Spot}
-use Rattle.boog_map.specs.declared.drivers.Drivers.{Drivers}
 use Rattle.boog_map.specs.Tied.{part_of}
-use Rattle.boog_map.specs.Draft.{instance_of, driver, IsNumbered, join_of, with_instances, with_joins, CanJoin, IsPlaceable}
+use Rattle.boog_map.specs.Draft.{instance_of, with_instances, with_joins, IsPlaceable}
 
 -- an element at its place
 pub stands_get : {A : Type 0} (xs : List A) (i : ℕ) (x : A) → i < length xs → x ≡ get_or xs i x → Stands xs i x

@@ -4,14 +4,14 @@ use Rattle.std.proofs.Common.{◌≡◌, ◌↔◌, ℕ, zero, suc, ◌+◌, ◌
 use Rattle.std.proofs.lemmas.Bool.{eqb-true, eq-eqb, cases_lt}
 use Rattle.vlsi_base.specs.declared.name.Terminal.{Terminal}
 use Rattle.vlsi_base.specs.Member.{In, here, there}
-use Rattle.net_core.specs.Places.{Stands, NoneTwice}
+use Rattle.net_core.specs.Places.{Stands}
 use Rattle.net_core.specs.Netlist.{Netlist as InMemory, IsNetlist, InTurn, ended, again, first, terminals, HasClass}
 use Rattle.net_core.specs.Joins.{Joined, same, along, against}
 use Rattle.net_core.proofs.Frames.{mapped}
 use Rattle.net_core.proofs.Standing.{stands_same}
 use Rattle.net_core.proofs.Finishing.{netlist_terminals_once}
 use Rattle.net_meaning.specs.Netlist.{Netlist}
-use Rattle.net_theory.specs.Sources.{Source, Sourced, source_of}
+use Rattle.net_theory.specs.Sources.{Sourced, source_of}
 use Rattle.net_theory.proofs.Basics.{In-map, In-map_back, length-map}
 use Rattle.net_view.specs.View.{IsSeenAs}
 use Rattle.boog_map.specs.declared.place.Signal.{Signal}

@@ -1,5 +1,5 @@
 -- The draft of a mapped machine can be built: names of instances differ, and there is room for all terminals.
-use Rattle.std.proofs.Common.{◌≡◌, ◌⊎◌, inl, inr, ℕ, zero, suc, ◌+◌, ◌*◌, ◌^◌, ◌<◌, ◌≤◌, Bool, true, false, not, List, [], ◌∷◌, ◌++◌, length, map, filter, refl, sym, ◌∙◌, ap, subst, arith, length-append, if◌then◌else◌}
+use Rattle.std.proofs.Common.{◌≡◌, ◌⊎◌, inl, inr, ℕ, ◌+◌, ◌*◌, ◌^◌, ◌<◌, ◌≤◌, Bool, false, not, List, [], ◌∷◌, ◌++◌, length, map, filter, refl, sym, ◌∙◌, ap, subst, arith, length-append}
 use Rattle.std.specs.List.{flat_map}
 use Rattle.std.proofs.lemmas.List.Filters.{length-filter_both}
 use Rattle.vlsi_base.specs.declared.name.Name.{Name}
@@ -7,14 +7,14 @@ use Rattle.vlsi_base.specs.declared.name.Port.{Port}
 use Rattle.vlsi_base.specs.declared.name.Terminal.{Terminal}
 use Rattle.vlsi_base.specs.Names.{vdd, vss}
 use Rattle.vlsi_base.specs.Member.{In}
-use Rattle.machine_meaning.specs.Machine.{Machine, inputs, is_input, names_of}
+use Rattle.machine_meaning.specs.Machine.{Machine, inputs, is_input}
 use Rattle.machine_meaning.specs.Size.{machine_size}
 use Rattle.machine_core.specs.Checked.{IsChecked}
 use Rattle.cell_model.specs.declared.kind.Kind.{Kind}
 use Rattle.cell_model.specs.declared.kind.Kind.TheVariants as kind
 use Rattle.cell_model.specs.Cell.{Function, gate, flip_flop, other, opaque, Cell, pin_ports, cell_inputs, cell_outputs}
 use Rattle.cell_model.specs.Library.{Library, IsPlain}
-use Rattle.cell_model.specs.Covering.{IsGateOf, IsFunctionOf}
+use Rattle.cell_model.specs.Covering.{IsFunctionOf}
 use Rattle.cell_checks.specs.Checked.{IsChecked as HasPassed}
 use Rattle.cell_pins.specs.Pins.{with_supply, all_ports}
 use Rattle.cell_pins.proofs.Ports.{Sorted, sorted_of, sorted_pairs, all_sorted}
@@ -25,10 +25,9 @@ use Rattle.net_core.proofs.Standing.{Split, left, right, split}
 use Rattle.net_meaning.specs.Agreement.{register_instance}
 use Rattle.net_meaning.specs.Well.{gate_instance}
 use Rattle.net_theory.proofs.Basics.{In-map, length-map}
-use Rattle.graph_theory.specs.Graph.{Node, Graph, held_count}
+use Rattle.graph_theory.specs.Graph.{Graph, held_count}
 use Rattle.graph_theory.proofs.Names.{register_names, gate_names, not_both}
 use Rattle.subject_graph.specs.Subject.{IsSubjectGraph}
-use Rattle.boog_map.specs.declared.part.Part.{Part}
 use Rattle.boog_map.specs.declared.part.Parts.{Parts}
 use Rattle.boog_map.specs.declared.place.Signal.{Signal}
 use Rattle.boog_map.specs.declared.place.Spot.{Spot}
@@ -37,13 +36,12 @@ use Rattle.boog_map.specs.declared.build.Sketch.{Sketch}
 use Rattle.boog_map.specs.Reached.{AreReached}
 use Rattle.boog_map.specs.Netlist.{has_registers, HasRoomForCells}
 use Rattle.boog_map.specs.Tied.{part_of, AreParts, IsPart, kind_for}
-use Rattle.boog_map.specs.Draft.{instance_of, register_spots, gate_spots, gate_spot, port_signals, spot_signals, all_signals, tied_ports, driver, AreDrivers, CanJoin, IsDrawable}
-use Rattle.boog_map.specs.Mapped.{spots_of, drivers_of, IsSketch}
+use Rattle.boog_map.specs.Draft.{instance_of, register_spots, gate_spots, port_signals, spot_signals, all_signals, tied_ports, driver, AreDrivers, CanJoin, IsDrawable}
+use Rattle.boog_map.specs.Mapped.{spots_of, drivers_of}
 use Rattle.boog_map.proofs.Lists.{in_there, within, stands_number}
 use Rattle.boog_map.proofs.Rooms.{few_nodes}
 use Rattle.boog_map.proofs.Spots.{register_at, register_count, gate_at, gate_count, named_is}
 use Rattle.boog_map.proofs.Supplied.{sorted_both, two_longer}
-use Rattle.boog_map.proofs.Pins.{gate_of}
 use Rattle.boog_map.proofs.Driven.{sorted, apart, told, is_part, formed, driven, terminals_told}
 
 -- ---- how many pins a cell has

@@ -1,5 +1,5 @@
 -- The terminals of a mapped machine: each has a signal whose driver is there.
-use Rattle.std.proofs.Common.{◌≡◌, ◌≢◌, ◌⊎◌, inl, inr, ℕ, zero, suc, ◌+◌, ◌-◌, ◌<◌, ◌≤◌, ◌==◌, ◌||◌, Bool, true, false, List, [], ◌∷◌, ◌++◌, length, map, refl, sym, ◌∙◌, ap, subst, arith, Option, None, Some, get_or, length-append}
+use Rattle.std.proofs.Common.{◌≡◌, ◌≢◌, ◌⊎◌, inl, inr, ℕ, zero, suc, ◌+◌, ◌-◌, ◌<◌, ◌==◌, ◌||◌, Bool, true, false, List, [], ◌∷◌, ◌++◌, length, map, refl, sym, ◌∙◌, ap, subst, arith, Option, None, Some, get_or}
 use Rattle.std.specs.Prelude.{unwrap_or}
 use Rattle.std.specs.List.{flat_map}
 use Rattle.std.proofs.lemmas.Bool.{eq-eqb, cases_lt}
@@ -21,8 +21,8 @@ use Rattle.cell_model.proofs.Members.{All-In, In-at, In-split, In-left, In-right
 use Rattle.cell_checks.specs.Checked.{IsChecked as HasPassed}
 use Rattle.cell_pins.specs.Pins.{supply, with_supply, all_ports}
 use Rattle.cell_pins.proofs.Ports.{Sorted}
-use Rattle.net_core.specs.Places.{Stands, IsThere}
-use Rattle.net_core.specs.Netlist.{Instance, port, pin_of, pins_of, terminals_of}
+use Rattle.net_core.specs.Places.{Stands}
+use Rattle.net_core.specs.Netlist.{port, pin_of, pins_of, terminals_of}
 use Rattle.net_core.proofs.Frames.{mapped}
 use Rattle.net_core.proofs.Standing.{stands_left, stands_right}
 use Rattle.net_theory.specs.Sources.{IsNumber}
@@ -40,14 +40,14 @@ use Rattle.boog_map.specs.declared.place.Spot.{Spot}
 use Rattle.boog_map.specs.declared.ports.TiedPort.{TiedPort}
 use Rattle.boog_map.specs.declared.drivers.Drivers.{Drivers}
 use Rattle.boog_map.specs.Reached.{IsReached, AreReached, reads, shown, loaded, read}
-use Rattle.boog_map.specs.Netlist.{has_registers, IsChosen}
-use Rattle.boog_map.specs.Tied.{part_of, tied_pin, first_of, IsPart, IsPartOf, AreParts, kind_for}
+use Rattle.boog_map.specs.Netlist.{has_registers}
+use Rattle.boog_map.specs.Tied.{part_of, tied_pin, first_of, IsPart, AreParts}
 use Rattle.boog_map.specs.Draft.{tied_ports, port_signals, spot_signals, tied_signal, driver, IsNumbered, AreDrivers, instance_of, output_terminal, register_spot, register_spots, gate_spot, gate_spots, gate_drivers}
 use Rattle.boog_map.specs.Mapped.{spots_of, drivers_of}
-use Rattle.boog_map.proofs.Lists.{number_stands, stands_number, there_in, within, got}
+use Rattle.boog_map.proofs.Lists.{number_stands, there_in, within, got}
 use Rattle.boog_map.proofs.MachinePorts.{ports_sorted, ports_apart}
 use Rattle.boog_map.proofs.PortSignals.{tied, ports_told, both_keep, both_back, supply_told, input_told, output_told, clock_told, signal_told, IsPortSignal, of_clock, of_input, of_output}
-use Rattle.boog_map.proofs.Spots.{register_at, register_found, register_count, gate_at, gate_found, GateFound, shown_is}
+use Rattle.boog_map.proofs.Spots.{register_at, register_found, register_count, gate_at, gate_found, shown_is}
 use Rattle.boog_map.proofs.Supplied.{has_vdd, has_vss}
 use Rattle.boog_map.proofs.Pins.{signal_tied, output_told as pin_output_told}
 

@@ -1,17 +1,14 @@
 -- What mapping gives.
-use Rattle.std.proofs.Common.{◌≡◌, ◌≢◌, ◌⊎◌, inl, inr, ◌↔◌, ℕ, zero, suc, ◌+◌, ◌^◌, ◌<◌, Bool, true, false, ◌&&◌, List, [], ◌∷◌, ◌++◌, length, map, filter, refl, sym, ◌∙◌, ap, subst, arith, Option, None, Some, length-append, if◌then◌else◌}
+use Rattle.std.proofs.Common.{◌≡◌, ◌↔◌, ℕ, zero, suc, ◌+◌, ◌^◌, ◌<◌, Bool, true, false, ◌&&◌, List, [], ◌∷◌, length, map, refl, sym, ◌∙◌, ap, subst, arith, Option, None, Some, length-append, if◌then◌else◌}
 use Rattle.std.specs.Prelude.{IsTrue, IfOk, Result, Ok, Err}
-use Rattle.std.specs.Cmp.Lexicographic.{bytes_decides}
 use Rattle.vlsi_base.specs.declared.name.Name.{Name}
 use Rattle.vlsi_base.specs.declared.name.Port.{Port}
 use Rattle.vlsi_base.specs.declared.name.Terminal.{Terminal}
 use Rattle.vlsi_base.specs.Names.{vdd, vss}
-use Rattle.bool_expr.specs.Expression.{bit}
 use Rattle.machine_meaning.specs.Machine.{Machine, inputs, names_of}
 use Rattle.machine_meaning.specs.Named.{is_same_text, is_same_name}
 use Rattle.machine_core.specs.Checked.{IsChecked}
 use Rattle.machine_core.proofs.Names.{same_name-true, same_name-itself}
-use Rattle.cell_model.specs.declared.kind.Kind.{Kind}
 use Rattle.cell_model.specs.Cell.{Cell}
 use Rattle.cell_model.specs.Library.{Library, cell_of}
 use Rattle.cell_model.proofs.Texts.{text_same, text_itself}
@@ -38,7 +35,7 @@ use Rattle.boog_map.specs.declared.place.Spot.{Spot}
 use Rattle.boog_map.specs.declared.build.Sketch.{Sketch}
 use Rattle.boog_map.specs.Reached.{IsReached}
 use Rattle.boog_map.specs.Netlist.{has_registers, HasRoomForCells, UsesFirstCells, StandsInOrder, HasOneCellEach, IsLeanFor}
-use Rattle.boog_map.specs.Tied.{part_of, AreParts, kind_for}
+use Rattle.boog_map.specs.Tied.{AreParts, kind_for}
 use Rattle.boog_map.specs.Draft.{instance_of, register_spots, gate_spots, join_of, draft_by, IsDrawable}
 use Rattle.boog_map.specs.Mapped.{spots_of, IsSketch, IsMapped}
 use Rattle.boog_map.proofs.Spots.{register_count, behind_count, behind_length, behind_bit, marks_behind}

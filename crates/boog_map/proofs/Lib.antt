@@ -1,6 +1,6 @@
 pub mod Lists
-pub mod Firsts
 pub mod Marking
+pub mod Reaching
 pub mod Classes
 pub mod Supplied
 pub mod PortSignals
@@ -11,8 +11,12 @@ pub mod Driven
 pub mod Rooms
 pub mod Drawable
 pub mod Seating
-pub mod Tests
 pub mod Steps
+pub mod Placing
 pub mod Building
+pub mod Joining
+pub mod Adding
+pub mod Choosing
 pub mod Planning
+pub mod Planned
 pub mod Given

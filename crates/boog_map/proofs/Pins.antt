@@ -1,33 +1,31 @@
 -- The signals of an instance's pins.
-use Rattle.std.proofs.Common.{◌≡◌, ◌≢◌, ◌⊎◌, inl, inr, ℕ, zero, suc, ◌+◌, ◌<◌, Bool, true, false, not, ◌&&◌, List, [], ◌∷◌, length, filter, map, refl, sym, ◌∙◌, ap, subst, arith, Option, None, Some, if◌then◌else◌}
+use Rattle.std.proofs.Common.{◌≡◌, ◌≢◌, ℕ, Bool, true, false, not, List, [], ◌∷◌, length, filter, map, refl, sym, ◌∙◌, ap, subst, arith, Option, if◌then◌else◌}
 use Rattle.vlsi_base.specs.declared.name.Name.{Name}
 use Rattle.vlsi_base.specs.declared.name.Port.{Port}
 use Rattle.vlsi_base.specs.declared.name.Terminal.{Terminal}
 use Rattle.vlsi_base.specs.Names.{vdd, vss}
 use Rattle.vlsi_base.specs.Member.{In, here, there}
-use Rattle.bool_expr.specs.Expression.{Expression, val}
-use Rattle.machine_meaning.specs.Machine.{is_input, names_of}
+use Rattle.bool_expr.specs.Expression.{Expression}
+use Rattle.machine_meaning.specs.Machine.{is_input}
 use Rattle.machine_meaning.specs.Named.{is_same_name}
 use Rattle.machine_core.proofs.Names.{same_name-itself, same_name-false}
 use Rattle.cell_model.specs.declared.kind.Kind.{Kind}
 use Rattle.cell_model.specs.declared.kind.Kind.TheVariants as kind
 use Rattle.cell_model.specs.Cell.{Function, gate, flip_flop, other, opaque, Cell, pin_ports, cell_inputs, cell_outputs}
-use Rattle.cell_model.specs.Library.{IsUsable, IsPlain}
 use Rattle.cell_model.specs.Usable.{IsFormed}
-use Rattle.cell_model.specs.Covering.{IsGateOf, IsFunctionOf, HasKind}
+use Rattle.cell_model.specs.Covering.{IsGateOf, IsFunctionOf}
 use Rattle.net_core.specs.Netlist.{pin_of}
 use Rattle.net_theory.specs.Sources.{Source, Sourced, source_of, pin_sources}
 use Rattle.net_theory.proofs.Basics.{In-map, In-map_back}
-use Rattle.cell_pins.specs.Pins.{supply, with_supply, all_ports}
+use Rattle.cell_pins.specs.Pins.{supply, all_ports}
 use Rattle.cell_pins.proofs.Ports.{Sorted, sorted_of, in_filter}
 use Rattle.boog_map.specs.declared.part.Tie.{Tie}
 use Rattle.boog_map.specs.declared.part.Tie.TheVariants as tie
 use Rattle.boog_map.specs.declared.part.TiedPin.{TiedPin}
-use Rattle.boog_map.specs.declared.part.Part.{Part}
 use Rattle.boog_map.specs.declared.place.Signal.{Signal}
 use Rattle.boog_map.specs.declared.place.Signal.TheVariants as signal
 use Rattle.boog_map.specs.declared.place.Spot.{Spot}
-use Rattle.boog_map.specs.Tied.{first_pin, first_of, is_pin, tie_of, tied_pin, IsPart}
+use Rattle.boog_map.specs.Tied.{first_pin, first_of, is_pin, tie_of, tied_pin}
 use Rattle.boog_map.specs.Draft.{tied_signal, source_of_signal}
 use Rattle.boog_map.proofs.Supplied.{own, has_vdd, has_vss}
 

@@ -1,5 +1,5 @@
 -- The signals of ports.
-use Rattle.std.proofs.Common.{◌≡◌, ◌≢◌, ◌⊎◌, inl, inr, ℕ, zero, suc, ◌+◌, ◌<◌, ◌≤◌, Bool, true, false, not, List, [], ◌∷◌, ◌++◌, length, filter, map, refl, sym, ◌∙◌, ap, subst, arith, Option, None, Some, if◌then◌else◌, get_or, length-append}
+use Rattle.std.proofs.Common.{◌≡◌, ◌≢◌, ◌⊎◌, inl, inr, ℕ, zero, suc, ◌+◌, Bool, true, false, not, List, [], ◌∷◌, ◌++◌, filter, map, refl, sym, ◌∙◌, ap, subst, arith, Option, if◌then◌else◌, get_or}
 use Rattle.vlsi_base.specs.declared.name.Name.{Name}
 use Rattle.vlsi_base.specs.declared.name.Port.{Port}
 use Rattle.vlsi_base.specs.declared.name.Terminal.{Terminal}
@@ -7,7 +7,7 @@ use Rattle.vlsi_base.specs.Names.{vdd, vss}
 use Rattle.vlsi_base.specs.Member.{In, here, there}
 use Rattle.machine_meaning.specs.Machine.{is_input, is_clock, names_of}
 use Rattle.machine_meaning.specs.Named.{is_same_name}
-use Rattle.machine_core.proofs.Names.{same_name-true, same_name-itself, same_name-false}
+use Rattle.machine_core.proofs.Names.{same_name-false}
 use Rattle.net_core.specs.Netlist.{port}
 use Rattle.net_theory.specs.Sources.{IsNumber}
 use Rattle.cell_pins.specs.Pins.{supply, with_supply}
@@ -18,7 +18,7 @@ use Rattle.boog_map.specs.declared.ports.TiedPort.{TiedPort}
 use Rattle.boog_map.specs.declared.ports.PortUse.{PortUse}
 use Rattle.boog_map.specs.declared.ports.PortUse.TheVariants as port_use_of
 use Rattle.boog_map.specs.Draft.{port_use, use_signal, inputs_after, outputs_after, tied_ports, port_signals}
-use Rattle.boog_map.proofs.Supplied.{supplied, with_vdd, with_both, no_vdd, no_vss, sorted_vdd}
+use Rattle.boog_map.proofs.Supplied.{supplied, no_vdd, no_vss, sorted_vdd}
 
 abbrev pub tied : Name → Signal → TiedPort
 tied name s = record { name = name; signal = s }

@@ -1,62 +1,60 @@
 -- The netlist of a mapped machine maps its graph.
-use Rattle.std.proofs.Common.{◌≡◌, ◌≢◌, ◌⊎◌, inl, inr, ◌↔◌, ℕ, zero, suc, ◌+◌, ◌^◌, ◌<◌, ◌≤◌, ◌==◌, Bool, true, false, not, List, [], ◌∷◌, ◌++◌, length, map, filter, refl, sym, ◌∙◌, ap, subst, arith, Option, None, Some, get_or, length-append, if◌then◌else◌}
-use Rattle.std.specs.Prelude.{IsTrue, AllPairs}
+use Rattle.std.proofs.Common.{◌≡◌, ◌≢◌, ◌⊎◌, inl, inr, ◌↔◌, ℕ, suc, ◌+◌, ◌^◌, ◌<◌, ◌==◌, Bool, true, false, not, List, [], ◌∷◌, ◌++◌, length, map, filter, refl, sym, ◌∙◌, ap, subst, arith, Some, get_or, length-append, if◌then◌else◌}
+use Rattle.std.specs.Prelude.{AllPairs}
 use Rattle.std.specs.List.{flat_map}
 use Rattle.std.proofs.lemmas.Bool.{eqb-true}
 use Rattle.std.proofs.lemmas.List.{map-append}
 use Rattle.vlsi_base.specs.declared.name.Name.{Name}
 use Rattle.vlsi_base.specs.declared.name.Port.{Port}
 use Rattle.vlsi_base.specs.declared.name.Terminal.{Terminal}
-use Rattle.vlsi_base.specs.Names.{vdd, vss, comes_before}
+use Rattle.vlsi_base.specs.Names.{vdd, vss}
 use Rattle.vlsi_base.specs.Member.{In, here, there, AllDifferent}
-use Rattle.bool_expr.specs.Expression.{Expression, val, bit}
-use Rattle.machine_meaning.specs.Machine.{Machine, inputs, outputs, is_input, names_of}
-use Rattle.machine_meaning.specs.Named.{is_same_text}
+use Rattle.bool_expr.specs.Expression.{Expression}
+use Rattle.machine_meaning.specs.Machine.{Machine, inputs, is_input, names_of}
 use Rattle.machine_core.specs.Checked.{IsChecked}
 use Rattle.cell_model.specs.declared.kind.Kind.{Kind}
 use Rattle.cell_model.specs.declared.kind.Kind.TheVariants as kind
-use Rattle.cell_model.specs.Cell.{Function, gate, flip_flop, Cell, pin_ports, cell_inputs, cell_outputs}
-use Rattle.cell_model.specs.Library.{Library, cell_of, cell_named, IsUsable, IsPlain}
+use Rattle.cell_model.specs.Cell.{Function, gate, flip_flop, Cell, pin_ports, cell_inputs}
+use Rattle.cell_model.specs.Library.{Library, cell_of, cell_named, IsPlain}
 use Rattle.cell_model.specs.Usable.{IsFormed}
 use Rattle.cell_model.specs.Covering.{HasKind, IsGateOf}
 use Rattle.cell_model.proofs.Members.{In-left, In-right}
 use Rattle.cell_model.proofs.Texts.{text_itself, text_differs}
 use Rattle.sym_shapes.specs.Shape.{connector_names}
 use Rattle.cell_checks.specs.Checked.{IsChecked as HasPassed}
-use Rattle.cell_pins.specs.Pins.{supply, with_supply, all_ports}
+use Rattle.cell_pins.specs.Pins.{with_supply, all_ports}
 use Rattle.cell_pins.proofs.Ports.{sorted_of, sorted_filter, sorted_different}
-use Rattle.net_core.specs.Places.{Stands, IsThere}
-use Rattle.net_core.specs.Netlist.{Instance, Netlist as InMemory, IsNetlist, port, pin_of, terminals, terminals_of, pins_of, HasClass}
-use Rattle.net_core.specs.Joins.{Joined, IsFinished}
+use Rattle.net_core.specs.Places.{IsThere}
+use Rattle.net_core.specs.Netlist.{Netlist as InMemory, IsNetlist, port, pin_of, terminals, terminals_of, pins_of, HasClass}
+use Rattle.net_core.specs.Joins.{Joined}
 use Rattle.net_core.proofs.Frames.{unmapped}
 use Rattle.net_meaning.specs.Netlist.{Member, Netlist, IsTerminal, a_port, a_pin}
 use Rattle.net_meaning.specs.Agreement.{register_instance}
 use Rattle.net_meaning.specs.Well.{gate_instance}
-use Rattle.net_theory.specs.Sources.{Source, high, low, ticking, node, IsNumber, Seat, Sourced, source_of, pin_sources, ComesFrom}
-use Rattle.net_theory.proofs.Basics.{In-map, In-map_back, length-map, number_below, number_in, number_of}
-use Rattle.net_view.specs.View.{IsSeenAs, member_of, netlist_by}
-use Rattle.graph_theory.specs.Graph.{Node, fixed, inv, nand, Graph, held_count, graph_roots}
+use Rattle.net_theory.specs.Sources.{Source, node, IsNumber, Seat, Sourced, source_of, pin_sources, ComesFrom}
+use Rattle.net_theory.proofs.Basics.{In-map, In-map_back, length-map, number_below}
+use Rattle.net_view.specs.View.{IsSeenAs, member_of}
+use Rattle.graph_theory.specs.Graph.{Node, fixed, inv, nand, Graph, held_count}
 use Rattle.graph_theory.specs.Maps.{IsCut, IsPlaced, IsRegisterSeat, IsGateSeat, Maps, Computes}
 use Rattle.graph_theory.proofs.Values.{plain_is_cut}
 use Rattle.subject_graph.specs.Subject.{IsSubjectGraph}
 use Rattle.boog_map.specs.declared.part.TiedPin.{TiedPin}
-use Rattle.boog_map.specs.declared.part.Part.{Part}
 use Rattle.boog_map.specs.declared.part.Parts.{Parts}
 use Rattle.boog_map.specs.declared.place.Signal.{Signal}
 use Rattle.boog_map.specs.declared.place.Signal.TheVariants as signal
 use Rattle.boog_map.specs.declared.place.Spot.{Spot}
 use Rattle.boog_map.specs.declared.drivers.Drivers.{Drivers}
 use Rattle.boog_map.specs.Reached.{AreReached}
-use Rattle.boog_map.specs.Netlist.{has_registers, HasRoomForCells}
+use Rattle.boog_map.specs.Netlist.{has_registers}
 use Rattle.boog_map.specs.Tied.{part_of, first_of, tied_pin, AreParts, IsPart, kind_for}
 use Rattle.boog_map.specs.Draft.{instance_of, register_spot, register_spots, gate_spot, gate_spots, spot_signals, tied_signal, driver, join_of, source_of_signal, AreDrivers}
 use Rattle.boog_map.specs.Mapped.{spots_of, drivers_of}
 use Rattle.boog_map.proofs.Lists.{in_there, there_in, within, stands_number, number_stands, got}
-use Rattle.boog_map.proofs.Classes.{signal_at, sourced_by, source_told, class_told, one_class, class_origin}
-use Rattle.boog_map.proofs.Spots.{register_at, register_count, gate_at, gate_count, rising, shown_is, named_is}
+use Rattle.boog_map.proofs.Classes.{sourced_by, source_told, class_told, one_class, class_origin}
+use Rattle.boog_map.proofs.Spots.{register_at, register_count, gate_at, rising, shown_is, named_is}
 use Rattle.boog_map.proofs.Supplied.{names}
-use Rattle.boog_map.proofs.Pins.{gate_of, flip_of, vdd_told, vss_told, output_told, input_told, output_source, no_inputs, one_input, two_inputs, data_source, clock_source}
-use Rattle.boog_map.proofs.Driven.{Begins, sorted, apart, told, on_vdd, on_vss, on_clock, on_input, on_output, is_part, cell_in, formed, spot_told, output_in, driven, terminals_told}
+use Rattle.boog_map.proofs.Pins.{gate_of, flip_of, vdd_told, vss_told, output_source, no_inputs, one_input, two_inputs, data_source, clock_source}
+use Rattle.boog_map.proofs.Driven.{Begins, sorted, apart, told, on_vdd, on_vss, on_clock, on_input, on_output, is_part, cell_in, formed, spot_told, driven, terminals_told}
 
 -- a cell of the library is found by its name
 pub cell_found : (cells : List Cell) → AllPairs (λ a b. a.name ≢ b.name) cells → (c : Cell) → In c cells → cell_named cells c.name ≡ Some c

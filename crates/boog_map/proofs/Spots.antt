@@ -1,6 +1,5 @@
 -- The instances of registers and of marked nodes.
-use Rattle.std.proofs.Common.{◌≡◌, ℕ, zero, suc, ◌+◌, ◌<◌, ◌≤◌, Bool, true, false, List, [], ◌∷◌, ◌++◌, map, length, refl, sym, ◌∙◌, ap, subst, arith, if◌then◌else◌, filter}
-use Rattle.vlsi_base.specs.declared.name.Terminal.{Terminal}
+use Rattle.std.proofs.Common.{◌≡◌, ℕ, zero, suc, ◌+◌, ◌<◌, ◌≤◌, Bool, true, false, List, [], ◌∷◌, length, refl, sym, ◌∙◌, ap, subst, arith, if◌then◌else◌, filter}
 use Rattle.vlsi_base.specs.Names.{vss}
 use Rattle.bool_expr.specs.Expression.{bit}
 use Rattle.net_core.specs.Netlist.{port}

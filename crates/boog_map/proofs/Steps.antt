@@ -1,8 +1,7 @@
 -- One more instance, terminal or port behind those so far.
-use Rattle.std.proofs.Common.{◌≡◌, ℕ, suc, ◌+◌, ◌<◌, ◌≤◌, Bool, true, false, not, List, [], ◌∷◌, ◌++◌, length, map, filter, drop, get_or, refl, sym, ◌∙◌, ap, subst, arith, add-one, append_assoc, Option, if◌then◌else◌}
+use Rattle.std.proofs.Common.{◌≡◌, ℕ, suc, ◌+◌, ◌<◌, ◌≤◌, Bool, true, false, not, List, [], ◌∷◌, ◌++◌, length, map, filter, drop, get_or, refl, sym, ◌∙◌, ap, arith, add-one, append_assoc, Option, if◌then◌else◌}
 use Rattle.vlsi_base.specs.declared.name.Name.{Name}
 use Rattle.vlsi_base.specs.declared.name.Port.{Port}
-use Rattle.vlsi_base.specs.declared.name.Terminal.{Terminal}
 use Rattle.vlsi_base.specs.Names.{vss}
 use Rattle.bool_expr.specs.Expression.{bit}
 use Rattle.machine_meaning.specs.Machine.{is_input}
@@ -10,8 +9,6 @@ use Rattle.net_core.specs.Netlist.{port}
 use Rattle.subject_table.specs.declared.table.Node.{Node as Kind}
 use Rattle.subject_table.specs.View.{node_view}
 use Rattle.boog_map.specs.declared.part.Parts.{Parts}
-use Rattle.boog_map.specs.declared.place.Spot.{Spot}
-use Rattle.boog_map.specs.declared.ports.TiedPort.{TiedPort}
 use Rattle.boog_map.specs.declared.ports.PortUse.{PortUse}
 use Rattle.boog_map.specs.declared.ports.PortUse.TheVariants as port_use_of
 use Rattle.boog_map.specs.Draft.{register_spot, register_spots, gate_spot, gate_spots, gate_drivers, output_terminal, port_use, use_signal, inputs_after, outputs_after, HasOutput, tied_ports}

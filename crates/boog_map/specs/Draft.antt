@@ -1,5 +1,5 @@
 -- The draft of a mapped netlist: its ports and instances with the signal of each terminal.
-use Rattle.std.specs.Prelude.{◌≡◌, ℕ, ◌+◌, ◌<◌, ◌^◌, Bool, true, false, List, [], ◌∷◌, ◌++◌, map, length, Option, None, Some, slice_index_or, unwrap_or, if◌then◌else◌}
+use Rattle.std.specs.Prelude.{◌≡◌, ℕ, ◌+◌, ◌<◌, ◌^◌, Bool, true, false, List, [], ◌∷◌, ◌++◌, map, length, Option, slice_index_or, unwrap_or, if◌then◌else◌}
 use Prim.Native.Nat.{suc}
 use Rattle.std.specs.List.{flat_map}
 use Rattle.vlsi_base.specs.declared.name.Name.{Name}

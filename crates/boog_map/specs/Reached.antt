@@ -1,5 +1,5 @@
 -- The nodes of a graph that its roots need.
-use Rattle.std.specs.Prelude.{◌≡◌, ◌==◌, ◌↔◌, ℕ, ◌+◌, Bool, false, true, ◌||◌, List, length, IsTrue}
+use Rattle.std.specs.Prelude.{◌≡◌, ◌==◌, ◌↔◌, ℕ, ◌+◌, Bool, false, ◌||◌, List, length, IsTrue}
 use Rattle.vlsi_base.specs.Member.{In}
 use Rattle.bool_expr.specs.Expression.{bit}
 use Rattle.net_theory.specs.Sources.{IsNumber}
