@@ -11,7 +11,7 @@ use Rattle.net_core.specs.declared.frame.Node.{Node}
 use Rattle.net_core.specs.declared.pins.ModelPin.{ModelPin}
 use Rattle.net_core.specs.declared.pins.ModelPins.{ModelPins}
 use Rattle.net_core.specs.declared.links.Link.{Link}
-use Rattle.net_core.specs.Places.{Stands, IsThere}
+use Rattle.net_core.specs.Places.{Stands, IsThere, NoneTwice}
 use Rattle.net_core.specs.Netlist.{Instance, Netlist, pin_of, HasClass}
 use Rattle.net_core.specs.Checks.{pins_named, DependsOn, IsRing, NamesRing}
 
@@ -99,3 +99,10 @@ pub record NamesLinks (nodes : List Node) (groups : List (Vec Link)) (ring : Lis
 abbrev pub IsCycle : List ModelPins → Netlist → Option (List Name) → Type 0
 IsCycle table n None = (ring : List Terminal) → IsRing table n ring → ⊥
 IsCycle table n (Some names) = (ring : List Terminal) × IsRing table n ring × NamesRing ring names
+
+-- The classes in an order: each stands once, behind that of each output pin on which an output pin in it depends at once.
+pub record IsClassOrder (table : List ModelPins) (n : Netlist) (order : List ℕ) : Type 0 where
+  pub inside : (c : ℕ) → IsThere order c → c < n.count
+  pub once : NoneTwice order
+  pub complete : (c : ℕ) → c < n.count → IsThere order c
+  pub behind : (a b : Terminal) (c d i j : ℕ) → DependsOn table n a b → HasClass n a c → HasClass n b d → Stands order i c → Stands order j d → j < i

@@ -12,6 +12,8 @@ mod refusals;
 mod registers;
 mod source;
 
+pub use build::few;
 pub use check::check_machine;
 pub use machine_core::Machine;
+pub use nodes::node_order;
 pub use refusals::refusal;

@@ -1,0 +1,28 @@
+use Rattle.std.proofs.Common.{◌≡◌, ◌∙◌, ◌<◌, List, ℕ, length, map, sym, ap, subst, arith}
+use Rattle.std.specs.List.{All}
+use Rattle.std.specs.Global.{Vec}
+use Rattle.bit_order.specs.Order as order
+use Rattle.net_core.specs.declared.links.Link.{Link}
+use Rattle.net_core.specs.Links.{AreGrouped, inputs_of}
+use Rattle.net_core.proofs.Rings.{link_below, each_there, group_link, inputs_inside, inputs_count}
+use Rattle.net_core.proofs.Ordering.{no_class_ring, class_ordered}
+use Rattle.net_core.proofs.ordering.class_order.Goals as goal
+
+pub grouped-requires : goal.grouped-requires
+grouped-requires c =
+    let n = c.args.netlist.now in
+    subst (λ (ls : List Link). All (λ l. l.output < c.count.result) ls) (sym c.deref.ensures.value)
+    (each_there (λ (l : Link). l.output < c.count.result) c.in_ok-links.links.items (λ l t. let b = (link_below c.args.table.now n c.in_ok-links.links.items c.in_ok-links.ensures.sound c.in_ok-links.ensures.all l t).0 in omega (arith, b, c.count.ensures)))
+
+pub order-requires-clause-inside : goal.order-requires-clause-inside
+order-requires-clause-inside c =
+    let n = c.args.netlist.now in
+    let links = c.in_ok-links.links.items in
+    let groups = c.in_ok-groups.groups.items in
+    let inputs = c.in_ok-inputs.inputs.items in
+    let grouped = subst (λ (ls : List Link). AreGrouped ls groups) c.deref.ensures.value c.in_ok-groups.ensures.grouped in
+    let e : map (λ (i : Vec ℕ). i.items) inputs ≡ inputs_of groups = c.in_ok-inputs.ensures ∙ ap inputs_of c.deref-2.ensures.value in
+    let all = group_link links groups grouped (λ (l : Link). l.input < n.count) (λ l t. (link_below c.args.table.now n links c.in_ok-links.ensures.sound c.in_ok-links.ensures.all l t).1) in
+    let many = inputs_count groups inputs e in
+    subst (λ (xs : List (Vec ℕ)). All (λ nodes. All (λ node. node < length xs) nodes.items) xs) (sym c.deref-3.ensures.value)
+    (inputs_inside groups inputs n.count e all (omega (arith, many, c.in_ok-groups.ensures.many, c.count.ensures)) c.in_ok-links.links)
