@@ -74,7 +74,7 @@ bits b = var_bits b.s b.places
 
 tabled : (b : Made) → IsTabled (names b) (bits b) b.table
 tabled b = record {
-  names = b.is.names;
+  names_differ = b.is.names;
   different = bits_different b.s b.places b.is b.laid;
   complete = bits_complete b.s b.places b.is b.laid;
   inside = bits_inside b.s b.places b.is b.laid;
@@ -132,7 +132,7 @@ ordered b = record {
 
   below : (j : ℕ) → j < length (map (λ k. equation_from (names b) b.table (driven_at b.s.driven k)) b.places) → IsOver (get_or (map (λ k. equation_from (names b) b.table (driven_at b.s.driven k)) b.places) j (equation_from (names b) b.table (driven_at b.s.driven 0))).expr (length (held_names b.m) + j)
   below j l =
-      let f = λ k. equation_from (names b) b.table (driven_at b.s.driven k) in
+      let f = λ (k : ℕ). equation_from (names b) b.table (driven_at b.s.driven k) in
       let n = length-map b.places f in
       let low : j < length b.places = omega (arith, l, n) in
       let at : get_or (map f b.places) j (f 0) ≡ f (slice_index b.places j) = get_or-map f b.places j 0 (f 0) low in
@@ -143,13 +143,13 @@ ordered b = record {
 
 pub checked : (b : Made) → IsChecked b.m
 checked b = record {
-  ports = subst (λ (ps : List Port). AreInOrder (names_of ps)) (sym b.ports_are) b.fits.ports;
+  ports = subst (λ (ps : List Port). AreInOrder (names_of ps)) (sym b.ports_are) b.fits.order;
   registers = subst (λ (ns : List Name). AreInOrder ns) (sym (registers_are b)) b.fits.registers;
   supplies = All-from_In IsNoSupply (names_of b.m.ports ++ b.m.vars) supplies;
   driven = driven;
   clock = λ name e. record {
     scalar = b.fits.scalar name (sym b.clock_is ∙ e);
-    port = port name (b.fits.clock name (sym b.clock_is ∙ e));
+    port = port name (b.fits.listed name (sym b.clock_is ∙ e));
     apart = λ i. b.fits.apart name (sym b.clock_is ∙ e) (in_names name i);
   };
   clocked = λ e. b.registers ∙ ap (map (λ (r : NumberedStorage). register_from (names b) b.table r)) (b.fits.clocked (sym b.clock_is ∙ e));
@@ -235,7 +235,7 @@ forth b held i x h = record {
   stored = sym (stored_values b x) ∙ h.registers;
   driven = λ d j.
       let r = place_of_In b.s.driven d j in
-      let f = λ k. equation_from (names b) b.table (driven_at b.s.driven k) in
+      let f = λ (k : ℕ). equation_from (names b) b.table (driven_at b.s.driven k) in
       let among : In (f r.0) (map f b.places) = In-map f r.0 b.places (place_there b.s b.places b.laid r.0 r.1) in
       let e = All_In (HoldsIn b.m x) b.m.equations h.equations (f r.0) (subst (λ (es : List Equation). In (f r.0) es) (sym b.equations) among) in
       let e2 = subst (λ (d : Numbered). value_at b.m.vars x (name_at (names b) d.bit) ≡ val (renumbered b.table d.expr) x) (r.2 no_bit) e in
@@ -252,7 +252,7 @@ back b held i y h = (map (bit y) (bits b), settles, shown) where
 
   equation : (e : Equation) → In e (map (λ k. equation_from (names b) b.table (driven_at b.s.driven k)) b.places) → HoldsIn b.m (map (bit y) (bits b)) e
   equation e j =
-      let f = λ k. equation_from (names b) b.table (driven_at b.s.driven k) in
+      let f = λ (k : ℕ). equation_from (names b) b.table (driven_at b.s.driven k) in
       let r = In-map_back f e b.places j in
       let d = driven_at b.s.driven r.0 in
       let there_is : In d b.s.driven = In-at b.s.driven r.0 no_bit (place_below b.s b.places b.laid r.0 r.1) in
@@ -282,14 +282,15 @@ loads b held i x h =
     ap (λ c. cond c (val (renumbered b.table r.next) x) (value_at b.m.vars x (name_at (names b) r.bit))) (value_is b x h.each r.enable l.1)
     ∙ ap (λ c. cond (val r.enable y) c (value_at b.m.vars x (name_at (names b) r.bit))) (value_is b x h.each r.next l.0)
     ∙ ap (cond (val r.enable y) (val r.next y)) (sym (shown_at (names b) b.m.vars x r.bit low))) where
-      abbrev y : List Bool
+      y : List Bool
       y = bits_shown b.s b.m x
 
 pub is_machine : (b : Made) (text : List ℕ) → b.m.name ≡ text → IsMachineOfBits text b.ports b.clock b.s b.m
 is_machine b text e = record {
   text = e;
-  ports = b.ports_are;
-  clock = b.clock_is;
+  ports_are = b.ports_are;
+  clock_is = b.clock_is;
+  checked = checked b;
   registers = ap length b.registers ∙ length-map b.s.stored (λ (r : NumberedStorage). register_from (names b) b.table r);
   forth = forth b;
   back = back b;

@@ -20,7 +20,7 @@ no_name = record { text = []; bit = None }
 
 -- the bits in the order of a machine's names, with the place of each
 pub record IsTabled (names : List Name) (bits table : List ℕ) : Type 0 where
-  pub names : AllDifferent names
+  pub names_differ : AllDifferent names
   pub different : AllDifferent bits
   pub complete : (v : ℕ) → v < length names → In v bits
   pub inside : (v : ℕ) → In v bits → v < length names
@@ -30,7 +30,7 @@ pub name_once : (names : List Name) → AllDifferent names → (u v : ℕ) → u
 name_once names different u v lu lv e = sym (place_of_at names u no_name different lu) ∙ ap (place names) e ∙ place_of_at names v no_name different lv
 
 pub vars_different : (names : List Name) (bits table : List ℕ) → IsTabled names bits table → AllDifferent (map (name_at names) bits)
-vars_different names bits table t = different_map (name_at names) bits (λ u v i j e. name_once names t.names u v (t.inside u i) (t.inside v j) e) t.different
+vars_different names bits table t = different_map (name_at names) bits (λ u v i j e. name_once names t.names_differ u v (t.inside u i) (t.inside v j) e) t.different
 
 -- the place of a bit
 pub placed : (names : List Name) (bits table : List ℕ) → IsTabled names bits table → (v : ℕ) → v < length names

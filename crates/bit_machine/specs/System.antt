@@ -9,7 +9,7 @@ use Rattle.machine_meaning.specs.Named.{values_at}
 use Rattle.machine_meaning.specs.Machine.{Machine, names_of}
 use Rattle.machine_meaning.specs.Cycles.{Settles, next}
 use Rattle.machine_core.specs.Order.{In, AllDifferent}
-use Rattle.machine_core.specs.Checked.{AreInOrder, IsNoSupply}
+use Rattle.machine_core.specs.Checked.{AreInOrder, IsNoSupply, IsChecked}
 use Rattle.source_bits.specs.Driven.{Numbered, NumberedStorage, driven_view, stored_view}
 use Rattle.vlsi_model.specs.Numbered.{name_at}
 use Rattle.vlsi_model.specs.Laid.{inputs_of}
@@ -61,13 +61,13 @@ pub record Falls (driven : List Numbered) : Type 0 where
 -- The bits fit the ports and the clock of a machine: inputs but the clock are inputs, outputs are driven, names stand in their
 -- order and are no supplies, and the clock is one bit that is none of these.
 pub record FitsPorts (ports : List Port) (clock : Option Name) (s : System) : Type 0 where
-  pub ports : AreInOrder (names_of ports)
+  pub order : AreInOrder (names_of ports)
   pub registers : AreInOrder (map (name_at s.names) (stored_bits s))
   pub signals : (name : Name) → In name (names_of ports ++ s.names) → IsNoSupply name
   pub outputs : (p : Port) → In p ports → p.dir ≡ dir.Out → In p.name (map (name_at s.names) (driven_bits s))
   pub inputs : map (name_at s.names) s.inputs ≡ inputs_of clock ports
   pub scalar : (name : Name) → clock ≡ Some name → name.bit ≡ None
-  pub clock : (name : Name) → clock ≡ Some name → In (record { name = name; dir = dir.In }) ports
+  pub listed : (name : Name) → clock ≡ Some name → In (record { name = name; dir = dir.In }) ports
   pub apart : (name : Name) → clock ≡ Some name → In name s.names → ⊥
   pub clocked : clock ≡ None → s.stored ≡ []
 
@@ -89,8 +89,9 @@ bits_shown s m x = values_at m.vars x s.names
 -- The machine has this name, these ports and this clock, and settles as the bits do.
 pub record IsMachineOfBits (name : List ℕ) (ports : List Port) (clock : Option Name) (s : System) (m : Machine) : Type 0 where
   pub text : m.name ≡ name
-  pub ports : m.ports ≡ ports
-  pub clock : m.clock ≡ clock
+  pub ports_are : m.ports ≡ ports
+  pub clock_is : m.clock ≡ clock
+  pub checked : IsChecked m
   pub registers : length m.registers ≡ length s.stored
   pub forth : (held i x : List Bool) → Settles m held i x → BitsSettle s held i (bits_shown s m x)
   pub back : (held i y : List Bool) → BitsSettle s held i y → (x : List Bool) × Settles m held i x × (bits_shown s m x ≡ y)

@@ -25,6 +25,7 @@ fn driven_order(alloc: Global, system: &BitSystem) -> Result<Vec<u32>, AllocErro
 {
     let total = system.names.as_slice().len();
     few(total)?;
+    few(system.driven.len())?;
     match node_order(alloc, total as u32, &system.driven)? {
         Order::Sorted(order) => Ok(order),
         Order::Ring(_) => unreachable!(),

@@ -24,7 +24,7 @@ use Rattle.cell_pins.specs.Pins.{supply, with_supply, all_ports}
 
 -- ---- the order of names
 
-before_less : (a b : Name) → IsTrue (comes_before a b) → name_cmp a b ≡ Less
+pub before_less : (a b : Name) → IsTrue (comes_before a b) → name_cmp a b ≡ Less
 before_less a b h = by (name_cmp a b) h where
   by : (o : Ordering) → is_lt o ≡ true → o ≡ Less
   by Less e = refl
@@ -44,7 +44,7 @@ abbrev pub Sorted : List Port → Type 0
 Sorted [] = Unit {0}
 Sorted (p ∷ ps) = ((q : Port) → In q ps → IsTrue (comes_before p.name q.name)) × Sorted ps
 
-sorted_of : (ps : List Port) → AllPairs (λ a b. IsTrue (comes_before a b)) (names_of ps) → Sorted ps
+pub sorted_of : (ps : List Port) → AllPairs (λ a b. IsTrue (comes_before a b)) (names_of ps) → Sorted ps
 sorted_of [] h = tt
 sorted_of (p ∷ ps) h = (
   λ q i. let r = place-In q.name (names_of ps) (In-map (λ x. x.name) q ps i) in
@@ -70,7 +70,7 @@ in_filter t (p ∷ ps) q i = by (t p) refl i (λ j. in_filter t ps q j) where
   by true is j later = first q p (filter t ps) ps t is j later
   by false is j later = let r = later j in (there r.0, r.1)
 
-sorted_filter : (t : Port → Bool) (ps : List Port) → Sorted ps → Sorted (filter t ps)
+pub sorted_filter : (t : Port → Bool) (ps : List Port) → Sorted ps → Sorted (filter t ps)
 sorted_filter t [] s = tt
 sorted_filter t (p ∷ ps) s = by (t p) (sorted_filter t ps s.1) where
   by : (b : Bool) → Sorted (filter t ps) → Sorted (cond b (p ∷ filter t ps) (filter t ps))

@@ -18,4 +18,4 @@ pub mod Pieces
 pub mod Linking
 pub mod Rings
 pub mod Turned
-pub mod Ordering
+pub mod ClassOrders

@@ -32,7 +32,7 @@ pub record IsBodyOver (b : Body) : Type 0 where
 
 -- the text is longer than that of each port, and than those of the supplies
 pub record IsLonger (ports : List Port) (text : List ℕ) : Type 0 where
-  pub ports : All (λ p. length p.name.text < length text) ports
+  pub each : All (λ p. length p.name.text < length text) ports
   pub supplies : 3 < length text
 
 -- the first classes are those of the ports

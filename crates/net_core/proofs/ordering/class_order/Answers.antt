@@ -5,7 +5,7 @@ use Rattle.bit_order.specs.Order as order
 use Rattle.net_core.specs.declared.links.Link.{Link}
 use Rattle.net_core.specs.Links.{AreGrouped, inputs_of}
 use Rattle.net_core.proofs.Rings.{link_below, each_there, group_link, inputs_inside, inputs_count}
-use Rattle.net_core.proofs.Ordering.{no_class_ring, class_ordered}
+use Rattle.net_core.proofs.ClassOrders.{no_class_ring, class_ordered}
 use Rattle.net_core.proofs.ordering.class_order.Goals as goal
 
 pub grouped-requires : goal.grouped-requires
@@ -26,3 +26,17 @@ order-requires-clause-inside c =
     let many = inputs_count groups inputs e in
     subst (λ (xs : List (Vec ℕ)). All (λ nodes. All (λ node. node < length xs) nodes.items) xs) (sym c.deref-3.ensures.value)
     (inputs_inside groups inputs n.count e all (omega (arith, many, c.in_ok-groups.ensures.many, c.count.ensures)) c.in_ok-links.links)
+
+pub unreachable-requires : goal.unreachable-requires
+unreachable-requires c = ?
+
+pub returns : goal.returns
+returns c =
+    let n = c.args.netlist.now in
+    let links = c.in_ok-links.links.items in
+    let groups = c.in_ok-groups.groups.items in
+    let grouped = subst (λ (ls : List Link). AreGrouped ls groups) c.deref.ensures.value c.in_ok-groups.ensures.grouped in
+    let e : map (λ (i : Vec ℕ). i.items) c.deref-3.result.now ≡ inputs_of groups = ap (map (λ (i : Vec ℕ). i.items)) c.deref-3.ensures.value ∙ c.in_ok-inputs.ensures ∙ ap inputs_of c.deref-2.ensures.value in
+    let known = subst (order.IsOrderOf (map (λ (i : Vec ℕ). i.items) c.deref-3.result.now)) c.in-Sorted.is c.in_ok-order.ensures in
+    let sorted : order.IsSortedOrder (inputs_of groups) c.in-Sorted.order.items = subst (λ (xs : List (List ℕ)). order.IsSortedOrder xs c.in-Sorted.order.items) e known in
+    class_ordered c.args.table.now n links groups c.in-Sorted.order.items c.in_ok-links.ensures.sound c.in_ok-links.ensures.all grouped (c.in_ok-groups.ensures.many ∙ c.count.ensures) sorted c.in_ok-links.links
