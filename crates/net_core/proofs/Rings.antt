@@ -76,7 +76,7 @@ read_link groups c d v low r =
     let u = unmapped (λ (l : Link). l.input) items t.0 d s in
     (u.0, (t.0, u.1), u.2)
 
-link_read : (links : List Link) (groups : List (Vec Link)) → AreGrouped links groups → (v : Vec Link) (l : Link) → IsThere links l → l.output < length groups → order.Reads (inputs_of groups) l.output l.input
+pub link_read : (links : List Link) (groups : List (Vec Link)) → AreGrouped links groups → (v : Vec Link) (l : Link) → IsThere links l → l.output < length groups → order.Reads (inputs_of groups) l.output l.input
 link_read links groups are v l t low =
     let group = (get_or groups l.output v).items in
     let inputs = map (λ (x : Link). x.input) group in

@@ -28,7 +28,15 @@ order-requires-clause-inside c =
     (inputs_inside groups inputs n.count e all (omega (arith, many, c.in_ok-groups.ensures.many, c.count.ensures)) c.in_ok-links.links)
 
 pub unreachable-requires : goal.unreachable-requires
-unreachable-requires c = ?
+unreachable-requires c =
+    let n = c.args.netlist.now in
+    let links = c.in_ok-links.links.items in
+    let groups = c.in_ok-groups.groups.items in
+    let grouped = subst (λ (ls : List Link). AreGrouped ls groups) c.deref.ensures.value c.in_ok-groups.ensures.grouped in
+    let e : map (λ (i : Vec ℕ). i.items) c.deref-3.result.now ≡ inputs_of groups = ap (map (λ (i : Vec ℕ). i.items)) c.deref-3.ensures.value ∙ c.in_ok-inputs.ensures ∙ ap inputs_of c.deref-2.ensures.value in
+    let known = subst (order.IsOrderOf (map (λ (i : Vec ℕ). i.items) c.deref-3.result.now)) c.in-Ring.is c.in_ok-order.ensures in
+    let ring : order.IsRing (inputs_of groups) c.in-Ring.field-0.items = subst (λ (xs : List (List ℕ)). order.IsRing xs c.in-Ring.field-0.items) e known in
+    no_class_ring c.args.table.now n links groups c.in-Ring.field-0.items c.in_ok-links.ensures.sound c.in_ok-links.ensures.all grouped ring c.in_ok-links.links c.requires.passes
 
 pub returns : goal.returns
 returns c =
