@@ -161,7 +161,7 @@ fits_flip_flop c m same checked d k h =
 fits_machine : (c : Cell) (m : Machine) → pin_ports c ≡ m.ports → IsChecked m → (f : Parts) → IsFunction m f → FitsPins c (function_view f)
 fits_machine c m same checked (parts.Gate e) h = fits_gate c m same (view e) h
 fits_machine c m same checked (parts.FlipFlop d k) h = fits_flip_flop c m same checked d k h
-fits_machine c m same checked (parts.Other w) h = tt
+fits_machine c m same checked (parts.Other w) h = (ap (λ (x : Machine). x.ports) h.0 ∙ sym same, subst (λ (x : Machine). IsChecked x) (sym h.0) checked)
 fits_machine c m same checked parts.Opaque h = absurd h
 
 -- ---- names of pins

@@ -5,6 +5,7 @@ use Rattle.vlsi_base.specs.declared.name.Port.{Port}
 use Rattle.vlsi_base.specs.Member.{In}
 use Rattle.vlsi_base.specs.Names.{vdd, vss, comes_before}
 use Rattle.machine_meaning.specs.Machine.{names_of}
+use Rattle.machine_core.specs.Checked.{IsChecked}
 use Rattle.sym_geom.specs.Rect.{IsRect, HasCoordinates}
 use Rattle.sym_geom.specs.declared.layer.Layer.{Layer}
 use Rattle.sym_geom.specs.Metal.{metal_of}
@@ -37,11 +38,11 @@ pub record IsMappable (c : Cell) : Type 0 where
   pub metal : (s : Shape) → In s (drawn c.items) → s.metal ≤ 1
   pub blockage : (one : Item) → In one c.items → KeepsLow one
 
--- a gate and a plain flip-flop fit the pins
+-- a gate and a plain flip-flop fit the pins, and the ports of another machine, which has passed its checks, are the pins
 abbrev pub FitsPins : Cell → Function → Type 0
 FitsPins c (gate e) = IsPlain c (gate e)
 FitsPins c (flip_flop data_pin clock_pin) = IsPlain c (flip_flop data_pin clock_pin)
-FitsPins c (other machine) = Unit {0}
+FitsPins c (other machine) = (machine.ports ≡ pin_ports c) × IsChecked machine
 FitsPins c opaque = Unit {0}
 
 -- What is known of a cell that was made of its two files, before any check of its layout: its function fits its pins, which are

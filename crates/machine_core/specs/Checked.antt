@@ -16,9 +16,8 @@ AreInOrder names = AllPairs (λ a b. name_cmp a b ≡ Less) names
 abbrev pub IsNoSupply : Name → Type 0
 IsNoSupply n = (n.text ≢ codes "vdd") × (n.text ≢ codes "vss")
 
--- the clock is an input of one bit, and it is read and driven nowhere
+-- the clock is an input, and it is read and driven nowhere
 pub record IsClockOf (m : Machine) (clock : Name) : Type 0 where
-  pub scalar : clock.bit ≡ None
   pub port : In clock (input_ports m)
   pub apart : In clock m.vars → ⊥
 

@@ -263,7 +263,7 @@ checked design ps regs defs f p =
       supplies = All-from_In IsNoSupply (names_of ps ++ vars) (no_supplies design ps regs defs f p);
       driven = λ n i. subst (λ (ns : List Name). In n ns) (sym (names-equations vars defs)) (outputs_driven design ps regs defs f p n i);
       clock = λ n e. let c = named_clock (clock_text design) n e in
-          subst (IsClockOf m) (sym c.2) (record { scalar = refl; port = clock_port design ps f p.ports c.0 c.1; apart = in_vars_no_clock design ps regs defs f p c.0 c.1 });
+          subst (IsClockOf m) (sym c.2) (record { port = clock_port design ps f p.ports c.0 c.1; apart = in_vars_no_clock design ps regs defs f p c.0 c.1 });
       clocked = λ e.
           let none = no_clock_text (clock_text design) e in
           let empty : storage design ≡ [] = ap (λ (o : Option (List ℕ)). in_statements (statement_storage (symbols design) o) design.statements) none ∙ none_stored (symbols design) design.statements in
