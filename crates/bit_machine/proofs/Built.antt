@@ -148,7 +148,6 @@ checked b = record {
   supplies = All-from_In IsNoSupply (names_of b.m.ports ++ b.m.vars) supplies;
   driven = driven;
   clock = λ name e. record {
-    scalar = b.fits.scalar name (sym b.clock_is ∙ e);
     port = port name (b.fits.listed name (sym b.clock_is ∙ e));
     apart = λ i. b.fits.apart name (sym b.clock_is ∙ e) (in_names name i);
   };

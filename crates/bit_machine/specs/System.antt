@@ -66,7 +66,6 @@ pub record FitsPorts (ports : List Port) (clock : Option Name) (s : System) : Ty
   pub signals : (name : Name) → In name (names_of ports ++ s.names) → IsNoSupply name
   pub outputs : (p : Port) → In p ports → p.dir ≡ dir.Out → In p.name (map (name_at s.names) (driven_bits s))
   pub inputs : map (name_at s.names) s.inputs ≡ inputs_of clock ports
-  pub scalar : (name : Name) → clock ≡ Some name → name.bit ≡ None
   pub listed : (name : Name) → clock ≡ Some name → In (record { name = name; dir = dir.In }) ports
   pub apart : (name : Name) → clock ≡ Some name → In name s.names → ⊥
   pub clocked : clock ≡ None → s.stored ≡ []

@@ -394,7 +394,6 @@ fits_ports s = record {
   signals = signal_names s;
   outputs = outputs_driven s;
   inputs = inputs_are s;
-  scalar = s.scalar;
   listed = λ name e.
       let c = clock_port s name e in
       let same : c.p ≡ record { name = name; dir = dir.In } = ap (λ (n : Name). made n c.p.dir) c.named ∙ ap (made name) c.takes in

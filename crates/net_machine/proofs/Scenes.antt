@@ -51,7 +51,6 @@ pub record Scene : Type 0 where
   pub classes : IsClassFunction n class
   pub known : HasBehaviour n l
   pub clock_is : HasClockOf n l clock
-  pub scalar : (name : Name) → clock ≡ Some name → name.bit ≡ None
   pub longer : IsLonger n.ports text
 
 pub has_class : (s : Scene) (t : Terminal) (r : Role) → IsAt s.table s.n t r → HasClass s.n t (s.class t)

@@ -1,7 +1,0 @@
-pub mod Signals
-pub mod Step
-pub mod Answers
-pub mod Body
-pub mod Bits
-pub mod Known
-pub mod Gathered

@@ -4,7 +4,7 @@ ghost use Rattle.net_machine.specs.declared.error.NetMachineError.TheVariants.{M
 
 use std::alloc::{AllocError, AllocFailed};
 use thiserror::Error;
-use vlsi_base::{Name, Text};
+use vlsi_base::Text;
 
 /// Why a netlist has no machine.
 #[derive(Debug, Drop, Error)]
@@ -14,9 +14,6 @@ pub enum NetMachineError {
     /// Nothing is known of the cell of this name, which an instance has.
     #[error("no behaviour")]
     NoBehaviour(Text),
-    /// The port that clocks the registers is one bit of a vector.
-    #[error("vector clock")]
-    VectorClock(Name),
 }
 
 impl From<AllocError> for NetMachineError {

@@ -40,7 +40,6 @@ fn signal_ports(alloc: Global, ports: &[Port]) -> Result<Ports, AllocError>
 /// netlist does, with the same outputs and the same next contents. `table` is the table of pins of all of the library's cells.
 ///
 /// - `NoBehaviour`: the cell of an instance is opaque; it names the cell of the first such instance, in the order of instances.
-/// - `VectorClock`: no cell is opaque, and the clock is one bit of a vector.
 ///
 /// Takes memory and time for each class and port, and for each bit and each operator of each instance's cell; for each model it
 /// looks through the library's cells. More bits than 32 bits can number are answered as out of memory.
@@ -54,7 +53,7 @@ pub fn machine_of(
     requires condition { MeetsCondition table.now netlist.now }
     ensures machine { IfOk result (λ m. IsMachineOfNetlist netlist.now library.now table.now m) }
     ensures known { OnOk result (HasBehaviour netlist.now library.now) }
-    ensures refused { IfErr result (λ e. IsMachineRefusal netlist.now library.now table.now e) }
+    ensures refused { IfErr result (λ e. IsMachineRefusal netlist.now library.now e) }
 {
     let _ = table;
     let known = known_models(alloc, netlist.models(), library.cells())?;
@@ -64,9 +63,6 @@ pub fn machine_of(
         return Err(NetMachineError::NoBehaviour(model));
     }
     let clock = clock_port(alloc, netlist, &known)?;
-    if let Some(name) = clock.as_ref().filter(|name| name.bit.is_some()) {
-        return Err(NetMachineError::VectorClock(name.copy(alloc)?));
-    }
     let system = gather(alloc, netlist, &known, clock.as_ref())?;
     let name = netlist.name().copy(alloc)?;
     let ports = signal_ports(alloc, netlist.ports())?;

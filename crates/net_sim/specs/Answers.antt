@@ -5,7 +5,6 @@ use Rattle.std.specs.Prelude.{List}
 use Rattle.cell_model.specs.Library.{Library}
 use Rattle.pat_meaning.specs.declared.patterns.Patterns.{Patterns}
 use Rattle.net_machine.specs.Signals.{HasBehaviour, IsFirstOpaque}
-use Rattle.net_machine.specs.Answers.{IsVectorClock}
 use Rattle.net_sim.specs.Circuit.{DiffersOnNetlist}
 use Rattle.net_sim.specs.declared.error.NetSimError.{NetSimError}
 use Rattle.net_sim.specs.declared.error.NetSimError.TheVariants as error
@@ -14,5 +13,4 @@ use Rattle.net_sim.specs.declared.error.NetSimError.TheVariants as error
 abbrev pub IsSimRefusal : InMemory → Library → List ModelPins → Patterns → NetSimError → Type 0
 IsSimRefusal n l table p error.Memory = Unit {0}
 IsSimRefusal n l table p (error.NoBehaviour model) = IsFirstOpaque n l model
-IsSimRefusal n l table p (error.VectorClock name) = HasBehaviour n l × IsVectorClock n table name
 IsSimRefusal n l table p (error.Differs pattern bit) = HasBehaviour n l × DiffersOnNetlist n l table p pattern bit

@@ -1,2 +1,0 @@
-pub mod Circuit
-pub mod Answers

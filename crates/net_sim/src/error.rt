@@ -14,9 +14,6 @@ pub enum NetSimError {
     /// Nothing is known of the cell of this name, which an instance has.
     #[error("no behaviour")]
     NoBehaviour(Text),
-    /// The port that clocks the registers is one bit of a vector.
-    #[error("vector clock")]
-    VectorClock(Name),
     /// The first bit that isn't what a pattern expects, and the number of that pattern from 0.
     #[error("pattern {} differs", .pattern)]
     Differs { pattern: u32, name: Name },

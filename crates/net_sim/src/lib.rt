@@ -1,8 +1,2 @@
 //! Simulation of netlists of cells: what patterns come to.
 #![tactic(auto)]
-
-mod error;
-mod law;
-
-pub use error::NetSimError;
-pub use law::simulates_alike;

@@ -18,8 +18,7 @@ use std::alloc::Global;
 
 /// What patterns come to on a netlist of a library's cells, which start with 0 in all registers: the patterns with every output
 /// filled in, or the first bit that isn't what is expected, by pattern, then by column, then from the left. `NoBehaviour` where the
-/// cell of an instance is opaque, with the first such instance's cell, and `VectorClock` where the clock is one bit of a vector,
-/// both before any pattern. Takes the memory and the time of the netlist's machine, and of its simulation.
+/// cell of an instance is opaque, with the first such instance's cell, before any pattern. Takes the memory and the time of the netlist's machine, and of its simulation.
 pub fn simulate_net(
     alloc: Global,
     netlist: &Netlist,
@@ -38,7 +37,6 @@ pub fn simulate_net(
         Ok(machine) => machine,
         Err(NetMachineError::Memory) => return Err(NetSimError::Memory),
         Err(NetMachineError::NoBehaviour(model)) => return Err(NetSimError::NoBehaviour(model)),
-        Err(NetMachineError::VectorClock(name)) => return Err(NetSimError::VectorClock(name)),
     };
     match simulate(alloc, &machine, patterns) {
         Ok(filled) => Ok(filled),
