@@ -82,12 +82,5 @@ pub fn machine_of_bits(
     let bits = var_bits(alloc, system, &order)?;
     let vars = names_of(alloc, system.names.as_slice(), &bits)?;
     let (equations, registers) = parts(alloc, system, &order, &bits)?;
-    Ok(Machine::new(
-        name,
-        ports,
-        clock,
-        Names::new(vars),
-        equations,
-        registers,
-    ))
+    Ok(Machine::new(name, ports, clock, Names::new(vars), equations, registers))
 }
