@@ -1,2 +1,2 @@
-//! Structural texts as netlists.
+//! Structural texts as netlists: which texts of bytes are netlists, and why others aren't.
 #![tactic(auto)]
