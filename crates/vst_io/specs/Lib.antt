@@ -1,3 +1,0 @@
-pub mod Nets
-pub mod Faults
-pub mod Text
