@@ -198,13 +198,7 @@ impl SymbolTable {
             mut places,
         } = self;
         let kind = (role_of_word(group.kind.word), group.kind.range, group.line);
-        add_names(
-            alloc,
-            &mut items,
-            &mut places,
-            group.names.as_slice(),
-            kind,
-        )?;
+        add_names(alloc, &mut items, &mut places, group.names.as_slice(), kind)?;
         Ok(SymbolTable { items, places })
     }
 
