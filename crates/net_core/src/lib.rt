@@ -20,3 +20,5 @@ pub use error::{BuildError, CheckError, NetFault};
 pub use frame::Node;
 pub use netlist::Netlist;
 pub use pins::{ModelPin, ModelPins, PinPlaces, PinTable};
+pub use roles::{model_names, pins_of};
+pub use roll::Roll;
