@@ -63,7 +63,8 @@ pub fn instances(
 ) -> Result<(), AllocError>
     requires some { All (λ i. 0 < length i.pins) netlist.now.instances }
     requires inside { All (λ class. class < length nets.now) netlist.now.classes }
-    ensures { OnOk result (out.new ≡ out.old ++ text_of (instances_layout (instances_with nets.now netlist.now.instances (drop (length netlist.now.ports) netlist.now.classes)))) }
+    ensures { OnOk result (out.new ≡ out.old
+        ++ text_of (instances_layout (instances_with nets.now netlist.now.instances (drop (length netlist.now.ports) netlist.now.classes)))) }
 {
     let models = netlist.models();
     let nodes = netlist.nodes();
