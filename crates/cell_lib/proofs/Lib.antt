@@ -3,3 +3,4 @@ mod Judging
 mod Loading
 mod Making
 mod Telling
+pub mod Plain

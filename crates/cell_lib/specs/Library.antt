@@ -17,6 +17,14 @@ use Rattle.cell_lib.specs.declared.error.LibError.TheVariants as errors
 use Rattle.cell_lib.specs.declared.load.LibraryFiles.{LibraryFiles}
 use Rattle.cell_lib.specs.Cells.{Source, sources, AreCells, IsFirstRefused}
 use Rattle.cell_lib.specs.Causes.{IsVbeRefusal, IsLayout, IsLayoutRefusal}
+use Rattle.cell_model.specs.Library.{Library as CellLibrary}
+use Rattle.catal.specs.declared.error.CatalError.{CatalError}
+use Rattle.catal.specs.Catal.{IsCatal, Refused}
+use Rattle.tool_drive.specs.declared.status.Status.{Status}
+use Rattle.tool_drive.specs.declared.status.Status.TheVariants as status
+use Rattle.tool_drive.specs.declared.status.FileCause.TheVariants as cause
+use Rattle.tool_drive.specs.declared.status.LibraryFault.TheVariants as fault
+use Rattle.cell_lib.specs.Load.{refused}
 
 -- the cell does what its text says: its function is that of the text's machine, its pins are the text's port bits with their
 -- capacitances, and its arcs have the text's times
@@ -70,3 +78,26 @@ AreLibrary tracks files cells = AreCells (IsCell tracks) (sources files.names fi
 -- the first name that has no cell, and why
 abbrev pub IsLibraryRefusal : Bool → LibraryFiles → LibError → Type 0
 IsLibraryRefusal tracks files e = IsFirstRefused (IsCell tracks) (IsCellRefusal tracks) (sources files.names files.files.items) e
+
+-- ---- from the bytes of CATAL and of the cells' files
+
+-- CATAL uses these cells, and each is one: this is the library
+pub record IsLibraryOf (tracks : Bool) (catal : List ℕ) (files : List (List ℕ)) (l : CellLibrary) : Type 0 where
+  pub names : List (List ℕ)
+  pub uses : IsCatal catal names
+  pub cells : AreCells (IsCell tracks) (sources names files) l.cells
+
+-- why there is none: CATAL is refused, or the first cell that is none
+pub data IsRefusedLibrary (tracks : Bool) (catal : List ℕ) (files : List (List ℕ)) (e : LibError) : Type 0 where
+  bad_list : (fault : CatalError) → Refused catal fault → e ≡ refused fault → IsRefusedLibrary tracks catal files e
+  bad_cell : (names : List (List ℕ)) → IsCatal catal names → IsFirstRefused (IsCell tracks) (IsCellRefusal tracks) (sources names files) e
+      → IsRefusedLibrary tracks catal files e
+
+-- the status of a tool that has no library
+abbrev pub status_of : LibError → Status
+status_of errors.Memory = status.Memory
+status_of (errors.Missing name) = status.File cause.Missing name
+status_of (errors.ReadFault name) = status.File cause.ReadFault name
+status_of (errors.Limit l) = status.Limit l
+status_of (errors.BadCatal line) = status.Library (fault.BadCatal line)
+status_of (errors.BadCell cell number) = status.Library (fault.BadCell cell number)

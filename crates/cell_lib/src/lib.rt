@@ -18,5 +18,5 @@ pub use behaviour::read_behaviour;
 pub use error::LibError;
 pub use files::{catal_file, cell_files, named_files};
 pub use layout::read_layout;
-pub use library::check_library;
+pub use library::{check_library, library_status, read_library};
 pub use load::{LibraryFiles, load_library};

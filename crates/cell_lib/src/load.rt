@@ -36,7 +36,7 @@ fn stopped(stop: Stop) -> LibError
     }
 }
 
-fn refused(error: CatalError) -> LibError
+pub(crate) fn refused(error: CatalError) -> LibError
     ensures { result ≡ refused_by error }
 {
     match error {

@@ -7,11 +7,12 @@ use Rattle.tool_words.specs.declared.command.Command.TheVariants as command
 use Rattle.tool_words.specs.declared.words.WordsError.{WordsError}
 use Rattle.tool_words.specs.declared.words.WordsError.TheVariants as words
 use Rattle.tool_words.specs.declared.command.FlowCommand.{FlowCommand}
+use Rattle.tool_words.specs.declared.command.BoogCommand.{BoogCommand}
 use Rattle.tool_words.specs.declared.command.AsimutCommand.{AsimutCommand}
 use Rattle.tool_words.specs.Words.{is_word}
-use Rattle.tool_words.specs.Table.{Entry, library, out, patterns, flow, asimut, tools}
+use Rattle.tool_words.specs.Table.{Entry, library, out, patterns, flow, boog, asimut, tools}
 use Rattle.tool_words.specs.Values.{files, values, only}
-use Rattle.tool_words.specs.Commands.{flow_with, asimut_with, command_from, command_of, as_flow, as_asimut, flow_of, asimut_of, Spells}
+use Rattle.tool_words.specs.Commands.{flow_with, boog_with, asimut_with, command_from, command_of, as_flow, as_boog, as_asimut, flow_of, boog_of, asimut_of, Spells}
 use Rattle.tool_words.specs.Laws.{WordsAreExact}
 use Rattle.vlsi_shelf.specs.Seen.{SinkSeen}
 use Rattle.tool_drive.specs.declared.status.Status.{Status}
@@ -20,6 +21,7 @@ use Rattle.tool_drive.specs.Lines.{line_of as line_of_tool}
 use Rattle.tool_drive.specs.Outside.{Outside, IsLine}
 use Rattle.tool_drive.specs.Table.{Caused, IsComplete, memory_complete}
 use Rattle.tool_run.specs.Usage.{word_of, tool_of, line_of, status_of}
+use Rattle.boog_run.specs.Boog.{boog_plan, boog_answers}
 use Rattle.tool_run.specs.Asimut.{asimut_plan, asimut_answers}
 use Rattle.flow_run.specs.Flow.{flow_plan, flow_answers}
 use Rattle.flow_run.specs.Causes.{IsHeadline}
@@ -31,6 +33,10 @@ flow_word : (x : Option FlowCommand) (k : Command) → option_map command.Flow x
 flow_word None k h = absurd (cc h)
 flow_word (Some c) k h = let same : command.Flow c ≡ k = cc h in subst (λ (other : Command). codes "flow" ≡ word_of other) same refl
 
+boog_word : (x : Option BoogCommand) (k : Command) → option_map command.Boog x ≡ Some k → codes "boog" ≡ word_of k
+boog_word None k h = absurd (cc h)
+boog_word (Some c) k h = let same : command.Boog c ≡ k = cc h in subst (λ (other : Command). codes "boog" ≡ word_of other) same refl
+
 asimut_word : (x : Option AsimutCommand) (k : Command) → option_map command.Asimut x ≡ Some k → codes "asimut" ≡ word_of k
 asimut_word None k h = absurd (cc h)
 asimut_word (Some c) k h = let same : command.Asimut c ≡ k = cc h in subst (λ (other : Command). codes "asimut" ≡ word_of other) same refl
@@ -40,6 +46,9 @@ NamesItsCommands e = (arguments : List _) (k : Command) → command_from e.tool 
 
 flow_names : NamesItsCommands flow
 flow_names a k h = flow_word (flow_with (only (files a)) (only (values library.word a)) (only (values out.word a))) k h
+
+boog_names : NamesItsCommands boog
+boog_names a k h = boog_word (boog_with (only (files a)) (only (values library.word a)) (only (values out.word a))) k h
 
 asimut_names : NamesItsCommands asimut
 asimut_names a k h = asimut_word (asimut_with (only (files a)) (only (values patterns.word a))) k h
@@ -60,7 +69,7 @@ found P p (x ∷ xs) e all h = found_by P x e (find p xs) all.0 (found P p xs e 
 spelled : (words : List (List ℕ)) (k : Command) → Spells words k → tool_of words ≡ word_of k
 spelled words k h =
     ap tool_of h.words_are
-    ∙ found NamesItsCommands (λ (e : Entry). is_word e.word h.entry.word) tools h.entry (flow_names, (asimut_names, tt)) h.in_table h.arguments k h.command
+    ∙ found NamesItsCommands (λ (e : Entry). is_word e.word h.entry.word) tools h.entry (flow_names, (boog_names, (asimut_names, tt))) h.in_table h.arguments k h.command
 
 line_is : (words : List (List ℕ)) (s : Status) → (s ≡ status.Usage → ⊥) → line_of_tool (tool_of words) s ≡ line_of words s
 line_is words status.Usage other = absurd (other refl)
@@ -99,6 +108,14 @@ flow_unread ws words.Usage before now s is none =
 flow_unread ws words.Memory before now s is none =
     subst (λ (x : Status). IfSome (flow_of ws) (λ c. IsComplete (flow_plan c) (flow_answers c) before now x)) (sym is)
     (all_some (flow_of ws) (λ c. memory_complete (flow_plan c) (flow_answers c) before now))
+
+pub boog_unread : (ws : List (List ℕ)) (e : WordsError) (before now : Outside) (s : Status) → s ≡ status_of e → (IsErrOf {T = Command} (Err e) words.Usage → command_of ws ≡ None)
+    → IfSome (boog_of ws) (λ c. IsComplete (boog_plan c) (boog_answers c) before now s)
+boog_unread ws words.Usage before now s is none =
+    subst (λ (o : Option Command). IfSome (as_boog o) (λ c. IsComplete (boog_plan c) (boog_answers c) before now s)) (sym (none refl)) tt
+boog_unread ws words.Memory before now s is none =
+    subst (λ (x : Status). IfSome (boog_of ws) (λ c. IsComplete (boog_plan c) (boog_answers c) before now x)) (sym is)
+    (all_some (boog_of ws) (λ c. memory_complete (boog_plan c) (boog_answers c) before now))
 
 pub asimut_unread : (ws : List (List ℕ)) (e : WordsError) (before now : Outside) (s : Status) → s ≡ status_of e → (IsErrOf {T = Command} (Err e) words.Usage → command_of ws ≡ None)
     → IfSome (asimut_of ws) (λ c. IsComplete (asimut_plan c) (asimut_answers c) before now s)

@@ -1,10 +1,11 @@
 // The top call: words, and then the tool that they ask for.
 ghost use Rattle.std.specs.Prelude.{◌≡◌, ◌⊎◌, true, IfSome, Some, None};
-ghost use Rattle.tool_words.specs.Commands.{command_of, as_flow, as_asimut, flow_of, asimut_of};
+ghost use Rattle.tool_words.specs.Commands.{command_of, as_flow, as_boog, as_asimut, flow_of, boog_of, asimut_of};
 ghost use Rattle.tool_drive.specs.Outside.{outside, IsLine};
 ghost use Rattle.tool_drive.specs.Status.{has_line};
 ghost use Rattle.tool_drive.specs.Lines.{line_of as line_of_tool};
 ghost use Rattle.tool_drive.specs.Table.{Caused, IsComplete};
+ghost use Rattle.boog_run.specs.Boog.{boog_plan, boog_answers};
 ghost use Rattle.tool_run.specs.Usage.{word_of, line_of};
 ghost use Rattle.tool_run.specs.Asimut.{asimut_plan, asimut_answers};
 ghost use Rattle.flow_run.specs.Flow.{is_fsm, flow_plan, flow_answers};
@@ -24,6 +25,10 @@ fn run<S: Shelf, T: Sink>(alloc: Global, command: &Command, shelf: &mut S, out: 
         (outside (S.seen shelf.old) (T.seen out.old)) (outside (S.seen shelf.new) (T.seen out.new)) result) }
     ensures complete { IfSome (as_flow (Some command.now)) (λ c. IsComplete (flow_plan c) (flow_answers c)
         (outside (S.seen shelf.old) (T.seen out.old)) (outside (S.seen shelf.new) (T.seen out.new)) result) }
+    ensures mapping { IfSome (as_boog (Some command.now)) (λ c. Caused (boog_plan c) (boog_answers c)
+        (outside (S.seen shelf.old) (T.seen out.old)) (outside (S.seen shelf.new) (T.seen out.new)) result) }
+    ensures mapping_complete { IfSome (as_boog (Some command.now)) (λ c. IsComplete (boog_plan c) (boog_answers c)
+        (outside (S.seen shelf.old) (T.seen out.old)) (outside (S.seen shelf.new) (T.seen out.new)) result) }
     ensures simulation { IfSome (as_asimut (Some command.now)) (λ c. Caused (asimut_plan c) (asimut_answers c)
         (outside (S.seen shelf.old) (T.seen out.old)) (outside (S.seen shelf.new) (T.seen out.new)) result) }
     ensures simulation_complete { IfSome (as_asimut (Some command.now)) (λ c. IsComplete (asimut_plan c) (asimut_answers c)
@@ -34,12 +39,12 @@ fn run<S: Shelf, T: Sink>(alloc: Global, command: &Command, shelf: &mut S, out: 
 {
     match command {
         Command::Flow(flow) => run_flow(alloc, flow, shelf, out),
-        Command::Asimut(_) => run_tool(alloc, command, shelf, out),
+        Command::Boog(_) | Command::Asimut(_) => run_tool(alloc, command, shelf, out),
     }
 }
 
-/// Does what the words ask, over a shelf and a sink: `flow` lays the source out with the cells of the library, `asimut` runs
-/// patterns on the source.
+/// Does what the words ask, over a shelf and a sink: `flow` lays the source out with the cells of the library, `boog` makes a
+/// netlist of these cells, `asimut` runs patterns on the source.
 ///
 /// The words are taken apart first, and only then is a file read. A tool reads its files in their order, then writes its file,
 /// if it has one, and then prints its text by one put. `flow` reads SOURCE, CATAL, and the behaviour and the geometry of its
@@ -71,6 +76,12 @@ pub fn alliance_main<S: Shelf, T: Sink>(
     // Where the answer is 0, NAME.ap is a right layout of the source by the library, and the report on it was printed.
     ensures headline { IfSome (flow_of words.now) (λ c. result ≡ Status.Accepted
         → IsHeadline c (outside (S.seen shelf.old) (T.seen out.old)) (outside (S.seen shelf.new) (T.seen out.new))) }
+
+    // The answers of boog: each has its cause, and over told files, where nothing failed, it is what the files come to.
+    ensures mapping { IfSome (boog_of words.now) (λ c. Caused (boog_plan c) (boog_answers c)
+        (outside (S.seen shelf.old) (T.seen out.old)) (outside (S.seen shelf.new) (T.seen out.new)) result) }
+    ensures mapping_complete { IfSome (boog_of words.now) (λ c. IsComplete (boog_plan c) (boog_answers c)
+        (outside (S.seen shelf.old) (T.seen out.old)) (outside (S.seen shelf.new) (T.seen out.new)) result) }
 
     // The answers of asimut: each has its cause, and over told files, where nothing failed, it is what the files come to.
     ensures simulation { IfSome (asimut_of words.now) (λ c. Caused (asimut_plan c) (asimut_answers c)

@@ -1,7 +1,8 @@
 // The tools beside `flow`, each by the driver.
 ghost use Rattle.std.specs.Prelude.{◌≡◌, Some, true, false, IfSome};
 ghost use Rattle.vlsi_shelf.specs.Seen.{ShelfSeen};
-ghost use Rattle.tool_words.specs.Commands.{as_asimut};
+ghost use Rattle.tool_words.specs.Commands.{as_boog, as_asimut};
+ghost use Rattle.boog_run.specs.Boog.{boog_plan, boog_answers};
 ghost use Rattle.tool_drive.specs.Outside.{outside, IsLine};
 ghost use Rattle.tool_drive.specs.Status.{has_line};
 ghost use Rattle.tool_drive.specs.Lines.{line_of};
@@ -10,6 +11,7 @@ ghost use Rattle.tool_run.specs.Asimut.{asimut_plan, asimut_answers};
 ghost use Rattle.tool_run.specs.Usage.{is_flow, word_of};
 
 use crate::asimut::Asimut;
+use boog_run::Boog;
 use std::alloc::Global;
 use tool_drive::{Status, drive};
 use tool_words::Command;
@@ -18,8 +20,12 @@ use vlsi_shelf::{Shelf, Sink};
 /// Runs the tool that a command is for. `flow` isn't run here, but by the crate that has the top call.
 pub fn run_tool<S: Shelf, T: Sink>(alloc: Global, c: &Command, shelf: &mut S, out: &mut T) -> Status
     requires { is_flow c.now ≡ false }
-    // asimut: every status has its cause and leaves the files that its row says, and over told files, where nothing failed, it
-    // is what the files come to.
+    // Every status has its cause and leaves the files that its row says, and over told files, where nothing failed, it is what the
+    // files come to: of boog, and of asimut.
+    ensures mapping { IfSome (as_boog (Some c.now)) (λ b. Caused (boog_plan b) (boog_answers b)
+        (outside (S.seen shelf.old) (T.seen out.old)) (outside (S.seen shelf.new) (T.seen out.new)) result) }
+    ensures mapping_complete { IfSome (as_boog (Some c.now)) (λ b. IsComplete (boog_plan b) (boog_answers b)
+        (outside (S.seen shelf.old) (T.seen out.old)) (outside (S.seen shelf.new) (T.seen out.new)) result) }
     ensures simulation { IfSome (as_asimut (Some c.now)) (λ a. Caused (asimut_plan a) (asimut_answers a)
         (outside (S.seen shelf.old) (T.seen out.old)) (outside (S.seen shelf.new) (T.seen out.new)) result) }
     ensures simulation_complete { IfSome (as_asimut (Some c.now)) (λ a. IsComplete (asimut_plan a) (asimut_answers a)
@@ -31,6 +37,10 @@ pub fn run_tool<S: Shelf, T: Sink>(alloc: Global, c: &Command, shelf: &mut S, ou
 {
     match c {
         Command::Flow(_) => unreachable!(),
+        Command::Boog(command) => {
+            let tool = Boog { command };
+            drive(alloc, b"boog", &tool, shelf, out)
+        }
         Command::Asimut(command) => {
             let tool = Asimut { command };
             drive(alloc, b"asimut", &tool, shelf, out)

@@ -5,9 +5,9 @@ use Rattle.std.specs.List.{find, list_all}
 use Rattle.tool_words.specs.declared.arguments.Argument.{Argument}
 use Rattle.tool_words.specs.declared.command.Command.TheVariants as command
 use Rattle.tool_words.specs.Words.{is_word}
-use Rattle.tool_words.specs.Table.{Entry, Setting, flow, asimut, library, out, tracks, patterns, tools}
+use Rattle.tool_words.specs.Table.{Entry, Setting, flow, boog, asimut, library, out, tracks, patterns, tools}
 use Rattle.tool_words.specs.Values.{files, values, only, has_any_ending, setting_fits, is_source, fits}
-use Rattle.tool_words.specs.Commands.{flow_with, asimut_with, command_from}
+use Rattle.tool_words.specs.Commands.{flow_with, boog_with, asimut_with, command_from}
 use Rattle.tool_words.specs.Laws.{FittingIsEnough}
 use Rattle.tool_words.proofs.Spelling.{both}
 
@@ -50,6 +50,16 @@ flow_enough a fit =
     let o = both (setting_fits a out) (list_all (setting_fits a) (tracks ∷ [])) l.1 in
     flow_from _ _ _ _ _ _ (has_some flow.endings (only (files a)) f.0).1 (value_of_one a library _ l.0).1 (value_of_one a out _ o.0).1
 
+boog_from : (s l o : Option (List ℕ)) (x y z : List ℕ) → s ≡ Some x → l ≡ Some y → o ≡ Some z → IsSome (option_map command.Boog (boog_with s l o))
+boog_from s l o x y z a b c = rw (a, b, c) refl
+
+boog_enough : Enough boog
+boog_enough a fit =
+    let f = both (is_source boog.endings (files a)) (list_all (setting_fits a) boog.settings) fit in
+    let l = both (setting_fits a library) (list_all (setting_fits a) (out ∷ [])) f.1 in
+    let o = both (setting_fits a out) true l.1 in
+    boog_from _ _ _ _ _ _ (has_some boog.endings (only (files a)) f.0).1 (value_of_one a library _ l.0).1 (value_of_one a out _ o.0).1
+
 asimut_from : (s p : Option (List ℕ)) (x y : List ℕ) → s ≡ Some x → p ≡ Some y → IsSome (option_map command.Asimut (asimut_with s p))
 asimut_from s p x y a b = rw (a, b) refl
 
@@ -60,7 +70,7 @@ asimut_enough a fit =
     asimut_from _ _ _ _ (has_some asimut.endings (only (files a)) f.0).1 (value_of_one a patterns _ p.0).1
 
 each : Each Enough tools
-each = (flow_enough, (asimut_enough, tt))
+each = (flow_enough, (boog_enough, (asimut_enough, tt)))
 
 pub enough : FittingIsEnough
 enough e arguments h fit = found Enough (λ (x : Entry). is_word x.word e.word) tools e each h arguments fit

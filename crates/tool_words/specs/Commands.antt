@@ -5,6 +5,7 @@ use Rattle.tool_words.specs.declared.table.Tool.{Tool}
 use Rattle.tool_words.specs.declared.table.Tool.TheVariants as tool
 use Rattle.tool_words.specs.declared.arguments.Argument.{Argument}
 use Rattle.tool_words.specs.declared.command.FlowCommand.{FlowCommand}
+use Rattle.tool_words.specs.declared.command.BoogCommand.{BoogCommand}
 use Rattle.tool_words.specs.declared.command.AsimutCommand.{AsimutCommand}
 use Rattle.tool_words.specs.declared.command.Command.{Command}
 use Rattle.tool_words.specs.declared.command.Command.TheVariants as command
@@ -18,6 +19,10 @@ abbrev pub flow_with : Option (List ℕ) → Option (List ℕ) → Option (List 
 flow_with (Some source) (Some library) (Some out) = Some (record { source = source; library = library; out = out })
 flow_with _ _ _ = None
 
+abbrev pub boog_with : Option (List ℕ) → Option (List ℕ) → Option (List ℕ) → Option BoogCommand
+boog_with (Some source) (Some library) (Some out) = Some (record { source = source; library = library; out = out })
+boog_with _ _ _ = None
+
 abbrev pub asimut_with : Option (List ℕ) → Option (List ℕ) → Option AsimutCommand
 asimut_with (Some source) (Some patterns) = Some (record { source = source; patterns = patterns })
 asimut_with _ _ = None
@@ -25,6 +30,8 @@ asimut_with _ _ = None
 abbrev pub command_from : Tool → List Argument → Option Command
 command_from tool.Flow a =
     option_map command.Flow (flow_with (only (files a)) (only (values library.word a)) (only (values out.word a)))
+command_from tool.Boog a =
+    option_map command.Boog (boog_with (only (files a)) (only (values library.word a)) (only (values out.word a)))
 command_from tool.Asimut a = option_map command.Asimut (asimut_with (only (files a)) (only (values patterns.word a)))
 
 -- ---- all tools
@@ -55,6 +62,10 @@ abbrev pub as_flow : Option Command → Option FlowCommand
 as_flow (Some (command.Flow c)) = Some c
 as_flow _ = None
 
+abbrev pub as_boog : Option Command → Option BoogCommand
+as_boog (Some (command.Boog c)) = Some c
+as_boog _ = None
+
 abbrev pub as_asimut : Option Command → Option AsimutCommand
 as_asimut (Some (command.Asimut c)) = Some c
 as_asimut _ = None
@@ -62,6 +73,10 @@ as_asimut _ = None
 -- the command of `flow` that they spell
 abbrev pub flow_of : List (List ℕ) → Option FlowCommand
 flow_of words = as_flow (command_of words)
+
+-- the command of `boog` that they spell
+abbrev pub boog_of : List (List ℕ) → Option BoogCommand
+boog_of words = as_boog (command_of words)
 
 -- the command of `asimut` that they spell
 abbrev pub asimut_of : List (List ℕ) → Option AsimutCommand

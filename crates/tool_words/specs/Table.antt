@@ -55,11 +55,14 @@ tracks = record { word = codes "--tracks"; value = []; need = Once; form = Flag 
 abbrev pub flow : Entry
 flow = record { tool = tool.Flow; word = codes "flow"; endings = codes ".vbe" ∷ codes ".fsm" ∷ []; settings = library ∷ out ∷ tracks ∷ [] }
 
+abbrev pub boog : Entry
+boog = record { tool = tool.Boog; word = codes "boog"; endings = codes ".vbe" ∷ []; settings = library ∷ out ∷ [] }
+
 abbrev pub asimut : Entry
 asimut = record { tool = tool.Asimut; word = codes "asimut"; endings = codes ".vbe" ∷ []; settings = patterns ∷ [] }
 
 abbrev pub tools : List Entry
-tools = flow ∷ asimut ∷ []
+tools = flow ∷ boog ∷ asimut ∷ []
 
 -- the tool with this word
 abbrev pub tool_of : List ℕ → Option Entry

@@ -22,6 +22,17 @@ pub struct FlowCommand {
     pub out: FileName,
 }
 
+/// What `boog` is asked to do: to make a netlist of the library's cells of the source.
+#[derive(Drop)]
+pub struct BoogCommand {
+    /// The source's file, whose name ends in `.vbe`.
+    pub source: FileName,
+    /// The folder of the library.
+    pub library: FileName,
+    /// The name of the netlist, without `.vst`.
+    pub out: FileName,
+}
+
 /// What `asimut` is asked to do: to run patterns on the source.
 #[derive(Drop)]
 pub struct AsimutCommand {
@@ -35,6 +46,7 @@ pub struct AsimutCommand {
 #[derive(Drop)]
 pub enum Command {
     Flow(FlowCommand),
+    Boog(BoogCommand),
     Asimut(AsimutCommand),
 }
 
@@ -49,6 +61,23 @@ fn flow(alloc: Global, arguments: &[Argument]) -> Result<Command, WordsError>
         return Err(WordsError::Usage);
     };
     Ok(Command::Flow(FlowCommand {
+        source: FileName::from_bytes(alloc, source)?,
+        library: FileName::from_bytes(alloc, library)?,
+        out: FileName::from_bytes(alloc, out)?,
+    }))
+}
+
+fn boog(alloc: Global, arguments: &[Argument]) -> Result<Command, WordsError>
+    ensures ok { IfOk result (λ command. command_from Tool.Boog arguments.now ≡ Some command) }
+    ensures usage { IsErrOf result Usage → command_from Tool.Boog arguments.now ≡ None }
+{
+    let source = only(arguments, Wanted::File);
+    let library = only(arguments, Wanted::Value(LIBRARY.word));
+    let out = only(arguments, Wanted::Value(OUT.word));
+    let (Some(source), Some(library), Some(out)) = (source, library, out) else {
+        return Err(WordsError::Usage);
+    };
+    Ok(Command::Boog(BoogCommand {
         source: FileName::from_bytes(alloc, source)?,
         library: FileName::from_bytes(alloc, library)?,
         out: FileName::from_bytes(alloc, out)?,
@@ -80,6 +109,7 @@ fn read_command(alloc: Global, entry: Entry, arguments: &[Argument]) -> Result<C
     }
     match entry.tool {
         Tool::Flow => flow(alloc, arguments),
+        Tool::Boog => boog(alloc, arguments),
         Tool::Asimut => asimut(alloc, arguments),
     }
 }

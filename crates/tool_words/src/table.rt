@@ -9,6 +9,7 @@ use crate::words::is_same;
 #[derive(Clone, Copy)]
 pub enum Tool {
     Flow,
+    Boog,
     Asimut,
 }
 
@@ -89,6 +90,12 @@ const TOOLS: &[Entry] = &[
         word: "flow",
         endings: &[".vbe", ".fsm"],
         settings: &[LIBRARY, OUT, TRACKS],
+    },
+    Entry {
+        tool: Tool::Boog,
+        word: "boog",
+        endings: &[".vbe"],
+        settings: &[LIBRARY, OUT],
     },
     Entry {
         tool: Tool::Asimut,

@@ -1,0 +1,101 @@
+-- What `boog` reads and answers.
+use Rattle.std.specs.Prelude.{◌≡◌, ℕ, ◌-◌, ◌^◌, ◌<◌, ◌≤◌, min, Bool, false, not, nat_eq, List, [], ◌∷◌, ◌++◌, length, get_or, codes, None, Some, Result, Ok, Err}
+use Rattle.std.specs.Fmt.{decimal}
+use Rattle.vlsi_base.specs.declared.fault.LimitKind.TheVariants.{Size}
+use Rattle.machine_meaning.specs.Machine.{Machine}
+use Rattle.machine_meaning.specs.Size.{machine_size}
+use Rattle.vbe_io.specs.Text.{IsVbe, IsVbeRefusal}
+use Rattle.catal.specs.Cells.{cells_in}
+use Rattle.cell_model.specs.Library.{Library}
+use Rattle.cell_model.specs.declared.kind.Kind.{Kind}
+use Rattle.cell_model.specs.Covering.{needed, IsFirstMissing}
+use Rattle.boog_map.specs.Netlist.{has_registers, UsesFirstCells, StandsInOrder, IsLeanFor}
+use Rattle.net_view.specs.Writable.{CanBeNamed, PinsCanBeWritten}
+use Rattle.cell_lib.specs.declared.error.LibError.{LibError}
+use Rattle.cell_lib.specs.Files.{catal_name, cell_files}
+use Rattle.cell_lib.specs.Library.{IsLibraryOf, IsRefusedLibrary, status_of}
+use Rattle.cell_pins.specs.Table.{IsTableOf}
+use Rattle.net_core.specs.declared.pins.ModelPins.{ModelPins}
+use Rattle.net_core.specs.Netlist.{Netlist}
+use Rattle.net_view.specs.Condition.{MeetsConditionIn}
+use Rattle.net_view.specs.Right.{IsRightNetlist}
+use Rattle.spell_theory.specs.Layout.{text_of}
+use Rattle.vst_write.specs.Written.{layout}
+use Rattle.tool_words.specs.declared.command.BoogCommand.{BoogCommand}
+use Rattle.tool_drive.specs.declared.status.Status.{Status}
+use Rattle.tool_drive.specs.declared.status.Status.TheVariants as status
+use Rattle.tool_drive.specs.declared.tool.Product.{Product}
+use Rattle.tool_drive.specs.declared.tool.Refusal.{Refusal}
+use Rattle.tool_drive.specs.Plan.{Plan, Inputs, limited}
+use Rattle.tool_drive.specs.Refusals.{OfFile}
+use Rattle.boog_run.specs.declared.netlist.TheConstants.{MOST_SIZE}
+
+-- SOURCE, then CATAL, and then the files of the cells that CATAL uses
+abbrev pub boog_plan : BoogCommand → Plan
+boog_plan c = record {
+  first = limited c.source ∷ limited (catal_name c.library) ∷ [];
+  more = λ read. cell_files c.library (cells_in (get_or read 1 []));
+}
+
+abbrev pub netlist_name : List ℕ → List ℕ
+netlist_name out = out ++ codes ".vst"
+
+-- how many instances a netlist has
+abbrev pub report : Netlist → List ℕ
+report n = codes "cells " ++ (decimal (length n.instances) ++ 10 ∷ [])
+
+-- A netlist for a machine: it is right for it, meets the condition of the stages behind, has for each kind the first usable cell, and
+-- stands in order; and it is lean.
+pub record IsNetlistFor (l : Library) (m : Machine) (n : Netlist) : Type 0 where
+  pub right : IsRightNetlist n l m
+  pub condition : MeetsConditionIn l n
+  pub first : UsesFirstCells n l
+  pub order : StandsInOrder n l m
+  pub lean : IsLeanFor n m
+
+-- the text of the netlist is that of NAME.vst, and its number of instances is printed
+pub record IsWrittenAs (out : List ℕ) (l : Library) (n : Netlist) (p : Product) : Type 0 where
+  pub table : List ModelPins
+  pub pins : IsTableOf l false table
+  pub name : p.name ≡ netlist_name out
+  pub file : p.file ≡ Some (text_of (layout n table))
+  pub text : p.text ≡ report n
+
+-- Library and source are read, and a netlist for the source's machine is written.
+pub record IsMapping (c : BoogCommand) (source catal : List ℕ) (cells : List (List ℕ)) (p : Product) : Type 0 where
+  pub l : Library
+  pub library : IsLibraryOf false catal cells l
+  pub m : Machine
+  pub machine : IsVbe source m
+  pub small : machine_size m ≤ MOST_SIZE
+  pub n : Netlist
+  pub netlist : IsNetlistFor l m n
+  pub written : IsWrittenAs c.out l n p
+
+abbrev pub size_limit : Machine → Status
+size_limit m = status.Limit (record { which = Size; reached = min (machine_size m) (2 ^ 64 - 1) })
+
+-- why a machine has no netlist: it is too large, or else a kind is the first that no usable cell has
+pub data IsNoNetlist (l : Library) (m : Machine) (s : Status) : Type 0 where
+  too_large : MOST_SIZE < machine_size m → s ≡ size_limit m → IsNoNetlist l m s
+  no_cover : machine_size m ≤ MOST_SIZE → (k : Kind) → IsFirstMissing l.cells k (needed (has_registers m)) → s ≡ status.NoCover k → IsNoNetlist l m s
+
+-- What is refused, in this order: the library, the source, its machine.
+pub data IsRefused (c : BoogCommand) (source catal : List ℕ) (cells : List (List ℕ)) (s : Status) : Type 0 where
+  no_library : (e : LibError) → IsRefusedLibrary false catal cells e → s ≡ status_of e → IsRefused c source catal cells s
+  bad_source : (l : Library) → IsLibraryOf false catal cells l → OfFile c.source (IsVbeRefusal source) s → IsRefused c source catal cells s
+  no_netlist : (l : Library) (m : Machine) → IsLibraryOf false catal cells l → IsVbe source m → IsNoNetlist l m s → IsRefused c source catal cells s
+
+-- the netlist is written and its number of instances is printed, or one of these refusals
+abbrev pub Maps : BoogCommand → List ℕ → List ℕ → List (List ℕ) → Result Product Refusal → Type 0
+Maps c source catal cells (Ok p) = IsMapping c source catal cells p
+Maps c source catal cells (Err r) = (r.part ≡ None) × IsRefused c source catal cells r.status
+
+abbrev pub boog_answers : BoogCommand → Inputs → Result Product Refusal → Type 0
+boog_answers c i r = Maps c (get_or i.first 0 []) (get_or i.first 1 []) i.more r
+
+-- nothing of the netlist's names stands against its being written
+pub record IsWritable (l : Library) (n : Netlist) : Type 0 where
+  pub condition : MeetsConditionIn l n
+  pub named : CanBeNamed n
+  pub pins : (table : List ModelPins) → IsTableOf l false table → PinsCanBeWritten table

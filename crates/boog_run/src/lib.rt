@@ -1,0 +1,11 @@
+//! `boog` as a tool: a netlist of library cells, of a data-flow source.
+//!
+//! What it reads and answers stands in `specs/Boog.antt`; when each status comes and what it leaves, for all tools, in
+//! `specs/Table.antt` of `tool_drive`.
+#![tactic(auto)]
+
+mod boog;
+mod netlist;
+
+pub use boog::Boog;
+pub use netlist::MOST_SIZE;

@@ -1,0 +1,87 @@
+// The netlist of a machine, and what is written and printed of it.
+ghost use Rattle.std.specs.Prelude.{◌≡◌, ◌≤◌, Some, IfOk, OnOk, IfErr, length};
+ghost use Rattle.machine_meaning.specs.Size.{machine_size as size_of};
+ghost use Rattle.source_meaning.specs.Checks.{most_ports};
+ghost use Rattle.tool_drive.specs.Refusals.{MemoryOr};
+ghost use Rattle.boog_run.specs.Boog.{IsNetlistFor, IsNoNetlist, IsWritable, IsWrittenAs, report as report_of};
+
+use boog_map::{MapError, map};
+use cell_checks::Library;
+use cell_pins::pin_table;
+use machine_core::{Machine, machine_size};
+use net_core::Netlist;
+use net_view::right_meets_condition;
+use std::alloc::{AllocError, Global};
+use subject_graph::Graph;
+use tool_drive::{Product, Status};
+use vlsi_base::{FileBytes, FileName, Limit, LimitKind, Text, push_u64};
+use vst_write::{WriteError, write_vst};
+
+/// The most that a source may weigh: the size of its machine.
+pub const MOST_SIZE: u64 = 16_384;
+
+/// A netlist of the library's cells for the machine, or the status that tells why there is none.
+pub(crate) fn netlist_of(
+    alloc: Global,
+    machine: &Machine,
+    library: &Library,
+) -> Result<Netlist, Status>
+    requires { length machine.now.ports ≤ most_ports }
+    ensures right { IfOk result (λ n. IsNetlistFor library.now machine.now n) }
+    ensures small { OnOk result (size_of machine.now ≤ MOST_SIZE) }
+    ensures refused { IfErr result (λ s. MemoryOr s (IsNoNetlist library.now machine.now s)) }
+{
+    right_meets_condition();
+    let size = machine_size(machine);
+    if size > MOST_SIZE {
+        return Err(Status::Limit(Limit {
+            which: LimitKind::Size,
+            reached: size,
+        }));
+    }
+    let Ok(graph) = Graph::of_machine(alloc, machine) else {
+        return Err(Status::Memory);
+    };
+    match map(alloc, machine, &graph, library) {
+        Ok(netlist) => Ok(netlist),
+        Err(MapError::Memory) => Err(Status::Memory),
+        Err(MapError::NoCover(kind)) => Err(Status::NoCover(kind)),
+    }
+}
+
+// How many instances there are.
+fn report(alloc: Global, netlist: &Netlist) -> Result<FileBytes, AllocError>
+    ensures { IfOk result (λ text. text ≡ report_of netlist.now) }
+{
+    let mut number = Text::new(Vec::new(alloc));
+    push_u64(alloc, &mut number, netlist.nodes().len() as u64)?;
+    let mut text = FileBytes::from_bytes(alloc, b"cells ")?;
+    text.append(number.as_bytes())?;
+    text.append(b"\n")?;
+    Ok(text)
+}
+
+/// The netlist's file, NAME.vst, and what is printed.
+pub(crate) fn product(
+    alloc: Global,
+    out: &FileName,
+    netlist: &Netlist,
+    library: &Library,
+) -> Result<Product, AllocError>
+    requires { IsWritable library.now netlist.now }
+    ensures { IfOk result (λ p. IsWrittenAs out.now library.now netlist.now p) }
+{
+    let table = pin_table(alloc, library, false)?;
+    let file = match write_vst(alloc, netlist, &table) {
+        Ok(file) => file,
+        Err(WriteError::Memory) => return Err(AllocError),
+        Err(WriteError::BadMap) => unreachable!(),
+    };
+    let mut name = out.copy(alloc)?;
+    name.append(b".vst")?;
+    Ok(Product {
+        name,
+        file: Some(file),
+        text: report(alloc, netlist)?,
+    })
+}
