@@ -8,11 +8,10 @@ use Rattle.tool_words.specs.declared.words.WordsError.{WordsError}
 use Rattle.tool_words.specs.declared.words.WordsError.TheVariants as words
 use Rattle.tool_words.specs.declared.command.FlowCommand.{FlowCommand}
 use Rattle.tool_words.specs.declared.command.BoogCommand.{BoogCommand}
-use Rattle.tool_words.specs.declared.command.AsimutCommand.{AsimutCommand}
 use Rattle.tool_words.specs.Words.{is_word}
-use Rattle.tool_words.specs.Table.{Entry, library, out, patterns, flow, boog, asimut, tools}
+use Rattle.tool_words.specs.Table.{Entry, library, out, patterns, netlist_library, flow, boog, asimut, tools}
 use Rattle.tool_words.specs.Values.{files, values, only}
-use Rattle.tool_words.specs.Commands.{flow_with, boog_with, asimut_with, command_from, command_of, as_flow, as_boog, as_asimut, flow_of, boog_of, asimut_of, Spells}
+use Rattle.tool_words.specs.Commands.{flow_with, boog_with, asimut_with, command_from, command_of, as_flow, as_boog, as_asimut, as_asimut_netlist, flow_of, boog_of, asimut_of, asimut_netlist_of, Spells}
 use Rattle.tool_words.specs.Laws.{WordsAreExact}
 use Rattle.vlsi_shelf.specs.Seen.{SinkSeen}
 use Rattle.tool_drive.specs.declared.status.Status.{Status}
@@ -22,7 +21,8 @@ use Rattle.tool_drive.specs.Outside.{Outside, IsLine}
 use Rattle.tool_drive.specs.Table.{Caused, IsComplete, memory_complete}
 use Rattle.tool_run.specs.Usage.{word_of, tool_of, line_of, status_of}
 use Rattle.boog_run.specs.Boog.{boog_plan, boog_answers}
-use Rattle.tool_run.specs.Asimut.{asimut_plan, asimut_answers}
+use Rattle.asimut_run.specs.Asimut.{asimut_plan, asimut_answers}
+use Rattle.asimut_run.specs.Netlist.{netlist_plan, netlist_answers}
 use Rattle.flow_run.specs.Flow.{flow_plan, flow_answers}
 use Rattle.flow_run.specs.Causes.{IsHeadline}
 use Rattle.flow_run.proofs.Rows.{if_some, headline_of}
@@ -37,9 +37,14 @@ boog_word : (x : Option BoogCommand) (k : Command) → option_map command.Boog x
 boog_word None k h = absurd (cc h)
 boog_word (Some c) k h = let same : command.Boog c ≡ k = cc h in subst (λ (other : Command). codes "boog" ≡ word_of other) same refl
 
-asimut_word : (x : Option AsimutCommand) (k : Command) → option_map command.Asimut x ≡ Some k → codes "asimut" ≡ word_of k
-asimut_word None k h = absurd (cc h)
-asimut_word (Some c) k h = let same : command.Asimut c ≡ k = cc h in subst (λ (other : Command). codes "asimut" ≡ word_of other) same refl
+is_asimut : (c k : Command) → codes "asimut" ≡ word_of c → Some c ≡ Some k → codes "asimut" ≡ word_of k
+is_asimut c k w h = let same : c ≡ k = cc h in subst (λ (other : Command). codes "asimut" ≡ word_of other) same w
+
+asimut_word : (s p l : Option (List ℕ)) (k : Command) → asimut_with s p l ≡ Some k → codes "asimut" ≡ word_of k
+asimut_word None p l k h = absurd (cc h)
+asimut_word (Some s) None l k h = absurd (cc h)
+asimut_word (Some s) (Some p) None k h = is_asimut (command.Asimut (record { source = s; patterns = p })) k refl h
+asimut_word (Some s) (Some p) (Some l) k h = is_asimut (command.AsimutNetlist (record { source = s; patterns = p; library = l })) k refl h
 
 abbrev NamesItsCommands : Entry → Type 0
 NamesItsCommands e = (arguments : List _) (k : Command) → command_from e.tool arguments ≡ Some k → e.word ≡ word_of k
@@ -51,7 +56,7 @@ boog_names : NamesItsCommands boog
 boog_names a k h = boog_word (boog_with (only (files a)) (only (values library.word a)) (only (values out.word a))) k h
 
 asimut_names : NamesItsCommands asimut
-asimut_names a k h = asimut_word (asimut_with (only (files a)) (only (values patterns.word a))) k h
+asimut_names a k h = asimut_word (only (files a)) (only (values patterns.word a)) (only (values netlist_library.word a)) k h
 
 abbrev Each : (Entry → Type 0) → List Entry → Type 0
 Each P [] = Unit {0}
@@ -124,3 +129,11 @@ asimut_unread ws words.Usage before now s is none =
 asimut_unread ws words.Memory before now s is none =
     subst (λ (x : Status). IfSome (asimut_of ws) (λ c. IsComplete (asimut_plan c) (asimut_answers c) before now x)) (sym is)
     (all_some (asimut_of ws) (λ c. memory_complete (asimut_plan c) (asimut_answers c) before now))
+
+pub netlist_unread : (ws : List (List ℕ)) (e : WordsError) (before now : Outside) (s : Status) → s ≡ status_of e → (IsErrOf {T = Command} (Err e) words.Usage → command_of ws ≡ None)
+    → IfSome (asimut_netlist_of ws) (λ c. IsComplete (netlist_plan c) (netlist_answers c) before now s)
+netlist_unread ws words.Usage before now s is none =
+    subst (λ (o : Option Command). IfSome (as_asimut_netlist o) (λ c. IsComplete (netlist_plan c) (netlist_answers c) before now s)) (sym (none refl)) tt
+netlist_unread ws words.Memory before now s is none =
+    subst (λ (x : Status). IfSome (asimut_netlist_of ws) (λ c. IsComplete (netlist_plan c) (netlist_answers c) before now x)) (sym is)
+    (all_some (asimut_netlist_of ws) (λ c. memory_complete (netlist_plan c) (netlist_answers c) before now))

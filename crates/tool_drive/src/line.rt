@@ -80,6 +80,10 @@ fn verdict(alloc: Global, out: &mut FileBytes, verdict: &Verdict) -> Result<(), 
             out.append(label.as_bytes())?;
             spaced_name(alloc, out, name)
         }
+        Verdict::NoBehaviour(cell) => {
+            out.append(b"no behaviour ")?;
+            out.append(cell.as_bytes())
+        }
     }
 }
 

@@ -23,19 +23,22 @@ pub enum FileCause {
 pub enum LibraryFault {
     /// A line of CATAL, counted from 1.
     BadCatal(u32),
-    /// A cell, and the number of the check that it fails, counted from 1. No tool has such checks yet.
+    /// A cell, and the number of the check that it fails, counted from 1.
     BadCell { cell: Text, cause: u8 },
 }
 
-/// What a tool that compares found.
+/// What a tool that compares, or that needs each cell's behaviour, found.
 #[derive(Drop)]
 pub enum Verdict {
     /// A bit that isn't what the pattern expects, and the pattern's label, or its number from 0.
     Differs { label: Text, name: Name },
+    /// The cell of an instance of which nothing is known.
+    NoBehaviour(Text),
 }
 
-/// How a call ends. As they are built so far, `flow` answers `Accepted`, `Usage`, `File`, `Memory` and `Beyond`, and `asimut`
-/// `Accepted`, `Usage`, `Source`, `File`, `Memory`, `Limit` and `No`. The driver itself answers `File`, `Memory` and the limit
+/// How a call ends. As they are built so far, `flow` answers `Accepted`, `Usage`, `File`, `Memory` and `Beyond`; `boog`
+/// `Accepted`, `Usage`, `Source`, `Library`, `NoCover`, `File`, `Memory` and `Limit`; `asimut` `Accepted`, `Usage`, `Source`,
+/// `File`, `Memory`, `Limit` and `No`, and on a netlist `Library` too. The driver itself answers `File`, `Memory` and the limit
 /// file; the other refusals are the tools'.
 #[derive(Drop)]
 pub enum Status {
@@ -61,7 +64,7 @@ pub enum Status {
     Limit(Limit),
     /// The source, or the library with it, is of a form that isn't built yet.
     Beyond,
-    /// A tool that compares found a difference.
+    /// A tool that compares found a difference, or a cell without behaviour.
     No(Verdict),
 }
 

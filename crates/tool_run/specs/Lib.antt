@@ -1,3 +1,1 @@
 pub mod Usage
-pub mod Asimut
-pub mod Laws

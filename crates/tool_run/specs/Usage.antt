@@ -14,11 +14,13 @@ abbrev pub word_of : Command → List ℕ
 word_of (command.Flow c) = codes "flow"
 word_of (command.Boog c) = codes "boog"
 word_of (command.Asimut c) = codes "asimut"
+word_of (command.AsimutNetlist c) = codes "asimut"
 
 abbrev pub is_flow : Command → Bool
 is_flow (command.Flow c) = true
 is_flow (command.Boog c) = false
 is_flow (command.Asimut c) = false
+is_flow (command.AsimutNetlist c) = false
 
 -- the word that stands first
 abbrev pub tool_of : List (List ℕ) → List ℕ

@@ -1,15 +1,12 @@
 //! The tools beside `flow`, by the driver of `tool_drive`, and the line on words that spell no command.
 //!
-//! What `asimut` reads and answers stands in `specs/Asimut.antt`; when each status comes and what it leaves, for all tools, in
-//! `specs/Table.antt` of `tool_drive`.
+//! What each tool reads and answers stands in the specs of its crate (`boog_run`, `asimut_run`); when each status comes and what it
+//! leaves, for all tools, in `specs/Table.antt` of `tool_drive`.
 #![tactic(auto)]
 
-mod asimut;
-mod laws;
 mod run;
 mod usage;
 
-pub use laws::asimut_law;
 pub use run::run_tool;
 pub use tool_drive::{FileCause, Kind, LibraryFault, Status, Verdict};
 pub use usage::refuse_words;

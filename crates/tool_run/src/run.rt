@@ -1,16 +1,17 @@
 // The tools beside `flow`, each by the driver.
 ghost use Rattle.std.specs.Prelude.{◌≡◌, Some, true, false, IfSome};
 ghost use Rattle.vlsi_shelf.specs.Seen.{ShelfSeen};
-ghost use Rattle.tool_words.specs.Commands.{as_boog, as_asimut};
+ghost use Rattle.tool_words.specs.Commands.{as_boog, as_asimut, as_asimut_netlist};
 ghost use Rattle.boog_run.specs.Boog.{boog_plan, boog_answers};
 ghost use Rattle.tool_drive.specs.Outside.{outside, IsLine};
 ghost use Rattle.tool_drive.specs.Status.{has_line};
 ghost use Rattle.tool_drive.specs.Lines.{line_of};
 ghost use Rattle.tool_drive.specs.Table.{Caused, IsComplete};
-ghost use Rattle.tool_run.specs.Asimut.{asimut_plan, asimut_answers};
+ghost use Rattle.asimut_run.specs.Asimut.{asimut_plan, asimut_answers};
+ghost use Rattle.asimut_run.specs.Netlist.{netlist_plan, netlist_answers};
 ghost use Rattle.tool_run.specs.Usage.{is_flow, word_of};
 
-use crate::asimut::Asimut;
+use asimut_run::{Asimut, AsimutNetlist};
 use boog_run::Boog;
 use std::alloc::Global;
 use tool_drive::{Status, drive};
@@ -21,7 +22,7 @@ use vlsi_shelf::{Shelf, Sink};
 pub fn run_tool<S: Shelf, T: Sink>(alloc: Global, c: &Command, shelf: &mut S, out: &mut T) -> Status
     requires { is_flow c.now ≡ false }
     // Every status has its cause and leaves the files that its row says, and over told files, where nothing failed, it is what the
-    // files come to: of boog, and of asimut.
+    // files come to: of boog, and of asimut on a source and on a netlist.
     ensures mapping { IfSome (as_boog (Some c.now)) (λ b. Caused (boog_plan b) (boog_answers b)
         (outside (S.seen shelf.old) (T.seen out.old)) (outside (S.seen shelf.new) (T.seen out.new)) result) }
     ensures mapping_complete { IfSome (as_boog (Some c.now)) (λ b. IsComplete (boog_plan b) (boog_answers b)
@@ -29,6 +30,10 @@ pub fn run_tool<S: Shelf, T: Sink>(alloc: Global, c: &Command, shelf: &mut S, ou
     ensures simulation { IfSome (as_asimut (Some c.now)) (λ a. Caused (asimut_plan a) (asimut_answers a)
         (outside (S.seen shelf.old) (T.seen out.old)) (outside (S.seen shelf.new) (T.seen out.new)) result) }
     ensures simulation_complete { IfSome (as_asimut (Some c.now)) (λ a. IsComplete (asimut_plan a) (asimut_answers a)
+        (outside (S.seen shelf.old) (T.seen out.old)) (outside (S.seen shelf.new) (T.seen out.new)) result) }
+    ensures netlist { IfSome (as_asimut_netlist (Some c.now)) (λ a. Caused (netlist_plan a) (netlist_answers a)
+        (outside (S.seen shelf.old) (T.seen out.old)) (outside (S.seen shelf.new) (T.seen out.new)) result) }
+    ensures netlist_complete { IfSome (as_asimut_netlist (Some c.now)) (λ a. IsComplete (netlist_plan a) (netlist_answers a)
         (outside (S.seen shelf.old) (T.seen out.old)) (outside (S.seen shelf.new) (T.seen out.new)) result) }
 
     // A refusal prints its line and nothing else, as far as memory and the sink let it.
@@ -43,6 +48,10 @@ pub fn run_tool<S: Shelf, T: Sink>(alloc: Global, c: &Command, shelf: &mut S, ou
         }
         Command::Asimut(command) => {
             let tool = Asimut { command };
+            drive(alloc, b"asimut", &tool, shelf, out)
+        }
+        Command::AsimutNetlist(command) => {
+            let tool = AsimutNetlist { command };
             drive(alloc, b"asimut", &tool, shelf, out)
         }
     }

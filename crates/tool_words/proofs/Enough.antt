@@ -5,7 +5,7 @@ use Rattle.std.specs.List.{find, list_all}
 use Rattle.tool_words.specs.declared.arguments.Argument.{Argument}
 use Rattle.tool_words.specs.declared.command.Command.TheVariants as command
 use Rattle.tool_words.specs.Words.{is_word}
-use Rattle.tool_words.specs.Table.{Entry, Setting, flow, boog, asimut, library, out, tracks, patterns, tools}
+use Rattle.tool_words.specs.Table.{Entry, Setting, flow, boog, asimut, library, out, tracks, patterns, netlist_library, tools}
 use Rattle.tool_words.specs.Values.{files, values, only, has_any_ending, setting_fits, is_source, fits}
 use Rattle.tool_words.specs.Commands.{flow_with, boog_with, asimut_with, command_from}
 use Rattle.tool_words.specs.Laws.{FittingIsEnough}
@@ -60,14 +60,18 @@ boog_enough a fit =
     let o = both (setting_fits a out) true l.1 in
     boog_from _ _ _ _ _ _ (has_some boog.endings (only (files a)) f.0).1 (value_of_one a library _ l.0).1 (value_of_one a out _ o.0).1
 
-asimut_from : (s p : Option (List ℕ)) (x y : List ℕ) → s ≡ Some x → p ≡ Some y → IsSome (option_map command.Asimut (asimut_with s p))
-asimut_from s p x y a b = rw (a, b) refl
+asimut_with_some : (x y : List ℕ) (l : Option (List ℕ)) → IsSome (asimut_with (Some x) (Some y) l)
+asimut_with_some x y None = refl
+asimut_with_some x y (Some z) = refl
+
+asimut_from : (s p l : Option (List ℕ)) (x y : List ℕ) → s ≡ Some x → p ≡ Some y → IsSome (asimut_with s p l)
+asimut_from s p l x y a b = rw (a, b) (asimut_with_some x y l)
 
 asimut_enough : Enough asimut
 asimut_enough a fit =
     let f = both (is_source asimut.endings (files a)) (list_all (setting_fits a) asimut.settings) fit in
-    let p = both (setting_fits a patterns) true f.1 in
-    asimut_from _ _ _ _ (has_some asimut.endings (only (files a)) f.0).1 (value_of_one a patterns _ p.0).1
+    let p = both (setting_fits a patterns) (list_all (setting_fits a) (netlist_library ∷ [])) f.1 in
+    asimut_from _ _ _ _ _ (has_some asimut.endings (only (files a)) f.0).1 (value_of_one a patterns _ p.0).1
 
 each : Each Enough tools
 each = (flow_enough, (boog_enough, (asimut_enough, tt)))

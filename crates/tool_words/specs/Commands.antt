@@ -7,9 +7,10 @@ use Rattle.tool_words.specs.declared.arguments.Argument.{Argument}
 use Rattle.tool_words.specs.declared.command.FlowCommand.{FlowCommand}
 use Rattle.tool_words.specs.declared.command.BoogCommand.{BoogCommand}
 use Rattle.tool_words.specs.declared.command.AsimutCommand.{AsimutCommand}
+use Rattle.tool_words.specs.declared.command.AsimutNetlistCommand.{AsimutNetlistCommand}
 use Rattle.tool_words.specs.declared.command.Command.{Command}
 use Rattle.tool_words.specs.declared.command.Command.TheVariants as command
-use Rattle.tool_words.specs.Table.{Entry, library, out, patterns, tool_of}
+use Rattle.tool_words.specs.Table.{Entry, library, out, patterns, netlist_library, tool_of}
 use Rattle.tool_words.specs.Arguments.{spelling, is_valid, arguments_of}
 use Rattle.tool_words.specs.Values.{files, values, only, fits}
 
@@ -23,16 +24,19 @@ abbrev pub boog_with : Option (List ℕ) → Option (List ℕ) → Option (List 
 boog_with (Some source) (Some library) (Some out) = Some (record { source = source; library = library; out = out })
 boog_with _ _ _ = None
 
-abbrev pub asimut_with : Option (List ℕ) → Option (List ℕ) → Option AsimutCommand
-asimut_with (Some source) (Some patterns) = Some (record { source = source; patterns = patterns })
-asimut_with _ _ = None
+-- patterns are run on a source, or with a library on a netlist
+abbrev pub asimut_with : Option (List ℕ) → Option (List ℕ) → Option (List ℕ) → Option Command
+asimut_with (Some source) (Some patterns) None = Some (command.Asimut (record { source = source; patterns = patterns }))
+asimut_with (Some source) (Some patterns) (Some library) =
+    Some (command.AsimutNetlist (record { source = source; patterns = patterns; library = library }))
+asimut_with _ _ _ = None
 
 abbrev pub command_from : Tool → List Argument → Option Command
 command_from tool.Flow a =
     option_map command.Flow (flow_with (only (files a)) (only (values library.word a)) (only (values out.word a)))
 command_from tool.Boog a =
     option_map command.Boog (boog_with (only (files a)) (only (values library.word a)) (only (values out.word a)))
-command_from tool.Asimut a = option_map command.Asimut (asimut_with (only (files a)) (only (values patterns.word a)))
+command_from tool.Asimut a = asimut_with (only (files a)) (only (values patterns.word a)) (only (values netlist_library.word a))
 
 -- ---- all tools
 
@@ -70,6 +74,10 @@ abbrev pub as_asimut : Option Command → Option AsimutCommand
 as_asimut (Some (command.Asimut c)) = Some c
 as_asimut _ = None
 
+abbrev pub as_asimut_netlist : Option Command → Option AsimutNetlistCommand
+as_asimut_netlist (Some (command.AsimutNetlist c)) = Some c
+as_asimut_netlist _ = None
+
 -- the command of `flow` that they spell
 abbrev pub flow_of : List (List ℕ) → Option FlowCommand
 flow_of words = as_flow (command_of words)
@@ -78,6 +86,9 @@ flow_of words = as_flow (command_of words)
 abbrev pub boog_of : List (List ℕ) → Option BoogCommand
 boog_of words = as_boog (command_of words)
 
--- the command of `asimut` that they spell
+-- the commands of `asimut` that they spell, on a source and on a netlist
 abbrev pub asimut_of : List (List ℕ) → Option AsimutCommand
 asimut_of words = as_asimut (command_of words)
+
+abbrev pub asimut_netlist_of : List (List ℕ) → Option AsimutNetlistCommand
+asimut_netlist_of words = as_asimut_netlist (command_of words)

@@ -49,6 +49,9 @@ out = record { word = codes "-o"; value = codes "NAME"; need = Once; form = Text
 abbrev pub patterns : Setting
 patterns = record { word = codes "-p"; value = codes "PATTERNS"; need = Once; form = Ending (codes ".pat") }
 
+abbrev pub netlist_library : Setting
+netlist_library = record { word = codes "-l"; value = codes "DIR"; need = With (codes ".vst"); form = Text }
+
 abbrev pub tracks : Setting
 tracks = record { word = codes "--tracks"; value = []; need = Once; form = Flag }
 
@@ -59,7 +62,12 @@ abbrev pub boog : Entry
 boog = record { tool = tool.Boog; word = codes "boog"; endings = codes ".vbe" ∷ []; settings = library ∷ out ∷ [] }
 
 abbrev pub asimut : Entry
-asimut = record { tool = tool.Asimut; word = codes "asimut"; endings = codes ".vbe" ∷ []; settings = patterns ∷ [] }
+asimut = record {
+  tool = tool.Asimut;
+  word = codes "asimut";
+  endings = codes ".vbe" ∷ codes ".vst" ∷ [];
+  settings = patterns ∷ netlist_library ∷ [];
+}
 
 abbrev pub tools : List Entry
 tools = flow ∷ boog ∷ asimut ∷ []

@@ -5,7 +5,7 @@ ghost use Rattle.tool_words.specs.Commands.{command_from, command_among, command
 ghost use Rattle.tool_words.specs.View.{entry_view};
 
 use crate::arguments::{Argument, arguments};
-use crate::table::{Entry, LIBRARY, OUT, PATTERNS, Tool, tool_of};
+use crate::table::{Entry, LIBRARY, NETLIST_LIBRARY, OUT, PATTERNS, Tool, tool_of};
 use crate::values::{Wanted, fits, only};
 use crate::words::{Words, WordsError};
 use std::alloc::{AllocError, Global};
@@ -42,12 +42,24 @@ pub struct AsimutCommand {
     pub patterns: FileName,
 }
 
+/// What `asimut` is asked to do: to run patterns on the netlist of the library's cells.
+#[derive(Drop)]
+pub struct AsimutNetlistCommand {
+    /// The netlist's file, whose name ends in `.vst`.
+    pub source: FileName,
+    /// The file of patterns, whose name ends in `.pat`.
+    pub patterns: FileName,
+    /// The folder of the library.
+    pub library: FileName,
+}
+
 /// What the words of a command ask for.
 #[derive(Drop)]
 pub enum Command {
     Flow(FlowCommand),
     Boog(BoogCommand),
     Asimut(AsimutCommand),
+    AsimutNetlist(AsimutNetlistCommand),
 }
 
 fn flow(alloc: Global, arguments: &[Argument]) -> Result<Command, WordsError>
@@ -93,10 +105,16 @@ fn asimut(alloc: Global, arguments: &[Argument]) -> Result<Command, WordsError>
     let (Some(source), Some(patterns)) = (source, patterns) else {
         return Err(WordsError::Usage);
     };
-    Ok(Command::Asimut(AsimutCommand {
-        source: FileName::from_bytes(alloc, source)?,
-        patterns: FileName::from_bytes(alloc, patterns)?,
-    }))
+    let source = FileName::from_bytes(alloc, source)?;
+    let patterns = FileName::from_bytes(alloc, patterns)?;
+    match only(arguments, Wanted::Value(NETLIST_LIBRARY.word)) {
+        None => Ok(Command::Asimut(AsimutCommand { source, patterns })),
+        Some(library) => Ok(Command::AsimutNetlist(AsimutNetlistCommand {
+            source,
+            patterns,
+            library: FileName::from_bytes(alloc, library)?,
+        })),
+    }
 }
 
 // The command of a tool, from its arguments.

@@ -77,6 +77,13 @@ pub(crate) const PATTERNS: Setting = Setting {
     form: Form::Ending(".pat"),
 };
 
+pub(crate) const NETLIST_LIBRARY: Setting = Setting {
+    word: "-l",
+    value: "DIR",
+    need: Need::With(".vst"),
+    form: Form::Text,
+};
+
 const TRACKS: Setting = Setting {
     word: "--tracks",
     value: "",
@@ -100,8 +107,8 @@ const TOOLS: &[Entry] = &[
     Entry {
         tool: Tool::Asimut,
         word: "asimut",
-        endings: &[".vbe"],
-        settings: &[PATTERNS],
+        endings: &[".vbe", ".vst"],
+        settings: &[PATTERNS, NETLIST_LIBRARY],
     },
 ];
 

@@ -1,5 +1,5 @@
 // Laws: what the tools' plans and answers come to, said of files. They cost nothing when they are called.
-ghost use Rattle.tool_run.specs.Laws.{AnswersBoth, ChangesNoFile};
+ghost use Rattle.asimut_run.specs.Laws.{AnswersBoth, ChangesNoFile};
 
 /// What `asimut` answers is an answer to the contents of SOURCE and PATTERNS, neither of which is too long, and whatever the
 /// status it changes no file.

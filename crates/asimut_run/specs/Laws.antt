@@ -8,7 +8,7 @@ use Rattle.tool_drive.specs.declared.tool.Refusal.{Refusal}
 use Rattle.tool_drive.specs.Outside.{Outside, IsUntouched}
 use Rattle.tool_drive.specs.Held.{Holds}
 use Rattle.tool_drive.specs.Table.{ComesTo, Caused}
-use Rattle.tool_run.specs.Asimut.{asimut_plan, asimut_answers, Simulates}
+use Rattle.asimut_run.specs.Asimut.{asimut_plan, asimut_answers, Simulates}
 
 -- both files were read, neither is too long, and this holds of their bytes
 abbrev pub OfBoth : Option Files → AsimutCommand → (List ℕ → List ℕ → Type 0) → Type 0

@@ -1,7 +1,7 @@
 // `asimut` as a tool: patterns run on a source.
 ghost use Rattle.std.specs.Prelude.{◌≡◌, IfOk};
 ghost use Rattle.tool_drive.specs.Table.{IsJudged};
-ghost use Rattle.tool_run.specs.Asimut.{label_of, IsToldOf, Simulates};
+ghost use Rattle.asimut_run.specs.Asimut.{label_of, IsToldOf, Simulates};
 
 use asimut_sim::{SimError, simulate};
 use pat_io::{read_pat, write_pat};
@@ -19,7 +19,7 @@ pub struct Asimut<'a> {
 }
 
 // The label of the pattern with this number from 0, or the number.
-fn label(alloc: Global, patterns: &[Pattern], number: u32) -> Result<Text, AllocError>
+pub(crate) fn label(alloc: Global, patterns: &[Pattern], number: u32) -> Result<Text, AllocError>
     ensures { IfOk result (λ label. label ≡ label_of patterns.now number) }
 {
     if let Some(pattern) = patterns.get(number as usize) {
@@ -78,7 +78,7 @@ fn simulated(
 }
 
 impl Tool for Asimut<'_> {
-    ghost use Rattle.tool_run.specs.Asimut.{asimut_plan, asimut_answers};
+    ghost use Rattle.asimut_run.specs.Asimut.{asimut_plan, asimut_answers};
 
     ghost plan = { λ t. asimut_plan t.command.now };
 

@@ -1,7 +1,7 @@
 use Rattle.std.proofs.Common.{[], get_or, subst}
 use Rattle.tool_drive.specs.Table.{IsJudged}
-use Rattle.tool_run.specs.Asimut.{Simulates}
-use Rattle.tool_run.proofs.asimut.AsimutTool.judge.Goals as goal
+use Rattle.asimut_run.specs.Asimut.{Simulates}
+use Rattle.asimut_run.proofs.source.AsimutTool.judge.Goals as goal
 
 pub returns : goal.returns
 returns c =

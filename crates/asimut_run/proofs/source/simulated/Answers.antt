@@ -4,9 +4,9 @@ use Rattle.pat_meaning.specs.declared.patterns.Pattern.{Pattern}
 use Rattle.pat_io.specs.PatternText.{IsPatternText}
 use Rattle.tool_drive.specs.declared.tool.Refusal.{Refusal}
 use Rattle.tool_drive.specs.Table.{IsJudged}
-use Rattle.tool_run.specs.Asimut.{Simulates, IsToldOf}
-use Rattle.tool_run.proofs.Refusing.{by_source, by_difference}
-use Rattle.tool_run.proofs.asimut.simulated.Goals as goal
+use Rattle.asimut_run.specs.Asimut.{Simulates, IsToldOf}
+use Rattle.asimut_run.proofs.Refusing.{by_source, by_difference}
+use Rattle.asimut_run.proofs.source.simulated.Goals as goal
 
 pub returns-in-Err : goal.returns-in-Err
 returns-in-Err c =

@@ -11,8 +11,8 @@ use Rattle.tool_drive.specs.declared.tool.Refusal.{Refusal}
 use Rattle.tool_drive.specs.Outside.{Outside, IsUntouched}
 use Rattle.tool_drive.specs.Held.{Holds, AreHad, are_had, holds}
 use Rattle.tool_drive.specs.Table.{refusal, IsStored, IsLeft, IsPart, IsWriting, ComesTo, Caused}
-use Rattle.tool_run.specs.Asimut.{asimut_plan, asimut_answers, Simulates}
-use Rattle.tool_run.specs.Laws.{OfBoth}
+use Rattle.asimut_run.specs.Asimut.{asimut_plan, asimut_answers, Simulates}
+use Rattle.asimut_run.specs.Laws.{OfBoth}
 
 both_held : (c : AsimutCommand) (files : Files) (first : List (List ℕ)) → AreHad files (asimut_plan c).first first
     → Holds files c.source (get_or first 0 []) × Holds files c.patterns (get_or first 1 [])

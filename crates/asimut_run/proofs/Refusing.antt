@@ -14,7 +14,7 @@ use Rattle.tool_drive.specs.declared.status.Status.TheVariants as status
 use Rattle.tool_drive.specs.declared.status.Verdict.TheVariants.{Differs}
 use Rattle.tool_drive.specs.Table.{IsJudged, refusal}
 use Rattle.tool_drive.specs.Refusals.{MemoryOr, OfFile, of_file, judged_file}
-use Rattle.tool_run.specs.Asimut.{IsPatternFault, Simulates, IsToldOf}
+use Rattle.asimut_run.specs.Asimut.{IsPatternFault, Simulates, IsToldOf}
 
 pub by_source : (c : AsimutCommand) (source patterns : List ℕ) (e : ReadError) (s : Status) → IsVbeRefusal source e → MemoryOr s (OfFile c.source (λ x. x ≡ e) s)
     → IsJudged (Simulates c source patterns) (Err (refusal s None))

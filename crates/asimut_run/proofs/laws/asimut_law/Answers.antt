@@ -1,5 +1,5 @@
-use Rattle.tool_run.proofs.Contents.{answers_both, changes_no_file}
-use Rattle.tool_run.proofs.laws.asimut_law.Goals as goal
+use Rattle.asimut_run.proofs.Contents.{answers_both, changes_no_file}
+use Rattle.asimut_run.proofs.laws.asimut_law.Goals as goal
 
 pub returns-clause-answers : goal.returns-clause-answers
 returns-clause-answers c = λ command told r h. answers_both command told r h

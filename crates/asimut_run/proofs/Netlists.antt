@@ -1,0 +1,57 @@
+-- From the refusals of readers and of simulation on netlists to the tool's.
+use Rattle.std.proofs.Common.{◌≡◌, ℕ, List, None, Err, false, ap, refl}
+use Rattle.vlsi_base.specs.declared.fault.ReadError.{ReadError}
+use Rattle.cell_model.specs.Library.{Library}
+use Rattle.cell_lib.specs.declared.error.LibError.{LibError}
+use Rattle.cell_lib.specs.declared.error.LibError.TheVariants as errors
+use Rattle.cell_lib.proofs.Plain.{never_missing, never_unread}
+use Rattle.cell_lib.specs.Cells.{OrMemory}
+use Rattle.cell_lib.specs.Library.{IsRefusedLibrary, status_of}
+use Rattle.net_core.specs.declared.pins.ModelPins.{ModelPins}
+use Rattle.net_core.specs.Netlist.{Netlist}
+use Rattle.net_machine.specs.Signals.{signal_ports}
+use Rattle.net_sim.specs.declared.error.NetSimError.{NetSimError}
+use Rattle.net_sim.specs.declared.error.NetSimError.TheVariants as net
+use Rattle.net_sim.specs.Answers.{IsSimRefusal}
+use Rattle.pat_meaning.specs.declared.patterns.Patterns.{Patterns}
+use Rattle.pat_io.specs.PatternText.{IsPatternRefusal}
+use Rattle.vst_io.specs.Text.{IsVst, IsVstRefusal}
+use Rattle.tool_words.specs.declared.command.AsimutNetlistCommand.{AsimutNetlistCommand}
+use Rattle.tool_drive.specs.declared.status.Status.{Status}
+use Rattle.tool_drive.specs.declared.status.Status.TheVariants as status
+use Rattle.tool_drive.specs.declared.status.Verdict.TheVariants.{Differs, NoBehaviour}
+use Rattle.tool_drive.specs.Table.{IsJudged, refusal}
+use Rattle.tool_drive.specs.Refusals.{MemoryOr, OfFile, of_file, judged_file}
+use Rattle.asimut_run.specs.Asimut.{label_of}
+use Rattle.asimut_run.specs.Netlist.{Texts, AreCells, AreRead, no_library, bad_netlist, bad_patterns, no_behaviour, differs, Simulates, IsToldOf}
+
+pub by_library : (c : AsimutNetlistCommand) (t : Texts) (e : LibError) → OrMemory (IsRefusedLibrary false t.catal t.cells) e
+    → IsJudged (Simulates c t) (Err (refusal (status_of e) None))
+by_library c t errors.Memory h = refl
+by_library c t (errors.Limit l) h = (refl, no_library (errors.Limit l) h refl)
+by_library c t (errors.BadCatal line) h = (refl, no_library (errors.BadCatal line) h refl)
+by_library c t (errors.BadCell cell cause) h = (refl, no_library (errors.BadCell cell cause) h refl)
+by_library c t (errors.Missing name) h = absurd (never_missing false t.catal t.cells name h)
+by_library c t (errors.ReadFault name) h = absurd (never_unread false t.catal t.cells name h)
+
+pub by_netlist : (c : AsimutNetlistCommand) (t : Texts) (l : Library) (table : List ModelPins) (e : ReadError) (s : Status) → AreCells t l table
+    → IsVstRefusal t.source table e → MemoryOr s (OfFile c.source (λ x. x ≡ e) s) → IsJudged (Simulates c t) (Err (refusal s None))
+by_netlist c t l table e s cells h k =
+    judged_file (Simulates c t) c.source (IsVstRefusal t.source table) s (of_file c.source (IsVstRefusal t.source table) e h s k)
+    (λ o. (refl, bad_netlist l table cells o))
+
+pub by_patterns : (c : AsimutNetlistCommand) (t : Texts) (l : Library) (table : List ModelPins) (n : Netlist) (e : ReadError) (s : Status) → AreCells t l table
+    → IsVst t.source table n → IsPatternRefusal t.patterns (signal_ports n.ports) e → MemoryOr s (OfFile c.patterns (λ x. x ≡ e) s)
+    → IsJudged (Simulates c t) (Err (refusal s None))
+by_patterns c t l table n e s cells is h k =
+    judged_file (Simulates c t) c.patterns (IsPatternRefusal t.patterns (signal_ports n.ports)) s
+    (of_file c.patterns (IsPatternRefusal t.patterns (signal_ports n.ports)) e h s k) (λ o. (refl, bad_patterns l table n cells is o))
+
+pub by_simulation : (c : AsimutNetlistCommand) (t : Texts) (l : Library) (table : List ModelPins) (n : Netlist) (p : Patterns) (e : NetSimError) (s : Status)
+    → AreRead t l table n p → IsSimRefusal n l table p e → IsToldOf p.patterns e s → IsJudged (Simulates c t) (Err (refusal s None))
+by_simulation c t l table n p e status.Memory read h k = refl
+by_simulation c t l table n p (net.NoBehaviour model) (status.No (NoBehaviour cell)) read h k =
+    (refl, no_behaviour l table n p model read h (ap (λ (x : List ℕ). status.No (NoBehaviour x)) k))
+by_simulation c t l table n p (net.Differs number name) (status.No (Differs label bit)) read h k =
+    (refl, differs l table n p number name read h.0 h.1 (rw (k.0, k.1) refl))
+by_simulation c t l table n p e _ read h k = absurd k

@@ -1,0 +1,3 @@
+pub mod Asimut
+pub mod Laws
+pub mod Netlist
