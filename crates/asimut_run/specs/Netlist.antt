@@ -60,7 +60,7 @@ pub record AreRead (t : Texts) (l : Library) (table : List ModelPins) (n : Netli
   pub netlist : IsVst t.source table n
   pub for_ports : IsPatternText t.patterns (signal_ports n.ports) p
 
--- The patterns come out as they expect, and this is their text with every output filled in.
+-- No cell is opaque, the patterns come out as they expect, and this is their text with every output filled in.
 pub record IsSimulation (t : Texts) (text : List ℕ) : Type 0 where
   pub l : Library
   pub table : List ModelPins
@@ -68,6 +68,7 @@ pub record IsSimulation (t : Texts) (text : List ℕ) : Type 0 where
   pub p : Patterns
   pub out : Patterns
   pub read : AreRead t l table n p
+  pub known : HasBehaviour n l
   pub filled : IsFilledOn n l table p out
   pub text_is : text ≡ text_of out
 
