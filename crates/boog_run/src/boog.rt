@@ -8,6 +8,7 @@ use std::alloc::{AllocError, Global};
 use tool_drive::{Product, Refusal, Tool, Wanted, bytes_at, refused};
 use tool_words::BoogCommand;
 use vbe_io::read_vbe;
+use vbe_words::{catal_is_named, cell_can_be_written, machine_can_be_written, machine_is_named};
 use vlsi_base::FileBytes;
 
 /// `boog`, with what it is asked.
@@ -26,6 +27,10 @@ fn mapped(
 ) -> Result<Product, Refusal>
     ensures { IsJudged (Maps command.now source.now catal.now cells.now) result }
 {
+    machine_is_named();
+    catal_is_named();
+    machine_can_be_written();
+    cell_can_be_written();
     let library = match read_library(alloc, catal, cells, false) {
         Ok(library) => library,
         Err(error) => return Err(Refusal::plain(library_status(error))),

@@ -1,5 +1,5 @@
 -- A library that is refused by what stands in its files isn't refused for a file.
-use Rattle.std.proofs.Common.{◌≡◌, ℕ, Bool, true, false, List, sym, ap, ◌∙◌, refl, cc}
+use Rattle.std.proofs.Common.{◌≡◌, ℕ, Bool, true, false, List, ap, ◌∙◌, refl}
 use Rattle.vlsi_base.specs.declared.fault.ReadError.{ReadError}
 use Rattle.vlsi_base.specs.declared.fault.ReadError.TheVariants as reading
 use Rattle.catal.specs.declared.error.CatalError.{CatalError}
@@ -8,7 +8,7 @@ use Rattle.cell_model.specs.Cell.{Cell}
 use Rattle.cell_lib.specs.declared.error.LibError.{LibError}
 use Rattle.cell_lib.specs.declared.error.LibError.TheVariants as errors
 use Rattle.cell_lib.specs.Cells.{Source}
-use Rattle.cell_lib.specs.Causes.{told_as, IsLayoutRefusal, unread, placed}
+use Rattle.cell_lib.specs.Causes.{behaviour_check, layout_check, told_as, IsLayoutRefusal, unread, placed}
 use Rattle.cell_lib.specs.Load.{refused}
 use Rattle.cell_lib.specs.Library.{IsUnsaid, behaviour, layout, IsCheckRefusal, fails, wide, IsCellRefusal, unsaid, unfit, IsRefusedLibrary, bad_list, bad_cell}
 
@@ -32,11 +32,11 @@ listed (catal.BadLine line) = refl
 listed (catal.Limit l) = refl
 
 drawn : (cell ap_bytes : List ℕ) (e : LibError) → IsLayoutRefusal cell ap_bytes e → is_of_file e ≡ false
-drawn cell ap_bytes e (unread fault r is) = ap is_of_file is ∙ told cell _ fault
+drawn cell ap_bytes e (unread fault r is) = ap is_of_file is ∙ told cell layout_check fault
 drawn cell ap_bytes e (placed figure t some is) = ap is_of_file is
 
 said : (source : Source) (e : LibError) → IsUnsaid source e → is_of_file e ≡ false
-said source e (behaviour r) = ap is_of_file r.told ∙ told source.name _ r.fault
+said source e (behaviour r) = ap is_of_file r.told ∙ told source.name behaviour_check r.fault
 said source e (layout text t r) = drawn source.name source.ap e r
 
 checked : (tracks : Bool) (c : Cell) (e : LibError) → IsCheckRefusal tracks c e → is_of_file e ≡ false
@@ -52,7 +52,7 @@ plain tracks list files e (bad_list fault r is) = ap is_of_file is ∙ listed fa
 plain tracks list files e (bad_cell names uses first) = celled tracks first.source e first.refused
 
 pub never_missing : (tracks : Bool) (list : List ℕ) (files : List (List ℕ)) (name : List ℕ) → IsRefusedLibrary tracks list files (errors.Missing name) → ⊥
-never_missing tracks list files name h = cc (plain tracks list files (errors.Missing name) h)
+never_missing tracks list files name h = let never : true ≡ false = plain tracks list files (errors.Missing name) h in absurd cc
 
 pub never_unread : (tracks : Bool) (list : List ℕ) (files : List (List ℕ)) (name : List ℕ) → IsRefusedLibrary tracks list files (errors.ReadFault name) → ⊥
-never_unread tracks list files name h = cc (plain tracks list files (errors.ReadFault name) h)
+never_unread tracks list files name h = let never : true ≡ false = plain tracks list files (errors.ReadFault name) h in absurd cc
