@@ -29,19 +29,15 @@ agrees law c source list cells p h = law h.n h.l h.m h.machine.machine.checked h
 
 pub said : MachineIsNamed → CatalIsNamed → MachineCanBeWritten → CellCanBeWritten → WrittenIsASentence → WrittenSaysTheNetlist → MappingIsSaid
 said machines lists written pins_written sentence says c source list cells p h limits =
-    subst (λ (file : Option (List ℕ)). IfSome file (λ bytes. IsTextOf h.n h.written.table bytes)) (sym h.written.file) text where
-  table = h.written.table
-
-  can = writable lists pins_written list cells h.l h.library h.m h.n h.netlist h.small machines written source h.machine
-
-  meets = h.netlist.condition false table h.written.pins h.written.sound
-
-  is = sentence h.n table h.netlist.sound meets.fits (can.pins table h.written.pins) can.named limits
-
-  text : IsTextOf h.n table (text_of (layout h.n table))
-  text = record {
-    cut = is.0;
-    file = file_of h.n table;
-    structure = is.1;
-    says = says h.n table h.netlist.sound meets.fits (can.pins table h.written.pins) can.named limits meets.apart;
-  }
+    let table = h.written.table in
+    let can = writable lists pins_written list cells h.l h.library h.m h.n h.netlist h.small machines written source h.machine in
+    let meets = h.netlist.condition false table h.written.pins h.written.sound in
+    let is = sentence h.n table h.netlist.sound meets.fits (can.pins table h.written.pins) can.named limits in
+    let text : IsTextOf h.n table (text_of (layout h.n table)) =
+    record {
+      cut = is.0;
+      file = file_of h.n table;
+      structure = is.1;
+      says = says h.n table h.netlist.sound meets.fits (can.pins table h.written.pins) can.named limits meets.apart;
+    } in
+    subst (λ (file : Option (List ℕ)). IfSome file (λ bytes. IsTextOf h.n table bytes)) (sym h.written.file) text
