@@ -68,9 +68,9 @@ many r g b =
     let s = length-count_to b in
     omega (arith, x, y, i, j, k, p, q, s)
 
--- a letter with a number below this one
-named_by : (letter count : ℕ) (make : ℕ → List ℕ) (name : List ℕ) → ((k : ℕ) → k < count → IsIdentifier (make k)) → In name (map make (count_to count)) → IsIdentifier name
-named_by letter count make name each i =
+-- one of so many names that are identifiers
+named_by : (count : ℕ) (make : ℕ → List ℕ) (name : List ℕ) → ((k : ℕ) → k < count → IsIdentifier (make k)) → In name (map make (count_to count)) → IsIdentifier name
+named_by count make name each i =
     let x = In-map_back make name (count_to count) i in subst (λ (t : List ℕ). IsIdentifier t) x.2 (each x.0 (counted x.0 count x.1))
 
 register_named : (r : ℕ) → r < 2 ^ 64 → (k : ℕ) → k < r → IsIdentifier (register_instance k)
@@ -89,10 +89,10 @@ named_so r g b name few i =
     let few_g : g < 2 ^ 64 = omega (arith, few) in
     let few_b : b < 2 ^ 64 = omega (arith, few) in
     elim (In-split name (map register_instance (count_to r)) (map gate_instance (count_to g) ++ map buffer_instance (count_to b)) i) [
-      | inl p ↦ named_by 113 r register_instance name (register_named r few_r) p
+      | inl p ↦ named_by r register_instance name (register_named r few_r) p
       | inr rest ↦ elim (In-split name (map gate_instance (count_to g)) (map buffer_instance (count_to b)) rest) [
-        | inl p ↦ named_by 103 g gate_instance name (gate_named g few_g) p
-        | inr p ↦ named_by 98 b buffer_instance name (buffer_named b few_b) p
+        | inl p ↦ named_by g gate_instance name (gate_named g few_g) p
+        | inr p ↦ named_by b buffer_instance name (buffer_named b few_b) p
       ]
     ]
 
