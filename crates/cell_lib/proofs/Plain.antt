@@ -7,10 +7,12 @@ use Rattle.catal.specs.declared.error.CatalError.TheVariants as catal
 use Rattle.cell_model.specs.Cell.{Cell}
 use Rattle.cell_lib.specs.declared.error.LibError.{LibError}
 use Rattle.cell_lib.specs.declared.error.LibError.TheVariants as errors
-use Rattle.cell_lib.specs.Cells.{Source}
+use Rattle.catal.specs.Catal.{IsCatal, IsCatalRefusal}
+use Rattle.cell_lib.specs.Cells.{Source, sources, IsFirstRefused, OrMemory}
 use Rattle.cell_lib.specs.Causes.{behaviour_check, layout_check, told_as, IsLayoutRefusal, unread, placed}
 use Rattle.cell_lib.specs.Load.{refused}
-use Rattle.cell_lib.specs.Library.{IsUnsaid, behaviour, layout, IsCheckRefusal, fails, wide, IsCellRefusal, unsaid, unfit, IsRefusedLibrary, bad_list, bad_cell}
+use Rattle.cell_lib.proofs.Telling.{or_memory}
+use Rattle.cell_lib.specs.Library.{IsCell, IsUnsaid, behaviour, layout, IsCheckRefusal, fails, wide, IsCellRefusal, unsaid, unfit, IsRefusedLibrary, bad_list, bad_cell}
 
 -- a file isn't there or can't be read
 abbrev pub is_of_file : LibError → Bool
@@ -56,3 +58,16 @@ never_missing tracks list files name h = let never : true ≡ false = plain trac
 
 pub never_unread : (tracks : Bool) (list : List ℕ) (files : List (List ℕ)) (name : List ℕ) → IsRefusedLibrary tracks list files (errors.ReadFault name) → ⊥
 never_unread tracks list files name h = let never : true ≡ false = plain tracks list files (errors.ReadFault name) h in absurd cc
+
+-- ---- from the refusals of the list and of the cells
+
+pub list_so : (tracks : Bool) (list : List ℕ) (files : List (List ℕ)) (fault : CatalError) → IsCatalRefusal list fault
+    → OrMemory (IsRefusedLibrary tracks list files) (refused fault)
+list_so tracks list files catal.Memory h = tt
+list_so tracks list files (catal.BadLine line) h = bad_list (catal.BadLine line) h refl
+list_so tracks list files (catal.Limit l) h = bad_list (catal.Limit l) h refl
+
+pub cells_so : (tracks : Bool) (list : List ℕ) (files names : List (List ℕ)) (e : LibError) → IsCatal list names
+    → OrMemory (IsFirstRefused (IsCell tracks) (IsCellRefusal tracks) (sources names files)) e → OrMemory (IsRefusedLibrary tracks list files) e
+cells_so tracks list files names e uses h =
+    or_memory (IsFirstRefused (IsCell tracks) (IsCellRefusal tracks) (sources names files)) (IsRefusedLibrary tracks list files) e (λ x first. bad_cell names uses first) h
