@@ -128,10 +128,10 @@ model_ports f ports _ _ (one_pin {port = x} {p = p} {rest = xs} {pins = ps} is r
 model_written : (all : Bool) (cells : List Cell) (table : List ModelPins) → AreModels (IsListed all) cells table → ((c : Cell) → In c cells → CanBePorts (all_ports c))
     → (m : ModelPins) → In m table → CanBePorts (map port_of m.pins)
 model_written all _ _ no_models can m i = elim i [ ]
-model_written all _ _ (left_out {c = c} {cells = cells} {models = table} no rest) can m i = model_written all cells table rest (λ d j. can d (there j)) m i
-model_written all _ _ (listed {c = c} {m = n} {cells = cells} {models = table} yes is rest) can m here =
+model_written all _ _ (left_out {c = c} {cells = cells} {models = table} out rest) can m i = model_written all cells table rest (λ d j. can d (there j)) m i
+model_written all _ _ (listed {c = c} {m = n} {cells = cells} {models = table} among is rest) can m here =
     subst (λ (ps : List Port). CanBePorts ps) (sym (model_ports c.function (all_ports c) (all_ports c) n.pins is.pins)) (can c here)
-model_written all _ _ (listed {c = c} {m = n} {cells = cells} {models = table} yes is rest) can m (there i) = model_written all cells table rest (λ d j. can d (there j)) m i
+model_written all _ _ (listed {c = c} {m = n} {cells = cells} {models = table} among is rest) can m (there i) = model_written all cells table rest (λ d j. can d (there j)) m i
 
 -- ---- a netlist
 

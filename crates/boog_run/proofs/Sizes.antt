@@ -48,3 +48,15 @@ few_cells n m g sub each =
     let nodes = few_nodes m g sub in
     let most = length-filter_both (λ (b : Bool). b) (λ (b : Bool). not b) (λ b. refl) each.reached in
     omega (arith, count, long, nodes, most)
+
+pub netlist_for : (l : Library) (m : Machine) (n : Netlist) (g : Graph) → IsNetlist n → IsRightNetlist n l m → MeetsConditionIn l n → UsesFirstCells n l
+    → StandsInOrder n l m → IsSubjectGraph m g → HasOneCellEach n m g → IsLeanFor n m → IsNetlistFor l m n
+netlist_for l m n g sound right condition first order sub each lean = record {
+  sound = sound;
+  right = right;
+  condition = condition;
+  first = first;
+  order = order;
+  lean = lean;
+  few = few_cells n m g sub each;
+}

@@ -34,7 +34,7 @@ returns-in-Err-netlist_of c =
     (by_netlist c.args.command.now c.args.source.now c.args.catal.now c.args.cells.now c.in-Ok.library c.in-Ok-read_vbe.machine c.in-Err-netlist_of.status c.in-Ok.ensures.ok
     c.in-Ok-read_vbe.ensures.accepted c.in-Err-netlist_of.ensures.refused)
 
-pub returns-in_ok-written : goal.returns-in_ok-written
-returns-in_ok-written c =
+pub returns : goal.returns
+returns c =
     mapping c.args.command.now c.args.source.now c.args.catal.now c.args.cells.now c.in-Ok.library c.in-Ok-read_vbe.machine c.in-Ok-netlist_of.netlist c.in_ok-written.written
     c.in-Ok.ensures.ok c.in-Ok-read_vbe.ensures.accepted c.in-Ok-netlist_of.ensures.small c.in-Ok-netlist_of.ensures.right c.in_ok-written.ensures
