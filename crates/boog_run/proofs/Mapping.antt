@@ -1,5 +1,5 @@
 -- From a netlist that was mapped and written to what `boog` answers, and what follows of it.
-use Rattle.std.proofs.Common.{◌≡◌, ℕ, ◌≤◌, false, List, Some, IfSome, Option, Ok, sym, subst}
+use Rattle.std.proofs.Common.{ℕ, ◌≤◌, false, List, IfSome, Option, sym, subst}
 use Rattle.machine_meaning.specs.Machine.{Machine}
 use Rattle.machine_meaning.specs.Size.{machine_size}
 use Rattle.vbe_io.specs.Text.{IsVbe}
@@ -11,7 +11,7 @@ use Rattle.spell_theory.specs.Layout.{text_of}
 use Rattle.vbe_words.specs.Laws.{MachineIsNamed, CatalIsNamed, MachineCanBeWritten, CellCanBeWritten}
 use Rattle.vst_write.specs.Written.{layout}
 use Rattle.vst_again.specs.Placed.{file_of}
-use Rattle.vst_again.specs.Says.{IsWithinLimits, WrittenIsASentence, WrittenSaysTheNetlist}
+use Rattle.vst_again.specs.Says.{WrittenIsASentence, WrittenSaysTheNetlist}
 use Rattle.tool_words.specs.declared.command.BoogCommand.{BoogCommand}
 use Rattle.tool_drive.specs.declared.tool.Product.{Product}
 use Rattle.boog_run.specs.Boog.{IsNetlistFor, IsWrittenAs, IsMapping}

@@ -1,5 +1,5 @@
 -- A machine that is read and small enough can be numbered and mapped, and one that is too large is told so.
-use Rattle.std.proofs.Common.{◌≡◌, ℕ, ◌+◌, ◌-◌, ◌^◌, ◌<◌, ◌≤◌, min, Bool, not, List, length, filter, refl, ap, arith}
+use Rattle.std.proofs.Common.{◌≡◌, ℕ, ◌+◌, ◌-◌, ◌^◌, ◌<◌, ◌≤◌, min, Bool, not, List, length, refl, ap, arith}
 use Rattle.std.proofs.lemmas.List.Sorted.{length_permutation}
 use Rattle.std.proofs.lemmas.List.Filters.{length-filter_both}
 use Rattle.vlsi_base.specs.declared.fault.LimitKind.TheVariants.{Size}

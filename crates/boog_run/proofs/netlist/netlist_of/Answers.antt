@@ -1,10 +1,8 @@
-use Rattle.std.proofs.Common.{◌≤◌, refl, sym, ◌∙◌, ap, subst, arith}
-use Rattle.machine_meaning.specs.Size.{machine_size as size_of}
+use Rattle.std.proofs.Common.{refl, sym, ◌∙◌, ap, subst, arith}
 use Rattle.boog_map.specs.Netlist.{IsMapRefusal}
 use Rattle.boog_map.specs.declared.error.MapError.{MapError}
 use Rattle.boog_map.specs.declared.error.MapError.TheVariants as error
 use Rattle.boog_run.specs.Boog.{no_cover}
-use Rattle.boog_run.specs.declared.netlist.TheConstants.{MOST_SIZE}
 use Rattle.boog_run.proofs.Sizes.{is_small, numberable, netlist_for}
 use Rattle.boog_run.proofs.netlist.netlist_of.Goals as goal
 

@@ -1,7 +1,7 @@
 use Rattle.std.proofs.Common.{List, ℕ, sym, subst}
 use Rattle.vlsi_base.specs.Member.{AllDifferent}
 use Rattle.cell_lib.specs.declared.error.LibError.{LibError}
-use Rattle.cell_lib.specs.Cells.{sources, AreCells, IsFirstRefused, OrMemory}
+use Rattle.cell_lib.specs.Cells.{sources, IsFirstRefused, OrMemory}
 use Rattle.cell_lib.specs.Library.{IsCell, IsCellRefusal, IsRefusedLibrary}
 use Rattle.cell_lib.proofs.Judging.{library_checked}
 use Rattle.cell_lib.proofs.Plain.{list_so, cells_so}
