@@ -37,6 +37,7 @@ use Rattle.ocp_rows.specs.Placement.{Placement}
 use Rattle.vbe_words.specs.Laws.{MachineIsNamed, CatalIsNamed, MachineCanBeWritten, CellCanBeWritten, with_supplies}
 use Rattle.boog_run.specs.Boog.{IsNetlistFor, IsWritable}
 use Rattle.boog_run.specs.declared.netlist.TheConstants.{MOST_SIZE}
+use Rattle.boog_run.proofs.Sizes.{few_cells}
 
 -- ---- names of instances
 
@@ -173,7 +174,7 @@ module _ (lists : CatalIsNamed) (pins_written : CellCanBeWritten) (list : List �
         let count = length-map (λ (x : Instance). x.name) n.instances in
         let same = ap (λ (names : List (List ℕ)). length names) names_are in
         let sum = many (length m.registers) in_order.gates in_order.buffers in
-        let few = netlist.few in
+        let few = few_cells n m netlist.graph netlist.subject netlist.each in
         named_so (length m.registers) in_order.gates in_order.buffers i.name (omega (arith, few, small, count, same, sum))
         (subst (λ (ns : List (List ℕ)). In i.name ns) names_are (In-map (λ (x : Instance). x.name) i n.instances there_is))
 

@@ -15,7 +15,7 @@ use Rattle.subject_graph.specs.Subject.{IsNumberable, IsSubjectGraph}
 use Rattle.net_core.specs.Netlist.{Netlist, IsNetlist}
 use Rattle.net_view.specs.Right.{IsRightNetlist}
 use Rattle.net_view.specs.Condition.{MeetsConditionIn}
-use Rattle.boog_map.specs.Netlist.{HasRoomForCells, UsesFirstCells, StandsInOrder, HasOneCellEach, IsLeanFor}
+use Rattle.boog_map.specs.Netlist.{HasRoomForCells, Covers, UsesFirstCells, StandsInOrder, HasOneCellEach, IsLeanFor}
 use Rattle.boog_map.proofs.Rooms.{few_inputs, few_nodes}
 use Rattle.tool_drive.specs.declared.status.Status.TheVariants as status
 use Rattle.boog_run.specs.Boog.{IsNetlistFor, IsNoNetlist, too_large}
@@ -49,14 +49,17 @@ few_cells n m g sub each =
     let most = length-filter_both (λ (b : Bool). b) (λ (b : Bool). not b) (λ b. refl) each.reached in
     omega (arith, count, long, nodes, most)
 
-pub netlist_for : (l : Library) (m : Machine) (n : Netlist) (g : Graph) → IsNetlist n → IsRightNetlist n l m → MeetsConditionIn l n → UsesFirstCells n l
-    → StandsInOrder n l m → IsSubjectGraph m g → HasOneCellEach n m g → IsLeanFor n m → IsNetlistFor l m n
-netlist_for l m n g sound right condition first order sub each lean = record {
+pub netlist_for : (l : Library) (m : Machine) (n : Netlist) (g : Graph) → IsNetlist n → Covers l m → IsRightNetlist n l m → MeetsConditionIn l n → UsesFirstCells n l
+    → StandsInOrder n l m → IsLeanFor n m → IsSubjectGraph m g → HasOneCellEach n m g → IsNetlistFor l m n
+netlist_for l m n g sound covered right condition first order lean subject each = record {
   sound = sound;
+  covered = covered;
   right = right;
   condition = condition;
   first = first;
   order = order;
   lean = lean;
-  few = few_cells n m g sub each;
+  graph = g;
+  subject = subject;
+  each = each;
 }
