@@ -1,2 +1,4 @@
-pub mod Refusing
+pub mod Mapping
 pub mod Naming
+pub mod Refusing
+pub mod Sizes

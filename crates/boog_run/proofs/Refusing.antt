@@ -1,10 +1,8 @@
 -- From the refusals of readers and of mapping to the tool's.
-use Rattle.std.proofs.Common.{◌≡◌, ℕ, List, None, Err, false, cc, sym, subst, refl}
+use Rattle.std.proofs.Common.{◌≡◌, ℕ, List, None, Err, false, sym, subst, refl}
 use Rattle.vlsi_base.specs.declared.fault.ReadError.{ReadError}
 use Rattle.machine_meaning.specs.Machine.{Machine}
 use Rattle.vbe_io.specs.Text.{IsVbe, IsVbeRefusal}
-use Rattle.catal.specs.declared.error.CatalError.{CatalError}
-use Rattle.catal.specs.declared.error.CatalError.TheVariants as catal
 use Rattle.cell_model.specs.Library.{Library}
 use Rattle.cell_lib.specs.declared.error.LibError.{LibError}
 use Rattle.cell_lib.specs.declared.error.LibError.TheVariants as errors

@@ -1,5 +1,5 @@
 -- What `boog` reads and answers.
-use Rattle.std.specs.Prelude.{◌≡◌, ℕ, ◌-◌, ◌^◌, ◌<◌, ◌≤◌, min, Bool, false, not, nat_eq, List, [], ◌∷◌, ◌++◌, length, get_or, codes, None, Some, Result, Ok, Err}
+use Rattle.std.specs.Prelude.{◌≡◌, ℕ, ◌-◌, ◌^◌, ◌<◌, ◌≤◌, min, false, List, [], ◌∷◌, ◌++◌, length, get_or, codes, None, Some, Result, Ok, Err}
 use Rattle.std.specs.Fmt.{decimal}
 use Rattle.vlsi_base.specs.declared.fault.LimitKind.TheVariants.{Size}
 use Rattle.machine_meaning.specs.Machine.{Machine}
@@ -9,14 +9,17 @@ use Rattle.catal.specs.Cells.{cells_in}
 use Rattle.cell_model.specs.Library.{Library}
 use Rattle.cell_model.specs.declared.kind.Kind.{Kind}
 use Rattle.cell_model.specs.Covering.{needed, IsFirstMissing}
-use Rattle.boog_map.specs.Netlist.{has_registers, UsesFirstCells, StandsInOrder, IsLeanFor}
+use Rattle.graph_theory.specs.Graph.{Graph}
+use Rattle.subject_graph.specs.Subject.{IsSubjectGraph}
+use Rattle.boog_map.specs.Netlist.{has_registers, Covers, UsesFirstCells, StandsInOrder, HasOneCellEach, IsLeanFor}
 use Rattle.net_view.specs.Writable.{CanBeNamed, PinsCanBeWritten}
 use Rattle.cell_lib.specs.declared.error.LibError.{LibError}
 use Rattle.cell_lib.specs.Files.{catal_name, cell_files}
 use Rattle.cell_lib.specs.Library.{IsLibraryOf, IsRefusedLibrary, status_of}
 use Rattle.cell_pins.specs.Table.{IsTableOf}
 use Rattle.net_core.specs.declared.pins.ModelPins.{ModelPins}
-use Rattle.net_core.specs.Netlist.{Netlist}
+use Rattle.net_core.specs.Netlist.{Netlist, IsNetlist}
+use Rattle.net_core.specs.Checks.{IsPinTable}
 use Rattle.net_view.specs.Condition.{MeetsConditionIn}
 use Rattle.net_view.specs.Right.{IsRightNetlist}
 use Rattle.spell_theory.specs.Layout.{text_of}
@@ -44,19 +47,26 @@ netlist_name out = out ++ codes ".vst"
 abbrev pub report : Netlist → List ℕ
 report n = codes "cells " ++ (decimal (length n.instances) ++ 10 ∷ [])
 
--- A netlist for a machine: it is right for it, meets the condition of the stages behind, has for each kind the first usable cell, and
--- stands in order; and it is lean.
+-- A netlist for a machine. The library has a usable cell of each kind that mapping needs. The netlist is right for the machine, meets
+-- the condition of the stages behind, has for each kind the first usable cell, stands in order, and is lean: it has one cell for
+-- each register and for each node of the machine's subject graph that a root reaches, and no other.
 pub record IsNetlistFor (l : Library) (m : Machine) (n : Netlist) : Type 0 where
+  pub sound : IsNetlist n
+  pub covered : Covers l m
   pub right : IsRightNetlist n l m
   pub condition : MeetsConditionIn l n
   pub first : UsesFirstCells n l
   pub order : StandsInOrder n l m
   pub lean : IsLeanFor n m
+  pub graph : Graph
+  pub subject : IsSubjectGraph m graph
+  pub each : HasOneCellEach n m graph
 
--- the text of the netlist is that of NAME.vst, and its number of instances is printed
+-- the text of the netlist, by a table of the usable cells' pins, is that of NAME.vst, and its number of instances is printed
 pub record IsWrittenAs (out : List ℕ) (l : Library) (n : Netlist) (p : Product) : Type 0 where
   pub table : List ModelPins
   pub pins : IsTableOf l false table
+  pub sound : IsPinTable table
   pub name : p.name ≡ netlist_name out
   pub file : p.file ≡ Some (text_of (layout n table))
   pub text : p.text ≡ report n

@@ -1,1 +1,2 @@
 pub mod Boog
+pub mod Laws

@@ -8,9 +8,16 @@ use std::alloc::{AllocError, Global};
 use tool_drive::{Product, Refusal, Tool, Wanted, bytes_at, refused};
 use tool_words::BoogCommand;
 use vbe_io::read_vbe;
+use vbe_words::{catal_is_named, cell_can_be_written, machine_can_be_written, machine_is_named};
 use vlsi_base::FileBytes;
 
-/// `boog`, with what it is asked.
+/// `boog`, with what it is asked: it maps the machine of SOURCE to usable cells of the library, writes the netlist to NAME.vst, and
+/// prints `cells` and the number of its instances.
+///
+/// All files are read first: SOURCE, CATAL, and the behaviour and the layout of each cell that this uses. Then it is refused, in this
+/// order: by `Library`, or a limit of CATAL or a cell, at the first line or cell at fault; by `Source`, or a limit of the text; by
+/// `Limit` of `Size`, where the machine weighs more than `MOST_SIZE`; by `NoCover`, where the library has no usable cell of a kind.
+/// Memory goes by the files, the machine and its netlist.
 #[derive(Drop)]
 pub struct Boog<'a> {
     pub command: &'a BoogCommand,
@@ -26,6 +33,10 @@ fn mapped(
 ) -> Result<Product, Refusal>
     ensures { IsJudged (Maps command.now source.now catal.now cells.now) result }
 {
+    machine_is_named();
+    catal_is_named();
+    machine_can_be_written();
+    cell_can_be_written();
     let library = match read_library(alloc, catal, cells, false) {
         Ok(library) => library,
         Err(error) => return Err(Refusal::plain(library_status(error))),
@@ -38,7 +49,8 @@ fn mapped(
         Ok(netlist) => netlist,
         Err(status) => return Err(Refusal::plain(status)),
     };
-    Ok(product(alloc, &command.out, &netlist, &library)?)
+    let written = product(alloc, &command.out, &netlist, &library)?;
+    Ok(written)
 }
 
 impl Tool for Boog<'_> {

@@ -5,7 +5,9 @@
 #![tactic(auto)]
 
 mod boog;
+mod laws;
 mod netlist;
 
 pub use boog::Boog;
+pub use laws::boog_law;
 pub use netlist::MOST_SIZE;

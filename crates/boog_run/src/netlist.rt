@@ -32,6 +32,8 @@ pub(crate) fn netlist_of(
     ensures refused { IfErr result (λ s. MemoryOr s (IsNoNetlist library.now machine.now s)) }
 {
     right_meets_condition();
+    let _ = machine.name();
+    let _ = library.cells();
     let size = machine_size(machine);
     if size > MOST_SIZE {
         return Err(Status::Limit(Limit {

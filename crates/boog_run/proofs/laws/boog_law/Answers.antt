@@ -1,0 +1,10 @@
+use Rattle.boog_run.proofs.Mapping.{agrees, said}
+use Rattle.boog_run.proofs.laws.boog_law.Goals as goal
+
+pub returns-clause-agrees : goal.returns-clause-agrees
+returns-clause-agrees c = λ command source list cells p h. agrees c.right_is_well_formed.ensures.known command source list cells p h
+
+pub returns-clause-said : goal.returns-clause-said
+returns-clause-said c = λ command source list cells p h limits.
+    said c.machine_is_named.ensures c.catal_is_named.ensures c.machine_can_be_written.ensures c.cell_can_be_written.ensures c.written_is_a_sentence.ensures c.written_says_the_netlist.ensures
+    command source list cells p h limits
