@@ -1,0 +1,11 @@
+pub mod Places
+pub mod Maps
+pub mod Classes
+pub mod Fine
+pub mod Order
+pub mod Ports
+pub mod Linked
+pub mod Adding
+pub mod Supplies
+pub mod Condition
+pub mod Drafted
