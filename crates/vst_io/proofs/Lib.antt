@@ -9,3 +9,6 @@ pub mod Adding
 pub mod Supplies
 pub mod Condition
 pub mod Drafted
+pub mod Next
+pub mod Joins
+pub mod Turned
