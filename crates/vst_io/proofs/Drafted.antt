@@ -8,19 +8,23 @@ use Rattle.vlsi_base.specs.declared.name.Port.{Port}
 use Rattle.vlsi_base.specs.declared.name.Terminal.{Terminal}
 use Rattle.vlsi_base.specs.Member.{In, here, there, AllDifferent}
 use Rattle.machine_core.proofs.Values.{In-map}
+use Rattle.vlsi_base.specs.NamePlaces.{name_of}
+use Rattle.vlsi_model.proofs.Members.{In-map_back}
 use Rattle.vlsi_model.proofs.Bits.{different_texts}
+use Rattle.net_core.specs.declared.pins.ModelPin.{ModelPin}
 use Rattle.net_core.specs.declared.pins.ModelPins.{ModelPins}
 use Rattle.net_core.specs.Places.{IsThere}
 use Rattle.net_core.specs.Netlist.{Instance, Netlist, IsNetlist, HasClass, terminals_of}
 use Rattle.net_core.specs.Joins.{Draft, Joined, IsFinished, draft_terminals}
+use Rattle.net_core.specs.Checks.{pins_named}
 use Rattle.vst_text.specs.declared.file.InstanceStatement.{InstanceStatement}
 use Rattle.vst_text.specs.declared.file.StructuralFile.{StructuralFile}
-use Rattle.vst_io.specs.Nets.{nets, port_bits, instance_of, instance_links, links}
+use Rattle.vst_io.specs.Nets.{nets, pin_bits, pin_names, port_bits, instance_of, instance_links, links}
 use Rattle.vst_io.specs.Faults.{instance_faults, bad_maps, component_faults, first_label_again}
 use Rattle.vst_io.specs.Checked.{IsChecked}
 use Rattle.vst_io.specs.Drafts.{joins_of}
 use Rattle.vst_io.specs.Text.{IsNetlistOf}
-use Rattle.vst_io.proofs.Fine.{IsMapped, is_mapped, append_nothing, flat_nothing, map_twice}
+use Rattle.vst_io.proofs.Fine.{IsMapped, is_mapped, append_nothing, flat_nothing, map_twice, flat_in}
 use Rattle.vst_io.proofs.Ports.{different_ports}
 use Rattle.vst_io.proofs.Linked.{end_of, different_ends, end_there, different_labels, key}
 use Rattle.vst_io.proofs.Classes.{stands_for_one, joined_same, same_joined}
@@ -59,3 +63,21 @@ is_netlist_of table f ports d n checked once moved is_name is_ports is_instances
         λ e. two.1 (same_joined (links f) a b x p (subst (λ (z : Name). In (b, z) (links f)) (sym e) q)),
       );
 }
+
+some_in : {X : Type 0} (xs : List X) → 0 < length xs → (x : X) × In x xs
+some_in [] h = absurd (omega arith)
+some_in (x ∷ xs) h = (x, here)
+
+in_some : {X : Type 0} (xs : List X) (x : X) → In x xs → 0 < length xs
+in_some [] x h = elim h [ ]
+in_some (y ∷ xs) x h = omega arith
+
+-- what maps a pin has one
+pub pins_some : (table : List ModelPins) (f : StructuralFile) (i : InstanceStatement) → IsMapped table f i → 0 < length i.associations → 0 < length (pins_named table i.component)
+pins_some table f i m some =
+    let a = some_in i.associations some in
+    let b = some_in (pin_bits m.known a.0.pin) (m.fine.each a.0 a.1).some in
+    let n : In (name_of a.0.pin.text b.0) (flat_map (pin_names m.known) i.associations) =
+    flat_in (pin_names m.known) i.associations a.0 (name_of a.0.pin.text b.0) a.1 (In-map (name_of a.0.pin.text) b.0 (pin_bits m.known a.0.pin) b.1) in
+    let p = In-map_back (λ (q : ModelPin). q.name) (name_of a.0.pin.text b.0) (pins_named table i.component) (m.fine.pins (name_of a.0.pin.text b.0) n) in
+    in_some (pins_named table i.component) p.0 p.1

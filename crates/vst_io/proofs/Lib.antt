@@ -12,3 +12,5 @@ pub mod Drafted
 pub mod Next
 pub mod Joins
 pub mod Turned
+pub mod First
+pub mod Reading
