@@ -186,8 +186,7 @@ supply_links table f forms i listed m supply which pin =
     subst (λ (o : Option (List Symbol)). In (pin_of i.label supply, supply) (map_links f i o)) (sym m.declared)
     (flat_in (links_of m.known (nets f) i.label) i.associations a (pin_of i.label supply, supply) r.1 (subst (λ (n : Name). In (pin_of i.label supply, n) (links_of m.known (nets f) i.label a)) (tied.same ∙ itself) z.1)) in
     let link : In (port supply, supply) (map port_link (port_bits (nets f))) =
-    subst (λ (n : Name). In (port n, n) (map port_link (port_bits (nets f)))) itself (In-map port_link (port_of dir.In (name_of a.pin.text None)) (port_bits (nets f)) tied.port_there) in
-    (
+    subst (λ (n : Name). In (port n, n) (map port_link (port_bits (nets f)))) itself (In-map port_link (port_of dir.In (name_of a.pin.text None)) (port_bits (nets f)) tied.port_there) in (
       In-left (port supply, supply) (map port_link (port_bits (nets f))) (flat_map (instance_links f) f.instances) link,
       In-right (pin_of i.label supply, supply) (map port_link (port_bits (nets f))) (flat_map (instance_links f) f.instances) (flat_in (instance_links f) f.instances i (pin_of i.label supply, supply) listed own),
     )

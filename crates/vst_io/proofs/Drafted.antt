@@ -57,8 +57,7 @@ is_netlist_of table f ports d n checked once moved is_name is_ports is_instances
   classes = λ a b x y j k p q g h.
       let mapped = all_mapped table f checked.maps in
       let one = stands_for_one (links f) (different_ends table f mapped (different_labels f.instances once) (ports_apart table f checked)) in
-      let two = subst (λ (js : List (Terminal × Terminal)). (j ≡ k) ↔ Joined js a b) is_joins (finished.classes a b j k g h) in
-      (
+      let two = subst (λ (js : List (Terminal × Terminal)). (j ≡ k) ↔ Joined js a b) is_joins (finished.classes a b j k g h) in (
         λ e. joined_same (links f) one (two.0 e) x y p q,
         λ e. two.1 (same_joined (links f) a b x p (subst (λ (z : Name). In (b, z) (links f)) (sym e) q)),
       );

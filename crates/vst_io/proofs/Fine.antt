@@ -163,7 +163,6 @@ are_fine known known_nets model mapped (a ∷ joins) d e =
       equal_of : (m n : ℕ) → nat_eq m n ≡ true → m ≡ n
       equal_of m n h = grind (arith, nat_tests)
 
-
 pub record IsMapped (table : List ModelPins) (f : StructuralFile) (i : InstanceStatement) : Type 0 where
   pub known : List Symbol
   pub declared : pins_of f.declarations i.component ≡ Some known

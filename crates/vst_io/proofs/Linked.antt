@@ -80,10 +80,10 @@ different_pin_ends table f (i ∷ is) m d =
     (subst (λ (ts : List Terminal). AllDifferent ts) (sym (instance_ends table f i own)) (different_map (pin_of i.label) pins (λ x y p q e. ap (λ (t : Terminal). t.pin) e) own.fine.once))
     (different_pin_ends table f is (λ j h. m j (there h)) d.1)
     (λ t h g.
-        let r = end_from f is t g in
-        let same : Some i.label ≡ Some r.0.label = sym (owner_of table f i own t h) ∙ owner_of table f r.0 (m r.0 (there r.1)) t r.2 in
-        let text : i.label ≡ r.0.label = cc in
-        d.0 (subst (λ (x : List ℕ). In x (labels is)) (sym text) (In-map (λ (j : InstanceStatement). j.label) r.0 is r.1))))
+    let r = end_from f is t g in
+    let same : Some i.label ≡ Some r.0.label = sym (owner_of table f i own t h) ∙ owner_of table f r.0 (m r.0 (there r.1)) t r.2 in
+    let text : i.label ≡ r.0.label = cc in
+    d.0 (subst (λ (x : List ℕ). In x (labels is)) (sym text) (In-map (λ (j : InstanceStatement). j.label) r.0 is r.1))))
 
 abbrev pub port_link : Port → Terminal × Name
 port_link p = (port p.name, p.name)
@@ -102,12 +102,12 @@ different_ends table f m d names =
     (subst (λ (ts : List Terminal). AllDifferent ts) (sym (port_ends bits)) (different_map port (map key bits) (λ x y p q e. ap (λ (t : Terminal). t.pin) e) names))
     (different_pin_ends table f f.instances m d)
     (λ t h g.
-        let p = In-map_back port t (map key bits) (subst (λ (ts : List Terminal). In t ts) (port_ends bits) h) in
-        let none : None ≡ t.instance = ap (λ (u : Terminal). u.instance) p.2 in
-        let r = end_from f f.instances t g in
-        let some : t.instance ≡ Some r.0.label = owner_of table f r.0 (m r.0 r.1) t r.2 in
-        let both : None ≡ Some r.0.label = none ∙ some in
-        absurd cc))
+    let p = In-map_back port t (map key bits) (subst (λ (ts : List Terminal). In t ts) (port_ends bits) h) in
+    let none : None ≡ t.instance = ap (λ (u : Terminal). u.instance) p.2 in
+    let r = end_from f f.instances t g in
+    let some : t.instance ≡ Some r.0.label = owner_of table f r.0 (m r.0 r.1) t r.2 in
+    let both : None ≡ Some r.0.label = none ∙ some in
+    absurd cc))
 
 -- ---- they are terminals of the netlist
 

@@ -60,7 +60,7 @@ different_ports (s ∷ known) d =
     subst (λ (ns : List Name). AllDifferent ns) (sym (map_append key (ports_at s) (port_bits known)))
     (different_append (map key (ports_at s)) (map key (port_bits known)) (different_role s.role (names s.text (bits_of s.range)) (different_names s.text (bits_of s.range) (different_bits_of s.range))) (different_ports known d.1)
     (λ n h g.
-        let first = text_of s.text (bits_of s.range) n (name_of_role s.role (names s.text (bits_of s.range)) n h) in
-        let r = declared_of known n g in
-        let same : r.0.text ≡ s.text = sym (text_of r.0.text (bits_of r.0.range) n r.2) ∙ first in
-        d.0 (subst (λ (t : List ℕ). In t (texts known)) same (In-map (λ (y : Symbol). y.text) r.0 known r.1))))
+    let first = text_of s.text (bits_of s.range) n (name_of_role s.role (names s.text (bits_of s.range)) n h) in
+    let r = declared_of known n g in
+    let same : r.0.text ≡ s.text = sym (text_of r.0.text (bits_of r.0.range) n r.2) ∙ first in
+    d.0 (subst (λ (t : List ℕ). In t (texts known)) same (In-map (λ (y : Symbol). y.text) r.0 known r.1))))

@@ -48,11 +48,7 @@ fn bit_of(alloc: Global, range: Option<Range>, k: u32) -> Result<Vec<Option<u32>
 }
 
 /// The bits of a part of a declared name; none where it doesn't lie in the declaration, or has its bounds in the wrong order.
-fn part_of(
-    alloc: Global,
-    range: Option<Range>,
-    part: Range,
-) -> Result<Vec<Option<u32>>, AllocError>
+fn part_of(alloc: Global, range: Option<Range>, part: Range) -> Result<Vec<Option<u32>>, AllocError>
     ensures { IfOk result (λ bits. bits.items ≡ (if is_ordered part && (holds range part.left && holds range part.right) then bits_of (Some part) else [])) }
 {
     if part.is_ordered() && (holds(range, part.left) && holds(range, part.right)) {

@@ -54,11 +54,7 @@ fn again(alloc: Global, instance: &InstanceStatement, error: BuildError) -> Read
 }
 
 /// Adds the instances of a text, each with the pins of its model.
-fn add_instances(
-    alloc: Global,
-    builder: &mut Builder,
-    known: &Known,
-) -> Result<(), ReadError>
+fn add_instances(alloc: Global, builder: &mut Builder, known: &Known) -> Result<(), ReadError>
     requires table { IsPinTable known.now.table }
     requires none { builder.old.instances ≡ [] }
     requires few { length builder.old.ports ≡ length (port_bits (nets known.now.file)) }

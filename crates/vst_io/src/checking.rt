@@ -30,7 +30,12 @@ fn at_line(alloc: Global, kind: FaultKind, line: u32) -> ReadError
 }
 
 /// A fault with one name.
-pub fn named(alloc: Global, kind: FaultKind, line: u32, text: &Text) -> Result<ReadError, AllocError>
+pub fn named(
+    alloc: Global,
+    kind: FaultKind,
+    line: u32,
+    text: &Text,
+) -> Result<ReadError, AllocError>
     ensures { IfOk result (λ e. e ≡ fault kind line (scalar text.now ∷ [])) }
 {
     let mut names = Vec::new(alloc);

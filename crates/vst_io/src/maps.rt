@@ -30,9 +30,8 @@ fn are_free<'a>(
         && list_all (λ b. is_some (get pins.now (name_of text.now b)) && is_none (get mapped.now (name_of text.now b))) bits.now) }
 {
     !bits.is_empty()
-        && bits
-            .iter()
-            .all(|bit| pins.find(text, *bit).is_some() && mapped.find(text, *bit).is_none())
+        && bits.iter().all(|bit| pins.find(text, *bit).is_some()
+            && mapped.find(text, *bit).is_none())
 }
 
 /// Puts bits of a pin among those that are mapped.
@@ -52,9 +51,7 @@ fn note<'a>(
 fn are_mapped<'a>(mapped: &NameIndex<'a>, names: &'a [Name]) -> bool
     ensures { result ≡ list_all (λ n. is_some (get mapped.now n)) names.now }
 {
-    names
-        .iter()
-        .all(|name| mapped.find(name.text.as_bytes(), name.bit).is_some())
+    names.iter().all(|name| mapped.find(name.text.as_bytes(), name.bit).is_some())
 }
 
 /// Whether a name is that of a port.
