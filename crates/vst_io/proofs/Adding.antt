@@ -2,6 +2,7 @@
 use Rattle.std.proofs.Common.{◌≡◌, ◌⊎◌, inl, inr, ℕ, zero, suc, ◌+◌, ◌<◌, ◌≤◌, Bool, true, false, cond, ◌||◌, List, [], ◌∷◌, ◌++◌, map, length, take, Option, None, Some, refl, sym, ap, subst, ◌∙◌, bytes_eq, arith}
 use Rattle.std.specs.List.{All, flat_map, list_any, sum_by, slice_index_or}
 use Rattle.std.proofs.lemmas.List.{length-append}
+use Rattle.std.proofs.lemmas.List.Sums.{sum_by-cons}
 use Rattle.vlsi_base.specs.declared.name.Name.{Name}
 use Rattle.vlsi_base.specs.declared.name.Port.{Port}
 use Rattle.vlsi_base.specs.Member.{In, here, there}
@@ -107,16 +108,16 @@ pins_counted table (i ∷ is) =
     let own : length (pins_of (instance_of table i)) ≡ pin_count table i =
     map_length (pin_of i.label) (map (λ (p : ModelPin). p.name) (pins_named table i.component)) ∙ map_length (λ (p : ModelPin). p.name) (pins_named table i.component) in
     let rest : length (flat_map pins_of (map (instance_of table) is)) ≡ sum_by (pin_count table) is = pins_counted table is in
-    length-append (pins_of (instance_of table i)) (flat_map pins_of (map (instance_of table) is)) ∙ ap (λ (n : ℕ). n + length (flat_map pins_of (map (instance_of table) is))) own ∙ ap (λ (n : ℕ). pin_count table i + n) rest
+    length-append (pins_of (instance_of table i)) (flat_map pins_of (map (instance_of table) is)) ∙ ap (λ (n : ℕ). n + length (flat_map pins_of (map (instance_of table) is))) own ∙ ap (λ (n : ℕ). pin_count table i + n) rest ∙ sym (sum_by-cons (pin_count table) i is)
 
 -- those of the first instances and of the next are no more than all
 pub sum_next : (f : InstanceStatement → ℕ) (is : List InstanceStatement) (k : ℕ) (i : InstanceStatement) → Stands is k i → sum_by f (take k is) + f i ≤ sum_by f is
 sum_next f [] k i s = absurd cc
-sum_next f (x ∷ is) zero i s = let same : f x ≡ f i = ap f cc in let n : sum_by f (x ∷ is) ≡ f x + sum_by f is = refl in omega (arith, same, n)
+sum_next f (x ∷ is) zero i s = let same : f x ≡ f i = ap f cc in let n : sum_by f (x ∷ is) ≡ f x + sum_by f is = sum_by-cons f x is in let z : sum_by f (take 0 (x ∷ is)) ≡ 0 = refl in omega (arith, same, n, z)
 sum_next f (x ∷ is) (suc k) i s =
     let r = sum_next f is k i s in
-    let n : sum_by f (x ∷ is) ≡ f x + sum_by f is = refl in
-    let m : sum_by f (take (suc k) (x ∷ is)) ≡ f x + sum_by f (take k is) = refl in
+    let n : sum_by f (x ∷ is) ≡ f x + sum_by f is = sum_by-cons f x is in
+    let m : sum_by f (take (suc k) (x ∷ is)) ≡ f x + sum_by f (take k is) = sum_by-cons f x (take k is) in
     omega (arith, r, n, m)
 
 -- where each counts, there are no more instances than their sum
@@ -125,7 +126,7 @@ sum_many f [] h = omega arith
 sum_many f (i ∷ is) h =
     let r = sum_many f is (λ j g. h j (there g)) in
     let one = h i here in
-    let n : sum_by f (i ∷ is) ≡ f i + sum_by f is = refl in
+    let n : sum_by f (i ∷ is) ≡ f i + sum_by f is = sum_by-cons f i is in
     omega (arith, r, one, n)
 
 pub in_take : (is : List InstanceStatement) (k : ℕ) (i : InstanceStatement) → In i (take k is) → In i is
@@ -139,7 +140,7 @@ in_take (x ∷ is) (suc k) i (there h) = there (in_take is k i h)
 
 pub named_order : (table : List ModelPins) (model : List ℕ) → All (λ m. AreInOrder (map (λ p. p.name) m.pins)) table → AreInOrder (map (λ p. p.name) (pins_named table model))
 named_order [] model h i j d p q = absurd (omega (arith, q))
-named_order (m ∷ table) model h = by (bytes_eq m.model model) where
-  by : (b : Bool) → AreInOrder (map (λ p. p.name) (cond b m.pins (pins_named table model)))
-  by true = h 0 m (omega arith)
-  by false = named_order table model (λ k d l. h (suc k) d (omega (arith, l)))
+named_order (m ∷ table) model h = by (bytes_eq m.model model) (named_order table model (λ k d l. h (suc k) d (omega (arith, l)))) where
+  by : (b : Bool) → AreInOrder (map (λ p. p.name) (pins_named table model)) → AreInOrder (map (λ p. p.name) (cond b m.pins (pins_named table model)))
+  by true rest = h 0 m (omega arith)
+  by false rest = rest

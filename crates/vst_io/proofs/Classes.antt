@@ -1,5 +1,5 @@
 -- Terminals that are joined are those that stand for one bit of a net.
-use Rattle.std.proofs.Common.{◌≡◌, ℕ, List, [], ◌∷◌, ◌++◌, map, Option, None, Some, refl, sym, ap, subst, ◌∙◌}
+use Rattle.std.proofs.Common.{◌≡◌, ◌⊎◌, inl, inr, ℕ, List, [], ◌∷◌, ◌++◌, map, Option, None, Some, refl, sym, ap, subst, ◌∙◌}
 use Rattle.std.specs.List.{slice_index_or}
 use Rattle.vlsi_base.specs.declared.name.Name.{Name}
 use Rattle.vlsi_base.specs.declared.name.Terminal.{Terminal}
@@ -19,12 +19,18 @@ Links = List (Terminal × Name)
 abbrev pub StandsForOne : Links → Type 0
 StandsForOne links = (t : Terminal) (x y : Name) → In (t, x) links → In (t, y) links → x ≡ y
 
+in_first : {X : Type 0} (x y : X) (xs : List X) → In y (x ∷ xs) → (y ≡ x) ⊎ In y xs
+in_first x y xs here = inl refl
+in_first x y xs (there h) = inr h
+
 pub stands_for_one : (links : Links) → AllDifferent (map (λ l. l.0) links) → StandsForOne links
 stands_for_one [] different t x y p q = elim p [ ]
-stands_for_one (l ∷ links) different t x y here here = refl
-stands_for_one (l ∷ links) different t x y here (there q) = absurd (different.0 (In-map (λ (m : Terminal × Name). m.0) (t, y) links q))
-stands_for_one (l ∷ links) different t x y (there p) here = absurd (different.0 (In-map (λ (m : Terminal × Name). m.0) (t, x) links p))
-stands_for_one (l ∷ links) different t x y (there p) (there q) = stands_for_one links different.1 t x y p q
+stands_for_one (l ∷ links) different t x y p q = by (in_first l (t, x) links p) (in_first l (t, y) links q) (stands_for_one links different.1) where
+  by : ((t, x) ≡ l) ⊎ In (t, x) links → ((t, y) ≡ l) ⊎ In (t, y) links → StandsForOne links → x ≡ y
+  by (inl a) (inl b) rest = ap (λ (m : Terminal × Name). m.1) (a ∙ sym b)
+  by (inl a) (inr g) rest = absurd (different.0 (subst (λ (u : Terminal). In u (map (λ (m : Terminal × Name). m.0) links)) (ap (λ (m : Terminal × Name). m.0) a) (In-map (λ (m : Terminal × Name). m.0) (t, y) links g)))
+  by (inr h) (inl b) rest = absurd (different.0 (subst (λ (u : Terminal). In u (map (λ (m : Terminal × Name). m.0) links)) (ap (λ (m : Terminal × Name). m.0) b) (In-map (λ (m : Terminal × Name). m.0) (t, x) links h)))
+  by (inr h) (inr g) rest = rest t x y h g
 
 -- the last terminal of a bit that some terminal stands for
 pub record LastEnd (links : Links) (x : Name) : Type 0 where

@@ -63,11 +63,12 @@ all_in P [] h x g = elim g [ ]
 -- ---- models
 
 listed_in : (table : List ModelPins) (cs : List Component) → first_unlisted table cs ≡ None → (c : Component) → In c cs → IsThere (map (λ m. m.model) table) c.name
-listed_in table (x ∷ cs) e c h = by (position_of (map (λ m. m.model) table) x.name) refl e h where
-  by : (o : Option ℕ) → position_of (map (λ m. m.model) table) x.name ≡ o → cond (is_none o) (Some x) (first_unlisted table cs) ≡ None → In c (x ∷ cs) → IsThere (map (λ m. m.model) table) c.name
-  by None at e h = absurd cc
-  by (Some k) at e here = (k, position_stands (map (λ m. m.model) table) x.name k at)
-  by (Some k) at e (there h) = listed_in table cs e c h
+listed_in table (x ∷ cs) e c h = by (position_of (map (λ m. m.model) table) x.name) refl e h (listed_in table cs) where
+  by : (o : Option ℕ) → position_of (map (λ m. m.model) table) x.name ≡ o → cond (is_none o) (Some x) (first_unlisted table cs) ≡ None → In c (x ∷ cs)
+      → (first_unlisted table cs ≡ None → (d : Component) → In d cs → IsThere (map (λ m. m.model) table) d.name) → IsThere (map (λ m. m.model) table) c.name
+  by None at e h rest = absurd cc
+  by (Some k) at e here rest = (k, position_stands (map (λ m. m.model) table) x.name k at)
+  by (Some k) at e (there h) rest = rest e c h
 listed_in table [] e c h = elim h [ ]
 
 -- the component of an instance is listed

@@ -14,11 +14,11 @@ use Rattle.machine_core.proofs.Values.{In-split, In-left, In-right, In-map}
 use Rattle.source_meaning.specs.declared.statement.Selection.{Selection}
 use Rattle.source_meaning.specs.declared.statement.Selection.TheVariants as selection
 use Rattle.source_meaning.specs.declared.symbol_table.Symbol.{Symbol}
-use Rattle.source_meaning.specs.Symbols.{find}
+use Rattle.source_meaning.specs.Symbols.{find, bit_name}
 use Rattle.source_meaning.specs.Widths.{if_not}
 use Rattle.source_meaning.proofs.Lookups.{itself}
 use Rattle.vlsi_model.proofs.Members.{In-map_back, different_append, different_map, different_right}
-use Rattle.vlsi_model.proofs.Bits.{different_range}
+use Rattle.vlsi_model.proofs.Bits.{different_names_in}
 use Rattle.net_core.specs.declared.pins.ModelPin.{ModelPin}
 use Rattle.net_core.specs.declared.pins.ModelPins.{ModelPins}
 use Rattle.net_core.specs.Netlist.{pin_of}
@@ -88,6 +88,13 @@ zip_first (x ∷ xs) [] e = absurd (omega (arith, e))
 zip_first {X} {Y} (x ∷ xs) (y ∷ ys) e = ap (λ (zs : List X). x ∷ zs) (zip_first xs ys (omega (arith, e)))
 
 -- ---- bits of one name are different
+
+different_of_map : {X Y : Type 0} (f : X → Y) (xs : List X) → AllDifferent (map f xs) → AllDifferent xs
+different_of_map f [] d = tt
+different_of_map f (x ∷ xs) d = (λ h. d.0 (In-map f x xs h), different_of_map f xs d.1)
+
+different_range : (r : Range) → AllDifferent (range_bits r)
+different_range r = different_of_map (bit_name []) (range_bits r) (different_names_in [] (Some r))
 
 pub different_bits_of : (range : Option Range) → AllDifferent (bits_of range)
 different_bits_of None = (λ h. elim h [ ], tt)

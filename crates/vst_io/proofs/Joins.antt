@@ -69,11 +69,11 @@ there_at P links all k l low at = subst P (sym at) (all k l low)
 -- both ends of a link are there, so that memory alone can lack
 pub only_memory : (d now : Draft) (links : Links) (k place : ℕ) (l x : Terminal × Name) → All (λ l. IsThere (draft_terminals d) l.0) links → k < length links → l ≡ get_or links k l
     → last_place (map (λ l. l.1) links) l.1 ≡ Some place → x ≡ get_or links place x → now ≡ joined_to d links k → (e : BuildError) → IsNoJoin now x.0 l.0 e → e ≡ building.Memory
-only_memory d now links k place l x all low at found there so_far building.Memory no = refl
-only_memory d now links k place l x all low at found there so_far building.Twice no = absurd no
-only_memory d now links k place l x all low at found there so_far building.Unknown no =
+only_memory d now links k place l x all low at found there so_far building.Memory why = refl
+only_memory d now links k place l x all low at found there so_far building.Twice why = absurd why
+only_memory d now links k place l x all low at found there so_far building.Unknown why =
     let P : Terminal × Name → Type 0 = λ m. IsThere (draft_terminals d) m.0 in
-    let none : IsNoJoin d x.0 l.0 building.Unknown = subst (λ (y : Draft). IsNoJoin y x.0 l.0 building.Unknown) so_far no in
+    let none : IsNoJoin d x.0 l.0 building.Unknown = subst (λ (y : Draft). IsNoJoin y x.0 l.0 building.Unknown) so_far why in
     absurd (none (there_at P links all place x (last_link links l place found).within there) (there_at P links all k l low at))
 
 pub none_joined : (d : Draft) (links : Links) → d ≡ joined_to d links 0

@@ -1,5 +1,5 @@
 pub mod Places
-pub mod Maps
+pub mod MapTurns
 pub mod Classes
 pub mod Fine
 pub mod Order

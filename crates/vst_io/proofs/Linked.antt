@@ -88,7 +88,7 @@ different_pin_ends table f (i ∷ is) m d =
 abbrev pub port_link : Port → Terminal × Name
 port_link p = (port p.name, p.name)
 
-abbrev key : Port → Name
+abbrev pub key : Port → Name
 key p = p.name
 
 port_ends : (bits : List Port) → map end_of (map port_link bits) ≡ map port (map key bits)

@@ -92,11 +92,11 @@ added_now table f first now after k i pins next e low at made fresh =
 
 pub refused_now : (table : List ModelPins) (f : StructuralFile) (first now : Draft) (k : ℕ) (i : InstanceStatement) → IsNext table f first now k i → (error : BuildError)
     → IsNoPlaceFor now.instances i.label error → (e : ReadError) → IsAgain i error e → IsLabelFault f.instances e
-refused_now table f first now k i next building.Memory no e is = subst (λ (x : ReadError). IsLabelFault f.instances x) (sym is) tt
-refused_now table f first now k i next building.Unknown no e is = absurd no
-refused_now table f first now k i next building.Twice no e is = by e is where
+refused_now table f first now k i next building.Memory why e is = subst (λ (x : ReadError). IsLabelFault f.instances x) (sym is) tt
+refused_now table f first now k i next building.Unknown why e is = absurd why
+refused_now table f first now k i next building.Twice why e is = by e is where
   found : first_label_again [] f.instances ≡ Some i
-  found = again_here table f.instances k i (first_label_again [] f.instances) next.stands (subst (λ (d : Draft). IsThere (map (λ (j : Instance). j.name) d.instances) i.label) next.so_far no) next.again
+  found = again_here table f.instances k i (first_label_again [] f.instances) next.stands (subst (λ (d : Draft). IsThere (map (λ (j : Instance). j.name) d.instances) i.label) next.so_far why) next.again
 
   by : (x : ReadError) → IsAgain i building.Twice x → IsLabelFault f.instances x
   by errors.Memory is = tt

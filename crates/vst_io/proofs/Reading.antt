@@ -21,19 +21,19 @@ use Rattle.vst_io.proofs.Drafted.{all_mapped}
 use Rattle.vst_io.proofs.Condition.{meets, fits_table}
 
 pub structure_refused : (bytes : List ℕ) (table : List ModelPins) (e : ReadError) → length bytes ≤ MOST_NETLIST_BYTES → refusal_in bytes ≡ None → IsRefusedStructure (tokens_in bytes) e → IsVstRefusal bytes table e
-structure_refused bytes table errors.Memory few cut no = tt
-structure_refused bytes table (errors.Input f) few cut no = unwritten few cut no
-structure_refused bytes table (errors.Limit l) few cut no = unwritten few cut no
+structure_refused bytes table errors.Memory few cut why = tt
+structure_refused bytes table (errors.Input f) few cut why = unwritten few cut why
+structure_refused bytes table (errors.Limit l) few cut why = unwritten few cut why
 
 pub fault_refused : (bytes : List ℕ) (table : List ModelPins) (file : StructuralFile) (e : ReadError) → IsWritten bytes file → IsFaultOf table file e → IsVstRefusal bytes table e
-fault_refused bytes table file errors.Memory written no = tt
-fault_refused bytes table file (errors.Input f) written no = faulty file written no
-fault_refused bytes table file (errors.Limit l) written no = faulty file written no
+fault_refused bytes table file errors.Memory written why = tt
+fault_refused bytes table file (errors.Input f) written why = faulty file written why
+fault_refused bytes table file (errors.Limit l) written why = faulty file written why
 
 pub netlist_refused : (bytes : List ℕ) (table : List ModelPins) (file : StructuralFile) (n : Netlist) (e : ReadError) → Says bytes table file n → IsUnsound table n e → IsVstRefusal bytes table e
-netlist_refused bytes table file n errors.Memory says no = tt
-netlist_refused bytes table file n (errors.Input f) says no = unsound file n no.kind no.names says no.fault_is no.is
-netlist_refused bytes table file n (errors.Limit l) says no = absurd no
+netlist_refused bytes table file n errors.Memory says why = tt
+netlist_refused bytes table file n (errors.Input f) says why = unsound file n why.kind why.names says why.fault_is why.is
+netlist_refused bytes table file n (errors.Limit l) says why = absurd why
 
 -- each instance of a text maps a pin
 pub each_maps : (bytes : List ℕ) (file : StructuralFile) → IsWritten bytes file → (i : InstanceStatement) → IsThere file.instances i → 0 < length i.associations

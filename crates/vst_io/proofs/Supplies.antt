@@ -31,12 +31,12 @@ use Rattle.vst_io.proofs.Fine.{append_nothing, if_nothing, flat_nothing, both_tr
 use Rattle.vst_io.proofs.Ports.{text_of, name_of_role, ports_at}
 
 -- what is known of a symbol of one declaration
-pub record IsNamed (r : Role) (range : Option Range) (ns : List NewName) (s : Symbol) : Type 0 where
+pub record IsNamed (r : Role) (declared : Option Range) (ns : List NewName) (s : Symbol) : Type 0 where
   pub name : NewName
   pub listed : In name ns
   pub text : s.text ≡ name.text
   pub role : s.role ≡ r
-  pub range : s.range ≡ range
+  pub range : s.range ≡ declared
 
 is_named : (r : Role) (range : Option Range) (line : ℕ) (ns : List NewName) (s : Symbol) → In s (symbols_named r range line ns) → IsNamed r range ns s
 is_named r range line (n ∷ ns) s here = record { name = n; listed = here; text = refl; role = refl; range = refl }
@@ -122,13 +122,13 @@ supply_port f e q h supply =
       port_role role.Inner ns q h = elim h [ ]
       port_role role.Register ns q h = elim h [ ]
 
-      text_at : (s : Symbol) (q : Port) → In q (ports_at s) → q.name.text ≡ s.text
-      text_at s q h = text_of s.text (bits_of s.range) q.name (name_of_role s.role (names s.text (bits_of s.range)) q.name (key_in q (ports_at s) h))
-
       key_in : (q : Port) (ps : List Port) → In q ps → In q.name (map (λ p. p.name) ps)
       key_in q (p ∷ ps) here = here
       key_in q (p ∷ ps) (there g) = there (key_in q ps g)
       key_in q [] g = elim g [ ]
+
+      text_at : (s : Symbol) (q : Port) → In q (ports_at s) → q.name.text ≡ s.text
+      text_at s q h = text_of s.text (bits_of s.range) q.name (name_of_role s.role (names s.text (bits_of s.range)) q.name (key_in q (ports_at s) h))
 
       one : (text : List ℕ) (q : Port) → In q (port_of dir.In (name_of text None) ∷ []) → (q.name.bit ≡ None) × (q.dir ≡ dir.In)
       one text q here = (refl, refl)

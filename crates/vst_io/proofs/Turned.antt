@@ -17,60 +17,60 @@ use Rattle.vst_io.specs.Nets.{names, pin_bits, pin_names}
 use Rattle.vst_io.specs.Faults.{stands, is_free, fits, association_faults}
 use Rattle.vst_io.proofs.Fine.{map_length}
 use Rattle.vst_io.proofs.Places.{Holds, holds_none, holds_more, free_all, mapped_all}
-use Rattle.vst_io.proofs.Maps.{map_turn}
+use Rattle.vst_io.proofs.MapTurns.{map_turn}
 
 -- the names of a list that an index was given
 pub holds_all : (old new : NamePlaces) (ns : List Name) → old ≡ empty → ((n : Name) → get new n ≡ option_or (last_place ns n) (get old n)) → Holds new ns
 holds_all old new ns e has = holds_more old new [] ns (holds_none old e) has
 
 abbrev pub before : List Symbol → List Association → ℕ → List Name
-before known as k = flat_map (pin_names known) (take k as)
+before known joins k = flat_map (pin_names known) (take k joins)
 
 -- what is still found from the association at k on
 abbrev pub found_from : List Symbol → List Symbol → List ModelPin → List ℕ → List Association → ℕ → Option ℕ
-found_from known nets model end as k = first_line (association_faults known nets model (before known as k) (drop k as) ++ end)
+found_from known nets model end joins k = first_line (association_faults known nets model (before known joins k) (drop k joins) ++ end)
 
 -- at the association at k
-pub record IsTurn (known nets : List Symbol) (model : List ModelPin) (end : List ℕ) (as : List Association) (k : ℕ) (a : Association) (total : Option ℕ) : Type 0 where
-  pub within : k < length as
-  pub at : a ≡ get_or as k a
-  pub so_far : found_from known nets model end as k ≡ total
+pub record IsTurn (known nets : List Symbol) (model : List ModelPin) (end : List ℕ) (joins : List Association) (k : ℕ) (a : Association) (total : Option ℕ) : Type 0 where
+  pub within : k < length joins
+  pub at : a ≡ get_or joins k a
+  pub so_far : found_from known nets model end joins k ≡ total
 
-opened : (known nets : List Symbol) (model : List ModelPin) (end : List ℕ) (as : List Association) (k : ℕ) (a : Association) (total : Option ℕ) → IsTurn known nets model end as k a total
-    → first_line (association_faults known nets model (before known as k) (a ∷ drop (k + 1) as) ++ end) ≡ total
-opened known nets model end as k a total t =
-    let look : List Association → Option ℕ = λ xs. first_line (association_faults known nets model (before known as k) xs ++ end) in
-    ap (λ (x : Association). look (x ∷ drop (k + 1) as)) t.at ∙ sym (at_drop_more look as k a t.within) ∙ t.so_far
+opened : (known nets : List Symbol) (model : List ModelPin) (end : List ℕ) (joins : List Association) (k : ℕ) (a : Association) (total : Option ℕ) → IsTurn known nets model end joins k a total
+    → first_line (association_faults known nets model (before known joins k) (a ∷ drop (k + 1) joins) ++ end) ≡ total
+opened known nets model end joins k a total t =
+    let look : List Association → Option ℕ = λ xs. first_line (association_faults known nets model (before known joins k) xs ++ end) in
+    ap (λ (x : Association). look (x ∷ drop (k + 1) joins)) t.at ∙ sym (at_drop_more look joins k a t.within) ∙ t.so_far
 
-pub not_free : (known nets : List Symbol) (model : List ModelPin) (end : List ℕ) (as : List Association) (k : ℕ) (a : Association) (total : Option ℕ) → IsTurn known nets model end as k a total
-    → is_free model (before known as k) (pin_names known a) ≡ false → Some a.pin.line ≡ total
-not_free known nets model end as k a total t e =
+pub not_free : (known nets : List Symbol) (model : List ModelPin) (end : List ℕ) (joins : List Association) (k : ℕ) (a : Association) (total : Option ℕ) → IsTurn known nets model end joins k a total
+    → is_free model (before known joins k) (pin_names known a) ≡ false → Some a.pin.line ≡ total
+not_free known nets model end joins k a total t e =
     let fit = fits nets a (length (pin_bits known a.pin)) in
-    sym (map_turn known nets model (before known as k) a (drop (k + 1) as) end false fit e refl) ∙ opened known nets model end as k a total t
+    sym (map_turn known nets model (before known joins k) a (drop (k + 1) joins) end false fit e refl) ∙ opened known nets model end joins k a total t
 
-pub not_fit : (known nets : List Symbol) (model : List ModelPin) (end : List ℕ) (as : List Association) (k : ℕ) (a : Association) (total : Option ℕ) → IsTurn known nets model end as k a total
-    → is_free model (before known as k) (pin_names known a) ≡ true → fits nets a (length (pin_bits known a.pin)) ≡ false → Some a.net.line ≡ total
-not_fit known nets model end as k a total t e f =
-    sym (map_turn known nets model (before known as k) a (drop (k + 1) as) end true false e f) ∙ opened known nets model end as k a total t
+pub not_fit : (known nets : List Symbol) (model : List ModelPin) (end : List ℕ) (joins : List Association) (k : ℕ) (a : Association) (total : Option ℕ) → IsTurn known nets model end joins k a total
+    → is_free model (before known joins k) (pin_names known a) ≡ true → fits nets a (length (pin_bits known a.pin)) ≡ false → Some a.net.line ≡ total
+not_fit known nets model end joins k a total t e f =
+    sym (map_turn known nets model (before known joins k) a (drop (k + 1) joins) end true false e f) ∙ opened known nets model end joins k a total t
 
 flat_next : {X Y : Type 0} (f : X → List Y) (xs : List X) (x : X) → flat_map f (xs ++ x ∷ []) ≡ flat_map f xs ++ f x
 flat_next f [] x = append-nil (f x)
 flat_next {X} {Y} f (y ∷ xs) x = ap (λ (ys : List Y). f y ++ ys) (flat_next f xs x) ∙ sym (append_assoc (f y) (flat_map f xs) (f x))
 
-pub before_next : (known : List Symbol) (as : List Association) (k : ℕ) (a : Association) → k < length as → a ≡ get_or as k a → before known as (k + 1) ≡ before known as k ++ pin_names known a
-before_next known as k a low at =
-    ap (λ (xs : List Association). flat_map (pin_names known) xs) (take_more as k a low ∙ ap (λ (x : Association). take k as ++ x ∷ []) (sym at)) ∙ flat_next (pin_names known) (take k as) a
+pub before_next : (known : List Symbol) (joins : List Association) (k : ℕ) (a : Association) → k < length joins → a ≡ get_or joins k a → before known joins (k + 1) ≡ before known joins k ++ pin_names known a
+before_next known joins k a low at =
+    ap (λ (xs : List Association). flat_map (pin_names known) xs) (take_more joins k a low ∙ ap (λ (x : Association). take k joins ++ x ∷ []) (sym at)) ∙ flat_next (pin_names known) (take k joins) a
 
-pub goes_on : (known nets : List Symbol) (model : List ModelPin) (end : List ℕ) (as : List Association) (k : ℕ) (a : Association) (total : Option ℕ) → IsTurn known nets model end as k a total
-    → is_free model (before known as k) (pin_names known a) ≡ true → fits nets a (length (pin_bits known a.pin)) ≡ true → found_from known nets model end as (k + 1) ≡ total
-goes_on known nets model end as k a total t e f =
-    ap (λ (ns : List Name). first_line (association_faults known nets model ns (drop (k + 1) as) ++ end)) (before_next known as k a t.within t.at)
-    ∙ sym (map_turn known nets model (before known as k) a (drop (k + 1) as) end true true e f) ∙ opened known nets model end as k a total t
+pub goes_on : (known nets : List Symbol) (model : List ModelPin) (end : List ℕ) (joins : List Association) (k : ℕ) (a : Association) (total : Option ℕ) → IsTurn known nets model end joins k a total
+    → is_free model (before known joins k) (pin_names known a) ≡ true → fits nets a (length (pin_bits known a.pin)) ≡ true → found_from known nets model end joins (k + 1) ≡ total
+goes_on known nets model end joins k a total t e f =
+    ap (λ (ns : List Name). first_line (association_faults known nets model ns (drop (k + 1) joins) ++ end)) (before_next known joins k a t.within t.at)
+    ∙ sym (map_turn known nets model (before known joins k) a (drop (k + 1) joins) end true true e f) ∙ opened known nets model end joins k a total t
 
 -- the pins of the next association are held too
-pub holds_next : (known : List Symbol) (as : List Association) (k : ℕ) (a : Association) (old new : NamePlaces) → k < length as → a ≡ get_or as k a → Holds old (before known as k)
-    → ((n : Name) → get new n ≡ option_or (last_place (pin_names known a) n) (get old n)) → Holds new (before known as (k + 1))
-holds_next known as k a old new low at holds has = rw (before_next known as k a low at) (holds_more old new (before known as k) (pin_names known a) holds has)
+pub holds_next : (known : List Symbol) (joins : List Association) (k : ℕ) (a : Association) (old new : NamePlaces) → k < length joins → a ≡ get_or joins k a → Holds old (before known joins k)
+    → ((n : Name) → get new n ≡ option_or (last_place (pin_names known a) n) (get old n)) → Holds new (before known joins (k + 1))
+holds_next known joins k a old new low at holds has = rw (before_next known joins k a low at) (holds_more old new (before known joins k) (pin_names known a) holds has)
 
 -- whether the bits of an association are free
 pub free_is : (known : List Symbol) (model : List ModelPin) (mapped : List Name) (pins index : NamePlaces) (a : Association) (bits : List (Option ℕ)) → bits ≡ pin_bits known a.pin
@@ -85,17 +85,17 @@ free_is known model mapped pins index a bits e p m =
     ∙ ap (λ (bs : List (Option ℕ)). nat_lt 0 (length (names a.pin.text bs)) && test (names a.pin.text bs)) e
 
 -- behind the last association
-pub at_end : (known nets : List Symbol) (model : List ModelPin) (end : List ℕ) (as : List Association) (k : ℕ) (total : Option ℕ) → length as ≤ k → found_from known nets model end as k ≡ total → first_line end ≡ total
-at_end known nets model end as k total past so_far =
-    let look : List Association → Option ℕ = λ xs. first_line (association_faults known nets model (before known as k) xs ++ end) in
-    sym (at_drop_all look as k past) ∙ so_far
+pub at_end : (known nets : List Symbol) (model : List ModelPin) (end : List ℕ) (joins : List Association) (k : ℕ) (total : Option ℕ) → length joins ≤ k → found_from known nets model end joins k ≡ total → first_line end ≡ total
+at_end known nets model end joins k total past so_far =
+    let look : List Association → Option ℕ = λ xs. first_line (association_faults known nets model (before known joins k) xs ++ end) in
+    sym (at_drop_all look joins k past) ∙ so_far
 
 -- whether all pins are mapped
-pub all_are_mapped : (known : List Symbol) (model : List ModelPin) (as : List Association) (k : ℕ) (index : NamePlaces) (ns : List Name) → ns ≡ map (λ p. p.name) model → length as ≤ k → Holds index (before known as k)
-    → list_all (λ n. is_some (get index n)) ns ≡ list_all (λ p. stands (flat_map (pin_names known) as) p.name) model
-all_are_mapped known model as k index ns e past holds =
-    ap (λ (ms : List Name). list_all (λ n. is_some (get index n)) ms) e ∙ mapped_all (λ (p : ModelPin). p.name) index (before known as k) model holds
-    ∙ ap (λ (xs : List Association). list_all (λ (p : ModelPin). stands (flat_map (pin_names known) xs) p.name) model) (take_whole as k past)
+pub all_are_mapped : (known : List Symbol) (model : List ModelPin) (joins : List Association) (k : ℕ) (index : NamePlaces) (ns : List Name) → ns ≡ map (λ p. p.name) model → length joins ≤ k → Holds index (before known joins k)
+    → list_all (λ n. is_some (get index n)) ns ≡ list_all (λ p. stands (flat_map (pin_names known) joins) p.name) model
+all_are_mapped known model joins k index ns e past holds =
+    ap (λ (ms : List Name). list_all (λ n. is_some (get index n)) ms) e ∙ mapped_all (λ (p : ModelPin). p.name) index (before known joins k) model holds
+    ∙ ap (λ (xs : List Association). list_all (λ (p : ModelPin). stands (flat_map (pin_names known) xs) p.name) model) (take_whole joins k past)
 
 pub end_line : (b : Bool) (line : ℕ) (total : Option ℕ) → first_line (if_not b line) ≡ total → (b ≡ true → None ≡ total) × (b ≡ false → Some line ≡ total)
 end_line true line total e = (λ h. e, λ h. absurd (cc h))

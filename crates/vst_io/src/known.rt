@@ -15,13 +15,13 @@ use vst_text::{Declaration, StructuralFile};
 
 /// The names of the declared components, and the pins of each.
 #[derive(Drop)]
-pub struct Components {
+pub struct ComponentTable {
     pub names: Vec<Name>,
     pub pins: Vec<SymbolTable>,
 }
 
 /// The declared components, in file order. Takes memory for their names and pins.
-pub fn components(alloc: Global, declarations: &[Declaration]) -> Result<Components, AllocError>
+pub fn components(alloc: Global, declarations: &[Declaration]) -> Result<ComponentTable, AllocError>
     ensures names { IfOk result (λ c. c.names.items ≡ map (λ d. scalar d.name) (components declarations.now)) }
     ensures pins { IfOk result (λ c. c.pins.items ≡ map pins (components declarations.now)) }
 {
@@ -34,7 +34,7 @@ pub fn components(alloc: Global, declarations: &[Declaration]) -> Result<Compone
             pins.push(table.with_ports(alloc, component.ports.as_slice())?)?;
         }
     }
-    Ok(Components { names, pins })
+    Ok(ComponentTable { names, pins })
 }
 
 /// The declared ports and signals, in file order.
@@ -77,21 +77,21 @@ impl<'a> Known<'a> {
         alloc: Global,
         file: &'a StructuralFile,
         table: &'a [ModelPins],
-        components: &'a Components,
+        declared: &'a ComponentTable,
     ) -> Result<Self, AllocError>
         requires once { NoneTwice (map (λ m. m.model) table.now) }
-        requires names { components.now.names.items ≡ map (λ d. scalar d.name) (components file.now.declarations) }
-        requires pins { components.now.pins.items ≡ map pins (components file.now.declarations) }
+        requires names { declared.now.names.items ≡ map (λ d. scalar d.name) (components file.now.declarations) }
+        requires pins { declared.now.pins.items ≡ map pins (components file.now.declarations) }
         ensures { IfOk result (λ k. k ≡ record { table = table.now; file = file.now }) }
     {
         let mut places = NameIndex::new(alloc);
-        places.insert_all(&components.names)?;
+        places.insert_all(&declared.names)?;
         Ok(Known {
             file,
             table,
             nets: nets(alloc, file)?,
             places,
-            pins: &components.pins,
+            pins: &declared.pins,
             models: model_names(alloc, table)?,
         })
     }

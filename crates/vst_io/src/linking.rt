@@ -45,7 +45,7 @@ fn push_links(
     label: &Text,
     association: &Association,
 ) -> Result<(), AllocError>
-    ensures { OnOk result (links.new.items ≡ links.old.items ++ links_of known.0.now known.1.now label.now association.now) }
+    ensures { OnOk result (links.new.items ≡ links.old.items ++ links_of known.entry.0.now known.entry.1.now label.now association.now) }
 {
     let bits = pin_bits(alloc, known.0, &association.pin)?;
     let net_bits = net_bits(alloc, known.1, &association.net)?;

@@ -29,9 +29,12 @@ fn are_free<'a>(
     ensures { result ≡ (nat_lt 0 (length bits.now)
         && list_all (λ b. is_some (get pins.now (name_of text.now b)) && is_none (get mapped.now (name_of text.now b))) bits.now) }
 {
+    for bit in bits {
+        if pins.find(text, *bit).is_none() || mapped.find(text, *bit).is_some() {
+            return false;
+        }
+    }
     !bits.is_empty()
-        && bits.iter().all(|bit| pins.find(text, *bit).is_some()
-            && mapped.find(text, *bit).is_none())
 }
 
 /// Puts bits of a pin among those that are mapped.
@@ -51,7 +54,12 @@ fn note<'a>(
 fn are_mapped<'a>(mapped: &NameIndex<'a>, names: &'a [Name]) -> bool
     ensures { result ≡ list_all (λ n. is_some (get mapped.now n)) names.now }
 {
-    names.iter().all(|name| mapped.find(name.text.as_bytes(), name.bit).is_some())
+    for name in names {
+        if mapped.find(name.text.as_bytes(), name.bit).is_none() {
+            return false;
+        }
+    }
+    true
 }
 
 /// Whether a name is that of a port.
