@@ -139,7 +139,7 @@ in_take (x ∷ is) (suc k) i (there h) = there (in_take is k i h)
 -- ---- the pins of a model stand in order
 
 pub named_order : (table : List ModelPins) (model : List ℕ) → All (λ m. AreInOrder (map (λ p. p.name) m.pins)) table → AreInOrder (map (λ p. p.name) (pins_named table model))
-named_order [] model h i j d p q = absurd (omega (arith, q))
+named_order [] model h = λ i j d p q. absurd (omega (arith, q))
 named_order (m ∷ table) model h = by (bytes_eq m.model model) (named_order table model (λ k d l. h (suc k) d (omega (arith, l)))) where
   by : (b : Bool) → AreInOrder (map (λ p. p.name) (pins_named table model)) → AreInOrder (map (λ p. p.name) (cond b m.pins (pins_named table model)))
   by true rest = h 0 m (omega arith)

@@ -19,7 +19,7 @@ Links = List (Terminal × Name)
 abbrev pub StandsForOne : Links → Type 0
 StandsForOne links = (t : Terminal) (x y : Name) → In (t, x) links → In (t, y) links → x ≡ y
 
-in_first : {X : Type 0} (x y : X) (xs : List X) → In y (x ∷ xs) → (y ≡ x) ⊎ In y xs
+pub in_first : {X : Type 0} (x y : X) (xs : List X) → In y (x ∷ xs) → (y ≡ x) ⊎ In y xs
 in_first x y xs here = inl refl
 in_first x y xs (there h) = inr h
 

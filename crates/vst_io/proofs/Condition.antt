@@ -47,6 +47,7 @@ use Rattle.vst_io.specs.Faults.{first_unlisted, is_net_port, is_tied, all_forms}
 use Rattle.vst_io.specs.Checked.{IsDeclared}
 use Rattle.vst_io.specs.Text.{IsNetlistOf, ListsSupplies}
 use Rattle.vst_io.proofs.Places.{stands_in, in_stands, last_is, stands_map, IsLast}
+use Rattle.vst_io.proofs.Classes.{in_first}
 use Rattle.vst_io.proofs.Fine.{IsFine, IsMapped, map_length, both_true, in_flat, flat_in}
 use Rattle.vst_io.proofs.Ports.{text_of, ports_at}
 use Rattle.vst_io.proofs.Linked.{end_of, end_there, port_link}
@@ -63,12 +64,12 @@ all_in P [] h x g = elim g [ ]
 -- ---- models
 
 listed_in : (table : List ModelPins) (cs : List Component) → first_unlisted table cs ≡ None → (c : Component) → In c cs → IsThere (map (λ m. m.model) table) c.name
-listed_in table (x ∷ cs) e c h = by (position_of (map (λ m. m.model) table) x.name) refl e h (listed_in table cs) where
-  by : (o : Option ℕ) → position_of (map (λ m. m.model) table) x.name ≡ o → cond (is_none o) (Some x) (first_unlisted table cs) ≡ None → In c (x ∷ cs)
+listed_in table (x ∷ cs) e c h = by (position_of (map (λ m. m.model) table) x.name) refl e (in_first x c cs h) (listed_in table cs) where
+  by : (o : Option ℕ) → position_of (map (λ m. m.model) table) x.name ≡ o → cond (is_none o) (Some x) (first_unlisted table cs) ≡ None → (c ≡ x) ⊎ In c cs
       → (first_unlisted table cs ≡ None → (d : Component) → In d cs → IsThere (map (λ m. m.model) table) d.name) → IsThere (map (λ m. m.model) table) c.name
   by None at e h rest = absurd cc
-  by (Some k) at e here rest = (k, position_stands (map (λ m. m.model) table) x.name k at)
-  by (Some k) at e (there h) rest = rest e c h
+  by (Some k) at e (inl s) rest = subst (λ (d : Component). IsThere (map (λ m. m.model) table) d.name) (sym s) (k, position_stands (map (λ m. m.model) table) x.name k at)
+  by (Some k) at e (inr h) rest = rest e c h
 listed_in table [] e c h = elim h [ ]
 
 -- the component of an instance is listed

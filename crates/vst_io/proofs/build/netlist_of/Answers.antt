@@ -1,0 +1,44 @@
+use Rattle.std.proofs.Common.{rules, ◌≡◌, ◌++◌, [], ◌<◌, ◌^◌, None, map, length, slice_index_or, IfOk, OnOk, IfErr, ℕ, ◌+◌, ◌-◌, ◌*◌, ◌≤◌, ◌/◌, ◌%◌, Bool, true, false, nat_eq, nat_lt, List, ◌∷◌, slice_set, bit_and, bit_or, Fits, w8, w32, w64, Bor, MutBor}
+use Rattle.std.specs.List.{All}
+use Rattle.std.specs.List.Sorted.{IsPermutation}
+use Rattle.std.specs.FinMap.{get}
+use Rattle.vlsi_base.specs.declared.name.Name.{Name}
+use Rattle.vlsi_base.specs.NamePlaces.{last_place}
+use Rattle.machine_core.specs.Order.{AllDifferent}
+use Rattle.source_meaning.specs.Checks.{fault}
+use Rattle.net_core.specs.declared.error.BuildError.TheVariants.{Memory}
+use Rattle.net_core.specs.Places.{IsThere}
+use Rattle.net_core.specs.Netlist.{AreInOrder, IsNetlist}
+use Rattle.net_core.specs.Joins.{draft_terminals}
+use Rattle.net_core.specs.Checks.{IsPinTable, pins_named}
+use Rattle.vst_io.specs.Nets.{nets, port_bits, instance_of}
+use Rattle.vst_io.specs.Faults.{first_label_again, terminal_count}
+use Rattle.vst_io.specs.Checked.{IsChecked, IsFaultOf}
+use Rattle.vst_io.specs.Text.{IsNetlistOf}
+use Rattle.vst_io.specs.Drafts.{joins_of, with_instances, IsAgain, IsLabelFault}
+use Rattle.vst_text.specs.declared.file.InstanceStatement.{InstanceStatement}
+use Rattle.vst_io.proofs.build.netlist_of.Goals as goal
+
+-- src/build.rt:136:62
+pub sorted-requires : goal.sorted-requires
+sorted-requires c = ?
+
+-- src/build.rt:136:23
+pub begin-requires-clause-few : goal.begin-requires-clause-few
+begin-requires-clause-few c = ?
+
+-- src/build.rt:137:5
+pub add_instances-requires-clause-few : goal.add_instances-requires-clause-few
+add_instances-requires-clause-few c = ?
+
+-- src/build.rt:137:5
+pub add_instances-requires-clause-maps : goal.add_instances-requires-clause-maps
+add_instances-requires-clause-maps c = ?
+
+-- src/build.rt:138:5
+pub join_all-requires : goal.join_all-requires
+join_all-requires c = ?
+
+-- src/build.rt:125:1
+pub returns-clause-netlist : goal.returns-clause-netlist
+returns-clause-netlist c = ?
