@@ -1,6 +1,6 @@
 -- The first fault of a text, check by check.
 use Rattle.std.proofs.Common.{◌≡◌, ℕ, ◌-◌, ◌<◌, ◌≤◌, ◌^◌, Bool, true, false, cond, List, [], ◌∷◌, length, min, Option, None, Some, refl, sym, ap, ◌∙◌, arith}
-use Rattle.std.specs.Prelude.{nat_lt}
+use Rattle.std.specs.Prelude.{nat_lt, filter, Result, Ok, Err, IfErr}
 use Rattle.std.proofs.lemmas.Bool.Decides.{nat_tests}
 use Rattle.vlsi_base.specs.declared.fault.FaultKind.{FaultKind}
 use Rattle.vlsi_base.specs.declared.fault.FaultKind.TheVariants as kind
@@ -115,3 +115,16 @@ label_found table f c (errors.Limit l) h = past_checked table f c ∙ h
 
 pub no_fault : (table : List ModelPins) (f : StructuralFile) → IsChecked table f → first_label_again [] f.instances ≡ None → first_fault table f ≡ None
 no_fault table f c once = past_checked table f c ∙ ap (λ (o : Option InstanceStatement). if_again o None) once
+
+-- an error that there may be, for another reason
+pub in_err : {X : Type 0} {P Q : ReadError → Type 0} → ((e : ReadError) → P e → Q e) → (r : Result X ReadError) → IfErr r P → IfErr r Q
+in_err f (Ok x) h = h
+in_err f (Err e) h = f e h
+
+-- a list has no more elements that pass a test than elements
+pub filter_few : {X : Type 0} (p : X → Bool) (xs : List X) → length (filter p xs) ≤ length xs
+filter_few p [] = omega arith
+filter_few p (x ∷ xs) = by (p x) (filter_few p xs) where
+  by : (b : Bool) → length (filter p xs) ≤ length xs → length (cond b (x ∷ filter p xs) (filter p xs)) ≤ length (x ∷ xs)
+  by true h = omega (arith, h)
+  by false h = omega (arith, h)

@@ -1,5 +1,5 @@
 -- Links that are joined one by one.
-use Rattle.std.proofs.Common.{◌≡◌, ℕ, ◌+◌, ◌<◌, ◌≤◌, List, [], ◌∷◌, ◌++◌, map, length, take, get_or, Option, None, Some, refl, sym, ap, subst, ◌∙◌, append_assoc, append-nil}
+use Rattle.std.proofs.Common.{◌≡◌, ℕ, ◌+◌, ◌<◌, ◌≤◌, List, [], ◌∷◌, ◌++◌, map, length, take, get_or, Option, None, Some, refl, sym, ap, subst, ◌∙◌, append_assoc}
 use Rattle.std.specs.List.{All, slice_index_or}
 use Rattle.std.proofs.lemmas.List.{take_more, get_or_read}
 use Rattle.std.proofs.lemmas.Option.{slice_get_within, slice_get_read}
@@ -8,12 +8,11 @@ use Rattle.vlsi_base.specs.declared.name.Terminal.{Terminal}
 use Rattle.vlsi_base.specs.Member.{In}
 use Rattle.vlsi_base.specs.NamePlaces.{last_place}
 use Rattle.machine_core.proofs.Values.{In-map}
-use Rattle.vlsi_model.proofs.Naming.{take_whole}
 use Rattle.net_core.specs.declared.error.BuildError.{BuildError}
 use Rattle.net_core.specs.declared.error.BuildError.TheVariants as building
 use Rattle.net_core.specs.Places.{Stands, IsThere}
 use Rattle.net_core.specs.Joins.{Draft, draft_terminals, with_join, IsNoJoin}
-use Rattle.vst_io.specs.Drafts.{end_at, last_end, joins_of}
+use Rattle.vst_io.specs.Drafts.{end_at, last_end}
 use Rattle.vst_io.proofs.Fine.{map_append}
 use Rattle.vst_io.proofs.Places.{IsLast, last_is, last_there, stands_in, stands_map}
 use Rattle.vst_io.proofs.Classes.{Links}
@@ -76,8 +75,6 @@ only_memory d now links k place l x all low at found there so_far building.Unkno
     let none : IsNoJoin d x.0 l.0 building.Unknown = subst (λ (y : Draft). IsNoJoin y x.0 l.0 building.Unknown) so_far why in
     absurd (none (there_at P links all place x (last_link links l place found).within there) (there_at P links all k l low at))
 
-pub none_joined : (d : Draft) (links : Links) → d ≡ joined_to d links 0
-none_joined d links = ap (λ (js : List (Terminal × Terminal)). let y : Draft = record d { joins = js } in y) (sym (append-nil d.joins))
-
-pub all_joined : (d now : Draft) (links : Links) (k : ℕ) → length links ≤ k → now ≡ joined_to d links k → now ≡ record d { joins = d.joins ++ joins_of links }
-all_joined d now links k past so_far = so_far ∙ ap (λ (ls : Links). let y : Draft = record d { joins = d.joins ++ map (pair_at links) ls } in y) (take_whole links k past)
+pub none_is : (o : Option ℕ) → ((k : ℕ) → o ≡ Some k → ⊥) → o ≡ None
+none_is None h = refl
+none_is (Some k) h = absurd (h k refl)

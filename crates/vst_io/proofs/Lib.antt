@@ -14,3 +14,4 @@ pub mod Joins
 pub mod Turned
 pub mod First
 pub mod Reading
+pub mod Indexed

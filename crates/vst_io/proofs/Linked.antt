@@ -1,6 +1,6 @@
 -- The links of a text without a fault: their terminals are different, and those of its netlist.
-use Rattle.std.proofs.Common.{◌≡◌, inl, inr, ℕ, Bool, true, false, cond, ◌||◌, List, [], ◌∷◌, ◌++◌, map, Option, None, Some, refl, sym, ap, subst, ◌∙◌, bytes_eq, append_assoc}
-use Rattle.std.specs.List.{flat_map, list_any}
+use Rattle.std.proofs.Common.{◌≡◌, inl, inr, ℕ, zero, suc, ◌≤◌, min, length, drop, arith, Bool, true, false, cond, ◌||◌, List, [], ◌∷◌, ◌++◌, map, Option, None, Some, refl, sym, ap, subst, ◌∙◌, bytes_eq, append_assoc}
+use Rattle.std.specs.List.{flat_map, list_any, zip}
 use Rattle.std.specs.List.Sorted.{IsPermutation}
 use Rattle.vlsi_base.specs.declared.name.Name.{Name}
 use Rattle.vlsi_base.specs.declared.name.Port.{Port}
@@ -130,3 +130,21 @@ end_there table f ports m p t h =
           let at : In t (pins_of (instance_of table r.0)) = subst (λ (u : Terminal). In u (pins_of (instance_of table r.0))) n.2 (In-map (pin_of r.0.label) n.0 (map (λ (q : ModelPin). q.name) (pins_named table r.0.component)) pin) in
           In-right t firsts seconds (flat_in pins_of (map (instance_of table) f.instances) (instance_of table r.0) t (In-map (instance_of table) r.0 f.instances r.1) at)
     ])
+
+-- ---- pairs of bits
+
+zip_nothing : {X Y : Type 0} (xs : List X) → zip {A = X} {B = Y} xs [] ≡ []
+zip_nothing [] = refl
+zip_nothing (x ∷ xs) = refl
+
+zip_end : {A B X Y : Type 0} (f : A → X) (g : B → Y) (xs : List A) (ys : List B) (k : ℕ) → min (length xs) (length ys) ≤ k → zip (map f (drop k xs)) (map g (drop k ys)) ≡ []
+zip_end f g [] ys zero h = refl
+zip_end f g [] ys (suc k) h = refl
+zip_end f g (x ∷ xs) [] zero h = refl
+zip_end f g (x ∷ xs) [] (suc k) h = zip_nothing (map f (drop k xs))
+zip_end f g (x ∷ xs) (y ∷ ys) zero h = absurd (omega (arith, h))
+zip_end f g (x ∷ xs) (y ∷ ys) (suc k) h = zip_end f g xs ys k (omega (arith, h))
+
+-- none are left behind the end of either list
+pub pairs_end : {A B X Y Z : Type 0} (e : X → Y) (f : A → X) (g : B → Z) (xs : List A) (ys : List B) (k : ℕ) → min (length xs) (length ys) ≤ k → zip (map e (map f (drop k xs))) (map g (drop k ys)) ≡ []
+pairs_end {Y = Y} {Z = Z} e f g xs ys k h = ap (λ (zs : List Y). zip zs (map g (drop k ys))) (map_twice e f (drop k xs)) ∙ zip_end (λ x. e (f x)) g xs ys k h

@@ -72,6 +72,10 @@ pub holds_next : (known : List Symbol) (joins : List Association) (k : ℕ) (a :
     → ((n : Name) → get new n ≡ option_or (last_place (pin_names known a) n) (get old n)) → Holds new (before known joins (k + 1))
 holds_next known joins k a old new low at holds has = rw (before_next known joins k a low at) (holds_more old new (before known joins k) (pin_names known a) holds has)
 
+-- whether there are such bits, each a pin that isn't mapped
+abbrev pub free_test : NamePlaces → NamePlaces → List ℕ → List (Option ℕ) → Bool
+free_test pins mapped text bits = nat_lt 0 (length bits) && list_all (λ b. is_some (get pins (name_of text b)) && is_none (get mapped (name_of text b))) bits
+
 -- whether the bits of an association are free
 pub free_is : (known : List Symbol) (model : List ModelPin) (mapped : List Name) (pins index : NamePlaces) (a : Association) (bits : List (Option ℕ)) → bits ≡ pin_bits known a.pin
     → Holds pins (map (λ p. p.name) model) → Holds index mapped

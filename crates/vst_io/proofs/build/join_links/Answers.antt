@@ -1,36 +1,44 @@
-use Rattle.std.proofs.Common.{rules, ◌≡◌, ◌++◌, [], ◌<◌, ◌^◌, None, map, length, slice_index_or, IfOk, OnOk, IfErr, ℕ, ◌+◌, ◌-◌, ◌*◌, ◌≤◌, ◌/◌, ◌%◌, Bool, true, false, nat_eq, nat_lt, List, ◌∷◌, slice_set, bit_and, bit_or, Fits, w8, w32, w64, Bor, MutBor}
-use Rattle.std.specs.List.{All}
-use Rattle.std.specs.List.Sorted.{IsPermutation}
+use Rattle.std.proofs.Common.{◌≡◌, ◌<◌, ◌∙◌, List, ℕ, Some, None, map, length, ap, sym, rules}
 use Rattle.std.specs.FinMap.{get}
-use Rattle.vlsi_base.specs.declared.name.Name.{Name}
-use Rattle.vlsi_base.specs.NamePlaces.{last_place}
-use Rattle.machine_core.specs.Order.{AllDifferent}
-use Rattle.source_meaning.specs.Checks.{fault}
+use Rattle.vlsi_base.specs.NamePlaces.{name_of, last_place}
 use Rattle.net_core.specs.declared.error.BuildError.TheVariants.{Memory}
-use Rattle.net_core.specs.Places.{IsThere}
-use Rattle.net_core.specs.Netlist.{AreInOrder, IsNetlist}
-use Rattle.net_core.specs.Joins.{draft_terminals}
-use Rattle.net_core.specs.Checks.{IsPinTable, pins_named}
-use Rattle.vst_io.specs.Nets.{nets, port_bits, instance_of}
-use Rattle.vst_io.specs.Faults.{first_label_again, terminal_count}
-use Rattle.vst_io.specs.Checked.{IsChecked, IsFaultOf}
-use Rattle.vst_io.specs.Text.{IsNetlistOf}
-use Rattle.vst_io.specs.Drafts.{joins_of, with_instances, IsAgain, IsLabelFault}
-use Rattle.vst_text.specs.declared.file.InstanceStatement.{InstanceStatement}
+use Rattle.vst_io.proofs.Joins.{bit_of, last_link, link_found, joined_next, only_memory, none_is}
 use Rattle.vst_io.proofs.build.join_links.Goals as goal
+use Rattle.vst_io.proofs.build.join_links.Goals.{in-Some+in_ok-join, in_default}
 
--- src/build.rt:106:26
 pub offset_bounds-links-place : goal.offset_bounds-links-place
-offset_bounds-links-place c = ?
+offset_bounds-links-place c =
+    let l = c.link-item.result in
+    let found : last_place (map bit_of c.args.links.now) l.1 ≡ Some c.in-Some.place = sym (c.requires.index l.1) ∙ sym (c.in-Some.ensures ∙ ap (λ (t : List ℕ). get c.args.index.now (name_of t l.1.bit)) c.as_bytes.ensures) in
+    let low : c.in-Some.place < length c.args.links.now = (last_link c.args.links.now l c.in-Some.place found).within in
+    search rules
 
--- src/build.rt:106:26
 pub bounds-links-place : goal.bounds-links-place
-bounds-links-place c = ?
+bounds-links-place c =
+    let l = c.link-item.result in
+    let found : last_place (map bit_of c.args.links.now) l.1 ≡ Some c.in-Some.place = sym (c.requires.index l.1) ∙ sym (c.in-Some.ensures ∙ ap (λ (t : List ℕ). get c.args.index.now (name_of t l.1.bit)) c.as_bytes.ensures) in
+    (last_link c.args.links.now l c.in-Some.place found).within
 
--- src/build.rt:106:13
 pub returns-in_err-join-clause-refused : goal.returns-in_err-join-clause-refused
-returns-in_err-join-clause-refused c = ?
+returns-in_err-join-clause-refused c =
+    let l = c.link-item.result in
+    let found : last_place (map bit_of c.args.links.now) l.1 ≡ Some c.in-Some.place = sym (c.requires.index l.1) ∙ sym (c.in-Some.ensures ∙ ap (λ (t : List ℕ). get c.args.index.now (name_of t l.1.bit)) c.as_bytes.ensures) in
+    let memory : c.in_err-join.field-0.0 ≡ Memory =
+    only_memory c.args.builder.now c.loop-link.builder c.args.links.now c.loop-link.link-index c.in-Some.place l c.index-links-place.result c.requires.there c.loop-link-test.true c.link-item.is found c.index-links-place.is
+    c.loop-link.invariant c.in_err-join.field-0.0 c.in_err-join.ensures.refused in
+    search rules
 
--- src/build.rt:104:5
 pub loop-link-preserved : goal.loop-link-preserved
-loop-link-preserved c = ?
+loop-link-preserved c = elim c.match-find.branch [
+  | in-Some+in_ok-join w ↦
+      let l = c.link-item.result in
+      let found : last_place (map bit_of c.args.links.now) l.1 ≡ Some w.in-Some.place = sym (c.requires.index l.1) ∙ sym (w.in-Some.ensures ∙ ap (λ (t : List ℕ). get c.args.index.now (name_of t l.1.bit)) c.as_bytes.ensures) in
+      w.builder-is
+      ∙ joined_next c.args.builder.now c.loop-link.builder w.join.new.self c.args.links.now c.loop-link.link-index w.in-Some.place l w.index-links-place.result c.loop-link-test.true c.link-item.is found w.index-links-place.is
+      c.loop-link.invariant w.in_ok-join.ensures.joined
+  | in_default w ↦
+      let l = c.link-item.result in
+      let none : c.find.result ≡ None = none_is c.find.result w.in_default.not-Some in
+      absurd (link_found c.args.links.now c.loop-link.link-index l c.loop-link-test.true c.link-item.is
+      (sym (c.requires.index l.1) ∙ ap (λ (t : List ℕ). get c.args.index.now (name_of t l.1.bit)) (sym c.as_bytes.ensures) ∙ sym c.find.ensures ∙ none))
+]

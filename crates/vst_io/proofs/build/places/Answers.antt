@@ -1,28 +1,17 @@
-use Rattle.std.proofs.Common.{rules, ◌≡◌, ◌++◌, [], ◌<◌, ◌^◌, None, map, length, slice_index_or, IfOk, OnOk, IfErr, ℕ, ◌+◌, ◌-◌, ◌*◌, ◌≤◌, ◌/◌, ◌%◌, Bool, true, false, nat_eq, nat_lt, List, ◌∷◌, slice_set, bit_and, bit_or, Fits, w8, w32, w64, Bor, MutBor}
-use Rattle.std.specs.List.{All}
-use Rattle.std.specs.List.Sorted.{IsPermutation}
-use Rattle.std.specs.FinMap.{get}
-use Rattle.vlsi_base.specs.declared.name.Name.{Name}
-use Rattle.vlsi_base.specs.NamePlaces.{last_place}
-use Rattle.machine_core.specs.Order.{AllDifferent}
-use Rattle.source_meaning.specs.Checks.{fault}
-use Rattle.net_core.specs.declared.error.BuildError.TheVariants.{Memory}
-use Rattle.net_core.specs.Places.{IsThere}
-use Rattle.net_core.specs.Netlist.{AreInOrder, IsNetlist}
-use Rattle.net_core.specs.Joins.{draft_terminals}
-use Rattle.net_core.specs.Checks.{IsPinTable, pins_named}
-use Rattle.vst_io.specs.Nets.{nets, port_bits, instance_of}
-use Rattle.vst_io.specs.Faults.{first_label_again, terminal_count}
-use Rattle.vst_io.specs.Checked.{IsChecked, IsFaultOf}
-use Rattle.vst_io.specs.Text.{IsNetlistOf}
-use Rattle.vst_io.specs.Drafts.{joins_of, with_instances, IsAgain, IsLabelFault}
-use Rattle.vst_text.specs.declared.file.InstanceStatement.{InstanceStatement}
+use Rattle.std.proofs.Common.{◌∙◌, List, ℕ, ap, refl, length}
+use Rattle.std.proofs.lemmas.Option.{slice_get_read}
+use Rattle.std.specs.FinMap.{empty, insert}
+use Rattle.vlsi_base.specs.NamePlaces.{name_of}
+use Rattle.vst_io.proofs.Joins.{bit_of}
+use Rattle.vst_io.proofs.Indexed.{named_next, named_all}
 use Rattle.vst_io.proofs.build.places.Goals as goal
 
--- src/build.rt:87:5
 pub loop-place-preserved : goal.loop-place-preserved
-loop-place-preserved c = ?
+loop-place-preserved c =
+    let l = c.index-links-place.result in
+    let k = c.loop-place.place in
+    named_next bit_of c.args.links.now empty c.loop-place.index c.insert.new.self k l (slice_get_read c.args.links.now (length c.args.links.now) k l refl c.loop-place-test.true c.index-links-place.is)
+    (c.in_ok-insert.ensures.ok ∙ ap (λ (t : List ℕ). insert c.loop-place.index (name_of t l.1.bit) k) c.as_bytes.ensures) c.loop-place.invariant
 
--- src/build.rt:83:1
 pub returns : goal.returns
-returns c = ?
+returns c = named_all bit_of c.args.links.now empty c.loop-place.index c.loop-place.place refl c.loop-place-test.false c.loop-place.invariant

@@ -1,15 +1,12 @@
-use Rattle.std.proofs.Common.{rules, ◌≡◌, ◌≤◌, ◌<◌, None, IfOk, OnOk, IfErr, filter, not, length, ℕ, ◌+◌, ◌-◌, ◌*◌, ◌/◌, ◌%◌, Bool, true, false, nat_eq, nat_lt, List, [], ◌∷◌, ◌++◌, slice_index_or, slice_set, bit_and, bit_or, w8, w32, w64, Bor, MutBor}
-use Rattle.vhdl_lexer.specs.Listing.{tokens_in, refusal_in}
+use Rattle.std.proofs.Common.{not, take, length, arith}
+use Rattle.std.proofs.lemmas.List.{length-take}
+use Rattle.vlsi_base.specs.declared.name.Port.{Port}
 use Rattle.vlsi_base.specs.Name.{is_supply}
-use Rattle.net_core.specs.Checks.{Fits, Passes, IsPinTable}
-use Rattle.net_view.specs.Condition.{MeetsCondition}
-use Rattle.net_core.specs.Places.{IsThere}
-use Rattle.vst_text.specs.declared.file.InstanceStatement.{InstanceStatement}
-use Rattle.vst_io.specs.Faults.{first_fault}
-use Rattle.vst_io.specs.Checked.{IsChecked, IsFaultOf, IsUnsound}
-use Rattle.vst_io.specs.Text.{IsWritten, IsNetlistOf, IsVst, IsVstRefusal, ListsSupplies}
+use Rattle.vst_io.proofs.First.{filter_few}
 use Rattle.vst_io.proofs.reader.signal_count.Goals as goal
 
--- src/reader.rt:89:13
 pub overflow_add-count : goal.overflow_add-count
-overflow_add-count c = ?
+overflow_add-count c =
+    let few = filter_few (λ (p : Port). not (is_supply p.name.text)) (take c.loop-port.port-index c.args.ports.now) in
+    let within = length-take c.loop-port.port-index c.args.ports.now in
+    omega (arith, few, within, c.loop-port.invariant, c.loop-port-test.true)
