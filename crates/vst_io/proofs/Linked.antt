@@ -133,7 +133,7 @@ end_there table f ports m p t h =
 
 -- ---- pairs of bits
 
-zip_nothing : {X Y : Type 0} (xs : List X) → zip {A = X} {B = Y} xs [] ≡ []
+zip_nothing : {X Y : Type 0} (xs : List X) → zip {K = X} {X = Y} xs [] ≡ []
 zip_nothing [] = refl
 zip_nothing (x ∷ xs) = refl
 
