@@ -1,17 +1,15 @@
 -- Instances that are added one by one.
-use Rattle.std.proofs.Common.{◌≡◌, ◌⊎◌, inl, inr, ℕ, zero, suc, ◌+◌, ◌<◌, ◌≤◌, Bool, true, false, cond, ◌||◌, List, [], ◌∷◌, ◌++◌, map, length, take, Option, None, Some, refl, sym, ap, subst, ◌∙◌, bytes_eq, arith}
-use Rattle.std.specs.List.{All, flat_map, list_any, sum_by, slice_index_or}
+use Rattle.std.proofs.Common.{◌≡◌, ◌⊎◌, inl, inr, ℕ, zero, suc, ◌+◌, ◌<◌, ◌≤◌, Bool, true, false, cond, ◌||◌, List, [], ◌∷◌, map, length, take, Option, None, Some, refl, sym, ap, subst, ◌∙◌, bytes_eq, arith}
+use Rattle.std.specs.List.{All, flat_map, list_any, sum_by}
 use Rattle.std.proofs.lemmas.List.{length-append}
 use Rattle.std.proofs.lemmas.List.Sums.{sum_by-cons}
-use Rattle.vlsi_base.specs.declared.name.Name.{Name}
-use Rattle.vlsi_base.specs.declared.name.Port.{Port}
 use Rattle.vlsi_base.specs.Member.{In, here, there}
-use Rattle.source_meaning.proofs.Lookups.{same_of, itself, turned}
+use Rattle.source_meaning.proofs.Lookups.{same_of, itself}
 use Rattle.net_core.specs.declared.pins.ModelPin.{ModelPin}
 use Rattle.net_core.specs.declared.pins.ModelPins.{ModelPins}
 use Rattle.net_core.specs.Places.{Stands, IsThere}
 use Rattle.net_core.specs.Netlist.{Instance, AreInOrder, pin_of, pins_of}
-use Rattle.net_core.specs.Checks.{pins_named, IsPinTable}
+use Rattle.net_core.specs.Checks.{pins_named}
 use Rattle.vst_text.specs.declared.file.InstanceStatement.{InstanceStatement}
 use Rattle.vst_io.specs.Nets.{instance_of}
 use Rattle.vst_io.specs.Faults.{first_label_again}

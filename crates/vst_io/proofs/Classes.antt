@@ -1,10 +1,8 @@
 -- Terminals that are joined are those that stand for one bit of a net.
-use Rattle.std.proofs.Common.{◌≡◌, ◌⊎◌, inl, inr, ℕ, List, [], ◌∷◌, ◌++◌, map, Option, None, Some, refl, sym, ap, subst, ◌∙◌}
-use Rattle.std.specs.List.{slice_index_or}
+use Rattle.std.proofs.Common.{◌≡◌, ◌⊎◌, inl, inr, List, [], ◌∷◌, map, refl, sym, ap, subst, ◌∙◌}
 use Rattle.vlsi_base.specs.declared.name.Name.{Name}
 use Rattle.vlsi_base.specs.declared.name.Terminal.{Terminal}
 use Rattle.vlsi_base.specs.Member.{In, here, there, AllDifferent}
-use Rattle.vlsi_base.specs.NamePlaces.{last_place}
 use Rattle.net_core.specs.Joins.{Joined, same, along, against}
 use Rattle.net_core.proofs.Joining.{joined_then}
 use Rattle.machine_core.proofs.Values.{In-map}

@@ -1,8 +1,7 @@
 -- The netlist of a text without a fault meets the condition of the stages behind.
-use Rattle.std.proofs.Common.{◌≡◌, ◌⊎◌, inl, inr, ℕ, zero, suc, ◌<◌, Bool, true, false, cond, not, ◌&&◌, ◌||◌, List, [], ◌∷◌, ◌++◌, map, length, get_or, Option, None, Some, refl, sym, ap, subst, ◌∙◌, bytes_eq, codes, arith}
-use Rattle.std.specs.Prelude.{is_none, option_map, IsTrue}
+use Rattle.std.proofs.Common.{◌≡◌, ◌⊎◌, inl, inr, ℕ, zero, suc, ◌<◌, Bool, true, false, cond, not, ◌&&◌, ◌||◌, List, [], ◌∷◌, ◌++◌, map, length, get_or, Option, None, Some, refl, sym, ap, subst, ◌∙◌, bytes_eq, arith}
+use Rattle.std.specs.Prelude.{is_none, option_map}
 use Rattle.std.specs.List.{All, flat_map, zip, slice_index_or}
-use Rattle.std.specs.List.Sorted.{IsPermutation}
 use Rattle.std.proofs.lemmas.List.Sorted.{IsPermutation-sym}
 use Rattle.std.proofs.lemmas.Option.{slice_get_within, slice_get_read}
 use Rattle.vlsi_base.specs.declared.name.Name.{Name}
@@ -20,7 +19,7 @@ use Rattle.source_meaning.specs.declared.statement.Selection.TheVariants as sele
 use Rattle.source_meaning.specs.declared.symbol_table.Role.{Role}
 use Rattle.source_meaning.specs.declared.symbol_table.Role.TheVariants as role
 use Rattle.source_meaning.specs.declared.symbol_table.Symbol.{Symbol}
-use Rattle.source_meaning.specs.Symbols.{find, is_port}
+use Rattle.source_meaning.specs.Symbols.{find}
 use Rattle.source_meaning.specs.Elaboration.{port_of, ports_of_role}
 use Rattle.source_meaning.proofs.Lookups.{same_of}
 use Rattle.source_meaning.proofs.Names.{find_text}
@@ -30,7 +29,7 @@ use Rattle.vlsi_model.proofs.Bits.{found_in}
 use Rattle.vlsi_model.proofs.Sorting.{In-at}
 use Rattle.net_core.specs.declared.pins.ModelPin.{ModelPin}
 use Rattle.net_core.specs.declared.pins.ModelPins.{ModelPins}
-use Rattle.net_core.specs.Places.{Stands, IsThere, position_of}
+use Rattle.net_core.specs.Places.{IsThere, position_of}
 use Rattle.net_core.specs.Netlist.{Instance, Netlist, IsNetlist, port, pin_of, pins_of, terminals, HasClass}
 use Rattle.net_core.specs.Checks.{pins_named, Fits, Passes, IsPinTable}
 use Rattle.net_core.proofs.Standing.{position_stands, position_absent}
@@ -46,9 +45,9 @@ use Rattle.vlsi_base.specs.Range.{is_ordered}
 use Rattle.vst_io.specs.Faults.{first_unlisted, is_net_port, is_tied, all_forms}
 use Rattle.vst_io.specs.Checked.{IsDeclared}
 use Rattle.vst_io.specs.Text.{IsNetlistOf, ListsSupplies}
-use Rattle.vst_io.proofs.Places.{stands_in, in_stands, last_is, stands_map, IsLast}
+use Rattle.vst_io.proofs.Places.{stands_in, last_is, stands_map, IsLast}
 use Rattle.vst_io.proofs.Classes.{in_first}
-use Rattle.vst_io.proofs.Fine.{IsFine, IsMapped, map_length, both_true, in_flat, flat_in}
+use Rattle.vst_io.proofs.Fine.{IsMapped, map_length, both_true, in_flat, flat_in}
 use Rattle.vst_io.proofs.Ports.{text_of, ports_at}
 use Rattle.vst_io.proofs.Linked.{end_of, end_there, port_link}
 use Rattle.vst_io.proofs.Supplies.{supply_net, supply_port}

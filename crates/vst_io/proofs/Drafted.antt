@@ -1,12 +1,12 @@
 -- The netlist of a draft that a text gives.
-use Rattle.std.proofs.Common.{◌≡◌, ◌↔◌, ℕ, zero, suc, ◌<◌, List, [], ◌∷◌, ◌++◌, map, length, take, Option, None, Some, refl, sym, ap, subst, ◌∙◌, arith}
-use Rattle.std.specs.List.{All, flat_map, slice_index_or}
+use Rattle.std.proofs.Common.{◌≡◌, ◌↔◌, ℕ, ◌<◌, List, [], ◌∷◌, map, length, None, sym, ap, subst, ◌∙◌, arith}
+use Rattle.std.specs.List.{All, flat_map}
 use Rattle.std.specs.List.Sorted.{IsPermutation}
 use Rattle.std.proofs.lemmas.List.Sorted.{IsPermutation-sym}
 use Rattle.vlsi_base.specs.declared.name.Name.{Name}
 use Rattle.vlsi_base.specs.declared.name.Port.{Port}
 use Rattle.vlsi_base.specs.declared.name.Terminal.{Terminal}
-use Rattle.vlsi_base.specs.Member.{In, here, there, AllDifferent}
+use Rattle.vlsi_base.specs.Member.{In, here, AllDifferent}
 use Rattle.machine_core.proofs.Values.{In-map}
 use Rattle.vlsi_base.specs.NamePlaces.{name_of}
 use Rattle.vlsi_model.proofs.Members.{In-map_back}
@@ -14,12 +14,12 @@ use Rattle.vlsi_model.proofs.Bits.{different_texts}
 use Rattle.net_core.specs.declared.pins.ModelPin.{ModelPin}
 use Rattle.net_core.specs.declared.pins.ModelPins.{ModelPins}
 use Rattle.net_core.specs.Places.{IsThere}
-use Rattle.net_core.specs.Netlist.{Instance, Netlist, IsNetlist, HasClass, terminals_of}
+use Rattle.net_core.specs.Netlist.{Instance, Netlist, IsNetlist, terminals_of}
 use Rattle.net_core.specs.Joins.{Draft, Joined, IsFinished, draft_terminals}
 use Rattle.net_core.specs.Checks.{pins_named}
 use Rattle.vst_text.specs.declared.file.InstanceStatement.{InstanceStatement}
 use Rattle.vst_text.specs.declared.file.StructuralFile.{StructuralFile}
-use Rattle.vst_io.specs.Nets.{nets, pin_bits, pin_names, port_bits, instance_of, instance_links, links}
+use Rattle.vst_io.specs.Nets.{nets, pin_bits, pin_names, port_bits, instance_of, links}
 use Rattle.vst_io.specs.Faults.{instance_faults, bad_maps, component_faults, first_label_again}
 use Rattle.vst_io.specs.Checked.{IsChecked}
 use Rattle.vst_io.specs.Drafts.{joins_of}

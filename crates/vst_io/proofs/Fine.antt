@@ -1,7 +1,7 @@
 -- What follows where a text has no fault.
-use Rattle.std.proofs.Common.{◌≡◌, ℕ, zero, suc, ◌+◌, ◌<◌, Bool, true, false, cond, not, ◌&&◌, ◌||◌, eqb, List, [], ◌∷◌, ◌++◌, map, length, inl, inr, Option, None, Some, refl, sym, ap, subst, ◌∙◌, bytes_eq, arith, append_assoc, append-nil}
+use Rattle.std.proofs.Common.{◌≡◌, ℕ, ◌+◌, ◌<◌, Bool, true, false, cond, not, ◌&&◌, List, [], ◌∷◌, ◌++◌, map, length, inl, inr, Option, None, Some, refl, sym, ap, subst, ◌∙◌, arith, append_assoc, append-nil}
 use Rattle.std.specs.Prelude.{nat_eq, nat_lt}
-use Rattle.std.specs.List.{flat_map, list_all, list_any, zip}
+use Rattle.std.specs.List.{flat_map, list_all, zip}
 use Rattle.std.proofs.lemmas.Bool.Decides.{nat_tests}
 use Rattle.std.proofs.lemmas.List.{length-map}
 use Rattle.vlsi_base.specs.declared.name.Name.{Name}
@@ -16,8 +16,7 @@ use Rattle.source_meaning.specs.declared.statement.Selection.TheVariants as sele
 use Rattle.source_meaning.specs.declared.symbol_table.Symbol.{Symbol}
 use Rattle.source_meaning.specs.Symbols.{find, bit_name}
 use Rattle.source_meaning.specs.Widths.{if_not}
-use Rattle.source_meaning.proofs.Lookups.{itself}
-use Rattle.vlsi_model.proofs.Members.{In-map_back, different_append, different_map, different_right}
+use Rattle.vlsi_model.proofs.Members.{different_append, different_map}
 use Rattle.vlsi_model.proofs.Bits.{different_names_in}
 use Rattle.net_core.specs.declared.pins.ModelPin.{ModelPin}
 use Rattle.net_core.specs.declared.pins.ModelPins.{ModelPins}
@@ -27,7 +26,7 @@ use Rattle.vst_text.specs.declared.file.Association.{Association}
 use Rattle.vst_text.specs.declared.file.InstanceStatement.{InstanceStatement}
 use Rattle.vst_text.specs.declared.file.StructuralFile.{StructuralFile}
 use Rattle.vst_io.specs.Nets.{nets, pins_of, bits_of, holds, part_of, selected, pin_selection, pin_bits, net_bits, names, pin_names, net_names, links_of, map_links, instance_links}
-use Rattle.vst_io.specs.Faults.{stands, is_free, is_tied, fits, association_faults, end_faults, map_faults, instance_faults, first_label_again}
+use Rattle.vst_io.specs.Faults.{stands, is_free, is_tied, fits, association_faults, end_faults, map_faults, instance_faults}
 use Rattle.vst_io.proofs.Places.{stands_there, stands_not}
 
 -- ---- lists without lines

@@ -1,5 +1,5 @@
 -- An index that is given names one by one, and what it finds.
-use Rattle.std.proofs.Common.{◌≡◌, ℕ, ◌+◌, ◌<◌, ◌≤◌, Bool, true, List, [], map, length, take, get_or, Option, None, Some, Bor, refl, sym, ap, subst, ◌∙◌, arith}
+use Rattle.std.proofs.Common.{◌≡◌, ℕ, ◌+◌, ◌<◌, ◌≤◌, true, List, [], map, length, take, get_or, Option, None, Some, Bor, refl, sym, ap, subst, ◌∙◌, arith}
 use Rattle.std.specs.Prelude.{is_some, nat_lt, option_map}
 use Rattle.std.specs.List.{slice_index_or}
 use Rattle.std.specs.Option.{option_or, option_copied, IfSome}

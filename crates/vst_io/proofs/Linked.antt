@@ -1,5 +1,5 @@
 -- The links of a text without a fault: their terminals are different, and those of its netlist.
-use Rattle.std.proofs.Common.{◌≡◌, inl, inr, ℕ, zero, suc, ◌≤◌, min, length, drop, arith, Bool, true, false, cond, ◌||◌, List, [], ◌∷◌, ◌++◌, map, Option, None, Some, refl, sym, ap, subst, ◌∙◌, bytes_eq, append_assoc}
+use Rattle.std.proofs.Common.{◌≡◌, inl, inr, ℕ, zero, suc, ◌≤◌, min, length, drop, arith, Bool, true, false, cond, ◌||◌, List, [], ◌∷◌, ◌++◌, map, None, Some, refl, sym, ap, subst, ◌∙◌, bytes_eq}
 use Rattle.std.specs.List.{flat_map, list_any, zip}
 use Rattle.std.specs.List.Sorted.{IsPermutation}
 use Rattle.vlsi_base.specs.declared.name.Name.{Name}
@@ -13,7 +13,7 @@ use Rattle.vlsi_model.proofs.Assembly.{In-permutation}
 use Rattle.net_core.specs.declared.pins.ModelPin.{ModelPin}
 use Rattle.net_core.specs.declared.pins.ModelPins.{ModelPins}
 use Rattle.net_core.specs.Places.{IsThere}
-use Rattle.net_core.specs.Netlist.{Instance, port, pin_of, pins_of, terminals_of}
+use Rattle.net_core.specs.Netlist.{port, pin_of, pins_of, terminals_of}
 use Rattle.net_core.specs.Checks.{pins_named}
 use Rattle.vst_text.specs.declared.file.InstanceStatement.{InstanceStatement}
 use Rattle.vst_text.specs.declared.file.StructuralFile.{StructuralFile}

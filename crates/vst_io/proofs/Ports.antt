@@ -1,11 +1,10 @@
 -- Port bits: their names are different.
-use Rattle.std.proofs.Common.{◌≡◌, ◌⊎◌, inl, inr, ℕ, List, [], ◌∷◌, ◌++◌, map, Option, None, Some, refl, sym, ap, subst, ◌∙◌}
-use Rattle.std.specs.List.{flat_map}
+use Rattle.std.proofs.Common.{◌≡◌, ◌⊎◌, inl, inr, ℕ, List, [], ◌∷◌, map, Option, refl, sym, ap, subst, ◌∙◌}
 use Rattle.vlsi_base.specs.declared.name.Name.{Name}
 use Rattle.vlsi_base.specs.declared.name.Port.{Port}
 use Rattle.vlsi_base.specs.declared.name.Dir.{Dir}
 use Rattle.vlsi_base.specs.declared.name.Dir.TheVariants as dir
-use Rattle.vlsi_base.specs.Member.{In, here, there, AllDifferent}
+use Rattle.vlsi_base.specs.Member.{In, AllDifferent}
 use Rattle.vlsi_base.specs.NamePlaces.{name_of}
 use Rattle.machine_core.proofs.Values.{In-map}
 use Rattle.source_meaning.specs.declared.symbol_table.Role.{Role}

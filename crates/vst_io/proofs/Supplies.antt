@@ -1,5 +1,5 @@
 -- Ports of the entity with the name of a supply are inputs of one bit.
-use Rattle.std.proofs.Common.{◌≡◌, ◌⊎◌, inl, inr, ℕ, Bool, true, false, not, ◌&&◌, ◌||◌, List, [], ◌∷◌, ◌++◌, map, Option, None, Some, refl, sym, ap, subst, ◌∙◌, bytes_eq, cond}
+use Rattle.std.proofs.Common.{◌≡◌, inl, inr, ℕ, Bool, true, false, not, ◌||◌, List, [], ◌∷◌, map, Option, None, Some, refl, sym, ap, subst, ◌∙◌}
 use Rattle.std.specs.Prelude.{is_none}
 use Rattle.std.specs.List.{flat_map}
 use Rattle.vlsi_base.specs.declared.name.Name.{Name}

@@ -1,5 +1,5 @@
 -- Which texts of bytes are netlists, and why others aren't.
-use Rattle.std.specs.Prelude.{◌≡◌, ◌↔◌, ◌≤◌, ◌<◌, ◌+◌, IsTrue, not, ℕ, List, map, filter, length, Option, None, Some, IsPermutation}
+use Rattle.std.specs.Prelude.{◌≡◌, ◌↔◌, ◌≤◌, ◌<◌, ◌+◌, not, ℕ, List, map, filter, length, None, Some, IsPermutation}
 use Rattle.std.specs.List.{All}
 use Rattle.vlsi_base.specs.declared.limits.TheConstants.{MOST_NETLIST_BYTES}
 use Rattle.vlsi_base.specs.declared.name.Name.{Name}

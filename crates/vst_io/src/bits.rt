@@ -3,7 +3,7 @@ ghost use Rattle.std.specs.Prelude.{◌≡◌, ◌++◌, ◌∷◌, [], ◌&&◌
 ghost use Rattle.vlsi_base.specs.Range.{is_ordered};
 ghost use Rattle.source_meaning.specs.Symbols.{find};
 ghost use Rattle.source_meaning.specs.Elaboration.{port_of, ports_of_role};
-ghost use Rattle.vst_io.specs.Nets.{bits_of, holds, selected, pin_selection, pin_bits, net_bits, names, port_bits};
+ghost use Rattle.vst_io.specs.Nets.{bits_of, holds, selected, pin_bits, net_bits, names, port_bits};
 
 use source_meaning::{Role, Selection, Symbol, SymbolTable, Target, has_bit};
 use std::alloc::{AllocError, Global};

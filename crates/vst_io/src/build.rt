@@ -1,20 +1,19 @@
 // Making netlists.
-ghost use Rattle.std.specs.Prelude.{◌≡◌, ◌++◌, [], ◌<◌, ◌^◌, None, map, length, slice_index_or, IfOk, OnOk, IfErr};
+ghost use Rattle.std.specs.Prelude.{◌≡◌, ◌++◌, [], ◌<◌, ◌^◌, None, map, length, IfOk, OnOk, IfErr};
 ghost use Rattle.std.specs.List.{All};
 ghost use Rattle.std.specs.List.Sorted.{IsPermutation};
 ghost use Rattle.std.specs.FinMap.{get};
 ghost use Rattle.vlsi_base.specs.declared.name.Name.{Name};
 ghost use Rattle.vlsi_base.specs.NamePlaces.{last_place};
 ghost use Rattle.machine_core.specs.Order.{AllDifferent};
-ghost use Rattle.source_meaning.specs.Checks.{fault};
 ghost use Rattle.net_core.specs.declared.error.BuildError.TheVariants.{Memory};
 ghost use Rattle.net_core.specs.Places.{IsThere};
-ghost use Rattle.net_core.specs.Netlist.{AreInOrder, IsNetlist};
+ghost use Rattle.net_core.specs.Netlist.{AreInOrder};
 ghost use Rattle.net_core.specs.Joins.{draft_terminals};
 ghost use Rattle.net_core.specs.Checks.{IsPinTable, pins_named};
 ghost use Rattle.vst_io.specs.Nets.{nets, port_bits, instance_of};
 ghost use Rattle.vst_io.specs.Faults.{first_label_again, terminal_count};
-ghost use Rattle.vst_io.specs.Checked.{IsChecked, IsFaultOf};
+ghost use Rattle.vst_io.specs.Checked.{IsChecked};
 ghost use Rattle.vst_io.specs.Text.{IsNetlistOf};
 ghost use Rattle.vst_io.specs.Drafts.{joins_of, with_instances, IsAgain, IsLabelFault};
 ghost use Rattle.vst_text.specs.declared.file.InstanceStatement.{InstanceStatement};

@@ -1,5 +1,5 @@
 // Faults of declarations.
-ghost use Rattle.std.specs.Prelude.{◌≡◌, ◌++◌, IfOk, not, ◌&&◌};
+ghost use Rattle.std.specs.Prelude.{◌≡◌, ◌&&◌};
 ghost use Rattle.std.specs.List.{flat_map};
 ghost use Rattle.source_meaning.specs.Lines.{first_line};
 ghost use Rattle.vst_io.specs.Faults.{declaration_widths, all_widths, is_in_bit, port_form, declaration_forms, all_forms};

@@ -1,7 +1,7 @@
 // Faults of maps.
-ghost use Rattle.std.specs.Prelude.{◌≡◌, ◌++◌, [], ◌&&◌, ◌||◌, not, nat_eq, nat_lt, length, map, is_some, is_none, IfOk, OnOk};
+ghost use Rattle.std.specs.Prelude.{◌≡◌, ◌++◌, [], ◌&&◌, ◌||◌, nat_lt, length, map, is_some, is_none, IfOk, OnOk};
 ghost use Rattle.std.specs.List.{flat_map, list_all};
-ghost use Rattle.std.specs.Option.{option_copied, option_or};
+ghost use Rattle.std.specs.Option.{option_or};
 ghost use Rattle.std.specs.FinMap.{get};
 ghost use Rattle.vlsi_base.specs.declared.name.Name.{Name};
 ghost use Rattle.vlsi_base.specs.NamePlaces.{name_of, last_place};

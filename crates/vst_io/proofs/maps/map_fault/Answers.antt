@@ -1,4 +1,4 @@
-use Rattle.std.proofs.Common.{◌≡◌, ◌++◌, ◌∙◌, ℕ, Bool, true, false, List, [], Option, Some, None, map, length, ap, sym, subst, refl}
+use Rattle.std.proofs.Common.{◌≡◌, ◌++◌, ◌∙◌, ℕ, List, [], Option, map, length, ap, sym, subst, refl}
 use Rattle.std.specs.List.{flat_map, list_all}
 use Rattle.vlsi_base.specs.declared.name.Name.{Name}
 use Rattle.source_meaning.specs.declared.symbol_table.Symbol.{Symbol}
@@ -86,12 +86,11 @@ loop-association-preserved c =
     let many : c.len.result ≡ length (pin_bits known a.pin) = c.len.ensures ∙ c.in_ok-bits.bits.ok.0 ∙ ap (λ (bs : List (Option ℕ)). length bs) c.in_ok-bits.ensures in
     let fit : c.in_ok-fits.field-0 ≡ fits ns a (length (pin_bits known a.pin)) =
     c.in_ok-fits.ensures ∙ ap (λ (ss : List Symbol). fits ss a c.len.result) c.nets.ensures ∙ ap (λ (n : ℕ). fits ns a n) many in
-    let noted : c.deref-in-loop-association-2.result.now ≡ pin_bits known a.pin = c.deref-in-loop-association-2.ensures.value ∙ c.in_ok-bits.ensures in
-    (
+    let noted : c.deref-in-loop-association-2.result.now ≡ pin_bits known a.pin = c.deref-in-loop-association-2.ensures.value ∙ c.in_ok-bits.ensures in (
       goes_on known ns model end joins k a total turn (sym free ∙ c.if-not-are_free.false) (sym fit ∙ c.if-not-branch.false),
       holds_next known joins k a c.loop-association.mapped c.note.new.mapped c.loop-association-test.true c.association-item.is c.loop-association.invariant.1
-      (λ n. c.in_ok-note.ensures n ∙ ap (λ (t : List ℕ). option_or (last_place (names t c.deref-in-loop-association-2.result.now) n) (get c.loop-association.mapped n)) c.as_bytes-text.ensures
-      ∙ ap (λ (bs : List (Option ℕ)). option_or (last_place (names a.pin.text bs) n) (get c.loop-association.mapped n)) noted),
+          (λ n. c.in_ok-note.ensures n ∙ ap (λ (t : List ℕ). option_or (last_place (names t c.deref-in-loop-association-2.result.now) n) (get c.loop-association.mapped n)) c.as_bytes-text.ensures
+          ∙ ap (λ (bs : List (Option ℕ)). option_or (last_place (names a.pin.text bs) n) (get c.loop-association.mapped n)) noted),
     )
 
 pub returns-then-are_mapped : goal.returns-then-are_mapped

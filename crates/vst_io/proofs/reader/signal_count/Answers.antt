@@ -1,4 +1,4 @@
-use Rattle.std.proofs.Common.{not, take, length, arith}
+use Rattle.std.proofs.Common.{not, take, arith}
 use Rattle.std.proofs.lemmas.List.{length-take}
 use Rattle.vlsi_base.specs.declared.name.Port.{Port}
 use Rattle.vlsi_base.specs.Name.{is_supply}
