@@ -1,0 +1,17 @@
+pub mod Places
+pub mod MapTurns
+pub mod Classes
+pub mod Fine
+pub mod Order
+pub mod Ports
+pub mod Linked
+pub mod Adding
+pub mod Supplies
+pub mod Condition
+pub mod Drafted
+pub mod Next
+pub mod Joins
+pub mod Turned
+pub mod First
+pub mod Reading
+pub mod Indexed

@@ -1,0 +1,15 @@
+use Rattle.std.proofs.Common.{Some, None, refl}
+use Rattle.std.specs.List.{flat_map}
+use Rattle.source_meaning.specs.Lines.{first_line}
+use Rattle.source_meaning.proofs.Turns.{turn}
+use Rattle.source_meaning.proofs.FirstLines.{first_line_append}
+use Rattle.vst_io.specs.Faults.{port_form}
+use Rattle.vst_io.proofs.forms.port_forms.Goals as goal
+
+pub returns-in-Some : goal.returns-in-Some
+returns-in-Some c =
+    turn first_line first_line_append (port_form c.args.own) (flat_map (port_form c.args.own)) (λ _ _. refl) c.args.groups.now c.loop-group.group-index c.group-item.result _ c.loop-group-test.true c.group-item.is c.loop-group.invariant (Some c.in-Some.line) c.in-Some.ensures
+
+pub loop-group-preserved : goal.loop-group-preserved
+loop-group-preserved c =
+    turn first_line first_line_append (port_form c.args.own) (flat_map (port_form c.args.own)) (λ _ _. refl) c.args.groups.now c.loop-group.group-index c.group-item.result _ c.loop-group-test.true c.group-item.is c.loop-group.invariant None c.in_default.ensures
