@@ -1,0 +1,2 @@
+//! A netlist of cells as a machine.
+#![tactic(auto)]

@@ -1,0 +1,2 @@
+//! Simulation of netlists of cells: what patterns come to.
+#![tactic(auto)]
