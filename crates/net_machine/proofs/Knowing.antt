@@ -5,7 +5,8 @@ use Rattle.std.specs.List.{All}
 use Rattle.std.proofs.lemmas.List.{length-map, get_or-map}
 use Rattle.std.proofs.lemmas.Option.{get_or_from_slice_get, slice_get_within}
 use Rattle.cell_model.specs.Cell.{Function, gate, flip_flop, other, opaque, Cell}
-use Rattle.cell_model.specs.Library.{Library, cell_of}
+use Rattle.cell_checks.specs.Checked.{library_of}
+use Rattle.cell_model.specs.Library.{Library, cell_of, cell_named}
 use Rattle.net_core.specs.declared.frame.Node.{Node}
 use Rattle.net_core.specs.Places.{Stands, IsThere}
 use Rattle.net_core.specs.Frame.{instance_of}
@@ -98,3 +99,12 @@ first_opaque n l known nodes k node are knows h stands =
       unknown = tested_opaque l i.model (opaque_here n l known nodes are knows k i true there h.is);
       first = λ j o low at is. not_both (opaque_at (cell_of l o.model)) (opaque_tested l o.model is) (opaque_here n l known nodes are knows j o false at (h.first j low));
     }
+
+pub knows_models : (n : InMemory) (l : Library) (models : List (List ℕ)) (cells : List Cell) (known : List KnownParts) → map known_view known ≡ map (λ m. known_at (cell_named cells m)) models → models ≡ n.models → library_of cells ≡ l
+    → KnowsModels n l known
+knows_models n l models cells known h is of =
+    h ∙ ap (λ (ms : List (List ℕ)). map (λ m. known_at (cell_named cells m)) ms) is ∙ ap (λ (x : Library). map (λ m. known_at (cell_of x m)) n.models) of
+
+-- as many are known as there are models
+pub nodes_known : (n : InMemory) (l : Library) (known : List KnownParts) (nodes : List Node) → AreNodes n nodes → KnowsModels n l known → All (λ i. i.model < length known) nodes
+nodes_known n l known nodes are knows k d low = subst (λ (many : ℕ). (slice_index_or nodes k d).model < many) (sym (known_many n l known knows)) (are.inside k d low)
