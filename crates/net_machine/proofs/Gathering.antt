@@ -109,3 +109,27 @@ same_system s t a b c d =
     ∙ ap (λ (ks : List ℕ). made t.names ks (map stored_view s.stored.items) (map driven_view s.driven.items)) b
     ∙ ap (λ (xs : List NumberedStorage). made t.names t.inputs xs (map driven_view s.driven.items)) c
     ∙ ap (λ (xs : List Numbered). made t.names t.inputs t.stored xs) d
+
+-- the names of the bits, with the first number of an instance's bits and the number behind the last
+abbrev pub AreNames : InMemory → Option Name → ℕ → ℕ → List Name → Type 0
+AreNames n clock first end names =
+    (text : List ℕ) × IsLonger n.ports text × ((many : ℕ) → first + many ≡ end → names
+    ≡ map (own_name text) (rising 0 n.count) ++ (port_names text clock n.count n.ports ++ map (own_name text) (rising first many)))
+
+pub bits_are : (n : InMemory) (l : Library) (clock : Option Name) (s : BitSystem) (first end : ℕ) → first ≡ first_base n → end ≡ first + widths l n.instances → AreNames n clock first end s.names
+    → s.inputs.items ≡ port_inputs clock n.count n.ports
+    → ((class : Terminal → ℕ) → IsClassFunction n class → map stored_view s.stored.items ≡ flat_map (placed_stored class) (placed_from l first n.instances))
+    → ((class : Terminal → ℕ) → IsClassFunction n class → map driven_view s.driven.items
+        ≡ (port_driven class clock n.count n.ports ++ classes_driven class n.count n.ports) ++ flat_map (placed_driven class) (placed_from l first n.instances))
+    → AreBitsOf n l clock s
+bits_are n l clock s first end start size names inputs stored driven = record {
+  text = names.0;
+  longer = names.1;
+  is = λ class function. same_system s (net_system names.0 class n l clock)
+      (names.2 (widths l n.instances) (sym size)
+      ∙ ap (λ (k : ℕ). map (own_name names.0) (rising 0 n.count) ++ (port_names names.0 clock n.count n.ports ++ map (own_name names.0) (rising k (widths l n.instances)))) start)
+      inputs
+      (stored class function ∙ ap (λ (k : ℕ). flat_map (placed_stored class) (placed_from l k n.instances)) start)
+      (driven class function ∙ append_assoc (port_driven class clock n.count n.ports) (classes_driven class n.count n.ports) (flat_map (placed_driven class) (placed_from l first n.instances))
+      ∙ ap (λ (k : ℕ). port_driven class clock n.count n.ports ++ (classes_driven class n.count n.ports ++ flat_map (placed_driven class) (placed_from l k n.instances))) start);
+}
