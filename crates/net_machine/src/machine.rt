@@ -56,10 +56,11 @@ pub fn machine_of(
     ensures refused { IfErr result (λ e. IsMachineRefusal netlist.now library.now e) }
 {
     let _ = netlist.classes();
-    let known = known_models(alloc, netlist.models(), library.cells())?;
-    if let Some(place) = first_unknown(netlist.nodes(), &known) {
-        let node = &netlist.nodes()[place];
-        let model = netlist.models()[node.model].copy(alloc)?;
+    let models = netlist.models();
+    let nodes = netlist.nodes();
+    let known = known_models(alloc, models, library.cells())?;
+    if let Some(place) = first_unknown(nodes, &known) {
+        let model = models[nodes[place].model].copy(alloc)?;
         return Err(NetMachineError::NoBehaviour(model));
     }
     let _order = class_order(alloc, netlist, table)?;

@@ -11,7 +11,7 @@ returns c = λ l knows.
     let n = c.args.netlist.now in
     let first = c.in_ok-first.first in
     let end = c.in_ok-end.end in
-    bits_are n l _ _ first end c.in_ok-first.ensures (c.in_ok-end.ensures.end l knows) c.in_ok-bit_names.ensures
+    bits_are n l _ _ first end c.in_ok-first.ensures (c.in_ok-end.ensures.end l knows) c.bit_names.ensures
     (c.in_ok-end.ensures.inputs ∙ c.in_ok-system.ensures.inputs)
     (λ class function. c.in_ok-end.ensures.stored l class knows function
     ∙ ap (λ (xs : List StoredBit). map stored_view xs ++ flat_map (placed_stored class) (placed_from l first n.instances)) c.in_ok-system.ensures.stored)
