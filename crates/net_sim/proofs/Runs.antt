@@ -1,22 +1,17 @@
 -- Patterns on a netlist and on its machine.
-use Rattle.std.proofs.Common.{◌≡◌, ◌⊎◌, inl, inr, ℕ, ◌+◌, Bool, true, false, List, [], ◌∷◌, ◌++◌, length, Option, None, Some, refl, sym, ap, subst, ◌∙◌}
-use Rattle.std.specs.Prelude.{◌↔◌}
+use Rattle.std.proofs.Common.{◌≡◌, ◌⊎◌, inl, inr, ℕ, ◌+◌, Bool, true, false, List, [], ◌∷◌, ◌++◌, refl, sym, ap, subst, ◌∙◌}
 use Rattle.vlsi_base.specs.declared.name.Name.{Name}
 use Rattle.vlsi_base.specs.declared.name.Port.{Port}
-use Rattle.vlsi_base.specs.declared.name.Dir.{Dir}
 use Rattle.vlsi_base.specs.declared.name.Dir.TheVariants as dir
 use Rattle.machine_meaning.specs.Named.{value_at}
 use Rattle.machine_meaning.specs.Machine.{Machine, inputs, names_of}
-use Rattle.machine_meaning.specs.Cycles.{Settles, next}
-use Rattle.machine_core.specs.Order.{In, here, there}
+use Rattle.machine_meaning.specs.Cycles.{Settles}
+use Rattle.machine_core.specs.Order.{In}
 use Rattle.machine_core.proofs.Values.{In-map}
-use Rattle.net_core.specs.declared.pins.ModelPins.{ModelPins}
-use Rattle.net_core.specs.Netlist.{Netlist as InMemory}
 use Rattle.cell_model.specs.Library.{Library}
 use Rattle.cell_model.proofs.Members.{All-In}
 use Rattle.net_meaning.specs.Netlist.{Netlist, port}
-use Rattle.net_meaning.specs.Behaviour.{Contents, Valuation, bit_of, NetSettles, net_next}
-use Rattle.net_view.specs.View.{IsSeenAs}
+use Rattle.net_meaning.specs.Behaviour.{Contents, Valuation, bit_of, net_next}
 use Rattle.pat_meaning.specs.declared.patterns.Column.{Column}
 use Rattle.pat_meaning.specs.declared.patterns.Pattern.{Pattern}
 use Rattle.pat_meaning.specs.declared.patterns.Patterns.{Patterns}
@@ -25,7 +20,7 @@ use Rattle.pat_meaning.specs.Columns.{column_names}
 use Rattle.pat_meaning.specs.Circuit.{Circuit, of_machine}
 use Rattle.pat_meaning.specs.Simulation.{vector, clock_bit, rises, Takes, Observes, IsObserved, Compared, compared_values, compared, first_difference, filled_values, filled}
 use Rattle.pat_meaning.specs.Answers.{IsSupplyColumn, IsOfPorts, AreFor, IsFilledBy, DiffersOn, IsFilled, DiffersAt}
-use Rattle.net_machine.specs.Step.{FitsContents, no_contents, ShowAlike, AreInStep, KeepsStep, IsMachineOfNetlist}
+use Rattle.net_machine.specs.Step.{FitsContents, no_contents, ShowAlike, KeepsStep}
 use Rattle.net_sim.specs.Circuit.{of_netlist, SimulatesAlike}
 use Rattle.net_sim.proofs.Alike.{AgreeOnOutputs, same_compared, same_filled}
 
@@ -105,9 +100,9 @@ outputs_agree k m p for w x e c i out name j =
     elim (All-In (λ (c : Column). IsSupplyColumn c ⊎ IsOfPorts m.ports c) p.columns for.columns c i) [
       | inl s ↦ absurd (let no : dir.In ≡ dir.Out = sym s.dir ∙ out in cc)
       | inr q ↦
-        let there_is = All-In (λ (n : Name). In (record { name = n; dir = c.dir }) m.ports) (column_names c) q name j in
-        let n : In name (names_of m.ports) = In-map (λ (r : Port). r.name) (record { name = name; dir = c.dir }) m.ports there_is in
-        e name n
+          let there_is = All-In (λ (n : Name). In (record { name = n; dir = c.dir }) m.ports) (column_names c) q name j in
+          let n : In name (names_of m.ports) = In-map (λ (r : Port). r.name) (record { name = name; dir = c.dir }) m.ports there_is in
+          e name n
     ]
 
 same_compared_all : (k : Netlist) (l : Library) (m : Machine) (columns : List Column)

@@ -1,5 +1,5 @@
 -- What a simulation of a netlist's machine says of the netlist.
-use Rattle.std.proofs.Common.{◌≡◌, ℕ, List, ap, sym, subst, map, filter}
+use Rattle.std.proofs.Common.{◌≡◌, ℕ, List, ap, sym, subst, filter}
 use Rattle.std.specs.Prelude.{not}
 use Rattle.vlsi_base.specs.declared.name.Name.{Name}
 use Rattle.vlsi_base.specs.declared.name.Port.{Port}
