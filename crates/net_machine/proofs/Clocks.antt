@@ -36,11 +36,10 @@ port_has n h k p low is =
     let same : p ≡ a.0 = is ∙ get_or_from_slice_get n.ports k a.0 p a.1 in
     let fit = ports_fit n h in
     let c = at_place n.classes k (omega (arith, low, fit)) in
-    let class : slice_index n.classes k ≡ c.0 = get_or_from_slice_get n.classes k c.0 0 c.1 in
-    (
+    let class : slice_index n.classes k ≡ c.0 = get_or_from_slice_get n.classes k c.0 0 c.1 in (
       k,
       stands_left (map (λ (p : Port). port p.name) n.ports) (flat_map pins_of n.instances) k (port p.name)
-      (subst (λ (q : Port). Stands (map (λ (p : Port). port p.name) n.ports) k (port q.name)) (sym same) (mapped (λ (p : Port). port p.name) n.ports k a.0 a.1)),
+          (subst (λ (q : Port). Stands (map (λ (p : Port). port p.name) n.ports) k (port q.name)) (sym same) (mapped (λ (p : Port). port p.name) n.ports k a.0 a.1)),
       subst (λ (x : ℕ). Stands n.classes k x) (sym class) c.1,
     )
 

@@ -120,7 +120,7 @@ pub bits_are : (n : InMemory) (l : Library) (clock : Option Name) (s : BitSystem
     → s.inputs.items ≡ port_inputs clock n.count n.ports
     → ((class : Terminal → ℕ) → IsClassFunction n class → map stored_view s.stored.items ≡ flat_map (placed_stored class) (placed_from l first n.instances))
     → ((class : Terminal → ℕ) → IsClassFunction n class → map driven_view s.driven.items
-        ≡ (port_driven class clock n.count n.ports ++ classes_driven class n.count n.ports) ++ flat_map (placed_driven class) (placed_from l first n.instances))
+    ≡ (port_driven class clock n.count n.ports ++ classes_driven class n.count n.ports) ++ flat_map (placed_driven class) (placed_from l first n.instances))
     → AreBitsOf n l clock s
 bits_are n l clock s first end start size names inputs stored driven = record {
   text = names.0;

@@ -42,6 +42,10 @@ ArePortClasses class ports classes = (k : ℕ) (d : Port) → k < length ports �
 abbrev pub Gathers : List Port → List ℕ → ((Terminal → ℕ) → Type 0) → Type 0
 Gathers ports classes P = (class : Terminal → ℕ) → ArePortClasses class ports classes → P class
 
+-- so it is with the netlist as a function from terminals to classes
+abbrev pub ForClasses : InMemory → ((Terminal → ℕ) → Type 0) → Type 0
+ForClasses n P = (class : Terminal → ℕ) → IsClassFunction n class → P class
+
 -- a port in a class; none where there is none
 abbrev pub IsPortIn : InMemory → ℕ → Option Name → Type 0
 IsPortIn n class None = (name : Name) → HasClass n (port name) class → ⊥
@@ -51,13 +55,17 @@ IsPortIn n class (Some name) = HasClass n (port name) class
 abbrev pub KnowsModels : InMemory → Library → List KnownParts → Type 0
 KnowsModels n l known = map known_view known ≡ map (λ m. known_at (cell_of l m)) n.models
 
+-- so it is with each library whose cells say what is known of the models
+abbrev pub ForKnown : InMemory → List KnownParts → (Library → Type 0) → Type 0
+ForKnown n known P = (l : Library) → KnowsModels n l known → P l
+
 -- the pins of each instance are there, its expressions are over its bits, and the class of its clock pin has a port
 pub record IsFine (n : InMemory) (l : Library) : Type 0 where
   pub pins : (i : Instance) → IsThere n.instances i → HasPins n i.name (body_at (cell_of l i.model))
   pub over : (i : Instance) → IsThere n.instances i → IsBodyOver (body_at (cell_of l i.model))
   pub clock : (i : Instance) (pin : Name) → IsThere n.instances i → clock_at (cell_of l i.model) ≡ Some pin → IsThere (terminals n) (pin_of i.name pin)
-  pub clocked : (i : Instance) (pin : Name) (class : ℕ) → IsThere n.instances i → clock_at (cell_of l i.model) ≡ Some pin → HasClass n (pin_of i.name pin) class
-      → (name : Name) × HasClass n (port name) class
+  pub clocked : (i : Instance) (pin : Name) (class : ℕ) → IsThere n.instances i → clock_at (cell_of l i.model) ≡ Some pin
+      → HasClass n (pin_of i.name pin) class → (name : Name) × HasClass n (port name) class
 
 pub record AreKnown (n : InMemory) (known : List KnownParts) : Type 0 where
   pub library : Library
@@ -82,4 +90,4 @@ HasClockOf n l (Some name) = HasClockPort n l name
 pub record AreBitsOf (n : InMemory) (l : Library) (clock : Option Name) (s : BitSystem) : Type 0 where
   pub text : List ℕ
   pub longer : IsLonger n.ports text
-  pub is : (class : Terminal → ℕ) → IsClassFunction n class → system_of s ≡ net_system text class n l clock
+  pub is : ForClasses n (λ class. system_of s ≡ net_system text class n l clock)

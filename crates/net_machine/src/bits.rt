@@ -8,11 +8,11 @@ ghost use Rattle.bool_expr.specs.Expression.{IsOver};
 ghost use Rattle.bool_expr.specs.View.{view};
 ghost use Rattle.source_bits.specs.Driven.{driven_view, stored_view};
 ghost use Rattle.net_core.specs.Places.{IsThere};
-ghost use Rattle.net_core.specs.Netlist.{IsNetlist, pin_of, terminals, IsClassFunction};
+ghost use Rattle.net_core.specs.Netlist.{IsNetlist, pin_of, terminals};
 ghost use Rattle.bit_machine.specs.System.{system_of};
 ghost use Rattle.net_machine.specs.Body.{load_view, shown_view, body_view, width};
 ghost use Rattle.net_machine.specs.Bits.{own_name, is_signal, fixed_bit, port_names, port_inputs, own_of, port_driven, classes_driven, numbers, stored_from, inner_from, shown_from, body_stored, body_driven, placed_from, placed_stored, placed_driven, widths, first_base};
-ghost use Rattle.net_machine.specs.Gathered.{bits_count, HasPins, IsBodyOver, IsLonger, Gathers, KnowsModels, AreKnown, AreBitsOf};
+ghost use Rattle.net_machine.specs.Gathered.{bits_count, HasPins, IsBodyOver, IsLonger, Gathers, ForClasses, ForKnown, AreKnown, AreBitsOf};
 
 use crate::body::{Body, Load, Shown};
 use crate::clock::class_of;
@@ -226,7 +226,7 @@ fn numbers(
 ) -> Result<Vec<u32>, AllocError>
     requires pins { All (λ pin. IsThere (terminals netlist.now) (pin_of owner.now pin)) body.now.reads.items }
     requires end { end ≡ base + width (body_view body.now) }
-    ensures numbers { IfOk result (λ made. (class : _) → IsClassFunction netlist.now class → made.items ≡ numbers class owner.now (body_view body.now) base) }
+    ensures numbers { IfOk result (λ made. ForClasses netlist.now (λ class. made.items ≡ numbers class owner.now (body_view body.now) base)) }
     ensures count { IfOk result (λ made. length made.items ≡ bits_count (body_view body.now)) }
 {
     let mut made = Vec::new(alloc);
@@ -294,8 +294,8 @@ fn push_shown(
 ) -> Result<(), AllocError>
     requires pins { All (λ s. IsThere (terminals netlist.now) (pin_of owner.now s.pin)) shows.now }
     requires over { All (λ s. IsOver (view s.expr) (length table.now)) shows.now }
-    ensures { OnOk result ((class : _) → IsClassFunction netlist.now class → map driven_view driven.new.items
-        ≡ map driven_view driven.old.items ++ shown_from class owner.now table.now (map shown_view shows.now)) }
+    ensures { OnOk result (ForClasses netlist.now (λ class. map driven_view driven.new.items
+        ≡ map driven_view driven.old.items ++ shown_from class owner.now table.now (map shown_view shows.now))) }
 {
     for shown in shows {
         let bit = class_of(alloc, netlist, owner, &shown.pin)?;
@@ -317,10 +317,10 @@ fn push_instance(
     requires pins { HasPins netlist.now owner.now (body_view body.now) }
     requires over { IsBodyOver (body_view body.now) }
     ensures next { IfOk result (λ next. next ≡ base + width (body_view body.now)) }
-    ensures stored { OnOk result ((class : _) → IsClassFunction netlist.now class → map stored_view system.new.stored.items
-        ≡ map stored_view system.old.stored.items ++ body_stored class owner.now (body_view body.now) base) }
-    ensures driven { OnOk result ((class : _) → IsClassFunction netlist.now class → map driven_view system.new.driven.items
-        ≡ map driven_view system.old.driven.items ++ body_driven class owner.now (body_view body.now) base) }
+    ensures stored { OnOk result (ForClasses netlist.now (λ class. map stored_view system.new.stored.items
+        ≡ map stored_view system.old.stored.items ++ body_stored class owner.now (body_view body.now) base)) }
+    ensures driven { OnOk result (ForClasses netlist.now (λ class. map driven_view system.new.driven.items
+        ≡ map driven_view system.old.driven.items ++ body_driven class owner.now (body_view body.now) base)) }
     ensures inputs { OnOk result (system.new.inputs.items ≡ system.old.inputs.items) }
     ensures names { OnOk result (system.new.names ≡ system.old.names) }
 {
@@ -349,11 +349,11 @@ fn push_instances(
     system: &mut BitSystem,
 ) -> Result<u32, AllocError>
     requires { AreKnown netlist.now known.now }
-    ensures end { IfOk result (λ end. (l : _) → KnowsModels netlist.now l known.now → end ≡ first + widths l netlist.now.instances) }
-    ensures stored { OnOk result ((l : _) (class : _) → KnowsModels netlist.now l known.now → IsClassFunction netlist.now class → map stored_view system.new.stored.items
-        ≡ map stored_view system.old.stored.items ++ flat_map (placed_stored class) (placed_from l first netlist.now.instances)) }
-    ensures driven { OnOk result ((l : _) (class : _) → KnowsModels netlist.now l known.now → IsClassFunction netlist.now class → map driven_view system.new.driven.items
-        ≡ map driven_view system.old.driven.items ++ flat_map (placed_driven class) (placed_from l first netlist.now.instances)) }
+    ensures end { IfOk result (λ end. ForKnown netlist.now known.now (λ l. end ≡ first + widths l netlist.now.instances)) }
+    ensures stored { OnOk result (ForKnown netlist.now known.now (λ l. ForClasses netlist.now (λ class. map stored_view system.new.stored.items
+        ≡ map stored_view system.old.stored.items ++ flat_map (placed_stored class) (placed_from l first netlist.now.instances)))) }
+    ensures driven { OnOk result (ForKnown netlist.now known.now (λ l. ForClasses netlist.now (λ class. map driven_view system.new.driven.items
+        ≡ map driven_view system.old.driven.items ++ flat_map (placed_driven class) (placed_from l first netlist.now.instances)))) }
     ensures inputs { OnOk result (system.new.inputs.items ≡ system.old.inputs.items) }
 {
     let mut base = first;
@@ -373,8 +373,8 @@ fn port_bits(
     requires { netlist.now.count + length netlist.now.ports < 2 ^ 32 }
     ensures inputs { IfOk result (λ s. s.inputs.items ≡ port_inputs (option_copied clock.entry) netlist.now.count netlist.now.ports) }
     ensures stored { IfOk result (λ s. s.stored.items ≡ []) }
-    ensures driven { IfOk result (λ s. (class : _) → IsClassFunction netlist.now class → map driven_view s.driven.items
-        ≡ port_driven class (option_copied clock.entry) netlist.now.count netlist.now.ports ++ classes_driven class netlist.now.count netlist.now.ports) }
+    ensures driven { IfOk result (λ s. ForClasses netlist.now (λ class. map driven_view s.driven.items
+        ≡ port_driven class (option_copied clock.entry) netlist.now.count netlist.now.ports ++ classes_driven class netlist.now.count netlist.now.ports)) }
 {
     let ports = netlist.ports();
     let classes = netlist.classes();
@@ -436,7 +436,7 @@ pub fn gather(
     clock: Option<&Name>,
 ) -> Result<BitSystem, AllocError>
     requires { AreKnown netlist.now known.now }
-    ensures { IfOk result (λ s. (l : _) → KnowsModels netlist.now l known.now → AreBitsOf netlist.now l (option_copied clock.entry) s) }
+    ensures { IfOk result (λ s. ForKnown netlist.now known.now (λ l. AreBitsOf netlist.now l (option_copied clock.entry) s)) }
 {
     let first = first_base(netlist)?;
     let mut system = port_bits(alloc, netlist, clock)?;

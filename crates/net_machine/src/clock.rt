@@ -4,7 +4,7 @@ ghost use Rattle.std.specs.Option.{option_copied};
 ghost use Rattle.std.specs.List.{All};
 ghost use Rattle.net_core.specs.Places.{IsThere};
 ghost use Rattle.net_core.specs.Netlist.{pin_of, terminals, HasClass};
-ghost use Rattle.net_machine.specs.Gathered.{IsPortIn, AreKnown, KnowsModels, HasClockOf};
+ghost use Rattle.net_machine.specs.Gathered.{IsPortIn, AreKnown, ForKnown, HasClockOf};
 
 use crate::known::Known;
 use net_core::Netlist;
@@ -52,7 +52,7 @@ pub fn clock_port(
     known: &[Known],
 ) -> Result<Option<Name>, AllocError>
     requires { AreKnown netlist.now known.now }
-    ensures { IfOk result (λ clock. (l : _) → KnowsModels netlist.now l known.now → HasClockOf netlist.now l clock) }
+    ensures { IfOk result (λ clock. ForKnown netlist.now known.now (λ l. HasClockOf netlist.now l clock)) }
 {
     for node in netlist.nodes() {
         if let Some(pin) = &known[node.model].clock {

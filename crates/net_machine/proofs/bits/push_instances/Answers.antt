@@ -1,11 +1,10 @@
-use Rattle.std.proofs.Common.{◌≡◌, ap, ◌∙◌, sym, subst}
-use Rattle.source_bits.specs.Driven.{driven_view, stored_view}
+use Rattle.std.proofs.Common.{ap, ◌∙◌, sym, subst}
 use Rattle.net_core.specs.Frame.{instance_of}
 use Rattle.net_machine.specs.declared.known.Known.{Known}
-use Rattle.net_machine.specs.Body.{Body, body_view}
+use Rattle.net_machine.specs.Body.{body_view}
 use Rattle.net_machine.specs.Gathered.{HasPins, IsBodyOver}
 use Rattle.net_machine.proofs.Knowing.{AreNodes}
-use Rattle.net_machine.proofs.Gathering.{node_next, body_here, pins_here, over_here, widths_next, stored_next, driven_next, nodes_ended, widths_ended, placed_ended}
+use Rattle.net_machine.proofs.Gathering.{node_next, body_here, pins_here, over_here, widths_next, stored_next, driven_next}
 use Rattle.net_machine.proofs.bits.push_instances.Goals as goal
 
 pub push_instance-requires-clause-pins : goal.push_instance-requires-clause-pins
@@ -28,11 +27,11 @@ loop-node-preserved c =
     record {
       end = λ l knows. widths_next n l c.loop-node.node-index c.loop-node.base c.in_ok-base.base _ _ i here
           (ap (λ (m : Known). body_view m.body) (sym c.index-known-node.is) ∙ body_here n l c.args.known.now c.nodes-node-items.result.now c.loop-node.node-index c.node-item.result c.index-known-node.result are knows c.loop-node-test.true c.node-item.is c.index-known-node.is) c.in_ok-base.ensures.next (c.loop-node.invariant.end l knows);
-      stored = λ l class knows function. stored_next n l class c.loop-node.node-index c.loop-node.base c.in_ok-base.base _ i _ _ _ here
+      stored = λ l knows class function. stored_next n l class c.loop-node.node-index c.loop-node.base c.in_ok-base.base _ i _ _ _ here
           (ap (λ (m : Known). body_view m.body) (sym c.index-known-node.is) ∙ body_here n l c.args.known.now c.nodes-node-items.result.now c.loop-node.node-index c.node-item.result c.index-known-node.result are knows c.loop-node-test.true c.node-item.is c.index-known-node.is) c.in_ok-base.ensures.next
-          (c.in_ok-base.ensures.stored class function) (c.loop-node.invariant.stored l class knows function);
-      driven = λ l class knows function. driven_next n l class c.loop-node.node-index c.loop-node.base c.in_ok-base.base _ i _ _ _ here
+          (c.in_ok-base.ensures.stored class function) (c.loop-node.invariant.stored l knows class function);
+      driven = λ l knows class function. driven_next n l class c.loop-node.node-index c.loop-node.base c.in_ok-base.base _ i _ _ _ here
           (ap (λ (m : Known). body_view m.body) (sym c.index-known-node.is) ∙ body_here n l c.args.known.now c.nodes-node-items.result.now c.loop-node.node-index c.node-item.result c.index-known-node.result are knows c.loop-node-test.true c.node-item.is c.index-known-node.is) c.in_ok-base.ensures.next
-          (c.in_ok-base.ensures.driven class function) (c.loop-node.invariant.driven l class knows function);
+          (c.in_ok-base.ensures.driven class function) (c.loop-node.invariant.driven l knows class function);
       inputs = c.in_ok-base.ensures.inputs ∙ c.loop-node.invariant.inputs;
     }

@@ -11,10 +11,10 @@ use Rattle.net_machine.proofs.bits.push_instances.Given as goal
 abbrev pub invariant-loop-node : goal.invariant-loop-node
 invariant-loop-node l = record {
   end : (lib : Library) → KnowsModels l.netlist lib l.known → l.base + widths lib (drop l.node-index l.netlist.instances) ≡ l.first + widths lib l.netlist.instances;
-  stored : (lib : Library) (class : Terminal → ℕ) → KnowsModels l.netlist lib l.known → IsClassFunction l.netlist class
+  stored : (lib : Library) → KnowsModels l.netlist lib l.known → (class : Terminal → ℕ) → IsClassFunction l.netlist class
       → map stored_view l.system.stored.items ++ flat_map (placed_stored class) (placed_from lib l.base (drop l.node-index l.netlist.instances))
       ≡ map stored_view l.fn.system.stored.items ++ flat_map (placed_stored class) (placed_from lib l.first l.netlist.instances);
-  driven : (lib : Library) (class : Terminal → ℕ) → KnowsModels l.netlist lib l.known → IsClassFunction l.netlist class
+  driven : (lib : Library) → KnowsModels l.netlist lib l.known → (class : Terminal → ℕ) → IsClassFunction l.netlist class
       → map driven_view l.system.driven.items ++ flat_map (placed_driven class) (placed_from lib l.base (drop l.node-index l.netlist.instances))
       ≡ map driven_view l.fn.system.driven.items ++ flat_map (placed_driven class) (placed_from lib l.first l.netlist.instances);
   inputs : l.system.inputs.items ≡ l.fn.system.inputs.items;
