@@ -92,7 +92,7 @@ inner_at_place table k (x ∷ es) (suc q) e s =
     let made : ℕ → Expression → Numbered = λ n x. record { bit = n; expr = renumbered table x } in
     there (subst (λ (d : Numbered). In d (inner_from table (k + 1) es)) (ap (λ n. made n e) z) (inner_at_place table (k + 1) es q e s))
 
-inner_place : (table : List ℕ) (k : ℕ) (es : List Expression) (d : Numbered) → In d (inner_from table k es) → (q : ℕ) × (e : Expression) × Stands es q e × (d ≡ record { bit = k + q; expr = renumbered table e })
+pub inner_place : (table : List ℕ) (k : ℕ) (es : List Expression) (d : Numbered) → In d (inner_from table k es) → (q : ℕ) × (e : Expression) × Stands es q e × (d ≡ record { bit = k + q; expr = renumbered table e })
 inner_place table k [] d i = elim i [ ]
 inner_place table k (x ∷ es) d i = by (Rattle.vlsi_model.proofs.Members.In-cases d _ (inner_from table (k + 1) es) i) where
   made : ℕ → Expression → Numbered

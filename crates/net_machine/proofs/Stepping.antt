@@ -104,12 +104,12 @@ ports_hold s y h = record { same = λ j p l e. same j p l e p.dir refl; fixed = 
       (subst (λ (x : Dir). In (record { bit = s.n.count + j; expr = constant (fixed_bit p) }) (own_of s.class s.clock (s.n.count + j) p x)) (sym f)
       (subst (λ b. In (record { bit = s.n.count + j; expr = constant (fixed_bit p) }) (cond b [] (record { bit = s.n.count + j; expr = constant (fixed_bit p) } ∷ []))) (sym g) here)))
 
-port_low : (s : Scene) (p : Port) → In p s.n.ports → s.class (port p.name) < s.n.count
+pub port_low : (s : Scene) (p : Port) → In p s.n.ports → s.class (port p.name) < s.n.count
 port_low s p i = class_low s (port p.name) (port_role p) (a_port p i)
 
 -- ---- instances
 
-read_low : (s : Scene) (i : Instance) → In i s.n.instances → (pin : Name) → In pin (body_in s i).reads → s.class (pin_of i.name pin) < s.n.count
+pub read_low : (s : Scene) (i : Instance) → In i s.n.instances → (pin : Name) → In pin (body_in s i).reads → s.class (pin_of i.name pin) < s.n.count
 read_low s i li pin j =
     let p = All_is (λ (pin : Name). IsThere (Rattle.net_core.specs.Netlist.terminals s.n) (pin_of i.name pin)) (body_in s i).reads (fine_pins s.n s.l s.table s.ground i li).reads pin j in
     let c = class_there s.n s.l s.table s.ground (pin_of i.name pin) p in
@@ -315,14 +315,14 @@ next_is s y w agree driven inner =
 
 -- ---- the bits of a netlist that has settled
 
-port_driven_by : (s : Scene) (k : ℕ) (ps : List Port) (d : Numbered) → In d (port_driven s.class s.clock k ps) → (j : ℕ) × (p : Port) × (j < length ps) × (get_or ps j p ≡ p) × In d (own_of s.class s.clock (k + j) p p.dir)
+pub port_driven_by : (s : Scene) (k : ℕ) (ps : List Port) (d : Numbered) → In d (port_driven s.class s.clock k ps) → (j : ℕ) × (p : Port) × (j < length ps) × (get_or ps j p ≡ p) × In d (own_of s.class s.clock (k + j) p p.dir)
 port_driven_by s k [] d i = elim i [ ]
 port_driven_by s k (q ∷ ps) d i = elim (In-split d (own_of s.class s.clock k q q.dir) (port_driven s.class s.clock (k + 1) ps) i) [
   | inl a ↦ let z : k ≡ k + 0 = omega arith in (0, q, omega arith, refl, subst (λ n. In d (own_of s.class s.clock n q q.dir)) z a)
   | inr a ↦ let r = port_driven_by s (k + 1) ps d a in let z : k + 1 + r.0 ≡ k + suc r.0 = omega arith in (suc r.0, r.1, (let l = r.2 in omega (arith, l)), r.3, subst (λ n. In d (own_of s.class s.clock n r.1 r.1.dir)) z r.4)
 ]
 
-port_class_by : (s : Scene) (k : ℕ) (ps : List Port) (d : Numbered) → In d (classes_driven s.class k ps) → (j : ℕ) × (p : Port) × (j < length ps) × (get_or ps j p ≡ p) × In d (class_of_port s.class (k + j) p p.dir)
+pub port_class_by : (s : Scene) (k : ℕ) (ps : List Port) (d : Numbered) → In d (classes_driven s.class k ps) → (j : ℕ) × (p : Port) × (j < length ps) × (get_or ps j p ≡ p) × In d (class_of_port s.class (k + j) p p.dir)
 port_class_by s k [] d i = elim i [ ]
 port_class_by s k (q ∷ ps) d i = elim (In-split d (class_of_port s.class k q q.dir) (classes_driven s.class (k + 1) ps) i) [
   | inl a ↦ let z : k ≡ k + 0 = omega arith in (0, q, omega arith, refl, subst (λ n. In d (class_of_port s.class n q q.dir)) z a)

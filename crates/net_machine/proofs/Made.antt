@@ -1,0 +1,246 @@
+-- What machines of netlists rest on, from what is known of the netlist and of the library.
+use Rattle.std.proofs.Common.{◌≡◌, ◌≢◌, ◌⊎◌, inl, inr, ℕ, zero, suc, ◌+◌, ◌<◌, ◌≤◌, Bool, true, false, cond, not, ◌&&◌, List, [], ◌∷◌, ◌++◌, map, length, get_or, Option, None, Some, refl, sym, ap, ◌∙◌, subst, arith}
+use Rattle.std.specs.List.{All}
+use Rattle.std.proofs.lemmas.List.{length-map, get_or-map}
+use Rattle.std.proofs.lemmas.Option.{slice_get_within, slice_get-get_or, get_or_from_slice_get}
+use Rattle.vlsi_base.specs.declared.name.Name.{Name}
+use Rattle.vlsi_base.specs.declared.name.Terminal.{Terminal}
+use Rattle.machine_meaning.specs.Named.{is_same_text, is_same_name}
+use Rattle.machine_meaning.specs.Machine.{Machine}
+use Rattle.machine_core.proofs.Names.{same_name-true, same_name-itself}
+use Rattle.std.specs.Cmp.Lexicographic.{bytes_decides}
+use Rattle.cell_model.specs.Cell.{Function, gate, flip_flop, other, opaque, Cell}
+use Rattle.cell_model.specs.Library.{Library, cell_of}
+use Rattle.cell_checks.specs.Checked.{IsChecked}
+use Rattle.cell_pins.specs.Table.{IsTableOf}
+use Rattle.net_core.specs.declared.frame.Node.{Node}
+use Rattle.net_core.specs.declared.pins.ModelPins.{ModelPins}
+use Rattle.net_core.specs.Frame.{instance_of}
+use Rattle.net_core.specs.Places.{Stands, IsThere, NoneTwice}
+use Rattle.net_core.specs.Netlist.{Instance, Netlist as InMemory, IsNetlist, terminals, HasClass, IsClassFunction}
+use Rattle.net_core.specs.Links.{IsClassOrder}
+use Rattle.net_core.proofs.Finishing.{netlist_terminals_once}
+use Rattle.net_core.proofs.Frames.{mapped, unmapped}
+use Rattle.net_meaning.specs.Netlist.{Netlist}
+use Rattle.net_view.specs.Condition.{MeetsCondition}
+use Rattle.net_view.specs.View.{netlist_by, IsSeenAs}
+use Rattle.bit_machine.specs.System.{System, system_of, IsSystem, Falls, FitsPorts, IsMachineOfBits}
+use Rattle.bit_machine.specs.declared.system.BitSystem.{BitSystem}
+use Rattle.net_machine.specs.Signals.{signal_ports, IsClockPort, IsOpaque, HasBehaviour, IsFirstOpaque}
+use Rattle.net_machine.specs.Step.{KeepsStep, IsMachineOfNetlist}
+use Rattle.net_machine.specs.Known.{is_opaque, Known, known_view, opaque_at, known_at, IsUnknownAt, IsFirstUnknown, HasNoUnknown}
+use Rattle.net_machine.specs.Bits.{net_system}
+use Rattle.net_machine.specs.Gathered.{KnowsModels, AreKnown, HasClockOf, AreBitsOf}
+use Rattle.net_machine.specs.declared.known.Known.{Known as KnownParts}
+use Rattle.net_machine.proofs.Cells.{Ground, fine, clock_found}
+use Rattle.net_machine.proofs.Scenes.{Scene}
+use Rattle.net_machine.proofs.Whole.{is_system}
+use Rattle.net_machine.proofs.Fitting.{fits_ports}
+use Rattle.net_machine.proofs.Falling.{falls}
+use Rattle.net_machine.proofs.Stepping.{keeps_step}
+
+-- ---- a class for each terminal
+
+same_owner : Option (List ℕ) → Option (List ℕ) → Bool
+same_owner None None = true
+same_owner None (Some b) = false
+same_owner (Some a) None = false
+same_owner (Some a) (Some b) = is_same_text a b
+
+same_terminal : Terminal → Terminal → Bool
+same_terminal t u = same_owner t.instance u.instance && is_same_name t.pin u.pin
+
+owner_true : (a b : Option (List ℕ)) → same_owner a b ≡ true → a ≡ b
+owner_true None None e = refl
+owner_true None (Some b) e = absurd cc
+owner_true (Some a) None e = absurd cc
+owner_true (Some a) (Some b) e = ap Some ((bytes_decides a b).0 e)
+
+owner_itself : (a : Option (List ℕ)) → same_owner a a ≡ true
+owner_itself None = refl
+owner_itself (Some a) = (bytes_decides a a).1 refl
+
+both_true : (a b : Bool) → (a && b) ≡ true → (a ≡ true) × (b ≡ true)
+both_true true true e = (refl, refl)
+both_true true false e = absurd cc
+both_true false b e = absurd cc
+
+terminal_true : (t u : Terminal) → same_terminal t u ≡ true → t ≡ u
+terminal_true t u e =
+    let p = both_true (same_owner t.instance u.instance) (is_same_name t.pin u.pin) e in
+    let made : Option (List ℕ) → Name → Terminal = λ i n. record { instance = i; pin = n } in
+    ap (λ i. made i t.pin) (owner_true t.instance u.instance p.0) ∙ ap (made u.instance) (same_name-true t.pin u.pin p.1)
+
+terminal_itself : (t : Terminal) → same_terminal t t ≡ true
+terminal_itself t = ap (λ b. b && is_same_name t.pin t.pin) (owner_itself t.instance) ∙ same_name-itself t.pin
+
+class_in : List Terminal → List ℕ → Terminal → ℕ
+class_in [] cs t = 0
+class_in (u ∷ ts) [] t = 0
+class_in (u ∷ ts) (c ∷ cs) t = cond (same_terminal u t) c (class_in ts cs t)
+
+tail_once : (u : Terminal) (ts : List Terminal) → NoneTwice (u ∷ ts) → NoneTwice ts
+tail_once u ts h i j x p q = let e = h (suc i) (suc j) x p q in omega (arith, e)
+
+class_in_is : (ts : List Terminal) (cs : List ℕ) → NoneTwice ts → (k : ℕ) (t : Terminal) (c : ℕ) → Stands ts k t → Stands cs k c → class_in ts cs t ≡ c
+class_in_is [] cs h k t c p q = absurd cc
+class_in_is (u ∷ ts) [] h k t c p q = absurd cc
+class_in_is (u ∷ ts) (d ∷ cs) h zero t c p q =
+    let same : u ≡ t = cc in
+    let like : d ≡ c = cc in
+    ap (λ b. cond b d (class_in ts cs t)) (subst (λ (x : Terminal). same_terminal u x ≡ true) same (terminal_itself u)) ∙ like
+class_in_is (u ∷ ts) (d ∷ cs) h (suc k) t c p q = by (same_terminal u t) refl where
+  by : (b : Bool) → same_terminal u t ≡ b → cond b d (class_in ts cs t) ≡ c
+  by false e = class_in_is ts cs (tail_once u ts h) k t c p q
+  by true e =
+      let same = terminal_true u t e in
+      let w = h 0 (suc k) t (ap Some same) p in absurd (omega (arith, w))
+
+class_by : InMemory → Terminal → ℕ
+class_by n t = class_in (terminals n) n.classes t
+
+class_by_is : (n : InMemory) → IsNetlist n → IsClassFunction n (class_by n)
+class_by_is n is = record { each = λ t k h. class_in_is (terminals n) n.classes (netlist_terminals_once n is) h.0 t k h.1 h.2 }
+
+-- ---- what is known of the models
+
+pub known_fine : (n : InMemory) (l : Library) (table : List ModelPins) (known : List KnownParts) → IsNetlist n → IsChecked false l → IsTableOf l true table → MeetsCondition table n → KnowsModels n l known → AreKnown n known
+known_fine n l table known net checked table_is condition knows =
+    record { library = l; knows = knows; fine = fine n l table (record { netlist = net; condition = condition; table_is = table_is; checked = checked }) }
+
+-- the model of an instance, by its place
+model_opaque : (n : InMemory) (l : Library) (known : List KnownParts) → KnowsModels n l known → (place : ℕ) → place < length n.models → (d : KnownParts) → (get_or known place d).is_opaque ≡ opaque_at (cell_of l (get_or n.models place []))
+model_opaque n l known knows place low d =
+    let a = length-map known known_view in
+    let b = length-map n.models (λ (m : List ℕ). known_at (cell_of l m)) in
+    let c = ap length knows in
+    let within : place < length known = omega (arith, a, b, c, low) in
+    let left = get_or-map known_view known place d (known_view d) within in
+    let right = get_or-map (λ (m : List ℕ). known_at (cell_of l m)) n.models place [] (known_view d) low in
+    ap (λ (k : Known). k.is_unknown) (sym left ∙ ap (λ (ks : List Known). get_or ks place (known_view d)) knows ∙ right)
+
+opaque_true : (l : Library) (model : List ℕ) → IsOpaque l model → opaque_at (cell_of l model) ≡ true
+opaque_true l model h = ap opaque_at h.found ∙ ap is_opaque h.unknown
+
+opaque_is : (l : Library) (model : List ℕ) → opaque_at (cell_of l model) ≡ true → IsOpaque l model
+opaque_is l model e = by (cell_of l model) refl e where
+  is_it : (f : Function) → is_opaque f ≡ true → f ≡ opaque
+  is_it (gate x) e = absurd cc
+  is_it (flip_flop a b) e = absurd cc
+  is_it (other m) e = absurd cc
+  is_it opaque e = refl
+
+  by : (o : Option Cell) → cell_of l model ≡ o → opaque_at o ≡ true → IsOpaque l model
+  by None f e = absurd cc
+  by (Some c) f e = record { cell = c; found = f; unknown = is_it c.function e }
+
+-- an instance, by the node that it is
+record IsNode (n : InMemory) (nodes : List Node) (k : ℕ) (i : Instance) : Type 0 where
+  node : Node
+  stands : Stands nodes k node
+  is : instance_of n.models node ≡ i
+  within : node.model < length n.models
+
+node_of : (n : InMemory) (nodes : List Node) → map (instance_of n.models) nodes ≡ n.instances → All (λ i. i.model < length n.models) nodes → (k : ℕ) (i : Instance) → Stands n.instances k i → IsNode n nodes k i
+node_of n nodes seen low k i s =
+    let u = unmapped (instance_of n.models) nodes k i (subst (λ (is : List Instance). Stands is k i) (sym seen) s) in
+    record {
+      node = u.0;
+      stands = u.1;
+      is = u.2;
+      within = subst (λ (x : Node). x.model < length n.models) (get_or_from_slice_get nodes k u.0 u.0 u.1) (low k u.0 (slice_get_within nodes k u.0 u.1));
+    }
+
+not_opaque_at : (n : InMemory) (l : Library) (known : List KnownParts) (nodes : List Node) → map (instance_of n.models) nodes ≡ n.instances → All (λ i. i.model < length n.models) nodes → KnowsModels n l known
+    → (k : ℕ) (i : Instance) → Stands n.instances k i → IsUnknownAt nodes known k false → IsOpaque l i.model → ⊥
+not_opaque_at n l known nodes seen low knows k i s no h =
+    let x = node_of n nodes seen low k i s in
+    let t = h in
+    let q : opaque_at (cell_of l (get_or n.models x.node.model [])) ≡ true = ap (λ (y : Instance). opaque_at (cell_of l y.model)) x.is ∙ opaque_true l i.model h in
+    by x q (known_some known x.node.model) where
+      known_some : (ks : List KnownParts) (place : ℕ) → KnownParts ⊎ (length ks ≡ 0)
+      known_some [] place = inr refl
+      known_some (y ∷ ks) place = inl y
+
+      by : (x : IsNode n nodes k i) → opaque_at (cell_of l (get_or n.models x.node.model [])) ≡ true → KnownParts ⊎ (length known ≡ 0) → ⊥
+      by x q (inl d) =
+          let at : get_or nodes k x.node ≡ x.node = get_or_from_slice_get nodes k x.node x.node x.stands in
+          let e : (get_or known x.node.model d).is_opaque ≡ false = subst (λ (y : Node). (get_or known y.model d).is_opaque ≡ false) at (no x.node d) in
+          let f = model_opaque n l known knows x.node.model x.within d in
+          let clash : true ≡ false = sym q ∙ sym f ∙ e in absurd cc
+      by x q (inr z) =
+          let a = length-map known known_view in
+          let b = length-map n.models (λ (m : List ℕ). known_at (cell_of l m)) in
+          let c = ap length knows in
+          let w = x.within in omega (arith, a, b, c, w, z)
+
+-- no instance's model is opaque
+pub behaves : (n : InMemory) (l : Library) (known : List KnownParts) (nodes : List Node) → map (instance_of n.models) nodes ≡ n.instances → All (λ i. i.model < length n.models) nodes → KnowsModels n l known
+    → HasNoUnknown nodes known → HasBehaviour n l
+behaves n l known nodes seen low knows none i t h =
+    let x = node_of n nodes seen low t.0 i t.1 in
+    not_opaque_at n l known nodes seen low knows t.0 i t.1 (none t.0 (slice_get_within nodes t.0 x.node x.stands)) h
+
+-- the first instance whose model is
+pub first_opaque : (n : InMemory) (l : Library) (known : List KnownParts) (nodes : List Node) → map (instance_of n.models) nodes ≡ n.instances → All (λ i. i.model < length n.models) nodes → KnowsModels n l known
+    → (k : ℕ) → IsFirstUnknown nodes known k → (node : Node) → node ≡ get_or nodes k node → (d : KnownParts) → IsFirstOpaque n l (get_or n.models node.model [])
+first_opaque n l known nodes seen low knows k first node at d =
+    let s : Stands nodes k (get_or nodes k node) = slice_get-get_or nodes k node first.inside in
+    let own : Stands nodes k node = subst (λ (x : Node). Stands nodes k x) (sym at) s in
+    let stands : Stands n.instances k (instance_of n.models node) = subst (λ (is : List Instance). Stands is k (instance_of n.models node)) seen (mapped (instance_of n.models) nodes k node own) in
+    let within : node.model < length n.models = subst (λ (x : Node). x.model < length n.models) (sym at) (low k node first.inside) in
+    let yes : (get_or known node.model d).is_opaque ≡ true = subst (λ (x : Node). (get_or known x.model d).is_opaque ≡ true) (sym at) (first.is node d) in
+    record {
+      place = k;
+      owner = instance_of n.models node;
+      stands = stands;
+      is = refl;
+      unknown = opaque_is l (get_or n.models node.model []) (sym (model_opaque n l known knows node.model within d) ∙ yes);
+      first = λ j i less t h. not_opaque_at n l known nodes seen low knows j i t (first.first j less) h;
+    }
+
+-- ---- the bits, and their machine
+
+scene : (n : InMemory) (l : Library) (table : List ModelPins) (clock : Option Name) (class : Terminal → ℕ) (text : List ℕ) → IsNetlist n → IsChecked false l → IsTableOf l true table → MeetsCondition table n → HasBehaviour n l → HasClockOf n l clock
+    → IsClassFunction n class → Rattle.net_machine.specs.Gathered.IsLonger n.ports text → Scene
+scene n l table clock class text net checked table_is condition known clock_is classes longer = record {
+  n = n;
+  l = l;
+  table = table;
+  class = class;
+  clock = clock;
+  text = text;
+  ground = record { netlist = net; condition = condition; table_is = table_is; checked = checked };
+  classes = classes;
+  known = known;
+  clock_is = clock_is;
+  longer = longer;
+}
+
+module _ (n : InMemory) (l : Library) (table : List ModelPins) (clock : Option Name) (b : BitSystem) (net : IsNetlist n) (checked : IsChecked false l) (table_is : IsTableOf l true table) (condition : MeetsCondition table n)
+    (known : HasBehaviour n l) (clock_is : HasClockOf n l clock) (bits : AreBitsOf n l clock b) where
+  this : Scene
+  this = scene n l table clock (class_by n) bits.text net checked table_is condition known clock_is (class_by_is n net) bits.longer
+
+  same : system_of b ≡ net_system bits.text (class_by n) n l clock
+  same = bits.is (class_by n) (class_by_is n net)
+
+  pub system_is : IsSystem (system_of b)
+  system_is = subst IsSystem (sym same) (is_system this)
+
+  pub system_falls : (order : List ℕ) → IsClassOrder table n order → Falls (system_of b).driven
+  system_falls order h = subst (λ (s : System). Falls s.driven) (sym same) (falls this order h)
+
+  pub system_fits : FitsPorts (signal_ports n.ports) clock (system_of b)
+  system_fits = subst (λ (s : System). FitsPorts (signal_ports n.ports) clock s) (sym same) (fits_ports this)
+
+  pub machine_is : (m : Machine) → IsMachineOfBits n.name (signal_ports n.ports) clock (system_of b) m → IsMachineOfNetlist n l table m
+  machine_is m is = record {
+    name = is.text;
+    ports = is.ports_are;
+    clock = subst (IsClockPort table n) (sym is.clock_is) (clock_found n l table (record { netlist = net; condition = condition; table_is = table_is; checked = checked }) clock clock_is);
+    step = λ k seen.
+        let one = scene n l table clock k.class bits.text net checked table_is condition known clock_is seen.classes bits.longer in
+        subst (λ (x : Netlist). KeepsStep x l m) (sym seen.is)
+        (keeps_step one n.name m (subst (λ (s : System). IsMachineOfBits n.name (signal_ports n.ports) clock s m) (bits.is k.class seen.classes) is));
+  }
