@@ -154,10 +154,10 @@ in_supplied name ps x apart i = elim (before_or_behind x.name name apart) [
 ]
 
 supply_in : (name : Name) (ps : List Port) → In (supply name) (with_supply name ps)
-supply_in name ps = In-right (supply name) (filter_before name ps) (supply name ∷ Rattle.std.proofs.Common.filter (λ p. comes_before name p.name) ps) here
+supply_in name ps = In-right (supply name) (filter_before name ps) (supply name ∷ filter (λ p. comes_before name p.name) ps) here
 
 supplied_cases : (name : Name) (ps : List Port) (x : Port) → In x (with_supply name ps) → (supply name ≡ x) ⊎ In x ps
-supplied_cases name ps x i = elim (In-split x (filter_before name ps) (supply name ∷ Rattle.std.proofs.Common.filter (λ p. comes_before name p.name) ps) i) [
+supplied_cases name ps x i = elim (In-split x (filter_before name ps) (supply name ∷ filter (λ p. comes_before name p.name) ps) i) [
   | inl a ↦ inr (In-filter (λ p. comes_before p.name name) ps x a).0
   | inr b ↦ elim (In-cases x (supply name) (filter_behind name ps) b) [
     | inl same ↦ inl same

@@ -35,7 +35,7 @@ use Rattle.bit_machine.specs.System.{Falls}
 use Rattle.net_machine.specs.Body.{Shown, Body, body_of, body_at, width}
 use Rattle.net_machine.specs.Bits.{is_signal, fixed_bit, own_of, port_driven, class_of_port, classes_driven, widths, numbers, inner_from, shown_from, body_driven}
 use Rattle.net_machine.specs.Gathered.{bits_count}
-use Rattle.net_machine.proofs.Drivers.{In_there, IsAt, a_port, a_pin, is_driver, some_driver}
+use Rattle.net_machine.proofs.Drivers.{In_there, IsAt, a_port, a_pin, is_driver, some_driver, there_In}
 use Rattle.net_machine.proofs.Bodies.{All_is, IsPin, reads_pin, shows_pin}
 use Rattle.net_machine.proofs.Cells.{Seated, pin_at, signal_in, fine_over, sound_of}
 use Rattle.net_machine.proofs.Scenes.{Scene, has_class, class_low, once, input_driver, output_driver, Member, member, IsOutput, shown_output}
@@ -293,7 +293,7 @@ module _ (s : Scene) (order : List ℕ) (h : IsClassOrder s.table s.n order) whe
     out_name = out.2.name ∙ po.name_is
 
     in_at : IsAt s.table s.n (pin_of i.name pin) (pin_role input.0)
-    in_at = subst (λ (n : Name). IsAt s.table s.n (pin_of i.name n) (pin_role input.0)) in_name (a_pin i input.0 m.listed (Rattle.net_machine.proofs.Drivers.there_In (pins_named s.table i.model) place_in.0 input.0 input.1))
+    in_at = subst (λ (n : Name). IsAt s.table s.n (pin_of i.name n) (pin_role input.0)) in_name (a_pin i input.0 m.listed (there_In (pins_named s.table i.model) place_in.0 input.0 input.1))
 
     out_at : IsAt s.table s.n (pin_of i.name x.pin) (pin_role out.0)
     out_at = subst (λ (n : Name). IsAt s.table s.n (pin_of i.name n) (pin_role out.0)) po.name_is out.1

@@ -32,7 +32,7 @@ use Rattle.vlsi_model.proofs.PortBits.{In-filter, filter-In}
 use Rattle.vlsi_model.proofs.Sorting.{In-at, place_of_In}
 use Rattle.vlsi_model.proofs.Building.{map_same}
 use Rattle.vlsi_model.proofs.Assembly.{All-from_In}
-use Rattle.cell_model.specs.Cell.{Function, gate, flip_flop, other, opaque, Cell}
+use Rattle.cell_model.specs.Cell.{Function, gate, flip_flop, other, opaque, Cell, pin_ports}
 use Rattle.cell_model.specs.Library.{cell_of}
 use Rattle.cell_model.specs.Usable.{FitsPins}
 use Rattle.cell_pins.specs.Pins.{supply, all_ports, IsClockPin}
@@ -234,10 +234,10 @@ supply_pin s i j name which = by which where
   seat : Seated s.l s.table i
   seat = seated s.n s.l s.table s.ground i j
 
-  no_clock : (c : Cell) (h : FitsPins c c.function) → ((x : Name) → In x (names_of (Rattle.cell_model.specs.Cell.pin_ports c)) → (x ≢ vdd) × (x ≢ vss)) → (x : Name) → ((x ≡ vdd) ⊎ (x ≡ vss)) → IsClockPin c.function x → ⊥
+  no_clock : (c : Cell) (h : FitsPins c c.function) → ((x : Name) → In x (names_of (pin_ports c)) → (x ≢ vdd) × (x ≢ vss)) → (x : Name) → ((x ≡ vdd) ⊎ (x ≡ vss)) → IsClockPin c.function x → ⊥
   no_clock c h signals x w k =
       let p = clock_is_pin c c.function h x (clock_of c.function x k) in
-      let q = signals x (subst (λ (y : Name). In y (names_of (Rattle.cell_model.specs.Cell.pin_ports c))) p.name_is (In-map (λ (y : Port). y.name) p.port (Rattle.cell_model.specs.Cell.pin_ports c) p.listed)) in
+      let q = signals x (subst (λ (y : Name). In y (names_of (pin_ports c))) p.name_is (In-map (λ (y : Port). y.name) p.port (pin_ports c) p.listed)) in
       elim w [ inl e ↦ q.0 e | inr e ↦ q.1 e ] where
         clock_of : (f : Function) (x : Name) → IsClockPin f x → clock_pin f ≡ Some x
         clock_of (gate e) x h = absurd h

@@ -69,12 +69,12 @@ abbrev pub levels_after : List ℕ → List Expression → List ℕ
 levels_after ls [] = ls
 levels_after ls (e ∷ es) = levels_after (ls ++ (greatest ls (variables e) + 1) ∷ []) es
 
-num_left : (xs ys : List ℕ) (k : ℕ) → k < length xs → slice_index (xs ++ ys) k ≡ slice_index xs k
+pub num_left : (xs ys : List ℕ) (k : ℕ) → k < length xs → slice_index (xs ++ ys) k ≡ slice_index xs k
 num_left [] ys k l = absurd (omega (arith, l))
 num_left (x ∷ xs) ys zero l = refl
 num_left (x ∷ xs) ys (suc k) l = num_left xs ys k (omega (arith, l))
 
-num_right : (xs ys : List ℕ) (k : ℕ) → slice_index (xs ++ ys) (length xs + k) ≡ slice_index ys k
+pub num_right : (xs ys : List ℕ) (k : ℕ) → slice_index (xs ++ ys) (length xs + k) ≡ slice_index ys k
 num_right [] ys k = let e : 0 + k ≡ k = omega arith in ap (slice_index ys) e
 num_right (x ∷ xs) ys k = let e : length (x ∷ xs) + k ≡ suc (length xs + k) = omega arith in ap (slice_index (x ∷ (xs ++ ys))) e ∙ num_right xs ys k
 

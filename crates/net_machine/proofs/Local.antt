@@ -2,7 +2,7 @@
 use Rattle.std.proofs.Common.{◌≡◌, ◌≢◌, ◌⊎◌, inl, inr, ℕ, zero, suc, ◌+◌, ◌<◌, ◌≤◌, Bool, true, false, cond, List, [], ◌∷◌, ◌++◌, map, length, get_or, take, drop, Option, None, Some, refl, sym, ap, ◌∙◌, subst, arith, length-append, append_assoc}
 use Rattle.std.specs.Prelude.{slice_index}
 use Rattle.std.specs.List.{All, slice_index_or}
-use Rattle.std.proofs.lemmas.List.{length-map, map-append, get_or-map, length-take-le, length-drop}
+use Rattle.std.proofs.lemmas.List.{length-map, map-append, get_or-map, length-take-le, length-drop, take-append-drop}
 use Rattle.std.proofs.Math.Seq.{take-append_seam}
 use Rattle.std.proofs.lemmas.Option.{slice_get-get_or, slice_get_within, get_or_from_slice_get}
 use Rattle.vlsi_base.specs.declared.name.Name.{Name}
@@ -158,13 +158,13 @@ pub settled_pieces : (m : Machine) (ins hs v : List Bool) → IsChecked m → Se
     × (take (length m.registers) (drop (length (inputs m)) v) ≡ hs)
 settled_pieces m ins hs v h s =
     let a : take (length (inputs m)) v ≡ ins = sym (machine_inputs m v h s.each) ∙ s.inputs in
-    let whole : v ≡ ins ++ drop (length (inputs m)) v = sym (Rattle.std.proofs.lemmas.List.take-append-drop (length (inputs m)) v) ∙ ap (λ (xs : List Bool). xs ++ drop (length (inputs m)) v) a in
+    let whole : v ≡ ins ++ drop (length (inputs m)) v = sym (take-append-drop (length (inputs m)) v) ∙ ap (λ (xs : List Bool). xs ++ drop (length (inputs m)) v) a in
     let c = vars_count m h in
     let ld = length-drop (length (inputs m)) v in
     let le = s.each in
     let rn = length-map m.registers (λ (r : Register). r.name) in
     let tail = drop (length (inputs m)) v in
-    let split = Rattle.std.proofs.lemmas.List.take-append-drop (length m.registers) tail in
+    let split = take-append-drop (length m.registers) tail in
     let n : length (take (length m.registers) tail) ≡ length (register_names m) = length-take-le (length m.registers) tail (omega (arith, c, ld, le, rn)) ∙ sym rn in
     let li : length ins ≡ length (inputs m) = ap length (sym s.inputs) ∙ length-map (inputs m) (value_at m.vars v) in
     let parts = machine_registers m ins (take (length m.registers) tail) (drop (length m.registers) tail) v h s.each (whole ∙ ap (λ (xs : List Bool). ins ++ xs) (sym split)) li n in

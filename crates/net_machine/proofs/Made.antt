@@ -30,7 +30,7 @@ use Rattle.net_machine.specs.Signals.{signal_ports, IsClockPort, IsOpaque, HasBe
 use Rattle.net_machine.specs.Step.{KeepsStep, IsMachineOfNetlist}
 use Rattle.net_machine.specs.Known.{is_opaque, Known, known_view, opaque_at, known_at, IsUnknownAt, IsFirstUnknown, HasNoUnknown}
 use Rattle.net_machine.specs.Bits.{net_system}
-use Rattle.net_machine.specs.Gathered.{KnowsModels, AreKnown, HasClockOf, AreBitsOf}
+use Rattle.net_machine.specs.Gathered.{KnowsModels, AreKnown, HasClockOf, AreBitsOf, IsLonger}
 use Rattle.net_machine.specs.declared.known.Known.{Known as KnownParts}
 use Rattle.net_machine.proofs.Cells.{Ground, fine, clock_found}
 use Rattle.net_machine.proofs.Scenes.{Scene}
@@ -202,7 +202,7 @@ first_opaque n l known nodes seen low knows k first node at d =
 -- ---- the bits, and their machine
 
 scene : (n : InMemory) (l : Library) (table : List ModelPins) (clock : Option Name) (class : Terminal → ℕ) (text : List ℕ) → IsNetlist n → IsChecked false l → IsTableOf l true table → MeetsCondition table n → HasBehaviour n l → HasClockOf n l clock
-    → IsClassFunction n class → Rattle.net_machine.specs.Gathered.IsLonger n.ports text → Scene
+    → IsClassFunction n class → IsLonger n.ports text → Scene
 scene n l table clock class text net checked table_is condition known clock_is classes longer = record {
   n = n;
   l = l;

@@ -17,7 +17,7 @@ use Rattle.machine_meaning.specs.Machine.{Machine, is_input, names_of, outputs}
 use Rattle.machine_core.proofs.Values.{In-map}
 use Rattle.source_meaning.specs.Formula.{place}
 use Rattle.vlsi_model.proofs.Members.{In-map_back, Sub, different_Sub}
-use Rattle.vlsi_model.proofs.PortBits.{Sub-map, Sub-filter}
+use Rattle.vlsi_model.proofs.PortBits.{Sub-map, Sub-filter, filter-In}
 use Rattle.vlsi_model.proofs.Sorting.{different_from_pairs}
 use Rattle.vlsi_model.proofs.Building.{map-then}
 use Rattle.bool_expr.specs.Expression.{Expression, variable}
@@ -76,7 +76,7 @@ output_driver q e = rw e refl
 
 -- ---- output pins
 
-itself_not_before : (a : Name) → comes_before a a ≡ true → ⊥
+pub itself_not_before : (a : Name) → comes_before a a ≡ true → ⊥
 itself_not_before a h = by (name_cmp a a) refl h where
   by : (o : Ordering) → name_cmp a a ≡ o → is_lt o ≡ true → ⊥
   by Less e t = let turned : Less ≡ Greater = sym e ∙ name_total.antisymm a a ∙ ap ordering_reverse e in absurd cc
@@ -153,7 +153,7 @@ output_shown s i m q j out =
           | inl v ↦ absurd (no_supply x _ v d)
           | inr g ↦
             let out_test : not (is_input x.dir) ≡ true = rw d refl in
-            let o : In x.name (cell_outputs m.seat.cell) = In-map (λ (p : Port). p.name) x (filter (λ (p : Port). not (is_input p.dir)) (pin_ports m.seat.cell)) (Rattle.vlsi_model.proofs.PortBits.filter-In (λ (p : Port). not (is_input p.dir)) (pin_ports m.seat.cell) x g out_test) in
+            let o : In x.name (cell_outputs m.seat.cell) = In-map (λ (p : Port). p.name) x (filter (λ (p : Port). not (is_input p.dir)) (pin_ports m.seat.cell)) (filter-In (λ (p : Port). not (is_input p.dir)) (pin_ports m.seat.cell) x g out_test) in
             let t : In x.name (map (λ (y : Shown). y.pin) (body_of m.seat.cell m.seat.cell.function).shows) =
             subst (λ (ns : List Name). In x.name ns) (sym (shown_pins m.seat.cell m.seat.cell.function m.seat.formed.function (not_opaque s i m))) o in
             let u = In-map_back (λ (y : Shown). y.pin) x.name (body_of m.seat.cell m.seat.cell.function).shows t in

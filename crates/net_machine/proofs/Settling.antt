@@ -1,5 +1,5 @@
 -- One instance: its cell drives its pins just where its body holds.
-use Rattle.std.proofs.Common.{◌≡◌, ◌≢◌, ◌⊎◌, inl, inr, ℕ, zero, suc, ◌+◌, ◌<◌, ◌≤◌, Bool, true, false, cond, List, [], ◌∷◌, ◌++◌, map, length, get_or, take, drop, Option, None, Some, refl, sym, ap, ◌∙◌, subst, arith, length-append}
+use Rattle.std.proofs.Common.{◌≡◌, ◌≢◌, ◌⊎◌, inl, inr, ℕ, zero, suc, ◌+◌, ◌<◌, ◌≤◌, Bool, true, false, cond, List, [], ◌∷◌, ◌++◌, map, length, get_or, take, drop, Option, None, Some, refl, sym, ap, ◌∙◌, subst, arith, length-append, append-nil}
 use Rattle.std.specs.Prelude.{slice_index}
 use Rattle.std.specs.List.{All}
 use Rattle.std.proofs.lemmas.List.{length-map, map-append, get_or-map, length-take-le, length-drop}
@@ -14,7 +14,7 @@ use Rattle.machine_meaning.specs.Named.{value_at, values_at}
 use Rattle.machine_meaning.specs.Machine.{Machine, Equation, Register, inputs, outputs, register_names}
 use Rattle.machine_meaning.specs.Cycles.{Settles, outs, next}
 use Rattle.machine_core.specs.Checked.{IsChecked}
-use Rattle.machine_core.proofs.Values.{In-left, In-right, In-map}
+use Rattle.machine_core.proofs.Values.{In-left, In-right, In-map, In-split}
 use Rattle.source_meaning.specs.Formula.{place}
 use Rattle.source_bits.specs.Driven.{Numbered, NumberedStorage}
 use Rattle.vlsi_model.proofs.Building.{map-then, map_same}
@@ -36,6 +36,7 @@ use Rattle.net_machine.proofs.Blocks.{body_in, shown_low}
 use Rattle.net_machine.proofs.Whole.{rising_count, In-inner_from}
 use Rattle.net_machine.proofs.Local.{BodyHolds, take_front, drop_front, machine_registers, machine_settles, machine_holds, settled_pieces}
 use Rattle.net_machine.proofs.Places.{held_in, held_at, local}
+use Rattle.vlsi_model.proofs.Members.{In-cases, In-map_back}
 
 -- the netlist with this scene's classes
 abbrev pub seen_net : Scene → Netlist
@@ -94,7 +95,7 @@ inner_at_place table k (x ∷ es) (suc q) e s =
 
 pub inner_place : (table : List ℕ) (k : ℕ) (es : List Expression) (d : Numbered) → In d (inner_from table k es) → (q : ℕ) × (e : Expression) × Stands es q e × (d ≡ record { bit = k + q; expr = renumbered table e })
 inner_place table k [] d i = elim i [ ]
-inner_place table k (x ∷ es) d i = by (Rattle.vlsi_model.proofs.Members.In-cases d _ (inner_from table (k + 1) es) i) where
+inner_place table k (x ∷ es) d i = by (In-cases d _ (inner_from table (k + 1) es) i) where
   made : ℕ → Expression → Numbered
   made n x = record { bit = n; expr = renumbered table x }
 
@@ -135,7 +136,7 @@ shown_each f g [] e x j = elim j [ ]
 
 pub driven_if : (s : Scene) (i : Instance) (at : ℕ) (y : List Bool) → IsBodyOver (body_in s i) → BodyHolds (body_in s i) (local s y i at) (pins_shown s y i)
     → (d : Numbered) → In d (body_driven s.class i.name (body_in s i) at) → Driven y d
-driven_if s i at y over h d j = elim (Rattle.machine_core.proofs.Values.In-split d (inner_from table (at + length b.loads) b.inner) (shown_from s.class i.name table b.shows) j) [
+driven_if s i at y over h d j = elim (In-split d (inner_from table (at + length b.loads) b.inner) (shown_from s.class i.name table b.shows) j) [
   | inl a ↦
     let w = inner_place table (at + length b.loads) b.inner d a in
     let low = slice_get_within b.inner w.0 w.1 w.2 in
@@ -146,7 +147,7 @@ driven_if s i at y over h d j = elim (Rattle.machine_core.proofs.Values.In-split
     sym (ap (bit (local s y i at)) k ∙ own_bit s.class i.name b at y (length b.loads + w.0) (omega (arith, low)) ∙ ap (bit y) k2) ∙ h.inner w.0 w.1 w.2 ∙ sym (value_here s.class i.name b at y w.1 o) in
     subst (Driven y) (sym w.3) v
   | inr a ↦
-    let w = Rattle.vlsi_model.proofs.Members.In-map_back (λ (z : Shown). record { bit = s.class (pin_of i.name z.pin); expr = renumbered table z.expr }) d b.shows a in
+    let w = In-map_back (λ (z : Shown). record { bit = s.class (pin_of i.name z.pin); expr = renumbered table z.expr }) d b.shows a in
     let e = shown_each (λ (x : Shown). val x.expr (local s y i at)) (λ (x : Shown). bit y (s.class (pin_of i.name x.pin))) b.shows h.shows w.0 w.1 in
     let v : bit y (s.class (pin_of i.name w.0.pin)) ≡ val (renumbered table w.0.expr) y =
     sym e ∙ sym (value_here s.class i.name b at y w.0.expr (All_is (λ (z : Shown). IsOver z.expr (bits_count b)) b.shows over.shows w.0 w.1)) in
@@ -251,7 +252,7 @@ drives s i at y w t c (gate e) g is h held fit inner =
     let fits : FitsPins c (gate e) = subst (FitsPins c) is g.fits in
     let ins : local s y i at ≡ pin_bits (seen_net s) w.classes i.name (cell_inputs c) =
     local_pieces s y i at ∙ ap (λ (xs : List Bool). xs ++ map (bit y) (rising at (width (body_in s i)))) (reads_agree s i at y w c g)
-    ∙ ap (λ (x : Body). pin_bits (seen_net s) w.classes i.name x.reads ++ map (bit y) (rising at (width x))) b ∙ Rattle.std.proofs.Common.append-nil (pin_bits (seen_net s) w.classes i.name (cell_inputs c)) in
+    ∙ ap (λ (x : Body). pin_bits (seen_net s) w.classes i.name x.reads ++ map (bit y) (rising at (width x))) b ∙ append-nil (pin_bits (seen_net s) w.classes i.name (cell_inputs c)) in
     outs_agree s i at y w c g ∙ sym h.shows ∙ map-then (λ (x : Shown). val x.expr (local s y i at)) (λ (o : Name). record { pin = o; expr = e }) (cell_outputs c)
     ∙ one_of (cell_outputs c) (val e (local s y i at)) fits.0 ∙ ap (λ v. val e v ∷ []) ins
 drives s i at y w t c (flip_flop d k) g is h held fit inner =
@@ -288,7 +289,7 @@ holds s i at y w t c (gate e) g is h held inner =
     let fits : FitsPins c (gate e) = subst (FitsPins c) is g.fits in
     let ins : local s y i at ≡ pin_bits (seen_net s) w.classes i.name (cell_inputs c) =
     local_pieces s y i at ∙ ap (λ (xs : List Bool). xs ++ map (bit y) (rising at (width (body_in s i)))) (reads_agree s i at y w c g)
-    ∙ ap (λ (x : Body). pin_bits (seen_net s) w.classes i.name x.reads ++ map (bit y) (rising at (width x))) b ∙ Rattle.std.proofs.Common.append-nil (pin_bits (seen_net s) w.classes i.name (cell_inputs c)) in
+    ∙ ap (λ (x : Body). pin_bits (seen_net s) w.classes i.name x.reads ++ map (bit y) (rising at (width x))) b ∙ append-nil (pin_bits (seen_net s) w.classes i.name (cell_inputs c)) in
     record {
       each = length-map (numbers s.class i.name (body_in s i) at) (bit y) ∙ numbers_count s.class i.name (body_in s i) at ∙ ap bits_count b;
       inner = λ q x z. absurd cc;

@@ -65,14 +65,14 @@ bits_of ds = map (λ (d : Numbered). d.bit) ds
 bits_append : (xs ys : List Numbered) → bits_of (xs ++ ys) ≡ bits_of xs ++ bits_of ys
 bits_append xs ys = map-append (λ (d : Numbered). d.bit) xs ys
 
-inputs_rise : (clock : Option Name) (k : ℕ) (ps : List Port) → Rises k (port_inputs clock k ps)
+pub inputs_rise : (clock : Option Name) (k : ℕ) (ps : List Port) → Rises k (port_inputs clock k ps)
 inputs_rise clock k [] = tt
 inputs_rise clock k (p ∷ ps) = by (is_input p.dir && is_signal clock p) (inputs_rise clock (k + 1) ps) where
   by : (b : Bool) → Rises (k + 1) (port_inputs clock (k + 1) ps) → Rises k (cond b (k ∷ port_inputs clock (k + 1) ps) (port_inputs clock (k + 1) ps))
   by true h = (omega arith, h)
   by false h = rises_weaker k (k + 1) (port_inputs clock (k + 1) ps) (omega arith) h
 
-inputs_high : (clock : Option Name) (k : ℕ) (ps : List Port) (x : ℕ) → In x (port_inputs clock k ps) → x < k + length ps
+pub inputs_high : (clock : Option Name) (k : ℕ) (ps : List Port) (x : ℕ) → In x (port_inputs clock k ps) → x < k + length ps
 inputs_high clock k [] x i = elim i [ ]
 inputs_high clock k (p ∷ ps) x i = by (is_input p.dir && is_signal clock p) i where
   by : (b : Bool) → In x (cond b (k ∷ port_inputs clock (k + 1) ps) (port_inputs clock (k + 1) ps)) → x < k + length (p ∷ ps)
@@ -88,7 +88,7 @@ own_cases class clock k p dir.In = by (is_signal clock p) refl where
   by false e = inr (rw e refl, e)
 own_cases class clock k p dir.Out = inr (refl, refl)
 
-ports_rise : (class : Terminal → ℕ) (clock : Option Name) (k : ℕ) (ps : List Port) → Rises k (bits_of (port_driven class clock k ps))
+pub ports_rise : (class : Terminal → ℕ) (clock : Option Name) (k : ℕ) (ps : List Port) → Rises k (bits_of (port_driven class clock k ps))
 ports_rise class clock k [] = tt
 ports_rise class clock k (p ∷ ps) =
     subst (λ (xs : List ℕ). Rises k xs) (sym (bits_append (own_of class clock k p p.dir) (port_driven class clock (k + 1) ps)))
@@ -101,7 +101,7 @@ ports_rise class clock k (p ∷ ps) =
       by (inl e) h = subst (λ (xs : List ℕ). Rises k (xs ++ rest)) (sym e.0) (rises_weaker k (k + 1) rest (omega arith) h)
       by (inr e) h = subst (λ (xs : List ℕ). Rises k (xs ++ rest)) (sym e.0) (omega arith, h)
 
-ports_high : (class : Terminal → ℕ) (clock : Option Name) (k : ℕ) (ps : List Port) (x : ℕ) → In x (bits_of (port_driven class clock k ps)) → x < k + length ps
+pub ports_high : (class : Terminal → ℕ) (clock : Option Name) (k : ℕ) (ps : List Port) (x : ℕ) → In x (bits_of (port_driven class clock k ps)) → x < k + length ps
 ports_high class clock k [] x i = elim i [ ]
 ports_high class clock k (p ∷ ps) x i =
     elim (In-split x (bits_of (own_of class clock k p p.dir)) (bits_of (port_driven class clock (k + 1) ps)) (subst (λ (xs : List ℕ). In x xs) (bits_append (own_of class clock k p p.dir) (port_driven class clock (k + 1) ps)) i)) [
@@ -114,7 +114,7 @@ ports_high class clock k (p ∷ ps) x i =
       own (inr e) a = elim (In-cases x k [] (subst (λ (xs : List ℕ). In x xs) e.0 a)) [ inl same ↦ omega (arith, same) | inr j ↦ absurd (elim j [ ]) ]
 
 -- each port's bit is an input or driven, and not both
-port_parts : (class : Terminal → ℕ) (clock : Option Name) (k : ℕ) (ps : List Port) (x : ℕ) → k ≤ x → x < k + length ps → In x (port_inputs clock k ps) ⊎ In x (bits_of (port_driven class clock k ps))
+pub port_parts : (class : Terminal → ℕ) (clock : Option Name) (k : ℕ) (ps : List Port) (x : ℕ) → k ≤ x → x < k + length ps → In x (port_inputs clock k ps) ⊎ In x (bits_of (port_driven class clock k ps))
 port_parts class clock k [] x l h = absurd (omega (arith, l, h))
 port_parts class clock k (p ∷ ps) x l h = by (cases_lt k x) (own_cases class clock k p p.dir) where
   joined : bits_of (port_driven class clock k (p ∷ ps)) ≡ bits_of (own_of class clock k p p.dir) ++ bits_of (port_driven class clock (k + 1) ps)
@@ -140,7 +140,7 @@ port_parts class clock k (p ∷ ps) x l h = by (cases_lt k x) (own_cases class c
       let same : k ≡ x = omega (arith, l, m) in
       inr (subst (λ (xs : List ℕ). In x xs) (sym joined) (In-left x (bits_of (own_of class clock k p p.dir)) (bits_of (port_driven class clock (k + 1) ps)) (subst (λ (xs : List ℕ). In x xs) (sym e.0) (subst (λ z. In z (k ∷ [])) same here))))
 
-port_apart : (class : Terminal → ℕ) (clock : Option Name) (k : ℕ) (ps : List Port) (x : ℕ) → In x (port_inputs clock k ps) → In x (bits_of (port_driven class clock k ps)) → ⊥
+pub port_apart : (class : Terminal → ℕ) (clock : Option Name) (k : ℕ) (ps : List Port) (x : ℕ) → In x (port_inputs clock k ps) → In x (bits_of (port_driven class clock k ps)) → ⊥
 port_apart class clock k [] x a b = elim a [ ]
 port_apart class clock k (p ∷ ps) x a b = by (own_cases class clock k p p.dir) a (In-split x (bits_of (own_of class clock k p p.dir)) (bits_of (port_driven class clock (k + 1) ps)) (subst (λ (xs : List ℕ). In x xs) (bits_append (own_of class clock k p p.dir) (port_driven class clock (k + 1) ps)) b)) where
   inputs : List ℕ
@@ -201,7 +201,7 @@ in_class class k (q ∷ ps) p i d =
       by (inr j) rest = In-right (class (port p.name)) (bits_of (class_of_port class k q q.dir)) (bits_of (classes_driven class (k + 1) ps)) (rest j)
 in_class class k [] p i d = elim i [ ]
 
-classes_different : (class : Terminal → ℕ) (k : ℕ) (ps : List Port) → AllDifferent ps → ((p q : Port) → In p ps → In q ps → p.dir ≡ dir.In → q.dir ≡ dir.In → class (port p.name) ≡ class (port q.name) → p ≡ q)
+pub classes_different : (class : Terminal → ℕ) (k : ℕ) (ps : List Port) → AllDifferent ps → ((p q : Port) → In p ps → In q ps → p.dir ≡ dir.In → q.dir ≡ dir.In → class (port p.name) ≡ class (port q.name) → p ≡ q)
     → AllDifferent (bits_of (classes_driven class k ps))
 classes_different class k [] d tells = tt
 classes_different class k (p ∷ ps) d tells =

@@ -25,20 +25,21 @@ use Rattle.net_core.specs.declared.tally.Role.{Role}
 use Rattle.net_core.specs.declared.tally.Role.TheVariants as role
 use Rattle.net_core.specs.declared.pins.ModelPin.{ModelPin}
 use Rattle.net_core.specs.Places.{Stands, IsThere, NoneTwice}
-use Rattle.net_core.specs.Netlist.{Instance, port, pin_of, HasClass}
+use Rattle.net_core.specs.Netlist.{Instance, port, pin_of, HasClass, terminals}
 use Rattle.net_core.specs.Checks.{port_role, pin_role}
 use Rattle.bit_machine.proofs.Showing.{over_renumbered}
 use Rattle.bit_machine.proofs.Laying.{apart_of}
 use Rattle.bit_machine.specs.System.{System, stored_bits, driven_bits, held_bits, all_bits, IsSystem}
 use Rattle.net_machine.specs.Body.{Load, Shown, Body, body_at, width}
-use Rattle.net_machine.specs.Bits.{own_name, is_signal, port_names, port_inputs, own_of, port_driven, class_of_port, classes_driven, Placed, placed_from, widths, numbers, stored_from, inner_from, shown_from, body_stored, body_driven, placed_stored, placed_driven, first_base, placed, net_system}
+use Rattle.net_machine.specs.Bits.{own_name, is_signal, port_names, port_inputs, own_of, port_driven, class_of_port, classes_driven, Placed, placed_from, widths, numbers, stored_from, inner_from, shown_from, body_stored, body_driven, placed_stored, placed_driven, first_base, placed, net_system, fixed_bit}
 use Rattle.net_machine.specs.Gathered.{bits_count, IsBodyOver}
 use Rattle.net_machine.proofs.Drivers.{there_In, In_there, In-flat, In-flat_back, IsAt, a_port, a_pin, is_driver, some_driver}
 use Rattle.net_machine.proofs.Bodies.{All_is}
-use Rattle.net_machine.proofs.Cells.{fine_over, sound_of}
+use Rattle.net_machine.proofs.Cells.{fine_over, sound_of, fine_pins, class_there}
 use Rattle.net_machine.proofs.Scenes.{Scene, has_class, class_low, once, input_driver, output_driver, Member, member, IsOutput, shown_output, output_shown, itself_not_before}
 use Rattle.net_machine.proofs.Systems.{Rises, rises_low, rises_different, inputs_rise, inputs_high, ports_rise, ports_high, port_parts, port_apart, IsInputClass, class_in, in_class, classes_different}
 use Rattle.net_machine.proofs.Blocks.{bits_of, held_of, all_stored, all_driven, body_in, stored_rise, stored_high, IsShownClass, IsInnerBit, driven_cases, own_parts, shown_driven, shown_low, driven_different}
+use Rattle.net_core.proofs.Rings.{class_below}
 
 abbrev pub system : Scene → System
 system s = net_system s.text s.class s.n s.l s.clock
@@ -61,7 +62,7 @@ driven_part s = bits_of (all_driven s (first s) s.n.instances)
 abbrev pub held_part : Scene → List ℕ
 held_part s = held_of (all_stored s (first s) s.n.instances)
 
-driven_are : (s : Scene) → driven_bits (system s) ≡ ports_part s ++ (classes_part s ++ driven_part s)
+pub driven_are : (s : Scene) → driven_bits (system s) ≡ ports_part s ++ (classes_part s ++ driven_part s)
 driven_are s =
     map-append (λ (d : Numbered). d.bit) (port_driven s.class s.clock s.n.count s.n.ports) (classes_driven s.class s.n.count s.n.ports ++ all_driven s (first s) s.n.instances)
     ∙ ap (λ (xs : List ℕ). ports_part s ++ xs) (map-append (λ (d : Numbered). d.bit) (classes_driven s.class s.n.count s.n.ports) (all_driven s (first s) s.n.instances))
@@ -347,9 +348,9 @@ port_over s total k (p ∷ ps) inside l d i = elim (In-split d (own_of s.class s
   by : (e : Dir) → In d (own_of s.class s.clock k p e) → IsOver d.expr total
   by dir.Out a = one (record { bit = k; expr = variable (s.class (port p.name)) }) low a
   by dir.In a = fixed (is_signal s.clock p) a where
-    fixed : (b : Bool) → In d (cond b [] (record { bit = k; expr = constant (Rattle.net_machine.specs.Bits.fixed_bit p) } ∷ [])) → IsOver d.expr total
+    fixed : (b : Bool) → In d (cond b [] (record { bit = k; expr = constant (fixed_bit p) } ∷ [])) → IsOver d.expr total
     fixed true a = absurd (elim a [ ])
-    fixed false a = one (record { bit = k; expr = constant (Rattle.net_machine.specs.Bits.fixed_bit p) }) tt a
+    fixed false a = one (record { bit = k; expr = constant (fixed_bit p) }) tt a
 
 class_over : (class : Terminal → ℕ) (total k : ℕ) (ps : List Port) → k + length ps ≤ total → (d : Numbered) → In d (classes_driven class k ps) → IsOver d.expr total
 class_over class total k [] l d i = elim i [ ]
@@ -383,10 +384,10 @@ numbers_low s i li base total l h k low =
     ] where
       read_low : (pin : Name) → In pin (body_in s i).reads → s.class (pin_of i.name pin) < s.n.count
       read_low pin j =
-          let p = All_is (λ (pin : Name). IsThere (Rattle.net_core.specs.Netlist.terminals s.n) (pin_of i.name pin)) (body_in s i).reads (Rattle.net_machine.proofs.Cells.fine_pins s.n s.l s.table s.ground i li).reads pin j in
-          let c = Rattle.net_machine.proofs.Cells.class_there s.n s.l s.table s.ground (pin_of i.name pin) p in
+          let p = All_is (λ (pin : Name). IsThere (terminals s.n) (pin_of i.name pin)) (body_in s i).reads (fine_pins s.n s.l s.table s.ground i li).reads pin j in
+          let c = class_there s.n s.l s.table s.ground (pin_of i.name pin) p in
           let e = s.classes.each (pin_of i.name pin) c.0 c.1 in
-          let w = Rattle.net_core.proofs.Rings.class_below s.n s.ground.netlist (pin_of i.name pin) c.0 c.1 in
+          let w = class_below s.n s.ground.netlist (pin_of i.name pin) c.0 c.1 in
           omega (arith, e, w)
 
 expr_over : (s : Scene) (i : Instance) → In i s.n.instances → (base total : ℕ) → s.n.count ≤ total → base + width (body_in s i) ≤ total → (e : Expression) → IsOver e (bits_count (body_in s i))
