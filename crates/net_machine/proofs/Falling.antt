@@ -134,12 +134,12 @@ port_rank_at top k (q ∷ ps) (suc j) p l e =
       apart true f = let same = eqb-true k (k + suc j) f in absurd (omega (arith, same))
 
 picked_in : {A : Type 0} (P : A → Type 0) (xs ys : List A) (x : A) → Picks P xs ys → In x xs → P x → In x ys
-picked_in P _ _ x done i h = absurd (elim i [ ])
-picked_in P _ _ x (takes {x = z} {xs = xs} {ys = ys} p more) i h = elim (In-cases x z xs i) [
+picked_in {A} P _ _ x done i h = absurd (elim i [ ])
+picked_in {A} P _ _ x (takes {x = z} {xs = xs} {ys = ys} p more) i h = elim (In-cases x z xs i) [
   | inl e ↦ subst (λ (v : A). In v (z ∷ ys)) e here
   | inr j ↦ there (picked_in P xs ys x more j h)
 ]
-picked_in P _ _ x (skips {x = z} {xs = xs} {ys = ys} p more) i h = elim (In-cases x z xs i) [
+picked_in {A} P _ _ x (skips {x = z} {xs = xs} {ys = ys} p more) i h = elim (In-cases x z xs i) [
   | inl e ↦ absurd (p (subst P (sym e) h))
   | inr j ↦ picked_in P xs ys x more j h
 ]
@@ -157,26 +157,23 @@ num_rising k (suc n) zero l = omega arith
 num_rising k (suc n) (suc j) l = let r = num_rising (k + 1) n j (omega (arith, l)) in omega (arith, r)
 
 module _ (s : Scene) (order : List ℕ) (h : IsClassOrder s.table s.n order) where
-  step : ℕ
-  step = limit s s.n.instances
-
-  class_rank : ℕ → ℕ
+  abbrev class_rank : ℕ → ℕ
   class_rank x = cond (is_fed s.class s.n.ports x) 1 (suc (raised (limit s s.n.instances) (suc (position order x))))
 
-  top : ℕ
+  abbrev top : ℕ
   top = suc (suc (raised (limit s s.n.instances) (length order)))
 
-  pin_rank : Instance → Name → ℕ
+  abbrev pin_rank : Instance → Name → ℕ
   pin_rank i pin = class_rank (s.class (pin_of i.name pin))
 
-  levels : Instance → List ℕ
+  abbrev levels : Instance → List ℕ
   levels i = body_levels (pin_rank i) (body_in s i)
 
-  own_rank : ℕ → List Instance → ℕ → ℕ
+  abbrev own_rank : ℕ → List Instance → ℕ → ℕ
   own_rank base [] x = 0
   own_rank base (i ∷ is) x = cond (nat_lt x (base + width (body_in s i))) (slice_index (levels i) (length (body_in s i).reads + (x - base))) (own_rank (base + width (body_in s i)) is x)
 
-  rank : ℕ → ℕ
+  abbrev rank : ℕ → ℕ
   rank x = cond (nat_lt x s.n.count) (class_rank x) (cond (nat_lt x (first s)) (port_rank top s.n.count s.n.ports x) (own_rank (first s) s.n.instances x))
 
   rank_of_class : (x : ℕ) → x < s.n.count → rank x ≡ class_rank x
@@ -298,23 +295,20 @@ module _ (s : Scene) (order : List ℕ) (h : IsClassOrder s.table s.n order) whe
     out_at : IsAt s.table s.n (pin_of i.name x.pin) (pin_role out.0)
     out_at = subst (λ (n : Name). IsAt s.table s.n (pin_of i.name n) (pin_role out.0)) po.name_is out.1
 
-    class_in : ℕ
-    class_in = s.class (pin_of i.name pin)
-
     low : s.class (pin_of i.name pin) < s.n.count
     low = class_low s (pin_of i.name pin) (pin_role input.0) in_at
 
     -- the driver of the class is an output pin
     behind : (t : Terminal) (r : Role) → IsAt s.table s.n t r → HasClass s.n t (s.class (pin_of i.name pin)) → 1 ≤ is_driver r → is_fed s.class s.n.ports (s.class (pin_of i.name pin)) ≡ false
         → position order (s.class (pin_of i.name pin)) < position order (s.class (pin_of i.name x.pin))
-    behind _ _ (a_port p l) has one no = of_dir p.dir refl where
+    behind _ _ (a_port p l) has one unfed = of_dir p.dir refl where
       of_dir : (d : Dir) → p.dir ≡ d → position order (s.class (pin_of i.name pin)) < position order (s.class (pin_of i.name x.pin))
       of_dir dir.In e =
           let at : s.class (port p.name) ≡ s.class (pin_of i.name pin) = s.classes.each (port p.name) (s.class (pin_of i.name pin)) has in
-          let yes : is_fed s.class s.n.ports (s.class (pin_of i.name pin)) ≡ true = subst (λ k. is_fed s.class s.n.ports k ≡ true) at (feeds s.class s.n.ports p l e) in
-          let clash : true ≡ false = sym yes ∙ no in absurd cc
+          let fed_is : is_fed s.class s.n.ports (s.class (pin_of i.name pin)) ≡ true = subst (λ k. is_fed s.class s.n.ports k ≡ true) at (feeds s.class s.n.ports p l e) in
+          let clash : true ≡ false = sym fed_is ∙ unfed in absurd cc
       of_dir dir.Out e = absurd (let z : is_driver (port_role p) ≡ 0 = rw e refl in omega (arith, one, z))
-    behind _ _ (a_pin k q l g) has one no = of_dir q.dir q.is_clock refl refl where
+    behind _ _ (a_pin k q l g) has one unfed = of_dir q.dir q.is_clock refl refl where
       of_dir : (d : Dir) (b : Bool) → q.dir ≡ d → q.is_clock ≡ b → position order (s.class (pin_of i.name pin)) < position order (s.class (pin_of i.name x.pin))
       of_dir dir.In true e f = absurd (let z : is_driver (pin_role q) ≡ 0 = rw (e, f) refl in omega (arith, one, z))
       of_dir dir.In false e f = absurd (let z : is_driver (pin_role q) ≡ 0 = rw (e, f) refl in omega (arith, one, z))

@@ -168,7 +168,6 @@ read_start rank b k d l =
 held_start : (rank : Name → ℕ) (b : Body) (k : ℕ) → length b.reads ≤ k → k < length b.reads + length b.loads → slice_index (start_levels rank b) k ≡ 0
 held_start rank b k l h =
     let m = length-map b.reads rank in
-    let j = k - length b.reads in
     let e : k ≡ length (map rank b.reads) + (k - length b.reads) = omega (arith, m, l) in
     ap (slice_index (start_levels rank b)) e ∙ num_right (map rank b.reads) (replicate (length b.loads) 0) (k - length b.reads)
     ∙ get_or-replicate (length b.loads) (k - length b.reads) 0 0 (omega (arith, l, h))
@@ -218,10 +217,7 @@ module _ (c : Cell) (rank : Name → ℕ) (signals : (name : Name) → In name (
   flip_level d k r = omega arith
 
   module _ (m : Machine) (fits : FitsPins c (other m)) (out : Name) (r : ℕ) (low : (pin : Name) → In pin (inputs m) → Follows m pin out → rank pin ≤ r) where
-    b : Body
-    b = body_of c (other m)
-
-    good : ℕ → Type 0
+    abbrev good : ℕ → Type 0
     good j = (name input : Name) → Stands m.vars j name → Follows m input name → Follows m input out
 
     held_length : length (held_names m) ≡ length (inputs m) + length m.registers

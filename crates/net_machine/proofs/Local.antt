@@ -37,10 +37,10 @@ drop_front xs ys n e = ap (λ k. drop k (xs ++ ys)) e ∙ seam xs ys where
   seam (x ∷ xs) ys = seam xs ys
 
 -- two lists in two pieces each, the first as long
-pub pieces_same : {A : Type 0} (as bs cs ds : List A) → length as ≡ length cs → as ++ bs ≡ cs ++ ds → (as ≡ cs) × (bs ≡ ds)
-pieces_same as bs cs ds n e = (
-  sym (take_front as bs (length as) refl) ∙ ap (take (length as)) e ∙ take_front cs ds (length as) n,
-  sym (drop_front as bs (length as) refl) ∙ ap (drop (length as)) e ∙ drop_front cs ds (length as) n,
+pub pieces_same : {A : Type 0} (xs ys zs ws : List A) → length xs ≡ length zs → xs ++ ys ≡ zs ++ ws → (xs ≡ zs) × (ys ≡ ws)
+pieces_same xs ys zs ws n e = (
+  sym (take_front xs ys (length xs) refl) ∙ ap (take (length xs)) e ∙ take_front zs ws (length xs) n,
+  sym (drop_front xs ys (length xs) refl) ∙ ap (drop (length xs)) e ∙ drop_front zs ws (length xs) n,
 )
 
 -- the bits of a body, from those of its pins, those that it holds and the inner ones

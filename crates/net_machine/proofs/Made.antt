@@ -41,13 +41,13 @@ use Rattle.net_machine.proofs.Stepping.{keeps_step}
 
 -- ---- a class for each terminal
 
-same_owner : Option (List ℕ) → Option (List ℕ) → Bool
+abbrev same_owner : Option (List ℕ) → Option (List ℕ) → Bool
 same_owner None None = true
 same_owner None (Some b) = false
 same_owner (Some a) None = false
 same_owner (Some a) (Some b) = is_same_text a b
 
-same_terminal : Terminal → Terminal → Bool
+abbrev same_terminal : Terminal → Terminal → Bool
 same_terminal t u = same_owner t.instance u.instance && is_same_name t.pin u.pin
 
 owner_true : (a b : Option (List ℕ)) → same_owner a b ≡ true → a ≡ b
@@ -74,7 +74,7 @@ terminal_true t u e =
 terminal_itself : (t : Terminal) → same_terminal t t ≡ true
 terminal_itself t = ap (λ b. b && is_same_name t.pin t.pin) (owner_itself t.instance) ∙ same_name-itself t.pin
 
-class_in : List Terminal → List ℕ → Terminal → ℕ
+abbrev class_in : List Terminal → List ℕ → Terminal → ℕ
 class_in [] cs t = 0
 class_in (u ∷ ts) [] t = 0
 class_in (u ∷ ts) (c ∷ cs) t = cond (same_terminal u t) c (class_in ts cs t)
@@ -96,7 +96,7 @@ class_in_is (u ∷ ts) (d ∷ cs) h (suc k) t c p q = by (same_terminal u t) ref
       let same = terminal_true u t e in
       let w = h 0 (suc k) t (ap Some same) p in absurd (omega (arith, w))
 
-class_by : InMemory → Terminal → ℕ
+abbrev class_by : InMemory → Terminal → ℕ
 class_by n t = class_in (terminals n) n.classes t
 
 class_by_is : (n : InMemory) → IsNetlist n → IsClassFunction n (class_by n)
@@ -153,9 +153,8 @@ node_of n nodes seen low k i s =
 
 not_opaque_at : (n : InMemory) (l : Library) (known : List KnownParts) (nodes : List Node) → map (instance_of n.models) nodes ≡ n.instances → All (λ i. i.model < length n.models) nodes → KnowsModels n l known
     → (k : ℕ) (i : Instance) → Stands n.instances k i → IsUnknownAt nodes known k false → IsOpaque l i.model → ⊥
-not_opaque_at n l known nodes seen low knows k i s no h =
+not_opaque_at n l known nodes seen low knows k i s calm h =
     let x = node_of n nodes seen low k i s in
-    let t = h in
     let q : opaque_at (cell_of l (get_or n.models x.node.model [])) ≡ true = ap (λ (y : Instance). opaque_at (cell_of l y.model)) x.is ∙ opaque_true l i.model h in
     by x q (known_some known x.node.model) where
       known_some : (ks : List KnownParts) (place : ℕ) → KnownParts ⊎ (length ks ≡ 0)
@@ -165,7 +164,7 @@ not_opaque_at n l known nodes seen low knows k i s no h =
       by : (x : IsNode n nodes k i) → opaque_at (cell_of l (get_or n.models x.node.model [])) ≡ true → KnownParts ⊎ (length known ≡ 0) → ⊥
       by x q (inl d) =
           let at : get_or nodes k x.node ≡ x.node = get_or_from_slice_get nodes k x.node x.node x.stands in
-          let e : (get_or known x.node.model d).is_opaque ≡ false = subst (λ (y : Node). (get_or known y.model d).is_opaque ≡ false) at (no x.node d) in
+          let e : (get_or known x.node.model d).is_opaque ≡ false = subst (λ (y : Node). (get_or known y.model d).is_opaque ≡ false) at (calm x.node d) in
           let f = model_opaque n l known knows x.node.model x.within d in
           let clash : true ≡ false = sym q ∙ sym f ∙ e in absurd cc
       by x q (inr z) =
@@ -201,7 +200,7 @@ first_opaque n l known nodes seen low knows k first node at d =
 
 -- ---- the bits, and their machine
 
-scene : (n : InMemory) (l : Library) (table : List ModelPins) (clock : Option Name) (class : Terminal → ℕ) (text : List ℕ) → IsNetlist n → IsChecked false l → IsTableOf l true table → MeetsCondition table n → HasBehaviour n l → HasClockOf n l clock
+abbrev scene : (n : InMemory) (l : Library) (table : List ModelPins) (clock : Option Name) (class : Terminal → ℕ) (text : List ℕ) → IsNetlist n → IsChecked false l → IsTableOf l true table → MeetsCondition table n → HasBehaviour n l → HasClockOf n l clock
     → IsClassFunction n class → IsLonger n.ports text → Scene
 scene n l table clock class text net checked table_is condition known clock_is classes longer = record {
   n = n;
@@ -219,7 +218,7 @@ scene n l table clock class text net checked table_is condition known clock_is c
 
 module _ (n : InMemory) (l : Library) (table : List ModelPins) (clock : Option Name) (b : BitSystem) (net : IsNetlist n) (checked : IsChecked false l) (table_is : IsTableOf l true table) (condition : MeetsCondition table n)
     (known : HasBehaviour n l) (clock_is : HasClockOf n l clock) (bits : AreBitsOf n l clock b) where
-  this : Scene
+  abbrev this : Scene
   this = scene n l table clock (class_by n) bits.text net checked table_is condition known clock_is (class_by_is n net) bits.longer
 
   same : system_of b ≡ net_system bits.text (class_by n) n l clock
