@@ -132,15 +132,15 @@ driven_cases s base (i ∷ is) x h =
       own : In x (own_bits s.class i.name b base) → IsInnerBit s base (i ∷ is) x ⊎ IsShownClass s (i ∷ is) x
       own a = elim (In-split x (rising (base + length b.loads) (length b.inner)) (map (λ (y : Shown). s.class (pin_of i.name y.pin)) b.shows) a) [
         | inl c ↦
-          let r = in_rising (base + length b.loads) (length b.inner) x c in
-          inl (record {
-            low = omega (arith, r.0);
-            high = omega (arith, r.1);
-            apart = λ q. elim (In-split x (rising base (length b.loads)) held (subst (λ (xs : List ℕ). In x xs) (stored_cons s base i is) q)) [
+            let r = in_rising (base + length b.loads) (length b.inner) x c in
+            inl (record {
+              low = omega (arith, r.0);
+              high = omega (arith, r.1);
+              apart = λ q. elim (In-split x (rising base (length b.loads)) held (subst (λ (xs : List ℕ). In x xs) (stored_cons s base i is) q)) [
                 | inl d ↦ let t = in_rising base (length b.loads) x d in omega (arith, r.0, t.1)
                 | inr d ↦ let t = rises_low (base + width b) held (stored_rise s (base + width b) is) x d in omega (arith, r.1, t)
               ];
-          })
+            })
         | inr c ↦ let r = In-map_back (λ (y : Shown). s.class (pin_of i.name y.pin)) x b.shows c in inr (record { i = i; listed = here; shown = r.0; among = r.1; at = sym r.2 })
       ]
 
@@ -149,9 +149,9 @@ driven_cases s base (i ∷ is) x h =
         low = let l = r.low in omega (arith, l);
         high = let h = r.high in omega (arith, h);
         apart = λ q. elim (In-split x (rising base (length b.loads)) held (subst (λ (xs : List ℕ). In x xs) (stored_cons s base i is) q)) [
-            | inl d ↦ let t = in_rising base (length b.loads) x d in let l = r.low in omega (arith, l, t.1)
-            | inr d ↦ r.apart d
-          ];
+          | inl d ↦ let t = in_rising base (length b.loads) x d in let l = r.low in omega (arith, l, t.1)
+          | inr d ↦ r.apart d
+        ];
       })
       later (inr r) = inr (record { i = r.i; listed = there r.listed; shown = r.shown; among = r.among; at = r.at })
 

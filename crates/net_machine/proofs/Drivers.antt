@@ -108,9 +108,9 @@ of_seat : (table : List ModelPins) (n : Netlist) (s : Seat) → In s (seats tabl
 of_seat table n s i = elim (In-split s (map port_seat n.ports) (flat_map (λ (i : Instance). map (pin_seat i) (pins_named table i.model)) n.instances) i) [
   | inl a ↦ let r = In-map_back port_seat s n.ports a in subst (λ (z : Seat). IsAt table n z.terminal z.role) r.2 (a_port r.0 r.1)
   | inr b ↦
-    let r = In-flat_back (λ (i : Instance). map (pin_seat i) (pins_named table i.model)) n.instances s b in
-    let u = In-map_back (pin_seat r.0) s (pins_named table r.0.model) r.2 in
-    subst (λ (z : Seat). IsAt table n z.terminal z.role) u.2 (a_pin r.0 u.0 r.1 u.1)
+      let r = In-flat_back (λ (i : Instance). map (pin_seat i) (pins_named table i.model)) n.instances s b in
+      let u = In-map_back (pin_seat r.0) s (pins_named table r.0.model) r.2 in
+      subst (λ (z : Seat). IsAt table n z.terminal z.role) u.2 (a_pin r.0 u.0 r.1 u.1)
 ]
 
 -- where it stands

@@ -436,11 +436,11 @@ module _ (s : Scene) (order : List ℕ) (h : IsClassOrder s.table s.n order) whe
     body : (i : Instance) (at : ℕ) → Place s (first s) s.n.instances i at → In d (body_driven s.class i.name (body_in s i) at) → rank v < rank d.bit
     body i at p b = elim (In-split d (inner_from (numbers s.class i.name (body_in s i) at) (at + length (body_in s i).loads) (body_in s i).inner) (shown_from s.class i.name (numbers s.class i.name (body_in s i) at) (body_in s i).shows) b) [
       | inl c ↦
-        let w = inner_place (numbers s.class i.name (body_in s i) at) (at + length (body_in s i).loads) (body_in s i).inner d c in
-        subst Lower (sym w.3) (λ g. inner_falls i at p w.0 w.1 w.2 v g) j
+          let w = inner_place (numbers s.class i.name (body_in s i) at) (at + length (body_in s i).loads) (body_in s i).inner d c in
+          subst Lower (sym w.3) (λ g. inner_falls i at p w.0 w.1 w.2 v g) j
       | inr c ↦
-        let w = In-map_back (λ (y : Shown). record { bit = s.class (pin_of i.name y.pin); expr = renumbered (numbers s.class i.name (body_in s i) at) y.expr }) d (body_in s i).shows c in
-        subst Lower w.2 (λ g. shown_falls i at p w.0 w.1 v g) j
+          let w = In-map_back (λ (y : Shown). record { bit = s.class (pin_of i.name y.pin); expr = renumbered (numbers s.class i.name (body_in s i) at) y.expr }) d (body_in s i).shows c in
+          subst Lower w.2 (λ g. shown_falls i at p w.0 w.1 v g) j
     ]
 
   pub falls : Falls (system s).driven

@@ -179,9 +179,9 @@ own_no_supply s n e = (
 signal_names : (s : Scene) (name : Name) → In name (names_of (signal_ports s.n.ports) ++ (system s).names) → IsNoSupply name
 signal_names s name i = elim (In-split name (names_of (signal_ports s.n.ports)) (system s).names i) [
   | inl a ↦
-    let r = In-map_back (λ (p : Port). p.name) name (signal_ports s.n.ports) a in
-    let f = In-filter (λ (p : Port). not (is_supply p.name.text)) s.n.ports r.0 r.1 in
-    subst IsNoSupply r.2 (no_supply_text r.0.name.text (not_false (is_supply r.0.name.text) f.1))
+      let r = In-map_back (λ (p : Port). p.name) name (signal_ports s.n.ports) a in
+      let f = In-filter (λ (p : Port). not (is_supply p.name.text)) s.n.ports r.0 r.1 in
+      subst IsNoSupply r.2 (no_supply_text r.0.name.text (not_false (is_supply r.0.name.text) f.1))
   | inr b ↦ elim (In-split name own (ports ++ inner) b) [
     | inl c ↦ own_one (rising 0 s.n.count) c
     | inr c ↦ elim (In-split name ports inner c) [

@@ -27,6 +27,7 @@ use Rattle.net_core.specs.Places.{Stands}
 use Rattle.net_core.proofs.Frames.{mapped, unmapped}
 use Rattle.net_machine.specs.Body.{Load, Shown, Body, body_of, width}
 use Rattle.net_machine.specs.Gathered.{bits_count}
+use Rattle.net_machine.proofs.Drivers.{there_In}
 use Rattle.net_machine.proofs.Bodies.{machine_bits, input_pin}
 
 -- ---- the greatest of some numbers
@@ -257,8 +258,7 @@ module _ (c : Cell) (rank : Name → ℕ) (signals : (name : Name) → In name (
         → (k < length (start_levels rank (body_of c (other m))) + q) × good k
     leads q e k s g i =
         let n = start_count rank (body_of c (other m)) in
-        let l = inner_below c (other m) fits q e k s i in
-        (
+        let l = inner_below c (other m) fits q e k s i in (
           omega (arith, l, n),
           λ name input t f.
               let u = unmapped (λ (x : Equation). x.expr) m.equations q e s in
@@ -267,11 +267,7 @@ module _ (c : Cell) (rank : Name → ℕ) (signals : (name : Name) → In name (
               subst (λ (ns : List Name). Stands ns (length (held_names m) + q) u.0.name) (sym fits.1.ordered.vars) (stands_right (held_names m) (equation_names m) q u.0.name (mapped (λ (x : Equation). x.name) m.equations q u.0 u.1)) in
               let reads_it : Reads m u.0.expr name = (k, subst (λ (v : Expression). In k (variables v)) (sym u.2) i, t) in
               g u.0.name input (subst (λ j. Stands m.vars j u.0.name) z at) (reads u.0 name (there_In m.equations q u.0 u.1) reads_it f),
-        ) where
-          there_In : {A : Type 0} (xs : List A) (k : ℕ) (x : A) → Stands xs k x → In x xs
-          there_In [] k x s = absurd cc
-          there_In (y ∷ xs) zero x s = let same : y ≡ x = cc in subst (λ z. In z (y ∷ xs)) same here
-          there_In (y ∷ xs) (suc k) x s = there (there_In xs k x s)
+        )
 
     machine_level : In out (outputs m) → slice_index (body_levels rank (body_of c (other m))) (place m.vars out) ≤ r + place m.vars out + 1
     machine_level o =

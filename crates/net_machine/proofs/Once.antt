@@ -9,8 +9,7 @@ pub settles_netlist : SettlesOnce → MachineSettlesNetlist
 settles_netlist law n l table m k t i is ordered seen fits vector =
     let step = is.step k seen in
     let one = law m (step.held t) i ordered (step.each t) vector in
-    let b = step.back t i one.0 fits one.1 in
-    (
+    let b = step.back t i one.0 fits one.1 in (
       b.0,
       b.1.net,
       λ v h.

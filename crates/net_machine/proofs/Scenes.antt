@@ -152,11 +152,11 @@ output_shown s i m q j out =
         | inr w ↦ elim w [
           | inl v ↦ absurd (no_supply x _ v d)
           | inr g ↦
-            let out_test : not (is_input x.dir) ≡ true = rw d refl in
-            let o : In x.name (cell_outputs m.seat.cell) = In-map (λ (p : Port). p.name) x (filter (λ (p : Port). not (is_input p.dir)) (pin_ports m.seat.cell)) (filter-In (λ (p : Port). not (is_input p.dir)) (pin_ports m.seat.cell) x g out_test) in
-            let t : In x.name (map (λ (y : Shown). y.pin) (body_of m.seat.cell m.seat.cell.function).shows) =
-            subst (λ (ns : List Name). In x.name ns) (sym (shown_pins m.seat.cell m.seat.cell.function m.seat.formed.function (not_opaque s i m))) o in
-            let u = In-map_back (λ (y : Shown). y.pin) x.name (body_of m.seat.cell m.seat.cell.function).shows t in
-            (u.0, subst (λ (b : Body). In u.0 b.shows) (sym (body_is s i m)) u.1, u.2 ∙ e)
+              let out_test : not (is_input x.dir) ≡ true = rw d refl in
+              let o : In x.name (cell_outputs m.seat.cell) = In-map (λ (p : Port). p.name) x (filter (λ (p : Port). not (is_input p.dir)) (pin_ports m.seat.cell)) (filter-In (λ (p : Port). not (is_input p.dir)) (pin_ports m.seat.cell) x g out_test) in
+              let t : In x.name (map (λ (y : Shown). y.pin) (body_of m.seat.cell m.seat.cell.function).shows) =
+              subst (λ (ns : List Name). In x.name ns) (sym (shown_pins m.seat.cell m.seat.cell.function m.seat.formed.function (not_opaque s i m))) o in
+              let u = In-map_back (λ (y : Shown). y.pin) x.name (body_of m.seat.cell m.seat.cell.function).shows t in
+              (u.0, subst (λ (b : Body). In u.0 b.shows) (sym (body_is s i m)) u.1, u.2 ∙ e)
         ]
       ]

@@ -138,20 +138,20 @@ pub driven_if : (s : Scene) (i : Instance) (at : ℕ) (y : List Bool) → IsBody
     → (d : Numbered) → In d (body_driven s.class i.name (body_in s i) at) → Driven y d
 driven_if s i at y over h d j = elim (In-split d (inner_from table (at + length b.loads) b.inner) (shown_from s.class i.name table b.shows) j) [
   | inl a ↦
-    let w = inner_place table (at + length b.loads) b.inner d a in
-    let low = slice_get_within b.inner w.0 w.1 w.2 in
-    let o : IsOver w.1 (bits_count b) = subst (λ (x : Expression). IsOver x (bits_count b)) (get_or_from_slice_get b.inner w.0 w.1 w.1 w.2) (over.inner w.0 w.1 low) in
-    let k : length b.reads + length b.loads + w.0 ≡ length b.reads + (length b.loads + w.0) = omega arith in
-    let k2 : at + (length b.loads + w.0) ≡ at + length b.loads + w.0 = omega arith in
-    let v : bit y (at + length b.loads + w.0) ≡ val (renumbered table w.1) y =
-    sym (ap (bit (local s y i at)) k ∙ own_bit s.class i.name b at y (length b.loads + w.0) (omega (arith, low)) ∙ ap (bit y) k2) ∙ h.inner w.0 w.1 w.2 ∙ sym (value_here s.class i.name b at y w.1 o) in
-    subst (Driven y) (sym w.3) v
+      let w = inner_place table (at + length b.loads) b.inner d a in
+      let low = slice_get_within b.inner w.0 w.1 w.2 in
+      let o : IsOver w.1 (bits_count b) = subst (λ (x : Expression). IsOver x (bits_count b)) (get_or_from_slice_get b.inner w.0 w.1 w.1 w.2) (over.inner w.0 w.1 low) in
+      let k : length b.reads + length b.loads + w.0 ≡ length b.reads + (length b.loads + w.0) = omega arith in
+      let k2 : at + (length b.loads + w.0) ≡ at + length b.loads + w.0 = omega arith in
+      let v : bit y (at + length b.loads + w.0) ≡ val (renumbered table w.1) y =
+      sym (ap (bit (local s y i at)) k ∙ own_bit s.class i.name b at y (length b.loads + w.0) (omega (arith, low)) ∙ ap (bit y) k2) ∙ h.inner w.0 w.1 w.2 ∙ sym (value_here s.class i.name b at y w.1 o) in
+      subst (Driven y) (sym w.3) v
   | inr a ↦
-    let w = In-map_back (λ (z : Shown). record { bit = s.class (pin_of i.name z.pin); expr = renumbered table z.expr }) d b.shows a in
-    let e = shown_each (λ (x : Shown). val x.expr (local s y i at)) (λ (x : Shown). bit y (s.class (pin_of i.name x.pin))) b.shows h.shows w.0 w.1 in
-    let v : bit y (s.class (pin_of i.name w.0.pin)) ≡ val (renumbered table w.0.expr) y =
-    sym e ∙ sym (value_here s.class i.name b at y w.0.expr (All_is (λ (z : Shown). IsOver z.expr (bits_count b)) b.shows over.shows w.0 w.1)) in
-    subst (Driven y) w.2 v
+      let w = In-map_back (λ (z : Shown). record { bit = s.class (pin_of i.name z.pin); expr = renumbered table z.expr }) d b.shows a in
+      let e = shown_each (λ (x : Shown). val x.expr (local s y i at)) (λ (x : Shown). bit y (s.class (pin_of i.name x.pin))) b.shows h.shows w.0 w.1 in
+      let v : bit y (s.class (pin_of i.name w.0.pin)) ≡ val (renumbered table w.0.expr) y =
+      sym e ∙ sym (value_here s.class i.name b at y w.0.expr (All_is (λ (z : Shown). IsOver z.expr (bits_count b)) b.shows over.shows w.0 w.1)) in
+      subst (Driven y) w.2 v
 ] where
   b : Body
   b = body_in s i
@@ -274,8 +274,7 @@ drives s i at y w t c (other m) g is h held fit inner =
     let r = machine_settles c m ins (t i.name) rest (local s y i at) (pins_shown s y i) fits.1 (three ∙ ap (λ (xs : List Bool). ins ++ (xs ++ rest)) hs)
     (length-map (map (λ (pin : Name). s.class (pin_of i.name pin)) (inputs m)) (bit y) ∙ length-map (inputs m) (λ (pin : Name). s.class (pin_of i.name pin))) fit h in
     let same : ins ≡ pin_bits (seen_net s) w.classes i.name (inputs m) =
-    ap (λ (x : Body). map (bit y) (map (λ (pin : Name). s.class (pin_of i.name pin)) x.reads)) (sym b) ∙ reads_agree s i at y w c g ∙ ap (λ (x : Body). pin_bits (seen_net s) w.classes i.name x.reads) b in
-    (
+    ap (λ (x : Body). map (bit y) (map (λ (pin : Name). s.class (pin_of i.name pin)) x.reads)) (sym b) ∙ reads_agree s i at y w c g ∙ ap (λ (x : Body). pin_bits (seen_net s) w.classes i.name x.reads) b in (
       subst (λ (v : List Bool). Settles m (t i.name) (pin_bits (seen_net s) w.classes i.name (inputs m)) v) (sym inner) (subst (λ (v : List Bool). Settles m (t i.name) v (local s y i at)) same r.0),
       ap (pin_bits (seen_net s) w.classes i.name) (machine_outputs c m fits.0) ∙ outs_agree s i at y w c g ∙ r.1 ∙ ap (outs m) (sym inner),
     )

@@ -395,11 +395,10 @@ module _ (s : Scene) (t : Contents) (i : List Bool) (w : Valuation) (h : NetSett
       → IsLocal f (local s (bits_of_net s t w) k at) (w.inner k.name) × (map (bit (bits_of_net s t w)) (rising at (length (body_of m.seat.cell f).loads)) ≡ held_in f (t k.name))
   pieces_in k at m p (gate e) is = (tt, refl)
   pieces_in k at m p (flip_flop a b) is =
-      let body = body_seat s k m ∙ ap (body_of m.seat.cell) is in
-      (
+      let body = body_seat s k m ∙ ap (body_of m.seat.cell) is in (
         tt,
         ap (λ (x : Body). map (bit (bits_of_net s t w)) (rising at (width x))) (sym body) ∙ own_block k at p ∙ ap (λ (o : Option Cell). block_at_cell o (t k.name) (w.inner k.name)) m.seat.found
-        ∙ ap (λ (f : Function). block_in f (t k.name) (w.inner k.name)) is,
+            ∙ ap (λ (f : Function). block_in f (t k.name) (w.inner k.name)) is,
       )
   pieces_in k at m p (other o) is =
       let body = body_seat s k m ∙ ap (body_of m.seat.cell) is in
@@ -422,8 +421,7 @@ module _ (s : Scene) (t : Contents) (i : List Bool) (w : Valuation) (h : NetSett
       let cut : map (bit (bits_of_net s t w)) (rising at lr) ≡ take (length o.registers) (map (bit (bits_of_net s t w)) (rising at (lr + lq))) =
       sym (ap (λ (xs : List ℕ). take (length o.registers) (map (bit (bits_of_net s t w)) xs)) (rising_split at lr lq)
       ∙ ap (take (length o.registers)) (map-append (bit (bits_of_net s t w)) (rising at lr) (rising (at + lr) lq))
-      ∙ take_front (map (bit (bits_of_net s t w)) (rising at lr)) (map (bit (bits_of_net s t w)) (rising (at + lr) lq)) (length o.registers) (sym n ∙ sym (length-map (rising at lr) (bit (bits_of_net s t w)) ∙ rising_count at lr))) in
-      (
+      ∙ take_front (map (bit (bits_of_net s t w)) (rising at lr)) (map (bit (bits_of_net s t w)) (rising (at + lr) lq)) (length o.registers) (sym n ∙ sym (length-map (rising at lr) (bit (bits_of_net s t w)) ∙ rising_count at lr))) in (
         sym here_is,
         cut ∙ ap (take (length o.registers)) whole ∙ q.2 ∙ sym (held_itself o (t k.name) held_len),
       )
@@ -475,8 +473,8 @@ module _ (s : Scene) (t : Contents) (i : List Bool) (w : Valuation) (h : NetSett
     | inr b ↦ elim (In-split d (classes_driven s.class s.n.count s.n.ports) (all_driven s (first s) s.n.instances) b) [
       | inl c ↦ let r = port_class_by s s.n.count s.n.ports d c in class r.0 r.1 r.2 r.3 r.1.dir r.4
       | inr c ↦
-        let r = driven_by s (first s) s.n.instances d c in
-        driven_if s r.i r.at (bits_of_net s t w) (fine_over s.n s.l s.table s.ground r.i (placed_in s (first s) s.n.instances r.i r.at r.place)) (holds_at r.i r.at r.place) d r.among
+          let r = driven_by s (first s) s.n.instances d c in
+          driven_if s r.i r.at (bits_of_net s t w) (fine_over s.n s.l s.table s.ground r.i (placed_in s (first s) s.n.instances r.i r.at r.place)) (holds_at r.i r.at r.place) d r.among
     ]
   ] where
     one : (x : Numbered) → Driven (bits_of_net s t w) x → In d (x ∷ []) → Driven (bits_of_net s t w) d
@@ -631,8 +629,7 @@ keeps_step s text m is = record {
   back t i x fit h =
       let y = bits_shown (system s) m x in
       let settles = is.forth (held_all s s.n.instances t) i x h in
-      let n = net_settles s t i y fit settles in
-      (
+      let n = net_settles s t i y fit settles in (
         net_of_bits s y,
         record {
           net = as_machine s text m is t i (net_of_bits s y) n;
@@ -652,8 +649,7 @@ keeps_step s text m is = record {
       let b = is.back (held_all s s.n.instances t) i (bits_of_net s t w) settles in
       let e : bits_of_net s t w ≡ bits_shown (system s) m b.0 = sym b.2 in
       let shown_settles : BitsSettle (system s) (held_all s s.n.instances t) i (bits_shown (system s) m b.0) = subst (λ (y : List Bool). BitsSettle (system s) (held_all s s.n.instances t) i y) e settles in
-      let agree_shown : AgreeBelow s.n.count w.classes (bits_shown (system s) m b.0) = subst (λ (y : List Bool). AgreeBelow s.n.count w.classes y) e (agree s t i w h) in
-      (
+      let agree_shown : AgreeBelow s.n.count w.classes (bits_shown (system s) m b.0) = subst (λ (y : List Bool). AgreeBelow s.n.count w.classes y) e (agree s t i w h) in (
         b.0,
         record {
           net = g;

@@ -155,7 +155,7 @@ all_once s =
         rest c low where_is = elim (In-split x (classes_part s) (driven_part s) c) [
           | inl d ↦ let r = input_class_low s x (class_in s.class s.n.count s.n.ports x d) in omega (arith, low, r)
           | inr d ↦ elim (driven_cases s (first s) s.n.instances x d) [
-            | inl i ↦ elim where_is [ | inl h ↦ i.apart h | inr l ↦ let q = i.low in omega (arith, q, l) ]
+            | inl i ↦ elim where_is [ inl h ↦ i.apart h | inr l ↦ let q = i.low in omega (arith, q, l) ]
             | inr o ↦ let q = shown_low s o.i o.listed o.shown o.among in let e = o.at in omega (arith, low, q, e)
           ]
         ]
@@ -312,10 +312,10 @@ names_different s =
     elim (In-split x ports inner b) [
       | inl c ↦ by x r.0 r.2 (port_name_is s s.n.count s.n.ports x c) (inl l.1)
       | inr c ↦
-        let q = In-map_back (own_name s.text) x (rising (first s) (widths s.l s.n.instances)) c in
-        let m = In-rising (first s) (widths s.l s.n.instances) q.0 q.1 in
-        let same = own_tell s r.0 q.0 (r.2 ∙ sym q.2) in
-        let lo = l.1 in let hi = m.0 in omega (arith, lo, hi, same)
+          let q = In-map_back (own_name s.text) x (rising (first s) (widths s.l s.n.instances)) c in
+          let m = In-rising (first s) (widths s.l s.n.instances) q.0 q.1 in
+          let same = own_tell s r.0 q.0 (r.2 ∙ sym q.2) in
+          let lo = l.1 in let hi = m.0 in omega (arith, lo, hi, same)
     ]) where
       own : List Name
       own = map (own_name s.text) (rising 0 s.n.count)
@@ -377,9 +377,9 @@ numbers_low s i li base total l h k low =
     let inside : k < length table = omega (arith, low, n, m, c) in
     elim (In-split (slice_index table k) (map (λ (pin : Name). s.class (pin_of i.name pin)) b.reads) (rising base (width b)) (In-at table k 0 inside)) [
       | inl a ↦
-        let r = In-map_back (λ (pin : Name). s.class (pin_of i.name pin)) (slice_index table k) b.reads a in
-        let q = read_low r.0 r.1 in
-        let e = r.2 in omega (arith, q, e, l)
+          let r = In-map_back (λ (pin : Name). s.class (pin_of i.name pin)) (slice_index table k) b.reads a in
+          let q = read_low r.0 r.1 in
+          let e = r.2 in omega (arith, q, e, l)
       | inr a ↦ let r = In-rising base (width b) (slice_index table k) a in let t = r.1 in omega (arith, t, h)
     ] where
       read_low : (pin : Name) → In pin (body_in s i).reads → s.class (pin_of i.name pin) < s.n.count
@@ -417,12 +417,12 @@ stored_over : (s : Scene) (base total : ℕ) (is : List Instance) → ((i : Inst
 stored_over s base total [] inside l h r j = elim j [ ]
 stored_over s base total (i ∷ is) inside l h r j = elim (In-split r (body_stored s.class i.name (body_in s i) base) (all_stored s (base + width (body_in s i)) is) j) [
   | inl a ↦
-    let b = body_in s i in
-    let w = In-stored_from (numbers s.class i.name b base) base b.loads r a in
-    let o = body_is_over s i (inside i here) in (
-      subst (λ (e : Expression). IsOver e total) (sym w.2) (expr_over s i (inside i here) base total l (omega (arith, h)) w.0.next (All_is (λ (x : Load). IsOver x.next (bits_count b)) b.loads o.next w.0 w.1)),
-      subst (λ (e : Expression). IsOver e total) (sym w.3) (expr_over s i (inside i here) base total l (omega (arith, h)) w.0.enable (All_is (λ (x : Load). IsOver x.enable (bits_count b)) b.loads o.enable w.0 w.1)),
-    )
+      let b = body_in s i in
+      let w = In-stored_from (numbers s.class i.name b base) base b.loads r a in
+      let o = body_is_over s i (inside i here) in (
+        subst (λ (e : Expression). IsOver e total) (sym w.2) (expr_over s i (inside i here) base total l (omega (arith, h)) w.0.next (All_is (λ (x : Load). IsOver x.next (bits_count b)) b.loads o.next w.0 w.1)),
+        subst (λ (e : Expression). IsOver e total) (sym w.3) (expr_over s i (inside i here) base total l (omega (arith, h)) w.0.enable (All_is (λ (x : Load). IsOver x.enable (bits_count b)) b.loads o.enable w.0 w.1)),
+      )
   | inr a ↦ stored_over s (base + width (body_in s i)) total is (λ k m. inside k (there m)) l (omega (arith, h)) r a
 ]
 
@@ -442,11 +442,11 @@ driven_over s base total (i ∷ is) inside l h d j = elim (In-split d (body_driv
   own : In d (body_driven s.class i.name b base) → IsOver d.expr total
   own a = elim (In-split d (inner_from table (base + length b.loads) b.inner) (shown_from s.class i.name table b.shows) a) [
     | inl c ↦
-      let w = In-inner_from table (base + length b.loads) b.inner d c in
-      subst (λ (e : Expression). IsOver e total) (sym w.2) (expr_over s i (inside i here) base total l (omega (arith, h)) w.0 (All_is (λ (e : Expression). IsOver e (bits_count b)) b.inner (body_is_over s i (inside i here)).inner w.0 w.1))
+        let w = In-inner_from table (base + length b.loads) b.inner d c in
+        subst (λ (e : Expression). IsOver e total) (sym w.2) (expr_over s i (inside i here) base total l (omega (arith, h)) w.0 (All_is (λ (e : Expression). IsOver e (bits_count b)) b.inner (body_is_over s i (inside i here)).inner w.0 w.1))
     | inr c ↦
-      let w = In-map_back (λ (x : Shown). record { bit = s.class (pin_of i.name x.pin); expr = renumbered table x.expr }) d b.shows c in
-      subst (λ (y : Numbered). IsOver y.expr total) w.2 (expr_over s i (inside i here) base total l (omega (arith, h)) w.0.expr (All_is (λ (x : Shown). IsOver x.expr (bits_count b)) b.shows (body_is_over s i (inside i here)).shows w.0 w.1))
+        let w = In-map_back (λ (x : Shown). record { bit = s.class (pin_of i.name x.pin); expr = renumbered table x.expr }) d b.shows c in
+        subst (λ (y : Numbered). IsOver y.expr total) w.2 (expr_over s i (inside i here) base total l (omega (arith, h)) w.0.expr (All_is (λ (x : Shown). IsOver x.expr (bits_count b)) b.shows (body_is_over s i (inside i here)).shows w.0 w.1))
   ]
 
 pub is_system : (s : Scene) → IsSystem (system s)

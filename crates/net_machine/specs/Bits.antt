@@ -120,7 +120,7 @@ total_bits n l = first_base n + widths l n.instances
 abbrev pub net_system : List ℕ → (Terminal → ℕ) → InMemory → Library → Option Name → System
 net_system text class n l clock = record {
   names = map (own_name text) (rising 0 n.count)
-    ++ (port_names text clock n.count n.ports ++ map (own_name text) (rising (first_base n) (widths l n.instances)));
+      ++ (port_names text clock n.count n.ports ++ map (own_name text) (rising (first_base n) (widths l n.instances)));
   inputs = port_inputs clock n.count n.ports;
   stored = flat_map (placed_stored class) (placed n l);
   driven = port_driven class clock n.count n.ports ++ (classes_driven class n.count n.ports ++ flat_map (placed_driven class) (placed n l));
