@@ -158,7 +158,7 @@ driven_cases s base (i ∷ is) x h =
 -- each bit of the instances' own is held or driven
 pub own_parts : (s : Scene) (base : ℕ) (is : List Instance) (x : ℕ) → base ≤ x → x < base + widths s.l is → In x (held_of (all_stored s base is)) ⊎ In x (bits_of (all_driven s base is))
 own_parts s base [] x l h = absurd (omega (arith, l, h))
-own_parts s base (i ∷ is) x l h = by (cases_lt x (base + length b.loads)) (cases_lt x (base + width b)) where
+own_parts s base (i ∷ is) x l h = by (cases_lt x (base + length b.loads)) (cases_lt x (base + width b)) (own_parts s (base + width b) is x) where
   b : Body
   b = body_in s i
 
@@ -168,13 +168,14 @@ own_parts s base (i ∷ is) x l h = by (cases_lt x (base + length b.loads)) (cas
   rest : List ℕ
   rest = bits_of (all_driven s (base + width b) is)
 
-  by : (x < base + length b.loads) ⊎ (base + length b.loads ≤ x) → (x < base + width b) ⊎ (base + width b ≤ x) → In x (held_of (all_stored s base (i ∷ is))) ⊎ In x (bits_of (all_driven s base (i ∷ is)))
-  by (inl m) c =
+  by : (x < base + length b.loads) ⊎ (base + length b.loads ≤ x) → (x < base + width b) ⊎ (base + width b ≤ x) → (base + width b ≤ x → x < base + width b + widths s.l is → In x held ⊎ In x rest)
+      → In x (held_of (all_stored s base (i ∷ is))) ⊎ In x (bits_of (all_driven s base (i ∷ is)))
+  by (inl m) c go =
       inl (subst (λ (xs : List ℕ). In x xs) (sym (stored_cons s base i is)) (In-left x (rising base (length b.loads)) held (rising-In base (length b.loads) x l m)))
-  by (inr m) (inl k) =
+  by (inr m) (inl k) go =
       inr (subst (λ (xs : List ℕ). In x xs) (sym (driven_cons s base i is)) (In-left x (own_bits s.class i.name b base) rest
       (In-left x (rising (base + length b.loads) (length b.inner)) (map (λ (y : Shown). s.class (pin_of i.name y.pin)) b.shows) (rising-In (base + length b.loads) (length b.inner) x m (omega (arith, k))))))
-  by (inr m) (inr k) = elim (own_parts s (base + width b) is x k (omega (arith, h))) [
+  by (inr m) (inr k) go = elim (go k (omega (arith, h))) [
     | inl a ↦ inl (subst (λ (xs : List ℕ). In x xs) (sym (stored_cons s base i is)) (In-right x (rising base (length b.loads)) held a))
     | inr a ↦ inr (subst (λ (xs : List ℕ). In x xs) (sym (driven_cons s base i is)) (In-right x (own_bits s.class i.name b base) rest a))
   ]

@@ -95,7 +95,7 @@ machine_bits c m h =
     let b = length-append (inputs m) (register_names m) in
     let r = length-map m.registers (λ (r : Register). r.name) in
     let e = length-map m.equations (λ (e : Equation). e.name) in
-    let rl = length-map m.registers (λ (r : Register). record { next = r.next; enable = r.enable }) in
+    let rl = length-map {B = Load} m.registers (λ (r : Register). record { next = r.next; enable = r.enable }) in
     let el = length-map m.equations (λ (e : Equation). e.expr) in
     omega (arith, v, a, b, r, e, rl, el)
 

@@ -40,6 +40,7 @@ use Rattle.net_core.specs.Checks.{pins_named, Fits, port_role, pin_role, tally, 
 use Rattle.net_core.proofs.Lookups.{same_of, itself}
 use Rattle.net_core.proofs.Finishing.{class_once}
 use Rattle.net_core.proofs.Rings.{at_place, class_below}
+use Rattle.net_view.proofs.Ports.{supplies_differ}
 use Rattle.net_view.specs.Condition.{AreTogether, MeetsCondition}
 use Rattle.net_machine.specs.Signals.{HasClockPin, IsClockPort, IsOpaque, HasBehaviour}
 use Rattle.net_machine.specs.Body.{Shown, Body, body_of, body_at}
@@ -174,7 +175,7 @@ pub all_cases : (c : Cell) (x : Port) → In x (all_ports c) → (supply vss ≡
 all_cases c x i = elim (supplied_cases vss (with_supply vdd (pin_ports c)) x i) [ inl e ↦ inl e | inr j ↦ inr (supplied_cases vdd (pin_ports c) x j) ]
 
 pub vdd_in : (c : Cell) → In (supply vdd) (all_ports c)
-vdd_in c = in_supplied vss (with_supply vdd (pin_ports c)) (supply vdd) (λ e. let no = ap (λ (n : Name). n.text) e in absurd cc) (supply_in vdd (pin_ports c))
+vdd_in c = in_supplied vss (with_supply vdd (pin_ports c)) (supply vdd) supplies_differ (supply_in vdd (pin_ports c))
 
 pub vss_in : (c : Cell) → In (supply vss) (all_ports c)
 vss_in c = supply_in vss (with_supply vdd (pin_ports c))

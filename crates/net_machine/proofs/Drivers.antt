@@ -355,12 +355,16 @@ some_driver table n sound c low = counted_in table n sound drivers is_driver dri
 
   enough : 1 ≤ drivers (tally table n c)
   enough = by (tally table n c) some (sound.classes fault.Unconnected c low) (sound.classes fault.NoDriver c low) where
+    three : (a b c : Bool) → a ≡ false → (not a && b && c) ≡ false → (b && c) ≡ false
+    three false b c e f = f
+    three true b c e f = absurd cc
+
     by : (t : Tally) → 1 ≤ all_of t → is_unconnected t ≡ false → is_undriven t ≡ false → 1 ≤ drivers t
     by t l e f = cases (cases_lt 0 (drivers t)) where
       cases : (0 < drivers t) ⊎ (drivers t ≤ 0) → 1 ≤ drivers t
       cases (inl s) = omega (arith, s)
       cases (inr z) =
-          let g : (nat_le 1 (t.input_pins + t.clock_pins + t.output_ports) && nat_eq (drivers t) 0) ≡ false = ap (λ b. not b && (nat_le 1 (t.input_pins + t.clock_pins + t.output_ports) && nat_eq (drivers t) 0)) (sym e) ∙ f in
+          let g : (nat_le 1 (t.input_pins + t.clock_pins + t.output_ports) && nat_eq (drivers t) 0) ≡ false = three (is_unconnected t) (nat_le 1 (t.input_pins + t.clock_pins + t.output_ports)) (nat_eq (drivers t) 0) e f in
           let a : nat_le 1 (t.input_pins + t.clock_pins + t.output_ports) ≡ true = grind (arith, nat_tests) in
           let b : nat_eq (drivers t) 0 ≡ true = eq-eqb (drivers t) 0 (omega (arith, z)) in
           let no : true ≡ false = sym (ap (λ x. x && nat_eq (drivers t) 0) a ∙ b) ∙ g in absurd cc

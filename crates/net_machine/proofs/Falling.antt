@@ -64,11 +64,11 @@ position (y ∷ ys) x = cond (nat_eq y x) 0 (suc (position ys x))
 
 position_at : (ys : List ℕ) (x k : ℕ) → Stands ys k x → Stands ys (position ys x) x
 position_at [] x k s = absurd cc
-position_at (y ∷ ys) x k s = by (nat_eq y x) refl k s where
-  by : (b : Bool) → nat_eq y x ≡ b → (k : ℕ) → Stands (y ∷ ys) k x → Stands (y ∷ ys) (cond b 0 (suc (position ys x))) x
-  by true e k s = ap (λ z. Some z) (eqb-true y x e)
-  by false e zero s = let same : y ≡ x = cc in let t = eq-eqb y x same in let no : true ≡ false = sym t ∙ e in absurd cc
-  by false e (suc k) s = position_at ys x k s
+position_at (y ∷ ys) x k s = by (nat_eq y x) refl k s (position_at ys x) where
+  by : (b : Bool) → nat_eq y x ≡ b → (k : ℕ) → Stands (y ∷ ys) k x → ((j : ℕ) → Stands ys j x → Stands ys (position ys x) x) → Stands (y ∷ ys) (cond b 0 (suc (position ys x))) x
+  by true e k s rest = ap (λ z. Some z) (eqb-true y x e)
+  by false e zero s rest = let same : y ≡ x = cc in let t = eq-eqb y x same in let no : true ≡ false = sym t ∙ e in absurd cc
+  by false e (suc k) s rest = rest k s
 
 -- ---- ranks of classes
 
@@ -79,26 +79,27 @@ is_fed class (p ∷ ps) x = cond (is_input p.dir && nat_eq (class (port p.name))
 
 fed : (class : Terminal → ℕ) (ps : List Port) (x : ℕ) → is_fed class ps x ≡ true → (p : Port) × In p ps × (p.dir ≡ dir.In) × (class (port p.name) ≡ x)
 fed class [] x e = absurd cc
-fed class (p ∷ ps) x e = by p.dir (nat_eq (class (port p.name)) x) refl refl e where
-  by : (d : Dir) (b : Bool) → p.dir ≡ d → nat_eq (class (port p.name)) x ≡ b → cond (is_input d && b) true (is_fed class ps x) ≡ true → (q : Port) × In q (p ∷ ps) × (q.dir ≡ dir.In) × (class (port q.name) ≡ x)
-  by dir.In true f g h = (p, here, f, eqb-true (class (port p.name)) x g)
-  by dir.In false f g h = let r = fed class ps x h in (r.0, there r.1, r.2, r.3)
-  by dir.Out b f g h = let r = fed class ps x h in (r.0, there r.1, r.2, r.3)
+fed class (p ∷ ps) x e = by p.dir (nat_eq (class (port p.name)) x) refl refl e (fed class ps x) where
+  by : (d : Dir) (b : Bool) → p.dir ≡ d → nat_eq (class (port p.name)) x ≡ b → cond (is_input d && b) true (is_fed class ps x) ≡ true
+      → (is_fed class ps x ≡ true → (q : Port) × In q ps × (q.dir ≡ dir.In) × (class (port q.name) ≡ x)) → (q : Port) × In q (p ∷ ps) × (q.dir ≡ dir.In) × (class (port q.name) ≡ x)
+  by dir.In true f g h rest = (p, here, f, eqb-true (class (port p.name)) x g)
+  by dir.In false f g h rest = let r = rest h in (r.0, there r.1, r.2, r.3)
+  by dir.Out b f g h rest = let r = rest h in (r.0, there r.1, r.2, r.3)
 
 feeds : (class : Terminal → ℕ) (ps : List Port) (p : Port) → In p ps → p.dir ≡ dir.In → is_fed class ps (class (port p.name)) ≡ true
-feeds class (q ∷ ps) p i d = by (In-cases p q ps i) where
+feeds class (q ∷ ps) p i d = by (In-cases p q ps i) (λ h. feeds class ps p h d) where
   right : (b : Bool) → cond b true true ≡ true
   right true = refl
   right false = refl
 
-  by : (q ≡ p) ⊎ In p ps → cond (is_input q.dir && nat_eq (class (port q.name)) (class (port p.name))) true (is_fed class ps (class (port p.name))) ≡ true
-  by (inl e) =
+  by : (q ≡ p) ⊎ In p ps → (In p ps → is_fed class ps (class (port p.name)) ≡ true) → cond (is_input q.dir && nat_eq (class (port q.name)) (class (port p.name))) true (is_fed class ps (class (port p.name))) ≡ true
+  by (inl e) rest =
       let a : is_input q.dir ≡ true = ap (λ (x : Port). is_input x.dir) e ∙ ap is_input d in
       let b : nat_eq (class (port q.name)) (class (port p.name)) ≡ true = eq-eqb (class (port q.name)) (class (port p.name)) (ap (λ (x : Port). class (port x.name)) e) in
       ap (λ t. cond (t && nat_eq (class (port q.name)) (class (port p.name))) true (is_fed class ps (class (port p.name)))) a
       ∙ ap (λ t. cond t true (is_fed class ps (class (port p.name)))) b
-  by (inr h) =
-      ap (λ t. cond (is_input q.dir && nat_eq (class (port q.name)) (class (port p.name))) true t) (feeds class ps p h d)
+  by (inr h) rest =
+      ap (λ t. cond (is_input q.dir && nat_eq (class (port q.name)) (class (port p.name))) true t) (rest h)
       ∙ right (is_input q.dir && nat_eq (class (port q.name)) (class (port p.name)))
 feeds class [] p i d = elim i [ ]
 
@@ -146,10 +147,10 @@ picked_in {A} P _ _ x (skips {x = z} {xs = xs} {ys = ys} p more) i h = elim (In-
 
 first_places_in : (n k : ℕ) → k < n → In k (first_places n)
 first_places_in zero k l = absurd (omega (arith, l))
-first_places_in (suc n) k l = by (cases_lt k n) where
-  by : (k < n) ⊎ (n ≤ k) → In k (first_places n ++ n ∷ [])
-  by (inl m) = In-left k (first_places n) (n ∷ []) (first_places_in n k m)
-  by (inr m) = let e : n ≡ k = omega (arith, l, m) in In-right k (first_places n) (n ∷ []) (subst (λ j. In j (n ∷ [])) e here)
+first_places_in (suc n) k l = by (cases_lt k n) (first_places_in n k) where
+  by : (k < n) ⊎ (n ≤ k) → (k < n → In k (first_places n)) → In k (first_places n ++ n ∷ [])
+  by (inl m) rest = In-left k (first_places n) (n ∷ []) (rest m)
+  by (inr m) rest = let e : n ≡ k = omega (arith, l, m) in In-right k (first_places n) (n ∷ []) (subst (λ j. In j (n ∷ [])) e here)
 
 num_rising : (k n j : ℕ) → j < n → slice_index (rising k n) j ≡ k + j
 num_rising k zero j l = absurd (omega (arith, l))

@@ -150,7 +150,7 @@ registers_in_order s =
 
 ports_in_order : (s : Scene) → AreInOrder (names_of (signal_ports s.n.ports))
 ports_in_order s i j d low high =
-    before_less _ _
+    before_less (get_or (names_of (signal_ports s.n.ports)) i d) (get_or (names_of (signal_ports s.n.ports)) j d)
     (sorted_pairs (signal_ports s.n.ports) (sorted_filter (λ (p : Port). not (is_supply p.name.text)) s.n.ports (sorted_of s.n.ports s.ground.netlist.ports)) i j d low high)
 
 -- ---- supplies
@@ -324,10 +324,9 @@ pub picked : {A : Type 0} (clock : Option Name) (f : ℕ → A) (g : Name → A)
     → ((j : ℕ) (p : Port) → j < length ps → get_or ps j p ≡ p → is_input p.dir ≡ true → is_signal clock p ≡ true → f (k + j) ≡ g p.name)
     → map f (port_inputs clock k ps) ≡ map g (inputs_of clock (signal_ports ps))
 picked clock f g k [] at = refl
-picked {A} clock f g k (p ∷ ps) at = by (is_supply p.name.text) (is_input p.dir) (is_clock clock p.name) refl refl refl where
-  rest : map f (port_inputs clock (k + 1) ps) ≡ map g (inputs_of clock (signal_ports ps))
-  rest = picked clock f g (k + 1) ps (λ j q l e d s. let z : k + 1 + j ≡ k + suc j = omega arith in ap f z ∙ at (suc j) q (omega (arith, l)) e d s)
-
+picked {A} clock f g k (p ∷ ps) at =
+    by (is_supply p.name.text) (is_input p.dir) (is_clock clock p.name) refl refl refl
+    (picked clock f g (k + 1) ps (λ j q l e d s. let z : k + 1 + j ≡ k + suc j = omega arith in ap f z ∙ at (suc j) q (omega (arith, l)) e d s)) where
   head : is_input p.dir ≡ true → is_signal clock p ≡ true → f k ≡ g p.name
   head d e = let z : k ≡ k + 0 = omega arith in ap f z ∙ at 0 p (omega arith) refl d e
 
@@ -347,17 +346,18 @@ picked {A} clock f g k (p ∷ ps) at = by (is_supply p.name.text) (is_input p.di
   both true c = refl
   both false c = refl
 
-  by : (a b c : Bool) → is_supply p.name.text ≡ a → is_input p.dir ≡ b → is_clock clock p.name ≡ c → map f (port_inputs clock k (p ∷ ps)) ≡ map g (inputs_of clock (signal_ports (p ∷ ps)))
-  by true b c e d h =
+  by : (a b c : Bool) → is_supply p.name.text ≡ a → is_input p.dir ≡ b → is_clock clock p.name ≡ c → map f (port_inputs clock (k + 1) ps) ≡ map g (inputs_of clock (signal_ports ps))
+      → map f (port_inputs clock k (p ∷ ps)) ≡ map g (inputs_of clock (signal_ports (p ∷ ps)))
+  by true b c e d h rest =
       let x : (is_input p.dir && is_signal clock p) ≡ false = rw (e, d, h) (both b c) in
       ap numbered x ∙ rest ∙ sym (ap (λ t. map g (inputs_of clock (kept t))) e)
-  by false false c e d h =
+  by false false c e d h rest =
       let x : (is_input p.dir && is_signal clock p) ≡ false = rw d refl in
       ap numbered x ∙ rest ∙ sym (ap (λ t. map g (inputs_of clock (kept t))) e ∙ ap (λ t. map g (taken t)) d)
-  by false true true e d h =
+  by false true true e d h rest =
       let x : (is_input p.dir && is_signal clock p) ≡ false = rw (e, d, h) refl in
       ap numbered x ∙ rest ∙ sym (ap (λ t. map g (inputs_of clock (kept t))) e ∙ ap (λ t. map g (taken t)) d ∙ ap (λ t. map g (left t)) h)
-  by false true false e d h =
+  by false true false e d h rest =
       let y : is_signal clock p ≡ true = rw (e, h) refl in
       let x : (is_input p.dir && is_signal clock p) ≡ true = rw (e, d, h) refl in
       ap numbered x ∙ ap (λ z. z ∷ map f (port_inputs clock (k + 1) ps)) (head d y) ∙ ap (λ zs. g p.name ∷ zs) rest

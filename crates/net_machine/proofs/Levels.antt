@@ -158,7 +158,7 @@ pub start_count : (rank : Name → ℕ) (b : Body) → length (start_levels rank
 start_count rank b =
     let a = length-append (map rank b.reads) (replicate (length b.loads) 0) in
     let m = length-map b.reads rank in
-    let r = length-replicate (length b.loads) 0 in
+    let r = length-replicate {A = ℕ} (length b.loads) 0 in
     omega (arith, a, m, r)
 
 pub read_start : (rank : Name → ℕ) (b : Body) (k : ℕ) (d : Name) → k < length b.reads → slice_index (start_levels rank b) k ≡ rank (get_or b.reads k d)
@@ -186,7 +186,7 @@ held_count : (c : Cell) (m : Machine) → length (held_names m) ≡ length (body
 held_count c m =
     let a = length-append (inputs m) (register_names m) in
     let r = length-map m.registers (λ (r : Register). r.name) in
-    let l = length-map m.registers (λ (r : Register). record { next = r.next; enable = r.enable }) in
+    let l = length-map {B = Load} m.registers (λ (r : Register). record { next = r.next; enable = r.enable }) in
     omega (arith, a, r, l)
 
 pub inner_below : (c : Cell) (f : Function) → FitsPins c f → (q : ℕ) (e : Expression) (k : ℕ) → Stands (body_of c f).inner q e → In k (variables e)
@@ -225,7 +225,7 @@ module _ (c : Cell) (rank : Name → ℕ) (signals : (name : Name) → In name (
     held_length = length-append (inputs m) (register_names m) ∙ ap (λ n. length (inputs m) + n) (length-map m.registers (λ (x : Register). x.name))
 
     loads_length : length (body_of c (other m)).loads ≡ length m.registers
-    loads_length = length-map m.registers (λ (x : Register). record { next = x.next; enable = x.enable })
+    loads_length = length-map {B = Load} m.registers (λ (x : Register). record { next = x.next; enable = x.enable })
 
     vars_split : m.vars ≡ inputs m ++ (register_names m ++ equation_names m)
     vars_split = fits.1.ordered.vars ∙ append_assoc (inputs m) (register_names m) (equation_names m)

@@ -112,8 +112,8 @@ outs_shown m v h l =
     value_at_place m.vars v o h.ordered.different l
     (subst (λ (ns : List Name). In o ns) (sym h.ordered.vars) (In-right o (held_names m) (equation_names m) (h.driven o i))))
 
-registers_count : (m : Machine) → length (map (λ (r : Register). record { next = r.next; enable = r.enable }) m.registers) ≡ length (register_names m)
-registers_count m = length-map m.registers (λ (r : Register). record { next = r.next; enable = r.enable }) ∙ sym (length-map m.registers (λ (r : Register). r.name))
+registers_count : (m : Machine) → length {A = Load} (map (λ (r : Register). record { next = r.next; enable = r.enable }) m.registers) ≡ length (register_names m)
+registers_count m = length-map {B = Load} m.registers (λ (r : Register). record { next = r.next; enable = r.enable }) ∙ sym (length-map m.registers (λ (r : Register). r.name))
 
 -- ---- from the body to the machine, and back
 

@@ -89,10 +89,10 @@ class_in_is (u ∷ ts) (d ∷ cs) h zero t c p q =
     let same : u ≡ t = cc in
     let like : d ≡ c = cc in
     ap (λ b. cond b d (class_in ts cs t)) (subst (λ (x : Terminal). same_terminal u x ≡ true) same (terminal_itself u)) ∙ like
-class_in_is (u ∷ ts) (d ∷ cs) h (suc k) t c p q = by (same_terminal u t) refl where
-  by : (b : Bool) → same_terminal u t ≡ b → cond b d (class_in ts cs t) ≡ c
-  by false e = class_in_is ts cs (tail_once u ts h) k t c p q
-  by true e =
+class_in_is (u ∷ ts) (d ∷ cs) h (suc k) t c p q = by (same_terminal u t) refl (class_in_is ts cs (tail_once u ts h) k t c p q) where
+  by : (b : Bool) → same_terminal u t ≡ b → class_in ts cs t ≡ c → cond b d (class_in ts cs t) ≡ c
+  by false e rest = rest
+  by true e rest =
       let same = terminal_true u t e in
       let w = h 0 (suc k) t (ap Some same) p in absurd (omega (arith, w))
 
@@ -107,96 +107,6 @@ class_by_is n is = record { each = λ t k h. class_in_is (terminals n) n.classes
 pub known_fine : (n : InMemory) (l : Library) (table : List ModelPins) (known : List KnownParts) → IsNetlist n → IsChecked false l → IsTableOf l true table → MeetsCondition table n → KnowsModels n l known → AreKnown n known
 known_fine n l table known net checked table_is condition knows =
     record { library = l; knows = knows; fine = fine n l table (record { netlist = net; condition = condition; table_is = table_is; checked = checked }) }
-
--- the model of an instance, by its place
-model_opaque : (n : InMemory) (l : Library) (known : List KnownParts) → KnowsModels n l known → (place : ℕ) → place < length n.models → (d : KnownParts) → (get_or known place d).is_opaque ≡ opaque_at (cell_of l (get_or n.models place []))
-model_opaque n l known knows place low d =
-    let a = length-map known known_view in
-    let b = length-map n.models (λ (m : List ℕ). known_at (cell_of l m)) in
-    let c = ap length knows in
-    let within : place < length known = omega (arith, a, b, c, low) in
-    let left = get_or-map known_view known place d (known_view d) within in
-    let right = get_or-map (λ (m : List ℕ). known_at (cell_of l m)) n.models place [] (known_view d) low in
-    ap (λ (k : Known). k.is_unknown) (sym left ∙ ap (λ (ks : List Known). get_or ks place (known_view d)) knows ∙ right)
-
-opaque_true : (l : Library) (model : List ℕ) → IsOpaque l model → opaque_at (cell_of l model) ≡ true
-opaque_true l model h = ap opaque_at h.found ∙ ap is_opaque h.unknown
-
-opaque_is : (l : Library) (model : List ℕ) → opaque_at (cell_of l model) ≡ true → IsOpaque l model
-opaque_is l model e = by (cell_of l model) refl e where
-  is_it : (f : Function) → is_opaque f ≡ true → f ≡ opaque
-  is_it (gate x) e = absurd cc
-  is_it (flip_flop a b) e = absurd cc
-  is_it (other m) e = absurd cc
-  is_it opaque e = refl
-
-  by : (o : Option Cell) → cell_of l model ≡ o → opaque_at o ≡ true → IsOpaque l model
-  by None f e = absurd cc
-  by (Some c) f e = record { cell = c; found = f; unknown = is_it c.function e }
-
--- an instance, by the node that it is
-record IsNode (n : InMemory) (nodes : List Node) (k : ℕ) (i : Instance) : Type 0 where
-  node : Node
-  stands : Stands nodes k node
-  is : instance_of n.models node ≡ i
-  within : node.model < length n.models
-
-node_of : (n : InMemory) (nodes : List Node) → map (instance_of n.models) nodes ≡ n.instances → All (λ i. i.model < length n.models) nodes → (k : ℕ) (i : Instance) → Stands n.instances k i → IsNode n nodes k i
-node_of n nodes seen low k i s =
-    let u = unmapped (instance_of n.models) nodes k i (subst (λ (is : List Instance). Stands is k i) (sym seen) s) in
-    record {
-      node = u.0;
-      stands = u.1;
-      is = u.2;
-      within = subst (λ (x : Node). x.model < length n.models) (get_or_from_slice_get nodes k u.0 u.0 u.1) (low k u.0 (slice_get_within nodes k u.0 u.1));
-    }
-
-not_opaque_at : (n : InMemory) (l : Library) (known : List KnownParts) (nodes : List Node) → map (instance_of n.models) nodes ≡ n.instances → All (λ i. i.model < length n.models) nodes → KnowsModels n l known
-    → (k : ℕ) (i : Instance) → Stands n.instances k i → IsUnknownAt nodes known k false → IsOpaque l i.model → ⊥
-not_opaque_at n l known nodes seen low knows k i s calm h =
-    let x = node_of n nodes seen low k i s in
-    let q : opaque_at (cell_of l (get_or n.models x.node.model [])) ≡ true = ap (λ (y : Instance). opaque_at (cell_of l y.model)) x.is ∙ opaque_true l i.model h in
-    by x q (known_some known x.node.model) where
-      known_some : (ks : List KnownParts) (place : ℕ) → KnownParts ⊎ (length ks ≡ 0)
-      known_some [] place = inr refl
-      known_some (y ∷ ks) place = inl y
-
-      by : (x : IsNode n nodes k i) → opaque_at (cell_of l (get_or n.models x.node.model [])) ≡ true → KnownParts ⊎ (length known ≡ 0) → ⊥
-      by x q (inl d) =
-          let at : get_or nodes k x.node ≡ x.node = get_or_from_slice_get nodes k x.node x.node x.stands in
-          let e : (get_or known x.node.model d).is_opaque ≡ false = subst (λ (y : Node). (get_or known y.model d).is_opaque ≡ false) at (calm x.node d) in
-          let f = model_opaque n l known knows x.node.model x.within d in
-          let clash : true ≡ false = sym q ∙ sym f ∙ e in absurd cc
-      by x q (inr z) =
-          let a = length-map known known_view in
-          let b = length-map n.models (λ (m : List ℕ). known_at (cell_of l m)) in
-          let c = ap length knows in
-          let w = x.within in omega (arith, a, b, c, w, z)
-
--- no instance's model is opaque
-pub behaves : (n : InMemory) (l : Library) (known : List KnownParts) (nodes : List Node) → map (instance_of n.models) nodes ≡ n.instances → All (λ i. i.model < length n.models) nodes → KnowsModels n l known
-    → HasNoUnknown nodes known → HasBehaviour n l
-behaves n l known nodes seen low knows none i t h =
-    let x = node_of n nodes seen low t.0 i t.1 in
-    not_opaque_at n l known nodes seen low knows t.0 i t.1 (none t.0 (slice_get_within nodes t.0 x.node x.stands)) h
-
--- the first instance whose model is
-pub first_opaque : (n : InMemory) (l : Library) (known : List KnownParts) (nodes : List Node) → map (instance_of n.models) nodes ≡ n.instances → All (λ i. i.model < length n.models) nodes → KnowsModels n l known
-    → (k : ℕ) → IsFirstUnknown nodes known k → (node : Node) → node ≡ get_or nodes k node → (d : KnownParts) → IsFirstOpaque n l (get_or n.models node.model [])
-first_opaque n l known nodes seen low knows k first node at d =
-    let s : Stands nodes k (get_or nodes k node) = slice_get-get_or nodes k node first.inside in
-    let own : Stands nodes k node = subst (λ (x : Node). Stands nodes k x) (sym at) s in
-    let stands : Stands n.instances k (instance_of n.models node) = subst (λ (is : List Instance). Stands is k (instance_of n.models node)) seen (mapped (instance_of n.models) nodes k node own) in
-    let within : node.model < length n.models = subst (λ (x : Node). x.model < length n.models) (sym at) (low k node first.inside) in
-    let yes : (get_or known node.model d).is_opaque ≡ true = subst (λ (x : Node). (get_or known x.model d).is_opaque ≡ true) (sym at) (first.is node d) in
-    record {
-      place = k;
-      owner = instance_of n.models node;
-      stands = stands;
-      is = refl;
-      unknown = opaque_is l (get_or n.models node.model []) (sym (model_opaque n l known knows node.model within d) ∙ yes);
-      first = λ j i less t h. not_opaque_at n l known nodes seen low knows j i t (first.first j less) h;
-    }
 
 -- ---- the bits, and their machine
 

@@ -1,5 +1,5 @@
 -- A netlist whose bits are gathered, and the classes of its terminals.
-use Rattle.std.proofs.Common.{◌≡◌, ◌≢◌, ◌⊎◌, inl, inr, ℕ, zero, suc, ◌+◌, ◌<◌, ◌≤◌, Bool, true, false, not, List, [], ◌∷◌, ◌++◌, map, length, filter, Option, None, Some, refl, sym, ap, ◌∙◌, subst, arith}
+use Rattle.std.proofs.Common.{◌≡◌, ◌≢◌, ◌⊎◌, inl, inr, ℕ, zero, suc, ◌+◌, ◌<◌, ◌≤◌, Bool, true, false, not, List, [], ◌∷◌, ◌++◌, map, length, get_or, filter, Option, None, Some, refl, sym, ap, ◌∙◌, subst, arith}
 use Rattle.std.specs.Prelude.{IsTrue}
 use Rattle.std.specs.Ordering.{is_lt, ordering_reverse}
 use Rattle.std.specs.declared.cmp.Ordering.{Ordering}
@@ -86,7 +86,8 @@ itself_not_before a h = by (name_cmp a a) refl h where
 pub outputs_different : (c : Cell) → IsFormed c → AllDifferent (cell_outputs c)
 outputs_different c h =
     different_Sub (cell_outputs c) (names_of (pin_ports c)) (Sub-map (λ (p : Port). p.name) (filter (λ (p : Port). not (is_input p.dir)) (pin_ports c)) (pin_ports c) (Sub-filter (λ (p : Port). not (is_input p.dir)) (pin_ports c)))
-    (different_from_pairs (names_of (pin_ports c)) (λ i j d low high e. itself_not_before _ (subst (λ (x : Name). comes_before _ x ≡ true) (sym e) (h.order i j d low high))))
+    (different_from_pairs (names_of (pin_ports c)) (λ i j d low high e.
+    itself_not_before (get_or (names_of (pin_ports c)) i d) (subst (λ (x : Name). comes_before (get_or (names_of (pin_ports c)) i d) x ≡ true) (sym e) (h.order i j d low high))))
 
 -- the pins that a body shows are the output pins of its cell
 pub shown_pins : (c : Cell) (f : Function) → FitsPins c f → (f ≡ opaque → ⊥) → map (λ (s : Shown). s.pin) (body_of c f).shows ≡ cell_outputs c

@@ -95,13 +95,15 @@ inner_at_place table k (x ∷ es) (suc q) e s =
 
 pub inner_place : (table : List ℕ) (k : ℕ) (es : List Expression) (d : Numbered) → In d (inner_from table k es) → (q : ℕ) × (e : Expression) × Stands es q e × (d ≡ record { bit = k + q; expr = renumbered table e })
 inner_place table k [] d i = elim i [ ]
-inner_place table k (x ∷ es) d i = by (In-cases d _ (inner_from table (k + 1) es) i) where
+inner_place table k (x ∷ es) d i = by (In-cases d (record { bit = k; expr = renumbered table x }) (inner_from table (k + 1) es) i) (inner_place table (k + 1) es d) where
   made : ℕ → Expression → Numbered
   made n x = record { bit = n; expr = renumbered table x }
 
-  by : (record { bit = k; expr = renumbered table x } ≡ d) ⊎ In d (inner_from table (k + 1) es) → (q : ℕ) × (e : Expression) × Stands (x ∷ es) q e × (d ≡ record { bit = k + q; expr = renumbered table e })
-  by (inl same) = let z : k ≡ k + 0 = omega arith in (0, x, refl, sym same ∙ ap (λ n. made n x) z)
-  by (inr j) = let r = inner_place table (k + 1) es d j in let z : k + 1 + r.0 ≡ k + suc r.0 = omega arith in (suc r.0, r.1, r.2, r.3 ∙ ap (λ n. made n r.1) z)
+  by : (record { bit = k; expr = renumbered table x } ≡ d) ⊎ In d (inner_from table (k + 1) es)
+      → (In d (inner_from table (k + 1) es) → (q : ℕ) × (e : Expression) × Stands es q e × (d ≡ record { bit = k + 1 + q; expr = renumbered table e }))
+      → (q : ℕ) × (e : Expression) × Stands (x ∷ es) q e × (d ≡ record { bit = k + q; expr = renumbered table e })
+  by (inl same) rest = let z : k ≡ k + 0 = omega arith in (0, x, refl, sym same ∙ ap (λ n. made n x) z)
+  by (inr j) rest = let r = rest j in let z : k + 1 + r.0 ≡ k + suc r.0 = omega arith in (suc r.0, r.1, r.2, r.3 ∙ ap (λ n. made n r.1) z)
 
 -- the bits that the output pins have
 abbrev pub pins_shown : Scene → List Bool → Instance → List Bool

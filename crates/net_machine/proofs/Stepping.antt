@@ -104,7 +104,7 @@ ports_hold s y h = record { same = λ j p l e. same j p l e p.dir refl; fixed = 
       by_own (record { bit = s.n.count + j; expr = constant (fixed_bit p) })
       (port_own s s.n.count s.n.ports j p l e (record { bit = s.n.count + j; expr = constant (fixed_bit p) })
       (subst (λ (x : Dir). In (record { bit = s.n.count + j; expr = constant (fixed_bit p) }) (own_of s.class s.clock (s.n.count + j) p x)) (sym f)
-      (subst (λ b. In (record { bit = s.n.count + j; expr = constant (fixed_bit p) }) (cond b [] (record { bit = s.n.count + j; expr = constant (fixed_bit p) } ∷ []))) (sym g) here)))
+      (subst (λ b. In {A = Numbered} (record { bit = s.n.count + j; expr = constant (fixed_bit p) }) (cond b [] (record { bit = s.n.count + j; expr = constant (fixed_bit p) } ∷ []))) (sym g) here)))
 
 pub port_low : (s : Scene) (p : Port) → In p s.n.ports → s.class (port p.name) < s.n.count
 port_low s p i = class_low s (port p.name) (port_role p) (a_port p i)
@@ -134,13 +134,13 @@ body_seat s i m = ap body_at m.seat.found
 
 -- the model of an instance by its name
 model_found : (s : Scene) (is : List Instance) → AllDifferent (map (λ (i : Instance). i.name) is) → (i : Instance) → In i is → model_of (map member_of is) i.name ≡ Some i.model
-model_found s (k ∷ is) d i j = by (In-cases i k is j) where
-  by : (k ≡ i) ⊎ In i is → cond (is_same_text k.name i.name) (Some k.model) (model_of (map member_of is) i.name) ≡ Some i.model
-  by (inl e) =
+model_found s (k ∷ is) d i j = by (In-cases i k is j) (model_found s is d.1 i) where
+  by : (k ≡ i) ⊎ In i is → (In i is → model_of (map member_of is) i.name ≡ Some i.model) → cond (is_same_text k.name i.name) (Some k.model) (model_of (map member_of is) i.name) ≡ Some i.model
+  by (inl e) rest =
       ap (λ b. cond b (Some k.model) (model_of (map member_of is) i.name)) ((bytes_decides k.name i.name).1 (ap (λ (x : Instance). x.name) e)) ∙ ap (λ (x : Instance). Some x.model) e
-  by (inr h) = test (is_same_text k.name i.name) refl where
+  by (inr h) rest = test (is_same_text k.name i.name) refl where
     test : (b : Bool) → is_same_text k.name i.name ≡ b → cond b (Some k.model) (model_of (map member_of is) i.name) ≡ Some i.model
-    test false e = model_found s is d.1 i h
+    test false e = rest h
     test true e =
         let same : k.name ≡ i.name = (bytes_decides k.name i.name).0 e in
         absurd (d.0 (subst (λ (n : List ℕ). In n (map (λ (i : Instance). i.name) is)) (sym same) (In-map (λ (i : Instance). i.name) i is h)))
@@ -599,7 +599,7 @@ show_alike s text m w x is agree ports still name j =
           ∙ shown_at (system s).names m.vars x (s.n.count + q.0) (let l = q.1 in omega (arith, l, n)) ∙ ap (value_at m.vars x) named
 
 machine_inputs_are : (s : Scene) (text : List ℕ) (m : Machine) → IsMachineOfBits text (signal_ports s.n.ports) s.clock (system s) m → inputs m ≡ net_inputs s.n s.clock
-machine_inputs_are s text m is = ap (λ (c : Option Name). inputs_of c m.ports) is.clock_is ∙ ap (inputs_of s.clock) is.ports
+machine_inputs_are s text m is = ap (λ (c : Option Name). inputs_of c m.ports) is.clock_is ∙ ap (inputs_of s.clock) is.ports_are
 
 as_machine : (s : Scene) (text : List ℕ) (m : Machine) → IsMachineOfBits text (signal_ports s.n.ports) s.clock (system s) m → (t : Contents) (i : List Bool) (w : Valuation)
     → NetSettles (seen_net s) s.l (net_inputs s.n s.clock) s.clock t i w → NetSettles (seen_net s) s.l (inputs m) m.clock t i w

@@ -74,10 +74,10 @@ inputs_rise clock k (p ∷ ps) = by (is_input p.dir && is_signal clock p) (input
 
 pub inputs_high : (clock : Option Name) (k : ℕ) (ps : List Port) (x : ℕ) → In x (port_inputs clock k ps) → x < k + length ps
 inputs_high clock k [] x i = elim i [ ]
-inputs_high clock k (p ∷ ps) x i = by (is_input p.dir && is_signal clock p) i where
-  by : (b : Bool) → In x (cond b (k ∷ port_inputs clock (k + 1) ps) (port_inputs clock (k + 1) ps)) → x < k + length (p ∷ ps)
-  by true i = elim (In-cases x k (port_inputs clock (k + 1) ps) i) [ inl e ↦ omega (arith, e) | inr j ↦ let r = inputs_high clock (k + 1) ps x j in omega (arith, r) ]
-  by false i = let r = inputs_high clock (k + 1) ps x i in omega (arith, r)
+inputs_high clock k (p ∷ ps) x i = by (is_input p.dir && is_signal clock p) i (inputs_high clock (k + 1) ps x) where
+  by : (b : Bool) → In x (cond b (k ∷ port_inputs clock (k + 1) ps) (port_inputs clock (k + 1) ps)) → (In x (port_inputs clock (k + 1) ps) → x < k + 1 + length ps) → x < k + length (p ∷ ps)
+  by true i rest = elim (In-cases x k (port_inputs clock (k + 1) ps) i) [ inl e ↦ omega (arith, e) | inr j ↦ let r = rest j in omega (arith, r) ]
+  by false i rest = let r = rest i in omega (arith, r)
 
 -- a port has its own bit driven, or none
 own_cases : (class : Terminal → ℕ) (clock : Option Name) (k : ℕ) (p : Port) (d : Dir)
@@ -116,7 +116,7 @@ ports_high class clock k (p ∷ ps) x i =
 -- each port's bit is an input or driven, and not both
 pub port_parts : (class : Terminal → ℕ) (clock : Option Name) (k : ℕ) (ps : List Port) (x : ℕ) → k ≤ x → x < k + length ps → In x (port_inputs clock k ps) ⊎ In x (bits_of (port_driven class clock k ps))
 port_parts class clock k [] x l h = absurd (omega (arith, l, h))
-port_parts class clock k (p ∷ ps) x l h = by (cases_lt k x) (own_cases class clock k p p.dir) where
+port_parts class clock k (p ∷ ps) x l h = by (cases_lt k x) (own_cases class clock k p p.dir) (port_parts class clock (k + 1) ps x) where
   joined : bits_of (port_driven class clock k (p ∷ ps)) ≡ bits_of (own_of class clock k p p.dir) ++ bits_of (port_driven class clock (k + 1) ps)
   joined = bits_append (own_of class clock k p p.dir) (port_driven class clock (k + 1) ps)
 
@@ -128,21 +128,22 @@ port_parts class clock k (p ∷ ps) x l h = by (cases_lt k x) (own_cases class c
 
   by : (k < x) ⊎ (x ≤ k)
       → ((bits_of (own_of class clock k p p.dir) ≡ []) × ((is_input p.dir && is_signal clock p) ≡ true)) ⊎ ((bits_of (own_of class clock k p p.dir) ≡ k ∷ []) × ((is_input p.dir && is_signal clock p) ≡ false))
+      → (k + 1 ≤ x → x < k + 1 + length ps → In x (port_inputs clock (k + 1) ps) ⊎ In x (bits_of (port_driven class clock (k + 1) ps)))
       → In x (port_inputs clock k (p ∷ ps)) ⊎ In x (bits_of (port_driven class clock k (p ∷ ps)))
-  by (inl m) c = elim (port_parts class clock (k + 1) ps x (omega (arith, m)) (omega (arith, h))) [
+  by (inl m) c rest = elim (rest (omega (arith, m)) (omega (arith, h))) [
     | inl i ↦ inl (later_input i)
     | inr i ↦ inr (subst (λ (xs : List ℕ). In x xs) (sym joined) (In-right x (bits_of (own_of class clock k p p.dir)) (bits_of (port_driven class clock (k + 1) ps)) i))
   ]
-  by (inr m) (inl e) =
+  by (inr m) (inl e) rest =
       let same : k ≡ x = omega (arith, l, m) in
       inl (subst (λ (b : Bool). In x (cond b (k ∷ port_inputs clock (k + 1) ps) (port_inputs clock (k + 1) ps))) (sym e.1) (subst (λ z. In z (k ∷ port_inputs clock (k + 1) ps)) same here))
-  by (inr m) (inr e) =
+  by (inr m) (inr e) rest =
       let same : k ≡ x = omega (arith, l, m) in
       inr (subst (λ (xs : List ℕ). In x xs) (sym joined) (In-left x (bits_of (own_of class clock k p p.dir)) (bits_of (port_driven class clock (k + 1) ps)) (subst (λ (xs : List ℕ). In x xs) (sym e.0) (subst (λ z. In z (k ∷ [])) same here))))
 
 pub port_apart : (class : Terminal → ℕ) (clock : Option Name) (k : ℕ) (ps : List Port) (x : ℕ) → In x (port_inputs clock k ps) → In x (bits_of (port_driven class clock k ps)) → ⊥
 port_apart class clock k [] x a b = elim a [ ]
-port_apart class clock k (p ∷ ps) x a b = by (own_cases class clock k p p.dir) a (In-split x (bits_of (own_of class clock k p p.dir)) (bits_of (port_driven class clock (k + 1) ps)) (subst (λ (xs : List ℕ). In x xs) (bits_append (own_of class clock k p p.dir) (port_driven class clock (k + 1) ps)) b)) where
+port_apart class clock k (p ∷ ps) x a b = by (own_cases class clock k p p.dir) a (In-split x (bits_of (own_of class clock k p p.dir)) (bits_of (port_driven class clock (k + 1) ps)) (subst (λ (xs : List ℕ). In x xs) (bits_append (own_of class clock k p p.dir) (port_driven class clock (k + 1) ps)) b)) (port_apart class clock (k + 1) ps x) where
   inputs : List ℕ
   inputs = port_inputs clock (k + 1) ps
 
@@ -153,16 +154,17 @@ port_apart class clock k (p ∷ ps) x a b = by (own_cases class clock k p p.dir)
   high_input i = let r = rises_low (k + 1) inputs (inputs_rise clock (k + 1) ps) k i in omega (arith, r)
 
   by : ((bits_of (own_of class clock k p p.dir) ≡ []) × ((is_input p.dir && is_signal clock p) ≡ true)) ⊎ ((bits_of (own_of class clock k p p.dir) ≡ k ∷ []) × ((is_input p.dir && is_signal clock p) ≡ false))
-      → In x (port_inputs clock k (p ∷ ps)) → In x (bits_of (own_of class clock k p p.dir)) ⊎ In x (bits_of (port_driven class clock (k + 1) ps)) → ⊥
-  by (inl e) i (inl j) = elim (subst (λ (xs : List ℕ). In x xs) e.0 j) [ ]
-  by (inl e) i (inr j) = elim (In-cases x k inputs (subst (λ (b : Bool). In x (cond b (k ∷ inputs) inputs)) e.1 i)) [
+      → In x (port_inputs clock k (p ∷ ps)) → In x (bits_of (own_of class clock k p p.dir)) ⊎ In x (bits_of (port_driven class clock (k + 1) ps))
+      → (In x (port_inputs clock (k + 1) ps) → In x (bits_of (port_driven class clock (k + 1) ps)) → ⊥) → ⊥
+  by (inl e) i (inl j) rest = elim (subst (λ (xs : List ℕ). In x xs) e.0 j) [ ]
+  by (inl e) i (inr j) rest = elim (In-cases x k inputs (subst (λ (b : Bool). In x (cond b (k ∷ inputs) inputs)) e.1 i)) [
     | inl same ↦ high_driven (subst (λ z. In z (bits_of (port_driven class clock (k + 1) ps))) (sym same) j)
-    | inr i' ↦ port_apart class clock (k + 1) ps x i' j
+    | inr i' ↦ rest i' j
   ]
-  by (inr e) i (inl j) =
+  by (inr e) i (inl j) rest =
       let i' : In x inputs = subst (λ (b : Bool). In x (cond b (k ∷ inputs) inputs)) e.1 i in
       elim (In-cases x k [] (subst (λ (xs : List ℕ). In x xs) e.0 j)) [ inl same ↦ high_input (subst (λ z. In z inputs) (sym same) i') | inr g ↦ elim g [ ] ]
-  by (inr e) i (inr j) = port_apart class clock (k + 1) ps x (subst (λ (b : Bool). In x (cond b (k ∷ inputs) inputs)) e.1 i) j
+  by (inr e) i (inr j) rest = rest (subst (λ (b : Bool). In x (cond b (k ∷ inputs) inputs)) e.1 i) j
 
 -- ---- the classes of input ports
 

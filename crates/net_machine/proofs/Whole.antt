@@ -82,7 +82,9 @@ instances_apart s = stands_all (map (λ (i : Instance). i.name) s.n.instances) s
 pub ports_apart : (s : Scene) → AllDifferent (map (λ (p : Port). p.name) s.n.ports)
 ports_apart s =
     different_from_pairs (map (λ (p : Port). p.name) s.n.ports)
-    (λ i j d low high e. itself_not_before _ (subst (λ (x : Name). comes_before _ x ≡ true) (sym e) (s.ground.netlist.ports i j d low high)))
+    (λ i j d low high e.
+    let names = map (λ (p : Port). p.name) s.n.ports in
+    itself_not_before (get_or names i d) (subst (λ (x : Name). comes_before (get_or names i d) x ≡ true) (sym e) (s.ground.netlist.ports i j d low high)))
 
 unmap_different : {A B : Type 0} (f : A → B) (xs : List A) → AllDifferent (map f xs) → AllDifferent xs
 unmap_different f [] d = tt
