@@ -349,7 +349,7 @@ picked {A} clock f g k (p ∷ ps) at =
   by : (a b c : Bool) → is_supply p.name.text ≡ a → is_input p.dir ≡ b → is_clock clock p.name ≡ c → map f (port_inputs clock (k + 1) ps) ≡ map g (inputs_of clock (signal_ports ps))
       → map f (port_inputs clock k (p ∷ ps)) ≡ map g (inputs_of clock (signal_ports (p ∷ ps)))
   by true b c e d h rest =
-      let x : (is_input p.dir && is_signal clock p) ≡ false = rw (e, d, h) (both b c) in
+      let x : (is_input p.dir && is_signal clock p) ≡ false = ap (λ t. is_input p.dir && (not t && not (is_clock clock p.name))) e ∙ both (is_input p.dir) (is_clock clock p.name) in
       ap numbered x ∙ rest ∙ sym (ap (λ t. map g (inputs_of clock (kept t))) e)
   by false false c e d h rest =
       let x : (is_input p.dir && is_signal clock p) ≡ false = rw d refl in
