@@ -1,11 +1,9 @@
 -- The bits of a netlist's instances: each has one role, and all have one.
-use Rattle.std.proofs.Common.{◌≡◌, ◌≢◌, ◌⊎◌, inl, inr, ℕ, zero, suc, ◌+◌, ◌<◌, ◌≤◌, Bool, true, false, List, [], ◌∷◌, ◌++◌, map, length, Option, None, Some, refl, sym, ap, ◌∙◌, subst, arith, length-append}
+use Rattle.std.proofs.Common.{◌≡◌, ◌⊎◌, inl, inr, ℕ, zero, suc, ◌+◌, ◌<◌, ◌≤◌, List, [], ◌∷◌, ◌++◌, map, length, Some, refl, sym, ap, ◌∙◌, subst, arith}
 use Rattle.std.specs.List.{flat_map}
-use Rattle.std.proofs.lemmas.List.{length-map, map-append}
+use Rattle.std.proofs.lemmas.List.{map-append}
 use Rattle.std.proofs.lemmas.Bool.{cases_lt}
 use Rattle.vlsi_base.specs.declared.name.Name.{Name}
-use Rattle.vlsi_base.specs.declared.name.Port.{Port}
-use Rattle.vlsi_base.specs.declared.name.Dir.TheVariants as dir
 use Rattle.vlsi_base.specs.declared.name.Terminal.{Terminal}
 use Rattle.vlsi_base.specs.Range.{rising}
 use Rattle.vlsi_base.specs.Member.{In, here, there, AllDifferent}
@@ -16,15 +14,13 @@ use Rattle.source_bits.specs.Driven.{Numbered, NumberedStorage}
 use Rattle.vlsi_model.proofs.Members.{In-cases, In-map_back, different_append, different_map}
 use Rattle.vlsi_model.proofs.Building.{map-then}
 use Rattle.vlsi_model.proofs.Bits.{In-rising, rising-In}
-use Rattle.cell_model.specs.Library.{Library, cell_of}
-use Rattle.net_core.specs.Netlist.{Instance, port, pin_of}
-use Rattle.net_core.specs.Places.{NoneTwice}
+use Rattle.cell_model.specs.Library.{cell_of}
+use Rattle.net_core.specs.Netlist.{Instance, pin_of}
 use Rattle.net_core.specs.Checks.{pin_role}
 use Rattle.net_machine.specs.Body.{Load, Shown, Body, body_at, width}
-use Rattle.net_machine.specs.Bits.{Placed, placed_from, widths, numbers, stored_from, inner_from, shown_from, body_stored, body_driven, placed_stored, placed_driven, first_base}
-use Rattle.net_machine.proofs.Drivers.{there_In, In_there}
-use Rattle.net_machine.proofs.Scenes.{Scene, class_low, once, output_driver, Member, member, IsOutput, shown_output, shows_different}
-use Rattle.net_machine.proofs.Systems.{Rises, rises_weaker, rises_low, rises_different, rises_append}
+use Rattle.net_machine.specs.Bits.{placed_from, widths, numbers, stored_from, inner_from, shown_from, body_stored, body_driven, placed_stored, placed_driven}
+use Rattle.net_machine.proofs.Scenes.{Scene, class_low, once, output_driver, member, shown_output, shows_different}
+use Rattle.net_machine.proofs.Systems.{Rises, rises_low, rises_different, rises_append}
 
 abbrev pub bits_of : List Numbered → List ℕ
 bits_of ds = map (λ (d : Numbered). d.bit) ds

@@ -1,12 +1,11 @@
 -- What drives a class, by the tallies of a netlist that passes its checks.
-use Rattle.std.proofs.Common.{◌≡◌, ◌⊎◌, inl, inr, ℕ, zero, suc, ◌+◌, ◌<◌, ◌≤◌, Bool, true, false, cond, not, ◌&&◌, ◌||◌, List, [], ◌∷◌, ◌++◌, map, length, get_or, nat_eq, Option, None, Some, refl, sym, ap, ◌∙◌, subst, arith}
-use Rattle.std.specs.Prelude.{nat_le, nat_lt}
+use Rattle.std.proofs.Common.{◌≡◌, ◌⊎◌, inl, inr, ℕ, zero, suc, ◌+◌, ◌<◌, ◌≤◌, Bool, true, false, cond, not, ◌&&◌, List, [], ◌∷◌, ◌++◌, map, nat_eq, Option, None, Some, refl, sym, ap, ◌∙◌, subst, arith}
+use Rattle.std.specs.Prelude.{nat_le}
 use Rattle.std.specs.List.{All, flat_map, zip}
 use Rattle.std.proofs.lemmas.List.{map-append}
 use Rattle.std.proofs.lemmas.Option.{slice_get_within}
 use Rattle.std.proofs.lemmas.Bool.{cases_lt, eqb-true, eq-eqb}
 use Rattle.std.proofs.lemmas.Bool.Decides.{nat_tests}
-use Rattle.vlsi_base.specs.declared.name.Name.{Name}
 use Rattle.vlsi_base.specs.declared.name.Port.{Port}
 use Rattle.vlsi_base.specs.declared.name.Terminal.{Terminal}
 use Rattle.vlsi_base.specs.Member.{In, here, there}
@@ -18,14 +17,14 @@ use Rattle.net_core.specs.declared.tally.Tally.{Tally}
 use Rattle.net_core.specs.declared.tally.ClassFault.TheVariants as fault
 use Rattle.net_core.specs.Places.{Stands, IsThere}
 use Rattle.net_core.specs.Netlist.{Instance, Netlist, IsNetlist, port, pin_of, pins_of, terminals, HasClass}
-use Rattle.net_core.specs.Checks.{pins_named, Fits, port_role, pin_role, pin_roles, roles, with_one, no_terminals, tally_of, tally, drivers, all_clocks, is_unconnected, is_undriven, is_driven_twice, is_misused_clock, HasSoundClasses}
+use Rattle.net_core.specs.Checks.{pins_named, Fits, port_role, pin_role, roles, with_one, no_terminals, tally_of, tally, drivers, is_unconnected, is_undriven, HasSoundClasses}
 use Rattle.net_core.proofs.Standing.{stands_same}
 use Rattle.net_core.proofs.Frames.{mapped, unmapped}
 use Rattle.net_core.proofs.Finishing.{netlist_terminals_once}
 use Rattle.net_core.proofs.Namings.{turn_reached}
 use Rattle.net_core.proofs.Rings.{class_below, at_place}
 use Rattle.net_core.proofs.Classes.{roles_length}
-use Rattle.vlsi_model.proofs.Members.{In-cases, In-map_back}
+use Rattle.vlsi_model.proofs.Members.{In-map_back}
 use Rattle.vlsi_model.proofs.Building.{map-then}
 use Rattle.machine_core.proofs.Values.{In-split, In-left, In-right, In-map}
 

@@ -1,7 +1,6 @@
 -- The bits of a netlist whose classes stand in an order fall: none depends on itself.
-use Rattle.std.proofs.Common.{◌≡◌, ◌≢◌, ◌⊎◌, inl, inr, ℕ, zero, suc, ◌+◌, ◌-◌, ◌<◌, ◌≤◌, Bool, true, false, cond, not, ◌&&◌, List, [], ◌∷◌, ◌++◌, map, length, get_or, nat_eq, Option, None, Some, refl, sym, ap, ◌∙◌, subst, arith, length-append}
+use Rattle.std.proofs.Common.{◌≡◌, ◌⊎◌, inl, inr, ℕ, zero, suc, ◌+◌, ◌-◌, ◌<◌, ◌≤◌, Bool, true, false, cond, ◌&&◌, List, [], ◌∷◌, ◌++◌, map, length, get_or, nat_eq, None, Some, refl, sym, ap, ◌∙◌, subst, arith}
 use Rattle.std.specs.Prelude.{slice_index, slice_get, nat_lt}
-use Rattle.std.specs.List.{All, flat_map}
 use Rattle.std.proofs.lemmas.List.{length-map, get_or-map}
 use Rattle.std.proofs.lemmas.Option.{slice_get_within}
 use Rattle.std.proofs.lemmas.Bool.{cases_lt, eqb-true, eq-eqb}
@@ -20,31 +19,31 @@ use Rattle.machine_core.proofs.Known.{IsOver-In}
 use Rattle.source_bits.specs.Driven.{Numbered}
 use Rattle.vlsi_model.proofs.Members.{In-cases, In-map_back}
 use Rattle.vlsi_model.proofs.Sorting.{In-at}
-use Rattle.cell_model.specs.Cell.{Function, Cell}
-use Rattle.cell_pins.specs.Follows.{DependsAtOnce, DependsOn as PortDependsOn}
+use Rattle.cell_model.specs.Cell.{Cell}
+use Rattle.cell_pins.specs.Follows.{DependsAtOnce}
 use Rattle.cell_pins.specs.Pins.{all_ports}
-use Rattle.cell_pins.specs.Table.{first_places, DependsAt, AreDependences, IsPinOf as IsTablePin}
+use Rattle.cell_pins.specs.Table.{first_places, DependsAt, IsPinOf as IsTablePin}
 use Rattle.cell_pins.proofs.Sound.{pin_at as pin_at_place}
 use Rattle.net_core.specs.declared.tally.Role.{Role}
 use Rattle.net_core.specs.declared.pins.ModelPin.{ModelPin}
-use Rattle.net_core.specs.Places.{Stands, IsThere}
+use Rattle.net_core.specs.Places.{Stands}
 use Rattle.net_core.specs.Netlist.{Instance, port, pin_of, HasClass}
-use Rattle.net_core.specs.Checks.{pins_named, port_role, pin_role, DependsOn}
+use Rattle.net_core.specs.Checks.{pins_named, port_role, pin_role}
 use Rattle.net_core.specs.Links.{IsClassOrder}
 use Rattle.bit_machine.specs.System.{Falls}
 use Rattle.net_machine.specs.Body.{Shown, Body, body_of, body_at, width}
-use Rattle.net_machine.specs.Bits.{is_signal, fixed_bit, own_of, port_driven, class_of_port, classes_driven, widths, numbers, inner_from, shown_from, body_driven}
+use Rattle.net_machine.specs.Bits.{is_signal, fixed_bit, own_of, port_driven, class_of_port, classes_driven, numbers, inner_from, shown_from, body_driven}
 use Rattle.net_machine.specs.Gathered.{bits_count}
 use Rattle.net_machine.proofs.Drivers.{In_there, IsAt, a_port, a_pin, is_driver, some_driver, there_In}
 use Rattle.net_machine.proofs.Bodies.{All_is, IsPin, reads_pin, shows_pin}
-use Rattle.net_machine.proofs.Cells.{Seated, pin_at, signal_in, fine_over, sound_of}
-use Rattle.net_machine.proofs.Scenes.{Scene, has_class, class_low, once, input_driver, output_driver, Member, member, IsOutput, shown_output}
+use Rattle.net_machine.proofs.Cells.{pin_at, signal_in, fine_over, sound_of}
+use Rattle.net_machine.proofs.Scenes.{Scene, has_class, class_low, once, input_driver, output_driver, Member, member, shown_output}
 use Rattle.net_machine.proofs.Blocks.{all_driven, body_in, shown_low}
-use Rattle.net_machine.proofs.Whole.{system, first, rising_count}
-use Rattle.net_machine.proofs.Places.{Place, first as at_first, next as at_next, placed_in, place_low, DrivenBy, driven_by}
-use Rattle.net_machine.proofs.Settling.{numbers_count, inner_place}
+use Rattle.net_machine.proofs.Whole.{system, first}
+use Rattle.net_machine.proofs.Places.{Place, first as at_first, next as at_next, placed_in, place_low, driven_by}
+use Rattle.net_machine.proofs.Settling.{inner_place}
 use Rattle.net_machine.proofs.Stepping.{port_driven_by, port_class_by, port_low, read_low}
-use Rattle.net_machine.proofs.Levels.{lt_true, lt_false, body_levels, levels_after, start_levels, start_count, levels_rise, read_level, inner_below, shown_level, variables_renumbered, num_left, num_right}
+use Rattle.net_machine.proofs.Levels.{lt_true, lt_false, body_levels, start_levels, start_count, levels_rise, read_level, inner_below, shown_level, variables_renumbered, num_left, num_right}
 
 -- ---- numbers of steps
 

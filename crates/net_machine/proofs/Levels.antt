@@ -1,8 +1,8 @@
 -- A level for each bit of a body, above the levels of the bits that it reads.
-use Rattle.std.proofs.Common.{◌≡◌, ◌≢◌, ◌⊎◌, inl, inr, ℕ, zero, suc, ◌+◌, ◌-◌, ◌<◌, ◌≤◌, Bool, true, false, cond, List, [], ◌∷◌, ◌++◌, map, length, get_or, replicate, Option, None, Some, refl, sym, ap, ◌∙◌, subst, arith, length-append, append_assoc}
+use Rattle.std.proofs.Common.{◌≡◌, ◌≢◌, ◌⊎◌, inl, inr, ℕ, zero, suc, ◌+◌, ◌-◌, ◌<◌, ◌≤◌, true, false, cond, List, [], ◌∷◌, ◌++◌, map, length, get_or, replicate, None, refl, sym, ap, ◌∙◌, subst, arith, length-append, append_assoc}
 use Rattle.std.specs.Prelude.{slice_index, nat_lt}
 use Rattle.std.proofs.lemmas.List.{length-map, length-replicate, get_or-replicate, get_or-map}
-use Rattle.std.proofs.lemmas.Option.{slice_get_within, get_or_from_slice_get, slice_get-get_or}
+use Rattle.std.proofs.lemmas.Option.{get_or_from_slice_get}
 use Rattle.std.proofs.lemmas.Bool.{cases_lt}
 use Rattle.std.proofs.lemmas.Bool.Decides.{nat_tests}
 use Rattle.vlsi_base.specs.declared.name.Name.{Name}
@@ -13,20 +13,18 @@ use Rattle.bool_expr.specs.Expression.{Expression, constant, variable, inverse, 
 use Rattle.bool_expr.specs.Renumbering.{renumbered}
 use Rattle.machine_meaning.specs.Machine.{Machine, Equation, Register, names_of, inputs, outputs, register_names}
 use Rattle.machine_core.specs.Order.{held_names, equation_names, EachReadsBelow}
-use Rattle.machine_core.specs.Checked.{IsChecked}
 use Rattle.machine_core.proofs.Known.{IsOver-In}
 use Rattle.machine_core.proofs.Values.{In-split, In-left, In-right, In-map}
 use Rattle.source_meaning.specs.Formula.{place}
 use Rattle.vlsi_model.proofs.Members.{In-map_back}
 use Rattle.vlsi_model.proofs.Numbering.{place_within, place_at}
-use Rattle.vlsi_model.proofs.Sorting.{In-at, place_of_In}
+use Rattle.vlsi_model.proofs.Sorting.{In-at}
 use Rattle.cell_model.specs.Cell.{Function, gate, flip_flop, other, opaque, Cell, pin_ports, cell_inputs, cell_outputs}
 use Rattle.cell_model.specs.Usable.{FitsPins}
 use Rattle.cell_pins.specs.Follows.{Reads, Follows, itself, reads, DependsAtOnce}
 use Rattle.net_core.specs.Places.{Stands}
 use Rattle.net_core.proofs.Frames.{mapped, unmapped}
-use Rattle.net_machine.specs.Body.{Load, Shown, Body, body_of, width}
-use Rattle.net_machine.specs.Gathered.{bits_count}
+use Rattle.net_machine.specs.Body.{Load, Shown, Body, body_of}
 use Rattle.net_machine.proofs.Drivers.{there_In}
 use Rattle.net_machine.proofs.Bodies.{machine_bits, input_pin}
 

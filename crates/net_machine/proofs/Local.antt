@@ -1,27 +1,26 @@
 -- A cell and its body: the same valuations, over the bits of its own.
-use Rattle.std.proofs.Common.{◌≡◌, ◌≢◌, ◌⊎◌, inl, inr, ℕ, zero, suc, ◌+◌, ◌<◌, ◌≤◌, Bool, true, false, cond, List, [], ◌∷◌, ◌++◌, map, length, get_or, take, drop, Option, None, Some, refl, sym, ap, ◌∙◌, subst, arith, length-append, append_assoc}
-use Rattle.std.specs.Prelude.{slice_index}
-use Rattle.std.specs.List.{All, slice_index_or}
-use Rattle.std.proofs.lemmas.List.{length-map, map-append, get_or-map, length-take-le, length-drop, take-append-drop}
+use Rattle.std.proofs.Common.{◌≡◌, ℕ, suc, ◌+◌, Bool, List, [], ◌∷◌, ◌++◌, map, length, get_or, take, drop, refl, sym, ap, ◌∙◌, subst, arith, length-append, append_assoc}
+use Rattle.std.specs.List.{slice_index_or}
+use Rattle.std.proofs.lemmas.List.{length-map, map-append, length-take-le, length-drop, take-append-drop}
 use Rattle.std.proofs.Math.Seq.{take-append_seam}
 use Rattle.std.proofs.lemmas.Option.{slice_get-get_or, slice_get_within, get_or_from_slice_get}
 use Rattle.vlsi_base.specs.declared.name.Name.{Name}
-use Rattle.vlsi_base.specs.Member.{In, here, there, AllDifferent}
-use Rattle.bool_expr.specs.Expression.{Expression, constant, variable, bit, val}
+use Rattle.vlsi_base.specs.Member.{In, AllDifferent}
+use Rattle.bool_expr.specs.Expression.{Expression, variable, bit, val}
 use Rattle.machine_meaning.specs.Named.{value_at, values_at}
 use Rattle.machine_meaning.specs.Machine.{Machine, Equation, Register, inputs, outputs, register_names}
-use Rattle.machine_meaning.specs.Cycles.{Settles, outs, next}
-use Rattle.machine_core.specs.Order.{held_names, equation_names, IsOrdered}
+use Rattle.machine_meaning.specs.Cycles.{Settles, outs}
+use Rattle.machine_core.specs.Order.{held_names, equation_names}
 use Rattle.machine_core.specs.Checked.{IsChecked}
-use Rattle.machine_core.proofs.Values.{In-left, In-right, In-map, bit-value_at}
+use Rattle.machine_core.proofs.Values.{In-right, bit-value_at}
 use Rattle.machine_core.proofs.Built.{values_at-front}
 use Rattle.source_meaning.specs.Formula.{place}
 use Rattle.vlsi_model.proofs.Numbering.{place_within, place_at}
 use Rattle.vlsi_model.proofs.Building.{map-then, map_same}
-use Rattle.cell_model.specs.Cell.{Function, gate, flip_flop, other, opaque, Cell}
+use Rattle.cell_model.specs.Cell.{other, Cell}
 use Rattle.net_core.specs.Places.{Stands}
 use Rattle.net_core.proofs.Frames.{mapped, unmapped}
-use Rattle.net_machine.specs.Body.{Load, Shown, Body, body_of, width}
+use Rattle.net_machine.specs.Body.{Load, Shown, Body, body_of}
 use Rattle.net_machine.specs.Gathered.{bits_count}
 use Rattle.net_machine.proofs.Bodies.{machine_bits}
 

@@ -1,38 +1,29 @@
 -- What machines of netlists rest on, from what is known of the netlist and of the library.
-use Rattle.std.proofs.Common.{◌≡◌, ◌≢◌, ◌⊎◌, inl, inr, ℕ, zero, suc, ◌+◌, ◌<◌, ◌≤◌, Bool, true, false, cond, not, ◌&&◌, List, [], ◌∷◌, ◌++◌, map, length, get_or, Option, None, Some, refl, sym, ap, ◌∙◌, subst, arith}
-use Rattle.std.specs.List.{All}
-use Rattle.std.proofs.lemmas.List.{length-map, get_or-map}
-use Rattle.std.proofs.lemmas.Option.{slice_get_within, slice_get-get_or, get_or_from_slice_get}
+use Rattle.std.proofs.Common.{◌≡◌, ℕ, zero, suc, Bool, true, false, cond, ◌&&◌, List, [], ◌∷◌, Option, None, Some, refl, sym, ap, ◌∙◌, subst, arith}
 use Rattle.vlsi_base.specs.declared.name.Name.{Name}
 use Rattle.vlsi_base.specs.declared.name.Terminal.{Terminal}
 use Rattle.machine_meaning.specs.Named.{is_same_text, is_same_name}
 use Rattle.machine_meaning.specs.Machine.{Machine}
 use Rattle.machine_core.proofs.Names.{same_name-true, same_name-itself}
 use Rattle.std.specs.Cmp.Lexicographic.{bytes_decides}
-use Rattle.cell_model.specs.Cell.{Function, gate, flip_flop, other, opaque, Cell}
-use Rattle.cell_model.specs.Library.{Library, cell_of}
+use Rattle.cell_model.specs.Library.{Library}
 use Rattle.cell_checks.specs.Checked.{IsChecked}
 use Rattle.cell_pins.specs.Table.{IsTableOf}
-use Rattle.net_core.specs.declared.frame.Node.{Node}
 use Rattle.net_core.specs.declared.pins.ModelPins.{ModelPins}
-use Rattle.net_core.specs.Frame.{instance_of}
-use Rattle.net_core.specs.Places.{Stands, IsThere, NoneTwice}
-use Rattle.net_core.specs.Netlist.{Instance, Netlist as InMemory, IsNetlist, terminals, HasClass, IsClassFunction}
+use Rattle.net_core.specs.Places.{Stands, NoneTwice}
+use Rattle.net_core.specs.Netlist.{Netlist as InMemory, IsNetlist, terminals, IsClassFunction}
 use Rattle.net_core.specs.Links.{IsClassOrder}
 use Rattle.net_core.proofs.Finishing.{netlist_terminals_once}
-use Rattle.net_core.proofs.Frames.{mapped, unmapped}
 use Rattle.net_meaning.specs.Netlist.{Netlist}
 use Rattle.net_view.specs.Condition.{MeetsCondition}
-use Rattle.net_view.specs.View.{netlist_by, IsSeenAs}
 use Rattle.bit_machine.specs.System.{System, system_of, IsSystem, Falls, FitsPorts, IsMachineOfBits}
 use Rattle.bit_machine.specs.declared.system.BitSystem.{BitSystem}
-use Rattle.net_machine.specs.Signals.{signal_ports, IsClockPort, IsOpaque, HasBehaviour, IsFirstOpaque}
+use Rattle.net_machine.specs.Signals.{signal_ports, IsClockPort, HasBehaviour}
 use Rattle.net_machine.specs.Step.{KeepsStep, IsMachineOfNetlist}
-use Rattle.net_machine.specs.Known.{is_opaque, Known, known_view, opaque_at, known_at, IsUnknownAt, IsFirstUnknown, HasNoUnknown}
 use Rattle.net_machine.specs.Bits.{net_system}
 use Rattle.net_machine.specs.Gathered.{KnowsModels, AreKnown, HasClockOf, AreBitsOf, IsLonger}
 use Rattle.net_machine.specs.declared.known.Known.{Known as KnownParts}
-use Rattle.net_machine.proofs.Cells.{Ground, fine, clock_found}
+use Rattle.net_machine.proofs.Cells.{fine, clock_found}
 use Rattle.net_machine.proofs.Scenes.{Scene}
 use Rattle.net_machine.proofs.Whole.{is_system}
 use Rattle.net_machine.proofs.Fitting.{fits_ports}

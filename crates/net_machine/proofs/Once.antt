@@ -1,8 +1,6 @@
 -- A netlist that has a machine settles once.
-use Rattle.std.proofs.Common.{◌≡◌, Bool, List, length, sym, ap, ◌∙◌}
-use Rattle.machine_meaning.specs.Machine.{Machine, inputs}
-use Rattle.machine_core.specs.Order.{IsOrdered, SettlesOnce}
-use Rattle.net_meaning.specs.Behaviour.{Valuation, NetSettles}
+use Rattle.std.proofs.Common.{sym, ap, ◌∙◌}
+use Rattle.machine_core.specs.Order.{SettlesOnce}
 use Rattle.net_machine.specs.Step.{MachineSettlesNetlist}
 
 pub settles_netlist : SettlesOnce → MachineSettlesNetlist

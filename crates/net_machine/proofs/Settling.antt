@@ -1,21 +1,18 @@
 -- One instance: its cell drives its pins just where its body holds.
-use Rattle.std.proofs.Common.{◌≡◌, ◌≢◌, ◌⊎◌, inl, inr, ℕ, zero, suc, ◌+◌, ◌<◌, ◌≤◌, Bool, true, false, cond, List, [], ◌∷◌, ◌++◌, map, length, get_or, take, drop, Option, None, Some, refl, sym, ap, ◌∙◌, subst, arith, length-append, append-nil}
+use Rattle.std.proofs.Common.{◌≡◌, ◌⊎◌, inl, inr, ℕ, zero, suc, ◌+◌, ◌<◌, Bool, false, cond, List, [], ◌∷◌, ◌++◌, map, length, get_or, drop, Some, refl, sym, ap, ◌∙◌, subst, arith, length-append, append-nil}
 use Rattle.std.specs.Prelude.{slice_index}
-use Rattle.std.specs.List.{All}
-use Rattle.std.proofs.lemmas.List.{length-map, map-append, get_or-map, length-take-le, length-drop}
+use Rattle.std.proofs.lemmas.List.{length-map, map-append, get_or-map}
 use Rattle.std.proofs.lemmas.Option.{slice_get_within, get_or_from_slice_get}
 use Rattle.vlsi_base.specs.declared.name.Name.{Name}
 use Rattle.vlsi_base.specs.declared.name.Terminal.{Terminal}
 use Rattle.vlsi_base.specs.Range.{rising}
 use Rattle.vlsi_base.specs.Member.{In, here, there}
-use Rattle.bool_expr.specs.Expression.{Expression, constant, variable, IsOver, bit, val}
+use Rattle.bool_expr.specs.Expression.{Expression, variable, IsOver, bit, val}
 use Rattle.bool_expr.specs.Renumbering.{renumbered}
 use Rattle.machine_meaning.specs.Named.{value_at, values_at}
-use Rattle.machine_meaning.specs.Machine.{Machine, Equation, Register, inputs, outputs, register_names}
+use Rattle.machine_meaning.specs.Machine.{Machine, Register, inputs, register_names}
 use Rattle.machine_meaning.specs.Cycles.{Settles, outs, next}
-use Rattle.machine_core.specs.Checked.{IsChecked}
 use Rattle.machine_core.proofs.Values.{In-left, In-right, In-map, In-split}
-use Rattle.source_meaning.specs.Formula.{place}
 use Rattle.source_bits.specs.Driven.{Numbered, NumberedStorage}
 use Rattle.vlsi_model.proofs.Building.{map-then, map_same}
 use Rattle.cell_model.specs.Cell.{Function, gate, flip_flop, other, opaque, Cell, cell_inputs, cell_outputs}
@@ -24,18 +21,18 @@ use Rattle.cell_model.specs.Usable.{FitsPins}
 use Rattle.net_core.specs.Places.{Stands}
 use Rattle.net_core.specs.Netlist.{Instance, pin_of}
 use Rattle.net_meaning.specs.Netlist.{Netlist}
-use Rattle.net_meaning.specs.Behaviour.{Contents, Valuation, bit_of, pin_bits, Drives, loaded, next_held}
-use Rattle.net_view.specs.View.{member_of, netlist_by}
+use Rattle.net_meaning.specs.Behaviour.{Contents, Valuation, pin_bits, Drives, loaded}
+use Rattle.net_view.specs.View.{netlist_by}
 use Rattle.bit_machine.proofs.Showing.{val_renumbered}
 use Rattle.net_machine.specs.Body.{Load, Shown, Body, body_of, body_at, width}
-use Rattle.net_machine.specs.Bits.{numbers, stored_from, inner_from, shown_from, body_stored, body_driven}
+use Rattle.net_machine.specs.Bits.{numbers, stored_from, inner_from, shown_from, body_driven}
 use Rattle.net_machine.specs.Gathered.{bits_count, IsBodyOver}
-use Rattle.net_machine.proofs.Bodies.{All_is, body_over, machine_outputs, machine_bits}
-use Rattle.net_machine.proofs.Scenes.{Scene, Member, member, shown_pins}
+use Rattle.net_machine.proofs.Bodies.{All_is, machine_outputs, machine_bits}
+use Rattle.net_machine.proofs.Scenes.{Scene, shown_pins}
 use Rattle.net_machine.proofs.Blocks.{body_in, shown_low}
-use Rattle.net_machine.proofs.Whole.{rising_count, In-inner_from}
-use Rattle.net_machine.proofs.Local.{BodyHolds, take_front, drop_front, machine_registers, machine_settles, machine_holds, settled_pieces}
-use Rattle.net_machine.proofs.Places.{held_in, held_at, local}
+use Rattle.net_machine.proofs.Whole.{rising_count}
+use Rattle.net_machine.proofs.Local.{BodyHolds, machine_registers, machine_settles, machine_holds}
+use Rattle.net_machine.proofs.Places.{held_in, local}
 use Rattle.vlsi_model.proofs.Members.{In-cases, In-map_back}
 
 -- the netlist with this scene's classes

@@ -1,21 +1,20 @@
 -- A netlist and the machine of its bits keep step.
-use Rattle.std.proofs.Common.{◌≡◌, ◌≢◌, ◌⊎◌, inl, inr, ℕ, zero, suc, ◌+◌, ◌<◌, ◌≤◌, Bool, true, false, cond, not, ◌&&◌, List, [], ◌∷◌, ◌++◌, map, length, get_or, take, drop, replicate, Option, None, Some, refl, sym, ap, ◌∙◌, subst, arith, length-append, append_assoc}
+use Rattle.std.proofs.Common.{◌≡◌, ◌⊎◌, inl, inr, ℕ, zero, suc, ◌+◌, ◌<◌, ◌≤◌, Bool, true, false, cond, not, ◌&&◌, List, [], ◌∷◌, ◌++◌, map, length, get_or, take, drop, replicate, Option, None, Some, refl, sym, ap, ◌∙◌, subst, arith, length-append, append_assoc}
 use Rattle.std.specs.Prelude.{bytes_eq, codes}
-use Rattle.std.specs.List.{All, flat_map}
+use Rattle.std.specs.List.{flat_map}
 use Rattle.std.proofs.lemmas.List.{length-map, map-append, get_or-map, length-take-le, length-drop, get_or-take, length-replicate}
 use Rattle.vlsi_base.specs.declared.name.Name.{Name}
 use Rattle.vlsi_base.specs.declared.name.Port.{Port}
 use Rattle.vlsi_base.specs.declared.name.Dir.{Dir}
 use Rattle.vlsi_base.specs.declared.name.Dir.TheVariants as dir
-use Rattle.vlsi_base.specs.declared.name.Terminal.{Terminal}
 use Rattle.vlsi_base.specs.Name.{is_supply}
 use Rattle.vlsi_base.specs.Names.{vdd, vss}
 use Rattle.vlsi_base.specs.Range.{rising}
 use Rattle.vlsi_base.specs.Member.{In, here, there, AllDifferent}
-use Rattle.bool_expr.specs.Expression.{Expression, constant, variable, IsOver, bit, val}
-use Rattle.machine_meaning.specs.Named.{value_at, values_at, is_same_text, is_same_name}
-use Rattle.machine_meaning.specs.Machine.{Machine, is_input, is_clock, names_of, inputs, Register, register_names}
-use Rattle.machine_meaning.specs.Cycles.{Settles, next}
+use Rattle.bool_expr.specs.Expression.{constant, variable, IsOver, bit, val}
+use Rattle.machine_meaning.specs.Named.{value_at, is_same_text, is_same_name}
+use Rattle.machine_meaning.specs.Machine.{Machine, is_clock, inputs, Register, register_names}
+use Rattle.machine_meaning.specs.Cycles.{Settles}
 use Rattle.machine_core.proofs.Names.{same_name-itself, same_name-true, same_name-false}
 use Rattle.machine_core.proofs.Values.{In-split, In-left, In-right, In-map}
 use Rattle.source_bits.specs.Driven.{Numbered, NumberedStorage}
@@ -24,32 +23,31 @@ use Rattle.vlsi_model.specs.Laid.{inputs_of}
 use Rattle.vlsi_model.proofs.Members.{In-cases, In-map_back}
 use Rattle.vlsi_model.proofs.PortBits.{In-filter}
 use Rattle.vlsi_model.proofs.Sorting.{place_of_In, In-at}
-use Rattle.vlsi_model.proofs.Building.{map-then, map_same}
 use Rattle.cell_model.specs.Cell.{Function, gate, flip_flop, other, opaque, Cell}
-use Rattle.cell_model.specs.Library.{Library, cell_of}
+use Rattle.cell_model.specs.Library.{cell_of}
 use Rattle.net_core.specs.Places.{IsThere}
 use Rattle.net_core.specs.Netlist.{Instance, port, pin_of, terminals}
 use Rattle.net_core.specs.Checks.{port_role}
-use Rattle.net_meaning.specs.Netlist.{Member as Layout, Netlist}
-use Rattle.net_meaning.specs.Behaviour.{Contents, Valuation, bit_of, Drives, NetSettles, model_of, cell_at, loaded, next_held, net_next, pin_bits}
-use Rattle.net_view.specs.View.{member_of, netlist_by}
-use Rattle.bit_machine.specs.System.{System, stored_bits, BitsSettle, bits_next, bits_shown, IsMachineOfBits}
+use Rattle.net_meaning.specs.Netlist.{Member as Layout}
+use Rattle.net_meaning.specs.Behaviour.{Contents, Valuation, Drives, NetSettles, model_of, cell_at, loaded, next_held, net_next, pin_bits}
+use Rattle.net_view.specs.View.{member_of}
+use Rattle.bit_machine.specs.System.{BitsSettle, bits_next, bits_shown, IsMachineOfBits}
 use Rattle.bit_machine.proofs.Showing.{shown_at}
 use Rattle.net_machine.specs.Signals.{signal_ports, net_inputs}
 use Rattle.net_machine.specs.Step.{FitsContents, zeros, zeros_of, no_contents, ShowAlike, AreInStep, KeepsStep}
 use Rattle.net_machine.specs.Body.{Load, Body, body_of, body_at, width}
-use Rattle.net_machine.specs.Bits.{own_name, is_signal, fixed_bit, port_inputs, own_of, port_driven, class_of_port, classes_driven, widths, numbers, body_stored, body_driven, stored_from}
-use Rattle.net_machine.specs.Gathered.{bits_count, IsBodyOver}
-use Rattle.net_machine.proofs.Drivers.{a_port, there_In, In_there}
+use Rattle.net_machine.specs.Bits.{own_name, is_signal, fixed_bit, own_of, port_driven, class_of_port, classes_driven, numbers, body_stored, body_driven, stored_from}
+use Rattle.net_machine.specs.Gathered.{bits_count}
+use Rattle.net_machine.proofs.Drivers.{a_port, In_there}
 use Rattle.net_machine.proofs.Bodies.{All_is, machine_bits}
 use Rattle.net_machine.proofs.Cells.{fine_over, fine_pins, class_there}
 use Rattle.net_machine.proofs.Scenes.{Scene, class_low, Member, member, not_opaque}
-use Rattle.net_machine.proofs.Blocks.{held_of, all_stored, all_driven, body_in}
+use Rattle.net_machine.proofs.Blocks.{all_stored, all_driven, body_in}
 use Rattle.net_machine.proofs.Whole.{system, first, names_count, instances_apart, rising_count}
-use Rattle.net_machine.proofs.Fitting.{name_of_port, ClockPort, clock_port, output_signal, picked, supply_name}
+use Rattle.net_machine.proofs.Fitting.{name_of_port, clock_port, picked, supply_name}
 use Rattle.net_machine.proofs.Local.{BodyHolds, take_front, settled_pieces}
-use Rattle.net_machine.proofs.Places.{Place, first as at_first, next as at_next, place_of, placed_in, place_low, driven_in, DrivenBy, driven_by, held_in, held_at, held_all, held_count, held_split, held_join, local, inner_of, inner_at, bit_left, bits_between, block_at, blocks_count, bit_right}
-use Rattle.net_machine.proofs.Settling.{seen_net, Driven, holds_if, driven_if, pins_shown, AgreeBelow, Stage, drives, holds, IsLocal, FitsHeld, held_itself, loads_next, stored_next, loads, reads_agree, local_pieces, numbers_count, rising_split}
+use Rattle.net_machine.proofs.Places.{Place, first as at_first, next as at_next, place_of, placed_in, driven_in, driven_by, held_in, held_at, held_all, held_count, held_split, held_join, local, inner_of, inner_at, bit_left, block_at, blocks_count, bit_right}
+use Rattle.net_machine.proofs.Settling.{seen_net, Driven, holds_if, driven_if, pins_shown, AgreeBelow, Stage, drives, holds, IsLocal, FitsHeld, held_itself, loads_next, stored_next, loads, reads_agree, local_pieces, rising_split}
 use Rattle.net_core.proofs.Rings.{class_below}
 use Rattle.std.specs.Cmp.Lexicographic.{bytes_decides}
 use Rattle.cell_model.specs.Usable.{FitsPins}

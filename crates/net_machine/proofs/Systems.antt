@@ -1,38 +1,19 @@
 -- The bits of a netlist: each has one role, and all have one.
-use Rattle.std.proofs.Common.{◌≡◌, ◌≢◌, ◌⊎◌, inl, inr, ℕ, zero, suc, ◌+◌, ◌<◌, ◌≤◌, Bool, true, false, cond, not, ◌&&◌, List, [], ◌∷◌, ◌++◌, map, length, get_or, Option, None, Some, refl, sym, ap, ◌∙◌, subst, arith, length-append}
-use Rattle.std.specs.Prelude.{slice_index}
-use Rattle.std.specs.List.{flat_map}
-use Rattle.std.proofs.lemmas.List.{length-map, map-append}
+use Rattle.std.proofs.Common.{◌≡◌, ◌⊎◌, inl, inr, ℕ, ◌+◌, ◌<◌, ◌≤◌, Bool, true, false, cond, ◌&&◌, List, [], ◌∷◌, ◌++◌, map, length, Option, refl, sym, ap, ◌∙◌, subst, arith}
+use Rattle.std.proofs.lemmas.List.{map-append}
 use Rattle.std.proofs.lemmas.Bool.{cases_lt}
 use Rattle.vlsi_base.specs.declared.name.Name.{Name}
 use Rattle.vlsi_base.specs.declared.name.Port.{Port}
 use Rattle.vlsi_base.specs.declared.name.Dir.{Dir}
 use Rattle.vlsi_base.specs.declared.name.Dir.TheVariants as dir
 use Rattle.vlsi_base.specs.declared.name.Terminal.{Terminal}
-use Rattle.vlsi_base.specs.Range.{rising}
 use Rattle.vlsi_base.specs.Member.{In, here, there, AllDifferent}
-use Rattle.bool_expr.specs.Expression.{Expression, constant, variable, variables, IsOver}
-use Rattle.bool_expr.specs.Renumbering.{renumbered}
 use Rattle.machine_meaning.specs.Machine.{is_input}
-use Rattle.machine_core.proofs.Values.{In-split, In-left, In-right, In-map}
-use Rattle.machine_core.proofs.Known.{IsOver-In}
-use Rattle.source_bits.specs.Driven.{Numbered, NumberedStorage}
-use Rattle.vlsi_model.proofs.Members.{In-cases, In-map_back, different_append, different_map}
-use Rattle.vlsi_model.proofs.Bits.{In-rising, rising-In, different_rising}
-use Rattle.vlsi_model.proofs.Sorting.{In-at, place_of_In}
-use Rattle.cell_model.specs.Library.{Library, cell_of}
-use Rattle.net_core.specs.declared.tally.Role.{Role}
-use Rattle.net_core.specs.Places.{Stands, IsThere, NoneTwice}
-use Rattle.net_core.specs.Netlist.{Instance, port, pin_of}
-use Rattle.bit_machine.proofs.Showing.{over_renumbered}
-use Rattle.bit_machine.specs.System.{System, stored_bits, driven_bits, held_bits, all_bits, IsSystem}
-use Rattle.net_machine.specs.Body.{Load, Shown, Body, body_at, width}
-use Rattle.net_machine.specs.Bits.{own_name, is_signal, port_names, port_inputs, own_of, port_driven, class_of_port, classes_driven, Placed, placed_from, widths, numbers, stored_from, inner_from, shown_from, body_stored, body_driven, placed_stored, placed_driven, first_base, placed, net_system}
-use Rattle.net_machine.specs.Gathered.{bits_count}
-use Rattle.net_machine.proofs.Drivers.{there_In, In_there, In-flat, In-flat_back, IsAt, a_port, a_pin, some_driver}
-use Rattle.net_machine.proofs.Bodies.{All_is, body_over}
-use Rattle.net_machine.proofs.Cells.{fine_over, sound_of}
-use Rattle.net_machine.proofs.Scenes.{Scene, has_class, class_low, once, at_port, input_driver, output_driver, Member, member, IsOutput, shown_output, shows_different, output_shown}
+use Rattle.machine_core.proofs.Values.{In-split, In-left, In-right}
+use Rattle.source_bits.specs.Driven.{Numbered}
+use Rattle.vlsi_model.proofs.Members.{In-cases}
+use Rattle.net_core.specs.Netlist.{port}
+use Rattle.net_machine.specs.Bits.{is_signal, port_inputs, own_of, port_driven, class_of_port, classes_driven}
 
 -- ---- numbers that rise
 

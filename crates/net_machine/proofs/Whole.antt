@@ -1,7 +1,6 @@
 -- The bits of a netlist are a system.
-use Rattle.std.proofs.Common.{◌≡◌, ◌≢◌, ◌⊎◌, inl, inr, ℕ, zero, suc, ◌+◌, ◌<◌, ◌≤◌, Bool, true, false, cond, List, [], ◌∷◌, ◌++◌, map, length, get_or, Option, None, Some, refl, sym, ap, ◌∙◌, subst, arith, length-append}
+use Rattle.std.proofs.Common.{◌≡◌, ◌⊎◌, inl, inr, ℕ, zero, suc, ◌+◌, ◌<◌, ◌≤◌, Bool, true, false, cond, List, [], ◌∷◌, ◌++◌, map, length, get_or, Option, None, Some, refl, sym, ap, ◌∙◌, subst, arith, length-append}
 use Rattle.std.specs.Prelude.{slice_index}
-use Rattle.std.specs.List.{All, flat_map}
 use Rattle.std.proofs.lemmas.List.{length-map, map-append}
 use Rattle.std.proofs.lemmas.Bool.{cases_lt}
 use Rattle.vlsi_base.specs.declared.name.Name.{Name}
@@ -12,32 +11,28 @@ use Rattle.vlsi_base.specs.declared.name.Terminal.{Terminal}
 use Rattle.vlsi_base.specs.Range.{rising}
 use Rattle.vlsi_base.specs.Names.{comes_before}
 use Rattle.vlsi_base.specs.Member.{In, here, there, AllDifferent}
-use Rattle.bool_expr.specs.Expression.{Expression, constant, variable, variables, IsOver}
+use Rattle.bool_expr.specs.Expression.{Expression, constant, variable, IsOver}
 use Rattle.bool_expr.specs.Renumbering.{renumbered}
 use Rattle.machine_core.proofs.Values.{In-split, In-left, In-right, In-map}
 use Rattle.machine_core.proofs.Known.{IsOver-In}
 use Rattle.source_bits.specs.Driven.{Numbered, NumberedStorage}
 use Rattle.vlsi_model.proofs.Members.{In-cases, In-map_back, different_append, different_map}
-use Rattle.vlsi_model.proofs.Bits.{In-rising, rising-In, different_rising}
-use Rattle.vlsi_model.proofs.Sorting.{In-at, place_of_In, different_from_pairs}
-use Rattle.cell_model.specs.Library.{cell_of}
+use Rattle.vlsi_model.proofs.Bits.{In-rising, different_rising}
+use Rattle.vlsi_model.proofs.Sorting.{In-at, different_from_pairs}
 use Rattle.net_core.specs.declared.tally.Role.{Role}
-use Rattle.net_core.specs.declared.tally.Role.TheVariants as role
-use Rattle.net_core.specs.declared.pins.ModelPin.{ModelPin}
-use Rattle.net_core.specs.Places.{Stands, IsThere, NoneTwice}
+use Rattle.net_core.specs.Places.{IsThere, NoneTwice}
 use Rattle.net_core.specs.Netlist.{Instance, port, pin_of, HasClass, terminals}
 use Rattle.net_core.specs.Checks.{port_role, pin_role}
 use Rattle.bit_machine.proofs.Showing.{over_renumbered}
-use Rattle.bit_machine.proofs.Laying.{apart_of}
-use Rattle.bit_machine.specs.System.{System, stored_bits, driven_bits, held_bits, all_bits, IsSystem}
-use Rattle.net_machine.specs.Body.{Load, Shown, Body, body_at, width}
-use Rattle.net_machine.specs.Bits.{own_name, is_signal, port_names, port_inputs, own_of, port_driven, class_of_port, classes_driven, Placed, placed_from, widths, numbers, stored_from, inner_from, shown_from, body_stored, body_driven, placed_stored, placed_driven, first_base, placed, net_system, fixed_bit}
+use Rattle.bit_machine.specs.System.{System, driven_bits, held_bits, all_bits, IsSystem}
+use Rattle.net_machine.specs.Body.{Load, Shown, Body, width}
+use Rattle.net_machine.specs.Bits.{own_name, is_signal, port_names, port_inputs, own_of, port_driven, class_of_port, classes_driven, widths, numbers, stored_from, inner_from, shown_from, body_stored, body_driven, first_base, net_system, fixed_bit}
 use Rattle.net_machine.specs.Gathered.{bits_count, IsBodyOver}
-use Rattle.net_machine.proofs.Drivers.{there_In, In_there, In-flat, In-flat_back, IsAt, a_port, a_pin, is_driver, some_driver}
+use Rattle.net_machine.proofs.Drivers.{In_there, IsAt, a_port, a_pin, is_driver, some_driver}
 use Rattle.net_machine.proofs.Bodies.{All_is}
 use Rattle.net_machine.proofs.Cells.{fine_over, sound_of, fine_pins, class_there}
-use Rattle.net_machine.proofs.Scenes.{Scene, has_class, class_low, once, input_driver, output_driver, Member, member, IsOutput, shown_output, output_shown, itself_not_before}
-use Rattle.net_machine.proofs.Systems.{Rises, rises_low, rises_different, inputs_rise, inputs_high, ports_rise, ports_high, port_parts, port_apart, IsInputClass, class_in, in_class, classes_different}
+use Rattle.net_machine.proofs.Scenes.{Scene, has_class, class_low, once, input_driver, output_driver, member, shown_output, output_shown, itself_not_before}
+use Rattle.net_machine.proofs.Systems.{rises_low, rises_different, inputs_rise, inputs_high, ports_rise, ports_high, port_parts, port_apart, IsInputClass, class_in, in_class, classes_different}
 use Rattle.net_machine.proofs.Blocks.{bits_of, held_of, all_stored, all_driven, body_in, stored_rise, stored_high, IsShownClass, IsInnerBit, driven_cases, own_parts, shown_driven, shown_low, driven_different}
 use Rattle.net_core.proofs.Rings.{class_below}
 
