@@ -1,4 +1,4 @@
--- The bits of a netlist whose classes stand in an order fall: none depends on itself.
+-- The bits of a netlist whose classes have ranks fall: none depends on itself.
 use Rattle.std.proofs.Common.{◌≡◌, ◌⊎◌, inl, inr, ℕ, zero, suc, ◌+◌, ◌-◌, ◌<◌, ◌≤◌, Bool, true, false, cond, ◌&&◌, List, [], ◌∷◌, ◌++◌, map, length, get_or, nat_eq, None, Some, refl, sym, ap, ◌∙◌, subst, arith}
 use Rattle.std.specs.Prelude.{slice_index, slice_get, nat_lt}
 use Rattle.std.proofs.lemmas.List.{length-map, get_or-map}
@@ -28,8 +28,7 @@ use Rattle.net_core.specs.declared.tally.Role.{Role}
 use Rattle.net_core.specs.declared.pins.ModelPin.{ModelPin}
 use Rattle.net_core.specs.Places.{Stands}
 use Rattle.net_core.specs.Netlist.{Instance, port, pin_of, HasClass}
-use Rattle.net_core.specs.Checks.{pins_named, port_role, pin_role}
-use Rattle.net_core.specs.Links.{IsClassOrder}
+use Rattle.net_core.specs.Checks.{pins_named, port_role, pin_role, DependsOn}
 use Rattle.bit_machine.specs.System.{Falls}
 use Rattle.net_machine.specs.Body.{Shown, Body, body_of, body_at, width}
 use Rattle.net_machine.specs.Bits.{is_signal, fixed_bit, own_of, port_driven, class_of_port, classes_driven, numbers, inner_from, shown_from, body_driven}
@@ -56,27 +55,14 @@ raised_more step zero b l = omega arith
 raised_more step (suc a) zero l = absurd (omega (arith, l))
 raised_more step (suc a) (suc b) l = let r = raised_more step a b (omega (arith, l)) in omega (arith, r)
 
--- where a number stands first
-abbrev position : List ℕ → ℕ → ℕ
-position [] x = 0
-position (y ∷ ys) x = cond (nat_eq y x) 0 (suc (position ys x))
-
-position_at : (ys : List ℕ) (x k : ℕ) → Stands ys k x → Stands ys (position ys x) x
-position_at [] x k s = absurd cc
-position_at (y ∷ ys) x k s = by (nat_eq y x) refl k s (position_at ys x) where
-  by : (b : Bool) → nat_eq y x ≡ b → (k : ℕ) → Stands (y ∷ ys) k x → ((j : ℕ) → Stands ys j x → Stands ys (position ys x) x) → Stands (y ∷ ys) (cond b 0 (suc (position ys x))) x
-  by true e k s rest = ap (λ z. Some z) (eqb-true y x e)
-  by false e zero s rest = let same : y ≡ x = cc in let t = eq-eqb y x same in let no : true ≡ false = sym t ∙ e in absurd cc
-  by false e (suc k) s rest = rest k s
-
 -- ---- ranks of classes
 
 -- the class of an input port
-abbrev is_fed : (Terminal → ℕ) → List Port → ℕ → Bool
+abbrev pub is_fed : (Terminal → ℕ) → List Port → ℕ → Bool
 is_fed class [] x = false
 is_fed class (p ∷ ps) x = cond (is_input p.dir && nat_eq (class (port p.name)) x) true (is_fed class ps x)
 
-fed : (class : Terminal → ℕ) (ps : List Port) (x : ℕ) → is_fed class ps x ≡ true → (p : Port) × In p ps × (p.dir ≡ dir.In) × (class (port p.name) ≡ x)
+pub fed : (class : Terminal → ℕ) (ps : List Port) (x : ℕ) → is_fed class ps x ≡ true → (p : Port) × In p ps × (p.dir ≡ dir.In) × (class (port p.name) ≡ x)
 fed class [] x e = absurd cc
 fed class (p ∷ ps) x e = by p.dir (nat_eq (class (port p.name)) x) refl refl e (fed class ps x) where
   by : (d : Dir) (b : Bool) → p.dir ≡ d → nat_eq (class (port p.name)) x ≡ b → cond (is_input d && b) true (is_fed class ps x) ≡ true
@@ -85,7 +71,7 @@ fed class (p ∷ ps) x e = by p.dir (nat_eq (class (port p.name)) x) refl refl e
   by dir.In false f g h rest = let r = rest h in (r.0, there r.1, r.2, r.3)
   by dir.Out b f g h rest = let r = rest h in (r.0, there r.1, r.2, r.3)
 
-feeds : (class : Terminal → ℕ) (ps : List Port) (p : Port) → In p ps → p.dir ≡ dir.In → is_fed class ps (class (port p.name)) ≡ true
+pub feeds : (class : Terminal → ℕ) (ps : List Port) (p : Port) → In p ps → p.dir ≡ dir.In → is_fed class ps (class (port p.name)) ≡ true
 feeds class (q ∷ ps) p i d = by (In-cases p q ps i) (λ h. feeds class ps p h d) where
   right : (b : Bool) → cond b true true ≡ true
   right true = refl
@@ -156,12 +142,19 @@ num_rising k zero j l = absurd (omega (arith, l))
 num_rising k (suc n) zero l = omega arith
 num_rising k (suc n) (suc j) l = let r = num_rising (k + 1) n j (omega (arith, l)) in omega (arith, r)
 
-module _ (s : Scene) (order : List ℕ) (h : IsClassOrder s.table s.n order) where
+-- A number for each class, above those of the output pins' classes on which its output pin depends at once.
+pub record ClassRanks (s : Scene) : Type 0 where
+  pub rank : ℕ → ℕ
+  pub top : ℕ
+  pub low : (c : ℕ) → c < s.n.count → rank c < top
+  pub falls : (a b : Terminal) (c d : ℕ) → DependsOn s.table s.n a b → HasClass s.n a c → HasClass s.n b d → rank d < rank c
+
+module _ (s : Scene) (ranks : ClassRanks s) where
   abbrev class_rank : ℕ → ℕ
-  class_rank x = cond (is_fed s.class s.n.ports x) 1 (suc (raised (limit s s.n.instances) (suc (position order x))))
+  class_rank x = cond (is_fed s.class s.n.ports x) 1 (suc (raised (limit s s.n.instances) (suc (ranks.rank x))))
 
   abbrev top : ℕ
-  top = suc (suc (raised (limit s s.n.instances) (length order)))
+  top = suc (suc (raised (limit s s.n.instances) ranks.top))
 
   abbrev pin_rank : Instance → Name → ℕ
   pin_rank i pin = class_rank (s.class (pin_of i.name pin))
@@ -237,16 +230,13 @@ module _ (s : Scene) (order : List ℕ) (h : IsClassOrder s.table s.n order) whe
         let back : length (body_in s i).reads + (k - length (body_in s i).reads) ≡ k = omega (arith, high) in
         ap rank e ∙ rank_of_own i at p (k - length (body_in s i).reads) less ∙ ap (slice_index (levels i)) back
 
-  position_of : (x : ℕ) → x < s.n.count → Stands order (position order x) x
-  position_of x l = let t = h.complete x l in position_at order x t.0 t.1
-
   class_rank_low : (x : ℕ) → x < s.n.count → class_rank x < top
   class_rank_low x l = by (is_fed s.class s.n.ports x) where
-    by : (b : Bool) → cond b 1 (suc (raised (limit s s.n.instances) (suc (position order x)))) < top
+    by : (b : Bool) → cond b 1 (suc (raised (limit s s.n.instances) (suc (ranks.rank x)))) < top
     by true = omega arith
     by false =
-        let w = slice_get_within order (position order x) x (position_of x l) in
-        let r = raised_more (limit s s.n.instances) (suc (position order x)) (length order) (omega (arith, w)) in
+        let w = ranks.low x l in
+        let r = raised_more (limit s s.n.instances) (suc (ranks.rank x)) ranks.top (omega (arith, w)) in
         omega (arith, r)
 
   -- an output pin's class has no input port
@@ -263,7 +253,7 @@ module _ (s : Scene) (order : List ℕ) (h : IsClassOrder s.table s.n order) whe
 
   -- a pin on which an output pin depends at once
   pub followed_low : (i : Instance) (m : Member s i) (x : Shown) → In x (body_in s i).shows → IsPin m.seat.cell x.pin dir.Out → (pin : Name) → IsPin m.seat.cell pin dir.In
-      → DependsAtOnce m.seat.cell.function x.pin pin → pin_rank i pin ≤ suc (raised (limit s s.n.instances) (position order (s.class (pin_of i.name x.pin))))
+      → DependsAtOnce m.seat.cell.function x.pin pin → pin_rank i pin ≤ suc (raised (limit s s.n.instances) (ranks.rank (s.class (pin_of i.name x.pin))))
   followed_low i m x j po pin pi dep = by (is_fed s.class s.n.ports (s.class (pin_of i.name pin))) refl where
     c : Cell
     c = m.seat.cell
@@ -300,20 +290,20 @@ module _ (s : Scene) (order : List ℕ) (h : IsClassOrder s.table s.n order) whe
 
     -- the driver of the class is an output pin
     behind : (t : Terminal) (r : Role) → IsAt s.table s.n t r → HasClass s.n t (s.class (pin_of i.name pin)) → 1 ≤ is_driver r → is_fed s.class s.n.ports (s.class (pin_of i.name pin)) ≡ false
-        → position order (s.class (pin_of i.name pin)) < position order (s.class (pin_of i.name x.pin))
+        → ranks.rank (s.class (pin_of i.name pin)) < ranks.rank (s.class (pin_of i.name x.pin))
     behind _ _ (a_port p l) has one unfed = of_dir p.dir refl where
-      of_dir : (d : Dir) → p.dir ≡ d → position order (s.class (pin_of i.name pin)) < position order (s.class (pin_of i.name x.pin))
+      of_dir : (d : Dir) → p.dir ≡ d → ranks.rank (s.class (pin_of i.name pin)) < ranks.rank (s.class (pin_of i.name x.pin))
       of_dir dir.In e =
           let at : s.class (port p.name) ≡ s.class (pin_of i.name pin) = s.classes.each (port p.name) (s.class (pin_of i.name pin)) has in
           let fed_is : is_fed s.class s.n.ports (s.class (pin_of i.name pin)) ≡ true = subst (λ k. is_fed s.class s.n.ports k ≡ true) at (feeds s.class s.n.ports p l e) in
           let clash : true ≡ false = sym fed_is ∙ unfed in absurd cc
       of_dir dir.Out e = absurd (let z : is_driver (port_role p) ≡ 0 = rw e refl in omega (arith, one, z))
     behind _ _ (a_pin k q l g) has one unfed = of_dir q.dir q.is_clock refl refl where
-      of_dir : (d : Dir) (b : Bool) → q.dir ≡ d → q.is_clock ≡ b → position order (s.class (pin_of i.name pin)) < position order (s.class (pin_of i.name x.pin))
+      of_dir : (d : Dir) (b : Bool) → q.dir ≡ d → q.is_clock ≡ b → ranks.rank (s.class (pin_of i.name pin)) < ranks.rank (s.class (pin_of i.name x.pin))
       of_dir dir.In true e f = absurd (let z : is_driver (pin_role q) ≡ 0 = rw (e, f) refl in omega (arith, one, z))
       of_dir dir.In false e f = absurd (let z : is_driver (pin_role q) ≡ 0 = rw (e, f) refl in omega (arith, one, z))
       of_dir dir.Out b e f =
-          h.behind (pin_of i.name x.pin) (pin_of k.name q.name) (s.class (pin_of i.name x.pin)) (s.class (pin_of i.name pin)) (position order (s.class (pin_of i.name x.pin))) (position order (s.class (pin_of i.name pin)))
+          ranks.falls (pin_of i.name x.pin) (pin_of k.name q.name) (s.class (pin_of i.name x.pin)) (s.class (pin_of i.name pin))
           (record {
             owner = i;
             output = out.0;
@@ -332,15 +322,15 @@ module _ (s : Scene) (order : List ℕ) (h : IsClassOrder s.table s.n order) whe
             drives = e;
             joined = has;
           })
-          (has_class s (pin_of i.name x.pin) (pin_role out.0) out_at) has (position_of (s.class (pin_of i.name x.pin)) (class_low s (pin_of i.name x.pin) (pin_role out.0) out_at)) (position_of (s.class (pin_of i.name pin)) low)
+          (has_class s (pin_of i.name x.pin) (pin_role out.0) out_at) has
 
     by : (b : Bool) → is_fed s.class s.n.ports (s.class (pin_of i.name pin)) ≡ b
-        → cond b 1 (suc (raised (limit s s.n.instances) (suc (position order (s.class (pin_of i.name pin)))))) ≤ suc (raised (limit s s.n.instances) (position order (s.class (pin_of i.name x.pin))))
+        → cond b 1 (suc (raised (limit s s.n.instances) (suc (ranks.rank (s.class (pin_of i.name pin)))))) ≤ suc (raised (limit s s.n.instances) (ranks.rank (s.class (pin_of i.name x.pin))))
     by true e = omega arith
     by false e =
         let d = some_driver s.table s.n (sound_of s.n s.l s.table s.ground) (s.class (pin_of i.name pin)) low in
         let l = behind d.0 d.1 d.2 d.3 d.4 e in
-        let r = raised_more (limit s s.n.instances) (suc (position order (s.class (pin_of i.name pin)))) (position order (s.class (pin_of i.name x.pin))) (omega (arith, l)) in
+        let r = raised_more (limit s s.n.instances) (suc (ranks.rank (s.class (pin_of i.name pin)))) (ranks.rank (s.class (pin_of i.name x.pin))) (omega (arith, l)) in
         omega (arith, r)
 
   -- what an inner bit reads
@@ -375,14 +365,14 @@ module _ (s : Scene) (order : List ℕ) (h : IsClassOrder s.table s.n order) whe
       let inside = IsOver-In x.expr (bits_count (body_in s i)) over w.0 w.1 in
       let jc : In x (body_of m.seat.cell m.seat.cell.function).shows = subst (λ (y : Body). In x y.shows) b j in
       let po = shows_pin m.seat.cell m.seat.cell.function m.seat.formed.function x jc in
-      let r = suc (raised (limit s s.n.instances) (position order (s.class (pin_of i.name x.pin)))) in
+      let r = suc (raised (limit s s.n.instances) (ranks.rank (s.class (pin_of i.name x.pin)))) in
       let level = shown_level m.seat.cell (pin_rank i) m.seat.formed.signals m.seat.cell.function m.seat.formed.function x jc r
       (λ pin k dep. followed_low i m x j po pin (reads_pin m.seat.cell m.seat.cell.function m.seat.formed.function pin k) dep) w.0 w.1 in
       let here_level : slice_index (levels i) w.0 ≤ r + w.0 + 1 = subst (λ (y : Body). slice_index (body_levels (pin_rank i) y) w.0 ≤ r + w.0 + 1) (sym b) level in
       let a : rank v ≡ slice_index (levels i) w.0 = ap rank (sym w.2) ∙ rank_of_number i at p w.0 inside in
-      let o : rank (s.class (pin_of i.name x.pin)) ≡ suc (raised (limit s s.n.instances) (suc (position order (s.class (pin_of i.name x.pin))))) =
+      let o : rank (s.class (pin_of i.name x.pin)) ≡ suc (raised (limit s s.n.instances) (suc (ranks.rank (s.class (pin_of i.name x.pin))))) =
       rank_of_class (s.class (pin_of i.name x.pin)) (shown_low s i li x j)
-      ∙ ap (λ t. cond t 1 (suc (raised (limit s s.n.instances) (suc (position order (s.class (pin_of i.name x.pin))))))) (not_fed i m x j) in
+      ∙ ap (λ t. cond t 1 (suc (raised (limit s s.n.instances) (suc (ranks.rank (s.class (pin_of i.name x.pin))))))) (not_fed i m x j) in
       let many = limit_over s s.n.instances i li in
       omega (arith, here_level, a, o, many, inside)
 
@@ -429,7 +419,7 @@ module _ (s : Scene) (order : List ℕ) (h : IsClassOrder s.table s.n order) whe
         let here_in = listed k p l e in
         let x : rank v ≡ 0 = ap rank (sym same) ∙ rank_of_port k p l e ∙ ap (λ (t : Dir). cond (is_input t) 0 top) f in
         let y : rank (s.class (port p.name)) ≡ 1 = rank_of_class (s.class (port p.name)) (port_low s p here_in)
-        ∙ ap (λ t. cond t 1 (suc (raised (limit s s.n.instances) (suc (position order (s.class (port p.name))))))) (feeds s.class s.n.ports p here_in f) in
+        ∙ ap (λ t. cond t 1 (suc (raised (limit s s.n.instances) (suc (ranks.rank (s.class (port p.name))))))) (feeds s.class s.n.ports p here_in f) in
         omega (arith, x, y)) b
     class k p l e dir.Out f b = absurd (elim b [ ])
 

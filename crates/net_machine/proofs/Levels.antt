@@ -39,7 +39,7 @@ lt_true a b l = grind (arith, nat_tests)
 pub lt_false : (a b : ℕ) → b ≤ a → nat_lt a b ≡ false
 lt_false a b l = grind (arith, nat_tests)
 
-larger_cases : (a b : ℕ) → ((larger a b ≡ b) × (a < b)) ⊎ ((larger a b ≡ a) × (b ≤ a))
+pub larger_cases : (a b : ℕ) → ((larger a b ≡ b) × (a < b)) ⊎ ((larger a b ≡ a) × (b ≤ a))
 larger_cases a b = by (cases_lt a b) where
   by : (a < b) ⊎ (b ≤ a) → ((larger a b ≡ b) × (a < b)) ⊎ ((larger a b ≡ a) × (b ≤ a))
   by (inl l) = inl (ap (λ t. cond t b a) (lt_true a b l), l)

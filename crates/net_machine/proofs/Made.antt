@@ -28,6 +28,7 @@ use Rattle.net_machine.proofs.Scenes.{Scene}
 use Rattle.net_machine.proofs.Whole.{is_system}
 use Rattle.net_machine.proofs.Fitting.{fits_ports}
 use Rattle.net_machine.proofs.Falling.{falls}
+use Rattle.net_machine.proofs.Ranking.{class_ranks}
 use Rattle.net_machine.proofs.Stepping.{keeps_step}
 
 -- ---- a class for each terminal
@@ -128,8 +129,11 @@ module _ (n : InMemory) (l : Library) (table : List ModelPins) (clock : Option N
   pub system_is : IsSystem (system_of b)
   system_is = subst IsSystem (sym same) (is_system this)
 
+  pub system_falls_always : Falls (system_of b).driven
+  system_falls_always = subst (λ (s : System). Falls s.driven) (sym same) (falls this (class_ranks this))
+
   pub system_falls : (order : List ℕ) → IsClassOrder table n order → Falls (system_of b).driven
-  system_falls order h = subst (λ (s : System). Falls s.driven) (sym same) (falls this order h)
+  system_falls order h = system_falls_always
 
   pub system_fits : FitsPorts (signal_ports n.ports) clock (system_of b)
   system_fits = subst (λ (s : System). FitsPorts (signal_ports n.ports) clock s) (sym same) (fits_ports this)
