@@ -11,7 +11,7 @@ ghost use Rattle.net_core.specs.Places.{IsThere};
 ghost use Rattle.net_core.specs.Netlist.{IsNetlist, pin_of, terminals, IsClassFunction};
 ghost use Rattle.bit_machine.specs.System.{system_of};
 ghost use Rattle.net_machine.specs.Body.{load_view, shown_view, body_view, width};
-ghost use Rattle.net_machine.specs.Bits.{own_name, is_signal, fixed_bit, port_names, port_inputs, port_driven, classes_driven, numbers, stored_from, inner_from, shown_from, body_stored, body_driven, placed_from, placed_stored, placed_driven, widths, first_base};
+ghost use Rattle.net_machine.specs.Bits.{own_name, is_signal, fixed_bit, port_names, port_inputs, own_of, port_driven, classes_driven, numbers, stored_from, inner_from, shown_from, body_stored, body_driven, placed_from, placed_stored, placed_driven, widths, first_base};
 ghost use Rattle.net_machine.specs.Gathered.{HasPins, IsBodyOver, IsLonger, Gathers, KnowsModels, AreKnown, AreBitsOf};
 
 use crate::body::{Body, Load, Shown};
@@ -131,6 +131,35 @@ fn fixed_bit(port: &Port) -> bool
     port.name.text.as_bytes() == b"vdd".as_slice()
 }
 
+/// Puts what the bit of a port of this class has the value of behind what is there: an output's class, and what a supply and the
+/// clock are.
+fn push_port(
+    driven: &mut Vec<DrivenBit>,
+    clock: Option<&Name>,
+    bit: u32,
+    port: &Port,
+    class: u32,
+) -> Result<(), AllocError>
+    ensures { OnOk result (map driven_view driven.new.items ≡ map driven_view driven.old.items
+        ++ own_of (λ _. class) (option_copied clock.entry) bit port.now port.now.dir) }
+{
+    match port.dir {
+        Dir::Out => driven.push(DrivenBit {
+            bit,
+            expr: Expr::Var(class),
+        })?,
+        Dir::In => {
+            if !is_signal(clock, port) {
+                driven.push(DrivenBit {
+                    bit,
+                    expr: Expr::Const(fixed_bit(port)),
+                })?;
+            }
+        }
+    }
+    Ok(())
+}
+
 /// Puts the bits of outputs, of supplies and of the clock behind those that are there.
 fn push_ports(
     driven: &mut Vec<DrivenBit>,
@@ -145,22 +174,7 @@ fn push_ports(
         ≡ map driven_view driven.old.items ++ port_driven class (option_copied clock.entry) first ports.now)) }
 {
     for k in 0..ports.len() {
-        let bit = first + k as u32;
-        let port = &ports[k];
-        match port.dir {
-            Dir::Out => driven.push(DrivenBit {
-                bit,
-                expr: Expr::Var(classes[k]),
-            })?,
-            Dir::In => {
-                if !is_signal(clock, port) {
-                    driven.push(DrivenBit {
-                        bit,
-                        expr: Expr::Const(fixed_bit(port)),
-                    })?;
-                }
-            }
-        }
+        push_port(driven, clock, first + k as u32, &ports[k], classes[k])?;
     }
     Ok(())
 }

@@ -14,7 +14,7 @@ use crate::known::{Known, first_unknown, known_models};
 use bit_machine::machine_of_bits;
 use cell_checks::Library;
 use machine_core::Machine;
-use net_core::{Netlist, PinTable};
+use net_core::{Netlist, PinTable, class_order};
 use std::alloc::{AllocError, Global};
 use vlsi_base::{Name, Port, Ports, is_supply};
 
@@ -55,13 +55,14 @@ pub fn machine_of(
     ensures known { OnOk result (HasBehaviour netlist.now library.now) }
     ensures refused { IfErr result (λ e. IsMachineRefusal netlist.now library.now e) }
 {
-    let _ = table;
+    let _ = netlist.classes();
     let known = known_models(alloc, netlist.models(), library.cells())?;
     if let Some(place) = first_unknown(netlist.nodes(), &known) {
         let node = &netlist.nodes()[place];
         let model = netlist.models()[node.model].copy(alloc)?;
         return Err(NetMachineError::NoBehaviour(model));
     }
+    let _order = class_order(alloc, netlist, table)?;
     let clock = clock_port(alloc, netlist, &known)?;
     let system = gather(alloc, netlist, &known, clock.as_ref())?;
     let name = netlist.name().copy(alloc)?;
