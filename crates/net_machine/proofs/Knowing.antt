@@ -1,5 +1,5 @@
 -- What is known of the model of an instance.
-use Rattle.std.proofs.Common.{◌≡◌, ℕ, ◌<◌, Bool, true, false, List, map, length, Option, None, Some, refl, sym, ap, ◌∙◌, subst, arith}
+use Rattle.std.proofs.Common.{◌≡◌, ℕ, ◌<◌, Bool, true, false, List, [], map, length, Option, None, Some, refl, sym, ap, ◌∙◌, subst, arith}
 use Rattle.std.specs.Prelude.{slice_index_or}
 use Rattle.std.specs.List.{All}
 use Rattle.std.proofs.lemmas.List.{length-map, get_or-map}
@@ -108,3 +108,18 @@ knows_models n l models cells known h is of =
 -- as many are known as there are models
 pub nodes_known : (n : InMemory) (l : Library) (known : List KnownParts) (nodes : List Node) → AreNodes n nodes → KnowsModels n l known → All (λ i. i.model < length known) nodes
 nodes_known n l known nodes are knows k d low = subst (λ (many : ℕ). (slice_index_or nodes k d).model < many) (sym (known_many n l known knows)) (are.inside k d low)
+
+pub stands_of : {A : Type 0} (xs : List A) (k : ℕ) (x : A) → k < length xs → x ≡ slice_index_or xs k x → Stands xs k x
+stands_of {A} xs k x low is =
+    let a = at_place xs k low in
+    subst (λ (y : A). Stands xs k y) (sym (get_or_from_slice_get xs k a.0 x a.1) ∙ sym is) a.1
+
+-- the model of the first instance of an opaque model
+pub refused : (n : InMemory) (l : Library) (models : List (List ℕ)) (known : List KnownParts) (nodes : List Node) (k : ℕ) (node : Node) (model : List ℕ) → models ≡ n.models → AreNodes n nodes
+    → KnowsModels n l known → IsFirstUnknown nodes known k → node ≡ slice_index_or nodes k node → model ≡ slice_index_or models node.model model → IsFirstOpaque n l model
+refused n l models known nodes k node model of are knows h is named =
+    let inside : node.model < length n.models = subst (λ (d : Node). d.model < length n.models) (sym is) (are.inside k node h.inside) in
+    let a = at_place n.models node.model inside in
+    let same : slice_index_or n.models node.model [] ≡ model =
+    get_or_from_slice_get n.models node.model a.0 [] a.1 ∙ sym (get_or_from_slice_get n.models node.model a.0 model a.1) ∙ ap (λ (ms : List (List ℕ)). slice_index_or ms node.model model) (sym of) ∙ sym named in
+    subst (λ (t : List ℕ). IsFirstOpaque n l t) same (first_opaque n l known nodes k node are knows h (stands_of nodes k node h.inside is))

@@ -1,6 +1,7 @@
 -- The numbers of a body's bits, and the classes of its output pins.
-use Rattle.std.proofs.Common.{◌≡◌, ℕ, ◌+◌, ◌-◌, ◌<◌, ◌≤◌, List, [], ◌∷◌, ◌++◌, map, length, get_or, drop, refl, sym, ap, ◌∙◌, arith, append-nil}
+use Rattle.std.proofs.Common.{◌≡◌, ℕ, ◌+◌, ◌-◌, ◌<◌, ◌≤◌, List, [], ◌∷◌, ◌++◌, map, length, get_or, drop, refl, sym, ap, ◌∙◌, subst, arith, append-nil, length-append}
 use Rattle.std.proofs.lemmas.List.{map-append, drop_all}
+use Rattle.std.specs.List.{All}
 use Rattle.vlsi_base.specs.declared.name.Name.{Name}
 use Rattle.vlsi_base.specs.declared.name.Terminal.{Terminal}
 use Rattle.vlsi_base.specs.Range.{rising}
@@ -53,3 +54,10 @@ pub shown_ended : (class : Terminal → ℕ) (owner table : List ℕ) (shows : L
     → now ≡ total
 shown_ended class owner table shows k now total all h =
     sym (append-nil now) ∙ ap (λ (ss : List ShownParts). now ++ shown_from class owner table (map shown_view ss)) (sym (drop_all k shows all)) ∙ h
+
+-- what holds of each element holds of the next
+pub item_holds : {A : Type 0} (P : A → Type 0) (xs : List A) (k : ℕ) (x : A) → k < length xs → x ≡ get_or xs k x → All P xs → P x
+item_holds P xs k x low is all = subst P (sym is) (all k x low)
+
+pub pushed_many : (xs ys : List ℕ) (x n : ℕ) → ys ≡ xs ++ x ∷ [] → length xs ≡ n → length ys ≡ n + 1
+pushed_many xs ys x n put many = let a = ap (λ (zs : List ℕ). length zs) put in let b = length-append xs (x ∷ []) in omega (arith, a, b, many)

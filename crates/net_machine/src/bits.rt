@@ -12,7 +12,7 @@ ghost use Rattle.net_core.specs.Netlist.{IsNetlist, pin_of, terminals, IsClassFu
 ghost use Rattle.bit_machine.specs.System.{system_of};
 ghost use Rattle.net_machine.specs.Body.{load_view, shown_view, body_view, width};
 ghost use Rattle.net_machine.specs.Bits.{own_name, is_signal, fixed_bit, port_names, port_inputs, own_of, port_driven, classes_driven, numbers, stored_from, inner_from, shown_from, body_stored, body_driven, placed_from, placed_stored, placed_driven, widths, first_base};
-ghost use Rattle.net_machine.specs.Gathered.{HasPins, IsBodyOver, IsLonger, Gathers, KnowsModels, AreKnown, AreBitsOf};
+ghost use Rattle.net_machine.specs.Gathered.{bits_count, HasPins, IsBodyOver, IsLonger, Gathers, KnowsModels, AreKnown, AreBitsOf};
 
 use crate::body::{Body, Load, Shown};
 use crate::clock::class_of;
@@ -226,7 +226,8 @@ fn numbers(
 ) -> Result<Vec<u32>, AllocError>
     requires pins { All (λ pin. IsThere (terminals netlist.now) (pin_of owner.now pin)) body.now.reads.items }
     requires end { end ≡ base + width (body_view body.now) }
-    ensures { IfOk result (λ made. (class : _) → IsClassFunction netlist.now class → made.items ≡ numbers class owner.now (body_view body.now) base) }
+    ensures numbers { IfOk result (λ made. (class : _) → IsClassFunction netlist.now class → made.items ≡ numbers class owner.now (body_view body.now) base) }
+    ensures count { IfOk result (λ made. length made.items ≡ bits_count (body_view body.now)) }
 {
     let mut made = Vec::new(alloc);
     for pin in &body.reads {

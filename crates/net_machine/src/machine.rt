@@ -16,8 +16,8 @@ use net_core::Netlist;
 use std::alloc::{AllocError, Global};
 use vlsi_base::{Name, Port, Ports, is_supply};
 
-/// The ports but vdd and vss.
-fn signal_ports(alloc: Global, ports: &[Port]) -> Result<Ports, AllocError>
+/// The ports but vdd and vss, in their order. Takes memory for their names.
+pub fn signal_ports(alloc: Global, ports: &[Port]) -> Result<Ports, AllocError>
     ensures { IfOk result (λ made. made ≡ signal_ports ports.now) }
 {
     let mut made = Vec::new(alloc);
@@ -52,10 +52,11 @@ pub fn machine_of(
     ensures refused { IfErr result (λ e. IsMachineRefusal netlist.now library.now e) }
 {
     let _ = netlist.classes();
-    let known = known_models(alloc, netlist.models(), library.cells())?;
-    if let Some(place) = first_unknown(netlist.nodes(), &known) {
-        let node = &netlist.nodes()[place];
-        let model = netlist.models()[node.model].copy(alloc)?;
+    let models = netlist.models();
+    let nodes = netlist.nodes();
+    let known = known_models(alloc, models, library.cells())?;
+    if let Some(place) = first_unknown(nodes, &known) {
+        let model = models[nodes[place].model].copy(alloc)?;
         return Err(NetMachineError::NoBehaviour(model));
     }
     let clock = clock_port(alloc, netlist, &known)?;

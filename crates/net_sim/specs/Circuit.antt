@@ -1,5 +1,5 @@
 -- A netlist of cells as a circuit, and what patterns come to on it.
-use Rattle.std.specs.Prelude.{◌≡◌, ◌↔◌, ℕ, List, Option}
+use Rattle.std.specs.Prelude.{◌↔◌, ℕ, true, List, Option}
 use Rattle.vlsi_base.specs.declared.name.Name.{Name}
 use Rattle.machine_meaning.specs.Machine.{Machine, inputs}
 use Rattle.net_core.specs.declared.pins.ModelPins.{ModelPins}
@@ -7,6 +7,8 @@ use Rattle.net_core.specs.Netlist.{Netlist as InMemory}
 use Rattle.cell_model.specs.Library.{Library}
 use Rattle.net_meaning.specs.Netlist.{Netlist, port}
 use Rattle.net_meaning.specs.Behaviour.{Contents, Valuation, bit_of, NetSettles, net_next}
+use Rattle.cell_pins.specs.Table.{IsTableOf}
+use Rattle.net_view.specs.Condition.{MeetsCondition}
 use Rattle.net_view.specs.View.{IsSeenAs}
 use Rattle.pat_meaning.specs.declared.patterns.Patterns.{Patterns}
 use Rattle.pat_meaning.specs.Circuit.{Circuit}
@@ -36,6 +38,14 @@ IsFilledOn n l table p out =
 abbrev pub DiffersOnNetlist : InMemory → Library → List ModelPins → Patterns → ℕ → Name → Type 0
 DiffersOnNetlist n l table p number bit =
     (k : Netlist) → IsSeenAs n k → (clock : Option Name) × IsClockPort table n clock × DiffersOn (of_netlist k l (net_inputs n clock) clock) p number bit
+
+-- so it is with the table of pins of all of the library's cells, where the netlist meets what each stage asks
+
+abbrev pub IsFilledWith : InMemory → Library → Patterns → Patterns → Type 0
+IsFilledWith n l p out = (table : List ModelPins) → IsTableOf l true table → MeetsCondition table n → IsFilledOn n l table p out
+
+abbrev pub DiffersWith : InMemory → Library → Patterns → ℕ → Name → Type 0
+DiffersWith n l p number bit = (table : List ModelPins) → IsTableOf l true table → MeetsCondition table n → DiffersOnNetlist n l table p number bit
 
 -- patterns come to the same on a netlist and on its machine
 abbrev pub SimulatesAlike : Type 0

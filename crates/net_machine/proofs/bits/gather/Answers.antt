@@ -1,4 +1,5 @@
 use Rattle.std.proofs.Common.{◌++◌, List, map, ap, ◌∙◌}
+use Rattle.std.specs.Option.{option_copied}
 use Rattle.std.specs.List.{flat_map}
 use Rattle.source_bits.specs.declared.driven.StoredBit.{StoredBit}
 use Rattle.source_bits.specs.Driven.{Numbered, driven_view, stored_view}
@@ -11,7 +12,7 @@ returns c = λ l knows.
     let n = c.args.netlist.now in
     let first = c.in_ok-first.first in
     let end = c.in_ok-end.end in
-    bits_are n l _ _ first end c.in_ok-first.ensures (c.in_ok-end.ensures.end l knows) c.in_ok-bit_names.ensures
+    bits_are n l (option_copied c.args.clock) _ first end c.in_ok-first.ensures (c.in_ok-end.ensures.end l knows) c.in_ok-system-2.ensures
     (c.in_ok-end.ensures.inputs ∙ c.in_ok-system.ensures.inputs)
     (λ class function. c.in_ok-end.ensures.stored l class knows function
     ∙ ap (λ (xs : List StoredBit). map stored_view xs ++ flat_map (placed_stored class) (placed_from l first n.instances)) c.in_ok-system.ensures.stored)
