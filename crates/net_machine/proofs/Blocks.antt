@@ -1,11 +1,9 @@
 -- The bits of a netlist's instances: each has one role, and all have one.
-use Rattle.std.proofs.Common.{◌≡◌, ◌≢◌, ◌⊎◌, inl, inr, ℕ, zero, suc, ◌+◌, ◌<◌, ◌≤◌, Bool, true, false, List, [], ◌∷◌, ◌++◌, map, length, Option, None, Some, refl, sym, ap, ◌∙◌, subst, arith, length-append}
+use Rattle.std.proofs.Common.{◌≡◌, ◌⊎◌, inl, inr, ℕ, zero, suc, ◌+◌, ◌<◌, ◌≤◌, List, [], ◌∷◌, ◌++◌, map, length, Some, refl, sym, ap, ◌∙◌, subst, arith}
 use Rattle.std.specs.List.{flat_map}
-use Rattle.std.proofs.lemmas.List.{length-map, map-append}
+use Rattle.std.proofs.lemmas.List.{map-append}
 use Rattle.std.proofs.lemmas.Bool.{cases_lt}
 use Rattle.vlsi_base.specs.declared.name.Name.{Name}
-use Rattle.vlsi_base.specs.declared.name.Port.{Port}
-use Rattle.vlsi_base.specs.declared.name.Dir.TheVariants as dir
 use Rattle.vlsi_base.specs.declared.name.Terminal.{Terminal}
 use Rattle.vlsi_base.specs.Range.{rising}
 use Rattle.vlsi_base.specs.Member.{In, here, there, AllDifferent}
@@ -16,15 +14,13 @@ use Rattle.source_bits.specs.Driven.{Numbered, NumberedStorage}
 use Rattle.vlsi_model.proofs.Members.{In-cases, In-map_back, different_append, different_map}
 use Rattle.vlsi_model.proofs.Building.{map-then}
 use Rattle.vlsi_model.proofs.Bits.{In-rising, rising-In}
-use Rattle.cell_model.specs.Library.{Library, cell_of}
-use Rattle.net_core.specs.Netlist.{Instance, port, pin_of}
-use Rattle.net_core.specs.Places.{NoneTwice}
+use Rattle.cell_model.specs.Library.{cell_of}
+use Rattle.net_core.specs.Netlist.{Instance, pin_of}
 use Rattle.net_core.specs.Checks.{pin_role}
 use Rattle.net_machine.specs.Body.{Load, Shown, Body, body_at, width}
-use Rattle.net_machine.specs.Bits.{Placed, placed_from, widths, numbers, stored_from, inner_from, shown_from, body_stored, body_driven, placed_stored, placed_driven, first_base}
-use Rattle.net_machine.proofs.Drivers.{there_In, In_there}
-use Rattle.net_machine.proofs.Scenes.{Scene, class_low, once, output_driver, Member, member, IsOutput, shown_output, shows_different}
-use Rattle.net_machine.proofs.Systems.{Rises, rises_weaker, rises_low, rises_different, rises_append}
+use Rattle.net_machine.specs.Bits.{placed_from, widths, numbers, stored_from, inner_from, shown_from, body_stored, body_driven, placed_stored, placed_driven}
+use Rattle.net_machine.proofs.Scenes.{Scene, class_low, once, output_driver, member, shown_output, shows_different}
+use Rattle.net_machine.proofs.Systems.{Rises, rises_low, rises_different, rises_append}
 
 abbrev pub bits_of : List Numbered → List ℕ
 bits_of ds = map (λ (d : Numbered). d.bit) ds
@@ -132,15 +128,15 @@ driven_cases s base (i ∷ is) x h =
       own : In x (own_bits s.class i.name b base) → IsInnerBit s base (i ∷ is) x ⊎ IsShownClass s (i ∷ is) x
       own a = elim (In-split x (rising (base + length b.loads) (length b.inner)) (map (λ (y : Shown). s.class (pin_of i.name y.pin)) b.shows) a) [
         | inl c ↦
-          let r = in_rising (base + length b.loads) (length b.inner) x c in
-          inl (record {
-            low = omega (arith, r.0);
-            high = omega (arith, r.1);
-            apart = λ q. elim (In-split x (rising base (length b.loads)) held (subst (λ (xs : List ℕ). In x xs) (stored_cons s base i is) q)) [
+            let r = in_rising (base + length b.loads) (length b.inner) x c in
+            inl (record {
+              low = omega (arith, r.0);
+              high = omega (arith, r.1);
+              apart = λ q. elim (In-split x (rising base (length b.loads)) held (subst (λ (xs : List ℕ). In x xs) (stored_cons s base i is) q)) [
                 | inl d ↦ let t = in_rising base (length b.loads) x d in omega (arith, r.0, t.1)
                 | inr d ↦ let t = rises_low (base + width b) held (stored_rise s (base + width b) is) x d in omega (arith, r.1, t)
               ];
-          })
+            })
         | inr c ↦ let r = In-map_back (λ (y : Shown). s.class (pin_of i.name y.pin)) x b.shows c in inr (record { i = i; listed = here; shown = r.0; among = r.1; at = sym r.2 })
       ]
 
@@ -149,16 +145,16 @@ driven_cases s base (i ∷ is) x h =
         low = let l = r.low in omega (arith, l);
         high = let h = r.high in omega (arith, h);
         apart = λ q. elim (In-split x (rising base (length b.loads)) held (subst (λ (xs : List ℕ). In x xs) (stored_cons s base i is) q)) [
-            | inl d ↦ let t = in_rising base (length b.loads) x d in let l = r.low in omega (arith, l, t.1)
-            | inr d ↦ r.apart d
-          ];
+          | inl d ↦ let t = in_rising base (length b.loads) x d in let l = r.low in omega (arith, l, t.1)
+          | inr d ↦ r.apart d
+        ];
       })
       later (inr r) = inr (record { i = r.i; listed = there r.listed; shown = r.shown; among = r.among; at = r.at })
 
 -- each bit of the instances' own is held or driven
 pub own_parts : (s : Scene) (base : ℕ) (is : List Instance) (x : ℕ) → base ≤ x → x < base + widths s.l is → In x (held_of (all_stored s base is)) ⊎ In x (bits_of (all_driven s base is))
 own_parts s base [] x l h = absurd (omega (arith, l, h))
-own_parts s base (i ∷ is) x l h = by (cases_lt x (base + length b.loads)) (cases_lt x (base + width b)) where
+own_parts s base (i ∷ is) x l h = by (cases_lt x (base + length b.loads)) (cases_lt x (base + width b)) (own_parts s (base + width b) is x) where
   b : Body
   b = body_in s i
 
@@ -168,13 +164,14 @@ own_parts s base (i ∷ is) x l h = by (cases_lt x (base + length b.loads)) (cas
   rest : List ℕ
   rest = bits_of (all_driven s (base + width b) is)
 
-  by : (x < base + length b.loads) ⊎ (base + length b.loads ≤ x) → (x < base + width b) ⊎ (base + width b ≤ x) → In x (held_of (all_stored s base (i ∷ is))) ⊎ In x (bits_of (all_driven s base (i ∷ is)))
-  by (inl m) c =
+  by : (x < base + length b.loads) ⊎ (base + length b.loads ≤ x) → (x < base + width b) ⊎ (base + width b ≤ x) → (base + width b ≤ x → x < base + width b + widths s.l is → In x held ⊎ In x rest)
+      → In x (held_of (all_stored s base (i ∷ is))) ⊎ In x (bits_of (all_driven s base (i ∷ is)))
+  by (inl m) c go =
       inl (subst (λ (xs : List ℕ). In x xs) (sym (stored_cons s base i is)) (In-left x (rising base (length b.loads)) held (rising-In base (length b.loads) x l m)))
-  by (inr m) (inl k) =
+  by (inr m) (inl k) go =
       inr (subst (λ (xs : List ℕ). In x xs) (sym (driven_cons s base i is)) (In-left x (own_bits s.class i.name b base) rest
       (In-left x (rising (base + length b.loads) (length b.inner)) (map (λ (y : Shown). s.class (pin_of i.name y.pin)) b.shows) (rising-In (base + length b.loads) (length b.inner) x m (omega (arith, k))))))
-  by (inr m) (inr k) = elim (own_parts s (base + width b) is x k (omega (arith, h))) [
+  by (inr m) (inr k) go = elim (go k (omega (arith, h))) [
     | inl a ↦ inl (subst (λ (xs : List ℕ). In x xs) (sym (stored_cons s base i is)) (In-right x (rising base (length b.loads)) held a))
     | inr a ↦ inr (subst (λ (xs : List ℕ). In x xs) (sym (driven_cons s base i is)) (In-right x (own_bits s.class i.name b base) rest a))
   ]

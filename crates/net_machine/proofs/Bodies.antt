@@ -1,5 +1,5 @@
 -- What is known of the body of a cell that fits its pins.
-use Rattle.std.proofs.Common.{◌≡◌, ◌≢◌, ◌⊎◌, inl, inr, ℕ, zero, suc, ◌+◌, ◌<◌, ◌≤◌, Bool, true, false, not, List, [], ◌∷◌, ◌++◌, map, length, get_or, filter, Option, None, Some, refl, sym, ap, ◌∙◌, subst, arith, length-append}
+use Rattle.std.proofs.Common.{◌≡◌, ℕ, suc, ◌+◌, ◌≤◌, true, not, List, [], ◌∷◌, map, length, filter, Some, refl, sym, ap, ◌∙◌, subst, arith, length-append}
 use Rattle.std.specs.List.{All}
 use Rattle.std.proofs.lemmas.List.{length-map}
 use Rattle.vlsi_base.specs.declared.name.Name.{Name}
@@ -11,7 +11,7 @@ use Rattle.bool_expr.specs.Expression.{Expression, constant, variable, inverse, 
 use Rattle.machine_meaning.specs.Machine.{Machine, Equation, Register, is_input, is_clock, names_of, inputs, input_ports, outputs, register_names}
 use Rattle.machine_core.specs.Order.{held_names, equation_names, EachReadsBelow}
 use Rattle.machine_core.specs.Checked.{IsChecked}
-use Rattle.machine_core.proofs.Values.{In-left, In-right, In-map}
+use Rattle.machine_core.proofs.Values.{In-right}
 use Rattle.source_meaning.specs.Formula.{place}
 use Rattle.vlsi_model.proofs.Members.{In-map_back}
 use Rattle.vlsi_model.proofs.PortBits.{In-filter}
@@ -19,7 +19,7 @@ use Rattle.vlsi_model.proofs.Numbering.{place_within}
 use Rattle.vlsi_model.proofs.Assembly.{All-from_In}
 use Rattle.cell_model.specs.Cell.{Function, gate, flip_flop, other, opaque, Cell, pin_ports, cell_inputs, cell_outputs}
 use Rattle.cell_model.specs.Usable.{FitsPins}
-use Rattle.net_machine.specs.Body.{Load, Shown, Body, body_of, width}
+use Rattle.net_machine.specs.Body.{Load, Shown, body_of}
 use Rattle.net_machine.specs.Known.{clock_pin}
 use Rattle.net_machine.specs.Gathered.{bits_count, IsBodyOver}
 
@@ -95,7 +95,7 @@ machine_bits c m h =
     let b = length-append (inputs m) (register_names m) in
     let r = length-map m.registers (λ (r : Register). r.name) in
     let e = length-map m.equations (λ (e : Equation). e.name) in
-    let rl = length-map m.registers (λ (r : Register). record { next = r.next; enable = r.enable }) in
+    let rl = length-map {B = Load} m.registers (λ (r : Register). record { next = r.next; enable = r.enable }) in
     let el = length-map m.equations (λ (e : Equation). e.expr) in
     omega (arith, v, a, b, r, e, rl, el)
 

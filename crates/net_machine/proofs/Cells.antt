@@ -1,7 +1,6 @@
 -- The cells of a netlist's instances, and their pins in the table and in the netlist.
-use Rattle.std.proofs.Common.{◌≡◌, ◌≢◌, ◌⊎◌, inl, inr, ℕ, zero, suc, ◌+◌, ◌<◌, ◌≤◌, Bool, true, false, cond, not, ◌&&◌, List, [], ◌∷◌, ◌++◌, map, length, get_or, filter, bytes_eq, Option, None, Some, refl, sym, ap, ◌∙◌, subst, arith}
-use Rattle.std.specs.Prelude.{IsTrue, nat_le, nat_lt, ◌||◌, nat_eq}
-use Rattle.std.specs.List.{All}
+use Rattle.std.proofs.Common.{◌≡◌, ◌≢◌, ◌⊎◌, inl, inr, ℕ, zero, suc, ◌≤◌, Bool, true, false, cond, ◌&&◌, List, [], ◌∷◌, map, filter, bytes_eq, Option, None, Some, refl, sym, ap, ◌∙◌, subst, arith}
+use Rattle.std.specs.Prelude.{nat_le, nat_lt, ◌||◌, nat_eq}
 use Rattle.std.specs.Ordering.{is_lt, ordering_reverse}
 use Rattle.std.specs.Cmp.Lexicographic.{bytes_decides}
 use Rattle.std.specs.declared.cmp.Ordering.{Ordering}
@@ -17,9 +16,8 @@ use Rattle.vlsi_base.specs.Names.{vdd, vss, comes_before}
 use Rattle.vlsi_base.specs.Member.{In, here, there}
 use Rattle.vlsi_base.proofs.NameOrder.{name_total, name_exact}
 use Rattle.machine_meaning.specs.Named.{is_same_text}
-use Rattle.machine_meaning.specs.Machine.{names_of}
 use Rattle.machine_core.proofs.Values.{In-split, In-left, In-right, In-map}
-use Rattle.vlsi_model.proofs.Members.{In-cases, In-map_back}
+use Rattle.vlsi_model.proofs.Members.{In-cases}
 use Rattle.vlsi_model.proofs.PortBits.{In-filter, filter-In}
 use Rattle.vlsi_model.proofs.Assembly.{All-from_In}
 use Rattle.cell_model.specs.Cell.{Function, gate, flip_flop, other, opaque, Cell, pin_ports}
@@ -27,7 +25,7 @@ use Rattle.cell_model.specs.Library.{Library, cell_named, cell_of}
 use Rattle.cell_model.specs.Usable.{IsFormed}
 use Rattle.cell_checks.specs.Checked.{IsChecked}
 use Rattle.cell_pins.specs.Pins.{supply, with_supply, all_ports, IsClockPin}
-use Rattle.cell_pins.specs.Table.{IsPinOf, ArePins, no_pins, one_pin, IsModelOf, IsListed, AreModels, no_models, listed, left_out, IsTableOf}
+use Rattle.cell_pins.specs.Table.{IsPinOf, ArePins, no_pins, one_pin, IsListed, AreModels, no_models, listed, left_out, IsTableOf}
 use Rattle.net_core.specs.declared.pins.ModelPin.{ModelPin}
 use Rattle.net_core.specs.declared.pins.ModelPins.{ModelPins}
 use Rattle.net_core.specs.declared.tally.Role.{Role}
@@ -35,17 +33,17 @@ use Rattle.net_core.specs.declared.tally.Role.TheVariants as role
 use Rattle.net_core.specs.declared.tally.Tally.{Tally}
 use Rattle.net_core.specs.declared.tally.ClassFault.TheVariants as fault
 use Rattle.net_core.specs.Places.{Stands, IsThere}
-use Rattle.net_core.specs.Netlist.{Instance, Netlist as InMemory, IsNetlist, port, pin_of, terminals, HasClass, IsClassFunction}
-use Rattle.net_core.specs.Checks.{pins_named, Fits, port_role, pin_role, tally, roles, all_clocks, is_misused_clock}
+use Rattle.net_core.specs.Netlist.{Instance, Netlist as InMemory, IsNetlist, port, pin_of, terminals, HasClass}
+use Rattle.net_core.specs.Checks.{pins_named, port_role, pin_role, tally, roles, all_clocks, is_misused_clock}
 use Rattle.net_core.proofs.Lookups.{same_of, itself}
-use Rattle.net_core.proofs.Finishing.{class_once}
 use Rattle.net_core.proofs.Rings.{at_place, class_below}
-use Rattle.net_view.specs.Condition.{AreTogether, MeetsCondition}
-use Rattle.net_machine.specs.Signals.{HasClockPin, IsClockPort, IsOpaque, HasBehaviour}
+use Rattle.net_view.proofs.Ports.{supplies_differ}
+use Rattle.net_view.specs.Condition.{MeetsCondition}
+use Rattle.net_machine.specs.Signals.{IsClockPort}
 use Rattle.net_machine.specs.Body.{Shown, Body, body_of, body_at}
 use Rattle.net_machine.specs.Known.{clock_pin, clock_at}
-use Rattle.net_machine.specs.Gathered.{HasPins, IsBodyOver, IsFine, HasClockPort, HasClockOf}
-use Rattle.net_machine.proofs.Drivers.{there_In, In_there, IsAt, a_port, a_pin, role_place, Sound, Counts, counts_in, counted_in, is_input_port, input_port_counts, is_input_pin, input_pin_counts, is_clock_pin, clock_pin_counts}
+use Rattle.net_machine.specs.Gathered.{HasPins, IsBodyOver, IsFine, HasClockOf}
+use Rattle.net_machine.proofs.Drivers.{there_In, In_there, IsAt, a_port, a_pin, role_place, Sound, counts_in, counted_in, is_input_port, input_port_counts, is_clock_pin, clock_pin_counts}
 use Rattle.net_machine.proofs.Bodies.{All_is, IsPin, reads_pin, shows_pin, clock_is_pin, body_over}
 use Rattle.std.proofs.lemmas.Option.{slice_get_within}
 
@@ -154,10 +152,10 @@ in_supplied name ps x apart i = elim (before_or_behind x.name name apart) [
 ]
 
 supply_in : (name : Name) (ps : List Port) → In (supply name) (with_supply name ps)
-supply_in name ps = In-right (supply name) (filter_before name ps) (supply name ∷ Rattle.std.proofs.Common.filter (λ p. comes_before name p.name) ps) here
+supply_in name ps = In-right (supply name) (filter_before name ps) (supply name ∷ filter (λ p. comes_before name p.name) ps) here
 
 supplied_cases : (name : Name) (ps : List Port) (x : Port) → In x (with_supply name ps) → (supply name ≡ x) ⊎ In x ps
-supplied_cases name ps x i = elim (In-split x (filter_before name ps) (supply name ∷ Rattle.std.proofs.Common.filter (λ p. comes_before name p.name) ps) i) [
+supplied_cases name ps x i = elim (In-split x (filter_before name ps) (supply name ∷ filter (λ p. comes_before name p.name) ps) i) [
   | inl a ↦ inr (In-filter (λ p. comes_before p.name name) ps x a).0
   | inr b ↦ elim (In-cases x (supply name) (filter_behind name ps) b) [
     | inl same ↦ inl same
@@ -174,7 +172,7 @@ pub all_cases : (c : Cell) (x : Port) → In x (all_ports c) → (supply vss ≡
 all_cases c x i = elim (supplied_cases vss (with_supply vdd (pin_ports c)) x i) [ inl e ↦ inl e | inr j ↦ inr (supplied_cases vdd (pin_ports c) x j) ]
 
 pub vdd_in : (c : Cell) → In (supply vdd) (all_ports c)
-vdd_in c = in_supplied vss (with_supply vdd (pin_ports c)) (supply vdd) (λ e. let no = ap (λ (n : Name). n.text) e in absurd cc) (supply_in vdd (pin_ports c))
+vdd_in c = in_supplied vss (with_supply vdd (pin_ports c)) (supply vdd) supplies_differ (supply_in vdd (pin_ports c))
 
 pub vss_in : (c : Cell) → In (supply vss) (all_ports c)
 vss_in c = supply_in vss (with_supply vdd (pin_ports c))

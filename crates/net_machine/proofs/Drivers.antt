@@ -1,12 +1,11 @@
 -- What drives a class, by the tallies of a netlist that passes its checks.
-use Rattle.std.proofs.Common.{◌≡◌, ◌⊎◌, inl, inr, ℕ, zero, suc, ◌+◌, ◌<◌, ◌≤◌, Bool, true, false, cond, not, ◌&&◌, ◌||◌, List, [], ◌∷◌, ◌++◌, map, length, get_or, nat_eq, Option, None, Some, refl, sym, ap, ◌∙◌, subst, arith}
-use Rattle.std.specs.Prelude.{nat_le, nat_lt}
+use Rattle.std.proofs.Common.{◌≡◌, ◌⊎◌, inl, inr, ℕ, zero, suc, ◌+◌, ◌<◌, ◌≤◌, Bool, true, false, cond, not, ◌&&◌, List, [], ◌∷◌, ◌++◌, map, nat_eq, Option, None, Some, refl, sym, ap, ◌∙◌, subst, arith}
+use Rattle.std.specs.Prelude.{nat_le}
 use Rattle.std.specs.List.{All, flat_map, zip}
 use Rattle.std.proofs.lemmas.List.{map-append}
 use Rattle.std.proofs.lemmas.Option.{slice_get_within}
 use Rattle.std.proofs.lemmas.Bool.{cases_lt, eqb-true, eq-eqb}
 use Rattle.std.proofs.lemmas.Bool.Decides.{nat_tests}
-use Rattle.vlsi_base.specs.declared.name.Name.{Name}
 use Rattle.vlsi_base.specs.declared.name.Port.{Port}
 use Rattle.vlsi_base.specs.declared.name.Terminal.{Terminal}
 use Rattle.vlsi_base.specs.Member.{In, here, there}
@@ -18,14 +17,14 @@ use Rattle.net_core.specs.declared.tally.Tally.{Tally}
 use Rattle.net_core.specs.declared.tally.ClassFault.TheVariants as fault
 use Rattle.net_core.specs.Places.{Stands, IsThere}
 use Rattle.net_core.specs.Netlist.{Instance, Netlist, IsNetlist, port, pin_of, pins_of, terminals, HasClass}
-use Rattle.net_core.specs.Checks.{pins_named, Fits, port_role, pin_role, pin_roles, roles, with_one, no_terminals, tally_of, tally, drivers, all_clocks, is_unconnected, is_undriven, is_driven_twice, is_misused_clock, HasSoundClasses}
+use Rattle.net_core.specs.Checks.{pins_named, Fits, port_role, pin_role, roles, with_one, no_terminals, tally_of, tally, drivers, is_unconnected, is_undriven, HasSoundClasses}
 use Rattle.net_core.proofs.Standing.{stands_same}
 use Rattle.net_core.proofs.Frames.{mapped, unmapped}
 use Rattle.net_core.proofs.Finishing.{netlist_terminals_once}
 use Rattle.net_core.proofs.Namings.{turn_reached}
 use Rattle.net_core.proofs.Rings.{class_below, at_place}
 use Rattle.net_core.proofs.Classes.{roles_length}
-use Rattle.vlsi_model.proofs.Members.{In-cases, In-map_back}
+use Rattle.vlsi_model.proofs.Members.{In-map_back}
 use Rattle.vlsi_model.proofs.Building.{map-then}
 use Rattle.machine_core.proofs.Values.{In-split, In-left, In-right, In-map}
 
@@ -108,9 +107,9 @@ of_seat : (table : List ModelPins) (n : Netlist) (s : Seat) → In s (seats tabl
 of_seat table n s i = elim (In-split s (map port_seat n.ports) (flat_map (λ (i : Instance). map (pin_seat i) (pins_named table i.model)) n.instances) i) [
   | inl a ↦ let r = In-map_back port_seat s n.ports a in subst (λ (z : Seat). IsAt table n z.terminal z.role) r.2 (a_port r.0 r.1)
   | inr b ↦
-    let r = In-flat_back (λ (i : Instance). map (pin_seat i) (pins_named table i.model)) n.instances s b in
-    let u = In-map_back (pin_seat r.0) s (pins_named table r.0.model) r.2 in
-    subst (λ (z : Seat). IsAt table n z.terminal z.role) u.2 (a_pin r.0 u.0 r.1 u.1)
+      let r = In-flat_back (λ (i : Instance). map (pin_seat i) (pins_named table i.model)) n.instances s b in
+      let u = In-map_back (pin_seat r.0) s (pins_named table r.0.model) r.2 in
+      subst (λ (z : Seat). IsAt table n z.terminal z.role) u.2 (a_pin r.0 u.0 r.1 u.1)
 ]
 
 -- where it stands
@@ -355,12 +354,16 @@ some_driver table n sound c low = counted_in table n sound drivers is_driver dri
 
   enough : 1 ≤ drivers (tally table n c)
   enough = by (tally table n c) some (sound.classes fault.Unconnected c low) (sound.classes fault.NoDriver c low) where
+    three : (a b c : Bool) → a ≡ false → (not a && b && c) ≡ false → (b && c) ≡ false
+    three false b c e f = f
+    three true b c e f = absurd cc
+
     by : (t : Tally) → 1 ≤ all_of t → is_unconnected t ≡ false → is_undriven t ≡ false → 1 ≤ drivers t
     by t l e f = cases (cases_lt 0 (drivers t)) where
       cases : (0 < drivers t) ⊎ (drivers t ≤ 0) → 1 ≤ drivers t
       cases (inl s) = omega (arith, s)
       cases (inr z) =
-          let g : (nat_le 1 (t.input_pins + t.clock_pins + t.output_ports) && nat_eq (drivers t) 0) ≡ false = ap (λ b. not b && (nat_le 1 (t.input_pins + t.clock_pins + t.output_ports) && nat_eq (drivers t) 0)) (sym e) ∙ f in
+          let g : (nat_le 1 (t.input_pins + t.clock_pins + t.output_ports) && nat_eq (drivers t) 0) ≡ false = three (is_unconnected t) (nat_le 1 (t.input_pins + t.clock_pins + t.output_ports)) (nat_eq (drivers t) 0) e f in
           let a : nat_le 1 (t.input_pins + t.clock_pins + t.output_ports) ≡ true = grind (arith, nat_tests) in
           let b : nat_eq (drivers t) 0 ≡ true = eq-eqb (drivers t) 0 (omega (arith, z)) in
           let no : true ≡ false = sym (ap (λ x. x && nat_eq (drivers t) 0) a ∙ b) ∙ g in absurd cc

@@ -1,12 +1,11 @@
 -- The bits of a netlist fit its ports.
-use Rattle.std.proofs.Common.{◌≡◌, ◌≢◌, ◌⊎◌, inl, inr, ℕ, zero, suc, ◌+◌, ◌-◌, ◌<◌, ◌≤◌, Bool, true, false, cond, not, ◌&&◌, List, [], ◌∷◌, ◌++◌, map, length, get_or, filter, Option, None, Some, refl, sym, ap, ◌∙◌, subst, arith, length-append}
-use Rattle.std.specs.Prelude.{slice_index, bytes_eq, codes, ◌||◌}
-use Rattle.std.specs.List.{All, flat_map}
-use Rattle.std.specs.Ordering.{nat_cmp, is_lt, ordering_then, ordering_reverse}
+use Rattle.std.proofs.Common.{◌≡◌, ◌≢◌, ◌⊎◌, inl, inr, ℕ, zero, suc, ◌+◌, ◌-◌, ◌<◌, ◌≤◌, Bool, true, false, cond, not, ◌&&◌, List, [], ◌∷◌, ◌++◌, map, length, get_or, filter, Option, None, Some, refl, sym, ap, ◌∙◌, subst, arith}
+use Rattle.std.specs.Prelude.{bytes_eq, codes, ◌||◌}
+use Rattle.std.specs.Ordering.{nat_cmp, ordering_then, ordering_reverse}
 use Rattle.std.specs.Cmp.Lexicographic.{slice_cmp}
 use Rattle.std.specs.declared.cmp.Ordering.{Ordering}
 use Rattle.std.specs.declared.cmp.Ordering.TheVariants.{Less, Equal, Greater}
-use Rattle.std.proofs.lemmas.List.{length-map, map-append, get_or-map}
+use Rattle.std.proofs.lemmas.List.{length-map, map-append}
 use Rattle.std.proofs.lemmas.List.Kept.{AllPairs-cons}
 use Rattle.std.proofs.lemmas.Bool.Decides.{nat_tests}
 use Rattle.std.proofs.lemmas.Cmp.{nat_cmp_total, lists_total}
@@ -16,23 +15,22 @@ use Rattle.vlsi_base.specs.declared.name.Dir.{Dir}
 use Rattle.vlsi_base.specs.declared.name.Dir.TheVariants as dir
 use Rattle.vlsi_base.specs.Range.{rising}
 use Rattle.vlsi_base.specs.Name.{name_cmp, is_supply}
-use Rattle.vlsi_base.specs.Names.{vdd, vss, scalar, comes_before}
-use Rattle.vlsi_base.specs.Member.{In, here, there, AllDifferent}
+use Rattle.vlsi_base.specs.Names.{vdd, vss, scalar}
+use Rattle.vlsi_base.specs.Member.{In, here, there}
 use Rattle.machine_meaning.specs.Named.{is_same_name}
-use Rattle.machine_meaning.specs.Machine.{Machine, Register, is_input, is_clock, names_of}
+use Rattle.machine_meaning.specs.Machine.{Register, is_input, is_clock, names_of}
 use Rattle.machine_core.specs.Checked.{AreInOrder, IsNoSupply}
-use Rattle.machine_core.proofs.Names.{same_name-true, same_name-itself, same_name-false}
+use Rattle.machine_core.proofs.Names.{same_name-itself, same_name-false}
 use Rattle.machine_core.proofs.Values.{In-split, In-left, In-right, In-map}
-use Rattle.source_bits.specs.Driven.{Numbered, NumberedStorage}
+use Rattle.source_bits.specs.Driven.{Numbered}
 use Rattle.vlsi_model.specs.Numbered.{name_at}
 use Rattle.vlsi_model.specs.Laid.{inputs_of}
-use Rattle.vlsi_model.proofs.Members.{In-cases, In-map_back}
-use Rattle.vlsi_model.proofs.Bits.{In-rising}
+use Rattle.vlsi_model.proofs.Members.{In-map_back}
 use Rattle.vlsi_model.proofs.PortBits.{In-filter, filter-In}
-use Rattle.vlsi_model.proofs.Sorting.{In-at, place_of_In}
+use Rattle.vlsi_model.proofs.Sorting.{place_of_In}
 use Rattle.vlsi_model.proofs.Building.{map_same}
 use Rattle.vlsi_model.proofs.Assembly.{All-from_In}
-use Rattle.cell_model.specs.Cell.{Function, gate, flip_flop, other, opaque, Cell}
+use Rattle.cell_model.specs.Cell.{Function, gate, flip_flop, other, opaque, Cell, pin_ports}
 use Rattle.cell_model.specs.Library.{cell_of}
 use Rattle.cell_model.specs.Usable.{FitsPins}
 use Rattle.cell_pins.specs.Pins.{supply, all_ports, IsClockPin}
@@ -40,24 +38,24 @@ use Rattle.cell_pins.proofs.Ports.{before_less, sorted_of, sorted_filter, sorted
 use Rattle.net_core.specs.declared.pins.ModelPin.{ModelPin}
 use Rattle.net_core.specs.declared.tally.Role.{Role}
 use Rattle.net_core.specs.declared.tally.Role.TheVariants as role
-use Rattle.net_core.specs.Places.{Stands, IsThere}
+use Rattle.net_core.specs.Places.{IsThere}
 use Rattle.net_core.specs.Netlist.{Instance, port, pin_of, HasClass}
-use Rattle.net_core.specs.Checks.{port_role, pin_role, tally}
+use Rattle.net_core.specs.Checks.{pin_role}
 use Rattle.net_core.proofs.Finishing.{class_once}
 use Rattle.net_core.proofs.Lookups.{same_of}
-use Rattle.bit_machine.specs.System.{System, stored_bits, driven_bits, held_bits, all_bits, FitsPorts}
+use Rattle.bit_machine.specs.System.{stored_bits, driven_bits, FitsPorts}
 use Rattle.net_machine.specs.Signals.{signal_ports}
 use Rattle.net_machine.specs.Body.{Load, Body, body_of, body_at, width}
-use Rattle.net_machine.specs.Bits.{own_name, is_signal, port_names, port_inputs, own_of, port_driven, widths, placed_from, placed_stored, stored_from, body_stored, numbers}
+use Rattle.net_machine.specs.Bits.{own_name, is_signal, port_names, port_inputs, own_of, port_driven, widths, stored_from, numbers}
 use Rattle.net_machine.specs.Known.{clock_pin, clock_at}
 use Rattle.net_machine.specs.Gathered.{HasClockPort, HasClockOf}
-use Rattle.net_machine.proofs.Drivers.{there_In, In_there, IsAt, a_port, a_pin, counts_in, is_input_pin, input_pin_counts}
-use Rattle.net_machine.proofs.Bodies.{IsPin, clock_is_pin}
-use Rattle.net_machine.proofs.Cells.{Seated, seated, pin_at, vdd_in, vss_in, sound_of, clock_at_pin, clock_by_table, IsClockClass, clock_class}
-use Rattle.net_machine.proofs.Scenes.{Scene, has_class, Member, member}
-use Rattle.net_machine.proofs.Systems.{Rises, rises_low, rises_different}
-use Rattle.net_machine.proofs.Blocks.{bits_of, held_of, all_stored, body_in, stored_rise, stored_high}
-use Rattle.net_machine.proofs.Whole.{system, first, ports_part, classes_part, driven_part, held_part, names_count, ports_apart, ports_tell, PortNameIs, shown, hidden, port_name_is, IsShort, port_short, own_short, rising_count, port_names_count, driven_are}
+use Rattle.net_machine.proofs.Drivers.{there_In, In_there, IsAt, counts_in, is_input_pin, input_pin_counts}
+use Rattle.net_machine.proofs.Bodies.{clock_is_pin}
+use Rattle.net_machine.proofs.Cells.{Seated, seated, pin_at, vdd_in, vss_in, sound_of, clock_at_pin, IsClockClass, clock_class}
+use Rattle.net_machine.proofs.Scenes.{Scene}
+use Rattle.net_machine.proofs.Systems.{Rises, rises_low}
+use Rattle.net_machine.proofs.Blocks.{bits_of, all_stored, body_in, stored_rise, stored_high}
+use Rattle.net_machine.proofs.Whole.{system, first, ports_part, classes_part, driven_part, held_part, ports_apart, ports_tell, PortNameIs, shown, hidden, port_name_is, IsShort, port_short, own_short, rising_count, port_names_count, driven_are}
 
 -- ---- the names of bits
 
@@ -150,7 +148,7 @@ registers_in_order s =
 
 ports_in_order : (s : Scene) → AreInOrder (names_of (signal_ports s.n.ports))
 ports_in_order s i j d low high =
-    before_less _ _
+    before_less (get_or (names_of (signal_ports s.n.ports)) i d) (get_or (names_of (signal_ports s.n.ports)) j d)
     (sorted_pairs (signal_ports s.n.ports) (sorted_filter (λ (p : Port). not (is_supply p.name.text)) s.n.ports (sorted_of s.n.ports s.ground.netlist.ports)) i j d low high)
 
 -- ---- supplies
@@ -179,9 +177,9 @@ own_no_supply s n e = (
 signal_names : (s : Scene) (name : Name) → In name (names_of (signal_ports s.n.ports) ++ (system s).names) → IsNoSupply name
 signal_names s name i = elim (In-split name (names_of (signal_ports s.n.ports)) (system s).names i) [
   | inl a ↦
-    let r = In-map_back (λ (p : Port). p.name) name (signal_ports s.n.ports) a in
-    let f = In-filter (λ (p : Port). not (is_supply p.name.text)) s.n.ports r.0 r.1 in
-    subst IsNoSupply r.2 (no_supply_text r.0.name.text (not_false (is_supply r.0.name.text) f.1))
+      let r = In-map_back (λ (p : Port). p.name) name (signal_ports s.n.ports) a in
+      let f = In-filter (λ (p : Port). not (is_supply p.name.text)) s.n.ports r.0 r.1 in
+      subst IsNoSupply r.2 (no_supply_text r.0.name.text (not_false (is_supply r.0.name.text) f.1))
   | inr b ↦ elim (In-split name own (ports ++ inner) b) [
     | inl c ↦ own_one (rising 0 s.n.count) c
     | inr c ↦ elim (In-split name ports inner c) [
@@ -234,10 +232,10 @@ supply_pin s i j name which = by which where
   seat : Seated s.l s.table i
   seat = seated s.n s.l s.table s.ground i j
 
-  no_clock : (c : Cell) (h : FitsPins c c.function) → ((x : Name) → In x (names_of (Rattle.cell_model.specs.Cell.pin_ports c)) → (x ≢ vdd) × (x ≢ vss)) → (x : Name) → ((x ≡ vdd) ⊎ (x ≡ vss)) → IsClockPin c.function x → ⊥
+  no_clock : (c : Cell) (h : FitsPins c c.function) → ((x : Name) → In x (names_of (pin_ports c)) → (x ≢ vdd) × (x ≢ vss)) → (x : Name) → ((x ≡ vdd) ⊎ (x ≡ vss)) → IsClockPin c.function x → ⊥
   no_clock c h signals x w k =
       let p = clock_is_pin c c.function h x (clock_of c.function x k) in
-      let q = signals x (subst (λ (y : Name). In y (names_of (Rattle.cell_model.specs.Cell.pin_ports c))) p.name_is (In-map (λ (y : Port). y.name) p.port (Rattle.cell_model.specs.Cell.pin_ports c) p.listed)) in
+      let q = signals x (subst (λ (y : Name). In y (names_of (pin_ports c))) p.name_is (In-map (λ (y : Port). y.name) p.port (pin_ports c) p.listed)) in
       elim w [ inl e ↦ q.0 e | inr e ↦ q.1 e ] where
         clock_of : (f : Function) (x : Name) → IsClockPin f x → clock_pin f ≡ Some x
         clock_of (gate e) x h = absurd h
@@ -324,44 +322,44 @@ pub picked : {A : Type 0} (clock : Option Name) (f : ℕ → A) (g : Name → A)
     → ((j : ℕ) (p : Port) → j < length ps → get_or ps j p ≡ p → is_input p.dir ≡ true → is_signal clock p ≡ true → f (k + j) ≡ g p.name)
     → map f (port_inputs clock k ps) ≡ map g (inputs_of clock (signal_ports ps))
 picked clock f g k [] at = refl
-picked {A} clock f g k (p ∷ ps) at = by (is_supply p.name.text) (is_input p.dir) (is_clock clock p.name) refl refl refl where
-  rest : map f (port_inputs clock (k + 1) ps) ≡ map g (inputs_of clock (signal_ports ps))
-  rest = picked clock f g (k + 1) ps (λ j q l e d s. let z : k + 1 + j ≡ k + suc j = omega arith in ap f z ∙ at (suc j) q (omega (arith, l)) e d s)
+picked {A} clock f g k (p ∷ ps) at =
+    by (is_supply p.name.text) (is_input p.dir) (is_clock clock p.name) refl refl refl
+    (picked clock f g (k + 1) ps (λ j q l e d s. let z : k + 1 + j ≡ k + suc j = omega arith in ap f z ∙ at (suc j) q (omega (arith, l)) e d s)) where
+      head : is_input p.dir ≡ true → is_signal clock p ≡ true → f k ≡ g p.name
+      head d e = let z : k ≡ k + 0 = omega arith in ap f z ∙ at 0 p (omega arith) refl d e
 
-  head : is_input p.dir ≡ true → is_signal clock p ≡ true → f k ≡ g p.name
-  head d e = let z : k ≡ k + 0 = omega arith in ap f z ∙ at 0 p (omega arith) refl d e
+      kept : Bool → List Port
+      kept t = cond (not t) (p ∷ signal_ports ps) (signal_ports ps)
 
-  kept : Bool → List Port
-  kept t = cond (not t) (p ∷ signal_ports ps) (signal_ports ps)
+      taken : Bool → List Name
+      taken t = filter (λ name. not (is_clock clock name)) (names_of (cond t (p ∷ filter (λ q. is_input q.dir) (signal_ports ps)) (filter (λ q. is_input q.dir) (signal_ports ps))))
 
-  taken : Bool → List Name
-  taken t = filter (λ name. not (is_clock clock name)) (names_of (cond t (p ∷ filter (λ q. is_input q.dir) (signal_ports ps)) (filter (λ q. is_input q.dir) (signal_ports ps))))
+      left : Bool → List Name
+      left t = cond (not t) (p.name ∷ inputs_of clock (signal_ports ps)) (inputs_of clock (signal_ports ps))
 
-  left : Bool → List Name
-  left t = cond (not t) (p.name ∷ inputs_of clock (signal_ports ps)) (inputs_of clock (signal_ports ps))
+      numbered : Bool → List A
+      numbered t = map f (cond t (k ∷ port_inputs clock (k + 1) ps) (port_inputs clock (k + 1) ps))
 
-  numbered : Bool → List A
-  numbered t = map f (cond t (k ∷ port_inputs clock (k + 1) ps) (port_inputs clock (k + 1) ps))
+      both : (b c : Bool) → (b && (not true && not c)) ≡ false
+      both true c = refl
+      both false c = refl
 
-  both : (b c : Bool) → (b && (not true && not c)) ≡ false
-  both true c = refl
-  both false c = refl
-
-  by : (a b c : Bool) → is_supply p.name.text ≡ a → is_input p.dir ≡ b → is_clock clock p.name ≡ c → map f (port_inputs clock k (p ∷ ps)) ≡ map g (inputs_of clock (signal_ports (p ∷ ps)))
-  by true b c e d h =
-      let x : (is_input p.dir && is_signal clock p) ≡ false = rw (e, d, h) (both b c) in
-      ap numbered x ∙ rest ∙ sym (ap (λ t. map g (inputs_of clock (kept t))) e)
-  by false false c e d h =
-      let x : (is_input p.dir && is_signal clock p) ≡ false = rw d refl in
-      ap numbered x ∙ rest ∙ sym (ap (λ t. map g (inputs_of clock (kept t))) e ∙ ap (λ t. map g (taken t)) d)
-  by false true true e d h =
-      let x : (is_input p.dir && is_signal clock p) ≡ false = rw (e, d, h) refl in
-      ap numbered x ∙ rest ∙ sym (ap (λ t. map g (inputs_of clock (kept t))) e ∙ ap (λ t. map g (taken t)) d ∙ ap (λ t. map g (left t)) h)
-  by false true false e d h =
-      let y : is_signal clock p ≡ true = rw (e, h) refl in
-      let x : (is_input p.dir && is_signal clock p) ≡ true = rw (e, d, h) refl in
-      ap numbered x ∙ ap (λ z. z ∷ map f (port_inputs clock (k + 1) ps)) (head d y) ∙ ap (λ zs. g p.name ∷ zs) rest
-      ∙ sym (ap (λ t. map g (inputs_of clock (kept t))) e ∙ ap (λ t. map g (taken t)) d ∙ ap (λ t. map g (left t)) h)
+      by : (a b c : Bool) → is_supply p.name.text ≡ a → is_input p.dir ≡ b → is_clock clock p.name ≡ c → map f (port_inputs clock (k + 1) ps) ≡ map g (inputs_of clock (signal_ports ps))
+          → map f (port_inputs clock k (p ∷ ps)) ≡ map g (inputs_of clock (signal_ports (p ∷ ps)))
+      by true b c e d h rest =
+          let x : (is_input p.dir && is_signal clock p) ≡ false = ap (λ t. is_input p.dir && (not t && not (is_clock clock p.name))) e ∙ both (is_input p.dir) (is_clock clock p.name) in
+          ap numbered x ∙ rest ∙ sym (ap (λ t. map g (inputs_of clock (kept t))) e)
+      by false false c e d h rest =
+          let x : (is_input p.dir && is_signal clock p) ≡ false = rw d refl in
+          ap numbered x ∙ rest ∙ sym (ap (λ t. map g (inputs_of clock (kept t))) e ∙ ap (λ t. map g (taken t)) d)
+      by false true true e d h rest =
+          let x : (is_input p.dir && is_signal clock p) ≡ false = rw (e, d, h) refl in
+          ap numbered x ∙ rest ∙ sym (ap (λ t. map g (inputs_of clock (kept t))) e ∙ ap (λ t. map g (taken t)) d ∙ ap (λ t. map g (left t)) h)
+      by false true false e d h rest =
+          let y : is_signal clock p ≡ true = rw (e, h) refl in
+          let x : (is_input p.dir && is_signal clock p) ≡ true = rw (e, d, h) refl in
+          ap numbered x ∙ ap (λ z. z ∷ map f (port_inputs clock (k + 1) ps)) (head d y) ∙ ap (λ zs. g p.name ∷ zs) rest
+          ∙ sym (ap (λ t. map g (inputs_of clock (kept t))) e ∙ ap (λ t. map g (taken t)) d ∙ ap (λ t. map g (left t)) h)
 
 map_itself : (ns : List Name) → map (λ (n : Name). n) ns ≡ ns
 map_itself [] = refl

@@ -1,27 +1,26 @@
 -- A cell and its body: the same valuations, over the bits of its own.
-use Rattle.std.proofs.Common.{◌≡◌, ◌≢◌, ◌⊎◌, inl, inr, ℕ, zero, suc, ◌+◌, ◌<◌, ◌≤◌, Bool, true, false, cond, List, [], ◌∷◌, ◌++◌, map, length, get_or, take, drop, Option, None, Some, refl, sym, ap, ◌∙◌, subst, arith, length-append, append_assoc}
-use Rattle.std.specs.Prelude.{slice_index}
-use Rattle.std.specs.List.{All, slice_index_or}
-use Rattle.std.proofs.lemmas.List.{length-map, map-append, get_or-map, length-take-le, length-drop}
+use Rattle.std.proofs.Common.{◌≡◌, ℕ, suc, ◌+◌, Bool, List, [], ◌∷◌, ◌++◌, map, length, get_or, take, drop, refl, sym, ap, ◌∙◌, subst, arith, length-append, append_assoc}
+use Rattle.std.specs.List.{slice_index_or}
+use Rattle.std.proofs.lemmas.List.{length-map, map-append, length-take-le, length-drop, take-append-drop}
 use Rattle.std.proofs.Math.Seq.{take-append_seam}
 use Rattle.std.proofs.lemmas.Option.{slice_get-get_or, slice_get_within, get_or_from_slice_get}
 use Rattle.vlsi_base.specs.declared.name.Name.{Name}
-use Rattle.vlsi_base.specs.Member.{In, here, there, AllDifferent}
-use Rattle.bool_expr.specs.Expression.{Expression, constant, variable, bit, val}
+use Rattle.vlsi_base.specs.Member.{In, AllDifferent}
+use Rattle.bool_expr.specs.Expression.{Expression, variable, bit, val}
 use Rattle.machine_meaning.specs.Named.{value_at, values_at}
 use Rattle.machine_meaning.specs.Machine.{Machine, Equation, Register, inputs, outputs, register_names}
-use Rattle.machine_meaning.specs.Cycles.{Settles, outs, next}
-use Rattle.machine_core.specs.Order.{held_names, equation_names, IsOrdered}
+use Rattle.machine_meaning.specs.Cycles.{Settles, outs}
+use Rattle.machine_core.specs.Order.{held_names, equation_names}
 use Rattle.machine_core.specs.Checked.{IsChecked}
-use Rattle.machine_core.proofs.Values.{In-left, In-right, In-map, bit-value_at}
+use Rattle.machine_core.proofs.Values.{In-right, bit-value_at}
 use Rattle.machine_core.proofs.Built.{values_at-front}
 use Rattle.source_meaning.specs.Formula.{place}
 use Rattle.vlsi_model.proofs.Numbering.{place_within, place_at}
 use Rattle.vlsi_model.proofs.Building.{map-then, map_same}
-use Rattle.cell_model.specs.Cell.{Function, gate, flip_flop, other, opaque, Cell}
+use Rattle.cell_model.specs.Cell.{other, Cell}
 use Rattle.net_core.specs.Places.{Stands}
 use Rattle.net_core.proofs.Frames.{mapped, unmapped}
-use Rattle.net_machine.specs.Body.{Load, Shown, Body, body_of, width}
+use Rattle.net_machine.specs.Body.{Load, Shown, Body, body_of}
 use Rattle.net_machine.specs.Gathered.{bits_count}
 use Rattle.net_machine.proofs.Bodies.{machine_bits}
 
@@ -37,10 +36,10 @@ drop_front xs ys n e = ap (λ k. drop k (xs ++ ys)) e ∙ seam xs ys where
   seam (x ∷ xs) ys = seam xs ys
 
 -- two lists in two pieces each, the first as long
-pub pieces_same : {A : Type 0} (as bs cs ds : List A) → length as ≡ length cs → as ++ bs ≡ cs ++ ds → (as ≡ cs) × (bs ≡ ds)
-pieces_same as bs cs ds n e = (
-  sym (take_front as bs (length as) refl) ∙ ap (take (length as)) e ∙ take_front cs ds (length as) n,
-  sym (drop_front as bs (length as) refl) ∙ ap (drop (length as)) e ∙ drop_front cs ds (length as) n,
+pub pieces_same : {A : Type 0} (xs ys zs ws : List A) → length xs ≡ length zs → xs ++ ys ≡ zs ++ ws → (xs ≡ zs) × (ys ≡ ws)
+pieces_same xs ys zs ws n e = (
+  sym (take_front xs ys (length xs) refl) ∙ ap (take (length xs)) e ∙ take_front zs ws (length xs) n,
+  sym (drop_front xs ys (length xs) refl) ∙ ap (drop (length xs)) e ∙ drop_front zs ws (length xs) n,
 )
 
 -- the bits of a body, from those of its pins, those that it holds and the inner ones
@@ -112,8 +111,8 @@ outs_shown m v h l =
     value_at_place m.vars v o h.ordered.different l
     (subst (λ (ns : List Name). In o ns) (sym h.ordered.vars) (In-right o (held_names m) (equation_names m) (h.driven o i))))
 
-registers_count : (m : Machine) → length (map (λ (r : Register). record { next = r.next; enable = r.enable }) m.registers) ≡ length (register_names m)
-registers_count m = length-map m.registers (λ (r : Register). record { next = r.next; enable = r.enable }) ∙ sym (length-map m.registers (λ (r : Register). r.name))
+registers_count : (m : Machine) → length {A = Load} (map (λ (r : Register). record { next = r.next; enable = r.enable }) m.registers) ≡ length (register_names m)
+registers_count m = length-map {B = Load} m.registers (λ (r : Register). record { next = r.next; enable = r.enable }) ∙ sym (length-map m.registers (λ (r : Register). r.name))
 
 -- ---- from the body to the machine, and back
 
@@ -158,13 +157,13 @@ pub settled_pieces : (m : Machine) (ins hs v : List Bool) → IsChecked m → Se
     × (take (length m.registers) (drop (length (inputs m)) v) ≡ hs)
 settled_pieces m ins hs v h s =
     let a : take (length (inputs m)) v ≡ ins = sym (machine_inputs m v h s.each) ∙ s.inputs in
-    let whole : v ≡ ins ++ drop (length (inputs m)) v = sym (Rattle.std.proofs.lemmas.List.take-append-drop (length (inputs m)) v) ∙ ap (λ (xs : List Bool). xs ++ drop (length (inputs m)) v) a in
+    let whole : v ≡ ins ++ drop (length (inputs m)) v = sym (take-append-drop (length (inputs m)) v) ∙ ap (λ (xs : List Bool). xs ++ drop (length (inputs m)) v) a in
     let c = vars_count m h in
     let ld = length-drop (length (inputs m)) v in
     let le = s.each in
     let rn = length-map m.registers (λ (r : Register). r.name) in
     let tail = drop (length (inputs m)) v in
-    let split = Rattle.std.proofs.lemmas.List.take-append-drop (length m.registers) tail in
+    let split = take-append-drop (length m.registers) tail in
     let n : length (take (length m.registers) tail) ≡ length (register_names m) = length-take-le (length m.registers) tail (omega (arith, c, ld, le, rn)) ∙ sym rn in
     let li : length ins ≡ length (inputs m) = ap length (sym s.inputs) ∙ length-map (inputs m) (value_at m.vars v) in
     let parts = machine_registers m ins (take (length m.registers) tail) (drop (length m.registers) tail) v h s.each (whole ∙ ap (λ (xs : List Bool). ins ++ xs) (sym split)) li n in

@@ -1,8 +1,7 @@
 -- Where the bits of an instance stand among all.
-use Rattle.std.proofs.Common.{◌≡◌, ◌⊎◌, inl, inr, ℕ, zero, suc, ◌+◌, ◌<◌, ◌≤◌, Bool, true, false, cond, List, [], ◌∷◌, ◌++◌, map, length, Option, None, Some, refl, sym, ap, ◌∙◌, subst, arith, length-append, append_assoc}
+use Rattle.std.proofs.Common.{◌≡◌, inl, inr, ℕ, zero, suc, ◌+◌, ◌<◌, ◌≤◌, Bool, true, false, cond, List, [], ◌∷◌, ◌++◌, map, length, Option, None, Some, refl, sym, ap, ◌∙◌, subst, arith, length-append, append_assoc}
 use Rattle.std.specs.List.{flat_map}
 use Rattle.std.proofs.lemmas.List.{length-map, map-append}
-use Rattle.vlsi_base.specs.declared.name.Terminal.{Terminal}
 use Rattle.vlsi_base.specs.Range.{rising}
 use Rattle.vlsi_base.specs.Member.{In, here, there, AllDifferent}
 use Rattle.bool_expr.specs.Expression.{bit}
@@ -10,12 +9,11 @@ use Rattle.machine_meaning.specs.Named.{is_same_text}
 use Rattle.machine_meaning.specs.Machine.{Register}
 use Rattle.machine_core.proofs.Values.{In-split, In-left, In-right, In-map}
 use Rattle.source_bits.specs.Driven.{Numbered, NumberedStorage}
-use Rattle.vlsi_model.proofs.Members.{In-cases}
 use Rattle.cell_model.specs.Cell.{Function, gate, flip_flop, other, opaque, Cell}
 use Rattle.cell_model.specs.Library.{cell_of}
 use Rattle.net_core.specs.Netlist.{Instance}
 use Rattle.net_meaning.specs.Behaviour.{Contents}
-use Rattle.net_machine.specs.Body.{Load, Body, body_of, body_at, width}
+use Rattle.net_machine.specs.Body.{body_of, body_at, width}
 use Rattle.net_machine.specs.Bits.{widths, numbers, body_stored, body_driven}
 use Rattle.net_machine.proofs.Scenes.{Scene}
 use Rattle.net_machine.proofs.Blocks.{held_of, all_stored, all_driven, body_in, stored_bits_are}

@@ -1,26 +1,24 @@
 -- A netlist whose bits are gathered, and the classes of its terminals.
-use Rattle.std.proofs.Common.{◌≡◌, ◌≢◌, ◌⊎◌, inl, inr, ℕ, zero, suc, ◌+◌, ◌<◌, ◌≤◌, Bool, true, false, not, List, [], ◌∷◌, ◌++◌, map, length, filter, Option, None, Some, refl, sym, ap, ◌∙◌, subst, arith}
-use Rattle.std.specs.Prelude.{IsTrue}
+use Rattle.std.proofs.Common.{◌≡◌, inl, inr, ℕ, ◌<◌, true, not, List, [], ◌∷◌, map, get_or, filter, Option, refl, sym, ap, ◌∙◌, subst}
 use Rattle.std.specs.Ordering.{is_lt, ordering_reverse}
 use Rattle.std.specs.declared.cmp.Ordering.{Ordering}
 use Rattle.std.specs.declared.cmp.Ordering.TheVariants.{Less, Equal, Greater}
 use Rattle.vlsi_base.specs.declared.name.Name.{Name}
 use Rattle.vlsi_base.specs.declared.name.Port.{Port}
-use Rattle.vlsi_base.specs.declared.name.Dir.{Dir}
 use Rattle.vlsi_base.specs.declared.name.Dir.TheVariants as dir
 use Rattle.vlsi_base.specs.declared.name.Terminal.{Terminal}
 use Rattle.vlsi_base.specs.Name.{name_cmp}
 use Rattle.vlsi_base.specs.Names.{comes_before}
-use Rattle.vlsi_base.specs.Member.{In, here, there, AllDifferent}
+use Rattle.vlsi_base.specs.Member.{In, AllDifferent}
 use Rattle.vlsi_base.proofs.NameOrder.{name_total}
-use Rattle.machine_meaning.specs.Machine.{Machine, is_input, names_of, outputs}
+use Rattle.machine_meaning.specs.Machine.{is_input, names_of, outputs}
 use Rattle.machine_core.proofs.Values.{In-map}
 use Rattle.source_meaning.specs.Formula.{place}
-use Rattle.vlsi_model.proofs.Members.{In-map_back, Sub, different_Sub}
-use Rattle.vlsi_model.proofs.PortBits.{Sub-map, Sub-filter}
+use Rattle.vlsi_model.proofs.Members.{In-map_back, different_Sub}
+use Rattle.vlsi_model.proofs.PortBits.{Sub-map, Sub-filter, filter-In}
 use Rattle.vlsi_model.proofs.Sorting.{different_from_pairs}
 use Rattle.vlsi_model.proofs.Building.{map-then}
-use Rattle.bool_expr.specs.Expression.{Expression, variable}
+use Rattle.bool_expr.specs.Expression.{variable}
 use Rattle.cell_model.specs.Cell.{Function, gate, flip_flop, other, opaque, Cell, pin_ports, cell_outputs}
 use Rattle.cell_model.specs.Library.{Library, cell_of}
 use Rattle.cell_model.specs.Usable.{IsFormed, FitsPins}
@@ -28,16 +26,14 @@ use Rattle.cell_pins.specs.Pins.{supply, all_ports}
 use Rattle.net_core.specs.declared.pins.ModelPin.{ModelPin}
 use Rattle.net_core.specs.declared.pins.ModelPins.{ModelPins}
 use Rattle.net_core.specs.declared.tally.Role.{Role}
-use Rattle.net_core.specs.declared.tally.Role.TheVariants as role
-use Rattle.net_core.specs.Places.{Stands, IsThere}
-use Rattle.net_core.specs.Netlist.{Instance, Netlist as InMemory, port, pin_of, terminals, HasClass, IsClassFunction}
+use Rattle.net_core.specs.Netlist.{Instance, Netlist as InMemory, port, pin_of, HasClass, IsClassFunction}
 use Rattle.net_core.specs.Checks.{pins_named, port_role, pin_role}
 use Rattle.net_core.proofs.Rings.{class_below}
-use Rattle.net_machine.specs.Signals.{IsOpaque, HasBehaviour}
+use Rattle.net_machine.specs.Signals.{HasBehaviour}
 use Rattle.net_machine.specs.Body.{Shown, Body, body_of, body_at}
 use Rattle.net_machine.specs.Gathered.{IsLonger, HasClockOf}
-use Rattle.net_machine.proofs.Drivers.{In_there, IsAt, a_port, a_pin, is_driver, one_driver, some_driver}
-use Rattle.net_machine.proofs.Bodies.{IsPin, shows_pin, output_pin, machine_outputs}
+use Rattle.net_machine.proofs.Drivers.{In_there, IsAt, a_port, is_driver, one_driver}
+use Rattle.net_machine.proofs.Bodies.{shows_pin, machine_outputs}
 use Rattle.net_machine.proofs.Cells.{Ground, sound_of, Seated, seated, pin_at, port_of_pin, signal_in, all_cases, there_is, class_there}
 
 pub record Scene : Type 0 where
@@ -76,7 +72,7 @@ output_driver q e = rw e refl
 
 -- ---- output pins
 
-itself_not_before : (a : Name) → comes_before a a ≡ true → ⊥
+pub itself_not_before : (a : Name) → comes_before a a ≡ true → ⊥
 itself_not_before a h = by (name_cmp a a) refl h where
   by : (o : Ordering) → name_cmp a a ≡ o → is_lt o ≡ true → ⊥
   by Less e t = let turned : Less ≡ Greater = sym e ∙ name_total.antisymm a a ∙ ap ordering_reverse e in absurd cc
@@ -86,7 +82,8 @@ itself_not_before a h = by (name_cmp a a) refl h where
 pub outputs_different : (c : Cell) → IsFormed c → AllDifferent (cell_outputs c)
 outputs_different c h =
     different_Sub (cell_outputs c) (names_of (pin_ports c)) (Sub-map (λ (p : Port). p.name) (filter (λ (p : Port). not (is_input p.dir)) (pin_ports c)) (pin_ports c) (Sub-filter (λ (p : Port). not (is_input p.dir)) (pin_ports c)))
-    (different_from_pairs (names_of (pin_ports c)) (λ i j d low high e. itself_not_before _ (subst (λ (x : Name). comes_before _ x ≡ true) (sym e) (h.order i j d low high))))
+    (different_from_pairs (names_of (pin_ports c)) (λ i j d low high e.
+    itself_not_before (get_or (names_of (pin_ports c)) i d) (subst (λ (x : Name). comes_before (get_or (names_of (pin_ports c)) i d) x ≡ true) (sym e) (h.order i j d low high))))
 
 -- the pins that a body shows are the output pins of its cell
 pub shown_pins : (c : Cell) (f : Function) → FitsPins c f → (f ≡ opaque → ⊥) → map (λ (s : Shown). s.pin) (body_of c f).shows ≡ cell_outputs c
@@ -152,11 +149,11 @@ output_shown s i m q j out =
         | inr w ↦ elim w [
           | inl v ↦ absurd (no_supply x _ v d)
           | inr g ↦
-            let out_test : not (is_input x.dir) ≡ true = rw d refl in
-            let o : In x.name (cell_outputs m.seat.cell) = In-map (λ (p : Port). p.name) x (filter (λ (p : Port). not (is_input p.dir)) (pin_ports m.seat.cell)) (Rattle.vlsi_model.proofs.PortBits.filter-In (λ (p : Port). not (is_input p.dir)) (pin_ports m.seat.cell) x g out_test) in
-            let t : In x.name (map (λ (y : Shown). y.pin) (body_of m.seat.cell m.seat.cell.function).shows) =
-            subst (λ (ns : List Name). In x.name ns) (sym (shown_pins m.seat.cell m.seat.cell.function m.seat.formed.function (not_opaque s i m))) o in
-            let u = In-map_back (λ (y : Shown). y.pin) x.name (body_of m.seat.cell m.seat.cell.function).shows t in
-            (u.0, subst (λ (b : Body). In u.0 b.shows) (sym (body_is s i m)) u.1, u.2 ∙ e)
+              let out_test : not (is_input x.dir) ≡ true = rw d refl in
+              let o : In x.name (cell_outputs m.seat.cell) = In-map (λ (p : Port). p.name) x (filter (λ (p : Port). not (is_input p.dir)) (pin_ports m.seat.cell)) (filter-In (λ (p : Port). not (is_input p.dir)) (pin_ports m.seat.cell) x g out_test) in
+              let t : In x.name (map (λ (y : Shown). y.pin) (body_of m.seat.cell m.seat.cell.function).shows) =
+              subst (λ (ns : List Name). In x.name ns) (sym (shown_pins m.seat.cell m.seat.cell.function m.seat.formed.function (not_opaque s i m))) o in
+              let u = In-map_back (λ (y : Shown). y.pin) x.name (body_of m.seat.cell m.seat.cell.function).shows t in
+              (u.0, subst (λ (b : Body). In u.0 b.shows) (sym (body_is s i m)) u.1, u.2 ∙ e)
         ]
       ]

@@ -1,21 +1,18 @@
 -- One instance: its cell drives its pins just where its body holds.
-use Rattle.std.proofs.Common.{◌≡◌, ◌≢◌, ◌⊎◌, inl, inr, ℕ, zero, suc, ◌+◌, ◌<◌, ◌≤◌, Bool, true, false, cond, List, [], ◌∷◌, ◌++◌, map, length, get_or, take, drop, Option, None, Some, refl, sym, ap, ◌∙◌, subst, arith, length-append}
+use Rattle.std.proofs.Common.{◌≡◌, ◌⊎◌, inl, inr, ℕ, zero, suc, ◌+◌, ◌<◌, Bool, false, cond, List, [], ◌∷◌, ◌++◌, map, length, get_or, drop, Some, refl, sym, ap, ◌∙◌, subst, arith, length-append, append-nil}
 use Rattle.std.specs.Prelude.{slice_index}
-use Rattle.std.specs.List.{All}
-use Rattle.std.proofs.lemmas.List.{length-map, map-append, get_or-map, length-take-le, length-drop}
+use Rattle.std.proofs.lemmas.List.{length-map, map-append, get_or-map}
 use Rattle.std.proofs.lemmas.Option.{slice_get_within, get_or_from_slice_get}
 use Rattle.vlsi_base.specs.declared.name.Name.{Name}
 use Rattle.vlsi_base.specs.declared.name.Terminal.{Terminal}
 use Rattle.vlsi_base.specs.Range.{rising}
 use Rattle.vlsi_base.specs.Member.{In, here, there}
-use Rattle.bool_expr.specs.Expression.{Expression, constant, variable, IsOver, bit, val}
+use Rattle.bool_expr.specs.Expression.{Expression, variable, IsOver, bit, val}
 use Rattle.bool_expr.specs.Renumbering.{renumbered}
 use Rattle.machine_meaning.specs.Named.{value_at, values_at}
-use Rattle.machine_meaning.specs.Machine.{Machine, Equation, Register, inputs, outputs, register_names}
+use Rattle.machine_meaning.specs.Machine.{Machine, Register, inputs, register_names}
 use Rattle.machine_meaning.specs.Cycles.{Settles, outs, next}
-use Rattle.machine_core.specs.Checked.{IsChecked}
-use Rattle.machine_core.proofs.Values.{In-left, In-right, In-map}
-use Rattle.source_meaning.specs.Formula.{place}
+use Rattle.machine_core.proofs.Values.{In-left, In-right, In-map, In-split}
 use Rattle.source_bits.specs.Driven.{Numbered, NumberedStorage}
 use Rattle.vlsi_model.proofs.Building.{map-then, map_same}
 use Rattle.cell_model.specs.Cell.{Function, gate, flip_flop, other, opaque, Cell, cell_inputs, cell_outputs}
@@ -24,18 +21,19 @@ use Rattle.cell_model.specs.Usable.{FitsPins}
 use Rattle.net_core.specs.Places.{Stands}
 use Rattle.net_core.specs.Netlist.{Instance, pin_of}
 use Rattle.net_meaning.specs.Netlist.{Netlist}
-use Rattle.net_meaning.specs.Behaviour.{Contents, Valuation, bit_of, pin_bits, Drives, loaded, next_held}
-use Rattle.net_view.specs.View.{member_of, netlist_by}
+use Rattle.net_meaning.specs.Behaviour.{Contents, Valuation, pin_bits, Drives, loaded}
+use Rattle.net_view.specs.View.{netlist_by}
 use Rattle.bit_machine.proofs.Showing.{val_renumbered}
 use Rattle.net_machine.specs.Body.{Load, Shown, Body, body_of, body_at, width}
-use Rattle.net_machine.specs.Bits.{numbers, stored_from, inner_from, shown_from, body_stored, body_driven}
+use Rattle.net_machine.specs.Bits.{numbers, stored_from, inner_from, shown_from, body_driven}
 use Rattle.net_machine.specs.Gathered.{bits_count, IsBodyOver}
-use Rattle.net_machine.proofs.Bodies.{All_is, body_over, machine_outputs, machine_bits}
-use Rattle.net_machine.proofs.Scenes.{Scene, Member, member, shown_pins}
+use Rattle.net_machine.proofs.Bodies.{All_is, machine_outputs, machine_bits}
+use Rattle.net_machine.proofs.Scenes.{Scene, shown_pins}
 use Rattle.net_machine.proofs.Blocks.{body_in, shown_low}
-use Rattle.net_machine.proofs.Whole.{rising_count, In-inner_from}
-use Rattle.net_machine.proofs.Local.{BodyHolds, take_front, drop_front, machine_registers, machine_settles, machine_holds, settled_pieces}
-use Rattle.net_machine.proofs.Places.{held_in, held_at, local}
+use Rattle.net_machine.proofs.Whole.{rising_count}
+use Rattle.net_machine.proofs.Local.{BodyHolds, machine_registers, machine_settles, machine_holds}
+use Rattle.net_machine.proofs.Places.{held_in, local}
+use Rattle.vlsi_model.proofs.Members.{In-cases, In-map_back}
 
 -- the netlist with this scene's classes
 abbrev pub seen_net : Scene → Netlist
@@ -92,15 +90,17 @@ inner_at_place table k (x ∷ es) (suc q) e s =
     let made : ℕ → Expression → Numbered = λ n x. record { bit = n; expr = renumbered table x } in
     there (subst (λ (d : Numbered). In d (inner_from table (k + 1) es)) (ap (λ n. made n e) z) (inner_at_place table (k + 1) es q e s))
 
-inner_place : (table : List ℕ) (k : ℕ) (es : List Expression) (d : Numbered) → In d (inner_from table k es) → (q : ℕ) × (e : Expression) × Stands es q e × (d ≡ record { bit = k + q; expr = renumbered table e })
+pub inner_place : (table : List ℕ) (k : ℕ) (es : List Expression) (d : Numbered) → In d (inner_from table k es) → (q : ℕ) × (e : Expression) × Stands es q e × (d ≡ record { bit = k + q; expr = renumbered table e })
 inner_place table k [] d i = elim i [ ]
-inner_place table k (x ∷ es) d i = by (Rattle.vlsi_model.proofs.Members.In-cases d _ (inner_from table (k + 1) es) i) where
+inner_place table k (x ∷ es) d i = by (In-cases d (record { bit = k; expr = renumbered table x }) (inner_from table (k + 1) es) i) (inner_place table (k + 1) es d) where
   made : ℕ → Expression → Numbered
   made n x = record { bit = n; expr = renumbered table x }
 
-  by : (record { bit = k; expr = renumbered table x } ≡ d) ⊎ In d (inner_from table (k + 1) es) → (q : ℕ) × (e : Expression) × Stands (x ∷ es) q e × (d ≡ record { bit = k + q; expr = renumbered table e })
-  by (inl same) = let z : k ≡ k + 0 = omega arith in (0, x, refl, sym same ∙ ap (λ n. made n x) z)
-  by (inr j) = let r = inner_place table (k + 1) es d j in let z : k + 1 + r.0 ≡ k + suc r.0 = omega arith in (suc r.0, r.1, r.2, r.3 ∙ ap (λ n. made n r.1) z)
+  by : (record { bit = k; expr = renumbered table x } ≡ d) ⊎ In d (inner_from table (k + 1) es)
+      → (In d (inner_from table (k + 1) es) → (q : ℕ) × (e : Expression) × Stands es q e × (d ≡ record { bit = k + 1 + q; expr = renumbered table e }))
+      → (q : ℕ) × (e : Expression) × Stands (x ∷ es) q e × (d ≡ record { bit = k + q; expr = renumbered table e })
+  by (inl same) rest = let z : k ≡ k + 0 = omega arith in (0, x, refl, sym same ∙ ap (λ n. made n x) z)
+  by (inr j) rest = let r = rest j in let z : k + 1 + r.0 ≡ k + suc r.0 = omega arith in (suc r.0, r.1, r.2, r.3 ∙ ap (λ n. made n r.1) z)
 
 -- the bits that the output pins have
 abbrev pub pins_shown : Scene → List Bool → Instance → List Bool
@@ -135,22 +135,22 @@ shown_each f g [] e x j = elim j [ ]
 
 pub driven_if : (s : Scene) (i : Instance) (at : ℕ) (y : List Bool) → IsBodyOver (body_in s i) → BodyHolds (body_in s i) (local s y i at) (pins_shown s y i)
     → (d : Numbered) → In d (body_driven s.class i.name (body_in s i) at) → Driven y d
-driven_if s i at y over h d j = elim (Rattle.machine_core.proofs.Values.In-split d (inner_from table (at + length b.loads) b.inner) (shown_from s.class i.name table b.shows) j) [
+driven_if s i at y over h d j = elim (In-split d (inner_from table (at + length b.loads) b.inner) (shown_from s.class i.name table b.shows) j) [
   | inl a ↦
-    let w = inner_place table (at + length b.loads) b.inner d a in
-    let low = slice_get_within b.inner w.0 w.1 w.2 in
-    let o : IsOver w.1 (bits_count b) = subst (λ (x : Expression). IsOver x (bits_count b)) (get_or_from_slice_get b.inner w.0 w.1 w.1 w.2) (over.inner w.0 w.1 low) in
-    let k : length b.reads + length b.loads + w.0 ≡ length b.reads + (length b.loads + w.0) = omega arith in
-    let k2 : at + (length b.loads + w.0) ≡ at + length b.loads + w.0 = omega arith in
-    let v : bit y (at + length b.loads + w.0) ≡ val (renumbered table w.1) y =
-    sym (ap (bit (local s y i at)) k ∙ own_bit s.class i.name b at y (length b.loads + w.0) (omega (arith, low)) ∙ ap (bit y) k2) ∙ h.inner w.0 w.1 w.2 ∙ sym (value_here s.class i.name b at y w.1 o) in
-    subst (Driven y) (sym w.3) v
+      let w = inner_place table (at + length b.loads) b.inner d a in
+      let low = slice_get_within b.inner w.0 w.1 w.2 in
+      let o : IsOver w.1 (bits_count b) = subst (λ (x : Expression). IsOver x (bits_count b)) (get_or_from_slice_get b.inner w.0 w.1 w.1 w.2) (over.inner w.0 w.1 low) in
+      let k : length b.reads + length b.loads + w.0 ≡ length b.reads + (length b.loads + w.0) = omega arith in
+      let k2 : at + (length b.loads + w.0) ≡ at + length b.loads + w.0 = omega arith in
+      let v : bit y (at + length b.loads + w.0) ≡ val (renumbered table w.1) y =
+      sym (ap (bit (local s y i at)) k ∙ own_bit s.class i.name b at y (length b.loads + w.0) (omega (arith, low)) ∙ ap (bit y) k2) ∙ h.inner w.0 w.1 w.2 ∙ sym (value_here s.class i.name b at y w.1 o) in
+      subst (Driven y) (sym w.3) v
   | inr a ↦
-    let w = Rattle.vlsi_model.proofs.Members.In-map_back (λ (z : Shown). record { bit = s.class (pin_of i.name z.pin); expr = renumbered table z.expr }) d b.shows a in
-    let e = shown_each (λ (x : Shown). val x.expr (local s y i at)) (λ (x : Shown). bit y (s.class (pin_of i.name x.pin))) b.shows h.shows w.0 w.1 in
-    let v : bit y (s.class (pin_of i.name w.0.pin)) ≡ val (renumbered table w.0.expr) y =
-    sym e ∙ sym (value_here s.class i.name b at y w.0.expr (All_is (λ (z : Shown). IsOver z.expr (bits_count b)) b.shows over.shows w.0 w.1)) in
-    subst (Driven y) w.2 v
+      let w = In-map_back (λ (z : Shown). record { bit = s.class (pin_of i.name z.pin); expr = renumbered table z.expr }) d b.shows a in
+      let e = shown_each (λ (x : Shown). val x.expr (local s y i at)) (λ (x : Shown). bit y (s.class (pin_of i.name x.pin))) b.shows h.shows w.0 w.1 in
+      let v : bit y (s.class (pin_of i.name w.0.pin)) ≡ val (renumbered table w.0.expr) y =
+      sym e ∙ sym (value_here s.class i.name b at y w.0.expr (All_is (λ (z : Shown). IsOver z.expr (bits_count b)) b.shows over.shows w.0 w.1)) in
+      subst (Driven y) w.2 v
 ] where
   b : Body
   b = body_in s i
@@ -251,7 +251,7 @@ drives s i at y w t c (gate e) g is h held fit inner =
     let fits : FitsPins c (gate e) = subst (FitsPins c) is g.fits in
     let ins : local s y i at ≡ pin_bits (seen_net s) w.classes i.name (cell_inputs c) =
     local_pieces s y i at ∙ ap (λ (xs : List Bool). xs ++ map (bit y) (rising at (width (body_in s i)))) (reads_agree s i at y w c g)
-    ∙ ap (λ (x : Body). pin_bits (seen_net s) w.classes i.name x.reads ++ map (bit y) (rising at (width x))) b ∙ Rattle.std.proofs.Common.append-nil (pin_bits (seen_net s) w.classes i.name (cell_inputs c)) in
+    ∙ ap (λ (x : Body). pin_bits (seen_net s) w.classes i.name x.reads ++ map (bit y) (rising at (width x))) b ∙ append-nil (pin_bits (seen_net s) w.classes i.name (cell_inputs c)) in
     outs_agree s i at y w c g ∙ sym h.shows ∙ map-then (λ (x : Shown). val x.expr (local s y i at)) (λ (o : Name). record { pin = o; expr = e }) (cell_outputs c)
     ∙ one_of (cell_outputs c) (val e (local s y i at)) fits.0 ∙ ap (λ v. val e v ∷ []) ins
 drives s i at y w t c (flip_flop d k) g is h held fit inner =
@@ -273,8 +273,7 @@ drives s i at y w t c (other m) g is h held fit inner =
     let r = machine_settles c m ins (t i.name) rest (local s y i at) (pins_shown s y i) fits.1 (three ∙ ap (λ (xs : List Bool). ins ++ (xs ++ rest)) hs)
     (length-map (map (λ (pin : Name). s.class (pin_of i.name pin)) (inputs m)) (bit y) ∙ length-map (inputs m) (λ (pin : Name). s.class (pin_of i.name pin))) fit h in
     let same : ins ≡ pin_bits (seen_net s) w.classes i.name (inputs m) =
-    ap (λ (x : Body). map (bit y) (map (λ (pin : Name). s.class (pin_of i.name pin)) x.reads)) (sym b) ∙ reads_agree s i at y w c g ∙ ap (λ (x : Body). pin_bits (seen_net s) w.classes i.name x.reads) b in
-    (
+    ap (λ (x : Body). map (bit y) (map (λ (pin : Name). s.class (pin_of i.name pin)) x.reads)) (sym b) ∙ reads_agree s i at y w c g ∙ ap (λ (x : Body). pin_bits (seen_net s) w.classes i.name x.reads) b in (
       subst (λ (v : List Bool). Settles m (t i.name) (pin_bits (seen_net s) w.classes i.name (inputs m)) v) (sym inner) (subst (λ (v : List Bool). Settles m (t i.name) v (local s y i at)) same r.0),
       ap (pin_bits (seen_net s) w.classes i.name) (machine_outputs c m fits.0) ∙ outs_agree s i at y w c g ∙ r.1 ∙ ap (outs m) (sym inner),
     )
@@ -288,7 +287,7 @@ holds s i at y w t c (gate e) g is h held inner =
     let fits : FitsPins c (gate e) = subst (FitsPins c) is g.fits in
     let ins : local s y i at ≡ pin_bits (seen_net s) w.classes i.name (cell_inputs c) =
     local_pieces s y i at ∙ ap (λ (xs : List Bool). xs ++ map (bit y) (rising at (width (body_in s i)))) (reads_agree s i at y w c g)
-    ∙ ap (λ (x : Body). pin_bits (seen_net s) w.classes i.name x.reads ++ map (bit y) (rising at (width x))) b ∙ Rattle.std.proofs.Common.append-nil (pin_bits (seen_net s) w.classes i.name (cell_inputs c)) in
+    ∙ ap (λ (x : Body). pin_bits (seen_net s) w.classes i.name x.reads ++ map (bit y) (rising at (width x))) b ∙ append-nil (pin_bits (seen_net s) w.classes i.name (cell_inputs c)) in
     record {
       each = length-map (numbers s.class i.name (body_in s i) at) (bit y) ∙ numbers_count s.class i.name (body_in s i) at ∙ ap bits_count b;
       inner = λ q x z. absurd cc;

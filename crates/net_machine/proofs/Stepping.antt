@@ -1,56 +1,56 @@
 -- A netlist and the machine of its bits keep step.
-use Rattle.std.proofs.Common.{◌≡◌, ◌≢◌, ◌⊎◌, inl, inr, ℕ, zero, suc, ◌+◌, ◌<◌, ◌≤◌, Bool, true, false, cond, not, ◌&&◌, List, [], ◌∷◌, ◌++◌, map, length, get_or, take, drop, replicate, Option, None, Some, refl, sym, ap, ◌∙◌, subst, arith, length-append}
+use Rattle.std.proofs.Common.{◌≡◌, ◌⊎◌, inl, inr, ℕ, zero, suc, ◌+◌, ◌<◌, ◌≤◌, Bool, true, false, cond, not, ◌&&◌, List, [], ◌∷◌, ◌++◌, map, length, get_or, take, drop, replicate, Option, None, Some, refl, sym, ap, ◌∙◌, subst, arith, length-append, append_assoc}
 use Rattle.std.specs.Prelude.{bytes_eq, codes}
-use Rattle.std.specs.List.{All, flat_map}
-use Rattle.std.proofs.lemmas.List.{length-map, map-append, get_or-map, length-take-le, length-drop, get_or-take}
+use Rattle.std.specs.List.{flat_map}
+use Rattle.std.proofs.lemmas.List.{length-map, map-append, get_or-map, length-take-le, length-drop, get_or-take, length-replicate}
 use Rattle.vlsi_base.specs.declared.name.Name.{Name}
 use Rattle.vlsi_base.specs.declared.name.Port.{Port}
 use Rattle.vlsi_base.specs.declared.name.Dir.{Dir}
 use Rattle.vlsi_base.specs.declared.name.Dir.TheVariants as dir
-use Rattle.vlsi_base.specs.declared.name.Terminal.{Terminal}
 use Rattle.vlsi_base.specs.Name.{is_supply}
 use Rattle.vlsi_base.specs.Names.{vdd, vss}
 use Rattle.vlsi_base.specs.Range.{rising}
-use Rattle.vlsi_base.specs.Member.{In, here, there}
-use Rattle.bool_expr.specs.Expression.{Expression, constant, variable, IsOver, bit, val}
-use Rattle.machine_meaning.specs.Named.{value_at, values_at, is_same_text, is_same_name}
-use Rattle.machine_meaning.specs.Machine.{Machine, is_input, is_clock, names_of, inputs}
-use Rattle.machine_meaning.specs.Cycles.{Settles, next}
-use Rattle.machine_core.proofs.Names.{same_name-itself}
+use Rattle.vlsi_base.specs.Member.{In, here, there, AllDifferent}
+use Rattle.bool_expr.specs.Expression.{constant, variable, IsOver, bit, val}
+use Rattle.machine_meaning.specs.Named.{value_at, is_same_text, is_same_name}
+use Rattle.machine_meaning.specs.Machine.{Machine, is_clock, inputs, Register, register_names}
+use Rattle.machine_meaning.specs.Cycles.{Settles}
+use Rattle.machine_core.proofs.Names.{same_name-itself, same_name-true, same_name-false}
 use Rattle.machine_core.proofs.Values.{In-split, In-left, In-right, In-map}
 use Rattle.source_bits.specs.Driven.{Numbered, NumberedStorage}
 use Rattle.vlsi_model.specs.Numbered.{name_at}
 use Rattle.vlsi_model.specs.Laid.{inputs_of}
 use Rattle.vlsi_model.proofs.Members.{In-cases, In-map_back}
 use Rattle.vlsi_model.proofs.PortBits.{In-filter}
-use Rattle.vlsi_model.proofs.Sorting.{place_of_In}
-use Rattle.vlsi_model.proofs.Building.{map-then, map_same}
+use Rattle.vlsi_model.proofs.Sorting.{place_of_In, In-at}
 use Rattle.cell_model.specs.Cell.{Function, gate, flip_flop, other, opaque, Cell}
-use Rattle.cell_model.specs.Library.{Library, cell_of}
+use Rattle.cell_model.specs.Library.{cell_of}
 use Rattle.net_core.specs.Places.{IsThere}
-use Rattle.net_core.specs.Netlist.{Instance, port, pin_of}
+use Rattle.net_core.specs.Netlist.{Instance, port, pin_of, terminals}
 use Rattle.net_core.specs.Checks.{port_role}
-use Rattle.net_meaning.specs.Netlist.{Member as Layout, Netlist}
-use Rattle.net_meaning.specs.Behaviour.{Contents, Valuation, bit_of, Drives, NetSettles, model_of, cell_at, loaded, next_held, net_next}
-use Rattle.net_view.specs.View.{member_of, netlist_by}
-use Rattle.bit_machine.specs.System.{System, stored_bits, BitsSettle, bits_next, bits_shown, IsMachineOfBits}
+use Rattle.net_meaning.specs.Netlist.{Member as Layout}
+use Rattle.net_meaning.specs.Behaviour.{Contents, Valuation, Drives, NetSettles, model_of, cell_at, loaded, next_held, net_next, pin_bits}
+use Rattle.net_view.specs.View.{member_of}
+use Rattle.bit_machine.specs.System.{BitsSettle, bits_next, bits_shown, IsMachineOfBits}
 use Rattle.bit_machine.proofs.Showing.{shown_at}
 use Rattle.net_machine.specs.Signals.{signal_ports, net_inputs}
 use Rattle.net_machine.specs.Step.{FitsContents, zeros, zeros_of, no_contents, ShowAlike, AreInStep, KeepsStep}
 use Rattle.net_machine.specs.Body.{Load, Body, body_of, body_at, width}
-use Rattle.net_machine.specs.Bits.{own_name, is_signal, fixed_bit, port_inputs, own_of, port_driven, class_of_port, classes_driven, widths, numbers, body_stored, body_driven}
-use Rattle.net_machine.specs.Gathered.{bits_count, IsBodyOver}
-use Rattle.net_machine.proofs.Drivers.{a_port, there_In}
-use Rattle.net_machine.proofs.Bodies.{All_is}
+use Rattle.net_machine.specs.Bits.{own_name, is_signal, fixed_bit, own_of, port_driven, class_of_port, classes_driven, numbers, body_stored, body_driven, stored_from}
+use Rattle.net_machine.specs.Gathered.{bits_count}
+use Rattle.net_machine.proofs.Drivers.{a_port, In_there}
+use Rattle.net_machine.proofs.Bodies.{All_is, machine_bits}
 use Rattle.net_machine.proofs.Cells.{fine_over, fine_pins, class_there}
 use Rattle.net_machine.proofs.Scenes.{Scene, class_low, Member, member, not_opaque}
-use Rattle.net_machine.proofs.Blocks.{held_of, all_stored, all_driven, body_in}
+use Rattle.net_machine.proofs.Blocks.{all_stored, all_driven, body_in}
 use Rattle.net_machine.proofs.Whole.{system, first, names_count, instances_apart, rising_count}
-use Rattle.net_machine.proofs.Fitting.{name_of_port, ClockPort, clock_port, output_signal, picked}
+use Rattle.net_machine.proofs.Fitting.{name_of_port, clock_port, picked, supply_name}
 use Rattle.net_machine.proofs.Local.{BodyHolds, take_front, settled_pieces}
-use Rattle.net_machine.proofs.Places.{Place, first as at_first, next as at_next, place_of, placed_in, place_low, driven_in, DrivenBy, driven_by, held_in, held_at, held_all, held_count, held_split, held_join, local, inner_of, inner_at, bit_left, bits_between, block_at, blocks_count}
-use Rattle.net_machine.proofs.Settling.{seen_net, Driven, holds_if, driven_if, pins_shown, AgreeBelow, Stage, drives, holds, IsLocal, FitsHeld, held_itself, loads_next, stored_next, loads, reads_agree, local_pieces, numbers_count}
+use Rattle.net_machine.proofs.Places.{Place, first as at_first, next as at_next, place_of, placed_in, driven_in, driven_by, held_in, held_at, held_all, held_count, held_split, held_join, local, inner_of, inner_at, bit_left, block_at, blocks_count, bit_right}
+use Rattle.net_machine.proofs.Settling.{seen_net, Driven, holds_if, driven_if, pins_shown, AgreeBelow, Stage, drives, holds, IsLocal, FitsHeld, held_itself, loads_next, stored_next, loads, reads_agree, local_pieces, rising_split}
 use Rattle.net_core.proofs.Rings.{class_below}
+use Rattle.std.specs.Cmp.Lexicographic.{bytes_decides}
+use Rattle.cell_model.specs.Usable.{FitsPins}
 
 -- ---- ports
 
@@ -102,16 +102,16 @@ ports_hold s y h = record { same = λ j p l e. same j p l e p.dir refl; fixed = 
       by_own (record { bit = s.n.count + j; expr = constant (fixed_bit p) })
       (port_own s s.n.count s.n.ports j p l e (record { bit = s.n.count + j; expr = constant (fixed_bit p) })
       (subst (λ (x : Dir). In (record { bit = s.n.count + j; expr = constant (fixed_bit p) }) (own_of s.class s.clock (s.n.count + j) p x)) (sym f)
-      (subst (λ b. In (record { bit = s.n.count + j; expr = constant (fixed_bit p) }) (cond b [] (record { bit = s.n.count + j; expr = constant (fixed_bit p) } ∷ []))) (sym g) here)))
+      (subst (λ b. In {A = Numbered} (record { bit = s.n.count + j; expr = constant (fixed_bit p) }) (cond b [] (record { bit = s.n.count + j; expr = constant (fixed_bit p) } ∷ []))) (sym g) here)))
 
-port_low : (s : Scene) (p : Port) → In p s.n.ports → s.class (port p.name) < s.n.count
+pub port_low : (s : Scene) (p : Port) → In p s.n.ports → s.class (port p.name) < s.n.count
 port_low s p i = class_low s (port p.name) (port_role p) (a_port p i)
 
 -- ---- instances
 
-read_low : (s : Scene) (i : Instance) → In i s.n.instances → (pin : Name) → In pin (body_in s i).reads → s.class (pin_of i.name pin) < s.n.count
+pub read_low : (s : Scene) (i : Instance) → In i s.n.instances → (pin : Name) → In pin (body_in s i).reads → s.class (pin_of i.name pin) < s.n.count
 read_low s i li pin j =
-    let p = All_is (λ (pin : Name). IsThere (Rattle.net_core.specs.Netlist.terminals s.n) (pin_of i.name pin)) (body_in s i).reads (fine_pins s.n s.l s.table s.ground i li).reads pin j in
+    let p = All_is (λ (pin : Name). IsThere (terminals s.n) (pin_of i.name pin)) (body_in s i).reads (fine_pins s.n s.l s.table s.ground i li).reads pin j in
     let c = class_there s.n s.l s.table s.ground (pin_of i.name pin) p in
     let e = s.classes.each (pin_of i.name pin) c.0 c.1 in
     let w = class_below s.n s.ground.netlist (pin_of i.name pin) c.0 c.1 in
@@ -131,16 +131,16 @@ body_seat : (s : Scene) (i : Instance) (m : Member s i) → body_in s i ≡ body
 body_seat s i m = ap body_at m.seat.found
 
 -- the model of an instance by its name
-model_found : (s : Scene) (is : List Instance) → Rattle.vlsi_base.specs.Member.AllDifferent (map (λ (i : Instance). i.name) is) → (i : Instance) → In i is → model_of (map member_of is) i.name ≡ Some i.model
-model_found s (k ∷ is) d i j = by (In-cases i k is j) where
-  by : (k ≡ i) ⊎ In i is → cond (is_same_text k.name i.name) (Some k.model) (model_of (map member_of is) i.name) ≡ Some i.model
-  by (inl e) =
-      ap (λ b. cond b (Some k.model) (model_of (map member_of is) i.name)) ((Rattle.std.specs.Cmp.Lexicographic.bytes_decides k.name i.name).1 (ap (λ (x : Instance). x.name) e)) ∙ ap (λ (x : Instance). Some x.model) e
-  by (inr h) = test (is_same_text k.name i.name) refl where
+model_found : (s : Scene) (is : List Instance) → AllDifferent (map (λ (i : Instance). i.name) is) → (i : Instance) → In i is → model_of (map member_of is) i.name ≡ Some i.model
+model_found s (k ∷ is) d i j = by (In-cases i k is j) (model_found s is d.1 i) where
+  by : (k ≡ i) ⊎ In i is → (In i is → model_of (map member_of is) i.name ≡ Some i.model) → cond (is_same_text k.name i.name) (Some k.model) (model_of (map member_of is) i.name) ≡ Some i.model
+  by (inl e) rest =
+      ap (λ b. cond b (Some k.model) (model_of (map member_of is) i.name)) ((bytes_decides k.name i.name).1 (ap (λ (x : Instance). x.name) e)) ∙ ap (λ (x : Instance). Some x.model) e
+  by (inr h) rest = test (is_same_text k.name i.name) refl where
     test : (b : Bool) → is_same_text k.name i.name ≡ b → cond b (Some k.model) (model_of (map member_of is) i.name) ≡ Some i.model
-    test false e = model_found s is d.1 i h
+    test false e = rest h
     test true e =
-        let same : k.name ≡ i.name = (Rattle.std.specs.Cmp.Lexicographic.bytes_decides k.name i.name).0 e in
+        let same : k.name ≡ i.name = (bytes_decides k.name i.name).0 e in
         absurd (d.0 (subst (λ (n : List ℕ). In n (map (λ (i : Instance). i.name) is)) (sym same) (In-map (λ (i : Instance). i.name) i is h)))
 model_found s [] d i j = elim j [ ]
 
@@ -225,7 +225,7 @@ net_settles s t i y fit h = record {
   ports = ports_hold s y h.driven
 
   low_at : (j : ℕ) (p : Port) → j < length s.n.ports → get_or s.n.ports j p ≡ p → s.class (port p.name) < s.n.count
-  low_at j p l e = port_low s p (subst (λ (x : Port). In x s.n.ports) e (Rattle.vlsi_model.proofs.Sorting.In-at s.n.ports j p l))
+  low_at j p l e = port_low s p (subst (λ (x : Port). In x s.n.ports) e (In-at s.n.ports j p l))
 
   class_fixed : (p : Port) → In p s.n.ports → p.dir ≡ dir.In → is_signal s.clock p ≡ false → bit (take s.n.count y) (s.class (port p.name)) ≡ fixed_bit p
   class_fixed p j d g =
@@ -235,7 +235,7 @@ net_settles s t i y fit h = record {
   supply_bit : (p : Port) → In p s.n.ports → (name : Name) → p.name ≡ name → is_supply name.text ≡ true → bit (take s.n.count y) (s.class (port name)) ≡ fixed_bit p
   supply_bit p j name e sup =
       let is_sup : is_supply p.name.text ≡ true = ap (λ (n : Name). is_supply n.text) e ∙ sup in
-      let d = (s.ground.condition.supplies p (Rattle.net_machine.proofs.Drivers.In_there s.n.ports p j) is_sup).1 in
+      let d = (s.ground.condition.supplies p (In_there s.n.ports p j) is_sup).1 in
       ap (λ (n : Name). bit (take s.n.count y) (s.class (port n))) (sym e) ∙ class_fixed p j d (no_signal s.clock p is_sup)
 
   still : (name : Name) → s.clock ≡ Some name → bit (take s.n.count y) (s.class (port name)) ≡ false
@@ -315,14 +315,14 @@ next_is s y w agree driven inner =
 
 -- ---- the bits of a netlist that has settled
 
-port_driven_by : (s : Scene) (k : ℕ) (ps : List Port) (d : Numbered) → In d (port_driven s.class s.clock k ps) → (j : ℕ) × (p : Port) × (j < length ps) × (get_or ps j p ≡ p) × In d (own_of s.class s.clock (k + j) p p.dir)
+pub port_driven_by : (s : Scene) (k : ℕ) (ps : List Port) (d : Numbered) → In d (port_driven s.class s.clock k ps) → (j : ℕ) × (p : Port) × (j < length ps) × (get_or ps j p ≡ p) × In d (own_of s.class s.clock (k + j) p p.dir)
 port_driven_by s k [] d i = elim i [ ]
 port_driven_by s k (q ∷ ps) d i = elim (In-split d (own_of s.class s.clock k q q.dir) (port_driven s.class s.clock (k + 1) ps) i) [
   | inl a ↦ let z : k ≡ k + 0 = omega arith in (0, q, omega arith, refl, subst (λ n. In d (own_of s.class s.clock n q q.dir)) z a)
   | inr a ↦ let r = port_driven_by s (k + 1) ps d a in let z : k + 1 + r.0 ≡ k + suc r.0 = omega arith in (suc r.0, r.1, (let l = r.2 in omega (arith, l)), r.3, subst (λ n. In d (own_of s.class s.clock n r.1 r.1.dir)) z r.4)
 ]
 
-port_class_by : (s : Scene) (k : ℕ) (ps : List Port) (d : Numbered) → In d (classes_driven s.class k ps) → (j : ℕ) × (p : Port) × (j < length ps) × (get_or ps j p ≡ p) × In d (class_of_port s.class (k + j) p p.dir)
+pub port_class_by : (s : Scene) (k : ℕ) (ps : List Port) (d : Numbered) → In d (classes_driven s.class k ps) → (j : ℕ) × (p : Port) × (j < length ps) × (get_or ps j p ≡ p) × In d (class_of_port s.class (k + j) p p.dir)
 port_class_by s k [] d i = elim i [ ]
 port_class_by s k (q ∷ ps) d i = elim (In-split d (class_of_port s.class k q q.dir) (classes_driven s.class (k + 1) ps) i) [
   | inl a ↦ let z : k ≡ k + 0 = omega arith in (0, q, omega arith, refl, subst (λ n. In d (class_of_port s.class n q q.dir)) z a)
@@ -338,8 +338,8 @@ block_count_in : (s : Scene) (t : Contents) (w : Valuation) (k : Instance) (m : 
 block_count_in s t w k m (gate e) is d = refl
 block_count_in s t w k m (flip_flop a b) is d = refl
 block_count_in s t w k m (other o) is d =
-    let fits = subst (Rattle.cell_model.specs.Usable.FitsPins m.seat.cell) is m.seat.formed.function in
-    let n = Rattle.net_machine.proofs.Bodies.machine_bits m.seat.cell o fits.1 in
+    let fits = subst (FitsPins m.seat.cell) is m.seat.formed.function in
+    let n = machine_bits m.seat.cell o fits.1 in
     let l = length-drop (length (inputs o)) (w.inner k.name) in
     let e = d.0.each in
     omega (arith, n, l, e)
@@ -379,7 +379,7 @@ module _ (s : Scene) (t : Contents) (i : List Bool) (w : Valuation) (h : NetSett
       let f = front_count in
       let z : s.n.count + j ≡ length w.classes + j = omega (arith, c) in
       bit_left (w.classes ++ port_bits s w) (flat_map (block s t w) s.n.instances) (s.n.count + j) (omega (arith, l, f))
-      ∙ ap (bit (w.classes ++ port_bits s w)) z ∙ Rattle.net_machine.proofs.Places.bit_right w.classes (port_bits s w) j
+      ∙ ap (bit (w.classes ++ port_bits s w)) z ∙ bit_right w.classes (port_bits s w) j
       ∙ get_or-map (λ (p : Port). bit w.classes (s.class (port p.name))) s.n.ports j p false l ∙ ap (λ (x : Port). bit w.classes (s.class (port x.name))) e
 
   own_block : (k : Instance) (at : ℕ) → Place s (first s) s.n.instances k at → map (bit (bits_of_net s t w)) (rising at (width (body_in s k))) ≡ block s t w k
@@ -393,35 +393,33 @@ module _ (s : Scene) (t : Contents) (i : List Bool) (w : Valuation) (h : NetSett
       → IsLocal f (local s (bits_of_net s t w) k at) (w.inner k.name) × (map (bit (bits_of_net s t w)) (rising at (length (body_of m.seat.cell f).loads)) ≡ held_in f (t k.name))
   pieces_in k at m p (gate e) is = (tt, refl)
   pieces_in k at m p (flip_flop a b) is =
-      let body = body_seat s k m ∙ ap (body_of m.seat.cell) is in
-      (
+      let body = body_seat s k m ∙ ap (body_of m.seat.cell) is in (
         tt,
         ap (λ (x : Body). map (bit (bits_of_net s t w)) (rising at (width x))) (sym body) ∙ own_block k at p ∙ ap (λ (o : Option Cell). block_at_cell o (t k.name) (w.inner k.name)) m.seat.found
-        ∙ ap (λ (f : Function). block_in f (t k.name) (w.inner k.name)) is,
+            ∙ ap (λ (f : Function). block_in f (t k.name) (w.inner k.name)) is,
       )
   pieces_in k at m p (other o) is =
       let body = body_seat s k m ∙ ap (body_of m.seat.cell) is in
-      let fits = subst (Rattle.cell_model.specs.Usable.FitsPins m.seat.cell) is m.seat.formed.function in
+      let fits = subst (FitsPins m.seat.cell) is m.seat.formed.function in
       let d = subst (λ (f : Function). Drives (seen_net s) w t k.name m.seat.cell f) is (drives_at s t i w h k m) in
-      let q = settled_pieces o (Rattle.net_meaning.specs.Behaviour.pin_bits (seen_net s) w.classes k.name (inputs o)) (t k.name) (w.inner k.name) fits.1 d.0 in
+      let q = settled_pieces o (pin_bits (seen_net s) w.classes k.name (inputs o)) (t k.name) (w.inner k.name) fits.1 d.0 in
       let whole : map (bit (bits_of_net s t w)) (rising at (width (body_of m.seat.cell (other o)))) ≡ drop (length (inputs o)) (w.inner k.name) =
       ap (λ (x : Body). map (bit (bits_of_net s t w)) (rising at (width x))) (sym body) ∙ own_block k at p ∙ ap (λ (c : Option Cell). block_at_cell c (t k.name) (w.inner k.name)) m.seat.found
       ∙ ap (λ (f : Function). block_in f (t k.name) (w.inner k.name)) is in
-      let reads : map (bit (bits_of_net s t w)) (map (λ (pin : Name). s.class (pin_of k.name pin)) (body_in s k).reads) ≡ Rattle.net_meaning.specs.Behaviour.pin_bits (seen_net s) w.classes k.name (inputs o) =
-      reads_agree s k at (bits_of_net s t w) w m.seat.cell (stage s k at (bits_of_net s t w) w m agree) ∙ ap (λ (x : Body). Rattle.net_meaning.specs.Behaviour.pin_bits (seen_net s) w.classes k.name x.reads) body in
+      let reads : map (bit (bits_of_net s t w)) (map (λ (pin : Name). s.class (pin_of k.name pin)) (body_in s k).reads) ≡ pin_bits (seen_net s) w.classes k.name (inputs o) =
+      reads_agree s k at (bits_of_net s t w) w m.seat.cell (stage s k at (bits_of_net s t w) w m agree) ∙ ap (λ (x : Body). pin_bits (seen_net s) w.classes k.name x.reads) body in
       let here_is : local s (bits_of_net s t w) k at ≡ w.inner k.name =
       local_pieces s (bits_of_net s t w) k at ∙ ap (λ (xs : List Bool). xs ++ map (bit (bits_of_net s t w)) (rising at (width (body_in s k)))) reads
-      ∙ ap (λ (x : Body). Rattle.net_meaning.specs.Behaviour.pin_bits (seen_net s) w.classes k.name (inputs o) ++ map (bit (bits_of_net s t w)) (rising at (width x))) body
-      ∙ ap (λ (xs : List Bool). Rattle.net_meaning.specs.Behaviour.pin_bits (seen_net s) w.classes k.name (inputs o) ++ xs) whole ∙ sym q.1 in
-      let n : length (body_of m.seat.cell (other o)).loads ≡ length o.registers = length-map o.registers (λ (r : Rattle.machine_meaning.specs.Machine.Register). record { next = r.next; enable = r.enable }) in
-      let held_len : length (t k.name) ≡ length o.registers = ap length (sym d.0.registers) ∙ length-map (Rattle.machine_meaning.specs.Machine.register_names o) (value_at o.vars (w.inner k.name)) ∙ length-map o.registers (λ (r : Rattle.machine_meaning.specs.Machine.Register). r.name) in
+      ∙ ap (λ (x : Body). pin_bits (seen_net s) w.classes k.name (inputs o) ++ map (bit (bits_of_net s t w)) (rising at (width x))) body
+      ∙ ap (λ (xs : List Bool). pin_bits (seen_net s) w.classes k.name (inputs o) ++ xs) whole ∙ sym q.1 in
+      let n : length (body_of m.seat.cell (other o)).loads ≡ length o.registers = length-map o.registers (λ (r : Register). record { next = r.next; enable = r.enable }) in
+      let held_len : length (t k.name) ≡ length o.registers = ap length (sym d.0.registers) ∙ length-map (register_names o) (value_at o.vars (w.inner k.name)) ∙ length-map o.registers (λ (r : Register). r.name) in
       let lr = length (body_of m.seat.cell (other o)).loads in
       let lq = length (body_of m.seat.cell (other o)).inner in
       let cut : map (bit (bits_of_net s t w)) (rising at lr) ≡ take (length o.registers) (map (bit (bits_of_net s t w)) (rising at (lr + lq))) =
-      sym (ap (λ (xs : List ℕ). take (length o.registers) (map (bit (bits_of_net s t w)) xs)) (Rattle.net_machine.proofs.Settling.rising_split at lr lq)
+      sym (ap (λ (xs : List ℕ). take (length o.registers) (map (bit (bits_of_net s t w)) xs)) (rising_split at lr lq)
       ∙ ap (take (length o.registers)) (map-append (bit (bits_of_net s t w)) (rising at lr) (rising (at + lr) lq))
-      ∙ take_front (map (bit (bits_of_net s t w)) (rising at lr)) (map (bit (bits_of_net s t w)) (rising (at + lr) lq)) (length o.registers) (sym n ∙ sym (length-map (rising at lr) (bit (bits_of_net s t w)) ∙ rising_count at lr))) in
-      (
+      ∙ take_front (map (bit (bits_of_net s t w)) (rising at lr)) (map (bit (bits_of_net s t w)) (rising (at + lr) lq)) (length o.registers) (sym n ∙ sym (length-map (rising at lr) (bit (bits_of_net s t w)) ∙ rising_count at lr))) in (
         sym here_is,
         cut ∙ ap (take (length o.registers)) whole ∙ q.2 ∙ sym (held_itself o (t k.name) held_len),
       )
@@ -438,7 +436,7 @@ module _ (s : Scene) (t : Contents) (i : List Bool) (w : Valuation) (h : NetSett
   class_bit p j = sym (agree (s.class (port p.name)) (port_low s p j))
 
   listed_at : (j : ℕ) (p : Port) → j < length s.n.ports → get_or s.n.ports j p ≡ p → In p s.n.ports
-  listed_at j p l e = subst (λ (x : Port). In x s.n.ports) e (Rattle.vlsi_model.proofs.Sorting.In-at s.n.ports j p l)
+  listed_at j p l e = subst (λ (x : Port). In x s.n.ports) e (In-at s.n.ports j p l)
 
   -- a port that is no signal has its fixed bit
   fixed_at : (p : Port) → In p s.n.ports → is_signal s.clock p ≡ false → bit w.classes (s.class (port p.name)) ≡ fixed_bit p
@@ -446,7 +444,7 @@ module _ (s : Scene) (t : Contents) (i : List Bool) (w : Valuation) (h : NetSett
     clock_bit : (o : Option Name) → s.clock ≡ o → is_clock o p.name ≡ true → bit w.classes (s.class (port p.name)) ≡ false
     clock_bit None e f = absurd cc
     clock_bit (Some name) e f =
-        let same = Rattle.machine_core.proofs.Names.same_name-true name p.name f in
+        let same = same_name-true name p.name f in
         ap (λ (n : Name). bit w.classes (s.class (port n))) (sym same) ∙ h.still name e
 
     no_vdd : (b : Bool) → bytes_eq p.name.text (codes "vdd") ≡ b → is_supply p.name.text ≡ false → b ≡ false
@@ -460,8 +458,8 @@ module _ (s : Scene) (t : Contents) (i : List Bool) (w : Valuation) (h : NetSett
 
     by : (b : Bool) → is_supply p.name.text ≡ b → bit w.classes (s.class (port p.name)) ≡ fixed_bit p
     by true e =
-        let bare = (s.ground.condition.supplies p (Rattle.net_machine.proofs.Drivers.In_there s.n.ports p j) e).0 in
-        elim (Rattle.net_machine.proofs.Fitting.supply_name p.name bare e) [
+        let bare = (s.ground.condition.supplies p (In_there s.n.ports p j) e).0 in
+        elim (supply_name p.name bare e) [
           | inl v ↦ ap (λ (n : Name). bit w.classes (s.class (port n))) v ∙ h.high (subst (λ (n : Name). In n (map (λ (q : Port). q.name) s.n.ports)) v (In-map (λ (q : Port). q.name) p s.n.ports j)) ∙ sym (fixed_vdd p v)
           | inr v ↦ ap (λ (n : Name). bit w.classes (s.class (port n))) v ∙ h.low (subst (λ (n : Name). In n (map (λ (q : Port). q.name) s.n.ports)) v (In-map (λ (q : Port). q.name) p s.n.ports j)) ∙ sym (fixed_vss p v)
         ]
@@ -473,8 +471,8 @@ module _ (s : Scene) (t : Contents) (i : List Bool) (w : Valuation) (h : NetSett
     | inr b ↦ elim (In-split d (classes_driven s.class s.n.count s.n.ports) (all_driven s (first s) s.n.instances) b) [
       | inl c ↦ let r = port_class_by s s.n.count s.n.ports d c in class r.0 r.1 r.2 r.3 r.1.dir r.4
       | inr c ↦
-        let r = driven_by s (first s) s.n.instances d c in
-        driven_if s r.i r.at (bits_of_net s t w) (fine_over s.n s.l s.table s.ground r.i (placed_in s (first s) s.n.instances r.i r.at r.place)) (holds_at r.i r.at r.place) d r.among
+          let r = driven_by s (first s) s.n.instances d c in
+          driven_if s r.i r.at (bits_of_net s t w) (fine_over s.n s.l s.table s.ground r.i (placed_in s (first s) s.n.instances r.i r.at r.place)) (holds_at r.i r.at r.place) d r.among
     ]
   ] where
     one : (x : Numbered) → Driven (bits_of_net s t w) x → In d (x ∷ []) → Driven (bits_of_net s t w) d
@@ -509,15 +507,15 @@ zero_in : (c : Cell) (f : Function) → held_in f (zeros f) ≡ replicate (lengt
 zero_in c (gate e) = refl
 zero_in c (flip_flop d k) = refl
 zero_in c (other m) =
-    held_itself m (replicate (length m.registers) false) (Rattle.std.proofs.lemmas.List.length-replicate (length m.registers) false)
-    ∙ ap (λ n. replicate n false) (sym (length-map m.registers (λ (r : Rattle.machine_meaning.specs.Machine.Register). record { next = r.next; enable = r.enable })))
+    held_itself m (replicate (length m.registers) false) (length-replicate (length m.registers) false)
+    ∙ ap (λ n. replicate n false) (sym (length-map m.registers (λ (r : Register). record { next = r.next; enable = r.enable })))
 zero_in c opaque = refl
 
 replicate_append : (m n : ℕ) → replicate m false ++ replicate n false ≡ replicate (m + n) false
 replicate_append zero n = let e : n ≡ 0 + n = omega arith in ap (λ k. replicate k false) e
 replicate_append (suc m) n = let e : suc (m + n) ≡ suc m + n = omega arith in ap (λ (xs : List Bool). false ∷ xs) (replicate_append m n) ∙ ap (λ k. replicate k false) e
 
-stored_from_count : (table : List ℕ) (k : ℕ) (ls : List Load) → length (Rattle.net_machine.specs.Bits.stored_from table k ls) ≡ length ls
+stored_from_count : (table : List ℕ) (k : ℕ) (ls : List Load) → length (stored_from table k ls) ≡ length ls
 stored_from_count table k [] = refl
 stored_from_count table k (l ∷ ls) = let r = stored_from_count table (k + 1) ls in omega (arith, r)
 
@@ -552,7 +550,7 @@ starts_fit : (s : Scene) → FitsContents (seen_net s) s.l (no_contents (seen_ne
 starts_fit s one c o j e is =
     let r = seen_cell s one c j e in
     let f : r.1.seat.cell.function ≡ other o = ap (λ (x : Cell). x.function) r.3 ∙ is in
-    ap (λ (x : Layout). length (no_contents (seen_net s) s.l x.name)) (sym r.2) ∙ ap length (zeros_at s r.0 r.1 ∙ ap zeros f) ∙ Rattle.std.proofs.lemmas.List.length-replicate (length o.registers) false
+    ap (λ (x : Layout). length (no_contents (seen_net s) s.l x.name)) (sym r.2) ∙ ap length (zeros_at s r.0 r.1 ∙ ap zeros f) ∙ length-replicate (length o.registers) false
 
 next_fits : (s : Scene) (w : Valuation) → FitsContents (seen_net s) s.l (net_next (seen_net s) s.l w)
 next_fits s w one c o j e is =
@@ -561,7 +559,7 @@ next_fits s w one c o j e is =
     ap (λ (x : Layout). length (net_next (seen_net s) s.l w x.name)) (sym r.2)
     ∙ ap (λ (x : Option Cell). length (next_held (seen_net s) w r.0.name x)) (cell_found s r.0 r.1)
     ∙ ap (λ (x : Function). length (loaded (seen_net s) w r.0.name x)) f
-    ∙ length-map o.registers (λ (q : Rattle.machine_meaning.specs.Machine.Register). cond (val q.enable (w.inner r.0.name)) (val q.next (w.inner r.0.name)) (value_at o.vars (w.inner r.0.name) q.name))
+    ∙ length-map o.registers (λ (q : Register). cond (val q.enable (w.inner r.0.name)) (val q.next (w.inner r.0.name)) (value_at o.vars (w.inner r.0.name) q.name))
 
 -- ---- in step
 
@@ -569,7 +567,7 @@ value_absent : (names : List Name) (x : List Bool) (n : Name) → (In n names �
 value_absent [] x n h = refl
 value_absent (m ∷ names) [] n h = refl
 value_absent (m ∷ names) (b ∷ x) n h =
-    ap (λ t. cond t b (value_at names x n)) (Rattle.machine_core.proofs.Names.same_name-false m n (λ e. h (subst (λ (z : Name). In n (z ∷ names)) (sym e) here))) ∙ value_absent names x n (λ i. h (there i))
+    ap (λ t. cond t b (value_at names x n)) (same_name-false m n (λ e. h (subst (λ (z : Name). In n (z ∷ names)) (sym e) here))) ∙ value_absent names x n (λ i. h (there i))
 
 show_alike : (s : Scene) (text : List ℕ) (m : Machine) (w : Valuation) (x : List Bool) → IsMachineOfBits text (signal_ports s.n.ports) s.clock (system s) m → AgreeBelow s.n.count w.classes (bits_shown (system s) m x)
     → PortsHold s (bits_shown (system s) m x) → ((name : Name) → s.clock ≡ Some name → bit w.classes (s.class (port name)) ≡ false) → ShowAlike (seen_net s) m w x
@@ -584,7 +582,7 @@ show_alike s text m w x is agree ports still name j =
       clocked : (p : Port) (o : Option Name) → s.clock ≡ o → is_clock o p.name ≡ true → bit w.classes (s.class (port p.name)) ≡ value_at m.vars x p.name
       clocked p None e t = absurd cc
       clocked p (Some c) e t =
-          let same = Rattle.machine_core.proofs.Names.same_name-true c p.name t in
+          let same = same_name-true c p.name t in
           ap (λ (n : Name). bit w.classes (s.class (port n))) (sym same) ∙ still c e
           ∙ sym (value_absent m.vars x c ((is.checked.clock c (is.clock_is ∙ e)).apart)) ∙ ap (value_at m.vars x) same
 
@@ -599,7 +597,7 @@ show_alike s text m w x is agree ports still name j =
           ∙ shown_at (system s).names m.vars x (s.n.count + q.0) (let l = q.1 in omega (arith, l, n)) ∙ ap (value_at m.vars x) named
 
 machine_inputs_are : (s : Scene) (text : List ℕ) (m : Machine) → IsMachineOfBits text (signal_ports s.n.ports) s.clock (system s) m → inputs m ≡ net_inputs s.n s.clock
-machine_inputs_are s text m is = ap (λ (c : Option Name). inputs_of c m.ports) is.clock_is ∙ ap (inputs_of s.clock) is.ports
+machine_inputs_are s text m is = ap (λ (c : Option Name). inputs_of c m.ports) is.clock_is ∙ ap (inputs_of s.clock) is.ports_are
 
 as_machine : (s : Scene) (text : List ℕ) (m : Machine) → IsMachineOfBits text (signal_ports s.n.ports) s.clock (system s) m → (t : Contents) (i : List Bool) (w : Valuation)
     → NetSettles (seen_net s) s.l (net_inputs s.n s.clock) s.clock t i w → NetSettles (seen_net s) s.l (inputs m) m.clock t i w
@@ -629,8 +627,7 @@ keeps_step s text m is = record {
   back t i x fit h =
       let y = bits_shown (system s) m x in
       let settles = is.forth (held_all s s.n.instances t) i x h in
-      let n = net_settles s t i y fit settles in
-      (
+      let n = net_settles s t i y fit settles in (
         net_of_bits s y,
         record {
           net = as_machine s text m is t i (net_of_bits s y) n;
@@ -650,13 +647,12 @@ keeps_step s text m is = record {
       let b = is.back (held_all s s.n.instances t) i (bits_of_net s t w) settles in
       let e : bits_of_net s t w ≡ bits_shown (system s) m b.0 = sym b.2 in
       let shown_settles : BitsSettle (system s) (held_all s s.n.instances t) i (bits_shown (system s) m b.0) = subst (λ (y : List Bool). BitsSettle (system s) (held_all s s.n.instances t) i y) e settles in
-      let agree_shown : AgreeBelow s.n.count w.classes (bits_shown (system s) m b.0) = subst (λ (y : List Bool). AgreeBelow s.n.count w.classes y) e (agree s t i w h) in
-      (
+      let agree_shown : AgreeBelow s.n.count w.classes (bits_shown (system s) m b.0) = subst (λ (y : List Bool). AgreeBelow s.n.count w.classes y) e (agree s t i w h) in (
         b.0,
         record {
           net = g;
           machine = b.1;
-          classes = sym (ap (take s.n.count) b.2 ∙ ap (take s.n.count) (Rattle.std.proofs.Common.append_assoc w.classes (port_bits s w) (flat_map (block s t w) s.n.instances)) ∙ take_front w.classes (port_bits s w ++ flat_map (block s t w) s.n.instances) s.n.count (sym h.each));
+          classes = sym (ap (take s.n.count) b.2 ∙ ap (take s.n.count) (append_assoc w.classes (port_bits s w) (flat_map (block s t w) s.n.instances)) ∙ take_front w.classes (port_bits s w ++ flat_map (block s t w) s.n.instances) s.n.count (sym h.each));
           ports = show_alike s text m w b.0 is agree_shown (ports_hold s (bits_shown (system s) m b.0) shown_settles.driven) h.still;
           loads = is.loads (held_all s s.n.instances t) i b.0 b.1 ∙ ap (bits_next (system s)) b.2
               ∙ next_is s (bits_of_net s t w) w (agree s t i w h) settles.driven (λ k at m p. (pieces_in s t i w h k at m p m.seat.cell.function refl).0);

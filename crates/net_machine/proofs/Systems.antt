@@ -1,38 +1,19 @@
 -- The bits of a netlist: each has one role, and all have one.
-use Rattle.std.proofs.Common.{◌≡◌, ◌≢◌, ◌⊎◌, inl, inr, ℕ, zero, suc, ◌+◌, ◌<◌, ◌≤◌, Bool, true, false, cond, not, ◌&&◌, List, [], ◌∷◌, ◌++◌, map, length, get_or, Option, None, Some, refl, sym, ap, ◌∙◌, subst, arith, length-append}
-use Rattle.std.specs.Prelude.{slice_index}
-use Rattle.std.specs.List.{flat_map}
-use Rattle.std.proofs.lemmas.List.{length-map, map-append}
+use Rattle.std.proofs.Common.{◌≡◌, ◌⊎◌, inl, inr, ℕ, ◌+◌, ◌<◌, ◌≤◌, Bool, true, false, cond, ◌&&◌, List, [], ◌∷◌, ◌++◌, map, length, Option, refl, sym, ap, ◌∙◌, subst, arith}
+use Rattle.std.proofs.lemmas.List.{map-append}
 use Rattle.std.proofs.lemmas.Bool.{cases_lt}
 use Rattle.vlsi_base.specs.declared.name.Name.{Name}
 use Rattle.vlsi_base.specs.declared.name.Port.{Port}
 use Rattle.vlsi_base.specs.declared.name.Dir.{Dir}
 use Rattle.vlsi_base.specs.declared.name.Dir.TheVariants as dir
 use Rattle.vlsi_base.specs.declared.name.Terminal.{Terminal}
-use Rattle.vlsi_base.specs.Range.{rising}
 use Rattle.vlsi_base.specs.Member.{In, here, there, AllDifferent}
-use Rattle.bool_expr.specs.Expression.{Expression, constant, variable, variables, IsOver}
-use Rattle.bool_expr.specs.Renumbering.{renumbered}
 use Rattle.machine_meaning.specs.Machine.{is_input}
-use Rattle.machine_core.proofs.Values.{In-split, In-left, In-right, In-map}
-use Rattle.machine_core.proofs.Known.{IsOver-In}
-use Rattle.source_bits.specs.Driven.{Numbered, NumberedStorage}
-use Rattle.vlsi_model.proofs.Members.{In-cases, In-map_back, different_append, different_map}
-use Rattle.vlsi_model.proofs.Bits.{In-rising, rising-In, different_rising}
-use Rattle.vlsi_model.proofs.Sorting.{In-at, place_of_In}
-use Rattle.cell_model.specs.Library.{Library, cell_of}
-use Rattle.net_core.specs.declared.tally.Role.{Role}
-use Rattle.net_core.specs.Places.{Stands, IsThere, NoneTwice}
-use Rattle.net_core.specs.Netlist.{Instance, port, pin_of}
-use Rattle.bit_machine.proofs.Showing.{over_renumbered}
-use Rattle.bit_machine.specs.System.{System, stored_bits, driven_bits, held_bits, all_bits, IsSystem}
-use Rattle.net_machine.specs.Body.{Load, Shown, Body, body_at, width}
-use Rattle.net_machine.specs.Bits.{own_name, is_signal, port_names, port_inputs, own_of, port_driven, class_of_port, classes_driven, Placed, placed_from, widths, numbers, stored_from, inner_from, shown_from, body_stored, body_driven, placed_stored, placed_driven, first_base, placed, net_system}
-use Rattle.net_machine.specs.Gathered.{bits_count}
-use Rattle.net_machine.proofs.Drivers.{there_In, In_there, In-flat, In-flat_back, IsAt, a_port, a_pin, some_driver}
-use Rattle.net_machine.proofs.Bodies.{All_is, body_over}
-use Rattle.net_machine.proofs.Cells.{fine_over, sound_of}
-use Rattle.net_machine.proofs.Scenes.{Scene, has_class, class_low, once, at_port, input_driver, output_driver, Member, member, IsOutput, shown_output, shows_different, output_shown}
+use Rattle.machine_core.proofs.Values.{In-split, In-left, In-right}
+use Rattle.source_bits.specs.Driven.{Numbered}
+use Rattle.vlsi_model.proofs.Members.{In-cases}
+use Rattle.net_core.specs.Netlist.{port}
+use Rattle.net_machine.specs.Bits.{is_signal, port_inputs, own_of, port_driven, class_of_port, classes_driven}
 
 -- ---- numbers that rise
 
@@ -65,19 +46,19 @@ bits_of ds = map (λ (d : Numbered). d.bit) ds
 bits_append : (xs ys : List Numbered) → bits_of (xs ++ ys) ≡ bits_of xs ++ bits_of ys
 bits_append xs ys = map-append (λ (d : Numbered). d.bit) xs ys
 
-inputs_rise : (clock : Option Name) (k : ℕ) (ps : List Port) → Rises k (port_inputs clock k ps)
+pub inputs_rise : (clock : Option Name) (k : ℕ) (ps : List Port) → Rises k (port_inputs clock k ps)
 inputs_rise clock k [] = tt
 inputs_rise clock k (p ∷ ps) = by (is_input p.dir && is_signal clock p) (inputs_rise clock (k + 1) ps) where
   by : (b : Bool) → Rises (k + 1) (port_inputs clock (k + 1) ps) → Rises k (cond b (k ∷ port_inputs clock (k + 1) ps) (port_inputs clock (k + 1) ps))
   by true h = (omega arith, h)
   by false h = rises_weaker k (k + 1) (port_inputs clock (k + 1) ps) (omega arith) h
 
-inputs_high : (clock : Option Name) (k : ℕ) (ps : List Port) (x : ℕ) → In x (port_inputs clock k ps) → x < k + length ps
+pub inputs_high : (clock : Option Name) (k : ℕ) (ps : List Port) (x : ℕ) → In x (port_inputs clock k ps) → x < k + length ps
 inputs_high clock k [] x i = elim i [ ]
-inputs_high clock k (p ∷ ps) x i = by (is_input p.dir && is_signal clock p) i where
-  by : (b : Bool) → In x (cond b (k ∷ port_inputs clock (k + 1) ps) (port_inputs clock (k + 1) ps)) → x < k + length (p ∷ ps)
-  by true i = elim (In-cases x k (port_inputs clock (k + 1) ps) i) [ inl e ↦ omega (arith, e) | inr j ↦ let r = inputs_high clock (k + 1) ps x j in omega (arith, r) ]
-  by false i = let r = inputs_high clock (k + 1) ps x i in omega (arith, r)
+inputs_high clock k (p ∷ ps) x i = by (is_input p.dir && is_signal clock p) i (inputs_high clock (k + 1) ps x) where
+  by : (b : Bool) → In x (cond b (k ∷ port_inputs clock (k + 1) ps) (port_inputs clock (k + 1) ps)) → (In x (port_inputs clock (k + 1) ps) → x < k + 1 + length ps) → x < k + length (p ∷ ps)
+  by true i rest = elim (In-cases x k (port_inputs clock (k + 1) ps) i) [ inl e ↦ omega (arith, e) | inr j ↦ let r = rest j in omega (arith, r) ]
+  by false i rest = let r = rest i in omega (arith, r)
 
 -- a port has its own bit driven, or none
 own_cases : (class : Terminal → ℕ) (clock : Option Name) (k : ℕ) (p : Port) (d : Dir)
@@ -88,7 +69,7 @@ own_cases class clock k p dir.In = by (is_signal clock p) refl where
   by false e = inr (rw e refl, e)
 own_cases class clock k p dir.Out = inr (refl, refl)
 
-ports_rise : (class : Terminal → ℕ) (clock : Option Name) (k : ℕ) (ps : List Port) → Rises k (bits_of (port_driven class clock k ps))
+pub ports_rise : (class : Terminal → ℕ) (clock : Option Name) (k : ℕ) (ps : List Port) → Rises k (bits_of (port_driven class clock k ps))
 ports_rise class clock k [] = tt
 ports_rise class clock k (p ∷ ps) =
     subst (λ (xs : List ℕ). Rises k xs) (sym (bits_append (own_of class clock k p p.dir) (port_driven class clock (k + 1) ps)))
@@ -101,7 +82,7 @@ ports_rise class clock k (p ∷ ps) =
       by (inl e) h = subst (λ (xs : List ℕ). Rises k (xs ++ rest)) (sym e.0) (rises_weaker k (k + 1) rest (omega arith) h)
       by (inr e) h = subst (λ (xs : List ℕ). Rises k (xs ++ rest)) (sym e.0) (omega arith, h)
 
-ports_high : (class : Terminal → ℕ) (clock : Option Name) (k : ℕ) (ps : List Port) (x : ℕ) → In x (bits_of (port_driven class clock k ps)) → x < k + length ps
+pub ports_high : (class : Terminal → ℕ) (clock : Option Name) (k : ℕ) (ps : List Port) (x : ℕ) → In x (bits_of (port_driven class clock k ps)) → x < k + length ps
 ports_high class clock k [] x i = elim i [ ]
 ports_high class clock k (p ∷ ps) x i =
     elim (In-split x (bits_of (own_of class clock k p p.dir)) (bits_of (port_driven class clock (k + 1) ps)) (subst (λ (xs : List ℕ). In x xs) (bits_append (own_of class clock k p p.dir) (port_driven class clock (k + 1) ps)) i)) [
@@ -114,9 +95,9 @@ ports_high class clock k (p ∷ ps) x i =
       own (inr e) a = elim (In-cases x k [] (subst (λ (xs : List ℕ). In x xs) e.0 a)) [ inl same ↦ omega (arith, same) | inr j ↦ absurd (elim j [ ]) ]
 
 -- each port's bit is an input or driven, and not both
-port_parts : (class : Terminal → ℕ) (clock : Option Name) (k : ℕ) (ps : List Port) (x : ℕ) → k ≤ x → x < k + length ps → In x (port_inputs clock k ps) ⊎ In x (bits_of (port_driven class clock k ps))
+pub port_parts : (class : Terminal → ℕ) (clock : Option Name) (k : ℕ) (ps : List Port) (x : ℕ) → k ≤ x → x < k + length ps → In x (port_inputs clock k ps) ⊎ In x (bits_of (port_driven class clock k ps))
 port_parts class clock k [] x l h = absurd (omega (arith, l, h))
-port_parts class clock k (p ∷ ps) x l h = by (cases_lt k x) (own_cases class clock k p p.dir) where
+port_parts class clock k (p ∷ ps) x l h = by (cases_lt k x) (own_cases class clock k p p.dir) (port_parts class clock (k + 1) ps x) where
   joined : bits_of (port_driven class clock k (p ∷ ps)) ≡ bits_of (own_of class clock k p p.dir) ++ bits_of (port_driven class clock (k + 1) ps)
   joined = bits_append (own_of class clock k p p.dir) (port_driven class clock (k + 1) ps)
 
@@ -128,21 +109,22 @@ port_parts class clock k (p ∷ ps) x l h = by (cases_lt k x) (own_cases class c
 
   by : (k < x) ⊎ (x ≤ k)
       → ((bits_of (own_of class clock k p p.dir) ≡ []) × ((is_input p.dir && is_signal clock p) ≡ true)) ⊎ ((bits_of (own_of class clock k p p.dir) ≡ k ∷ []) × ((is_input p.dir && is_signal clock p) ≡ false))
+      → (k + 1 ≤ x → x < k + 1 + length ps → In x (port_inputs clock (k + 1) ps) ⊎ In x (bits_of (port_driven class clock (k + 1) ps)))
       → In x (port_inputs clock k (p ∷ ps)) ⊎ In x (bits_of (port_driven class clock k (p ∷ ps)))
-  by (inl m) c = elim (port_parts class clock (k + 1) ps x (omega (arith, m)) (omega (arith, h))) [
+  by (inl m) c rest = elim (rest (omega (arith, m)) (omega (arith, h))) [
     | inl i ↦ inl (later_input i)
     | inr i ↦ inr (subst (λ (xs : List ℕ). In x xs) (sym joined) (In-right x (bits_of (own_of class clock k p p.dir)) (bits_of (port_driven class clock (k + 1) ps)) i))
   ]
-  by (inr m) (inl e) =
+  by (inr m) (inl e) rest =
       let same : k ≡ x = omega (arith, l, m) in
       inl (subst (λ (b : Bool). In x (cond b (k ∷ port_inputs clock (k + 1) ps) (port_inputs clock (k + 1) ps))) (sym e.1) (subst (λ z. In z (k ∷ port_inputs clock (k + 1) ps)) same here))
-  by (inr m) (inr e) =
+  by (inr m) (inr e) rest =
       let same : k ≡ x = omega (arith, l, m) in
       inr (subst (λ (xs : List ℕ). In x xs) (sym joined) (In-left x (bits_of (own_of class clock k p p.dir)) (bits_of (port_driven class clock (k + 1) ps)) (subst (λ (xs : List ℕ). In x xs) (sym e.0) (subst (λ z. In z (k ∷ [])) same here))))
 
-port_apart : (class : Terminal → ℕ) (clock : Option Name) (k : ℕ) (ps : List Port) (x : ℕ) → In x (port_inputs clock k ps) → In x (bits_of (port_driven class clock k ps)) → ⊥
+pub port_apart : (class : Terminal → ℕ) (clock : Option Name) (k : ℕ) (ps : List Port) (x : ℕ) → In x (port_inputs clock k ps) → In x (bits_of (port_driven class clock k ps)) → ⊥
 port_apart class clock k [] x a b = elim a [ ]
-port_apart class clock k (p ∷ ps) x a b = by (own_cases class clock k p p.dir) a (In-split x (bits_of (own_of class clock k p p.dir)) (bits_of (port_driven class clock (k + 1) ps)) (subst (λ (xs : List ℕ). In x xs) (bits_append (own_of class clock k p p.dir) (port_driven class clock (k + 1) ps)) b)) where
+port_apart class clock k (p ∷ ps) x a b = by (own_cases class clock k p p.dir) a (In-split x (bits_of (own_of class clock k p p.dir)) (bits_of (port_driven class clock (k + 1) ps)) (subst (λ (xs : List ℕ). In x xs) (bits_append (own_of class clock k p p.dir) (port_driven class clock (k + 1) ps)) b)) (port_apart class clock (k + 1) ps x) where
   inputs : List ℕ
   inputs = port_inputs clock (k + 1) ps
 
@@ -153,16 +135,17 @@ port_apart class clock k (p ∷ ps) x a b = by (own_cases class clock k p p.dir)
   high_input i = let r = rises_low (k + 1) inputs (inputs_rise clock (k + 1) ps) k i in omega (arith, r)
 
   by : ((bits_of (own_of class clock k p p.dir) ≡ []) × ((is_input p.dir && is_signal clock p) ≡ true)) ⊎ ((bits_of (own_of class clock k p p.dir) ≡ k ∷ []) × ((is_input p.dir && is_signal clock p) ≡ false))
-      → In x (port_inputs clock k (p ∷ ps)) → In x (bits_of (own_of class clock k p p.dir)) ⊎ In x (bits_of (port_driven class clock (k + 1) ps)) → ⊥
-  by (inl e) i (inl j) = elim (subst (λ (xs : List ℕ). In x xs) e.0 j) [ ]
-  by (inl e) i (inr j) = elim (In-cases x k inputs (subst (λ (b : Bool). In x (cond b (k ∷ inputs) inputs)) e.1 i)) [
+      → In x (port_inputs clock k (p ∷ ps)) → In x (bits_of (own_of class clock k p p.dir)) ⊎ In x (bits_of (port_driven class clock (k + 1) ps))
+      → (In x (port_inputs clock (k + 1) ps) → In x (bits_of (port_driven class clock (k + 1) ps)) → ⊥) → ⊥
+  by (inl e) i (inl j) rest = elim (subst (λ (xs : List ℕ). In x xs) e.0 j) [ ]
+  by (inl e) i (inr j) rest = elim (In-cases x k inputs (subst (λ (b : Bool). In x (cond b (k ∷ inputs) inputs)) e.1 i)) [
     | inl same ↦ high_driven (subst (λ z. In z (bits_of (port_driven class clock (k + 1) ps))) (sym same) j)
-    | inr i' ↦ port_apart class clock (k + 1) ps x i' j
+    | inr i' ↦ rest i' j
   ]
-  by (inr e) i (inl j) =
+  by (inr e) i (inl j) rest =
       let i' : In x inputs = subst (λ (b : Bool). In x (cond b (k ∷ inputs) inputs)) e.1 i in
       elim (In-cases x k [] (subst (λ (xs : List ℕ). In x xs) e.0 j)) [ inl same ↦ high_input (subst (λ z. In z inputs) (sym same) i') | inr g ↦ elim g [ ] ]
-  by (inr e) i (inr j) = port_apart class clock (k + 1) ps x (subst (λ (b : Bool). In x (cond b (k ∷ inputs) inputs)) e.1 i) j
+  by (inr e) i (inr j) rest = rest (subst (λ (b : Bool). In x (cond b (k ∷ inputs) inputs)) e.1 i) j
 
 -- ---- the classes of input ports
 
@@ -201,7 +184,7 @@ in_class class k (q ∷ ps) p i d =
       by (inr j) rest = In-right (class (port p.name)) (bits_of (class_of_port class k q q.dir)) (bits_of (classes_driven class (k + 1) ps)) (rest j)
 in_class class k [] p i d = elim i [ ]
 
-classes_different : (class : Terminal → ℕ) (k : ℕ) (ps : List Port) → AllDifferent ps → ((p q : Port) → In p ps → In q ps → p.dir ≡ dir.In → q.dir ≡ dir.In → class (port p.name) ≡ class (port q.name) → p ≡ q)
+pub classes_different : (class : Terminal → ℕ) (k : ℕ) (ps : List Port) → AllDifferent ps → ((p q : Port) → In p ps → In q ps → p.dir ≡ dir.In → q.dir ≡ dir.In → class (port p.name) ≡ class (port q.name) → p ≡ q)
     → AllDifferent (bits_of (classes_driven class k ps))
 classes_different class k [] d tells = tt
 classes_different class k (p ∷ ps) d tells =

@@ -1,7 +1,6 @@
 -- The bits of a netlist are a system.
-use Rattle.std.proofs.Common.{◌≡◌, ◌≢◌, ◌⊎◌, inl, inr, ℕ, zero, suc, ◌+◌, ◌<◌, ◌≤◌, Bool, true, false, cond, List, [], ◌∷◌, ◌++◌, map, length, get_or, Option, None, Some, refl, sym, ap, ◌∙◌, subst, arith, length-append}
+use Rattle.std.proofs.Common.{◌≡◌, ◌⊎◌, inl, inr, ℕ, zero, suc, ◌+◌, ◌<◌, ◌≤◌, Bool, true, false, cond, List, [], ◌∷◌, ◌++◌, map, length, get_or, Option, None, Some, refl, sym, ap, ◌∙◌, subst, arith, length-append}
 use Rattle.std.specs.Prelude.{slice_index}
-use Rattle.std.specs.List.{All, flat_map}
 use Rattle.std.proofs.lemmas.List.{length-map, map-append}
 use Rattle.std.proofs.lemmas.Bool.{cases_lt}
 use Rattle.vlsi_base.specs.declared.name.Name.{Name}
@@ -12,33 +11,30 @@ use Rattle.vlsi_base.specs.declared.name.Terminal.{Terminal}
 use Rattle.vlsi_base.specs.Range.{rising}
 use Rattle.vlsi_base.specs.Names.{comes_before}
 use Rattle.vlsi_base.specs.Member.{In, here, there, AllDifferent}
-use Rattle.bool_expr.specs.Expression.{Expression, constant, variable, variables, IsOver}
+use Rattle.bool_expr.specs.Expression.{Expression, constant, variable, IsOver}
 use Rattle.bool_expr.specs.Renumbering.{renumbered}
 use Rattle.machine_core.proofs.Values.{In-split, In-left, In-right, In-map}
 use Rattle.machine_core.proofs.Known.{IsOver-In}
 use Rattle.source_bits.specs.Driven.{Numbered, NumberedStorage}
 use Rattle.vlsi_model.proofs.Members.{In-cases, In-map_back, different_append, different_map}
-use Rattle.vlsi_model.proofs.Bits.{In-rising, rising-In, different_rising}
-use Rattle.vlsi_model.proofs.Sorting.{In-at, place_of_In, different_from_pairs}
-use Rattle.cell_model.specs.Library.{cell_of}
+use Rattle.vlsi_model.proofs.Bits.{In-rising, different_rising}
+use Rattle.vlsi_model.proofs.Sorting.{In-at, different_from_pairs}
 use Rattle.net_core.specs.declared.tally.Role.{Role}
-use Rattle.net_core.specs.declared.tally.Role.TheVariants as role
-use Rattle.net_core.specs.declared.pins.ModelPin.{ModelPin}
-use Rattle.net_core.specs.Places.{Stands, IsThere, NoneTwice}
-use Rattle.net_core.specs.Netlist.{Instance, port, pin_of, HasClass}
+use Rattle.net_core.specs.Places.{IsThere, NoneTwice}
+use Rattle.net_core.specs.Netlist.{Instance, port, pin_of, HasClass, terminals}
 use Rattle.net_core.specs.Checks.{port_role, pin_role}
 use Rattle.bit_machine.proofs.Showing.{over_renumbered}
-use Rattle.bit_machine.proofs.Laying.{apart_of}
-use Rattle.bit_machine.specs.System.{System, stored_bits, driven_bits, held_bits, all_bits, IsSystem}
-use Rattle.net_machine.specs.Body.{Load, Shown, Body, body_at, width}
-use Rattle.net_machine.specs.Bits.{own_name, is_signal, port_names, port_inputs, own_of, port_driven, class_of_port, classes_driven, Placed, placed_from, widths, numbers, stored_from, inner_from, shown_from, body_stored, body_driven, placed_stored, placed_driven, first_base, placed, net_system}
+use Rattle.bit_machine.specs.System.{System, driven_bits, held_bits, all_bits, IsSystem}
+use Rattle.net_machine.specs.Body.{Load, Shown, Body, width}
+use Rattle.net_machine.specs.Bits.{own_name, is_signal, port_names, port_inputs, own_of, port_driven, class_of_port, classes_driven, widths, numbers, stored_from, inner_from, shown_from, body_stored, body_driven, first_base, net_system, fixed_bit}
 use Rattle.net_machine.specs.Gathered.{bits_count, IsBodyOver}
-use Rattle.net_machine.proofs.Drivers.{there_In, In_there, In-flat, In-flat_back, IsAt, a_port, a_pin, is_driver, some_driver}
+use Rattle.net_machine.proofs.Drivers.{In_there, IsAt, a_port, a_pin, is_driver, some_driver}
 use Rattle.net_machine.proofs.Bodies.{All_is}
-use Rattle.net_machine.proofs.Cells.{fine_over, sound_of}
-use Rattle.net_machine.proofs.Scenes.{Scene, has_class, class_low, once, input_driver, output_driver, Member, member, IsOutput, shown_output, output_shown, itself_not_before}
-use Rattle.net_machine.proofs.Systems.{Rises, rises_low, rises_different, inputs_rise, inputs_high, ports_rise, ports_high, port_parts, port_apart, IsInputClass, class_in, in_class, classes_different}
+use Rattle.net_machine.proofs.Cells.{fine_over, sound_of, fine_pins, class_there}
+use Rattle.net_machine.proofs.Scenes.{Scene, has_class, class_low, once, input_driver, output_driver, member, shown_output, output_shown, itself_not_before}
+use Rattle.net_machine.proofs.Systems.{rises_low, rises_different, inputs_rise, inputs_high, ports_rise, ports_high, port_parts, port_apart, IsInputClass, class_in, in_class, classes_different}
 use Rattle.net_machine.proofs.Blocks.{bits_of, held_of, all_stored, all_driven, body_in, stored_rise, stored_high, IsShownClass, IsInnerBit, driven_cases, own_parts, shown_driven, shown_low, driven_different}
+use Rattle.net_core.proofs.Rings.{class_below}
 
 abbrev pub system : Scene → System
 system s = net_system s.text s.class s.n s.l s.clock
@@ -61,7 +57,7 @@ driven_part s = bits_of (all_driven s (first s) s.n.instances)
 abbrev pub held_part : Scene → List ℕ
 held_part s = held_of (all_stored s (first s) s.n.instances)
 
-driven_are : (s : Scene) → driven_bits (system s) ≡ ports_part s ++ (classes_part s ++ driven_part s)
+pub driven_are : (s : Scene) → driven_bits (system s) ≡ ports_part s ++ (classes_part s ++ driven_part s)
 driven_are s =
     map-append (λ (d : Numbered). d.bit) (port_driven s.class s.clock s.n.count s.n.ports) (classes_driven s.class s.n.count s.n.ports ++ all_driven s (first s) s.n.instances)
     ∙ ap (λ (xs : List ℕ). ports_part s ++ xs) (map-append (λ (d : Numbered). d.bit) (classes_driven s.class s.n.count s.n.ports) (all_driven s (first s) s.n.instances))
@@ -81,7 +77,9 @@ instances_apart s = stands_all (map (λ (i : Instance). i.name) s.n.instances) s
 pub ports_apart : (s : Scene) → AllDifferent (map (λ (p : Port). p.name) s.n.ports)
 ports_apart s =
     different_from_pairs (map (λ (p : Port). p.name) s.n.ports)
-    (λ i j d low high e. itself_not_before _ (subst (λ (x : Name). comes_before _ x ≡ true) (sym e) (s.ground.netlist.ports i j d low high)))
+    (λ i j d low high e.
+    let names = map (λ (p : Port). p.name) s.n.ports in
+    itself_not_before (get_or names i d) (subst (λ (x : Name). comes_before (get_or names i d) x ≡ true) (sym e) (s.ground.netlist.ports i j d low high)))
 
 unmap_different : {A B : Type 0} (f : A → B) (xs : List A) → AllDifferent (map f xs) → AllDifferent xs
 unmap_different f [] d = tt
@@ -154,7 +152,7 @@ all_once s =
         rest c low where_is = elim (In-split x (classes_part s) (driven_part s) c) [
           | inl d ↦ let r = input_class_low s x (class_in s.class s.n.count s.n.ports x d) in omega (arith, low, r)
           | inr d ↦ elim (driven_cases s (first s) s.n.instances x d) [
-            | inl i ↦ elim where_is [ | inl h ↦ i.apart h | inr l ↦ let q = i.low in omega (arith, q, l) ]
+            | inl i ↦ elim where_is [ inl h ↦ i.apart h | inr l ↦ let q = i.low in omega (arith, q, l) ]
             | inr o ↦ let q = shown_low s o.i o.listed o.shown o.among in let e = o.at in omega (arith, low, q, e)
           ]
         ]
@@ -311,10 +309,10 @@ names_different s =
     elim (In-split x ports inner b) [
       | inl c ↦ by x r.0 r.2 (port_name_is s s.n.count s.n.ports x c) (inl l.1)
       | inr c ↦
-        let q = In-map_back (own_name s.text) x (rising (first s) (widths s.l s.n.instances)) c in
-        let m = In-rising (first s) (widths s.l s.n.instances) q.0 q.1 in
-        let same = own_tell s r.0 q.0 (r.2 ∙ sym q.2) in
-        let lo = l.1 in let hi = m.0 in omega (arith, lo, hi, same)
+          let q = In-map_back (own_name s.text) x (rising (first s) (widths s.l s.n.instances)) c in
+          let m = In-rising (first s) (widths s.l s.n.instances) q.0 q.1 in
+          let same = own_tell s r.0 q.0 (r.2 ∙ sym q.2) in
+          let lo = l.1 in let hi = m.0 in omega (arith, lo, hi, same)
     ]) where
       own : List Name
       own = map (own_name s.text) (rising 0 s.n.count)
@@ -347,9 +345,9 @@ port_over s total k (p ∷ ps) inside l d i = elim (In-split d (own_of s.class s
   by : (e : Dir) → In d (own_of s.class s.clock k p e) → IsOver d.expr total
   by dir.Out a = one (record { bit = k; expr = variable (s.class (port p.name)) }) low a
   by dir.In a = fixed (is_signal s.clock p) a where
-    fixed : (b : Bool) → In d (cond b [] (record { bit = k; expr = constant (Rattle.net_machine.specs.Bits.fixed_bit p) } ∷ [])) → IsOver d.expr total
+    fixed : (b : Bool) → In d (cond b [] (record { bit = k; expr = constant (fixed_bit p) } ∷ [])) → IsOver d.expr total
     fixed true a = absurd (elim a [ ])
-    fixed false a = one (record { bit = k; expr = constant (Rattle.net_machine.specs.Bits.fixed_bit p) }) tt a
+    fixed false a = one (record { bit = k; expr = constant (fixed_bit p) }) tt a
 
 class_over : (class : Terminal → ℕ) (total k : ℕ) (ps : List Port) → k + length ps ≤ total → (d : Numbered) → In d (classes_driven class k ps) → IsOver d.expr total
 class_over class total k [] l d i = elim i [ ]
@@ -376,17 +374,17 @@ numbers_low s i li base total l h k low =
     let inside : k < length table = omega (arith, low, n, m, c) in
     elim (In-split (slice_index table k) (map (λ (pin : Name). s.class (pin_of i.name pin)) b.reads) (rising base (width b)) (In-at table k 0 inside)) [
       | inl a ↦
-        let r = In-map_back (λ (pin : Name). s.class (pin_of i.name pin)) (slice_index table k) b.reads a in
-        let q = read_low r.0 r.1 in
-        let e = r.2 in omega (arith, q, e, l)
+          let r = In-map_back (λ (pin : Name). s.class (pin_of i.name pin)) (slice_index table k) b.reads a in
+          let q = read_low r.0 r.1 in
+          let e = r.2 in omega (arith, q, e, l)
       | inr a ↦ let r = In-rising base (width b) (slice_index table k) a in let t = r.1 in omega (arith, t, h)
     ] where
       read_low : (pin : Name) → In pin (body_in s i).reads → s.class (pin_of i.name pin) < s.n.count
       read_low pin j =
-          let p = All_is (λ (pin : Name). IsThere (Rattle.net_core.specs.Netlist.terminals s.n) (pin_of i.name pin)) (body_in s i).reads (Rattle.net_machine.proofs.Cells.fine_pins s.n s.l s.table s.ground i li).reads pin j in
-          let c = Rattle.net_machine.proofs.Cells.class_there s.n s.l s.table s.ground (pin_of i.name pin) p in
+          let p = All_is (λ (pin : Name). IsThere (terminals s.n) (pin_of i.name pin)) (body_in s i).reads (fine_pins s.n s.l s.table s.ground i li).reads pin j in
+          let c = class_there s.n s.l s.table s.ground (pin_of i.name pin) p in
           let e = s.classes.each (pin_of i.name pin) c.0 c.1 in
-          let w = Rattle.net_core.proofs.Rings.class_below s.n s.ground.netlist (pin_of i.name pin) c.0 c.1 in
+          let w = class_below s.n s.ground.netlist (pin_of i.name pin) c.0 c.1 in
           omega (arith, e, w)
 
 expr_over : (s : Scene) (i : Instance) → In i s.n.instances → (base total : ℕ) → s.n.count ≤ total → base + width (body_in s i) ≤ total → (e : Expression) → IsOver e (bits_count (body_in s i))
@@ -416,12 +414,12 @@ stored_over : (s : Scene) (base total : ℕ) (is : List Instance) → ((i : Inst
 stored_over s base total [] inside l h r j = elim j [ ]
 stored_over s base total (i ∷ is) inside l h r j = elim (In-split r (body_stored s.class i.name (body_in s i) base) (all_stored s (base + width (body_in s i)) is) j) [
   | inl a ↦
-    let b = body_in s i in
-    let w = In-stored_from (numbers s.class i.name b base) base b.loads r a in
-    let o = body_is_over s i (inside i here) in (
-      subst (λ (e : Expression). IsOver e total) (sym w.2) (expr_over s i (inside i here) base total l (omega (arith, h)) w.0.next (All_is (λ (x : Load). IsOver x.next (bits_count b)) b.loads o.next w.0 w.1)),
-      subst (λ (e : Expression). IsOver e total) (sym w.3) (expr_over s i (inside i here) base total l (omega (arith, h)) w.0.enable (All_is (λ (x : Load). IsOver x.enable (bits_count b)) b.loads o.enable w.0 w.1)),
-    )
+      let b = body_in s i in
+      let w = In-stored_from (numbers s.class i.name b base) base b.loads r a in
+      let o = body_is_over s i (inside i here) in (
+        subst (λ (e : Expression). IsOver e total) (sym w.2) (expr_over s i (inside i here) base total l (omega (arith, h)) w.0.next (All_is (λ (x : Load). IsOver x.next (bits_count b)) b.loads o.next w.0 w.1)),
+        subst (λ (e : Expression). IsOver e total) (sym w.3) (expr_over s i (inside i here) base total l (omega (arith, h)) w.0.enable (All_is (λ (x : Load). IsOver x.enable (bits_count b)) b.loads o.enable w.0 w.1)),
+      )
   | inr a ↦ stored_over s (base + width (body_in s i)) total is (λ k m. inside k (there m)) l (omega (arith, h)) r a
 ]
 
@@ -441,11 +439,11 @@ driven_over s base total (i ∷ is) inside l h d j = elim (In-split d (body_driv
   own : In d (body_driven s.class i.name b base) → IsOver d.expr total
   own a = elim (In-split d (inner_from table (base + length b.loads) b.inner) (shown_from s.class i.name table b.shows) a) [
     | inl c ↦
-      let w = In-inner_from table (base + length b.loads) b.inner d c in
-      subst (λ (e : Expression). IsOver e total) (sym w.2) (expr_over s i (inside i here) base total l (omega (arith, h)) w.0 (All_is (λ (e : Expression). IsOver e (bits_count b)) b.inner (body_is_over s i (inside i here)).inner w.0 w.1))
+        let w = In-inner_from table (base + length b.loads) b.inner d c in
+        subst (λ (e : Expression). IsOver e total) (sym w.2) (expr_over s i (inside i here) base total l (omega (arith, h)) w.0 (All_is (λ (e : Expression). IsOver e (bits_count b)) b.inner (body_is_over s i (inside i here)).inner w.0 w.1))
     | inr c ↦
-      let w = In-map_back (λ (x : Shown). record { bit = s.class (pin_of i.name x.pin); expr = renumbered table x.expr }) d b.shows c in
-      subst (λ (y : Numbered). IsOver y.expr total) w.2 (expr_over s i (inside i here) base total l (omega (arith, h)) w.0.expr (All_is (λ (x : Shown). IsOver x.expr (bits_count b)) b.shows (body_is_over s i (inside i here)).shows w.0 w.1))
+        let w = In-map_back (λ (x : Shown). record { bit = s.class (pin_of i.name x.pin); expr = renumbered table x.expr }) d b.shows c in
+        subst (λ (y : Numbered). IsOver y.expr total) w.2 (expr_over s i (inside i here) base total l (omega (arith, h)) w.0.expr (All_is (λ (x : Shown). IsOver x.expr (bits_count b)) b.shows (body_is_over s i (inside i here)).shows w.0 w.1))
   ]
 
 pub is_system : (s : Scene) → IsSystem (system s)

@@ -1,5 +1,5 @@
 -- What a cell does, over bits of its own: those of the pins that it reads, then those that it holds, then its inner ones.
-use Rattle.std.specs.Prelude.{ℕ, ◌+◌, true, List, [], ◌∷◌, ◌++◌, map, length, Option, None, Some}
+use Rattle.std.specs.Prelude.{ℕ, ◌+◌, true, List, [], ◌∷◌, map, length, Option, None, Some}
 use Rattle.vlsi_base.specs.declared.name.Name.{Name}
 use Rattle.bool_expr.specs.Expression.{Expression, constant, variable}
 use Rattle.bool_expr.specs.View.{view}

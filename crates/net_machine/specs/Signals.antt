@@ -1,5 +1,5 @@
 -- What of a netlist of cells a machine shows: its signal ports and its clock; and where it has none, since a cell is opaque.
-use Rattle.std.specs.Prelude.{◌≡◌, ℕ, ◌<◌, IsTrue, not, List, map, filter, Option, None, Some}
+use Rattle.std.specs.Prelude.{◌≡◌, ℕ, ◌<◌, IsTrue, true, not, List, filter, Option, None, Some}
 use Rattle.vlsi_base.specs.declared.name.Name.{Name}
 use Rattle.vlsi_base.specs.declared.name.Port.{Port}
 use Rattle.vlsi_base.specs.declared.name.Dir.TheVariants as dir
@@ -12,6 +12,8 @@ use Rattle.net_core.specs.Netlist.{Instance, Netlist as InMemory, port, pin_of, 
 use Rattle.net_core.specs.Checks.{pins_named}
 use Rattle.cell_model.specs.Cell.{opaque, Cell}
 use Rattle.cell_model.specs.Library.{Library, cell_of}
+use Rattle.cell_pins.specs.Table.{IsTableOf}
+use Rattle.net_view.specs.Condition.{MeetsCondition}
 
 -- the ports but vdd and vss, in the order of names
 abbrev pub signal_ports : List Port → List Port
@@ -35,6 +37,10 @@ pub record HasClockPin (table : List ModelPins) (n : InMemory) (class : ℕ) : T
 abbrev pub IsClockPort : List ModelPins → InMemory → Option Name → Type 0
 IsClockPort table n None = (class : ℕ) → HasClockPin table n class → ⊥
 IsClockPort table n (Some name) = (class : ℕ) × HasClass n (port name) class × HasClockPin table n class
+
+-- with the table of pins of all of the library's cells the netlist meets what each stage asks
+abbrev pub MeetsConditionWith : Library → InMemory → Type 0
+MeetsConditionWith l n = (table : List ModelPins) × IsTableOf l true table × MeetsCondition table n
 
 -- nothing is known of the library's cell of this name
 pub record IsOpaque (l : Library) (model : List ℕ) : Type 0 where

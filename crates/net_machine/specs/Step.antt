@@ -1,5 +1,5 @@
 -- A netlist of cells and a machine in step, cycle for cycle.
-use Rattle.std.specs.Prelude.{◌≡◌, ℕ, Bool, false, List, [], ◌∷◌, length, replicate, Option, None, Some}
+use Rattle.std.specs.Prelude.{◌≡◌, Bool, true, false, List, [], ◌∷◌, length, replicate, Option, None, Some}
 use Rattle.vlsi_base.specs.declared.name.Name.{Name}
 use Rattle.vlsi_base.specs.Member.{In}
 use Rattle.machine_meaning.specs.Named.{value_at}
@@ -10,8 +10,10 @@ use Rattle.net_core.specs.declared.pins.ModelPins.{ModelPins}
 use Rattle.net_core.specs.Netlist.{Netlist as InMemory}
 use Rattle.cell_model.specs.Cell.{Function, gate, flip_flop, other, opaque, Cell}
 use Rattle.cell_model.specs.Library.{Library, cell_of}
+use Rattle.cell_pins.specs.Table.{IsTableOf}
 use Rattle.net_meaning.specs.Netlist.{Member, Netlist, port}
 use Rattle.net_meaning.specs.Behaviour.{Contents, Valuation, bit_of, NetSettles, model_of, cell_at, net_next}
+use Rattle.net_view.specs.Condition.{MeetsCondition}
 use Rattle.net_view.specs.View.{IsSeenAs}
 use Rattle.net_machine.specs.Signals.{signal_ports, IsClockPort}
 
@@ -71,6 +73,10 @@ pub record IsMachineOfNetlist (n : InMemory) (l : Library) (table : List ModelPi
   pub ports : m.ports ≡ signal_ports n.ports
   pub clock : IsClockPort table n m.clock
   pub step : (k : Netlist) → IsSeenAs n k → KeepsStep k l m
+
+-- it is that with the table of pins of all of the library's cells, where the netlist meets what each stage asks
+abbrev pub IsMachineWith : InMemory → Library → Machine → Type 0
+IsMachineWith n l m = (table : List ModelPins) → IsTableOf l true table → MeetsCondition table n → IsMachineOfNetlist n l table m
 
 -- From contents that fit and under a vector the netlist has a valuation, and any two give each class the same bit.
 abbrev pub NetSettlesOnce : Netlist → Library → List Name → Option Name → Contents → List Bool → Type 0

@@ -11,4 +11,4 @@ mod machine;
 
 pub use error::NetMachineError;
 pub use law::machine_settles_netlist;
-pub use machine::machine_of;
+pub use machine::{machine_of, signal_ports};

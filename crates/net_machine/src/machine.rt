@@ -1,9 +1,7 @@
 // A netlist of cells as a machine.
-ghost use Rattle.std.specs.Prelude.{◌≡◌, true, None, IfOk, IfErr, OnOk};
-ghost use Rattle.cell_pins.specs.Table.{IsTableOf};
-ghost use Rattle.net_view.specs.Condition.{MeetsCondition};
-ghost use Rattle.net_machine.specs.Signals.{signal_ports, HasBehaviour};
-ghost use Rattle.net_machine.specs.Step.{IsMachineOfNetlist};
+ghost use Rattle.std.specs.Prelude.{◌≡◌, None, IfOk, IfErr, OnOk};
+ghost use Rattle.net_machine.specs.Signals.{signal_ports, MeetsConditionWith, HasBehaviour};
+ghost use Rattle.net_machine.specs.Step.{IsMachineWith};
 ghost use Rattle.net_machine.specs.Answers.{IsMachineRefusal};
 ghost use Rattle.net_machine.specs.Gathered.{AreKnown, KnowsModels, HasClockOf, AreBitsOf};
 
@@ -14,12 +12,12 @@ use crate::known::{Known, first_unknown, known_models};
 use bit_machine::machine_of_bits;
 use cell_checks::Library;
 use machine_core::Machine;
-use net_core::{Netlist, PinTable, class_order};
+use net_core::Netlist;
 use std::alloc::{AllocError, Global};
 use vlsi_base::{Name, Port, Ports, is_supply};
 
-/// The ports but vdd and vss.
-fn signal_ports(alloc: Global, ports: &[Port]) -> Result<Ports, AllocError>
+/// The ports but vdd and vss, in their order. Takes memory for their names.
+pub fn signal_ports(alloc: Global, ports: &[Port]) -> Result<Ports, AllocError>
     ensures { IfOk result (λ made. made ≡ signal_ports ports.now) }
 {
     let mut made = Vec::new(alloc);
@@ -37,7 +35,7 @@ fn signal_ports(alloc: Global, ports: &[Port]) -> Result<Ports, AllocError>
 
 /// The machine of a netlist of a library's cells: its name, its ports but vdd and vss in the order of names, and the port that its
 /// clock pins hang on as clock, where it has clock pins. From contents of the instances, and for every vector, it settles as the
-/// netlist does, with the same outputs and the same next contents. `table` is the table of pins of all of the library's cells.
+/// netlist does, with the same outputs and the same next contents.
 ///
 /// - `NoBehaviour`: the cell of an instance is opaque; it names the cell of the first such instance, in the order of instances.
 ///
@@ -47,11 +45,9 @@ pub fn machine_of(
     alloc: Global,
     netlist: &Netlist,
     library: &Library,
-    table: &PinTable,
 ) -> Result<Machine, NetMachineError>
-    requires table_is { IsTableOf library.now true table.now }
-    requires condition { MeetsCondition table.now netlist.now }
-    ensures machine { IfOk result (λ m. IsMachineOfNetlist netlist.now library.now table.now m) }
+    requires { MeetsConditionWith library.now netlist.now }
+    ensures machine { IfOk result (λ m. IsMachineWith netlist.now library.now m) }
     ensures known { OnOk result (HasBehaviour netlist.now library.now) }
     ensures refused { IfErr result (λ e. IsMachineRefusal netlist.now library.now e) }
 {
@@ -63,7 +59,6 @@ pub fn machine_of(
         let model = models[nodes[place].model].copy(alloc)?;
         return Err(NetMachineError::NoBehaviour(model));
     }
-    let _order = class_order(alloc, netlist, table)?;
     let clock = clock_port(alloc, netlist, &known)?;
     let system = gather(alloc, netlist, &known, clock.as_ref())?;
     let name = netlist.name().copy(alloc)?;
