@@ -1,0 +1,150 @@
+-- What machines of netlists rest on, from what is known of the netlist and of the library.
+use Rattle.std.proofs.Common.{◌≡◌, ℕ, zero, suc, Bool, true, false, cond, ◌&&◌, List, [], ◌∷◌, Option, None, Some, refl, sym, ap, ◌∙◌, subst, arith}
+use Rattle.vlsi_base.specs.declared.name.Name.{Name}
+use Rattle.vlsi_base.specs.declared.name.Terminal.{Terminal}
+use Rattle.machine_meaning.specs.Named.{is_same_text, is_same_name}
+use Rattle.machine_meaning.specs.Machine.{Machine}
+use Rattle.machine_core.proofs.Names.{same_name-true, same_name-itself}
+use Rattle.std.specs.Cmp.Lexicographic.{bytes_decides}
+use Rattle.cell_model.specs.Library.{Library}
+use Rattle.cell_checks.specs.Checked.{IsChecked}
+use Rattle.cell_pins.specs.Table.{IsTableOf}
+use Rattle.net_core.specs.declared.pins.ModelPins.{ModelPins}
+use Rattle.net_core.specs.Places.{Stands, NoneTwice}
+use Rattle.net_core.specs.Netlist.{Netlist as InMemory, IsNetlist, terminals, IsClassFunction}
+use Rattle.net_core.specs.Links.{IsClassOrder}
+use Rattle.net_core.proofs.Finishing.{netlist_terminals_once}
+use Rattle.net_meaning.specs.Netlist.{Netlist}
+use Rattle.net_view.specs.Condition.{MeetsCondition}
+use Rattle.bit_machine.specs.System.{System, system_of, IsSystem, Falls, FitsPorts, IsMachineOfBits}
+use Rattle.bit_machine.specs.declared.system.BitSystem.{BitSystem}
+use Rattle.net_machine.specs.Signals.{signal_ports, IsClockPort, HasBehaviour}
+use Rattle.net_machine.specs.Step.{KeepsStep, IsMachineOfNetlist}
+use Rattle.net_machine.specs.Bits.{net_system}
+use Rattle.net_machine.specs.Gathered.{KnowsModels, AreKnown, HasClockOf, AreBitsOf, IsLonger}
+use Rattle.net_machine.specs.declared.known.Known.{Known as KnownParts}
+use Rattle.net_machine.proofs.Cells.{fine, clock_found}
+use Rattle.net_machine.proofs.Scenes.{Scene}
+use Rattle.net_machine.proofs.Whole.{is_system}
+use Rattle.net_machine.proofs.Fitting.{fits_ports}
+use Rattle.net_machine.proofs.Falling.{falls}
+use Rattle.net_machine.proofs.Ranking.{class_ranks}
+use Rattle.net_machine.proofs.Stepping.{keeps_step}
+
+-- ---- a class for each terminal
+
+abbrev same_owner : Option (List ℕ) → Option (List ℕ) → Bool
+same_owner None None = true
+same_owner None (Some b) = false
+same_owner (Some a) None = false
+same_owner (Some a) (Some b) = is_same_text a b
+
+abbrev same_terminal : Terminal → Terminal → Bool
+same_terminal t u = same_owner t.instance u.instance && is_same_name t.pin u.pin
+
+owner_true : (a b : Option (List ℕ)) → same_owner a b ≡ true → a ≡ b
+owner_true None None e = refl
+owner_true None (Some b) e = absurd cc
+owner_true (Some a) None e = absurd cc
+owner_true (Some a) (Some b) e = ap Some ((bytes_decides a b).0 e)
+
+owner_itself : (a : Option (List ℕ)) → same_owner a a ≡ true
+owner_itself None = refl
+owner_itself (Some a) = (bytes_decides a a).1 refl
+
+both_true : (a b : Bool) → (a && b) ≡ true → (a ≡ true) × (b ≡ true)
+both_true true true e = (refl, refl)
+both_true true false e = absurd cc
+both_true false b e = absurd cc
+
+terminal_true : (t u : Terminal) → same_terminal t u ≡ true → t ≡ u
+terminal_true t u e =
+    let p = both_true (same_owner t.instance u.instance) (is_same_name t.pin u.pin) e in
+    let made : Option (List ℕ) → Name → Terminal = λ i n. record { instance = i; pin = n } in
+    ap (λ i. made i t.pin) (owner_true t.instance u.instance p.0) ∙ ap (made u.instance) (same_name-true t.pin u.pin p.1)
+
+terminal_itself : (t : Terminal) → same_terminal t t ≡ true
+terminal_itself t = ap (λ b. b && is_same_name t.pin t.pin) (owner_itself t.instance) ∙ same_name-itself t.pin
+
+abbrev class_in : List Terminal → List ℕ → Terminal → ℕ
+class_in [] cs t = 0
+class_in (u ∷ ts) [] t = 0
+class_in (u ∷ ts) (c ∷ cs) t = cond (same_terminal u t) c (class_in ts cs t)
+
+tail_once : (u : Terminal) (ts : List Terminal) → NoneTwice (u ∷ ts) → NoneTwice ts
+tail_once u ts h i j x p q = let e = h (suc i) (suc j) x p q in omega (arith, e)
+
+class_in_is : (ts : List Terminal) (cs : List ℕ) → NoneTwice ts → (k : ℕ) (t : Terminal) (c : ℕ) → Stands ts k t → Stands cs k c → class_in ts cs t ≡ c
+class_in_is [] cs h k t c p q = absurd cc
+class_in_is (u ∷ ts) [] h k t c p q = absurd cc
+class_in_is (u ∷ ts) (d ∷ cs) h zero t c p q =
+    let same : u ≡ t = cc in
+    let like : d ≡ c = cc in
+    ap (λ b. cond b d (class_in ts cs t)) (subst (λ (x : Terminal). same_terminal u x ≡ true) same (terminal_itself u)) ∙ like
+class_in_is (u ∷ ts) (d ∷ cs) h (suc k) t c p q = by (same_terminal u t) refl (class_in_is ts cs (tail_once u ts h) k t c p q) where
+  by : (b : Bool) → same_terminal u t ≡ b → class_in ts cs t ≡ c → cond b d (class_in ts cs t) ≡ c
+  by false e rest = rest
+  by true e rest =
+      let same = terminal_true u t e in
+      let w = h 0 (suc k) t (ap Some same) p in absurd (omega (arith, w))
+
+abbrev class_by : InMemory → Terminal → ℕ
+class_by n t = class_in (terminals n) n.classes t
+
+class_by_is : (n : InMemory) → IsNetlist n → IsClassFunction n (class_by n)
+class_by_is n is = record { each = λ t k h. class_in_is (terminals n) n.classes (netlist_terminals_once n is) h.0 t k h.1 h.2 }
+
+-- ---- what is known of the models
+
+pub known_fine : (n : InMemory) (l : Library) (table : List ModelPins) (known : List KnownParts) → IsNetlist n → IsChecked false l → IsTableOf l true table → MeetsCondition table n → KnowsModels n l known → AreKnown n known
+known_fine n l table known net checked table_is condition knows =
+    record { library = l; knows = knows; fine = fine n l table (record { netlist = net; condition = condition; table_is = table_is; checked = checked }) }
+
+-- ---- the bits, and their machine
+
+abbrev scene : (n : InMemory) (l : Library) (table : List ModelPins) (clock : Option Name) (class : Terminal → ℕ) (text : List ℕ) → IsNetlist n → IsChecked false l → IsTableOf l true table → MeetsCondition table n → HasBehaviour n l → HasClockOf n l clock
+    → IsClassFunction n class → IsLonger n.ports text → Scene
+scene n l table clock class text net checked table_is condition known clock_is classes longer = record {
+  n = n;
+  l = l;
+  table = table;
+  class = class;
+  clock = clock;
+  text = text;
+  ground = record { netlist = net; condition = condition; table_is = table_is; checked = checked };
+  classes = classes;
+  known = known;
+  clock_is = clock_is;
+  longer = longer;
+}
+
+module _ (n : InMemory) (l : Library) (table : List ModelPins) (clock : Option Name) (b : BitSystem) (net : IsNetlist n) (checked : IsChecked false l) (table_is : IsTableOf l true table) (condition : MeetsCondition table n)
+    (known : HasBehaviour n l) (clock_is : HasClockOf n l clock) (bits : AreBitsOf n l clock b) where
+  abbrev this : Scene
+  this = scene n l table clock (class_by n) bits.text net checked table_is condition known clock_is (class_by_is n net) bits.longer
+
+  same : system_of b ≡ net_system bits.text (class_by n) n l clock
+  same = bits.is (class_by n) (class_by_is n net)
+
+  pub system_is : IsSystem (system_of b)
+  system_is = subst IsSystem (sym same) (is_system this)
+
+  pub system_falls_always : Falls (system_of b).driven
+  system_falls_always = subst (λ (s : System). Falls s.driven) (sym same) (falls this (class_ranks this))
+
+  pub system_falls : (order : List ℕ) → IsClassOrder table n order → Falls (system_of b).driven
+  system_falls order h = system_falls_always
+
+  pub system_fits : FitsPorts (signal_ports n.ports) clock (system_of b)
+  system_fits = subst (λ (s : System). FitsPorts (signal_ports n.ports) clock s) (sym same) (fits_ports this)
+
+  pub machine_is : (m : Machine) → IsMachineOfBits n.name (signal_ports n.ports) clock (system_of b) m → IsMachineOfNetlist n l table m
+  machine_is m is = record {
+    name = is.text;
+    ports = is.ports_are;
+    clock = subst (IsClockPort table n) (sym is.clock_is) (clock_found n l table (record { netlist = net; condition = condition; table_is = table_is; checked = checked }) clock clock_is);
+    step = λ k seen.
+        let one = scene n l table clock k.class bits.text net checked table_is condition known clock_is seen.classes bits.longer in
+        subst (λ (x : Netlist). KeepsStep x l m) (sym seen.is)
+        (keeps_step one n.name m (subst (λ (s : System). IsMachineOfBits n.name (signal_ports n.ports) clock s m) (bits.is k.class seen.classes) is));
+  }
