@@ -1,3 +1,4 @@
 pub mod Refusing
 pub mod Contents
 pub mod Netlists
+pub mod Supplies

@@ -9,6 +9,7 @@ use Rattle.cell_lib.specs.Cells.{OrMemory}
 use Rattle.cell_lib.specs.Library.{IsRefusedLibrary, status_of}
 use Rattle.net_core.specs.declared.pins.ModelPins.{ModelPins}
 use Rattle.net_core.specs.Netlist.{Netlist}
+use Rattle.net_view.specs.Condition.{MeetsCondition}
 use Rattle.net_machine.specs.Signals.{signal_ports}
 use Rattle.net_sim.specs.declared.error.NetSimError.{NetSimError}
 use Rattle.net_sim.specs.declared.error.NetSimError.TheVariants as net
@@ -48,10 +49,10 @@ by_patterns c t l table n e s cells is h k =
     (of_file c.patterns (IsPatternRefusal t.patterns (signal_ports n.ports)) e h s k) (λ o. (refl, bad_patterns l table n cells is o))
 
 pub by_simulation : (c : AsimutNetlistCommand) (t : Texts) (l : Library) (table : List ModelPins) (n : Netlist) (p : Patterns) (e : NetSimError) (s : Status)
-    → AreRead t l table n p → IsSimRefusal n l table p e → IsToldOf p.patterns e s → IsJudged (Simulates c t) (Err (refusal s None))
-by_simulation c t l table n p e status.Memory read h k = refl
-by_simulation c t l table n p (net.NoBehaviour model) (status.No (NoBehaviour cell)) read h k =
+    → AreRead t l table n p → MeetsCondition table n → IsSimRefusal n l p e → IsToldOf p.patterns e s → IsJudged (Simulates c t) (Err (refusal s None))
+by_simulation c t l table n p e status.Memory read met h k = refl
+by_simulation c t l table n p (net.NoBehaviour model) (status.No (NoBehaviour cell)) read met h k =
     (refl, no_behaviour l table n p model read h (ap (λ (x : List ℕ). status.No (NoBehaviour x)) k))
-by_simulation c t l table n p (net.Differs number name) (status.No (Differs label bit)) read h k =
-    (refl, differs l table n p number name read h.0 h.1 (rw (k.0, k.1) refl))
-by_simulation c t l table n p e _ read h k = absurd k
+by_simulation c t l table n p (net.Differs number name) (status.No (Differs label bit)) read met h k =
+    (refl, differs l table n p number name read h.0 (h.1 table read.cells.pins met) (rw (k.0, k.1) refl))
+by_simulation c t l table n p e _ read met h k = absurd k

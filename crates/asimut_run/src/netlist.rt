@@ -69,7 +69,7 @@ fn simulated(
         Ok(read) => read,
         Err(error) => return Err(Refusal::plain(refused(alloc, &command.patterns, error))),
     };
-    let filled = match simulate_net(alloc, &netlist, &library, &table, &read) {
+    let filled = match simulate_net(alloc, &netlist, &library, &read) {
         Ok(filled) => filled,
         Err(error) => {
             let patterns = read.patterns.as_slice();
