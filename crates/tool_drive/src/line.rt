@@ -80,10 +80,7 @@ fn verdict(alloc: Global, out: &mut FileBytes, verdict: &Verdict) -> Result<(), 
             out.append(label.as_bytes())?;
             spaced_name(alloc, out, name)
         }
-        Verdict::NoBehaviour(cell) => {
-            out.append(b"no behaviour ")?;
-            out.append(cell.as_bytes())
-        }
+        Verdict::NoBehaviour(cell) => with_name(out, b"no behaviour ", cell.as_bytes()),
     }
 }
 
@@ -134,20 +131,20 @@ fn no_path(alloc: Global, out: &mut FileBytes, net: u32, stuck: &Terminal) -> Re
     terminal(alloc, out, stuck)
 }
 
-fn with_name(out: &mut FileBytes, what: &[u8], name: &FileName) -> Result<(), AllocError>
+fn with_name(out: &mut FileBytes, what: &[u8], name: &[u8]) -> Result<(), AllocError>
     ensures { OnOk result (out.new ≡ out.old ++ (what.now ++ name.now)) }
 {
     out.append(what)?;
-    out.append(name.as_bytes())
+    out.append(name)
 }
 
 fn file(out: &mut FileBytes, cause: FileCause, name: &FileName) -> Result<(), AllocError>
     ensures { OnOk result (out.new ≡ out.old ++ file_text cause name.now) }
 {
     match cause {
-        FileCause::Missing => with_name(out, b"file: missing ", name),
-        FileCause::ReadFault => with_name(out, b"file: read fault ", name),
-        FileCause::WriteFault => with_name(out, b"file: write fault ", name),
+        FileCause::Missing => with_name(out, b"file: missing ", name.as_bytes()),
+        FileCause::ReadFault => with_name(out, b"file: read fault ", name.as_bytes()),
+        FileCause::WriteFault => with_name(out, b"file: write fault ", name.as_bytes()),
         FileCause::OutFault => Ok(()),
     }
 }
