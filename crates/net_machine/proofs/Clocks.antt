@@ -1,5 +1,5 @@
 -- The classes of ports, and the port in whose class the clock pins stand.
-use Rattle.std.proofs.Common.{◌≡◌, ◌⊎◌, inl, inr, ℕ, ◌+◌, ◌<◌, ◌≤◌, List, ◌++◌, map, length, Option, None, Some, refl, sym, ap, ◌∙◌, subst, arith, length-append}
+use Rattle.std.proofs.Common.{◌≡◌, ◌⊎◌, inl, inr, ℕ, ◌+◌, ◌<◌, ◌≤◌, List, map, length, None, Some, sym, ap, ◌∙◌, subst, arith, length-append}
 use Rattle.std.specs.Prelude.{slice_index, slice_index_or}
 use Rattle.std.specs.List.{flat_map}
 use Rattle.std.proofs.lemmas.List.{length-map}
@@ -12,7 +12,7 @@ use Rattle.cell_model.specs.Library.{Library, cell_of}
 use Rattle.net_core.specs.declared.frame.Node.{Node}
 use Rattle.net_core.specs.Places.{Stands, IsThere}
 use Rattle.net_core.specs.Frame.{instance_of}
-use Rattle.net_core.specs.Netlist.{Instance, Netlist as InMemory, port, pin_of, pins_of, terminals, IsNetlist, HasClass, IsClassFunction}
+use Rattle.net_core.specs.Netlist.{Instance, Netlist as InMemory, port, pin_of, pins_of, IsNetlist, HasClass, IsClassFunction}
 use Rattle.net_core.proofs.Standing.{Split, left, right, split, stands_left}
 use Rattle.net_core.proofs.Frames.{mapped, unmapped, flat_split, port_terminals}
 use Rattle.net_core.proofs.Rings.{at_place}
