@@ -3,13 +3,11 @@ ghost use Rattle.std.specs.Prelude.{◌≡◌, ◌<◌, ◌≤◌, ◌+◌, ◌^
 ghost use Rattle.std.specs.Option.{option_copied};
 ghost use Rattle.std.specs.List.{All, flat_map};
 ghost use Rattle.vlsi_base.specs.Range.{rising};
-ghost use Rattle.vlsi_base.specs.Name.{is_supply};
 ghost use Rattle.bool_expr.specs.Expression.{IsOver};
 ghost use Rattle.bool_expr.specs.View.{view};
 ghost use Rattle.source_bits.specs.Driven.{driven_view, stored_view};
 ghost use Rattle.net_core.specs.Places.{IsThere};
-ghost use Rattle.net_core.specs.Netlist.{IsNetlist, pin_of, terminals};
-ghost use Rattle.bit_machine.specs.System.{system_of};
+ghost use Rattle.net_core.specs.Netlist.{pin_of, terminals};
 ghost use Rattle.net_machine.specs.Body.{load_view, shown_view, body_view, width};
 ghost use Rattle.net_machine.specs.Bits.{own_name, is_signal, fixed_bit, port_names, port_inputs, own_of, port_driven, classes_driven, numbers, stored_from, inner_from, shown_from, body_stored, body_driven, placed_from, placed_stored, placed_driven, widths, first_base};
 ghost use Rattle.net_machine.specs.Gathered.{bits_count, HasPins, IsBodyOver, IsLonger, Gathers, ForClasses, ForKnown, AreKnown, AreBitsOf};
@@ -22,7 +20,6 @@ use bool_expr::{Expr, renumbered};
 use net_core::Netlist;
 use std::alloc::{AllocError, Global};
 use vlsi_base::{Dir, Name, Names, Port, Text, is_supply};
-use vlsi_model::few;
 
 /// A text that is longer than that of each port, and than those of the supplies.
 fn own_text(alloc: Global, ports: &[Port]) -> Result<Text, AllocError>

@@ -2,12 +2,10 @@
 ghost use Rattle.std.specs.Prelude.{◌≡◌, ◌≤◌, not, map, filter, length, IfOk, true, ◌∷◌, []};
 ghost use Rattle.bool_expr.specs.View.{view};
 ghost use Rattle.bool_expr.specs.Expression.{variable, constant};
-ghost use Rattle.machine_core.specs.View.{equation_view, register_view};
 ghost use Rattle.machine_meaning.specs.Machine.{is_input, names_of, inputs, outputs};
 ghost use Rattle.source_meaning.specs.Formula.{place};
 ghost use Rattle.cell_model.specs.Cell.{cell_inputs, cell_outputs};
-ghost use Rattle.cell_model.specs.View.{function_view};
-ghost use Rattle.net_machine.specs.Body.{load_view, shown_view, inner_view, body_view, no_body, body_of};
+ghost use Rattle.net_machine.specs.Body.{load_view, shown_view, body_view, no_body, body_of};
 
 use bool_expr::{Expr, copy};
 use cell_model::{Cell, Function, Pin};

@@ -1,20 +1,19 @@
 // A netlist of cells as a machine.
-ghost use Rattle.std.specs.Prelude.{◌≡◌, None, IfOk, IfErr, OnOk};
+ghost use Rattle.std.specs.Prelude.{◌≡◌, IfOk, IfErr, OnOk};
 ghost use Rattle.net_machine.specs.Signals.{signal_ports, MeetsConditionWith, HasBehaviour};
 ghost use Rattle.net_machine.specs.Step.{IsMachineWith};
 ghost use Rattle.net_machine.specs.Answers.{IsMachineRefusal};
-ghost use Rattle.net_machine.specs.Gathered.{AreKnown, KnowsModels, HasClockOf, AreBitsOf};
 
 use crate::bits::gather;
 use crate::clock::clock_port;
 use crate::error::NetMachineError;
-use crate::known::{Known, first_unknown, known_models};
+use crate::known::{first_unknown, known_models};
 use bit_machine::machine_of_bits;
 use cell_checks::Library;
 use machine_core::Machine;
 use net_core::Netlist;
 use std::alloc::{AllocError, Global};
-use vlsi_base::{Name, Port, Ports, is_supply};
+use vlsi_base::{Port, Ports, is_supply};
 
 /// The ports but vdd and vss, in their order. Takes memory for their names.
 pub fn signal_ports(alloc: Global, ports: &[Port]) -> Result<Ports, AllocError>
