@@ -1,5 +1,5 @@
 -- The classes of ports, and the port in whose class the clock pins stand.
-use Rattle.std.proofs.Common.{◌≡◌, ◌⊎◌, inl, inr, ℕ, ◌+◌, ◌<◌, ◌≤◌, List, ◌++◌, map, length, Option, None, Some, refl, sym, ap, ◌∙◌, subst, arith, length-append}
+use Rattle.std.proofs.Common.{◌≡◌, ◌⊎◌, inl, inr, ℕ, ◌+◌, ◌<◌, ◌≤◌, List, map, length, None, Some, sym, ap, ◌∙◌, subst, arith, length-append}
 use Rattle.std.specs.Prelude.{slice_index, slice_index_or}
 use Rattle.std.specs.List.{flat_map}
 use Rattle.std.proofs.lemmas.List.{length-map}
@@ -12,7 +12,7 @@ use Rattle.cell_model.specs.Library.{Library, cell_of}
 use Rattle.net_core.specs.declared.frame.Node.{Node}
 use Rattle.net_core.specs.Places.{Stands, IsThere}
 use Rattle.net_core.specs.Frame.{instance_of}
-use Rattle.net_core.specs.Netlist.{Instance, Netlist as InMemory, port, pin_of, pins_of, terminals, IsNetlist, HasClass, IsClassFunction}
+use Rattle.net_core.specs.Netlist.{Instance, Netlist as InMemory, port, pin_of, pins_of, IsNetlist, HasClass, IsClassFunction}
 use Rattle.net_core.proofs.Standing.{Split, left, right, split, stands_left}
 use Rattle.net_core.proofs.Frames.{mapped, unmapped, flat_split, port_terminals}
 use Rattle.net_core.proofs.Rings.{at_place}
@@ -36,11 +36,10 @@ port_has n h k p low is =
     let same : p ≡ a.0 = is ∙ get_or_from_slice_get n.ports k a.0 p a.1 in
     let fit = ports_fit n h in
     let c = at_place n.classes k (omega (arith, low, fit)) in
-    let class : slice_index n.classes k ≡ c.0 = get_or_from_slice_get n.classes k c.0 0 c.1 in
-    (
+    let class : slice_index n.classes k ≡ c.0 = get_or_from_slice_get n.classes k c.0 0 c.1 in (
       k,
       stands_left (map (λ (p : Port). port p.name) n.ports) (flat_map pins_of n.instances) k (port p.name)
-      (subst (λ (q : Port). Stands (map (λ (p : Port). port p.name) n.ports) k (port q.name)) (sym same) (mapped (λ (p : Port). port p.name) n.ports k a.0 a.1)),
+          (subst (λ (q : Port). Stands (map (λ (p : Port). port p.name) n.ports) k (port q.name)) (sym same) (mapped (λ (p : Port). port p.name) n.ports k a.0 a.1)),
       subst (λ (x : ℕ). Stands n.classes k x) (sym class) c.1,
     )
 
@@ -118,8 +117,9 @@ no_clock n l known nodes many are knows all none i h =
     let size = known_many n l known knows in
     let b = at_place known u.0.model (omega (arith, inside, size)) in
     let part : slice_index_or known u.0.model b.0 ≡ b.0 = get_or_from_slice_get known u.0.model b.0 b.0 b.1 in
-    ap (λ (x : Instance). clock_at (cell_of l x.model)) (sym u.2) ∙ sym (clock_here n l known nodes h.0 u.0 b.0 are knows low (sym node) (sym part))
-    ∙ ap (λ (x : KnownParts). x.clock) (sym part) ∙ ap (λ (x : Node). (slice_index_or known x.model b.0).clock) (sym node) ∙ none h.0 u.0 b.0 (omega (arith, low, all))
+    ap (λ (x : Instance). clock_at (cell_of l x.model)) (sym u.2) ∙ sym {a = b.0.clock} (clock_here n l known nodes h.0 u.0 b.0 are knows low (sym node) (sym part))
+    ∙ ap (λ (x : KnownParts). x.clock) (sym {a = slice_index_or known u.0.model b.0} part)
+    ∙ ap (λ (x : Node). (slice_index_or known x.model b.0).clock) (sym {a = slice_index_or nodes h.0 u.0} node) ∙ none h.0 u.0 b.0 (omega (arith, low, all))
 
 -- the clock pin of a node, and the port in its class
 pub clock_port : (n : InMemory) (l : Library) (known : List KnownParts) (nodes : List Node) (k : ℕ) (d : Node) (m : KnownParts) (pin name : Name) (class : ℕ) → AreNodes n nodes → KnowsModels n l known

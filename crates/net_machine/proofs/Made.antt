@@ -13,16 +13,15 @@ use Rattle.cell_pins.specs.Table.{IsTableOf}
 use Rattle.net_core.specs.declared.pins.ModelPins.{ModelPins}
 use Rattle.net_core.specs.Places.{Stands, NoneTwice}
 use Rattle.net_core.specs.Netlist.{Netlist as InMemory, IsNetlist, terminals, IsClassFunction}
-use Rattle.net_core.specs.Links.{IsClassOrder}
 use Rattle.net_core.proofs.Finishing.{netlist_terminals_once}
 use Rattle.net_meaning.specs.Netlist.{Netlist}
 use Rattle.net_view.specs.Condition.{MeetsCondition}
 use Rattle.bit_machine.specs.System.{System, system_of, IsSystem, Falls, FitsPorts, IsMachineOfBits}
 use Rattle.bit_machine.specs.declared.system.BitSystem.{BitSystem}
 use Rattle.net_machine.specs.Signals.{signal_ports, IsClockPort, MeetsConditionWith, HasBehaviour}
-use Rattle.net_machine.specs.Step.{KeepsStep, IsMachineOfNetlist, IsMachineWith}
+use Rattle.net_machine.specs.Step.{KeepsStep, IsMachineWith}
 use Rattle.net_machine.specs.Bits.{net_system}
-use Rattle.net_machine.specs.Gathered.{KnowsModels, AreKnown, HasClockOf, AreBitsOf, IsLonger}
+use Rattle.net_machine.specs.Gathered.{KnowsModels, AreKnown, HasClockOf, AreBitsOf}
 use Rattle.net_machine.specs.declared.known.Known.{Known as KnownParts}
 use Rattle.net_machine.proofs.Cells.{fine, clock_found}
 use Rattle.net_machine.proofs.Scenes.{Scene}

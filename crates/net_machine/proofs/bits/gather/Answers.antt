@@ -2,7 +2,7 @@ use Rattle.std.proofs.Common.{◌++◌, List, map, ap, ◌∙◌}
 use Rattle.std.specs.Option.{option_copied}
 use Rattle.std.specs.List.{flat_map}
 use Rattle.source_bits.specs.declared.driven.StoredBit.{StoredBit}
-use Rattle.source_bits.specs.Driven.{Numbered, driven_view, stored_view}
+use Rattle.source_bits.specs.Driven.{Numbered, stored_view}
 use Rattle.net_machine.specs.Bits.{placed_from, placed_stored, placed_driven}
 use Rattle.net_machine.proofs.Gathering.{bits_are}
 use Rattle.net_machine.proofs.bits.gather.Goals as goal

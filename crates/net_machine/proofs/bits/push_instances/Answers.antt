@@ -1,11 +1,10 @@
-use Rattle.std.proofs.Common.{◌≡◌, ap, ◌∙◌, sym, subst}
-use Rattle.source_bits.specs.Driven.{driven_view, stored_view}
+use Rattle.std.proofs.Common.{ap, ◌∙◌, sym, subst}
 use Rattle.net_core.specs.Frame.{instance_of}
 use Rattle.net_machine.specs.declared.known.Known.{Known}
-use Rattle.net_machine.specs.Body.{Body, body_view}
+use Rattle.net_machine.specs.Body.{body_view}
 use Rattle.net_machine.specs.Gathered.{HasPins, IsBodyOver}
 use Rattle.net_machine.proofs.Knowing.{AreNodes}
-use Rattle.net_machine.proofs.Gathering.{node_next, body_here, pins_here, over_here, widths_next, stored_next, driven_next, nodes_ended, widths_ended, placed_ended}
+use Rattle.net_machine.proofs.Gathering.{node_next, body_here, pins_here, over_here, widths_next, stored_next, driven_next}
 use Rattle.net_machine.proofs.bits.push_instances.Goals as goal
 
 pub push_instance-requires-clause-pins : goal.push_instance-requires-clause-pins

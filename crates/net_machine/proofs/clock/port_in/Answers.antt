@@ -1,4 +1,4 @@
-use Rattle.std.proofs.Common.{◌≡◌, ℕ, ◌<◌, length, ap, sym, ◌∙◌, arith, subst, List}
+use Rattle.std.proofs.Common.{◌≡◌, ℕ, length, ap, ◌∙◌, arith, List}
 use Rattle.std.specs.Prelude.{slice_index}
 use Rattle.vlsi_base.specs.declared.name.Port.{Port}
 use Rattle.net_machine.proofs.Clocks.{no_port}

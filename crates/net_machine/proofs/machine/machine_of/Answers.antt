@@ -1,7 +1,6 @@
 use Rattle.std.proofs.Common.{◌≡◌, ℕ, List, Option, sym, ap, ◌∙◌, subst}
 use Rattle.std.specs.Prelude.{slice_index_or}
 use Rattle.vlsi_base.specs.declared.name.Name.{Name}
-use Rattle.vlsi_base.specs.declared.name.Port.{Port}
 use Rattle.net_core.specs.declared.frame.Node.{Node}
 use Rattle.net_machine.specs.Signals.{signal_ports}
 use Rattle.net_machine.specs.Gathered.{KnowsModels, AreBitsOf}
