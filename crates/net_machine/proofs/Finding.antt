@@ -5,7 +5,7 @@ use Rattle.vlsi_base.specs.declared.name.Name.{Name}
 use Rattle.vlsi_base.specs.declared.name.Port.{Port}
 use Rattle.bool_expr.specs.Expression.{Expression, variable}
 use Rattle.bool_expr.specs.View.{view}
-use Rattle.machine_meaning.specs.Machine.{Machine, Register, Equation, is_input, names_of, inputs, outputs}
+use Rattle.machine_meaning.specs.Machine.{Machine, Register, Equation, is_input, names_of, inputs}
 use Rattle.machine_meaning.specs.declared.equation.Equation.{Equation as EquationParts}
 use Rattle.machine_meaning.specs.declared.equation.Register.{Register as RegisterParts}
 use Rattle.machine_core.specs.View.{equation_view, register_view}
