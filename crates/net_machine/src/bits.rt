@@ -350,10 +350,10 @@ fn push_instances(
 ) -> Result<u32, AllocError>
     requires { AreKnown netlist.now known.now }
     ensures end { IfOk result (λ end. (l : _) → KnowsModels netlist.now l known.now → end ≡ first + widths l netlist.now.instances) }
-    ensures stored { OnOk result ((l : _) (class : _) → KnowsModels netlist.now l known.now → IsClassFunction netlist.now class → map stored_view system.new.stored.items
-        ≡ map stored_view system.old.stored.items ++ flat_map (placed_stored class) (placed_from l first netlist.now.instances)) }
-    ensures driven { OnOk result ((l : _) (class : _) → KnowsModels netlist.now l known.now → IsClassFunction netlist.now class → map driven_view system.new.driven.items
-        ≡ map driven_view system.old.driven.items ++ flat_map (placed_driven class) (placed_from l first netlist.now.instances)) }
+    ensures stored { OnOk result ((l : _) (class : _) → KnowsModels netlist.now l known.now → IsClassFunction netlist.now class
+        → map stored_view system.new.stored.items ≡ map stored_view system.old.stored.items ++ flat_map (placed_stored class) (placed_from l first netlist.now.instances)) }
+    ensures driven { OnOk result ((l : _) (class : _) → KnowsModels netlist.now l known.now → IsClassFunction netlist.now class
+        → map driven_view system.new.driven.items ≡ map driven_view system.old.driven.items ++ flat_map (placed_driven class) (placed_from l first netlist.now.instances)) }
     ensures inputs { OnOk result (system.new.inputs.items ≡ system.old.inputs.items) }
 {
     let mut base = first;
