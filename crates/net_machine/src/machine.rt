@@ -33,8 +33,8 @@ pub fn signal_ports(alloc: Global, ports: &[Port]) -> Result<Ports, AllocError>
 }
 
 /// The machine of a netlist of a library's cells: its name, its ports but vdd and vss in the order of names, and the port that its
-/// clock pins hang on as clock, where it has clock pins. From contents of the instances, and for every vector, it settles as the
-/// netlist does, with the same outputs and the same next contents.
+/// clock pins hang on as clock, where it has clock pins. From contents that fit the instances, and for every vector, it settles as
+/// the netlist does, with the same outputs and the same next contents.
 ///
 /// - `NoBehaviour`: the cell of an instance is opaque; it names the cell of the first such instance, in the order of instances.
 ///
@@ -50,6 +50,7 @@ pub fn machine_of(
     ensures known { OnOk result (HasBehaviour netlist.now library.now) }
     ensures refused { IfErr result (λ e. IsMachineRefusal netlist.now library.now e) }
 {
+    // Its classes aren't read here: the call says that the netlist is sound.
     let _ = netlist.classes();
     let models = netlist.models();
     let nodes = netlist.nodes();
