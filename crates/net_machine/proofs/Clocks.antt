@@ -1,5 +1,5 @@
 -- The classes of ports, and the port in whose class the clock pins stand.
-use Rattle.std.proofs.Common.{◌≡◌, ◌⊎◌, inl, inr, ℕ, ◌+◌, ◌<◌, ◌≤◌, List, ◌++◌, map, length, Option, None, Some, refl, sym, ap, ◌∙◌, subst, arith, length-append}
+use Rattle.std.proofs.Common.{◌≡◌, ◌⊎◌, inl, inr, ℕ, ◌+◌, ◌<◌, ◌≤◌, List, map, length, None, Some, sym, ap, ◌∙◌, subst, arith, length-append}
 use Rattle.std.specs.Prelude.{slice_index, slice_index_or}
 use Rattle.std.specs.List.{flat_map}
 use Rattle.std.proofs.lemmas.List.{length-map}
@@ -12,7 +12,7 @@ use Rattle.cell_model.specs.Library.{Library, cell_of}
 use Rattle.net_core.specs.declared.frame.Node.{Node}
 use Rattle.net_core.specs.Places.{Stands, IsThere}
 use Rattle.net_core.specs.Frame.{instance_of}
-use Rattle.net_core.specs.Netlist.{Instance, Netlist as InMemory, port, pin_of, pins_of, terminals, IsNetlist, HasClass, IsClassFunction}
+use Rattle.net_core.specs.Netlist.{Instance, Netlist as InMemory, port, pin_of, pins_of, IsNetlist, HasClass, IsClassFunction}
 use Rattle.net_core.proofs.Standing.{Split, left, right, split, stands_left}
 use Rattle.net_core.proofs.Frames.{mapped, unmapped, flat_split, port_terminals}
 use Rattle.net_core.proofs.Rings.{at_place}
@@ -106,6 +106,14 @@ no_clock_more nodes known k d m low is inside known_at_is none before j e o less
       let part : slice_index_or known d.model o ≡ m = get_or_from_slice_get known d.model b.0 o b.1 ∙ sym (get_or_from_slice_get known d.model b.0 m b.1) ∙ sym known_at_is in
       ap (λ (x : Node). (slice_index_or known x.model o).clock) node ∙ ap (λ (x : KnownParts). x.clock) part ∙ none
 
+-- the instance of a node without a clock pin
+node_clock : (n : InMemory) (l : Library) (known : List KnownParts) (nodes : List Node) (k : ℕ) (d : Node) (m : KnownParts) (i : Instance) → AreNodes n nodes → KnowsModels n l known → k < length nodes
+    → d ≡ slice_index_or nodes k d → m ≡ slice_index_or known d.model m → instance_of n.models d ≡ i → (slice_index_or known (slice_index_or nodes k d).model m).clock ≡ None
+    → clock_at (cell_of l i.model) ≡ None
+node_clock n l known nodes k d m i are knows low e f is none =
+    ap (λ (x : Instance). clock_at (cell_of l x.model)) (sym is) ∙ sym (clock_here n l known nodes k d m are knows low e f) ∙ ap (λ (x : KnownParts). x.clock) f
+    ∙ ap (λ (x : Node). (slice_index_or known x.model m).clock) e ∙ none
+
 -- none of the instances has a clock pin
 pub no_clock : (n : InMemory) (l : Library) (known : List KnownParts) (nodes : List Node) (many : ℕ) → AreNodes n nodes → KnowsModels n l known → length nodes ≤ many → NoClockBefore nodes known many
     → (i : Instance) → IsThere n.instances i → clock_at (cell_of l i.model) ≡ None
@@ -117,8 +125,7 @@ no_clock n l known nodes many are knows all none i h =
     let size = known_many n l known knows in
     let b = at_place known u.0.model (omega (arith, inside, size)) in
     let part : slice_index_or known u.0.model b.0 ≡ b.0 = get_or_from_slice_get known u.0.model b.0 b.0 b.1 in
-    ap (λ (x : Instance). clock_at (cell_of l x.model)) (sym u.2) ∙ sym (clock_here n l known nodes h.0 u.0 b.0 are knows low (sym node) (sym part))
-    ∙ ap (λ (x : KnownParts). x.clock) (sym part) ∙ ap (λ (x : Node). (slice_index_or known x.model b.0).clock) (sym node) ∙ none h.0 u.0 b.0 (omega (arith, low, all))
+    node_clock n l known nodes h.0 u.0 b.0 i are knows low (sym {a = slice_index_or nodes h.0 u.0} node) (sym {a = slice_index_or known u.0.model b.0} part) u.2 (none h.0 u.0 b.0 (omega (arith, low, all)))
 
 -- the clock pin of a node, and the port in its class
 pub clock_port : (n : InMemory) (l : Library) (known : List KnownParts) (nodes : List Node) (k : ℕ) (d : Node) (m : KnownParts) (pin name : Name) (class : ℕ) → AreNodes n nodes → KnowsModels n l known

@@ -1,11 +1,11 @@
 -- Names and cells that are looked for in a list.
-use Rattle.std.proofs.Common.{◌≡◌, ℕ, ◌+◌, ◌<◌, ◌≤◌, Bool, true, false, cond, not, filter, map, List, ◌∷◌, length, get_or, drop, Option, None, Some, sym, ap, ◌∙◌, arith}
+use Rattle.std.proofs.Common.{◌≡◌, ℕ, ◌+◌, ◌<◌, ◌≤◌, Bool, true, cond, not, filter, map, List, ◌∷◌, length, get_or, drop, Option, Some, sym, ap, ◌∙◌, arith}
 use Rattle.std.proofs.lemmas.List.{drop_all}
 use Rattle.vlsi_base.specs.declared.name.Name.{Name}
 use Rattle.vlsi_base.specs.declared.name.Port.{Port}
 use Rattle.bool_expr.specs.Expression.{Expression, variable}
 use Rattle.bool_expr.specs.View.{view}
-use Rattle.machine_meaning.specs.Machine.{Machine, Register, Equation, is_input, names_of, inputs, outputs}
+use Rattle.machine_meaning.specs.Machine.{Machine, Register, Equation, is_input, names_of, inputs}
 use Rattle.machine_meaning.specs.declared.equation.Equation.{Equation as EquationParts}
 use Rattle.machine_meaning.specs.declared.equation.Register.{Register as RegisterParts}
 use Rattle.machine_core.specs.View.{equation_view, register_view}
@@ -17,7 +17,7 @@ use Rattle.source_meaning.specs.Formula.{place}
 use Rattle.cell_model.specs.Cell.{Cell}
 use Rattle.cell_model.specs.Library.{cell_named}
 use Rattle.cell_model.proofs.Texts.{text_itself, text_differs}
-use Rattle.net_machine.specs.Body.{Load, Shown, Body, load_view, shown_view, inner_view, body_view}
+use Rattle.net_machine.specs.Body.{Load, Shown, Body, load_view, shown_view, inner_view, body_view, machine_body}
 use Rattle.net_machine.proofs.Turns.{drop_next}
 
 -- ---- the place of a name
@@ -68,14 +68,6 @@ same_body a b reads loads inner shows =
     ∙ ap (λ (ls : List Load). body_from b.reads ls a.inner a.shows) loads
     ∙ ap (λ (es : List Expression). body_from b.reads b.loads es a.shows) inner
     ∙ ap (λ (ss : List Shown). body_from b.reads b.loads b.inner ss) shows
-
-abbrev pub machine_body : Machine → Body
-machine_body m = record {
-  reads = inputs m;
-  loads = map (λ r. record { next = r.next; enable = r.enable }) m.registers;
-  inner = map (λ e. e.expr) m.equations;
-  shows = map (λ o. record { pin = o; expr = variable (place m.vars o) }) (outputs m);
-}
 
 shown_of : List Name → Name → Shown
 shown_of vars o = record { pin = o; expr = variable (place vars o) }

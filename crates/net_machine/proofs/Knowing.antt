@@ -8,7 +8,7 @@ use Rattle.cell_model.specs.Cell.{Function, gate, flip_flop, other, opaque, Cell
 use Rattle.cell_checks.specs.Checked.{library_of}
 use Rattle.cell_model.specs.Library.{Library, cell_of, cell_named}
 use Rattle.net_core.specs.declared.frame.Node.{Node}
-use Rattle.net_core.specs.Places.{Stands, IsThere}
+use Rattle.net_core.specs.Places.{Stands}
 use Rattle.net_core.specs.Frame.{instance_of}
 use Rattle.net_core.specs.Netlist.{Instance, Netlist as InMemory}
 use Rattle.net_core.proofs.Frames.{mapped, unmapped}

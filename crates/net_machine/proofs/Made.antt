@@ -1,6 +1,7 @@
 -- What machines of netlists rest on, from what is known of the netlist and of the library.
 use Rattle.std.proofs.Common.{◌≡◌, ℕ, zero, suc, Bool, true, false, cond, ◌&&◌, List, [], ◌∷◌, Option, None, Some, refl, sym, ap, ◌∙◌, subst, arith}
 use Rattle.vlsi_base.specs.declared.name.Name.{Name}
+use Rattle.vlsi_base.specs.declared.name.Port.{Port}
 use Rattle.vlsi_base.specs.declared.name.Terminal.{Terminal}
 use Rattle.machine_meaning.specs.Named.{is_same_text, is_same_name}
 use Rattle.machine_meaning.specs.Machine.{Machine}
@@ -12,16 +13,15 @@ use Rattle.cell_pins.specs.Table.{IsTableOf}
 use Rattle.net_core.specs.declared.pins.ModelPins.{ModelPins}
 use Rattle.net_core.specs.Places.{Stands, NoneTwice}
 use Rattle.net_core.specs.Netlist.{Netlist as InMemory, IsNetlist, terminals, IsClassFunction}
-use Rattle.net_core.specs.Links.{IsClassOrder}
 use Rattle.net_core.proofs.Finishing.{netlist_terminals_once}
 use Rattle.net_meaning.specs.Netlist.{Netlist}
 use Rattle.net_view.specs.Condition.{MeetsCondition}
 use Rattle.bit_machine.specs.System.{System, system_of, IsSystem, Falls, FitsPorts, IsMachineOfBits}
 use Rattle.bit_machine.specs.declared.system.BitSystem.{BitSystem}
-use Rattle.net_machine.specs.Signals.{signal_ports, IsClockPort, HasBehaviour}
-use Rattle.net_machine.specs.Step.{KeepsStep, IsMachineOfNetlist}
+use Rattle.net_machine.specs.Signals.{signal_ports, IsClockPort, MeetsConditionWith, HasBehaviour}
+use Rattle.net_machine.specs.Step.{KeepsStep, IsMachineWith}
 use Rattle.net_machine.specs.Bits.{net_system}
-use Rattle.net_machine.specs.Gathered.{KnowsModels, AreKnown, HasClockOf, AreBitsOf, IsLonger}
+use Rattle.net_machine.specs.Gathered.{KnowsModels, AreKnown, HasClockOf, AreBitsOf}
 use Rattle.net_machine.specs.declared.known.Known.{Known as KnownParts}
 use Rattle.net_machine.proofs.Cells.{fine, clock_found}
 use Rattle.net_machine.proofs.Scenes.{Scene}
@@ -96,55 +96,69 @@ class_by_is n is = record { each = λ t k h. class_in_is (terminals n) n.classes
 
 -- ---- what is known of the models
 
-pub known_fine : (n : InMemory) (l : Library) (table : List ModelPins) (known : List KnownParts) → IsNetlist n → IsChecked false l → IsTableOf l true table → MeetsCondition table n → KnowsModels n l known → AreKnown n known
-known_fine n l table known net checked table_is condition knows =
-    record { library = l; knows = knows; fine = fine n l table (record { netlist = net; condition = condition; table_is = table_is; checked = checked }) }
+pub all_known : (n : InMemory) (l : Library) (known : List KnownParts) → IsNetlist n → IsChecked false l → MeetsConditionWith l n → KnowsModels n l known → AreKnown n known
+all_known n l known net checked meets knows =
+    record { library = l; knows = knows; fine = fine n l meets.0 (record { netlist = net; condition = meets.2; table_is = meets.1; checked = checked }) }
 
 -- ---- the bits, and their machine
 
-abbrev scene : (n : InMemory) (l : Library) (table : List ModelPins) (clock : Option Name) (class : Terminal → ℕ) (text : List ℕ) → IsNetlist n → IsChecked false l → IsTableOf l true table → MeetsCondition table n → HasBehaviour n l → HasClockOf n l clock
-    → IsClassFunction n class → IsLonger n.ports text → Scene
-scene n l table clock class text net checked table_is condition known clock_is classes longer = record {
+-- what is known once a netlist's bits are gathered
+pub record Gathered (n : InMemory) (l : Library) (clock : Option Name) (b : BitSystem) : Type 0 where
+  pub net : IsNetlist n
+  pub checked : IsChecked false l
+  pub meets : MeetsConditionWith l n
+  pub known : HasBehaviour n l
+  pub clock_is : HasClockOf n l clock
+  pub bits : AreBitsOf n l clock b
+
+-- with this table, and with these classes
+abbrev scene : (n : InMemory) (l : Library) (clock : Option Name) (b : BitSystem) → Gathered n l clock b → (table : List ModelPins) → IsTableOf l true table → MeetsCondition table n
+    → (class : Terminal → ℕ) → IsClassFunction n class → Scene
+scene n l clock b g table table_is condition class classes = record {
   n = n;
   l = l;
   table = table;
   class = class;
   clock = clock;
-  text = text;
-  ground = record { netlist = net; condition = condition; table_is = table_is; checked = checked };
+  text = g.bits.text;
+  ground = record { netlist = g.net; condition = condition; table_is = table_is; checked = g.checked };
   classes = classes;
-  known = known;
-  clock_is = clock_is;
-  longer = longer;
+  known = g.known;
+  clock_is = g.clock_is;
+  longer = g.bits.longer;
 }
 
-module _ (n : InMemory) (l : Library) (table : List ModelPins) (clock : Option Name) (b : BitSystem) (net : IsNetlist n) (checked : IsChecked false l) (table_is : IsTableOf l true table) (condition : MeetsCondition table n)
-    (known : HasBehaviour n l) (clock_is : HasClockOf n l clock) (bits : AreBitsOf n l clock b) where
+module _ (n : InMemory) (l : Library) (clock : Option Name) (b : BitSystem) (g : Gathered n l clock b) where
   abbrev this : Scene
-  this = scene n l table clock (class_by n) bits.text net checked table_is condition known clock_is (class_by_is n net) bits.longer
+  this = scene n l clock b g g.meets.0 g.meets.1 g.meets.2 (class_by n) (class_by_is n g.net)
 
-  same : system_of b ≡ net_system bits.text (class_by n) n l clock
-  same = bits.is (class_by n) (class_by_is n net)
+  same : system_of b ≡ net_system g.bits.text (class_by n) n l clock
+  same = g.bits.is (class_by n) (class_by_is n g.net)
 
   pub system_is : IsSystem (system_of b)
   system_is = subst IsSystem (sym same) (is_system this)
 
-  pub system_falls_always : Falls (system_of b).driven
-  system_falls_always = subst (λ (s : System). Falls s.driven) (sym same) (falls this (class_ranks this))
+  pub system_falls : Falls (system_of b).driven
+  system_falls = subst (λ (s : System). Falls s.driven) (sym same) (falls this (class_ranks this))
 
-  pub system_falls : (order : List ℕ) → IsClassOrder table n order → Falls (system_of b).driven
-  system_falls order h = system_falls_always
+  pub system_fits : (ports : List Port) → ports ≡ signal_ports n.ports → FitsPorts ports clock (system_of b)
+  system_fits ports e =
+      subst (λ (ps : List Port). FitsPorts ps clock (system_of b)) (sym e)
+      (subst (λ (s : System). FitsPorts (signal_ports n.ports) clock s) (sym same) (fits_ports this))
 
-  pub system_fits : FitsPorts (signal_ports n.ports) clock (system_of b)
-  system_fits = subst (λ (s : System). FitsPorts (signal_ports n.ports) clock s) (sym same) (fits_ports this)
-
-  pub machine_is : (m : Machine) → IsMachineOfBits n.name (signal_ports n.ports) clock (system_of b) m → IsMachineOfNetlist n l table m
-  machine_is m is = record {
+  machine_is : (m : Machine) → IsMachineOfBits n.name (signal_ports n.ports) clock (system_of b) m → IsMachineWith n l m
+  machine_is m is table table_is condition = record {
     name = is.text;
     ports = is.ports_are;
-    clock = subst (IsClockPort table n) (sym is.clock_is) (clock_found n l table (record { netlist = net; condition = condition; table_is = table_is; checked = checked }) clock clock_is);
+    clock = subst (IsClockPort table n) (sym is.clock_is) (clock_found n l table (record { netlist = g.net; condition = condition; table_is = table_is; checked = g.checked }) clock g.clock_is);
     step = λ k seen.
-        let one = scene n l table clock k.class bits.text net checked table_is condition known clock_is seen.classes bits.longer in
         subst (λ (x : Netlist). KeepsStep x l m) (sym seen.is)
-        (keeps_step one n.name m (subst (λ (s : System). IsMachineOfBits n.name (signal_ports n.ports) clock s m) (bits.is k.class seen.classes) is));
+        (keeps_step (scene n l clock b g table table_is condition k.class seen.classes) n.name m
+        (subst (λ (s : System). IsMachineOfBits n.name (signal_ports n.ports) clock s m) (g.bits.is k.class seen.classes) is));
   }
+
+  pub machine_made : (name : List ℕ) (ports : List Port) (m : Machine) → name ≡ n.name → ports ≡ signal_ports n.ports → IsMachineOfBits name ports clock (system_of b) m → IsMachineWith n l m
+  machine_made name ports m e f is =
+      machine_is m
+      (subst (λ (t : List ℕ). IsMachineOfBits t (signal_ports n.ports) clock (system_of b) m) e
+      (subst (λ (ps : List Port). IsMachineOfBits name ps clock (system_of b) m) f is))

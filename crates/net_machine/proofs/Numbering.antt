@@ -1,5 +1,5 @@
 -- The numbers of a body's bits, and the classes of its output pins.
-use Rattle.std.proofs.Common.{◌≡◌, ℕ, ◌+◌, ◌-◌, ◌<◌, ◌≤◌, List, [], ◌∷◌, ◌++◌, map, length, get_or, drop, refl, sym, ap, ◌∙◌, subst, arith, append-nil, length-append}
+use Rattle.std.proofs.Common.{◌≡◌, ℕ, ◌+◌, ◌-◌, ◌<◌, ◌≤◌, List, [], ◌∷◌, ◌++◌, map, length, get_or, drop, sym, ap, ◌∙◌, subst, arith, append-nil, length-append}
 use Rattle.std.proofs.lemmas.List.{map-append, drop_all}
 use Rattle.std.specs.List.{All}
 use Rattle.vlsi_base.specs.declared.name.Name.{Name}
@@ -12,7 +12,7 @@ use Rattle.source_bits.specs.declared.driven.DrivenBit.{DrivenBit}
 use Rattle.source_bits.specs.Driven.{Numbered, driven_view}
 use Rattle.net_core.specs.Netlist.{Netlist as InMemory, pin_of, HasClass, IsClassFunction}
 use Rattle.net_machine.specs.declared.body.Shown.{Shown as ShownParts}
-use Rattle.net_machine.specs.Body.{Body, Shown, shown_view, width}
+use Rattle.net_machine.specs.Body.{Body, shown_view, width}
 use Rattle.net_machine.specs.Bits.{numbers, shown_from}
 use Rattle.net_machine.proofs.Turns.{drop_next, piece_turn, map_turn, map_ended, rising_less}
 

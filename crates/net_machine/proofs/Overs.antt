@@ -1,5 +1,5 @@
 -- The expressions of a body in memory are over its bits.
-use Rattle.std.proofs.Common.{◌≡◌, ℕ, ◌<◌, List, map, length, sym, subst, arith}
+use Rattle.std.proofs.Common.{◌≡◌, ℕ, List, map, sym, subst, arith}
 use Rattle.std.specs.List.{All}
 use Rattle.std.proofs.lemmas.List.{length-map, get_or-map}
 use Rattle.bool_expr.specs.declared.expr.Expr.{Expr}

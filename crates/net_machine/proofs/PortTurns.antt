@@ -1,14 +1,14 @@
 -- One port more.
-use Rattle.std.proofs.Common.{◌≡◌, ℕ, ◌+◌, ◌<◌, List, [], ◌∷◌, ◌++◌, map, length, get_or, drop, Option, refl, sym, ap, ◌∙◌, arith}
+use Rattle.std.proofs.Common.{◌≡◌, ℕ, ◌+◌, ◌<◌, List, [], ◌∷◌, ◌++◌, length, get_or, drop, Option, refl, sym, ap, ◌∙◌, arith}
 use Rattle.vlsi_base.specs.declared.name.Name.{Name}
 use Rattle.vlsi_base.specs.declared.name.Port.{Port}
 use Rattle.vlsi_base.specs.declared.name.Dir.{Dir}
 use Rattle.vlsi_base.specs.declared.name.Dir.TheVariants as dir
 use Rattle.vlsi_base.specs.declared.name.Terminal.{Terminal}
 use Rattle.source_bits.specs.Driven.{Numbered}
-use Rattle.bool_expr.specs.Expression.{constant, variable}
+use Rattle.bool_expr.specs.Expression.{variable}
 use Rattle.net_core.specs.Netlist.{port}
-use Rattle.net_machine.specs.Bits.{is_signal, fixed_bit, own_of, port_driven, class_of_port, classes_driven}
+use Rattle.net_machine.specs.Bits.{own_of, port_driven, class_of_port, classes_driven}
 use Rattle.net_machine.proofs.Turns.{drop_next, piece_turn}
 
 -- what a port's bit has the value of depends on its own class alone

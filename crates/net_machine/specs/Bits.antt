@@ -106,15 +106,17 @@ placed_stored class p = body_stored class p.name (body_at p.cell) p.base
 abbrev pub placed_driven : (Terminal → ℕ) → Placed → List Numbered
 placed_driven class p = body_driven class p.name (body_at p.cell) p.base
 
+-- those of instances, where the first has its bits from this number on
+
+abbrev pub instances_stored : Library → (Terminal → ℕ) → ℕ → List Instance → List NumberedStorage
+instances_stored l class base is = flat_map (placed_stored class) (placed_from l base is)
+
+abbrev pub instances_driven : Library → (Terminal → ℕ) → ℕ → List Instance → List Numbered
+instances_driven l class base is = flat_map (placed_driven class) (placed_from l base is)
+
 -- the number of the first bit of the first instance
 abbrev pub first_base : InMemory → ℕ
 first_base n = n.count + length n.ports
-
-abbrev pub placed : InMemory → Library → List Placed
-placed n l = placed_from l (first_base n) n.instances
-
-abbrev pub total_bits : InMemory → Library → ℕ
-total_bits n l = first_base n + widths l n.instances
 
 -- All bits of a netlist, where `class` gives the class of each terminal, and no port has `text`.
 abbrev pub net_system : List ℕ → (Terminal → ℕ) → InMemory → Library → Option Name → System
@@ -122,6 +124,6 @@ net_system text class n l clock = record {
   names = map (own_name text) (rising 0 n.count)
       ++ (port_names text clock n.count n.ports ++ map (own_name text) (rising (first_base n) (widths l n.instances)));
   inputs = port_inputs clock n.count n.ports;
-  stored = flat_map (placed_stored class) (placed n l);
-  driven = port_driven class clock n.count n.ports ++ (classes_driven class n.count n.ports ++ flat_map (placed_driven class) (placed n l));
+  stored = instances_stored l class (first_base n) n.instances;
+  driven = port_driven class clock n.count n.ports ++ (classes_driven class n.count n.ports ++ instances_driven l class (first_base n) n.instances);
 }

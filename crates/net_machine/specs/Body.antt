@@ -3,7 +3,7 @@ use Rattle.std.specs.Prelude.{ℕ, ◌+◌, true, List, [], ◌∷◌, map, leng
 use Rattle.vlsi_base.specs.declared.name.Name.{Name}
 use Rattle.bool_expr.specs.Expression.{Expression, constant, variable}
 use Rattle.bool_expr.specs.View.{view}
-use Rattle.machine_meaning.specs.Machine.{inputs, outputs}
+use Rattle.machine_meaning.specs.Machine.{Machine, inputs, outputs}
 use Rattle.source_meaning.specs.Formula.{place}
 use Rattle.cell_model.specs.Cell.{Function, gate, flip_flop, other, opaque, Cell, cell_inputs, cell_outputs}
 use Rattle.net_machine.specs.declared.body.Load.{Load as LoadParts}
@@ -31,20 +31,31 @@ pub record Body : Type 0 where
 abbrev pub no_body : Body
 no_body = record { reads = []; loads = []; inner = []; shows = [] }
 
-abbrev pub body_of : Cell → Function → Body
-body_of c (gate e) = record { reads = cell_inputs c; loads = []; inner = []; shows = map (λ o. record { pin = o; expr = e }) (cell_outputs c) }
-body_of c (flip_flop data_pin clock_pin) = record {
+-- what gates, plain flip-flops and other machines do
+
+abbrev pub gate_body : Cell → Expression → Body
+gate_body c e = record { reads = cell_inputs c; loads = []; inner = []; shows = map (λ o. record { pin = o; expr = e }) (cell_outputs c) }
+
+abbrev pub flip_flop_body : Cell → Name → Body
+flip_flop_body c data_pin = record {
   reads = data_pin ∷ [];
   loads = record { next = variable 0; enable = constant true } ∷ [];
   inner = [];
   shows = map (λ o. record { pin = o; expr = variable 1 }) (cell_outputs c);
 }
-body_of c (other m) = record {
+
+abbrev pub machine_body : Machine → Body
+machine_body m = record {
   reads = inputs m;
   loads = map (λ r. record { next = r.next; enable = r.enable }) m.registers;
   inner = map (λ e. e.expr) m.equations;
   shows = map (λ o. record { pin = o; expr = variable (place m.vars o) }) (outputs m);
 }
+
+abbrev pub body_of : Cell → Function → Body
+body_of c (gate e) = gate_body c e
+body_of c (flip_flop data_pin clock_pin) = flip_flop_body c data_pin
+body_of c (other m) = machine_body m
 body_of c opaque = no_body
 
 abbrev pub body_at : Option Cell → Body

@@ -1,17 +1,15 @@
 // The bits of a netlist.
 ghost use Rattle.std.specs.Prelude.{◌≡◌, ◌<◌, ◌≤◌, ◌+◌, ◌^◌, ◌++◌, [], ℕ, map, length, IfOk, OnOk};
 ghost use Rattle.std.specs.Option.{option_copied};
-ghost use Rattle.std.specs.List.{All, flat_map};
+ghost use Rattle.std.specs.List.{All};
 ghost use Rattle.vlsi_base.specs.Range.{rising};
-ghost use Rattle.vlsi_base.specs.Name.{is_supply};
 ghost use Rattle.bool_expr.specs.Expression.{IsOver};
 ghost use Rattle.bool_expr.specs.View.{view};
 ghost use Rattle.source_bits.specs.Driven.{driven_view, stored_view};
 ghost use Rattle.net_core.specs.Places.{IsThere};
-ghost use Rattle.net_core.specs.Netlist.{IsNetlist, pin_of, terminals};
-ghost use Rattle.bit_machine.specs.System.{system_of};
+ghost use Rattle.net_core.specs.Netlist.{pin_of, terminals};
 ghost use Rattle.net_machine.specs.Body.{load_view, shown_view, body_view, width};
-ghost use Rattle.net_machine.specs.Bits.{own_name, is_signal, fixed_bit, port_names, port_inputs, own_of, port_driven, classes_driven, numbers, stored_from, inner_from, shown_from, body_stored, body_driven, placed_from, placed_stored, placed_driven, widths, first_base};
+ghost use Rattle.net_machine.specs.Bits.{own_name, is_signal, fixed_bit, port_names, port_inputs, own_of, port_driven, classes_driven, numbers, stored_from, inner_from, shown_from, body_stored, body_driven, instances_stored, instances_driven, widths, first_base};
 ghost use Rattle.net_machine.specs.Gathered.{bits_count, HasPins, IsBodyOver, IsLonger, Gathers, ForClasses, ForKnown, AreKnown, AreBitsOf};
 
 use crate::body::{Body, Load, Shown};
@@ -22,7 +20,6 @@ use bool_expr::{Expr, renumbered};
 use net_core::Netlist;
 use std::alloc::{AllocError, Global};
 use vlsi_base::{Dir, Name, Names, Port, Text, is_supply};
-use vlsi_model::few;
 
 /// A text that is longer than that of each port, and than those of the supplies.
 fn own_text(alloc: Global, ports: &[Port]) -> Result<Text, AllocError>
@@ -351,9 +348,9 @@ fn push_instances(
     requires { AreKnown netlist.now known.now }
     ensures end { IfOk result (λ end. ForKnown netlist.now known.now (λ l. end ≡ first + widths l netlist.now.instances)) }
     ensures stored { OnOk result (ForKnown netlist.now known.now (λ l. ForClasses netlist.now (λ class. map stored_view system.new.stored.items
-        ≡ map stored_view system.old.stored.items ++ flat_map (placed_stored class) (placed_from l first netlist.now.instances)))) }
+        ≡ map stored_view system.old.stored.items ++ instances_stored l class first netlist.now.instances))) }
     ensures driven { OnOk result (ForKnown netlist.now known.now (λ l. ForClasses netlist.now (λ class. map driven_view system.new.driven.items
-        ≡ map driven_view system.old.driven.items ++ flat_map (placed_driven class) (placed_from l first netlist.now.instances)))) }
+        ≡ map driven_view system.old.driven.items ++ instances_driven l class first netlist.now.instances))) }
     ensures inputs { OnOk result (system.new.inputs.items ≡ system.old.inputs.items) }
 {
     let mut base = first;

@@ -1,13 +1,10 @@
 // What a cell does, over bits of its own.
-ghost use Rattle.std.specs.Prelude.{◌≡◌, ◌≤◌, not, map, filter, length, IfOk, true, ◌∷◌, []};
+ghost use Rattle.std.specs.Prelude.{◌≡◌, ◌≤◌, not, map, filter, length, IfOk};
 ghost use Rattle.bool_expr.specs.View.{view};
-ghost use Rattle.bool_expr.specs.Expression.{variable, constant};
-ghost use Rattle.machine_core.specs.View.{equation_view, register_view};
+ghost use Rattle.bool_expr.specs.Expression.{variable};
 ghost use Rattle.machine_meaning.specs.Machine.{is_input, names_of, inputs, outputs};
 ghost use Rattle.source_meaning.specs.Formula.{place};
-ghost use Rattle.cell_model.specs.Cell.{cell_inputs, cell_outputs};
-ghost use Rattle.cell_model.specs.View.{function_view};
-ghost use Rattle.net_machine.specs.Body.{load_view, shown_view, inner_view, body_view, no_body, body_of};
+ghost use Rattle.net_machine.specs.Body.{load_view, shown_view, body_view, no_body, gate_body, flip_flop_body, machine_body, body_of};
 
 use bool_expr::{Expr, copy};
 use cell_model::{Cell, Function, Pin};
@@ -70,12 +67,7 @@ fn shown_pins(alloc: Global, pins: &[Pin], expr: &Expr) -> Result<Vec<Shown>, Al
 }
 
 fn gate_body(alloc: Global, cell: &Cell, expr: &Expr) -> Result<Body, AllocError>
-    ensures { IfOk result (λ b. body_view b ≡ record {
-      reads = cell_inputs cell.now;
-      loads = [];
-      inner = [];
-      shows = map (λ o. record { pin = o; expr = view expr.now }) (cell_outputs cell.now);
-    }) }
+    ensures { IfOk result (λ b. body_view b ≡ gate_body cell.now (view expr.now)) }
 {
     let reads = input_pins(alloc, cell.pins.as_slice())?;
     let shows = shown_pins(alloc, cell.pins.as_slice(), expr)?;
@@ -88,12 +80,7 @@ fn gate_body(alloc: Global, cell: &Cell, expr: &Expr) -> Result<Body, AllocError
 }
 
 fn flip_flop_body(alloc: Global, cell: &Cell, data: &Name) -> Result<Body, AllocError>
-    ensures { IfOk result (λ b. body_view b ≡ record {
-      reads = data.now ∷ [];
-      loads = record { next = variable 0; enable = constant true } ∷ [];
-      inner = [];
-      shows = map (λ o. record { pin = o; expr = variable 1 }) (cell_outputs cell.now);
-    }) }
+    ensures { IfOk result (λ b. body_view b ≡ flip_flop_body cell.now data.now) }
 {
     let mut reads = Vec::new(alloc);
     reads.push(data.copy(alloc)?)?;
@@ -186,12 +173,7 @@ fn machine_outputs(alloc: Global, vars: &[Name], ports: &[Port]) -> Result<Vec<S
 }
 
 fn machine_body(alloc: Global, machine: &Machine) -> Result<Body, AllocError>
-    ensures { IfOk result (λ b. body_view b ≡ record {
-      reads = inputs machine.now;
-      loads = map (λ r. record { next = r.next; enable = r.enable }) machine.now.registers;
-      inner = map (λ e. e.expr) machine.now.equations;
-      shows = map (λ o. record { pin = o; expr = variable (place machine.now.vars o) }) (outputs machine.now);
-    }) }
+    ensures { IfOk result (λ b. body_view b ≡ machine_body machine.now) }
 {
     let reads = machine_inputs(alloc, machine)?;
     let loads = register_loads(alloc, machine.registers().as_slice())?;

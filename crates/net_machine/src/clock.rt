@@ -1,7 +1,6 @@
 // The classes of pins, and the clock of a netlist.
-ghost use Rattle.std.specs.Prelude.{◌<◌, length, IfOk};
+ghost use Rattle.std.specs.Prelude.{IfOk};
 ghost use Rattle.std.specs.Option.{option_copied};
-ghost use Rattle.std.specs.List.{All};
 ghost use Rattle.net_core.specs.Places.{IsThere};
 ghost use Rattle.net_core.specs.Netlist.{pin_of, terminals, HasClass};
 ghost use Rattle.net_machine.specs.Gathered.{IsPortIn, AreKnown, ForKnown, HasClockOf};

@@ -1,9 +1,8 @@
 // What is known of the models that a netlist's instances can have.
-ghost use Rattle.std.specs.Prelude.{◌≡◌, ◌<◌, map, length, slice_index_or, IfOk, IfSome, IfNone};
+ghost use Rattle.std.specs.Prelude.{◌≡◌, ◌<◌, map, length, IfOk, IfSome, IfNone};
 ghost use Rattle.std.specs.Option.{option_copied};
 ghost use Rattle.std.specs.List.{All};
 ghost use Rattle.cell_model.specs.Library.{cell_named};
-ghost use Rattle.net_machine.specs.Body.{body_view, body_of};
 ghost use Rattle.net_machine.specs.Known.{clock_pin, is_opaque, known_view, known_at, IsFirstUnknown, HasNoUnknown};
 
 use crate::body::{Body, body_of, no_body};

@@ -1,20 +1,19 @@
 // A netlist of cells as a machine.
-ghost use Rattle.std.specs.Prelude.{◌≡◌, None, IfOk, IfErr, OnOk};
+ghost use Rattle.std.specs.Prelude.{◌≡◌, IfOk, IfErr, OnOk};
 ghost use Rattle.net_machine.specs.Signals.{signal_ports, MeetsConditionWith, HasBehaviour};
 ghost use Rattle.net_machine.specs.Step.{IsMachineWith};
 ghost use Rattle.net_machine.specs.Answers.{IsMachineRefusal};
-ghost use Rattle.net_machine.specs.Gathered.{AreKnown, KnowsModels, HasClockOf, AreBitsOf};
 
 use crate::bits::gather;
 use crate::clock::clock_port;
 use crate::error::NetMachineError;
-use crate::known::{Known, first_unknown, known_models};
+use crate::known::{first_unknown, known_models};
 use bit_machine::machine_of_bits;
 use cell_checks::Library;
 use machine_core::Machine;
 use net_core::Netlist;
 use std::alloc::{AllocError, Global};
-use vlsi_base::{Name, Port, Ports, is_supply};
+use vlsi_base::{Port, Ports, is_supply};
 
 /// The ports but vdd and vss, in their order. Takes memory for their names.
 pub fn signal_ports(alloc: Global, ports: &[Port]) -> Result<Ports, AllocError>
@@ -34,8 +33,8 @@ pub fn signal_ports(alloc: Global, ports: &[Port]) -> Result<Ports, AllocError>
 }
 
 /// The machine of a netlist of a library's cells: its name, its ports but vdd and vss in the order of names, and the port that its
-/// clock pins hang on as clock, where it has clock pins. From contents of the instances, and for every vector, it settles as the
-/// netlist does, with the same outputs and the same next contents.
+/// clock pins hang on as clock, where it has clock pins. From contents that fit the instances, and for every vector, it settles as
+/// the netlist does, with the same outputs and the same next contents.
 ///
 /// - `NoBehaviour`: the cell of an instance is opaque; it names the cell of the first such instance, in the order of instances.
 ///
@@ -51,6 +50,7 @@ pub fn machine_of(
     ensures known { OnOk result (HasBehaviour netlist.now library.now) }
     ensures refused { IfErr result (λ e. IsMachineRefusal netlist.now library.now e) }
 {
+    // Its classes aren't read here: the call says that the netlist is sound.
     let _ = netlist.classes();
     let models = netlist.models();
     let nodes = netlist.nodes();
