@@ -1,8 +1,7 @@
 -- A machine that is read and small enough can be numbered and mapped, and one that is too large is told so.
-use Rattle.std.proofs.Common.{◌≡◌, ℕ, ◌+◌, ◌-◌, ◌^◌, ◌<◌, ◌≤◌, min, Bool, not, List, length, refl, ap, arith}
+use Rattle.std.proofs.Common.{ℕ, ◌+◌, ◌≤◌, Bool, not, List, length, refl, arith}
 use Rattle.std.proofs.lemmas.List.Sorted.{length_permutation}
 use Rattle.std.proofs.lemmas.List.Filters.{length-filter_both}
-use Rattle.vlsi_base.specs.declared.fault.LimitKind.TheVariants.{Size}
 use Rattle.machine_meaning.specs.Machine.{Machine}
 use Rattle.machine_meaning.specs.Size.{machine_size}
 use Rattle.source_meaning.specs.Symbols.{symbols}
@@ -17,8 +16,7 @@ use Rattle.net_view.specs.Right.{IsRightNetlist}
 use Rattle.net_view.specs.Condition.{MeetsConditionIn}
 use Rattle.boog_map.specs.Netlist.{HasRoomForCells, Covers, UsesFirstCells, StandsInOrder, HasOneCellEach, IsLeanFor}
 use Rattle.boog_map.proofs.Rooms.{few_inputs, few_nodes}
-use Rattle.tool_drive.specs.declared.status.Status.TheVariants as status
-use Rattle.boog_run.specs.Boog.{IsNetlistFor, IsNoNetlist, too_large}
+use Rattle.boog_run.specs.Boog.{IsNetlistFor}
 use Rattle.boog_run.specs.declared.netlist.TheConstants.{MOST_SIZE}
 
 pub few_ports : (bytes : List ℕ) (m : Machine) → IsVbe bytes m → length m.ports ≤ most_ports
@@ -32,13 +30,6 @@ numberable m ports small = let a = few_inputs m in omega (arith, a, ports, small
 
 pub has_room : (m : Machine) → length m.ports ≤ most_ports → machine_size m ≤ MOST_SIZE → HasRoomForCells m
 has_room m ports small = omega (arith, ports, small)
-
-pub is_small : (m : Machine) (size : ℕ) → size ≡ min (machine_size m) (2 ^ 64 - 1) → size ≤ MOST_SIZE → machine_size m ≤ MOST_SIZE
-is_small m size is low = omega (arith, is, low)
-
-pub is_large : (l : Library) (m : Machine) (size : ℕ) → size ≡ min (machine_size m) (2 ^ 64 - 1) → MOST_SIZE < size
-    → IsNoNetlist l m (status.Limit (record { which = Size; reached = size }))
-is_large l m size is high = too_large (omega (arith, is, high)) (ap (λ (k : ℕ). status.Limit (record { which = Size; reached = k })) is)
 
 -- a cell for each register and for each node that is reached
 pub few_cells : (n : Netlist) (m : Machine) (g : Graph) → IsSubjectGraph m g → HasOneCellEach n m g → length n.instances ≤ length m.registers + (machine_size m + 2)

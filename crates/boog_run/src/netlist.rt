@@ -1,9 +1,9 @@
 // The netlist of a machine, and what is written and printed of it.
-ghost use Rattle.std.specs.Prelude.{◌≡◌, ◌≤◌, Some, IfOk, OnOk, IfErr, length};
+ghost use Rattle.std.specs.Prelude.{◌≡◌, ◌<◌, ◌≤◌, Some, IfOk, OnOk, IfErr, length};
 ghost use Rattle.machine_meaning.specs.Size.{machine_size as size_of};
 ghost use Rattle.source_meaning.specs.Checks.{most_ports};
 ghost use Rattle.tool_drive.specs.Refusals.{MemoryOr};
-ghost use Rattle.boog_run.specs.Boog.{IsNetlistFor, IsNoNetlist, IsWritable, IsWrittenAs, report as report_of};
+ghost use Rattle.boog_run.specs.Boog.{IsNetlistFor, IsNoNetlist, size_limit, IsWritable, IsWrittenAs, report as report_of};
 
 use boog_map::{MapError, map};
 use cell_checks::Library;
@@ -20,6 +20,21 @@ use vst_write::{WriteError, write_vst};
 /// The most that a source may weigh: the size of its machine.
 pub const MOST_SIZE: u64 = 16_384;
 
+// Whether the machine is small enough, or how it is told that it isn't.
+fn check_size(machine: &Machine) -> Result<(), Status>
+    ensures small { OnOk result (size_of machine.now ≤ MOST_SIZE) }
+    ensures large { IfErr result (λ s. (MOST_SIZE < size_of machine.now) × (s ≡ size_limit machine.now)) }
+{
+    let size = machine_size(machine);
+    if size > MOST_SIZE {
+        return Err(Status::Limit(Limit {
+            which: LimitKind::Size,
+            reached: size,
+        }));
+    }
+    Ok(())
+}
+
 /// A netlist of the library's cells for the machine, or the status that tells why there is none.
 pub(crate) fn netlist_of(
     alloc: Global,
@@ -34,13 +49,7 @@ pub(crate) fn netlist_of(
     right_meets_condition();
     let _ = machine.name();
     let _ = library.cells();
-    let size = machine_size(machine);
-    if size > MOST_SIZE {
-        return Err(Status::Limit(Limit {
-            which: LimitKind::Size,
-            reached: size,
-        }));
-    }
+    check_size(machine)?;
     let Ok(graph) = Graph::of_machine(alloc, machine) else {
         return Err(Status::Memory);
     };

@@ -1,16 +1,13 @@
-use Rattle.std.proofs.Common.{refl, sym, ◌∙◌, ap, subst, arith}
+use Rattle.std.proofs.Common.{refl, sym, ◌∙◌, ap, subst}
 use Rattle.boog_map.specs.Netlist.{IsMapRefusal}
 use Rattle.boog_map.specs.declared.error.MapError.{MapError}
 use Rattle.boog_map.specs.declared.error.MapError.TheVariants as error
 use Rattle.boog_run.specs.Boog.{no_cover}
-use Rattle.boog_run.proofs.Sizes.{is_small, numberable, netlist_for}
+use Rattle.boog_run.proofs.Sizes.{numberable, netlist_for}
 use Rattle.boog_run.proofs.netlist.netlist_of.Goals as goal
 
 pub of_machine-requires : goal.of_machine-requires
-of_machine-requires c =
-    let low = c.if-size-gt-MOST_SIZE.false in
-    let small = is_small c.args.machine.now c.machine_size-size.result c.machine_size-size.ensures (omega (arith, low)) in
-    numberable c.args.machine.now c.requires small
+of_machine-requires c = numberable c.args.machine.now c.requires c.in_ok-check_size.ensures.small
 
 pub returns-in-Ok-map-clause-right : goal.returns-in-Ok-map-clause-right
 returns-in-Ok-map-clause-right c =
@@ -21,8 +18,6 @@ returns-in-Ok-map-clause-right c =
 
 pub returns-clause-refused : goal.returns-clause-refused
 returns-clause-refused c =
-    let low = c.if-size-gt-MOST_SIZE.false in
-    let small = is_small c.args.machine.now c.machine_size-size.result c.machine_size-size.ensures (omega (arith, low)) in
     let missing =
     subst (λ (e : MapError). IsMapRefusal c.args.library.now c.args.machine.now e) (c.in-Err-NoCover.field-0-is ∙ ap error.NoCover (sym c.in-Err-NoCover.kind-is)) c.in-Err-NoCover.ensures.refused in
-    no_cover small c.in-Err-NoCover.kind missing refl
+    no_cover c.in_ok-check_size.ensures.small c.in-Err-NoCover.kind missing refl
