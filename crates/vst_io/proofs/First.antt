@@ -128,3 +128,38 @@ filter_few p (x ∷ xs) = by (p x) (filter_few p xs) where
   by : (b : Bool) → length (filter p xs) ≤ length xs → length (cond b (x ∷ filter p xs) (filter p xs)) ≤ length (x ∷ xs)
   by true h = omega (arith, h)
   by false h = omega (arith, h)
+
+-- ---- a text without a fault
+
+line_nothing : (k : FaultKind) (xs : List ℕ) (later : Option ReadError) → if_line k xs later ≡ None → (xs ≡ []) × (later ≡ None)
+line_nothing k [] later e = (refl, e)
+line_nothing k (x ∷ xs) later e = absurd cc
+
+unlisted_nothing : (o : Option Component) (later : Option ReadError) → if_unlisted o later ≡ None → (o ≡ None) × (later ≡ None)
+unlisted_nothing None later e = (refl, e)
+unlisted_nothing (Some c) later e = absurd cc
+
+many_nothing : (n : ℕ) (later : Option ReadError) → if_many n later ≡ None → (n < 2 ^ 32) × (later ≡ None)
+many_nothing n later e = by (nat_lt n (2 ^ 32)) refl e where
+  by : (b : Bool) → nat_lt n (2 ^ 32) ≡ b → cond b later (Some (too_many n)) ≡ None → (n < 2 ^ 32) × (later ≡ None)
+  by true is e = (grind (arith, nat_tests), e)
+  by false is e = absurd cc
+
+symbol_nothing : (o : Option Symbol) (later : Option ReadError) → if_symbol o later ≡ None → o ≡ None
+symbol_nothing None later e = refl
+symbol_nothing (Some s) later e = absurd cc
+
+-- it has passed the checks before its netlist is made
+pub faultless : (table : List ModelPins) (f : StructuralFile) → first_fault table f ≡ None → IsChecked table f
+faultless table f e =
+    let w = line_nothing kind.Width (all_widths f) (at_forms table f) e in
+    let x = line_nothing kind.Unsupported (all_forms f) (at_components table f) w.1 in
+    let u = unlisted_nothing (first_unlisted table (components f.declarations)) (at_maps table f) x.1 in
+    let m = line_nothing kind.BadMap (bad_maps table f) (at_count table f) u.1 in
+    let n = many_nothing (terminal_count table f) (at_nets f) m.1 in
+    record {
+      declared = record { widths = w.0; forms = x.0; listed = u.0 };
+      maps = m.0;
+      few = n.0;
+      once = symbol_nothing (first_repeated [] (nets f)) (at_labels f) n.1;
+    }
