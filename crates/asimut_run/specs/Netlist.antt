@@ -1,5 +1,5 @@
 -- What `asimut` on a netlist reads and answers.
-use Rattle.std.specs.Prelude.{◌≡◌, ℕ, List, [], ◌∷◌, get_or, None, Result, Ok, Err}
+use Rattle.std.specs.Prelude.{◌≡◌, ℕ, true, false, List, [], ◌∷◌, get_or, None, Result, Ok, Err}
 use Rattle.vlsi_base.specs.declared.limits.TheConstants.{MOST_NETLIST_BYTES}
 use Rattle.vlsi_base.specs.declared.name.Name.{Name}
 use Rattle.catal.specs.Cells.{cells_in}

@@ -27,7 +27,7 @@ use Rattle.vst_text.specs.declared.file.Declaration.TheVariants as declares
 use Rattle.vst_text.specs.declared.file.Association.{Association}
 use Rattle.vst_text.specs.declared.file.InstanceStatement.{InstanceStatement}
 use Rattle.vst_text.specs.Vst.{among_components, among_instances, bare_name, another_bare, led_bare, own_bare, component_port, next_component_port, component_ports, component, signal, declaration, index, pin, association, next_association, port_map, instance_statement, instance_statements, architecture, structure}
-use Rattle.vst_text.specs.VstReading.{bare_name_at, another_bare_at, led_bare_at, own_bare_at, bare_names_at, component_port_at, next_component_port_at, opened_ports_at, component_ports_at, component_end_at, component_behind_at, component_at, signal_at, declared_component_at, declared_signals_at, declaration_at, declaration_list_at, opened_index_at, index_at, pin_at, association_at, next_association_at, associations_at, port_map_at, instance_statement_at, instance_list_at, instance_statements_at, architecture_at, structure_at}
+use Rattle.vst_text.specs.VstReading.{bare_name_at, another_bare_at, led_bare_at, own_bare_at, bare_names_at, component_port_at, next_component_port_at, opened_ports_at, component_ports_at, component_end_at, component_behind_at, component_at, signal_at, new_component_at, declared_signals_at, declaration_at, declaration_list_at, opened_index_at, index_at, pin_at, association_at, next_association_at, associations_at, port_map_at, instance_statement_at, instance_list_at, instance_statements_at, architecture_at, structure_at}
 
 abbrev paren : Form
 paren = form.Sign sign.LeftParen
@@ -107,7 +107,7 @@ abbrev declaration_firsts : Set
 declaration_firsts = numbers (form.Keyword word.Component ∷ form.Keyword word.Signal ∷ [])
 
 exact_declaration : (room : ℕ) → Language (declaration room) false declaration_firsts [] (declaration_at room)
-unfolding declaration declaration_at declared_component_at declared_signals_at
+unfolding declaration declaration_at new_component_at declared_signals_at
 exact_declaration room = exact_behind (form.Keyword word.Component)
     (exact_then (exact_component room) (λ c. exact_nothing (declares.Component c)) refl)
     (exact_then (exact_signal room) (λ s. exact_nothing (declares.Signals s)) refl) refl

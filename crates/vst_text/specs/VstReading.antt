@@ -105,8 +105,8 @@ signal_at room here = do
   u ← take_at (form.Sign sign.Semicolon) kind.1
   Ok (record { line = n.0.0; names = n.0.1; kind = kind.0 }, u.1)
 
-unfoldable pub declared_component_at : ℕ → Reader Declaration
-declared_component_at room here = do
+unfoldable pub new_component_at : ℕ → Reader Declaration
+new_component_at room here = do
   c ← component_at room here
   Ok (declares.Component c.0, c.1)
 
@@ -116,7 +116,7 @@ declared_signals_at room here = do
   Ok (declares.Signals s.0, s.1)
 
 unfoldable pub declaration_at : ℕ → Reader Declaration
-declaration_at room here = if is_at (form.Keyword word.Component) here.rest then declared_component_at room here else declared_signals_at room here
+declaration_at room here = if is_at (form.Keyword word.Component) here.rest then new_component_at room here else declared_signals_at room here
 
 unfoldable pub declaration_list_at : ℕ → Reader (List Declaration)
 declaration_list_at room = list_at (code (form.Keyword word.Component) ∷ code (form.Keyword word.Signal) ∷ []) (declaration_at room)

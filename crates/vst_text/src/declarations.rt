@@ -22,7 +22,7 @@ fn signals(cursor: &mut Cursor, room: u32) -> Result<SignalGroup, Stop>
     Ok(SignalGroup { line, names, kind })
 }
 
-#[tactic(auto, unfolding(crate::specs::VstReading::declaration_at, crate::specs::VstReading::declared_component_at, crate::specs::VstReading::declared_signals_at))]
+#[tactic(auto, unfolding(crate::specs::VstReading::declaration_at, crate::specs::VstReading::new_component_at, crate::specs::VstReading::declared_signals_at))]
 fn declaration(cursor: &mut Cursor, room: u32) -> Result<Declaration, Stop>
     ensures { Gives (λ d. d) result cursor.new (declaration_at room cursor.old) }
 {
