@@ -258,9 +258,6 @@ clock_of_pin opaque pin h = absurd h
 clock_role : (q : ModelPin) → q.dir ≡ dir.In → q.is_clock ≡ true → pin_role q ≡ role.ClockPin
 clock_role q d k = rw (d, k) refl
 
-input_role : (q : ModelPin) → q.dir ≡ dir.In → q.is_clock ≡ false → pin_role q ≡ role.InputPin
-input_role q d k = rw (d, k) refl
-
 -- a clock pin of an instance, by its cell
 pub clock_at_pin : (n : InMemory) (l : Library) (table : List ModelPins) → Ground n l table → (i : Instance) (j : In i n.instances) (pin : Name) → clock_at (cell_of l i.model) ≡ Some pin
     → (q : ModelPin) × In q (pins_named table i.model) × (q.name ≡ pin) × (q.dir ≡ dir.In) × (q.is_clock ≡ true) × IsAt table n (pin_of i.name pin) role.ClockPin

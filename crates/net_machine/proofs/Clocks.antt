@@ -1,9 +1,8 @@
 -- The classes of ports, and the port in whose class the clock pins stand.
-use Rattle.std.proofs.Common.{◌≡◌, ◌⊎◌, inl, inr, ℕ, ◌+◌, ◌<◌, ◌≤◌, List, map, length, None, Some, sym, ap, ◌∙◌, subst, arith, length-append}
+use Rattle.std.proofs.Common.{◌≡◌, ℕ, ◌<◌, ◌≤◌, List, map, length, None, Some, sym, ap, ◌∙◌, subst, arith, length-append}
 use Rattle.std.specs.Prelude.{slice_index, slice_index_or}
 use Rattle.std.specs.List.{flat_map}
 use Rattle.std.proofs.lemmas.List.{length-map}
-use Rattle.std.proofs.lemmas.Bool.{cases_lt}
 use Rattle.std.proofs.lemmas.Option.{get_or_from_slice_get, slice_get_within}
 use Rattle.vlsi_base.specs.declared.name.Name.{Name}
 use Rattle.vlsi_base.specs.declared.name.Port.{Port}
@@ -92,19 +91,6 @@ clock_here n l known nodes k d m are knows low is known_at_is =
 -- no node before has a clock pin
 abbrev pub NoClockBefore : List Node → List KnownParts → ℕ → Type 0
 NoClockBefore nodes known many = (j : ℕ) (d : Node) (m : KnownParts) → j < many → (slice_index_or known (slice_index_or nodes j d).model m).clock ≡ None
-
-pub no_clock_more : (nodes : List Node) (known : List KnownParts) (k : ℕ) (d : Node) (m : KnownParts) → k < length nodes → d ≡ slice_index_or nodes k d → d.model < length known
-    → m ≡ slice_index_or known d.model m → m.clock ≡ None → NoClockBefore nodes known k → NoClockBefore nodes known (k + 1)
-no_clock_more nodes known k d m low is inside known_at_is none before j e o less = by (cases_lt j k) where
-  by : (j < k) ⊎ (k ≤ j) → (slice_index_or known (slice_index_or nodes j e).model o).clock ≡ None
-  by (inl h) = before j e o h
-  by (inr h) =
-      let same : j ≡ k = omega (arith, h, less) in
-      let a = at_place nodes k low in
-      let node : slice_index_or nodes j e ≡ d = ap (λ (i : ℕ). slice_index_or nodes i e) same ∙ get_or_from_slice_get nodes k a.0 e a.1 ∙ sym (get_or_from_slice_get nodes k a.0 d a.1) ∙ sym is in
-      let b = at_place known d.model inside in
-      let part : slice_index_or known d.model o ≡ m = get_or_from_slice_get known d.model b.0 o b.1 ∙ sym (get_or_from_slice_get known d.model b.0 m b.1) ∙ sym known_at_is in
-      ap (λ (x : Node). (slice_index_or known x.model o).clock) node ∙ ap (λ (x : KnownParts). x.clock) part ∙ none
 
 -- the instance of a node without a clock pin
 node_clock : (n : InMemory) (l : Library) (known : List KnownParts) (nodes : List Node) (k : ℕ) (d : Node) (m : KnownParts) (i : Instance) → AreNodes n nodes → KnowsModels n l known → k < length nodes

@@ -1,6 +1,5 @@
 -- Names and cells that are looked for in a list.
-use Rattle.std.proofs.Common.{◌≡◌, ℕ, ◌+◌, ◌<◌, ◌≤◌, Bool, true, cond, not, filter, map, List, ◌∷◌, length, get_or, drop, Option, Some, sym, ap, ◌∙◌, arith}
-use Rattle.std.proofs.lemmas.List.{drop_all}
+use Rattle.std.proofs.Common.{◌≡◌, ℕ, ◌+◌, ◌<◌, Bool, true, cond, not, filter, map, List, ◌∷◌, length, get_or, drop, Option, Some, sym, ap, ◌∙◌, arith}
 use Rattle.vlsi_base.specs.declared.name.Name.{Name}
 use Rattle.vlsi_base.specs.declared.name.Port.{Port}
 use Rattle.bool_expr.specs.Expression.{Expression, variable}
@@ -16,7 +15,7 @@ use Rattle.machine_core.proofs.Names.{same_name-itself, same_name-false}
 use Rattle.source_meaning.specs.Formula.{place}
 use Rattle.cell_model.specs.Cell.{Cell}
 use Rattle.cell_model.specs.Library.{cell_named}
-use Rattle.cell_model.proofs.Texts.{text_itself, text_differs}
+use Rattle.cell_model.proofs.Texts.{text_itself}
 use Rattle.net_machine.specs.Body.{Load, Shown, Body, load_view, shown_view, inner_view, body_view, machine_body}
 use Rattle.net_machine.proofs.Turns.{drop_next}
 
@@ -39,22 +38,12 @@ place_next names name x k t low is apart h =
     let e : place (drop k names) name ≡ place (drop (k + 1) names) name + 1 = ap (λ (ns : List Name). place ns name) (drop_next names k x low is) ∙ place_past x name (drop (k + 1) names) apart in
     omega (arith, e, h)
 
-pub place_none : (names : List Name) (name : Name) (k t : ℕ) → length names ≤ k → k + place (drop k names) name ≡ t → k ≡ t
-place_none names name k t all h =
-    let e : place (drop k names) name ≡ 0 = ap (λ (ns : List Name). place ns name) (drop_all k names all) in
-    omega (arith, e, h)
-
 -- ---- the first cell of a name
 
 pub cell_found : (cells : List Cell) (model : List ℕ) (c : Cell) (k : ℕ) (t : Option Cell) → k < length cells → c ≡ get_or cells k c → c.name ≡ model → cell_named (drop k cells) model ≡ t → Some c ≡ t
 cell_found cells model c k t low is same h =
     let r : is_same_text c.name model ≡ true = ap (is_same_text c.name) (sym same) ∙ text_itself c.name in
     sym (ap (λ (b : Bool). cond b (Some c) (cell_named (drop (k + 1) cells) model)) r) ∙ ap (λ (cs : List Cell). cell_named cs model) (sym (drop_next cells k c low is)) ∙ h
-
-pub cell_next : (cells : List Cell) (model : List ℕ) (c : Cell) (k : ℕ) (t : Option Cell) → k < length cells → c ≡ get_or cells k c → (c.name ≡ model → ⊥) → cell_named (drop k cells) model ≡ t
-    → cell_named (drop (k + 1) cells) model ≡ t
-cell_next cells model c k t low is apart h =
-    sym (ap (λ (b : Bool). cond b (Some c) (cell_named (drop (k + 1) cells) model)) (text_differs c.name model apart)) ∙ ap (λ (cs : List Cell). cell_named cs model) (sym (drop_next cells k c low is)) ∙ h
 
 -- ---- a body from its parts
 

@@ -1,8 +1,8 @@
 -- The bits of a netlist, one instance after the other.
-use Rattle.std.proofs.Common.{◌≡◌, ℕ, ◌+◌, ◌<◌, ◌≤◌, List, [], ◌∷◌, ◌++◌, map, length, drop, Option, sym, ap, ◌∙◌, subst, arith, append_assoc, append-nil}
+use Rattle.std.proofs.Common.{◌≡◌, ℕ, ◌+◌, ◌<◌, List, ◌∷◌, ◌++◌, map, length, drop, Option, sym, ap, ◌∙◌, subst, arith, append_assoc}
 use Rattle.std.specs.Prelude.{slice_index_or}
 use Rattle.std.specs.List.{flat_map}
-use Rattle.std.proofs.lemmas.List.{length-map, get_or-map, drop_all}
+use Rattle.std.proofs.lemmas.List.{length-map, get_or-map}
 use Rattle.vlsi_base.specs.declared.name.Name.{Name}
 use Rattle.vlsi_base.specs.declared.name.Terminal.{Terminal}
 use Rattle.vlsi_base.specs.Range.{rising}
@@ -30,12 +30,6 @@ node_next n nodes k d are low is =
     let many : length nodes ≡ length n.instances = sym (length-map nodes f) ∙ ap (λ (is : List Instance). length is) are.seen in
     let at : f d ≡ slice_index_or n.instances k (f d) = ap f is ∙ sym (get_or-map f nodes k d (f d) low) ∙ ap (λ (is : List Instance). slice_index_or is k (f d)) are.seen in
     drop_next n.instances k (f d) (omega (arith, low, many)) at
-
--- no instance behind the last node
-pub nodes_ended : (n : InMemory) (nodes : List Node) (k : ℕ) → AreNodes n nodes → length nodes ≤ k → drop k n.instances ≡ []
-nodes_ended n nodes k are all =
-    let many : length nodes ≡ length n.instances = sym (length-map nodes (instance_of n.models)) ∙ ap (λ (is : List Instance). length is) are.seen in
-    drop_all k n.instances (omega (arith, all, many))
 
 pub body_here : (n : InMemory) (l : Library) (known : List KnownParts) (nodes : List Node) (k : ℕ) (d : Node) (m : KnownParts) → AreNodes n nodes → KnowsModels n l known
     → k < length nodes → d ≡ slice_index_or nodes k d → m ≡ slice_index_or known d.model m → body_view m.body ≡ body_at (cell_of l (instance_of n.models d).model)
@@ -85,15 +79,6 @@ driven_next n l class k base next b i old now total e body is put h =
     piece_turn old now (body_driven class i.name (body_at (cell_of l i.model)) base) (flat_map (placed_driven class) (placed_from l next (drop (k + 1) n.instances))) total
     (put ∙ ap (λ (x : Body). old ++ body_driven class i.name x base) body)
     (ap (λ (xs : List Numbered). old ++ xs) (sym (placed_next n l (placed_driven class) k base next b i e body is)) ∙ h)
-
--- ---- after the last
-
-pub widths_ended : (n : InMemory) (l : Library) (k base first : ℕ) → drop k n.instances ≡ [] → base + widths l (drop k n.instances) ≡ first + widths l n.instances → base ≡ first + widths l n.instances
-widths_ended n l k base first none h = let w = ap (widths l) none in omega (arith, w, h)
-
-pub placed_ended : {A : Type 0} (n : InMemory) (l : Library) (f : Placed → List A) (k base : ℕ) (now total : List A) → drop k n.instances ≡ []
-    → now ++ flat_map f (placed_from l base (drop k n.instances)) ≡ total → now ≡ total
-placed_ended {A} n l f k base now total none h = sym (append-nil now) ∙ ap (λ (is : List Instance). now ++ flat_map f (placed_from l base is)) (sym none) ∙ h
 
 -- ---- all bits
 

@@ -105,10 +105,6 @@ pub knows_models : (n : InMemory) (l : Library) (models : List (List ℕ)) (cell
 knows_models n l models cells known h is of =
     h ∙ ap (λ (ms : List (List ℕ)). map (λ m. known_at (cell_named cells m)) ms) is ∙ ap (λ (x : Library). map (λ m. known_at (cell_of x m)) n.models) of
 
--- as many are known as there are models
-pub nodes_known : (n : InMemory) (l : Library) (known : List KnownParts) (nodes : List Node) → AreNodes n nodes → KnowsModels n l known → All (λ i. i.model < length known) nodes
-nodes_known n l known nodes are knows k d low = subst (λ (many : ℕ). (slice_index_or nodes k d).model < many) (sym (known_many n l known knows)) (are.inside k d low)
-
 pub stands_of : {A : Type 0} (xs : List A) (k : ℕ) (x : A) → k < length xs → x ≡ slice_index_or xs k x → Stands xs k x
 stands_of {A} xs k x low is =
     let a = at_place xs k low in

@@ -1,6 +1,6 @@
 -- The numbers of a body's bits, and the classes of its output pins.
-use Rattle.std.proofs.Common.{◌≡◌, ℕ, ◌+◌, ◌-◌, ◌<◌, ◌≤◌, List, [], ◌∷◌, ◌++◌, map, length, get_or, drop, sym, ap, ◌∙◌, subst, arith, append-nil, length-append}
-use Rattle.std.proofs.lemmas.List.{map-append, drop_all}
+use Rattle.std.proofs.Common.{◌≡◌, ℕ, ◌+◌, ◌-◌, ◌<◌, List, [], ◌∷◌, ◌++◌, map, length, get_or, drop, sym, ap, ◌∙◌, subst, arith, length-append}
+use Rattle.std.proofs.lemmas.List.{map-append}
 use Rattle.std.specs.List.{All}
 use Rattle.vlsi_base.specs.declared.name.Name.{Name}
 use Rattle.vlsi_base.specs.declared.name.Terminal.{Terminal}
@@ -12,9 +12,9 @@ use Rattle.source_bits.specs.declared.driven.DrivenBit.{DrivenBit}
 use Rattle.source_bits.specs.Driven.{Numbered, driven_view}
 use Rattle.net_core.specs.Netlist.{Netlist as InMemory, pin_of, HasClass, IsClassFunction}
 use Rattle.net_machine.specs.declared.body.Shown.{Shown as ShownParts}
-use Rattle.net_machine.specs.Body.{Body, shown_view, width}
-use Rattle.net_machine.specs.Bits.{numbers, shown_from}
-use Rattle.net_machine.proofs.Turns.{drop_next, piece_turn, map_turn, map_ended, rising_less}
+use Rattle.net_machine.specs.Body.{shown_view}
+use Rattle.net_machine.specs.Bits.{shown_from}
+use Rattle.net_machine.proofs.Turns.{drop_next, piece_turn, map_turn, rising_less}
 
 pub pins_turn : (n : InMemory) (class : Terminal → ℕ) (owner : List ℕ) (pins : List Name) (k : ℕ) (pin : Name) (r : ℕ) (old now total : List ℕ) → IsClassFunction n class → k < length pins → pin ≡ get_or pins k pin
     → HasClass n (pin_of owner pin) r → now ≡ old ++ r ∷ [] → old ++ map (λ pin. class (pin_of owner pin)) (drop k pins) ≡ total
@@ -22,21 +22,9 @@ pub pins_turn : (n : InMemory) (class : Terminal → ℕ) (owner : List ℕ) (pi
 pins_turn n class owner pins k pin r old now total function low is has put h =
     map_turn (λ (pin : Name). class (pin_of owner pin)) pins k pin r old now total low is (function.each (pin_of owner pin) r has) put h
 
-pub numbers_start : (class : Terminal → ℕ) (owner : List ℕ) (b : Body) (base end k : ℕ) (now : List ℕ) → length b.reads ≤ k → end ≡ base + width b
-    → now ++ map (λ pin. class (pin_of owner pin)) (drop k b.reads) ≡ map (λ pin. class (pin_of owner pin)) b.reads → now ++ rising base (end - base) ≡ numbers class owner b base
-numbers_start class owner b base end k now all size h =
-    let many : end - base ≡ width b = omega (arith, size) in
-    ap (λ (n : ℕ). now ++ rising base n) many
-    ∙ ap (λ (xs : List ℕ). xs ++ rising base (width b)) (map_ended (λ (pin : Name). class (pin_of owner pin)) b.reads k now (map (λ (pin : Name). class (pin_of owner pin)) b.reads) all h)
-
 pub numbers_turn : (k end : ℕ) (old now total : List ℕ) → k < end → now ≡ old ++ k ∷ [] → old ++ rising k (end - k) ≡ total → now ++ rising (k + 1) (end - (k + 1)) ≡ total
 numbers_turn k end old now total low put h =
     piece_turn old now (k ∷ []) (rising (k + 1) (end - (k + 1))) total put (ap (λ (ks : List ℕ). old ++ ks) (sym (rising_less k end low)) ∙ h)
-
-pub numbers_ended : (k end : ℕ) (now total : List ℕ) → end ≤ k → now ++ rising k (end - k) ≡ total → now ≡ total
-numbers_ended k end now total all h =
-    let none : end - k ≡ 0 = omega (arith, all) in
-    sym (append-nil now) ∙ ap (λ (n : ℕ). now ++ rising k n) (sym none) ∙ h
 
 pub shown_turn : (n : InMemory) (class : Terminal → ℕ) (owner table : List ℕ) (shows : List ShownParts) (k : ℕ) (s : ShownParts) (d : DrivenBit) (old now : List DrivenBit) (total : List Numbered) → IsClassFunction n class
     → k < length shows → s ≡ get_or shows k s → HasClass n (pin_of owner s.pin) d.bit → view d.expr ≡ renumbered table (view s.expr) → now ≡ old ++ d ∷ []
@@ -49,11 +37,6 @@ shown_turn n class owner table shows k s d old now total function low is has exp
     piece_turn (map driven_view old) (map driven_view now) (made (class (pin_of owner s.pin)) (renumbered table (view s.expr)) ∷ []) (shown_from class owner table (map shown_view (drop (k + 1) shows))) total
     (ap (λ (ds : List DrivenBit). map driven_view ds) put ∙ map-append driven_view old (d ∷ []) ∙ ap (λ (x : Numbered). map driven_view old ++ x ∷ []) one)
     (ap (λ (ss : List ShownParts). map driven_view old ++ shown_from class owner table (map shown_view ss)) (sym (drop_next shows k s low is)) ∙ h)
-
-pub shown_ended : (class : Terminal → ℕ) (owner table : List ℕ) (shows : List ShownParts) (k : ℕ) (now total : List Numbered) → length shows ≤ k → now ++ shown_from class owner table (map shown_view (drop k shows)) ≡ total
-    → now ≡ total
-shown_ended class owner table shows k now total all h =
-    sym (append-nil now) ∙ ap (λ (ss : List ShownParts). now ++ shown_from class owner table (map shown_view ss)) (sym (drop_all k shows all)) ∙ h
 
 -- what holds of each element holds of the next
 pub item_holds : {A : Type 0} (P : A → Type 0) (xs : List A) (k : ℕ) (x : A) → k < length xs → x ≡ get_or xs k x → All P xs → P x

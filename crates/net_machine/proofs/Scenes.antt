@@ -26,13 +26,13 @@ use Rattle.cell_pins.specs.Pins.{supply, all_ports}
 use Rattle.net_core.specs.declared.pins.ModelPin.{ModelPin}
 use Rattle.net_core.specs.declared.pins.ModelPins.{ModelPins}
 use Rattle.net_core.specs.declared.tally.Role.{Role}
-use Rattle.net_core.specs.Netlist.{Instance, Netlist as InMemory, port, pin_of, HasClass, IsClassFunction}
+use Rattle.net_core.specs.Netlist.{Instance, Netlist as InMemory, pin_of, HasClass, IsClassFunction}
 use Rattle.net_core.specs.Checks.{pins_named, port_role, pin_role}
 use Rattle.net_core.proofs.Rings.{class_below}
 use Rattle.net_machine.specs.Signals.{HasBehaviour}
 use Rattle.net_machine.specs.Body.{Shown, Body, body_of, body_at}
 use Rattle.net_machine.specs.Gathered.{IsLonger, HasClockOf}
-use Rattle.net_machine.proofs.Drivers.{In_there, IsAt, a_port, is_driver, one_driver}
+use Rattle.net_machine.proofs.Drivers.{In_there, IsAt, is_driver, one_driver}
 use Rattle.net_machine.proofs.Bodies.{shows_pin, machine_outputs}
 use Rattle.net_machine.proofs.Cells.{Ground, sound_of, Seated, seated, pin_at, port_of_pin, signal_in, all_cases, there_is, class_there}
 
@@ -60,9 +60,6 @@ class_low s t r at = class_below s.n s.ground.netlist t (s.class t) (has_class s
 pub once : (s : Scene) (t u : Terminal) (r q : Role) → IsAt s.table s.n t r → IsAt s.table s.n u q → is_driver r ≡ 1 → is_driver q ≡ 1 → s.class t ≡ s.class u → t ≡ u
 once s t u r q at bt dr dq e =
     one_driver s.table s.n (sound_of s.n s.l s.table s.ground) t u r q (s.class u) at bt dr dq (subst (λ k. HasClass s.n t k) e (has_class s t r at)) (has_class s u q bt)
-
-pub at_port : (s : Scene) (p : Port) → In p s.n.ports → IsAt s.table s.n (port p.name) (port_role p)
-at_port s p i = a_port p i
 
 pub input_driver : (p : Port) → p.dir ≡ dir.In → is_driver (port_role p) ≡ 1
 input_driver p e = rw e refl

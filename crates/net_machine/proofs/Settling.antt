@@ -160,9 +160,6 @@ driven_if s i at y over h d j = elim (In-split d (inner_from table (at + length 
 
 -- ---- pieces of a local valuation
 
-pub read_bits : Scene → List Bool → Instance → List Bool
-read_bits s y i = map (bit y) (map (λ (pin : Name). s.class (pin_of i.name pin)) (body_in s i).reads)
-
 pub local_pieces : (s : Scene) (y : List Bool) (i : Instance) (at : ℕ)
     → local s y i at ≡ map (bit y) (map (λ (pin : Name). s.class (pin_of i.name pin)) (body_in s i).reads) ++ map (bit y) (rising at (width (body_in s i)))
 local_pieces s y i at = map-append (bit y) (map (λ (pin : Name). s.class (pin_of i.name pin)) (body_in s i).reads) (rising at (width (body_in s i)))

@@ -1,6 +1,5 @@
 -- One turn of a loop over a list, or over numbers that rise.
-use Rattle.std.proofs.Common.{◌≡◌, ℕ, suc, ◌+◌, ◌-◌, ◌<◌, ◌≤◌, List, [], ◌∷◌, ◌++◌, map, length, sym, ap, ◌∙◌, get_or, drop, drop-cons, add-one, arith, append_assoc, append-nil}
-use Rattle.std.proofs.lemmas.List.{drop_all}
+use Rattle.std.proofs.Common.{◌≡◌, ℕ, suc, ◌+◌, ◌-◌, ◌<◌, List, [], ◌∷◌, ◌++◌, map, length, sym, ap, ◌∙◌, get_or, drop, drop-cons, add-one, arith, append_assoc}
 use Rattle.vlsi_base.specs.Range.{rising}
 
 -- what is left from an element on
@@ -19,18 +18,8 @@ pub rising_turn : {A : Type 0} (f : ℕ → A) (k end : ℕ) (xs ys total : List
 rising_turn {A} f k end xs ys total low e h =
     piece_turn xs ys (f k ∷ []) (map f (rising (k + 1) (end - (k + 1)))) total e (ap (λ (ks : List ℕ). xs ++ map f ks) (sym (rising_less k end low)) ∙ h)
 
-pub rising_ended : {A : Type 0} (f : ℕ → A) (k end first many : ℕ) (xs old : List A) → end ≤ k → first + many ≡ end → xs ++ map f (rising k (end - k)) ≡ old ++ map f (rising first (end - first))
-    → xs ≡ old ++ map f (rising first many)
-rising_ended {A} f k end first many xs old done size h =
-    let none : end - k ≡ 0 = omega (arith, done) in
-    let all : end - first ≡ many = omega (arith, size) in
-    sym (append-nil xs) ∙ ap (λ (n : ℕ). xs ++ map f (rising k n)) (sym none) ∙ h ∙ ap (λ (n : ℕ). old ++ map f (rising first n)) all
-
 pub map_turn : {A B : Type 0} (f : A → B) (xs : List A) (k : ℕ) (x : A) (r : B) (old now total : List B) → k < length xs → x ≡ get_or xs k x → f x ≡ r → now ≡ old ++ r ∷ []
     → old ++ map f (drop k xs) ≡ total → now ++ map f (drop (k + 1) xs) ≡ total
 map_turn {A} {B} f xs k x r old now total low is same put h =
     piece_turn old now (f x ∷ []) (map f (drop (k + 1) xs)) total (put ∙ ap (λ (y : B). old ++ y ∷ []) (sym same))
     (ap (λ (ys : List A). old ++ map f ys) (sym (drop_next xs k x low is)) ∙ h)
-
-pub map_ended : {A B : Type 0} (f : A → B) (xs : List A) (k : ℕ) (now total : List B) → length xs ≤ k → now ++ map f (drop k xs) ≡ total → now ≡ total
-map_ended {A} {B} f xs k now total all h = sym (append-nil now) ∙ ap (λ (ys : List A). now ++ map f ys) (sym (drop_all k xs all)) ∙ h
