@@ -1,5 +1,5 @@
 -- From the refusals of readers and of simulation on netlists to the tool's.
-use Rattle.std.proofs.Common.{◌≡◌, ℕ, List, None, Err, false, ap, refl}
+use Rattle.std.proofs.Common.{◌≡◌, ℕ, List, None, Ok, Err, false, ap, refl}
 use Rattle.vlsi_base.specs.declared.fault.ReadError.{ReadError}
 use Rattle.cell_model.specs.Library.{Library}
 use Rattle.cell_lib.specs.declared.error.LibError.{LibError}
@@ -10,12 +10,14 @@ use Rattle.cell_lib.specs.Library.{IsRefusedLibrary, status_of}
 use Rattle.net_core.specs.declared.pins.ModelPins.{ModelPins}
 use Rattle.net_core.specs.Netlist.{Netlist}
 use Rattle.net_view.specs.Condition.{MeetsCondition}
-use Rattle.net_machine.specs.Signals.{signal_ports}
+use Rattle.net_machine.specs.Signals.{signal_ports, HasBehaviour}
 use Rattle.net_sim.specs.declared.error.NetSimError.{NetSimError}
 use Rattle.net_sim.specs.declared.error.NetSimError.TheVariants as net
 use Rattle.net_sim.specs.Answers.{IsSimRefusal}
+use Rattle.net_sim.specs.Circuit.{IsFilledWith}
 use Rattle.pat_meaning.specs.declared.patterns.Patterns.{Patterns}
 use Rattle.pat_io.specs.PatternText.{IsPatternRefusal}
+use Rattle.pat_io.specs.Spelling.{text_of}
 use Rattle.vst_io.specs.Text.{IsVst, IsVstRefusal}
 use Rattle.tool_words.specs.declared.command.AsimutNetlistCommand.{AsimutNetlistCommand}
 use Rattle.tool_drive.specs.declared.status.Status.{Status}
@@ -56,3 +58,12 @@ by_simulation c t l table n p (net.NoBehaviour model) (status.No (NoBehaviour ce
 by_simulation c t l table n p (net.Differs number name) (status.No (Differs label bit)) read met h k =
     (refl, differs l table n p number name read h.0 (h.1 table read.cells.pins met) (rw (k.0, k.1) refl))
 by_simulation c t l table n p e _ read met h k = absurd k
+
+pub by_text : (c : AsimutNetlistCommand) (t : Texts) (l : Library) (table : List ModelPins) (n : Netlist) (p out : Patterns) (name text : List ℕ) → AreRead t l table n p
+    → HasBehaviour n l → MeetsCondition table n → IsFilledWith n l p out → name ≡ c.source → text ≡ text_of out
+    → IsJudged (Simulates c t) (Ok (record { name = name; file = None; text = text }))
+by_text c t l table n p out name text read known met filled named is = (
+  named,
+  refl,
+  record { l = l; table = table; n = n; p = p; out = out; read = read; known = known; filled = filled table read.cells.pins met; text_is = is },
+)

@@ -25,7 +25,7 @@ pin_there c m name is i =
     (In_there (map (λ p. p.name) m.pins) q.0.name (In-map (λ (p : ModelPin). p.name) q.0 m.pins q.1))
 
 -- each model has both supplies
-HasSupplies : ModelPins → Type 0
+abbrev HasSupplies : ModelPins → Type 0
 HasSupplies m = IsThere (map (λ p. p.name) m.pins) vdd × IsThere (map (λ p. p.name) m.pins) vss
 
 each_model : (P : Cell → Type 0) (cells : List Cell) (models : List ModelPins) → AreModels P cells models → (m : ModelPins) → In m models → HasSupplies m
