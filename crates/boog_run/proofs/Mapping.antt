@@ -6,7 +6,7 @@ use Rattle.vbe_io.specs.Text.{IsVbe}
 use Rattle.cell_model.specs.Library.{Library}
 use Rattle.cell_lib.specs.Library.{IsLibraryOf}
 use Rattle.net_core.specs.Netlist.{Netlist}
-use Rattle.net_view.specs.Laws.{RightIsWellFormed}
+use Rattle.net_view.specs.Laws.{SeenIsWellFormed}
 use Rattle.spell_theory.specs.Layout.{text_of}
 use Rattle.vbe_words.specs.Laws.{MachineIsNamed, CatalIsNamed, MachineCanBeWritten, CellCanBeWritten}
 use Rattle.vst_write.specs.Written.{layout}
@@ -24,8 +24,8 @@ pub mapping : (c : BoogCommand) (source list : List ℕ) (cells : List (List ℕ
 mapping c source list cells l m n p library machine small netlist written =
     record { l = l; library = library; m = m; machine = machine; small = small; n = n; netlist = netlist; written = written }
 
-pub agrees : RightIsWellFormed → MappingAgrees
-agrees law c source list cells p h = law h.n h.l h.m h.machine.machine.checked h.netlist.right
+pub agrees : SeenIsWellFormed → MappingAgrees
+agrees law c source list cells p h k seen = law h.n h.l h.m k h.netlist.sound h.machine.machine.checked h.netlist.right h.netlist.pins seen
 
 pub said : MachineIsNamed → CatalIsNamed → MachineCanBeWritten → CellCanBeWritten → WrittenIsASentence → WrittenSaysTheNetlist → MappingIsSaid
 said machines lists written pins_written sentence says c source list cells p h limits =

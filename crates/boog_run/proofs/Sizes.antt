@@ -1,4 +1,4 @@
--- A machine that is read and small enough can be numbered and mapped, and one that is too large is told so.
+-- A machine that is read and small enough can be numbered and mapped, and how many cells it then has.
 use Rattle.std.proofs.Common.{ℕ, ◌+◌, ◌≤◌, Bool, not, List, length, refl, arith}
 use Rattle.std.proofs.lemmas.List.Sorted.{length_permutation}
 use Rattle.std.proofs.lemmas.List.Filters.{length-filter_both}
@@ -12,7 +12,7 @@ use Rattle.cell_model.specs.Library.{Library}
 use Rattle.graph_theory.specs.Graph.{Graph}
 use Rattle.subject_graph.specs.Subject.{IsNumberable, IsSubjectGraph}
 use Rattle.net_core.specs.Netlist.{Netlist, IsNetlist}
-use Rattle.net_view.specs.Right.{IsRightNetlist}
+use Rattle.net_view.specs.Right.{IsRightNetlist, HasPinsOfCells}
 use Rattle.net_view.specs.Condition.{MeetsConditionIn}
 use Rattle.boog_map.specs.Netlist.{HasRoomForCells, Covers, UsesFirstCells, StandsInOrder, HasOneCellEach, IsLeanFor}
 use Rattle.boog_map.proofs.Rooms.{few_inputs, few_nodes}
@@ -40,12 +40,13 @@ few_cells n m g sub each =
     let most = length-filter_both (λ (b : Bool). b) (λ (b : Bool). not b) (λ b. refl) each.reached in
     omega (arith, count, long, nodes, most)
 
-pub netlist_for : (l : Library) (m : Machine) (n : Netlist) (g : Graph) → IsNetlist n → Covers l m → IsRightNetlist n l m → MeetsConditionIn l n → UsesFirstCells n l
+pub netlist_for : (l : Library) (m : Machine) (n : Netlist) (g : Graph) → IsNetlist n → Covers l m → IsRightNetlist n l m → HasPinsOfCells n l → MeetsConditionIn l n → UsesFirstCells n l
     → StandsInOrder n l m → IsLeanFor n m → IsSubjectGraph m g → HasOneCellEach n m g → IsNetlistFor l m n
-netlist_for l m n g sound covered right condition first order lean subject each = record {
+netlist_for l m n g sound covered right pins condition first order lean subject each = record {
   sound = sound;
   covered = covered;
   right = right;
+  pins = pins;
   condition = condition;
   first = first;
   order = order;

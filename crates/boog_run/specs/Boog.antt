@@ -21,7 +21,7 @@ use Rattle.net_core.specs.declared.pins.ModelPins.{ModelPins}
 use Rattle.net_core.specs.Netlist.{Netlist, IsNetlist}
 use Rattle.net_core.specs.Checks.{IsPinTable}
 use Rattle.net_view.specs.Condition.{MeetsConditionIn}
-use Rattle.net_view.specs.Right.{IsRightNetlist}
+use Rattle.net_view.specs.Right.{IsRightNetlist, HasPinsOfCells}
 use Rattle.spell_theory.specs.Layout.{text_of}
 use Rattle.vst_write.specs.Written.{layout}
 use Rattle.tool_words.specs.declared.command.BoogCommand.{BoogCommand}
@@ -47,13 +47,15 @@ netlist_name out = out ++ codes ".vst"
 abbrev pub report : Netlist → List ℕ
 report n = codes "cells " ++ (decimal (length n.instances) ++ 10 ∷ [])
 
--- A netlist for a machine. The library has a usable cell of each kind that mapping needs. The netlist is right for the machine, meets
--- the condition of the stages behind, has for each kind the first usable cell, stands in order, and is lean: it has one cell for
--- each register and for each node of the machine's subject graph that a root reaches, and no other.
+-- A netlist for a machine. The library has a usable cell of each kind that mapping needs. The netlist is right for the machine, each
+-- instance has the pins of its cell, it meets the condition of the stages behind, has for each kind the first usable cell, stands in
+-- order, and is lean: it has one cell for each register and for each node of the machine's subject graph that a root reaches, and no
+-- other.
 pub record IsNetlistFor (l : Library) (m : Machine) (n : Netlist) : Type 0 where
   pub sound : IsNetlist n
   pub covered : Covers l m
   pub right : IsRightNetlist n l m
+  pub pins : HasPinsOfCells n l
   pub condition : MeetsConditionIn l n
   pub first : UsesFirstCells n l
   pub order : StandsInOrder n l m

@@ -3,8 +3,10 @@ use Rattle.std.specs.Prelude.{◌≡◌, ℕ, List, None, IfSome}
 use Rattle.vhdl_lexer.specs.Listing.{tokens_in, refusal_in}
 use Rattle.net_core.specs.declared.pins.ModelPins.{ModelPins}
 use Rattle.net_core.specs.Netlist.{Netlist}
+use Rattle.net_meaning.specs.Netlist.{Netlist as Seen}
 use Rattle.net_meaning.specs.Well.{IsWell}
 use Rattle.net_meaning.specs.Agreement.{Agrees}
+use Rattle.net_view.specs.View.{IsSeenAs}
 use Rattle.vst_text.specs.declared.file.StructuralFile.{StructuralFile}
 use Rattle.vst_text.specs.Vst.{IsStructure}
 use Rattle.vst_again.specs.Says.{Says, IsWithinLimits}
@@ -12,12 +14,12 @@ use Rattle.tool_words.specs.declared.command.BoogCommand.{BoogCommand}
 use Rattle.tool_drive.specs.declared.tool.Product.{Product}
 use Rattle.boog_run.specs.Boog.{IsMapping}
 
--- It is well formed for the source's machine and behaves as it does: from all contents of its registers and for all vectors it runs in
--- exactly one way, and its outputs are those of the machine.
+-- As every netlist of a layout that it can be seen as, it is well formed for the source's machine and behaves as this does: from all
+-- contents of its registers and for all vectors it runs in exactly one way, and its outputs are those of the machine.
 abbrev pub MappingAgrees : Type 0
 MappingAgrees =
     (c : BoogCommand) (source catal : List ℕ) (cells : List (List ℕ)) (p : Product) (h : IsMapping c source catal cells p)
-    → IsWell h.netlist.right.sourced.netlist h.l h.m × Agrees h.netlist.right.sourced.netlist h.l h.m
+    → (k : Seen) → IsSeenAs h.n k → IsWell k h.l h.m × Agrees k h.l h.m
 
 -- The bytes are cut into tokens without a refusal, these are a sentence of the grammar of structural texts, and it says the netlist.
 pub record IsTextOf (n : Netlist) (table : List ModelPins) (bytes : List ℕ) : Type 0 where

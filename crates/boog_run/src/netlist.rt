@@ -46,10 +46,11 @@ pub(crate) fn netlist_of(
     ensures small { OnOk result (size_of machine.now ≤ MOST_SIZE) }
     ensures refused { IfErr result (λ s. MemoryOr s (IsNoNetlist library.now machine.now s)) }
 {
+    check_size(machine)?;
+    // Machine and library are checked, as the law asks.
     right_meets_condition();
     let _ = machine.name();
     let _ = library.cells();
-    check_size(machine)?;
     let Ok(graph) = Graph::of_machine(alloc, machine) else {
         return Err(Status::Memory);
     };

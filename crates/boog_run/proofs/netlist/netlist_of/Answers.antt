@@ -14,7 +14,7 @@ returns-in-Ok-map-clause-right c =
     let m = c.in-Ok-map.ensures in
     let condition =
     c.right_meets_condition.ensures c.in-Ok-map.netlist c.args.library.now c.args.machine.now m.sound c.name.ensures.checked c.cells.ensures.checked m.right m.pins in
-    netlist_for c.args.library.now c.args.machine.now c.in-Ok-map.netlist c.in-Ok.graph m.sound m.covered m.right condition m.first m.order m.lean c.in-Ok.ensures m.each
+    netlist_for c.args.library.now c.args.machine.now c.in-Ok-map.netlist c.in-Ok.graph m.sound m.covered m.right m.pins condition m.first m.order m.lean c.in-Ok.ensures m.each
 
 pub returns-clause-refused : goal.returns-clause-refused
 returns-clause-refused c =
