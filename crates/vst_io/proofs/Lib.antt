@@ -15,3 +15,5 @@ pub mod Turned
 pub mod First
 pub mod Reading
 pub mod Indexed
+pub mod Alike
+pub mod Once

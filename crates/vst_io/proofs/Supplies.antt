@@ -1,5 +1,5 @@
 -- Ports of the entity with the name of a supply are inputs of one bit.
-use Rattle.std.proofs.Common.{◌≡◌, inl, inr, ℕ, Bool, true, false, not, ◌||◌, List, [], ◌∷◌, map, Option, None, Some, refl, sym, ap, subst, ◌∙◌}
+use Rattle.std.proofs.Common.{◌≡◌, inl, inr, ℕ, Bool, true, false, not, ◌&&◌, ◌||◌, List, [], ◌∷◌, map, Option, None, Some, refl, sym, ap, subst, ◌∙◌}
 use Rattle.std.specs.Prelude.{is_none}
 use Rattle.std.specs.List.{flat_map}
 use Rattle.vlsi_base.specs.declared.name.Name.{Name}
@@ -23,7 +23,7 @@ use Rattle.source_meaning.specs.declared.symbol_table.Symbol.{Symbol}
 use Rattle.source_meaning.specs.Symbols.{role_of_mode, role_of_word, symbols_named, port_symbols, signal_symbols, is_port}
 use Rattle.source_meaning.specs.Elaboration.{port_of, ports_of_role}
 use Rattle.source_meaning.specs.Widths.{if_not}
-use Rattle.source_meaning.specs.Unsupported.{supply_faults, is_in_mode}
+use Rattle.source_meaning.specs.Unsupported.{supply_faults, is_in_mode, is_bit_word}
 use Rattle.vst_text.specs.declared.file.StructuralFile.{StructuralFile}
 use Rattle.vst_io.specs.Nets.{nets, signal_groups, bits_of, names, port_bits}
 use Rattle.vst_io.specs.Faults.{is_in_bit, port_form, declaration_forms, all_forms}
@@ -98,8 +98,9 @@ supply_net f e s h p q = elim (In-split s (port_symbols f.entity.ports) (signal_
       let form = flat_nothing (port_form true) f.entity.ports own.0 g r.1 in
       let faults = append_nothing (supply_faults (not true || is_in_bit g) g.names) _ form in
       let fits = supply_fits (not true || is_in_bit g) g.names faults.0 r.2.name r.2.listed (ap is_supply (sym r.2.text) ∙ q) in
-      let both = both_true (is_in_mode g.mode) (is_none g.kind.range) fits in
-      (r.2.role ∙ in_is_input g.mode both.0, r.2.range ∙ none_is g.kind.range both.1)
+      let both = both_true (is_in_mode g.mode) (is_bit_word g.kind.word && is_none g.kind.range) fits in
+      let kind = both_true (is_bit_word g.kind.word) (is_none g.kind.range) both.1 in
+      (r.2.role ∙ in_is_input g.mode both.0, r.2.range ∙ none_is g.kind.range kind.1)
   | inr right ↦
       let w = signal_from (signal_groups f.declarations) s right in
       let no : is_port s.role ≡ false = ap is_port w.1 ∙ word_no_port w.0 in

@@ -19,7 +19,7 @@ use Rattle.source_meaning.specs.declared.symbol_table.Role.TheVariants as role
 use Rattle.source_meaning.specs.declared.symbol_table.Symbol.{Symbol}
 use Rattle.source_meaning.specs.Symbols.{find, has_bit, is_port}
 use Rattle.source_meaning.specs.Widths.{if_not, declared_faults, port_faults}
-use Rattle.source_meaning.specs.Unsupported.{supply_faults, is_in_mode, is_inout, is_resolved}
+use Rattle.source_meaning.specs.Unsupported.{supply_faults, is_in_mode, is_bit_word, is_inout, is_resolved}
 use Rattle.source_meaning.specs.Checks.{fault, if_line, if_symbol, first_repeated}
 use Rattle.net_core.specs.declared.pins.ModelPin.{ModelPin}
 use Rattle.net_core.specs.declared.pins.ModelPins.{ModelPins}
@@ -44,7 +44,7 @@ abbrev pub all_widths : StructuralFile → List ℕ
 all_widths f = port_faults f.entity.ports ++ flat_map declaration_widths f.declarations
 
 abbrev pub is_in_bit : PortGroup → Bool
-is_in_bit g = is_in_mode g.mode && is_none g.kind.range
+is_in_bit g = is_in_mode g.mode && (is_bit_word g.kind.word && is_none g.kind.range)
 
 -- forms of ports that are left out: of the entity's own ports vdd and vss but as inputs of one bit, then mode inout, mux and wor
 abbrev pub port_form : Bool → PortGroup → List ℕ

@@ -4,3 +4,4 @@ pub mod Text
 pub mod Known
 pub mod Checked
 pub mod Drafts
+pub mod Laws

@@ -5,7 +5,7 @@ ghost use Rattle.source_meaning.specs.Lines.{first_line};
 ghost use Rattle.vst_io.specs.Faults.{declaration_widths, all_widths, is_in_bit, port_form, declaration_forms, all_forms};
 
 use source_meaning::{declared_fault, is_resolved, ports_fault, supply_fault};
-use vlsi_base::{Mode, PortGroup};
+use vlsi_base::{Mode, PortGroup, TypeWord};
 use vst_text::{Declaration, StructuralFile};
 
 fn declaration_width(declaration: &Declaration) -> Option<u32>
@@ -43,7 +43,7 @@ pub fn width_fault(file: &StructuralFile) -> Option<u32>
 fn is_in_bit(group: &PortGroup) -> bool
     ensures { result ≡ is_in_bit group.now }
 {
-    group.mode == Mode::In && group.kind.range.is_none()
+    group.mode == Mode::In && group.kind.word == TypeWord::Bit && group.kind.range.is_none()
 }
 
 /// The first line at fault in a declaration of ports, which may be the entity's own.

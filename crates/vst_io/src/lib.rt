@@ -7,8 +7,10 @@ mod checking;
 mod components;
 mod forms;
 mod known;
+mod laws;
 mod linking;
 mod maps;
 mod reader;
 
+pub use laws::{never_both, one_netlist};
 pub use reader::read_vst;
