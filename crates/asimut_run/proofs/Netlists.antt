@@ -25,7 +25,6 @@ use Rattle.tool_drive.specs.declared.status.Status.TheVariants as status
 use Rattle.tool_drive.specs.declared.status.Verdict.TheVariants.{Differs, NoBehaviour}
 use Rattle.tool_drive.specs.Table.{IsJudged, refusal}
 use Rattle.tool_drive.specs.Refusals.{MemoryOr, OfFile, of_file, judged_file}
-use Rattle.asimut_run.specs.Asimut.{label_of}
 use Rattle.asimut_run.specs.Netlist.{Texts, AreCells, AreRead, no_library, bad_netlist, bad_patterns, no_behaviour, differs, Simulates, IsToldOf}
 
 pub by_library : (c : AsimutNetlistCommand) (t : Texts) (e : LibError) → OrMemory (IsRefusedLibrary false t.catal t.cells) e

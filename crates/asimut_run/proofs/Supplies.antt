@@ -1,5 +1,5 @@
 -- The pins of a library's cells have vdd and vss among them.
-use Rattle.std.proofs.Common.{◌≡◌, ◌⊎◌, inl, inr, Bool, List, [], ◌∷◌, map, sym, subst}
+use Rattle.std.proofs.Common.{inl, inr, Bool, List, map, subst}
 use Rattle.vlsi_base.specs.declared.name.Name.{Name}
 use Rattle.vlsi_base.specs.Names.{vdd, vss}
 use Rattle.vlsi_base.specs.Member.{In}

@@ -1,12 +1,11 @@
 -- Of a text one answer is right.
-use Rattle.std.proofs.Common.{◌≡◌, ◌↔◌, ℕ, ◌<◌, List, [], get_or, ◌++◌, map, length, Option, None, Some, inl, inr, refl, sym, ap, subst, ◌∙◌, arith}
+use Rattle.std.proofs.Common.{◌≡◌, ◌↔◌, ℕ, ◌<◌, List, [], get_or, ◌++◌, map, length, None, Some, inl, inr, sym, ap, subst, ◌∙◌, arith}
 use Rattle.std.specs.List.{flat_map}
 use Rattle.std.proofs.lemmas.Option.{slice_get_within, slice_get-get_or}
 use Rattle.std.proofs.lemmas.List.Sorted.{IsPermutation-sym}
 use Rattle.vlsi_base.specs.declared.name.Name.{Name}
 use Rattle.vlsi_base.specs.declared.name.Port.{Port}
 use Rattle.vlsi_base.specs.declared.name.Terminal.{Terminal}
-use Rattle.vlsi_base.specs.declared.fault.ReadError.{ReadError}
 use Rattle.vlsi_base.specs.Member.{In}
 use Rattle.machine_core.proofs.Values.{In-split, In-left, In-right, In-map}
 use Rattle.vhdl_lexer.specs.Listing.{tokens_in}
@@ -15,17 +14,17 @@ use Rattle.vlsi_model.proofs.Assembly.{In-permutation}
 use Rattle.net_core.specs.declared.pins.ModelPin.{ModelPin}
 use Rattle.net_core.specs.declared.pins.ModelPins.{ModelPins}
 use Rattle.net_core.specs.Places.{Stands}
-use Rattle.net_core.specs.Netlist.{Instance, Netlist, port, pin_of, pins_of, terminals, HasClass}
+use Rattle.net_core.specs.Netlist.{Instance, Netlist, port, pin_of, pins_of, terminals}
 use Rattle.net_core.specs.Checks.{pins_named}
 use Rattle.vst_text.specs.declared.file.StructuralFile.{StructuralFile}
 use Rattle.vst_text.proofs.Laws as text
 use Rattle.vst_io.specs.Nets.{nets, pin_names, port_bits, instance_of, instance_links, links}
 use Rattle.vst_io.specs.Faults.{first_fault}
 use Rattle.vst_io.specs.Checked.{IsChecked}
-use Rattle.vst_io.specs.Text.{IsWritten, IsNetlistOf, IsVst, Refused, long, uncut, unwritten, faulty, unsound, wide, signal_ports}
+use Rattle.vst_io.specs.Text.{IsWritten, IsNetlistOf, IsVst, long, uncut, unwritten, faulty, unsound, wide, signal_ports}
 use Rattle.vst_io.specs.Laws.{AreAlike, OneNetlist, NeverBoth}
 use Rattle.vst_io.proofs.Places.{stands_in}
-use Rattle.vst_io.proofs.Fine.{IsMapped, instance_ends, in_flat, flat_in}
+use Rattle.vst_io.proofs.Fine.{instance_ends, in_flat, flat_in}
 use Rattle.vst_io.proofs.Linked.{end_of, port_link}
 use Rattle.vst_io.proofs.Drafted.{all_mapped}
 use Rattle.vst_io.proofs.First.{faultless}

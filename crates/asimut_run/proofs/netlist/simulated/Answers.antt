@@ -1,7 +1,6 @@
-use Rattle.std.proofs.Common.{◌≡◌, ◌∙◌, ap, false, true, ℕ, List, Err, sym, subst}
+use Rattle.std.proofs.Common.{◌∙◌, ap, false, true, ℕ, List, Err, sym, subst}
 use Rattle.vlsi_base.specs.declared.name.Port.{Port}
 use Rattle.pat_meaning.specs.declared.patterns.Pattern.{Pattern}
-use Rattle.pat_meaning.specs.Answers.{AreFor}
 use Rattle.pat_io.specs.PatternText.{IsPatternText, IsPatternRefusal}
 use Rattle.cell_lib.specs.Cells.{OrMemory}
 use Rattle.cell_lib.specs.Library.{IsLibraryOf, IsRefusedLibrary}
@@ -41,8 +40,8 @@ returns-in-Err-read_pat c =
     let netlist = subst (λ (x : List ℕ). IsVst x table n) c.bytes_at-2.ensures c.in-Ok-read_vst.ensures.accepted in
     let ports_are = c.in_ok-ports.ensures ∙ ap signal_ports c.ports.ensures in
     let refused =
-        subst (λ (x : List ℕ). IsPatternRefusal x (signal_ports n.ports) c.in-Err-read_pat.error) c.bytes_at-3.ensures
-        (subst (λ (ps : List Port). IsPatternRefusal c.bytes_at-3.result.now ps c.in-Err-read_pat.error) ports_are c.in-Err-read_pat.ensures.refused) in
+    subst (λ (x : List ℕ). IsPatternRefusal x (signal_ports n.ports) c.in-Err-read_pat.error) c.bytes_at-3.ensures
+    (subst (λ (ps : List Port). IsPatternRefusal c.bytes_at-3.result.now ps c.in-Err-read_pat.error) ports_are c.in-Err-read_pat.ensures.refused) in
     subst (λ (r : Refusal). IsJudged (Simulates c.args.command.now t) (Err r)) (sym c.plain-in-Err-read_pat.ensures)
     (by_patterns c.args.command.now t l table n c.in-Err-read_pat.error c.refused-in-Err-read_pat.result (record { library = library; pins = c.in_ok-table.ensures.table }) netlist
     refused c.refused-in-Err-read_pat.ensures)
@@ -62,8 +61,8 @@ returns-in-Err-simulate_net c =
     let netlist = subst (λ (x : List ℕ). IsVst x table n) c.bytes_at-2.ensures c.in-Ok-read_vst.ensures.accepted in
     let ports_are = c.in_ok-ports.ensures ∙ ap signal_ports c.ports.ensures in
     let for_ports =
-        subst (λ (x : List ℕ). IsPatternText x (signal_ports n.ports) p) c.bytes_at-3.ensures
-        (subst (λ (ps : List Port). IsPatternText c.bytes_at-3.result.now ps p) ports_are c.in-Ok-read_pat.ensures.accepted) in
+    subst (λ (x : List ℕ). IsPatternText x (signal_ports n.ports) p) c.bytes_at-3.ensures
+    (subst (λ (ps : List Port). IsPatternText c.bytes_at-3.result.now ps p) ports_are c.in-Ok-read_pat.ensures.accepted) in
     let met = c.in-Ok-read_vst.ensures.condition (lists_supplies l true table c.in_ok-table.ensures.table) in
     let told = subst (λ (ps : List Pattern). IsToldOf ps c.in-Err-simulate_net.error c.refusal.result) c.as_slice-patterns.ensures c.refusal.ensures in
     subst (λ (r : Refusal). IsJudged (Simulates c.args.command.now t) (Err r)) (sym c.plain-in-Err-simulate_net.ensures)
@@ -81,8 +80,8 @@ returns c =
     let netlist = subst (λ (x : List ℕ). IsVst x table n) c.bytes_at-2.ensures c.in-Ok-read_vst.ensures.accepted in
     let ports_are = c.in_ok-ports.ensures ∙ ap signal_ports c.ports.ensures in
     let for_ports =
-        subst (λ (x : List ℕ). IsPatternText x (signal_ports n.ports) p) c.bytes_at-3.ensures
-        (subst (λ (ps : List Port). IsPatternText c.bytes_at-3.result.now ps p) ports_are c.in-Ok-read_pat.ensures.accepted) in
+    subst (λ (x : List ℕ). IsPatternText x (signal_ports n.ports) p) c.bytes_at-3.ensures
+    (subst (λ (ps : List Port). IsPatternText c.bytes_at-3.result.now ps p) ports_are c.in-Ok-read_pat.ensures.accepted) in
     let met = c.in-Ok-read_vst.ensures.condition (lists_supplies l true table c.in_ok-table.ensures.table) in
     by_text c.args.command.now t l table n p c.in-Ok-simulate_net.filled _ _
     (record { cells = record { library = library; pins = c.in_ok-table.ensures.table }; netlist = netlist; for_ports = for_ports }) c.in-Ok-simulate_net.ensures.known met
