@@ -9,41 +9,34 @@ import shutil
 import subprocess
 import sys
 
+from answers import agrees
 from case_file import ROWS, Case
 from pat_oracle import answer
 from random_sources import PATTERN_WORDS, WORDS, Maker, changed, flipped
 from results import Room, compare, run_in, shown
-from vbe_oracle import Ring, machine
+from vbe_oracle import FILE, Ring, machine
+from words import TOOLS_LINE, command, held, trouble
 
 HERE = pathlib.Path(__file__).resolve().parent
 EXAMPLES, CELLS = HERE.parent / "examples", HERE.parent / "cells"
 ROW = ROWS / "asimut-runs/the-inverter.txt"
 TEXT_WORDS = ["asimut", "row1.vbe", "-p", "t.pat"]
-USAGE = b"usage: alliance flow|asimut ARGUMENTS\n"
+USAGE = "usage: alliance asimut SOURCE.vbe -p PATTERNS.pat\n"
 MACHINES, RINGS, CHANGES = 200, 60, 600
 CHUNK = 100
 
 
 def second(words, files):
-    """What the second readers say of a command whose files are both there: (status, text)."""
-    if len(words) != 4 or "-p" not in words[1:3]:
-        return None
-    at = words.index("-p")
-    patterns, source = words[at + 1], words[3 if at == 1 else 1]
-    if not source.endswith(".vbe") or not patterns.endswith(".pat") or source not in files or patterns not in files:
-        return None
-    return answer(source, files[source], patterns, files[patterns])
-
-
-def agrees(got, wanted):
-    """Whether status and printed bytes are what the second readers say. Of several rings any may be named."""
-    status, printed = got[0], bytes(got[1]).decode(errors="replace")
-    if not isinstance(wanted[1], Ring):
-        return (status, printed) == wanted
-    words = printed.split(":")
-    if status != 2 or len(words) != 4 or not words[3].startswith(" cycle "):
-        return False
-    return wanted[1].allows(int(words[2]), words[3].split()[1:])
+    """What the second readers say of a command over files: (status, text), or (2, Ring) where any of some rings may be named."""
+    found = command(words, ".vbe", {"-p": ".pat"})
+    if found is None or "-p" not in found[1]:
+        return 1, USAGE
+    source, patterns = found[0], found[1]["-p"]
+    for name in (source, patterns):
+        refused = trouble(files, name, FILE)
+        if refused:
+            return refused[0], f"asimut: {refused[1]}\n"
+    return answer(source, held(files, source), patterns, held(files, patterns))
 
 
 def expect(results, room, program, title, source, patterns):
@@ -169,7 +162,7 @@ def check_cells(results, program):
 def check_words(results, program):
     case = Case(ROW)
     words = [b"asimut", b"\xff.vbe", b"-p", b"t.pat"]
-    compare(results, "a word of asimut that is no text", run_in(case.before, program, words), 1, USAGE, case.before)
+    compare(results, "a word of asimut that is no text", run_in(case.before, program, words), 1, TOOLS_LINE.encode(), case.before)
     with Room() as room:
         room.write(case.before)
         got = room.run(program, ["asimut", f"{room.folder}/row1.vbe", "-p", f"{room.folder}/t.pat"])
