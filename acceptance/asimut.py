@@ -9,6 +9,7 @@ import shutil
 import subprocess
 import sys
 
+import netlists
 from answers import agrees
 from case_file import ROWS, Case
 from pat_oracle import answer
@@ -21,17 +22,19 @@ HERE = pathlib.Path(__file__).resolve().parent
 EXAMPLES, CELLS = HERE.parent / "examples", HERE.parent / "cells"
 ROW = ROWS / "asimut-runs/the-inverter.txt"
 TEXT_WORDS = ["asimut", "row1.vbe", "-p", "t.pat"]
-USAGE = "usage: alliance asimut SOURCE.vbe -p PATTERNS.pat\n"
+USAGE = "usage: alliance asimut SOURCE -p PATTERNS.pat [-l DIR]\n"
 MACHINES, RINGS, CHANGES = 200, 60, 600
 CHUNK = 100
 
 
 def second(words, files):
     """What the second readers say of a command over files: (status, text), or (2, Ring) where any of some rings may be named."""
-    found = command(words, ".vbe", {"-p": ".pat"})
-    if found is None or "-p" not in found[1]:
+    source, given = command(words, (".vbe", ".vst"), {"-p": ".pat", "-l": ""}) or ("", {})
+    if "-p" not in given or ("-l" in given) != source.endswith(".vst"):
         return 1, USAGE
-    source, patterns = found[0], found[1]["-p"]
+    patterns = given["-p"]
+    if "-l" in given:
+        return netlists.answer(source, patterns, given["-l"], files)
     for name in (source, patterns):
         refused = trouble(files, name, FILE)
         if refused:

@@ -9,7 +9,7 @@ import subprocess
 import sys
 
 import cells
-import pat_oracle
+import netlists
 from answers import agrees, refusal
 from cell_maker import CellMaker
 from mapping import MOST_SIZE, Graph, Shapes, drawn_graph, drawn_netlist, machine_size
@@ -161,18 +161,6 @@ def random_files(choose):
 # ---- how it behaves
 
 
-def under_patterns(n, patterns):
-    """What a netlist comes to under patterns, as `asimut` says it of its source."""
-    try:
-        columns, items = pat_oracle.PatternReader(patterns).file()
-        pat_oracle.check(columns, items, n.ports)
-        return 0, pat_oracle.simulate(n, columns, items)
-    except Refused as refused:
-        return refusal("asimut", "t.pat", str(refused))
-    except pat_oracle.Differs as differs:
-        return 11, f"asimut: differs {differs}\n"
-
-
 def differs_from(m, n, choose):
     """Whether the netlist shows or loads something else than the machine, from some random contents under random inputs."""
     registers = sorted(m.registers)
@@ -192,7 +180,7 @@ def differs_from(m, n, choose):
 
 
 def run_mapped(results, room, program, title, files, patterns):
-    """Runs boog, and where it succeeds its netlist beside what asimut says of the source. The patterns are in t.pat."""
+    """Runs boog, and where it succeeds its netlist beside the source. The patterns are in t.pat."""
     wanted = second(WORDS, files)
     room.write({**files, "t.pat": patterns})
     got = room.run(program, WORDS)
@@ -208,12 +196,16 @@ def run_mapped(results, room, program, title, files, patterns):
 
 
 def run_beside(results, room, program, title, files, n, patterns):
-    """The netlist in the second readers, and the source in asimut: with outputs that are open, with one that is wrong, and from any contents."""
+    """Netlist and source in asimut and in the second readers: with outputs that are open, with one that is wrong, and from any contents."""
     source = files["s.vbe"]
     for patterns in (patterns, wrong(patterns, answer("s.vbe", source, "t.pat", patterns))):
         (room.folder / "t.pat").write_bytes(patterns)
-        got, wanted = room.run(program, ["asimut", "s.vbe", "-p", "t.pat"]), under_patterns(n, patterns)
-        results.note(f"{title}: netlist and source under patterns", agrees(got, wanted), f"{wanted} and {shown(*got)} for {source[:2000]!r}")
+        wanted = netlists.on_netlist(n, "t.pat", patterns)
+        is_same = wanted == answer("s.vbe", source, "t.pat", patterns)
+        results.note(f"{title}: netlist and source in the second readers", is_same, f"{wanted} is not that of {source[:2000]!r}")
+        for words in (["asimut", "s.vbe", "-p", "t.pat"], netlists.WORDS):
+            got = room.run(program, words)
+            results.note(f"{title}: {words[1]} under patterns", agrees(got, wanted), f"{shown(*got)} is not {wanted} for {source[:2000]!r}")
     is_other = differs_from(machine_of(source), n, random.Random(len(source)))
     results.note(f"{title}: netlist and source from any contents", not is_other, f"they differ for {source[:2000]!r}")
 

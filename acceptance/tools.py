@@ -12,6 +12,7 @@ import answers
 import asimut
 import boog
 import flow
+import net_jobs
 
 
 class Tool(NamedTuple):
@@ -21,8 +22,13 @@ class Tool(NamedTuple):
     writes: Callable | None = None
 
 
+def asimut_jobs(program, seed, times):
+    yield from net_jobs.jobs(program, seed, times)
+    yield from asimut.jobs(program, seed, times)
+
+
 TOOLS = {
-    "asimut": Tool(asimut.second, answers.agrees, asimut.jobs),
+    "asimut": Tool(asimut.second, answers.agrees, asimut_jobs),
     "boog": Tool(boog.second, answers.agrees, boog.jobs, boog.writes),
     "flow": Tool(lambda words, files: None, lambda got, wanted: False, flow.jobs),
 }

@@ -7,7 +7,7 @@ what is wrong with it first. pat_oracle.py runs patterns on it.
 from typing import NamedTuple
 
 from models import IN, OUT, Model
-from vbe_oracle import PORTS
+from vbe_oracle import PORTS, Ring
 from vhdl_reader import SUPPLIES, Refused, bits_of, fault, lex, limit, numbers, ordered, spelled
 from vst_reader import StructureReader
 
@@ -20,6 +20,18 @@ class Instance(NamedTuple):
     name: str
     model: Model
     nets: dict
+
+
+class Instance(NamedTuple):
+    """A cell with the net, which is a bit of a port or signal, of each of its pins."""
+
+    name: str
+    model: Model
+    nets: dict
+
+
+class NoBehaviour(Exception):
+    """The name of the first instance's cell that has no behaviour."""
 
 
 # ---- what a text has to name
@@ -127,6 +139,40 @@ class Tally:
         return self.clocks > 0 and (self.ports[IN] == 0 or self.clocks < clocks or self.ports[OUT] + self.pins[IN] > 0)
 
 
+class NetRing(Ring):
+    """Outputs of instances that depend on each other in a ring: which ring is named is open."""
+
+    def __init__(self, links):
+        Refused.__init__(self, "a ring")
+        self.links = links
+        self.outputs = {}
+        for owner, pin in links:
+            self.outputs.setdefault(owner, []).append((owner, pin))
+
+    def allows(self, line, names):
+        """Whether these are the instances of a ring of different outputs, from the least name on."""
+        if line != 1 or not names or min(names) != names[0] or any(name not in self.outputs for name in names):
+            return False
+        return any(self.is_ring(first, names) for first in self.outputs[names[0]])
+
+    def is_ring(self, first, names):
+        """Whether outputs of these instances, from this one on, lead to each other and back; no output stands twice."""
+        path, met, waiting = [], set(), [(0, first)]
+        while waiting:
+            depth, end = waiting.pop()
+            while len(path) > depth:
+                met.remove(path.pop())
+            if end in met:
+                continue
+            path.append(end)
+            met.add(end)
+            if len(path) < len(names):
+                waiting += [(len(path), other) for other in self.outputs[names[len(path)]] if other in self.links[end]]
+            elif first in self.links[end]:
+                return True
+        return False
+
+
 class Netlist:
     """ports: bit to direction, with vdd and vss; instances in file order; order: the outputs, each behind those on which it
     depends at once. It has what pat_oracle.py asks of a machine: ports without the supplies, registers, clock."""
@@ -197,10 +243,14 @@ class Netlist:
                 if not waits[reader]:
                     ready.append(reader)
         if len(done) < len(links):
-            raise fault(1, "cycle")
+            raise NetRing(links)
         return done
 
     # what pat_oracle.py asks for
+
+    def opaque(self):
+        """The cell of the first instance that has no behaviour, or None."""
+        return next((i.model.name for i in self.instances if i.model.machine is None), None)
 
     def clock_of(self, inputs):
         return inputs[self.clock] if self.clock else 0
