@@ -1,18 +1,18 @@
 """What no case of `asimut` has: texts that are cut and changed at every byte, long chains of signals, random machines with
-right and wrong patterns, random rings, and a circuit that Icarus Verilog runs too. The second readers say what is wanted.
+right and wrong patterns, random rings, and machines that Icarus Verilog runs too. The second readers say what is wanted.
 """
 
 import itertools
 import pathlib
 import random
-import shutil
 import subprocess
 import sys
 
 import netlists
+import verilog
 from answers import agrees
 from case_file import ROWS, Case
-from pat_oracle import answer
+from pat_oracle import answer, machine_of
 from random_sources import PATTERN_WORDS, WORDS, Maker, changed, flipped
 from results import Room, compare, run_in, shown
 from vbe_oracle import FILE, Ring, machine
@@ -23,7 +23,7 @@ EXAMPLES, CELLS = HERE.parent / "examples", HERE.parent / "cells"
 ROW = ROWS / "asimut-runs/the-inverter.txt"
 TEXT_WORDS = ["asimut", "row1.vbe", "-p", "t.pat"]
 USAGE = "usage: alliance asimut SOURCE -p PATTERNS.pat [-l DIR]\n"
-MACHINES, RINGS, CHANGES = 200, 60, 600
+MACHINES, RINGS, CHANGES, IN_VERILOG = 200, 60, 600, 40
 CHUNK = 100
 
 
@@ -190,13 +190,25 @@ def check_verilog(results, program, seed):
         source, patterns = (room.folder / "c.vbe").read_bytes(), (room.folder / "p.pat").read_bytes()
         status, printed = room.run(program, ["asimut", "c.vbe", "-p", "p.pat"])
         results.note("a circuit of gates", agrees((status, printed), answer("c.vbe", source, "p.pat", patterns)), shown(status, printed))
-        if not shutil.which("iverilog") or not shutil.which("vvp"):
+        if not verilog.is_installed():
             results.skip("there is no iverilog")
             return
         subprocess.run(["iverilog", "-o", "c.vvp", "-s", "bench", "c.v"], cwd=room.folder, check=True)
         seen = subprocess.run(["vvp", "-n", "c.vvp"], cwd=room.folder, check=True, stdout=subprocess.PIPE).stdout.decode().split()
         outputs = [line[line.index("?") + 1 : -1] for line in printed.decode().split("\n") if "?" in line]
         results.note("the circuit in Icarus Verilog", seen == outputs, f"{seen[:9]} and {outputs[:9]}")
+
+
+def check_machines_in_verilog(results, program, seed, numbers):
+    """Random machines: Icarus Verilog, where it is installed, shows what the program prints."""
+    if not verilog.is_installed():
+        results.skip("there is no iverilog")
+        return
+    with Room() as room:
+        for number in numbers:
+            _, source, patterns = made(seed, number)
+            room.write({"row1.vbe": source, "t.pat": patterns})
+            verilog.note(results, room, "a random machine", room.run(program, TEXT_WORDS)[1], machine_of(source))
 
 
 def chunks(items):
@@ -216,3 +228,4 @@ def jobs(program, seed, times):
     for check in (check_examples, check_cells, check_words):
         yield check, (program,)
     yield check_verilog, (program, seed)
+    yield check_machines_in_verilog, (program, seed, range(IN_VERILOG * times))

@@ -1,11 +1,15 @@
-"""What no case of `asimut` on a netlist has: random netlists over random cells, texts that are changed or cut, and files that
-are too long. The second readers say what is wanted.
+"""What no case of `asimut` on a netlist has: random netlists over random cells, rings, texts that are changed or cut, large netlists,
+and files that are too long. The second readers say what is wanted, and of some netlists Icarus Verilog too, where it is installed.
 """
 
 import os
+import pathlib
 import random
+import subprocess
+import sys
 
 import cells
+import verilog
 from answers import agrees
 from boog import of_cells
 from cell_maker import CellMaker
@@ -14,9 +18,11 @@ from net_maker import NetMaker, one_change
 from netlists import WORDS, of_models
 from random_sources import flipped
 from results import Room, shown
-from vst import FILE
+from vst import FILE, netlist
 
-NETLISTS, CHANGES, CHUNK = 150, 12, 25
+HERE = pathlib.Path(__file__).resolve().parent
+NETLISTS, CHANGES, RINGS, CHUNK = 150, 12, 150, 25
+ROW_CELLS = ["inv_x1", "na2_x1", "sff1_x4"]
 
 
 def random_library(choose):
@@ -51,6 +57,8 @@ def check_netlists(results, program, seed, numbers):
             room.write(files)
             status, printed = expect(results, room, program, "a random netlist", text.encode(), patterns, models)
             results.note("a random netlist is one", status in (0, 11), printed)
+            if status == 0:
+                in_verilog(results, room, "a random netlist", printed, netlist(text.encode(), models))
             for _ in range(CHANGES):
                 expect(results, room, program, "a changed netlist", one_change(choose, text).encode(), patterns, models)
             if status == 0:
@@ -58,6 +66,40 @@ def check_netlists(results, program, seed, numbers):
             changed = flipped(choose, printed) if status == 0 else None
             if changed:
                 expect(results, room, program, "one wrong bit", text.encode(), changed.encode(), models)
+
+
+def in_verilog(results, room, title, printed, n):
+    if verilog.is_installed():
+        verilog.note(results, room, title, printed.encode(), n)
+    else:
+        results.skip("there is no iverilog")
+
+
+def check_rings(results, program, seed, numbers):
+    """Netlists whose instances read anything, also each other."""
+    for number in numbers:
+        choose = random.Random(f"{seed} net ring {number}")
+        files = random_library(choose)
+        models = library(files, "lib")
+        maker = NetMaker(choose, models, is_ordered=False)
+        text, patterns = maker.text(), maker.patterns(3).encode()
+        with Room() as room:
+            room.write(files)
+            expect(results, room, program, "instances in rings", text.encode(), patterns, models)
+
+
+def check_large(results, program, seed, count, patterns):
+    """A netlist of nands, inverters and flip-flops of the row library."""
+    files = of_cells(ROW_CELLS)
+    models = library(files, "lib")
+    with Room() as room:
+        room.write(files)
+        subprocess.run([sys.executable, HERE.parent / "bench/netlist_inputs.py", str(count), str(patterns), room.folder, str(seed)], check=True)
+        text, given = ((room.folder / name).read_bytes() for name in ("n.vst", "n.pat"))
+        status, printed = expect(results, room, program, f"{count} instances", text, given, models)
+        results.note(f"{count} instances are a netlist", status == 0, printed)
+        if status == 0:
+            in_verilog(results, room, f"{count} instances", printed, netlist(text, models))
 
 
 SMALL = b"""-- one inverter
@@ -109,9 +151,11 @@ def check_long(results, program):
 
 
 def jobs(program, seed, times):
+    yield check_large, (program, seed, 16000, 12)
     yield check_long, (program,)
     yield check_chain, (program, 4000)
     yield check_cut, (program,)
-    numbers = range(NETLISTS * times)
-    for at in range(0, len(numbers), CHUNK):
-        yield check_netlists, (program, seed, numbers[at : at + CHUNK])
+    for check, count in ((check_netlists, NETLISTS), (check_rings, RINGS)):
+        numbers = range(count * times)
+        for at in range(0, len(numbers), CHUNK):
+            yield check, (program, seed, numbers[at : at + CHUNK])

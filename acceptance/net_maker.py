@@ -29,16 +29,16 @@ def bounds_of(vector):
 
 
 class NetMaker:
-    """A netlist whose instances are made in an order in which each output depends on what is made before it."""
+    """A netlist whose instances are made in an order in which each output depends on what is made before it, or on anything."""
 
-    def __init__(self, choose, models):
-        self.choose, self.models = choose, models
+    def __init__(self, choose, models, is_ordered=True):
+        self.choose, self.models, self.is_ordered = choose, models, is_ordered
         self.maker = Maker(choose)
         self.vectors, self.modes = [], {}
         self.clock = None
 
     def text(self):
-        """A text that is a netlist."""
+        """A text that is a netlist, but perhaps for rings where it isn't ordered."""
         choose = self.choose
         chosen = [choose.choice(list(self.models.values())) for _ in range(choose.choice(COUNTS))]
         for k in range(choose.randrange(1, 4)):
@@ -118,7 +118,7 @@ class NetMaker:
             if pin[0] == model.clock:
                 pairs[name] = self.clock, []
                 continue
-            known = self.known if at_once & set(pin) else everything
+            known = self.known if self.is_ordered and at_once & set(pin) else everything
             part = self.part(len(pin), set(known))
             if part and self.choose.random() < 0.7:
                 pairs[name] = part, []
