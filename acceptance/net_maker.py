@@ -44,7 +44,7 @@ class NetMaker:
         for k in range(choose.randrange(1, 4)):
             self.declare(self.maker.vector(f"i{k}"), IN)
         self.clock = self.clock_net() if any(model.clock for model in chosen) else None
-        self.known = [bit for v in self.vectors if v.name != "ck" for bit in self.bits(v)]
+        self.known = [bit for v in self.vectors if v.name != "ck" for bit in self.bits(v)] + [(supply, -1) for supply in SUPPLIES]
         places = [(k, name) for k, model in enumerate(chosen) for name in self.pin_names(model, OUT)]
         maps = [{} for _ in chosen]
         self.place_outputs(chosen, places, maps)
@@ -156,7 +156,8 @@ class NetMaker:
         choose.shuffle(declared)
         instances = [self.instance(f"{choose.choice(['u', 'q', 'i'])}{k}", model, pairs) for k, (model, pairs) in enumerate(zip(chosen, maps))]
         choose.shuffle(instances)
-        head = f"entity made is\n  port (\n    {'; '.join(ports)}\n  );\nend made;\n\narchitecture net of made is\n"
+        generic = choose.choice(["", "", "", " generic (constant w, d : natural := 4; e : time);"])
+        head = f"entity made is{generic}\n  port (\n    {'; '.join(ports)}\n  );\nend made;\n\narchitecture net of made is\n"
         return f"{head}{''.join(declared)}begin\n{''.join(instances)}end net;\n"
 
     def component(self, model):
