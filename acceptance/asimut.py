@@ -208,7 +208,10 @@ def check_machines_in_verilog(results, program, seed, numbers):
         for number in numbers:
             _, source, patterns = made(seed, number)
             room.write({"row1.vbe": source, "t.pat": patterns})
-            verilog.note(results, room, "a random machine", room.run(program, TEXT_WORDS)[1], machine_of(source))
+            status, printed = room.run(program, TEXT_WORDS)
+            results.note("a random machine", status == 0, shown(status, printed))
+            if status == 0:
+                verilog.note(results, room, "a random machine", printed, machine_of(source))
 
 
 def chunks(items):

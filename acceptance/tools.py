@@ -23,6 +23,7 @@ class Tool(NamedTuple):
 
 
 def asimut_jobs(program, seed, times):
+    """Netlists, which take the longest, and then sources."""
     yield from net_jobs.jobs(program, seed, times)
     yield from asimut.jobs(program, seed, times)
 
