@@ -1,49 +1,45 @@
 """What no case of `asimut` has: texts that are cut and changed at every byte, long chains of signals, random machines with
-right and wrong patterns, random rings, and a circuit that Icarus Verilog runs too. The second readers say what is wanted.
+right and wrong patterns, random rings, and machines that Icarus Verilog runs too. The second readers say what is wanted.
 """
 
 import itertools
 import pathlib
 import random
-import shutil
 import subprocess
 import sys
 
+import netlists
+import verilog
+from answers import agrees
 from case_file import ROWS, Case
-from pat_oracle import answer
+from pat_oracle import answer, machine_of
 from random_sources import PATTERN_WORDS, WORDS, Maker, changed, flipped
 from results import Room, compare, run_in, shown
-from vbe_oracle import Ring, machine
+from vbe_oracle import FILE, Ring, machine
+from words import TOOLS_LINE, command, held, trouble
 
 HERE = pathlib.Path(__file__).resolve().parent
 EXAMPLES, CELLS = HERE.parent / "examples", HERE.parent / "cells"
 ROW = ROWS / "asimut-runs/the-inverter.txt"
 TEXT_WORDS = ["asimut", "row1.vbe", "-p", "t.pat"]
-USAGE = b"usage: alliance flow|asimut ARGUMENTS\n"
-MACHINES, RINGS, CHANGES = 200, 60, 600
+USAGE = "usage: alliance asimut SOURCE -p PATTERNS.pat [-l DIR]\n"
+MACHINES, RINGS, CHANGES, IN_VERILOG = 200, 60, 600, 40
 CHUNK = 100
 
 
 def second(words, files):
-    """What the second readers say of a command whose files are both there: (status, text)."""
-    if len(words) != 4 or "-p" not in words[1:3]:
-        return None
-    at = words.index("-p")
-    patterns, source = words[at + 1], words[3 if at == 1 else 1]
-    if not source.endswith(".vbe") or not patterns.endswith(".pat") or source not in files or patterns not in files:
-        return None
-    return answer(source, files[source], patterns, files[patterns])
-
-
-def agrees(got, wanted):
-    """Whether status and printed bytes are what the second readers say. Of several rings any may be named."""
-    status, printed = got[0], bytes(got[1]).decode(errors="replace")
-    if not isinstance(wanted[1], Ring):
-        return (status, printed) == wanted
-    words = printed.split(":")
-    if status != 2 or len(words) != 4 or not words[3].startswith(" cycle "):
-        return False
-    return wanted[1].allows(int(words[2]), words[3].split()[1:])
+    """What the second readers say of a command over files: (status, text), or (2, Ring) where any of some rings may be named."""
+    source, given = command(words, (".vbe", ".vst"), {"-p": ".pat", "-l": ""}) or ("", {})
+    if "-p" not in given or ("-l" in given) != source.endswith(".vst"):
+        return 1, USAGE
+    patterns = given["-p"]
+    if "-l" in given:
+        return netlists.answer(source, patterns, given["-l"], files)
+    for name in (source, patterns):
+        refused = trouble(files, name, FILE)
+        if refused:
+            return refused[0], f"asimut: {refused[1]}\n"
+    return answer(source, held(files, source), patterns, held(files, patterns))
 
 
 def expect(results, room, program, title, source, patterns):
@@ -169,7 +165,7 @@ def check_cells(results, program):
 def check_words(results, program):
     case = Case(ROW)
     words = [b"asimut", b"\xff.vbe", b"-p", b"t.pat"]
-    compare(results, "a word of asimut that is no text", run_in(case.before, program, words), 1, USAGE, case.before)
+    compare(results, "a word of asimut that is no text", run_in(case.before, program, words), 1, TOOLS_LINE.encode(), case.before)
     with Room() as room:
         room.write(case.before)
         got = room.run(program, ["asimut", f"{room.folder}/row1.vbe", "-p", f"{room.folder}/t.pat"])
@@ -194,13 +190,28 @@ def check_verilog(results, program, seed):
         source, patterns = (room.folder / "c.vbe").read_bytes(), (room.folder / "p.pat").read_bytes()
         status, printed = room.run(program, ["asimut", "c.vbe", "-p", "p.pat"])
         results.note("a circuit of gates", agrees((status, printed), answer("c.vbe", source, "p.pat", patterns)), shown(status, printed))
-        if not shutil.which("iverilog") or not shutil.which("vvp"):
+        if not verilog.is_installed():
             results.skip("there is no iverilog")
             return
         subprocess.run(["iverilog", "-o", "c.vvp", "-s", "bench", "c.v"], cwd=room.folder, check=True)
         seen = subprocess.run(["vvp", "-n", "c.vvp"], cwd=room.folder, check=True, stdout=subprocess.PIPE).stdout.decode().split()
         outputs = [line[line.index("?") + 1 : -1] for line in printed.decode().split("\n") if "?" in line]
         results.note("the circuit in Icarus Verilog", seen == outputs, f"{seen[:9]} and {outputs[:9]}")
+
+
+def check_machines_in_verilog(results, program, seed, numbers):
+    """Random machines: Icarus Verilog, where it is installed, shows what the program prints."""
+    if not verilog.is_installed():
+        results.skip("there is no iverilog")
+        return
+    with Room() as room:
+        for number in numbers:
+            _, source, patterns = made(seed, number)
+            room.write({"row1.vbe": source, "t.pat": patterns})
+            status, printed = room.run(program, TEXT_WORDS)
+            results.note("a random machine", status == 0, shown(status, printed))
+            if status == 0:
+                verilog.note(results, room, "a random machine", printed, machine_of(source))
 
 
 def chunks(items):
@@ -220,3 +231,4 @@ def jobs(program, seed, times):
     for check in (check_examples, check_cells, check_words):
         yield check, (program,)
     yield check_verilog, (program, seed)
+    yield check_machines_in_verilog, (program, seed, range(IN_VERILOG * times))

@@ -14,8 +14,7 @@ def check_case(results, program, path):
     case = Case(path)
     for words in case.words:
         title = f"{case.title} ({' '.join(words)[:80]})"
-        got = run_in(case.before, program, words)
-        compare(results, title, got, case.status, case.printed, by_path(case.files_after(None)))
+        check_run(results, case, words, title, run_in(case.before, program, words), (case.status, case.printed))
         tool = TOOLS.get(words[0]) if words else None
         if tool:
             second = tool.second(words, case.before)
@@ -26,6 +25,28 @@ def check_case(results, program, path):
             troubles(results, program, case, words, (number, deed, file))
 
 
+def check_run(results, case, words, title, got, wanted):
+    """A run whose calls all succeed. A file whose spelling is open, and whose text the case doesn't have, is read again."""
+    status, printed, files = got
+    kept = by_path(case.files_after(None))
+    open_file = open_file_of(case, words)
+    if open_file:
+        name, faults_of = open_file
+        text = files.pop(name, None)
+        kept.pop(name, None)
+        faults = ["it isn't there"] if text is None else faults_of(text)
+        results.note(f"{title}: the file {name}", not faults, f"{faults} in {text and text[:2000]!r}")
+    compare(results, title, (status, printed, files), *wanted, kept)
+
+
+def open_file_of(case, words):
+    tool = TOOLS.get(words[0]) if words else None
+    if case.status != 0 or tool is None or tool.writes is None:
+        return None
+    name, faults_of = tool.writes(words, case.before)
+    return None if name in case.after else (os.path.normpath(name), faults_of)
+
+
 def full_disk(results, program, case, words, title):
     """Standard output takes nothing: a product that is lost is a failure of the output, a refusal keeps its status."""
     if not os.path.exists(FULL):
@@ -34,7 +55,7 @@ def full_disk(results, program, case, words, title):
     is_lost = case.status == 0 and case.printed
     with open(FULL, "wb") as full:
         got = run_in(case.before, program, words, full)
-    compare(results, f"{title} on a full disk", got, FILE if is_lost else case.status, b"", by_path(case.files_after(None)))
+    check_run(results, case, words, f"{title} on a full disk", got, (FILE if is_lost else case.status, b""))
 
 
 def troubles(results, program, case, words, call):

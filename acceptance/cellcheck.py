@@ -69,7 +69,8 @@ class Behaviour:
         return len(self.outputs()) == 1 and all(k < 0 for _, k in self.ports)
 
     def is_gate(self):
-        return self.has_one_scalar_output() and len(self.inputs()) <= MOST_INPUTS and not self.machine.registers
+        is_timeless = self.machine.clock is None and not self.machine.registers
+        return self.has_one_scalar_output() and len(self.inputs()) <= MOST_INPUTS and is_timeless
 
     def is_flip_flop(self):
         data = [bit for bit in self.inputs() if bit[0] != self.machine.clock]
@@ -280,8 +281,8 @@ def read_figure(text):
     return None if any(item[0] == "I" for item in figure.items) else figure
 
 
-def check_cell(name, vbe, layout, with_tracks):
-    """Raises Refused where the cell fails a check."""
+def checked_cell(name, vbe, layout, with_tracks):
+    """The cell, or Refused where it fails a check."""
     behaviour = read_behaviour(vbe)
     if behaviour is None:
         raise ap.Refused(f"{name} 1")
@@ -294,6 +295,7 @@ def check_cell(name, vbe, layout, with_tracks):
         raise ap.Refused(f"{name} {cause}")
     if cell.is_mappable() and cell.width > MOST_COLUMNS * COLUMN:
         raise ap.Refused(f"limit width {cell.width // COLUMN}")
+    return cell
 
 
 # ---- the folder
@@ -307,12 +309,16 @@ def had(files, name):
     return files[name]
 
 
+def cells(files, with_tracks):
+    """The cells that the library uses, by their names in file order; or Refused."""
+    names = catal.cells(had(files, "CATAL"))
+    texts = [(name, had(files, f"{name}.vbe"), had(files, f"{name}.ap")) for name in names]
+    return {name: checked_cell(name, vbe, layout, with_tracks) for name, vbe, layout in texts}
+
+
 def library(files, with_tracks):
     try:
-        names = catal.cells(had(files, "CATAL"))
-        texts = [(name, had(files, f"{name}.vbe"), had(files, f"{name}.ap")) for name in names]
-        for name, vbe, layout in texts:
-            check_cell(name, vbe, layout, with_tracks)
+        cells(files, with_tracks)
     except ap.Refused as refused:
         return str(refused)
     return "ok"

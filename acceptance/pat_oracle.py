@@ -5,8 +5,9 @@
 
 import functools
 
+from answers import refusal
 from vbe_oracle import FILE, Ring, machine
-from vhdl_reader import DIGITS, LETTERS, SUPPLIES, Refused, Scanner, fault, limit, spelled
+from vhdl_reader import DIGITS, LETTERS, SUPPLIES, Refused, Scanner, fault, spelled
 
 MEANT = ("in", "out", "begin", "end")
 UNITS = {"fs": 1, "ps": 10**3, "ns": 10**6, "us": 10**9, "ms": 10**12}
@@ -226,7 +227,7 @@ def simulate(m, columns, patterns):
             if column.way == "in" and not is_supply(column):
                 given.update(zip(column.bits(), bits_of(column, digits)[0]))
         env = m.settle(given, contents)
-        clock = given[(m.clock, -1)] if m.clock else 0
+        clock = m.clock_of(given)
         if clock and not clock_before:
             contents = m.load(env)
             env = m.settle(given, contents)
@@ -247,14 +248,6 @@ def simulate(m, columns, patterns):
     return "".join(column.text() for column in columns) + "begin\n" + "".join(lines) + "end;\n"
 
 
-def refusal(file, said):
-    kind, rest = said.split(" ", 1)
-    if kind == "limit":
-        return 9, f"asimut: limit: {rest}\n"
-    line, what = rest.split(" ", 1)
-    return 2, f"asimut: {file}:{line}: {what}\n"
-
-
 # The machine of a text is asked for again for other patterns.
 machine_of = functools.lru_cache(maxsize=16)(machine)
 
@@ -262,18 +255,18 @@ machine_of = functools.lru_cache(maxsize=16)(machine)
 def answer(source_name, source, patterns_name, patterns):
     """(status, printed text), or (2, Ring) where any of some rings may be named."""
     if len(source) > FILE or len(patterns) > FILE:
-        return refusal(None, f"limit file {FILE + 1}")
+        return refusal("asimut", None, f"limit file {FILE + 1}")
     try:
         m = machine_of(source)
     except Ring as ring:
         return 2, ring
     except Refused as refused:
-        return refusal(source_name, str(refused))
+        return refusal("asimut", source_name, str(refused))
     try:
         columns, items = PatternReader(patterns).file()
         check(columns, items, m.ports)
         return 0, simulate(m, columns, items)
     except Refused as refused:
-        return refusal(patterns_name, str(refused))
+        return refusal("asimut", patterns_name, str(refused))
     except Differs as differs:
         return 11, f"asimut: differs {differs}\n"

@@ -1,22 +1,35 @@
 """The tools, each with its second reader and the checks of its own.
 
 A tool that comes gets a line here. `second` answers words over files as (status, printed text), or None where it has no
-answer; `agrees` says whether an answer (status, printed bytes) is that; `jobs` gives the checks that no case has.
+answer; `agrees` says whether an answer (status, printed bytes) is that; `jobs` gives the checks that no case has. Where the
+spelling of the file that a tool writes is open, `writes` gives for words over files its name, and a function from its bytes
+to what is wrong with them.
 """
 
 from typing import Callable, NamedTuple
 
+import answers
 import asimut
+import boog
 import flow
+import net_jobs
 
 
 class Tool(NamedTuple):
     second: Callable
     agrees: Callable
     jobs: Callable
+    writes: Callable | None = None
+
+
+def asimut_jobs(program, seed, times):
+    """Netlists, which take the longest, and then sources."""
+    yield from net_jobs.jobs(program, seed, times)
+    yield from asimut.jobs(program, seed, times)
 
 
 TOOLS = {
-    "asimut": Tool(asimut.second, asimut.agrees, asimut.jobs),
+    "asimut": Tool(asimut.second, answers.agrees, asimut_jobs),
+    "boog": Tool(boog.second, answers.agrees, boog.jobs, boog.writes),
     "flow": Tool(lambda words, files: None, lambda got, wanted: False, flow.jobs),
 }

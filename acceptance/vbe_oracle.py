@@ -50,14 +50,17 @@ def reads(formula):
 class Machine:
     """ports: bit to mode; equations in an order in which each reads what is before it; registers: bit to (next, enable)."""
 
-    def __init__(self, ports, clock, equations, registers):
-        self.ports, self.clock, self.equations, self.registers = ports, clock, equations, registers
+    def __init__(self, name, ports, clock, equations, registers):
+        self.name, self.ports, self.clock, self.equations, self.registers = name, ports, clock, equations, registers
 
     def settle(self, inputs, contents):
         env = {**inputs, **contents}
         for bit, formula in self.equations:
             env[bit] = values(formula, env)
         return env
+
+    def clock_of(self, inputs):
+        return inputs[(self.clock, -1)] if self.clock else 0
 
     def load(self, env):
         return {bit: values(then, env) if values(enable, env) else env[bit] for bit, (then, enable) in self.registers.items()}
@@ -77,6 +80,16 @@ class Ring(Refused):
         if None in ring or not ring or len(set(ring)) < len(ring) or min(ring) != ring[0]:
             return False
         return line == self.lines[ring[0]] and all(b in self.reads[a] for a, b in zip(ring, ring[1:] + ring[:1]))
+
+
+def compared(sign, left, right):
+    """Whether vectors are equal, or are not: bits by xnor or xor, longer ones by halves, of which the first has more bits."""
+    if len(left) == 1:
+        return ("join", "xnor" if sign == "=" else "xor", [left[0], right[0]])
+    if sign == "/=":
+        return ("not", compared("=", left, right))
+    half = (len(left) + 1) // 2
+    return ("join", "and", [compared("=", left[:half], right[:half]), compared("=", left[half:], right[half:])])
 
 
 # ---- the checks
@@ -358,8 +371,7 @@ class Checks:
             if tree[1] == "&":
                 return [f for operand in operands for f in operand]
             if tree[1] in ("=", "/="):
-                equal = ("join", "and", [("join", "xnor", list(pair)) for pair in zip(*operands)])
-                return [equal if tree[1] == "=" else ("not", equal)]
+                return [compared(tree[1], *operands)]
             return [("join", tree[1], list(column)) for column in zip(*operands)]
         bounds = self.find(tree[2]).bounds
         bits = bits_of(tree[2], bounds) if kind == "name" else [(tree[2], tree[3])] if kind == "index" else bits_of(tree[2], tree[3])
@@ -380,7 +392,7 @@ class Checks:
                 equations.update(self.defined(s[1]))
             elif s[0] == "block":
                 parts = [self.formulas(p)[0] for p in self.guard(s[2])[1]]
-                enable = ("join", "and", parts) if parts else 1
+                enable = ("join", "and", parts) if parts[1:] else parts[0] if parts else 1
                 registers.update((bit, (f, enable)) for a in s[3] for bit, f in self.defined(a))
         ports = {bit: s.role for s in self.reader.symbols if s.role in ("in", "out") and s.name not in SUPPLIES for bit in s.bits()}
         ordered_equations = in_order(equations)
@@ -388,7 +400,7 @@ class Checks:
             raise Ring(equations, driven)
         if len(ports) > PORTS:
             raise limit("ports", len(ports))
-        return Machine(ports, self.clock(), ordered_equations, registers)
+        return Machine(self.reader.entity_name, ports, self.clock(), ordered_equations, registers)
 
 
 def in_order(equations):

@@ -174,7 +174,7 @@ class Reader:
     def __init__(self, tokens, last):
         self.tokens, self.last, self.at = tokens, last, 0
         self.names, self.bits, self.depth, self.operators = set(), 0, 0, 0
-        self.symbols, self.forms, self.ranges = [], [], []
+        self.symbols, self.forms, self.ranges, self.entity_name = [], [], [], None
 
     def kind(self):
         return self.tokens[self.at][0] if self.at < len(self.tokens) else None
@@ -245,7 +245,7 @@ class Reader:
 
     def entity(self):
         self.take("entity")
-        opened = self.take("id")[1]
+        opened = self.entity_name = self.take("id")[1]
         self.take("is")
         if self.kind() == "generic":
             self.at += 1

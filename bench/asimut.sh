@@ -19,32 +19,13 @@ fi
 program=$(realpath "$1")
 most=${2:-300}
 here=$(dirname "$(realpath "$0")")
+. "$here/measure.sh"
 work=$(mktemp -d)
 trap 'rm -rf "$work"' EXIT
 verilog=yes
 command -v iverilog >/dev/null && command -v vvp >/dev/null || verilog=no
 [ $verilog = yes ] || echo "iverilog isn't installed: its columns are left out"
 cd "$work"
-
-# measured OUT WORDS..: runs the words with their output in OUT, and prints `seconds kilobytes`, or `- -` where they failed.
-measured() {
-  local out=$1
-  shift
-  if timeout "$most" /usr/bin/time -f '%e %M' -o times "$@" >"$out" 2>errors; then
-    cat times
-  else
-    echo "- -"
-  fi
-}
-
-# growth SECONDS_BEFORE BEFORE SECONDS NOW: by how much the seconds grow when the number doubles, or -.
-growth() {
-  awk -v s="$1" -v a="$2" -v t="$3" -v b="$4" 'BEGIN { if (s + 0 > 0 && t + 0 > 0) printf "%.2f", exp(log(t / s) * log(2) / log(b / a)); else printf "-" }'
-}
-
-megabytes() {
-  [ "$1" = - ] && echo - || echo $(($1 / 1024))
-}
 
 row='%6s %8s %8s  %8s %5s  %6s %9s %9s  %8s %8s %5s\n'
 printf "$row" gates patterns bytes seconds MB gates*2 patterns*2 us/k-gate iverilog vvp MB

@@ -2,10 +2,11 @@
 """Makes a circuit of two-input gates and registers, and patterns for it: as data-flow VHDL with a pattern file, and as
 Verilog with a test bench that gives the same vectors and prints the outputs.
 
-Usage: bench/asimut_inputs.py GATES PATTERNS FOLDER [SEED]
+Usage: bench/asimut_inputs.py GATES PATTERNS FOLDER [SEED] [--nands]
 
 Writes c.vbe, p.pat, c.v and vectors.txt into the folder. One gate in fifty feeds a register; all have one clock, and it
-rises in every other pattern.
+rises in every other pattern. With --nands all gates are nands and there are 16 registers, so that 16,000 gates are within
+the size of a source that is mapped.
 """
 import pathlib
 import random
@@ -16,15 +17,14 @@ VERILOG = {"and": "{} & {}", "or": "{} | {}", "xor": "{} ^ {}", "nand": "~({} & 
 INPUTS = [f"d({k})" for k in range(8)]
 
 
-def circuit(gates, choose):
+def circuit(gates, choose, kinds=KINDS, count=None):
     """Each gate as (name, kind, left, right), and the gate that each register takes. A gate reads registers, inputs and earlier gates."""
-    count = max(gates // 50, 1)
-    registers = [f"r{k}" for k in range(count)]
+    registers = [f"r{k}" for k in range(count or max(gates // 50, 1))]
     names, made = INPUTS + registers, []
     for k in range(gates):
         near = names[-200:]
         left, right = choose.choice(near), choose.choice(names if choose.random() < 0.3 else near)
-        made.append((f"g{k}", choose.choice(KINDS), left, right))
+        made.append((f"g{k}", choose.choice(kinds), left, right))
         names.append(f"g{k}")
     return made, [(r, f"g{choose.randrange(gates)}") for r in registers]
 
@@ -78,9 +78,10 @@ endmodule
 
 
 def main():
-    gates, patterns, folder = int(sys.argv[1]), int(sys.argv[2]), pathlib.Path(sys.argv[3])
-    choose = random.Random(f"{sys.argv[4] if len(sys.argv) > 4 else 1} {gates} {patterns}")
-    made, registers = circuit(gates, choose)
+    words = [word for word in sys.argv[1:] if word != "--nands"]
+    gates, patterns, folder = int(words[0]), int(words[1]), pathlib.Path(words[2])
+    choose = random.Random(f"{words[3] if len(words) > 3 else 1} {gates} {patterns}")
+    made, registers = circuit(gates, choose, ["nand"], 16) if "--nands" in sys.argv else circuit(gates, choose)
     vectors = [(k % 2, choose.getrandbits(8)) for k in range(patterns)]
     rows = "".join(f"< {k} ns> : {ck} {d:02x} ?*;\n" for k, (ck, d) in enumerate(vectors))
     texts = {

@@ -1,0 +1,70 @@
+#!/usr/bin/env python3
+"""Writes the machine of a data-flow text as BLIF, which yosys and abc read. The text is read by acceptance/vbe_oracle.py.
+
+Usage: bench/blif.py SOURCE.vbe     prints the machine
+       bench/blif.py --genlib       prints inverter, nand of two inputs and constants as a library for abc's `map`
+"""
+import pathlib
+import sys
+
+sys.path.insert(0, str(pathlib.Path(__file__).resolve().parent.parent / "acceptance"))
+from vbe_oracle import machine  # noqa: E402
+
+COVERS = {
+    "and": "11 1", "or": "1- 1\n-1 1", "nand": "0- 1\n-0 1", "nor": "00 1", "xor": "10 1\n01 1", "xnor": "00 1\n11 1",
+}
+NOT, CHOICE, SAME = "0 1", "11- 1\n0-1 1", "1 1"
+GENLIB = "GATE inv 1 O=!a; PIN * INV 1 999 1 0 1 0\nGATE nand2 1 O=!(a*b); PIN * INV 1 999 1 0 1 0\nGATE zero 1 O=CONST0;\nGATE one 1 O=CONST1;\n"
+
+
+def named(bit):
+    return bit[0] if bit[1] < 0 else f"{bit[0]}[{bit[1]}]"
+
+
+class Writer:
+    def __init__(self):
+        self.lines, self.count = [], 0
+
+    def table(self, cover, *inputs, to=None):
+        """A table of its own; the name of what it gives."""
+        if to is None:
+            self.count += 1
+            to = f"n${self.count}"
+        self.lines.append(" ".join([".names", *inputs, to]) + (f"\n{cover}" if cover else ""))
+        return to
+
+    def value(self, formula):
+        if isinstance(formula, int):
+            return self.table("1" if formula else "")
+        if formula[0] == "bit":
+            return named(formula[1])
+        if formula[0] == "not":
+            return self.table(NOT, self.value(formula[1]))
+        if formula[0] == "join":
+            first, *others = map(self.value, formula[2])
+            for other in others:
+                first = self.table(COVERS[formula[1]], first, other)
+            return first
+        last = self.value(formula[2])
+        for condition, value in reversed(formula[1]):
+            last = self.table(CHOICE, self.value(condition), self.value(value), last)
+        return last
+
+    def machine(self, m):
+        ways = {way: " ".join(named(bit) for bit, found in m.ports.items() if found == way) for way in ("in", "out")}
+        self.lines += [f".model {m.name}", f".inputs {ways['in']}", f".outputs {ways['out']}"]
+        for bit, formula in m.equations:
+            self.table(SAME, self.value(formula), to=named(bit))
+        for bit, (then, enable) in m.registers.items():
+            loaded = self.value(then) if enable == 1 else self.table(CHOICE, self.value(enable), self.value(then), named(bit))
+            self.lines.append(f".latch {loaded} {named(bit)} re {m.clock} 0")
+        return "\n".join([*self.lines, ".end", ""])
+
+
+if __name__ == "__main__":
+    if sys.argv[1:] == ["--genlib"]:
+        print(GENLIB, end="")
+    elif len(sys.argv) == 2:
+        print(Writer().machine(machine(pathlib.Path(sys.argv[1]).read_bytes())), end="")
+    else:
+        sys.exit(__doc__)

@@ -1,0 +1,21 @@
+# What the measurements share: they read this file, with `most` as the seconds after which a run is cut off.
+
+# measured OUT WORDS..: runs the words with their output in OUT, and prints `seconds kilobytes`, or `- -` where they failed.
+measured() {
+  local out=$1
+  shift
+  if timeout "$most" /usr/bin/time -f '%e %M' -o times "$@" >"$out" 2>errors; then
+    cat times
+  else
+    echo "- -"
+  fi
+}
+
+# growth SECONDS_BEFORE BEFORE SECONDS NOW: by how much the seconds grow when the number doubles, or -.
+growth() {
+  awk -v s="$1" -v a="$2" -v t="$3" -v b="$4" 'BEGIN { if (s + 0 > 0 && t + 0 > 0) printf "%.2f", exp(log(t / s) * log(2) / log(b / a)); else printf "-" }'
+}
+
+megabytes() {
+  [ "$1" = - ] && echo - || echo $(($1 / 1024))
+}
