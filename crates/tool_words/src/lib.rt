@@ -9,7 +9,9 @@ mod usage;
 mod values;
 mod words;
 
-pub use command::{AsimutCommand, AsimutNetlistCommand, BoogCommand, Command, FlowCommand, read_words};
+pub use command::{
+    AsimutCommand, AsimutNetlistCommand, BoogCommand, Command, FlowCommand, read_words,
+};
 pub use laws::words_law;
 pub use usage::usage_line;
 pub use words::{Words, WordsError, is_same};
