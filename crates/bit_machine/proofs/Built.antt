@@ -1,19 +1,19 @@
 -- The machine of numbered bits is checked, and settles as they do.
-use Rattle.std.proofs.Common.{◌≡◌, ◌⊎◌, inl, inr, ℕ, zero, suc, ◌+◌, ◌<◌, Bool, true, false, cond, not, List, [], ◌∷◌, ◌++◌, map, length, get_or, Option, None, Some, refl, sym, ap, ◌∙◌, subst, arith}
+use Rattle.std.proofs.Common.{◌≡◌, inl, inr, ℕ, suc, ◌+◌, ◌<◌, Bool, true, cond, not, List, [], ◌∷◌, ◌++◌, map, length, get_or, Option, None, refl, sym, ap, ◌∙◌, subst, arith}
 use Rattle.std.specs.Prelude.{slice_index, filter}
 use Rattle.std.specs.List.{All}
-use Rattle.std.proofs.lemmas.List.{length-map, get_or-map, length-append, map-append}
+use Rattle.std.proofs.lemmas.List.{length-map, get_or-map, map-append}
 use Rattle.vlsi_base.specs.declared.name.Name.{Name}
 use Rattle.vlsi_base.specs.declared.name.Port.{Port}
 use Rattle.vlsi_base.specs.declared.name.Dir.{Dir}
 use Rattle.vlsi_base.specs.declared.name.Dir.TheVariants as dir
-use Rattle.bool_expr.specs.Expression.{Expression, variables, IsOver, bit, val}
+use Rattle.bool_expr.specs.Expression.{Expression, IsOver, bit, val}
 use Rattle.bool_expr.specs.Renumbering.{renumbered}
 use Rattle.machine_meaning.specs.Named.{value_at, values_at}
 use Rattle.machine_meaning.specs.Machine.{Machine, Equation, Register, is_input, names_of, inputs, input_ports, outputs, register_names}
 use Rattle.machine_meaning.specs.Cycles.{Settles, next}
-use Rattle.machine_core.specs.Order.{In, here, there, AllDifferent, held_names, equation_names, EachReadsBelow, IsOrdered}
-use Rattle.machine_core.specs.Checked.{AreInOrder, IsNoSupply, IsClockOf, IsChecked}
+use Rattle.machine_core.specs.Order.{In, AllDifferent, held_names, equation_names, EachReadsBelow, IsOrdered}
+use Rattle.machine_core.specs.Checked.{AreInOrder, IsNoSupply, IsChecked}
 use Rattle.machine_core.proofs.Values.{In-split, In-left, In-right, In-map}
 use Rattle.machine_core.proofs.Known.{IsOver-In}
 use Rattle.source_bits.specs.Driven.{Numbered, NumberedStorage}
@@ -25,10 +25,10 @@ use Rattle.vlsi_model.proofs.PortBits.{In-filter, filter-In}
 use Rattle.vlsi_model.proofs.Sorting.{In-at, place_of_In}
 use Rattle.vlsi_model.proofs.Building.{map-then, map_same}
 use Rattle.vlsi_model.proofs.Assembly.{All-from_In}
-use Rattle.bit_machine.specs.System.{System, stored_bits, driven_bits, held_bits, all_bits, IsSystem, FitsPorts, BitsSettle, bits_next, bits_shown, IsMachineOfBits}
+use Rattle.bit_machine.specs.System.{System, stored_bits, driven_bits, held_bits, IsSystem, FitsPorts, BitsSettle, bits_next, bits_shown, IsMachineOfBits}
 use Rattle.bit_machine.specs.Laid.{IsLaid, var_bits}
-use Rattle.bit_machine.proofs.Laying.{no_bit, bits_laid, bits_count, bit_of_place, place_below, place_there, laid_In, In_laid, bits_different, bits_complete, bits_inside, read_before}
-use Rattle.bit_machine.proofs.Showing.{IsTabled, vars_different, placed, value_of_bit, shown_at, shown_bit, val_renumbered, over_renumbered, gathered}
+use Rattle.bit_machine.proofs.Laying.{no_bit, bits_laid, place_below, place_there, In_laid, bits_different, bits_complete, bits_inside, read_before}
+use Rattle.bit_machine.proofs.Showing.{IsTabled, vars_different, placed, shown_at, shown_bit, val_renumbered, over_renumbered, gathered}
 
 pub All_In : {A : Type 0} (P : A → Type 0) (xs : List A) → All P xs → (x : A) → In x xs → P x
 All_In P xs all x i = let r = place_of_In xs x i in subst P (r.2 x) (all r.0 x r.1)

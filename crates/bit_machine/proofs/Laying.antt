@@ -1,11 +1,9 @@
 -- Driven bits in an order of what they read, and the names in that order.
-use Rattle.std.proofs.Common.{◌≡◌, ◌⊎◌, inl, inr, ℕ, zero, suc, ◌+◌, ◌-◌, ◌<◌, ◌≤◌, Bool, true, false, List, [], ◌∷◌, ◌++◌, map, length, get_or, refl, sym, ap, ◌∙◌, subst, arith}
+use Rattle.std.proofs.Common.{◌≡◌, inl, inr, ℕ, zero, suc, ◌+◌, ◌-◌, ◌<◌, ◌≤◌, false, List, [], ◌∷◌, ◌++◌, map, length, get_or, refl, sym, ap, ◌∙◌, subst, arith}
 use Rattle.std.specs.Prelude.{slice_index, Contains}
-use Rattle.std.specs.List.{All}
 use Rattle.std.specs.Global.{Vec}
 use Rattle.std.proofs.lemmas.List.{length-map, get_or-map, length-append}
-use Rattle.vlsi_base.specs.declared.name.Name.{Name}
-use Rattle.bool_expr.specs.Expression.{Expression, constant, variables, IsOver}
+use Rattle.bool_expr.specs.Expression.{constant, variables}
 use Rattle.bool_expr.specs.View.{view}
 use Rattle.bit_order.specs.Order as order
 use Rattle.bit_order.specs.declared.outcome.Order.TheVariants.{Sorted, Ring}
@@ -16,12 +14,12 @@ use Rattle.source_bits.specs.declared.driven.DrivenBit.{DrivenBit}
 use Rattle.source_bits.specs.Driven.{Numbered, driven_view}
 use Rattle.vlsi_model.specs.Numbered.{driven_at}
 use Rattle.vlsi_model.specs.Nodes.{HasNodes, IsOrderOfBits, nodes_read}
-use Rattle.vlsi_model.proofs.Members.{In-map_back, different_left, different_right, different_append, different_map}
+use Rattle.vlsi_model.proofs.Members.{In-map_back, different_left, different_append, different_map}
 use Rattle.vlsi_model.proofs.Sorting.{In-at, place_of_In, different_from_pairs}
 use Rattle.vlsi_model.proofs.Naming.{same_default}
 use Rattle.vlsi_model.proofs.Building.{map-then}
 use Rattle.vlsi_model.proofs.NodeLemmas.{read_In, In_read}
-use Rattle.bit_machine.specs.System.{System, held_bits, driven_bits, all_bits, IsSystem, Falls}
+use Rattle.bit_machine.specs.System.{System, held_bits, driven_bits, IsSystem, Falls}
 use Rattle.bit_machine.specs.Laid.{IsLaid, var_bits}
 
 abbrev pub no_bit : Numbered

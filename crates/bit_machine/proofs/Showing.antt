@@ -1,18 +1,18 @@
 -- Bits by their numbers and by their names.
-use Rattle.std.proofs.Common.{◌≡◌, ℕ, zero, suc, ◌+◌, ◌<◌, Bool, true, false, cond, not, List, [], ◌∷◌, ◌++◌, map, length, get_or, None, refl, sym, ap, ◌∙◌, subst, arith}
+use Rattle.std.proofs.Common.{◌≡◌, ℕ, suc, ◌<◌, Bool, false, cond, not, List, [], ◌∷◌, ◌++◌, map, length, get_or, None, refl, sym, ap, ◌∙◌, arith}
 use Rattle.std.specs.Prelude.{slice_index}
 use Rattle.std.proofs.lemmas.List.{length-map, get_or-map}
 use Rattle.vlsi_base.specs.declared.name.Name.{Name}
 use Rattle.bool_expr.specs.Expression.{Expression, constant, variable, inverse, pair, choice, gate_value, variables, IsOver, bit, val}
 use Rattle.bool_expr.specs.Renumbering.{renumbered}
 use Rattle.machine_meaning.specs.Named.{value_at, values_at}
-use Rattle.machine_core.specs.Order.{In, here, there, AllDifferent}
-use Rattle.machine_core.proofs.Values.{In-left, In-right, In-map, bit-value_at}
+use Rattle.machine_core.specs.Order.{In, here, AllDifferent}
+use Rattle.machine_core.proofs.Values.{In-left, In-right, bit-value_at}
 use Rattle.source_meaning.specs.Formula.{place}
 use Rattle.vlsi_model.specs.Numbered.{name_at}
 use Rattle.vlsi_model.specs.Nodes.{HasNodes}
 use Rattle.vlsi_model.proofs.Members.{different_map}
-use Rattle.vlsi_model.proofs.Sorting.{In-at, place_of_In}
+use Rattle.vlsi_model.proofs.Sorting.{place_of_In}
 use Rattle.vlsi_model.proofs.Numbering.{place_of_at}
 
 abbrev pub no_name : Name

@@ -1,6 +1,5 @@
 -- Bits by their numbers, what settles among them, and their machine.
 use Rattle.std.specs.Prelude.{◌≡◌, ℕ, ◌<◌, Bool, List, [], ◌++◌, map, length, Option, None, Some, if◌then◌else◌}
-use Rattle.std.specs.List.{All}
 use Rattle.vlsi_base.specs.declared.name.Name.{Name}
 use Rattle.vlsi_base.specs.declared.name.Port.{Port}
 use Rattle.vlsi_base.specs.declared.name.Dir.TheVariants as dir

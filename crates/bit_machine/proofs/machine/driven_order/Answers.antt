@@ -1,4 +1,4 @@
-use Rattle.std.proofs.Common.{◌≡◌, ℕ, List, length, map, ap, subst, refl}
+use Rattle.std.proofs.Common.{List, length, map, ap, subst, refl}
 use Rattle.bool_expr.specs.View.{view}
 use Rattle.source_bits.specs.declared.driven.DrivenBit.{DrivenBit}
 use Rattle.bit_order.specs.declared.outcome.Order.TheVariants.{Sorted, Ring}

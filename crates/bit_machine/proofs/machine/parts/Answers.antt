@@ -1,9 +1,7 @@
-use Rattle.std.proofs.Common.{◌≡◌, ℕ, List, length, map, sym, ap, ◌∙◌, subst}
+use Rattle.std.proofs.Common.{ℕ, List, length, map, sym, ap, ◌∙◌, subst}
 use Rattle.vlsi_base.specs.declared.name.Name.{Name}
 use Rattle.machine_core.specs.Order.{AllDifferent}
 use Rattle.machine_core.specs.View.{equation_view, register_view}
-use Rattle.machine_meaning.specs.declared.equation.Equation.{Equation as EquationParts}
-use Rattle.machine_meaning.specs.declared.equation.Register.{Register as RegisterParts}
 use Rattle.source_bits.specs.declared.driven.DrivenBit.{DrivenBit}
 use Rattle.source_bits.specs.declared.driven.StoredBit.{StoredBit}
 use Rattle.source_bits.specs.Driven.{NumberedStorage, driven_view, stored_view}
