@@ -5,8 +5,8 @@ use net_view::right_is_well_formed;
 use vbe_words::{catal_is_named, cell_can_be_written, machine_can_be_written, machine_is_named};
 use vst_again::{written_is_a_sentence, written_says_the_netlist};
 
-/// The netlist that `boog` writes is well formed for the machine of its source and behaves as this does. And its file, where names, numbers and bits are within the
-/// limits of structural texts, is a sentence of their grammar which says the netlist.
+/// The netlist that `boog` writes is well formed for the machine of its source and behaves as this does. And its file, where names,
+/// numbers and bits are within the limits of structural texts, is a sentence of their grammar which says the netlist.
 pub fn boog_law()
     ensures agrees { MappingAgrees }
     ensures said { MappingIsSaid }
