@@ -4,7 +4,7 @@ use Rattle.vlsi_base.specs.declared.name.Name.{Name}
 use Rattle.vlsi_base.specs.Member.{In}
 use Rattle.machine_meaning.specs.Named.{value_at}
 use Rattle.machine_meaning.specs.Machine.{Machine, inputs, names_of}
-use Rattle.machine_meaning.specs.Cycles.{Settles, next}
+use Rattle.machine_meaning.specs.Cycles.{Settles, next, AreVectors}
 use Rattle.machine_core.specs.Order.{IsOrdered}
 use Rattle.net_core.specs.declared.pins.ModelPins.{ModelPins}
 use Rattle.net_core.specs.Netlist.{Netlist as InMemory}
@@ -12,7 +12,7 @@ use Rattle.cell_model.specs.Cell.{Function, gate, flip_flop, other, opaque, Cell
 use Rattle.cell_model.specs.Library.{Library, cell_of}
 use Rattle.cell_pins.specs.Table.{IsTableOf}
 use Rattle.net_meaning.specs.Netlist.{Member, Netlist, port}
-use Rattle.net_meaning.specs.Behaviour.{Contents, Valuation, bit_of, NetSettles, model_of, cell_at, net_next}
+use Rattle.net_meaning.specs.Behaviour.{Contents, Valuation, bit_of, NetSettles, model_of, cell_at, net_next, NetTrace}
 use Rattle.net_view.specs.Condition.{MeetsCondition}
 use Rattle.net_view.specs.View.{IsSeenAs}
 use Rattle.net_machine.specs.Signals.{signal_ports, IsClockPort}
@@ -90,3 +90,15 @@ MachineSettlesNetlist =
     (n : InMemory) (l : Library) (table : List ModelPins) (m : Machine) (k : Netlist) (t : Contents) (i : List Bool)
     → IsMachineOfNetlist n l table m → IsOrdered m → IsSeenAs n k → FitsContents k l t → length i ≡ length (inputs m)
     → NetSettlesOnce k l (inputs m) m.clock t i
+
+-- From contents that fit and for every list of vectors, of every length, the netlist has exactly one list of valuations, by the bits
+-- of its classes.
+abbrev pub NetRunsOnce : Netlist → Library → Machine → Contents → List (List Bool) → Type 0
+NetRunsOnce k l m t v =
+    (ws : List (List Bool)) × NetTrace k l m t v ws × ((others : List (List Bool)) → NetTrace k l m t v others → others ≡ ws)
+
+-- so does each netlist that has a machine
+abbrev pub MachineRunsNetlist : Type 0
+MachineRunsNetlist =
+    (n : InMemory) (l : Library) (table : List ModelPins) (m : Machine) (k : Netlist) (t : Contents) (v : List (List Bool))
+    → IsMachineOfNetlist n l table m → IsOrdered m → IsSeenAs n k → FitsContents k l t → AreVectors m v → NetRunsOnce k l m t v

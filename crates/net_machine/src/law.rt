@@ -1,5 +1,5 @@
 // What follows for a netlist that has a machine.
-ghost use Rattle.net_machine.specs.Step.{MachineSettlesNetlist};
+ghost use Rattle.net_machine.specs.Step.{MachineSettlesNetlist, MachineRunsNetlist};
 
 use machine_core::settles_once;
 
@@ -7,6 +7,14 @@ use machine_core::settles_once;
 /// two give each class the same bit.
 pub fn machine_settles_netlist()
     ensures { MachineSettlesNetlist }
+{
+    settles_once();
+}
+
+/// So it runs: from contents that fit and for every list of vectors it has exactly one list of valuations, by the bits of its
+/// classes.
+pub fn machine_runs_netlist()
+    ensures { MachineRunsNetlist }
 {
     settles_once();
 }

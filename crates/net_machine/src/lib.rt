@@ -10,5 +10,5 @@ mod law;
 mod machine;
 
 pub use error::NetMachineError;
-pub use law::machine_settles_netlist;
+pub use law::{machine_runs_netlist, machine_settles_netlist};
 pub use machine::{machine_of, signal_ports};
