@@ -1,4 +1,4 @@
--- What `asimut` reads and answers.
+-- What `asimut` on a source reads and answers.
 use Rattle.std.specs.Prelude.{◌≡◌, ◌⊎◌, ℕ, List, [], ◌∷◌, drop, get_or, Option, None, Some, Result, Ok, Err}
 use Rattle.std.specs.Fmt.{decimal}
 use Rattle.vlsi_base.specs.declared.name.Name.{Name}

@@ -1,4 +1,4 @@
--- What the tools' plans and answers come to, said of files.
+-- What the plan and the answers of `asimut` on a source come to, said of files.
 use Rattle.std.specs.Prelude.{ℕ, List, Option, IfSome, Result}
 use Rattle.vlsi_shelf.specs.Files.{Files}
 use Rattle.tool_words.specs.declared.command.AsimutCommand.{AsimutCommand}
@@ -15,7 +15,7 @@ abbrev pub OfBoth : Option Files → AsimutCommand → (List ℕ → List ℕ �
 OfBoth told c P =
     IfSome told (λ files. (source : List ℕ) × (patterns : List ℕ) × Holds files c.source source × Holds files c.patterns patterns × P source patterns)
 
--- an answer of `asimut` is one to the contents of both files
+-- an answer of `asimut` on a source is one to the contents of both files
 abbrev pub AnswersBoth : Type 0
 AnswersBoth = (c : AsimutCommand) (told : Option Files) (r : Result Product Refusal) → ComesTo told (asimut_plan c) (asimut_answers c) r
     → OfBoth told c (λ source patterns. Simulates c source patterns r)

@@ -1,8 +1,8 @@
-// Laws: what the tools' plans and answers come to, said of files. They cost nothing when they are called.
+// Laws: what the plan and the answers of `asimut` on a source come to, said of files. They cost nothing when they are called.
 ghost use Rattle.asimut_run.specs.Laws.{AnswersBoth, ChangesNoFile};
 
-/// What `asimut` answers is an answer to the contents of SOURCE and PATTERNS, neither of which is too long, and whatever the
-/// status it changes no file.
+/// What `asimut` on a source answers is an answer to the contents of SOURCE and PATTERNS, neither of which is too long, and
+/// whatever the status it changes no file.
 pub fn asimut_law()
     ensures answers { AnswersBoth }
     ensures files { ChangesNoFile }

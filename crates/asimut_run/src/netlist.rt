@@ -16,7 +16,13 @@ use tool_words::AsimutNetlistCommand;
 use vlsi_base::{FileBytes, FileName, MOST_NETLIST_BYTES};
 use vst_io::read_vst;
 
-/// `asimut` on a netlist, with what it is asked.
+/// `asimut` on a netlist, with what it is asked: it runs PATTERNS on the netlist in SOURCE and prints them with every output filled
+/// in.
+///
+/// All files are read first: SOURCE, PATTERNS, CATAL, and the behaviour and the layout of each cell that this uses. Then it is
+/// refused, in this order: by `Library`, or a limit of CATAL or of a cell; by `Source`, or a limit, of SOURCE, then of PATTERNS; by
+/// `NoBehaviour`, at the first instance whose cell is opaque; by `Differs`, at the first bit. Memory goes by the files, the netlist
+/// and its machine.
 #[derive(Drop)]
 pub struct AsimutNetlist<'a> {
     pub command: &'a AsimutNetlistCommand,

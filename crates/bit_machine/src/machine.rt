@@ -63,7 +63,7 @@ fn parts(
     Ok((Equations::new(equations), Registers::new(registers)))
 }
 
-/// The machine of numbered bits, with these ports and this clock. Its names are those of the bits. None of the driven bits may
+/// The machine of numbered bits, with these ports and this clock. None of the driven bits may
 /// depend on itself. Takes time for each bit and each operator of the expressions, and memory for them. More bits than 32 bits
 /// can number are answered as out of memory.
 pub fn machine_of_bits(

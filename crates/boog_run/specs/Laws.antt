@@ -15,7 +15,8 @@ use Rattle.tool_drive.specs.declared.tool.Product.{Product}
 use Rattle.boog_run.specs.Boog.{IsMapping}
 
 -- As every netlist of a layout that it can be seen as, it is well formed for the source's machine and behaves as this does: from all
--- contents of its registers and for all vectors it runs in exactly one way, and its outputs are those of the machine.
+-- contents of its registers and for all vectors it runs in exactly one way, and from contents that match those of the machine's
+-- registers its outputs are those of the machine.
 abbrev pub MappingAgrees : Type 0
 MappingAgrees =
     (c : BoogCommand) (source catal : List ℕ) (cells : List (List ℕ)) (p : Product) (h : IsMapping c source catal cells p)

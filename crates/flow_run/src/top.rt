@@ -56,8 +56,9 @@ fn run<S: Shelf, T: Sink>(alloc: Global, command: &Command, shelf: &mut S, out: 
 /// The words are taken apart first, and only then is a file read. A tool reads its files in their order, then writes its file,
 /// if it has one, and then prints its text by one put. `flow` reads SOURCE, CATAL, and the behaviour and the geometry of its
 /// cell, writes the layout to NAME.ap and prints the report. `boog` reads SOURCE, CATAL, and the behaviour and the layout of each
-/// cell that this uses, writes the netlist to NAME.vst and prints how many cells it has. `asimut` reads SOURCE and PATTERNS and
-/// prints the patterns with every output filled in. A refusal prints its line by one put; if that fails the status stays as it was.
+/// cell that this uses, writes the netlist to NAME.vst and prints how many cells it has. `asimut` reads SOURCE and
+/// PATTERNS, for a netlist also CATAL and the behaviour and the layout of each cell that this uses, and prints the patterns with
+/// every output filled in. A refusal prints its line by one put; if that fails the status stays as it was.
 /// Memory for what is read and answered is taken on `alloc` and given back.
 pub fn alliance_main<S: Shelf, T: Sink>(
     alloc: Global,

@@ -15,7 +15,7 @@ use Rattle.cell_model.specs.Library.{Library, cell_of}
 use Rattle.cell_pins.specs.Table.{IsTableOf}
 use Rattle.net_view.specs.Condition.{MeetsCondition}
 
--- the ports but vdd and vss, in the order of names
+-- the ports but vdd and vss, in their order
 abbrev pub signal_ports : List Port → List Port
 signal_ports ports = filter (λ p. not (is_supply p.name.text)) ports
 

@@ -121,7 +121,7 @@ fn port_inputs(
     Ok(bits)
 }
 
-/// What the bit of a supply or of the clock is.
+/// The bit that a supply or the clock stands as: 1 for vdd, 0 for vss and the clock.
 fn fixed_bit(port: &Port) -> bool
     ensures { result ≡ fixed_bit port.now }
 {

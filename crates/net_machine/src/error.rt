@@ -2,7 +2,7 @@
 ghost use Rattle.std.specs.Prelude.{◌≡◌};
 ghost use Rattle.net_machine.specs.declared.error.NetMachineError.TheVariants.{Memory};
 
-use std::alloc::{AllocError, AllocFailed};
+use std::alloc::AllocError;
 use thiserror::Error;
 use vlsi_base::Text;
 
@@ -20,14 +20,6 @@ impl From<AllocError> for NetMachineError {
     ghost from_gives = { λ _ e. e ≡ Memory };
 
     fn from(_: AllocError) -> Self {
-        NetMachineError::Memory
-    }
-}
-
-impl<T: Drop> From<AllocFailed<T>> for NetMachineError {
-    ghost from_gives = { λ _ e. e ≡ Memory };
-
-    fn from(_: AllocFailed<T>) -> Self {
         NetMachineError::Memory
     }
 }

@@ -1,4 +1,5 @@
-//! Netlists of cells as machines: a netlist of a library's cells that passes its checks has one machine, which settles as it does.
+//! Netlists of cells as machines: a netlist of a library's cells that passes its checks, with no opaque cell among them, has a
+//! machine, which settles as it does.
 #![tactic(auto)]
 
 mod bits;

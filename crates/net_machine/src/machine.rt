@@ -39,7 +39,8 @@ pub fn signal_ports(alloc: Global, ports: &[Port]) -> Result<Ports, AllocError>
 /// - `NoBehaviour`: the cell of an instance is opaque; it names the cell of the first such instance, in the order of instances.
 ///
 /// Takes memory and time for each class and port, and for each bit and each operator of each instance's cell; for each model it
-/// looks through the library's cells. More bits than 32 bits can number are answered as out of memory.
+/// looks through the library's cells, and for each output of another machine's cell through the cell's names; time has the
+/// logarithm of the number of instances beside. More bits than 32 bits can number are answered as out of memory.
 pub fn machine_of(
     alloc: Global,
     netlist: &Netlist,

@@ -32,7 +32,7 @@ pub enum LibraryFault {
 pub enum Verdict {
     /// A bit that isn't what the pattern expects, and the pattern's label, or its number from 0.
     Differs { label: Text, name: Name },
-    /// The cell of an instance of which nothing is known.
+    /// The name of an instance's cell, where nothing is known of the cell.
     NoBehaviour(Text),
 }
 

@@ -12,13 +12,13 @@ use Rattle.vst_text.specs.declared.file.StructuralFile.{StructuralFile}
 use Rattle.vst_io.specs.Nets.{nets, components}
 use Rattle.vst_io.specs.Faults.{all_widths, all_forms, first_unlisted, bad_maps, terminal_count, first_fault}
 
--- its declarations have no fault
+-- its declarations have no fault, and the table lists its components
 pub record IsDeclared (table : List ModelPins) (f : StructuralFile) : Type 0 where
   pub widths : all_widths f ≡ []
   pub forms : all_forms f ≡ []
   pub listed : first_unlisted table (components f.declarations) ≡ None
 
--- nor have its maps, and it has few terminals
+-- nor have its maps, it has few terminals, and no net is declared twice
 pub record IsChecked (table : List ModelPins) (f : StructuralFile) : Type 0 where
   pub declared : IsDeclared table f
   pub maps : bad_maps table f ≡ []

@@ -46,7 +46,8 @@ all_widths f = port_faults f.entity.ports ++ flat_map declaration_widths f.decla
 abbrev pub is_in_bit : PortGroup → Bool
 is_in_bit g = is_in_mode g.mode && (is_bit_word g.kind.word && is_none g.kind.range)
 
--- forms of ports that are left out: of the entity's own ports vdd and vss but as inputs of one bit, then mode inout, mux and wor
+-- forms that are left out: of the entity's own ports the names vdd and vss, unless they are `in bit`; then mode inout; then the types
+-- mux and wor
 abbrev pub port_form : Bool → PortGroup → List ℕ
 port_form own g =
     supply_faults (not own || is_in_bit g) g.names

@@ -1,4 +1,4 @@
--- Of a text one answer is right.
+-- A text is at most one netlist, and never that and a refusal.
 use Rattle.std.specs.Prelude.{◌≡◌, ℕ, List}
 use Rattle.vlsi_base.specs.declared.fault.ReadError.{ReadError}
 use Rattle.net_core.specs.declared.pins.ModelPins.{ModelPins}

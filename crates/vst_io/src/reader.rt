@@ -108,7 +108,10 @@ fn signal_count(ports: &[Port]) -> usize
 /// - the faults of `net_core::check` at line 1;
 /// - `Limit` of `Ports` with more than 4096 bits of ports without vdd and vss.
 ///
-/// Memory and time go by the bytes and by the bits of ports and pins, time with the logarithm of their number beside.
+/// Where each model of the table has the pins vdd and vss, the netlist meets what every stage asks.
+///
+/// Memory and time go by the bytes, by the bits of ports and pins, by the names of the table's models, and by each input pin on
+/// which an output pin depends; time with the logarithm of their number beside.
 pub fn read_vst(alloc: Global, bytes: &[u8], table: &PinTable) -> Result<Netlist, ReadError>
     requires { IsPinTable table.now }
     ensures accepted { IfOk result (λ n. IsVst bytes.now table.now n) }

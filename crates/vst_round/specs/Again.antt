@@ -22,7 +22,7 @@ use Rattle.vst_io.specs.Laws.{AreAlike}
 abbrev pub text : Netlist → List ModelPins → List ℕ
 text n table = text_of (layout n table)
 
--- The netlist can be written by the table, and no two of its ports have one class: so its text says it.
+-- The netlist can be written by the table, within the limits of texts, and no two of its ports have one class: so its text says it.
 pub record CanBeSaid (n : Netlist) (table : List ModelPins) : Type 0 where
   pub sound : IsNetlist n
   pub fits : Fits n table
