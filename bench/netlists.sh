@@ -4,8 +4,8 @@
 #
 # Usage: bench/netlists.sh PROGRAM [SECONDS]      (a run that takes longer than SECONDS, 300 at first, is cut off)
 #
-# GATES and INSTANCES in the environment are other lists of numbers, which rise, at most 16,000 and 1,000,000; PATTERNS another
-# number of patterns (at first 5,000 on circuits and 20 on random netlists).
+# GATES and INSTANCES in the environment are other lists of numbers, which rise, at most 16,000 and 1,000,000, or are empty;
+# PATTERNS another number of patterns (at first 5,000 on circuits and 500 on random netlists).
 #
 # Columns of the first table: gates of the source, cells of the netlist; on the source seconds, megabytes, and microseconds for
 # 1,000 gates and one pattern beyond reading; the same on the netlist for 1,000 cells; and how many gates a cell costs.
@@ -37,7 +37,7 @@ patterns=${PATTERNS:-5000}
 echo "$patterns patterns on sources and on their netlists"
 row='%6s %6s   %8s %5s %7s   %8s %5s %7s  %5s\n'
 printf "$row" gates cells source MB us/k netlist MB us/k cell
-for gates in ${GATES:-1000 2000 4000 8000 16000}; do
+for gates in ${GATES-1000 2000 4000 8000 16000}; do
   python3 "$here/asimut_inputs.py" "$gates" "$patterns" "$work" --nands
   rm -f r.vst
   "$program" boog c.vbe -l lib -o r >printed || true
@@ -56,12 +56,12 @@ for gates in ${GATES:-1000 2000 4000 8000 16000}; do
   printf "$row" "$gates" "${cells:--}" "$source" "$(megabytes "$memory")" "$by_gate" "$netlist" "$(megabytes "$more")" "$by_cell" "$ratio"
 done
 
-patterns=${PATTERNS:-20}
+patterns=${PATTERNS:-500}
 printf '\n%s patterns on random netlists\n' "$patterns"
 row='%9s %9s  %8s %5s %7s  %8s %5s %7s %9s\n'
 printf "$row" instances bytes reading MB n*2 seconds MB n*2 us/k
 read_before=- ran_before=- before=0
-for count in ${INSTANCES:-10000 20000 40000 80000 160000}; do
+for count in ${INSTANCES-10000 20000 40000 80000 160000}; do
   python3 "$here/netlist_inputs.py" "$count" "$patterns" "$work"
   read -r reading memory < <(measured printed "$program" asimut n.vst -p none.pat -l lib)
   read -r ran more < <(measured printed "$program" asimut n.vst -p n.pat -l lib)
