@@ -2,8 +2,8 @@
 ghost use Rattle.vst_round.specs.Again.{ReadAgain, WrittenIsReadAgain};
 
 /// Where a netlist meets what the stages ask, can be written, has names, numbers and declared bits within the limits of texts, and
-/// its text is short enough, with few enough ports and terminals, this text has no fault, and is the netlist, with the models that its instances have. Where the netlist lists no others it is
-/// the netlist itself.
+/// its text is short enough, with few enough ports and terminals, this text has no fault, and is the netlist, with the models that
+/// its instances have. Where the netlist lists no others it is the netlist itself.
 pub fn written_is_read_again()
     ensures { WrittenIsReadAgain }
 {}
