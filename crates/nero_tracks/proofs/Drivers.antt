@@ -21,7 +21,7 @@ use Rattle.net_theory.proofs.Basics.{In-names, In-inputs, In-held}
 use Rattle.net_view.proofs.Lists.{filter_in}
 use Rattle.net_view.proofs.Ports.{supplies_differ}
 use Rattle.net_drawing.proofs.Coding.{same_name_true, same_name_itself, same_name_false}
-use Rattle.nero_tracks.specs.Nets.{is_signal, signal_ports, port_classes, driven_by, driven, is_among, net_classes}
+use Rattle.ocp_place.specs.Nets.{is_signal, signal_ports, port_classes, driven_by, driven, is_among, net_classes}
 use Rattle.nero_tracks.specs.Law.{IsOrderly}
 use Rattle.nero_tracks.proofs.Lists.{different_append, different_filter, few, many}
 use Rattle.nero_tracks.proofs.Among.{among_in, in_among}
@@ -106,7 +106,7 @@ module _ (n : Netlist) (l : Library) (m : Machine) (checked : IsChecked m) (well
   driven_member : (ms : List Member) (i : Member) (c : Cell) (name : Name) → In i ms → cell_of l i.model ≡ Some c → In name (cell_outputs c)
       → In (n.class (pin_of i.name name)) (driven n l ms)
   driven_member [] i c name h found out = elim h [ ]
-  driven_member (j ∷ ms) j c name here found out =
+  driven_member (j ∷ ms) i c name here found out =
       In-left (n.class (pin_of j.name name)) (driven_by n j.name (cell_of l j.model)) (driven n l ms)
       (subst (λ (o : Option Cell). In (n.class (pin_of j.name name)) (driven_by n j.name o)) (sym found) (In-map (λ (pin : Name). n.class (pin_of j.name pin)) name (cell_outputs c) out))
   driven_member (j ∷ ms) i c name (there h) found out =

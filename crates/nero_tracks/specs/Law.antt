@@ -12,7 +12,7 @@ use Rattle.net_meaning.specs.Well.{IsWell}
 use Rattle.net_theory.specs.Laws.{IsCounted}
 use Rattle.net_drawing.specs.Clean.{IsClean}
 use Rattle.net_drawing.specs.Law.{IsNumbered}
-use Rattle.nero_tracks.specs.Nets.{signal_ports, net_classes, net_number}
+use Rattle.ocp_place.specs.Nets.{signal_ports, net_classes, net_number}
 
 -- what is asked of a netlist beside being well formed: its cells are clean, its ports stand in the order of names, its instances
 -- have different names, and its classes are numbered without a gap

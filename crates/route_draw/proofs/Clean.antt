@@ -34,7 +34,7 @@ rect_is r a b c d p q s t =
     ap (λ (z : ℤ). rect_of z r.y1 r.x2 r.y2) p ∙ ap (λ (z : ℤ). rect_of a z r.x2 r.y2) q ∙ ap (λ (z : ℤ). rect_of a b z r.y2) s ∙ ap (λ (z : ℤ). rect_of a b c z) t
 
 joined_listed : (xs : List Shape) (a b : Shape) → Joined xs a b → In a xs
-joined_listed xs a a (itself h) = h
+joined_listed xs a b (itself h) = h
 joined_listed xs a b (through h l j) = h
 
 module _ (c : Cell) (formed : IsFormed c) (passes : IsVerdict true c verdict.Passes) (usable : IsUsable c) where

@@ -35,12 +35,12 @@ counted (suc n) a low = elim (last n a low) [
 
 flat_there : {A B : Type 0} (f : A → List B) (xs : List A) (x : A) (y : B) → In x xs → In y (f x) → In y (flat_map f xs)
 flat_there f [] x y h g = elim h [ ]
-flat_there f (x ∷ xs) x y here g = In-left y (f x) (flat_map f xs) g
+flat_there f (z ∷ xs) x y here g = In-left y (f z) (flat_map f xs) g
 flat_there f (z ∷ xs) x y (there h) g = In-right y (f z) (flat_map f xs) (flat_there f xs x y h g)
 
 kept_there : (test : Point → Bool) (xs : List Point) (q : Point) → In q xs → test q ≡ true → In q (filter_map (λ p. if test p then Some p else None) xs)
 kept_there test [] q h e = elim h [ ]
-kept_there test (x ∷ xs) x here e = rw e here
+kept_there test (x ∷ xs) q here e = rw e here
 kept_there test (x ∷ xs) q (there h) e = by (test x) refl (kept_there test xs q h e) where
   by : (b : Bool) → test x ≡ b → In q (filter_map (λ p. if test p then Some p else None) xs) → In q (filter_map (λ p. if test p then Some p else None) (x ∷ xs))
   by true f rest = rw f (there rest)

@@ -17,7 +17,7 @@ use Rattle.ocp_rows.specs.Placement.{IsPlaced}
 use Rattle.net_drawing.specs.Clean.{IsClean}
 use Rattle.net_drawing.specs.Drawing.{track_items, IsDrawable}
 use Rattle.net_drawing.specs.Law.{one_row, track_box}
-use Rattle.nero_tracks.specs.Nets.{signal_ports, net_number}
+use Rattle.ocp_place.specs.Nets.{signal_ports, net_number}
 
 -- A usable cell that has passed its checks, that of columns among them, may have tracks over it.
 abbrev pub CheckedCellsAreClean : Type 0

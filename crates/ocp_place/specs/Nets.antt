@@ -7,7 +7,6 @@ use Rattle.machine_meaning.specs.Named.{is_same_name}
 use Rattle.cell_model.specs.Cell.{Cell, cell_outputs}
 use Rattle.cell_model.specs.Library.{Library, cell_of}
 use Rattle.net_meaning.specs.Netlist.{Member, Netlist, port, pin_of}
-use Rattle.net_drawing.specs.Drawing.{Numbering}
 
 -- a port that is no supply
 abbrev pub is_signal : Name → Bool
@@ -46,5 +45,5 @@ place_among [] class = 0
 place_among (k ∷ ks) class = if nat_eq k class then 0 else suc (place_among ks class)
 
 -- the net of a class; that of a supply's class is past all nets
-abbrev pub net_number : Netlist → Library → Numbering
+abbrev pub net_number : Netlist → Library → ℕ → ℕ
 net_number n l class = place_among (net_classes n l) class

@@ -1,0 +1,4 @@
+pub mod Nets
+pub mod Sites
+pub mod Reaches
+pub mod Placed

@@ -1,0 +1,57 @@
+-- Placements for private tracks, as they are kept in memory.
+use Rattle.std.specs.Prelude.{◌≡◌, ◌≤◌, ◌<◌, ◌++◌, ℕ, pos, List, map, length, slice_index_or, Some}
+use Rattle.vlsi_base.specs.declared.name.Name.{Name}
+use Rattle.vlsi_base.specs.Names.{vdd, vss}
+use Rattle.cell_model.specs.Cell.{Cell}
+use Rattle.cell_model.specs.Library.{Library, cell_of, IsUsable}
+use Rattle.cell_model.specs.Access.{Point}
+use Rattle.net_core.specs.Places.{IsThere}
+use Rattle.net_core.specs.Netlist.{Instance, Netlist as InMemory, port}
+use Rattle.net_meaning.specs.Netlist.{Netlist}
+use Rattle.net_view.specs.Right.{HasPinsOfCells}
+use Rattle.net_view.specs.View.{IsSeenAs}
+use Rattle.ocp_rows.specs.Placement.{row_width}
+use Rattle.ocp_place.specs.Nets.{port_classes, driven}
+use Rattle.ocp_place.specs.Sites.{pin_sites, port_sites, points_in}
+
+-- one row of all instances in their order
+pub record InRow : Type 0 where
+  -- the classes of the ports but for the supplies, in the order of names
+  pub ports : List ℕ
+  -- the classes of the instances' output pins, in the order of instances and of names
+  pub drivers : List ℕ
+  -- for each class the points of its ports and of its signal pins
+  pub ends : List (List Point)
+  pub width : ℕ
+  -- the classes of vdd and of vss
+  pub high : ℕ
+  pub low : ℕ
+
+-- the names of the ports
+abbrev pub port_names : InMemory → List Name
+port_names n = map (λ p. p.name) n.ports
+
+-- What placing asks of a netlist: each instance has a usable cell of the library, whose pins it has; there is a port vdd and a port
+-- vss; and it is small enough that all coordinates of its layout are such as a file may have.
+pub record CanBePlaced (n : InMemory) (l : Library) : Type 0 where
+  pub models : (i : Instance) → IsThere n.instances i → (c : Cell) × (cell_of l i.model ≡ Some c) × IsUsable c
+  pub pins : HasPinsOfCells n l
+  pub has_vdd : IsThere (port_names n) vdd
+  pub has_vss : IsThere (port_names n) vss
+  pub instances : length n.instances ≤ 60000000
+  pub classes : n.count ≤ 1900000000
+
+-- the placement is that of a netlist, as it is seen
+pub record IsRowOf (n : Netlist) (l : Library) (p : InRow) : Type 0 where
+  pub ports : p.ports ≡ port_classes n
+  pub drivers : p.drivers ≡ driven n l n.instances
+  pub many : length p.ends ≡ n.classes
+  pub ends : (class : ℕ) (d : List Point) → class < n.classes
+      → slice_index_or p.ends class d ≡ points_in class (port_sites 0 (port_classes n) ++ pin_sites n l)
+  pub width : pos p.width ≡ row_width l n.instances
+  pub high : p.high ≡ n.class (port vdd)
+  pub low : p.low ≡ n.class (port vss)
+
+-- that of a netlist in memory: of each that it is seen as
+abbrev pub IsPlacementOf : InMemory → Library → InRow → Type 0
+IsPlacementOf n l p = (k : Netlist) → IsSeenAs n k → IsRowOf k l p
