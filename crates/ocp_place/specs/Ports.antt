@@ -1,0 +1,42 @@
+-- The parts of a placement, as they are kept in memory.
+use Rattle.std.specs.Prelude.{◌≡◌, ◌≤◌, ℕ, Bool, List, [], ◌∷◌, map, if◌then◌else◌}
+use Rattle.std.specs.List.{All}
+use Rattle.std.specs.Global.{Vec}
+use Rattle.vlsi_base.specs.declared.name.Port.{Port}
+use Rattle.vlsi_base.specs.Names.{vdd, vss}
+use Rattle.machine_meaning.specs.Named.{is_same_name}
+use Rattle.cell_model.specs.Access.{Point}
+use Rattle.ocp_place.specs.declared.row.Site.{Site as Placed}
+use Rattle.ocp_place.specs.declared.place.PortClasses.{PortClasses}
+use Rattle.ocp_place.specs.Nets.{is_signal}
+use Rattle.ocp_place.specs.Reaches.{site_of}
+use Rattle.ocp_place.specs.Placed.{InRow}
+
+-- the classes of those ports that are no supplies, where each port has its class at its place
+abbrev pub signal_classes : List Port → List ℕ → List ℕ
+signal_classes [] classes = []
+signal_classes (p ∷ ps) [] = []
+signal_classes (p ∷ ps) (c ∷ cs) = if is_signal p.name then c ∷ signal_classes ps cs else signal_classes ps cs
+
+-- the class of the last port of this name, after one that stood before; there is at most one
+abbrev pub class_named : (Port → Bool) → ℕ → List Port → List ℕ → ℕ
+class_named test before [] classes = before
+class_named test before (p ∷ ps) [] = before
+class_named test before (p ∷ ps) (c ∷ cs) = class_named test (if test p then c else before) ps cs
+
+pub record IsSplit (ports : List Port) (classes : List ℕ) (s : PortClasses) : Type 0 where
+  pub high : s.high ≡ class_named (λ p. is_same_name p.name vdd) 0 ports classes
+  pub low : s.low ≡ class_named (λ p. is_same_name p.name vss) 0 ports classes
+  pub signals : s.signals.items ≡ signal_classes ports classes
+
+-- the points of a group of sites
+abbrev pub points_of : Vec Placed → List Point
+points_of group = map (λ s. (site_of s).1) group.items
+
+abbrev pub in_row : List ℕ → List ℕ → List (Vec Placed) → ℕ → ℕ → ℕ → InRow
+in_row ports drivers ends width high low =
+    record { ports = ports; drivers = drivers; ends = map points_of ends; width = width; high = high; low = low }
+
+-- all points have coordinates such as a file may have
+abbrev pub AreNear : List (Vec Placed) → Type 0
+AreNear ends = All (λ group. All (λ s. (s.x ≤ 1000000000000) × (s.y ≤ 1000000000000)) group.items) ends

@@ -1,0 +1,9 @@
+//! Placements of a netlist's instances, and how long the nets are in them.
+#![tactic(auto)]
+
+mod length;
+mod place;
+mod reach;
+mod row;
+
+pub use place::{Placement, track_place};

@@ -1,0 +1,145 @@
+// Netlists in one row, in their own order.
+ghost use Rattle.std.specs.Prelude.{◌≡◌, ◌≤◌, map, length, IfOk};
+ghost use Rattle.ocp_place.specs.Sites.{port_sites};
+ghost use Rattle.ocp_place.specs.Reaches.{site_of};
+ghost use Rattle.ocp_place.specs.Placed.{CanBePlaced, IsPlacementOf};
+ghost use Rattle.ocp_place.specs.Ports.{IsSplit};
+
+use crate::row::{Row, Site, grouped, row};
+use cell_checks::Library;
+use cell_pins::is_scalar;
+use net_core::Netlist;
+use std::alloc::{AllocError, Global};
+use std::marker::Model;
+use sym_geom::{FIRST_CELL_X, FIRST_TRACK_Y, PITCH};
+use vlsi_base::Port;
+
+/// The instances of a netlist in one row, in their order: for each class the points of its ports and of its signal pins. A port
+/// stands at the left end of the track of its rank among the ports without the supplies.
+#[derive(Drop)]
+pub struct Placement {
+    ports: Vec<u32>,
+    drivers: Vec<u32>,
+    ends: Vec<Vec<Site>>,
+    width: u64,
+    high: u32,
+    low: u32,
+}
+
+impl Model for Placement {
+    ghost use Rattle.std.specs.Prelude.{◌≤◌};
+    ghost use Rattle.ocp_place.specs.Placed.{InRow};
+    ghost use Rattle.ocp_place.specs.Ports.{in_row, AreNear};
+
+    ghost Value = { InRow };
+
+    ghost view = { λ a. in_row a.ports.items a.drivers.items a.ends.items a.width a.high a.low };
+
+    ghost invariant = { λ a. AreNear a.ends.items × (a.width ≤ 960000000000) };
+}
+
+/// The classes of the ports: of vdd, of vss, and of the others in their order.
+#[derive(Drop)]
+pub(crate) struct PortClasses {
+    pub(crate) high: u32,
+    pub(crate) low: u32,
+    pub(crate) signals: Vec<u32>,
+}
+
+/// The classes of ports, where each has its class at its place.
+fn port_classes(
+    alloc: Global,
+    ports: &[Port],
+    classes: &[u32],
+) -> Result<PortClasses, AllocError>
+    requires { length ports.now ≤ length classes.now }
+    ensures { IfOk result (λ p. IsSplit ports.now classes.now p) }
+{
+    let mut split = PortClasses {
+        high: 0,
+        low: 0,
+        signals: Vec::new(alloc),
+    };
+    for k in 0..ports.len() {
+        let name = &ports[k].name;
+        if is_scalar(name, b"vdd") {
+            split.high = classes[k];
+        } else if is_scalar(name, b"vss") {
+            split.low = classes[k];
+        } else {
+            split.signals.push(classes[k])?;
+        }
+    }
+    Ok(split)
+}
+
+/// The points of ports with these classes: each at the left end of its track.
+fn port_ends(alloc: Global, ports: &[u32]) -> Result<Vec<Site>, AllocError>
+    requires { length ports.now ≤ 1900000000 }
+    ensures { IfOk result (λ sites. map site_of sites.items ≡ port_sites 0 ports.now) }
+{
+    let mut sites = Vec::new(alloc);
+    for k in 0..ports.len() {
+        sites.push(Site {
+            class: ports[k],
+            x: u64::from(FIRST_CELL_X),
+            y: u64::from(FIRST_TRACK_Y) + u64::from(PITCH) * k as u64,
+        })?;
+    }
+    Ok(sites)
+}
+
+/// Places the instances of a netlist in one row in their order, for private tracks. Takes memory and time for each terminal, and
+/// for the shapes of the cells in use.
+pub fn track_place(
+    alloc: Global,
+    netlist: &Netlist,
+    library: &Library,
+) -> Result<Placement, AllocError>
+    requires { CanBePlaced netlist.now library.now }
+    ensures { IfOk result (λ p. IsPlacementOf netlist.now library.now p) }
+{
+    let ports = port_classes(alloc, netlist.ports(), netlist.classes())?;
+    let Row {
+        sites,
+        drivers,
+        width,
+    } = row(alloc, netlist, library)?;
+    let mut all = port_ends(alloc, &ports.signals)?;
+    for site in &sites {
+        all.push(*site)?;
+    }
+    let ends = grouped(alloc, netlist.count(), &all)?;
+    Ok(Placement {
+        ports: ports.signals,
+        drivers,
+        ends,
+        width,
+        high: ports.high,
+        low: ports.low,
+    })
+}
+
+impl Placement {
+    /// The classes of the ports but for the supplies, in the order of names.
+    pub fn ports(&self) -> &[u32]
+        ensures { result.now ≡ self.now.ports }
+    {
+        &self.ports
+    }
+
+    /// The classes of the instances' output pins, in the order of instances and of names.
+    pub fn drivers(&self) -> &[u32]
+        ensures { result.now ≡ self.now.drivers }
+    {
+        &self.drivers
+    }
+
+    /// How wide the row is.
+    pub fn width(&self) -> u64
+        ensures width { result ≡ self.now.width }
+        ensures narrow { result ≤ 960000000000 }
+    {
+        self.width
+    }
+}
