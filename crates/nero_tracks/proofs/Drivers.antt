@@ -22,7 +22,7 @@ use Rattle.net_view.proofs.Lists.{filter_in}
 use Rattle.net_view.proofs.Ports.{supplies_differ}
 use Rattle.net_drawing.proofs.Coding.{same_name_true, same_name_itself, same_name_false}
 use Rattle.ocp_place.specs.Nets.{is_signal, signal_ports, port_classes, driven_by, driven, is_among, net_classes}
-use Rattle.nero_tracks.specs.Law.{IsOrderly}
+use Rattle.ocp_place.specs.Orderly.{IsOrderly}
 use Rattle.nero_tracks.proofs.Lists.{different_append, different_filter, few, many}
 use Rattle.nero_tracks.proofs.Among.{among_in, in_among}
 

@@ -18,7 +18,8 @@ use Rattle.ocp_rows.specs.Placement.{net_count}
 use Rattle.net_drawing.proofs.Coding.{In_get}
 use Rattle.net_drawing.proofs.Cells.{names_distinct}
 use Rattle.ocp_place.specs.Nets.{is_signal, signal_ports, port_classes, driven, is_among, net_classes, net_number}
-use Rattle.nero_tracks.specs.Law.{IsOrderly, NetsAreNumbered, NetsAreCounted}
+use Rattle.ocp_place.specs.Orderly.{IsOrderly}
+use Rattle.nero_tracks.specs.Law.{NetsAreNumbered, NetsAreCounted}
 use Rattle.nero_tracks.proofs.Among.{placed, one_place, first_at}
 use Rattle.nero_tracks.proofs.Drivers.{signal_true, signal_so, listed, not_more, not_fewer}
 

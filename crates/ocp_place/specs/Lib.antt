@@ -4,3 +4,6 @@ pub mod Reaches
 pub mod Rows
 pub mod Placed
 pub mod Ports
+pub mod Spans
+pub mod Orderly
+pub mod Law

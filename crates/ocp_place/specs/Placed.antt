@@ -2,6 +2,7 @@
 use Rattle.std.specs.Prelude.{◌≡◌, ◌≤◌, ◌<◌, ◌++◌, ℕ, pos, List, map, length, slice_index_or, Some}
 use Rattle.vlsi_base.specs.declared.name.Name.{Name}
 use Rattle.vlsi_base.specs.Names.{vdd, vss}
+use Rattle.sym_geom.specs.declared.grid.TheConstants.{FIRST_CELL_X}
 use Rattle.cell_model.specs.Cell.{Cell}
 use Rattle.cell_model.specs.Library.{Library, cell_of, IsUsable}
 use Rattle.cell_model.specs.Access.{Point}
@@ -12,7 +13,7 @@ use Rattle.net_view.specs.Right.{HasPinsOfCells}
 use Rattle.net_view.specs.View.{IsSeenAs}
 use Rattle.ocp_rows.specs.Placement.{row_width}
 use Rattle.ocp_place.specs.Nets.{port_classes, driven}
-use Rattle.ocp_place.specs.Sites.{pin_sites, port_sites, points_in}
+use Rattle.ocp_place.specs.Sites.{pin_sites, port_sites, points_in, row_starts}
 
 -- one row of all instances in their order
 pub record InRow : Type 0 where
@@ -22,6 +23,8 @@ pub record InRow : Type 0 where
   pub drivers : List ℕ
   -- for each class the points of its ports and of its signal pins
   pub ends : List (List Point)
+  -- where each instance begins
+  pub starts : List ℕ
   pub width : ℕ
   -- the classes of vdd and of vss
   pub high : ℕ
@@ -48,6 +51,7 @@ pub record IsRowOf (n : Netlist) (l : Library) (p : InRow) : Type 0 where
   pub many : length p.ends ≡ n.classes
   pub ends : (class : ℕ) (d : List Point) → class < n.classes
       → slice_index_or p.ends class d ≡ points_in class (port_sites 0 (port_classes n) ++ pin_sites n l)
+  pub starts : map pos p.starts ≡ row_starts l (pos FIRST_CELL_X) n.instances
   pub width : pos p.width ≡ row_width l n.instances
   pub high : p.high ≡ n.class (port vdd)
   pub low : p.low ≡ n.class (port vss)

@@ -33,9 +33,9 @@ pub record IsSplit (ports : List Port) (classes : List ℕ) (s : PortClasses) : 
 abbrev pub points_of : Vec Placed → List Point
 points_of group = map (λ s. (site_of s).1) group.items
 
-abbrev pub in_row : List ℕ → List ℕ → List (Vec Placed) → ℕ → ℕ → ℕ → InRow
-in_row ports drivers ends width high low =
-    record { ports = ports; drivers = drivers; ends = map points_of ends; width = width; high = high; low = low }
+abbrev pub in_row : List ℕ → List ℕ → List (Vec Placed) → List ℕ → ℕ → ℕ → ℕ → InRow
+in_row ports drivers ends starts width high low =
+    record { ports = ports; drivers = drivers; ends = map points_of ends; starts = starts; width = width; high = high; low = low }
 
 -- all points have coordinates such as a file may have
 abbrev pub AreNear : List (Vec Placed) → Type 0

@@ -2,6 +2,7 @@
 use Rattle.std.specs.Prelude.{◌≡◌, ◌+◌, ◌<◌, ◌≤◌, ℕ, pos, nat_eq, List, [], ◌∷◌, map, filter, length, slice_index_or, Option, None, Some}
 use Rattle.std.specs.List.{All}
 use Rattle.std.specs.Global.{Vec}
+use Rattle.sym_geom.specs.declared.grid.TheConstants.{FIRST_CELL_X}
 use Rattle.cell_model.specs.Library.{Library}
 use Rattle.cell_model.specs.Access.{Point}
 use Rattle.cell_checks.specs.declared.points.GridPoint.{GridPoint}
@@ -11,7 +12,7 @@ use Rattle.ocp_place.specs.declared.reach.PinReach.{PinReach}
 use Rattle.ocp_place.specs.declared.row.Site.{Site as Placed}
 use Rattle.ocp_place.specs.declared.row.Row.{Row}
 use Rattle.ocp_place.specs.Nets.{driven}
-use Rattle.ocp_place.specs.Sites.{Site, pin_sites}
+use Rattle.ocp_place.specs.Sites.{Site, pin_sites, row_starts}
 use Rattle.ocp_place.specs.Reaches.{site_of}
 
 -- a site, if there is one
@@ -30,11 +31,13 @@ HasShortPins x pins = All (λ r. IsShort x r.point) pins
 
 -- the row of a netlist's instances in their order
 pub record IsRow (n : Netlist) (l : Library) (r : Row) : Type 0 where
+  pub starts : map pos r.starts.items ≡ row_starts l (pos FIRST_CELL_X) n.instances
   pub sites : map site_of r.sites.items ≡ pin_sites n l
   pub drivers : r.drivers.items ≡ driven n l n.instances
   pub width : pos r.width ≡ row_width l n.instances
   pub narrow : r.width ≤ 960000000000
   pub classes : All (λ s. s.class < n.classes) r.sites.items
+  pub near : All (λ x. x ≤ 960000001500) r.starts.items
   pub heights : All (λ s. (s.x ≤ 1000000000000) × (s.y ≤ 5000)) r.sites.items
 
 -- sites by their classes

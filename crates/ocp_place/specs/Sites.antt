@@ -30,6 +30,11 @@ abbrev pub row_sites : Netlist → Library → ℤ → List Member → List Site
 row_sites n l x [] = []
 row_sites n l x (one ∷ rest) = own_sites n x one.name (cell_of l one.model) ++ row_sites n l (x +ℤ model_width l one.model) rest
 
+-- where instances begin that abut, from x on
+abbrev pub row_starts : Library → ℤ → List Member → List ℤ
+row_starts l x [] = []
+row_starts l x (one ∷ rest) = x ∷ row_starts l (x +ℤ model_width l one.model) rest
+
 abbrev pub pin_sites : Netlist → Library → List Site
 pin_sites n l = row_sites n l (pos FIRST_CELL_X) n.instances
 

@@ -7,3 +7,5 @@ mod reach;
 mod row;
 
 pub use place::{Placement, track_place};
+pub use length::span;
+pub use row::Site;

@@ -1,5 +1,6 @@
 // Netlists in one row, in their own order.
-ghost use Rattle.std.specs.Prelude.{◌≡◌, ◌≤◌, map, length, IfOk};
+ghost use Rattle.std.specs.Prelude.{◌≡◌, ◌≤◌, ◌<◌, [], map, length, slice_index_or, IfOk};
+ghost use Rattle.std.specs.List.{All};
 ghost use Rattle.ocp_place.specs.Sites.{port_sites};
 ghost use Rattle.ocp_place.specs.Reaches.{site_of};
 ghost use Rattle.ocp_place.specs.Placed.{CanBePlaced, IsPlacementOf};
@@ -18,24 +19,26 @@ use vlsi_base::Port;
 /// stands at the left end of the track of its rank among the ports without the supplies.
 #[derive(Drop)]
 pub struct Placement {
-    ports: Vec<u32>,
-    drivers: Vec<u32>,
-    ends: Vec<Vec<Site>>,
-    width: u64,
-    high: u32,
-    low: u32,
+    pub(crate) ports: Vec<u32>,
+    pub(crate) drivers: Vec<u32>,
+    pub(crate) ends: Vec<Vec<Site>>,
+    pub(crate) starts: Vec<u64>,
+    pub(crate) width: u64,
+    pub(crate) high: u32,
+    pub(crate) low: u32,
 }
 
 impl Model for Placement {
     ghost use Rattle.std.specs.Prelude.{◌≤◌};
+    ghost use Rattle.std.specs.List.{All};
     ghost use Rattle.ocp_place.specs.Placed.{InRow};
     ghost use Rattle.ocp_place.specs.Ports.{in_row, AreNear};
 
     ghost Value = { InRow };
 
-    ghost view = { λ a. in_row a.ports.items a.drivers.items a.ends.items a.width a.high a.low };
+    ghost view = { λ a. in_row a.ports.items a.drivers.items a.ends.items a.starts.items a.width a.high a.low };
 
-    ghost invariant = { λ a. AreNear a.ends.items × (a.width ≤ 960000000000) };
+    ghost invariant = { λ a. AreNear a.ends.items × All (λ x. x ≤ 960000001500) a.starts.items × (a.width ≤ 960000000000) };
 }
 
 /// The classes of the ports: of vdd, of vss, and of the others in their order.
@@ -101,6 +104,7 @@ pub fn track_place(
 {
     let ports = port_classes(alloc, netlist.ports(), netlist.classes())?;
     let Row {
+        starts,
         sites,
         drivers,
         width,
@@ -114,6 +118,7 @@ pub fn track_place(
         ports: ports.signals,
         drivers,
         ends,
+        starts,
         width,
         high: ports.high,
         low: ports.low,
@@ -133,6 +138,23 @@ impl Placement {
         ensures { result.now ≡ self.now.drivers }
     {
         &self.drivers
+    }
+
+    /// The points of the terminals in a class: of its ports, then of its signal pins in the order of instances and of names.
+    pub fn ends(&self, class: u32) -> &[Site]
+        requires { class < length self.now.ends }
+        ensures points { map (λ s. (site_of s).1) result.now ≡ slice_index_or self.now.ends class [] }
+        ensures near { All (λ s. (s.x ≤ 1000000000000) × (s.y ≤ 1000000000000)) result.now }
+    {
+        &self.ends[class as usize]
+    }
+
+    /// Where each instance begins.
+    pub fn starts(&self) -> &[u64]
+        ensures starts { result.now ≡ self.now.starts }
+        ensures near { All (λ x. x ≤ 960000001500) result.now }
+    {
+        &self.starts
     }
 
     /// How wide the row is.

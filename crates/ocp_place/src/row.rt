@@ -17,15 +17,16 @@ use sym_geom::FIRST_CELL_X;
 
 /// A point of a terminal, and the terminal's class.
 #[derive(Clone, Copy)]
-pub(crate) struct Site {
-    pub(crate) class: u32,
-    pub(crate) x: u64,
-    pub(crate) y: u64,
+pub struct Site {
+    pub class: u32,
+    pub x: u64,
+    pub y: u64,
 }
 
-/// A row so far: the points of its signal pins, the classes of its output pins, and its width.
+/// A row so far: where its instances begin, the points of their signal pins, the classes of their output pins, and its width.
 #[derive(Drop)]
 pub(crate) struct Row {
+    pub(crate) starts: Vec<u64>,
     pub(crate) sites: Vec<Site>,
     pub(crate) drivers: Vec<u32>,
     pub(crate) width: u64,
@@ -55,6 +56,7 @@ impl Row {
             ≡ map site_of self.old.sites.items ++ reached_sites (pos x) classes.now pins.now) }
         ensures drivers { OnOk result (self.new.drivers.items ≡ self.old.drivers.items ++ reached_drivers classes.now pins.now) }
         ensures width { OnOk result (self.new.width ≡ self.old.width) }
+        ensures starts { OnOk result (self.new.starts.items ≡ self.old.starts.items) }
     {
         for pin in pins {
             let class = classes[pin.place];
@@ -86,6 +88,7 @@ pub(crate) fn row(alloc: Global, netlist: &Netlist, library: &Library) -> Result
     let reaches = reaches(alloc, library, netlist.models())?;
     let classes = netlist.classes();
     let mut row = Row {
+        starts: Vec::new(alloc),
         sites: Vec::new(alloc),
         drivers: Vec::new(alloc),
         width: 0,
@@ -94,6 +97,7 @@ pub(crate) fn row(alloc: Global, netlist: &Netlist, library: &Library) -> Result
         let reach: &Reach = &reaches[node.model];
         let own = classes_from(classes, node.first, node.pins.as_slice().len());
         let x = u64::from(FIRST_CELL_X) + row.width;
+        row.starts.push(x)?;
         row.put(&reach.pins, own, x)?;
         row.width += reach.width;
     }

@@ -29,7 +29,7 @@ use Rattle.net_drawing.specs.Drawing.{IsDrawable}
 use Rattle.net_drawing.specs.Law.{IsNumbered}
 use Rattle.net_drawing.proofs.FromWell.{well_drawings_are_right}
 use Rattle.ocp_place.specs.Nets.{signal_ports, net_number}
-use Rattle.nero_tracks.specs.Law.{IsOrderly}
+use Rattle.ocp_place.specs.Orderly.{IsOrderly}
 use Rattle.nero_tracks.proofs.Numbered.{nets_are_numbered}
 use Rattle.route_draw.specs.Law.{IsRoutable, RightIsDrawable, RightDrawingsAreRight}
 use Rattle.route_draw.proofs.Clean.{checked_cells_are_clean}

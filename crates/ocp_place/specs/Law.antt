@@ -1,0 +1,22 @@
+-- How long the nets of a placement are.
+use Rattle.std.specs.Prelude.{◌≡◌, [], ◌∷◌}
+use Rattle.machine_meaning.specs.Machine.{Machine}
+use Rattle.cell_model.specs.Library.{Library}
+use Rattle.net_meaning.specs.Netlist.{Netlist}
+use Rattle.net_meaning.specs.Well.{IsWell}
+use Rattle.ocp_rows.specs.Placement.{Placement}
+use Rattle.ocp_rows.specs.Length.{half_perimeter}
+use Rattle.ocp_place.specs.Nets.{signal_ports}
+use Rattle.ocp_place.specs.Sites.{length_of}
+use Rattle.ocp_place.specs.Placed.{InRow, IsRowOf}
+use Rattle.ocp_place.specs.Orderly.{IsOrderly}
+
+-- the row of a netlist with its ports, as a placement of layouts
+abbrev pub row_of : Netlist → Placement
+row_of n = record { rows = n.instances ∷ []; ports = signal_ports n }
+
+-- The half perimeters of all classes but the supplies', as a placement in memory has them, are those of the netlist's nets.
+abbrev pub LengthsAreRight : Type 0
+LengthsAreRight =
+    (n : Netlist) (l : Library) (m : Machine) (p : InRow) → IsWell n l m → IsOrderly n l → IsRowOf n l p
+    → length_of p.high p.low p.ends ≡ half_perimeter n l (row_of n)
