@@ -1,5 +1,5 @@
 -- The parts of a placement, as they are kept in memory.
-use Rattle.std.specs.Prelude.{◌≡◌, ◌≤◌, ℕ, Bool, List, [], ◌∷◌, map, if◌then◌else◌}
+use Rattle.std.specs.Prelude.{◌≡◌, ◌≤◌, ◌<◌, ◌^◌, ℕ, Bool, List, [], ◌∷◌, map, length, if◌then◌else◌}
 use Rattle.std.specs.List.{All}
 use Rattle.std.specs.Global.{Vec}
 use Rattle.vlsi_base.specs.declared.name.Port.{Port}
@@ -40,3 +40,13 @@ in_row ports drivers ends starts width high low =
 -- all points have coordinates such as a file may have
 abbrev pub AreNear : List (Vec Placed) → Type 0
 AreNear ends = All (λ group. All (λ s. (s.x ≤ 1000000000000) × (s.y ≤ 1000000000000)) group.items) ends
+
+-- what is known of each placement: classes are among those that have points, few enough to have numbers of 32 bits, and all
+-- coordinates are such as a file may have
+pub record IsSound (signals outputs : List ℕ) (ends : List (Vec Placed)) (begins : List ℕ) (wide : ℕ) : Type 0 where
+  pub ports : All (λ c. c < length ends) signals
+  pub drivers : All (λ c. c < length ends) outputs
+  pub few : length ends < 2 ^ 32
+  pub near : AreNear ends
+  pub starts : All (λ x. x ≤ 960000001500) begins
+  pub width : wide ≤ 960000000000

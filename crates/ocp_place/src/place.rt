@@ -29,16 +29,14 @@ pub struct Placement {
 }
 
 impl Model for Placement {
-    ghost use Rattle.std.specs.Prelude.{◌≤◌};
-    ghost use Rattle.std.specs.List.{All};
     ghost use Rattle.ocp_place.specs.Placed.{InRow};
-    ghost use Rattle.ocp_place.specs.Ports.{in_row, AreNear};
+    ghost use Rattle.ocp_place.specs.Ports.{in_row, IsSound};
 
     ghost Value = { InRow };
 
     ghost view = { λ a. in_row a.ports.items a.drivers.items a.ends.items a.starts.items a.width a.high a.low };
 
-    ghost invariant = { λ a. AreNear a.ends.items × All (λ x. x ≤ 960000001500) a.starts.items × (a.width ≤ 960000000000) };
+    ghost invariant = { λ a. IsSound a.ports.items a.drivers.items a.ends.items a.starts.items a.width };
 }
 
 /// The classes of the ports: of vdd, of vss, and of the others in their order.
@@ -128,16 +126,25 @@ pub fn track_place(
 impl Placement {
     /// The classes of the ports but for the supplies, in the order of names.
     pub fn ports(&self) -> &[u32]
-        ensures { result.now ≡ self.now.ports }
+        ensures ports { result.now ≡ self.now.ports }
+        ensures inside { All (λ c. c < length self.now.ends) result.now }
     {
         &self.ports
     }
 
     /// The classes of the instances' output pins, in the order of instances and of names.
     pub fn drivers(&self) -> &[u32]
-        ensures { result.now ≡ self.now.drivers }
+        ensures drivers { result.now ≡ self.now.drivers }
+        ensures inside { All (λ c. c < length self.now.ends) result.now }
     {
         &self.drivers
+    }
+
+    /// How many classes there are.
+    pub fn count(&self) -> u32
+        ensures { result ≡ length self.now.ends }
+    {
+        self.ends.len() as u32
     }
 
     /// The points of the terminals in a class: of its ports, then of its signal pins in the order of instances and of names.
