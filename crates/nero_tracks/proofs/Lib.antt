@@ -2,3 +2,4 @@ pub mod Lists
 pub mod Among
 pub mod Drivers
 pub mod Numbered
+pub mod Free

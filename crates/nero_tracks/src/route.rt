@@ -1,11 +1,17 @@
 // The tracks of nets.
-ghost use Rattle.std.specs.Prelude.{◌≡◌, ◌++◌, ◌<◌, [], map, filter, not, IfOk};
+ghost use Rattle.std.specs.Prelude.{◌≡◌, ◌++◌, ◌<◌, [], map, filter, not, IfOk, IfErr, OnOk};
 ghost use Rattle.std.specs.List.{All};
 ghost use Rattle.ocp_place.specs.Nets.{is_among};
 ghost use Rattle.ocp_place.specs.Reaches.{site_of};
 ghost use Rattle.ocp_place.specs.Spans.{shown_span};
+ghost use Rattle.nero_tracks.specs.Columns.{HaveOwnColumns};
+ghost use Rattle.nero_tracks.specs.Drawable.{IsDrawableIn, IsTrackRefusal};
 ghost use Rattle.nero_tracks.specs.Tracks.{net_pins, track_span, AreMarks, AreTracks};
 
+use crate::TrackError;
+use crate::columns::check_columns;
+use cell_checks::Library;
+use net_core::Netlist;
 use ocp_place::{Placement, Site, span};
 use std::alloc::{AllocError, Global};
 
@@ -83,8 +89,27 @@ fn track_span(ends: &[Site], ports: usize, k: usize) -> Option<(u64, u64)>
 }
 
 /// The tracks of all nets, by their numbers: first the nets of the ports without the supplies, in the order of names, then one for
-/// each other output pin, in the order of instances. Takes memory for each net, and time for each terminal.
-pub fn route_tracks(alloc: Global, placement: &Placement) -> Result<Vec<Track>, AllocError>
+/// each other output pin, in the order of instances. It is refused by `NoColumn` exactly where two pins of a cell in use are reached
+/// in one column, which never comes with a library that was checked for tracks. Takes memory for each net and for the shapes of a
+/// cell, and time for each terminal.
+pub fn route_tracks(
+    alloc: Global,
+    placement: &Placement,
+    netlist: &Netlist,
+    library: &Library,
+) -> Result<Vec<Track>, TrackError>
+    requires { IsDrawableIn library.now netlist.now }
+    ensures tracks { IfOk result (λ tracks. AreTracks placement.now tracks.items) }
+    ensures apart { OnOk result (HaveOwnColumns library.now netlist.now) }
+    ensures refused { IfErr result (λ e. IsTrackRefusal library.now netlist.now e) }
+{
+    check_columns(alloc, netlist, library)?;
+    let tracks = tracks(alloc, placement)?;
+    Ok(tracks)
+}
+
+/// The tracks of all nets.
+fn tracks(alloc: Global, placement: &Placement) -> Result<Vec<Track>, AllocError>
     ensures { IfOk result (λ tracks. AreTracks placement.now tracks.items) }
 {
     let ports = placement.ports();

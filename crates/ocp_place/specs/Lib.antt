@@ -1,3 +1,4 @@
+pub mod Drawable
 pub mod Nets
 pub mod Sites
 pub mod Reaches

@@ -1,17 +1,15 @@
 -- Placements for private tracks, as they are kept in memory.
-use Rattle.std.specs.Prelude.{◌≡◌, ◌≤◌, ◌<◌, ◌++◌, ℕ, pos, List, map, length, slice_index_or, Some}
-use Rattle.vlsi_base.specs.declared.name.Name.{Name}
+use Rattle.std.specs.Prelude.{◌≡◌, ◌<◌, ◌++◌, true, ℕ, pos, List, map, length, slice_index_or}
 use Rattle.vlsi_base.specs.Names.{vdd, vss}
 use Rattle.sym_geom.specs.declared.grid.TheConstants.{FIRST_CELL_X}
-use Rattle.cell_model.specs.Cell.{Cell}
-use Rattle.cell_model.specs.Library.{Library, cell_of, IsUsable}
+use Rattle.cell_model.specs.Library.{Library}
 use Rattle.cell_model.specs.Access.{Point}
-use Rattle.net_core.specs.Places.{IsThere}
-use Rattle.net_core.specs.Netlist.{Instance, Netlist as InMemory, port}
-use Rattle.net_meaning.specs.Netlist.{Netlist}
-use Rattle.net_view.specs.Right.{HasPinsOfCells}
+use Rattle.cell_checks.specs.Checked.{IsChecked as HasPassed}
+use Rattle.net_core.specs.Netlist.{Netlist as InMemory}
+use Rattle.net_meaning.specs.Netlist.{Netlist, port}
 use Rattle.net_view.specs.View.{IsSeenAs}
 use Rattle.ocp_rows.specs.Placement.{row_width}
+use Rattle.ocp_place.specs.Drawable.{IsDrawableIn}
 use Rattle.ocp_place.specs.Nets.{port_classes, driven}
 use Rattle.ocp_place.specs.Sites.{pin_sites, port_sites, points_in, row_starts}
 
@@ -30,20 +28,6 @@ pub record InRow : Type 0 where
   pub high : ℕ
   pub low : ℕ
 
--- the names of the ports
-abbrev pub port_names : InMemory → List Name
-port_names n = map (λ p. p.name) n.ports
-
--- What placing asks of a netlist: each instance has a usable cell of the library, whose pins it has; there is a port vdd and a port
--- vss; and it is small enough that all coordinates of its layout are such as a file may have.
-pub record CanBePlaced (n : InMemory) (l : Library) : Type 0 where
-  pub models : (i : Instance) → IsThere n.instances i → (c : Cell) × (cell_of l i.model ≡ Some c) × IsUsable c
-  pub pins : HasPinsOfCells n l
-  pub has_vdd : IsThere (port_names n) vdd
-  pub has_vss : IsThere (port_names n) vss
-  pub instances : length n.instances ≤ 60000000
-  pub classes : n.count ≤ 1900000000
-
 -- the placement is that of a netlist, as it is seen
 pub record IsRowOf (n : Netlist) (l : Library) (p : InRow) : Type 0 where
   pub ports : p.ports ≡ port_classes n
@@ -56,6 +40,8 @@ pub record IsRowOf (n : Netlist) (l : Library) (p : InRow) : Type 0 where
   pub high : p.high ≡ n.class (port vdd)
   pub low : p.low ≡ n.class (port vss)
 
--- that of a netlist in memory: of each that it is seen as
-abbrev pub IsPlacementOf : InMemory → Library → InRow → Type 0
-IsPlacementOf n l p = (k : Netlist) → IsSeenAs n k → IsRowOf k l p
+-- that of a netlist in memory over a library that was checked for tracks: of each netlist of layouts that it is seen as
+pub record IsPlacementOf (l : Library) (n : InMemory) (p : InRow) : Type 0 where
+  pub passed : HasPassed true l
+  pub drawable : IsDrawableIn l n
+  pub row : (k : Netlist) → IsSeenAs n k → IsRowOf k l p

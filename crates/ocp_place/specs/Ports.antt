@@ -37,16 +37,16 @@ abbrev pub in_row : List ℕ → List ℕ → List (Vec Placed) → List ℕ →
 in_row ports drivers ends starts width high low =
     record { ports = ports; drivers = drivers; ends = map points_of ends; starts = starts; width = width; high = high; low = low }
 
--- all points have coordinates such as a file may have
+-- no point lies further than the coordinates here
 abbrev pub AreNear : List (Vec Placed) → Type 0
-AreNear ends = All (λ group. All (λ s. (s.x ≤ 1000000000000) × (s.y ≤ 1000000000000)) group.items) ends
+AreNear ends = All (λ group. All (λ s. (s.x ≤ 100000000000000) × (s.y ≤ 100000000000000)) group.items) ends
 
--- what is known of each placement: classes are among those that have points, few enough to have numbers of 32 bits, and all
--- coordinates are such as a file may have
+-- what is known of each placement: classes are among those that have points, few enough to have numbers of 32 bits, and no
+-- coordinate is large
 pub record IsSound (signals outputs : List ℕ) (ends : List (Vec Placed)) (begins : List ℕ) (wide : ℕ) : Type 0 where
   pub ports : All (λ c. c < length ends) signals
   pub drivers : All (λ c. c < length ends) outputs
   pub few : length ends < 2 ^ 32
   pub near : AreNear ends
-  pub starts : All (λ x. x ≤ 960000001500) begins
-  pub width : wide ≤ 960000000000
+  pub starts : All (λ x. x ≤ 100000000000000) begins
+  pub width : wide ≤ 70000000000000

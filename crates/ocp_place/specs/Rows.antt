@@ -20,10 +20,10 @@ abbrev pub option_sites : Option Placed → List Site
 option_sites None = []
 option_sites (Some s) = site_of s ∷ []
 
--- the point lies no further than a coordinate of a file
+-- the point lies no further than the coordinates here
 abbrev pub IsShort : ℕ → Option GridPoint → Type 0
 IsShort x None = Unit {0}
-IsShort x (Some q) = (x + q.x ≤ 1000000000000) × (q.y ≤ 1000000000000)
+IsShort x (Some q) = (x + q.x ≤ 100000000000000) × (q.y ≤ 100000000000000)
 
 -- so do those of all pins of an instance that stands at x
 abbrev pub HasShortPins : ℕ → List PinReach → Type 0
@@ -35,10 +35,10 @@ pub record IsRow (n : Netlist) (l : Library) (r : Row) : Type 0 where
   pub sites : map site_of r.sites.items ≡ pin_sites n l
   pub drivers : r.drivers.items ≡ driven n l n.instances
   pub width : pos r.width ≡ row_width l n.instances
-  pub narrow : r.width ≤ 960000000000
+  pub narrow : r.width ≤ 70000000000000
   pub classes : All (λ s. s.class < n.classes) r.sites.items
-  pub near : All (λ x. x ≤ 960000001500) r.starts.items
-  pub heights : All (λ s. (s.x ≤ 1000000000000) × (s.y ≤ 5000)) r.sites.items
+  pub near : All (λ x. x ≤ 100000000000000) r.starts.items
+  pub heights : All (λ s. (s.x ≤ 100000000000000) × (s.y ≤ 5000)) r.sites.items
 
 -- sites by their classes
 pub record AreEnds (sites : List Placed) (groups : List (Vec Placed)) : Type 0 where

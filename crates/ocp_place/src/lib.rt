@@ -7,5 +7,5 @@ mod reach;
 mod row;
 
 pub use place::{Placement, track_place};
-pub use length::span;
+pub use length::{half_perimeter, span};
 pub use row::Site;

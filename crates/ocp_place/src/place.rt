@@ -1,9 +1,11 @@
 // Netlists in one row, in their own order.
-ghost use Rattle.std.specs.Prelude.{◌≡◌, ◌≤◌, ◌<◌, [], map, length, slice_index_or, IfOk};
+ghost use Rattle.std.specs.Prelude.{◌≡◌, ◌≤◌, ◌<◌, ◌^◌, true, [], map, length, slice_index_or, IfOk};
 ghost use Rattle.std.specs.List.{All};
 ghost use Rattle.ocp_place.specs.Sites.{port_sites};
 ghost use Rattle.ocp_place.specs.Reaches.{site_of};
-ghost use Rattle.ocp_place.specs.Placed.{CanBePlaced, IsPlacementOf};
+ghost use Rattle.cell_checks.specs.Checked.{IsChecked as HasPassed};
+ghost use Rattle.ocp_place.specs.Drawable.{IsDrawableIn};
+ghost use Rattle.ocp_place.specs.Placed.{IsPlacementOf};
 ghost use Rattle.ocp_place.specs.Ports.{IsSplit};
 
 use crate::row::{Row, Site, grouped, row};
@@ -76,7 +78,7 @@ fn port_classes(
 
 /// The points of ports with these classes: each at the left end of its track.
 fn port_ends(alloc: Global, ports: &[u32]) -> Result<Vec<Site>, AllocError>
-    requires { length ports.now ≤ 1900000000 }
+    requires { length ports.now < 2 ^ 32 }
     ensures { IfOk result (λ sites. map site_of sites.items ≡ port_sites 0 ports.now) }
 {
     let mut sites = Vec::new(alloc);
@@ -97,8 +99,9 @@ pub fn track_place(
     netlist: &Netlist,
     library: &Library,
 ) -> Result<Placement, AllocError>
-    requires { CanBePlaced netlist.now library.now }
-    ensures { IfOk result (λ p. IsPlacementOf netlist.now library.now p) }
+    requires library { HasPassed true library.now }
+    requires netlist { IsDrawableIn library.now netlist.now }
+    ensures { IfOk result (λ p. IsPlacementOf library.now netlist.now p) }
 {
     let ports = port_classes(alloc, netlist.ports(), netlist.classes())?;
     let Row {
@@ -151,7 +154,7 @@ impl Placement {
     pub fn ends(&self, class: u32) -> &[Site]
         requires { class < length self.now.ends }
         ensures points { map (λ s. (site_of s).1) result.now ≡ slice_index_or self.now.ends class [] }
-        ensures near { All (λ s. (s.x ≤ 1000000000000) × (s.y ≤ 1000000000000)) result.now }
+        ensures near { All (λ s. (s.x ≤ 100000000000000) × (s.y ≤ 100000000000000)) result.now }
     {
         &self.ends[class as usize]
     }
@@ -159,7 +162,7 @@ impl Placement {
     /// Where each instance begins.
     pub fn starts(&self) -> &[u64]
         ensures starts { result.now ≡ self.now.starts }
-        ensures near { All (λ x. x ≤ 960000001500) result.now }
+        ensures near { All (λ x. x ≤ 100000000000000) result.now }
     {
         &self.starts
     }
@@ -167,7 +170,7 @@ impl Placement {
     /// How wide the row is.
     pub fn width(&self) -> u64
         ensures width { result ≡ self.now.width }
-        ensures narrow { result ≤ 960000000000 }
+        ensures narrow { result ≤ 70000000000000 }
     {
         self.width
     }

@@ -1,12 +1,13 @@
 // The instances of a netlist in one row, and where their pins then lie.
-ghost use Rattle.std.specs.Prelude.{◌≡◌, ◌++◌, ◌∷◌, ◌+◌, ◌<◌, ◌≤◌, [], map, option_map, pos, length, take, drop, IfOk, OnOk};
+ghost use Rattle.std.specs.Prelude.{◌≡◌, ◌++◌, ◌∷◌, ◌+◌, ◌<◌, ◌≤◌, true, [], map, option_map, pos, length, take, drop, IfOk, OnOk};
 ghost use Rattle.std.specs.List.{All};
 ghost use Rattle.net_meaning.specs.Netlist.{Netlist as Seen};
 ghost use Rattle.net_view.specs.View.{IsSeenAs};
 ghost use Rattle.cell_checks.specs.Points.{point_of};
 ghost use Rattle.ocp_place.specs.Sites.{site_at};
 ghost use Rattle.ocp_place.specs.Reaches.{site_of, reached_sites, reached_drivers};
-ghost use Rattle.ocp_place.specs.Placed.{CanBePlaced};
+ghost use Rattle.cell_checks.specs.Checked.{IsChecked as HasPassed};
+ghost use Rattle.ocp_place.specs.Drawable.{IsDrawableIn};
 ghost use Rattle.ocp_place.specs.Rows.{IsRow, AreEnds, HasShortPins, option_sites};
 
 use crate::reach::{PinReach, Reach, reaches};
@@ -82,7 +83,8 @@ fn classes_from<'c>(classes: &'c [u32], first: u32, many: usize) -> &'c [u32]
 
 /// The row of a netlist's instances in their order. Takes memory for their signal pins, and for those of each model.
 pub(crate) fn row(alloc: Global, netlist: &Netlist, library: &Library) -> Result<Row, AllocError>
-    requires { CanBePlaced netlist.now library.now }
+    requires library { HasPassed true library.now }
+    requires netlist { IsDrawableIn library.now netlist.now }
     ensures { IfOk result (λ row. (k : Seen) → IsSeenAs netlist.now k → IsRow k library.now row) }
 {
     let reaches = reaches(alloc, library, netlist.models())?;

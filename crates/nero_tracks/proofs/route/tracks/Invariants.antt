@@ -2,7 +2,7 @@ use Rattle.std.proofs.Common.{◌≡◌, ◌<◌, ℕ, map, take, length}
 use Rattle.std.specs.Prelude.{slice_index_or}
 use Rattle.nero_tracks.specs.declared.route.Track.{Track}
 use Rattle.nero_tracks.specs.Tracks.{IsTrack}
-use Rattle.nero_tracks.proofs.route.route_tracks.Given as goal
+use Rattle.nero_tracks.proofs.route.tracks.Given as goal
 
 abbrev pub invariant-loop-k : goal.invariant-loop-k
 invariant-loop-k l = record {
