@@ -1,5 +1,5 @@
 -- The drawing of a right netlist is right.
-use Rattle.std.specs.Prelude.{true, []}
+use Rattle.std.specs.Prelude.{◌≤◌, true, [], length}
 use Rattle.machine_meaning.specs.Machine.{Machine}
 use Rattle.machine_core.specs.Checked.{IsChecked}
 use Rattle.cell_model.specs.Cell.{Cell}
@@ -13,11 +13,16 @@ use Rattle.net_meaning.specs.Netlist.{Netlist, Extracts}
 use Rattle.net_meaning.specs.Breaches.{Breaches}
 use Rattle.net_view.specs.View.{IsSeenAs}
 use Rattle.net_view.specs.Right.{IsRightNetlist, HasPinsOfCells}
+use Rattle.net_view.specs.Writable.{CanBeNamed}
 use Rattle.ocp_rows.specs.Placement.{IsPlaced}
 use Rattle.net_drawing.specs.Clean.{IsClean}
 use Rattle.net_drawing.specs.Drawing.{track_items, IsDrawable}
 use Rattle.net_drawing.specs.Law.{one_row, track_box}
+use Rattle.ap_io.specs.declared.figure.Figure.{Figure}
+use Rattle.ap_io.specs.ApText.{IsFigure, IsWithinLimits}
+use Rattle.ocp_place.specs.Drawable.{IsDrawableIn}
 use Rattle.ocp_place.specs.Nets.{signal_ports, net_number}
+use Rattle.route_draw.specs.Drawn.{IsDrawnInTracks}
 
 -- A usable cell that has passed its checks, that of columns among them, may have tracks over it.
 abbrev pub CheckedCellsAreClean : Type 0
@@ -45,3 +50,9 @@ RightDrawingsAreRight =
     → Extracts (track_items k l (net_number k l) (signal_ports k)) l k
     × Breaches (track_items k l (net_number k l) (signal_ports k)) l []
     × IsPlaced (track_box k l) (track_items k l (net_number k l) (signal_ports k)) k l (one_row k (signal_ports k))
+
+-- The figure can be written, where its names can, and it is no larger than a source within the limits gives.
+abbrev pub DrawingCanBeWritten : Type 0
+DrawingCanBeWritten =
+    (l : Library) (n : InMemory) (f : Figure) → HasPassed true l → IsDrawableIn l n → CanBeNamed n
+    → length n.instances ≤ 32768 → length n.ports ≤ 8192 → IsDrawnInTracks l n f → IsFigure f × IsWithinLimits f
