@@ -240,7 +240,7 @@ module _ (n : Netlist) (l : Library) (m : Machine) (checked : IsChecked m) (well
   others_back : (k : ℕ) → In k others → Drives n.instances k × (test k ≡ true)
   others_back k i = let r = in_filter test (driven n l n.instances) k i in (driven_back n.instances k r.0, r.1)
 
-  nets_differ : AllDifferent (net_classes n l)
+  pub nets_differ : AllDifferent (net_classes n l)
   nets_differ =
       different_append (port_classes n) others
       (ports_differ (signal_ports n) (different_filter is_signal n.ports (different_names n.ports orderly.order)) (λ x i. (in_filter is_signal n.ports x i).0))
