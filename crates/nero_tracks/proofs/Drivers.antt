@@ -294,7 +294,7 @@ module _ (n : Netlist) (l : Library) (m : Machine) (checked : IsChecked m) (well
       single x y here = refl
       single x y (there i) = elim i [ ]
 
-  all_below : (k : ℕ) → In k all_classes → k < n.classes
+  pub all_below : (k : ℕ) → In k all_classes → k < n.classes
   all_below k h = elim (In-split k (n.class (port vdd) ∷ n.class (port vss) ∷ []) (net_classes n l) h) [
     | inl a ↦ supply_below k a
     | inr b ↦ let r = net_of k b in subst (λ (x : ℕ). x < n.classes) r.is (orderly.counted.numbered r.at r.terminal)
