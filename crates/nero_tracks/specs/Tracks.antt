@@ -1,5 +1,6 @@
 -- The tracks of a placement's nets, as they are kept in memory.
-use Rattle.std.specs.Prelude.{◌≡◌, ℕ, ◌<◌, ℤ, Bool, not, List, [], ◌∷◌, ◌++◌, map, filter, drop, length, nat_lt, Option, None, slice_index_or, if◌then◌else◌}
+use Rattle.std.specs.Prelude.{◌≡◌, ℕ, ◌<◌, ◌≤◌, ℤ, Bool, not, List, [], ◌∷◌, ◌++◌, map, filter, drop, length, nat_lt, Option, None, Some, slice_index_or, if◌then◌else◌}
+use Rattle.std.specs.List.{All}
 use Rattle.cell_model.specs.Access.{Point}
 use Rattle.ocp_place.specs.Nets.{is_among}
 use Rattle.ocp_place.specs.Placed.{InRow}
@@ -22,10 +23,17 @@ ends_of p class = slice_index_or p.ends class []
 abbrev pub IsTrack : InRow → ℕ → Track → Type 0
 IsTrack p k t = shown_span t.span ≡ track_span (ends_of p t.class) (net_pins (length p.ports) k (ends_of p t.class))
 
--- the nets of a placement: those of its ports, then those of its drivers whose class has no port; each has its track
+-- it ends at coordinates that aren't large
+abbrev pub IsNearSpan : Option (ℕ × ℕ) → Type 0
+IsNearSpan None = Unit {0}
+IsNearSpan (Some r) = (r.0 ≤ 100000000000000) × (r.1 ≤ 100000000000000)
+
+-- The nets of a placement: those of its ports, then those of its drivers whose class has no port; each has its track.
 pub record AreTracks (p : InRow) (tracks : List Track) : Type 0 where
   pub classes : map (λ t. t.class) tracks ≡ p.ports ++ filter (λ class. not (is_among p.ports class)) p.drivers
   pub each : (k : ℕ) (d : Track) → k < length tracks → IsTrack p k (slice_index_or tracks k d)
+  pub inside : All (λ t. t.class < length p.ends) tracks
+  pub near : All (λ t. IsNearSpan t.span) tracks
 
 -- for each of so many classes, whether it stands among some
 pub record AreMarks (classes : List ℕ) (count : ℕ) (marks : List Bool) : Type 0 where

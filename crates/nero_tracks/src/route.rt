@@ -1,12 +1,12 @@
 // The tracks of nets.
-ghost use Rattle.std.specs.Prelude.{◌≡◌, ◌++◌, ◌<◌, [], map, filter, not, IfOk, IfErr, OnOk};
+ghost use Rattle.std.specs.Prelude.{◌≡◌, ◌++◌, ◌<◌, ◌≤◌, [], map, filter, not, IfOk, IfErr, OnOk};
 ghost use Rattle.std.specs.List.{All};
 ghost use Rattle.ocp_place.specs.Nets.{is_among};
 ghost use Rattle.ocp_place.specs.Reaches.{site_of};
 ghost use Rattle.ocp_place.specs.Spans.{shown_span};
 ghost use Rattle.nero_tracks.specs.Columns.{HaveOwnColumns};
 ghost use Rattle.nero_tracks.specs.Drawable.{IsDrawableIn, IsTrackRefusal};
-ghost use Rattle.nero_tracks.specs.Tracks.{net_pins, track_span, AreMarks, AreTracks};
+ghost use Rattle.nero_tracks.specs.Tracks.{net_pins, track_span, IsNearSpan, AreMarks, AreTracks};
 
 use crate::TrackError;
 use crate::columns::check_columns;
@@ -80,7 +80,9 @@ pub fn net_pins(ends: &[Site], ports: usize, k: usize) -> &[Site]
 
 /// From where to where the track of net `k` runs.
 fn track_span(ends: &[Site], ports: usize, k: usize) -> Option<(u64, u64)>
-    ensures { shown_span result ≡ track_span (map (λ s. (site_of s).1) ends.now) (net_pins ports k (map (λ s. (site_of s).1) ends.now)) }
+    requires { All (λ s. (s.x ≤ 100000000000000) × (s.y ≤ 100000000000000)) ends.now }
+    ensures near { IsNearSpan result }
+    ensures span { shown_span result ≡ track_span (map (λ s. (site_of s).1) ends.now) (net_pins ports k (map (λ s. (site_of s).1) ends.now)) }
 {
     if net_pins(ends, ports, k).is_empty() {
         return None;

@@ -1,5 +1,5 @@
 // How long the nets of a placement are.
-ghost use Rattle.std.specs.Prelude.{◌≡◌, ◌≤◌, map, pos};
+ghost use Rattle.std.specs.Prelude.{◌≡◌, ◌≤◌, map, pos, IfSome};
 ghost use Rattle.std.specs.List.{All};
 ghost use Rattle.net_core.specs.Netlist.{Netlist as InMemory};
 ghost use Rattle.net_meaning.specs.Netlist.{Netlist};
@@ -24,7 +24,9 @@ fn along_axis(site: &Site, upright: bool) -> u64
 
 /// The least and the greatest coordinate of points along an axis; none where there are no points. Takes no memory.
 pub fn span(sites: &[Site], upright: bool) -> Option<(u64, u64)>
-    ensures { shown_span result ≡ span (map (λ s. pos (along_axis upright s)) sites.now) }
+    requires { All (λ s. (s.x ≤ 100000000000000) × (s.y ≤ 100000000000000)) sites.now }
+    ensures near { IfSome result (λ r. (r.0 ≤ 100000000000000) × (r.1 ≤ 100000000000000)) }
+    ensures span { shown_span result ≡ span (map (λ s. pos (along_axis upright s)) sites.now) }
 {
     let mut range = None;
     for site in sites {

@@ -26,10 +26,10 @@ use Rattle.route_draw.specs.Law.{CheckedCellsAreClean}
 use Rattle.route_draw.proofs.Shapes.{lines_good}
 use Rattle.route_draw.proofs.Nodes.{IsBounded, has_node}
 
-abbrev rect_of : ℤ → ℤ → ℤ → ℤ → Rect
+abbrev pub rect_of : ℤ → ℤ → ℤ → ℤ → Rect
 rect_of a b c d = record { x1 = a; y1 = b; x2 = c; y2 = d }
 
-rect_is : (r : Rect) (a b c d : ℤ) → r.x1 ≡ a → r.y1 ≡ b → r.x2 ≡ c → r.y2 ≡ d → r ≡ rect_of a b c d
+pub rect_is : (r : Rect) (a b c d : ℤ) → r.x1 ≡ a → r.y1 ≡ b → r.x2 ≡ c → r.y2 ≡ d → r ≡ rect_of a b c d
 rect_is r a b c d p q s t =
     ap (λ (z : ℤ). rect_of z r.y1 r.x2 r.y2) p ∙ ap (λ (z : ℤ). rect_of a z r.x2 r.y2) q ∙ ap (λ (z : ℤ). rect_of a b z r.y2) s ∙ ap (λ (z : ℤ). rect_of a b c z) t
 

@@ -1,5 +1,5 @@
 -- The lines that are drawn are those of the drawing with tracks.
-use Rattle.std.proofs.Common.{◌≡◌, ◌⊎◌, inl, inr, ℕ, zero, suc, ◌+◌, ◌-◌, ◌<◌, ◌≤◌, Bool, true, false, not, cond, List, [], ◌∷◌, ◌++◌, map, filter, length, Option, Some, None, refl, sym, ap, subst, ◌∙◌, arith, rules, append-nil, append_assoc}
+use Rattle.std.proofs.Common.{◌≡◌, ◌⊎◌, inl, inr, ℕ, zero, suc, ◌+◌, ◌-◌, ◌<◌, ◌≤◌, Bool, true, false, not, cond, List, [], ◌∷◌, ◌++◌, map, filter, length, Option, Some, None, refl, sym, ap, subst, ◌∙◌, arith, append-nil, append_assoc}
 use Rattle.std.specs.Prelude.{ℤ, pos, ◌+ℤ◌, slice_get, flat_map, drop, nat_lt}
 use Rattle.std.specs.Int.{int_max}
 use Rattle.std.proofs.lemmas.Int.{ints, int_max_is}
@@ -69,12 +69,16 @@ ending end ms =
     ++ (strap (pos VSS_STRAP_X) vss (centres vss_centre false (pos 0) (ms ∷ []))
     ++ strap (pos VDD_STRAP_X) vdd (centres vdd_centre false (pos 0) (ms ∷ [])))
 
-supplies_are : (l : Library) (w : ℕ) (ms : List Member) → pos w ≡ row_width l ms → row_supplies w ≡ supplies l (ms ∷ [])
-supplies_are l w ms e =
+-- one row is as wide as the widest
+pub rows_are : (l : Library) (w : ℕ) (ms : List Member) → pos w ≡ row_width l ms → rows_width l (ms ∷ []) ≡ pos w
+rows_are l w ms e =
     let a = int_max_is (pos w) (pos 0) in
     let wide : int_max (pos w) (pos 0) ≡ pos w = omega (arith, ints) in
-    let rows : rows_width l (ms ∷ []) ≡ pos w = ap (λ (z : ℤ). int_max z (pos 0)) (sym e) ∙ wide in
-    let end : pos (FIRST_CELL_X + w) ≡ (pos FIRST_CELL_X +ℤ rows_width l (ms ∷ [])) = refl ∙ ap (λ (z : ℤ). pos FIRST_CELL_X +ℤ z) (sym rows) in
+    ap (λ (z : ℤ). int_max z (pos 0)) (sym e) ∙ wide
+
+supplies_are : (l : Library) (w : ℕ) (ms : List Member) → pos w ≡ row_width l ms → row_supplies w ≡ supplies l (ms ∷ [])
+supplies_are l w ms e =
+    let end : pos (FIRST_CELL_X + w) ≡ (pos FIRST_CELL_X +ℤ rows_width l (ms ∷ [])) = ap (λ (z : ℤ). pos FIRST_CELL_X +ℤ z) (sym (rows_are l w ms e)) in
     ap (λ (z : ℤ). ending z ms) end
 
 -- ---- counts
@@ -142,10 +146,10 @@ different_left [] ys d = tt
 different_left (x ∷ xs) ys d = (λ i. d.0 (In-left x xs ys i), different_left xs ys d.1)
 
 is_less : (a b : ℕ) → a < b → nat_lt a b ≡ true
-is_less a b h = grind (arith, nat_tests, rules)
+is_less a b h = grind (arith, nat_tests)
 
 is_not_less : (a b : ℕ) → b ≤ a → nat_lt a b ≡ false
-is_not_less a b h = grind (arith, nat_tests, rules)
+is_not_less a b h = grind (arith, nat_tests)
 
 not_true : (b : Bool) → not b ≡ true → b ≡ true → ⊥
 not_true true e f = cc e
@@ -162,7 +166,7 @@ module _ (n : InMemory) (l : Library) (m : Machine) (k : Netlist) (seen : IsSeen
   abbrev pins : ℕ → List Point
   pins class = points_in class (pin_sites k l)
 
-  names_are : signal_names n.ports ≡ names
+  pub names_are : signal_names n.ports ≡ names
   names_are = sym (ap (filter is_signal) (seen_ports n k seen))
 
   order_is : map (λ t. t.class) tracks ≡ net_classes k l
@@ -171,7 +175,7 @@ module _ (n : InMemory) (l : Library) (m : Machine) (k : Netlist) (seen : IsSeen
       ∙ ap (λ (ps : List ℕ). ps ++ filter (λ class. not (is_among ps class)) p.drivers) row.ports
       ∙ ap (λ (ds : List ℕ). port_classes k ++ filter (λ class. not (is_among (port_classes k) class)) ds) row.drivers
 
-  many : length tracks ≡ net_count k
+  pub many : length tracks ≡ net_count k
   many =
       let a = length-map tracks (λ (t : Track). t.class) in
       let b = ap length order_is in

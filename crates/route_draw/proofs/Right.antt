@@ -35,7 +35,7 @@ use Rattle.route_draw.specs.Law.{IsRoutable, RightIsDrawable, RightDrawingsAreRi
 use Rattle.route_draw.proofs.Clean.{checked_cells_are_clean}
 
 module _ (n : InMemory) (l : Library) (m : Machine) (k : Netlist) (given : IsRoutable n l m k) where
-  well : IsWell k l m
+  pub well : IsWell k l m
   well = (seen_is_well_formed n l m k given.netlist given.checked given.right given.pins given.seen).0
 
   there : (t : Terminal) → IsTerminal k l t → IsThere (terminals n) t
@@ -78,7 +78,7 @@ module _ (n : InMemory) (l : Library) (m : Machine) (k : Netlist) (given : IsRou
       let r = well.models one listed in
       subst (λ (x : Cell). IsUsable x) (same_Some r.0 c (sym r.1 ∙ found)) r.2
 
-  orderly : IsOrderly k l
+  pub orderly : IsOrderly k l
   orderly = record {
     clean = λ one c listed found.
         let own = (named_cell l.cells one.model c found).0 in

@@ -7,7 +7,6 @@ ghost use Rattle.ocp_place.specs.Drawable.{IsDrawableIn};
 ghost use Rattle.nero_tracks.specs.Tracks.{AreTracks};
 ghost use Rattle.sym_geom.specs.declared.grid.TheConstants.{PITCH as pitch, FIRST_CELL_X as first_x};
 ghost use Rattle.route_draw.specs.Pieces.{signal_names, instance_lines, row_supplies, all_lines};
-ghost use Rattle.route_draw.specs.Tracks.{AreDrawable};
 ghost use Rattle.route_draw.specs.Drawn.{IsDrawnInTracks};
 
 use crate::nets::push_nets;
@@ -49,7 +48,9 @@ fn lines(
     tracks: &[Track],
 ) -> Result<Items, AllocError>
     requires starts { length placement.now.starts ≡ length netlist.now.instances }
-    requires tracks { AreDrawable placement.now tracks.now }
+    requires names { length (signal_names netlist.now.ports) < 2 ^ 32 }
+    requires few { length tracks.now < 2 ^ 32 }
+    requires tracks { AreTracks placement.now tracks.now }
     ensures { IfOk result (λ items. items ≡ supply_ports ++ (track_ports 0 (signal_names netlist.now.ports)
         ++ (instance_lines netlist.now.instances placement.now.starts ++ (row_supplies placement.now.width
         ++ all_lines 0 (signal_names netlist.now.ports) placement.now tracks.now)))) }
@@ -87,6 +88,7 @@ pub fn draw_tracks(
     ensures { IfOk result (λ f. IsDrawnInTracks library.now netlist.now f) }
 {
     let _ = library;
+    let _ = placement.count();
     let items = lines(alloc, netlist, placement, tracks)?;
     let name = netlist.name().copy(alloc)?;
     Ok(Figure {

@@ -1,12 +1,12 @@
 // The tracks and risers of nets.
-ghost use Rattle.std.specs.Prelude.{◌≡◌, ◌++◌, ◌≤◌, ◌<◌, ◌^◌, map, flat_map, OnOk};
+ghost use Rattle.std.specs.Prelude.{◌≡◌, ◌++◌, ◌≤◌, ◌<◌, ◌^◌, map, flat_map, length, OnOk};
 ghost use Rattle.std.specs.List.{All};
 ghost use Rattle.std.specs.Option.{option_copied};
 ghost use Rattle.net_drawing.specs.Drawing.{riser};
 ghost use Rattle.ocp_place.specs.Reaches.{site_of};
 ghost use Rattle.ocp_place.specs.Spans.{shown_span};
+ghost use Rattle.nero_tracks.specs.Tracks.{IsNearSpan, AreTracks};
 ghost use Rattle.route_draw.specs.Pieces.{track_line, all_lines};
-ghost use Rattle.route_draw.specs.Tracks.{IsNearSpan, AreDrawable};
 
 use crate::lines::{Spot, Wire, via, wire};
 use crate::row::track_y;
@@ -104,7 +104,8 @@ pub(crate) fn push_nets(
     placement: &Placement,
     tracks: &[Track],
 ) -> Result<(), AllocError>
-    requires { AreDrawable placement.now tracks.now }
+    requires few { length tracks.now < 2 ^ 32 }
+    requires tracks { AreTracks placement.now tracks.now }
     ensures { OnOk result (items.new ≡ items.old ++ all_lines 0 names.now placement.now tracks.now) }
 {
     let ports = placement.ports().len();
