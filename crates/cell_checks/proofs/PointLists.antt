@@ -1,5 +1,5 @@
 -- Access nodes column by column are those in the order of the grid.
-use Rattle.std.proofs.Common.{◌≡◌, ℕ, zero, suc, ◌*◌, ◌%◌, ◌<◌, ◌≤◌, pos, Bool, true, false, List, [], ◌∷◌, ◌++◌, map, filter, length, Option, Some, None, refl, sym, ap, ◌∙◌, arith, if◌then◌else◌}
+use Rattle.std.proofs.Common.{◌≡◌, ℕ, zero, suc, ◌%◌, pos, Bool, true, false, List, [], ◌∷◌, ◌++◌, map, filter, length, Option, refl, sym, ap, ◌∙◌, arith, if◌then◌else◌}
 use Rattle.std.specs.Prelude.{slice_get, option_map, flat_map, filter_map}
 use Rattle.std.proofs.lemmas.Int.{ints}
 use Rattle.std.proofs.lemmas.List.{append-nil, map-append, length-map}
@@ -8,10 +8,9 @@ use Rattle.std.proofs.lemmas.Grind.{flat_map-append}
 use Rattle.std.proofs.lemmas.Option.{slice_get-map}
 use Rattle.vlsi_base.specs.declared.name.Name.{Name}
 use Rattle.vlsi_base.specs.Names.{comes_before}
-use Rattle.sym_geom.specs.declared.grid.TheConstants.{PITCH}
 use Rattle.cell_model.specs.declared.cell.Pin.{Pin}
 use Rattle.cell_model.specs.Cell.{Cell, cell_width, cell_height}
-use Rattle.cell_model.specs.Access.{Point, count_to, grid_lines, is_access_node, access_nodes, access_point, rank_of}
+use Rattle.cell_model.specs.Access.{count_to, grid_lines, is_access_node, access_nodes, access_point}
 use Rattle.cell_checks.specs.Checks.{StandsInRow}
 use Rattle.cell_checks.specs.Points.{point_of, nodes_in, nodes_to}
 use Rattle.cell_checks.specs.declared.points.GridPoint.{GridPoint}

@@ -1,5 +1,5 @@
 -- The classes of nets: each but those of the supplies is one, and none is twice.
-use Rattle.std.proofs.Common.{◌≡◌, ◌≢◌, ◌⊎◌, inl, inr, ℕ, suc, ◌+◌, ◌<◌, ◌≤◌, Bool, true, false, not, ◌||◌, List, [], ◌∷◌, ◌++◌, map, filter, length, Option, Some, None, refl, sym, ap, subst, ◌∙◌, arith}
+use Rattle.std.proofs.Common.{◌≡◌, ◌≢◌, inl, inr, ℕ, suc, ◌+◌, ◌<◌, ◌≤◌, Bool, true, false, not, List, [], ◌∷◌, ◌++◌, map, filter, length, Option, Some, None, refl, sym, ap, subst, ◌∙◌, arith}
 use Rattle.std.specs.Prelude.{IsTrue, AllPairs}
 use Rattle.std.proofs.lemmas.Option.{same_Some}
 use Rattle.std.proofs.lemmas.List.Elements.{filter-append}
@@ -8,7 +8,7 @@ use Rattle.vlsi_base.specs.declared.name.Port.{Port}
 use Rattle.vlsi_base.specs.declared.name.Terminal.{Terminal}
 use Rattle.vlsi_base.specs.Names.{vdd, vss, comes_before}
 use Rattle.vlsi_base.specs.Member.{In, here, there, AllDifferent}
-use Rattle.machine_meaning.specs.Machine.{Machine, names_of, is_input, input_ports, inputs}
+use Rattle.machine_meaning.specs.Machine.{Machine, names_of, is_input, input_ports}
 use Rattle.machine_meaning.specs.Named.{is_same_name}
 use Rattle.machine_core.specs.Checked.{IsChecked, IsNoSupply}
 use Rattle.cell_model.specs.Cell.{Function, gate, flip_flop, other, opaque, Cell, pin_ports, cell_outputs}
@@ -16,7 +16,7 @@ use Rattle.cell_model.specs.Library.{Library, cell_of, IsUsable, IsPlain}
 use Rattle.cell_model.proofs.Members.{place-In, All-In, In-split, In-left, In-right, In-map, In-map_back}
 use Rattle.cell_pins.proofs.Ports.{in_filter, before_itself}
 use Rattle.net_meaning.specs.Netlist.{Member, Netlist, port, pin_of, IsTerminal, a_port, a_pin}
-use Rattle.net_meaning.specs.Well.{Has, IsDriver, an_input, an_output, IsSpecial, of_vdd, of_vss, of_clock, IsWell}
+use Rattle.net_meaning.specs.Well.{IsDriver, an_input, an_output, IsSpecial, of_vdd, of_vss, of_clock, IsWell}
 use Rattle.net_theory.proofs.Basics.{In-names, In-inputs, In-held}
 use Rattle.net_view.proofs.Lists.{filter_in}
 use Rattle.net_view.proofs.Ports.{supplies_differ}

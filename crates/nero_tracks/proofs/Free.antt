@@ -14,7 +14,6 @@ use Rattle.cell_checks.specs.Verdict.{IsVerdict}
 use Rattle.net_core.specs.Netlist.{Netlist as InMemory}
 use Rattle.net_view.proofs.Models.{named_cell}
 use Rattle.net_view.proofs.Seen.{right_cell}
-use Rattle.nero_tracks.specs.declared.error.TrackError.{TrackError}
 use Rattle.nero_tracks.specs.declared.error.TrackError.TheVariants as error
 use Rattle.nero_tracks.specs.Drawable.{IsDrawableIn, SharesColumn, ColumnsAreFree}
 

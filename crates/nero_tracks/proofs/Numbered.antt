@@ -1,5 +1,5 @@
 -- The nets of a netlist are numbered as a drawing with tracks asks, and are all classes but the supplies'.
-use Rattle.std.proofs.Common.{◌≡◌, ◌≢◌, ℕ, ◌+◌, ◌-◌, ◌<◌, List, map, filter, length, Some, refl, sym, ap, ◌∙◌, arith}
+use Rattle.std.proofs.Common.{◌≡◌, ◌≢◌, ℕ, ◌-◌, ◌<◌, filter, Some, arith}
 use Rattle.std.specs.Prelude.{slice_get, IsTrue, not}
 use Rattle.std.proofs.lemmas.List.Kept.{AllPairs-filter}
 use Rattle.vlsi_base.specs.declared.name.Name.{Name}

@@ -4,7 +4,6 @@ use Rattle.std.specs.List.{All}
 use Rattle.std.specs.Global.{Vec}
 use Rattle.sym_geom.specs.declared.grid.TheConstants.{FIRST_CELL_X}
 use Rattle.cell_model.specs.Library.{Library}
-use Rattle.cell_model.specs.Access.{Point}
 use Rattle.cell_checks.specs.declared.points.GridPoint.{GridPoint}
 use Rattle.net_meaning.specs.Netlist.{Netlist}
 use Rattle.ocp_rows.specs.Placement.{row_width}

@@ -1,7 +1,6 @@
 -- Where the terminals of a netlist lie whose instances stand in one row, with their classes.
 use Rattle.std.specs.Prelude.{ℕ, ◌+◌, ℤ, pos, ◌+ℤ◌, not, ◌||◌, nat_eq, List, [], ◌∷◌, ◌++◌, map, flat_map, filter, sum, length, slice_index_or, Option, None, Some, if◌then◌else◌}
 use Prim.Native.Nat.{suc}
-use Rattle.vlsi_base.specs.declared.name.Name.{Name}
 use Rattle.machine_meaning.specs.Machine.{names_of}
 use Rattle.sym_geom.specs.declared.grid.TheConstants.{FIRST_CELL_X}
 use Rattle.cell_model.specs.Cell.{Cell, pin_ports}

@@ -1,5 +1,5 @@
 -- How far points reach.
-use Rattle.std.specs.Prelude.{ℕ, ℤ, Bool, true, false, List, [], ◌∷◌, map, Option, None, Some, pos}
+use Rattle.std.specs.Prelude.{ℕ, ℤ, Bool, true, false, List, [], ◌∷◌, Option, None, Some, pos}
 use Rattle.ocp_rows.specs.Length.{least, greatest}
 use Rattle.ocp_place.specs.declared.row.Site.{Site as Placed}
 

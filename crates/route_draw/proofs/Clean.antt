@@ -1,6 +1,6 @@
 -- A usable cell that has passed its checks may have tracks over it.
-use Rattle.std.proofs.Common.{◌≡◌, ◌⊎◌, inl, inr, ℕ, ◌+◌, ◌-◌, ◌*◌, ◌≤◌, List, Some, true, refl, sym, ap, subst, ◌∙◌, arith, ⊎_elim}
-use Rattle.std.specs.Prelude.{ℤ, pos, ◌+ℤ◌, ◌-ℤ◌, ◌≤ℤ◌}
+use Rattle.std.proofs.Common.{◌≡◌, ◌⊎◌, inl, inr, ℕ, ◌+◌, ◌-◌, ◌*◌, ◌≤◌, List, true, refl, ap, subst, ◌∙◌, arith, ⊎_elim}
+use Rattle.std.specs.Prelude.{ℤ, pos, ◌≤ℤ◌}
 use Rattle.std.proofs.lemmas.Int.{ints}
 use Rattle.vlsi_base.specs.declared.name.Name.{Name}
 use Rattle.vlsi_base.specs.Names.{vdd, vss}
@@ -18,7 +18,7 @@ use Rattle.cell_model.proofs.Mapped.{usable_is_mappable}
 use Rattle.cell_model.proofs.Members.{All-In}
 use Rattle.cell_checks.specs.declared.verdict.Check.TheVariants as check
 use Rattle.cell_checks.specs.declared.verdict.CellVerdict.TheVariants as verdict
-use Rattle.cell_checks.specs.Checks.{HasColumns, StandsInRow, HasRail, HasRails, IsReached, PinsAreApart, KeepsToItsBox, KeepsFromRails, ColumnsDiffer, rail, vss_strip, vdd_strip}
+use Rattle.cell_checks.specs.Checks.{StandsInRow, HasRail, HasRails, KeepsToItsBox, KeepsFromRails, rail, vss_strip, vdd_strip}
 use Rattle.cell_checks.specs.Checks as checks
 use Rattle.cell_checks.specs.Verdict.{IsVerdict}
 use Rattle.net_drawing.specs.Clean.{HasStrip, IsInside, IsInStrip, IsTied, IsClean}

@@ -1,5 +1,5 @@
 -- The figure that is drawn of a placed netlist.
-use Rattle.std.proofs.Common.{◌≡◌, ℕ, suc, ◌+◌, ◌-◌, ◌<◌, ◌^◌, not, List, [], ◌∷◌, ◌++◌, length, map, filter, Some, true, refl, sym, ap, subst, ◌∙◌, arith}
+use Rattle.std.proofs.Common.{◌≡◌, ℕ, suc, ◌+◌, ◌-◌, ◌<◌, ◌^◌, not, List, [], ◌∷◌, ◌++◌, length, filter, Some, true, refl, sym, ap, subst, ◌∙◌, arith}
 use Rattle.std.specs.Prelude.{ℤ, pos, ◌+ℤ◌}
 use Rattle.std.proofs.lemmas.List.{length-map, length-append}
 use Rattle.vlsi_base.specs.declared.name.Name.{Name}
@@ -9,18 +9,17 @@ use Rattle.sym_geom.specs.declared.rect.Rect.{Rect}
 use Rattle.sym_geom.specs.declared.item.Item.{Item}
 use Rattle.cell_model.specs.Library.{Library}
 use Rattle.cell_checks.specs.Checked.{IsChecked as HasPassed}
-use Rattle.net_core.specs.Netlist.{Instance, Netlist as InMemory}
+use Rattle.net_core.specs.Netlist.{Netlist as InMemory}
 use Rattle.net_meaning.specs.Netlist.{Member, Netlist, Extracts, port}
 use Rattle.net_meaning.specs.Breaches.{Breaches}
 use Rattle.net_view.specs.View.{member_of, IsSeenAs}
 use Rattle.net_view.proofs.Terminals.{seen_instances}
-use Rattle.ap_io.specs.declared.figure.Figure.{Figure}
 use Rattle.ocp_rows.specs.Placement.{IsPlaced, supply_ports, track_ports, track_y, net_count, model_width, rows_width}
 use Rattle.net_drawing.specs.Drawing.{track_items}
 use Rattle.net_drawing.specs.Law.{one_row, track_box}
 use Rattle.ocp_place.specs.Drawable.{IsDrawableIn}
 use Rattle.ocp_place.specs.Nets.{is_among, signal_ports, net_number}
-use Rattle.ocp_place.specs.Placed.{InRow, IsRowOf, IsPlacementOf}
+use Rattle.ocp_place.specs.Placed.{InRow, IsPlacementOf}
 use Rattle.ocp_place.specs.Sites.{row_starts}
 use Rattle.nero_tracks.specs.declared.route.Track.{Track}
 use Rattle.nero_tracks.specs.Tracks.{AreTracks}

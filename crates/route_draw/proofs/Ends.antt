@@ -1,9 +1,9 @@
 -- The points of a net: that of its port, then those of its pins; and how far they reach.
-use Rattle.std.proofs.Common.{◌≡◌, ◌⊎◌, inl, inr, ℕ, zero, suc, ◌+◌, ◌<◌, ◌≤◌, Bool, true, false, cond, nat_eq, List, [], ◌∷◌, ◌++◌, map, length, Option, Some, None, refl, sym, ap, subst, ◌∙◌, arith, append-nil}
-use Rattle.std.specs.Prelude.{ℤ, pos, ◌≤ℤ◌, slice_get, flat_map}
+use Rattle.std.proofs.Common.{◌≡◌, ℕ, zero, suc, ◌+◌, Bool, false, cond, nat_eq, List, [], ◌∷◌, ◌++◌, Some, None, refl, sym, ap, subst, ◌∙◌, arith}
+use Rattle.std.specs.Prelude.{ℤ, pos, slice_get}
 use Rattle.std.specs.Int.{int_min, int_max}
 use Rattle.std.proofs.lemmas.Int.{ints, int_min_is, int_max_is}
-use Rattle.std.proofs.lemmas.Bool.{eq-eqb, false_from_ne_true, eqb-true, cond-true, cond-false}
+use Rattle.std.proofs.lemmas.Bool.{eq-eqb, false_from_ne_true, eqb-true}
 use Rattle.std.proofs.lemmas.Option.{same_Some}
 use Rattle.vlsi_base.specs.Member.{In, here, there, AllDifferent}
 use Rattle.sym_geom.specs.declared.grid.TheConstants.{FIRST_CELL_X}
@@ -11,7 +11,7 @@ use Rattle.cell_model.specs.Access.{Point}
 use Rattle.net_drawing.proofs.Coding.{In_get}
 use Rattle.ocp_rows.specs.Placement.{track_y}
 use Rattle.ocp_rows.specs.Length.{least, greatest}
-use Rattle.ocp_place.specs.Sites.{Site, port_sites, points_in}
+use Rattle.ocp_place.specs.Sites.{port_sites, points_in}
 
 -- ---- ports
 

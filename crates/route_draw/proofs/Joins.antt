@@ -1,5 +1,5 @@
 -- The lines that are drawn are those of the drawing with tracks.
-use Rattle.std.proofs.Common.{◌≡◌, ◌⊎◌, inl, inr, ℕ, zero, suc, ◌+◌, ◌-◌, ◌<◌, ◌≤◌, Bool, true, false, not, cond, List, [], ◌∷◌, ◌++◌, map, filter, length, Option, Some, None, refl, sym, ap, subst, ◌∙◌, arith, append-nil, append_assoc}
+use Rattle.std.proofs.Common.{◌≡◌, ℕ, zero, suc, ◌+◌, ◌-◌, ◌<◌, ◌≤◌, Bool, true, false, not, cond, List, [], ◌∷◌, ◌++◌, map, filter, length, Option, Some, None, refl, sym, ap, subst, ◌∙◌, arith, append-nil, append_assoc}
 use Rattle.std.specs.Prelude.{ℤ, pos, ◌+ℤ◌, slice_get, flat_map, drop, nat_lt}
 use Rattle.std.specs.Int.{int_max}
 use Rattle.std.proofs.lemmas.Int.{ints, int_max_is}
@@ -8,9 +8,8 @@ use Rattle.std.proofs.lemmas.List.{length-map}
 use Rattle.std.proofs.lemmas.Grind.{flat_map-append}
 use Rattle.std.proofs.lemmas.Option.{slice_get_past, slice_get_within, get_or_from_slice_get}
 use Rattle.vlsi_base.specs.declared.name.Name.{Name}
-use Rattle.vlsi_base.specs.declared.name.Port.{Port}
 use Rattle.vlsi_base.specs.Names.{vdd, vss}
-use Rattle.vlsi_base.specs.Member.{In, here, there, AllDifferent}
+use Rattle.vlsi_base.specs.Member.{In, there, AllDifferent}
 use Rattle.sym_geom.specs.declared.grid.TheConstants.{WIRE_WIDTH, FIRST_CELL_X, VSS_STRAP_X, VDD_STRAP_X}
 use Rattle.sym_geom.specs.declared.rect.Transform.TheVariants.{NoSym}
 use Rattle.sym_geom.specs.declared.layer.Layer.TheVariants.{Alu}
@@ -21,7 +20,7 @@ use Rattle.machine_meaning.specs.Machine.{Machine}
 use Rattle.machine_core.specs.Checked.{IsChecked}
 use Rattle.cell_model.specs.Library.{Library}
 use Rattle.cell_model.specs.Access.{Point, count_to}
-use Rattle.cell_model.proofs.Members.{In-left, In-right}
+use Rattle.cell_model.proofs.Members.{In-left}
 use Rattle.cell_pins.proofs.Ports.{in_filter}
 use Rattle.net_core.specs.Places.{Stands}
 use Rattle.net_core.specs.Netlist.{Instance, Netlist as InMemory}
@@ -33,7 +32,7 @@ use Rattle.net_view.specs.View.{member_of, IsSeenAs}
 use Rattle.net_view.proofs.Terminals.{seen_ports, seen_instances}
 use Rattle.ocp_rows.specs.Placement.{model_width, row_width, rows_width, level_wire, standing, rails, strap, centres, vss_centre, vdd_centre, supplies, supply_ports, track_ports, track_y, net_count}
 use Rattle.ocp_rows.specs.Length.{least, greatest}
-use Rattle.net_drawing.specs.Drawing.{along, of_cell, of_pins, riser, port_xs, track_over, net_wiring, wiring, track_items}
+use Rattle.net_drawing.specs.Drawing.{of_pins, riser, port_xs, track_over, net_wiring, wiring, track_items}
 use Rattle.net_drawing.proofs.Coding.{In_get}
 use Rattle.ocp_place.specs.Nets.{is_signal, signal_ports, port_classes, driven, is_among, net_classes, net_number}
 use Rattle.ocp_place.specs.Orderly.{IsOrderly}

@@ -25,7 +25,6 @@ use Rattle.net_view.specs.View.{member_of}
 use Rattle.net_view.proofs.Models.{named_cell}
 use Rattle.net_view.proofs.Seen.{right_celled, seen_class, seen_is_well_formed}
 use Rattle.net_view.proofs.Terminals.{seen_ports, seen_instances, seen_classes, terminal_there, there_terminal}
-use Rattle.net_drawing.specs.Drawing.{IsDrawable}
 use Rattle.net_drawing.specs.Law.{IsNumbered}
 use Rattle.net_drawing.proofs.FromWell.{well_drawings_are_right}
 use Rattle.ocp_place.specs.Nets.{signal_ports, net_number}

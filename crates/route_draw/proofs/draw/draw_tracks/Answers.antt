@@ -1,5 +1,5 @@
-use Rattle.std.proofs.Common.{◌≡◌, ◌<◌, ◌^◌, length, arith}
-use Rattle.route_draw.proofs.Drawing.{starts_many, tracks_few, names_few, drawn}
+use Rattle.std.proofs.Common.{arith}
+use Rattle.route_draw.proofs.Drawing.{starts_many, tracks_few, names_few}
 use Rattle.route_draw.proofs.draw.draw_tracks.Goals as goal
 
 pub lines-items-requires-clause-starts : goal.lines-items-requires-clause-starts
