@@ -5,7 +5,7 @@ use Rattle.std.proofs.lemmas.Bool.{cond-true, cond-false, eqb-true, eq-eqb}
 use Rattle.std.proofs.lemmas.Option.{same_Some}
 use Rattle.vlsi_base.specs.Member.{In, here, there}
 use Rattle.ocp_place.specs.Nets.{is_among, place_among}
-use Rattle.nero_tracks.proofs.Lists.{unequal}
+use Rattle.ocp_place.proofs.Lists.{unequal}
 
 among_so : (k : ℕ) (ks : List ℕ) (c : ℕ) → (is_among ks c ≡ true → In c ks) → (b : Bool) → nat_eq k c ≡ b → (b || is_among ks c) ≡ true → In c (k ∷ ks)
 among_so k ks c later true e h = subst (λ x. In x (k ∷ ks)) (eqb-true k c e) here

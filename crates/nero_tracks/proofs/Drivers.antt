@@ -1,20 +1,20 @@
 -- The classes of nets: each but those of the supplies is one, and none is twice.
-use Rattle.std.proofs.Common.{◌≡◌, ◌≢◌, inl, inr, ℕ, suc, ◌+◌, ◌<◌, ◌≤◌, Bool, true, false, not, List, [], ◌∷◌, ◌++◌, map, filter, length, Option, Some, None, refl, sym, ap, subst, ◌∙◌, arith}
-use Rattle.std.specs.Prelude.{IsTrue, AllPairs}
+use Rattle.std.proofs.Common.{◌≡◌, ◌≢◌, inl, inr, ℕ, ◌+◌, ◌<◌, ◌≤◌, Bool, true, false, not, List, [], ◌∷◌, ◌++◌, map, filter, length, Option, Some, None, refl, sym, ap, subst, ◌∙◌, arith}
+use Rattle.std.specs.Prelude.{AllPairs}
 use Rattle.std.proofs.lemmas.Option.{same_Some}
 use Rattle.std.proofs.lemmas.List.Elements.{filter-append}
 use Rattle.vlsi_base.specs.declared.name.Name.{Name}
 use Rattle.vlsi_base.specs.declared.name.Port.{Port}
 use Rattle.vlsi_base.specs.declared.name.Terminal.{Terminal}
-use Rattle.vlsi_base.specs.Names.{vdd, vss, comes_before}
+use Rattle.vlsi_base.specs.Names.{vdd, vss}
 use Rattle.vlsi_base.specs.Member.{In, here, there, AllDifferent}
 use Rattle.machine_meaning.specs.Machine.{Machine, names_of, is_input, input_ports}
 use Rattle.machine_meaning.specs.Named.{is_same_name}
 use Rattle.machine_core.specs.Checked.{IsChecked, IsNoSupply}
 use Rattle.cell_model.specs.Cell.{Function, gate, flip_flop, other, opaque, Cell, pin_ports, cell_outputs}
 use Rattle.cell_model.specs.Library.{Library, cell_of, IsUsable, IsPlain}
-use Rattle.cell_model.proofs.Members.{place-In, All-In, In-split, In-left, In-right, In-map, In-map_back}
-use Rattle.cell_pins.proofs.Ports.{in_filter, before_itself}
+use Rattle.cell_model.proofs.Members.{All-In, In-split, In-left, In-right, In-map, In-map_back}
+use Rattle.cell_pins.proofs.Ports.{in_filter}
 use Rattle.net_meaning.specs.Netlist.{Member, Netlist, port, pin_of, IsTerminal, a_port, a_pin}
 use Rattle.net_meaning.specs.Well.{IsDriver, an_input, an_output, IsSpecial, of_vdd, of_vss, of_clock, IsWell}
 use Rattle.net_theory.proofs.Basics.{In-names, In-inputs, In-held}
@@ -23,7 +23,7 @@ use Rattle.net_view.proofs.Ports.{supplies_differ}
 use Rattle.net_drawing.proofs.Coding.{same_name_true, same_name_itself, same_name_false}
 use Rattle.ocp_place.specs.Nets.{is_signal, signal_ports, port_classes, driven_by, driven, is_among, net_classes}
 use Rattle.ocp_place.specs.Orderly.{IsOrderly}
-use Rattle.nero_tracks.proofs.Lists.{different_append, different_filter, few, many}
+use Rattle.ocp_place.proofs.Lists.{different_append, different_filter, different_names, first_differs, rest_differs, few, many}
 use Rattle.nero_tracks.proofs.Among.{among_in, in_among}
 
 -- ---- names
@@ -36,23 +36,6 @@ signal_so name h = (
   λ e. let t : false ≡ true = subst (λ (x : Name). is_signal x ≡ true) e h in cc t,
   λ e. let t : false ≡ true = subst (λ (x : Name). is_signal x ≡ true) e h in cc t,
 )
-
-different_names : (xs : List Name) → AllPairs (λ a b. IsTrue (comes_before a b)) xs → AllDifferent xs
-different_names [] h = tt
-different_names (x ∷ xs) h = (
-  λ i. let r = place-In x xs i in
-      before_itself x (subst (λ (y : Name). IsTrue (comes_before x y)) (r.2 x) (h 0 (suc r.0) x (omega arith) (omega (arith, r.1)))),
-  different_names xs (λ i j d low high. h (suc i) (suc j) d (omega (arith, low)) (omega (arith, high))),
-)
-
--- the first of some instances has another name than the others
-first_differs : (one : Member) (rest : List Member) → AllPairs (λ a b. a.name ≢ b.name) (one ∷ rest) → (i : Member) → In i rest → one.name ≢ i.name
-first_differs one rest h i j =
-    let r = place-In i rest j in
-    subst (λ (x : Member). one.name ≢ x.name) (r.2 one) (h 0 (suc r.0) one (omega arith) (omega (arith, r.1)))
-
-rest_differs : (one : Member) (rest : List Member) → AllPairs (λ a b. a.name ≢ b.name) (one ∷ rest) → AllPairs (λ a b. a.name ≢ b.name) rest
-rest_differs one rest h i j d low high = h (suc i) (suc j) d (omega (arith, low)) (omega (arith, high))
 
 one_different : {A : Type 0} (f : A → ℕ) (xs : List A) → length xs ≡ 1 → AllDifferent (map f xs)
 one_different f [] e = absurd (omega (arith, e))

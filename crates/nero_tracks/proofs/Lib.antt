@@ -1,4 +1,3 @@
-pub mod Lists
 pub mod Among
 pub mod Drivers
 pub mod Numbered

@@ -7,7 +7,7 @@ use Rattle.std.proofs.lemmas.Option.{same_Some}
 use Rattle.vlsi_base.specs.declared.name.Name.{Name}
 use Rattle.vlsi_base.specs.declared.name.Terminal.{Terminal}
 use Rattle.vlsi_base.specs.Names.{vdd, vss}
-use Rattle.vlsi_base.specs.Member.{In, here, there, AllDifferent}
+use Rattle.vlsi_base.specs.Member.{In, here, there}
 use Rattle.machine_meaning.specs.Machine.{Machine, names_of}
 use Rattle.machine_meaning.specs.Named.{is_same_text}
 use Rattle.sym_geom.specs.declared.grid.TheConstants.{FIRST_CELL_X}
@@ -27,12 +27,10 @@ use Rattle.ocp_place.specs.Orderly.{IsOrderly}
 use Rattle.ocp_place.specs.Sites.{Site, site_at, own_sites, row_sites, pin_sites, port_sites, points_in, length_of}
 use Rattle.ocp_place.specs.Placed.{InRow, IsRowOf}
 use Rattle.ocp_place.specs.Law.{row_of, LengthsAreRight}
+use Rattle.ocp_place.proofs.Lists.{different_filter, different_names, first_differs, rest_differs}
 use Rattle.ocp_place.proofs.Boxes.{same_box}
 use Rattle.ocp_place.proofs.Points.{points_back, points_there, kept_back, kept_there, flat_back, flat_there, port_back, port_there}
-use Rattle.cell_pins.proofs.Ports.{in_filter, before_itself}
-use Rattle.std.specs.Prelude.{IsTrue}
-use Rattle.vlsi_base.specs.Names.{comes_before}
-use Rattle.cell_model.proofs.Members.{place-In}
+use Rattle.cell_pins.proofs.Ports.{in_filter}
 
 -- the point of a cell as an instance at x, y 0 shows it
 shown : (c : Cell) (x : ℤ) (model name : List ℕ) (a : Point)
@@ -41,29 +39,6 @@ shown c x model name a =
     let e : (a.0 -ℤ pos 0) +ℤ x ≡ a.0 +ℤ x = omega (arith, ints) in
     let f : (a.1 -ℤ pos 0) +ℤ pos 0 ≡ a.1 = omega (arith, ints) in
     ap (λ (z : ℤ). Some (z, (a.1 -ℤ pos 0) +ℤ pos 0)) e ∙ ap (λ (z : ℤ). Some (a.0 +ℤ x, z)) f
-
-different_names : (xs : List Name) → AllPairs (λ a b. IsTrue (comes_before a b)) xs → AllDifferent xs
-different_names [] h = tt
-different_names (x ∷ xs) h = (
-  λ i. let r = place-In x xs i in
-      before_itself x (subst (λ (y : Name). IsTrue (comes_before x y)) (r.2 x) (h 0 (suc r.0) x (omega arith) (omega (arith, r.1)))),
-  different_names xs (λ i j d low high. h (suc i) (suc j) d (omega (arith, low)) (omega (arith, high))),
-)
-
-different_filter : {A : Type 0} (t : A → Bool) (xs : List A) → AllDifferent xs → AllDifferent (filter t xs)
-different_filter t [] d = tt
-different_filter t (x ∷ xs) d = by (t x) (different_filter t xs d.1) where
-  by : (b : Bool) → AllDifferent (filter t xs) → AllDifferent (cond b (x ∷ filter t xs) (filter t xs))
-  by true rest = (λ i. d.0 (in_filter t xs x i).0, rest)
-  by false rest = rest
-
-first_differs : (one : Member) (rest : List Member) → AllPairs (λ a b. a.name ≢ b.name) (one ∷ rest) → (i : Member) → In i rest → one.name ≢ i.name
-first_differs one rest h i j =
-    let r = place-In i rest j in
-    subst (λ (x : Member). one.name ≢ x.name) (r.2 one) (h 0 (suc r.0) one (omega arith) (omega (arith, r.1)))
-
-rest_differs : (one : Member) (rest : List Member) → AllPairs (λ a b. a.name ≢ b.name) (one ∷ rest) → AllPairs (λ a b. a.name ≢ b.name) rest
-rest_differs one rest h i j d low high = h (suc i) (suc j) d (omega (arith, low)) (omega (arith, high))
 
 -- the signal pins of the cell of an instance of this name
 abbrev HasPin : Library → List Member → List ℕ → Name → Type 0

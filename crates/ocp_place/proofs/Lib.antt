@@ -1,3 +1,4 @@
+pub mod Lists
 pub mod Boxes
 pub mod Points
 pub mod Lengths

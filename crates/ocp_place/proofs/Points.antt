@@ -1,33 +1,19 @@
 -- The points of a netlist's classes, terminal by terminal, are those of its ports and of its signal pins.
-use Rattle.std.proofs.Common.{◌≡◌, ◌≢◌, ◌⊎◌, inl, inr, ℕ, zero, suc, ◌+◌, ◌<◌, Bool, true, false, not, ◌||◌, cond, nat_eq, List, [], ◌∷◌, ◌++◌, map, filter, Option, Some, None, refl, sym, ap, subst, ◌∙◌, arith, append-nil}
-use Rattle.std.specs.Prelude.{ℤ, pos, ◌+ℤ◌, ◌-ℤ◌, flat_map, filter_map, slice_get, AllPairs}
-use Rattle.std.proofs.lemmas.Int.{ints}
-use Rattle.std.proofs.lemmas.Bool.{cond-true, cond-false, eqb-true, eq-eqb, false_from_ne_true}
+use Rattle.std.proofs.Common.{◌≡◌, ◌⊎◌, inl, inr, ℕ, suc, Bool, true, false, cond, nat_eq, List, [], ◌∷◌, map, Option, Some, None, refl, sym, ap, subst, ◌∙◌}
+use Rattle.std.specs.Prelude.{pos, flat_map, filter_map}
+use Rattle.std.proofs.lemmas.Bool.{cond-true, cond-false, eqb-true, eq-eqb}
 use Rattle.std.proofs.lemmas.Option.{same_Some}
 use Rattle.vlsi_base.specs.declared.name.Name.{Name}
-use Rattle.vlsi_base.specs.declared.name.Terminal.{Terminal}
-use Rattle.vlsi_base.specs.Names.{vdd, vss}
 use Rattle.vlsi_base.specs.Member.{In, here, there, AllDifferent}
-use Rattle.machine_meaning.specs.Machine.{Machine, names_of}
-use Rattle.machine_meaning.specs.Named.{is_same_name, is_same_text}
+use Rattle.machine_meaning.specs.Named.{is_same_name}
 use Rattle.sym_geom.specs.declared.grid.TheConstants.{FIRST_CELL_X}
-use Rattle.sym_geom.specs.declared.rect.Transform.TheVariants.{NoSym}
-use Rattle.sym_geom.specs.declared.item.Instance.{Instance}
-use Rattle.sym_shapes.specs.Shape.{connector_names}
-use Rattle.cell_model.specs.Cell.{Cell, pin_ports}
-use Rattle.cell_model.specs.Library.{Library, cell_of, IsUsable}
-use Rattle.cell_model.specs.Access.{Point, access_point}
-use Rattle.cell_model.proofs.Members.{place-In, In-split, In-left, In-right, In-map, In-map_back}
-use Rattle.cell_model.proofs.Texts.{text_same, text_itself, text_differs}
-use Rattle.net_meaning.specs.Netlist.{Member, Netlist, port, pin_of, IsTerminal, a_pin}
-use Rattle.net_meaning.specs.Well.{IsWell}
-use Rattle.ocp_rows.specs.Placement.{model_width, standing, track_y}
-use Rattle.ocp_rows.specs.Length.{instance_point, pin_point, port_point, point_of, cell_terminals, terminals, net_points}
+use Rattle.cell_model.specs.Access.{Point}
+use Rattle.cell_model.proofs.Members.{In-split, In-left, In-right}
+use Rattle.net_meaning.specs.Netlist.{Netlist, port}
+use Rattle.ocp_rows.specs.Placement.{track_y}
+use Rattle.ocp_rows.specs.Length.{port_point}
 use Rattle.net_drawing.proofs.Coding.{same_name_true, same_name_itself, same_name_false}
-use Rattle.ocp_place.specs.Nets.{is_signal, signal_ports, port_classes}
-use Rattle.ocp_place.specs.Orderly.{IsOrderly}
-use Rattle.ocp_place.specs.Sites.{Site, site_at, own_sites, row_sites, pin_sites, port_sites, points_in}
-use Rattle.ocp_place.specs.Law.{row_of}
+use Rattle.ocp_place.specs.Sites.{Site, port_sites, points_in}
 
 -- ---- lists
 

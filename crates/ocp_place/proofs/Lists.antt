@@ -1,9 +1,13 @@
 -- Lists in which nothing stands twice, and how long they can be.
-use Rattle.std.proofs.Common.{◌≡◌, ◌⊎◌, inl, inr, ℕ, zero, suc, ◌+◌, ◌<◌, ◌≤◌, Bool, true, false, not, cond, nat_eq, List, [], ◌∷◌, ◌++◌, filter, length, refl, sym, ap, subst, ◌∙◌, arith}
+use Rattle.std.proofs.Common.{◌≡◌, ◌≢◌, ◌⊎◌, inl, inr, ℕ, zero, suc, ◌+◌, ◌<◌, ◌≤◌, Bool, true, false, not, cond, nat_eq, List, [], ◌∷◌, ◌++◌, filter, length, refl, sym, ap, subst, ◌∙◌, arith}
 use Rattle.std.proofs.lemmas.Bool.{cond-true, cond-false, false_from_ne_true, eqb-true, eq-eqb}
+use Rattle.std.specs.Prelude.{IsTrue, AllPairs}
+use Rattle.vlsi_base.specs.declared.name.Name.{Name}
+use Rattle.vlsi_base.specs.Names.{comes_before}
 use Rattle.vlsi_base.specs.Member.{In, here, there, AllDifferent}
-use Rattle.cell_model.proofs.Members.{In-split}
-use Rattle.cell_pins.proofs.Ports.{in_filter}
+use Rattle.cell_model.proofs.Members.{In-split, place-In}
+use Rattle.cell_pins.proofs.Ports.{in_filter, before_itself}
+use Rattle.net_meaning.specs.Netlist.{Member}
 use Rattle.net_view.proofs.Lists.{filter_in}
 
 pub different_append : {A : Type 0} (xs ys : List A) → AllDifferent xs → AllDifferent ys → ((x : A) → In x xs → In x ys → ⊥) → AllDifferent (xs ++ ys)
@@ -104,3 +108,22 @@ many (suc n) xs each =
       by : (b : Bool) → length (without k xs) < length xs → length (cond (not b) (x ∷ without k xs) (without k xs)) < length (x ∷ xs)
       by true h = omega (arith, h)
       by false h = omega (arith, h)
+
+-- ---- names
+
+pub different_names : (xs : List Name) → AllPairs (λ a b. IsTrue (comes_before a b)) xs → AllDifferent xs
+different_names [] h = tt
+different_names (x ∷ xs) h = (
+  λ i. let r = place-In x xs i in
+      before_itself x (subst (λ (y : Name). IsTrue (comes_before x y)) (r.2 x) (h 0 (suc r.0) x (omega arith) (omega (arith, r.1)))),
+  different_names xs (λ i j d low high. h (suc i) (suc j) d (omega (arith, low)) (omega (arith, high))),
+)
+
+-- the first of some instances has another name than the others
+pub first_differs : (one : Member) (rest : List Member) → AllPairs (λ a b. a.name ≢ b.name) (one ∷ rest) → (i : Member) → In i rest → one.name ≢ i.name
+first_differs one rest h i j =
+    let r = place-In i rest j in
+    subst (λ (x : Member). one.name ≢ x.name) (r.2 one) (h 0 (suc r.0) one (omega arith) (omega (arith, r.1)))
+
+pub rest_differs : (one : Member) (rest : List Member) → AllPairs (λ a b. a.name ≢ b.name) (one ∷ rest) → AllPairs (λ a b. a.name ≢ b.name) rest
+rest_differs one rest h i j d low high = h (suc i) (suc j) d (omega (arith, low)) (omega (arith, high))
