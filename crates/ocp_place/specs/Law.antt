@@ -1,7 +1,12 @@
--- How long the nets of a placement are.
-use Rattle.std.specs.Prelude.{◌≡◌, [], ◌∷◌}
+-- Checked cells, and how long the nets of a placement are.
+use Rattle.std.specs.Prelude.{◌≡◌, true, [], ◌∷◌}
 use Rattle.machine_meaning.specs.Machine.{Machine}
-use Rattle.cell_model.specs.Library.{Library}
+use Rattle.cell_model.specs.Cell.{Cell}
+use Rattle.cell_model.specs.Library.{Library, IsUsable}
+use Rattle.cell_model.specs.Usable.{IsFormed}
+use Rattle.cell_checks.specs.declared.verdict.CellVerdict.TheVariants as verdict
+use Rattle.cell_checks.specs.Verdict.{IsVerdict}
+use Rattle.net_drawing.specs.Clean.{IsClean}
 use Rattle.net_meaning.specs.Netlist.{Netlist}
 use Rattle.net_meaning.specs.Well.{IsWell}
 use Rattle.ocp_rows.specs.Placement.{Placement}
@@ -20,3 +25,7 @@ abbrev pub LengthsAreRight : Type 0
 LengthsAreRight =
     (n : Netlist) (l : Library) (m : Machine) (p : InRow) → IsWell n l m → IsOrderly n l → IsRowOf n l p
     → length_of p.high p.low p.ends ≡ half_perimeter n l (row_of n)
+
+-- A usable cell that has passed its checks, that of columns among them, may have tracks over it.
+abbrev pub CheckedCellsAreClean : Type 0
+CheckedCellsAreClean = (c : Cell) → IsFormed c → IsVerdict true c verdict.Passes → IsUsable c → IsClean c

@@ -24,29 +24,24 @@ use Rattle.ocp_place.specs.Sites.{row_starts}
 use Rattle.nero_tracks.specs.declared.route.Track.{Track}
 use Rattle.nero_tracks.specs.Tracks.{AreTracks}
 use Rattle.route_draw.specs.Drawn.{IsDrawnInTracks}
-use Rattle.route_draw.specs.Law.{IsRoutable}
 use Rattle.route_draw.specs.Pieces.{signal_names, instance_lines, row_supplies, all_lines}
-use Rattle.route_draw.proofs.Clean.{rect_is}
+use Rattle.ocp_place.proofs.Clean.{rect_is}
+use Rattle.ocp_place.proofs.Seen.{well, orderly}
 use Rattle.route_draw.proofs.Joins.{rows_are, many, names_are, lines_are}
-use Rattle.route_draw.proofs.Right.{well, orderly, right_drawings_are_right}
+use Rattle.route_draw.proofs.Right.{right_drawings_are_right}
 
 module _ (l : Library) (n : InMemory) (passed : HasPassed true l) (given : IsDrawableIn l n) (p : InRow) (placement : IsPlacementOf l n p) (tracks : List Track) (are : AreTracks p tracks) where
-  routable : (k : Netlist) → IsSeenAs n k → IsRoutable n l given.machine k
-  routable k seen = record { netlist = given.sound; checked = given.checked; passed = passed; right = given.right; pins = given.pins; seen = seen }
-
   abbrev its_lines : List Item
   its_lines =
       supply_ports ++ (track_ports 0 (signal_names n.ports) ++ (instance_lines n.instances p.starts ++ (row_supplies p.width ++ all_lines 0 (signal_names n.ports) p tracks)))
 
   lines : (k : Netlist) → IsSeenAs n k → its_lines ≡ track_items k l (net_number k l) (signal_ports k)
   lines k seen =
-      let r = routable k seen in
-      lines_are n l given.machine k seen given.checked (well n l given.machine k r) (orderly n l given.machine k r) p (placement.row k seen) tracks are
+      lines_are n l given.machine k seen given.checked (well l n passed given k seen) (orderly l n passed given k seen) p (placement.row k seen) tracks are
 
   count : (k : Netlist) → IsSeenAs n k → length tracks ≡ net_count k
   count k seen =
-      let r = routable k seen in
-      many n l given.machine k seen given.checked (well n l given.machine k r) (orderly n l given.machine k r) p (placement.row k seen) tracks are
+      many n l given.machine k seen given.checked (well l n passed given k seen) (orderly l n passed given k seen) p (placement.row k seen) tracks are
 
   -- the netlist of layouts that it is known by
   abbrev known : Netlist
@@ -70,9 +65,8 @@ module _ (l : Library) (n : InMemory) (passed : HasPassed true l) (given : IsDra
 
   pub names_few : length p.ends < 2 ^ 32 → length (signal_names n.ports) < 2 ^ 32
   names_few low =
-      let r = routable known given.right.seen in
       let row = placement.row known given.right.seen in
-      let a = ap length (names_are n l given.machine known given.right.seen given.checked (well n l given.machine known r) (orderly n l given.machine known r) p row tracks are) in
+      let a = ap length (names_are n l given.machine known given.right.seen given.checked (well l n passed given known given.right.seen) (orderly l n passed given known given.right.seen) p row tracks are) in
       let b = length-map (signal_ports known) (λ (name : Name). known.class (port name)) in
       let c = ap length row.ports in
       let d = length-map tracks (λ (t : Track). t.class) in
@@ -96,7 +90,7 @@ module _ (l : Library) (n : InMemory) (passed : HasPassed true l) (given : IsDra
     right : (k : Netlist) → IsSeenAs n k → Extracts (track_items k l (net_number k l) (signal_ports k)) l k
         × Breaches (track_items k l (net_number k l) (signal_ports k)) l []
         × IsPlaced (track_box k l) (track_items k l (net_number k l) (signal_ports k)) k l (one_row k (signal_ports k))
-    right k seen = right_drawings_are_right n l given.machine k (routable k seen)
+    right k seen = right_drawings_are_right l n k passed given seen
 
     box : (k : Netlist) → IsSeenAs n k → bounds ≡ track_box k l
     box k seen =

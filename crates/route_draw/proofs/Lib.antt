@@ -1,6 +1,3 @@
-pub mod Shapes
-pub mod Nodes
-pub mod Clean
 pub mod Right
 pub mod Sited
 pub mod Ends

@@ -1,10 +1,5 @@
 // What is true of drawings.
-ghost use Rattle.route_draw.specs.Law.{CheckedCellsAreClean, RightIsDrawable, RightDrawingsAreRight, DrawingCanBeWritten};
-
-/// A usable cell that has passed its checks, that of columns among them, may have tracks over it.
-pub fn checked_cells_are_clean()
-    ensures { CheckedCellsAreClean }
-{}
+ghost use Rattle.route_draw.specs.Law.{RightIsDrawable, RightDrawingsAreRight, DrawingCanBeWritten};
 
 /// A right netlist over a library that was checked for tracks may be drawn, and its drawing gives exactly this netlist, breaks no
 /// rule, and is that of its instances in one row.

@@ -22,9 +22,9 @@ use Rattle.cell_checks.specs.Checks.{StandsInRow, HasRail, HasRails, KeepsToItsB
 use Rattle.cell_checks.specs.Checks as checks
 use Rattle.cell_checks.specs.Verdict.{IsVerdict}
 use Rattle.net_drawing.specs.Clean.{HasStrip, IsInside, IsInStrip, IsTied, IsClean}
-use Rattle.route_draw.specs.Law.{CheckedCellsAreClean}
-use Rattle.route_draw.proofs.Shapes.{lines_good}
-use Rattle.route_draw.proofs.Nodes.{IsBounded, has_node}
+use Rattle.ocp_place.specs.Law.{CheckedCellsAreClean}
+use Rattle.ocp_place.proofs.Shapes.{lines_good}
+use Rattle.ocp_place.proofs.Nodes.{IsBounded, has_node}
 
 abbrev pub rect_of : ℤ → ℤ → ℤ → ℤ → Rect
 rect_of a b c d = record { x1 = a; y1 = b; x2 = c; y2 = d }
