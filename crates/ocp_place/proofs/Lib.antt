@@ -6,3 +6,4 @@ pub mod Seen
 pub mod Boxes
 pub mod Points
 pub mod Lengths
+pub mod RowSteps

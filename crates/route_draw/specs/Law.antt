@@ -1,7 +1,6 @@
 -- The drawing of a right netlist is right.
 use Rattle.std.specs.Prelude.{◌≤◌, true, [], length}
 use Rattle.cell_model.specs.Library.{Library}
-use Rattle.cell_checks.specs.declared.verdict.CellVerdict.TheVariants as verdict
 use Rattle.cell_checks.specs.Checked.{IsChecked as HasPassed}
 use Rattle.net_core.specs.Netlist.{Netlist as InMemory}
 use Rattle.net_meaning.specs.Netlist.{Netlist, Extracts}
