@@ -1,5 +1,6 @@
 -- The drawing of a right netlist is right.
-use Rattle.std.specs.Prelude.{◌≤◌, true, [], length}
+use Rattle.std.specs.Prelude.{◌≤◌, ◌<◌, ◌^◌, true, [], length, IfSome}
+use Rattle.std.specs.List.{All}
 use Rattle.cell_model.specs.Library.{Library}
 use Rattle.cell_checks.specs.Checked.{IsChecked as HasPassed}
 use Rattle.net_core.specs.Netlist.{Netlist as InMemory}
@@ -29,8 +30,14 @@ RightDrawingsAreRight =
     × Breaches (track_items k l (net_number k l) (signal_ports k)) l []
     × IsPlaced (track_box k l) (track_items k l (net_number k l) (signal_ports k)) k l (one_row k (signal_ports k))
 
+-- its names have at most 64 bytes, and bits of ports numbers of 32 bits
+pub record HasShortNames (n : InMemory) : Type 0 where
+  pub name : length n.name ≤ 64
+  pub ports : All (λ p. (length p.name.text ≤ 64) × IfSome p.name.bit (λ bit. bit < 2 ^ 32)) n.ports
+  pub instances : All (λ i. (length i.name ≤ 64) × (length i.model ≤ 64)) n.instances
+
 -- The figure can be written, where its names can, and it is no larger than a source within the limits gives.
 abbrev pub DrawingCanBeWritten : Type 0
 DrawingCanBeWritten =
-    (l : Library) (n : InMemory) (f : Figure) → HasPassed true l → IsDrawableIn l n → CanBeNamed n
+    (l : Library) (n : InMemory) (f : Figure) → HasPassed true l → IsDrawableIn l n → CanBeNamed n → HasShortNames n
     → length n.instances ≤ 32768 → length n.ports ≤ 8192 → IsDrawnInTracks l n f → IsFigure f × IsWithinLimits f
