@@ -7,3 +7,5 @@ pub mod Boxes
 pub mod Points
 pub mod Lengths
 pub mod RowSteps
+pub mod Groups
+pub mod Rowed
