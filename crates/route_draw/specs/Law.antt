@@ -1,13 +1,12 @@
 -- The drawing of a right netlist is right.
-use Rattle.std.specs.Prelude.{◌≤◌, ◌<◌, ◌^◌, true, [], length, IfSome}
-use Rattle.std.specs.List.{All}
+use Rattle.std.specs.Prelude.{◌≤◌, true, [], length}
 use Rattle.cell_model.specs.Library.{Library}
 use Rattle.cell_checks.specs.Checked.{IsChecked as HasPassed}
 use Rattle.net_core.specs.Netlist.{Netlist as InMemory}
 use Rattle.net_meaning.specs.Netlist.{Netlist, Extracts}
 use Rattle.net_meaning.specs.Breaches.{Breaches}
 use Rattle.net_view.specs.View.{IsSeenAs}
-use Rattle.net_view.specs.Writable.{CanBeNamed}
+use Rattle.net_view.specs.Writable.{CanBeNamed, HasShortNames}
 use Rattle.ocp_rows.specs.Placement.{IsPlaced}
 use Rattle.net_drawing.specs.Drawing.{track_items, IsDrawable}
 use Rattle.net_drawing.specs.Law.{one_row, track_box}
@@ -29,12 +28,6 @@ RightDrawingsAreRight =
     → Extracts (track_items k l (net_number k l) (signal_ports k)) l k
     × Breaches (track_items k l (net_number k l) (signal_ports k)) l []
     × IsPlaced (track_box k l) (track_items k l (net_number k l) (signal_ports k)) k l (one_row k (signal_ports k))
-
--- its names have at most 64 bytes, and bits of ports numbers of 32 bits
-pub record HasShortNames (n : InMemory) : Type 0 where
-  pub name : length n.name ≤ 64
-  pub ports : All (λ p. (length p.name.text ≤ 64) × IfSome p.name.bit (λ bit. bit < 2 ^ 32)) n.ports
-  pub instances : All (λ i. (length i.name ≤ 64) × (length i.model ≤ 64)) n.instances
 
 -- The figure can be written, where its names can, and it is no larger than a source within the limits gives.
 abbrev pub DrawingCanBeWritten : Type 0
