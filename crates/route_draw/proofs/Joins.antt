@@ -121,7 +121,7 @@ all_ranged f names p k (t ∷ ts) each =
 abbrev first_of : Point → ℤ
 first_of q = q.0
 
-xs_are : (qs : List Point) → flat_map (λ q. q.0 ∷ []) qs ≡ map first_of qs
+xs_are : (qs : List Point) → flat_map (λ (q : Point). q.0 ∷ []) qs ≡ map first_of qs
 xs_are [] = refl
 xs_are (q ∷ qs) = ap (λ (xs : List ℤ). q.0 ∷ xs) (xs_are qs)
 
@@ -244,12 +244,12 @@ module _ (n : InMemory) (l : Library) (m : Machine) (k : Netlist) (seen : IsSeen
       let here_ : shown_span t.span ≡ track_span (points ++ pins t.class) (pins t.class) =
       track_at j t s ∙ ap (λ (qs : List Point). track_span qs (net_pins (length p.ports) j (ends_of p t.class))) all ∙ ap (track_span (points ++ pins t.class)) own in
       let at = class_at j t s in
-      let xs : of_pins k l (net_number k l) j (λ q. q.0 ∷ []) ≡ map first_of (pins t.class) =
-      row_points k l m checked well orderly (λ q. q.0 ∷ []) j t.class at (pos FIRST_CELL_X) k.instances (λ one i. i) ∙ xs_are (pins t.class) in
+      let xs : of_pins k l (net_number k l) j (λ (q : Point). q.0 ∷ []) ≡ map first_of (pins t.class) =
+      row_points k l m checked well orderly (λ (q : Point). q.0 ∷ []) j t.class at (pos FIRST_CELL_X) k.instances (λ one i. i) ∙ xs_are (pins t.class) in
       let rising : of_pins k l (net_number k l) j (riser j name) ≡ flat_map (riser j name) (pins t.class) =
       row_points k l m checked well orderly (riser j name) j t.class at (pos FIRST_CELL_X) k.instances (λ one i. i) in
-      let first : net_wiring k l (net_number k l) names j ≡ track_over j name (port_xs name) (of_pins k l (net_number k l) j (λ q. q.0 ∷ [])) ++ of_pins k l (net_number k l) j (riser j name) =
-      ap (λ (o : Option Name). track_over j o (port_xs o) (of_pins k l (net_number k l) j (λ q. q.0 ∷ [])) ++ of_pins k l (net_number k l) j (riser j o)) h.named in
+      let first : net_wiring k l (net_number k l) names j ≡ track_over j name (port_xs name) (of_pins k l (net_number k l) j (λ (q : Point). q.0 ∷ [])) ++ of_pins k l (net_number k l) j (riser j name) =
+      ap (λ (o : Option Name). track_over j o (port_xs o) (of_pins k l (net_number k l) j (λ (q : Point). q.0 ∷ [])) ++ of_pins k l (net_number k l) j (riser j o)) h.named in
       first
       ∙ ap (λ (zs : List ℤ). track_over j name (port_xs name) zs ++ of_pins k l (net_number k l) j (riser j name)) xs
       ∙ ap (λ (is : List Item). track_over j name (port_xs name) (map first_of (pins t.class)) ++ is) rising
