@@ -9,3 +9,4 @@ pub mod Lengths
 pub mod RowSteps
 pub mod Groups
 pub mod Rowed
+pub mod Reached

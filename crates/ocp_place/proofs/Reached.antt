@@ -1,0 +1,17 @@
+-- Where the pins of a cell are reached, pin by pin.
+use Rattle.std.proofs.Common.{ℕ, ◌+◌, ◌<◌, List, [], ◌∷◌, ◌++◌, length, get_or, take, sym, subst}
+use Rattle.std.proofs.lemmas.List.{take_more}
+use Rattle.vlsi_base.specs.declared.name.Port.{Port}
+use Rattle.cell_model.specs.Cell.{Cell}
+use Rattle.ocp_place.specs.declared.reach.PinReach.{PinReach}
+use Rattle.ocp_place.specs.Reaches.{IsPinReach, ArePinReaches, no_pins, one_pin}
+
+-- one more pin
+pub pins_push : (c : Cell) (ports : List Port) (pins : List PinReach) (p : Port) (r : PinReach) → ArePinReaches c ports pins → IsPinReach c p r → ArePinReaches c (ports ++ p ∷ []) (pins ++ r ∷ [])
+pins_push c [] [] p r no_pins is = one_pin is no_pins
+pins_push c (q ∷ ports) (s ∷ pins) p r (one_pin is_s rest) is = one_pin is_s (pins_push c ports pins p r rest is)
+
+pub pins_next : (c : Cell) (ports : List Port) (k : ℕ) (d : Port) (pins : List PinReach) (r : PinReach) → ArePinReaches c (take k ports) pins → k < length ports → IsPinReach c (get_or ports k d) r
+    → ArePinReaches c (take (k + 1) ports) (pins ++ r ∷ [])
+pins_next c ports k d pins r are low is =
+    subst (λ (ps : List Port). ArePinReaches c ps (pins ++ r ∷ [])) (sym (take_more ports k d low)) (pins_push c (take k ports) pins (get_or ports k d) r are is)
