@@ -28,14 +28,15 @@ in_among (k ∷ ks) c (there i) = either (nat_eq k c) (is_among ks c) (inr (in_a
 -- a class that is there has a place at which it stands
 pub placed : (ks : List ℕ) (c : ℕ) → In c ks → (place_among ks c < length ks) × (slice_get ks (place_among ks c) ≡ Some c)
 placed [] c i = elim i [ ]
-placed (k ∷ ks) c i = by (nat_eq k c) refl i where
-  later : In c (k ∷ ks) → nat_eq k c ≡ false → In c ks
-  later here e = absurd (let t : true ≡ false = sym (eq-eqb c c refl) ∙ e in cc t)
-  later (there j) e = j
+placed (k ∷ ks) c i = by (nat_eq k c) refl i (placed ks c) where
+  later : (x : ℕ) → In x (k ∷ ks) → nat_eq k x ≡ false → In x ks
+  later x here e = absurd (let t : true ≡ false = sym (eq-eqb x x refl) ∙ e in cc t)
+  later x (there j) e = j
 
-  by : (b : Bool) → nat_eq k c ≡ b → In c (k ∷ ks) → (cond b 0 (suc (place_among ks c)) < length (k ∷ ks)) × (slice_get (k ∷ ks) (cond b 0 (suc (place_among ks c))) ≡ Some c)
-  by true e j = (omega arith, ap Some (eqb-true k c e))
-  by false e j = let r = placed ks c (later j e) in let less = r.0 in (omega (arith, less), r.1)
+  by : (b : Bool) → nat_eq k c ≡ b → In c (k ∷ ks) → (In c ks → (place_among ks c < length ks) × (slice_get ks (place_among ks c) ≡ Some c))
+      → (cond b 0 (suc (place_among ks c)) < length (k ∷ ks)) × (slice_get (k ∷ ks) (cond b 0 (suc (place_among ks c))) ≡ Some c)
+  by true e j next = (omega arith, ap Some (eqb-true k c e))
+  by false e j next = let r = next (later c j e) in let less = r.0 in (omega (arith, less), r.1)
 
 -- two classes of one place are one
 pub one_place : (ks : List ℕ) (a b : ℕ) → In a ks → In b ks → place_among ks a ≡ place_among ks b → a ≡ b

@@ -267,7 +267,7 @@ module _ (n : Netlist) (l : Library) (m : Machine) (checked : IsChecked m) (well
   not_vss h = let a = net_of (n.class (port vss)) h in a.no_vss ((well.low a.at a.terminal).0 a.is)
 
   all_differ : AllDifferent all_classes
-  all_differ = (first, not_vss, nets_differ) where
+  all_differ = (first, (not_vss, nets_differ)) where
     first : In (n.class (port vdd)) (n.class (port vss) ∷ net_classes n l) → ⊥
     first h = elim (In-split (n.class (port vdd)) (n.class (port vss) ∷ []) (net_classes n l) h) [
       | inl a ↦ supplies_differ (well.apart vdd vss has_vdd has_vss (single (n.class (port vdd)) (n.class (port vss)) a))

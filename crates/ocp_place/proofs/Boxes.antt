@@ -17,37 +17,49 @@ max_is x y = by_lt_z x y (λ a. inr (let b = int_max_is x y in omega (arith, int
 -- the least is one of them, and is not above any
 least_in : (x : ℤ) (xs : List ℤ) → In (least x xs) (x ∷ xs)
 least_in x [] = here
-least_in x (y ∷ ys) = by (least_in (int_min x y) ys) where
-  by : In (least (int_min x y) ys) (int_min x y ∷ ys) → In (least (int_min x y) ys) (x ∷ y ∷ ys)
-  by here = elim (min_is x y) [ inl e ↦ subst (λ (z : ℤ). In z (x ∷ y ∷ ys)) (sym e) here | inr e ↦ subst (λ (z : ℤ). In z (x ∷ y ∷ ys)) (sym e) (there here) ]
-  by (there i) = there (there i)
+least_in x (y ∷ ys) = by (least (int_min x y) ys) (least_in (int_min x y) ys) where
+  by : (v : ℤ) → In v (int_min x y ∷ ys) → In v (x ∷ y ∷ ys)
+  by v here = elim (min_is x y) [ inl e ↦ subst (λ (z : ℤ). In z (x ∷ y ∷ ys)) (sym e) here | inr e ↦ subst (λ (z : ℤ). In z (x ∷ y ∷ ys)) (sym e) (there here) ]
+  by v (there i) = there (there i)
 
 least_first : (x : ℤ) (xs : List ℤ) → least x xs ≤ℤ x
 least_first x [] = omega (arith, ints)
 least_first x (y ∷ ys) = let a = least_first (int_min x y) ys in let b = int_min_is x y in omega (arith, ints)
 
-least_low : (x : ℤ) (xs : List ℤ) (z : ℤ) → In z (x ∷ xs) → least x xs ≤ℤ z
-least_low x xs z here = least_first x xs
-least_low x [] z (there i) = elim i [ ]
-least_low x (y ∷ ys) z (there here) = let a = least_first (int_min x y) ys in let b = int_min_is x y in omega (arith, ints)
-least_low x (y ∷ ys) z (there (there i)) = least_low (int_min x y) ys z (there i)
+head_or : (z x : ℤ) (xs : List ℤ) → In z (x ∷ xs) → (z ≡ x) ⊎ In z xs
+head_or z x xs here = inl refl
+head_or z x xs (there i) = inr i
+
+least_low : (xs : List ℤ) (x z : ℤ) → In z (x ∷ xs) → least x xs ≤ℤ z
+least_low [] x z i = elim (head_or z x [] i) [ inl e ↦ omega (arith, ints) | inr j ↦ elim j [ ] ]
+least_low (y ∷ ys) x z i = elim (head_or z x (y ∷ ys) i) [
+  | inl e ↦ let a = least_first (int_min x y) ys in let b = int_min_is x y in omega (arith, ints)
+  | inr j ↦ elim (head_or z y ys j) [
+    | inl e ↦ let a = least_first (int_min x y) ys in let b = int_min_is x y in omega (arith, ints)
+    | inr k ↦ least_low ys (int_min x y) z (there k)
+  ]
+]
 
 greatest_in : (x : ℤ) (xs : List ℤ) → In (greatest x xs) (x ∷ xs)
 greatest_in x [] = here
-greatest_in x (y ∷ ys) = by (greatest_in (int_max x y) ys) where
-  by : In (greatest (int_max x y) ys) (int_max x y ∷ ys) → In (greatest (int_max x y) ys) (x ∷ y ∷ ys)
-  by here = elim (max_is x y) [ inl e ↦ subst (λ (z : ℤ). In z (x ∷ y ∷ ys)) (sym e) here | inr e ↦ subst (λ (z : ℤ). In z (x ∷ y ∷ ys)) (sym e) (there here) ]
-  by (there i) = there (there i)
+greatest_in x (y ∷ ys) = by (greatest (int_max x y) ys) (greatest_in (int_max x y) ys) where
+  by : (v : ℤ) → In v (int_max x y ∷ ys) → In v (x ∷ y ∷ ys)
+  by v here = elim (max_is x y) [ inl e ↦ subst (λ (z : ℤ). In z (x ∷ y ∷ ys)) (sym e) here | inr e ↦ subst (λ (z : ℤ). In z (x ∷ y ∷ ys)) (sym e) (there here) ]
+  by v (there i) = there (there i)
 
 greatest_first : (x : ℤ) (xs : List ℤ) → x ≤ℤ greatest x xs
 greatest_first x [] = omega (arith, ints)
 greatest_first x (y ∷ ys) = let a = greatest_first (int_max x y) ys in let b = int_max_is x y in omega (arith, ints)
 
-greatest_high : (x : ℤ) (xs : List ℤ) (z : ℤ) → In z (x ∷ xs) → z ≤ℤ greatest x xs
-greatest_high x xs z here = greatest_first x xs
-greatest_high x [] z (there i) = elim i [ ]
-greatest_high x (y ∷ ys) z (there here) = let a = greatest_first (int_max x y) ys in let b = int_max_is x y in omega (arith, ints)
-greatest_high x (y ∷ ys) z (there (there i)) = greatest_high (int_max x y) ys z (there i)
+greatest_high : (xs : List ℤ) (x z : ℤ) → In z (x ∷ xs) → z ≤ℤ greatest x xs
+greatest_high [] x z i = elim (head_or z x [] i) [ inl e ↦ omega (arith, ints) | inr j ↦ elim j [ ] ]
+greatest_high (y ∷ ys) x z i = elim (head_or z x (y ∷ ys) i) [
+  | inl e ↦ let a = greatest_first (int_max x y) ys in let b = int_max_is x y in omega (arith, ints)
+  | inr j ↦ elim (head_or z y ys j) [
+    | inl e ↦ let a = greatest_first (int_max x y) ys in let b = int_max_is x y in omega (arith, ints)
+    | inr k ↦ greatest_high ys (int_max x y) z (there k)
+  ]
+]
 
 same_order : (a b : ℤ) → a ≤ℤ b → b ≤ℤ a → a ≡ b
 same_order a b p q = omega (arith, ints)
@@ -59,10 +71,10 @@ same_extent [] (y ∷ ys) f g = elim (g y here) [ ]
 same_extent (x ∷ xs) [] f g = elim (f x here) [ ]
 same_extent (x ∷ xs) (y ∷ ys) f g =
     let low : least x xs ≡ least y ys =
-    same_order (least x xs) (least y ys) (least_low x xs (least y ys) (g (least y ys) (least_in y ys))) (least_low y ys (least x xs) (f (least x xs) (least_in x xs))) in
+    same_order (least x xs) (least y ys) (least_low xs x (least y ys) (g (least y ys) (least_in y ys))) (least_low ys y (least x xs) (f (least x xs) (least_in x xs))) in
     let high : greatest x xs ≡ greatest y ys =
-    same_order (greatest x xs) (greatest y ys) (greatest_high y ys (greatest x xs) (f (greatest x xs) (greatest_in x xs)))
-    (greatest_high x xs (greatest y ys) (g (greatest y ys) (greatest_in y ys))) in
+    same_order (greatest x xs) (greatest y ys) (greatest_high ys y (greatest x xs) (f (greatest x xs) (greatest_in x xs)))
+    (greatest_high xs x (greatest y ys) (g (greatest y ys) (greatest_in y ys))) in
     ap (λ (a : ℤ). natural (greatest x xs -ℤ a)) low ∙ ap (λ (a : ℤ). natural (a -ℤ least y ys)) high
 
 mapped_in : (f : Point → ℤ) (ps qs : List Point) → ((q : Point) → In q ps → In q qs) → (z : ℤ) → In z (map f ps) → In z (map f qs)

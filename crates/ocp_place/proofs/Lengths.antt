@@ -29,7 +29,7 @@ use Rattle.ocp_place.specs.Placed.{InRow, IsRowOf}
 use Rattle.ocp_place.specs.Law.{row_of, LengthsAreRight}
 use Rattle.ocp_place.proofs.Lists.{different_filter, different_names, first_differs, rest_differs}
 use Rattle.ocp_place.proofs.Boxes.{same_box}
-use Rattle.ocp_place.proofs.Points.{points_back, points_there, kept_back, kept_there, flat_back, flat_there, port_back, port_there}
+use Rattle.ocp_place.proofs.Points.{site, points_back, points_there, kept_back, kept_there, flat_back, flat_there, port_back, port_there}
 use Rattle.cell_pins.proofs.Ports.{in_filter}
 
 -- the point of a cell as an instance at x, y 0 shows it
@@ -59,24 +59,26 @@ module _ (n : Netlist) (l : Library) where
         let at : (a.0 +ℤ x, a.1) ≡ q = same_Some (a.0 +ℤ x, a.1) q (sym (shown c x one.model one.name a) ∙ g) in
         flat_there (λ pin. site_at (n.class (pin_of one.name pin)) x (access_point c pin)) (names_of (pin_ports c)) name (n.class (pin_of one.name name), q) (has c refl)
         (subst (λ (r : Option Point). In (n.class (pin_of one.name name), q) (site_at (n.class (pin_of one.name name)) x r)) (sym f)
-        (subst (λ (r : Point). In (n.class (pin_of one.name name), r) ((n.class (pin_of one.name name), (a.0 +ℤ x, a.1)) ∷ [])) at here))
+        (subst (λ (r : Point). In (site (n.class (pin_of one.name name)) r) (site (n.class (pin_of one.name name)) (a.0 +ℤ x, a.1) ∷ [])) at here))
 
   pin_back : (x : ℤ) (ms : List Member) (owner : List ℕ) (name : Name) (q : Point) → HasPin l ms owner name
       → pin_point l (standing l NoSym (pos 0) x ms) owner name ≡ Some q → In (n.class (pin_of owner name), q) (row_sites n l x ms)
   pin_back x [] owner name q has e = absurd (cc e)
-  pin_back x (one ∷ rest) owner name q has e = by (is_same_text one.name owner) refl e where
+  pin_back x (one ∷ rest) owner name q has e =
+      by (is_same_text one.name owner) refl e (pin_back (x +ℤ model_width l one.model) rest owner name q (λ i c j. has i c (there j))) where
     by : (b : Bool) → is_same_text one.name owner ≡ b
         → cond b (instance_point (cell_of l one.model) (record { x = x; y = pos 0; model = one.model; name = one.name; transform = NoSym }) name)
         (pin_point l (standing l NoSym (pos 0) (x +ℤ model_width l one.model) rest) owner name) ≡ Some q
+        → (pin_point l (standing l NoSym (pos 0) (x +ℤ model_width l one.model) rest) owner name ≡ Some q
+        → In (n.class (pin_of owner name), q) (row_sites n l (x +ℤ model_width l one.model) rest))
         → In (n.class (pin_of owner name), q) (row_sites n l x (one ∷ rest))
-    by true f g =
+    by true f g next =
         let named : one.name ≡ owner = text_same one.name owner f in
         In-left (n.class (pin_of owner name), q) (own_sites n x one.name (cell_of l one.model)) (row_sites n l (x +ℤ model_width l one.model) rest)
         (subst (λ (o : List ℕ). In (n.class (pin_of o name), q) (own_sites n x one.name (cell_of l one.model))) named
         (shown_back x one rest name q (cell_of l one.model) refl (λ c h. has one c here named h) g))
-    by false f g =
-        In-right (n.class (pin_of owner name), q) (own_sites n x one.name (cell_of l one.model)) (row_sites n l (x +ℤ model_width l one.model) rest)
-        (pin_back (x +ℤ model_width l one.model) rest owner name q (λ i c j. has i c (there j)) g)
+    by false f g next =
+        In-right (n.class (pin_of owner name), q) (own_sites n x one.name (cell_of l one.model)) (row_sites n l (x +ℤ model_width l one.model) rest) (next g)
 
   -- and the other way round
   pub record IsShown (x : ℤ) (ms : List Member) (class : ℕ) (q : Point) : Type 0 where
@@ -155,12 +157,13 @@ module _ (n : Netlist) (l : Library) (m : Machine) (well : IsWell n l m) (orderl
   cell_is i h c found = let r = well.models i h in subst (λ (x : Cell). IsUsable x) (same_Some r.0 c (sym r.1 ∙ found)) r.2
 
   same_member : (i j : Member) → In i n.instances → In j n.instances → i.name ≡ j.name → i ≡ j
-  same_member i j h g e = search n.instances orderly.names h g where
-    search : (ms : List Member) → AllPairs (λ a b. a.name ≢ b.name) ms → In i ms → In j ms → i ≡ j
-    search (one ∷ rest) names here here = refl
-    search (one ∷ rest) names here (there b) = absurd (first_differs i rest names j b e)
-    search (one ∷ rest) names (there a) here = absurd (first_differs j rest names i a (sym e))
-    search (one ∷ rest) names (there a) (there b) = search rest (rest_differs one rest names) a b
+  same_member i j h g e = search n.instances i j orderly.names h g e where
+    search : (ms : List Member) (v w : Member) → AllPairs (λ a b. a.name ≢ b.name) ms → In v ms → In w ms → v.name ≡ w.name → v ≡ w
+    search [] v w names a b f = elim a [ ]
+    search (one ∷ rest) v w names here here f = refl
+    search (one ∷ rest) v w names here (there b) f = absurd (first_differs one rest names w b f)
+    search (one ∷ rest) v w names (there a) here f = absurd (first_differs one rest names v a (sym f))
+    search (one ∷ rest) v w names (there a) (there b) f = search rest v w (rest_differs one rest names) a b f
 
   module _ (class : ℕ) (no_vdd : class ≢ n.class (port vdd)) (no_vss : class ≢ n.class (port vss)) where
     abbrev test : Terminal → Option Point
@@ -257,11 +260,11 @@ module _ (n : Netlist) (l : Library) (m : Machine) (well : IsWell n l m) (orderl
   counted_low zero class i = elim i [ ]
   counted_low (suc k) class i = elim (In-split class (count_to k) (k ∷ []) i) [
     | inl a ↦ let h = counted_low k class a in omega (arith, h)
-    | inr b ↦ last b
+    | inr b ↦ last class b
   ] where
-    last : In class (k ∷ []) → class < suc k
-    last here = omega arith
-    last (there j) = elim j [ ]
+    last : (x : ℕ) → In x (k ∷ []) → x < suc k
+    last x here = omega arith
+    last x (there j) = elim j [ ]
 
   same_sum : (f g : ℕ → ℕ) (ks : List ℕ) → ((k : ℕ) → In k ks → f k ≡ g k) → sum (map f ks) ≡ sum (map g ks)
   same_sum f g ks each = ap sum (same_map ks each) where

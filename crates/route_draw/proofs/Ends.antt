@@ -44,7 +44,9 @@ one_in k (suc j) class (c ∷ cs) d at =
 
 pub its_port : (j class : ℕ) (classes : List ℕ) → AllDifferent classes → slice_get classes j ≡ Some class
     → points_in class (port_sites 0 classes) ≡ (pos FIRST_CELL_X, track_y j) ∷ []
-its_port j class classes d at = one_in 0 j class classes d at
+its_port j class classes d at =
+    let z : 0 + j ≡ j = omega arith in
+    one_in 0 j class classes d at ∙ ap (λ (x : ℕ). (pos FIRST_CELL_X, track_y x) ∷ []) z
 
 -- ---- the least and the greatest, in another order
 

@@ -83,7 +83,7 @@ supplies_are l w ms e =
 -- ---- counts
 
 -- f of k, of k + 1 and so on, n in all
-ranged : {A : Type 0} → (ℕ → List A) → ℕ → ℕ → List A
+abbrev ranged : {A : Type 0} → (ℕ → List A) → ℕ → ℕ → List A
 ranged f k zero = []
 ranged f k (suc n) = f k ++ ranged f (suc k) n
 
@@ -97,9 +97,10 @@ ranged_last {A} f k (suc n) =
 counted : {A : Type 0} (f : ℕ → List A) (n : ℕ) → flat_map f (count_to n) ≡ ranged f 0 n
 counted f zero = refl
 counted {A} f (suc n) =
+    let z : n ≡ 0 + n = omega arith in
     flat_map-append f (count_to n) (n ∷ [])
     ∙ ap (λ (xs : List A). xs ++ flat_map f (n ∷ [])) (counted f n)
-    ∙ ap (λ (xs : List A). ranged f 0 n ++ xs) (append-nil (f n))
+    ∙ ap (λ (xs : List A). ranged f 0 n ++ xs) (append-nil (f n) ∙ ap f z)
     ∙ sym (ranged_last f 0 n)
 
 all_ranged : (f : ℕ → List Item) (names : List Name) (p : InRow) (k : ℕ) (ts : List Track)

@@ -94,7 +94,7 @@ module _ (n : Netlist) (l : Library) (m : Machine) (checked : IsChecked m) (well
     own_points x one h None found = refl
     own_points x one h (Some c) found = cell_points x one c h found (names_of (pin_ports c)) (λ pin i. i)
 
-    row_points : (x : ℤ) (ms : List Member) → ((one : Member) → In one ms → In one n.instances)
+    pub row_points : (x : ℤ) (ms : List Member) → ((one : Member) → In one ms → In one n.instances)
         → along l (λ z one. of_cell n (net_number n l) k g z one.name (cell_of l one.model)) x ms ≡ flat_map g (points_in class (row_sites n l x ms))
     row_points x [] each = refl
     row_points x (one ∷ rest) each =
