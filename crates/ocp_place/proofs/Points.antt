@@ -100,11 +100,11 @@ port_back n k (one ∷ rest) name q e = by (is_same_name one name) refl e (port_
 pub port_there : (n : Netlist) (k class : ℕ) (names : List Name) (q : Point) → AllDifferent names → In (class, q) (port_sites k (map (λ x. n.class (port x)) names))
     → (name : Name) × In name names × (n.class (port name) ≡ class) × (port_point k names name ≡ Some q)
 port_there n k class [] q d i = elim i [ ]
-port_there n k class (one ∷ rest) q d i = by (heads i) (port_there n (suc k) class rest q d.1) where
-  heads : In (class, q) (port_sites k (map (λ x. n.class (port x)) (one ∷ rest)))
-      → (site class q ≡ site (n.class (port one)) (pos FIRST_CELL_X, track_y k)) ⊎ In (class, q) (port_sites (suc k) (map (λ x. n.class (port x)) rest))
-  heads here = inl refl
-  heads (there j) = inr j
+port_there n k class (one ∷ rest) q d i = by (heads (site class q) i) (port_there n (suc k) class rest q d.1) where
+  heads : (s : Site) → In s (port_sites k (map (λ x. n.class (port x)) (one ∷ rest)))
+      → (s ≡ site (n.class (port one)) (pos FIRST_CELL_X, track_y k)) ⊎ In s (port_sites (suc k) (map (λ x. n.class (port x)) rest))
+  heads s here = inl refl
+  heads s (there j) = inr j
 
   by : (site class q ≡ site (n.class (port one)) (pos FIRST_CELL_X, track_y k)) ⊎ In (class, q) (port_sites (suc k) (map (λ x. n.class (port x)) rest))
       → (In (class, q) (port_sites (suc k) (map (λ x. n.class (port x)) rest)) → (name : Name) × In name rest × (n.class (port name) ≡ class) × (port_point (suc k) rest name ≡ Some q))

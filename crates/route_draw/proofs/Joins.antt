@@ -269,7 +269,9 @@ module _ (n : InMemory) (l : Library) (m : Machine) (k : Netlist) (seen : IsSeen
   nets_are =
       ap (λ (c : ℕ). flat_map (net_wiring k l (net_number k l) names) (count_to c)) (sym many)
       ∙ counted (net_wiring k l (net_number k l) names) (length tracks)
-      ∙ all_ranged (net_wiring k l (net_number k l) names) names p 0 tracks net_is
+      ∙ all_ranged (net_wiring k l (net_number k l) names) names p 0 tracks (λ i t s.
+          let z : i ≡ 0 + i = omega arith in
+          subst (λ (j : ℕ). net_wiring k l (net_number k l) names j ≡ net_lines j (slice_get names j) (shown_span t.span) (net_pins (length p.ports) j (ends_of p t.class))) z (net_is i t s))
 
   -- all lines together
   pub lines_are : supply_ports ++ (track_ports 0 (signal_names n.ports) ++ (instance_lines n.instances p.starts ++ (row_supplies p.width ++ all_lines 0 (signal_names n.ports) p tracks)))
