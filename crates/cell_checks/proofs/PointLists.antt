@@ -1,15 +1,19 @@
 -- Access nodes column by column are those in the order of the grid.
-use Rattle.std.proofs.Common.{◌≡◌, ℕ, zero, suc, ◌%◌, pos, Bool, true, false, List, [], ◌∷◌, ◌++◌, map, filter, length, Option, refl, sym, ap, ◌∙◌, arith, if◌then◌else◌}
+use Rattle.std.proofs.Common.{◌≡◌, ℕ, zero, suc, ◌%◌, pos, Bool, true, false, List, [], ◌∷◌, ◌++◌, map, filter, length, Option, refl, sym, ap, ◌∙◌, arith, if◌then◌else◌, ◌+◌, ◌<◌, get_or, take, Some, None}
 use Rattle.std.specs.Prelude.{slice_get, option_map, flat_map, filter_map}
 use Rattle.std.proofs.lemmas.Int.{ints}
-use Rattle.std.proofs.lemmas.List.{append-nil, map-append, length-map}
+use Rattle.std.proofs.lemmas.List.{append-nil, map-append, length-map, take_more}
+use Rattle.std.proofs.lemmas.Simd.{map-map}
+use Rattle.std.proofs.Math.Seq.{take-length}
 use Rattle.std.proofs.lemmas.List.Elements.{filter_map-append}
 use Rattle.std.proofs.lemmas.Grind.{flat_map-append}
 use Rattle.std.proofs.lemmas.Option.{slice_get-map}
 use Rattle.vlsi_base.specs.declared.name.Name.{Name}
 use Rattle.vlsi_base.specs.Names.{comes_before}
 use Rattle.cell_model.specs.declared.cell.Pin.{Pin}
-use Rattle.cell_model.specs.Cell.{Cell, cell_width, cell_height}
+use Rattle.vlsi_base.specs.declared.name.Port.{Port}
+use Rattle.machine_meaning.specs.Machine.{names_of}
+use Rattle.cell_model.specs.Cell.{Cell, pin_ports, cell_width, cell_height}
 use Rattle.cell_model.specs.Access.{count_to, grid_lines, is_access_node, access_nodes, access_point}
 use Rattle.cell_checks.specs.Checks.{StandsInRow}
 use Rattle.cell_checks.specs.Points.{point_of, nodes_in, nodes_to}
@@ -58,3 +62,28 @@ point_is c name rank nodes q counted is at =
     ∙ ap (λ xs. slice_get xs (rank % length nodes)) is
     ∙ ap (λ k. slice_get (access_nodes c name) (rank % k)) many
     ∙ ap (λ k. slice_get (access_nodes c name) (k % length (access_nodes c name))) (counted ∙ ranked c name)
+
+-- one more pin
+pub points_next : (c : Cell) (items : List Pin) (points : List (Option GridPoint)) (k : ℕ) (pin : Pin) (q : Option GridPoint) → items ≡ c.pins
+    → map (option_map point_of) points ≡ map (λ (p : Pin). access_point c p.port.name) (take k c.pins) → k < length items → pin ≡ get_or items k pin
+    → option_map point_of q ≡ access_point c pin.port.name
+    → map (option_map point_of) (points ++ q ∷ []) ≡ map (λ (p : Pin). access_point c p.port.name) (take (k + 1) c.pins)
+points_next c items points k pin q same so_far low is e =
+    let own : k < length c.pins = let n = ap length same in omega (arith, low, n) in
+    let at : pin ≡ get_or c.pins k pin = is ∙ ap (λ (xs : List Pin). get_or xs k pin) same in
+    map-append (option_map point_of) points (q ∷ [])
+    ∙ ap (λ xs. xs ++ option_map point_of q ∷ []) so_far
+    ∙ ap (λ x. map (λ (p : Pin). access_point c p.port.name) (take k c.pins) ++ x ∷ []) (e ∙ ap (λ (p : Pin). access_point c p.port.name) at)
+    ∙ sym (map-append (λ (p : Pin). access_point c p.port.name) (take k c.pins) (get_or c.pins k pin ∷ []))
+    ∙ ap (map (λ (p : Pin). access_point c p.port.name)) (sym (take_more c.pins k pin own))
+
+-- all pins
+pub points_all : (c : Cell) (items : List Pin) (points : List (Option GridPoint)) (k : ℕ) → items ≡ c.pins → k ≡ length items
+    → map (option_map point_of) points ≡ map (λ (p : Pin). access_point c p.port.name) (take k c.pins)
+    → map (option_map point_of) points ≡ map (access_point c) (names_of (pin_ports c))
+points_all c items points k same ended so_far =
+    so_far
+    ∙ ap (λ (j : ℕ). map (λ (p : Pin). access_point c p.port.name) (take j c.pins)) (ended ∙ ap length same)
+    ∙ ap (map (λ (p : Pin). access_point c p.port.name)) (take-length c.pins)
+    ∙ sym (map-map (λ (p : Port). access_point c p.name) (λ (p : Pin). p.port) c.pins)
+    ∙ sym (map-map (access_point c) (λ (p : Port). p.name) (map (λ (p : Pin). p.port) c.pins))
