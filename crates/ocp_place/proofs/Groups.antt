@@ -88,17 +88,19 @@ pub named_is : (f : Name → ℕ) (name : Name) (before : ℕ) (ports : List Por
     → class_named (λ p. is_same_name p.name name) before ports classes ≡ f name
 named_is f name before [] classes many d i each = elim i [ ]
 named_is f name before (p ∷ ps) [] many d i each = absurd (omega (arith, many))
-named_is f name before (p ∷ ps) (c ∷ cs) many d i each = by (is_same_name p.name name) refl where
-  later : In name (p.name ∷ map (λ q. q.name) ps) → is_same_name p.name name ≡ false → In name (map (λ q. q.name) ps)
-  later here e = let t : true ≡ false = sym (same_name_itself name) ∙ e in absurd (cc t)
-  later (there j) e = j
+named_is f name before (p ∷ ps) (c ∷ cs) many d i each =
+    by (is_same_name p.name name) refl (λ h. named_is f name before ps cs (omega (arith, many)) d.1 h (λ j q k. each (suc j) q k)) where
+  later : (x : Name) → In x (p.name ∷ map (λ q. q.name) ps) → is_same_name p.name x ≡ false → In x (map (λ q. q.name) ps)
+  later x here e = let t : true ≡ false = sym (same_name_itself x) ∙ e in absurd (cc t)
+  later x (there j) e = j
 
-  by : (b : Bool) → is_same_name p.name name ≡ b → class_named (λ q. is_same_name q.name name) (cond (is_same_name p.name name) c before) ps cs ≡ f name
-  by true e =
+  by : (b : Bool) → is_same_name p.name name ≡ b → (In name (map (λ q. q.name) ps) → class_named (λ q. is_same_name q.name name) before ps cs ≡ f name)
+      → class_named (λ q. is_same_name q.name name) (cond (is_same_name p.name name) c before) ps cs ≡ f name
+  by true e next =
       let is : p.name ≡ name = same_name_true p.name name e in
       ap (λ (k : ℕ). class_named (λ q. is_same_name q.name name) k ps cs) (cond-true (is_same_name p.name name) c before e)
       ∙ none_named name c ps cs (λ j. d.0 (subst (λ (x : Name). In x (map (λ q. q.name) ps)) (sym is) j))
       ∙ sym (each 0 p c refl refl) ∙ ap f is
-  by false e =
+  by false e next =
       ap (λ (k : ℕ). class_named (λ q. is_same_name q.name name) k ps cs) (cond-false (is_same_name p.name name) c before e)
-      ∙ named_is f name before ps cs (omega (arith, many)) d.1 (later i e) (λ j q k. each (suc j) q k)
+      ∙ next (later name i e)

@@ -9,6 +9,8 @@ use Rattle.ocp_place.specs.Reaches.{IsPinReach, ArePinReaches, no_pins, one_pin}
 -- one more pin
 pub pins_push : (c : Cell) (ports : List Port) (pins : List PinReach) (p : Port) (r : PinReach) → ArePinReaches c ports pins → IsPinReach c p r → ArePinReaches c (ports ++ p ∷ []) (pins ++ r ∷ [])
 pins_push c [] [] p r no_pins is = one_pin is no_pins
+pins_push c [] (s ∷ pins) p r are is = elim are [ ]
+pins_push c (q ∷ ports) [] p r are is = elim are [ ]
 pins_push c (q ∷ ports) (s ∷ pins) p r (one_pin is_s rest) is = one_pin is_s (pins_push c ports pins p r rest is)
 
 pub pins_next : (c : Cell) (ports : List Port) (k : ℕ) (d : Port) (pins : List PinReach) (r : PinReach) → ArePinReaches c (take k ports) pins → k < length ports → IsPinReach c (get_or ports k d) r

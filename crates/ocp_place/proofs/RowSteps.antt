@@ -88,12 +88,9 @@ pub drivers_are : (n : Netlist) (owner : List ℕ) (c : Cell) (classes : List �
     → reached_drivers classes pins ≡ map (λ pin. n.class (pin_of owner pin)) (names_of (filter (λ p. not (is_input p.dir)) ports))
 drivers_are n owner c classes has [] [] no_pins = refl
 drivers_are n owner c classes has (p ∷ ports) (r ∷ pins) (one_pin is rest) = by (not (is_input p.dir)) is.drives (drivers_are n owner c classes has ports pins rest) where
-  abbrev outs : List Port → List Port
-  outs ps = filter (λ p. not (is_input p.dir)) ps
-
-  by : (b : Bool) → r.drives ≡ b → reached_drivers classes pins ≡ map (λ pin. n.class (pin_of owner pin)) (names_of (outs ports))
+  by : (b : Bool) → r.drives ≡ b → reached_drivers classes pins ≡ map (λ pin. n.class (pin_of owner pin)) (names_of (filter (λ q. not (is_input q.dir)) ports))
       → map (λ s. slice_index classes s.place) (cond r.drives (r ∷ filter (λ s. s.drives) pins) (filter (λ s. s.drives) pins))
-      ≡ map (λ pin. n.class (pin_of owner pin)) (names_of (cond b (p ∷ outs ports) (outs ports)))
+      ≡ map (λ pin. n.class (pin_of owner pin)) (names_of (cond b (p ∷ filter (λ q. not (is_input q.dir)) ports) (filter (λ q. not (is_input q.dir)) ports)))
   by true e more =
       ap (λ (b : Bool). map (λ s. slice_index classes s.place) (cond b (r ∷ filter (λ s. s.drives) pins) (filter (λ s. s.drives) pins))) e
       ∙ ap (λ (k : ℕ). k ∷ reached_drivers classes pins) (has r.place p.name is.place)

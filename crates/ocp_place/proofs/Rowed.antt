@@ -35,7 +35,7 @@ use Rattle.ocp_place.proofs.Lists.{different_names}
 use Rattle.ocp_place.proofs.Seen.{well}
 
 -- what placing comes to: the classes of ports, the row, and all points by their classes
-pub pub placed_row : (l : Library) (n : InMemory) → HasPassed true l → IsDrawableIn l n → (split : PortClasses) → IsSplit n.ports n.classes split
+pub placed_row : (l : Library) (n : InMemory) → HasPassed true l → IsDrawableIn l n → (split : PortClasses) → IsSplit n.ports n.classes split
     → (row : Row) → ((k : Netlist) → IsSeenAs n k → IsRow k l row) → (all : List Placed) → map site_of all ≡ port_sites 0 split.signals.items ++ map site_of row.sites.items
     → (ends : List (Vec Placed)) → length ends ≡ n.count → AreEnds all ends
     → IsPlacementOf l n (in_row split.signals.items row.drivers.items ends row.starts.items row.width split.high split.low)

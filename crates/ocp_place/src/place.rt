@@ -8,7 +8,7 @@ ghost use Rattle.ocp_place.specs.Drawable.{IsDrawableIn};
 ghost use Rattle.ocp_place.specs.Placed.{IsPlacementOf};
 ghost use Rattle.ocp_place.specs.Ports.{IsSplit};
 
-use crate::row::{Row, Site, grouped, row};
+use crate::row::{Row, Site, grouped, netlist_row};
 use cell_checks::Library;
 use cell_pins::is_scalar;
 use net_core::Netlist;
@@ -109,7 +109,7 @@ pub fn track_place(
         sites,
         drivers,
         width,
-    } = row(alloc, netlist, library)?;
+    } = netlist_row(alloc, netlist, library)?;
     let mut all = port_ends(alloc, &ports.signals)?;
     for site in &sites {
         all.push(*site)?;

@@ -44,7 +44,7 @@ fn place_of(ports: &[Port], name: &Name) -> usize
 }
 
 /// Where the pins of a cell are reached. Takes memory for them, and for the shapes of the cell meanwhile.
-fn reach(alloc: Global, cell: &Cell) -> Result<Reach, AllocError>
+fn cell_reach(alloc: Global, cell: &Cell) -> Result<Reach, AllocError>
     requires formed { IsFormed cell.now }
     requires row { StandsInRow cell.now }
     requires narrow { cell_width cell.now ≤ℤ pos 16000 }
@@ -85,7 +85,7 @@ fn model_reach(alloc: Global, library: &Library, model: &Text) -> Result<Reach, 
     ensures { IfOk result (λ r. (c : Cell) → cell_of library.now model.now ≡ Some c → IsUsable c → IsReach c r) }
 {
     match cell_of(library.cells(), model) {
-        Some(cell) if is_mappable(cell) => reach(alloc, cell),
+        Some(cell) if is_mappable(cell) => cell_reach(alloc, cell),
         _ => Ok(Reach {
             width: 0,
             pins: Vec::new(alloc),

@@ -34,7 +34,7 @@ pub(crate) struct Row {
 }
 
 /// The point of a pin of an instance that stands at `x`; none where the pin isn't reached.
-fn site(pin: &PinReach, class: u32, x: u64) -> Option<Site>
+fn pin_site(pin: &PinReach, class: u32, x: u64) -> Option<Site>
     requires { HasShortPins x (pin.now ∷ []) }
     ensures { option_sites result ≡ site_at class (pos x) (option_map point_of pin.now.point) }
 {
@@ -64,7 +64,7 @@ impl Row {
             if pin.drives {
                 self.drivers.push(class)?;
             }
-            if let Some(site) = site(pin, class, x) {
+            if let Some(site) = pin_site(pin, class, x) {
                 self.sites.push(site)?;
             }
         }
@@ -82,7 +82,11 @@ fn classes_from<'c>(classes: &'c [u32], first: u32, many: usize) -> &'c [u32]
 }
 
 /// The row of a netlist's instances in their order. Takes memory for their signal pins, and for those of each model.
-pub(crate) fn row(alloc: Global, netlist: &Netlist, library: &Library) -> Result<Row, AllocError>
+pub(crate) fn netlist_row(
+    alloc: Global,
+    netlist: &Netlist,
+    library: &Library,
+) -> Result<Row, AllocError>
     requires library { HasPassed true library.now }
     requires netlist { IsDrawableIn library.now netlist.now }
     ensures { IfOk result (λ row. (k : Seen) → IsSeenAs netlist.now k → IsRow k library.now row) }

@@ -44,7 +44,7 @@ pub(crate) fn scalar(alloc: Global, text: &[u8]) -> Result<Name, AllocError>
 }
 
 /// Adds a wire.
-pub(crate) fn wire(
+pub(crate) fn push_wire(
     alloc: Global,
     items: &mut Items,
     wire: Wire,
@@ -68,7 +68,7 @@ pub(crate) fn wire(
 }
 
 /// Adds a contact.
-pub(crate) fn via(
+pub(crate) fn push_via(
     alloc: Global,
     items: &mut Items,
     contact: Contact,

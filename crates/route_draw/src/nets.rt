@@ -8,7 +8,7 @@ ghost use Rattle.ocp_place.specs.Spans.{shown_span};
 ghost use Rattle.nero_tracks.specs.Tracks.{IsNearSpan, AreTracks};
 ghost use Rattle.route_draw.specs.Pieces.{track_line, all_lines};
 
-use crate::lines::{Spot, Wire, via, wire};
+use crate::lines::{Spot, Wire, push_via, push_wire};
 use crate::row::track_y;
 use nero_tracks::{Track, net_pins};
 use ocp_place::{Placement, Site};
@@ -45,7 +45,7 @@ fn push_track(
         from: Spot { x: low, y },
         to: Spot { x: high, y },
     };
-    wire(alloc, items, track, net.name)
+    push_wire(alloc, items, track, net.name)
 }
 
 /// Adds the riser from a pin up to the track of its net.
@@ -72,10 +72,10 @@ fn push_riser(
         from: foot,
         to: head,
     };
-    wire(alloc, items, rising, net.name)?;
-    via(alloc, items, Contact::Via1, foot, net.name)?;
-    via(alloc, items, Contact::Via2, foot, net.name)?;
-    via(alloc, items, Contact::Via2, head, net.name)
+    push_wire(alloc, items, rising, net.name)?;
+    push_via(alloc, items, Contact::Via1, foot, net.name)?;
+    push_via(alloc, items, Contact::Via2, foot, net.name)?;
+    push_via(alloc, items, Contact::Via2, head, net.name)
 }
 
 /// Adds the risers from pins.

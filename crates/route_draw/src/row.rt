@@ -7,7 +7,7 @@ ghost use Rattle.net_core.specs.Frame.{instance_of};
 ghost use Rattle.ocp_rows.specs.Placement.{level_wire, supply_ports, track_ports, track_y};
 ghost use Rattle.route_draw.specs.Pieces.{signal_names, instance_lines, strap_lines, row_supplies};
 
-use crate::lines::{Spot, Wire, scalar, via, west_port, wire};
+use crate::lines::{Spot, Wire, push_via, push_wire, scalar, west_port};
 use cell_pins::is_scalar;
 use net_core::Node;
 use std::alloc::{AllocError, Global};
@@ -130,7 +130,7 @@ fn push_rail(
             y: u64::from(y),
         },
     };
-    wire(alloc, items, rail, Some(name))
+    push_wire(alloc, items, rail, Some(name))
 }
 
 /// Adds the strap of a supply with its vias.
@@ -154,9 +154,9 @@ fn push_strap(
         from: at,
         to: at,
     };
-    wire(alloc, items, strap, Some(name))?;
-    via(alloc, items, Contact::Via1, at, Some(name))?;
-    via(alloc, items, Contact::Via2, at, Some(name))
+    push_wire(alloc, items, strap, Some(name))?;
+    push_via(alloc, items, Contact::Via1, at, Some(name))?;
+    push_via(alloc, items, Contact::Via2, at, Some(name))
 }
 
 /// Adds rails and straps of a row that is so wide.
