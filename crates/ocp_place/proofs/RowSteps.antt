@@ -79,6 +79,8 @@ HasClasses n owner c classes = (place : ℕ) (name : Name) → Stands (names_of 
 pub reached_are : (n : Netlist) (x : ℤ) (owner : List ℕ) (c : Cell) (classes : List ℕ) → HasClasses n owner c classes → (ports : List Port) (pins : List PinReach) → ArePinReaches c ports pins
     → reached_sites x classes pins ≡ flat_map (λ pin. site_at (n.class (pin_of owner pin)) x (access_point c pin)) (names_of ports)
 reached_are n x owner c classes has [] [] no_pins = refl
+reached_are n x owner c classes has [] (r ∷ pins) are = elim are [ ]
+reached_are n x owner c classes has (p ∷ ports) [] are = elim are [ ]
 reached_are n x owner c classes has (p ∷ ports) (r ∷ pins) (one_pin is rest) =
     ap (λ (k : ℕ). site_at k x (option_map point_of r.point) ++ reached_sites x classes pins) (has r.place p.name is.place)
     ∙ ap (λ o. site_at (n.class (pin_of owner p.name)) x o ++ reached_sites x classes pins) is.point
@@ -87,6 +89,8 @@ reached_are n x owner c classes has (p ∷ ports) (r ∷ pins) (one_pin is rest)
 pub drivers_are : (n : Netlist) (owner : List ℕ) (c : Cell) (classes : List ℕ) → HasClasses n owner c classes → (ports : List Port) (pins : List PinReach) → ArePinReaches c ports pins
     → reached_drivers classes pins ≡ map (λ pin. n.class (pin_of owner pin)) (names_of (filter (λ p. not (is_input p.dir)) ports))
 drivers_are n owner c classes has [] [] no_pins = refl
+drivers_are n owner c classes has [] (r ∷ pins) are = elim are [ ]
+drivers_are n owner c classes has (p ∷ ports) [] are = elim are [ ]
 drivers_are n owner c classes has (p ∷ ports) (r ∷ pins) (one_pin is rest) = by (not (is_input p.dir)) is.drives (drivers_are n owner c classes has ports pins rest) where
   by : (b : Bool) → r.drives ≡ b → reached_drivers classes pins ≡ map (λ pin. n.class (pin_of owner pin)) (names_of (filter (λ q. not (is_input q.dir)) ports))
       → map (λ s. slice_index classes s.place) (cond r.drives (r ∷ filter (λ s. s.drives) pins) (filter (λ s. s.drives) pins))

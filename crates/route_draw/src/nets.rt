@@ -32,7 +32,7 @@ fn push_track(
 ) -> Result<(), AllocError>
     requires few { net.number < 2 ^ 32 }
     requires near { IsNearSpan span }
-    ensures { OnOk result (items.new ≡ items.old ++ track_line net.number (option_copied net.name.entry) (shown_span span)) }
+    ensures { OnOk result (items.new ≡ items.old ++ track_line net.entry.number (option_copied net.entry.name) (shown_span span)) }
 {
     let Some((low, high)) = span else {
         return Ok(());
@@ -58,7 +58,7 @@ fn push_riser(
     requires few { net.number < 2 ^ 32 }
     requires x { pin.now.x ≤ 100000000000000 }
     requires y { pin.now.y ≤ 100000000000000 }
-    ensures { OnOk result (items.new ≡ items.old ++ riser net.number (option_copied net.name.entry) (site_of pin.now).1) }
+    ensures { OnOk result (items.new ≡ items.old ++ riser net.entry.number (option_copied net.entry.name) (site_of pin.now).1) }
 {
     let foot = Spot { x: pin.x, y: pin.y };
     let head = Spot {
@@ -88,7 +88,7 @@ fn push_risers(
     requires few { net.number < 2 ^ 32 }
     requires near { All (λ s. (s.x ≤ 100000000000000) × (s.y ≤ 100000000000000)) pins.now }
     ensures { OnOk result (items.new ≡ items.old
-        ++ flat_map (riser net.number (option_copied net.name.entry)) (map (λ s. (site_of s).1) pins.now)) }
+        ++ flat_map (riser net.entry.number (option_copied net.entry.name)) (map (λ s. (site_of s).1) pins.now)) }
 {
     for pin in pins {
         push_riser(alloc, items, net, pin)?;

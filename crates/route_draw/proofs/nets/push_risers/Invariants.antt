@@ -7,4 +7,4 @@ use Rattle.route_draw.proofs.nets.push_risers.Given as goal
 
 abbrev pub invariant-loop-pin : goal.invariant-loop-pin
 invariant-loop-pin l = l.items
-    ≡ l.initial.items ++ flat_map (riser l.net.number (option_copied l.net.name.entry)) (map (λ s. (site_of s).1) (take l.pin-index l.pins))
+    ≡ l.initial.items ++ flat_map (riser l.net.number (option_copied l.net.name)) (map (λ s. (site_of s).1) (take l.pin-index l.pins))
