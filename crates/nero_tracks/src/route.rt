@@ -70,7 +70,9 @@ fn net_classes(
 
 /// The points of the pins of net `k`, where so many nets have a port.
 pub fn net_pins(ends: &[Site], ports: usize, k: usize) -> &[Site]
-    ensures { map (λ s. (site_of s).1) result.now ≡ net_pins ports k (map (λ s. (site_of s).1) ends.now) }
+    requires { All (λ s. (s.x ≤ 100000000000000) × (s.y ≤ 100000000000000)) ends.now }
+    ensures near { All (λ s. (s.x ≤ 100000000000000) × (s.y ≤ 100000000000000)) result.now }
+    ensures points { map (λ s. (site_of s).1) result.now ≡ net_pins ports k (map (λ s. (site_of s).1) ends.now) }
 {
     if k < ports && !ends.is_empty() {
         return &ends[1..];

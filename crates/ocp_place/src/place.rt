@@ -1,6 +1,8 @@
 // Netlists in one row, in their own order.
 ghost use Rattle.std.specs.Prelude.{◌≡◌, ◌≤◌, ◌<◌, ◌^◌, true, [], map, length, slice_index_or, IfOk};
 ghost use Rattle.std.specs.List.{All};
+ghost use Rattle.vlsi_base.specs.Names.{scalar};
+ghost use Rattle.machine_meaning.specs.Named.{is_same_name};
 ghost use Rattle.ocp_place.specs.Sites.{port_sites};
 ghost use Rattle.ocp_place.specs.Reaches.{site_of};
 ghost use Rattle.cell_checks.specs.Checked.{IsChecked as HasPassed};
@@ -15,7 +17,7 @@ use net_core::Netlist;
 use std::alloc::{AllocError, Global};
 use std::marker::Model;
 use sym_geom::{FIRST_CELL_X, FIRST_TRACK_Y, PITCH};
-use vlsi_base::Port;
+use vlsi_base::{Name, Port};
 
 /// The instances of a netlist in one row, in their order: for each class the points of its ports and of its signal pins. A port
 /// stands at the left end of the track of its rank among the ports without the supplies.
@@ -49,6 +51,13 @@ pub(crate) struct PortClasses {
     pub(crate) signals: Vec<u32>,
 }
 
+/// Whether a name is this text without a bit.
+fn is_named(name: &Name, text: &[u8]) -> bool
+    ensures { result ≡ is_same_name name.now (scalar text.now) }
+{
+    is_scalar(name, text)
+}
+
 /// The classes of ports, where each has its class at its place.
 fn port_classes(
     alloc: Global,
@@ -65,9 +74,9 @@ fn port_classes(
     };
     for k in 0..ports.len() {
         let name = &ports[k].name;
-        if is_scalar(name, b"vdd") {
+        if is_named(name, b"vdd") {
             split.high = classes[k];
-        } else if is_scalar(name, b"vss") {
+        } else if is_named(name, b"vss") {
             split.low = classes[k];
         } else {
             split.signals.push(classes[k])?;

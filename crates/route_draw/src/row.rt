@@ -3,7 +3,10 @@ ghost use Rattle.std.specs.Prelude.{◌≡◌, ◌++◌, ◌∷◌, ◌≤◌, �
 ghost use Rattle.std.specs.List.{All};
 ghost use Rattle.sym_geom.specs.declared.layer.Layer.TheVariants.{Alu};
 ghost use Rattle.sym_geom.specs.declared.layer.Level.TheVariants.{One};
+ghost use Rattle.vlsi_base.specs.Names.{scalar};
+ghost use Rattle.machine_meaning.specs.Named.{is_same_name};
 ghost use Rattle.net_core.specs.Frame.{instance_of};
+ghost use Rattle.ocp_place.specs.Nets.{is_signal};
 ghost use Rattle.ocp_rows.specs.Placement.{level_wire, supply_ports, track_ports, track_y};
 ghost use Rattle.route_draw.specs.Pieces.{signal_names, instance_lines, strap_lines, row_supplies};
 
@@ -26,13 +29,27 @@ pub(crate) fn track_y(k: usize) -> u64
     u64::from(FIRST_TRACK_Y) + u64::from(PITCH) * k as u64
 }
 
+/// Whether a name is this text without a bit.
+fn is_named(name: &Name, text: &[u8]) -> bool
+    ensures { result ≡ is_same_name name.now (scalar text.now) }
+{
+    is_scalar(name, text)
+}
+
+/// Whether a name is that of no supply.
+fn is_signal(name: &Name) -> bool
+    ensures { result ≡ is_signal name.now }
+{
+    !(is_named(name, b"vdd") || is_named(name, b"vss"))
+}
+
 /// The names of the ports that are no supplies. Takes memory for them.
 pub(crate) fn signal_names(alloc: Global, ports: &[Port]) -> Result<Vec<Name>, AllocError>
     ensures { IfOk result (λ names. names.items ≡ signal_names ports.now) }
 {
     let mut names = Vec::new(alloc);
     for port in ports {
-        if !is_scalar(&port.name, b"vdd") && !is_scalar(&port.name, b"vss") {
+        if is_signal(&port.name) {
             names.push(port.name.copy(alloc)?)?;
         }
     }
