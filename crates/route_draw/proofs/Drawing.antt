@@ -75,10 +75,10 @@ module _ (l : Library) (n : InMemory) (passed : HasPassed true l) (given : IsDra
       let g = tracks_few low in
       omega (arith, a, b, c, d, e, f, g)
 
-  pub drawn : (name : List ℕ) (bounds : Rect) (items : List Item) → name ≡ n.name → bounds.x1 ≡ pos 0 → bounds.y1 ≡ pos 0 → bounds.x2 ≡ pos (FIRST_CELL_X + PITCH + p.width)
-      → bounds.y2 ≡ track_y (length tracks) → items ≡ its_lines → IsDrawnInTracks l n (record { name = Some (scalar name); bounds = bounds; items = items })
+  pub drawn : (name : Name) (bounds : Rect) (items : List Item) → name ≡ scalar n.name → bounds.x1 ≡ pos 0 → bounds.y1 ≡ pos 0 → bounds.x2 ≡ pos (FIRST_CELL_X + PITCH + p.width)
+      → bounds.y2 ≡ track_y (length tracks) → items ≡ its_lines → IsDrawnInTracks l n (record { name = Some name; bounds = bounds; items = items })
   drawn name bounds items named x1 y1 x2 y2 is = record {
-    named = ap (λ (text : List ℕ). Some (scalar text)) named;
+    named = ap (λ (x : Name). Some x) named;
     lines = λ k seen. is ∙ lines k seen;
     box = box;
     extracts = λ k seen. subst (λ (xs : List Item). Extracts xs l k) (sym (is ∙ lines k seen)) (right k seen).0;
