@@ -6,7 +6,7 @@ ghost use Rattle.net_drawing.specs.Drawing.{riser};
 ghost use Rattle.ocp_place.specs.Reaches.{site_of};
 ghost use Rattle.ocp_place.specs.Spans.{shown_span};
 ghost use Rattle.nero_tracks.specs.Tracks.{IsNearSpan, AreTracks};
-ghost use Rattle.route_draw.specs.Pieces.{track_line, all_lines};
+ghost use Rattle.route_draw.specs.Pieces.{track_line, net_lines, all_lines};
 
 use crate::lines::{Spot, Wire, push_via, push_wire};
 use crate::row::track_y;
@@ -96,6 +96,24 @@ fn push_risers(
     Ok(())
 }
 
+/// Adds the lines of a net: its track, then the risers from its pins.
+fn push_net(
+    alloc: Global,
+    items: &mut Items,
+    net: Net<'_>,
+    span: Option<(u64, u64)>,
+    pins: &[Site],
+) -> Result<(), AllocError>
+    requires few { net.number < 2 ^ 32 }
+    requires span { IsNearSpan span }
+    requires near { All (λ s. (s.x ≤ 100000000000000) × (s.y ≤ 100000000000000)) pins.now }
+    ensures { OnOk result (items.new ≡ items.old
+        ++ net_lines net.entry.number (option_copied net.entry.name) (shown_span span) (map (λ s. (site_of s).1) pins.now)) }
+{
+    push_track(alloc, items, net, span)?;
+    push_risers(alloc, items, net, pins)
+}
+
 /// Adds the lines of all nets, by their numbers.
 pub(crate) fn push_nets(
     alloc: Global,
@@ -115,9 +133,8 @@ pub(crate) fn push_nets(
             number: k,
             name: names.get(k),
         };
-        push_track(alloc, items, net, track.span)?;
         let pins = net_pins(placement.ends(track.class), ports, k);
-        push_risers(alloc, items, net, pins)?;
+        push_net(alloc, items, net, track.span, pins)?;
     }
     Ok(())
 }
