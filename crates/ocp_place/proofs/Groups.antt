@@ -69,10 +69,10 @@ signals_are f [] classes many each = refl
 signals_are f (p ∷ ps) [] many each = absurd (omega (arith, many))
 signals_are f (p ∷ ps) (c ∷ cs) many each =
     by (is_signal p.name) (signals_are f ps cs (omega (arith, many)) (λ j q d. each (suc j) q d)) where
-  by : (b : Bool) → signal_classes ps cs ≡ map f (filter is_signal (map (λ q. q.name) ps))
-      → cond b (c ∷ signal_classes ps cs) (signal_classes ps cs) ≡ map f (cond b (p.name ∷ filter is_signal (map (λ q. q.name) ps)) (filter is_signal (map (λ q. q.name) ps)))
-  by true e = ap (λ (k : ℕ). k ∷ signal_classes ps cs) (sym (each 0 p c refl refl)) ∙ ap (λ (ks : List ℕ). f p.name ∷ ks) e
-  by false e = e
+      by : (b : Bool) → signal_classes ps cs ≡ map f (filter is_signal (map (λ q. q.name) ps))
+          → cond b (c ∷ signal_classes ps cs) (signal_classes ps cs) ≡ map f (cond b (p.name ∷ filter is_signal (map (λ q. q.name) ps)) (filter is_signal (map (λ q. q.name) ps)))
+      by true e = ap (λ (k : ℕ). k ∷ signal_classes ps cs) (sym (each 0 p c refl refl)) ∙ ap (λ (ks : List ℕ). f p.name ∷ ks) e
+      by false e = e
 
 none_named : (name : Name) (before : ℕ) (ports : List Port) (classes : List ℕ) → (In name (map (λ p. p.name) ports) → ⊥)
     → class_named (λ p. is_same_name p.name name) before ports classes ≡ before
@@ -90,17 +90,17 @@ named_is f name before [] classes many d i each = elim i [ ]
 named_is f name before (p ∷ ps) [] many d i each = absurd (omega (arith, many))
 named_is f name before (p ∷ ps) (c ∷ cs) many d i each =
     by (is_same_name p.name name) refl (λ h. named_is f name before ps cs (omega (arith, many)) d.1 h (λ j q k. each (suc j) q k)) where
-  later : (x : Name) → In x (p.name ∷ map (λ q. q.name) ps) → is_same_name p.name x ≡ false → In x (map (λ q. q.name) ps)
-  later x here e = let t : true ≡ false = sym (same_name_itself x) ∙ e in absurd (cc t)
-  later x (there j) e = j
+      later : (x : Name) → In x (p.name ∷ map (λ q. q.name) ps) → is_same_name p.name x ≡ false → In x (map (λ q. q.name) ps)
+      later x here e = let t : true ≡ false = sym (same_name_itself x) ∙ e in absurd (cc t)
+      later x (there j) e = j
 
-  by : (b : Bool) → is_same_name p.name name ≡ b → (In name (map (λ q. q.name) ps) → class_named (λ q. is_same_name q.name name) before ps cs ≡ f name)
-      → class_named (λ q. is_same_name q.name name) (cond (is_same_name p.name name) c before) ps cs ≡ f name
-  by true e next =
-      let is : p.name ≡ name = same_name_true p.name name e in
-      ap (λ (k : ℕ). class_named (λ q. is_same_name q.name name) k ps cs) (cond-true (is_same_name p.name name) c before e)
-      ∙ none_named name c ps cs (λ j. d.0 (subst (λ (x : Name). In x (map (λ q. q.name) ps)) (sym is) j))
-      ∙ sym (each 0 p c refl refl) ∙ ap f is
-  by false e next =
-      ap (λ (k : ℕ). class_named (λ q. is_same_name q.name name) k ps cs) (cond-false (is_same_name p.name name) c before e)
-      ∙ next (later name i e)
+      by : (b : Bool) → is_same_name p.name name ≡ b → (In name (map (λ q. q.name) ps) → class_named (λ q. is_same_name q.name name) before ps cs ≡ f name)
+          → class_named (λ q. is_same_name q.name name) (cond (is_same_name p.name name) c before) ps cs ≡ f name
+      by true e next =
+          let is : p.name ≡ name = same_name_true p.name name e in
+          ap (λ (k : ℕ). class_named (λ q. is_same_name q.name name) k ps cs) (cond-true (is_same_name p.name name) c before e)
+          ∙ none_named name c ps cs (λ j. d.0 (subst (λ (x : Name). In x (map (λ q. q.name) ps)) (sym is) j))
+          ∙ sym (each 0 p c refl refl) ∙ ap f is
+      by false e next =
+          ap (λ (k : ℕ). class_named (λ q. is_same_name q.name name) k ps cs) (cond-false (is_same_name p.name name) c before e)
+          ∙ next (later name i e)

@@ -66,19 +66,19 @@ module _ (n : Netlist) (l : Library) where
   pin_back x [] owner name q has e = absurd (cc e)
   pin_back x (one ∷ rest) owner name q has e =
       by (is_same_text one.name owner) refl e (pin_back (x +ℤ model_width l one.model) rest owner name q (λ i c j. has i c (there j))) where
-    by : (b : Bool) → is_same_text one.name owner ≡ b
-        → cond b (instance_point (cell_of l one.model) (record { x = x; y = pos 0; model = one.model; name = one.name; transform = NoSym }) name)
-        (pin_point l (standing l NoSym (pos 0) (x +ℤ model_width l one.model) rest) owner name) ≡ Some q
-        → (pin_point l (standing l NoSym (pos 0) (x +ℤ model_width l one.model) rest) owner name ≡ Some q
-        → In (n.class (pin_of owner name), q) (row_sites n l (x +ℤ model_width l one.model) rest))
-        → In (n.class (pin_of owner name), q) (row_sites n l x (one ∷ rest))
-    by true f g next =
-        let named : one.name ≡ owner = text_same one.name owner f in
-        In-left (n.class (pin_of owner name), q) (own_sites n x one.name (cell_of l one.model)) (row_sites n l (x +ℤ model_width l one.model) rest)
-        (subst (λ (o : List ℕ). In (n.class (pin_of o name), q) (own_sites n x one.name (cell_of l one.model))) named
-        (shown_back x one rest name q (cell_of l one.model) refl (λ c h. has one c here named h) g))
-    by false f g next =
-        In-right (n.class (pin_of owner name), q) (own_sites n x one.name (cell_of l one.model)) (row_sites n l (x +ℤ model_width l one.model) rest) (next g)
+        by : (b : Bool) → is_same_text one.name owner ≡ b
+            → cond b (instance_point (cell_of l one.model) (record { x = x; y = pos 0; model = one.model; name = one.name; transform = NoSym }) name)
+            (pin_point l (standing l NoSym (pos 0) (x +ℤ model_width l one.model) rest) owner name) ≡ Some q
+            → (pin_point l (standing l NoSym (pos 0) (x +ℤ model_width l one.model) rest) owner name ≡ Some q
+            → In (n.class (pin_of owner name), q) (row_sites n l (x +ℤ model_width l one.model) rest))
+            → In (n.class (pin_of owner name), q) (row_sites n l x (one ∷ rest))
+        by true f g next =
+            let named : one.name ≡ owner = text_same one.name owner f in
+            In-left (n.class (pin_of owner name), q) (own_sites n x one.name (cell_of l one.model)) (row_sites n l (x +ℤ model_width l one.model) rest)
+            (subst (λ (o : List ℕ). In (n.class (pin_of o name), q) (own_sites n x one.name (cell_of l one.model))) named
+            (shown_back x one rest name q (cell_of l one.model) refl (λ c h. has one c here named h) g))
+        by false f g next =
+            In-right (n.class (pin_of owner name), q) (own_sites n x one.name (cell_of l one.model)) (row_sites n l (x +ℤ model_width l one.model) rest) (next g)
 
   -- and the other way round
   pub record IsShown (x : ℤ) (ms : List Member) (class : ℕ) (q : Point) : Type 0 where
@@ -196,9 +196,9 @@ module _ (n : Netlist) (l : Library) (m : Machine) (well : IsWell n l m) (orderl
         let signal : In name (names_of (pin_ports c)) = only_signal name (((cell_is i h c found).connectors name).0 r.1)
         (λ v. no_vdd (sym s.0 ∙ (well.high (pin_of i.name name) terminal).1 v)) (λ v. no_vss (sym s.0 ∙ (well.low (pin_of i.name name) terminal).1 v)) in
         let has : HasPin l n.instances i.name name = λ j d a named other.
-            let same : j ≡ i = same_member j i a h named in
-            let cells : c ≡ d = same_Some c d (sym found ∙ sym (ap (λ (x : Member). cell_of l x.model) same) ∙ other) in
-            subst (λ (x : Cell). In name (names_of (pin_ports x))) cells signal in
+        let same : j ≡ i = same_member j i a h named in
+        let cells : c ≡ d = same_Some c d (sym found ∙ sym (ap (λ (x : Member). cell_of l x.model) same) ∙ other) in
+        subst (λ (x : Cell). In name (names_of (pin_ports x))) cells signal in
         points_there class sites q
         (In-right (class, q) (port_sites 0 (port_classes n)) (pin_sites n l)
         (subst (λ (k : ℕ). In (k, q) (pin_sites n l)) s.0 (pin_back n l (pos FIRST_CELL_X) n.instances i.name name q has (sym (one_row i.name name) ∙ s.1))))
@@ -279,9 +279,9 @@ module _ (n : Netlist) (l : Library) (m : Machine) (well : IsWell n l m) (orderl
       ∙ ap (λ (k : ℕ). sum (map (λ class. half_box (slice_index_or p.ends class [])) (filter is_other (count_to k)))) row.many
       ∙ same_sum (λ class. half_box (slice_index_or p.ends class [])) (λ class. half_box (net_points n l (row_of n) class)) (filter is_other (count_to n.classes))
       (λ class i.
-          let r = in_filter is_other (count_to n.classes) class i in
-          let free = others class r.1 in
-          ap half_box (row.ends class [] (counted_low n.classes class r.0)) ∙ same_boxes class free.0 free.1)
+      let r = in_filter is_other (count_to n.classes) class i in
+      let free = others class r.1 in
+      ap half_box (row.ends class [] (counted_low n.classes class r.0)) ∙ same_boxes class free.0 free.1)
 
 pub lengths_are_right : LengthsAreRight
 lengths_are_right n l m p well orderly row = lengths n l m well orderly p row

@@ -25,18 +25,18 @@ pub points_back : (class : ℕ) (sites : List Site) (q : Point) → In q (points
 points_back class [] q i = elim i [ ]
 points_back class (s ∷ rest) q i =
     by (nat_eq s.0 class) refl (In-split q (cond (nat_eq s.0 class) (s.1 ∷ []) []) (points_in class rest) i) (points_back class rest q) where
-  first : (x y : Point) → In x (y ∷ []) → x ≡ y
-  first x y here = refl
-  first x y (there j) = elim j [ ]
+      first : (x y : Point) → In x (y ∷ []) → x ≡ y
+      first x y here = refl
+      first x y (there j) = elim j [ ]
 
-  by : (b : Bool) → nat_eq s.0 class ≡ b → In q (cond (nat_eq s.0 class) (s.1 ∷ []) []) ⊎ In q (points_in class rest)
-      → (In q (points_in class rest) → In (class, q) rest) → In (class, q) (s ∷ rest)
-  by b e (inr j) next = there (next j)
-  by true e (inl j) next =
-      let j2 : In q (s.1 ∷ []) = subst (λ (r : Bool). In q (cond r (s.1 ∷ []) [])) e j in
-      let same : s ≡ (class, q) = ap (λ (c : ℕ). (c, s.1)) (eqb-true s.0 class e) ∙ ap (λ (x : Point). (class, x)) (sym (first q s.1 j2)) in
-      subst (λ (x : Site). In x (s ∷ rest)) same here
-  by false e (inl j) next = let j2 : In q [] = subst (λ (r : Bool). In q (cond r (s.1 ∷ []) [])) e j in elim j2 [ ]
+      by : (b : Bool) → nat_eq s.0 class ≡ b → In q (cond (nat_eq s.0 class) (s.1 ∷ []) []) ⊎ In q (points_in class rest)
+          → (In q (points_in class rest) → In (class, q) rest) → In (class, q) (s ∷ rest)
+      by b e (inr j) next = there (next j)
+      by true e (inl j) next =
+          let j2 : In q (s.1 ∷ []) = subst (λ (r : Bool). In q (cond r (s.1 ∷ []) [])) e j in
+          let same : s ≡ (class, q) = ap (λ (c : ℕ). (c, s.1)) (eqb-true s.0 class e) ∙ ap (λ (x : Point). (class, x)) (sym (first q s.1 j2)) in
+          subst (λ (x : Site). In x (s ∷ rest)) same here
+      by false e (inl j) next = let j2 : In q [] = subst (λ (r : Bool). In q (cond r (s.1 ∷ []) [])) e j in elim j2 [ ]
 
 pub points_there : (class : ℕ) (sites : List Site) (q : Point) → In (class, q) sites → In q (points_in class sites)
 points_there class [] q i = elim i [ ]

@@ -48,8 +48,7 @@ module _ (l : Library) (n : InMemory) (passed : HasPassed true l) (given : IsDra
         let p = turn_reached 0 n.count c n.classes given.sound.turns (omega arith) low in
         let inside = slice_get_within n.classes p.0 c p.1 in
         let many = given.sound.each in
-        let t = at_place (terminals n) p.0 (omega (arith, inside, many)) in
-        (
+        let t = at_place (terminals n) p.0 (omega (arith, inside, many)) in (
           t.0,
           there_terminal n l k seen (right_celled n l given.machine given.checked given.right given.pins) t.0 (p.0, t.1),
           seen.classes.each t.0 c (p.0, t.1, p.1),

@@ -7,7 +7,7 @@ mod place;
 mod reach;
 mod row;
 
-pub use place::{Placement, track_place};
 pub use law::checked_cells_are_clean;
 pub use length::{half_perimeter, span};
+pub use place::{Placement, track_place};
 pub use row::Site;

@@ -59,11 +59,7 @@ fn is_named(name: &Name, text: &[u8]) -> bool
 }
 
 /// The classes of ports, where each has its class at its place.
-fn port_classes(
-    alloc: Global,
-    ports: &[Port],
-    classes: &[u32],
-) -> Result<PortClasses, AllocError>
+fn port_classes(alloc: Global, ports: &[Port], classes: &[u32]) -> Result<PortClasses, AllocError>
     requires { length ports.now ≤ length classes.now }
     ensures { IfOk result (λ p. IsSplit ports.now classes.now p) }
 {

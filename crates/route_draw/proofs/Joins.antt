@@ -114,8 +114,8 @@ all_ranged f names p k (t ∷ ts) each =
     ap (λ (xs : List Item). xs ++ ranged f (suc k) (length ts)) first
     ∙ ap (λ (xs : List Item). net_lines k (slice_get names k) (shown_span t.span) (net_pins (length p.ports) k (ends_of p t.class)) ++ xs)
     (all_ranged f names p (suc k) ts (λ i u s.
-        let e : k + suc i ≡ suc k + i = omega arith in
-        subst (λ (j : ℕ). f j ≡ net_lines j (slice_get names j) (shown_span u.span) (net_pins (length p.ports) j (ends_of p u.class))) e (each (suc i) u s)))
+    let e : k + suc i ≡ suc k + i = omega arith in
+    subst (λ (j : ℕ). f j ≡ net_lines j (slice_get names j) (shown_span u.span) (net_pins (length p.ports) j (ends_of p u.class))) e (each (suc i) u s)))
 
 -- ---- tracks
 
@@ -207,8 +207,7 @@ module _ (n : InMemory) (l : Library) (m : Machine) (k : Netlist) (seen : IsSeen
     by (left h) =
         let u = unmapped (λ (x : Name). k.class (port x)) names j t.class h in
         let low : j < length (port_classes k) = slice_get_within (port_classes k) j t.class h in
-        let less : nat_lt j (length p.ports) ≡ true = is_less j (length p.ports) (subst (λ (x : ℕ). j < x) (sym same_many) low) in
-        (
+        let less : nat_lt j (length p.ports) ≡ true = is_less j (length p.ports) (subst (λ (x : ℕ). j < x) (sym same_many) low) in (
           Some u.0,
           (pos FIRST_CELL_X, track_y j) ∷ [],
           record {
@@ -220,11 +219,10 @@ module _ (n : InMemory) (l : Library) (m : Machine) (k : Netlist) (seen : IsSeen
         )
     by (right i e h) =
         let none : In t.class (port_classes k) → ⊥ = λ a.
-            let r = in_filter (λ class. not (is_among (port_classes k) class)) (driven k l k.instances) t.class (In_get others i t.class h) in
-            not_true (is_among (port_classes k) t.class) r.1 (in_among (port_classes k) t.class a) in
+        let r = in_filter (λ class. not (is_among (port_classes k) class)) (driven k l k.instances) t.class (In_get others i t.class h) in
+        not_true (is_among (port_classes k) t.class) r.1 (in_among (port_classes k) t.class a) in
         let past : length names ≤ j = let x = length-map names (λ (y : Name). k.class (port y)) in omega (arith, x, e) in
-        let no_less : nat_lt j (length p.ports) ≡ false = is_not_less j (length p.ports) (let x = same_many in omega (arith, x, e)) in
-        (
+        let no_less : nat_lt j (length p.ports) ≡ false = is_not_less j (length p.ports) (let x = same_many in omega (arith, x, e)) in (
           None,
           [],
           record {
@@ -270,8 +268,8 @@ module _ (n : InMemory) (l : Library) (m : Machine) (k : Netlist) (seen : IsSeen
       ap (λ (c : ℕ). flat_map (net_wiring k l (net_number k l) names) (count_to c)) (sym many)
       ∙ counted (net_wiring k l (net_number k l) names) (length tracks)
       ∙ all_ranged (net_wiring k l (net_number k l) names) names p 0 tracks (λ i t s.
-          let z : i ≡ 0 + i = omega arith in
-          subst (λ (j : ℕ). net_wiring k l (net_number k l) names j ≡ net_lines j (slice_get names j) (shown_span t.span) (net_pins (length p.ports) j (ends_of p t.class))) z (net_is i t s))
+      let z : i ≡ 0 + i = omega arith in
+      subst (λ (j : ℕ). net_wiring k l (net_number k l) names j ≡ net_lines j (slice_get names j) (shown_span t.span) (net_pins (length p.ports) j (ends_of p t.class))) z (net_is i t s))
 
   -- all lines together
   pub lines_are : supply_ports ++ (track_ports 0 (signal_names n.ports) ++ (instance_lines n.instances p.starts ++ (row_supplies p.width ++ all_lines 0 (signal_names n.ports) p tracks)))

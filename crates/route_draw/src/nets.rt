@@ -49,12 +49,7 @@ fn push_track(
 }
 
 /// Adds the riser from a pin up to the track of its net.
-fn push_riser(
-    alloc: Global,
-    items: &mut Items,
-    net: Net<'_>,
-    pin: &Site,
-) -> Result<(), AllocError>
+fn push_riser(alloc: Global, items: &mut Items, net: Net<'_>, pin: &Site) -> Result<(), AllocError>
     requires few { net.number < 2 ^ 32 }
     requires x { pin.now.x ≤ 100000000000000 }
     requires y { pin.now.y ≤ 100000000000000 }

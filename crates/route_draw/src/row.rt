@@ -89,7 +89,14 @@ pub(crate) fn push_track_ports(
             x: u64::from(FIRST_CELL_X),
             y: track_y(k),
         };
-        west_port(alloc, items, Layer::Alu(Level::Two), WIRE_WIDTH, at, &names[k])?;
+        west_port(
+            alloc,
+            items,
+            Layer::Alu(Level::Two),
+            WIRE_WIDTH,
+            at,
+            &names[k],
+        )?;
     }
     Ok(())
 }
@@ -177,11 +184,7 @@ fn push_strap(
 }
 
 /// Adds rails and straps of a row that is so wide.
-pub(crate) fn push_supplies(
-    alloc: Global,
-    items: &mut Items,
-    width: u64,
-) -> Result<(), AllocError>
+pub(crate) fn push_supplies(alloc: Global, items: &mut Items, width: u64) -> Result<(), AllocError>
     requires { width ≤ 70000000000000 }
     ensures { OnOk result (items.new ≡ items.old ++ row_supplies width) }
 {
