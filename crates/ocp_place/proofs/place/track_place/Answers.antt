@@ -9,9 +9,9 @@ use Rattle.ocp_place.proofs.place.track_place.Goals as goal
 pub returns : goal.returns
 returns c =
     let n = c.args.netlist.now in
-    let ended : c.loop-site.site-index ≡ length c.in_ok-starts.field-0.sites.items = omega arith in
-    let all : take c.loop-site.site-index c.in_ok-starts.field-0.sites.items ≡ c.in_ok-starts.field-0.sites.items =
-    ap (λ k. take k c.in_ok-starts.field-0.sites.items) ended ∙ take-length c.in_ok-starts.field-0.sites.items in
+    let ended : c.loop-site.site-index ≡ length c.deref-site-items.result.now = omega arith in
+    let all : take c.loop-site.site-index c.deref-site-items.result.now ≡ c.in_ok-starts.field-0.sites.items =
+    ap (λ k. take k c.deref-site-items.result.now) ended ∙ take-length c.deref-site-items.result.now ∙ c.deref-site-items.ensures.value in
     let split = subst (λ ps. IsSplit ps n.classes c.in_ok-ports.ports) c.ports.ensures
     (subst (λ cs. IsSplit c.ports.result.now cs c.in_ok-ports.ports) c.classes.ensures.classes c.in_ok-ports.ensures) in
     placed_row c.args.library.now n c.requires.library c.requires.netlist c.in_ok-ports.ports split c.in_ok-starts.field-0 c.in_ok-starts.ensures
