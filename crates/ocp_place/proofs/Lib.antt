@@ -8,5 +8,6 @@ pub mod Points
 pub mod Lengths
 pub mod RowSteps
 pub mod Groups
+pub mod Models
 pub mod Rowed
 pub mod Reached

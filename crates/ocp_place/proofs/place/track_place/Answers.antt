@@ -16,4 +16,4 @@ returns c =
     (subst (λ cs. IsSplit c.ports.result.now cs c.in_ok-ports.ports) c.classes.ensures.classes c.in_ok-ports.ensures) in
     placed_row c.args.library.now n c.requires.library c.requires.netlist c.in_ok-ports.ports split c.in_ok-starts.field-0 c.in_ok-starts.ensures
     c.loop-site.all.items (c.loop-site.invariant ∙ ap (λ ss. port_sites 0 c.in_ok-ports.ports.signals.items ++ map site_of ss) all)
-    c.in_ok-ends.ends.items c.in_ok-ends.ensures.many c.in_ok-ends.ensures.ends
+    c.in_ok-ends.ends.items (c.in_ok-ends.ensures.many ∙ c.count.ensures) c.in_ok-ends.ensures.ends
