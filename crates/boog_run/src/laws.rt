@@ -1,5 +1,5 @@
 // Laws: what follows of a netlist that is written. They cost nothing when they are called.
-ghost use Rattle.boog_run.specs.Laws.{MappingAgrees, MappingIsSaid};
+ghost use Rattle.boog_run.specs.Laws.{MappingAgrees, MappingIsSaid, NetlistIsWritable, NetlistIsSmall};
 
 use net_view::right_is_well_formed;
 use vbe_words::{catal_is_named, cell_can_be_written, machine_can_be_written, machine_is_named};
@@ -18,4 +18,15 @@ pub fn boog_law()
     cell_can_be_written();
     written_is_a_sentence();
     written_says_the_netlist();
+}
+
+/// A netlist for a machine and of a library that are read can be written, and it has few instances and ports.
+pub fn netlist_law()
+    ensures writable { NetlistIsWritable }
+    ensures small { NetlistIsSmall }
+{
+    machine_is_named();
+    catal_is_named();
+    machine_can_be_written();
+    cell_can_be_written();
 }
