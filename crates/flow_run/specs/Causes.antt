@@ -12,7 +12,8 @@ use Rattle.tool_words.specs.declared.command.FlowCommand.{FlowCommand}
 use Rattle.tool_drive.specs.declared.status.Status.{Status}
 use Rattle.tool_drive.specs.Outside.{Outside, NothingFailed}
 use Rattle.tool_drive.specs.Held.{Holds, AreHad}
-use Rattle.flow_run.specs.Flow.{is_fsm, layout_name, AreRead, IsRefused}
+use Rattle.flow_run.specs.Drawn.{layout_name}
+use Rattle.flow_run.specs.Flow.{is_fsm, AreRead, IsRefused}
 use Rattle.flow_run.specs.RightLayout.{IsRightLayout}
 
 -- The source isn't a state machine's, and SOURCE, the library's CATAL, and the behaviour and the layout of each cell that this uses are
@@ -34,7 +35,7 @@ pub record IsDrawn (old : Files) (now : Option Files) (c : FlowCommand) (report 
   pub l : Library
   pub read : AreRead source catal cells m l
   pub bytes : List ℕ
-  pub written : now ≡ Some (insert old (layout_name c) bytes)
+  pub written : now ≡ Some (insert old (layout_name c.out) bytes)
   pub right : IsRightLayout bytes m l report
 
 -- the layout stands whole, on a shelf that tells its files

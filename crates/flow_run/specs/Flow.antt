@@ -1,5 +1,5 @@
 -- What `flow` reads and answers.
-use Rattle.std.specs.Prelude.{◌≡◌, ℕ, ◌<◌, ◌≤◌, Bool, true, false, List, [], ◌∷◌, ◌++◌, get_or, Option, None, Some, Result, Ok, Err, codes, nat_eq, if◌then◌else◌}
+use Rattle.std.specs.Prelude.{◌≡◌, ℕ, ◌<◌, ◌≤◌, Bool, true, false, List, [], ◌∷◌, get_or, None, Result, Ok, Err, codes, nat_eq, if◌then◌else◌}
 use Rattle.std.specs.List.{ends_with}
 use Rattle.machine_meaning.specs.Machine.{Machine}
 use Rattle.machine_meaning.specs.Size.{machine_size}
@@ -25,14 +25,11 @@ use Rattle.tool_drive.specs.declared.tool.Product.{Product}
 use Rattle.tool_drive.specs.declared.tool.Refusal.{Refusal}
 use Rattle.tool_drive.specs.Plan.{Plan, Inputs, limited}
 use Rattle.tool_drive.specs.Refusals.{OfFile}
-use Rattle.flow_run.specs.RightLayout.{IsRightLayout}
+use Rattle.flow_run.specs.Drawn.{IsDrawnAs}
 
 -- a state machine's source
 abbrev pub is_fsm : FlowCommand → Bool
 is_fsm c = ends_with nat_eq c.source (codes ".fsm")
-
-abbrev pub layout_name : FlowCommand → List ℕ
-layout_name c = c.out ++ codes ".ap"
 
 -- No file where the source is a state machine's. Else SOURCE, then CATAL, and then the files of the cells that CATAL uses.
 abbrev pub flow_plan : FlowCommand → Plan
@@ -40,6 +37,13 @@ flow_plan c = record {
   first = if is_fsm c then [] else limited c.source ∷ limited (catal_name c.library) ∷ [];
   more = λ read. if is_fsm c then [] else cell_files c.library (cells_in (get_or read 1 []));
 }
+
+-- CATAL lists cells, and the source is this machine, which isn't too large.
+pub record IsSourceOf (source catal : List ℕ) (m : Machine) : Type 0 where
+  pub names : List (List ℕ)
+  pub uses : IsCatal catal names
+  pub machine : IsVbe source m
+  pub small : machine_size m ≤ MOST_SIZE
 
 -- The source is this machine, which isn't too large, and CATAL and the files are this library, whose cells may be drawn with tracks.
 pub record AreRead (source catal : List ℕ) (cells : List (List ℕ)) (m : Machine) (l : Library) : Type 0 where
@@ -54,25 +58,26 @@ pub record IsLaidOut (c : FlowCommand) (source catal : List ℕ) (cells : List (
   pub l : Library
   pub read : AreRead source catal cells m l
   pub covered : Covers l m
-  pub bytes : List ℕ
-  pub name : p.name ≡ layout_name c
-  pub file : p.file ≡ Some bytes
-  pub right : IsRightLayout bytes m l p.text
+  pub drawn : IsDrawnAs c.out m l p
 
--- What isn't read, in this order: the lines of CATAL and their number; the source and its ports; the source's size; the first cell that
--- is none.
+-- Why there is no source that can be laid out, in this order: the lines of CATAL and their number; the text of the source and its
+-- ports; its size.
+pub data IsNoSource (c : FlowCommand) (source catal : List ℕ) (s : Status) : Type 0 where
+  no_list : (fault : CatalError) → Refused catal fault → s ≡ status_of (refused fault) → IsNoSource c source catal s
+  no_text : (names : List (List ℕ)) → IsCatal catal names → OfFile c.source (IsVbeRefusal source) s → IsNoSource c source catal s
+  over_size : (names : List (List ℕ)) (m : Machine) → IsCatal catal names → IsVbe source m → MOST_SIZE < machine_size m → s ≡ size_limit m
+      → IsNoSource c source catal s
+
+-- What isn't read: the source; or, where this is read, the first cell of the library that is none.
 pub data IsUnread (c : FlowCommand) (source catal : List ℕ) (cells : List (List ℕ)) (s : Status) : Type 0 where
-  bad_list : (fault : CatalError) → Refused catal fault → s ≡ status_of (refused fault) → IsUnread c source catal cells s
-  bad_source : (names : List (List ℕ)) → IsCatal catal names → OfFile c.source (IsVbeRefusal source) s → IsUnread c source catal cells s
-  too_large : (names : List (List ℕ)) (m : Machine) → IsCatal catal names → IsVbe source m → MOST_SIZE < machine_size m → s ≡ size_limit m
-      → IsUnread c source catal cells s
-  bad_cell : (names : List (List ℕ)) (m : Machine) (e : LibError) → IsCatal catal names → IsVbe source m → machine_size m ≤ MOST_SIZE
+  no_source : IsNoSource c source catal s → IsUnread c source catal cells s
+  no_cell : (m : Machine) (names : List (List ℕ)) (e : LibError) → IsSourceOf source catal m → IsCatal catal names
       → IsFirstRefused (IsCell true) (IsCellRefusal true) (sources names cells) e → s ≡ status_of e → IsUnread c source catal cells s
 
 -- Why a source has no layout: something isn't read, or else a kind is the first of those that are asked for which no usable cell has.
 pub data IsRefused (c : FlowCommand) (source catal : List ℕ) (cells : List (List ℕ)) (s : Status) : Type 0 where
   unread : IsUnread c source catal cells s → IsRefused c source catal cells s
-  no_cover : (m : Machine) (l : Library) (k : Kind) → AreRead source catal cells m l → IsFirstMissing l.cells k (needed (has_registers m))
+  uncovered : (m : Machine) (l : Library) (k : Kind) → AreRead source catal cells m l → IsFirstMissing l.cells k (needed (has_registers m))
       → s ≡ status.NoCover k → IsRefused c source catal cells s
 
 -- the layout is written and the report is printed, or one of these refusals

@@ -1,4 +1,5 @@
 pub mod Report
 pub mod RightLayout
+pub mod Drawn
 pub mod Flow
 pub mod Causes

@@ -1,6 +1,5 @@
 // `flow` as a tool: what it reads, and what it answers.
-ghost use Rattle.std.specs.Prelude.{◌≡◌, ◌<◌, ◌≤◌, true, IfOk, IfErr, codes, length};
-ghost use Rattle.source_meaning.specs.Checks.{most_ports};
+ghost use Rattle.std.specs.Prelude.{◌≡◌, true, IfOk, IfErr, codes};
 ghost use Rattle.cell_lib.specs.Library.{status_of};
 ghost use Rattle.cell_lib.specs.Load.{refused as list_refusal};
 ghost use Rattle.tool_drive.specs.Outside.{outside, IsLine};
@@ -8,13 +7,13 @@ ghost use Rattle.tool_drive.specs.Status.{has_line};
 ghost use Rattle.tool_drive.specs.Lines.{line_of};
 ghost use Rattle.tool_drive.specs.Refusals.{MemoryOr};
 ghost use Rattle.tool_drive.specs.Table.{IsJudged, Caused, IsComplete};
-ghost use Rattle.flow_run.specs.Flow.{is_fsm as is_state_machine, flow_plan, flow_answers, AreRead, IsUnread, LaysOut};
+ghost use Rattle.flow_run.specs.Flow.{is_fsm as is_state_machine, flow_plan, flow_answers, IsSourceOf, AreRead, IsNoSource, IsUnread, LaysOut};
 
 use crate::layout::product;
-use boog_run::{check_size, netlist_of};
+use boog_run::{check_size, netlist_law, netlist_of};
 use catal::{CatalError, read_catal};
 use cell_checks::Library;
-use cell_lib::{catal_file, library_status, named_files, read_library};
+use cell_lib::{catal_file, library_law, library_status, named_files, read_library};
 use machine_core::Machine;
 use std::alloc::{AllocError, Global};
 use tool_drive::{
@@ -80,8 +79,10 @@ fn read_source(
         Ok(machine) => machine,
         Err(error) => return Err(refused(alloc, &command.source, error)),
     };
-    check_size(&machine)?;
-    Ok(machine)
+    match check_size(&machine) {
+        Ok(()) => Ok(machine),
+        Err(status) => Err(status),
+    }
 }
 
 // The machine and the library of the texts, or the status that tells what isn't read.
@@ -95,7 +96,10 @@ fn read_all(
     ensures read { IfOk result (λ r. AreRead source.now catal.now cells.now r.machine r.library) }
     ensures refused { IfErr result (λ s. MemoryOr s (IsUnread command.now source.now catal.now cells.now s)) }
 {
-    let machine = read_source(alloc, command, source, catal)?;
+    let machine = match read_source(alloc, command, source, catal) {
+        Ok(machine) => machine,
+        Err(status) => return Err(status),
+    };
     match read_library(alloc, catal, cells, true) {
         Ok(library) => Ok(Read { machine, library }),
         Err(error) => Err(library_status(error)),
@@ -112,6 +116,9 @@ fn laid_out(
 ) -> Result<Product, Refusal>
     ensures { IsJudged (LaysOut command.now source.now catal.now cells.now) result }
 {
+    // What is read has names that can be written, and is small enough.
+    library_law();
+    netlist_law();
     let read = match read_all(alloc, command, source, catal, cells) {
         Ok(read) => read,
         Err(status) => return Err(Refusal::plain(status)),

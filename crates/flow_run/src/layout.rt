@@ -1,0 +1,72 @@
+// The layout of a netlist: placed in one row, drawn with private tracks, and written.
+ghost use Rattle.std.specs.Prelude.{IfOk, true};
+ghost use Rattle.cell_checks.specs.Checked.{IsChecked as HasPassed};
+ghost use Rattle.nero_tracks.specs.Drawable.{IsDrawableIn};
+ghost use Rattle.route_draw.specs.Drawn.{IsDrawnInTracks};
+ghost use Rattle.flow_run.specs.Drawn.{MayBeDrawn, IsLengthOf, IsDrawnAs};
+
+use crate::report::report;
+use ap_io::{Figure, write_ap, written_is_read_again};
+use cell_checks::Library;
+use machine_core::Machine;
+use nero_tracks::{TrackError, columns_are_free, route_tracks};
+use net_core::Netlist;
+use net_view::right_is_well_formed;
+use ocp_rows::{half_perimeter, track_place};
+use route_draw::{draw_tracks, drawing_can_be_written};
+use std::alloc::{AllocError, Global};
+use tool_drive::Product;
+use vlsi_base::FileName;
+
+/// A drawing, and how long its nets are.
+#[derive(Drop)]
+struct Drawing {
+    figure: Figure,
+    wire: u128,
+}
+
+// The netlist in one row, each net on a track of its own.
+fn drawing(alloc: Global, netlist: &Netlist, library: &Library) -> Result<Drawing, AllocError>
+    requires passed { HasPassed true library.now }
+    requires netlist { IsDrawableIn library.now netlist.now }
+    ensures figure { IfOk result (λ d. IsDrawnInTracks library.now netlist.now d.figure) }
+    ensures wire { IfOk result (λ d. IsLengthOf library.now netlist.now d.wire) }
+{
+    columns_are_free();
+    let placement = track_place(alloc, netlist, library)?;
+    let tracks = match route_tracks(alloc, &placement, netlist, library) {
+        Ok(tracks) => tracks,
+        Err(TrackError::Memory) => return Err(AllocError),
+        Err(TrackError::NoColumn { .. }) => unreachable!(),
+    };
+    Ok(Drawing {
+        figure: draw_tracks(alloc, &placement, netlist, library, &tracks)?,
+        wire: half_perimeter(&placement, library),
+    })
+}
+
+/// The layout of a machine's netlist, in the file NAME.ap, and the report on it. Memory goes by the lines of the layout.
+pub(crate) fn product(
+    alloc: Global,
+    out: &FileName,
+    machine: &Machine,
+    netlist: &Netlist,
+    library: &Library,
+) -> Result<Product, AllocError>
+    requires { MayBeDrawn library.now machine.now netlist.now }
+    ensures { IfOk result (λ p. IsDrawnAs out.now machine.now library.now p) }
+{
+    right_is_well_formed();
+    drawing_can_be_written();
+    written_is_read_again();
+    let drawing = drawing(alloc, netlist, library)?;
+    let file = write_ap(alloc, &drawing.figure)?;
+    let text = report(alloc, machine, netlist, drawing.wire)?;
+    let mut name = out.copy(alloc)?;
+    name.append(b".ap")?;
+    Ok(Product {
+        name,
+        file: Some(file),
+        text,
+    })
+}
