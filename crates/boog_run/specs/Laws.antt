@@ -13,6 +13,7 @@ use Rattle.net_meaning.specs.Netlist.{Netlist as Seen}
 use Rattle.net_meaning.specs.Well.{IsWell}
 use Rattle.net_meaning.specs.Agreement.{Agrees}
 use Rattle.net_view.specs.View.{IsSeenAs}
+use Rattle.net_view.specs.Writable.{HasShortNames}
 use Rattle.vst_text.specs.declared.file.StructuralFile.{StructuralFile}
 use Rattle.vst_text.specs.Vst.{IsStructure}
 use Rattle.vst_again.specs.Says.{Says, IsWithinLimits}
@@ -49,6 +50,12 @@ abbrev pub NetlistIsWritable : Type 0
 NetlistIsWritable =
     (source catal : List ℕ) (cells : List (List ℕ)) (l : Library) (m : Machine) (n : Netlist)
     → IsLibraryOf false catal cells l → IsVbe source m → machine_size m ≤ MOST_SIZE → IsNetlistFor l m n → IsWritable l n
+
+-- Its names have at most 64 bytes, and the numbers of its ports' bits 32 bits.
+abbrev pub NetlistIsShort : Type 0
+NetlistIsShort =
+    (source catal : List ℕ) (cells : List (List ℕ)) (l : Library) (m : Machine) (n : Netlist)
+    → IsLibraryOf false catal cells l → IsVbe source m → machine_size m ≤ MOST_SIZE → IsNetlistFor l m n → HasShortNames n
 
 -- It has at most twice as many instances as a source may weigh, and as ports those of the source and the supplies.
 abbrev pub NetlistIsSmall : Type 0
