@@ -12,11 +12,10 @@ use Rattle.net_meaning.specs.Netlist.{Netlist as Seen}
 use Rattle.net_theory.proofs.Basics.{length-map}
 use Rattle.net_view.specs.View.{IsSeenAs, member_of}
 use Rattle.net_view.specs.Laws.{RightIsWellFormed}
-use Rattle.net_drawing.specs.Law.{one_row}
 use Rattle.ocp_rows.specs.Placement.{net_count}
 use Rattle.ocp_rows.specs.Length.{half_perimeter}
-use Rattle.nero_tracks.specs.Nets.{signal_ports}
-use Rattle.nero_tracks.specs.Drawable.{IsDrawableIn}
+use Rattle.ocp_place.specs.Law.{row_of}
+use Rattle.ocp_place.specs.Drawable.{IsDrawableIn}
 use Rattle.route_draw.specs.Drawn.{IsDrawnInTracks}
 use Rattle.route_draw.specs.Laws.{DrawingCanBeWritten}
 use Rattle.boog_run.specs.Boog.{IsNetlistFor}
@@ -54,7 +53,7 @@ drawable l m n h = record {
 
 -- the numbers of a netlist in memory are those of the netlist that it is seen as
 report_same : (m : Machine) (l : Library) (n : Netlist) (k : Seen) (long : ℕ) → IsSeenAs n k → IsLengthOf l n long
-    → report_by m (length n.instances) (n.count - 2) long 0 ≡ report_of m k l (one_row k (signal_ports k)) 0
+    → report_by m (length n.instances) (n.count - 2) long 0 ≡ report_of m k l (row_of k) 0
 report_same m l n k long seen measured =
     let cells : length k.instances ≡ length n.instances = ap (λ (x : Seen). length x.instances) seen.is ∙ length-map member_of n.instances in
     let nets : net_count k ≡ n.count - 2 = ap (λ (x : Seen). net_count x) seen.is in
@@ -68,7 +67,7 @@ pub right_layout : RightIsWellFormed → DrawingCanBeWritten → WrittenIsReadAg
 right_layout well written again l m n f long report h drawn measured reported =
     let right = h.netlist.right in
     let k = right.sourced.netlist in
-    let p = one_row k (signal_ports k) in
+    let p = row_of k in
     let both = well n l m h.checked right in
     let instances = h.instances in
     let ports = h.ports in

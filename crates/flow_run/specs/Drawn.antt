@@ -10,8 +10,7 @@ use Rattle.net_core.specs.Netlist.{Netlist}
 use Rattle.net_meaning.specs.Netlist.{Netlist as Seen}
 use Rattle.net_view.specs.View.{IsSeenAs}
 use Rattle.net_view.specs.Writable.{CanBeNamed, HasShortNames}
-use Rattle.net_drawing.specs.Law.{one_row}
-use Rattle.nero_tracks.specs.Nets.{signal_ports}
+use Rattle.ocp_place.specs.Law.{row_of}
 use Rattle.ocp_rows.specs.Length.{half_perimeter}
 use Rattle.boog_run.specs.Boog.{IsNetlistFor}
 use Rattle.boog_run.specs.declared.netlist.TheConstants.{MOST_SIZE}
@@ -34,7 +33,7 @@ pub record MayBeDrawn (l : Library) (m : Machine) (n : Netlist) : Type 0 where
 
 -- how long the nets are, in one row
 abbrev pub IsLengthOf : Library → Netlist → ℕ → Type 0
-IsLengthOf l n long = (k : Seen) → IsSeenAs n k → long ≡ half_perimeter k l (one_row k (signal_ports k))
+IsLengthOf l n long = (k : Seen) → IsSeenAs n k → long ≡ half_perimeter k l (row_of k)
 
 -- NAME.ap is a right layout of the machine by this library, and the report on it is printed
 pub record IsDrawnAs (out : List ℕ) (m : Machine) (l : Library) (p : Product) : Type 0 where

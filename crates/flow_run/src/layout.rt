@@ -1,7 +1,7 @@
 // The layout of a netlist: placed in one row, drawn with private tracks, and written.
 ghost use Rattle.std.specs.Prelude.{IfOk, true};
 ghost use Rattle.cell_checks.specs.Checked.{IsChecked as HasPassed};
-ghost use Rattle.nero_tracks.specs.Drawable.{IsDrawableIn};
+ghost use Rattle.ocp_place.specs.Drawable.{IsDrawableIn};
 ghost use Rattle.route_draw.specs.Drawn.{IsDrawnInTracks};
 ghost use Rattle.flow_run.specs.Drawn.{MayBeDrawn, IsLengthOf, IsDrawnAs};
 
@@ -12,7 +12,7 @@ use machine_core::Machine;
 use nero_tracks::{TrackError, columns_are_free, route_tracks};
 use net_core::Netlist;
 use net_view::right_is_well_formed;
-use ocp_rows::{half_perimeter, track_place};
+use ocp_place::{half_perimeter, track_place};
 use route_draw::{draw_tracks, drawing_can_be_written};
 use std::alloc::{AllocError, Global};
 use tool_drive::Product;
@@ -39,10 +39,9 @@ fn drawing(alloc: Global, netlist: &Netlist, library: &Library) -> Result<Drawin
         Err(TrackError::Memory) => return Err(AllocError),
         Err(TrackError::NoColumn { .. }) => unreachable!(),
     };
-    Ok(Drawing {
-        figure: draw_tracks(alloc, &placement, netlist, library, &tracks)?,
-        wire: half_perimeter(&placement, library),
-    })
+    let figure = draw_tracks(alloc, &placement, netlist, library, &tracks)?;
+    let wire = half_perimeter(&placement, library);
+    Ok(Drawing { figure, wire })
 }
 
 /// The layout of a machine's netlist, in the file NAME.ap, and the report on it. Memory goes by the lines of the layout.
