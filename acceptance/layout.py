@@ -155,8 +155,8 @@ def extracted(figure, cells):
         if item[0] == "V" and len(found) == 2:
             vias.append((len(shapes), len(shapes) + 1))
         shapes += [(s.metal, s.box, None if s.pin is None else (None, s.pin)) for s in found]
-    instances = [item for item in figure.items if item[0] == "I"]
-    for _, x, y, model, name, _ in instances:
+    instances = [(item[1], item[2], item[3][0], item[4][0]) for item in figure.items if item[0] == "I"]
+    for x, y, model, name in instances:
         shapes += [(s.metal, moved(s.box, x, y), None if s.pin is None else (name, s.pin)) for s in cells[model].shapes]
     bands, terminals = Bands(shapes), {}
     for a, b in vias:
@@ -164,4 +164,4 @@ def extracted(figure, cells):
     for k, (_, _, terminal) in enumerate(shapes):
         if terminal is not None:
             bands.join(k, terminals.setdefault(terminal, k))
-    return [(item[4], item[3]) for item in instances], {t: bands.find(k) for t, k in terminals.items()}
+    return [(name, model) for _, _, model, name in instances], {t: bands.find(k) for t, k in terminals.items()}
