@@ -1,7 +1,6 @@
 -- From what was read to the files themselves, and back.
-use Rattle.std.proofs.Common.{◌≡◌, ℕ, Bool, true, false, cond, List, [], ◌∷◌, get_or, length, Option, Some, refl, ◌∙◌, ap, subst, arith, leb}
-use Rattle.std.proofs.lemmas.Bool.{cond-true}
-use Rattle.std.proofs.lemmas.Bool.Decides.{nat_tests}
+use Rattle.std.proofs.Common.{◌≡◌, ℕ, Bool, true, false, cond, List, [], ◌∷◌, get_or, length, Option, Some, refl, ◌∙◌, ap, subst, leb}
+use Rattle.std.proofs.lemmas.Bool.{cond-true, le-leb}
 use Rattle.std.specs.FinMap.{get}
 use Rattle.vlsi_shelf.specs.Files.{Files}
 use Rattle.catal.specs.Cells.{cells_in}
@@ -43,9 +42,7 @@ stood files c first more vbe g h =
 
 held_is : (files : Files) (name bytes : List ℕ) → Holds files name bytes → held (get files name) (limited name) ≡ got bytes
 held_is files name bytes h =
-    let fits = h.fits in
-    let short : leb (length bytes) 1048576 ≡ true = grind (arith, nat_tests, fits) in
-    ap (λ (o : Option (List ℕ)). held o (limited name)) h.is ∙ cond-true (leb (length bytes) 1048576) (got bytes) (long 1048576) short
+    ap (λ (o : Option (List ℕ)). held o (limited name)) h.is ∙ cond-true (leb (length bytes) 1048576) (got bytes) (long 1048576) (le-leb (length bytes) 1048576 h.fits)
 
 had_gathers : (files : Files) (ws : List Wanted) (read : List (List ℕ)) → AreHad files ws read → gather files ws ≡ got read
 had_gathers files [] [] h = refl

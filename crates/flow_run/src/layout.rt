@@ -1,9 +1,9 @@
 // The layout of a netlist: placed in one row, drawn with private tracks, and written.
-ghost use Rattle.std.specs.Prelude.{IfOk, true};
+ghost use Rattle.std.specs.Prelude.{◌≡◌, IfOk, true};
 ghost use Rattle.cell_checks.specs.Checked.{IsChecked as HasPassed};
 ghost use Rattle.ocp_place.specs.Drawable.{IsDrawableIn};
 ghost use Rattle.route_draw.specs.Drawn.{IsDrawnInTracks};
-ghost use Rattle.flow_run.specs.Drawn.{MayBeDrawn, IsLengthOf, IsDrawnAs};
+ghost use Rattle.flow_run.specs.Drawn.{layout_name as layout_name_of, MayBeDrawn, IsLengthOf, IsDrawnAs};
 
 use crate::report::report;
 use ap_io::{Figure, write_ap, written_is_read_again};
@@ -44,6 +44,14 @@ fn drawing(alloc: Global, netlist: &Netlist, library: &Library) -> Result<Drawin
     Ok(Drawing { figure, wire })
 }
 
+fn layout_name(alloc: Global, out: &FileName) -> Result<FileName, AllocError>
+    ensures { IfOk result (λ name. name ≡ layout_name_of out.now) }
+{
+    let mut name = out.copy(alloc)?;
+    name.append(b".ap")?;
+    Ok(name)
+}
+
 /// The layout of a machine's netlist, in the file NAME.ap, and the report on it. Memory goes by the lines of the layout.
 pub(crate) fn product(
     alloc: Global,
@@ -61,8 +69,7 @@ pub(crate) fn product(
     let drawing = drawing(alloc, netlist, library)?;
     let file = write_ap(alloc, &drawing.figure)?;
     let text = report(alloc, machine, netlist, drawing.wire)?;
-    let mut name = out.copy(alloc)?;
-    name.append(b".ap")?;
+    let name = layout_name(alloc, out)?;
     Ok(Product {
         name,
         file: Some(file),

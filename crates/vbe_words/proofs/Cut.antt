@@ -1,7 +1,7 @@
 -- The identifiers into which a text is cut are words of at most 64 bytes, and its numbers have 32 bits.
 use Rattle.std.proofs.Common.{◌≡◌, ℕ, zero, suc, ◌+◌, ◌-◌, ◌^◌, ◌<◌, ◌≤◌, arith, ◌==◌, Bool, true, false, ◌||◌, List, [], ◌∷◌, ◌++◌, Option, None, Some, unwrap_or, length, map, take, drop, min, nat_lt, nat_eq, codes, slice_index, refl, if◌then◌else◌}
 use Rattle.std.specs.Prelude.{slice_range}
-use Rattle.std.proofs.lemmas.Bool.Decides.{nat_tests}
+use Rattle.std.proofs.lemmas.Bool.{leb-false, ltb-true}
 use Rattle.std.proofs.lemmas.List.{length-map, length-take}
 use Rattle.std.specs.List.{prefix_len, starts_with}
 use Rattle.std.specs.Char.{is_ascii_alphabetic, is_ascii_digit, to_ascii_lowercase}
@@ -87,7 +87,7 @@ if_string false base o inside p h = h
 -- what is taken of a text is no longer than it was counted
 short_word : (text : List ℕ) (n : ℕ) → nat_lt 64 n ≡ false → length (map to_ascii_lowercase (take n text)) ≤ 64
 short_word text n fits =
-    let few : n ≤ 64 = grind (arith, nat_tests, fits) in
+    let few = leb-false 65 n fits in
     let same = length-map (take n text) to_ascii_lowercase in
     let part = length-take n text in
     omega (arith, few, same, part)
@@ -114,7 +114,7 @@ gives_number text =
     let value = value_of (take n text) in
     let p = piece.Token (token.Number value) n in
     let q = piece.TooGreat (min value (2 ^ 64 - 1)) in
-    either_so (nat_lt value (2 ^ 32)) p q (λ less. gives p (λ line. (grind (arith, nat_tests, less), tt))) (λ _. gives q (λ line. tt))
+    either_so (nat_lt value (2 ^ 32)) p q (λ less. gives p (λ line. (ltb-true value (2 ^ 32) less, tt))) (λ _. gives q (λ line. tt))
 
 gives_comment : (text : List ℕ) → Gives (comment_at text)
 unfolding comment_at

@@ -12,7 +12,7 @@ returns c =
     let m = c.args.machine.now in
     record {
       bytes = c.in_ok-file.file;
-      name = c.in_ok-append.ensures.ok;
+      name = c.in_ok-name.ensures;
       file = refl;
       right = subst (λ (bytes : List ℕ). IsRightLayout bytes m l c.in_ok-text.text) (sym c.in_ok-file.ensures)
           (right_layout c.right_is_well_formed.ensures.known c.drawing_can_be_written.ensures c.written_is_read_again.ensures l m c.args.netlist.now
