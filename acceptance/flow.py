@@ -120,9 +120,9 @@ def agrees(got, wanted):
 # ---- the layout that is written
 
 
-def netlist_of(m, of_name, found, figure):
+def netlist_of(m, of_name, name, flat):
     """The netlist that a layout gives: the net of a class is its port, or else a number."""
-    instances, groups = layout.extracted(figure, found)
+    instances, groups = layout.extracted(flat)
     nets = {}
     for (owner, bit), group in sorted(groups.items(), key=lambda item: (item[0][0] is not None, str(item[0]))):
         if owner is None:
@@ -134,7 +134,7 @@ def netlist_of(m, of_name, found, figure):
         if owner is not None:
             known.setdefault(owner, {})[bit] = nets.setdefault(groups[owner, bit], ("", len(nets)))
     ports = {bit: m.ports.get(bit, IN) for owner, bit in groups if owner is None}
-    return Netlist(figure.name[0], ports, [Instance(name, of_name[model], known.get(name, {})) for name, model in instances])
+    return Netlist(name, ports, [Instance(own, of_name[model], known.get(own, {})) for own, model in instances])
 
 
 def written_faults(words, files, text):
@@ -142,10 +142,15 @@ def written_faults(words, files, text):
     source, folder, _ = parsed(words)
     m, of_name, found = machine_of(held(files, source)), models.library(files, folder), checked(files, folder)
     try:
-        n = netlist_of(m, of_name, found, ap.read(text))
+        figure = ap.read(text)
+        flat = layout.Flat(figure, found)
+        n = netlist_of(m, of_name, figure.name[0], flat)
     except (ap.Refused, Refused, ValueError) as refused:
         return [f"it is refused: {refused}"]
     faults = list(netlist_faults(m, of_name, n))
+    breaches = flat.breaches()
+    if breaches:
+        faults.append(f"{breaches} rules are broken")
     wanted = layout.drawn(n, found).encode()
     if wanted != text:
         lines = list(zip(text.split(b"\n"), wanted.split(b"\n")))
@@ -177,8 +182,9 @@ def run_laid_out(results, room, program, title, files):
     faults = written_faults(WORDS, files, text)
     results.note(f"{title}: the layout", not faults, f"{faults} in {text[:3000]!r} for {files['s.vbe'][:2000]!r}")
     if not faults:
-        m, found = machine_of(files["s.vbe"]), checked(files, "lib")
-        report = layout.report(m, netlist_of(m, models.library(files, "lib"), found, ap.read(text)), found)
+        m, found, figure = machine_of(files["s.vbe"]), checked(files, "lib"), ap.read(text)
+        n = netlist_of(m, models.library(files, "lib"), figure.name[0], layout.Flat(figure, found))
+        report = layout.report(m, n, found)
         results.note(f"{title}: the report", bytes(got[1]) == report.encode(), f"{shown(*got)} is not {report!r}")
 
 

@@ -1,18 +1,17 @@
 """A second drawing of netlists by private tracks, and a second reading of layouts, written from docs/FORMATS.md.
 
-`drawn(n, cells)` gives the lines of the layout of a netlist, `report(m, n, cells)` the report on it, and `extracted(figure, cells)`
-the instances of a layout with the group of joined shapes of each terminal. A netlist is one of vst.py; cells are those of
-cellcheck.py by their names.
+`drawn(n, cells)` gives the lines of the layout of a netlist, `report(m, n, cells)` the report on it. `Flat(figure, cells)` has all
+rectangles of a layout: `extracted` gives its instances with the group of joined shapes of each terminal, `breaches` how many rules
+it breaks. A netlist is one of vst.py; cells are those of cellcheck.py by their names.
 """
 
 import itertools
 
 import cellcheck
 from mapping import machine_size
-from models import OUT
 from vhdl_reader import SUPPLIES, spelled
 
-FIRST, COLUMN, HEIGHT, TRACK = 1500, 500, 5000, 5500
+FIRST, COLUMN, TRACK, GAP = 1500, 500, 5500, 200
 RAILS, STRAPS = {"vss": 300, "vdd": 4700}, {"vss": 500, "vdd": 1000}
 
 
@@ -145,23 +144,96 @@ def moved(box, x, y):
     return box[0] + x, box[1] + y, box[2] + x, box[3] + y
 
 
-def extracted(figure, cells):
+class Shown:
+    """A rectangle of a layout: the instance that it belongs to or None, and its terminal where it is a connector."""
+
+    def __init__(self, shape, owner, x, y):
+        self.metal, self.box, self.owner = shape.metal, moved(shape.box, x, y), owner
+        self.terminal = None if shape.pin is None else (owner, shape.pin)
+
+
+class Flat:
+    """All rectangles of a layout, those of the figure first, and which of them are joined."""
+
+    def __init__(self, figure, cells):
+        self.shapes, vias = [], []
+        self.instances = [(item[1], item[2], item[3][0], item[4][0]) for item in figure.items if item[0] == "I"]
+        for item in figure.items:
+            found = [] if item[0] == "I" else [Shown(s, None, 0, 0) for s in cellcheck.shapes(One(item))]
+            if item[0] == "V" and found:
+                vias.append((len(self.shapes), len(self.shapes) + 1))
+            self.shapes += found
+        for x, y, model, name in self.instances:
+            self.shapes += [Shown(s, name, x, y) for s in cells[model].shapes]
+        self.bands, self.terminals = Bands([(s.metal, s.box, None) for s in self.shapes]), {}
+        for a, b in vias:
+            self.bands.join(a, b)
+        for k, shape in enumerate(self.shapes):
+            if shape.terminal is not None:
+                self.bands.join(k, self.terminals.setdefault(shape.terminal, k))
+
+    def are_joined(self, a, b):
+        return self.bands.find(a) == self.bands.find(b)
+
+    # the rules
+
+    def near(self):
+        """Pairs of one metal that lie less than the gap apart, the first before the second."""
+        buckets, met = {}, set()
+        for k, shape in enumerate(self.shapes):
+            for column in range((shape.box[0] - GAP) // COLUMN, (shape.box[2] + GAP) // COLUMN + 1):
+                buckets.setdefault((shape.metal, column), []).append(k)
+        for members in buckets.values():
+            members.sort(key=lambda k: self.shapes[k].box[1])
+            for at, k in enumerate(members):
+                for other in members[at + 1 :]:
+                    if self.shapes[other].box[1] - self.shapes[k].box[3] >= GAP:
+                        break
+                    if cellcheck.gap(self.shapes[k].box, self.shapes[other].box) < GAP:
+                        met.add((min(k, other), max(k, other)))
+        return met
+
+    def lies_on_pin(self, a, b):
+        """One is drawn, and lies within a connector of the other's instance."""
+        one, other = self.shapes[a], self.shapes[b]
+        if one.owner is not None or other.owner is None:
+            return False
+        pins = (s for s in self.shapes if s.owner == other.owner and s.terminal is not None and s.metal == one.metal)
+        return any(cellcheck.holds(pin.box, one.box) for pin in pins)
+
+    def is_covered(self, a, b, touching):
+        """The first lies within a third rectangle that touches the second."""
+        return any(cellcheck.holds(self.shapes[c].box, self.shapes[a].box) for c in touching.get(b, ()) if c != a)
+
+    def breaches(self):
+        """How many rules are broken: rectangles that are too narrow, and pairs that are too near."""
+        drawn = [s for s in self.shapes if s.owner is None]
+        count = sum(min(s.box[2] - s.box[0], s.box[3] - s.box[1]) < GAP for s in drawn)
+        near, touching = self.near(), {}
+        for a, b in near:
+            if cellcheck.gap(self.shapes[a].box, self.shapes[b].box) == 0:
+                touching.setdefault(a, set()).add(b)
+                touching.setdefault(b, set()).add(a)
+        return count + sum(self.is_breach(a, b, touching) for a, b in near)
+
+    def is_breach(self, a, b, touching):
+        one, other = self.shapes[a], self.shapes[b]
+        if cellcheck.gap(one.box, other.box) == 0 or (one.owner is not None and one.owner == other.owner):
+            return False
+        if (one.owner is not None or other.owner is not None) and self.are_joined(a, b):
+            return False
+        if self.lies_on_pin(a, b) or self.lies_on_pin(b, a):
+            return False
+        return not (self.is_covered(a, b, touching) or self.is_covered(b, a, touching))
+
+
+class One:
+    """A figure of one item."""
+
+    def __init__(self, item):
+        self.items = [item]
+
+
+def extracted(flat):
     """The instances as (name, model), and the terminals, (None or an instance, bit), with the group of each."""
-    shapes, vias = [], []
-    for item in figure.items:
-        if item[0] == "I":
-            continue
-        found = list(cellcheck.shapes(type("One", (), {"items": [item]})))
-        if item[0] == "V" and len(found) == 2:
-            vias.append((len(shapes), len(shapes) + 1))
-        shapes += [(s.metal, s.box, None if s.pin is None else (None, s.pin)) for s in found]
-    instances = [(item[1], item[2], item[3][0], item[4][0]) for item in figure.items if item[0] == "I"]
-    for x, y, model, name in instances:
-        shapes += [(s.metal, moved(s.box, x, y), None if s.pin is None else (name, s.pin)) for s in cells[model].shapes]
-    bands, terminals = Bands(shapes), {}
-    for a, b in vias:
-        bands.join(a, b)
-    for k, (_, _, terminal) in enumerate(shapes):
-        if terminal is not None:
-            bands.join(k, terminals.setdefault(terminal, k))
-    return [(name, model) for _, _, model, name in instances], {t: bands.find(k) for t, k in terminals.items()}
+    return [(name, model) for _, _, model, name in flat.instances], {t: flat.bands.find(k) for t, k in flat.terminals.items()}
