@@ -17,7 +17,7 @@ use Rattle.ocp_rows.specs.Length.{half_perimeter}
 use Rattle.ocp_place.specs.Law.{row_of}
 use Rattle.ocp_place.specs.Drawable.{IsDrawableIn}
 use Rattle.route_draw.specs.Drawn.{IsDrawnInTracks}
-use Rattle.route_draw.specs.Laws.{DrawingCanBeWritten}
+use Rattle.route_draw.specs.Law.{DrawingCanBeWritten}
 use Rattle.boog_run.specs.Boog.{IsNetlistFor}
 use Rattle.boog_run.specs.Laws.{NetlistIsWritable, NetlistIsSmall, NetlistIsShort}
 use Rattle.flow_run.specs.Report.{report_by, report_of}
