@@ -23,7 +23,6 @@ use Rattle.net_meaning.specs.Netlist.{Member, Netlist as Seen}
 use Rattle.net_meaning.specs.Agreement.{register_instance}
 use Rattle.net_meaning.specs.Well.{gate_instance, buffer_instance}
 use Rattle.net_theory.proofs.Basics.{length-map}
-use Rattle.net_view.specs.View.{member_of}
 use Rattle.net_view.specs.Writable.{IsShort, HasShortNames}
 use Rattle.net_view.proofs.Lists.{in_place}
 use Rattle.ocp_rows.specs.Order.{IsInNetlistOrder}

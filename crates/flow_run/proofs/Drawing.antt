@@ -1,5 +1,5 @@
 -- A netlist that may be drawn, once it is drawn, is a right layout.
-use Rattle.std.proofs.Common.{◌≡◌, ℕ, ◌-◌, true, List, map, length, Some, refl, sym, ◌∙◌, ap, subst, arith}
+use Rattle.std.proofs.Common.{◌≡◌, ℕ, ◌-◌, true, List, length, Some, refl, sym, ◌∙◌, ap, arith}
 use Rattle.vlsi_base.specs.Names.{scalar}
 use Rattle.machine_meaning.specs.Machine.{Machine}
 use Rattle.ap_io.specs.declared.figure.Figure.{Figure}
@@ -13,7 +13,6 @@ use Rattle.net_theory.proofs.Basics.{length-map}
 use Rattle.net_view.specs.View.{IsSeenAs, member_of}
 use Rattle.net_view.specs.Laws.{RightIsWellFormed}
 use Rattle.ocp_rows.specs.Placement.{net_count}
-use Rattle.ocp_rows.specs.Length.{half_perimeter}
 use Rattle.ocp_place.specs.Law.{row_of}
 use Rattle.ocp_place.specs.Drawable.{IsDrawableIn}
 use Rattle.route_draw.specs.Drawn.{IsDrawnInTracks}

@@ -1,5 +1,5 @@
 -- From what was read to the files themselves, and back.
-use Rattle.std.proofs.Common.{◌≡◌, ℕ, Bool, true, false, cond, List, [], ◌∷◌, get_or, length, Option, Some, refl, ◌∙◌, ap, subst, leb}
+use Rattle.std.proofs.Common.{◌≡◌, ℕ, Bool, false, cond, List, [], ◌∷◌, get_or, length, Option, refl, ◌∙◌, ap, subst, leb}
 use Rattle.std.proofs.lemmas.Bool.{cond-true, le-leb}
 use Rattle.std.specs.FinMap.{get}
 use Rattle.vlsi_shelf.specs.Files.{Files}
@@ -7,7 +7,7 @@ use Rattle.catal.specs.Cells.{cells_in}
 use Rattle.cell_lib.specs.Files.{catal_name, cell_files}
 use Rattle.tool_words.specs.declared.command.FlowCommand.{FlowCommand}
 use Rattle.tool_drive.specs.declared.tool.Wanted.{Wanted}
-use Rattle.tool_drive.specs.Plan.{Inputs, inputs, got, long, limited, held, gather, reading}
+use Rattle.tool_drive.specs.Plan.{inputs, got, long, limited, held, gather, reading}
 use Rattle.tool_drive.specs.Held.{Holds, AreHad, are_had, holds}
 use Rattle.flow_run.specs.Flow.{is_fsm, flow_plan}
 use Rattle.flow_run.specs.Causes.{Stand}

@@ -18,15 +18,15 @@ use std::alloc::{AllocError, Global};
 use tool_drive::Product;
 use vlsi_base::FileName;
 
-/// A drawing, and how long its nets are.
+/// What is drawn, and how long its nets are.
 #[derive(Drop)]
-struct Drawing {
+struct Sheet {
     figure: Figure,
     wire: u128,
 }
 
 // The netlist in one row, each net on a track of its own.
-fn drawing(alloc: Global, netlist: &Netlist, library: &Library) -> Result<Drawing, AllocError>
+fn drawing(alloc: Global, netlist: &Netlist, library: &Library) -> Result<Sheet, AllocError>
     requires passed { HasPassed true library.now }
     requires netlist { IsDrawableIn library.now netlist.now }
     ensures figure { IfOk result (λ d. IsDrawnInTracks library.now netlist.now d.figure) }
@@ -41,7 +41,7 @@ fn drawing(alloc: Global, netlist: &Netlist, library: &Library) -> Result<Drawin
     };
     let figure = draw_tracks(alloc, &placement, netlist, library, &tracks)?;
     let wire = half_perimeter(&placement, library);
-    Ok(Drawing { figure, wire })
+    Ok(Sheet { figure, wire })
 }
 
 fn layout_name(alloc: Global, out: &FileName) -> Result<FileName, AllocError>
@@ -66,9 +66,9 @@ pub(crate) fn product(
     right_is_well_formed();
     drawing_can_be_written();
     written_is_read_again();
-    let drawing = drawing(alloc, netlist, library)?;
-    let file = write_ap(alloc, &drawing.figure)?;
-    let text = report(alloc, machine, netlist, drawing.wire)?;
+    let sheet = drawing(alloc, netlist, library)?;
+    let file = write_ap(alloc, &sheet.figure)?;
+    let text = report(alloc, machine, netlist, sheet.wire)?;
     let name = layout_name(alloc, out)?;
     Ok(Product {
         name,

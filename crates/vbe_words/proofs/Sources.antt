@@ -16,7 +16,7 @@ use Rattle.grammar_theory.specs.Grammar.{Grammar}
 use Rattle.grammar_theory.specs.declared.limits.TheConstants.{DEPTH}
 use Rattle.vhdl_front.specs.Cursor.{name_of, number_of}
 use Rattle.vhdl_front.specs.Expression.{number}
-use Rattle.vhdl_front.specs.Entity.{Names, new_name, identifier, declared, another, led_names, declared_here, own_names, names, bounds, width, range, scalar, vector, port_type, registered, signal_type, closed, port_behind, port, next_port, port_clause, entity_head, ending, entity, signal, declarations}
+use Rattle.vhdl_front.specs.Entity.{Names, new_name, identifier, declared, another, led_names, declared_here, own_names, names, bounds, range, scalar, vector, port_type, registered, signal_type, closed, port_behind, port, next_port, port_clause, entity_head, ending, entity, signal, declarations}
 use Rattle.source_meaning.specs.declared.statement.DesignFile.{DesignFile}
 use Rattle.source_meaning.specs.declared.symbol_table.Role.{Role}
 use Rattle.source_meaning.specs.declared.symbol_table.Symbol.{Symbol}

@@ -16,5 +16,5 @@ returns c =
       file = refl;
       right = subst (λ (bytes : List ℕ). IsRightLayout bytes m l c.in_ok-text.text) (sym c.in_ok-file.ensures)
           (right_layout c.right_is_well_formed.ensures.known c.drawing_can_be_written.ensures c.written_is_read_again.ensures l m c.args.netlist.now
-          c.in_ok-drawing.drawing.figure c.in_ok-drawing.drawing.wire c.in_ok-text.text c.requires c.in_ok-drawing.ensures.figure c.in_ok-drawing.ensures.wire c.in_ok-text.ensures);
+          c.in_ok-sheet.sheet.figure c.in_ok-sheet.sheet.wire c.in_ok-text.text c.requires c.in_ok-sheet.ensures.figure c.in_ok-sheet.ensures.wire c.in_ok-text.ensures);
     }

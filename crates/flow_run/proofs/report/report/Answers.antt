@@ -1,4 +1,4 @@
-use Rattle.std.proofs.Common.{[], ◌∷◌, ◌++◌, codes, length, map}
+use Rattle.std.proofs.Common.{[], ◌∷◌, ◌++◌, codes, length}
 use Rattle.std.specs.Prelude.{◌-◌}
 use Rattle.machine_meaning.specs.Size.{machine_size}
 use Rattle.ap_io.proofs.Pieces.{put_all_is}
