@@ -223,6 +223,14 @@ def check_chain(results, program, signals):
         run_laid_out(results, room, program, f"a chain of {signals}", {**of_cells(FIVE), "s.vbe": chain(signals)})
 
 
+def check_ports(results, program, bits):
+    """At the limit of port bits, and one past it."""
+    head = f"entity wide is port (i : in bit_vector ({bits - 2} downto 0); o : out bit; vdd : in bit; vss : in bit); end wide;\n"
+    source = f"{head}architecture vbe of wide is begin\no <= not i(0);\nend vbe;\n".encode()
+    with Room() as room:
+        run_laid_out(results, room, program, f"{bits} port bits", {**of_cells(FIVE), "s.vbe": source})
+
+
 def check_examples(results, program):
     for path in sorted(EXAMPLES.glob("*/*.vbe")):
         for names in (FIVE, [line.split()[0] for line in (HERE.parent / "cells/CATAL").read_text().splitlines()]):
@@ -250,6 +258,8 @@ def check_words(results, program):
 def jobs(program, seed, times):
     yield check_chain, (program, 16382)
     yield check_chain, (program, 16383)
+    yield check_ports, (program, 4096)
+    yield check_ports, (program, 4097)
     numbers = range(MACHINES * times)
     for at in range(0, len(numbers), CHUNK):
         yield check_machines, (program, seed, numbers[at : at + CHUNK])
