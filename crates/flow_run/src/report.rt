@@ -11,13 +11,13 @@ use net_core::Netlist;
 use std::alloc::{AllocError, Global};
 use vlsi_base::{FileBytes, Name, Text};
 
-fn source_line(out: &mut FileBytes, name: &Text) -> Result<(), AllocError>
-    ensures { OnOk result (out.new ≡ out.old ++ source_line_of name.now) }
+fn source_line(alloc: Global, name: &Text) -> Result<FileBytes, AllocError>
+    ensures { IfOk result (λ text. text ≡ source_line_of name.now) }
 {
-    out.append(b"source ")?;
+    let mut out = FileBytes::from_bytes(alloc, b"source ")?;
     out.append(name.as_bytes())?;
     out.append(b"\n")?;
-    Ok(())
+    Ok(out)
 }
 
 fn count_line(
@@ -67,6 +67,35 @@ fn register_lines(
     Ok(())
 }
 
+// The source and its registers.
+fn head(alloc: Global, machine: &Machine) -> Result<FileBytes, AllocError>
+    ensures { IfOk result (λ text. text ≡ source_line_of machine.now.name ++ register_lines_of 0 machine.now.registers) }
+{
+    let mut out = source_line(alloc, machine.name())?;
+    register_lines(alloc, &mut out, machine.registers().as_slice())?;
+    Ok(out)
+}
+
+fn size(machine: &Machine) -> u128
+    requires { size_of machine.now ≤ MOST_SIZE }
+    ensures { result ≡ size_of machine.now }
+{
+    u128::from(machine_size(machine))
+}
+
+fn cells(netlist: &Netlist) -> u128
+    ensures { result ≡ length netlist.now.instances }
+{
+    netlist.nodes().len() as u128
+}
+
+// The classes but those of vdd and vss.
+fn nets(netlist: &Netlist) -> u128
+    ensures { result ≡ netlist.now.count - 2 }
+{
+    u128::from(netlist.count().saturating_sub(2))
+}
+
 /// The report on a layout of the machine with this netlist, whose nets are so long, and which breaks no rule. Memory goes by the text.
 pub(crate) fn report(
     alloc: Global,
@@ -77,14 +106,10 @@ pub(crate) fn report(
     requires { size_of machine.now ≤ MOST_SIZE }
     ensures { IfOk result (λ text. text ≡ report_by machine.now (length netlist.now.instances) (netlist.now.count - 2) wire 0) }
 {
-    let mut out = FileBytes::new(Vec::new(alloc));
-    source_line(&mut out, machine.name())?;
-    register_lines(alloc, &mut out, machine.registers().as_slice())?;
-    let cells = netlist.nodes().len() as u64;
-    let nets = netlist.count().saturating_sub(2);
-    count_line(alloc, &mut out, b"size", u128::from(machine_size(machine)))?;
-    count_line(alloc, &mut out, b"cells", u128::from(cells))?;
-    count_line(alloc, &mut out, b"nets", u128::from(nets))?;
+    let mut out = head(alloc, machine)?;
+    count_line(alloc, &mut out, b"size", size(machine))?;
+    count_line(alloc, &mut out, b"cells", cells(netlist))?;
+    count_line(alloc, &mut out, b"nets", nets(netlist))?;
     count_line(alloc, &mut out, b"length", wire)?;
     count_line(alloc, &mut out, b"breaches", 0)?;
     out.append(b"accepted\n")?;
