@@ -15,7 +15,7 @@ pub returns-in-Ok-read_library-clause-read : goal.returns-in-Ok-read_library-cla
 returns-in-Ok-read_library-clause-read c =
     record { machine = c.in-Ok.ensures.accepted.machine; small = c.in-Ok.ensures.accepted.small; library = c.in-Ok-read_library.ensures.ok }
 
-pub returns-clause-refused : goal.returns-clause-refused
-returns-clause-refused c =
+pub returns-in-Err-read_library-clause-refused : goal.returns-in-Err-read_library-clause-refused
+returns-in-Err-read_library-clause-refused c =
     subst (λ (s : Status). MemoryOr s (IsUnread c.args.command.now c.args.source.now c.args.catal.now c.args.cells.now s)) (sym c.library_status.ensures)
     (by_cell c.args.command.now c.args.source.now c.args.catal.now c.args.cells.now c.in-Ok.machine c.in-Err-read_library.error c.in-Ok.ensures.accepted c.in-Err-read_library.ensures.err)

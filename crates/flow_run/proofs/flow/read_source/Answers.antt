@@ -23,7 +23,7 @@ returns-in-Ok-check_size-clause-accepted c = record {
   small = c.in-Ok-check_size.ensures.small;
 }
 
-pub returns-clause-refused : goal.returns-clause-refused
-returns-clause-refused c =
+pub returns-in-Err-check_size-clause-refused : goal.returns-in-Err-check_size-clause-refused
+returns-in-Err-check_size-clause-refused c =
     by_size c.args.command.now c.args.source.now c.args.catal.now c.in-Ok.field-0 c.in-Ok-read_vbe.machine c.in-Err-check_size.status c.in-Ok.ensures.accepted
     c.in-Ok-read_vbe.ensures.accepted c.in-Err-check_size.ensures.large.0 c.in-Err-check_size.ensures.large.1

@@ -3,8 +3,8 @@ use Rattle.flow_run.specs.RightLayout.{IsRightLayout}
 use Rattle.flow_run.proofs.Drawing.{drawable, right_layout}
 use Rattle.flow_run.proofs.layout.product.Goals as goal
 
-pub drawing-requires-netlist : goal.drawing-requires-netlist
-drawing-requires-netlist c = drawable c.args.library.now c.args.machine.now c.args.netlist.now c.requires
+pub drawing-requires-clause-netlist : goal.drawing-requires-clause-netlist
+drawing-requires-clause-netlist c = drawable c.args.library.now c.args.machine.now c.args.netlist.now c.requires
 
 pub returns : goal.returns
 returns c =
