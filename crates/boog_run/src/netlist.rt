@@ -37,11 +37,7 @@ pub fn check_size(machine: &Machine) -> Result<(), Status>
 
 /// A netlist of the library's cells for the machine, or the status that tells why there is none: `Limit` of `Size`, `NoCover`, or out
 /// of memory.
-pub fn netlist_of(
-    alloc: Global,
-    machine: &Machine,
-    library: &Library,
-) -> Result<Netlist, Status>
+pub fn netlist_of(alloc: Global, machine: &Machine, library: &Library) -> Result<Netlist, Status>
     requires { length machine.now.ports ≤ most_ports }
     ensures right { IfOk result (λ n. IsNetlistFor library.now machine.now n) }
     ensures small { OnOk result (size_of machine.now ≤ MOST_SIZE) }
