@@ -1,6 +1,7 @@
 -- The stages of extraction: shapes, numbers of joined ones, connectors with these numbers, pairs of joined terminals.
 use Rattle.std.specs.Prelude.{◌≡◌, ◌↔◌, ℕ, ◌<◌, ◌≤◌, Bool, true, false, not, ◌&&◌, List, [], ◌∷◌, ◌++◌, map, length, Option, None, Some, MatchOption, slice_get, slice_index_or, replicate, unwrap_or, take}
 use Rattle.std.specs.List.{All, list_any}
+use Rattle.std.specs.List.Sorted.{IsPermutation}
 use Rattle.vlsi_base.specs.declared.name.Name.{Name}
 use Rattle.vlsi_base.specs.declared.name.Port.{Port}
 use Rattle.vlsi_base.specs.declared.name.Dir.{Dir}
@@ -17,7 +18,7 @@ use Rattle.cell_model.specs.Cell.{Cell, pin_ports}
 use Rattle.cell_model.specs.Library.{Library, cell_of}
 use Rattle.cell_model.specs.Layout.{instances_of}
 use Rattle.net_core.specs.Places.{IsThere, position_of}
-use Rattle.net_core.specs.Netlist.{Instance, port}
+use Rattle.net_core.specs.Netlist.{Instance, port, AreInOrder}
 use Rattle.net_core.specs.Joins.{Draft, terminal_at}
 use Rattle.cougar_extract.specs.declared.error.ExtractError.{ExtractError}
 use Rattle.cougar_extract.specs.declared.error.ExtractError.TheVariants as error
@@ -101,6 +102,13 @@ dir_by (Some k) = dir.Out
 
 abbrev pub port_by : List (List ℕ) → Name → Port
 port_by texts name = record { name = name; dir = dir_by (position_of texts name.text) }
+
+-- These are the ports of these names, in the order of names, and those are outputs that an output pin drives.
+pub record ArePortsBy (names : List Name) (links : List Link) (ports : List Port) : Type 0 where
+  pub texts : List (List ℕ)
+  pub driven : AreDrivenTexts links texts
+  pub moved : IsPermutation (map (port_by texts) names) ports
+  pub ordered : AreInOrder (map (λ p. p.name) ports)
 
 -- ---- pairs of joined terminals
 

@@ -1,0 +1,35 @@
+// Cells by their names, and which of their connectors are output pins.
+ghost use Rattle.std.specs.Prelude.{◌≡◌};
+ghost use Rattle.std.specs.Option.{option_copied};
+ghost use Rattle.cell_model.specs.Library.{cell_named};
+ghost use Rattle.cougar_extract.specs.Stages.{is_output as gives};
+
+use cell_model::Cell;
+use vlsi_base::{Dir, Name, Text};
+
+/// The first cell of this name. Takes time for each cell.
+pub(crate) fn cell_of<'c>(cells: &'c [Cell], model: &Text) -> Option<&'c Cell>
+    ensures { option_copied result ≡ cell_named cells.now model.now }
+{
+    for cell in cells {
+        if cell.name.is_same(model) {
+            return Some(cell);
+        }
+    }
+    None
+}
+
+/// Whether a connector of this name is an output pin.
+pub(crate) fn is_output(cell: &Cell, name: Option<&Name>) -> bool
+    ensures { result ≡ gives cell.now (option_copied name) }
+{
+    let Some(name) = name else {
+        return false;
+    };
+    for pin in cell.pins.as_slice() {
+        if pin.port.dir == Dir::Out && pin.port.name.is_same(name) {
+            return true;
+        }
+    }
+    false
+}

@@ -1,0 +1,74 @@
+// Connectors, with the numbers of their joined shapes.
+ghost use Rattle.std.specs.Prelude.{◌≡◌, ◌<◌, ◌^◌, length, IfOk};
+ghost use Rattle.std.specs.Option.{option_copied};
+ghost use Rattle.sym_shapes.specs.Joints.{NumbersBelow};
+ghost use Rattle.cougar_extract.specs.Stages.{AreLinks, AreBelow, AreLeaders};
+
+use crate::drawing::Drawing;
+use std::alloc::{AllocError, Global};
+use vlsi_base::{Name, Terminal, Text};
+
+/// A connector: the number that its shape has with all that it is joined to, its terminal, and whether this is an output pin of an
+/// instance.
+#[derive(Drop)]
+pub(crate) struct Link {
+    pub(crate) number: u32,
+    pub(crate) terminal: Terminal,
+    pub(crate) gives: bool,
+}
+
+/// The terminal that a shape with this name shows.
+fn terminal(alloc: Global, owner: Option<&Text>, name: &Name) -> Result<Terminal, AllocError>
+    ensures { IfOk result (λ made. made ≡ record { instance = option_copied owner; pin = name.now }) }
+{
+    let instance = match owner {
+        Some(owner) => Some(owner.copy(alloc)?),
+        None => None,
+    };
+    Ok(Terminal {
+        instance,
+        pin: name.copy(alloc)?,
+    })
+}
+
+/// The connectors of a layout, in the order of its shapes. Takes memory for their names.
+pub(crate) fn links(
+    alloc: Global,
+    drawing: &Drawing,
+    numbers: &[u32],
+) -> Result<Vec<Link>, AllocError>
+    requires numbers { length numbers.now ≡ length drawing.now.shapes.items }
+    requires gives { length drawing.now.gives.items ≡ length drawing.now.shapes.items }
+    requires below { NumbersBelow numbers.now }
+    ensures links { IfOk result (λ links. AreLinks drawing.now.shapes.items numbers.now drawing.now.gives.items (length drawing.now.shapes.items) links.items) }
+    ensures below { IfOk result (λ links. AreBelow links.items (length drawing.now.shapes.items)) }
+{
+    let mut links = Vec::new(alloc);
+    for k in 0..drawing.shapes.len() {
+        let shape = &drawing.shapes[k];
+        if let Some(name) = shape.name() {
+            links.push(Link {
+                number: numbers[k],
+                terminal: terminal(alloc, shape.owner(), name)?,
+                gives: drawing.gives[k],
+            })?;
+        }
+    }
+    Ok(links)
+}
+
+/// For each number that a connector has the place of the last such. Takes memory for `count` places.
+pub(crate) fn leaders(
+    alloc: Global,
+    links: &[Link],
+    count: usize,
+) -> Result<Vec<usize>, AllocError>
+    requires { AreBelow links.now count }
+    ensures { IfOk result (λ places. AreLeaders links.now places.items) }
+{
+    let mut places = vec![in alloc; 0; count]?;
+    for k in 0..links.len() {
+        places[links[k].number as usize] = k;
+    }
+    Ok(places)
+}
