@@ -12,18 +12,21 @@ use Rattle.machine_meaning.specs.Machine.{is_input}
 use Rattle.machine_meaning.specs.Named.{is_same_name}
 use Rattle.sym_geom.specs.declared.item.Instance.{Instance as Placed}
 use Rattle.sym_geom.specs.declared.item.Item.{Item}
-use Rattle.sym_shapes.specs.Shape.{Shape, drawn}
+use Rattle.sym_shapes.specs.Shape.{Shape, drawn, connector_names}
+use Rattle.sym_shapes.specs.Joints.{NumbersJoined}
 use Rattle.sym_shapes.specs.Joined.{Shows}
+use Rattle.ap_io.specs.declared.figure.Figure.{Figure}
 use Rattle.cell_model.specs.Cell.{Cell, pin_ports}
 use Rattle.cell_model.specs.Library.{Library, cell_of}
 use Rattle.cell_model.specs.Layout.{instances_of}
 use Rattle.net_core.specs.Places.{IsThere, position_of}
-use Rattle.net_core.specs.Netlist.{Instance, port, AreInOrder}
-use Rattle.net_core.specs.Joins.{Draft, terminal_at}
+use Rattle.net_core.specs.Netlist.{Instance, Netlist, IsNetlist, HasClass, port, AreInOrder}
+use Rattle.net_core.specs.Joins.{Draft, Joined}
 use Rattle.cougar_extract.specs.declared.error.ExtractError.{ExtractError}
 use Rattle.cougar_extract.specs.declared.error.ExtractError.TheVariants as error
 use Rattle.cougar_extract.specs.declared.links.Link.{Link}
-use Rattle.cougar_extract.specs.Refused.{IsFirstUnknown}
+use Rattle.cougar_extract.specs.Extracted.{figure_text, instance_of, pins_of_cell}
+use Rattle.cougar_extract.specs.Refused.{IsFirstUnknown, IsChainOf}
 
 -- ---- shapes, and which of them are output pins
 
@@ -70,6 +73,14 @@ pub record AreLinks (shapes : List Shape) (numbers : List ℕ) (outputs : List B
 -- each number is below a count
 abbrev pub AreBelow : List Link → ℕ → Type 0
 AreBelow links count = All (λ x. x.number < count) links
+
+-- Each connector is one of the figure, whose name it has, or one of an instance, of which it is a pin.
+pub data IsTerminalOf (items : List Item) (l : Library) (t : Terminal) : Type 0 where
+  of_figure : t.instance ≡ None → In t.pin (connector_names items) → IsTerminalOf items l t
+  of_instance : (i : Placed) → In i (instances_of items) → t.instance ≡ Some i.name → In t.pin (pins_of_cell (cell_of l i.model)) → IsTerminalOf items l t
+
+abbrev pub AreTerminals : List Item → Library → List Link → Type 0
+AreTerminals items l links = (x : Link) → In x links → IsTerminalOf items l x.terminal
 
 -- ---- directions of ports
 
@@ -168,3 +179,29 @@ AreNext classes from next = (c : ℕ) → c < length next → IsNext classes fro
 abbrev pub IsShownAt : List Shape → Name → Option ℕ → Type 0
 IsShownAt shapes name None = All (λ s. Shows (port name) s → ⊥) shapes
 IsShownAt shapes name (Some k) = (s : Shape) × (slice_get shapes k ≡ Some s) × Shows (port name) s
+
+-- ---- the netlist of the connectors
+
+-- What is known of a netlist that was built of a figure's names and instances and of its connectors: two terminals have one class
+-- exactly where pairs of connectors with one number join them.
+pub record IsBuilt (f : Figure) (l : Library) (links : List Link) (n : Netlist) : Type 0 where
+  pub sound : IsNetlist n
+  pub name : n.name ≡ figure_text f.name
+  pub names : List Name
+  pub same : (name : Name) → In name names ↔ In name (connector_names f.items)
+  pub ports : ArePortsBy names links n.ports
+  pub instances : n.instances ≡ map (instance_of l) (instances_of f.items)
+  pub places : List ℕ
+  pub led : AreLeaders links places
+  pub classes : (a b : Terminal) (j k : ℕ) → HasClass n a j → HasClass n b k → (j ≡ k) ↔ Joined (map (join_of links places) links) a b
+
+-- what is known of the connectors of a layout
+pub record AreConnected (shapes : List Shape) (outputs : List Bool) (links : List Link) : Type 0 where
+  pub numbers : List ℕ
+  pub joined : NumbersJoined shapes numbers
+  pub are : AreLinks shapes numbers outputs (length shapes) links
+
+-- how two joined ports are refused
+abbrev pub IsShortRefusal : List Shape → Name → Name → ExtractError → Type 0
+IsShortRefusal shapes a b (error.Shorted c d chain) = (c ≡ a) × (d ≡ b) × IsChainOf shapes a b chain
+IsShortRefusal shapes a b _ = ⊥

@@ -1,7 +1,7 @@
 // Connectors, with the numbers of their joined shapes.
-ghost use Rattle.std.specs.Prelude.{◌≡◌, ◌<◌, ◌^◌, length, IfOk};
+ghost use Rattle.std.specs.Prelude.{◌≡◌, ◌<◌, length, IfOk};
+ghost use Rattle.std.specs.List.{All};
 ghost use Rattle.std.specs.Option.{option_copied};
-ghost use Rattle.sym_shapes.specs.Joints.{NumbersBelow};
 ghost use Rattle.cougar_extract.specs.Stages.{AreLinks, AreBelow, AreLeaders};
 
 use crate::drawing::Drawing;
@@ -31,17 +31,31 @@ fn terminal(alloc: Global, owner: Option<&Text>, name: &Name) -> Result<Terminal
     })
 }
 
-/// The connectors of a layout, in the order of its shapes. Takes memory for their names.
+/// A number above all of these.
+pub(crate) fn bound(numbers: &[u32]) -> usize
+    ensures { All (λ n. n < result) numbers.now }
+{
+    let mut bound: usize = 0;
+    for number in numbers {
+        if *number as usize >= bound {
+            bound = *number as usize + 1;
+        }
+    }
+    bound
+}
+
+/// The connectors of a layout whose shapes have these numbers below `count`, in the order of shapes. Takes memory for their names.
 pub(crate) fn links(
     alloc: Global,
     drawing: &Drawing,
     numbers: &[u32],
+    count: usize,
 ) -> Result<Vec<Link>, AllocError>
     requires numbers { length numbers.now ≡ length drawing.now.shapes.items }
     requires gives { length drawing.now.gives.items ≡ length drawing.now.shapes.items }
-    requires below { NumbersBelow numbers.now }
+    requires below { All (λ n. n < count) numbers.now }
     ensures links { IfOk result (λ links. AreLinks drawing.now.shapes.items numbers.now drawing.now.gives.items (length drawing.now.shapes.items) links.items) }
-    ensures below { IfOk result (λ links. AreBelow links.items (length drawing.now.shapes.items)) }
+    ensures below { IfOk result (λ links. AreBelow links.items count) }
 {
     let mut links = Vec::new(alloc);
     for k in 0..drawing.shapes.len() {
@@ -64,7 +78,8 @@ pub(crate) fn leaders(
     count: usize,
 ) -> Result<Vec<usize>, AllocError>
     requires { AreBelow links.now count }
-    ensures { IfOk result (λ places. AreLeaders links.now places.items) }
+    ensures many { IfOk result (λ places. length places.items ≡ count) }
+    ensures led { IfOk result (λ places. AreLeaders links.now places.items) }
 {
     let mut places = vec![in alloc; 0; count]?;
     for k in 0..links.len() {
