@@ -1,0 +1,14 @@
+pub mod Instances
+pub mod Drawn
+pub mod Outputs
+pub mod Shapes
+pub mod Classes
+pub mod Directions
+pub mod Extracted
+pub mod Pairs
+pub mod Shorts
+pub mod Linking
+pub mod Adding
+pub mod Reaches
+pub mod Names
+pub mod Given
