@@ -18,8 +18,9 @@ use Rattle.sym_geom.specs.declared.item.Item.TheVariants as item
 use Rattle.sym_shapes.specs.Ready.{IsReady}
 use Rattle.sym_shapes.specs.Shape.{Shape, on_metal, pad_shapes, item_shapes, drawn_from, drawn}
 use Rattle.cell_model.proofs.Members.{In-split, In-map_back, All-In}
+use Rattle.cougar_extract.specs.Stages.{IsCellEdge, HasCellEdges}
 
-reach_square : (x y w : ℤ) → IsCoordinate x → IsCoordinate y → pos 1 ≤ℤ w → IsCoordinate w → HasReach (square x y w)
+reach_square : (x y w : ℤ) → IsCoordinate x → IsCoordinate y → pos 1 ≤ℤ w → IsCoordinate w → HasCellEdges (square x y w)
 reach_square x y w hx hy positive hw =
     let a = hx.low in let b = hx.high in let c = hy.low in let d = hy.high in let e = hw.high in
     record {
@@ -30,12 +31,12 @@ reach_square x y w hx hy positive hw =
     }
 
 -- one end of a line's rectangle, and the other
-reach_low : (a b w : ℤ) → IsCoordinate a → IsCoordinate b → pos 0 ≤ℤ w → IsCoordinate w → IsReach (int_min a b -ℤ w)
+reach_low : (a b w : ℤ) → IsCoordinate a → IsCoordinate b → pos 0 ≤ℤ w → IsCoordinate w → IsCellEdge (int_min a b -ℤ w)
 reach_low a b w ha hb positive hw =
     let c = ha.low in let d = ha.high in let e = hb.low in let f = hb.high in let g = hw.high in
     record { low = omega (arith, ints, clamps, c, d, e, f, g, positive); high = omega (arith, ints, clamps, c, d, e, f, g, positive) }
 
-reach_high : (a b w : ℤ) → IsCoordinate a → IsCoordinate b → pos 0 ≤ℤ w → IsCoordinate w → IsReach (int_max a b +ℤ w)
+reach_high : (a b w : ℤ) → IsCoordinate a → IsCoordinate b → pos 0 ≤ℤ w → IsCoordinate w → IsCellEdge (int_max a b +ℤ w)
 reach_high a b w ha hb positive hw =
     let c = ha.low in let d = ha.high in let e = hb.low in let f = hb.high in let g = hw.high in
     record { low = omega (arith, ints, clamps, c, d, e, f, g, positive); high = omega (arith, ints, clamps, c, d, e, f, g, positive) }
@@ -56,7 +57,7 @@ high_fits w positive h = let a = h.high in record { low = omega (arith, ints, po
 hundred : IsCoordinate (pos 100)
 hundred = record { low = omega (arith, ints); high = omega (arith, ints) }
 
-reach_upright : (s : Segment) → IsReadySegment s → HasReach (upright_rect s)
+reach_upright : (s : Segment) → IsReadySegment s → HasCellEdges (upright_rect s)
 reach_upright s h = record {
   x1 = reach_low s.x1 s.x2 (int_div s.width (pos 2)) h.x1 h.x2 (low_least s.width h.positive) (low_fits s.width h.positive h.width);
   y1 = reach_low s.y1 s.y2 (pos 100) h.y1 h.y2 (omega (arith, ints)) hundred;
@@ -64,7 +65,7 @@ reach_upright s h = record {
   y2 = reach_high s.y1 s.y2 (pos 100) h.y1 h.y2 (omega (arith, ints)) hundred;
 }
 
-reach_level : (s : Segment) → IsReadySegment s → HasReach (level_rect s)
+reach_level : (s : Segment) → IsReadySegment s → HasCellEdges (level_rect s)
 reach_level s h = record {
   x1 = reach_low s.x1 s.x2 (pos 100) h.x1 h.x2 (omega (arith, ints)) hundred;
   y1 = reach_low s.y1 s.y2 (int_div s.width (pos 2)) h.y1 h.y2 (low_least s.width h.positive) (low_fits s.width h.positive h.width);
@@ -72,18 +73,18 @@ reach_level s h = record {
   y2 = reach_high s.y1 s.y2 (s.width -ℤ int_div s.width (pos 2)) h.y1 h.y2 (high_least s.width h.positive) (high_fits s.width h.positive h.width);
 }
 
-reach_run : (d : Direction) (s : Segment) → IsReadySegment s → HasReach (run_rect d s)
+reach_run : (d : Direction) (s : Segment) → IsReadySegment s → HasCellEdges (run_rect d s)
 reach_run Up s h = reach_upright s h
 reach_run Down s h = reach_upright s h
 reach_run Left s h = reach_level s h
 reach_run Right s h = reach_level s h
 
-metal_reach : (o : Option ℕ) (k : ℕ) (r : Rect) (n : Option Name) (s : Shape) → HasReach r → In s (on_metal o k r n) → HasReach s.rect
+metal_reach : (o : Option ℕ) (k : ℕ) (r : Rect) (n : Option Name) (s : Shape) → HasCellEdges r → In s (on_metal o k r n) → HasCellEdges s.rect
 metal_reach None k r n s reach h = elim h [ ]
 metal_reach (Some j) k r n s reach here = reach
 metal_reach (Some j) k r n s reach (there h) = elim h [ ]
 
-pads_reach : (line : ℕ) (lower : Option ℕ) (pad : Rect) (s : Shape) → HasReach pad → In s (pad_shapes line (pads_on lower pad)) → HasReach s.rect
+pads_reach : (line : ℕ) (lower : Option ℕ) (pad : Rect) (s : Shape) → HasCellEdges pad → In s (pad_shapes line (pads_on lower pad)) → HasCellEdges s.rect
 pads_reach line None pad s reach h = elim h [ ]
 pads_reach line (Some k) pad s reach here = reach
 pads_reach line (Some k) pad s reach (there here) = reach
@@ -92,7 +93,7 @@ pads_reach line (Some k) pad s reach (there (there h)) = elim h [ ]
 pad_width : IsCoordinate (pos PAD_WIDTH)
 pad_width = record { low = omega (arith, ints); high = omega (arith, ints) }
 
-item_reach : (line : ℕ) (one : Item) (s : Shape) → IsReady one → In s (item_shapes line one) → HasReach s.rect
+item_reach : (line : ℕ) (one : Item) (s : Shape) → IsReady one → In s (item_shapes line one) → HasCellEdges s.rect
 item_reach line (item.Segment g) s r h = metal_reach (metal_of g.layer) line (segment_rect g) _ s (reach_run g.direction g r) h
 item_reach line (item.Connector c) s r h = metal_reach (metal_of c.layer) line (square c.x c.y c.width) c.name s (reach_square c.x c.y c.width r.x r.y r.positive r.width) h
 item_reach line (item.Via v) s r h =
@@ -101,14 +102,14 @@ item_reach line (item.Instance i) s r h = elim h [ ]
 item_reach line (item.Reference w) s r h = elim h [ ]
 item_reach line (item.Remark text) s r h = elim h [ ]
 
-from_reach : (line : ℕ) (items : List Item) (s : Shape) → ((one : Item) → In one items → IsReady one) → In s (drawn_from line items) → HasReach s.rect
+from_reach : (line : ℕ) (items : List Item) (s : Shape) → ((one : Item) → In one items → IsReady one) → In s (drawn_from line items) → HasCellEdges s.rect
 from_reach line [] s ready h = elim h [ ]
 from_reach line (one ∷ rest) s ready h =
     ⊎_elim (λ g. item_reach line one s (ready one here) g) (λ g. from_reach (suc line) rest s (λ x i. ready x (there i)) g)
     (In-split s (item_shapes line one) (drawn_from (suc line) rest) h)
 
 -- the shapes of lines whose rectangles the calls compute
-pub drawn_reach : (items : List Item) → All IsReady items → (s : Shape) → In s (drawn items) → HasReach s.rect
+pub drawn_reach : (items : List Item) → All IsReady items → (s : Shape) → In s (drawn items) → HasCellEdges s.rect
 drawn_reach items ready s h = from_reach 0 items s (λ x i. All-In IsReady items ready x i) h
 
 -- ---- counted from the corner of a box
@@ -121,3 +122,25 @@ from_corner r b x1 y1 x2 y2 p q u v =
     let d : x2 ≡ r.x2 +ℤ neg_ℤ b.x1 = omega (arith, ints, u) in
     let e : y2 ≡ r.y2 +ℤ neg_ℤ b.y1 = omega (arith, ints, v) in
     λ i. record { x1 = a i; y1 = c i; x2 = d i; y2 = e i }
+
+edge_reach : (c b : ℤ) → IsCellEdge c → IsCoordinate b → IsReach (c +ℤ neg_ℤ b)
+edge_reach c b h k =
+    let p = h.low in let q = h.high in let u = k.low in let v = k.high in
+    record { low = omega (arith, ints, p, q, u, v); high = omega (arith, ints, p, q, u, v) }
+
+pub corner_reach : (r b : Rect) → HasCellEdges r → HasCoordinates b → HasReach (moved r (neg_ℤ b.x1) (neg_ℤ b.y1))
+corner_reach r b h k = record {
+  x1 = edge_reach r.x1 b.x1 h.x1 k.x1;
+  y1 = edge_reach r.y1 b.y1 h.y1 k.y1;
+  x2 = edge_reach r.x2 b.x1 h.x2 k.x1;
+  y2 = edge_reach r.y2 b.y1 h.y2 k.y1;
+}
+
+-- the width of a box, and its height
+pub extent_reach : (a b : ℤ) → IsCoordinate a → IsCoordinate b → IsReach (a -ℤ b)
+extent_reach a b h k =
+    let p = h.low in let q = h.high in let u = k.low in let v = k.high in
+    record { low = omega (arith, ints, p, q, u, v); high = omega (arith, ints, p, q, u, v) }
+
+pub coordinate_reach : (a : ℤ) → IsCoordinate a → IsReach a
+coordinate_reach a h = let p = h.low in let q = h.high in record { low = omega (arith, ints, p, q); high = omega (arith, ints, p, q) }

@@ -1,5 +1,5 @@
 -- The stages of extraction: shapes, numbers of joined ones, connectors with these numbers, pairs of joined terminals.
-use Rattle.std.specs.Prelude.{◌≡◌, ◌↔◌, ℕ, ◌<◌, ◌≤◌, Bool, true, false, not, ◌&&◌, List, [], ◌∷◌, ◌++◌, map, length, Option, None, Some, MatchOption, slice_get, slice_index_or, replicate, unwrap_or, take}
+use Rattle.std.specs.Prelude.{ℤ, pos, negsuc, neg_ℤ, ◌≤ℤ◌, ◌≡◌, ◌↔◌, ℕ, ◌<◌, ◌≤◌, Bool, true, false, not, ◌&&◌, List, [], ◌∷◌, ◌++◌, map, length, Option, None, Some, MatchOption, slice_get, slice_index_or, replicate, unwrap_or, take}
 use Rattle.std.specs.List.{All, list_any}
 use Rattle.std.specs.List.Sorted.{IsPermutation}
 use Rattle.vlsi_base.specs.declared.name.Name.{Name}
@@ -10,13 +10,15 @@ use Rattle.vlsi_base.specs.declared.name.Terminal.{Terminal}
 use Rattle.vlsi_base.specs.Member.{In}
 use Rattle.machine_meaning.specs.Machine.{is_input}
 use Rattle.machine_meaning.specs.Named.{is_same_name}
+use Rattle.sym_geom.specs.Rect.{moved, transformed}
+use Rattle.sym_geom.specs.declared.rect.Rect.{Rect}
 use Rattle.sym_geom.specs.declared.item.Instance.{Instance as Placed}
 use Rattle.sym_geom.specs.declared.item.Item.{Item}
 use Rattle.sym_shapes.specs.Shape.{Shape, drawn, connector_names}
 use Rattle.sym_shapes.specs.Joints.{NumbersJoined}
 use Rattle.sym_shapes.specs.Joined.{Shows}
 use Rattle.ap_io.specs.declared.figure.Figure.{Figure}
-use Rattle.cell_model.specs.Cell.{Cell, pin_ports}
+use Rattle.cell_model.specs.Cell.{Cell, pin_ports, cell_width, cell_height}
 use Rattle.cell_model.specs.Library.{Library, cell_of}
 use Rattle.cell_model.specs.Layout.{instances_of}
 use Rattle.net_core.specs.Places.{IsThere, position_of}
@@ -53,6 +55,21 @@ abbrev pub IsUnknownRefusal : List Placed → Library → ExtractError → Type 
 IsUnknownRefusal instances l error.Memory = Unit {0}
 IsUnknownRefusal instances l (error.UnknownCell model) = IsFirstUnknown instances l model
 IsUnknownRefusal instances l (error.Shorted a b chain) = ⊥
+
+-- an edge of a rectangle that a line draws: at most 100,000,000,000,000 in absolute value
+pub record IsCellEdge (c : ℤ) : Type 0 where
+  pub low : negsuc 99999999999999 ≤ℤ c
+  pub high : c ≤ℤ pos 100000000000000
+
+pub record HasCellEdges (r : Rect) : Type 0 where
+  pub x1 : IsCellEdge r.x1
+  pub y1 : IsCellEdge r.y1
+  pub x2 : IsCellEdge r.x2
+  pub y2 : IsCellEdge r.y2
+
+-- a rectangle of a cell where an instance of it shows it
+abbrev pub placed_rect : Cell → Placed → Rect → Rect
+placed_rect c i r = transformed i.transform (moved r (neg_ℤ c.bounds.x1) (neg_ℤ c.bounds.y1)) (cell_width c) (cell_height c) i.x i.y
 
 -- ---- connectors
 

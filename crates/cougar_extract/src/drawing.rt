@@ -1,8 +1,8 @@
 // The shapes of a layout.
-ghost use Rattle.std.specs.Prelude.{◌≡◌, ◌⊎◌, ◌++◌, ◌-ℤ◌, ◌<◌, ◌^◌, false, None, Some, IfOk, OnOk, IfErr, All, length, replicate};
+ghost use Rattle.std.specs.Prelude.{◌≡◌, ◌⊎◌, ◌++◌, ◌<◌, ◌^◌, neg_ℤ, false, Some, IfOk, OnOk, IfErr, All, length, replicate};
 ghost use Rattle.std.specs.Option.{option_copied};
 ghost use Rattle.vlsi_base.specs.Member.{In};
-ghost use Rattle.sym_geom.specs.Rect.{IsCoordinate, HasCoordinates, HasReach};
+ghost use Rattle.sym_geom.specs.Rect.{IsCoordinate, HasCoordinates, moved};
 ghost use Rattle.sym_geom.specs.declared.item.Instance.{Instance as PlacedInstance};
 ghost use Rattle.sym_shapes.specs.Ready.{IsReady};
 ghost use Rattle.sym_shapes.specs.Shape.{drawn as drawn_of};
@@ -11,7 +11,7 @@ ghost use Rattle.cell_model.specs.Usable.{IsFormed};
 ghost use Rattle.cell_checks.specs.Checked.{library_of};
 ghost use Rattle.cougar_extract.specs.declared.error.ExtractError.TheVariants as error;
 ghost use Rattle.cougar_extract.specs.Extracted.{AreKnown};
-ghost use Rattle.cougar_extract.specs.Stages.{instance_gives, gives as gives_of, IsUnknownRefusal};
+ghost use Rattle.cougar_extract.specs.Stages.{HasCellEdges, placed_rect as placed_rect_of, instance_gives, gives as gives_of, IsUnknownRefusal};
 
 use crate::cells::{cell_of, is_output};
 use crate::error::ExtractError;
@@ -41,11 +41,8 @@ fn copied(alloc: Global, name: Option<&Name>) -> Result<Option<Name>, AllocError
 /// A rectangle of a cell, counted from the lower left corner of the cell's box.
 fn from_corner(corner: &Rect, rect: &Rect) -> Rect
     requires corner { HasCoordinates corner.now }
-    requires rect { HasReach rect.now }
-    ensures x1 { result.x1 ≡ rect.now.x1 -ℤ corner.now.x1 }
-    ensures y1 { result.y1 ≡ rect.now.y1 -ℤ corner.now.y1 }
-    ensures x2 { result.x2 ≡ rect.now.x2 -ℤ corner.now.x1 }
-    ensures y2 { result.y2 ≡ rect.now.y2 -ℤ corner.now.y1 }
+    requires rect { HasCellEdges rect.now }
+    ensures { result ≡ moved rect.now (neg_ℤ corner.now.x1) (neg_ℤ corner.now.y1) }
 {
     Rect {
         x1: rect.x1 - corner.x1,
@@ -58,18 +55,17 @@ fn from_corner(corner: &Rect, rect: &Rect) -> Rect
 /// Where an instance shows a rectangle of its cell.
 fn placed_rect(cell: &Cell, instance: &Instance, rect: &Rect) -> Rect
     requires bounds { HasCoordinates cell.now.bounds }
-    requires rect { HasReach rect.now }
+    requires rect { HasCellEdges rect.now }
     requires x { IsCoordinate instance.now.x }
     requires y { IsCoordinate instance.now.y }
-    ensures { result ≡ (placed_shape cell.now instance.now (record { metal = 0; rect = rect.now; owner = None; line = 0; name = None })).rect }
+    ensures { result ≡ placed_rect_of cell.now instance.now rect.now }
 {
     let bounds = &cell.bounds;
-    let from = from_corner(bounds, rect);
     let width = bounds.x2 - bounds.x1;
     let height = bounds.y2 - bounds.y1;
     transform(
         instance.transform,
-        from,
+        from_corner(bounds, rect),
         width,
         height,
         instance.x,
@@ -85,7 +81,7 @@ fn placed(
     shape: &Shape,
 ) -> Result<Shape, AllocError>
     requires bounds { HasCoordinates cell.now.bounds }
-    requires rect { HasReach shape.now.rect }
+    requires rect { HasCellEdges shape.now.rect }
     requires x { IsCoordinate instance.now.x }
     requires y { IsCoordinate instance.now.y }
     ensures { IfOk result (λ made. made ≡ placed_shape cell.now instance.now shape.now) }
