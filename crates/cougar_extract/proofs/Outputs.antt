@@ -1,19 +1,24 @@
 -- The output pins of a cell, as a test and as a list.
-use Rattle.std.proofs.Common.{◌≡◌, Bool, true, false, not, ◌&&◌, ◌||◌, cond, List, [], ◌∷◌, map, filter, Option, None, Some, refl, sym, ap, subst, ◌∙◌}
+use Rattle.std.proofs.Common.{◌≡◌, ℕ, zero, suc, ◌+◌, take, Bool, true, false, not, ◌&&◌, ◌||◌, cond, List, [], ◌∷◌, map, filter, Option, None, Some, refl, sym, ap, subst, ◌∙◌}
 use Rattle.std.specs.List.{list_any}
 use Rattle.vlsi_base.specs.declared.name.Name.{Name}
 use Rattle.vlsi_base.specs.declared.name.Port.{Port}
+use Rattle.std.proofs.lemmas.Option.{same_Some}
+use Rattle.vlsi_base.specs.declared.name.Dir.{Dir}
+use Rattle.vlsi_base.specs.declared.name.Dir.TheVariants as dir
 use Rattle.vlsi_base.specs.Member.{In, here, there}
 use Rattle.machine_meaning.specs.Machine.{is_input, names_of}
 use Rattle.machine_meaning.specs.Named.{is_same_name}
 use Rattle.machine_core.proofs.Names.{same_name-true, same_name-itself}
 use Rattle.cell_model.specs.Cell.{Cell, pin_ports, cell_outputs}
+use Rattle.cell_model.specs.declared.cell.Pin.{Pin}
+use Rattle.net_core.specs.Places.{Stands}
 use Rattle.cougar_extract.specs.Stages.{is_output}
 
-abbrev gives : Port → Bool
+abbrev pub gives : Port → Bool
 gives p = not (is_input p.dir)
 
-abbrev test : Name → Port → Bool
+abbrev pub test : Name → Port → Bool
 test name p = gives p && is_same_name p.name name
 
 listed : (ports : List Port) (name : Name) → list_any (test name) ports ≡ true → In name (names_of (filter gives ports))
@@ -52,3 +57,47 @@ output_found c name h = found (pin_ports c) name h
 pub output_named : (c : Cell) (o : Option Name) → is_output c o ≡ true → (name : Name) × (o ≡ Some name) × In name (cell_outputs c)
 output_named c None e = absurd (cc e)
 output_named c (Some name) e = (name, refl, output_listed c name e)
+
+-- ---- pin by pin
+
+abbrev port_of : Pin → Port
+port_of p = p.port
+
+or_false : (a b : Bool) → a ≡ false → b ≡ false → (a || b) ≡ false
+or_false false b p q = q
+or_false true b p q = absurd (cc p)
+
+pub none_next : (name : Name) (pins : List Pin) (k : ℕ) (p : Pin) → Stands pins k p → test name p.port ≡ false
+    → list_any (test name) (map port_of (take k pins)) ≡ false → list_any (test name) (map port_of (take (k + 1) pins)) ≡ false
+none_next name [] k p at no so_far = absurd (cc at)
+none_next name (x ∷ pins) zero p at no so_far =
+    let same : x ≡ p = same_Some x p at in
+    or_false (test name x.port) false (subst (λ (y : Pin). test name y.port ≡ false) (sym same) no) refl
+none_next name (x ∷ pins) (suc k) p at no so_far = by (test name x.port) so_far (none_next name pins k p at no) where
+  by : (b : Bool) → (b || list_any (test name) (map port_of (take k pins))) ≡ false
+      → (list_any (test name) (map port_of (take k pins)) ≡ false → list_any (test name) (map port_of (take (k + 1) pins)) ≡ false)
+      → (b || list_any (test name) (map port_of (take (k + 1) pins))) ≡ false
+  by true h rest = absurd (cc h)
+  by false h rest = rest h
+
+pub one_found : (name : Name) (pins : List Pin) (k : ℕ) (p : Pin) → Stands pins k p → test name p.port ≡ true → list_any (test name) (map port_of pins) ≡ true
+one_found name [] k p at yes = absurd (cc at)
+one_found name (x ∷ pins) zero p at yes =
+    let same : x ≡ p = same_Some x p at in
+    ap (λ (b : Bool). b || list_any (test name) (map port_of pins)) (subst (λ (y : Pin). test name y.port ≡ true) (sym same) yes)
+one_found name (x ∷ pins) (suc k) p at yes = by (test name x.port) (one_found name pins k p at yes) where
+  by : (b : Bool) → list_any (test name) (map port_of pins) ≡ true → (b || list_any (test name) (map port_of pins)) ≡ true
+  by true h = refl
+  by false h = h
+
+-- what the two tests of a pin come to
+pub tested : (name : Name) (p : Port) → p.dir ≡ dir.Out → p.name ≡ name → test name p ≡ true
+tested name p way named =
+    ap (λ (d : Dir). not (is_input d) && is_same_name p.name name) way ∙ subst (λ (n : Name). is_same_name p.name n ≡ true) named (same_name-itself p.name)
+
+pub not_tested : (name : Name) (p : Port) → (p.dir ≡ dir.Out → p.name ≡ name → ⊥) → test name p ≡ false
+not_tested name p no = by p.dir (is_same_name p.name name) refl refl where
+  by : (d : Dir) (b : Bool) → p.dir ≡ d → is_same_name p.name name ≡ b → (not (is_input d) && b) ≡ false
+  by dir.In b way same = refl
+  by dir.Out true way same = absurd (no way (same_name-true p.name name same))
+  by dir.Out false way same = refl

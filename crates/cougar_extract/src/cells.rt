@@ -26,7 +26,8 @@ pub(crate) fn is_output(cell: &Cell, name: Option<&Name>) -> bool
     let Some(name) = name else {
         return false;
     };
-    for pin in cell.pins.as_slice() {
+    let pins = cell.pins.as_slice();
+    for pin in pins {
         if pin.port.dir == Dir::Out && pin.port.name.is_same(name) {
             return true;
         }
