@@ -1,5 +1,8 @@
 -- The ports of a layout, and which of them are outputs.
-use Rattle.std.proofs.Common.{◌≡◌, ◌↔◌, ℕ, Bool, true, false, List, map, Option, None, Some, refl, sym, ap, subst, ◌∙◌}
+use Rattle.std.proofs.Common.{◌≡◌, ◌↔◌, ℕ, Bool, true, false, List, [], ◌∷◌, map, Option, None, Some, refl, sym, ap, subst, ◌∙◌}
+use Rattle.std.specs.Prelude.{IsTrue}
+use Rattle.std.specs.Ordering.{is_lt}
+use Rattle.std.specs.declared.cmp.Ordering.{Ordering}
 use Rattle.std.specs.List.Sorted.{IsPermutation}
 use Rattle.std.proofs.lemmas.List.Sorted.{IsPermutation-sym}
 use Rattle.vlsi_base.specs.declared.name.Name.{Name}
@@ -11,7 +14,8 @@ use Rattle.vlsi_model.proofs.Assembly.{In-permutation}
 use Rattle.cell_model.proofs.Members.{In-map, In-map_back}
 use Rattle.cell_pins.proofs.Sound.{member_at}
 use Rattle.net_core.specs.Places.{IsThere, NoneTwice, position_of}
-use Rattle.net_core.specs.Netlist.{port, pin_of}
+use Rattle.machine_core.specs.Checked as core
+use Rattle.net_core.specs.Netlist.{port, pin_of, AreInOrder}
 use Rattle.net_core.proofs.Standing.{position_stands, position_absent}
 use Rattle.sym_geom.specs.declared.item.Instance.{Instance as Placed}
 use Rattle.sym_geom.specs.declared.item.Item.{Item}
@@ -27,6 +31,15 @@ use Rattle.cougar_extract.proofs.Classes.{linked_tied, link_of_shape, one_number
 use Rattle.cougar_extract.proofs.Shapes.{whence, marked_output, output_marked}
 
 -- ---- names
+
+-- the order of names, in two words
+pub in_name_order : (names : List Name) → core.AreInOrder names → AreInOrder names
+in_name_order names h i j d p q = subst (λ (o : Ordering). IsTrue (is_lt o)) (sym (h i j d p q)) refl
+
+-- the names of ports with directions are those that they were made of
+pub directed_names : (texts : List (List ℕ)) (names : List Name) → map (λ (p : Port). p.name) (map (port_by texts) names) ≡ names
+directed_names texts [] = refl
+directed_names texts (n ∷ names) = ap (λ (ns : List Name). n ∷ ns) (directed_names texts names)
 
 abbrev pub name_of : Port → Name
 name_of p = p.name

@@ -12,3 +12,4 @@ pub mod Adding
 pub mod Reaches
 pub mod Names
 pub mod Given
+pub mod Wholes
