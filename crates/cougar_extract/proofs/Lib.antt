@@ -13,3 +13,4 @@ pub mod Reaches
 pub mod Names
 pub mod Given
 pub mod Wholes
+pub mod Steps

@@ -71,16 +71,19 @@ from_rest f = record { instance = f.instance; listed = there f.listed; cell = f.
 
 pub from : (l : Library) (is : List Placed) (k : ℕ) (s : Shape) → Stands (all_instances_show l is) k s → IsFrom l is s (get_or (all_instances_give l is) k false)
 from l [] k s h = absurd (cc h)
-from l (i ∷ rest) k s h = by (cell_of l i.model) refl h where
-  with_cell : (c : Cell) {flag : Bool} → cell_of l i.model ≡ Some c
-      → Either (placed c i) (λ (x : Shape). is_output c x.name) (drawn c.items) (all_instances_show l rest) (all_instances_give l rest) s flag → IsFrom l (i ∷ rest) s flag
-  with_cell c e (in_first x d is told) = record { instance = i; listed = here; cell = c; known = e; own = x; drawn = d; is = is; marked = told }
-  with_cell c {flag} e (behind j at told) = from_rest (subst (λ (b : Bool). IsFrom l rest s b) (sym told) (from l rest j s at))
+from l (i ∷ rest) k s h = by (λ j at. from l rest j s at) (cell_of l i.model) refl h where
+  abbrev Rest : Type 0
+  Rest = (j : ℕ) → Stands (all_instances_show l rest) j s → IsFrom l rest s (get_or (all_instances_give l rest) j false)
 
-  by : (o : Option Cell) → cell_of l i.model ≡ o → Stands (instance_shapes o i ++ all_instances_show l rest) k s
+  with_cell : Rest → (c : Cell) {flag : Bool} → cell_of l i.model ≡ Some c
+      → Either (placed c i) (λ (x : Shape). is_output c x.name) (drawn c.items) (all_instances_show l rest) (all_instances_give l rest) s flag → IsFrom l (i ∷ rest) s flag
+  with_cell later c e (in_first x d is told) = record { instance = i; listed = here; cell = c; known = e; own = x; drawn = d; is = is; marked = told }
+  with_cell later c e (behind j at told) = from_rest (subst (λ (b : Bool). IsFrom l rest s b) (sym told) (later j at))
+
+  by : Rest → (o : Option Cell) → cell_of l i.model ≡ o → Stands (instance_shapes o i ++ all_instances_show l rest) k s
       → IsFrom l (i ∷ rest) s (get_or (instance_gives o ++ all_instances_give l rest) k false)
-  by None e g = from_rest (from l rest k s g)
-  by (Some c) e g = with_cell c e (either (placed c i) (λ (x : Shape). is_output c x.name) (drawn c.items) (all_instances_show l rest) (all_instances_give l rest) k s g)
+  by later None e g = from_rest (later k g)
+  by later (Some c) e g = with_cell later c e (either (placed c i) (λ (x : Shape). is_output c x.name) (drawn c.items) (all_instances_show l rest) (all_instances_give l rest) k s g)
 
 -- ---- shapes of a layout
 

@@ -1,0 +1,156 @@
+-- What the loops of extraction are lent at a step.
+use Rattle.std.proofs.Common.{◌≡◌, ◌⊎◌, inl, inr, ◌↔◌, ℕ, zero, suc, ◌+◌, ◌<◌, ◌≤◌, List, [], ◌∷◌, ◌++◌, map, length, take, get_or, Option, None, Some, All, refl, sym, ap, subst, ◌∙◌, arith, append_assoc}
+use Rattle.std.specs.Prelude.{slice_get, option_map}
+use Rattle.std.proofs.lemmas.List.{map-append, take_more}
+use Rattle.std.proofs.lemmas.Option.{slice_get_within, slice_get_read, get_or_from_slice_get}
+use Rattle.vlsi_base.specs.declared.name.Name.{Name}
+use Rattle.vlsi_base.specs.declared.name.Terminal.{Terminal}
+use Rattle.vlsi_base.specs.Member.{In, here, there}
+use Rattle.sym_geom.specs.declared.item.Instance.{Instance as Placed}
+use Rattle.sym_geom.specs.declared.item.Item.{Item}
+use Rattle.sym_geom.specs.declared.item.Item.TheVariants as item
+use Rattle.sym_shapes.specs.Shape.{Shape}
+use Rattle.sym_shapes.specs.Joined.{Joined, itself, through, one_name, Shows, AreJoined}
+use Rattle.sym_shapes.proofs.Labels.{first_In, last_In}
+use Rattle.sym_shapes.specs.Chain.{IsChain, Apart}
+use Rattle.sym_shapes.proofs.Joins.{joined_then}
+use Rattle.cell_model.specs.Cell.{Cell}
+use Rattle.cell_model.specs.Library.{Library, cell_of, cell_named}
+use Rattle.cell_model.specs.Layout.{instances_of, instance_shapes, all_instances_show}
+use Rattle.cell_model.proofs.Members.{All-In, In-at, In-split, place-In}
+use Rattle.cell_pins.proofs.Sound.{member_at}
+use Rattle.net_core.specs.declared.error.BuildError.{BuildError}
+use Rattle.net_core.specs.declared.error.BuildError.TheVariants as error
+use Rattle.net_core.specs.Places.{Stands, IsThere, Learned}
+use Rattle.net_core.specs.Netlist.{port}
+use Rattle.net_core.specs.Joins.{Draft, draft_terminals, with_join, IsNoJoin}
+use Rattle.net_core.proofs.Growing.{learned_grows}
+use Rattle.net_core.proofs.Learning.{learned_only}
+use Rattle.net_core.proofs.Standing.{stands_left}
+use Rattle.cougar_extract.specs.declared.links.Link.{Link}
+use Rattle.cougar_extract.specs.declared.error.Step.{Step}
+use Rattle.cougar_extract.specs.Extracted.{AreKnown}
+use Rattle.cougar_extract.specs.Refused.{IsFirstUnknown, step_of, IsChainOf}
+use Rattle.cougar_extract.specs.Stages.{IsLeader, AreLeaders, instance_gives, all_instances_give, IsShownAt}
+use Rattle.cougar_extract.proofs.Adding.{joined_to, no_join}
+use Rattle.cougar_extract.proofs.Instances.{instances_append}
+
+-- an element that was read at its place stands there
+pub read_stands : {A : Type 0} (xs : List A) (k : ℕ) (x : A) → k < length xs → x ≡ get_or xs k x → Stands xs k x
+read_stands xs k x low is = slice_get_read xs (length xs) k x refl low is
+
+-- ---- shapes of instances that come behind
+
+abbrev pub shows_to : Library → List Item → ℕ → List Shape
+shows_to l items k = all_instances_show l (instances_of (take k items))
+
+show_append : (l : Library) (a b : List Placed) → all_instances_show l (a ++ b) ≡ all_instances_show l a ++ all_instances_show l b
+show_append l [] b = refl
+show_append l (i ∷ rest) b =
+    ap (λ (xs : List Shape). instance_shapes (cell_of l i.model) i ++ xs) (show_append l rest b)
+    ∙ sym (append_assoc (instance_shapes (cell_of l i.model) i) (all_instances_show l rest) (all_instances_show l b))
+
+give_append : (l : Library) (a b : List Placed) → all_instances_give l (a ++ b) ≡ all_instances_give l a ++ all_instances_give l b
+give_append l [] b = refl
+give_append l (i ∷ rest) b =
+    ap (λ xs. instance_gives (cell_of l i.model) ++ xs) (give_append l rest b)
+    ∙ sym (append_assoc (instance_gives (cell_of l i.model)) (all_instances_give l rest) (all_instances_give l b))
+
+-- the instances of the first k + 1 lines
+pub placed_next : (items : List Item) (k : ℕ) (one : Item) → Stands items k one → instances_of (take (k + 1) items) ≡ instances_of (take k items) ++ instances_of (one ∷ [])
+placed_next items k one at =
+    let here_it : get_or items k one ≡ one = get_or_from_slice_get items k one one at in
+    ap instances_of (take_more items k one (slice_get_within items k one at) ∙ ap (λ (x : Item). take k items ++ x ∷ []) here_it)
+    ∙ instances_append (take k items) (one ∷ [])
+
+-- known ones, and one more that is known
+pub known_more : (l : Library) (is : List Placed) (i : Placed) (c : Cell) → cell_of l i.model ≡ Some c → AreKnown is l → AreKnown (is ++ i ∷ []) l
+known_more l is i c e known j h = elim (In-split j is (i ∷ []) h) [
+  | inl a ↦ known j a
+  | inr b ↦ last j b
+] where
+  last : (j : Placed) → In j (i ∷ []) → (d : Cell) × (cell_of l j.model ≡ Some d)
+  last j here = (c, e)
+  last j (there g) = elim g [ ]
+
+-- the first that isn't known
+pub first_unknown : (items : List Item) (l : Library) (k : ℕ) (i : Placed) → Stands items k (item.Instance i) → AreKnown (instances_of (take k items)) l → cell_of l i.model ≡ None
+    → IsFirstUnknown (instances_of items) l i.model
+first_unknown items l k i at known none =
+    let r = split items k (item.Instance i) at in
+    record {
+      before = instances_of (take k items);
+      instance = i;
+      behind = instances_of r.0;
+      all_are = ap instances_of r.1 ∙ instances_append (take k items) (item.Instance i ∷ r.0);
+      known = known;
+      unknown = none;
+      model_is = refl;
+    } where
+  split : {A : Type 0} (xs : List A) (k : ℕ) (x : A) → Stands xs k x → (rest : List A) × (xs ≡ take k xs ++ x ∷ rest)
+  split [] k x h = absurd (cc h)
+  split {A} (y ∷ xs) zero x h = (xs, let e : y ≡ x = cc in ap (λ (z : A). z ∷ xs) e)
+  split {A} (y ∷ xs) (suc k) x h = let t = split xs k x h in (t.0, ap (λ (zs : List A). y ∷ zs) t.1)
+
+-- ---- texts that are learned
+
+pub learned_both : (old new : List (List ℕ)) (t : List ℕ) → Learned old new t → IsThere new t → (u : List ℕ) → IsThere new u ↔ (IsThere old u ⊎ (u ≡ t))
+learned_both old new t learned own u = (
+  λ h. elim (learned_only old new t learned u h) [ | inl o ↦ inl o | inr e ↦ inr (sym e) ],
+  λ h. elim h [
+    | inl o ↦
+        let g = learned_grows old new t learned in
+        subst (λ (xs : List (List ℕ)). IsThere xs u) (sym g.1) (o.0, stands_left old g.0 o.0 u o.1)
+    | inr e ↦ subst (λ (x : List ℕ). IsThere new x) (sym e) own
+  ],
+)
+
+-- ---- pairs
+
+-- a leader's place is one of a connector
+pub leader_low : (links : List Link) (places : List ℕ) (k : ℕ) (x : Link) → AreLeaders links places → k < length links → x ≡ get_or links k x
+    → get_or places x.number 0 < length links
+leader_low links places k x led low is =
+    let h = led x (member_at links k x (read_stands links k x low is)) in slice_get_within links (get_or places x.number 0) h.leader h.stands
+
+-- both terminals of a pair are there, so that memory alone can lack
+pub both_there : (d now : Draft) (links : List Link) (places : List ℕ) (k : ℕ) (x leader : Link) (e : BuildError)
+    → All (λ (y : Link). IsThere (draft_terminals d) y.terminal) links → Stands links k x → Stands links (get_or places x.number 0) leader
+    → now ≡ joined_to d links places k → IsNoJoin now leader.terminal x.terminal e → e ≡ error.Memory
+both_there d now links places k x leader e there at led so_far h =
+    let ends : (y : Link) → In y links → IsThere (draft_terminals now) y.terminal =
+    λ y i. subst (λ (b : Draft). IsThere (draft_terminals b) y.terminal) (sym so_far) (All-In (λ (z : Link). IsThere (draft_terminals d) z.terminal) links there y i) in
+    no_join now leader.terminal x.terminal e (ends leader (member_at links (get_or places x.number 0) leader led)) (ends x (member_at links k x at)) h
+
+-- ---- chains between ports
+
+-- shapes of joined ports are joined, whichever show them
+pub any_joined : (all : List Shape) (a b : Name) → AreJoined all (port a) (port b) → (i j : ℕ) (s u : Shape) → Stands all i s → Shows (port a) s → Stands all j u → Shows (port b) u
+    → Apart all i j → ⊥
+any_joined all a b t i j s u at_s shows_s at_u shows_u apart =
+    let first : Joined all s t.from = through (member_at all i s at_s) (one_name (shows_s.owner ∙ sym t.shows_from.owner) a shows_s.name t.shows_from.name) (itself (first_In t.joined)) in
+    let last : Joined all t.to u = through (last_In t.joined) (one_name (t.shows_to.owner ∙ sym shows_u.owner) b t.shows_to.name shows_u.name) (itself (member_at all j u at_u)) in
+    let chain : Joined all s u = joined_then first (joined_then t.joined last) in
+    let place_s : get_or all i s ≡ s = get_or_from_slice_get all i s s at_s in
+    let place_u : get_or all j s ≡ u = get_or_from_slice_get all j u s at_u in
+    apart s (subst (λ (x : Shape). Joined all (get_or all i s) x) (sym place_u) (subst (λ (x : Shape). Joined all x u) (sym place_s) chain))
+
+-- a port that is joined to another is shown
+pub is_shown : (all : List Shape) (a b : Name) → AreJoined all (port a) (port b) → (All (λ (s : Shape). Shows (port a) s → ⊥) all) → ⊥
+is_shown all a b t none = All-In (λ (s : Shape). Shows (port a) s → ⊥) all none t.from (first_In t.joined) t.shows_from
+
+pub other_is_shown : (all : List Shape) (a b : Name) → AreJoined all (port a) (port b) → (All (λ (s : Shape). Shows (port b) s → ⊥) all) → ⊥
+other_is_shown all a b t none = All-In (λ (s : Shape). Shows (port b) s → ⊥) all none t.to (last_In t.joined) t.shows_to
+
+-- the chain of these places is one between the ports
+pub chain_of : (all : List Shape) (a b : Name) (i j : ℕ) (s u : Shape) (places : List ℕ) (steps : List Step) → IsChain all places i j → Stands all i s → Shows (port a) s
+    → Stands all j u → Shows (port b) u → map Some steps ≡ map (λ k. option_map step_of (slice_get all k)) places → IsChainOf all a b steps
+chain_of all a b i j s u places steps chain at_s shows_s at_u shows_u told = record {
+  places = places;
+  from = i;
+  to = j;
+  chain = chain;
+  begins = λ d. subst (λ (x : Shape). Shows (port a) x) (sym (get_or_from_slice_get all i s d at_s)) shows_s;
+  ends = λ d. subst (λ (x : Shape). Shows (port b) x) (sym (get_or_from_slice_get all j u d at_u)) shows_u;
+  told = told;
+}
