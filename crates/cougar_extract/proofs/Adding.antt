@@ -3,7 +3,7 @@ use Rattle.std.proofs.Common.{◌≡◌, ◌↔◌, ◌⊎◌, inl, inr, ℕ, ze
 use Rattle.std.specs.List.{flat_map}
 use Rattle.std.proofs.lemmas.Grind.{flat_map-append}
 use Rattle.std.proofs.lemmas.List.{map-append, take_more}
-use Rattle.std.proofs.lemmas.Option.{slice_get_within, same_Some, get_or_from_slice_get}
+use Rattle.std.proofs.lemmas.Option.{slice_get_within, slice_get_read, same_Some, get_or_from_slice_get}
 use Rattle.vlsi_base.specs.declared.name.Name.{Name}
 use Rattle.vlsi_base.specs.declared.name.Port.{Port}
 use Rattle.vlsi_base.specs.declared.name.Terminal.{Terminal}
@@ -33,10 +33,11 @@ use Rattle.net_theory.proofs.Basics.{length-map}
 use Rattle.net_view.proofs.Lists.{in_place}
 use Rattle.net_view.proofs.Models.{named_cell}
 use Rattle.cougar_extract.specs.declared.links.Link.{Link}
-use Rattle.cougar_extract.specs.Extracted.{figure_text, instance_of, pins_of_cell}
+use Rattle.cougar_extract.specs.Extracted.{AreKnown, figure_text, instance_of, pins_of_cell}
 use Rattle.cougar_extract.specs.Stages.{IsTerminalOf, of_figure, of_instance, AreTerminals, AreLeaders, ArePortsBy, IsBuilt, terminal_of, join_of, with_instances, with_joins}
 use Rattle.cougar_extract.proofs.Directions.{names_same}
-use Rattle.cougar_extract.proofs.Instances.{instances_append, name_of}
+use Rattle.cell_pins.proofs.Sound.{member_at}
+use Rattle.cougar_extract.proofs.Instances.{instances_append, instances_few, line_instance, name_of}
 
 -- ---- pins
 
@@ -209,3 +210,51 @@ built f l names links places ports begun placed last n same by led is_begun is_p
       led = led;
       classes = λ a b j k p q. subst (λ (js : List (Terminal × Terminal)). (j ≡ k) ↔ Joined js a b) (ap (λ (d : Draft). d.joins) whole) (done.classes a b j k p q);
     }
+
+-- ---- one instance
+
+-- the pins of the cell of a model stand in order
+pub cell_in_order : (l : Library) (model : List ℕ) (c : Cell) → All IsFormed l.cells → cell_of l model ≡ Some c → AreInOrder (names_of (all_ports c))
+cell_in_order l model c formed e = pins_in_order c (All-In IsFormed l.cells formed c (named_cell l.cells model c e).0)
+
+-- the draft with an instance that has the pins of its cell
+pub added_instance : (d after : Draft) (l : Library) (i : Placed) (c : Cell) (pins : List Name) → cell_of l i.model ≡ Some c → pins ≡ names_of (all_ports c)
+    → after ≡ with_instance d (record { name = i.name; model = i.model; pins = pins }) → after ≡ with_instances d (instance_of l i ∷ [])
+added_instance d after l i c pins e is made =
+    made ∙ ap (λ (ns : List Name). with_instance d (record { name = i.name; model = i.model; pins = ns })) (is ∙ pins_found l i c e)
+
+-- ---- what an instance is lent
+
+-- ports alone
+pub bare_count : (d : Draft) → d.instances ≡ [] → length (draft_terminals d) ≡ length d.ports
+bare_count d none =
+    let all = ap (λ (is : List Instance). length (map (λ (p : Port). port p.name) d.ports ++ flat_map pins_of is)) none in
+    let sum = length-append (map (λ (p : Port). port p.name) d.ports) [] in
+    let own : length (map (λ (p : Port). port p.name) d.ports) ≡ length d.ports = length-map (λ (p : Port). port p.name) d.ports in
+    omega (arith, all, sum, own)
+
+item_stands : (items : List Item) (k : ℕ) (i : Placed) (one : Item) → k < length items → one ≡ get_or items k one → one ≡ item.Instance i → Stands items k (item.Instance i)
+item_stands items k i one low read is = subst (λ (x : Item). Stands items k x) is (slice_get_read items (length items) k one refl low read)
+
+pub known_at : (items : List Item) (l : Library) (k : ℕ) (i : Placed) (one : Item) → k < length items → one ≡ get_or items k one → one ≡ item.Instance i → AreKnown (instances_of items) l
+    → (c : Cell) × (cell_of l i.model ≡ Some c)
+known_at items l k i one low read is known = known i (line_instance items i (member_at items k (item.Instance i) (item_stands items k i one low read is)))
+
+pub new_name : (d now : Draft) (items : List Item) (l : Library) (k : ℕ) (i : Placed) (one : Item) → k < length items → one ≡ get_or items k one → one ≡ item.Instance i
+    → d.instances ≡ [] → NoneTwice (map (λ (j : Placed). j.name) (instances_of items)) → now ≡ added_to d l items k → IsThere (map (λ (j : Instance). j.name) now.instances) i.name → ⊥
+new_name d now items l k i one low read is none once so_far h =
+    let placed : now.instances ≡ map (instance_of l) (instances_of (take k items)) =
+    ap (λ (x : Draft). x.instances) so_far ∙ ap (λ (is : List Instance). is ++ map (instance_of l) (instances_of (take k items))) none in
+    fresh items l k i (item_stands items k i one low read is) once (subst (λ (is : List Instance). IsThere (map (λ (j : Instance). j.name) is) i.name) placed h)
+
+pub few_placed : (d now : Draft) (items : List Item) (l : Library) (k : ℕ) → d.instances ≡ [] → length items < 2 ^ 32 → now ≡ added_to d l items k → length now.instances < 2 ^ 32
+few_placed d now items l k none few so_far =
+    let placed = ap (λ (x : Draft). length x.instances) so_far ∙ ap (λ (is : List Instance). length (is ++ map (instance_of l) (instances_of (take k items)))) none in
+    let own : length (map (instance_of l) (instances_of (take k items))) ≡ length (instances_of (take k items)) = length-map (instance_of l) (instances_of (take k items)) in
+    let some = instances_few (take k items) in
+    let most = length-take_most items k in
+    omega (arith, placed, own, some, most, few) where
+  length-take_most : (xs : List Item) (n : ℕ) → length (take n xs) ≤ length xs
+  length-take_most xs zero = omega arith
+  length-take_most [] (suc n) = omega arith
+  length-take_most (x ∷ xs) (suc n) = let h = length-take_most xs n in omega (arith, h)

@@ -2,7 +2,7 @@
 use Rattle.std.proofs.Common.{◌≡◌, ◌≢◌, ◌⊎◌, inl, inr, ◌↔◌, ℕ, zero, suc, ◌+◌, ◌<◌, ◌≤◌, Bool, true, false, List, [], ◌∷◌, ◌++◌, map, length, take, get_or, replicate, Option, None, Some, refl, sym, ap, subst, ◌∙◌, arith}
 use Rattle.std.specs.Prelude.{slice_set}
 use Rattle.std.specs.List.{All}
-use Rattle.std.proofs.lemmas.List.{get_or-set_same, get_or-set_other, length-set}
+use Rattle.std.proofs.lemmas.List.{get_or-set_same, get_or-set_other, take_more}
 use Rattle.std.proofs.lemmas.Option.{slice_get_within, same_Some}
 use Rattle.std.proofs.lemmas.Bool.{cases_lt}
 use Rattle.vlsi_base.specs.declared.name.Name.{Name}
@@ -204,3 +204,20 @@ texts_all links texts are t = (
   λ h. let d = (are t).0 h in record { bit = d.bit; listed = d.listed; of_port = d.of_port; named = d.named; output = d.output },
   λ d. (are t).1 (record { bit = d.bit; listed = d.listed; of_port = d.of_port; named = d.named; output = d.output }),
 )
+
+-- ---- what is read at a place
+
+-- the number of a connector that was read is below the count
+pub number_low : (links : List Link) (count k : ℕ) (x : Link) → AreBelow links count → k < length links → x ≡ get_or links k x → x.number < count
+number_low links count k x below low is = subst (λ (y : Link). y.number < count) (sym is) (below k x low)
+
+-- the connectors up to the one that was read
+pub take_read : (links : List Link) (k : ℕ) (x : Link) → k < length links → x ≡ get_or links k x → take (k + 1) links ≡ take k links ++ x ∷ []
+take_read links k x low is = take_more links k x low ∙ ap (λ (y : Link). take k links ++ y ∷ []) (sym is)
+
+-- all of them
+pub take_whole : (links : List Link) (k : ℕ) → length links ≤ k → take k links ≡ links
+take_whole [] zero h = refl
+take_whole [] (suc k) h = refl
+take_whole (x ∷ links) zero h = absurd (omega (arith, h))
+take_whole (x ∷ links) (suc k) h = ap (λ (ls : List Link). x ∷ ls) (take_whole links k (omega (arith, h)))

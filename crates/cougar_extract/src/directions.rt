@@ -18,7 +18,8 @@ fn outputs(alloc: Global, links: &[Link], count: usize) -> Result<Vec<bool>, All
     let mut marks = vec![in alloc; false; count]?;
     for link in links {
         if link.gives {
-            marks[link.number as usize] = true;
+            let number = link.number;
+            marks[number as usize] = true;
         }
     }
     Ok(marks)

@@ -83,7 +83,8 @@ pub(crate) fn leaders(
 {
     let mut places = vec![in alloc; 0; count]?;
     for k in 0..links.len() {
-        places[links[k].number as usize] = k;
+        let number = links[k].number;
+        places[number as usize] = k;
     }
     Ok(places)
 }

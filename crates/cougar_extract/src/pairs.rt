@@ -34,7 +34,9 @@ pub(crate) fn join_links(
     ensures { OnOk result (builder.new ≡ with_joins builder.old (map (join_of links.now places.now) links.now)) }
 {
     for link in links {
-        let leader = &links[places[link.number as usize]];
+        let number = link.number;
+        let place = places[number as usize];
+        let leader = &links[place];
         match builder.join(&leader.terminal, &link.terminal) {
             Ok(()) => {}
             Err(error) => return Err(only_memory(error)),
