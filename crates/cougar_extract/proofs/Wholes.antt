@@ -1,5 +1,5 @@
 -- What the stages of extraction are lent, and what its answers come to.
-use Rattle.std.proofs.Common.{◌≡◌, ◌∷◌, ℕ, ◌<◌, ◌^◌, Bool, false, List, [], ◌++◌, map, length, take, get_or, replicate, Option, None, Some, All, refl, sym, ap, subst, ◌∙◌, arith, length-append}
+use Rattle.std.proofs.Common.{◌≡◌, ◌∷◌, ℕ, zero, suc, ◌<◌, ◌≤◌, ◌^◌, Bool, false, List, [], ◌++◌, map, length, take, get_or, replicate, Option, None, Some, All, refl, sym, ap, subst, ◌∙◌, arith, length-append}
 use Rattle.std.specs.Prelude.{slice_get}
 use Rattle.std.proofs.lemmas.List.{length-replicate}
 use Rattle.vlsi_base.specs.declared.name.Name.{Name}
@@ -14,7 +14,7 @@ use Rattle.cell_model.specs.Cell.{Cell}
 use Rattle.cell_model.specs.Connectors.{PinsAreConnectors}
 use Rattle.cell_model.specs.Library.{Library, cell_of}
 use Rattle.cell_model.specs.Layout.{instances_of, instance_shapes, all_instances_show, shapes}
-use Rattle.cell_checks.specs.Checked.{IsChecked as HasPassed}
+use Rattle.cell_checks.specs.Checked.{library_of, IsChecked as HasPassed}
 use Rattle.cell_checks.specs.declared.verdict.Check.TheVariants as check
 use Rattle.net_core.specs.Places.{Stands}
 use Rattle.net_core.specs.Netlist.{Netlist, port}
@@ -89,3 +89,37 @@ short_refused f l n i j p q (error.Shorted a b chain) ok is pair at_p at_q h =
       subst (λ (x : Name). IsLeastShort f.items l a x) (sym h.1) (subst (λ (x : Name). IsLeastShort f.items l x q.name) (sym h.0) least),
       subst (λ (x : Name). IsChainOf (shapes f.items l) a x chain) (sym h.1) (subst (λ (x : Name). IsChainOf (shapes f.items l) x q.name chain) (sym h.0) h.2),
     )
+
+-- ---- the cells that a library gives
+
+-- what holds of the library's cells holds of the slice of them
+pub of_library : (cells : List Cell) (l : Library) → library_of cells ≡ l → (P : List Cell → Type 0) → P l.cells → P cells
+of_library cells l same P h = subst (λ (x : Library). P x.cells) (sym same) h
+
+-- what is known of the stages by the slice is known by the library
+pub by_library : (cells : List Cell) (l : Library) → library_of cells ≡ l → (P : Library → Type 0) → P (library_of cells) → P l
+by_library cells l same P h = subst P same h
+
+-- ---- the whole
+
+-- the netlist of connectors, as the netlist of the layout
+pub whole : (f : Figure) (l : Library) (links : List Link) (n : Netlist) → IsReadyFigure f → AreKnown (instances_of f.items) l → AreConnected (shapes f.items l) (gives f.items l) links
+    → IsBuilt f l links n → IsExtracted f l n
+whole f l links n ready known is built = extracted f l links n ready known is built
+
+-- the pair's ports are joined
+pub pair_joined : (f : Figure) (l : Library) (n : Netlist) (i j : ℕ) (p q : Port) → All PinsAreConnectors l.cells → IsExtracted f l n
+    → IsPairFrom (take (length n.ports) n.classes) 0 (Some (i, j)) → Stands n.ports i p → Stands n.ports j q → AreJoined (shapes f.items l) (port p.name) (port q.name)
+pair_joined f l n i j p q ok is pair at_p at_q = (least_short f l n ok is i j p q pair at_p at_q).shorted.tied
+
+-- both places of the pair are those of ports
+pub pair_low : (n : Netlist) (i j : ℕ) → IsPairFrom (take (length n.ports) n.classes) 0 (Some (i, j)) → (i < length n.ports) × (j < length n.ports)
+pair_low n i j pair =
+    let most = length_take_most n.classes (length n.ports) in
+    let behind = pair.behind in
+    let within = pair.within in
+    (omega (arith, most, behind, within), omega (arith, most, within)) where
+  length_take_most : (xs : List ℕ) (m : ℕ) → length (take m xs) ≤ m
+  length_take_most xs zero = omega arith
+  length_take_most [] (suc m) = omega arith
+  length_take_most (x ∷ xs) (suc m) = let h = length_take_most xs m in omega (arith, h)
