@@ -50,7 +50,7 @@ pins_found l i c e = ap pins_of_cell (sym e)
 
 -- ---- instances
 
-split_at : {A : Type 0} (xs : List A) (k : ℕ) (x : A) → Stands xs k x → (rest : List A) × (xs ≡ take k xs ++ x ∷ rest)
+pub split_at : {A : Type 0} (xs : List A) (k : ℕ) (x : A) → Stands xs k x → (rest : List A) × (xs ≡ take k xs ++ x ∷ rest)
 split_at [] k x h = absurd (cc h)
 split_at {A} (y ∷ xs) zero x h = (xs, ap (λ (z : A). z ∷ xs) (same_Some y x h))
 split_at {A} (y ∷ xs) (suc k) x h = let r = split_at xs k x h in (r.0, ap (λ (zs : List A). y ∷ zs) r.1)
@@ -247,14 +247,15 @@ new_name d now items l k i one low read is none once so_far h =
     ap (λ (x : Draft). x.instances) so_far ∙ ap (λ (is : List Instance). is ++ map (instance_of l) (instances_of (take k items))) none in
     fresh items l k i (item_stands items k i one low read is) once (subst (λ (is : List Instance). IsThere (map (λ (j : Instance). j.name) is) i.name) placed h)
 
+take_most : (xs : List Item) (n : ℕ) → length (take n xs) ≤ length xs
+take_most xs zero = omega arith
+take_most [] (suc n) = omega arith
+take_most (x ∷ xs) (suc n) = let h = take_most xs n in omega (arith, h)
+
 pub few_placed : (d now : Draft) (items : List Item) (l : Library) (k : ℕ) → d.instances ≡ [] → length items < 2 ^ 32 → now ≡ added_to d l items k → length now.instances < 2 ^ 32
 few_placed d now items l k none few so_far =
     let placed = ap (λ (x : Draft). length x.instances) so_far ∙ ap (λ (is : List Instance). length (is ++ map (instance_of l) (instances_of (take k items)))) none in
     let own : length (map (instance_of l) (instances_of (take k items))) ≡ length (instances_of (take k items)) = length-map (instance_of l) (instances_of (take k items)) in
     let some = instances_few (take k items) in
-    let most = length-take_most items k in
-    omega (arith, placed, own, some, most, few) where
-  length-take_most : (xs : List Item) (n : ℕ) → length (take n xs) ≤ length xs
-  length-take_most xs zero = omega arith
-  length-take_most [] (suc n) = omega arith
-  length-take_most (x ∷ xs) (suc n) = let h = length-take_most xs n in omega (arith, h)
+    let most = take_most items k in
+    omega (arith, placed, own, some, most, few)

@@ -42,6 +42,10 @@ pub names_next : (items : List Item) (k : ℕ) (one : Item) → take (k + 1) ite
     → connector_names (take (k + 1) items) ≡ connector_names (take k items) ++ (connector_name one ++ [])
 names_next items k one e = ap connector_names e ∙ names_append (take k items) (one ∷ [])
 
+single : (name n : Name) → In n (name ∷ []) → n ≡ name
+single name n here = refl
+single name n (there i) = elim i [ ]
+
 -- a new name
 pub names_put : (items : List Item) (k : ℕ) (one : Item) (name : Name) (index now : NamePlaces) (names : List Name) → take (k + 1) items ≡ take k items ++ one ∷ []
     → connector_name one ≡ name ∷ [] → (In name names → ⊥) → Knows now (names ++ name ∷ []) → AreFirstNames items k index names → AreFirstNames items (k + 1) now (names ++ name ∷ [])
@@ -64,10 +68,7 @@ names_put items k one name index now names next is new knows are = record {
   own m e = subst (λ (ns : List Name). In m (ns ++ [])) (sym e) here
 
   only : (n : Name) → In n (connector_name one ++ []) → n ≡ name
-  only n j = single n (subst (λ (ns : List Name). In n (ns ++ [])) is j) where
-    single : (n : Name) → In n (name ∷ []) → n ≡ name
-    single n here = refl
-    single n (there i) = elim i [ ]
+  only n j = single name n (subst (λ (ns : List Name). In n (ns ++ [])) is j)
 
 -- a name that is there already, or none
 pub names_keep : (items : List Item) (k : ℕ) (one : Item) (index : NamePlaces) (names : List Name) → take (k + 1) items ≡ take k items ++ one ∷ []

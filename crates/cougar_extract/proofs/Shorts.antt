@@ -92,7 +92,7 @@ module _ (f : Figure) (l : Library) (n : Netlist) (connected : All PinsAreConnec
   enough =
       let each = is.sound.each in
       let sum = length-append (port_terminals n.ports) (flat_map pins_of n.instances) in
-      let own : length (port_terminals n.ports) ≡ length n.ports = length-map _ n.ports in
+      let own : length (port_terminals n.ports) ≡ length n.ports = length-map (λ (p : Port). port p.name) n.ports in
       omega (arith, each, sum, own)
 
   many : length classes ≡ length n.ports

@@ -32,7 +32,7 @@ use Rattle.cougar_extract.specs.declared.error.Step.{Step}
 use Rattle.cougar_extract.specs.Extracted.{AreKnown}
 use Rattle.cougar_extract.specs.Refused.{IsFirstUnknown, step_of, IsChainOf}
 use Rattle.cougar_extract.specs.Stages.{IsLeader, AreLeaders, instance_gives, all_instances_give, IsShownAt}
-use Rattle.cougar_extract.proofs.Adding.{joined_to, no_join}
+use Rattle.cougar_extract.proofs.Adding.{split_at, joined_to, no_join}
 use Rattle.cougar_extract.proofs.Instances.{instances_append}
 
 -- an element that was read at its place stands there
@@ -77,7 +77,7 @@ known_more l is i c e known j h = elim (In-split j is (i ∷ []) h) [
 pub first_unknown : (items : List Item) (l : Library) (k : ℕ) (i : Placed) → Stands items k (item.Instance i) → AreKnown (instances_of (take k items)) l → cell_of l i.model ≡ None
     → IsFirstUnknown (instances_of items) l i.model
 first_unknown items l k i at known none =
-    let r = split items k (item.Instance i) at in
+    let r = split_at items k (item.Instance i) at in
     record {
       before = instances_of (take k items);
       instance = i;
@@ -86,11 +86,7 @@ first_unknown items l k i at known none =
       known = known;
       unknown = none;
       model_is = refl;
-    } where
-  split : {A : Type 0} (xs : List A) (k : ℕ) (x : A) → Stands xs k x → (rest : List A) × (xs ≡ take k xs ++ x ∷ rest)
-  split [] k x h = absurd (cc h)
-  split {A} (y ∷ xs) zero x h = (xs, let e : y ≡ x = cc in ap (λ (z : A). z ∷ xs) e)
-  split {A} (y ∷ xs) (suc k) x h = let t = split xs k x h in (t.0, ap (λ (zs : List A). y ∷ zs) t.1)
+    }
 
 -- ---- texts that are learned
 

@@ -13,7 +13,7 @@ use Rattle.sym_shapes.specs.Joined.{AreJoined}
 use Rattle.cell_model.specs.Cell.{Cell}
 use Rattle.cell_model.specs.Connectors.{PinsAreConnectors}
 use Rattle.cell_model.specs.Library.{Library, cell_of}
-use Rattle.cell_model.specs.Layout.{instances_of, instance_shapes, all_instances_show, shapes}
+use Rattle.cell_model.specs.Layout.{instances_of, placed, instance_shapes, all_instances_show, shapes}
 use Rattle.cell_checks.specs.Checked.{library_of, IsChecked as HasPassed}
 use Rattle.cell_checks.specs.declared.verdict.Check.TheVariants as check
 use Rattle.net_core.specs.Places.{Stands}
@@ -25,7 +25,7 @@ use Rattle.cougar_extract.specs.declared.error.ExtractError.{ExtractError}
 use Rattle.cougar_extract.specs.declared.error.ExtractError.TheVariants as error
 use Rattle.cougar_extract.specs.Extracted.{IsReadyFigure, AreKnown, IsExtracted}
 use Rattle.cougar_extract.specs.Refused.{NoShort, IsLeastShort, IsChainOf, IsExtractRefusal}
-use Rattle.cougar_extract.specs.Stages.{gives, all_instances_give, instance_gives, IsUnknownRefusal, IsPairFrom, IsLeastPair, AreTerminals, AreConnected, IsBuilt, IsShortRefusal}
+use Rattle.cougar_extract.specs.Stages.{is_output, gives, all_instances_give, instance_gives, IsUnknownRefusal, IsPairFrom, IsLeastPair, AreTerminals, AreConnected, IsBuilt, IsShortRefusal}
 use Rattle.cougar_extract.proofs.Extracted.{extracted}
 use Rattle.cougar_extract.proofs.Shapes.{whence, shown_terminal}
 use Rattle.cougar_extract.proofs.Shorts.{no_short, least_short}
@@ -38,7 +38,7 @@ connected tracks l passed k d low = (passed.passes k d low).0 check.Connectors
 
 instance_many : (o : Option Cell) (i : Placed) → length (instance_gives o) ≡ length (instance_shapes o i)
 instance_many None i = refl
-instance_many (Some c) i = length-map _ (drawn c.items) ∙ sym (length-map _ (drawn c.items))
+instance_many (Some c) i = length-map (λ (s : Shape). is_output c s.name) (drawn c.items) ∙ sym (length-map (placed c i) (drawn c.items))
 
 all_many : (l : Library) (is : List Placed) → length (all_instances_give l is) ≡ length (all_instances_show l is)
 all_many l [] = refl
@@ -112,14 +112,15 @@ pub pair_joined : (f : Figure) (l : Library) (n : Netlist) (i j : ℕ) (p q : Po
     → IsPairFrom (take (length n.ports) n.classes) 0 (Some (i, j)) → Stands n.ports i p → Stands n.ports j q → AreJoined (shapes f.items l) (port p.name) (port q.name)
 pair_joined f l n i j p q ok is pair at_p at_q = (least_short f l n ok is i j p q pair at_p at_q).shorted.tied
 
+length_take_most : (xs : List ℕ) (m : ℕ) → length (take m xs) ≤ m
+length_take_most xs zero = omega arith
+length_take_most [] (suc m) = omega arith
+length_take_most (x ∷ xs) (suc m) = let h = length_take_most xs m in omega (arith, h)
+
 -- both places of the pair are those of ports
 pub pair_low : (n : Netlist) (i j : ℕ) → IsPairFrom (take (length n.ports) n.classes) 0 (Some (i, j)) → (i < length n.ports) × (j < length n.ports)
 pair_low n i j pair =
     let most = length_take_most n.classes (length n.ports) in
     let behind = pair.behind in
     let within = pair.within in
-    (omega (arith, most, behind, within), omega (arith, most, within)) where
-  length_take_most : (xs : List ℕ) (m : ℕ) → length (take m xs) ≤ m
-  length_take_most xs zero = omega arith
-  length_take_most [] (suc m) = omega arith
-  length_take_most (x ∷ xs) (suc m) = let h = length_take_most xs m in omega (arith, h)
+    (omega (arith, most, behind, within), omega (arith, most, within))
