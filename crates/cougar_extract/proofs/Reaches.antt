@@ -1,5 +1,5 @@
 -- How far the shapes of a cell reach, and where an instance shows them.
-use Rattle.std.proofs.Common.{◌≡◌, inl, inr, ⊎_elim, ℕ, suc, List, [], ◌∷◌, ◌++◌, map, get_or, Option, None, Some, All, refl, sym, ap, subst, ◌∙◌, arith, neg_ℤ}
+use Rattle.std.proofs.Common.{◌≡◌, ◌<◌, inl, inr, ⊎_elim, ℕ, suc, length, List, [], ◌∷◌, ◌++◌, map, get_or, Option, None, Some, All, refl, sym, ap, subst, ◌∙◌, arith, neg_ℤ}
 use Rattle.std.specs.Prelude.{ℤ, pos, ◌+ℤ◌, ◌-ℤ◌, ◌≤ℤ◌, int_div}
 use Rattle.std.specs.Int.{int_min, int_max}
 use Rattle.std.proofs.lemmas.Int.{ints, clamps}
@@ -17,7 +17,7 @@ use Rattle.sym_geom.specs.declared.item.Item.{Item}
 use Rattle.sym_geom.specs.declared.item.Item.TheVariants as item
 use Rattle.sym_shapes.specs.Ready.{IsReady}
 use Rattle.sym_shapes.specs.Shape.{Shape, on_metal, pad_shapes, item_shapes, drawn_from, drawn}
-use Rattle.cell_model.proofs.Members.{In-split, In-map_back, All-In}
+use Rattle.cell_model.proofs.Members.{In-at, In-split, In-map_back, All-In}
 use Rattle.cougar_extract.specs.Stages.{IsCellEdge, HasCellEdges}
 
 reach_square : (x y w : ℤ) → IsCoordinate x → IsCoordinate y → pos 1 ≤ℤ w → IsCoordinate w → HasCellEdges (square x y w)
@@ -144,3 +144,11 @@ extent_reach a b h k =
 
 pub coordinate_reach : (a : ℤ) → IsCoordinate a → IsReach a
 coordinate_reach a h = let p = h.low in let q = h.high in record { low = omega (arith, ints, p, q); high = omega (arith, ints, p, q) }
+
+-- the rectangle of a drawn shape that was read at its place
+pub read_edges : (items : List Item) (shapes : List Shape) (k : ℕ) (s : Shape) → shapes ≡ drawn items → All IsReady items → k < length shapes → s ≡ get_or shapes k s
+    → HasCellEdges s.rect
+read_edges items shapes k s same ready low is =
+    let at : In (get_or shapes k s) shapes = In-at shapes k s low in
+    let listed : In s (drawn items) = subst (λ (xs : List Shape). In s xs) same (subst (λ (x : Shape). In x shapes) (sym is) at) in
+    drawn_reach items ready s listed

@@ -1,5 +1,5 @@
 -- What the loops of extraction are lent at a step.
-use Rattle.std.proofs.Common.{◌≡◌, ◌⊎◌, inl, inr, ◌↔◌, ℕ, zero, suc, ◌+◌, ◌<◌, ◌≤◌, List, [], ◌∷◌, ◌++◌, map, length, take, get_or, Option, None, Some, All, refl, sym, ap, subst, ◌∙◌, arith, append_assoc}
+use Rattle.std.proofs.Common.{◌≡◌, ◌⊎◌, inl, inr, ◌↔◌, ℕ, zero, suc, ◌+◌, ◌<◌, ◌≤◌, Bool, append-nil, List, [], ◌∷◌, ◌++◌, map, length, take, get_or, Option, None, Some, All, refl, sym, ap, subst, ◌∙◌, arith, append_assoc}
 use Rattle.std.specs.Prelude.{slice_get, option_map}
 use Rattle.std.proofs.lemmas.List.{map-append, take_more}
 use Rattle.std.proofs.lemmas.Option.{slice_get_within, slice_get_read, get_or_from_slice_get}
@@ -53,7 +53,7 @@ show_append l (i ∷ rest) b =
 give_append : (l : Library) (a b : List Placed) → all_instances_give l (a ++ b) ≡ all_instances_give l a ++ all_instances_give l b
 give_append l [] b = refl
 give_append l (i ∷ rest) b =
-    ap (λ xs. instance_gives (cell_of l i.model) ++ xs) (give_append l rest b)
+    ap (λ (xs : List Bool). instance_gives (cell_of l i.model) ++ xs) (give_append l rest b)
     ∙ sym (append_assoc (instance_gives (cell_of l i.model)) (all_instances_give l rest) (all_instances_give l b))
 
 -- the instances of the first k + 1 lines
@@ -150,3 +150,47 @@ chain_of all a b i j s u places steps chain at_s shows_s at_u shows_u told = rec
   ends = λ d. subst (λ (x : Shape). Shows (port b) x) (sym (get_or_from_slice_get all j u d at_u)) shows_u;
   told = told;
 }
+
+-- ---- a line more
+
+-- an instance of a known cell: what it shows comes behind
+pub drawn_next : (items : List Item) (l : Library) (k : ℕ) (i : Placed) (c : Cell) (base before after : List Shape) → Stands items k (item.Instance i) → cell_of l i.model ≡ Some c
+    → before ≡ base ++ all_instances_show l (instances_of (take k items)) → after ≡ before ++ instance_shapes (Some c) i
+    → after ≡ base ++ all_instances_show l (instances_of (take (k + 1) items))
+drawn_next items l k i c base before after at known so_far made =
+    let own : instance_shapes (Some c) i ≡ all_instances_show l (i ∷ []) =
+    ap (λ (o : Option Cell). instance_shapes o i) (sym known) ∙ sym (append-nil (instance_shapes (cell_of l i.model) i)) in
+    made
+    ∙ ap (λ (xs : List Shape). xs ++ instance_shapes (Some c) i) so_far
+    ∙ append_assoc base (all_instances_show l (instances_of (take k items))) (instance_shapes (Some c) i)
+    ∙ ap (λ (xs : List Shape). base ++ xs)
+    (ap (λ (xs : List Shape). all_instances_show l (instances_of (take k items)) ++ xs) own
+    ∙ sym (show_append l (instances_of (take k items)) (i ∷ []))
+    ∙ ap (all_instances_show l) (sym (placed_next items k (item.Instance i) at)))
+
+pub gives_next : (items : List Item) (l : Library) (k : ℕ) (i : Placed) (c : Cell) (base before after : List Bool) → Stands items k (item.Instance i) → cell_of l i.model ≡ Some c
+    → before ≡ base ++ all_instances_give l (instances_of (take k items)) → after ≡ before ++ instance_gives (Some c)
+    → after ≡ base ++ all_instances_give l (instances_of (take (k + 1) items))
+gives_next items l k i c base before after at known so_far made =
+    let own : instance_gives (Some c) ≡ all_instances_give l (i ∷ []) =
+    ap (λ (o : Option Cell). instance_gives o) (sym known) ∙ sym (append-nil (instance_gives (cell_of l i.model))) in
+    made
+    ∙ ap (λ (xs : List Bool). xs ++ instance_gives (Some c)) so_far
+    ∙ append_assoc base (all_instances_give l (instances_of (take k items))) (instance_gives (Some c))
+    ∙ ap (λ (xs : List Bool). base ++ xs)
+    (ap (λ (xs : List Bool). all_instances_give l (instances_of (take k items)) ++ xs) own
+    ∙ sym (give_append l (instances_of (take k items)) (i ∷ []))
+    ∙ ap (all_instances_give l) (sym (placed_next items k (item.Instance i) at)))
+
+-- another line changes nothing
+pub placed_kept : (items : List Item) (k : ℕ) (one : Item) → Stands items k one → instances_of (one ∷ []) ≡ [] → instances_of (take k items) ≡ instances_of (take (k + 1) items)
+placed_kept items k one at none =
+    sym (placed_next items k one at ∙ ap (λ (is : List Placed). instances_of (take k items) ++ is) none ∙ append-nil (instances_of (take k items)))
+
+pub no_instance : (one : Item) → ((i : Placed) → one ≡ item.Instance i → ⊥) → instances_of (one ∷ []) ≡ []
+no_instance (item.Segment s) not = refl
+no_instance (item.Connector c) not = refl
+no_instance (item.Via v) not = refl
+no_instance (item.Instance i) not = absurd (not i refl)
+no_instance (item.Reference r) not = refl
+no_instance (item.Remark text) not = refl
