@@ -23,12 +23,12 @@ pub(crate) fn cell_of<'c>(cells: &'c [Cell], model: &Text) -> Option<&'c Cell>
 pub(crate) fn is_output(cell: &Cell, name: Option<&Name>) -> bool
     ensures { result ≡ gives cell.now (option_copied name) }
 {
-    let Some(name) = name else {
+    let Some(wanted) = name else {
         return false;
     };
     let pins = cell.pins.as_slice();
     for pin in pins {
-        if pin.port.dir == Dir::Out && pin.port.name.is_same(name) {
+        if pin.port.dir == Dir::Out && pin.port.name.is_same(wanted) {
             return true;
         }
     }

@@ -33,7 +33,7 @@ fn copied(alloc: Global, name: Option<&Name>) -> Result<Option<Name>, AllocError
     ensures { IfOk result (λ made. made ≡ option_copied name) }
 {
     match name {
-        Some(name) => Ok(Some(name.copy(alloc)?)),
+        Some(own) => Ok(Some(own.copy(alloc)?)),
         None => Ok(None),
     }
 }

@@ -22,7 +22,7 @@ fn terminal(alloc: Global, owner: Option<&Text>, name: &Name) -> Result<Terminal
     ensures { IfOk result (λ made. made ≡ record { instance = option_copied owner; pin = name.now }) }
 {
     let instance = match owner {
-        Some(owner) => Some(owner.copy(alloc)?),
+        Some(own) => Some(own.copy(alloc)?),
         None => None,
     };
     Ok(Terminal {

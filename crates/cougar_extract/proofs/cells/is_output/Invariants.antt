@@ -5,4 +5,4 @@ use Rattle.cougar_extract.proofs.Outputs.{test}
 use Rattle.cougar_extract.proofs.cells.is_output.Given as goal
 
 abbrev pub invariant-loop-pin : goal.invariant-loop-pin
-invariant-loop-pin l = list_any (test l.name) (map (λ (p : Pin). p.port) (take l.pin-index l.pins)) ≡ false
+invariant-loop-pin l = list_any (test l.wanted) (map (λ (p : Pin). p.port) (take l.pin-index l.pins)) ≡ false
