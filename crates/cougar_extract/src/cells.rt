@@ -21,7 +21,7 @@ pub(crate) fn cell_of<'c>(cells: &'c [Cell], model: &Text) -> Option<&'c Cell>
 
 /// Whether a connector of this name is an output pin.
 pub(crate) fn is_output(cell: &Cell, name: Option<&Name>) -> bool
-    ensures { result ≡ gives cell.now (option_copied name) }
+    ensures { result ≡ gives cell.now (option_copied name.entry) }
 {
     let Some(wanted) = name else {
         return false;

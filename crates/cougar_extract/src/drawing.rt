@@ -30,7 +30,7 @@ pub(crate) struct Drawing {
 
 /// A copy of a name, if there is one.
 fn copied(alloc: Global, name: Option<&Name>) -> Result<Option<Name>, AllocError>
-    ensures { IfOk result (λ made. made ≡ option_copied name) }
+    ensures { IfOk result (λ made. made ≡ option_copied name.entry) }
 {
     match name {
         Some(own) => Ok(Some(own.copy(alloc)?)),

@@ -19,7 +19,7 @@ pub(crate) struct Link {
 
 /// The terminal that a shape with this name shows.
 fn terminal(alloc: Global, owner: Option<&Text>, name: &Name) -> Result<Terminal, AllocError>
-    ensures { IfOk result (λ made. made ≡ record { instance = option_copied owner; pin = name.now }) }
+    ensures { IfOk result (λ made. made ≡ record { instance = option_copied owner.entry; pin = name.now }) }
 {
     let instance = match owner {
         Some(own) => Some(own.copy(alloc)?),
