@@ -3,7 +3,7 @@ use Rattle.std.proofs.Common.{◌≡◌, ◌↔◌, ◌⊎◌, inl, inr, ℕ, ze
 use Rattle.std.specs.List.{flat_map}
 use Rattle.std.proofs.lemmas.Grind.{flat_map-append}
 use Rattle.std.proofs.lemmas.List.{map-append, take_more}
-use Rattle.std.proofs.lemmas.Option.{slice_get_within, slice_get_read, same_Some, get_or_from_slice_get}
+use Rattle.std.proofs.lemmas.Option.{slice_get_within, same_Some, get_or_from_slice_get}
 use Rattle.vlsi_base.specs.declared.name.Name.{Name}
 use Rattle.vlsi_base.specs.declared.name.Port.{Port}
 use Rattle.vlsi_base.specs.declared.name.Terminal.{Terminal}
@@ -110,23 +110,28 @@ instances_none d = ap (λ (xs : List Instance). record d { instances = xs }) (sy
 abbrev pub added_to : Draft → Library → List Item → ℕ → Draft
 added_to d l items k = with_instances d (map (instance_of l) (instances_of (take k items)))
 
-pub added_next : (d now after : Draft) (l : Library) (items : List Item) (k : ℕ) (i : Placed) → Stands items k (item.Instance i) → now ≡ added_to d l items k
-    → after ≡ with_instances now (instance_of l i ∷ []) → after ≡ added_to d l items (k + 1)
-added_next d now after l items k i at so_far made =
-    let next : instances_of (take (k + 1) items) ≡ instances_of (take k items) ++ i ∷ [] =
-    ap instances_of (take_next items k (item.Instance i) at) ∙ instances_append (take k items) (item.Instance i ∷ []) in
-    made
-    ∙ ap (λ (x : Draft). with_instances x (instance_of l i ∷ [])) so_far
-    ∙ instances_more d (map (instance_of l) (instances_of (take k items))) (instance_of l i ∷ [])
-    ∙ ap (with_instances d) (sym (map-append (instance_of l) (instances_of (take k items)) (i ∷ [])) ∙ ap (map (instance_of l)) (sym next))
+placed_next : (items : List Item) (k : ℕ) (one : Item) → Stands items k one → instances_of (take (k + 1) items) ≡ instances_of (take k items) ++ instances_of (one ∷ [])
+placed_next items k one at = ap instances_of (take_next items k one at) ∙ instances_append (take k items) (one ∷ [])
 
-pub passed_next : (d now : Draft) (l : Library) (items : List Item) (k : ℕ) (one : Item) → Stands items k one → instances_of (one ∷ []) ≡ [] → now ≡ added_to d l items k
-    → now ≡ added_to d l items (k + 1)
-passed_next d now l items k one at none so_far =
-    let next : instances_of (take (k + 1) items) ≡ instances_of (take k items) =
-    ap instances_of (take_next items k one at) ∙ instances_append (take k items) (one ∷ [])
-    ∙ ap (λ (is : List Placed). instances_of (take k items) ++ is) none ∙ append-nil (instances_of (take k items)) in
-    so_far ∙ ap (λ (is : List Placed). with_instances d (map (instance_of l) is)) (sym next)
+-- a line more, which may be an instance
+pub added_line : (d now after : Draft) (l : Library) (items : List Item) (k : ℕ) (one : Item) → Stands items k one → now ≡ added_to d l items k
+    → after ≡ with_instances now (map (instance_of l) (instances_of (one ∷ []))) → after ≡ added_to d l items (k + 1)
+added_line d now after l items k one at so_far made =
+    made
+    ∙ ap (λ (x : Draft). with_instances x (map (instance_of l) (instances_of (one ∷ [])))) so_far
+    ∙ instances_more d (map (instance_of l) (instances_of (take k items))) (map (instance_of l) (instances_of (one ∷ [])))
+    ∙ ap (with_instances d)
+    (sym (map-append (instance_of l) (instances_of (take k items)) (instances_of (one ∷ []))) ∙ ap (map (instance_of l)) (sym (placed_next items k one at)))
+
+take_whole : (items : List Item) (k : ℕ) → length items ≤ k → take k items ≡ items
+take_whole [] zero h = refl
+take_whole [] (suc k) h = refl
+take_whole (x ∷ items) zero h = absurd (omega (arith, h))
+take_whole (x ∷ items) (suc k) h = ap (λ (xs : List Item). x ∷ xs) (take_whole items k (omega (arith, h)))
+
+-- all lines
+pub added_all : (d now : Draft) (l : Library) (items : List Item) (k : ℕ) → length items ≤ k → now ≡ added_to d l items k → now ≡ with_instances d (map (instance_of l) (instances_of items))
+added_all d now l items k most so_far = so_far ∙ ap (λ (xs : List Item). with_instances d (map (instance_of l) (instances_of xs))) (take_whole items k most)
 
 -- ---- terminals
 
@@ -233,19 +238,32 @@ bare_count d none =
     let own : length (map (λ (p : Port). port p.name) d.ports) ≡ length d.ports = length-map (λ (p : Port). port p.name) d.ports in
     omega (arith, all, sum, own)
 
-item_stands : (items : List Item) (k : ℕ) (i : Placed) (one : Item) → k < length items → one ≡ get_or items k one → one ≡ item.Instance i → Stands items k (item.Instance i)
-item_stands items k i one low read is = subst (λ (x : Item). Stands items k x) is (slice_get_read items (length items) k one refl low read)
+single : (j i : Placed) → In i (j ∷ []) → item.Instance j ≡ item.Instance i
+single j i here = refl
+single j i (there h) = elim h [ ]
 
-pub known_at : (items : List Item) (l : Library) (k : ℕ) (i : Placed) (one : Item) → k < length items → one ≡ get_or items k one → one ≡ item.Instance i → AreKnown (instances_of items) l
-    → (c : Cell) × (cell_of l i.model ≡ Some c)
-known_at items l k i one low read is known = known i (line_instance items i (member_at items k (item.Instance i) (item_stands items k i one low read is)))
+-- an instance on one line is that line
+only_line : (one : Item) (i : Placed) → In i (instances_of (one ∷ [])) → one ≡ item.Instance i
+only_line (item.Segment s) i h = elim h [ ]
+only_line (item.Connector c) i h = elim h [ ]
+only_line (item.Via v) i h = elim h [ ]
+only_line (item.Instance j) i h = single j i h
+only_line (item.Reference r) i h = elim h [ ]
+only_line (item.Remark text) i h = elim h [ ]
 
-pub new_name : (d now : Draft) (items : List Item) (l : Library) (k : ℕ) (i : Placed) (one : Item) → k < length items → one ≡ get_or items k one → one ≡ item.Instance i
-    → d.instances ≡ [] → NoneTwice (map (λ (j : Placed). j.name) (instances_of items)) → now ≡ added_to d l items k → IsThere (map (λ (j : Instance). j.name) now.instances) i.name → ⊥
-new_name d now items l k i one low read is none once so_far h =
+pub known_line : (items : List Item) (l : Library) (k : ℕ) (one : Item) → Stands items k one → AreKnown (instances_of items) l → AreKnown (instances_of (one ∷ [])) l
+known_line items l k one at known i h =
+    let is : one ≡ item.Instance i = only_line one i h in
+    known i (line_instance items i (member_at items k (item.Instance i) (subst (λ (x : Item). Stands items k x) is at)))
+
+pub new_line : (d now : Draft) (items : List Item) (l : Library) (k : ℕ) (one : Item) → Stands items k one → d.instances ≡ []
+    → NoneTwice (map (λ (j : Placed). j.name) (instances_of items)) → now ≡ added_to d l items k
+    → (i : Placed) → In i (instances_of (one ∷ [])) → IsThere (map (λ (j : Instance). j.name) now.instances) i.name → ⊥
+new_line d now items l k one at none once so_far i own h =
+    let is : one ≡ item.Instance i = only_line one i own in
     let placed : now.instances ≡ map (instance_of l) (instances_of (take k items)) =
     ap (λ (x : Draft). x.instances) so_far ∙ ap (λ (is : List Instance). is ++ map (instance_of l) (instances_of (take k items))) none in
-    fresh items l k i (item_stands items k i one low read is) once (subst (λ (is : List Instance). IsThere (map (λ (j : Instance). j.name) is) i.name) placed h)
+    fresh items l k i (subst (λ (x : Item). Stands items k x) is at) once (subst (λ (is : List Instance). IsThere (map (λ (j : Instance). j.name) is) i.name) placed h)
 
 take_most : (xs : List Item) (n : ℕ) → length (take n xs) ≤ length xs
 take_most xs zero = omega arith

@@ -17,7 +17,7 @@ use Rattle.sym_shapes.proofs.Joins.{joined_then}
 use Rattle.cell_model.specs.Cell.{Cell}
 use Rattle.cell_model.specs.Library.{Library, cell_of, cell_named}
 use Rattle.cell_model.specs.Layout.{instances_of, instance_shapes, all_instances_show}
-use Rattle.cell_model.proofs.Members.{All-In, In-at, In-split, place-In}
+use Rattle.cell_model.proofs.Members.{All-In, In-at, In-split, In-left, In-right}
 use Rattle.cell_pins.proofs.Sound.{member_at}
 use Rattle.net_core.specs.declared.error.BuildError.{BuildError}
 use Rattle.net_core.specs.declared.error.BuildError.TheVariants as error
@@ -28,10 +28,13 @@ use Rattle.net_core.proofs.Growing.{learned_grows}
 use Rattle.net_core.proofs.Learning.{learned_only}
 use Rattle.net_core.proofs.Standing.{stands_left}
 use Rattle.cougar_extract.specs.declared.links.Link.{Link}
+use Rattle.sym_geom.specs.Rect.{IsCoordinate}
 use Rattle.cougar_extract.specs.declared.error.Step.{Step}
+use Rattle.cougar_extract.specs.declared.error.ExtractError.{ExtractError}
+use Rattle.cougar_extract.specs.declared.error.ExtractError.TheVariants as errors
 use Rattle.cougar_extract.specs.Extracted.{AreKnown}
 use Rattle.cougar_extract.specs.Refused.{IsFirstUnknown, step_of, IsChainOf}
-use Rattle.cougar_extract.specs.Stages.{IsLeader, AreLeaders, instance_gives, all_instances_give, IsShownAt}
+use Rattle.cougar_extract.specs.Stages.{IsLeader, AreLeaders, instance_gives, all_instances_give, IsUnknownRefusal}
 use Rattle.cougar_extract.proofs.Adding.{split_at, joined_to, no_join}
 use Rattle.cougar_extract.proofs.Instances.{instances_append}
 
@@ -62,31 +65,6 @@ placed_next items k one at =
     let here_it : get_or items k one ≡ one = get_or_from_slice_get items k one one at in
     ap instances_of (take_more items k one (slice_get_within items k one at) ∙ ap (λ (x : Item). take k items ++ x ∷ []) here_it)
     ∙ instances_append (take k items) (one ∷ [])
-
--- known ones, and one more that is known
-pub known_more : (l : Library) (is : List Placed) (i : Placed) (c : Cell) → cell_of l i.model ≡ Some c → AreKnown is l → AreKnown (is ++ i ∷ []) l
-known_more l is i c e known j h = elim (In-split j is (i ∷ []) h) [
-  | inl a ↦ known j a
-  | inr b ↦ last j b
-] where
-  last : (j : Placed) → In j (i ∷ []) → (d : Cell) × (cell_of l j.model ≡ Some d)
-  last j here = (c, e)
-  last j (there g) = elim g [ ]
-
--- the first that isn't known
-pub first_unknown : (items : List Item) (l : Library) (k : ℕ) (i : Placed) → Stands items k (item.Instance i) → AreKnown (instances_of (take k items)) l → cell_of l i.model ≡ None
-    → IsFirstUnknown (instances_of items) l i.model
-first_unknown items l k i at known none =
-    let r = split_at items k (item.Instance i) at in
-    record {
-      before = instances_of (take k items);
-      instance = i;
-      behind = instances_of r.0;
-      all_are = ap instances_of r.1 ∙ instances_append (take k items) (item.Instance i ∷ r.0);
-      known = known;
-      unknown = none;
-      model_is = refl;
-    }
 
 -- ---- texts that are learned
 
@@ -153,44 +131,86 @@ chain_of all a b i j s u places steps chain at_s shows_s at_u shows_u told = rec
 
 -- ---- a line more
 
--- an instance of a known cell: what it shows comes behind
-pub drawn_next : (items : List Item) (l : Library) (k : ℕ) (i : Placed) (c : Cell) (base before after : List Shape) → Stands items k (item.Instance i) → cell_of l i.model ≡ Some c
-    → before ≡ base ++ all_instances_show l (instances_of (take k items)) → after ≡ before ++ instance_shapes (Some c) i
+pub drawn_next : (items : List Item) (l : Library) (k : ℕ) (one : Item) (base before after : List Shape) → Stands items k one
+    → before ≡ base ++ all_instances_show l (instances_of (take k items)) → after ≡ before ++ all_instances_show l (instances_of (one ∷ []))
     → after ≡ base ++ all_instances_show l (instances_of (take (k + 1) items))
-drawn_next items l k i c base before after at known so_far made =
-    let own : instance_shapes (Some c) i ≡ all_instances_show l (i ∷ []) =
-    ap (λ (o : Option Cell). instance_shapes o i) (sym known) ∙ sym (append-nil (instance_shapes (cell_of l i.model) i)) in
+drawn_next items l k one base before after at so_far made =
     made
-    ∙ ap (λ (xs : List Shape). xs ++ instance_shapes (Some c) i) so_far
-    ∙ append_assoc base (all_instances_show l (instances_of (take k items))) (instance_shapes (Some c) i)
+    ∙ ap (λ (xs : List Shape). xs ++ all_instances_show l (instances_of (one ∷ []))) so_far
+    ∙ append_assoc base (all_instances_show l (instances_of (take k items))) (all_instances_show l (instances_of (one ∷ [])))
     ∙ ap (λ (xs : List Shape). base ++ xs)
-    (ap (λ (xs : List Shape). all_instances_show l (instances_of (take k items)) ++ xs) own
-    ∙ sym (show_append l (instances_of (take k items)) (i ∷ []))
-    ∙ ap (all_instances_show l) (sym (placed_next items k (item.Instance i) at)))
+    (sym (show_append l (instances_of (take k items)) (instances_of (one ∷ []))) ∙ ap (all_instances_show l) (sym (placed_next items k one at)))
 
-pub gives_next : (items : List Item) (l : Library) (k : ℕ) (i : Placed) (c : Cell) (base before after : List Bool) → Stands items k (item.Instance i) → cell_of l i.model ≡ Some c
-    → before ≡ base ++ all_instances_give l (instances_of (take k items)) → after ≡ before ++ instance_gives (Some c)
+pub gives_next : (items : List Item) (l : Library) (k : ℕ) (one : Item) (base before after : List Bool) → Stands items k one
+    → before ≡ base ++ all_instances_give l (instances_of (take k items)) → after ≡ before ++ all_instances_give l (instances_of (one ∷ []))
     → after ≡ base ++ all_instances_give l (instances_of (take (k + 1) items))
-gives_next items l k i c base before after at known so_far made =
-    let own : instance_gives (Some c) ≡ all_instances_give l (i ∷ []) =
-    ap (λ (o : Option Cell). instance_gives o) (sym known) ∙ sym (append-nil (instance_gives (cell_of l i.model))) in
+gives_next items l k one base before after at so_far made =
     made
-    ∙ ap (λ (xs : List Bool). xs ++ instance_gives (Some c)) so_far
-    ∙ append_assoc base (all_instances_give l (instances_of (take k items))) (instance_gives (Some c))
+    ∙ ap (λ (xs : List Bool). xs ++ all_instances_give l (instances_of (one ∷ []))) so_far
+    ∙ append_assoc base (all_instances_give l (instances_of (take k items))) (all_instances_give l (instances_of (one ∷ [])))
     ∙ ap (λ (xs : List Bool). base ++ xs)
-    (ap (λ (xs : List Bool). all_instances_give l (instances_of (take k items)) ++ xs) own
-    ∙ sym (give_append l (instances_of (take k items)) (i ∷ []))
-    ∙ ap (all_instances_give l) (sym (placed_next items k (item.Instance i) at)))
+    (sym (give_append l (instances_of (take k items)) (instances_of (one ∷ []))) ∙ ap (all_instances_give l) (sym (placed_next items k one at)))
 
--- another line changes nothing
-pub placed_kept : (items : List Item) (k : ℕ) (one : Item) → Stands items k one → instances_of (one ∷ []) ≡ [] → instances_of (take k items) ≡ instances_of (take (k + 1) items)
-placed_kept items k one at none =
-    sym (placed_next items k one at ∙ ap (λ (is : List Placed). instances_of (take k items) ++ is) none ∙ append-nil (instances_of (take k items)))
+pub known_next : (items : List Item) (l : Library) (k : ℕ) (one : Item) → Stands items k one → AreKnown (instances_of (take k items)) l → AreKnown (instances_of (one ∷ [])) l
+    → AreKnown (instances_of (take (k + 1) items)) l
+known_next items l k one at before own i h =
+    elim (In-split i (instances_of (take k items)) (instances_of (one ∷ [])) (subst (λ (is : List Placed). In i is) (placed_next items k one at) h)) [
+      | inl a ↦ before i a
+      | inr b ↦ own i b
+    ]
 
-pub no_instance : (one : Item) → ((i : Placed) → one ≡ item.Instance i → ⊥) → instances_of (one ∷ []) ≡ []
-no_instance (item.Segment s) not = refl
-no_instance (item.Connector c) not = refl
-no_instance (item.Via v) not = refl
-no_instance (item.Instance i) not = absurd (not i refl)
-no_instance (item.Reference r) not = refl
-no_instance (item.Remark text) not = refl
+-- the first instance of the rest that isn't known is the first of all
+pub unknown_later : (items : List Item) (l : Library) (k : ℕ) (one : Item) (model : List ℕ) → Stands items k one → AreKnown (instances_of (take k items)) l
+    → IsFirstUnknown (instances_of (one ∷ [])) l model → IsFirstUnknown (instances_of items) l model
+unknown_later items l k one model at before h =
+    let r = split_at items k one at in
+    let parts : instances_of items ≡ instances_of (take k items) ++ (instances_of (one ∷ []) ++ instances_of r.0) =
+    ap instances_of r.1 ∙ instances_append (take k items) (one ∷ r.0)
+    ∙ ap (λ (is : List Placed). instances_of (take k items) ++ is) (instances_append (one ∷ []) r.0) in
+    record {
+      before = instances_of (take k items) ++ h.before;
+      instance = h.instance;
+      behind = h.behind ++ instances_of r.0;
+      all_are =
+          parts
+          ∙ ap (λ (is : List Placed). instances_of (take k items) ++ (is ++ instances_of r.0)) h.all_are
+          ∙ ap (λ (is : List Placed). instances_of (take k items) ++ is) (append_assoc h.before (h.instance ∷ h.behind) (instances_of r.0))
+          ∙ sym (append_assoc (instances_of (take k items)) h.before (h.instance ∷ (h.behind ++ instances_of r.0)));
+      known = λ i j. elim (In-split i (instances_of (take k items)) h.before j) [ | inl a ↦ before i a | inr b ↦ h.known i b ];
+      unknown = h.unknown;
+      model_is = h.model_is;
+    }
+
+-- ---- one line
+
+-- what a single instance shows
+pub shows_one : (l : Library) (i : Placed) (c : Cell) → cell_of l i.model ≡ Some c → instance_shapes (Some c) i ≡ all_instances_show l (i ∷ [])
+shows_one l i c known = ap (λ (o : Option Cell). instance_shapes o i) (sym known) ∙ sym (append-nil (instance_shapes (cell_of l i.model) i))
+
+pub gives_one : (l : Library) (i : Placed) (c : Cell) → cell_of l i.model ≡ Some c → instance_gives (Some c) ≡ all_instances_give l (i ∷ [])
+gives_one l i c known = ap (λ (o : Option Cell). instance_gives o) (sym known) ∙ sym (append-nil (instance_gives (cell_of l i.model)))
+
+pub known_one : (l : Library) (i : Placed) (c : Cell) → cell_of l i.model ≡ Some c → AreKnown (i ∷ []) l
+known_one l i c e j here = (c, e)
+known_one l i c e j (there h) = elim h [ ]
+
+pub unknown_one : (l : Library) (i : Placed) → cell_of l i.model ≡ None → IsFirstUnknown (i ∷ []) l i.model
+unknown_one l i e = record { before = []; instance = i; behind = []; all_are = refl; known = λ j h. elim h [ ]; unknown = e; model_is = refl }
+
+-- the instances on a line lie where those of the figure do
+pub placed_line : (items : List Item) (k : ℕ) (one : Item) → Stands items k one → ((i : Placed) → In i (instances_of items) → IsCoordinate i.x × IsCoordinate i.y)
+    → (i : Placed) → In i (instances_of (one ∷ [])) → IsCoordinate i.x × IsCoordinate i.y
+placed_line items k one at near i h =
+    let r = split_at items k one at in
+    let parts : instances_of items ≡ instances_of (take k items) ++ (instances_of (one ∷ []) ++ instances_of r.0) =
+    ap instances_of r.1 ∙ instances_append (take k items) (one ∷ r.0)
+    ∙ ap (λ (is : List Placed). instances_of (take k items) ++ is) (instances_append (one ∷ []) r.0) in
+    near i
+    (subst (λ (is : List Placed). In i is) (sym parts)
+    (In-right i (instances_of (take k items)) (instances_of (one ∷ []) ++ instances_of r.0) (In-left i (instances_of (one ∷ [])) (instances_of r.0) h)))
+
+pub refused_line : (items : List Item) (l : Library) (k : ℕ) (one : Item) (e : ExtractError) → Stands items k one → AreKnown (instances_of (take k items)) l
+    → IsUnknownRefusal (instances_of (one ∷ [])) l e → IsUnknownRefusal (instances_of items) l e
+refused_line items l k one errors.Memory at known h = tt
+refused_line items l k one (errors.UnknownCell model) at known h = unknown_later items l k one model at known h
+refused_line items l k one (errors.Shorted a b chain) at known h = absurd h

@@ -1,7 +1,9 @@
 // The netlist of a figure's names and instances and of its connectors.
 ghost use Rattle.std.specs.Prelude.{◌≡◌, ◌∷◌, [], ◌<◌, ◌^◌, map, length, Some, IfOk, OnOk};
 ghost use Rattle.std.specs.List.{All};
+ghost use Rattle.vlsi_base.specs.Member.{In};
 ghost use Rattle.machine_meaning.specs.Machine.{names_of};
+ghost use Rattle.sym_geom.specs.declared.item.Instance.{Instance as PlacedInstance};
 ghost use Rattle.net_core.specs.Places.{IsThere, NoneTwice};
 ghost use Rattle.net_core.specs.Joins.{draft_terminals};
 ghost use Rattle.cell_model.specs.declared.cell.Cell.{Cell as CellParts};
@@ -71,6 +73,29 @@ fn add_instance(
     }
 }
 
+/// Puts a line that is an instance behind the others; tells how many terminals there are then.
+fn add_item(
+    alloc: Global,
+    builder: &mut Builder,
+    cells: &[Cell],
+    item: &Item,
+    count: u32,
+) -> Result<u32, AllocError>
+    requires known { AreKnown (instances_of (item.now ∷ [])) (library_of cells.now) }
+    requires formed { All IsFormed cells.now }
+    requires fresh { (i : PlacedInstance) → In i (instances_of (item.now ∷ [])) → IsThere (map (λ j. j.name) builder.old.instances) i.name → ⊥ }
+    requires few { length builder.old.instances < 2 ^ 32 }
+    requires count { count ≡ length (draft_terminals builder.old) }
+    ensures added { OnOk result (builder.new ≡ with_instances builder.old
+        (map (instance_of (library_of cells.now)) (instances_of (item.now ∷ [])))) }
+    ensures count { IfOk result (λ n. n ≡ length (draft_terminals builder.new)) }
+{
+    match item {
+        Item::Instance(instance) => add_instance(alloc, builder, cells, instance, count),
+        _ => Ok(count),
+    }
+}
+
 /// Puts the instances of a figure into a netlist that has only ports, so many.
 fn add_instances(
     alloc: Global,
@@ -89,9 +114,7 @@ fn add_instances(
 {
     let mut count = ports;
     for item in items {
-        if let Item::Instance(instance) = item {
-            count = add_instance(alloc, builder, cells, instance, count)?;
-        }
+        count = add_item(alloc, builder, cells, item, count)?;
     }
     Ok(())
 }

@@ -1,17 +1,17 @@
 // The shapes of a layout.
-ghost use Rattle.std.specs.Prelude.{◌≡◌, ◌⊎◌, ◌++◌, ◌<◌, ◌^◌, neg_ℤ, false, Some, IfOk, OnOk, IfErr, All, length, replicate};
+ghost use Rattle.std.specs.Prelude.{◌≡◌, ◌⊎◌, ◌++◌, ◌∷◌, [], ◌<◌, ◌^◌, neg_ℤ, false, Some, IfOk, OnOk, IfErr, All, length, replicate};
 ghost use Rattle.std.specs.Option.{option_copied};
 ghost use Rattle.vlsi_base.specs.Member.{In};
 ghost use Rattle.sym_geom.specs.Rect.{IsCoordinate, HasCoordinates, moved};
 ghost use Rattle.sym_geom.specs.declared.item.Instance.{Instance as PlacedInstance};
 ghost use Rattle.sym_shapes.specs.Ready.{IsReady};
 ghost use Rattle.sym_shapes.specs.Shape.{drawn as drawn_of};
-ghost use Rattle.cell_model.specs.Layout.{placed as placed_shape, instance_shapes, instances_of, shapes as shapes_of};
+ghost use Rattle.cell_model.specs.Layout.{placed as placed_shape, instance_shapes, instances_of, all_instances_show, shapes as shapes_of};
 ghost use Rattle.cell_model.specs.Usable.{IsFormed};
 ghost use Rattle.cell_checks.specs.Checked.{library_of};
 ghost use Rattle.cougar_extract.specs.declared.error.ExtractError.TheVariants as error;
 ghost use Rattle.cougar_extract.specs.Extracted.{AreKnown};
-ghost use Rattle.cougar_extract.specs.Stages.{HasCellEdges, placed_rect as placed_rect_of, instance_gives, gives as gives_of, IsUnknownRefusal};
+ghost use Rattle.cougar_extract.specs.Stages.{HasCellEdges, placed_rect as placed_rect_of, instance_gives, all_instances_give, gives as gives_of, IsUnknownRefusal};
 
 use crate::cells::{cell_of, is_output};
 use crate::error::ExtractError;
@@ -130,6 +130,32 @@ fn unknown(alloc: Global, model: &Text) -> ExtractError
     }
 }
 
+/// Puts the shapes of a line that is an instance behind those that are there.
+fn place_item(
+    alloc: Global,
+    drawing: &mut Drawing,
+    item: &Item,
+    cells: &[Cell],
+) -> Result<(), ExtractError>
+    requires formed { All IsFormed cells.now }
+    requires places { (i : PlacedInstance) → In i (instances_of (item.now ∷ [])) → IsCoordinate i.x × IsCoordinate i.y }
+    ensures shapes { OnOk result (drawing.new.shapes.items ≡ drawing.old.shapes.items
+        ++ all_instances_show (library_of cells.now) (instances_of (item.now ∷ []))) }
+    ensures gives { OnOk result (drawing.new.gives.items ≡ drawing.old.gives.items
+        ++ all_instances_give (library_of cells.now) (instances_of (item.now ∷ []))) }
+    ensures known { OnOk result (AreKnown (instances_of (item.now ∷ [])) (library_of cells.now)) }
+    ensures refused { IfErr result (λ e. IsUnknownRefusal (instances_of (item.now ∷ [])) (library_of cells.now) e) }
+{
+    let Item::Instance(instance) = item else {
+        return Ok(());
+    };
+    let Some(cell) = cell_of(cells, &instance.model) else {
+        return Err(unknown(alloc, &instance.model));
+    };
+    place(alloc, drawing, cell, instance)?;
+    Ok(())
+}
+
 /// What the lines of a figure draw; no instance is placed yet.
 fn own_shapes(alloc: Global, items: &[Item]) -> Result<Drawing, AllocError>
     requires ready { All IsReady items.now }
@@ -160,12 +186,7 @@ pub(crate) fn drawing(
 {
     let mut drawing = own_shapes(alloc, items)?;
     for item in items {
-        if let Item::Instance(instance) = item {
-            let Some(cell) = cell_of(cells, &instance.model) else {
-                return Err(unknown(alloc, &instance.model));
-            };
-            place(alloc, &mut drawing, cell, instance)?;
-        }
+        place_item(alloc, &mut drawing, item, cells)?;
     }
     Ok(drawing)
 }

@@ -1,10 +1,6 @@
 use Rattle.std.proofs.Common.{◌≡◌, ◌∙◌, ◌<◌, ◌^◌, ℕ, List, length, take, map, refl, ap, sym, subst, arith}
-use Rattle.sym_geom.specs.declared.item.Item.{Item}
-use Rattle.sym_geom.specs.declared.item.Item.TheVariants as item
-use Rattle.cell_model.specs.Layout.{instances_of}
 use Rattle.cell_checks.specs.Checked.{library_of}
-use Rattle.net_core.specs.Joins.{Draft, draft_terminals}
-use Rattle.cougar_extract.proofs.Adding.{added_next, passed_next, instances_none, bare_count, new_name, few_placed, known_at}
+use Rattle.cougar_extract.proofs.Adding.{added_line, instances_none, bare_count, new_line, few_placed, known_line, added_all}
 use Rattle.cougar_extract.proofs.Steps.{read_stands}
 use Rattle.cougar_extract.proofs.build.add_instances.Goals as goal
 
@@ -14,15 +10,28 @@ loop-item-init c = record {
   counted = c.requires.ports ∙ sym (bare_count c.args.builder.now c.requires.none);
 }
 
-pub add_instance-requires-clause-known : goal.add_instance-requires-clause-known
-add_instance-requires-clause-known c =
-    known_at c.args.items.now (library_of c.args.cells.now) c.loop-item.item-index c.in-Instance.instance.now c.item-item.result c.loop-item-test.true c.item-item.is c.in-Instance.is c.requires.known
+pub add_item-requires-clause-known : goal.add_item-requires-clause-known
+add_item-requires-clause-known c =
+    known_line c.args.items.now (library_of c.args.cells.now) c.loop-item.item-index c.item-item.result
+    (read_stands c.args.items.now c.loop-item.item-index c.item-item.result c.loop-item-test.true c.item-item.is) c.requires.known
 
-pub add_instance-requires-clause-fresh : goal.add_instance-requires-clause-fresh
-add_instance-requires-clause-fresh c =
-    new_name c.args.builder.now c.loop-item.builder c.args.items.now (library_of c.args.cells.now) c.loop-item.item-index c.in-Instance.instance.now c.item-item.result c.loop-item-test.true
-    c.item-item.is c.in-Instance.is c.requires.none c.requires.once c.loop-item.invariant.added
+pub add_item-requires-clause-fresh : goal.add_item-requires-clause-fresh
+add_item-requires-clause-fresh c =
+    new_line c.args.builder.now c.loop-item.builder c.args.items.now (library_of c.args.cells.now) c.loop-item.item-index c.item-item.result
+    (read_stands c.args.items.now c.loop-item.item-index c.item-item.result c.loop-item-test.true c.item-item.is) c.requires.none c.requires.once c.loop-item.invariant.added
 
-pub add_instance-requires-clause-few : goal.add_instance-requires-clause-few
-add_instance-requires-clause-few c =
+pub add_item-requires-clause-few : goal.add_item-requires-clause-few
+add_item-requires-clause-few c =
     few_placed c.args.builder.now c.loop-item.builder c.args.items.now (library_of c.args.cells.now) c.loop-item.item-index c.requires.none c.requires.few c.loop-item.invariant.added
+
+pub loop-item-preserved : goal.loop-item-preserved
+loop-item-preserved c = record {
+  added =
+      added_line c.args.builder.now c.loop-item.builder c.add_item.new.builder (library_of c.args.cells.now) c.args.items.now c.loop-item.item-index c.item-item.result
+      (read_stands c.args.items.now c.loop-item.item-index c.item-item.result c.loop-item-test.true c.item-item.is) c.loop-item.invariant.added c.in_ok-add_item.ensures.added;
+  counted = c.in_ok-add_item.ensures.count;
+}
+
+pub returns : goal.returns
+returns c =
+    added_all c.args.builder.now c.loop-item.builder (library_of c.args.cells.now) c.args.items.now c.loop-item.item-index (omega (arith, c.loop-item-test.false)) c.loop-item.invariant.added
