@@ -1,5 +1,5 @@
 -- Connectors, their leaders, and the marks of output pins, step by step.
-use Rattle.std.proofs.Common.{◌≡◌, ◌≢◌, ◌⊎◌, inl, inr, ◌↔◌, ℕ, zero, suc, ◌+◌, ◌<◌, ◌≤◌, Bool, true, false, List, [], ◌∷◌, ◌++◌, map, length, take, get_or, replicate, Option, None, Some, refl, sym, ap, subst, ◌∙◌, arith}
+use Rattle.std.proofs.Common.{◌≡◌, ◌≢◌, ◌⊎◌, inl, inr, ◌↔◌, ℕ, zero, suc, ◌+◌, ◌<◌, ◌≤◌, Bool, true, false, List, [], ◌∷◌, ◌++◌, map, length, take, get_or, replicate, Option, None, Some, refl, sym, ap, subst, ◌∙◌, arith, append-nil}
 use Rattle.std.specs.Prelude.{slice_set}
 use Rattle.std.specs.List.{All}
 use Rattle.std.proofs.lemmas.List.{get_or-set_same, get_or-set_other, take_more}
@@ -8,14 +8,14 @@ use Rattle.std.proofs.lemmas.Bool.{cases_lt}
 use Rattle.vlsi_base.specs.declared.name.Name.{Name}
 use Rattle.vlsi_base.specs.declared.name.Terminal.{Terminal}
 use Rattle.vlsi_base.specs.Member.{In, here, there}
-use Rattle.sym_shapes.specs.Shape.{Shape}
+use Rattle.sym_shapes.specs.Shape.{Shape, label}
 use Rattle.sym_shapes.specs.Joined.{Shows}
 use Rattle.net_core.specs.Places.{Stands, IsThere, Learned}
 use Rattle.net_core.proofs.Joining.{in_left, in_last, in_cases}
 use Rattle.net_core.proofs.Standing.{stands_same}
 use Rattle.net_view.proofs.Lists.{in_place}
 use Rattle.cougar_extract.specs.declared.links.Link.{Link}
-use Rattle.cougar_extract.specs.Stages.{IsLinkAt, AreLinks, AreBelow, HasOutput, AreOutputs, IsDrivenText, AreDrivenTexts, IsLeader, AreLeaders}
+use Rattle.cougar_extract.specs.Stages.{IsLinkAt, shape_links, AreLinks, AreBelow, HasOutput, AreOutputs, IsDrivenText, AreDrivenTexts, IsLeader, AreLeaders}
 use Rattle.cougar_extract.proofs.Pairs.{cases_eq}
 
 -- ---- connectors
@@ -221,3 +221,32 @@ take_whole [] zero h = refl
 take_whole [] (suc k) h = refl
 take_whole (x ∷ links) zero h = absurd (omega (arith, h))
 take_whole (x ∷ links) (suc k) h = ap (λ (ls : List Link). x ∷ ls) (take_whole links k (omega (arith, h)))
+
+-- the next shape, whether it has a name or not
+pub links_next : (shapes : List Shape) (numbers : List ℕ) (outputs : List Bool) (k : ℕ) (links now : List Link) (s : Shape) → Stands shapes k s
+    → now ≡ links ++ shape_links s (get_or numbers k 0) (get_or outputs k false) → AreLinks shapes numbers outputs k links → AreLinks shapes numbers outputs (k + 1) now
+links_next shapes numbers outputs k links now s at made are = by s.name refl where
+  abbrev one : Name → Link
+  one name = record { number = get_or numbers k 0; terminal = record { instance = s.owner; pin = name }; gives = get_or outputs k false }
+
+  by : (o : Option Name) → s.name ≡ o → AreLinks shapes numbers outputs (k + 1) now
+  by None e =
+      let same : now ≡ links = made ∙ ap (λ (x : Option Name). links ++ map one (label x)) e ∙ append-nil links in
+      subst (λ (ls : List Link). AreLinks shapes numbers outputs (k + 1) ls) (sym same) (links_kept shapes numbers outputs k links s at e are)
+  by (Some name) e =
+      let more : now ≡ links ++ one name ∷ [] = made ∙ ap (λ (x : Option Name). links ++ map one (label x)) e in
+      subst (λ (ls : List Link). AreLinks shapes numbers outputs (k + 1) ls) (sym more)
+      (links_more shapes numbers outputs k links s name (one name) at e refl refl refl are)
+
+pub below_next : (links now : List Link) (count number : ℕ) (output : Bool) (s : Shape) → now ≡ links ++ shape_links s number output → number < count → AreBelow links count → AreBelow now count
+below_next links now count number output s made low below = by s.name refl where
+  abbrev one : Name → Link
+  one name = record { number = number; terminal = record { instance = s.owner; pin = name }; gives = output }
+
+  by : (o : Option Name) → s.name ≡ o → AreBelow now count
+  by None e =
+      let same : now ≡ links = made ∙ ap (λ (x : Option Name). links ++ map one (label x)) e ∙ append-nil links in
+      subst (λ (ls : List Link). AreBelow ls count) (sym same) below
+  by (Some name) e =
+      let more : now ≡ links ++ one name ∷ [] = made ∙ ap (λ (x : Option Name). links ++ map one (label x)) e in
+      subst (λ (ls : List Link). AreBelow ls count) (sym more) (below_more links count (one name) below low)

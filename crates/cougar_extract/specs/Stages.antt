@@ -14,7 +14,7 @@ use Rattle.sym_geom.specs.Rect.{moved, transformed}
 use Rattle.sym_geom.specs.declared.rect.Rect.{Rect}
 use Rattle.sym_geom.specs.declared.item.Instance.{Instance as Placed}
 use Rattle.sym_geom.specs.declared.item.Item.{Item}
-use Rattle.sym_shapes.specs.Shape.{Shape, drawn, connector_names}
+use Rattle.sym_shapes.specs.Shape.{Shape, drawn, label, connector_names}
 use Rattle.sym_shapes.specs.Joints.{NumbersJoined}
 use Rattle.sym_shapes.specs.Joined.{Shows}
 use Rattle.ap_io.specs.declared.figure.Figure.{Figure}
@@ -86,6 +86,10 @@ pub record AreLinks (shapes : List Shape) (numbers : List ℕ) (outputs : List B
   pub sound : (x : Link) → In x links → (k : ℕ) × (k < n) × IsLinkAt shapes numbers outputs k x
   pub complete : (k : ℕ) (s : Shape) (t : Terminal) → k < n → slice_get shapes k ≡ Some s → Shows t s
       → (x : Link) × In x links × (x.terminal ≡ t) × (x.number ≡ slice_index_or numbers k 0) × (x.gives ≡ slice_index_or outputs k false)
+
+-- the connector that a shape with this number is, if it has a name
+abbrev pub shape_links : Shape → ℕ → Bool → List Link
+shape_links s number output = map (λ name. record { number = number; terminal = record { instance = s.owner; pin = name }; gives = output }) (label s.name)
 
 -- each number is below a count
 abbrev pub AreBelow : List Link → ℕ → Type 0

@@ -1,11 +1,12 @@
 // Connectors, with the numbers of their joined shapes.
-ghost use Rattle.std.specs.Prelude.{◌≡◌, ◌<◌, length, IfOk};
+ghost use Rattle.std.specs.Prelude.{◌≡◌, ◌++◌, ◌<◌, length, IfOk, OnOk};
 ghost use Rattle.std.specs.List.{All};
 ghost use Rattle.std.specs.Option.{option_copied};
-ghost use Rattle.cougar_extract.specs.Stages.{AreLinks, AreBelow, AreLeaders};
+ghost use Rattle.cougar_extract.specs.Stages.{shape_links, AreLinks, AreBelow, AreLeaders};
 
 use crate::drawing::Drawing;
 use std::alloc::{AllocError, Global};
+use sym_shapes::Shape;
 use vlsi_base::{Name, Terminal, Text};
 
 /// A connector: the number that its shape has with all that it is joined to, its terminal, and whether this is an output pin of an
@@ -29,6 +30,28 @@ fn terminal(alloc: Global, owner: Option<&Text>, name: &Name) -> Result<Terminal
         instance,
         pin: name.copy(alloc)?,
     })
+}
+
+/// Puts the connector that a shape is, if it has a name, behind the others.
+fn push_link(
+    alloc: Global,
+    links: &mut Vec<Link>,
+    shape: &Shape,
+    number: u32,
+    gives: bool,
+) -> Result<(), AllocError>
+    ensures { OnOk result (links.new.items ≡ links.old.items ++ shape_links shape.now number gives) }
+{
+    let Some(name) = shape.name() else {
+        return Ok(());
+    };
+    let terminal = terminal(alloc, shape.owner(), name)?;
+    links.push(Link {
+        number,
+        terminal,
+        gives,
+    })?;
+    Ok(())
 }
 
 /// A number above all of these.
@@ -59,14 +82,8 @@ pub(crate) fn links(
 {
     let mut links = Vec::new(alloc);
     for k in 0..drawing.shapes.len() {
-        let shape = &drawing.shapes[k];
-        if let Some(name) = shape.name() {
-            links.push(Link {
-                number: numbers[k],
-                terminal: terminal(alloc, shape.owner(), name)?,
-                gives: drawing.gives[k],
-            })?;
-        }
+        let gives = drawing.gives[k];
+        push_link(alloc, &mut links, &drawing.shapes[k], numbers[k], gives)?;
     }
     Ok(links)
 }
