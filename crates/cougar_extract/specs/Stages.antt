@@ -1,5 +1,5 @@
 -- The stages of extraction: shapes, numbers of joined ones, connectors with these numbers, pairs of joined terminals.
-use Rattle.std.specs.Prelude.{ℤ, pos, negsuc, neg_ℤ, ◌≤ℤ◌, ◌≡◌, ◌↔◌, ℕ, ◌<◌, ◌≤◌, Bool, true, false, not, ◌&&◌, List, [], ◌∷◌, ◌++◌, map, length, Option, None, Some, MatchOption, slice_get, slice_index_or, replicate, unwrap_or, take}
+use Rattle.std.specs.Prelude.{ℤ, pos, negsuc, neg_ℤ, ◌≤ℤ◌, ◌≡◌, ◌↔◌, ℕ, ◌<◌, ◌≤◌, Bool, true, false, not, ◌&&◌, List, [], ◌∷◌, ◌++◌, map, length, Option, None, Some, MatchOption, slice_get, slice_index_or, is_some, replicate, unwrap_or, take}
 use Rattle.std.specs.List.{All, list_any}
 use Rattle.std.specs.List.Sorted.{IsPermutation}
 use Rattle.vlsi_base.specs.declared.name.Name.{Name}
@@ -7,6 +7,8 @@ use Rattle.vlsi_base.specs.declared.name.Port.{Port}
 use Rattle.vlsi_base.specs.declared.name.Dir.{Dir}
 use Rattle.vlsi_base.specs.declared.name.Dir.TheVariants as dir
 use Rattle.vlsi_base.specs.declared.name.Terminal.{Terminal}
+use Rattle.std.specs.FinMap.{get}
+use Rattle.vlsi_base.specs.NamePlaces.{NamePlaces}
 use Rattle.vlsi_base.specs.Member.{In}
 use Rattle.machine_meaning.specs.Machine.{is_input}
 use Rattle.machine_meaning.specs.Named.{is_same_name}
@@ -70,6 +72,18 @@ pub record HasCellEdges (r : Rect) : Type 0 where
 -- a rectangle of a cell where an instance of it shows it
 abbrev pub placed_rect : Cell → Placed → Rect → Rect
 placed_rect c i r = transformed i.transform (moved r (neg_ℤ c.bounds.x1) (neg_ℤ c.bounds.y1)) (cell_width c) (cell_height c) i.x i.y
+
+-- ---- names
+
+-- the index knows these names and no others
+abbrev pub Knows : NamePlaces → List Name → Type 0
+Knows index names = (n : Name) → (is_some (get index n) ≡ true) ↔ In n names
+
+-- the name of a line, if it has one, is put behind the others where it isn't among them
+pub data PutsNew (old : List Name) : List Name → List Name → Type 0 where
+  none : PutsNew old [] old
+  again : {n : Name} → In n old → PutsNew old (n ∷ []) old
+  new : {n : Name} → (In n old → ⊥) → PutsNew old (n ∷ []) (old ++ n ∷ [])
 
 -- ---- connectors
 
