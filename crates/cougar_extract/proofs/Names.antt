@@ -10,7 +10,7 @@ use Rattle.std.proofs.lemmas.List.{take_more}
 use Rattle.std.proofs.lemmas.Option.{slice_get_within, get_or_from_slice_get}
 use Rattle.vlsi_base.specs.Name.{name_cmp}
 use Rattle.vlsi_base.proofs.NameOrder.{name_total, name_exact}
-use Rattle.cougar_extract.specs.Stages.{Knows, PutsNew, none, again, new}
+use Rattle.cougar_extract.specs.Stages.{Knows, PutsNew, no_name, known_name, fresh_name}
 use Rattle.vlsi_base.specs.declared.name.Name.{Name}
 use Rattle.vlsi_base.specs.NamePlaces.{NamePlaces}
 use Rattle.vlsi_base.specs.Member.{In, here, there, AllDifferent}
@@ -27,13 +27,13 @@ pub record AreFirstNames (items : List Item) (k : ℕ) (index : NamePlaces) (nam
   pub known : Knows index names
 
 pub different_more : (names : List Name) (name : Name) → AllDifferent names → (In name names → ⊥) → AllDifferent (names ++ name ∷ [])
-different_more [] name all new = (λ h. elim h [ ], tt)
-different_more (n ∷ names) name all new = (
+different_more [] name all lacks = (λ h. elim h [ ], tt)
+different_more (n ∷ names) name all lacks = (
   λ h. elim (in_cases names n name h) [
     | inl i ↦ all.0 i
-    | inr e ↦ new (subst (λ (x : Name). In x (n ∷ names)) e here)
+    | inr e ↦ lacks (subst (λ (x : Name). In x (n ∷ names)) e here)
   ],
-  different_more names name all.1 (λ i. new (there i)),
+  different_more names name all.1 (λ i. lacks (there i)),
 )
 
 pub names_append : (a b : List Item) → connector_names (a ++ b) ≡ connector_names a ++ connector_names b
@@ -59,24 +59,24 @@ line_names items k one at =
 
 -- how names and those of the lines go together when a name is put
 put_different : (old own now : List Name) → PutsNew old own now → AllDifferent old → AllDifferent now
-put_different old _ _ none h = h
-put_different old _ _ (again i) h = h
-put_different old _ _ (new {n} fresh) h = different_more old n h fresh
+put_different old _ _ no_name h = h
+put_different old _ _ (known_name i) h = h
+put_different old _ _ (fresh_name {n} fresh) h = different_more old n h fresh
 
 put_from : (old own now : List Name) → PutsNew old own now → (n : Name) → In n now → In n old ⊎ In n own
-put_from old _ _ none n h = inl h
-put_from old _ _ (again i) n h = inl h
-put_from old _ _ (new {n = m} fresh) n h = elim (in_cases old n m h) [ | inl i ↦ inl i | inr e ↦ inr (subst (λ (x : Name). In n (x ∷ [])) e here) ]
+put_from old _ _ no_name n h = inl h
+put_from old _ _ (known_name i) n h = inl h
+put_from old _ _ (fresh_name {n = m} fresh) n h = elim (in_cases old n m h) [ | inl i ↦ inl i | inr e ↦ inr (subst (λ (x : Name). In n (x ∷ [])) e here) ]
 
 put_old : (old own now : List Name) → PutsNew old own now → (n : Name) → In n old → In n now
-put_old old _ _ none n h = h
-put_old old _ _ (again i) n h = h
-put_old old _ _ (new {n = m} fresh) n h = in_left (m ∷ []) h
+put_old old _ _ no_name n h = h
+put_old old _ _ (known_name i) n h = h
+put_old old _ _ (fresh_name {n = m} fresh) n h = in_left (m ∷ []) h
 
 put_own : (old own now : List Name) → PutsNew old own now → (n : Name) → In n own → In n now
-put_own old _ _ none n h = elim h [ ]
-put_own old _ _ (again {n = m} i) n h = subst (λ (x : Name). In x old) (sym (single m n h)) i
-put_own old _ _ (new {n = m} fresh) n h = subst (λ (x : Name). In x (old ++ m ∷ [])) (sym (single m n h)) (in_last old m)
+put_own old _ _ no_name n h = elim h [ ]
+put_own old _ _ (known_name {n = m} i) n h = subst (λ (x : Name). In x old) (sym (single m n h)) i
+put_own old _ _ (fresh_name {n = m} fresh) n h = subst (λ (x : Name). In x (old ++ m ∷ [])) (sym (single m n h)) (in_last old m)
 
 -- one line more
 pub names_next : (items : List Item) (k : ℕ) (one : Item) (index now_index : NamePlaces) (names now : List Name) → Stands items k one → PutsNew names (connector_name one) now

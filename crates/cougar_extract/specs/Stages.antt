@@ -81,9 +81,9 @@ Knows index names = (n : Name) → (is_some (get index n) ≡ true) ↔ In n nam
 
 -- the name of a line, if it has one, is put behind the others where it isn't among them
 pub data PutsNew (old : List Name) : List Name → List Name → Type 0 where
-  none : PutsNew old [] old
-  again : {n : Name} → In n old → PutsNew old (n ∷ []) old
-  new : {n : Name} → (In n old → ⊥) → PutsNew old (n ∷ []) (old ++ n ∷ [])
+  no_name : PutsNew old [] old
+  known_name : {n : Name} → In n old → PutsNew old (n ∷ []) old
+  fresh_name : {n : Name} → (In n old → ⊥) → PutsNew old (n ∷ []) (old ++ n ∷ [])
 
 -- ---- connectors
 
