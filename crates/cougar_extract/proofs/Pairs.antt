@@ -3,7 +3,7 @@ use Rattle.std.proofs.Common.{◌≡◌, ◌⊎◌, inl, inr, ℕ, zero, suc, �
 use Rattle.std.specs.Prelude.{slice_set}
 use Rattle.std.proofs.lemmas.List.{get_or-set_same, get_or-set_other, length-set, get_or-replicate, length-replicate}
 use Rattle.std.proofs.lemmas.Bool.{cases_lt}
-use Rattle.cougar_extract.specs.Stages.{IsLeastPair, NoPair, IsPairFrom, IsNext, AreNext}
+use Rattle.cougar_extract.specs.Stages.{IsLeastPair, NoPair, nearer_of, IsPairFrom, IsNext, AreNext}
 
 -- two numbers are the same or not
 pub cases_eq : (a b : ℕ) → (a ≡ b) ⊎ (a ≡ b → ⊥)
@@ -91,3 +91,9 @@ pair_kept classes k (Some p) none h = record {
   ];
   second = h.second;
 }
+
+-- the pair behind k, with what is known of k
+pub pair_step : (classes : List ℕ) (k : ℕ) (o : Option ℕ) (found : Option (ℕ × ℕ)) → k < length classes → IsNext classes (k + 1) (get_or classes k 0) o → IsPairFrom classes (k + 1) found
+    → IsPairFrom classes k (nearer_of o k found)
+pair_step classes k None found low h behind = pair_kept classes k found h behind
+pair_step classes k (Some j) found low h behind = pair_found classes k j low h

@@ -210,6 +210,11 @@ IsNext classes from class (Some j) =
 abbrev pub AreNext : List ℕ → ℕ → List (Option ℕ) → Type 0
 AreNext classes from next = (c : ℕ) → c < length next → IsNext classes from c (slice_index_or next c None)
 
+-- the pair of a place and of the next one of its class, if there is one; else the pair that was found behind
+abbrev pub nearer_of : Option ℕ → ℕ → Option (ℕ × ℕ) → Option (ℕ × ℕ)
+nearer_of None k found = found
+nearer_of (Some j) k found = Some (k, j)
+
 -- the place of a shape that shows a port; none exactly where none does
 abbrev pub IsShownAt : List Shape → Name → Option ℕ → Type 0
 IsShownAt shapes name None = All (λ s. Shows (port name) s → ⊥) shapes

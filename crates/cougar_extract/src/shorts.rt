@@ -4,13 +4,27 @@ ghost use Rattle.std.specs.List.{All};
 ghost use Rattle.sym_shapes.specs.Joined.{Shows, AreJoined};
 ghost use Rattle.net_core.specs.Netlist.{port};
 ghost use Rattle.cougar_extract.specs.Refused.{step_of, IsChainOf};
-ghost use Rattle.cougar_extract.specs.Stages.{IsPairFrom, IsShownAt};
+ghost use Rattle.cougar_extract.specs.Stages.{nearer_of, IsPairFrom, IsShownAt};
 
 use crate::error::{Step, Steps};
 use net_core::Netlist;
 use std::alloc::{AllocError, Global};
 use sym_shapes::{Shape, chain};
 use vlsi_base::{Listed, Name};
+
+/// The pair of a place and of the next one of its class, if there is one; else the pair that was found behind.
+fn nearer(
+    next: Option<usize>,
+    place: usize,
+    found: Option<(usize, usize)>,
+) -> Option<(usize, usize)>
+    ensures { result ≡ nearer_of next place found }
+{
+    match next {
+        Some(other) => Some((place, other)),
+        None => found,
+    }
+}
 
 /// Of the places with one class the least two: the first is the least whose class stands again, the second the next such place.
 /// Takes memory for `count` places.
@@ -28,9 +42,7 @@ fn least_pair(
     while k > 0 {
         k -= 1;
         let class = classes[k] as usize;
-        if let Some(other) = next[class] {
-            found = Some((k, other));
-        }
+        found = nearer(next[class], k, found);
         next[class] = Some(k);
     }
     Ok(found)
