@@ -1,5 +1,6 @@
 -- The output pins of a cell, as a test and as a list.
-use Rattle.std.proofs.Common.{◌≡◌, ℕ, zero, suc, ◌+◌, take, Bool, true, false, not, ◌&&◌, ◌||◌, cond, List, [], ◌∷◌, map, filter, Option, None, Some, refl, sym, ap, subst, ◌∙◌}
+use Rattle.std.proofs.Common.{◌≡◌, ◌↔◌, ℕ, zero, suc, ◌+◌, take, Bool, true, false, not, ◌&&◌, ◌||◌, cond, List, [], ◌∷◌, map, filter, Option, None, Some, refl, sym, ap, subst, ◌∙◌}
+use Rattle.std.specs.Prelude.{IsTrue}
 use Rattle.std.specs.List.{list_any}
 use Rattle.vlsi_base.specs.declared.name.Name.{Name}
 use Rattle.vlsi_base.specs.declared.name.Port.{Port}
@@ -13,13 +14,13 @@ use Rattle.machine_core.proofs.Names.{same_name-true, same_name-itself}
 use Rattle.cell_model.specs.Cell.{Cell, pin_ports, cell_outputs}
 use Rattle.cell_model.specs.declared.cell.Pin.{Pin}
 use Rattle.net_core.specs.Places.{Stands}
-use Rattle.cougar_extract.specs.Stages.{is_output}
+use Rattle.cougar_extract.specs.Stages.{is_output_port, is_output}
 
 abbrev pub gives : Port → Bool
 gives p = not (is_input p.dir)
 
 abbrev pub test : Name → Port → Bool
-test name p = gives p && is_same_name p.name name
+test name p = is_output_port name p
 
 listed : (ports : List Port) (name : Name) → list_any (test name) ports ≡ true → In name (names_of (filter gives ports))
 listed [] name e = absurd (cc e)
@@ -101,3 +102,20 @@ not_tested name p no = by p.dir (is_same_name p.name name) refl refl where
   by dir.In b way same = refl
   by dir.Out true way same = absurd (no way (same_name-true p.name name same))
   by dir.Out false way same = refl
+
+-- ---- the test of a pin, as it is made
+
+pub in_told : (name : Name) (p : Port) → p.dir ≡ dir.In → false ≡ is_output_port name p
+in_told name p way = sym (ap (λ (d : Dir). not (is_input d) && is_same_name p.name name) way)
+
+pub same_told : (name : Name) (p : Port) (b : Bool) → p.dir ≡ dir.Out → (IsTrue b ↔ (p.name ≡ name)) → b ≡ is_output_port name p
+same_told name p b way both = by b (is_same_name p.name name) refl refl ∙ sym (ap (λ (d : Dir). not (is_input d) && is_same_name p.name name) way) where
+  by : (x y : Bool) → b ≡ x → is_same_name p.name name ≡ y → b ≡ is_same_name p.name name
+  by true true e s = e ∙ sym s
+  by false false e s = e ∙ sym s
+  by true false e s =
+      let named : p.name ≡ name = both.0 e in
+      let yes : is_same_name p.name name ≡ true = subst (λ (n : Name). is_same_name p.name n ≡ true) named (same_name-itself p.name) in
+      let clash : true ≡ false = sym yes ∙ s in
+      absurd cc
+  by false true e s = let yes : IsTrue b = both.1 (same_name-true p.name name s) in let clash : true ≡ false = sym yes ∙ e in absurd cc

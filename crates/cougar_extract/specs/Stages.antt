@@ -34,10 +34,14 @@ use Rattle.cougar_extract.specs.Refused.{IsFirstUnknown, IsChainOf}
 
 -- ---- shapes, and which of them are output pins
 
+-- an output pin of this name
+abbrev pub is_output_port : Name → Port → Bool
+is_output_port name p = not (is_input p.dir) && is_same_name p.name name
+
 -- a connector of this name is an output pin of the cell
 abbrev pub is_output : Cell → Option Name → Bool
 is_output c None = false
-is_output c (Some name) = list_any (λ p. not (is_input p.dir) && is_same_name p.name name) (pin_ports c)
+is_output c (Some name) = list_any (is_output_port name) (pin_ports c)
 
 -- for each shape of a cell whether it is a connector of an output pin
 abbrev pub instance_gives : Option Cell → List Bool

@@ -2,9 +2,9 @@
 ghost use Rattle.std.specs.Prelude.{◌≡◌};
 ghost use Rattle.std.specs.Option.{option_copied};
 ghost use Rattle.cell_model.specs.Library.{cell_named};
-ghost use Rattle.cougar_extract.specs.Stages.{is_output as gives};
+ghost use Rattle.cougar_extract.specs.Stages.{is_output_port, is_output as gives};
 
-use cell_model::Cell;
+use cell_model::{Cell, Pin};
 use vlsi_base::{Dir, Name, Text};
 
 /// The first cell of this name. Takes time for each cell.
@@ -19,6 +19,15 @@ pub(crate) fn cell_of<'c>(cells: &'c [Cell], model: &Text) -> Option<&'c Cell>
     None
 }
 
+fn is_output_pin(pin: &Pin, name: &Name) -> bool
+    ensures { result ≡ is_output_port name.now pin.now.port }
+{
+    match pin.port.dir {
+        Dir::In => false,
+        Dir::Out => pin.port.name.is_same(name),
+    }
+}
+
 /// Whether a connector of this name is an output pin.
 pub(crate) fn is_output(cell: &Cell, name: Option<&Name>) -> bool
     ensures { result ≡ gives cell.now (option_copied name.entry) }
@@ -28,7 +37,7 @@ pub(crate) fn is_output(cell: &Cell, name: Option<&Name>) -> bool
     };
     let pins = cell.pins.as_slice();
     for pin in pins {
-        if pin.port.dir == Dir::Out && pin.port.name.is_same(wanted) {
+        if is_output_pin(pin, wanted) {
             return true;
         }
     }
