@@ -97,8 +97,7 @@ module _ (f : Figure) (l : Library) (n : InMemory) (is : IsExtracted f l n) wher
     pub given : Extracts f.items l k
     given = record {
       ports = λ name.
-          let own = is.ports name in
-          (
+          let own = is.ports name in (
             λ h. own.0 (subst (λ (ns : List Name). In name ns) (seen_ports n k seen) h),
             λ h. subst (λ (ns : List Name). In name ns) (sym (seen_ports n k seen)) (own.1 h),
           );

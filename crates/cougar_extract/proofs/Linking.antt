@@ -43,7 +43,7 @@ links_more shapes numbers outputs k links s name x at named shown number marked 
     | inr e ↦ (k, omega arith, subst (λ (z : Link). IsLinkAt shapes numbers outputs k z) (sym e) own)
   ]
 
-  abbrev Found : ℕ → Terminal → Type 0
+  Found : ℕ → Terminal → Type 0
   Found j t = (y : Link) × In y (links ++ x ∷ []) × (y.terminal ≡ t) × (y.number ≡ get_or numbers j 0) × (y.gives ≡ get_or outputs j false)
 
   shows_own : (t : Terminal) → Shows t s → x.terminal ≡ t
@@ -91,7 +91,7 @@ LedTo links places k = (j : ℕ) (x : Link) → j < k → Stands links j x → I
 pub led_step : (links : List Link) (places : List ℕ) (k : ℕ) (own : Link) → Stands links k own → own.number < length places → LedTo links places k
     → LedTo links (slice_set places own.number k) (k + 1)
 led_step links places k own at room led j x low stands = by (cases_eq x.number own.number) where
-  abbrev now : List ℕ
+  now : List ℕ
   now = slice_set places own.number k
 
   by : (x.number ≡ own.number) ⊎ (x.number ≡ own.number → ⊥) → IsLeader links now x
@@ -136,8 +136,7 @@ outputs_mark links marks x room is are n = by (cases_eq n x.number) where
     λ _. subst (λ (i : ℕ). get_or (slice_set marks x.number true) i false ≡ true) (sym e) (get_or-set_same marks x.number true false room),
   )
   by (inr differ) =
-      let same : get_or (slice_set marks x.number true) n false ≡ get_or marks n false = get_or-set_other marks x.number n true false differ in
-      (
+      let same : get_or (slice_set marks x.number true) n false ≡ get_or marks n false = get_or-set_other marks x.number n true false differ in (
         λ e. output_more links x n ((are n).0 (sym same ∙ e)),
         λ h. elim (in_cases links h.link x h.listed) [
           | inl i ↦ same ∙ (are n).1 (record { link = h.link; listed = i; numbered = h.numbered; gives = h.gives })
@@ -226,7 +225,7 @@ take_whole (x ∷ links) (suc k) h = ap (λ (ls : List Link). x ∷ ls) (take_wh
 pub links_next : (shapes : List Shape) (numbers : List ℕ) (outputs : List Bool) (k : ℕ) (links now : List Link) (s : Shape) → Stands shapes k s
     → now ≡ links ++ shape_links s (get_or numbers k 0) (get_or outputs k false) → AreLinks shapes numbers outputs k links → AreLinks shapes numbers outputs (k + 1) now
 links_next shapes numbers outputs k links now s at made are = by s.name refl where
-  abbrev one : Name → Link
+  one : Name → Link
   one name = record { number = get_or numbers k 0; terminal = record { instance = s.owner; pin = name }; gives = get_or outputs k false }
 
   by : (o : Option Name) → s.name ≡ o → AreLinks shapes numbers outputs (k + 1) now
@@ -240,7 +239,7 @@ links_next shapes numbers outputs k links now s at made are = by s.name refl whe
 
 pub below_next : (links now : List Link) (count number : ℕ) (output : Bool) (s : Shape) → now ≡ links ++ shape_links s number output → number < count → AreBelow links count → AreBelow now count
 below_next links now count number output s made low below = by s.name refl where
-  abbrev one : Name → Link
+  one : Name → Link
   one name = record { number = number; terminal = record { instance = s.owner; pin = name }; gives = output }
 
   by : (o : Option Name) → s.name ≡ o → AreBelow now count

@@ -66,7 +66,7 @@ put_different old _ _ (fresh_name {n} fresh) h = different_more old n h fresh
 put_from : (old own now : List Name) → PutsNew old own now → (n : Name) → In n now → In n old ⊎ In n own
 put_from old _ _ no_name n h = inl h
 put_from old _ _ (known_name i) n h = inl h
-put_from old _ _ (fresh_name {n = m} fresh) n h = elim (in_cases old n m h) [ | inl i ↦ inl i | inr e ↦ inr (subst (λ (x : Name). In n (x ∷ [])) e here) ]
+put_from old _ _ (fresh_name {n = m} fresh) n h = elim (in_cases old n m h) [ inl i ↦ inl i | inr e ↦ inr (subst (λ (x : Name). In n (x ∷ [])) e here) ]
 
 put_old : (old own now : List Name) → PutsNew old own now → (n : Name) → In n old → In n now
 put_old old _ _ no_name n h = h
@@ -84,16 +84,16 @@ pub names_next : (items : List Item) (k : ℕ) (one : Item) (index now_index : N
 names_next items k one index now_index names now at puts knows are = record {
   different = put_different names (connector_name one) now puts are.different;
   same = λ n. (
-      λ h. subst (λ (ns : List Name). In n ns) (sym (line_names items k one at))
-          (elim (put_from names (connector_name one) now puts n h) [
-            | inl i ↦ In-left n (connector_names (take k items)) (connector_name one) ((are.same n).0 i)
-            | inr i ↦ In-right n (connector_names (take k items)) (connector_name one) i
-          ]),
-      λ h. elim (In-split n (connector_names (take k items)) (connector_name one) (subst (λ (ns : List Name). In n ns) (line_names items k one at) h)) [
-          | inl i ↦ put_old names (connector_name one) now puts n ((are.same n).1 i)
-          | inr i ↦ put_own names (connector_name one) now puts n i
-        ],
-    );
+    λ h. subst (λ (ns : List Name). In n ns) (sym (line_names items k one at))
+        (elim (put_from names (connector_name one) now puts n h) [
+          | inl i ↦ In-left n (connector_names (take k items)) (connector_name one) ((are.same n).0 i)
+          | inr i ↦ In-right n (connector_names (take k items)) (connector_name one) i
+        ]),
+    λ h. elim (In-split n (connector_names (take k items)) (connector_name one) (subst (λ (ns : List Name). In n ns) (line_names items k one at) h)) [
+      | inl i ↦ put_old names (connector_name one) now puts n ((are.same n).1 i)
+      | inr i ↦ put_own names (connector_name one) now puts n i
+    ],
+  );
   known = knows;
 }
 
@@ -101,12 +101,11 @@ pub names_start : (items : List Item) (index : NamePlaces) → index ≡ empty �
 names_start items index is = record {
   different = tt;
   same = λ n. (λ h. elim h [ ], λ h. elim h [ ]);
-  known = λ n.
-      (
-        λ e. let none : get index n ≡ None = ap (λ (m : NamePlaces). get m n) is ∙ get-empty name_total n in
-            let clash : false ≡ true = sym (ap is_some none) ∙ e in absurd cc,
-        λ h. elim h [ ],
-      );
+  known = λ n. (
+    λ e. let none : get index n ≡ None = ap (λ (m : NamePlaces). get m n) is ∙ get-empty name_total n in
+        let clash : false ≡ true = sym (ap is_some none) ∙ e in absurd cc,
+    λ h. elim h [ ],
+  );
 }
 
 -- ---- the index
@@ -136,8 +135,7 @@ knows_more index names name place knows n = by (eq_by_cmp name_cmp n name) refl 
     λ _. ap is_some (found ∙ ap (λ (b : Bool). cond b (Some place) (get index n)) e),
   )
   by false e =
-      let same : get (insert index name place) n ≡ get index n = found ∙ ap (λ (b : Bool). cond b (Some place) (get index n)) e in
-      (
+      let same : get (insert index name place) n ≡ get index n = found ∙ ap (λ (b : Bool). cond b (Some place) (get index n)) e in (
         λ h. in_left (name ∷ []) ((knows n).0 (sym (ap is_some same) ∙ h)),
         λ h. elim (in_cases names n name h) [
           | inl i ↦ ap is_some same ∙ (knows n).1 i

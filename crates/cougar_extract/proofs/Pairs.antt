@@ -43,7 +43,7 @@ other_next classes k c (Some i) differ h = (
 pub next_step : (classes : List ℕ) (k : ℕ) (next : List (Option ℕ)) → k < length classes → get_or classes k 0 < length next → AreNext classes (k + 1) next
     → AreNext classes k (slice_set next (get_or classes k 0) (Some k))
 next_step classes k next low room are c within = by (cases_eq c (get_or classes k 0)) where
-  abbrev own : ℕ
+  own : ℕ
   own = get_or classes k 0
 
   many : length (slice_set next own (Some k)) ≡ length next

@@ -72,7 +72,7 @@ from_rest f = record { instance = f.instance; listed = there f.listed; cell = f.
 pub from : (l : Library) (is : List Placed) (k : ℕ) (s : Shape) → Stands (all_instances_show l is) k s → IsFrom l is s (get_or (all_instances_give l is) k false)
 from l [] k s h = absurd (cc h)
 from l (i ∷ rest) k s h = by (λ j at. from l rest j s at) (cell_of l i.model) refl h where
-  abbrev Rest : Type 0
+  Rest : Type 0
   Rest = (j : ℕ) → Stands (all_instances_show l rest) j s → IsFrom l rest s (get_or (all_instances_give l rest) j false)
 
   with_cell : Rest → (c : Cell) {flag : Bool} → cell_of l i.model ≡ Some c

@@ -106,8 +106,7 @@ module _ (f : Figure) (l : Library) (n : Netlist) (connected : All PinsAreConnec
       let here : Stands (terminals n) i (port u.0.name) =
       stands_left (port_terminals n.ports) (flat_map pins_of n.instances) i (port u.0.name) (mapped (λ (x : Port). port x.name) n.ports i u.0 u.1) in
       let some = enough in
-      let own : Stands n.classes i (get_or n.classes i 0) = stands_class n.classes i (omega (arith, low, some)) in
-      (
+      let own : Stands n.classes i (get_or n.classes i 0) = stands_class n.classes i (omega (arith, low, some)) in (
         i,
         subst (λ (x : Name). Stands (terminals n) i (port x)) u.2 here,
         subst (λ (k : ℕ). Stands n.classes i k) (sym (get_take n.classes (length n.ports) i 0 low)) own,
@@ -125,9 +124,9 @@ module _ (f : Figure) (l : Library) (n : Netlist) (connected : All PinsAreConnec
   shown_port name s h shows =
       let p = in_place s (shapes f.items l) h in
       by (shown_terminal f.items l connected s _ (port name) (whence f.items l p.0 s p.1) shows) where
-    by : IsTerminalOf f.items l (port name) → IsThere names name
-    by (of_figure none listed) = in_place name names ((is.ports name).1 listed)
-    by (of_instance i placed owner pin) = let clash : None ≡ Some i.name = owner in absurd cc
+        by : IsTerminalOf f.items l (port name) → IsThere names name
+        by (of_figure none listed) = in_place name names ((is.ports name).1 listed)
+        by (of_instance i placed owner pin) = let clash : None ≡ Some i.name = owner in absurd cc
 
   -- shorted ports stand at two places of one class
   pub record HasPlaces (a b : Name) : Type 0 where

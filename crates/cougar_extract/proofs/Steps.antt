@@ -70,7 +70,7 @@ placed_next items k one at =
 
 pub learned_both : (old new : List (List ℕ)) (t : List ℕ) → Learned old new t → IsThere new t → (u : List ℕ) → IsThere new u ↔ (IsThere old u ⊎ (u ≡ t))
 learned_both old new t learned own u = (
-  λ h. elim (learned_only old new t learned u h) [ | inl o ↦ inl o | inr e ↦ inr (sym e) ],
+  λ h. elim (learned_only old new t learned u h) [ inl o ↦ inl o | inr e ↦ inr (sym e) ],
   λ h. elim h [
     | inl o ↦
         let g = learned_grows old new t learned in
@@ -176,7 +176,7 @@ unknown_later items l k one model at before h =
           ∙ ap (λ (is : List Placed). instances_of (take k items) ++ (is ++ instances_of r.0)) h.all_are
           ∙ ap (λ (is : List Placed). instances_of (take k items) ++ is) (append_assoc h.before (h.instance ∷ h.behind) (instances_of r.0))
           ∙ sym (append_assoc (instances_of (take k items)) h.before (h.instance ∷ (h.behind ++ instances_of r.0)));
-      known = λ i j. elim (In-split i (instances_of (take k items)) h.before j) [ | inl a ↦ before i a | inr b ↦ h.known i b ];
+      known = λ i j. elim (In-split i (instances_of (take k items)) h.before j) [ inl a ↦ before i a | inr b ↦ h.known i b ];
       unknown = h.unknown;
       model_is = h.model_is;
     }

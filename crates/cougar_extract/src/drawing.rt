@@ -89,13 +89,7 @@ fn placed(
     let rect = placed_rect(cell, instance, &shape.rect());
     let owner = instance.name.copy(alloc)?;
     let name = copied(alloc, shape.name())?;
-    Ok(Shape::new(
-        shape.metal(),
-        rect,
-        Some(owner),
-        shape.line(),
-        name,
-    ))
+    Ok(Shape::new(shape.metal(), rect, Some(owner), shape.line(), name))
 }
 
 /// Puts the shapes of an instance behind those that are there.
@@ -113,9 +107,7 @@ fn place(
 {
     let shapes = drawn(alloc, cell.items.as_slice())?;
     for shape in &shapes {
-        drawing
-            .shapes
-            .push(placed(alloc, cell, instance, shape)?)?;
+        drawing.shapes.push(placed(alloc, cell, instance, shape)?)?;
         drawing.gives.push(is_output(cell, shape.name()))?;
     }
     Ok(())

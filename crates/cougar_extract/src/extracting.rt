@@ -56,11 +56,7 @@ fn shorted(alloc: Global, shapes: &[Shape], a: &Port, b: &Port) -> Result<Extrac
 ///
 /// Takes memory for the shapes and the netlist, and meanwhile for a few entries a shape; time for the shapes, times the logarithm
 /// of their number, and for each instance and each cell.
-pub fn extract(
-    alloc: Global,
-    figure: &Figure,
-    library: &Library,
-) -> Result<Netlist, ExtractError>
+pub fn extract(alloc: Global, figure: &Figure, library: &Library) -> Result<Netlist, ExtractError>
     requires { IsReadyFigure figure.now }
     ensures extracted { IfOk result (λ n. IsExtracted figure.now library.now n) }
     ensures apart { OnOk result (NoShort figure.now.items library.now) }

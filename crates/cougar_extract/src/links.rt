@@ -89,11 +89,7 @@ pub(crate) fn links(
 }
 
 /// For each number that a connector has the place of the last such. Takes memory for `count` places.
-pub(crate) fn leaders(
-    alloc: Global,
-    links: &[Link],
-    count: usize,
-) -> Result<Vec<usize>, AllocError>
+pub(crate) fn leaders(alloc: Global, links: &[Link], count: usize) -> Result<Vec<usize>, AllocError>
     requires { AreBelow links.now count }
     ensures many { IfOk result (λ places. length places.items ≡ count) }
     ensures led { IfOk result (λ places. AreLeaders links.now places.items) }

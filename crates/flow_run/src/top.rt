@@ -49,10 +49,8 @@ fn run<S: Shelf, T: Sink>(alloc: Global, command: &Command, shelf: &mut S, out: 
 {
     match command {
         Command::Flow(flow) => run_flow(alloc, flow, shelf, out),
-        Command::Boog(_)
-        | Command::Asimut(_)
-        | Command::AsimutNetlist(_)
-        | Command::Cougar(_) => run_tool(alloc, command, shelf, out),
+        Command::Boog(_) | Command::Asimut(_) | Command::AsimutNetlist(_) | Command::Cougar(_) =>
+            run_tool(alloc, command, shelf, out),
     }
 }
 

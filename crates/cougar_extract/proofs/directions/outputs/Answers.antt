@@ -22,13 +22,13 @@ loop-link-preserved c =
     let next = take_read links k x c.loop-link-test.true c.link-item.is in
     elim c.if-gives.branch [
       | then-gives w ↦ record {
-          many = rw w.marks-is (length-set c.loop-link.marks.items x.number true ∙ c.loop-link.invariant.many);
-          are = rw (w.marks-is, next) (outputs_mark (take k links) c.loop-link.marks.items x (omega (arith, low, many)) w.if-gives.true c.loop-link.invariant.are);
-        }
+        many = rw w.marks-is (length-set c.loop-link.marks.items x.number true ∙ c.loop-link.invariant.many);
+        are = rw (w.marks-is, next) (outputs_mark (take k links) c.loop-link.marks.items x (omega (arith, low, many)) w.if-gives.true c.loop-link.invariant.are);
+      }
       | else-gives w ↦ record {
-          many = rw w.marks-is c.loop-link.invariant.many;
-          are = rw (w.marks-is, next) (outputs_keep (take k links) c.loop-link.marks.items x w.if-gives.false c.loop-link.invariant.are);
-        }
+        many = rw w.marks-is c.loop-link.invariant.many;
+        are = rw (w.marks-is, next) (outputs_keep (take k links) c.loop-link.marks.items x w.if-gives.false c.loop-link.invariant.are);
+      }
     ]
 
 pub returns : goal.returns
