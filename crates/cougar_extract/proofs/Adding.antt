@@ -35,7 +35,7 @@ use Rattle.net_view.proofs.Models.{named_cell}
 use Rattle.cougar_extract.specs.declared.links.Link.{Link}
 use Rattle.cougar_extract.specs.Extracted.{AreKnown, figure_text, instance_of, pins_of_cell}
 use Rattle.cougar_extract.specs.Stages.{IsTerminalOf, of_figure, of_instance, AreTerminals, AreLeaders, ArePortsBy, IsBuilt, terminal_of, join_of, with_instances, with_joins}
-use Rattle.cougar_extract.proofs.Directions.{names_same}
+use Rattle.cougar_extract.proofs.Directed.{names_same}
 use Rattle.cell_pins.proofs.Sound.{member_at}
 use Rattle.cougar_extract.proofs.Instances.{instances_append, instances_few, line_instance, name_of}
 

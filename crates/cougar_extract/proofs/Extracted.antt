@@ -10,7 +10,7 @@ use Rattle.cougar_extract.specs.declared.links.Link.{Link}
 use Rattle.cougar_extract.specs.Extracted.{IsReadyFigure, AreKnown, AreTied, IsExtracted}
 use Rattle.cougar_extract.specs.Stages.{gives, join_of, IsBuilt, AreConnected}
 use Rattle.cougar_extract.proofs.Classes.{joined_tied, tied_joined}
-use Rattle.cougar_extract.proofs.Directions.{names_same, direction}
+use Rattle.cougar_extract.proofs.Directed.{names_same, direction}
 
 module _ (f : Figure) (l : Library) (links : List Link) (n : Netlist) (ready : IsReadyFigure f) (known : AreKnown (instances_of f.items) l)
     (is : AreConnected (shapes f.items l) (gives f.items l) links) (built : IsBuilt f l links n) where

@@ -16,7 +16,7 @@ use Rattle.net_core.proofs.Standing.{stands_same}
 use Rattle.net_view.proofs.Lists.{in_place}
 use Rattle.cougar_extract.specs.declared.links.Link.{Link}
 use Rattle.cougar_extract.specs.Stages.{IsLinkAt, shape_links, AreLinks, AreBelow, HasOutput, AreOutputs, IsDrivenText, AreDrivenTexts, IsLeader, AreLeaders}
-use Rattle.cougar_extract.proofs.Pairs.{cases_eq}
+use Rattle.cougar_extract.proofs.LeastPairs.{cases_eq}
 
 -- ---- connectors
 

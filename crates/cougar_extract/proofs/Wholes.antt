@@ -28,7 +28,7 @@ use Rattle.cougar_extract.specs.Refused.{NoShort, IsLeastShort, IsChainOf, IsExt
 use Rattle.cougar_extract.specs.Stages.{is_output, gives, all_instances_give, instance_gives, IsUnknownRefusal, IsPairFrom, IsLeastPair, AreTerminals, AreConnected, IsBuilt, IsShortRefusal}
 use Rattle.cougar_extract.proofs.Extracted.{extracted}
 use Rattle.cougar_extract.proofs.Shapes.{whence, shown_terminal}
-use Rattle.cougar_extract.proofs.Shorts.{no_short, least_short}
+use Rattle.cougar_extract.proofs.Shorted.{no_short, least_short}
 
 -- the cells of a checked library have the connectors that they should
 pub connected : (tracks : Bool) (l : Library) → HasPassed tracks l → All PinsAreConnectors l.cells

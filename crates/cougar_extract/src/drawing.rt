@@ -162,7 +162,7 @@ fn own_shapes(alloc: Global, items: &[Item]) -> Result<Drawing, AllocError>
 
 /// The shapes of a figure with these cells. It is refused by `UnknownCell` exactly where the model of an instance is no cell, at
 /// the first such. Takes memory for the shapes, and time for them and for each instance and each cell.
-pub(crate) fn drawing(
+pub(crate) fn draw_layout(
     alloc: Global,
     items: &[Item],
     cells: &[Cell],

@@ -4,7 +4,6 @@ ghost use Rattle.cougar_extract.specs.declared.error.ExtractError.TheVariants.{M
 
 use std::alloc::{AllocError, AllocFailed};
 use sym_geom::Rect;
-use thiserror::Error;
 use vlsi_base::{Listed, Name, Text};
 
 /// A shape of a chain: its metal, where it lies, and the instance that it belongs to, if any.
@@ -19,15 +18,12 @@ pub struct Step {
 pub type Steps = Listed<Step>;
 
 /// Why a layout has no netlist.
-#[derive(Drop, Error)]
+#[derive(Drop)]
 pub enum ExtractError {
-    #[error("out of memory")]
     Memory,
     /// The model of the first instance whose model isn't in the library.
-    #[error("unknown cell")]
     UnknownCell(Text),
     /// Two ports that are joined, and the shapes that join them.
-    #[error("shorted")]
     Shorted { a: Name, b: Name, chain: Steps },
 }
 

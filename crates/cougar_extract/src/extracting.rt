@@ -7,7 +7,7 @@ ghost use Rattle.cougar_extract.specs.Refused.{NoShort, IsExtractRefusal};
 ghost use Rattle.cougar_extract.specs.Stages.{AreConnected, AreBelow, IsShortRefusal};
 
 use crate::build::netlist_of;
-use crate::drawing::{Drawing, drawing};
+use crate::drawing::{Drawing, draw_layout};
 use crate::error::ExtractError;
 use crate::links::{Link, bound, links};
 use crate::shorts::{shorted_ports, shorting};
@@ -63,7 +63,7 @@ pub fn extract(alloc: Global, figure: &Figure, library: &Library) -> Result<Netl
     ensures refused { IfErr result (λ e. IsExtractRefusal figure.now library.now e) }
 {
     let cells = library.cells();
-    let drawing = drawing(alloc, figure.items.as_slice(), cells)?;
+    let drawing = draw_layout(alloc, figure.items.as_slice(), cells)?;
     if drawing.shapes.len() > u32::MAX as usize {
         return Err(ExtractError::Memory);
     }

@@ -4,7 +4,7 @@ use Rattle.vlsi_base.specs.declared.name.Port.{Port}
 use Rattle.vlsi_base.specs.Member.{AllDifferent}
 use Rattle.std.specs.List.Sorted.{IsPermutation}
 use Rattle.cougar_extract.specs.Stages.{port_by}
-use Rattle.cougar_extract.proofs.Directions.{directed_names}
+use Rattle.cougar_extract.proofs.Directed.{directed_names}
 use Rattle.cougar_extract.proofs.directions.directed_ports.Goals as goal
 
 pub sorted-requires : goal.sorted-requires

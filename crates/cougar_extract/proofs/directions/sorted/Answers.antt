@@ -5,7 +5,7 @@ use Rattle.vlsi_base.specs.Name.{name_cmp}
 use Rattle.vlsi_base.specs.declared.name.Port.{Port}
 use Rattle.vlsi_base.proofs.NameOrder.{name_total}
 use Rattle.vlsi_model.proofs.Sorting.{in_order, different_names}
-use Rattle.cougar_extract.proofs.Directions.{in_name_order}
+use Rattle.cougar_extract.proofs.Directed.{in_name_order}
 use Rattle.cougar_extract.proofs.directions.sorted.Goals as goal
 
 pub returns-clause-ordered : goal.returns-clause-ordered

@@ -15,11 +15,11 @@ use Rattle.cougar_extract.specs.Stages.{gives, AreConnected}
 use Rattle.cougar_extract.proofs.Wholes.{connected, as_many, terminals, unknown_refused, apart, short_refused, of_library, whole, pair_joined, pair_low}
 use Rattle.cougar_extract.proofs.extracting.extract.Goals as goal
 
-pub drawing-requires-clause-ready : goal.drawing-requires-clause-ready
-drawing-requires-clause-ready c = subst (λ (items : List Item). All IsReady items) (sym c.as_slice.ensures) c.requires.ready
+pub draw_layout-requires-clause-ready : goal.draw_layout-requires-clause-ready
+draw_layout-requires-clause-ready c = subst (λ (items : List Item). All IsReady items) (sym c.as_slice.ensures) c.requires.ready
 
-pub drawing-requires-clause-few : goal.drawing-requires-clause-few
-drawing-requires-clause-few c = let few = c.requires.few in let same = ap (λ (items : List Item). length items) c.as_slice.ensures in omega (arith, few, same)
+pub draw_layout-requires-clause-few : goal.draw_layout-requires-clause-few
+draw_layout-requires-clause-few c = let few = c.requires.few in let same = ap (λ (items : List Item). length items) c.as_slice.ensures in omega (arith, few, same)
 
-pub drawing-requires-clause-formed : goal.drawing-requires-clause-formed
-drawing-requires-clause-formed c = of_library c.cells.result.now c.args.library.now c.cells.ensures.value (All IsFormed) c.cells.ensures.checked.formed
+pub draw_layout-requires-clause-formed : goal.draw_layout-requires-clause-formed
+draw_layout-requires-clause-formed c = of_library c.cells.result.now c.args.library.now c.cells.ensures.value (All IsFormed) c.cells.ensures.checked.formed

@@ -1,5 +1,5 @@
 use Rattle.std.proofs.Common.{refl, arith}
-use Rattle.cougar_extract.proofs.Names.{names_start, names_next, names_all}
+use Rattle.cougar_extract.proofs.Distinct.{names_start, names_next, names_all}
 use Rattle.cougar_extract.proofs.Steps.{read_stands}
 use Rattle.cougar_extract.proofs.names.distinct_names.Goals as goal
 

@@ -1,4 +1,4 @@
-use Rattle.cougar_extract.proofs.Names.{AreFirstNames}
+use Rattle.cougar_extract.proofs.Distinct.{AreFirstNames}
 use Rattle.cougar_extract.proofs.names.distinct_names.Given as goal
 
 abbrev pub invariant-loop-item : goal.invariant-loop-item

@@ -4,7 +4,7 @@ use Rattle.cell_model.specs.Layout.{instances_of, all_instances_show}
 use Rattle.cell_checks.specs.Checked.{library_of}
 use Rattle.cougar_extract.specs.Extracted.{AreKnown}
 use Rattle.cougar_extract.specs.Stages.{all_instances_give}
-use Rattle.cougar_extract.proofs.drawing.drawing.Given as goal
+use Rattle.cougar_extract.proofs.drawing.draw_layout.Given as goal
 
 abbrev pub invariant-loop-item : goal.invariant-loop-item
 invariant-loop-item l = record {

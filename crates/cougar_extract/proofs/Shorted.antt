@@ -32,7 +32,7 @@ use Rattle.net_view.proofs.Lists.{in_place}
 use Rattle.cougar_extract.specs.Extracted.{AreTied, IsExtracted}
 use Rattle.cougar_extract.specs.Refused.{AreShorted, NoShort, IsLeastShort}
 use Rattle.cougar_extract.specs.Stages.{gives, IsLeastPair, NoPair, IsPairFrom, IsTerminalOf, of_figure, of_instance}
-use Rattle.cougar_extract.proofs.Pairs.{cases_eq}
+use Rattle.cougar_extract.proofs.LeastPairs.{cases_eq}
 use Rattle.cougar_extract.proofs.Shapes.{whence, shown_terminal}
 
 -- ---- lists

@@ -3,7 +3,7 @@ use Rattle.sym_shapes.specs.Shape.{drawn}
 use Rattle.cell_model.specs.Layout.{instances_of}
 use Rattle.cell_checks.specs.Checked.{library_of}
 use Rattle.cougar_extract.proofs.Steps.{read_stands, drawn_next, gives_next, known_next, placed_line, refused_line}
-use Rattle.cougar_extract.proofs.drawing.drawing.Goals as goal
+use Rattle.cougar_extract.proofs.drawing.draw_layout.Goals as goal
 
 pub place_item-requires-clause-places : goal.place_item-requires-clause-places
 place_item-requires-clause-places c =
