@@ -145,11 +145,11 @@ outputs_mark links marks x room is are n = by (cases_eq n x.number) where
       )
 
 pub outputs_keep : (links : List Link) (marks : List Bool) (x : Link) → x.gives ≡ false → AreOutputs links marks → AreOutputs (links ++ x ∷ []) marks
-outputs_keep links marks x no are n = (
+outputs_keep links marks x idle are n = (
   λ e. output_more links x n ((are n).0 e),
   λ h. elim (in_cases links h.link x h.listed) [
     | inl i ↦ (are n).1 (record { link = h.link; listed = i; numbered = h.numbered; gives = h.gives })
-    | inr e ↦ let c : true ≡ false = sym h.gives ∙ ap (λ (y : Link). y.gives) e ∙ no in absurd cc
+    | inr e ↦ let c : true ≡ false = sym h.gives ∙ ap (λ (y : Link). y.gives) e ∙ idle in absurd cc
   ],
 )
 

@@ -91,9 +91,9 @@ leader_low links places k x led low is =
 pub both_there : (d now : Draft) (links : List Link) (places : List ℕ) (k : ℕ) (x leader : Link) (e : BuildError)
     → All (λ (y : Link). IsThere (draft_terminals d) y.terminal) links → Stands links k x → Stands links (get_or places x.number 0) leader
     → now ≡ joined_to d links places k → IsNoJoin now leader.terminal x.terminal e → e ≡ error.Memory
-both_there d now links places k x leader e there at led so_far h =
+both_there d now links places k x leader e all at led so_far h =
     let ends : (y : Link) → In y links → IsThere (draft_terminals now) y.terminal =
-    λ y i. subst (λ (b : Draft). IsThere (draft_terminals b) y.terminal) (sym so_far) (All-In (λ (z : Link). IsThere (draft_terminals d) z.terminal) links there y i) in
+    λ y i. subst (λ (b : Draft). IsThere (draft_terminals b) y.terminal) (sym so_far) (All-In (λ (z : Link). IsThere (draft_terminals d) z.terminal) links all y i) in
     no_join now leader.terminal x.terminal e (ends leader (member_at links (get_or places x.number 0) leader led)) (ends x (member_at links k x at)) h
 
 -- ---- chains between ports

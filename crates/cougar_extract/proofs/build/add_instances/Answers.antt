@@ -28,8 +28,8 @@ pub loop-item-preserved : goal.loop-item-preserved
 loop-item-preserved c = record {
   added =
       added_line c.args.builder.now c.loop-item.builder c.add_item.new.builder (library_of c.args.cells.now) c.args.items.now c.loop-item.item-index c.item-item.result
-      (read_stands c.args.items.now c.loop-item.item-index c.item-item.result c.loop-item-test.true c.item-item.is) c.loop-item.invariant.added c.in_ok-add_item.ensures.added;
-  counted = c.in_ok-add_item.ensures.count;
+      (read_stands c.args.items.now c.loop-item.item-index c.item-item.result c.loop-item-test.true c.item-item.is) c.loop-item.invariant.added c.in_ok-count.ensures.added;
+  counted = c.in_ok-count.ensures.count;
 }
 
 pub returns : goal.returns

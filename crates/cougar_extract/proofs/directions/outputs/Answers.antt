@@ -3,11 +3,11 @@ use Rattle.std.proofs.lemmas.List.{length-set}
 use Rattle.cougar_extract.specs.declared.links.Link.{Link}
 use Rattle.cougar_extract.specs.Stages.{AreOutputs}
 use Rattle.cougar_extract.proofs.Linking.{number_low, take_read, take_whole, outputs_start, outputs_mark, outputs_keep}
-use Rattle.cougar_extract.proofs.directions.outputs.Goals.{then-gives, else-gives}
+use Rattle.cougar_extract.proofs.directions.outputs.Goals.{then-link, else-link}
 use Rattle.cougar_extract.proofs.directions.outputs.Goals as goal
 
-pub bounds-marks-number : goal.bounds-marks-number
-bounds-marks-number c =
+pub bounds-links-link-index : goal.bounds-links-link-index
+bounds-links-link-index c =
     let low = number_low c.args.links.now c.args.count c.loop-link.link-index c.link-item.result c.requires c.loop-link-test.true c.link-item.is in
     let many = c.loop-link.invariant.many in
     omega (arith, low, many)
@@ -20,14 +20,14 @@ loop-link-preserved c =
     let low = number_low links c.args.count k x c.requires c.loop-link-test.true c.link-item.is in
     let many = c.loop-link.invariant.many in
     let next = take_read links k x c.loop-link-test.true c.link-item.is in
-    elim c.if-gives.branch [
-      | then-gives w ↦ record {
+    elim c.if-link.branch [
+      | then-link w ↦ record {
         many = rw w.marks-is (length-set c.loop-link.marks.items x.number true ∙ c.loop-link.invariant.many);
-        are = rw (w.marks-is, next) (outputs_mark (take k links) c.loop-link.marks.items x (omega (arith, low, many)) w.if-gives.true c.loop-link.invariant.are);
+        are = rw (w.marks-is, next) (outputs_mark (take k links) c.loop-link.marks.items x (omega (arith, low, many)) w.if-link.true c.loop-link.invariant.are);
       }
-      | else-gives w ↦ record {
+      | else-link w ↦ record {
         many = rw w.marks-is c.loop-link.invariant.many;
-        are = rw (w.marks-is, next) (outputs_keep (take k links) c.loop-link.marks.items x w.if-gives.false c.loop-link.invariant.are);
+        are = rw (w.marks-is, next) (outputs_keep (take k links) c.loop-link.marks.items x w.if-link.false c.loop-link.invariant.are);
       }
     ]
 

@@ -1,4 +1,4 @@
-use Rattle.std.proofs.Common.{◌≡◌, ◌∙◌, false, ℕ, length, replicate, take, ap, sym, subst, arith}
+use Rattle.std.proofs.Common.{◌≡◌, ◌∙◌, false, ℕ, length, replicate, take, ap, sym, subst, arith, rules}
 use Rattle.sym_shapes.specs.Shape.{drawn}
 use Rattle.cell_model.specs.Layout.{instances_of}
 use Rattle.cell_checks.specs.Checked.{library_of}
@@ -12,8 +12,10 @@ place_item-requires-clause-places c =
 
 pub returns-in_err-place_item-clause-refused : goal.returns-in_err-place_item-clause-refused
 returns-in_err-place_item-clause-refused c =
+    let refused =
     refused_line c.args.items.now (library_of c.args.cells.now) c.loop-item.item-index c.item-item.result c.in_err-place_item.field-0.0
-    (read_stands c.args.items.now c.loop-item.item-index c.item-item.result c.loop-item-test.true c.item-item.is) c.loop-item.invariant.known c.in_err-place_item.ensures.refused
+    (read_stands c.args.items.now c.loop-item.item-index c.item-item.result c.loop-item-test.true c.item-item.is) c.loop-item.invariant.known c.in_err-place_item.ensures.refused in
+    search rules
 
 pub loop-item-preserved : goal.loop-item-preserved
 loop-item-preserved c =

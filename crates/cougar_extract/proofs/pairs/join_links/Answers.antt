@@ -1,4 +1,4 @@
-use Rattle.std.proofs.Common.{◌≡◌, ◌∙◌, ℕ, List, get_or, map, ap, sym, subst, arith}
+use Rattle.std.proofs.Common.{◌≡◌, ◌∙◌, ℕ, List, get_or, map, ap, sym, subst, arith, rules}
 use Rattle.net_core.specs.Joins.{with_join, IsNoJoin}
 use Rattle.cougar_extract.specs.declared.links.Link.{Link}
 use Rattle.cougar_extract.specs.Stages.{join_of, with_joins}
@@ -12,6 +12,11 @@ bounds-places-number c = number_low c.args.links.now _ c.loop-link.link-index c.
 
 pub bounds-links-place : goal.bounds-links-place
 bounds-links-place c = leader_low c.args.links.now c.args.places.now c.loop-link.link-index c.link-item.result c.requires.led c.loop-link-test.true c.link-item.is
+
+pub offset_bounds-links-place : goal.offset_bounds-links-place
+offset_bounds-links-place c =
+    let low = leader_low c.args.links.now c.args.places.now c.loop-link.link-index c.link-item.result c.requires.led c.loop-link-test.true c.link-item.is in
+    search rules
 
 pub only_memory-requires : goal.only_memory-requires
 only_memory-requires c =
