@@ -156,5 +156,6 @@ pub(crate) fn netlist_of(
     let mut builder = Builder::begin(alloc, name, Ports::new(ports))?;
     add_instances(alloc, &mut builder, figure.items.as_slice(), cells, many)?;
     join_links(&mut builder, links, &places)?;
-    builder.finish(alloc)
+    let netlist = builder.finish(alloc)?;
+    Ok(netlist)
 }

@@ -93,6 +93,7 @@ pub(crate) fn directed_ports(
     ensures { IfOk result (λ ports. ArePortsBy names.now links.now ports.items) }
 {
     let texts = driven_texts(alloc, links, count)?;
-    let ports = directed(alloc, names, &texts)?;
-    sorted(ports)
+    let made = directed(alloc, names, &texts)?;
+    let ports = sorted(made)?;
+    Ok(ports)
 }

@@ -20,15 +20,15 @@ add-requires-clause-order c =
 pub only_memory-requires : goal.only_memory-requires
 only_memory-requires c = memory_left c.args.builder.now.instances c.args.instance.now.name c.in-Err.error c.requires.fresh c.in-Err.ensures.refused
 
-pub returns-in-Ok-clause-added : goal.returns-in-Ok-clause-added
-returns-in-Ok-clause-added c =
-    added_instance c.args.builder.now c.add.new.self (library_of c.args.cells.now) c.args.instance.now c.in-Some.cell.now c.new.result (sym c.in-Some.ensures)
-    (c.new.ensures ∙ c.in_ok-pins.ensures) c.in-Ok.ensures.added
+pub returns-in-Ok-add-clause-added : goal.returns-in-Ok-add-clause-added
+returns-in-Ok-add-clause-added c =
+    added_instance c.args.builder.now _ (library_of c.args.cells.now) c.args.instance.now c.in-Some.cell.now c.new.result (sym c.in-Some.ensures)
+    (c.new.ensures ∙ c.in_ok-pins.ensures) c.in-Ok-add.ensures.added
 
-pub returns-in-Ok-clause-count : goal.returns-in-Ok-clause-count
-returns-in-Ok-clause-count c =
-    let whole = added_instance c.args.builder.now c.add.new.self (library_of c.args.cells.now) c.args.instance.now c.in-Some.cell.now c.new.result (sym c.in-Some.ensures)
-    (c.new.ensures ∙ c.in_ok-pins.ensures) c.in-Ok.ensures.added in
+pub returns-in-Ok-add-clause-count : goal.returns-in-Ok-add-clause-count
+returns-in-Ok-add-clause-count c =
+    let whole = added_instance c.args.builder.now _ (library_of c.args.cells.now) c.args.instance.now c.in-Some.cell.now c.new.result (sym c.in-Some.ensures)
+    (c.new.ensures ∙ c.in_ok-pins.ensures) c.in-Ok-add.ensures.added in
     let more = count_more c.args.builder.now (instance_of (library_of c.args.cells.now) c.args.instance.now) in
     let longer = ap (λ (d : Draft). length (draft_terminals d)) whole in
     let pins = ap (λ (ns : List Name). length ns) (c.in_ok-pins.ensures ∙ pins_found (library_of c.args.cells.now) c.args.instance.now c.in-Some.cell.now (sym c.in-Some.ensures)) in

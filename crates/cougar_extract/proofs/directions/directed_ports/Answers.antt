@@ -10,12 +10,12 @@ use Rattle.cougar_extract.proofs.directions.directed_ports.Goals as goal
 pub sorted-requires : goal.sorted-requires
 sorted-requires c =
     subst (λ (ns : List Name). AllDifferent ns)
-    (sym (ap (λ (ps : List Port). map (λ (p : Port). p.name) ps) c.in_ok-ports.ensures ∙ directed_names c.in_ok-texts.texts c.args.names.now)) c.requires.different
+    (sym (ap (λ (ps : List Port). map (λ (p : Port). p.name) ps) c.in_ok-made.ensures ∙ directed_names c.in_ok-texts.texts c.args.names.now)) c.requires.different
 
 pub returns : goal.returns
 returns c = record {
   texts = c.in_ok-texts.texts;
   driven = c.in_ok-texts.ensures;
-  moved = subst (λ (ps : List Port). IsPermutation ps _) c.in_ok-ports.ensures c.sorted.ensures.moved;
-  ordered = c.sorted.ensures.ordered;
+  moved = subst (λ (ps : List Port). IsPermutation ps c.in_ok-ports.field-0.items) c.in_ok-made.ensures c.in_ok-ports.ensures.moved;
+  ordered = c.in_ok-ports.ensures.ordered;
 }

@@ -7,7 +7,7 @@ pub loop-item-init : goal.loop-item-init
 loop-item-init c = names_start c.args.items.now c.new-index.result c.new-index.ensures
 
 pub add_name-requires : goal.add_name-requires
-add_name-requires c = c.loop-item.invariant.known
+add_name-requires c = record { known = c.loop-item.invariant.known }
 
 pub loop-item-preserved : goal.loop-item-preserved
 loop-item-preserved c =
