@@ -102,7 +102,7 @@ names_start items index is = record {
   different = tt;
   same = λ n. (λ h. elim h [ ], λ h. elim h [ ]);
   known = λ n. (
-    λ e. let none : get index n ≡ None = ap (λ (m : NamePlaces). get m n) is ∙ get-empty name_total n in
+    λ e. let none : get index n ≡ None = ap (λ (m : NamePlaces). get m n) is ∙ get-empty name_cmp n in
         let clash : false ≡ true = sym (ap is_some none) ∙ e in absurd cc,
     λ h. elim h [ ],
   );

@@ -16,6 +16,6 @@ pub returns : goal.returns
 returns c = record {
   texts = c.in_ok-texts.texts;
   driven = c.in_ok-texts.ensures;
-  moved = subst (λ (ps : List Port). IsPermutation ps c.in_ok-ports.field-0.items) c.in_ok-made.ensures c.in_ok-ports.ensures.moved;
+  moved = subst (λ (ps : List Port). IsPermutation ps c.in_ok-ports.ports.items) c.in_ok-made.ensures c.in_ok-ports.ensures.moved;
   ordered = c.in_ok-ports.ensures.ordered;
 }

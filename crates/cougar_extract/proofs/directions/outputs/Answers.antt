@@ -6,12 +6,6 @@ use Rattle.cougar_extract.proofs.Linking.{number_low, take_read, take_whole, out
 use Rattle.cougar_extract.proofs.directions.outputs.Goals.{then-link, else-link}
 use Rattle.cougar_extract.proofs.directions.outputs.Goals as goal
 
-pub bounds-links-link-index : goal.bounds-links-link-index
-bounds-links-link-index c =
-    let low = number_low c.args.links.now c.args.count c.loop-link.link-index c.link-item.result c.requires c.loop-link-test.true c.link-item.is in
-    let many = c.loop-link.invariant.many in
-    omega (arith, low, many)
-
 pub loop-link-preserved : goal.loop-link-preserved
 loop-link-preserved c =
     let links = c.args.links.now in

@@ -6,8 +6,8 @@ use Rattle.cougar_extract.proofs.links.links.Goals as goal
 
 pub loop-k-init : goal.loop-k-init
 loop-k-init c = record {
-  are = rw (c.new-links.ensures) (no_links c.args.drawing.now.shapes.items c.args.numbers.now c.args.drawing.now.gives.items);
-  below = rw (c.new-links.ensures) (λ k d h. omega (arith, h));
+  are = rw (c.new-links.ensures.items) (no_links c.args.drawing.now.shapes.items c.args.numbers.now c.args.drawing.now.gives.items);
+  below = rw (c.new-links.ensures.items) (λ k d h. omega (arith, h));
 }
 
 pub loop-k-preserved : goal.loop-k-preserved
