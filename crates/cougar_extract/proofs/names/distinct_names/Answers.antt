@@ -4,7 +4,7 @@ use Rattle.cougar_extract.proofs.Steps.{read_stands}
 use Rattle.cougar_extract.proofs.names.distinct_names.Goals as goal
 
 pub loop-item-init : goal.loop-item-init
-loop-item-init c = names_start c.args.items.now c.new-index.result c.new-index.ensures
+loop-item-init c = rw (c.new-names.ensures.items) (names_start c.args.items.now c.new-index.result c.new-index.ensures)
 
 pub add_name-requires : goal.add_name-requires
 add_name-requires c = record { known = c.loop-item.invariant.known }
