@@ -22,4 +22,4 @@ pub draw_layout-requires-clause-few : goal.draw_layout-requires-clause-few
 draw_layout-requires-clause-few c = let few = c.requires.few in let same = ap (λ (items : List Item). length items) c.as_slice.ensures in omega (arith, few, same)
 
 pub draw_layout-requires-clause-formed : goal.draw_layout-requires-clause-formed
-draw_layout-requires-clause-formed c = of_library c.cells.result.now c.args.library.now c.cells.ensures.value (All IsFormed) c.cells.ensures.checked.formed
+draw_layout-requires-clause-formed c = of_library c.cells-cells.result.now c.args.library.now c.cells-cells.ensures.value (All IsFormed) c.cells-cells.ensures.checked.formed
