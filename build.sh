@@ -19,7 +19,7 @@ fi
 # usage line, so that its status is 1.
 rm -rf build crates/alliance/out/alliance
 mkdir -p build
-echo "proving and building, which takes some minutes the first time: build/proof.log"
+echo "proving and building, which can take an hour the first time: build/proof.log"
 (cd crates/alliance && "$rt" run </dev/null) >build/proof.log 2>&1 || true
 if [ ! -x crates/alliance/out/alliance ]; then
   tail -20 build/proof.log >&2
