@@ -15,8 +15,7 @@ use Rattle.vlsi_base.specs.Names.{vdd, vss, comes_before}
 use Rattle.sym_shapes.specs.Shape.{Shape, drawn, connector_names}
 use Rattle.cell_model.specs.Cell.{Function, gate, flip_flop, other, opaque, Cell, pin_ports, cell_inputs, cell_outputs}
 
--- A library. That its cells passed their checks (box, rails, access nodes, pins apart from each other and from the rails) is to
--- stand here beside them.
+-- A library, by its cells. That they have passed their checks is said beside it, where they were made.
 pub record Library : Type 0 where
   -- in the order of their list
   pub cells : List Cell
