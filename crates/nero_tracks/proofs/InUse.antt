@@ -1,0 +1,76 @@
+-- The models that instances have, and the columns of their cells.
+use Rattle.std.proofs.Common.{◌≡◌, ℕ, ◌+◌, ◌<◌, Bool, true, false, List, [], map, length, get_or, Some, below_more, sym, ap, subst, ◌∙◌}
+use Rattle.std.specs.List.{All}
+use Rattle.std.proofs.lemmas.List.{get_or_read}
+use Rattle.std.proofs.lemmas.Option.{same_Some, slice_get_within, get_or_from_slice_get}
+use Rattle.cell_model.specs.Library.{Library, cell_of}
+use Rattle.cell_model.specs.Usable.{IsMappable}
+use Rattle.cell_model.proofs.Mapped.{usable_is_mappable}
+use Rattle.cell_model.proofs.Members.{In-map, In-map_back}
+use Rattle.cell_pins.proofs.Sound.{member_at}
+use Rattle.net_core.specs.declared.frame.Node.{Node}
+use Rattle.net_core.specs.Frame.{instance_of}
+use Rattle.net_core.specs.Netlist.{Instance, Netlist as InMemory}
+use Rattle.net_core.specs.Places.{Stands, IsThere}
+use Rattle.net_core.proofs.Frames.{unmapped}
+use Rattle.net_view.proofs.Lists.{in_place}
+use Rattle.net_view.proofs.Seen.{right_cell}
+use Rattle.nero_tracks.specs.declared.error.TrackError.{TrackError}
+use Rattle.nero_tracks.specs.declared.error.TrackError.TheVariants as error
+use Rattle.nero_tracks.specs.Columns.{IsModelRefusal, HasOwnColumns, HaveOwnColumns}
+use Rattle.nero_tracks.specs.Drawable.{IsDrawableIn, IsTrackRefusal}
+use Rattle.nero_tracks.specs.Tracks.{AreMarks}
+use Rattle.nero_tracks.proofs.Among.{among_in, in_among}
+
+abbrev model_of : Node → ℕ
+model_of i = i.model
+
+-- the cells of the first k models that are marked have columns of their own
+abbrev pub OwnBelow : Library → List (List ℕ) → List Bool → ℕ → Type 0
+OwnBelow l models marks k = (j : ℕ) → j < k → get_or marks j false ≡ true → HasOwnColumns l (get_or models j [])
+
+pub own_marked : (l : Library) (models : List (List ℕ)) (marks : List Bool) (k : ℕ) (model : List ℕ) → OwnBelow l models marks k → k < length models → model ≡ get_or models k model
+    → HasOwnColumns l model → OwnBelow l models marks (k + 1)
+own_marked l models marks k model below low at own =
+    below_more (λ j. get_or marks j false ≡ true → HasOwnColumns l (get_or models j [])) k below
+    (λ marked. subst (HasOwnColumns l) (get_or_read models k model low at []) own)
+
+pub own_unmarked : (l : Library) (models : List (List ℕ)) (marks : List Bool) (k : ℕ) (mark : Bool) → OwnBelow l models marks k → k < length marks → mark ≡ get_or marks k mark → mark ≡ false
+    → OwnBelow l models marks (k + 1)
+own_unmarked l models marks k mark below low at unmarked =
+    below_more (λ j. get_or marks j false ≡ true → HasOwnColumns l (get_or models j [])) k below
+    (λ marked. absurd (let never : false ≡ true = sym unmarked ∙ get_or_read marks k mark low at false ∙ marked in cc never))
+
+module _ (l : Library) (n : InMemory) (models : List (List ℕ)) (nodes : List Node) (marks : List Bool) (same : models ≡ n.models)
+    (seen : map (instance_of n.models) nodes ≡ n.instances) (are : AreMarks (map model_of nodes) (length models) marks) where
+  -- where those of all marked models have columns of their own, those of all instances have
+  pub all_own : IsDrawableIn l n → All (λ i. i.model < length n.models) nodes → OwnBelow l models marks (length models) → HaveOwnColumns l n
+  all_own given known own i c is_there found =
+      let u = unmapped (instance_of n.models) nodes is_there.0 i (subst (λ (xs : List Instance). Stands xs is_there.0 i) (sym seen) is_there.1) in
+      let at : get_or nodes is_there.0 u.0 ≡ u.0 = get_or_from_slice_get nodes is_there.0 u.0 u.0 u.1 in
+      let inside : u.0.model < length n.models = subst (λ (x : Node). x.model < length n.models) at (known is_there.0 u.0 (slice_get_within nodes is_there.0 u.0 u.1)) in
+      let low : u.0.model < length models = subst (λ (ms : List (List ℕ)). u.0.model < length ms) (sym same) inside in
+      let marked : get_or marks u.0.model false ≡ true =
+      are.each u.0.model false low ∙ in_among (map model_of nodes) u.0.model (In-map model_of u.0 nodes (member_at nodes is_there.0 u.0 u.1)) in
+      let named : get_or models u.0.model [] ≡ i.model = ap (λ (ms : List (List ℕ)). get_or ms u.0.model []) same ∙ ap (λ (x : Instance). x.model) u.2 in
+      let right = right_cell n l given.machine given.checked given.right i is_there in
+      let one : right.0 ≡ c = same_Some right.0 c (sym right.1 ∙ found) in
+      own u.0.model low marked c (subst (λ (model : List ℕ). cell_of l model ≡ Some c) (sym named) found) (subst IsMappable one (usable_is_mappable right.0 right.2))
+
+  -- a marked model that is refused is that of an instance
+  pub refused : (k : ℕ) (mark : Bool) (model : List ℕ) (e : TrackError) → k < length models → mark ≡ get_or marks k mark → mark ≡ true → model ≡ get_or models k model
+      → IsModelRefusal l model e → IsTrackRefusal l n e
+  refused k mark model error.Memory low read marked at h = tt
+  refused k mark model (error.NoColumn cell pin) low read marked at h =
+      let among = among_in (map model_of nodes) k (sym (are.each k mark low) ∙ sym read ∙ marked) in
+      let r = In-map_back model_of k nodes among in
+      let user : Instance = instance_of n.models r.0 in
+      let named : model ≡ user.model = get_or_read models k model low at [] ∙ ap (λ (ms : List (List ℕ)). get_or ms k []) same ∙ ap (λ (j : ℕ). get_or n.models j []) (sym r.2) in
+      record {
+        user = user;
+        listed = subst (λ (xs : List Instance). IsThere xs user) seen (in_place user (map (instance_of n.models) nodes) (In-map (instance_of n.models) r.0 nodes r.1));
+        used = h.used;
+        found = subst (λ (m : List ℕ). cell_of l m ≡ Some h.used) named h.found;
+        named = h.named;
+        shared = h.shared;
+      }

@@ -1,0 +1,8 @@
+pub mod Among
+pub mod Drivers
+pub mod Numbered
+pub mod Free
+pub mod Marked
+pub mod Routed
+pub mod Shared
+pub mod InUse
