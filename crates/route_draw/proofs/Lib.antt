@@ -1,0 +1,9 @@
+pub mod Right
+pub mod Sited
+pub mod Ends
+pub mod Joins
+pub mod Drawing
+pub mod Counts
+pub mod Goods
+pub mod Spread
+pub mod Written
