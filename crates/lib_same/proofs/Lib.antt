@@ -1,0 +1,7 @@
+mod Steps
+mod Texts
+mod Functions
+mod Checks
+mod Cells
+mod Refusals
+mod Libraries

@@ -1,0 +1,8 @@
+mod Ordered
+mod Readings
+mod Parts
+mod Weights
+mod Cells
+mod Values
+mod Meaning
+mod Same
