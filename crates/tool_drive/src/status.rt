@@ -34,12 +34,14 @@ pub enum Verdict {
     Differs { label: Text, name: Name },
     /// The name of an instance's cell, where nothing is known of the cell.
     NoBehaviour(Text),
+    /// Two ports of a layout that are joined.
+    Shorted { a: Name, b: Name },
 }
 
-/// How a call ends. As they are built so far, `flow` answers `Accepted`, `Usage`, `File`, `Memory` and `Beyond`; `boog`
-/// `Accepted`, `Usage`, `Source`, `Library`, `NoCover`, `File`, `Memory` and `Limit`; `asimut` `Accepted`, `Usage`, `Source`,
-/// `File`, `Memory`, `Limit` and `No`, and on a netlist `Library` too. The driver itself answers `File`, `Memory` and the limit
-/// file; the other refusals are the tools'.
+/// How a call ends. As they are built so far, `flow` answers `Accepted`, `Usage`, `Source`, `Library`, `NoCover`, `File`, `Memory`,
+/// `Limit` and `Beyond`; `boog` the same but `Beyond`; `asimut` `Accepted`, `Usage`, `Source`, `File`, `Memory`, `Limit` and `No`,
+/// and on a netlist `Library` too; `cougar` `Accepted`, `Usage`, `Source`, `Library`, `File`, `Memory`, `Limit` and `No`. The driver
+/// itself answers `File`, `Memory` and the limit file; the other refusals are the tools'.
 #[derive(Drop)]
 pub enum Status {
     /// What was asked is done, and printed.
@@ -62,7 +64,7 @@ pub enum Status {
     Memory,
     /// A quantity of the input is over its number.
     Limit(Limit),
-    /// The source, or the library with it, is of a form that isn't built yet.
+    /// The source is a state machine's, which `flow` doesn't read yet.
     Beyond,
     /// A tool that compares found a difference, or a cell without behaviour.
     No(Verdict),
