@@ -1,0 +1,7 @@
+use Rattle.flow_run.proofs.NeverRefused.{never_refused}
+use Rattle.flow_run.proofs.reading.reading_law.Goals as goal
+
+pub returns : goal.returns
+returns c =
+    never_refused c.never_both.ensures c.never_both-2.ensures c.machines_are_the_same.ensures.size c.library_is_never_refused.ensures
+    c.covered_lacks_nothing.ensures

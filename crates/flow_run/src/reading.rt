@@ -1,0 +1,17 @@
+// What is true of what is read.
+ghost use Rattle.flow_run.specs.Laws.{WhatIsReadIsNeverRefused};
+
+use lib_same::{covered_lacks_nothing, library_is_never_refused};
+use vbe_same::machines_are_the_same;
+
+/// Where the source is a machine that isn't too large, and the files are a library that covers it, none of the causes of a refusal
+/// holds of them. It costs nothing when it is called.
+pub fn reading_law()
+    ensures { WhatIsReadIsNeverRefused }
+{
+    catal::never_both();
+    vbe_io::never_both();
+    machines_are_the_same();
+    library_is_never_refused();
+    covered_lacks_nothing();
+}
