@@ -11,7 +11,9 @@ from typing import Callable, NamedTuple
 import answers
 import asimut
 import boog
+import cougar
 import flow
+import flow_limits
 import net_jobs
 
 
@@ -28,8 +30,15 @@ def asimut_jobs(program, seed, times):
     yield from asimut.jobs(program, seed, times)
 
 
+def flow_jobs(program, seed, times):
+    """Limits and orders, and then sources."""
+    yield from flow_limits.jobs(program)
+    yield from flow.jobs(program, seed, times)
+
+
 TOOLS = {
     "asimut": Tool(asimut.second, answers.agrees, asimut_jobs),
     "boog": Tool(boog.second, answers.agrees, boog.jobs, boog.writes),
-    "flow": Tool(lambda words, files: None, lambda got, wanted: False, flow.jobs),
+    "cougar": Tool(cougar.second, answers.agrees, cougar.jobs, cougar.writes),
+    "flow": Tool(flow.second, flow.agrees, flow_jobs, flow.writes),
 }

@@ -22,18 +22,6 @@ class Instance(NamedTuple):
     nets: dict
 
 
-class Instance(NamedTuple):
-    """A cell with the net, which is a bit of a port or signal, of each of its pins."""
-
-    name: str
-    model: Model
-    nets: dict
-
-
-class NoBehaviour(Exception):
-    """The name of the first instance's cell that has no behaviour."""
-
-
 # ---- what a text has to name
 
 
