@@ -11,3 +11,4 @@ pub mod NodeFronts
 pub mod NodeColumns
 pub mod OtherColumns
 pub mod Tracks
+pub mod PointLists

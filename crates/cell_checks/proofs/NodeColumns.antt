@@ -27,7 +27,7 @@ lengths test g (x ∷ xs) = by (test (g x)) (lengths test g xs) where
   by false e = e
 
 -- the rank of a pin, by a count of the pins
-ranked : (c : Cell) (name : Name) → length (filter (λ (p : Pin). comes_before p.port.name name) c.pins) ≡ rank_of c name
+pub ranked : (c : Cell) (name : Name) → length (filter (λ (p : Pin). comes_before p.port.name name) c.pins) ≡ rank_of c name
 ranked c name =
     sym (lengths (λ (p : Port). comes_before p.name name) (λ (p : Pin). p.port) c.pins) ∙ length-filter (λ (p : Port). comes_before p.name name) (pin_ports c)
 
@@ -37,10 +37,10 @@ across a = pos (PITCH * a)
 abbrev first : Point → ℤ
 first q = q.0
 
-abbrev kept : Cell → Name → Point → Option Point
+abbrev pub kept : Cell → Name → Point → Option Point
 kept c name q = if is_access_node c name q then Some q else None
 
-abbrev point : ℕ → ℕ → Point
+abbrev pub point : ℕ → ℕ → Point
 point a b = (pos (PITCH * a), pos (PITCH * b))
 
 one_point : (c : Cell) (name : Name) (a b : ℕ) (r : Bool) → is_access_node c name (point a b) ≡ r
@@ -59,7 +59,7 @@ column_points c name a (suc b) =
     ∙ ap (λ xs. map first (filter_map (kept c name) xs)) (sym (map-append (point a) (count_to b) (b ∷ [])))
 
 -- the points of a column of so many rows
-abbrev points : ℕ → ℕ → List Point
+abbrev pub points : ℕ → ℕ → List Point
 points rows a = map (point a) (count_to rows)
 
 columns_points : (c : Cell) (name : Name) (n : ℕ) → map across (node_columns c name n) ≡ map first (filter_map (kept c name) (flat_map (points 11) (count_to n)))

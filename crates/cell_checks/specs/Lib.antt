@@ -3,3 +3,4 @@ pub mod Shapes
 pub mod Verdict
 pub mod Checked
 pub mod Nodes
+pub mod Points

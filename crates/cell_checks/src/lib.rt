@@ -8,10 +8,12 @@ mod joined;
 mod layout;
 mod library;
 mod nodes;
+mod points;
 mod row;
 mod shapes;
 mod verdict;
 
 pub use checker::check_cell;
 pub use library::Library;
+pub use points::{GridPoint, access_points};
 pub use verdict::{CellVerdict, Check, MOST_COLUMNS};

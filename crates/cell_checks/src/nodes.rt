@@ -18,7 +18,7 @@ use sym_shapes::Shape;
 use vlsi_base::Name;
 
 /// How many lines of the grid a row of cells has, its foot and its head among them.
-const GRID_ROWS: u64 = 11;
+pub(crate) const GRID_ROWS: u64 = 11;
 
 /// A pad about a point of the grid.
 fn pad_at(column: u64, row: u64) -> Rect
@@ -39,7 +39,7 @@ fn pad_at(column: u64, row: u64) -> Rect
 
 /// Whether a point of the grid is an access node of a pin.
 #[tactic(auto, using(crate::proofs::NodeLemmas::node_told))]
-fn is_node(cell: &Cell, shapes: &[Shape], name: &Name, column: u64, row: u64) -> bool
+pub(crate) fn is_node(cell: &Cell, shapes: &[Shape], name: &Name, column: u64, row: u64) -> bool
     requires row { StandsInRow cell.now }
     requires shapes { shapes.now ≡ drawn cell.now.items }
     requires column { column ≤ 100000000000 }
@@ -131,7 +131,7 @@ fn next_column(cell: &Cell, shapes: &[Shape], name: &Name, from: u64, end: u64) 
 }
 
 /// How many columns of the grid the box of a cell has, both of its sides among them.
-fn grid_columns(cell: &Cell) -> u64
+pub(crate) fn grid_columns(cell: &Cell) -> u64
     requires { IsFormed cell.now }
     ensures value { result ≡ grid_lines (cell_width cell.now) }
     ensures most { result ≤ 100000000000 }
@@ -168,7 +168,7 @@ fn first_nodes(
 }
 
 /// How many pins have names before this one.
-fn rank_of(pins: &[Pin], name: &Name) -> usize
+pub(crate) fn rank_of(pins: &[Pin], name: &Name) -> usize
     ensures { result ≡ length (filter (λ p. comes_before p.port.name name.now) pins.now) }
 {
     pins.iter()

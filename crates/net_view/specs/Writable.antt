@@ -1,5 +1,5 @@
 -- When the names of a netlist can be written in a text of VHDL.
-use Rattle.std.specs.Prelude.{List, map}
+use Rattle.std.specs.Prelude.{ℕ, ◌^◌, ◌<◌, ◌≤◌, List, length, map, IfSome}
 use Rattle.std.specs.List.{All}
 use Rattle.vlsi_base.specs.declared.name.Port.{Port}
 pub use Rattle.port_words.specs.Words.{is_word, IsIdentifier, is_next_bit, GoesOn, CanBePorts}
@@ -22,6 +22,16 @@ pub record CanBeNamed (n : Netlist) : Type 0 where
 -- different directions; or a name isn't an identifier.
 abbrev pub IsBadMap : Netlist → Type 0
 IsBadMap n = CanBeNamed n → ⊥
+
+-- a name of at most 64 bytes
+abbrev pub IsShort : List ℕ → Type 0
+IsShort text = length text ≤ 64
+
+-- The names of a netlist are within the limits of texts: they have at most 64 bytes, and the numbers of bits 32 bits.
+pub record HasShortNames (n : Netlist) : Type 0 where
+  pub name : IsShort n.name
+  pub ports : All (λ p. IsShort p.name.text × IfSome p.name.bit (λ k. k < 2 ^ 32)) n.ports
+  pub instances : All (λ i. IsShort i.name × IsShort i.model) n.instances
 
 -- a pin as the port of its model
 abbrev pub port_of : ModelPin → Port

@@ -1,0 +1,5 @@
+pub mod Among
+pub mod Drivers
+pub mod Numbered
+pub mod Free
+pub mod Marks

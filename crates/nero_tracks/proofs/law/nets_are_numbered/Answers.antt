@@ -1,0 +1,5 @@
+use Rattle.nero_tracks.proofs.Numbered.{nets_are_numbered}
+use Rattle.nero_tracks.proofs.law.nets_are_numbered.Goals as goal
+
+pub returns : goal.returns
+returns c = nets_are_numbered

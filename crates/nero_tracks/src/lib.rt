@@ -1,0 +1,11 @@
+//! Private tracks: each net of a placement has one for itself.
+#![tactic(auto)]
+
+mod columns;
+mod error;
+mod law;
+mod route;
+
+pub use error::TrackError;
+pub use law::{columns_are_free, nets_are_counted, nets_are_numbered};
+pub use route::{Track, route_tracks};

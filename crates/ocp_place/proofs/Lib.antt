@@ -1,0 +1,13 @@
+pub mod Lists
+pub mod Shapes
+pub mod Nodes
+pub mod Clean
+pub mod Seen
+pub mod Boxes
+pub mod Points
+pub mod Lengths
+pub mod RowSteps
+pub mod Groups
+pub mod Models
+pub mod Rowed
+pub mod Reached

@@ -1,0 +1,31 @@
+-- Checked cells, and how long the nets of a placement are.
+use Rattle.std.specs.Prelude.{◌≡◌, true, [], ◌∷◌}
+use Rattle.machine_meaning.specs.Machine.{Machine}
+use Rattle.cell_model.specs.Cell.{Cell}
+use Rattle.cell_model.specs.Library.{Library, IsUsable}
+use Rattle.cell_model.specs.Usable.{IsFormed}
+use Rattle.cell_checks.specs.declared.verdict.CellVerdict.TheVariants as verdict
+use Rattle.cell_checks.specs.Verdict.{IsVerdict}
+use Rattle.net_drawing.specs.Clean.{IsClean}
+use Rattle.net_meaning.specs.Netlist.{Netlist}
+use Rattle.net_meaning.specs.Well.{IsWell}
+use Rattle.ocp_rows.specs.Placement.{Placement}
+use Rattle.ocp_rows.specs.Length.{half_perimeter}
+use Rattle.ocp_place.specs.Nets.{signal_ports}
+use Rattle.ocp_place.specs.Sites.{length_of}
+use Rattle.ocp_place.specs.Placed.{InRow, IsRowOf}
+use Rattle.ocp_place.specs.Orderly.{IsOrderly}
+
+-- the row of a netlist with its ports, as a placement of layouts
+abbrev pub row_of : Netlist → Placement
+row_of n = record { rows = n.instances ∷ []; ports = signal_ports n }
+
+-- The half perimeters of all classes but the supplies', as a placement in memory has them, are those of the netlist's nets.
+abbrev pub LengthsAreRight : Type 0
+LengthsAreRight =
+    (n : Netlist) (l : Library) (m : Machine) (p : InRow) → IsWell n l m → IsOrderly n l → IsRowOf n l p
+    → length_of p.high p.low p.ends ≡ half_perimeter n l (row_of n)
+
+-- A usable cell that has passed its checks, that of columns among them, may have tracks over it.
+abbrev pub CheckedCellsAreClean : Type 0
+CheckedCellsAreClean = (c : Cell) → IsFormed c → IsVerdict true c verdict.Passes → IsUsable c → IsClean c

@@ -1,0 +1,10 @@
+pub mod Drawable
+pub mod Nets
+pub mod Sites
+pub mod Reaches
+pub mod Rows
+pub mod Placed
+pub mod Ports
+pub mod Spans
+pub mod Orderly
+pub mod Law

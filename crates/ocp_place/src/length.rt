@@ -1,0 +1,84 @@
+// How long the nets of a placement are.
+ghost use Rattle.std.specs.Prelude.{◌≡◌, ◌≤◌, map, pos, IfSome};
+ghost use Rattle.std.specs.List.{All};
+ghost use Rattle.net_core.specs.Netlist.{Netlist as InMemory};
+ghost use Rattle.net_meaning.specs.Netlist.{Netlist};
+ghost use Rattle.net_view.specs.View.{IsSeenAs};
+ghost use Rattle.ocp_rows.specs.Length.{extent, half_box, half_perimeter};
+ghost use Rattle.ocp_place.specs.Law.{row_of};
+ghost use Rattle.ocp_place.specs.Placed.{IsPlacementOf};
+ghost use Rattle.ocp_place.specs.Reaches.{site_of};
+ghost use Rattle.ocp_place.specs.Sites.{length_of};
+ghost use Rattle.ocp_place.specs.Spans.{along_axis, span, shown_span};
+
+use crate::Placement;
+use crate::row::Site;
+use cell_checks::Library;
+
+/// The coordinate of a point along one of the axes.
+fn along_axis(site: &Site, upright: bool) -> u64
+    ensures { result ≡ along_axis upright site.now }
+{
+    if upright { site.y } else { site.x }
+}
+
+/// The least and the greatest coordinate of points along an axis; none where there are no points. Takes no memory.
+pub fn span(sites: &[Site], upright: bool) -> Option<(u64, u64)>
+    requires { All (λ s. (s.x ≤ 100000000000000) × (s.y ≤ 100000000000000)) sites.now }
+    ensures near { IfSome result (λ r. (r.0 ≤ 100000000000000) × (r.1 ≤ 100000000000000)) }
+    ensures span { shown_span result ≡ span (map (λ s. pos (along_axis upright s)) sites.now) }
+{
+    let mut range = None;
+    for site in sites {
+        let z = along_axis(site, upright);
+        range = match range {
+            None => Some((z, z)),
+            Some((low, high)) => Some((z.min(low), z.max(high))),
+        };
+    }
+    range
+}
+
+/// How far points reach along an axis.
+fn extent(sites: &[Site], upright: bool) -> u64
+    requires { All (λ s. (s.x ≤ 100000000000000) × (s.y ≤ 100000000000000)) sites.now }
+    ensures value { result ≡ extent (map (λ s. pos (along_axis upright s)) sites.now) }
+    ensures near { result ≤ 100000000000000 }
+{
+    match span(sites, upright) {
+        None => 0,
+        Some((low, high)) => high - low,
+    }
+}
+
+/// Half the perimeter of the box of points.
+fn half_box(sites: &[Site]) -> u64
+    requires { All (λ s. (s.x ≤ 100000000000000) × (s.y ≤ 100000000000000)) sites.now }
+    ensures value { result ≡ half_box (map (λ s. (site_of s).1) sites.now) }
+    ensures near { result ≤ 200000000000000 }
+{
+    extent(sites, false) + extent(sites, true)
+}
+
+/// The sum of half the perimeters of the boxes of all classes but those of vdd and vss.
+fn length(placement: &Placement) -> u128
+    ensures { result ≡ length_of placement.now.high placement.now.low placement.now.ends }
+{
+    let mut sum: u128 = 0;
+    for class in 0..placement.ends.len() {
+        if class != placement.high as usize && class != placement.low as usize {
+            sum += u128::from(half_box(&placement.ends[class]));
+        }
+    }
+    sum
+}
+
+/// The sum of half the perimeters of the boxes of all nets of the netlist that a placement is of. Takes no memory, and time for each
+/// terminal.
+pub fn half_perimeter(placement: &Placement, library: &Library) -> u128
+    ensures { (n : InMemory) (k : Netlist) → IsPlacementOf library.now n placement.now → IsSeenAs n k
+        → result ≡ half_perimeter k library.now (row_of k) }
+{
+    let _ = library;
+    length(placement)
+}

@@ -1,0 +1,13 @@
+//! Placements of a netlist's instances, and how long the nets are in them.
+#![tactic(auto)]
+
+mod law;
+mod length;
+mod place;
+mod reach;
+mod row;
+
+pub use law::checked_cells_are_clean;
+pub use length::{half_perimeter, span};
+pub use place::{Placement, track_place};
+pub use row::Site;

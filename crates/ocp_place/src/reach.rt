@@ -1,0 +1,109 @@
+// Where the pins of the models of a netlist are reached.
+ghost use Rattle.std.specs.Prelude.{◌≡◌, ◌≤ℤ◌, pos, Some, IfOk};
+ghost use Rattle.std.specs.Option.{option_copied};
+ghost use Rattle.machine_meaning.specs.Machine.{names_of};
+ghost use Rattle.cell_model.specs.Cell.{Cell, cell_width};
+ghost use Rattle.cell_model.specs.Library.{cell_named, cell_of, IsUsable};
+ghost use Rattle.cell_model.specs.Usable.{IsFormed};
+ghost use Rattle.cell_checks.specs.Checks.{StandsInRow};
+ghost use Rattle.net_core.specs.Places.{Stands, IsThere};
+ghost use Rattle.ocp_place.specs.Reaches.{IsReach, AreReaches};
+
+use cell_checks::{GridPoint, Library, access_points};
+use cell_model::{Cell, is_mappable};
+use cell_pins::all_ports;
+use std::alloc::{AllocError, Global};
+use vlsi_base::{Dir, Name, Port, Text};
+
+/// A pin of a cell: its place among all pins in the order of names, vdd and vss among them, whether it is an output, and the
+/// point at which it is reached.
+#[derive(Clone, Copy)]
+pub(crate) struct PinReach {
+    pub(crate) place: usize,
+    pub(crate) drives: bool,
+    pub(crate) point: Option<GridPoint>,
+}
+
+/// A cell: its width, and its pins without vdd and vss in the order of names.
+#[derive(Drop)]
+pub(crate) struct Reach {
+    pub(crate) width: u64,
+    pub(crate) pins: Vec<PinReach>,
+}
+
+/// The place of a name among those of ports; how many there are where it isn't there.
+fn place_of(ports: &[Port], name: &Name) -> usize
+    ensures { IsThere (names_of ports.now) name.now → Stands (names_of ports.now) result name.now }
+{
+    for place in 0..ports.len() {
+        if ports[place].name.is_same(name) {
+            return place;
+        }
+    }
+    ports.len()
+}
+
+/// Where the pins of a cell are reached. Takes memory for them, and for the shapes of the cell meanwhile.
+fn cell_reach(alloc: Global, cell: &Cell) -> Result<Reach, AllocError>
+    requires formed { IsFormed cell.now }
+    requires row { StandsInRow cell.now }
+    requires narrow { cell_width cell.now ≤ℤ pos 16000 }
+    ensures { IfOk result (λ r. IsReach cell.now r) }
+{
+    let points = access_points(alloc, cell)?;
+    let ports = all_ports(alloc, cell)?;
+    let signals = cell.pins.as_slice();
+    let mut pins = Vec::new(alloc);
+    for k in 0..signals.len() {
+        let port = &signals[k].port;
+        pins.push(PinReach {
+            place: place_of(&ports, &port.name),
+            drives: port.dir == Dir::Out,
+            point: points[k],
+        })?;
+    }
+    Ok(Reach {
+        width: cell.bounds.x2 as u64,
+        pins,
+    })
+}
+
+/// The first cell of a name.
+fn cell_of<'l>(cells: &'l [Cell], model: &Text) -> Option<&'l Cell>
+    ensures { option_copied result ≡ cell_named cells.now model.now }
+{
+    for cell in cells {
+        if cell.name.is_same(model) {
+            return Some(cell);
+        }
+    }
+    None
+}
+
+/// Where the pins of a model are reached whose cell is usable; no pins for any other.
+fn model_reach(alloc: Global, library: &Library, model: &Text) -> Result<Reach, AllocError>
+    ensures { IfOk result (λ r. (c : Cell) → cell_of library.now model.now ≡ Some c → IsUsable c → IsReach c r) }
+{
+    match cell_of(library.cells(), model) {
+        Some(cell) if is_mappable(cell) => cell_reach(alloc, cell),
+        _ => Ok(Reach {
+            width: 0,
+            pins: Vec::new(alloc),
+        }),
+    }
+}
+
+/// Where the pins of models are reached, in their order. Takes memory for the pins of each.
+pub(crate) fn reaches(
+    alloc: Global,
+    library: &Library,
+    models: &[Text],
+) -> Result<Vec<Reach>, AllocError>
+    ensures { IfOk result (λ v. AreReaches library.now models.now v.items) }
+{
+    let mut reaches = Vec::new(alloc);
+    for model in models {
+        reaches.push(model_reach(alloc, library, model)?)?;
+    }
+    Ok(reaches)
+}

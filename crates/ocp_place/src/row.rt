@@ -1,0 +1,140 @@
+// The instances of a netlist in one row, and where their pins then lie.
+ghost use Rattle.std.specs.Prelude.{◌≡◌, ◌++◌, ◌∷◌, ◌+◌, ◌<◌, ◌≤◌, true, [], map, option_map, pos, length, take, drop, IfOk, OnOk};
+ghost use Rattle.std.specs.List.{All};
+ghost use Rattle.net_meaning.specs.Netlist.{Netlist as Seen};
+ghost use Rattle.net_view.specs.View.{IsSeenAs};
+ghost use Rattle.cell_checks.specs.Points.{point_of};
+ghost use Rattle.ocp_place.specs.Sites.{site_at};
+ghost use Rattle.ocp_place.specs.Reaches.{site_of, reached_sites, reached_drivers};
+ghost use Rattle.cell_checks.specs.Checked.{IsChecked as HasPassed};
+ghost use Rattle.ocp_place.specs.Drawable.{IsDrawableIn};
+ghost use Rattle.ocp_place.specs.Rows.{IsRow, AreEnds, HasShortPins, option_sites};
+
+use crate::reach::{PinReach, Reach, reaches};
+use cell_checks::Library;
+use net_core::Netlist;
+use std::alloc::{AllocError, Global};
+use sym_geom::FIRST_CELL_X;
+
+/// A point of a terminal, and the terminal's class.
+#[derive(Clone, Copy)]
+pub struct Site {
+    pub class: u32,
+    pub x: u64,
+    pub y: u64,
+}
+
+/// A row so far: where its instances begin, the points of their signal pins, the classes of their output pins, and its width.
+#[derive(Drop)]
+pub(crate) struct Row {
+    pub(crate) starts: Vec<u64>,
+    pub(crate) sites: Vec<Site>,
+    pub(crate) drivers: Vec<u32>,
+    pub(crate) width: u64,
+}
+
+/// The point of a pin of an instance that stands at `x`; none where the pin isn't reached.
+fn pin_site(pin: &PinReach, class: u32, x: u64) -> Option<Site>
+    requires { HasShortPins x (pin.now ∷ []) }
+    ensures { option_sites result ≡ site_at class (pos x) (option_map point_of pin.now.point) }
+{
+    match pin.point {
+        None => None,
+        Some(point) => Some(Site {
+            class,
+            x: x + point.x,
+            y: point.y,
+        }),
+    }
+}
+
+impl Row {
+    /// Puts the pins of an instance behind the others, where it stands at `x` and all its pins have these classes.
+    fn put(&mut self, pins: &[PinReach], classes: &[u32], x: u64) -> Result<(), AllocError>
+        requires inside { All (λ r. r.place < length classes.now) pins.now }
+        requires short { HasShortPins x pins.now }
+        ensures sites { OnOk result (map site_of self.new.sites.items
+            ≡ map site_of self.old.sites.items ++ reached_sites (pos x) classes.now pins.now) }
+        ensures drivers { OnOk result (self.new.drivers.items ≡ self.old.drivers.items ++ reached_drivers classes.now pins.now) }
+        ensures width { OnOk result (self.new.width ≡ self.old.width) }
+        ensures starts { OnOk result (self.new.starts.items ≡ self.old.starts.items) }
+    {
+        for pin in pins {
+            let class = classes[pin.place];
+            if pin.drives {
+                self.drivers.push(class)?;
+            }
+            if let Some(site) = pin_site(pin, class, x) {
+                self.sites.push(site)?;
+            }
+        }
+        Ok(())
+    }
+}
+
+/// So many of the classes, from the first on.
+fn classes_from<'c>(classes: &'c [u32], first: u32, many: usize) -> &'c [u32]
+    requires { first + many ≤ length classes.now }
+    ensures { result.now ≡ take many (drop first classes.now) }
+{
+    let start = first as usize;
+    &classes[start..start + many]
+}
+
+/// The row of a netlist's instances in their order. Takes memory for their signal pins, and for those of each model.
+pub(crate) fn netlist_row(
+    alloc: Global,
+    netlist: &Netlist,
+    library: &Library,
+) -> Result<Row, AllocError>
+    requires library { HasPassed true library.now }
+    requires netlist { IsDrawableIn library.now netlist.now }
+    ensures { IfOk result (λ row. (k : Seen) → IsSeenAs netlist.now k → IsRow k library.now row) }
+{
+    let reaches = reaches(alloc, library, netlist.models())?;
+    let classes = netlist.classes();
+    let mut row = Row {
+        starts: Vec::new(alloc),
+        sites: Vec::new(alloc),
+        drivers: Vec::new(alloc),
+        width: 0,
+    };
+    for node in netlist.nodes() {
+        let reach: &Reach = &reaches[node.model];
+        let own = classes_from(classes, node.first, node.pins.as_slice().len());
+        let x = u64::from(FIRST_CELL_X) + row.width;
+        row.starts.push(x)?;
+        row.put(&reach.pins, own, x)?;
+        row.width += reach.width;
+    }
+    Ok(row)
+}
+
+/// Points by their classes, of which there are so many. Takes memory for each class and each point.
+pub(crate) fn grouped(
+    alloc: Global,
+    count: u32,
+    sites: &[Site],
+) -> Result<Vec<Vec<Site>>, AllocError>
+    requires { All (λ s. s.class < count) sites.now }
+    ensures many { IfOk result (λ groups. length groups.items ≡ count) }
+    ensures ends { IfOk result (λ groups. AreEnds sites.now groups.items) }
+{
+    let mut groups = no_groups(alloc, count)?;
+    for site in sites {
+        groups[site.class as usize].push(*site)?;
+    }
+    Ok(groups)
+}
+
+/// No points for each of so many classes.
+fn no_groups(alloc: Global, count: u32) -> Result<Vec<Vec<Site>>, AllocError>
+    ensures many { IfOk result (λ groups. length groups.items ≡ count) }
+    ensures empty { IfOk result (λ groups. AreEnds [] groups.items) }
+{
+    let mut groups = Vec::new(alloc);
+    for _ in 0..count {
+        groups.push(Vec::new(alloc))?;
+    }
+    Ok(groups)
+}

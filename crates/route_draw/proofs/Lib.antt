@@ -1,0 +1,5 @@
+pub mod Right
+pub mod Sited
+pub mod Ends
+pub mod Joins
+pub mod Drawing

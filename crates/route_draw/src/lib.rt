@@ -1,0 +1,11 @@
+//! Figures of placed netlists, drawn with private tracks.
+#![tactic(auto)]
+
+mod draw;
+mod law;
+mod lines;
+mod nets;
+mod row;
+
+pub use draw::draw_tracks;
+pub use law::{drawing_can_be_written, right_drawings_are_right};
