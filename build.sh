@@ -1,5 +1,5 @@
 #!/usr/bin/env bash
-# Proves the crates of the program, builds it, leaves it at build/alliance, and lays out examples/inverter.
+# Proves the crates of the program, builds it, leaves it at build/alliance, and lays out examples/counter.
 # It needs the kit alone: rt is taken from the path, or from $KIT/bin, or from /opt/rattle/bin.
 set -eu
 cd "$(dirname "$0")"
@@ -28,6 +28,6 @@ if [ ! -x crates/alliance/out/alliance ]; then
 fi
 cp crates/alliance/out/alliance build/alliance
 
-echo "build/alliance flow examples/inverter/row1.vbe -l examples/inverter/lib -o build/row1 --tracks"
-build/alliance flow examples/inverter/row1.vbe -l examples/inverter/lib -o build/row1 --tracks
-echo "build/row1.ap: $(wc -l <build/row1.ap) lines"
+echo "build/alliance flow examples/counter/cnt4.vbe -l cells -o build/cnt4 --tracks"
+build/alliance flow examples/counter/cnt4.vbe -l cells -o build/cnt4 --tracks
+echo "build/cnt4.ap: $(wc -l <build/cnt4.ap) lines"

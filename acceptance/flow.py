@@ -1,32 +1,267 @@
-"""What no case of `flow` has: paths from the root, words that are no text, and a very long source."""
+"""What the second readers say of `flow`, and what no case of it has: random machines over random libraries, large and small sources,
+and the layouts that it writes, read again: extracted, compared with a second drawing, and run beside their sources.
+"""
 
 import pathlib
+import random
 
+import ap
+import catal
+import cellcheck
+import cells
+import layout
+import models
+from answers import agrees as same_answer
+from answers import refusal
+from boog import differs_from, netlist_faults, of_cells
 from case_file import ROWS, Case
-from results import Room, compare, run_in
-from words import TOOLS_LINE
+from mapping import MOST_SIZE, Graph, machine_size
+from models import IN, Refusal, first_missing
+from pat_oracle import machine_of
+from random_sources import WORDS as SOURCE_WORDS
+from random_sources import Maker, changed
+from results import Room, compare, run_in, shown
+from vbe_oracle import FILE, Ring
+from vhdl_reader import Refused, spelled
+from vst import Instance, Netlist
+from words import TOOLS_LINE, command, held, of_folder, trouble
 
+HERE = pathlib.Path(__file__).resolve().parent
+EXAMPLES = HERE.parent / "examples"
 ROW = ROWS / "flow-layouts/one-inverter.txt"
-EXAMPLE = pathlib.Path(__file__).resolve().parent.parent / "examples/inverter"
-WORDS = ["flow", "row1.vbe", "-l", "lib", "-o", "out", "--tracks"]
+USAGE = "usage: alliance flow SOURCE -l DIR -o NAME --tracks\n"
+FIVE = ["inv_x1", "na2_x1", "zero_x0", "one_x0", "sff1_x4"]
+MORE = ["inv_x8", "na3_x1", "sff1_x8", "xr2_x1", "mx2_x2", "buf_x2"]
+WORDS = ["flow", "s.vbe", "-l", "lib", "-o", "r", "--tracks"]
+MACHINES, CHUNK = 200, 25
 
 
-def check(results, program):
+# ---- the second answer
+
+
+def parsed(words):
+    """SOURCE, DIR and NAME, or None. A value doesn't begin with a hyphen, so `--tracks` is none."""
+    at = [k for k, word in enumerate(words) if word == "--tracks"]
+    if len(at) != 1 or words[at[0] - 1] in ("-l", "-o"):
+        return None
+    found = command([word for word in words if word != "--tracks"], (".vbe", ".fsm"), {"-l": "", "-o": ""})
+    return (found[0], found[1]["-l"], found[1]["-o"]) if found and len(found[1]) == 2 else None
+
+
+def names_read(files, folder):
+    """The cells that CATAL uses, once all their files are there; or Refusal."""
+    of_dir = of_folder(files, folder)
+    try:
+        names = catal.cells(cellcheck.had(of_dir, "CATAL"))
+        for name in names:
+            cellcheck.had(of_dir, f"{name}.vbe")
+            cellcheck.had(of_dir, f"{name}.ap")
+    except ap.Refused as refused:
+        raise models.refusal(folder, str(refused)) from None
+
+
+def checked(files, folder):
+    try:
+        return cellcheck.cells(of_folder(files, folder), True)
+    except ap.Refused as refused:
+        raise models.refusal(folder, str(refused)) from None
+
+
+def of_files(source, folder, files):
+    """The status and the text without its word; (0, the lines of the report but that of the length) where it is laid out."""
+    names_read(files, folder)
+    m = machine_of(held(files, source))
+    size = machine_size(m)
+    if size > MOST_SIZE:
+        return 9, f"flow: limit: size {size}\n"
+    checked(files, folder)
+    kind = first_missing(models.library(files, folder), bool(m.registers))
+    return (4, f"flow: no cover: {kind}\n") if kind else (0, lines_of(m))
+
+
+def lines_of(m):
+    graph = Graph(m)
+    registers = [f"register q{k} {spelled(bit)}" for k, bit in enumerate(sorted(m.registers))]
+    # a net for each port bit, and one for each node that no port shows
+    shown_nodes = {number for number in graph.outputs.values()}
+    own = len(m.registers) + len(graph.live()) - sum(graph.nodes[n][0] != "input" for n in shown_nodes)
+    return [f"source {m.name}", *registers, f"size {machine_size(m)}", f"cells {graph.cells()}", f"nets {len(m.ports) + own}", "breaches 0", "accepted"]
+
+
+def second(words, files):
+    """What the second readers say of a command over files: (status, text), or (2, Ring) where any of some rings may be named. Of a layout it
+    is (0, the lines of its report but that of the length)."""
+    found = parsed(words)
+    if found is None:
+        return 1, USAGE
+    source, folder, _ = found
+    if source.endswith(".fsm"):
+        return 10, "flow: beyond\n"
+    refused = trouble(files, source, FILE)
+    if refused:
+        return refused[0], f"flow: {refused[1]}\n"
+    try:
+        return of_files(source, folder, files)
+    except Refusal as refused:
+        return refused.status, f"flow: {refused.line}\n"
+    except Ring as ring:
+        return 2, ring
+    except Refused as refused:
+        return refusal("flow", source, str(refused))
+
+
+def agrees(got, wanted):
+    if wanted[0] != 0:
+        return same_answer(got, wanted)
+    lines = bytes(got[1]).decode(errors="replace").split("\n")
+    return got[0] == 0 and [line for line in lines if line and not line.startswith("length ")] == wanted[1]
+
+
+# ---- the layout that is written
+
+
+def netlist_of(m, of_name, name, flat):
+    """The netlist that a layout gives: the net of a class is its port, or else a number."""
+    instances, groups = layout.extracted(flat)
+    nets = {}
+    for (owner, bit), group in sorted(groups.items(), key=lambda item: (item[0][0] is not None, str(item[0]))):
+        if owner is None:
+            if group in nets:
+                raise ValueError(f"the ports {nets[group]} and {bit} are joined")
+            nets[group] = bit
+    known = {}
+    for owner, bit in groups:
+        if owner is not None:
+            known.setdefault(owner, {})[bit] = nets.setdefault(groups[owner, bit], ("", len(nets)))
+    ports = {bit: m.ports.get(bit, IN) for owner, bit in groups if owner is None}
+    return Netlist(name, ports, [Instance(own, of_name[model], known.get(own, {})) for own, model in instances])
+
+
+def written_faults(words, files, text):
+    """What is wrong with the layout that a command wrote, or nothing."""
+    source, folder, _ = parsed(words)
+    m, of_name, found = machine_of(held(files, source)), models.library(files, folder), checked(files, folder)
+    try:
+        figure = ap.read(text)
+        flat = layout.Flat(figure, found)
+        n = netlist_of(m, of_name, figure.name[0], flat)
+    except (ap.Refused, Refused, ValueError) as refused:
+        return [f"it is refused: {refused}"]
+    faults = list(netlist_faults(m, of_name, n))
+    breaches = flat.breaches()
+    if breaches:
+        faults.append(f"{breaches} rules are broken")
+    wanted = layout.drawn(n, found).encode()
+    if wanted != text:
+        lines = list(zip(text.split(b"\n"), wanted.split(b"\n")))
+        at = next((k for k, pair in enumerate(lines) if pair[0] != pair[1]), len(lines))
+        faults.append(f"line {at + 1} is {lines[at : at + 1]}")
+    if not faults and differs_from(m, n, random.Random(len(text))):
+        faults.append("it behaves otherwise")
+    return faults
+
+
+def writes(words, files):
+    """The file that a command writes, with the check of its text."""
+    return f"{parsed(words)[2]}.ap", lambda text: written_faults(words, files, text)
+
+
+# ---- what is run
+
+
+def run_laid_out(results, room, program, title, files):
+    """Runs flow; where it succeeds its layout is read again, and the length that it printed is that of the layout."""
+    wanted = second(WORDS, files)
+    room.write(files)
+    got = room.run(program, WORDS)
+    results.note(title, agrees(got, wanted), f"came to {shown(*got)}, wanted {wanted} for {files['s.vbe'][:2000]!r}")
+    if got[0] or wanted[0]:
+        results.note(f"{title}: files behind a refusal", room.held() == files, "a file changed")
+        return
+    text = room.held().get("r.ap") or b""
+    faults = written_faults(WORDS, files, text)
+    results.note(f"{title}: the layout", not faults, f"{faults} in {text[:3000]!r} for {files['s.vbe'][:2000]!r}")
+    if not faults:
+        m, found, figure = machine_of(files["s.vbe"]), checked(files, "lib"), ap.read(text)
+        n = netlist_of(m, models.library(files, "lib"), figure.name[0], layout.Flat(figure, found))
+        report = layout.report(m, n, found)
+        results.note(f"{title}: the report", bytes(got[1]) == report.encode(), f"{shown(*got)} is not {report!r}")
+
+
+def random_files(choose):
+    """A library that mostly has a cell of each kind, in any order, and sometimes a file that is spoilt."""
+    names = [name for name in FIVE if choose.random() < 0.97]
+    names += choose.sample(MORE, choose.randrange(3))
+    choose.shuffle(names)
+    files = of_cells(names)
+    if choose.random() < 0.05:
+        cells.spoil(choose, files)
+    return files
+
+
+def check_machines(results, program, seed, numbers):
+    for number in numbers:
+        choose = random.Random(f"{seed} flow {number}")
+        source = Maker(choose).source()
+        source = changed(choose, source, SOURCE_WORDS) if choose.random() < 0.2 else source
+        with Room() as room:
+            run_laid_out(results, room, program, "a random source and library", {**random_files(choose), "s.vbe": source.encode()})
+
+
+def chain(signals):
+    """Each signal is the inverse of the one before it, and an output."""
+    names = ["i", *(f"s{k}" for k in range(signals))]
+    declared = "".join(f"signal {name} : bit;\n" for name in names[1:])
+    body = "".join(f"{name} <= not {before};\n" for before, name in zip(names, names[1:]))
+    head = "entity chain is port (i : in bit; o : out bit; vdd : in bit; vss : in bit); end chain;\narchitecture vbe of chain is\n"
+    return f"{head}{declared}begin\n{body}o <= {names[-1]};\nend vbe;\n".encode()
+
+
+def check_chain(results, program, signals):
+    """At the limit of size, and one past it."""
+    with Room() as room:
+        run_laid_out(results, room, program, f"a chain of {signals}", {**of_cells(FIVE), "s.vbe": chain(signals)})
+
+
+def check_ports(results, program, bits):
+    """At the limit of port bits, and one past it."""
+    head = f"entity wide is port (i : in bit_vector ({bits - 2} downto 0); o : out bit; vdd : in bit; vss : in bit); end wide;\n"
+    source = f"{head}architecture vbe of wide is begin\no <= not i(0);\nend vbe;\n".encode()
+    with Room() as room:
+        run_laid_out(results, room, program, f"{bits} port bits", {**of_cells(FIVE), "s.vbe": source})
+
+
+def check_examples(results, program):
+    for path in sorted(EXAMPLES.glob("*/*.vbe")):
+        for names in (FIVE, [line.split()[0] for line in (HERE.parent / "cells/CATAL").read_text().splitlines()]):
+            with Room() as room:
+                run_laid_out(results, room, program, f"the example {path.name}", {**of_cells(names), "s.vbe": path.read_bytes()})
+
+
+def check_words(results, program):
     case = Case(ROW)
+    words = case.words[0]
     with Room() as room:
         room.write(case.before)
         status, printed = room.run(program, ["flow", "row1.vbe", "-l", f"{room.folder}/lib", "-o", f"{room.folder}/out", "--tracks"])
         compare(results, "flow with paths from the root", (status, printed, room.held()), 0, case.printed, {**case.before, **case.after})
     rows = [
-        ("a word of flow that is no text", case.before, ["flow", b"\xff.vbe", *WORDS[2:]], 1, TOOLS_LINE.encode()),
-        ("a source of 3000000 bytes", {**case.before, "row1.vbe": bytes(3000000)}, WORDS, 10, b"flow: beyond\n"),
-        ("an output in a folder that isn't there", case.before, [*WORDS[:5], "nowhere/out", WORDS[6]], 7, b"flow: file: write fault nowhere/out.ap\n"),
+        ("a word of flow that is no text", case.before, ["flow", b"\xff.vbe", *words[2:]], 1, TOOLS_LINE.encode()),
+        ("a source of 3000000 bytes", {**case.before, "row1.vbe": bytes(3000000)}, words, 9, b"flow: limit: file 1048577\n"),
+        ("an output in a folder that isn't there", case.before, ["flow", "row1.vbe", "-l", "lib", "-o", "nowhere/out", "--tracks"], 7,
+         b"flow: file: write fault nowhere/out.ap\n"),
     ]
-    for title, files, words, status, line in rows:
-        compare(results, title, run_in(files, program, words), status, line, files)
-    example = {str(path.relative_to(EXAMPLE)): path.read_bytes() for path in EXAMPLE.rglob("*") if path.is_file()}
-    compare(results, "the example of flow", run_in(example, program, WORDS), 0, case.printed, {**example, **case.after})
+    for title, files, given, status, line in rows:
+        compare(results, title, run_in(files, program, given), status, line, files)
 
 
 def jobs(program, seed, times):
-    yield check, (program,)
+    yield check_chain, (program, 16382)
+    yield check_chain, (program, 16383)
+    yield check_ports, (program, 4096)
+    yield check_ports, (program, 4097)
+    numbers = range(MACHINES * times)
+    for at in range(0, len(numbers), CHUNK):
+        yield check_machines, (program, seed, numbers[at : at + CHUNK])
+    yield check_examples, (program,)
+    yield check_words, (program,)

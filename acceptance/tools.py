@@ -31,5 +31,5 @@ def asimut_jobs(program, seed, times):
 TOOLS = {
     "asimut": Tool(asimut.second, answers.agrees, asimut_jobs),
     "boog": Tool(boog.second, answers.agrees, boog.jobs, boog.writes),
-    "flow": Tool(lambda words, files: None, lambda got, wanted: False, flow.jobs),
+    "flow": Tool(flow.second, flow.agrees, flow.jobs, flow.writes),
 }

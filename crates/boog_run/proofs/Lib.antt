@@ -2,3 +2,5 @@ pub mod Mapping
 pub mod Naming
 pub mod Refusing
 pub mod Sizes
+pub mod Short
+pub mod Bounds

@@ -45,19 +45,19 @@ last_is : (k n : ℕ) → In k (n ∷ []) → k < suc n
 last_is k n here = omega arith
 last_is k n (there i) = elim i [ ]
 
-counted : (k n : ℕ) → In k (count_to n) → k < n
+pub counted : (k n : ℕ) → In k (count_to n) → k < n
 counted k zero i = elim i [ ]
 counted k (suc n) i = elim (In-split k (count_to n) (n ∷ []) i) [ inl low ↦ let less = counted k n low in omega (arith, less) | inr last ↦ last_is k n last ]
 
-length-count_to : (n : ℕ) → length (count_to n) ≡ n
+pub length-count_to : (n : ℕ) → length (count_to n) ≡ n
 length-count_to zero = refl
 length-count_to (suc n) = let a = length-append (count_to n) (n ∷ []) in let b = length-count_to n in omega (arith, a, b)
 
 -- the names of so many registers, gates and buffers
-abbrev names_by : ℕ → ℕ → ℕ → List (List ℕ)
+abbrev pub names_by : ℕ → ℕ → ℕ → List (List ℕ)
 names_by r g b = map register_instance (count_to r) ++ (map gate_instance (count_to g) ++ map buffer_instance (count_to b))
 
-many : (r g b : ℕ) → length (names_by r g b) ≡ r + (g + b)
+pub many : (r g b : ℕ) → length (names_by r g b) ≡ r + (g + b)
 many r g b =
     let x = length-append (map register_instance (count_to r)) (map gate_instance (count_to g) ++ map buffer_instance (count_to b)) in
     let y = length-append (map gate_instance (count_to g)) (map buffer_instance (count_to b)) in
@@ -70,7 +70,7 @@ many r g b =
     omega (arith, x, y, i, j, k, p, q, s)
 
 -- one of so many names that are identifiers
-named_by : (count : ℕ) (make : ℕ → List ℕ) (name : List ℕ) → ((k : ℕ) → k < count → IsIdentifier (make k)) → In name (map make (count_to count)) → IsIdentifier name
+pub named_by : (count : ℕ) (make : ℕ → List ℕ) (name : List ℕ) → ((k : ℕ) → k < count → IsIdentifier (make k)) → In name (map make (count_to count)) → IsIdentifier name
 named_by count make name each i =
     let x = In-map_back make name (count_to count) i in subst (λ (t : List ℕ). IsIdentifier t) x.2 (each x.0 (counted x.0 count x.1))
 
@@ -99,12 +99,12 @@ named_so r g b name few i =
 
 -- ---- cells of a library that was read
 
-said_in : (tracks : Bool) (all : List Source) (cells : List Cell) → AreCells (IsCell tracks) all cells → (c : Cell) → In c cells → (s : Source) × In s all × IsCell tracks s c
+pub said_in : (tracks : Bool) (all : List Source) (cells : List Cell) → AreCells (IsCell tracks) all cells → (c : Cell) → In c cells → (s : Source) × In s all × IsCell tracks s c
 said_in tracks _ _ none c i = elim i [ ]
 said_in tracks _ _ (next {source = s} {rest = all} {cell = d} {cells = cells} made rest) c here = (s, here, made)
 said_in tracks _ _ (next {source = s} {rest = all} {cell = d} {cells = cells} made rest) c (there i) = let x = said_in tracks all cells rest c i in (x.0, there x.1, x.2)
 
-name_in : (names files : List (List ℕ)) (s : Source) → In s (sources names files) → In s.name names
+pub name_in : (names files : List (List ℕ)) (s : Source) → In s (sources names files) → In s.name names
 name_in [] files s i = elim i [ ]
 name_in (n ∷ names) files s here = here
 name_in (n ∷ names) files s (there i) = there (name_in names (drop 2 files) s i)
@@ -136,7 +136,7 @@ model_written all _ _ (listed {c = c} {m = n} {cells = cells} {models = table} a
 
 -- ---- a netlist
 
-same_names : (xs : List Instance) → map (λ (i : Instance). i.name) xs ≡ map (λ (i : Member). i.name) (map member_of xs)
+pub same_names : (xs : List Instance) → map (λ (i : Instance). i.name) xs ≡ map (λ (i : Member). i.name) (map member_of xs)
 same_names [] = refl
 same_names (x ∷ xs) = ap (λ (r : List (List ℕ)). x.name ∷ r) (same_names xs)
 

@@ -1,18 +1,26 @@
 -- What follows of a netlist that `boog` writes.
-use Rattle.std.specs.Prelude.{◌≡◌, ℕ, List, None, IfSome}
+use Rattle.std.specs.Prelude.{◌≡◌, ℕ, ◌+◌, ◌*◌, ◌≤◌, false, List, length, None, IfSome}
 use Rattle.vhdl_lexer.specs.Listing.{tokens_in, refusal_in}
+use Rattle.machine_meaning.specs.Machine.{Machine}
+use Rattle.machine_meaning.specs.Size.{machine_size}
+use Rattle.source_meaning.specs.Checks.{most_ports}
+use Rattle.vbe_io.specs.Text.{IsVbe}
+use Rattle.cell_model.specs.Library.{Library}
+use Rattle.cell_lib.specs.Library.{IsLibraryOf}
 use Rattle.net_core.specs.declared.pins.ModelPins.{ModelPins}
 use Rattle.net_core.specs.Netlist.{Netlist}
 use Rattle.net_meaning.specs.Netlist.{Netlist as Seen}
 use Rattle.net_meaning.specs.Well.{IsWell}
 use Rattle.net_meaning.specs.Agreement.{Agrees}
 use Rattle.net_view.specs.View.{IsSeenAs}
+use Rattle.net_view.specs.Writable.{HasShortNames}
 use Rattle.vst_text.specs.declared.file.StructuralFile.{StructuralFile}
 use Rattle.vst_text.specs.Vst.{IsStructure}
 use Rattle.vst_again.specs.Says.{Says, IsWithinLimits}
 use Rattle.tool_words.specs.declared.command.BoogCommand.{BoogCommand}
 use Rattle.tool_drive.specs.declared.tool.Product.{Product}
-use Rattle.boog_run.specs.Boog.{IsMapping}
+use Rattle.boog_run.specs.Boog.{IsMapping, IsNetlistFor, IsWritable}
+use Rattle.boog_run.specs.declared.netlist.TheConstants.{MOST_SIZE}
 
 -- As every netlist of a layout that it can be seen as, it is well formed for the source's machine and behaves as this does: from all
 -- contents of its registers and for all vectors it runs in exactly one way, and from contents that match those of the machine's
@@ -34,3 +42,23 @@ abbrev pub MappingIsSaid : Type 0
 MappingIsSaid =
     (c : BoogCommand) (source catal : List ℕ) (cells : List (List ℕ)) (p : Product) (h : IsMapping c source catal cells p)
     → IsWithinLimits h.n h.written.table → IfSome p.file (λ bytes. IsTextOf h.n h.written.table bytes)
+
+-- ---- netlists of what is read, for the stages behind
+
+-- Nothing of its names stands against writing it.
+abbrev pub NetlistIsWritable : Type 0
+NetlistIsWritable =
+    (source catal : List ℕ) (cells : List (List ℕ)) (l : Library) (m : Machine) (n : Netlist)
+    → IsLibraryOf false catal cells l → IsVbe source m → machine_size m ≤ MOST_SIZE → IsNetlistFor l m n → IsWritable l n
+
+-- Its names have at most 64 bytes, and the numbers of its ports' bits 32 bits.
+abbrev pub NetlistIsShort : Type 0
+NetlistIsShort =
+    (source catal : List ℕ) (cells : List (List ℕ)) (l : Library) (m : Machine) (n : Netlist)
+    → IsLibraryOf false catal cells l → IsVbe source m → machine_size m ≤ MOST_SIZE → IsNetlistFor l m n → HasShortNames n
+
+-- It has at most twice as many instances as a source may weigh, and as ports those of the source and the supplies.
+abbrev pub NetlistIsSmall : Type 0
+NetlistIsSmall =
+    (source : List ℕ) (l : Library) (m : Machine) (n : Netlist) → IsVbe source m → machine_size m ≤ MOST_SIZE → IsNetlistFor l m n
+    → (length n.instances ≤ 2 * MOST_SIZE) × (length n.ports ≤ most_ports + 2)

@@ -9,5 +9,5 @@ mod laws;
 mod netlist;
 
 pub use boog::Boog;
-pub use laws::boog_law;
-pub use netlist::MOST_SIZE;
+pub use laws::{boog_law, netlist_law};
+pub use netlist::{MOST_SIZE, check_size, netlist_of};

@@ -20,8 +20,8 @@ use vst_write::{WriteError, write_vst};
 /// The most that a source may weigh: the size of its machine.
 pub const MOST_SIZE: u64 = 16_384;
 
-// Whether the machine is small enough, or how it is told that it isn't.
-fn check_size(machine: &Machine) -> Result<(), Status>
+/// Whether the machine weighs at most `MOST_SIZE`, or the status that tells that it doesn't. Takes no memory.
+pub fn check_size(machine: &Machine) -> Result<(), Status>
     ensures small { OnOk result (size_of machine.now ≤ MOST_SIZE) }
     ensures large { IfErr result (λ s. (MOST_SIZE < size_of machine.now) × (s ≡ size_limit machine.now)) }
 {
@@ -35,12 +35,9 @@ fn check_size(machine: &Machine) -> Result<(), Status>
     Ok(())
 }
 
-/// A netlist of the library's cells for the machine, or the status that tells why there is none.
-pub(crate) fn netlist_of(
-    alloc: Global,
-    machine: &Machine,
-    library: &Library,
-) -> Result<Netlist, Status>
+/// A netlist of the library's cells for the machine, or the status that tells why there is none: `Limit` of `Size`, `NoCover`, or out
+/// of memory.
+pub fn netlist_of(alloc: Global, machine: &Machine, library: &Library) -> Result<Netlist, Status>
     requires { length machine.now.ports ≤ most_ports }
     ensures right { IfOk result (λ n. IsNetlistFor library.now machine.now n) }
     ensures small { OnOk result (size_of machine.now ≤ MOST_SIZE) }

@@ -54,24 +54,24 @@ is_cell tracks s c (Err e) said is passes = tt
 
 -- ---- libraries
 
-all_cells : (P : Cell → Type 0) (tracks : Bool) (ss : List Source) (cells : List Cell) → ((s : Source) (c : Cell) → IsCell tracks s c → P c)
+pub all_cells : (P : Cell → Type 0) (tracks : Bool) (ss : List Source) (cells : List Cell) → ((s : Source) (c : Cell) → IsCell tracks s c → P c)
     → AreCells (IsCell tracks) ss cells → All P cells
 all_cells P tracks _ _ each none = All-nil P
 all_cells P tracks _ _ each (next {source = s} {rest = ss} {cell = c} {cells = cs} h rest) = All-cons P c cs (each s c h) (all_cells P tracks ss cs each rest)
 
-cell_names : (tracks : Bool) (ss : List Source) (cells : List Cell) → AreCells (IsCell tracks) ss cells → map (λ (c : Cell). c.name) cells ≡ map (λ (s : Source). s.name) ss
+pub cell_names : (tracks : Bool) (ss : List Source) (cells : List Cell) → AreCells (IsCell tracks) ss cells → map (λ (c : Cell). c.name) cells ≡ map (λ (s : Source). s.name) ss
 cell_names tracks _ _ none = refl
 cell_names tracks _ _ (next {source = s} {rest = ss} {cell = c} {cells = cs} h rest) =
     ap (λ (n : List ℕ). n ∷ map (λ (x : Cell). x.name) cs) h.said.name ∙ ap (λ (l : List (List ℕ)). s.name ∷ l) (cell_names tracks ss cs rest)
 
-source_names : (names files : List (List ℕ)) → map (λ (s : Source). s.name) (sources names files) ≡ names
+pub source_names : (names files : List (List ℕ)) → map (λ (s : Source). s.name) (sources names files) ≡ names
 source_names [] files = refl
 source_names (n ∷ names) files = ap (λ (l : List (List ℕ)). n ∷ l) (source_names names (drop 2 files))
 
 abbrev AreNamedApart : Cell → Cell → Type 0
 AreNamedApart a b = a.name ≢ b.name
 
-apart : (cells : List Cell) → AllDifferent (map (λ (c : Cell). c.name) cells) → AllPairs AreNamedApart cells
+pub apart : (cells : List Cell) → AllDifferent (map (λ (c : Cell). c.name) cells) → AllPairs AreNamedApart cells
 apart [] h = λ i j d lt within. absurd (omega arith)
 apart (c ∷ cs) h =
     AllPairs-cons AreNamedApart c cs
@@ -79,7 +79,7 @@ apart (c ∷ cs) h =
     (apart cs h.1)
 
 -- what passes with tracks passes without them
-without : (tracks : Bool) (c : Cell) (k : Check) → PassesCheck tracks c k → PassesCheck false c k
+pub without : (tracks : Bool) (c : Cell) (k : Check) → PassesCheck tracks c k → PassesCheck false c k
 without tracks c check.Connectors h = h
 without tracks c check.Box h = h
 without tracks c check.Rails h = h

@@ -4,3 +4,4 @@ mod Loading
 mod Making
 mod Telling
 pub mod Plain
+pub mod Lawful

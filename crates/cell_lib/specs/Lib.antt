@@ -3,3 +3,4 @@ pub mod Load
 pub mod Cells
 pub mod Causes
 pub mod Library
+pub mod Laws

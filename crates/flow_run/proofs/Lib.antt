@@ -1,8 +1,6 @@
-pub mod FormLemmas
-pub mod Proper
-pub mod FirstLemmas
-pub mod RightInverter
-pub mod Building
-pub mod OfForm
+pub mod Refusing
+pub mod Drawing
+pub mod Lines
+pub mod Standing
 pub mod Rows
 pub mod Words

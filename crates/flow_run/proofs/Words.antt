@@ -1,5 +1,5 @@
 -- The word of a command's tool, the line of its refusals, and words that no command is read from.
-use Rattle.std.proofs.Common.{◌≡◌, ℕ, Bool, true, false, cond, List, [], ◌∷◌, Option, None, Some, option_map, IfSome, Err, IsErrOf, refl, sym, ◌∙◌, ap, subst}
+use Rattle.std.proofs.Common.{◌≡◌, ◌⊎◌, inr, ℕ, Bool, true, false, cond, List, [], ◌∷◌, Option, None, Some, option_map, IfSome, Err, IsErrOf, refl, sym, ◌∙◌, ap, subst}
 use Rattle.std.specs.Prelude.{codes}
 use Rattle.std.specs.List.{find}
 use Rattle.tool_words.specs.declared.command.Command.{Command}
@@ -24,8 +24,8 @@ use Rattle.boog_run.specs.Boog.{boog_plan, boog_answers}
 use Rattle.asimut_run.specs.Asimut.{asimut_plan, asimut_answers}
 use Rattle.asimut_run.specs.Netlist.{netlist_plan, netlist_answers}
 use Rattle.flow_run.specs.Flow.{flow_plan, flow_answers}
-use Rattle.flow_run.specs.Causes.{IsHeadline}
-use Rattle.flow_run.proofs.Rows.{if_some, headline_of}
+use Rattle.flow_run.specs.Causes.{IsHeadline, IsFree}
+use Rattle.flow_run.proofs.Rows.{if_some, headline_of, laid_free}
 
 -- ---- the entry's word is that of the command's tool
 
@@ -93,6 +93,13 @@ headline_at words k before now s is h =
     subst (λ (o : Option Command). IfSome (as_flow o) (λ c. s ≡ status.Accepted → IsHeadline c before now)) (sym is)
     (if_some (as_flow (Some k)) (λ c caused. headline_of c before now s caused) h)
 
+pub free_at : (words : List (List ℕ)) (k : Command) (before now : Outside) (s : Status) → command_of words ≡ Some k
+    → IfSome (as_flow (Some k)) (λ c. IsComplete (flow_plan c) (flow_answers c) before now s)
+    → IfSome (flow_of words) (λ c. IsFree c before now → (s ≡ status.Accepted) ⊎ (s ≡ status.Memory))
+free_at words k before now s is h =
+    subst (λ (o : Option Command). IfSome (as_flow o) (λ c. IsFree c before now → (s ≡ status.Accepted) ⊎ (s ≡ status.Memory))) (sym is)
+    (if_some (as_flow (Some k)) (λ c complete free. laid_free c before now s complete free) h)
+
 -- ---- words that no command is read from
 
 all_some : {A : Type 0} {P : A → Type 0} (o : Option A) → ((x : A) → P x) → IfSome o P
@@ -105,6 +112,12 @@ not_accepted words.Memory s is accepted = cc (sym is ∙ accepted)
 
 pub no_headline : (ws : List (List ℕ)) (e : WordsError) (before now : Outside) (s : Status) → s ≡ status_of e → IfSome (flow_of ws) (λ c. s ≡ status.Accepted → IsHeadline c before now)
 no_headline ws e before now s is = all_some (flow_of ws) (λ c accepted. absurd (not_accepted e s is accepted))
+
+pub none_free : (ws : List (List ℕ)) (e : WordsError) (before now : Outside) (s : Status) → s ≡ status_of e → (IsErrOf {T = Command} (Err e) words.Usage → command_of ws ≡ None)
+    → IfSome (flow_of ws) (λ c. IsFree c before now → (s ≡ status.Accepted) ⊎ (s ≡ status.Memory))
+none_free ws words.Usage before now s is none =
+    subst (λ (o : Option Command). IfSome (as_flow o) (λ c. IsFree c before now → (s ≡ status.Accepted) ⊎ (s ≡ status.Memory))) (sym (none refl)) tt
+none_free ws words.Memory before now s is none = all_some (flow_of ws) (λ c free. inr is)
 
 pub flow_unread : (ws : List (List ℕ)) (e : WordsError) (before now : Outside) (s : Status) → s ≡ status_of e → (IsErrOf {T = Command} (Err e) words.Usage → command_of ws ≡ None)
     → IfSome (flow_of ws) (λ c. IsComplete (flow_plan c) (flow_answers c) before now s)

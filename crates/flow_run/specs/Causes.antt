@@ -1,32 +1,42 @@
--- What stands behind an answer of 0, said of the files themselves.
-use Rattle.std.specs.Prelude.{◌≡◌, ℕ, List, true, false, Option, Some, IfSome, IsSomeAnd}
-use Rattle.std.specs.FinMap.{get, insert}
+-- What stands behind an answer of 0, and when it has to come, said of the files themselves.
+use Rattle.std.specs.Prelude.{◌≡◌, ℕ, false, List, Option, Some, IfSome}
+use Rattle.std.specs.FinMap.{insert}
 use Rattle.vlsi_shelf.specs.Files.{Files}
+use Rattle.vlsi_shelf.specs.Counts.{Rose}
 use Rattle.vlsi_shelf.specs.Sink.{Puts}
+use Rattle.machine_meaning.specs.Machine.{Machine}
+use Rattle.catal.specs.Cells.{cells_in}
+use Rattle.cell_model.specs.Library.{Library}
+use Rattle.cell_lib.specs.Files.{catal_name, cell_files}
 use Rattle.tool_words.specs.declared.command.FlowCommand.{FlowCommand}
-use Rattle.tool_drive.specs.Outside.{Outside}
-use Rattle.flow_run.specs.declared.flow.Built.{Built}
-use Rattle.flow_run.specs.Drawing.{IsRight}
-use Rattle.flow_run.specs.Forms.{first_of, cell_of, is_cell_layout}
-use Rattle.flow_run.specs.Flow.{is_fsm, catal_name, vbe_name, ap_name, layout_name}
+use Rattle.tool_drive.specs.declared.status.Status.{Status}
+use Rattle.tool_drive.specs.Outside.{Outside, NothingFailed}
+use Rattle.tool_drive.specs.Held.{Holds, AreHad}
+use Rattle.flow_run.specs.Drawn.{layout_name}
+use Rattle.flow_run.specs.Flow.{is_fsm, AreRead, IsRefused}
+use Rattle.flow_run.specs.RightLayout.{IsRightLayout}
 
--- The files are of the form that is built, with these names: SOURCE is one inverter; the library's CATAL has one cell; and the
--- cell's behaviour and geometry are those of an inverter of its name.
-pub record IsOfForm (files : Files) (c : FlowCommand) (b : Built) : Type 0 where
+-- The source isn't a state machine's, and SOURCE, the library's CATAL, and the behaviour and the layout of each cell that this uses are
+-- there, none too long, with these bytes.
+pub record Stand (files : Files) (c : FlowCommand) (source catal : List ℕ) (cells : List (List ℕ)) : Type 0 where
   pub no_fsm : is_fsm c ≡ false
-  pub source : IsSomeAnd (get files c.source) (λ text. first_of text ≡ Some b.source)
-  pub catal : IsSomeAnd (get files (catal_name c)) (λ text. cell_of text ≡ Some b.cell.entity)
-  pub behaviour : IsSomeAnd (get files (vbe_name c b.cell.entity)) (λ text. first_of text ≡ Some b.cell)
-  pub geometry : IsSomeAnd (get files (ap_name c b.cell.entity)) (λ text. is_cell_layout b.cell.entity b.cell.input b.cell.output text ≡ true)
+  pub source_is : Holds files c.source source
+  pub catal_is : Holds files (catal_name c.library) catal
+  pub cells_are : AreHad files (cell_files c.library (cells_in catal)) cells
 
--- The layout stands whole: the files that were there are of the form, with these names; NAME.ap is now the text of a right layout
--- for this source and this library, on which the report is this one; and every other file is as it was.
+-- The layout stands whole: the files that were there are this machine and this library; NAME.ap is now the text of a right layout for
+-- them, on which the report is this one; and every other file is as it was.
 pub record IsDrawn (old : Files) (now : Option Files) (c : FlowCommand) (report : List ℕ) : Type 0 where
-  pub names : Built
+  pub source : List ℕ
+  pub catal : List ℕ
+  pub cells : List (List ℕ)
+  pub stood : Stand old c source catal cells
+  pub m : Machine
+  pub l : Library
+  pub read : AreRead source catal cells m l
   pub bytes : List ℕ
-  pub read : IsOfForm old c names
-  pub written : now ≡ Some (insert old (layout_name c) bytes)
-  pub right : IsRight bytes report names.source names.cell
+  pub written : now ≡ Some (insert old (layout_name c.out) bytes)
+  pub right : IsRightLayout bytes m l report
 
 -- the layout stands whole, on a shelf that tells its files
 abbrev pub StandsWhole : Outside → Outside → FlowCommand → List ℕ → Type 0
@@ -36,3 +46,16 @@ StandsWhole before now c report = IfSome before.files (λ old. IsDrawn old now.f
 -- report on it was printed.
 abbrev pub IsHeadline : FlowCommand → Outside → Outside → Type 0
 IsHeadline c before now = (report : List ℕ) × Puts before.told now.told report × StandsWhole before now c report
+
+-- Nothing stands in the way of a layout: the files are told and all are there, nothing in them is a cause to refuse them, and no call
+-- on the shelf or the sink failed.
+pub record IsFree (c : FlowCommand) (before now : Outside) : Type 0 where
+  pub files : Files
+  pub told : before.files ≡ Some files
+  pub source : List ℕ
+  pub catal : List ℕ
+  pub cells : List (List ℕ)
+  pub stood : Stand files c source catal cells
+  pub allowed : (s : Status) → IsRefused c source catal cells s → ⊥
+  pub read : NothingFailed before now
+  pub printed : Rose before.faults now.faults → ⊥

@@ -1,74 +1,98 @@
 -- What `flow` reads and answers.
-use Rattle.std.specs.Prelude.{◌≡◌, ℕ, Bool, ◌&&◌, List, [], ◌∷◌, ◌++◌, get_or, Option, None, Some, Result, Ok, Err, codes, nat_eq, if◌then◌else◌}
+use Rattle.std.specs.Prelude.{◌≡◌, ℕ, ◌<◌, ◌≤◌, Bool, true, false, List, [], ◌∷◌, get_or, None, Result, Ok, Err, codes, nat_eq, if◌then◌else◌}
 use Rattle.std.specs.List.{ends_with}
+use Rattle.machine_meaning.specs.Machine.{Machine}
+use Rattle.machine_meaning.specs.Size.{machine_size}
+use Rattle.vbe_io.specs.Text.{IsVbe, IsVbeRefusal}
+use Rattle.catal.specs.declared.error.CatalError.{CatalError}
+use Rattle.catal.specs.Catal.{IsCatal, Refused}
+use Rattle.catal.specs.Cells.{cells_in}
+use Rattle.cell_model.specs.declared.kind.Kind.{Kind}
+use Rattle.cell_model.specs.Library.{Library}
+use Rattle.cell_model.specs.Covering.{needed, IsFirstMissing}
+use Rattle.cell_lib.specs.declared.error.LibError.{LibError}
+use Rattle.cell_lib.specs.Files.{catal_name, cell_files}
+use Rattle.cell_lib.specs.Load.{refused}
+use Rattle.cell_lib.specs.Cells.{sources, IsFirstRefused}
+use Rattle.cell_lib.specs.Library.{IsCell, IsCellRefusal, IsLibraryOf, status_of}
+use Rattle.boog_map.specs.Netlist.{has_registers, Covers}
+use Rattle.boog_run.specs.Boog.{size_limit}
+use Rattle.boog_run.specs.declared.netlist.TheConstants.{MOST_SIZE}
 use Rattle.tool_words.specs.declared.command.FlowCommand.{FlowCommand}
-use Rattle.tool_drive.specs.declared.status.Status.TheVariants.{Beyond}
-use Rattle.tool_drive.specs.declared.tool.Wanted.{Wanted}
+use Rattle.tool_drive.specs.declared.status.Status.{Status}
+use Rattle.tool_drive.specs.declared.status.Status.TheVariants as status
 use Rattle.tool_drive.specs.declared.tool.Product.{Product}
 use Rattle.tool_drive.specs.declared.tool.Refusal.{Refusal}
-use Rattle.tool_drive.specs.Plan.{Plan, Inputs, cut}
-use Rattle.flow_run.specs.declared.forms.First.{First}
-use Rattle.flow_run.specs.declared.flow.Built.{Built}
-use Rattle.flow_run.specs.Drawing.{IsRight}
-use Rattle.flow_run.specs.Forms.{first_of, cell_of, is_same, is_cell_layout}
-
--- ---- the files that it reads and writes
-
-abbrev pub catal_name : FlowCommand → List ℕ
-catal_name c = c.library ++ codes "/CATAL"
-
-abbrev pub cell_name : FlowCommand → List ℕ → List ℕ → List ℕ
-cell_name c cell ending = c.library ++ (codes "/" ++ (cell ++ ending))
-
-abbrev pub vbe_name : FlowCommand → List ℕ → List ℕ
-vbe_name c cell = cell_name c cell (codes ".vbe")
-
-abbrev pub ap_name : FlowCommand → List ℕ → List ℕ
-ap_name c cell = cell_name c cell (codes ".ap")
-
-abbrev pub layout_name : FlowCommand → List ℕ
-layout_name c = c.out ++ codes ".ap"
+use Rattle.tool_drive.specs.Plan.{Plan, Inputs, limited}
+use Rattle.tool_drive.specs.Refusals.{OfFile}
+use Rattle.flow_run.specs.Drawn.{IsDrawnAs}
 
 -- a state machine's source
 abbrev pub is_fsm : FlowCommand → Bool
 is_fsm c = ends_with nat_eq c.source (codes ".fsm")
 
--- the behaviour and the geometry of CATAL's cell
-abbrev pub cell_files : FlowCommand → Option (List ℕ) → List Wanted
-cell_files c None = []
-cell_files c (Some cell) = cut (vbe_name c cell) ∷ cut (ap_name c cell) ∷ []
-
--- No file where the source is a state machine's. Else SOURCE, then the library's CATAL, then the files of its cell, if it has one.
+-- No file where the source is a state machine's. Else SOURCE, then CATAL, and then the files of the cells that CATAL uses.
 abbrev pub flow_plan : FlowCommand → Plan
 flow_plan c = record {
-  first = if is_fsm c then [] else cut c.source ∷ cut (catal_name c) ∷ [];
-  more = λ first. cell_files c (cell_of (get_or first 1 []));
+  first = if is_fsm c then [] else limited c.source ∷ limited (catal_name c.library) ∷ [];
+  more = λ read. if is_fsm c then [] else cell_files c.library (cells_in (get_or read 1 []));
 }
 
--- ---- what they come to
+-- CATAL lists cells, and the source is this machine, which isn't too large.
+pub record IsSourceOf (source catal : List ℕ) (m : Machine) : Type 0 where
+  pub names : List (List ℕ)
+  pub uses : IsCatal catal names
+  pub machine : IsVbe source m
+  pub small : machine_size m ≤ MOST_SIZE
 
--- the cell's behaviour and geometry are of one cell, that of CATAL
-abbrev pub built_with : Option First → Option (List ℕ) → Option First → List ℕ → Option Built
-built_with (Some source) (Some cell) (Some pins) ap =
-    if is_same pins.entity cell && is_cell_layout cell pins.input pins.output ap then Some (record { source = source; cell = pins }) else None
-built_with _ _ _ _ = None
+-- The source is this machine, which isn't too large, and CATAL and the files are this library, whose cells may be drawn with tracks.
+pub record AreRead (source catal : List ℕ) (cells : List (List ℕ)) (m : Machine) (l : Library) : Type 0 where
+  pub machine : IsVbe source m
+  pub small : machine_size m ≤ MOST_SIZE
+  pub library : IsLibraryOf true catal cells l
 
--- the names of the source and of the library's cell, where what was read is of the form that is built
-abbrev pub built_of : Inputs → Option Built
-built_of i = built_with (first_of (get_or i.first 0 [])) (cell_of (get_or i.first 1 [])) (first_of (get_or i.more 0 [])) (get_or i.more 1 [])
+-- Source and library are read, the library has a usable cell of each kind that mapping needs, and NAME.ap is a right layout of the
+-- source by this library, on which the report is what is printed.
+pub record IsLaidOut (c : FlowCommand) (source catal : List ℕ) (cells : List (List ℕ)) (p : Product) : Type 0 where
+  pub m : Machine
+  pub l : Library
+  pub read : AreRead source catal cells m l
+  pub covered : Covers l m
+  pub drawn : IsDrawnAs c.out m l p
 
--- NAME.ap is a right layout of the source by this cell, and the report on it is printed
-pub record IsLaidOut (c : FlowCommand) (b : Built) (p : Product) : Type 0 where
-  pub bytes : List ℕ
-  pub name_is : p.name ≡ layout_name c
-  pub file_is : p.file ≡ Some bytes
-  pub right : IsRight bytes p.text b.source b.cell
+-- Why there is no source that can be laid out, in this order: the lines of CATAL and their number; the text of the source and its
+-- ports; its size.
+pub data IsNoSource (c : FlowCommand) (source catal : List ℕ) (s : Status) : Type 0 where
+  no_list : (fault : CatalError) → Refused catal fault → s ≡ status_of (refused fault) → IsNoSource c source catal s
+  no_text : (names : List (List ℕ)) → IsCatal catal names → OfFile c.source (IsVbeRefusal source) s → IsNoSource c source catal s
+  over_size : (names : List (List ℕ)) (m : Machine) → IsCatal catal names → IsVbe source m → MOST_SIZE < machine_size m → s ≡ size_limit m
+      → IsNoSource c source catal s
 
--- a layout of what is of the form, and no other answer to what is not than that it is beyond what is built
-abbrev pub Lays : FlowCommand → Option Built → Result Product Refusal → Type 0
-Lays c (Some b) (Ok p) = IsLaidOut c b p
-Lays c None (Err r) = (r.part ≡ None) × (r.status ≡ Beyond)
-Lays c _ _ = ⊥
+-- What isn't read: the source; or, where this is read, the first cell of the library that is none.
+pub data IsUnread (c : FlowCommand) (source catal : List ℕ) (cells : List (List ℕ)) (s : Status) : Type 0 where
+  no_source : IsNoSource c source catal s → IsUnread c source catal cells s
+  no_cell : (m : Machine) (names : List (List ℕ)) (e : LibError) → IsSourceOf source catal m → IsCatal catal names
+      → IsFirstRefused (IsCell true) (IsCellRefusal true) (sources names cells) e → s ≡ status_of e → IsUnread c source catal cells s
+
+-- Why a source has no layout: something isn't read, or else a kind is the first of those that are asked for which no usable cell has.
+pub data IsRefused (c : FlowCommand) (source catal : List ℕ) (cells : List (List ℕ)) (s : Status) : Type 0 where
+  unread : IsUnread c source catal cells s → IsRefused c source catal cells s
+  uncovered : (m : Machine) (l : Library) (k : Kind) → AreRead source catal cells m l → IsFirstMissing l.cells k (needed (has_registers m))
+      → s ≡ status.NoCover k → IsRefused c source catal cells s
+
+-- the layout is written and the report is printed, or one of these refusals
+abbrev pub LaysOut : FlowCommand → List ℕ → List ℕ → List (List ℕ) → Result Product Refusal → Type 0
+LaysOut c source catal cells (Ok p) = IsLaidOut c source catal cells p
+LaysOut c source catal cells (Err r) = (r.part ≡ None) × IsRefused c source catal cells r.status
+
+-- state machines are beyond what is built
+abbrev pub IsBeyond : Result Product Refusal → Type 0
+IsBeyond (Ok p) = ⊥
+IsBeyond (Err r) = (r.part ≡ None) × (r.status ≡ status.Beyond)
+
+abbrev pub AnswersTo : Bool → FlowCommand → Inputs → Result Product Refusal → Type 0
+AnswersTo true c i r = IsBeyond r
+AnswersTo false c i r = LaysOut c (get_or i.first 0 []) (get_or i.first 1 []) i.more r
 
 abbrev pub flow_answers : FlowCommand → Inputs → Result Product Refusal → Type 0
-flow_answers c i r = Lays c (built_of i) r
+flow_answers c i r = AnswersTo (is_fsm c) c i r

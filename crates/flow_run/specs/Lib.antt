@@ -1,7 +1,5 @@
 pub mod Report
 pub mod RightLayout
-pub mod Forms
-pub mod Drawing
+pub mod Drawn
 pub mod Flow
 pub mod Causes
-pub mod Laws

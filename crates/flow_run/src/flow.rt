@@ -1,32 +1,47 @@
-// `flow` as a tool: what it reads, and the layout that it answers.
-ghost use Rattle.std.specs.Prelude.{◌≡◌, Some, true, IfOk, codes};
+// `flow` as a tool: what it reads, and what it answers.
+ghost use Rattle.std.specs.Prelude.{◌≡◌, true, IfOk, IfErr, codes};
+ghost use Rattle.cell_lib.specs.Library.{status_of};
+ghost use Rattle.cell_lib.specs.Load.{refused as list_refusal};
 ghost use Rattle.tool_drive.specs.Outside.{outside, IsLine};
 ghost use Rattle.tool_drive.specs.Status.{has_line};
 ghost use Rattle.tool_drive.specs.Lines.{line_of};
-ghost use Rattle.tool_drive.specs.Plan.{inputs};
-ghost use Rattle.tool_drive.specs.Table.{Caused, IsComplete};
-ghost use Rattle.flow_run.specs.Drawing.{layout_of, report_of};
-ghost use Rattle.flow_run.specs.Flow.{is_fsm as is_state_machine, catal_name as catal_name_of, cell_name as cell_name_of, layout_name as layout_name_of, cell_files as cell_files_of, built_with, built_of, flow_plan, flow_answers};
+ghost use Rattle.tool_drive.specs.Refusals.{MemoryOr};
+ghost use Rattle.tool_drive.specs.Table.{IsJudged, Caused, IsComplete};
+ghost use Rattle.flow_run.specs.Flow.{is_fsm as is_state_machine, flow_plan, flow_answers, IsSourceOf, AreRead, IsNoSource, IsUnread, LaysOut};
 
-use crate::drawing;
-use crate::forms::{First, catal_cell, has_layout, is_same, read_first};
+use crate::layout::product;
+use boog_run::{check_size, netlist_law, netlist_of};
+use catal::{CatalError, read_catal};
+use cell_checks::Library;
+use cell_lib::{catal_file, library_law, library_status, named_files, read_library};
+use machine_core::Machine;
 use std::alloc::{AllocError, Global};
-use tool_drive::{Product, Refusal, Status, Tool, Wanted, bytes_at, drive, tell};
+use tool_drive::{
+    LibraryFault, Product, Refusal, Status, Tool, Wanted, bytes_at, drive, refused, tell,
+};
 use tool_words::FlowCommand;
-use vlsi_base::{FileBytes, FileName, Text};
+use vbe_io::read_vbe;
+use vlsi_base::FileBytes;
 use vlsi_shelf::{Shelf, Sink};
 
-/// `flow`, with what it is asked.
+/// `flow`, with what it is asked: it lays the source out with usable cells of the library, writes the layout to NAME.ap, and prints
+/// the report on it.
+///
+/// All files are read first: SOURCE, CATAL, and the behaviour and the layout of each cell that this uses. Then it is refused, in this
+/// order: by `Library`, or a limit of CATAL, at the first line at fault; by `Source`, or a limit of the text; by `Limit` of `Size`,
+/// where the machine weighs more than `MOST_SIZE`; by `Library`, or a limit of a cell, at the first cell that fails a check, those for
+/// tracks among them; by `NoCover`, where the library has no usable cell of a kind. Memory goes by the files, the machine, its
+/// netlist and the lines of the layout.
 #[derive(Drop)]
 struct Flow<'a> {
     command: &'a FlowCommand,
 }
 
-/// What was read: the source's names, and those of the library's cell.
+/// What was read: the source's machine, and the library.
 #[derive(Drop)]
-pub struct Built {
-    pub source: First,
-    pub cell: First,
+struct Read {
+    machine: Machine,
+    library: Library,
 }
 
 fn is_fsm(command: &FlowCommand) -> bool
@@ -35,101 +50,85 @@ fn is_fsm(command: &FlowCommand) -> bool
     command.source.as_bytes().ends_with(b".fsm")
 }
 
-fn catal_name(alloc: Global, command: &FlowCommand) -> Result<FileName, AllocError>
-    ensures { IfOk result (λ name. name ≡ catal_name_of command.now) }
+// How it is told that a CATAL is none.
+fn list_status(error: CatalError) -> Status
+    ensures { result ≡ status_of (list_refusal error) }
 {
-    let mut name = command.library.copy(alloc)?;
-    name.append(b"/CATAL")?;
-    Ok(name)
-}
-
-// The name of a file of the library's cell.
-fn cell_name(
-    alloc: Global,
-    command: &FlowCommand,
-    cell: &Text,
-    ending: &[u8],
-) -> Result<FileName, AllocError>
-    ensures { IfOk result (λ name. name ≡ cell_name_of command.now cell.now ending.now) }
-{
-    let mut name = command.library.copy(alloc)?;
-    name.append(b"/")?;
-    name.append(cell.as_bytes())?;
-    name.append(ending)?;
-    Ok(name)
-}
-
-fn layout_name(alloc: Global, command: &FlowCommand) -> Result<FileName, AllocError>
-    ensures { IfOk result (λ name. name ≡ layout_name_of command.now) }
-{
-    let mut name = command.out.copy(alloc)?;
-    name.append(b".ap")?;
-    Ok(name)
-}
-
-fn cell_files(
-    alloc: Global,
-    command: &FlowCommand,
-    cell: &Option<Text>,
-) -> Result<Vec<Wanted>, AllocError>
-    ensures { IfOk result (λ wanted. wanted.items ≡ cell_files_of command.now cell.now) }
-{
-    let mut wanted = Vec::new(alloc);
-    if let Some(cell) = cell {
-        wanted.push(Wanted::cut(cell_name(alloc, command, cell, b".vbe")?))?;
-        wanted.push(Wanted::cut(cell_name(alloc, command, cell, b".ap")?))?;
+    match error {
+        CatalError::Memory => Status::Memory,
+        CatalError::BadLine(line) => Status::Library(LibraryFault::BadCatal(line)),
+        CatalError::Limit(limit) => Status::Limit(limit),
     }
-    Ok(wanted)
 }
 
-// The names that are built from, where the three texts are of the form and of one cell.
-fn check_forms(
+// The machine of SOURCE, behind the list of the library's cells.
+fn read_source(
     alloc: Global,
-    source: Option<First>,
-    cell: Option<Text>,
-    pins: Option<First>,
-    geometry: &[u8],
-) -> Result<Option<Built>, AllocError>
-    ensures { IfOk result (λ found. found ≡ built_with source cell pins geometry.now) }
+    command: &FlowCommand,
+    source: &[u8],
+    catal: &[u8],
+) -> Result<Machine, Status>
+    ensures accepted { IfOk result (λ m. IsSourceOf source.now catal.now m) }
+    ensures refused { IfErr result (λ s. MemoryOr s (IsNoSource command.now source.now catal.now s)) }
 {
-    let (Some(source), Some(cell), Some(pins)) = (source, cell, pins) else {
-        return Ok(None);
+    match read_catal(alloc, catal) {
+        Ok(_) => {}
+        Err(error) => return Err(list_status(error)),
+    }
+    let machine = match read_vbe(alloc, source) {
+        Ok(machine) => machine,
+        Err(error) => return Err(refused(alloc, &command.source, error)),
     };
-    if is_same(pins.entity.as_bytes(), cell.as_bytes())
-        && has_layout(alloc, &cell, &pins.input, &pins.output, geometry)?
-    {
-        return Ok(Some(Built { source, cell: pins }));
+    match check_size(&machine) {
+        Ok(()) => Ok(machine),
+        Err(status) => Err(status),
     }
-    Ok(None)
 }
 
-// The names of the source and of the library's cell, where what was read is of the form that is built.
-fn recognise(
+// The machine and the library of the texts, or the status that tells what isn't read.
+fn read_all(
     alloc: Global,
-    first: &[FileBytes],
-    more: &[FileBytes],
-) -> Result<Option<Built>, AllocError>
-    ensures { IfOk result (λ found. found ≡ built_of (inputs first.now more.now)) }
+    command: &FlowCommand,
+    source: &[u8],
+    catal: &[u8],
+    cells: &[FileBytes],
+) -> Result<Read, Status>
+    ensures read { IfOk result (λ r. AreRead source.now catal.now cells.now r.machine r.library) }
+    ensures refused { IfErr result (λ s. MemoryOr s (IsUnread command.now source.now catal.now cells.now s)) }
 {
-    let source = read_first(alloc, bytes_at(first, 0))?;
-    let cell = catal_cell(alloc, bytes_at(first, 1))?;
-    let pins = read_first(alloc, bytes_at(more, 0))?;
-    check_forms(alloc, source, cell, pins, bytes_at(more, 1))
+    let machine = match read_source(alloc, command, source, catal) {
+        Ok(machine) => machine,
+        Err(status) => return Err(status),
+    };
+    match read_library(alloc, catal, cells, true) {
+        Ok(library) => Ok(Read { machine, library }),
+        Err(error) => Err(library_status(error)),
+    }
 }
 
-fn laid_out(alloc: Global, command: &FlowCommand, built: &Built) -> Result<Product, AllocError>
-    ensures name { IfOk result (λ p. p.name ≡ layout_name_of command.now) }
-    ensures file { IfOk result (λ p. p.file ≡ Some (layout_of built.now.source built.now.cell)) }
-    ensures text { IfOk result (λ p. p.text ≡ report_of built.now.source) }
+// What the texts come to.
+fn laid_out(
+    alloc: Global,
+    command: &FlowCommand,
+    source: &[u8],
+    catal: &[u8],
+    cells: &[FileBytes],
+) -> Result<Product, Refusal>
+    ensures { IsJudged (LaysOut command.now source.now catal.now cells.now) result }
 {
-    let name = layout_name(alloc, command)?;
-    let file = drawing::layout(alloc, &built.source, &built.cell)?;
-    let text = drawing::report(alloc, &built.source)?;
-    Ok(Product {
-        name,
-        file: Some(file),
-        text,
-    })
+    // What is read has names that can be written, and is small enough.
+    library_law();
+    netlist_law();
+    let read = match read_all(alloc, command, source, catal, cells) {
+        Ok(read) => read,
+        Err(status) => return Err(Refusal::plain(status)),
+    };
+    let netlist = match netlist_of(alloc, &read.machine, &read.library) {
+        Ok(netlist) => netlist,
+        Err(status) => return Err(Refusal::plain(status)),
+    };
+    let drawn = product(alloc, &command.out, &read.machine, &netlist, &read.library)?;
+    Ok(drawn)
 }
 
 impl Tool for Flow<'_> {
@@ -144,14 +143,16 @@ impl Tool for Flow<'_> {
         if is_fsm(self.command) {
             return Ok(wanted);
         }
-        wanted.push(Wanted::cut(self.command.source.copy(alloc)?))?;
-        wanted.push(Wanted::cut(catal_name(alloc, self.command)?))?;
+        wanted.push(Wanted::limited(self.command.source.copy(alloc)?))?;
+        wanted.push(catal_file(alloc, &self.command.library)?)?;
         Ok(wanted)
     }
 
     fn more(&self, alloc: Global, first: &[FileBytes]) -> Result<Vec<Wanted>, AllocError> {
-        let cell = catal_cell(alloc, bytes_at(first, 1))?;
-        cell_files(alloc, self.command, &cell)
+        if is_fsm(self.command) {
+            return Ok(Vec::new(alloc));
+        }
+        named_files(alloc, &self.command.library, bytes_at(first, 1))
     }
 
     fn judge(
@@ -160,11 +161,16 @@ impl Tool for Flow<'_> {
         first: &[FileBytes],
         more: &[FileBytes],
     ) -> Result<Product, Refusal> {
-        drawing::layout_law();
-        match recognise(alloc, first, more)? {
-            Some(built) => Ok(laid_out(alloc, self.command, &built)?),
-            None => Err(Refusal::plain(Status::Beyond)),
+        if is_fsm(self.command) {
+            return Err(Refusal::plain(Status::Beyond));
         }
+        laid_out(
+            alloc,
+            self.command,
+            bytes_at(first, 0),
+            bytes_at(first, 1),
+            more,
+        )
     }
 }
 

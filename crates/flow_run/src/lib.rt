@@ -1,19 +1,16 @@
 //! The top call of the program: words in, files and a report out, a status with its cause.
 //!
 //! `alliance_main` is what the program does. What `flow` reads and answers stands in `specs/Flow.antt`, and what its layout is,
-//! in `specs/Causes.antt`; when each status comes and what it leaves, for all tools, in `specs/Table.antt` of `tool_drive`; the
-//! texts that are read, in `specs/Forms.antt`; the words of a command, in `specs/` of `tool_words`. What `boog` and `asimut` read
-//! and answer stands in `boog_run` and `asimut_run`.
+//! in `specs/Causes.antt` and `specs/RightLayout.antt`; when each status comes and what it leaves, for all tools, in
+//! `specs/Table.antt` of `tool_drive`; the words of a command, in `specs/` of `tool_words`. What `boog` and `asimut` read and answer
+//! stands in `boog_run` and `asimut_run`.
 #![tactic(auto)]
 
-mod drawing;
 mod flow;
-mod forms;
-mod laws;
+mod layout;
+mod report;
 mod right_layout;
 mod top;
 
-pub use forms::First;
-pub use laws::{first_law, form_law};
 pub use right_layout::right_layout_law;
 pub use top::alliance_main;

@@ -10,7 +10,7 @@ ghost use Rattle.tool_run.specs.Usage.{word_of, line_of};
 ghost use Rattle.asimut_run.specs.Asimut.{asimut_plan, asimut_answers};
 ghost use Rattle.asimut_run.specs.Netlist.{netlist_plan, netlist_answers};
 ghost use Rattle.flow_run.specs.Flow.{is_fsm, flow_plan, flow_answers};
-ghost use Rattle.flow_run.specs.Causes.{IsHeadline};
+ghost use Rattle.flow_run.specs.Causes.{IsHeadline, IsFree};
 
 use crate::flow::run_flow;
 use std::alloc::Global;
@@ -54,9 +54,9 @@ fn run<S: Shelf, T: Sink>(alloc: Global, command: &Command, shelf: &mut S, out: 
 /// netlist of these cells, `asimut` runs patterns on the source, or on the netlist of the library's cells.
 ///
 /// The words are taken apart first, and only then is a file read. A tool reads its files in their order, then writes its file,
-/// if it has one, and then prints its text by one put. `flow` reads SOURCE, CATAL, and the behaviour and the geometry of its
-/// cell, writes the layout to NAME.ap and prints the report. `boog` reads SOURCE, CATAL, and the behaviour and the layout of each
-/// cell that this uses, writes the netlist to NAME.vst and prints how many cells it has. `asimut` reads SOURCE and
+/// if it has one, and then prints its text by one put. `flow` reads SOURCE, CATAL, and the behaviour and the layout of each cell
+/// that this uses, writes the layout to NAME.ap and prints the report. `boog` reads the same files, writes the netlist to NAME.vst
+/// and prints how many cells it has. `asimut` reads SOURCE and
 /// PATTERNS, for a netlist also CATAL and the behaviour and the layout of each cell that this uses, and prints the patterns with
 /// every output filled in. A refusal prints its line by one put; if that fails the status stays as it was.
 /// Memory for what is read and answered is taken on `alloc` and given back.
@@ -86,6 +86,10 @@ pub fn alliance_main<S: Shelf, T: Sink>(
     // Where the answer is 0, NAME.ap is a right layout of the source by the library, and the report on it was printed.
     ensures headline { IfSome (flow_of words.now) (λ c. result ≡ Status.Accepted
         → IsHeadline c (outside (S.seen shelf.old) (T.seen out.old)) (outside (S.seen shelf.new) (T.seen out.new))) }
+
+    // Where all files are there, nothing in them is a cause to refuse them, and no call failed, the answer is 0, or out of memory.
+    ensures lays { IfSome (flow_of words.now) (λ c. IsFree c (outside (S.seen shelf.old) (T.seen out.old)) (outside (S.seen shelf.new) (T.seen out.new))
+        → (result ≡ Status.Accepted) ⊎ (result ≡ Status.Memory)) }
 
     // The answers of boog: each has its cause, and over told files, where nothing failed, it is what the files come to.
     ensures mapping { IfSome (boog_of words.now) (λ c. Caused (boog_plan c) (boog_answers c)

@@ -1,6 +1,8 @@
--- The identifiers into which a text is cut are words.
-use Rattle.std.proofs.Common.{◌≡◌, ℕ, zero, suc, ◌+◌, ◌-◌, ◌^◌, ◌==◌, Bool, true, false, ◌||◌, List, [], ◌∷◌, ◌++◌, Option, None, Some, unwrap_or, length, map, take, drop, min, nat_lt, nat_eq, codes, slice_index, refl, if◌then◌else◌}
+-- The identifiers into which a text is cut are words of at most 64 bytes, and its numbers have 32 bits.
+use Rattle.std.proofs.Common.{◌≡◌, ℕ, zero, suc, ◌+◌, ◌-◌, ◌^◌, ◌<◌, ◌≤◌, arith, ◌==◌, Bool, true, false, ◌||◌, List, [], ◌∷◌, ◌++◌, Option, None, Some, unwrap_or, length, map, take, drop, min, nat_lt, nat_eq, codes, slice_index, refl, if◌then◌else◌}
 use Rattle.std.specs.Prelude.{slice_range}
+use Rattle.std.proofs.lemmas.Bool.{leb-false, ltb-true}
+use Rattle.std.proofs.lemmas.List.{length-map, length-take}
 use Rattle.std.specs.List.{prefix_len, starts_with}
 use Rattle.std.specs.Char.{is_ascii_alphabetic, is_ascii_digit, to_ascii_lowercase}
 use Rattle.vlsi_base.specs.Number.{value_of}
@@ -22,9 +24,14 @@ use Rattle.vhdl_lexer.specs.Lexical.{word_token, word_at, base_of, bit_string_of
 use Rattle.vhdl_lexer.specs.Listing.{cut, behind, tokens_in}
 use Rattle.vbe_words.proofs.Letters.{word_of, taken_all, taken_first}
 
--- an identifier is a word
+-- an identifier of at most 64 bytes
+abbrev pub IsShortWord : List ℕ → Type 0
+IsShortWord text = IsIdentifier text × (length text ≤ 64)
+
+-- an identifier is a short word, and a number has 32 bits
 abbrev pub IsNamed : Token → Type 0
-IsNamed (token.Identifier name) = IsIdentifier name
+IsNamed (token.Identifier name) = IsShortWord name
+IsNamed (token.Number n) = n < 2 ^ 32
 IsNamed _ = Unit {0}
 
 abbrev pub AreNamed : List PlacedToken → Type 0
@@ -47,7 +54,11 @@ either : (b : Bool) (p q : Piece) → (b ≡ true → Gives p) → Gives q → G
 either true p q h g = h refl
 either false p q h g = g
 
-of_word : (o : Option Keyword) (name : List ℕ) → (o ≡ None → IsIdentifier name) → IsNamed (word_token o name)
+either_so : (b : Bool) (p q : Piece) → (b ≡ true → Gives p) → (b ≡ false → Gives q) → Gives (if b then p else q)
+either_so true p q h g = h refl
+either_so false p q h g = g refl
+
+of_word : (o : Option Keyword) (name : List ℕ) → (o ≡ None → IsShortWord name) → IsNamed (word_token o name)
 of_word None name h = h refl
 of_word (Some k) name h = tt
 
@@ -73,15 +84,23 @@ if_string : (b : Bool) (base : Option Radix) (o : Option ℕ) (inside : List ℕ
 if_string true base o inside p h = of_string base o inside p h
 if_string false base o inside p h = h
 
+-- what is taken of a text is no longer than it was counted
+short_word : (text : List ℕ) (n : ℕ) → nat_lt 64 n ≡ false → length (map to_ascii_lowercase (take n text)) ≤ 64
+short_word text n fits =
+    let few = leb-false 65 n fits in
+    let same = length-map (take n text) to_ascii_lowercase in
+    let part = length-take n text in
+    omega (arith, few, same, part)
+
 gives_word : (text : List ℕ) → is_ascii_alphabetic (slice_index text 0) ≡ true → Gives (word_at text)
 unfolding word_at
 gives_word text first =
     let n = prefix_len is_in_word text in
     let name = map to_ascii_lowercase (take n text) in
     let word = λ (free : keyword_of name ≡ None). word_of (take n text) (taken_first text first) (taken_all is_in_word text) free in
-    either (nat_lt 64 n) (piece.TooLong n) (piece.Token (word_token (keyword_of name) name) n)
+    either_so (nat_lt 64 n) (piece.TooLong n) (piece.Token (word_token (keyword_of name) name) n)
     (λ _. gives (piece.TooLong n) (λ line. tt))
-    (gives (piece.Token (word_token (keyword_of name) name) n) (λ line. (of_word (keyword_of name) name word, tt)))
+    (λ fits. gives (piece.Token (word_token (keyword_of name) name) n) (λ line. (of_word (keyword_of name) name (λ free. (word free, short_word text n fits)), tt)))
 
 gives_letter : (text : List ℕ) → is_ascii_alphabetic (slice_index text 0) ≡ true → Gives (unwrap_or (bit_string_at text) (word_at text))
 unfolding bit_string_at
@@ -95,7 +114,7 @@ gives_number text =
     let value = value_of (take n text) in
     let p = piece.Token (token.Number value) n in
     let q = piece.TooGreat (min value (2 ^ 64 - 1)) in
-    either (nat_lt value (2 ^ 32)) p q (λ _. gives p (λ line. (tt, tt))) (gives q (λ line. tt))
+    either_so (nat_lt value (2 ^ 32)) p q (λ less. gives p (λ line. (ltb-true value (2 ^ 32) less, tt))) (λ _. gives q (λ line. tt))
 
 gives_comment : (text : List ℕ) → Gives (comment_at text)
 unfolding comment_at

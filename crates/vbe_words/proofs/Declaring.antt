@@ -1,5 +1,5 @@
 -- The port bits of declared names are those that an entity can declare.
-use Rattle.std.proofs.Common.{◌≡◌, ◌≤◌, inl, inr, ℕ, Bool, true, false, cond, ◌&&◌, leb, List, [], ◌∷◌, map, Option, None, Some, refl, sym, ◌∙◌, ap, subst, arith}
+use Rattle.std.proofs.Common.{◌≡◌, ◌≤◌, inl, inr, ℕ, Bool, true, false, cond, ◌&&◌, leb, List, [], ◌∷◌, map, length, Option, None, Some, IfSome, refl, sym, ◌∙◌, ap, subst, arith}
 use Rattle.vlsi_base.specs.declared.name.Name.{Name}
 use Rattle.vlsi_base.specs.declared.name.Port.{Port}
 use Rattle.vlsi_base.specs.declared.name.Dir.{Dir}
@@ -21,7 +21,7 @@ use Rattle.vlsi_model.proofs.PortBits.{role_of_dir, port_is, is_port_bit}
 use Rattle.vbe_io.specs.Cell.{pin_dir, pins_towards, symbol_pins, pin_bits}
 use Rattle.vbe_words.specs.Laws.{NoneIsSupply}
 use Rattle.vbe_words.proofs.Saying.{Every, every_in}
-use Rattle.vbe_words.proofs.Sources.{IsSymbolWord}
+use Rattle.vbe_words.proofs.Sources.{IsSymbolWord, IsSmall, IsSmallRange}
 
 -- ---- the bits of one name
 
@@ -96,7 +96,7 @@ pub bits_named : (towards : Role → Option Dir) (known : List Symbol) (ports : 
 bits_named towards known ports different words bits = record {
   words = λ p i.
       let b = bits.only p i in
-      subst IsIdentifier (sym (text_of towards known p b)) (every_in IsSymbolWord known b.symbol words b.declared);
+      subst IsIdentifier (sym (text_of towards known p b)) (every_in IsSymbolWord known b.symbol words b.declared).0.0;
   scalars = λ p q i j e none.
       let b = bits.only p i in
       let c = bits.only q j in
@@ -120,6 +120,30 @@ bits_named towards known ports different words bits = record {
       let c = bits.only q j in
       one_direction towards known p q b c (one_symbol towards known p q b c different e);
 }
+
+-- ---- within limits
+
+below : (r : Range) (k : ℕ) → IsSmall r.left → IsSmall r.right → has_bit r k ≡ true → IsSmall k
+below r k left right h = by r.falls h where
+  by : (b : Bool) → cond b (leb r.right k && leb k r.left) (leb r.left k && leb k r.right) ≡ true → IsSmall k
+  by true e = let p = le_both r.right k k r.left e in omega (arith, p.1, left)
+  by false e = let p = le_both r.left k k r.right e in omega (arith, p.1, right)
+
+small_bit : (text : List ℕ) (o : Option Range) (n : Name) → IsSmallRange o → In n (names_in text o) → IfSome n.bit IsSmall
+small_bit text None n small here = tt
+small_bit text None n small (there i) = elim i [ ]
+small_bit text (Some r) n small i = by n.bit refl where
+  by : (o : Option ℕ) → n.bit ≡ o → IfSome o IsSmall
+  by None e = tt
+  by (Some k) e = below r k small.0 small.1 (bit_in text r n k i e)
+
+-- The bits have texts of at most 64 bytes and numbers of 32 bits.
+pub bits_small : (towards : Role → Option Dir) (known : List Symbol) (ports : List Port) → Every IsSymbolWord known → AreBits towards known ports
+    → (p : Port) → In p ports → (length p.name.text ≤ 64) × IfSome p.name.bit IsSmall
+bits_small towards known ports words bits p i =
+    let b = bits.only p i in
+    let w = every_in IsSymbolWord known b.symbol words b.declared in
+    (subst (λ (t : List ℕ). length t ≤ 64) (sym (text_of towards known p b)) w.0.1, small_bit b.symbol.text b.symbol.range p.name w.1 b.bit)
 
 -- none of them has the text of a supply
 pub none_supply : (towards : Role → Option Dir) (known : List Symbol) (ports : List Port) → AreBits towards known ports → NoneIsSupply ports

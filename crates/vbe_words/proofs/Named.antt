@@ -1,10 +1,11 @@
 -- What is read has names that can be written again.
-use Rattle.std.proofs.Common.{◌≡◌, ℕ, true, false, codes, List, [], ◌∷◌, Option, None, Some, inl, inr, refl, sym, ◌∙◌, ap, subst}
+use Rattle.std.proofs.Common.{◌≡◌, ℕ, true, false, codes, List, [], ◌∷◌, ◌≤◌, length, Option, None, Some, inl, inr, refl, sym, ◌∙◌, ap, subst, arith}
 use Rattle.std.specs.List.{list_all}
 use Rattle.std.specs.List.Sorted.{IsPermutation}
-use Rattle.std.specs.Char.{is_ascii_alphabetic}
+use Rattle.std.specs.Char.{is_ascii_alphabetic, to_ascii_lowercase}
 use Rattle.std.specs.Prelude.{slice_index}
 use Rattle.std.proofs.lemmas.Bool.{and_parts}
+use Rattle.std.proofs.lemmas.List.{length-map}
 use Rattle.std.proofs.lemmas.List.Sorted.{IsPermutation-sym}
 use Rattle.vlsi_base.specs.declared.name.Port.{Port}
 use Rattle.vlsi_base.specs.declared.name.Dir.{Dir}
@@ -31,10 +32,10 @@ use Rattle.vbe_io.specs.declared.cell_text.CellText.{CellText}
 use Rattle.text_lines.specs.Lines.{lines_of}
 use Rattle.catal.specs.Line.{lower, IsEntry}
 use Rattle.catal.specs.Catal.{Gives, empty, used, unused, Lists, none, more}
-use Rattle.vbe_words.specs.Laws.{NoneIsSupply, with_supplies, MachineIsNamed, CellIsNamed, CatalIsNamed, MachineCanBeWritten, CellCanBeWritten}
+use Rattle.vbe_words.specs.Laws.{NoneIsSupply, with_supplies, MachineIsNamed, MachineIsShort, CellIsNamed, CatalIsNamed, CatalIsShort, MachineCanBeWritten, CellCanBeWritten}
 use Rattle.vbe_words.proofs.Letters.{word_of}
 use Rattle.vbe_words.proofs.Sources.{written_words, symbols_words}
-use Rattle.vbe_words.proofs.Declaring.{AreBits, bits_named, none_supply, machine_dir, machine_bits, cell_bits}
+use Rattle.vbe_words.proofs.Declaring.{AreBits, bits_named, bits_small, none_supply, machine_dir, machine_bits, cell_bits}
 use Rattle.vbe_words.proofs.Running.{supplied}
 
 -- ---- machines and cells
@@ -70,7 +71,17 @@ machine_read : (bytes : List ℕ) (m : Machine) → IsVbe bytes m → AreRead m.
 machine_read bytes m is = of_machine bytes is.design m is.written is.passes is.machine
 
 pub machine_is_named : MachineIsNamed
-machine_is_named bytes m is = (subst IsIdentifier (sym is.machine.name) (written_words bytes is.design is.written).0.0, (machine_read bytes m is).named)
+machine_is_named bytes m is = (subst IsIdentifier (sym is.machine.name) (written_words bytes is.design is.written).0.0.0, (machine_read bytes m is).named)
+
+pub machine_is_short : MachineIsShort
+machine_is_short bytes m is =
+    let known = symbols is.design in
+    let words = written_words bytes is.design is.written in
+    let back = IsPermutation-sym m.ports (port_bits known) is.machine.ports in
+    let bits = moved_bits machine_dir known (port_bits known) m.ports back (machine_bits known) in (
+      subst (λ (t : List ℕ). length t ≤ 64) (sym is.machine.name) words.0.0.1,
+      bits_small machine_dir known m.ports (symbols_words is.design words) bits,
+    )
 
 -- a text that declares a name twice is no cell without a machine
 never_twice : (o : Option Symbol) (later : Option ReadError) (e : ReadError) → if_symbol o later ≡ Some e → is_left_out e ≡ true → o ≡ None
@@ -118,6 +129,20 @@ lists_words : (lines : List (List ℕ)) (name : List ℕ) (names : List (List �
 lists_words _ name _ none i = elim i [ ]
 lists_words _ name _ (more {line = line} {lines = lines} {given = a} {names = b} g t) i =
     elim (In-split name a b i) [ inl j ↦ gives_words line name a g j | inr j ↦ lists_words lines name b t j ]
+
+gives_short : (line name : List ℕ) (names : List (List ℕ)) → Gives line names → In name names → length name ≤ 64
+gives_short line name _ (empty is) i = elim i [ ]
+gives_short line _ _ (used n e fits) here = let same = length-map n to_ascii_lowercase in omega (arith, same, fits)
+gives_short line _ _ (used n e fits) (there i) = elim i [ ]
+gives_short line name _ (unused n w e other fits) i = elim i [ ]
+
+lists_short : (lines : List (List ℕ)) (name : List ℕ) (names : List (List ℕ)) → Lists lines names → In name names → length name ≤ 64
+lists_short _ name _ none i = elim i [ ]
+lists_short _ name _ (more {line = line} {lines = lines} {given = a} {names = b} g t) i =
+    elim (In-split name a b i) [ inl j ↦ gives_short line name a g j | inr j ↦ lists_short lines name b t j ]
+
+pub catal_is_short : CatalIsShort
+catal_is_short bytes names is name i = lists_short (lines_of bytes) name names is.used.lists i
 
 pub catal_is_named : CatalIsNamed
 catal_is_named bytes names is name i = lists_words (lines_of bytes) name names is.used.lists i

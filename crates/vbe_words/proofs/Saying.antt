@@ -1,5 +1,6 @@
--- What a grammar says of the names that it declares, where the identifiers of the text are words.
-use Rattle.std.proofs.Common.{◌≡◌, ◌+◌, ℕ, Bool, true, false, List, [], ◌∷◌, ◌++◌, inl, inr, sym, subst, arith, if◌then◌else◌}
+-- What a grammar says of the names that it declares, where the identifiers of the text are words of at most 64 bytes and its numbers
+-- have 32 bits.
+use Rattle.std.proofs.Common.{◌≡◌, ◌+◌, ◌^◌, ◌<◌, ℕ, Bool, true, false, List, [], ◌∷◌, ◌++◌, inl, inr, sym, subst, arith, if◌then◌else◌}
 use Rattle.std.specs.List.{list_all}
 use Rattle.vlsi_base.specs.Member.{In, here, there}
 use Rattle.vhdl_token.specs.Keyword.{keyword_number}
@@ -7,15 +8,14 @@ use Rattle.vhdl_token.specs.Signs.{sign_number}
 use Rattle.vhdl_token.specs.declared.token.Token.{Token}
 use Rattle.vhdl_token.specs.declared.token.Token.TheVariants as token
 use Rattle.vhdl_token.specs.declared.token.PlacedToken.{PlacedToken}
-use Rattle.port_words.specs.Words.{IsIdentifier}
 use Rattle.grammar_theory.specs.declared.form.Form.{Form}
 use Rattle.grammar_theory.specs.declared.form.Form.TheVariants as form
 use Rattle.grammar_theory.specs.Tokens.{is_bit, is_digit_of, form_of, code, code_of}
 use Rattle.grammar_theory.specs.Marks.{Mark, Item}
 use Rattle.grammar_theory.specs.Grammar.{Grammar, nothing, marked, Then, ◌or◌, list}
 use Rattle.grammar_theory.specs.Answers.{tokens_of}
-use Rattle.vhdl_front.specs.Cursor.{identifier_in, name_of}
-use Rattle.vbe_words.proofs.Cut.{IsNamed, AreNamed}
+use Rattle.vhdl_front.specs.Cursor.{identifier_in, name_of, number_in, number_of}
+use Rattle.vbe_words.proofs.Cut.{IsShortWord, IsNamed, AreNamed}
 
 -- P of each
 abbrev pub Every : {A : Type 0} → (A → Type 0) → List A → Type 0
@@ -87,7 +87,7 @@ not_either false f g h k e = k e
 some : (m n : ℕ) → m ≡ n + 1 → m ≡ 0 → ⊥
 some m n e f = absurd (omega (arith, e, f))
 
-name_word : (t : Token) → IsNamed t → code (form_of t) ≡ 0 → IsIdentifier (identifier_in t)
+name_word : (t : Token) → IsNamed t → code (form_of t) ≡ 0 → IsShortWord (identifier_in t)
 name_word (token.Identifier name) h e = h
 name_word (token.Keyword k) h e = let never : 40 + keyword_number k ≡ 0 = e in absurd (omega (arith, never))
 name_word (token.Number n) h e = absurd (some 1 0 (omega arith) e)
@@ -98,9 +98,36 @@ name_word (token.BitString base digits) h e =
 name_word (token.Digits digits) h e = absurd (some 7 6 (omega arith) e)
 name_word (token.Sign s) h e = let never : 10 + sign_number s ≡ 0 = e in absurd (omega (arith, never))
 
-token_word : (t : PlacedToken) → IsNamed t.token → code_of t ≡ code form.Identifier → IsIdentifier (name_of t)
+token_word : (t : PlacedToken) → IsNamed t.token → code_of t ≡ code form.Identifier → IsShortWord (name_of t)
 unfolding code_of
 token_word t h e = name_word t.token h e
 
-pub says_name : (m : PlacedToken → Mark) → Says (marked form.Identifier m) (λ t. IsIdentifier (name_of t))
+pub says_name : (m : PlacedToken → Mark) → Says (marked form.Identifier m) (λ t. IsShortWord (name_of t))
 says_name m = record { each = λ items v w h. let alone = subst Words h.alone w in token_word v alone.0 h.kind }
+
+-- ---- numbers
+
+not_either_one : (b : Bool) (f g : Form) → (code f ≡ 1 → ⊥) → (code g ≡ 1 → ⊥) → code (if b then f else g) ≡ 1 → ⊥
+not_either_one true f g h k e = h e
+not_either_one false f g h k e = k e
+
+number_small : (t : Token) → IsNamed t → code (form_of t) ≡ 1 → number_in t < 2 ^ 32
+number_small (token.Number n) h e = h
+number_small (token.Identifier name) h e = let never : 0 ≡ 1 = e in absurd (omega (arith, never))
+number_small (token.Keyword k) h e = let never : 40 + keyword_number k ≡ 1 = e in absurd (omega (arith, never))
+number_small (token.Bit b) h e = let never : 2 ≡ 1 = e in absurd (omega (arith, never))
+number_small (token.Quoted text) h e =
+    absurd (not_either_one (list_all is_bit text) form.BitText form.OtherText
+    (λ (n : code form.BitText ≡ 1). let never : 3 ≡ 1 = n in omega (arith, never)) (λ (n : code form.OtherText ≡ 1). let never : 4 ≡ 1 = n in omega (arith, never)) e)
+number_small (token.BitString base digits) h e =
+    absurd (not_either_one (list_all (is_digit_of base) digits) form.BitString form.OtherBitString
+    (λ (n : code form.BitString ≡ 1). let never : 5 ≡ 1 = n in omega (arith, never)) (λ (n : code form.OtherBitString ≡ 1). let never : 6 ≡ 1 = n in omega (arith, never)) e)
+number_small (token.Digits digits) h e = let never : 7 ≡ 1 = e in absurd (omega (arith, never))
+number_small (token.Sign s) h e = let never : 10 + sign_number s ≡ 1 = e in absurd (omega (arith, never))
+
+token_small : (t : PlacedToken) → IsNamed t.token → code_of t ≡ code form.Number → number_of t < 2 ^ 32
+unfolding code_of
+token_small t h e = number_small t.token h e
+
+pub says_number : (m : PlacedToken → Mark) → Says (marked form.Number m) (λ t. number_of t < 2 ^ 32)
+says_number m = record { each = λ items v w h. let alone = subst Words h.alone w in token_small v alone.0 h.kind }

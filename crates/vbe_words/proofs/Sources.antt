@@ -1,18 +1,22 @@
--- The names that a data-flow text declares are words.
-use Rattle.std.proofs.Common.{◌-◌, ℕ, List, [], ◌∷◌, Option, subst}
+-- The names that a data-flow text declares are words of at most 64 bytes, and the bounds of its ranges have 32 bits.
+use Rattle.std.proofs.Common.{◌-◌, ◌*◌, ◌^◌, ◌<◌, ℕ, Bool, List, [], ◌∷◌, length, Option, None, Some, subst}
 use Rattle.vlsi_base.specs.declared.range.Range.{Range}
 use Rattle.vlsi_base.specs.declared.entity.NewName.{NewName}
+use Rattle.vlsi_base.specs.declared.entity.TypeWord.{TypeWord}
+use Rattle.vlsi_base.specs.declared.entity.TypeWord.TheVariants as type
+use Rattle.vlsi_base.specs.declared.entity.SignalType.{SignalType}
 use Rattle.vlsi_base.specs.declared.entity.PortGroup.{PortGroup}
 use Rattle.vlsi_base.specs.declared.entity.SignalGroup.{SignalGroup}
 use Rattle.vlsi_base.specs.declared.entity.Entity.{Entity}
 use Rattle.vlsi_base.specs.declared.entity.Declarations.{Declarations}
 use Rattle.vhdl_token.specs.declared.keyword.Keyword.{Keyword}
 use Rattle.vhdl_token.specs.declared.keyword.Keyword.TheVariants as word
-use Rattle.port_words.specs.Words.{IsIdentifier}
 use Rattle.grammar_theory.specs.Marks.{plain, declares}
+use Rattle.grammar_theory.specs.Grammar.{Grammar}
 use Rattle.grammar_theory.specs.declared.limits.TheConstants.{DEPTH}
-use Rattle.vhdl_front.specs.Cursor.{name_of}
-use Rattle.vhdl_front.specs.Entity.{Names, new_name, identifier, declared, another, led_names, declared_here, own_names, names, closed, port_behind, port, next_port, port_clause, entity_head, ending, entity, signal, declarations}
+use Rattle.vhdl_front.specs.Cursor.{name_of, number_of}
+use Rattle.vhdl_front.specs.Expression.{number}
+use Rattle.vhdl_front.specs.Entity.{Names, new_name, identifier, declared, another, led_names, declared_here, own_names, names, bounds, range, scalar, vector, port_type, registered, signal_type, closed, port_behind, port, next_port, port_clause, entity_head, ending, entity, signal, declarations}
 use Rattle.source_meaning.specs.declared.statement.DesignFile.{DesignFile}
 use Rattle.source_meaning.specs.declared.symbol_table.Role.{Role}
 use Rattle.source_meaning.specs.declared.symbol_table.Symbol.{Symbol}
@@ -20,17 +24,17 @@ use Rattle.source_meaning.specs.Symbols.{role_of_mode, role_of_word, symbols_nam
 use Rattle.vbe_text.specs.Source.{SourceTree, source_view}
 use Rattle.vbe_text.specs.Vbe.{architecture, source}
 use Rattle.vbe_io.specs.Text.{IsWritten}
-use Rattle.vbe_words.proofs.Cut.{AreNamed, named_in}
-use Rattle.vbe_words.proofs.Saying.{Every, every_append, words_of, Says, says_then, says_behind, says_or, says_nothing, says_list, says_name}
+use Rattle.vbe_words.proofs.Cut.{IsShortWord, AreNamed, named_in}
+use Rattle.vbe_words.proofs.Saying.{Every, every_append, words_of, Says, says_then, says_behind, says_or, says_nothing, says_list, says_name, says_number}
 
 -- ---- names
 
 abbrev pub IsNewWord : NewName → Type 0
-IsNewWord n = IsIdentifier n.text
+IsNewWord n = IsShortWord n.text
 
-says_identifier : Says identifier IsIdentifier
+says_identifier : Says identifier IsShortWord
 unfolding identifier
-says_identifier = says_then (says_name (λ _. plain)) (λ t h. says_nothing IsIdentifier (name_of t) h)
+says_identifier = says_then (says_name (λ _. plain)) (λ t h. says_nothing IsShortWord (name_of t) h)
 
 says_declared : (line : ℕ) → Says (declared line) IsNewWord
 unfolding declared
@@ -63,16 +67,80 @@ says_names : (w : Keyword) → Says (names w) AreNewWords
 unfolding names
 says_names w = says_or (says_led w) says_own
 
+-- ---- types
+
+abbrev pub IsSmall : ℕ → Type 0
+IsSmall n = n < 2 ^ 32
+
+-- the bounds of a range have 32 bits
+abbrev pub IsSmallRange : Option Range → Type 0
+IsSmallRange None = Unit {0}
+IsSmallRange (Some r) = IsSmall r.left × IsSmall r.right
+
+says_a_number : Says number IsSmall
+unfolding number
+says_a_number = says_then (says_number (λ _. plain)) (λ t h. says_nothing IsSmall (number_of t) h)
+
+abbrev AreSmallBounds : ℕ × Bool × ℕ → Type 0
+AreSmallBounds b = IsSmall b.0 × IsSmall b.2
+
+says_bounds : Says bounds AreSmallBounds
+unfolding bounds
+says_bounds =
+    says_then says_a_number (λ left h. says_behind (λ falls. says_then says_a_number (λ right g.
+    says_nothing AreSmallBounds (left, falls, right) (h, g))))
+
+says_range : (room count : ℕ) → Says (range room count) (λ r. IsSmallRange (Some r))
+unfolding range
+says_range room count =
+    says_behind (λ t. says_then says_bounds (λ b h. says_behind (λ u.
+    says_nothing (λ (r : Range). IsSmallRange (Some r)) (record { left = b.0; falls = b.1; right = b.2; line = t.line }) h)))
+
+abbrev IsSmallType : SignalType → Type 0
+IsSmallType kind = IsSmallRange kind.range
+
+says_scalar : (w : Keyword) (kind : TypeWord) (count : ℕ) → Says (scalar w kind count) IsSmallType
+unfolding scalar
+says_scalar w kind count = says_behind (λ t. says_nothing IsSmallType (record { word = kind; line = t.line; range = None }) tt)
+
+says_vector : (w : Keyword) (kind : TypeWord) (room count : ℕ) → Says (vector w kind room count) IsSmallType
+unfolding vector
+says_vector w kind room count =
+    says_behind (λ t. says_then (says_range room count) (λ r h. says_nothing IsSmallType (record { word = kind; line = t.line; range = Some r }) h))
+
+says_port_type : (room count : ℕ) → Says (port_type room count) IsSmallType
+unfolding port_type
+says_port_type room count =
+    says_or (says_scalar word.Bit type.Bit count)
+    (says_or (says_vector word.BitVector type.BitVector room count)
+    (says_or (says_scalar word.MuxBit type.MuxBit count)
+    (says_or (says_scalar word.WorBit type.WorBit count)
+    (says_or (says_vector word.MuxVector type.MuxVector room count)
+    (says_vector word.WorVector type.WorVector room count)))))
+
+says_registered : {L : Grammar SignalType} → Says L IsSmallType → Says (registered L) IsSmallType
+unfolding registered
+says_registered {L} one = says_then one (λ kind h. says_behind (λ t. says_nothing IsSmallType kind h))
+
+says_signal_type : (room count : ℕ) → Says (signal_type room count) IsSmallType
+unfolding signal_type
+says_signal_type room count =
+    says_or (says_scalar word.Bit type.Bit count)
+    (says_or (says_vector word.BitVector type.BitVector room count)
+    (says_or (says_registered (says_scalar word.RegBit type.RegBit count))
+    (says_or (says_registered (says_vector word.RegVector type.RegVector room count))
+    (says_registered (says_vector word.RegBitVector type.RegBitVector room count)))))
+
 -- ---- ports
 
 abbrev pub IsPortWord : PortGroup → Type 0
-IsPortWord g = Every IsNewWord g.names
+IsPortWord g = Every IsNewWord g.names × IsSmallRange g.kind.range
 
 says_port_behind : (room : ℕ) (n : Names) → AreNewWords n → Says (port_behind room n) IsPortWord
 unfolding port_behind
 says_port_behind room n h =
-    says_behind (λ t. says_behind (λ m. says_behind (λ kind. says_behind (λ b.
-    says_nothing IsPortWord (record { line = n.0; names = n.1; mode = m.0; mode_line = m.1; kind = kind; bus = b }) h))))
+    says_behind (λ t. says_behind (λ m. says_then (says_port_type room (length n.1)) (λ kind g. says_behind (λ b.
+    says_nothing IsPortWord (record { line = n.0; names = n.1; mode = m.0; mode_line = m.1; kind = kind; bus = b }) (h, g)))))
 
 says_port : (room : ℕ) → Says (port room) IsPortWord
 unfolding port
@@ -95,11 +163,11 @@ says_port_clause room =
 -- ---- entities
 
 abbrev pub IsEntityWord : Entity → Type 0
-IsEntityWord e = IsIdentifier e.name × Every IsPortWord e.ports
+IsEntityWord e = IsShortWord e.name × Every IsPortWord e.ports
 
-says_head : Says entity_head IsIdentifier
+says_head : Says entity_head IsShortWord
 unfolding entity_head
-says_head = says_behind (λ t. says_then says_identifier (λ name h. says_behind (λ w. says_nothing IsIdentifier name h)))
+says_head = says_behind (λ t. says_then says_identifier (λ name h. says_behind (λ w. says_nothing IsShortWord name h)))
 
 says_ending : {A : Type 0} (P : A → Type 0) (name : List ℕ) (x : A) → P x → Says (ending name x) P
 unfolding ending
@@ -114,13 +182,13 @@ says_entity room =
 -- ---- declarations
 
 abbrev pub IsSignalWord : SignalGroup → Type 0
-IsSignalWord g = Every IsNewWord g.names
+IsSignalWord g = Every IsNewWord g.names × IsSmallRange g.kind.range
 
 says_signal : (room : ℕ) → Says (signal room) IsSignalWord
 unfolding signal
 says_signal room =
-    says_then (says_led word.Signal) (λ n h. says_behind (λ t. says_behind (λ kind. says_behind (λ u.
-    says_nothing IsSignalWord (record { line = n.0; names = n.1; kind = kind }) h))))
+    says_then (says_led word.Signal) (λ n h. says_behind (λ t. says_then (says_signal_type room (length n.1)) (λ kind g. says_behind (λ u.
+    says_nothing IsSignalWord (record { line = n.0; names = n.1; kind = kind }) (h, g)))))
 
 abbrev pub AreSignalWords : Declarations → Type 0
 AreSignalWords d = Every IsSignalWord d.signals
@@ -153,23 +221,23 @@ written_words bytes design w =
 -- ---- symbols
 
 abbrev pub IsSymbolWord : Symbol → Type 0
-IsSymbolWord s = IsIdentifier s.text
+IsSymbolWord s = IsShortWord s.text × IsSmallRange s.range
 
-named_words : (r : Role) (range : Option Range) (line : ℕ) (ns : List NewName) → Every IsNewWord ns → Every IsSymbolWord (symbols_named r range line ns)
-named_words r range line [] h = tt
-named_words r range line (n ∷ ns) h = (h.0, named_words r range line ns h.1)
+named_words : (r : Role) (range : Option Range) (line : ℕ) (ns : List NewName) → IsSmallRange range → Every IsNewWord ns → Every IsSymbolWord (symbols_named r range line ns)
+named_words r range line [] small h = tt
+named_words r range line (n ∷ ns) small h = ((h.0, small), named_words r range line ns small h.1)
 
 ports_words : (groups : List PortGroup) → Every IsPortWord groups → Every IsSymbolWord (port_symbols groups)
 ports_words [] h = tt
 ports_words (g ∷ groups) h =
     every_append IsSymbolWord (symbols_named (role_of_mode g.mode) g.kind.range g.line g.names) (port_symbols groups)
-    (named_words (role_of_mode g.mode) g.kind.range g.line g.names h.0) (ports_words groups h.1)
+    (named_words (role_of_mode g.mode) g.kind.range g.line g.names h.0.1 h.0.0) (ports_words groups h.1)
 
 signals_words : (groups : List SignalGroup) → Every IsSignalWord groups → Every IsSymbolWord (signal_symbols groups)
 signals_words [] h = tt
 signals_words (g ∷ groups) h =
     every_append IsSymbolWord (symbols_named (role_of_word g.kind.word) g.kind.range g.line g.names) (signal_symbols groups)
-    (named_words (role_of_word g.kind.word) g.kind.range g.line g.names h.0) (signals_words groups h.1)
+    (named_words (role_of_word g.kind.word) g.kind.range g.line g.names h.0.1 h.0.0) (signals_words groups h.1)
 
 pub symbols_words : (design : DesignFile) → IsSourceWord (source_view design) → Every IsSymbolWord (symbols design)
 symbols_words design h =

@@ -1,5 +1,5 @@
 -- What is read has names that can be written again.
-use Rattle.std.specs.Prelude.{◌≡◌, ◌<◌, false, ℕ, List, length}
+use Rattle.std.specs.Prelude.{◌≡◌, ◌^◌, ◌<◌, ◌≤◌, false, ℕ, List, length, IfSome}
 use Rattle.vlsi_base.specs.declared.name.Port.{Port}
 use Rattle.vlsi_base.specs.Member.{In}
 use Rattle.vlsi_base.specs.Name.{is_supply}
@@ -16,6 +16,12 @@ use Rattle.cell_pins.specs.Pins.{with_supply}
 -- The name of a machine that is read is an identifier, and an entity can declare its ports.
 abbrev pub MachineIsNamed : Type 0
 MachineIsNamed = (bytes : List ℕ) (m : Machine) → IsVbe bytes m → IsIdentifier m.name × ArePortsNamed m.ports
+
+-- The names of a machine and of its ports have at most 64 bytes, and the numbers of its ports' bits 32 bits.
+abbrev pub MachineIsShort : Type 0
+MachineIsShort =
+    (bytes : List ℕ) (m : Machine) → IsVbe bytes m
+    → (length m.name ≤ 64) × ((p : Port) → In p m.ports → (length p.name.text ≤ 64) × IfSome p.name.bit (λ k. k < 2 ^ 32))
 
 -- An entity can declare the pins of a cell that is read, with and without a machine.
 abbrev pub CellIsNamed : Type 0
@@ -36,6 +42,10 @@ PinsAreNamed = (ports : List Port) → ArePortsNamed ports → NoneIsSupply port
 -- The names of the cells that a CATAL uses are identifiers.
 abbrev pub CatalIsNamed : Type 0
 CatalIsNamed = (bytes : List ℕ) (names : List (List ℕ)) → IsCatal bytes names → (name : List ℕ) → In name names → IsIdentifier name
+
+-- And they have at most 64 bytes.
+abbrev pub CatalIsShort : Type 0
+CatalIsShort = (bytes : List ℕ) (names : List (List ℕ)) → IsCatal bytes names → (name : List ℕ) → In name names → length name ≤ 64
 
 -- Ports that an entity can declare can be those of a text in the order of names, where there are some.
 abbrev pub InOrderCanBeWritten : Type 0

@@ -1,5 +1,5 @@
 // What is read has names that can be written again.
-ghost use Rattle.vbe_words.specs.Laws.{MachineIsNamed, CellIsNamed, PinsAreNamed, CatalIsNamed, InOrderCanBeWritten, MachineCanBeWritten, CellCanBeWritten};
+ghost use Rattle.vbe_words.specs.Laws.{MachineIsNamed, MachineIsShort, CatalIsShort, CellIsNamed, PinsAreNamed, CatalIsNamed, InOrderCanBeWritten, MachineCanBeWritten, CellCanBeWritten};
 
 /// The name of a machine that is read is an identifier, and an entity can declare its ports.
 pub fn machine_is_named()
@@ -34,4 +34,11 @@ pub fn machine_can_be_written()
 /// With the two supplies, the pins of a cell that is read can be the ports of a text.
 pub fn cell_can_be_written()
     ensures { CellCanBeWritten }
+{}
+
+/// The names of what is read have at most 64 bytes: those of a machine and of its ports, whose bits have numbers of 32 bits, and
+/// those of the cells that a CATAL uses.
+pub fn names_are_short()
+    ensures machine { MachineIsShort }
+    ensures catal { CatalIsShort }
 {}

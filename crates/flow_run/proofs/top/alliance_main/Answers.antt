@@ -1,11 +1,16 @@
 use Rattle.tool_drive.specs.Outside.{outside}
-use Rattle.flow_run.proofs.Words.{line_by, headline_at, no_headline, flow_unread, boog_unread, asimut_unread, netlist_unread}
+use Rattle.flow_run.proofs.Words.{line_by, headline_at, no_headline, free_at, none_free, flow_unread, boog_unread, asimut_unread, netlist_unread}
 use Rattle.flow_run.proofs.top.alliance_main.Goals as goal
 
 pub returns-in-Ok-clause-headline : goal.returns-in-Ok-clause-headline
 returns-in-Ok-clause-headline g c =
     headline_at c.args.words.now c.in-Ok.command (outside (g.S.Shelf.seen c.args.shelf.now) (g.T.Sink.seen c.args.out.now)) (outside (g.S.Shelf.seen c.run.new.shelf) (g.T.Sink.seen c.run.new.out))
     c.run.result c.in-Ok.ensures.ok c.run.ensures.cause
+
+pub returns-in-Ok-clause-lays : goal.returns-in-Ok-clause-lays
+returns-in-Ok-clause-lays g c =
+    free_at c.args.words.now c.in-Ok.command (outside (g.S.Shelf.seen c.args.shelf.now) (g.T.Sink.seen c.args.out.now)) (outside (g.S.Shelf.seen c.run.new.shelf) (g.T.Sink.seen c.run.new.out))
+    c.run.result c.in-Ok.ensures.ok c.run.ensures.complete
 
 pub returns-in-Ok-clause-line : goal.returns-in-Ok-clause-line
 returns-in-Ok-clause-line g c lined =
@@ -21,6 +26,11 @@ pub returns-in-Err-clause-headline : goal.returns-in-Err-clause-headline
 returns-in-Err-clause-headline g c =
     no_headline c.args.words.now c.in-Err.error (outside (g.S.Shelf.seen c.args.shelf.now) (g.T.Sink.seen c.args.out.now)) (outside (g.S.Shelf.seen c.args.shelf.now) (g.T.Sink.seen c.refuse_words.new.out))
     c.refuse_words.result c.refuse_words.ensures.status
+
+pub returns-in-Err-clause-lays : goal.returns-in-Err-clause-lays
+returns-in-Err-clause-lays g c =
+    none_free c.args.words.now c.in-Err.error (outside (g.S.Shelf.seen c.args.shelf.now) (g.T.Sink.seen c.args.out.now)) (outside (g.S.Shelf.seen c.args.shelf.now) (g.T.Sink.seen c.refuse_words.new.out))
+    c.refuse_words.result c.refuse_words.ensures.status c.in-Err.ensures.usage
 
 pub returns-in-Err-clause-mapping_complete : goal.returns-in-Err-clause-mapping_complete
 returns-in-Err-clause-mapping_complete g c =

@@ -1,0 +1,20 @@
+use Rattle.std.proofs.Common.{ℕ, List, refl, sym, subst}
+use Rattle.flow_run.specs.RightLayout.{IsRightLayout}
+use Rattle.flow_run.proofs.Drawing.{drawable, right_layout}
+use Rattle.flow_run.proofs.layout.product.Goals as goal
+
+pub drawing-requires-clause-netlist : goal.drawing-requires-clause-netlist
+drawing-requires-clause-netlist c = drawable c.args.library.now c.args.machine.now c.args.netlist.now c.requires
+
+pub returns : goal.returns
+returns c =
+    let l = c.args.library.now in
+    let m = c.args.machine.now in
+    record {
+      bytes = c.in_ok-file.file;
+      name = c.in_ok-name.ensures;
+      file = refl;
+      right = subst (λ (bytes : List ℕ). IsRightLayout bytes m l c.in_ok-text.text) (sym c.in_ok-file.ensures)
+          (right_layout c.right_is_well_formed.ensures.known c.drawing_can_be_written.ensures c.written_is_read_again.ensures l m c.args.netlist.now
+          c.in_ok-sheet.sheet.figure c.in_ok-sheet.sheet.wire c.in_ok-text.text c.requires c.in_ok-sheet.ensures.figure c.in_ok-sheet.ensures.wire c.in_ok-text.ensures);
+    }

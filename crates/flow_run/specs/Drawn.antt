@@ -1,0 +1,43 @@
+-- What is drawn of a netlist.
+use Rattle.std.specs.Prelude.{◌≡◌, ℕ, ◌*◌, ◌+◌, ◌≤◌, true, List, length, ◌++◌, codes, Some}
+use Rattle.source_meaning.specs.Checks.{most_ports}
+use Rattle.machine_meaning.specs.Machine.{Machine}
+use Rattle.machine_meaning.specs.Size.{machine_size}
+use Rattle.machine_core.specs.Checked.{IsChecked}
+use Rattle.cell_model.specs.Library.{Library}
+use Rattle.cell_checks.specs.Checked.{IsChecked as HasPassed}
+use Rattle.net_core.specs.Netlist.{Netlist}
+use Rattle.net_meaning.specs.Netlist.{Netlist as Seen}
+use Rattle.net_view.specs.View.{IsSeenAs}
+use Rattle.net_view.specs.Writable.{CanBeNamed, HasShortNames}
+use Rattle.ocp_place.specs.Law.{row_of}
+use Rattle.ocp_rows.specs.Length.{half_perimeter}
+use Rattle.boog_run.specs.Boog.{IsNetlistFor}
+use Rattle.boog_run.specs.declared.netlist.TheConstants.{MOST_SIZE}
+use Rattle.tool_drive.specs.declared.tool.Product.{Product}
+use Rattle.flow_run.specs.RightLayout.{IsRightLayout}
+
+abbrev pub layout_name : List ℕ → List ℕ
+layout_name out = out ++ codes ".ap"
+
+-- A netlist for a machine, both small enough and with names that can be written, of a library whose cells may be drawn with tracks.
+pub record MayBeDrawn (l : Library) (m : Machine) (n : Netlist) : Type 0 where
+  pub netlist : IsNetlistFor l m n
+  pub checked : IsChecked m
+  pub passed : HasPassed true l
+  pub small : machine_size m ≤ MOST_SIZE
+  pub named : CanBeNamed n
+  pub short : HasShortNames n
+  pub instances : length n.instances ≤ 2 * MOST_SIZE
+  pub ports : length n.ports ≤ most_ports + 2
+
+-- how long the nets are, in one row
+abbrev pub IsLengthOf : Library → Netlist → ℕ → Type 0
+IsLengthOf l n long = (k : Seen) → IsSeenAs n k → long ≡ half_perimeter k l (row_of k)
+
+-- NAME.ap is a right layout of the machine by this library, and the report on it is printed
+pub record IsDrawnAs (out : List ℕ) (m : Machine) (l : Library) (p : Product) : Type 0 where
+  pub bytes : List ℕ
+  pub name : p.name ≡ layout_name out
+  pub file : p.file ≡ Some bytes
+  pub right : IsRightLayout bytes m l p.text

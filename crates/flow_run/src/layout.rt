@@ -1,0 +1,78 @@
+// The layout of a netlist: placed in one row, drawn with private tracks, and written.
+ghost use Rattle.std.specs.Prelude.{◌≡◌, IfOk, true};
+ghost use Rattle.cell_checks.specs.Checked.{IsChecked as HasPassed};
+ghost use Rattle.ocp_place.specs.Drawable.{IsDrawableIn};
+ghost use Rattle.route_draw.specs.Drawn.{IsDrawnInTracks};
+ghost use Rattle.flow_run.specs.Drawn.{layout_name as layout_name_of, MayBeDrawn, IsLengthOf, IsDrawnAs};
+
+use crate::report::report;
+use ap_io::{Figure, write_ap, written_is_read_again};
+use cell_checks::Library;
+use machine_core::Machine;
+use nero_tracks::{TrackError, columns_are_free, route_tracks};
+use net_core::Netlist;
+use net_view::right_is_well_formed;
+use ocp_place::{half_perimeter, track_place};
+use route_draw::{draw_tracks, drawing_can_be_written};
+use std::alloc::{AllocError, Global};
+use tool_drive::Product;
+use vlsi_base::FileName;
+
+/// What is drawn, and how long its nets are.
+#[derive(Drop)]
+struct Sheet {
+    figure: Figure,
+    wire: u128,
+}
+
+// The netlist in one row, each net on a track of its own.
+fn drawing(alloc: Global, netlist: &Netlist, library: &Library) -> Result<Sheet, AllocError>
+    requires passed { HasPassed true library.now }
+    requires netlist { IsDrawableIn library.now netlist.now }
+    ensures figure { IfOk result (λ d. IsDrawnInTracks library.now netlist.now d.figure) }
+    ensures wire { IfOk result (λ d. IsLengthOf library.now netlist.now d.wire) }
+{
+    columns_are_free();
+    let placement = track_place(alloc, netlist, library)?;
+    let tracks = match route_tracks(alloc, &placement, netlist, library) {
+        Ok(tracks) => tracks,
+        Err(TrackError::Memory) => return Err(AllocError),
+        Err(TrackError::NoColumn { .. }) => unreachable!(),
+    };
+    let figure = draw_tracks(alloc, &placement, netlist, library, &tracks)?;
+    let wire = half_perimeter(&placement, library);
+    Ok(Sheet { figure, wire })
+}
+
+fn layout_name(alloc: Global, out: &FileName) -> Result<FileName, AllocError>
+    ensures { IfOk result (λ name. name ≡ layout_name_of out.now) }
+{
+    let mut name = out.copy(alloc)?;
+    name.append(b".ap")?;
+    Ok(name)
+}
+
+/// The layout of a machine's netlist, in the file NAME.ap, and the report on it. Memory goes by the lines of the layout.
+pub(crate) fn product(
+    alloc: Global,
+    out: &FileName,
+    machine: &Machine,
+    netlist: &Netlist,
+    library: &Library,
+) -> Result<Product, AllocError>
+    requires { MayBeDrawn library.now machine.now netlist.now }
+    ensures { IfOk result (λ p. IsDrawnAs out.now machine.now library.now p) }
+{
+    right_is_well_formed();
+    drawing_can_be_written();
+    written_is_read_again();
+    let sheet = drawing(alloc, netlist, library)?;
+    let file = write_ap(alloc, &sheet.figure)?;
+    let text = report(alloc, machine, netlist, sheet.wire)?;
+    let name = layout_name(alloc, out)?;
+    Ok(Product {
+        name,
+        file: Some(file),
+        text,
+    })
+}
