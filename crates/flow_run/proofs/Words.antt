@@ -8,10 +8,11 @@ use Rattle.tool_words.specs.declared.words.WordsError.{WordsError}
 use Rattle.tool_words.specs.declared.words.WordsError.TheVariants as words
 use Rattle.tool_words.specs.declared.command.FlowCommand.{FlowCommand}
 use Rattle.tool_words.specs.declared.command.BoogCommand.{BoogCommand}
+use Rattle.tool_words.specs.declared.command.CougarCommand.{CougarCommand}
 use Rattle.tool_words.specs.Words.{is_word}
-use Rattle.tool_words.specs.Table.{Entry, library, out, patterns, netlist_library, flow, boog, asimut, tools}
+use Rattle.tool_words.specs.Table.{Entry, library, out, patterns, netlist_library, flow, boog, asimut, cougar, tools}
 use Rattle.tool_words.specs.Values.{files, values, only}
-use Rattle.tool_words.specs.Commands.{flow_with, boog_with, asimut_with, command_from, command_of, as_flow, as_boog, as_asimut, as_asimut_netlist, flow_of, boog_of, asimut_of, asimut_netlist_of, Spells}
+use Rattle.tool_words.specs.Commands.{flow_with, boog_with, asimut_with, cougar_with, command_from, command_of, as_flow, as_boog, as_asimut, as_asimut_netlist, as_cougar, flow_of, boog_of, cougar_of, asimut_of, asimut_netlist_of, Spells}
 use Rattle.tool_words.specs.Laws.{WordsAreExact}
 use Rattle.vlsi_shelf.specs.Seen.{SinkSeen}
 use Rattle.tool_drive.specs.declared.status.Status.{Status}
@@ -21,6 +22,7 @@ use Rattle.tool_drive.specs.Outside.{Outside, IsLine}
 use Rattle.tool_drive.specs.Table.{Caused, IsComplete, memory_complete}
 use Rattle.tool_run.specs.Usage.{word_of, tool_of, line_of, status_of}
 use Rattle.boog_run.specs.Boog.{boog_plan, boog_answers}
+use Rattle.cougar_run.specs.Cougar.{cougar_plan, cougar_answers}
 use Rattle.asimut_run.specs.Asimut.{asimut_plan, asimut_answers}
 use Rattle.asimut_run.specs.Netlist.{netlist_plan, netlist_answers}
 use Rattle.flow_run.specs.Flow.{flow_plan, flow_answers}
@@ -36,6 +38,10 @@ flow_word (Some c) k h = let same : command.Flow c ≡ k = cc h in subst (λ (ot
 boog_word : (x : Option BoogCommand) (k : Command) → option_map command.Boog x ≡ Some k → codes "boog" ≡ word_of k
 boog_word None k h = absurd (cc h)
 boog_word (Some c) k h = let same : command.Boog c ≡ k = cc h in subst (λ (other : Command). codes "boog" ≡ word_of other) same refl
+
+cougar_word : (x : Option CougarCommand) (k : Command) → option_map command.Cougar x ≡ Some k → codes "cougar" ≡ word_of k
+cougar_word None k h = absurd (cc h)
+cougar_word (Some c) k h = let same : command.Cougar c ≡ k = cc h in subst (λ (other : Command). codes "cougar" ≡ word_of other) same refl
 
 is_asimut : (c k : Command) → codes "asimut" ≡ word_of c → Some c ≡ Some k → codes "asimut" ≡ word_of k
 is_asimut c k w h = let same : c ≡ k = cc h in subst (λ (other : Command). codes "asimut" ≡ word_of other) same w
@@ -58,6 +64,9 @@ boog_names a k h = boog_word (boog_with (only (files a)) (only (values library.w
 asimut_names : NamesItsCommands asimut
 asimut_names a k h = asimut_word (only (files a)) (only (values patterns.word a)) (only (values netlist_library.word a)) k h
 
+cougar_names : NamesItsCommands cougar
+cougar_names a k h = cougar_word (cougar_with (only (files a)) (only (values library.word a)) (only (values out.word a))) k h
+
 abbrev Each : (Entry → Type 0) → List Entry → Type 0
 Each P [] = Unit {0}
 Each P (x ∷ xs) = P x × Each P xs
@@ -74,7 +83,7 @@ found P p (x ∷ xs) e all h = found_by P x e (find p xs) all.0 (found P p xs e 
 spelled : (words : List (List ℕ)) (k : Command) → Spells words k → tool_of words ≡ word_of k
 spelled words k h =
     ap tool_of h.words_are
-    ∙ found NamesItsCommands (λ (e : Entry). is_word e.word h.entry.word) tools h.entry (flow_names, (boog_names, (asimut_names, tt))) h.in_table h.arguments k h.command
+    ∙ found NamesItsCommands (λ (e : Entry). is_word e.word h.entry.word) tools h.entry (flow_names, (boog_names, (asimut_names, (cougar_names, tt)))) h.in_table h.arguments k h.command
 
 line_is : (words : List (List ℕ)) (s : Status) → (s ≡ status.Usage → ⊥) → line_of_tool (tool_of words) s ≡ line_of words s
 line_is words status.Usage other = absurd (other refl)
@@ -134,6 +143,14 @@ boog_unread ws words.Usage before now s is none =
 boog_unread ws words.Memory before now s is none =
     subst (λ (x : Status). IfSome (boog_of ws) (λ c. IsComplete (boog_plan c) (boog_answers c) before now x)) (sym is)
     (all_some (boog_of ws) (λ c. memory_complete (boog_plan c) (boog_answers c) before now))
+
+pub cougar_unread : (ws : List (List ℕ)) (e : WordsError) (before now : Outside) (s : Status) → s ≡ status_of e → (IsErrOf {T = Command} (Err e) words.Usage → command_of ws ≡ None)
+    → IfSome (cougar_of ws) (λ c. IsComplete (cougar_plan c) (cougar_answers c) before now s)
+cougar_unread ws words.Usage before now s is none =
+    subst (λ (o : Option Command). IfSome (as_cougar o) (λ c. IsComplete (cougar_plan c) (cougar_answers c) before now s)) (sym (none refl)) tt
+cougar_unread ws words.Memory before now s is none =
+    subst (λ (x : Status). IfSome (cougar_of ws) (λ c. IsComplete (cougar_plan c) (cougar_answers c) before now x)) (sym is)
+    (all_some (cougar_of ws) (λ c. memory_complete (cougar_plan c) (cougar_answers c) before now))
 
 pub asimut_unread : (ws : List (List ℕ)) (e : WordsError) (before now : Outside) (s : Status) → s ≡ status_of e → (IsErrOf {T = Command} (Err e) words.Usage → command_of ws ≡ None)
     → IfSome (asimut_of ws) (λ c. IsComplete (asimut_plan c) (asimut_answers c) before now s)

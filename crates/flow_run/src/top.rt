@@ -1,6 +1,6 @@
 // The top call: words, and then the tool that they ask for.
 ghost use Rattle.std.specs.Prelude.{◌≡◌, ◌⊎◌, true, IfSome, Some, None};
-ghost use Rattle.tool_words.specs.Commands.{command_of, as_flow, as_boog, as_asimut, as_asimut_netlist, flow_of, boog_of, asimut_of, asimut_netlist_of};
+ghost use Rattle.tool_words.specs.Commands.{command_of, as_flow, as_boog, as_asimut, as_asimut_netlist, as_cougar, flow_of, boog_of, asimut_of, asimut_netlist_of, cougar_of};
 ghost use Rattle.tool_drive.specs.Outside.{outside, IsLine};
 ghost use Rattle.tool_drive.specs.Status.{has_line};
 ghost use Rattle.tool_drive.specs.Lines.{line_of as line_of_tool};
@@ -9,6 +9,7 @@ ghost use Rattle.boog_run.specs.Boog.{boog_plan, boog_answers};
 ghost use Rattle.tool_run.specs.Usage.{word_of, line_of};
 ghost use Rattle.asimut_run.specs.Asimut.{asimut_plan, asimut_answers};
 ghost use Rattle.asimut_run.specs.Netlist.{netlist_plan, netlist_answers};
+ghost use Rattle.cougar_run.specs.Cougar.{cougar_plan, cougar_answers};
 ghost use Rattle.flow_run.specs.Flow.{is_fsm, flow_plan, flow_answers};
 ghost use Rattle.flow_run.specs.Causes.{IsHeadline, IsFree};
 
@@ -38,27 +39,32 @@ fn run<S: Shelf, T: Sink>(alloc: Global, command: &Command, shelf: &mut S, out: 
         (outside (S.seen shelf.old) (T.seen out.old)) (outside (S.seen shelf.new) (T.seen out.new)) result) }
     ensures netlist_complete { IfSome (as_asimut_netlist (Some command.now)) (λ c. IsComplete (netlist_plan c) (netlist_answers c)
         (outside (S.seen shelf.old) (T.seen out.old)) (outside (S.seen shelf.new) (T.seen out.new)) result) }
+    ensures extraction { IfSome (as_cougar (Some command.now)) (λ x. Caused (cougar_plan x) (cougar_answers x)
+        (outside (S.seen shelf.old) (T.seen out.old)) (outside (S.seen shelf.new) (T.seen out.new)) result) }
+    ensures extraction_complete { IfSome (as_cougar (Some command.now)) (λ x. IsComplete (cougar_plan x) (cougar_answers x)
+        (outside (S.seen shelf.old) (T.seen out.old)) (outside (S.seen shelf.new) (T.seen out.new)) result) }
     ensures line { has_line result ≡ true
         → IsLine (T.seen out.old) (T.seen out.new) (line_of_tool (word_of command.now) result) }
     ensures never_usage { result ≡ Status.Usage → ⊥ }
 {
     match command {
         Command::Flow(flow) => run_flow(alloc, flow, shelf, out),
-        Command::Boog(_) | Command::Asimut(_) | Command::AsimutNetlist(_) => {
-            run_tool(alloc, command, shelf, out)
-        }
+        Command::Boog(_) | Command::Asimut(_) | Command::AsimutNetlist(_) | Command::Cougar(_) =>
+            run_tool(alloc, command, shelf, out),
     }
 }
 
 /// Does what the words ask, over a shelf and a sink: `flow` lays the source out with the cells of the library, `boog` makes a
-/// netlist of these cells, `asimut` runs patterns on the source, or on the netlist of the library's cells.
+/// netlist of these cells, `asimut` runs patterns on the source, or on the netlist of the library's cells, `cougar` takes the
+/// netlist out of a layout of these cells.
 ///
 /// The words are taken apart first, and only then is a file read. A tool reads its files in their order, then writes its file,
 /// if it has one, and then prints its text by one put. `flow` reads SOURCE, CATAL, and the behaviour and the layout of each cell
 /// that this uses, writes the layout to NAME.ap and prints the report. `boog` reads the same files, writes the netlist to NAME.vst
 /// and prints how many cells it has. `asimut` reads SOURCE and
 /// PATTERNS, for a netlist also CATAL and the behaviour and the layout of each cell that this uses, and prints the patterns with
-/// every output filled in. A refusal prints its line by one put; if that fails the status stays as it was.
+/// every output filled in. `cougar` reads SOURCE, CATAL, and the behaviour and the layout of each cell that this uses, writes the
+/// netlist to NAME.vst and prints how many cells and nets it has. A refusal prints its line by one put; if that fails the status stays as it was.
 /// Memory for what is read and answered is taken on `alloc` and given back.
 pub fn alliance_main<S: Shelf, T: Sink>(
     alloc: Global,
@@ -106,6 +112,12 @@ pub fn alliance_main<S: Shelf, T: Sink>(
     ensures netlist { IfSome (asimut_netlist_of words.now) (λ c. Caused (netlist_plan c) (netlist_answers c)
         (outside (S.seen shelf.old) (T.seen out.old)) (outside (S.seen shelf.new) (T.seen out.new)) result) }
     ensures netlist_complete { IfSome (asimut_netlist_of words.now) (λ c. IsComplete (netlist_plan c) (netlist_answers c)
+        (outside (S.seen shelf.old) (T.seen out.old)) (outside (S.seen shelf.new) (T.seen out.new)) result) }
+
+    // The answers of cougar: each has its cause, and over told files, where nothing failed, it is what the files come to.
+    ensures extraction { IfSome (cougar_of words.now) (λ x. Caused (cougar_plan x) (cougar_answers x)
+        (outside (S.seen shelf.old) (T.seen out.old)) (outside (S.seen shelf.new) (T.seen out.new)) result) }
+    ensures extraction_complete { IfSome (cougar_of words.now) (λ x. IsComplete (cougar_plan x) (cougar_answers x)
         (outside (S.seen shelf.old) (T.seen out.old)) (outside (S.seen shelf.new) (T.seen out.new)) result) }
 
     // A refusal prints its line and nothing else, as far as memory and the sink let it.

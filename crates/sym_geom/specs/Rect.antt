@@ -20,6 +20,17 @@ pub record HasCoordinates (r : Rect) : Type 0 where
   pub x2 : IsCoordinate r.x2
   pub y2 : IsCoordinate r.y2
 
+-- what a few coordinates come to together: at most 1,000,000,000,000,000 in absolute value
+pub record IsReach (c : ℤ) : Type 0 where
+  pub low : negsuc 999999999999999 ≤ℤ c
+  pub high : c ≤ℤ pos 1000000000000000
+
+pub record HasReach (r : Rect) : Type 0 where
+  pub x1 : IsReach r.x1
+  pub y1 : IsReach r.y1
+  pub x2 : IsReach r.x2
+  pub y2 : IsReach r.y2
+
 -- two closed rectangles meet: they have a point in common, which may lie on their edges
 pub record Meet (a b : Rect) : Type 0 where
   pub left : a.x1 ≤ℤ b.x2

@@ -1,15 +1,15 @@
 // Where an instance shows the rectangles of its cell.
 ghost use Rattle.std.specs.Prelude.{◌≡◌, ◌+ℤ◌, ◌-ℤ◌, if◌then◌else◌};
-ghost use Rattle.sym_geom.specs.Rect.{IsCoordinate, HasCoordinates, turns_x, turns_y, transformed};
+ghost use Rattle.sym_geom.specs.Rect.{IsReach, HasReach, turns_x, turns_y, transformed};
 
 use crate::{Rect, Transform};
 
 /// An interval within a size, exchanged end for end where it is turned, and then moved.
 fn shown(turned: bool, low: &i64, high: &i64, size: &i64, at: &i64) -> (i64, i64)
-    requires low_fits { IsCoordinate low.now }
-    requires high_fits { IsCoordinate high.now }
-    requires size_fits { IsCoordinate size.now }
-    requires at_fits { IsCoordinate at.now }
+    requires low_fits { IsReach low.now }
+    requires high_fits { IsReach high.now }
+    requires size_fits { IsReach size.now }
+    requires at_fits { IsReach at.now }
     ensures low { result.0 ≡ (if turned then size.now -ℤ high.now else low.now) +ℤ at.now }
     ensures high { result.1 ≡ (if turned then size.now -ℤ low.now else high.now) +ℤ at.now }
 {
@@ -23,11 +23,11 @@ fn shown(turned: bool, low: &i64, high: &i64, size: &i64, at: &i64) -> (i64, i64
 /// A rectangle of a cell as an instance of it shows it: turned within the box of width `w` and height `h`, whose lower
 /// left corner then lies at `x`, `y`. Takes no memory.
 pub fn transform(t: Transform, r: Rect, w: i64, h: i64, x: i64, y: i64) -> Rect
-    requires r_fits { HasCoordinates r }
-    requires w_fits { IsCoordinate w }
-    requires h_fits { IsCoordinate h }
-    requires x_fits { IsCoordinate x }
-    requires y_fits { IsCoordinate y }
+    requires r_fits { HasReach r }
+    requires w_fits { IsReach w }
+    requires h_fits { IsReach h }
+    requires x_fits { IsReach x }
+    requires y_fits { IsReach y }
     ensures { result ≡ transformed t r w h x y }
 {
     let across = shown(is_turned_x(t), &r.x1, &r.x2, &w, &x);

@@ -79,6 +79,20 @@ impl Shape {
         self.name.as_ref()
     }
 
+    /// The instance that it belongs to; none where it is drawn. Takes no memory.
+    pub fn owner(&self) -> Option<&Text>
+        ensures { option_copied result ≡ self.now.owner }
+    {
+        self.owner.as_ref()
+    }
+
+    /// The number of the line that gives it, from 0. Takes no memory.
+    pub fn line(&self) -> u32
+        ensures { result ≡ self.now.line }
+    {
+        self.line
+    }
+
     /// Its metal. Takes no memory.
     pub fn metal(&self) -> u8
         ensures { result ≡ self.now.metal }

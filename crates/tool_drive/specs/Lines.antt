@@ -51,6 +51,7 @@ file_text OutFault name = []
 abbrev pub verdict_text : Verdict → List ℕ
 verdict_text (verdict.Differs label name) = codes "differs " ++ (label ++ (codes " " ++ name_text name))
 verdict_text (verdict.NoBehaviour cell) = codes "no behaviour " ++ cell
+verdict_text (verdict.Shorted a b) = codes "shorted " ++ (name_text a ++ (codes " " ++ name_text b))
 
 -- What a refusal says behind the tool's word. Wrong words have a line of their own; what has no line says nothing.
 abbrev pub refusal_text : Status → List ℕ

@@ -81,6 +81,11 @@ fn verdict(alloc: Global, out: &mut FileBytes, verdict: &Verdict) -> Result<(), 
             spaced_name(alloc, out, name)
         }
         Verdict::NoBehaviour(cell) => with_name(out, b"no behaviour ", cell.as_bytes()),
+        Verdict::Shorted { a, b } => {
+            out.append(b"shorted ")?;
+            name(alloc, out, a)?;
+            spaced_name(alloc, out, b)
+        }
     }
 }
 

@@ -34,12 +34,14 @@ pub enum Verdict {
     Differs { label: Text, name: Name },
     /// The name of an instance's cell, where nothing is known of the cell.
     NoBehaviour(Text),
+    /// Two ports of a layout that are joined.
+    Shorted { a: Name, b: Name },
 }
 
 /// How a call ends. As they are built so far, `flow` answers `Accepted`, `Usage`, `File`, `Memory` and `Beyond`; `boog`
 /// `Accepted`, `Usage`, `Source`, `Library`, `NoCover`, `File`, `Memory` and `Limit`; `asimut` `Accepted`, `Usage`, `Source`,
-/// `File`, `Memory`, `Limit` and `No`, and on a netlist `Library` too. The driver itself answers `File`, `Memory` and the limit
-/// file; the other refusals are the tools'.
+/// `File`, `Memory`, `Limit` and `No`, and on a netlist `Library` too; `cougar` `Accepted`, `Usage`, `Source`, `Library`, `File`,
+/// `Memory`, `Limit` and `No`. The driver itself answers `File`, `Memory` and the limit file; the other refusals are the tools'.
 #[derive(Drop)]
 pub enum Status {
     /// What was asked is done, and printed.

@@ -15,12 +15,14 @@ word_of (command.Flow c) = codes "flow"
 word_of (command.Boog c) = codes "boog"
 word_of (command.Asimut c) = codes "asimut"
 word_of (command.AsimutNetlist c) = codes "asimut"
+word_of (command.Cougar c) = codes "cougar"
 
 abbrev pub is_flow : Command → Bool
 is_flow (command.Flow c) = true
 is_flow (command.Boog c) = false
 is_flow (command.Asimut c) = false
 is_flow (command.AsimutNetlist c) = false
+is_flow (command.Cougar c) = false
 
 -- the word that stands first
 abbrev pub tool_of : List (List ℕ) → List ℕ

@@ -1,7 +1,7 @@
 // The tools beside `flow`, each by the driver.
 ghost use Rattle.std.specs.Prelude.{◌≡◌, Some, true, false, IfSome};
 ghost use Rattle.vlsi_shelf.specs.Seen.{ShelfSeen};
-ghost use Rattle.tool_words.specs.Commands.{as_boog, as_asimut, as_asimut_netlist};
+ghost use Rattle.tool_words.specs.Commands.{as_boog, as_asimut, as_asimut_netlist, as_cougar};
 ghost use Rattle.boog_run.specs.Boog.{boog_plan, boog_answers};
 ghost use Rattle.tool_drive.specs.Outside.{outside, IsLine};
 ghost use Rattle.tool_drive.specs.Status.{has_line};
@@ -9,10 +9,12 @@ ghost use Rattle.tool_drive.specs.Lines.{line_of};
 ghost use Rattle.tool_drive.specs.Table.{Caused, IsComplete};
 ghost use Rattle.asimut_run.specs.Asimut.{asimut_plan, asimut_answers};
 ghost use Rattle.asimut_run.specs.Netlist.{netlist_plan, netlist_answers};
+ghost use Rattle.cougar_run.specs.Cougar.{cougar_plan, cougar_answers};
 ghost use Rattle.tool_run.specs.Usage.{is_flow, word_of};
 
 use asimut_run::{Asimut, AsimutNetlist};
 use boog_run::Boog;
+use cougar_run::Cougar;
 use std::alloc::Global;
 use tool_drive::{Status, drive};
 use tool_words::Command;
@@ -22,7 +24,7 @@ use vlsi_shelf::{Shelf, Sink};
 pub fn run_tool<S: Shelf, T: Sink>(alloc: Global, c: &Command, shelf: &mut S, out: &mut T) -> Status
     requires { is_flow c.now ≡ false }
     // Every status has its cause and leaves the files that its row says, and over told files, where nothing failed, it is what the
-    // files come to: of boog, and of asimut on a source and on a netlist.
+    // files come to: of boog, of asimut on a source and on a netlist, and of cougar.
     ensures mapping { IfSome (as_boog (Some c.now)) (λ b. Caused (boog_plan b) (boog_answers b)
         (outside (S.seen shelf.old) (T.seen out.old)) (outside (S.seen shelf.new) (T.seen out.new)) result) }
     ensures mapping_complete { IfSome (as_boog (Some c.now)) (λ b. IsComplete (boog_plan b) (boog_answers b)
@@ -34,6 +36,10 @@ pub fn run_tool<S: Shelf, T: Sink>(alloc: Global, c: &Command, shelf: &mut S, ou
     ensures netlist { IfSome (as_asimut_netlist (Some c.now)) (λ a. Caused (netlist_plan a) (netlist_answers a)
         (outside (S.seen shelf.old) (T.seen out.old)) (outside (S.seen shelf.new) (T.seen out.new)) result) }
     ensures netlist_complete { IfSome (as_asimut_netlist (Some c.now)) (λ a. IsComplete (netlist_plan a) (netlist_answers a)
+        (outside (S.seen shelf.old) (T.seen out.old)) (outside (S.seen shelf.new) (T.seen out.new)) result) }
+    ensures extraction { IfSome (as_cougar (Some c.now)) (λ x. Caused (cougar_plan x) (cougar_answers x)
+        (outside (S.seen shelf.old) (T.seen out.old)) (outside (S.seen shelf.new) (T.seen out.new)) result) }
+    ensures extraction_complete { IfSome (as_cougar (Some c.now)) (λ x. IsComplete (cougar_plan x) (cougar_answers x)
         (outside (S.seen shelf.old) (T.seen out.old)) (outside (S.seen shelf.new) (T.seen out.new)) result) }
 
     // A refusal prints its line and nothing else, as far as memory and the sink let it.
@@ -53,6 +59,10 @@ pub fn run_tool<S: Shelf, T: Sink>(alloc: Global, c: &Command, shelf: &mut S, ou
         Command::AsimutNetlist(command) => {
             let tool = AsimutNetlist { command };
             drive(alloc, b"asimut", &tool, shelf, out)
+        }
+        Command::Cougar(command) => {
+            let tool = Cougar { command };
+            drive(alloc, b"cougar", &tool, shelf, out)
         }
     }
 }

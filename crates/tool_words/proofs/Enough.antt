@@ -5,9 +5,9 @@ use Rattle.std.specs.List.{find, list_all}
 use Rattle.tool_words.specs.declared.arguments.Argument.{Argument}
 use Rattle.tool_words.specs.declared.command.Command.TheVariants as command
 use Rattle.tool_words.specs.Words.{is_word}
-use Rattle.tool_words.specs.Table.{Entry, Setting, flow, boog, asimut, library, out, tracks, patterns, netlist_library, tools}
+use Rattle.tool_words.specs.Table.{Entry, Setting, flow, boog, asimut, cougar, library, out, tracks, patterns, netlist_library, tools}
 use Rattle.tool_words.specs.Values.{files, values, only, has_any_ending, setting_fits, is_source, fits}
-use Rattle.tool_words.specs.Commands.{flow_with, boog_with, asimut_with, command_from}
+use Rattle.tool_words.specs.Commands.{flow_with, boog_with, asimut_with, cougar_with, command_from}
 use Rattle.tool_words.specs.Laws.{FittingIsEnough}
 use Rattle.tool_words.proofs.Spelling.{both}
 
@@ -73,8 +73,18 @@ asimut_enough a fit =
     let p = both (setting_fits a patterns) (list_all (setting_fits a) (netlist_library ∷ [])) f.1 in
     asimut_from _ _ _ _ _ (has_some asimut.endings (only (files a)) f.0).1 (value_of_one a patterns _ p.0).1
 
+cougar_from : (s l o : Option (List ℕ)) (x y z : List ℕ) → s ≡ Some x → l ≡ Some y → o ≡ Some z → IsSome (option_map command.Cougar (cougar_with s l o))
+cougar_from s l o x y z a b c = rw (a, b, c) refl
+
+cougar_enough : Enough cougar
+cougar_enough a fit =
+    let f = both (is_source cougar.endings (files a)) (list_all (setting_fits a) cougar.settings) fit in
+    let l = both (setting_fits a library) (list_all (setting_fits a) (out ∷ [])) f.1 in
+    let o = both (setting_fits a out) true l.1 in
+    cougar_from _ _ _ _ _ _ (has_some cougar.endings (only (files a)) f.0).1 (value_of_one a library _ l.0).1 (value_of_one a out _ o.0).1
+
 each : Each Enough tools
-each = (flow_enough, (boog_enough, (asimut_enough, tt)))
+each = (flow_enough, (boog_enough, (asimut_enough, (cougar_enough, tt))))
 
 pub enough : FittingIsEnough
 enough e arguments h fit = found Enough (λ (x : Entry). is_word x.word e.word) tools e each h arguments fit

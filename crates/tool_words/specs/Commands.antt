@@ -8,6 +8,7 @@ use Rattle.tool_words.specs.declared.command.FlowCommand.{FlowCommand}
 use Rattle.tool_words.specs.declared.command.BoogCommand.{BoogCommand}
 use Rattle.tool_words.specs.declared.command.AsimutCommand.{AsimutCommand}
 use Rattle.tool_words.specs.declared.command.AsimutNetlistCommand.{AsimutNetlistCommand}
+use Rattle.tool_words.specs.declared.command.CougarCommand.{CougarCommand}
 use Rattle.tool_words.specs.declared.command.Command.{Command}
 use Rattle.tool_words.specs.declared.command.Command.TheVariants as command
 use Rattle.tool_words.specs.Table.{Entry, library, out, patterns, netlist_library, tool_of}
@@ -31,12 +32,18 @@ asimut_with (Some source) (Some patterns) (Some library) =
     Some (command.AsimutNetlist (record { source = source; patterns = patterns; library = library }))
 asimut_with _ _ _ = None
 
+abbrev pub cougar_with : Option (List ℕ) → Option (List ℕ) → Option (List ℕ) → Option CougarCommand
+cougar_with (Some source) (Some library) (Some out) = Some (record { source = source; library = library; out = out })
+cougar_with _ _ _ = None
+
 abbrev pub command_from : Tool → List Argument → Option Command
 command_from tool.Flow a =
     option_map command.Flow (flow_with (only (files a)) (only (values library.word a)) (only (values out.word a)))
 command_from tool.Boog a =
     option_map command.Boog (boog_with (only (files a)) (only (values library.word a)) (only (values out.word a)))
 command_from tool.Asimut a = asimut_with (only (files a)) (only (values patterns.word a)) (only (values netlist_library.word a))
+command_from tool.Cougar a =
+    option_map command.Cougar (cougar_with (only (files a)) (only (values library.word a)) (only (values out.word a)))
 
 -- ---- all tools
 
@@ -78,6 +85,10 @@ abbrev pub as_asimut_netlist : Option Command → Option AsimutNetlistCommand
 as_asimut_netlist (Some (command.AsimutNetlist c)) = Some c
 as_asimut_netlist _ = None
 
+abbrev pub as_cougar : Option Command → Option CougarCommand
+as_cougar (Some (command.Cougar c)) = Some c
+as_cougar _ = None
+
 -- the command of `flow` that they spell
 abbrev pub flow_of : List (List ℕ) → Option FlowCommand
 flow_of words = as_flow (command_of words)
@@ -92,3 +103,7 @@ asimut_of words = as_asimut (command_of words)
 
 abbrev pub asimut_netlist_of : List (List ℕ) → Option AsimutNetlistCommand
 asimut_netlist_of words = as_asimut_netlist (command_of words)
+
+-- the command of `cougar` that they spell
+abbrev pub cougar_of : List (List ℕ) → Option CougarCommand
+cougar_of words = as_cougar (command_of words)

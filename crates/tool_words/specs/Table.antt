@@ -69,8 +69,11 @@ asimut = record {
   settings = patterns ∷ netlist_library ∷ [];
 }
 
+abbrev pub cougar : Entry
+cougar = record { tool = tool.Cougar; word = codes "cougar"; endings = codes ".ap" ∷ []; settings = library ∷ out ∷ [] }
+
 abbrev pub tools : List Entry
-tools = flow ∷ boog ∷ asimut ∷ []
+tools = flow ∷ boog ∷ asimut ∷ cougar ∷ []
 
 -- the tool with this word
 abbrev pub tool_of : List ℕ → Option Entry

@@ -53,6 +53,17 @@ pub struct AsimutNetlistCommand {
     pub library: FileName,
 }
 
+/// What `cougar` is asked to do: to take the netlist out of a layout of the library's cells.
+#[derive(Drop)]
+pub struct CougarCommand {
+    /// The layout's file, whose name ends in `.ap`.
+    pub source: FileName,
+    /// The folder of the library.
+    pub library: FileName,
+    /// The name of the netlist, without `.vst`.
+    pub out: FileName,
+}
+
 /// What the words of a command ask for.
 #[derive(Drop)]
 pub enum Command {
@@ -60,6 +71,7 @@ pub enum Command {
     Boog(BoogCommand),
     Asimut(AsimutCommand),
     AsimutNetlist(AsimutNetlistCommand),
+    Cougar(CougarCommand),
 }
 
 fn flow(alloc: Global, arguments: &[Argument]) -> Result<Command, WordsError>
@@ -117,6 +129,23 @@ fn asimut(alloc: Global, arguments: &[Argument]) -> Result<Command, WordsError>
     }
 }
 
+fn cougar(alloc: Global, arguments: &[Argument]) -> Result<Command, WordsError>
+    ensures ok { IfOk result (λ command. command_from Tool.Cougar arguments.now ≡ Some command) }
+    ensures usage { IsErrOf result Usage → command_from Tool.Cougar arguments.now ≡ None }
+{
+    let source = only(arguments, Wanted::File);
+    let library = only(arguments, Wanted::Value(LIBRARY.word));
+    let out = only(arguments, Wanted::Value(OUT.word));
+    let (Some(source), Some(library), Some(out)) = (source, library, out) else {
+        return Err(WordsError::Usage);
+    };
+    Ok(Command::Cougar(CougarCommand {
+        source: FileName::from_bytes(alloc, source)?,
+        library: FileName::from_bytes(alloc, library)?,
+        out: FileName::from_bytes(alloc, out)?,
+    }))
+}
+
 // The command of a tool, from its arguments.
 fn read_command(alloc: Global, entry: Entry, arguments: &[Argument]) -> Result<Command, WordsError>
     ensures ok { IfOk result (λ command. command_among (entry_view entry) arguments.now ≡ Some command) }
@@ -129,6 +158,7 @@ fn read_command(alloc: Global, entry: Entry, arguments: &[Argument]) -> Result<C
         Tool::Flow => flow(alloc, arguments),
         Tool::Boog => boog(alloc, arguments),
         Tool::Asimut => asimut(alloc, arguments),
+        Tool::Cougar => cougar(alloc, arguments),
     }
 }
 

@@ -11,6 +11,7 @@ pub enum Tool {
     Flow,
     Boog,
     Asimut,
+    Cougar,
 }
 
 /// What an option's value is.
@@ -109,6 +110,12 @@ const TOOLS: &[Entry] = &[
         word: "asimut",
         endings: &[".vbe", ".vst"],
         settings: &[PATTERNS, NETLIST_LIBRARY],
+    },
+    Entry {
+        tool: Tool::Cougar,
+        word: "cougar",
+        endings: &[".ap"],
+        settings: &[LIBRARY, OUT],
     },
 ];
 

@@ -1,0 +1,16 @@
+pub mod Instances
+pub mod Drawn
+pub mod Outputs
+pub mod Shapes
+pub mod Classes
+pub mod Directed
+pub mod Extracted
+pub mod LeastPairs
+pub mod Shorted
+pub mod Linking
+pub mod Adding
+pub mod Reaches
+pub mod Distinct
+pub mod Given
+pub mod Wholes
+pub mod Steps

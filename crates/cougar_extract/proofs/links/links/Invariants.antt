@@ -1,0 +1,8 @@
+use Rattle.cougar_extract.specs.Stages.{AreLinks, AreBelow}
+use Rattle.cougar_extract.proofs.links.links.Given as goal
+
+abbrev pub invariant-loop-k : goal.invariant-loop-k
+invariant-loop-k l = record {
+  are : AreLinks l.drawing.shapes.items l.numbers l.drawing.gives.items l.k l.links.items;
+  below : AreBelow l.links.items l.count;
+}

@@ -1,0 +1,4 @@
+pub mod Extracted
+pub mod Refused
+pub mod Stages
+pub mod Laws

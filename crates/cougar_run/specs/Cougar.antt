@@ -1,0 +1,134 @@
+-- What `cougar` reads and answers.
+use Rattle.std.specs.Prelude.{◌≡◌, ℕ, ◌-◌, Bool, ◌&&◌, true, false, List, [], ◌∷◌, ◌++◌, filter, length, get_or, codes, is_none, None, Some, Result, Ok, Err}
+use Rattle.std.specs.Fmt.{decimal}
+use Rattle.vlsi_base.specs.declared.limits.TheConstants.{MOST_NETLIST_BYTES}
+use Rattle.vlsi_base.specs.declared.fault.FaultKind.{FaultKind}
+use Rattle.vlsi_base.specs.declared.fault.FaultKind.TheVariants as kind
+use Rattle.vlsi_base.specs.declared.name.Name.{Name}
+use Rattle.vlsi_base.specs.declared.name.Port.{Port}
+use Rattle.vlsi_base.specs.Name.{is_supply}
+use Rattle.vlsi_base.specs.Names.{scalar}
+use Rattle.ap_io.specs.declared.figure.Figure.{Figure}
+use Rattle.ap_io.specs.ApText.{IsApText}
+use Rattle.ap_io.specs.Refusal.{IsApRefusal}
+use Rattle.catal.specs.Cells.{cells_in}
+use Rattle.cell_model.specs.Library.{Library}
+use Rattle.cell_lib.specs.declared.error.LibError.{LibError}
+use Rattle.cell_lib.specs.Files.{catal_name, cell_files}
+use Rattle.cell_lib.specs.Library.{IsLibraryOf, IsRefusedLibrary, status_of}
+use Rattle.cell_model.specs.Layout.{instances_of, shapes}
+use Rattle.cell_pins.specs.Table.{IsTableOf}
+use Rattle.net_core.specs.declared.pins.ModelPins.{ModelPins}
+use Rattle.net_core.specs.Netlist.{Netlist}
+use Rattle.net_core.specs.Checks.{Fits, IsPinTable}
+use Rattle.net_view.specs.Writable.{CanBeNamed, IsBadMap, PinsCanBeWritten}
+use Rattle.spell_theory.specs.Layout.{text_of}
+use Rattle.vst_write.specs.declared.error.WriteError.{WriteError}
+use Rattle.vst_write.specs.declared.error.WriteError.TheVariants as writing
+use Rattle.vst_write.specs.Written.{layout}
+use Rattle.cougar_extract.specs.declared.error.Step.{Step}
+use Rattle.cougar_extract.specs.declared.error.ExtractError.{ExtractError}
+use Rattle.cougar_extract.specs.declared.error.ExtractError.TheVariants as extracting
+use Rattle.cougar_extract.specs.Extracted.{AreKnown, IsExtracted}
+use Rattle.cougar_extract.specs.Refused.{IsFirstUnknown, NoShort, IsLeastShort, IsChainOf}
+use Rattle.tool_words.specs.declared.command.CougarCommand.{CougarCommand}
+use Rattle.tool_drive.specs.declared.status.Status.{Status}
+use Rattle.tool_drive.specs.declared.status.Status.TheVariants as status
+use Rattle.tool_drive.specs.declared.status.Verdict.TheVariants.{Shorted}
+use Rattle.tool_drive.specs.declared.tool.Over.TheVariants.{Refused}
+use Rattle.tool_drive.specs.declared.tool.Wanted.{Wanted}
+use Rattle.tool_drive.specs.declared.tool.Product.{Product}
+use Rattle.tool_drive.specs.declared.tool.Refusal.{Refusal}
+use Rattle.tool_drive.specs.Plan.{Plan, Inputs, limited}
+use Rattle.tool_drive.specs.Refusals.{OfFile}
+
+-- a layout's file
+abbrev pub layout_file : List ℕ → Wanted
+layout_file name = record { name = name; most = MOST_NETLIST_BYTES; over = Refused }
+
+-- SOURCE, then CATAL, and then the files of the cells that CATAL uses
+abbrev pub cougar_plan : CougarCommand → Plan
+cougar_plan c = record {
+  first = layout_file c.source ∷ limited (catal_name c.library) ∷ [];
+  more = λ read. cell_files c.library (cells_in (get_or read 1 []));
+}
+
+abbrev pub netlist_name : List ℕ → List ℕ
+netlist_name out = out ++ codes ".vst"
+
+-- a port is vdd or vss
+abbrev pub is_supply_port : Port → Bool
+is_supply_port p = is_none p.name.bit && is_supply p.name.text
+
+-- How many classes there are but for those of the ports vdd and vss: since no two ports are in one class, each of these takes one
+-- away.
+abbrev pub net_count : Netlist → ℕ
+net_count n = n.count - length (filter is_supply_port n.ports)
+
+-- a word and a number
+abbrev pub line_text : List ℕ → ℕ → List ℕ
+line_text word k = word ++ (decimal k ++ 10 ∷ [])
+
+-- how many instances a netlist has, and how many classes without those of the supplies
+abbrev pub report : Netlist → List ℕ
+report n = line_text (codes "cells ") (length n.instances) ++ line_text (codes "nets ") (net_count n)
+
+-- the text of the netlist, by a table of the pins of all cells, is that of NAME.vst, and the report is printed
+pub record IsWrittenAs (out : List ℕ) (l : Library) (n : Netlist) (p : Product) : Type 0 where
+  pub table : List ModelPins
+  pub pins : IsTableOf l true table
+  pub sound : IsPinTable table
+  pub name : p.name ≡ netlist_name out
+  pub file : p.file ≡ Some (text_of (layout n table))
+  pub text : p.text ≡ report n
+
+-- Library and layout are read, no two ports of the layout are joined, and the netlist that it gives can be written and is.
+pub record IsExtraction (c : CougarCommand) (source catal : List ℕ) (cells : List (List ℕ)) (p : Product) : Type 0 where
+  pub l : Library
+  pub library : IsLibraryOf false catal cells l
+  pub f : Figure
+  pub figure : IsApText source f
+  pub n : Netlist
+  pub extracted : IsExtracted f l n
+  pub apart : NoShort f.items l
+  pub named : CanBeNamed n
+  pub written : IsWrittenAs c.out l n p
+
+-- a fault of the whole file stands on line 1
+abbrev pub fault_of : CougarCommand → FaultKind → List Name → Status
+fault_of c k names = status.Source c.source (record { line = 1; kind = k; names = names })
+
+-- What is refused, in this order: the library, the layout, an instance of a cell that the library hasn't, joined ports, and names
+-- that can't be written.
+pub data IsRefused (c : CougarCommand) (source catal : List ℕ) (cells : List (List ℕ)) (s : Status) : Type 0 where
+  no_library : (e : LibError) → IsRefusedLibrary false catal cells e → s ≡ status_of e → IsRefused c source catal cells s
+  bad_layout : (l : Library) → IsLibraryOf false catal cells l → OfFile c.source (IsApRefusal source) s → IsRefused c source catal cells s
+  unknown_cell : (l : Library) (f : Figure) (model : List ℕ) → IsLibraryOf false catal cells l → IsApText source f
+      → IsFirstUnknown (instances_of f.items) l model → s ≡ fault_of c kind.UnknownCell (scalar model ∷ []) → IsRefused c source catal cells s
+  shorted : (l : Library) (f : Figure) (a b : Name) (chain : List Step) → IsLibraryOf false catal cells l → IsApText source f
+      → AreKnown (instances_of f.items) l → IsLeastShort f.items l a b → IsChainOf (shapes f.items l) a b chain
+      → s ≡ status.No (Shorted a b) → IsRefused c source catal cells s
+  bad_map : (l : Library) (f : Figure) (n : Netlist) → IsLibraryOf false catal cells l → IsApText source f → IsExtracted f l n
+      → NoShort f.items l → IsBadMap n → s ≡ fault_of c kind.BadMap [] → IsRefused c source catal cells s
+
+-- the netlist is written and the report is printed, or one of these refusals
+abbrev pub Extracts : CougarCommand → List ℕ → List ℕ → List (List ℕ) → Result Product Refusal → Type 0
+Extracts c source catal cells (Ok p) = IsExtraction c source catal cells p
+Extracts c source catal cells (Err r) = (r.part ≡ None) × IsRefused c source catal cells r.status
+
+abbrev pub cougar_answers : CougarCommand → Inputs → Result Product Refusal → Type 0
+cougar_answers c i r = Extracts c (get_or i.first 0 []) (get_or i.first 1 []) i.more r
+
+-- nothing of its pins stands against the netlist's being written
+abbrev pub IsWritable : Library → Netlist → Type 0
+IsWritable l n = (table : List ModelPins) → IsTableOf l true table → IsPinTable table → Fits n table × PinsCanBeWritten table
+
+-- how a refusal of extraction is told, and how one of writing is
+abbrev pub IsToldOf : CougarCommand → ExtractError → Status → Type 0
+IsToldOf c extracting.Memory s = ⊥
+IsToldOf c (extracting.UnknownCell model) s = s ≡ fault_of c kind.UnknownCell (scalar model ∷ [])
+IsToldOf c (extracting.Shorted a b chain) s = s ≡ status.No (Shorted a b)
+
+abbrev pub IsWriteToldOf : CougarCommand → WriteError → Status → Type 0
+IsWriteToldOf c writing.Memory s = ⊥
+IsWriteToldOf c writing.BadMap s = s ≡ fault_of c kind.BadMap []

@@ -1,0 +1,2 @@
+pub mod Cougar
+pub mod Laws
