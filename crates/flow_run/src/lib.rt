@@ -1,15 +1,9 @@
 //! The top call of the program: words in, files and a report out, a status with its cause.
 //!
 //! `alliance_main` is what the program does. What `flow` reads and answers stands in `specs/Flow.antt`, and what its layout is,
-<<<<<<< ours
 //! in `specs/Causes.antt` and `specs/RightLayout.antt`; when each status comes and what it leaves, for all tools, in
-//! `specs/Table.antt` of `tool_drive`; the words of a command, in `specs/` of `tool_words`. What `boog` and `asimut` read and answer
-//! stands in `boog_run` and `asimut_run`.
-=======
-//! in `specs/Causes.antt`; when each status comes and what it leaves, for all tools, in `specs/Table.antt` of `tool_drive`; the
-//! texts that are read, in `specs/Forms.antt`; the words of a command, in `specs/` of `tool_words`. What `boog`, `asimut` and `cougar` read
-//! and answer stands in `boog_run`, `asimut_run` and `cougar_run`.
->>>>>>> theirs
+//! `specs/Table.antt` of `tool_drive`; the words of a command, in `specs/` of `tool_words`. What `boog`, `cougar` and `asimut` read
+//! and answer stands in `boog_run`, `cougar_run` and `asimut_run`.
 #![tactic(auto)]
 
 mod flow;

@@ -1,9 +1,5 @@
 use Rattle.tool_drive.specs.Outside.{outside}
-<<<<<<< ours
-use Rattle.flow_run.proofs.Words.{line_by, headline_at, no_headline, free_at, none_free, flow_unread, boog_unread, asimut_unread, netlist_unread}
-=======
-use Rattle.flow_run.proofs.Words.{line_by, headline_at, no_headline, flow_unread, boog_unread, cougar_unread, asimut_unread, netlist_unread}
->>>>>>> theirs
+use Rattle.flow_run.proofs.Words.{line_by, headline_at, no_headline, free_at, none_free, flow_unread, boog_unread, cougar_unread, asimut_unread, netlist_unread}
 use Rattle.flow_run.proofs.top.alliance_main.Goals as goal
 
 pub returns-in-Ok-clause-headline : goal.returns-in-Ok-clause-headline
