@@ -8,4 +8,4 @@ mod route;
 
 pub use error::TrackError;
 pub use law::{columns_are_free, nets_are_counted, nets_are_numbered};
-pub use route::{Track, route_tracks};
+pub use route::{Track, net_pins, route_tracks};
