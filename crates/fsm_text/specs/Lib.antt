@@ -1,0 +1,6 @@
+pub mod Written
+pub mod Fsm
+pub mod FsmReading
+pub mod Chains
+pub mod Texts
+pub mod Laws

@@ -1,0 +1,17 @@
+//! Texts of state machines: their tokens are read into what is written there, or refused at the first token that can't stand.
+#![tactic(auto)]
+
+mod chains;
+mod file;
+mod law;
+mod machine;
+mod names;
+mod processes;
+mod statements;
+
+pub use file::{
+    Body, Branches, ClockProcess, Parts, StateFile, StateSignals, StateType, Statement,
+    StepProcess,
+};
+pub use law::{each_text, never_both, one_refusal, reads_once};
+pub use machine::read_machine;
