@@ -92,14 +92,19 @@ next_state = do
   t ← one (form.Sign sign.Bar)
   used_name
 
+unfoldable pub listed_states : Grammar (List NewName)
+listed_states = do
+  first ← used_name
+  more ← list next_state
+  nothing (first ∷ more)
+
 -- states, and what is done in them
 unfoldable pub listed_branch : Grammar BodyTree → Grammar BranchTree
 listed_branch inner = do
-  first ← used_name
-  more ← list next_state
+  states ← listed_states
   t ← one (form.Sign sign.Arrow)
   body ← inner
-  nothing (record { states = first ∷ more; body = body })
+  nothing (record { states = states; body = body })
 
 unfoldable pub led_branch : Grammar BodyTree → Grammar BranchTree
 led_branch inner = do
@@ -198,19 +203,25 @@ load = do
   u ← one (form.Sign sign.Semicolon)
   nothing (into, from)
 
-unfoldable pub clock_process : ℕ → Grammar ClockTree
-clock_process room = do
-  name ← label
-  names ← process_head room
-  t ← marked (form.Keyword word.If) (λ _. opens room)
-  c ← placed (expression (room - 1))
-  u ← marked (form.Keyword word.Then) (λ _. starts)
+-- behind the condition
+unfoldable pub loading : Option (List ℕ) → Grammar (NewName × NewName)
+loading name = do
+  t ← marked (form.Keyword word.Then) (λ _. starts)
   l ← load
   v ← one (form.Keyword word.End)
   w ← one (form.Keyword word.If)
   x ← one (form.Sign sign.Semicolon)
   y ← one (form.Keyword word.End)
   z ← process_end name
+  nothing l
+
+unfoldable pub clock_process : ℕ → Grammar ClockTree
+clock_process room = do
+  name ← label
+  names ← process_head room
+  t ← marked (form.Keyword word.If) (λ _. opens room)
+  c ← placed (expression (room - 1))
+  l ← loading name
   nothing (record { sensitivity = names; condition_line = c.0; condition = c.1; target = l.0; value = l.1 })
 
 -- ---- the whole text
@@ -233,28 +244,38 @@ state_type room = do
   all ← state_names room t.line
   nothing (record { line = t.line; name = name; states = all })
 
--- two signals of the type with this name
+-- the name of the type, behind those of its signals
+unfoldable pub of_type : List ℕ → Grammar (Unit {0})
+of_type type_name = do
+  u ← one (form.Sign sign.Colon)
+  v ← marked form.Identifier (λ v. spells type_name (name_of v))
+  w ← one (form.Sign sign.Semicolon)
+  nothing tt
+
 unfoldable pub state_signals : List ℕ → Grammar StateSignals
 state_signals type_name = do
   t ← one (form.Keyword word.Signal)
   first ← declared t.line
   second ← another t.line
-  u ← one (form.Sign sign.Colon)
-  v ← marked form.Identifier (λ v. spells type_name (name_of v))
-  w ← one (form.Sign sign.Semicolon)
+  u ← of_type type_name
   nothing (record { line = t.line; first = first; second = second })
+
+unfoldable pub processes : ℕ → Grammar (StepTree × ClockTree)
+processes room = do
+  t ← one (form.Keyword word.Begin)
+  step ← step_process room
+  clock ← clock_process room
+  u ← one (form.Keyword word.End)
+  nothing (step, clock)
 
 unfoldable pub architecture : ℕ → Entity → Grammar MachineTree
 architecture room e = do
   name ← architecture_head e.name
   states ← state_type room
   signals ← state_signals states.name.text
-  t ← one (form.Keyword word.Begin)
-  step ← step_process room
-  clock ← clock_process room
-  u ← one (form.Keyword word.End)
-  v ← repeated name
-  nothing (record { entity = e; states = states; signals = signals; step = step; clock = clock })
+  both ← processes room
+  u ← repeated name
+  nothing (record { entity = e; states = states; signals = signals; step = both.0; clock = both.1 })
 
 unfoldable pub machine : ℕ → Grammar MachineTree
 machine room = do
