@@ -6,6 +6,7 @@ mod file;
 mod law;
 mod machine;
 mod names;
+mod pieces;
 mod processes;
 mod statements;
 
