@@ -65,16 +65,19 @@ abbrev pub taken : List Name → List Name → Option (List Name)
 taken before [] = Some before
 taken before (n ∷ more) = if nat_lt (times n before) CHAIN then taken (n ∷ before) more else None
 
+-- behind an assignment of these bits, with so many tokens left at its first one
+abbrev pub behind_bits : ℕ → (List Name → Option ℕ) → Option (List Name) → Option ℕ
+behind_bits left go None = Some left
+behind_bits left go (Some after) = go after
+
+abbrev pub behind_target : ℕ → List Symbol → List Name → (List Name → Option ℕ) → Option Target → Option ℕ
+behind_target left known before go None = go before
+behind_target left known before go (Some x) = behind_bits left go (taken before (counted_bits known x))
+
 -- how many tokens are left at the first assignment that is one more than a bit may have
 abbrev pub overfull : List Symbol → List Name → List PlacedToken → Option ℕ
 overfull known before [] = None
-overfull known before (t ∷ ts) = by (assigned_here (t ∷ ts)) where
-  goes : Option (List Name) → Option ℕ
-  goes None = Some (length (t ∷ ts))
-  goes (Some after) = overfull known after ts
-  by : Option Target → Option ℕ
-  by None = overfull known before ts
-  by (Some x) = goes (taken before (counted_bits known x))
+overfull known before (t ∷ ts) = behind_target (length (t ∷ ts)) known before (λ after. overfull known after ts) (assigned_here (t ∷ ts))
 
 -- it stands before only so many tokens are left
 abbrev pub passes_before : ℕ → Option ℕ → Bool

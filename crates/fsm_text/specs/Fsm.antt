@@ -76,16 +76,20 @@ last_part inner = (do
   body ← inner
   nothing (Some body)) or nothing None
 
-unfoldable pub conditional : ℕ → Grammar BodyTree → Grammar StatementTree
-conditional room inner = do
-  t ← marked (form.Keyword word.If) (λ _. opens room)
-  first ← part (room - 1) inner
-  more ← list (further_part (room - 1) inner)
+unfoldable pub behind_if : ℕ → Grammar BodyTree → Grammar StatementTree
+behind_if room inner = do
+  first ← part room inner
+  more ← list (further_part room inner)
   last ← last_part inner
   u ← one (form.Keyword word.End)
   v ← one (form.Keyword word.If)
   w ← one (form.Sign sign.Semicolon)
   nothing (chosen (parts_of first more last))
+
+unfoldable pub conditional : ℕ → Grammar BodyTree → Grammar StatementTree
+conditional room inner = do
+  t ← marked (form.Keyword word.If) (λ _. opens room)
+  behind_if (room - 1) inner
 
 unfoldable pub next_state : Grammar NewName
 next_state = do
@@ -129,16 +133,21 @@ branches inner = do
   last ← last_branch inner
   nothing (branches_of all last)
 
-unfoldable pub case_statement : ℕ → Grammar BodyTree → Grammar StatementTree
-case_statement room inner = do
-  t ← marked (form.Keyword word.Case) (λ _. opens room)
+-- for the line of the word
+unfoldable pub behind_case : ℕ → Grammar BodyTree → Grammar StatementTree
+behind_case line inner = do
   name ← used_name
   u ← one (form.Keyword word.Is)
   all ← branches inner
   v ← one (form.Keyword word.End)
   w ← one (form.Keyword word.Case)
   x ← one (form.Sign sign.Semicolon)
-  nothing (selected t.line name all)
+  nothing (selected line name all)
+
+unfoldable pub case_statement : ℕ → Grammar BodyTree → Grammar StatementTree
+case_statement room inner = do
+  t ← marked (form.Keyword word.Case) (λ _. opens room)
+  behind_case t.line inner
 
 unfoldable pub statement : ℕ → Grammar BodyTree → Grammar StatementTree
 statement room inner = assertion room or conditional room inner or case_statement room inner or assignment room

@@ -81,16 +81,20 @@ led_last_at inner here = do
 unfoldable pub last_part_at : Reader BodyTree → Reader (Option BodyTree)
 last_part_at inner here = if is_at (form.Keyword word.Else) here.rest then led_last_at inner here else Ok (None, here)
 
-unfoldable pub conditional_at : ℕ → Reader BodyTree → Reader StatementTree
-conditional_at room inner here = do
-  t ← take_marked (form.Keyword word.If) (λ _. opens room) here
-  first ← part_at (room - 1) inner t.1
-  more ← list_at (code (form.Keyword word.Elsif) ∷ []) (further_part_at (room - 1) inner) first.1
+unfoldable pub behind_if_at : ℕ → Reader BodyTree → Reader StatementTree
+behind_if_at room inner here = do
+  first ← part_at room inner here
+  more ← list_at (code (form.Keyword word.Elsif) ∷ []) (further_part_at room inner) first.1
   last ← last_part_at inner more.1
   u ← take_at (form.Keyword word.End) last.1
   v ← take_at (form.Keyword word.If) u.1
   w ← take_at (form.Sign sign.Semicolon) v.1
   Ok (chosen (parts_of first.0 more.0 last.0), w.1)
+
+unfoldable pub conditional_at : ℕ → Reader BodyTree → Reader StatementTree
+conditional_at room inner here = do
+  t ← take_marked (form.Keyword word.If) (λ _. opens room) here
+  behind_if_at (room - 1) inner t.1
 
 unfoldable pub next_state_at : Reader NewName
 next_state_at here = do
@@ -138,16 +142,20 @@ fewer_branches_at inner (suc n) here =
 unfoldable pub branches_at : Reader BodyTree → Reader BranchesTree
 branches_at inner here = fewer_branches_at inner (length here.rest) here
 
-unfoldable pub case_statement_at : ℕ → Reader BodyTree → Reader StatementTree
-case_statement_at room inner here = do
-  t ← take_marked (form.Keyword word.Case) (λ _. opens room) here
-  name ← used_name_at t.1
+unfoldable pub behind_case_at : ℕ → Reader BodyTree → Reader StatementTree
+behind_case_at line inner here = do
+  name ← used_name_at here
   u ← take_at (form.Keyword word.Is) name.1
   all ← branches_at inner u.1
   v ← take_at (form.Keyword word.End) all.1
   w ← take_at (form.Keyword word.Case) v.1
   x ← take_at (form.Sign sign.Semicolon) w.1
-  Ok (selected t.0.line name.0 all.0, x.1)
+  Ok (selected line name.0 all.0, x.1)
+
+unfoldable pub case_statement_at : ℕ → Reader BodyTree → Reader StatementTree
+case_statement_at room inner here = do
+  t ← take_marked (form.Keyword word.Case) (λ _. opens room) here
+  behind_case_at t.0.line inner t.1
 
 unfoldable pub statement_at : ℕ → Reader BodyTree → Reader StatementTree
 statement_at room inner here =

@@ -41,7 +41,7 @@ pub record IsMachine (tokens : Tokens) (machine : MachineTree) : Type 0 where
 -- an assignment before it is one too many.
 pub data RefusedAs (tokens : Tokens) (e : ReadError) : Type 0 where
   refused : (r : Refusal) → Rejects fsm (start tokens.items) r → (PassesBefore tokens r.left → ⊥) → e ≡ error_of tokens.last_line tokens.items r → RefusedAs tokens e
-  overfull : (left : ℕ) → PassesChain tokens left → ((r : Refusal) → Rejects fsm (start tokens.items) r → r.left < left) → e ≡ chain_error → RefusedAs tokens e
+  chained : (left : ℕ) → PassesChain tokens left → ((r : Refusal) → Rejects fsm (start tokens.items) r → r.left < left) → e ≡ chain_error → RefusedAs tokens e
 
 -- Memory may run out at any time.
 abbrev pub IsRefusedMachine : Tokens → ReadError → Type 0

@@ -1,10 +1,10 @@
 // Reading the statements of the process that takes a step.
-ghost use Rattle.std.specs.Prelude.{◌≡◌, ◌<◌, ◌∷◌, [], map, IfOk, Some};
+ghost use Rattle.std.specs.Prelude.{◌≡◌, ◌<◌, ◌-◌, ◌∷◌, [], map};
 ghost use Rattle.std.specs.Option.{option_map};
-ghost use Rattle.vlsi_base.specs.Tree.{view};
 ghost use Rattle.grammar_theory.specs.Tokens.{code, among, is_at};
 ghost use Rattle.grammar_theory.specs.Outcome.{Gives, list_at};
-ghost use Rattle.fsm_text.specs.Written.{statement_view, body_view, branches_view, body_of};
+ghost use Rattle.vbe_text.specs.VbeReading.{report_at, severity_at};
+ghost use Rattle.fsm_text.specs.Written.{statement_view, body_view, branches_view};
 ghost use Rattle.fsm_text.specs.FsmReading.{assertion_at, assignment_at, part_at, further_part_at, last_part_at, conditional_at, listed_branch_at, others_branch_at, branches_at, case_statement_at, statement_at, statement_kinds, statement_list_at, inner_at, body_at};
 ghost use Rattle.fsm_text.specs.Pieces.{goes_on, listed_list_at, others_at, part_view, branch_view};
 
@@ -135,7 +135,7 @@ fn last_part(cursor: &mut Cursor, room: u32) -> Result<Option<Body>, Stop>
 }
 
 #[cycle(statements)]
-#[tactic(auto, unfolding(crate::specs::FsmReading::conditional_at))]
+#[tactic(auto, unfolding(crate::specs::FsmReading::conditional_at, crate::specs::FsmReading::behind_if_at))]
 fn conditional(cursor: &mut Cursor, room: u32) -> Result<Statement, Stop>
     ensures { Gives statement_view result cursor.new (conditional_at room (inner_at room) cursor.old) }
 {
@@ -228,7 +228,7 @@ fn branches(cursor: &mut Cursor, room: u32) -> Result<Branches, Stop>
 }
 
 #[cycle(statements)]
-#[tactic(auto, unfolding(crate::specs::FsmReading::case_statement_at))]
+#[tactic(auto, unfolding(crate::specs::FsmReading::case_statement_at, crate::specs::FsmReading::behind_case_at))]
 fn case_statement(cursor: &mut Cursor, room: u32) -> Result<Statement, Stop>
     ensures { Gives statement_view result cursor.new (case_statement_at room (inner_at room) cursor.old) }
 {

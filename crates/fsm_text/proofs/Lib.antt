@@ -1,0 +1,9 @@
+pub mod FsmLanguage
+pub mod Branches
+pub mod Nested
+pub mod Texts
+pub mod Whole
+pub mod Linking
+pub mod Listing
+pub mod Chains
+pub mod Laws
