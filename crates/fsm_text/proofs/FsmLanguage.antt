@@ -62,14 +62,14 @@ exact_sensitivity room = exact_behind paren (exact_then (exact_marked paren (λ 
 abbrev assert : Form
 assert = form.Keyword word.Assert
 
-abbrev if : Form
-if = form.Keyword word.If
+abbrev pub if_word : Form
+if_word = form.Keyword word.If
 
-abbrev case : Form
-case = form.Keyword word.Case
+abbrev pub case_word : Form
+case_word = form.Keyword word.Case
 
 abbrev pub body_firsts : Set
-body_firsts = numbers (assert ∷ if ∷ case ∷ form.Identifier ∷ [])
+body_firsts = numbers (assert ∷ if_word ∷ case_word ∷ form.Identifier ∷ [])
 
 exact_text : {P : Type 0} → Exact P text text false (numbers (form.BitText ∷ form.OtherText ∷ [])) [] text_at
 unfolding text text_at
@@ -113,27 +113,27 @@ unfolding part part_at
 exact_part room SI BI e = within factor_firsts body_firsts (exact_then (exact_condition room) (λ c. exact_then (exact_marked (form.Keyword word.Then) (λ _. starts))
     (λ t. exact_then e (λ body. exact_nothing (record { line = c.0; condition = c.1; body = body })) refl) refl) refl) refl refl refl
 
-abbrev elsif : Form
-elsif = form.Keyword word.Elsif
+abbrev pub elsif_word : Form
+elsif_word = form.Keyword word.Elsif
 
-pub exact_further_part : {P : Type 0} (room : ℕ) (SI BI : Grammar BodyTree) {r : Reader BodyTree} → Bodies P SI BI r → Exact P (further_part room SI) (further_part room BI) false (numbers (elsif ∷ [])) body_firsts (further_part_at room r)
+pub exact_further_part : {P : Type 0} (room : ℕ) (SI BI : Grammar BodyTree) {r : Reader BodyTree} → Bodies P SI BI r → Exact P (further_part room SI) (further_part room BI) false (numbers (elsif_word ∷ [])) body_firsts (further_part_at room r)
 unfolding further_part further_part_at
-exact_further_part room SI BI e = within (numbers (elsif ∷ [])) body_firsts (exact_then (exact_one elsif) (λ t. exact_part room SI BI e) refl) refl refl refl
+exact_further_part room SI BI e = within (numbers (elsif_word ∷ [])) body_firsts (exact_then (exact_one elsif_word) (λ t. exact_part room SI BI e) refl) refl refl refl
 
-abbrev else : Form
-else = form.Keyword word.Else
+abbrev pub else_word : Form
+else_word = form.Keyword word.Else
 
 abbrev last_part_lasts : Set
-last_part_lasts = numbers (else ∷ assert ∷ if ∷ case ∷ form.Identifier ∷ [])
+last_part_lasts = numbers (else_word ∷ assert ∷ if_word ∷ case_word ∷ form.Identifier ∷ [])
 
-exact_last_part : {P : Type 0} (SI BI : Grammar BodyTree) {r : Reader BodyTree} → Bodies P SI BI r → Exact P (last_part SI) (last_part BI) true (numbers (else ∷ [])) last_part_lasts (last_part_at r)
+exact_last_part : {P : Type 0} (SI BI : Grammar BodyTree) {r : Reader BodyTree} → Bodies P SI BI r → Exact P (last_part SI) (last_part BI) true (numbers (else_word ∷ [])) last_part_lasts (last_part_at r)
 unfolding last_part last_part_at led_last_at
-exact_last_part SI BI e = within (numbers (else ∷ [])) last_part_lasts (exact_behind else (exact_then (exact_one else) (λ t. exact_then e (λ body. exact_nothing (Some body)) refl) refl) (exact_nothing None) refl) refl refl refl
+exact_last_part SI BI e = within (numbers (else_word ∷ [])) last_part_lasts (exact_behind else_word (exact_then (exact_one else_word) (λ t. exact_then e (λ body. exact_nothing (Some body)) refl) refl) (exact_nothing None) refl) refl refl refl
 
 pub exact_behind_if : {P : Type 0} (room : ℕ) (SI BI : Grammar BodyTree) {r : Reader BodyTree} → Bodies P SI BI r → Exact P (behind_if room SI) (behind_if room BI) false factor_firsts [] (behind_if_at room r)
 unfolding behind_if behind_if_at
 exact_behind_if room SI BI e = exact_then (exact_part room SI BI e) (λ first. exact_then (exact_list (exact_further_part room SI BI e) refl)
-    (λ more. exact_then (exact_last_part SI BI e) (λ last. exact_then (exact_one (form.Keyword word.End)) (λ u. exact_then (exact_one if)
+    (λ more. exact_then (exact_last_part SI BI e) (λ last. exact_then (exact_one (form.Keyword word.End)) (λ u. exact_then (exact_one if_word)
     (λ v. exact_then (exact_one semicolon) (λ w. exact_nothing (chosen (parts_of first more last))) refl) refl) refl) refl) refl) refl
 
 -- ---- branches

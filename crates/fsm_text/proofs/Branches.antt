@@ -1,0 +1,194 @@
+-- The reader of branches reads its grammar, though before `others` it looks at two tokens: branches are told at each `when` by the
+-- token behind it.
+use Rattle.std.proofs.Common.{◌≡◌, ℕ, zero, suc, ◌+◌, ◌≤◌, ◌<◌, true, false, List, [], ◌∷◌, ◌++◌, length, Option, None, Some, inl, inr, refl, sym, ap, subst, ◌∙◌, ◌-◌, if◌then◌else◌, Ok, Err, arith}
+use Rattle.std.proofs.lemmas.List.{append-nil}
+use Rattle.vhdl_token.specs.declared.keyword.Keyword.TheVariants as word
+use Rattle.vhdl_token.specs.declared.token.Sign.TheVariants as sign
+use Rattle.grammar_theory.specs.declared.form.Form.{Form}
+use Rattle.grammar_theory.specs.declared.form.Form.TheVariants as form
+use Rattle.grammar_theory.specs.Tokens.{is_at}
+use Rattle.grammar_theory.specs.Marks.{Item}
+use Rattle.grammar_theory.specs.Grammar.{Grammar, nothing, one, ◌or◌, ◌>>=◌, list, at_some}
+use Rattle.grammar_theory.specs.Outcome.{At, Outcome, Reader}
+use Rattle.grammar_theory.specs.Answers.{Answers}
+use Rattle.grammar_theory.proofs.Sets.{Set}
+use Rattle.grammar_theory.proofs.Exact.{Shape}
+use Rattle.grammar_theory.proofs.Bundle.{Starts, Exact, exact_nothing, exact_one, exact_then, exact_behind, within}
+use Rattle.grammar_theory.proofs.Many.{same_answers}
+use Rattle.grammar_theory.proofs.Levels.{Rising, all_answers}
+use Rattle.grammar_theory.proofs.AllLevels.{all_shape}
+use Rattle.grammar_theory.proofs.Listing.{consumes}
+use Rattle.vhdl_front.proofs.Language.{numbers}
+use Rattle.fsm_text.specs.Written.{BodyTree, BranchesTree, closed, others, listed, BranchTree, branches_of}
+use Rattle.fsm_text.specs.Fsm.{listed_branch, led_branch, others_branch, last_branch, branches}
+use Rattle.fsm_text.specs.FsmReading.{listed_branch_at, others_branch_at, branch_before_at, behind_when_at, fewer_branches_at, branches_at}
+use Rattle.fsm_text.proofs.FsmLanguage.{Bodies, body_firsts, exact_listed_branch}
+
+abbrev when : Form
+when = form.Keyword word.When
+
+-- ---- fewer branches than some number
+
+abbrev first_others : Grammar BodyTree → Grammar BranchesTree
+first_others I = one (form.Keyword word.Others) >>= λ t. one (form.Sign sign.Arrow) >>= λ u. I >>= λ body. nothing (others body)
+
+abbrev first_listed : Grammar BodyTree → Grammar BranchesTree → Grammar BranchesTree
+first_listed I more = listed_branch I >>= λ b. more >>= λ rest. nothing (listed b.states b.body rest)
+
+abbrev few : Grammar BodyTree → ℕ → Grammar BranchesTree
+few I zero = nothing closed
+few I (suc n) = (one when >>= λ t. first_others I or first_listed I (few I n)) or nothing closed
+
+abbrev whens : Set
+whens = numbers (when ∷ [])
+
+abbrev pub branch_lasts : Set
+branch_lasts = body_firsts ++ whens
+
+-- the last branch that is looked at, and one before others
+exact_step : {P : Type 0} (SI BI : Grammar BodyTree) {r : Reader BodyTree} (SM BM : Grammar BranchesTree) {m : Reader BranchesTree} → Bodies P SI BI r
+    → Exact P (first_listed SI SM) (first_listed BI BM) false (numbers (form.Identifier ∷ [])) branch_lasts (branch_before_at r m)
+    → Exact P ((one when >>= λ t. first_others SI or first_listed SI SM) or nothing closed) ((one when >>= λ t. first_others BI or first_listed BI BM) or nothing closed)
+        true whens branch_lasts (λ here. if is_at when here.rest then behind_when_at r m here else Ok (closed, here))
+unfolding behind_when_at others_branch_at
+exact_step SI BI SM BM e b = within whens branch_lasts
+    (exact_behind when (exact_then (exact_one when) (λ t. exact_behind (form.Keyword word.Others)
+        (exact_then (exact_one (form.Keyword word.Others)) (λ u. exact_then (exact_one (form.Sign sign.Arrow)) (λ v. exact_then e (λ body. exact_nothing (others body)) refl) refl) refl)
+        b refl) refl) (exact_nothing closed) refl) refl refl refl
+
+pub exact_few : {P : Type 0} (SI BI : Grammar BodyTree) {r : Reader BodyTree} → Bodies P SI BI r → (n : ℕ)
+    → Exact P (few SI (suc n)) (few BI (suc n)) true whens branch_lasts (fewer_branches_at r (suc n))
+unfolding fewer_branches_at branch_before_at
+exact_few SI BI e zero = exact_step SI BI (few SI zero) (few BI zero) e
+    (within (numbers (form.Identifier ∷ [])) branch_lasts (exact_then (exact_listed_branch SI BI e) (λ b. exact_then (exact_nothing closed) (λ rest. exact_nothing (listed b.states b.body rest)) refl) refl) refl refl refl)
+exact_few SI BI e (suc n) = exact_step SI BI (few SI (suc n)) (few BI (suc n)) e
+    (within (numbers (form.Identifier ∷ [])) branch_lasts (exact_then (exact_listed_branch SI BI e) (λ b. exact_then (exact_few SI BI e n) (λ rest. exact_nothing (listed b.states b.body rest)) refl) refl) refl refl refl)
+
+-- ---- each is part of the next
+
+grows : (I : Grammar BodyTree) (n : ℕ) (p : List Item) (v : BranchesTree) → few I n p v → few I (suc n) p v
+grows I zero p v h = inr h
+grows I (suc n) p v (inr h) = inr h
+grows I (suc n) p v (inl h) = inl (record { front = h.front; back = h.back; value = h.value; parts = h.parts; before = h.before; behind = up h.back h.behind }) where
+  up : (q : List Item) → (first_others I or first_listed I (few I n)) q v → (first_others I or first_listed I (few I (suc n))) q v
+  up q (inl g) = inl g
+  up q (inr g) = inr (record {
+    front = g.front; back = g.back; value = g.value; parts = g.parts; before = g.before;
+    behind = record { front = g.behind.front; back = g.behind.back; value = g.behind.value; parts = g.behind.parts; before = grows I n g.behind.front g.behind.value g.behind.before; behind = g.behind.behind };
+  })
+
+grows_by : (I : Grammar BodyTree) (n k : ℕ) (p : List Item) (v : BranchesTree) → few I n p v → few I (k + n) p v
+grows_by I n zero p v h = h
+grows_by I n (suc k) p v h = grows I (k + n) p v (grows_by I n k p v h)
+
+rising : {P : Type 0} (SI BI : Grammar BodyTree) {r : Reader BodyTree} → Bodies P SI BI r → (floor : ℕ) → Rising (λ n. few BI (suc n)) floor
+rising SI BI e floor = record {
+  null = true;
+  firsts = whens;
+  lasts = branch_lasts;
+  shape = λ n. (exact_few SI BI e n).shape;
+  rises = λ d u less above p v h. subst (λ (k : ℕ). few BI k p v) (omega (arith, less)) (grows_by BI (suc d) (u - d) p v h);
+}
+
+-- ---- they are the sentences of the grammar
+
+to_few : (I : Grammar BodyTree) (all : List BranchTree) (last : Option BodyTree) (p q : List Item) → list (led_branch I) p all → last_branch I q last
+    → few I (suc (length all)) (p ++ q) (branches_of all last)
+unfolding led_branch last_branch others_branch
+to_few I [] None p q h (inl g) = absurd cc
+to_few I [] None p q h (inr g) = inr (rw h g.0, refl)
+to_few I [] (Some body) p q h (inr g) = absurd cc
+to_few I [] (Some body) p q h (inl g) = inl (record {
+  front = g.front; back = g.back; value = g.value; parts = ap (λ (z : List Item). z ++ q) h ∙ g.parts; before = g.before;
+  behind = inl ?;
+})
+to_few I (b ∷ all) last p q h g =
+    let led = h.3 in
+    inl (record {
+      front = led.front; back = led.back ++ (h.1 ++ q); value = led.value; parts = ?; before = led.before;
+      behind = inr (record {
+        front = led.back; back = h.1 ++ q; value = b; parts = refl; before = led.behind;
+        behind = record { front = h.1 ++ q; back = []; value = branches_of all last; parts = sym (append-nil (h.1 ++ q)); before = to_few I all last h.1 q h.4 g; behind = (refl, refl) };
+      });
+    })
+
+from_few : (I : Grammar BodyTree) (n : ℕ) (p : List Item) (v : BranchesTree) → few I n p v → branches I p v
+unfolding branches led_branch last_branch others_branch
+from_few I zero p v h = record { front = []; back = p; value = []; parts = refl; before = refl; behind = record { front = p; back = []; value = None; parts = sym (append-nil p); before = inr (h.0, refl); behind = (refl, h.1) } }
+from_few I (suc n) p v (inr h) = from_few I zero p v h
+from_few I (suc n) p v (inl h) = behind h.behind where
+  behind : (first_others I or first_listed I (few I n)) h.back v → branches I p v
+  behind (inl g) = record { front = []; back = p; value = []; parts = refl; before = refl; behind = record { front = p; back = []; value = Some g.behind.behind.value; parts = sym (append-nil p); before = inl ?; behind = ? } }
+  behind (inr g) =
+      let rest = from_few I n g.behind.front g.behind.value g.behind.before in
+      record { front = h.front ++ (g.front ++ rest.front); back = rest.back; value = g.value ∷ rest.value; parts = ?; before = (h.front ++ g.front, rest.front, ?, ?, rest.before); behind = ? }
+
+abbrev levels : Grammar BodyTree → Grammar BranchesTree
+levels I = at_some (λ n. few I (suc n))
+
+into_levels : (I : Grammar BodyTree) (p : List Item) (v : BranchesTree) → branches I p v → levels I p v
+unfolding branches
+into_levels I p v h =
+    let last = h.behind in
+    let same : last.front ++ last.back ≡ last.front = ap (λ (z : List Item). last.front ++ z) last.behind.0 ∙ append-nil last.front in
+    record { level = length h.value; sentence = subst (λ (z : List Item). few I (suc (length h.value)) z v) ? (subst (λ (z : BranchesTree). few I (suc (length h.value)) (h.front ++ last.front) z) (sym last.behind.1) (to_few I h.value last.value h.front last.front h.before last.before)) }
+
+out_of_levels : (I : Grammar BodyTree) (p : List Item) (v : BranchesTree) → levels I p v → branches I p v
+out_of_levels I p v h = from_few I (suc h.level) p v h.sentence
+
+-- ---- reading
+
+-- more than enough is as good as enough
+enough : {P : Type 0} (SI BI : Grammar BodyTree) {r : Reader BodyTree} → Bodies P SI BI r → P → (n m : ℕ) (here : At) → length here.rest ≤ n → length here.rest ≤ m
+    → fewer_branches_at r n here ≡ fewer_branches_at r m here
+unfolding fewer_branches_at behind_when_at branch_before_at
+enough SI BI e p zero m here le lm = none m here le lm where
+  -- no token is left
+  none : (m : ℕ) (here : At) → length here.rest ≤ 0 → length here.rest ≤ m → Ok (closed, here) ≡ fewer_branches_at r m here
+  none zero here le lm = refl
+  none (suc m) here le lm = ?
+enough SI BI e p (suc n) zero here le lm = sym (enough SI BI e p zero (suc n) here lm le)
+enough SI BI e p (suc n) (suc m) here le lm = ?
+
+shape_as : {A : Type 0} (B C : Grammar A) (null : _) (f l : Set) → ((p : List Item) (v : A) → C p v → B p v) → Shape B null f l → Shape C null f l
+shape_as B C null f l into sh = record {
+  same = λ p v w h g. sh.same p v w (into p v h) (into p w g);
+  empty = λ v h. sh.empty v (into [] v h);
+  begins = λ t q v h. sh.begins t q v (into (t ∷ q) v h);
+  goes_on = λ p t q v w h g. sh.goes_on p t q v w (into p v h) (into (p ++ t ∷ q) w g);
+  marks = λ p i j w z v u h g s. sh.marks p i j w z v u (into (p ++ i ∷ w) v h) (into (p ++ j ∷ z) u g) s;
+}
+
+pub exact_branches : {P : Type 0} (SI BI : Grammar BodyTree) {r : Reader BodyTree} → Bodies P SI BI r → Exact P (branches SI) (branches BI) true whens branch_lasts (branches_at r)
+unfolding branches_at
+exact_branches {P} SI BI {r} e =
+    let few_starts : P → Starts (few BI 1) true whens = λ p. (exact_few SI BI e 0).starts p in
+    record {
+      shape = shape_as (levels BI) (branches BI) true whens branch_lasts (into_levels BI) (all_shape (λ n. few BI (suc n)) 0 (rising SI BI e 0));
+      inside = λ p q v h.
+          let s = into_levels SI q v h in
+          from_few BI (suc s.level) q v ((exact_few SI BI e s.level).inside p q v s.sentence);
+      reads = λ p.
+          let rl = (exact_few SI BI e 0).reads p in
+          record {
+            some_items = rl.some_items;
+            some_value = rl.some_value;
+            some = from_few BI 1 rl.some_items rl.some_value rl.some;
+            answers = λ here. answers p here;
+          };
+      starts = λ p. record {
+        nullable = λ g. let x = (few_starts p).nullable g in (x.0, from_few BI 1 [] x.0 x.1);
+        starts = λ t g.
+            let o = (few_starts p).starts t g in
+            let b = o.begins in
+            record { mark = o.mark; is = o.is; begins = (b.0, b.1, from_few BI 1 ((o.mark ∷ []) ++ b.0) b.1 b.2) };
+      };
+    } where
+      at_level : (p : P) (here : At) (n : ℕ) → length here.rest < n → Answers (few BI (suc n)) here (fewer_branches_at r (length here.rest) here)
+      at_level p here n above =
+          let Right : Outcome BranchesTree → Type 0 = λ o. Answers (few BI (suc n)) here o in
+          subst Right (enough SI BI e p (suc n) (length here.rest) here (omega (arith, above)) (omega arith)) (((exact_few SI BI e n).reads p).answers here)
+
+      answers : (p : P) (here : At) → Answers (branches BI) here (fewer_branches_at r (length here.rest) here)
+      answers p here = same_answers (levels BI) (branches BI) (out_of_levels BI) (into_levels BI) here (fewer_branches_at r (length here.rest) here)
+          (all_answers (λ n. few BI (suc n)) (length here.rest) (rising SI BI e (length here.rest)) here (fewer_branches_at r (length here.rest) here) (at_level p here))
