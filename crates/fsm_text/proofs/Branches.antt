@@ -4,6 +4,7 @@ use Rattle.std.proofs.Common.{◌≡◌, ℕ, zero, suc, ◌+◌, ◌≤◌, ◌
 use Rattle.std.proofs.lemmas.List.{append-nil}
 use Rattle.vhdl_token.specs.declared.keyword.Keyword.TheVariants as word
 use Rattle.vhdl_token.specs.declared.token.Sign.TheVariants as sign
+use Rattle.vhdl_token.specs.declared.token.PlacedToken.{PlacedToken}
 use Rattle.grammar_theory.specs.declared.form.Form.{Form}
 use Rattle.grammar_theory.specs.declared.form.Form.TheVariants as form
 use Rattle.grammar_theory.specs.Tokens.{is_at}
@@ -112,16 +113,27 @@ to_few I (b ∷ all) last p q h g =
       });
     })
 
-from_few : (I : Grammar BodyTree) (n : ℕ) (p : List Item) (v : BranchesTree) → few I n p v → branches I p v
+-- a first branch before what `branches` has
+front_of : (I : Grammar BodyTree) (M : Grammar BranchesTree) (p q : List Item) (v : BranchesTree) (t : PlacedToken) → one when p t → ((q : List Item) (w : BranchesTree) → M q w → branches I q w)
+    → (first_others I or first_listed I M) q v → branches I (p ++ q) v
 unfolding branches led_branch last_branch others_branch
+front_of I M p q v t h go (inl g) = record {
+  front = []; back = p ++ q; value = []; parts = refl; before = refl;
+  behind = record { front = p ++ q; back = []; value = Some g.behind.behind.value; parts = sym (append-nil (p ++ q)); before = inl ?; behind = ? };
+}
+front_of I M p q v t h go (inr g) =
+    let rest = go g.behind.front g.behind.value g.behind.before in
+    record {
+      front = p ++ (g.front ++ rest.front); back = rest.back; value = g.value ∷ rest.value; parts = ?;
+      before = (p ++ g.front, rest.front, ?, record { front = p; back = g.front; value = t; parts = refl; before = h; behind = g.before }, rest.before);
+      behind = ?;
+    }
+
+from_few : (I : Grammar BodyTree) (n : ℕ) (p : List Item) (v : BranchesTree) → few I n p v → branches I p v
+unfolding branches last_branch
 from_few I zero p v h = record { front = []; back = p; value = []; parts = refl; before = refl; behind = record { front = p; back = []; value = None; parts = sym (append-nil p); before = inr (h.0, refl); behind = (refl, h.1) } }
 from_few I (suc n) p v (inr h) = from_few I zero p v h
-from_few I (suc n) p v (inl h) = behind h.behind where
-  behind : (first_others I or first_listed I (few I n)) h.back v → branches I p v
-  behind (inl g) = record { front = []; back = p; value = []; parts = refl; before = refl; behind = record { front = p; back = []; value = Some g.behind.behind.value; parts = sym (append-nil p); before = inl ?; behind = ? } }
-  behind (inr g) =
-      let rest = from_few I n g.behind.front g.behind.value g.behind.before in
-      record { front = h.front ++ (g.front ++ rest.front); back = rest.back; value = g.value ∷ rest.value; parts = ?; before = (h.front ++ g.front, rest.front, ?, ?, rest.before); behind = ? }
+from_few I (suc n) p v (inl h) = subst (λ (z : List Item). branches I z v) (sym h.parts) (front_of I (few I n) h.front h.back v h.value h.before (λ q w g. from_few I n q w g) h.behind)
 
 abbrev levels : Grammar BodyTree → Grammar BranchesTree
 levels I = at_some (λ n. few I (suc n))
