@@ -1,5 +1,5 @@
 pub mod FsmLanguage
-pub mod Branches
+pub mod Whens
 pub mod Nested
 pub mod Texts
 pub mod Whole

@@ -31,7 +31,7 @@ use Rattle.fsm_text.specs.Fsm.{used_name, behind_if, conditional, behind_case, c
 use Rattle.fsm_text.specs.FsmReading.{behind_if_at, conditional_at, behind_case_at, case_statement_at, statement_at, statement_kinds, statement_list_at, body_over_at, inner_at, body_at, part_at, further_part_at, listed_branch_at}
 use Rattle.fsm_text.specs.Pieces.{led_branch_at}
 use Rattle.fsm_text.proofs.FsmLanguage.{under, Bodies, body_firsts, exact_used_name, exact_assertion, exact_assignment, exact_further_part, exact_behind_if, exact_listed_branch, assert, if_word, case_word, elsif_word, semicolon}
-use Rattle.fsm_text.proofs.Branches.{exact_branches}
+use Rattle.fsm_text.proofs.Whens.{exact_branches}
 
 -- what stands in an if or a case
 abbrev below : ℕ → ℕ → Grammar BodyTree

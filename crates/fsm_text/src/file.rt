@@ -43,6 +43,7 @@ pub enum Branches {
 
 // A loop down the chain, which can be thousands of statements long.
 impl Drop for Body {
+    #[cycle(release)]
     fn drop(mut self) {
         loop {
             match self {
@@ -54,6 +55,7 @@ impl Drop for Body {
 }
 
 impl Drop for Parts {
+    #[cycle(release)]
     fn drop(mut self) {
         loop {
             match self {
@@ -66,6 +68,7 @@ impl Drop for Parts {
 }
 
 impl Drop for Branches {
+    #[cycle(release)]
     fn drop(mut self) {
         loop {
             match self {

@@ -7,7 +7,7 @@ ghost use Rattle.fsm_text.specs.Written.{step_view, clock_view, machine_view};
 ghost use Rattle.fsm_text.specs.FsmReading.{state_names_at, state_type_at, of_type_at, state_signals_at, processes_at, architecture_at, machine_at};
 ghost use Rattle.fsm_text.specs.Texts.{IsMachine, IsRefusedMachine, StopsText};
 
-use crate::chains::{passes_chain, too_long_chain};
+use crate::counting::{passes_chain, too_long_chain};
 use crate::file::{ClockProcess, StateFile, StateSignals, StateType, StepProcess};
 use crate::processes::{clock_process, step_process};
 use grammar_theory::{DEPTH, Form, Reason, Stop};

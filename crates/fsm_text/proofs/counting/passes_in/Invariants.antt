@@ -2,7 +2,7 @@ use Rattle.std.proofs.Common.{◌≡◌, length, List}
 use Rattle.vlsi_base.specs.declared.name.Name.{Name}
 use Rattle.fsm_text.specs.Chains.{IsTally}
 use Rattle.fsm_text.proofs.Chains.{Counting}
-use Rattle.fsm_text.proofs.chains.passes_in.Given as goal
+use Rattle.fsm_text.proofs.counting.passes_in.Given as goal
 
 abbrev pub invariant-loop-rest : goal.invariant-loop-rest
 invariant-loop-rest l = (l.tally.numbers ≡ l.fn.tally.numbers)
