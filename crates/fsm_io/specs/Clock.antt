@@ -6,7 +6,7 @@ use Rattle.source_meaning.specs.Clock.{clock_of, clock_lines, conditions_among, 
 use Rattle.source_meaning.specs.Widths.{if_not}
 use Rattle.fsm_text.specs.Written.{MachineTree}
 use Rattle.fsm_io.specs.Known.{Named, symbols}
-use Rattle.fsm_io.specs.Looks.{Look, in_body}
+use Rattle.fsm_io.specs.Looks.{Mention, asserting, assigning, testing, selecting, listing, found}
 
 abbrev pub is_empty : {A : Type 0} → List A → Bool
 is_empty [] = true
@@ -17,15 +17,14 @@ abbrev pub is_edge : List Symbol → List ℕ → Tree → Bool
 is_edge known clock e = is_same_clock (clock_of known e) (Some clock) && is_empty (conditions_among clock (parts_of e))
 
 -- each read of the clock and each `stable`; what is assigned to the next state reads nothing
-abbrev pub clock_reads : Named → Look ℕ
-clock_reads n = record {
-  asserted = clock_lines (Some n.clock);
-  assigned = λ t line e. if bytes_eq t.name n.next then [] else clock_lines (Some n.clock) e;
-  condition = λ line e. clock_lines (Some n.clock) e;
-  selected = λ seen line name. [];
-}
+abbrev pub clock_reads_at : Named → Mention → List ℕ
+clock_reads_at n (asserting e) = clock_lines (Some n.clock) e
+clock_reads_at n (assigning t line e) = if bytes_eq t.name n.next then [] else clock_lines (Some n.clock) e
+clock_reads_at n (testing line e) = clock_lines (Some n.clock) e
+clock_reads_at n (selecting seen line called) = []
+clock_reads_at n (listing states) = []
 
 -- these, and a condition of the process at the clock that isn't its rise, at its first token
 abbrev pub all_clock_reads : MachineTree → Named → List ℕ
 all_clock_reads m n =
-    in_body (clock_reads n) false m.step.body ++ if_not (is_edge (symbols m) n.clock m.clock.condition) m.clock.condition_line
+    found (clock_reads_at n) m ++ if_not (is_edge (symbols m) n.clock m.clock.condition) m.clock.condition_line

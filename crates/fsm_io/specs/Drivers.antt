@@ -9,7 +9,7 @@ use Rattle.source_meaning.specs.Symbols.{port_symbols}
 use Rattle.source_meaning.specs.Drivers.{target_names, first_undriven}
 use Rattle.fsm_text.specs.Written.{MachineTree}
 use Rattle.fsm_io.specs.Known.{symbols}
-use Rattle.fsm_io.specs.Looks.{Look, in_body}
+use Rattle.fsm_io.specs.Looks.{Mention, asserting, assigning, testing, selecting, listing, found}
 
 abbrev pub is_output : Role → Bool
 is_output role.Output = true
@@ -23,9 +23,13 @@ abbrev pub outputs : MachineTree → List Symbol
 outputs m = filter (λ (s : Symbol). is_output s.role) (port_symbols m.entity.ports)
 
 -- the bits that assignments name, from the left
-abbrev pub assigned_names : List Symbol → Look Name
-assigned_names known = record { asserted = λ e. []; assigned = λ t line e. target_names known t; condition = λ line e. []; selected = λ seen line name. [] }
+abbrev pub names_at : List Symbol → Mention → List Name
+names_at known (asserting e) = []
+names_at known (assigning t line e) = target_names known t
+names_at known (testing line e) = []
+names_at known (selecting seen line called) = []
+names_at known (listing states) = []
 
 -- the first output with a bit that nothing assigns, with the least such bit
 abbrev pub first_unassigned : MachineTree → Option NameFault
-first_unassigned m = first_undriven (in_body (assigned_names (symbols m)) false m.step.body) (outputs m)
+first_unassigned m = first_undriven (found (names_at (symbols m)) m) (outputs m)

@@ -54,7 +54,7 @@ abbrev mutual
       if bytes_eq t.name f.next then s.assign (s.next (next_number f.states e)) rest
       else assign_bits f.vars (target_names f.known t) (formulas f.known e) rest
   statement_bits f (chosen parts) rest = s.choose (parts_bits f parts) rest
-  statement_bits f (selected line name branches) rest = s.select (branches_bits f branches) rest
+  statement_bits f (selected line called branches) rest = s.select (branches_bits f branches) rest
 
   pub parts_bits : Frame → PartsTree → s.Parts
   parts_bits f (only line c a) = s.only (condition_of f c) (body_bits f a)

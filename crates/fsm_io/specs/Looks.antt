@@ -1,5 +1,6 @@
--- What a look at statements finds, in file order.
+-- What stands in statements, in file order, whichever ifs and cases it stands in.
 use Rattle.std.specs.Prelude.{ℕ, Bool, true, false, ◌||◌, bytes_eq, List, [], ◌∷◌, ◌++◌, map, if◌then◌else◌}
+use Rattle.std.specs.List.{flat_map}
 use Rattle.vlsi_base.specs.Tree.{Tree, name}
 use Rattle.vlsi_base.specs.declared.entity.NewName.{NewName}
 use Rattle.source_meaning.specs.declared.statement.Target.{Target}
@@ -7,13 +8,14 @@ use Rattle.source_meaning.specs.Places.{Use, reads}
 use Rattle.fsm_text.specs.Written.{StatementTree, asserted, assigned, chosen, selected, BodyTree, finish, next, PartsTree, only, either, further, BranchesTree, closed, others, listed, MachineTree}
 use Rattle.fsm_io.specs.Known.{Named}
 
--- what is found in an assertion, in an assignment with the line of what is assigned, in a condition with its line, and at a case with
--- its line and name, of which is said whether another stands before it
-pub record Look (A : Type 0) : Type 0 where
-  pub asserted : Tree → List A
-  pub assigned : Target → ℕ → Tree → List A
-  pub condition : ℕ → Tree → List A
-  pub selected : Bool → ℕ → NewName → List A
+-- an assertion; an assignment with the line of what is assigned; a condition with its line; a case with its line and its name, of which
+-- is said whether another stands before it; the states of a branch
+pub data Mention : Type 0 where
+  asserting : Tree → Mention
+  assigning : Target → ℕ → Tree → Mention
+  testing : ℕ → Tree → Mention
+  selecting : Bool → ℕ → NewName → Mention
+  listing : List NewName → Mention
 
 -- whether there is a case
 abbrev mutual
@@ -25,34 +27,42 @@ abbrev mutual
   holds_case (asserted e) = false
   holds_case (assigned t line e) = false
   holds_case (chosen parts) = parts_have_case parts
-  holds_case (selected line name branches) = true
+  holds_case (selected line called branches) = true
 
   pub parts_have_case : PartsTree → Bool
   parts_have_case (only line c a) = has_case a
   parts_have_case (either line c a b) = has_case a || has_case b
   parts_have_case (further line c a more) = has_case a || parts_have_case more
 
--- what is found where a case does or doesn't stand before
+-- what stands there, where a case does or doesn't stand before
 abbrev mutual
-  pub in_body : {A : Type 0} → Look A → Bool → BodyTree → List A
-  in_body {A} look seen finish = []
-  in_body {A} look seen (next s rest) = in_statement look seen s ++ in_body look (seen || holds_case s) rest
+  pub in_body : Bool → BodyTree → List Mention
+  in_body seen finish = []
+  in_body seen (next s rest) = in_statement seen s ++ in_body (seen || holds_case s) rest
 
-  pub in_statement : {A : Type 0} → Look A → Bool → StatementTree → List A
-  in_statement {A} look seen (asserted e) = look.asserted e
-  in_statement {A} look seen (assigned t line e) = look.assigned t line e
-  in_statement {A} look seen (chosen parts) = in_parts look seen parts
-  in_statement {A} look seen (selected line name branches) = look.selected seen line name ++ in_branches look branches
+  pub in_statement : Bool → StatementTree → List Mention
+  in_statement seen (asserted e) = asserting e ∷ []
+  in_statement seen (assigned t line e) = assigning t line e ∷ []
+  in_statement seen (chosen parts) = in_parts seen parts
+  in_statement seen (selected line called branches) = selecting seen line called ∷ in_branches branches
 
-  pub in_parts : {A : Type 0} → Look A → Bool → PartsTree → List A
-  in_parts {A} look seen (only line c a) = look.condition line c ++ in_body look seen a
-  in_parts {A} look seen (either line c a b) = look.condition line c ++ (in_body look seen a ++ in_body look (seen || has_case a) b)
-  in_parts {A} look seen (further line c a more) = look.condition line c ++ (in_body look seen a ++ in_parts look (seen || has_case a) more)
+  pub in_parts : Bool → PartsTree → List Mention
+  in_parts seen (only line c a) = testing line c ∷ in_body seen a
+  in_parts seen (either line c a b) = testing line c ∷ (in_body seen a ++ in_body (seen || has_case a) b)
+  in_parts seen (further line c a more) = testing line c ∷ (in_body seen a ++ in_parts (seen || has_case a) more)
 
-  pub in_branches : {A : Type 0} → Look A → BranchesTree → List A
-  in_branches {A} look closed = []
-  in_branches {A} look (others a) = in_body look true a
-  in_branches {A} look (listed states a more) = in_body look true a ++ in_branches look more
+  pub in_branches : BranchesTree → List Mention
+  in_branches closed = []
+  in_branches (others a) = in_body true a
+  in_branches (listed states a more) = listing states ∷ (in_body true a ++ in_branches more)
+
+-- all that stands in the process that takes a step
+abbrev pub mentions : MachineTree → List Mention
+mentions m = in_body false m.step.body
+
+-- what a look at each finds, in file order
+abbrev pub found : {A : Type 0} → (Mention → List A) → MachineTree → List A
+found {A} look m = flat_map look (mentions m)
 
 -- ---- names that are used
 
@@ -64,17 +74,16 @@ abbrev pub value_uses : Bool → Tree → List Use
 value_uses true (name text line) = []
 value_uses _ e = reads e
 
-abbrev pub uses : Named → Look Use
-uses n = record {
-  asserted = reads;
-  assigned = λ t line e. record { text = t.name; line = t.line } ∷ value_uses (bytes_eq t.name n.next) e;
-  condition = λ line e. reads e;
-  selected = λ seen line name. use_of name ∷ [];
-}
+abbrev pub uses_at : Named → Mention → List Use
+uses_at n (asserting e) = reads e
+uses_at n (assigning t line e) = record { text = t.name; line = t.line } ∷ value_uses (bytes_eq t.name n.next) e
+uses_at n (testing line e) = reads e
+uses_at n (selecting seen line called) = use_of called ∷ []
+uses_at n (listing states) = []
 
 -- all of them, in file order; those behind `process` among them
 abbrev pub all_uses : MachineTree → Named → List Use
 all_uses m n =
     map use_of m.step.sensitivity
-    ++ (in_body (uses n) false m.step.body
+    ++ (found (uses_at n) m
     ++ (map use_of m.clock.sensitivity ++ (reads m.clock.condition ++ use_of m.clock.target ∷ use_of m.clock.value ∷ [])))

@@ -10,7 +10,7 @@ use Rattle.source_meaning.specs.Widths.{if_not}
 use Rattle.source_meaning.specs.Unsupported.{literal_faults, supply_faults, port_forms}
 use Rattle.fsm_text.specs.Written.{MachineTree, ClockTree}
 use Rattle.fsm_io.specs.Known.{Named, symbols}
-use Rattle.fsm_io.specs.Looks.{Look, in_body, has_case}
+use Rattle.fsm_io.specs.Looks.{Mention, asserting, assigning, testing, selecting, listing, found, has_case}
 use Rattle.fsm_io.specs.Drivers.{is_output}
 
 -- expressions read inputs alone, of which the clock is looked at later
@@ -48,16 +48,14 @@ abbrev pub may_assign : Option Symbol → Bool
 may_assign None = true
 may_assign (Some s) = is_output s.role
 
-abbrev pub forms : List Symbol → Named → Look ℕ
-forms known n = record {
-  asserted = expression_forms known;
-  assigned = λ t line e.
-      if bytes_eq t.name n.next then next_forms line e
-      else if_not (may_assign (find known t.name)) t.line ++ expression_forms known e;
-  condition = λ line e. expression_forms known e;
-  -- one case alone, over the current state
-  selected = λ seen line name. if_not (not seen) line ++ if_not (bytes_eq name.text n.current) name.line;
-}
+-- there is one case alone, over the current state
+abbrev pub forms_at : List Symbol → Named → Mention → List ℕ
+forms_at known n (asserting e) = expression_forms known e
+forms_at known n (assigning t line e) =
+    if bytes_eq t.name n.next then next_forms line e else if_not (may_assign (find known t.name)) t.line ++ expression_forms known e
+forms_at known n (testing line e) = expression_forms known e
+forms_at known n (selecting seen line called) = if_not (not seen) line ++ if_not (bytes_eq called.text n.current) called.line
+forms_at known n (listing states) = []
 
 -- the process at the clock names the clock and the two state signals alone
 abbrev pub clock_forms : Named → ClockTree → List ℕ
@@ -69,5 +67,5 @@ abbrev pub all_forms : MachineTree → Named → List ℕ
 all_forms m n =
     port_forms m.entity.ports
     ++ (supply_faults false (m.signals.first ∷ m.signals.second ∷ [])
-    ++ (in_body (forms (symbols m) n) false m.step.body
+    ++ (found (forms_at (symbols m) n) m
     ++ (if_not (has_case m.step.body) m.step.end_line ++ clock_forms n m.clock)))
