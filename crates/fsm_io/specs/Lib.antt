@@ -10,4 +10,5 @@ pub mod Assigned
 pub mod Checks
 pub mod Text
 pub mod Machine
+pub mod Pieces
 pub mod Laws

@@ -10,6 +10,7 @@ mod pieces;
 mod processes;
 mod statements;
 
+pub use counting::named_by;
 pub use file::{
     Body, Branches, ClockProcess, Parts, StateFile, StateSignals, StateType, Statement,
     StepProcess,
