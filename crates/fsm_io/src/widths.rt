@@ -1,0 +1,111 @@
+// Where widths don't fit.
+ghost use Rattle.std.specs.Prelude.{◌≡◌, map, IfOk};
+ghost use Rattle.std.specs.List.{flat_map};
+ghost use Rattle.source_meaning.specs.Lines.{first_line};
+ghost use Rattle.fsm_text.specs.Written.{machine_view, clock_view};
+ghost use Rattle.fsm_io.specs.Known.{symbols};
+ghost use Rattle.fsm_io.specs.Looks.{mentions};
+ghost use Rattle.fsm_io.specs.Widths.{widths_at, clock_widths, all_widths};
+ghost use Rattle.fsm_io.specs.Pieces.{mention_of, named_of};
+
+use crate::known::Roles;
+use crate::mentions::Mention;
+use fsm_text::{ClockProcess, StateFile};
+use source_meaning::{
+    SymbolTable, Target, condition_fault, differ, found_width, measured, ports_fault, target_fault,
+    target_width, value_fault,
+};
+use std::alloc::AllocError;
+use vlsi_base::ParsedExpr;
+
+/// At an assignment: what is assigned to another target than the next state is as wide as the target.
+fn assignment_fault(
+    table: &SymbolTable,
+    roles: Roles,
+    target: &Target,
+    value: &ParsedExpr,
+) -> Result<Option<u32>, AllocError>
+    ensures { IfOk result (λ line. line ≡ first_line (widths_at table.now (named_of roles) (assigning target.now 0 (view value.now)))) }
+{
+    let measure = measured(table, value)?;
+    if !target.name.is_same(roles.next) && differ(measure.width, target_width(table, target)) {
+        return Ok(Some(target.line));
+    }
+    match target_fault(table, target) {
+        Some(line) => Ok(Some(line)),
+        None => Ok(measure.fault),
+    }
+}
+
+fn fault_at(
+    table: &SymbolTable,
+    roles: Roles,
+    mention: Mention,
+) -> Result<Option<u32>, AllocError>
+    ensures { IfOk result (λ line. line ≡ first_line (widths_at table.now (named_of roles) (mention_of mention))) }
+{
+    match mention {
+        Mention::Assertion(e) => value_fault(table, e),
+        Mention::Assignment(target, _, e) => assignment_fault(table, roles, target, e),
+        Mention::Condition(line, e) => condition_fault(table, line, e),
+        Mention::Case(_, _, _) | Mention::States(_) => Ok(None),
+    }
+}
+
+fn fault_in_mentions(
+    table: &SymbolTable,
+    roles: Roles,
+    mentions: &[Mention],
+) -> Result<Option<u32>, AllocError>
+    ensures { IfOk result (λ line. line ≡ first_line (flat_map (widths_at table.now (named_of roles)) (map mention_of mentions.now))) }
+{
+    for mention in mentions {
+        let found = fault_at(table, roles, *mention)?;
+        if let Some(line) = found {
+            return Ok(Some(line));
+        }
+    }
+    Ok(None)
+}
+
+fn fault_at_clock(
+    table: &SymbolTable,
+    roles: Roles,
+    process: &ClockProcess,
+) -> Result<Option<u32>, AllocError>
+    ensures { IfOk result (λ line. line ≡ first_line (clock_widths table.now (named_of roles) (clock_view process.now))) }
+{
+    let found = condition_fault(table, process.condition_line, &process.condition)?;
+    if let Some(line) = found {
+        return Ok(Some(line));
+    }
+    let target = &process.target;
+    let is_wide = found_width(table, target.text.as_bytes())
+        == found_width(table, process.value.text.as_bytes());
+    if is_wide || target.text.is_same(roles.next) {
+        Ok(None)
+    } else {
+        Ok(Some(target.line))
+    }
+}
+
+/// The first line at fault.
+pub fn width_fault(
+    table: &SymbolTable,
+    roles: Roles,
+    file: &StateFile,
+    mentions: &[Mention],
+) -> Result<Option<u32>, AllocError>
+    requires known { table.now ≡ symbols (machine_view file.now) }
+    requires mentions { map mention_of mentions.now ≡ mentions_in (machine_view file.now) }
+    ensures { IfOk result (λ line. line ≡ first_line (all_widths (machine_view file.now) (named_of roles))) }
+{
+    if let Some(line) = ports_fault(file.entity.ports.as_slice()) {
+        return Ok(Some(line));
+    }
+    let found = fault_in_mentions(table, roles, mentions)?;
+    match found {
+        Some(line) => Ok(Some(line)),
+        None => fault_at_clock(table, roles, &file.clock),
+    }
+}
