@@ -10,5 +10,7 @@ pub mod Assigned
 pub mod Checks
 pub mod Text
 pub mod Machine
+pub mod Layout
+pub mod Again
 pub mod Pieces
 pub mod Laws
