@@ -1,14 +1,34 @@
 -- What the code holds on its way.
-use Rattle.std.specs.Prelude.{ℕ, [], Option, None, Some}
+use Rattle.std.specs.Prelude.{◌≡◌, ◌<◌, ◌⊎◌, ℕ, Bool, List, [], ◌∷◌, ◌++◌, map, length, slice_index, Option, None, Some}
+use Rattle.std.specs.BTreeMap.{BTreeMap}
 use Rattle.vlsi_base.specs.Tree.{view}
+use Rattle.vlsi_base.specs.declared.name.Name.{Name}
+use Rattle.vlsi_base.specs.declared.entity.NewName.{NewName}
+use Rattle.vlsi_base.specs.declared.pragma.Pragma.{Pragma}
 use Rattle.vlsi_base.specs.declared.fault.FaultKind.{FaultKind}
 use Rattle.vlsi_base.specs.declared.fault.ReadError.{ReadError}
+use Rattle.vlsi_base.specs.declared.fault.ReadError.TheVariants as errors
+use Rattle.source_meaning.specs.declared.symbol_table.Symbol.{Symbol}
+use Rattle.source_meaning.specs.Symbols.{all_names}
+use Rattle.source_meaning.specs.Drivers.{is_among}
+use Rattle.source_meaning.specs.Formula.{place}
 use Rattle.source_meaning.specs.Checks.{fault}
+use Rattle.source_meaning.specs.Places.{Use, reads}
+use Rattle.fsm_meaning.specs.Statements.{Assignment, Statements}
+use Rattle.fsm_meaning.specs.Assigned.{sets_next, sets_output}
+use Rattle.fsm_text.specs.Written.{MachineTree, ClockTree}
 use Rattle.fsm_io.specs.declared.mentions.Mention.{Mention as Held}
 use Rattle.fsm_io.specs.declared.mentions.Mention.TheVariants as held
 use Rattle.fsm_io.specs.declared.known.Roles.{Roles}
+use Rattle.fsm_io.specs.declared.assigned.Sought.{Sought}
+use Rattle.fsm_io.specs.declared.assigned.Sought.TheVariants as sought
+use Rattle.fsm_io.specs.declared.writer.Spot.{Spot as Place}
+use Rattle.fsm_io.specs.declared.writer.Spot.TheVariants as at
 use Rattle.fsm_io.specs.Known.{Named}
-use Rattle.fsm_io.specs.Looks.{Mention, asserting, assigning, testing, selecting, listing}
+use Rattle.fsm_io.specs.Looks.{Mention, asserting, assigning, testing, selecting, listing, use_of}
+use Rattle.fsm_io.specs.Elaboration.{Frame, body_bits, frame_of, state_number}
+use Rattle.fsm_io.specs.Checks.{IsRefusedFor}
+use Rattle.fsm_io.specs.Layout.{Spot, alone, beside, behind_not, before}
 
 -- what stands there, wherever it lies in memory
 abbrev pub mention_of : Held → Mention
@@ -25,3 +45,38 @@ named_of r = record { current = r.current.now; next = r.next.now; clock = r.cloc
 abbrev pub line_fault : FaultKind → Option ℕ → Option ReadError
 line_fault k None = None
 line_fault k (Some line) = Some (fault k line [])
+
+abbrev pub first_use : List Use → Option Use
+first_use [] = None
+first_use (u ∷ _) = Some u
+
+-- the names of the process at the clock
+abbrev pub clock_uses : ClockTree → List Use
+clock_uses c = map use_of c.sensitivity ++ (reads c.condition ++ use_of c.target ∷ use_of c.value ∷ [])
+
+-- each bit that is declared is marked exactly where it is one of these
+pub record AreMarked (known : List Symbol) (names : List Name) (marks : List Bool) : Type 0 where
+  pub each : length marks ≡ length (all_names known)
+  pub marked : (n : Name) → place (all_names known) n < length marks → slice_index marks (place (all_names known) n) ≡ is_among names n
+
+-- what an assignment has to set
+abbrev pub sets_of : Sought → Assignment → Bool
+sets_of sought.Next = sets_next
+sets_of (sought.Bit text bit) = sets_output (record { text = text.now; bit = bit })
+
+-- these are the text's statements, whatever their expressions are made of
+pub record IsBodyOf (m : MachineTree) (n : Named) (body : Statements) : Type 0 where
+  pub vars : List Name
+  pub is : body ≡ body_bits (frame_of m n vars) m.step.body
+
+-- why a text is none, or memory has run out
+abbrev pub IsRefusedOrMemory : MachineTree → List Pragma → ReadError → Type 0
+IsRefusedOrMemory m pragmas errors.Memory = Unit {0}
+IsRefusedOrMemory m pragmas (errors.Input f) = IsRefusedFor m pragmas (errors.Input f)
+IsRefusedOrMemory m pragmas (errors.Limit l) = IsRefusedFor m pragmas (errors.Limit l)
+
+abbrev pub spot_view : Place → Spot
+spot_view at.Alone = alone
+spot_view at.Beside = beside
+spot_view at.BehindNot = behind_not
+spot_view (at.Before g) = before g

@@ -27,8 +27,7 @@ pub struct Frame<'a> {
 
 impl<'a> Frame<'a> {
     /// The bits of an expression, over the ports' bits.
-    fn values(&self, e: &ParsedExpr) -> Result<Vec<Expr>, AllocError>
-    {
+    fn values(&self, e: &ParsedExpr) -> Result<Vec<Expr>, AllocError> {
         let mut made = Vec::new(self.alloc);
         for value in bits(self.alloc, self.numbers, e)? {
             made.push(renumbered(self.alloc, &value, self.places)?)?;

@@ -91,8 +91,7 @@ impl Checking<'_> {
     }
 
     /// The first check that fails, before that for what is assigned.
-    fn fault(&self) -> Result<Option<ReadError>, AllocError>
-    {
+    fn fault(&self) -> Result<Option<ReadError>, AllocError> {
         if let Some(e) = self.names_fault()? {
             return Ok(Some(e));
         }

@@ -70,7 +70,7 @@ pub fn clock_fault(
     mentions: &[Mention],
 ) -> Result<Option<u32>, AllocError>
     requires known { table.now ≡ symbols (machine_view file.now) }
-    requires mentions { map mention_of mentions.now ≡ mentions_in (machine_view file.now) }
+    requires mentions { map mention_of mentions.now ≡ mentions (machine_view file.now) }
     ensures { IfOk result (λ line. line ≡ first_line (all_clock_reads (machine_view file.now) (named_of roles))) }
 {
     if let Some(line) = fault_in_mentions(roles, mentions) {

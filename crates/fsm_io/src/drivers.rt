@@ -25,7 +25,7 @@ fn assigned_bits(
     mentions: &[Mention],
 ) -> Result<Vec<bool>, AllocError>
     requires { AllDifferent (map (λ s. s.text) numbers.now) }
-    ensures { IfOk result (λ marks. AreAssigned numbers.now (flat_map (names_at numbers.now) (map mention_of mentions.now)) marks.items) }
+    ensures { IfOk result (λ marks. AreMarked numbers.now (flat_map (names_at numbers.now) (map mention_of mentions.now)) marks.items) }
 {
     let mut marks = Vec::new(alloc);
     marks.resize(numbers.total() as usize, false)?;
@@ -50,7 +50,7 @@ fn least_unmarked(
     symbol: &Symbol,
 ) -> Result<Option<Name>, AllocError>
     requires { AllDifferent (map (λ s. s.text) numbers.now) }
-    ensures { IfOk result (λ found. (assigned : List Name) → AreAssigned numbers.now assigned marks.now
+    ensures { IfOk result (λ found. (assigned : List Name) → AreMarked numbers.now assigned marks.now
         → found ≡ least (filter (λ n. not (is_among assigned n)) (symbol_names symbol.now))) }
 {
     let Some(range) = symbol.range else {
@@ -90,7 +90,7 @@ pub fn undriven(
 ) -> Result<Option<NameFault>, AllocError>
     requires known { numbers.now ≡ symbols (machine_view file.now) }
     requires different { AllDifferent (map (λ s. s.text) numbers.now) }
-    requires mentions { map mention_of mentions.now ≡ mentions_in (machine_view file.now) }
+    requires mentions { map mention_of mentions.now ≡ mentions (machine_view file.now) }
     ensures { IfOk result (λ found. found ≡ first_unassigned (machine_view file.now)) }
 {
     let marks = assigned_bits(alloc, numbers, mentions)?;

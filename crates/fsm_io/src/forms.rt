@@ -49,7 +49,7 @@ impl<'a> Readable<'a> {
 /// The first line in an expression at which a name is read that may not be, or a literal has too many bits or none.
 #[cycle(forms)]
 fn read_fault(readable: Readable, e: &ParsedExpr) -> Option<u32>
-    ensures { result ≡ first_line (forms_read readable (view e.now)) }
+    ensures { result ≡ first_line (readable_forms readable (view e.now)) }
 {
     match e {
         ParsedExpr::Bit(_, _) => None,
@@ -72,7 +72,7 @@ fn read_fault(readable: Readable, e: &ParsedExpr) -> Option<u32>
 
 #[cycle(forms)]
 fn read_fault_among(readable: Readable, others: &[(u32, ParsedExpr)]) -> Option<u32>
-    ensures { result ≡ first_line (in_operands (forms_read readable) (map operand_of others.now)) }
+    ensures { result ≡ first_line (in_operands (readable_forms readable) (map operand_of others.now)) }
 {
     for (_, e) in others {
         if let Some(line) = read_fault(readable, e) {
@@ -183,8 +183,8 @@ pub fn unsupported(
     has_case: bool,
 ) -> Option<u32>
     requires known { table.now ≡ symbols (machine_view file.now) }
-    requires mentions { map mention_of mentions.now ≡ mentions_in (machine_view file.now) }
-    requires case { has_case ≡ has_case_in (body_view file.now.step.body) }
+    requires mentions { map mention_of mentions.now ≡ mentions (machine_view file.now) }
+    requires case { has_case ≡ has_case (machine_view file.now).step.body }
     ensures { result ≡ first_line (all_forms (machine_view file.now) (named_of roles)) }
 {
     if let Some(line) = ports_form(file.entity.ports.as_slice()) {

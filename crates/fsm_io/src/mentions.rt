@@ -105,10 +105,7 @@ fn push_parts<'a>(
 }
 
 #[cycle(mentions)]
-fn push_branches<'a>(
-    list: &mut Vec<Mention<'a>>,
-    branches: &'a Branches,
-) -> Result<(), AllocError>
+fn push_branches<'a>(list: &mut Vec<Mention<'a>>, branches: &'a Branches) -> Result<(), AllocError>
     ensures { OnOk result (map mention_of list.new.items ≡ map mention_of list.old.items ++ in_branches (branches_view branches.now)) }
 {
     let mut rest = branches;

@@ -45,11 +45,7 @@ fn unknown_in_value<'a>(
     unknown_read(table, value)
 }
 
-fn unknown_at<'a>(
-    table: &SymbolTable,
-    roles: Roles,
-    mention: Mention<'a>,
-) -> Option<Place<'a>>
+fn unknown_at<'a>(table: &SymbolTable, roles: Roles, mention: Mention<'a>) -> Option<Place<'a>>
     ensures { option_map place_use result ≡ first_unknown table.now (uses_at (named_of roles) (mention_of mention)) }
 {
     match mention {
@@ -103,7 +99,7 @@ pub fn unknown<'a>(
     file: &'a StateFile,
     mentions: &[Mention<'a>],
 ) -> Option<Place<'a>>
-    requires { map mention_of mentions.now ≡ mentions_in (machine_view file.now) }
+    requires { map mention_of mentions.now ≡ mentions (machine_view file.now) }
     ensures { option_map place_use result ≡ first_unknown table.now (all_uses (machine_view file.now) (named_of roles)) }
 {
     if let Some(place) = unknown_in_list(table, file.step.sensitivity.as_slice()) {

@@ -37,11 +37,7 @@ fn assignment_fault(
     }
 }
 
-fn fault_at(
-    table: &SymbolTable,
-    roles: Roles,
-    mention: Mention,
-) -> Result<Option<u32>, AllocError>
+fn fault_at(table: &SymbolTable, roles: Roles, mention: Mention) -> Result<Option<u32>, AllocError>
     ensures { IfOk result (λ line. line ≡ first_line (widths_at table.now (named_of roles) (mention_of mention))) }
 {
     match mention {
@@ -97,7 +93,7 @@ pub fn width_fault(
     mentions: &[Mention],
 ) -> Result<Option<u32>, AllocError>
     requires known { table.now ≡ symbols (machine_view file.now) }
-    requires mentions { map mention_of mentions.now ≡ mentions_in (machine_view file.now) }
+    requires mentions { map mention_of mentions.now ≡ mentions (machine_view file.now) }
     ensures { IfOk result (λ line. line ≡ first_line (all_widths (machine_view file.now) (named_of roles))) }
 {
     if let Some(line) = ports_fault(file.entity.ports.as_slice()) {

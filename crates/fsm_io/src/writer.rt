@@ -1,15 +1,17 @@
 // State machines as texts.
-ghost use Rattle.std.specs.Prelude.{◌≡◌, ◌++◌, IfOk, OnOk};
+ghost use Rattle.std.specs.Prelude.{◌≡◌, ◌+◌, ◌++◌, IfOk, OnOk, length};
 ghost use Rattle.spell_theory.specs.Layout.{text_of};
 ghost use Rattle.bool_expr.specs.View.{view};
+ghost use Rattle.machine_meaning.specs.Machine.{names_of};
 ghost use Rattle.fsm_code.specs.View.{body_view, parts_view, branches_view, assignment_view};
-ghost use Rattle.fsm_io.specs.Layout.{expression_layout, name_layout, assignment_layout, states_layout, body_layout, parts_layout, branches_layout, fresh, taken_texts, words_of, fsm_bytes};
+ghost use Rattle.fsm_io.specs.Layout.{expression_layout, name_layout, assignment_layout, states_layout, body_layout, parts_layout, branches_layout, is_taken, fresh, taken_texts, pragma_line, words_of, fsm_bytes};
 ghost use Rattle.fsm_io.specs.Pieces.{words_view, spot_view};
 
 use crate::state_machine::StateMachine;
 use bool_expr::{Expr, Gate};
 use fsm_code::{Assignment, Branches, Parts, Statements};
 use std::alloc::{AllocError, Global};
+use vhdl_write::entity;
 use vlsi_base::{FileBytes, Name, Port, Text, push_u64};
 
 /// Where an expression stands.
@@ -243,4 +245,130 @@ impl Writer<'_> {
             }
         }
     }
+}
+
+/// Whether a port or a state has this text.
+fn is_taken(machine: &StateMachine, text: &[u8]) -> bool
+    ensures { result ≡ is_taken (taken_texts machine.now) text.now }
+{
+    machine
+        .ports()
+        .as_slice()
+        .iter()
+        .any(|p| p.name.text.as_bytes() == text)
+        || machine
+            .states()
+            .as_slice()
+            .iter()
+            .any(|s| s.text.as_bytes() == text)
+}
+
+/// The word, or the first of it with a number behind, that no port and no state has.
+fn fresh(alloc: Global, machine: &StateMachine, word: &[u8]) -> Result<Text, AllocError>
+    ensures { IfOk result (λ made. made ≡ fresh (length (taken_texts machine.now) + 1) (taken_texts machine.now) word.now) }
+{
+    let mut text = Text::from_bytes(alloc, word)?;
+    let mut number = 0u64;
+    while is_taken(machine, text.as_bytes()) {
+        text = Text::from_bytes(alloc, word)?;
+        push_u64(alloc, &mut text, number)?;
+        number += 1;
+    }
+    Ok(text)
+}
+
+impl<'a> Writer<'a> {
+    fn new(alloc: Global, machine: &'a StateMachine) -> Result<Writer<'a>, AllocError> {
+        Ok(Writer {
+            alloc,
+            out: FileBytes::new(Vec::new(alloc)),
+            ports: machine.ports().as_slice(),
+            states: machine.states().as_slice(),
+            current: fresh(alloc, machine, b"current")?,
+            next: fresh(alloc, machine, b"following")?,
+            type_name: fresh(alloc, machine, b"state")?,
+        })
+    }
+
+    /// A pragma on a line of its own.
+    fn pragma(out: &mut FileBytes, key: &[u8], name: &Text) -> Result<(), AllocError>
+        ensures { OnOk result (out.new ≡ out.old ++ pragma_line key.now name.now) }
+    {
+        out.append(b"-- pragma ")?;
+        out.append(key)?;
+        out.append(b" ")?;
+        out.append(name.as_bytes())?;
+        out.append(b"\n")
+    }
+
+    fn pragmas(&mut self, clock: &Text) -> Result<(), AllocError> {
+        Self::pragma(&mut self.out, b"CURRENT_STATE", &self.current)?;
+        Self::pragma(&mut self.out, b"NEXT_STATE", &self.next)?;
+        Self::pragma(&mut self.out, b"CLOCK", clock)
+    }
+
+    /// The type of the states and the two signals.
+    fn declarations(&mut self) -> Result<(), AllocError> {
+        self.out.append(b"type ")?;
+        self.out.append(self.type_name.as_bytes())?;
+        self.out.append(b" is (")?;
+        for k in 0..self.states.len() {
+            if k > 0 {
+                self.out.append(b", ")?;
+            }
+            self.out.append(self.states[k].text.as_bytes())?;
+        }
+        self.out.append(b");\nsignal ")?;
+        self.out.append(self.current.as_bytes())?;
+        self.out.append(b", ")?;
+        self.out.append(self.next.as_bytes())?;
+        self.out.append(b" : ")?;
+        self.out.append(self.type_name.as_bytes())?;
+        self.out.append(b";\n")
+    }
+
+    /// The process at the clock.
+    fn clock(&mut self, clock: &Text) -> Result<(), AllocError> {
+        self.out.append(b"process begin\nif ")?;
+        self.out.append(clock.as_bytes())?;
+        self.out.append(b" = '1' and not ")?;
+        self.out.append(clock.as_bytes())?;
+        self.out.append(b"'stable then\n")?;
+        self.out.append(self.current.as_bytes())?;
+        self.out.append(b" <= ")?;
+        self.out.append(self.next.as_bytes())?;
+        self.out.append(b";\nend if;\nend process;\n")
+    }
+
+    fn architecture(&mut self, machine: &StateMachine) -> Result<(), AllocError> {
+        self.out.append(b"\narchitecture fsm of ")?;
+        self.out.append(machine.name().as_bytes())?;
+        self.out.append(b" is\n")?;
+        self.declarations()?;
+        self.out.append(b"begin\nprocess begin\n")?;
+        self.body(machine.body())?;
+        self.out.append(b"end process;\n")?;
+        self.clock(&machine.clock().text)?;
+        self.out.append(b"end fsm;\n")
+    }
+}
+
+/// Writes a state machine as a text, which is read as the same one unless it passes a limit: three pragmas, each on a line; the entity,
+/// whose ports stand in the order of names, the bits of one text as one vector from the greatest down; and an architecture `fsm` with
+/// one statement on a line, in which each bit of an output is assigned by itself. The type of the states is called `state`, their
+/// signals `current` and `following`, or by the first number behind that makes it no port's and no state's name. Takes memory for the
+/// text.
+pub fn write_fsm(alloc: Global, machine: &StateMachine) -> Result<FileBytes, AllocError>
+    ensures { IfOk result (λ bytes. bytes ≡ fsm_bytes (words_of (length (taken_texts machine.now) + 1) machine.now) machine.now) }
+{
+    let mut writer = Writer::new(alloc, machine)?;
+    writer.pragmas(&machine.clock().text)?;
+    entity(
+        alloc,
+        &mut writer.out,
+        machine.name(),
+        machine.ports().as_slice(),
+    )?;
+    writer.architecture(machine)?;
+    Ok(writer.out)
 }

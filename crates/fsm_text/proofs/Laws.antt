@@ -32,11 +32,11 @@ one_refusal tokens d e (chained left chain before is) (chained other there after
 pub each_machine : EachMachine
 each_machine tokens = elim (unique.some_answer fsm one (start tokens.items)) [
   | inl a ↦ elim (decided tokens 0) [
-      | inl p ↦ inr (chain_error, chained p.0 p.1 (λ r no. absurd (unique.never_both fsm one (start tokens.items) a.1 a.0 r a.2 no)) refl)
-      | inr few ↦ inl (a.0, record { end = a.1; read = a.2; few = few })
-    ]
+    | inl p ↦ inr (chain_error, chained p.0 p.1 (λ r no. absurd (unique.never_both fsm one (start tokens.items) a.1 a.0 r a.2 no)) refl)
+    | inr few ↦ inl (a.0, record { end = a.1; read = a.2; few = few })
+  ]
   | inr r ↦ elim (decided tokens r.0.left) [
-      | inl p ↦ inr (chain_error, chained_before tokens r.0 r.1 p)
-      | inr few ↦ inr (error_of tokens.last_line tokens.items r.0, refused r.0 r.1 few refl)
-    ]
+    | inl p ↦ inr (chain_error, chained_before tokens r.0 r.1 p)
+    | inr few ↦ inr (error_of tokens.last_line tokens.items r.0, refused r.0 r.1 few refl)
+  ]
 ]

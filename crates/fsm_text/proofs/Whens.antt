@@ -50,12 +50,12 @@ branch_lasts = body_firsts ++ whens
 exact_step : {P : Type 0} (SI BI : Grammar BodyTree) {r : Reader BodyTree} (SM BM : Grammar BranchesTree) {m : Reader BranchesTree} → Bodies P SI BI r
     → Exact P (first_listed SI SM) (first_listed BI BM) false (numbers (form.Identifier ∷ [])) branch_lasts (branch_before_at r m)
     → Exact P ((one when >>= λ t. first_others SI or first_listed SI SM) or nothing closed) ((one when >>= λ t. first_others BI or first_listed BI BM) or nothing closed)
-        true whens branch_lasts (λ here. if is_at when here.rest then behind_when_at r m here else Ok (closed, here))
+    true whens branch_lasts (λ here. if is_at when here.rest then behind_when_at r m here else Ok (closed, here))
 unfolding behind_when_at others_branch_at
 exact_step SI BI SM BM e b = within whens branch_lasts
     (exact_behind when (exact_then (exact_one when) (λ t. exact_behind (form.Keyword word.Others)
-        (exact_then (exact_one (form.Keyword word.Others)) (λ u. exact_then (exact_one (form.Sign sign.Arrow)) (λ v. exact_then e (λ body. exact_nothing (others body)) refl) refl) refl)
-        b refl) refl) (exact_nothing closed) refl) refl refl refl
+    (exact_then (exact_one (form.Keyword word.Others)) (λ u. exact_then (exact_one (form.Sign sign.Arrow)) (λ v. exact_then e (λ body. exact_nothing (others body)) refl) refl) refl)
+    b refl) refl) (exact_nothing closed) refl) refl refl refl
 
 pub exact_few : {P : Type 0} (SI BI : Grammar BodyTree) {r : Reader BodyTree} → Bodies P SI BI r → (n : ℕ)
     → Exact P (few SI (suc n)) (few BI (suc n)) true whens branch_lasts (fewer_branches_at r (suc n))
@@ -74,7 +74,11 @@ grows I (suc n) p v (inl h) = inl (record { front = h.front; back = h.back; valu
   up : (q : List Item) → (first_others I or first_listed I (few I n)) q v → (first_others I or first_listed I (few I (suc n))) q v
   up q (inl g) = inl g
   up q (inr g) = inr (record {
-    front = g.front; back = g.back; value = g.value; parts = g.parts; before = g.before;
+    front = g.front;
+    back = g.back;
+    value = g.value;
+    parts = g.parts;
+    before = g.before;
     behind = record { front = g.behind.front; back = g.behind.back; value = g.behind.value; parts = g.behind.parts; before = grows I n g.behind.front g.behind.value g.behind.before; behind = g.behind.behind };
   })
 
@@ -100,15 +104,27 @@ to_few I [] None p q h (inl g) = absurd cc
 to_few I [] None p q h (inr g) = inr (rw h g.0, refl)
 to_few I [] (Some body) p q h (inr g) = absurd cc
 to_few I [] (Some body) p q h (inl g) = inl (record {
-  front = g.front; back = g.back; value = g.value; parts = ap (λ (z : List Item). z ++ q) h ∙ g.parts; before = g.before;
+  front = g.front;
+  back = g.back;
+  value = g.value;
+  parts = ap (λ (z : List Item). z ++ q) h ∙ g.parts;
+  before = g.before;
   behind = inl ?;
 })
 to_few I (b ∷ all) last p q h g =
     let led = h.3 in
     inl (record {
-      front = led.front; back = led.back ++ (h.1 ++ q); value = led.value; parts = ?; before = led.before;
+      front = led.front;
+      back = led.back ++ (h.1 ++ q);
+      value = led.value;
+      parts = ?;
+      before = led.before;
       behind = inr (record {
-        front = led.back; back = h.1 ++ q; value = b; parts = refl; before = led.behind;
+        front = led.back;
+        back = h.1 ++ q;
+        value = b;
+        parts = refl;
+        before = led.behind;
         behind = record { front = h.1 ++ q; back = []; value = branches_of all last; parts = sym (append-nil (h.1 ++ q)); before = to_few I all last h.1 q h.4 g; behind = (refl, refl) };
       });
     })
@@ -118,13 +134,20 @@ front_of : (I : Grammar BodyTree) (M : Grammar BranchesTree) (p q : List Item) (
     → (first_others I or first_listed I M) q v → branches I (p ++ q) v
 unfolding branches led_branch last_branch others_branch
 front_of I M p q v t h go (inl g) = record {
-  front = []; back = p ++ q; value = []; parts = refl; before = refl;
+  front = [];
+  back = p ++ q;
+  value = [];
+  parts = refl;
+  before = refl;
   behind = record { front = p ++ q; back = []; value = Some g.behind.behind.value; parts = sym (append-nil (p ++ q)); before = inl ?; behind = ? };
 }
 front_of I M p q v t h go (inr g) =
     let rest = go g.behind.front g.behind.value g.behind.before in
     record {
-      front = p ++ (g.front ++ rest.front); back = rest.back; value = g.value ∷ rest.value; parts = ?;
+      front = p ++ (g.front ++ rest.front);
+      back = rest.back;
+      value = g.value ∷ rest.value;
+      parts = ?;
       before = (p ++ g.front, rest.front, ?, record { front = p; back = g.front; value = t; parts = refl; before = h; behind = g.before }, rest.before);
       behind = ?;
     }

@@ -133,7 +133,7 @@ impl Tally {
         ensures known { self.new.numbers ≡ self.old.numbers }
         ensures counted { IfOk result (λ fits. (before : List Name) → IsTally self.old.numbers self.old.times.items before
             → MatchOption (taken before (counted_bits self.old.numbers target.now)) (fits ≡ false)
-                (λ after. (fits ≡ true) × IsTally self.new.numbers self.new.times.items after)) }
+            (λ after. (fits ≡ true) × IsTally self.new.numbers self.new.times.items after)) }
     {
         let places = target_places(alloc, &self.numbers, target)?;
         for number in &places {

@@ -104,11 +104,7 @@ pub fn listed_states(cursor: &mut Cursor) -> Result<NewNames, Stop>
 
 /// The word of an if or a case, where so many more may be open.
 #[tactic(auto, unfolding(grammar_theory::specs::Marks::step))]
-pub fn enter<'a>(
-    cursor: &mut Cursor<'a>,
-    word: Keyword,
-    room: u32,
-) -> Result<&'a PlacedToken, Stop>
+pub fn enter<'a>(cursor: &mut Cursor<'a>, word: Keyword, room: u32) -> Result<&'a PlacedToken, Stop>
     ensures taken { Gives (λ t. t.now) result cursor.new (take_marked (Form.Keyword word) (λ _. opens room) cursor.old) }
     ensures fits { IfOk result (λ _. 0 < room) }
 {
