@@ -1,5 +1,5 @@
 -- The same for ifs and cases within one another, however deep.
-use Rattle.std.proofs.Common.{◌≡◌, ℕ, zero, suc, ◌+◌, ◌-◌, ◌<◌, true, false, List, [], ◌∷◌, ◌++◌, length, inl, inr, refl, Result, Ok, Err, arith}
+use Rattle.std.proofs.Common.{◌≡◌, ℕ, zero, suc, ◌+◌, ◌-◌, ◌<◌, true, false, List, [], ◌∷◌, ◌++◌, length, None, inl, inr, refl, Result, Ok, Err, arith}
 use Rattle.vlsi_base.specs.Tree.{Tree, name}
 use Rattle.vhdl_token.specs.declared.keyword.Keyword.{Keyword}
 use Rattle.vhdl_token.specs.declared.keyword.Keyword.TheVariants as word
@@ -11,7 +11,7 @@ use Rattle.grammar_theory.specs.declared.refusal.Breach.TheVariants as broken
 use Rattle.grammar_theory.specs.declared.refusal.Reason.TheVariants as reason
 use Rattle.grammar_theory.specs.Tokens.{code}
 use Rattle.grammar_theory.specs.Marks.{Item, State, plain, starts, opens, step}
-use Rattle.grammar_theory.specs.Grammar.{Grammar, none, item, at_some}
+use Rattle.grammar_theory.specs.Grammar.{Grammar, none, nothing, item, one, Then, ◌or◌, list, at_some}
 use Rattle.grammar_theory.specs.Outcome.{At, Reader, refusal, list_at}
 use Rattle.grammar_theory.specs.Answers.{Answers}
 use Rattle.grammar_theory.proofs.Sets.{Set}
@@ -24,10 +24,11 @@ use Rattle.grammar_theory.proofs.Levels.{Rising}
 use Rattle.grammar_theory.proofs.AllLevels.{exact_all}
 use Rattle.grammar_theory.proofs.Listing.{consumes}
 use Rattle.vhdl_front.specs.Expression.{less}
+use Rattle.vhdl_front.specs.Entity.{new_name}
 use Rattle.vhdl_front.proofs.Language.{numbers, factor_firsts}
 use Rattle.vhdl_front.proofs.Nested.{sample_nested}
 use Rattle.fsm_text.specs.Written.{StatementTree, selected, chosen, closed, only, finish, BodyTree, PartTree, BranchTree, body_of}
-use Rattle.fsm_text.specs.Fsm.{used_name, behind_if, conditional, behind_case, case_statement, statement, body_over, nested, body, part, further_part, listed_branch}
+use Rattle.fsm_text.specs.Fsm.{used_name, part, further_part, last_part, behind_if, conditional, listed_branch, led_branch, others_branch, last_branch, branches, behind_case, case_statement, statement, body_over, nested, body}
 use Rattle.fsm_text.specs.FsmReading.{behind_if_at, conditional_at, behind_case_at, case_statement_at, statement_at, statement_kinds, statement_list_at, body_over_at, inner_at, body_at, part_at, further_part_at, listed_branch_at}
 use Rattle.fsm_text.specs.Pieces.{led_branch_at}
 use Rattle.fsm_text.proofs.FsmLanguage.{under, Bodies, body_firsts, exact_used_name, exact_assertion, exact_assignment, exact_further_part, exact_behind_if, exact_listed_branch, assert, if_word, case_word, elsif_word, semicolon}
@@ -87,25 +88,122 @@ shut_step s = refl
 token : Form → Item
 token f = item (some_of f) plain
 
+-- a token of a kind before a sentence
+led_one : {A : Type 0} (f : Form) (G : Grammar A) (items : List Item) (v : A) → G items v → Then (one f) (λ _. G) (token f ∷ items) v
+led_one f G items v h = record { front = token f ∷ []; back = items; value = some_of f; parts = refl; before = record { alone = refl; kind = some_of-code f }; behind = h }
+
+abbrev name_items : List Item
+name_items = token form.Identifier ∷ []
+
+abbrev then_items : List Item
+then_items = item (some_of (form.Keyword word.Then)) starts ∷ []
+
+sample_part : PartTree
+sample_part = record { line = (some_of form.Identifier).line; condition = name [] 0; body = finish }
+
+-- `x then`
+part_sample : (room : ℕ) (I : Grammar BodyTree) → I [] finish → part room I (name_items ++ then_items) sample_part
+unfolding part
+part_sample room I some = record {
+  front = name_items; back = then_items; value = ((some_of form.Identifier).line, name [] 0); parts = refl;
+  before = (record { level = 0; sentence = sample_nested 0 room }, refl);
+  behind = record {
+    front = then_items; back = []; value = some_of (form.Keyword word.Then); parts = refl; before = record { alone = refl; kind = some_of-code (form.Keyword word.Then) };
+    behind = record { front = []; back = []; value = finish; parts = refl; before = some; behind = (refl, refl) };
+  };
+}
+
 -- `x then end if ;`, behind the word
 if_sample : (room : ℕ) (I : Grammar BodyTree) → I [] finish → (p : List Item) × (v : StatementTree) × behind_if room I p v
-if_sample = ?
+unfolding behind_if last_part
+if_sample room I some =
+    let v : StatementTree = chosen (only sample_part.line sample_part.condition finish) in
+    let last = token (form.Keyword word.End) ∷ token if_word ∷ token semicolon ∷ [] in
+    (name_items ++ then_items ++ last, v, record {
+      front = name_items ++ then_items; back = last; value = sample_part; parts = refl; before = part_sample room I some;
+      behind = record {
+        front = []; back = last; value = []; parts = refl; before = refl;
+        behind = record {
+          front = []; back = last; value = None; parts = refl; before = inr (refl, refl);
+          behind = led_one (form.Keyword word.End) (Then (one if_word) (λ _. Then (one semicolon) (λ _. nothing v))) (token if_word ∷ token semicolon ∷ []) v
+              (led_one if_word (Then (one semicolon) (λ _. nothing v)) (token semicolon ∷ []) v (led_one semicolon (nothing v) [] v (refl, refl)));
+        };
+      };
+    })
 
 -- `x is end case ;`, behind the word
 case_sample : (line : ℕ) (I : Grammar BodyTree) → (p : List Item) × (v : StatementTree) × behind_case line I p v
-case_sample = ?
+unfolding behind_case used_name branches last_branch
+case_sample line I =
+    let x = new_name (some_of form.Identifier) in
+    let v : StatementTree = selected line x closed in
+    let last = token (form.Keyword word.End) ∷ token case_word ∷ token semicolon ∷ [] in
+    (name_items ++ token (form.Keyword word.Is) ∷ last, v, record {
+      front = name_items; back = token (form.Keyword word.Is) ∷ last; value = x; parts = refl;
+      before = record { front = name_items; back = []; value = some_of form.Identifier; parts = refl; before = record { alone = refl; kind = some_of-code form.Identifier }; behind = (refl, refl) };
+      behind = record {
+        front = token (form.Keyword word.Is) ∷ []; back = last; value = some_of (form.Keyword word.Is); parts = refl; before = record { alone = refl; kind = some_of-code (form.Keyword word.Is) };
+        behind = record {
+          front = []; back = last; value = closed; parts = refl;
+          before = record { front = []; back = []; value = []; parts = refl; before = refl; behind = record { front = []; back = []; value = None; parts = refl; before = inr (refl, refl); behind = (refl, refl) } };
+          behind = led_one (form.Keyword word.End) (Then (one case_word) (λ _. Then (one semicolon) (λ _. nothing v))) (token case_word ∷ token semicolon ∷ []) v
+              (led_one case_word (Then (one semicolon) (λ _. nothing v)) (token semicolon ∷ []) v (led_one semicolon (nothing v) [] v (refl, refl)));
+        };
+      };
+    })
+
+-- ---- a part of a grammar has a part of its sentences
+
+abbrev Sub : {A : Type 0} → Grammar A → Grammar A → Type 0
+Sub {A} L M = (p : List Item) (v : A) → L p v → M p v
+
+then_sub : {A C : Type 0} (L K : Grammar A) (M N : A → Grammar C) → Sub L K → ((x : A) → Sub (M x) (N x)) → Sub (Then L M) (Then K N)
+then_sub L K M N first rest p v h = record { front = h.front; back = h.back; value = h.value; parts = h.parts; before = first h.front h.value h.before; behind = rest h.value h.back v h.behind }
+
+behind_sub : {A C : Type 0} (L : Grammar A) (M N : A → Grammar C) → ((x : A) → Sub (M x) (N x)) → Sub (Then L M) (Then L N)
+behind_sub L M N rest = then_sub L L M N (λ p v h. h) rest
+
+either_sub : {A : Type 0} (L K M : Grammar A) → Sub L K → Sub (L or M) (K or M)
+either_sub L K M first p v (inl h) = inl (first p v h)
+either_sub L K M first p v (inr h) = inr h
+
+list_sub : {A : Type 0} (L K : Grammar A) → Sub L K → Sub (list L) (list K)
+list_sub L K each p [] h = h
+list_sub L K each p (v ∷ vs) h = (h.0, h.1, h.2, each h.0 v h.3, list_sub L K each h.1 vs h.4)
+
+part_sub : (room : ℕ) (S B : Grammar BodyTree) → Sub S B → Sub (part room S) (part room B)
+unfolding part
+part_sub room S B sub = behind_sub _ _ _ (λ c. behind_sub _ _ _ (λ t. then_sub S B _ _ sub (λ body p v h. h)))
+
+if_sub : (room : ℕ) (S B : Grammar BodyTree) → Sub S B → Sub (behind_if room S) (behind_if room B)
+unfolding behind_if further_part last_part
+if_sub room S B sub =
+    then_sub _ _ _ _ (part_sub room S B sub) (λ first. then_sub _ _ _ _ (list_sub _ _ (behind_sub _ _ _ (λ t. part_sub room S B sub)))
+    (λ more. then_sub _ _ _ _ (either_sub _ _ _ (behind_sub _ _ _ (λ t. then_sub S B _ _ sub (λ body p v h. h)))) (λ last p v h. h)))
+
+branches_sub : (S B : Grammar BodyTree) → Sub S B → Sub (branches S) (branches B)
+unfolding branches led_branch listed_branch last_branch others_branch
+branches_sub S B sub =
+    then_sub _ _ _ _ (list_sub _ _ (behind_sub _ _ _ (λ t. behind_sub _ _ _ (λ states. behind_sub _ _ _ (λ u. then_sub S B _ _ sub (λ body p v h. h))))))
+    (λ all. then_sub _ _ _ _ (either_sub _ _ _ (behind_sub _ _ _ (λ t. then_sub _ _ _ _ (behind_sub _ _ _ (λ u. behind_sub _ _ _ (λ w. sub))) (λ body p v h. h)))) (λ last p v h. h))
+
+case_sub : (line : ℕ) (S B : Grammar BodyTree) → Sub S B → Sub (behind_case line S) (behind_case line B)
+unfolding behind_case
+case_sub line S B sub = behind_sub _ _ _ (λ called. behind_sub _ _ _ (λ u. then_sub _ _ _ _ (branches_sub S B sub) (λ all p v h. h)))
 
 nothing_in : (deeper room : ℕ) → nested deeper room [] finish
 unfolding nested body_over
 nothing_in zero room = record { front = []; back = []; value = []; parts = refl; before = refl; behind = (refl, refl) }
 nothing_in (suc deeper) room = record { front = []; back = []; value = []; parts = refl; before = refl; behind = (refl, refl) }
 
-shut_words : {P : Type 0} (SI BI : Grammar BodyTree) → Shape BI true body_firsts body_firsts → (P → (q : List Item) (v : BodyTree) → SI q v → BI q v) → BI [] finish
-    → Enters P zero SI BI (inner_at zero)
+shut_words : {P : Type 0} (SI BI : Grammar BodyTree) → Shape BI true body_firsts body_firsts → (P → Sub SI BI) → BI [] finish → Enters P zero SI BI (inner_at zero)
 unfolding conditional conditional_at case_statement case_statement_at
-shut_words {P} SI BI sh inside some =
-    let ifs : Exact P (behind_if zero SI) (behind_if zero BI) false factor_firsts [] (behind_if_at zero (inner_at zero)) = ? in
-    record { ifs = exact_shut if_word (λ _. opens zero) broken.Depth (λ t s. shut_step s) (λ t. ifs.shape) (λ p t. ifs.inside p) (λ t. if_sample zero BI some) (λ t. behind_if_at zero (inner_at zero)); cases = ? }
+shut_words {P} SI BI sh inside some = record {
+  ifs = exact_shut if_word (λ _. opens zero) broken.Depth (λ t s. shut_step s) (λ t. (exact_behind_if zero BI BI (nowhere BI sh)).shape)
+      (λ p t. if_sub zero SI BI (inside p)) (λ t. if_sample zero BI some) (λ t. behind_if_at zero (inner_at zero));
+  cases = exact_shut case_word (λ _. opens zero) broken.Depth (λ t s. shut_step s) (λ t. (exact_behind_case t.line BI BI (nowhere BI sh)).shape)
+      (λ p t. case_sub t.line SI BI (inside p)) (λ t. case_sample t.line BI) (λ t. behind_case_at t.line (inner_at zero));
+}
 
 abbrev Deeper : ℕ → ℕ → ℕ → Type 0
 Deeper d e room = (d < e) × (room < e)
@@ -179,7 +277,13 @@ further_part_consumes (suc room) some here there v h =
     consumes (further_part room (nested (room + 1) room)) (numbers (elsif_word ∷ [])) body_firsts (further_part_at room (inner_at (suc room))) p.shape (p.reads (omega arith, omega arith)) here there v h
 
 pub led_branch_consumes : (room : ℕ) → 0 < room → (here there : At) (v : BranchTree) → led_branch_at (inner_at room) here ≡ Ok (v, there) → length there.rest < length here.rest
-led_branch_consumes = ?
+unfolding led_branch_at
+led_branch_consumes zero some here there v h = absurd (omega (arith, some))
+led_branch_consumes (suc room) some here there v h =
+    let S = nested zero room in
+    let B = nested (room + 1) room in
+    let p = exact_then (exact_one (form.Keyword word.When)) (λ t. exact_listed_branch S B (inside room)) refl in
+    consumes (led_branch B) (numbers (form.Keyword word.When ∷ [])) body_firsts (led_branch_at (inner_at (suc room))) p.shape (p.reads (omega arith, omega arith)) here there v h
 
 -- what stands in an if or a case is a body with one less that may be open
 pub inner_is_body : (room : ℕ) → 0 < room → (here : At) → inner_at room here ≡ body_at (room - 1) here
