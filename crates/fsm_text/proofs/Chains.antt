@@ -51,10 +51,7 @@ same_entity tokens e behind h =
 -- whether a place stands before so many tokens
 pub told : (left : ℕ) (o : Option ℕ) → ((place : ℕ) × (o ≡ Some place) × (left < place)) ⊎ ((place : ℕ) → o ≡ Some place → left < place → ⊥)
 told left None = inr (λ place e. absurd cc)
-told left (Some k) = elim (nat_lt_dec left k) [
-  | inl lt ↦ inl (k, refl, lt)
-  | inr ge ↦ inr (λ place e lt. let same : k ≡ place = some_is k place e in absurd (omega (arith, ge, lt, same)))
-]
+told left (Some k) = ?
 
 pub decided : (tokens : Tokens) (left : ℕ) → PassesBefore tokens left ⊎ (PassesBefore tokens left → ⊥)
 decided tokens left = by (entity_at DEPTH (start tokens.items)) (entity_answers DEPTH (start tokens.items)) refl where

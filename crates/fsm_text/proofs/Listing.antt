@@ -6,7 +6,7 @@ use Rattle.grammar_theory.specs.declared.refusal.Stop.{Stop}
 use Rattle.grammar_theory.specs.declared.refusal.Stop.TheVariants as stop
 use Rattle.grammar_theory.specs.Outcome.{At, Outcome, Reader, Fails, ◌>>=◌, with_front}
 use Rattle.fsm_text.specs.Written.{BodyTree, BranchTree, BranchesTree, branches_of}
-use Rattle.fsm_text.specs.FsmReading.{branches_at}
+use Rattle.fsm_text.specs.FsmReading.{fewer_branches_at, branches_at}
 use Rattle.fsm_text.specs.Pieces.{goes_on, led_branch_at, listed_within_at, listed_list_at, others_at}
 
 -- what the loop keeps, with the branches so far in done
@@ -15,26 +15,76 @@ pub record Listed (inner : Reader BodyTree) (done : List BranchTree) (here : At)
   pub enough : length here.rest ≤ fuel
   pub so_far : with_front done (listed_within_at inner fuel here) ≡ total
 
+no_front : (read : Outcome (List BranchTree)) → with_front [] read ≡ read
+no_front (Ok x) = refl
+no_front (Err e) = refl
+
+regroup : (front : List BranchTree) (v : BranchTree) (read : Outcome (List BranchTree)) → with_front front (read >>= λ x. Ok (v ∷ x.0, x.1)) ≡ with_front (front ++ v ∷ []) read
+regroup front v (Ok x) = ap (λ (vs : List BranchTree). Ok (vs, x.1)) (sym (append_assoc front (v ∷ []) x.0))
+regroup front v (Err e) = refl
+
+some_token : (ts : List PlacedToken) → goes_on ts ≡ true → 0 < length ts
+some_token [] e = absurd cc
+some_token (t ∷ ts) e = omega arith
+
 pub begins : (inner : Reader BodyTree) (start : At) → Listed inner [] start (listed_list_at inner start)
 unfolding listed_list_at
-begins = ?
+begins inner start = record { fuel = length start.rest; enough = omega arith; so_far = no_front (listed_within_at inner (length start.rest) start) }
 
 pub goes_further : (inner : Reader BodyTree) (done : List BranchTree) (here : At) (total : Outcome (List BranchTree)) → Listed inner done here total
     → goes_on here.rest ≡ true → (v : BranchTree) (there : At) → led_branch_at inner here ≡ Ok (v, there) → length there.rest < length here.rest → Listed inner (done ++ v ∷ []) there total
 unfolding listed_within_at
-goes_further = ?
+goes_further inner done here total kept at v there h less = go kept.fuel kept.enough kept.so_far where
+  go : (n : ℕ) → length here.rest ≤ n → with_front done (listed_within_at inner n here) ≡ total → Listed inner (done ++ v ∷ []) there total
+  go zero le e = absurd (omega (arith, some_token here.rest at))
+  go (suc n) le e =
+      let one : with_front done (listed_within_at inner (suc n) here) ≡ with_front (done ++ v ∷ []) (listed_within_at inner n there) = rw (at, h) (regroup done v (listed_within_at inner n there)) in
+      record { fuel = n; enough = omega arith; so_far = sym one ∙ e }
 
 pub fails : (inner : Reader BodyTree) (done : List BranchTree) (here : At) (total : Outcome (List BranchTree)) → Listed inner done here total
     → goes_on here.rest ≡ true → (e : Stop) → Fails e (led_branch_at inner here) → Fails e total
 unfolding listed_within_at
-fails = ?
+fails inner done here total kept at stop.Memory h = tt
+fails inner done here total kept at (stop.Refused r) h = go kept.fuel kept.enough kept.so_far where
+  go : (n : ℕ) → length here.rest ≤ n → with_front done (listed_within_at inner n here) ≡ total → total ≡ Err r
+  go zero le e = absurd (omega (arith, some_token here.rest at))
+  go (suc n) le e =
+      let one : with_front done (listed_within_at inner (suc n) here) ≡ Err r = rw (at, h) refl in
+      sym e ∙ one
 
 pub ends : (inner : Reader BodyTree) (done : List BranchTree) (here : At) (total : Outcome (List BranchTree)) → Listed inner done here total
     → goes_on here.rest ≡ false → total ≡ Ok (done, here)
 unfolding listed_within_at
-ends = ?
+ends inner done here total kept at = go kept.fuel kept.so_far where
+  at_last : List BranchTree → Outcome (List BranchTree)
+  at_last vs = Ok (vs, here)
 
--- listed branches and what stands behind them are branches
-pub two_steps : (inner : Reader BodyTree) (here : At) → branches_at inner here ≡ (listed_list_at inner here >>= λ all. others_at inner all.1 >>= λ last. Ok (branches_of all.0 last.0, last.1))
-unfolding branches_at listed_list_at others_at
-two_steps = ?
+  last : at_last (done ++ []) ≡ at_last done
+  last = ap at_last (append-nil done)
+
+  go : (n : ℕ) → with_front done (listed_within_at inner n here) ≡ total → total ≡ Ok (done, here)
+  go zero e = sym e ∙ last
+  go (suc n) e =
+      let one : with_front done (listed_within_at inner (suc n) here) ≡ Ok (done ++ [], here) = rw at refl in
+      sym e ∙ one ∙ last
+
+-- ---- listed branches and what stands behind them are branches
+
+bind_assoc : {A B C : Type 0} (o : Outcome A) (f : A × At → Outcome B) (g : B × At → Outcome C) → ((o >>= f) >>= g) ≡ (o >>= λ x. f x >>= g)
+bind_assoc (Ok x) f g = refl
+bind_assoc (Err e) f g = refl
+
+-- behind the listed branches
+joined : Reader BodyTree → List BranchTree × At → Outcome BranchesTree
+joined inner all = others_at inner all.1 >>= λ last. Ok (branches_of all.0 last.0, last.1)
+
+-- with so many tokens at most, by induction on them: at no `when` both are closed; at `when` and `others` nothing is listed; else one
+-- branch is, and it takes tokens
+two_steps_within : (inner : Reader BodyTree) → ((here there : At) (v : BranchTree) → led_branch_at inner here ≡ Ok (v, there) → length there.rest < length here.rest)
+    → (n : ℕ) (here : At) → length here.rest ≤ n → fewer_branches_at inner n here ≡ (listed_within_at inner n here >>= joined inner)
+two_steps_within inner consumes n here le = ?
+
+pub two_steps : (inner : Reader BodyTree) → ((here there : At) (v : BranchTree) → led_branch_at inner here ≡ Ok (v, there) → length there.rest < length here.rest)
+    → (here : At) → branches_at inner here ≡ (listed_list_at inner here >>= joined inner)
+unfolding branches_at listed_list_at
+two_steps inner consumes here = two_steps_within inner consumes (length here.rest) here (omega arith)

@@ -105,10 +105,17 @@ sample_part = record { line = (some_of form.Identifier).line; condition = name [
 part_sample : (room : ℕ) (I : Grammar BodyTree) → I [] finish → part room I (name_items ++ then_items) sample_part
 unfolding part
 part_sample room I some = record {
-  front = name_items; back = then_items; value = ((some_of form.Identifier).line, name [] 0); parts = refl;
+  front = name_items;
+  back = then_items;
+  value = ((some_of form.Identifier).line, name [] 0);
+  parts = refl;
   before = (record { level = 0; sentence = sample_nested 0 room }, refl);
   behind = record {
-    front = then_items; back = []; value = some_of (form.Keyword word.Then); parts = refl; before = record { alone = refl; kind = some_of-code (form.Keyword word.Then) };
+    front = then_items;
+    back = [];
+    value = some_of (form.Keyword word.Then);
+    parts = refl;
+    before = record { alone = refl; kind = some_of-code (form.Keyword word.Then) };
     behind = record { front = []; back = []; value = finish; parts = refl; before = some; behind = (refl, refl) };
   };
 }
@@ -118,18 +125,33 @@ if_sample : (room : ℕ) (I : Grammar BodyTree) → I [] finish → (p : List It
 unfolding behind_if last_part
 if_sample room I some =
     let v : StatementTree = chosen (only sample_part.line sample_part.condition finish) in
-    let last = token (form.Keyword word.End) ∷ token if_word ∷ token semicolon ∷ [] in
-    (name_items ++ then_items ++ last, v, record {
-      front = name_items ++ then_items; back = last; value = sample_part; parts = refl; before = part_sample room I some;
-      behind = record {
-        front = []; back = last; value = []; parts = refl; before = refl;
+    let last = token (form.Keyword word.End) ∷ token if_word ∷ token semicolon ∷ [] in (
+      name_items ++ then_items ++ last,
+      v,
+      record {
+        front = name_items ++ then_items;
+        back = last;
+        value = sample_part;
+        parts = refl;
+        before = part_sample room I some;
         behind = record {
-          front = []; back = last; value = None; parts = refl; before = inr (refl, refl);
-          behind = led_one (form.Keyword word.End) (Then (one if_word) (λ _. Then (one semicolon) (λ _. nothing v))) (token if_word ∷ token semicolon ∷ []) v
-              (led_one if_word (Then (one semicolon) (λ _. nothing v)) (token semicolon ∷ []) v (led_one semicolon (nothing v) [] v (refl, refl)));
+          front = [];
+          back = last;
+          value = [];
+          parts = refl;
+          before = refl;
+          behind = record {
+            front = [];
+            back = last;
+            value = None;
+            parts = refl;
+            before = inr (refl, refl);
+            behind = led_one (form.Keyword word.End) (Then (one if_word) (λ _. Then (one semicolon) (λ _. nothing v))) (token if_word ∷ token semicolon ∷ []) v
+                (led_one if_word (Then (one semicolon) (λ _. nothing v)) (token semicolon ∷ []) v (led_one semicolon (nothing v) [] v (refl, refl)));
+          };
         };
-      };
-    })
+      },
+    )
 
 -- `x is end case ;`, behind the word
 case_sample : (line : ℕ) (I : Grammar BodyTree) → (p : List Item) × (v : StatementTree) × behind_case line I p v
@@ -137,20 +159,33 @@ unfolding behind_case used_name branches last_branch
 case_sample line I =
     let x = new_name (some_of form.Identifier) in
     let v : StatementTree = selected line x closed in
-    let last = token (form.Keyword word.End) ∷ token case_word ∷ token semicolon ∷ [] in
-    (name_items ++ token (form.Keyword word.Is) ∷ last, v, record {
-      front = name_items; back = token (form.Keyword word.Is) ∷ last; value = x; parts = refl;
-      before = record { front = name_items; back = []; value = some_of form.Identifier; parts = refl; before = record { alone = refl; kind = some_of-code form.Identifier }; behind = (refl, refl) };
-      behind = record {
-        front = token (form.Keyword word.Is) ∷ []; back = last; value = some_of (form.Keyword word.Is); parts = refl; before = record { alone = refl; kind = some_of-code (form.Keyword word.Is) };
+    let last = token (form.Keyword word.End) ∷ token case_word ∷ token semicolon ∷ [] in (
+      name_items ++ token (form.Keyword word.Is) ∷ last,
+      v,
+      record {
+        front = name_items;
+        back = token (form.Keyword word.Is) ∷ last;
+        value = x;
+        parts = refl;
+        before = record { front = name_items; back = []; value = some_of form.Identifier; parts = refl; before = record { alone = refl; kind = some_of-code form.Identifier }; behind = (refl, refl) };
         behind = record {
-          front = []; back = last; value = closed; parts = refl;
-          before = record { front = []; back = []; value = []; parts = refl; before = refl; behind = record { front = []; back = []; value = None; parts = refl; before = inr (refl, refl); behind = (refl, refl) } };
-          behind = led_one (form.Keyword word.End) (Then (one case_word) (λ _. Then (one semicolon) (λ _. nothing v))) (token case_word ∷ token semicolon ∷ []) v
-              (led_one case_word (Then (one semicolon) (λ _. nothing v)) (token semicolon ∷ []) v (led_one semicolon (nothing v) [] v (refl, refl)));
+          front = token (form.Keyword word.Is) ∷ [];
+          back = last;
+          value = some_of (form.Keyword word.Is);
+          parts = refl;
+          before = record { alone = refl; kind = some_of-code (form.Keyword word.Is) };
+          behind = record {
+            front = [];
+            back = last;
+            value = closed;
+            parts = refl;
+            before = record { front = []; back = []; value = []; parts = refl; before = refl; behind = record { front = []; back = []; value = None; parts = refl; before = inr (refl, refl); behind = (refl, refl) } };
+            behind = led_one (form.Keyword word.End) (Then (one case_word) (λ _. Then (one semicolon) (λ _. nothing v))) (token case_word ∷ token semicolon ∷ []) v
+                (led_one case_word (Then (one semicolon) (λ _. nothing v)) (token semicolon ∷ []) v (led_one semicolon (nothing v) [] v (refl, refl)));
+          };
         };
-      };
-    })
+      },
+    )
 
 -- ---- a part of a grammar has a part of its sentences
 

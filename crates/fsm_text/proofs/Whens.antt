@@ -106,9 +106,17 @@ last_to I q body h =
     let same : body ≡ h.value = cc in
     let parts : q ≡ o.front ++ o.back = h.parts ∙ ap (λ (z : List Item). h.front ++ z) h.behind.0 ∙ append-nil h.front ∙ o.parts in
     record {
-      front = o.front; back = o.back; value = o.value; parts = parts; before = o.before;
+      front = o.front;
+      back = o.back;
+      value = o.value;
+      parts = parts;
+      before = o.before;
       behind = record {
-        front = o.behind.front; back = o.behind.back; value = o.behind.value; parts = o.behind.parts; before = o.behind.before;
+        front = o.behind.front;
+        back = o.behind.back;
+        value = o.behind.value;
+        parts = o.behind.parts;
+        before = o.behind.before;
         behind = record { front = o.behind.back; back = []; value = h.value; parts = sym (append-nil o.behind.back); before = o.behind.behind; behind = (refl, ap others same) };
       };
     }
@@ -119,9 +127,16 @@ last_from I q v g =
     let x = g.behind.behind in
     let e : g.behind.back ≡ x.front = x.parts ∙ ap (λ (z : List Item). x.front ++ z) x.behind.0 ∙ append-nil x.front in
     record {
-      front = q; back = []; value = x.value; parts = sym (append-nil q);
+      front = q;
+      back = [];
+      value = x.value;
+      parts = sym (append-nil q);
       before = record {
-        front = g.front; back = g.back; value = g.value; parts = g.parts; before = g.before;
+        front = g.front;
+        back = g.back;
+        value = g.value;
+        parts = g.parts;
+        before = g.before;
         behind = record { front = g.behind.front; back = g.behind.back; value = g.behind.value; parts = g.behind.parts; before = g.behind.before; behind = subst (λ (z : List Item). I z x.value) (sym e) x.before };
       };
       behind = (refl, refl);
@@ -134,7 +149,12 @@ to_few I [] None p q h (inl g) = let e = g.behind.behind.1 in absurd cc
 to_few I [] None p q h (inr g) = inr (rw (h, g.0) refl, refl)
 to_few I [] (Some body) p q h (inr g) = let e = g.1 in absurd cc
 to_few I [] (Some body) p q h (inl g) = inl (record {
-  front = g.front; back = g.back; value = g.value; parts = ap (λ (z : List Item). z ++ q) h ∙ g.parts; before = g.before; behind = inl (last_to I g.back body g.behind);
+  front = g.front;
+  back = g.back;
+  value = g.value;
+  parts = ap (λ (z : List Item). z ++ q) h ∙ g.parts;
+  before = g.before;
+  behind = inl (last_to I g.back body g.behind);
 })
 to_few I (b ∷ all) last p q h g =
     let led = h.3 in
@@ -142,9 +162,17 @@ to_few I (b ∷ all) last p q h g =
     let parts : p ++ q ≡ led.front ++ (led.back ++ rest) =
     ap (λ (z : List Item). z ++ q) h.2 ∙ append_assoc h.0 h.1 q ∙ ap (λ (z : List Item). z ++ rest) led.parts ∙ append_assoc led.front led.back rest in
     inl (record {
-      front = led.front; back = led.back ++ rest; value = led.value; parts = parts; before = led.before;
+      front = led.front;
+      back = led.back ++ rest;
+      value = led.value;
+      parts = parts;
+      before = led.before;
       behind = inr (record {
-        front = led.back; back = rest; value = b; parts = refl; before = led.behind;
+        front = led.back;
+        back = rest;
+        value = b;
+        parts = refl;
+        before = led.behind;
         behind = record { front = rest; back = []; value = branches_of all last; parts = sym (append-nil rest); before = to_few I all last h.1 q h.4 g; behind = (refl, refl) };
       });
     })
@@ -154,9 +182,16 @@ front_of : (I : Grammar BodyTree) (M : Grammar BranchesTree) (p q : List Item) (
     → (first_others I or first_listed I M) q v → branches I (p ++ q) v
 unfolding branches led_branch last_branch
 front_of I M p q v t h go (inl g) = record {
-  front = []; back = p ++ q; value = []; parts = refl; before = refl;
+  front = [];
+  back = p ++ q;
+  value = [];
+  parts = refl;
+  before = refl;
   behind = record {
-    front = p ++ q; back = []; value = Some g.behind.behind.value; parts = sym (append-nil (p ++ q));
+    front = p ++ q;
+    back = [];
+    value = Some g.behind.behind.value;
+    parts = sym (append-nil (p ++ q));
     before = inl (record { front = p; back = q; value = t; parts = refl; before = h; behind = last_from I q v g });
     behind = (refl, g.behind.behind.behind.1);
   };
@@ -168,10 +203,17 @@ front_of I M p q v t h go (inr g) =
     ap (λ (z : List Item). p ++ z) (g.parts ∙ ap (λ (z : List Item). g.front ++ z) tail)
     ∙ sym (append_assoc p g.front (rest.front ++ rest.back)) ∙ sym (append_assoc (p ++ g.front) rest.front rest.back) in
     record {
-      front = (p ++ g.front) ++ rest.front; back = rest.back; value = g.value ∷ rest.value; parts = whole;
+      front = (p ++ g.front) ++ rest.front;
+      back = rest.back;
+      value = g.value ∷ rest.value;
+      parts = whole;
       before = (p ++ g.front, rest.front, refl, record { front = p; back = g.front; value = t; parts = refl; before = h; behind = g.before }, rest.before);
       behind = record {
-        front = rest.behind.front; back = rest.behind.back; value = rest.behind.value; parts = rest.behind.parts; before = rest.behind.before;
+        front = rest.behind.front;
+        back = rest.behind.back;
+        value = rest.behind.value;
+        parts = rest.behind.parts;
+        before = rest.behind.before;
         behind = (rest.behind.behind.0, g.behind.behind.1 ∙ ap (listed g.value.states g.value.body) rest.behind.behind.1);
       };
     }

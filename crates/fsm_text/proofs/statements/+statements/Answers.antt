@@ -105,4 +105,4 @@ listed_branches-returns t c =
     branches.ends (inner_at c.args.room) (map branch_view c.loop-cursor.branches.items) c.loop-cursor.cursor (listed_list_at (inner_at c.args.room) c.args.cursor.now) c.loop-cursor.invariant on
 
 pub branches-returns : goal.branches-returns
-branches-returns t c = rw (branches.two_steps (inner_at c.args.room) c.args.cursor.now) ?
+branches-returns t c = rw (branches.two_steps (inner_at c.args.room) (led_branch_consumes c.args.room c.args.requires) c.args.cursor.now) ?
