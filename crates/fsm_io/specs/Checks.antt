@@ -9,7 +9,7 @@ use Rattle.vlsi_base.specs.declared.fault.ReadError.TheVariants as errors
 use Rattle.source_meaning.specs.Symbols.{scalar}
 use Rattle.source_meaning.specs.Places.{Use, first_unknown}
 use Rattle.source_meaning.specs.Elaboration.{port_bits}
-use Rattle.source_meaning.specs.Checks.{most_ports, fault, if_use, if_line, if_name}
+use Rattle.source_meaning.specs.Checks.{most_ports, fault, if_use, if_line, if_name, if_symbol, first_repeated}
 use Rattle.fsm_text.specs.Written.{MachineTree}
 use Rattle.fsm_io.specs.Known.{Named, symbols, named}
 use Rattle.fsm_io.specs.Looks.{all_uses}
@@ -43,8 +43,9 @@ abbrev pub fault_of : MachineTree → Option Named → Option ReadError
 fault_of m None = Some (fault kind.NoPragma 1 [])
 fault_of m (Some n) = fault_behind m n
 
+-- The checks in their order. A reader of texts refuses a name that is declared twice where it stands.
 abbrev pub first_fault : MachineTree → List Pragma → Option ReadError
-first_fault m pragmas = fault_of m (named m pragmas)
+first_fault m pragmas = if_symbol (first_repeated [] (symbols m)) (fault_of m (named m pragmas))
 
 abbrev pub ports_count : MachineTree → ℕ
 ports_count m = length (port_bits (symbols m))
@@ -61,6 +62,6 @@ IsRefusedFor m pragmas e = (first_fault m pragmas ≡ Some e) ⊎ ((first_fault 
 -- no check fails, and no limit is passed
 pub record Passes (m : MachineTree) (pragmas : List Pragma) (n : Named) : Type 0 where
   pub names : named m pragmas ≡ Some n
-  pub no_fault : fault_behind m n ≡ None
+  pub no_fault : first_fault m pragmas ≡ None
   pub few_ports : ports_count m ≤ most_ports
   pub few_states : length m.states.states ≤ most_states

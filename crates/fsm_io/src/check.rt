@@ -21,6 +21,7 @@ use crate::widths::width_fault;
 use fsm_code::Statements;
 use fsm_text::StateFile;
 use source_bits::Numbers;
+use source_meaning::repeated;
 use std::alloc::{AllocError, Global};
 use vlsi_base::{
     FaultKind, InputFault, Limit, LimitKind, Name, Names, Port, Ports, Pragma, ReadError,
@@ -45,7 +46,9 @@ struct Checking<'a> {
 
 impl Checking<'_> {
     /// The first name that isn't declared, or else the first width that doesn't fit.
-    fn names_fault(&self) -> Result<Option<ReadError>, AllocError> {
+    fn names_fault(&self) -> Result<Option<ReadError>, AllocError>
+        ensures { IfOk result (λ e. (m : MachineTree) (n : Named) → Suits self.now m n → e ≡ names_fault m n) }
+    {
         let table = self.numbers.table();
         if let Some(place) = unknown(table, self.roles, self.file, self.mentions) {
             let e = text_fault(self.alloc, FaultKind::Unknown, place.line, place.text)?;
@@ -56,7 +59,9 @@ impl Checking<'_> {
     }
 
     /// The first output that nothing assigns, or else the first form that is left out.
-    fn forms_fault(&self) -> Result<Option<ReadError>, AllocError> {
+    fn forms_fault(&self) -> Result<Option<ReadError>, AllocError>
+        ensures { IfOk result (λ e. (m : MachineTree) (n : Named) → Suits self.now m n → e ≡ forms_fault m n) }
+    {
         let found = undriven(self.alloc, self.numbers, self.file, self.mentions)?;
         if let Some(fault) = found {
             let e = name_fault(self.alloc, FaultKind::Undriven, fault.line, fault.name)?;
@@ -73,7 +78,9 @@ impl Checking<'_> {
     }
 
     /// The first place where the clock mustn't stand, or else the first name that is no state.
-    fn states_fault(&self) -> Result<Option<ReadError>, AllocError> {
+    fn states_fault(&self) -> Result<Option<ReadError>, AllocError>
+        ensures { IfOk result (λ e. (m : MachineTree) (n : Named) → Suits self.now m n → e ≡ states_fault m n) }
+    {
         let table = self.numbers.table();
         let line = clock_fault(self.alloc, table, self.roles, self.file, self.mentions)?;
         if let Some(e) = line_fault(self.alloc, FaultKind::ClockUse, line) {
@@ -91,7 +98,9 @@ impl Checking<'_> {
     }
 
     /// The first check that fails, before that for what is assigned.
-    fn fault(&self) -> Result<Option<ReadError>, AllocError> {
+    fn fault(&self) -> Result<Option<ReadError>, AllocError>
+        ensures { IfOk result (λ e. (m : MachineTree) (n : Named) → Suits self.now m n → e ≡ or_else (names_fault m n) (or_else (forms_fault m n) (states_fault m n))) }
+    {
         if let Some(e) = self.names_fault()? {
             return Ok(Some(e));
         }
@@ -102,13 +111,18 @@ impl Checking<'_> {
     }
 
     /// The port bits in the order of names.
-    fn ports(&self) -> Result<Vec<Port>, AllocError> {
+    fn ports(&self) -> Result<Vec<Port>, AllocError>
+        ensures moved { IfOk result (λ ports. (m : MachineTree) (n : Named) → Suits self.now m n → IsPermutation ports.items (port_bits (symbols m))) }
+        ensures ordered { IfOk result (λ ports. AreInOrder (names_of ports.items)) }
+    {
         let ports = ports(self.alloc, self.numbers)?;
         sorted_ports(ports)
     }
 
     /// The statements bit by bit, over these port bits.
-    fn body(&self, ports: &[Port]) -> Result<Statements, AllocError> {
+    fn body(&self, ports: &[Port]) -> Result<Statements, AllocError>
+        ensures { IfOk result (λ made. (m : MachineTree) (n : Named) → Suits self.now m n → IsBodyOver m n ports.now (body_view made)) }
+    {
         let mut vars = Vec::new(self.alloc);
         for port in ports {
             vars.push(port.name.copy(self.alloc)?)?;
@@ -126,7 +140,9 @@ impl Checking<'_> {
     }
 
     /// A limit that is passed: of the port bits, or else of the states.
-    fn limit(&self, ports: &[Port]) -> Option<ReadError> {
+    fn limit(&self, ports: &[Port]) -> Option<ReadError>
+        ensures { (m : MachineTree) (n : Named) → Suits self.now m n → ports_count m ≡ length ports.now → MatchOption result (ports_count m ≤ most_ports × length m.states.states ≤ most_states) (λ e. PassesLimit m e) }
+    {
         let states = self.file.states.states.as_slice().len();
         if ports.len() > MOST_PORTS {
             Some(over(LimitKind::Ports, ports.len()))
@@ -138,7 +154,10 @@ impl Checking<'_> {
     }
 
     /// The state machine of these parts.
-    fn machine(&self, ports: Vec<Port>, body: Statements) -> Result<StateMachine, AllocError> {
+    fn machine(&self, ports: Vec<Port>, body: Statements) -> Result<StateMachine, AllocError>
+        ensures { IfOk result (λ f. (m : MachineTree) (n : Named) → Suits self.now m n → IsPermutation ports.items (port_bits (symbols m)) → AreInOrder (names_of ports.items)
+            → IsBodyOver m n ports.items (body_view body) → IsMachineOf m n f) }
+    {
         let mut states = Vec::new(self.alloc);
         for state in self.file.states.states.as_slice() {
             states.push(Name::scalar(state.text.copy(self.alloc)?))?;
@@ -150,7 +169,11 @@ impl Checking<'_> {
     }
 
     /// The state machine, or why there is none.
-    fn checked(&self) -> Result<StateMachine, ReadError> {
+    fn checked(&self) -> Result<StateMachine, ReadError>
+        ensures machine { IfOk result (λ f. (m : MachineTree) (n : Named) → Suits self.now m n
+            → (fault_behind m n ≡ None) × (ports_count m ≤ most_ports) × (length m.states.states ≤ most_states) × IsMachineOf m n f) }
+        ensures refused { IfErr result (λ e. (m : MachineTree) (n : Named) → Suits self.now m n → IsRefusedBehind m n e) }
+    {
         if let Some(e) = self.fault()? {
             return Err(e);
         }
@@ -191,10 +214,15 @@ pub fn check_fsm(
     ensures machine { IfOk result (λ f. (n : Named) × Passes (machine_view file.now) pragmas.now n × IsMachineOf (machine_view file.now) n f) }
     ensures refused { IfErr result (λ e. IsRefusedOrMemory (machine_view file.now) pragmas.now e) }
 {
+    let table = symbol_table(alloc, file)?;
+    if let Some(symbol) = repeated(&table) {
+        let e = text_fault(alloc, FaultKind::Twice, symbol.line, &symbol.text)?;
+        return Err(e);
+    }
     let Some(roles) = roles(file, pragmas) else {
         return Err(no_pragma(alloc));
     };
-    let numbers = Numbers::new(alloc, symbol_table(alloc, file)?)?;
+    let numbers = Numbers::new(alloc, table)?;
     let (list, has_case) = mentions(alloc, &file.step.body)?;
     let checking = Checking {
         alloc,

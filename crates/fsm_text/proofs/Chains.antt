@@ -37,6 +37,20 @@ place_below known before (t ∷ ts) place e =
       at_target left known before go None place h e = h before place e
       at_target left known before go (Some x) place h e = at_bits left go (taken before (counted_bits known x)) place h e
 
+-- it has a token
+pub place_above : (known : List Symbol) (before : List Name) (ts : List PlacedToken) (place : ℕ) → overfull known before ts ≡ Some place → 0 < place
+place_above known before [] place e = absurd cc
+place_above known before (t ∷ ts) place e =
+    at_target (length (t ∷ ts)) known before (λ after. overfull known after ts) (assigned_here (t ∷ ts)) place (omega arith) (λ after k h. place_above known after ts k h) e where
+      at_bits : (left : ℕ) (go : List Name → Option ℕ) (o : Option (List Name)) (place : ℕ) → 0 < left → ((after : List Name) (k : ℕ) → go after ≡ Some k → 0 < k) → behind_bits left go o ≡ Some place → 0 < place
+      at_bits left go None place some h e = let same = some_is left place e in omega (arith, same, some)
+      at_bits left go (Some after) place some h e = h after place e
+
+      at_target : (left : ℕ) (known : List Symbol) (before : List Name) (go : List Name → Option ℕ) (o : Option Target) (place : ℕ)
+          → 0 < left → ((after : List Name) (k : ℕ) → go after ≡ Some k → 0 < k) → behind_target left known before go o ≡ Some place → 0 < place
+      at_target left known before go None place some h e = h before place e
+      at_target left known before go (Some x) place some h e = at_bits left go (taken before (counted_bits known x)) place some h e
+
 -- what is counted behind this entity
 abbrev pub counted : Tokens → Entity → At → Option ℕ
 counted tokens e behind = overfull (counted_symbols e (named_by (codes "next_state") tokens.pragmas)) [] behind.rest
