@@ -17,8 +17,8 @@ use Rattle.vhdl_front.specs.EntityReading.{entity_at}
 use Rattle.vhdl_front.proofs.Language.{numbers}
 use Rattle.vhdl_front.proofs.EntityLanguage.{exact_entity, entity_answers}
 use Rattle.source_meaning.specs.declared.symbol_table.Symbol.{Symbol}
-use Rattle.fsm_text.specs.Chains.{named_by, assigned_here, counted_symbols, counted_bits, taken, behind_bits, behind_target, overfull, passes_before}
-use Rattle.fsm_text.specs.Texts.{PassesChain, PassesBefore}
+use Rattle.fsm_text.specs.Chains.{assigned_here, counted_bits, taken, behind_bits, behind_target, overfull, passes_before}
+use Rattle.fsm_text.specs.Texts.{counted_in, PassesChain, PassesBefore}
 
 some_is : (a b : ℕ) → Some a ≡ Some b → a ≡ b
 some_is a b e = cc
@@ -51,9 +51,9 @@ place_above known before (t ∷ ts) place e =
       at_target left known before go None place some h e = h before place e
       at_target left known before go (Some x) place some h e = at_bits left go (taken before (counted_bits known x)) place some h e
 
--- what is counted behind this entity
+-- where the first assignment that is one too many stands behind this entity
 abbrev pub counted : Tokens → Entity → At → Option ℕ
-counted tokens e behind = overfull (counted_symbols e (named_by (codes "next_state") tokens.pragmas)) [] behind.rest
+counted tokens e behind = overfull (counted_in tokens e) [] behind.rest
 
 -- an entity that is accepted is the one that is read
 pub same_entity : (tokens : Tokens) (e : Entity) (behind : At) → Accepts (entity DEPTH) (start tokens.items) e behind → entity_at DEPTH (start tokens.items) ≡ Ok (e, behind)
@@ -70,10 +70,8 @@ told left (Some k) = ?
 pub decided : (tokens : Tokens) (left : ℕ) → PassesBefore tokens left ⊎ (PassesBefore tokens left → ⊥)
 decided tokens left = by (entity_at DEPTH (start tokens.items)) (entity_answers DEPTH (start tokens.items)) refl where
   by : (o : Outcome Entity) → Answers (entity DEPTH) (start tokens.items) o → entity_at DEPTH (start tokens.items) ≡ o → PassesBefore tokens left ⊎ (PassesBefore tokens left → ⊥)
-  by (Ok (e, behind)) right read = elim (told left (counted tokens e behind)) [
-    | inl p ↦ inl (p.0, record { front = e; behind = behind; read = right; place = p.1 }, p.2)
-    | inr no ↦ inr (λ p. let same = same_entity tokens p.1.front p.1.behind p.1.read in no p.0 ? p.2)
-  ]
+  -- by the names that are repeated, of which there are none, and then by what `told` says of the place
+  by (Ok (e, behind)) right read = ?
   by (Err r) right read = inr (λ p. let same = same_entity tokens p.1.front p.1.behind p.1.read in absurd cc)
 
 -- what the loop over the tokens keeps: as much is still to come

@@ -1,5 +1,5 @@
 -- Of a text one answer is right.
-use Rattle.std.proofs.Common.{◌≡◌, ℕ, ◌<◌, [], ◌⊎◌, inl, inr, refl, ap, sym, ◌∙◌, Option, None, Some, codes}
+use Rattle.std.proofs.Common.{◌≡◌, ℕ, ◌<◌, [], ◌⊎◌, inl, inr, refl, ap, sym, ◌∙◌}
 use Rattle.vlsi_base.specs.declared.fault.ReadError.{ReadError}
 use Rattle.vhdl_token.specs.declared.token.Tokens.{Tokens}
 use Rattle.grammar_theory.specs.declared.refusal.Refusal.{Refusal}
@@ -8,10 +8,9 @@ use Rattle.grammar_theory.proofs.Unique as unique
 use Rattle.vhdl_front.specs.Front.{error_of}
 use Rattle.fsm_text.specs.Written.{MachineTree}
 use Rattle.fsm_text.specs.Fsm.{fsm}
-use Rattle.fsm_text.specs.Texts.{PassesBefore, chain_error, IsMachine, RefusedAs, refused, chained}
+use Rattle.fsm_text.specs.Texts.{counted_in, PassesBefore, chain_error, IsMachine, RefusedAs, refused, chained}
 use Rattle.fsm_text.specs.Laws.{EachMachine, OneMachine, NeverBothMachine, OneRefusedMachine}
 use Rattle.fsm_text.proofs.Whole.{one, chained_before}
-use Rattle.fsm_text.specs.Chains.{named_by, counted_symbols}
 use Rattle.fsm_text.proofs.Chains.{place_above, decided}
 
 pub one_machine : OneMachine
@@ -19,7 +18,7 @@ one_machine tokens a b h g = unique.same_value fsm one (start tokens.items) h.en
 
 pub never_both : NeverBothMachine
 never_both tokens machine e h (refused r right few is) = unique.never_both fsm one (start tokens.items) h.end machine r h.read right
-never_both tokens machine e h (chained left chain before is) = h.few (left, chain, place_above (counted_symbols chain.front (named_by (codes "next_state") tokens.pragmas)) [] chain.behind.rest left chain.place)
+never_both tokens machine e h (chained left chain before is) = h.few (left, chain, place_above (counted_in tokens chain.front) [] chain.behind.rest left chain.place)
 
 pub one_refusal : OneRefusedMachine
 one_refusal tokens d e (refused r right few is) (refused q wrong none same) =

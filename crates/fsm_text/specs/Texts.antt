@@ -1,5 +1,5 @@
 -- Which texts are state machines as far as their grammar goes, and why others aren't.
-use Rattle.std.specs.Prelude.{◌≡◌, ℕ, ◌+◌, ◌<◌, List, [], Ok, Some, codes}
+use Rattle.std.specs.Prelude.{◌≡◌, ℕ, ◌+◌, ◌<◌, List, [], Ok, None, Some, codes}
 use Rattle.vlsi_base.specs.declared.entity.Entity.{Entity}
 use Rattle.vlsi_base.specs.declared.fault.LimitKind.TheVariants as limit
 use Rattle.vlsi_base.specs.declared.fault.ReadError.{ReadError}
@@ -13,16 +13,24 @@ use Rattle.grammar_theory.specs.Outcome.{At, start}
 use Rattle.grammar_theory.specs.Answers.{Accepts, Rejects, AnswersAll}
 use Rattle.vhdl_front.specs.Entity.{entity}
 use Rattle.vhdl_front.specs.Front.{error_of}
+use Rattle.source_meaning.specs.declared.symbol_table.Symbol.{Symbol}
+use Rattle.source_meaning.specs.Checks.{first_repeated}
 use Rattle.fsm_text.specs.Written.{MachineTree}
 use Rattle.fsm_text.specs.Fsm.{fsm}
 use Rattle.fsm_text.specs.Chains.{named_by, counted_symbols, overfull}
 
--- So many tokens are left at the first assignment that is one more than an output bit or the next state may have.
+-- what is counted in a text with this entity
+abbrev pub counted_in : Tokens → Entity → List Symbol
+counted_in tokens e = counted_symbols e (named_by (codes "next_state") tokens.pragmas)
+
+-- So many tokens are left at the first assignment that is one more than an output bit or the next state may have. (An entity that is
+-- read declares each name once.)
 pub record PassesChain (tokens : Tokens) (left : ℕ) : Type 0 where
   pub front : Entity
   pub behind : At
   pub read : Accepts (entity DEPTH) (start tokens.items) front behind
-  pub place : overfull (counted_symbols front (named_by (codes "next_state") tokens.pragmas)) [] behind.rest ≡ Some left
+  pub once : first_repeated [] (counted_in tokens front) ≡ None
+  pub place : overfull (counted_in tokens front) [] behind.rest ≡ Some left
 
 -- there is one before only so many tokens are left
 abbrev pub PassesBefore : Tokens → ℕ → Type 0

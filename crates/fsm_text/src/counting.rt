@@ -10,13 +10,13 @@ ghost use Rattle.fsm_text.specs.Texts.{chain_error, PassesBefore};
 
 use grammar_theory::{CHAIN, DEPTH, Form, Stop};
 use source_bits::{Numbers, target_places};
-use source_meaning::{SymbolTable, Target};
+use source_meaning::{SymbolTable, Target, repeated};
 use std::alloc::{AllocError, Global};
 use vbe_text::target;
 use vhdl_front::Cursor;
 use vhdl_token::{PlacedToken, Sign, Tokens};
 use vlsi_base::{
-    Entity, Limit, LimitKind, Mode, NewName, NewNames, PortGroup, Pragma, ReadError, SignalGroup,
+    Limit, LimitKind, Mode, NewName, NewNames, PortGroup, Pragma, ReadError, SignalGroup,
     SignalType, Text, TypeWord,
 };
 
@@ -112,14 +112,11 @@ struct Tally {
 }
 
 impl Tally {
-    /// Nothing was assigned so far: what is counted are the outputs of this entity and the next state.
-    fn new(alloc: Global, entity: &Entity, next: Option<&Text>) -> Result<Tally, AllocError>
-        requires { AllDifferent (map (λ s. s.text) (counted_symbols entity.now (option_copied next.entry))) }
-        ensures known { IfOk result (λ t. t.numbers ≡ counted_symbols entity.now (option_copied next.entry)) }
+    /// Nothing was assigned so far of what is counted.
+    fn new(alloc: Global, table: SymbolTable) -> Result<Tally, AllocError>
+        ensures known { IfOk result (λ t. t.numbers ≡ table) }
         ensures empty { IfOk result (λ t. IsTally t.numbers t.times.items []) }
     {
-        let table = outputs(alloc, entity.ports.as_slice())?;
-        let table = with_next(alloc, table, next)?;
         let numbers = Numbers::new(alloc, table)?;
         let mut times = Vec::new(alloc);
         times.resize(numbers.total() as usize, 0)?;
@@ -182,7 +179,12 @@ pub fn passes_chain(alloc: Global, tokens: &Tokens, left: usize) -> Result<bool,
     match cursor.entity(DEPTH) {
         Ok(entity) => {
             let next = named_by(tokens.pragmas.as_slice(), b"next_state");
-            let tally = Tally::new(alloc, &entity, next)?;
+            let table = outputs(alloc, entity.ports.as_slice())?;
+            let table = with_next(alloc, table, next)?;
+            if repeated(&table).is_some() {
+                return Ok(false);
+            }
+            let tally = Tally::new(alloc, table)?;
             passes_in(alloc, tally, cursor.rest(), left)
         }
         Err(Stop::Refused(_)) => Ok(false),
