@@ -1,5 +1,5 @@
 -- What the code holds on its way.
-use Rattle.std.specs.Prelude.{◌≡◌, ◌<◌, ◌⊎◌, ℕ, Bool, List, [], ◌∷◌, ◌++◌, map, length, slice_index, Option, None, Some}
+use Rattle.std.specs.Prelude.{◌≡◌, ◌<◌, ◌⊎◌, ℕ, Bool, List, [], ◌∷◌, ◌++◌, map, length, slice_index_or, false, Option, None, Some}
 use Rattle.std.specs.BTreeMap.{BTreeMap}
 use Rattle.vlsi_base.specs.Tree.{view}
 use Rattle.vlsi_base.specs.declared.name.Name.{Name}
@@ -67,7 +67,7 @@ clock_uses c = map use_of c.sensitivity ++ (reads c.condition ++ use_of c.target
 -- each bit that is declared is marked exactly where it is one of these
 pub record AreMarked (known : List Symbol) (names : List Name) (marks : List Bool) : Type 0 where
   pub each : length marks ≡ length (all_names known)
-  pub marked : (n : Name) → place (all_names known) n < length marks → slice_index marks (place (all_names known) n) ≡ is_among names n
+  pub marked : (n : Name) → place (all_names known) n < length marks → slice_index_or marks (place (all_names known) n) false ≡ is_among names n
 
 -- what an assignment has to set
 abbrev pub sets_of : Sought → Assignment → Bool
