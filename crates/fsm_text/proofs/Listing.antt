@@ -1,13 +1,19 @@
 -- Reading branches in a loop: as long as a `when` stands next and no `others` behind it, then those.
-use Rattle.std.proofs.Common.{◌≡◌, ℕ, zero, suc, ◌≤◌, ◌<◌, Bool, true, false, List, [], ◌∷◌, ◌++◌, length, Option, None, Some, Ok, Err, refl, sym, ap, ◌∙◌, append_assoc, arith}
+use Rattle.std.proofs.Common.{◌≡◌, ℕ, zero, suc, ◌≤◌, ◌<◌, Bool, true, false, List, [], ◌∷◌, ◌++◌, length, Option, None, Some, Result, Ok, Err, if◌then◌else◌, refl, sym, ap, ◌∙◌, append_assoc, arith}
 use Rattle.std.proofs.lemmas.List.{append-nil}
 use Rattle.vhdl_token.specs.declared.token.PlacedToken.{PlacedToken}
+use Rattle.vhdl_token.specs.declared.keyword.Keyword.TheVariants as word
+use Rattle.vhdl_token.specs.declared.token.Sign.TheVariants as sign
+use Rattle.grammar_theory.specs.declared.form.Form.TheVariants as form
+use Rattle.grammar_theory.specs.declared.refusal.Breach.{Breach}
 use Rattle.grammar_theory.specs.declared.refusal.Stop.{Stop}
 use Rattle.grammar_theory.specs.declared.refusal.Stop.TheVariants as stop
-use Rattle.grammar_theory.specs.Outcome.{At, Outcome, Reader, Fails, ◌>>=◌, with_front}
-use Rattle.fsm_text.specs.Written.{BodyTree, BranchTree, BranchesTree, branches_of}
-use Rattle.fsm_text.specs.FsmReading.{fewer_branches_at, branches_at}
-use Rattle.fsm_text.specs.Pieces.{goes_on, led_branch_at, listed_within_at, listed_list_at, others_at}
+use Rattle.grammar_theory.specs.Tokens.{is_at}
+use Rattle.grammar_theory.specs.Marks.{State}
+use Rattle.grammar_theory.specs.Outcome.{At, Outcome, Reader, Fails, ◌>>=◌, passed, take_at, with_front}
+use Rattle.fsm_text.specs.Written.{BodyTree, BranchTree, BranchesTree, closed, others, listed, branches_of}
+use Rattle.fsm_text.specs.FsmReading.{others_branch_at, branch_before_at, behind_when_at, fewer_branches_at, branches_at}
+use Rattle.fsm_text.specs.Pieces.{goes_on, led_branch_at, listed_within_at, listed_list_at, led_others_at, others_at}
 
 -- what the loop keeps, with the branches so far in done
 pub record Listed (inner : Reader BodyTree) (done : List BranchTree) (here : At) (total : Outcome (List BranchTree)) : Type 0 where
@@ -78,11 +84,60 @@ bind_assoc (Err e) f g = refl
 joined : Reader BodyTree → List BranchTree × At → Outcome BranchesTree
 joined inner all = others_at inner all.1 >>= λ last. Ok (branches_of all.0 last.0, last.1)
 
--- with so many tokens at most, by induction on them: at no `when` both are closed; at `when` and `others` nothing is listed; else one
--- branch is, and it takes tokens
+bind_same : {A C : Type 0} (o : Outcome A) (f g : A × At → Outcome C) → ((x : A × At) → o ≡ Ok x → f x ≡ g x) → (o >>= f) ≡ (o >>= g)
+bind_same (Ok x) f g h = h x refl
+bind_same (Err e) f g h = refl
+
+-- what is done in the other states, read as branches or to be put behind some
+one_body : (o : Outcome BodyTree) → (o >>= λ body. Ok (others body.0, body.1)) ≡ ((o >>= λ body. Ok (Some body.0, body.1)) >>= λ last. Ok (branches_of [] last.0, last.1))
+one_body (Ok x) = refl
+one_body (Err e) = refl
+
+arrow_body : (o : Outcome PlacedToken) (c : PlacedToken × At → Outcome BodyTree)
+    → (o >>= λ u. c u >>= λ body. Ok (others body.0, body.1)) ≡ ((o >>= λ u. c u >>= λ body. Ok (Some body.0, body.1)) >>= λ last. Ok (branches_of [] last.0, last.1))
+arrow_body (Ok x) c = one_body (c x)
+arrow_body (Err e) c = refl
+
+others_body : (o : Outcome PlacedToken) (b : PlacedToken × At → Outcome PlacedToken) (c : PlacedToken × At → Outcome BodyTree)
+    → (o >>= λ t. b t >>= λ u. c u >>= λ body. Ok (others body.0, body.1)) ≡ ((o >>= λ t. b t >>= λ u. c u >>= λ body. Ok (Some body.0, body.1)) >>= λ last. Ok (branches_of [] last.0, last.1))
+others_body (Ok x) b c = arrow_body (b x) c
+others_body (Err e) b c = refl
+
+-- a branch before others
+put : BranchTree → BranchesTree × At → Outcome BranchesTree
+put b rest = Ok (listed b.states b.body rest.0, rest.1)
+
+cons_last : (b : BranchTree) (all : List BranchTree) (o : Outcome (Option BodyTree))
+    → ((o >>= λ last. Ok (branches_of all last.0, last.1)) >>= put b) ≡ (o >>= λ last. Ok (branches_of (b ∷ all) last.0, last.1))
+cons_last b all (Ok x) = refl
+cons_last b all (Err e) = refl
+
+cons_all : (inner : Reader BodyTree) (b : BranchTree) (o : Outcome (List BranchTree))
+    → ((o >>= joined inner) >>= put b) ≡ ((o >>= λ more. Ok (b ∷ more.0, more.1)) >>= joined inner)
+cons_all inner b (Ok x) = cons_last b x.0 (others_at inner x.1)
+cons_all inner b (Err e) = refl
+
+abbrev at : State → List PlacedToken → At
+at s ts = record { state = s; rest = ts }
+
+-- Behind a `when` that was taken, or refused: at `others` nothing is listed; else one branch is, and it takes tokens.
+behind_others : (inner : Reader BodyTree) (t : PlacedToken) (ts : List PlacedToken) (r : Result State Breach) → is_at (form.Keyword word.Others) ts ≡ true
+    → (passed t ts r >>= λ x. if is_at (form.Keyword word.Others) x.1.rest then others_branch_at inner x.1 else branch_before_at inner (λ h. Ok (closed, h)) x.1)
+    ≡ ((passed t ts r >>= λ x. take_at (form.Keyword word.Others) x.1 >>= λ u. take_at (form.Sign sign.Arrow) u.1 >>= λ v. inner v.1 >>= λ body. Ok (Some body.0, body.1)) >>= λ last. Ok (branches_of [] last.0, last.1))
+behind_others = ?
+
+-- with so many tokens at most, by induction on them
+steps : (inner : Reader BodyTree) → ((here there : At) (v : BranchTree) → led_branch_at inner here ≡ Ok (v, there) → length there.rest < length here.rest)
+    → (n : ℕ) (s : State) (ts : List PlacedToken) → length ts ≤ n → fewer_branches_at inner n (at s ts) ≡ (listed_within_at inner n (at s ts) >>= joined inner)
+unfolding fewer_branches_at behind_when_at branch_before_at listed_within_at led_branch_at others_at led_others_at others_branch_at
+steps inner consumes zero s [] le = refl
+steps inner consumes zero s (t ∷ ts) le = absurd (omega (arith, le))
+steps inner consumes (suc n) s [] le = refl
+steps inner consumes (suc n) s (t ∷ ts) le = ?
+
 two_steps_within : (inner : Reader BodyTree) → ((here there : At) (v : BranchTree) → led_branch_at inner here ≡ Ok (v, there) → length there.rest < length here.rest)
     → (n : ℕ) (here : At) → length here.rest ≤ n → fewer_branches_at inner n here ≡ (listed_within_at inner n here >>= joined inner)
-two_steps_within inner consumes n here le = ?
+two_steps_within inner consumes n here le = steps inner consumes n here.state here.rest le
 
 pub two_steps : (inner : Reader BodyTree) → ((here there : At) (v : BranchTree) → led_branch_at inner here ≡ Ok (v, there) → length there.rest < length here.rest)
     → (here : At) → branches_at inner here ≡ (listed_list_at inner here >>= joined inner)
