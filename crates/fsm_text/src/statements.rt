@@ -6,7 +6,7 @@ ghost use Rattle.grammar_theory.specs.Outcome.{Gives, list_at};
 ghost use Rattle.vbe_text.specs.VbeReading.{report_at, severity_at};
 ghost use Rattle.fsm_text.specs.Written.{statement_view, body_view, branches_view};
 ghost use Rattle.fsm_text.specs.FsmReading.{assertion_at, assignment_at, part_at, further_part_at, last_part_at, conditional_at, listed_branch_at, others_branch_at, branches_at, case_statement_at, statement_at, statement_kinds, statement_list_at, inner_at, body_at};
-ghost use Rattle.fsm_text.specs.Pieces.{goes_on, listed_list_at, others_at, part_view, branch_view};
+ghost use Rattle.fsm_text.specs.Pieces.{goes_on, led_branch_at, listed_list_at, others_at, part_view, branch_view};
 
 use crate::file::{Body, Branches, Statement};
 use crate::names::{enter, listed_states, placed_expression, used_name};
@@ -183,6 +183,17 @@ fn at_listed(cursor: &Cursor) -> bool
     }
 }
 
+/// A branch with its `when`.
+#[cycle(statements)]
+#[tactic(auto, unfolding(crate::specs::Pieces::led_branch_at))]
+fn led_branch(cursor: &mut Cursor, room: u32) -> Result<Branch, Stop>
+    requires { 0 < room }
+    ensures { Gives branch_view result cursor.new (led_branch_at (inner_at room) cursor.old) }
+{
+    let _when = cursor.take(Form::Keyword(Keyword::When))?;
+    listed_branch(cursor, room)
+}
+
 /// The branches with listed states, as long as there are any.
 #[cycle(statements)]
 fn listed_branches(cursor: &mut Cursor, room: u32) -> Result<Vec<Branch>, Stop>
@@ -191,8 +202,7 @@ fn listed_branches(cursor: &mut Cursor, room: u32) -> Result<Vec<Branch>, Stop>
 {
     let mut branches = Vec::new(cursor.alloc());
     while at_listed(cursor) {
-        let _when = cursor.take(Form::Keyword(Keyword::When))?;
-        let next = listed_branch(cursor, room)?;
+        let next = led_branch(cursor, room)?;
         branches.push(next)?;
     }
     Ok(branches)

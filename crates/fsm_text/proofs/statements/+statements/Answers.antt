@@ -93,16 +93,42 @@ statement_list-returns t c =
     let any : among statement_kinds c.loop-cursor.cursor.rest ≡ false = search rules in
     list_ends statement_kinds (statement_at c.args.room (inner_at c.args.room)) (map statement_view c.loop-cursor.statements.items) c.loop-cursor.cursor (list_at statement_kinds (statement_at c.args.room (inner_at c.args.room)) c.args.cursor.now) c.loop-cursor.invariant any
 
--- branches: as above, by the lemmas on branches, whose item takes the `when` as well
+-- branches: as above, by the lemmas on branches
 pub listed_branches-loop-cursor-init : goal.listed_branches-loop-cursor-init
 listed_branches-loop-cursor-init t c =
     let e : map branch_view c.new-branches.result.items ≡ [] = search rules in
     rw e (branches.begins (inner_at c.args.room) c.args.cursor.now)
+
+pub listed_branches-returns-in_err-next : goal.listed_branches-returns-in_err-next
+listed_branches-returns-in_err-next t c =
+    let p = err_from_is_err_and c.from_residual.result c.from_residual.ensures.1 in
+    let here = c.loop-cursor.cursor in
+    let on : goes_on c.loop-cursor.cursor.rest ≡ true = search rules in
+    let read : Fails c.in_err-next.field-0.0 (led_branch_at (inner_at c.args.room) here) = search rules in
+    rw (p.1, p.2) (branches.fails (inner_at c.args.room) (map branch_view c.loop-cursor.branches.items) here (listed_list_at (inner_at c.args.room) c.args.cursor.now) c.loop-cursor.invariant on c.in_err-next.field-0.0 read)
+
+pub listed_branches-loop-cursor-preserved : goal.listed_branches-loop-cursor-preserved
+listed_branches-loop-cursor-preserved t c =
+    let on : goes_on c.loop-cursor.cursor.rest ≡ true = search rules in
+    let here = c.loop-cursor.cursor in
+    let there = c.led_branch.new.cursor in
+    let read : led_branch_at (inner_at c.args.room) here ≡ Ok (branch_view c.in_ok-next.next, there) = search rules in
+    let e : map branch_view c.push.new.self.items ≡ map branch_view c.loop-cursor.branches.items ++ branch_view c.in_ok-next.next ∷ [] = rw c.in_ok-push.ensures.items (map_push branch_view c.loop-cursor.branches.items c.in_ok-next.next) in
+    rw e (branches.goes_further (inner_at c.args.room) (map branch_view c.loop-cursor.branches.items) here (listed_list_at (inner_at c.args.room) c.args.cursor.now) c.loop-cursor.invariant on (branch_view c.in_ok-next.next) there read
+    (led_branch_consumes c.args.room c.args.requires here there (branch_view c.in_ok-next.next) read))
+
+pub listed_branches-loop-cursor-smaller : goal.listed_branches-loop-cursor-smaller
+listed_branches-loop-cursor-smaller t c =
+    let here = c.loop-cursor.cursor in
+    let there = c.led_branch.new.cursor in
+    let read : led_branch_at (inner_at c.args.room) here ≡ Ok (branch_view c.in_ok-next.next, there) = search rules in
+    led_branch_consumes c.args.room c.args.requires here there (branch_view c.in_ok-next.next) read
 
 pub listed_branches-returns : goal.listed_branches-returns
 listed_branches-returns t c =
     let on : goes_on c.loop-cursor.cursor.rest ≡ false = search rules in
     branches.ends (inner_at c.args.room) (map branch_view c.loop-cursor.branches.items) c.loop-cursor.cursor (listed_list_at (inner_at c.args.room) c.args.cursor.now) c.loop-cursor.invariant on
 
+-- listed branches, and then the others; by the two calls
 pub branches-returns : goal.branches-returns
 branches-returns t c = rw (branches.two_steps (inner_at c.args.room) (led_branch_consumes c.args.room c.args.requires) c.args.cursor.now) ?

@@ -31,26 +31,29 @@ decreases-conditional l = 16 * l.room + 5
 abbrev pub decreases-listed_branch : goal.decreases-listed_branch
 decreases-listed_branch l = 16 * l.room + 6
 
+abbrev pub decreases-led_branch : goal.decreases-led_branch
+decreases-led_branch l = 16 * l.room + 7
+
 abbrev pub decreases-listed_branches : goal.decreases-listed_branches
-decreases-listed_branches l = 16 * l.room + 7
+decreases-listed_branches l = 16 * l.room + 8
 
 abbrev pub decreases-others : goal.decreases-others
-decreases-others l = 16 * l.room + 8
+decreases-others l = 16 * l.room + 9
 
 abbrev pub decreases-branches : goal.decreases-branches
-decreases-branches l = 16 * l.room + 9
+decreases-branches l = 16 * l.room + 10
 
 abbrev pub decreases-case_statement : goal.decreases-case_statement
-decreases-case_statement l = 16 * l.room + 10
+decreases-case_statement l = 16 * l.room + 11
 
 abbrev pub decreases-statement : goal.decreases-statement
-decreases-statement l = 16 * l.room + 11
+decreases-statement l = 16 * l.room + 12
 
 abbrev pub decreases-statement_list : goal.decreases-statement_list
-decreases-statement_list l = 16 * l.room + 12
+decreases-statement_list l = 16 * l.room + 13
 
 abbrev pub decreases-body : goal.decreases-body
-decreases-body l = 16 * l.room + 13
+decreases-body l = 16 * l.room + 14
 
 abbrev pub invariant-further_parts-loop-cursor : goal.invariant-further_parts-loop-cursor
 invariant-further_parts-loop-cursor l = Listed (code (form.Keyword word.Elsif) ∷ []) (further_part_at (l.room - 1) (inner_at l.room)) (map part_view l.parts.items) l.cursor
