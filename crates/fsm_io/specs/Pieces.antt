@@ -1,7 +1,7 @@
 -- What the code holds on its way.
-use Rattle.std.specs.Prelude.{◌≡◌, ◌<◌, ◌⊎◌, ℕ, Bool, List, [], ◌∷◌, ◌++◌, map, length, slice_index_or, false, Option, None, Some}
+use Rattle.std.specs.Prelude.{◌≡◌, ◌<◌, ◌⊎◌, ℕ, Bool, List, [], ◌∷◌, ◌++◌, map, length, slice_index_or, true, false, bytes_eq, Option, None, Some}
 use Rattle.std.specs.BTreeMap.{BTreeMap}
-use Rattle.vlsi_base.specs.Tree.{view}
+use Rattle.vlsi_base.specs.Tree.{Tree, view}
 use Rattle.vlsi_base.specs.declared.name.Name.{Name}
 use Rattle.vlsi_base.specs.declared.entity.NewName.{NewName}
 use Rattle.vlsi_base.specs.declared.pragma.Pragma.{Pragma}
@@ -11,7 +11,7 @@ use Rattle.vlsi_base.specs.declared.fault.FaultKind.TheVariants as kind
 use Rattle.vlsi_base.specs.declared.fault.ReadError.{ReadError}
 use Rattle.vlsi_base.specs.declared.fault.ReadError.TheVariants as errors
 use Rattle.source_meaning.specs.declared.symbol_table.Symbol.{Symbol}
-use Rattle.source_meaning.specs.Symbols.{all_names}
+use Rattle.source_meaning.specs.Symbols.{find, all_names}
 use Rattle.source_meaning.specs.Drivers.{is_among}
 use Rattle.source_meaning.specs.Formula.{place}
 use Rattle.source_meaning.specs.Checks.{fault, if_use, if_line, if_name}
@@ -26,6 +26,8 @@ use Rattle.fsm_io.specs.declared.mentions.Mention.TheVariants as held
 use Rattle.fsm_io.specs.declared.known.Roles.{Roles}
 use Rattle.fsm_io.specs.declared.assigned.Sought.{Sought}
 use Rattle.fsm_io.specs.declared.assigned.Sought.TheVariants as sought
+use Rattle.fsm_io.specs.declared.forms.Readable.{Readable}
+use Rattle.fsm_io.specs.declared.forms.Readable.TheVariants as may
 use Rattle.fsm_io.specs.declared.writer.Spot.{Spot as Place}
 use Rattle.fsm_io.specs.declared.writer.Spot.TheVariants as at
 use Rattle.fsm_io.specs.Known.{Named, symbols}
@@ -33,7 +35,7 @@ use Rattle.fsm_io.specs.declared.check.Checking.{Checking}
 use Rattle.fsm_io.specs.Looks.{Mention, asserting, assigning, testing, selecting, listing, mentions, has_case, use_of, all_uses}
 use Rattle.fsm_io.specs.Widths.{all_widths}
 use Rattle.fsm_io.specs.Drivers.{first_unassigned}
-use Rattle.fsm_io.specs.Unsupported.{all_forms}
+use Rattle.fsm_io.specs.Unsupported.{may_read, read_forms, all_forms}
 use Rattle.fsm_io.specs.Clock.{all_clock_reads}
 use Rattle.fsm_io.specs.States.{all_bad_states}
 use Rattle.fsm_io.specs.Elaboration.{Frame, body_bits, frame_of, state_number}
@@ -73,6 +75,11 @@ pub record AreMarked (known : List Symbol) (names : List Name) (marks : List Boo
 abbrev pub sets_of : Sought → Assignment → Bool
 sets_of sought.Next = sets_next
 sets_of (sought.Bit text bit) = sets_output (record { text = text.now; bit = bit })
+
+-- what reads are at fault where these names may be read
+abbrev pub readable_forms : Readable → Tree → List ℕ
+readable_forms (may.Inputs table) = read_forms (λ text. may_read (find table.now text)) false
+readable_forms (may.Only name) = read_forms (λ text. bytes_eq text name.now) true
 
 -- these are the text's statements, whatever their expressions are made of
 pub record IsBodyOf (m : MachineTree) (n : Named) (body : Statements) : Type 0 where

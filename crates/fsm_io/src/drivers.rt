@@ -10,7 +10,7 @@ use fsm_text::StateFile;
 use source_bits::{Numbers, target_places};
 use source_meaning::{NameFault, Role, Symbol};
 use std::alloc::{AllocError, Global};
-use vlsi_base::{Name, is_supply};
+use vlsi_base::Name;
 
 pub fn is_output(role: Role) -> bool
     ensures { result ≡ is_output role }
