@@ -8,11 +8,12 @@ use Rattle.grammar_theory.specs.declared.form.Form.TheVariants as form
 use Rattle.grammar_theory.specs.declared.refusal.Breach.{Breach}
 use Rattle.grammar_theory.specs.declared.refusal.Stop.{Stop}
 use Rattle.grammar_theory.specs.declared.refusal.Stop.TheVariants as stop
-use Rattle.grammar_theory.specs.Tokens.{is_at}
-use Rattle.grammar_theory.specs.Marks.{State}
+use Rattle.grammar_theory.specs.declared.form.Form.{Form}
+use Rattle.grammar_theory.specs.Tokens.{is_of, is_at}
+use Rattle.grammar_theory.specs.Marks.{State, plain, step}
 use Rattle.grammar_theory.specs.Outcome.{At, Outcome, Reader, Fails, ◌>>=◌, passed, take_at, with_front}
 use Rattle.fsm_text.specs.Written.{BodyTree, BranchTree, BranchesTree, closed, others, listed, branches_of}
-use Rattle.fsm_text.specs.FsmReading.{others_branch_at, branch_before_at, behind_when_at, fewer_branches_at, branches_at}
+use Rattle.fsm_text.specs.FsmReading.{listed_branch_at, others_branch_at, branch_before_at, behind_when_at, fewer_branches_at, branches_at}
 use Rattle.fsm_text.specs.Pieces.{goes_on, led_branch_at, listed_within_at, listed_list_at, led_others_at, others_at}
 
 -- what the loop keeps, with the branches so far in done
@@ -120,20 +121,56 @@ cons_all inner b (Err e) = refl
 abbrev at : State → List PlacedToken → At
 at s ts = record { state = s; rest = ts }
 
--- Behind a `when` that was taken, or refused: at `others` nothing is listed; else one branch is, and it takes tokens.
-behind_others : (inner : Reader BodyTree) (t : PlacedToken) (ts : List PlacedToken) (r : Result State Breach) → is_at (form.Keyword word.Others) ts ≡ true
-    → (passed t ts r >>= λ x. if is_at (form.Keyword word.Others) x.1.rest then others_branch_at inner x.1 else branch_before_at inner (λ h. Ok (closed, h)) x.1)
+abbrev when : Form
+when = form.Keyword word.When
+
+-- each reading of an item takes tokens
+abbrev Consumes : Reader BodyTree → Type 0
+Consumes inner = (here there : At) (v : BranchTree) → led_branch_at inner here ≡ Ok (v, there) → length there.rest < length here.rest
+
+-- what is to be shown of tokens
+abbrev Same : Reader BodyTree → ℕ → At → Type 0
+Same inner n here = fewer_branches_at inner n here ≡ (listed_within_at inner n here >>= joined inner)
+
+-- behind a `when`, taken or refused, and in front of `others`: nothing is listed
+behind_others : (inner : Reader BodyTree) (more : Reader BranchesTree) (t : PlacedToken) (ts : List PlacedToken) (r : Result State Breach) → is_at (form.Keyword word.Others) ts ≡ true
+    → (passed t ts r >>= λ x. if is_at (form.Keyword word.Others) x.1.rest then others_branch_at inner x.1 else branch_before_at inner more x.1)
     ≡ ((passed t ts r >>= λ x. take_at (form.Keyword word.Others) x.1 >>= λ u. take_at (form.Sign sign.Arrow) u.1 >>= λ v. inner v.1 >>= λ body. Ok (Some body.0, body.1)) >>= λ last. Ok (branches_of [] last.0, last.1))
-behind_others = ?
+unfolding others_branch_at
+behind_others inner more t ts (Ok u) e = rw e (others_body (take_at (form.Keyword word.Others) (at u ts)) (λ x. take_at (form.Sign sign.Arrow) x.1) (λ x. inner x.1))
+behind_others inner more t ts (Err b) e = refl
+
+-- behind a `when`, taken or refused, and in front of states: one branch is listed, and then as many as are left
+behind_listed : (inner : Reader BodyTree) (n : ℕ) (t : PlacedToken) (ts : List PlacedToken) (r : Result State Breach) → is_at (form.Keyword word.Others) ts ≡ false
+    → ((u : State) (x : BranchTree × At) → r ≡ Ok u → listed_branch_at inner (at u ts) ≡ Ok x → Same inner n x.1)
+    → (passed t ts r >>= λ x. if is_at (form.Keyword word.Others) x.1.rest then others_branch_at inner x.1 else branch_before_at inner (fewer_branches_at inner n) x.1)
+    ≡ (((passed t ts r >>= λ x. listed_branch_at inner x.1) >>= λ b. listed_within_at inner n b.1 >>= λ more. Ok (b.0 ∷ more.0, more.1)) >>= joined inner)
+unfolding branch_before_at
+behind_listed inner n t ts (Err b) e h = refl
+behind_listed inner n t ts (Ok u) e h =
+    let first = listed_branch_at inner (at u ts) in
+    let cons : BranchTree × At → Outcome (List BranchTree) = λ b. listed_within_at inner n b.1 >>= λ more. Ok (b.0 ∷ more.0, more.1) in
+    rw e (bind_same first (λ b. fewer_branches_at inner n b.1 >>= put b.0) (λ b. cons b >>= joined inner) (λ x read. rw (h u x refl read) (cons_all inner x.0 (listed_within_at inner n x.1)))
+    ∙ sym (bind_assoc first cons (joined inner)))
+
+-- with one token more, by whether it is a `when` and `others` stands behind it
+one_step : (inner : Reader BodyTree) → Consumes inner → (n : ℕ) → ((s : State) (ts : List PlacedToken) → length ts ≤ n → Same inner n (at s ts))
+    → (s : State) (t : PlacedToken) (ts : List PlacedToken) → length (t ∷ ts) ≤ suc n → (w o : Bool) → is_of when t ≡ w → is_at (form.Keyword word.Others) ts ≡ o → Same inner (suc n) (at s (t ∷ ts))
+unfolding fewer_branches_at behind_when_at listed_within_at led_branch_at others_at led_others_at
+one_step inner consumes n ih s t ts le false o e f = rw e refl
+one_step inner consumes n ih s t ts le true true e f = rw (e, f) (behind_others inner (fewer_branches_at inner n) t ts (step plain s) f)
+one_step inner consumes n ih s t ts le true false e f = rw (e, f) (behind_listed inner n t ts (step plain s) f (λ u x taken read.
+    let led : led_branch_at inner (at s (t ∷ ts)) ≡ Ok x = rw (e, taken) read in
+    let less = consumes (at s (t ∷ ts)) x.1 x.0 led in
+    ih x.1.state x.1.rest (omega (arith, less, le))))
 
 -- with so many tokens at most, by induction on them
-steps : (inner : Reader BodyTree) → ((here there : At) (v : BranchTree) → led_branch_at inner here ≡ Ok (v, there) → length there.rest < length here.rest)
-    → (n : ℕ) (s : State) (ts : List PlacedToken) → length ts ≤ n → fewer_branches_at inner n (at s ts) ≡ (listed_within_at inner n (at s ts) >>= joined inner)
-unfolding fewer_branches_at behind_when_at branch_before_at listed_within_at led_branch_at others_at led_others_at others_branch_at
+steps : (inner : Reader BodyTree) → Consumes inner → (n : ℕ) (s : State) (ts : List PlacedToken) → length ts ≤ n → Same inner n (at s ts)
+unfolding fewer_branches_at listed_within_at others_at
 steps inner consumes zero s [] le = refl
 steps inner consumes zero s (t ∷ ts) le = absurd (omega (arith, le))
 steps inner consumes (suc n) s [] le = refl
-steps inner consumes (suc n) s (t ∷ ts) le = ?
+steps inner consumes (suc n) s (t ∷ ts) le = one_step inner consumes n (λ z us less. steps inner consumes n z us less) s t ts le (is_of when t) (is_at (form.Keyword word.Others) ts) refl refl
 
 two_steps_within : (inner : Reader BodyTree) → ((here there : At) (v : BranchTree) → led_branch_at inner here ≡ Ok (v, there) → length there.rest < length here.rest)
     → (n : ℕ) (here : At) → length here.rest ≤ n → fewer_branches_at inner n here ≡ (listed_within_at inner n here >>= joined inner)
