@@ -91,7 +91,7 @@ impl StateSignals {
     /// Puts the signals of the statements, numbered from the place's next on, behind those that are there, and gives the number
     /// behind them. Where memory fails, some of them stay.
     #[cycle(emit)]
-    #[tactic(auto, using(fsm_machine::proofs::Step::moved_parts_count, fsm_machine::proofs::Step::moved_branches_count, fsm_machine::proofs::Step::moved_count))]
+    #[tactic(auto, using(crate::proofs::Numbers::signals_moved, crate::proofs::Numbers::parts_moved, crate::proofs::Numbers::branches_moved))]
     pub fn emit(
         &self,
         place: Place,
@@ -126,7 +126,7 @@ impl StateSignals {
     }
 
     #[cycle(emit)]
-    #[tactic(auto, using(fsm_machine::proofs::Step::moved_parts_count, fsm_machine::proofs::Step::moved_branches_count, fsm_machine::proofs::Step::moved_count))]
+    #[tactic(auto, using(crate::proofs::Numbers::signals_moved, crate::proofs::Numbers::parts_moved, crate::proofs::Numbers::branches_moved))]
     fn emit_parts(
         &self,
         place: Place,
@@ -168,7 +168,7 @@ impl StateSignals {
     }
 
     #[cycle(emit)]
-    #[tactic(auto, using(fsm_machine::proofs::Step::moved_parts_count, fsm_machine::proofs::Step::moved_branches_count, fsm_machine::proofs::Step::moved_count))]
+    #[tactic(auto, using(crate::proofs::Numbers::signals_moved, crate::proofs::Numbers::parts_moved, crate::proofs::Numbers::branches_moved))]
     fn emit_branches(
         &self,
         place: Place,

@@ -82,7 +82,7 @@ impl Sought<'_> {
     /// The value of what is sought behind the statements, as an expression over their signals, which are numbered from the place's
     /// next on; `value` is the one before. A condition of the result is the number of a path. Takes memory for what is assigned.
     #[cycle(target)]
-    #[tactic(auto, using(fsm_machine::proofs::Step::moved_parts_count, fsm_machine::proofs::Step::moved_branches_count, fsm_machine::proofs::Step::moved_count))]
+    #[tactic(auto, using(crate::proofs::Numbers::signals_moved, crate::proofs::Numbers::parts_moved, crate::proofs::Numbers::branches_moved))]
     pub fn final_value(
         &self,
         place: Place,
@@ -124,7 +124,7 @@ impl Sought<'_> {
     }
 
     #[cycle(target)]
-    #[tactic(auto, using(fsm_machine::proofs::Step::moved_parts_count, fsm_machine::proofs::Step::moved_branches_count, fsm_machine::proofs::Step::moved_count))]
+    #[tactic(auto, using(crate::proofs::Numbers::signals_moved, crate::proofs::Numbers::parts_moved, crate::proofs::Numbers::branches_moved))]
     fn after_parts(&self, place: Place, parts: &Parts, value: Expr) -> Result<Reached, AllocError>
         requires over { ArePartsOver (length self.now.numbers.now) (parts_view parts.now) }
         requires room { place.next + part_signals (parts_view parts.now) < 2 ^ 32 }
@@ -157,7 +157,7 @@ impl Sought<'_> {
     }
 
     #[cycle(target)]
-    #[tactic(auto, using(fsm_machine::proofs::Step::moved_parts_count, fsm_machine::proofs::Step::moved_branches_count, fsm_machine::proofs::Step::moved_count))]
+    #[tactic(auto, using(crate::proofs::Numbers::signals_moved, crate::proofs::Numbers::parts_moved, crate::proofs::Numbers::branches_moved))]
     fn after_branches(
         &self,
         place: Place,
