@@ -17,11 +17,11 @@ use std::alloc::{AllocError, Global};
 /// The states of a machine, by their numbers, and their signals: that of state s is variable `first + s`. Variable k of the
 /// statements stands as `numbers[k]`.
 #[derive(Drop)]
-pub struct StateSignals {
+pub struct StateSignals<'a> {
     pub alloc: Global,
     pub states: Vec<u32>,
     pub first: u32,
-    pub numbers: Vec<u32>,
+    pub numbers: &'a [u32],
 }
 
 // Whether the state is among these.
@@ -46,7 +46,7 @@ fn left_behind(alloc: Global, at: u32, here: &[u32], left: &[u32]) -> Result<Vec
     Ok(rest)
 }
 
-impl StateSignals {
+impl StateSignals<'_> {
     // Puts an `if`'s condition and the path of its part behind the signals.
     #[tactic(auto, using(crate::proofs::Numbers::renumbered_is))]
     fn emit_condition(
@@ -55,11 +55,11 @@ impl StateSignals {
         condition: &Expr,
         out: &mut Vec<Expr>,
     ) -> Result<(), AllocError>
-        requires { IsOver (view condition.now) (length self.now.numbers.items) }
+        requires { IsOver (view condition.now) (length self.now.numbers.now) }
         ensures { OnOk result (Adds out.old.items out.new.items
-            (substituted (map variable self.now.numbers.items) (view condition.now) ∷ along place.path (variable place.next) ∷ [])) }
+            (substituted (map variable self.now.numbers.now) (view condition.now) ∷ along place.path (variable place.next) ∷ [])) }
     {
-        out.push(renumbered(self.alloc, condition, &self.numbers)?)?;
+        out.push(renumbered(self.alloc, condition, self.numbers)?)?;
         out.push(along(self.alloc, place.path, Expr::Var(place.next))?)?;
         Ok(())
     }
@@ -99,13 +99,13 @@ impl StateSignals {
         out: &mut Vec<Expr>,
     ) -> Result<u32, AllocError>
         requires fits { Fits self.now.first self.now.states.items }
-        requires over { IsBodyOver (length self.now.numbers.items) (body_view body.now) }
+        requires over { IsBodyOver (length self.now.numbers.now) (body_view body.now) }
         requires room { place.next + signals (body_view body.now) < 2 ^ 32 }
         requires sound { IsSound self.now.states.items (body_view body.now) }
         ensures next { IfOk result (λ next. next ≡ place.next + signals (body_view body.now)) }
         ensures added { OnOk result (Adds out.old.items out.new.items
             (emitted (λ s. self.now.first + s) self.now.states.items place.path place.next
-                (numbered_body self.now.numbers.items (body_view body.now)))) }
+                (numbered_body self.now.numbers.now (body_view body.now)))) }
     {
         let mut here = place;
         let mut rest = body;
@@ -134,13 +134,13 @@ impl StateSignals {
         out: &mut Vec<Expr>,
     ) -> Result<u32, AllocError>
         requires fits { Fits self.now.first self.now.states.items }
-        requires over { ArePartsOver (length self.now.numbers.items) (parts_view parts.now) }
+        requires over { ArePartsOver (length self.now.numbers.now) (parts_view parts.now) }
         requires room { place.next + part_signals (parts_view parts.now) < 2 ^ 32 }
         requires sound { ArePartsSound self.now.states.items (parts_view parts.now) }
         ensures next { IfOk result (λ next. next ≡ place.next + part_signals (parts_view parts.now)) }
         ensures added { OnOk result (Adds out.old.items out.new.items
             (emitted_parts (λ s. self.now.first + s) self.now.states.items place.path place.next
-                (numbered_parts self.now.numbers.items (parts_view parts.now)))) }
+                (numbered_parts self.now.numbers.now (parts_view parts.now)))) }
     {
         let mut here = place;
         let mut rest = parts;
@@ -178,13 +178,13 @@ impl StateSignals {
     ) -> Result<u32, AllocError>
         requires fits { Fits self.now.first self.now.states.items }
         requires left_fits { Fits self.now.first left.now }
-        requires over { AreBranchesOver (length self.now.numbers.items) (branches_view branches.now) }
+        requires over { AreBranchesOver (length self.now.numbers.now) (branches_view branches.now) }
         requires room { place.next + branch_signals (branches_view branches.now) < 2 ^ 32 }
         requires sound { AreBranchesSound self.now.states.items left.now (branches_view branches.now) }
         ensures next { IfOk result (λ next. next ≡ place.next + branch_signals (branches_view branches.now)) }
         ensures added { OnOk result (Adds out.old.items out.new.items (emitted_branches
             (λ s. self.now.first + s) self.now.states.items place.path place.next left.now
-                (numbered_branches self.now.numbers.items (branches_view branches.now)))) }
+                (numbered_branches self.now.numbers.now (branches_view branches.now)))) }
     {
         match branches {
             Branches::Closed => Ok(place.next),

@@ -72,18 +72,18 @@ pub(crate) fn inner_expressions(
     alloc: Global,
     codes: &Codes,
     first: u32,
-    numbers: Vec<u32>,
+    numbers: &[u32],
     body: &Statements,
 ) -> Result<Vec<Expr>, AllocError>
     requires codes { AreCodes (length codes.now.codes) codes.now }
     requires few { length codes.now.codes < 2 ^ 32 }
-    requires over { IsBodyOver (length numbers.items) (body_view body.now) }
+    requires over { IsBodyOver (length numbers.now) (body_view body.now) }
     requires room { first + codes.now.width + length codes.now.codes + signals (body_view body.now) < 2 ^ 32 }
     requires sound { IsSound (up 0 (length codes.now.codes)) (body_view body.now) }
     ensures { IfOk result (λ made. map view made.items
         ≡ map (at_state codes.now first) (up 0 (length codes.now.codes))
         ++ emitted (λ s. first + codes.now.width + s) (up 0 (length codes.now.codes)) None
-            (first + codes.now.width + length codes.now.codes) (numbered_body numbers.items (body_view body.now))) }
+            (first + codes.now.width + length codes.now.codes) (numbered_body numbers.now (body_view body.now))) }
 {
     let count = codes.as_slice().len() as u32;
     let mut made = Vec::new(alloc);

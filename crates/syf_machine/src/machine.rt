@@ -1,20 +1,21 @@
 // The machine of a state machine.
-ghost use Rattle.std.specs.Prelude.{◌≡◌, ◌<◌, ◌≤◌, ◌^◌, ◌+◌, ◌++◌, Some, None, false, length, map, IfOk, IfSome};
+ghost use Rattle.std.specs.Prelude.{◌≡◌, ◌<◌, ◌≤◌, ◌^◌, ◌+◌, ◌++◌, Some, None, false, length, map, IfOk, OnOk, IsTrue};
 ghost use Rattle.bool_expr.specs.Expression.{constant};
 ghost use Rattle.bool_expr.specs.View.{view};
 ghost use Rattle.machine_core.specs.View.{equation_view, register_view};
-ghost use Rattle.machine_meaning.specs.Machine.{Equation};
 ghost use Rattle.fsm_machine.specs.Codes.{AreCodes};
 ghost use Rattle.fsm_machine.specs.Signals.{final, signals};
-ghost use Rattle.fsm_machine.specs.MachineOf.{code_given, output_given, named, body_base};
+ghost use Rattle.fsm_machine.specs.MachineOf.{named};
 ghost use Rattle.fsm_code.specs.Over.{IsBodyOver, numbered_body};
+ghost use Rattle.fsm_code.specs.Sought.{given_to};
 ghost use Rattle.fsm_code.specs.View.{body_view};
+ghost use Rattle.syf_machine.specs.Pieces.{output_of, registers_from};
 ghost use Rattle.syf_machine.specs.Named.{IsMachineOf};
 ghost use Rattle.syf_machine.specs.Meaning.{DoesAs};
 
 use crate::inner::inner_expressions;
 use crate::law::machine_does_as;
-use crate::names::{inner_names, inputs, outputs, port_numbers, register_names};
+use crate::names::{copied, inner_names, inputs, outputs, port_numbers, register_names};
 use bool_expr::Expr;
 use fsm_code::{Codes, Place, Sought, Statements, Target, signals};
 use fsm_core::Fsm;
@@ -22,9 +23,9 @@ use fsm_machine::machine_is_ordered;
 use machine_core::Machine;
 use machine_meaning::{Equation, Register};
 use std::alloc::{AllocError, Global};
-use vlsi_base::{Listed, Name, Port};
+use vlsi_base::{Listed, Name};
 
-/// The statements of a state machine, what stands for their variables, and the number of their first signal.
+// The statements of a state machine, what stands for their variables, and the number of their first signal.
 struct Body<'a> {
     alloc: Global,
     statements: &'a Statements,
@@ -89,15 +90,15 @@ impl Body<'_> {
     }
 }
 
-// How many names there are before the outputs, where that is a number of 32 bits.
-fn count(inputs: usize, codes: &Codes, body: &Statements) -> Option<u32>
-    ensures { IfSome result (λ n. n ≡ inputs + codes.now.width + length codes.now.codes + signals (body_view body.now)) }
+// Whether all names before the outputs have numbers of 32 bits: inputs, bits of the code, states, and signals of the statements.
+fn has_room(inputs: usize, codes: &Codes, body: &Statements) -> bool
+    ensures { IsTrue result → inputs + codes.now.width + length codes.now.codes + signals (body_view body.now) < 2 ^ 32 }
 {
     let states = codes.as_slice().len() as u64;
     let before = (inputs as u64)
         .saturating_add(u64::from(codes.width()))
         .saturating_add(states);
-    u32::try_from(before.saturating_add(signals(body))).ok()
+    before.saturating_add(signals(body)) <= u64::from(u32::MAX)
 }
 
 // Names and expressions, one beside the other.
@@ -144,29 +145,27 @@ pub fn machine_of(alloc: Global, machine: &Fsm, codes: &Codes) -> Result<Machine
     machine_is_ordered();
     machine_does_as();
     let ports = machine.ports().as_slice();
-    let body = machine.body();
     let inputs = inputs(alloc, ports, machine.clock())?;
-    let first = inputs.len() as u32;
-    let Some(last) = count(inputs.len(), codes, body) else {
+    if !has_room(inputs.len(), codes, machine.body()) {
         return Err(AllocError);
-    };
+    }
     let numbers = port_numbers(alloc, ports, machine.clock())?;
-    let made = inner_expressions(alloc, codes, first, copied(alloc, &numbers)?, body)?;
-    let names = inner_names(alloc, ports, made.len())?;
-    let mut equations = equations(alloc, names, made)?;
-    let statements = Body {
+    let first = inputs.len() as u32;
+    let body = Body {
         alloc,
-        statements: body,
+        statements: machine.body(),
         numbers: &numbers,
         first: first + codes.width() + codes.as_slice().len() as u32,
     };
-    statements.push_outputs(outputs(alloc, ports)?, &mut equations)?;
-    let registers = register_names(alloc, ports, codes.width())?;
-    let registers = statements.registers(registers, codes)?;
+    let made = inner_expressions(alloc, codes, first, &numbers, machine.body())?;
+    let names = inner_names(alloc, ports, made.len())?;
+    let mut equations = equations(alloc, names, made)?;
+    body.push_outputs(outputs(alloc, ports)?, &mut equations)?;
+    let registers = body.registers(register_names(alloc, ports, codes.width())?, codes)?;
     let vars = all_names(alloc, inputs, &registers, &equations)?;
     Ok(Machine::new(
         machine.name().copy(alloc)?,
-        copied_ports(alloc, ports)?,
+        Listed::new(copied(alloc, ports)?),
         Some(machine.clock().copy(alloc)?),
         Listed::new(vars),
         Listed::new(equations),

@@ -114,3 +114,17 @@ pub(crate) fn register_names(
     }
     Ok(names)
 }
+
+/// Copies of ports. Takes memory for their names.
+pub(crate) fn copied(alloc: Global, ports: &[Port]) -> Result<Vec<Port>, AllocError>
+    ensures { IfOk result (λ copies. copies.items ≡ ports.now) }
+{
+    let mut copies = Vec::with_capacity(alloc, ports.len())?;
+    for port in ports {
+        copies.push(Port {
+            name: port.name.copy(alloc)?,
+            dir: port.dir,
+        })?;
+    }
+    Ok(copies)
+}

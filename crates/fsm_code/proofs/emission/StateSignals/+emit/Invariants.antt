@@ -23,12 +23,12 @@ invariant-emit-loop-rest l = record {
   smaller : size-Statements l.rest ≤ size-Statements l.fn.body;
   path : l.here.path ≡ l.fn.place.path;
   room : l.here.next + signals (body_view l.rest) ≡ l.fn.place.next + signals (body_view l.fn.body);
-  over : IsBodyOver (length l.self.numbers.items) (body_view l.rest);
+  over : IsBodyOver (length l.self.numbers.now) (body_view l.rest);
   sound : IsSound l.self.states.items (body_view l.rest);
   added : map view l.out.items
-      ++ emitted (λ s. l.self.first + s) l.self.states.items l.fn.place.path l.here.next (numbered_body l.self.numbers.items (body_view l.rest))
+      ++ emitted (λ s. l.self.first + s) l.self.states.items l.fn.place.path l.here.next (numbered_body l.self.numbers.now (body_view l.rest))
       ≡ map view l.initial.out.items
-      ++ emitted (λ s. l.self.first + s) l.self.states.items l.fn.place.path l.fn.place.next (numbered_body l.self.numbers.items (body_view l.fn.body));
+      ++ emitted (λ s. l.self.first + s) l.self.states.items l.fn.place.path l.fn.place.next (numbered_body l.self.numbers.now (body_view l.fn.body));
 }
 
 -- the same down the conditions of an `if`; the path is that on which the next condition is asked
@@ -36,11 +36,11 @@ abbrev pub invariant-emit_parts-loop-rest : goal.invariant-emit_parts-loop-rest
 invariant-emit_parts-loop-rest l = record {
   smaller : size-Parts l.rest ≤ size-Parts l.fn.parts;
   room : l.here.next + part_signals (parts_view l.rest) ≡ l.fn.place.next + part_signals (parts_view l.fn.parts);
-  over : ArePartsOver (length l.self.numbers.items) (parts_view l.rest);
+  over : ArePartsOver (length l.self.numbers.now) (parts_view l.rest);
   sound : ArePartsSound l.self.states.items (parts_view l.rest);
   added : map view l.out.items
-      ++ emitted_parts (λ s. l.self.first + s) l.self.states.items l.here.path l.here.next (numbered_parts l.self.numbers.items (parts_view l.rest))
+      ++ emitted_parts (λ s. l.self.first + s) l.self.states.items l.here.path l.here.next (numbered_parts l.self.numbers.now (parts_view l.rest))
       ≡ map view l.initial.out.items
       ++ emitted_parts (λ s. l.self.first + s) l.self.states.items l.fn.place.path l.fn.place.next
-      (numbered_parts l.self.numbers.items (parts_view l.fn.parts));
+      (numbered_parts l.self.numbers.now (parts_view l.fn.parts));
 }
