@@ -1,21 +1,22 @@
 -- A machine as a data-flow text.
-use Rattle.std.specs.Prelude.{ℕ, ◌+◌, Bool, true, false, not, is_none, List, [], ◌∷◌, ◌++◌, map, filter, length, Option, None, Some, codes, if◌then◌else◌}
+use Rattle.std.specs.Prelude.{ℕ, ◌+◌, Bool, true, not, List, [], ◌∷◌, ◌++◌, map, filter, length, Option, None, Some, codes, if◌then◌else◌}
+use Rattle.std.specs.List.{list_any}
 use Rattle.std.specs.Fmt.{decimal}
 use Rattle.vlsi_base.specs.declared.name.Name.{Name}
 use Rattle.vlsi_base.specs.declared.name.Port.{Port}
 use Rattle.vlsi_base.specs.declared.name.Dir.TheVariants as dir
 use Rattle.vlsi_base.specs.Names.{scalar, vdd, vss}
-use Rattle.bool_expr.specs.Expression.{Expression, constant, variable, inverse, pair, choice}
+use Rattle.bool_expr.specs.Expression.{Expression, constant}
 use Rattle.machine_meaning.specs.Named.{is_same_name}
-use Rattle.machine_meaning.specs.Machine.{Machine, Equation, Register, outputs, inputs, register_names, names_of}
+use Rattle.machine_meaning.specs.Machine.{Machine, Equation, Register, outputs, inputs, register_names}
 use Rattle.machine_core.specs.Order.{equation_names}
 use Rattle.vhdl_token.specs.declared.keyword.Keyword.TheVariants as word
 use Rattle.vhdl_token.specs.declared.token.Token.TheVariants as token
 use Rattle.vhdl_token.specs.declared.token.Sign.TheVariants as sign
-use Rattle.spell_theory.specs.Layout.{Written, gap, turn, says, text_of}
-use Rattle.vhdl_again.specs.Outline.{Bounds, Outline, a_word, a_sign, a_name, a_number, direction_word, entity_layout}
+use Rattle.spell_theory.specs.Layout.{Written, gap, turn, says}
+use Rattle.vhdl_again.specs.Outline.{Bounds, a_word, a_sign, a_name, a_number, direction_word, entity_layout}
 use Rattle.vst_write.specs.Groups.{Group, bounds_of, grouped, outline}
-use Rattle.vst_write.specs.Structure.{name_layout, signal_layout, signals_layout, begin_layout}
+use Rattle.vst_write.specs.Structure.{name_layout, signals_layout, begin_layout}
 use Rattle.free_names.specs.Free.{free_texts}
 use Rattle.vbe_write.specs.Expressions.{laid, operand, value_layout}
 
@@ -23,10 +24,7 @@ use Rattle.vbe_write.specs.Expressions.{laid, operand, value_layout}
 
 -- the outputs have equations, and so have the inner signals
 abbrev pub is_output : Machine → Name → Bool
-is_output m name = not (is_none (found (outputs m))) where
-  found : List Name → Option Name
-  found [] = None
-  found (n ∷ names) = if is_same_name n name then Some n else found names
+is_output m name = list_any (λ n. is_same_name n name) (outputs m)
 
 abbrev pub taken_texts : Machine → List (List ℕ)
 taken_texts m = map (λ p. p.name.text) m.ports ++ map (λ r. r.name.text) m.registers

@@ -1,0 +1,86 @@
+-- What is written of a machine is read again.
+use Rattle.std.specs.Prelude.{◌≡◌, ℕ, zero, suc, ◌+◌, ◌^◌, ◌<◌, ◌≤◌, Bool, List, [], ◌∷◌, length}
+use Rattle.std.specs.List.{All}
+use Rattle.vlsi_base.specs.declared.limits.TheConstants.{MOST_SOURCE_BYTES}
+use Rattle.vlsi_base.specs.declared.name.Name.{Name}
+use Rattle.vlsi_base.specs.declared.name.Port.{Port}
+use Rattle.vlsi_base.specs.declared.fault.ReadError.{ReadError}
+use Rattle.vlsi_base.specs.declared.fault.ReadError.TheVariants as errors
+use Rattle.bool_expr.specs.Expression.{Expression, constant, variable, inverse, pair, choice}
+use Rattle.machine_meaning.specs.Machine.{Machine, Equation, Register}
+use Rattle.machine_meaning.specs.Cycles.{Settles, outs, next, RunOf}
+use Rattle.machine_core.specs.Checked.{IsChecked}
+use Rattle.source_meaning.specs.Checks.{most_ports}
+use Rattle.vhdl_token.specs.declared.token.Sign.TheVariants as sign
+use Rattle.vhdl_token.specs.declared.token.Token.TheVariants as token
+use Rattle.grammar_theory.specs.declared.limits.TheConstants.{DEPTH, CHAIN, BITS}
+use Rattle.spell_theory.specs.Layout.{Written, gap, turn, says, text_of}
+use Rattle.vst_again.specs.Says.{IsShort, IsSmall, IsSmallPort}
+use Rattle.vbe_same.specs.Law.{HaveSameParts}
+use Rattle.vbe_write.specs.Written.{inner_count, layout}
+use Rattle.vbe_write.specs.Writable.{CanBeVbe}
+use Rattle.vbe_io.specs.Text.{IsVbe, IsVbeRefusal}
+
+-- the text that is written of a machine
+abbrev pub text : Machine → List ℕ
+text m = text_of (layout m)
+
+-- ---- limits
+
+-- no more than n parentheses are open together
+abbrev pub OpensWithin : ℕ → List Written → Type 0
+OpensWithin n [] = Unit {0}
+OpensWithin zero (says (token.Sign sign.LeftParen) ∷ ws) = ⊥
+OpensWithin (suc n) (says (token.Sign sign.LeftParen) ∷ ws) = OpensWithin n ws
+OpensWithin n (says (token.Sign sign.RightParen) ∷ ws) = OpensWithin (suc n) ws
+OpensWithin n (_ ∷ ws) = OpensWithin n ws
+
+-- how many operators an expression is written with; of a choice the condition stands twice, with `and` twice, `or` and `not`
+abbrev pub operators : Expression → ℕ
+operators (constant b) = 0
+operators (variable k) = 0
+operators (inverse e) = 1 + operators e
+operators (pair g a b) = 1 + (operators a + operators b)
+operators (choice c a b) = 4 + (operators c + (operators c + (operators a + operators b)))
+
+-- in each alternative of a whole value
+abbrev pub IsValueWithin : ℕ → Expression → Type 0
+IsValueWithin n (choice c a b) = (operators a ≤ n) × (operators c ≤ n) × IsValueWithin n b
+IsValueWithin n e = operators e ≤ n
+
+-- how many values a whole value chooses among
+abbrev pub alternatives : Expression → ℕ
+alternatives (choice c a b) = suc (alternatives b)
+alternatives e = 1
+
+abbrev pub IsFewValues : Expression → Type 0
+IsFewValues e = IsValueWithin CHAIN e × (alternatives e ≤ CHAIN)
+
+-- The text is within the limits of texts: names have at most 64 bytes and bits numbers of 32 bits; no more bits are declared, no more
+-- parentheses are open together, and no expression or choice is longer than a text may have; and there are few enough ports and bytes.
+pub record IsWithinLimits (m : Machine) : Type 0 where
+  pub name : IsShort m.name
+  pub ports : All IsSmallPort m.ports
+  pub registers : All (λ r. IsShort r.name.text × IsSmall r.name.bit) m.registers
+  pub bits : length m.ports + (2 + (inner_count m + length m.registers)) ≤ BITS
+  pub nested : OpensWithin DEPTH (layout m)
+  pub values : All (λ e. IsFewValues e.expr) m.equations
+  pub loads : All (λ r. IsFewValues r.next × (4 + operators r.enable ≤ CHAIN)) m.registers
+  pub few_ports : length m.ports ≤ most_ports
+  pub short : length (text m) ≤ MOST_SOURCE_BYTES
+
+-- ---- alike
+
+-- Two machines with the same name, ports and clock, and registers of the same names, which do the same: from the same contents and
+-- under the same inputs they settle with the same outputs and the same next contents, and so they run alike.
+pub record AreAlike (m k : Machine) : Type 0 where
+  pub parts : HaveSameParts m k
+  pub outputs : (s i w v : List Bool) → Settles m s i w → Settles k s i v → outs m w ≡ outs k v
+  pub next : (s i w v : List Bool) → Settles m s i w → Settles k s i v → next m w ≡ next k v
+  pub runs : (s : List Bool) (v y : List (List Bool)) → RunOf m s v y → RunOf k s v y
+  pub runs_back : (s : List Bool) (v y : List (List Bool)) → RunOf k s v y → RunOf m s v y
+
+-- What the text of a machine is read as is alike; and it is refused only where memory has run out.
+pub record ReadAgain : Type 0 where
+  pub is : (m k : Machine) → IsChecked m → CanBeVbe m → IsWithinLimits m → IsVbe (text m) k → AreAlike m k
+  pub accepted : (m : Machine) (e : ReadError) → IsChecked m → CanBeVbe m → IsWithinLimits m → IsVbeRefusal (text m) e → e ≡ errors.Memory
