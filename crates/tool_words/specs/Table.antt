@@ -1,5 +1,5 @@
 -- The table of tools: for each its word, its SOURCE and its options. A tool more is an entry more.
-use Rattle.std.specs.Prelude.{ℕ, List, [], ◌∷◌, Option, codes}
+use Rattle.std.specs.Prelude.{ℕ, List, [], ◌∷◌, Option, Some, codes}
 use Rattle.std.specs.List.{find}
 use Rattle.tool_words.specs.declared.table.Tool.{Tool}
 use Rattle.tool_words.specs.declared.table.Tool.TheVariants as tool
@@ -52,11 +52,18 @@ patterns = record { word = codes "-p"; value = codes "PATTERNS"; need = Once; fo
 abbrev pub netlist_library : Setting
 netlist_library = record { word = codes "-l"; value = codes "DIR"; need = With (codes ".vst"); form = Text }
 
+-- how states get their codes: o, r or j, and j where it isn't given
+abbrev pub encoding : Setting
+encoding = record { word = codes "-e"; value = codes "STYLE"; need = Perhaps (Some 106); form = Letter (codes "orj") }
+
+abbrev pub seed : Setting
+seed = record { word = codes "--seed"; value = codes "N"; need = Perhaps (Some 0); form = Number 0 4294967295 }
+
 abbrev pub tracks : Setting
 tracks = record { word = codes "--tracks"; value = []; need = Once; form = Flag }
 
 abbrev pub flow : Entry
-flow = record { tool = tool.Flow; word = codes "flow"; endings = codes ".vbe" ∷ codes ".fsm" ∷ []; settings = library ∷ out ∷ tracks ∷ [] }
+flow = record { tool = tool.Flow; word = codes "flow"; endings = codes ".vbe" ∷ codes ".fsm" ∷ []; settings = library ∷ out ∷ encoding ∷ seed ∷ tracks ∷ [] }
 
 abbrev pub boog : Entry
 boog = record { tool = tool.Boog; word = codes "boog"; endings = codes ".vbe" ∷ []; settings = library ∷ out ∷ [] }
@@ -72,8 +79,11 @@ asimut = record {
 abbrev pub cougar : Entry
 cougar = record { tool = tool.Cougar; word = codes "cougar"; endings = codes ".ap" ∷ []; settings = library ∷ out ∷ [] }
 
+abbrev pub syf : Entry
+syf = record { tool = tool.Syf; word = codes "syf"; endings = codes ".fsm" ∷ []; settings = out ∷ encoding ∷ seed ∷ [] }
+
 abbrev pub tools : List Entry
-tools = flow ∷ boog ∷ asimut ∷ cougar ∷ []
+tools = flow ∷ syf ∷ boog ∷ asimut ∷ cougar ∷ []
 
 -- the tool with this word
 abbrev pub tool_of : List ℕ → Option Entry

@@ -9,6 +9,7 @@ use crate::words::is_same;
 #[derive(Clone, Copy)]
 pub enum Tool {
     Flow,
+    Syf,
     Boog,
     Asimut,
     Cougar,
@@ -85,6 +86,21 @@ pub(crate) const NETLIST_LIBRARY: Setting = Setting {
     form: Form::Text,
 };
 
+/// How states get their codes: `o`, `r` or `j`.
+pub(crate) const ENCODING: Setting = Setting {
+    word: "-e",
+    value: "STYLE",
+    need: Need::Perhaps(Some(106)),
+    form: Form::Letter("orj"),
+};
+
+pub(crate) const SEED: Setting = Setting {
+    word: "--seed",
+    value: "N",
+    need: Need::Perhaps(Some(0)),
+    form: Form::Number(0, u32::MAX),
+};
+
 const TRACKS: Setting = Setting {
     word: "--tracks",
     value: "",
@@ -97,7 +113,13 @@ const TOOLS: &[Entry] = &[
         tool: Tool::Flow,
         word: "flow",
         endings: &[".vbe", ".fsm"],
-        settings: &[LIBRARY, OUT, TRACKS],
+        settings: &[LIBRARY, OUT, ENCODING, SEED, TRACKS],
+    },
+    Entry {
+        tool: Tool::Syf,
+        word: "syf",
+        endings: &[".fsm"],
+        settings: &[OUT, ENCODING, SEED],
     },
     Entry {
         tool: Tool::Boog,
