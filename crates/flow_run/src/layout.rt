@@ -3,12 +3,13 @@ ghost use Rattle.std.specs.Prelude.{◌≡◌, IfOk, true};
 ghost use Rattle.cell_checks.specs.Checked.{IsChecked as HasPassed};
 ghost use Rattle.ocp_place.specs.Drawable.{IsDrawableIn};
 ghost use Rattle.route_draw.specs.Drawn.{IsDrawnInTracks};
+ghost use Rattle.flow_run.specs.View.{origin_view};
 ghost use Rattle.flow_run.specs.Drawn.{layout_name as layout_name_of, MayBeDrawn, IsLengthOf, IsDrawnAs};
 
 use crate::report::report;
+use crate::source::Source;
 use ap_io::{Figure, write_ap, written_is_read_again};
 use cell_checks::Library;
-use machine_core::Machine;
 use nero_tracks::{TrackError, columns_are_free, route_tracks};
 use net_core::Netlist;
 use net_view::right_is_well_formed;
@@ -52,23 +53,23 @@ fn layout_name(alloc: Global, out: &FileName) -> Result<FileName, AllocError>
     Ok(name)
 }
 
-/// The layout of a machine's netlist, in the file NAME.ap, and the report on it. Memory goes by the lines of the layout.
+/// The layout of a source's netlist, in the file NAME.ap, and the report on it. Memory goes by the lines of the layout.
 pub(crate) fn product(
     alloc: Global,
     out: &FileName,
-    machine: &Machine,
+    source: &Source,
     netlist: &Netlist,
     library: &Library,
 ) -> Result<Product, AllocError>
-    requires { MayBeDrawn library.now machine.now netlist.now }
-    ensures { IfOk result (λ p. IsDrawnAs out.now machine.now library.now p) }
+    requires { MayBeDrawn library.now (origin_view source.now.origin) source.now.machine netlist.now }
+    ensures { IfOk result (λ p. IsDrawnAs out.now (origin_view source.now.origin) source.now.machine library.now p) }
 {
     right_is_well_formed();
     drawing_can_be_written();
     written_is_read_again();
     let sheet = drawing(alloc, netlist, library)?;
     let file = write_ap(alloc, &sheet.figure)?;
-    let text = report(alloc, machine, netlist, sheet.wire)?;
+    let text = report(alloc, source, netlist, sheet.wire)?;
     let name = layout_name(alloc, out)?;
     Ok(Product {
         name,

@@ -10,6 +10,7 @@ mod flow;
 mod layout;
 mod report;
 mod right_layout;
+mod source;
 mod top;
 
 pub use right_layout::right_layout_law;

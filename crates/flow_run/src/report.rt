@@ -3,12 +3,15 @@ ghost use Rattle.std.specs.Prelude.{◌≡◌, ◌≤◌, ◌-◌, ◌++◌, IfO
 ghost use Rattle.machine_core.specs.View.{register_view};
 ghost use Rattle.machine_meaning.specs.Size.{machine_size as size_of};
 ghost use Rattle.boog_run.specs.declared.netlist.TheConstants.{MOST_SIZE};
-ghost use Rattle.flow_run.specs.Report.{source_line as source_line_of, count_line as count_line_of, register_line as register_line_of, register_lines as register_lines_of, report_by};
+ghost use Rattle.flow_run.specs.Report.{source_line as source_line_of, count_line as count_line_of, register_line as register_line_of, register_lines as register_lines_of, held_lines, report_by};
+ghost use Rattle.flow_run.specs.View.{origin_view};
 
+use crate::source::{Origin, Source};
 use machine_core::{Machine, machine_size};
 use machine_meaning::Register;
 use net_core::Netlist;
 use std::alloc::{AllocError, Global};
+use syf_run::code_lines;
 use vlsi_base::{FileBytes, Name, Text};
 
 fn source_line(alloc: Global, name: &Text) -> Result<FileBytes, AllocError>
@@ -67,12 +70,21 @@ fn register_lines(
     Ok(())
 }
 
-// The source and its registers.
-fn head(alloc: Global, machine: &Machine) -> Result<FileBytes, AllocError>
-    ensures { IfOk result (λ text. text ≡ source_line_of machine.now.name ++ register_lines_of 0 machine.now.registers) }
+// The source, and its registers or the codes of its states.
+fn head(alloc: Global, source: &Source) -> Result<FileBytes, AllocError>
+    ensures { IfOk result (λ text. text ≡ source_line_of source.now.machine.name
+        ++ held_lines (origin_view source.now.origin) source.now.machine) }
 {
-    let mut out = source_line(alloc, machine.name())?;
-    register_lines(alloc, &mut out, machine.registers().as_slice())?;
+    let mut out = source_line(alloc, source.machine.name())?;
+    match &source.origin {
+        Origin::Equations => {
+            register_lines(alloc, &mut out, source.machine.registers().as_slice())?;
+        }
+        Origin::States(states, codes) => {
+            let names = states.states().as_slice();
+            code_lines(alloc, &mut out, names, codes.as_slice())?;
+        }
+    }
     Ok(out)
 }
 
@@ -96,18 +108,18 @@ fn nets(netlist: &Netlist) -> u128
     u128::from(netlist.count().saturating_sub(2))
 }
 
-/// The report on a layout of the machine with this netlist, whose nets are so long, and which breaks no rule. Memory goes by the text.
+/// The report on a layout of the source with this netlist, whose nets are so long, and which breaks no rule. Memory goes by the text.
 pub(crate) fn report(
     alloc: Global,
-    machine: &Machine,
+    source: &Source,
     netlist: &Netlist,
     wire: u128,
 ) -> Result<FileBytes, AllocError>
-    requires { size_of machine.now ≤ MOST_SIZE }
-    ensures { IfOk result (λ text. text ≡ report_by machine.now (length netlist.now.instances) (netlist.now.count - 2) wire 0) }
+    requires { size_of source.now.machine ≤ MOST_SIZE }
+    ensures { IfOk result (λ text. text ≡ report_by (origin_view source.now.origin) source.now.machine (length netlist.now.instances) (netlist.now.count - 2) wire 0) }
 {
-    let mut out = head(alloc, machine)?;
-    count_line(alloc, &mut out, b"size", size(machine))?;
+    let mut out = head(alloc, source)?;
+    count_line(alloc, &mut out, b"size", size(&source.machine))?;
     count_line(alloc, &mut out, b"cells", cells(netlist))?;
     count_line(alloc, &mut out, b"nets", nets(netlist))?;
     count_line(alloc, &mut out, b"length", wire)?;

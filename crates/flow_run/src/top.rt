@@ -1,16 +1,17 @@
 // The top call: words, and then the tool that they ask for.
 ghost use Rattle.std.specs.Prelude.{◌≡◌, ◌⊎◌, true, IfSome, Some, None};
-ghost use Rattle.tool_words.specs.Commands.{command_of, as_flow, as_boog, as_asimut, as_asimut_netlist, as_cougar, flow_of, boog_of, asimut_of, asimut_netlist_of, cougar_of};
+ghost use Rattle.tool_words.specs.Commands.{command_of, as_flow, as_syf, as_boog, as_asimut, as_asimut_netlist, as_cougar, flow_of, syf_of, boog_of, asimut_of, asimut_netlist_of, cougar_of};
 ghost use Rattle.tool_drive.specs.Outside.{outside, IsLine};
 ghost use Rattle.tool_drive.specs.Status.{has_line};
 ghost use Rattle.tool_drive.specs.Lines.{line_of as line_of_tool};
 ghost use Rattle.tool_drive.specs.Table.{Caused, IsComplete};
 ghost use Rattle.boog_run.specs.Boog.{boog_plan, boog_answers};
+ghost use Rattle.syf_run.specs.Syf.{syf_plan, syf_answers};
 ghost use Rattle.tool_run.specs.Usage.{word_of, line_of};
 ghost use Rattle.asimut_run.specs.Asimut.{asimut_plan, asimut_answers};
 ghost use Rattle.asimut_run.specs.Netlist.{netlist_plan, netlist_answers};
 ghost use Rattle.cougar_run.specs.Cougar.{cougar_plan, cougar_answers};
-ghost use Rattle.flow_run.specs.Flow.{is_fsm, flow_plan, flow_answers};
+ghost use Rattle.flow_run.specs.Flow.{flow_plan, flow_answers};
 ghost use Rattle.flow_run.specs.Causes.{IsHeadline, IsFree};
 
 use crate::flow::run_flow;
@@ -21,11 +22,13 @@ use vlsi_shelf::{Shelf, Sink};
 
 // Runs the tool that a command is for.
 fn run<S: Shelf, T: Sink>(alloc: Global, command: &Command, shelf: &mut S, out: &mut T) -> Status
-    ensures fsm { IfSome (as_flow (Some command.now)) (λ c. is_fsm c ≡ true
-        → (result ≡ Status.Beyond) × (shelf.new ≡ shelf.old)) }
     ensures cause { IfSome (as_flow (Some command.now)) (λ c. Caused (flow_plan c) (flow_answers c)
         (outside (S.seen shelf.old) (T.seen out.old)) (outside (S.seen shelf.new) (T.seen out.new)) result) }
     ensures complete { IfSome (as_flow (Some command.now)) (λ c. IsComplete (flow_plan c) (flow_answers c)
+        (outside (S.seen shelf.old) (T.seen out.old)) (outside (S.seen shelf.new) (T.seen out.new)) result) }
+    ensures encoding { IfSome (as_syf (Some command.now)) (λ y. Caused (syf_plan y) (syf_answers y)
+        (outside (S.seen shelf.old) (T.seen out.old)) (outside (S.seen shelf.new) (T.seen out.new)) result) }
+    ensures encoding_complete { IfSome (as_syf (Some command.now)) (λ y. IsComplete (syf_plan y) (syf_answers y)
         (outside (S.seen shelf.old) (T.seen out.old)) (outside (S.seen shelf.new) (T.seen out.new)) result) }
     ensures mapping { IfSome (as_boog (Some command.now)) (λ c. Caused (boog_plan c) (boog_answers c)
         (outside (S.seen shelf.old) (T.seen out.old)) (outside (S.seen shelf.new) (T.seen out.new)) result) }
@@ -46,21 +49,27 @@ fn run<S: Shelf, T: Sink>(alloc: Global, command: &Command, shelf: &mut S, out: 
     ensures line { has_line result ≡ true
         → IsLine (T.seen out.old) (T.seen out.new) (line_of_tool (word_of command.now) result) }
     ensures never_usage { result ≡ Status.Usage → ⊥ }
+    ensures never_beyond { result ≡ Status.Beyond → ⊥ }
 {
     match command {
         Command::Flow(flow) => run_flow(alloc, flow, shelf, out),
-        Command::Boog(_) | Command::Asimut(_) | Command::AsimutNetlist(_) | Command::Cougar(_) =>
-            run_tool(alloc, command, shelf, out),
+        Command::Syf(_)
+        | Command::Boog(_)
+        | Command::Asimut(_)
+        | Command::AsimutNetlist(_)
+        | Command::Cougar(_) => run_tool(alloc, command, shelf, out),
     }
 }
 
-/// Does what the words ask, over a shelf and a sink: `flow` lays the source out with the cells of the library, `boog` makes a
+/// Does what the words ask, over a shelf and a sink: `flow` lays the source out with the cells of the library, `syf` makes a
+/// data-flow text of a state machine, `boog` makes a
 /// netlist of these cells, `asimut` runs patterns on the source, or on the netlist of the library's cells, `cougar` takes the
 /// netlist out of a layout of these cells.
 ///
 /// The words are taken apart first, and only then is a file read. A tool reads its files in their order, then writes its file,
 /// if it has one, and then prints its text by one put. `flow` reads SOURCE, CATAL, and the behaviour and the layout of each cell
-/// that this uses, writes the layout to NAME.ap and prints the report. `boog` reads the same files, writes the netlist to NAME.vst
+/// that this uses, writes the layout to NAME.ap and prints the report. `syf` reads SOURCE, writes the
+/// text to NAME.vbe and prints the codes of the states. `boog` reads the same files, writes the netlist to NAME.vst
 /// and prints how many cells it has. `asimut` reads SOURCE and
 /// PATTERNS, for a netlist also CATAL and the behaviour and the layout of each cell that this uses, and prints the patterns with
 /// every output filled in. `cougar` reads SOURCE, CATAL, and the behaviour and the layout of each cell that this uses, writes the
@@ -77,9 +86,8 @@ pub fn alliance_main<S: Shelf, T: Sink>(
     ensures words { command_of words.now ≡ None → (result ≡ Status.Usage) ⊎ (result ≡ Status.Memory) }
     ensures nothing { command_of words.now ≡ None → shelf.new ≡ shelf.old }
 
-    // A state machine's source is beyond what is built, and then no call was made on the shelf.
-    ensures fsm { IfSome (flow_of words.now) (λ c. is_fsm c ≡ true
-        → ((result ≡ Status.Beyond) ⊎ (result ≡ Status.Memory)) × (shelf.new ≡ shelf.old)) }
+    // Nothing is beyond what is built.
+    ensures never_beyond { result ≡ Status.Beyond → ⊥ }
 
     // Every status has its cause and leaves the files that its row says. What was printed is as before the line of a refusal.
     ensures cause { IfSome (flow_of words.now) (λ c. Caused (flow_plan c) (flow_answers c)
@@ -96,6 +104,12 @@ pub fn alliance_main<S: Shelf, T: Sink>(
     // Where all files are there, nothing in them is a cause to refuse them, and no call failed, the answer is 0, or out of memory.
     ensures lays { IfSome (flow_of words.now) (λ c. IsFree c (outside (S.seen shelf.old) (T.seen out.old)) (outside (S.seen shelf.new) (T.seen out.new))
         → (result ≡ Status.Accepted) ⊎ (result ≡ Status.Memory)) }
+
+    // The answers of syf: each has its cause, and over told files, where nothing failed, it is what the file comes to.
+    ensures encoding { IfSome (syf_of words.now) (λ y. Caused (syf_plan y) (syf_answers y)
+        (outside (S.seen shelf.old) (T.seen out.old)) (outside (S.seen shelf.new) (T.seen out.new)) result) }
+    ensures encoding_complete { IfSome (syf_of words.now) (λ y. IsComplete (syf_plan y) (syf_answers y)
+        (outside (S.seen shelf.old) (T.seen out.old)) (outside (S.seen shelf.new) (T.seen out.new)) result) }
 
     // The answers of boog: each has its cause, and over told files, where nothing failed, it is what the files come to.
     ensures mapping { IfSome (boog_of words.now) (λ c. Caused (boog_plan c) (boog_answers c)
