@@ -3,6 +3,7 @@ pub mod View
 pub mod Report
 pub mod States
 pub mod RightLayout
+pub mod NetlistLaw
 pub mod Drawn
 pub mod Flow
 pub mod Causes

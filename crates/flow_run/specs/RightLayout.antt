@@ -19,8 +19,8 @@ use Rattle.flow_run.specs.Report.{report_of}
 
 -- The bytes are the ap file of a figure that has the machine's name. Joined wherever shapes of one metal meet, the figure
 -- is a netlist of the library's cells that is well formed for the machine, behaves as the machine does, and breaks no
--- symbolic rule. Of a state machine it does what this does, from the codes of states and behind vectors that reset. Its ports, instances, supplies and box are those of a placement, one row in the order of the netlist, and it has
--- few gates.
+-- symbolic rule. Of a state machine it does what this does, from the codes of states and behind vectors that reset. Its ports,
+-- instances, supplies and box are those of a placement, one row in the order of the netlist, and it has few gates.
 -- The report is that of machine, netlist and placement.
 pub record IsRightLayout (bytes : List ℕ) (o : Origin) (m : Machine) (l : Library) (report : List ℕ) : Type 0 where
   pub figure : Figure

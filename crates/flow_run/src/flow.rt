@@ -12,6 +12,7 @@ ghost use Rattle.flow_run.specs.View.{origin_view};
 ghost use Rattle.flow_run.specs.Flow.{flow_plan, flow_answers, IsSourceOf, AreRead, IsNoSource, IsUnread, LaysOut};
 
 use crate::layout::product;
+use crate::netlist_law::fsm_netlist_law;
 use crate::source::{Origin, Source};
 use boog_run::{check_size, netlist_law, netlist_of};
 use catal::{CatalError, read_catal};
@@ -19,7 +20,7 @@ use cell_checks::Library;
 use cell_lib::{catal_file, library_law, library_status, named_files, read_library};
 use fsm_io::read_fsm;
 use std::alloc::{AllocError, Global};
-use syf_run::{Encoded, encoded, fsm_netlist_law, style_of};
+use syf_run::{Encoded, encoded, style_of};
 use tool_drive::{
     LibraryFault, Product, Refusal, Status, Tool, Wanted, bytes_at, drive, refused,
 };

@@ -8,6 +8,7 @@
 
 mod flow;
 mod layout;
+mod netlist_law;
 mod report;
 mod right_layout;
 mod source;
