@@ -21,9 +21,7 @@ use cell_lib::{catal_file, library_law, library_status, named_files, read_librar
 use fsm_io::read_fsm;
 use std::alloc::{AllocError, Global};
 use syf_run::{Encoded, encoded, style_of};
-use tool_drive::{
-    LibraryFault, Product, Refusal, Status, Tool, Wanted, bytes_at, drive, refused,
-};
+use tool_drive::{LibraryFault, Product, Refusal, Status, Tool, Wanted, bytes_at, drive, refused};
 use tool_words::FlowCommand;
 use vbe_io::read_vbe;
 use vlsi_base::{FileBytes, ReadError};

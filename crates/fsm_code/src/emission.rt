@@ -105,7 +105,7 @@ impl StateSignals<'_> {
         ensures next { IfOk result (λ next. next ≡ place.next + signals (body_view body.now)) }
         ensures added { OnOk result (Adds out.old.items out.new.items
             (emitted (λ s. self.now.first + s) self.now.states.items place.path place.next
-                (numbered_body self.now.numbers.now (body_view body.now)))) }
+            (numbered_body self.now.numbers.now (body_view body.now)))) }
     {
         let mut here = place;
         let mut rest = body;
@@ -140,7 +140,7 @@ impl StateSignals<'_> {
         ensures next { IfOk result (λ next. next ≡ place.next + part_signals (parts_view parts.now)) }
         ensures added { OnOk result (Adds out.old.items out.new.items
             (emitted_parts (λ s. self.now.first + s) self.now.states.items place.path place.next
-                (numbered_parts self.now.numbers.now (parts_view parts.now)))) }
+            (numbered_parts self.now.numbers.now (parts_view parts.now)))) }
     {
         let mut here = place;
         let mut rest = parts;
@@ -184,7 +184,7 @@ impl StateSignals<'_> {
         ensures next { IfOk result (λ next. next ≡ place.next + branch_signals (branches_view branches.now)) }
         ensures added { OnOk result (Adds out.old.items out.new.items (emitted_branches
             (λ s. self.now.first + s) self.now.states.items place.path place.next left.now
-                (numbered_branches self.now.numbers.now (branches_view branches.now)))) }
+            (numbered_branches self.now.numbers.now (branches_view branches.now)))) }
     {
         match branches {
             Branches::Closed => Ok(place.next),

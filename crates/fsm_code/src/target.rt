@@ -52,8 +52,9 @@ impl Sought<'_> {
                     Ok(None)
                 }
             }
-            (Target::CodeBit(codes, k), Assignment::Next(state)) =>
-                Ok(Some(Expr::Const(codes.bit(*state, k)))),
+            (Target::CodeBit(codes, k), Assignment::Next(state)) => Ok(Some(Expr::Const(codes.bit(
+                *state, k,
+            )))),
             _ => Ok(None),
         }
     }

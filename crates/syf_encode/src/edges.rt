@@ -171,12 +171,7 @@ fn mark_branch(branches: &Branches, state: u32, marks: &mut [bool])
 }
 
 // For each state, whether the state leads to it.
-fn led(
-    alloc: Global,
-    count: usize,
-    body: &Statements,
-    state: u32,
-) -> Result<Vec<bool>, AllocError>
+fn led(alloc: Global, count: usize, body: &Statements, state: u32) -> Result<Vec<bool>, AllocError>
     ensures each { IfOk result (λ marks. length marks.items ≡ count) }
     ensures marks { IfOk result (λ marks. (t : ℕ) → t < count → is_marked marks.items t ≡ leads state t (body_view body.now)) }
 {

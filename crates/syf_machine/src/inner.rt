@@ -83,7 +83,7 @@ pub(crate) fn inner_expressions(
     ensures { IfOk result (λ made. map view made.items
         ≡ map (at_state codes.now first) (up 0 (length codes.now.codes))
         ++ emitted (λ s. first + codes.now.width + s) (up 0 (length codes.now.codes)) None
-            (first + codes.now.width + length codes.now.codes) (numbered_body numbers.now (body_view body.now))) }
+        (first + codes.now.width + length codes.now.codes) (numbered_body numbers.now (body_view body.now))) }
 {
     let count = codes.as_slice().len() as u32;
     let mut made = Vec::new(alloc);

@@ -7,9 +7,7 @@ ghost use Rattle.tool_words.specs.Commands.{encoding_of, coding, command_from, c
 ghost use Rattle.tool_words.specs.View.{entry_view};
 
 use crate::arguments::{Argument, arguments};
-use crate::table::{
-    ENCODING, Entry, LIBRARY, NETLIST_LIBRARY, OUT, PATTERNS, SEED, Tool, tool_of,
-};
+use crate::table::{ENCODING, Entry, LIBRARY, NETLIST_LIBRARY, OUT, PATTERNS, SEED, Tool, tool_of};
 use crate::values::{Wanted, fits, number_of, only};
 use crate::words::{Words, WordsError};
 use std::alloc::{AllocError, Global};

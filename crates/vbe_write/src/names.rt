@@ -58,7 +58,10 @@ fn count_inner(outputs: &NameIndex<'_>, equations: &[Equation]) -> usize
 {
     let mut many = 0;
     for equation in equations {
-        if outputs.find(equation.name.text.as_bytes(), equation.name.bit).is_none() {
+        if outputs
+            .find(equation.name.text.as_bytes(), equation.name.bit)
+            .is_none()
+        {
             many += 1;
         }
     }
