@@ -2,7 +2,7 @@
 
 from state_walk import NEXT, assigned
 
-OPERATORS = ("and", "or", "xor", "nand", "nor", "xnor")
+OPERATORS = ("and", "or", "xor", "nand", "nor", "xnor", "equal")
 
 
 class StateMachine:
@@ -88,7 +88,7 @@ def tree_text(tree):
         return tree[1][0]
     if tree[0] == "not":
         return f"(not {tree_text(tree[1])})"
-    return f"({tree_text(tree[1])} {tree[0]} {tree_text(tree[2])})"
+    return f"({tree_text(tree[1])} {'=' if tree[0] == 'equal' else tree[0]} {tree_text(tree[2])})"
 
 
 def body_lines(machine, body):
@@ -99,7 +99,7 @@ def body_lines(machine, body):
             yield f"ns <= {machine.states[parts[0]]};"
         elif kind == "if":
             for k, (condition, part) in enumerate(parts[0]):
-                yield f"{'elsif' if k else 'if'} {tree_text(condition)} = '1' then"
+                yield f"{'elsif' if k else 'if'} {tree_text(condition)} then"
                 yield from body_lines(machine, part)
             if parts[1] is not None:
                 yield "else"

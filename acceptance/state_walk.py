@@ -2,7 +2,7 @@
 
 A body is a list of statements: ("out", bit, tree), ("next", state), ("if", [(condition, body)..], last body or None) and
 ("case", [(states, body)..], body of the others or None). States are numbers. A tree is ("bit", 0 or 1), ("name", bit), ("not", tree)
-or (operator, tree, tree).
+or (operator, tree, tree), the operator "equal" among them.
 """
 
 UNKNOWN = None
@@ -18,8 +18,8 @@ def value(tree, inputs):
     if kind == "not":
         return 1 - value(tree[1], inputs)
     a, b = value(tree[1], inputs), value(tree[2], inputs)
-    plain = {"and": a & b, "or": a | b, "xor": a ^ b, "nand": a & b, "nor": a | b, "xnor": a ^ b}[kind]
-    return 1 - plain if kind in ("nand", "nor", "xnor") else plain
+    plain = {"and": a & b, "or": a | b, "xor": a ^ b, "nand": a & b, "nor": a | b, "xnor": a ^ b, "equal": a ^ b}[kind]
+    return 1 - plain if kind in ("nand", "nor", "xnor", "equal") else plain
 
 
 def targets(body):
