@@ -21,16 +21,15 @@ struct Pair {
 
 // In how many bits two numbers differ.
 fn distance(a: u32, b: u32) -> u64
-    requires a { a < 2 ^ 8 }
-    requires b { b < 2 ^ 8 }
-    ensures { result ≡ apart (bits_of 8 a) (bits_of 8 b) }
+    ensures value { (w : ℕ) → a < 2 ^ w → b < 2 ^ w → result ≡ apart (bits_of w a) (bits_of w b) }
+    ensures few { result ≤ 32 }
 {
     u64::from((a ^ b).count_ones())
 }
 
 // How far the neighbours of a state are from it, without this one.
 fn reach(numbers: &[u32], state: usize, other: usize, near: &[u32]) -> u64
-    requires below { All (λ k. k < 2 ^ 8) numbers.now }
+    requires below { All (λ k. k < length numbers.now) numbers.now }
     requires state { state < length numbers.now }
     requires near { All (λ t. t < length numbers.now) near.now }
     requires few { length near.now ≤ 2 * most_states }
@@ -48,7 +47,7 @@ fn reach(numbers: &[u32], state: usize, other: usize, near: &[u32]) -> u64
 
 // What the edges of two states cost, but those between them, which cost the same when the two are exchanged.
 fn weight(numbers: &[u32], pair: Pair, near: &[Vec<u32>]) -> u64
-    requires below { All (λ k. k < 2 ^ 8) numbers.now }
+    requires below { All (λ k. k < length numbers.now) numbers.now }
     requires edges { AreEdges (length numbers.now) near.now }
     requires first { pair.first < pair.second }
     requires second { pair.second < length numbers.now }
@@ -61,7 +60,7 @@ fn weight(numbers: &[u32], pair: Pair, near: &[Vec<u32>]) -> u64
 
 // Whether the exchange of two states lowers the cost. The numbers stand afterwards as before.
 fn lowers(numbers: &mut [u32], pair: Pair, near: &[Vec<u32>]) -> bool
-    requires below { All (λ k. k < 2 ^ 8) numbers.old }
+    requires below { All (λ k. k < length numbers.old) numbers.old }
     requires edges { AreEdges (length numbers.old) near.now }
     requires first { pair.first < pair.second }
     requires second { pair.second < length numbers.old }
@@ -79,7 +78,7 @@ fn lowers(numbers: &mut [u32], pair: Pair, near: &[Vec<u32>]) -> bool
 
 // The first exchange that lowers the cost.
 fn first_lower(numbers: &mut [u32], near: &[Vec<u32>]) -> Option<Pair>
-    requires below { All (λ k. k < 2 ^ 8) numbers.old }
+    requires below { All (λ k. k < length numbers.old) numbers.old }
     requires edges { AreEdges (length numbers.old) near.now }
     requires few { length numbers.old ≤ most_states }
     ensures value { (edge : ℕ → ℕ → Bool) → near.now ≡ map (neighbours_by edge (length numbers.old)) (up 0 (length numbers.old))
@@ -100,7 +99,7 @@ fn first_lower(numbers: &mut [u32], near: &[Vec<u32>]) -> Option<Pair>
 
 // Twice what all edges cost together, since each is met at both of its states.
 fn twice_cost(numbers: &[u32], near: &[Vec<u32>]) -> u64
-    requires below { All (λ k. k < 2 ^ 8) numbers.now }
+    requires below { All (λ k. k < length numbers.now) numbers.now }
     requires edges { AreEdges (length numbers.now) near.now }
     requires few { length numbers.now ≤ most_states }
     ensures { (edge : ℕ → ℕ → Bool) → near.now ≡ map (neighbours_by edge (length numbers.now)) (up 0 (length numbers.now))
