@@ -1,8 +1,8 @@
 -- What is known of each state machine that passed its checks.
 use Rattle.std.specs.Prelude.{◌≡◌, ℕ, ◌<◌, ◌≤◌, length, slice_get, Some}
-use Rattle.std.specs.List.{All}
+use Rattle.std.specs.List.{All, Contains}
 use Rattle.vlsi_base.specs.declared.name.Name.{Name}
-use Rattle.vlsi_base.specs.Member.{In, AllDifferent}
+use Rattle.vlsi_base.specs.Member.{AllDifferent}
 use Rattle.bool_expr.specs.Expression.{Expression, constant, variable, inverse, pair, choice}
 use Rattle.machine_meaning.specs.Machine.{names_of}
 use Rattle.machine_core.specs.Checked.{AreInOrder, IsNoSupply}
@@ -20,7 +20,7 @@ most_states = 256
 pub record IsInput (f : Fsm) (k : ℕ) : Type 0 where
   pub name : Name
   pub is : slice_get (names_of f.ports) k ≡ Some name
-  pub input : In name (fsm_inputs f)
+  pub input : Contains (fsm_inputs f) name
 
 -- an expression reads inputs other than the clock
 abbrev pub ReadsInputs : Fsm → Expression → Type 0
@@ -32,7 +32,7 @@ ReadsInputs f (choice c a b) = ReadsInputs f c × (ReadsInputs f a × ReadsInput
 
 -- what is assigned is an output bit, by an expression that reads inputs, or the next state
 abbrev pub IsAssignmentOf : Fsm → Assignment → Type 0
-IsAssignmentOf f (output name e) = In name (fsm_outputs f) × ReadsInputs f e
+IsAssignmentOf f (output name e) = Contains (fsm_outputs f) name × ReadsInputs f e
 IsAssignmentOf f (next s) = Unit {0}
 
 abbrev mutual
@@ -52,16 +52,16 @@ abbrev mutual
   AreBranchesOf f (others a) = IsBodyOf f a
   AreBranchesOf f (listed states a more) = IsBodyOf f a × AreBranchesOf f more
 
--- Its ports stand in the order of names, the clock is one of its inputs, its states differ; its branches list known states, each
--- once, and what is assigned to the next state is a known state; expressions read inputs other than the clock; and on each path of
--- ifs, with each state, the next state and each output bit are assigned.
+-- Its ports stand in the order of names, the clock is one of its inputs, it has a state and at most 256, and these differ; each branch
+-- lists states that are left, and each next state is one; expressions read inputs other than the clock; and with each state every path
+-- assigns the next state and each output bit.
 pub record IsCheckedFsm (f : Fsm) : Type 0 where
   pub ports : AreInOrder (names_of f.ports)
   pub supplies : All IsNoSupply (names_of f.ports)
-  pub clock : In f.clock (names_of f.ports)
-  pub unobserved : In f.clock (fsm_outputs f) → ⊥
-  pub some : 0 < length f.states
-  pub few : length f.states ≤ most_states
+  pub clock : Contains (names_of f.ports) f.clock
+  pub unobserved : Contains (fsm_outputs f) f.clock → ⊥
+  pub some_state : 0 < length f.states
+  pub few_states : length f.states ≤ most_states
   pub different : AllDifferent f.states
   pub sound : IsSound (all_states f) f.body
   pub reads : IsBodyOf f f.body

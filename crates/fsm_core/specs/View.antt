@@ -6,5 +6,5 @@ use Rattle.fsm_meaning.specs.Fsm.{Fsm}
 use Rattle.fsm_code.specs.declared.statements.Statements.{Statements}
 use Rattle.fsm_code.specs.View.{body_view}
 
-abbrev pub fsm_of : List ℕ → List Port → Name → List Name → Statements → Fsm
-fsm_of name ports clock states body = record { name = name; ports = ports; clock = clock; states = states; body = body_view body }
+abbrev pub fsm_with : List ℕ → List Port → Name → List Name → Statements → Fsm
+fsm_with name ports clock states body = record { name = name; ports = ports; clock = clock; states = states; body = body_view body }

@@ -2,7 +2,7 @@
 ghost use Rattle.std.specs.Prelude.{◌≡◌};
 ghost use Rattle.fsm_code.specs.View.{body_view};
 ghost use Rattle.fsm_core.specs.Checked.{IsCheckedFsm};
-ghost use Rattle.fsm_core.specs.View.{fsm_of};
+ghost use Rattle.fsm_core.specs.View.{fsm_with};
 
 use fsm_code::Statements;
 use std::marker::Model;
@@ -21,22 +21,27 @@ pub struct Fsm {
 }
 
 impl Model for Fsm {
+    ghost use Rattle.std.specs.Coded.{codes};
+    ghost use Rattle.machine_core.specs.Code.{expression_code};
     ghost use Rattle.fsm_meaning.specs.Fsm.{Fsm as Meaning};
-    ghost use Rattle.fsm_core.specs.View.{fsm_of};
+    ghost use Rattle.fsm_core.specs.Code.{statements_code};
+    ghost use Rattle.fsm_core.specs.View.{fsm_with};
     ghost use Rattle.fsm_core.specs.Checked.{IsCheckedFsm};
 
     ghost Value = { Meaning };
 
-    ghost view = { λ a. fsm_of a.name a.ports a.clock a.states a.body };
+    ghost coded = { Prim.hlevel (codes, expression_code (Prim.hlevel codes), statements_code (Prim.hlevel (codes, expression_code (Prim.hlevel codes)))) };
 
-    ghost invariant = { λ a. IsCheckedFsm (fsm_of a.name a.ports a.clock a.states a.body) };
+    ghost view = { λ a. fsm_with a.name a.ports a.clock a.states a.body };
+
+    ghost invariant = { λ a. IsCheckedFsm (fsm_with a.name a.ports a.clock a.states a.body) };
 }
 
 impl Fsm {
     /// The state machine of these parts. Takes no memory.
     pub fn new(name: Text, ports: Ports, clock: Name, states: Names, body: Statements) -> Self
-        requires { IsCheckedFsm (fsm_of name ports clock states body) }
-        ensures { result ≡ fsm_of name ports clock states body }
+        requires { IsCheckedFsm (fsm_with name ports clock states body) }
+        ensures { result ≡ fsm_with name ports clock states body }
     {
         Fsm {
             name,
