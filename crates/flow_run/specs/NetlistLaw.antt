@@ -1,5 +1,5 @@
 -- What is known of a netlist for the machine of a state machine.
-use Rattle.std.specs.Prelude.{ℕ, ◌+◌, ◌*◌, ◌≤◌, true, List, length}
+use Rattle.std.specs.Prelude.{ℕ, ◌+◌, ◌*◌, ◌≤◌, false, List, length}
 use Rattle.machine_meaning.specs.Machine.{Machine}
 use Rattle.machine_meaning.specs.Size.{machine_size}
 use Rattle.source_meaning.specs.Checks.{most_ports}
@@ -24,4 +24,4 @@ pub record IsReady (l : Library) (n : Netlist) : Type 0 where
 abbrev pub FsmNetlistIsReady : Type 0
 FsmNetlistIsReady =
     (source catal : List ℕ) (cells : List (List ℕ)) (l : Library) (f : Fsm) (c : Codes) (m : Machine) (n : Netlist)
-    → IsLibraryOf true catal cells l → IsFsm source f → IsMachineOf f c m → machine_size m ≤ MOST_SIZE → IsNetlistFor l m n → IsReady l n
+    → IsLibraryOf false catal cells l → IsFsm source f → IsMachineOf f c m → machine_size m ≤ MOST_SIZE → IsNetlistFor l m n → IsReady l n

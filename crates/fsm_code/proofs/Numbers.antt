@@ -35,4 +35,4 @@ renumbered_is numbers (constant b) over = refl
 renumbered_is numbers (variable k) over = numbered_at numbers k over
 renumbered_is numbers (inverse e) over = ap inverse (renumbered_is numbers e over)
 renumbered_is numbers (pair g a b) over = rw (renumbered_is numbers a over.0, renumbered_is numbers b over.1) refl
-renumbered_is numbers (choice c a b) over = rw (renumbered_is numbers c over.0, renumbered_is numbers a over.1, renumbered_is numbers b over.2) refl
+renumbered_is numbers (choice c a b) over = rw (renumbered_is numbers c over.0, renumbered_is numbers a over.1.0, renumbered_is numbers b over.1.1) refl

@@ -1,5 +1,5 @@
 -- What is written of a machine is read again.
-use Rattle.std.specs.Prelude.{◌≡◌, ℕ, zero, suc, ◌+◌, ◌^◌, ◌<◌, ◌≤◌, Bool, List, [], ◌∷◌, length}
+use Rattle.std.specs.Prelude.{◌≡◌, ℕ, zero, suc, ◌+◌, ◌≤◌, Bool, List, [], ◌∷◌, length, None}
 use Rattle.std.specs.List.{All}
 use Rattle.vlsi_base.specs.declared.limits.TheConstants.{MOST_SOURCE_BYTES}
 use Rattle.vlsi_base.specs.declared.name.Name.{Name}
@@ -10,7 +10,6 @@ use Rattle.bool_expr.specs.Expression.{Expression, constant, variable, inverse, 
 use Rattle.machine_meaning.specs.Machine.{Machine, Equation, Register}
 use Rattle.machine_meaning.specs.Cycles.{Settles, outs, next, RunOf}
 use Rattle.machine_core.specs.Checked.{IsChecked}
-use Rattle.source_meaning.specs.Checks.{most_ports}
 use Rattle.vhdl_token.specs.declared.token.Sign.TheVariants as sign
 use Rattle.vhdl_token.specs.declared.token.Token.TheVariants as token
 use Rattle.grammar_theory.specs.declared.limits.TheConstants.{DEPTH, CHAIN, BITS}
@@ -19,6 +18,13 @@ use Rattle.vst_again.specs.Says.{IsShort, IsSmall, IsSmallPort}
 use Rattle.vbe_same.specs.Law.{HaveSameParts}
 use Rattle.vbe_write.specs.Written.{inner_count, layout}
 use Rattle.vbe_write.specs.Writable.{CanBeVbe}
+use Rattle.vhdl_lexer.specs.Listing.{tokens_in, refusal_in}
+use Rattle.source_meaning.specs.declared.statement.DesignFile.{DesignFile}
+use Rattle.source_meaning.specs.Checks.{most_ports, Passes}
+use Rattle.source_meaning.specs.Elaboration.{IsMachineOf}
+use Rattle.vbe_text.specs.Source.{source_view}
+use Rattle.vbe_text.specs.Vbe.{IsSource}
+use Rattle.vbe_round.specs.Placed.{source_of}
 use Rattle.vbe_io.specs.Text.{IsVbe, IsVbeRefusal}
 
 -- the text that is written of a machine
@@ -84,3 +90,19 @@ pub record AreAlike (m k : Machine) : Type 0 where
 pub record ReadAgain : Type 0 where
   pub is : (m k : Machine) → IsChecked m → CanBeVbe m → IsWithinLimits m → IsVbe (text m) k → AreAlike m k
   pub accepted : (m : Machine) (e : ReadError) → IsChecked m → CanBeVbe m → IsWithinLimits m → IsVbeRefusal (text m) e → e ≡ errors.Memory
+
+-- ---- the steps of the proof, of which each is a law
+
+-- The text has no place without a token, and its tokens are a sentence of the grammar of data-flow texts, whose value is this one.
+abbrev pub WrittenIsASentence : Type 0
+WrittenIsASentence =
+    (m : Machine) → IsChecked m → CanBeVbe m → IsWithinLimits m
+    → (refusal_in (text m) ≡ None) × IsSource (tokens_in (text m)) (source_of m)
+
+-- What is written so passes all checks.
+abbrev pub WrittenPasses : Type 0
+WrittenPasses = (m : Machine) (design : DesignFile) → IsChecked m → CanBeVbe m → IsWithinLimits m → source_view design ≡ source_of m → Passes design
+
+-- And each machine that it is, is alike.
+abbrev pub MadeIsAlike : Type 0
+MadeIsAlike = (m k : Machine) (design : DesignFile) → IsChecked m → CanBeVbe m → source_view design ≡ source_of m → IsMachineOf design k → AreAlike m k

@@ -1,7 +1,23 @@
 // What is written of a machine is read again.
-ghost use Rattle.vbe_round.specs.Again.{ReadAgain};
+ghost use Rattle.vbe_round.specs.Again.{ReadAgain, WrittenIsASentence, WrittenPasses, MadeIsAlike};
 
-use vbe_same::{machines_are_the_same, machines_do_the_same};
+use vbe_io::never_both;
+
+/// The text of a machine is cut into tokens without a refusal, and these are a sentence of the grammar of data-flow texts, whose value
+/// is the stated one. Names, numbers, nested parentheses and chains are within the limits of texts.
+pub fn written_is_a_sentence()
+    ensures { WrittenIsASentence }
+{}
+
+/// What is written of a machine passes all checks of data-flow texts.
+pub fn written_passes()
+    ensures { WrittenPasses }
+{}
+
+/// Each machine that the written text is, is alike.
+pub fn made_is_alike()
+    ensures { MadeIsAlike }
+{}
 
 /// What the text of a machine is read as has the same name, ports, clock and registers, and does the same: from the same contents and
 /// under the same inputs it settles with the same outputs and the same next contents. And where the text is within the limits of
@@ -9,6 +25,8 @@ use vbe_same::{machines_are_the_same, machines_do_the_same};
 pub fn read_again()
     ensures { ReadAgain }
 {
-    machines_are_the_same();
-    machines_do_the_same();
+    written_is_a_sentence();
+    written_passes();
+    made_is_alike();
+    never_both();
 }

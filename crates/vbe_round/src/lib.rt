@@ -3,4 +3,4 @@
 
 mod law;
 
-pub use law::read_again;
+pub use law::{made_is_alike, read_again, written_is_a_sentence, written_passes};
