@@ -1,7 +1,7 @@
 // What is written of a machine is read again.
 ghost use Rattle.vbe_round.specs.Again.{ReadAgain, WrittenIsASentence, WrittenPasses, MadeIsAlike};
 
-use vbe_io::never_both;
+use vbe_text::{never_both, reads_once};
 
 /// The text of a machine is cut into tokens without a refusal, and these are a sentence of the grammar of data-flow texts, whose value
 /// is the stated one. Names, numbers, nested parentheses and chains are within the limits of texts.
@@ -28,5 +28,6 @@ pub fn read_again()
     written_is_a_sentence();
     written_passes();
     made_is_alike();
+    reads_once();
     never_both();
 }
