@@ -1,10 +1,10 @@
 -- What an exchange of two states changes of the cost: only what the edges of these two cost.
 use Rattle.std.proofs.Common.{◌≡◌, ◌≢◌, ℕ, suc, ◌+◌, ◌*◌, ◌==◌, ◌<◌, ◌≤◌, nat_lt, Bool, true, false, not, ◌&&◌, List, [], map, length, filter, sum_by, refl, sym, ap, ◌∙◌, arith, if◌then◌else◌}
 use Rattle.std.specs.List.{slice_index_or, swap}
-use Rattle.std.proofs.lemmas.Bool.{ltb-true, ltb-false}
+use Rattle.std.proofs.lemmas.Bool.{ltb-true, ltb-false, eqb-true, eq-eqb}
 use Rattle.fsm_machine.specs.MachineOf.{up}
-use Rattle.fsm_machine.specs.Encoding.{distance, cost, Exchange, exchanged}
-use Rattle.fsm_machine.proofs.Coding.{at_map, at_up, swapped_at, length_swap}
+use Rattle.fsm_machine.specs.Encoding.{bits_of, width_of, apart, distance, cost, Exchange, exchanged}
+use Rattle.fsm_machine.proofs.Coding.{at_map, at_up, turned_first, turned_second, swapped_at, length_swap}
 use Rattle.fsm_machine.proofs.States.{length_up}
 use Rattle.syf_encode.specs.Pieces.{neighbours_by, reach, pair_weight}
 use Rattle.syf_encode.proofs.Apart.{apart_turned}
@@ -53,13 +53,95 @@ elsewhere edge n xs i j =
 -- By `sum_without` at i and at j, over s and within each sum over t; a pair of a state with itself costs nothing.
 pub cost_parts : (edge : ℕ → ℕ → Bool) (n : ℕ) (xs : List ℕ) (i j : ℕ) → i < j → j < n
     → cost edge n xs ≡ elsewhere edge n xs i j + (around edge n xs i j + around edge n xs j i + (pair_cost edge n xs i j + pair_cost edge n xs j i))
-cost_parts edge n xs i j l m = ?cost_parts
+cost_parts edge n xs i j l m =
+    let P : ℕ → ℕ → ℕ = pair_cost edge n xs in
+    let R : ℕ → ℕ = λ s. sum_by (P s) (up 0 n) in
+    let others : ℕ → ℕ = λ s. sum_by (λ t. when (not (t == i) && not (t == j)) (P s t)) (up 0 n) in
+    -- the rows of i, of j, and of all others
+    let a : sum_by R (up 0 n) ≡ R i + sum_by (λ s. when (not (s == i)) (R s)) (up 0 n) = sum_without R 0 n i (omega arith) (omega arith) in
+    let b : sum_by (λ s. when (not (s == i)) (R s)) (up 0 n) ≡ R j + sum_by (λ s. when (not (s == j)) (when (not (s == i)) (R s))) (up 0 n) =
+    sum_without (λ s. when (not (s == i)) (R s)) 0 n j (omega arith) m ∙ ap (λ v. v + sum_by (λ s. when (not (s == j)) (when (not (s == i)) (R s))) (up 0 n)) (unlike j i (R j) (omega arith)) in
+    -- a row is its places at i and at j, and the others
+    let row : (s : ℕ) → R s ≡ P s i + (P s j + others s) = λ s. two_out (P s) i j l m in
+    let c : sum_by (λ s. when (not (s == j)) (when (not (s == i)) (R s))) (up 0 n)
+        ≡ sum_by (λ s. when (not (s == i) && not (s == j)) (P s i + P s j) + when (not (s == i) && not (s == j)) (others s)) (up 0 n) =
+    sum_same _ _ 0 n (λ s h g. ap (λ v. when (not (s == j)) (when (not (s == i)) v)) (row s) ∙ both_out (s == i) (s == j) (P s i) (P s j) (others s)) in
+    let d = sum_added (λ s. when (not (s == i) && not (s == j)) (P s i + P s j)) (λ s. when (not (s == i) && not (s == j)) (others s)) (up 0 n) in
+    -- the edges of i and of j to others, in both directions
+    let e : around edge n xs i j ≡ others i + sum_by (λ s. when (not (s == i) && not (s == j)) (P s i)) (up 0 n) = ?around_first in
+    let f : around edge n xs j i ≡ others j + sum_by (λ s. when (not (s == i) && not (s == j)) (P s j)) (up 0 n) = ?around_second in
+    let g : sum_by (λ s. when (not (s == i) && not (s == j)) (P s i + P s j)) (up 0 n)
+        ≡ sum_by (λ s. when (not (s == i) && not (s == j)) (P s i)) (up 0 n) + sum_by (λ s. when (not (s == i) && not (s == j)) (P s j)) (up 0 n) =
+    sum_same _ _ 0 n (λ s h k. split (not (s == i) && not (s == j)) (P s i) (P s j)) ∙ sum_added _ _ (up 0 n) in
+    let ri = row i in
+    let rj = row j in
+    let own_i = own edge n xs i in
+    let own_j = own edge n xs j in
+    omega arith where
+      -- a pair of a state with itself costs nothing
+      own : (edge : ℕ → ℕ → Bool) (n : ℕ) (xs : List ℕ) (s : ℕ) → pair_cost edge n xs s s ≡ 0
+      own edge n xs s = ap (λ t. if edge s s && not t then distance n xs s s else 0) (eq-eqb s s refl) ∙ never (edge s s) (distance n xs s s) where
+        never : (t : Bool) (d : ℕ) → (if t && false then d else 0) ≡ 0
+        never true d = refl
+        never false d = refl
+
+      unlike : (a b v : ℕ) → a ≢ b → when (not (a == b)) v ≡ v
+      unlike a b v h = by (a == b) refl where
+        by : (t : Bool) → (a == b) ≡ t → when (not t) v ≡ v
+        by true e = absurd (h (eqb-true a b e))
+        by false e = refl
+
+      split : (t : Bool) (a b : ℕ) → when t (a + b) ≡ when t a + when t b
+      split true a b = refl
+      split false a b = refl
+
+      both_out : (p q : Bool) (a b o : ℕ) → when (not q) (when (not p) (a + (b + o))) ≡ when (not p && not q) (a + b) + when (not p && not q) o
+      both_out true true a b o = refl
+      both_out true false a b o = refl
+      both_out false true a b o = refl
+      both_out false false a b o = omega arith
+
+      two_out : (f : ℕ → ℕ) (i j : ℕ) → i < j → j < n → sum_by f (up 0 n) ≡ f i + (f j + sum_by (λ t. when (not (t == i) && not (t == j)) (f t)) (up 0 n))
+      two_out f i j l m =
+          let a = sum_without f 0 n i (omega arith) (omega arith) in
+          let b = sum_without (λ t. when (not (t == i)) (f t)) 0 n j (omega arith) m in
+          let c = unlike j i (f j) (omega arith) in
+          let d = sum_same (λ t. when (not (t == j)) (when (not (t == i)) (f t))) (λ t. when (not (t == i) && not (t == j)) (f t)) 0 n (λ t h g. nested (t == i) (t == j) (f t)) in
+          omega arith where
+            nested : (p q : Bool) (v : ℕ) → when (not q) (when (not p) v) ≡ when (not p && not q) v
+            nested true true v = refl
+            nested true false v = refl
+            nested false true v = refl
+            nested false false v = refl
 
 -- An exchange changes neither the first nor the last part.
 -- Number s of the exchanged list is number s of the list, where s is neither: `swapped_at` and `turned`.
 pub elsewhere_same : (edge : ℕ → ℕ → Bool) (n : ℕ) (xs : List ℕ) (i j : ℕ) → length xs ≡ n → i < j → j < n
     → elsewhere edge n (swap xs i j) i j ≡ elsewhere edge n xs i j
-elsewhere_same edge n xs i j e l m = ?elsewhere_same
+elsewhere_same edge n xs i j e l m =
+    sum_same _ _ 0 n (λ s a b. row s (s == i) refl (s == j) refl) where
+      at_other : (k : ℕ) → (k == i) ≡ false → (k == j) ≡ false → slice_index_or (swap xs i j) k 0 ≡ slice_index_or xs k 0
+      at_other k p q = swapped_at xs i j k (omega arith) (omega arith) ∙ ap (λ (t : ℕ). slice_index_or xs t 0) (rw (p, q) refl)
+
+      cost_at : (s t : ℕ) → (s == i) ≡ false → (s == j) ≡ false → (t == i) ≡ false → (t == j) ≡ false
+          → pair_cost edge n (swap xs i j) s t ≡ pair_cost edge n xs s t
+      cost_at s t p q u v =
+          ap (λ d. if edge s t && not (s == t) then d else 0)
+          (ap (λ (a : ℕ). apart (bits_of (width_of n) a) (bits_of (width_of n) (slice_index_or (swap xs i j) t 0))) (at_other s p q)
+          ∙ ap (λ (b : ℕ). apart (bits_of (width_of n) (slice_index_or xs s 0)) (bits_of (width_of n) b)) (at_other t u v))
+
+      place : (s t : ℕ) → (s == i) ≡ false → (s == j) ≡ false → (p : Bool) → (t == i) ≡ p → (q : Bool) → (t == j) ≡ q
+          → when (not p && not q) (pair_cost edge n (swap xs i j) s t) ≡ when (not p && not q) (pair_cost edge n xs s t)
+      place s t u v true f q g = refl
+      place s t u v false f true g = refl
+      place s t u v false f false g = cost_at s t u v f g
+
+      row : (s : ℕ) (p : Bool) → (s == i) ≡ p → (q : Bool) → (s == j) ≡ q
+          → when (not p && not q) (sum_by (λ t. when (not (t == i) && not (t == j)) (pair_cost edge n (swap xs i j) s t)) (up 0 n))
+          ≡ when (not p && not q) (sum_by (λ t. when (not (t == i) && not (t == j)) (pair_cost edge n xs s t)) (up 0 n))
+      row s true f q g = refl
+      row s false f true g = refl
+      row s false f false g = sum_same _ _ 0 n (λ t a b. place s t f g (t == i) refl (t == j) refl)
 
 pub between_same : (edge : ℕ → ℕ → Bool) (n : ℕ) (xs : List ℕ) (i j : ℕ) → length xs ≡ n → i < j → j < n
     → pair_cost edge n (swap xs i j) i j + pair_cost edge n (swap xs i j) j i ≡ pair_cost edge n xs i j + pair_cost edge n xs j i
@@ -71,7 +153,11 @@ between_same edge n xs i j e l m =
     omega arith where
       -- number i of the exchanged list is number j of the list, and the other way round
       swapped_distance : distance n (swap xs i j) i j ≡ distance n xs j i
-      swapped_distance = ?swapped_distance
+      swapped_distance =
+          ap (λ (a : ℕ). apart (bits_of (width_of n) a) (bits_of (width_of n) (slice_index_or (swap xs i j) j 0)))
+          (swapped_at xs i j i (omega arith) (omega arith) ∙ ap (λ (t : ℕ). slice_index_or xs t 0) (turned_first i j))
+          ∙ ap (λ (b : ℕ). apart (bits_of (width_of n) (slice_index_or xs j 0)) (bits_of (width_of n) b))
+          (swapped_at xs i j j (omega arith) (omega arith) ∙ ap (λ (t : ℕ). slice_index_or xs t 0) (turned_second i j))
 
 -- So the exchange lowers the cost exactly where it lowers what the two cost.
 pub lowers_alike : (edge : ℕ → ℕ → Bool) (n : ℕ) (xs : List ℕ) (x : Exchange) (near : List (List ℕ)) → length xs ≡ n → x.first < x.second → x.second < n
@@ -113,4 +199,18 @@ lowers_alike edge n xs x near e l m is =
 -- each edge is met at both of its states
 -- `reach_is` with n, which is no state's number, and `sum_crossed`.
 pub twice : (edge : ℕ → ℕ → Bool) (n : ℕ) (xs : List ℕ) → sum_by (λ s. reach n xs s n (neighbours_by edge n s)) (up 0 n) ≡ 2 * cost edge n xs
-twice edge n xs = ?twice
+twice edge n xs =
+    let P : ℕ → ℕ → ℕ = pair_cost edge n xs in
+    let a : sum_by (λ s. reach n xs s n (neighbours_by edge n s)) (up 0 n) ≡ sum_by (λ s. sum_by (λ t. P s t + P t s) (up 0 n)) (up 0 n) =
+    sum_same _ _ 0 n (λ s l m. reach_is edge n xs s n ∙ sum_same _ _ 0 n (λ t h g. kept t g (P s t + P t s))) in
+    let b : sum_by (λ s. sum_by (λ t. P s t + P t s) (up 0 n)) (up 0 n) ≡ sum_by (λ s. sum_by (P s) (up 0 n) + sum_by (λ t. P t s) (up 0 n)) (up 0 n) =
+    sum_same _ _ 0 n (λ s l m. sum_added (P s) (λ t. P t s) (up 0 n)) in
+    let c = sum_added (λ s. sum_by (P s) (up 0 n)) (λ s. sum_by (λ t. P t s) (up 0 n)) (up 0 n) in
+    let d = sum_crossed P (up 0 n) (up 0 n) in
+    omega arith where
+      -- n is no state's number
+      kept : (t : ℕ) → t < 0 + n → (v : ℕ) → when (not (t == n)) v ≡ v
+      kept t h v = by (t == n) refl where
+        by : (u : Bool) → (t == n) ≡ u → when (not u) v ≡ v
+        by true e = let same = eqb-true t n e in absurd (omega arith)
+        by false e = refl

@@ -1,5 +1,5 @@
 // The machine of a state machine.
-ghost use Rattle.std.specs.Prelude.{◌≡◌, ◌<◌, ◌≤◌, ◌^◌, ◌+◌, ◌++◌, Some, None, false, length, map, IfOk, OnOk, IsTrue};
+ghost use Rattle.std.specs.Prelude.{◌≡◌, ◌<◌, ◌≤◌, ◌^◌, ◌+◌, ◌*◌, ◌++◌, Some, None, false, length, map, IfOk, OnOk, IsTrue};
 ghost use Rattle.bool_expr.specs.Expression.{constant};
 ghost use Rattle.bool_expr.specs.View.{view};
 ghost use Rattle.machine_core.specs.View.{equation_view, register_view};
@@ -90,15 +90,15 @@ impl Body<'_> {
     }
 }
 
-// Whether all names before the outputs have numbers of 32 bits: inputs, bits of the code, states, and signals of the statements.
-fn has_room(inputs: usize, codes: &Codes, body: &Statements) -> bool
-    ensures { IsTrue result → inputs + codes.now.width + length codes.now.codes + signals (body_view body.now) < 2 ^ 32 }
+// Whether all names together with the ports have numbers of 32 bits: ports, bits of the code, states, and signals of the statements.
+fn has_room(ports: usize, codes: &Codes, body: &Statements) -> bool
+    ensures { IsTrue result → 2 * ports + codes.now.width + length codes.now.codes + signals (body_view body.now) < 2 ^ 32 }
 {
     let states = codes.as_slice().len() as u64;
-    let before = (inputs as u64)
+    let others = states
         .saturating_add(u64::from(codes.width()))
-        .saturating_add(states);
-    before.saturating_add(signals(body)) <= u64::from(u32::MAX)
+        .saturating_add(signals(body));
+    (ports as u64).saturating_mul(2).saturating_add(others) <= u64::from(u32::MAX)
 }
 
 // Names and expressions, one beside the other.
@@ -141,12 +141,13 @@ pub fn machine_of(alloc: Global, machine: &Fsm, codes: &Codes) -> Result<Machine
     requires { AreCodes (length machine.now.states) codes.now }
     ensures made { IfOk result (λ m. IsMachineOf machine.now codes.now m) }
     ensures does { IfOk result (λ m. DoesAs machine.now codes.now m) }
+    ensures few { IfOk result (λ m. length m.vars + length m.ports < 2 ^ 32) }
 {
     machine_is_ordered();
     machine_does_as();
     let ports = machine.ports().as_slice();
     let inputs = inputs(alloc, ports, machine.clock())?;
-    if !has_room(inputs.len(), codes, machine.body()) {
+    if !has_room(ports.len(), codes, machine.body()) {
         return Err(AllocError);
     }
     let numbers = port_numbers(alloc, ports, machine.clock())?;

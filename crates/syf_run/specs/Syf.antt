@@ -3,6 +3,7 @@ use Rattle.std.specs.Prelude.{◌≡◌, ℕ, Bool, true, false, List, [], ◌�
 use Rattle.vlsi_base.specs.declared.name.Name.{Name}
 use Rattle.vlsi_base.specs.Name.{name_text}
 use Rattle.machine_meaning.specs.Machine.{Machine}
+use Rattle.machine_core.specs.Checked.{IsChecked}
 use Rattle.fsm_meaning.specs.Fsm.{Fsm}
 use Rattle.fsm_machine.specs.Codes.{Codes, AreCodes}
 use Rattle.fsm_io.specs.Text.{IsFsm, IsFsmRefusal}
@@ -68,6 +69,7 @@ pub record IsEncodedSource (source : List ℕ) (how : Style) (f : Fsm) (c : Code
   pub different : AreCodes (length f.states) c
   pub made : IsMachineOf f c m
   pub does : DoesAs f c m
+  pub checked : IsChecked m
 
 -- the machine's text is that of NAME.vbe, and the codes are printed
 pub record IsEncoding (c : SyfCommand) (source : List ℕ) (p : Product) : Type 0 where

@@ -1,6 +1,7 @@
 // A state machine with codes of its states, and its machine.
-ghost use Rattle.std.specs.Prelude.{◌≡◌, IfOk, length};
+ghost use Rattle.std.specs.Prelude.{◌≡◌, ◌+◌, ◌<◌, ◌^◌, IfOk, length};
 ghost use Rattle.fsm_machine.specs.Codes.{AreCodes};
+ghost use Rattle.machine_core.specs.Checked.{IsChecked};
 ghost use Rattle.syf_encode.specs.Codes.{codes_by};
 ghost use Rattle.syf_machine.specs.Named.{IsMachineOf};
 ghost use Rattle.syf_machine.specs.Meaning.{DoesAs};
@@ -38,8 +39,12 @@ pub fn encoded(alloc: Global, states: &Fsm, style: Style) -> Result<Encoded, All
     ensures different { IfOk result (λ e. AreCodes (length states.now.states) e.codes) }
     ensures made { IfOk result (λ e. IsMachineOf states.now e.codes e.machine) }
     ensures does { IfOk result (λ e. DoesAs states.now e.codes e.machine) }
+    ensures checked { IfOk result (λ e. IsChecked e.machine) }
+    ensures few { IfOk result (λ e. length e.machine.vars + length e.machine.ports < 2 ^ 32) }
 {
     let codes = encode(alloc, states, style)?;
     let machine = machine_of(alloc, states, &codes)?;
+    // A machine is checked.
+    let _ = machine.name();
     Ok(Encoded { codes, machine })
 }

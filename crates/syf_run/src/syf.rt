@@ -1,5 +1,5 @@
 // `syf` as a tool: what it reads, and what it answers.
-ghost use Rattle.std.specs.Prelude.{◌≡◌, Some, IfOk};
+ghost use Rattle.std.specs.Prelude.{◌≡◌, ◌+◌, ◌<◌, ◌^◌, Some, length, IfOk};
 ghost use Rattle.tool_drive.specs.Table.{IsJudged};
 ghost use Rattle.spell_theory.specs.Layout.{text_of};
 ghost use Rattle.vbe_write.specs.Written.{layout};
@@ -31,7 +31,8 @@ fn product(
     states: &Fsm,
     made: &Encoded,
 ) -> Result<Product, AllocError>
-    requires { CanBeVbe made.now.machine }
+    requires names { CanBeVbe made.now.machine }
+    requires few { length made.now.machine.vars + length made.now.machine.ports < 2 ^ 32 }
     ensures name { IfOk result (λ p. p.name ≡ text_name command.now.out) }
     ensures file { IfOk result (λ p. p.file ≡ Some (text_of (layout made.now.machine))) }
     ensures text { IfOk result (λ p. p.text ≡ code_lines_of states.now.states made.now.codes.codes) }

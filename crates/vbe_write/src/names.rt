@@ -95,7 +95,7 @@ fn push_renamed(
 
 /// The names of a machine's text. Takes memory for them, and time for each the logarithm of how many there are.
 pub(crate) fn spelling(alloc: Global, machine: &Machine) -> Result<Spelling, AllocError>
-    requires { length machine.now.equations + length machine.now.ports + length machine.now.registers < 2 ^ 62 }
+    requires { length machine.now.vars + length machine.now.ports < 2 ^ 32 }
     ensures signals { IfOk result (λ made. made.signals.items ≡ signal_texts machine.now) }
     ensures vars { IfOk result (λ made. made.vars.items ≡ written_vars machine.now) }
     ensures held { IfOk result (λ made. drop made.held made.vars.items ≡ written_names machine.now) }

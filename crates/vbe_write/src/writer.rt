@@ -156,7 +156,8 @@ fn blocks(
 ///
 /// Takes memory for the text and its names, and time for the text and, for each name, the logarithm of their number.
 pub fn write_vbe(alloc: Global, machine: &Machine) -> Result<FileBytes, AllocError>
-    requires { CanBeVbe machine.now }
+    requires names { CanBeVbe machine.now }
+    requires few { length machine.now.vars + length machine.now.ports < 2 ^ 32 }
     ensures { IfOk result (λ bytes. bytes ≡ text_of (layout machine.now)) }
 {
     let names = spelling(alloc, machine)?;
