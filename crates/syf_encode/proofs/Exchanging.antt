@@ -68,8 +68,14 @@ cost_parts edge n xs i j l m =
     sum_same _ _ 0 n (λ s h g. ap (λ v. when (not (s == j)) (when (not (s == i)) v)) (row s) ∙ both_out (s == i) (s == j) (P s i) (P s j) (others s)) in
     let d = sum_added (λ s. when (not (s == i) && not (s == j)) (P s i + P s j)) (λ s. when (not (s == i) && not (s == j)) (others s)) (up 0 n) in
     -- the edges of i and of j to others, in both directions
-    let e : around edge n xs i j ≡ others i + sum_by (λ s. when (not (s == i) && not (s == j)) (P s i)) (up 0 n) = ?around_first in
-    let f : around edge n xs j i ≡ others j + sum_by (λ s. when (not (s == i) && not (s == j)) (P s j)) (up 0 n) = ?around_second in
+    let e1 = sum_same _ _ 0 n (λ t h k. split (not (t == j)) (P i t) (P t i)) ∙ sum_added (λ t. when (not (t == j)) (P i t)) (λ t. when (not (t == j)) (P t i)) (up 0 n) in
+    let e2 = one_out (P i) i j (omega arith) (omega arith) (own edge n xs i) in
+    let e3 = one_out (λ t. P t i) i j (omega arith) (omega arith) (own edge n xs i) in
+    let e : around edge n xs i j ≡ others i + sum_by (λ s. when (not (s == i) && not (s == j)) (P s i)) (up 0 n) = omega arith in
+    let f1 = sum_same _ _ 0 n (λ t h k. split (not (t == i)) (P j t) (P t j)) ∙ sum_added (λ t. when (not (t == i)) (P j t)) (λ t. when (not (t == i)) (P t j)) (up 0 n) in
+    let f2 = one_out (P j) j i m (omega arith) (own edge n xs j) ∙ turned_round (P j) j i in
+    let f3 = one_out (λ t. P t j) j i m (omega arith) (own edge n xs j) ∙ turned_round (λ t. P t j) j i in
+    let f : around edge n xs j i ≡ others j + sum_by (λ s. when (not (s == i) && not (s == j)) (P s j)) (up 0 n) = omega arith in
     let g : sum_by (λ s. when (not (s == i) && not (s == j)) (P s i + P s j)) (up 0 n)
         ≡ sum_by (λ s. when (not (s == i) && not (s == j)) (P s i)) (up 0 n) + sum_by (λ s. when (not (s == i) && not (s == j)) (P s j)) (up 0 n) =
     sum_same _ _ 0 n (λ s h k. split (not (s == i) && not (s == j)) (P s i) (P s j)) ∙ sum_added _ _ (up 0 n) in
@@ -101,18 +107,42 @@ cost_parts edge n xs i j l m =
       both_out false true a b o = refl
       both_out false false a b o = omega arith
 
+      nested : (p q : Bool) (v : ℕ) → when (not q) (when (not p) v) ≡ when (not p && not q) v
+      nested true true v = refl
+      nested true false v = refl
+      nested false true v = refl
+      nested false false v = refl
+
+      -- a sum without b, where there is nothing at a
+      one_out : (f : ℕ → ℕ) (a b : ℕ) → a < n → a ≢ b → f a ≡ 0
+          → sum_by (λ t. when (not (t == b)) (f t)) (up 0 n) ≡ sum_by (λ t. when (not (t == a) && not (t == b)) (f t)) (up 0 n)
+      one_out f a b h apart none =
+          let x = sum_without (λ t. when (not (t == b)) (f t)) 0 n a (omega arith) h in
+          let y = unlike a b (f a) apart in
+          let z = sum_same (λ t. when (not (t == a)) (when (not (t == b)) (f t))) (λ t. when (not (t == a) && not (t == b)) (f t)) 0 n
+          (λ t k g. nested (t == b) (t == a) (f t) ∙ either_way (t == b) (t == a) (f t)) in
+          omega arith where
+            either_way : (p q : Bool) (v : ℕ) → when (not p && not q) v ≡ when (not q && not p) v
+            either_way true true v = refl
+            either_way true false v = refl
+            either_way false true v = refl
+            either_way false false v = refl
+
+      turned_round : (f : ℕ → ℕ) (a b : ℕ) → sum_by (λ t. when (not (t == a) && not (t == b)) (f t)) (up 0 n) ≡ sum_by (λ t. when (not (t == b) && not (t == a)) (f t)) (up 0 n)
+      turned_round f a b = sum_same _ _ 0 n (λ t h k. either_way (t == a) (t == b) (f t)) where
+        either_way : (p q : Bool) (v : ℕ) → when (not p && not q) v ≡ when (not q && not p) v
+        either_way true true v = refl
+        either_way true false v = refl
+        either_way false true v = refl
+        either_way false false v = refl
+
       two_out : (f : ℕ → ℕ) (i j : ℕ) → i < j → j < n → sum_by f (up 0 n) ≡ f i + (f j + sum_by (λ t. when (not (t == i) && not (t == j)) (f t)) (up 0 n))
       two_out f i j l m =
           let a = sum_without f 0 n i (omega arith) (omega arith) in
           let b = sum_without (λ t. when (not (t == i)) (f t)) 0 n j (omega arith) m in
           let c = unlike j i (f j) (omega arith) in
           let d = sum_same (λ t. when (not (t == j)) (when (not (t == i)) (f t))) (λ t. when (not (t == i) && not (t == j)) (f t)) 0 n (λ t h g. nested (t == i) (t == j) (f t)) in
-          omega arith where
-            nested : (p q : Bool) (v : ℕ) → when (not q) (when (not p) v) ≡ when (not p && not q) v
-            nested true true v = refl
-            nested true false v = refl
-            nested false true v = refl
-            nested false false v = refl
+          omega arith
 
 -- An exchange changes neither the first nor the last part.
 -- Number s of the exchanged list is number s of the list, where s is neither: `swapped_at` and `turned`.

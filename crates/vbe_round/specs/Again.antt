@@ -1,5 +1,5 @@
 -- What is written of a machine is read again.
-use Rattle.std.specs.Prelude.{◌≡◌, ℕ, zero, suc, ◌+◌, ◌≤◌, Bool, List, [], ◌∷◌, length, None}
+use Rattle.std.specs.Prelude.{◌≡◌, ℕ, suc, ◌+◌, ◌-◌, ◌≤◌, Bool, List, [], ◌∷◌, length, None}
 use Rattle.std.specs.List.{All}
 use Rattle.vlsi_base.specs.declared.limits.TheConstants.{MOST_SOURCE_BYTES}
 use Rattle.vlsi_base.specs.declared.name.Name.{Name}
@@ -10,13 +10,11 @@ use Rattle.bool_expr.specs.Expression.{Expression, constant, variable, inverse, 
 use Rattle.machine_meaning.specs.Machine.{Machine, Equation, Register}
 use Rattle.machine_meaning.specs.Cycles.{Settles, outs, next, RunOf}
 use Rattle.machine_core.specs.Checked.{IsChecked}
-use Rattle.vhdl_token.specs.declared.token.Sign.TheVariants as sign
-use Rattle.vhdl_token.specs.declared.token.Token.TheVariants as token
 use Rattle.grammar_theory.specs.declared.limits.TheConstants.{DEPTH, CHAIN, BITS}
-use Rattle.spell_theory.specs.Layout.{Written, gap, turn, says, text_of}
+use Rattle.spell_theory.specs.Layout.{text_of}
 use Rattle.vst_again.specs.Says.{IsShort, IsSmall, IsSmallPort}
 use Rattle.vbe_same.specs.Law.{HaveSameParts}
-use Rattle.vbe_write.specs.Written.{inner_count, layout}
+use Rattle.vbe_write.specs.Written.{inner_count, written_vars, layout}
 use Rattle.vbe_write.specs.Writable.{CanBeVbe}
 use Rattle.vhdl_lexer.specs.Listing.{tokens_in, refusal_in}
 use Rattle.source_meaning.specs.declared.statement.DesignFile.{DesignFile}
@@ -25,6 +23,7 @@ use Rattle.source_meaning.specs.Elaboration.{IsMachineOf}
 use Rattle.vbe_text.specs.Source.{source_view}
 use Rattle.vbe_text.specs.Vbe.{IsSource}
 use Rattle.vbe_round.specs.Placed.{source_of}
+use Rattle.vbe_round.specs.Nesting.{shape_of, operand_within, IsWithin, IsValueWithin}
 use Rattle.vbe_io.specs.Text.{IsVbe, IsVbeRefusal}
 
 -- the text that is written of a machine
@@ -32,14 +31,6 @@ abbrev pub text : Machine → List ℕ
 text m = text_of (layout m)
 
 -- ---- limits
-
--- no more than n parentheses are open together
-abbrev pub OpensWithin : ℕ → List Written → Type 0
-OpensWithin n [] = Unit {0}
-OpensWithin zero (says (token.Sign sign.LeftParen) ∷ ws) = ⊥
-OpensWithin (suc n) (says (token.Sign sign.LeftParen) ∷ ws) = OpensWithin n ws
-OpensWithin n (says (token.Sign sign.RightParen) ∷ ws) = OpensWithin (suc n) ws
-OpensWithin n (_ ∷ ws) = OpensWithin n ws
 
 -- how many operators an expression is written with; of a choice the condition stands twice, with `and` twice, `or` and `not`
 abbrev pub operators : Expression → ℕ
@@ -50,9 +41,9 @@ operators (pair g a b) = 1 + (operators a + operators b)
 operators (choice c a b) = 4 + (operators c + (operators c + (operators a + operators b)))
 
 -- in each alternative of a whole value
-abbrev pub IsValueWithin : ℕ → Expression → Type 0
-IsValueWithin n (choice c a b) = (operators a ≤ n) × (operators c ≤ n) × IsValueWithin n b
-IsValueWithin n e = operators e ≤ n
+abbrev pub AreFewOperators : ℕ → Expression → Type 0
+AreFewOperators n (choice c a b) = (operators a ≤ n) × ((operators c ≤ n) × AreFewOperators n b)
+AreFewOperators n e = operators e ≤ n
 
 -- how many values a whole value chooses among
 abbrev pub alternatives : Expression → ℕ
@@ -60,7 +51,7 @@ alternatives (choice c a b) = suc (alternatives b)
 alternatives e = 1
 
 abbrev pub IsFewValues : Expression → Type 0
-IsFewValues e = IsValueWithin CHAIN e × (alternatives e ≤ CHAIN)
+IsFewValues e = AreFewOperators CHAIN e × (alternatives e ≤ CHAIN)
 
 -- The text is within the limits of texts: names have at most 64 bytes and bits numbers of 32 bits; no more bits are declared, no more
 -- parentheses are open together, and no expression or choice is longer than a text may have; and there are few enough ports and bytes.
@@ -69,9 +60,13 @@ pub record IsWithinLimits (m : Machine) : Type 0 where
   pub ports : All IsSmallPort m.ports
   pub registers : All (λ r. IsShort r.name.text × IsSmall r.name.bit) m.registers
   pub bits : length m.ports + (2 + (inner_count m + length m.registers)) ≤ BITS
-  pub nested : OpensWithin DEPTH (layout m)
+  pub nested : All (λ e. IsValueWithin (written_vars m) e.expr DEPTH) m.equations
   pub values : All (λ e. IsFewValues e.expr) m.equations
-  pub loads : All (λ r. IsFewValues r.next × (4 + operators r.enable ≤ CHAIN)) m.registers
+  pub loads_nested : All (λ r. IsValueWithin (written_vars m) r.next DEPTH) m.registers
+  pub loads : All (λ r. IsFewValues r.next) m.registers
+  -- a guard has two parentheses, two `and`, a `not` and a relation round its condition
+  pub guards_nested : All (λ r. operand_within (shape_of (written_vars m) r.enable) (IsWithin (written_vars m) r.enable) (DEPTH - 2)) m.registers
+  pub guards : All (λ r. 4 + operators r.enable ≤ CHAIN) m.registers
   pub few_ports : length m.ports ≤ most_ports
   pub short : length (text m) ≤ MOST_SOURCE_BYTES
 
