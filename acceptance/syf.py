@@ -7,10 +7,12 @@ import random
 import state_text
 import vbe_oracle
 from random_states import StateMaker, text
+from results import Results, compare, run_in
 from state_codes import code_lines, codes
 from state_walk import cycle, leads, reset_to
+from words import command
 
-VECTORS = 12
+VECTORS, MACHINES, CHUNK = 12, 200, 25
 
 
 def contents_of(bits, code):
@@ -49,25 +51,47 @@ def machine_of(seed):
     return StateMaker(choose, states, choose.randrange(4), choose.randrange(1, 4)).machine(), choose
 
 
+# ---- runs of the program
+
+
+def parsed(words):
+    """SOURCE, NAME, the style and the seed, or None."""
+    found = command(words, ".fsm", {"-o": "", "-e": "", "--seed": ""})
+    if not found or "-o" not in found[1]:
+        return None
+    source, given = found
+    style, seed = given.get("-e", "j"), given.get("--seed", "0")
+    is_number = seed.isascii() and seed.isdigit() and len(seed) <= 10 and int(seed) < 2**32
+    return (source, given["-o"], style, int(seed)) if style in ("o", "r", "j") and is_number else None
+
+
+def check_machine(results, program, seed, number):
+    """One random state machine in all three styles."""
+    machine, choose = machine_of(f"{seed} {number}")
+    for style in "orj":
+        words_seed = choose.randrange(2**32)
+        made = codes(len(machine.states), style, words_seed, lambda s, t: leads(machine.body, s, t))
+        files = {"m.fsm": text(machine).encode()}
+        got = run_in(files, program, ["syf", "m.fsm", "-o", "m", "-e", style, "--seed", str(words_seed)])
+        title = f"syf -e {style} on state machine {number} of {seed}"
+        files["m.vbe"] = state_text.text(machine, made, style == "o").encode()
+        compare(results, title, got, 0, code_lines(machine.states, made).encode(), files)
+        found = wrong(machine, made, got[2].get("m.vbe", b""), choose) if got[0] == 0 else None
+        results.note(f"{title}: what the text does", found is None, found)
+
+
+def check_machines(program, seed, numbers):
+    results = Results()
+    for number in numbers:
+        check_machine(results, program, seed, number)
+    return results
+
+
 def jobs(program, seed, times):
     """Random state machines in all three styles."""
-    for number in range(times):
-        machine, choose = machine_of(f"{seed} {number}")
-        for style in "orj":
-            yield lambda machine=machine, choose=choose, style=style: compared(program, machine, style, choose)
-
-
-def compared(program, machine, style, choose):
-    """What differs in one run, or None."""
-    number = choose.randrange(2**32)
-    made = codes(len(machine.states), style, number, lambda s, t: leads(machine.body, s, t))
-    words = ["syf", "m.fsm", "-o", "m", "-e", style, "--seed", str(number)]
-    status, printed, files = program.run(words, {"m.fsm": text(machine).encode()})
-    if (status, printed.decode()) != (0, code_lines(machine.states, made)):
-        return f"{words}: {status} {printed}"
-    if files["m.vbe"].decode() != state_text.text(machine, made, style == "o"):
-        return f"{words}: the spelling of the text"
-    return wrong(machine, made, files["m.vbe"], choose)
+    numbers = range(MACHINES * times)
+    for at in range(0, len(numbers), CHUNK):
+        yield check_machines, (program, seed, numbers[at : at + CHUNK])
 
 
 def main():

@@ -46,8 +46,8 @@ impl Drop for Parts {
     fn drop(mut self) {
         loop {
             match self {
-                Parts::Only(_, _) => return,
-                Parts::Either(_, _, _) => return,
+                Parts::Only(_condition, _part) => return,
+                Parts::Either(_condition, _part, _last) => return,
                 Parts::Further(_, _, more) => self = Box::into_inner(more),
             }
         }
