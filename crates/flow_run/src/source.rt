@@ -1,13 +1,13 @@
 // What a source is read as.
 use fsm_code::Codes;
-use fsm_core::Fsm;
+use fsm_core::StateMachine;
 use machine_core::Machine;
 
 /// Where a machine comes from: a data-flow text, or a state machine with codes of its states.
 #[derive(Drop)]
 pub(crate) enum Origin {
     Equations,
-    States(Fsm, Codes),
+    States(StateMachine, Codes),
 }
 
 /// A source's machine, and where it comes from.

@@ -1,6 +1,6 @@
 //! State machines that have passed their checks.
 #![tactic(auto)]
 
-mod fsm;
+mod state_machine;
 
-pub use fsm::Fsm;
+pub use state_machine::StateMachine;

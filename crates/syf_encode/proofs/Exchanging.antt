@@ -64,7 +64,7 @@ cost_parts edge n xs i j l m =
     -- a row is its places at i and at j, and the others
     let row : (s : ℕ) → R s ≡ P s i + (P s j + others s) = λ s. two_out (P s) i j l m in
     let c : sum_by (λ s. when (not (s == j)) (when (not (s == i)) (R s))) (up 0 n)
-        ≡ sum_by (λ s. when (not (s == i) && not (s == j)) (P s i + P s j) + when (not (s == i) && not (s == j)) (others s)) (up 0 n) =
+    ≡ sum_by (λ s. when (not (s == i) && not (s == j)) (P s i + P s j) + when (not (s == i) && not (s == j)) (others s)) (up 0 n) =
     sum_same _ _ 0 n (λ s h g. ap (λ v. when (not (s == j)) (when (not (s == i)) v)) (row s) ∙ both_out (s == i) (s == j) (P s i) (P s j) (others s)) in
     let d = sum_added (λ s. when (not (s == i) && not (s == j)) (P s i + P s j)) (λ s. when (not (s == i) && not (s == j)) (others s)) (up 0 n) in
     -- the edges of i and of j to others, in both directions
@@ -77,7 +77,7 @@ cost_parts edge n xs i j l m =
     let f3 = one_out (λ t. P t j) j i m (omega arith) (own edge n xs j) ∙ turned_round (λ t. P t j) j i in
     let f : around edge n xs j i ≡ others j + sum_by (λ s. when (not (s == i) && not (s == j)) (P s j)) (up 0 n) = omega arith in
     let g : sum_by (λ s. when (not (s == i) && not (s == j)) (P s i + P s j)) (up 0 n)
-        ≡ sum_by (λ s. when (not (s == i) && not (s == j)) (P s i)) (up 0 n) + sum_by (λ s. when (not (s == i) && not (s == j)) (P s j)) (up 0 n) =
+    ≡ sum_by (λ s. when (not (s == i) && not (s == j)) (P s i)) (up 0 n) + sum_by (λ s. when (not (s == i) && not (s == j)) (P s j)) (up 0 n) =
     sum_same _ _ 0 n (λ s h k. split (not (s == i) && not (s == j)) (P s i) (P s j)) ∙ sum_added _ _ (up 0 n) in
     let ri = row i in
     let rj = row j in

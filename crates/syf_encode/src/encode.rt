@@ -11,7 +11,7 @@ use crate::random::random_numbers;
 use crate::style::Style;
 use bool_expr::Bits;
 use fsm_code::Codes;
-use fsm_core::Fsm;
+use fsm_core::StateMachine;
 use fsm_machine::encodings_are_codes;
 use std::alloc::{AllocError, Global};
 
@@ -85,7 +85,7 @@ fn numbered(alloc: Global, numbers: &[u32]) -> Result<Codes, AllocError>
 /// word of the generator. `Adjacent` begins with the numbers in order. Its cost is the sum of the numbers of bits in which the codes
 /// of two states differ, over all ordered pairs of states of which the first leads to the second; it makes the first exchange of two
 /// states that lowers the cost, in the order (0, 1), (0, 2), and so on, and begins again, until there is none.
-pub fn encode(alloc: Global, machine: &Fsm, style: Style) -> Result<Codes, AllocError>
+pub fn encode(alloc: Global, machine: &StateMachine, style: Style) -> Result<Codes, AllocError>
     ensures codes { IfOk result (λ codes. codes ≡ codes_by style machine.now) }
     ensures different { IfOk result (λ codes. AreCodes (length machine.now.states) codes) }
 {

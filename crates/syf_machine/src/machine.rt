@@ -18,7 +18,7 @@ use crate::law::machine_does_as;
 use crate::names::{copied, inner_names, inputs, outputs, port_numbers, register_names};
 use bool_expr::Expr;
 use fsm_code::{Codes, Place, Sought, Statements, Target, signals};
-use fsm_core::Fsm;
+use fsm_core::StateMachine;
 use fsm_machine::machine_is_ordered;
 use machine_core::Machine;
 use machine_meaning::{Equation, Register};
@@ -137,7 +137,11 @@ fn all_names(
 /// first of st0, st1, and so on where ports have that name. Its equations are, for each state, whether it is the one that is held; for
 /// each condition of an `if` its value, and for each part and branch whether it is taken; and for each output what the statements
 /// leave of it. Takes memory for them, and time for the statements at each output and each bit of the code.
-pub fn machine_of(alloc: Global, machine: &Fsm, codes: &Codes) -> Result<Machine, AllocError>
+pub fn machine_of(
+    alloc: Global,
+    machine: &StateMachine,
+    codes: &Codes,
+) -> Result<Machine, AllocError>
     requires { AreCodes (length machine.now.states) codes.now }
     ensures made { IfOk result (λ m. IsMachineOf machine.now codes.now m) }
     ensures does { IfOk result (λ m. DoesAs machine.now codes.now m) }

@@ -8,7 +8,7 @@ ghost use Rattle.syf_run.specs.Syf.{code_lines as code_lines_of, text_name, Enco
 
 use crate::encoded::{Encoded, encoded, style_of};
 use crate::lines::code_lines;
-use fsm_core::Fsm;
+use fsm_core::StateMachine;
 use fsm_io::read_fsm;
 use fsm_words::{fsm_is_named, machine_of_fsm_can_be_written};
 use std::alloc::{AllocError, Global};
@@ -28,7 +28,7 @@ pub struct Syf<'a> {
 fn product(
     alloc: Global,
     command: &SyfCommand,
-    states: &Fsm,
+    states: &StateMachine,
     made: &Encoded,
 ) -> Result<Product, AllocError>
     requires names { CanBeVbe made.now.machine }

@@ -12,7 +12,7 @@ use vlsi_base::{Name, Names, Ports, Text};
 /// states, each once; its expressions read inputs other than the clock; and on each path of ifs, with each state, the next state
 /// and each output bit are assigned. Variable k of an expression is number k of the ports.
 #[derive(Drop)]
-pub struct Fsm {
+pub struct StateMachine {
     name: Text,
     ports: Ports,
     clock: Name,
@@ -20,7 +20,7 @@ pub struct Fsm {
     body: Statements,
 }
 
-impl Model for Fsm {
+impl Model for StateMachine {
     ghost use Rattle.std.specs.Coded.{codes};
     ghost use Rattle.machine_core.specs.Code.{expression_code};
     ghost use Rattle.fsm_meaning.specs.Fsm.{Fsm as Meaning};
@@ -37,13 +37,13 @@ impl Model for Fsm {
     ghost invariant = { λ a. IsCheckedFsm (fsm_with a.name a.ports a.clock a.states a.body) };
 }
 
-impl Fsm {
+impl StateMachine {
     /// The state machine of these parts. Takes no memory.
     pub fn new(name: Text, ports: Ports, clock: Name, states: Names, body: Statements) -> Self
         requires { IsCheckedFsm (fsm_with name ports clock states body) }
         ensures { result ≡ fsm_with name ports clock states body }
     {
-        Fsm {
+        StateMachine {
             name,
             ports,
             clock,
