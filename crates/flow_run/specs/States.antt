@@ -15,6 +15,8 @@ use Rattle.flow_run.specs.Origin.{Origin, equations, states}
 pub record AgreesWithStates (n : Netlist) (l : Library) (f : Fsm) (k : Codes) (m : Machine) : Type 0 where
   pub matched : (s : ℕ) (t : Contents) (v y ws : List (List Bool)) → s < length f.states → IsMatched (code_of k s) t → AreVectors m v
       → FsmRun f s v y → NetTrace n l m t v ws → map (net_outs n (outputs m)) ws ≡ y
+  -- and so from each state and for all vectors, since the state machine runs there
+  pub runs : (s : ℕ) (v : List (List Bool)) → s < length f.states → (y : List (List Bool)) × FsmRun f s v y
   pub reset : (r : ℕ) (t : Contents) (i w : List Bool) (v y ws : List (List Bool)) → AreVectors m (i ∷ v) → Resets f i r → FsmRun f r v y
       → NetTrace n l m t (i ∷ v) (w ∷ ws) → map (net_outs n (outputs m)) ws ≡ y
 

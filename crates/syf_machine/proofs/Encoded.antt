@@ -56,5 +56,6 @@ does_as f c m free steps resets runs after checked are made =
       states = λ s t i w below each settles leads. (steps f c made.st inner e s i w below each settles).1 t leads;
       resets = λ contents i w r wide each settles to. resets f c made.st inner e contents i w r each wide settles to;
       runs = λ s v y below vectors run. runs f c made.st inner e s v y below vectors run;
+      each = λ s v below. ?by_assigned_is_known_and_known_next_states;
       reset_runs = λ contents i r v y wide vectors to run. after f c made.st inner e contents i r v y wide vectors to run;
     })
