@@ -1,0 +1,123 @@
+// `boom` as a tool: what it reads, and what it answers.
+ghost use Rattle.std.specs.Prelude.{◌≡◌, ◌≤◌, IfOk, IfErr};
+ghost use Rattle.machine_meaning.specs.Size.{machine_size as size_of};
+ghost use Rattle.tool_drive.specs.Refusals.{MemoryOr};
+ghost use Rattle.tool_drive.specs.Table.{IsJudged};
+ghost use Rattle.boog_run.specs.declared.netlist.TheConstants.{MOST_SIZE};
+ghost use Rattle.vbe_write.specs.Written.{HasWords};
+ghost use Rattle.boom_run.specs.Boom.{MakesSmaller, IsWrittenAs, IsWithinBudget, IsBudgetStatus, report as report_of};
+
+use boog_run::check_size;
+use boom_opt::{BoomError, Optimised, optimise};
+use machine_core::{Machine, machine_size};
+use std::alloc::{AllocError, Global};
+use tool_drive::{Product, Refusal, Status, Tool, Wanted, bytes_at, refused};
+use tool_words::BoomCommand;
+use vbe_io::read_vbe;
+use vbe_write::write_vbe;
+use vlsi_base::{FileBytes, Text, push_u64};
+
+/// `boom`, with what it is asked: it makes the machine of SOURCE smaller, writes it to NAME.vbe, and prints `size` and how large it
+/// is.
+///
+/// It is refused, in this order: by `Source`, or a limit of the text; by `Limit` of `Size`, where the machine weighs more than
+/// `MOST_SIZE`; by `Budget`, at the first root whose diagram has more nodes than asked for. Memory goes by the file, the machine and
+/// one diagram.
+#[derive(Drop)]
+pub struct Boom<'a> {
+    pub command: &'a BoomCommand,
+}
+
+/// The optimised machine, or the status that tells why there is none: `Budget`, or out of memory.
+pub fn optimised(alloc: Global, machine: &Machine, budget: u32) -> Result<Optimised, Status>
+    ensures made { IfOk result (λ o. IsWithinBudget machine.now budget o.machine o.nodes) }
+    ensures refused { IfErr result (λ s. MemoryOr s (IsBudgetStatus machine.now budget s)) }
+{
+    match optimise(alloc, machine, budget) {
+        Ok(made) => Ok(made),
+        Err(BoomError::Memory) => Err(Status::Memory),
+        Err(BoomError::Budget(equation)) => Err(Status::Budget {
+            equation,
+            reached: u64::from(budget) + 1,
+        }),
+    }
+}
+
+// How large a machine is.
+fn report(alloc: Global, machine: &Machine) -> Result<FileBytes, AllocError>
+    requires { size_of machine.now ≤ MOST_SIZE }
+    ensures { IfOk result (λ text. text ≡ report_of machine.now) }
+{
+    let mut number = Text::new(Vec::new(alloc));
+    push_u64(alloc, &mut number, machine_size(machine))?;
+    let mut text = FileBytes::from_bytes(alloc, b"size ")?;
+    text.append(number.as_bytes())?;
+    text.append(b"\n")?;
+    Ok(text)
+}
+
+// What the text comes to.
+fn made_smaller(alloc: Global, command: &BoomCommand, source: &[u8]) -> Result<Product, Refusal>
+    ensures { IsJudged (MakesSmaller command.now source.now) result }
+{
+    let machine = match read_vbe(alloc, source) {
+        Ok(machine) => machine,
+        Err(error) => return Err(Refusal::plain(refused(alloc, &command.source, error))),
+    };
+    if let Err(status) = check_size(&machine) {
+        return Err(Refusal::plain(status));
+    }
+    let made = match optimised(alloc, &machine, command.nodes) {
+        Ok(made) => made,
+        Err(status) => return Err(Refusal::plain(status)),
+    };
+    let written = product(alloc, command, &made.machine)?;
+    Ok(written)
+}
+
+// The smaller source's file, NAME.vbe, and what is printed.
+fn product(
+    alloc: Global,
+    command: &BoomCommand,
+    machine: &Machine,
+) -> Result<Product, AllocError>
+    requires small { size_of machine.now ≤ MOST_SIZE }
+    requires words { HasWords machine.now }
+    ensures { IfOk result (λ p. IsWrittenAs command.now machine.now p) }
+{
+    let mut name = command.out.copy(alloc)?;
+    name.append(b".vbe")?;
+    let file = write_vbe(alloc, machine)?;
+    Ok(Product {
+        name,
+        file: Some(file),
+        text: report(alloc, machine)?,
+    })
+}
+
+impl Tool for Boom<'_> {
+    ghost use Rattle.boom_run.specs.Boom.{boom_plan, boom_answers};
+
+    ghost plan = { λ t. boom_plan t.command.now };
+
+    ghost answers = { λ t. boom_answers t.command.now };
+
+    fn first(&self, alloc: Global) -> Result<Vec<Wanted>, AllocError> {
+        let mut wanted = Vec::new(alloc);
+        wanted.push(Wanted::limited(self.command.source.copy(alloc)?))?;
+        Ok(wanted)
+    }
+
+    fn more(&self, alloc: Global, _first: &[FileBytes]) -> Result<Vec<Wanted>, AllocError> {
+        Ok(Vec::new(alloc))
+    }
+
+    fn judge(
+        &self,
+        alloc: Global,
+        first: &[FileBytes],
+        _more: &[FileBytes],
+    ) -> Result<Product, Refusal> {
+        made_smaller(alloc, self.command, bytes_at(first, 0))
+    }
+}
