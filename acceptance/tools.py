@@ -11,6 +11,7 @@ from typing import Callable, NamedTuple
 import answers
 import asimut
 import boog
+import boom
 import flow
 import net_jobs
 
@@ -30,6 +31,7 @@ def asimut_jobs(program, seed, times):
 
 TOOLS = {
     "asimut": Tool(asimut.second, answers.agrees, asimut_jobs),
+    "boom": Tool(boom.second, boom.agrees, boom.jobs, boom.writes),
     "boog": Tool(boog.second, answers.agrees, boog.jobs, boog.writes),
     "flow": Tool(flow.second, flow.agrees, flow.jobs, flow.writes),
 }
