@@ -1,5 +1,5 @@
 -- The nodes of a diagram as literals.
-use Rattle.std.specs.Prelude.{◌≡◌, ◌⊎◌, ℕ, ◌+◌, ◌<◌, ◌≤◌, Bool, false, List, [], ◌∷◌, ◌++◌, map, length, slice_get, Some, Result, Ok, Err}
+use Rattle.std.specs.Prelude.{◌≡◌, ◌⊎◌, ℕ, ◌+◌, ◌<◌, ◌≤◌, Bool, false, List, [], ◌∷◌, ◌++◌, map, length, Result, Ok, Err}
 use Rattle.std.specs.List.{All, Contains}
 use Rattle.bool_expr.specs.Expression.{bit}
 use Rattle.bdd_core.specs.declared.node.NodeId.{NodeId}
@@ -36,11 +36,17 @@ pub record SaysNode (t : Muxes) (d : RootDiagram) (a : NodeId) (l : Literal) : T
 abbrev pub list_at : RootDiagram → NodeId → Truths
 list_at d a = place d.diagrams.table.lists a.place
 
+-- no node stands twice
+abbrev pub IsOnce : List (NodeId × Literal) → Type 0
+IsOnce [] = Unit {0}
+IsOnce (p ∷ rest) = ((l : Literal) → Contains rest (p.0, l) → ⊥) × IsOnce rest
+
 -- each node is one of the diagram and no constant, stands once, and has its literal
 pub record AreSaid (t : Muxes) (d : RootDiagram) (known : List (NodeId × Literal)) : Type 0 where
-  pub node : (a : NodeId) (l : Literal) → Contains known (a, l) → IsNode d.diagrams a × IsUneven (list_at d a) × SaysNode t d a l
-  pub once : (a : NodeId) (l k : Literal) (i j : ℕ) → slice_get known i ≡ Some (a, l)
-      → slice_get known j ≡ Some (a, k) → i ≡ j
+  pub node : (a : NodeId) (l : Literal) → Contains known (a, l) → IsNode d.diagrams a
+  pub uneven : (a : NodeId) (l : Literal) → Contains known (a, l) → IsUneven (list_at d a)
+  pub says : (a : NodeId) (l : Literal) → Contains known (a, l) → SaysNode t d a l
+  pub once : IsOnce known
 
 -- all parts of the node's list are parts of the function
 abbrev pub IsWithin : RootDiagram → Truths → NodeId → Type 0
