@@ -1,3 +1,4 @@
 pub mod Weighing
 pub mod Counted
 pub mod Following
+pub mod Bounds
