@@ -67,9 +67,19 @@ inner_within m = let a = inner_less m m.equations in omega (arith, a)
 pub size_parts : (m : Machine) → machine_size m ≡ expressions_size m + 2 * length (outputs m) + 5 * length m.registers
 size_parts m = omega arith
 
--- The bound on inner signals, of whichever machine is taken. `weight` is that of the choices, and `most` four times the nodes.
--- The given one, where the second was given up:
-pub kept_when_large : (m : Machine) (given most : ℕ) → (given ≡ expressions_size m) ⊎ (2 ^ 36 ≤ given) × (given ≤ expressions_size m)
-    → most < 2 ^ 36 → given ≤ most → inner_size m ≤ most
-kept_when_large m given most (inl is) few large = let a = inner_within m in omega (arith, a, is, large)
-kept_when_large m given most (inr p) few large = let q = p.0 in absurd (omega (arith, q, few, large))
+-- A given weight that is near that of a table of choices is that of all expressions.
+pub exact_when_near : (m : Machine) (given weight count : ℕ) → (given ≡ expressions_size m) ⊎ (2 ^ 36 ≤ given) × (given ≤ expressions_size m)
+    → given ≤ weight + 4 → weight ≤ 4 * count → count < 2 ^ 32 → given ≡ expressions_size m
+exact_when_near m given weight count (inl is) near most few = is
+exact_when_near m given weight count (inr p) near most few = let q = p.0 in absurd (omega (arith, q, near, most, few))
+
+-- So where the second machine was given up, with so many choices and nodes, the given one is within the nodes.
+pub within_when_large : (m : Machine) (given weight count nodes : ℕ) → (given ≡ expressions_size m) ⊎ (2 ^ 36 ≤ given) × (given ≤ expressions_size m)
+    → given ≤ weight + 4 → weight ≤ 4 * count → count < 2 ^ 32 → weight + 4 ≤ 4 * nodes → expressions_size m ≤ 4 * nodes
+within_when_large m given weight count nodes w near most few room =
+    let is = exact_when_near m given weight count w near most few in
+    omega (arith, is, near, room)
+
+-- The bound on inner signals where the given machine is kept: it was given up, or nothing weighs anything.
+pub inner_when_kept : (m : Machine) (most : ℕ) → expressions_size m ≤ most → inner_size m ≤ most
+inner_when_kept m most less = let a = inner_within m in omega (arith, a, less)

@@ -64,7 +64,7 @@ pub record IsRebuilt (m : Machine) (before : List Root) (b : Rebuilt) : Type 0 w
   pub dags : List ℕ
   pub each_dag : AllZip (IsDag m) before dags
   pub weight : b.muxes.weight ≤ 4 * sum dags
-  pub large : b.is_large ≡ true → b.muxes.given ≤ 4 * sum dags
+  pub large : b.is_large ≡ true → expressions_size m ≤ 4 * sum dags
   pub planned : b.is_large ≡ false → IsPlanOf m before b.muxes b.plan
 
 -- a further root comes in its order: those of outputs before those that registers load
