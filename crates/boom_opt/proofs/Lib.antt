@@ -2,3 +2,4 @@ pub mod Weighing
 pub mod Counted
 pub mod Following
 pub mod Bounds
+pub mod Branches
