@@ -8,6 +8,7 @@ it breaks. A netlist is one of vst.py; cells are those of cellcheck.py by their 
 import itertools
 
 import cellcheck
+import diagrams
 from mapping import machine_size
 from vhdl_reader import SUPPLIES, spelled
 
@@ -105,7 +106,7 @@ def report(m, n, cells):
     placed = Placed(n, cells)
     lines = [f"source {m.name}"]
     lines += [f"register q{k} {spelled(bit)}" for k, bit in enumerate(sorted(m.registers))]
-    lines += [f"size {machine_size(m)}", f"cells {len(n.instances)}", f"nets {len(placed.nets)}", f"length {placed.length()}"]
+    lines += [f"size {machine_size(m)}", f"nodes {diagrams.greatest(m)}", f"cells {len(n.instances)}", f"nets {len(placed.nets)}", f"length {placed.length()}"]
     return "\n".join([*lines, "breaches 0", "accepted", ""])
 
 
