@@ -76,11 +76,7 @@ fn made_smaller(alloc: Global, command: &BoomCommand, source: &[u8]) -> Result<P
 }
 
 // The smaller source's file, NAME.vbe, and what is printed.
-fn product(
-    alloc: Global,
-    command: &BoomCommand,
-    machine: &Machine,
-) -> Result<Product, AllocError>
+fn product(alloc: Global, command: &BoomCommand, machine: &Machine) -> Result<Product, AllocError>
     requires small { size_of machine.now ≤ MOST_SIZE }
     requires words { HasWords machine.now }
     ensures { IfOk result (λ p. IsWrittenAs command.now machine.now p) }

@@ -4,3 +4,4 @@ pub mod Lines
 pub mod Standing
 pub mod Rows
 pub mod Words
+mod Alike

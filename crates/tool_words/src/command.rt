@@ -96,8 +96,7 @@ fn flow(alloc: Global, arguments: &[Argument]) -> Result<Command, WordsError>
     let library = only(arguments, Wanted::Value(LIBRARY.word));
     let out = only(arguments, Wanted::Value(OUT.word));
     let nodes = number_of(arguments, NODES);
-    let (Some(source), Some(library), Some(out), Some(nodes)) = (source, library, out, nodes)
-    else {
+    let (Some(source), Some(library), Some(out), Some(nodes)) = (source, library, out, nodes) else {
         return Err(WordsError::Usage);
     };
     Ok(Command::Flow(FlowCommand {
