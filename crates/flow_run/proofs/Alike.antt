@@ -1,5 +1,5 @@
 -- What is right for a machine is right for one alike.
-use Rattle.std.proofs.Common.{◌≡◌, ◌⊎◌, ◌↔◌, ℕ, ◌<◌, Bool, List, length, map, None, Some, refl, sym, ap, subst, ◌∙◌}
+use Rattle.std.proofs.Common.{◌≡◌, ◌⊎◌, ◌↔◌, ℕ, ◌<◌, Bool, List, length, map, Option, None, Some, refl, sym, ap, subst, ◌∙◌}
 use Rattle.std.specs.List.{All}
 use Rattle.vlsi_base.specs.declared.name.Name.{Name}
 use Rattle.vlsi_base.specs.declared.name.Port.{Port}
@@ -57,8 +57,17 @@ module _ (n : Netlist) (l : Library) (m o : Machine) (a : IsAlike m o) where
   }
 
   -- the netlist runs alike, since it is told the same inputs and the same clock
-  traces : (t : Contents) (v ws : List (List Bool)) → NetTrace n l o t v ws ≡ NetTrace n l m t v ws
-  traces t v ws = λ j. Run (NetSettles n l (inputs_same m o a j) (a.clock j)) (λ (w : Valuation). w.classes) (net_next n l) t v ws
+  told : List Name → Option Name → Contents → List (List Bool) → List (List Bool) → Type 0
+  told names clock t v ws = Run (NetSettles n l names clock) (λ (w : Valuation). w.classes) (net_next n l) t v ws
+
+  trace_to : (t : Contents) (v ws : List (List Bool)) → NetTrace n l o t v ws → NetTrace n l m t v ws
+  trace_to t v ws p =
+      subst (λ (names : List Name). told names m.clock t v ws) (inputs_same m o a) (subst (λ (clock : Option Name). told (inputs o) clock t v ws) a.clock p)
+
+  trace_from : (t : Contents) (v ws : List (List Bool)) → NetTrace n l m t v ws → NetTrace n l o t v ws
+  trace_from t v ws p =
+      subst (λ (names : List Name). told names o.clock t v ws) (sym (inputs_same m o a))
+      (subst (λ (clock : Option Name). told (inputs m) clock t v ws) (sym a.clock) p)
 
   vectors : (v : List (List Bool)) → AreVectors m v → AreVectors o v
   vectors v h = subst (λ (names : List Name). All (λ (i : List Bool). length i ≡ length names) v) (sym (inputs_same m o a)) h
@@ -67,13 +76,10 @@ module _ (n : Netlist) (l : Library) (m o : Machine) (a : IsAlike m o) where
   agrees_alike runs both om oo g = record {
     once = λ t v h.
         let r = g.once t v (vectors v h) in
-        (r.0, (coe (traces t v r.0) r.1, λ others p. r.2 others (coe (sym (traces t v others)) p)));
+        (r.0, (trace_to t v r.0 r.1, (λ others p. r.2 others (trace_from t v others p))));
     same = λ s t v ws size matched h p.
-        let run = g.same s t v ws (size ∙ sym (registers_same m o a)) matched (vectors v h) (coe (sym (traces t v ws)) p) in
+        let run = g.same s t v ws (size ∙ sym (registers_same m o a)) matched (vectors v h) (trace_from t v ws p) in
         let outs : map (net_outs n (outputs o)) ws ≡ map (net_outs n (outputs m)) ws = λ j. map (net_outs n (outputs_same m o a j)) ws in
         runs o m s v (map (net_outs n (outputs m)) ws) oo om (both m o a) (size ∙ sym (registers_same m o a)) (vectors v h)
         (subst (λ (y : List (List Bool)). RunOf o s v y) outs run);
   }
-    where
-      coe : {A B : Type 0} → A ≡ B → A → B
-      coe e x = subst (λ (T : Type 0). T) e x
