@@ -4,7 +4,7 @@ use Rattle.bool_expr.specs.Expression.{Expression, variable, bit, val}
 use Rattle.machine_meaning.specs.Machine.{Machine, Equation}
 use Rattle.machine_core.specs.Built.{built}
 use Rattle.machine_roots.specs.Expansion.{held_count}
-use Rattle.machine_roots.specs.declared.roots.RootExpr.{RootExpr}
+use Rattle.machine_roots.specs.declared.listing.RootExpr.{RootExpr}
 use Rattle.bool_expr.specs.View.{view}
 use Rattle.boom_opt.specs.declared.literal.Literal.{Literal}
 use Rattle.boom_opt.specs.declared.plan.Plan.{Plan}

@@ -8,13 +8,13 @@ use Rattle.machine_core.specs.Built.{built}
 use Rattle.machine_roots.specs.Expansion.{held_count}
 use Rattle.machine_roots.specs.Roots.{Root, roots, IsDcount, IsDag, IsOverBudget, IsGreatest}
 use Rattle.machine_roots.specs.Listing.{IsPlaced}
-use Rattle.machine_roots.specs.declared.roots.RootExpr.{RootExpr}
+use Rattle.machine_roots.specs.declared.listing.RootExpr.{RootExpr}
 use Rattle.boom_opt.specs.declared.error.BoomError.{BoomError}
 use Rattle.boom_opt.specs.declared.error.BoomError.TheVariants as error
 use Rattle.boom_opt.specs.declared.literal.Literal.{Literal}
 use Rattle.boom_opt.specs.declared.muxes.Muxes.{Muxes}
 use Rattle.boom_opt.specs.declared.plan.Plan.{Plan}
-use Rattle.boom_opt.specs.declared.optimise.Rebuilt.{Rebuilt}
+use Rattle.boom_opt.specs.declared.optimising.Rebuilt.{Rebuilt}
 use Rattle.boom_opt.specs.Muxes.{IsTable, IsLiteralBelow}
 use Rattle.boom_opt.specs.Planning.{EachLeadsBack, Shows, SaysValue, IsPlan}
 

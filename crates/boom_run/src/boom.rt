@@ -29,7 +29,7 @@ pub struct Boom<'a> {
 }
 
 /// The optimised machine, or the status that tells why there is none: `Budget`, or out of memory.
-pub fn optimised(alloc: Global, machine: &Machine, budget: u32) -> Result<Optimised, Status>
+pub fn optimise_within(alloc: Global, machine: &Machine, budget: u32) -> Result<Optimised, Status>
     ensures made { IfOk result (λ o. IsWithinBudget machine.now budget o.machine o.nodes) }
     ensures refused { IfErr result (λ s. MemoryOr s (IsBudgetStatus machine.now budget s)) }
 {
@@ -67,7 +67,7 @@ fn made_smaller(alloc: Global, command: &BoomCommand, source: &[u8]) -> Result<P
     if let Err(status) = check_size(&machine) {
         return Err(Refusal::plain(status));
     }
-    let made = match optimised(alloc, &machine, command.nodes) {
+    let made = match optimise_within(alloc, &machine, command.nodes) {
         Ok(made) => made,
         Err(status) => return Err(Refusal::plain(status)),
     };

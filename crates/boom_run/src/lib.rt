@@ -6,4 +6,4 @@
 
 mod boom;
 
-pub use boom::{Boom, optimised};
+pub use boom::{Boom, optimise_within};

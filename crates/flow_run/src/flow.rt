@@ -18,7 +18,7 @@ ghost use Rattle.flow_run.specs.Mapped.{IsMissingIn, IsMappedFor};
 use crate::layout::product;
 use crate::report::Counted;
 use boog_run::{check_size, netlist_law, netlist_of};
-use boom_run::optimised;
+use boom_run::optimise_within;
 use catal::{CatalError, read_catal};
 use cell_checks::Library;
 use cell_lib::{catal_file, library_law, library_status, named_files, read_library};
@@ -136,7 +136,7 @@ struct Mapped {
 }
 
 // The netlist of the optimised machine, or the status of the first root over the budget.
-fn mapped(
+fn netlist_within(
     alloc: Global,
     machine: &Machine,
     library: &Library,
@@ -148,7 +148,7 @@ fn mapped(
     ensures mapped { IfOk result (λ p. IsMappedFor library.now machine.now budget p.netlist p.nodes) }
     ensures refused { IfErr result (λ s. MemoryOr s (IsBudgetStatus machine.now budget s)) }
 {
-    let made = optimised(alloc, machine, budget)?;
+    let made = optimise_within(alloc, machine, budget)?;
     match netlist_of(alloc, &made.machine, library) {
         Ok(netlist) => Ok(Mapped {
             nodes: made.nodes,
@@ -179,7 +179,7 @@ fn laid_out(
     if let Err(status) = check_kinds(&machine, &library) {
         return Err(Refusal::plain(status));
     }
-    let Mapped { nodes, netlist } = match mapped(alloc, &machine, &library, command.nodes) {
+    let Mapped { nodes, netlist } = match netlist_within(alloc, &machine, &library, command.nodes) {
         Ok(mapped) => mapped,
         Err(status) => return Err(Refusal::plain(status)),
     };

@@ -12,7 +12,7 @@ ghost use Rattle.machine_roots.specs.Roots.{lists_of};
 ghost use Rattle.machine_roots.specs.Asked.{variable_lists, name_lists, asked_by, HaveAsked, IsRootDiagram};
 ghost use Rattle.machine_roots.specs.Binding.{AreNodes, AreHeldBound, IsUnbound, AreBoundTo};
 
-use crate::walk::walk;
+use crate::walking::walk;
 use bdd_core::{BddError, Diagrams, NodeId};
 use bool_expr::Expr;
 use machine_core::Machine;

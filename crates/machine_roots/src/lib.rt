@@ -5,9 +5,9 @@
 #![tactic(auto)]
 
 mod diagram;
-mod roots;
-mod walk;
+mod listing;
+mod walking;
 
 pub use diagram::{RootDiagram, root_diagram};
-pub use roots::{RootExpr, roots};
-pub use walk::{Walk, walk};
+pub use listing::{RootExpr, roots};
+pub use walking::{WalkedNames, walk};

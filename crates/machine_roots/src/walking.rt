@@ -11,7 +11,7 @@ use std::alloc::{AllocError, Global};
 
 /// What an expression's expansion reads.
 #[derive(Drop)]
-pub struct Walk {
+pub struct WalkedNames {
     /// The inputs and registers, in the order in which a walk from left to right first meets them.
     pub order: Vec<u32>,
     /// Of each name of the machine, whether the walk meets it.
@@ -21,7 +21,7 @@ pub struct Walk {
 /// Walks through the expansion of an expression over a machine's names, from left to right. Each equation is walked through once,
 /// where its name is first met: a second time it holds nothing new. Takes memory for a mark a name, and for what is still to be
 /// walked.
-pub fn walk(alloc: Global, m: &Machine, e: &Expr) -> Result<Walk, AllocError>
+pub fn walk(alloc: Global, m: &Machine, e: &Expr) -> Result<WalkedNames, AllocError>
     requires over { IsOver (view e.now) (length m.now.vars) }
     requires few { length m.now.vars < 2 ^ 32 }
     ensures order { IfOk result (λ r. r.order.items ≡ order_of m.now (view e.now)) }
@@ -62,5 +62,5 @@ pub fn walk(alloc: Global, m: &Machine, e: &Expr) -> Result<Walk, AllocError>
             }
         }
     }
-    Ok(Walk { order, met })
+    Ok(WalkedNames { order, met })
 }

@@ -137,7 +137,7 @@ impl Rebuilt {
 }
 
 // The second machine of all roots, or the first one over the budget.
-fn rebuilt(alloc: Global, m: &Machine, budget: u32) -> Result<Rebuilt, BoomError>
+fn remake(alloc: Global, m: &Machine, budget: u32) -> Result<Rebuilt, BoomError>
     requires { length m.now.vars < 2 ^ 32 }
     ensures made { IfOk result (λ b. HasRebuilt m.now budget b) }
     ensures over { IfErr result (λ e. IsOverIn m.now budget e) }
@@ -164,7 +164,7 @@ pub fn optimise(alloc: Global, m: &Machine, budget: u32) -> Result<Optimised, Bo
     let Ok(_) = u32::try_from(m.vars().as_slice().len()) else {
         return Err(BoomError::Memory);
     };
-    let made = rebuilt(alloc, m, budget)?;
+    let made = remake(alloc, m, budget)?;
     let is_smaller = !made.is_large && made.muxes.weight < made.muxes.given;
     let machine = if is_smaller {
         build(alloc, m, made.muxes.nodes.as_slice(), Some(&made.plan))?
