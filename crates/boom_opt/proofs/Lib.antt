@@ -3,3 +3,4 @@ pub mod Counted
 pub mod Following
 pub mod Bounds
 pub mod Branches
+pub mod Keeping
