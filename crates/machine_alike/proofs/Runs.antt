@@ -31,7 +31,7 @@ module _ (m o : Machine) (oo : IsOrdered o) (a : IsAlike m o) where
   -- a valuation of the one for each of the other, cycle by cycle
   goes : (v : List (List Bool)) (s : List Bool) (ws : List (List Bool)) → length s ≡ length m.registers → AreVectors m v
       → Trace (Settles m) (next m) s v ws → (us : List (List Bool)) × Trace (Settles o) (next o) s v us × (map (outs o) us ≡ map (outs m) ws)
-  goes [] s ws ls lv t = ([], (refl, ap (map (outs m)) (sym t)))
+  goes [] s ws ls lv t = ([], refl, ap (map (outs m)) (sym t))
   goes (i ∷ v) s ws ls lv t =
       let w = t.0 in
       let rest = t.2.0 in
@@ -45,13 +45,14 @@ module _ (m o : Machine) (oo : IsOrdered o) (a : IsAlike m o) where
       let both : outs o u ∷ map (outs o) more.0 ≡ outs m w ∷ map (outs m) rest =
       ap (λ (y : List Bool). y ∷ map (outs o) more.0) shows ∙ ap (λ (ys : List (List Bool)). outs m w ∷ ys) more.2 in (
         u ∷ more.0,
-        ((u, (found.1, (more.0, (refl, trace)))), both ∙ ap (map (outs m)) (sym t.2.1)),
+        (u, found.1, (more.0, refl, trace)),
+        both ∙ ap (map (outs m)) (sym t.2.1),
       )
 
 pub alike_run : AlikeRun
 alike_run m o s v y om oo a ls lv run =
     let g = goes m o oo a v s run.0 ls lv run.1 in
-    (g.0, (g.1, run.2 ∙ sym g.2))
+    (g.0, g.1, run.2 ∙ sym g.2)
 
 pub both_ways : AlikeBothWays
 both_ways m o a = record {
