@@ -68,7 +68,7 @@ fn none_reads(clock: &Text, conditions: &[&ParsedExpr]) -> bool
 
 /// The clock of a guard: the name of which one part is that name and one turns its `stable` round, if nothing else in
 /// the guard reads it. Takes memory for the guard's parts.
-pub(crate) fn clock_of<'a>(
+pub fn clock_of<'a>(
     alloc: Global,
     table: &SymbolTable,
     guard: &'a ParsedExpr,

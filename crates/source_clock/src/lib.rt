@@ -7,6 +7,7 @@ mod faults;
 mod guards;
 mod reads;
 
-pub use clocks::clock;
+pub use clocks::{clock, clock_of};
 pub use faults::clock_fault;
 pub use guards::{conditions, parts};
+pub use reads::clock_line;

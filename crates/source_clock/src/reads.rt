@@ -26,10 +26,10 @@ fn line_of_name(clock: Option<&Text>, text: &Text, line: u32) -> Option<u32>
     }
 }
 
-/// The line of the first read of the clock, or of the first `stable`, in an expression.
+/// The line of the first read of the clock, or of the first `stable`, in an expression. Takes no memory.
 #[cycle(clock_line)]
 #[tactic(auto, using(source_meaning::proofs::FirstLines::first_line_append))]
-pub(crate) fn clock_line(clock: Option<&Text>, e: &ParsedExpr) -> Option<u32>
+pub fn clock_line(clock: Option<&Text>, e: &ParsedExpr) -> Option<u32>
     ensures { result ≡ first_line (clock_lines (option_copied clock.entry) (view e.now)) }
 {
     match e {

@@ -25,7 +25,7 @@ fn fits_literal(radix: Radix, digits: &[u8]) -> bool
 /// The line of the first literal in an expression that has too few or too many bits.
 #[cycle(literal)]
 #[tactic(auto, using(crate::proofs::FirstLines::first_line_append))]
-fn literal_fault(e: &ParsedExpr) -> Option<u32>
+pub fn literal_fault(e: &ParsedExpr) -> Option<u32>
     ensures { result ≡ first_line (literal_faults (view e.now)) }
 {
     match e {
@@ -194,7 +194,9 @@ fn port_form(group: &PortGroup) -> Option<u32>
     None
 }
 
-fn ports_form(groups: &[PortGroup]) -> Option<u32>
+/// The line of the first port group with a form that is not taken: a supply of another form, a port of mode inout, a type
+/// with several drivers.
+pub fn ports_form(groups: &[PortGroup]) -> Option<u32>
     ensures { result ≡ first_line (port_forms groups.now) }
 {
     for group in groups {

@@ -14,12 +14,12 @@ mod undeclared;
 mod widths;
 
 pub use drivers::{DriverFault, NameFault, driver_fault};
-pub use forms::{is_resolved, supply_fault, unsupported};
+pub use forms::{is_resolved, literal_fault, ports_form, supply_fault, unsupported};
 pub use statement::{
     Assignment, Assignments, BlockStatement, Choice, DesignFile, Guarded, GuardedList, Selection,
     Statement, Statements, Target,
 };
 pub use symbol_table::{Role, Symbol, SymbolTable};
 pub use twice::repeated;
-pub use undeclared::{Place, unknown};
+pub use undeclared::{Place, unknown, unknown_name, unknown_read};
 pub use widths::{declared_fault, has_bit, ports_fault, width_fault};

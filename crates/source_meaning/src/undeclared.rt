@@ -15,8 +15,8 @@ pub struct Place<'a> {
     pub line: u32,
 }
 
-/// The name, unless it is declared.
-fn undeclared<'a>(table: &SymbolTable, text: &'a Text, line: u32) -> Option<Place<'a>>
+/// The name, unless it is declared. Takes no memory.
+pub fn unknown_name<'a>(table: &SymbolTable, text: &'a Text, line: u32) -> Option<Place<'a>>
     ensures { option_map use_of result ≡ first_unknown table.now (record { text = text.now; line = line } ∷ []) }
 {
     match table.find(text.as_bytes()) {
@@ -25,25 +25,25 @@ fn undeclared<'a>(table: &SymbolTable, text: &'a Text, line: u32) -> Option<Plac
     }
 }
 
-/// The first name of an expression that isn't declared.
+/// The first name of an expression that isn't declared. Takes no memory.
 #[cycle(unknown)]
 #[tactic(auto, using(crate::proofs::Unknowns::first_unknown_append))]
-fn unknown_in<'a>(table: &SymbolTable, e: &'a ParsedExpr) -> Option<Place<'a>>
+pub fn unknown_read<'a>(table: &SymbolTable, e: &'a ParsedExpr) -> Option<Place<'a>>
     ensures { option_map use_of result ≡ first_unknown table.now (reads (view e.now)) }
 {
     match e {
         ParsedExpr::Bit(_, _) => None,
         ParsedExpr::Literal(_, _, _) => None,
-        ParsedExpr::Name(text, line) => undeclared(table, text, *line),
-        ParsedExpr::Index(text, line, _) => undeclared(table, text, *line),
-        ParsedExpr::Slice(text, line, _) => undeclared(table, text, *line),
-        ParsedExpr::Stable(text, line) => undeclared(table, text, *line),
-        ParsedExpr::Not(_, inner) => unknown_in(table, inner),
-        ParsedExpr::Binary(_, _, left, right) => match unknown_in(table, left) {
+        ParsedExpr::Name(text, line) => unknown_name(table, text, *line),
+        ParsedExpr::Index(text, line, _) => unknown_name(table, text, *line),
+        ParsedExpr::Slice(text, line, _) => unknown_name(table, text, *line),
+        ParsedExpr::Stable(text, line) => unknown_name(table, text, *line),
+        ParsedExpr::Not(_, inner) => unknown_read(table, inner),
+        ParsedExpr::Binary(_, _, left, right) => match unknown_read(table, left) {
             Some(place) => Some(place),
-            None => unknown_in(table, right),
+            None => unknown_read(table, right),
         },
-        ParsedExpr::Chain(_, first, others) => match unknown_in(table, first) {
+        ParsedExpr::Chain(_, first, others) => match unknown_read(table, first) {
             Some(place) => Some(place),
             None => unknown_among(table, others),
         },
@@ -56,7 +56,7 @@ fn unknown_among<'a>(table: &SymbolTable, others: &'a [(u32, ParsedExpr)]) -> Op
     ensures { option_map use_of result ≡ first_unknown table.now (reads_among (map operand_of others.now)) }
 {
     for (_, e) in others {
-        if let Some(place) = unknown_in(table, e) {
+        if let Some(place) = unknown_read(table, e) {
             return Some(place);
         }
     }
@@ -68,9 +68,9 @@ fn unknown_among<'a>(table: &SymbolTable, others: &'a [(u32, ParsedExpr)]) -> Op
 fn unknown_in_guarded<'a>(table: &SymbolTable, guarded: &'a Guarded) -> Option<Place<'a>>
     ensures { option_map use_of result ≡ first_unknown table.now (reads (view guarded.now.value) ++ reads (view guarded.now.condition)) }
 {
-    match unknown_in(table, &guarded.value) {
+    match unknown_read(table, &guarded.value) {
         Some(place) => Some(place),
-        None => unknown_in(table, &guarded.condition),
+        None => unknown_read(table, &guarded.condition),
     }
 }
 
@@ -94,13 +94,13 @@ fn unknown_in_assignment<'a>(table: &SymbolTable, assignment: &'a Assignment) ->
     ensures { option_map use_of result ≡ first_unknown table.now (assignment_uses assignment.now) }
 {
     let target = &assignment.target;
-    if let Some(place) = undeclared(table, &target.name, target.line) {
+    if let Some(place) = unknown_name(table, &target.name, target.line) {
         return Some(place);
     }
     let choice = &assignment.choice;
     match unknown_in_alternatives(table, choice.alternatives.as_slice()) {
         Some(place) => Some(place),
-        None => unknown_in(table, &choice.otherwise),
+        None => unknown_read(table, &choice.otherwise),
     }
 }
 
@@ -124,9 +124,9 @@ fn unknown_in_statement<'a>(table: &SymbolTable, statement: &'a Statement) -> Op
     ensures { option_map use_of result ≡ first_unknown table.now (statement_uses statement.now) }
 {
     match statement {
-        Statement::Assert(e) => unknown_in(table, e),
+        Statement::Assert(e) => unknown_read(table, e),
         Statement::Assign(assignment) => unknown_in_assignment(table, assignment),
-        Statement::Block(block) => match unknown_in(table, &block.guard) {
+        Statement::Block(block) => match unknown_read(table, &block.guard) {
             Some(place) => Some(place),
             None => unknown_in_assignments(table, block.assignments.as_slice()),
         },

@@ -10,7 +10,7 @@ ghost use Rattle.vlsi_model.specs.Sources.{IsSourceOf};
 use crate::build::{build, few};
 use crate::cycle::cycle;
 use crate::nodes::node_order;
-use crate::ports::ports;
+use crate::ports::ports_in_file_order;
 use crate::refusals::refusal;
 use crate::source::{Source, elaborated};
 use bit_order::Order;
@@ -61,7 +61,7 @@ fn few_ports(
     ensures machine { IfOk result (λ m. Passes design.now × IsMachineOf design.now m) }
     ensures refused { IfErr result (λ e. IsRefused design.now e) }
 {
-    let ports = ports(alloc, &source.numbers)?;
+    let ports = ports_in_file_order(alloc, &source.numbers)?;
     if ports.len() > MOST_PORTS {
         return Err(too_many_ports(&ports, design));
     }

@@ -55,7 +55,7 @@ fn push_some(ports: &mut Vec<Port>, port: Option<Port>) -> Result<(), AllocError
 }
 
 /// The bits of the ports but vdd and vss, in file order.
-pub fn ports(alloc: Global, numbers: &Numbers) -> Result<Vec<Port>, AllocError>
+pub fn ports_in_file_order(alloc: Global, numbers: &Numbers) -> Result<Vec<Port>, AllocError>
     requires { AllDifferent (map (λ s. s.text) numbers.now) }
     ensures { IfOk result (λ ports. ports.items ≡ port_bits numbers.now) }
 {

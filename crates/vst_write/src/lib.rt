@@ -9,4 +9,5 @@ mod test;
 mod writer;
 
 pub use error::WriteError;
+pub use groups::entity;
 pub use writer::write_vst;

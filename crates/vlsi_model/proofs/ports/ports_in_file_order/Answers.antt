@@ -8,7 +8,7 @@ use Rattle.source_meaning.specs.Symbols.{all_names}
 use Rattle.vlsi_model.specs.PortNames.{port_named}
 use Rattle.vlsi_model.proofs.Naming.{ports_more, take_whole}
 use Rattle.vlsi_model.proofs.PortBits.{all_ports}
-use Rattle.vlsi_model.proofs.ports.ports.Goals as goal
+use Rattle.vlsi_model.proofs.ports.ports_in_file_order.Goals as goal
 
 pub loop-k-preserved : goal.loop-k-preserved
 loop-k-preserved c =
