@@ -8,14 +8,14 @@ use Rattle.source_meaning.specs.Uses.{use_of, reads_among}
 use Rattle.source_meaning.proofs.Unknowns.{in_chain, operands_turn}
 use Rattle.source_meaning.proofs.undeclared.+unknown.Goals as goal
 
-pub unknown_in-returns-in-Some-unknown_in : goal.unknown_in-returns-in-Some-unknown_in
-unknown_in-returns-in-Some-unknown_in t c =
+pub unknown_read-returns-in-Some-unknown_read : goal.unknown_read-returns-in-Some-unknown_read
+unknown_read-returns-in-Some-unknown_read t c =
     let es = map operand_of c.in-Chain.others.items in
     let viewed : view c.args.e.now ≡ folded c.in-Chain.field-0 (view c.in-Chain.first.value) es = search (rules, the_lemmas, grouped_is) in
-    in_chain c.args.table.now (view c.args.e.now) (view c.in-Chain.first.value) c.in-Chain.field-0 es (Some (use_of c.in-Some-unknown_in.place)) (first_unknown c.args.table.now (reads_among es)) viewed (search rules) refl
+    in_chain c.args.table.now (view c.args.e.now) (view c.in-Chain.first.value) c.in-Chain.field-0 es (Some (use_of c.in-Some-unknown_read.place)) (first_unknown c.args.table.now (reads_among es)) viewed (search rules) refl
 
-pub unknown_in-returns-in-None-unknown_in : goal.unknown_in-returns-in-None-unknown_in
-unknown_in-returns-in-None-unknown_in t c =
+pub unknown_read-returns-in-None-unknown_read : goal.unknown_read-returns-in-None-unknown_read
+unknown_read-returns-in-None-unknown_read t c =
     let es = map operand_of c.in-Chain.others.items in
     let viewed : view c.args.e.now ≡ folded c.in-Chain.field-0 (view c.in-Chain.first.value) es = search (rules, the_lemmas, grouped_is) in
     in_chain c.args.table.now (view c.args.e.now) (view c.in-Chain.first.value) c.in-Chain.field-0 es None (option_map use_of c.unknown_among.result) viewed (search rules) (search rules)
