@@ -140,12 +140,13 @@ module _ (n : Netlist) (l : Library) (net : Numbering) (ports : List name.Name) 
       let k = net (n.class (pin_of r.0.name r.2)) in
       let own = pins_before l 0 n.instances i + p in
       let e = net_is n l net ports ok i p r.0 r.1 r.2 r.3 in
-      subst (λ v. IsTerminal n l v × About n net v (Signal ((block_of n l net ports).net i p))) (sym (pin_is n l net ports ok i p r.0 r.1 r.2 r.3))
-      (pin_listed n l net ports ok i p r.0 r.1 r.2 r.3,
-      ⊎_elim
-      (λ lt. on_net s lt (sym (e ∙ number_low (net_count n) k own lt)))
-      (λ ge. past s ge (subst (λ v. net_count n ≤ v) (sym e) (number_beyond (net_count n) k own ge)))
-      (cases_lt k (net_count n)))
+      subst (λ v. IsTerminal n l v × About n net v (Signal ((block_of n l net ports).net i p))) (sym (pin_is n l net ports ok i p r.0 r.1 r.2 r.3)) (
+        pin_listed n l net ports ok i p r.0 r.1 r.2 r.3,
+        ⊎_elim
+            (λ lt. on_net s lt (sym (e ∙ number_low (net_count n) k own lt)))
+            (λ ge. past s ge (subst (λ v. net_count n ≤ v) (sym e) (number_beyond (net_count n) k own ge)))
+            (cases_lt k (net_count n)),
+      )
 
   abbrev Found : terminal.Terminal → Type 0
   Found t = (u : block.Terminal) × Exists (block_of n l net ports) u × (t ≡ terminal_of (own n) (call n l ports) u)
