@@ -1,5 +1,5 @@
 -- A netlist that may be drawn, once it is drawn, is a right layout.
-use Rattle.std.proofs.Common.{◌≡◌, ℕ, ◌-◌, ◌≤◌, true, List, length, Some, refl, sym, ◌∙◌, ap, arith}
+use Rattle.std.proofs.Common.{◌≡◌, ℕ, ◌-◌, ◌≤◌, true, false, List, length, Some, refl, sym, ◌∙◌, ap, arith}
 use Rattle.std.proofs.lemmas.List.{length-map}
 use Rattle.std.proofs.lemmas.List.Sorted.{length_permutation}
 use Rattle.vlsi_base.specs.Names.{scalar}
@@ -13,15 +13,18 @@ use Rattle.ap_io.specs.Spelling.{text_of}
 use Rattle.ap_io.specs.Laws.{WrittenIsReadAgain}
 use Rattle.cell_model.specs.Library.{Library}
 use Rattle.cell_lib.specs.Laws.{LibraryPasses, LibraryNeedsNoTracks}
+use Rattle.cell_pins.specs.Table.{IsTableOf}
+use Rattle.net_core.specs.declared.pins.ModelPins.{ModelPins}
 use Rattle.net_core.specs.Netlist.{Netlist}
+use Rattle.net_core.specs.Checks.{IsPinTable}
 use Rattle.net_meaning.specs.Netlist.{Netlist as Seen}
 use Rattle.net_view.specs.View.{IsSeenAs, member_of}
 use Rattle.net_view.specs.Laws.{RightIsWellFormed}
 use Rattle.ocp_rows.specs.Placement.{net_count}
-use Rattle.ocp_place.specs.Law.{row_of}
+use Rattle.ocp_place.specs.Law.{row_of, RightMayBeDrawn}
 use Rattle.ocp_place.specs.Drawable.{IsDrawableIn}
 use Rattle.route_draw.specs.Drawn.{IsDrawnInTracks}
-use Rattle.route_draw.specs.Law.{DrawingCanBeWritten}
+use Rattle.route_draw.specs.Law.{RightDrawingsAreRight, DrawingCanBeWritten}
 use Rattle.boog_run.specs.Boog.{IsNetlistFor}
 use Rattle.boog_run.specs.Laws.{NetlistIsWritable, NetlistIsSmall, NetlistIsShort}
 use Rattle.flow_run.specs.Report.{report_by, report_of}
@@ -53,14 +56,8 @@ may_be_drawn passes plain writable few short source list cells m l n read netlis
       ports = sizes.1;
     }
 
-pub drawable : (l : Library) (m : Machine) (n : Netlist) → MayBeDrawn l m n → IsDrawableIn l n
-drawable l m n h = record {
-  sound = h.netlist.sound;
-  machine = m;
-  checked = h.checked;
-  right = h.netlist.right;
-  pins = h.netlist.pins;
-}
+pub drawable : RightMayBeDrawn → (l : Library) (m : Machine) (n : Netlist) (table : List ModelPins) → IsTableOf l false table → IsPinTable table → MayBeDrawn l m n → IsDrawableIn l n
+drawable may l m n table of_library is_table h = may l n m false table h.passed of_library is_table h.netlist.sound h.checked h.netlist.right h.netlist.pins
 
 -- the numbers of a netlist in memory are those of the netlist that it is seen as
 report_same : (m : Machine) (l : Library) (n : Netlist) (k : Seen) (long : ℕ) → IsSeenAs n k → IsLengthOf l n long
@@ -72,24 +69,24 @@ report_same m l n k long seen measured =
     ∙ ap (λ (a : ℕ). report_by m (length k.instances) a long 0) (sym nets)
     ∙ ap (λ (a : ℕ). report_by m (length k.instances) (net_count k) a 0) (measured k seen)
 
-pub right_layout : RightIsWellFormed → DrawingCanBeWritten → WrittenIsReadAgain → (l : Library) (m : Machine) (n : Netlist) (f : Figure) (long : ℕ) (report : List ℕ)
-    → MayBeDrawn l m n → IsDrawnInTracks l n f → IsLengthOf l n long → report ≡ report_by m (length n.instances) (n.count - 2) long 0
+pub right_layout : RightIsWellFormed → RightDrawingsAreRight → DrawingCanBeWritten → WrittenIsReadAgain → (l : Library) (m : Machine) (n : Netlist) (f : Figure) (long : ℕ) (report : List ℕ)
+    → IsDrawableIn l n → MayBeDrawn l m n → IsDrawnInTracks l n f → IsLengthOf l n long → report ≡ report_by m (length n.instances) (n.count - 2) long 0
     → IsRightLayout (text_of f) m l report
-right_layout well written again l m n f long report h drawn measured reported =
+right_layout well extracted written again l m n f long report given h drawn measured reported =
     let right = h.netlist.right in
     let k = right.sourced.netlist in
     let p = row_of k in
     let both = well n l m h.checked right in
     let instances = h.instances in
     let ports = h.ports in
-    let fits = written l n f h.passed (drawable l m n h) h.named h.short (omega (arith, instances)) (omega (arith, ports)) drawn in
+    let fits = written l n f h.passed given h.named h.short (omega (arith, instances)) (omega (arith, ports)) drawn in
     record {
       figure = f;
       netlist = k;
       placement = p;
       file = again f fits.0 fits.1;
       named = drawn.named ∙ ap (λ (name : List ℕ). Some (scalar name)) right.name;
-      extracts = drawn.extracts k right.seen;
+      extracts = extracted l n m k f h.passed given h.checked right right.seen drawn;
       well = both.0;
       agrees = both.1;
       lawful = drawn.lawful;

@@ -8,12 +8,13 @@ ghost use Rattle.flow_run.specs.Drawn.{layout_name as layout_name_of, MayBeDrawn
 use crate::report::report;
 use ap_io::{Figure, write_ap, written_is_read_again};
 use cell_checks::Library;
+use cell_pins::pin_table;
 use machine_core::Machine;
 use nero_tracks::{TrackError, columns_are_free, route_tracks};
 use net_core::Netlist;
 use net_view::right_is_well_formed;
-use ocp_place::{half_perimeter, track_place};
-use route_draw::{draw_tracks, drawing_can_be_written};
+use ocp_place::{half_perimeter, right_may_be_drawn, track_place};
+use route_draw::{draw_tracks, drawing_can_be_written, right_drawings_are_right};
 use std::alloc::{AllocError, Global};
 use tool_drive::Product;
 use vlsi_base::FileName;
@@ -52,7 +53,8 @@ fn layout_name(alloc: Global, out: &FileName) -> Result<FileName, AllocError>
     Ok(name)
 }
 
-/// The layout of a machine's netlist, in the file NAME.ap, and the report on it. Memory goes by the lines of the layout.
+/// The layout of a machine's netlist, in the file NAME.ap, and the report on it. Memory goes by the lines of the layout and by
+/// the pins of the library's usable cells.
 pub(crate) fn product(
     alloc: Global,
     out: &FileName,
@@ -64,8 +66,13 @@ pub(crate) fn product(
     ensures { IfOk result (λ p. IsDrawnAs out.now machine.now library.now p) }
 {
     right_is_well_formed();
+    right_may_be_drawn();
+    right_drawings_are_right();
     drawing_can_be_written();
     written_is_read_again();
+    // It meets the condition of placing and drawing with these pins.
+    let pins = pin_table(alloc, library, false)?;
+    let _ = pins;
     let sheet = drawing(alloc, netlist, library)?;
     let file = write_ap(alloc, &sheet.figure)?;
     let text = report(alloc, machine, netlist, sheet.wire)?;

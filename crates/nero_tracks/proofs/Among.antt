@@ -38,6 +38,12 @@ placed (k ∷ ks) c i = by (nat_eq k c) refl i (placed ks c) where
   by true e j next = (omega arith, ap Some (eqb-true k c e))
   by false e j next = let r = next (later c j e) in let less = r.0 in (omega (arith, less), r.1)
 
+-- one that isn't there has a place past them all
+pub not_placed : (ks : List ℕ) (c : ℕ) → (In c ks → ⊥) → place_among ks c ≡ length ks
+not_placed [] c none = refl
+not_placed (k ∷ ks) c none =
+    cond-false (nat_eq k c) 0 (suc (place_among ks c)) (unequal k c (λ e. none (subst (λ x. In x (k ∷ ks)) e here))) ∙ ap suc (not_placed ks c (λ i. none (there i)))
+
 -- two classes of one place are one
 pub one_place : (ks : List ℕ) (a b : ℕ) → In a ks → In b ks → place_among ks a ≡ place_among ks b → a ≡ b
 one_place ks a b i j e = same_Some a b (sym (placed ks a i).1 ∙ ap (slice_get ks) e ∙ (placed ks b j).1)

@@ -1,28 +1,27 @@
 -- The classes of nets: each but those of the supplies is one, and none is twice.
-use Rattle.std.proofs.Common.{◌≡◌, ◌≢◌, inl, inr, ℕ, ◌+◌, ◌<◌, ◌≤◌, Bool, true, false, not, List, [], ◌∷◌, ◌++◌, map, filter, length, Option, Some, None, refl, sym, ap, subst, ◌∙◌, arith}
+use Rattle.std.proofs.Common.{◌≡◌, ◌≢◌, ◌⊎◌, inl, inr, ℕ, nat_eq, ◌+◌, ◌<◌, ◌≤◌, Bool, true, false, not, List, [], ◌∷◌, map, filter, length, Option, Some, None, refl, sym, ap, subst, ◌∙◌, arith}
 use Rattle.std.specs.Prelude.{AllPairs}
 use Rattle.std.proofs.lemmas.Option.{same_Some}
+use Rattle.std.proofs.lemmas.Bool.{eqb-true, eq-eqb}
 use Rattle.std.proofs.lemmas.List.Elements.{filter-append}
 use Rattle.vlsi_base.specs.declared.name.Name.{Name}
 use Rattle.vlsi_base.specs.declared.name.Port.{Port}
 use Rattle.vlsi_base.specs.declared.name.Terminal.{Terminal}
 use Rattle.vlsi_base.specs.Names.{vdd, vss}
 use Rattle.vlsi_base.specs.Member.{In, here, there, AllDifferent}
-use Rattle.machine_meaning.specs.Machine.{Machine, names_of, is_input, input_ports}
-use Rattle.machine_meaning.specs.Named.{is_same_name}
-use Rattle.machine_core.specs.Checked.{IsChecked, IsNoSupply}
+use Rattle.machine_meaning.specs.Machine.{names_of, is_input}
 use Rattle.cell_model.specs.Cell.{Function, gate, flip_flop, other, opaque, Cell, pin_ports, cell_outputs}
 use Rattle.cell_model.specs.Library.{Library, cell_of, IsUsable, IsPlain}
-use Rattle.cell_model.proofs.Members.{All-In, In-split, In-left, In-right, In-map, In-map_back}
+use Rattle.cell_model.proofs.Members.{In-split, In-left, In-right, In-map, In-map_back}
 use Rattle.cell_pins.proofs.Ports.{in_filter}
 use Rattle.net_meaning.specs.Netlist.{Member, Netlist, port, pin_of, IsTerminal, a_port, a_pin}
-use Rattle.net_meaning.specs.Well.{IsDriver, an_input, an_output, IsSpecial, of_vdd, of_vss, of_clock, IsWell}
-use Rattle.net_theory.proofs.Basics.{In-names, In-inputs, In-held}
+use Rattle.net_theory.proofs.Basics.{In-names}
 use Rattle.net_view.proofs.Lists.{filter_in}
 use Rattle.net_view.proofs.Ports.{supplies_differ}
-use Rattle.net_drawing.proofs.Coding.{same_name_true, same_name_itself, same_name_false}
+use Rattle.net_drawing.proofs.Coding.{same_name_false}
 use Rattle.ocp_place.specs.Nets.{is_signal, signal_ports, port_classes, driven_by, driven, is_among, net_classes}
-use Rattle.ocp_place.specs.Orderly.{IsOrderly}
+use Rattle.net_drawing.specs.Shown.{IsSupplyClass, IsOnNet}
+use Rattle.ocp_place.specs.Orderly.{IsOutput, IsSource, from_port, from_output, IsOrderly}
 use Rattle.ocp_place.proofs.Lists.{different_append, different_filter, different_names, first_differs, rest_differs, few, many}
 use Rattle.nero_tracks.proofs.Among.{among_in, in_among}
 
@@ -48,7 +47,13 @@ one_output c (flip_flop data_pin clock_pin) h = h.0
 one_output c (other machine) h = absurd h
 one_output c opaque h = absurd h
 
-module _ (n : Netlist) (l : Library) (m : Machine) (checked : IsChecked m) (well : IsWell n l m) (orderly : IsOrderly n l) where
+same_or_not : (a b : ℕ) → (a ≡ b) ⊎ (a ≡ b → ⊥)
+same_or_not a b = by (nat_eq a b) refl where
+  by : (r : Bool) → nat_eq a b ≡ r → (a ≡ b) ⊎ (a ≡ b → ⊥)
+  by true e = inl (eqb-true a b e)
+  by false e = inr (λ same. let f : true ≡ false = sym (eq-eqb a b same) ∙ e in cc f)
+
+module _ (n : Netlist) (l : Library) (orderly : IsOrderly n l) where
   abbrev test : ℕ → Bool
   test class = not (is_among (port_classes n) class)
 
@@ -57,32 +62,14 @@ module _ (n : Netlist) (l : Library) (m : Machine) (checked : IsChecked m) (well
 
   -- ---- ports
 
-  has_vdd : In vdd n.ports
-  has_vdd = (well.ports vdd).1 (inl refl)
-
-  has_vss : In vss n.ports
-  has_vss = (well.ports vss).1 (inr (inl refl))
-
   port_listed : (name : Name) → In name (signal_ports n) → In (n.class (port name)) (port_classes n)
   port_listed name i = In-map (λ (x : Name). n.class (port x)) name (signal_ports n) i
 
-  machine_port : (name : Name) → In name (names_of m.ports) → In name (signal_ports n)
-  machine_port name i =
-      let free : IsNoSupply name = All-In IsNoSupply (names_of m.ports ++ m.vars) checked.supplies name (In-left name (names_of m.ports) m.vars i) in
-      filter_in is_signal n.ports name ((well.ports name).1 (inr (inr i)))
-      (signal_true name (λ e. free.0 (ap (λ (x : Name). x.text) e)) (λ e. free.1 (ap (λ (x : Name). x.text) e)))
-
-  clock_listed : (name : Name) → m.clock ≡ Some name → In (n.class (port name)) (port_classes n)
-  clock_listed name e =
-      port_listed name (machine_port name (In-names (λ (p : Port). is_input p.dir) m.ports name (In-held name (input_ports m) (checked.clock name e).port)))
-
-  -- what no port ties isn't special
-  plain : (t : Terminal) → IsTerminal n l t → t.pin ≢ vdd → t.pin ≢ vss → is_among (port_classes n) (n.class t) ≡ false → IsSpecial n m t → ⊥
-  plain t is a b none (of_vdd e) = a ((well.high t is).0 e)
-  plain t is a b none (of_vss e) = b ((well.low t is).0 e)
-  plain t is a b none (of_clock name c e) =
-      let i : In (n.class t) (port_classes n) = subst (λ (k : ℕ). In k (port_classes n)) (sym e) (clock_listed name c) in
-      let f : true ≡ false = sym (in_among (port_classes n) (n.class t) i) ∙ none in cc f
+  -- a port in no supply's class is none of a supply
+  signal_port : (name : Name) → In name n.ports → (IsSupplyClass n (n.class (port name)) → ⊥) → In name (signal_ports n)
+  signal_port name i free =
+      filter_in is_signal n.ports name i
+      (signal_true name (λ e. free (inl (ap (λ (x : Name). n.class (port x)) e))) (λ e. free (inr (ap (λ (x : Name). n.class (port x)) e))))
 
   -- ---- output pins
 
@@ -124,45 +111,36 @@ module _ (n : Netlist) (l : Library) (m : Machine) (checked : IsChecked m) (well
 
   usable : (i : Member) (c : Cell) → In i n.instances → cell_of l i.model ≡ Some c → IsUsable c
   usable i c listed found =
-      let r = well.models i listed in
+      let r = orderly.models i listed in
       subst (λ (x : Cell). IsUsable x) (same_Some r.0 c (sym r.1 ∙ found)) r.2
 
-  -- an output pin is a terminal that drives, and no supply
-  pub record IsOutput (i : Member) (c : Cell) (pin : Name) : Type 0 where
-    pub terminal : IsTerminal n l (pin_of i.name pin)
-    pub drives : IsDriver n l m (pin_of i.name pin)
-    pub no_vdd : pin ≢ vdd
-    pub no_vss : pin ≢ vss
+  output : (i : Member) (c : Cell) (pin : Name) → In i n.instances → cell_of l i.model ≡ Some c → In pin (cell_outputs c) → IsOutput n l (pin_of i.name pin)
+  output i c pin listed found out = record { owner = i; cell = c; pin = pin; listed = listed; found = found; gives = out; is = refl }
 
-  output : (i : Member) (c : Cell) (pin : Name) → In i n.instances → cell_of l i.model ≡ Some c → In pin (cell_outputs c) → IsOutput i c pin
-  output i c pin listed found out =
+  output_terminal : (i : Member) (c : Cell) (pin : Name) → In i n.instances → cell_of l i.model ≡ Some c → In pin (cell_outputs c) → IsTerminal n l (pin_of i.name pin)
+  output_terminal i c pin listed found out =
       let known : In pin (names_of (pin_ports c)) = In-names (λ (p : Port). not (is_input p.dir)) (pin_ports c) pin out in
-      let free = (orderly.clean i c listed found).signals pin known in
-      record {
-        terminal = a_pin i c listed found (((usable i c listed found).connectors pin).1 (inr (inr known)));
-        drives = an_output i c (record { listed = listed; found = found }) out;
-        no_vdd = free.0;
-        no_vss = free.1;
-      }
+      a_pin i c listed found (((usable i c listed found).connectors pin).1 (inr (inr known)))
 
   -- ---- each class but the supplies' is that of a net
 
-  driver_listed : (d t : Terminal) → IsDriver n l m d → n.class d ≡ n.class t → is_among (port_classes n) (n.class t) ≡ false → In (n.class t) others
-  driver_listed d t (an_input {name = name} i) e none =
-      let at : In (n.class t) (port_classes n) =
-      subst (λ (k : ℕ). In k (port_classes n)) e (port_listed name (machine_port name (In-inputs m.clock m.ports name i))) in
+  source_listed : (s t : Terminal) → IsSource n l s → n.class s ≡ n.class t → (IsSupplyClass n (n.class t) → ⊥) → is_among (port_classes n) (n.class t) ≡ false → In (n.class t) others
+  source_listed s t (from_port name i is) e free none =
+      let same : n.class (port name) ≡ n.class t = ap n.class (sym is) ∙ e in
+      let signal = signal_port name i (λ x. free (subst (IsSupplyClass n) same x)) in
+      let at : In (n.class t) (port_classes n) = subst (λ (k : ℕ). In k (port_classes n)) same (port_listed name signal) in
       absurd (let f : true ≡ false = sym (in_among (port_classes n) (n.class t) at) ∙ none in cc f)
-  driver_listed d t (an_output {name = name} i c has out) e none =
+  source_listed s t (from_output o) e free none =
       filter_in test (driven n l n.instances) (n.class t)
-      (subst (λ (k : ℕ). In k (driven n l n.instances)) e (driven_member n.instances i c name has.listed has.found out)) (ap not none)
+      (subst (λ (k : ℕ). In k (driven n l n.instances)) (ap n.class (sym o.is) ∙ e) (driven_member n.instances o.owner o.cell o.pin o.listed o.found o.gives)) (ap not none)
 
-  pub listed : (t : Terminal) → IsTerminal n l t → t.pin ≢ vdd → t.pin ≢ vss → In (n.class t) (net_classes n l)
-  listed t is a b = by (is_among (port_classes n) (n.class t)) refl where
+  pub listed : (t : Terminal) → IsOnNet n l t → In (n.class t) (net_classes n l)
+  listed t h = by (is_among (port_classes n) (n.class t)) refl where
     by : (r : Bool) → is_among (port_classes n) (n.class t) ≡ r → In (n.class t) (net_classes n l)
     by true e = In-left (n.class t) (port_classes n) others (among_in (port_classes n) (n.class t) e)
     by false e =
-        let d = well.drivers t is (plain t is a b e) in
-        In-right (n.class t) (port_classes n) others (driver_listed d.driver t d.drives d.joined e)
+        let d = orderly.sources t h.terminal in
+        In-right (n.class t) (port_classes n) others (source_listed d.0 t d.1 d.2 h.free e)
 
   -- ---- and none is twice
 
@@ -170,19 +148,15 @@ module _ (n : Netlist) (l : Library) (m : Machine) (checked : IsChecked m) (well
   ports_differ [] d each = tt
   ports_differ (x ∷ xs) d each = (
     λ i. let r = In-map_back (λ (name : Name). n.class (port name)) (n.class (port x)) xs i in
-        d.0 (subst (λ (y : Name). In y xs) (well.apart r.0 x (each r.0 (there r.1)) (each x here) r.2) r.1),
+        d.0 (subst (λ (y : Name). In y xs) (orderly.apart r.0 x (each r.0 (there r.1)) (each x here) r.2) r.1),
     ports_differ xs d.1 (λ y i. each y (there i)),
   )
 
-  -- two output pins of one class that has no port are one
+  -- two output pins of one class are those of one instance
   one_pin : (i j : Member) (c d : Cell) (p q : Name) → In i n.instances → In j n.instances → cell_of l i.model ≡ Some c → cell_of l j.model ≡ Some d
-      → In p (cell_outputs c) → In q (cell_outputs d) → n.class (pin_of i.name p) ≡ n.class (pin_of j.name q)
-      → is_among (port_classes n) (n.class (pin_of i.name p)) ≡ false → i.name ≡ j.name
-  one_pin i j c d p q li lj fi fj op oq e none =
-      let a = output i c p li fi op in
-      let b = output j d q lj fj oq in
-      let one = well.drivers (pin_of i.name p) a.terminal (plain (pin_of i.name p) a.terminal a.no_vdd a.no_vss none) in
-      let same : pin_of i.name p ≡ pin_of j.name q = one.alone (pin_of i.name p) a.drives refl ∙ sym (one.alone (pin_of j.name q) b.drives (sym e)) in
+      → In p (cell_outputs c) → In q (cell_outputs d) → n.class (pin_of i.name p) ≡ n.class (pin_of j.name q) → i.name ≡ j.name
+  one_pin i j c d p q li lj fi fj op oq e =
+      let same : pin_of i.name p ≡ pin_of j.name q = orderly.outputs (pin_of i.name p) (pin_of j.name q) (output i c p li fi op) (output j d q lj fj oq) e in
       same_Some i.name j.name (ap (λ (t : Terminal). t.instance) same)
 
   own_different : (one : Member) → In one n.instances → (o : Option Cell) → cell_of l one.model ≡ o → AllDifferent (driven_by n one.name o)
@@ -201,19 +175,13 @@ module _ (n : Netlist) (l : Library) (m : Machine) (checked : IsChecked m) (well
       (others_differ rest (λ i j. each i (there j)) (rest_differs one rest names))
       (λ k p q. apart k (in_filter test own k p) (in_filter test more k q)))
     where
-      none_of : (b : Bool) → not b ≡ true → b ≡ false
-      none_of true e = absurd (cc e)
-      none_of false e = refl
-
       apart : (k : ℕ) → In k (driven_by n one.name (cell_of l one.model)) × (test k ≡ true) → In k (driven n l rest) × (test k ≡ true) → ⊥
       apart k p q =
           let a = drives_one one [] k (cell_of l one.model) refl p.0 in
           let b = driven_back rest k q.0 in
           let first : a.member ≡ one = only a.member a.listed in
           let ia : In a.member n.instances = subst (λ (x : Member). In x n.instances) (sym first) (each one here) in
-          let none : is_among (port_classes n) (n.class (pin_of a.member.name a.pin)) ≡ false =
-          ap (is_among (port_classes n)) a.is ∙ none_of (is_among (port_classes n) k) p.1 in
-          let same : a.member.name ≡ b.member.name = one_pin a.member b.member a.cell b.cell a.pin b.pin ia (each b.member (there b.listed)) a.found b.found a.out b.out (a.is ∙ sym b.is) none in
+          let same : a.member.name ≡ b.member.name = one_pin a.member b.member a.cell b.cell a.pin b.pin ia (each b.member (there b.listed)) a.found b.found a.out b.out (a.is ∙ sym b.is) in
           first_differs one rest names b.member b.listed (ap (λ (x : Member). x.name) (sym first) ∙ same)
         where
           only : (i : Member) → In i (one ∷ []) → i ≡ one
@@ -236,42 +204,53 @@ module _ (n : Netlist) (l : Library) (m : Machine) (checked : IsChecked m) (well
 
   -- ---- the supplies' classes are none of them
 
-  -- the class of a net is that of a terminal which is no supply
+  -- the class of a net is that of a terminal, and no supply's
   pub record IsNet (k : ℕ) : Type 0 where
     pub at : Terminal
     pub terminal : IsTerminal n l at
-    pub no_vdd : at.pin ≢ vdd
-    pub no_vss : at.pin ≢ vss
     pub is : n.class at ≡ k
+    pub free : IsSupplyClass n k → ⊥
+
+  pub port_free : (name : Name) → In name (signal_ports n) → IsSupplyClass n (n.class (port name)) → ⊥
+  port_free name i x =
+      let s = in_filter is_signal n.ports name i in
+      let free = signal_so name s.1 in
+      by x s.0 free
+    where
+      by : IsSupplyClass n (n.class (port name)) → In name n.ports → (name ≢ vdd) × (name ≢ vss) → ⊥
+      by (inl e) h f = f.0 (orderly.apart name vdd h orderly.has_vdd e)
+      by (inr e) h f = f.1 (orderly.apart name vss h orderly.has_vss e)
 
   net_of : (k : ℕ) → In k (net_classes n l) → IsNet k
   net_of k h = elim (In-split k (port_classes n) others h) [
     | inl a ↦
         let r = In-map_back (λ (name : Name). n.class (port name)) k (signal_ports n) a in
         let s = in_filter is_signal n.ports r.0 r.1 in
-        let free = signal_so r.0 s.1 in
-        record { at = port r.0; terminal = a_port s.0; no_vdd = free.0; no_vss = free.1; is = r.2 }
+        record { at = port r.0; terminal = a_port s.0; is = r.2; free = subst (λ (c : ℕ). IsSupplyClass n c → ⊥) r.2 (port_free r.0 r.1) }
     | inr b ↦
         let d = (others_back k b).0 in
-        let o = output d.member d.cell d.pin d.listed d.found d.out in
-        record { at = pin_of d.member.name d.pin; terminal = o.terminal; no_vdd = o.no_vdd; no_vss = o.no_vss; is = d.is }
+        let t = pin_of d.member.name d.pin in
+        record {
+          at = t;
+          terminal = output_terminal d.member d.cell d.pin d.listed d.found d.out;
+          is = d.is;
+          free = subst (λ (c : ℕ). IsSupplyClass n c → ⊥) d.is (orderly.free t (output d.member d.cell d.pin d.listed d.found d.out));
+        }
   ]
 
   abbrev all_classes : List ℕ
   all_classes = n.class (port vdd) ∷ n.class (port vss) ∷ net_classes n l
 
-  not_vdd : In (n.class (port vdd)) (net_classes n l) → ⊥
-  not_vdd h = let a = net_of (n.class (port vdd)) h in a.no_vdd ((well.high a.at a.terminal).0 a.is)
-
-  not_vss : In (n.class (port vss)) (net_classes n l) → ⊥
-  not_vss h = let a = net_of (n.class (port vss)) h in a.no_vss ((well.low a.at a.terminal).0 a.is)
+  -- no class of a supply is one of these
+  pub not_net : (k : ℕ) → IsSupplyClass n k → In k (net_classes n l) → ⊥
+  not_net k x h = (net_of k h).free x
 
   all_differ : AllDifferent all_classes
-  all_differ = (first, (not_vss, nets_differ)) where
+  all_differ = (first, (not_net (n.class (port vss)) (inr refl), nets_differ)) where
     first : In (n.class (port vdd)) (n.class (port vss) ∷ net_classes n l) → ⊥
     first h = elim (In-split (n.class (port vdd)) (n.class (port vss) ∷ []) (net_classes n l) h) [
-      | inl a ↦ supplies_differ (well.apart vdd vss has_vdd has_vss (single (n.class (port vdd)) (n.class (port vss)) a))
-      | inr b ↦ not_vdd b
+      | inl a ↦ supplies_differ (orderly.apart vdd vss orderly.has_vdd orderly.has_vss (single (n.class (port vdd)) (n.class (port vss)) a))
+      | inr b ↦ not_net (n.class (port vdd)) (inl refl) b
     ] where
       single : (x y : ℕ) → In x (y ∷ []) → x ≡ y
       single x y here = refl
@@ -283,25 +262,20 @@ module _ (n : Netlist) (l : Library) (m : Machine) (checked : IsChecked m) (well
     | inr b ↦ let r = net_of k b in subst (λ (x : ℕ). x < n.classes) r.is (orderly.counted.numbered r.at r.terminal)
   ] where
     supply_below : (k : ℕ) → In k (n.class (port vdd) ∷ n.class (port vss) ∷ []) → k < n.classes
-    supply_below k here = orderly.counted.numbered (port vdd) (a_port has_vdd)
-    supply_below k (there here) = orderly.counted.numbered (port vss) (a_port has_vss)
+    supply_below k here = orderly.counted.numbered (port vdd) (a_port orderly.has_vdd)
+    supply_below k (there here) = orderly.counted.numbered (port vss) (a_port orderly.has_vss)
     supply_below k (there (there i)) = elim i [ ]
 
   all_there : (k : ℕ) → k < n.classes → In k all_classes
   all_there k low =
       let u = orderly.counted.used k low in
-      by u.0 u.1 u.2 (is_same_name u.0.pin vdd) refl (is_same_name u.0.pin vss) refl
+      by u.0 u.1 u.2 (same_or_not k (n.class (port vdd))) (same_or_not k (n.class (port vss)))
     where
-      differs : (a b : Name) → is_same_name a b ≡ false → a ≢ b
-      differs a b e same = let f : true ≡ false = sym (same_name_itself b) ∙ ap (λ (x : Name). is_same_name x b) (sym same) ∙ e in cc f
-
-      by : (t : Terminal) → IsTerminal n l t → n.class t ≡ k → (a : Bool) → is_same_name t.pin vdd ≡ a → (b : Bool) → is_same_name t.pin vss ≡ b → In k all_classes
-      by t is e true p b q =
-          subst (λ (x : ℕ). In x all_classes) (sym ((well.high t is).1 (same_name_true t.pin vdd p)) ∙ e) here
-      by t is e false p true q =
-          subst (λ (x : ℕ). In x all_classes) (sym ((well.low t is).1 (same_name_true t.pin vss q)) ∙ e) (there here)
-      by t is e false p false q =
-          subst (λ (x : ℕ). In x all_classes) e (there (there (listed t is (differs t.pin vdd p) (differs t.pin vss q))))
+      by : (t : Terminal) → IsTerminal n l t → n.class t ≡ k → (k ≡ n.class (port vdd)) ⊎ (k ≡ n.class (port vdd) → ⊥) → (k ≡ n.class (port vss)) ⊎ (k ≡ n.class (port vss) → ⊥) → In k all_classes
+      by t is e (inl p) q = subst (λ (x : ℕ). In x all_classes) (sym p) here
+      by t is e (inr p) (inl q) = subst (λ (x : ℕ). In x all_classes) (sym q) (there here)
+      by t is e (inr p) (inr q) =
+          subst (λ (x : ℕ). In x all_classes) e (there (there (listed t (record { terminal = is; free = λ x. elim x [ inl a ↦ p (sym e ∙ a) | inr b ↦ q (sym e ∙ b) ] }))))
 
   pub not_more : length (net_classes n l) + 2 ≤ n.classes
   not_more = let h = few n.classes all_classes all_differ all_below in omega (arith, h)

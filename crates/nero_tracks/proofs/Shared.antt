@@ -9,17 +9,14 @@ use Rattle.vlsi_base.specs.declared.name.Name.{Name}
 use Rattle.vlsi_base.specs.Member.{In}
 use Rattle.machine_meaning.specs.Machine.{names_of}
 use Rattle.cell_model.specs.Cell.{Cell, pin_ports}
-use Rattle.cell_model.specs.Usable.{IsFormed}
 use Rattle.cell_model.specs.Access.{Point, access_point}
 use Rattle.cell_checks.specs.Checks.{ColumnsDiffer}
 use Rattle.cell_checks.specs.Points.{point_of}
 use Rattle.cell_checks.specs.declared.points.GridPoint.{GridPoint}
-use Rattle.cell_pins.proofs.Sound.{member_at}
 use Rattle.net_core.specs.Places.{Stands}
 use Rattle.net_core.proofs.Frames.{mapped, unmapped}
 use Rattle.net_view.proofs.Lists.{in_place}
-use Rattle.net_drawing.proofs.Cells.{names_distinct}
-use Rattle.nero_tracks.specs.Columns.{ShareColumn, IsSharedAt, AreAllApart, IsShared}
+use Rattle.nero_tracks.specs.Columns.{ShareColumn, IsSharedAt, AreAllApart, ShareAColumn, IsShared}
 
 -- the point that is kept where a pin is reached here
 a_point : (o : Option GridPoint) (q : Point) → option_map point_of o ≡ Some q → (p : GridPoint) × (o ≡ Some p) × (point_of p ≡ q)
@@ -88,8 +85,8 @@ module _ (c : Cell) (points : List (Option GridPoint)) (are : map (option_map po
           ]
         ]
 
-  pub a_shared_pin : IsFormed c → (j : ℕ) (pin : Name) → Stands names j pin → IsSharedAt points j → IsShared c pin
-  a_shared_pin formed j pin stands s =
+  pub a_shared_pin : (j : ℕ) (pin : Name) → Stands names j pin → IsSharedAt points j → IsShared c pin
+  a_shared_pin j pin stands s =
       let i = s.earlier.0 in
       let low : i < j = let a = s.earlier.2 in let b = length-take j points in omega (arith, a, b) in
       let below : i < length points = let a = s.within in omega (arith, a, low) in
@@ -99,16 +96,30 @@ module _ (c : Cell) (points : List (Option GridPoint)) (are : map (option_map po
       let at_j : Stands points j (Some r.q) = slice_get-get_or points j None s.within ∙ ap Some r.second in
       let a = pin_at i r.p at_i in
       let b = pin_at j r.q at_j in
-      let own : b.0 ≡ pin = same_Some b.0 pin (sym b.1 ∙ stands) in
-      let reached : access_point c pin ≡ Some (point_of r.q) = subst (λ (n : Name). access_point c n ≡ Some (point_of r.q)) own b.2 in
       record {
-        is_pin = member_at names j pin stands;
-        other = a.0;
-        is_other = member_at names i a.0 a.1;
-        differ = λ e. let same : i ≡ j = names_distinct names formed.order i j a.0 pin a.1 stands e in omega (arith, low, same);
-        x = pos r.p.x;
-        y = pos r.p.y;
-        z = pos r.q.y;
-        first = a.2;
-        second = reached ∙ ap (λ (x : ℕ). Some (pos x, pos r.q.y)) (sym r.same);
+        place = j;
+        stands = stands;
+        earlier = i;
+        before = low;
+        shares = record {
+          one = a.0;
+          other = b.0;
+          one_stands = a.1;
+          other_stands = b.1;
+          x = pos r.p.x;
+          y = pos r.p.y;
+          z = pos r.q.y;
+          one_point = a.2;
+          other_point = b.2 ∙ ap (λ (x : ℕ). Some (pos x, pos r.q.y)) (sym r.same);
+        };
+        first = λ p q less under h. none p q less under h;
       }
+    where
+      none : (p q : ℕ) → p < q → q < j → ShareAColumn c p q → ⊥
+      none p q less under h =
+          let u = kept p h.one (h.x, h.y) h.one_stands h.one_point in
+          let v = kept q h.other (h.x, h.z) h.other_stands h.other_point in
+          let same : pos u.0.x ≡ pos v.0.x = ap (λ (r : Point). r.0) u.2 ∙ sym (ap (λ (r : Point). r.0) v.2) in
+          let column : u.0.x ≡ v.0.x = omega (arith, ints, same) in
+          s.first p q None less under
+          (one_column (get_or points p None) (get_or points q None) u.0 v.0 (get_or_from_slice_get points p (Some u.0) None u.1) (get_or_from_slice_get points q (Some v.0) None v.1) column)

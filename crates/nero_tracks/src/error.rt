@@ -11,7 +11,7 @@ use vlsi_base::{Name, Text};
 pub enum TrackError {
     #[error("out of memory")]
     Memory,
-    /// Two pins of a cell in use are reached in one column.
+    /// Two pins of a cell in use are reached in one column: the first such cell, and its first pin in the column of an earlier one.
     #[error("no column")]
     NoColumn { cell: Text, pin: Name },
 }

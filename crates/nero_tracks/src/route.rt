@@ -84,9 +84,10 @@ fn track_span(ends: &[Site], ports: usize, k: usize) -> Option<(u64, u64)>
 }
 
 /// The tracks of all nets, by their numbers: first the nets of the ports without the supplies, in the order of names, then one for
-/// each other output pin, in the order of instances. It is refused by `NoColumn` exactly where two pins of a cell in use are reached
-/// in one column, which never comes with a library that was checked for tracks. Takes memory for each net, for each model and for
-/// the shapes of a cell, and time for each terminal and, once for each cell in use, for its grid at each of its pins.
+/// each other output pin, in the order of instances. A pin that is tied to vdd or vss is on none of them. It is refused by `NoColumn`
+/// exactly where two pins of a cell in use are reached in one column, which never comes with a library that was checked for tracks:
+/// by the first such cell in the order of models, and its first pin in the column of an earlier one. Takes memory for each net, for
+/// each model and for the shapes of a cell, and time for each terminal and, once for each cell in use, for its grid at each of its pins.
 pub fn route_tracks(
     alloc: Global,
     placement: &Placement,

@@ -3,25 +3,23 @@ use Rattle.std.proofs.Common.{◌≡◌, ℕ, ◌<◌, ◌⊎◌, inl, inr, ⊎_
 use Rattle.std.specs.Prelude.{◌↔◌}
 use Rattle.std.proofs.lemmas.Int.{ints}
 use Rattle.vlsi_base.specs.declared.name.Name as name
-use Rattle.vlsi_base.specs.declared.name.Terminal as terminal
 use Rattle.sym_geom.specs.Rect.{Within, Near, Apart}
 use Rattle.sym_geom.specs.declared.rect.Rect.{Rect}
 use Rattle.vlsi_base.specs.Member as member
 use Rattle.sym_shapes.specs.Shape as shape
 use Rattle.sym_shapes.specs.Joined as joined
 use Rattle.cell_model.specs.Layout as layout
-use Rattle.net_meaning.specs.Netlist as netlist
 use Rattle.net_meaning.specs.Breaches as breaches
 use Rattle.sym_shapes.proofs.Labels.{first_In, last_In}
 use Rattle.net_geom.specs.Figure.{Shape, Name, Power, Bit, In}
 use Rattle.net_geom.specs.Joined.{Linked, touching, one_line, one_name, Joined, same, link}
-use Rattle.net_geom.specs.Block.{Block, Terminal, AtPort, AtPin, Exists, IsOf, AreJoined, shapes, terminal_at}
+use Rattle.net_geom.specs.Block.{Block, Terminal, AtPort, AtPin, Exists, net_of, IsOf, AreJoined, shapes, terminal_at}
 use Rattle.net_geom.specs.Breach.{IsExcused, one_instance, in_connector, connector_of, joined_first, joined_second, first_within, second_within, HasNoBreach}
 use Rattle.net_geom.proofs.TracksAll.{IsKnown, known}
 use Rattle.net_geom.specs.Tracks.{block_lines}
 use Rattle.net_geom.proofs.TracksAll.{tracks_join}
 use Rattle.net_geom.proofs.TracksClean.{tracks_clean}
-use Rattle.net_drawing.specs.Picture.{option_map, shown, terminal_of, AreApart, PicturesExtract}
+use Rattle.net_drawing.specs.Picture.{option_map, shown, terminal_of, AreApart, PicturesJoin}
 
 pub In_shown_cases : (g : Shape → shape.Shape) (ys : List Shape) (x : shape.Shape) → member.In x (map g ys) → (s : Shape) × In s ys × (x ≡ g s)
 In_shown_cases g [] x h = elim h [ ]
@@ -206,19 +204,12 @@ module _ (b : Block) (own : ℕ → List ℕ) (call : Option ℕ → Name → na
   pub no_gap : HasNoBreach ys → member.Picks (λ (p : shape.Shape × shape.Shape). breaches.AreTooNear (map (shown own call) ys) p.0 p.1) (member.pairs (map (shown own call) ys)) []
   no_gap ok = picks_none (λ (p : shape.Shape × shape.Shape). breaches.AreTooNear (map (shown own call) ys) p.0 p.1) (member.pairs (map (shown own call) ys)) (λ p h. let r = In_pairs (map (shown own call) ys) p h in not_too_near ok p.0 p.1 r.0 r.1)
 
-pub pictures_extract : PicturesExtract
-pictures_extract items l n b lo hi own call pic =
+pub pictures_join : PicturesJoin
+pictures_join items l b lo hi own call pic =
     let ys = shapes b (block_lines b lo hi) in
     let all_known = known b lo hi pic.sound pic.tracks in
-    let join = tracks_join b lo hi pic.sound pic.tracks in
     let clean = tracks_clean b lo hi pic.sound pic.tracks in (
-      record {
-        ports = pic.ports;
-        instances = pic.instances;
-        classes = λ x y hx hy. classes x y hx hy;
-        numbered = pic.numbered;
-        used = pic.used;
-      },
+      λ t u ht hu. nets t u ht hu,
       record {
         narrow = [];
         near = [];
@@ -228,21 +219,13 @@ pictures_extract items l n b lo hi own call pic =
       },
     )
   where
-    classes : (x y : terminal.Terminal) → netlist.IsTerminal n l x → netlist.IsTerminal n l y → (n.class x ≡ n.class y) ↔ ((x ≡ y) ⊎ joined.AreJoined (layout.shapes items l) x y)
-    classes x y hx hy =
+    nets : (t u : Terminal) → Exists b t → Exists b u → (net_of b t ≡ net_of b u) ↔ joined.AreJoined (layout.shapes items l) (terminal_of own call t) (terminal_of own call u)
+    nets t u ht hu =
         let ys = shapes b (block_lines b lo hi) in
         let all_known = known b lo hi pic.sound pic.tracks in
-        let join = tracks_join b lo hi pic.sound pic.tracks in
-        let t = pic.terminals x hx in
-        let u = pic.terminals y hy in
-        let nets = pic.nets t.0 u.0 t.1 u.1 in (
-          λ e. let a : n.class (terminal_of own call t.0) ≡ n.class (terminal_of own call u.0) = sym (ap n.class t.2) ∙ e ∙ ap n.class u.2 in
-              let j = terminals_up b own call pic.apart ys all_known t.0 u.0 (join.all t.0 u.0 t.1 u.1 (nets.0 a)) in
-              inr (subst (λ (xs : List shape.Shape). joined.AreJoined xs x y) (sym pic.shapes) (subst (λ v. joined.AreJoined (map (shown own call) ys) v y) (sym t.2) (subst (λ v. joined.AreJoined (map (shown own call) ys) (terminal_of own call t.0) v) (sym u.2) j))),
-          λ c. ⊎_elim (λ e. ap n.class e)
-              (λ j. let j1 : joined.AreJoined (map (shown own call) ys) x y = subst (λ (xs : List shape.Shape). joined.AreJoined xs x y) pic.shapes j in
-              let j2 : joined.AreJoined (map (shown own call) ys) (terminal_of own call t.0) y = subst (λ v. joined.AreJoined (map (shown own call) ys) v y) t.2 j1 in
-              let j3 : joined.AreJoined (map (shown own call) ys) (terminal_of own call t.0) (terminal_of own call u.0) = subst (λ v. joined.AreJoined (map (shown own call) ys) (terminal_of own call t.0) v) u.2 j2 in
-              ap n.class t.2 ∙ nets.1 (join.only t.0 u.0 t.1 u.1 (terminals_down b own call pic.apart ys all_known t.0 u.0 t.1 u.1 j3)) ∙ sym (ap n.class u.2))
-              c,
+        let join = tracks_join b lo hi pic.sound pic.tracks in (
+          λ e. subst (λ (xs : List shape.Shape). joined.AreJoined xs (terminal_of own call t) (terminal_of own call u)) (sym pic.shapes)
+              (terminals_up b own call pic.apart ys all_known t u (join.all t u ht hu e)),
+          λ j. join.only t u ht hu (terminals_down b own call pic.apart ys all_known t u ht hu
+              (subst (λ (xs : List shape.Shape). joined.AreJoined xs (terminal_of own call t) (terminal_of own call u)) pic.shapes j)),
         )

@@ -1,5 +1,5 @@
 -- The drawing of a netlist that may be drawn gives it, and breaks no rule.
-use Rattle.std.proofs.Common.{◌≡◌, ◌≢◌, ℕ, ◌<◌, ◌⊎◌, inl, inr, ⊎_elim, Bool, true, false, List, [], ◌∷◌, map, length, Option, Some, None, refl, sym, ap, ◌∙◌, subst, arith}
+use Rattle.std.proofs.Common.{◌≡◌, ◌≢◌, ℕ, ◌+◌, ◌<◌, ◌≤◌, ◌⊎◌, inl, inr, ⊎_elim, Bool, true, false, List, [], ◌∷◌, map, length, Option, Some, None, refl, sym, ap, ◌∙◌, subst, arith}
 use Rattle.std.specs.Prelude.{ℤ, pos, ◌+ℤ◌, slice_get, slice_index_or, AllPairs, IsTrue, ◌↔◌}
 use Rattle.std.proofs.lemmas.Bool.{cases_lt}
 use Rattle.std.proofs.lemmas.Option.{slice_get_within, get_or_from_slice_get}
@@ -12,25 +12,29 @@ use Rattle.sym_geom.specs.declared.item.Instance.{Instance}
 use Rattle.vlsi_base.specs.Member.{In, here, there}
 use Rattle.vlsi_base.specs.Names.{comes_before}
 use Rattle.sym_shapes.specs.Shape.{connector_names}
+use Rattle.sym_shapes.specs.Joined.{AreJoined}
+use Rattle.cell_model.specs.Layout as layout
 use Rattle.cell_model.specs.Cell.{pin_ports}
 use Rattle.cell_model.specs.Cell as cells
 use Rattle.cell_model.specs.Library.{Library, cell_of}
 use Rattle.net_meaning.specs.Netlist.{Member, Netlist, port, pin_of, IsTerminal, a_port, a_pin}
 use Rattle.vlsi_base.specs.Names.{vdd, vss}
-use Rattle.ocp_rows.specs.Placement.{model_width, standing, IsPlaced}
+use Rattle.ocp_rows.specs.Placement.{model_width, standing, net_count, IsPlaced}
 use Rattle.net_geom.specs.Figure.{Vss, Vdd, Name, Power, Bit}
 use Rattle.net_geom.specs.Block as block
-use Rattle.net_geom.specs.Block.{Cell, Net, PowerNet, Signal, AtPort, AtPin, Exists, net_of, terminal_at}
-use Rattle.net_drawing.specs.Picture.{terminal_of, IsPictureOf}
+use Rattle.net_geom.specs.Tracks.{HasTracks}
+use Rattle.net_geom.specs.Block.{Block, Cell, Net, PowerNet, Signal, AtPort, AtPin, Exists, net_of, terminal_at}
+use Rattle.net_drawing.specs.Picture.{terminal_of, IsPictureOf, JoinsNets}
+use Rattle.net_drawing.specs.Shown.{IsSupply, IsSupplyClass, IsOnNet, IsTied, ShowsNetlist}
 use Rattle.net_drawing.specs.Drawing.{Numbering, track_items, IsDrawable}
 use Rattle.net_drawing.proofs.Coding.{In_get, get_In, get_there, name_or, code, decode, same_name_true, same_name_itself}
 use Rattle.net_drawing.proofs.Cells.{code_at}
-use Rattle.net_drawing.proofs.Numbers.{low, high, own, call, block_of, model_of, member_there, cell_is, pins_are, own_is, sound}
+use Rattle.net_drawing.proofs.Numbers.{low, high, own, call, pins_before, block_of, number_low, number_beyond, model_of, member_there, cell_is, pins_are, own_is, sound}
 use Rattle.net_drawing.proofs.Tracked.{pin_is, net_is, pin_there, pin_listed, pin_signal, port_there, has_tracks}
 use Rattle.net_drawing.specs.Drawing.{wiring}
 use Rattle.net_drawing.specs.Law.{one_row, track_box, DrawingsAreRight}
 use Rattle.net_drawing.proofs.Pieces.{wires_all}
-use Rattle.net_drawing.proofs.Bridge.{pictures_extract}
+use Rattle.net_drawing.proofs.Bridge.{pictures_join}
 use Rattle.std.specs.List.Sorted.{IsPermutation}
 use Rattle.std.proofs.lemmas.List.{append-nil}
 use Rattle.std.proofs.lemmas.List.Sorted.{IsPermutation-refl}
@@ -80,40 +84,36 @@ head_or : (m x : name.Name) (xs : List name.Name) → In m (x ∷ xs) → (m ≡
 head_or m x xs here = inl refl
 head_or m x xs (there h) = inr h
 
--- what a terminal of a net is
-data About (n : Netlist) (net : Numbering) (t : terminal.Terminal) : Net → Type 0 where
+-- what a terminal with this net in the block is
+pub data About (n : Netlist) (net : Numbering) (t : terminal.Terminal) : Net → Type 0 where
   at_vdd : t.pin ≡ vdd → About n net t (PowerNet Vdd)
   at_vss : t.pin ≡ vss → About n net t (PowerNet Vss)
-  at_net : {k : ℕ} → t.pin ≢ vdd → t.pin ≢ vss → net (n.class t) ≡ k → About n net t (Signal k)
+  on_net : {k : ℕ} → (IsSupply t.pin → ⊥) → net (n.class t) < net_count n → net (n.class t) ≡ k → About n net t (Signal k)
+  past : {k : ℕ} → (IsSupply t.pin → ⊥) → net_count n ≤ net (n.class t) → net_count n ≤ k → About n net t (Signal k)
 
 abbrev number_of : Net → ℕ
 number_of (PowerNet u) = 0
 number_of (Signal k) = k
 
+no_supply : (m : name.Name) → (m ≢ vdd) × (m ≢ vss) → IsSupply m → ⊥
+no_supply m f (inl e) = f.0 e
+no_supply m f (inr e) = f.1 e
+
+-- a terminal of a block whose number is past the nets is the only one with it
+only_one : (b : Block) (lo hi : ℕ → ℕ) → HasTracks b lo hi → (t u : block.Terminal) (k : ℕ) → Exists b t → Exists b u → net_of b t ≡ Signal k → b.nets ≤ k → net_of b t ≡ net_of b u → t ≡ u
+only_one b lo hi tracks (AtPort (Power s)) u k ht hu e le f = absurd (cc e)
+only_one b lo hi tracks (AtPort (Bit q)) u k ht hu e le f = absurd (let a = tracks.port_nets q ht in let g : b.port_net q ≡ k = ap number_of e in omega (arith, a, g, le))
+only_one b lo hi tracks (AtPin i (Power s)) u k ht hu e le f = absurd (cc e)
+only_one b lo hi tracks (AtPin i (Bit p)) (AtPort (Power s)) k ht hu e le f = absurd (cc f)
+only_one b lo hi tracks (AtPin i (Bit p)) (AtPort (Bit q)) k ht hu e le f =
+    absurd (let a = tracks.port_nets q hu in let g : b.net i p ≡ k = ap number_of e in let h : b.net i p ≡ b.port_net q = ap number_of f in omega (arith, a, g, h, le))
+only_one b lo hi tracks (AtPin i (Bit p)) (AtPin j (Power s)) k ht hu e le f = absurd (cc f)
+only_one b lo hi tracks (AtPin i (Bit p)) (AtPin j (Bit q)) k ht hu e le f =
+    let g : b.net i p ≡ k = ap number_of e in
+    let s = tracks.off i p j q ht.0 ht.1 hu.0 hu.1 (omega (arith, g, le)) (ap number_of f) in
+    ap (λ v. AtPin v (Bit p)) s.0 ∙ ap (λ v. AtPin j (Bit v)) s.1
+
 module _ (n : Netlist) (l : Library) (net : Numbering) (ports : List name.Name) (ok : IsDrawable n l net ports) where
-  -- ---- nets
-  forward : (t u : terminal.Terminal) (a b : Net) → IsTerminal n l t → IsTerminal n l u → About n net t a → About n net u b → n.class t ≡ n.class u → a ≡ b
-  forward t u a b ht hu (at_vdd p) (at_vdd q) e = refl
-  forward t u a b ht hu (at_vss p) (at_vss q) e = refl
-  forward t u a b ht hu (at_vdd p) (at_vss q) e = absurd (vdd_vss (sym ((ok.high u hu).0 (sym e ∙ (ok.high t ht).1 p)) ∙ q))
-  forward t u a b ht hu (at_vss p) (at_vdd q) e = absurd (vdd_vss (sym q ∙ (ok.low u hu).0 (sym e ∙ (ok.low t ht).1 p)))
-  forward t u a b ht hu (at_vdd p) (at_net f g h) e = absurd (f ((ok.high u hu).0 (sym e ∙ (ok.high t ht).1 p)))
-  forward t u a b ht hu (at_vss p) (at_net f g h) e = absurd (g ((ok.low u hu).0 (sym e ∙ (ok.low t ht).1 p)))
-  forward t u a b ht hu (at_net f g h) (at_vdd q) e = absurd (f ((ok.high t ht).0 (e ∙ (ok.high u hu).1 q)))
-  forward t u a b ht hu (at_net f g h) (at_vss q) e = absurd (g ((ok.low t ht).0 (e ∙ (ok.low u hu).1 q)))
-  forward t u a b ht hu (at_net f g h) (at_net f2 g2 h2) e = ap Signal (sym h ∙ ap net e ∙ h2)
-
-  backward : (t u : terminal.Terminal) (a b : Net) → IsTerminal n l t → IsTerminal n l u → About n net t a → About n net u b → a ≡ b → n.class t ≡ n.class u
-  backward t u a b ht hu (at_vdd p) (at_vdd q) e = (ok.high t ht).1 p ∙ sym ((ok.high u hu).1 q)
-  backward t u a b ht hu (at_vss p) (at_vss q) e = (ok.low t ht).1 p ∙ sym ((ok.low u hu).1 q)
-  backward t u a b ht hu (at_vdd p) (at_vss q) e = absurd (cc e)
-  backward t u a b ht hu (at_vss p) (at_vdd q) e = absurd (cc e)
-  backward t u a b ht hu (at_vdd p) (at_net f g h) e = absurd (cc e)
-  backward t u a b ht hu (at_vss p) (at_net f g h) e = absurd (cc e)
-  backward t u a b ht hu (at_net f g h) (at_vdd q) e = absurd (cc e)
-  backward t u a b ht hu (at_net f g h) (at_vss q) e = absurd (cc e)
-  backward t u a b ht hu (at_net f g h) (at_net f2 g2 h2) e = ok.one_class t u ht hu f g f2 g2 (h ∙ ap number_of e ∙ sym h2)
-
   -- ---- terminals
   abbrev Stands : terminal.Terminal → Net → Type 0
   Stands t k = IsTerminal n l t × About n net t k
@@ -124,7 +124,7 @@ module _ (n : Netlist) (l : Library) (net : Numbering) (ports : List name.Name) 
   about (AtPort (Bit k)) h =
       let r = get_there ports k h in let t = port_there n l net ports ok k r.0 r.1 in
       let e : port r.0 ≡ port (name_or (slice_get ports k)) = ap (λ o. port (name_or o)) (sym r.1) in
-      subst (λ v. IsTerminal n l v × About n net v (Signal k)) e (t.0, at_net t.1 t.2 (ok.port_nets k r.0 r.1))
+      subst (λ v. IsTerminal n l v × About n net v (Signal k)) e (t.terminal, on_net (no_supply r.0 (let q = (ok.port_names r.0).0 (In_get ports k r.0 r.1) in (q.1, q.2))) (ok.below (port r.0) t) (ok.port_nets k r.0 r.1))
   about (AtPin i (Power Vdd)) h =
       let r = member_there n l net ports ok i h in
       let e : pin_of r.0.name vdd ≡ pin_of (own n i) vdd = ap (λ v. pin_of v vdd) (sym (own_is n l net ports ok i r.0 r.1)) in
@@ -135,9 +135,18 @@ module _ (n : Netlist) (l : Library) (net : Numbering) (ports : List name.Name) 
       subst (λ v. IsTerminal n l v × About n net v (PowerNet Vss)) e (a_pin r.0 r.2.cell (In_get n.instances i r.0 r.1) r.2.found ((r.2.usable.connectors vss).1 (inr (inl refl))), at_vss refl)
   about (AtPin i (Bit p)) h =
       let r = pin_there n l net ports ok i p h.0 h.1 in
-      let s = pin_signal n l net ports ok i p r.0 r.1 r.2 r.3 in
-      subst (λ v. IsTerminal n l v × About n net v (Signal ((block_of n l net ports).net i p))) (sym (pin_is n l net ports ok i p r.0 r.1 r.2 r.3))
-      (pin_listed n l net ports ok i p r.0 r.1 r.2 r.3, at_net s.0 s.1 (sym (net_is n l net ports ok i p r.0 r.1 r.2 r.3)))
+      let b = block_of n l net ports in
+      let s = no_supply r.2 (pin_signal n l net ports ok i p r.0 r.1 r.2 r.3) in
+      let k = net (n.class (pin_of r.0.name r.2)) in
+      let own = pins_before l 0 n.instances i + p in
+      let e = net_is n l net ports ok i p r.0 r.1 r.2 r.3 in
+      subst (λ v. IsTerminal n l v × About n net v (Signal ((block_of n l net ports).net i p))) (sym (pin_is n l net ports ok i p r.0 r.1 r.2 r.3)) (
+        pin_listed n l net ports ok i p r.0 r.1 r.2 r.3,
+        ⊎_elim
+            (λ lt. on_net s lt (sym (e ∙ number_low (net_count n) k own lt)))
+            (λ ge. past s ge (subst (λ v. net_count n ≤ v) (sym e) (number_beyond (net_count n) k own ge)))
+            (cases_lt k (net_count n)),
+      )
 
   abbrev Found : terminal.Terminal → Type 0
   Found t = (u : block.Terminal) × Exists (block_of n l net ports) u × (t ≡ terminal_of (own n) (call n l ports) u)
@@ -227,21 +236,137 @@ standing_back : (l : Library) (x : ℤ) (ms : List Member) → ms ≡ map (λ (i
 standing_back l x [] = refl
 standing_back l x (one ∷ rest) = ap (λ v. one ∷ v) (standing_back l (x +ℤ model_width l one.model) rest)
 
-pub picture : (n : Netlist) (l : Library) (net : Numbering) (ports : List name.Name) → IsDrawable n l net ports → IsPictureOf (track_items n l net ports) l n (block_of n l net ports) (low n l net ports) (high n l net ports) (own n) (call n l ports)
+pub picture : (n : Netlist) (l : Library) (net : Numbering) (ports : List name.Name) → IsDrawable n l net ports → IsPictureOf (track_items n l net ports) l (block_of n l net ports) (low n l net ports) (high n l net ports) (own n) (call n l ports)
 picture n l net ports ok = record {
   sound = sound n l net ports ok;
   tracks = has_tracks n l net ports ok;
   apart = record { owners = owners_apart n l net ports ok; names = names_apart n l net ports ok };
   shapes = its_shapes n l net ports ok;
-  terminals = found n l net ports ok;
-  nets = λ t u ht hu.
-      let a = about n l net ports ok t ht in let b = about n l net ports ok u hu in
-      (λ e. forward n l net ports ok _ _ _ _ a.0 b.0 a.1 b.1 e, λ e. backward n l net ports ok _ _ _ _ a.0 b.0 a.1 b.1 e);
-  ports = ports_said n l net ports ok;
-  instances = standing_back l (pos 1500) n.instances ∙ ap (map (λ (i : Instance). record { name = i.name; model = i.model })) (sym (its_instances n l net ports ok));
-  numbered = ok.numbered;
-  used = ok.used;
 }
+
+module _ (n : Netlist) (l : Library) (net : Numbering) (ports : List name.Name) (ok : IsDrawable n l net ports) where
+  abbrev Joins : terminal.Terminal → terminal.Terminal → Type 0
+  Joins t u = AreJoined (layout.shapes (track_items n l net ports) l) t u
+
+  -- where a terminal of the netlist stands in the block
+  pub record IsAt (t : terminal.Terminal) : Type 0 where
+    pub at : block.Terminal
+    pub there : Exists (block_of n l net ports) at
+    pub is : t ≡ terminal_of (own n) (call n l ports) at
+    pub about : About n net t (net_of (block_of n l net ports) at)
+
+  place : (t : terminal.Terminal) → IsTerminal n l t → IsAt t
+  place t h =
+      let r = found n l net ports ok t h in
+      record { at = r.0; there = r.1; is = r.2; about = subst (λ v. About n net v (net_of (block_of n l net ports) r.0)) (sym r.2) (about n l net ports ok r.0 r.1).1 }
+
+  joins : JoinsNets (track_items n l net ports) l (block_of n l net ports) (own n) (call n l ports)
+  joins = (pictures_join (track_items n l net ports) l (block_of n l net ports) (low n l net ports) (high n l net ports) (own n) (call n l ports) (picture n l net ports ok)).0
+
+  -- two terminals are joined exactly where their places have one net
+  joined_so : (t u : terminal.Terminal) (p : IsAt t) (q : IsAt u) → net_of (block_of n l net ports) p.at ≡ net_of (block_of n l net ports) q.at → Joins t u
+  joined_so t u p q e =
+      subst (λ v. Joins v u) (sym p.is)
+      (subst (λ v. Joins (terminal_of (own n) (call n l ports) p.at) v) (sym q.is) ((joins p.at q.at p.there q.there).0 e))
+
+  one_net : (t u : terminal.Terminal) (p : IsAt t) (q : IsAt u) → Joins t u → net_of (block_of n l net ports) p.at ≡ net_of (block_of n l net ports) q.at
+  one_net t u p q j =
+      (joins p.at q.at p.there q.there).1
+      (subst (λ v. Joins (terminal_of (own n) (call n l ports) p.at) v) q.is (subst (λ v. Joins v u) p.is j))
+
+  -- ---- on nets
+  net_on : (t : terminal.Terminal) (k : Net) → About n net t k → IsOnNet n l t → k ≡ Signal (net (n.class t))
+  net_on t k (at_vdd p) h = absurd (h.free (inl (ok.high t h.terminal p)))
+  net_on t k (at_vss p) h = absurd (h.free (inr (ok.low t h.terminal p)))
+  net_on t k (on_net f lt e) h = ap Signal (sym e)
+  net_on t k (past f ge g) h = absurd (let lt = ok.below t h in omega (arith, lt, ge))
+
+  -- what has the net of such a terminal is one
+  on_back : (t u : terminal.Terminal) (k : Net) → About n net u k → IsTerminal n l u → IsOnNet n l t → Signal (net (n.class t)) ≡ k → n.class t ≡ n.class u
+  on_back t u k (at_vdd p) hu h e = absurd (cc e)
+  on_back t u k (at_vss p) hu h e = absurd (cc e)
+  on_back t u k (on_net f lt g) hu h e =
+      let free : IsSupplyClass n (n.class u) → ⊥ = λ s. let ge = ok.past (n.class u) s in omega (arith, lt, ge) in
+      ok.one_class t u h (record { terminal = hu; free = free }) (ap number_of e ∙ sym g)
+  on_back t u k (past {k = j} f ge g) hu h e = absurd (let lt = ok.below t h in let s : net (n.class t) ≡ j = ap number_of e in omega (arith, lt, g, s))
+
+  nets : (t u : terminal.Terminal) → IsOnNet n l t → IsTerminal n l u → (n.class t ≡ n.class u) ↔ ((t ≡ u) ⊎ Joins t u)
+  nets t u ht hu =
+      let p = place t ht.terminal in let q = place u hu in
+      let a = net_on t (net_of (block_of n l net ports) p.at) p.about ht in (
+        λ e. let other : IsOnNet n l u = record { terminal = hu; free = λ s. ht.free (subst (IsSupplyClass n) (sym e) s) } in
+            inr (joined_so t u p q (a ∙ ap (λ c. Signal (net c)) e ∙ sym (net_on u (net_of (block_of n l net ports) q.at) q.about other))),
+        λ c. ⊎_elim (λ e. ap n.class e) (λ j. on_back t u (net_of (block_of n l net ports) q.at) q.about hu ht (sym a ∙ one_net t u p q j)) c,
+      )
+
+  -- ---- tied pins
+  net_past : (t : terminal.Terminal) (k : Net) → About n net t k → IsTied n l t → (j : ℕ) × (k ≡ Signal j) × (net_count n ≤ j)
+  net_past t k (at_vdd p) h = absurd (h.signal (inl p))
+  net_past t k (at_vss p) h = absurd (h.signal (inr p))
+  net_past t k (on_net f lt e) h = absurd (let ge = ok.past (n.class t) h.tied in omega (arith, lt, ge))
+  net_past t k (past {k = j} f ge g) h = (j, refl, g)
+
+  tied : (t u : terminal.Terminal) → IsTied n l t → IsTerminal n l u → Joins t u → u ≡ t
+  tied t u ht hu j =
+      let p = place t ht.terminal in let q = place u hu in
+      let a = net_past t (net_of (block_of n l net ports) p.at) p.about ht in
+      let e = only_one (block_of n l net ports) (low n l net ports) (high n l net ports) (has_tracks n l net ports ok) p.at q.at a.0 p.there q.there a.1 a.2 (one_net t u p q j) in
+      q.is ∙ ap (terminal_of (own n) (call n l ports)) (sym e) ∙ sym p.is
+
+  -- ---- supplies
+  vdd_net : (t : terminal.Terminal) (k : Net) → About n net t k → t.pin ≡ vdd → k ≡ PowerNet Vdd
+  vdd_net t k (at_vdd p) e = refl
+  vdd_net t k (at_vss p) e = absurd (vdd_vss (sym e ∙ p))
+  vdd_net t k (on_net f lt g) e = absurd (f (inl e))
+  vdd_net t k (past f ge g) e = absurd (f (inl e))
+
+  vss_net : (t : terminal.Terminal) (k : Net) → About n net t k → t.pin ≡ vss → k ≡ PowerNet Vss
+  vss_net t k (at_vdd p) e = absurd (vdd_vss (sym p ∙ e))
+  vss_net t k (at_vss p) e = refl
+  vss_net t k (on_net f lt g) e = absurd (f (inr e))
+  vss_net t k (past f ge g) e = absurd (f (inr e))
+
+  net_vdd : (t : terminal.Terminal) (k : Net) → About n net t k → PowerNet Vdd ≡ k → t.pin ≡ vdd
+  net_vdd t k (at_vdd p) e = p
+  net_vdd t k (at_vss p) e = absurd (cc e)
+  net_vdd t k (on_net f lt g) e = absurd (cc e)
+  net_vdd t k (past f ge g) e = absurd (cc e)
+
+  net_vss : (t : terminal.Terminal) (k : Net) → About n net t k → PowerNet Vss ≡ k → t.pin ≡ vss
+  net_vss t k (at_vdd p) e = absurd (cc e)
+  net_vss t k (at_vss p) e = p
+  net_vss t k (on_net f lt g) e = absurd (cc e)
+  net_vss t k (past f ge g) e = absurd (cc e)
+
+  supplied : (t u : terminal.Terminal) → IsTerminal n l t → IsTerminal n l u → IsSupply t.pin → (u.pin ≡ t.pin) ↔ Joins t u
+  supplied t u ht hu s = by s
+    where
+      p : IsAt t
+      p = place t ht
+
+      q : IsAt u
+      q = place u hu
+
+      by : IsSupply t.pin → (u.pin ≡ t.pin) ↔ Joins t u
+      by (inl e) =
+          let a = vdd_net t (net_of (block_of n l net ports) p.at) p.about e in (
+            λ f. joined_so t u p q (a ∙ sym (vdd_net u (net_of (block_of n l net ports) q.at) q.about (f ∙ e))),
+            λ j. net_vdd u (net_of (block_of n l net ports) q.at) q.about (sym a ∙ one_net t u p q j) ∙ sym e,
+          )
+      by (inr e) =
+          let a = vss_net t (net_of (block_of n l net ports) p.at) p.about e in (
+            λ f. joined_so t u p q (a ∙ sym (vss_net u (net_of (block_of n l net ports) q.at) q.about (f ∙ e))),
+            λ j. net_vss u (net_of (block_of n l net ports) q.at) q.about (sym a ∙ one_net t u p q j) ∙ sym e,
+          )
+
+  pub shows : ShowsNetlist (track_items n l net ports) l n
+  shows = record {
+    ports = ports_said n l net ports ok;
+    instances = standing_back l (pos 1500) n.instances ∙ ap (map (λ (i : Instance). record { name = i.name; model = i.model })) (sym (its_instances n l net ports ok));
+    nets = nets;
+    tied = tied;
+    supplies = supplied;
+  }
 
 its_place : (n : Netlist) (l : Library) (net : Numbering) (ports : List name.Name) → IsDrawable n l net ports → IsPlaced (track_box n l) (track_items n l net ports) n l (one_row n ports)
 its_place n l net ports ok = record {
@@ -258,5 +383,5 @@ its_place n l net ports ok = record {
 
 pub drawings_are_right : DrawingsAreRight
 drawings_are_right n l net ports ok =
-    let r = pictures_extract (track_items n l net ports) l n (block_of n l net ports) (low n l net ports) (high n l net ports) (own n) (call n l ports) (picture n l net ports ok) in
-    (r.0, r.1, its_place n l net ports ok)
+    let r = pictures_join (track_items n l net ports) l (block_of n l net ports) (low n l net ports) (high n l net ports) (own n) (call n l ports) (picture n l net ports ok) in
+    (shows n l net ports ok, r.1, its_place n l net ports ok)

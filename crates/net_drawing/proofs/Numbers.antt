@@ -1,8 +1,9 @@
 -- The block by numbers of a netlist that may be drawn.
 use Rattle.std.proofs.Common.{◌≡◌, ℕ, zero, suc, ◌+◌, ◌*◌, ◌<◌, ◌≤◌, inl, inr, ⊎_elim, Bool, true, false, List, [], ◌∷◌, ◌++◌, length, Option, Some, None, sym, ap, ◌∙◌, subst, arith}
-use Rattle.std.specs.Prelude.{ℤ, pos, ◌+ℤ◌, ◌-ℤ◌, slice_get, ◌/◌}
+use Rattle.std.specs.Prelude.{ℤ, pos, ◌+ℤ◌, ◌-ℤ◌, slice_get, ◌/◌, nat_lt, nat_eq, if◌then◌else◌}
 use Rattle.std.proofs.lemmas.Int.{ints}
-use Rattle.std.proofs.lemmas.Bool.{cases_lt}
+use Rattle.std.proofs.lemmas.Bool.{cases_lt, cond-true, cond-false, eqb-true, false_from_ne_true}
+use Rattle.std.proofs.lemmas.Bool.Decides.{nat_tests}
 use Rattle.vlsi_base.specs.declared.name.Name as name
 use Rattle.vlsi_base.specs.declared.name.Terminal.{Terminal}
 use Rattle.machine_meaning.specs.Machine.{names_of}
@@ -85,13 +86,23 @@ call n l ports (Some i) m = decode (pins_at n l i) m
 abbrev pub pin_terminal : Netlist → Library → ℕ → ℕ → Terminal
 pin_terminal n l i p = pin_of (own n i) (name_or (slice_get (pins_at n l i) p))
 
+-- how many signal pins stand before those of instance i, where k stand before the first
+abbrev pub pins_before : Library → ℕ → List Member → ℕ → ℕ
+pins_before l k [] i = k
+pins_before l k (one ∷ rest) zero = k
+pins_before l k (one ∷ rest) (suc i) = pins_before l (k + (cell_or (cell_of l one.model)).pins) rest i
+
+-- the number of a pin in a class with number k: that of its net where it is among so many, else one of its own past them
+abbrev pub number_or : ℕ → ℕ → ℕ → ℕ
+number_or nets k own = if nat_lt k nets then k else nets + own
+
 abbrev pub block_of : Netlist → Library → Numbering → List name.Name → Block
 block_of n l net ports = record {
   count = length n.instances;
   cell = λ i. cell_or (cell_of l (member_at n.instances i).model);
   column = λ i. column_at l 3 n.instances i;
   row = λ i. 0;
-  net = λ i p. net (n.class (pin_terminal n l i p));
+  net = λ i p. number_or (net_count n) (net (n.class (pin_terminal n l i p))) (pins_before l 0 n.instances i + p);
   ports = length ports;
   port_net = λ k. k;
   nets = net_count n;
@@ -115,6 +126,66 @@ column_step l k [] i j le lt = absurd (omega arith)
 column_step l k (one ∷ rest) i zero le lt = absurd (omega arith)
 column_step l k (one ∷ rest) zero (suc j) le lt = column_low l (k + columns_wide l one) rest j
 column_step l k (one ∷ rest) (suc i) (suc j) le lt = column_step l (k + columns_wide l one) rest i j (omega arith) (omega arith)
+
+-- ---- numbers of pins
+is_less : (a b : ℕ) → a < b → nat_lt a b ≡ true
+is_less a b h = grind (arith, nat_tests)
+
+is_not_less : (a b : ℕ) → b ≤ a → nat_lt a b ≡ false
+is_not_less a b h = grind (arith, nat_tests)
+
+pub number_low : (nets k own : ℕ) → k < nets → number_or nets k own ≡ k
+number_low nets k own lt = cond-true (nat_lt k nets) k (nets + own) (is_less k nets lt)
+
+number_high : (nets k own : ℕ) → nets ≤ k → number_or nets k own ≡ nets + own
+number_high nets k own le = cond-false (nat_lt k nets) k (nets + own) (is_not_less k nets le)
+
+-- a number among the nets is that of a class, and one past them is the pin's own
+pub number_under : (nets k own : ℕ) → number_or nets k own < nets → k < nets
+number_under nets k own h = ⊎_elim (λ lt. lt) (λ ge. absurd (let e = number_high nets k own ge in omega (arith, e, h))) (cases_lt k nets)
+
+pub number_past : (nets k own : ℕ) → nets ≤ number_or nets k own → (nets ≤ k) × (number_or nets k own ≡ nets + own)
+number_past nets k own h = ⊎_elim (λ lt. absurd (let e = number_low nets k own lt in omega (arith, e, h, lt))) (λ ge. (ge, number_high nets k own ge)) (cases_lt k nets)
+
+pub number_beyond : (nets k own : ℕ) → nets ≤ k → nets ≤ number_or nets k own
+number_beyond nets k own le = let e = number_high nets k own le in omega (arith, e)
+
+unequal : (a b : ℕ) → b < a → nat_eq a b ≡ false
+unequal a b h = false_from_ne_true (nat_eq a b) (λ t. let e = eqb-true a b t in omega (arith, e, h))
+
+-- so a pin has number j of a net where its class has
+pub number_test : (nets k own j : ℕ) → j < nets → nat_eq (number_or nets k own) j ≡ nat_eq k j
+number_test nets k own j lt =
+    ⊎_elim
+    (λ low. ap (λ v. nat_eq v j) (number_low nets k own low))
+    (λ ge. ap (λ v. nat_eq v j) (number_high nets k own ge) ∙ unequal (nets + own) j (omega (arith, lt)) ∙ sym (unequal k j (omega (arith, lt, ge))))
+    (cases_lt k nets)
+
+pins_low : (l : Library) (k : ℕ) (ms : List Member) (i : ℕ) → k ≤ pins_before l k ms i
+pins_low l k [] i = omega arith
+pins_low l k (one ∷ rest) zero = omega arith
+pins_low l k (one ∷ rest) (suc i) = let a = pins_low l (k + (cell_or (cell_of l one.model)).pins) rest i in omega arith
+
+pins_step : (l : Library) (k : ℕ) (ms : List Member) (i j : ℕ) → i < j → j < length ms → pins_before l k ms i + (cell_or (cell_of l (member_at ms i).model)).pins ≤ pins_before l k ms j
+pins_step l k [] i j le lt = absurd (omega arith)
+pins_step l k (one ∷ rest) i zero le lt = absurd (omega arith)
+pins_step l k (one ∷ rest) zero (suc j) le lt = pins_low l (k + (cell_or (cell_of l one.model)).pins) rest j
+pins_step l k (one ∷ rest) (suc i) (suc j) le lt = pins_step l (k + (cell_or (cell_of l one.model)).pins) rest i j (omega arith) (omega arith)
+
+-- different pins stand at different places among all
+pub places_apart : (l : Library) (ms : List Member) (i p j q : ℕ) → i < length ms → j < length ms → p < (cell_or (cell_of l (member_at ms i).model)).pins
+    → q < (cell_or (cell_of l (member_at ms j).model)).pins → pins_before l 0 ms i + p ≡ pins_before l 0 ms j + q → (i ≡ j) × (p ≡ q)
+places_apart l ms i p j q hi hj hp hq e =
+    ⊎_elim
+    (λ lt. absurd (let a = pins_step l 0 ms i j lt hj in omega (arith, a, e, hp)))
+    (λ ge. ⊎_elim
+    (λ gt. absurd (let a = pins_step l 0 ms j i gt hi in omega (arith, a, e, hq)))
+    (λ le. let s : i ≡ j = omega arith in (s, same_place s))
+    (cases_lt j i))
+    (cases_lt i j)
+  where
+    same_place : i ≡ j → p ≡ q
+    same_place s = let f : pins_before l 0 ms i ≡ pins_before l 0 ms j = ap (pins_before l 0 ms) s in omega (arith, e, f)
 
 -- the cell of an instance
 pub record IsModel (l : Library) (one : Member) : Type 0 where

@@ -1,5 +1,5 @@
 -- The tracks of a netlist that may be drawn.
-use Rattle.std.proofs.Common.{◌≡◌, ◌≢◌, ℕ, ◌*◌, ◌<◌, ◌≤◌, inl, inr, Bool, true, false, List, [], ◌∷◌, ◌++◌, length, Option, Some, None, refl, sym, ap, ◌∙◌, subst, arith, cond, eqb, if◌then◌else◌}
+use Rattle.std.proofs.Common.{◌≡◌, ◌≢◌, ℕ, ◌+◌, ◌*◌, ◌<◌, ◌≤◌, inl, inr, Bool, true, false, List, [], ◌∷◌, ◌++◌, length, Option, Some, None, refl, sym, ap, ◌∙◌, subst, arith, cond, eqb, if◌then◌else◌}
 use Rattle.std.specs.Prelude.{ℤ, pos, ◌+ℤ◌, slice_get, flat_map, nat_eq, ◌/◌}
 use Rattle.std.proofs.lemmas.Int.{ints}
 use Rattle.std.proofs.lemmas.Bool.{eq-eqb}
@@ -19,12 +19,13 @@ use Rattle.net_geom.specs.Block.{Cell, Signal, at_x, pin_column, pin_row}
 use Rattle.net_geom.specs.Tracks.{track, pin_lines, terminal_lines, track_line, drawn_track, HasTracks}
 use Rattle.net_geom.proofs.Tracks.{pin_inside}
 use Rattle.net_drawing.specs.Picture.{shown}
+use Rattle.net_drawing.specs.Shown.{IsOnNet}
 use Rattle.net_drawing.specs.Drawing.{Numbering, Point, of_pins, of_cell, of_pin, at_point, riser, port_xs, track_over, net_wiring, IsDrawable}
 use Rattle.net_drawing.proofs.Access.{reached}
 use Rattle.net_drawing.proofs.Coding.{In_get, get_there, name_or, cell_by}
 use Rattle.net_drawing.proofs.Cells.{passes, column_is, row_is}
 use Rattle.net_drawing.proofs.Pieces.{Drawn, nothing, Drawn_append, flat_drawn, x_at, along_drawn, riser_wire, track_wire, low_via, high_via}
-use Rattle.net_drawing.proofs.Numbers.{low_of, high_of, has_some, pin_xs, low, high, own, pins_at, call, pin_terminal, block_of, IsModel, x_is, model_of, member_there, cell_is, pins_are, own_is, sound, cells_own}
+use Rattle.net_drawing.proofs.Numbers.{low_of, high_of, has_some, pin_xs, low, high, own, pins_at, call, pin_terminal, pins_before, number_or, block_of, number_low, number_under, number_past, number_test, places_apart, IsModel, x_is, model_of, member_there, cell_is, pins_are, own_is, sound, cells_own}
 use Rattle.net_drawing.proofs.Shown.{track_at}
 use Rattle.net_drawing.proofs.Ranges.{IsGrid, some_of, flat_all, along_all, flat_in, along_in, range_of, both, Spans, spans}
 
@@ -46,8 +47,17 @@ module _ (n : Netlist) (l : Library) (net : Numbering) (ports : List name.Name) 
       ∙ ap (λ v. pin_of one.name (name_or (slice_get v p))) (pins_are n l net ports ok i one m h.0)
       ∙ ap (λ v. pin_of one.name (name_or v)) h.1
 
-  pub net_is : (i p : ℕ) (one : Member) (m : IsModel l one) (pin : name.Name) → IsPinAt n l i p one m pin → (block_of n l net ports).net i p ≡ net (n.class (pin_of one.name pin))
-  net_is i p one m pin h = ap (λ v. net (n.class v)) (pin_is i p one m pin h)
+  pub net_is : (i p : ℕ) (one : Member) (m : IsModel l one) (pin : name.Name) → IsPinAt n l i p one m pin
+      → (block_of n l net ports).net i p ≡ number_or (net_count n) (net (n.class (pin_of one.name pin))) (pins_before l 0 n.instances i + p)
+  net_is i p one m pin h = ap (λ v. number_or (net_count n) (net (n.class v)) (pins_before l 0 n.instances i + p)) (pin_is i p one m pin h)
+
+  -- the number of a pin on a net is that of its class
+  on_its_net : (i p : ℕ) (one : Member) (m : IsModel l one) (pin : name.Name) → IsPinAt n l i p one m pin → (block_of n l net ports).net i p < net_count n
+      → (block_of n l net ports).net i p ≡ net (n.class (pin_of one.name pin))
+  on_its_net i p one m pin h under =
+      let e = net_is i p one m pin h in
+      let lt = number_under (net_count n) (net (n.class (pin_of one.name pin))) (pins_before l 0 n.instances i + p) (subst (λ v. v < net_count n) e under) in
+      e ∙ number_low (net_count n) (net (n.class (pin_of one.name pin))) (pins_before l 0 n.instances i + p) lt
 
   -- where its access node lies in the row
   pub place_is : (i p : ℕ) (one : Member) (m : IsModel l one) (pin : name.Name) → IsPinAt n l i p one m pin
@@ -82,8 +92,8 @@ module _ (n : Netlist) (l : Library) (net : Numbering) (ports : List name.Name) 
   tested k nm i p one m pin h true = let r = place_is i p one m pin h in pin_drawn k nm i p (x_at l (pos 1500) n.instances i) (access_point m.cell pin) r.0 r.1 r.2 r.3 r.4
   tested k nm i p one m pin h false = nothing (shown (own n) (call n l ports))
 
-  risers_drawn : (k : ℕ) (nm : Option name.Name) → Drawn (shown (own n) (call n l ports)) (of_pins n l net k (riser k nm)) (terminal_lines (block_of n l net ports) k)
-  risers_drawn k nm =
+  risers_drawn : (k : ℕ) (nm : Option name.Name) → k < net_count n → Drawn (shown (own n) (call n l ports)) (of_pins n l net k (riser k nm)) (terminal_lines (block_of n l net ports) k)
+  risers_drawn k nm low =
       along_drawn (shown (own n) (call n l ports)) l n.instances (pos 1500) (λ x one. of_cell n net k (riser k nm) x one.name (cell_of l one.model))
       (λ i. up_to ((block_of n l net ports).cell i).pins (λ p. cond (eqb ((block_of n l net ports).net i p) k) (pin_lines (block_of n l net ports) k i p) []))
       (λ i one e.
@@ -93,8 +103,9 @@ module _ (n : Netlist) (l : Library) (net : Numbering) (ports : List name.Name) 
       let c : (b.cell i).pins ≡ length (names_of (pin_ports m.cell)) = ap (λ (v : Cell). v.pins) (cell_is n l net ports ok i one m e) in
       let d : Drawn (shown (own n) (call n l ports)) (flat_map (of_pin n net k (riser k nm) x one.name m.cell) (names_of (pin_ports m.cell))) (up_to (length (names_of (pin_ports m.cell))) (λ p. cond (eqb (b.net i p) k) (pin_lines b k i p) [])) =
       flat_drawn (shown (own n) (call n l ports)) (names_of (pin_ports m.cell)) (of_pin n net k (riser k nm) x one.name m.cell) (λ p. cond (eqb (b.net i p) k) (pin_lines b k i p) [])
-      (λ p pin h. let f = net_is i p one m pin (e, h) in
-      subst (λ v. Drawn (shown (own n) (call n l ports)) (of_pin n net k (riser k nm) x one.name m.cell pin) (cond (eqb v k) (pin_lines b k i p) [])) (sym f)
+      (λ p pin h. let f : eqb (b.net i p) k ≡ eqb (net (n.class (pin_of one.name pin))) k =
+      ap (λ v. eqb v k) (net_is i p one m pin (e, h)) ∙ number_test (net_count n) (net (n.class (pin_of one.name pin))) (pins_before l 0 n.instances i + p) k low in
+      subst (λ v. Drawn (shown (own n) (call n l ports)) (of_pin n net k (riser k nm) x one.name m.cell pin) (cond v (pin_lines b k i p) [])) (sym f)
       (tested k nm i p one m pin (e, h) (eqb (net (n.class (pin_of one.name pin))) k))) in
       subst (λ o. Drawn (shown (own n) (call n l ports)) (of_cell n net k (riser k nm) x one.name o) (up_to (b.cell i).pins (λ p. cond (eqb (b.net i p) k) (pin_lines b k i p) []))) (sym m.found)
       (subst (λ v. Drawn (shown (own n) (call n l ports)) (flat_map (of_pin n net k (riser k nm) x one.name m.cell) (names_of (pin_ports m.cell))) (up_to v (λ p. cond (eqb (b.net i p) k) (pin_lines b k i p) []))) (sym c) d))
@@ -140,13 +151,13 @@ module _ (n : Netlist) (l : Library) (net : Numbering) (ports : List name.Name) 
   pub pin_signal : (i p : ℕ) (one : Member) (m : IsModel l one) (pin : name.Name) → IsPinAt n l i p one m pin → (pin ≢ vdd) × (pin ≢ vss)
   pin_signal i p one m pin h = m.clean.signals pin (In_get (names_of (pin_ports m.cell)) p pin h.1)
 
-  pin_in_net : (i p : ℕ) (one : Member) (m : IsModel l one) (pin : name.Name) → IsPinAt n l i p one m pin → In (at_x (pin_column (block_of n l net ports) i p)) (pin_xs n l net ((block_of n l net ports).net i p))
-  pin_in_net i p one m pin h =
+  pin_in_net : (i p : ℕ) (one : Member) (m : IsModel l one) (pin : name.Name) → IsPinAt n l i p one m pin → (block_of n l net ports).net i p < net_count n → In (at_x (pin_column (block_of n l net ports) i p)) (pin_xs n l net ((block_of n l net ports).net i p))
+  pin_in_net i p one m pin h under =
       let b = block_of n l net ports in
       let k = b.net i p in
       let x = x_at l (pos 1500) n.instances i in
       let r = place_is i p one m pin h in
-      let t : true ≡ nat_eq (net (n.class (pin_of one.name pin))) k = sym (eq-eqb _ _ (sym (net_is i p one m pin h))) in
+      let t : true ≡ nat_eq (net (n.class (pin_of one.name pin))) k = sym (eq-eqb _ _ (sym (on_its_net i p one m pin h under))) in
       let w : In (at_x (pin_column b i p)) ((r.0.0 +ℤ x) ∷ []) = subst (λ v. In v ((r.0.0 +ℤ x) ∷ [])) r.2 here in
       let a : In (at_x (pin_column b i p)) (at_point (λ (q : Point). q.0 ∷ []) x (access_point m.cell pin)) = subst (λ o. In (at_x (pin_column b i p)) (at_point (λ (q : Point). q.0 ∷ []) x o)) (sym r.1) w in
       let c : In (at_x (pin_column b i p)) (of_pin n net k (λ (q : Point). q.0 ∷ []) x one.name m.cell pin) = subst (λ v. In (at_x (pin_column b i p)) (if v then at_point (λ (q : Point). q.0 ∷ []) x (access_point m.cell pin) else [])) t a in
@@ -157,25 +168,32 @@ module _ (n : Netlist) (l : Library) (net : Numbering) (ports : List name.Name) 
   port_in : (k : ℕ) → k < length ports → In (at_x 3) (port_xs (slice_get ports k))
   port_in k lt = let r = get_there ports k lt in subst (λ o. In (at_x 3) (port_xs o)) (sym r.1) here
 
-  pub port_there : (k : ℕ) (m : name.Name) → slice_get ports k ≡ Some m → IsTerminal n l (port m) × (m ≢ vdd) × (m ≢ vss)
-  port_there k m e = let r = (ok.port_names m).0 (In_get ports k m e) in (a_port r.0, r.1, r.2)
+  pub port_there : (k : ℕ) (m : name.Name) → slice_get ports k ≡ Some m → IsOnNet n l (port m)
+  port_there k m e = let i = In_get ports k m e in record { terminal = a_port ((ok.port_names m).0 i).0; free = ok.free m i }
+
+  off : (i p j q : ℕ) → i < length n.instances → p < ((block_of n l net ports).cell i).pins → j < length n.instances → q < ((block_of n l net ports).cell j).pins
+      → net_count n ≤ (block_of n l net ports).net i p → (block_of n l net ports).net i p ≡ (block_of n l net ports).net j q → (i ≡ j) × (p ≡ q)
+  off i p j q hi hp hj hq past e =
+      let a = (number_past (net_count n) (net (n.class (pin_terminal n l i p))) (pins_before l 0 n.instances i + p) past).1 in
+      let c = (number_past (net_count n) (net (n.class (pin_terminal n l j q))) (pins_before l 0 n.instances j + q) (subst (λ v. net_count n ≤ v) e past)).1 in
+      let f : net_count n + (pins_before l 0 n.instances i + p) ≡ net_count n + (pins_before l 0 n.instances j + q) = sym a ∙ e ∙ c in
+      places_apart l n.instances i p j q hi hj hp hq (omega (arith, f))
 
   pub has_tracks : HasTracks (block_of n l net ports) (low n l net ports) (high n l net ports)
   has_tracks = record {
     one_row = refl;
     columns = cells_own n l net ports ok;
-    nets = λ i p hi hp. let r = pin_there i p hi hp in let s = pin_signal i p r.0 r.1 r.2 r.3 in
-        subst (λ v. v < net_count n) (sym (net_is i p r.0 r.1 r.2 r.3)) (ok.below (pin_of r.0.name r.2) (pin_listed i p r.0 r.1 r.2 r.3) s.0 s.1);
-    port_nets = λ k lt. let r = get_there ports k lt in let t = port_there k r.0 r.1 in subst (λ v. v < net_count n) (ok.port_nets k r.0 r.1) (ok.below (port r.0) t.0 t.1 t.2);
+    off = off;
+    port_nets = λ k lt. let r = get_there ports k lt in subst (λ v. v < net_count n) (ok.port_nets k r.0 r.1) (ok.below (port r.0) (port_there k r.0 r.1));
     order = λ k lt m. (spans_at k).order m;
     start = λ k lt m. (spans_at k).start m;
-    reached = λ i p hi hp. let r = pin_there i p hi hp in some_of _ _ (pin_in_net i p r.0 r.1 r.2 r.3);
-    pins = λ i p hi hp. let r = pin_there i p hi hp in let h = pin_in_net i p r.0 r.1 r.2 r.3 in (spans_at ((block_of n l net ports).net i p)).within _ (some_of _ _ h) (inl h);
+    reached = λ i p hi hp under. let r = pin_there i p hi hp in some_of _ _ (pin_in_net i p r.0 r.1 r.2 r.3 under);
+    pins = λ i p hi hp under. let r = pin_there i p hi hp in let h = pin_in_net i p r.0 r.1 r.2 r.3 under in (spans_at ((block_of n l net ports).net i p)).within _ (some_of _ _ h) (inl h);
     ports = λ k lt m. let s = (spans_at k).start m in let w = (spans_at k).within 3 m (inr (port_in k lt)) in let w0 = w.0 in omega arith;
     alone = λ k q hk hq m e. e;
   }
 
-  pub net_drawn : (k : ℕ) → Drawn (shown (own n) (call n l ports)) (net_wiring n l net ports k) (drawn_track (block_of n l net ports) (low n l net ports) (high n l net ports) k ++ terminal_lines (block_of n l net ports) k)
-  net_drawn k =
+  pub net_drawn : (k : ℕ) → k < net_count n → Drawn (shown (own n) (call n l ports)) (net_wiring n l net ports k) (drawn_track (block_of n l net ports) (low n l net ports) (high n l net ports) k ++ terminal_lines (block_of n l net ports) k)
+  net_drawn k low =
       Drawn_append (shown (own n) (call n l ports)) _ _ _ _ (track_drawn (own n) (call n l ports) k (slice_get ports k) (pin_xs n l net k) (port_xs (slice_get ports k)) (pins_grid k) (ports_grid (slice_get ports k)))
-      (risers_drawn k (slice_get ports k))
+      (risers_drawn k (slice_get ports k) low)

@@ -29,7 +29,7 @@ module _ (n : Netlist) (l : Library) (net : Numbering) (ports : List name.Name) 
   pub wiring_drawn : Drawn (shown (own n) (call n l ports)) (wiring n l net ports) (net_lines (block_of n l net ports) (low n l net ports) (high n l net ports))
   wiring_drawn =
       count_drawn (shown (own n) (call n l ports)) (net_count n) (net_wiring n l net ports)
-      (λ k. drawn_track (block_of n l net ports) (low n l net ports) (high n l net ports) k ++ terminal_lines (block_of n l net ports) k) (λ k lt. net_drawn n l net ports ok k)
+      (λ k. drawn_track (block_of n l net ports) (low n l net ports) (high n l net ports) k ++ terminal_lines (block_of n l net ports) k) (λ k lt. net_drawn n l net ports ok k lt)
 
   lines_same : Same (shown (own n) (call n l ports)) (track_items n l net ports) (block_lines (block_of n l net ports) (low n l net ports) (high n l net ports))
   lines_same =

@@ -1,5 +1,5 @@
 -- The wiring of a netlist by private tracks, over cells in one row.
-use Rattle.std.specs.Prelude.{◌≡◌, ◌≢◌, ◌↔◌, ℕ, ◌<◌, ℤ, pos, ◌+ℤ◌, Bool, List, [], ◌∷◌, ◌++◌, map, flat_map, Option, None, Some, AllPairs, IsTrue, slice_get, nat_eq, if◌then◌else◌}
+use Rattle.std.specs.Prelude.{◌≡◌, ◌≢◌, ◌↔◌, ℕ, ◌<◌, ◌≤◌, ℤ, pos, ◌+ℤ◌, Bool, List, [], ◌∷◌, ◌++◌, map, flat_map, Option, None, Some, AllPairs, IsTrue, slice_get, nat_eq, if◌then◌else◌}
 use Rattle.sym_geom.specs.declared.grid.TheConstants.{WIRE_WIDTH, FIRST_CELL_X}
 use Rattle.vlsi_base.specs.declared.name.Name.{Name}
 use Rattle.vlsi_base.specs.declared.name.Terminal.{Terminal}
@@ -21,6 +21,7 @@ use Rattle.ocp_rows.specs.Length.{least, greatest}
 use Rattle.cell_model.specs.Access.{access_point, count_to}
 pub use Rattle.cell_model.specs.Access.{Point}
 use Rattle.net_drawing.specs.Clean.{IsClean}
+use Rattle.net_drawing.specs.Shown.{IsSupplyClass, IsOnNet}
 
 -- the net number of each class
 abbrev pub Numbering : Type 0
@@ -85,7 +86,7 @@ track_items n l net ports =
     ++ (map item.Instance (standing l NoSym (pos 0) (pos FIRST_CELL_X) n.instances)
     ++ (supplies l (n.instances ∷ []) ++ wiring n l net ports)))
 
--- the netlist may be drawn: its instances are usable and clean cells, and its ports the supplies and these
+-- The netlist may be drawn: its instances are usable and clean cells, and its ports the supplies and these.
 pub record IsDrawable (n : Netlist) (l : Library) (net : Numbering) (ports : List Name) : Type 0 where
   pub models : (one : Member) → In one n.instances → (c : Cell) × (cell_of l one.model ≡ Some c) × IsUsable c × IsClean c
   pub names : AllPairs (λ a b. a.name ≢ b.name) n.instances
@@ -93,13 +94,12 @@ pub record IsDrawable (n : Netlist) (l : Library) (net : Numbering) (ports : Lis
   pub port_names : (name : Name) → In name ports ↔ (In name n.ports × (name ≢ vdd) × (name ≢ vss))
   pub has_vdd : In vdd n.ports
   pub has_vss : In vss n.ports
-  -- the class of a supply holds its port and each instance's pin of its name, and nothing else
-  pub high : (t : Terminal) → IsTerminal n l t → (n.class t ≡ n.class (port vdd)) ↔ (t.pin ≡ vdd)
-  pub low : (t : Terminal) → IsTerminal n l t → (n.class t ≡ n.class (port vss)) ↔ (t.pin ≡ vss)
-  pub numbered : (t : Terminal) → IsTerminal n l t → n.class t < n.classes
-  pub used : (k : ℕ) → k < n.classes → (t : Terminal) × IsTerminal n l t × (n.class t ≡ k)
+  -- each instance's pin of a supply is in the class of the supply's port, and no other port is
+  pub high : (t : Terminal) → IsTerminal n l t → t.pin ≡ vdd → n.class t ≡ n.class (port vdd)
+  pub low : (t : Terminal) → IsTerminal n l t → t.pin ≡ vss → n.class t ≡ n.class (port vss)
+  pub free : (name : Name) → In name ports → IsSupplyClass n (n.class (port name)) → ⊥
   -- nets are the classes but for the supplies', by numbers; net k is that of port k where there is one
-  pub below : (t : Terminal) → IsTerminal n l t → t.pin ≢ vdd → t.pin ≢ vss → net (n.class t) < net_count n
-  pub one_class : (t u : Terminal) → IsTerminal n l t → IsTerminal n l u → t.pin ≢ vdd → t.pin ≢ vss → u.pin ≢ vdd → u.pin ≢ vss
-      → net (n.class t) ≡ net (n.class u) → n.class t ≡ n.class u
+  pub below : (t : Terminal) → IsOnNet n l t → net (n.class t) < net_count n
+  pub past : (class : ℕ) → IsSupplyClass n class → net_count n ≤ net class
+  pub one_class : (t u : Terminal) → IsOnNet n l t → IsOnNet n l u → net (n.class t) ≡ net (n.class u) → n.class t ≡ n.class u
   pub port_nets : (k : ℕ) (name : Name) → slice_get ports k ≡ Some name → net (n.class (port name)) ≡ k

@@ -3,14 +3,11 @@ use Rattle.std.specs.Prelude.{◌≡◌, ◌↔◌, ℕ, ◌<◌, List, [], map,
 use Rattle.vlsi_base.specs.declared.name.Name as name
 use Rattle.vlsi_base.specs.declared.name.Terminal as terminal
 use Rattle.sym_geom.specs.declared.item.Item.{Item}
-use Rattle.vlsi_base.specs.Member as member
 use Rattle.sym_shapes.specs.Shape as shape
-use Rattle.sym_shapes.specs.Shape.{connector_names}
+use Rattle.sym_shapes.specs.Joined as joined
 use Rattle.cell_model.specs.Layout as layout
 use Rattle.cell_model.specs.Library.{Library}
-use Rattle.cell_model.specs.Layout.{instances_of}
 use Rattle.net_meaning.specs.Netlist as netlist
-use Rattle.net_meaning.specs.Netlist.{Netlist, Extracts}
 use Rattle.net_meaning.specs.Breaches.{Breaches}
 use Rattle.net_geom.specs.Figure.{Shape, Name}
 use Rattle.net_geom.specs.Block.{Block, IsSound, Terminal, AtPort, AtPin, Exists, net_of, shapes, terminal_at}
@@ -42,25 +39,22 @@ pub record AreApart (b : Block) (own : ℕ → List ℕ) (call : Option ℕ → 
   pub names : (o : Option ℕ) (m d : Name) → Exists b (terminal_at o m) → Exists b (terminal_at o d)
       → call o m ≡ call o d → m ≡ d
 
--- The lines show the block, whose terminals and nets are those of the netlist.
-pub record IsPictureOf (items : List Item) (l : Library) (n : Netlist) (b : Block) (lo hi : ℕ → ℕ)
-    (own : ℕ → List ℕ) (call : Option ℕ → Name → name.Name) : Type 0 where
+-- The lines show the block.
+pub record IsPictureOf (items : List Item) (l : Library) (b : Block) (lo hi : ℕ → ℕ) (own : ℕ → List ℕ)
+    (call : Option ℕ → Name → name.Name) : Type 0 where
   pub sound : IsSound b
   pub tracks : HasTracks b lo hi
   pub apart : AreApart b own call
   pub shapes : layout.shapes items l ≡ map (shown own call) (shapes b (block_lines b lo hi))
-  pub terminals : (t : terminal.Terminal) → netlist.IsTerminal n l t
-      → (u : Terminal) × Exists b u × (t ≡ terminal_of own call u)
-  pub nets : (t u : Terminal) → Exists b t → Exists b u
-      → (n.class (terminal_of own call t) ≡ n.class (terminal_of own call u)) ↔ (net_of b t ≡ net_of b u)
-  pub ports : (name : name.Name) → member.In name n.ports ↔ member.In name (connector_names items)
-  pub instances : n.instances ≡ map (λ i. record { name = i.name; model = i.model }) (instances_of items)
-  pub numbered : (t : terminal.Terminal) → netlist.IsTerminal n l t → n.class t < n.classes
-  pub used : (k : ℕ) → k < n.classes → (t : terminal.Terminal) × netlist.IsTerminal n l t × (n.class t ≡ k)
 
--- lines that show a block give its netlist, and break no rule
-abbrev pub PicturesExtract : Type 0
-PicturesExtract =
-    (items : List Item) (l : Library) (n : Netlist) (b : Block) (lo hi : ℕ → ℕ)
-    (own : ℕ → List ℕ) (call : Option ℕ → Name → name.Name)
-    → IsPictureOf items l n b lo hi own call → Extracts items l n × Breaches items l []
+-- two terminals of the block are joined in the lines exactly where they have one net
+abbrev pub JoinsNets : List Item → Library → Block → (ℕ → List ℕ) → (Option ℕ → Name → name.Name) → Type 0
+JoinsNets items l b own call =
+    (t u : Terminal) → Exists b t → Exists b u
+    → (net_of b t ≡ net_of b u) ↔ joined.AreJoined (layout.shapes items l) (terminal_of own call t) (terminal_of own call u)
+
+-- lines that show a block join exactly its nets, and break no rule
+abbrev pub PicturesJoin : Type 0
+PicturesJoin =
+    (items : List Item) (l : Library) (b : Block) (lo hi : ℕ → ℕ) (own : ℕ → List ℕ) (call : Option ℕ → Name → name.Name)
+    → IsPictureOf items l b lo hi own call → JoinsNets items l b own call × Breaches items l []

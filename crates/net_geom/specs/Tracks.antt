@@ -94,16 +94,18 @@ abbrev pub block_lines : Block → (ℕ → ℕ) → (ℕ → ℕ) → List Tagg
 block_lines b lo hi =
     (supply_port Vss ∷ (supply_port Vdd ∷ port_lines b)) ++ (blank_lines b ++ (supply_lines b ++ net_lines b lo hi))
 
--- one row; each track reaches all the points of its net; no two pins of a cell have one column
+-- One row; each track reaches all the points of its net; no two pins of a cell have one column. A pin whose number is past those of
+-- the nets is on none: nothing is drawn at it, and no other pin has its number.
 pub record HasTracks (b : Block) (lo hi : ℕ → ℕ) : Type 0 where
   pub one_row : b.rows ≡ 1
   pub columns : (i : ℕ) → i < b.count → HasOwnColumns (b.cell i)
-  pub nets : (i p : ℕ) → i < b.count → p < (b.cell i).pins → b.net i p < b.nets
+  pub off : (i p j q : ℕ) → i < b.count → p < (b.cell i).pins → j < b.count → q < (b.cell j).pins
+      → b.nets ≤ b.net i p → b.net i p ≡ b.net j q → (i ≡ j) × (p ≡ q)
   pub port_nets : (k : ℕ) → k < b.ports → b.port_net k < b.nets
   pub order : (n : ℕ) → n < b.nets → b.many n ≡ true → lo n ≤ hi n
   pub start : (n : ℕ) → n < b.nets → b.many n ≡ true → first_column ≤ lo n
-  pub reached : (i p : ℕ) → i < b.count → p < (b.cell i).pins → b.many (b.net i p) ≡ true
-  pub pins : (i p : ℕ) → i < b.count → p < (b.cell i).pins
+  pub reached : (i p : ℕ) → i < b.count → p < (b.cell i).pins → b.net i p < b.nets → b.many (b.net i p) ≡ true
+  pub pins : (i p : ℕ) → i < b.count → p < (b.cell i).pins → b.net i p < b.nets
       → (lo (b.net i p) ≤ pin_column b i p) × (pin_column b i p ≤ hi (b.net i p))
   pub ports : (k : ℕ) → k < b.ports → b.many (b.port_net k) ≡ true → lo (b.port_net k) ≡ first_column
   pub alone : (k q : ℕ) → k < b.ports → q < b.ports → b.many (b.port_net k) ≡ false → b.port_net k ≡ b.port_net q → k ≡ q

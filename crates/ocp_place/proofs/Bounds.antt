@@ -7,7 +7,7 @@ use Rattle.std.proofs.lemmas.Option.{same_Some}
 use Rattle.vlsi_base.specs.declared.name.Name.{Name}
 use Rattle.vlsi_base.specs.declared.name.Port.{Port}
 use Rattle.vlsi_base.specs.Member.{In, here, there}
-use Rattle.machine_meaning.specs.Machine.{Machine, names_of, is_input}
+use Rattle.machine_meaning.specs.Machine.{names_of, is_input}
 use Rattle.sym_geom.specs.declared.grid.TheConstants.{FIRST_CELL_X}
 use Rattle.cell_model.specs.Access.{Point, access_point}
 use Rattle.cell_model.specs.Cell.{Cell, cell_width, pin_ports, cell_outputs}
@@ -18,11 +18,10 @@ use Rattle.cell_checks.specs.Checks.{StandsInRow}
 use Rattle.cell_checks.specs.Checked.{IsChecked as HasPassed}
 use Rattle.cell_pins.proofs.Ports.{in_filter}
 use Rattle.net_meaning.specs.Netlist.{Member, Netlist, pin_of, a_pin}
-use Rattle.net_meaning.specs.Well.{IsWell}
-use Rattle.net_theory.specs.Laws.{IsCounted}
 use Rattle.ocp_rows.specs.Placement.{model_width, width_of, row_width}
 use Rattle.ocp_place.specs.declared.row.Row.{Row}
 use Rattle.ocp_place.specs.declared.row.Site.{Site as Placed}
+use Rattle.ocp_place.specs.Orderly.{IsOrderly}
 use Rattle.ocp_place.specs.Nets.{driven, driven_by}
 use Rattle.ocp_place.specs.Sites.{Site, site_at, own_sites, row_sites, row_starts, pin_sites}
 use Rattle.ocp_place.specs.Reaches.{site_of}
@@ -127,16 +126,16 @@ starts_low l x (one ∷ rest) each z i = by z i (starts_low l (x +ℤ model_widt
   by z here next = up x (row_width l (one ∷ rest)) (row_up l (one ∷ rest) each)
   by z (there j) next = shift z x (model_width l one.model) (row_width l rest) (next z j)
 
-module _ (k : Netlist) (l : Library) (m : Machine) (plain : HasPassed false l) (well : IsWell k l m) (counted : IsCounted l k) where
+module _ (k : Netlist) (l : Library) (plain : HasPassed false l) (orderly : IsOrderly k l) where
   usable : (one : Member) (c : Cell) → In one k.instances → cell_of l one.model ≡ Some c → IsUsable c
-  usable one c i found = let r = well.models one i in subst (λ (x : Cell). IsUsable x) (same_Some r.0 c (sym r.1 ∙ found)) r.2
+  usable one c i found = let r = orderly.models one i in subst (λ (x : Cell). IsUsable x) (same_Some r.0 c (sym r.1 ∙ found)) r.2
 
   in_row : (one : Member) (c : Cell) → In one k.instances → cell_of l one.model ≡ Some c → StandsInRow c
   in_row one c i found = cell_row l one.model c plain found (usable_is_mappable c (usable one c i found))
 
   wide : (one : Member) → In one k.instances → pos 0 ≤ℤ model_width l one.model
   wide one i =
-      let r = well.models one i in
+      let r = orderly.models one i in
       let row = in_row one r.0 i r.1 in
       subst (λ o. pos 0 ≤ℤ width_of o) (sym r.1) (up r.0 row)
     where
@@ -144,7 +143,7 @@ module _ (k : Netlist) (l : Library) (m : Machine) (plain : HasPassed false l) (
       up c row = let ex = row.box.left in let er = row.box.right in omega (arith, ints)
 
   pub class_low : (one : Member) (c : Cell) (pin : Name) → In one k.instances → cell_of l one.model ≡ Some c → In pin (names_of (pin_ports c)) → k.class (pin_of one.name pin) < k.classes
-  class_low one c pin i found h = counted.numbered (pin_of one.name pin) (a_pin one c i found (((usable one c i found).connectors pin).1 (inr (inr h))))
+  class_low one c pin i found h = orderly.counted.numbered (pin_of one.name pin) (a_pin one c i found (((usable one c i found).connectors pin).1 (inr (inr h))))
 
   module _ (width : ℕ) (width_is : pos width ≡ row_width l k.instances) (narrow : width ≤ 70000000000000) where
     pub site_low : (s : Placed) → In (site_of s) (pin_sites k l) → (s.class < k.classes) × (s.x ≤ 100000000000000) × (s.y ≤ 5000)

@@ -27,7 +27,6 @@ use Rattle.net_core.specs.Frame.{instance_of, node_pins, AreNumbered}
 use Rattle.net_core.proofs.Frames.{mapped, terminals_count}
 use Rattle.net_meaning.specs.Netlist.{Member, Netlist}
 use Rattle.net_view.specs.View.{IsSeenAs, member_of}
-use Rattle.net_view.proofs.Seen.{right_celled, right_cell}
 use Rattle.net_view.proofs.Terminals.{seen_instances}
 use Rattle.ocp_rows.specs.Placement.{width_of, row_width}
 use Rattle.ocp_place.specs.declared.reach.Reach.{Reach}
@@ -40,6 +39,7 @@ use Rattle.ocp_place.specs.Reaches.{IsReach, AreReaches, site_of, reached_sites,
 use Rattle.ocp_place.specs.Rows.{HasShortPins, IsPutAt}
 use Rattle.ocp_place.proofs.Boxed.{short_pins, pins_inside}
 use Rattle.ocp_place.proofs.Models.{cell_row}
+use Rattle.ocp_place.proofs.Seen.{own_cell}
 use Rattle.ocp_place.proofs.RowSteps.{sites_push, starts_push, driven_push, widened, HasClasses, reached_are, drivers_are, class_there}
 
 -- the first so many instances of a netlist, as a row has them
@@ -90,7 +90,7 @@ module _ (l : Library) (n : InMemory) (passed : HasPassed true l) (plain : HasPa
   few_nodes few =
       let many = many_pins nodes (λ node j.
       let at = get_In nodes node j in
-      let celled = right_celled n l given.machine given.checked given.right given.pins (instance_of n.models node) (node_there at.0 node at.1) in
+      let celled = own_cell l n given (instance_of n.models node) (node_there at.0 node at.1) in
       let some = some_port celled.cell in
       let same = ap length celled.pins in
       omega (arith, some, same)) in
@@ -115,18 +115,17 @@ module _ (l : Library) (n : InMemory) (passed : HasPassed true l) (plain : HasPa
   node_reach i node r s is =
       let one = instance_of n.models node in
       let stood = node_there i node s in
-      let known_cell = right_cell n l given.machine given.checked given.right one stood in
-      let usable = known_cell.2 in
+      let own = own_cell l n given one stood in
       let low : node.model < length n.models =
       subst (λ (x : Node). x.model < length n.models) (get_or_from_slice_get nodes i node node s) (known i node (slice_get_within nodes i node s)) in
       let stands : Stands n.models node.model one.model = slice_get-get_or n.models node.model [] low in
-      let reach : IsReach known_cell.0 r = subst (λ (x : Reach). IsReach known_cell.0 x) (sym is) (are.each node.model one.model known_cell.0 r stands known_cell.1 usable) in
+      let reach : IsReach own.cell r = subst (λ (x : Reach). IsReach own.cell x) (sym is) (are.each node.model one.model own.cell r stands own.found own.usable) in
       record {
-        cell = known_cell.0;
-        found = known_cell.1;
+        cell = own.cell;
+        found = own.found;
         reach = reach;
-        pins = given.pins one known_cell.0 stood known_cell.1;
-        row = cell_row l one.model known_cell.0 plain known_cell.1 (usable_is_mappable known_cell.0 usable);
+        pins = own.pins;
+        row = cell_row l one.model own.cell plain own.found (usable_is_mappable own.cell own.usable);
         fits = node_fits i node s;
       }
 

@@ -8,7 +8,7 @@ use Rattle.vlsi_base.specs.declared.name.Name.{Name}
 use Rattle.vlsi_base.specs.declared.name.Terminal.{Terminal}
 use Rattle.vlsi_base.specs.Names.{vdd, vss}
 use Rattle.vlsi_base.specs.Member.{In, here, there}
-use Rattle.machine_meaning.specs.Machine.{Machine, names_of}
+use Rattle.machine_meaning.specs.Machine.{names_of}
 use Rattle.machine_meaning.specs.Named.{is_same_text}
 use Rattle.sym_geom.specs.declared.grid.TheConstants.{FIRST_CELL_X}
 use Rattle.sym_geom.specs.declared.rect.Transform.TheVariants.{NoSym}
@@ -19,7 +19,6 @@ use Rattle.cell_model.specs.Access.{Point, count_to, access_point}
 use Rattle.cell_model.proofs.Members.{In-split, In-left, In-right, In-map, In-map_back}
 use Rattle.cell_model.proofs.Texts.{text_same, text_itself, text_differs}
 use Rattle.net_meaning.specs.Netlist.{Member, Netlist, port, pin_of, IsTerminal, a_pin}
-use Rattle.net_meaning.specs.Well.{IsWell}
 use Rattle.ocp_rows.specs.Placement.{model_width, standing}
 use Rattle.ocp_rows.specs.Length.{shown_point, instance_point, pin_point, point_of, cell_terminals, terminals, net_points, half_box, half_perimeter}
 use Rattle.ocp_place.specs.Nets.{is_signal, signal_ports, port_classes}
@@ -145,7 +144,7 @@ module _ (n : Netlist) (l : Library) where
             (text_differs one.name s.owner.name (first_differs one rest names s.owner s.listed)) ∙ s.at;
       }
 
-module _ (n : Netlist) (l : Library) (m : Machine) (well : IsWell n l m) (orderly : IsOrderly n l) where
+module _ (n : Netlist) (l : Library) (orderly : IsOrderly n l) where
   abbrev sites : List Site
   sites = port_sites 0 (port_classes n) ++ pin_sites n l
 
@@ -154,7 +153,7 @@ module _ (n : Netlist) (l : Library) (m : Machine) (well : IsWell n l m) (orderl
   one_row owner name = ap (λ is. pin_point l is owner name) (append-nil (standing l NoSym (pos 0) (pos FIRST_CELL_X) n.instances))
 
   cell_is : (i : Member) → In i n.instances → (c : Cell) → cell_of l i.model ≡ Some c → IsUsable c
-  cell_is i h c found = let r = well.models i h in subst (λ (x : Cell). IsUsable x) (same_Some r.0 c (sym r.1 ∙ found)) r.2
+  cell_is i h c found = let r = orderly.models i h in subst (λ (x : Cell). IsUsable x) (same_Some r.0 c (sym r.1 ∙ found)) r.2
 
   same_member : (i j : Member) → In i n.instances → In j n.instances → i.name ≡ j.name → i ≡ j
   same_member i j h g e = search n.instances i j orderly.names h g e where
@@ -194,7 +193,7 @@ module _ (n : Netlist) (l : Library) (m : Machine) (well : IsWell n l m) (orderl
         let s = split_test (pin_of i.name name) q (ap test r.2 ∙ e) in
         let terminal : IsTerminal n l (pin_of i.name name) = a_pin i c h found r.1 in
         let signal : In name (names_of (pin_ports c)) = only_signal name (((cell_is i h c found).connectors name).0 r.1)
-        (λ v. no_vdd (sym s.0 ∙ (well.high (pin_of i.name name) terminal).1 v)) (λ v. no_vss (sym s.0 ∙ (well.low (pin_of i.name name) terminal).1 v)) in
+        (λ v. no_vdd (sym s.0 ∙ orderly.high (pin_of i.name name) terminal v)) (λ v. no_vss (sym s.0 ∙ orderly.low (pin_of i.name name) terminal v)) in
         let has : HasPin l n.instances i.name name = λ j d a named other.
         let same : j ≡ i = same_member j i a h named in
         let cells : c ≡ d = same_Some c d (sym found ∙ sym (ap (λ (x : Member). cell_of l x.model) same) ∙ other) in
@@ -284,4 +283,4 @@ module _ (n : Netlist) (l : Library) (m : Machine) (well : IsWell n l m) (orderl
       ap half_box (row.ends class [] (counted_low n.classes class r.0)) ∙ same_boxes class free.0 free.1)
 
 pub lengths_are_right : LengthsAreRight
-lengths_are_right n l m p well orderly row = lengths n l m well orderly p row
+lengths_are_right n l p orderly row = lengths n l orderly p row

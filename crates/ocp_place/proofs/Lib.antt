@@ -2,7 +2,10 @@ pub mod Lists
 pub mod Shapes
 pub mod Nodes
 pub mod Clean
+pub mod Classes
+pub mod Driving
 pub mod Seen
+pub mod RightOnes
 pub mod Boxes
 pub mod Points
 pub mod Lengths

@@ -1,5 +1,5 @@
 -- The placement of a netlist's row.
-use Rattle.std.proofs.Common.{◌≡◌, inl, inr, ℕ, ◌<◌, ◌≤◌, List, ◌++◌, map, filter, length, get_or, true, refl, sym, ap, subst, ◌∙◌, arith, length-append}
+use Rattle.std.proofs.Common.{◌≡◌, ℕ, ◌<◌, ◌≤◌, List, ◌++◌, map, filter, length, get_or, true, sym, ap, subst, ◌∙◌, arith, length-append}
 use Rattle.std.specs.Prelude.{flat_map}
 use Rattle.std.specs.Global.{Vec}
 use Rattle.std.proofs.lemmas.List.{length-map}
@@ -32,7 +32,7 @@ use Rattle.ocp_place.specs.Rows.{IsRow, AreEnds}
 use Rattle.ocp_place.specs.Sites.{Site, pin_sites, port_sites, points_in}
 use Rattle.ocp_place.proofs.Groups.{group_points, signals_are, named_is}
 use Rattle.ocp_place.proofs.Lists.{different_names}
-use Rattle.ocp_place.proofs.Seen.{well}
+use Rattle.ocp_place.proofs.Seen.{orderly}
 
 module _ (l : Library) (n : InMemory) (passed : HasPassed true l) (given : IsDrawableIn l n) where
   ports_many : length n.ports ≤ length n.classes
@@ -64,7 +64,7 @@ placed_row l n passed given split is row are all all_is ends many groups = recor
       let r = are k seen in
       let f : Name → ℕ = λ name. k.class (port name) in
       let signals = signals_of l n passed given split is k seen in
-      let w = well l n passed given k seen in
+      let o = orderly l n passed given k seen in
       record {
         ports = signals;
         drivers = r.drivers;
@@ -72,8 +72,8 @@ placed_row l n passed given split is row are all all_is ends many groups = recor
         ends = λ class d low. ends_at k seen class d low signals r.sites;
         starts = r.starts;
         width = r.width;
-        high = is.high ∙ named_is f vdd 0 n.ports n.classes (ports_many l n passed given) (different_names (map (λ p. p.name) n.ports) given.sound.ports) (has k seen vdd ((w.ports vdd).1 (inl refl))) (class_of l n passed given k seen);
-        low = is.low ∙ named_is f vss 0 n.ports n.classes (ports_many l n passed given) (different_names (map (λ p. p.name) n.ports) given.sound.ports) (has k seen vss ((w.ports vss).1 (inr (inl refl)))) (class_of l n passed given k seen);
+        high = is.high ∙ named_is f vdd 0 n.ports n.classes (ports_many l n passed given) (different_names (map (λ p. p.name) n.ports) given.sound.ports) (has k seen vdd o.has_vdd) (class_of l n passed given k seen);
+        low = is.low ∙ named_is f vss 0 n.ports n.classes (ports_many l n passed given) (different_names (map (λ p. p.name) n.ports) given.sound.ports) (has k seen vss o.has_vss) (class_of l n passed given k seen);
       }
     where
       has : (k : Netlist) → IsSeenAs n k → (name : Name) → In name k.ports → In name (map (λ p. p.name) n.ports)

@@ -30,7 +30,8 @@ use Rattle.ocp_place.specs.Sites.{Site, port_sites}
 use Rattle.ocp_place.proofs.Bounds.{driven_low}
 use Rattle.ocp_place.proofs.Models.{plain_library}
 use Rattle.ocp_place.proofs.Rowed.{signals_of}
-use Rattle.ocp_place.proofs.Seen.{well, orderly}
+use Rattle.ocp_place.proofs.Classes.{known, known_seen}
+use Rattle.ocp_place.proofs.Seen.{orderly}
 
 -- ports without the supplies are at most as many as terminals
 pub few_signals : (ports : List Port) (classes : List ℕ) → length (signal_classes ports classes) ≤ length classes
@@ -62,10 +63,10 @@ track_of k (c ∷ cs) s i = by s i (track_of (suc k) cs) where
 module _ (l : Library) (n : InMemory) (passed : HasPassed true l) (given : IsDrawableIn l n) (split : PortClasses) (is : IsSplit n.ports n.classes split)
     (row : Row) (are : (k : Netlist) → IsSeenAs n k → IsRow k l row) where
   abbrev k : Netlist
-  k = given.right.sourced.netlist
+  k = known n
 
   abbrev seen : IsSeenAs n k
-  seen = given.right.seen
+  seen = known_seen n given.sound
 
   count_is : k.classes ≡ n.count
   count_is = seen_classes n k seen
@@ -83,9 +84,8 @@ module _ (l : Library) (n : InMemory) (passed : HasPassed true l) (given : IsDra
   driver_low : (c : ℕ) → In c row.drivers.items → c < n.count
   driver_low c i =
       let r = are k seen in
-      let w = well l n passed given k seen in
       let o = orderly l n passed given k seen in
-      let low = driven_low k l given.machine (plain_library l passed) w o.counted k.instances (λ one h. h) c (subst (λ (cs : List ℕ). In c cs) r.drivers i) in
+      let low = driven_low k l (plain_library l passed) o k.instances (λ one h. h) c (subst (λ (cs : List ℕ). In c cs) r.drivers i) in
       let many = count_is in
       omega (arith, low, many)
 

@@ -1,16 +1,23 @@
 -- Checked cells, and how long the nets of a placement are.
-use Rattle.std.specs.Prelude.{◌≡◌, true, [], ◌∷◌}
+use Rattle.std.specs.Prelude.{◌≡◌, Bool, true, List, [], ◌∷◌}
 use Rattle.machine_meaning.specs.Machine.{Machine}
+use Rattle.machine_core.specs.Checked.{IsChecked}
 use Rattle.cell_model.specs.Cell.{Cell}
 use Rattle.cell_model.specs.Library.{Library, IsUsable}
 use Rattle.cell_model.specs.Usable.{IsFormed}
 use Rattle.cell_checks.specs.declared.verdict.CellVerdict.TheVariants as verdict
+use Rattle.cell_checks.specs.Checked.{IsChecked as HasPassed}
 use Rattle.cell_checks.specs.Verdict.{IsVerdict}
+use Rattle.cell_pins.specs.Table.{IsTableOf}
+use Rattle.net_core.specs.declared.pins.ModelPins.{ModelPins}
+use Rattle.net_core.specs.Netlist.{Netlist as InMemory, IsNetlist}
+use Rattle.net_core.specs.Checks.{IsPinTable}
 use Rattle.net_drawing.specs.Clean.{IsClean}
 use Rattle.net_meaning.specs.Netlist.{Netlist}
-use Rattle.net_meaning.specs.Well.{IsWell}
+use Rattle.net_view.specs.Right.{IsRightNetlist, HasPinsOfCells}
 use Rattle.ocp_rows.specs.Placement.{Placement}
 use Rattle.ocp_rows.specs.Length.{half_perimeter}
+use Rattle.ocp_place.specs.Drawable.{IsDrawableIn}
 use Rattle.ocp_place.specs.Nets.{signal_ports}
 use Rattle.ocp_place.specs.Sites.{length_of}
 use Rattle.ocp_place.specs.Placed.{InRow, IsRowOf}
@@ -23,9 +30,16 @@ row_of n = record { rows = n.instances ∷ []; ports = signal_ports n }
 -- The half perimeters of all classes but the supplies', as a placement in memory has them, are those of the netlist's nets.
 abbrev pub LengthsAreRight : Type 0
 LengthsAreRight =
-    (n : Netlist) (l : Library) (m : Machine) (p : InRow) → IsWell n l m → IsOrderly n l → IsRowOf n l p
+    (n : Netlist) (l : Library) (p : InRow) → IsOrderly n l → IsRowOf n l p
     → length_of p.high p.low p.ends ≡ half_perimeter n l (row_of n)
 
 -- A usable cell that has passed its checks, that of columns among them, may have tracks over it.
 abbrev pub CheckedCellsAreClean : Type 0
 CheckedCellsAreClean = (c : Cell) → IsFormed c → IsVerdict true c verdict.Passes → IsUsable c → IsClean c
+
+-- A right netlist whose instances have the pins of their cells may be drawn over a library that was checked for tracks: there is a
+-- table of the library's pins to check it by.
+abbrev pub RightMayBeDrawn : Type 0
+RightMayBeDrawn =
+    (l : Library) (n : InMemory) (m : Machine) (all : Bool) (table : List ModelPins) → HasPassed true l → IsTableOf l all table → IsPinTable table
+    → IsNetlist n → IsChecked m → IsRightNetlist n l m → HasPinsOfCells n l → IsDrawableIn l n

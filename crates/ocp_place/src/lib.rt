@@ -7,7 +7,7 @@ mod place;
 mod reach;
 mod row;
 
-pub use law::checked_cells_are_clean;
+pub use law::{checked_cells_are_clean, right_may_be_drawn};
 pub use length::{half_perimeter, span};
 pub use place::{Placement, track_place};
 pub use row::Site;

@@ -10,12 +10,14 @@ use Rattle.sym_geom.specs.declared.item.Item.{Item}
 use Rattle.cell_model.specs.Library.{Library}
 use Rattle.cell_checks.specs.Checked.{IsChecked as HasPassed}
 use Rattle.net_core.specs.Netlist.{Netlist as InMemory}
-use Rattle.net_meaning.specs.Netlist.{Member, Netlist, Extracts, port}
+use Rattle.net_meaning.specs.Netlist.{Member, Netlist, port}
 use Rattle.net_meaning.specs.Breaches.{Breaches}
 use Rattle.net_view.specs.View.{member_of, IsSeenAs}
 use Rattle.net_view.proofs.Terminals.{seen_instances}
 use Rattle.ocp_rows.specs.Placement.{IsPlaced, supply_ports, track_ports, track_y, net_count, model_width, rows_width}
+use Rattle.net_drawing.specs.Shown.{ShowsNetlist}
 use Rattle.net_drawing.specs.Drawing.{track_items}
+use Rattle.net_drawing.proofs.Netted.{drawings_are_right}
 use Rattle.net_drawing.specs.Law.{one_row, track_box}
 use Rattle.ocp_place.specs.Drawable.{IsDrawableIn}
 use Rattle.ocp_place.specs.Nets.{is_among, signal_ports, net_number}
@@ -26,9 +28,10 @@ use Rattle.nero_tracks.specs.Tracks.{AreTracks}
 use Rattle.route_draw.specs.Drawn.{IsDrawnInTracks}
 use Rattle.route_draw.specs.Pieces.{signal_names, instance_lines, row_supplies, all_lines}
 use Rattle.ocp_place.proofs.Clean.{rect_is}
-use Rattle.ocp_place.proofs.Seen.{well, orderly}
+use Rattle.ocp_place.proofs.Classes.{known, known_seen}
+use Rattle.ocp_place.proofs.Seen.{orderly}
 use Rattle.route_draw.proofs.Joins.{rows_are, many, names_are, lines_are}
-use Rattle.route_draw.proofs.Right.{right_drawings_are_right}
+use Rattle.route_draw.proofs.Right.{netlists_are_drawable}
 
 module _ (l : Library) (n : InMemory) (passed : HasPassed true l) (given : IsDrawableIn l n) (p : InRow) (placement : IsPlacementOf l n p) (tracks : List Track) (are : AreTracks p tracks) where
   abbrev its_lines : List Item
@@ -37,20 +40,23 @@ module _ (l : Library) (n : InMemory) (passed : HasPassed true l) (given : IsDra
 
   lines : (k : Netlist) → IsSeenAs n k → its_lines ≡ track_items k l (net_number k l) (signal_ports k)
   lines k seen =
-      lines_are n l given.machine k seen given.checked (well l n passed given k seen) (orderly l n passed given k seen) p (placement.row k seen) tracks are
+      lines_are n l k seen (orderly l n passed given k seen) p (placement.row k seen) tracks are
 
   count : (k : Netlist) → IsSeenAs n k → length tracks ≡ net_count k
   count k seen =
-      many n l given.machine k seen given.checked (well l n passed given k seen) (orderly l n passed given k seen) p (placement.row k seen) tracks are
+      many n l k seen (orderly l n passed given k seen) p (placement.row k seen) tracks are
 
   -- the netlist of layouts that it is known by
-  abbrev known : Netlist
-  known = given.right.sourced.netlist
+  abbrev its_netlist : Netlist
+  its_netlist = known n
+
+  its_seen : IsSeenAs n its_netlist
+  its_seen = known_seen n given.sound
 
   pub starts_many : length p.starts ≡ length n.instances
   starts_many =
-      let row = placement.row known given.right.seen in
-      sym (length-map p.starts pos) ∙ ap length row.starts ∙ rows known.instances (pos FIRST_CELL_X) ∙ ap length (seen_instances n known given.right.seen) ∙ length-map n.instances member_of
+      let row = placement.row its_netlist its_seen in
+      sym (length-map p.starts pos) ∙ ap length row.starts ∙ rows its_netlist.instances (pos FIRST_CELL_X) ∙ ap length (seen_instances n its_netlist its_seen) ∙ length-map n.instances member_of
     where
       rows : (ms : List Member) (x : ℤ) → length (row_starts l x ms) ≡ length ms
       rows [] x = refl
@@ -58,16 +64,16 @@ module _ (l : Library) (n : InMemory) (passed : HasPassed true l) (given : IsDra
 
   pub tracks_few : length p.ends < 2 ^ 32 → length tracks < 2 ^ 32
   tracks_few low =
-      let row = placement.row known given.right.seen in
-      let c = count known given.right.seen in
+      let row = placement.row its_netlist its_seen in
+      let c = count its_netlist its_seen in
       let e = row.many in
       omega (arith, low, c, e)
 
   pub names_few : length p.ends < 2 ^ 32 → length (signal_names n.ports) < 2 ^ 32
   names_few low =
-      let row = placement.row known given.right.seen in
-      let a = ap length (names_are n l given.machine known given.right.seen given.checked (well l n passed given known given.right.seen) (orderly l n passed given known given.right.seen) p row tracks are) in
-      let b = length-map (signal_ports known) (λ (name : Name). known.class (port name)) in
+      let row = placement.row its_netlist its_seen in
+      let a = ap length (names_are n l its_netlist its_seen (orderly l n passed given its_netlist its_seen) p row tracks are) in
+      let b = length-map (signal_ports its_netlist) (λ (name : Name). its_netlist.class (port name)) in
       let c = ap length row.ports in
       let d = length-map tracks (λ (t : Track). t.class) in
       let e = ap length are.classes in
@@ -81,16 +87,16 @@ module _ (l : Library) (n : InMemory) (passed : HasPassed true l) (given : IsDra
     named = ap (λ (x : Name). Some x) named;
     lines = λ k seen. is ∙ lines k seen;
     box = box;
-    extracts = λ k seen. subst (λ (xs : List Item). Extracts xs l k) (sym (is ∙ lines k seen)) (right k seen).0;
-    lawful = subst (λ (xs : List Item). Breaches xs l []) (sym (is ∙ lines known given.right.seen)) (right known given.right.seen).1;
+    shows = λ k seen. subst (λ (xs : List Item). ShowsNetlist xs l k) (sym (is ∙ lines k seen)) (right k seen).0;
+    lawful = subst (λ (xs : List Item). Breaches xs l []) (sym (is ∙ lines its_netlist its_seen)) (right its_netlist its_seen).1;
     placed = λ k seen.
         subst (λ (r : Rect). IsPlaced r items k l (one_row k (signal_ports k))) (sym (box k seen))
         (subst (λ (xs : List Item). IsPlaced (track_box k l) xs k l (one_row k (signal_ports k))) (sym (is ∙ lines k seen)) (right k seen).2);
   } where
-    right : (k : Netlist) → IsSeenAs n k → Extracts (track_items k l (net_number k l) (signal_ports k)) l k
+    right : (k : Netlist) → IsSeenAs n k → ShowsNetlist (track_items k l (net_number k l) (signal_ports k)) l k
         × Breaches (track_items k l (net_number k l) (signal_ports k)) l []
         × IsPlaced (track_box k l) (track_items k l (net_number k l) (signal_ports k)) k l (one_row k (signal_ports k))
-    right k seen = right_drawings_are_right l n k passed given seen
+    right k seen = drawings_are_right k l (net_number k l) (signal_ports k) (netlists_are_drawable l n k passed given seen)
 
     box : (k : Netlist) → IsSeenAs n k → bounds ≡ track_box k l
     box k seen =

@@ -16,8 +16,6 @@ use Rattle.sym_geom.specs.declared.layer.Layer.TheVariants.{Alu}
 use Rattle.sym_geom.specs.declared.layer.Level.TheVariants.{Two}
 use Rattle.sym_geom.specs.declared.item.Item.{Item}
 use Rattle.sym_geom.specs.declared.item.Item.TheVariants as item
-use Rattle.machine_meaning.specs.Machine.{Machine}
-use Rattle.machine_core.specs.Checked.{IsChecked}
 use Rattle.cell_model.specs.Library.{Library}
 use Rattle.cell_model.specs.Access.{Point, count_to}
 use Rattle.cell_model.proofs.Members.{In-left}
@@ -27,7 +25,6 @@ use Rattle.net_core.specs.Netlist.{Instance, Netlist as InMemory}
 use Rattle.net_core.proofs.Frames.{mapped, unmapped}
 use Rattle.net_core.proofs.Standing.{Split, left, right, split}
 use Rattle.net_meaning.specs.Netlist.{Member, Netlist, port}
-use Rattle.net_meaning.specs.Well.{IsWell}
 use Rattle.net_view.specs.View.{member_of, IsSeenAs}
 use Rattle.net_view.proofs.Terminals.{seen_ports, seen_instances}
 use Rattle.ocp_rows.specs.Placement.{model_width, row_width, rows_width, level_wire, standing, rails, strap, centres, vss_centre, vdd_centre, supplies, supply_ports, track_ports, track_y, net_count}
@@ -155,7 +152,7 @@ not_true : (b : Bool) → not b ≡ true → b ≡ true → ⊥
 not_true true e f = cc e
 not_true false e f = cc f
 
-module _ (n : InMemory) (l : Library) (m : Machine) (k : Netlist) (seen : IsSeenAs n k) (checked : IsChecked m) (well : IsWell k l m) (orderly : IsOrderly k l)
+module _ (n : InMemory) (l : Library) (k : Netlist) (seen : IsSeenAs n k) (orderly : IsOrderly k l)
     (p : InRow) (row : IsRowOf k l p) (tracks : List Track) (are : AreTracks p tracks) where
   abbrev names : List Name
   names = signal_ports k
@@ -179,7 +176,7 @@ module _ (n : InMemory) (l : Library) (m : Machine) (k : Netlist) (seen : IsSeen
   many =
       let a = length-map tracks (λ (t : Track). t.class) in
       let b = ap length order_is in
-      let c = nets_are_counted k l m checked well orderly in
+      let c = nets_are_counted k l orderly in
       omega (arith, a, b, c)
 
   class_at : (j : ℕ) (t : Track) → Stands tracks j t → Stands (net_classes k l) j t.class
@@ -188,7 +185,7 @@ module _ (n : InMemory) (l : Library) (m : Machine) (k : Netlist) (seen : IsSeen
   ends_are : (j : ℕ) (t : Track) → Stands tracks j t → ends_of p t.class ≡ points_in t.class (port_sites 0 (port_classes k)) ++ pins t.class
   ends_are j t s =
       let i : In t.class (net_classes k l) = In_get (net_classes k l) j t.class (class_at j t s) in
-      row.ends t.class [] (all_below k l m checked well orderly t.class (there (there i)))
+      row.ends t.class [] (all_below k l orderly t.class (there (there i)))
       ∙ points_append t.class (port_sites 0 (port_classes k)) (pin_sites k l)
 
   same_many : length p.ports ≡ length (port_classes k)
@@ -212,7 +209,7 @@ module _ (n : InMemory) (l : Library) (m : Machine) (k : Netlist) (seen : IsSeen
           (pos FIRST_CELL_X, track_y j) ∷ [],
           record {
             named = u.1;
-            ports = its_port j t.class (port_classes k) (different_left (port_classes k) others (nets_differ k l m checked well orderly)) h;
+            ports = its_port j t.class (port_classes k) (different_left (port_classes k) others (nets_differ k l orderly)) h;
             pins_are = ap (λ (b : Bool). cond b (drop 1 ((pos FIRST_CELL_X, track_y j) ∷ pins t.class)) ((pos FIRST_CELL_X, track_y j) ∷ pins t.class)) less;
             track = with_port j u.0 (track_y j) (pins t.class);
           },
@@ -244,9 +241,9 @@ module _ (n : InMemory) (l : Library) (m : Machine) (k : Netlist) (seen : IsSeen
       track_at j t s ∙ ap (λ (qs : List Point). track_span qs (net_pins (length p.ports) j (ends_of p t.class))) all ∙ ap (track_span (points ++ pins t.class)) own in
       let at = class_at j t s in
       let xs : of_pins k l (net_number k l) j (λ (q : Point). q.0 ∷ []) ≡ map first_of (pins t.class) =
-      row_points k l m checked well orderly (λ (q : Point). q.0 ∷ []) j t.class at (pos FIRST_CELL_X) k.instances (λ one i. i) ∙ xs_are (pins t.class) in
+      row_points k l orderly (λ (q : Point). q.0 ∷ []) j t.class at (pos FIRST_CELL_X) k.instances (λ one i. i) ∙ xs_are (pins t.class) in
       let rising : of_pins k l (net_number k l) j (riser j name) ≡ flat_map (riser j name) (pins t.class) =
-      row_points k l m checked well orderly (riser j name) j t.class at (pos FIRST_CELL_X) k.instances (λ one i. i) in
+      row_points k l orderly (riser j name) j t.class at (pos FIRST_CELL_X) k.instances (λ one i. i) in
       let first : net_wiring k l (net_number k l) names j ≡ track_over j name (port_xs name) (of_pins k l (net_number k l) j (λ (q : Point). q.0 ∷ [])) ++ of_pins k l (net_number k l) j (riser j name) =
       ap (λ (o : Option Name). track_over j o (port_xs o) (of_pins k l (net_number k l) j (λ (q : Point). q.0 ∷ [])) ++ of_pins k l (net_number k l) j (riser j o)) h.named in
       first

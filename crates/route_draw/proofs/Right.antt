@@ -1,43 +1,30 @@
--- A right netlist over a library that was checked for tracks may be drawn, and its drawing is right.
-use Rattle.std.proofs.Common.{inl, inr, true, refl}
-use Rattle.vlsi_base.specs.Names.{vdd, vss}
+-- A netlist may be drawn over a library that was checked for tracks, and the drawing of a right one gives it.
+use Rattle.std.proofs.Common.{◌≡◌, sym, ◌∙◌, subst}
+use Rattle.std.proofs.lemmas.Option.{same_Some}
+use Rattle.machine_meaning.specs.Machine.{names_of}
+use Rattle.cell_model.specs.Cell.{Cell}
 use Rattle.cell_model.specs.Library.{Library}
-use Rattle.cell_checks.specs.Checked.{IsChecked as HasPassed}
+use Rattle.cell_pins.specs.Pins.{all_ports}
 use Rattle.net_core.specs.Netlist.{Netlist as InMemory}
-use Rattle.net_meaning.specs.Netlist.{Netlist}
-use Rattle.net_view.specs.View.{IsSeenAs}
-use Rattle.net_drawing.specs.Law.{IsNumbered}
-use Rattle.net_drawing.proofs.FromWell.{well_drawings_are_right}
+use Rattle.net_view.specs.Right.{HasPinsOfCells}
+use Rattle.net_view.proofs.Seen.{seen_is_well_formed}
+use Rattle.net_drawing.proofs.Untied.{untied_is_extracted}
 use Rattle.ocp_place.specs.Drawable.{IsDrawableIn}
-use Rattle.ocp_place.specs.Nets.{signal_ports, net_number}
-use Rattle.ocp_place.proofs.Seen.{well, orderly}
+use Rattle.ocp_place.proofs.Seen.{own_cell, orderly}
 use Rattle.nero_tracks.proofs.Numbered.{nets_are_numbered}
-use Rattle.route_draw.specs.Law.{RightIsDrawable, RightDrawingsAreRight}
+use Rattle.route_draw.specs.Law.{NetlistsAreDrawable, RightDrawingsAreRight}
 
-numbered : (l : Library) (n : InMemory) (passed : HasPassed true l) (given : IsDrawableIn l n) (k : Netlist) (seen : IsSeenAs n k)
-    → IsNumbered k l (net_number k l) (signal_ports k)
-numbered l n passed given k seen = nets_are_numbered k l given.machine given.checked (well l n passed given k seen) (orderly l n passed given k seen)
+pub netlists_are_drawable : NetlistsAreDrawable
+netlists_are_drawable l n k passed given seen = nets_are_numbered k l (orderly l n passed given k seen)
 
-pub right_is_drawable : RightIsDrawable
-right_is_drawable l n k passed given seen =
-    let is_well = well l n passed given k seen in
-    let more = numbered l n passed given k seen in
-    record {
-      models = λ one h. let r = is_well.models one h in (r.0, r.1, r.2, more.clean one r.0 h r.1);
-      names = more.names;
-      order = more.order;
-      port_names = more.port_names;
-      has_vdd = (is_well.ports vdd).1 (inl refl);
-      has_vss = (is_well.ports vss).1 (inr (inl refl));
-      high = is_well.high;
-      low = is_well.low;
-      numbered = more.numbered;
-      used = more.used;
-      below = more.below;
-      one_class = more.one_class;
-      port_nets = more.port_nets;
-    }
+its_pins : (l : Library) (n : InMemory) → IsDrawableIn l n → HasPinsOfCells n l
+its_pins l n given i c there found =
+    let own = own_cell l n given i there in
+    let same : own.cell ≡ c = same_Some own.cell c (sym own.found ∙ found) in
+    subst (λ (x : Cell). i.pins ≡ names_of (all_ports x)) same own.pins
 
 pub right_drawings_are_right : RightDrawingsAreRight
-right_drawings_are_right l n k passed given seen =
-    well_drawings_are_right k l given.machine (net_number k l) (signal_ports k) (well l n passed given k seen) (numbered l n passed given k seen)
+right_drawings_are_right l n m k f passed given checked right seen drawn =
+    let well = (seen_is_well_formed n l m k given.sound checked right (its_pins l n given) seen).0 in
+    let counted = (orderly l n passed given k seen).counted in
+    untied_is_extracted f.items l k (drawn.shows k seen) (record { high = well.high; low = well.low; numbered = counted.numbered; used = counted.used })

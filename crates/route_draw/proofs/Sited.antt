@@ -1,26 +1,24 @@
 -- The points of a net's pins are those of its class.
-use Rattle.std.proofs.Common.{◌≡◌, inr, ℕ, zero, suc, Bool, true, false, cond, nat_eq, List, [], ◌∷◌, ◌++◌, Option, Some, None, refl, sym, ap, subst, ◌∙◌, append-nil, append_assoc}
+use Rattle.std.proofs.Common.{◌≡◌, ℕ, zero, suc, Bool, true, false, cond, nat_eq, List, [], ◌∷◌, ◌++◌, Option, Some, None, refl, sym, ap, subst, ◌∙◌, append-nil, append_assoc, arith}
 use Rattle.std.specs.Prelude.{ℤ, ◌+ℤ◌, flat_map, slice_get}
 use Rattle.std.proofs.lemmas.Bool.{eqb-true, eq-eqb, false_from_ne_true}
 use Rattle.std.proofs.lemmas.Grind.{flat_map-append}
-use Rattle.std.proofs.lemmas.Option.{same_Some}
+use Rattle.std.proofs.lemmas.Option.{same_Some, slice_get_within}
 use Rattle.vlsi_base.specs.declared.name.Name.{Name}
 use Rattle.vlsi_base.specs.Member.{In, here, there, AllDifferent}
-use Rattle.machine_meaning.specs.Machine.{Machine, names_of}
-use Rattle.machine_core.specs.Checked.{IsChecked}
+use Rattle.machine_meaning.specs.Machine.{names_of}
 use Rattle.cell_model.specs.Cell.{Cell, pin_ports}
-use Rattle.cell_model.specs.Library.{Library, cell_of, IsUsable}
+use Rattle.cell_model.specs.Library.{Library, cell_of}
 use Rattle.cell_model.specs.Access.{Point, access_point}
-use Rattle.net_meaning.specs.Netlist.{Member, Netlist, pin_of, IsTerminal, a_pin}
-use Rattle.net_meaning.specs.Well.{IsWell}
+use Rattle.net_meaning.specs.Netlist.{Member, Netlist, pin_of}
 use Rattle.ocp_rows.specs.Placement.{model_width}
 use Rattle.net_drawing.specs.Drawing.{along, on_net, at_point, of_pin, of_cell}
 use Rattle.net_drawing.proofs.Coding.{In_get}
-use Rattle.ocp_place.specs.Nets.{net_classes, net_number}
+use Rattle.ocp_place.specs.Nets.{is_among, net_classes, net_number}
 use Rattle.ocp_place.specs.Orderly.{IsOrderly}
 use Rattle.ocp_place.specs.Sites.{Site, site_at, own_sites, row_sites, points_in}
-use Rattle.nero_tracks.proofs.Among.{placed}
-use Rattle.nero_tracks.proofs.Drivers.{listed, nets_differ}
+use Rattle.nero_tracks.proofs.Among.{among_in, in_among, placed, not_placed}
+use Rattle.nero_tracks.proofs.Drivers.{nets_differ}
 
 -- ---- lists
 
@@ -44,7 +42,7 @@ same_test a b c d f g = by (nat_eq a b) refl where
   by true e = e ∙ sym (eq-eqb c d (f (eqb-true a b e)))
   by false e = e ∙ sym (false_from_ne_true (nat_eq c d) (λ t. let n : true ≡ false = sym (eq-eqb a b (g (eqb-true c d t))) ∙ e in cc n))
 
-module _ (n : Netlist) (l : Library) (m : Machine) (checked : IsChecked m) (well : IsWell n l m) (orderly : IsOrderly n l) where
+module _ (n : Netlist) (l : Library) (orderly : IsOrderly n l) where
   abbrev order : List ℕ
   order = net_classes n l
 
@@ -52,15 +50,18 @@ module _ (n : Netlist) (l : Library) (m : Machine) (checked : IsChecked m) (well
   on_it : (k class : ℕ) → slice_get order k ≡ Some class → (one : Member) (c : Cell) (pin : Name) → In one n.instances → cell_of l one.model ≡ Some c
       → In pin (names_of (pin_ports c)) → on_net n (net_number n l) k (pin_of one.name pin) ≡ nat_eq (n.class (pin_of one.name pin)) class
   on_it k class at one c pin h found i =
-      let r = well.models one h in
-      let usable : IsUsable c = subst (λ (x : Cell). IsUsable x) (same_Some r.0 c (sym r.1 ∙ found)) r.2 in
-      let free = (orderly.clean one c h found).signals pin i in
-      let t : IsTerminal n l (pin_of one.name pin) = a_pin one c h found ((usable.connectors pin).1 (inr (inr i))) in
       let own = n.class (pin_of one.name pin) in
-      let stands = (placed order own (listed n l m checked well orderly (pin_of one.name pin) t free.0 free.1)).1 in
       same_test (net_number n l own) k own class
-      (λ e. same_Some own class (sym stands ∙ ap (slice_get order) e ∙ at))
-      (λ e. once order (nets_differ n l m checked well orderly) (net_number n l own) k class (stands ∙ ap (λ (x : ℕ). Some x) e) at)
+      (λ e. by own e (is_among order own) refl)
+      (λ e. let there_ : In own order = subst (λ (x : ℕ). In x order) (sym e) (In_get order k class at) in
+      once order (nets_differ n l orderly) (net_number n l own) k class ((placed order own there_).1 ∙ ap (λ (x : ℕ). Some x) e) at)
+    where
+      by : (own : ℕ) → net_number n l own ≡ k → (r : Bool) → is_among order own ≡ r → own ≡ class
+      by own e true f = same_Some own class (sym (placed order own (among_in order own f)).1 ∙ ap (slice_get order) e ∙ at)
+      by own e false f =
+          let past = not_placed order own (λ j. let never : true ≡ false = sym (in_among order own j) ∙ f in cc never) in
+          let low = slice_get_within order k class at in
+          absurd (omega (arith, e, past, low))
 
   module _ {A : Type 0} (g : Point → List A) (k class : ℕ) (at : slice_get order k ≡ Some class) where
     -- one pin

@@ -38,7 +38,6 @@ use Rattle.cell_pins.proofs.Ports.{in_filter}
 use Rattle.net_core.specs.Places.{Stands, NoneTwice}
 use Rattle.net_core.specs.Netlist.{Instance as Node, Netlist as InMemory}
 use Rattle.net_meaning.specs.Netlist.{Member, Netlist, port}
-use Rattle.net_meaning.specs.Well.{IsWell}
 use Rattle.net_view.specs.View.{member_of, IsSeenAs}
 use Rattle.net_view.specs.Writable.{CanBeAnInstance, CanBeNamed, HasShortNames}
 use Rattle.net_view.proofs.Lists.{map_twice}
@@ -51,7 +50,8 @@ use Rattle.net_drawing.proofs.Coding.{In_get}
 use Rattle.ocp_place.specs.Drawable.{IsDrawableIn}
 use Rattle.ocp_place.specs.Nets.{is_signal, is_among, signal_ports, port_classes, driven, net_number}
 use Rattle.ocp_place.specs.Orderly.{IsOrderly}
-use Rattle.ocp_place.proofs.Seen.{well, orderly}
+use Rattle.ocp_place.proofs.Classes.{known, known_seen}
+use Rattle.ocp_place.proofs.Seen.{orderly}
 use Rattle.nero_tracks.proofs.Numbered.{nets_are_counted}
 use Rattle.route_draw.specs.Drawn.{IsDrawnInTracks}
 use Rattle.route_draw.specs.Law.{DrawingCanBeWritten}
@@ -236,19 +236,16 @@ module _ (l : Library) (n : InMemory) (f : Figure) (passed : HasPassed true l) (
     (few_instances : length n.instances ≤ 32768) (few_ports : length n.ports ≤ 8192) (drawn : IsDrawnInTracks l n f) where
   -- the netlist of layouts that it is known by
   abbrev k : Netlist
-  k = given.right.sourced.netlist
+  k = known n
 
   abbrev seen : IsSeenAs n k
-  seen = given.right.seen
+  seen = known_seen n given.sound
 
   abbrev net : Numbering
   net = net_number k l
 
   abbrev names : List Name
   names = signal_ports k
-
-  is_well : IsWell k l given.machine
-  is_well = well l n passed given k seen
 
   is_orderly : IsOrderly k l
   is_orderly = orderly l n passed given k seen
@@ -261,8 +258,8 @@ module _ (l : Library) (n : InMemory) (f : Figure) (passed : HasPassed true l) (
 
   models : (one : Member) → In one k.instances → IsModelOf l one
   models one listed =
-      let r = is_well.models one listed in
-      let clean = is_orderly.clean one r.0 listed r.1 in
+      let r = is_orderly.models one listed in
+      let clean = r.3 in
       let own = (named_cell l.cells one.model r.0 r.1).0 in
       let passes = All-In (λ (c : Cell). IsVerdict true c verdict.Passes) l.cells passed.passes r.0 own in
       record {
@@ -337,7 +334,7 @@ module _ (l : Library) (n : InMemory) (f : Figure) (passed : HasPassed true l) (
   -- how many nets there are
   few_nets : net_count k ≤ length names + length k.instances
   few_nets =
-      let a = nets_are_counted k l given.machine given.checked is_well is_orderly in
+      let a = nets_are_counted k l is_orderly in
       let b = length-append (port_classes k) (filter (λ class. not (is_among (port_classes k) class)) (driven k l k.instances)) in
       let c = length-map names (λ (name : Name). k.class (port name)) in
       let d = filter_less (λ class. not (is_among (port_classes k) class)) (driven k l k.instances) in
@@ -405,7 +402,7 @@ module _ (l : Library) (n : InMemory) (f : Figure) (passed : HasPassed true l) (
   instance_names_are =
       names_listed f.items
       ∙ sym (map_twice (λ (m : Member). m.name) (λ (i : Instance). record { name = i.name; model = i.model }) (instances_of f.items))
-      ∙ ap (λ (ms : List Member). map (λ (m : Member). m.name) ms) (sym (drawn.extracts k seen).instances)
+      ∙ ap (λ (ms : List Member). map (λ (m : Member). m.name) ms) (sym (drawn.shows k seen).instances)
       ∙ ap (λ (ms : List Member). map (λ (m : Member). m.name) ms) members
       ∙ map_twice (λ (m : Member). m.name) member_of n.instances
 

@@ -1,33 +1,31 @@
--- The drawing of a right netlist is right.
-use Rattle.std.specs.Prelude.{◌≤◌, true, [], length}
+-- What is drawn of a netlist is right, and can be written.
+use Rattle.std.specs.Prelude.{◌≤◌, true, length}
+use Rattle.machine_meaning.specs.Machine.{Machine}
+use Rattle.machine_core.specs.Checked.{IsChecked}
 use Rattle.cell_model.specs.Library.{Library}
 use Rattle.cell_checks.specs.Checked.{IsChecked as HasPassed}
 use Rattle.net_core.specs.Netlist.{Netlist as InMemory}
 use Rattle.net_meaning.specs.Netlist.{Netlist, Extracts}
-use Rattle.net_meaning.specs.Breaches.{Breaches}
+use Rattle.net_view.specs.Right.{IsRightNetlist}
 use Rattle.net_view.specs.View.{IsSeenAs}
 use Rattle.net_view.specs.Writable.{CanBeNamed, HasShortNames}
-use Rattle.ocp_rows.specs.Placement.{IsPlaced}
-use Rattle.net_drawing.specs.Drawing.{track_items, IsDrawable}
-use Rattle.net_drawing.specs.Law.{one_row, track_box}
+use Rattle.net_drawing.specs.Drawing.{IsDrawable}
 use Rattle.ap_io.specs.declared.figure.Figure.{Figure}
 use Rattle.ap_io.specs.ApText.{IsFigure, IsWithinLimits}
 use Rattle.ocp_place.specs.Drawable.{IsDrawableIn}
 use Rattle.ocp_place.specs.Nets.{signal_ports, net_number}
 use Rattle.route_draw.specs.Drawn.{IsDrawnInTracks}
 
--- A right netlist over a library that was checked for tracks may be drawn, as each netlist of layouts that it is seen as.
-abbrev pub RightIsDrawable : Type 0
-RightIsDrawable =
+-- A netlist may be drawn over a library that was checked for tracks, as each netlist of layouts that it is seen as.
+abbrev pub NetlistsAreDrawable : Type 0
+NetlistsAreDrawable =
     (l : Library) (n : InMemory) (k : Netlist) → HasPassed true l → IsDrawableIn l n → IsSeenAs n k → IsDrawable k l (net_number k l) (signal_ports k)
 
--- and the drawing gives exactly this netlist, breaks no rule, and is that of its instances in one row in the order of the netlist
+-- The drawing of a right netlist gives exactly this netlist, since none of its signal pins is tied to a supply.
 abbrev pub RightDrawingsAreRight : Type 0
 RightDrawingsAreRight =
-    (l : Library) (n : InMemory) (k : Netlist) → HasPassed true l → IsDrawableIn l n → IsSeenAs n k
-    → Extracts (track_items k l (net_number k l) (signal_ports k)) l k
-    × Breaches (track_items k l (net_number k l) (signal_ports k)) l []
-    × IsPlaced (track_box k l) (track_items k l (net_number k l) (signal_ports k)) k l (one_row k (signal_ports k))
+    (l : Library) (n : InMemory) (m : Machine) (k : Netlist) (f : Figure) → HasPassed true l → IsDrawableIn l n → IsChecked m → IsRightNetlist n l m
+    → IsSeenAs n k → IsDrawnInTracks l n f → Extracts f.items l k
 
 -- The figure can be written, where its names can, and it is no larger than a source within the limits gives.
 abbrev pub DrawingCanBeWritten : Type 0

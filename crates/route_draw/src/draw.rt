@@ -72,8 +72,8 @@ fn lines(
 }
 
 /// Draws a placed netlist with private tracks: the ports of vss and vdd, the other ports in the order of names, the instances, the
-/// rails and straps of the supplies, and the nets by their numbers, each with its track and its terminals. Takes memory for the lines,
-/// and time for each.
+/// rails and straps of the supplies, and the nets by their numbers, each with its track and its terminals. Nothing is drawn at a signal
+/// pin that is tied to vdd or vss. Takes memory for the lines, and time for each.
 pub fn draw_tracks(
     alloc: Global,
     placement: &Placement,

@@ -1,11 +1,14 @@
 // What is true of drawings.
-ghost use Rattle.route_draw.specs.Law.{RightIsDrawable, RightDrawingsAreRight, DrawingCanBeWritten};
+ghost use Rattle.route_draw.specs.Law.{NetlistsAreDrawable, RightDrawingsAreRight, DrawingCanBeWritten};
 
-/// A right netlist over a library that was checked for tracks may be drawn, and its drawing gives exactly this netlist, breaks no
-/// rule, and is that of its instances in one row.
+/// A netlist of usable cells may be drawn over a library that was checked for tracks.
+pub fn netlists_are_drawable()
+    ensures { NetlistsAreDrawable }
+{}
+
+/// The drawing of a netlist that is right for some machine gives exactly this netlist.
 pub fn right_drawings_are_right()
-    ensures drawable { RightIsDrawable }
-    ensures right { RightDrawingsAreRight }
+    ensures { RightDrawingsAreRight }
 {}
 
 /// The figure of a netlist with names that can be written and within the limits of sources can be written.

@@ -8,4 +8,4 @@ mod nets;
 mod row;
 
 pub use draw::draw_tracks;
-pub use law::{drawing_can_be_written, right_drawings_are_right};
+pub use law::{drawing_can_be_written, netlists_are_drawable, right_drawings_are_right};

@@ -43,4 +43,4 @@ returns-clause-refused c =
     let stands : Stands (names_of (pin_ports cell)) c.in-Some.j c.in_ok-copy-2.field-0 =
     subst (λ (n : Name). Stands (names_of (pin_ports cell)) c.in-Some.j n) (sym name)
     (pin_name cell c.as_slice.result.now points c.in-Some.j pin c.as_slice.ensures c.in_ok-points.ensures shared.within c.index-as_slice-j.is) in
-    (sym c.in_ok-copy.ensures, a_shared_pin cell points c.in_ok-points.ensures c.requires.formed c.in-Some.j c.in_ok-copy-2.field-0 stands shared)
+    (sym c.in_ok-copy.ensures, a_shared_pin cell points c.in_ok-points.ensures c.in-Some.j c.in_ok-copy-2.field-0 stands shared)

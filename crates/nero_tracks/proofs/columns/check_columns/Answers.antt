@@ -8,7 +8,8 @@ pub returns-in_err-check_model-clause-refused : goal.returns-in_err-check_model-
 returns-in_err-check_model-clause-refused c =
     let p = err_from_is_err_and c.from_residual-in_err-check_model.result c.from_residual-in_err-check_model.ensures.1 in
     rw (p.1, p.2) (refused c.args.library.now c.args.netlist.now c.models-models.result.now c.nodes.result.now c.in_ok-in_use.in_use.items c.models-models.ensures c.nodes.ensures.seen
-    c.in_ok-in_use.ensures c.loop-k.k c.index.result.now c.index-models-k.result c.in_err-check_model.field-0.0 c.loop-k-test.true c.index.ensures c.if-index.true c.index-models-k.is
+    c.in_ok-in_use.ensures
+    c.requires c.nodes.ensures.known c.loop-k.k c.index.result.now c.index-models-k.result c.in_err-check_model.field-0.0 c.loop-k.invariant c.loop-k-test.true c.index.ensures c.if-index.true c.index-models-k.is
     c.in_err-check_model.ensures.refused)
 
 pub loop-k-preserved : goal.loop-k-preserved

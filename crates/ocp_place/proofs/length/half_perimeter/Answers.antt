@@ -1,11 +1,10 @@
 use Rattle.std.proofs.Common.{◌∙◌}
 use Rattle.ocp_place.proofs.Lengths.{lengths_are_right}
-use Rattle.ocp_place.proofs.Seen.{well, orderly}
+use Rattle.ocp_place.proofs.Seen.{orderly}
 use Rattle.ocp_place.proofs.length.half_perimeter.Goals as goal
 
 pub returns : goal.returns
 returns c = λ n k placement seen.
     let l = c.args.library.now in
     c.length.ensures
-    ∙ lengths_are_right k l placement.drawable.machine c.args.placement.now (well l n placement.passed placement.drawable k seen)
-    (orderly l n placement.passed placement.drawable k seen) (placement.row k seen)
+    ∙ lengths_are_right k l c.args.placement.now (orderly l n placement.passed placement.drawable k seen) (placement.row k seen)

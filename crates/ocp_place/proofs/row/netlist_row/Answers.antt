@@ -9,7 +9,7 @@ use Rattle.ocp_place.specs.Reaches.{AreReaches}
 use Rattle.ocp_place.proofs.Models.{plain_library}
 use Rattle.ocp_place.proofs.Laid.{node_reach, node_fits, few_nodes, inside, short, next}
 use Rattle.ocp_place.proofs.Bounds.{whole_row}
-use Rattle.ocp_place.proofs.Seen.{well, orderly}
+use Rattle.ocp_place.proofs.Seen.{orderly}
 use Rattle.ocp_place.proofs.row.netlist_row.Goals as goal
 
 pub classes_from-own-requires : goal.classes_from-own-requires
@@ -132,6 +132,6 @@ returns c = λ k seen.
     let given = c.requires.netlist in
     let ended : c.loop-node.node-index ≡ length nodes = omega arith in
     let narrow = c.loop-node.invariant.narrow in
-    whole_row k l given.machine plain (well l n c.requires.library given k seen) (orderly l n c.requires.library given k seen).counted c.loop-node.node-index c.loop-node.row
+    whole_row k l plain (orderly l n c.requires.library given k seen) c.loop-node.node-index c.loop-node.row
     (ap length (seen_instances n k seen) ∙ length-map n.instances member_of ∙ ap length (sym c.nodes-node-items.ensures.seen) ∙ length-map nodes (instance_of n.models) ∙ sym ended)
     (omega (arith, few, ended, narrow)) (c.loop-node.invariant.seen k seen)
