@@ -11,12 +11,12 @@ use Rattle.bdd_core.specs.Branching.{IsBranch}
 use Rattle.bdd_core.specs.Nodes.{raised, raised_to, height, place, joined, Lists, IsSon, IsMade, IsFull, IsWhole}
 use Rattle.bdd_core.specs.Combined.{combined, combined_at, IsOutcome}
 use Rattle.bdd_core.specs.Counting.{function, Holds}
-use Rattle.bdd_core.specs.Diagram.{Diagram, IsNode, function_of, Keeps, IsAnswer}
+use Rattle.bdd_core.specs.Diagram.{Diagram, IsNode, function_of, IsSplit, Keeps, IsAnswer}
 use Rattle.bdd_core.proofs.Standing.{KeepsPlaces, Stands}
 use Rattle.bdd_core.proofs.Counts.{count_is, keeps_grown, asked_is, over_asked}
 use Rattle.bdd_core.proofs.Counting.{over_count}
 use Rattle.bdd_core.proofs.Single.{constant_to, stands_again, variable_keeps, variable_asked, variable_over, keeps_same}
-use Rattle.bdd_core.proofs.Held.{constant_function, branch_is}
+use Rattle.bdd_core.proofs.Held.{constant_function, branch_is, split_is}
 
 abbrev good : NodeId → Result NodeId BddError
 good a = Ok a
@@ -180,3 +180,14 @@ pub branch_at : (t : Lists) (q : Option BddError) (d : Diagram) → at_view t q 
 branch_at t q d is at v low high whole within own less l h half =
     subst (λ (d : Diagram). IsBranch d.table.vars (function d.table at) v (function d.table low) (function d.table high)) is
     (branch_is t at v low high whole (subst (λ (d : Diagram). at < length d.table.lists) (sym is) within) own less l h half)
+
+pub split_at : (t : Lists) (q : Option BddError) (d : Diagram) → at_view t q ≡ d → (a low high : NodeId) (v : ℕ) → IsWhole t → a.place < length d.table.lists
+    → v + height (place t.lists a.place) ≡ t.vars → v < t.vars → raised_to (t.vars - v) (place t.lists a.place) ≡ joined t.vars t.lists v low.place high.place
+    → IsSplit d a low high
+split_at t q d is a low high v whole within own less half =
+    subst (λ (d : Diagram). IsSplit d a low high) is
+    (let s = split_is t a.place v low.place high.place whole (subst (λ (d : Diagram). a.place < length d.table.lists) (sym is) within) own less half in
+    record { uneven = s.0; low = s.1; high = s.2 })
+
+pub whole_at : (t : Lists) (q : Option BddError) (d : Diagram) → at_view t q ≡ d → IsWhole t → IsWhole d.table
+whole_at t q d is whole = subst (λ (d : Diagram). IsWhole d.table) is whole

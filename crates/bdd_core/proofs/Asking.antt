@@ -21,7 +21,7 @@ wrong e = Err e
 ok_err : (a : NodeId) (e : BddError) → good a ≡ wrong e → ⊥
 ok_err a e p = (cc)
 
-over_sub : (fs gs : List Truths) (budget : ℕ) → ((f : Truths) → Contains fs f → Contains gs f) → IsOver fs budget → IsOver gs budget
+pub over_sub : (fs gs : List Truths) (budget : ℕ) → ((f : Truths) → Contains fs f → Contains gs f) → IsOver fs budget → IsOver gs budget
 over_sub fs gs budget sub o = (o.0, o.1, λ x c. let k : IsCounted fs x = o.2 x c in (k.0, (k.1.0, sub k.1.0 k.1.1, k.1.2)), o.3)
 
 -- what is asked for and what the expression denotes, over the functions that the nodes have
@@ -31,10 +31,10 @@ Asks d bound e = asked_of d.table.vars (functions_of d bound) e
 abbrev pub Denotes : Diagram → List NodeId → Expression → Truths
 Denotes d bound e = denoted d.table.vars (functions_of d bound) e
 
-keeps_then : (d0 d1 d2 : Diagram) → Keeps d0 d1 → Keeps d1 d2 → Keeps d0 d2
+pub keeps_then : (d0 d1 d2 : Diagram) → Keeps d0 d1 → Keeps d1 d2 → Keeps d0 d2
 keeps_then d0 d1 d2 a b i w = ((b i (a i w).0).0, (b i (a i w).0).1 ∙ (a i w).1)
 
-same_functions : (d0 d1 : Diagram) (bound : List NodeId) → Keeps d0 d1 → All (λ a. IsNode d0 a) bound → functions_of d1 bound ≡ functions_of d0 bound
+pub same_functions : (d0 d1 : Diagram) (bound : List NodeId) → Keeps d0 d1 → All (λ a. IsNode d0 a) bound → functions_of d1 bound ≡ functions_of d0 bound
 same_functions d0 d1 [] keeps all = refl
 same_functions d0 d1 (a ∷ bound) keeps all =
     let here : IsNode d0 a = all 0 a (omega arith) in
@@ -53,7 +53,7 @@ pub record SoFar (d0 d : Diagram) (asked : List Truths) : Type 0 where
   pub live : d.refused ≡ None
   pub was_live : (e : BddError) → d0.refused ≡ Some e → ⊥
 
-first : (d0 d1 : Diagram) (asked : List Truths) (f : Truths) (a : NodeId) → IsAnswer d0 d1 asked f (Ok a) → SoFar d0 d1 asked
+pub first : (d0 d1 : Diagram) (asked : List Truths) (f : Truths) (a : NodeId) → IsAnswer d0 d1 asked f (Ok a) → SoFar d0 d1 asked
 first d0 d1 asked f a p = record {
   vars = p.vars;
   budget = p.budget;
@@ -64,7 +64,7 @@ first d0 d1 asked f a p = record {
 }
 
 -- an answer after others
-after : (d0 d1 d2 : Diagram) (xs ys : List Truths) (f : Truths) → SoFar d0 d1 xs → (r : Result NodeId BddError) → IsAnswer d1 d2 ys f r → IsAnswer d0 d2 (ys ++ xs) f r
+pub after : (d0 d1 d2 : Diagram) (xs ys : List Truths) (f : Truths) → SoFar d0 d1 xs → (r : Result NodeId BddError) → IsAnswer d1 d2 ys f r → IsAnswer d0 d2 (ys ++ xs) f r
 after d0 d1 d2 xs ys f s r a = record {
   vars = a.vars ∙ s.vars;
   budget = a.budget ∙ s.budget;
@@ -90,7 +90,7 @@ after d0 d1 d2 xs ys f s r a = record {
           (subst (λ (l : List Truths). IsOver l d0.table.budget) (append_assoc ys xs fs) o));
     }
 
-same_answer : (d0 d1 : Diagram) (xs ys : List Truths) (f g : Truths) (r : Result NodeId BddError) → xs ≡ ys → f ≡ g → IsAnswer d0 d1 xs f r → IsAnswer d0 d1 ys g r
+pub same_answer : (d0 d1 : Diagram) (xs ys : List Truths) (f g : Truths) (r : Result NodeId BddError) → xs ≡ ys → f ≡ g → IsAnswer d0 d1 xs f r → IsAnswer d0 d1 ys g r
 same_answer d0 d1 xs ys f g r e h a =
     subst (λ (l : List Truths). IsAnswer d0 d1 l g r) e (subst (λ (t : Truths). IsAnswer d0 d1 xs t r) h a)
 

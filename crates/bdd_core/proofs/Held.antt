@@ -1,11 +1,11 @@
 -- Values of truth lists, and the first variable on which one depends.
-use Rattle.std.proofs.Common.{◌≡◌, ℕ, zero, suc, ◌+◌, ◌-◌, ◌<◌, ◌≤◌, Bool, true, false, List, [], ◌∷◌, length, refl, sym, ap, subst, ◌∙◌, arith, if◌then◌else◌}
+use Rattle.std.proofs.Common.{◌≡◌, ℕ, zero, suc, ◌+◌, ◌-◌, ◌<◌, ◌≤◌, Bool, true, false, List, [], ◌∷◌, length, refl, sym, ap, subst, ◌∙◌, arith, if◌then◌else◌, inl, inr}
 use Rattle.bool_expr.specs.Expression.{bit}
-use Rattle.bdd_core.specs.Truths.{Truths, constant, halves, truths, IsUneven}
+use Rattle.bdd_core.specs.Truths.{Truths, constant, halves, truths, IsPart, IsUneven}
 use Rattle.bdd_core.specs.Branching.{truth_at, held, IsBranch}
 use Rattle.bdd_core.specs.Nodes.{raised, raised_to, height, place, joined, Lists, IsSon, IsWhole}
 use Rattle.bdd_core.specs.Counting.{function}
-use Rattle.bdd_core.proofs.Raised.{IsReduced, raised_to-itself}
+use Rattle.bdd_core.proofs.Raised.{IsReduced, raised_to-itself, part-in_raised}
 use Rattle.bdd_core.proofs.Combining.{from_earlier}
 use Rattle.bdd_core.proofs.Single.{constant_to}
 
@@ -122,3 +122,22 @@ branch_is d at v low high w inside own within l h is = record {
 
     at_high : held v true (function d at) ≡ raised (suc v) b
     at_high = ap (λ (t : Truths). held v true t) front ∙ held_high v a b
+
+-- the parts of what stands behind are parts
+part-in_raised_to : (h : ℕ) (t x : Truths) → IsPart x t → IsPart x (raised_to h t)
+unfolding raised_to
+part-in_raised_to h t x part = part-in_raised (h - height t) t x part
+
+-- a place that is no constant has unequal halves, and the parts of the two places below it are parts of it
+pub split_is : (d : Lists) (at v low high : ℕ) → IsWhole d → at < length d.lists → v + height (place d.lists at) ≡ d.vars → v < d.vars
+    → raised_to (d.vars - v) (place d.lists at) ≡ joined d.vars d.lists v low high
+    → IsUneven (place d.lists at) × ((x : Truths) → IsPart x (place d.lists low) → IsPart x (place d.lists at))
+    × ((x : Truths) → IsPart x (place d.lists high) → IsPart x (place d.lists at))
+split_is d at v low high w inside own within is = (
+  uneven_place d at w inside (omega (arith, own, within)),
+  λ x part. subst (λ (t : Truths). IsPart x t) (sym itself) (inr (inl (part-in_raised_to (d.vars - (v + 1)) (place d.lists low) x part))),
+  λ x part. subst (λ (t : Truths). IsPart x t) (sym itself) (inr (inr (part-in_raised_to (d.vars - (v + 1)) (place d.lists high) x part))),
+)
+  where
+    itself : place d.lists at ≡ joined d.vars d.lists v low high
+    itself = sym (raised_to-itself (d.vars - v) (place d.lists at) (omega (arith, own))) ∙ is

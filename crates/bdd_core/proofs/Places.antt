@@ -1,14 +1,15 @@
 -- What the places of a table mean, as its methods need it.
-use Rattle.std.proofs.Common.{◌≡◌, ℕ, zero, suc, false, nat_eq, ◌+◌, ◌-◌, ◌<◌, ◌≤◌, inl, inr, List, [], ◌∷◌, ◌++◌, length, slice_get, Some, refl, sym, ap, subst, ◌∙◌, arith, length-append}
-use Rattle.std.specs.List.{slice_index_or, Contains}
+use Rattle.std.proofs.Common.{◌≡◌, ℕ, zero, suc, false, nat_eq, ◌+◌, ◌-◌, ◌^◌, ◌<◌, ◌≤◌, ◌⊎◌, inl, inr, List, [], ◌∷◌, ◌++◌, length, slice_get, Some, refl, sym, ap, subst, ◌∙◌, arith, length-append}
+use Rattle.std.specs.List.{slice_index_or, Contains, All}
 use Rattle.std.proofs.lemmas.Option.{slice_get_within, slice_get-get_or}
 use Rattle.std.proofs.Math.Seq.{get_or-append_seam}
 use Rattle.bdd_core.specs.declared.node.Node.{Node}
 use Rattle.bdd_core.specs.Truths.{Truths, constant, halves, IsUneven}
-use Rattle.bdd_core.specs.Nodes.{raised_to, height, place, joined, meaning, lists_of, Lists, IsSon, AreSound, IsMade, IsFull}
+use Rattle.bdd_core.specs.Nodes.{raised_to, height, place, joined, meaning, lists_of, Lists, IsNarrow, IsSon, AreSound, IsMade, IsFull}
 use Rattle.bdd_core.proofs.Raised.{height-raised_to, raised_to-suc, raised_to-itself}
 use Rattle.bdd_core.proofs.Pushing.{lists_of-push, sound-push, uneven_new, absent, joined-kept}
 use Rattle.std.proofs.lemmas.List.{get_or_default}
+use Rattle.std.proofs.lemmas.List.Elements.{All-push}
 
 abbrev pub table : ℕ → ℕ → List Node → Lists
 table vars budget nodes = record { vars = vars; budget = budget; lists = lists_of vars nodes }
@@ -100,6 +101,29 @@ is_full d nodes n s low high apart new full = record {
   where
     at_default : (c : Contains d.lists (meaning d.vars d.lists n)) → place d.lists c.0 ≡ meaning d.vars d.lists n
     at_default c = get_or_default d.lists c.0 (constant false) (meaning d.vars d.lists n) c.1 ∙ c.2
+
+-- a son whose place needs more than 32 bits is the last place of the greatest budget, and no node has it
+pub is_past : (d : Lists) (nodes : List Node) (v low high : ℕ) → AreSound d.vars nodes d.lists → All IsNarrow nodes
+    → IsSon d.vars d.lists v low → IsSon d.vars d.lists v high → (low ≡ high → ⊥) → ((2 ^ 32 ≤ low) ⊎ (2 ^ 32 ≤ high)) → length nodes ≤ d.budget → d.budget < 2 ^ 32
+    → IsFull d v low high
+is_past d nodes v low high s narrow l h apart past room fits =
+    is_full d nodes (record { variable = v; low = low; high = high }) s l h apart (λ c. never c past) (full past)
+  where
+    never : Contains nodes (record { variable = v; low = low; high = high }) → ((2 ^ 32 ≤ low) ⊎ (2 ^ 32 ≤ high)) → ⊥
+    never c (inl p) =
+        let n : IsNarrow (record { variable = v; low = low; high = high }) = subst IsNarrow c.2 (narrow c.0 _ c.1) in
+        omega (arith, n.low, p)
+    never c (inr p) =
+        let n : IsNarrow (record { variable = v; low = low; high = high }) = subst IsNarrow c.2 (narrow c.0 _ c.1) in
+        omega (arith, n.high, p)
+
+    full : ((2 ^ 32 ≤ low) ⊎ (2 ^ 32 ≤ high)) → length nodes ≡ d.budget
+    full (inl p) = omega (arith, p, l.within, s.count, room, fits)
+    full (inr p) = omega (arith, p, h.within, s.count, room, fits)
+
+-- the list of nodes stays narrow
+pub narrow_push : (nodes after : List Node) (n : Node) → after ≡ nodes ++ n ∷ [] → IsNarrow n → All IsNarrow nodes → All IsNarrow after
+narrow_push nodes after n e new all = subst (λ (ns : List Node). All IsNarrow ns) (sym e) (All-push IsNarrow nodes n all new)
 
 -- what `halves` answers at the node's own variable
 pub record Own (d : Lists) (v at : ℕ) (n : Node) : Type 0 where

@@ -6,7 +6,7 @@ use Rattle.bdd_core.specs.declared.operators.Operator.TheVariants.{Pair, Choice}
 use Rattle.bdd_core.specs.declared.node.NodeId.{NodeId}
 use Rattle.bdd_core.specs.declared.node.BddError.{BddError}
 use Rattle.bdd_core.specs.declared.node.BddError.TheVariants.{Budget, Memory}
-use Rattle.bdd_core.specs.Truths.{Truths, IsOver}
+use Rattle.bdd_core.specs.Truths.{Truths, IsPart, IsUneven, IsOver}
 use Rattle.bdd_core.specs.Nodes.{height, place, Lists, lists_code}
 use Rattle.bdd_core.specs.Combined.{combined}
 use Rattle.bdd_core.specs.Counting.{function, Holds}
@@ -30,6 +30,16 @@ functions_of d nodes = map (function_of d) nodes
 -- how many variables there are from the first one on which the function of a node depends
 abbrev pub levels_of : Diagram → NodeId → ℕ
 levels_of d a = height (place d.table.lists a.place)
+
+-- what a node means at its own level
+abbrev pub list_of : Diagram → NodeId → Truths
+list_of d a = place d.table.lists a.place
+
+-- the node has unequal halves, and all parts of the two nodes below it are parts of it
+pub record IsSplit (d : Diagram) (a l h : NodeId) : Type 0 where
+  pub uneven : IsUneven (list_of d a)
+  pub low : (x : Truths) → IsPart x (list_of d l) → IsPart x (list_of d a)
+  pub high : (x : Truths) → IsPart x (list_of d h) → IsPart x (list_of d a)
 
 -- the gate of two functions, and the second function where the first is 1 with the third elsewhere: value by value
 abbrev pub gate_of : Gate → Truths → Truths → Truths

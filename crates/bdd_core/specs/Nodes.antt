@@ -1,5 +1,5 @@
 -- What the nodes of a diagram mean: each a truth list with unequal halves, or a constant.
-use Rattle.std.specs.Prelude.{◌≡◌, ℕ, zero, suc, ◌+◌, ◌-◌, ◌<◌, ◌≤◌, ◌⊎◌, true, false, List, [], ◌∷◌, ◌++◌, length, slice_get, Some, refl}
+use Rattle.std.specs.Prelude.{◌≡◌, ℕ, zero, suc, ◌+◌, ◌-◌, ◌^◌, ◌<◌, ◌≤◌, ◌⊎◌, true, false, List, [], ◌∷◌, ◌++◌, length, slice_get, Some, refl}
 use Rattle.std.specs.List.{slice_index_or, Contains}
 use Rattle.bdd_core.specs.declared.node.Node.{Node}
 use Rattle.std.specs.Coded.{Coded, code_by, coded×, coded_ℕ, coded_list}
@@ -41,6 +41,11 @@ lists_after vars lists (n ∷ ns) = lists_after vars (lists ++ meaning vars list
 -- the two constants, and then what each node means
 unfoldable pub lists_of : ℕ → List Node → List Truths
 lists_of vars nodes = lists_after vars (constant false ∷ constant true ∷ []) nodes
+
+-- the places of the sons fit in 32 bits
+pub record IsNarrow (n : Node) : Type 0 where
+  pub low : n.low < 2 ^ 32
+  pub high : n.high < 2 ^ 32
 
 -- a node with this variable may stand above that place
 pub record IsSon (vars : ℕ) (lists : List Truths) (variable son : ℕ) : Type 0 where

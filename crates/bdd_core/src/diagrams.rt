@@ -5,10 +5,10 @@ ghost use Rattle.bool_expr.specs.Expression.{bit, IsOver as IsWithin};
 ghost use Rattle.bool_expr.specs.View.{view};
 ghost use Rattle.bdd_core.specs.Truths.{Truths, constant, truths, IsCountOf};
 ghost use Rattle.bdd_core.specs.Branching.{truth_at, IsBranch};
-ghost use Rattle.bdd_core.specs.Nodes.{raised};
+ghost use Rattle.bdd_core.specs.Nodes.{raised, IsWhole};
 ghost use Rattle.bdd_core.specs.Combined.{combined};
 ghost use Rattle.bdd_core.specs.Counting.{Holds};
-ghost use Rattle.bdd_core.specs.Diagram.{IsNode, function_of, levels_of, gate_of, choice_of, IsAnswer};
+ghost use Rattle.bdd_core.specs.Diagram.{IsNode, function_of, levels_of, IsSplit, gate_of, choice_of, IsAnswer};
 ghost use Rattle.bdd_core.specs.Asked.{IsAnswerOf};
 
 use crate::node::{BddError, Branch, NodeId};
@@ -69,6 +69,7 @@ impl Diagrams {
         ensures count { (functions : List Truths) → Holds functions self.now.table → IsCountOf functions result }
         ensures within { result ≤ self.now.table.budget }
         ensures full { self.now.refused ≡ Some BddError.Budget → result ≡ self.now.table.budget }
+        ensures whole { IsWhole self.now.table }
     {
         let _ = &self.refused;
         self.table.nodes()
@@ -93,6 +94,7 @@ impl Diagrams {
         ensures high { IfSome result (λ b. IsNode self.now b.high × (levels_of self.now b.high < levels_of self.now a)) }
         ensures branch { IfSome result (λ b. IsBranch self.now.table.vars (function_of self.now a) b.variable
             (function_of self.now b.low) (function_of self.now b.high)) }
+        ensures split { IfSome result (λ b. IsSplit self.now a b.low b.high) }
     {
         let _nodes = self.table.nodes();
         let variable = self.table.variable(a.place);

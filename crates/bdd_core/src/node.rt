@@ -23,10 +23,11 @@ pub enum BddError {
     Memory,
 }
 
-/// A variable, and the places of the nodes for 0 and for 1.
+/// A variable, and the places of the nodes for 0 and for 1: 12 bytes. A place that is the last one of the greatest budget needs
+/// more bits, but is no son.
 #[derive(Clone, Copy, PartialEq, Eq, Hash)]
 pub(crate) struct Node {
     pub variable: u32,
-    pub low: usize,
-    pub high: usize,
+    pub low: u32,
+    pub high: u32,
 }

@@ -1,8 +1,8 @@
 // Nodes without repetition.
-ghost use Rattle.std.specs.Prelude.{true, false, ◌≡◌, ◌+◌, ◌-◌, ◌<◌, ◌≤◌, ◌++◌, ◌∷◌, ◌⊎◌, [], IfSome, IfNone, IfOk, OnOk, OnErr, IfErr, slice_get, Some, length};
+ghost use Rattle.std.specs.Prelude.{true, false, ◌≡◌, ◌+◌, ◌-◌, ◌^◌, ◌<◌, ◌≤◌, ◌++◌, ◌∷◌, ◌⊎◌, [], IfSome, IfNone, IfOk, OnOk, OnErr, IfErr, slice_get, Some, length};
 ghost use Rattle.std.specs.List.{Contains};
 ghost use Rattle.bdd_core.specs.Truths.{constant};
-ghost use Rattle.bdd_core.specs.Nodes.{height, raised_to, place, joined, IsSon, IsMade, IsFull, IsWhole};
+ghost use Rattle.bdd_core.specs.Nodes.{height, raised_to, place, joined, IsNarrow, IsSon, IsMade, IsFull, IsWhole};
 
 use crate::node::{BddError, Node};
 use indexmap::IndexSet;
@@ -28,7 +28,23 @@ fn add(nodes: &mut IndexSet<Node>, node: Node) -> Result<(), BddError>
     }
 }
 
+// The node with these sons, where their places fit.
+fn narrow(variable: u32, low: usize, high: usize) -> Option<Node>
+    ensures some { IfSome result (λ n. n ≡ record { variable = variable; low = low; high = high }) }
+    ensures fits { IfSome result IsNarrow }
+    ensures none { IfNone result ((2 ^ 32 ≤ low) ⊎ (2 ^ 32 ≤ high)) }
+{
+    let low = u32::try_from(low).ok()?;
+    let high = u32::try_from(high).ok()?;
+    Some(Node {
+        variable,
+        low,
+        high,
+    })
+}
+
 /// The nodes of a diagram, the sons before those above them. Place 0 is the constant 0, and place 1 the constant 1.
+/// A node takes 12 bytes, its hash and its slot 8, and the table of hashes 5 to 11.
 #[derive(Drop)]
 pub(crate) struct Table {
     vars: u32,
@@ -38,7 +54,8 @@ pub(crate) struct Table {
 
 impl Model for Table {
     ghost use Rattle.std.specs.Prelude.{◌≤◌, length};
-    ghost use Rattle.bdd_core.specs.Nodes.{Lists, lists_code, AreSound, lists_of};
+    ghost use Rattle.std.specs.List.{All};
+    ghost use Rattle.bdd_core.specs.Nodes.{Lists, lists_code, AreSound, IsNarrow, lists_of};
 
     ghost Value = { Lists };
 
@@ -46,7 +63,8 @@ impl Model for Table {
 
     ghost view = { λ t. record { vars = t.vars; budget = t.budget; lists = lists_of t.vars t.nodes.keys } };
 
-    ghost invariant = { λ t. AreSound t.vars t.nodes.keys (lists_of t.vars t.nodes.keys) × (length t.nodes.keys ≤ t.budget) };
+    ghost invariant = { λ t. AreSound t.vars t.nodes.keys (lists_of t.vars t.nodes.keys) × (length t.nodes.keys ≤ t.budget)
+        × All IsNarrow t.nodes.keys };
 }
 
 impl Table {
@@ -130,7 +148,7 @@ impl Table {
         match self.nodes.get_index(at - 2) {
             Some(node) => {
                 if node.variable == variable {
-                    (node.low, node.high)
+                    (node.low as usize, node.high as usize)
                 } else {
                     (at, at)
                 }
@@ -152,16 +170,15 @@ impl Table {
         if low == high {
             return Ok(low);
         }
-        let node = Node {
-            variable,
-            low,
-            high,
-        };
         let count = self.nodes.len();
+        let budget = self.budget as usize;
+        let Some(node) = narrow(variable, low, high) else {
+            return Err(BddError::Budget);
+        };
         if let Some(found) = find(&self.nodes, node) {
             return Ok(found + 2);
         }
-        if count >= self.budget as usize {
+        if count >= budget {
             return Err(BddError::Budget);
         }
         add(&mut self.nodes, node)?;

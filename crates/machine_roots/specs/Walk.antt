@@ -1,0 +1,17 @@
+-- The names that a walk through an expression's expansion meets.
+use Rattle.std.specs.Prelude.{◌≡◌, ◌↔◌, ℕ, ◌+◌, ◌<◌, Bool, true, List, length, slice_get, Some}
+use Rattle.vlsi_base.specs.Member.{In}
+use Rattle.bool_expr.specs.Expression.{Expression, variables, bit}
+use Rattle.machine_meaning.specs.Machine.{Machine, Equation}
+use Rattle.machine_roots.specs.Expansion.{held_count}
+
+-- an expression reads the name with this number, or an inner signal that it reads has an equation from which the walk goes on
+pub data Meets (m : Machine) : Expression → ℕ → Type 0 where
+  reads : {e : Expression} {k : ℕ} → In k (variables e) → Meets m e k
+  through : {e : Expression} {k : ℕ} (j : ℕ) (x : Equation) → In (held_count m + j) (variables e) → slice_get m.equations j ≡ Some x
+      → Meets m x.expr k → Meets m e k
+
+-- the marks tell of each name whether the walk meets it
+pub record AreMet (m : Machine) (e : Expression) (met : List Bool) : Type 0 where
+  pub each : length met ≡ length m.vars
+  pub marked : (k : ℕ) → k < length m.vars → (bit met k ≡ true) ↔ Meets m e k

@@ -1,0 +1,4 @@
+pub mod Texts
+pub mod Operands
+pub mod Lines
+pub mod Naming

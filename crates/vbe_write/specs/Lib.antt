@@ -1,0 +1,4 @@
+pub mod Expressions
+pub mod Written
+pub mod Writable
+pub mod Pieces

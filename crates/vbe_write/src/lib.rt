@@ -1,0 +1,9 @@
+//! Machines, written as data-flow texts.
+#![tactic(auto)]
+
+mod expressions;
+mod names;
+mod registers;
+mod writer;
+
+pub use writer::write_vbe;
