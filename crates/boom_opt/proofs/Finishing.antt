@@ -1,0 +1,145 @@
+-- From the second machine of all roots to the answer.
+use Rattle.std.proofs.Common.{◌≡◌, ◌⊎◌, inl, inr, ℕ, zero, suc, ◌+◌, ◌*◌, ◌<◌, ◌≤◌, true, false, List, [], ◌∷◌, length, take, drop, Option, None, Some, slice_get, refl, sym, ap, subst, ◌∙◌, arith}
+use Rattle.std.specs.Prelude.{replicate, sum, Result, Ok, Err, IfOk}
+use Rattle.std.specs.List.{All, AllZip, slice_index_or}
+use Rattle.machine_meaning.specs.Machine.{Machine, Register, outputs}
+use Rattle.machine_core.specs.Checked.{IsChecked}
+use Rattle.machine_roots.specs.Expansion.{held_count}
+use Rattle.machine_roots.specs.Roots.{Root, roots, register_roots, expression_of, IsGreatestDcount}
+use Rattle.boom_opt.specs.declared.literal.Literal.{Literal}
+use Rattle.boom_opt.specs.declared.literal.Literal.TheVariants.{Constant}
+use Rattle.boom_opt.specs.declared.mux.Mux.{Mux}
+use Rattle.boom_opt.specs.declared.optimising.Rebuilt.{Rebuilt}
+use Rattle.boom_opt.specs.Muxes.{IsTable, IsLiteralBelow, EachIsBelow, muxes_weight}
+use Rattle.boom_opt.specs.Optimised.{IsOptimised}
+use Rattle.boom_opt.specs.Building.{MayBeBuilt, IsBuilt}
+use Rattle.boom_opt.specs.Rebuilt.{expressions_size, IsWeight, IsShown, SaysRoot, IsPlanOf, IsRebuilt}
+use Rattle.boom_opt.proofs.Optimal.{optimised_same, optimised_built, drop_all}
+
+-- ---- no roots yet
+
+none_replicated : (n j : ℕ) (l : Literal) → slice_get (replicate n None) j ≡ Some (Some l) → ⊥
+none_replicated zero j l e = (cc e)
+none_replicated (suc n) zero l e = (cc e)
+none_replicated (suc n) (suc j) l e = none_replicated n j l e
+
+length_replicated : (n : ℕ) → length (replicate {A = Option Literal} n None) ≡ n
+length_replicated zero = refl
+length_replicated (suc n) = let a = length_replicated n in omega (arith, a)
+
+pub rebuilt_none : (m : Machine) (b : Rebuilt) → IsTable b.muxes → b.muxes.held ≡ held_count m → IsWeight m b.muxes.given → b.muxes.nodes.keys ≡ [] → b.is_large ≡ false → b.nodes ≡ 0
+    → b.plan.equations.items ≡ replicate (length m.equations) None → b.plan.loads.items ≡ [] → IsRebuilt m [] b
+rebuilt_none m b table held given empty small nodes equations loads = record {
+  table = table;
+  held = held;
+  given = given;
+  counts = [];
+  each_count = tt;
+  nodes = nodes;
+  dags = [];
+  each_dag = tt;
+  weight = let w = table.weight in let e = ap muxes_weight empty in omega (arith, w, e);
+  large = λ e. absurd (let no : true ≡ false = sym e ∙ small in cc no);
+  planned = λ e. record {
+    plan = record {
+      each = ap length equations ∙ length_replicated (length m.equations);
+      below = λ j l is. absurd (none_there j l is);
+      value = λ j l is. absurd (none_there j l is);
+      closed = λ i j l x is at shows. absurd (none_there i l is);
+    };
+    shown = nothing (length (outputs m));
+    loads = subst (λ (ls : List Literal). AllZip (SaysRoot m b.muxes b.plan) (drop (length (outputs m)) []) ls) (sym loads) (nothing_left (length (outputs m)));
+  };
+}
+  where
+    none_there : (j : ℕ) (l : Literal) → slice_get b.plan.equations.items j ≡ Some (Some l) → ⊥
+    none_there j l is = none_replicated (length m.equations) j l (ap (λ (xs : List (Option Literal)). slice_get xs j) (sym equations) ∙ is)
+
+    nothing : (n : ℕ) → All (IsShown m b.plan) (take n [])
+    nothing zero k d h = absurd (omega arith)
+    nothing (suc n) k d h = absurd (omega arith)
+
+    nothing_left : (n : ℕ) → AllZip (SaysRoot m b.muxes b.plan) (drop n []) []
+    nothing_left zero = tt
+    nothing_left (suc n) = tt
+
+-- ---- what may be built
+
+zip_length : {A B : Type 0} (R : A → B → Type 0) (xs : List A) (ys : List B) → AllZip R xs ys → length xs ≡ length ys
+zip_length R [] [] h = refl
+zip_length R [] (y ∷ ys) h = elim h [ ]
+zip_length R (x ∷ xs) [] h = elim h [ ]
+zip_length R (x ∷ xs) (y ∷ ys) h = ap suc (zip_length R xs ys h.1)
+
+zip_at : {A B : Type 0} (R : A → B → Type 0) (P : B → Type 0) (xs : List A) (ys : List B) → ((x : A) (y : B) → R x y → P y) → AllZip R xs ys → (k : ℕ) (d : B) → k < length ys → P (slice_index_or ys k d)
+zip_at R P [] [] f h k d q = absurd (omega arith)
+zip_at R P [] (y ∷ ys) f h k d q = elim h [ ]
+zip_at R P (x ∷ xs) [] f h k d q = elim h [ ]
+zip_at R P (x ∷ xs) (y ∷ ys) f h zero d q = f x y h.0
+zip_at R P (x ∷ xs) (y ∷ ys) f h (suc k) d q = zip_at R P xs ys f h.1 k d (omega arith)
+
+length_register_roots : (rs : List Register) → length (register_roots rs) ≡ 2 * length rs
+length_register_roots [] = refl
+length_register_roots (r ∷ rs) = let a = length_register_roots rs in omega (arith, a)
+
+get_from_index : (xs : List (Option Literal)) (k : ℕ) (l : Literal) → slice_index_or xs k None ≡ Some l → slice_get xs k ≡ Some (Some l)
+get_from_index [] k l e = absurd (cc e)
+get_from_index (x ∷ xs) zero l e = ap Some e
+get_from_index (x ∷ xs) (suc k) l e = get_from_index xs k l e
+
+pub may_be_kept : (m : Machine) → IsChecked m → MayBeBuilt m [] None
+may_be_kept m checked = record { checked = checked; below = tt; planned = tt }
+
+pub may_be_built : (m : Machine) (b : Rebuilt) → IsChecked m → IsRebuilt m (roots m) b → b.is_large ≡ false → MayBeBuilt m b.muxes.nodes.keys (Some b.plan)
+may_be_built m b checked h small = record {
+  checked = checked;
+  below = subst (λ (n : ℕ). EachIsBelow n n b.muxes.nodes.keys) h.held h.table.below;
+  planned = record {
+    equations = p.plan.each;
+    loads = sym (zip_length (SaysRoot m b.muxes b.plan) (register_roots m.registers) b.plan.loads.items loads) ∙ length_register_roots m.registers;
+    below = λ k l is. subst (λ (n : ℕ). IsLiteralBelow (n + length b.muxes.nodes.keys) l) h.held (p.plan.below k l (get_from_index b.plan.equations.items k l is));
+    loads_below = λ k less. subst (λ (n : ℕ). IsLiteralBelow (n + length b.muxes.nodes.keys) (slice_index_or b.plan.loads.items k (Constant false))) h.held
+        (zip_at (SaysRoot m b.muxes b.plan) (λ l. IsLiteralBelow (b.muxes.held + length b.muxes.nodes.keys) l) (register_roots m.registers) b.plan.loads.items (λ r l s. s.below) loads k (Constant false) less);
+  };
+}
+  where
+    p : IsPlanOf m (roots m) b.muxes b.plan
+    p = h.planned small
+
+    loads : AllZip (SaysRoot m b.muxes b.plan) (register_roots m.registers) b.plan.loads.items
+    loads = subst (λ (rs : List Root). AllZip (SaysRoot m b.muxes b.plan) rs b.plan.loads.items)
+        (drop_all (outputs m) (λ name. record { name = name; expr = expression_of m.equations name }) (register_roots m.registers)) p.loads
+
+-- ---- the answer
+
+pub smaller : (m : Machine) (b : Rebuilt) (o : Machine) → IsChecked m → (h : IsRebuilt m (roots m) b) → (small : b.is_large ≡ false) → b.muxes.weight < b.muxes.given
+    → IsBuilt m b.muxes.nodes.keys (Some b.plan) o → IsOptimised m o
+smaller m b o checked h small less built =
+    let g = h.given in
+    optimised_built m b.muxes b.plan (may_be_built m b checked h small) o built h.held (h.planned small) h.dags h.each_dag h.table h.weight (omega (arith, less, g))
+
+pub kept_small : (m : Machine) (b : Rebuilt) (o : Machine) → IsChecked m → IsRebuilt m (roots m) b → (b.is_large ≡ true) ⊎ (b.muxes.given ≤ b.muxes.weight) → IsBuilt m [] None o → IsOptimised m o
+kept_small m b o checked h (inl large) built = optimised_same m h.dags (may_be_kept m checked) o built h.each_dag (h.large large)
+kept_small m b o checked h (inr more) built =
+    optimised_same m h.dags (may_be_kept m checked) o built h.each_dag (by h.table.less)
+  where
+    by : (b.muxes.weight < b.muxes.given) ⊎ (b.muxes.nodes.keys ≡ []) → expressions_size m ≤ 4 * sum h.dags
+    by (inl less) = absurd (omega (arith, less, more))
+    by (inr empty) =
+        let w = h.table.weight in
+        let e = ap muxes_weight empty in
+        let g = h.given in
+        omega (arith, w, e, g, more)
+
+pub greatest_is : (m : Machine) (b : Rebuilt) → IsRebuilt m (roots m) b → IsGreatestDcount m b.nodes
+greatest_is m b h = record { counts = h.counts; each = h.each_count; greatest = h.nodes }
+
+pub smaller_result : {E : Type 0} (m : Machine) (b : Rebuilt) (r : Result Machine E) (keys : List Mux) → IsChecked m → IsRebuilt m (roots m) b → b.is_large ≡ false → b.muxes.weight < b.muxes.given
+    → keys ≡ b.muxes.nodes.keys → IfOk r (λ o. IsBuilt m keys (Some b.plan) o) → IfOk r (λ o. IsOptimised m o)
+smaller_result m b (Ok o) keys checked h small less is built = smaller m b o checked h small less (subst (λ (xs : List Mux). IsBuilt m xs (Some b.plan) o) is built)
+smaller_result m b (Err e) keys checked h small less is built = tt
+
+pub kept_result : {E : Type 0} (m : Machine) (b : Rebuilt) (r : Result Machine E) → IsChecked m → IsRebuilt m (roots m) b → (b.is_large ≡ true) ⊎ (b.muxes.given ≤ b.muxes.weight)
+    → IfOk r (λ o. IsBuilt m [] None o) → IfOk r (λ o. IsOptimised m o)
+kept_result m b (Ok o) checked h why built = kept_small m b o checked h why built
+kept_result m b (Err e) checked h why built = tt

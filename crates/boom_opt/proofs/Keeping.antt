@@ -1,0 +1,84 @@
+-- What is said in place of an expression is the one that was given, or strictly smaller.
+use Rattle.std.proofs.Common.{◌≡◌, inl, inr, ℕ, zero, suc, ◌+◌, ◌<◌, ◌≤◌, Bool, true, false, List, [], ◌∷◌, length, map, Option, None, Some, refl, ap, ◌∙◌, arith, if◌then◌else◌}
+use Rattle.std.specs.Prelude.{◌*◌, nat_lt, slice_get, slice_index}
+use Rattle.std.specs.List.{AllZip}
+use Rattle.vlsi_base.specs.Range.{rising}
+use Rattle.bool_expr.specs.Expression.{Expression, constant, variable, inverse, pair, choice, size_of, IsOver}
+use Rattle.bool_expr.specs.Renumbering.{renumbered}
+use Rattle.machine_meaning.specs.Machine.{Equation, Register}
+use Rattle.machine_core.specs.Order.{EachReadsBelow}
+use Rattle.boom_opt.specs.declared.literal.Literal.{Literal}
+use Rattle.boom_opt.specs.declared.plan.Plan.{Plan}
+use Rattle.boom_opt.specs.Muxes.{literal_expression}
+use Rattle.boom_opt.specs.Building.{said, numbers_behind, literal_for, load_for, equations_said, registers_said}
+use Rattle.boom_opt.specs.Optimised.{behind_new, IsGivenOrSmaller}
+use Rattle.boom_opt.proofs.Weighing.{literal_smaller}
+
+-- the number at a place of those that rise from n on
+pub index-rising : (f : ℕ → ℕ) (n many k : ℕ) → k < many → slice_index (map f (rising n many)) k ≡ f (n + k)
+index-rising f n zero k h = absurd (omega arith)
+index-rising f n (suc many) zero h = ap f (omega arith)
+index-rising f n (suc many) (suc k) h = index-rising f (n + 1) many k (omega arith) ∙ ap f (omega arith)
+
+-- renumbered by the numbers behind new names, an expression says the same of the names
+pub renumbered_behind : (held count total : ℕ) (e : Expression) → IsOver e total → renumbered (numbers_behind held count total) e ≡ behind_new held count e
+renumbered_behind held count total (constant b) h = refl
+renumbered_behind held count total (variable k) h =
+    ap variable (index-rising (λ (x : ℕ). if nat_lt x held then x else x + count) 0 total k h ∙ ap (λ (x : ℕ). if nat_lt x held then x else x + count) (omega arith))
+renumbered_behind held count total (inverse e) h = ap inverse (renumbered_behind held count total e h)
+renumbered_behind held count total (pair g a b) h = λ j. pair g (renumbered_behind held count total a h.0 j) (renumbered_behind held count total b h.1 j)
+renumbered_behind held count total (choice c a b) h =
+    λ j. choice (renumbered_behind held count total c h.0 j) (renumbered_behind held count total a h.1.0 j) (renumbered_behind held count total b h.1.1 j)
+
+-- and it weighs as much
+pub size_behind : (held count : ℕ) (e : Expression) → size_of (behind_new held count e) ≡ size_of e
+size_behind held count (constant b) = refl
+size_behind held count (variable k) = refl
+size_behind held count (inverse e) = let a = size_behind held count e in omega (arith, a)
+size_behind held count (pair g a b) = let x = size_behind held count a in let y = size_behind held count b in omega (arith, x, y)
+size_behind held count (choice c a b) =
+    let x = size_behind held count c in
+    let y = size_behind held count a in
+    let z = size_behind held count b in
+    omega (arith, x, y, z)
+
+pub said_kept : (held count total : ℕ) (l : Option Literal) (e : Expression) → IsOver e total
+    → IsGivenOrSmaller (behind_new held count e) (said (numbers_behind held count total) l e)
+said_kept held count total None e over = inl (renumbered_behind held count total e over)
+said_kept held count total (Some l) e over = by (nat_lt 0 (size_of e)) refl where
+  by : (b : Bool) → nat_lt 0 (size_of e) ≡ b
+      → IsGivenOrSmaller (behind_new held count e) (if b then literal_expression l else renumbered (numbers_behind held count total) e)
+  by true t =
+      let more : 0 < size_of e = search (arith, t) in
+      let less = literal_smaller l e more in
+      let same = size_behind held count e in
+      inr (omega (arith, less, same))
+  by false t = inl (renumbered_behind held count total e over)
+
+pub over_more : (e : Expression) (n k : ℕ) → n ≤ k → IsOver e n → IsOver e k
+over_more (constant b) n k less h = tt
+over_more (variable x) n k less h = omega (arith, less, h)
+over_more (inverse e) n k less h = over_more e n k less h
+over_more (pair g a b) n k less h = (over_more a n k less h.0, over_more b n k less h.1)
+over_more (choice c a b) n k less h = (over_more c n k less h.0, (over_more a n k less h.1.0, over_more b n k less h.1.1))
+
+-- so is each of the equations, in turn
+pub equations_kept : (held count total n k : ℕ) (plan : Option Plan) (es : List Equation) → EachReadsBelow n es → n + length es ≤ total
+    → AllZip (λ (e f : Equation). (f.name ≡ e.name) × IsGivenOrSmaller (behind_new held count e.expr) f.expr) es
+    (equations_said (numbers_behind held count total) plan k es)
+equations_kept held count total n k plan [] below room = tt
+equations_kept held count total n k plan (e ∷ es) below room = (
+  (refl, said_kept held count total (literal_for plan k) e.expr (over_more e.expr n total (omega (arith, room)) below.0)),
+  equations_kept held count total (n + 1) (suc k) plan es below.1 (omega (arith, room)),
+)
+
+-- and of what registers load
+pub registers_kept : (held count total k : ℕ) (plan : Option Plan) (rs : List Register)
+    → ((j : ℕ) (r : Register) → slice_get rs j ≡ Some r → IsOver r.next total × IsOver r.enable total)
+    → AllZip (λ (r q : Register). (q.name ≡ r.name) × IsGivenOrSmaller (behind_new held count r.next) q.next
+    × IsGivenOrSmaller (behind_new held count r.enable) q.enable) rs (registers_said (numbers_behind held count total) plan k rs)
+registers_kept held count total k plan [] over = tt
+registers_kept held count total k plan (r ∷ rs) over = (
+  (refl, said_kept held count total (load_for plan (2 * k)) r.next (over zero r refl).0, said_kept held count total (load_for plan (2 * k + 1)) r.enable (over zero r refl).1),
+  registers_kept held count total (suc k) plan rs (λ j q h. over (suc j) q h),
+)

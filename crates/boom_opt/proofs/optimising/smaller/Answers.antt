@@ -1,0 +1,19 @@
+use Rattle.std.proofs.Common.{inl, inr, List, sym, subst, Some}
+use Rattle.boom_opt.specs.declared.mux.Mux.{Mux}
+use Rattle.boom_opt.specs.Building.{MayBeBuilt}
+use Rattle.boom_opt.proofs.Finishing.{may_be_built, smaller_result, kept_result}
+use Rattle.boom_opt.proofs.optimising.smaller.Goals as goal
+
+pub returns-then-made : goal.returns-then-made
+returns-then-made c = kept_result c.args.m.now c.args.made.now c.kept.result c.requires.checked c.requires.made (inl c.if-made.true) c.kept.ensures
+
+pub returns-then-made-2 : goal.returns-then-made-2
+returns-then-made-2 c = kept_result c.args.m.now c.args.made.now c.kept-then-made-2.result c.requires.checked c.requires.made (inr c.if-made-2.true) c.kept-then-made-2.ensures
+
+pub build-requires : goal.build-requires
+build-requires c =
+    subst (λ (xs : List Mux). MayBeBuilt c.args.m.now xs (Some c.args.made.now.plan)) (sym c.as_slice.ensures.keys) (may_be_built c.args.m.now c.args.made.now c.requires.checked c.requires.made c.if-made.false)
+
+pub returns : goal.returns
+returns c =
+    smaller_result c.args.m.now c.args.made.now c.build.result c.as_slice.result.now c.requires.checked c.requires.made c.if-made.false c.if-made-2.false c.as_slice.ensures.keys c.build.ensures
