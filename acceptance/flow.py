@@ -4,33 +4,36 @@ and the layouts that it writes, read again: extracted, compared with a second dr
 
 import pathlib
 import random
+import re
 
 import ap
 import catal
 import cellcheck
 import cells
+import diagrams
 import extraction
 import layout
 import models
 from answers import agrees as same_answer
 from answers import refusal
-from boog import differs_from, netlist_faults, of_cells
+from boog import differs_from, of_cells, order_faults
+from boom import MOST_NODES, NODES, inner_size
 from case_file import ROWS, Case
-from mapping import MOST_SIZE, Graph, machine_size
-from models import Refusal, first_missing
+from mapping import CHOICE, MOST_SIZE, Graph, machine_size
+from models import IN, Refusal, first_missing, first_of
 from pat_oracle import machine_of
 from random_sources import WORDS as SOURCE_WORDS
 from random_sources import Maker, changed
 from results import Room, compare, run_in, shown
 from vbe_oracle import FILE, Ring
-from vhdl_reader import Refused, spelled
-from vst import Netlist
+from vhdl_reader import SUPPLIES, Refused, spelled
+from vst import Instance, Netlist
 from words import TOOLS_LINE, command, held, of_folder, trouble
 
 HERE = pathlib.Path(__file__).resolve().parent
 EXAMPLES = HERE.parent / "examples"
 ROW = ROWS / "flow-layouts/one-inverter.txt"
-USAGE = "usage: alliance flow SOURCE -l DIR -o NAME --tracks\n"
+USAGE = "usage: alliance flow SOURCE -l DIR -o NAME --tracks [--nodes N]\n"
 FIVE = ["inv_x1", "na2_x1", "zero_x0", "one_x0", "sff1_x4"]
 MORE = ["inv_x8", "na3_x1", "sff1_x8", "xr2_x1", "mx2_x2", "buf_x2"]
 WORDS = ["flow", "s.vbe", "-l", "lib", "-o", "r", "--tracks"]
@@ -41,12 +44,17 @@ MACHINES, CHUNK = 200, 25
 
 
 def parsed(words):
-    """SOURCE, DIR and NAME, or None. A value doesn't begin with a hyphen, so `--tracks` is none."""
+    """SOURCE, DIR, NAME and the budget, or None. A value doesn't begin with a hyphen, so `--tracks` is none."""
     at = [k for k, word in enumerate(words) if word == "--tracks"]
-    if len(at) != 1 or words[at[0] - 1] in ("-l", "-o"):
+    if len(at) != 1 or words[at[0] - 1] in ("-l", "-o", "--nodes"):
         return None
-    found = command([word for word in words if word != "--tracks"], (".vbe", ".fsm"), {"-l": "", "-o": ""})
-    return (found[0], found[1]["-l"], found[1]["-o"]) if found and len(found[1]) == 2 else None
+    found = command([word for word in words if word != "--tracks"], (".vbe", ".fsm"), {"-l": "", "-o": "", "--nodes": ""})
+    if not found or "-l" not in found[1] or "-o" not in found[1]:
+        return None
+    nodes = found[1].get("--nodes", str(NODES))
+    if not re.fullmatch("[0-9]{1,10}", nodes) or not 1 <= int(nodes) <= MOST_NODES:
+        return None
+    return found[0], found[1]["-l"], found[1]["-o"], int(nodes)
 
 
 def names_read(files, folder):
@@ -68,8 +76,8 @@ def checked(files, folder):
         raise models.refusal(folder, str(refused)) from None
 
 
-def of_files(source, folder, files):
-    """The status and the text without its word; (0, the lines of the report but that of the length) where it is laid out."""
+def of_files(source, folder, budget, files):
+    """The status and the text without its word; (0, the lines of the report that are fixed, and the most cells) where it is laid out."""
     names_read(files, folder)
     m = machine_of(held(files, source))
     size = machine_size(m)
@@ -77,32 +85,39 @@ def of_files(source, folder, files):
         return 9, f"flow: limit: size {size}\n"
     checked(files, folder)
     kind = first_missing(models.library(files, folder), bool(m.registers))
-    return (4, f"flow: no cover: {kind}\n") if kind else (0, lines_of(m))
+    if kind:
+        return 4, f"flow: no cover: {kind}\n"
+    name = diagrams.first_over(m, budget)
+    return (0, (lines_of(m), most_cells(m))) if name is None else (5, f"flow: budget: {spelled(name)} {budget + 1}\n")
+
+
+def most_cells(m):
+    """The most cells of a layout: its registers, and as many gates as the size of the source and 2, where its inner signals count no more
+    than four times the nodes of its roots."""
+    inner = inner_size(m)
+    return len(m.registers) + machine_size(m) - inner + min(inner, CHOICE * sum(s.dag for s in diagrams.sizes(m))) + 2
 
 
 def lines_of(m):
-    graph = Graph(m)
+    """The lines of the report but those that go by the optimised source: which one comes out is open."""
     registers = [f"register q{k} {spelled(bit)}" for k, bit in enumerate(sorted(m.registers))]
-    # a net for each port bit, and one for each node that no port shows
-    shown_nodes = {number for number in graph.outputs.values()}
-    own = len(m.registers) + len(graph.live()) - sum(graph.nodes[n][0] != "input" for n in shown_nodes)
-    return [f"source {m.name}", *registers, f"size {machine_size(m)}", f"cells {graph.cells()}", f"nets {len(m.ports) + own}", "breaches 0", "accepted"]
+    return [f"source {m.name}", *registers, f"size {machine_size(m)}", f"nodes {diagrams.greatest(m)}", "breaches 0", "accepted"]
 
 
 def second(words, files):
     """What the second readers say of a command over files: (status, text), or (2, Ring) where any of some rings may be named. Of a layout it
-    is (0, the lines of its report but that of the length)."""
+    is (0, the lines of its report that are fixed, and the most cells)."""
     found = parsed(words)
     if found is None:
         return 1, USAGE
-    source, folder, _ = found
+    source, folder, _, budget = found
     if source.endswith(".fsm"):
         return 10, "flow: beyond\n"
     refused = trouble(files, source, FILE)
     if refused:
         return refused[0], f"flow: {refused[1]}\n"
     try:
-        return of_files(source, folder, files)
+        return of_files(source, folder, budget, files)
     except Refusal as refused:
         return refused.status, f"flow: {refused.line}\n"
     except Ring as ring:
@@ -114,8 +129,11 @@ def second(words, files):
 def agrees(got, wanted):
     if wanted[0] != 0:
         return same_answer(got, wanted)
-    lines = bytes(got[1]).decode(errors="replace").split("\n")
-    return got[0] == 0 and [line for line in lines if line and not line.startswith("length ")] == wanted[1]
+    lines = [line.split(" ") for line in bytes(got[1]).decode(errors="replace").split("\n") if line]
+    fixed, most = wanted[1]
+    cells_told = [int(words[1]) for words in lines if words[0] == "cells"]
+    return got[0] == 0 and [" ".join(words) for words in lines if words[0] not in ("cells", "nets", "length")] == fixed \
+        and len(cells_told) == 1 and cells_told[0] <= most
 
 
 # ---- the layout that is written
@@ -130,9 +148,24 @@ def read_again(words, files, text):
     return Netlist(n.name, n.all_ports, n.instances), flat
 
 
+def netlist_faults(m, of_name, n):
+    """What isn't as it has to be in the netlist of a layout of a machine, but how it behaves."""
+    if n.name != m.name:
+        yield f"the name {n.name}"
+    if n.all_ports != {**m.ports, **{(supply, -1): IN for supply in SUPPLIES}}:
+        yield "the ports"
+    if n.clock != ((m.clock, -1) if m.registers else None):
+        yield f"the clock {n.clock}"
+    if len(n.instances) > most_cells(m):
+        yield f"{len(n.instances)} instances, and not {most_cells(m)} at most"
+    if any(i.model is not first_of(of_name, i.model.kind) for i in n.instances if i.model.kind):
+        yield "a cell that isn't the first of its kind"
+    yield from order_faults(n, len(m.registers))
+
+
 def written_faults(words, files, text):
     """What is wrong with the layout that a command wrote, or nothing."""
-    source, folder, _ = parsed(words)
+    source, folder, _, _ = parsed(words)
     m, of_name, found = machine_of(held(files, source)), models.library(files, folder), checked(files, folder)
     try:
         n, flat = read_again(words, files, text)

@@ -7,6 +7,7 @@ those of cellcheck.py by their names.
 import itertools
 
 import cellcheck
+import diagrams
 from mapping import machine_size
 from vhdl_reader import SUPPLIES, spelled
 
@@ -104,5 +105,5 @@ def report(m, n, cells):
     placed = Placed(n, cells)
     lines = [f"source {m.name}"]
     lines += [f"register q{k} {spelled(bit)}" for k, bit in enumerate(sorted(m.registers))]
-    lines += [f"size {machine_size(m)}", f"cells {len(n.instances)}", f"nets {len(placed.nets)}", f"length {placed.length()}"]
+    lines += [f"size {machine_size(m)}", f"nodes {diagrams.greatest(m)}", f"cells {len(n.instances)}", f"nets {len(placed.nets)}", f"length {placed.length()}"]
     return "\n".join([*lines, "breaches 0", "accepted", ""])

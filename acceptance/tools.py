@@ -11,6 +11,7 @@ from typing import Callable, NamedTuple
 import answers
 import asimut
 import boog
+import boom
 import cougar
 import flow
 import flow_limits
@@ -38,6 +39,7 @@ def flow_jobs(program, seed, times):
 
 TOOLS = {
     "asimut": Tool(asimut.second, answers.agrees, asimut_jobs),
+    "boom": Tool(boom.second, boom.agrees, boom.jobs, boom.writes),
     "boog": Tool(boog.second, answers.agrees, boog.jobs, boog.writes),
     "cougar": Tool(cougar.second, answers.agrees, cougar.jobs, cougar.writes),
     "flow": Tool(flow.second, flow.agrees, flow_jobs, flow.writes),
