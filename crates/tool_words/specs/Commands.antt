@@ -5,21 +5,27 @@ use Rattle.tool_words.specs.declared.table.Tool.{Tool}
 use Rattle.tool_words.specs.declared.table.Tool.TheVariants as tool
 use Rattle.tool_words.specs.declared.arguments.Argument.{Argument}
 use Rattle.tool_words.specs.declared.command.FlowCommand.{FlowCommand}
+use Rattle.tool_words.specs.declared.command.BoomCommand.{BoomCommand}
 use Rattle.tool_words.specs.declared.command.BoogCommand.{BoogCommand}
 use Rattle.tool_words.specs.declared.command.AsimutCommand.{AsimutCommand}
 use Rattle.tool_words.specs.declared.command.AsimutNetlistCommand.{AsimutNetlistCommand}
 use Rattle.tool_words.specs.declared.command.CougarCommand.{CougarCommand}
 use Rattle.tool_words.specs.declared.command.Command.{Command}
 use Rattle.tool_words.specs.declared.command.Command.TheVariants as command
-use Rattle.tool_words.specs.Table.{Entry, library, out, patterns, netlist_library, tool_of}
+use Rattle.tool_words.specs.Table.{Entry, library, out, patterns, netlist_library, nodes, tool_of}
 use Rattle.tool_words.specs.Arguments.{spelling, is_valid, arguments_of}
-use Rattle.tool_words.specs.Values.{files, values, only, fits}
+use Rattle.tool_words.specs.Values.{files, values, only, fits, number_of}
 
 -- ---- the command of each tool, from arguments that fit its entry
 
-abbrev pub flow_with : Option (List ℕ) → Option (List ℕ) → Option (List ℕ) → Option FlowCommand
-flow_with (Some source) (Some library) (Some out) = Some (record { source = source; library = library; out = out })
-flow_with _ _ _ = None
+abbrev pub flow_with : Option (List ℕ) → Option (List ℕ) → Option (List ℕ) → Option ℕ → Option FlowCommand
+flow_with (Some source) (Some library) (Some out) (Some nodes) =
+    Some (record { source = source; library = library; out = out; nodes = nodes })
+flow_with _ _ _ _ = None
+
+abbrev pub boom_with : Option (List ℕ) → Option (List ℕ) → Option ℕ → Option BoomCommand
+boom_with (Some source) (Some out) (Some nodes) = Some (record { source = source; out = out; nodes = nodes })
+boom_with _ _ _ = None
 
 abbrev pub boog_with : Option (List ℕ) → Option (List ℕ) → Option (List ℕ) → Option BoogCommand
 boog_with (Some source) (Some library) (Some out) = Some (record { source = source; library = library; out = out })
@@ -38,7 +44,8 @@ cougar_with _ _ _ = None
 
 abbrev pub command_from : Tool → List Argument → Option Command
 command_from tool.Flow a =
-    option_map command.Flow (flow_with (only (files a)) (only (values library.word a)) (only (values out.word a)))
+    option_map command.Flow (flow_with (only (files a)) (only (values library.word a)) (only (values out.word a)) (number_of nodes a))
+command_from tool.Boom a = option_map command.Boom (boom_with (only (files a)) (only (values out.word a)) (number_of nodes a))
 command_from tool.Boog a =
     option_map command.Boog (boog_with (only (files a)) (only (values library.word a)) (only (values out.word a)))
 command_from tool.Asimut a = asimut_with (only (files a)) (only (values patterns.word a)) (only (values netlist_library.word a))
@@ -73,6 +80,10 @@ abbrev pub as_flow : Option Command → Option FlowCommand
 as_flow (Some (command.Flow c)) = Some c
 as_flow _ = None
 
+abbrev pub as_boom : Option Command → Option BoomCommand
+as_boom (Some (command.Boom c)) = Some c
+as_boom _ = None
+
 abbrev pub as_boog : Option Command → Option BoogCommand
 as_boog (Some (command.Boog c)) = Some c
 as_boog _ = None
@@ -92,6 +103,10 @@ as_cougar _ = None
 -- the command of `flow` that they spell
 abbrev pub flow_of : List (List ℕ) → Option FlowCommand
 flow_of words = as_flow (command_of words)
+
+-- the command of `boom` that they spell
+abbrev pub boom_of : List (List ℕ) → Option BoomCommand
+boom_of words = as_boom (command_of words)
 
 -- the command of `boog` that they spell
 abbrev pub boog_of : List (List ℕ) → Option BoogCommand

@@ -1,5 +1,5 @@
 -- The table of tools: for each its word, its SOURCE and its options. A tool more is an entry more.
-use Rattle.std.specs.Prelude.{ℕ, List, [], ◌∷◌, Option, codes}
+use Rattle.std.specs.Prelude.{ℕ, List, [], ◌∷◌, Option, Some, codes}
 use Rattle.std.specs.List.{find}
 use Rattle.tool_words.specs.declared.table.Tool.{Tool}
 use Rattle.tool_words.specs.declared.table.Tool.TheVariants as tool
@@ -55,8 +55,20 @@ netlist_library = record { word = codes "-l"; value = codes "DIR"; need = With (
 abbrev pub tracks : Setting
 tracks = record { word = codes "--tracks"; value = []; need = Once; form = Flag }
 
+-- the budget of a diagram
+abbrev pub nodes : Setting
+nodes = record { word = codes "--nodes"; value = codes "N"; need = Perhaps (Some 200000); form = Number 1 4000000 }
+
 abbrev pub flow : Entry
-flow = record { tool = tool.Flow; word = codes "flow"; endings = codes ".vbe" ∷ codes ".fsm" ∷ []; settings = library ∷ out ∷ tracks ∷ [] }
+flow = record {
+  tool = tool.Flow;
+  word = codes "flow";
+  endings = codes ".vbe" ∷ codes ".fsm" ∷ [];
+  settings = library ∷ out ∷ tracks ∷ nodes ∷ [];
+}
+
+abbrev pub boom : Entry
+boom = record { tool = tool.Boom; word = codes "boom"; endings = codes ".vbe" ∷ []; settings = out ∷ nodes ∷ [] }
 
 abbrev pub boog : Entry
 boog = record { tool = tool.Boog; word = codes "boog"; endings = codes ".vbe" ∷ []; settings = library ∷ out ∷ [] }
@@ -73,7 +85,7 @@ abbrev pub cougar : Entry
 cougar = record { tool = tool.Cougar; word = codes "cougar"; endings = codes ".ap" ∷ []; settings = library ∷ out ∷ [] }
 
 abbrev pub tools : List Entry
-tools = flow ∷ boog ∷ asimut ∷ cougar ∷ []
+tools = flow ∷ boom ∷ boog ∷ asimut ∷ cougar ∷ []
 
 -- the tool with this word
 abbrev pub tool_of : List ℕ → Option Entry

@@ -5,8 +5,8 @@ ghost use Rattle.tool_words.specs.Commands.{command_from, command_among, command
 ghost use Rattle.tool_words.specs.View.{entry_view};
 
 use crate::arguments::{Argument, arguments};
-use crate::table::{Entry, LIBRARY, NETLIST_LIBRARY, OUT, PATTERNS, Tool, tool_of};
-use crate::values::{Wanted, fits, only};
+use crate::table::{Entry, LIBRARY, NETLIST_LIBRARY, NODES, OUT, PATTERNS, Tool, tool_of};
+use crate::values::{Wanted, fits, number_of, only};
 use crate::words::{Words, WordsError};
 use std::alloc::{AllocError, Global};
 use vlsi_base::FileName;
@@ -20,6 +20,19 @@ pub struct FlowCommand {
     pub library: FileName,
     /// The name of the layout, without `.ap`.
     pub out: FileName,
+    /// The most nodes that a diagram may have.
+    pub nodes: u32,
+}
+
+/// What `boom` is asked to do: to make the source smaller.
+#[derive(Drop)]
+pub struct BoomCommand {
+    /// The source's file, whose name ends in `.vbe`.
+    pub source: FileName,
+    /// The name of the smaller source, without `.vbe`.
+    pub out: FileName,
+    /// The most nodes that a diagram may have.
+    pub nodes: u32,
 }
 
 /// What `boog` is asked to do: to make a netlist of the library's cells of the source.
@@ -68,6 +81,7 @@ pub struct CougarCommand {
 #[derive(Drop)]
 pub enum Command {
     Flow(FlowCommand),
+    Boom(BoomCommand),
     Boog(BoogCommand),
     Asimut(AsimutCommand),
     AsimutNetlist(AsimutNetlistCommand),
@@ -81,13 +95,32 @@ fn flow(alloc: Global, arguments: &[Argument]) -> Result<Command, WordsError>
     let source = only(arguments, Wanted::File);
     let library = only(arguments, Wanted::Value(LIBRARY.word));
     let out = only(arguments, Wanted::Value(OUT.word));
-    let (Some(source), Some(library), Some(out)) = (source, library, out) else {
+    let nodes = number_of(arguments, NODES);
+    let (Some(source), Some(library), Some(out), Some(nodes)) = (source, library, out, nodes) else {
         return Err(WordsError::Usage);
     };
     Ok(Command::Flow(FlowCommand {
         source: FileName::from_bytes(alloc, source)?,
         library: FileName::from_bytes(alloc, library)?,
         out: FileName::from_bytes(alloc, out)?,
+        nodes,
+    }))
+}
+
+fn boom(alloc: Global, arguments: &[Argument]) -> Result<Command, WordsError>
+    ensures ok { IfOk result (λ command. command_from Tool.Boom arguments.now ≡ Some command) }
+    ensures usage { IsErrOf result Usage → command_from Tool.Boom arguments.now ≡ None }
+{
+    let source = only(arguments, Wanted::File);
+    let out = only(arguments, Wanted::Value(OUT.word));
+    let nodes = number_of(arguments, NODES);
+    let (Some(source), Some(out), Some(nodes)) = (source, out, nodes) else {
+        return Err(WordsError::Usage);
+    };
+    Ok(Command::Boom(BoomCommand {
+        source: FileName::from_bytes(alloc, source)?,
+        out: FileName::from_bytes(alloc, out)?,
+        nodes,
     }))
 }
 
@@ -156,6 +189,7 @@ fn read_command(alloc: Global, entry: Entry, arguments: &[Argument]) -> Result<C
     }
     match entry.tool {
         Tool::Flow => flow(alloc, arguments),
+        Tool::Boom => boom(alloc, arguments),
         Tool::Boog => boog(alloc, arguments),
         Tool::Asimut => asimut(alloc, arguments),
         Tool::Cougar => cougar(alloc, arguments),

@@ -10,8 +10,8 @@ mod values;
 mod words;
 
 pub use command::{
-    AsimutCommand, AsimutNetlistCommand, BoogCommand, Command, CougarCommand, FlowCommand,
-    read_words,
+    AsimutCommand, AsimutNetlistCommand, BoogCommand, BoomCommand, Command, CougarCommand,
+    FlowCommand, read_words,
 };
 pub use laws::words_law;
 pub use usage::usage_line;

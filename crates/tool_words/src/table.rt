@@ -9,6 +9,7 @@ use crate::words::is_same;
 #[derive(Clone, Copy)]
 pub enum Tool {
     Flow,
+    Boom,
     Boog,
     Asimut,
     Cougar,
@@ -85,6 +86,14 @@ pub(crate) const NETLIST_LIBRARY: Setting = Setting {
     form: Form::Text,
 };
 
+/// The budget of a diagram.
+pub(crate) const NODES: Setting = Setting {
+    word: "--nodes",
+    value: "N",
+    need: Need::Perhaps(Some(200_000)),
+    form: Form::Number(1, 4_000_000),
+};
+
 const TRACKS: Setting = Setting {
     word: "--tracks",
     value: "",
@@ -97,7 +106,13 @@ const TOOLS: &[Entry] = &[
         tool: Tool::Flow,
         word: "flow",
         endings: &[".vbe", ".fsm"],
-        settings: &[LIBRARY, OUT, TRACKS],
+        settings: &[LIBRARY, OUT, TRACKS, NODES],
+    },
+    Entry {
+        tool: Tool::Boom,
+        word: "boom",
+        endings: &[".vbe"],
+        settings: &[OUT, NODES],
     },
     Entry {
         tool: Tool::Boog,
