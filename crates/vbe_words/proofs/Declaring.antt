@@ -72,11 +72,11 @@ pub record AreBits (towards : Role → Option Dir) (known : List Symbol) (ports 
   pub only : (p : Port) → In p ports → IsBit towards known p
   pub all : (p : Port) → IsBit towards known p → In p ports
 
-same_symbol : (known : List Symbol) (s t : Symbol) → AllDifferent (texts known) → In s known → In t known → s.text ≡ t.text → s ≡ t
+pub same_symbol : (known : List Symbol) (s t : Symbol) → AllDifferent (texts known) → In s known → In t known → s.text ≡ t.text → s ≡ t
 same_symbol known s t different i j e =
     let both : Some s ≡ Some t = sym (in_found known s different i) ∙ ap (find known) e ∙ in_found known t different j in cc
 
-text_of : (towards : Role → Option Dir) (known : List Symbol) (p : Port) (b : IsBit towards known p) → p.name.text ≡ b.symbol.text
+pub text_of : (towards : Role → Option Dir) (known : List Symbol) (p : Port) (b : IsBit towards known p) → p.name.text ≡ b.symbol.text
 text_of towards known p b = text_in b.symbol.text b.symbol.range p.name b.bit
 
 one_symbol : (towards : Role → Option Dir) (known : List Symbol) (p q : Port) (b : IsBit towards known p) (c : IsBit towards known q) → AllDifferent (texts known)

@@ -5,4 +5,5 @@ mod Sources
 mod Declaring
 mod Supplied
 mod Running
+mod Stored
 mod Named

@@ -1,10 +1,13 @@
 -- What is read has names that can be written again.
-use Rattle.std.specs.Prelude.{◌≡◌, ◌^◌, ◌<◌, ◌≤◌, false, ℕ, List, length, IfSome}
+use Rattle.std.specs.Prelude.{◌≡◌, ◌^◌, ◌<◌, ◌≤◌, false, ℕ, List, map, length, None, Some, IfSome}
+use Rattle.vlsi_base.specs.declared.name.Name.{Name}
 use Rattle.vlsi_base.specs.declared.name.Port.{Port}
+use Rattle.vlsi_base.specs.declared.name.Dir.TheVariants.{Out}
 use Rattle.vlsi_base.specs.Member.{In}
 use Rattle.vlsi_base.specs.Name.{is_supply}
 use Rattle.vlsi_base.specs.Names.{vdd, vss}
-use Rattle.machine_meaning.specs.Machine.{Machine, names_of}
+use Rattle.machine_meaning.specs.Machine.{Machine, Register, names_of, register_names}
+use Rattle.source_meaning.specs.Elaboration.{port_of}
 use Rattle.port_words.specs.Words.{IsIdentifier, ArePortsNamed, CanBePorts}
 use Rattle.vbe_io.specs.Text.{IsVbe}
 use Rattle.vbe_io.specs.Cell.{IsCellText}
@@ -22,6 +25,20 @@ abbrev pub MachineIsShort : Type 0
 MachineIsShort =
     (bytes : List ℕ) (m : Machine) → IsVbe bytes m
     → (length m.name ≤ 64) × ((p : Port) → In p m.ports → (length p.name.text ≤ 64) × IfSome p.name.bit (λ k. k < 2 ^ 32))
+
+-- registers as a text declares them: like ports, all of one direction
+abbrev pub register_ports : List Name → List Port
+register_ports names = map (port_of Out) names
+
+-- The registers can be declared as ports can; none of them has the text of a port; and the clock is a scalar.
+pub record AreRegistersNamed (m : Machine) : Type 0 where
+  pub named : ArePortsNamed (register_ports (register_names m))
+  pub apart : (p : Port) (r : Register) → In p m.ports → In r m.registers → p.name.text ≡ r.name.text → ⊥
+  pub clock : (name : Name) → m.clock ≡ Some name → name.bit ≡ None
+
+-- A text can declare the registers of a machine that is read beside its ports.
+abbrev pub RegistersAreNamed : Type 0
+RegistersAreNamed = (bytes : List ℕ) (m : Machine) → IsVbe bytes m → AreRegistersNamed m
 
 -- An entity can declare the pins of a cell that is read, with and without a machine.
 abbrev pub CellIsNamed : Type 0

@@ -1,9 +1,14 @@
 // What is read has names that can be written again.
-ghost use Rattle.vbe_words.specs.Laws.{MachineIsNamed, MachineIsShort, CatalIsShort, CellIsNamed, PinsAreNamed, CatalIsNamed, InOrderCanBeWritten, MachineCanBeWritten, CellCanBeWritten};
+ghost use Rattle.vbe_words.specs.Laws.{MachineIsNamed, RegistersAreNamed, MachineIsShort, CatalIsShort, CellIsNamed, PinsAreNamed, CatalIsNamed, InOrderCanBeWritten, MachineCanBeWritten, CellCanBeWritten};
 
 /// The name of a machine that is read is an identifier, and an entity can declare its ports.
 pub fn machine_is_named()
     ensures { MachineIsNamed }
+{}
+
+/// A text can declare the registers of a machine that is read beside its ports, and its clock is a scalar.
+pub fn registers_are_named()
+    ensures { RegistersAreNamed }
 {}
 
 /// An entity can declare the pins of a cell that is read, with and without a machine.
