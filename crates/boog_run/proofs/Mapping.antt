@@ -30,7 +30,7 @@ agrees law c source list cells p h k seen = law h.n h.l h.m k h.netlist.sound h.
 pub said : MachineIsNamed → CatalIsNamed → MachineCanBeWritten → CellCanBeWritten → WrittenIsASentence → WrittenSaysTheNetlist → MappingIsSaid
 said machines lists written pins_written sentence says c source list cells p h limits =
     let table = h.written.table in
-    let can = writable lists pins_written list cells h.l h.library h.m h.n h.netlist h.small machines written source h.machine in
+    let can = writable lists pins_written list cells h.l h.library h.m h.n h.netlist h.small (machines source h.m h.machine).0 (written source h.m h.machine) in
     let meets = h.netlist.condition false table h.written.pins h.written.sound in
     let is = sentence h.n table h.netlist.sound meets.fits (can.pins table h.written.pins) can.named limits in
     let text : IsTextOf h.n table (text_of (layout h.n table)) =

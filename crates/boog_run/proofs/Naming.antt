@@ -15,7 +15,6 @@ use Rattle.cell_model.specs.Cell.{Cell, Function}
 use Rattle.cell_model.specs.Library.{Library}
 use Rattle.cell_model.proofs.Members.{In-split, In-map, In-map_back, All-from}
 use Rattle.vbe_io.specs.declared.cell_text.GenericValue.{GenericValue}
-use Rattle.vbe_io.specs.Text.{IsVbe}
 use Rattle.cell_function.specs.Timing.{pin_of}
 use Rattle.cell_lib.specs.Cells.{Source, sources, AreCells, none, next}
 use Rattle.cell_lib.specs.Library.{IsCell, IsLibraryOf}
@@ -34,7 +33,7 @@ use Rattle.net_view.specs.Writable.{port_of, CanBeAnInstance, CanBeNamed, PinsCa
 use Rattle.net_view.proofs.Lists.{in_place}
 use Rattle.ocp_rows.specs.Order.{IsInNetlistOrder}
 use Rattle.ocp_rows.specs.Placement.{Placement}
-use Rattle.vbe_words.specs.Laws.{MachineIsNamed, CatalIsNamed, MachineCanBeWritten, CellCanBeWritten, with_supplies}
+use Rattle.vbe_words.specs.Laws.{CatalIsNamed, CellCanBeWritten, with_supplies}
 use Rattle.boog_run.specs.Boog.{IsNetlistFor, IsWritable}
 use Rattle.boog_run.specs.declared.netlist.TheConstants.{MOST_SIZE}
 use Rattle.boog_run.proofs.Sizes.{few_cells}
@@ -183,16 +182,16 @@ module _ (lists : CatalIsNamed) (pins_written : CellCanBeWritten) (list : List �
         let u = netlist.first i (in_place i n.instances at) in
         subst (λ (t : List ℕ). IsIdentifier t) (sym u.3) (cell_named u.1 (member_at l.cells u.2.place u.1 u.2.stands))
 
-    pub can_be_named : MachineIsNamed → MachineCanBeWritten → (source : List ℕ) → IsVbe source m → CanBeNamed n
-    can_be_named machines written source machine = record {
-      name = subst (λ (t : List ℕ). IsIdentifier t) (sym netlist.right.name) (machines source m machine).0;
-      ports = subst (λ (ps : List Port). CanBePorts ps) (sym netlist.right.ports) (written source m machine);
+    pub can_be_named : IsIdentifier m.name → CanBePorts (with_supplies m.ports) → CanBeNamed n
+    can_be_named name ports = record {
+      name = subst (λ (t : List ℕ). IsIdentifier t) (sym netlist.right.name) name;
+      ports = subst (λ (ps : List Port). CanBePorts ps) (sym netlist.right.ports) ports;
       instances = All-from CanBeAnInstance n.instances (λ i at. (instance_named i at, model_named i at));
     }
 
-    pub writable : MachineIsNamed → MachineCanBeWritten → (source : List ℕ) → IsVbe source m → IsWritable l n
-    writable machines written source machine = record {
+    pub writable : IsIdentifier m.name → CanBePorts (with_supplies m.ports) → IsWritable l n
+    writable name ports = record {
       condition = netlist.condition;
-      named = can_be_named machines written source machine;
+      named = can_be_named name ports;
       pins = pins_can;
     }

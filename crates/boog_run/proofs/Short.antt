@@ -12,7 +12,6 @@ use Rattle.cell_model.specs.Access.{count_to}
 use Rattle.cell_model.specs.Cell.{Cell}
 use Rattle.cell_model.specs.Library.{Library}
 use Rattle.cell_model.proofs.Members.{In-split, In-map, In-map_back, All-from}
-use Rattle.vbe_io.specs.Text.{IsVbe}
 use Rattle.cell_lib.specs.Cells.{sources}
 use Rattle.cell_lib.specs.Library.{IsLibraryOf}
 use Rattle.cell_pins.specs.Pins.{supply, with_supply}
@@ -27,7 +26,7 @@ use Rattle.net_view.specs.Writable.{IsShort, HasShortNames}
 use Rattle.net_view.proofs.Lists.{in_place}
 use Rattle.ocp_rows.specs.Order.{IsInNetlistOrder}
 use Rattle.ocp_rows.specs.Placement.{Placement}
-use Rattle.vbe_words.specs.Laws.{MachineIsShort, CatalIsShort}
+use Rattle.vbe_words.specs.Laws.{CatalIsShort}
 use Rattle.boog_run.specs.Boog.{IsNetlistFor}
 use Rattle.boog_run.specs.Laws.{NetlistIsShort}
 use Rattle.boog_run.specs.declared.netlist.TheConstants.{MOST_SIZE}
@@ -112,17 +111,18 @@ module _ (list : List ℕ) (files : List (List ℕ)) (l : Library) (library : Is
       let u = netlist.first i (in_place i n.instances at) in
       subst (λ (t : List ℕ). IsShort t) (sym u.3) (cell_short lists u.1 (member_at l.cells u.2.place u.1 u.2.stands))
 
-  port_small : MachineIsShort → (source : List ℕ) → IsVbe source m → (p : Port) → In p n.ports → IsSmallPort p
-  port_small machines source machine p i =
-      with_small vss (with_supply vdd m.ports) vss_small (with_small vdd m.ports vdd_small (machines source m machine).1) p
+  port_small : ((p : Port) → In p m.ports → IsSmallPort p) → (p : Port) → In p n.ports → IsSmallPort p
+  port_small ports p i =
+      with_small vss (with_supply vdd m.ports) vss_small (with_small vdd m.ports vdd_small ports) p
       (subst (λ (ps : List Port). In p ps) netlist.right.ports i)
 
-  pub short_names : MachineIsShort → CatalIsShort → (source : List ℕ) → IsVbe source m → HasShortNames n
-  short_names machines lists source machine = record {
-    name = subst (λ (t : List ℕ). IsShort t) (sym netlist.right.name) (machines source m machine).0;
-    ports = All-from IsSmallPort n.ports (port_small machines source machine);
+  pub short_names : IsShort m.name → ((p : Port) → In p m.ports → IsSmallPort p) → CatalIsShort → HasShortNames n
+  short_names name ports lists = record {
+    name = subst (λ (t : List ℕ). IsShort t) (sym netlist.right.name) name;
+    ports = All-from IsSmallPort n.ports (port_small ports);
     instances = All-from (λ (i : Instance). IsShort i.name × IsShort i.model) n.instances (λ i at. (name_short i at, model_short lists i at));
   }
 
-pub is_short : MachineIsShort → CatalIsShort → NetlistIsShort
-is_short machines lists source list files l m n library machine small netlist = short_names list files l library m n netlist small machines lists source machine
+pub is_short : CatalIsShort → NetlistIsShort
+is_short lists list files l m n library declared small netlist =
+    short_names list files l library m n netlist small declared.short_name declared.short_ports lists

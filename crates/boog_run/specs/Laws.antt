@@ -1,10 +1,15 @@
 -- What follows of a netlist that `boog` writes.
-use Rattle.std.specs.Prelude.{◌≡◌, ℕ, ◌+◌, ◌*◌, ◌≤◌, false, List, length, None, IfSome}
+use Rattle.std.specs.Prelude.{◌≡◌, ℕ, ◌+◌, ◌*◌, ◌^◌, ◌<◌, ◌≤◌, false, List, length, None, IfSome}
+use Rattle.vlsi_base.specs.declared.name.Port.{Port}
+use Rattle.vlsi_base.specs.Member.{In}
 use Rattle.vhdl_lexer.specs.Listing.{tokens_in, refusal_in}
 use Rattle.machine_meaning.specs.Machine.{Machine}
 use Rattle.machine_meaning.specs.Size.{machine_size}
+use Rattle.machine_core.specs.Checked.{IsChecked}
+use Rattle.port_words.specs.Words.{IsIdentifier, CanBePorts}
 use Rattle.source_meaning.specs.Checks.{most_ports}
 use Rattle.vbe_io.specs.Text.{IsVbe}
+use Rattle.vbe_words.specs.Laws.{with_supplies}
 use Rattle.cell_model.specs.Library.{Library}
 use Rattle.cell_lib.specs.Library.{IsLibraryOf}
 use Rattle.net_core.specs.declared.pins.ModelPins.{ModelPins}
@@ -45,20 +50,33 @@ MappingIsSaid =
 
 -- ---- netlists of what is read, for the stages behind
 
+-- A machine whose name and ports, with the supplies, an entity of a text can declare: they are identifiers of at most 64 bytes, the
+-- numbers of bits have 32 bits, and there are few enough ports.
+pub record CanBeDeclared (m : Machine) : Type 0 where
+  pub name : IsIdentifier m.name
+  pub ports : CanBePorts (with_supplies m.ports)
+  pub short_name : length m.name ≤ 64
+  pub short_ports : (p : Port) → In p m.ports → (length p.name.text ≤ 64) × IfSome p.name.bit (λ k. k < 2 ^ 32)
+  pub few_ports : length m.ports ≤ most_ports
+
+-- The machine of a text is such a machine.
+abbrev pub SourceCanBeDeclared : Type 0
+SourceCanBeDeclared = (source : List ℕ) (m : Machine) → IsVbe source m → CanBeDeclared m
+
 -- Nothing of its names stands against writing it.
 abbrev pub NetlistIsWritable : Type 0
 NetlistIsWritable =
-    (source catal : List ℕ) (cells : List (List ℕ)) (l : Library) (m : Machine) (n : Netlist)
-    → IsLibraryOf false catal cells l → IsVbe source m → machine_size m ≤ MOST_SIZE → IsNetlistFor l m n → IsWritable l n
+    (catal : List ℕ) (cells : List (List ℕ)) (l : Library) (m : Machine) (n : Netlist)
+    → IsLibraryOf false catal cells l → CanBeDeclared m → machine_size m ≤ MOST_SIZE → IsNetlistFor l m n → IsWritable l n
 
 -- Its names have at most 64 bytes, and the numbers of its ports' bits 32 bits.
 abbrev pub NetlistIsShort : Type 0
 NetlistIsShort =
-    (source catal : List ℕ) (cells : List (List ℕ)) (l : Library) (m : Machine) (n : Netlist)
-    → IsLibraryOf false catal cells l → IsVbe source m → machine_size m ≤ MOST_SIZE → IsNetlistFor l m n → HasShortNames n
+    (catal : List ℕ) (cells : List (List ℕ)) (l : Library) (m : Machine) (n : Netlist)
+    → IsLibraryOf false catal cells l → CanBeDeclared m → machine_size m ≤ MOST_SIZE → IsNetlistFor l m n → HasShortNames n
 
--- It has at most twice as many instances as a source may weigh, and as ports those of the source and the supplies.
+-- It has at most twice as many instances as a source may weigh, and as ports those of the machine and the supplies.
 abbrev pub NetlistIsSmall : Type 0
 NetlistIsSmall =
-    (source : List ℕ) (l : Library) (m : Machine) (n : Netlist) → IsVbe source m → machine_size m ≤ MOST_SIZE → IsNetlistFor l m n
+    (l : Library) (m : Machine) (n : Netlist) → IsChecked m → CanBeDeclared m → machine_size m ≤ MOST_SIZE → IsNetlistFor l m n
     → (length n.instances ≤ 2 * MOST_SIZE) × (length n.ports ≤ most_ports + 2)

@@ -1,5 +1,5 @@
 // Laws: what follows of a netlist that is written. They cost nothing when they are called.
-ghost use Rattle.boog_run.specs.Laws.{MappingAgrees, MappingIsSaid, NetlistIsWritable, NetlistIsShort, NetlistIsSmall};
+ghost use Rattle.boog_run.specs.Laws.{MappingAgrees, MappingIsSaid, SourceCanBeDeclared, NetlistIsWritable, NetlistIsShort, NetlistIsSmall};
 
 use net_view::right_is_well_formed;
 use vbe_words::{
@@ -22,8 +22,10 @@ pub fn boog_law()
     written_says_the_netlist();
 }
 
-/// A netlist for a machine and of a library that are read can be written, its names are short, and it has few instances and ports.
+/// A netlist for a machine that can be declared, and of a library that is read, can be written, its names are short, and it has few
+/// instances and ports. The machine of a text can be declared.
 pub fn netlist_law()
+    ensures declared { SourceCanBeDeclared }
     ensures writable { NetlistIsWritable }
     ensures short { NetlistIsShort }
     ensures small { NetlistIsSmall }

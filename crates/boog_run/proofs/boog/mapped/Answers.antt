@@ -14,8 +14,9 @@ netlist_of-requires c = few_ports c.args.source.now c.in-Ok-read_vbe.machine c.i
 pub product-requires : goal.product-requires
 product-requires c =
     writable c.catal_is_named.ensures c.cell_can_be_written.ensures c.args.catal.now c.args.cells.now c.in-Ok.library c.in-Ok.ensures.ok c.in-Ok-read_vbe.machine
-    c.in-Ok-netlist_of.netlist c.in-Ok-netlist_of.ensures.right c.in-Ok-netlist_of.ensures.small c.machine_is_named.ensures c.machine_can_be_written.ensures c.args.source.now
-    c.in-Ok-read_vbe.ensures.accepted
+    c.in-Ok-netlist_of.netlist c.in-Ok-netlist_of.ensures.right c.in-Ok-netlist_of.ensures.small
+    (c.machine_is_named.ensures c.args.source.now c.in-Ok-read_vbe.machine c.in-Ok-read_vbe.ensures.accepted).0
+    (c.machine_can_be_written.ensures c.args.source.now c.in-Ok-read_vbe.machine c.in-Ok-read_vbe.ensures.accepted)
 
 pub returns-in-Err : goal.returns-in-Err
 returns-in-Err c =
