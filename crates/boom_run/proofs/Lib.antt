@@ -1,0 +1,2 @@
+pub mod Declared
+mod Refusing

@@ -1,0 +1,140 @@
+// `boom` as a tool: what it reads, and what it answers.
+ghost use Rattle.std.specs.Prelude.{◌≡◌, ◌≤◌, ◌<◌, ◌+◌, ◌^◌, IfOk, IfErr, IsTrue, length};
+ghost use Rattle.machine_meaning.specs.Size.{machine_size as size_of};
+ghost use Rattle.machine_roots.specs.Roots.{IsGreatestDcount};
+ghost use Rattle.tool_drive.specs.Refusals.{MemoryOr};
+ghost use Rattle.tool_drive.specs.Table.{IsJudged};
+ghost use Rattle.boog_run.specs.declared.netlist.TheConstants.{MOST_SIZE};
+ghost use Rattle.vbe_write.specs.Writable.{CanBeVbe};
+ghost use Rattle.boom_run.specs.Boom.{MakesSmaller, IsWrittenAs, IsWithinBudget, IsBudgetStatus, report as report_of};
+
+use boog_run::check_size;
+use boom_opt::{BoomError, Optimised, optimise};
+use machine_core::{Machine, machine_size};
+use std::alloc::{AllocError, Global};
+use tool_drive::{Product, Refusal, Status, Tool, Wanted, bytes_at, refused};
+use tool_words::BoomCommand;
+use vbe_io::read_vbe;
+use vbe_words::{in_order_can_be_written, machine_is_named, registers_are_named};
+use vbe_write::write_vbe;
+use vlsi_base::{FileBytes, Text, push_u64};
+
+/// `boom`, with what it is asked: it makes the machine of SOURCE smaller, writes it to NAME.vbe, and prints `size` and how large it
+/// is.
+///
+/// It is refused, in this order: by `Source`, or a limit of the text; by `Limit` of `Size`, where the machine weighs more than
+/// `MOST_SIZE`; by `Budget`, at the first root whose diagram has more nodes than asked for. Memory goes by the file, the machine and
+/// one diagram.
+#[derive(Drop)]
+pub struct Boom<'a> {
+    pub command: &'a BoomCommand,
+}
+
+/// The machine made smaller, and the most nodes that a diagram of the given one's roots has; or the status that tells why there is
+/// none: `Budget`, at the first root whose diagram has more nodes than this, or out of memory.
+pub fn optimise_within(alloc: Global, machine: &Machine, budget: u32) -> Result<Optimised, Status>
+    ensures made { IfOk result (λ o. IsWithinBudget machine.now budget o.machine) }
+    ensures nodes { IfOk result (λ o. IsGreatestDcount machine.now o.nodes) }
+    ensures refused { IfErr result (λ s. MemoryOr s (IsBudgetStatus machine.now budget s)) }
+{
+    match optimise(alloc, machine, budget) {
+        Ok(made) => Ok(made),
+        Err(BoomError::Memory) => Err(Status::Memory),
+        Err(BoomError::Budget(equation)) => Err(Status::Budget {
+            equation,
+            reached: u64::from(budget) + 1,
+        }),
+    }
+}
+
+// Whether names and ports have numbers of 32 bits.
+fn has_few_names(machine: &Machine) -> bool
+    ensures { IsTrue result → length machine.now.vars + length machine.now.ports < 2 ^ 32 }
+{
+    let names = machine.vars().as_slice().len() as u64;
+    let ports = machine.ports().as_slice().len() as u64;
+    names.saturating_add(ports) <= u64::from(u32::MAX)
+}
+
+// How large a machine is.
+fn report(alloc: Global, machine: &Machine) -> Result<FileBytes, AllocError>
+    requires { size_of machine.now ≤ MOST_SIZE }
+    ensures { IfOk result (λ text. text ≡ report_of machine.now) }
+{
+    let mut number = Text::new(Vec::new(alloc));
+    push_u64(alloc, &mut number, machine_size(machine))?;
+    let mut text = FileBytes::from_bytes(alloc, b"size ")?;
+    text.append(number.as_bytes())?;
+    text.append(b"\n")?;
+    Ok(text)
+}
+
+// The smaller source's file, NAME.vbe, and what is printed. More names than 32 bits can number are answered as out of memory.
+fn product(alloc: Global, command: &BoomCommand, machine: &Machine) -> Result<Product, AllocError>
+    requires small { size_of machine.now ≤ MOST_SIZE }
+    requires names { CanBeVbe machine.now }
+    ensures { IfOk result (λ p. IsWrittenAs command.now machine.now p) }
+{
+    if !has_few_names(machine) {
+        return Err(AllocError);
+    }
+    let mut name = command.out.copy(alloc)?;
+    name.append(b".vbe")?;
+    let file = write_vbe(alloc, machine)?;
+    Ok(Product {
+        name,
+        file: Some(file),
+        text: report(alloc, machine)?,
+    })
+}
+
+// What the text comes to.
+fn made_smaller(alloc: Global, command: &BoomCommand, source: &[u8]) -> Result<Product, Refusal>
+    ensures { IsJudged (MakesSmaller command.now source.now) result }
+{
+    // What is read, and what is alike, has names that can be written.
+    machine_is_named();
+    registers_are_named();
+    in_order_can_be_written();
+    let machine = match read_vbe(alloc, source) {
+        Ok(machine) => machine,
+        Err(error) => return Err(Refusal::plain(refused(alloc, &command.source, error))),
+    };
+    match check_size(&machine) {
+        Ok(()) => {}
+        Err(status) => return Err(Refusal::plain(status)),
+    }
+    let made = match optimise_within(alloc, &machine, command.nodes) {
+        Ok(made) => made,
+        Err(status) => return Err(Refusal::plain(status)),
+    };
+    let written = product(alloc, command, &made.machine)?;
+    Ok(written)
+}
+
+impl Tool for Boom<'_> {
+    ghost use Rattle.boom_run.specs.Boom.{boom_plan, boom_answers};
+
+    ghost plan = { λ t. boom_plan t.command.now };
+
+    ghost answers = { λ t. boom_answers t.command.now };
+
+    fn first(&self, alloc: Global) -> Result<Vec<Wanted>, AllocError> {
+        let mut wanted = Vec::new(alloc);
+        wanted.push(Wanted::limited(self.command.source.copy(alloc)?))?;
+        Ok(wanted)
+    }
+
+    fn more(&self, alloc: Global, _first: &[FileBytes]) -> Result<Vec<Wanted>, AllocError> {
+        Ok(Vec::new(alloc))
+    }
+
+    fn judge(
+        &self,
+        alloc: Global,
+        first: &[FileBytes],
+        _more: &[FileBytes],
+    ) -> Result<Product, Refusal> {
+        made_smaller(alloc, self.command, bytes_at(first, 0))
+    }
+}

@@ -1,0 +1,9 @@
+//! `boom` as a tool: a data-flow source made smaller, with an exact budget.
+//!
+//! What it reads and answers stands in `specs/Boom.antt`; when each status comes and what it leaves, for all tools, in
+//! `specs/Table.antt` of `tool_drive`.
+#![tactic(auto)]
+
+mod boom;
+
+pub use boom::{Boom, optimise_within};
