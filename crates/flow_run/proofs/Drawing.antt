@@ -25,12 +25,22 @@ use Rattle.ocp_place.specs.Law.{row_of, RightMayBeDrawn}
 use Rattle.ocp_place.specs.Drawable.{IsDrawableIn}
 use Rattle.route_draw.specs.Drawn.{IsDrawnInTracks}
 use Rattle.route_draw.specs.Law.{RightDrawingsAreRight, DrawingCanBeWritten}
-use Rattle.boog_run.specs.Boog.{IsNetlistFor}
-use Rattle.boog_run.specs.Laws.{NetlistIsWritable, NetlistIsSmall, NetlistIsShort}
+use Rattle.vlsi_base.specs.declared.name.Port.{Port}
+use Rattle.vlsi_base.specs.Member.{In}
+use Rattle.port_words.specs.Words.{IsIdentifier, CanBePorts}
+use Rattle.machine_meaning.specs.Size.{machine_size}
+use Rattle.vbe_words.specs.Laws.{with_supplies}
+use Rattle.machine_alike.specs.Alike.{IsAlike, AlikeRun, AlikeBothWays}
+use Rattle.machine_roots.specs.Roots.{IsGreatestDcount}
+use Rattle.boog_run.specs.Laws.{CanBeDeclared, SourceCanBeDeclared, NetlistIsWritable, NetlistIsSmall, NetlistIsShort}
+use Rattle.boog_run.specs.declared.netlist.TheConstants.{MOST_SIZE}
 use Rattle.flow_run.specs.Report.{report_by, report_of}
 use Rattle.flow_run.specs.RightLayout.{IsRightLayout}
+use Rattle.flow_run.specs.Mapped.{IsMappedFor}
 use Rattle.flow_run.specs.Drawn.{MayBeDrawn, IsLengthOf}
 use Rattle.flow_run.specs.Flow.{AreRead}
+use Rattle.flow_run.proofs.Alike.{well_alike, agrees_alike, order_alike}
+use Rattle.flow_run.proofs.Fewer.{lean_by}
 
 -- a source that is read has few ports
 pub few_ports : (bytes : List ℕ) (m : Machine) → IsVbe bytes m → length m.ports ≤ most_ports
@@ -39,44 +49,64 @@ few_ports bytes m is =
     let few = is.passes.few_ports in
     omega (arith, same, few)
 
+-- a machine that is alike one that can be declared can be declared
+declared_alike : (m o : Machine) → IsAlike m o → CanBeDeclared m → CanBeDeclared o
+declared_alike m o a d = record {
+  name = subst IsIdentifier (sym a.name) d.name;
+  ports = subst (λ (ports : List Port). CanBePorts (with_supplies ports)) (sym a.ports) d.ports;
+  short_name = subst (λ (t : List ℕ). length t ≤ 64) (sym a.name) d.short_name;
+  short_ports = λ p i. d.short_ports p (subst (λ (ports : List Port). In p ports) a.ports i);
+  few_ports = subst (λ (ports : List Port). length ports ≤ most_ports) (sym a.ports) d.few_ports;
+}
+
 -- what is read and mapped may be drawn
-pub may_be_drawn : LibraryPasses → LibraryNeedsNoTracks → NetlistIsWritable → NetlistIsSmall → NetlistIsShort
-    → (source list : List ℕ) (cells : List (List ℕ)) (m : Machine) (l : Library) (n : Netlist) → AreRead source list cells m l → IsNetlistFor l m n → MayBeDrawn l m n
-may_be_drawn passes plain writable few short source list cells m l n read netlist =
+pub may_be_drawn : LibraryPasses → LibraryNeedsNoTracks → SourceCanBeDeclared → NetlistIsWritable → NetlistIsSmall → NetlistIsShort
+    → (source list : List ℕ) (cells : List (List ℕ)) (m : Machine) (l : Library) (budget : ℕ) (n : Netlist) (nodes : ℕ) → AreRead source list cells m l
+    → IsMappedFor l m budget n nodes → MayBeDrawn l m n
+may_be_drawn passes plain declares writable few short source list cells m l budget n nodes read h =
     let library = plain true list cells l read.library in
-    let sizes = few source l m n read.machine read.small netlist in
+    let declared = declared_alike m h.o h.made.optimised.alike (declares source m read.machine) in
+    let given = read.small in
+    let made = h.made.optimised.small.size in
+    let small : machine_size h.o ≤ MOST_SIZE = omega (arith, given, made) in
+    let sizes = few l h.o n h.ordered declared small h.netlist in
     record {
-      netlist = netlist;
+      o = h.o;
+      optimised = h.made.optimised;
+      netlist = h.netlist;
       checked = read.machine.machine.checked;
+      ordered = h.ordered;
       passed = passes true list cells l read.library;
       small = read.small;
-      named = (writable source list cells l m n library read.machine read.small netlist).named;
-      short = short source list cells l m n library read.machine read.small netlist;
+      named = (writable list cells l h.o n library declared small h.netlist).named;
+      short = short list cells l h.o n library declared small h.netlist;
       instances = sizes.0;
       ports = sizes.1;
     }
 
 pub drawable : RightMayBeDrawn → (l : Library) (m : Machine) (n : Netlist) (table : List ModelPins) → IsTableOf l false table → IsPinTable table → MayBeDrawn l m n → IsDrawableIn l n
-drawable may l m n table of_library is_table h = may l n m false table h.passed of_library is_table h.netlist.sound h.checked h.netlist.right h.netlist.pins
+drawable may l m n table of_library is_table h = may l n h.o false table h.passed of_library is_table h.netlist.sound h.ordered h.netlist.right h.netlist.pins
 
 -- the numbers of a netlist in memory are those of the netlist that it is seen as
-report_same : (m : Machine) (l : Library) (n : Netlist) (k : Seen) (long : ℕ) → IsSeenAs n k → IsLengthOf l n long
-    → report_by m (length n.instances) (n.count - 2) long 0 ≡ report_of m k l (row_of k) 0
-report_same m l n k long seen measured =
+report_same : (m : Machine) (nodes : ℕ) (l : Library) (n : Netlist) (k : Seen) (long : ℕ) → IsSeenAs n k → IsLengthOf l n long
+    → report_by m nodes (length n.instances) (n.count - 2) long 0 ≡ report_of m nodes k l (row_of k) 0
+report_same m nodes l n k long seen measured =
     let cells : length k.instances ≡ length n.instances = ap (λ (x : Seen). length x.instances) seen.is ∙ length-map n.instances member_of in
     let nets : net_count k ≡ n.count - 2 = ap (λ (x : Seen). net_count x) seen.is in
-    ap (λ (a : ℕ). report_by m a (n.count - 2) long 0) (sym cells)
-    ∙ ap (λ (a : ℕ). report_by m (length k.instances) a long 0) (sym nets)
-    ∙ ap (λ (a : ℕ). report_by m (length k.instances) (net_count k) a 0) (measured k seen)
+    ap (λ (a : ℕ). report_by m nodes a (n.count - 2) long 0) (sym cells)
+    ∙ ap (λ (a : ℕ). report_by m nodes (length k.instances) a long 0) (sym nets)
+    ∙ ap (λ (a : ℕ). report_by m nodes (length k.instances) (net_count k) a 0) (measured k seen)
 
-pub right_layout : RightIsWellFormed → RightDrawingsAreRight → DrawingCanBeWritten → WrittenIsReadAgain → (l : Library) (m : Machine) (n : Netlist) (f : Figure) (long : ℕ) (report : List ℕ)
-    → IsDrawableIn l n → MayBeDrawn l m n → IsDrawnInTracks l n f → IsLengthOf l n long → report ≡ report_by m (length n.instances) (n.count - 2) long 0
-    → IsRightLayout (text_of f) m l report
-right_layout well extracted written again l m n f long report given h drawn measured reported =
+pub right_layout : RightIsWellFormed → RightDrawingsAreRight → DrawingCanBeWritten → WrittenIsReadAgain → AlikeRun → AlikeBothWays
+    → (l : Library) (m : Machine) (n : Netlist) (f : Figure) (long nodes : ℕ) (report : List ℕ)
+    → IsDrawableIn l n → MayBeDrawn l m n → IsDrawnInTracks l n f → IsLengthOf l n long → IsGreatestDcount m nodes
+    → report ≡ report_by m nodes (length n.instances) (n.count - 2) long 0 → IsRightLayout (text_of f) m l report
+right_layout well extracted written again runs back l m n f long nodes report given h drawn measured counted reported =
     let right = h.netlist.right in
     let k = right.sourced.netlist in
     let p = row_of k in
-    let both = well n l m h.checked right in
+    let a = h.optimised.alike in
+    let both = well n l h.o h.ordered right in
     let instances = h.instances in
     let ports = h.ports in
     let fits = written l n f h.passed given h.named h.short (omega (arith, instances)) (omega (arith, ports)) drawn in
@@ -85,13 +115,15 @@ right_layout well extracted written again l m n f long report given h drawn meas
       netlist = k;
       placement = p;
       file = again f fits.0 fits.1;
-      named = drawn.named ∙ ap (λ (name : List ℕ). Some (scalar name)) right.name;
-      extracts = extracted l n m k f h.passed given h.checked right right.seen drawn;
-      well = both.0;
-      agrees = both.1;
+      named = drawn.named ∙ ap (λ (name : List ℕ). Some (scalar name)) (right.name ∙ a.name);
+      extracts = extracted l n h.o k f h.passed given h.ordered right right.seen drawn;
+      well = well_alike k l m h.o a both.0;
+      agrees = agrees_alike k l m h.o a runs back h.checked.ordered h.ordered.ordered both.1;
       lawful = drawn.lawful;
       is_placed = drawn.placed k right.seen;
-      in_order = h.netlist.order k p right.seen refl;
-      lean = h.netlist.lean k right.seen;
-      reported = reported ∙ report_same m l n k long right.seen measured;
+      in_order = order_alike k l m h.o a p (h.netlist.order k p right.seen refl);
+      lean = lean_by k m h.o h.optimised (h.netlist.lean k right.seen);
+      nodes = nodes;
+      counted = counted;
+      reported = reported ∙ report_same m nodes l n k long right.seen measured;
     }

@@ -1,6 +1,9 @@
 pub mod Judging
 pub mod NeverRefused
 pub mod Refusing
+pub mod Alike
+pub mod Outputs
+pub mod Fewer
 pub mod Drawing
 pub mod Lines
 pub mod Standing

@@ -1,5 +1,11 @@
 -- What is read, and covered by its library, isn't refused.
-use Rattle.std.proofs.Common.{◌≡◌, ℕ, ◌<◌, ◌≤◌, true, List, arith}
+use Rattle.std.proofs.Common.{◌≡◌, ℕ, ◌<◌, ◌≤◌, true, List, ◌∷◌, ◌++◌, subst, arith}
+use Rattle.std.specs.List.{All}
+use Rattle.vlsi_base.specs.Member.{In, here}
+use Rattle.vlsi_base.specs.declared.name.Name.{Name}
+use Rattle.machine_core.proofs.Values.{In-right}
+use Rattle.cell_model.proofs.Members.{All-In}
+use Rattle.machine_roots.specs.Roots.{Root, roots, IsOverBudget, IsFirstOver}
 use Rattle.vlsi_base.specs.declared.fault.ReadError.TheVariants as reading
 use Rattle.machine_meaning.specs.Machine.{Machine}
 use Rattle.vbe_io.specs.Text.{IsVbe, IsVbeRefusal}
@@ -14,7 +20,7 @@ use Rattle.tool_words.specs.declared.command.FlowCommand.{FlowCommand}
 use Rattle.tool_drive.specs.declared.status.Status.{Status}
 use Rattle.tool_drive.specs.declared.status.Status.TheVariants as status
 use Rattle.tool_drive.specs.Refusals.{OfFile}
-use Rattle.flow_run.specs.Flow.{AreRead, IsNoSource, no_list, no_text, over_size, IsUnread, no_source, no_cell, IsRefused, unread, uncovered}
+use Rattle.flow_run.specs.Flow.{AreRead, IsNoSource, no_list, no_text, over_size, IsUnread, no_source, no_cell, IsWithinNodes, IsRefused, unread, uncovered, over_budget}
 use Rattle.flow_run.specs.Laws.{WhatIsReadIsNeverRefused}
 
 -- a text that is a machine has no refusal of its file
@@ -22,6 +28,12 @@ text_never : NeverBoth → (file source : List ℕ) (m : Machine) → IsVbe sour
 text_never law file source m is (status.Source name fault) h = law source m (reading.Input fault) is h.1
 text_never law file source m is (status.Limit l) h = law source m (reading.Limit l) is h
 text_never law file source m is _ h = absurd h
+
+-- where no diagram is over the budget, none is the first
+none_first : (m : Machine) (budget : ℕ) (name : Name) → IsWithinNodes m budget → IsFirstOver m budget name → ⊥
+none_first m budget name within f =
+    let all = subst (λ (rs : List Root). All (λ r. IsOverBudget m budget r → ⊥) rs) f.all within in
+    All-In (λ (r : Root). IsOverBudget m budget r → ⊥) (f.before ++ f.root ∷ f.after) all f.root (In-right f.root f.before (f.root ∷ f.after) here) f.over
 
 module _ (lists : NeverBothLists) (texts : NeverBoth) (weights : MachinesWeighTheSame) (libraries : LibraryIsNeverRefused)
     (lacks : CoveredLacksNothing) where
@@ -41,6 +53,7 @@ module _ (lists : NeverBothLists) (texts : NeverBoth) (weights : MachinesWeighTh
       libraries true catal cells l e read.library (bad_cell names uses refused)
 
   pub never_refused : WhatIsReadIsNeverRefused
-  never_refused c source catal cells m l s read covered (unread h) = unread_never c source catal cells m l s read h
-  never_refused c source catal cells m l s read covered (uncovered k own kind others missing is) =
+  never_refused c source catal cells m l s read covered within (over_budget k own others too b) = none_first k c.nodes b.name (within k others.machine) b.first
+  never_refused c source catal cells m l s read covered within (unread h) = unread_never c source catal cells m l s read h
+  never_refused c source catal cells m l s read covered within (uncovered k own kind others missing is) =
       lacks true true catal cells l own read.library others.library source m k read.machine others.machine covered kind missing

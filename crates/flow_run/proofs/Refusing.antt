@@ -13,7 +13,9 @@ use Rattle.cell_lib.specs.declared.error.LibError.TheVariants as errors
 use Rattle.cell_lib.specs.Load.{refused}
 use Rattle.cell_lib.specs.Cells.{OrMemory}
 use Rattle.cell_lib.specs.Library.{IsRefusedLibrary, bad_list, bad_cell, status_of}
-use Rattle.boog_run.specs.Boog.{IsNoNetlist, too_large, no_cover, size_limit}
+use Rattle.boog_run.specs.Boog.{size_limit}
+use Rattle.boog_map.specs.Netlist.{Covers}
+use Rattle.boom_run.specs.Boom.{IsBudgetStatus}
 use Rattle.boog_run.specs.declared.netlist.TheConstants.{MOST_SIZE}
 use Rattle.tool_words.specs.declared.command.FlowCommand.{FlowCommand}
 use Rattle.tool_drive.specs.declared.status.Status.{Status}
@@ -23,7 +25,8 @@ use Rattle.tool_drive.specs.declared.tool.Refusal.{Refusal}
 use Rattle.tool_drive.specs.Plan.{Inputs}
 use Rattle.tool_drive.specs.Table.{IsJudged, IsFair, refusal}
 use Rattle.tool_drive.specs.Refusals.{MemoryOr, OfFile, of_file}
-use Rattle.flow_run.specs.Flow.{is_fsm, IsSourceOf, AreRead, IsNoSource, no_list, no_text, over_size, IsUnread, no_source, no_cell, IsRefused, unread, uncovered, LaysOut, AnswersTo, flow_answers}
+use Rattle.flow_run.specs.Flow.{is_fsm, IsSourceOf, AreRead, IsNoSource, no_list, no_text, over_size, IsUnread, no_source, no_cell, IsRefused, unread, uncovered, over_budget, LaysOut, AnswersTo, flow_answers}
+use Rattle.flow_run.specs.Mapped.{IsMissingIn}
 use Rattle.flow_run.proofs.Judging.{fair_list, fair_library}
 
 -- ---- out of memory, or this
@@ -100,6 +103,7 @@ fair c source list cells s P (unread (no_source r)) p = fair_source c source lis
 fair c source list cells s P (unread (no_cell m names e h uses first is)) p =
     subst (λ (t : Status). IsFair t None P) (sym is) (fair_library list cells e P (bad_cell names uses first) p)
 fair c source list cells s P (uncovered m l k read missing is) p = subst (λ (t : Status). IsFair t None P) (sym is) p
+fair c source list cells s P (over_budget m l read covered b) p = subst (λ (t : Status). IsFair t None P) (sym b.is) p
 
 -- ---- to the tool's answer
 
@@ -128,15 +132,15 @@ pub by_unread : (c : FlowCommand) (source list : List ℕ) (cells : List (List �
 by_unread c source list cells s h =
     judged c source list cells s (memory_or s (IsUnread c source list cells s) (IsRefused c source list cells s) (λ u. unread u) h)
 
-netlist_at : (c : FlowCommand) (source list : List ℕ) (cells : List (List ℕ)) (m : Machine) (l : Library) (s : Status) → AreRead source list cells m l → IsNoNetlist l m s
-    → IsRefused c source list cells s
-netlist_at c source list cells m l s read (too_large big is) = absurd (let small = read.small in omega (arith, big, small))
-netlist_at c source list cells m l s read (no_cover small k missing is) = uncovered m l k read missing is
+pub by_kinds : (c : FlowCommand) (source list : List ℕ) (cells : List (List ℕ)) (m : Machine) (l : Library) (s : Status) → AreRead source list cells m l
+    → IsMissingIn l m s → IsJudged (LaysOut c source list cells) (Err (refusal s None))
+by_kinds c source list cells m l s read h =
+    subst (λ (t : Status). IsJudged (LaysOut c source list cells) (Err (refusal t None))) (sym h.is) (refl, uncovered m l h.kind read h.first refl)
 
-pub by_netlist : (c : FlowCommand) (source list : List ℕ) (cells : List (List ℕ)) (m : Machine) (l : Library) (s : Status) → AreRead source list cells m l
-    → MemoryOr s (IsNoNetlist l m s) → IsJudged (LaysOut c source list cells) (Err (refusal s None))
-by_netlist c source list cells m l s read h =
-    judged c source list cells s (memory_or s (IsNoNetlist l m s) (IsRefused c source list cells s) (λ n. netlist_at c source list cells m l s read n) h)
+pub by_budget : (c : FlowCommand) (source list : List ℕ) (cells : List (List ℕ)) (m : Machine) (l : Library) (s : Status) → AreRead source list cells m l
+    → Covers l m → MemoryOr s (IsBudgetStatus m c.nodes s) → IsJudged (LaysOut c source list cells) (Err (refusal s None))
+by_budget c source list cells m l s read covered h =
+    judged c source list cells s (memory_or s (IsBudgetStatus m c.nodes s) (IsRefused c source list cells s) (λ b. over_budget m l read covered b) h)
 
 -- ---- a source that is no state machine's is answered so
 

@@ -70,7 +70,7 @@ laid_free law c before now s complete free =
     by : (r : Result Product Refusal) → flow_answers c i r → s ≡ status_of r → (s ≡ Accepted) ⊎ (s ≡ Memory)
     by (Ok p) h e = inl e
     by (Err r) h e =
-        absurd (law c free.source free.catal free.cells free.m free.l r.status free.are_read free.covered
+        absurd (law c free.source free.catal free.cells free.m free.l r.status free.are_read free.covered free.within
         (subst (λ (b : Bool). AnswersTo b c i (Err r)) free.stood.no_fsm h).1)
 
 -- ---- a state machine's source

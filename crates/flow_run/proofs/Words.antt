@@ -7,12 +7,13 @@ use Rattle.tool_words.specs.declared.command.Command.TheVariants as command
 use Rattle.tool_words.specs.declared.words.WordsError.{WordsError}
 use Rattle.tool_words.specs.declared.words.WordsError.TheVariants as words
 use Rattle.tool_words.specs.declared.command.FlowCommand.{FlowCommand}
+use Rattle.tool_words.specs.declared.command.BoomCommand.{BoomCommand}
 use Rattle.tool_words.specs.declared.command.BoogCommand.{BoogCommand}
 use Rattle.tool_words.specs.declared.command.CougarCommand.{CougarCommand}
 use Rattle.tool_words.specs.Words.{is_word}
-use Rattle.tool_words.specs.Table.{Entry, library, out, patterns, netlist_library, flow, boog, asimut, cougar, tools}
-use Rattle.tool_words.specs.Values.{files, values, only}
-use Rattle.tool_words.specs.Commands.{flow_with, boog_with, asimut_with, cougar_with, command_from, command_of, as_flow, as_boog, as_asimut, as_asimut_netlist, as_cougar, flow_of, boog_of, cougar_of, asimut_of, asimut_netlist_of, Spells}
+use Rattle.tool_words.specs.Table.{Entry, library, out, patterns, netlist_library, nodes, flow, boom, boog, asimut, cougar, tools}
+use Rattle.tool_words.specs.Values.{files, values, only, number_of}
+use Rattle.tool_words.specs.Commands.{flow_with, boom_with, boog_with, asimut_with, cougar_with, command_from, command_of, as_flow, as_boom, as_boog, as_asimut, as_asimut_netlist, as_cougar, flow_of, boom_of, boog_of, cougar_of, asimut_of, asimut_netlist_of, Spells}
 use Rattle.tool_words.specs.Laws.{WordsAreExact}
 use Rattle.vlsi_shelf.specs.Seen.{SinkSeen}
 use Rattle.tool_drive.specs.declared.status.Status.{Status}
@@ -21,6 +22,7 @@ use Rattle.tool_drive.specs.Lines.{line_of as line_of_tool}
 use Rattle.tool_drive.specs.Outside.{Outside, IsLine}
 use Rattle.tool_drive.specs.Table.{Caused, IsComplete, memory_complete}
 use Rattle.tool_run.specs.Usage.{word_of, tool_of, line_of, status_of}
+use Rattle.boom_run.specs.Boom.{boom_plan, boom_answers}
 use Rattle.boog_run.specs.Boog.{boog_plan, boog_answers}
 use Rattle.cougar_run.specs.Cougar.{cougar_plan, cougar_answers}
 use Rattle.asimut_run.specs.Asimut.{asimut_plan, asimut_answers}
@@ -35,6 +37,10 @@ use Rattle.flow_run.proofs.Rows.{if_some, headline_of, laid_free}
 flow_word : (x : Option FlowCommand) (k : Command) → option_map command.Flow x ≡ Some k → codes "flow" ≡ word_of k
 flow_word None k h = absurd (cc h)
 flow_word (Some c) k h = let same : command.Flow c ≡ k = cc h in subst (λ (other : Command). codes "flow" ≡ word_of other) same refl
+
+boom_word : (x : Option BoomCommand) (k : Command) → option_map command.Boom x ≡ Some k → codes "boom" ≡ word_of k
+boom_word None k h = absurd (cc h)
+boom_word (Some c) k h = let same : command.Boom c ≡ k = cc h in subst (λ (other : Command). codes "boom" ≡ word_of other) same refl
 
 boog_word : (x : Option BoogCommand) (k : Command) → option_map command.Boog x ≡ Some k → codes "boog" ≡ word_of k
 boog_word None k h = absurd (cc h)
@@ -57,7 +63,10 @@ abbrev NamesItsCommands : Entry → Type 0
 NamesItsCommands e = (arguments : List _) (k : Command) → command_from e.tool arguments ≡ Some k → e.word ≡ word_of k
 
 flow_names : NamesItsCommands flow
-flow_names a k h = flow_word (flow_with (only (files a)) (only (values library.word a)) (only (values out.word a))) k h
+flow_names a k h = flow_word (flow_with (only (files a)) (only (values library.word a)) (only (values out.word a)) (number_of nodes a)) k h
+
+boom_names : NamesItsCommands boom
+boom_names a k h = boom_word (boom_with (only (files a)) (only (values out.word a)) (number_of nodes a)) k h
 
 boog_names : NamesItsCommands boog
 boog_names a k h = boog_word (boog_with (only (files a)) (only (values library.word a)) (only (values out.word a))) k h
@@ -84,7 +93,7 @@ found P p (x ∷ xs) e all h = found_by P x e (find p xs) all.0 (found P p xs e 
 spelled : (words : List (List ℕ)) (k : Command) → Spells words k → tool_of words ≡ word_of k
 spelled words k h =
     ap tool_of h.words_are
-    ∙ found NamesItsCommands (λ (e : Entry). is_word e.word h.entry.word) tools h.entry (flow_names, (boog_names, (asimut_names, (cougar_names, tt)))) h.in_table h.arguments k h.command
+    ∙ found NamesItsCommands (λ (e : Entry). is_word e.word h.entry.word) tools h.entry (flow_names, (boom_names, (boog_names, (asimut_names, (cougar_names, tt))))) h.in_table h.arguments k h.command
 
 line_is : (words : List (List ℕ)) (s : Status) → (s ≡ status.Usage → ⊥) → line_of_tool (tool_of words) s ≡ line_of words s
 line_is words status.Usage other = absurd (other refl)
@@ -136,6 +145,14 @@ flow_unread ws words.Usage before now s is none =
 flow_unread ws words.Memory before now s is none =
     subst (λ (x : Status). IfSome (flow_of ws) (λ c. IsComplete (flow_plan c) (flow_answers c) before now x)) (sym is)
     (all_some (flow_of ws) (λ c. memory_complete (flow_plan c) (flow_answers c) before now))
+
+pub boom_unread : (ws : List (List ℕ)) (e : WordsError) (before now : Outside) (s : Status) → s ≡ status_of e → (IsErrOf {T = Command} (Err e) words.Usage → command_of ws ≡ None)
+    → IfSome (boom_of ws) (λ c. IsComplete (boom_plan c) (boom_answers c) before now s)
+boom_unread ws words.Usage before now s is none =
+    subst (λ (o : Option Command). IfSome (as_boom o) (λ c. IsComplete (boom_plan c) (boom_answers c) before now s)) (sym (none refl)) tt
+boom_unread ws words.Memory before now s is none =
+    subst (λ (x : Status). IfSome (boom_of ws) (λ c. IsComplete (boom_plan c) (boom_answers c) before now x)) (sym is)
+    (all_some (boom_of ws) (λ c. memory_complete (boom_plan c) (boom_answers c) before now))
 
 pub boog_unread : (ws : List (List ℕ)) (e : WordsError) (before now : Outside) (s : Status) → s ≡ status_of e → (IsErrOf {T = Command} (Err e) words.Usage → command_of ws ≡ None)
     → IfSome (boog_of ws) (λ c. IsComplete (boog_plan c) (boog_answers c) before now s)

@@ -13,7 +13,8 @@ use Rattle.tool_words.specs.declared.command.FlowCommand.{FlowCommand}
 use Rattle.tool_drive.specs.Outside.{Outside, NothingFailed}
 use Rattle.tool_drive.specs.Held.{Holds, AreHad}
 use Rattle.flow_run.specs.Drawn.{layout_name}
-use Rattle.flow_run.specs.Flow.{is_fsm, AreRead}
+use Rattle.vbe_io.specs.Text.{IsVbe}
+use Rattle.flow_run.specs.Flow.{is_fsm, AreRead, IsWithinNodes}
 use Rattle.flow_run.specs.RightLayout.{IsRightLayout}
 
 -- The source isn't a state machine's, and SOURCE, the library's CATAL, and the behaviour and the layout of each cell that this uses are
@@ -48,8 +49,8 @@ abbrev pub IsHeadline : FlowCommand → Outside → Outside → Type 0
 IsHeadline c before now = (report : List ℕ) × Puts before.told now.told report × StandsWhole before now c report
 
 -- Nothing stands in the way of a layout: the files are told and all are there; the source is a machine that isn't too large, and the
--- others are a library, whose cells may be drawn with tracks, with a usable cell of each kind that mapping needs; and no call on the
--- shelf or the sink failed.
+-- others are a library, whose cells may be drawn with tracks, with a usable cell of each kind that mapping needs; no diagram of the
+-- source's roots is over the budget, in whichever order its equations stand; and no call on the shelf or the sink failed.
 pub record IsFree (c : FlowCommand) (before now : Outside) : Type 0 where
   pub files : Files
   pub told : before.files ≡ Some files
@@ -61,5 +62,6 @@ pub record IsFree (c : FlowCommand) (before now : Outside) : Type 0 where
   pub l : Library
   pub are_read : AreRead source catal cells m l
   pub covered : Covers l m
+  pub within : (k : Machine) → IsVbe source k → IsWithinNodes k c.nodes
   pub read : NothingFailed before now
   pub printed : Rose before.faults now.faults → ⊥

@@ -12,6 +12,7 @@ use Rattle.net_view.specs.View.{IsSeenAs}
 use Rattle.net_view.specs.Writable.{CanBeNamed, HasShortNames}
 use Rattle.ocp_place.specs.Law.{row_of}
 use Rattle.ocp_rows.specs.Length.{half_perimeter}
+use Rattle.boom_opt.specs.Optimised.{IsOptimised}
 use Rattle.boog_run.specs.Boog.{IsNetlistFor}
 use Rattle.boog_run.specs.declared.netlist.TheConstants.{MOST_SIZE}
 use Rattle.tool_drive.specs.declared.tool.Product.{Product}
@@ -20,10 +21,14 @@ use Rattle.flow_run.specs.RightLayout.{IsRightLayout}
 abbrev pub layout_name : List ℕ → List ℕ
 layout_name out = out ++ codes ".ap"
 
--- A netlist for a machine, both small enough and with names that can be written, of a library whose cells may be drawn with tracks.
+-- A netlist for a machine as it was made smaller, both small enough and with names that can be written, of a library whose cells may
+-- be drawn with tracks.
 pub record MayBeDrawn (l : Library) (m : Machine) (n : Netlist) : Type 0 where
-  pub netlist : IsNetlistFor l m n
+  pub o : Machine
+  pub optimised : IsOptimised m o
+  pub netlist : IsNetlistFor l o n
   pub checked : IsChecked m
+  pub ordered : IsChecked o
   pub passed : HasPassed true l
   pub small : machine_size m ≤ MOST_SIZE
   pub named : CanBeNamed n

@@ -1,6 +1,6 @@
 -- What `flow` reads and answers.
 use Rattle.std.specs.Prelude.{◌≡◌, ℕ, ◌<◌, ◌≤◌, Bool, true, false, List, [], ◌∷◌, get_or, None, Result, Ok, Err, codes, nat_eq, if◌then◌else◌}
-use Rattle.std.specs.List.{ends_with}
+use Rattle.std.specs.List.{All, ends_with}
 use Rattle.machine_meaning.specs.Machine.{Machine}
 use Rattle.machine_meaning.specs.Size.{machine_size}
 use Rattle.vbe_io.specs.Text.{IsVbe, IsVbeRefusal}
@@ -16,8 +16,10 @@ use Rattle.cell_lib.specs.Load.{refused}
 use Rattle.cell_lib.specs.Cells.{sources, IsFirstRefused}
 use Rattle.cell_lib.specs.Library.{IsCell, IsCellRefusal, IsLibraryOf, status_of}
 use Rattle.boog_map.specs.Netlist.{has_registers, Covers}
+use Rattle.machine_roots.specs.Roots.{roots, IsOverBudget}
 use Rattle.boog_run.specs.Boog.{size_limit}
 use Rattle.boog_run.specs.declared.netlist.TheConstants.{MOST_SIZE}
+use Rattle.boom_run.specs.Boom.{IsBudgetStatus}
 use Rattle.tool_words.specs.declared.command.FlowCommand.{FlowCommand}
 use Rattle.tool_drive.specs.declared.status.Status.{Status}
 use Rattle.tool_drive.specs.declared.status.Status.TheVariants as status
@@ -51,13 +53,18 @@ pub record AreRead (source catal : List ℕ) (cells : List (List ℕ)) (m : Mach
   pub small : machine_size m ≤ MOST_SIZE
   pub library : IsLibraryOf true catal cells l
 
--- Source and library are read, the library has a usable cell of each kind that mapping needs, and NAME.ap is a right layout of the
--- source by this library, on which the report is what is printed.
+-- no diagram of the machine's roots is over the budget
+abbrev pub IsWithinNodes : Machine → ℕ → Type 0
+IsWithinNodes m budget = All (λ r. IsOverBudget m budget r → ⊥) (roots m)
+
+-- Source and library are read, the library has a usable cell of each kind that mapping needs, no diagram of the source's roots is over
+-- the budget, and NAME.ap is a right layout of the source by this library, on which the report is what is printed.
 pub record IsLaidOut (c : FlowCommand) (source catal : List ℕ) (cells : List (List ℕ)) (p : Product) : Type 0 where
   pub m : Machine
   pub l : Library
   pub read : AreRead source catal cells m l
   pub covered : Covers l m
+  pub within : IsWithinNodes m c.nodes
   pub drawn : IsDrawnAs c.out m l p
 
 -- Why there is no source that can be laid out, in this order: the lines of CATAL and their number; the text of the source and its
@@ -74,11 +81,14 @@ pub data IsUnread (c : FlowCommand) (source catal : List ℕ) (cells : List (Lis
   no_cell : (m : Machine) (names : List (List ℕ)) (e : LibError) → IsSourceOf source catal m → IsCatal catal names
       → IsFirstRefused (IsCell true) (IsCellRefusal true) (sources names cells) e → s ≡ status_of e → IsUnread c source catal cells s
 
--- Why a source has no layout: something isn't read, or else a kind is the first of those that are asked for which no usable cell has.
+-- Why a source has no layout: something isn't read; or else a kind is the first of those that are asked for which no usable cell has;
+-- or else a root is the first whose diagram is over the budget.
 pub data IsRefused (c : FlowCommand) (source catal : List ℕ) (cells : List (List ℕ)) (s : Status) : Type 0 where
   unread : IsUnread c source catal cells s → IsRefused c source catal cells s
   uncovered : (m : Machine) (l : Library) (k : Kind) → AreRead source catal cells m l → IsFirstMissing l.cells k (needed (has_registers m))
       → s ≡ status.NoCover k → IsRefused c source catal cells s
+  over_budget : (m : Machine) (l : Library) → AreRead source catal cells m l → Covers l m → IsBudgetStatus m c.nodes s
+      → IsRefused c source catal cells s
 
 -- the layout is written and the report is printed, or one of these refusals
 abbrev pub LaysOut : FlowCommand → List ℕ → List ℕ → List (List ℕ) → Result Product Refusal → Type 0

@@ -29,13 +29,14 @@ abbrev pub register_lines : ℕ → List Register → List ℕ
 register_lines k [] = []
 register_lines k (r ∷ rest) = register_line k r.name ++ register_lines (suc k) rest
 
--- The report by its numbers: the source, its registers, its size, how many cells and nets the layout has, the length of its nets
--- and the number of its breaches.
-abbrev pub report_by : Machine → ℕ → ℕ → ℕ → ℕ → List ℕ
-report_by m cells nets length breaches = together (
+-- The report by its numbers: the source, its registers, its size, the most nodes that a diagram of its roots has, how many cells and
+-- nets the layout has, the length of its nets and the number of its breaches.
+abbrev pub report_by : Machine → ℕ → ℕ → ℕ → ℕ → ℕ → List ℕ
+report_by m nodes cells nets length breaches = together (
     source_line m.name
     ∷ register_lines 0 m.registers
     ∷ count_line (codes "size") (machine_size m)
+    ∷ count_line (codes "nodes") nodes
     ∷ count_line (codes "cells") cells
     ∷ count_line (codes "nets") nets
     ∷ count_line (codes "length") length
@@ -43,5 +44,5 @@ report_by m cells nets length breaches = together (
     ∷ (codes "accepted" ++ line_end) ∷ [])
 
 -- The report on a machine's netlist and its placement.
-abbrev pub report_of : Machine → Netlist → Library → Placement → ℕ → List ℕ
-report_of m n l p breaches = report_by m (length n.instances) (net_count n) (half_perimeter n l p) breaches
+abbrev pub report_of : Machine → ℕ → Netlist → Library → Placement → ℕ → List ℕ
+report_of m nodes n l p breaches = report_by m nodes (length n.instances) (net_count n) (half_perimeter n l p) breaches

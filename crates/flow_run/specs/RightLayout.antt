@@ -12,14 +12,16 @@ use Rattle.net_meaning.specs.Behaviour.{Contents, NetTrace, net_outs}
 use Rattle.net_meaning.specs.Agreement.{Agrees, IsMatched}
 use Rattle.net_meaning.specs.Breaches.{Breaches}
 use Rattle.ocp_rows.specs.Placement.{Placement, IsPlaced}
-use Rattle.ocp_rows.specs.Order.{IsInNetlistOrder, IsLean}
+use Rattle.ocp_rows.specs.Order.{IsInNetlistOrder}
+use Rattle.machine_roots.specs.Roots.{IsGreatestDcount}
+use Rattle.flow_run.specs.Lean.{IsLeanBy}
 use Rattle.flow_run.specs.Report.{report_of}
 
 -- The bytes are the ap file of a figure that has the machine's name. Joined wherever shapes of one metal meet, the figure
 -- is a netlist of the library's cells that is well formed for the machine, behaves as the machine does, and breaks no
 -- symbolic rule. Its ports, instances, supplies and box are those of a placement, one row in the order of the netlist, and it has
 -- few gates.
--- The report is that of machine, netlist and placement.
+-- The report is that of machine, netlist and placement, and has the most nodes of a diagram of the machine's roots.
 pub record IsRightLayout (bytes : List ℕ) (m : Machine) (l : Library) (report : List ℕ) : Type 0 where
   pub figure : Figure
   pub netlist : Netlist
@@ -32,8 +34,10 @@ pub record IsRightLayout (bytes : List ℕ) (m : Machine) (l : Library) (report 
   pub lawful : Breaches figure.items l []
   pub is_placed : IsPlaced figure.bounds figure.items netlist l placement
   pub in_order : IsInNetlistOrder netlist l m placement
-  pub lean : IsLean netlist m
-  pub reported : report ≡ report_of m netlist l placement 0
+  pub lean : IsLeanBy netlist m
+  pub nodes : ℕ
+  pub counted : IsGreatestDcount m nodes
+  pub reported : report ≡ report_of m nodes netlist l placement 0
 
 -- From matched contents and under every list of vectors, the netlist of a right layout runs, and gives the outputs of the
 -- machine.

@@ -1,5 +1,8 @@
 // `flow` as a tool: what it reads, and what it answers.
-ghost use Rattle.std.specs.Prelude.{◌≡◌, true, IfOk, IfErr, codes};
+ghost use Rattle.std.specs.Prelude.{◌≡◌, ◌≤◌, true, IfOk, IfErr, OnOk, length, codes};
+ghost use Rattle.source_meaning.specs.Checks.{most_ports};
+ghost use Rattle.boog_map.specs.Netlist.{Covers};
+ghost use Rattle.boom_run.specs.Boom.{IsBudgetStatus};
 ghost use Rattle.cell_lib.specs.Library.{status_of};
 ghost use Rattle.cell_lib.specs.Load.{refused as list_refusal};
 ghost use Rattle.tool_drive.specs.Outside.{outside, IsLine};
@@ -8,13 +11,18 @@ ghost use Rattle.tool_drive.specs.Lines.{line_of};
 ghost use Rattle.tool_drive.specs.Refusals.{MemoryOr};
 ghost use Rattle.tool_drive.specs.Table.{IsJudged, Caused, IsComplete};
 ghost use Rattle.flow_run.specs.Flow.{is_fsm as is_state_machine, flow_plan, flow_answers, IsSourceOf, AreRead, IsNoSource, IsUnread, LaysOut};
+ghost use Rattle.flow_run.specs.Mapped.{IsMissingIn, IsMappedFor};
 
 use crate::layout::product;
+use crate::report::Counted;
 use boog_run::{check_size, netlist_law, netlist_of};
+use boom_run::optimise_within;
 use catal::{CatalError, read_catal};
 use cell_checks::Library;
 use cell_lib::{catal_file, library_law, library_status, named_files, read_library};
+use cell_model::first_missing;
 use machine_core::Machine;
+use net_core::Netlist;
 use std::alloc::{AllocError, Global};
 use tool_drive::{
     LibraryFault, Product, Refusal, Status, Tool, Wanted, bytes_at, drive, refused, tell,
@@ -30,8 +38,8 @@ use vlsi_shelf::{Shelf, Sink};
 /// All files are read first: SOURCE, CATAL, and the behaviour and the layout of each cell that this uses. Then it is refused, in this
 /// order: by `Library`, or a limit of CATAL, at the first line at fault; by `Source`, or a limit of the text; by `Limit` of `Size`,
 /// where the machine weighs more than `MOST_SIZE`; by `Library`, or a limit of a cell, at the first cell that fails a check, those for
-/// tracks among them; by `NoCover`, where the library has no usable cell of a kind. Memory goes by the files, the machine, its
-/// netlist and the lines of the layout.
+/// tracks among them; by `NoCover`, where the library has no usable cell of a kind; by `Budget`, at the first root whose diagram has
+/// more nodes than asked for. Memory goes by the files, the machine, one diagram, the netlist and the lines of the layout.
 #[derive(Drop)]
 struct Flow<'a> {
     command: &'a FlowCommand,
@@ -106,6 +114,52 @@ fn read_all(
     }
 }
 
+// Whether the library has a usable cell of each kind that mapping needs, or the status that names the first that it hasn't.
+fn check_kinds(machine: &Machine, library: &Library) -> Result<(), Status>
+    ensures covered { OnOk result (Covers library.now machine.now) }
+    ensures missing { IfErr result (λ s. IsMissingIn library.now machine.now s) }
+{
+    let has_registers = !machine.registers().as_slice().is_empty();
+    match first_missing(library.cells(), has_registers) {
+        None => Ok(()),
+        Some(kind) => Err(Status::NoCover(kind)),
+    }
+}
+
+/// A netlist of the library's cells for a machine that was made smaller before, and the most nodes that a diagram of its roots has.
+#[derive(Drop)]
+struct Mapped {
+    nodes: u32,
+    netlist: Netlist,
+}
+
+// The netlist of the machine made smaller, or the status of the first root over the budget. The smaller machine is small enough and
+// covered as the given one is, so that only memory can refuse its netlist.
+fn netlist_within(
+    alloc: Global,
+    machine: &Machine,
+    library: &Library,
+    budget: u32,
+) -> Result<Mapped, Status>
+    requires ports { length machine.now.ports ≤ most_ports }
+    ensures mapped { IfOk result (λ p. IsMappedFor library.now machine.now budget p.netlist p.nodes) }
+    ensures refused { IfErr result (λ s. MemoryOr s (IsBudgetStatus machine.now budget s)) }
+{
+    let made = match optimise_within(alloc, machine, budget) {
+        Ok(made) => made,
+        Err(status) => return Err(status),
+    };
+    // A machine is checked.
+    let _ = made.machine.name();
+    match netlist_of(alloc, &made.machine, library) {
+        Ok(netlist) => Ok(Mapped {
+            nodes: made.nodes,
+            netlist,
+        }),
+        Err(_) => Err(Status::Memory),
+    }
+}
+
 // What the texts come to.
 fn laid_out(
     alloc: Global,
@@ -123,11 +177,17 @@ fn laid_out(
         Ok(read) => read,
         Err(status) => return Err(Refusal::plain(status)),
     };
-    let netlist = match netlist_of(alloc, &read.machine, &read.library) {
-        Ok(netlist) => netlist,
+    let Read { machine, library } = read;
+    match check_kinds(&machine, &library) {
+        Ok(()) => {}
+        Err(status) => return Err(Refusal::plain(status)),
+    }
+    let Mapped { nodes, netlist } = match netlist_within(alloc, &machine, &library, command.nodes) {
+        Ok(mapped) => mapped,
         Err(status) => return Err(Refusal::plain(status)),
     };
-    let drawn = product(alloc, &command.out, &read.machine, &netlist, &read.library)?;
+    let source = Counted { machine, nodes };
+    let drawn = product(alloc, &command.out, &source, &netlist, &library)?;
     Ok(drawn)
 }
 

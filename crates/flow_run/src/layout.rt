@@ -1,15 +1,16 @@
 // The layout of a netlist: placed in one row, drawn with private tracks, and written.
 ghost use Rattle.std.specs.Prelude.{◌≡◌, IfOk, true};
 ghost use Rattle.cell_checks.specs.Checked.{IsChecked as HasPassed};
+ghost use Rattle.machine_roots.specs.Roots.{IsGreatestDcount};
 ghost use Rattle.ocp_place.specs.Drawable.{IsDrawableIn};
 ghost use Rattle.route_draw.specs.Drawn.{IsDrawnInTracks};
 ghost use Rattle.flow_run.specs.Drawn.{layout_name as layout_name_of, MayBeDrawn, IsLengthOf, IsDrawnAs};
 
-use crate::report::report;
+use crate::report::{Counted, report};
 use ap_io::{Figure, write_ap, written_is_read_again};
 use cell_checks::Library;
 use cell_pins::pin_table;
-use machine_core::Machine;
+use machine_alike::alike_law;
 use nero_tracks::{TrackError, columns_are_free, route_tracks};
 use net_core::Netlist;
 use net_view::right_is_well_formed;
@@ -58,16 +59,18 @@ fn layout_name(alloc: Global, out: &FileName) -> Result<FileName, AllocError>
 pub(crate) fn product(
     alloc: Global,
     out: &FileName,
-    machine: &Machine,
+    source: &Counted,
     netlist: &Netlist,
     library: &Library,
 ) -> Result<Product, AllocError>
-    requires { MayBeDrawn library.now machine.now netlist.now }
-    ensures { IfOk result (λ p. IsDrawnAs out.now machine.now library.now p) }
+    requires netlist { MayBeDrawn library.now source.now.machine netlist.now }
+    requires nodes { IsGreatestDcount source.now.machine source.now.nodes }
+    ensures { IfOk result (λ p. IsDrawnAs out.now source.now.machine library.now p) }
 {
     right_is_well_formed();
     right_may_be_drawn();
     right_drawings_are_right();
+    alike_law();
     drawing_can_be_written();
     written_is_read_again();
     // It meets the condition of placing and drawing with these pins.
@@ -75,7 +78,7 @@ pub(crate) fn product(
     let _ = pins;
     let sheet = drawing(alloc, netlist, library)?;
     let file = write_ap(alloc, &sheet.figure)?;
-    let text = report(alloc, machine, netlist, sheet.wire)?;
+    let text = report(alloc, source, netlist, sheet.wire)?;
     let name = layout_name(alloc, out)?;
     Ok(Product {
         name,

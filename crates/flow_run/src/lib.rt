@@ -2,8 +2,8 @@
 //!
 //! `alliance_main` is what the program does. What `flow` reads and answers stands in `specs/Flow.antt`, and what its layout is,
 //! in `specs/Causes.antt` and `specs/RightLayout.antt`; when each status comes and what it leaves, for all tools, in
-//! `specs/Table.antt` of `tool_drive`; the words of a command, in `specs/` of `tool_words`. What `boog`, `cougar` and `asimut` read
-//! and answer stands in `boog_run`, `cougar_run` and `asimut_run`.
+//! `specs/Table.antt` of `tool_drive`; the words of a command, in `specs/` of `tool_words`. What `boom`, `boog`, `cougar` and
+//! `asimut` read and answer stands in `boom_run`, `boog_run`, `cougar_run` and `asimut_run`.
 #![tactic(auto)]
 
 mod flow;

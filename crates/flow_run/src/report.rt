@@ -96,18 +96,27 @@ fn nets(netlist: &Netlist) -> u128
     u128::from(netlist.count().saturating_sub(2))
 }
 
+/// A source's machine, and the most nodes that a diagram of its roots has.
+#[derive(Drop)]
+pub(crate) struct Counted {
+    pub(crate) machine: Machine,
+    pub(crate) nodes: u32,
+}
+
 /// The report on a layout of the machine with this netlist, whose nets are so long, and which breaks no rule. Memory goes by the text.
 pub(crate) fn report(
     alloc: Global,
-    machine: &Machine,
+    source: &Counted,
     netlist: &Netlist,
     wire: u128,
 ) -> Result<FileBytes, AllocError>
-    requires { size_of machine.now ≤ MOST_SIZE }
-    ensures { IfOk result (λ text. text ≡ report_by machine.now (length netlist.now.instances) (netlist.now.count - 2) wire 0) }
+    requires { size_of source.now.machine ≤ MOST_SIZE }
+    ensures { IfOk result (λ text. text
+        ≡ report_by source.now.machine source.now.nodes (length netlist.now.instances) (netlist.now.count - 2) wire 0) }
 {
-    let mut out = head(alloc, machine)?;
-    count_line(alloc, &mut out, b"size", size(machine))?;
+    let mut out = head(alloc, &source.machine)?;
+    count_line(alloc, &mut out, b"size", size(&source.machine))?;
+    count_line(alloc, &mut out, b"nodes", u128::from(source.nodes))?;
     count_line(alloc, &mut out, b"cells", cells(netlist))?;
     count_line(alloc, &mut out, b"nets", nets(netlist))?;
     count_line(alloc, &mut out, b"length", wire)?;

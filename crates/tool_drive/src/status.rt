@@ -38,8 +38,9 @@ pub enum Verdict {
     Shorted { a: Name, b: Name },
 }
 
-/// How a call ends. As they are built so far, `flow` answers `Accepted`, `Usage`, `Source`, `Library`, `NoCover`, `File`, `Memory`,
-/// `Limit` and `Beyond`; `boog` the same but `Beyond`; `asimut` `Accepted`, `Usage`, `Source`, `File`, `Memory`, `Limit` and `No`,
+/// How a call ends. As they are built so far, `flow` answers `Accepted`, `Usage`, `Source`, `Library`, `NoCover`, `Budget`, `File`,
+/// `Memory`, `Limit` and `Beyond`; `boom` `Accepted`, `Usage`, `Source`, `Budget`, `File`, `Memory` and `Limit`; `boog` as `flow`, but
+/// for `Budget` and `Beyond`; `asimut` `Accepted`, `Usage`, `Source`, `File`, `Memory`, `Limit` and `No`,
 /// and on a netlist `Library` too; `cougar` `Accepted`, `Usage`, `Source`, `Library`, `File`, `Memory`, `Limit` and `No`. The driver
 /// itself answers `File`, `Memory` and the limit file; the other refusals are the tools'.
 #[derive(Drop)]

@@ -1,7 +1,8 @@
 // The tools beside `flow`, each by the driver.
 ghost use Rattle.std.specs.Prelude.{◌≡◌, Some, true, false, IfSome};
 ghost use Rattle.vlsi_shelf.specs.Seen.{ShelfSeen};
-ghost use Rattle.tool_words.specs.Commands.{as_boog, as_asimut, as_asimut_netlist, as_cougar};
+ghost use Rattle.tool_words.specs.Commands.{as_boom, as_boog, as_asimut, as_asimut_netlist, as_cougar};
+ghost use Rattle.boom_run.specs.Boom.{boom_plan, boom_answers};
 ghost use Rattle.boog_run.specs.Boog.{boog_plan, boog_answers};
 ghost use Rattle.tool_drive.specs.Outside.{outside, IsLine};
 ghost use Rattle.tool_drive.specs.Status.{has_line};
@@ -14,6 +15,7 @@ ghost use Rattle.tool_run.specs.Usage.{is_flow, word_of};
 
 use asimut_run::{Asimut, AsimutNetlist};
 use boog_run::Boog;
+use boom_run::Boom;
 use cougar_run::Cougar;
 use std::alloc::Global;
 use tool_drive::{Status, drive};
@@ -24,7 +26,11 @@ use vlsi_shelf::{Shelf, Sink};
 pub fn run_tool<S: Shelf, T: Sink>(alloc: Global, c: &Command, shelf: &mut S, out: &mut T) -> Status
     requires { is_flow c.now ≡ false }
     // Every status has its cause and leaves the files that its row says, and over told files, where nothing failed, it is what the
-    // files come to: of boog, of asimut on a source and on a netlist, and of cougar.
+    // files come to: of boom, of boog, of asimut on a source and on a netlist, and of cougar.
+    ensures optimisation { IfSome (as_boom (Some c.now)) (λ b. Caused (boom_plan b) (boom_answers b)
+        (outside (S.seen shelf.old) (T.seen out.old)) (outside (S.seen shelf.new) (T.seen out.new)) result) }
+    ensures optimisation_complete { IfSome (as_boom (Some c.now)) (λ b. IsComplete (boom_plan b) (boom_answers b)
+        (outside (S.seen shelf.old) (T.seen out.old)) (outside (S.seen shelf.new) (T.seen out.new)) result) }
     ensures mapping { IfSome (as_boog (Some c.now)) (λ b. Caused (boog_plan b) (boog_answers b)
         (outside (S.seen shelf.old) (T.seen out.old)) (outside (S.seen shelf.new) (T.seen out.new)) result) }
     ensures mapping_complete { IfSome (as_boog (Some c.now)) (λ b. IsComplete (boog_plan b) (boog_answers b)
@@ -48,6 +54,10 @@ pub fn run_tool<S: Shelf, T: Sink>(alloc: Global, c: &Command, shelf: &mut S, ou
 {
     match c {
         Command::Flow(_) => unreachable!(),
+        Command::Boom(command) => {
+            let tool = Boom { command };
+            drive(alloc, b"boom", &tool, shelf, out)
+        }
         Command::Boog(command) => {
             let tool = Boog { command };
             drive(alloc, b"boog", &tool, shelf, out)

@@ -2,34 +2,42 @@ use Rattle.std.proofs.Common.{Err, sym, subst}
 use Rattle.tool_drive.specs.declared.tool.Refusal.{Refusal}
 use Rattle.tool_drive.specs.Table.{IsJudged}
 use Rattle.flow_run.specs.Flow.{LaysOut}
-use Rattle.flow_run.proofs.Refusing.{by_unread, by_netlist}
+use Rattle.flow_run.proofs.Refusing.{by_unread, by_kinds, by_budget}
 use Rattle.flow_run.proofs.Drawing.{few_ports, may_be_drawn}
 use Rattle.flow_run.proofs.flow.laid_out.Goals as goal
 
-pub netlist_of-requires : goal.netlist_of-requires
-netlist_of-requires c = few_ports c.args.source.now c.in-Ok.read.machine c.in-Ok.ensures.read.machine
+pub netlist_within-requires : goal.netlist_within-requires
+netlist_within-requires c = few_ports c.args.source.now c.in-Ok.read.machine c.in-Ok.ensures.read.machine
 
-pub product-requires : goal.product-requires
-product-requires c =
-    may_be_drawn c.library_law.ensures.passes c.library_law.ensures.plain c.netlist_law.ensures.writable c.netlist_law.ensures.small c.netlist_law.ensures.short
-    c.args.source.now c.args.catal.now c.args.cells.now c.in-Ok.read.machine c.in-Ok.read.library c.in-Ok-netlist_of.netlist c.in-Ok.ensures.read c.in-Ok-netlist_of.ensures.right
+pub product-requires-clause-netlist : goal.product-requires-clause-netlist
+product-requires-clause-netlist c =
+    may_be_drawn c.library_law.ensures.passes c.library_law.ensures.plain c.netlist_law.ensures.declared c.netlist_law.ensures.writable c.netlist_law.ensures.small
+    c.netlist_law.ensures.short c.args.source.now c.args.catal.now c.args.cells.now c.in-Ok.read.machine c.in-Ok.read.library c.args.command.now.nodes
+    c.in-Ok-netlist_within.mapped.netlist c.in-Ok-netlist_within.mapped.nodes c.in-Ok.ensures.read c.in-Ok-netlist_within.ensures.mapped
 
 pub returns-in-Err : goal.returns-in-Err
 returns-in-Err c =
     subst (λ (r : Refusal). IsJudged (LaysOut c.args.command.now c.args.source.now c.args.catal.now c.args.cells.now) (Err r)) (sym c.plain.ensures)
     (by_unread c.args.command.now c.args.source.now c.args.catal.now c.args.cells.now c.in-Err.status c.in-Err.ensures.refused)
 
-pub returns-in-Err-netlist_of : goal.returns-in-Err-netlist_of
-returns-in-Err-netlist_of c =
-    subst (λ (r : Refusal). IsJudged (LaysOut c.args.command.now c.args.source.now c.args.catal.now c.args.cells.now) (Err r)) (sym c.plain-in-Err-netlist_of.ensures)
-    (by_netlist c.args.command.now c.args.source.now c.args.catal.now c.args.cells.now c.in-Ok.read.machine c.in-Ok.read.library c.in-Err-netlist_of.status c.in-Ok.ensures.read
-    c.in-Err-netlist_of.ensures.refused)
+pub returns-in-Err-check_kinds : goal.returns-in-Err-check_kinds
+returns-in-Err-check_kinds c =
+    subst (λ (r : Refusal). IsJudged (LaysOut c.args.command.now c.args.source.now c.args.catal.now c.args.cells.now) (Err r)) (sym c.plain-in-Err-check_kinds.ensures)
+    (by_kinds c.args.command.now c.args.source.now c.args.catal.now c.args.cells.now c.in-Ok.read.machine c.in-Ok.read.library c.in-Err-check_kinds.status c.in-Ok.ensures.read
+    c.in-Err-check_kinds.ensures.missing)
+
+pub returns-in-Err-netlist_within : goal.returns-in-Err-netlist_within
+returns-in-Err-netlist_within c =
+    subst (λ (r : Refusal). IsJudged (LaysOut c.args.command.now c.args.source.now c.args.catal.now c.args.cells.now) (Err r)) (sym c.plain-in-Err-netlist_within.ensures)
+    (by_budget c.args.command.now c.args.source.now c.args.catal.now c.args.cells.now c.in-Ok.read.machine c.in-Ok.read.library c.in-Err-netlist_within.status
+    c.in-Ok.ensures.read c.in-Ok-check_kinds.ensures.covered c.in-Err-netlist_within.ensures.refused)
 
 pub returns : goal.returns
 returns c = record {
   m = c.in-Ok.read.machine;
   l = c.in-Ok.read.library;
   read = c.in-Ok.ensures.read;
-  covered = c.in-Ok-netlist_of.ensures.right.covered;
+  covered = c.in-Ok-check_kinds.ensures.covered;
+  within = c.in-Ok-netlist_within.ensures.mapped.made.within;
   drawn = c.in_ok-drawn.ensures;
 }

@@ -7,8 +7,8 @@ use Rattle.flow_run.proofs.report.report.Goals as goal
 
 pub returns : goal.returns
 returns c =
-    let m = c.args.machine.now in
+    let m = c.args.source.now.machine in
     let n = c.args.netlist.now in
-    rw (c.in_ok-append.ensures.ok, c.in_ok-count_line-5.ensures, c.in_ok-count_line-4.ensures, c.in_ok-count_line-3.ensures, c.in_ok-count_line-2.ensures, c.in_ok-count_line.ensures, c.in_ok-out.ensures, c.size.ensures, c.cells.ensures, c.nets.ensures)
-    (put_all_is [] (source_line m.name ∷ register_lines 0 m.registers ∷ count_line (codes "size") (machine_size m) ∷ count_line (codes "cells") (length n.instances)
+    rw (c.in_ok-append.ensures.ok, c.in_ok-count_line-6.ensures, c.in_ok-count_line-5.ensures, c.in_ok-count_line-4.ensures, c.in_ok-count_line-3.ensures, c.in_ok-count_line-2.ensures, c.in_ok-count_line.ensures, c.in_ok-out.ensures, c.size.ensures, c.cells.ensures, c.nets.ensures)
+    (put_all_is [] (source_line m.name ∷ register_lines 0 m.registers ∷ count_line (codes "size") (machine_size m) ∷ count_line (codes "nodes") c.args.source.now.nodes ∷ count_line (codes "cells") (length n.instances)
     ∷ count_line (codes "nets") (n.count - 2) ∷ count_line (codes "length") c.args.wire ∷ count_line (codes "breaches") 0 ∷ (codes "accepted" ++ 10 ∷ []) ∷ []))
