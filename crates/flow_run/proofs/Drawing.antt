@@ -49,6 +49,7 @@ may_be_drawn passes plain writable few short source list cells m l n read netlis
       netlist = netlist;
       checked = read.machine.machine.checked;
       passed = passes true list cells l read.library;
+      plain = passes false list cells l library;
       small = read.small;
       named = (writable source list cells l m n library read.machine read.small netlist).named;
       short = short source list cells l m n library read.machine read.small netlist;
@@ -57,7 +58,7 @@ may_be_drawn passes plain writable few short source list cells m l n read netlis
     }
 
 pub drawable : RightMayBeDrawn → (l : Library) (m : Machine) (n : Netlist) (table : List ModelPins) → IsTableOf l false table → IsPinTable table → MayBeDrawn l m n → IsDrawableIn l n
-drawable may l m n table of_library is_table h = may l n m false table h.passed of_library is_table h.netlist.sound h.checked h.netlist.right h.netlist.pins
+drawable may l m n table of_library is_table h = may l n m false table h.plain of_library is_table h.netlist.sound h.checked h.netlist.right h.netlist.pins
 
 -- the numbers of a netlist in memory are those of the netlist that it is seen as
 report_same : (m : Machine) (l : Library) (n : Netlist) (k : Seen) (long : ℕ) → IsSeenAs n k → IsLengthOf l n long
@@ -79,14 +80,14 @@ right_layout well extracted written again l m n f long report given h drawn meas
     let both = well n l m h.checked right in
     let instances = h.instances in
     let ports = h.ports in
-    let fits = written l n f h.passed given h.named h.short (omega (arith, instances)) (omega (arith, ports)) drawn in
+    let fits = written l n f h.plain given h.named h.short (omega (arith, instances)) (omega (arith, ports)) drawn in
     record {
       figure = f;
       netlist = k;
       placement = p;
       file = again f fits.0 fits.1;
       named = drawn.named ∙ ap (λ (name : List ℕ). Some (scalar name)) right.name;
-      extracts = extracted l n m k f h.passed given h.checked right right.seen drawn;
+      extracts = extracted l n m k f h.plain given h.checked right right.seen drawn;
       well = both.0;
       agrees = both.1;
       lawful = drawn.lawful;
