@@ -77,6 +77,7 @@ may_be_drawn passes plain declares writable few short source list cells m l budg
       checked = read.machine.machine.checked;
       ordered = h.ordered;
       passed = passes true list cells l read.library;
+      plain = passes false list cells l library;
       small = read.small;
       named = (writable list cells l h.o n library declared small h.netlist).named;
       short = short list cells l h.o n library declared small h.netlist;
@@ -85,7 +86,7 @@ may_be_drawn passes plain declares writable few short source list cells m l budg
     }
 
 pub drawable : RightMayBeDrawn → (l : Library) (m : Machine) (n : Netlist) (table : List ModelPins) → IsTableOf l false table → IsPinTable table → MayBeDrawn l m n → IsDrawableIn l n
-drawable may l m n table of_library is_table h = may l n h.o false table h.passed of_library is_table h.netlist.sound h.ordered h.netlist.right h.netlist.pins
+drawable may l m n table of_library is_table h = may l n h.o false table h.plain of_library is_table h.netlist.sound h.ordered h.netlist.right h.netlist.pins
 
 -- the numbers of a netlist in memory are those of the netlist that it is seen as
 report_same : (m : Machine) (nodes : ℕ) (l : Library) (n : Netlist) (k : Seen) (long : ℕ) → IsSeenAs n k → IsLengthOf l n long
@@ -109,14 +110,14 @@ right_layout well extracted written again runs back l m n f long nodes report gi
     let both = well n l h.o h.ordered right in
     let instances = h.instances in
     let ports = h.ports in
-    let fits = written l n f h.passed given h.named h.short (omega (arith, instances)) (omega (arith, ports)) drawn in
+    let fits = written l n f h.plain given h.named h.short (omega (arith, instances)) (omega (arith, ports)) drawn in
     record {
       figure = f;
       netlist = k;
       placement = p;
       file = again f fits.0 fits.1;
       named = drawn.named ∙ ap (λ (name : List ℕ). Some (scalar name)) (right.name ∙ a.name);
-      extracts = extracted l n h.o k f h.passed given h.ordered right right.seen drawn;
+      extracts = extracted l n h.o k f h.plain given h.ordered right right.seen drawn;
       well = well_alike k l m h.o a both.0;
       agrees = agrees_alike k l m h.o a runs back h.checked.ordered h.ordered.ordered both.1;
       lawful = drawn.lawful;

@@ -1,5 +1,5 @@
 -- What is drawn of a netlist.
-use Rattle.std.specs.Prelude.{◌≡◌, ℕ, ◌*◌, ◌+◌, ◌≤◌, true, List, length, ◌++◌, codes, Some}
+use Rattle.std.specs.Prelude.{◌≡◌, ℕ, ◌*◌, ◌+◌, ◌≤◌, true, false, List, length, ◌++◌, codes, Some}
 use Rattle.source_meaning.specs.Checks.{most_ports}
 use Rattle.machine_meaning.specs.Machine.{Machine}
 use Rattle.machine_meaning.specs.Size.{machine_size}
@@ -30,6 +30,7 @@ pub record MayBeDrawn (l : Library) (m : Machine) (n : Netlist) : Type 0 where
   pub checked : IsChecked m
   pub ordered : IsChecked o
   pub passed : HasPassed true l
+  pub plain : HasPassed false l
   pub small : machine_size m ≤ MOST_SIZE
   pub named : CanBeNamed n
   pub short : HasShortNames n

@@ -1,5 +1,5 @@
 // The layout of a netlist: placed in one row, drawn with private tracks, and written.
-ghost use Rattle.std.specs.Prelude.{◌≡◌, IfOk, true};
+ghost use Rattle.std.specs.Prelude.{◌≡◌, IfOk, true, false};
 ghost use Rattle.cell_checks.specs.Checked.{IsChecked as HasPassed};
 ghost use Rattle.machine_roots.specs.Roots.{IsGreatestDcount};
 ghost use Rattle.ocp_place.specs.Drawable.{IsDrawableIn};
@@ -30,6 +30,7 @@ struct Sheet {
 // The netlist in one row, each net on a track of its own.
 fn drawing(alloc: Global, netlist: &Netlist, library: &Library) -> Result<Sheet, AllocError>
     requires passed { HasPassed true library.now }
+    requires plain { HasPassed false library.now }
     requires netlist { IsDrawableIn library.now netlist.now }
     ensures figure { IfOk result (λ d. IsDrawnInTracks library.now netlist.now d.figure) }
     ensures wire { IfOk result (λ d. IsLengthOf library.now netlist.now d.wire) }

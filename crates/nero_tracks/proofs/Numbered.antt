@@ -51,8 +51,9 @@ module _ (n : Netlist) (l : Library) (orderly : IsOrderly n l) where
           omega (arith, less, one)
 
 pub nets_are_numbered : NetsAreNumbered
-nets_are_numbered n l orderly = record {
+nets_are_numbered n l orderly columns = record {
   models = orderly.models;
+  columns = columns;
   names = orderly.names;
   order = AllPairs-filter (λ a b. IsTrue (comes_before a b)) is_signal n.ports orderly.order;
   port_names = λ name. (

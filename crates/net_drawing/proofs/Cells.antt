@@ -34,7 +34,7 @@ use Rattle.net_geom.specs.Block.{Cell, cell_shapes, Passes, IsJoinedTo, HasOwnCo
 use Rattle.net_geom.proofs.Chains.{Joined_trans, Joined_sym}
 use Rattle.net_drawing.specs.Picture.{option_map}
 use Rattle.net_drawing.specs.Clean as clean
-use Rattle.net_drawing.specs.Clean.{IsClean}
+use Rattle.net_drawing.specs.Clean.{IsClean, PinColumnsDiffer}
 use Rattle.net_drawing.proofs.Access.{reached}
 use Rattle.net_drawing.proofs.Coding.{same_name_false, In_get, get_there, index_of, index_get, name_or, code, IsOneOf, coded, column_of, row_of, cell_by, up_joined, coded_in, coded_cases, IsPlain, decoded, decoded_coded, down_joined, name_of, columns_of, code_bit}
 
@@ -219,11 +219,11 @@ module _ (c : cells.Cell) (u : IsUsable c) (d : IsClean c) where
         off_vdd = by_cases (λ s. IsJoinedTo (cell_by c) s (Power Vdd) ⊎ (s.rect.y2 ≤ℤ pos 4200)) (λ s h. ⊎_elim (λ t. inl (tied s vdd t)) (λ e. inr e) (d.off_high s h));
       }
 
-  pub own_columns : HasOwnColumns (cell_by c)
-  own_columns p q hp hq e =
+  pub own_columns : PinColumnsDiffer c → HasOwnColumns (cell_by c)
+  own_columns differ p q hp hq e =
       let xs = names_of (pin_ports c) in
       let m = pin_at p hp in let k = pin_at q hq in
       let a = reached c d m.0 (In_get xs p m.0 m.1) in let b = reached c d k.0 (In_get xs q k.0 k.1) in
       let f : a.column ≡ b.column = sym (column_is p m.0 m.1) ∙ e ∙ column_is q k.0 k.1 in
       let g : access_point c k.0 ≡ Some (pos (500 * a.column), pos (500 * b.row)) = b.point ∙ ap (λ v. Some (pos (500 * v), pos (500 * b.row))) (sym f) in
-      names_distinct xs u.order p q m.0 k.0 m.1 k.1 (d.columns_differ m.0 k.0 _ _ _ (In_get xs p m.0 m.1) (In_get xs q k.0 k.1) a.point g)
+      names_distinct xs u.order p q m.0 k.0 m.1 k.1 (differ m.0 k.0 _ _ _ (In_get xs p m.0 m.1) (In_get xs q k.0 k.1) a.point g)

@@ -242,4 +242,7 @@ module _ (n : Netlist) (l : Library) (net : Numbering) (ports : List name.Name) 
   }
 
   pub cells_own : (i : ℕ) → i < length n.instances → HasOwnColumns ((block_of n l net ports).cell i)
-  cells_own i lt = let r = member_there i lt in subst HasOwnColumns (sym (cell_is i r.0 r.2 r.1)) (own_columns r.2.cell r.2.usable r.2.clean)
+  cells_own i lt =
+      let r = member_there i lt in
+      let differ = ok.columns r.0 r.2.cell (In_get n.instances i r.0 r.1) r.2.found in
+      subst HasOwnColumns (sym (cell_is i r.0 r.2 r.1)) (own_columns r.2.cell r.2.usable r.2.clean differ)

@@ -63,6 +63,9 @@ pub record IsClean (c : Cell) : Type 0 where
   -- what isn't joined to a supply is at least the least gap from its strip
   pub off_low : (s : Shape) → In s (drawn c.items) → IsTied c s vss ⊎ (pos (RAIL_WIDTH + LEAST_GAP) ≤ℤ s.rect.y1)
   pub off_high : (s : Shape) → In s (drawn c.items) → IsTied c s vdd ⊎ (s.rect.y2 ≤ℤ pos (VDD_STRIP_Y - LEAST_GAP))
-  -- no two signal pins have access nodes of one x
-  pub columns_differ : (m d : Name) (x y z : ℤ) → In m (names_of (pin_ports c)) → In d (names_of (pin_ports c))
-      → access_point c m ≡ Some (x, y) → access_point c d ≡ Some (x, z) → m ≡ d
+
+-- no two signal pins of a cell have access nodes of one x
+abbrev pub PinColumnsDiffer : Cell → Type 0
+PinColumnsDiffer c =
+    (m d : Name) (x y z : ℤ) → In m (names_of (pin_ports c)) → In d (names_of (pin_ports c))
+    → access_point c m ≡ Some (x, y) → access_point c d ≡ Some (x, z) → m ≡ d

@@ -20,7 +20,7 @@ use Rattle.ocp_rows.specs.Placement.{model_width, level_wire, upright_wire, cont
 use Rattle.ocp_rows.specs.Length.{least, greatest}
 use Rattle.cell_model.specs.Access.{access_point, count_to}
 pub use Rattle.cell_model.specs.Access.{Point}
-use Rattle.net_drawing.specs.Clean.{IsClean}
+use Rattle.net_drawing.specs.Clean.{IsClean, PinColumnsDiffer}
 use Rattle.net_drawing.specs.Shown.{IsSupplyClass, IsOnNet}
 
 -- the net number of each class
@@ -86,9 +86,11 @@ track_items n l net ports =
     ++ (map item.Instance (standing l NoSym (pos 0) (pos FIRST_CELL_X) n.instances)
     ++ (supplies l (n.instances ∷ []) ++ wiring n l net ports)))
 
--- The netlist may be drawn: its instances are usable and clean cells, and its ports the supplies and these.
+-- The netlist may be drawn: its instances are usable and clean cells with pins in columns of their own, and its ports the supplies and
+-- these.
 pub record IsDrawable (n : Netlist) (l : Library) (net : Numbering) (ports : List Name) : Type 0 where
   pub models : (one : Member) → In one n.instances → (c : Cell) × (cell_of l one.model ≡ Some c) × IsUsable c × IsClean c
+  pub columns : (one : Member) (c : Cell) → In one n.instances → cell_of l one.model ≡ Some c → PinColumnsDiffer c
   pub names : AllPairs (λ a b. a.name ≢ b.name) n.instances
   pub order : AllPairs (λ a b. IsTrue (comes_before a b)) ports
   pub port_names : (name : Name) → In name ports ↔ (In name n.ports × (name ≢ vdd) × (name ≢ vss))

@@ -1,5 +1,5 @@
 -- A usable cell that has passed its checks may have tracks over it.
-use Rattle.std.proofs.Common.{◌≡◌, ◌⊎◌, inl, inr, ℕ, ◌+◌, ◌-◌, ◌*◌, ◌≤◌, List, true, refl, ap, subst, ◌∙◌, arith, ⊎_elim}
+use Rattle.std.proofs.Common.{◌≡◌, ◌⊎◌, inl, inr, ℕ, ◌+◌, ◌-◌, ◌*◌, ◌≤◌, List, false, refl, ap, subst, ◌∙◌, arith, ⊎_elim}
 use Rattle.std.specs.Prelude.{ℤ, pos, ◌≤ℤ◌}
 use Rattle.std.proofs.lemmas.Int.{ints}
 use Rattle.vlsi_base.specs.declared.name.Name.{Name}
@@ -37,7 +37,7 @@ joined_listed : (xs : List Shape) (a b : Shape) → Joined xs a b → In a xs
 joined_listed xs a b (itself h) = h
 joined_listed xs a b (through h l j) = h
 
-module _ (c : Cell) (formed : IsFormed c) (passes : IsVerdict true c verdict.Passes) (usable : IsUsable c) where
+module _ (c : Cell) (formed : IsFormed c) (passes : IsVerdict false c verdict.Passes) (usable : IsUsable c) where
   mappable : IsMappable c
   mappable = usable_is_mappable c usable
 
@@ -142,7 +142,6 @@ module _ (c : Cell) (formed : IsFormed c) (passes : IsVerdict true c verdict.Pas
     inside = inside;
     off_low = λ s h. ⊎_elim (λ t. inl (tied s vss t)) (λ a. inr (above s h a)) (off.low s h (on_first s h));
     off_high = λ s h. ⊎_elim (λ t. inl (tied s vdd t)) (λ a. inr (beneath s h a)) (off.high s h (on_first s h));
-    columns_differ = (passes.0 check.Columns mappable refl).same;
   }
 
 pub checked_cells_are_clean : CheckedCellsAreClean

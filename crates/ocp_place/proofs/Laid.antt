@@ -68,7 +68,7 @@ many_pins (node ∷ rest) each =
     let a = length-append (node_pins node) (flat_map node_pins rest) in
     omega (arith, r, h, n, a)
 
-module _ (l : Library) (n : InMemory) (passed : HasPassed true l) (plain : HasPassed false l) (given : IsDrawableIn l n) (nodes : List Node) (seen_as : map (instance_of n.models) nodes ≡ n.instances)
+module _ (l : Library) (n : InMemory) (plain : HasPassed false l) (given : IsDrawableIn l n) (nodes : List Node) (seen_as : map (instance_of n.models) nodes ≡ n.instances)
     (known : All (λ (i : Node). i.model < length n.models) nodes) (numbered : AreNumbered n.ports nodes) (reaches : List Reach) (are : AreReaches l n.models reaches) where
   -- the cell of a node, and where its pins are reached
   pub record HasReach (node : Node) (r : Reach) : Type 0 where

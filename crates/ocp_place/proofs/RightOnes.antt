@@ -12,7 +12,6 @@ use Rattle.net_view.proofs.Meets.{right_meets_condition}
 use Rattle.net_view.proofs.Ports.{with_both, vdd_there, vss_there}
 use Rattle.net_view.proofs.Seen.{right_cell}
 use Rattle.ocp_place.specs.Law.{RightMayBeDrawn}
-use Rattle.ocp_place.proofs.Models.{plain_library}
 
 supply_there : (name : Name) (ps all : List Port) → all ≡ with_both ps → In (supply name) (with_both ps) → IsThere (map (λ p. p.name) all) name
 supply_there name ps all same i =
@@ -24,7 +23,7 @@ right_may_be_drawn l n m all table passed of_library is_table sound checked righ
   all = all;
   table = table;
   listed = of_library;
-  meets = right_meets_condition n l m sound checked (plain_library l passed) right pins all table of_library is_table;
+  meets = right_meets_condition n l m sound checked passed right pins all table of_library is_table;
   usable = λ i h. right_cell n l m checked right i h;
   has_vdd = supply_there vdd m.ports n.ports right.ports (vdd_there m.ports);
   has_vss = supply_there vss m.ports n.ports right.ports (vss_there m.ports);

@@ -1,5 +1,5 @@
 -- The placement of a netlist's row.
-use Rattle.std.proofs.Common.{◌≡◌, ℕ, ◌<◌, ◌≤◌, List, ◌++◌, map, filter, length, get_or, true, sym, ap, subst, ◌∙◌, arith, length-append}
+use Rattle.std.proofs.Common.{◌≡◌, false, ℕ, ◌<◌, ◌≤◌, List, ◌++◌, map, filter, length, get_or, sym, ap, subst, ◌∙◌, arith, length-append}
 use Rattle.std.specs.Prelude.{flat_map}
 use Rattle.std.specs.Global.{Vec}
 use Rattle.std.proofs.lemmas.List.{length-map}
@@ -34,7 +34,7 @@ use Rattle.ocp_place.proofs.Groups.{group_points, signals_are, named_is}
 use Rattle.ocp_place.proofs.Lists.{different_names}
 use Rattle.ocp_place.proofs.Seen.{orderly}
 
-module _ (l : Library) (n : InMemory) (passed : HasPassed true l) (given : IsDrawableIn l n) where
+module _ (l : Library) (n : InMemory) (passed : HasPassed false l) (given : IsDrawableIn l n) where
   ports_many : length n.ports ≤ length n.classes
   ports_many =
       let each = given.sound.each in
@@ -54,7 +54,7 @@ module _ (l : Library) (n : InMemory) (passed : HasPassed true l) (given : IsDra
       is.signals ∙ signals_are f n.ports n.classes ports_many (class_of k seen) ∙ ap (λ (names : List Name). map f (filter is_signal names)) (sym (seen_ports n k seen))
 
 -- what placing comes to: the classes of ports, the row, and all points by their classes
-pub placed_row : (l : Library) (n : InMemory) → HasPassed true l → IsDrawableIn l n → (split : PortClasses) → IsSplit n.ports n.classes split
+pub placed_row : (l : Library) (n : InMemory) → HasPassed false l → IsDrawableIn l n → (split : PortClasses) → IsSplit n.ports n.classes split
     → (row : Row) → ((k : Netlist) → IsSeenAs n k → IsRow k l row) → (all : List Placed) → map site_of all ≡ port_sites 0 split.signals.items ++ map site_of row.sites.items
     → (ends : List (Vec Placed)) → length ends ≡ n.count → AreEnds all ends
     → IsPlacementOf l n (in_row split.signals.items row.drivers.items ends row.starts.items row.width split.high split.low)

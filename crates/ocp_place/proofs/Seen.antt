@@ -1,5 +1,4 @@
--- A netlist that may be drawn with the cells of a library that was checked for tracks is orderly, as each netlist of layouts that it is
--- seen as.
+-- A netlist that may be drawn with the cells of a checked library is orderly, as each netlist of layouts that it is seen as.
 use Rattle.std.proofs.Common.{◌≡◌, ◌≢◌, ◌⊎◌, inl, inr, ℕ, ◌<◌, ◌≤◌, Bool, true, false, not, List, map, filter, Some, None, refl, sym, ap, subst, ◌∙◌, arith, get_or}
 use Rattle.std.specs.Prelude.{IsTrue, AllPairs}
 use Rattle.std.proofs.lemmas.Option.{same_Some, slice_get-get_or, slice_get_within}
@@ -99,7 +98,7 @@ module _ (l : Library) (n : InMemory) (given : IsDrawableIn l n) where
   pub same_driver : (t u : Terminal) (r s : Role) (c : ℕ) → Placed given.table n t r → Placed given.table n u s → 1 ≤ drives r → 1 ≤ drives s → HasClass n t c → HasClass n u c → t ≡ u
   same_driver t u r s c p q a b h g = one_driver given.table n given.sound given.meets.fits given.meets.passes.classes t u r s c p q a b h g
 
-module _ (l : Library) (n : InMemory) (passed : HasPassed true l) (given : IsDrawableIn l n) (k : Netlist) (seen : IsSeenAs n k) where
+module _ (l : Library) (n : InMemory) (passed : HasPassed false l) (given : IsDrawableIn l n) (k : Netlist) (seen : IsSeenAs n k) where
   formed_cell : (i : Instance) (c : Cell) → cell_of l i.model ≡ Some c → IsFormed c
   formed_cell i c found = All-In IsFormed l.cells passed.formed c (named_cell l.cells i.model c found).0
 
@@ -256,7 +255,7 @@ module _ (l : Library) (n : InMemory) (passed : HasPassed true l) (given : IsDra
           c.1,
           c.2,
           checked_cells_are_clean c.0 (All-In IsFormed l.cells passed.formed c.0 own)
-              (All-In (λ (x : Cell). IsVerdict true x verdict.Passes) l.cells passed.passes c.0 own) c.2,
+              (All-In (λ (x : Cell). IsVerdict false x verdict.Passes) l.cells passed.passes c.0 own) c.2,
         );
     names = subst (λ (ms : List Member). AllPairs (λ (a b : Member). a.name ≢ b.name) ms) (sym (seen_instances n k seen)) (apart_names n.instances given.sound.names);
     order = subst (λ (names : List Name). AllPairs (λ a b. IsTrue (comes_before a b)) names) (sym (seen_ports n k seen)) given.sound.ports;

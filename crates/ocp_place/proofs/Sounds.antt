@@ -28,7 +28,6 @@ use Rattle.ocp_place.specs.Reaches.{site_of}
 use Rattle.ocp_place.specs.Rows.{IsRow, AreEnds}
 use Rattle.ocp_place.specs.Sites.{Site, port_sites}
 use Rattle.ocp_place.proofs.Bounds.{driven_low}
-use Rattle.ocp_place.proofs.Models.{plain_library}
 use Rattle.ocp_place.proofs.Rowed.{signals_of}
 use Rattle.ocp_place.proofs.Classes.{known, known_seen}
 use Rattle.ocp_place.proofs.Seen.{orderly}
@@ -60,7 +59,7 @@ track_of k (c ∷ cs) s i = by s i (track_of (suc k) cs) where
   by t here next = record { class = here; x = refl; number = k; y = refl; low = omega arith }
   by t (there j) next = later t (next t j)
 
-module _ (l : Library) (n : InMemory) (passed : HasPassed true l) (given : IsDrawableIn l n) (split : PortClasses) (is : IsSplit n.ports n.classes split)
+module _ (l : Library) (n : InMemory) (passed : HasPassed false l) (given : IsDrawableIn l n) (split : PortClasses) (is : IsSplit n.ports n.classes split)
     (row : Row) (are : (k : Netlist) → IsSeenAs n k → IsRow k l row) where
   abbrev k : Netlist
   k = known n
@@ -85,7 +84,7 @@ module _ (l : Library) (n : InMemory) (passed : HasPassed true l) (given : IsDra
   driver_low c i =
       let r = are k seen in
       let o = orderly l n passed given k seen in
-      let low = driven_low k l (plain_library l passed) o k.instances (λ one h. h) c (subst (λ (cs : List ℕ). In c cs) r.drivers i) in
+      let low = driven_low k l passed o k.instances (λ one h. h) c (subst (λ (cs : List ℕ). In c cs) r.drivers i) in
       let many = count_is in
       omega (arith, low, many)
 

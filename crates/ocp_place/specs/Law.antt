@@ -1,5 +1,5 @@
 -- Checked cells, and how long the nets of a placement are.
-use Rattle.std.specs.Prelude.{◌≡◌, Bool, true, List, [], ◌∷◌}
+use Rattle.std.specs.Prelude.{◌≡◌, Bool, false, List, [], ◌∷◌}
 use Rattle.machine_meaning.specs.Machine.{Machine}
 use Rattle.machine_core.specs.Checked.{IsChecked}
 use Rattle.cell_model.specs.Cell.{Cell}
@@ -33,13 +33,13 @@ LengthsAreRight =
     (n : Netlist) (l : Library) (p : InRow) → IsOrderly n l → IsRowOf n l p
     → length_of p.high p.low p.ends ≡ half_perimeter n l (row_of n)
 
--- A usable cell that has passed its checks, that of columns among them, may have tracks over it.
+-- A usable cell that has passed its checks is clean, whether or not that of columns is among them.
 abbrev pub CheckedCellsAreClean : Type 0
-CheckedCellsAreClean = (c : Cell) → IsFormed c → IsVerdict true c verdict.Passes → IsUsable c → IsClean c
+CheckedCellsAreClean = (c : Cell) → IsFormed c → IsVerdict false c verdict.Passes → IsUsable c → IsClean c
 
--- A right netlist whose instances have the pins of their cells may be drawn over a library that was checked for tracks: there is a
+-- A right netlist whose instances have the pins of their cells may be placed over a checked library: there is a
 -- table of the library's pins to check it by.
 abbrev pub RightMayBeDrawn : Type 0
 RightMayBeDrawn =
-    (l : Library) (n : InMemory) (m : Machine) (all : Bool) (table : List ModelPins) → HasPassed true l → IsTableOf l all table → IsPinTable table
+    (l : Library) (n : InMemory) (m : Machine) (all : Bool) (table : List ModelPins) → HasPassed false l → IsTableOf l all table → IsPinTable table
     → IsNetlist n → IsChecked m → IsRightNetlist n l m → HasPinsOfCells n l → IsDrawableIn l n

@@ -1,5 +1,5 @@
 -- Placements for private tracks, as they are kept in memory.
-use Rattle.std.specs.Prelude.{◌≡◌, ◌<◌, ◌++◌, true, ℕ, pos, List, map, length, slice_index_or}
+use Rattle.std.specs.Prelude.{◌≡◌, ◌<◌, ◌++◌, false, ℕ, pos, List, map, length, slice_index_or}
 use Rattle.vlsi_base.specs.Names.{vdd, vss}
 use Rattle.sym_geom.specs.declared.grid.TheConstants.{FIRST_CELL_X}
 use Rattle.cell_model.specs.Library.{Library}
@@ -40,8 +40,8 @@ pub record IsRowOf (n : Netlist) (l : Library) (p : InRow) : Type 0 where
   pub high : p.high ≡ n.class (port vdd)
   pub low : p.low ≡ n.class (port vss)
 
--- that of a netlist in memory over a library that was checked for tracks: of each netlist of layouts that it is seen as
+-- that of a netlist in memory over a checked library: of each netlist of layouts that it is seen as
 pub record IsPlacementOf (l : Library) (n : InMemory) (p : InRow) : Type 0 where
-  pub passed : HasPassed true l
+  pub passed : HasPassed false l
   pub drawable : IsDrawableIn l n
   pub row : (k : Netlist) → IsSeenAs n k → IsRowOf k l p

@@ -1,7 +1,7 @@
 // What is true of cells that may have tracks over them, and of netlists that may be drawn.
 ghost use Rattle.ocp_place.specs.Law.{CheckedCellsAreClean, RightMayBeDrawn};
 
-/// A usable cell that has passed its checks, that of columns among them, may have tracks over it.
+/// A usable cell that has passed its checks, that of columns apart, is clean.
 pub fn checked_cells_are_clean()
     ensures { CheckedCellsAreClean }
 {}

@@ -1,5 +1,5 @@
 // Netlists in one row, in their own order.
-ghost use Rattle.std.specs.Prelude.{◌≡◌, ◌≤◌, ◌<◌, ◌^◌, true, [], map, length, slice_index_or, IfOk, OnOk};
+ghost use Rattle.std.specs.Prelude.{◌≡◌, ◌≤◌, ◌<◌, ◌^◌, false, [], map, length, slice_index_or, IfOk, OnOk};
 ghost use Rattle.std.specs.List.{All};
 ghost use Rattle.vlsi_base.specs.Names.{scalar};
 ghost use Rattle.machine_meaning.specs.Named.{is_same_name};
@@ -113,7 +113,7 @@ pub fn track_place(
     netlist: &Netlist,
     library: &Library,
 ) -> Result<Placement, AllocError>
-    requires library { HasPassed true library.now }
+    requires library { HasPassed false library.now }
     requires netlist { IsDrawableIn library.now netlist.now }
     ensures { IfOk result (λ p. IsPlacementOf library.now netlist.now p) }
 {

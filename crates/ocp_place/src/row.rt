@@ -1,5 +1,5 @@
 // The instances of a netlist in one row, and where their pins then lie.
-ghost use Rattle.std.specs.Prelude.{◌≡◌, ◌++◌, ◌∷◌, ◌+◌, ◌<◌, ◌≤◌, true, [], map, option_map, pos, length, take, drop, IfOk, OnOk};
+ghost use Rattle.std.specs.Prelude.{◌≡◌, ◌++◌, ◌∷◌, ◌+◌, ◌<◌, ◌≤◌, false, [], map, option_map, pos, length, take, drop, IfOk, OnOk};
 ghost use Rattle.std.specs.List.{All};
 ghost use Rattle.net_meaning.specs.Netlist.{Netlist as Seen};
 ghost use Rattle.net_view.specs.View.{IsSeenAs};
@@ -118,7 +118,7 @@ pub(crate) fn netlist_row(
     netlist: &Netlist,
     library: &Library,
 ) -> Result<Row, AllocError>
-    requires library { HasPassed true library.now }
+    requires library { HasPassed false library.now }
     requires netlist { IsDrawableIn library.now netlist.now }
     ensures { IfOk result (λ row. (k : Seen) → IsSeenAs netlist.now k → IsRow k library.now row) }
 {

@@ -1,5 +1,5 @@
 -- The figure that is drawn of a placed netlist.
-use Rattle.std.proofs.Common.{◌≡◌, suc, ◌+◌, ◌<◌, ◌^◌, not, List, [], ◌∷◌, ◌++◌, length, filter, Some, true, refl, sym, ap, subst, ◌∙◌, arith}
+use Rattle.std.proofs.Common.{◌≡◌, suc, ◌+◌, ◌<◌, ◌^◌, not, List, [], ◌∷◌, ◌++◌, length, filter, Some, false, refl, sym, ap, subst, ◌∙◌, arith}
 use Rattle.std.specs.Prelude.{ℤ, pos, ◌+ℤ◌}
 use Rattle.std.proofs.lemmas.List.{length-map, length-append}
 use Rattle.vlsi_base.specs.declared.name.Name.{Name}
@@ -31,9 +31,10 @@ use Rattle.ocp_place.proofs.Clean.{rect_is}
 use Rattle.ocp_place.proofs.Classes.{known, known_seen}
 use Rattle.ocp_place.proofs.Seen.{orderly}
 use Rattle.route_draw.proofs.Joins.{rows_are, many, names_are, lines_are}
+use Rattle.nero_tracks.specs.Columns.{HaveOwnColumns}
 use Rattle.route_draw.proofs.Right.{netlists_are_drawable}
 
-module _ (l : Library) (n : InMemory) (passed : HasPassed true l) (given : IsDrawableIn l n) (p : InRow) (placement : IsPlacementOf l n p) (tracks : List Track) (are : AreTracks p tracks) where
+module _ (l : Library) (n : InMemory) (passed : HasPassed false l) (given : IsDrawableIn l n) (own : HaveOwnColumns l n) (p : InRow) (placement : IsPlacementOf l n p) (tracks : List Track) (are : AreTracks p tracks) where
   abbrev its_lines : List Item
   its_lines =
       supply_ports ++ (track_ports 0 (signal_names n.ports) ++ (instance_lines n.instances p.starts ++ (row_supplies p.width ++ all_lines 0 (signal_names n.ports) p tracks)))
@@ -96,7 +97,7 @@ module _ (l : Library) (n : InMemory) (passed : HasPassed true l) (given : IsDra
     right : (k : Netlist) → IsSeenAs n k → ShowsNetlist (track_items k l (net_number k l) (signal_ports k)) l k
         × Breaches (track_items k l (net_number k l) (signal_ports k)) l []
         × IsPlaced (track_box k l) (track_items k l (net_number k l) (signal_ports k)) k l (one_row k (signal_ports k))
-    right k seen = drawings_are_right k l (net_number k l) (signal_ports k) (netlists_are_drawable l n k passed given seen)
+    right k seen = drawings_are_right k l (net_number k l) (signal_ports k) (netlists_are_drawable l n k passed given own seen)
 
     box : (k : Netlist) → IsSeenAs n k → bounds ≡ track_box k l
     box k seen =

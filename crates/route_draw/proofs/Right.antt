@@ -1,12 +1,19 @@
--- A netlist may be drawn over a library that was checked for tracks, and the drawing of a right one gives it.
-use Rattle.std.proofs.Common.{◌≡◌, sym, ◌∙◌, subst}
+-- A netlist may be drawn over a checked library where pins have columns of their own, and the drawing of a right one gives it.
+use Rattle.std.proofs.Common.{◌≡◌, List, Some, sym, ◌∙◌, subst}
 use Rattle.std.proofs.lemmas.Option.{same_Some}
 use Rattle.machine_meaning.specs.Machine.{names_of}
 use Rattle.cell_model.specs.Cell.{Cell}
-use Rattle.cell_model.specs.Library.{Library}
+use Rattle.vlsi_base.specs.Member.{In}
+use Rattle.cell_model.specs.Library.{Library, cell_of}
+use Rattle.cell_model.proofs.Members.{In-map_back}
 use Rattle.cell_pins.specs.Pins.{all_ports}
 use Rattle.net_core.specs.Netlist.{Netlist as InMemory}
 use Rattle.net_view.specs.Right.{HasPinsOfCells}
+use Rattle.net_meaning.specs.Netlist.{Member}
+use Rattle.net_view.specs.View.{member_of}
+use Rattle.net_view.proofs.Lists.{in_place}
+use Rattle.net_view.proofs.Terminals.{seen_instances}
+use Rattle.net_drawing.specs.Clean.{PinColumnsDiffer}
 use Rattle.net_view.proofs.Seen.{seen_is_well_formed}
 use Rattle.net_drawing.proofs.Untied.{untied_is_extracted}
 use Rattle.ocp_place.specs.Drawable.{IsDrawableIn}
@@ -15,7 +22,11 @@ use Rattle.nero_tracks.proofs.Numbered.{nets_are_numbered}
 use Rattle.route_draw.specs.Law.{NetlistsAreDrawable, RightDrawingsAreRight}
 
 pub netlists_are_drawable : NetlistsAreDrawable
-netlists_are_drawable l n k passed given seen = nets_are_numbered k l (orderly l n passed given k seen)
+netlists_are_drawable l n k passed given own seen = nets_are_numbered k l (orderly l n passed given k seen) columns where
+  columns : (one : Member) (c : Cell) → In one k.instances → cell_of l one.model ≡ Some c → PinColumnsDiffer c
+  columns one c h found =
+      let r = In-map_back member_of one n.instances (subst (λ (ms : List Member). In one ms) (seen_instances n k seen) h) in
+      (own r.0 c (in_place r.0 n.instances r.1) (subst (λ (x : Member). cell_of l x.model ≡ Some c) (sym r.2) found)).same
 
 its_pins : (l : Library) (n : InMemory) → IsDrawableIn l n → HasPinsOfCells n l
 its_pins l n given i c there found =

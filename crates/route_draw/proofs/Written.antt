@@ -1,5 +1,5 @@
 -- The drawing of a netlist can be written.
-use Rattle.std.proofs.Common.{◌≡◌, ◌≢◌, inl, inr, ℕ, zero, suc, ◌+◌, ◌*◌, ◌<◌, ◌≤◌, ◌^◌, List, [], ◌∷◌, ◌++◌, map, filter, length, not, Option, None, Some, true, refl, sym, ap, subst, ◌∙◌, arith, get_or, length-append}
+use Rattle.std.proofs.Common.{◌≡◌, ◌≢◌, inl, inr, ℕ, zero, suc, ◌+◌, ◌*◌, ◌<◌, ◌≤◌, ◌^◌, List, [], ◌∷◌, ◌++◌, map, filter, length, not, Option, None, Some, false, refl, sym, ap, subst, ◌∙◌, arith, get_or, length-append}
 use Rattle.std.specs.Prelude.{ℤ, pos, ◌+ℤ◌, AllPairs, flat_map, slice_get, IfSome}
 use Rattle.std.specs.List.{All, AllByRecursion}
 use Rattle.std.proofs.lemmas.Int.{ints}
@@ -232,7 +232,7 @@ record IsBoxWithin (b : Rect) : Type 0 where
   pub x2 : IsNear b.x2
   pub y2 : IsNear b.y2
 
-module _ (l : Library) (n : InMemory) (f : Figure) (passed : HasPassed true l) (given : IsDrawableIn l n) (named : CanBeNamed n) (short : HasShortNames n)
+module _ (l : Library) (n : InMemory) (f : Figure) (passed : HasPassed false l) (given : IsDrawableIn l n) (named : CanBeNamed n) (short : HasShortNames n)
     (few_instances : length n.instances ≤ 32768) (few_ports : length n.ports ≤ 8192) (drawn : IsDrawnInTracks l n f) where
   -- the netlist of layouts that it is known by
   abbrev k : Netlist
@@ -261,7 +261,7 @@ module _ (l : Library) (n : InMemory) (f : Figure) (passed : HasPassed true l) (
       let r = is_orderly.models one listed in
       let clean = r.3 in
       let own = (named_cell l.cells one.model r.0 r.1).0 in
-      let passes = All-In (λ (c : Cell). IsVerdict true c verdict.Passes) l.cells passed.passes r.0 own in
+      let passes = All-In (λ (c : Cell). IsVerdict false c verdict.Passes) l.cells passed.passes r.0 own in
       record {
         cell = r.0;
         found = r.1;

@@ -1,5 +1,5 @@
 -- What is drawn of a netlist is right, and can be written.
-use Rattle.std.specs.Prelude.{◌≤◌, true, length}
+use Rattle.std.specs.Prelude.{◌≤◌, false, length}
 use Rattle.machine_meaning.specs.Machine.{Machine}
 use Rattle.machine_core.specs.Checked.{IsChecked}
 use Rattle.cell_model.specs.Library.{Library}
@@ -14,21 +14,24 @@ use Rattle.ap_io.specs.declared.figure.Figure.{Figure}
 use Rattle.ap_io.specs.ApText.{IsFigure, IsWithinLimits}
 use Rattle.ocp_place.specs.Drawable.{IsDrawableIn}
 use Rattle.ocp_place.specs.Nets.{signal_ports, net_number}
+use Rattle.nero_tracks.specs.Columns.{HaveOwnColumns}
 use Rattle.route_draw.specs.Drawn.{IsDrawnInTracks}
 
--- A netlist may be drawn over a library that was checked for tracks, as each netlist of layouts that it is seen as.
+-- A netlist may be drawn over a checked library where no two pins of a cell in use are reached in one column, as each netlist of layouts
+-- that it is seen as.
 abbrev pub NetlistsAreDrawable : Type 0
 NetlistsAreDrawable =
-    (l : Library) (n : InMemory) (k : Netlist) → HasPassed true l → IsDrawableIn l n → IsSeenAs n k → IsDrawable k l (net_number k l) (signal_ports k)
+    (l : Library) (n : InMemory) (k : Netlist) → HasPassed false l → IsDrawableIn l n → HaveOwnColumns l n → IsSeenAs n k
+    → IsDrawable k l (net_number k l) (signal_ports k)
 
 -- The drawing of a right netlist gives exactly this netlist, since none of its signal pins is tied to a supply.
 abbrev pub RightDrawingsAreRight : Type 0
 RightDrawingsAreRight =
-    (l : Library) (n : InMemory) (m : Machine) (k : Netlist) (f : Figure) → HasPassed true l → IsDrawableIn l n → IsChecked m → IsRightNetlist n l m
+    (l : Library) (n : InMemory) (m : Machine) (k : Netlist) (f : Figure) → HasPassed false l → IsDrawableIn l n → IsChecked m → IsRightNetlist n l m
     → IsSeenAs n k → IsDrawnInTracks l n f → Extracts f.items l k
 
 -- The figure can be written, where its names can, and it is no larger than a source within the limits gives.
 abbrev pub DrawingCanBeWritten : Type 0
 DrawingCanBeWritten =
-    (l : Library) (n : InMemory) (f : Figure) → HasPassed true l → IsDrawableIn l n → CanBeNamed n → HasShortNames n
+    (l : Library) (n : InMemory) (f : Figure) → HasPassed false l → IsDrawableIn l n → CanBeNamed n → HasShortNames n
     → length n.instances ≤ 32768 → length n.ports ≤ 8192 → IsDrawnInTracks l n f → IsFigure f × IsWithinLimits f

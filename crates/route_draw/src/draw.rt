@@ -1,9 +1,10 @@
 // The figure of a netlist with private tracks.
-ghost use Rattle.std.specs.Prelude.{◌≡◌, ◌++◌, ◌≤◌, ◌<◌, ◌+◌, ◌^◌, true, pos, length, IfOk};
+ghost use Rattle.std.specs.Prelude.{◌≡◌, ◌++◌, ◌≤◌, ◌<◌, ◌+◌, ◌^◌, false, pos, length, IfOk};
 ghost use Rattle.cell_checks.specs.Checked.{IsChecked as HasPassed};
 ghost use Rattle.ocp_rows.specs.Placement.{supply_ports, track_ports, track_y};
 ghost use Rattle.ocp_place.specs.Placed.{IsPlacementOf};
 ghost use Rattle.ocp_place.specs.Drawable.{IsDrawableIn};
+ghost use Rattle.nero_tracks.specs.Columns.{HaveOwnColumns};
 ghost use Rattle.nero_tracks.specs.Tracks.{AreTracks};
 ghost use Rattle.sym_geom.specs.declared.grid.TheConstants.{PITCH as pitch, FIRST_CELL_X as first_x};
 ghost use Rattle.route_draw.specs.Pieces.{signal_names, instance_lines, row_supplies, all_lines};
@@ -81,8 +82,9 @@ pub fn draw_tracks(
     library: &Library,
     tracks: &[Track],
 ) -> Result<Figure, AllocError>
-    requires library { HasPassed true library.now }
+    requires library { HasPassed false library.now }
     requires netlist { IsDrawableIn library.now netlist.now }
+    requires columns { HaveOwnColumns library.now netlist.now }
     requires placement { IsPlacementOf library.now netlist.now placement.now }
     requires tracks { AreTracks placement.now tracks.now }
     ensures { IfOk result (λ f. IsDrawnInTracks library.now netlist.now f) }

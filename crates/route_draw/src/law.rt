@@ -1,7 +1,7 @@
 // What is true of drawings.
 ghost use Rattle.route_draw.specs.Law.{NetlistsAreDrawable, RightDrawingsAreRight, DrawingCanBeWritten};
 
-/// A netlist of usable cells may be drawn over a library that was checked for tracks.
+/// A netlist of usable cells may be drawn over a checked library, where no two pins of a cell in use are reached in one column.
 pub fn netlists_are_drawable()
     ensures { NetlistsAreDrawable }
 {}
