@@ -7,7 +7,7 @@ use Rattle.flow_run.proofs.Drawing.{few_ports, may_be_drawn}
 use Rattle.flow_run.proofs.flow.laid_out.Goals as goal
 
 pub netlist_within-requires : goal.netlist_within-requires
-netlist_within-requires c = few_ports c.args.source.now c.in-Ok.read.machine c.in-Ok.ensures.read.machine
+netlist_within-requires c = record { ports = few_ports c.args.source.now c.in-Ok.read.machine c.in-Ok.ensures.read.machine }
 
 pub product-requires-clause-netlist : goal.product-requires-clause-netlist
 product-requires-clause-netlist c =

@@ -4,7 +4,7 @@ use Rattle.source_meaning.specs.Checks.{most_ports}
 use Rattle.flow_run.proofs.flow.netlist_within.Goals as goal
 
 pub netlist_of-requires : goal.netlist_of-requires
-netlist_of-requires c = subst (λ (ports : List Port). length ports ≤ most_ports) (sym c.in-Ok.ensures.made.optimised.alike.ports) c.requires
+netlist_of-requires c = subst (λ (ports : List Port). length ports ≤ most_ports) (sym c.in-Ok.ensures.made.optimised.alike.ports) c.requires.ports
 
 pub returns-in-Ok-netlist_of-clause-mapped : goal.returns-in-Ok-netlist_of-clause-mapped
 returns-in-Ok-netlist_of-clause-mapped c = record {
