@@ -141,7 +141,7 @@ def agrees(got, wanted):
 
 def read_again(words, files, text):
     """The netlist that a layout gives, and its rectangles."""
-    _, folder, _ = parsed(words)
+    _, folder, _, _ = parsed(words)
     figure = ap.read(text)
     flat = extraction.flat_of(figure, checked(files, folder))
     n = extraction.extracted(figure, flat, models.library(files, folder))
