@@ -1,0 +1,61 @@
+-- The least bit of a name that fails a test, by the codes of its bits.
+use Rattle.std.proofs.Common.{◌≡◌, ℕ, ◌<◌, ◌+◌, Bool, true, false, cond, List, [], ◌∷◌, map, length, get_or, drop, Option, Some, None, refl, sym, ap, ◌∙◌}
+use Rattle.std.specs.Prelude.{filter, not, option_map}
+use Rattle.vlsi_base.specs.declared.name.Name.{Name}
+use Rattle.vlsi_base.specs.Member.{In, here, there}
+use Rattle.source_meaning.specs.declared.symbol_table.Symbol.{Symbol}
+use Rattle.source_meaning.specs.declared.drivers.NameFault.{NameFault}
+use Rattle.source_meaning.specs.Symbols.{symbol_names, names_in}
+use Rattle.source_meaning.specs.Codes.{name_at, codes_in, least_code, least_with}
+use Rattle.source_meaning.specs.Drivers.{least, fault_at}
+use Rattle.source_meaning.proofs.Names.{least_name}
+use Rattle.source_meaning.proofs.Driving.{coded_range}
+use Rattle.source_meaning.proofs.Least.{together, least_turn}
+use Rattle.fsm_io.specs.Drivers.{is_output, unassigned_at, first_of, or_else}
+
+by_codes : (q : Name → Bool) (t : List ℕ) (codes : List ℕ) → filter q (map (name_at t) codes) ≡ map (name_at t) (filter (λ c. q (name_at t c)) codes)
+by_codes q t [] = refl
+by_codes q t (c ∷ codes) = by (q (name_at t c)) (by_codes q t codes) where
+  by : (b : Bool) → filter q (map (name_at t) codes) ≡ map (name_at t) (filter (λ c. q (name_at t c)) codes)
+      → cond b (name_at t c ∷ filter q (map (name_at t) codes)) (filter q (map (name_at t) codes)) ≡ map (name_at t) (cond b (c ∷ filter (λ c. q (name_at t c)) codes) (filter (λ c. q (name_at t c)) codes))
+  by true rest = ap (λ (ns : List Name). name_at t c ∷ ns) rest
+  by false rest = rest
+
+pub least_coded : (q : Name → Bool) (s : Symbol) → least (filter q (symbol_names s)) ≡ option_map (name_at s.text) (least_code (filter (λ c. q (name_at s.text c)) (codes_in s.range)))
+least_coded q s =
+    ap (λ (ns : List Name). least (filter q ns)) (coded_range s.text s.range) ∙ ap least (by_codes q s.text (codes_in s.range)) ∙ least_name s.text (filter (λ c. q (name_at s.text c)) (codes_in s.range))
+
+-- what is found for an output
+pub unassigned_is : (assigned : Name → Bool) (s : Symbol) (codes : List ℕ) (code : Option ℕ) (name : Option Name) → is_output s.role ≡ true → codes ≡ codes_in s.range
+    → code ≡ least_code (filter (λ c. not (assigned (name_at s.text c))) codes) → name ≡ option_map (name_at s.text) code → fault_at s.line name None ≡ unassigned_at assigned s
+unassigned_is assigned s codes code name output coded first named =
+    ap (λ (o : Option Name). fault_at s.line o None) (named ∙ ap (option_map (name_at s.text)) (first ∙ ap (λ (cs : List ℕ). least_code (filter (λ c. not (assigned (name_at s.text c))) cs)) coded) ∙ sym (least_coded (λ n. not (assigned n)) s))
+    ∙ ap (λ b. cond b (fault_at s.line (least (filter (λ n. not (assigned n)) (symbol_names s))) None) None) (sym output)
+
+pub no_output : (assigned : Name → Bool) (s : Symbol) → is_output s.role ≡ false → None ≡ unassigned_at assigned s
+no_output assigned s e = ap (λ b. cond b (fault_at s.line (least (filter (λ n. not (assigned n)) (symbol_names s))) None) None) (sym e)
+
+turned : {A : Type 0} (b : Bool) (x y : A) → cond b y x ≡ cond (not b) x y
+turned true x y = refl
+turned false x y = refl
+
+-- a turn of a loop that keeps the least code that fails
+pub least_step : (passes : ℕ → Bool) (codes : List ℕ) (i item : ℕ) (least least' total : Option ℕ) → i < length codes → item ≡ get_or codes i 0 → least' ≡ cond (passes item) least (Some (least_with item least))
+    → together least (least_code (filter (λ c. not (passes c)) (drop i codes))) ≡ total → together least' (least_code (filter (λ c. not (passes c)) (drop (i + 1) codes))) ≡ total
+least_step passes codes i item least least' total within is taken so_far =
+    least_turn (λ c. not (passes c)) codes i item least least' total within is (taken ∙ turned (passes item) (Some (least_with item least)) least) so_far
+
+-- ---- looks that agree
+
+filters_agree : (p q : Name → Bool) (ns : List Name) → ((n : Name) → In n ns → p n ≡ q n) → filter (λ n. not (p n)) ns ≡ filter (λ n. not (q n)) ns
+filters_agree p q [] h = refl
+filters_agree p q (n ∷ ns) h =
+    ap (λ b. cond (not b) (n ∷ filter (λ m. not (p m)) ns) (filter (λ m. not (p m)) ns)) (h n here)
+    ∙ ap (λ (ms : List Name). cond (not (q n)) (n ∷ ms) ms) (filters_agree p q ns (λ m i. h m (there i)))
+
+pub unassigned_agree : (p q : Name → Bool) (s : Symbol) → ((n : Name) → In n (symbol_names s) → p n ≡ q n) → unassigned_at p s ≡ unassigned_at q s
+unassigned_agree p q s h = ap (λ (ns : List Name). cond (is_output s.role) (fault_at s.line (least ns) None) None) (filters_agree p q (symbol_names s) h)
+
+pub first_agree : {B : Type 0} (f g : Symbol → Option B) (ss : List Symbol) → ((s : Symbol) → In s ss → f s ≡ g s) → first_of f ss ≡ first_of g ss
+first_agree f g [] h = refl
+first_agree {B} f g (s ∷ ss) h = ap (λ (o : Option B). or_else o (first_of f ss)) (h s here) ∙ ap (or_else (g s)) (first_agree f g ss (λ t i. h t (there i)))

@@ -1,0 +1,11 @@
+use Rattle.std.proofs.Common.{◌≡◌, map, drop}
+use Rattle.std.specs.List.{flat_map}
+use Rattle.source_meaning.specs.Lines.{first_line}
+use Rattle.fsm_io.specs.Clock.{clock_reads_at}
+use Rattle.fsm_io.specs.Pieces.{mention_of, named_of}
+use Rattle.fsm_io.proofs.clock.fault_in_mentions.Given as goal
+
+abbrev pub invariant-loop-mention : goal.invariant-loop-mention
+invariant-loop-mention l =
+    first_line (flat_map (clock_reads_at (named_of l.roles)) (map mention_of (drop l.mention-index l.mentions)))
+    ≡ first_line (flat_map (clock_reads_at (named_of l.roles)) (map mention_of l.mentions))

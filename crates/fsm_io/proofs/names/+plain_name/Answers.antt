@@ -1,0 +1,19 @@
+use Rattle.std.proofs.Common.{rules, ◌≡◌, ◌∙◌, ap, sym, map}
+use Rattle.vlsi_base.specs.declared.expression.ParsedExpr.{ParsedExpr}
+use Rattle.vlsi_base.specs.declared.expression.ParsedExpr.TheViews.{the_lemmas}
+use Rattle.vlsi_base.specs.Tree.{Tree, view, operand_of, folded}
+use Rattle.vlsi_base.proofs.Groups.{grouped_is}
+use Rattle.fsm_io.specs.Looks.{plain_use}
+use Rattle.source_clock.proofs.Chains.{lone_chain, pair_chain}
+use Rattle.fsm_io.proofs.names.+plain_name.Goals as goal
+
+pub returns-then-is_empty : goal.returns-then-is_empty
+returns-then-is_empty t c =
+    let viewed : view c.args.e.now ≡ folded c.in-Chain.field-0 (view c.in-Chain.first.value) (map operand_of c.in-Chain.others.items) = search (rules, the_lemmas, grouped_is) in
+    c.plain_name.ensures ∙ ap (λ (x : ParsedExpr). plain_use (view x)) c.deref.ensures
+    ∙ ap (λ (x : Tree). plain_use x) (sym (lone_chain _ _ _ _ viewed c.in-Chain.others.ok.0 (sym c.is_empty.ensures ∙ c.if-is_empty.true)))
+
+pub returns-else-is_empty : goal.returns-else-is_empty
+returns-else-is_empty t c =
+    let viewed : view c.args.e.now ≡ folded c.in-Chain.field-0 (view c.in-Chain.first.value) (map operand_of c.in-Chain.others.items) = search (rules, the_lemmas, grouped_is) in
+    ap (λ (x : Tree). plain_use x) (sym (pair_chain _ _ _ _ viewed c.in-Chain.others.ok.0 (sym c.is_empty.ensures ∙ c.if-is_empty.false)).is)

@@ -1,0 +1,14 @@
+pub mod Known
+pub mod Looks
+pub mod Widths
+pub mod Drivers
+pub mod Unsupported
+pub mod Clock
+pub mod States
+pub mod Elaboration
+pub mod Assigned
+pub mod Checks
+pub mod Text
+pub mod Measure
+pub mod Pieces
+pub mod Laws

@@ -1,0 +1,236 @@
+// Targets that some state leaves without an assignment on some path of ifs.
+ghost use Rattle.std.specs.Prelude.{◌≡◌, filter, not, length, IfOk};
+ghost use Rattle.bool_expr.specs.Support.{among};
+ghost use Rattle.source_meaning.specs.Codes.{name_at, least_code};
+ghost use Rattle.fsm_meaning.specs.Assigned.{sure, sure_parts, sure_branches, sets_output};
+ghost use Rattle.fsm_code.specs.View.{assignment_view, body_view, parts_view, branches_view};
+ghost use Rattle.fsm_text.specs.Written.{machine_view};
+ghost use Rattle.fsm_io.specs.Known.{symbols};
+ghost use Rattle.fsm_io.specs.Assigned.{always, left_out_at, left_out_of};
+ghost use Rattle.fsm_io.specs.Pieces.{sets_of, named_of};
+ghost use Rattle.fsm_io.specs.Drivers.{first_of};
+
+use crate::codes::{bit_of, codes_in, least_with, name_with};
+use crate::drivers::is_output;
+use crate::known::Roles;
+use fsm_code::{Assignment, Branches, Parts, Statements};
+use fsm_text::StateFile;
+use source_meaning::{NameFault, Symbol, SymbolTable};
+use std::alloc::{AllocError, Global};
+use vlsi_base::{Name, Text};
+
+/// What has to be assigned: the next state, or a bit of an output.
+#[derive(Clone, Copy)]
+pub enum Sought<'a> {
+    Next,
+    Bit(&'a Text, Option<u32>),
+}
+
+impl Sought<'_> {
+    /// Whether the assignment sets it.
+    fn is_set(self, assignment: &Assignment) -> bool
+        ensures { result ≡ sets_of self.entry (assignment_view assignment.now) }
+    {
+        match self {
+            Sought::Next => match assignment {
+                Assignment::Next(_) => true,
+                Assignment::Output(_, _) => false,
+            },
+            Sought::Bit(text, bit) => match assignment {
+                Assignment::Next(_) => false,
+                Assignment::Output(name, _) => {
+                    name.text.as_bytes() == text.as_bytes() && name.bit == bit
+                }
+            },
+        }
+    }
+}
+
+/// Whether every path of ifs through the statements assigns it, in this state.
+#[cycle(sure)]
+fn is_sure(sought: Sought, state: u32, body: &Statements) -> bool
+    ensures { result ≡ sure (sets_of sought.entry) state (body_view body.now) }
+{
+    let mut rest = body;
+    loop {
+        match rest {
+            Statements::Finish => return false,
+            Statements::Assign(assignment, after) => {
+                if sought.is_set(assignment) {
+                    return true;
+                }
+                rest = after;
+            }
+            Statements::Choose(parts, after) => {
+                if is_sure_in_parts(sought, state, parts) {
+                    return true;
+                }
+                rest = after;
+            }
+            Statements::Select(branches, after) => {
+                if is_sure_in_branches(sought, state, branches) {
+                    return true;
+                }
+                rest = after;
+            }
+        }
+    }
+}
+
+#[cycle(sure)]
+fn is_sure_in_parts(sought: Sought, state: u32, parts: &Parts) -> bool
+    ensures { result ≡ sure_parts (sets_of sought.entry) state (parts_view parts.now) }
+{
+    let mut rest = parts;
+    loop {
+        match rest {
+            Parts::Only(_, _) => return false,
+            Parts::Either(_, part, last) => {
+                return is_sure(sought, state, part) && is_sure(sought, state, last);
+            }
+            Parts::Further(_, part, more) => {
+                if !is_sure(sought, state, part) {
+                    return false;
+                }
+                rest = more;
+            }
+        }
+    }
+}
+
+fn is_listed(states: &[u32], state: u32) -> bool
+    ensures { result ≡ among state states.now }
+{
+    for listed in states {
+        if *listed == state {
+            return true;
+        }
+    }
+    false
+}
+
+#[cycle(sure)]
+fn is_sure_in_branches(sought: Sought, state: u32, branches: &Branches) -> bool
+    ensures { result ≡ sure_branches (sets_of sought.entry) state (branches_view branches.now) }
+{
+    let mut rest = branches;
+    loop {
+        match rest {
+            Branches::Closed => return false,
+            Branches::Others(part) => return is_sure(sought, state, part),
+            Branches::Listed(states, part, more) => {
+                if is_listed(states, state) {
+                    return is_sure(sought, state, part);
+                }
+                rest = more;
+            }
+        }
+    }
+}
+
+/// Whether each of so many states assigns it on every path.
+fn is_always(sought: Sought, count: u32, body: &Statements) -> bool
+    ensures { result ≡ always count (sets_of sought.entry) (body_view body.now) }
+{
+    for state in 0..count {
+        if !is_sure(sought, state, body) {
+            return false;
+        }
+    }
+    true
+}
+
+/// The code of the least of a symbol's bits that isn't.
+fn least_code(
+    symbol: &Symbol,
+    count: u32,
+    body: &Statements,
+    codes: &[u64],
+) -> Result<Option<u64>, AllocError>
+    ensures { IfOk result (λ least. least ≡ least_code (filter (λ c. not (always count (sets_output (name_at symbol.now.text c)) (body_view body.now))) codes.now)) }
+{
+    let mut least: Option<u64> = None;
+    for code in codes {
+        let bit = bit_of(*code)?;
+        let passes = is_always(Sought::Bit(&symbol.text, bit), count, body);
+        least = least_with(passes, *code, least);
+    }
+    Ok(least)
+}
+
+/// The least of an output's bits that isn't.
+fn left_out_at(
+    alloc: Global,
+    symbol: &Symbol,
+    count: u32,
+    body: &Statements,
+) -> Result<Option<NameFault>, AllocError>
+    ensures { IfOk result (λ found. found ≡ left_out_at count (body_view body.now) symbol.now) }
+{
+    if !is_output(symbol.role) {
+        return Ok(None);
+    }
+    let codes = codes_in(alloc, symbol.range)?;
+    let least = least_code(symbol, count, body, &codes)?;
+    let found = name_with(alloc, &symbol.text, least)?;
+    match found {
+        Some(name) => Ok(Some(NameFault {
+            line: symbol.line,
+            name,
+        })),
+        None => Ok(None),
+    }
+}
+
+fn first_left_out(
+    alloc: Global,
+    symbols: &[Symbol],
+    count: u32,
+    body: &Statements,
+) -> Result<Option<NameFault>, AllocError>
+    ensures { IfOk result (λ found. found ≡ first_of (left_out_at count (body_view body.now)) symbols.now) }
+{
+    for symbol in symbols {
+        let found = left_out_at(alloc, symbol, count, body)?;
+        if let Some(fault) = found {
+            return Ok(Some(fault));
+        }
+    }
+    Ok(None)
+}
+
+/// How many states there are. More than 32 bits can number are answered as out of memory.
+fn state_count(file: &StateFile) -> Result<u32, AllocError>
+    ensures { IfOk result (λ count. count ≡ length (machine_view file.now).states.states) }
+{
+    match u32::try_from(file.states.states.as_slice().len()) {
+        Ok(count) => Ok(count),
+        Err(_) => Err(AllocError),
+    }
+}
+
+/// The first output that some state doesn't assign on every path, with its least such bit, or else the next state. Takes time for
+/// each output bit by the statements that each state walks.
+pub fn left_out(
+    alloc: Global,
+    table: &SymbolTable,
+    roles: Roles,
+    file: &StateFile,
+    body: &Statements,
+) -> Result<Option<NameFault>, AllocError>
+    requires { table.now ≡ symbols (machine_view file.now) }
+    ensures { IfOk result (λ found. found ≡ left_out_of (machine_view file.now) (named_of roles.entry) (body_view body.now)) }
+{
+    let count = state_count(file)?;
+    let found = first_left_out(alloc, table.as_slice(), count, body)?;
+    if let Some(fault) = found {
+        return Ok(Some(fault));
+    }
+    if is_always(Sought::Next, count, body) {
+        return Ok(None);
+    }
+    Ok(Some(NameFault {
+        line: file.signals.line,
+        name: Name::scalar(roles.next.copy(alloc)?),
+    }))
+}

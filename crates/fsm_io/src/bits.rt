@@ -1,0 +1,248 @@
+// The statements bit by bit, over the bits of the ports.
+ghost use Rattle.std.specs.Prelude.{◌≡◌, ◌∷◌, map, IfOk};
+ghost use Rattle.bool_expr.specs.View.{view};
+ghost use Rattle.vlsi_base.specs.Tree.{view as tree};
+ghost use Rattle.source_meaning.specs.Formula.{numbered, formulas};
+ghost use Rattle.source_meaning.specs.Drivers.{target_names};
+ghost use Rattle.source_bits.specs.Formulas.{first_of};
+ghost use Rattle.fsm_meaning.specs.Statements.{assign, output};
+ghost use Rattle.fsm_code.specs.View as code;
+ghost use Rattle.fsm_text.specs.Written.{assigned, statement_view, body_view, parts_view, branches_view};
+ghost use Rattle.fsm_io.specs.Elaboration.{condition_of, assign_bits, body_bits, statement_bits, parts_bits, branches_bits, state_number, next_number};
+ghost use Rattle.fsm_io.specs.Pieces.{IsFrame, frame_view, CanBeRead, CanBeAssigned, StatementFits, BodyFits, PartsFit, BranchesFit};
+
+use crate::known::same;
+use crate::names::plain_name;
+use crate::states::state_number;
+use bool_expr::{Expr, renumbered};
+use fsm_code::{Assignment, Branches as BitBranches, Parts as BitParts, Statements};
+use fsm_text::{Body, Branches, Parts, Statement};
+use source_bits::{Numbers, bits, target_places};
+use source_meaning::{SymbolTable, Target};
+use std::alloc::{AllocError, Global};
+use vlsi_base::{Name, NewName, ParsedExpr, Text};
+
+/// What the statements are elaborated over: the declared bits by numbers, the names of the ports' bits, the place of each declared
+/// bit among them, the states, and the name of the next state.
+#[derive(Drop)]
+pub struct Frame<'a> {
+    pub alloc: Global,
+    pub numbers: &'a Numbers,
+    pub vars: &'a [Name],
+    pub places: &'a [u32],
+    pub states: &'a SymbolTable,
+    pub next: &'a Text,
+}
+
+/// The first bit, or 0 where there is none.
+fn first(bits: Vec<Expr>) -> Expr
+    ensures { view result ≡ first_of (map view bits.items) }
+{
+    match bits.into_iter().next() {
+        Some(bit) => bit,
+        None => Expr::Const(false),
+    }
+}
+
+/// An assignment to a bit of an output, before others.
+fn with_output(
+    alloc: Global,
+    name: Name,
+    value: Expr,
+    rest: Statements,
+) -> Result<Statements, AllocError>
+    ensures { IfOk result (λ made. code.body_view made ≡ assign (output name (view value)) (code.body_view rest)) }
+{
+    let after = Box::new(alloc, rest)?;
+    Ok(Statements::Assign(Assignment::Output(name, value), after))
+}
+
+impl Frame<'_> {
+    /// The bits of an expression, over the ports' bits.
+    fn values(&self, e: &ParsedExpr) -> Result<Vec<Expr>, AllocError>
+        requires frame { IsFrame self.now }
+        requires read { CanBeRead self.now (tree e.now) }
+        ensures { IfOk result (λ made. map view made.items ≡ map (numbered self.now.vars.now) (formulas self.now.numbers.now (tree e.now))) }
+    {
+        let over_all = bits(self.alloc, self.numbers, e)?;
+        let mut made = Vec::new(self.alloc);
+        for value in &over_all {
+            made.push(renumbered(self.alloc, value, self.places)?)?;
+        }
+        Ok(made)
+    }
+
+    /// The first bit of a condition.
+    fn condition(&self, e: &ParsedExpr) -> Result<Expr, AllocError>
+        requires frame { IsFrame self.now }
+        requires read { CanBeRead self.now (tree e.now) }
+        ensures { IfOk result (λ made. view made ≡ condition_of (frame_view self.now) (tree e.now)) }
+    {
+        let values = self.values(e)?;
+        Ok(first(values))
+    }
+
+    /// The state that is assigned, by its number.
+    fn state(&self, e: &ParsedExpr) -> Result<u32, AllocError>
+        ensures { IfOk result (λ number. number ≡ next_number (frame_view self.now).states (tree e.now)) }
+    {
+        match plain_name(e) {
+            Some(place) => state_number(self.states, place.text),
+            None => Ok(0),
+        }
+    }
+
+    /// One assignment for each bit of the target, before the others.
+    fn assign(
+        &self,
+        target: &Target,
+        e: &ParsedExpr,
+        rest: Statements,
+    ) -> Result<Statements, AllocError>
+        requires frame { IsFrame self.now }
+        requires fits { CanBeAssigned self.now target.now (tree e.now) }
+        ensures { IfOk result (λ made. code.body_view made ≡ assign_bits self.now.vars.now (target_names self.now.numbers.now target.now)
+            (formulas self.now.numbers.now (tree e.now)) (code.body_view rest)) }
+    {
+        let mut places = target_places(self.alloc, self.numbers, target)?;
+        let mut values = self.values(e)?;
+        let mut made = rest;
+        while let Some(value) = values.pop() {
+            let Some(place) = places.pop() else {
+                return Ok(made);
+            };
+            let name = self.numbers.name(self.alloc, place)?;
+            made = with_output(self.alloc, name, value, made)?;
+        }
+        Ok(made)
+    }
+
+    /// An assignment before the others.
+    fn assignment(
+        &self,
+        target: &Target,
+        e: &ParsedExpr,
+        rest: Statements,
+    ) -> Result<Statements, AllocError>
+        requires frame { IsFrame self.now }
+        requires fits { StatementFits self.now (assigned target.now 0 (tree e.now)) }
+        ensures { IfOk result (λ made. code.body_view made ≡ statement_bits (frame_view self.now) (assigned target.now 0 (tree e.now)) (code.body_view rest)) }
+    {
+        if same(&target.name, self.next) {
+            let number = self.state(e)?;
+            let after = Box::new(self.alloc, rest)?;
+            Ok(Statements::Assign(Assignment::Next(number), after))
+        } else {
+            self.assign(target, e, rest)
+        }
+    }
+
+    /// A statement before the others.
+    #[cycle(bits)]
+    fn before(&self, statement: &Statement, rest: Statements) -> Result<Statements, AllocError>
+        requires frame { IsFrame self.now }
+        requires fits { StatementFits self.now (statement_view statement.now) }
+        ensures { IfOk result (λ made. code.body_view made ≡ statement_bits (frame_view self.now) (statement_view statement.now) (code.body_view rest)) }
+    {
+        match statement {
+            Statement::Assert(_) => Ok(rest),
+            Statement::Assign(target, _, e) => self.assignment(target, e, rest),
+            Statement::If(parts) => {
+                let made = self.parts(parts)?;
+                let made = Box::new(self.alloc, made)?;
+                let after = Box::new(self.alloc, rest)?;
+                Ok(Statements::Choose(made, after))
+            }
+            Statement::Case(_, _, branches) => {
+                let made = self.branches(branches)?;
+                let made = Box::new(self.alloc, made)?;
+                let after = Box::new(self.alloc, rest)?;
+                Ok(Statements::Select(made, after))
+            }
+        }
+    }
+
+    /// The numbers of these states.
+    fn numbers_of(&self, names: &[NewName]) -> Result<Vec<u32>, AllocError>
+        ensures { IfOk result (λ made. made.items ≡ map (λ n. state_number (frame_view self.now).states n.text) names.now) }
+    {
+        let mut made = Vec::new(self.alloc);
+        for name in names {
+            made.push(state_number(self.states, &name.text)?)?;
+        }
+        Ok(made)
+    }
+
+    /// The statements, from the last on.
+    #[cycle(bits)]
+    pub fn body(&self, body: &Body) -> Result<Statements, AllocError>
+        requires frame { IsFrame self.now }
+        requires fits { BodyFits self.now (body_view body.now) }
+        ensures { IfOk result (λ made. code.body_view made ≡ body_bits (frame_view self.now) (body_view body.now)) }
+    {
+        match body {
+            Body::Finish => Ok(Statements::Finish),
+            Body::Next(statement, more) => {
+                let rest = self.body(more)?;
+                let made = self.before(statement, rest)?;
+                Ok(made)
+            }
+        }
+    }
+
+    #[cycle(bits)]
+    fn parts(&self, parts: &Parts) -> Result<BitParts, AllocError>
+        requires frame { IsFrame self.now }
+        requires fits { PartsFit self.now (parts_view parts.now) }
+        ensures { IfOk result (λ made. code.parts_view made ≡ parts_bits (frame_view self.now) (parts_view parts.now)) }
+    {
+        match parts {
+            Parts::Only(_, condition, body) => {
+                let made = self.condition(condition)?;
+                let body = self.body(body)?;
+                let body = Box::new(self.alloc, body)?;
+                Ok(BitParts::Only(made, body))
+            }
+            Parts::Either(_, condition, body, otherwise) => {
+                let made = self.condition(condition)?;
+                let body = self.body(body)?;
+                let last = self.body(otherwise)?;
+                let body = Box::new(self.alloc, body)?;
+                let last = Box::new(self.alloc, last)?;
+                Ok(BitParts::Either(made, body, last))
+            }
+            Parts::Further(_, condition, body, more) => {
+                let made = self.condition(condition)?;
+                let body = self.body(body)?;
+                let more = self.parts(more)?;
+                let body = Box::new(self.alloc, body)?;
+                let more = Box::new(self.alloc, more)?;
+                Ok(BitParts::Further(made, body, more))
+            }
+        }
+    }
+
+    #[cycle(bits)]
+    fn branches(&self, branches: &Branches) -> Result<BitBranches, AllocError>
+        requires frame { IsFrame self.now }
+        requires fits { BranchesFit self.now (branches_view branches.now) }
+        ensures { IfOk result (λ made. code.branches_view made ≡ branches_bits (frame_view self.now) (branches_view branches.now)) }
+    {
+        match branches {
+            Branches::Closed => Ok(BitBranches::Closed),
+            Branches::Others(body) => {
+                let last = self.body(body)?;
+                let last = Box::new(self.alloc, last)?;
+                Ok(BitBranches::Others(last))
+            }
+            Branches::Listed(names, body, more) => {
+                let states = self.numbers_of(names.as_slice())?;
+                let body = self.body(body)?;
+                let more = self.branches(more)?;
+                let body = Box::new(self.alloc, body)?;
+                let more = Box::new(self.alloc, more)?;
+                Ok(BitBranches::Listed(states, body, more))
+            }
+        }
+    }
+}

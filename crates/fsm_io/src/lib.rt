@@ -1,0 +1,24 @@
+//! Texts of state machines: from bytes to a state machine that has passed all checks.
+#![tactic(auto)]
+
+mod assigned;
+mod bits;
+mod check;
+mod clock;
+mod codes;
+mod drivers;
+mod faults;
+mod forms;
+mod known;
+mod laws;
+mod measure;
+mod mentions;
+mod names;
+mod reader;
+mod states;
+mod uses;
+mod widths;
+
+pub use fsm_core::StateMachine;
+pub use laws::{fsm_is_checked, never_both, one_fsm, one_refusal};
+pub use reader::read_fsm;

@@ -1,0 +1,10 @@
+pub mod FsmLanguage
+pub mod Whens
+pub mod Nested
+pub mod Texts
+pub mod Whole
+pub mod Linking
+pub mod Listing
+pub mod Tally
+pub mod Chains
+pub mod Laws

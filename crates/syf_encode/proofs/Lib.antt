@@ -1,0 +1,4 @@
+pub mod Apart
+pub mod Sums
+pub mod Exchanging
+pub mod Searching

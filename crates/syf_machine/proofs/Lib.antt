@@ -1,0 +1,5 @@
+pub mod Lists
+pub mod Naming
+pub mod Numbers
+pub mod Encoded
+pub mod Made

@@ -1,0 +1,4 @@
+pub mod Named
+pub mod Pieces
+pub mod Meaning
+pub mod Law

@@ -1,0 +1,2 @@
+pub mod Syf
+pub mod Laws

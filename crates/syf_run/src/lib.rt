@@ -1,0 +1,15 @@
+//! `syf` as a tool: a data-flow text of a state machine, by codes of its states.
+//!
+//! What it reads and answers stands in `specs/Syf.antt`; when each status comes and what it leaves, for all tools, in
+//! `specs/Table.antt` of `tool_drive`.
+#![tactic(auto)]
+
+mod encoded;
+mod laws;
+mod lines;
+mod syf;
+
+pub use encoded::{Encoded, encoded, style_of};
+pub use laws::syf_law;
+pub use lines::code_lines;
+pub use syf::Syf;

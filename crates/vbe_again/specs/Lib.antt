@@ -1,0 +1,3 @@
+pub mod Nesting
+pub mod Placed
+pub mod Said
