@@ -1,13 +1,14 @@
 -- Arguments that fit a tool's entry make a command. A tool more is a lemma more, and its place in `each`.
-use Rattle.std.proofs.Common.{◌≡◌, ℕ, Bool, true, false, ◌&&◌, cond, List, [], ◌∷◌, length, nat_eq, Option, None, Some, IsSome, is_some, option_map, refl, subst, arith}
+use Rattle.std.proofs.Common.{◌≡◌, ℕ, Bool, true, false, ◌&&◌, cond, List, [], ◌∷◌, length, nat_eq, Option, None, Some, is_some, IsSome, option_map, refl, subst, arith}
 use Rattle.std.proofs.lemmas.Bool.{eqb-true}
 use Rattle.std.specs.List.{find, list_all}
 use Rattle.tool_words.specs.declared.arguments.Argument.{Argument}
 use Rattle.tool_words.specs.declared.command.Command.TheVariants as command
+use Rattle.tool_words.specs.declared.command.Encoding.{Encoding}
 use Rattle.tool_words.specs.Words.{is_word}
-use Rattle.tool_words.specs.Table.{Entry, Setting, flow, boom, boog, asimut, cougar, library, out, tracks, patterns, netlist_library, nodes, tools}
-use Rattle.tool_words.specs.Values.{files, values, only, has_any_ending, value_fits, number_within, number_of, given_or_default, is_enough, setting_fits, is_source, fits}
-use Rattle.tool_words.specs.Commands.{flow_with, boom_with, boog_with, asimut_with, cougar_with, command_from}
+use Rattle.tool_words.specs.Table.{Entry, Setting, flow, syf, boom, boog, asimut, cougar, library, out, encoding, seed, nodes, tracks, patterns, netlist_library, tools}
+use Rattle.tool_words.specs.Values.{files, values, only, has_any_ending, code_of, is_of_form, setting_fits, is_source, value_fits, default_of, given_or_default, number_of, fits}
+use Rattle.tool_words.specs.Commands.{encoding_of, coding, flow_with, syf_with, boom_with, boog_with, asimut_with, cougar_with, command_from}
 use Rattle.tool_words.specs.Laws.{FittingIsEnough}
 use Rattle.tool_words.proofs.Spelling.{both}
 
@@ -40,44 +41,74 @@ has_some endings (Some x) h = (x, refl)
 abbrev Enough : Entry → Type 0
 Enough e = (arguments : List Argument) → fits e arguments ≡ true → IsSome (command_from e.tool arguments)
 
-some_of : (o : Option ℕ) → is_some o ≡ true → (n : ℕ) × (o ≡ Some n)
-some_of None h = absurd (cc h)
-some_of (Some n) h = (n, refl)
+some_given : (code : Option ℕ) → is_some code ≡ true → IsSome code
+some_given None h = absurd (cc h)
+some_given (Some k) h = refl
 
--- a budget that fits is a number, and there is one where none is given
-nodes_given : (o : Option (List ℕ)) → value_fits nodes.form o ≡ true → (n : ℕ) × (given_or_default nodes o ≡ Some n)
-nodes_given None h = (200000, refl)
-nodes_given (Some value) h = some_of (number_within 1 4000000 value) h
+number_is : (o : Option ℕ) → IsSome o → (n : ℕ) × (o ≡ Some n)
+number_is None h = absurd (cc h)
+number_is (Some n) h = (n, refl)
 
-nodes_number : (arguments : List Argument) → setting_fits arguments nodes ≡ true → (n : ℕ) × (number_of nodes arguments ≡ Some n)
-nodes_number arguments h =
-    nodes_given (only (values nodes.word arguments))
-    (both (is_enough nodes.need (files arguments) (length (values nodes.word arguments))) (value_fits nodes.form (only (values nodes.word arguments))) h).1
+-- an option that may be left out has a number or a letter, where what is given is of its form
+number_given : (s : Setting) (value : Option (List ℕ)) → IsSome (default_of s.need) → value_fits s.form value ≡ true
+    → ((text : List ℕ) → is_of_form s.form text ≡ true → is_some (code_of s.form text) ≡ true) → IsSome (given_or_default s value)
+number_given s None default fit coded = default
+number_given s (Some text) default fit coded = some_given (code_of s.form text) (coded text fit)
 
-flow_from : (s l o : Option (List ℕ)) (k : Option ℕ) (x y z : List ℕ) (n : ℕ) → s ≡ Some x → l ≡ Some y → o ≡ Some z → k ≡ Some n
-    → IsSome (option_map command.Flow (flow_with s l o k))
-flow_from s l o k x y z n a b c d = rw (a, b, c, d) refl
+encoding_given : (arguments : List Argument) → setting_fits arguments encoding ≡ true → IsSome (number_of encoding arguments)
+encoding_given a fit = number_given encoding (only (values encoding.word a)) refl (both _ _ fit).1 (λ text h. h)
+
+seed_given : (arguments : List Argument) → setting_fits arguments seed ≡ true → IsSome (number_of seed arguments)
+seed_given a fit = number_given seed (only (values seed.word a)) refl (both _ _ fit).1 (λ text h. h)
+
+nodes_given : (arguments : List Argument) → setting_fits arguments nodes ≡ true → (n : ℕ) × (number_of nodes arguments ≡ Some n)
+nodes_given a fit = number_is (number_of nodes a) (number_given nodes (only (values nodes.word a)) refl (both _ _ fit).1 (λ text h. h))
+
+coding_given : (e n : Option ℕ) → IsSome e → IsSome n → (c : Encoding × ℕ) × (coding e n ≡ Some c)
+coding_given None n h g = absurd (cc h)
+coding_given (Some e) None h g = absurd (cc g)
+coding_given (Some e) (Some n) h g = ((encoding_of e, n), refl)
+
+flow_from : (s l o : Option (List ℕ)) (k : Option (Encoding × ℕ)) (b : Option ℕ) (x y z : List ℕ) (c : Encoding × ℕ) (n : ℕ)
+    → s ≡ Some x → l ≡ Some y → o ≡ Some z → k ≡ Some c → b ≡ Some n → IsSome (option_map command.Flow (flow_with s l o k b))
+flow_from s l o k b x y z c n p q r t u = rw (p, q, r, t, u) refl
+
+syf_from : (s o : Option (List ℕ)) (k : Option (Encoding × ℕ)) (x z : List ℕ) (c : Encoding × ℕ) → s ≡ Some x → o ≡ Some z → k ≡ Some c
+    → IsSome (option_map command.Syf (syf_with s o k))
+syf_from s o k x z c p r t = rw (p, r, t) refl
 
 flow_enough : Enough flow
 flow_enough a fit =
     let f = both (is_source flow.endings (files a)) (list_all (setting_fits a) flow.settings) fit in
-    let l = both (setting_fits a library) (list_all (setting_fits a) (out ∷ tracks ∷ nodes ∷ [])) f.1 in
-    let o = both (setting_fits a out) (list_all (setting_fits a) (tracks ∷ nodes ∷ [])) l.1 in
-    let t = both (setting_fits a tracks) (list_all (setting_fits a) (nodes ∷ [])) o.1 in
-    let n = both (setting_fits a nodes) true t.1 in
-    flow_from _ _ _ _ _ _ _ _ (has_some flow.endings (only (files a)) f.0).1 (value_of_one a library _ l.0).1 (value_of_one a out _ o.0).1
-    (nodes_number a n.0).1
+    let l = both (setting_fits a library) (list_all (setting_fits a) (out ∷ encoding ∷ tracks ∷ seed ∷ nodes ∷ [])) f.1 in
+    let o = both (setting_fits a out) (list_all (setting_fits a) (encoding ∷ tracks ∷ seed ∷ nodes ∷ [])) l.1 in
+    let e = both (setting_fits a encoding) (list_all (setting_fits a) (tracks ∷ seed ∷ nodes ∷ [])) o.1 in
+    let t = both (setting_fits a tracks) (list_all (setting_fits a) (seed ∷ nodes ∷ [])) e.1 in
+    let n = both (setting_fits a seed) (list_all (setting_fits a) (nodes ∷ [])) t.1 in
+    let b = both (setting_fits a nodes) true n.1 in
+    let k = coding_given (number_of encoding a) (number_of seed a) (encoding_given a e.0) (seed_given a n.0) in
+    flow_from _ _ _ _ _ _ _ _ _ _ (has_some flow.endings (only (files a)) f.0).1 (value_of_one a library _ l.0).1 (value_of_one a out _ o.0).1 k.1
+    (nodes_given a b.0).1
+
+syf_enough : Enough syf
+syf_enough a fit =
+    let f = both (is_source syf.endings (files a)) (list_all (setting_fits a) syf.settings) fit in
+    let o = both (setting_fits a out) (list_all (setting_fits a) (encoding ∷ seed ∷ [])) f.1 in
+    let e = both (setting_fits a encoding) (list_all (setting_fits a) (seed ∷ [])) o.1 in
+    let n = both (setting_fits a seed) true e.1 in
+    let k = coding_given (number_of encoding a) (number_of seed a) (encoding_given a e.0) (seed_given a n.0) in
+    syf_from _ _ _ _ _ _ (has_some syf.endings (only (files a)) f.0).1 (value_of_one a out _ o.0).1 k.1
 
 boom_from : (s o : Option (List ℕ)) (k : Option ℕ) (x y : List ℕ) (n : ℕ) → s ≡ Some x → o ≡ Some y → k ≡ Some n
     → IsSome (option_map command.Boom (boom_with s o k))
-boom_from s o k x y n a b c = rw (a, b, c) refl
+boom_from s o k x y n p q r = rw (p, q, r) refl
 
 boom_enough : Enough boom
 boom_enough a fit =
     let f = both (is_source boom.endings (files a)) (list_all (setting_fits a) boom.settings) fit in
     let o = both (setting_fits a out) (list_all (setting_fits a) (nodes ∷ [])) f.1 in
     let n = both (setting_fits a nodes) true o.1 in
-    boom_from _ _ _ _ _ _ (has_some boom.endings (only (files a)) f.0).1 (value_of_one a out _ o.0).1 (nodes_number a n.0).1
+    boom_from _ _ _ _ _ _ (has_some boom.endings (only (files a)) f.0).1 (value_of_one a out _ o.0).1 (nodes_given a n.0).1
 
 boog_from : (s l o : Option (List ℕ)) (x y z : List ℕ) → s ≡ Some x → l ≡ Some y → o ≡ Some z → IsSome (option_map command.Boog (boog_with s l o))
 boog_from s l o x y z a b c = rw (a, b, c) refl
@@ -113,7 +144,7 @@ cougar_enough a fit =
     cougar_from _ _ _ _ _ _ (has_some cougar.endings (only (files a)) f.0).1 (value_of_one a library _ l.0).1 (value_of_one a out _ o.0).1
 
 each : Each Enough tools
-each = (flow_enough, (boom_enough, (boog_enough, (asimut_enough, (cougar_enough, tt)))))
+each = (flow_enough, (syf_enough, (boom_enough, (boog_enough, (asimut_enough, (cougar_enough, tt))))))
 
 pub enough : FittingIsEnough
 enough e arguments h fit = found Enough (λ (x : Entry). is_word x.word e.word) tools e each h arguments fit

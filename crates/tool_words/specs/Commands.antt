@@ -1,10 +1,13 @@
 -- The commands of the tools, and the words that spell them.
-use Rattle.std.specs.Prelude.{◌≡◌, ℕ, true, List, [], ◌∷◌, Option, None, Some, option_map, option_and_then, if◌then◌else◌}
+use Rattle.std.specs.Prelude.{◌≡◌, ℕ, true, List, [], ◌∷◌, Option, None, Some, option_map, option_and_then, nat_eq, if◌then◌else◌}
 use Rattle.std.specs.List.{flat_map, list_all}
 use Rattle.tool_words.specs.declared.table.Tool.{Tool}
 use Rattle.tool_words.specs.declared.table.Tool.TheVariants as tool
 use Rattle.tool_words.specs.declared.arguments.Argument.{Argument}
+use Rattle.tool_words.specs.declared.command.Encoding.{Encoding}
+use Rattle.tool_words.specs.declared.command.Encoding.TheVariants as encoding_variant
 use Rattle.tool_words.specs.declared.command.FlowCommand.{FlowCommand}
+use Rattle.tool_words.specs.declared.command.SyfCommand.{SyfCommand}
 use Rattle.tool_words.specs.declared.command.BoomCommand.{BoomCommand}
 use Rattle.tool_words.specs.declared.command.BoogCommand.{BoogCommand}
 use Rattle.tool_words.specs.declared.command.AsimutCommand.{AsimutCommand}
@@ -12,16 +15,30 @@ use Rattle.tool_words.specs.declared.command.AsimutNetlistCommand.{AsimutNetlist
 use Rattle.tool_words.specs.declared.command.CougarCommand.{CougarCommand}
 use Rattle.tool_words.specs.declared.command.Command.{Command}
 use Rattle.tool_words.specs.declared.command.Command.TheVariants as command
-use Rattle.tool_words.specs.Table.{Entry, library, out, patterns, netlist_library, nodes, tool_of}
+use Rattle.tool_words.specs.Table.{Entry, library, out, encoding, seed, nodes, patterns, netlist_library, tool_of}
 use Rattle.tool_words.specs.Arguments.{spelling, is_valid, arguments_of}
-use Rattle.tool_words.specs.Values.{files, values, only, fits, number_of}
+use Rattle.tool_words.specs.Values.{files, values, only, number_of, fits}
 
 -- ---- the command of each tool, from arguments that fit its entry
 
-abbrev pub flow_with : Option (List ℕ) → Option (List ℕ) → Option (List ℕ) → Option ℕ → Option FlowCommand
-flow_with (Some source) (Some library) (Some out) (Some nodes) =
-    Some (record { source = source; library = library; out = out; nodes = nodes })
-flow_with _ _ _ _ = None
+-- the encoding with this letter: o, r, or else j
+abbrev pub encoding_of : ℕ → Encoding
+encoding_of letter =
+    if nat_eq letter 111 then encoding_variant.OneHot else if nat_eq letter 114 then encoding_variant.Random else encoding_variant.Adjacent
+
+-- how states get their codes, and the seed
+abbrev pub coding : Option ℕ → Option ℕ → Option (Encoding × ℕ)
+coding (Some letter) (Some seed) = Some (encoding_of letter, seed)
+coding _ _ = None
+
+abbrev pub flow_with : Option (List ℕ) → Option (List ℕ) → Option (List ℕ) → Option (Encoding × ℕ) → Option ℕ → Option FlowCommand
+flow_with (Some source) (Some library) (Some out) (Some c) (Some nodes) =
+    Some (record { source = source; library = library; out = out; encoding = c.0; seed = c.1; nodes = nodes })
+flow_with _ _ _ _ _ = None
+
+abbrev pub syf_with : Option (List ℕ) → Option (List ℕ) → Option (Encoding × ℕ) → Option SyfCommand
+syf_with (Some source) (Some out) (Some c) = Some (record { source = source; out = out; encoding = c.0; seed = c.1 })
+syf_with _ _ _ = None
 
 abbrev pub boom_with : Option (List ℕ) → Option (List ℕ) → Option ℕ → Option BoomCommand
 boom_with (Some source) (Some out) (Some nodes) = Some (record { source = source; out = out; nodes = nodes })
@@ -44,7 +61,10 @@ cougar_with _ _ _ = None
 
 abbrev pub command_from : Tool → List Argument → Option Command
 command_from tool.Flow a =
-    option_map command.Flow (flow_with (only (files a)) (only (values library.word a)) (only (values out.word a)) (number_of nodes a))
+    option_map command.Flow (flow_with (only (files a)) (only (values library.word a)) (only (values out.word a))
+    (coding (number_of encoding a) (number_of seed a)) (number_of nodes a))
+command_from tool.Syf a =
+    option_map command.Syf (syf_with (only (files a)) (only (values out.word a)) (coding (number_of encoding a) (number_of seed a)))
 command_from tool.Boom a = option_map command.Boom (boom_with (only (files a)) (only (values out.word a)) (number_of nodes a))
 command_from tool.Boog a =
     option_map command.Boog (boog_with (only (files a)) (only (values library.word a)) (only (values out.word a)))
@@ -80,6 +100,10 @@ abbrev pub as_flow : Option Command → Option FlowCommand
 as_flow (Some (command.Flow c)) = Some c
 as_flow _ = None
 
+abbrev pub as_syf : Option Command → Option SyfCommand
+as_syf (Some (command.Syf c)) = Some c
+as_syf _ = None
+
 abbrev pub as_boom : Option Command → Option BoomCommand
 as_boom (Some (command.Boom c)) = Some c
 as_boom _ = None
@@ -103,6 +127,10 @@ as_cougar _ = None
 -- the command of `flow` that they spell
 abbrev pub flow_of : List (List ℕ) → Option FlowCommand
 flow_of words = as_flow (command_of words)
+
+-- the command of `syf` that they spell
+abbrev pub syf_of : List (List ℕ) → Option SyfCommand
+syf_of words = as_syf (command_of words)
 
 -- the command of `boom` that they spell
 abbrev pub boom_of : List (List ℕ) → Option BoomCommand

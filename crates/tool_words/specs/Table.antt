@@ -52,20 +52,30 @@ patterns = record { word = codes "-p"; value = codes "PATTERNS"; need = Once; fo
 abbrev pub netlist_library : Setting
 netlist_library = record { word = codes "-l"; value = codes "DIR"; need = With (codes ".vst"); form = Text }
 
-abbrev pub tracks : Setting
-tracks = record { word = codes "--tracks"; value = []; need = Once; form = Flag }
+-- how states get their codes: o, r or j, and j where it isn't given
+abbrev pub encoding : Setting
+encoding = record { word = codes "-e"; value = codes "STYLE"; need = Perhaps (Some 106); form = Letter (codes "orj") }
 
--- the budget of a diagram
+abbrev pub seed : Setting
+seed = record { word = codes "--seed"; value = codes "N"; need = Perhaps (Some 0); form = Number 0 4294967295 }
+
+-- the most nodes that a diagram may have
 abbrev pub nodes : Setting
 nodes = record { word = codes "--nodes"; value = codes "N"; need = Perhaps (Some 200000); form = Number 1 4000000 }
+
+abbrev pub tracks : Setting
+tracks = record { word = codes "--tracks"; value = []; need = Once; form = Flag }
 
 abbrev pub flow : Entry
 flow = record {
   tool = tool.Flow;
   word = codes "flow";
   endings = codes ".vbe" ∷ codes ".fsm" ∷ [];
-  settings = library ∷ out ∷ tracks ∷ nodes ∷ [];
+  settings = library ∷ out ∷ encoding ∷ tracks ∷ seed ∷ nodes ∷ [];
 }
+
+abbrev pub syf : Entry
+syf = record { tool = tool.Syf; word = codes "syf"; endings = codes ".fsm" ∷ []; settings = out ∷ encoding ∷ seed ∷ [] }
 
 abbrev pub boom : Entry
 boom = record { tool = tool.Boom; word = codes "boom"; endings = codes ".vbe" ∷ []; settings = out ∷ nodes ∷ [] }
@@ -85,7 +95,7 @@ abbrev pub cougar : Entry
 cougar = record { tool = tool.Cougar; word = codes "cougar"; endings = codes ".ap" ∷ []; settings = library ∷ out ∷ [] }
 
 abbrev pub tools : List Entry
-tools = flow ∷ boom ∷ boog ∷ asimut ∷ cougar ∷ []
+tools = flow ∷ syf ∷ boom ∷ boog ∷ asimut ∷ cougar ∷ []
 
 -- the tool with this word
 abbrev pub tool_of : List ℕ → Option Entry

@@ -1,15 +1,30 @@
 // The commands of the tools.
 ghost use Rattle.std.specs.Prelude.{◌≡◌, Some, None, IfOk, IsErrOf};
 ghost use Rattle.tool_words.specs.declared.words.WordsError.TheVariants.{Usage};
-ghost use Rattle.tool_words.specs.Commands.{command_from, command_among, command_of};
+ghost use Rattle.tool_words.specs.Table.{encoding, seed};
+ghost use Rattle.tool_words.specs.Values.{number_of};
+ghost use Rattle.tool_words.specs.Commands.{encoding_of, coding, command_from, command_among, command_of};
 ghost use Rattle.tool_words.specs.View.{entry_view};
 
 use crate::arguments::{Argument, arguments};
-use crate::table::{Entry, LIBRARY, NETLIST_LIBRARY, NODES, OUT, PATTERNS, Tool, tool_of};
+use crate::table::{
+    ENCODING, Entry, LIBRARY, NETLIST_LIBRARY, NODES, OUT, PATTERNS, SEED, Tool, tool_of,
+};
 use crate::values::{Wanted, fits, number_of, only};
 use crate::words::{Words, WordsError};
 use std::alloc::{AllocError, Global};
 use vlsi_base::FileName;
+
+/// How the states of a state machine get their codes.
+#[derive(Clone, Copy, PartialEq, Eq)]
+pub enum Encoding {
+    /// One bit for each state.
+    OneHot,
+    /// Numbers shuffled by random words.
+    Random,
+    /// Numbers that bring states near each other of which one leads to the other.
+    Adjacent,
+}
 
 /// What `flow` is asked to do: to lay the source out with the cells of the library, in tracks.
 #[derive(Drop)]
@@ -20,8 +35,23 @@ pub struct FlowCommand {
     pub library: FileName,
     /// The name of the layout, without `.ap`.
     pub out: FileName,
+    /// How the states of a source in `.fsm` get their codes, and the seed of the random words.
+    pub encoding: Encoding,
+    pub seed: u32,
     /// The most nodes that a diagram may have.
     pub nodes: u32,
+}
+
+/// What `syf` is asked to do: to make a data-flow text of a state machine.
+#[derive(Drop)]
+pub struct SyfCommand {
+    /// The source's file, whose name ends in `.fsm`.
+    pub source: FileName,
+    /// The name of the text, without `.vbe`.
+    pub out: FileName,
+    /// How the states get their codes, and the seed of the random words.
+    pub encoding: Encoding,
+    pub seed: u32,
 }
 
 /// What `boom` is asked to do: to make the source smaller.
@@ -81,11 +111,34 @@ pub struct CougarCommand {
 #[derive(Drop)]
 pub enum Command {
     Flow(FlowCommand),
+    Syf(SyfCommand),
     Boom(BoomCommand),
     Boog(BoogCommand),
     Asimut(AsimutCommand),
     AsimutNetlist(AsimutNetlistCommand),
     Cougar(CougarCommand),
+}
+
+// The encoding with this letter.
+fn encoding_of(letter: u32) -> Encoding
+    ensures { result ≡ encoding_of letter }
+{
+    if letter == 111 {
+        return Encoding::OneHot;
+    }
+    if letter == 114 {
+        return Encoding::Random;
+    }
+    Encoding::Adjacent
+}
+
+// How states get their codes, and the seed.
+fn coding(arguments: &[Argument]) -> Option<(Encoding, u32)>
+    ensures { result ≡ coding (number_of encoding arguments.now) (number_of seed arguments.now) }
+{
+    let letter = number_of(arguments, ENCODING)?;
+    let seed = number_of(arguments, SEED)?;
+    Some((encoding_of(letter), seed))
 }
 
 fn flow(alloc: Global, arguments: &[Argument]) -> Result<Command, WordsError>
@@ -95,15 +148,40 @@ fn flow(alloc: Global, arguments: &[Argument]) -> Result<Command, WordsError>
     let source = only(arguments, Wanted::File);
     let library = only(arguments, Wanted::Value(LIBRARY.word));
     let out = only(arguments, Wanted::Value(OUT.word));
-    let nodes = number_of(arguments, NODES);
-    let (Some(source), Some(library), Some(out), Some(nodes)) = (source, library, out, nodes) else {
+    let (Some(source), Some(library), Some(out)) = (source, library, out) else {
+        return Err(WordsError::Usage);
+    };
+    let (Some((encoding, seed)), Some(nodes)) = (coding(arguments), number_of(arguments, NODES))
+    else {
         return Err(WordsError::Usage);
     };
     Ok(Command::Flow(FlowCommand {
         source: FileName::from_bytes(alloc, source)?,
         library: FileName::from_bytes(alloc, library)?,
         out: FileName::from_bytes(alloc, out)?,
+        encoding,
+        seed,
         nodes,
+    }))
+}
+
+fn syf(alloc: Global, arguments: &[Argument]) -> Result<Command, WordsError>
+    ensures ok { IfOk result (λ command. command_from Tool.Syf arguments.now ≡ Some command) }
+    ensures usage { IsErrOf result Usage → command_from Tool.Syf arguments.now ≡ None }
+{
+    let source = only(arguments, Wanted::File);
+    let out = only(arguments, Wanted::Value(OUT.word));
+    let (Some(source), Some(out)) = (source, out) else {
+        return Err(WordsError::Usage);
+    };
+    let Some((encoding, seed)) = coding(arguments) else {
+        return Err(WordsError::Usage);
+    };
+    Ok(Command::Syf(SyfCommand {
+        source: FileName::from_bytes(alloc, source)?,
+        out: FileName::from_bytes(alloc, out)?,
+        encoding,
+        seed,
     }))
 }
 
@@ -189,6 +267,7 @@ fn read_command(alloc: Global, entry: Entry, arguments: &[Argument]) -> Result<C
     }
     match entry.tool {
         Tool::Flow => flow(alloc, arguments),
+        Tool::Syf => syf(alloc, arguments),
         Tool::Boom => boom(alloc, arguments),
         Tool::Boog => boog(alloc, arguments),
         Tool::Asimut => asimut(alloc, arguments),

@@ -11,7 +11,7 @@ mod words;
 
 pub use command::{
     AsimutCommand, AsimutNetlistCommand, BoogCommand, BoomCommand, Command, CougarCommand,
-    FlowCommand, read_words,
+    Encoding, FlowCommand, SyfCommand, read_words,
 };
 pub use laws::words_law;
 pub use usage::usage_line;

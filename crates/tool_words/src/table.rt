@@ -9,6 +9,7 @@ use crate::words::is_same;
 #[derive(Clone, Copy)]
 pub enum Tool {
     Flow,
+    Syf,
     Boom,
     Boog,
     Asimut,
@@ -86,7 +87,22 @@ pub(crate) const NETLIST_LIBRARY: Setting = Setting {
     form: Form::Text,
 };
 
-/// The budget of a diagram.
+/// How states get their codes: `o`, `r` or `j`.
+pub(crate) const ENCODING: Setting = Setting {
+    word: "-e",
+    value: "STYLE",
+    need: Need::Perhaps(Some(106)),
+    form: Form::Letter("orj"),
+};
+
+pub(crate) const SEED: Setting = Setting {
+    word: "--seed",
+    value: "N",
+    need: Need::Perhaps(Some(0)),
+    form: Form::Number(0, u32::MAX),
+};
+
+/// The most nodes that a diagram may have.
 pub(crate) const NODES: Setting = Setting {
     word: "--nodes",
     value: "N",
@@ -106,7 +122,13 @@ const TOOLS: &[Entry] = &[
         tool: Tool::Flow,
         word: "flow",
         endings: &[".vbe", ".fsm"],
-        settings: &[LIBRARY, OUT, TRACKS, NODES],
+        settings: &[LIBRARY, OUT, ENCODING, TRACKS, SEED, NODES],
+    },
+    Entry {
+        tool: Tool::Syf,
+        word: "syf",
+        endings: &[".fsm"],
+        settings: &[OUT, ENCODING, SEED],
     },
     Entry {
         tool: Tool::Boom,
