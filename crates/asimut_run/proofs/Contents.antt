@@ -60,5 +60,4 @@ changes_no_file c before now s h = by s h where
   by (status.Library fault) h = left (status.Library fault) h.0 h.1 h.2
   by (status.NoCover kind) h = left (status.NoCover kind) h.0 h.1 h.2
   by (status.Budget equation reached) h = left (status.Budget equation reached) h.0 h.1 h.2
-  by status.Beyond h = left status.Beyond h.0 h.1 h.2
   by (status.No v) h = left (status.No v) h.0 h.1 h.2

@@ -55,5 +55,4 @@ by_netlist c source list cells l m s library machine h = by s h where
   by (status.NoPath net terminal) k = told (status.NoPath net terminal) k
   by (status.File cause name) k = told (status.File cause name) k
   by (status.Limit limit) k = told (status.Limit limit) k
-  by status.Beyond k = told status.Beyond k
   by (status.No verdict) k = told (status.No verdict) k

@@ -41,5 +41,4 @@ by_budget c source m s machine small h = by s h where
   by (status.NoPath net terminal) k = told (status.NoPath net terminal) k
   by (status.File cause name) k = told (status.File cause name) k
   by (status.Limit limit) k = told (status.Limit limit) k
-  by status.Beyond k = told status.Beyond k
   by (status.No verdict) k = told (status.No verdict) k

@@ -40,7 +40,6 @@ judged A P told (status.Budget equation reached) k = told (status.Budget equatio
 judged A P told (status.NoPath net terminal) k = told (status.NoPath net terminal) k
 judged A P told (status.File cause name) k = told (status.File cause name) k
 judged A P told (status.Limit limit) k = told (status.Limit limit) k
-judged A P told status.Beyond k = told status.Beyond k
 judged A P told (status.No verdict) k = told (status.No verdict) k
 
 module _ (c : CougarCommand) (source list : List ℕ) (cells : List (List ℕ)) where

@@ -42,7 +42,6 @@ memory_or (status.Budget equation reached) P Q f h = f h
 memory_or (status.NoPath net terminal) P Q f h = f h
 memory_or (status.File cause name) P Q f h = f h
 memory_or (status.Limit limit) P Q f h = f h
-memory_or status.Beyond P Q f h = f h
 memory_or (status.No verdict) P Q f h = f h
 
 -- ---- readers
@@ -90,7 +89,6 @@ fair_text file R (status.NoCover kind) P o p = absurd o
 fair_text file R (status.Budget equation reached) P o p = absurd o
 fair_text file R (status.NoPath net terminal) P o p = absurd o
 fair_text file R (status.File cause name) P o p = absurd o
-fair_text file R status.Beyond P o p = absurd o
 fair_text file R (status.No verdict) P o p = absurd o
 
 fair_source : (c : FlowCommand) (source list : List ℕ) (s : Status) (P : Type 0) → IsNoSource c source list s → P → IsFair s None P
@@ -124,7 +122,6 @@ judged c source list cells s h = by s h where
   by (status.NoPath net terminal) k = told (status.NoPath net terminal) k
   by (status.File cause name) k = told (status.File cause name) k
   by (status.Limit limit) k = told (status.Limit limit) k
-  by status.Beyond k = told status.Beyond k
   by (status.No verdict) k = told (status.No verdict) k
 
 pub by_unread : (c : FlowCommand) (source list : List ℕ) (cells : List (List ℕ)) (s : Status) → MemoryOr s (IsUnread c source list cells s)
@@ -149,5 +146,3 @@ pub judged_at : (c : FlowCommand) (i : Inputs) (r : Result Product Refusal) → 
 judged_at c i (Ok p) vbe h = subst (λ b. AnswersTo b c i (Ok p)) (sym vbe) h
 judged_at c i (Err r) vbe h = subst (λ b. IsFair r.status r.part (AnswersTo b c i (Err r))) (sym vbe) h
 
-pub beyond_at : (c : FlowCommand) (i : Inputs) → is_fsm c ≡ true → flow_answers c i (Err (refusal status.Beyond None))
-beyond_at c i fsm = subst (λ b. AnswersTo b c i (Err (refusal status.Beyond None))) (sym fsm) (refl, refl)

@@ -1,5 +1,5 @@
 -- What stands behind an answer of 0, and when it has to come, said of the files themselves.
-use Rattle.std.specs.Prelude.{◌≡◌, ℕ, false, List, Option, Some, IfSome}
+use Rattle.std.specs.Prelude.{◌≡◌, ℕ, List, Option, Some, IfSome}
 use Rattle.std.specs.FinMap.{insert}
 use Rattle.vlsi_shelf.specs.Files.{Files}
 use Rattle.vlsi_shelf.specs.Counts.{Rose}
@@ -13,14 +13,12 @@ use Rattle.tool_words.specs.declared.command.FlowCommand.{FlowCommand}
 use Rattle.tool_drive.specs.Outside.{Outside, NothingFailed}
 use Rattle.tool_drive.specs.Held.{Holds, AreHad}
 use Rattle.flow_run.specs.Drawn.{layout_name}
-use Rattle.vbe_io.specs.Text.{IsVbe}
-use Rattle.flow_run.specs.Flow.{is_fsm, AreRead, IsWithinNodes}
+use Rattle.flow_run.specs.Origin.{Origin, IsSourceFor}
+use Rattle.flow_run.specs.Flow.{AreRead, IsWithinNodes}
 use Rattle.flow_run.specs.RightLayout.{IsRightLayout}
 
--- The source isn't a state machine's, and SOURCE, the library's CATAL, and the behaviour and the layout of each cell that this uses are
--- there, none too long, with these bytes.
+-- SOURCE, the library's CATAL, and the behaviour and the layout of each cell that this uses are there, none too long, with these bytes.
 pub record Stand (files : Files) (c : FlowCommand) (source catal : List ℕ) (cells : List (List ℕ)) : Type 0 where
-  pub no_fsm : is_fsm c ≡ false
   pub source_is : Holds files c.source source
   pub catal_is : Holds files (catal_name c.library) catal
   pub cells_are : AreHad files (cell_files c.library (cells_in catal)) cells
@@ -32,12 +30,13 @@ pub record IsDrawn (old : Files) (now : Option Files) (c : FlowCommand) (report 
   pub catal : List ℕ
   pub cells : List (List ℕ)
   pub stood : Stand old c source catal cells
+  pub o : Origin
   pub m : Machine
   pub l : Library
-  pub read : AreRead source catal cells m l
+  pub read : AreRead c source catal cells o m l
   pub bytes : List ℕ
   pub written : now ≡ Some (insert old (layout_name c.out) bytes)
-  pub right : IsRightLayout bytes m l report
+  pub right : IsRightLayout bytes o m l report
 
 -- the layout stands whole, on a shelf that tells its files
 abbrev pub StandsWhole : Outside → Outside → FlowCommand → List ℕ → Type 0
@@ -58,10 +57,11 @@ pub record IsFree (c : FlowCommand) (before now : Outside) : Type 0 where
   pub catal : List ℕ
   pub cells : List (List ℕ)
   pub stood : Stand files c source catal cells
+  pub o : Origin
   pub m : Machine
   pub l : Library
-  pub are_read : AreRead source catal cells m l
+  pub are_read : AreRead c source catal cells o m l
   pub covered : Covers l m
-  pub within : (k : Machine) → IsVbe source k → IsWithinNodes k c.nodes
+  pub within : (x : Origin) (k : Machine) → IsSourceFor c source x k → IsWithinNodes k c.nodes
   pub read : NothingFailed before now
   pub printed : Rose before.faults now.faults → ⊥

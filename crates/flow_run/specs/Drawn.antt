@@ -16,14 +16,22 @@ use Rattle.boom_opt.specs.Optimised.{IsOptimised}
 use Rattle.boog_run.specs.Boog.{IsNetlistFor}
 use Rattle.boog_run.specs.declared.netlist.TheConstants.{MOST_SIZE}
 use Rattle.tool_drive.specs.declared.tool.Product.{Product}
+use Rattle.syf_machine.specs.Meaning.{DoesAs}
+use Rattle.flow_run.specs.Origin.{Origin, equations, states}
 use Rattle.flow_run.specs.RightLayout.{IsRightLayout}
 
 abbrev pub layout_name : List ℕ → List ℕ
 layout_name out = out ++ codes ".ap"
 
+-- a state machine's machine does what it does
+abbrev pub DoesAsOrigin : Origin → Machine → Type 0
+DoesAsOrigin equations m = Unit {0}
+DoesAsOrigin (states f k) m = DoesAs f k m
+
 -- A netlist for a machine as it was made smaller, both small enough and with names that can be written, of a library whose cells may
 -- be drawn with tracks.
-pub record MayBeDrawn (l : Library) (m : Machine) (n : Netlist) : Type 0 where
+pub record MayBeDrawn (l : Library) (from : Origin) (m : Machine) (n : Netlist) : Type 0 where
+  pub origin : DoesAsOrigin from m
   pub o : Machine
   pub optimised : IsOptimised m o
   pub netlist : IsNetlistFor l o n
@@ -42,8 +50,8 @@ abbrev pub IsLengthOf : Library → Netlist → ℕ → Type 0
 IsLengthOf l n long = (k : Seen) → IsSeenAs n k → long ≡ half_perimeter k l (row_of k)
 
 -- NAME.ap is a right layout of the machine by this library, and the report on it is printed
-pub record IsDrawnAs (out : List ℕ) (m : Machine) (l : Library) (p : Product) : Type 0 where
+pub record IsDrawnAs (out : List ℕ) (o : Origin) (m : Machine) (l : Library) (p : Product) : Type 0 where
   pub bytes : List ℕ
   pub name : p.name ≡ layout_name out
   pub file : p.file ≡ Some bytes
-  pub right : IsRightLayout bytes m l p.text
+  pub right : IsRightLayout bytes o m l p.text

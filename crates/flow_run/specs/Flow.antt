@@ -1,9 +1,8 @@
 -- What `flow` reads and answers.
-use Rattle.std.specs.Prelude.{◌≡◌, ℕ, ◌<◌, ◌≤◌, Bool, true, false, List, [], ◌∷◌, get_or, None, Result, Ok, Err, codes, nat_eq, if◌then◌else◌}
-use Rattle.std.specs.List.{All, ends_with}
+use Rattle.std.specs.Prelude.{◌≡◌, ℕ, ◌<◌, ◌≤◌, true, List, [], ◌∷◌, get_or, None, Result, Ok, Err}
+use Rattle.std.specs.List.{All}
 use Rattle.machine_meaning.specs.Machine.{Machine}
 use Rattle.machine_meaning.specs.Size.{machine_size}
-use Rattle.vbe_io.specs.Text.{IsVbe, IsVbeRefusal}
 use Rattle.catal.specs.declared.error.CatalError.{CatalError}
 use Rattle.catal.specs.Catal.{IsCatal, Refused}
 use Rattle.catal.specs.Cells.{cells_in}
@@ -27,29 +26,26 @@ use Rattle.tool_drive.specs.declared.tool.Product.{Product}
 use Rattle.tool_drive.specs.declared.tool.Refusal.{Refusal}
 use Rattle.tool_drive.specs.Plan.{Plan, Inputs, limited}
 use Rattle.tool_drive.specs.Refusals.{OfFile}
+use Rattle.flow_run.specs.Origin.{Origin, IsSourceFor, IsSourceRefusal}
 use Rattle.flow_run.specs.Drawn.{IsDrawnAs}
 
--- a state machine's source
-abbrev pub is_fsm : FlowCommand → Bool
-is_fsm c = ends_with nat_eq c.source (codes ".fsm")
-
--- No file where the source is a state machine's. Else SOURCE, then CATAL, and then the files of the cells that CATAL uses.
+-- SOURCE, then CATAL, and then the files of the cells that CATAL uses
 abbrev pub flow_plan : FlowCommand → Plan
 flow_plan c = record {
-  first = if is_fsm c then [] else limited c.source ∷ limited (catal_name c.library) ∷ [];
-  more = λ read. if is_fsm c then [] else cell_files c.library (cells_in (get_or read 1 []));
+  first = limited c.source ∷ limited (catal_name c.library) ∷ [];
+  more = λ read. cell_files c.library (cells_in (get_or read 1 []));
 }
 
 -- CATAL lists cells, and the source is this machine, which isn't too large.
-pub record IsSourceOf (source catal : List ℕ) (m : Machine) : Type 0 where
+pub record IsSourceOf (c : FlowCommand) (source catal : List ℕ) (o : Origin) (m : Machine) : Type 0 where
   pub names : List (List ℕ)
   pub uses : IsCatal catal names
-  pub machine : IsVbe source m
+  pub machine : IsSourceFor c source o m
   pub small : machine_size m ≤ MOST_SIZE
 
 -- The source is this machine, which isn't too large, and CATAL and the files are this library, whose cells may be drawn with tracks.
-pub record AreRead (source catal : List ℕ) (cells : List (List ℕ)) (m : Machine) (l : Library) : Type 0 where
-  pub machine : IsVbe source m
+pub record AreRead (c : FlowCommand) (source catal : List ℕ) (cells : List (List ℕ)) (o : Origin) (m : Machine) (l : Library) : Type 0 where
+  pub machine : IsSourceFor c source o m
   pub small : machine_size m ≤ MOST_SIZE
   pub library : IsLibraryOf true catal cells l
 
@@ -60,34 +56,35 @@ IsWithinNodes m budget = All (λ r. IsOverBudget m budget r → ⊥) (roots m)
 -- Source and library are read, the library has a usable cell of each kind that mapping needs, no diagram of the source's roots is over
 -- the budget, and NAME.ap is a right layout of the source by this library, on which the report is what is printed.
 pub record IsLaidOut (c : FlowCommand) (source catal : List ℕ) (cells : List (List ℕ)) (p : Product) : Type 0 where
+  pub o : Origin
   pub m : Machine
   pub l : Library
-  pub read : AreRead source catal cells m l
+  pub read : AreRead c source catal cells o m l
   pub covered : Covers l m
   pub within : IsWithinNodes m c.nodes
-  pub drawn : IsDrawnAs c.out m l p
+  pub drawn : IsDrawnAs c.out o m l p
 
 -- Why there is no source that can be laid out, in this order: the lines of CATAL and their number; the text of the source and its
 -- ports; its size.
 pub data IsNoSource (c : FlowCommand) (source catal : List ℕ) (s : Status) : Type 0 where
   no_list : (fault : CatalError) → Refused catal fault → s ≡ status_of (refused fault) → IsNoSource c source catal s
-  no_text : (names : List (List ℕ)) → IsCatal catal names → OfFile c.source (IsVbeRefusal source) s → IsNoSource c source catal s
-  over_size : (names : List (List ℕ)) (m : Machine) → IsCatal catal names → IsVbe source m → MOST_SIZE < machine_size m → s ≡ size_limit m
-      → IsNoSource c source catal s
+  no_text : (names : List (List ℕ)) → IsCatal catal names → OfFile c.source (IsSourceRefusal c source) s → IsNoSource c source catal s
+  over_size : (names : List (List ℕ)) (o : Origin) (m : Machine) → IsCatal catal names → IsSourceFor c source o m
+      → MOST_SIZE < machine_size m → s ≡ size_limit m → IsNoSource c source catal s
 
 -- What isn't read: the source; or, where this is read, the first cell of the library that is none.
 pub data IsUnread (c : FlowCommand) (source catal : List ℕ) (cells : List (List ℕ)) (s : Status) : Type 0 where
   no_source : IsNoSource c source catal s → IsUnread c source catal cells s
-  no_cell : (m : Machine) (names : List (List ℕ)) (e : LibError) → IsSourceOf source catal m → IsCatal catal names
+  no_cell : (o : Origin) (m : Machine) (names : List (List ℕ)) (e : LibError) → IsSourceOf c source catal o m → IsCatal catal names
       → IsFirstRefused (IsCell true) (IsCellRefusal true) (sources names cells) e → s ≡ status_of e → IsUnread c source catal cells s
 
 -- Why a source has no layout: something isn't read; or else a kind is the first of those that are asked for which no usable cell has;
 -- or else a root is the first whose diagram is over the budget.
 pub data IsRefused (c : FlowCommand) (source catal : List ℕ) (cells : List (List ℕ)) (s : Status) : Type 0 where
   unread : IsUnread c source catal cells s → IsRefused c source catal cells s
-  uncovered : (m : Machine) (l : Library) (k : Kind) → AreRead source catal cells m l → IsFirstMissing l.cells k (needed (has_registers m))
-      → s ≡ status.NoCover k → IsRefused c source catal cells s
-  over_budget : (m : Machine) (l : Library) → AreRead source catal cells m l → Covers l m → IsBudgetStatus m c.nodes s
+  uncovered : (o : Origin) (m : Machine) (l : Library) (k : Kind) → AreRead c source catal cells o m l
+      → IsFirstMissing l.cells k (needed (has_registers m)) → s ≡ status.NoCover k → IsRefused c source catal cells s
+  over_budget : (o : Origin) (m : Machine) (l : Library) → AreRead c source catal cells o m l → Covers l m → IsBudgetStatus m c.nodes s
       → IsRefused c source catal cells s
 
 -- the layout is written and the report is printed, or one of these refusals
@@ -95,14 +92,5 @@ abbrev pub LaysOut : FlowCommand → List ℕ → List ℕ → List (List ℕ) �
 LaysOut c source catal cells (Ok p) = IsLaidOut c source catal cells p
 LaysOut c source catal cells (Err r) = (r.part ≡ None) × IsRefused c source catal cells r.status
 
--- state machines are beyond what is built
-abbrev pub IsBeyond : Result Product Refusal → Type 0
-IsBeyond (Ok p) = ⊥
-IsBeyond (Err r) = (r.part ≡ None) × (r.status ≡ status.Beyond)
-
-abbrev pub AnswersTo : Bool → FlowCommand → Inputs → Result Product Refusal → Type 0
-AnswersTo true c i r = IsBeyond r
-AnswersTo false c i r = LaysOut c (get_or i.first 0 []) (get_or i.first 1 []) i.more r
-
 abbrev pub flow_answers : FlowCommand → Inputs → Result Product Refusal → Type 0
-flow_answers c i r = AnswersTo (is_fsm c) c i r
+flow_answers c i r = LaysOut c (get_or i.first 0 []) (get_or i.first 1 []) i.more r

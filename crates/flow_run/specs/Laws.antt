@@ -5,13 +5,13 @@ use Rattle.cell_model.specs.Library.{Library}
 use Rattle.boog_map.specs.Netlist.{Covers}
 use Rattle.tool_words.specs.declared.command.FlowCommand.{FlowCommand}
 use Rattle.tool_drive.specs.declared.status.Status.{Status}
-use Rattle.vbe_io.specs.Text.{IsVbe}
+use Rattle.flow_run.specs.Origin.{Origin, IsSourceFor}
 use Rattle.flow_run.specs.Flow.{AreRead, IsWithinNodes, IsRefused}
 
 -- Where the source is a machine that isn't too large, the files are a library that covers it, and no diagram is over the budget, none
 -- of the causes of a refusal holds of them.
 abbrev pub WhatIsReadIsNeverRefused : Type 0
 WhatIsReadIsNeverRefused =
-    (c : FlowCommand) (source catal : List ℕ) (cells : List (List ℕ)) (m : Machine) (l : Library) (s : Status)
-    → AreRead source catal cells m l → Covers l m → ((k : Machine) → IsVbe source k → IsWithinNodes k c.nodes)
+    (c : FlowCommand) (source catal : List ℕ) (cells : List (List ℕ)) (o : Origin) (m : Machine) (l : Library) (s : Status)
+    → AreRead c source catal cells o m l → Covers l m → ((x : Origin) (k : Machine) → IsSourceFor c source x k → IsWithinNodes k c.nodes)
     → IsRefused c source catal cells s → ⊥

@@ -1,3 +1,6 @@
+pub mod Origin
+pub mod States
+pub mod View
 pub mod Report
 pub mod Lean
 pub mod RightLayout

@@ -12,6 +12,8 @@ use Rattle.net_meaning.specs.Netlist.{Netlist}
 use Rattle.net_meaning.specs.Agreement.{register_instance}
 use Rattle.ocp_rows.specs.Placement.{Placement, net_count}
 use Rattle.ocp_rows.specs.Length.{half_perimeter}
+use Rattle.syf_run.specs.Syf.{code_lines}
+use Rattle.flow_run.specs.Origin.{Origin, equations, states}
 
 -- the name of the source's entity on a line
 abbrev pub source_line : List ℕ → List ℕ
@@ -29,12 +31,17 @@ abbrev pub register_lines : ℕ → List Register → List ℕ
 register_lines k [] = []
 register_lines k (r ∷ rest) = register_line k r.name ++ register_lines (suc k) rest
 
--- The report by its numbers: the source, its registers, its size, the most nodes that a diagram of its roots has, how many cells and
+-- what stands behind the source: which register an instance holds, or for a state machine the code of each state
+abbrev pub held_lines : Origin → Machine → List ℕ
+held_lines equations m = register_lines 0 m.registers
+held_lines (states f k) m = code_lines f.states k.codes
+
+-- The report by its numbers: the source, its registers or codes, its size, the most nodes that a diagram of its roots has, how many cells and
 -- nets the layout has, the length of its nets and the number of its breaches.
-abbrev pub report_by : Machine → ℕ → ℕ → ℕ → ℕ → ℕ → List ℕ
-report_by m nodes cells nets length breaches = together (
+abbrev pub report_by : Origin → Machine → ℕ → ℕ → ℕ → ℕ → ℕ → List ℕ
+report_by o m nodes cells nets length breaches = together (
     source_line m.name
-    ∷ register_lines 0 m.registers
+    ∷ held_lines o m
     ∷ count_line (codes "size") (machine_size m)
     ∷ count_line (codes "nodes") nodes
     ∷ count_line (codes "cells") cells
@@ -44,5 +51,5 @@ report_by m nodes cells nets length breaches = together (
     ∷ (codes "accepted" ++ line_end) ∷ [])
 
 -- The report on a machine's netlist and its placement.
-abbrev pub report_of : Machine → ℕ → Netlist → Library → Placement → ℕ → List ℕ
-report_of m nodes n l p breaches = report_by m nodes (length n.instances) (net_count n) (half_perimeter n l p) breaches
+abbrev pub report_of : Origin → Machine → ℕ → Netlist → Library → Placement → ℕ → List ℕ
+report_of o m nodes n l p breaches = report_by o m nodes (length n.instances) (net_count n) (half_perimeter n l p) breaches

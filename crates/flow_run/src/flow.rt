@@ -10,34 +10,36 @@ ghost use Rattle.tool_drive.specs.Status.{has_line};
 ghost use Rattle.tool_drive.specs.Lines.{line_of};
 ghost use Rattle.tool_drive.specs.Refusals.{MemoryOr};
 ghost use Rattle.tool_drive.specs.Table.{IsJudged, Caused, IsComplete};
-ghost use Rattle.flow_run.specs.Flow.{is_fsm as is_state_machine, flow_plan, flow_answers, IsSourceOf, AreRead, IsNoSource, IsUnread, LaysOut};
+ghost use Rattle.flow_run.specs.Origin.{is_fsm as is_state_machine, IsSourceFor, IsSourceRefusal};
+ghost use Rattle.flow_run.specs.View.{origin_view};
+ghost use Rattle.flow_run.specs.Flow.{flow_plan, flow_answers, IsSourceOf, AreRead, IsNoSource, IsUnread, LaysOut};
 ghost use Rattle.flow_run.specs.Mapped.{IsMissingIn, IsMappedFor};
 
 use crate::layout::product;
-use crate::report::Counted;
+use crate::source::{Counted, Origin, Source};
 use boog_run::{check_size, netlist_law, netlist_of};
 use boom_run::optimise_within;
 use catal::{CatalError, read_catal};
 use cell_checks::Library;
 use cell_lib::{catal_file, library_law, library_status, named_files, read_library};
 use cell_model::first_missing;
+use fsm_io::read_fsm;
 use machine_core::Machine;
 use net_core::Netlist;
 use std::alloc::{AllocError, Global};
-use tool_drive::{
-    LibraryFault, Product, Refusal, Status, Tool, Wanted, bytes_at, drive, refused, tell,
-};
+use syf_run::{Encoded, encoded, encoded_law, style_of};
+use tool_drive::{LibraryFault, Product, Refusal, Status, Tool, Wanted, bytes_at, drive, refused};
 use tool_words::FlowCommand;
 use vbe_io::read_vbe;
-use vlsi_base::FileBytes;
+use vlsi_base::{FileBytes, ReadError};
 use vlsi_shelf::{Shelf, Sink};
 
 /// `flow`, with what it is asked: it lays the source out with usable cells of the library, writes the layout to NAME.ap, and prints
 /// the report on it.
 ///
 /// All files are read first: SOURCE, CATAL, and the behaviour and the layout of each cell that this uses. Then it is refused, in this
-/// order: by `Library`, or a limit of CATAL, at the first line at fault; by `Source`, or a limit of the text; by `Limit` of `Size`,
-/// where the machine weighs more than `MOST_SIZE`; by `Library`, or a limit of a cell, at the first cell that fails a check, those for
+/// order: by `Library`, or a limit of CATAL, at the first line at fault; by `Source`, or a limit of the text, as a state machine where
+/// its name ends in `.fsm`, and else as a data-flow text; by `Limit` of `Size`, where the machine weighs more than `MOST_SIZE`; by `Library`, or a limit of a cell, at the first cell that fails a check, those for
 /// tracks among them; by `NoCover`, where the library has no usable cell of a kind; by `Budget`, at the first root whose diagram has
 /// more nodes than asked for. Memory goes by the files, the machine, one diagram, the netlist and the lines of the layout.
 #[derive(Drop)]
@@ -45,10 +47,10 @@ struct Flow<'a> {
     command: &'a FlowCommand,
 }
 
-/// What was read: the source's machine, and the library.
+/// What was read: the source, and the library.
 #[derive(Drop)]
 struct Read {
-    machine: Machine,
+    source: Source,
     library: Library,
 }
 
@@ -69,26 +71,47 @@ fn list_status(error: CatalError) -> Status
     }
 }
 
-// The machine of SOURCE, behind the list of the library's cells.
+// The machine of a data-flow text, or of a state machine by codes of its states.
+fn source_of(alloc: Global, command: &FlowCommand, source: &[u8]) -> Result<Source, ReadError>
+    ensures accepted { IfOk result (λ r. IsSourceFor command.now source.now (origin_view r.origin) r.machine) }
+    ensures refused { IfErr result (λ e. IsSourceRefusal command.now source.now e) }
+{
+    if !is_fsm(command) {
+        let machine = read_vbe(alloc, source)?;
+        return Ok(Source {
+            origin: Origin::Equations,
+            machine,
+        });
+    }
+    let states = read_fsm(alloc, source)?;
+    let style = style_of(command.encoding, command.seed);
+    let Encoded { codes, machine } = encoded(alloc, &states, style)?;
+    Ok(Source {
+        origin: Origin::States(states, codes),
+        machine,
+    })
+}
+
+// What SOURCE is, behind the list of the library's cells.
 fn read_source(
     alloc: Global,
     command: &FlowCommand,
     source: &[u8],
     catal: &[u8],
-) -> Result<Machine, Status>
-    ensures accepted { IfOk result (λ m. IsSourceOf source.now catal.now m) }
+) -> Result<Source, Status>
+    ensures accepted { IfOk result (λ r. IsSourceOf command.now source.now catal.now (origin_view r.origin) r.machine) }
     ensures refused { IfErr result (λ s. MemoryOr s (IsNoSource command.now source.now catal.now s)) }
 {
     match read_catal(alloc, catal) {
         Ok(_) => {}
         Err(error) => return Err(list_status(error)),
     }
-    let machine = match read_vbe(alloc, source) {
-        Ok(machine) => machine,
+    let read = match source_of(alloc, command, source) {
+        Ok(read) => read,
         Err(error) => return Err(refused(alloc, &command.source, error)),
     };
-    match check_size(&machine) {
-        Ok(()) => Ok(machine),
+    match check_size(&read.machine) {
+        Ok(()) => Ok(read),
         Err(status) => Err(status),
     }
 }
@@ -101,15 +124,16 @@ fn read_all(
     catal: &[u8],
     cells: &[FileBytes],
 ) -> Result<Read, Status>
-    ensures read { IfOk result (λ r. AreRead source.now catal.now cells.now r.machine r.library) }
+    ensures read { IfOk result (λ r. AreRead command.now source.now catal.now cells.now (origin_view r.source.origin) r.source.machine
+        r.library) }
     ensures refused { IfErr result (λ s. MemoryOr s (IsUnread command.now source.now catal.now cells.now s)) }
 {
-    let machine = match read_source(alloc, command, source, catal) {
-        Ok(machine) => machine,
+    let source = match read_source(alloc, command, source, catal) {
+        Ok(source) => source,
         Err(status) => return Err(status),
     };
     match read_library(alloc, catal, cells, true) {
-        Ok(library) => Ok(Read { machine, library }),
+        Ok(library) => Ok(Read { source, library }),
         Err(error) => Err(library_status(error)),
     }
 }
@@ -173,21 +197,23 @@ fn laid_out(
     // What is read has names that can be written, and is small enough.
     library_law();
     netlist_law();
+    encoded_law();
     let read = match read_all(alloc, command, source, catal, cells) {
         Ok(read) => read,
         Err(status) => return Err(Refusal::plain(status)),
     };
-    let Read { machine, library } = read;
-    match check_kinds(&machine, &library) {
+    let Read { source, library } = read;
+    match check_kinds(&source.machine, &library) {
         Ok(()) => {}
         Err(status) => return Err(Refusal::plain(status)),
     }
-    let Mapped { nodes, netlist } = match netlist_within(alloc, &machine, &library, command.nodes) {
+    let mapped = netlist_within(alloc, &source.machine, &library, command.nodes);
+    let Mapped { nodes, netlist } = match mapped {
         Ok(mapped) => mapped,
         Err(status) => return Err(Refusal::plain(status)),
     };
-    let source = Counted { machine, nodes };
-    let drawn = product(alloc, &command.out, &source, &netlist, &library)?;
+    let counted = Counted { source, nodes };
+    let drawn = product(alloc, &command.out, &counted, &netlist, &library)?;
     Ok(drawn)
 }
 
@@ -200,18 +226,12 @@ impl Tool for Flow<'_> {
 
     fn first(&self, alloc: Global) -> Result<Vec<Wanted>, AllocError> {
         let mut wanted = Vec::new(alloc);
-        if is_fsm(self.command) {
-            return Ok(wanted);
-        }
         wanted.push(Wanted::limited(self.command.source.copy(alloc)?))?;
         wanted.push(catal_file(alloc, &self.command.library)?)?;
         Ok(wanted)
     }
 
     fn more(&self, alloc: Global, first: &[FileBytes]) -> Result<Vec<Wanted>, AllocError> {
-        if is_fsm(self.command) {
-            return Ok(Vec::new(alloc));
-        }
         named_files(alloc, &self.command.library, bytes_at(first, 1))
     }
 
@@ -221,9 +241,6 @@ impl Tool for Flow<'_> {
         first: &[FileBytes],
         more: &[FileBytes],
     ) -> Result<Product, Refusal> {
-        if is_fsm(self.command) {
-            return Err(Refusal::plain(Status::Beyond));
-        }
         laid_out(
             alloc,
             self.command,
@@ -234,14 +251,13 @@ impl Tool for Flow<'_> {
     }
 }
 
-/// Runs `flow` by the driver. A state machine's source is refused before it.
+/// Runs `flow` by the driver.
 pub fn run_flow<S: Shelf, T: Sink>(
     alloc: Global,
     command: &FlowCommand,
     shelf: &mut S,
     out: &mut T,
 ) -> Status
-    ensures fsm { is_state_machine command.now ≡ true → (result ≡ Status.Beyond) × (shelf.new ≡ shelf.old) }
     ensures cause { Caused (flow_plan command.now) (flow_answers command.now)
         (outside (S.seen shelf.old) (T.seen out.old)) (outside (S.seen shelf.new) (T.seen out.new)) result }
     ensures complete { IsComplete (flow_plan command.now) (flow_answers command.now)
@@ -249,10 +265,6 @@ pub fn run_flow<S: Shelf, T: Sink>(
     ensures line { has_line result ≡ true → IsLine (T.seen out.old) (T.seen out.new) (line_of (codes "flow") result) }
     ensures never_usage { result ≡ Status.Usage → ⊥ }
 {
-    if is_fsm(command) {
-        tell(alloc, b"flow", &Status::Beyond, out);
-        return Status::Beyond;
-    }
     let tool = Flow { command };
     drive(alloc, b"flow", &tool, shelf, out)
 }

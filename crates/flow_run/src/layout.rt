@@ -4,9 +4,11 @@ ghost use Rattle.cell_checks.specs.Checked.{IsChecked as HasPassed};
 ghost use Rattle.machine_roots.specs.Roots.{IsGreatestDcount};
 ghost use Rattle.ocp_place.specs.Drawable.{IsDrawableIn};
 ghost use Rattle.route_draw.specs.Drawn.{IsDrawnInTracks};
+ghost use Rattle.flow_run.specs.View.{origin_view};
 ghost use Rattle.flow_run.specs.Drawn.{layout_name as layout_name_of, MayBeDrawn, IsLengthOf, IsDrawnAs};
 
-use crate::report::{Counted, report};
+use crate::report::report;
+use crate::source::Counted;
 use ap_io::{Figure, write_ap, written_is_read_again};
 use cell_checks::Library;
 use cell_pins::pin_table;
@@ -60,13 +62,13 @@ fn layout_name(alloc: Global, out: &FileName) -> Result<FileName, AllocError>
 pub(crate) fn product(
     alloc: Global,
     out: &FileName,
-    source: &Counted,
+    counted: &Counted,
     netlist: &Netlist,
     library: &Library,
 ) -> Result<Product, AllocError>
-    requires netlist { MayBeDrawn library.now source.now.machine netlist.now }
-    requires nodes { IsGreatestDcount source.now.machine source.now.nodes }
-    ensures { IfOk result (λ p. IsDrawnAs out.now source.now.machine library.now p) }
+    requires netlist { MayBeDrawn library.now (origin_view counted.now.source.origin) counted.now.source.machine netlist.now }
+    requires nodes { IsGreatestDcount counted.now.source.machine counted.now.nodes }
+    ensures { IfOk result (λ p. IsDrawnAs out.now (origin_view counted.now.source.origin) counted.now.source.machine library.now p) }
 {
     right_is_well_formed();
     right_may_be_drawn();
@@ -79,7 +81,7 @@ pub(crate) fn product(
     let _ = pins;
     let sheet = drawing(alloc, netlist, library)?;
     let file = write_ap(alloc, &sheet.figure)?;
-    let text = report(alloc, source, netlist, sheet.wire)?;
+    let text = report(alloc, counted, netlist, sheet.wire)?;
     let name = layout_name(alloc, out)?;
     Ok(Product {
         name,

@@ -3,12 +3,15 @@ ghost use Rattle.std.specs.Prelude.{◌≡◌, ◌≤◌, ◌-◌, ◌++◌, IfO
 ghost use Rattle.machine_core.specs.View.{register_view};
 ghost use Rattle.machine_meaning.specs.Size.{machine_size as size_of};
 ghost use Rattle.boog_run.specs.declared.netlist.TheConstants.{MOST_SIZE};
-ghost use Rattle.flow_run.specs.Report.{source_line as source_line_of, count_line as count_line_of, register_line as register_line_of, register_lines as register_lines_of, report_by};
+ghost use Rattle.flow_run.specs.View.{origin_view};
+ghost use Rattle.flow_run.specs.Report.{source_line as source_line_of, count_line as count_line_of, register_line as register_line_of, register_lines as register_lines_of, held_lines as held_lines_of, report_by};
 
+use crate::source::{Counted, Origin, Source};
 use machine_core::{Machine, machine_size};
 use machine_meaning::Register;
 use net_core::Netlist;
 use std::alloc::{AllocError, Global};
+use syf_run::code_lines;
 use vlsi_base::{FileBytes, Name, Text};
 
 fn source_line(alloc: Global, name: &Text) -> Result<FileBytes, AllocError>
@@ -67,12 +70,25 @@ fn register_lines(
     Ok(())
 }
 
-// The source and its registers.
-fn head(alloc: Global, machine: &Machine) -> Result<FileBytes, AllocError>
-    ensures { IfOk result (λ text. text ≡ source_line_of machine.now.name ++ register_lines_of 0 machine.now.registers) }
+// Which register an instance holds, or the code of each state of a state machine.
+fn held_lines(alloc: Global, out: &mut FileBytes, source: &Source) -> Result<(), AllocError>
+    ensures { OnOk result (out.new ≡ out.old ++ held_lines_of (origin_view source.now.origin) source.now.machine) }
 {
-    let mut out = source_line(alloc, machine.name())?;
-    register_lines(alloc, &mut out, machine.registers().as_slice())?;
+    match &source.origin {
+        Origin::Equations => register_lines(alloc, out, source.machine.registers().as_slice()),
+        Origin::States(states, codes) => {
+            code_lines(alloc, out, states.states().as_slice(), codes.as_slice())
+        }
+    }
+}
+
+// The source, and its registers or codes.
+fn head(alloc: Global, source: &Source) -> Result<FileBytes, AllocError>
+    ensures { IfOk result (λ text. text
+        ≡ source_line_of source.now.machine.name ++ held_lines_of (origin_view source.now.origin) source.now.machine) }
+{
+    let mut out = source_line(alloc, source.machine.name())?;
+    held_lines(alloc, &mut out, source)?;
     Ok(out)
 }
 
@@ -96,27 +112,20 @@ fn nets(netlist: &Netlist) -> u128
     u128::from(netlist.count().saturating_sub(2))
 }
 
-/// A source's machine, and the most nodes that a diagram of its roots has.
-#[derive(Drop)]
-pub(crate) struct Counted {
-    pub(crate) machine: Machine,
-    pub(crate) nodes: u32,
-}
-
 /// The report on a layout of the machine with this netlist, whose nets are so long, and which breaks no rule. Memory goes by the text.
 pub(crate) fn report(
     alloc: Global,
-    source: &Counted,
+    counted: &Counted,
     netlist: &Netlist,
     wire: u128,
 ) -> Result<FileBytes, AllocError>
-    requires { size_of source.now.machine ≤ MOST_SIZE }
+    requires { size_of counted.now.source.machine ≤ MOST_SIZE }
     ensures { IfOk result (λ text. text
-        ≡ report_by source.now.machine source.now.nodes (length netlist.now.instances) (netlist.now.count - 2) wire 0) }
+        ≡ report_by (origin_view counted.now.source.origin) counted.now.source.machine counted.now.nodes (length netlist.now.instances) (netlist.now.count - 2) wire 0) }
 {
-    let mut out = head(alloc, &source.machine)?;
-    count_line(alloc, &mut out, b"size", size(&source.machine))?;
-    count_line(alloc, &mut out, b"nodes", u128::from(source.nodes))?;
+    let mut out = head(alloc, &counted.source)?;
+    count_line(alloc, &mut out, b"size", size(&counted.source.machine))?;
+    count_line(alloc, &mut out, b"nodes", u128::from(counted.nodes))?;
     count_line(alloc, &mut out, b"cells", cells(netlist))?;
     count_line(alloc, &mut out, b"nets", nets(netlist))?;
     count_line(alloc, &mut out, b"length", wire)?;

@@ -1,17 +1,18 @@
 // The top call: words, and then the tool that they ask for.
 ghost use Rattle.std.specs.Prelude.{◌≡◌, ◌⊎◌, true, IfSome, Some, None};
-ghost use Rattle.tool_words.specs.Commands.{command_of, as_flow, as_boom, as_boog, as_asimut, as_asimut_netlist, as_cougar, flow_of, boom_of, boog_of, asimut_of, asimut_netlist_of, cougar_of};
+ghost use Rattle.tool_words.specs.Commands.{command_of, as_flow, as_syf, as_boom, as_boog, as_asimut, as_asimut_netlist, as_cougar, flow_of, syf_of, boom_of, boog_of, asimut_of, asimut_netlist_of, cougar_of};
 ghost use Rattle.tool_drive.specs.Outside.{outside, IsLine};
 ghost use Rattle.tool_drive.specs.Status.{has_line};
 ghost use Rattle.tool_drive.specs.Lines.{line_of as line_of_tool};
 ghost use Rattle.tool_drive.specs.Table.{Caused, IsComplete};
+ghost use Rattle.syf_run.specs.Syf.{syf_plan, syf_answers};
 ghost use Rattle.boom_run.specs.Boom.{boom_plan, boom_answers};
 ghost use Rattle.boog_run.specs.Boog.{boog_plan, boog_answers};
 ghost use Rattle.tool_run.specs.Usage.{word_of, line_of};
 ghost use Rattle.asimut_run.specs.Asimut.{asimut_plan, asimut_answers};
 ghost use Rattle.asimut_run.specs.Netlist.{netlist_plan, netlist_answers};
 ghost use Rattle.cougar_run.specs.Cougar.{cougar_plan, cougar_answers};
-ghost use Rattle.flow_run.specs.Flow.{is_fsm, flow_plan, flow_answers};
+ghost use Rattle.flow_run.specs.Flow.{flow_plan, flow_answers};
 ghost use Rattle.flow_run.specs.Causes.{IsHeadline, IsFree};
 
 use crate::flow::run_flow;
@@ -23,11 +24,13 @@ use vlsi_shelf::{Shelf, Sink};
 
 // Runs the tool that a command is for.
 fn run<S: Shelf, T: Sink>(alloc: Global, command: &Command, shelf: &mut S, out: &mut T) -> Status
-    ensures fsm { IfSome (as_flow (Some command.now)) (λ c. is_fsm c ≡ true
-        → (result ≡ Status.Beyond) × (shelf.new ≡ shelf.old)) }
     ensures cause { IfSome (as_flow (Some command.now)) (λ c. Caused (flow_plan c) (flow_answers c)
         (outside (S.seen shelf.old) (T.seen out.old)) (outside (S.seen shelf.new) (T.seen out.new)) result) }
     ensures complete { IfSome (as_flow (Some command.now)) (λ c. IsComplete (flow_plan c) (flow_answers c)
+        (outside (S.seen shelf.old) (T.seen out.old)) (outside (S.seen shelf.new) (T.seen out.new)) result) }
+    ensures encoding { IfSome (as_syf (Some command.now)) (λ c. Caused (syf_plan c) (syf_answers c)
+        (outside (S.seen shelf.old) (T.seen out.old)) (outside (S.seen shelf.new) (T.seen out.new)) result) }
+    ensures encoding_complete { IfSome (as_syf (Some command.now)) (λ c. IsComplete (syf_plan c) (syf_answers c)
         (outside (S.seen shelf.old) (T.seen out.old)) (outside (S.seen shelf.new) (T.seen out.new)) result) }
     ensures optimisation { IfSome (as_boom (Some command.now)) (λ c. Caused (boom_plan c) (boom_answers c)
         (outside (S.seen shelf.old) (T.seen out.old)) (outside (S.seen shelf.new) (T.seen out.new)) result) }
@@ -55,7 +58,8 @@ fn run<S: Shelf, T: Sink>(alloc: Global, command: &Command, shelf: &mut S, out: 
 {
     match command {
         Command::Flow(flow) => run_flow(alloc, flow, shelf, out),
-        Command::Boom(_)
+        Command::Syf(_)
+        | Command::Boom(_)
         | Command::Boog(_)
         | Command::Asimut(_)
         | Command::AsimutNetlist(_)
@@ -63,17 +67,19 @@ fn run<S: Shelf, T: Sink>(alloc: Global, command: &Command, shelf: &mut S, out: 
     }
 }
 
-/// Does what the words ask, over a shelf and a sink: `flow` lays the source out with the cells of the library, `boom` makes the
-/// source smaller, `boog` makes a netlist of these cells, `asimut` runs patterns on the source, or on the netlist of the library's
-/// cells, `cougar` takes the netlist out of a layout of these cells.
+/// Does what the words ask, over a shelf and a sink: `flow` lays the source out with the cells of the library, `syf` makes a data-flow
+/// source of a state machine, `boom` makes the source smaller, `boog` makes a netlist of these cells, `asimut` runs patterns on the
+/// source, or on the netlist of the library's cells, `cougar` takes the netlist out of a layout of these cells.
 ///
 /// The words are taken apart first, and only then is a file read. A tool reads its files in their order, then writes its file,
 /// if it has one, and then prints its text by one put. `flow` reads SOURCE, CATAL, and the behaviour and the layout of each cell
-/// that this uses, writes the layout to NAME.ap and prints the report. `boom` reads SOURCE, writes the smaller one to NAME.vbe and
-/// prints how large it is. `boog` reads the same files as `flow`, writes the netlist to NAME.vst and prints how many cells it has. `asimut` reads SOURCE and PATTERNS, for a netlist also CATAL and the behaviour and the layout
-/// of each cell that this uses, and prints the patterns with every output filled in. `cougar` reads the same files as `boog`, with
-/// a layout for SOURCE, writes the netlist to NAME.vst and prints how many cells and nets it has. A refusal prints its line by one
-/// put; if that fails the status stays as it was. Memory for what is read and answered is taken on `alloc` and given back.
+/// that this uses, writes the layout to NAME.ap and prints the report. `syf` reads SOURCE, writes the data-flow source to NAME.vbe and
+/// prints each state with its code. `boom` reads SOURCE, writes the smaller one to NAME.vbe and prints how large it is. `boog` reads
+/// the same files as `flow`, writes the netlist to NAME.vst and prints how many cells it has. `asimut` reads SOURCE and PATTERNS, for
+/// a netlist also CATAL and the behaviour and the layout of each cell that this uses, and prints the patterns with every output filled
+/// in. `cougar` reads the same files as `boog`, with a layout for SOURCE, writes the netlist to NAME.vst and prints how many cells and
+/// nets it has. A refusal prints its line by one put; if that fails the status stays as it was. Memory for what is read and answered
+/// is taken on `alloc` and given back.
 pub fn alliance_main<S: Shelf, T: Sink>(
     alloc: Global,
     words: &Words,
@@ -84,10 +90,6 @@ pub fn alliance_main<S: Shelf, T: Sink>(
     ensures usage { result ≡ Status.Usage → command_of words.now ≡ None }
     ensures words { command_of words.now ≡ None → (result ≡ Status.Usage) ⊎ (result ≡ Status.Memory) }
     ensures nothing { command_of words.now ≡ None → shelf.new ≡ shelf.old }
-
-    // A state machine's source is beyond what is built, and then no call was made on the shelf.
-    ensures fsm { IfSome (flow_of words.now) (λ c. is_fsm c ≡ true
-        → ((result ≡ Status.Beyond) ⊎ (result ≡ Status.Memory)) × (shelf.new ≡ shelf.old)) }
 
     // Every status has its cause and leaves the files that its row says. What was printed is as before the line of a refusal.
     ensures cause { IfSome (flow_of words.now) (λ c. Caused (flow_plan c) (flow_answers c)
@@ -101,10 +103,16 @@ pub fn alliance_main<S: Shelf, T: Sink>(
     ensures headline { IfSome (flow_of words.now) (λ c. result ≡ Status.Accepted
         → IsHeadline c (outside (S.seen shelf.old) (T.seen out.old)) (outside (S.seen shelf.new) (T.seen out.new))) }
 
-    // Where all files are there, the source is a machine within the limits, the others are a library that covers it, no diagram is
-    // over the budget, and no call failed, the answer is 0, or out of memory.
+    // Where all files are there, the source is a machine or a state machine within the limits, the others are a library that covers
+    // it, no diagram is over the budget, and no call failed, the answer is 0, or out of memory.
     ensures lays { IfSome (flow_of words.now) (λ c. IsFree c (outside (S.seen shelf.old) (T.seen out.old)) (outside (S.seen shelf.new) (T.seen out.new))
         → (result ≡ Status.Accepted) ⊎ (result ≡ Status.Memory)) }
+
+    // The answers of syf: each has its cause, and over told files, where nothing failed, it is what the file comes to.
+    ensures encoding { IfSome (syf_of words.now) (λ c. Caused (syf_plan c) (syf_answers c)
+        (outside (S.seen shelf.old) (T.seen out.old)) (outside (S.seen shelf.new) (T.seen out.new)) result) }
+    ensures encoding_complete { IfSome (syf_of words.now) (λ c. IsComplete (syf_plan c) (syf_answers c)
+        (outside (S.seen shelf.old) (T.seen out.old)) (outside (S.seen shelf.new) (T.seen out.new)) result) }
 
     // The answers of boom: each has its cause, and over told files, where nothing failed, it is what the file comes to.
     ensures optimisation { IfSome (boom_of words.now) (λ c. Caused (boom_plan c) (boom_answers c)

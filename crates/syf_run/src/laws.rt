@@ -1,15 +1,16 @@
-// What follows of the text that `syf` writes.
-ghost use Rattle.syf_run.specs.Laws.{TextRunsAs};
+// What is true of the machines of state machines.
+ghost use Rattle.syf_run.specs.Laws.{EncodedCanBeDeclared, EncodedIsOne};
 
+use fsm_io::one_fsm;
 use fsm_words::{fsm_is_named, machine_of_fsm_can_be_written};
-use vbe_round::read_again;
 
-/// Where the text that `syf` writes is within the limits of texts, what it is read as runs as the state machine runs: from the code of
-/// a state as from that state, and whatever the registers hold, behind a vector that resets as from where this leads.
-pub fn syf_law()
-    ensures { TextRunsAs }
+/// The machine that a state machine's text is made can be declared by an entity of a text, its ports with the supplies. And a text is
+/// made one machine by one style. It costs nothing when it is called.
+pub fn encoded_law()
+    ensures declared { EncodedCanBeDeclared }
+    ensures one { EncodedIsOne }
 {
     fsm_is_named();
     machine_of_fsm_can_be_written();
-    read_again();
+    one_fsm();
 }

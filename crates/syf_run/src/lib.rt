@@ -10,6 +10,6 @@ mod lines;
 mod syf;
 
 pub use encoded::{Encoded, encoded, style_of};
-pub use laws::syf_law;
+pub use laws::encoded_law;
 pub use lines::code_lines;
 pub use syf::Syf;

@@ -51,7 +51,6 @@ follows plan A files counts told faults now s h nothing = by s h where
   by (status.Library fault) h = answered (Err (refusal (status.Library fault) h.0)) h.1
   by (status.NoCover kind) h = answered (Err (refusal (status.NoCover kind) h.0)) h.1
   by (status.Budget equation reached) h = answered (Err (refusal (status.Budget equation reached) h.0)) h.1
-  by status.Beyond h = answered (Err (refusal status.Beyond h.0)) h.1
   by (status.No v) h = answered (Err (refusal (status.No v) h.0)) h.1
 
 complete_of : (plan : Plan) (A : Inputs → Result Product Refusal → Type 0) (files : Option Files) (counts : Counts) (told : Option (List ℕ)) (faults : ℕ) (now : Outside) (s : Status)

@@ -66,7 +66,6 @@ lifts A r judged before now s h = by s h where
   by (status.NoCover kind) h = (h.0, at (Err (refusal (status.NoCover kind) h.0)) h.1, h.2)
   by (status.Budget equation reached) h = (h.0, at (Err (refusal (status.Budget equation reached) h.0)) h.1, h.2)
   by (status.Limit l) h = (h.0, at (Err (refusal (status.Limit l) h.0)) h.1, h.2)
-  by status.Beyond h = (h.0, at (Err (refusal status.Beyond h.0)) h.1, h.2)
   by (status.No v) h = (h.0, at (Err (refusal (status.No v) h.0)) h.1, h.2)
 
 -- the same, by the slices that the tool was given
@@ -105,5 +104,4 @@ caused plan A a b t now first more reads was s h = by s h where
   by (status.NoCover kind) h = (h.0, comes (Err (refusal (status.NoCover kind) h.0)) h.1, left h.0 h.2)
   by (status.Budget equation reached) h = (h.0, comes (Err (refusal (status.Budget equation reached) h.0)) h.1, left h.0 h.2)
   by (status.Limit l) h = inr (h.0, comes (Err (refusal (status.Limit l) h.0)) h.1, left h.0 h.2)
-  by status.Beyond h = (h.0, comes (Err (refusal status.Beyond h.0)) h.1, left h.0 h.2)
   by (status.No v) h = (h.0, comes (Err (refusal (status.No v) h.0)) h.1, left h.0 h.2)

@@ -65,7 +65,6 @@ refusal_text (status.NoPath net terminal) = codes "no path: " ++ (decimal net ++
 refusal_text (status.File cause name) = file_text cause name
 refusal_text status.Memory = codes "memory"
 refusal_text (status.Limit l) = limit_line l
-refusal_text status.Beyond = codes "beyond"
 refusal_text (status.No v) = verdict_text v
 
 -- the line that a tool's refusal prints

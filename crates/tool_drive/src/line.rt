@@ -179,7 +179,6 @@ fn refusal(alloc: Global, out: &mut FileBytes, status: &Status) -> Result<(), Al
         Status::File { cause, name } => file(out, *cause, name),
         Status::Memory => out.append(b"memory"),
         Status::Limit(over) => limit(alloc, out, over),
-        Status::Beyond => out.append(b"beyond"),
         Status::No(found) => verdict(alloc, out, found),
     }
 }

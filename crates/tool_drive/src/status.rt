@@ -39,10 +39,10 @@ pub enum Verdict {
 }
 
 /// How a call ends. As they are built so far, `flow` answers `Accepted`, `Usage`, `Source`, `Library`, `NoCover`, `Budget`, `File`,
-/// `Memory`, `Limit` and `Beyond`; `boom` `Accepted`, `Usage`, `Source`, `Budget`, `File`, `Memory` and `Limit`; `boog` as `flow`, but
-/// for `Budget` and `Beyond`; `asimut` `Accepted`, `Usage`, `Source`, `File`, `Memory`, `Limit` and `No`,
-/// and on a netlist `Library` too; `cougar` `Accepted`, `Usage`, `Source`, `Library`, `File`, `Memory`, `Limit` and `No`. The driver
-/// itself answers `File`, `Memory` and the limit file; the other refusals are the tools'.
+/// `Memory` and `Limit`; `syf` `Accepted`, `Usage`, `Source`, `File`, `Memory` and `Limit`; `boom` these and `Budget`; `boog` as `flow`,
+/// but for `Budget`; `asimut` `Accepted`, `Usage`, `Source`, `File`, `Memory`, `Limit` and `No`, and on a netlist `Library` too; `cougar`
+/// `Accepted`, `Usage`, `Source`, `Library`, `File`, `Memory`, `Limit` and `No`. The driver itself answers `File`, `Memory` and the
+/// limit file; the other refusals are the tools'.
 #[derive(Drop)]
 pub enum Status {
     /// What was asked is done, and printed.
@@ -65,8 +65,6 @@ pub enum Status {
     Memory,
     /// A quantity of the input is over its number.
     Limit(Limit),
-    /// The source is a state machine's, which `flow` doesn't read yet.
-    Beyond,
     /// A tool that compares found a difference, or a cell without behaviour.
     No(Verdict),
 }
@@ -87,7 +85,6 @@ impl Status {
             Status::File { .. } => 7,
             Status::Memory => 8,
             Status::Limit(_) => 9,
-            Status::Beyond => 10,
             Status::No(_) => 11,
         }
     }

@@ -12,6 +12,7 @@ use Rattle.tool_drive.specs.Lines.{line_of as line_of_tool}
 -- the word of a command's tool
 abbrev pub word_of : Command → List ℕ
 word_of (command.Flow c) = codes "flow"
+word_of (command.Syf c) = codes "syf"
 word_of (command.Boom c) = codes "boom"
 word_of (command.Boog c) = codes "boog"
 word_of (command.Asimut c) = codes "asimut"
@@ -20,6 +21,7 @@ word_of (command.Cougar c) = codes "cougar"
 
 abbrev pub is_flow : Command → Bool
 is_flow (command.Flow c) = true
+is_flow (command.Syf c) = false
 is_flow (command.Boom c) = false
 is_flow (command.Boog c) = false
 is_flow (command.Asimut c) = false

@@ -1,6 +1,6 @@
 //! The tools beside `flow`, by the driver of `tool_drive`, and the line on words that spell no command.
 //!
-//! What each tool reads and answers stands in the specs of its crate (`boom_run`, `boog_run`, `asimut_run`, `cougar_run`); when each
+//! What each tool reads and answers stands in the specs of its crate (`syf_run`, `boom_run`, `boog_run`, `asimut_run`, `cougar_run`); when each
 //! status comes and what it leaves, for all tools, in `specs/Table.antt` of `tool_drive`.
 #![tactic(auto)]
 
