@@ -27,7 +27,7 @@ use fsm_io::read_fsm;
 use machine_core::Machine;
 use net_core::Netlist;
 use std::alloc::{AllocError, Global};
-use syf_run::{Encoded, encoded, encoded_law, style_of};
+use syf_run::{Encoded, encoded_law, encoded_machine, style_of};
 use tool_drive::{LibraryFault, Product, Refusal, Status, Tool, Wanted, bytes_at, drive, refused};
 use tool_words::FlowCommand;
 use vbe_io::read_vbe;
@@ -85,7 +85,7 @@ fn source_of(alloc: Global, command: &FlowCommand, source: &[u8]) -> Result<Sour
     }
     let states = read_fsm(alloc, source)?;
     let style = style_of(command.encoding, command.seed);
-    let Encoded { codes, machine } = encoded(alloc, &states, style)?;
+    let Encoded { codes, machine } = encoded_machine(alloc, &states, style)?;
     Ok(Source {
         origin: Origin::States(states, codes),
         machine,

@@ -9,7 +9,7 @@ mod laws;
 mod lines;
 mod syf;
 
-pub use encoded::{Encoded, encoded, style_of};
+pub use encoded::{Encoded, encoded_machine, style_of};
 pub use laws::encoded_law;
 pub use lines::code_lines;
 pub use syf::Syf;

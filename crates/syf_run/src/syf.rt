@@ -6,7 +6,7 @@ ghost use Rattle.vbe_write.specs.Written.{layout};
 ghost use Rattle.vbe_write.specs.Writable.{CanBeVbe};
 ghost use Rattle.syf_run.specs.Syf.{code_lines as code_lines_of, text_name, Encodes};
 
-use crate::encoded::{Encoded, encoded, style_of};
+use crate::encoded::{Encoded, encoded_machine, style_of};
 use crate::lines::code_lines;
 use fsm_core::StateMachine;
 use fsm_io::read_fsm;
@@ -60,7 +60,7 @@ fn encodes(alloc: Global, command: &SyfCommand, source: &[u8]) -> Result<Product
         Ok(states) => states,
         Err(error) => return Err(Refusal::plain(refused(alloc, &command.source, error))),
     };
-    let made = encoded(alloc, &states, style_of(command.encoding, command.seed))?;
+    let made = encoded_machine(alloc, &states, style_of(command.encoding, command.seed))?;
     let written = product(alloc, command, &states, &made)?;
     Ok(written)
 }
