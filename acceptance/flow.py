@@ -33,7 +33,7 @@ from words import TOOLS_LINE, command, held, of_folder, trouble
 HERE = pathlib.Path(__file__).resolve().parent
 EXAMPLES = HERE.parent / "examples"
 ROW = ROWS / "flow-layouts/one-inverter.txt"
-USAGE = "usage: alliance flow SOURCE -l DIR -o NAME --tracks [--nodes N]\n"
+USAGE = "usage: alliance flow SOURCE -l DIR -o NAME [-e STYLE] --tracks [--seed N] [--nodes N]\n"
 FIVE = ["inv_x1", "na2_x1", "zero_x0", "one_x0", "sff1_x4"]
 MORE = ["inv_x8", "na3_x1", "sff1_x8", "xr2_x1", "mx2_x2", "buf_x2"]
 WORDS = ["flow", "s.vbe", "-l", "lib", "-o", "r", "--tracks"]

@@ -2,7 +2,7 @@
 
 import os
 
-TOOLS_LINE = "usage: alliance flow|boom|boog|asimut|cougar ARGUMENTS\n"
+TOOLS_LINE = "usage: alliance flow|syf|boom|boog|asimut|cougar ARGUMENTS\n"
 
 
 def command(words, endings, options):
