@@ -2,11 +2,12 @@
 """Makes a circuit of two-input gates and registers, and patterns for it: as data-flow VHDL with a pattern file, and as
 Verilog with a test bench that gives the same vectors and prints the outputs.
 
-Usage: bench/asimut_inputs.py GATES PATTERNS FOLDER [SEED] [--nands]
+Usage: bench/asimut_inputs.py GATES PATTERNS FOLDER [SEED] [--nands | --blocks]
 
 Writes c.vbe, p.pat, c.v and vectors.txt into the folder. One gate in fifty feeds a register; all have one clock, and it
 rises in every other pattern. With --nands all gates are nands and there are 16 registers, so that 16,000 gates are within
-the size of a source that is mapped.
+the size of a source that is mapped. With --blocks they stand besides in blocks of 256, each over the inputs and a register
+of its own, so that diagrams stay small.
 """
 import pathlib
 import random
@@ -15,6 +16,18 @@ import sys
 KINDS = ["and", "or", "xor", "nand", "nor", "xnor"]
 VERILOG = {"and": "{} & {}", "or": "{} | {}", "xor": "{} ^ {}", "nand": "~({} & {})", "nor": "~({} | {})", "xnor": "~({} ^ {})"}
 INPUTS = [f"d({k})" for k in range(8)]
+BLOCK = 256
+
+
+def blocks(gates, choose):
+    """As circuit: nands in blocks of 256, the last one perhaps smaller."""
+    made, registers = [], []
+    for first in range(0, gates, BLOCK):
+        here, [(_, last)] = circuit(min(BLOCK, gates - first), choose, ["nand"], 1)
+        of = {name: f"g{first + k}" for k, (name, *_) in enumerate(here)} | {"r0": f"r{len(registers)}"}
+        made += [(of[name], kind, of.get(left, left), of.get(right, right)) for name, kind, left, right in here]
+        registers.append((of["r0"], of[last]))
+    return made, registers
 
 
 def circuit(gates, choose, kinds=KINDS, count=None):
@@ -78,10 +91,13 @@ endmodule
 
 
 def main():
-    words = [word for word in sys.argv[1:] if word != "--nands"]
+    words = [word for word in sys.argv[1:] if word not in ("--nands", "--blocks")]
     gates, patterns, folder = int(words[0]), int(words[1]), pathlib.Path(words[2])
     choose = random.Random(f"{words[3] if len(words) > 3 else 1} {gates} {patterns}")
-    made, registers = circuit(gates, choose, ["nand"], 16) if "--nands" in sys.argv else circuit(gates, choose)
+    if "--blocks" in sys.argv:
+        made, registers = blocks(gates, choose)
+    else:
+        made, registers = circuit(gates, choose, ["nand"], 16) if "--nands" in sys.argv else circuit(gates, choose)
     vectors = [(k % 2, choose.getrandbits(8)) for k in range(patterns)]
     rows = "".join(f"< {k} ns> : {ck} {d:02x} ?*;\n" for k, (ck, d) in enumerate(vectors))
     texts = {

@@ -1,5 +1,5 @@
 #!/usr/bin/env bash
-# Measures `alliance flow --tracks` over the row library cells/: on circuits of 1,000 to 16,000 nands, on adders of 8 to 64 bits and on
+# Measures `alliance flow --tracks` over the row library cells/: on circuits of 1,000 to 16,000 nands in blocks of 256, on adders of 8 to 64 bits and on
 # multipliers of 2 x 2 to 16 x 16 bits. Beside it stand the stages that are tools of their own: `boog` (reading, graph, mapping, the
 # netlist's text) and `cougar` (reading the layout, its rectangles, what they join). What flow takes beyond boog is for checks, row,
 # tracks, drawing and the layout's text.
@@ -50,7 +50,7 @@ printf "$row" '' '' '' boog '' flow '' cougar '' '' '' '' '' ''
 printf "$row" source size bytes seconds MB seconds MB seconds MB size*2 cells nets lines layout
 took_before=- size_before=0
 for gates in ${GATES-1000 2000 4000 8000 16000}; do
-  python3 "$here/asimut_inputs.py" "$gates" 1 "$work" --nands
+  python3 "$here/asimut_inputs.py" "$gates" 1 "$work" --blocks
   stages "$gates gates"
 done
 took_before=- size_before=0
