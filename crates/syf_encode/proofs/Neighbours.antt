@@ -1,0 +1,105 @@
+-- The table of which states lead to which, and each state's neighbours.
+use Rattle.std.proofs.Common.{◌≡◌, ◌≢◌, ℕ, zero, suc, ◌+◌, ◌*◌, ◌<◌, ◌≤◌, ◌==◌, Bool, true, false, not, ◌&&◌, ◌||◌, All, List, [], ◌∷◌, ◌++◌, map, length, filter, get_or, Vec, refl, sym, ap, ◌∙◌, subst, arith}
+use Rattle.std.specs.List.{slice_index_or}
+use Rattle.std.proofs.lemmas.List.{map-append, length-append, length-map, get_or_append_left, get_or_push}
+use Rattle.std.proofs.lemmas.List.Elements.{All-append}
+use Rattle.std.proofs.lemmas.Bool.{eq-eqb, ne_eqb, eqb-true, eqb-false}
+use Rattle.fsm_meaning.specs.Statements.{Statements}
+use Rattle.fsm_machine.specs.Encoding.{leads}
+use Rattle.fsm_machine.specs.MachineOf.{up}
+use Rattle.fsm_machine.proofs.Coding.{at_map, at_up}
+use Rattle.fsm_machine.proofs.States.{length_up}
+use Rattle.syf_encode.specs.Pieces.{is_marked, row, edge, neighbours_by, all_neighbours}
+use Rattle.syf_encode.proofs.Upward.{map_same, filter_same, filter_below, filter_few}
+
+-- the first rows of a table are whole, and tell which states lead to which
+pub record Tells (body : Statements) (count rows : ℕ) (table : List (List Bool)) : Type 0 where
+  pub each : length table ≡ rows
+  pub whole : (s : ℕ) → s < rows → length (row table s) ≡ count
+  pub tells : (s t : ℕ) → s < rows → t < count → edge table s t ≡ leads s t body
+
+pub nothing_told : (body : Statements) (count : ℕ) → Tells body count 0 []
+nothing_told body count = record {
+  each = refl;
+  whole = λ s l. absurd (omega arith);
+  tells = λ s t l m. absurd (omega arith);
+}
+
+-- one row more
+pub one_row : (body : Statements) (count rows : ℕ) (table : List (List Bool)) (marks : List Bool) → Tells body count rows table → length marks ≡ count
+    → ((t : ℕ) → t < count → is_marked marks t ≡ leads rows t body) → Tells body count (rows + 1) (table ++ (marks ∷ []))
+one_row body count rows table marks h e is =
+    let each = h.each in
+    let old : (s : ℕ) → s < rows → row (table ++ (marks ∷ [])) s ≡ row table s = λ s l. get_or_append_left table (marks ∷ []) [] s (omega arith) in
+    let new : row (table ++ (marks ∷ [])) rows ≡ marks = get_or_push table marks [] rows each in
+    record {
+      each = length-append table (marks ∷ []) ∙ ap (λ (k : ℕ). k + 1) each;
+      whole = λ s l. by_whole s old new (s == rows) refl l;
+      tells = λ s t l m. by_tells s t old new (s == rows) refl l m;
+    } where
+      below : (s : ℕ) → (s == rows) ≡ false → s < rows + 1 → s < rows
+      below s f l = let ne = eqb-false s rows f in omega arith
+
+      by_whole : (s : ℕ) → ((s : ℕ) → s < rows → row (table ++ (marks ∷ [])) s ≡ row table s) → row (table ++ (marks ∷ [])) rows ≡ marks
+          → (b : Bool) → (s == rows) ≡ b → s < rows + 1 → length (row (table ++ (marks ∷ [])) s) ≡ count
+      by_whole s old new true f l = ap (λ (k : ℕ). length (row (table ++ (marks ∷ [])) k)) (eqb-true s rows f) ∙ ap length new ∙ e
+      by_whole s old new false f l = ap length (old s (below s f l)) ∙ h.whole s (below s f l)
+
+      by_tells : (s t : ℕ) → ((s : ℕ) → s < rows → row (table ++ (marks ∷ [])) s ≡ row table s) → row (table ++ (marks ∷ [])) rows ≡ marks
+          → (b : Bool) → (s == rows) ≡ b → s < rows + 1 → t < count → edge (table ++ (marks ∷ [])) s t ≡ leads s t body
+      by_tells s t old new true f l m =
+          ap (λ (k : ℕ). edge (table ++ (marks ∷ [])) k t) (eqb-true s rows f) ∙ ap (λ (r : List Bool). is_marked r t) new ∙ is t m
+          ∙ ap (λ (k : ℕ). leads k t body) (sym (eqb-true s rows f))
+      by_tells s t old new false f l m = ap (λ (r : List Bool). is_marked r t) (old s (below s f l)) ∙ h.tells s t (below s f l) m
+
+-- a row of a table of vectors
+pub row_of : (table : List (Vec Bool)) (s : ℕ) (v : Vec Bool) → s < length table → v ≡ get_or table s v → row (map (λ v. v.items) table) s ≡ v.items
+row_of table s v l e = at_map (λ (v : Vec Bool). v.items) v [] table s l ∙ ap (λ (w : Vec Bool). w.items) (sym e)
+
+pub near_of : (table : List (Vec ℕ)) (s : ℕ) (v : Vec ℕ) → s < length table → v ≡ get_or table s v → slice_index_or (map (λ v. v.items) table) s [] ≡ v.items
+near_of table s v l e = at_map (λ (v : Vec ℕ). v.items) v [] table s l ∙ ap (λ (w : Vec ℕ). w.items) (sym e)
+
+-- an edge to another state, and one that is none
+pub edge_there : (e : Bool) (s t : ℕ) → e ≡ true → s ≢ t → (e && not (s == t)) ≡ true
+edge_there e s t h n = rw (h, ne_eqb s t n) refl
+
+pub edge_away : (e : Bool) (s t : ℕ) → e ≡ false → (e && not (s == t)) ≡ false
+edge_away e s t h = rw h refl
+
+pub edge_itself : (e : Bool) (s t : ℕ) → s ≡ t → (e && not (s == t)) ≡ false
+edge_itself true s t h = rw (eq-eqb s t h) refl
+edge_itself false s t h = refl
+
+-- edges that agree below n give the same neighbours
+pub neighbours_same : (f g : ℕ → ℕ → Bool) (n s : ℕ) → s < n → ((s t : ℕ) → s < n → t < n → f s t ≡ g s t) → neighbours_by f n s ≡ neighbours_by g n s
+neighbours_same f g n s l h =
+    ap (λ (xs : List ℕ). xs ++ filter (λ t. f t s && not (t == s)) (up 0 n))
+    (filter_same (λ t. f s t && not (s == t)) (λ t. g s t && not (s == t)) 0 n (λ t a b. ap (λ (e : Bool). e && not (s == t)) (h s t l (omega arith))))
+    ∙ ap (λ (xs : List ℕ). filter (λ t. g s t && not (s == t)) (up 0 n) ++ xs)
+    (filter_same (λ t. f t s && not (t == s)) (λ t. g t s && not (t == s)) 0 n (λ t a b. ap (λ (e : Bool). e && not (t == s)) (h t s (omega arith) l)))
+
+pub all_same : (body : Statements) (n : ℕ) (table : List (List Bool)) → Tells body n n table → map (neighbours_by (edge table) n) (up 0 n) ≡ all_neighbours body n
+all_same body n table h =
+    map_same (neighbours_by (edge table) n) (neighbours_by (λ s t. leads s t body) n) 0 n
+    (λ s l m. neighbours_same (edge table) (λ s t. leads s t body) n s (omega arith) h.tells)
+
+-- neighbours are states, and there are at most two for each
+pub neighbours_below : (f : ℕ → ℕ → Bool) (n s : ℕ) → All (λ t. t < n) (neighbours_by f n s)
+neighbours_below f n s =
+    All-append (λ t. t < n) (filter (λ t. f s t && not (s == t)) (up 0 n)) (filter (λ t. f t s && not (t == s)) (up 0 n))
+    (filter_below (λ t. f s t && not (s == t)) n) (filter_below (λ t. f t s && not (t == s)) n)
+
+pub neighbours_few : (f : ℕ → ℕ → Bool) (n s : ℕ) → length (neighbours_by f n s) ≤ 2 * n
+neighbours_few f n s =
+    let a = filter_few (λ t. f s t && not (s == t)) n in
+    let b = filter_few (λ t. f t s && not (t == s)) n in
+    let c = length-append (filter (λ t. f s t && not (s == t)) (up 0 n)) (filter (λ t. f t s && not (t == s)) (up 0 n)) in
+    omega arith
+
+-- what stands at a state's number
+pub neighbours_at : (f : ℕ → ℕ → Bool) (n s : ℕ) (near : List (List ℕ)) → near ≡ map (neighbours_by f n) (up 0 n) → s < n
+    → slice_index_or near s [] ≡ neighbours_by f n s
+neighbours_at f n s near is l =
+    ap (λ (rows : List (List ℕ)). slice_index_or rows s []) is
+    ∙ at_map (neighbours_by f n) 0 [] (up 0 n) s (let w = length_up 0 n in omega arith)
+    ∙ ap (neighbours_by f n) (let w = at_up 0 n s 0 l in omega arith)

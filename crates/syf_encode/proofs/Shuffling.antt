@@ -1,0 +1,28 @@
+-- Shuffles by the words of a generator, step by step.
+use Rattle.std.proofs.Common.{◌≡◌, ℕ, zero, suc, ◌+◌, ◌-◌, ◌%◌, ◌<◌, ◌≤◌, List, length, swap, refl, sym, ap, ◌∙◌, subst, add-one, arith}
+use Rattle.rand_core.specs.Steps.{first_words}
+use Rattle.fsm_machine.specs.Encoding.{shuffled}
+use Rattle.fsm_machine.specs.MachineOf.{up}
+use Rattle.fsm_machine.proofs.Coding.{IsArranged, arranged_shuffled, in_order}
+
+-- one place by the next word, and then the places below it
+pub shuffled_more : {S : Type 0} (step : S → ℕ × S) (place left word : ℕ) (s t : S) (xs : List ℕ) → place ≡ suc left → (word, t) ≡ step s
+    → shuffled left (first_words step left t) (swap xs place (word % (place + 1))) ≡ shuffled place (first_words step place s) xs
+unfolding first_words
+shuffled_more {S} step place left word s t xs e w =
+    ap (λ (p : ℕ × S). shuffled left (first_words step left p.1) (swap xs place (p.0 % (place + 1)))) w
+    ∙ ap (λ (k : ℕ). shuffled left (first_words step left (step s).1) (swap xs place ((step s).0 % k))) (add-one place)
+    ∙ ap (λ (k : ℕ). shuffled left (first_words step left (step s).1) (swap xs k ((step s).0 % suc k))) e
+    ∙ ap (λ (k : ℕ). shuffled k (first_words step k s) xs) (sym e)
+
+-- no place is left
+pub shuffled_all : (words xs : List ℕ) (place : ℕ) → place ≡ 0 → shuffled place words xs ≡ xs
+shuffled_all words xs place e = ap (λ (k : ℕ). shuffled k words xs) e
+
+-- a shuffle keeps how many there are
+pub length_shuffled : (n : ℕ) (words : List ℕ) → length (shuffled (n - 1) words (up 0 n)) ≡ n
+length_shuffled zero words = refl
+length_shuffled (suc n) words =
+    let e : suc n - 1 ≡ n = omega arith in
+    ap (λ (k : ℕ). length (shuffled k words (up 0 (suc n)))) e
+    ∙ (arranged_shuffled (suc n) n words (up 0 (suc n)) (omega arith) (in_order (suc n))).each
