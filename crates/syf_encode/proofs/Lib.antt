@@ -9,3 +9,4 @@ pub mod Exchanging
 pub mod Searching
 pub mod Exchanges
 pub mod Reaching
+pub mod Ends

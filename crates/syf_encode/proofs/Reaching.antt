@@ -1,15 +1,17 @@
 -- How far neighbours are, and the numbers after exchanges.
 use Rattle.std.proofs.Common.{◌≡◌, ◌≢◌, ℕ, zero, suc, ◌+◌, ◌*◌, ◌^◌, ◌<◌, ◌≤◌, ◌==◌, Bool, true, false, All, List, [], map, length, get_or, take, sum_by, swap, refl, sym, ap, ◌∙◌, subst, arith, if◌then◌else◌}
 use Rattle.std.specs.List.{slice_index, slice_index_or}
-use Rattle.std.proofs.lemmas.List.{ext_get_or}
+use Rattle.std.specs.Global.{Vec}
+use Rattle.std.proofs.lemmas.List.{ext_get_or, length-map}
 use Rattle.std.proofs.lemmas.List.Elements.{All-get_or, All-from_get_or}
 use Rattle.std.proofs.lemmas.List.Sums.{sum_by_more}
 use Rattle.std.proofs.lemmas.Bool.{eq-eqb, ne_eqb, eqb-true}
 use Rattle.fsm_machine.specs.Encoding.{width_of, bits_of, apart, distance, exchanges}
 use Rattle.fsm_machine.specs.MachineOf.{up}
 use Rattle.fsm_machine.proofs.Coding.{IsArranged, turned, turned_first, turned_second, swapped_at, length_swap, width_enough}
+use Rattle.fsm_machine.proofs.States.{length_up}
 use Rattle.syf_encode.specs.Pieces.{reach, AreEdges, neighbours_by}
-use Rattle.syf_encode.proofs.Neighbours.{neighbours_below, neighbours_few, neighbours_at}
+use Rattle.syf_encode.proofs.Neighbours.{near_of, neighbours_below, neighbours_few, neighbours_at}
 
 -- the numbers are below their count, so that the bits of a code hold each
 pub code_fits : (numbers : List ℕ) (s : ℕ) → All (λ k. k < length numbers) numbers → s < length numbers
@@ -42,16 +44,27 @@ reach_without numbers near s other i t l is same =
     let here : f (get_or near i 0) ≡ 0 = ap f (sym is) ∙ ap (λ (b : Bool). if b then 0 else distance n numbers s t) (eq-eqb t other same) in
     omega arith
 
--- the neighbours of a state are states, and there are few
-pub near_below : (n s : ℕ) (near : List (List ℕ)) (own : List ℕ) → AreEdges n near → s < n → own ≡ slice_index_or near s []
-    → All (λ t. t < n) own
-near_below n s near own h l e =
-    let P : List ℕ → Type 0 = λ xs. All (λ t. t < n) xs in
-    subst P (sym (e ∙ neighbours_at h.edges n s near h.are l)) (neighbours_below h.edges n s)
+-- there are as many lists of neighbours as states
+pub near_length : (n : ℕ) (near : List (Vec ℕ)) → AreEdges n (map (λ v. v.items) near) → length near ≡ n
+near_length n near h = sym (length-map near (λ (v : Vec ℕ). v.items)) ∙ ap length h.are ∙ length-map (up 0 n) (neighbours_by h.edges n) ∙ length_up 0 n
 
-pub near_few : (n s : ℕ) (near : List (List ℕ)) (own : List ℕ) → AreEdges n near → s < n → own ≡ slice_index_or near s [] → length own ≤ 2 * n
-near_few n s near own h l e =
-    let a = ap length (e ∙ neighbours_at h.edges n s near h.are l) in
+-- the neighbours of a state are those of its edges
+pub own_near : (n s : ℕ) (near : List (Vec ℕ)) (v : Vec ℕ) (own : List ℕ) (h : AreEdges n (map (λ v. v.items) near)) → s < n → v ≡ get_or near s v → own ≡ v.items
+    → own ≡ neighbours_by h.edges n s
+own_near n s near v own h l at e =
+    e ∙ sym (near_of near s v (let k = near_length n near h in omega arith) at) ∙ neighbours_at h.edges n s (map (λ v. v.items) near) h.are l
+
+-- they are states, and there are few
+pub near_below : (n s : ℕ) (near : List (Vec ℕ)) (v : Vec ℕ) (own : List ℕ) → AreEdges n (map (λ v. v.items) near) → s < n → v ≡ get_or near s v → own ≡ v.items
+    → All (λ t. t < n) own
+near_below n s near v own h l at e =
+    let P : List ℕ → Type 0 = λ xs. All (λ t. t < n) xs in
+    subst P (sym (own_near n s near v own h l at e)) (neighbours_below h.edges n s)
+
+pub near_few : (n s : ℕ) (near : List (Vec ℕ)) (v : Vec ℕ) (own : List ℕ) → AreEdges n (map (λ v. v.items) near) → s < n → v ≡ get_or near s v → own ≡ v.items
+    → length own ≤ 2 * n
+near_few n s near v own h l at e =
+    let a = ap length (own_near n s near v own h l at e) in
     let b = neighbours_few h.edges n s in
     omega arith
 

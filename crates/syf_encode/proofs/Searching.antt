@@ -28,7 +28,7 @@ pub step_down : (weight : List ℕ → ℕ) (xs : List Exchange) (numbers : List
     → weight (exchanged numbers x) < weight numbers
     → lowered weight xs (weight (exchanged numbers x) + 1) (exchanged numbers x) ≡ lowered weight xs (weight numbers + 1) numbers
 step_down weight xs numbers x e l =
-    sym (ap (λ k. lowered weight xs k numbers) (omega arith) ∙ one_step weight xs (weight numbers) numbers x e
+    sym (ap (λ (k : ℕ). lowered weight xs k numbers) (let e : weight numbers + 1 ≡ suc (weight numbers) = omega arith in e) ∙ one_step weight xs (weight numbers) numbers x e
     ∙ split (weight numbers - (weight (exchanged numbers x) + 1)) (omega arith)) where
       split : (more : ℕ) → weight numbers ≡ weight (exchanged numbers x) + 1 + more
           → lowered weight xs (weight numbers) (exchanged numbers x) ≡ lowered weight xs (weight (exchanged numbers x) + 1) (exchanged numbers x)

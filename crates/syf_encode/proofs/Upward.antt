@@ -9,7 +9,7 @@ use Rattle.fsm_machine.proofs.States.{length_up}
 
 pub up_more : (n : ℕ) → up 0 (n + 1) ≡ up 0 n ++ (n ∷ [])
 up_more n = ap (up 0) (add-one n) ∙ more 0 n ∙ ap (λ (m : ℕ). up 0 n ++ (m ∷ [])) (zero-add n) where
-  more : (k n : ℕ) → up k (suc n) ≡ up k n ++ (k + n ∷ [])
+  more : (k n : ℕ) → up k (suc n) ≡ up k n ++ ((k + n) ∷ [])
   more k zero = ap (λ (m : ℕ). m ∷ []) (omega arith)
   more k (suc n) = ap (λ (ms : List ℕ). k ∷ ms) (more (suc k) n ∙ ap (λ (m : ℕ). up (suc k) n ++ (m ∷ [])) (omega arith))
 

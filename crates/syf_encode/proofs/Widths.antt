@@ -1,11 +1,33 @@
 -- The search for the least width, step by step, and the bits of a number.
-use Rattle.std.proofs.Common.{◌≡◌, ℕ, zero, suc, ◌+◌, ◌-◌, ◌/◌, ◌%◌, ◌^◌, ◌<◌, ◌≤◌, ◌==◌, nat_le, Bool, true, false, List, [], ◌∷◌, ◌++◌, refl, sym, ap, ◌∙◌, add-one, append_assoc, append-nil, arith, if◌then◌else◌}
-use Rattle.std.proofs.lemmas.Bool.{lt-leb, le-leb}
+use Rattle.std.proofs.Common.{◌≡◌, ℕ, zero, suc, ◌+◌, ◌-◌, ◌*◌, ◌/◌, ◌%◌, ◌^◌, ◌<◌, ◌≤◌, ◌==◌, nat_le, Bool, true, false, List, [], ◌∷◌, ◌++◌, refl, sym, ap, ◌∙◌, add-one, append_assoc, append-nil, inl, inr, arith, if◌then◌else◌}
+use Rattle.std.proofs.lemmas.Bool.{lt-leb, le-leb, cases_lt}
+use Rattle.std.proofs.lemmas.Nat.{pow_pos}
+use Rattle.std.proofs.Math.Nat.{pow-succ'}
 use Rattle.fsm_machine.specs.Encoding.{width_from, width_of, bits_of}
 
 -- where there is no room for so many, the next width is tried
 pub width_more : (n b more : ℕ) → 2 ^ b < n → width_from n (suc b) more ≡ width_from n b (suc more)
 width_more n b more l = sym (ap (λ (t : Bool). if t then b else width_from n (suc b) more) (lt-leb n (2 ^ b) l))
+
+power_above : (w : ℕ) → w ≤ 2 ^ w
+power_above zero = omega arith
+power_above (suc w) =
+    let h = power_above w in
+    let a = pow_pos w in
+    let p : 2 ^ suc w ≡ 2 * 2 ^ w = pow-succ' 2 w in omega arith
+
+-- one step of the search, for as many states as 8 bits have room for
+pub width_step : (n w : ℕ) → 2 ^ w < n → width_from n (w + 1) (n - (w + 1)) ≡ width_from n w (n - w)
+width_step n w l =
+    let a = power_above w in
+    let e : n - w ≡ suc (n - (w + 1)) = omega arith in
+    ap (λ (b : ℕ). width_from n b (n - (w + 1))) (add-one w) ∙ width_more n w (n - (w + 1)) l ∙ ap (width_from n w) (sym e)
+
+pub width_below : (n w : ℕ) → n ≤ 256 → w ≤ 8 → 2 ^ w < n → w < 8
+width_below n w few small l = elim (cases_lt w 8) [
+  | inl h ↦ h
+  | inr h ↦ (let e : w ≡ 8 = omega arith in let p = ap (λ (k : ℕ). 2 ^ k) e in absurd (omega arith))
+]
 
 -- where there is room, it is the width
 pub width_found : (n b more : ℕ) → n ≤ 2 ^ b → width_from n b more ≡ b

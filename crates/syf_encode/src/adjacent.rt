@@ -33,7 +33,8 @@ fn reach(numbers: &[u32], state: usize, other: usize, near: &[u32]) -> u64
     requires state { state < length numbers.now }
     requires near { All (λ t. t < length numbers.now) near.now }
     requires few { length near.now ≤ 2 * most_states }
-    ensures { result ≡ reach (length numbers.now) numbers.now state other near.now }
+    ensures value { result ≡ reach (length numbers.now) numbers.now state other near.now }
+    ensures small { result ≤ 64 * most_states }
 {
     let mut sum = 0;
     for neighbour in near {
