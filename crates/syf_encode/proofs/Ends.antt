@@ -1,10 +1,11 @@
 -- The numbers at which the search ends, as codes.
-use Rattle.std.proofs.Common.{◌≡◌, ◌≤◌, ℕ, suc, ◌+◌, ◌<◌, Bool, List, length, take, drop, ◌++◌, refl, sym, ap, ◌∙◌, subst, add-one, append-nil, arith}
+use Rattle.std.proofs.Common.{◌≡◌, ◌≤◌, ℕ, suc, ◌+◌, ◌<◌, Bool, List, map, length, take, drop, ◌++◌, Option, refl, sym, ap, ◌∙◌, subst, add-one, append-nil, arith}
 use Rattle.std.proofs.lemmas.List.{take_all, drop_all}
 use Rattle.fsm_meaning.specs.Statements.{Statements}
 use Rattle.fsm_meaning.specs.Fsm.{Fsm}
-use Rattle.fsm_machine.specs.Encoding.{leads, cost, exchanges, lowered, numbered, adjacent_numbers, adjacent_codes}
+use Rattle.fsm_machine.specs.Encoding.{leads, cost, Exchange, exchanges, first_lower, lowered, numbered, adjacent_numbers, adjacent_codes}
 use Rattle.fsm_machine.specs.MachineOf.{up}
+use Rattle.syf_encode.specs.Pieces.{neighbours_by, all_neighbours}
 use Rattle.fsm_machine.proofs.Coding.{arranged_lowered, exchanges_inside, in_order}
 
 pub length_lowered : (weight : List ℕ → ℕ) (n more : ℕ) → length (lowered weight (exchanges n) more (up 0 n)) ≡ n
@@ -23,6 +24,19 @@ adjacent_are f xs n body many is e =
     let each : length xs ≡ length f.states =
     ap length here ∙ length_lowered (cost (λ s t. leads s t f.body) (length f.states)) (length f.states) (cost (λ s t. leads s t f.body) (length f.states) (up 0 (length f.states)) + 1) in
     ap (λ (k : ℕ). numbered k xs) each ∙ ap (numbered (length f.states)) same
+
+-- what is found among the numbers, as a slice has them
+pub search_is : (body : Statements) (n : ℕ) (numbers lent : List ℕ) (near : List (List ℕ)) (o : Option Exchange) → length numbers ≡ n → lent ≡ numbers
+    → near ≡ all_neighbours body n
+    → ((edge : ℕ → ℕ → Bool) → near ≡ map (neighbours_by edge (length lent)) (up 0 (length lent))
+    → o ≡ first_lower (cost edge (length lent)) lent (exchanges (length lent)))
+    → first_lower (cost (λ s t. leads s t body) n) numbers (exchanges n) ≡ o
+search_is body n numbers lent near o each same is h =
+    let edge : ℕ → ℕ → Bool = λ s t. leads s t body in
+    let many : n ≡ length lent = sym (ap length same ∙ each) in
+    ap (λ (ys : List ℕ). first_lower (cost edge n) ys (exchanges n)) (sym same)
+    ∙ ap (λ (k : ℕ). first_lower (cost edge k) lent (exchanges k)) many
+    ∙ sym (h edge (is ∙ ap (λ (k : ℕ). map (neighbours_by edge k) (up 0 k)) many))
 
 -- a slice that was lent, as the vector has it afterwards
 pub written_back : (xs ys : List ℕ) (n : ℕ) → ys ≡ xs → n ≡ length xs → take n (ys ++ drop (length ys) xs) ≡ xs
