@@ -4,6 +4,8 @@ use Rattle.fsm_machine.specs.Codes.{Codes, AreCodes}
 use Rattle.fsm_machine.specs.Encoding.{leads, cost, one_hot, numbered, adjacent_codes}
 use Rattle.fsm_machine.specs.MachineOf.{up}
 use Rattle.fsm_code.specs.View.{body_view}
+use Rattle.syf_encode.specs.Codes.{codes_by}
+use Rattle.syf_encode.specs.declared.style.Style.{Style}
 use Rattle.syf_encode.proofs.Ends.{length_lowered, adjacent_are}
 use Rattle.syf_encode.proofs.coding.encode.Goals as goal
 
@@ -25,7 +27,17 @@ returns-in-OneHot-clause-different c =
     (λ codes e. subst (AreCodes (length f.states)) (sym (e ∙ ap one_hot many)) (c.encodings_are_codes.ensures f []).0) c.one_hot.ensures
 
 pub returns-in_ok-adjacent_numbers-in-Adjacent-clause-codes : goal.returns-in_ok-adjacent_numbers-in-Adjacent-clause-codes
-returns-in_ok-adjacent_numbers-in-Adjacent-clause-codes c = ?
+returns-in_ok-adjacent_numbers-in-Adjacent-clause-codes c =
+    let f = c.args.machine.now in
+    let xs = c.deref-in-Adjacent.result.now in
+    let many = ap length (c.as_slice-count.ensures ∙ c.states.ensures.value) in
+    IfOk-weaker c.numbered-in-Adjacent.result (λ codes. codes ≡ numbered (length xs) xs) (λ codes. codes ≡ codes_by c.args.style f)
+    (λ codes e.
+        (e
+        ∙ adjacent_are f xs (length c.as_slice-count.result.now) (body_view c.body.result.now) many c.body.ensures.value
+        (c.deref-in-Adjacent.ensures.value ∙ c.in_ok-adjacent_numbers-in-Adjacent.ensures)
+        ∙ sym (ap (λ (style : Style). codes_by style f) c.in-Adjacent.is)))
+    c.numbered-in-Adjacent.ensures
 
 pub returns-in_ok-adjacent_numbers-in-Adjacent-clause-different : goal.returns-in_ok-adjacent_numbers-in-Adjacent-clause-different
 returns-in_ok-adjacent_numbers-in-Adjacent-clause-different c =
