@@ -22,21 +22,11 @@ up_split j n l = ap (up j) (let e : n - j ≡ suc (n - suc j) = omega arith in e
 up_past : (j n : ℕ) → n ≤ j → up j (n - j) ≡ []
 up_past j n l = ap (up j) (let e : n - j ≡ 0 = omega arith in e)
 
--- all of them
-pub rows_start : (n : ℕ) → exchanges n ≡ rows_from n 0
-rows_start n =
-    ap (λ (k : ℕ). flat_map (λ i. map (exchange i) (up (suc i) (n - suc i))) (up 0 k))
-    (let e : n ≡ n - 0 = omega arith in e)
-
 -- the row of a first place, and those behind it
 pub rows_next : (n i : ℕ) → i < n → rows_from n i ≡ pairs_from n i (i + 1) ++ rows_from n (i + 1)
 rows_next n i l =
     ap (λ (is : List ℕ). flat_map (λ i. map (exchange i) (up (suc i) (n - suc i))) is) (up_split i n l)
     ∙ ap (λ (k : ℕ). pairs_from n i k ++ rows_from n k) (sym (add-one i))
-
--- no row is left
-pub rows_end : (n i : ℕ) → n ≤ i → rows_from n i ≡ []
-rows_end n i l = ap (λ (is : List ℕ). flat_map (λ i. map (exchange i) (up (suc i) (n - suc i))) is) (up_past i n l)
 
 -- one pair of a row, and those behind it
 pub pairs_next : (n i j : ℕ) (more : List Exchange) → j < n
@@ -44,10 +34,6 @@ pub pairs_next : (n i j : ℕ) (more : List Exchange) → j < n
 pairs_next n i j more l =
     ap (λ (js : List ℕ). map (exchange i) js ++ more) (up_split j n l)
     ∙ ap (λ (k : ℕ). exchange i j ∷ (pairs_from n i k ++ more)) (sym (add-one j))
-
--- no pair of a row is left
-pub pairs_end : (n i j : ℕ) (more : List Exchange) → n ≤ j → pairs_from n i j ++ more ≡ more
-pairs_end n i j more l = ap (λ (js : List ℕ). map (exchange i) js ++ more) (up_past j n l)
 
 -- the first of them lowers the weight, or the search goes on behind it
 pub lowers_here : (weight : List ℕ → ℕ) (numbers : List ℕ) (xs more : List Exchange) (x : Exchange) → xs ≡ x ∷ more

@@ -2,7 +2,6 @@ pub mod Apart
 pub mod Upward
 pub mod Widths
 pub mod Shuffling
-pub mod Marking
 pub mod Neighbours
 pub mod Sums
 pub mod Exchanging

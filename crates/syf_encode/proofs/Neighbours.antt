@@ -19,44 +19,6 @@ pub record Tells (body : Statements) (count rows : ℕ) (table : List (List Bool
   pub whole : (s : ℕ) → s < rows → length (row table s) ≡ count
   pub tells : (s t : ℕ) → s < rows → t < count → edge table s t ≡ leads s t body
 
-pub nothing_told : (body : Statements) (count : ℕ) → Tells body count 0 []
-nothing_told body count = record {
-  each = refl;
-  whole = λ s l. absurd (omega arith);
-  tells = λ s t l m. absurd (omega arith);
-}
-
--- one row more
-pub one_row : (body : Statements) (count rows : ℕ) (table : List (List Bool)) (marks : List Bool) → Tells body count rows table → length marks ≡ count
-    → ((t : ℕ) → t < count → is_marked marks t ≡ leads rows t body) → Tells body count (rows + 1) (table ++ (marks ∷ []))
-one_row body count rows table marks h e is =
-    let each = h.each in
-    let old : (s : ℕ) → s < rows → row (table ++ (marks ∷ [])) s ≡ row table s = λ s l. get_or_append_left table (marks ∷ []) [] s (omega arith) in
-    let new : row (table ++ (marks ∷ [])) rows ≡ marks = get_or_push table marks [] rows each in
-    record {
-      each = length-append table (marks ∷ []) ∙ ap (λ (k : ℕ). k + 1) each;
-      whole = λ s l. by_whole s old new (s == rows) refl l;
-      tells = λ s t l m. by_tells s t old new (s == rows) refl l m;
-    } where
-      below : (s : ℕ) → (s == rows) ≡ false → s < rows + 1 → s < rows
-      below s f l = let ne = eqb-false s rows f in omega arith
-
-      by_whole : (s : ℕ) → ((s : ℕ) → s < rows → row (table ++ (marks ∷ [])) s ≡ row table s) → row (table ++ (marks ∷ [])) rows ≡ marks
-          → (b : Bool) → (s == rows) ≡ b → s < rows + 1 → length (row (table ++ (marks ∷ [])) s) ≡ count
-      by_whole s old new true f l = ap (λ (k : ℕ). length (row (table ++ (marks ∷ [])) k)) (eqb-true s rows f) ∙ ap length new ∙ e
-      by_whole s old new false f l = ap length (old s (below s f l)) ∙ h.whole s (below s f l)
-
-      by_tells : (s t : ℕ) → ((s : ℕ) → s < rows → row (table ++ (marks ∷ [])) s ≡ row table s) → row (table ++ (marks ∷ [])) rows ≡ marks
-          → (b : Bool) → (s == rows) ≡ b → s < rows + 1 → t < count → edge (table ++ (marks ∷ [])) s t ≡ leads s t body
-      by_tells s t old new true f l m =
-          ap (λ (k : ℕ). edge (table ++ (marks ∷ [])) k t) (eqb-true s rows f) ∙ ap (λ (r : List Bool). is_marked r t) new ∙ is t m
-          ∙ ap (λ (k : ℕ). leads k t body) (sym (eqb-true s rows f))
-      by_tells s t old new false f l m = ap (λ (r : List Bool). is_marked r t) (old s (below s f l)) ∙ h.tells s t (below s f l) m
-
--- a row of a table of vectors
-pub row_of : (table : List (Vec Bool)) (s : ℕ) (v : Vec Bool) → s < length table → v ≡ get_or table s v → row (map (λ v. v.items) table) s ≡ v.items
-row_of table s v l e = at_map (λ (v : Vec Bool). v.items) v [] table s l ∙ ap (λ (w : Vec Bool). w.items) (sym e)
-
 pub near_of : (table : List (Vec ℕ)) (s : ℕ) (v : Vec ℕ) → s < length table → v ≡ get_or table s v → slice_index_or (map (λ v. v.items) table) s [] ≡ v.items
 near_of table s v l e = at_map (λ (v : Vec ℕ). v.items) v [] table s l ∙ ap (λ (w : Vec ℕ). w.items) (sym e)
 
@@ -72,7 +34,7 @@ edge_itself true s t h = rw (eq-eqb s t h) refl
 edge_itself false s t h = refl
 
 -- edges that agree below n give the same neighbours
-pub neighbours_same : (f g : ℕ → ℕ → Bool) (n s : ℕ) → s < n → ((s t : ℕ) → s < n → t < n → f s t ≡ g s t) → neighbours_by f n s ≡ neighbours_by g n s
+neighbours_same : (f g : ℕ → ℕ → Bool) (n s : ℕ) → s < n → ((s t : ℕ) → s < n → t < n → f s t ≡ g s t) → neighbours_by f n s ≡ neighbours_by g n s
 neighbours_same f g n s l h =
     ap (λ (xs : List ℕ). xs ++ filter (λ t. f t s && not (t == s)) (up 0 n))
     (filter_same (λ t. f s t && not (s == t)) (λ t. g s t && not (s == t)) 0 n (λ t a b. ap (λ (e : Bool). e && not (s == t)) (h s t l (omega arith))))

@@ -14,7 +14,7 @@ use Rattle.syf_encode.specs.Pieces.{reach, AreEdges, neighbours_by}
 use Rattle.syf_encode.proofs.Neighbours.{near_of, neighbours_below, neighbours_few, neighbours_at}
 
 -- the numbers are below their count, so that the bits of a code hold each
-pub code_fits : (numbers : List ℕ) (s : ℕ) → All (λ k. k < length numbers) numbers → s < length numbers
+code_fits : (numbers : List ℕ) (s : ℕ) → All (λ k. k < length numbers) numbers → s < length numbers
     → slice_index numbers s < 2 ^ width_of (length numbers)
 code_fits numbers s h l =
     let a = All-get_or (λ k. k < length numbers) numbers s 0 l h in
@@ -49,7 +49,7 @@ pub near_length : (n : ℕ) (near : List (Vec ℕ)) → AreEdges n (map (λ v. v
 near_length n near h = sym (length-map near (λ (v : Vec ℕ). v.items)) ∙ ap length h.are ∙ length-map (up 0 n) (neighbours_by h.edges n) ∙ length_up 0 n
 
 -- the neighbours of a state are those of its edges
-pub own_near : (n s : ℕ) (near : List (Vec ℕ)) (v : Vec ℕ) (own : List ℕ) (h : AreEdges n (map (λ v. v.items) near)) → s < n → v ≡ get_or near s v → own ≡ v.items
+own_near : (n s : ℕ) (near : List (Vec ℕ)) (v : Vec ℕ) (own : List ℕ) (h : AreEdges n (map (λ v. v.items) near)) → s < n → v ≡ get_or near s v → own ≡ v.items
     → own ≡ neighbours_by h.edges n s
 own_near n s near v own h l at e =
     e ∙ sym (near_of near s v (let k = near_length n near h in omega arith) at) ∙ neighbours_at h.edges n s (map (λ v. v.items) near) h.are l
@@ -82,16 +82,6 @@ inside n i j k a b c = by (k == j) (k == i) where
   by true u = a
   by false true = b
   by false false = c
-
--- an exchange keeps the numbers below their count
-pub below_swapped : (n : ℕ) (xs : List ℕ) (i j : ℕ) → length xs ≡ n → i < n → j < n → All (λ k. k < n) xs → All (λ k. k < n) (swap xs i j)
-below_swapped n xs i j e l m h =
-    let c = length_swap xs i j (omega arith) (omega arith) in
-    All-from_get_or (λ k. k < n) (swap xs i j) 0 (λ k a.
-        (let g = swapped_at xs i j k (omega arith) (omega arith) in
-        let t = inside n i j k l m (omega arith) in
-        let b = All-get_or (λ k. k < n) xs (turned i j k) 0 (omega arith) h in
-        omega arith))
 
 -- the same exchange twice changes nothing
 pub swapped_back : (xs : List ℕ) (i j : ℕ) → i < length xs → j < length xs → swap (swap xs i j) i j ≡ xs

@@ -8,7 +8,7 @@ use Rattle.fsm_machine.specs.MachineOf.{up}
 abbrev pub when : Bool → ℕ → ℕ
 when c v = if c then v else 0
 
-pub sum_first : (f : ℕ → ℕ) (x : ℕ) (xs : List ℕ) → sum_by f (x ∷ xs) ≡ f x + sum_by f xs
+sum_first : (f : ℕ → ℕ) (x : ℕ) (xs : List ℕ) → sum_by f (x ∷ xs) ≡ f x + sum_by f xs
 sum_first f x xs = sum_by-cons f x xs
 
 pub sum_same : (f g : ℕ → ℕ) (k n : ℕ) → ((x : ℕ) → k ≤ x → x < k + n → f x ≡ g x) → sum_by f (up k n) ≡ sum_by g (up k n)
@@ -29,7 +29,7 @@ sum_added f g (x ∷ xs) =
     let c = sum_first g x xs in
     omega arith
 
-pub sum_nothing : (xs : List ℕ) → sum_by (λ x. 0) xs ≡ 0
+sum_nothing : (xs : List ℕ) → sum_by (λ x. 0) xs ≡ 0
 sum_nothing [] = refl
 sum_nothing (x ∷ xs) = let h = sum_nothing xs in let a = sum_first (λ y. 0) x xs in omega arith
 

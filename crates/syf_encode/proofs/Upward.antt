@@ -45,7 +45,7 @@ filter_same p q k (suc n) h =
     ap (λ (b : Bool). cond b (k ∷ filter p (up (suc k) n)) (filter p (up (suc k) n))) (h k (omega arith) (omega arith))
     ∙ ap (λ (ks : List ℕ). cond (q k) (k ∷ ks) ks) (filter_same p q (suc k) n (λ t l m. h t (omega arith) (omega arith)))
 
-pub up_below : (n : ℕ) → All (λ t. t < n) (up 0 n)
+up_below : (n : ℕ) → All (λ t. t < n) (up 0 n)
 up_below n = All-from_get_or (λ t. t < n) (up 0 n) 0 (λ i l.
     (let w = length_up 0 n in
     let e = at_up 0 n i 0 (omega arith) in omega arith))

@@ -4,7 +4,7 @@ use Rattle.fsm_machine.specs.MachineOf.{up}
 use Rattle.fsm_machine.proofs.Coding.{IsArranged, in_order, arranged_swap}
 use Rattle.fsm_code.specs.View.{body_view}
 use Rattle.syf_encode.specs.Pieces.{exchange_view}
-use Rattle.syf_encode.proofs.Searching.{found_lowers, step_down, no_step}
+use Rattle.syf_encode.proofs.Searching.{goes_down, goes_on, no_step}
 use Rattle.syf_encode.proofs.Reaching.{arranged_below}
 use Rattle.syf_encode.proofs.Ends.{search_is, written_back}
 use Rattle.syf_encode.proofs.adjacent.adjacent_numbers.Goals as goal
@@ -36,7 +36,7 @@ loop-pair-smaller c =
     let back = written_back numbers c.first_lower.new.numbers c.loop-pair.numbers.len (c.first_lower.ensures.same ∙ c.deref_mut.ensures.value)
     (sym c.deref_mut.ensures.len ∙ ap length c.deref_mut.ensures.value) in
     let after : c.swap.new.self.items ≡ exchanged numbers x = c.swap.ensures.items ∙ ap (λ (xs : List ℕ). swap xs x.first x.second) back in
-    subst (λ (xs : List ℕ). weight xs < weight numbers) (sym after) (found_lowers weight numbers (exchanges n) x found)
+    goes_down weight (exchanges n) numbers c.swap.new.self.items x found after
 
 pub loop-pair-preserved : goal.loop-pair-preserved
 loop-pair-preserved c =
@@ -55,9 +55,7 @@ loop-pair-preserved c =
     let within = c.in-Some.ensures.within in
     record {
       arranged = subst (IsArranged n) (sym after) (arranged_swap n numbers x.first x.second (omega arith) (omega arith) c.loop-pair.invariant.arranged);
-      same =
-          ap (λ (xs : List ℕ). lowered weight (exchanges n) (weight xs + 1) xs) after
-          ∙ step_down weight (exchanges n) numbers x found (found_lowers weight numbers (exchanges n) x found) ∙ c.loop-pair.invariant.same;
+      same = goes_on weight (exchanges n) numbers c.swap.new.self.items x found after ∙ c.loop-pair.invariant.same;
     }
 
 pub returns : goal.returns
