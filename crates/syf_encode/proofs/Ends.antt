@@ -1,5 +1,5 @@
 -- The numbers at which the search ends, as codes.
-use Rattle.std.proofs.Common.{◌≡◌, ◌≤◌, ℕ, suc, ◌+◌, ◌<◌, Bool, List, map, length, take, drop, ◌++◌, Option, refl, sym, ap, ◌∙◌, subst, add-one, append-nil, arith}
+use Rattle.std.proofs.Common.{◌≡◌, ℕ, ◌+◌, Bool, List, map, length, take, drop, ◌++◌, Option, sym, ap, ◌∙◌, add-one, append-nil, arith}
 use Rattle.std.proofs.lemmas.List.{take_all, drop_all}
 use Rattle.fsm_meaning.specs.Statements.{Statements}
 use Rattle.fsm_meaning.specs.Fsm.{Fsm}

@@ -1,6 +1,6 @@
 -- All exchanges of two of n states, in their order, and what the search finds among those that are left.
-use Rattle.std.proofs.Common.{◌≡◌, ℕ, zero, suc, ◌+◌, ◌-◌, ◌<◌, ◌≤◌, nat_lt, Bool, true, false, List, [], ◌∷◌, ◌++◌, map, length, flat_map, Option, None, Some, refl, sym, ap, ◌∙◌, add-one, arith, if◌then◌else◌}
-use Rattle.fsm_machine.specs.Encoding.{Exchange, exchanges, exchanged, first_lower, cost}
+use Rattle.std.proofs.Common.{◌≡◌, ℕ, suc, ◌+◌, ◌-◌, ◌<◌, ◌≤◌, nat_lt, Bool, true, false, List, [], ◌∷◌, ◌++◌, map, length, flat_map, Some, refl, sym, ap, ◌∙◌, add-one, arith, if◌then◌else◌}
+use Rattle.fsm_machine.specs.Encoding.{Exchange, exchanged, first_lower, cost}
 use Rattle.fsm_machine.specs.MachineOf.{up}
 use Rattle.syf_encode.specs.Pieces.{neighbours_by, pair_weight}
 use Rattle.syf_encode.proofs.Exchanging.{lowers_alike}

@@ -1,14 +1,14 @@
 -- What an exchange of two states changes of the cost: only what the edges of these two cost.
-use Rattle.std.proofs.Common.{◌≡◌, ◌≢◌, ℕ, suc, ◌+◌, ◌*◌, ◌==◌, ◌<◌, ◌≤◌, nat_lt, Bool, true, false, not, ◌&&◌, List, [], map, length, filter, sum_by, refl, sym, ap, ◌∙◌, arith, if◌then◌else◌}
+use Rattle.std.proofs.Common.{◌≡◌, ◌≢◌, ℕ, ◌+◌, ◌==◌, ◌<◌, nat_lt, Bool, true, false, not, ◌&&◌, List, map, length, filter, sum_by, refl, ap, ◌∙◌, arith, if◌then◌else◌}
 use Rattle.std.specs.List.{slice_index_or, swap}
 use Rattle.std.proofs.lemmas.Bool.{ltb-true, ltb-false, eqb-true, eq-eqb}
 use Rattle.fsm_machine.specs.MachineOf.{up}
 use Rattle.fsm_machine.specs.Encoding.{bits_of, width_of, apart, distance, cost, Exchange, exchanged}
-use Rattle.fsm_machine.proofs.Coding.{at_map, at_up, turned_first, turned_second, swapped_at, length_swap}
-use Rattle.fsm_machine.proofs.States.{length_up}
+use Rattle.fsm_machine.proofs.Coding.{turned_first, turned_second, swapped_at, length_swap}
 use Rattle.syf_encode.specs.Pieces.{neighbours_by, reach, pair_weight}
 use Rattle.syf_encode.proofs.Apart.{apart_turned}
-use Rattle.syf_encode.proofs.Sums.{when, sum_same, sum_added, sum_crossed, sum_behind, sum_filtered, sum_without}
+use Rattle.syf_encode.proofs.Neighbours.{neighbours_at}
+use Rattle.syf_encode.proofs.Sums.{when, sum_same, sum_added, sum_behind, sum_filtered, sum_without}
 
 -- what one ordered pair costs
 abbrev pair_cost : (ℕ → ℕ → Bool) → ℕ → List ℕ → ℕ → ℕ → ℕ
@@ -206,16 +206,9 @@ lowers_alike edge n xs x near e l m is =
     rw (before, after, parts, others, same, between)
     (below_alike (elsewhere edge n xs i j) (around edge n ys i j + around edge n ys j i) (around edge n xs i j + around edge n xs j i)
     (pair_cost edge n xs i j + pair_cost edge n xs j i)) where
-      -- the neighbours of a state stand at its number
-      near_at : (k : ℕ) → k < n → slice_index_or near k [] ≡ neighbours_by edge n k
-      near_at k h =
-          ap (λ (rows : List (List ℕ)). slice_index_or rows k []) is
-          ∙ at_map (neighbours_by edge n) 0 [] (up 0 n) k (let w = length_up 0 n in omega arith)
-          ∙ ap (neighbours_by edge n) (let w = at_up 0 n k 0 h in omega arith)
-
       weight_is : (zs : List ℕ) → length zs ≡ n → pair_weight zs x near ≡ around edge n zs x.first x.second + around edge n zs x.second x.first
       weight_is zs g =
-          rw (g, near_at x.first (omega arith), near_at x.second m)
+          rw (g, neighbours_at edge n x.first near is (omega arith), neighbours_at edge n x.second near is m)
           (let a = reach_is edge n zs x.first x.second in let b = reach_is edge n zs x.second x.first in omega arith)
 
       below_alike : (out a b between : ℕ) → nat_lt a b ≡ nat_lt (out + (a + between)) (out + (b + between))

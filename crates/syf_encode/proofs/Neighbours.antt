@@ -1,16 +1,16 @@
 -- The table of which states lead to which, and each state's neighbours.
-use Rattle.std.proofs.Common.{◌≡◌, ◌≢◌, ℕ, zero, suc, ◌+◌, ◌*◌, ◌<◌, ◌≤◌, ◌==◌, Bool, true, false, not, ◌&&◌, ◌||◌, All, List, [], ◌∷◌, ◌++◌, map, length, filter, get_or, refl, sym, ap, ◌∙◌, subst, arith}
+use Rattle.std.proofs.Common.{◌≡◌, ◌≢◌, ℕ, ◌*◌, ◌<◌, ◌≤◌, ◌==◌, Bool, true, false, not, ◌&&◌, All, List, [], ◌++◌, map, length, filter, get_or, refl, sym, ap, ◌∙◌, arith}
 use Rattle.std.specs.List.{slice_index_or}
 use Rattle.std.specs.Global.{Vec}
-use Rattle.std.proofs.lemmas.List.{map-append, length-append, length-map, get_or_append_left, get_or_push}
+use Rattle.std.proofs.lemmas.List.{length-append}
 use Rattle.std.proofs.lemmas.List.Elements.{All-append}
-use Rattle.std.proofs.lemmas.Bool.{eq-eqb, ne_eqb, eqb-true, eqb-false}
+use Rattle.std.proofs.lemmas.Bool.{eq-eqb, ne_eqb}
 use Rattle.fsm_meaning.specs.Statements.{Statements}
 use Rattle.fsm_machine.specs.Encoding.{leads}
 use Rattle.fsm_machine.specs.MachineOf.{up}
 use Rattle.fsm_machine.proofs.Coding.{at_map, at_up}
 use Rattle.fsm_machine.proofs.States.{length_up}
-use Rattle.syf_encode.specs.Pieces.{is_marked, row, edge, neighbours_by, all_neighbours}
+use Rattle.syf_encode.specs.Pieces.{row, edge, neighbours_by, all_neighbours}
 use Rattle.syf_encode.proofs.Upward.{map_same, filter_same, filter_below, filter_few}
 
 -- the first rows of a table are whole, and tell which states lead to which

@@ -1,5 +1,5 @@
 -- The search, step by step.
-use Rattle.std.proofs.Common.{◌≡◌, ℕ, zero, suc, ◌+◌, ◌-◌, ◌<◌, ◌≤◌, nat_lt, Bool, true, false, List, [], ◌∷◌, unwrap_or, subst, if◌then◌else◌, None, Some, refl, sym, ap, ◌∙◌, zero-add, arith}
+use Rattle.std.proofs.Common.{◌≡◌, ℕ, zero, suc, ◌+◌, ◌-◌, ◌<◌, nat_lt, Bool, true, false, List, [], ◌∷◌, unwrap_or, subst, if◌then◌else◌, None, Some, refl, sym, ap, ◌∙◌, zero-add, arith}
 use Rattle.std.proofs.lemmas.Bool.{ltb-true}
 use Rattle.fsm_machine.specs.Encoding.{Exchange, exchanged, exchanged_by, first_lower, lowered}
 use Rattle.fsm_machine.proofs.Coding.{stays, lowered_ends}
@@ -18,10 +18,6 @@ enough_steps weight xs more further numbers l = after more further numbers ∙ s
 one_step : (weight : List ℕ → ℕ) (xs : List Exchange) (more : ℕ) (numbers : List ℕ) (x : Exchange) → first_lower weight numbers xs ≡ Some x
     → lowered weight xs (suc more) numbers ≡ lowered weight xs more (exchanged numbers x)
 one_step weight xs more numbers x e = ap (λ y. lowered weight xs more (exchanged_by numbers y)) e
-
--- no step is left
-pub no_step : (weight : List ℕ → ℕ) (xs : List Exchange) (more : ℕ) (numbers : List ℕ) → first_lower weight numbers xs ≡ None → lowered weight xs more numbers ≡ numbers
-no_step weight xs more numbers e = stays weight xs more numbers e
 
 -- an exchange that lowers the weight, and then the search from there, is the search
 step_down : (weight : List ℕ → ℕ) (xs : List Exchange) (numbers : List ℕ) (x : Exchange) → first_lower weight numbers xs ≡ Some x
@@ -55,3 +51,8 @@ pub goes_on : (weight : List ℕ → ℕ) (xs : List Exchange) (numbers new : Li
     → lowered weight xs (weight new + 1) new ≡ lowered weight xs (weight numbers + 1) numbers
 goes_on weight xs numbers new x e is =
     ap (λ (ys : List ℕ). lowered weight xs (weight ys + 1) ys) is ∙ step_down weight xs numbers x e (found_lowers weight numbers xs x e)
+
+-- where none is found, the search ends
+pub goes_no_further : (weight : List ℕ → ℕ) (xs : List Exchange) (numbers end whole : List ℕ) → first_lower weight numbers xs ≡ None → end ≡ numbers
+    → lowered weight xs (weight numbers + 1) numbers ≡ whole → end ≡ whole
+goes_no_further weight xs numbers end whole e is h = is ∙ sym (stays weight xs (weight numbers + 1) numbers e) ∙ h

@@ -1,9 +1,7 @@
 -- Shuffles by the words of a generator, step by step.
-use Rattle.std.proofs.Common.{◌≡◌, ℕ, zero, suc, ◌+◌, ◌-◌, ◌%◌, ◌<◌, ◌≤◌, List, length, swap, refl, sym, ap, ◌∙◌, subst, add-one, arith}
+use Rattle.std.proofs.Common.{◌≡◌, ℕ, suc, ◌+◌, ◌%◌, List, swap, sym, ap, ◌∙◌, add-one}
 use Rattle.rand_core.specs.Steps.{first_words}
 use Rattle.fsm_machine.specs.Encoding.{shuffled}
-use Rattle.fsm_machine.specs.MachineOf.{up}
-use Rattle.fsm_machine.proofs.Coding.{IsArranged, arranged_shuffled, in_order}
 
 -- one place by the next word, and then the places below it
 pub shuffled_more : {S : Type 0} (step : S → ℕ × S) (place left word : ℕ) (s t : S) (xs : List ℕ) → place ≡ suc left → (word, t) ≡ step s

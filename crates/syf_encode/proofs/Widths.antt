@@ -1,9 +1,9 @@
 -- The search for the least width, step by step, and the bits of a number.
-use Rattle.std.proofs.Common.{◌≡◌, ℕ, zero, suc, ◌+◌, ◌-◌, ◌*◌, ◌/◌, ◌%◌, ◌^◌, ◌<◌, ◌≤◌, ◌==◌, nat_le, Bool, true, false, List, [], ◌∷◌, ◌++◌, refl, sym, ap, ◌∙◌, add-one, append_assoc, append-nil, inl, inr, arith, if◌then◌else◌}
-use Rattle.std.proofs.lemmas.Bool.{lt-leb, le-leb, cases_lt}
+use Rattle.std.proofs.Common.{◌≡◌, ℕ, zero, suc, ◌+◌, ◌-◌, ◌*◌, ◌/◌, ◌%◌, ◌^◌, ◌<◌, ◌≤◌, ◌==◌, Bool, List, [], ◌∷◌, ◌++◌, sym, ap, ◌∙◌, add-one, append_assoc, inl, inr, arith, if◌then◌else◌}
+use Rattle.std.proofs.lemmas.Bool.{lt-leb, cases_lt}
 use Rattle.std.proofs.lemmas.Nat.{pow_pos}
 use Rattle.std.proofs.Math.Nat.{pow-succ'}
-use Rattle.fsm_machine.specs.Encoding.{width_from, width_of, bits_of}
+use Rattle.fsm_machine.specs.Encoding.{width_from, bits_of}
 
 -- where there is no room for so many, the next width is tried
 width_more : (n b more : ℕ) → 2 ^ b < n → width_from n (suc b) more ≡ width_from n b (suc more)

@@ -1,10 +1,9 @@
-use Rattle.std.proofs.Common.{◌≡◌, ◌+◌, ◌<◌, ℕ, All, List, Bool, Some, None, option_map, map, length, swap, ap, sym, subst, ◌∙◌, arith}
+use Rattle.std.proofs.Common.{◌≡◌, ◌+◌, ◌<◌, ℕ, All, List, Some, None, option_map, map, length, swap, ap, sym, subst, ◌∙◌, arith}
 use Rattle.fsm_machine.specs.Encoding.{leads, cost, exchanges, exchanged, first_lower, lowered}
-use Rattle.fsm_machine.specs.MachineOf.{up}
 use Rattle.fsm_machine.proofs.Coding.{IsArranged, in_order, arranged_swap}
 use Rattle.fsm_code.specs.View.{body_view}
 use Rattle.syf_encode.specs.Pieces.{exchange_view}
-use Rattle.syf_encode.proofs.Searching.{goes_down, goes_on, no_step}
+use Rattle.syf_encode.proofs.Searching.{goes_down, goes_on, goes_no_further}
 use Rattle.syf_encode.proofs.Reaching.{arranged_below}
 use Rattle.syf_encode.proofs.Ends.{search_is, written_back}
 use Rattle.syf_encode.proofs.adjacent.adjacent_numbers.Goals as goal
@@ -67,6 +66,6 @@ returns c =
     search_is (body_view c.args.body.now) n numbers c.deref_mut.result.now (map (λ v. v.items) c.deref.result.now) (option_map exchange_view c.first_lower.result)
     c.loop-pair.invariant.arranged.each c.deref_mut.ensures.value (ap (map (λ v. v.items)) c.deref.ensures.value ∙ c.in_ok-near.ensures) c.first_lower.ensures.value
     ∙ ap (option_map exchange_view) c.in_default.is in
-    written_back numbers c.first_lower.new.numbers c.loop-pair.numbers.len (c.first_lower.ensures.same ∙ c.deref_mut.ensures.value)
-    (sym c.deref_mut.ensures.len ∙ ap length c.deref_mut.ensures.value)
-    ∙ sym (no_step weight (exchanges n) (weight numbers + 1) numbers none) ∙ c.loop-pair.invariant.same
+    let back = written_back numbers c.first_lower.new.numbers c.loop-pair.numbers.len (c.first_lower.ensures.same ∙ c.deref_mut.ensures.value)
+    (sym c.deref_mut.ensures.len ∙ ap length c.deref_mut.ensures.value) in
+    goes_no_further weight (exchanges n) numbers _ _ none back c.loop-pair.invariant.same

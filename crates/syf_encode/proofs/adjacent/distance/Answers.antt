@@ -1,4 +1,4 @@
-use Rattle.std.proofs.Common.{◌≡◌, ◌<◌, ◌≤◌, ◌^◌, bit_xor, sym, ◌∙◌, arith}
+use Rattle.std.proofs.Common.{bit_xor, sym, ◌∙◌, arith}
 use Rattle.std.proofs.lemmas.Nat.{xor_of_32, ones-le}
 use Rattle.syf_encode.proofs.Apart.{ones_apart}
 use Rattle.syf_encode.proofs.adjacent.distance.Goals as goal

@@ -1,4 +1,4 @@
-use Rattle.std.proofs.Common.{◌≡◌, ◌+◌, ◌<◌, ◌++◌, ℕ, map, length, ap, sym, ◌∙◌, arith}
+use Rattle.std.proofs.Common.{◌+◌, ◌<◌, ◌++◌, map, length, ap, sym, ◌∙◌, arith}
 use Rattle.fsm_machine.specs.Encoding.{cost, first_lower}
 use Rattle.syf_encode.proofs.Exchanges.{exchange, pairs_from, rows_from, rows_next, pairs_next, lowers_here, lowers_later, tells_cost}
 use Rattle.syf_encode.proofs.adjacent.first_lower.Goals as goal

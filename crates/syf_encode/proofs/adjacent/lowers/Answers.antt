@@ -1,4 +1,4 @@
-use Rattle.std.proofs.Common.{◌≡◌, ◌<◌, ℕ, List, nat_lt, map, length, swap, ap, ◌∙◌, arith}
+use Rattle.std.proofs.Common.{ℕ, List, nat_lt, map, swap, ap, ◌∙◌, arith}
 use Rattle.fsm_machine.specs.Encoding.{exchanged}
 use Rattle.syf_encode.specs.Pieces.{pair_weight, exchange_view}
 use Rattle.syf_encode.proofs.Reaching.{swapped_back}

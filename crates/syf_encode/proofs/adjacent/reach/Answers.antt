@@ -1,4 +1,4 @@
-use Rattle.std.proofs.Common.{◌≡◌, ◌+◌, ◌<◌, ℕ, length, get_or, ap, refl, ◌∙◌, arith}
+use Rattle.std.proofs.Common.{◌+◌, ◌<◌, ℕ, length, get_or, ap, refl, ◌∙◌, arith}
 use Rattle.std.proofs.lemmas.List.Elements.{All-get_or}
 use Rattle.syf_encode.proofs.Reaching.{reach_more, reach_without}
 use Rattle.syf_encode.proofs.adjacent.reach.Goals.{then-place-other, else-place-other}

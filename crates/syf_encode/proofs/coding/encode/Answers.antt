@@ -1,7 +1,7 @@
-use Rattle.std.proofs.Common.{◌≡◌, ◌+◌, ◌≤◌, ℕ, [], List, length, ap, sym, subst, ◌∙◌, arith}
+use Rattle.std.proofs.Common.{◌≡◌, ◌+◌, ℕ, [], List, length, ap, sym, subst, ◌∙◌, arith}
 use Rattle.std.proofs.lemmas.Result.{IfOk-weaker}
-use Rattle.fsm_machine.specs.Codes.{Codes, AreCodes}
-use Rattle.fsm_machine.specs.Encoding.{leads, cost, one_hot, numbered, adjacent_codes}
+use Rattle.fsm_machine.specs.Codes.{AreCodes}
+use Rattle.fsm_machine.specs.Encoding.{leads, cost, one_hot, numbered}
 use Rattle.fsm_machine.specs.MachineOf.{up}
 use Rattle.fsm_code.specs.View.{body_view}
 use Rattle.syf_encode.specs.Codes.{codes_by}

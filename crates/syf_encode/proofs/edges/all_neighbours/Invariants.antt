@@ -1,8 +1,7 @@
-use Rattle.std.proofs.Common.{◌≡◌, ◌<◌, ℕ, map, length}
-use Rattle.fsm_machine.specs.Encoding.{leads}
+use Rattle.std.proofs.Common.{◌≡◌, map}
 use Rattle.fsm_machine.specs.MachineOf.{up}
 use Rattle.fsm_code.specs.View.{body_view}
-use Rattle.syf_encode.specs.Pieces.{row, edge, neighbours_by}
+use Rattle.syf_encode.specs.Pieces.{edge, neighbours_by}
 use Rattle.syf_encode.proofs.Neighbours.{Tells}
 use Rattle.syf_encode.proofs.edges.all_neighbours.Given as goal
 
