@@ -90,8 +90,8 @@ swapped_back xs i j l m =
     let b = length_swap (swap xs i j) i j (omega arith) (omega arith) in
     ext_get_or 0 (swap (swap xs i j) i j) xs (b ∙ a)
     (λ k h.
-        (swapped_at (swap xs i j) i j k (omega arith) (omega arith) ∙ swapped_at xs i j (turned i j k) l m
-        ∙ ap (λ (t : ℕ). slice_index_or xs t 0) (back i j k)))
+    (swapped_at (swap xs i j) i j k (omega arith) (omega arith) ∙ swapped_at xs i j (turned i j k) l m
+    ∙ ap (λ (t : ℕ). slice_index_or xs t 0) (back i j k)))
 
 -- numbers in some order are below their count
 pub arranged_below : (n : ℕ) (numbers : List ℕ) → IsArranged n numbers → All (λ k. k < length numbers) numbers

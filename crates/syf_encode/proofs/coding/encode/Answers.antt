@@ -33,10 +33,10 @@ returns-in_ok-adjacent_numbers-in-Adjacent-clause-codes c =
     let many = ap length (c.as_slice-count.ensures ∙ c.states.ensures.value) in
     IfOk-weaker c.numbered-in-Adjacent.result (λ codes. codes ≡ numbered (length xs) xs) (λ codes. codes ≡ codes_by c.args.style f)
     (λ codes e.
-        (e
-        ∙ adjacent_are f xs (length c.as_slice-count.result.now) (body_view c.body.result.now) many c.body.ensures.value
-        (c.deref-in-Adjacent.ensures.value ∙ c.in_ok-adjacent_numbers-in-Adjacent.ensures)
-        ∙ sym (ap (λ (style : Style). codes_by style f) c.in-Adjacent.is)))
+    (e
+    ∙ adjacent_are f xs (length c.as_slice-count.result.now) (body_view c.body.result.now) many c.body.ensures.value
+    (c.deref-in-Adjacent.ensures.value ∙ c.in_ok-adjacent_numbers-in-Adjacent.ensures)
+    ∙ sym (ap (λ (style : Style). codes_by style f) c.in-Adjacent.is)))
     c.numbered-in-Adjacent.ensures
 
 pub returns-in_ok-adjacent_numbers-in-Adjacent-clause-different : goal.returns-in_ok-adjacent_numbers-in-Adjacent-clause-different
@@ -46,10 +46,10 @@ returns-in_ok-adjacent_numbers-in-Adjacent-clause-different c =
     let many = ap length (c.as_slice-count.ensures ∙ c.states.ensures.value) in
     IfOk-weaker c.numbered-in-Adjacent.result (λ codes. codes ≡ numbered (length xs) xs) (AreCodes (length f.states))
     (λ codes e.
-        subst (AreCodes (length f.states))
-        (sym
-        (e
-        ∙ adjacent_are f xs (length c.as_slice-count.result.now) (body_view c.body.result.now) many c.body.ensures.value
-        (c.deref-in-Adjacent.ensures.value ∙ c.in_ok-adjacent_numbers-in-Adjacent.ensures)))
-        (c.encodings_are_codes.ensures f []).2)
+    subst (AreCodes (length f.states))
+    (sym
+    (e
+    ∙ adjacent_are f xs (length c.as_slice-count.result.now) (body_view c.body.result.now) many c.body.ensures.value
+    (c.deref-in-Adjacent.ensures.value ∙ c.in_ok-adjacent_numbers-in-Adjacent.ensures)))
+    (c.encodings_are_codes.ensures f []).2)
     c.numbered-in-Adjacent.ensures
