@@ -1,28 +1,28 @@
 -- What an exchange of two states changes of the cost: only what the edges of these two cost.
-use Rattle.std.proofs.Common.{◌≡◌, ◌≢◌, ℕ, suc, ◌+◌, ◌*◌, ◌==◌, ◌<◌, ◌≤◌, nat_lt, Bool, true, false, not, ◌&&◌, List, [], map, length, filter, sum_by, refl, sym, ap, ◌∙◌, arith, if◌then◌else◌}
+use Rattle.std.proofs.Common.{◌≡◌, ◌≢◌, ℕ, ◌+◌, ◌==◌, ◌<◌, nat_lt, Bool, true, false, not, ◌&&◌, List, map, length, filter, sum_by, refl, ap, ◌∙◌, arith, if◌then◌else◌}
 use Rattle.std.specs.List.{slice_index_or, swap}
 use Rattle.std.proofs.lemmas.Bool.{ltb-true, ltb-false, eqb-true, eq-eqb}
 use Rattle.fsm_machine.specs.MachineOf.{up}
 use Rattle.fsm_machine.specs.Encoding.{bits_of, width_of, apart, distance, cost, Exchange, exchanged}
-use Rattle.fsm_machine.proofs.Coding.{at_map, at_up, turned_first, turned_second, swapped_at, length_swap}
-use Rattle.fsm_machine.proofs.States.{length_up}
+use Rattle.fsm_machine.proofs.Coding.{turned_first, turned_second, swapped_at, length_swap}
 use Rattle.syf_encode.specs.Pieces.{neighbours_by, reach, pair_weight}
 use Rattle.syf_encode.proofs.Apart.{apart_turned}
-use Rattle.syf_encode.proofs.Sums.{when, sum_same, sum_added, sum_crossed, sum_behind, sum_filtered, sum_without}
+use Rattle.syf_encode.proofs.Neighbours.{neighbours_at}
+use Rattle.syf_encode.proofs.Sums.{when, sum_same, sum_added, sum_behind, sum_filtered, sum_without}
 
 -- what one ordered pair costs
-abbrev pub pair_cost : (ℕ → ℕ → Bool) → ℕ → List ℕ → ℕ → ℕ → ℕ
+abbrev pair_cost : (ℕ → ℕ → Bool) → ℕ → List ℕ → ℕ → ℕ → ℕ
 pair_cost edge n xs s t = if edge s t && not (s == t) then distance n xs s t else 0
 
-pub distance_turned : (n : ℕ) (xs : List ℕ) (s t : ℕ) → distance n xs s t ≡ distance n xs t s
+distance_turned : (n : ℕ) (xs : List ℕ) (s t : ℕ) → distance n xs s t ≡ distance n xs t s
 distance_turned n xs s t = apart_turned _ _
 
 -- what both directions of the pairs of a state cost, without one other state
-abbrev pub around : (ℕ → ℕ → Bool) → ℕ → List ℕ → ℕ → ℕ → ℕ
+abbrev around : (ℕ → ℕ → Bool) → ℕ → List ℕ → ℕ → ℕ → ℕ
 around edge n xs s other = sum_by (λ t. when (not (t == other)) (pair_cost edge n xs s t + pair_cost edge n xs t s)) (up 0 n)
 
 -- the reach of a state over its neighbours is that
-pub reach_is : (edge : ℕ → ℕ → Bool) (n : ℕ) (xs : List ℕ) (s other : ℕ) → reach n xs s other (neighbours_by edge n s) ≡ around edge n xs s other
+reach_is : (edge : ℕ → ℕ → Bool) (n : ℕ) (xs : List ℕ) (s other : ℕ) → reach n xs s other (neighbours_by edge n s) ≡ around edge n xs s other
 reach_is edge n xs s other =
     let f : ℕ → ℕ = λ t. if t == other then 0 else distance n xs s t in
     let p : ℕ → Bool = λ t. edge s t && not (s == t) in
@@ -46,12 +46,12 @@ reach_is edge n xs s other =
 
 -- The cost is what pairs of other states cost, what the edges of each of the two to other states cost, and what the edges between
 -- them cost.
-abbrev pub elsewhere : (ℕ → ℕ → Bool) → ℕ → List ℕ → ℕ → ℕ → ℕ
+abbrev elsewhere : (ℕ → ℕ → Bool) → ℕ → List ℕ → ℕ → ℕ → ℕ
 elsewhere edge n xs i j =
     sum_by (λ s. when (not (s == i) && not (s == j)) (sum_by (λ t. when (not (t == i) && not (t == j)) (pair_cost edge n xs s t)) (up 0 n))) (up 0 n)
 
 -- By `sum_without` at i and at j, over s and within each sum over t; a pair of a state with itself costs nothing.
-pub cost_parts : (edge : ℕ → ℕ → Bool) (n : ℕ) (xs : List ℕ) (i j : ℕ) → i < j → j < n
+cost_parts : (edge : ℕ → ℕ → Bool) (n : ℕ) (xs : List ℕ) (i j : ℕ) → i < j → j < n
     → cost edge n xs ≡ elsewhere edge n xs i j + (around edge n xs i j + around edge n xs j i + (pair_cost edge n xs i j + pair_cost edge n xs j i))
 cost_parts edge n xs i j l m =
     let P : ℕ → ℕ → ℕ = pair_cost edge n xs in
@@ -146,7 +146,7 @@ cost_parts edge n xs i j l m =
 
 -- An exchange changes neither the first nor the last part.
 -- Number s of the exchanged list is number s of the list, where s is neither: `swapped_at` and `turned`.
-pub elsewhere_same : (edge : ℕ → ℕ → Bool) (n : ℕ) (xs : List ℕ) (i j : ℕ) → length xs ≡ n → i < j → j < n
+elsewhere_same : (edge : ℕ → ℕ → Bool) (n : ℕ) (xs : List ℕ) (i j : ℕ) → length xs ≡ n → i < j → j < n
     → elsewhere edge n (swap xs i j) i j ≡ elsewhere edge n xs i j
 elsewhere_same edge n xs i j e l m =
     sum_same _ _ 0 n (λ s a b. row s (s == i) refl (s == j) refl) where
@@ -173,7 +173,7 @@ elsewhere_same edge n xs i j e l m =
       row s false f true g = refl
       row s false f false g = sum_same _ _ 0 n (λ t a b. place s t f g (t == i) refl (t == j) refl)
 
-pub between_same : (edge : ℕ → ℕ → Bool) (n : ℕ) (xs : List ℕ) (i j : ℕ) → length xs ≡ n → i < j → j < n
+between_same : (edge : ℕ → ℕ → Bool) (n : ℕ) (xs : List ℕ) (i j : ℕ) → length xs ≡ n → i < j → j < n
     → pair_cost edge n (swap xs i j) i j + pair_cost edge n (swap xs i j) j i ≡ pair_cost edge n xs i j + pair_cost edge n xs j i
 between_same edge n xs i j e l m =
     let first : distance n (swap xs i j) i j ≡ distance n xs i j = swapped_distance ∙ distance_turned n xs j i in
@@ -206,16 +206,9 @@ lowers_alike edge n xs x near e l m is =
     rw (before, after, parts, others, same, between)
     (below_alike (elsewhere edge n xs i j) (around edge n ys i j + around edge n ys j i) (around edge n xs i j + around edge n xs j i)
     (pair_cost edge n xs i j + pair_cost edge n xs j i)) where
-      -- the neighbours of a state stand at its number
-      near_at : (k : ℕ) → k < n → slice_index_or near k [] ≡ neighbours_by edge n k
-      near_at k h =
-          ap (λ (rows : List (List ℕ)). slice_index_or rows k []) is
-          ∙ at_map (neighbours_by edge n) 0 [] (up 0 n) k (let w = length_up 0 n in omega arith)
-          ∙ ap (neighbours_by edge n) (let w = at_up 0 n k 0 h in omega arith)
-
       weight_is : (zs : List ℕ) → length zs ≡ n → pair_weight zs x near ≡ around edge n zs x.first x.second + around edge n zs x.second x.first
       weight_is zs g =
-          rw (g, near_at x.first (omega arith), near_at x.second m)
+          rw (g, neighbours_at edge n x.first near is (omega arith), neighbours_at edge n x.second near is m)
           (let a = reach_is edge n zs x.first x.second in let b = reach_is edge n zs x.second x.first in omega arith)
 
       below_alike : (out a b between : ℕ) → nat_lt a b ≡ nat_lt (out + (a + between)) (out + (b + between))
@@ -225,22 +218,3 @@ lowers_alike edge n xs x near e l m is =
         by false p false q = refl
         by true p false q = let h = ltb-true a b p in let g = ltb-false (out + (a + between)) (out + (b + between)) q in absurd (omega arith)
         by false p true q = let h = ltb-false a b p in let g = ltb-true (out + (a + between)) (out + (b + between)) q in absurd (omega arith)
-
--- each edge is met at both of its states
--- `reach_is` with n, which is no state's number, and `sum_crossed`.
-pub twice : (edge : ℕ → ℕ → Bool) (n : ℕ) (xs : List ℕ) → sum_by (λ s. reach n xs s n (neighbours_by edge n s)) (up 0 n) ≡ 2 * cost edge n xs
-twice edge n xs =
-    let P : ℕ → ℕ → ℕ = pair_cost edge n xs in
-    let a : sum_by (λ s. reach n xs s n (neighbours_by edge n s)) (up 0 n) ≡ sum_by (λ s. sum_by (λ t. P s t + P t s) (up 0 n)) (up 0 n) =
-    sum_same _ _ 0 n (λ s l m. reach_is edge n xs s n ∙ sum_same _ _ 0 n (λ t h g. kept t g (P s t + P t s))) in
-    let b : sum_by (λ s. sum_by (λ t. P s t + P t s) (up 0 n)) (up 0 n) ≡ sum_by (λ s. sum_by (P s) (up 0 n) + sum_by (λ t. P t s) (up 0 n)) (up 0 n) =
-    sum_same _ _ 0 n (λ s l m. sum_added (P s) (λ t. P t s) (up 0 n)) in
-    let c = sum_added (λ s. sum_by (P s) (up 0 n)) (λ s. sum_by (λ t. P t s) (up 0 n)) (up 0 n) in
-    let d = sum_crossed P (up 0 n) (up 0 n) in
-    omega arith where
-      -- n is no state's number
-      kept : (t : ℕ) → t < 0 + n → (v : ℕ) → when (not (t == n)) v ≡ v
-      kept t h v = by (t == n) refl where
-        by : (u : Bool) → (t == n) ≡ u → when (not u) v ≡ v
-        by true e = let same = eqb-true t n e in absurd (omega arith)
-        by false e = refl

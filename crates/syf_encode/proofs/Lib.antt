@@ -1,4 +1,11 @@
 pub mod Apart
+pub mod Upward
+pub mod Widths
+pub mod Shuffling
+pub mod Neighbours
 pub mod Sums
 pub mod Exchanging
 pub mod Searching
+pub mod Exchanges
+pub mod Reaching
+pub mod Ends

@@ -1,6 +1,6 @@
 -- Sums over numbers in order, and over both ends of edges.
-use Rattle.std.proofs.Common.{◌≡◌, ◌≢◌, ℕ, zero, suc, ◌+◌, ◌*◌, ◌==◌, ◌<◌, ◌≤◌, Bool, true, false, not, ◌&&◌, List, [], ◌∷◌, ◌++◌, filter, sum_by, zero-add, refl, sym, ap, ◌∙◌, arith, if◌then◌else◌}
-use Rattle.std.proofs.lemmas.Bool.{eqb-true, eqb-false, eq-eqb}
+use Rattle.std.proofs.Common.{◌≡◌, ℕ, zero, suc, ◌+◌, ◌==◌, ◌<◌, ◌≤◌, Bool, true, false, not, List, [], ◌∷◌, ◌++◌, filter, sum_by, zero-add, refl, sym, ap, ◌∙◌, arith, if◌then◌else◌}
+use Rattle.std.proofs.lemmas.Bool.{eqb-true, eqb-false}
 use Rattle.std.proofs.lemmas.List.Sums.{sum_by-cons}
 use Rattle.fsm_machine.specs.MachineOf.{up}
 
@@ -8,7 +8,7 @@ use Rattle.fsm_machine.specs.MachineOf.{up}
 abbrev pub when : Bool → ℕ → ℕ
 when c v = if c then v else 0
 
-pub sum_first : (f : ℕ → ℕ) (x : ℕ) (xs : List ℕ) → sum_by f (x ∷ xs) ≡ f x + sum_by f xs
+sum_first : (f : ℕ → ℕ) (x : ℕ) (xs : List ℕ) → sum_by f (x ∷ xs) ≡ f x + sum_by f xs
 sum_first f x xs = sum_by-cons f x xs
 
 pub sum_same : (f g : ℕ → ℕ) (k n : ℕ) → ((x : ℕ) → k ≤ x → x < k + n → f x ≡ g x) → sum_by f (up k n) ≡ sum_by g (up k n)
@@ -28,24 +28,6 @@ sum_added f g (x ∷ xs) =
     let b = sum_first f x xs in
     let c = sum_first g x xs in
     omega arith
-
-pub sum_nothing : (xs : List ℕ) → sum_by (λ x. 0) xs ≡ 0
-sum_nothing [] = refl
-sum_nothing (x ∷ xs) = let h = sum_nothing xs in let a = sum_first (λ y. 0) x xs in omega arith
-
--- over two lists it doesn't count which is gone through first
-pub sum_crossed : (f : ℕ → ℕ → ℕ) (xs ys : List ℕ) → sum_by (λ x. sum_by (f x) ys) xs ≡ sum_by (λ y. sum_by (λ x. f x y) xs) ys
-sum_crossed f [] ys = sym (sum_nothing ys)
-sum_crossed f (x ∷ xs) ys =
-    let later = sum_crossed f xs ys in
-    let split = sum_added (f x) (λ y. sum_by (λ z. f z y) xs) ys in
-    let a = sum_first (λ z. sum_by (f z) ys) x xs in
-    let each = same_all (λ y. sum_by (λ z. f z y) (x ∷ xs)) (λ y. f x y + sum_by (λ z. f z y) xs) ys (λ y. sum_first (λ z. f z y) x xs) in
-    omega arith where
-      same_all : (g h : ℕ → ℕ) (zs : List ℕ) → ((y : ℕ) → g y ≡ h y) → sum_by g zs ≡ sum_by h zs
-      same_all g h [] e = refl
-      same_all g h (z ∷ zs) e =
-          let later = same_all g h zs e in let a = sum_first g z zs in let b = sum_first h z zs in let c = e z in omega arith
 
 pub sum_behind : (f : ℕ → ℕ) (xs ys : List ℕ) → sum_by f (xs ++ ys) ≡ sum_by f xs + sum_by f ys
 sum_behind f [] ys = sym (zero-add (sum_by f ys))

@@ -33,7 +33,8 @@ fn reach(numbers: &[u32], state: usize, other: usize, near: &[u32]) -> u64
     requires state { state < length numbers.now }
     requires near { All (λ t. t < length numbers.now) near.now }
     requires few { length near.now ≤ 2 * most_states }
-    ensures { result ≡ reach (length numbers.now) numbers.now state other near.now }
+    ensures value { result ≡ reach (length numbers.now) numbers.now state other near.now }
+    ensures small { result ≤ 64 * most_states }
 {
     let mut sum = 0;
     for neighbour in near {
@@ -48,11 +49,11 @@ fn reach(numbers: &[u32], state: usize, other: usize, near: &[u32]) -> u64
 // What the edges of two states cost, but those between them, which cost the same when the two are exchanged.
 fn weight(numbers: &[u32], pair: Pair, near: &[Vec<u32>]) -> u64
     requires below { All (λ k. k < length numbers.now) numbers.now }
-    requires edges { AreEdges (length numbers.now) near.now }
+    requires edges { AreEdges (length numbers.now) (map (λ v. v.items) near.now) }
     requires first { pair.first < pair.second }
     requires second { pair.second < length numbers.now }
     requires few { length numbers.now ≤ most_states }
-    ensures { result ≡ pair_weight numbers.now (exchange_view pair) near.now }
+    ensures { result ≡ pair_weight numbers.now (exchange_view pair) (map (λ v. v.items) near.now) }
 {
     let Pair { first, second } = pair;
     reach(numbers, first, second, &near[first]) + reach(numbers, second, first, &near[second])
@@ -61,12 +62,13 @@ fn weight(numbers: &[u32], pair: Pair, near: &[Vec<u32>]) -> u64
 // Whether the exchange of two states lowers the cost. The numbers stand afterwards as before.
 fn lowers(numbers: &mut [u32], pair: Pair, near: &[Vec<u32>]) -> bool
     requires below { All (λ k. k < length numbers.old) numbers.old }
-    requires edges { AreEdges (length numbers.old) near.now }
+    requires edges { AreEdges (length numbers.old) (map (λ v. v.items) near.now) }
     requires first { pair.first < pair.second }
     requires second { pair.second < length numbers.old }
     requires few { length numbers.old ≤ most_states }
-    ensures value { result ≡ nat_lt (pair_weight (exchanged numbers.old (exchange_view pair)) (exchange_view pair) near.now)
-        (pair_weight numbers.old (exchange_view pair) near.now) }
+    ensures value { result
+        ≡ nat_lt (pair_weight (exchanged numbers.old (exchange_view pair)) (exchange_view pair) (map (λ v. v.items) near.now))
+        (pair_weight numbers.old (exchange_view pair) (map (λ v. v.items) near.now)) }
     ensures same { numbers.new ≡ numbers.old }
 {
     let before = weight(numbers, pair, near);
@@ -79,9 +81,10 @@ fn lowers(numbers: &mut [u32], pair: Pair, near: &[Vec<u32>]) -> bool
 // The first exchange that lowers the cost.
 fn first_lower(numbers: &mut [u32], near: &[Vec<u32>]) -> Option<Pair>
     requires below { All (λ k. k < length numbers.old) numbers.old }
-    requires edges { AreEdges (length numbers.old) near.now }
+    requires edges { AreEdges (length numbers.old) (map (λ v. v.items) near.now) }
     requires few { length numbers.old ≤ most_states }
-    ensures value { (edge : ℕ → ℕ → Bool) → near.now ≡ map (neighbours_by edge (length numbers.old)) (up 0 (length numbers.old))
+    ensures value { (edge : ℕ → ℕ → Bool)
+        → map (λ v. v.items) near.now ≡ map (neighbours_by edge (length numbers.old)) (up 0 (length numbers.old))
         → option_map exchange_view result ≡ first_lower (cost edge (length numbers.old)) numbers.old (exchanges (length numbers.old)) }
     ensures within { IfSome result (λ p. (p.first < p.second) × (p.second < length numbers.old)) }
     ensures same { numbers.new ≡ numbers.old }

@@ -1,5 +1,5 @@
 // The codes of a state machine's states.
-ghost use Rattle.std.specs.Prelude.{◌≡◌, ◌==◌, ◌<◌, ◌≤◌, ◌^◌, length, map, IfOk};
+ghost use Rattle.std.specs.Prelude.{◌≡◌, ◌==◌, ◌≤◌, length, map, IfOk};
 ghost use Rattle.fsm_machine.specs.Codes.{AreCodes};
 ghost use Rattle.fsm_machine.specs.Encoding.{one_hot, bits_of, width_of, numbered};
 ghost use Rattle.fsm_machine.specs.MachineOf.{up};

@@ -1,5 +1,5 @@
 // Which states lead to which.
-ghost use Rattle.std.specs.Prelude.{◌≡◌, ◌<◌, ◌≤◌, ◌^◌, ◌||◌, ℕ, length, is_some, IfOk};
+ghost use Rattle.std.specs.Prelude.{◌≡◌, ◌<◌, ◌≤◌, ◌||◌, ℕ, map, length, is_some, IfOk};
 ghost use Rattle.bool_expr.specs.Support.{among};
 ghost use Rattle.fsm_meaning.specs.Walk.{assigns, part_assigns, branch_assigns};
 ghost use Rattle.fsm_machine.specs.Encoding.{given_state, leads, parts_lead, branches_lead};
@@ -145,6 +145,13 @@ fn mark_led_in_parts(parts: &Parts, state: u32, marks: &mut [bool])
     }
 }
 
+// Whether the state is among these.
+fn lists(here: &[u32], state: u32) -> bool
+    ensures { result ≡ among state here.now }
+{
+    here.iter().any(|listed| *listed == state)
+}
+
 // Marks what is assigned in the first branch that lists the state, or in that of the others.
 fn mark_branch(branches: &Branches, state: u32, marks: &mut [bool])
     ensures each { length marks.new ≡ length marks.old }
@@ -160,7 +167,7 @@ fn mark_branch(branches: &Branches, state: u32, marks: &mut [bool])
                 return;
             }
             Branches::Listed(here, part, more) => {
-                if here.iter().any(|listed| *listed == state) {
+                if lists(here, state) {
                     mark_assigned(part, marks);
                     return;
                 }
@@ -175,10 +182,7 @@ fn led(alloc: Global, count: usize, body: &Statements, state: u32) -> Result<Vec
     ensures each { IfOk result (λ marks. length marks.items ≡ count) }
     ensures marks { IfOk result (λ marks. (t : ℕ) → t < count → is_marked marks.items t ≡ leads state t (body_view body.now)) }
 {
-    let mut marks = Vec::with_capacity(alloc, count)?;
-    for _ in 0..count {
-        marks.push(false)?;
-    }
+    let mut marks = vec![in alloc; false; count]?;
     mark_led(body, state, &mut marks);
     Ok(marks)
 }
@@ -191,7 +195,7 @@ pub(crate) fn all_neighbours(
     body: &Statements,
 ) -> Result<Vec<Vec<u32>>, AllocError>
     requires { count ≤ most_states }
-    ensures { IfOk result (λ near. near.items ≡ all_neighbours (body_view body.now) count) }
+    ensures { IfOk result (λ near. map (λ v. v.items) near.items ≡ all_neighbours (body_view body.now) count) }
 {
     let mut leads = Vec::with_capacity(alloc, count)?;
     for state in 0..count {
@@ -204,22 +208,32 @@ pub(crate) fn all_neighbours(
     Ok(near)
 }
 
+// Whether one state leads to another, where `leads[s][t]` tells whether s leads to t.
+fn has_edge(leads: &[Vec<bool>], from: usize, to: usize) -> bool
+    requires from { from < length leads.now }
+    requires to { to < length (row (map (λ v. v.items) leads.now) from) }
+    ensures { result ≡ edge (map (λ v. v.items) leads.now) from to }
+{
+    leads[from][to]
+}
+
 // The states with which one has an edge, where `leads[s][t]` tells whether s leads to t.
 fn neighbours(alloc: Global, leads: &[Vec<bool>], state: usize) -> Result<Vec<u32>, AllocError>
     requires state { state < length leads.now }
     requires few { length leads.now ≤ most_states }
-    requires square { (s : ℕ) → s < length leads.now → length (row leads.now s) ≡ length leads.now }
-    ensures { IfOk result (λ near. near.items ≡ neighbours_by (edge leads.now) (length leads.now) state) }
+    requires square { (s : ℕ) → s < length leads.now → length (row (map (λ v. v.items) leads.now) s) ≡ length leads.now }
+    ensures { IfOk result (λ near. near.items
+        ≡ neighbours_by (edge (map (λ v. v.items) leads.now)) (length leads.now) state) }
 {
     let mut near = Vec::new(alloc);
-    for other in 0..leads.len() {
-        if other != state && leads[state][other] {
-            near.push(other as u32)?;
+    for target in 0..leads.len() {
+        if target != state && has_edge(leads, state, target) {
+            near.push(target as u32)?;
         }
     }
-    for other in 0..leads.len() {
-        if other != state && leads[other][state] {
-            near.push(other as u32)?;
+    for source in 0..leads.len() {
+        if source != state && has_edge(leads, source, state) {
+            near.push(source as u32)?;
         }
     }
     Ok(near)

@@ -1,5 +1,5 @@
 // Numbers in a random order.
-ghost use Rattle.std.specs.Prelude.{◌≡◌, ◌-◌, ◌<◌, ◌^◌, length, IfOk};
+ghost use Rattle.std.specs.Prelude.{◌≡◌, ◌-◌, ◌<◌, ◌^◌, IfOk};
 ghost use Rattle.fsm_machine.specs.Encoding.{shuffled};
 ghost use Rattle.fsm_machine.specs.MachineOf.{up};
 ghost use Rattle.syf_encode.specs.Codes.{words_of};

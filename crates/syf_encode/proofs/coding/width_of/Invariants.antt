@@ -1,4 +1,4 @@
-use Rattle.std.proofs.Common.{◌≡◌, ◌-◌, ◌≤◌, ◌+◌}
+use Rattle.std.proofs.Common.{◌≡◌, ◌-◌, ◌≤◌}
 use Rattle.fsm_machine.specs.Encoding.{width_from, width_of}
 use Rattle.syf_encode.proofs.coding.width_of.Given as goal
 
