@@ -44,10 +44,10 @@ bit_no_port f c st h x i j =
     let P : List ℕ → Type 0 = λ t. In t (port_texts f) in
     free_not_in (port_texts f) st h.free (subst P (bit_text st c.width x i) (text_in x f.ports j))
 
-abbrev inner_texts : Fsm → List (List ℕ)
+abbrev pub inner_texts : Fsm → List (List ℕ)
 inner_texts f = free_texts (codes "n") (port_texts f) (inner_count f)
 
-are_free : (f : Fsm) → TextsAreFree → inner_count f + length f.ports < 2 ^ 32 → AreFree (port_texts f) (inner_count f) (inner_texts f)
+pub are_free : (f : Fsm) → TextsAreFree → inner_count f + length f.ports < 2 ^ 32 → AreFree (port_texts f) (inner_count f) (inner_texts f)
 are_free f free few =
     let e : length (port_texts f) ≡ length f.ports = length-map f.ports (λ p. p.name.text) in
     free (codes "n") (port_texts f) (inner_count f) (omega arith)
@@ -95,7 +95,7 @@ names_differ f c st free checked st_free =
           omega arith
       apart x (inr i) (inr j) = bit_no_port f c st st_free x i (out_ports f x j)
 
-inner_each : (f : Fsm) → AreFree (port_texts f) (inner_count f) (inner_texts f) → length (inner_names f) ≡ length f.states + signals f.body
+pub inner_each : (f : Fsm) → AreFree (port_texts f) (inner_count f) (inner_texts f) → length (inner_names f) ≡ length f.states + signals f.body
 inner_each f free = length-map (inner_texts f) scalar ∙ free.each
 
 pub is_encoded : (f : Fsm) (c : Codes) (st : List ℕ) → TextsAreFree → IsCheckedFsm f → AreCodes (length f.states) c → IsFirstFree (codes "st") (port_texts f) st
@@ -109,7 +109,7 @@ is_encoded f c st free checked are st_free few = record {
 
 -- ---- checked
 
-vars_each : (f : Fsm) (c : Codes) (st : List ℕ) (inner : List Name) → length (machine_of f c st inner).vars ≡ length (fsm_inputs f) + c.width + (length inner + length (fsm_outputs f))
+pub vars_each : (f : Fsm) (c : Codes) (st : List ℕ) (inner : List Name) → length (machine_of f c st inner).vars ≡ length (fsm_inputs f) + c.width + (length inner + length (fsm_outputs f))
 vars_each f c st inner =
     let a = length-append (fsm_inputs f ++ code_names st c.width) (inner ++ fsm_outputs f) in
     let b = length-append (fsm_inputs f) (code_names st c.width) in
@@ -122,6 +122,17 @@ all_mapped P g [] h i d l = absurd (omega arith)
 all_mapped P g (k ∷ ks) h zero d l = h k
 all_mapped P g (k ∷ ks) h (suc i) d l = all_mapped P g ks h i d (omega arith)
 
+-- the names of the equations: those of the signals inside, and of the outputs
+pub driven_are : (f : Fsm) (c : Codes) (st : List ℕ) → AreFree (port_texts f) (inner_count f) (inner_texts f)
+    → equation_names (machine_of f c st (inner_names f)) ≡ inner_names f ++ fsm_outputs f
+driven_are f c st free =
+    names_named (inner_names f ++ fsm_outputs f) (inner_expressions f c ++ map (output_expression f c) (fsm_outputs f))
+    (let a = length-append (inner_names f) (fsm_outputs f) in
+    let b = length-append (inner_expressions f c) (map (output_expression f c) (fsm_outputs f)) in
+    let d = length-map (fsm_outputs f) (output_expression f c) in
+    let e = length_inner f c in
+    let g = inner_each f free in omega arith)
+
 -- what `Machine` asks of its parts
 pub is_checked : (f : Fsm) (c : Codes) (st : List ℕ) → TextsAreFree → MachineIsOrdered → IsCheckedFsm f → AreCodes (length f.states) c
     → IsFirstFree (codes "st") (port_texts f) st → inner_count f + length f.ports < 2 ^ 32 → IsChecked (machine_of f c st (inner_names f))
@@ -129,7 +140,7 @@ is_checked f c st free ordered checked are st_free few = record {
   ports = checked.ports;
   registers = subst AreInOrder (sym (register_names_are f c st (inner_names f))) (bits_in_order st c.width);
   supplies = all_by IsNoSupply (names_of f.ports ++ (machine_of f c st (inner_names f)).vars) supply;
-  driven = λ name i. subst (In name) (sym equations_are) (in_second name (inner_names f) (fsm_outputs f) i);
+  driven = λ name i. subst (In name) (sym (driven_are f c st known_free)) (in_second name (inner_names f) (fsm_outputs f) i);
   clock = λ name is. subst (IsClockOf (machine_of f c st (inner_names f))) (some_name f.clock name is) (record {
     port = clock_port;
     apart = λ i. (elim (in_either f.clock (fsm_inputs f ++ code_names st c.width) (inner_names f ++ fsm_outputs f) i)
@@ -165,15 +176,6 @@ is_checked f c st free ordered checked are st_free few = record {
   supply x i =
       elim (in_either x (names_of f.ports) (machine_of f c st (inner_names f)).vars i)
       [ inl a ↦ port_supply x a | inr b ↦ var_supply x (in_either x (fsm_inputs f ++ code_names st c.width) (inner_names f ++ fsm_outputs f) b) ]
-
-  equations_are : equation_names (machine_of f c st (inner_names f)) ≡ inner_names f ++ fsm_outputs f
-  equations_are =
-      names_named (inner_names f ++ fsm_outputs f) (inner_expressions f c ++ map (output_expression f c) (fsm_outputs f))
-      (let a = length-append (inner_names f) (fsm_outputs f) in
-      let b = length-append (inner_expressions f c) (map (output_expression f c) (fsm_outputs f)) in
-      let d = length-map (fsm_outputs f) (output_expression f c) in
-      let e = length_inner f c in
-      let g = inner_each f (are_free f free few) in omega arith)
 
   clock_port : In f.clock (input_ports (machine_of f c st (inner_names f)))
   clock_port = elim (either_dir f.clock f.ports (contains_in (names_of f.ports) f.clock checked.clock))

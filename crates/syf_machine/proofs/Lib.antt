@@ -3,3 +3,4 @@ pub mod Naming
 pub mod Numbers
 pub mod Encoded
 pub mod Made
+pub mod Whole

@@ -172,6 +172,7 @@ fn inner_equations(
     ensures { IfOk result (λ equations. map equation_view equations.items
         ≡ named (names_for ports.now (length made.items)) (map view made.items)) }
 {
+    texts_are_free();
     let names = inner_names(alloc, ports, made.len())?;
     equations(alloc, &names, made)
 }

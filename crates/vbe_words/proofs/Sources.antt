@@ -173,7 +173,7 @@ says_ending : {A : Type 0} (P : A → Type 0) (name : List ℕ) (x : A) → P x 
 unfolding ending
 says_ending P name x h = says_behind (λ t. says_or (says_behind (λ u. says_behind (λ w. says_nothing P x h))) (says_behind (λ w. says_nothing P x h)))
 
-says_entity : (room : ℕ) → Says (entity room) IsEntityWord
+pub says_entity : (room : ℕ) → Says (entity room) IsEntityWord
 unfolding entity
 says_entity room =
     says_then says_head (λ name h. says_behind (λ generics. says_then (says_port_clause room) (λ ports hs.
@@ -227,7 +227,7 @@ named_words : (r : Role) (range : Option Range) (line : ℕ) (ns : List NewName)
 named_words r range line [] small h = tt
 named_words r range line (n ∷ ns) small h = ((h.0, small), named_words r range line ns small h.1)
 
-ports_words : (groups : List PortGroup) → Every IsPortWord groups → Every IsSymbolWord (port_symbols groups)
+pub ports_words : (groups : List PortGroup) → Every IsPortWord groups → Every IsSymbolWord (port_symbols groups)
 ports_words [] h = tt
 ports_words (g ∷ groups) h =
     every_append IsSymbolWord (symbols_named (role_of_mode g.mode) g.kind.range g.line g.names) (port_symbols groups)

@@ -1,0 +1,3 @@
+pub mod Registers
+pub mod Sources
+pub mod Writing

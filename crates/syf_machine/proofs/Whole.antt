@@ -1,0 +1,90 @@
+-- What is made of a state machine: it is its machine, it is checked, and its names have numbers of 32 bits.
+use Rattle.std.proofs.Common.{◌≡◌, ℕ, ◌+◌, ◌*◌, ◌<◌, ◌≤◌, ◌^◌, Bool, not, List, map, filter, length, codes, refl, sym, ap, subst, ◌∙◌, arith}
+use Rattle.std.proofs.lemmas.List.{length-map}
+use Rattle.std.proofs.lemmas.List.Filters.{length-filter_both}
+use Rattle.vlsi_base.specs.declared.name.Name.{Name}
+use Rattle.vlsi_base.specs.declared.name.Port.{Port}
+use Rattle.machine_meaning.specs.Named.{is_same_name}
+use Rattle.machine_meaning.specs.Machine.{Machine, Equation, Register, is_input, names_of}
+use Rattle.machine_core.specs.Checked.{IsChecked}
+use Rattle.free_names.specs.Free.{IsFirstFree}
+use Rattle.free_names.specs.Laws.{AreFree, TextsAreFree}
+use Rattle.fsm_meaning.specs.Fsm.{Fsm, fsm_inputs, fsm_outputs}
+use Rattle.fsm_machine.specs.Codes.{Codes, AreCodes}
+use Rattle.fsm_machine.specs.Signals.{signals}
+use Rattle.fsm_machine.specs.MachineOf.{machine_of, up}
+use Rattle.fsm_machine.specs.Meaning.{MachineIsOrdered}
+use Rattle.fsm_code.specs.Over.{numbered_body}
+use Rattle.fsm_core.specs.Checked.{IsCheckedFsm}
+use Rattle.syf_machine.specs.Named.{port_texts, inner_count, inner_names, port_numbers, is_read, IsMachineOf}
+use Rattle.syf_machine.specs.Pieces.{equations_from, register_of, machine_with}
+use Rattle.syf_machine.proofs.Encoded.{inner_texts, are_free, inner_each, vars_each, driven_are, is_checked}
+use Rattle.syf_machine.proofs.Made.{machine_is}
+
+-- ---- how many names there are
+
+filter_fits : {A : Type 0} (p : A → Bool) (xs : List A) → length (filter p xs) ≤ length xs
+filter_fits p xs = let h = length-filter_both p (λ x. not (p x)) (λ x. refl) xs in omega arith
+
+pub reads_fit : (clock : Name) (ports : List Port) → length (names_of (filter (is_read clock) ports)) ≤ length ports
+reads_fit clock ports =
+    let a = length-map (filter (is_read clock) ports) (λ (p : Port). p.name) in
+    let b = filter_fits (is_read clock) ports in
+    omega arith
+
+ports_fit : (f : Fsm) → length (fsm_inputs f) + length (fsm_outputs f) ≤ length f.ports
+ports_fit f =
+    let both = length-filter_both (λ (p : Port). is_input p.dir) (λ (p : Port). not (is_input p.dir)) (λ p. refl) f.ports in
+    let ins = length-map (filter (λ (p : Port). is_input p.dir) f.ports) (λ (p : Port). p.name) in
+    let outs = length-map (filter (λ (p : Port). not (is_input p.dir)) f.ports) (λ (p : Port). p.name) in
+    let read = filter_fits (λ name. not (is_same_name f.clock name)) (names_of (filter (λ p. is_input p.dir) f.ports)) in
+    omega arith
+
+-- ---- the machine
+
+-- the inputs, equations and registers that were made of a state machine and codes of its states
+pub record IsMade (f : Fsm) (c : Codes) (st : List ℕ) (ins : List Name) (equations : List Equation) (registers : List Register) : Type 0 where
+  pub checked : IsCheckedFsm f
+  pub are : AreCodes (length f.states) c
+  pub room : 2 * length f.ports + c.width + length c.codes + signals f.body < 2 ^ 32
+  pub first : IsFirstFree (codes "st") (port_texts f) st
+  pub ins_are : ins ≡ names_of (filter (is_read f.clock) f.ports)
+  pub equations_are : equations ≡ equations_from c (length ins) f.ports (numbered_body (port_numbers f) f.body)
+  pub registers_are : registers ≡ map (register_of c (length ins + c.width + length c.codes) (numbered_body (port_numbers f) f.body) st) (up 0 c.width)
+
+few : (f : Fsm) (c : Codes) → AreCodes (length f.states) c → 2 * length f.ports + c.width + length c.codes + signals f.body < 2 ^ 32
+    → inner_count f + length f.ports < 2 ^ 32
+few f c are room = let e = are.each in omega arith
+
+pub is_machine : (f : Fsm) (c : Codes) (st : List ℕ) (ins : List Name) (equations : List Equation) (registers : List Register) → TextsAreFree
+    → IsMade f c st ins equations registers → machine_with f ins equations registers ≡ machine_of f c st (inner_names f)
+is_machine f c st ins equations registers free made =
+    let known = are_free f free (few f c made.are made.room) in
+    machine_is f c st ins equations registers made.checked made.are (inner_each f known) (driven_are f c st known) made.ins_are made.equations_are made.registers_are
+
+pub made_checked : (f : Fsm) (c : Codes) (st : List ℕ) (ins : List Name) (equations : List Equation) (registers : List Register) → TextsAreFree → MachineIsOrdered
+    → IsMade f c st ins equations registers → IsChecked (machine_with f ins equations registers)
+made_checked f c st ins equations registers free ordered made =
+    subst IsChecked (sym (is_machine f c st ins equations registers free made))
+    (is_checked f c st free ordered made.checked made.are made.first (few f c made.are made.room))
+
+pub made_of : (f : Fsm) (c : Codes) (st : List ℕ) (ins : List Name) (equations : List Equation) (registers : List Register) → TextsAreFree
+    → IsMade f c st ins equations registers → IsMachineOf f c (machine_with f ins equations registers)
+made_of f c st ins equations registers free made = record {
+  few = few f c made.are made.room;
+  st = st;
+  first = made.first;
+  is = is_machine f c st ins equations registers free made;
+}
+
+pub made_few : (f : Fsm) (c : Codes) (st : List ℕ) (ins : List Name) (equations : List Equation) (registers : List Register) → TextsAreFree
+    → IsMade f c st ins equations registers
+    → length (machine_with f ins equations registers).vars + length (machine_with f ins equations registers).ports < 2 ^ 32
+made_few f c st ins equations registers free made =
+    let P : Machine → Type 0 = λ m. length m.vars + length m.ports < 2 ^ 32 in
+    let each = inner_each f (are_free f free (few f c made.are made.room)) in
+    let vars = vars_each f c st (inner_names f) in
+    let ports = ports_fit f in
+    let states = made.are.each in
+    let room = made.room in
+    subst P (sym (is_machine f c st ins equations registers free made)) (omega arith)
