@@ -1,5 +1,5 @@
 // Reading whole texts.
-ghost use Rattle.std.specs.Prelude.{◌≡◌, ◌∷◌, [], IfOk, IfErr};
+ghost use Rattle.std.specs.Prelude.{◌≡◌, ◌<◌, ◌∷◌, [], length, IfOk, IfErr};
 ghost use Rattle.grammar_theory.specs.Tokens.{code};
 ghost use Rattle.grammar_theory.specs.Outcome.{Gives, finish, list_at, with_front};
 ghost use Rattle.vhdl_front.specs.EntityReading.{declared_at, another_at};
@@ -168,6 +168,7 @@ fn refused(alloc: Global, tokens: &Tokens, stop: Stop) -> Result<ReadError, Allo
 /// proportion to the text, and time for the bits that it assigns beside.
 pub fn read_machine(alloc: Global, tokens: &Tokens) -> Result<StateFile, ReadError>
     ensures accepted { IfOk result (λ file. IsMachine tokens.now (machine_view file)) }
+    ensures some_state { IfOk result (λ file. 0 < length (machine_view file).states.states) }
     ensures refused { IfErr result (λ e. IsRefusedMachine tokens.now e) }
 {
     let mut cursor = Cursor::new(alloc, tokens.items.as_slice());

@@ -1,8 +1,9 @@
 use Rattle.std.proofs.Common.{rules, ◌≡◌, ◌∙◌, ap}
 use Rattle.grammar_theory.specs.Outcome.{start}
 use Rattle.fsm_text.specs.Written.{machine_view}
-use Rattle.fsm_text.specs.Texts.{PassesBefore}
+use Rattle.fsm_text.specs.Texts.{PassesBefore, IsMachine}
 use Rattle.fsm_text.proofs.Whole.{is_machine, chained_whole, stops_text}
+use Rattle.fsm_text.proofs.States.{has_state}
 use Rattle.fsm_text.proofs.machine.read_machine.Goals as goal
 
 -- the entity, the architecture and nothing behind it were read, and no assignment is one too many
