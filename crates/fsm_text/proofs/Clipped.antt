@@ -115,10 +115,10 @@ falling_in Q low high from to first last bounds f l = by (nat_le last first) ref
           at false under = bounds.below k (grind (arith, nat_tests))
 
 -- the least and the greatest number that a range may hold
-abbrev low_of : Range → ℕ
+abbrev pub low_of : Range → ℕ
 low_of r = cond r.falls r.right r.left
 
-abbrev high_of : Range → ℕ
+abbrev pub high_of : Range → ℕ
 high_of r = cond r.falls r.left r.right
 
 and_first : (a b : Bool) → a ≡ false → (a && b) ≡ false
@@ -259,13 +259,13 @@ only_held P Q f (k ∷ ks) apart = by (only_held P Q f ks apart) (Q k) refl wher
   by rest true is = ap (λ (ns : List Name). cond (P (f k)) (f k ∷ ns) ns) rest
   by rest false is = ap (λ b. cond b (f k ∷ filter P (map f ks)) (filter P (map f ks))) (apart k is) ∙ rest
 
-abbrev selecting : List ℕ → ℕ → Selection → Target
+abbrev pub selecting : List ℕ → ℕ → Selection → Target
 selecting name line s = record { name = name; line = line; selection = s }
 
-abbrev bits_selected : Range → Selection
+abbrev pub bits_selected : Range → Selection
 bits_selected r = selection.Bits r
 
-abbrev bit_selected : ℕ → Selection
+abbrev pub bit_selected : ℕ → Selection
 bit_selected k = selection.Bit k
 
 -- the same bits are counted
