@@ -1,6 +1,7 @@
 -- A target's range without bits that aren't declared, of which none is counted.
-use Rattle.std.proofs.Common.{◌≡◌, ℕ, zero, suc, ◌+◌, ◌-◌, ◌<◌, ◌≤◌, nat_le, Bool, true, false, cond, ◌&&◌, ◌||◌, List, [], ◌∷◌, map, length, Option, None, Some, bytes_eq, refl, sym, ap, subst, ◌∙◌, arith}
+use Rattle.std.proofs.Common.{◌≡◌, ℕ, zero, suc, ◌+◌, ◌-◌, ◌<◌, ◌≤◌, nat_le, Bool, true, false, cond, ◌&&◌, ◌||◌, List, [], ◌∷◌, ◌++◌, map, length, Option, None, Some, bytes_eq, refl, sym, ap, subst, ◌∙◌, arith}
 use Rattle.std.specs.Prelude.{filter, min, max}
+use Rattle.std.proofs.lemmas.List.{length-append, length-map}
 use Rattle.std.proofs.lemmas.Bool.Decides.{nat_tests}
 use Rattle.vlsi_base.specs.Member.{In, here, there, AllDifferent}
 use Rattle.vlsi_base.specs.declared.name.Name.{Name}
@@ -13,7 +14,7 @@ use Rattle.source_meaning.specs.declared.statement.Selection.{Selection}
 use Rattle.source_meaning.specs.declared.statement.Selection.TheVariants as selection
 use Rattle.source_meaning.specs.declared.symbol_table.Symbol.{Symbol}
 use Rattle.source_meaning.specs.Symbols.{all_names, symbol_names, names_in, bit_name, find, has_bit}
-use Rattle.source_meaning.specs.Formula.{place}
+use Rattle.source_meaning.specs.Formula.{place, names_of_found}
 use Rattle.source_meaning.specs.Drivers.{is_among, target_names}
 use Rattle.source_meaning.proofs.Lookups.{itself, same_of}
 use Rattle.source_meaning.proofs.Names.{is_among-append}
@@ -288,3 +289,38 @@ neither_counted known name line bits k different found =
     let P = is_among (all_names known) in
     let out : (j : ℕ) → P (bit_name name j) ≡ false = λ j. not_declared known name j different (subst (λ (o : Option Range). may_hold o j ≡ false) (sym found) refl) in
     none_counted P (bit_name name) (k ∷ []) out ∙ sym (none_counted P (bit_name name) (range_bits bits) out)
+
+-- ---- how many bits are left
+
+-- no more than all names have
+found_few : (known : List Symbol) (text : List ℕ) → length (names_of_found (find known text)) ≤ length (all_names known)
+found_few [] text = omega arith
+found_few (s ∷ known) text = by (found_few known text) (bytes_eq s.text text) where
+  by : length (names_of_found (find known text)) ≤ length (all_names known) → (b : Bool) → length (names_of_found (cond b (Some s) (find known text))) ≤ length (symbol_names s ++ all_names known)
+  by rest true = omega (arith, length-append (symbol_names s) (all_names known))
+  by rest false = omega (arith, rest, length-append (symbol_names s) (all_names known))
+
+declared_few : (known : List Symbol) (text : List ℕ) (within : Range) → range_found (find known text) ≡ Some within → range_width within ≤ length (all_names known)
+declared_few known text within found = by (find known text) refl found where
+  by : (o : Option Symbol) → find known text ≡ o → range_found o ≡ Some within → range_width within ≤ length (all_names known)
+  by None at e = absurd cc
+  by (Some s) at e =
+      let all : length (symbol_names s) ≤ length (all_names known) = subst (λ (o : Option Symbol). length (names_of_found o) ≤ length (all_names known)) at (found_few known text) in
+      let mine : length (symbol_names s) ≡ range_width within = ap (λ (o : Option Range). length (names_in s.text o)) e ∙ length-map (range_bits within) (bit_name s.text) in
+      omega (arith, all, mine)
+
+pub few_bits : (known : List Symbol) (name : List ℕ) (line : ℕ) (made within : Range) → range_found (find known name) ≡ Some within → range_width made ≤ range_width within
+    → length (target_names known (selecting name line (bits_selected made))) ≤ length (all_names known) + 1
+few_bits known name line made within found few =
+    let count : length (map (bit_name name) (range_bits made)) ≡ range_width made = length-map (range_bits made) (bit_name name) in
+    omega (arith, declared_few known name within found, few, count)
+
+pub few_bit : (known : List Symbol) (name : List ℕ) (line k : ℕ) → length (target_names known (selecting name line (bit_selected k))) ≤ length (all_names known) + 1
+few_bit known name line k = omega arith
+
+pub few_other : (known : List Symbol) (t : Target) → ((r : Range) → t.selection ≡ bits_selected r → ⊥) → length (target_names known t) ≤ length (all_names known) + 1
+few_other known t other = by t.selection refl where
+  by : (s : Selection) → t.selection ≡ s → length (target_names known (selecting t.name t.line s)) ≤ length (all_names known) + 1
+  by selection.Whole is = omega (arith, found_few known t.name)
+  by (selection.Bit k) is = omega arith
+  by (selection.Bits r) is = absurd (other r is)

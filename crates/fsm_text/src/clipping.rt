@@ -1,8 +1,9 @@
 // Targets without the bits of a range that aren't declared, of which none is counted.
-ghost use Rattle.std.specs.Prelude.{◌≡◌, ◌≤◌, filter, map, if◌then◌else◌};
+ghost use Rattle.std.specs.Prelude.{◌≡◌, ◌≤◌, ◌+◌, filter, map, length, if◌then◌else◌};
 ghost use Rattle.vlsi_base.specs.Range.{range_bits, range_width};
 ghost use Rattle.machine_core.specs.Order.{AllDifferent};
-ghost use Rattle.source_meaning.specs.Symbols.{find, has_bit};
+ghost use Rattle.source_meaning.specs.Symbols.{all_names, find, has_bit};
+ghost use Rattle.source_meaning.specs.Drivers.{target_names};
 ghost use Rattle.fsm_text.specs.Chains.{counted_bits, range_found};
 
 use source_meaning::{Selection, SymbolTable, Target};
@@ -56,10 +57,12 @@ fn declared_range(table: &SymbolTable, text: &[u8]) -> Option<Range>
     }
 }
 
-/// A target of whose range no more bits are left than are declared. Where none of them is declared, one bit stands for them.
+/// The target, whose range is cut to that of its name, so that it has no more bits than all names, or one: the same bits are
+/// counted. Where its name has no range, one bit stands for it.
 pub fn declared_part(table: &SymbolTable, target: Target) -> Target
     requires different { AllDifferent (map (λ s. s.text) table.now) }
-    ensures { counted_bits table.now result ≡ counted_bits table.now target }
+    ensures counted { counted_bits table.now result ≡ counted_bits table.now target }
+    ensures few { length (target_names table.now result) ≤ length (all_names table.now) + 1 }
 {
     let Selection::Bits(bits) = target.selection else {
         return target;
