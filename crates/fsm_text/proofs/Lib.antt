@@ -2,9 +2,11 @@ pub mod FsmLanguage
 pub mod Whens
 pub mod Nested
 pub mod Texts
+pub mod States
 pub mod Whole
 pub mod Linking
 pub mod Listing
 pub mod Tally
+pub mod Clipped
 pub mod Chains
 pub mod Laws

@@ -152,7 +152,7 @@ is_counted names n h = by (is_among names n) refl where
   by true e = refl
   by false e = absurd (omega (arith, place_behind names n e, h))
 
-not_counted : (names : List Name) (n : Name) → (place names n < length names → ⊥) → is_among names n ≡ false
+pub not_counted : (names : List Name) (n : Name) → (place names n < length names → ⊥) → is_among names n ≡ false
 not_counted names n apart = by (is_among names n) refl where
   by : (b : Bool) → is_among names n ≡ b → b ≡ false
   by true e = absurd (apart (place_within names n e))

@@ -2,6 +2,7 @@
 -- first token of its target.
 use Rattle.std.specs.Prelude.{◌≡◌, ℕ, ◌+◌, ◌<◌, nat_lt, bytes_eq, Bool, true, false, is_none, List, [], ◌∷◌, ◌++◌, length, filter, slice_index, Option, None, Some, Ok, Err, codes, if◌then◌else◌}
 use Rattle.vlsi_base.specs.declared.name.Name.{Name}
+use Rattle.vlsi_base.specs.declared.range.Range.{Range}
 use Rattle.vlsi_base.specs.declared.entity.Entity.{Entity}
 use Rattle.vlsi_base.specs.declared.entity.Mode.{Mode}
 use Rattle.vlsi_base.specs.declared.entity.Mode.TheVariants as mode
@@ -50,6 +51,11 @@ next_symbols known (Some text) =
 -- what is counted: the outputs, and the next state of this name
 abbrev pub counted_symbols : Entity → Option (List ℕ) → List Symbol
 counted_symbols e next = let outputs = port_symbols (filter is_out e.ports) in outputs ++ next_symbols outputs next
+
+-- the range in which a symbol is declared, where there is one
+abbrev pub range_found : Option Symbol → Option Range
+range_found None = None
+range_found (Some s) = s.range
 
 -- the bits of a target that are counted, from the left
 abbrev pub counted_bits : List Symbol → Target → List Name

@@ -48,7 +48,8 @@ pub record IsMachine (tokens : Tokens) (machine : MachineTree) : Type 0 where
 -- The first token at which the text goes wrong, or its end, and what is answered for it: a token that the grammar refuses, unless
 -- an assignment before it is one too many.
 pub data RefusedAs (tokens : Tokens) (e : ReadError) : Type 0 where
-  refused : (r : Refusal) → Rejects fsm (start tokens.items) r → (PassesBefore tokens r.left → ⊥) → e ≡ error_of tokens.last_line tokens.items r → RefusedAs tokens e
+  refused : (r : Refusal) → Rejects fsm (start tokens.items) r → (PassesBefore tokens r.left → ⊥)
+      → e ≡ error_of tokens.last_line tokens.items r → RefusedAs tokens e
   chained : (left : ℕ) → PassesChain tokens left → ((r : Refusal) → Rejects fsm (start tokens.items) r → r.left < left) → e ≡ chain_error → RefusedAs tokens e
 
 -- Memory may run out at any time.

@@ -8,6 +8,7 @@ ghost use Rattle.source_meaning.specs.Symbols.{port_symbols, all_names};
 ghost use Rattle.fsm_text.specs.Chains.{named_by, assigned_here, is_out, next_symbols, counted_symbols, counted_bits, taken, overfull, passes_before, IsTally};
 ghost use Rattle.fsm_text.specs.Texts.{chain_error, PassesBefore};
 
+use crate::clipping::declared_part;
 use grammar_theory::{CHAIN, DEPTH, Form, Stop};
 use source_bits::{Numbers, target_places};
 use source_meaning::{SymbolTable, Target, repeated};
@@ -161,6 +162,7 @@ fn passes_in(
     let mut rest = tokens;
     while rest.len() > left {
         if let Some(target) = assigned_here(alloc, rest)? {
+            let target = declared_part(tally.numbers.table(), target);
             if !tally.add(alloc, &target)? {
                 return Ok(true);
             }

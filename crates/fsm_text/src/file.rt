@@ -11,6 +11,7 @@ pub enum Statement {
     Assert(ParsedExpr),
     /// A target, the line of the first token of what is assigned to it, and that.
     Assign(Target, u32, ParsedExpr),
+    /// The parts of an if.
     If(Box<Parts>),
     /// The line of `case`, the name behind it, and the branches.
     Case(u32, NewName, Box<Branches>),

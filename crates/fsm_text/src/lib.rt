@@ -1,6 +1,7 @@
 //! Texts of state machines: their tokens are read into what is written there, or refused at the first token that can't stand.
 #![tactic(auto)]
 
+mod clipping;
 mod counting;
 mod file;
 mod law;

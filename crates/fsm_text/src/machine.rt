@@ -1,5 +1,5 @@
 // Reading whole texts.
-ghost use Rattle.std.specs.Prelude.{◌≡◌, ◌∷◌, [], IfOk, IfErr};
+ghost use Rattle.std.specs.Prelude.{◌≡◌, ◌<◌, ◌∷◌, [], length, IfOk, IfErr};
 ghost use Rattle.grammar_theory.specs.Tokens.{code};
 ghost use Rattle.grammar_theory.specs.Outcome.{Gives, finish, list_at, with_front};
 ghost use Rattle.vhdl_front.specs.EntityReading.{declared_at, another_at};
@@ -164,10 +164,11 @@ fn refused(alloc: Global, tokens: &Tokens, stop: Stop) -> Result<ReadError, Allo
 /// Reads the tokens of a whole state machine: an entity, its architecture, and nothing behind them. The answer is what is
 /// written there, in file order, with lines counted from 1; nothing is checked but the grammar, that no name is declared
 /// twice, and the limits of depth, bits, operators, and assignments of one output bit or of the next state. Else it is the
-/// error of the first token with which the text goes wrong (of the end, on the last line), or `Memory`. Takes memory in
-/// proportion to the text, and time for the bits that it assigns beside.
+/// error of the first token with which the text goes wrong (of the end, on the last line), or `Memory`. What is answered has a
+/// state. Takes memory in proportion to the text and the bits of its outputs, and time for the bits that it assigns beside.
 pub fn read_machine(alloc: Global, tokens: &Tokens) -> Result<StateFile, ReadError>
     ensures accepted { IfOk result (λ file. IsMachine tokens.now (machine_view file)) }
+    ensures some_state { IfOk result (λ file. 0 < length (machine_view file).states.states) }
     ensures refused { IfErr result (λ e. IsRefusedMachine tokens.now e) }
 {
     let mut cursor = Cursor::new(alloc, tokens.items.as_slice());
