@@ -53,7 +53,7 @@ bits_in [] = 0
 bits_in (i ∷ items) = counted i.mark + bits_in items
 
 bits_in-append : (front back : List Item) → bits_in (front ++ back) ≡ bits_in front + bits_in back
-bits_in-append [] back = refl
+bits_in-append [] back = omega arith
 bits_in-append (i ∷ front) back = let rest = bits_in-append front back in omega (arith, rest)
 
 -- so many bits more, within the limit
@@ -108,13 +108,14 @@ step_adds m s t e few = by (acts m s) refl e where
 
 run_adds : (items : List Item) (s t : State) → IsStep (run items s) t → s.bits ≤ BITS → Adds (bits_in items) s t
 run_adds [] s t e few = adds 0 s s t e (omega arith, few)
-run_adds (i ∷ items) s t e few = by (step i.mark s) refl e where
-  by : (r : Result State Breach) → step i.mark s ≡ r → IsStep (go_on r (run items)) t → Adds (bits_in (i ∷ items)) s t
-  by (Ok u) is e =
+run_adds (i ∷ items) s t e few = by (step i.mark s) refl e (λ u. run_adds items u t) where
+  by : (r : Result State Breach) → step i.mark s ≡ r → IsStep (go_on r (run items)) t
+      → ((u : State) → IsStep (run items u) t → u.bits ≤ BITS → Adds (bits_in items) u t) → Adds (bits_in (i ∷ items)) s t
+  by (Ok u) is e rest =
       let one = step_adds i.mark s u is few in
-      let rest = run_adds items u t e one.1 in
-      (let a = one.0 in let b = rest.0 in omega (arith, a, b), rest.1)
-  by (Err b) is e = absurd (cc e)
+      let behind = rest u e one.1 in
+      (let a = one.0 in let b = behind.0 in omega (arith, a, b), behind.1)
+  by (Err b) is e rest = absurd (cc e)
 
 -- ---- grammars
 
@@ -318,7 +319,7 @@ names_long text None = refl
 names_long text (Some r) = length-map (range_bits r) (bit_name text) ∙ range_long r
 
 named_long : (r : Role) (o : Option Range) (line : ℕ) (ns : List NewName) → length (all_names (symbols_named r o line ns)) ≡ length ns * width_of o
-named_long r o line [] = refl
+named_long r o line [] = omega arith
 named_long r o line (n ∷ ns) =
     let all = length-append (names_in n.text o) (all_names (symbols_named r o line ns)) in
     let first = names_long n.text o in
@@ -329,7 +330,7 @@ named_long r o line (n ∷ ns) =
     one_more w n all first rest a b c = omega (arith, a, b, c)
 
 all_long : (xs ys : List Symbol) → length (all_names (xs ++ ys)) ≡ length (all_names xs) + length (all_names ys)
-all_long [] ys = refl
+all_long [] ys = omega arith
 all_long (s ∷ xs) ys =
     let a = length-append (symbol_names s) (all_names (xs ++ ys)) in
     let b = length-append (symbol_names s) (all_names xs) in

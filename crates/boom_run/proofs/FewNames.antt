@@ -57,10 +57,10 @@ within (x ∷ xs) ys d among =
 
 filter_less : {A : Type 0} (p : A → Bool) (xs : List A) → length (filter p xs) ≤ length xs
 filter_less p [] = omega arith
-filter_less p (x ∷ xs) = by (p x) where
-  by : (b : Bool) → length (cond b (x ∷ filter p xs) (filter p xs)) ≤ length (x ∷ xs)
-  by true = let rest = filter_less p xs in omega (arith, rest)
-  by false = let rest = filter_less p xs in omega (arith, rest)
+filter_less p (x ∷ xs) = by (p x) (filter_less p xs) where
+  by : (b : Bool) → length (filter p xs) ≤ length xs → length (cond b (x ∷ filter p xs) (filter p xs)) ≤ length (x ∷ xs)
+  by true rest = omega (arith, rest)
+  by false rest = omega (arith, rest)
 
 -- ---- a machine that is read
 
