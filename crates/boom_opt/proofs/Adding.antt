@@ -1,5 +1,5 @@
 -- One more root of the second machine.
-use Rattle.std.proofs.Common.{◌≡◌, ◌⊎◌, inl, inr, ℕ, ◌+◌, ◌-◌, ◌*◌, ◌^◌, ◌<◌, ◌≤◌, min, true, false, List, [], ◌∷◌, ◌++◌, length, sym, subst, ◌∙◌, arith}
+use Rattle.std.proofs.Common.{◌≡◌, ◌⊎◌, inl, inr, ℕ, ◌+◌, ◌-◌, ◌*◌, ◌^◌, ◌<◌, ◌≤◌, min, true, false, List, [], ◌∷◌, ◌++◌, sym, subst, ◌∙◌, arith}
 use Rattle.std.specs.Prelude.{sum, Result, Ok, Err, OnOk}
 use Rattle.std.specs.List.{Contains}
 use Rattle.bdd_core.specs.declared.node.NodeId.{NodeId}
@@ -25,7 +25,6 @@ use Rattle.boom_opt.specs.declared.optimising.Rebuilt.{Rebuilt}
 use Rattle.boom_opt.specs.Muxes.{IsTable, HasGrownBy}
 use Rattle.boom_opt.specs.Rebuilding.{AreSaid, AreWithin, IsWithin, IsBeyond, HasFound, IsFound, list_at}
 use Rattle.boom_opt.specs.Rebuilt.{expressions_size, IsPlanOf, IsRebuilt, IsNext, IsRootOf}
-use Rattle.boom_opt.proofs.Weighing.{weight_by_count}
 use Rattle.boom_opt.proofs.Counted.{known_within, known_beyond}
 use Rattle.boom_opt.proofs.Dags.{dag_of}
 use Rattle.boom_opt.proofs.Finding.{grown_none}
@@ -114,15 +113,12 @@ rebuilt_next m before r b c nodes n h count greater table g most large planned =
           let w = h.weight in
           let s = sums in
           let near = q.0 in
-          let least = weight_by_count c.muxes.nodes.keys in
           let few = table.few in
-          let is = table.weight in
           let given = g.given ∙ h.given in
-          within_min (expressions_size m) c.muxes.given c.muxes.weight (length c.muxes.nodes.keys) (4 * sum (h.dags ++ dag.0 ∷ [])) given near
-          (omega (arith, is, least)) (omega (arith, few)) (omega (arith, a, d, w, s))
+          within_min (expressions_size m) c.muxes.given c.muxes.weight (4 * sum (h.dags ++ dag.0 ∷ [])) given near (omega (arith, few)) (omega (arith, a, d, w, s))
         where
-          within_min : (size given weight count most : ℕ) → given ≡ min size (2 ^ 64 - 1) → given ≤ weight + 4 → weight ≤ 4 * count → count < 2 ^ 32 → weight + 4 ≤ most → size ≤ most
-          within_min size given weight count most e near least few room = omega (arith, e, near, least, few, room)
+          within_min : (size given weight most : ℕ) → given ≡ min size (2 ^ 64 - 1) → given ≤ weight + 4 → given < 2 ^ 32 → weight + 4 ≤ most → size ≤ most
+          within_min size given weight most e near few room = omega (arith, e, near, few, room)
 
 -- ---- what a call leaves
 

@@ -3,6 +3,7 @@ use Rattle.std.proofs.Common.{◌≡◌, ◌⊎◌, inl, inr, ℕ, zero, suc, �
 use Rattle.std.specs.Prelude.{replicate, sum, Result, Ok, Err, IfOk}
 use Rattle.std.specs.List.{All, AllZip, slice_index_or}
 use Rattle.machine_meaning.specs.Machine.{Machine, Register, outputs}
+use Rattle.machine_meaning.specs.Size.{machine_size}
 use Rattle.machine_core.specs.Checked.{IsChecked}
 use Rattle.machine_roots.specs.Expansion.{held_count}
 use Rattle.machine_roots.specs.Roots.{Root, roots, register_roots, expression_of, IsGreatestDcount}
@@ -109,6 +110,13 @@ may_be_built m b checked h small = record {
     loads : AllZip (SaysRoot m b.muxes b.plan) (register_roots m.registers) b.plan.loads.items
     loads = subst (λ (rs : List Root). AllZip (SaysRoot m b.muxes b.plan) rs b.plan.loads.items)
         (drop_all (outputs m) (λ name. record { name = name; expr = expression_of m.equations name }) (register_roots m.registers)) p.loads
+
+-- there are no more choices than the machine weighs
+pub few_built : (m : Machine) (b : Rebuilt) → IsRebuilt m (roots m) b → b.muxes.weight < b.muxes.given → length b.muxes.nodes.keys ≤ machine_size m
+few_built m b h less =
+    let each = h.table.each in
+    let g = h.given in
+    omega (arith, each, g, less)
 
 -- ---- the answer
 

@@ -44,12 +44,13 @@ loads_at m checked j r at =
     subst (λ (q : Register). IsOver q.next (length m.vars) × IsOver q.enable (length m.vars)) (get_or_from_slice_get m.registers j r r at)
     (checked.loads j r (slice_get_within m.registers j r at))
 
-pub kept_built : (m : Machine) (muxes : List Mux) (plan : Option Plan) → MayBeBuilt m muxes plan → (o : Machine) → IsBuilt m muxes plan o → IsKept m o
-kept_built m muxes plan may o b = record {
+pub kept_built : (m : Machine) (muxes : List Mux) (plan : Option Plan) → MayBeBuilt m muxes plan → (o : Machine) → IsBuilt m muxes plan o → length muxes ≤ machine_size m → IsKept m o
+kept_built m muxes plan may o b few = record {
   text = b.text;
   made = mux_equations b.text 0 muxes;
   kept = equations_said (numbers_behind (held_count m) (length muxes) (length m.vars)) plan 0 m.equations;
   count = length muxes;
+  few = few;
   fresh = b.fresh.fresh;
   vars = b.vars;
   equations = b.equations;
@@ -131,7 +132,7 @@ optimised_same m dags may o b each most =
     let inner = inner_when_kept m (4 * sum dags) most in
     record {
       alike = subst (λ (x : Machine). IsAlike m x) (sym same) (alike_itself m may.checked.ordered);
-      kept = kept_built m [] None may o b;
+      kept = kept_built m [] None may o b (omega arith);
       small = record {
         size = let e = ap machine_size same in omega (arith, e);
         dags = dags;
@@ -319,7 +320,7 @@ module _ (m : Machine) (t : Muxes) (p : Plan) (may : MayBeBuilt m t.nodes.keys (
       let inner = inner_when_kept o (4 * sum dags) (omega (arith, weighs, is, most)) in
       record {
         alike = alike_built;
-        kept = kept_built m t.nodes.keys (Some p) may o b;
+        kept = kept_built m t.nodes.keys (Some p) may o b (let each = table.each in omega (arith, each, less));
         small = record {
           size = omega (arith, weighs, is, less, outs_same, count);
           dags = dags;

@@ -1,5 +1,5 @@
 -- The table of choices.
-use Rattle.std.proofs.Common.{◌≡◌, inl, ℕ, zero, suc, ◌+◌, ◌^◌, ◌<◌, ◌≤◌, Bool, true, false, List, [], ◌∷◌, ◌++◌, length, Some, slice_get, get_or, refl, sym, ap, subst, ◌∙◌, arith, length-append, append-nil, if◌then◌else◌}
+use Rattle.std.proofs.Common.{◌≡◌, ◌⊎◌, inl, inr, ℕ, zero, suc, ◌+◌, ◌^◌, ◌<◌, ◌≤◌, Bool, true, false, List, [], ◌∷◌, ◌++◌, length, Some, slice_get, get_or, refl, sym, ap, subst, ◌∙◌, arith, length-append, append-nil, if◌then◌else◌}
 use Rattle.std.specs.List.{position}
 use Rattle.std.proofs.lemmas.List.Quantifiers.{position-Some}
 use Rattle.std.proofs.lemmas.Option.{slice_get-get_or}
@@ -26,9 +26,23 @@ below_push held n (y ∷ xs) x h s l u = (
   ),
 )
 
+-- what the choices weigh is within what was given, and so is their number
+pub table_less : (t : Muxes) → IsTable t → t.weight ≤ t.given
+table_less t table = by table.less where
+  by : (t.weight < t.given) ⊎ (t.nodes.keys ≡ []) → t.weight ≤ t.given
+  by (inl less) = omega (arith, less)
+  by (inr none) = let w = table.weight in let e = ap muxes_weight none in omega (arith, w, e)
+
+pub table_few : (t : Muxes) → IsTable t → t.held + length t.nodes.keys < 2 ^ 32
+table_few t table =
+    let l = table_less t table in
+    let e = table.each in
+    let f = table.few in
+    omega (arith, l, e, f)
+
 -- one more choice
 module _ (t u : Muxes) (x : Mux) (weight : ℕ) (table : IsTable t) (further : IsFurther t x weight) (held : u.held ≡ t.held) (given : u.given ≡ t.given)
-    (weighs : u.weight ≡ weight) (keys : u.nodes.keys ≡ t.nodes.keys ++ x ∷ []) (few : t.held + length t.nodes.keys + 1 < 2 ^ 32) where
+    (weighs : u.weight ≡ weight) (keys : u.nodes.keys ≡ t.nodes.keys ++ x ∷ []) where
   long : length u.nodes.keys ≡ length t.nodes.keys + 1
   long = ap length keys ∙ length-append t.nodes.keys (x ∷ [])
 
@@ -42,8 +56,14 @@ module _ (t u : Muxes) (x : Mux) (weight : ℕ) (table : IsTable t) (further : I
         let c = further.weighs in
         let d = table.weight in
         omega (arith, a, b, c, d, weighs);
+    each =
+        let l = long in
+        let own = further.own in
+        let c = further.weighs in
+        let e = table.each in
+        omega (arith, l, own, c, e, weighs);
     less = inl (let l = further.less in omega (arith, l, weighs, given));
-    few = let l = long in omega (arith, l, held, few);
+    few = let f = table.few in omega (arith, f, held, given);
   }
 
   pub grown_pushed : HasGrownBy 1 t u

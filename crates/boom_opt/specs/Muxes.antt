@@ -65,12 +65,14 @@ mux_values w (x ∷ rest) = mux_values (w ++ mux_value x w ∷ []) rest
 abbrev pub muxes_weight : List Mux → ℕ
 muxes_weight xs = sum_by mux_weight xs
 
--- what is known of the table of choices: there are fewer than 32 bits can number, and they weigh less than what was given
+-- What is known of the table of choices: each weighs something, and together they weigh less than what was given. So there are no more
+-- of them than that, and 32 bits can number them.
 pub record IsTable (t : Muxes) : Type 0 where
   pub below : EachIsBelow t.held t.held t.nodes.keys
   pub weight : t.weight ≡ muxes_weight t.nodes.keys
+  pub each : length t.nodes.keys ≤ t.weight
   pub less : (t.weight < t.given) ⊎ (t.nodes.keys ≡ [])
-  pub few : t.held + length t.nodes.keys < 2 ^ 32
+  pub few : t.held + t.given < 2 ^ 32
 
 -- at most n choices were put behind those that were there
 pub record HasGrownBy (n : ℕ) (old new : Muxes) : Type 0 where
@@ -80,12 +82,13 @@ pub record HasGrownBy (n : ℕ) (old new : Muxes) : Type 0 where
   pub nodes : new.nodes.keys ≡ old.nodes.keys ++ more
   pub few : length more ≤ n
 
--- a choice that isn't there, reads what is, and leaves the table lighter than what was given
+-- a choice that isn't there, reads what is, weighs something, and leaves the table lighter than what was given
 pub record IsFurther (t : Muxes) (x : Mux) (weight : ℕ) : Type 0 where
   pub absent : Contains t.nodes.keys x → ⊥
   pub select : x.select < t.held
   pub low : IsLiteralBelow (t.held + length t.nodes.keys) x.low
   pub high : IsLiteralBelow (t.held + length t.nodes.keys) x.high
+  pub own : 0 < mux_weight x
   pub weighs : weight ≡ t.weight + mux_weight x
   pub less : weight < t.given
 

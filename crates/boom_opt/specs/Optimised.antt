@@ -35,12 +35,14 @@ abbrev pub new_names : List ℕ → ℕ → List Name
 new_names text count = map (λ k. record { text = text; bit = Some k }) (rising 0 count)
 
 -- The names of the machine stay, in their order; new ones are bits of a vector of a name that it doesn't have, and their equations
--- stand before the others. What an equation or a register of the given machine says is kept, or is strictly smaller.
+-- stand before the others. There are no more new ones than the given machine weighs. What an equation or a register of the given machine
+-- says is kept, or is strictly smaller.
 pub record IsKept (m o : Machine) : Type 0 where
   pub text : List ℕ
   pub made : List Equation
   pub kept : List Equation
   pub count : ℕ
+  pub few : count ≤ machine_size m
   pub fresh : (name : Name) → In name (names_of m.ports ++ m.vars) → name.text ≡ text → ⊥
   pub vars : o.vars ≡ held_names m ++ (new_names text count ++ equation_names m)
   pub equations : o.equations ≡ made ++ kept

@@ -1,5 +1,5 @@
 // The optimised machine as a value.
-ghost use Rattle.std.specs.Prelude.{◌≡◌, if◌then◌else◌, nat_lt, ◌++◌, ◌+◌, ◌*◌, ◌≤◌, ◌<◌, ◌^◌, map, length, take, drop, Some, IfSome, IfOk, OnOk};
+ghost use Rattle.std.specs.Prelude.{◌≡◌, if◌then◌else◌, nat_lt, ◌++◌, ◌+◌, ◌-◌, ◌*◌, ◌≤◌, ◌<◌, ◌^◌, map, length, take, drop, Some, IfSome, IfOk, OnOk};
 ghost use Rattle.std.specs.List.{All};
 ghost use Rattle.std.specs.Option.{option_copied};
 ghost use Rattle.bool_expr.specs.Expression.{IsOver};
@@ -209,26 +209,21 @@ fn copied_ports(alloc: Global, ports: &[Port]) -> Result<Vec<Port>, AllocError>
     Ok(made)
 }
 
-/// The machine with these choices in front of its equations, and with what the plan says of each; without a plan all is kept. More
-/// names than 32 bits can number are answered as out of memory.
+/// The machine with these choices in front of its equations, and with what the plan says of each; without a plan all is kept.
 pub(crate) fn build(
     alloc: Global,
     m: &Machine,
     muxes: &[Mux],
     plan: Option<&Plan>,
 ) -> Result<Machine, AllocError>
-    requires { MayBeBuilt m.now muxes.now (option_copied plan) }
+    requires parts { MayBeBuilt m.now muxes.now (option_copied plan) }
+    requires few { length m.now.vars + length m.now.ports + length muxes.now < 2 ^ 32 - 1 }
     ensures { IfOk result (λ o. IsBuilt m.now muxes.now (option_copied plan.entry) o) }
 {
     let given = m.vars().as_slice();
     let equations = m.equations().as_slice();
     let held = given.len() - equations.len();
-    let (Ok(count), Ok(_)) = (
-        u32::try_from(muxes.len()),
-        u32::try_from(given.len() + muxes.len()),
-    ) else {
-        return Err(AllocError);
-    };
+    let count = muxes.len() as u32;
     let text = new_text(alloc, m.ports().as_slice(), given)?;
     let numbers = numbers(alloc, held as u32, count, given.len() as u32)?;
     let vars = all_names(alloc, given, held, &text, count)?;

@@ -10,7 +10,7 @@ use std::alloc::Global;
 /// Why there is no literal.
 #[derive(Clone, Copy, Drop)]
 pub(crate) enum Stop {
-    /// No memory, or more names than 32 bits can number.
+    /// No memory.
     Memory,
     /// The choices would weigh no less than what was given.
     Large,
@@ -29,7 +29,7 @@ pub(crate) struct Muxes {
 impl Muxes {
     /// No choices, behind so many inputs and registers. Takes no memory.
     pub fn new(alloc: Global, held: u32, given: u64) -> Self
-        requires { held < 2 ^ 32 }
+        requires { held + given < 2 ^ 32 }
         ensures table { IsTable result }
         ensures held { result.held ≡ held }
         ensures given { result.given ≡ given }
@@ -43,16 +43,12 @@ impl Muxes {
         }
     }
 
-    /// The number of a further choice.
-    fn next_number(&self) -> Result<u32, Stop>
+    /// The number of a further choice. Takes no memory.
+    fn next_number(&self) -> u32
         requires { IsTable self.now }
-        ensures ok { IfOk result (λ n. (n ≡ self.now.held + length self.now.nodes.keys) × (n + 1 < 2 ^ 32)) }
-        ensures memory { IfErr result (λ e. e ≡ Stop.Memory) }
+        ensures { result ≡ self.now.held + length self.now.nodes.keys }
     {
-        match u32::try_from(self.held as usize + self.nodes.len() + 1) {
-            Ok(end) => Ok(end - 1),
-            Err(_) => Err(Stop::Memory),
-        }
+        self.held + self.nodes.len() as u32
     }
 
     /// Puts a choice that isn't there behind the others.
@@ -64,7 +60,7 @@ impl Muxes {
         ensures says { IfOk result (λ l. SaysMux self.old self.new mux l) }
         ensures memory { IfErr result (λ e. e ≡ Stop.Memory) }
     {
-        let number = self.next_number()?;
+        let number = self.next_number();
         match self.nodes.insert_full(mux) {
             Ok(_) => {
                 self.weight = weight;

@@ -1,5 +1,5 @@
 // A name for new signals.
-ghost use Rattle.std.specs.Prelude.{◌≡◌, ◌++◌, codes, IfOk, OnOk};
+ghost use Rattle.std.specs.Prelude.{◌≡◌, ◌++◌, ◌+◌, ◌-◌, ◌<◌, ◌^◌, codes, length, IfOk, OnOk};
 ghost use Rattle.std.specs.Fmt.{decimal};
 ghost use Rattle.machine_meaning.specs.Machine.{names_of};
 ghost use Rattle.boom_opt.specs.Names.{IsFreshText, IsMarked, HasTexts};
@@ -40,18 +40,20 @@ fn numbered(alloc: Global, number: u32) -> Result<Text, AllocError>
     Ok(text)
 }
 
-/// The first of `n0`, `n1` and so on that isn't the text of any of these names. More than 32 bits can number are answered as out
-/// of memory. Takes memory for the texts that are used.
+/// The first of `n0`, `n1` and so on that isn't the text of any of these names. There are more of these texts than names. Takes
+/// memory for the texts that are used.
 pub(crate) fn new_text(alloc: Global, ports: &[Port], names: &[Name]) -> Result<Text, AllocError>
+    requires { length ports.now + length names.now < 2 ^ 32 - 1 }
     ensures { IfOk result (λ text. IsFreshText (names_of ports.now ++ names.now) text) }
 {
     let mut used = texts_of(alloc, ports, names)?;
-    for number in 0..u32::MAX {
+    let mut number = 0;
+    loop {
         let text = numbered(alloc, number)?;
         let is_new = mark(alloc, &mut used, text.as_bytes())?;
         if is_new {
             return Ok(text);
         }
+        number += 1;
     }
-    Err(AllocError)
 }

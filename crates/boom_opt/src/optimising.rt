@@ -19,6 +19,7 @@ ghost use Rattle.std.specs.Prelude.{◌≡◌, ℕ, ◌++◌, ◌∷◌, [], ◌
 ghost use Rattle.std.specs.List.{All, sum_by};
 ghost use Rattle.bool_expr.specs.Expression.{size_of};
 ghost use Rattle.bool_expr.specs.View.{view};
+ghost use Rattle.machine_meaning.specs.Size.{machine_size};
 ghost use Rattle.machine_roots.specs.Asked.{IsRootDiagram};
 ghost use Rattle.machine_roots.specs.Listing.{root_view};
 ghost use Rattle.machine_roots.specs.Roots.{Root, roots as roots_of, IsOverBudget, IsGreatestDcount};
@@ -119,7 +120,7 @@ fn greater(a: u32, b: u32) -> u32
 impl Rebuilt {
     // Takes memory for the plan.
     fn begin(alloc: Global, m: &Machine) -> Result<Self, AllocError>
-        requires { length m.now.vars < 2 ^ 32 }
+        requires { length m.now.vars + machine_size m.now < 2 ^ 32 }
         ensures { IfOk result (λ b. IsRebuilt m.now [] b) }
     {
         let equations = m.equations().as_slice().len();
@@ -169,7 +170,7 @@ impl Rebuilt {
 
 // The second machine of all roots, or the first one over the budget.
 fn remake(alloc: Global, m: &Machine, budget: u32) -> Result<Rebuilt, BoomError>
-    requires few { length m.now.vars < 2 ^ 32 }
+    requires few { length m.now.vars + machine_size m.now < 2 ^ 32 }
     requires checked { IsChecked m.now }
     ensures made { IfOk result (λ b. HasRebuilt m.now budget b) }
     ensures over { IfErr result (λ e. IsOverIn m.now budget e) }
@@ -185,7 +186,8 @@ fn remake(alloc: Global, m: &Machine, budget: u32) -> Result<Rebuilt, BoomError>
 
 // The given machine again.
 fn kept(alloc: Global, m: &Machine) -> Result<Machine, AllocError>
-    requires { IsChecked m.now }
+    requires checked { IsChecked m.now }
+    requires few { length m.now.vars + length m.now.ports < 2 ^ 32 - 1 }
     ensures { IfOk result (λ o. IsBuilt m.now [] None o) }
 {
     build(alloc, m, &[], None)
@@ -194,6 +196,7 @@ fn kept(alloc: Global, m: &Machine) -> Result<Machine, AllocError>
 // The smaller one of the two machines, and the given one where they weigh the same.
 fn smaller(alloc: Global, m: &Machine, made: &Rebuilt) -> Result<Machine, AllocError>
     requires checked { IsChecked m.now }
+    requires few { length m.now.vars + length m.now.ports + machine_size m.now < 2 ^ 32 - 1 }
     requires made { IsRebuilt m.now (roots_of m.now) made.now }
     ensures { IfOk result (λ o. IsOptimised m.now o) }
 {
@@ -208,17 +211,17 @@ fn smaller(alloc: Global, m: &Machine, made: &Rebuilt) -> Result<Machine, AllocE
 
 /// A machine that does the same, isn't larger, and whose inner signals weigh at most four times the diagrams of the given one's
 /// roots. `Budget` exactly where the diagram of a root, with all subexpressions of its expansion, has more nodes than the budget; it
-/// names the first such root. Takes time and memory for one diagram at a time, and memory for both machines. More names than 32 bits
-/// can number are answered as out of memory.
+/// names the first such root. Takes time and memory for one diagram at a time, and memory for both machines. New names are numbered
+/// with the others, by 32 bits: there are no more of them than the machine weighs.
 pub fn optimise(alloc: Global, m: &Machine, budget: u32) -> Result<Optimised, BoomError>
+    requires few { length m.now.vars + length m.now.ports + machine_size m.now < 2 ^ 32 - 1 }
     ensures optimised { IfOk result (λ o. IsOptimised m.now o.machine) }
     ensures nodes { IfOk result (λ o. IsGreatestDcount m.now o.nodes) }
     ensures within { IfOk result (λ o. All (λ r. IsOverBudget m.now budget r → ⊥) (roots_of m.now)) }
     ensures over { IfErr result (λ e. IsOverIn m.now budget e) }
 {
-    let Ok(_) = u32::try_from(m.vars().as_slice().len()) else {
-        return Err(BoomError::Memory);
-    };
+    // A machine is checked.
+    let _ = m.name();
     let made = remake(alloc, m, budget)?;
     let machine = smaller(alloc, m, &made)?;
     Ok(Optimised {

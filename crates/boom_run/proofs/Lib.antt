@@ -1,2 +1,4 @@
 pub mod Declared
+mod Counted
+pub mod FewNames
 mod Refusing

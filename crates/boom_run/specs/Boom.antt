@@ -1,5 +1,5 @@
 -- What `boom` reads and answers.
-use Rattle.std.specs.Prelude.{◌≡◌, ℕ, ◌+◌, ◌<◌, ◌≤◌, List, [], ◌∷◌, ◌++◌, get_or, codes, None, Some, Result, Ok, Err}
+use Rattle.std.specs.Prelude.{◌≡◌, ℕ, ◌+◌, ◌-◌, ◌^◌, ◌<◌, ◌≤◌, List, length, [], ◌∷◌, ◌++◌, get_or, codes, None, Some, Result, Ok, Err}
 use Rattle.std.specs.List.{All}
 use Rattle.std.specs.Fmt.{decimal}
 use Rattle.vlsi_base.specs.declared.name.Name.{Name}
@@ -51,6 +51,12 @@ pub record IsMadeSmaller (c : BoomCommand) (source : List ℕ) (p : Product) : T
   pub o : Machine
   pub made : IsWithinBudget m c.nodes o
   pub written : IsWrittenAs c o p
+
+-- The names of a source that is small enough, and as many more as it weighs, have numbers of 32 bits.
+abbrev pub SourceHasFewNames : Type 0
+SourceHasFewNames =
+    (source : List ℕ) (m : Machine) → IsVbe source m → machine_size m ≤ MOST_SIZE
+    → length m.vars + length m.ports + machine_size m < 2 ^ 32 - 1
 
 -- the status of the first root over the budget
 pub record IsBudgetStatus (m : Machine) (budget : ℕ) (s : Status) : Type 0 where

@@ -1,5 +1,5 @@
 // `boom` as a tool: what it reads, and what it answers.
-ghost use Rattle.std.specs.Prelude.{◌≡◌, ◌≤◌, ◌<◌, ◌+◌, ◌^◌, IfOk, IfErr, IsTrue, length};
+ghost use Rattle.std.specs.Prelude.{◌≡◌, ◌≤◌, ◌<◌, ◌+◌, ◌-◌, ◌^◌, IfOk, IfErr, length};
 ghost use Rattle.machine_meaning.specs.Size.{machine_size as size_of};
 ghost use Rattle.machine_roots.specs.Roots.{IsGreatestDcount};
 ghost use Rattle.tool_drive.specs.Refusals.{MemoryOr};
@@ -8,6 +8,7 @@ ghost use Rattle.boog_run.specs.declared.netlist.TheConstants.{MOST_SIZE};
 ghost use Rattle.vbe_write.specs.Writable.{CanBeVbe};
 ghost use Rattle.boom_run.specs.Boom.{MakesSmaller, IsWrittenAs, IsWithinBudget, IsBudgetStatus, report as report_of};
 
+use crate::laws::source_has_few_names;
 use boog_run::check_size;
 use boom_opt::{BoomError, Optimised, optimise};
 use machine_core::{Machine, machine_size};
@@ -33,6 +34,7 @@ pub struct Boom<'a> {
 /// The machine made smaller, and the most nodes that a diagram of the given one's roots has; or the status that tells why there is
 /// none: `Budget`, at the first root whose diagram has more nodes than this, or out of memory.
 pub fn optimise_within(alloc: Global, machine: &Machine, budget: u32) -> Result<Optimised, Status>
+    requires few { length machine.now.vars + length machine.now.ports + size_of machine.now < 2 ^ 32 - 1 }
     ensures made { IfOk result (λ o. IsWithinBudget machine.now budget o.machine) }
     ensures nodes { IfOk result (λ o. IsGreatestDcount machine.now o.nodes) }
     ensures refused { IfErr result (λ s. MemoryOr s (IsBudgetStatus machine.now budget s)) }
@@ -45,15 +47,6 @@ pub fn optimise_within(alloc: Global, machine: &Machine, budget: u32) -> Result<
             reached: u64::from(budget) + 1,
         }),
     }
-}
-
-// Whether names and ports have numbers of 32 bits.
-fn has_few_names(machine: &Machine) -> bool
-    ensures { IsTrue result → length machine.now.vars + length machine.now.ports < 2 ^ 32 }
-{
-    let names = machine.vars().as_slice().len() as u64;
-    let ports = machine.ports().as_slice().len() as u64;
-    names.saturating_add(ports) <= u64::from(u32::MAX)
 }
 
 // How large a machine is.
@@ -69,15 +62,13 @@ fn report(alloc: Global, machine: &Machine) -> Result<FileBytes, AllocError>
     Ok(text)
 }
 
-// The smaller source's file, NAME.vbe, and what is printed. More names than 32 bits can number are answered as out of memory.
+// The smaller source's file, NAME.vbe, and what is printed.
 fn product(alloc: Global, command: &BoomCommand, machine: &Machine) -> Result<Product, AllocError>
     requires small { size_of machine.now ≤ MOST_SIZE }
+    requires few { length machine.now.vars + length machine.now.ports < 2 ^ 32 }
     requires names { CanBeVbe machine.now }
     ensures { IfOk result (λ p. IsWrittenAs command.now machine.now p) }
 {
-    if !has_few_names(machine) {
-        return Err(AllocError);
-    }
     let mut name = command.out.copy(alloc)?;
     name.append(b".vbe")?;
     let file = write_vbe(alloc, machine)?;
@@ -92,7 +83,8 @@ fn product(alloc: Global, command: &BoomCommand, machine: &Machine) -> Result<Pr
 fn made_smaller(alloc: Global, command: &BoomCommand, source: &[u8]) -> Result<Product, Refusal>
     ensures { IsJudged (MakesSmaller command.now source.now) result }
 {
-    // What is read, and what is alike, has names that can be written.
+    // What is read, and what is alike, has names that can be written, and few of them.
+    source_has_few_names();
     machine_is_named();
     registers_are_named();
     in_order_can_be_written();

@@ -1,7 +1,7 @@
-use Rattle.std.proofs.Common.{inl, inr, List, sym, subst, Some}
+use Rattle.std.proofs.Common.{inl, inr, List, length, sym, subst, ap, Some, arith}
 use Rattle.boom_opt.specs.declared.mux.Mux.{Mux}
 use Rattle.boom_opt.specs.Building.{MayBeBuilt}
-use Rattle.boom_opt.proofs.Finishing.{may_be_built, smaller_result, kept_result}
+use Rattle.boom_opt.proofs.Finishing.{may_be_built, few_built, smaller_result, kept_result}
 use Rattle.boom_opt.proofs.optimising.smaller.Goals as goal
 
 pub returns-then-made : goal.returns-then-made
@@ -10,9 +10,16 @@ returns-then-made c = kept_result c.args.m.now c.args.made.now c.kept.result c.r
 pub returns-then-made-2 : goal.returns-then-made-2
 returns-then-made-2 c = kept_result c.args.m.now c.args.made.now c.kept-then-made-2.result c.requires.checked c.requires.made (inr c.if-made-2.true) c.kept-then-made-2.ensures
 
-pub build-requires : goal.build-requires
-build-requires c =
+pub build-requires-clause-parts : goal.build-requires-clause-parts
+build-requires-clause-parts c =
     subst (λ (xs : List Mux). MayBeBuilt c.args.m.now xs (Some c.args.made.now.plan)) (sym c.as_slice.ensures.keys) (may_be_built c.args.m.now c.args.made.now c.requires.checked c.requires.made c.if-made.false)
+
+pub build-requires-clause-few : goal.build-requires-clause-few
+build-requires-clause-few c =
+    let new = few_built c.args.m.now c.args.made.now c.requires.made c.if-made-2.false in
+    let keys = ap (λ (xs : List Mux). length xs) c.as_slice.ensures.keys in
+    let few = c.requires.few in
+    omega (arith, new, keys, few)
 
 pub returns : goal.returns
 returns c =

@@ -1,4 +1,4 @@
-use Rattle.std.proofs.Common.{◌≡◌, ◌++◌, ◌∷◌, [], arith, ap, ◌∙◌, refl, if◌then◌else◌, Bool}
+use Rattle.std.proofs.Common.{◌≡◌, ◌++◌, ◌∷◌, [], ap, ◌∙◌, refl, if◌then◌else◌, Bool}
 use Rattle.boom_opt.proofs.Same.{none_equal}
 use Rattle.boom_opt.proofs.Tabling.{table_pushed, says_pushed}
 use Rattle.boom_opt.proofs.muxes.Muxes.push.Goals as goal
@@ -8,15 +8,12 @@ returns-in-Ok-clause-table c =
     let s = c.args.self.now in
     let keys : c.insert_full.new.self.keys ≡ s.nodes.keys ++ c.args.mux ∷ [] =
     c.in-Ok.ensures.keys ∙ ap (λ (b : Bool). if b then s.nodes.keys else s.nodes.keys ++ c.args.mux ∷ []) (none_equal s.nodes.keys c.args.mux c.requires.mux.absent) in
-    let n = c.in_ok-number.ensures.ok in
     table_pushed s (record { held = s.held; given = s.given; weight = c.args.weight; nodes = c.insert_full.new.self }) c.args.mux c.args.weight c.requires.table c.requires.mux refl refl refl keys
-    (omega (arith, n.0, n.1))
 
 pub returns-in-Ok-clause-says : goal.returns-in-Ok-clause-says
 returns-in-Ok-clause-says c =
     let s = c.args.self.now in
     let keys : c.insert_full.new.self.keys ≡ s.nodes.keys ++ c.args.mux ∷ [] =
     c.in-Ok.ensures.keys ∙ ap (λ (b : Bool). if b then s.nodes.keys else s.nodes.keys ++ c.args.mux ∷ []) (none_equal s.nodes.keys c.args.mux c.requires.mux.absent) in
-    let n = c.in_ok-number.ensures.ok in
     says_pushed s (record { held = s.held; given = s.given; weight = c.args.weight; nodes = c.insert_full.new.self }) c.args.mux c.args.weight c.requires.table c.requires.mux refl refl refl keys
-    (omega (arith, n.0, n.1)) c.in_ok-number.number n.0
+    c.next_number-number.result c.next_number-number.ensures
