@@ -71,8 +71,9 @@ def second(words, files):
 def behaviour_faults(machine, made, registers, settled, choose):
     """Where something that has these registers doesn't do what the state machine does. Of inputs and contents `settled` gives the outputs
     and the next contents, as codes: from some states' codes, and, where a vector resets, from random contents."""
-    states = range(len(made)) if len(made) <= STATES else sorted(choose.sample(range(len(made)), STATES))
-    for _ in range(VECTORS):
+    is_small = len(made) <= STATES
+    states = range(len(made)) if is_small else sorted(choose.sample(range(len(made)), STATES // 2))
+    for _ in range(VECTORS if is_small else 2):
         inputs = {bit: choose.randrange(2) for bit in machine.inputs}
         for state in states:
             outputs, after = cycle(machine, inputs, state)
