@@ -174,6 +174,16 @@ def ring(count, name="s"):
     return text_of(", ".join(states), f"o <= '0';\ncase cs is\n{branches}end case;\n", "o : out bit")
 
 
+def fork(count):
+    """Each state leads to the one behind it or to the one at twice its number, by an input; a reset leads to the first."""
+    states = [f"s{k}" for k in range(count)]
+    branches = "".join(
+        f"when {state} => if i then ns <= {states[(k + 1) % count]}; else ns <= {states[2 * k % count]}; end if;\n" for k, state in enumerate(states)
+    )
+    body = f"o <= '0';\nif reset then ns <= s0; else case cs is\n{branches}end case; end if;\n"
+    return text_of(", ".join(states), body, "reset, i : in bit; o : out bit")
+
+
 def padded(text, size):
     return text + b"-" * (size - len(text))
 
