@@ -176,7 +176,7 @@ class FsmChecks(Checks):
         r, names = self.reader, self.names
         current, following, clock = (names.get(key) for key in ("current_state", "next_state", "clock"))
         signals = [name for name, _ in r.signals]
-        port = next((s for s in r.symbols if s.name == clock and s.role == "in" and s.bounds is None), None)
+        port = next((s for s in r.symbols if s.name == clock and s.role == "in" and r.types[clock] == "bit"), None)
         fits = current in signals and following in signals and current != following and port is not None and clock not in SUPPLIES
         if not fits:
             raise fault(1, "no pragma")

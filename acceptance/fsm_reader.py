@@ -29,7 +29,12 @@ class MachineReader(Reader):
 
     def __init__(self, tokens, last, next_state):
         super().__init__(tokens, last)
-        self.next_state, self.times = next_state, {}
+        self.next_state, self.times, self.types = next_state, {}, {}
+
+    def typed(self, names, words):
+        found = super().typed(names, words)
+        self.types.update((name, found[0]) for name, _ in names)
+        return found
 
     def enter(self, word):
         if self.kind() != word:

@@ -155,6 +155,24 @@ def check_machines(results, program, seed, numbers):
         run_encoded(results, program, "a random state machine", random_source(choose), words_by(choose))
 
 
+# ---- texts that are cut or changed
+
+
+def cut_texts():
+    """A text of two states cut at every byte, and without each byte."""
+    body = "o <= k;\nif k then ns <= s1;\nelse case cs is when s0 | s1 => ns <= s0; when others => end case; end if;"
+    text = text_of("s0, s1", body, "k : in bit; o : out bit")
+    return list(dict.fromkeys([*(text[:at] for at in range(len(text) + 1)), *(text[:at] + text[at + 1 :] for at in range(len(text)))]))
+
+
+def check_cut(results, program, texts):
+    with Room() as room:
+        for text in texts:
+            room.write({"s.fsm": text})
+            got, wanted = room.run(program, ["syf", "s.fsm", "-o", "r"]), second(["syf", "s.fsm", "-o", "r"], {"s.fsm": text})
+            results.note("a text that is cut or changed", agrees(got, wanted), f"came to {shown(*got)}, wanted {wanted} for {text!r}")
+
+
 # ---- large ones, and each limit
 
 
@@ -246,6 +264,9 @@ def check_words(results, program):
 def jobs(program, seed, times):
     yield check_limits, (program,)
     yield check_rings, (program,)
+    texts = cut_texts()
+    for at in range(0, len(texts), 10 * CHUNK):
+        yield check_cut, (program, texts[at : at + 10 * CHUNK])
     numbers = range(MACHINES * times)
     for at in range(0, len(numbers), CHUNK):
         yield check_machines, (program, seed, numbers[at : at + CHUNK])
