@@ -105,12 +105,12 @@ def read_again(machine, made, text):
 
 
 def written_faults(words, files, text):
-    """What is wrong with the text that a command wrote, or nothing."""
+    """What is wrong with the text that a command wrote, or nothing. One that is too long for a file isn't read again."""
     source, _, style = parsed(words)
     machine = state_machine(held(files, source))
     made = codes_of(machine, style)
     wanted = state_text.text(machine_of(machine, made, style[0] == "o")).encode()
-    faults = read_again(machine, made, text)
+    faults = read_again(machine, made, text) if len(text) <= FILE else []
     if wanted != text:
         lines = list(zip(text.split(b"\n"), wanted.split(b"\n")))
         at = next((k for k, pair in enumerate(lines) if pair[0] != pair[1]), len(lines))
@@ -216,9 +216,11 @@ def limits():
         ifs = "if '1' then " * (count - 1)
         yield f"{count} ifs and a case", text_of(body=f"ns <= s0;\n{ifs}case cs is end case;{'end if;' * (count - 1)}"), line
     for count, line in ((16384, None), (16385, "chain 16385")):
-        yield f"{count} assignments of a bit", text_of(body=f"ns <= s0;\ncase cs is end case;\n{'o <= %s0%s;' % (chr(39), chr(39)) * count}", ports="o : out bit"), line
+        assignments = "o <= '0';" * count
+        yield f"{count} assignments of a bit", text_of(body=f"ns <= s0;\ncase cs is end case;\n{assignments}", ports="o : out bit"), line
         yield f"{count} assignments of the next state", text_of(body=f"case cs is end case;\n{'ns <= s0;' * count}"), line
-        yield f"{count} operators", text_of(body=f"ns <= s0;\ncase cs is end case; assert {'not (' * 200}{chr(39)}1{chr(39)}{')' * 200}{' = ck' * 0}{' and %s1%s' % (chr(39), chr(39)) * (count - 200)};"), line
+        operators = " and '1'" * count
+        yield f"{count} operators", text_of(body=f"ns <= s0;\ncase cs is end case; assert '1'{operators};"), line
     for count, line in ((256, None), (257, "states 257")):
         yield f"{count} states", ring(count), line
     for count, line in ((4096, None), (4097, "ports 4097")):
