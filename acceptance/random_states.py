@@ -97,5 +97,6 @@ class StateMaker(Maker):
         head = "".join(f"{line}{pragma}" for line, pragma in zip(declared, pragmas))
         step = self.process("step", "cs", self.statements())
         load = self.process("load", "ck", f"if {choose.choice(EDGES)} then cs <= ns; end if;\n")
-        text = f"entity made is port ({'; '.join(choose.sample(ports, len(ports)))}); end made;\narchitecture states of made is\n{head}{step}{load}end states;\n"
+        entity = f"entity made is port ({'; '.join(choose.sample(ports, len(ports)))}); end made;\n"
+        text = f"{entity}architecture states of made is\n{head}{step}{load}end states;\n"
         return text.upper().replace('X"', 'x"') if choose.random() < 0.1 else text

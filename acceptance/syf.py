@@ -11,6 +11,7 @@ import vbe_oracle
 from answers import agrees, refusal
 from boom import EXAMPLES
 from fsm_oracle import state_machine
+from pat_oracle import answer
 from random_sources import changed
 from random_states import WORDS, StateMaker
 from results import Room, compare, run_in, shown
@@ -176,18 +177,18 @@ def check_cut(results, program, texts):
 # ---- large ones, and each limit
 
 
-def text_of(states="s0", body="ns <= s0;\ncase cs is end case;", ports="", load="cs <= ns;", head=""):
-    """A text of a state machine, whose statements begin on line 9."""
+def text_of(states="s0", body="ns <= s0;\ncase cs is end case;", ports=""):
+    """A text of a state machine, whose statements begin on line 8."""
     ports = f"ck : in bit{f'; {ports}' if ports else ''}"
     pragmas = "-- pragma CURRENT_STATE cs\n-- pragma NEXT_STATE ns\n-- pragma CLOCK ck\n"
-    declared = f"architecture a of e is type t is\n({states}); signal cs, ns : t;\n{head}{pragmas}begin process begin\n"
-    end = f"\nend process; process begin if ck and not ck'stable then {load} end if; end process; end a;\n"
+    declared = f"architecture a of e is type t is\n({states}); signal cs, ns : t;\n{pragmas}begin process begin\n"
+    end = "\nend process; process begin if ck and not ck'stable then cs <= ns; end if; end process; end a;\n"
     return f"entity e is port ({ports}); end e;\n{declared}{body}{end}".encode()
 
 
-def ring(count, name="s"):
-    """Each state leads to the one behind it, and the last to the first; the last shows 1."""
-    states = [f"{name}{k}" for k in range(count)]
+def ring(count):
+    """Each state leads to the one behind it, and the last to the first."""
+    states = [f"s{k}" for k in range(count)]
     branches = "".join(f"when {state} => ns <= {states[(k + 1) % count]};\n" for k, state in enumerate(states))
     return text_of(", ".join(states), f"o <= '0';\ncase cs is\n{branches}end case;\n", "o : out bit")
 
@@ -246,9 +247,17 @@ def check_rings(results, program):
 
 
 def check_examples(results, program):
+    """Each example in each encoding, and its patterns on what was written: they reset first, so that they hold whatever the codes are."""
     for path in sorted(EXAMPLES.glob("*/*.fsm")):
         for style in STYLES:
-            run_encoded(results, program, f"the example {path.name}", path.read_bytes(), ["syf", "s.fsm", "-o", "r", "-e", style])
+            words = ["syf", "s.fsm", "-o", "r", "-e", style]
+            run_encoded(results, program, f"the example {path.name}", path.read_bytes(), words)
+            with Room() as room:
+                room.write({"s.fsm": path.read_bytes(), "t.pat": path.with_suffix(".pat").read_bytes()})
+                room.run(program, words)
+                files = room.held()
+                got, wanted = room.run(program, ["asimut", "r.vbe", "-p", "t.pat"]), answer("r.vbe", files.get("r.vbe", b""), "t.pat", files["t.pat"])
+                results.note(f"the patterns of {path.name}", got[0] == 0 and agrees(got, wanted), shown(*got))
 
 
 def check_words(results, program):
