@@ -1,10 +1,12 @@
-"""What the second readers say of `flow`, and what no case of it has: random machines over random libraries, large and small sources,
-and the layouts that it writes, read again: extracted, compared with a second drawing, and run beside their sources.
+"""What the second readers say of `flow`, and what no case of it has: random machines and state machines over random libraries, large and
+small sources, and the layouts that it writes, read again: extracted, compared with a second drawing, and run beside their sources. Of a
+state machine a layout is run beside the walk too: from the codes of states, and behind a reset from any contents.
 """
 
 import pathlib
 import random
 import re
+from typing import NamedTuple
 
 import ap
 import catal
@@ -19,13 +21,19 @@ from answers import refusal
 from boog import differs_from, of_cells, order_faults
 from boom import MOST_NODES, NODES, inner_size
 from case_file import ROWS, Case
+from fsm_oracle import state_machine
 from mapping import CHOICE, MOST_SIZE, Graph, machine_size
 from models import IN, Refusal, first_missing, first_of
 from pat_oracle import machine_of
 from random_sources import WORDS as SOURCE_WORDS
 from random_sources import Maker, changed
+from random_states import StateMaker
 from results import Room, compare, run_in, shown
-from vbe_oracle import FILE, Ring
+from state_codes import code_lines
+from state_machine import machine_of as equations_of
+from state_walk import StateMachine
+from syf import STYLES, behaviour_faults, codes_of, style_of
+from vbe_oracle import FILE, Machine, Ring
 from vhdl_reader import SUPPLIES, Refused, spelled
 from vst import Instance, Netlist
 from words import TOOLS_LINE, command, held, of_folder, trouble
@@ -37,24 +45,52 @@ USAGE = "usage: alliance flow SOURCE -l DIR -o NAME [-e STYLE] --tracks [--seed 
 FIVE = ["inv_x1", "na2_x1", "zero_x0", "one_x0", "sff1_x4"]
 MORE = ["inv_x8", "na3_x1", "sff1_x8", "xr2_x1", "mx2_x2", "buf_x2"]
 WORDS = ["flow", "s.vbe", "-l", "lib", "-o", "r", "--tracks"]
-MACHINES, CHUNK = 200, 25
+OPTIONS = {"-l": "", "-o": "", "--nodes": "", "-e": "", "--seed": ""}
+MACHINES, STATE_MACHINES, CHUNK = 200, 60, 20
 
 
 # ---- the second answer
 
 
+class Flow(NamedTuple):
+    source: str
+    folder: str
+    out: str
+    nodes: int
+    style: tuple
+
+
 def parsed(words):
-    """SOURCE, DIR, NAME and the budget, or None. A value doesn't begin with a hyphen, so `--tracks` is none."""
+    """The command, or None. A value doesn't begin with a hyphen, so `--tracks` is none."""
     at = [k for k, word in enumerate(words) if word == "--tracks"]
-    if len(at) != 1 or words[at[0] - 1] in ("-l", "-o", "--nodes"):
+    if len(at) != 1 or words[at[0] - 1] in OPTIONS:
         return None
-    found = command([word for word in words if word != "--tracks"], (".vbe", ".fsm"), {"-l": "", "-o": "", "--nodes": ""})
-    if not found or "-l" not in found[1] or "-o" not in found[1]:
+    found = command([word for word in words if word != "--tracks"], (".vbe", ".fsm"), OPTIONS)
+    if not found or "-l" not in found[1] or "-o" not in found[1] or style_of(found[1]) is None:
         return None
     nodes = found[1].get("--nodes", str(NODES))
     if not re.fullmatch("[0-9]{1,10}", nodes) or not 1 <= int(nodes) <= MOST_NODES:
         return None
-    return found[0], found[1]["-l"], found[1]["-o"], int(nodes)
+    return Flow(found[0], found[1]["-l"], found[1]["-o"], int(nodes), style_of(found[1]))
+
+
+class Source(NamedTuple):
+    """The machine, the lines of the report on what its registers hold, and of a state machine that and its codes."""
+
+    machine: Machine
+    held: list
+    states: StateMachine | None = None
+    codes: list | None = None
+
+
+def source_of(found, files):
+    text = held(files, found.source)
+    if found.source.endswith(".vbe"):
+        m = machine_of(text)
+        return Source(m, [f"register q{k} {spelled(bit)}" for k, bit in enumerate(sorted(m.registers))])
+    states = state_machine(text)
+    made = codes_of(states, found.style)
+    return Source(equations_of(states, made, found.style[0] == "o"), code_lines(states.states, made).splitlines(), states, made)
 
 
 def names_read(files, folder):
@@ -76,19 +112,20 @@ def checked(files, folder):
         raise models.refusal(folder, str(refused)) from None
 
 
-def of_files(source, folder, budget, files):
+def of_files(found, files):
     """The status and the text without its word; (0, the lines of the report that are fixed, and the most cells) where it is laid out."""
-    names_read(files, folder)
-    m = machine_of(held(files, source))
+    names_read(files, found.folder)
+    source = source_of(found, files)
+    m = source.machine
     size = machine_size(m)
     if size > MOST_SIZE:
         return 9, f"flow: limit: size {size}\n"
-    checked(files, folder)
-    kind = first_missing(models.library(files, folder), bool(m.registers))
+    checked(files, found.folder)
+    kind = first_missing(models.library(files, found.folder), bool(m.registers))
     if kind:
         return 4, f"flow: no cover: {kind}\n"
-    name = diagrams.first_over(m, budget)
-    return (0, (lines_of(m), most_cells(m))) if name is None else (5, f"flow: budget: {spelled(name)} {budget + 1}\n")
+    name = diagrams.first_over(m, found.nodes)
+    return (0, (lines_of(source), most_cells(m))) if name is None else (5, f"flow: budget: {spelled(name)} {found.nodes + 1}\n")
 
 
 def most_cells(m):
@@ -98,10 +135,10 @@ def most_cells(m):
     return len(m.registers) + machine_size(m) - inner + min(inner, CHOICE * sum(s.dag for s in diagrams.sizes(m))) + 2
 
 
-def lines_of(m):
+def lines_of(source):
     """The lines of the report but those that go by the optimised source: which one comes out is open."""
-    registers = [f"register q{k} {spelled(bit)}" for k, bit in enumerate(sorted(m.registers))]
-    return [f"source {m.name}", *registers, f"size {machine_size(m)}", f"nodes {diagrams.greatest(m)}", "breaches 0", "accepted"]
+    m = source.machine
+    return [f"source {m.name}", *source.held, f"size {machine_size(m)}", f"nodes {diagrams.greatest(m)}", "breaches 0", "accepted"]
 
 
 def second(words, files):
@@ -110,20 +147,17 @@ def second(words, files):
     found = parsed(words)
     if found is None:
         return 1, USAGE
-    source, folder, _, budget = found
-    if source.endswith(".fsm"):
-        return 10, "flow: beyond\n"
-    refused = trouble(files, source, FILE)
+    refused = trouble(files, found.source, FILE)
     if refused:
         return refused[0], f"flow: {refused[1]}\n"
     try:
-        return of_files(source, folder, budget, files)
+        return of_files(found, files)
     except Refusal as refused:
         return refused.status, f"flow: {refused.line}\n"
     except Ring as ring:
         return 2, ring
     except Refused as refused:
-        return refusal("flow", source, str(refused))
+        return refusal("flow", found.source, str(refused))
 
 
 def agrees(got, wanted):
@@ -141,7 +175,7 @@ def agrees(got, wanted):
 
 def read_again(words, files, text):
     """The netlist that a layout gives, and its rectangles."""
-    _, folder, _, _ = parsed(words)
+    folder = parsed(words).folder
     figure = ap.read(text)
     flat = extraction.flat_of(figure, checked(files, folder))
     n = extraction.extracted(figure, flat, models.library(files, folder))
@@ -163,10 +197,21 @@ def netlist_faults(m, of_name, n):
     yield from order_faults(n, len(m.registers))
 
 
+def walk_faults(source, n, choose):
+    """Where the netlist of a layout doesn't do what the state machine does; instance qk holds bit k of the code."""
+
+    def settled(inputs, contents):
+        env = n.settle({**inputs, (source.states.clock, -1): 0}, dict(zip(n.registers, contents)))
+        return {bit: env[bit] for bit in source.states.outputs}, list(n.load(env).values())
+
+    return behaviour_faults(source.states, source.codes, n.registers, settled, choose)
+
+
 def written_faults(words, files, text):
     """What is wrong with the layout that a command wrote, or nothing."""
-    source, folder, _, _ = parsed(words)
-    m, of_name, found = machine_of(held(files, source)), models.library(files, folder), checked(files, folder)
+    found = parsed(words)
+    source, of_name, cells_found = source_of(found, files), models.library(files, found.folder), checked(files, found.folder)
+    m = source.machine
     try:
         n, flat = read_again(words, files, text)
     except (ap.Refused, extraction.Refused, Refused) as refused:
@@ -175,39 +220,42 @@ def written_faults(words, files, text):
     breaches = flat.breaches()
     if breaches:
         faults.append(f"{breaches} rules are broken")
-    wanted = layout.drawn(n, found).encode()
+    wanted = layout.drawn(n, cells_found).encode()
     if wanted != text:
         lines = list(zip(text.split(b"\n"), wanted.split(b"\n")))
         at = next((k for k, pair in enumerate(lines) if pair[0] != pair[1]), len(lines))
         faults.append(f"line {at + 1} is {lines[at : at + 1]}")
     if not faults and differs_from(m, n, random.Random(len(text))):
         faults.append("it behaves otherwise")
+    if not faults and source.states:
+        faults += walk_faults(source, n, random.Random(len(text)))
     return faults
 
 
 def writes(words, files):
     """The file that a command writes, with the check of its text."""
-    return f"{parsed(words)[2]}.ap", lambda text: written_faults(words, files, text)
+    return f"{parsed(words).out}.ap", lambda text: written_faults(words, files, text)
 
 
 # ---- what is run
 
 
-def run_laid_out(results, room, program, title, files):
+def run_laid_out(results, room, program, title, files, words=WORDS):
     """Runs flow; where it succeeds its layout is read again, and the length that it printed is that of the layout."""
-    wanted = second(WORDS, files)
+    wanted, source = second(words, files), files[words[1]]
     room.write(files)
-    got = room.run(program, WORDS)
-    results.note(title, agrees(got, wanted), f"came to {shown(*got)}, wanted {wanted} for {files['s.vbe'][:2000]!r}")
+    got = room.run(program, words)
+    results.note(title, agrees(got, wanted), f"{words} came to {shown(*got)}, wanted {wanted} for {source[:2000]!r}")
     if got[0] or wanted[0]:
         results.note(f"{title}: files behind a refusal", room.held() == files, "a file changed")
         return
     text = room.held().get("r.ap") or b""
-    faults = written_faults(WORDS, files, text)
-    results.note(f"{title}: the layout", not faults, f"{faults} in {text[:3000]!r} for {files['s.vbe'][:2000]!r}")
+    faults = written_faults(words, files, text)
+    results.note(f"{title}: the layout", not faults, f"{faults} in {text[:3000]!r} for {source[:2000]!r}")
     if not faults:
-        n, _ = read_again(WORDS, files, text)
-        report = layout.report(machine_of(files["s.vbe"]), n, checked(files, "lib"))
+        n, _ = read_again(words, files, text)
+        found = source_of(parsed(words), files)
+        report = layout.report(found.machine, found.held, n, checked(files, "lib"))
         results.note(f"{title}: the report", bytes(got[1]) == report.encode(), f"{shown(*got)} is not {report!r}")
 
 
@@ -229,6 +277,18 @@ def check_machines(results, program, seed, numbers):
         source = changed(choose, source, SOURCE_WORDS) if choose.random() < 0.2 else source
         with Room() as room:
             run_laid_out(results, room, program, "a random source and library", {**random_files(choose), "s.vbe": source.encode()})
+
+
+def words_by(choose):
+    return ["flow", "s.fsm", *WORDS[2:], "-e", choose.choice(STYLES), "--seed", str(choose.choice([0, choose.randrange(2**32)]))]
+
+
+def check_states(results, program, seed, numbers):
+    for number in numbers:
+        choose = random.Random(f"{seed} flow states {number}")
+        files = {**random_files(choose), "s.fsm": StateMaker(choose).source().encode()}
+        with Room() as room:
+            run_laid_out(results, room, program, "a random state machine and library", files, words_by(choose))
 
 
 def chain(signals):
@@ -259,6 +319,11 @@ def check_examples(results, program):
         for names in (FIVE, [line.split()[0] for line in (HERE.parent / "cells/CATAL").read_text().splitlines()]):
             with Room() as room:
                 run_laid_out(results, room, program, f"the example {path.name}", {**of_cells(names), "s.vbe": path.read_bytes()})
+    for path in sorted(EXAMPLES.glob("*/*.fsm")):
+        for style in STYLES:
+            with Room() as room:
+                files = {**of_cells(FIVE), "s.fsm": path.read_bytes()}
+                run_laid_out(results, room, program, f"the example {path.name}", files, ["flow", "s.fsm", *WORDS[2:], "-e", style])
 
 
 def check_words(results, program):
@@ -286,5 +351,8 @@ def jobs(program, seed, times):
     numbers = range(MACHINES * times)
     for at in range(0, len(numbers), CHUNK):
         yield check_machines, (program, seed, numbers[at : at + CHUNK])
+    numbers = range(STATE_MACHINES * times)
+    for at in range(0, len(numbers), CHUNK):
+        yield check_states, (program, seed, numbers[at : at + CHUNK])
     yield check_examples, (program,)
     yield check_words, (program,)

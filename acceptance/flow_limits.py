@@ -3,6 +3,7 @@ causes at once, of which the earlier counts. What is wanted is worked by hand fr
 """
 
 import flow
+import syf
 from boog import of_cells
 from results import Room, compare
 
@@ -145,15 +146,24 @@ def check_limits(results, program):
                 compare(results, title, (*got, room.held()), 9, f"flow: limit: {line}\n".encode(), files)
 
 
+def check_ring(results, program, operators, line):
+    """A ring of 63 states with a bit for each has a size of 16,193, and what its output shows makes up the rest."""
+    states, is_odd = [f"s{k}" for k in range(63)], operators % 2
+    branches = "".join(f"when {state} => ns <= {states[(k + 1) % 63]};\n" for k, state in enumerate(states))
+    body = f"o <= {'not ' if is_odd else ''}i{' and i' * (operators // 2)};\ncase cs is\n{branches}end case;"
+    files = {**of_cells(flow.FIVE), "s.fsm": syf.text_of(", ".join(states), body, "i : in bit; o : out bit")}
+    words = ["flow", "s.fsm", *flow.WORDS[2:], "-e", "o"]
+    wanted = flow.second(words, files)
+    results.note(f"a ring of 63 states and {operators} in the second reader", wanted[0] == 0 if line is None else wanted == (9, line), wanted)
+    with Room() as room:
+        flow.run_laid_out(results, room, program, f"a ring of 63 states and {operators}", files, words)
+
+
 # ---- two causes at once
 
 
 def words_twice(words, files):
     return [*words, "--tracks"], files
-
-
-def state_machine(words, files):
-    return ["flow", "s.fsm", *words[2:]], files
 
 
 def without(name):
@@ -174,26 +184,44 @@ def large_source():
     return source("o <= i xor i xor i;", "i : in bit_vector (1999 downto 0); o : out bit_vector (1999 downto 0)")
 
 
-def causes():
+def many_ports(states):
+    """So many states, and 4,097 port bits."""
+    return syf.text_of(", ".join(states), f"ns <= {states[0]};\ncase cs is end case;", "i : in bit_vector (4095 downto 0)")
+
+
+def source_causes(is_fsm):
+    """What is wrong with a source, in the order in which it is told."""
+    if not is_fsm:
+        return [
+            (put("s.vbe", source("o <= not u;")), 2, "flow: s.vbe:4: unknown u\n"),
+            (put("s.vbe", wide_source()), 9, "flow: limit: ports 4097\n"),
+            (put("s.vbe", large_source()), 9, "flow: limit: size 20000\n"),
+        ]
+    return [
+        (put("s.fsm", syf.text_of(body="ns <= s0;\ncase cs is when s1 => end case;")), 2, "flow: s.fsm:9: bad state s1\n"),
+        (put("s.fsm", many_ports([f"s{k}" for k in range(257)])), 9, "flow: limit: ports 4097\n"),
+        (put("s.fsm", syf.ring(257)), 9, "flow: limit: states 257\n"),
+        (put("s.fsm", syf.ring(64)), 9, "flow: limit: size 16706\n"),
+    ]
+
+
+def causes(is_fsm):
     """The causes of a refusal in their order, each with what brings it, its status and its line."""
     one_column = {b"500,1000,500,4000,200,i0": b"500,1000,500,2000,200,i0", b"1000,1000,1000,4000,200,i1": b"500,3000,500,4000,200,i1"}
-    above, wide = cell_file("na2_x1.ap"), cell_file("one_x0.ap")
+    above, wide, name = cell_file("na2_x1.ap"), cell_file("one_x0.ap"), "s.fsm" if is_fsm else "s.vbe"
     for line, other in one_column.items():
         above = above.replace(line, other)
     for line in (b"A 0,0,", b"S 0,300,", b"S 0,4700,"):
         wide = wide.replace(line + b"1000,", line + b"16500,")
     return [
         (words_twice, 1, flow.USAGE),
-        (state_machine, 10, "flow: beyond\n"),
-        (without("s.vbe"), 7, "flow: file: missing s.vbe\n"),
+        (without(name), 7, f"flow: file: missing {name}\n"),
         (without("lib/CATAL"), 7, "flow: file: missing lib/CATAL\n"),
         (put("lib/CATAL", b"inv_x1 C\nna2_x1 C \nzero_x0 C\none_x0 C\nsff1_x4 C\n"), 3, "flow: library: catal 2\n"),
         (without("lib/na2_x1.ap"), 7, "flow: file: missing lib/na2_x1.ap\n"),
         (put("lib/zero_x0.vbe", b"-" * (FILE + 1)), 9, f"flow: limit: file {FILE + 1}\n"),
         (put("lib/sff1_x4.ap", None), 7, "flow: file: read fault lib/sff1_x4.ap\n"),
-        (put("s.vbe", source("o <= not u;")), 2, "flow: s.vbe:4: unknown u\n"),
-        (put("s.vbe", wide_source()), 9, "flow: limit: ports 4097\n"),
-        (put("s.vbe", large_source()), 9, "flow: limit: size 20000\n"),
+        *source_causes(is_fsm),
         (put("lib/inv_x1.vbe", b"entity"), 3, "flow: library: inv_x1 1\n"),
         (put("lib/na2_x1.ap", above), 3, "flow: library: na2_x1 10\n"),
         (put("lib/one_x0.ap", wide), 9, "flow: limit: width 33\n"),
@@ -202,28 +230,39 @@ def causes():
     ]
 
 
-def run_causes(results, program, title, brought, status, line):
+def good_source(is_fsm):
+    if is_fsm:
+        return {"s.fsm": syf.ring(2)}
+    return {"s.vbe": source("b : block (ck and not ck'stable) begin o <= guarded i; end block;\np <= o;",
+                            "ck, i : in bit; p : out bit", "signal o : reg_bit register;\n")}
+
+
+def run_causes(results, program, title, is_fsm, brought, wanted):
     """The causes are brought from the last on, so that of two in one file the earlier stands."""
-    words, files = flow.WORDS, of_source(source("b : block (ck and not ck'stable) begin o <= guarded i; end block;\np <= o;",
-                                                "ck, i : in bit; p : out bit", "signal o : reg_bit register;\n"))
+    files = {**of_cells(flow.FIVE), **good_source(is_fsm)}
+    words = ["flow", "s.fsm", *flow.WORDS[2:], "-e", "o"] if is_fsm else flow.WORDS
     for bring in reversed(brought):
         words, files = bring(words, files)
     with Room() as room:
         room.write(files)
         got = room.run(program, words)
-        compare(results, title, (*got, room.held()), status, line.encode(), files)
+        compare(results, title, (*got, room.held()), wanted[0], wanted[1].encode(), files)
 
 
-def check_orders(results, program):
+def check_orders(results, program, is_fsm):
     """Each cause alone, with each later one, and with all later ones."""
-    found = causes()
-    for at, (bring, status, line) in enumerate(found):
+    found = causes(is_fsm)
+    for at, (bring, *wanted) in enumerate(found):
         later = [other for other, _, _ in found[at + 1 :]]
         for more in [[], *([other] for other in later), later]:
-            run_causes(results, program, f"cause {at + 1} of {len(found)} with {len(more)} more", [bring, *more], status, line)
+            title = f"cause {at + 1} of {len(found)}{' of a state machine' if is_fsm else ''} with {len(more)} more"
+            run_causes(results, program, title, is_fsm, [bring, *more], wanted)
 
 
 def jobs(program):
+    yield check_ring, (program, 191, None)
+    yield check_ring, (program, 192, "flow: limit: size 16385\n")
     yield check_limits, (program,)
-    yield check_orders, (program,)
+    yield check_orders, (program, False)
+    yield check_orders, (program, True)
     yield check_sources, (program,)

@@ -1,8 +1,10 @@
-"""A second reader of state machines: their checks."""
+"""A second reader of state machines: their checks, and their statements over bits, written from docs/FORMATS.md alone.
 
-import sys
+`state_machine(text)` gives the StateMachine of state_walk.py that a text is, or raises Refused with what is wrong with it.
+"""
 
 from fsm_reader import pragmas, read
+from state_walk import StateMachine
 from vbe_oracle import Checks
 from vhdl_reader import SUPPLIES, Refused, fault, limit, ordered, spelled
 
@@ -44,7 +46,7 @@ class FsmChecks(Checks):
                 yield from self.names_in(m[1])
             elif m[0] == "assign":
                 yield m[1][0], m[1][1]
-                if not (m[1][0] == self.next and m[3][0] == "name"):
+                if not (m[1][0] == self.next and m[4]):
                     yield from self.names_in(m[3])
             elif m[0] == "if":
                 yield from self.names_in(m[2])
@@ -70,7 +72,7 @@ class FsmChecks(Checks):
             elif m[0] == "if":
                 yield from self.condition_widths(m[1], m[2])
             elif m[0] == "assign":
-                target, line, tree = m[1:]
+                target, line, tree, _ = m[1:]
                 if target[0] == self.next:
                     selection = target[2]
                     if isinstance(selection, int):
@@ -109,9 +111,9 @@ class FsmChecks(Checks):
             elif m[0] == "if":
                 yield from inputs(m[2])
             elif m[0] == "assign":
-                target, line, tree = m[1:]
+                target, line, tree, is_one = m[1:]
                 if target[0] == self.next:
-                    if tree[0] != "name":
+                    if not is_one:
                         yield line
                 else:
                     if self.find(target[0]).role != "out":
@@ -146,7 +148,7 @@ class FsmChecks(Checks):
     def bad_states(self):
         known, listed = {name for name, _ in self.reader.states}, set()
         for m in self.mentions(self.reader.step):
-            if m[0] == "assign" and m[1][0] == self.next and m[3][0] == "name" and m[3][2] not in known:
+            if m[0] == "assign" and m[1][0] == self.next and m[3][2] not in known:
                 yield m[3][2], m[3][1]
             elif m[0] == "when":
                 for name, line in m[1]:
@@ -174,7 +176,7 @@ class FsmChecks(Checks):
         r, names = self.reader, self.names
         current, following, clock = (names.get(key) for key in ("current_state", "next_state", "clock"))
         signals = [name for name, _ in r.signals]
-        port = next((s for s in r.symbols if s.name == clock and s.role == "in" and s.bounds is None), None)
+        port = next((s for s in r.symbols if s.name == clock and s.role == "in" and r.types[clock] == "bit"), None)
         fits = current in signals and following in signals and current != following and port is not None and clock not in SUPPLIES
         if not fits:
             raise fault(1, "no pragma")
@@ -214,27 +216,31 @@ class FsmChecks(Checks):
             raise limit("states", len(r.states))
         return self
 
+    # the statements over bits
+
+    def over_bits(self, body):
+        numbers = {name: k for k, (name, _) in enumerate(self.reader.states)}
+        for s in body:
+            if s[0] == "assign" and s[1][0] == self.next:
+                yield "next", numbers[s[3][2]]
+            elif s[0] == "assign":
+                yield from (("out", bit, formula) for bit, formula in zip(self.target_bits(s[1]), self.formulas(s[3])))
+            elif s[0] == "if":
+                yield "if", [(self.formulas(tree)[0], list(self.over_bits(part))) for _, tree, part in s[1]], self.last(s[2])
+            elif s[0] == "case":
+                yield "case", [([numbers[name] for name, _ in states], list(self.over_bits(part))) for states, part in s[3]], self.last(s[4])
+
+    def last(self, body):
+        return None if body is None else list(self.over_bits(body))
+
+    def machine(self):
+        r = self.reader
+        ports = {bit: s.role for s in r.symbols if s.role in ("in", "out") and s.name not in SUPPLIES for bit in s.bits()}
+        return StateMachine(r.entity_name, ports, self.the_clock, [name for name, _ in r.states], list(self.over_bits(r.step)))
+
 
 def state_machine(text):
-    """The checked text, or Refused with what is wrong with it."""
     if len(text) > FILE:
         raise limit("file", FILE + 1)
     names = pragmas(text)
-    return FsmChecks(read(text, names), names).check()
-
-
-if __name__ == "__main__":
-    for path in sys.argv[1:]:
-        from case_file import Case
-        import pathlib
-
-        case = Case(pathlib.Path(path))
-        try:
-            state_machine(case.before["lock5.fsm"])
-            got = "accepted"
-        except Refused as refused:
-            kind, rest = str(refused).split(" ", 1)
-            got = f"syf: lock5.fsm:{rest.replace(' ', ': ', 1)}" if kind == "input" else f"syf: limit: {rest}"
-        wanted = case.printed.decode().strip()
-        if got != wanted:
-            print(path, "| got", got, "| wanted", wanted)
+    return FsmChecks(read(text, names), names).check().machine()

@@ -2,7 +2,11 @@
 
 import re
 
-from vhdl_reader import CHAIN, DEPTH, Reader, Refused, Symbol, bits_of, lex, limit
+from vhdl_reader import CHAIN, DEPTH, IDENT, RESERVED, Reader, Refused, Symbol, bits_of, fault, lex, limit
+
+
+def named(word):
+    return len(word) <= IDENT and re.fullmatch(r"[A-Za-z][A-Za-z0-9_]*", word) is not None and word.lower() not in RESERVED
 
 
 def pragmas(text):
@@ -13,19 +17,24 @@ def pragmas(text):
         while at < len(line) and not (not quoted and line.startswith("--", at)):
             quoted ^= line[at] == '"'
             at += 1
-        words = line[at + 2 :].split()
-        if len(words) == 3 and words[0].lower() == "pragma" and all(re.fullmatch(r"[A-Za-z][A-Za-z0-9_]*", w) for w in words[1:]):
+        words = [word for word in re.split("[ \t]+", line[at + 2 :].removesuffix("\r")) if word]
+        if len(words) == 3 and words[0].lower() == "pragma" and all(map(named, words[1:])):
             found.setdefault(words[1].lower(), words[2].lower())
     return found
 
 
 class MachineReader(Reader):
-    """Statements are ("assert", tree), ("assign", target, line, tree), ("if", [(line, tree, body)..], body or None) and
+    """Statements are ("assert", tree), ("assign", target, line, tree, whether it is one name), ("if", [(line, tree, body)..], body or None) and
     ("case", line, (name, line), [([(state, line)..], body)..], body or None)."""
 
     def __init__(self, tokens, last, next_state):
         super().__init__(tokens, last)
-        self.next_state, self.times = next_state, {}
+        self.next_state, self.times, self.types = next_state, {}, {}
+
+    def typed(self, names, words):
+        found = super().typed(names, words)
+        self.types.update((name, found[0]) for name, _ in names)
+        return found
 
     def enter(self, word):
         if self.kind() != word:
@@ -83,10 +92,11 @@ class MachineReader(Reader):
         _, name, line = self.take("id")
         selection = self.selection()
         self.take("<=")
-        at = self.line()
+        at, start = self.line(), self.at
         tree = self.expression_anew()
+        is_one = self.at == start + 1 and tree[0] == "name"
         self.take(";")
-        return "assign", (name, line, selection), at, tree
+        return "assign", (name, line, selection), at, tree, is_one
 
     def assertion(self):
         self.take("assert")
@@ -199,8 +209,6 @@ class MachineReader(Reader):
     def one_new(self, start):
         line = self.line()
         if self.kind() == "id" and self.tokens[self.at][1] in self.names:
-            from vhdl_reader import fault
-
             raise fault(start, "twice", self.tokens[self.at][1])
         name = self.take("id")[1]
         self.names.add(name)

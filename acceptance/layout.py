@@ -9,7 +9,7 @@ import itertools
 import cellcheck
 import diagrams
 from mapping import machine_size
-from vhdl_reader import SUPPLIES, spelled
+from vhdl_reader import SUPPLIES
 
 FIRST, COLUMN, TRACK = 1500, 500, 5500
 RAILS, STRAPS = {"vss": 300, "vdd": 4700}, {"vss": 500, "vdd": 1000}
@@ -101,9 +101,9 @@ def drawn(n, cells):
     return "\n".join([*lines, "EOF", ""])
 
 
-def report(m, n, cells):
+def report(m, held, n, cells):
+    """With the lines on what registers hold."""
     placed = Placed(n, cells)
-    lines = [f"source {m.name}"]
-    lines += [f"register q{k} {spelled(bit)}" for k, bit in enumerate(sorted(m.registers))]
+    lines = [f"source {m.name}", *held]
     lines += [f"size {machine_size(m)}", f"nodes {diagrams.greatest(m)}", f"cells {len(n.instances)}", f"nets {len(placed.nets)}", f"length {placed.length()}"]
     return "\n".join([*lines, "breaches 0", "accepted", ""])

@@ -58,18 +58,24 @@ def shuffled(count, seed):
 
 
 def adjacent(count, leads):
-    edges = [(s, t) for s in range(count) for t in range(count) if s != t and leads(s, t)]
+    beside = [[] for _ in range(count)]
+    for s in range(count):
+        for t in range(count):
+            if s != t and leads(s, t):
+                beside[s].append(t)
+                beside[t].append(s)
     numbers = list(range(count))
 
-    def cost():
-        return sum((numbers[s] ^ numbers[t]).bit_count() for s, t in edges)
+    def cost(s, t):
+        """What the pairs cost that have one of the two; those that have both count twice, before an exchange and behind it."""
+        return sum((numbers[x] ^ numbers[y]).bit_count() for x in (s, t) for y in beside[x])
 
     def exchange_once():
-        before = cost()
         for s in range(count):
             for t in range(s + 1, count):
+                before = cost(s, t)
                 numbers[s], numbers[t] = numbers[t], numbers[s]
-                if cost() < before:
+                if cost(s, t) < before:
                     return True
                 numbers[s], numbers[t] = numbers[t], numbers[s]
         return False

@@ -16,6 +16,7 @@ import cougar
 import flow
 import flow_limits
 import net_jobs
+import syf
 
 
 class Tool(NamedTuple):
@@ -43,4 +44,5 @@ TOOLS = {
     "boog": Tool(boog.second, answers.agrees, boog.jobs, boog.writes),
     "cougar": Tool(cougar.second, answers.agrees, cougar.jobs, cougar.writes),
     "flow": Tool(flow.second, flow.agrees, flow_jobs, flow.writes),
+    "syf": Tool(syf.second, answers.agrees, syf.jobs, syf.writes),
 }
