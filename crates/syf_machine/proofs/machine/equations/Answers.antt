@@ -1,4 +1,6 @@
-use Rattle.std.proofs.Common.{◌≡◌, ◌<◌, List, length, map, get_or, sym, ap, subst, ◌∙◌, arith, rules}
+use Rattle.std.proofs.Common.{◌≡◌, List, length, map, get_or, sym, ap, subst, ◌∙◌, arith}
+use Rattle.std.proofs.lemmas.Iterator.Adapters.{YieldsList-from_vec}
+use Rattle.std.proofs.lemmas.Iterator.Consumers.{YieldsList-turn}
 use Rattle.vlsi_base.specs.declared.name.Name.{Name}
 use Rattle.machine_core.specs.View.{equation_view}
 use Rattle.syf_machine.proofs.Made.{named_none, equation_more}
@@ -15,10 +17,12 @@ loop-expr-preserved c =
     let names = c.args.names.now in
     let made = c.loop-expr.yielded in
     let place : c.len.result ≡ length c.loop-expr.yielded = omega (arith, c.len.ensures, c.loop-expr.equations.ok.0, c.loop-expr.invariant.each) in
-    let below : c.len.result < length c.args.names.now = search rules in
+    let given = c.into_iter-expr-iterator.ensures.into_iter_gives in
+    let turn = YieldsList-turn (YieldsList-from_vec {s = c.into_iter-expr-iterator.result} c.args.made.items given.0 (given.1 ∙ c.args.made.ok.0)) c.loop-expr.yielded _
+    c.loop-expr.yielded_by _ _ c.in-Some.expr c.in-Some.is c.next.ensures.steps in
     let is : c.in_ok-name.name ≡ get_or c.args.names.now (length c.loop-expr.yielded) c.in_ok-name.name =
     subst (λ (n : Name). n ≡ get_or c.args.names.now (length c.loop-expr.yielded) n) (sym c.in_ok-name.ensures)
     (c.index-names-len.is ∙ ap (λ i. get_or c.args.names.now i c.index-names-len.result) place) in
     let more = equation_more names c.loop-expr.equations.items c.push.new.self.items made c.in-Some.expr c.in_ok-name.name c.loop-expr.invariant.each c.loop-expr.invariant.same
-    (omega arith) is c.in_ok-push.ensures.items in
+    (omega (arith, turn.0, c.requires)) is c.in_ok-push.ensures.items in
     record { each = more.each; same = more.same }
