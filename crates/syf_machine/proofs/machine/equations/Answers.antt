@@ -18,8 +18,8 @@ loop-expr-preserved c =
     let made = c.loop-expr.yielded in
     let place : c.len.result ≡ length c.loop-expr.yielded = omega (arith, c.len.ensures, c.loop-expr.equations.ok.0, c.loop-expr.invariant.each) in
     let given = c.into_iter-expr-iterator.ensures.into_iter_gives in
-    let turn = YieldsList-turn (YieldsList-from_vec {s = c.into_iter-expr-iterator.result} c.args.made.items given.0 (given.1 ∙ c.args.made.ok.0)) c.loop-expr.yielded _
-    c.loop-expr.yielded_by _ _ c.in-Some.expr c.in-Some.is c.next.ensures.steps in
+    let turn = YieldsList-turn (YieldsList-from_vec {s = c.into_iter-expr-iterator.result} c.args.made.items given.0 (given.1 ∙ c.args.made.ok.0)) c.loop-expr.yielded c.loop-expr.expr-iterator
+    c.loop-expr.yielded_by c.next.result c.next.new.self c.in-Some.expr c.in-Some.is c.next.ensures.steps in
     let is : c.in_ok-name.name ≡ get_or c.args.names.now (length c.loop-expr.yielded) c.in_ok-name.name =
     subst (λ (n : Name). n ≡ get_or c.args.names.now (length c.loop-expr.yielded) n) (sym c.in_ok-name.ensures)
     (c.index-names-len.is ∙ ap (λ i. get_or c.args.names.now i c.index-names-len.result) place) in
