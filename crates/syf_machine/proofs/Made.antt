@@ -1,25 +1,24 @@
 -- What is made part by part is the machine of the state machine.
-use Rattle.std.proofs.Common.{◌≡◌, ℕ, zero, suc, ◌+◌, ◌<◌, ◌^◌, not, List, [], ◌∷◌, ◌++◌, map, filter, length, codes, None, Some, refl, sym, ap, subst, ◌∙◌, arith, add-one, zero-add, slice_index_or, get_or, take, append_assoc, length-append}
+use Rattle.std.proofs.Common.{◌≡◌, ℕ, zero, suc, ◌+◌, ◌<◌, List, [], ◌∷◌, ◌++◌, map, filter, length, None, Some, refl, sym, ap, ◌∙◌, arith, add-one, zero-add, slice_index_or, get_or, take, append_assoc, length-append}
 use Rattle.std.proofs.lemmas.List.{length-map, take_more}
 use Rattle.vlsi_base.specs.declared.name.Name.{Name}
-use Rattle.bool_expr.specs.Expression.{Expression, constant}
+use Rattle.bool_expr.specs.Expression.{Expression}
 use Rattle.bool_expr.specs.declared.expr.Expr.{Expr}
 use Rattle.bool_expr.specs.View.{view}
 use Rattle.machine_meaning.specs.declared.equation.Equation.{Equation as EquationParts}
 use Rattle.machine_core.specs.View.{equation_view}
-use Rattle.machine_meaning.specs.Machine.{Machine, Equation, Register, is_input, names_of, register_names}
+use Rattle.machine_meaning.specs.Machine.{Machine, Equation, Register, names_of}
 use Rattle.machine_core.specs.Order.{equation_names}
 use Rattle.fsm_meaning.specs.Statements.{Statements}
 use Rattle.fsm_meaning.specs.Fsm.{Fsm, fsm_inputs, fsm_outputs}
 use Rattle.fsm_machine.specs.Codes.{Codes, AreCodes}
-use Rattle.fsm_machine.specs.Signals.{signals, emitted}
-use Rattle.fsm_machine.specs.MachineOf.{up, named, at_state, machine_of, register_base, state_base, body_base, placed_body, inner_expressions, output_expression, registers_of, code_names, all_states}
-use Rattle.fsm_machine.proofs.ByName.{names_named}
+use Rattle.fsm_machine.specs.Signals.{emitted}
+use Rattle.fsm_machine.specs.MachineOf.{up, named, at_state, machine_of, register_base, body_base, placed_body, inner_expressions, output_expression, registers_of, code_names}
 use Rattle.fsm_machine.proofs.Step.{register_names_are, length_inner}
 use Rattle.fsm_code.specs.Over.{numbered_body}
 use Rattle.fsm_core.specs.Checked.{IsCheckedFsm}
-use Rattle.syf_machine.specs.Named.{inner_count, inner_names, names_for, port_numbers, is_read}
-use Rattle.syf_machine.specs.Pieces.{inner_from, equations_from, output_of, register_of, registered, equated, machine_with}
+use Rattle.syf_machine.specs.Named.{inner_count, inner_names, port_numbers, is_read}
+use Rattle.syf_machine.specs.Pieces.{inner_from, equations_from, register_of, machine_with}
 use Rattle.syf_machine.proofs.Numbers.{body_same, reads_are}
 
 pub up_more : (k n : ℕ) → up k (n + 1) ≡ up k n ++ ((k + n) ∷ [])

@@ -8,7 +8,7 @@ use Rattle.machine_meaning.specs.Named.{is_same_name}
 use Rattle.machine_meaning.specs.Machine.{Machine, Equation, Register, is_input, names_of}
 use Rattle.machine_core.specs.Checked.{IsChecked}
 use Rattle.free_names.specs.Free.{IsFirstFree}
-use Rattle.free_names.specs.Laws.{AreFree, TextsAreFree}
+use Rattle.free_names.specs.Laws.{TextsAreFree}
 use Rattle.fsm_meaning.specs.Statements.{Statements}
 use Rattle.fsm_meaning.specs.Fsm.{Fsm, fsm_inputs, fsm_outputs}
 use Rattle.fsm_machine.specs.Codes.{Codes, AreCodes}
@@ -20,7 +20,7 @@ use Rattle.fsm_core.specs.Checked.{IsCheckedFsm}
 use Rattle.syf_machine.specs.Named.{texts_of, port_texts, inner_count, inner_names, numbers_from, port_numbers, is_read, IsMachineOf}
 use Rattle.syf_machine.specs.Pieces.{equations_from, register_of, machine_with}
 use Rattle.syf_machine.proofs.Numbers.{body_over}
-use Rattle.syf_machine.proofs.Encoded.{inner_texts, are_free, inner_each, vars_each, driven_are, is_checked}
+use Rattle.syf_machine.proofs.Encoded.{are_free, inner_each, vars_each, driven_are, is_checked}
 use Rattle.syf_machine.proofs.Made.{machine_is}
 
 -- ---- how many names there are

@@ -1,4 +1,4 @@
-use Rattle.std.proofs.Common.{◌≡◌, ◌<◌, ◌+◌, ℕ, true, List, length, ap, subst, arith}
+use Rattle.std.proofs.Common.{◌≡◌, ℕ, true, List, length, ap, subst, arith}
 use Rattle.bool_expr.specs.Support.{among}
 use Rattle.fsm_machine.proofs.States.{among_up}
 use Rattle.syf_machine.proofs.inner.inner_expressions.Goals as goal

@@ -1,4 +1,4 @@
-use Rattle.std.proofs.Common.{◌≡◌, List, length, map, get_or, sym, ap, subst, ◌∙◌, arith}
+use Rattle.std.proofs.Common.{◌≡◌, length, map, get_or, sym, ap, subst, ◌∙◌, arith}
 use Rattle.std.proofs.lemmas.Iterator.Adapters.{YieldsList-from_vec}
 use Rattle.std.proofs.lemmas.Iterator.Consumers.{YieldsList-turn}
 use Rattle.vlsi_base.specs.declared.name.Name.{Name}
