@@ -1,13 +1,13 @@
 -- The machine of a checked state machine is encoded, checked, and does what the state machine does.
-use Rattle.std.proofs.Common.{◌≡◌, ℕ, zero, suc, ◌+◌, ◌<◌, ◌≤◌, ◌^◌, Bool, true, false, not, List, [], ◌∷◌, ◌++◌, map, filter, length, codes, Option, None, Some, is_some, unwrap_or, ◌⊎◌, inl, inr, length-append, refl, subst, sym, ap, ◌∙◌, arith}
-use Rattle.std.specs.List.{All, Contains}
+use Rattle.std.proofs.Common.{◌≡◌, ℕ, zero, suc, ◌+◌, ◌<◌, ◌≤◌, ◌^◌, Bool, true, false, not, List, [], ◌∷◌, ◌++◌, map, filter, length, codes, Option, Some, unwrap_or, ◌⊎◌, inl, inr, length-append, refl, subst, sym, ap, ◌∙◌, arith}
+use Rattle.std.specs.List.{All}
 use Rattle.std.proofs.lemmas.List.{length-map}
 use Rattle.vlsi_base.specs.declared.name.Name.{Name}
-use Rattle.vlsi_base.specs.Member.{In, here, there, AllDifferent}
+use Rattle.vlsi_base.specs.Member.{In, AllDifferent}
 use Rattle.vlsi_base.specs.Names.{scalar}
 use Rattle.bool_expr.specs.Expression.{IsOver, constant}
 use Rattle.machine_meaning.specs.Named.{is_same_name}
-use Rattle.machine_meaning.specs.Machine.{Machine, Register, is_input, names_of, input_ports, register_names}
+use Rattle.machine_meaning.specs.Machine.{Machine, Register, is_input, names_of, input_ports}
 use Rattle.machine_core.specs.Order.{equation_names}
 use Rattle.machine_core.specs.Checked.{IsChecked, IsNoSupply, IsClockOf, AreInOrder}
 use Rattle.machine_core.proofs.Names.{same_name-itself}

@@ -1,5 +1,5 @@
 -- Members of lists, and lists in which nothing stands twice.
-use Rattle.std.proofs.Common.{◌≡◌, ℕ, zero, suc, ◌+◌, ◌<◌, Bool, true, false, not, List, [], ◌∷◌, ◌++◌, map, filter, length, Option, None, Some, is_some, unwrap_or, if◌then◌else◌, ◌⊎◌, inl, inr, refl, sym, ap, ◌∙◌, subst, arith}
+use Rattle.std.proofs.Common.{◌≡◌, ℕ, zero, suc, ◌<◌, Bool, true, false, List, [], ◌∷◌, ◌++◌, map, filter, length, Option, None, Some, is_some, unwrap_or, if◌then◌else◌, ◌⊎◌, inl, inr, refl, sym, ap, ◌∙◌, subst, arith}
 use Rattle.std.specs.List.{All, Contains, slice_get, slice_index_or}
 use Rattle.vlsi_base.specs.Member.{In, here, there, AllDifferent}
 
@@ -24,9 +24,9 @@ in_second x (z ∷ xs) ys i = there (in_second x xs ys i)
 pub joined_differ : {A : Type 0} (xs ys : List A) → AllDifferent xs → AllDifferent ys → ((x : A) → In x xs → In x ys → ⊥) → AllDifferent (xs ++ ys)
 joined_differ [] ys a b h = b
 joined_differ (x ∷ xs) ys a b h = (
-    λ i. elim (in_either x xs ys i) [ inl p ↦ a.0 p | inr q ↦ h x here q ],
-    joined_differ xs ys a.1 b (λ y p q. h y (there p) q),
-  )
+  λ i. elim (in_either x xs ys i) [ inl p ↦ a.0 p | inr q ↦ h x here q ],
+  joined_differ xs ys a.1 b (λ y p q. h y (there p) q),
+)
 
 pub in_filter : {A : Type 0} (p : A → Bool) (x : A) (xs : List A) → In x (filter p xs) → In x xs × (p x ≡ true)
 in_filter p x [] i = elim i [ ]
@@ -58,9 +58,9 @@ map_in g x (y ∷ ys) (there i) = there (map_in g x ys i)
 pub map_differs : {A B : Type 0} (g : A → B) (xs : List A) → ((x y : A) → g x ≡ g y → x ≡ y) → AllDifferent xs → AllDifferent (map g xs)
 map_differs g [] inj h = tt
 map_differs {A} g (x ∷ xs) inj h = (
-    λ i. (let found = in_map g (g x) xs i in let P : A → Type 0 = λ z. In z xs in h.0 (subst P (sym (inj x found.0 found.2)) found.1)),
-    map_differs g xs inj h.1,
-  )
+  λ i. (let found = in_map g (g x) xs i in let P : A → Type 0 = λ z. In z xs in h.0 (subst P (sym (inj x found.0 found.2)) found.1)),
+  map_differs g xs inj h.1,
+)
 
 pub contains_in : {A : Type 0} (xs : List A) (x : A) → Contains xs x → In x xs
 contains_in [] x (k, l, e) = absurd (omega arith)

@@ -1,9 +1,9 @@
 -- Names of a machine: ports stand in order, so they differ; what is inside has texts that no port has.
-use Rattle.std.proofs.Common.{◌≡◌, ◌≢◌, ℕ, zero, suc, ◌+◌, ◌<◌, ◌≤◌, ◌^◌, Bool, true, false, not, ◌&&◌, List, [], ◌∷◌, ◌++◌, map, filter, length, codes, Option, None, Some, bytes_eq, if◌then◌else◌, ◌⊎◌, inl, inr, refl, sym, ap, subst, ◌∙◌, arith}
-use Rattle.std.specs.List.{All, AllPairs, Contains, list_all, slice_index_or}
-use Rattle.std.specs.Cmp.{IsTotalOrder, nat_cmp_is}
+use Rattle.std.proofs.Common.{◌≡◌, ℕ, zero, suc, ◌+◌, ◌<◌, ◌≤◌, Bool, true, false, not, List, [], ◌∷◌, map, filter, length, codes, Option, None, Some, bytes_eq, if◌then◌else◌, ◌⊎◌, inl, inr, refl, sym, ap, subst, ◌∙◌, arith}
+use Rattle.std.specs.List.{slice_index_or}
+use Rattle.std.specs.Cmp.{nat_cmp_is}
 use Rattle.std.specs.Cmp.Lexicographic.{slice_cmp}
-use Rattle.std.specs.Ordering.{nat_cmp, ordering_reverse, ordering_then}
+use Rattle.std.specs.Ordering.{nat_cmp, ordering_reverse}
 use Rattle.std.specs.declared.cmp.Ordering.{Ordering}
 use Rattle.std.specs.declared.cmp.Ordering.TheVariants.{Less, Equal, Greater}
 use Rattle.std.proofs.lemmas.Bool.{and_parts}
@@ -12,16 +12,15 @@ use Rattle.std.proofs.lemmas.Slice.Eq.{bytes_eq-Decides}
 use Rattle.vlsi_base.specs.declared.name.Name.{Name}
 use Rattle.vlsi_base.specs.declared.name.Port.{Port}
 use Rattle.vlsi_base.specs.declared.name.Dir.{Dir}
-use Rattle.vlsi_base.specs.Member.{In, here, there, AllDifferent}
+use Rattle.vlsi_base.specs.Member.{In, there, AllDifferent}
 use Rattle.vlsi_base.specs.Name.{name_cmp}
-use Rattle.vlsi_base.specs.Names.{scalar}
 use Rattle.vlsi_base.proofs.NameOrder.{name_total}
 use Rattle.machine_meaning.specs.Machine.{is_input, names_of}
 use Rattle.machine_core.specs.Checked.{AreInOrder, IsNoSupply}
-use Rattle.free_names.specs.Free.{is_free, numbered, free_texts, free_numbers, candidate, IsFirstFree}
+use Rattle.free_names.specs.Free.{is_free, numbered, candidate, IsFirstFree}
 use Rattle.fsm_machine.specs.MachineOf.{up, code_names}
 use Rattle.syf_machine.specs.Named.{texts_of}
-use Rattle.syf_machine.proofs.Lists.{in_cons, here_by, in_map, map_in, in_filter, in_contains, filter_differs, map_differs}
+use Rattle.syf_machine.proofs.Lists.{in_cons, here_by, in_map, map_in, in_filter, in_contains}
 
 -- ---- order
 
@@ -36,13 +35,13 @@ itself n = own_order (name_cmp n n) (name_total.antisymm n n)
 pub in_order_differ : (names : List Name) → AreInOrder names → AllDifferent names
 in_order_differ [] h = tt
 in_order_differ (n ∷ names) h = (
-    λ i. (let c = in_contains n names i in
-    let l = c.1 in
-    let less : name_cmp n (slice_index_or names c.0 n) ≡ Less = h 0 (suc c.0) n (omega arith) (omega arith) in
-    let P : Name → Type 0 = λ x. name_cmp n x ≡ Less in
-    let never : Equal ≡ Less = sym (itself n) ∙ subst P c.2 less in absurd cc),
-    in_order_differ names (λ i j d a b. h (suc i) (suc j) d (omega arith) (omega arith)),
-  )
+  λ i. (let c = in_contains n names i in
+      let l = c.1 in
+      let less : name_cmp n (slice_index_or names c.0 n) ≡ Less = h 0 (suc c.0) n (omega arith) (omega arith) in
+      let P : Name → Type 0 = λ x. name_cmp n x ≡ Less in
+      let never : Equal ≡ Less = sym (itself n) ∙ subst P c.2 less in absurd cc),
+  in_order_differ names (λ i j d a b. h (suc i) (suc j) d (omega arith) (omega arith)),
+)
 
 -- a bit of this text
 abbrev pub bit_of : List ℕ → ℕ → Name
@@ -80,11 +79,11 @@ number (Some k) = k
 pub bits_differ : (st : List ℕ) (k n : ℕ) → AllDifferent (map (bit_of st) (up k n))
 bits_differ st k zero = tt
 bits_differ st k (suc n) = (
-    λ i. (let h = number_in st (bit_of st k) (suc k) n i in
-    let l = h.1 in
-    let same : k ≡ h.0 = ap (λ (x : Name). number x.bit) h.2 in absurd (omega arith)),
-    bits_differ st (suc k) n,
-  )
+  λ i. (let h = number_in st (bit_of st k) (suc k) n i in
+      let l = h.1 in
+      let same : k ≡ h.0 = ap (λ (x : Name). number x.bit) h.2 in absurd (omega arith)),
+  bits_differ st (suc k) n,
+)
 
 pub bit_text : (st : List ℕ) (width : ℕ) (x : Name) → In x (code_names st width) → x.text ≡ st
 bit_text st width x i = let h = number_in st x 0 width i in ap (λ (n : Name). n.text) h.2
@@ -165,6 +164,6 @@ first_of_inner ks t i = let found = in_map (numbered (codes "n")) t ks i in ap f
 
 pub no_supply : (n : Name) (c : ℕ) → first n.text ≡ c → c < 118 → IsNoSupply n
 no_supply n c e l = (
-    λ s. (let g : first n.text ≡ 118 = ap first s in omega arith),
-    λ s. (let g : first n.text ≡ 118 = ap first s in omega arith),
-  )
+  λ s. (let g : first n.text ≡ 118 = ap first s in omega arith),
+  λ s. (let g : first n.text ≡ 118 = ap first s in omega arith),
+)

@@ -1,5 +1,5 @@
 -- Statements over the numbers of inputs are those over the machine's variables.
-use Rattle.std.proofs.Common.{◌≡◌, ℕ, zero, suc, ◌+◌, ◌<◌, Bool, true, List, [], ◌∷◌, ◌++◌, map, filter, length, false, not, ◌&&◌, Some, unwrap_or, inl, inr, if◌then◌else◌, refl, sym, ap, subst, ◌∙◌, arith, add-one}
+use Rattle.std.proofs.Common.{◌≡◌, ℕ, zero, suc, ◌+◌, ◌<◌, Bool, true, List, [], ◌∷◌, map, filter, length, false, not, ◌&&◌, Some, unwrap_or, inl, inr, if◌then◌else◌, refl, sym, ap, subst, ◌∙◌, arith, add-one}
 use Rattle.std.specs.List.{slice_index_or, slice_get}
 use Rattle.std.proofs.lemmas.List.{length-map}
 use Rattle.vlsi_base.specs.declared.name.Name.{Name}

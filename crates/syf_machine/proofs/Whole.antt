@@ -8,17 +8,19 @@ use Rattle.machine_meaning.specs.Named.{is_same_name}
 use Rattle.machine_meaning.specs.Machine.{Machine, Equation, Register, is_input, names_of}
 use Rattle.machine_core.specs.Checked.{IsChecked}
 use Rattle.free_names.specs.Free.{IsFirstFree}
-use Rattle.free_names.specs.Laws.{AreFree, TextsAreFree}
+use Rattle.free_names.specs.Laws.{TextsAreFree}
+use Rattle.fsm_meaning.specs.Statements.{Statements}
 use Rattle.fsm_meaning.specs.Fsm.{Fsm, fsm_inputs, fsm_outputs}
 use Rattle.fsm_machine.specs.Codes.{Codes, AreCodes}
 use Rattle.fsm_machine.specs.Signals.{signals}
 use Rattle.fsm_machine.specs.MachineOf.{machine_of, up}
 use Rattle.fsm_machine.specs.Meaning.{MachineIsOrdered}
-use Rattle.fsm_code.specs.Over.{numbered_body}
+use Rattle.fsm_code.specs.Over.{IsBodyOver, numbered_body}
 use Rattle.fsm_core.specs.Checked.{IsCheckedFsm}
-use Rattle.syf_machine.specs.Named.{port_texts, inner_count, inner_names, port_numbers, is_read, IsMachineOf}
+use Rattle.syf_machine.specs.Named.{texts_of, port_texts, inner_count, inner_names, numbers_from, port_numbers, is_read, IsMachineOf}
 use Rattle.syf_machine.specs.Pieces.{equations_from, register_of, machine_with}
-use Rattle.syf_machine.proofs.Encoded.{inner_texts, are_free, inner_each, vars_each, driven_are, is_checked}
+use Rattle.syf_machine.proofs.Numbers.{body_over}
+use Rattle.syf_machine.proofs.Encoded.{are_free, inner_each, vars_each, driven_are, is_checked}
 use Rattle.syf_machine.proofs.Made.{machine_is}
 
 -- ---- how many names there are
@@ -51,6 +53,42 @@ pub record IsMade (f : Fsm) (c : Codes) (st : List ℕ) (ins : List Name) (equat
   pub ins_are : ins ≡ names_of (filter (is_read f.clock) f.ports)
   pub equations_are : equations ≡ equations_from c (length ins) f.ports (numbered_body (port_numbers f) f.body)
   pub registers_are : registers ≡ map (register_of c (length ins + c.width + length c.codes) (numbered_body (port_numbers f) f.body) st) (up 0 c.width)
+
+-- from what the functions say of what they read and made
+pub gathered : (f : Fsm) (c : Codes) (st : List ℕ) (ins : List Name) (equations : List Equation) (registers : List Register)
+    (ports : List Port) (clock other : Name) (numbers : List ℕ) (counted body : Statements) (base wide states : ℕ)
+    → IsCheckedFsm f → AreCodes (length f.states) c → 2 * length ports + c.width + length c.codes + signals counted < 2 ^ 32
+    → ports ≡ f.ports → clock ≡ f.clock → other ≡ f.clock → counted ≡ f.body → body ≡ f.body → base ≡ length ins → wide ≡ c.width → states ≡ length c.codes
+    → IsFirstFree (codes "st") (texts_of ports) st → ins ≡ names_of (filter (is_read clock) ports) → numbers ≡ numbers_from 0 other ports
+    → equations ≡ equations_from c base ports (numbered_body numbers body)
+    → registers ≡ map (register_of c (base + wide + states) (numbered_body numbers body) st) (up 0 c.width)
+    → IsMade f c st ins equations registers
+gathered f c st ins equations registers ports clock other numbers counted body base wide states checked are room e1 e2 e3 e4 e5 e6 e7 e8 free i m e r =
+    let n : numbers ≡ port_numbers f = m ∙ ap (λ (k : Name). numbers_from 0 k ports) e3 ∙ ap (numbers_from 0 f.clock) e1 in
+    let b : numbered_body numbers body ≡ numbered_body (port_numbers f) f.body = ap (λ (ns : List ℕ). numbered_body ns body) n ∙ ap (numbered_body (port_numbers f)) e5 in
+    let p : length ports ≡ length f.ports = ap (λ (ps : List Port). length ps) e1 in
+    let s : signals counted ≡ signals f.body = ap signals e4 in
+    record {
+      checked = checked;
+      are = are;
+      room = omega arith;
+      first = subst (λ (ps : List Port). IsFirstFree (codes "st") (texts_of ps) st) e1 free;
+      ins_are = i ∙ ap (λ (k : Name). names_of (filter (is_read k) ports)) e2 ∙ ap (λ (ps : List Port). names_of (filter (is_read f.clock) ps)) e1;
+      equations_are = e ∙ ap (λ k. equations_from c k ports (numbered_body numbers body)) e6
+          ∙ ap (λ (ps : List Port). equations_from c (length ins) ps (numbered_body numbers body)) e1 ∙ ap (equations_from c (length ins) f.ports) b;
+      registers_are = r ∙ ap (λ k. map (register_of c (k + wide + states) (numbered_body numbers body) st) (up 0 c.width)) e6
+          ∙ ap (λ k. map (register_of c (length ins + k + states) (numbered_body numbers body) st) (up 0 c.width)) e7
+          ∙ ap (λ k. map (register_of c (length ins + c.width + k) (numbered_body numbers body) st) (up 0 c.width)) e8
+          ∙ ap (λ (x : Statements). map (register_of c (length ins + c.width + length c.codes) x st) (up 0 c.width)) b;
+    }
+
+-- the statements read ports that have numbers
+pub over_numbers : (f : Fsm) (ports : List Port) (clock : Name) (numbers : List ℕ) (body : Statements) → IsCheckedFsm f → ports ≡ f.ports → clock ≡ f.clock → body ≡ f.body
+    → numbers ≡ numbers_from 0 clock ports → IsBodyOver (length numbers) body
+over_numbers f ports clock numbers body checked e1 e2 e3 m =
+    let n : numbers ≡ port_numbers f = m ∙ ap (λ (k : Name). numbers_from 0 k ports) e2 ∙ ap (numbers_from 0 f.clock) e1 in
+    subst (λ (b : Statements). IsBodyOver (length numbers) b) (sym e3)
+    (subst (λ (ns : List ℕ). IsBodyOver (length ns) f.body) (sym n) (body_over f f.body checked.reads))
 
 few : (f : Fsm) (c : Codes) → AreCodes (length f.states) c → 2 * length f.ports + c.width + length c.codes + signals f.body < 2 ^ 32
     → inner_count f + length f.ports < 2 ^ 32

@@ -1,5 +1,5 @@
 -- Equations and registers over statements whose signals have numbers.
-use Rattle.std.specs.Prelude.{ℕ, ◌+◌, not, true, false, List, [], ◌∷◌, ◌++◌, map, filter, length, None, Some}
+use Rattle.std.specs.Prelude.{ℕ, ◌+◌, not, true, false, List, ◌++◌, map, filter, length, None, Some}
 use Rattle.vlsi_base.specs.declared.name.Name.{Name}
 use Rattle.vlsi_base.specs.declared.name.Port.{Port}
 use Rattle.bool_expr.specs.Expression.{Expression, constant}
@@ -7,7 +7,7 @@ use Rattle.machine_meaning.specs.Machine.{Machine, Equation, Register, is_input,
 use Rattle.fsm_meaning.specs.Statements.{Statements}
 use Rattle.fsm_meaning.specs.Fsm.{Fsm}
 use Rattle.fsm_machine.specs.Codes.{Codes}
-use Rattle.fsm_machine.specs.Signals.{emitted, final, signals}
+use Rattle.fsm_machine.specs.Signals.{emitted, final}
 use Rattle.fsm_machine.specs.MachineOf.{up, at_state, named, output_given, code_given}
 use Rattle.syf_machine.specs.Named.{names_for}
 

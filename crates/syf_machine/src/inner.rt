@@ -57,7 +57,6 @@ fn at_state(alloc: Global, codes: &Codes, first: u32, state: u32) -> Result<Expr
 }
 
 // The states by their numbers.
-#[tactic(auto, using(crate::proofs::Made::up_more))]
 fn all_states(alloc: Global, count: u32) -> Result<Vec<u32>, AllocError>
     ensures { IfOk result (λ states. states.items ≡ up 0 count) }
 {
@@ -69,7 +68,6 @@ fn all_states(alloc: Global, count: u32) -> Result<Vec<u32>, AllocError>
 }
 
 // For each state whether it is the one that is held.
-#[tactic(auto, using(crate::proofs::Made::up_map))]
 fn all_at(alloc: Global, codes: &Codes, first: u32, count: u32) -> Result<Vec<Expr>, AllocError>
     requires count { count ≡ length codes.now.codes }
     requires room { first + codes.now.width < 2 ^ 32 }

@@ -19,9 +19,9 @@ use crate::inner::inner_expressions;
 use crate::law::machine_does_as;
 use crate::names::{copied, inner_names, inputs, outputs, port_numbers, register_text};
 use bool_expr::Expr;
+use free_names::texts_are_free;
 use fsm_code::{Codes, Place, Sought, Statements, Target, signals};
 use fsm_core::StateMachine;
-use free_names::texts_are_free;
 use fsm_machine::machine_is_ordered;
 use machine_core::Machine;
 use machine_meaning::{Equation, Register};
@@ -104,7 +104,6 @@ impl Body<'_> {
     }
 
     // The registers: bit k takes bit k of the next code in each cycle.
-    #[tactic(auto, using(crate::proofs::Made::up_map))]
     fn registers(&self, text: &Text, codes: &Codes) -> Result<Vec<Register>, AllocError>
         requires over { IsBodyOver (length self.now.numbers.now) (body_view self.now.statements.now) }
         requires room { self.now.first + signals (body_view self.now.statements.now) < 2 ^ 32 }
@@ -266,5 +265,6 @@ pub fn machine_of(
     };
     let equations = body.equations(ports, codes)?;
     let registers = body.registers(&register_text(alloc, ports)?, codes)?;
-    machine_with(alloc, machine, inputs, equations, registers)
+    let made = machine_with(alloc, machine, inputs, equations, registers)?;
+    Ok(made)
 }

@@ -1,4 +1,4 @@
-use Rattle.std.proofs.Common.{◌≡◌, map, length, take}
+use Rattle.std.proofs.Common.{◌≡◌, map, length}
 use Rattle.bool_expr.specs.View.{view}
 use Rattle.machine_core.specs.View.{equation_view}
 use Rattle.fsm_machine.specs.MachineOf.{named}

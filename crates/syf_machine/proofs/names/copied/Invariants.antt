@@ -1,4 +1,4 @@
-use Rattle.std.proofs.Common.{◌≡◌, map, take}
+use Rattle.std.proofs.Common.{◌≡◌, take}
 use Rattle.syf_machine.proofs.names.copied.Given as goal
 
 abbrev pub invariant-loop-port : goal.invariant-loop-port
