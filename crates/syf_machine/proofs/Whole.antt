@@ -1,5 +1,5 @@
 -- What is made of a state machine: it is its machine, it is checked, and its names have numbers of 32 bits.
-use Rattle.std.proofs.Common.{◌≡◌, ℕ, ◌+◌, ◌*◌, ◌<◌, ◌≤◌, ◌^◌, Bool, not, List, map, filter, length, codes, refl, sym, ap, subst, ◌∙◌, arith}
+use Rattle.std.proofs.Common.{◌≡◌, ℕ, ◌+◌, ◌-◌, ◌*◌, ◌<◌, ◌≤◌, ◌^◌, Bool, not, List, map, filter, length, codes, refl, sym, ap, subst, ◌∙◌, arith}
 use Rattle.std.proofs.lemmas.List.{length-map}
 use Rattle.std.proofs.lemmas.List.Filters.{length-filter_both}
 use Rattle.vlsi_base.specs.declared.name.Name.{Name}
@@ -48,7 +48,7 @@ ports_fit f =
 pub record IsMade (f : Fsm) (c : Codes) (st : List ℕ) (ins : List Name) (equations : List Equation) (registers : List Register) : Type 0 where
   pub checked : IsCheckedFsm f
   pub are : AreCodes (length f.states) c
-  pub room : 2 * length f.ports + c.width + length c.codes + signals f.body < 2 ^ 32
+  pub room : 2 * length f.ports + c.width + length c.codes + signals f.body < 2 ^ 32 - 2 ^ 16
   pub first : IsFirstFree (codes "st") (port_texts f) st
   pub ins_are : ins ≡ names_of (filter (is_read f.clock) f.ports)
   pub equations_are : equations ≡ equations_from c (length ins) f.ports (numbered_body (port_numbers f) f.body)
@@ -57,7 +57,7 @@ pub record IsMade (f : Fsm) (c : Codes) (st : List ℕ) (ins : List Name) (equat
 -- from what the functions say of what they read and made
 pub gathered : (f : Fsm) (c : Codes) (st : List ℕ) (ins : List Name) (equations : List Equation) (registers : List Register)
     (ports : List Port) (clock other : Name) (numbers : List ℕ) (counted body : Statements) (base wide states : ℕ)
-    → IsCheckedFsm f → AreCodes (length f.states) c → 2 * length ports + c.width + length c.codes + signals counted < 2 ^ 32
+    → IsCheckedFsm f → AreCodes (length f.states) c → 2 * length ports + c.width + length c.codes + signals counted < 2 ^ 32 - 2 ^ 16
     → ports ≡ f.ports → clock ≡ f.clock → other ≡ f.clock → counted ≡ f.body → body ≡ f.body → base ≡ length ins → wide ≡ c.width → states ≡ length c.codes
     → IsFirstFree (codes "st") (texts_of ports) st → ins ≡ names_of (filter (is_read clock) ports) → numbers ≡ numbers_from 0 other ports
     → equations ≡ equations_from c base ports (numbered_body numbers body)
@@ -90,7 +90,7 @@ over_numbers f ports clock numbers body checked e1 e2 e3 m =
     subst (λ (b : Statements). IsBodyOver (length numbers) b) (sym e3)
     (subst (λ (ns : List ℕ). IsBodyOver (length ns) f.body) (sym n) (body_over f f.body checked.reads))
 
-few : (f : Fsm) (c : Codes) → AreCodes (length f.states) c → 2 * length f.ports + c.width + length c.codes + signals f.body < 2 ^ 32
+few : (f : Fsm) (c : Codes) → AreCodes (length f.states) c → 2 * length f.ports + c.width + length c.codes + signals f.body < 2 ^ 32 - 2 ^ 16
     → inner_count f + length f.ports < 2 ^ 32
 few f c are room = let e = are.each in omega arith
 
@@ -117,9 +117,9 @@ made_of f c st ins equations registers free made = record {
 
 pub made_few : (f : Fsm) (c : Codes) (st : List ℕ) (ins : List Name) (equations : List Equation) (registers : List Register) → TextsAreFree
     → IsMade f c st ins equations registers
-    → length (machine_with f ins equations registers).vars + length (machine_with f ins equations registers).ports < 2 ^ 32
+    → length (machine_with f ins equations registers).vars + length (machine_with f ins equations registers).ports < 2 ^ 32 - 2 ^ 16
 made_few f c st ins equations registers free made =
-    let P : Machine → Type 0 = λ m. length m.vars + length m.ports < 2 ^ 32 in
+    let P : Machine → Type 0 = λ m. length m.vars + length m.ports < 2 ^ 32 - 2 ^ 16 in
     let each = inner_each f (are_free f free (few f c made.are made.room)) in
     let vars = vars_each f c st (inner_names f) in
     let ports = ports_fit f in

@@ -1,4 +1,4 @@
-use Rattle.std.proofs.Common.{◌≡◌, ◌+◌, ◌<◌, ◌^◌, filter, length, map, sym, ap, subst, ◌∙◌, arith}
+use Rattle.std.proofs.Common.{◌≡◌, ◌+◌, ◌-◌, ◌<◌, ◌^◌, filter, length, map, sym, ap, subst, ◌∙◌, arith}
 use Rattle.machine_meaning.specs.Machine.{Machine, names_of}
 use Rattle.machine_core.specs.View.{equation_view, register_view}
 use Rattle.fsm_machine.specs.Signals.{signals}
@@ -98,7 +98,7 @@ returns-clause-does c =
 
 pub returns-clause-few : goal.returns-clause-few
 returns-clause-few c =
-    subst (λ (m : Machine). length m.vars + length m.ports < 2 ^ 32) (sym c.in_ok-made.ensures)
+    subst (λ (m : Machine). length m.vars + length m.ports < 2 ^ 32 - 2 ^ 16) (sym c.in_ok-made.ensures)
     (made_few c.args.machine.now c.args.codes.now c.in_ok-register_text.field-0 c.in_ok-inputs.inputs.items (map equation_view c.in_ok-equations.equations.items)
     (map register_view c.in_ok-registers.registers.items) c.texts_are_free.ensures.free
     (gathered c.args.machine.now c.args.codes.now c.in_ok-register_text.field-0 c.in_ok-inputs.inputs.items (map equation_view c.in_ok-equations.equations.items)
