@@ -167,16 +167,20 @@ counting_begins known left all = record { same = refl }
 pub counting_passes : (known : List Symbol) (left : ℕ) (before : List Name) (rest all : List PlacedToken) → Counting known left before rest all → assigned_here rest ≡ None
     → left < length rest → Counting known left before (drop 1 rest) all
 counting_passes known left before [] all kept none more = absurd (omega arith)
-counting_passes known left before (t ∷ ts) all kept none more = record { same =
-    sym (ap (λ (o : Option Target). passes_before left (behind_target (length (t ∷ ts)) known before (λ after. overfull known after ts) o)) none) ∙ kept.same }
+counting_passes known left before (t ∷ ts) all kept none more = record {
+  same =
+      sym (ap (λ (o : Option Target). passes_before left (behind_target (length (t ∷ ts)) known before (λ after. overfull known after ts) o)) none) ∙ kept.same;
+}
 
 -- a target is assigned, whose bits are taken
 pub counting_takes : (known : List Symbol) (left : ℕ) (before after : List Name) (rest all : List PlacedToken) (x : Target) → Counting known left before rest all → assigned_here rest ≡ Some x
     → taken before (counted_bits known x) ≡ Some after → left < length rest → Counting known left after (drop 1 rest) all
 counting_takes known left before after [] all x kept some took more = absurd (omega arith)
-counting_takes known left before after (t ∷ ts) all x kept some took more = record { same =
-    sym (ap (λ (o : Option Target). passes_before left (behind_target (length (t ∷ ts)) known before (λ after. overfull known after ts) o)) some
-    ∙ ap (λ (o : Option (List Name)). passes_before left (behind_bits (length (t ∷ ts)) (λ after. overfull known after ts) o)) took) ∙ kept.same }
+counting_takes known left before after (t ∷ ts) all x kept some took more = record {
+  same =
+      sym (ap (λ (o : Option Target). passes_before left (behind_target (length (t ∷ ts)) known before (λ after. overfull known after ts) o)) some
+      ∙ ap (λ (o : Option (List Name)). passes_before left (behind_bits (length (t ∷ ts)) (λ after. overfull known after ts) o)) took) ∙ kept.same;
+}
 
 -- one of them is one too many
 pub counting_stops : (known : List Symbol) (left : ℕ) (before : List Name) (rest all : List PlacedToken) (x : Target) → Counting known left before rest all → assigned_here rest ≡ Some x
@@ -276,4 +280,3 @@ on_false (Err e) w P h go = tt
 pub some_symbol : (o : Option Symbol) → is_none o ≡ false → (s : Symbol) × (o ≡ Some s)
 some_symbol None e = absurd cc
 some_symbol (Some s) e = (s, refl)
-

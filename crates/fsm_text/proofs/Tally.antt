@@ -237,4 +237,3 @@ on known before all i counts ps is kept within few less =
     subst (λ (xs : List ℕ). Taking known before all (i + 1) (set counts (get_or xs i 0) (get_or counts (get_or xs i 0) 0 + 1))) (sym is)
     (steps_on known before all i counts kept (subst (λ (xs : List ℕ). i < length xs) is within) (subst (λ (xs : List ℕ). get_or xs i 0 < length counts) is few)
     (subst (λ (xs : List ℕ). get_or counts (get_or xs i 0) 0 < CHAIN) is less))
-
