@@ -1,13 +1,9 @@
 -- A netlist that may be drawn, once it is drawn, is a right layout.
-use Rattle.std.proofs.Common.{◌≡◌, ℕ, ◌-◌, ◌≤◌, true, false, List, length, Some, refl, sym, ◌∙◌, ap, subst, arith}
+use Rattle.std.proofs.Common.{◌≡◌, ℕ, ◌-◌, ◌≤◌, Bool, true, false, List, length, Some, refl, sym, ◌∙◌, ap, subst, arith}
 use Rattle.std.proofs.lemmas.List.{length-map}
-use Rattle.std.proofs.lemmas.List.Sorted.{length_permutation}
 use Rattle.vlsi_base.specs.Names.{scalar}
 use Rattle.machine_meaning.specs.Machine.{Machine}
-use Rattle.source_meaning.specs.Symbols.{symbols}
-use Rattle.source_meaning.specs.Elaboration.{port_bits}
 use Rattle.source_meaning.specs.Checks.{most_ports}
-use Rattle.vbe_io.specs.Text.{IsVbe}
 use Rattle.ap_io.specs.declared.figure.Figure.{Figure}
 use Rattle.ap_io.specs.Spelling.{text_of}
 use Rattle.ap_io.specs.Laws.{WrittenIsReadAgain}
@@ -30,24 +26,47 @@ use Rattle.vlsi_base.specs.Member.{In}
 use Rattle.port_words.specs.Words.{IsIdentifier, CanBePorts}
 use Rattle.machine_meaning.specs.Size.{machine_size}
 use Rattle.vbe_words.specs.Laws.{with_supplies}
+use Rattle.machine_core.specs.Checked.{IsChecked}
 use Rattle.machine_alike.specs.Alike.{IsAlike, AlikeRun, AlikeBothWays}
 use Rattle.machine_roots.specs.Roots.{IsGreatestDcount}
 use Rattle.boog_run.specs.Laws.{CanBeDeclared, SourceCanBeDeclared, NetlistIsWritable, NetlistIsSmall, NetlistIsShort}
 use Rattle.boog_run.specs.declared.netlist.TheConstants.{MOST_SIZE}
+use Rattle.syf_run.specs.Syf.{style_of}
+use Rattle.syf_run.specs.Laws.{EncodedCanBeDeclared}
+use Rattle.tool_words.specs.declared.command.FlowCommand.{FlowCommand}
+use Rattle.flow_run.specs.Origin.{Origin, equations, states, is_fsm, IsOf, IsSourceFor}
 use Rattle.flow_run.specs.Report.{report_by, report_of}
 use Rattle.flow_run.specs.RightLayout.{IsRightLayout}
 use Rattle.flow_run.specs.Mapped.{IsMappedFor}
-use Rattle.flow_run.specs.Drawn.{MayBeDrawn, IsLengthOf}
+use Rattle.flow_run.specs.Drawn.{DoesAsOrigin, MayBeDrawn, IsLengthOf}
 use Rattle.flow_run.specs.Flow.{AreRead}
 use Rattle.flow_run.proofs.Alike.{well_alike, agrees_alike, order_alike}
 use Rattle.flow_run.proofs.Fewer.{lean_by}
+use Rattle.flow_run.proofs.States.{by_states}
 
--- a source that is read has few ports
-pub few_ports : (bytes : List ℕ) (m : Machine) → IsVbe bytes m → length m.ports ≤ most_ports
-few_ports bytes m is =
-    let same = length_permutation m.ports (port_bits (symbols is.design)) is.machine.ports in
-    let few = is.passes.few_ports in
-    omega (arith, same, few)
+-- what is read of a source can be declared, is checked, and does what it does
+
+declared_as : SourceCanBeDeclared → EncodedCanBeDeclared → (b : Bool) (c : FlowCommand) (source : List ℕ) (o : Origin) (m : Machine) → IsOf b c source o m
+    → CanBeDeclared m
+declared_as texts machines false c source equations m is = texts source m is
+declared_as texts machines false c source (states f k) m is = absurd is
+declared_as texts machines true c source equations m is = absurd is
+declared_as texts machines true c source (states f k) m is = machines source (style_of c.encoding c.seed) f k m is
+
+pub source_declared : SourceCanBeDeclared → EncodedCanBeDeclared → (c : FlowCommand) (source : List ℕ) (o : Origin) (m : Machine)
+    → IsSourceFor c source o m → CanBeDeclared m
+source_declared texts machines c source o m is = declared_as texts machines (is_fsm c) c source o m is
+
+checked_as : (b : Bool) (c : FlowCommand) (source : List ℕ) (o : Origin) (m : Machine) → IsOf b c source o m → IsChecked m
+checked_as false c source equations m is = is.machine.checked
+checked_as false c source (states f k) m is = absurd is
+checked_as true c source equations m is = absurd is
+checked_as true c source (states f k) m is = is.checked
+
+does_as : (b : Bool) (c : FlowCommand) (source : List ℕ) (o : Origin) (m : Machine) → IsOf b c source o m → DoesAsOrigin o m
+does_as b c source equations m is = tt
+does_as false c source (states f k) m is = absurd is
+does_as true c source (states f k) m is = is.does
 
 -- a machine that is alike one that can be declared can be declared
 declared_alike : (m o : Machine) → IsAlike m o → CanBeDeclared m → CanBeDeclared o
@@ -60,21 +79,22 @@ declared_alike m o a d = record {
 }
 
 -- what is read and mapped may be drawn
-pub may_be_drawn : LibraryPasses → LibraryNeedsNoTracks → SourceCanBeDeclared → NetlistIsWritable → NetlistIsSmall → NetlistIsShort
-    → (source list : List ℕ) (cells : List (List ℕ)) (m : Machine) (l : Library) (budget : ℕ) (n : Netlist) (nodes : ℕ) → AreRead source list cells m l
-    → IsMappedFor l m budget n nodes → MayBeDrawn l m n
-may_be_drawn passes plain declares writable few short source list cells m l budget n nodes read h =
+pub may_be_drawn : LibraryPasses → LibraryNeedsNoTracks → SourceCanBeDeclared → EncodedCanBeDeclared → NetlistIsWritable → NetlistIsSmall → NetlistIsShort
+    → (c : FlowCommand) (source list : List ℕ) (cells : List (List ℕ)) (o : Origin) (m : Machine) (l : Library) (n : Netlist) (nodes : ℕ)
+    → AreRead c source list cells o m l → IsMappedFor l m c.nodes n nodes → MayBeDrawn l o m n
+may_be_drawn passes plain texts machines writable few short c source list cells o m l n nodes read h =
     let library = plain true list cells l read.library in
-    let declared = declared_alike m h.o h.made.optimised.alike (declares source m read.machine) in
+    let declared = declared_alike m h.o h.made.optimised.alike (source_declared texts machines c source o m read.machine) in
     let given = read.small in
     let made = h.made.optimised.small.size in
     let small : machine_size h.o ≤ MOST_SIZE = omega (arith, given, made) in
     let sizes = few l h.o n h.ordered declared small h.netlist in
     record {
+      origin = does_as (is_fsm c) c source o m read.machine;
       o = h.o;
       optimised = h.made.optimised;
       netlist = h.netlist;
-      checked = read.machine.machine.checked;
+      checked = checked_as (is_fsm c) c source o m read.machine;
       ordered = h.ordered;
       passed = passes true list cells l read.library;
       plain = passes false list cells l library;
@@ -85,29 +105,32 @@ may_be_drawn passes plain declares writable few short source list cells m l budg
       ports = sizes.1;
     }
 
-pub drawable : RightMayBeDrawn → (l : Library) (m : Machine) (n : Netlist) (table : List ModelPins) → IsTableOf l false table → IsPinTable table → MayBeDrawn l m n → IsDrawableIn l n
-drawable may l m n table of_library is_table h = may l n h.o false table h.plain of_library is_table h.netlist.sound h.ordered h.netlist.right h.netlist.pins
+pub drawable : RightMayBeDrawn → (l : Library) (o : Origin) (m : Machine) (n : Netlist) (table : List ModelPins) → IsTableOf l false table
+    → IsPinTable table → MayBeDrawn l o m n → IsDrawableIn l n
+drawable may l o m n table of_library is_table h = may l n h.o false table h.plain of_library is_table h.netlist.sound h.ordered h.netlist.right h.netlist.pins
 
 -- the numbers of a netlist in memory are those of the netlist that it is seen as
-report_same : (m : Machine) (nodes : ℕ) (l : Library) (n : Netlist) (k : Seen) (long : ℕ) → IsSeenAs n k → IsLengthOf l n long
-    → report_by m nodes (length n.instances) (n.count - 2) long 0 ≡ report_of m nodes k l (row_of k) 0
-report_same m nodes l n k long seen measured =
+report_same : (o : Origin) (m : Machine) (nodes : ℕ) (l : Library) (n : Netlist) (k : Seen) (long : ℕ) → IsSeenAs n k → IsLengthOf l n long
+    → report_by o m nodes (length n.instances) (n.count - 2) long 0 ≡ report_of o m nodes k l (row_of k) 0
+report_same o m nodes l n k long seen measured =
     let cells : length k.instances ≡ length n.instances = ap (λ (x : Seen). length x.instances) seen.is ∙ length-map n.instances member_of in
     let nets : net_count k ≡ n.count - 2 = ap (λ (x : Seen). net_count x) seen.is in
-    ap (λ (a : ℕ). report_by m nodes a (n.count - 2) long 0) (sym cells)
-    ∙ ap (λ (a : ℕ). report_by m nodes (length k.instances) a long 0) (sym nets)
-    ∙ ap (λ (a : ℕ). report_by m nodes (length k.instances) (net_count k) a 0) (measured k seen)
+    ap (λ (a : ℕ). report_by o m nodes a (n.count - 2) long 0) (sym cells)
+    ∙ ap (λ (a : ℕ). report_by o m nodes (length k.instances) a long 0) (sym nets)
+    ∙ ap (λ (a : ℕ). report_by o m nodes (length k.instances) (net_count k) a 0) (measured k seen)
 
 pub right_layout : RightIsWellFormed → RightDrawingsAreRight → DrawingCanBeWritten → WrittenIsReadAgain → AlikeRun → AlikeBothWays
-    → (l : Library) (m : Machine) (n : Netlist) (f : Figure) (long nodes : ℕ) (report : List ℕ)
-    → IsDrawableIn l n → MayBeDrawn l m n → IsDrawnInTracks l n f → IsLengthOf l n long → IsGreatestDcount m nodes
-    → report ≡ report_by m nodes (length n.instances) (n.count - 2) long 0 → IsRightLayout (text_of f) m l report
-right_layout well extracted written again runs back l m n f long nodes report given h drawn measured counted reported =
+    → (l : Library) (o : Origin) (m : Machine) (n : Netlist) (f : Figure) (long nodes : ℕ) (report : List ℕ)
+    → IsDrawableIn l n → MayBeDrawn l o m n → IsDrawnInTracks l n f → IsLengthOf l n long → IsGreatestDcount m nodes
+    → report ≡ report_by o m nodes (length n.instances) (n.count - 2) long 0 → IsRightLayout (text_of f) o m l report
+right_layout well extracted written again runs back l o m n f long nodes report given h drawn measured counted reported =
     let right = h.netlist.right in
     let k = right.sourced.netlist in
     let p = row_of k in
     let a = h.optimised.alike in
     let both = well n l h.o h.ordered right in
+    let is_well = well_alike k l m h.o a both.0 in
+    let agrees = agrees_alike k l m h.o a runs back h.checked.ordered h.ordered.ordered both.1 in
     let instances = h.instances in
     let ports = h.ports in
     let fits = written l n f h.plain given h.named h.short (omega (arith, instances)) (omega (arith, ports)) drawn in
@@ -118,13 +141,14 @@ right_layout well extracted written again runs back l m n f long nodes report gi
       file = again f fits.0 fits.1;
       named = drawn.named ∙ ap (λ (name : List ℕ). Some (scalar name)) (right.name ∙ a.name);
       extracts = extracted l n h.o k f h.plain given h.ordered right right.seen drawn;
-      well = well_alike k l m h.o a both.0;
-      agrees = agrees_alike k l m h.o a runs back h.checked.ordered h.ordered.ordered both.1;
+      well = is_well;
+      agrees = agrees;
+      by_states = by_states o k l m is_well h.checked.ordered agrees h.origin;
       lawful = drawn.lawful;
       is_placed = drawn.placed k right.seen;
       in_order = order_alike k l m h.o a p (h.netlist.order k p right.seen refl);
       lean = lean_by k m h.o h.optimised (h.netlist.lean k right.seen);
       nodes = nodes;
       counted = counted;
-      reported = reported ∙ report_same m nodes l n k long right.seen measured;
+      reported = reported ∙ report_same o m nodes l n k long right.seen measured;
     }

@@ -4,6 +4,7 @@ pub mod Refusing
 pub mod Alike
 pub mod Outputs
 pub mod Fewer
+pub mod States
 pub mod Drawing
 pub mod Lines
 pub mod Standing

@@ -1,9 +1,8 @@
 -- From the refusals of readers and of mapping to the tool's.
-use Rattle.std.proofs.Common.{◌≡◌, ℕ, ◌<◌, true, false, List, None, Ok, Err, Result, sym, ap, subst, refl, arith}
+use Rattle.std.proofs.Common.{◌≡◌, ℕ, ◌<◌, true, List, None, Err, sym, ap, subst, refl}
 use Rattle.vlsi_base.specs.declared.fault.ReadError.{ReadError}
 use Rattle.machine_meaning.specs.Machine.{Machine}
 use Rattle.machine_meaning.specs.Size.{machine_size}
-use Rattle.vbe_io.specs.Text.{IsVbe, IsVbeRefusal}
 use Rattle.catal.specs.declared.error.CatalError.{CatalError}
 use Rattle.catal.specs.declared.error.CatalError.TheVariants as catal
 use Rattle.catal.specs.Catal.{IsCatal, IsCatalRefusal}
@@ -20,12 +19,10 @@ use Rattle.boog_run.specs.declared.netlist.TheConstants.{MOST_SIZE}
 use Rattle.tool_words.specs.declared.command.FlowCommand.{FlowCommand}
 use Rattle.tool_drive.specs.declared.status.Status.{Status}
 use Rattle.tool_drive.specs.declared.status.Status.TheVariants as status
-use Rattle.tool_drive.specs.declared.tool.Product.{Product}
-use Rattle.tool_drive.specs.declared.tool.Refusal.{Refusal}
-use Rattle.tool_drive.specs.Plan.{Inputs}
 use Rattle.tool_drive.specs.Table.{IsJudged, IsFair, refusal}
 use Rattle.tool_drive.specs.Refusals.{MemoryOr, OfFile, of_file}
-use Rattle.flow_run.specs.Flow.{is_fsm, IsSourceOf, AreRead, IsNoSource, no_list, no_text, over_size, IsUnread, no_source, no_cell, IsRefused, unread, uncovered, over_budget, LaysOut, AnswersTo, flow_answers}
+use Rattle.flow_run.specs.Origin.{Origin, IsSourceFor, IsSourceRefusal}
+use Rattle.flow_run.specs.Flow.{IsSourceOf, AreRead, IsNoSource, no_list, no_text, over_size, IsUnread, no_source, no_cell, IsRefused, unread, uncovered, over_budget, LaysOut}
 use Rattle.flow_run.specs.Mapped.{IsMissingIn}
 use Rattle.flow_run.proofs.Judging.{fair_list, fair_library}
 
@@ -52,29 +49,29 @@ by_list c source list catal.Memory h = tt
 by_list c source list (catal.BadLine line) h = no_list (catal.BadLine line) h refl
 by_list c source list (catal.Limit l) h = no_list (catal.Limit l) h refl
 
-pub by_text : (c : FlowCommand) (source list : List ℕ) (names : List (List ℕ)) (e : ReadError) (s : Status) → IsCatal list names → IsVbeRefusal source e
+pub by_text : (c : FlowCommand) (source list : List ℕ) (names : List (List ℕ)) (e : ReadError) (s : Status) → IsCatal list names → IsSourceRefusal c source e
     → MemoryOr s (OfFile c.source (λ x. x ≡ e) s) → MemoryOr s (IsNoSource c source list s)
 by_text c source list names e s uses h k =
-    memory_or s (OfFile c.source (IsVbeRefusal source) s) (IsNoSource c source list s) (λ o. no_text names uses o) (of_file c.source (IsVbeRefusal source) e h s k)
+    memory_or s (OfFile c.source (IsSourceRefusal c source) s) (IsNoSource c source list s) (λ o. no_text names uses o) (of_file c.source (IsSourceRefusal c source) e h s k)
 
-pub by_size : (c : FlowCommand) (source list : List ℕ) (names : List (List ℕ)) (m : Machine) (s : Status) → IsCatal list names → IsVbe source m
-    → MOST_SIZE < machine_size m → s ≡ size_limit m → MemoryOr s (IsNoSource c source list s)
-by_size c source list names m s uses machine big is =
-    subst (λ (t : Status). MemoryOr t (IsNoSource c source list t)) (sym is) (over_size names m uses machine big refl)
+pub by_size : (c : FlowCommand) (source list : List ℕ) (names : List (List ℕ)) (o : Origin) (m : Machine) (s : Status) → IsCatal list names
+    → IsSourceFor c source o m → MOST_SIZE < machine_size m → s ≡ size_limit m → MemoryOr s (IsNoSource c source list s)
+by_size c source list names o m s uses machine big is =
+    subst (λ (t : Status). MemoryOr t (IsNoSource c source list t)) (sym is) (over_size names o m uses machine big refl)
 
-cell_at : (c : FlowCommand) (source list : List ℕ) (cells : List (List ℕ)) (m : Machine) (e : LibError) → IsSourceOf source list m
+cell_at : (c : FlowCommand) (source list : List ℕ) (cells : List (List ℕ)) (o : Origin) (m : Machine) (e : LibError) → IsSourceOf c source list o m
     → IsRefusedLibrary true list cells e → IsUnread c source list cells (status_of e)
-cell_at c source list cells m e h (bad_list fault r is) = no_source (no_list fault r (ap status_of is))
-cell_at c source list cells m e h (bad_cell names uses first) = no_cell m names e h uses first refl
+cell_at c source list cells o m e h (bad_list fault r is) = no_source (no_list fault r (ap status_of is))
+cell_at c source list cells o m e h (bad_cell names uses first) = no_cell o m names e h uses first refl
 
-pub by_cell : (c : FlowCommand) (source list : List ℕ) (cells : List (List ℕ)) (m : Machine) (e : LibError) → IsSourceOf source list m
+pub by_cell : (c : FlowCommand) (source list : List ℕ) (cells : List (List ℕ)) (o : Origin) (m : Machine) (e : LibError) → IsSourceOf c source list o m
     → OrMemory (IsRefusedLibrary true list cells) e → MemoryOr (status_of e) (IsUnread c source list cells (status_of e))
-by_cell c source list cells m errors.Memory h k = tt
-by_cell c source list cells m (errors.Limit l) h k = cell_at c source list cells m (errors.Limit l) h k
-by_cell c source list cells m (errors.BadCatal line) h k = cell_at c source list cells m (errors.BadCatal line) h k
-by_cell c source list cells m (errors.BadCell cell cause) h k = cell_at c source list cells m (errors.BadCell cell cause) h k
-by_cell c source list cells m (errors.Missing name) h k = absurd (fair_library list cells (errors.Missing name) (Unit {0}) k tt)
-by_cell c source list cells m (errors.ReadFault name) h k = absurd (fair_library list cells (errors.ReadFault name) (Unit {0}) k tt)
+by_cell c source list cells o m errors.Memory h k = tt
+by_cell c source list cells o m (errors.Limit l) h k = cell_at c source list cells o m (errors.Limit l) h k
+by_cell c source list cells o m (errors.BadCatal line) h k = cell_at c source list cells o m (errors.BadCatal line) h k
+by_cell c source list cells o m (errors.BadCell cell cause) h k = cell_at c source list cells o m (errors.BadCell cell cause) h k
+by_cell c source list cells o m (errors.Missing name) h k = absurd (fair_library list cells (errors.Missing name) (Unit {0}) k tt)
+by_cell c source list cells o m (errors.ReadFault name) h k = absurd (fair_library list cells (errors.ReadFault name) (Unit {0}) k tt)
 
 -- ---- each refusal has a status of judging
 
@@ -93,15 +90,15 @@ fair_text file R (status.No verdict) P o p = absurd o
 
 fair_source : (c : FlowCommand) (source list : List ℕ) (s : Status) (P : Type 0) → IsNoSource c source list s → P → IsFair s None P
 fair_source c source list s P (no_list fault r is) p = subst (λ (t : Status). IsFair t None P) (sym is) (fair_list fault P p)
-fair_source c source list s P (no_text names uses o) p = fair_text c.source (IsVbeRefusal source) s P o p
-fair_source c source list s P (over_size names m uses machine big is) p = subst (λ (t : Status). IsFair t None P) (sym is) p
+fair_source c source list s P (no_text names uses o) p = fair_text c.source (IsSourceRefusal c source) s P o p
+fair_source c source list s P (over_size names o m uses machine big is) p = subst (λ (t : Status). IsFair t None P) (sym is) p
 
 fair : (c : FlowCommand) (source list : List ℕ) (cells : List (List ℕ)) (s : Status) (P : Type 0) → IsRefused c source list cells s → P → IsFair s None P
 fair c source list cells s P (unread (no_source r)) p = fair_source c source list s P r p
-fair c source list cells s P (unread (no_cell m names e h uses first is)) p =
+fair c source list cells s P (unread (no_cell o m names e h uses first is)) p =
     subst (λ (t : Status). IsFair t None P) (sym is) (fair_library list cells e P (bad_cell names uses first) p)
-fair c source list cells s P (uncovered m l k read missing is) p = subst (λ (t : Status). IsFair t None P) (sym is) p
-fair c source list cells s P (over_budget m l read covered b) p = subst (λ (t : Status). IsFair t None P) (sym b.is) p
+fair c source list cells s P (uncovered o m l k read missing is) p = subst (λ (t : Status). IsFair t None P) (sym is) p
+fair c source list cells s P (over_budget o m l read covered b) p = subst (λ (t : Status). IsFair t None P) (sym b.is) p
 
 -- ---- to the tool's answer
 
@@ -129,20 +126,14 @@ pub by_unread : (c : FlowCommand) (source list : List ℕ) (cells : List (List �
 by_unread c source list cells s h =
     judged c source list cells s (memory_or s (IsUnread c source list cells s) (IsRefused c source list cells s) (λ u. unread u) h)
 
-pub by_kinds : (c : FlowCommand) (source list : List ℕ) (cells : List (List ℕ)) (m : Machine) (l : Library) (s : Status) → AreRead source list cells m l
+pub by_kinds : (c : FlowCommand) (source list : List ℕ) (cells : List (List ℕ)) (o : Origin) (m : Machine) (l : Library) (s : Status)
+    → AreRead c source list cells o m l
     → IsMissingIn l m s → IsJudged (LaysOut c source list cells) (Err (refusal s None))
-by_kinds c source list cells m l s read h =
-    subst (λ (t : Status). IsJudged (LaysOut c source list cells) (Err (refusal t None))) (sym h.is) (refl, uncovered m l h.kind read h.first refl)
+by_kinds c source list cells o m l s read h =
+    subst (λ (t : Status). IsJudged (LaysOut c source list cells) (Err (refusal t None))) (sym h.is) (refl, uncovered o m l h.kind read h.first refl)
 
-pub by_budget : (c : FlowCommand) (source list : List ℕ) (cells : List (List ℕ)) (m : Machine) (l : Library) (s : Status) → AreRead source list cells m l
+pub by_budget : (c : FlowCommand) (source list : List ℕ) (cells : List (List ℕ)) (o : Origin) (m : Machine) (l : Library) (s : Status)
+    → AreRead c source list cells o m l
     → Covers l m → MemoryOr s (IsBudgetStatus m c.nodes s) → IsJudged (LaysOut c source list cells) (Err (refusal s None))
-by_budget c source list cells m l s read covered h =
-    judged c source list cells s (memory_or s (IsBudgetStatus m c.nodes s) (IsRefused c source list cells s) (λ b. over_budget m l read covered b) h)
-
--- ---- a source that is no state machine's is answered so
-
-pub judged_at : (c : FlowCommand) (i : Inputs) (r : Result Product Refusal) → is_fsm c ≡ false
-    → IsJudged (λ x. AnswersTo false c i x) r → IsJudged (flow_answers c i) r
-judged_at c i (Ok p) vbe h = subst (λ b. AnswersTo b c i (Ok p)) (sym vbe) h
-judged_at c i (Err r) vbe h = subst (λ b. IsFair r.status r.part (AnswersTo b c i (Err r))) (sym vbe) h
-
+by_budget c source list cells o m l s read covered h =
+    judged c source list cells s (memory_or s (IsBudgetStatus m c.nodes s) (IsRefused c source list cells s) (λ b. over_budget o m l read covered b) h)

@@ -1,5 +1,5 @@
 -- From what was read to the files themselves, and back.
-use Rattle.std.proofs.Common.{◌≡◌, ℕ, Bool, false, cond, List, [], ◌∷◌, get_or, length, Option, refl, ◌∙◌, ap, subst, leb}
+use Rattle.std.proofs.Common.{◌≡◌, ℕ, List, [], ◌∷◌, get_or, length, Option, refl, ◌∙◌, ap, leb}
 use Rattle.std.proofs.lemmas.Bool.{cond-true, le-leb}
 use Rattle.std.specs.FinMap.{get}
 use Rattle.vlsi_shelf.specs.Files.{Files}
@@ -9,7 +9,7 @@ use Rattle.tool_words.specs.declared.command.FlowCommand.{FlowCommand}
 use Rattle.tool_drive.specs.declared.tool.Wanted.{Wanted}
 use Rattle.tool_drive.specs.Plan.{inputs, got, long, limited, held, gather, reading}
 use Rattle.tool_drive.specs.Held.{Holds, AreHad, are_had, holds}
-use Rattle.flow_run.specs.Flow.{is_fsm, flow_plan}
+use Rattle.flow_run.specs.Flow.{flow_plan}
 use Rattle.flow_run.specs.Causes.{Stand}
 
 -- ---- from what was read
@@ -20,23 +20,15 @@ two_had files a b (x ∷ []) h = absurd h.1
 two_had files a b (x ∷ y ∷ []) h = (holds files a x h.0, holds files b y h.1.0)
 two_had files a b (x ∷ y ∷ z ∷ rest) h = absurd h.1.1
 
-first_read : (files : Files) (c : FlowCommand) (first : List (List ℕ)) → is_fsm c ≡ false → gather files (flow_plan c).first ≡ got first
-    → AreHad files (limited c.source ∷ limited (catal_name c.library) ∷ []) first
-first_read files c first vbe g =
-    are_had files (limited c.source ∷ limited (catal_name c.library) ∷ []) first
-    (subst (λ (f : Bool). gather files (cond f [] (limited c.source ∷ limited (catal_name c.library) ∷ [])) ≡ got first) vbe g)
-
-more_read : (files : Files) (c : FlowCommand) (first more : List (List ℕ)) → is_fsm c ≡ false → gather files ((flow_plan c).more first) ≡ got more
-    → AreHad files (cell_files c.library (cells_in (get_or first 1 []))) more
-more_read files c first more vbe g =
-    are_had files (cell_files c.library (cells_in (get_or first 1 []))) more
-    (subst (λ (f : Bool). gather files (cond f [] (cell_files c.library (cells_in (get_or first 1 [])))) ≡ got more) vbe g)
-
-pub stood : (files : Files) (c : FlowCommand) (first more : List (List ℕ)) → is_fsm c ≡ false → gather files (flow_plan c).first ≡ got first
+pub stood : (files : Files) (c : FlowCommand) (first more : List (List ℕ)) → gather files (flow_plan c).first ≡ got first
     → gather files ((flow_plan c).more first) ≡ got more → Stand files c (get_or first 0 []) (get_or first 1 []) more
-stood files c first more vbe g h =
-    let a = two_had files c.source (catal_name c.library) first (first_read files c first vbe g) in
-    record { no_fsm = vbe; source_is = a.0; catal_is = a.1; cells_are = more_read files c first more vbe h }
+stood files c first more g h =
+    let a = two_had files c.source (catal_name c.library) first (are_had files (limited c.source ∷ limited (catal_name c.library) ∷ []) first g) in
+    record {
+      source_is = a.0;
+      catal_is = a.1;
+      cells_are = are_had files (cell_files c.library (cells_in (get_or first 1 []))) more h;
+    }
 
 -- ---- and back
 
@@ -56,4 +48,4 @@ reads files c source catal cells h =
     let one = held_is files c.source source h.source_is in
     let two = held_is files (catal_name c.library) catal h.catal_is in
     let more = had_gathers files (cell_files c.library (cells_in catal)) cells h.cells_are in
-    rw (h.no_fsm, one, two, more) refl
+    rw (one, two, more) refl

@@ -7,13 +7,14 @@ use Rattle.tool_words.specs.declared.command.Command.TheVariants as command
 use Rattle.tool_words.specs.declared.words.WordsError.{WordsError}
 use Rattle.tool_words.specs.declared.words.WordsError.TheVariants as words
 use Rattle.tool_words.specs.declared.command.FlowCommand.{FlowCommand}
+use Rattle.tool_words.specs.declared.command.SyfCommand.{SyfCommand}
 use Rattle.tool_words.specs.declared.command.BoomCommand.{BoomCommand}
 use Rattle.tool_words.specs.declared.command.BoogCommand.{BoogCommand}
 use Rattle.tool_words.specs.declared.command.CougarCommand.{CougarCommand}
 use Rattle.tool_words.specs.Words.{is_word}
-use Rattle.tool_words.specs.Table.{Entry, library, out, patterns, netlist_library, nodes, flow, boom, boog, asimut, cougar, tools}
+use Rattle.tool_words.specs.Table.{Entry, library, out, encoding, seed, patterns, netlist_library, nodes, flow, syf, boom, boog, asimut, cougar, tools}
 use Rattle.tool_words.specs.Values.{files, values, only, number_of}
-use Rattle.tool_words.specs.Commands.{flow_with, boom_with, boog_with, asimut_with, cougar_with, command_from, command_of, as_flow, as_boom, as_boog, as_asimut, as_asimut_netlist, as_cougar, flow_of, boom_of, boog_of, cougar_of, asimut_of, asimut_netlist_of, Spells}
+use Rattle.tool_words.specs.Commands.{coding, flow_with, syf_with, boom_with, boog_with, asimut_with, cougar_with, command_from, command_of, as_flow, as_syf, as_boom, as_boog, as_asimut, as_asimut_netlist, as_cougar, flow_of, syf_of, boom_of, boog_of, cougar_of, asimut_of, asimut_netlist_of, Spells}
 use Rattle.tool_words.specs.Laws.{WordsAreExact}
 use Rattle.vlsi_shelf.specs.Seen.{SinkSeen}
 use Rattle.tool_drive.specs.declared.status.Status.{Status}
@@ -22,6 +23,7 @@ use Rattle.tool_drive.specs.Lines.{line_of as line_of_tool}
 use Rattle.tool_drive.specs.Outside.{Outside, IsLine}
 use Rattle.tool_drive.specs.Table.{Caused, IsComplete, memory_complete}
 use Rattle.tool_run.specs.Usage.{word_of, tool_of, line_of, status_of}
+use Rattle.syf_run.specs.Syf.{syf_plan, syf_answers}
 use Rattle.boom_run.specs.Boom.{boom_plan, boom_answers}
 use Rattle.boog_run.specs.Boog.{boog_plan, boog_answers}
 use Rattle.cougar_run.specs.Cougar.{cougar_plan, cougar_answers}
@@ -37,6 +39,10 @@ use Rattle.flow_run.proofs.Rows.{if_some, headline_of, laid_free}
 flow_word : (x : Option FlowCommand) (k : Command) → option_map command.Flow x ≡ Some k → codes "flow" ≡ word_of k
 flow_word None k h = absurd (cc h)
 flow_word (Some c) k h = let same : command.Flow c ≡ k = cc h in subst (λ (other : Command). codes "flow" ≡ word_of other) same refl
+
+syf_word : (x : Option SyfCommand) (k : Command) → option_map command.Syf x ≡ Some k → codes "syf" ≡ word_of k
+syf_word None k h = absurd (cc h)
+syf_word (Some c) k h = let same : command.Syf c ≡ k = cc h in subst (λ (other : Command). codes "syf" ≡ word_of other) same refl
 
 boom_word : (x : Option BoomCommand) (k : Command) → option_map command.Boom x ≡ Some k → codes "boom" ≡ word_of k
 boom_word None k h = absurd (cc h)
@@ -63,7 +69,12 @@ abbrev NamesItsCommands : Entry → Type 0
 NamesItsCommands e = (arguments : List _) (k : Command) → command_from e.tool arguments ≡ Some k → e.word ≡ word_of k
 
 flow_names : NamesItsCommands flow
-flow_names a k h = flow_word (flow_with (only (files a)) (only (values library.word a)) (only (values out.word a)) (number_of nodes a)) k h
+flow_names a k h =
+    flow_word
+    (flow_with (only (files a)) (only (values library.word a)) (only (values out.word a)) (coding (number_of encoding a) (number_of seed a)) (number_of nodes a)) k h
+
+syf_names : NamesItsCommands syf
+syf_names a k h = syf_word (syf_with (only (files a)) (only (values out.word a)) (coding (number_of encoding a) (number_of seed a))) k h
 
 boom_names : NamesItsCommands boom
 boom_names a k h = boom_word (boom_with (only (files a)) (only (values out.word a)) (number_of nodes a)) k h
@@ -93,7 +104,7 @@ found P p (x ∷ xs) e all h = found_by P x e (find p xs) all.0 (found P p xs e 
 spelled : (words : List (List ℕ)) (k : Command) → Spells words k → tool_of words ≡ word_of k
 spelled words k h =
     ap tool_of h.words_are
-    ∙ found NamesItsCommands (λ (e : Entry). is_word e.word h.entry.word) tools h.entry (flow_names, (boom_names, (boog_names, (asimut_names, (cougar_names, tt))))) h.in_table h.arguments k h.command
+    ∙ found NamesItsCommands (λ (e : Entry). is_word e.word h.entry.word) tools h.entry (flow_names, (syf_names, (boom_names, (boog_names, (asimut_names, (cougar_names, tt)))))) h.in_table h.arguments k h.command
 
 line_is : (words : List (List ℕ)) (s : Status) → (s ≡ status.Usage → ⊥) → line_of_tool (tool_of words) s ≡ line_of words s
 line_is words status.Usage other = absurd (other refl)
@@ -145,6 +156,14 @@ flow_unread ws words.Usage before now s is none =
 flow_unread ws words.Memory before now s is none =
     subst (λ (x : Status). IfSome (flow_of ws) (λ c. IsComplete (flow_plan c) (flow_answers c) before now x)) (sym is)
     (all_some (flow_of ws) (λ c. memory_complete (flow_plan c) (flow_answers c) before now))
+
+pub syf_unread : (ws : List (List ℕ)) (e : WordsError) (before now : Outside) (s : Status) → s ≡ status_of e → (IsErrOf {T = Command} (Err e) words.Usage → command_of ws ≡ None)
+    → IfSome (syf_of ws) (λ c. IsComplete (syf_plan c) (syf_answers c) before now s)
+syf_unread ws words.Usage before now s is none =
+    subst (λ (o : Option Command). IfSome (as_syf o) (λ c. IsComplete (syf_plan c) (syf_answers c) before now s)) (sym (none refl)) tt
+syf_unread ws words.Memory before now s is none =
+    subst (λ (x : Status). IfSome (syf_of ws) (λ c. IsComplete (syf_plan c) (syf_answers c) before now x)) (sym is)
+    (all_some (syf_of ws) (λ c. memory_complete (syf_plan c) (syf_answers c) before now))
 
 pub boom_unread : (ws : List (List ℕ)) (e : WordsError) (before now : Outside) (s : Status) → s ≡ status_of e → (IsErrOf {T = Command} (Err e) words.Usage → command_of ws ≡ None)
     → IfSome (boom_of ws) (λ c. IsComplete (boom_plan c) (boom_answers c) before now s)

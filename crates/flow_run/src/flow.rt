@@ -39,9 +39,10 @@ use vlsi_shelf::{Shelf, Sink};
 ///
 /// All files are read first: SOURCE, CATAL, and the behaviour and the layout of each cell that this uses. Then it is refused, in this
 /// order: by `Library`, or a limit of CATAL, at the first line at fault; by `Source`, or a limit of the text, as a state machine where
-/// its name ends in `.fsm`, and else as a data-flow text; by `Limit` of `Size`, where the machine weighs more than `MOST_SIZE`; by `Library`, or a limit of a cell, at the first cell that fails a check, those for
-/// tracks among them; by `NoCover`, where the library has no usable cell of a kind; by `Budget`, at the first root whose diagram has
-/// more nodes than asked for. Memory goes by the files, the machine, one diagram, the netlist and the lines of the layout.
+/// its name ends in `.fsm`, and else as a data-flow text; by `Limit` of `Size`, where the machine weighs more than `MOST_SIZE`; by
+/// `Library`, or a limit of a cell, at the first cell that fails a check, those for tracks among them; by `NoCover`, where the library
+/// has no usable cell of a kind; by `Budget`, at the first root whose diagram has more nodes than asked for. Memory goes by the files,
+/// the machine, one diagram, the netlist and the lines of the layout.
 #[derive(Drop)]
 struct Flow<'a> {
     command: &'a FlowCommand,

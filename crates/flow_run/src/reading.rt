@@ -1,7 +1,8 @@
 // What is true of what is read.
 ghost use Rattle.flow_run.specs.Laws.{WhatIsReadIsNeverRefused};
 
-use lib_same::{covered_lacks_nothing, library_is_never_refused};
+use lib_same::{covered_lacks_nothing, libraries_are_same, library_is_never_refused};
+use syf_run::encoded_law;
 use vbe_same::machines_are_the_same;
 
 /// Where the source is a machine that isn't too large, and the files are a library that covers it, none of the causes of a refusal
@@ -11,7 +12,10 @@ pub fn reading_law()
 {
     catal::never_both();
     vbe_io::never_both();
+    fsm_io::never_both();
     machines_are_the_same();
+    encoded_law();
     library_is_never_refused();
+    libraries_are_same();
     covered_lacks_nothing();
 }

@@ -4,7 +4,8 @@ ghost use Rattle.machine_core.specs.View.{register_view};
 ghost use Rattle.machine_meaning.specs.Size.{machine_size as size_of};
 ghost use Rattle.boog_run.specs.declared.netlist.TheConstants.{MOST_SIZE};
 ghost use Rattle.flow_run.specs.View.{origin_view};
-ghost use Rattle.flow_run.specs.Report.{source_line as source_line_of, count_line as count_line_of, register_line as register_line_of, register_lines as register_lines_of, held_lines as held_lines_of, report_by};
+ghost use Rattle.flow_run.specs.Report.{source_line as source_line_of, count_line as count_line_of, register_line as register_line_of};
+ghost use Rattle.flow_run.specs.Report.{register_lines as register_lines_of, held_lines as held_lines_of, report_by};
 
 use crate::source::{Counted, Origin, Source};
 use machine_core::{Machine, machine_size};
@@ -120,8 +121,8 @@ pub(crate) fn report(
     wire: u128,
 ) -> Result<FileBytes, AllocError>
     requires { size_of counted.now.source.machine ≤ MOST_SIZE }
-    ensures { IfOk result (λ text. text
-        ≡ report_by (origin_view counted.now.source.origin) counted.now.source.machine counted.now.nodes (length netlist.now.instances) (netlist.now.count - 2) wire 0) }
+    ensures { IfOk result (λ text. text ≡ report_by (origin_view counted.now.source.origin) counted.now.source.machine counted.now.nodes
+        (length netlist.now.instances) (netlist.now.count - 2) wire 0) }
 {
     let mut out = head(alloc, &counted.source)?;
     count_line(alloc, &mut out, b"size", size(&counted.source.machine))?;

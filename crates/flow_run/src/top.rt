@@ -1,6 +1,7 @@
 // The top call: words, and then the tool that they ask for.
 ghost use Rattle.std.specs.Prelude.{◌≡◌, ◌⊎◌, true, IfSome, Some, None};
-ghost use Rattle.tool_words.specs.Commands.{command_of, as_flow, as_syf, as_boom, as_boog, as_asimut, as_asimut_netlist, as_cougar, flow_of, syf_of, boom_of, boog_of, asimut_of, asimut_netlist_of, cougar_of};
+ghost use Rattle.tool_words.specs.Commands.{command_of, as_flow, as_syf, as_boom, as_boog, as_asimut, as_asimut_netlist, as_cougar};
+ghost use Rattle.tool_words.specs.Commands.{flow_of, syf_of, boom_of, boog_of, asimut_of, asimut_netlist_of, cougar_of};
 ghost use Rattle.tool_drive.specs.Outside.{outside, IsLine};
 ghost use Rattle.tool_drive.specs.Status.{has_line};
 ghost use Rattle.tool_drive.specs.Lines.{line_of as line_of_tool};

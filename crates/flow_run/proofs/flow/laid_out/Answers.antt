@@ -1,19 +1,24 @@
 use Rattle.std.proofs.Common.{Err, sym, subst}
 use Rattle.tool_drive.specs.declared.tool.Refusal.{Refusal}
 use Rattle.tool_drive.specs.Table.{IsJudged}
+use Rattle.flow_run.specs.View.{origin_view}
 use Rattle.flow_run.specs.Flow.{LaysOut}
 use Rattle.flow_run.proofs.Refusing.{by_unread, by_kinds, by_budget}
-use Rattle.flow_run.proofs.Drawing.{few_ports, may_be_drawn}
+use Rattle.flow_run.proofs.Drawing.{source_declared, may_be_drawn}
 use Rattle.flow_run.proofs.flow.laid_out.Goals as goal
 
 pub netlist_within-requires : goal.netlist_within-requires
-netlist_within-requires c = record { ports = few_ports c.args.source.now c.in-Ok.read.machine c.in-Ok.ensures.read.machine }
+netlist_within-requires c = record {
+  ports = (source_declared c.netlist_law.ensures.declared c.encoded_law.ensures.declared c.args.command.now c.args.source.now
+      (origin_view c.in-Ok.read.source.origin) c.in-Ok.read.source.machine c.in-Ok.ensures.read.machine).few_ports;
+}
 
 pub product-requires-clause-netlist : goal.product-requires-clause-netlist
 product-requires-clause-netlist c =
-    may_be_drawn c.library_law.ensures.passes c.library_law.ensures.plain c.netlist_law.ensures.declared c.netlist_law.ensures.writable c.netlist_law.ensures.small
-    c.netlist_law.ensures.short c.args.source.now c.args.catal.now c.args.cells.now c.in-Ok.read.machine c.in-Ok.read.library c.args.command.now.nodes
-    c.in-Ok-netlist_within.mapped.netlist c.in-Ok-netlist_within.mapped.nodes c.in-Ok.ensures.read c.in-Ok-netlist_within.ensures.mapped
+    may_be_drawn c.library_law.ensures.passes c.library_law.ensures.plain c.netlist_law.ensures.declared c.encoded_law.ensures.declared
+    c.netlist_law.ensures.writable c.netlist_law.ensures.small c.netlist_law.ensures.short c.args.command.now c.args.source.now c.args.catal.now c.args.cells.now
+    (origin_view c.in-Ok.read.source.origin) c.in-Ok.read.source.machine c.in-Ok.read.library c.in-Ok-netlist_within.mapped.netlist
+    c.in-Ok-netlist_within.mapped.nodes c.in-Ok.ensures.read c.in-Ok-netlist_within.ensures.mapped
 
 pub returns-in-Err : goal.returns-in-Err
 returns-in-Err c =
@@ -23,18 +28,19 @@ returns-in-Err c =
 pub returns-in-Err-check_kinds : goal.returns-in-Err-check_kinds
 returns-in-Err-check_kinds c =
     subst (λ (r : Refusal). IsJudged (LaysOut c.args.command.now c.args.source.now c.args.catal.now c.args.cells.now) (Err r)) (sym c.plain-in-Err-check_kinds.ensures)
-    (by_kinds c.args.command.now c.args.source.now c.args.catal.now c.args.cells.now c.in-Ok.read.machine c.in-Ok.read.library c.in-Err-check_kinds.status c.in-Ok.ensures.read
-    c.in-Err-check_kinds.ensures.missing)
+    (by_kinds c.args.command.now c.args.source.now c.args.catal.now c.args.cells.now (origin_view c.in-Ok.read.source.origin) c.in-Ok.read.source.machine
+    c.in-Ok.read.library c.in-Err-check_kinds.status c.in-Ok.ensures.read c.in-Err-check_kinds.ensures.missing)
 
 pub returns-in-Err-netlist_within : goal.returns-in-Err-netlist_within
 returns-in-Err-netlist_within c =
     subst (λ (r : Refusal). IsJudged (LaysOut c.args.command.now c.args.source.now c.args.catal.now c.args.cells.now) (Err r)) (sym c.plain-in-Err-netlist_within.ensures)
-    (by_budget c.args.command.now c.args.source.now c.args.catal.now c.args.cells.now c.in-Ok.read.machine c.in-Ok.read.library c.in-Err-netlist_within.status
-    c.in-Ok.ensures.read c.in-Ok-check_kinds.ensures.covered c.in-Err-netlist_within.ensures.refused)
+    (by_budget c.args.command.now c.args.source.now c.args.catal.now c.args.cells.now (origin_view c.in-Ok.read.source.origin) c.in-Ok.read.source.machine
+    c.in-Ok.read.library c.in-Err-netlist_within.status c.in-Ok.ensures.read c.in-Ok-check_kinds.ensures.covered c.in-Err-netlist_within.ensures.refused)
 
 pub returns : goal.returns
 returns c = record {
-  m = c.in-Ok.read.machine;
+  o = origin_view c.in-Ok.read.source.origin;
+  m = c.in-Ok.read.source.machine;
   l = c.in-Ok.read.library;
   read = c.in-Ok.ensures.read;
   covered = c.in-Ok-check_kinds.ensures.covered;

@@ -1,6 +1,7 @@
 use Rattle.std.proofs.Common.{sym, subst}
 use Rattle.tool_drive.specs.declared.status.Status.{Status}
 use Rattle.tool_drive.specs.Refusals.{MemoryOr}
+use Rattle.flow_run.specs.View.{origin_view}
 use Rattle.flow_run.specs.Flow.{IsNoSource, IsUnread, no_source}
 use Rattle.flow_run.proofs.Refusing.{memory_or, by_cell}
 use Rattle.flow_run.proofs.flow.read_all.Goals as goal
@@ -18,4 +19,5 @@ returns-in-Ok-read_library-clause-read c =
 pub returns-in-Err-read_library-clause-refused : goal.returns-in-Err-read_library-clause-refused
 returns-in-Err-read_library-clause-refused c =
     subst (λ (s : Status). MemoryOr s (IsUnread c.args.command.now c.args.source.now c.args.catal.now c.args.cells.now s)) (sym c.library_status.ensures)
-    (by_cell c.args.command.now c.args.source.now c.args.catal.now c.args.cells.now c.in-Ok.machine c.in-Err-read_library.error c.in-Ok.ensures.accepted c.in-Err-read_library.ensures.err)
+    (by_cell c.args.command.now c.args.source.now c.args.catal.now c.args.cells.now (origin_view c.in-Ok.source.origin) c.in-Ok.source.machine c.in-Err-read_library.error
+    c.in-Ok.ensures.accepted c.in-Err-read_library.ensures.err)

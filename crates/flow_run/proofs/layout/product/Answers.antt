@@ -1,22 +1,27 @@
 use Rattle.std.proofs.Common.{ℕ, List, refl, sym, subst}
+use Rattle.flow_run.specs.View.{origin_view}
 use Rattle.flow_run.specs.RightLayout.{IsRightLayout}
 use Rattle.flow_run.proofs.Drawing.{drawable, right_layout}
 use Rattle.flow_run.proofs.layout.product.Goals as goal
 
 pub drawing-requires-clause-netlist : goal.drawing-requires-clause-netlist
-drawing-requires-clause-netlist c = drawable c.right_may_be_drawn.ensures c.args.library.now c.args.source.now.machine c.args.netlist.now c.in_ok-pins.pins c.in_ok-pins.ensures.table c.in_ok-pins.ensures.sound c.requires.netlist
+drawing-requires-clause-netlist c =
+    drawable c.right_may_be_drawn.ensures c.args.library.now (origin_view c.args.counted.now.source.origin) c.args.counted.now.source.machine c.args.netlist.now
+    c.in_ok-pins.pins c.in_ok-pins.ensures.table c.in_ok-pins.ensures.sound c.requires.netlist
 
 pub returns : goal.returns
 returns c =
     let l = c.args.library.now in
-    let m = c.args.source.now.machine in
+    let o = origin_view c.args.counted.now.source.origin in
+    let m = c.args.counted.now.source.machine in
+    let n = c.args.netlist.now in
     record {
       bytes = c.in_ok-file.file;
       name = c.in_ok-name.ensures;
       file = refl;
-      right = subst (λ (bytes : List ℕ). IsRightLayout bytes m l c.in_ok-text.text) (sym c.in_ok-file.ensures)
-          (right_layout c.right_is_well_formed.ensures.known c.right_drawings_are_right.ensures c.drawing_can_be_written.ensures c.written_is_read_again.ensures c.alike_law.ensures.runs c.alike_law.ensures.both_ways l m c.args.netlist.now
-          c.in_ok-sheet.sheet.figure c.in_ok-sheet.sheet.wire c.args.source.now.nodes c.in_ok-text.text
-          (drawable c.right_may_be_drawn.ensures l m c.args.netlist.now c.in_ok-pins.pins c.in_ok-pins.ensures.table c.in_ok-pins.ensures.sound c.requires.netlist) c.requires.netlist c.in_ok-sheet.ensures.figure
+      right = subst (λ (bytes : List ℕ). IsRightLayout bytes o m l c.in_ok-text.text) (sym c.in_ok-file.ensures)
+          (right_layout c.right_is_well_formed.ensures.known c.right_drawings_are_right.ensures c.drawing_can_be_written.ensures c.written_is_read_again.ensures c.alike_law.ensures.runs c.alike_law.ensures.both_ways l o m n
+          c.in_ok-sheet.sheet.figure c.in_ok-sheet.sheet.wire c.args.counted.now.nodes c.in_ok-text.text
+          (drawable c.right_may_be_drawn.ensures l o m n c.in_ok-pins.pins c.in_ok-pins.ensures.table c.in_ok-pins.ensures.sound c.requires.netlist) c.requires.netlist c.in_ok-sheet.ensures.figure
           c.in_ok-sheet.ensures.wire c.requires.nodes c.in_ok-text.ensures);
     }

@@ -1,5 +1,5 @@
 use Rattle.tool_drive.specs.Outside.{outside}
-use Rattle.flow_run.proofs.Words.{line_by, headline_at, no_headline, free_at, none_free, flow_unread, boom_unread, boog_unread, cougar_unread, asimut_unread, netlist_unread}
+use Rattle.flow_run.proofs.Words.{line_by, headline_at, no_headline, free_at, none_free, flow_unread, syf_unread, boom_unread, boog_unread, cougar_unread, asimut_unread, netlist_unread}
 use Rattle.flow_run.proofs.top.alliance_main.Goals as goal
 
 pub returns-in-Ok-clause-headline : goal.returns-in-Ok-clause-headline
@@ -30,6 +30,11 @@ returns-in-Err-clause-headline g c =
 pub returns-in-Err-clause-lays : goal.returns-in-Err-clause-lays
 returns-in-Err-clause-lays g c =
     none_free c.args.words.now c.in-Err.error (outside (g.S.Shelf.seen c.args.shelf.now) (g.T.Sink.seen c.args.out.now)) (outside (g.S.Shelf.seen c.args.shelf.now) (g.T.Sink.seen c.refuse_words.new.out))
+    c.refuse_words.result c.refuse_words.ensures.status c.in-Err.ensures.usage
+
+pub returns-in-Err-clause-encoding_complete : goal.returns-in-Err-clause-encoding_complete
+returns-in-Err-clause-encoding_complete g c =
+    syf_unread c.args.words.now c.in-Err.error (outside (g.S.Shelf.seen c.args.shelf.now) (g.T.Sink.seen c.args.out.now)) (outside (g.S.Shelf.seen c.args.shelf.now) (g.T.Sink.seen c.refuse_words.new.out))
     c.refuse_words.result c.refuse_words.ensures.status c.in-Err.ensures.usage
 
 pub returns-in-Err-clause-optimisation_complete : goal.returns-in-Err-clause-optimisation_complete
