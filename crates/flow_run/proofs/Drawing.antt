@@ -1,5 +1,5 @@
 -- A netlist that may be drawn, once it is drawn, is a right layout.
-use Rattle.std.proofs.Common.{◌≡◌, ℕ, ◌-◌, ◌≤◌, Bool, true, false, List, length, Some, refl, sym, ◌∙◌, ap, subst, arith}
+use Rattle.std.proofs.Common.{◌≡◌, ℕ, ◌+◌, ◌-◌, ◌^◌, ◌<◌, ◌≤◌, Bool, true, false, List, length, Some, refl, sym, ◌∙◌, ap, subst, arith}
 use Rattle.std.proofs.lemmas.List.{length-map}
 use Rattle.vlsi_base.specs.Names.{scalar}
 use Rattle.machine_meaning.specs.Machine.{Machine}
@@ -31,6 +31,7 @@ use Rattle.machine_alike.specs.Alike.{IsAlike, AlikeRun, AlikeBothWays}
 use Rattle.machine_roots.specs.Roots.{IsGreatestDcount}
 use Rattle.boog_run.specs.Laws.{CanBeDeclared, SourceCanBeDeclared, NetlistIsWritable, NetlistIsSmall, NetlistIsShort}
 use Rattle.boog_run.specs.declared.netlist.TheConstants.{MOST_SIZE}
+use Rattle.boom_run.specs.Boom.{SourceHasFewNames}
 use Rattle.syf_run.specs.Syf.{style_of}
 use Rattle.syf_run.specs.Laws.{EncodedCanBeDeclared}
 use Rattle.tool_words.specs.declared.command.FlowCommand.{FlowCommand}
@@ -67,6 +68,18 @@ does_as : (b : Bool) (c : FlowCommand) (source : List ℕ) (o : Origin) (m : Mac
 does_as b c source equations m is = tt
 does_as false c source (states f k) m is = absurd is
 does_as true c source (states f k) m is = is.does
+
+-- the names of a source, and as many more as it weighs, have numbers of 32 bits
+few_as : SourceHasFewNames → (b : Bool) (c : FlowCommand) (source : List ℕ) (o : Origin) (m : Machine) → IsOf b c source o m → machine_size m ≤ MOST_SIZE
+    → length m.vars + length m.ports + machine_size m < 2 ^ 32 - 1
+few_as law false c source equations m is small = law source m is small
+few_as law false c source (states f k) m is small = absurd is
+few_as law true c source equations m is small = absurd is
+few_as law true c source (states f k) m is small = let room = is.few in omega (arith, room, small)
+
+pub few_names : SourceHasFewNames → (c : FlowCommand) (source catal : List ℕ) (cells : List (List ℕ)) (o : Origin) (m : Machine) (l : Library)
+    → AreRead c source catal cells o m l → length m.vars + length m.ports + machine_size m < 2 ^ 32 - 1
+few_names law c source catal cells o m l read = few_as law (is_fsm c) c source o m read.machine read.small
 
 -- a machine that is alike one that can be declared can be declared
 declared_alike : (m o : Machine) → IsAlike m o → CanBeDeclared m → CanBeDeclared o

@@ -1,5 +1,6 @@
 // `flow` as a tool: what it reads, and what it answers.
-ghost use Rattle.std.specs.Prelude.{◌≡◌, ◌≤◌, true, IfOk, IfErr, OnOk, length, codes};
+ghost use Rattle.std.specs.Prelude.{◌≡◌, ◌≤◌, ◌<◌, ◌+◌, ◌-◌, ◌^◌, true, IfOk, IfErr, OnOk, length, codes};
+ghost use Rattle.machine_meaning.specs.Size.{machine_size};
 ghost use Rattle.source_meaning.specs.Checks.{most_ports};
 ghost use Rattle.boog_map.specs.Netlist.{Covers};
 ghost use Rattle.boom_run.specs.Boom.{IsBudgetStatus};
@@ -18,7 +19,7 @@ ghost use Rattle.flow_run.specs.Mapped.{IsMissingIn, IsMappedFor};
 use crate::layout::product;
 use crate::source::{Counted, Origin, Source};
 use boog_run::{check_size, netlist_law, netlist_of};
-use boom_run::optimise_within;
+use boom_run::{optimise_within, source_has_few_names};
 use catal::{CatalError, read_catal};
 use cell_checks::Library;
 use cell_lib::{catal_file, library_law, library_status, named_files, read_library};
@@ -167,6 +168,7 @@ fn netlist_within(
     budget: u32,
 ) -> Result<Mapped, Status>
     requires ports { length machine.now.ports ≤ most_ports }
+    requires few { length machine.now.vars + length machine.now.ports + machine_size machine.now < 2 ^ 32 - 1 }
     ensures mapped { IfOk result (λ p. IsMappedFor library.now machine.now budget p.netlist p.nodes) }
     ensures refused { IfErr result (λ s. MemoryOr s (IsBudgetStatus machine.now budget s)) }
 {
@@ -195,9 +197,10 @@ fn laid_out(
 ) -> Result<Product, Refusal>
     ensures { IsJudged (LaysOut command.now source.now catal.now cells.now) result }
 {
-    // What is read has names that can be written, and is small enough.
+    // What is read has names that can be written, few of them, and is small enough.
     library_law();
     netlist_law();
+    source_has_few_names();
     encoded_law();
     let read = match read_all(alloc, command, source, catal, cells) {
         Ok(read) => read,

@@ -1,0 +1,4 @@
+mod Printed
+mod Refusing
+mod Declared
+mod Single

@@ -1,5 +1,5 @@
 -- What `syf` reads and answers.
-use Rattle.std.specs.Prelude.{◌≡◌, ℕ, Bool, true, false, List, [], ◌∷◌, ◌++◌, reverse, length, get_or, codes, None, Some, Result, Ok, Err}
+use Rattle.std.specs.Prelude.{◌≡◌, ◌<◌, ◌^◌, ◌-◌, ◌+◌, ℕ, Bool, true, false, List, [], ◌∷◌, ◌++◌, reverse, length, get_or, codes, None, Some, Result, Ok, Err}
 use Rattle.vlsi_base.specs.declared.name.Name.{Name}
 use Rattle.vlsi_base.specs.Name.{name_text}
 use Rattle.machine_meaning.specs.Machine.{Machine}
@@ -62,7 +62,7 @@ abbrev pub text_name : List ℕ → List ℕ
 text_name out = out ++ codes ".vbe"
 
 -- The bytes are a state machine, these are the codes of its states by the style, and this is its machine, which does what the state
--- machine does.
+-- machine does. Numbers of 32 bits count its names and ports, and leave room for names of later stages.
 pub record IsEncodedSource (source : List ℕ) (how : Style) (f : Fsm) (c : Codes) (m : Machine) : Type 0 where
   pub machine : IsFsm source f
   pub codes_are : c ≡ codes_by how f
@@ -70,6 +70,7 @@ pub record IsEncodedSource (source : List ℕ) (how : Style) (f : Fsm) (c : Code
   pub made : IsMachineOf f c m
   pub does : DoesAs f c m
   pub checked : IsChecked m
+  pub few : length m.vars + length m.ports < 2 ^ 32 - 2 ^ 16
 
 -- the machine's text is that of NAME.vbe, and the codes are printed
 pub record IsEncoding (c : SyfCommand) (source : List ℕ) (p : Product) : Type 0 where

@@ -1,5 +1,5 @@
 // A state machine with codes of its states, and its machine.
-ghost use Rattle.std.specs.Prelude.{◌≡◌, ◌+◌, ◌<◌, ◌^◌, IfOk, length};
+ghost use Rattle.std.specs.Prelude.{◌≡◌, ◌+◌, ◌-◌, ◌<◌, ◌^◌, IfOk, length};
 ghost use Rattle.fsm_machine.specs.Codes.{AreCodes};
 ghost use Rattle.machine_core.specs.Checked.{IsChecked};
 ghost use Rattle.syf_encode.specs.Codes.{codes_by};
@@ -40,7 +40,7 @@ pub fn encoded_machine(alloc: Global, states: &StateMachine, style: Style) -> Re
     ensures made { IfOk result (λ e. IsMachineOf states.now e.codes e.machine) }
     ensures does { IfOk result (λ e. DoesAs states.now e.codes e.machine) }
     ensures checked { IfOk result (λ e. IsChecked e.machine) }
-    ensures few { IfOk result (λ e. length e.machine.vars + length e.machine.ports < 2 ^ 32) }
+    ensures few { IfOk result (λ e. length e.machine.vars + length e.machine.ports < 2 ^ 32 - 2 ^ 16) }
 {
     let codes = encode(alloc, states, style)?;
     let machine = machine_of(alloc, states, &codes)?;

@@ -2,7 +2,7 @@
 ghost use Rattle.syf_run.specs.Laws.{EncodedCanBeDeclared, EncodedIsOne};
 
 use fsm_io::one_fsm;
-use fsm_words::{fsm_is_named, machine_of_fsm_can_be_written};
+use fsm_words::fsm_is_named;
 
 /// The machine that a state machine's text is made can be declared by an entity of a text, its ports with the supplies. And a text is
 /// made one machine by one style. It costs nothing when it is called.
@@ -11,6 +11,5 @@ pub fn encoded_law()
     ensures one { EncodedIsOne }
 {
     fsm_is_named();
-    machine_of_fsm_can_be_written();
     one_fsm();
 }

@@ -1,10 +1,17 @@
 // The lines of codes.
 ghost use Rattle.std.specs.Prelude.{◌≡◌, ◌++◌, OnOk};
-ghost use Rattle.syf_run.specs.Syf.{code_text, code_line, code_lines};
+ghost use Rattle.syf_run.specs.Syf.{bit_digit, code_text, code_line, code_lines};
 
 use bool_expr::Bits;
 use std::alloc::{AllocError, Global};
 use vlsi_base::{FileBytes, Name};
+
+// The digit of a bit.
+fn bit_digit(bit: bool) -> u8
+    ensures { result ≡ bit_digit bit }
+{
+    if bit { b'1' } else { b'0' }
+}
 
 // A code from its highest bit to bit 0, and a dash for one without bits.
 fn code_text(out: &mut FileBytes, code: &[bool]) -> Result<(), AllocError>
@@ -14,15 +21,12 @@ fn code_text(out: &mut FileBytes, code: &[bool]) -> Result<(), AllocError>
         return out.append(b"-");
     }
     for bit in code.iter().rev() {
-        if *bit {
-            out.append(b"1")?;
-        } else {
-            out.append(b"0")?;
-        }
+        out.append(&[bit_digit(*bit)])?;
     }
     Ok(())
 }
 
+// A state with its code on a line.
 fn code_line(
     alloc: Global,
     out: &mut FileBytes,

@@ -10,7 +10,7 @@ use crate::encoded::{Encoded, encoded_machine, style_of};
 use crate::lines::code_lines;
 use fsm_core::StateMachine;
 use fsm_io::read_fsm;
-use fsm_words::{fsm_is_named, machine_of_fsm_can_be_written};
+use fsm_words::machine_of_fsm_can_be_written;
 use std::alloc::{AllocError, Global};
 use tool_drive::{Product, Refusal, Tool, Wanted, bytes_at, refused};
 use tool_words::SyfCommand;
@@ -54,7 +54,7 @@ fn product(
 fn encodes(alloc: Global, command: &SyfCommand, source: &[u8]) -> Result<Product, Refusal>
     ensures { IsJudged (Encodes command.now source.now) result }
 {
-    fsm_is_named();
+    // What is read has names that can be written.
     machine_of_fsm_can_be_written();
     let states = match read_fsm(alloc, source) {
         Ok(states) => states,

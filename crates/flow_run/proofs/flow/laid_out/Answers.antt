@@ -4,13 +4,15 @@ use Rattle.tool_drive.specs.Table.{IsJudged}
 use Rattle.flow_run.specs.View.{origin_view}
 use Rattle.flow_run.specs.Flow.{LaysOut}
 use Rattle.flow_run.proofs.Refusing.{by_unread, by_kinds, by_budget}
-use Rattle.flow_run.proofs.Drawing.{source_declared, may_be_drawn}
+use Rattle.flow_run.proofs.Drawing.{source_declared, few_names, may_be_drawn}
 use Rattle.flow_run.proofs.flow.laid_out.Goals as goal
 
 pub netlist_within-requires : goal.netlist_within-requires
 netlist_within-requires c = record {
   ports = (source_declared c.netlist_law.ensures.declared c.encoded_law.ensures.declared c.args.command.now c.args.source.now
       (origin_view c.in-Ok.read.source.origin) c.in-Ok.read.source.machine c.in-Ok.ensures.read.machine).few_ports;
+  few = few_names c.source_has_few_names.ensures c.args.command.now c.args.source.now c.args.catal.now c.args.cells.now
+      (origin_view c.in-Ok.read.source.origin) c.in-Ok.read.source.machine c.in-Ok.read.library c.in-Ok.ensures.read;
 }
 
 pub product-requires-clause-netlist : goal.product-requires-clause-netlist
