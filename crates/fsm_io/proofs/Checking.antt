@@ -31,12 +31,14 @@ use Rattle.fsm_meaning.specs.Fsm.{Fsm, fsm_outputs}
 use Rattle.fsm_meaning.specs.Assigned.{IsAssigned, sure, sets_next, sets_output}
 use Rattle.fsm_machine.specs.MachineOf.{up, all_states}
 use Rattle.fsm_machine.specs.Sound.{IsSound}
-use Rattle.fsm_core.specs.Checked.{IsCheckedFsm, IsBodyOf}
+use Rattle.fsm_core.specs.Checked.{IsCheckedFsm, IsBodyOf, cases_in, ListsOnce}
 use Rattle.fsm_text.specs.Written.{MachineTree}
 use Rattle.fsm_io.specs.Known.{Named, symbols, texts, inner_symbols, generic_symbols}
-use Rattle.fsm_io.specs.Looks.{Mention, asserting, assigning, testing, selecting, listing, all_mentions}
+use Rattle.fsm_io.specs.Looks.{Mention, asserting, assigning, testing, selecting, listing, all_mentions, body_has_case, found}
 use Rattle.fsm_io.specs.Drivers.{is_output}
-use Rattle.fsm_io.specs.Unsupported.{forms_at}
+use Rattle.fsm_io.specs.Unsupported.{forms_at, clock_forms}
+use Rattle.source_meaning.specs.Unsupported.{port_forms}
+use Rattle.vlsi_model.proofs.Expressions.{empty_left, empty_right, no_line}
 use Rattle.fsm_io.specs.Elaboration.{body_bits, frame_of, IsMachineOf}
 use Rattle.fsm_io.specs.Checks.{fault_behind, most_states}
 use Rattle.fsm_io.specs.Pieces.{HasRoles, PassesBehind}
@@ -45,6 +47,7 @@ use Rattle.fsm_io.proofs.Facts.{Facts, facts, condition_reads, fine_assignment}
 use Rattle.fsm_io.proofs.BodyReads.{HasPorts, contains_from_In, Reads, body_reads}
 use Rattle.fsm_io.proofs.Surely.{next_sure, output_sure}
 use Rattle.fsm_io.proofs.Sounds.{body_sound}
+use Rattle.fsm_io.proofs.Cases.{cases_body, once_body}
 use Rattle.fsm_io.proofs.StateNames.{texts_inner}
 
 -- what stands in one place reads ports alone
@@ -144,6 +147,12 @@ scalar_states (x ∷ names) d = (λ i. d.0 (back x names i), scalar_states names
 
 -- ---- the whole
 
+-- a case stands in the statements
+has_case : (m : MachineTree) (n : Named) → EarlyFine m n → body_has_case m.step.body ≡ true
+has_case m n early =
+    no_line (body_has_case m.step.body) m.step.end_line
+    (empty_left _ (clock_forms n m.clock) (empty_right (found (forms_at (symbols m) n) m) _ (empty_right _ _ (empty_right (port_forms m.entity.ports) _ early.form))))
+
 output_role : (r : Role) → r ≡ role.Output → is_output r ≡ true
 output_role r e = ap is_output e
 
@@ -160,12 +169,15 @@ checked m n f once roles some passes is =
       ports = is.ordered;
       supplies = All-from_In IsNoSupply vars (no_supplies m n f is);
       clock = contains_from_In vars f.clock (subst (λ (k : Name). In k vars) (sym is.clock) (In-map (λ (p : Port). p.name) (port_of dir.In (scalar n.clock)) f.ports (clock_port m n f fs is)));
+      scalar = ap (λ (k : Name). k.bit) is.clock;
       unobserved = unobserved m n f fs is;
       some_state = omega (arith, some, many);
       few_states = let few = passes.few_states in omega (arith, few, many);
       different = subst (λ (ks : List Name). AllDifferent ks) (sym is.states) (scalar_states m.states.states (different_states m fs.different));
       sound = subst (λ (k : ℕ). IsSound (up 0 k) f.body) count (subst (λ b. IsSound (up 0 (length (texts m.states.states))) b) (sym is.body)
       (body_sound m n vars false m.step.body [] (λ e. refl) early.state (λ x i. (each_fine m n early x i).forms)));
+      one_case = ap cases_in is.body ∙ cases_body m n vars false m.step.body (λ x i. (each_fine m n early x i).forms) ∙ ap (λ b. cond b 1 0) (has_case m n early);
+      once = subst (λ b. ListsOnce b) (sym is.body) (once_body m n vars false m.step.body ([], early.state));
       reads = subst (λ b. IsBodyOf f b) (sym is.body) (body_reads m n f has false m.step.body (all_read m n fs));
       assigned = record {
         next_state = λ q h. ap (sure sets_next q) is.body ∙ next_sure m n vars late.1 q (omega (arith, h, many));

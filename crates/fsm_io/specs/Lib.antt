@@ -11,4 +11,5 @@ pub mod Checks
 pub mod Text
 pub mod Measure
 pub mod Pieces
+pub mod Linked
 pub mod Laws
