@@ -70,26 +70,26 @@ abbrev mutual
   cases_in_branches (others a) = cases_in a
   cases_in_branches (listed states a more) = cases_in a + cases_in_branches more
 
--- no branch lists a state twice
+-- each branch lists a state, and none twice
 abbrev mutual
-  pub ListsOnce : Statements → Type 0
-  ListsOnce finish = Unit {0}
-  ListsOnce (assign a rest) = ListsOnce rest
-  ListsOnce (choose parts rest) = PartsListOnce parts × ListsOnce rest
-  ListsOnce (select branches rest) = BranchesListOnce branches × ListsOnce rest
+  pub ListsStates : Statements → Type 0
+  ListsStates finish = Unit {0}
+  ListsStates (assign a rest) = ListsStates rest
+  ListsStates (choose parts rest) = PartsListStates parts × ListsStates rest
+  ListsStates (select branches rest) = BranchesListStates branches × ListsStates rest
 
-  pub PartsListOnce : Parts → Type 0
-  PartsListOnce (only c a) = ListsOnce a
-  PartsListOnce (either c a b) = ListsOnce a × ListsOnce b
-  PartsListOnce (further c a more) = ListsOnce a × PartsListOnce more
+  pub PartsListStates : Parts → Type 0
+  PartsListStates (only c a) = ListsStates a
+  PartsListStates (either c a b) = ListsStates a × ListsStates b
+  PartsListStates (further c a more) = ListsStates a × PartsListStates more
 
-  pub BranchesListOnce : Branches → Type 0
-  BranchesListOnce closed = Unit {0}
-  BranchesListOnce (others a) = ListsOnce a
-  BranchesListOnce (listed states a more) = AllDifferent states × (ListsOnce a × BranchesListOnce more)
+  pub BranchesListStates : Branches → Type 0
+  BranchesListStates closed = Unit {0}
+  BranchesListStates (others a) = ListsStates a
+  BranchesListStates (listed states a more) = ((0 < length states) × AllDifferent states) × (ListsStates a × BranchesListStates more)
 
 -- Its ports stand in the order of names, the clock is one of its inputs and no bit of a range, it has a state and at most 256, and
--- these differ; there is one case, each branch lists states that are left, none of them twice, and each next state is one;
+-- these differ; there is one case, each branch lists a state, only such that are left, and none twice, and each next state is one;
 -- expressions read inputs other than the clock; and with each state every path assigns the next state and each output bit.
 pub record IsCheckedFsm (f : Fsm) : Type 0 where
   pub ports : AreInOrder (names_of f.ports)
@@ -102,6 +102,6 @@ pub record IsCheckedFsm (f : Fsm) : Type 0 where
   pub different : AllDifferent f.states
   pub sound : IsSound (all_states f) f.body
   pub one_case : cases_in f.body ≡ 1
-  pub once : ListsOnce f.body
+  pub listed : ListsStates f.body
   pub reads : IsBodyOf f f.body
   pub assigned : IsAssigned f

@@ -1,8 +1,9 @@
--- There is one case, and no branch lists a state twice.
+-- There is one case, and each branch lists a state, and none twice.
 use Rattle.std.proofs.Common.{◌≡◌, ℕ, suc, ◌+◌, ◌<◌, Bool, true, false, cond, List, [], ◌∷◌, ◌++◌, map, length, get_or, refl, sym, ap, subst, ◌∙◌, bytes_eq, arith}
 use Rattle.std.specs.Prelude.{◌||◌, ◌&&◌, ◌==◌, not}
 use Rattle.std.proofs.lemmas.Bool.{false≢true}
 use Rattle.std.proofs.lemmas.Bool.Decides.{nat_tests}
+use Rattle.std.proofs.lemmas.List.{length-map}
 use Rattle.vlsi_base.specs.declared.entity.NewName.{NewName}
 use Rattle.vlsi_base.specs.declared.name.Name.{Name}
 use Rattle.vlsi_base.specs.Member.{In, here, there, AllDifferent}
@@ -14,13 +15,14 @@ use Rattle.source_meaning.specs.Widths.{if_not}
 use Rattle.source_meaning.proofs.Lookups.{itself}
 use Rattle.vlsi_model.proofs.Expressions.{empty_left, empty_right, no_line}
 use Rattle.fsm_meaning.specs.Statements as s
-use Rattle.fsm_core.specs.Checked.{cases_in, cases_in_parts, cases_in_branches, ListsOnce, PartsListOnce, BranchesListOnce}
+use Rattle.fsm_core.specs.Checked.{cases_in, cases_in_parts, cases_in_branches, ListsStates, PartsListStates, BranchesListStates}
 use Rattle.fsm_text.specs.Written.{StatementTree, asserted, assigned, chosen, selected, BodyTree, finish, next, PartsTree, only, either, further, BranchesTree, closed, others, listed, MachineTree}
 use Rattle.fsm_io.specs.Known.{Named, symbols, texts}
 use Rattle.fsm_io.specs.Looks.{Mention, asserting, assigning, testing, selecting, listing, body_has_case, holds_case, parts_have_case, in_body, in_statement, in_parts, in_branches, use_of}
 use Rattle.fsm_io.specs.Elaboration.{Frame, frame_of, state_number, next_number, assign_bits, body_bits, statement_bits, parts_bits, branches_bits}
 use Rattle.fsm_io.specs.States.{is_one_of, bad_names, bad_states}
 use Rattle.fsm_io.specs.Unsupported.{forms_at}
+use Rattle.fsm_io.specs.Listed.{HasStates, StatementHasStates, PartsHaveStates, BranchesHaveStates}
 use Rattle.fsm_io.proofs.StateNames.{number_is, listed_states, both, no_bad, one_of-append, or_second}
 use Rattle.fsm_io.proofs.Sounds.{AllSupported, Good, good_left, good_right, left, right, behind, first_case, neither}
 
@@ -139,12 +141,12 @@ numbers_differ all before (n ∷ names) e =
       let not_listed : is_one_of (before ++ n.text ∷ []) n.text ≡ false = ap (is_one_of (before ++ n.text ∷ [])) (sym at) ∙ r.1 in
       absurd (false≢true (sym not_listed ∙ itself_listed)), numbers_differ all (before ++ n.text ∷ []) names a.1)
 
-once_outputs : (vars : List Name) (ks : List Name) (xs : List Formula) (rest : s.Statements) → ListsOnce rest → ListsOnce (assign_bits vars ks xs rest)
+once_outputs : (vars : List Name) (ks : List Name) (xs : List Formula) (rest : s.Statements) → ListsStates rest → ListsStates (assign_bits vars ks xs rest)
 once_outputs vars [] xs rest h = h
 once_outputs vars (k ∷ ks) [] rest h = h
 once_outputs vars (k ∷ ks) (x ∷ xs) rest h = once_outputs vars ks xs rest h
 
-once_assignment : (c : Bool) (k : ℕ) (vars : List Name) (ks : List Name) (xs : List Formula) (rest : s.Statements) → ListsOnce rest → ListsOnce (cond c (s.assign (s.next k) rest) (assign_bits vars ks xs rest))
+once_assignment : (c : Bool) (k : ℕ) (vars : List Name) (ks : List Name) (xs : List Formula) (rest : s.Statements) → ListsStates rest → ListsStates (cond c (s.assign (s.next k) rest) (assign_bits vars ks xs rest))
 once_assignment true k vars ks xs rest h = h
 once_assignment false k vars ks xs rest h = once_outputs vars ks xs rest h
 
@@ -158,33 +160,36 @@ on_left m n xs ys g = (g.0, good_left (texts m.states.states) n.next g.0 xs ys g
 on_right : (m : MachineTree) (n : Named) (xs ys : List Mention) → Somewhere m n (xs ++ ys) → Somewhere m n ys
 on_right m n xs ys g = (_, good_right (texts m.states.states) n.next g.0 xs ys g.1)
 
+some_number : (all : List (List ℕ)) (names : List NewName) → 0 < length names → 0 < length (map (λ (n : NewName). state_number all n.text) names)
+some_number all names h = let same = length-map names (λ (n : NewName). state_number all n.text) in omega (arith, h, same)
+
 mutual
-  pub once_body : (m : MachineTree) (n : Named) (vars : List Name) (seen : Bool) (b : BodyTree) → Somewhere m n (in_body seen b) → ListsOnce (body_bits (frame_of m n vars) b)
-  once_body m n vars seen finish g = tt
-  once_body m n vars seen (next st rest) g =
-      once_statement m n vars seen st (body_bits (frame_of m n vars) rest) (on_left m n (in_statement seen st) (in_body (seen || holds_case st) rest) g)
-      (once_body m n vars (seen || holds_case st) rest (on_right m n (in_statement seen st) (in_body (seen || holds_case st) rest) g))
+  pub once_body : (m : MachineTree) (n : Named) (vars : List Name) (seen : Bool) (b : BodyTree) → Somewhere m n (in_body seen b) → HasStates b → ListsStates (body_bits (frame_of m n vars) b)
+  once_body m n vars seen finish g l = tt
+  once_body m n vars seen (next st rest) g l =
+      once_statement m n vars seen st (body_bits (frame_of m n vars) rest) (on_left m n (in_statement seen st) (in_body (seen || holds_case st) rest) g) l.0
+      (once_body m n vars (seen || holds_case st) rest (on_right m n (in_statement seen st) (in_body (seen || holds_case st) rest) g) l.1)
 
-  once_statement : (m : MachineTree) (n : Named) (vars : List Name) (seen : Bool) (st : StatementTree) (rest : s.Statements) → Somewhere m n (in_statement seen st) → ListsOnce rest
-      → ListsOnce (statement_bits (frame_of m n vars) st rest)
-  once_statement m n vars seen (asserted e) rest g h = h
-  once_statement m n vars seen (assigned t line e) rest g h =
+  once_statement : (m : MachineTree) (n : Named) (vars : List Name) (seen : Bool) (st : StatementTree) (rest : s.Statements) → Somewhere m n (in_statement seen st) → StatementHasStates st → ListsStates rest
+      → ListsStates (statement_bits (frame_of m n vars) st rest)
+  once_statement m n vars seen (asserted e) rest g l h = h
+  once_statement m n vars seen (assigned t line e) rest g l h =
       once_assignment (bytes_eq t.name n.next) (next_number (texts m.states.states) e) vars (target_names (symbols m) t) (formulas (symbols m) e) rest h
-  once_statement m n vars seen (chosen parts) rest g h = (once_parts m n vars seen parts g, h)
-  once_statement m n vars seen (selected line called branches) rest g h = (once_branches m n vars branches g, h)
+  once_statement m n vars seen (chosen parts) rest g l h = (once_parts m n vars seen parts g l, h)
+  once_statement m n vars seen (selected line called branches) rest g l h = (once_branches m n vars branches g l, h)
 
-  once_parts : (m : MachineTree) (n : Named) (vars : List Name) (seen : Bool) (p : PartsTree) → Somewhere m n (in_parts seen p) → PartsListOnce (parts_bits (frame_of m n vars) p)
-  once_parts m n vars seen (only line c a) g = once_body m n vars seen a g
-  once_parts m n vars seen (either line c a b) g =
-      (once_body m n vars seen a (on_left m n (in_body seen a) (in_body (seen || body_has_case a) b) g), once_body m n vars (seen || body_has_case a) b (on_right m n (in_body seen a) (in_body (seen || body_has_case a) b) g))
-  once_parts m n vars seen (further line c a more) g =
-      (once_body m n vars seen a (on_left m n (in_body seen a) (in_parts (seen || body_has_case a) more) g), once_parts m n vars (seen || body_has_case a) more (on_right m n (in_body seen a) (in_parts (seen || body_has_case a) more) g))
+  once_parts : (m : MachineTree) (n : Named) (vars : List Name) (seen : Bool) (p : PartsTree) → Somewhere m n (in_parts seen p) → PartsHaveStates p → PartsListStates (parts_bits (frame_of m n vars) p)
+  once_parts m n vars seen (only line c a) g l = once_body m n vars seen a g l
+  once_parts m n vars seen (either line c a b) g l =
+      (once_body m n vars seen a (on_left m n (in_body seen a) (in_body (seen || body_has_case a) b) g) l.0, once_body m n vars (seen || body_has_case a) b (on_right m n (in_body seen a) (in_body (seen || body_has_case a) b) g) l.1)
+  once_parts m n vars seen (further line c a more) g l =
+      (once_body m n vars seen a (on_left m n (in_body seen a) (in_parts (seen || body_has_case a) more) g) l.0, once_parts m n vars (seen || body_has_case a) more (on_right m n (in_body seen a) (in_parts (seen || body_has_case a) more) g) l.1)
 
-  once_branches : (m : MachineTree) (n : Named) (vars : List Name) (b : BranchesTree) → Somewhere m n (in_branches b) → BranchesListOnce (branches_bits (frame_of m n vars) b)
-  once_branches m n vars closed g = tt
-  once_branches m n vars (others a) g = once_body m n vars true a g
-  once_branches m n vars (listed names a more) g =
+  once_branches : (m : MachineTree) (n : Named) (vars : List Name) (b : BranchesTree) → Somewhere m n (in_branches b) → BranchesHaveStates b → BranchesListStates (branches_bits (frame_of m n vars) b)
+  once_branches m n vars closed g l = tt
+  once_branches m n vars (others a) g l = once_body m n vars true a g l
+  once_branches m n vars (listed names a more) g l =
       let all = texts m.states.states in
       let after = bad_states all n.next (g.0 ++ texts names) (in_body true a ++ in_branches more) in
       let rest : Somewhere m n (in_body true a ++ in_branches more) = (g.0 ++ texts names, empty_right (bad_names all g.0 names) after g.1) in
-      (numbers_differ all g.0 names (empty_left (bad_names all g.0 names) after g.1), (once_body m n vars true a (on_left m n (in_body true a) (in_branches more) rest), once_branches m n vars more (on_right m n (in_body true a) (in_branches more) rest)))
+      ((some_number all names l.0, numbers_differ all g.0 names (empty_left (bad_names all g.0 names) after g.1)), (once_body m n vars true a (on_left m n (in_body true a) (in_branches more) rest) l.1.0, once_branches m n vars more (on_right m n (in_body true a) (in_branches more) rest) l.1.1))

@@ -31,10 +31,11 @@ use Rattle.fsm_meaning.specs.Fsm.{Fsm, fsm_outputs}
 use Rattle.fsm_meaning.specs.Assigned.{IsAssigned, sure, sets_next, sets_output}
 use Rattle.fsm_machine.specs.MachineOf.{up, all_states}
 use Rattle.fsm_machine.specs.Sound.{IsSound}
-use Rattle.fsm_core.specs.Checked.{IsCheckedFsm, IsBodyOf, cases_in, ListsOnce}
+use Rattle.fsm_core.specs.Checked.{IsCheckedFsm, IsBodyOf, cases_in, ListsStates}
 use Rattle.fsm_text.specs.Written.{MachineTree}
 use Rattle.fsm_io.specs.Known.{Named, symbols, texts, inner_symbols, generic_symbols}
 use Rattle.fsm_io.specs.Looks.{Mention, asserting, assigning, testing, selecting, listing, all_mentions, body_has_case, found}
+use Rattle.fsm_io.specs.Listed.{HasStates}
 use Rattle.fsm_io.specs.Drivers.{is_output}
 use Rattle.fsm_io.specs.Unsupported.{forms_at, clock_forms}
 use Rattle.source_meaning.specs.Unsupported.{port_forms}
@@ -156,8 +157,8 @@ has_case m n early =
 output_role : (r : Role) → r ≡ role.Output → is_output r ≡ true
 output_role r e = ap is_output e
 
-pub checked : (m : MachineTree) (n : Named) (f : Fsm) → first_repeated [] (symbols m) ≡ None → HasRoles m n → 0 < length m.states.states → PassesBehind m n → IsMachineOf m n f → IsCheckedFsm f
-checked m n f once roles some passes is =
+pub checked : (m : MachineTree) (n : Named) (f : Fsm) → first_repeated [] (symbols m) ≡ None → HasRoles m n → 0 < length m.states.states → HasStates m.step.body → PassesBehind m n → IsMachineOf m n f → IsCheckedFsm f
+checked m n f once roles some lists passes is =
     let late = late_fine m n passes.no_fault in
     let early = early_fine m n late.0 in
     let fs = facts m n early once roles in
@@ -177,7 +178,7 @@ checked m n f once roles some passes is =
       sound = subst (λ (k : ℕ). IsSound (up 0 k) f.body) count (subst (λ b. IsSound (up 0 (length (texts m.states.states))) b) (sym is.body)
       (body_sound m n vars false m.step.body [] (λ e. refl) early.state (λ x i. (each_fine m n early x i).forms)));
       one_case = ap cases_in is.body ∙ cases_body m n vars false m.step.body (λ x i. (each_fine m n early x i).forms) ∙ ap (λ b. cond b 1 0) (has_case m n early);
-      once = subst (λ b. ListsOnce b) (sym is.body) (once_body m n vars false m.step.body ([], early.state));
+      listed = subst (λ b. ListsStates b) (sym is.body) (once_body m n vars false m.step.body ([], early.state) lists);
       reads = subst (λ b. IsBodyOf f b) (sym is.body) (body_reads m n f has false m.step.body (all_read m n fs));
       assigned = record {
         next_state = λ q h. ap (sure sets_next q) is.body ∙ next_sure m n vars late.1 q (omega (arith, h, many));

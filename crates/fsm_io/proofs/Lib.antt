@@ -12,6 +12,7 @@ pub mod BodyReads
 pub mod Surely
 pub mod StateNames
 pub mod Sounds
+pub mod Listed
 pub mod Cases
 pub mod Checking
 pub mod Whole

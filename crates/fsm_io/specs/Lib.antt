@@ -1,5 +1,6 @@
 pub mod Known
 pub mod Looks
+pub mod Listed
 pub mod Widths
 pub mod Drivers
 pub mod Unsupported
