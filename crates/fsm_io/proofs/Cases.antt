@@ -31,6 +31,15 @@ use Rattle.fsm_io.proofs.Sounds.{AllSupported, Good, good_left, good_right, left
 abbrev count : Bool → ℕ
 count b = cond b 1 0
 
+zero_plus : (k : ℕ) → 0 + k ≡ k
+zero_plus k = omega arith
+
+one_more : (j k : ℕ) → j ≡ 0 → suc (j + k) ≡ 1 + k
+one_more j k e = omega (arith, e)
+
+both_none : (j k : ℕ) → j ≡ 0 → k ≡ 0 → j + k ≡ 0
+both_none j k e f = omega (arith, e, f)
+
 seen_after : (seen c : Bool) → c ≡ true → (seen || c) ≡ true
 seen_after true c e = refl
 seen_after false c e = e
@@ -38,7 +47,7 @@ seen_after false c e = e
 -- of two of which at most one has a case
 sum_is : (c d : Bool) → (c ≡ true → d ≡ false) → count c + count d ≡ count (c || d)
 sum_is true d h = ap (λ b. 1 + count b) (h refl)
-sum_is false d h = refl
+sum_is false d h = zero_plus (count d)
 
 or_none : (c d : Bool) → c ≡ false → d ≡ false → (c || d) ≡ false
 or_none true d e f = absurd cc
@@ -89,12 +98,13 @@ mutual
 
   cases_statement : (m : MachineTree) (n : Named) (vars : List Name) (seen : Bool) (st : StatementTree) (rest : s.Statements) → AllSupported m n (in_statement seen st)
       → cases_in (statement_bits (frame_of m n vars) st rest) ≡ count (holds_case st) + cases_in rest
-  cases_statement m n vars seen (asserted e) rest h = refl
+  cases_statement m n vars seen (asserted e) rest h = sym (zero_plus (cases_in rest))
   cases_statement m n vars seen (assigned t line e) rest h =
       case_assignment (bytes_eq t.name n.next) (next_number (texts m.states.states) e) vars (target_names (symbols m) t) (formulas (symbols m) e) rest
+      ∙ sym (zero_plus (cases_in rest))
   cases_statement m n vars seen (chosen parts) rest h = ap (λ (j : ℕ). j + cases_in rest) (cases_parts m n vars seen parts h)
   cases_statement m n vars seen (selected line called branches) rest h =
-      ap (λ (j : ℕ). suc (j + cases_in rest)) (cases_branches m n vars branches (behind m n (selecting seen line called) (in_branches branches) h))
+      one_more (cases_in_branches (branches_bits (frame_of m n vars) branches)) (cases_in rest) (cases_branches m n vars branches (behind m n (selecting seen line called) (in_branches branches) h))
 
   cases_parts : (m : MachineTree) (n : Named) (vars : List Name) (seen : Bool) (p : PartsTree) → AllSupported m n (in_parts seen p) → cases_in_parts (parts_bits (frame_of m n vars) p) ≡ count (parts_have_case p)
   cases_parts m n vars seen (only line c a) h = cases_body m n vars seen a (behind m n (testing line c) (in_body seen a) h)
@@ -117,13 +127,14 @@ mutual
   cases_branches m n vars (listed names a more) h =
       let k = behind m n (listing names) (in_body true a ++ in_branches more) h in
       let l = left m n (in_body true a) (in_branches more) k in
-      ap (λ (j : ℕ). j + cases_in_branches (branches_bits (frame_of m n vars) more)) (cases_body m n vars true a l ∙ ap (λ b. count b) (alone_body m n true a l refl))
-      ∙ cases_branches m n vars more (right m n (in_body true a) (in_branches more) k)
+      both_none (cases_in (body_bits (frame_of m n vars) a)) (cases_in_branches (branches_bits (frame_of m n vars) more)) (cases_body m n vars true a l ∙ ap (λ b. count b) (alone_body m n true a l refl))
+      (cases_branches m n vars more (right m n (in_body true a) (in_branches more) k))
 
 -- ---- no state twice in a branch
 
 among_from : (k : ℕ) (xs : List ℕ) → In k xs → among k xs ≡ true
-among_from k (k ∷ xs) here = let same : (k == k) ≡ true = grind (arith, nat_tests) in ap (λ b. b || among k xs) same
+among_from k [] i = elim i [ ]
+among_from k (x ∷ xs) here = let same : (k == k) ≡ true = grind (arith, nat_tests) in ap (λ b. b || among k xs) same
 among_from k (x ∷ xs) (there i) = or_second (x == k) (among k xs) (among_from k xs i)
 
 -- the numbers of states that are listed once differ

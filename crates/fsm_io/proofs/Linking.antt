@@ -4,12 +4,14 @@ use Rattle.bool_expr.specs.View.{view}
 use Rattle.vlsi_base.specs.Member.{In, here, there}
 use Rattle.fsm_meaning.specs.Statements as s
 use Rattle.fsm_code.specs.View.{body_view}
-use Rattle.fsm_text.specs.Written.{StatementTree, BodyTree, finish, body_of}
+use Rattle.fsm_text.specs.declared.file.Statement.{Statement, size-Statement}
+use Rattle.fsm_text.specs.declared.file.Body.{Body, size-Body}
+use Rattle.fsm_text.specs.Written.{StatementTree, BodyTree, next, followed, body_of}
 use Rattle.fsm_io.specs.declared.bits.Frame.{Frame as HeldFrame}
 use Rattle.fsm_io.specs.declared.linked.Part.{Part}
 use Rattle.fsm_io.specs.declared.linked.Branch.{Branch}
 use Rattle.fsm_io.specs.Elaboration.{Frame, body_bits, statement_bits}
-use Rattle.fsm_io.specs.Linked.{statements_before, parts_before, branches_before}
+use Rattle.fsm_io.specs.Linked.{AreSmaller, statements_before, parts_before, branches_before}
 use Rattle.fsm_io.specs.Pieces.{StatementFits, BodyFits}
 
 pub statements-push : (f : Frame) (xs : List StatementTree) (x : StatementTree) (rest : s.Statements) → statements_before f (xs ++ x ∷ []) rest ≡ statements_before f xs (statement_bits f x rest)
@@ -30,5 +32,16 @@ body_before f [] = refl
 body_before f (x ∷ xs) = ap (statement_bits f x) (body_before f xs)
 
 pub each_fits : (f : HeldFrame) (xs : List StatementTree) → BodyFits f (body_of xs) → (x : StatementTree) → In x xs → StatementFits f x
-each_fits f (x ∷ xs) h x here = h.0
+each_fits f [] h x i = elim i [ ]
+each_fits f (y ∷ xs) h x here = h.0
 each_fits f (y ∷ xs) h x (there i) = each_fits f xs h.1 x i
+
+pub followed-push : (xs : List StatementTree) (x : StatementTree) (rest : BodyTree) → followed (xs ++ x ∷ []) rest ≡ followed xs (next x rest)
+followed-push [] x rest = refl
+followed-push (y ∷ xs) x rest = ap (next y) (followed-push xs x rest)
+
+pub smaller_push : (body : Body) (xs : List Statement) (x : Statement) → AreSmaller body xs → size-Statement x < size-Body body → AreSmaller body (xs ++ x ∷ [])
+smaller_push body [] x h small s here = small
+smaller_push body [] x h small s (there i) = elim i [ ]
+smaller_push body (y ∷ xs) x h small s here = h s here
+smaller_push body (y ∷ xs) x h small s (there i) = smaller_push body xs x (λ k j. h k (there j)) small s i
