@@ -42,7 +42,8 @@ use Rattle.source_meaning.specs.Unsupported.{port_forms}
 use Rattle.vlsi_model.proofs.Expressions.{empty_left, empty_right, no_line}
 use Rattle.fsm_io.specs.Elaboration.{body_bits, frame_of, IsMachineOf}
 use Rattle.fsm_io.specs.Checks.{fault_behind, most_states}
-use Rattle.fsm_io.specs.Pieces.{HasRoles, PassesBehind}
+use Rattle.fsm_meaning.specs.Statements.{Statements}
+use Rattle.fsm_io.specs.Pieces.{HasRoles, PassesBehind, body_over}
 use Rattle.fsm_io.proofs.Fine.{EarlyFine, early_fine, late_fine, IsFine, each_fine}
 use Rattle.fsm_io.proofs.Facts.{Facts, facts, condition_reads, fine_assignment}
 use Rattle.fsm_io.proofs.BodyReads.{HasPorts, contains_from_In, Reads, body_reads}
@@ -190,3 +191,16 @@ checked m n f once roles some lists passes is =
             ∙ output_sure m n vars late.1 q (omega (arith, h, many)) b.symbol b.declared (output_role b.symbol.role out) k (subst (λ (j : Name). In j (symbol_names b.symbol)) o.2 b.bit);
       };
     }
+
+-- the machine of these parts is that of the text
+pub machine_is : (m : MachineTree) (n : Named) (name : List ℕ) (ports ps : List Port) (clock : Name) (states : List Name) (body : Statements) → name ≡ m.entity.name → ps ≡ ports
+    → IsPermutation (port_bits (symbols m)) ports → AreInOrder (names_of ports) → clock ≡ scalar n.clock → states ≡ map (λ (s : NewName). scalar s.text) m.states.states → body ≡ body_over m n ports
+    → IsMachineOf m n (record { name = name; ports = ps; clock = clock; states = states; body = body })
+machine_is m n name ports ps clock states body a same moved ordered b c d = record {
+  name = a;
+  ports = subst (λ (qs : List Port). IsPermutation qs (port_bits (symbols m))) (sym same) (IsPermutation-sym (port_bits (symbols m)) ports moved);
+  ordered = subst (λ (qs : List Port). AreInOrder (names_of qs)) (sym same) ordered;
+  clock = b;
+  states = c;
+  body = d ∙ ap (λ (qs : List Port). body_over m n qs) (sym same);
+}
