@@ -1,5 +1,5 @@
 -- What is known of each state machine that passed its checks.
-use Rattle.std.specs.Prelude.{◌≡◌, ℕ, ◌<◌, ◌≤◌, length, slice_get, Some}
+use Rattle.std.specs.Prelude.{◌≡◌, ℕ, suc, ◌+◌, ◌<◌, ◌≤◌, length, slice_get, Some, None}
 use Rattle.std.specs.List.{All, Contains}
 use Rattle.vlsi_base.specs.declared.name.Name.{Name}
 use Rattle.vlsi_base.specs.Member.{AllDifferent}
@@ -52,17 +52,56 @@ abbrev mutual
   AreBranchesOf f (others a) = IsBodyOf f a
   AreBranchesOf f (listed states a more) = IsBodyOf f a × AreBranchesOf f more
 
--- Its ports stand in the order of names, the clock is one of its inputs, it has a state and at most 256, and these differ; each branch
--- lists states that are left, and each next state is one; expressions read inputs other than the clock; and with each state every path
--- assigns the next state and each output bit.
+-- how many cases stand in the statements, in ifs and in branches too
+abbrev mutual
+  pub cases_in : Statements → ℕ
+  cases_in finish = 0
+  cases_in (assign a rest) = cases_in rest
+  cases_in (choose parts rest) = cases_in_parts parts + cases_in rest
+  cases_in (select branches rest) = suc (cases_in_branches branches + cases_in rest)
+
+  pub cases_in_parts : Parts → ℕ
+  cases_in_parts (only c a) = cases_in a
+  cases_in_parts (either c a b) = cases_in a + cases_in b
+  cases_in_parts (further c a more) = cases_in a + cases_in_parts more
+
+  pub cases_in_branches : Branches → ℕ
+  cases_in_branches closed = 0
+  cases_in_branches (others a) = cases_in a
+  cases_in_branches (listed states a more) = cases_in a + cases_in_branches more
+
+-- each branch lists a state, and none twice
+abbrev mutual
+  pub ListsStates : Statements → Type 0
+  ListsStates finish = Unit {0}
+  ListsStates (assign a rest) = ListsStates rest
+  ListsStates (choose parts rest) = PartsListStates parts × ListsStates rest
+  ListsStates (select branches rest) = BranchesListStates branches × ListsStates rest
+
+  pub PartsListStates : Parts → Type 0
+  PartsListStates (only c a) = ListsStates a
+  PartsListStates (either c a b) = ListsStates a × ListsStates b
+  PartsListStates (further c a more) = ListsStates a × PartsListStates more
+
+  pub BranchesListStates : Branches → Type 0
+  BranchesListStates closed = Unit {0}
+  BranchesListStates (others a) = ListsStates a
+  BranchesListStates (listed states a more) = ((0 < length states) × AllDifferent states) × (ListsStates a × BranchesListStates more)
+
+-- Its ports stand in the order of names, the clock is one of its inputs and no bit of a range, it has a state and at most 256, and
+-- these differ; there is one case, each branch lists a state, only such that are left, and none twice, and each next state is one;
+-- expressions read inputs other than the clock; and with each state every path assigns the next state and each output bit.
 pub record IsCheckedFsm (f : Fsm) : Type 0 where
   pub ports : AreInOrder (names_of f.ports)
   pub supplies : All IsNoSupply (names_of f.ports)
   pub clock : Contains (names_of f.ports) f.clock
+  pub scalar : f.clock.bit ≡ None
   pub unobserved : Contains (fsm_outputs f) f.clock → ⊥
   pub some_state : 0 < length f.states
   pub few_states : length f.states ≤ most_states
   pub different : AllDifferent f.states
   pub sound : IsSound (all_states f) f.body
+  pub one_case : cases_in f.body ≡ 1
+  pub listed : ListsStates f.body
   pub reads : IsBodyOf f f.body
   pub assigned : IsAssigned f

@@ -8,9 +8,10 @@ use fsm_code::Statements;
 use std::marker::Model;
 use vlsi_base::{Name, Names, Ports, Text};
 
-/// A state machine that has passed its checks: its ports stand in the order of names, the clock among them; its branches list known
-/// states, each once; its expressions read inputs other than the clock; and on each path of ifs, with each state, the next state
-/// and each output bit are assigned. Variable k of an expression is number k of the ports.
+/// A state machine that has passed its checks: its ports stand in the order of names, the clock among them, which is no bit of a
+/// range; it has one case, whose branches list known states, each once; its expressions read inputs other than the clock; and on
+/// each path of ifs, with each state, the next state and each output bit are assigned. Variable k of an expression is number k of
+/// the ports.
 #[derive(Drop)]
 pub struct StateMachine {
     name: Text,

@@ -31,20 +31,25 @@ use Rattle.fsm_meaning.specs.Fsm.{Fsm, fsm_outputs}
 use Rattle.fsm_meaning.specs.Assigned.{IsAssigned, sure, sets_next, sets_output}
 use Rattle.fsm_machine.specs.MachineOf.{up, all_states}
 use Rattle.fsm_machine.specs.Sound.{IsSound}
-use Rattle.fsm_core.specs.Checked.{IsCheckedFsm, IsBodyOf}
+use Rattle.fsm_core.specs.Checked.{IsCheckedFsm, IsBodyOf, cases_in, ListsStates}
 use Rattle.fsm_text.specs.Written.{MachineTree}
 use Rattle.fsm_io.specs.Known.{Named, symbols, texts, inner_symbols, generic_symbols}
-use Rattle.fsm_io.specs.Looks.{Mention, asserting, assigning, testing, selecting, listing, all_mentions}
+use Rattle.fsm_io.specs.Looks.{Mention, asserting, assigning, testing, selecting, listing, all_mentions, body_has_case, found}
+use Rattle.fsm_io.specs.Listed.{HasStates}
 use Rattle.fsm_io.specs.Drivers.{is_output}
-use Rattle.fsm_io.specs.Unsupported.{forms_at}
+use Rattle.fsm_io.specs.Unsupported.{forms_at, clock_forms}
+use Rattle.source_meaning.specs.Unsupported.{port_forms}
+use Rattle.vlsi_model.proofs.Expressions.{empty_left, empty_right, no_line}
 use Rattle.fsm_io.specs.Elaboration.{body_bits, frame_of, IsMachineOf}
 use Rattle.fsm_io.specs.Checks.{fault_behind, most_states}
-use Rattle.fsm_io.specs.Pieces.{HasRoles, PassesBehind}
+use Rattle.fsm_meaning.specs.Statements.{Statements}
+use Rattle.fsm_io.specs.Pieces.{HasRoles, PassesBehind, body_over}
 use Rattle.fsm_io.proofs.Fine.{EarlyFine, early_fine, late_fine, IsFine, each_fine}
 use Rattle.fsm_io.proofs.Facts.{Facts, facts, condition_reads, fine_assignment}
 use Rattle.fsm_io.proofs.BodyReads.{HasPorts, contains_from_In, Reads, body_reads}
 use Rattle.fsm_io.proofs.Surely.{next_sure, output_sure}
 use Rattle.fsm_io.proofs.Sounds.{body_sound}
+use Rattle.fsm_io.proofs.Cases.{cases_body, once_body}
 use Rattle.fsm_io.proofs.StateNames.{texts_inner}
 
 -- what stands in one place reads ports alone
@@ -144,11 +149,17 @@ scalar_states (x ∷ names) d = (λ i. d.0 (back x names i), scalar_states names
 
 -- ---- the whole
 
+-- a case stands in the statements
+has_case : (m : MachineTree) (n : Named) → EarlyFine m n → body_has_case m.step.body ≡ true
+has_case m n early =
+    no_line (body_has_case m.step.body) m.step.end_line
+    (empty_left _ (clock_forms n m.clock) (empty_right (found (forms_at (symbols m) n) m) _ (empty_right _ _ (empty_right (port_forms m.entity.ports) _ early.form))))
+
 output_role : (r : Role) → r ≡ role.Output → is_output r ≡ true
 output_role r e = ap is_output e
 
-pub checked : (m : MachineTree) (n : Named) (f : Fsm) → first_repeated [] (symbols m) ≡ None → HasRoles m n → 0 < length m.states.states → PassesBehind m n → IsMachineOf m n f → IsCheckedFsm f
-checked m n f once roles some passes is =
+pub checked : (m : MachineTree) (n : Named) (f : Fsm) → first_repeated [] (symbols m) ≡ None → HasRoles m n → 0 < length m.states.states → HasStates m.step.body → PassesBehind m n → IsMachineOf m n f → IsCheckedFsm f
+checked m n f once roles some lists passes is =
     let late = late_fine m n passes.no_fault in
     let early = early_fine m n late.0 in
     let fs = facts m n early once roles in
@@ -160,12 +171,15 @@ checked m n f once roles some passes is =
       ports = is.ordered;
       supplies = All-from_In IsNoSupply vars (no_supplies m n f is);
       clock = contains_from_In vars f.clock (subst (λ (k : Name). In k vars) (sym is.clock) (In-map (λ (p : Port). p.name) (port_of dir.In (scalar n.clock)) f.ports (clock_port m n f fs is)));
+      scalar = ap (λ (k : Name). k.bit) is.clock;
       unobserved = unobserved m n f fs is;
       some_state = omega (arith, some, many);
       few_states = let few = passes.few_states in omega (arith, few, many);
       different = subst (λ (ks : List Name). AllDifferent ks) (sym is.states) (scalar_states m.states.states (different_states m fs.different));
       sound = subst (λ (k : ℕ). IsSound (up 0 k) f.body) count (subst (λ b. IsSound (up 0 (length (texts m.states.states))) b) (sym is.body)
       (body_sound m n vars false m.step.body [] (λ e. refl) early.state (λ x i. (each_fine m n early x i).forms)));
+      one_case = ap cases_in is.body ∙ cases_body m n vars false m.step.body (λ x i. (each_fine m n early x i).forms) ∙ ap (λ b. cond b 1 0) (has_case m n early);
+      listed = subst (λ b. ListsStates b) (sym is.body) (once_body m n vars false m.step.body ([], early.state) lists);
       reads = subst (λ b. IsBodyOf f b) (sym is.body) (body_reads m n f has false m.step.body (all_read m n fs));
       assigned = record {
         next_state = λ q h. ap (sure sets_next q) is.body ∙ next_sure m n vars late.1 q (omega (arith, h, many));
@@ -177,3 +191,16 @@ checked m n f once roles some passes is =
             ∙ output_sure m n vars late.1 q (omega (arith, h, many)) b.symbol b.declared (output_role b.symbol.role out) k (subst (λ (j : Name). In j (symbol_names b.symbol)) o.2 b.bit);
       };
     }
+
+-- the machine of these parts is that of the text
+pub machine_is : (m : MachineTree) (n : Named) (name : List ℕ) (ports ps : List Port) (clock : Name) (states : List Name) (body : Statements) → name ≡ m.entity.name → ps ≡ ports
+    → IsPermutation (port_bits (symbols m)) ports → AreInOrder (names_of ports) → clock ≡ scalar n.clock → states ≡ map (λ (s : NewName). scalar s.text) m.states.states → body ≡ body_over m n ports
+    → IsMachineOf m n (record { name = name; ports = ps; clock = clock; states = states; body = body })
+machine_is m n name ports ps clock states body a same moved ordered b c d = record {
+  name = a;
+  ports = subst (λ (qs : List Port). IsPermutation qs (port_bits (symbols m))) (sym same) (IsPermutation-sym (port_bits (symbols m)) ports moved);
+  ordered = subst (λ (qs : List Port). AreInOrder (names_of qs)) (sym same) ordered;
+  clock = b;
+  states = c;
+  body = d ∙ ap (λ (qs : List Port). body_over m n qs) (sym same);
+}

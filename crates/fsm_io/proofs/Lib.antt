@@ -12,8 +12,11 @@ pub mod BodyReads
 pub mod Surely
 pub mod StateNames
 pub mod Sounds
+pub mod Listed
+pub mod Cases
 pub mod Checking
 pub mod Whole
+pub mod Linking
 pub mod OverPorts
 pub mod Suiting
 pub mod Ordered

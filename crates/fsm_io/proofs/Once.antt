@@ -55,30 +55,30 @@ cut_or_not bytes e none some = let both : None ≡ Some e = sym none ∙ some in
 pub never_both : NeverBoth
 never_both bytes f e is (long over same) = let few = is.written.few in absurd (omega (arith, over, few))
 never_both bytes f e is (uncut few some) = cut_or_not bytes e is.written.cut some
-never_both bytes f e is (unwritten few cut no) = text.never_both (tokens_in bytes) is.tree e is.written.machine no
-never_both bytes f e is (faulty m w no) =
+never_both bytes f e is (unwritten few cut wrong) = text.never_both (tokens_in bytes) is.tree e is.written.machine wrong
+never_both bytes f e is (faulty m w wrong) =
     let same : m ≡ is.tree = written_once bytes m is.tree w is.written in
-    pass_or_fail is.tree (tokens_in bytes).pragmas is.names e is.passes (subst (λ (t : MachineTree). IsRefusedFor t (tokens_in bytes).pragmas e) same no)
+    pass_or_fail is.tree (tokens_in bytes).pragmas is.names e is.passes (subst (λ (t : MachineTree). IsRefusedFor t (tokens_in bytes).pragmas e) same wrong)
 
 pub one_refusal : OneRefusal
 one_refusal bytes d e (long over is) (long many same) = is ∙ sym same
 one_refusal bytes d e (long over is) (uncut few some) = absurd (omega (arith, over, few))
-one_refusal bytes d e (long over is) (unwritten few cut no) = absurd (omega (arith, over, few))
-one_refusal bytes d e (long over is) (faulty m w no) = let few = w.few in absurd (omega (arith, over, few))
+one_refusal bytes d e (long over is) (unwritten few cut wrong) = absurd (omega (arith, over, few))
+one_refusal bytes d e (long over is) (faulty m w wrong) = let few = w.few in absurd (omega (arith, over, few))
 one_refusal bytes d e (uncut few some) (long over is) = absurd (omega (arith, over, few))
 one_refusal bytes d e (uncut few some) (uncut small other) = let both : Some d ≡ Some e = sym some ∙ other in cc
-one_refusal bytes d e (uncut few some) (unwritten small cut no) = absurd (cut_or_not bytes d cut some)
-one_refusal bytes d e (uncut few some) (faulty m w no) = absurd (cut_or_not bytes d w.cut some)
-one_refusal bytes d e (unwritten few cut no) (long over is) = absurd (omega (arith, over, few))
-one_refusal bytes d e (unwritten few cut no) (uncut small some) = absurd (cut_or_not bytes e cut some)
-one_refusal bytes d e (unwritten few cut no) (unwritten small whole other) = text.one_refusal (tokens_in bytes) d e no other
-one_refusal bytes d e (unwritten few cut no) (faulty m w other) = absurd (text.never_both (tokens_in bytes) m d w.machine no)
-one_refusal bytes d e (faulty m w no) (long over is) = let few = w.few in absurd (omega (arith, over, few))
-one_refusal bytes d e (faulty m w no) (uncut few some) = absurd (cut_or_not bytes e w.cut some)
-one_refusal bytes d e (faulty m w no) (unwritten few cut other) = absurd (text.never_both (tokens_in bytes) m e w.machine other)
-one_refusal bytes d e (faulty m w no) (faulty k u other) =
+one_refusal bytes d e (uncut few some) (unwritten small cut wrong) = absurd (cut_or_not bytes d cut some)
+one_refusal bytes d e (uncut few some) (faulty m w wrong) = absurd (cut_or_not bytes d w.cut some)
+one_refusal bytes d e (unwritten few cut wrong) (long over is) = absurd (omega (arith, over, few))
+one_refusal bytes d e (unwritten few cut wrong) (uncut small some) = absurd (cut_or_not bytes e cut some)
+one_refusal bytes d e (unwritten few cut wrong) (unwritten small whole other) = text.one_refusal (tokens_in bytes) d e wrong other
+one_refusal bytes d e (unwritten few cut wrong) (faulty m w other) = absurd (text.never_both (tokens_in bytes) m d w.machine wrong)
+one_refusal bytes d e (faulty m w wrong) (long over is) = let few = w.few in absurd (omega (arith, over, few))
+one_refusal bytes d e (faulty m w wrong) (uncut few some) = absurd (cut_or_not bytes e w.cut some)
+one_refusal bytes d e (faulty m w wrong) (unwritten few cut other) = absurd (text.never_both (tokens_in bytes) m e w.machine other)
+one_refusal bytes d e (faulty m w wrong) (faulty k u other) =
     let same : m ≡ k = written_once bytes m k w u in
-    one_fault k (tokens_in bytes).pragmas d e (subst (λ (t : MachineTree). IsRefusedFor t (tokens_in bytes).pragmas d) same no) other
+    one_fault k (tokens_in bytes).pragmas d e (subst (λ (t : MachineTree). IsRefusedFor t (tokens_in bytes).pragmas d) same wrong) other
 
 -- ports in the order of names that are permutations of each other are equal; all else is told by the tree
 machine_once : (m : MachineTree) (n : Named) (f g : Fsm) → IsMachineOf m n f → IsMachineOf m n g → f ≡ g

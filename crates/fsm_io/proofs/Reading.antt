@@ -1,5 +1,5 @@
 -- From bytes to what they are.
-use Rattle.std.proofs.Common.{◌≡◌, ◌≤◌, ℕ, List, length, Option, None, sym, subst}
+use Rattle.std.proofs.Common.{◌≡◌, ◌≤◌, ℕ, List, length, Option, None, sym, subst, Result, Ok, Err, IfErr}
 use Rattle.vlsi_base.specs.declared.limits.TheConstants.{MOST_SOURCE_BYTES}
 use Rattle.vlsi_base.specs.declared.pragma.Pragma.{Pragma}
 use Rattle.vlsi_base.specs.declared.fault.ReadError.{ReadError}
@@ -40,3 +40,7 @@ pub faulty_refused : (bytes : List ℕ) (tokens : Tokens) (m : MachineTree) (pra
 faulty_refused bytes tokens m pragmas errors.Memory w is these h = tt
 faulty_refused bytes tokens m pragmas (errors.Input f) w is these h = faulty_for bytes tokens m pragmas (errors.Input f) w is these h
 faulty_refused bytes tokens m pragmas (errors.Limit l) w is these h = faulty_for bytes tokens m pragmas (errors.Limit l) w is these h
+
+pub in_err : {X : Type 0} {P Q : ReadError → Type 0} → ((e : ReadError) → P e → Q e) → (r : Result X ReadError) → IfErr r P → IfErr r Q
+in_err step (Ok x) is = tt
+in_err step (Err e) is = step e is

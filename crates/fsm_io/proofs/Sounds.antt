@@ -45,34 +45,34 @@ after-append : (before : List (List ℕ)) (xs ys : List Mention) → after befor
 after-append before [] ys = refl
 after-append before (x ∷ xs) ys = after-append (listed_after before x) xs ys
 
-good_left : (all : List (List ℕ)) (to : List ℕ) (before : List (List ℕ)) (xs ys : List Mention) → bad_states all to before (xs ++ ys) ≡ [] → bad_states all to before xs ≡ []
+pub good_left : (all : List (List ℕ)) (to : List ℕ) (before : List (List ℕ)) (xs ys : List Mention) → bad_states all to before (xs ++ ys) ≡ [] → bad_states all to before xs ≡ []
 good_left all to before xs ys e = empty_left (bad_states all to before xs) (bad_states all to (after before xs) ys) (sym (bad-append all to before xs ys) ∙ e)
 
-good_right : (all : List (List ℕ)) (to : List ℕ) (before : List (List ℕ)) (xs ys : List Mention) → bad_states all to before (xs ++ ys) ≡ [] → bad_states all to (after before xs) ys ≡ []
+pub good_right : (all : List (List ℕ)) (to : List ℕ) (before : List (List ℕ)) (xs ys : List Mention) → bad_states all to before (xs ++ ys) ≡ [] → bad_states all to (after before xs) ys ≡ []
 good_right all to before xs ys e = empty_right (bad_states all to before xs) (bad_states all to (after before xs) ys) (sym (bad-append all to before xs ys) ∙ e)
 
 -- no form is left out in any of these places
-abbrev AllSupported : MachineTree → Named → List Mention → Type 0
+abbrev pub AllSupported : MachineTree → Named → List Mention → Type 0
 AllSupported m n ms = (x : Mention) → In x ms → forms_at (symbols m) n x ≡ []
 
-left : (m : MachineTree) (n : Named) (xs ys : List Mention) → AllSupported m n (xs ++ ys) → AllSupported m n xs
+pub left : (m : MachineTree) (n : Named) (xs ys : List Mention) → AllSupported m n (xs ++ ys) → AllSupported m n xs
 left m n xs ys h x i = h x (In-left x xs ys i)
 
-right : (m : MachineTree) (n : Named) (xs ys : List Mention) → AllSupported m n (xs ++ ys) → AllSupported m n ys
+pub right : (m : MachineTree) (n : Named) (xs ys : List Mention) → AllSupported m n (xs ++ ys) → AllSupported m n ys
 right m n xs ys h x i = h x (In-right x xs ys i)
 
-behind : (m : MachineTree) (n : Named) (x : Mention) (ys : List Mention) → AllSupported m n (x ∷ ys) → AllSupported m n ys
+pub behind : (m : MachineTree) (n : Named) (x : Mention) (ys : List Mention) → AllSupported m n (x ∷ ys) → AllSupported m n ys
 behind m n y ys h x i = h x (there i)
 
 unseen : (m : MachineTree) (n : Named) (seen : Bool) (line : ℕ) (called : NewName) → forms_at (symbols m) n (selecting seen line called) ≡ [] → seen ≡ true → ⊥
 unseen m n true line called e h = absurd cc
 unseen m n false line called e h = false≢true h
 
-first_case : (m : MachineTree) (n : Named) (seen : Bool) (line : ℕ) (called : NewName) → forms_at (symbols m) n (selecting seen line called) ≡ [] → seen ≡ false
+pub first_case : (m : MachineTree) (n : Named) (seen : Bool) (line : ℕ) (called : NewName) → forms_at (symbols m) n (selecting seen line called) ≡ [] → seen ≡ false
 first_case m n true line called e = absurd cc
 first_case m n false line called e = refl
 
-neither : (a b : Bool) → (a || b) ≡ false → (a ≡ false) × (b ≡ false)
+pub neither : (a b : Bool) → (a || b) ≡ false → (a ≡ false) × (b ≡ false)
 neither true b e = absurd cc
 neither false b e = (refl, e)
 
@@ -177,7 +177,7 @@ assignment_sound m n vars t line e rest h true f b = (known_next (texts m.states
 assignment_sound m n vars t line e rest h false f b = outputs_sound (up 0 (length (texts m.states.states))) vars (target_names (symbols m) t) (formulas (symbols m) e) rest h
 
 -- nothing in these places is no state, where these were listed before
-abbrev Good : MachineTree → Named → List (List ℕ) → List Mention → Type 0
+abbrev pub Good : MachineTree → Named → List (List ℕ) → List Mention → Type 0
 Good m n before ms = bad_states (texts m.states.states) n.next before ms ≡ []
 
 one_line : {A : Type 0} (xs : List A) → xs ++ [] ≡ [] → xs ≡ []

@@ -24,7 +24,7 @@ either_true : (a b : Bool) → (a || b) ≡ true → (a ≡ true) ⊎ (b ≡ tru
 either_true true b e = inl refl
 either_true false b e = inr e
 
-or_second : (a b : Bool) → b ≡ true → (a || b) ≡ true
+pub or_second : (a b : Bool) → b ≡ true → (a || b) ≡ true
 or_second true b e = refl
 or_second false b e = e
 
@@ -37,11 +37,11 @@ number_is (x ∷ all) t e = by (bytes_eq x t) refl e (number_is all t) where
   by true is e rest = (omega arith, same_of x t is)
   by false is e rest = let r = rest e in (let a = r.0 in omega (arith, a), let step : state_number all t + 1 ≡ suc (state_number all t) = omega arith in ap (λ k. get_or (x ∷ all) k []) step ∙ r.1)
 
-both : (a b : Bool) → (a && b) ≡ true → (a ≡ true) × (b ≡ true)
+pub both : (a b : Bool) → (a && b) ≡ true → (a ≡ true) × (b ≡ true)
 both true b e = (refl, e)
 both false b e = absurd cc
 
-no_bad : (a : Bool) (u : Use) (rest : List Use) → cond a [] (u ∷ []) ++ rest ≡ [] → (a ≡ true) × (rest ≡ [])
+pub no_bad : (a : Bool) (u : Use) (rest : List Use) → cond a [] (u ∷ []) ++ rest ≡ [] → (a ≡ true) × (rest ≡ [])
 no_bad true u rest e = (refl, e)
 no_bad false u rest e = absurd cc
 
@@ -49,7 +49,7 @@ is_not : (b : Bool) → not b ≡ true → b ≡ false
 is_not true e = absurd cc
 is_not false e = refl
 
-one_of-append : (xs ys : List (List ℕ)) (t : List ℕ) → is_one_of (xs ++ ys) t ≡ (is_one_of xs t || is_one_of ys t)
+pub one_of-append : (xs ys : List (List ℕ)) (t : List ℕ) → is_one_of (xs ++ ys) t ≡ (is_one_of xs t || is_one_of ys t)
 one_of-append [] ys t = refl
 one_of-append (x ∷ xs) ys t = by (bytes_eq x t) (one_of-append xs ys t) where
   by : (b : Bool) → is_one_of (xs ++ ys) t ≡ (is_one_of xs t || is_one_of ys t) → (b || is_one_of (xs ++ ys) t) ≡ ((b || is_one_of xs t) || is_one_of ys t)

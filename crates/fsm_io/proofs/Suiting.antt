@@ -1,5 +1,5 @@
 -- What a text on its way through the checks gives.
-use Rattle.std.proofs.Common.{◌≡◌, ℕ, Bool, List, [], None, map, length, bytes_eq, refl, sym, ap, subst, ◌∙◌}
+use Rattle.std.proofs.Common.{◌≡◌, ℕ, Bool, false, List, [], None, map, length, bytes_eq, refl, sym, ap, subst, ◌∙◌}
 use Rattle.std.specs.List.{flat_map, All}
 use Rattle.vlsi_base.specs.declared.name.Name.{Name}
 use Rattle.vlsi_base.specs.declared.name.Port.{Port}

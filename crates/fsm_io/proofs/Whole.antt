@@ -31,6 +31,7 @@ use Rattle.fsm_io.specs.Checks.{ports_count}
 use Rattle.fsm_io.specs.Pieces.{early_fault, body_over, IsFaultBehind}
 use Rattle.fsm_io.proofs.Fine.{stages}
 use Rattle.fsm_io.proofs.Surely.{over_any}
+use Rattle.fsm_io.proofs.Listed.{lists_states}
 use Rattle.fsm_io.proofs.Checking.{checked}
 
 of_symbol : (o : Option Symbol) (later : Option ReadError) → if_symbol o later ≡ None → (o ≡ None) × (later ≡ None)
@@ -60,7 +61,7 @@ fsm_is_checked bytes f is =
     let pragmas = (tokens_in bytes).pragmas in
     let a = of_symbol (first_repeated [] (symbols m)) (fault_of m (named m pragmas)) p.no_fault in
     let behind : fault_behind m is.names ≡ None = ap (fault_of m) (sym p.names) ∙ a.1 in
-    checked m is.names f a.0 (roles_fit m pragmas is.names p.names) p.some_state (record { no_fault = behind; few_ports = p.few_ports; few_states = p.few_states }) is.machine
+    checked m is.names f a.0 (roles_fit m pragmas is.names p.names) p.some_state (lists_states (tokens_in bytes) m is.written.machine) (record { no_fault = behind; few_ports = p.few_ports; few_states = p.few_states }) is.machine
 
 -- ---- refusals
 

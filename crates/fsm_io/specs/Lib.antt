@@ -1,5 +1,6 @@
 pub mod Known
 pub mod Looks
+pub mod Listed
 pub mod Widths
 pub mod Drivers
 pub mod Unsupported
@@ -11,4 +12,5 @@ pub mod Checks
 pub mod Text
 pub mod Measure
 pub mod Pieces
+pub mod Linked
 pub mod Laws

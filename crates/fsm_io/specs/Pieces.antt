@@ -35,6 +35,7 @@ use Rattle.fsm_io.specs.declared.check.Checking.{Checking}
 use Rattle.fsm_io.specs.declared.bits.Frame.{Frame as HeldFrame}
 use Rattle.fsm_io.specs.Known.{Named, symbols, fits_all}
 use Rattle.fsm_io.specs.Looks.{Mention, asserting, assigning, testing, selecting, listing, all_mentions, body_has_case, all_uses}
+use Rattle.fsm_io.specs.Listed.{HasStates}
 use Rattle.fsm_io.specs.Widths.{all_widths}
 use Rattle.fsm_io.specs.Drivers.{first_unassigned, or_else}
 use Rattle.fsm_io.specs.Unsupported.{may_read, read_forms, all_forms}
@@ -176,6 +177,7 @@ pub record Suits (c : Checking) : Type 0 where
   pub once : first_repeated [] (symbols (tree_of c)) ≡ None
   pub roles : HasRoles (tree_of c) (roles_of c)
   pub some_state : 0 < length (tree_of c).states.states
+  pub listed : HasStates (tree_of c).step.body
 
 -- the checks in three stages
 abbrev pub names_fault : MachineTree → Named → Option ReadError

@@ -12,6 +12,9 @@ ghost use Rattle.fsm_io.specs.Elaboration.{condition_of, assign_bits, body_bits,
 ghost use Rattle.fsm_io.specs.Pieces.{IsFrame, frame_view, CanBeRead, CanBeAssigned, StatementFits, BodyFits, PartsFit, BranchesFit};
 
 use crate::known::same;
+use crate::linked::{
+    Branch, Part, last_part, last_parts, statements, with_branches, with_output, with_parts,
+};
 use crate::names::plain_name;
 use crate::states::state_number;
 use bool_expr::{Expr, renumbered};
@@ -42,19 +45,6 @@ fn first(bits: Vec<Expr>) -> Expr
         Some(bit) => bit,
         None => Expr::Const(false),
     }
-}
-
-/// An assignment to a bit of an output, before others.
-fn with_output(
-    alloc: Global,
-    name: Name,
-    value: Expr,
-    rest: Statements,
-) -> Result<Statements, AllocError>
-    ensures { IfOk result (λ made. code.body_view made ≡ assign (output name (view value)) (code.body_view rest)) }
-{
-    let after = Box::new(alloc, rest)?;
-    Ok(Statements::Assign(Assignment::Output(name, value), after))
 }
 
 impl Frame<'_> {
@@ -180,68 +170,71 @@ impl Frame<'_> {
         requires fits { BodyFits self.now (body_view body.now) }
         ensures { IfOk result (λ made. code.body_view made ≡ body_bits (frame_view self.now) (body_view body.now)) }
     {
-        match body {
-            Body::Finish => Ok(Statements::Finish),
-            Body::Next(statement, more) => {
-                let rest = self.body(more)?;
-                let made = self.before(statement, rest)?;
-                Ok(made)
-            }
+        let mut left = statements(self.alloc, body)?;
+        let mut made = Statements::Finish;
+        while let Some(statement) = left.pop() {
+            made = self.before(statement, made)?;
         }
+        Ok(made)
     }
 
+    /// The parts of an if.
     #[cycle(bits)]
     fn parts(&self, parts: &Parts) -> Result<BitParts, AllocError>
         requires frame { IsFrame self.now }
         requires fits { PartsFit self.now (parts_view parts.now) }
         ensures { IfOk result (λ made. code.parts_view made ≡ parts_bits (frame_view self.now) (parts_view parts.now)) }
     {
-        match parts {
-            Parts::Only(_, condition, body) => {
-                let made = self.condition(condition)?;
-                let body = self.body(body)?;
-                let body = Box::new(self.alloc, body)?;
-                Ok(BitParts::Only(made, body))
-            }
-            Parts::Either(_, condition, body, otherwise) => {
-                let made = self.condition(condition)?;
-                let body = self.body(body)?;
-                let last = self.body(otherwise)?;
-                let body = Box::new(self.alloc, body)?;
-                let last = Box::new(self.alloc, last)?;
-                Ok(BitParts::Either(made, body, last))
-            }
-            Parts::Further(_, condition, body, more) => {
-                let made = self.condition(condition)?;
-                let body = self.body(body)?;
-                let more = self.parts(more)?;
-                let body = Box::new(self.alloc, body)?;
-                let more = Box::new(self.alloc, more)?;
-                Ok(BitParts::Further(made, body, more))
+        let mut made = Vec::new(self.alloc);
+        let mut rest = parts;
+        loop {
+            match rest {
+                Parts::Only(_, condition, body) => {
+                    let condition = self.condition(condition)?;
+                    let body = self.body(body)?;
+                    let last = last_part(self.alloc, Part { condition, body })?;
+                    return with_parts(self.alloc, made, last);
+                }
+                Parts::Either(_, condition, body, otherwise) => {
+                    let condition = self.condition(condition)?;
+                    let body = self.body(body)?;
+                    let otherwise = self.body(otherwise)?;
+                    let last = last_parts(self.alloc, Part { condition, body }, otherwise)?;
+                    return with_parts(self.alloc, made, last);
+                }
+                Parts::Further(_, condition, body, more) => {
+                    let condition = self.condition(condition)?;
+                    let body = self.body(body)?;
+                    made.push(Part { condition, body })?;
+                    rest = more;
+                }
             }
         }
     }
 
+    /// The branches of a case.
     #[cycle(bits)]
     fn branches(&self, branches: &Branches) -> Result<BitBranches, AllocError>
         requires frame { IsFrame self.now }
         requires fits { BranchesFit self.now (branches_view branches.now) }
         ensures { IfOk result (λ made. code.branches_view made ≡ branches_bits (frame_view self.now) (branches_view branches.now)) }
     {
-        match branches {
-            Branches::Closed => Ok(BitBranches::Closed),
-            Branches::Others(body) => {
-                let last = self.body(body)?;
-                let last = Box::new(self.alloc, last)?;
-                Ok(BitBranches::Others(last))
-            }
-            Branches::Listed(names, body, more) => {
-                let states = self.numbers_of(names.as_slice())?;
-                let body = self.body(body)?;
-                let more = self.branches(more)?;
-                let body = Box::new(self.alloc, body)?;
-                let more = Box::new(self.alloc, more)?;
-                Ok(BitBranches::Listed(states, body, more))
+        let mut made = Vec::new(self.alloc);
+        let mut rest = branches;
+        loop {
+            match rest {
+                Branches::Closed => return with_branches(self.alloc, made, BitBranches::Closed),
+                Branches::Others(body) => {
+                    let last = self.body(body)?;
+                    let last = Box::new(self.alloc, last)?;
+                    return with_branches(self.alloc, made, BitBranches::Others(last));
+                }
+                Branches::Listed(names, body, more) => {
+                    let states = self.numbers_of(names.as_slice())?;
+                    let body = self.body(body)?;
+                    made.push(Branch { states, body })?;
+                    rest = more;
+                }
             }
         }
     }

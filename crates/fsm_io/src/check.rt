@@ -11,6 +11,7 @@ ghost use Rattle.fsm_code.specs.View.{body_view};
 ghost use Rattle.fsm_text.specs.Written.{machine_view};
 ghost use Rattle.fsm_io.specs.Known.{symbols};
 ghost use Rattle.fsm_io.specs.Looks.{all_uses};
+ghost use Rattle.fsm_io.specs.Listed.{HasStates};
 ghost use Rattle.fsm_io.specs.Widths.{all_widths};
 ghost use Rattle.fsm_io.specs.Drivers.{first_unassigned};
 ghost use Rattle.fsm_io.specs.Unsupported.{all_forms};
@@ -346,6 +347,7 @@ fn check_named(
     requires once { first_repeated [] (symbols (machine_view file.now)) ≡ None }
     requires roles { HasRoles (machine_view file.now) (named_of roles) }
     requires some_state { 0 < length (machine_view file.now).states.states }
+    requires listed { HasStates (machine_view file.now).step.body }
     ensures machine { IfOk result (λ f. PassesBehind (machine_view file.now) (named_of roles.entry) × IsMachineOf (machine_view file.now) (named_of roles.entry) f) }
     ensures refused { IfErr result (λ e. IsRefusedBehind (machine_view file.now) (named_of roles.entry) e) }
 {
@@ -371,7 +373,8 @@ pub fn check_fsm(
     file: &StateFile,
     pragmas: &[Pragma],
 ) -> Result<StateMachine, ReadError>
-    requires { 0 < length (machine_view file.now).states.states }
+    requires some_state { 0 < length (machine_view file.now).states.states }
+    requires listed { HasStates (machine_view file.now).step.body }
     ensures machine { IfOk result (λ f. IsPassed (machine_view file.now) pragmas.now f) }
     ensures refused { IfErr result (λ e. IsRefusedOrMemory (machine_view file.now) pragmas.now e) }
 {

@@ -11,6 +11,7 @@ mod faults;
 mod forms;
 mod known;
 mod laws;
+mod linked;
 mod measure;
 mod mentions;
 mod names;

@@ -1,4 +1,7 @@
-use Rattle.std.proofs.Common.{sym, ◌∙◌}
+use Rattle.std.proofs.Common.{ℕ, List, refl, sym, subst, ◌∙◌}
+use Rattle.vlsi_base.specs.declared.name.Name.{Name}
+use Rattle.source_meaning.specs.Symbols.{all_names}
+use Rattle.vlsi_model.specs.Numbered.{HasVars}
 use Rattle.fsm_io.proofs.Suiting.{suits_different, vars_declared, vars_differ, frame_ok, fits_ok}
 use Rattle.fsm_io.proofs.check.Checking.body.Goals as goal
 
@@ -12,7 +15,12 @@ pub var_numbers-requires-clause-different : goal.var_numbers-requires-clause-dif
 var_numbers-requires-clause-different c = vars_differ c.args.self.now c.requires.suits c.args.ports.now c.deref.result.now c.requires.moved (c.deref.ensures.value ∙ c.in_ok-vars.ensures)
 
 pub body-requires-clause-frame : goal.body-requires-clause-frame
-body-requires-clause-frame c = ?
+body-requires-clause-frame c =
+    let all = all_names c.args.self.now.numbers.now in
+    frame_ok c.args.self.now _ c.args.ports.now c.requires.suits refl (c.deref-2.ensures.value ∙ c.in_ok-vars.ensures)
+    (subst (λ (ns : List Name). HasVars all ns c.deref-3.result.now) (c.deref.ensures.value ∙ sym c.deref-2.ensures.value)
+    (subst (λ (ps : List ℕ). HasVars all c.deref.result.now ps) (sym c.deref-3.ensures.value) c.in_ok-places.ensures))
+    c.requires.moved
 
 pub body-requires-clause-fits : goal.body-requires-clause-fits
-body-requires-clause-fits c = ?
+body-requires-clause-fits c = fits_ok c.args.self.now _ c.args.ports.now c.requires.suits c.requires.sound refl (c.deref-2.ensures.value ∙ c.in_ok-vars.ensures) refl c.requires.moved
