@@ -1,3 +1,10 @@
 pub mod Spelling
 pub mod Values
 pub mod Statements
+pub mod Declared
+pub mod Whole
+pub mod Fits
+pub mod Supplied
+pub mod Known
+pub mod Machines
+pub mod Sentence

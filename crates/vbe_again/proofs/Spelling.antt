@@ -86,7 +86,7 @@ flat_primary line l same = by l.shape refl where
   by turned e = rw e (flat_closed line l.text same)
   by (joined g) e = rw e (flat_closed line l.text same)
 
-flat_operand : (line : ℕ) (l : Laid) → line_of line l.text ≡ line → line_of line (operand l) ≡ line
+pub flat_operand : (line : ℕ) (l : Laid) → line_of line l.text ≡ line → line_of line (operand l) ≡ line
 flat_operand line l same = by l.shape refl where
   by : (k : Shape) → l.shape ≡ k → line_of line (operand l) ≡ line
   by atom e = rw e same
@@ -457,7 +457,7 @@ chain_more names g a b n line s few free c p =
     }
 
 -- a chain of one operand or more behind the first one, by its gate
-joined_whole : (g : Gate) (first : Tree) (others : List (ℕ × Tree)) (last : ℕ × Tree) (n : ℕ) {ts us : List PlacedToken} {s s' s'' : State} → chains g g ≡ true
+pub joined_whole : (g : Gate) (first : Tree) (others : List (ℕ × Tree)) (last : ℕ × Tree) (n : ℕ) {ts us : List PlacedToken} {s s' s'' : State} → chains g g ≡ true
     → Spells (relation n (inner_of n)) first ts s s' → Spells (list (joined_by (gate_form g) (relation n (inner_of n)))) (others ++ last ∷ []) us s' s''
     → Spells (expression_over n (inner_of n)) (folded (operator_of g) first (others ++ last ∷ [])) (ts ++ us) s s''
 unfolding expression_over logical
@@ -519,6 +519,7 @@ within_alone g (joined h) P n c within = subst (λ b. unless_within b P n) (unch
 pair_whole : (names : List Name) (g : Gate) (a b : Expression) → Can names a → Can names b → (n line : ℕ) (s : State) → Few s → IsWithin names (pair g a b) n
     → s.operators + operators (pair g a b) ≤ CHAIN → (c : Bool) → chains g g ≡ c
     → Spells (expression_over n (inner_of n)) (tree names line (pair g a b)) (placed line (expression_layout names (pair g a b))) s (with_links (operators (pair g a b)) s)
+unfolding chain_more as_leading
 pair_whole names g a b p q n line s few within free true c =
     let A = as_leading names g a p n line s few within.0 (omega (arith, free)) in
     let B = as_operand names b q n line (with_operator (with_links (operators a) s)) few within.1 (omega (arith, free)) in

@@ -2,6 +2,8 @@
 use Rattle.std.proofs.Common.{◌≡◌, ℕ, zero, suc, ◌+◌, ◌-◌, ◌≤◌, ◌<◌, ◌==◌, Bool, true, false, List, [], ◌∷◌, ◌++◌, Option, None, Some, refl, sym, ap, subst, ◌∙◌, arith, append_assoc}
 use Rattle.std.specs.Prelude.{codes}
 use Rattle.std.proofs.lemmas.List.{append-nil}
+use Rattle.std.specs.List.{All}
+use Rattle.std.proofs.lemmas.List.Elements.{All-head, All-tail}
 use Rattle.std.proofs.lemmas.Bool.{ne_eqb}
 use Rattle.vlsi_base.specs.declared.name.Name.{Name}
 use Rattle.vlsi_base.specs.declared.expression.Operator.TheVariants as operator
@@ -37,8 +39,8 @@ use Rattle.vhdl_again.proofs.Steps.{Few, plain_step, opens_step, spells_step, st
 use Rattle.vst_write.specs.Structure.{bit_layout, name_layout}
 use Rattle.vst_again.specs.Placed.{selected as selected_by}
 use Rattle.vbe_write.specs.Expressions.{laid, operand, in_parentheses, value_layout}
-use Rattle.vbe_write.specs.Written.{equation_layout, condition_layout, rise_layout, guard_end, guard_layout, label, block_head_layout, block_end, block_layout, loading_layout, register_layout}
-use Rattle.vbe_again.specs.Placed.{tree, placed_value, placed_target, placed_assignment, rises, with_condition, placed_guard, placed_block}
+use Rattle.vbe_write.specs.Written.{equation_layout, equations_layout, condition_layout, rise_layout, guard_end, guard_layout, label, block_head_layout, block_end, block_layout, loading_layout, register_layout, blocks_layout, clocked_layout, storage_layout}
+use Rattle.vbe_again.specs.Placed.{tree, placed_value, placed_target, placed_assignment, placed_equations, rises, with_condition, placed_guard, placed_block, placed_blocks, placed_clocked, placed_storage}
 use Rattle.vbe_again.specs.Nesting.{shape_of, operand_within, IsWithin, IsValueWithin}
 use Rattle.vbe_again.specs.Said.{operators, alternatives, IsFewValues}
 use Rattle.vbe_again.proofs.Spelling.{gate_form, inner_of, on_line, flat, flat_operand, can_spell, as_operand, spell_closed_in, spell_nested, joined_whole, none_more}
@@ -296,10 +298,146 @@ guard_on_line : (vars : List Name) (clock : Name) (k : ℕ) (e : Expression) (li
     → placed line (block_head_layout vars clock k e ++ rest)
     ≡ at (token.Identifier (label k)) line ∷ at (token.Sign sign.Colon) line ∷ (at (token.Keyword word.Block) line ∷ at (token.Sign sign.LeftParen) line ∷ placed line (relation_layout vars clock e) ++ (at (token.Sign sign.RightParen) line ∷ []))
     ++ (at (token.Keyword word.Begin) (line_behind line) ∷ placed (line_behind (line_behind line)) rest)
-guard_on_line vars clock k e line rest same = ?
+guard_on_line vars clock k e line rest same =
+    let C = condition_layout vars e in
+    let c = placed line C in
+    let B : List Written = a_word word.Begin ∷ turn ∷ [] in
+    let P : List Written = a_sign sign.RightParen ∷ [] in
+    let D : List Written = gap ∷ a_sign sign.Equal ∷ gap ∷ says (token.Bit true) ∷ [] in
+    let three : List PlacedToken = at (token.Sign sign.RightParen) line ∷ at (token.Sign sign.Equal) line ∷ at (token.Bit true) line ∷ [] in
+    let close : List PlacedToken = at (token.Sign sign.RightParen) line ∷ [] in
+    let T : List PlacedToken = at (token.Keyword word.Begin) (line_behind line) ∷ placed (line_behind (line_behind line)) rest in
+    let front : List PlacedToken =
+    at (token.Identifier (label k)) line ∷ at (token.Sign sign.Colon) line ∷ at (token.Keyword word.Block) line ∷ at (token.Sign sign.LeftParen) line ∷ at (token.Sign sign.LeftParen) line ∷ at (token.Identifier clock.text) line
+    ∷ at (token.Keyword word.And) line ∷ at (token.Keyword word.Not) line ∷ at (token.Identifier clock.text) line ∷ at (token.Sign sign.Tick) line ∷ at (token.Identifier (codes "stable")) line ∷ [] in
+    let left : placed line (((C ++ guard_end) ++ B) ++ rest) ≡ c ++ (three ++ (close ++ T)) =
+    ap (placed line) (append_assoc (C ++ guard_end) B rest ∙ append_assoc C guard_end (B ++ rest)) ∙ on_line line C (guard_end ++ (B ++ rest)) same in
+    let right : (placed line ((C ++ P) ++ D) ++ close) ++ T ≡ c ++ (three ++ (close ++ T)) =
+    ap (λ (z : List PlacedToken). (z ++ close) ++ T) (ap (placed line) (append_assoc C P D) ∙ on_line line C (P ++ D) same)
+    ∙ append_assoc (c ++ three) close T ∙ append_assoc c three (close ++ T) in
+    ap (λ (z : List PlacedToken). front ++ z) (left ∙ sym right)
+
+-- the condition stands on one line
+condition_flat : (vars : List Name) (e : Expression) (line : ℕ) → line_of line (condition_layout vars e) ≡ line
+condition_flat vars (constant true) line = refl
+condition_flat vars (constant false) line = refl
+condition_flat vars (variable k) line = flat_operand line (laid vars (variable k)) (flat vars line (variable k))
+condition_flat vars (not_of e) line = flat_operand line (laid vars (not_of e)) (flat vars line (not_of e))
+condition_flat vars (pair g a b) line = flat_operand line (laid vars (pair g a b)) (flat vars line (pair g a b))
+condition_flat vars (choice c a b) line = flat_operand line (laid vars (choice c a b)) (flat vars line (choice c a b))
+
+-- a block with these assignments, wherever they stand
+pub spell_block : (vars : List Name) (clock : Name) (e : Expression) (k room n line : ℕ) (loads : List AssignmentTree) (ws : List Written) (s : State) → Few s → (room == 0) ≡ false → room - 1 ≡ suc n
+    → operand_within (shape_of vars e) (IsWithin vars e) n → 4 + operators e ≤ CHAIN
+    → ((t : State) → Few t → Counted (list (guarded_assignment room)) loads (placed (line_behind (line_behind line)) ws) t)
+    → Counted (statement room) (blocked (record { guard = placed_guard vars line clock e; line = line; assignments = loads })) (placed line (block_layout vars clock k e ws)) s
+unfolding statement labelled block guarded_assignments repeated code_of
+spell_block vars clock e k room n line loads ws s few deep deeper within free inside =
+    let y : StatementTree = blocked (record { guard = placed_guard vars line clock e; line = line; assignments = loads }) in
+    let g = spell_guard vars clock e room n line s few deep deeper within free in
+    let c = inside g.behind g.few in
+    let b = line_behind line in
+    let l = line_behind b in
+    let m = line_of l ws in
+    let A = placed l ws in
+    let i : PlacedToken = at (token.Identifier (label k)) line in
+    let w : PlacedToken = at (token.Sign sign.Colon) line in
+    let G : List PlacedToken = at (token.Keyword word.Block) line ∷ at (token.Sign sign.LeftParen) line ∷ placed line (relation_layout vars clock e) ++ (at (token.Sign sign.RightParen) line ∷ []) in
+    let start : PlacedToken = at (token.Keyword word.Begin) b in
+    let end : List PlacedToken = at (token.Keyword word.End) m ∷ [] in
+    let last : List PlacedToken = at (token.Keyword word.Block) m ∷ at (token.Sign sign.Semicolon) m ∷ [] in
+    let laid_is : placed line (block_layout vars clock k e ws) ≡ i ∷ w ∷ G ++ ((start ∷ A ++ end) ++ last) =
+    guard_on_line vars clock k e line (ws ++ block_end) (condition_flat vars e line)
+    ∙ ap (λ (z : List PlacedToken). i ∷ w ∷ G ++ (start ∷ z)) (placed_append l ws block_end ∙ sym (append_assoc A end last)) in
+    record {
+      behind = c.behind;
+      spelled =
+          spell_as (sym laid_is)
+          (spell_right
+          (spell_lead form.Identifier (λ _. plain) i y refl (plain_step s few)
+          (spell_left
+          (spell_sign sign.Colon line y few
+          (spell_right (spell_left
+          (spell_then (line, placed_guard vars line clock e) y g.spelled
+          (spell_then loads y
+          (spell_word word.Begin b loads g.few (spell_then loads loads c.spelled (spell_word word.End m loads c.few (spell_nothing loads c.behind))))
+          (spell_word word.Block m y c.few
+          (spell_then tt y (spell_right (spell_sign sign.Semicolon m tt c.few (spell_nothing tt c.behind))) (spell_nothing y c.behind)))))))))));
+      few = c.few;
+      same_names = c.same_names ∙ g.same_names;
+      same_bits = c.same_bits ∙ g.same_bits;
+    }
+
+-- ---- statements one behind the other
+
+pub counted_as : {A : Type 0} {G : Grammar A} {x : A} {ts us : List PlacedToken} {s : State} → ts ≡ us → Counted G x ts s → Counted G x us s
+counted_as same c = record { behind = c.behind; spelled = spell_as same c.spelled; few = c.few; same_names = c.same_names; same_bits = c.same_bits }
+
+pub counted_none : {A : Type 0} (L : Grammar A) (s : State) → Few s → Counted (list L) [] [] s
+counted_none L s few = record { behind = s; spelled = spell_none L s; few = few; same_names = refl; same_bits = refl }
+
+pub counted_more : {A : Type 0} {L : Grammar A} {x : A} {xs : List A} {ts us : List PlacedToken} {s : State} → Counted L x ts s → ((t : State) → Few t → Counted (list L) xs us t)
+    → Counted (list L) (x ∷ xs) (ts ++ us) s
+counted_more one more =
+    let back = more one.behind one.few in
+    record {
+      behind = back.behind;
+      spelled = spell_more one.spelled back.spelled;
+      few = back.few;
+      same_names = back.same_names ∙ one.same_names;
+      same_bits = back.same_bits ∙ one.same_bits;
+    }
+
+-- what stands behind them is spelled behind them
+pub spell_equations : (vars names : List Name) (es : List Equation) (room line : ℕ) (xs : List StatementTree) (us : List PlacedToken) (s : State) → Few s → (room == 0) ≡ false
+    → All (λ e. Holds vars e.expr room) es → ((t : State) → Few t → Counted (list (statement room)) xs us t)
+    → Counted (list (statement room)) (placed_equations vars line names es ++ xs) (placed line (equations_layout vars names es) ++ us) s
+spell_equations vars [] es room line xs us s few deep holds back = back s few
+spell_equations vars (n ∷ names) [] room line xs us s few deep holds back = back s few
+spell_equations vars (n ∷ names) (e ∷ es) room line xs us s few deep holds back =
+    let H : Equation → Type 0 = λ e. Holds vars e.expr room in
+    let A = placed line (equation_layout vars n e.expr) in
+    let l = line_of line (equation_layout vars n e.expr) in
+    let B = placed l (equations_layout vars names es) in
+    counted_as
+    (sym (append_assoc A B us) ∙ ap (λ (z : List PlacedToken). z ++ us) (sym (placed_append line (equation_layout vars n e.expr) (equations_layout vars names es))))
+    (counted_more (spell_equation vars n e.expr room line s few deep (All-head H e es holds))
+    (λ t f. spell_equations vars names es room l xs us t f deep (All-tail H e es holds) back))
 
 -- what a register's block may have
 pub record CanLoad (vars : List Name) (r : Register) (room n : ℕ) : Type 0 where
   pub holds : Holds vars r.next room
   pub within : operand_within (shape_of vars r.enable) (IsWithin vars r.enable) n
   pub free : 4 + operators r.enable ≤ CHAIN
+
+one_loading : (vars : List Name) (r : Register) (room line : ℕ) → (room == 0) ≡ false → Holds vars r.next room → (t : State) → Few t
+    → Counted (list (guarded_assignment room)) (placed_assignment vars line r.name r.next ∷ []) (placed line (loading_layout vars r)) t
+one_loading vars r room line deep holds t few =
+    counted_as (append-nil (placed line (loading_layout vars r))) (counted_more (spell_loading vars r room line t few deep holds) (λ u f. counted_none (guarded_assignment room) u f))
+
+spell_blocks : (vars : List Name) (clock : Name) (k : ℕ) (rs : List Register) (room n line : ℕ) (s : State) → Few s → (room == 0) ≡ false → room - 1 ≡ suc n → All (λ r. CanLoad vars r room n) rs
+    → Counted (list (statement room)) (placed_blocks vars line clock k rs) (placed line (blocks_layout vars clock k rs)) s
+spell_blocks vars clock k [] room n line s few deep deeper can = counted_none (statement room) s few
+spell_blocks vars clock k (r ∷ rs) room n line s few deep deeper can =
+    let C : Register → Type 0 = λ r. CanLoad vars r room n in
+    let c = All-head C r rs can in
+    let l = line_of line (register_layout vars clock k r) in
+    counted_as (sym (placed_append line (register_layout vars clock k r) (blocks_layout vars clock (k + 1) rs)))
+    (counted_more
+    (spell_block vars clock r.enable k room n line (placed_assignment vars (line_behind (line_behind line)) r.name r.next ∷ []) (loading_layout vars r) s few deep deeper c.within c.free
+    (λ t f. one_loading vars r room (line_behind (line_behind line)) deep c.holds t f))
+    (λ t f. spell_blocks vars clock (k + 1) rs room n l t f deep deeper (All-tail C r rs can)))
+
+spell_clocked : (vars : List Name) (clock : Name) (rs : List Register) (room n line : ℕ) (s : State) → Few s → (room == 0) ≡ false → room - 1 ≡ suc n → All (λ r. CanLoad vars r room n) rs
+    → Counted (list (statement room)) (placed_clocked vars line clock rs) (placed line (clocked_layout vars clock rs)) s
+spell_clocked vars clock [] room n line s few deep deeper can =
+    counted_as (append-nil (placed line (block_layout vars clock 0 (constant true) [])))
+    (counted_more
+    (spell_block vars clock (constant true) 0 room n line [] [] s few deep deeper tt (omega arith) (λ t f. counted_none (guarded_assignment room) t f))
+    (λ t f. counted_none (statement room) t f))
+spell_clocked vars clock (r ∷ rs) room n line s few deep deeper can = spell_blocks vars clock 0 (r ∷ rs) room n line s few deep deeper can
+
+pub spell_storage : (vars : List Name) (clock : Option Name) (rs : List Register) (room n line : ℕ) (s : State) → Few s → (room == 0) ≡ false → room - 1 ≡ suc n → All (λ r. CanLoad vars r room n) rs
+    → Counted (list (statement room)) (placed_storage vars line clock rs) (placed line (storage_layout vars clock rs)) s
+spell_storage vars None rs room n line s few deep deeper can = counted_none (statement room) s few
+spell_storage vars (Some clock) rs room n line s few deep deeper can = spell_clocked vars clock rs room n line s few deep deeper can

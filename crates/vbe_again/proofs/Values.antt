@@ -171,7 +171,7 @@ valued names (choice c a b) room line s few none within fits free =
     let s3 = one_alternative s2 in
     let l = line_behind line in
     let some = some_alternatives b in
-    let v = valued names b room l s3 (few_alternatives s2 (omega (arith, within, some))) refl (omega (arith, within)) fits.2 free.2 in
+    let v = valued names b room l s3 (few_alternatives s2 (omega (arith, within, some))) refl (omega (arith, within)) fits.1.1 free.1.1 in
     let A = placed line (expression_layout names a) in
     let C = placed line (expression_layout names c) in
     let w : PlacedToken = at (token.Keyword word.When) line in
@@ -188,7 +188,7 @@ valued names (choice c a b) room line s few none within fits free =
           ap (λ (z : List PlacedToken). A ++ (w ∷ z)) (append_assoc C (u ∷ v.front) v.back ∙ ap (λ (z : List PlacedToken). C ++ (u ∷ z)) v.are ∙ sym (on_line line (expression_layout names c) last (flat names line c)))
           ∙ sym (on_line line (expression_layout names a) rest (flat names line a));
       first = spell_expression names a room line s few fits.0 (omega (arith, none, free.0));
-      others = spell_more (spell_further names c room line (first_value names l b) s1 few less (spell_expression names c room line (started s1) few fits.1 (omega (arith, free.1))) v.first) v.others;
+      others = spell_more (spell_further names c room line (first_value names l b) s1 few less (spell_expression names c room line (started s1) few fits.1.0 (omega (arith, free.1.0))) v.first) v.others;
       few = v.few;
       same_names = v.same_names;
       same_bits = v.same_bits;

@@ -1,0 +1,31 @@
+-- What is written of a machine is a sentence.
+use Rattle.std.proofs.Common.{◌≡◌, ℕ, List, ◌++◌, map, None, sym, ap, subst}
+use Rattle.machine_meaning.specs.Machine.{Machine, register_names}
+use Rattle.vhdl_lexer.specs.Listing.{tokens_in, refusal_in}
+use Rattle.spell_theory.specs.Layout.{Written, text_of}
+use Rattle.vhdl_again.specs.Outline.{entity_layout}
+use Rattle.vbe_text.specs.Vbe.{IsSource}
+use Rattle.vst_write.specs.Groups.{grouped, declared, outline}
+use Rattle.vst_write.specs.Structure.{signals_layout, begin_layout}
+use Rattle.vst_again.proofs.Netlists.{outline_name}
+use Rattle.vbe_write.specs.Written.{with_supply_ports, head_layout, registers_layout, equations_layout, storage_layout, last_layout, signal_texts, written_vars, written_names, layout}
+use Rattle.vbe_again.specs.Placed.{source_of}
+use Rattle.vbe_again.specs.Said.{WrittenIsASentence}
+use Rattle.vbe_again.proofs.Whole.{parts_layout}
+use Rattle.vbe_again.proofs.Fits.{sentence}
+use Rattle.vbe_again.proofs.Machines.{parts_of, what_is_new, can_be_said, can_be_stated}
+
+layout_is : (m : Machine) → parts_layout (parts_of m) ≡ layout m
+unfolding layout
+layout_is m =
+    let rest : List Written =
+    signals_layout (signal_texts m)
+    ++ (registers_layout (register_names m)
+    ++ (begin_layout
+    ++ (equations_layout (written_vars m) (written_names m) m.equations ++ (storage_layout (written_vars m) m.clock m.registers ++ last_layout)))) in
+    ap (λ (n : List ℕ). entity_layout (outline m.name (with_supply_ports m.ports)) ++ (head_layout n ++ rest)) (outline_name m.name (map declared (grouped (with_supply_ports m.ports))))
+
+pub written_is_a_sentence : WrittenIsASentence
+written_is_a_sentence m checked named limits =
+    subst (λ (ws : List Written). (refusal_in (text_of ws) ≡ None) × IsSource (tokens_in (text_of ws)) (source_of m)) (layout_is m)
+    (sentence (parts_of m) (can_be_said m checked named limits) (what_is_new m checked named limits) (can_be_stated m limits))
