@@ -70,10 +70,13 @@ formula_reads m n f h (named k) r = is_read m n f h k (r k here)
 formula_reads m n f h (opposite a) r = formula_reads m n f h a r
 formula_reads m n f h (joined g a b) r =
     (formula_reads m n f h a (λ k i. r k (In-left k (formula_names a) (formula_names b) i)), formula_reads m n f h b (λ k i. r k (In-right k (formula_names a) (formula_names b) i)))
-formula_reads m n f h (choosing c a b) r =
-    (formula_reads m n f h c (λ k i. r k (In-left k (formula_names c) (formula_names a ++ formula_names b) i)),
-    (formula_reads m n f h a (λ k i. r k (In-right k (formula_names c) (formula_names a ++ formula_names b) (In-left k (formula_names a) (formula_names b) i))),
-    formula_reads m n f h b (λ k i. r k (In-right k (formula_names c) (formula_names a ++ formula_names b) (In-right k (formula_names a) (formula_names b) i)))))
+formula_reads m n f h (choosing c a b) r = (
+  formula_reads m n f h c (λ k i. r k (In-left k (formula_names c) (formula_names a ++ formula_names b) i)),
+  (
+    formula_reads m n f h a (λ k i. r k (In-right k (formula_names c) (formula_names a ++ formula_names b) (In-left k (formula_names a) (formula_names b) i))),
+    formula_reads m n f h b (λ k i. r k (In-right k (formula_names c) (formula_names a ++ formula_names b) (In-right k (formula_names a) (formula_names b) i))),
+  ),
+)
 
 condition_in : (m : MachineTree) (n : Named) (f : Fsm) → HasPorts m n f → (xs : List Formula) → ((x : Formula) → In x xs → (k : Name) → In k (formula_names x) → IsRead (symbols m) n.clock k) → ReadsInputs f (numbered (names_of f.ports) (first_bit xs))
 condition_in m n f h [] r = tt
@@ -131,13 +134,15 @@ mutual
   parts_read m n f h seen (only line c a) g =
       (condition_in m n f h (formulas (symbols m) c) (g (testing line c) here), body_reads m n f h seen a (behind m n (testing line c) (in_body seen a) g))
   parts_read m n f h seen (either line c a b) g =
-      let k = behind m n (testing line c) (in_body seen a ++ in_body (seen || body_has_case a) b) g in
-      (condition_in m n f h (formulas (symbols m) c) (g (testing line c) here),
-      (body_reads m n f h seen a (left m n (in_body seen a) (in_body (seen || body_has_case a) b) k), body_reads m n f h (seen || body_has_case a) b (right m n (in_body seen a) (in_body (seen || body_has_case a) b) k)))
+      let k = behind m n (testing line c) (in_body seen a ++ in_body (seen || body_has_case a) b) g in (
+        condition_in m n f h (formulas (symbols m) c) (g (testing line c) here),
+        (body_reads m n f h seen a (left m n (in_body seen a) (in_body (seen || body_has_case a) b) k), body_reads m n f h (seen || body_has_case a) b (right m n (in_body seen a) (in_body (seen || body_has_case a) b) k)),
+      )
   parts_read m n f h seen (further line c a more) g =
-      let k = behind m n (testing line c) (in_body seen a ++ in_parts (seen || body_has_case a) more) g in
-      (condition_in m n f h (formulas (symbols m) c) (g (testing line c) here),
-      (body_reads m n f h seen a (left m n (in_body seen a) (in_parts (seen || body_has_case a) more) k), parts_read m n f h (seen || body_has_case a) more (right m n (in_body seen a) (in_parts (seen || body_has_case a) more) k)))
+      let k = behind m n (testing line c) (in_body seen a ++ in_parts (seen || body_has_case a) more) g in (
+        condition_in m n f h (formulas (symbols m) c) (g (testing line c) here),
+        (body_reads m n f h seen a (left m n (in_body seen a) (in_parts (seen || body_has_case a) more) k), parts_read m n f h (seen || body_has_case a) more (right m n (in_body seen a) (in_parts (seen || body_has_case a) more) k)),
+      )
 
   branches_read : (m : MachineTree) (n : Named) (f : Fsm) → HasPorts m n f → (b : BranchesTree) → AllRead m n (in_branches b) → AreBranchesOf f (branches_bits (frame_of m n (names_of f.ports)) b)
   branches_read m n f h closed g = tt

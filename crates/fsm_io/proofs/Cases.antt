@@ -146,11 +146,13 @@ numbers_differ all before (n ∷ names) e =
     let at : get_or all (state_number all n.text) [] ≡ n.text = (number_is all n.text b.0).1 in
     let numbers = map (λ (k : NewName). state_number all k.text) names in
     let itself_listed : is_one_of (before ++ n.text ∷ []) n.text ≡ true =
-    one_of-append before (n.text ∷ []) n.text ∙ or_second (is_one_of before n.text) (is_one_of (n.text ∷ []) n.text) (ap (λ c. c || false) (itself n.text)) in
-    (λ i.
-      let r = listed_states all (before ++ n.text ∷ []) names a.1 (state_number all n.text) (among_from (state_number all n.text) numbers i) in
-      let not_listed : is_one_of (before ++ n.text ∷ []) n.text ≡ false = ap (is_one_of (before ++ n.text ∷ [])) (sym at) ∙ r.1 in
-      absurd (false≢true (sym not_listed ∙ itself_listed)), numbers_differ all (before ++ n.text ∷ []) names a.1)
+    one_of-append before (n.text ∷ []) n.text ∙ or_second (is_one_of before n.text) (is_one_of (n.text ∷ []) n.text) (ap (λ c. c || false) (itself n.text)) in (
+      λ i.
+          let r = listed_states all (before ++ n.text ∷ []) names a.1 (state_number all n.text) (among_from (state_number all n.text) numbers i) in
+          let not_listed : is_one_of (before ++ n.text ∷ []) n.text ≡ false = ap (is_one_of (before ++ n.text ∷ [])) (sym at) ∙ r.1 in
+          absurd (false≢true (sym not_listed ∙ itself_listed)),
+      numbers_differ all (before ++ n.text ∷ []) names a.1,
+    )
 
 once_outputs : (vars : List Name) (ks : List Name) (xs : List Formula) (rest : s.Statements) → ListsStates rest → ListsStates (assign_bits vars ks xs rest)
 once_outputs vars [] xs rest h = h

@@ -177,7 +177,7 @@ checked m n f once roles some lists passes is =
       few_states = let few = passes.few_states in omega (arith, few, many);
       different = subst (λ (ks : List Name). AllDifferent ks) (sym is.states) (scalar_states m.states.states (different_states m fs.different));
       sound = subst (λ (k : ℕ). IsSound (up 0 k) f.body) count (subst (λ b. IsSound (up 0 (length (texts m.states.states))) b) (sym is.body)
-      (body_sound m n vars false m.step.body [] (λ e. refl) early.state (λ x i. (each_fine m n early x i).forms)));
+          (body_sound m n vars false m.step.body [] (λ e. refl) early.state (λ x i. (each_fine m n early x i).forms)));
       one_case = ap cases_in is.body ∙ cases_body m n vars false m.step.body (λ x i. (each_fine m n early x i).forms) ∙ ap (λ b. cond b 1 0) (has_case m n early);
       listed = subst (λ b. ListsStates b) (sym is.body) (once_body m n vars false m.step.body ([], early.state) lists);
       reads = subst (λ b. IsBodyOf f b) (sym is.body) (body_reads m n f has false m.step.body (all_read m n fs));

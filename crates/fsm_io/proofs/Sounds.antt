@@ -204,25 +204,27 @@ mutual
       assignment_sound m n vars t line e rest k (bytes_eq t.name n.next) (h (assigning t line e) here) (one_line (cond (bytes_eq t.name n.next) (bad_value (texts m.states.states) e) []) g)
   statement_sound m n vars seen (chosen parts) rest before f g h k = (parts_sound m n vars seen parts before f g h, k)
   statement_sound m n vars seen (selected line called branches) rest before f g h k = (
-        branches_sound m n vars branches before (up 0 (length (texts m.states.states)))
+    branches_sound m n vars branches before (up 0 (length (texts m.states.states)))
         (subst (λ (l : List (List ℕ)). Left (texts m.states.states) l (up 0 (length (texts m.states.states)))) (sym (f (first_case m n seen line called (h (selecting seen line called) here)))) (all_left (texts m.states.states))) g
         (behind m n (selecting seen line called) (in_branches branches) h),
-        k,
-      )
+    k,
+  )
 
   parts_sound : (m : MachineTree) (n : Named) (vars : List Name) (seen : Bool) (p : PartsTree) (before : List (List ℕ)) → Fresh seen before → Good m n before (in_parts seen p) → AllSupported m n (in_parts seen p)
       → ArePartsSound (up 0 (length (texts m.states.states))) (parts_bits (frame_of m n vars) p)
   parts_sound m n vars seen (only line c a) before f g h = body_sound m n vars seen a before f g (behind m n (testing line c) (in_body seen a) h)
   parts_sound m n vars seen (either line c a b) before f g h =
-      let k = behind m n (testing line c) (in_body seen a ++ in_body (seen || body_has_case a) b) h in
-      (body_sound m n vars seen a before f (good_left (texts m.states.states) n.next before (in_body seen a) (in_body (seen || body_has_case a) b) g) (left m n (in_body seen a) (in_body (seen || body_has_case a) b) k),
-      body_sound m n vars (seen || body_has_case a) b (after before (in_body seen a)) (fresh_after seen (body_has_case a) before (after before (in_body seen a)) f (none_body seen a before))
-      (good_right (texts m.states.states) n.next before (in_body seen a) (in_body (seen || body_has_case a) b) g) (right m n (in_body seen a) (in_body (seen || body_has_case a) b) k))
+      let k = behind m n (testing line c) (in_body seen a ++ in_body (seen || body_has_case a) b) h in (
+        body_sound m n vars seen a before f (good_left (texts m.states.states) n.next before (in_body seen a) (in_body (seen || body_has_case a) b) g) (left m n (in_body seen a) (in_body (seen || body_has_case a) b) k),
+        body_sound m n vars (seen || body_has_case a) b (after before (in_body seen a)) (fresh_after seen (body_has_case a) before (after before (in_body seen a)) f (none_body seen a before))
+            (good_right (texts m.states.states) n.next before (in_body seen a) (in_body (seen || body_has_case a) b) g) (right m n (in_body seen a) (in_body (seen || body_has_case a) b) k),
+      )
   parts_sound m n vars seen (further line c a more) before f g h =
-      let k = behind m n (testing line c) (in_body seen a ++ in_parts (seen || body_has_case a) more) h in
-      (body_sound m n vars seen a before f (good_left (texts m.states.states) n.next before (in_body seen a) (in_parts (seen || body_has_case a) more) g) (left m n (in_body seen a) (in_parts (seen || body_has_case a) more) k),
-      parts_sound m n vars (seen || body_has_case a) more (after before (in_body seen a)) (fresh_after seen (body_has_case a) before (after before (in_body seen a)) f (none_body seen a before))
-      (good_right (texts m.states.states) n.next before (in_body seen a) (in_parts (seen || body_has_case a) more) g) (right m n (in_body seen a) (in_parts (seen || body_has_case a) more) k))
+      let k = behind m n (testing line c) (in_body seen a ++ in_parts (seen || body_has_case a) more) h in (
+        body_sound m n vars seen a before f (good_left (texts m.states.states) n.next before (in_body seen a) (in_parts (seen || body_has_case a) more) g) (left m n (in_body seen a) (in_parts (seen || body_has_case a) more) k),
+        parts_sound m n vars (seen || body_has_case a) more (after before (in_body seen a)) (fresh_after seen (body_has_case a) before (after before (in_body seen a)) f (none_body seen a before))
+            (good_right (texts m.states.states) n.next before (in_body seen a) (in_parts (seen || body_has_case a) more) g) (right m n (in_body seen a) (in_parts (seen || body_has_case a) more) k),
+      )
 
   branches_sound : (m : MachineTree) (n : Named) (vars : List Name) (b : BranchesTree) (before : List (List ℕ)) (states : List ℕ) → Left (texts m.states.states) before states → Good m n before (in_branches b) → AllSupported m n (in_branches b)
       → AreBranchesSound (up 0 (length (texts m.states.states))) states (branches_bits (frame_of m n vars) b)
@@ -235,10 +237,12 @@ mutual
       let rest = empty_right (bad_names all before names) (bad_states all n.next (before ++ texts names) (in_body true a ++ in_branches more)) g in
       let k = behind m n (listing names) (in_body true a ++ in_branches more) h in
       let quiet = quiet_body m n true a (before ++ texts names) (left m n (in_body true a) (in_branches more) k) refl in
-      let here : AreLeft numbers states = λ q e. let r = listed_states all before names good q e in l q r.0 r.1 in
-      (here, (
-        body_sound m n vars true a (before ++ texts names) (λ e. absurd (false≢true (sym e))) (good_left all n.next (before ++ texts names) (in_body true a) (in_branches more) rest) (left m n (in_body true a) (in_branches more) k),
-        branches_sound m n vars more (before ++ texts names) (without numbers states) (left_less all before names states good l)
-        (subst (λ (x : List (List ℕ)). bad_states all n.next x (in_branches more) ≡ []) quiet (good_right all n.next (before ++ texts names) (in_body true a) (in_branches more) rest))
-        (right m n (in_body true a) (in_branches more) k),
-      ))
+      let here : AreLeft numbers states = λ q e. let r = listed_states all before names good q e in l q r.0 r.1 in (
+        here,
+        (
+          body_sound m n vars true a (before ++ texts names) (λ e. absurd (false≢true (sym e))) (good_left all n.next (before ++ texts names) (in_body true a) (in_branches more) rest) (left m n (in_body true a) (in_branches more) k),
+          branches_sound m n vars more (before ++ texts names) (without numbers states) (left_less all before names states good l)
+              (subst (λ (x : List (List ℕ)). bad_states all n.next x (in_branches more) ≡ []) quiet (good_right all n.next (before ++ texts names) (in_body true a) (in_branches more) rest))
+              (right m n (in_body true a) (in_branches more) k),
+        ),
+      )

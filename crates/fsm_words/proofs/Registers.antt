@@ -51,8 +51,8 @@ unfolding keyword_of
 numbered_word k few =
     let d = decimal_is k few in (
       both (is_small_letter 115) (list_all is_in_small_word (115 ∷ 116 ∷ decimal k)) refl
-      (both (is_in_small_word 115) (list_all is_in_small_word (116 ∷ decimal k)) refl
-      (both (is_in_small_word 116) (list_all is_in_small_word (decimal k)) refl (all_implied is_ascii_digit is_in_small_word digit_in_word (decimal k) d.digits))),
+          (both (is_in_small_word 115) (list_all is_in_small_word (116 ∷ decimal k)) refl
+          (both (is_in_small_word 116) (list_all is_in_small_word (decimal k)) refl (all_implied is_ascii_digit is_in_small_word digit_in_word (decimal k) d.digits))),
       none_among (115 ∷ 116 ∷ decimal k) keywords refl (first_digit (decimal k) d.digits d.some),
     )
 

@@ -34,7 +34,11 @@ pub fn style_of(encoding: Encoding, seed: u32) -> Style
 }
 
 /// The codes of a state machine's states by the style, and its machine.
-pub fn encoded_machine(alloc: Global, states: &StateMachine, style: Style) -> Result<Encoded, AllocError>
+pub fn encoded_machine(
+    alloc: Global,
+    states: &StateMachine,
+    style: Style,
+) -> Result<Encoded, AllocError>
     ensures codes { IfOk result (λ e. e.codes ≡ codes_by style states.now) }
     ensures different { IfOk result (λ e. AreCodes (length states.now.states) e.codes) }
     ensures made { IfOk result (λ e. IsMachineOf states.now e.codes e.machine) }

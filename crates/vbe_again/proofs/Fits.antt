@@ -195,8 +195,7 @@ fit_head vars clock k e next named can reads =
     let C = condition_layout vars e in
     let first : Fit (C ++ guard_end) (first_byte begin_layout next) = fit_both C guard_end (first_byte begin_layout next) (fit_condition vars e reads) (fit_guard_end (first_byte begin_layout next)) in
     let begin : Fit begin_layout next = ((tt, refl), tt) in
-    let tail : Fit ((C ++ guard_end) ++ begin_layout) next = fit_both (C ++ guard_end) begin_layout next first begin in
-    (
+    let tail : Fit ((C ++ guard_end) ++ begin_layout) next = fit_both (C ++ guard_end) begin_layout next first begin in (
       (named, refl),
       (
         (tt, refl),

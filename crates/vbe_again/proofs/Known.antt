@@ -79,8 +79,8 @@ signals_good taken many few =
     All-map (IsSignalText taken) (numbered (codes "n")) (free_numbers (codes "n") taken many)
     (All-take G many (filter p (rising 0 most))
     (λ k d l. (
-      let w = All-filter p (λ k. k < 0 + most) (rising 0 most) (rising_less 0 most) k d l in
-      one_signal taken (get_or (filter p (rising 0 most)) k d) (omega (arith, w, few)) (filter_passes p (rising 0 most) k d l)
+    let w = All-filter p (λ k. k < 0 + most) (rising 0 most) (rising_less 0 most) k d l in
+    one_signal taken (get_or (filter p (rising 0 most)) k d) (omega (arith, w, few)) (filter_passes p (rising 0 most) k d l)
     )))
 
 -- ---- names that are replaced
