@@ -1,8 +1,7 @@
 -- The statements bit by bit assign outputs and read inputs other than the clock.
-use Rattle.std.proofs.Common.{◌≡◌, ℕ, ◌<◌, Bool, true, false, cond, List, [], ◌∷◌, ◌++◌, map, length, get_or, Option, Some, None, refl, sym, ap, subst, ◌∙◌, bytes_eq}
-use Rattle.std.specs.Prelude.{◌||◌, not, filter, slice_get}
+use Rattle.std.proofs.Common.{◌≡◌, Bool, true, false, cond, List, [], ◌∷◌, ◌++◌, Some, refl, sym, ap, ◌∙◌, bytes_eq}
+use Rattle.std.specs.Prelude.{◌||◌, not, filter}
 use Rattle.std.specs.List.{Contains}
-use Rattle.std.specs.List.Sorted.{IsPermutation}
 use Rattle.std.proofs.lemmas.Option.{slice_get-get_or}
 use Rattle.vlsi_base.specs.Tree.{Tree}
 use Rattle.vlsi_base.specs.declared.name.Name.{Name}
@@ -12,8 +11,6 @@ use Rattle.vlsi_base.specs.Member.{In, here, there}
 use Rattle.machine_core.proofs.Values.{In-left, In-right, In-map}
 use Rattle.machine_meaning.specs.Machine.{names_of, is_input}
 use Rattle.machine_meaning.specs.Named.{is_same_name}
-use Rattle.bool_expr.specs.Expression.{Expression}
-use Rattle.source_meaning.specs.declared.symbol_table.Symbol.{Symbol}
 use Rattle.source_meaning.specs.declared.statement.Target.{Target}
 use Rattle.source_meaning.specs.Symbols.{scalar}
 use Rattle.source_meaning.specs.Drivers.{target_names}
@@ -28,7 +25,7 @@ use Rattle.fsm_core.specs.Checked.{IsInput, ReadsInputs, IsBodyOf, ArePartsOf, A
 use Rattle.fsm_text.specs.Written.{StatementTree, asserted, assigned, chosen, selected, BodyTree, finish, next, PartsTree, only, either, further, BranchesTree, closed, others, listed, MachineTree}
 use Rattle.fsm_io.specs.Known.{Named, symbols}
 use Rattle.fsm_io.specs.Looks.{Mention, asserting, assigning, testing, selecting, listing, body_has_case, holds_case, in_body, in_statement, in_parts, in_branches}
-use Rattle.fsm_io.specs.Elaboration.{Frame, frame_of, next_number, assign_bits, body_bits, statement_bits, parts_bits, branches_bits}
+use Rattle.fsm_io.specs.Elaboration.{frame_of, next_number, assign_bits, body_bits, statement_bits, parts_bits, branches_bits}
 use Rattle.fsm_io.proofs.Readable.{IsRead}
 use Rattle.fsm_io.proofs.Facts.{ReadsPorts, IsFineAssignment}
 

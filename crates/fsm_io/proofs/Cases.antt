@@ -1,5 +1,5 @@
 -- There is one case, and each branch lists a state, and none twice.
-use Rattle.std.proofs.Common.{◌≡◌, ℕ, suc, ◌+◌, ◌<◌, Bool, true, false, cond, List, [], ◌∷◌, ◌++◌, map, length, get_or, refl, sym, ap, subst, ◌∙◌, bytes_eq, arith}
+use Rattle.std.proofs.Common.{◌≡◌, ℕ, suc, ◌+◌, ◌<◌, Bool, true, false, cond, List, [], ◌∷◌, ◌++◌, map, length, get_or, refl, sym, ap, ◌∙◌, bytes_eq, arith}
 use Rattle.std.specs.Prelude.{◌||◌, ◌&&◌, ◌==◌, not}
 use Rattle.std.proofs.lemmas.Bool.{false≢true}
 use Rattle.std.proofs.lemmas.Bool.Decides.{nat_tests}
@@ -10,21 +10,18 @@ use Rattle.vlsi_base.specs.Member.{In, here, there, AllDifferent}
 use Rattle.bool_expr.specs.Support.{among}
 use Rattle.source_meaning.specs.Drivers.{target_names}
 use Rattle.source_meaning.specs.Formula.{Formula, formulas}
-use Rattle.source_meaning.specs.Places.{Use}
-use Rattle.source_meaning.specs.Widths.{if_not}
 use Rattle.source_meaning.proofs.Lookups.{itself}
-use Rattle.vlsi_model.proofs.Expressions.{empty_left, empty_right, no_line}
+use Rattle.vlsi_model.proofs.Expressions.{empty_left, empty_right}
 use Rattle.fsm_meaning.specs.Statements as s
 use Rattle.fsm_core.specs.Checked.{cases_in, cases_in_parts, cases_in_branches, ListsStates, PartsListStates, BranchesListStates}
 use Rattle.fsm_text.specs.Written.{StatementTree, asserted, assigned, chosen, selected, BodyTree, finish, next, PartsTree, only, either, further, BranchesTree, closed, others, listed, MachineTree}
 use Rattle.fsm_io.specs.Known.{Named, symbols, texts}
-use Rattle.fsm_io.specs.Looks.{Mention, asserting, assigning, testing, selecting, listing, body_has_case, holds_case, parts_have_case, in_body, in_statement, in_parts, in_branches, use_of}
-use Rattle.fsm_io.specs.Elaboration.{Frame, frame_of, state_number, next_number, assign_bits, body_bits, statement_bits, parts_bits, branches_bits}
+use Rattle.fsm_io.specs.Looks.{Mention, testing, selecting, listing, body_has_case, holds_case, parts_have_case, in_body, in_statement, in_parts, in_branches, use_of}
+use Rattle.fsm_io.specs.Elaboration.{frame_of, state_number, next_number, assign_bits, body_bits, statement_bits, parts_bits, branches_bits}
 use Rattle.fsm_io.specs.States.{is_one_of, bad_names, bad_states}
-use Rattle.fsm_io.specs.Unsupported.{forms_at}
 use Rattle.fsm_io.specs.Listed.{HasStates, StatementHasStates, PartsHaveStates, BranchesHaveStates}
 use Rattle.fsm_io.proofs.StateNames.{number_is, listed_states, both, no_bad, one_of-append, or_second}
-use Rattle.fsm_io.proofs.Sounds.{AllSupported, Good, good_left, good_right, left, right, behind, first_case, neither}
+use Rattle.fsm_io.proofs.Sounds.{AllSupported, Good, good_left, good_right, left, right, behind, first_case}
 
 -- ---- one case
 

@@ -1,7 +1,7 @@
 -- What passes the checks can be encoded.
-use Rattle.std.proofs.Common.{◌≡◌, ℕ, ◌<◌, ◌≤◌, Bool, true, false, cond, List, [], ◌∷◌, ◌++◌, map, length, get_or, Option, Some, None, refl, sym, ap, subst, ◌∙◌, bytes_eq, arith}
+use Rattle.std.proofs.Common.{◌≡◌, ℕ, ◌<◌, true, false, cond, List, [], ◌∷◌, ◌++◌, map, length, Option, None, refl, sym, ap, subst, ◌∙◌, arith}
 use Rattle.std.specs.Prelude.{not, filter}
-use Rattle.std.specs.List.{All, Contains}
+use Rattle.std.specs.List.{Contains}
 use Rattle.std.specs.List.Sorted.{IsPermutation}
 use Rattle.std.proofs.lemmas.List.Sorted.{IsPermutation-sym, IsPermutation-map}
 use Rattle.std.proofs.lemmas.List.{length-map}
@@ -14,22 +14,22 @@ use Rattle.vlsi_base.specs.declared.range.Range.{Range}
 use Rattle.vlsi_base.specs.Name.{is_supply}
 use Rattle.vlsi_base.specs.Member.{In, here, there, AllDifferent}
 use Rattle.machine_core.specs.Checked.{AreInOrder, IsNoSupply}
-use Rattle.machine_core.proofs.Values.{In-map, In-left, In-right}
+use Rattle.machine_core.proofs.Values.{In-map}
 use Rattle.machine_meaning.specs.Machine.{names_of, is_input}
 use Rattle.source_meaning.specs.declared.symbol_table.Role.{Role}
 use Rattle.source_meaning.specs.declared.symbol_table.Role.TheVariants as role
 use Rattle.source_meaning.specs.declared.symbol_table.Symbol.{Symbol}
-use Rattle.source_meaning.specs.Symbols.{find, scalar, symbol_names, names_in, all_names, port_symbols}
+use Rattle.source_meaning.specs.Symbols.{scalar, symbol_names, names_in, all_names, port_symbols}
 use Rattle.source_meaning.specs.Checks.{first_repeated}
 use Rattle.source_meaning.specs.Elaboration.{port_bits, port_of}
-use Rattle.vlsi_model.proofs.Members.{In-map_back, In-cases, different_left, different_right, different_Sub}
-use Rattle.vlsi_model.proofs.Bits.{different_texts, different_bits, text_in, in_found, found_in}
+use Rattle.vlsi_model.proofs.Members.{In-map_back, different_left, different_right, different_Sub}
+use Rattle.vlsi_model.proofs.Bits.{different_bits, text_in}
 use Rattle.vlsi_model.proofs.Sorting.{In-at, different_names}
 use Rattle.vlsi_model.proofs.PortBits.{role_of_dir, IsPortBit, port_is, is_port_bit, ports_sub, In-filter}
 use Rattle.vlsi_model.proofs.Assembly.{In-permutation, All-from_In, supply_not}
 use Rattle.fsm_meaning.specs.Fsm.{Fsm, fsm_outputs}
-use Rattle.fsm_meaning.specs.Assigned.{IsAssigned, sure, sets_next, sets_output}
-use Rattle.fsm_machine.specs.MachineOf.{up, all_states}
+use Rattle.fsm_meaning.specs.Assigned.{sure, sets_next, sets_output}
+use Rattle.fsm_machine.specs.MachineOf.{up}
 use Rattle.fsm_machine.specs.Sound.{IsSound}
 use Rattle.fsm_core.specs.Checked.{IsCheckedFsm, IsBodyOf, cases_in, ListsStates}
 use Rattle.fsm_text.specs.Written.{MachineTree}
@@ -40,8 +40,7 @@ use Rattle.fsm_io.specs.Drivers.{is_output}
 use Rattle.fsm_io.specs.Unsupported.{forms_at, clock_forms}
 use Rattle.source_meaning.specs.Unsupported.{port_forms}
 use Rattle.vlsi_model.proofs.Expressions.{empty_left, empty_right, no_line}
-use Rattle.fsm_io.specs.Elaboration.{body_bits, frame_of, IsMachineOf}
-use Rattle.fsm_io.specs.Checks.{fault_behind, most_states}
+use Rattle.fsm_io.specs.Elaboration.{IsMachineOf}
 use Rattle.fsm_meaning.specs.Statements.{Statements}
 use Rattle.fsm_io.specs.Pieces.{HasRoles, PassesBehind, body_over}
 use Rattle.fsm_io.proofs.Fine.{EarlyFine, early_fine, late_fine, IsFine, each_fine}

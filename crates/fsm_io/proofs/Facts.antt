@@ -1,11 +1,10 @@
 -- What a text in which no early check fails gives for its statements.
-use Rattle.std.proofs.Common.{◌≡◌, ℕ, Bool, true, false, cond, List, [], ◌∷◌, ◌++◌, map, length, Option, Some, None, refl, sym, ap, subst, ◌∙◌, bytes_eq}
+use Rattle.std.proofs.Common.{◌≡◌, ℕ, true, false, cond, List, [], ◌∷◌, ◌++◌, map, length, Some, None, refl, sym, ap, subst, ◌∙◌, bytes_eq}
 use Rattle.std.specs.Prelude.{◌&&◌, not}
-use Rattle.vlsi_base.specs.Tree.{Tree, bit, literal, name, index, slice, stable, inverse, binary}
+use Rattle.vlsi_base.specs.Tree.{Tree}
 use Rattle.vlsi_base.specs.declared.name.Name.{Name}
 use Rattle.vlsi_base.specs.declared.name.Dir.TheVariants as dir
-use Rattle.vlsi_base.specs.Member.{In, here, there, AllDifferent}
-use Rattle.machine_core.proofs.Values.{In-left, In-right, In-map}
+use Rattle.vlsi_base.specs.Member.{In, here, AllDifferent}
 use Rattle.source_meaning.specs.declared.symbol_table.Role.{Role}
 use Rattle.source_meaning.specs.declared.symbol_table.Role.TheVariants as role
 use Rattle.source_meaning.specs.declared.symbol_table.Symbol.{Symbol}
@@ -16,25 +15,22 @@ use Rattle.source_meaning.specs.Drivers.{target_names}
 use Rattle.source_meaning.specs.Formula.{Formula, formulas, formula_names}
 use Rattle.source_meaning.specs.Checks.{first_repeated}
 use Rattle.source_meaning.specs.Elaboration.{port_bits, port_of}
-use Rattle.source_meaning.specs.Places.{reads}
 use Rattle.source_meaning.specs.Unsupported.{port_forms}
 use Rattle.source_meaning.specs.Widths.{width, differ, target_width, target_faults, width_faults, if_not}
-use Rattle.source_meaning.proofs.Names.{find_text}
-use Rattle.vlsi_model.proofs.Bits.{IsBit, different_texts, in_found, found_in, bit_all, text_in}
-use Rattle.vlsi_model.proofs.Expressions.{AreKnown, known_left, known_right, empty_left, empty_right, no_line, IsScalarClock}
-use Rattle.vlsi_model.proofs.FineAssignments.{and_left, and_right}
+use Rattle.vlsi_model.proofs.Bits.{different_texts, in_found, found_in, bit_all}
+use Rattle.vlsi_model.proofs.Expressions.{AreKnown, known_right, empty_left, empty_right, no_line, IsScalarClock}
+use Rattle.vlsi_model.proofs.FineAssignments.{and_right}
 use Rattle.vlsi_model.proofs.PortBits.{is_port_bit}
 use Rattle.fsm_text.specs.Written.{MachineTree}
 use Rattle.fsm_io.specs.Known.{Named, symbols, is_clock_port, is_state_signal}
-use Rattle.fsm_io.specs.Looks.{Mention, asserting, assigning, testing, selecting, listing, all_mentions, uses_at, value_uses}
-use Rattle.fsm_io.specs.Widths.{widths_at, wide_enough}
+use Rattle.fsm_io.specs.Looks.{assigning, testing, value_uses}
+use Rattle.fsm_io.specs.Widths.{wide_enough}
 use Rattle.fsm_io.specs.Drivers.{is_output}
-use Rattle.fsm_io.specs.Unsupported.{forms_at, may_assign, expression_forms, next_forms, all_forms}
-use Rattle.fsm_io.specs.Clock.{clock_reads_at}
+use Rattle.fsm_io.specs.Unsupported.{may_assign, expression_forms, next_forms}
 use Rattle.fsm_io.specs.Pieces.{HasRoles}
-use Rattle.fsm_io.proofs.Fine.{EarlyFine, IsFine, each_fine}
+use Rattle.fsm_io.proofs.Fine.{EarlyFine, IsFine}
 use Rattle.fsm_io.proofs.Readable.{IsRead, reads_ports}
-use Rattle.fsm_io.proofs.Targets.{IsClock, clock_among, clock_less, output_port, output_no_supply, IsFineTarget, fine_target, equal_widths}
+use Rattle.fsm_io.proofs.Targets.{IsClock, clock_among, clock_less, output_port, output_no_supply, fine_target, equal_widths}
 
 -- what is known of a text before its statements are looked at
 pub record Facts (m : MachineTree) (n : Named) : Type 0 where

@@ -1,12 +1,10 @@
 -- What holds of a text in which no check fails, place by place.
-use Rattle.std.proofs.Common.{◌≡◌, ℕ, Bool, true, false, cond, List, [], ◌∷◌, ◌++◌, Option, Some, None, refl, sym, ap, subst, ◌∙◌, inl, inr}
-use Rattle.std.specs.Prelude.{◌||◌, not}
+use Rattle.std.proofs.Common.{◌≡◌, ℕ, List, [], ◌∷◌, ◌++◌, Option, Some, None, refl, sym, ap, subst, ◌∙◌, inl, inr}
 use Rattle.std.specs.List.{flat_map}
-use Rattle.vlsi_base.specs.Member.{In, here, there}
+use Rattle.vlsi_base.specs.Member.{In}
 use Rattle.vlsi_base.specs.declared.fault.FaultKind.{FaultKind}
 use Rattle.vlsi_base.specs.declared.fault.FaultKind.TheVariants as kind
 use Rattle.vlsi_base.specs.declared.fault.ReadError.{ReadError}
-use Rattle.machine_core.proofs.Values.{In-left, In-right}
 use Rattle.source_meaning.specs.declared.symbol_table.Symbol.{Symbol}
 use Rattle.source_meaning.specs.declared.drivers.NameFault.{NameFault}
 use Rattle.source_meaning.specs.Places.{Use, first_unknown}
@@ -15,7 +13,7 @@ use Rattle.vlsi_model.proofs.Members.{In-cases}
 use Rattle.vlsi_model.proofs.Expressions.{AreKnown, known_uses, known_left, known_right, empty_left, empty_right}
 use Rattle.fsm_text.specs.Written.{MachineTree}
 use Rattle.fsm_io.specs.Known.{Named, symbols}
-use Rattle.fsm_io.specs.Looks.{Mention, all_mentions, uses_at, all_uses, clock_uses, use_of}
+use Rattle.fsm_io.specs.Looks.{Mention, all_mentions, uses_at, all_uses, clock_uses}
 use Rattle.fsm_io.specs.Widths.{widths_at, all_widths, clock_widths}
 use Rattle.fsm_io.specs.Drivers.{first_unassigned, or_else}
 use Rattle.fsm_io.specs.Unsupported.{forms_at, all_forms}

@@ -1,7 +1,6 @@
 -- The statements of a text in which no early check fails can be elaborated.
-use Rattle.std.proofs.Common.{◌≡◌, ℕ, Bool, true, false, cond, List, [], ◌∷◌, ◌++◌, map, length, Option, Some, None, refl, sym, ap, subst, ◌∙◌, bytes_eq}
+use Rattle.std.proofs.Common.{Bool, true, List, ◌∷◌, ◌++◌}
 use Rattle.std.specs.Prelude.{◌||◌}
-use Rattle.vlsi_base.specs.Tree.{Tree}
 use Rattle.vlsi_base.specs.Member.{In, here, there}
 use Rattle.machine_core.proofs.Values.{In-left, In-right}
 use Rattle.fsm_text.specs.Written.{StatementTree, asserted, assigned, chosen, selected, BodyTree, finish, next, PartsTree, only, either, further, BranchesTree, closed, others, listed}

@@ -4,8 +4,7 @@ use Rattle.std.specs.Prelude.{filter, not, option_map}
 use Rattle.vlsi_base.specs.declared.name.Name.{Name}
 use Rattle.vlsi_base.specs.Member.{In, here, there}
 use Rattle.source_meaning.specs.declared.symbol_table.Symbol.{Symbol}
-use Rattle.source_meaning.specs.declared.drivers.NameFault.{NameFault}
-use Rattle.source_meaning.specs.Symbols.{symbol_names, names_in}
+use Rattle.source_meaning.specs.Symbols.{symbol_names}
 use Rattle.source_meaning.specs.Codes.{name_at, codes_in, least_code, least_with}
 use Rattle.source_meaning.specs.Drivers.{least, fault_at}
 use Rattle.source_meaning.proofs.Names.{least_name}

@@ -1,5 +1,5 @@
 -- Linking from the last piece on.
-use Rattle.std.proofs.Common.{◌≡◌, ℕ, ◌<◌, ◌≤◌, List, [], ◌∷◌, ◌++◌, refl, ap}
+use Rattle.std.proofs.Common.{◌≡◌, ◌<◌, List, [], ◌∷◌, ◌++◌, refl, ap}
 use Rattle.bool_expr.specs.View.{view}
 use Rattle.vlsi_base.specs.Member.{In, here, there}
 use Rattle.fsm_meaning.specs.Statements as s

@@ -1,5 +1,5 @@
 -- A text has a state, and each of its branches lists one, since the grammar asks for them.
-use Rattle.std.proofs.Common.{◌≡◌, ℕ, zero, suc, ◌-◌, ◌<◌, inl, inr, List, [], ◌∷◌, length, Option, None, Some, refl, ap, sym, subst, arith}
+use Rattle.std.proofs.Common.{◌≡◌, ℕ, zero, suc, ◌-◌, ◌<◌, inl, inr, List, [], ◌∷◌, length, Option, None, Some, ap, sym, subst, arith}
 use Rattle.vlsi_base.specs.declared.entity.Entity.{Entity}
 use Rattle.vlsi_base.specs.declared.entity.NewName.{NewName}
 use Rattle.vhdl_token.specs.declared.token.Tokens.{Tokens}
@@ -9,7 +9,7 @@ use Rattle.grammar_theory.specs.Marks.{Item}
 use Rattle.vhdl_front.specs.Expression.{less}
 use Rattle.fsm_text.specs.declared.file.StateType.{StateType}
 use Rattle.fsm_text.specs.Written.{StatementTree, BodyTree, PartTree, BranchTree, BranchesTree, StepTree, ClockTree, MachineTree, body_of, parts_of, branched, branches_of}
-use Rattle.fsm_text.specs.Fsm.{assertion, assignment, part, further_part, last_part, behind_if, conditional, listed_states, listed_branch, led_branch, others_branch, last_branch, branches, behind_case, case_statement, statement, body_over, nested, body, step_process, state_names, state_type, processes, architecture, machine}
+use Rattle.fsm_text.specs.Fsm.{assertion, assignment, part, further_part, last_part, behind_if, conditional, listed_states, listed_branch, led_branch, others_branch, last_branch, branches, behind_case, case_statement, statement, body_over, nested, step_process, state_names, state_type, processes, architecture, machine}
 use Rattle.fsm_text.specs.Texts.{IsMachine}
 use Rattle.fsm_io.specs.Listed.{HasStates, StatementHasStates, PartsHaveStates, BranchesHaveStates}
 

@@ -1,5 +1,5 @@
 -- Marks of the bits that assignments name.
-use Rattle.std.proofs.Common.{◌≡◌, ◌≢◌, ℕ, ◌+◌, ◌<◌, Bool, true, false, cond, List, [], ◌∷◌, ◌++◌, map, take, length, get_or, refl, sym, ap, subst, ◌∙◌, append_assoc, append-nil, arith, Decides}
+use Rattle.std.proofs.Common.{◌≡◌, ◌≢◌, ℕ, ◌+◌, ◌<◌, Bool, true, false, List, [], ◌∷◌, ◌++◌, map, take, length, get_or, refl, sym, ap, subst, ◌∙◌, append_assoc, append-nil, arith}
 use Rattle.std.specs.Prelude.{◌||◌, slice_set, replicate}
 use Rattle.std.proofs.lemmas.List.{get_or-replicate, length-replicate, length-set, get_or-set_same, get_or-set_other, take_more, map_push}
 use Rattle.std.proofs.lemmas.List.Concat.{flat_map-append}
@@ -17,7 +17,7 @@ use Rattle.vlsi_model.proofs.Sorting.{same_name_decides}
 use Rattle.vlsi_model.proofs.Numbering.{place_within, place_same}
 use Rattle.fsm_io.specs.declared.mentions.Mention.{Mention as Held}
 use Rattle.fsm_io.specs.Looks.{Mention}
-use Rattle.fsm_io.specs.Pieces.{AreMarked, mark_each, is_marked, mention_of}
+use Rattle.fsm_io.specs.Pieces.{AreMarked, mark_each, mention_of}
 
 -- nothing is marked yet
 pub marked_none : (known : List Symbol) (marks : List Bool) → marks ≡ replicate (length (all_names known)) false → AreMarked known [] marks

@@ -1,8 +1,7 @@
 -- Of a text one answer is right.
-use Rattle.std.proofs.Common.{◌≡◌, ◌≤◌, ◌<◌, ℕ, List, ◌∷◌, length, None, Some, inl, inr, arith, refl, ap, sym, subst, ◌∙◌}
+use Rattle.std.proofs.Common.{◌≡◌, ℕ, List, None, Some, inl, inr, arith, ap, sym, subst, ◌∙◌}
 use Rattle.vlsi_base.specs.declared.pragma.Pragma.{Pragma}
 use Rattle.vlsi_base.specs.declared.fault.ReadError.{ReadError}
-use Rattle.vlsi_base.specs.declared.fault.ReadError.TheVariants as errors
 use Rattle.vhdl_lexer.specs.Listing.{tokens_in, refusal_in}
 use Rattle.fsm_meaning.specs.Fsm.{Fsm}
 use Rattle.fsm_meaning.specs.Statements.{Statements}
@@ -12,12 +11,11 @@ use Rattle.machine_meaning.specs.Machine.{names_of}
 use Rattle.source_meaning.specs.Elaboration.{port_bits}
 use Rattle.fsm_io.proofs.Ordered.{one_order}
 use Rattle.fsm_text.specs.Written.{MachineTree}
-use Rattle.fsm_text.specs.Texts.{RefusedAs}
 use Rattle.fsm_text.proofs.Laws as text
 use Rattle.fsm_io.specs.Known.{Named, named, symbols}
-use Rattle.fsm_io.specs.Checks.{first_fault, PassesLimit, ports, states, IsRefusedFor, Passes}
+use Rattle.fsm_io.specs.Checks.{PassesLimit, ports, states, IsRefusedFor, Passes}
 use Rattle.fsm_io.specs.Elaboration.{IsMachineOf, body_bits, frame_of}
-use Rattle.fsm_io.specs.Text.{IsWritten, IsFsm, Refused, long, uncut, unwritten, faulty}
+use Rattle.fsm_io.specs.Text.{IsWritten, long, uncut, unwritten, faulty}
 use Rattle.fsm_io.specs.Laws.{OneFsm, NeverBoth, OneRefusal}
 
 -- ---- the checks of one text

@@ -1,5 +1,5 @@
 -- Bits over the bits of the ports.
-use Rattle.std.proofs.Common.{◌≡◌, ℕ, suc, ◌+◌, ◌<◌, ◌≤◌, Bool, true, false, cond, List, [], ◌∷◌, ◌++◌, map, take, length, get_or, None, refl, sym, ap, subst, ◌∙◌, arith}
+use Rattle.std.proofs.Common.{◌≡◌, ℕ, ◌<◌, ◌≤◌, List, [], ◌∷◌, ◌++◌, map, take, length, get_or, None, refl, sym, ap, subst, ◌∙◌, arith}
 use Rattle.vlsi_base.specs.declared.name.Name.{Name}
 use Rattle.vlsi_base.specs.Member.{In, here, there}
 use Rattle.bool_expr.specs.Expression.{Expression, IsOver}
@@ -14,11 +14,9 @@ use Rattle.vlsi_model.proofs.Naming.{take_whole}
 use Rattle.source_bits.specs.Formulas.{first_of}
 use Rattle.source_meaning.specs.Formula.{Formula, formula_names, first_bit, numbered, place}
 use Rattle.vlsi_model.specs.Numbered.{HasVars, name_at}
-use Rattle.vlsi_model.proofs.Formulas.{Holds}
 use Rattle.vlsi_model.proofs.Numbering.{place_within, place_at, In_holds, over_below, renumber}
 use Rattle.fsm_meaning.specs.Statements as s
-use Rattle.fsm_text.specs.Written.{StatementTree, BodyTree, finish, next, followed}
-use Rattle.fsm_io.specs.Elaboration.{Frame, assign_bits, body_bits, statement_bits}
+use Rattle.fsm_io.specs.Elaboration.{assign_bits}
 use Rattle.fsm_io.specs.Pieces.{assign_places}
 
 pub first_numbered : (vars : List Name) (xs : List Formula) → first_of (map (numbered vars) xs) ≡ numbered vars (first_bit xs)

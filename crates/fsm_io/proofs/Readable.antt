@@ -1,16 +1,14 @@
 -- What expressions read in which nothing is at fault: inputs other than the clock, bit by bit.
-use Rattle.std.proofs.Common.{◌≡◌, ℕ, Bool, true, false, cond, List, [], ◌∷◌, ◌++◌, map, length, Option, Some, None, refl, sym, ap, subst, ◌∙◌, bytes_eq}
-use Rattle.std.specs.Prelude.{not, codes}
+use Rattle.std.proofs.Common.{◌≡◌, ℕ, Bool, true, false, List, [], Option, Some, None, refl, sym, ap, ◌∙◌}
 use Rattle.vlsi_base.specs.Tree.{Tree, bit, literal, name, index, slice, stable, inverse, binary}
 use Rattle.vlsi_base.specs.declared.name.Name.{Name}
-use Rattle.vlsi_base.specs.declared.name.Port.{Port}
 use Rattle.vlsi_base.specs.declared.name.Dir.TheVariants as dir
 use Rattle.vlsi_base.specs.Name.{is_supply}
-use Rattle.vlsi_base.specs.Member.{In, here, there}
+use Rattle.vlsi_base.specs.Member.{In}
 use Rattle.source_meaning.specs.declared.symbol_table.Role.{Role}
 use Rattle.source_meaning.specs.declared.symbol_table.Role.TheVariants as role
 use Rattle.source_meaning.specs.declared.symbol_table.Symbol.{Symbol}
-use Rattle.source_meaning.specs.Symbols.{find, symbol_names, names_in, bit_name}
+use Rattle.source_meaning.specs.Symbols.{find, names_in, bit_name}
 use Rattle.source_meaning.specs.Formula.{Formula, formulas, formula_names, literal_bits, names_of_found}
 use Rattle.source_meaning.specs.Clock.{clock_lines}
 use Rattle.source_meaning.specs.Elaboration.{port_bits, port_of}
@@ -18,7 +16,7 @@ use Rattle.source_meaning.specs.Places.{reads}
 use Rattle.source_meaning.specs.Widths.{width_faults}
 use Rattle.source_meaning.proofs.Names.{find_text}
 use Rattle.vlsi_model.proofs.Bits.{text_in, found_in}
-use Rattle.vlsi_model.proofs.Formulas.{Holds, Each, Each-operator, Each-fixed, Each-opposite, Each-leaf, Holds-leaf, Each-In}
+use Rattle.vlsi_model.proofs.Formulas.{Each, Each-operator, Each-fixed, Each-opposite, Each-leaf, Holds-leaf, Each-In}
 use Rattle.vlsi_model.proofs.Numbering.{holds_In}
 use Rattle.vlsi_model.proofs.Expressions.{AreKnown, empty_left, empty_right, no_line, IsReadable, IsScalarClock, reads_are}
 use Rattle.vlsi_model.proofs.PortBits.{is_port_bit}

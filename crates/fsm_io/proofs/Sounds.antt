@@ -1,5 +1,5 @@
 -- The statements list known states, each once, and assign known ones.
-use Rattle.std.proofs.Common.{◌≡◌, ℕ, zero, suc, ◌+◌, ◌<◌, ◌≤◌, Bool, true, false, cond, List, [], ◌∷◌, ◌++◌, map, length, get_or, Option, Some, None, refl, sym, ap, subst, ◌∙◌, bytes_eq, arith, append_assoc}
+use Rattle.std.proofs.Common.{◌≡◌, ℕ, ◌<◌, Bool, true, false, cond, List, [], ◌∷◌, ◌++◌, map, length, get_or, Option, Some, None, refl, sym, ap, subst, ◌∙◌, bytes_eq, arith, append_assoc}
 use Rattle.std.specs.Prelude.{◌||◌, ◌&&◌, not}
 use Rattle.std.specs.Option.{is_some}
 use Rattle.std.proofs.lemmas.Bool.{false≢true}
@@ -9,24 +9,23 @@ use Rattle.vlsi_base.specs.Tree.{Tree}
 use Rattle.vlsi_base.specs.Member.{In, here, there}
 use Rattle.machine_core.proofs.Values.{In-left, In-right}
 use Rattle.bool_expr.specs.Support.{among}
-use Rattle.source_meaning.specs.declared.symbol_table.Symbol.{Symbol}
 use Rattle.source_meaning.specs.declared.statement.Target.{Target}
 use Rattle.source_meaning.specs.Symbols.{find}
 use Rattle.source_meaning.specs.Drivers.{target_names}
 use Rattle.source_meaning.specs.Formula.{Formula, formulas}
 use Rattle.source_meaning.specs.Places.{Use}
 use Rattle.source_meaning.specs.Widths.{if_not}
-use Rattle.vlsi_model.proofs.Expressions.{empty_left, empty_right, no_line}
+use Rattle.vlsi_model.proofs.Expressions.{empty_left, empty_right}
 use Rattle.fsm_meaning.specs.Statements as s
 use Rattle.fsm_machine.specs.Signals.{without}
 use Rattle.fsm_machine.specs.MachineOf.{up}
-use Rattle.fsm_machine.specs.Sound.{AreLeft, IsKnownNext, IsSound, ArePartsSound, AreBranchesSound}
+use Rattle.fsm_machine.specs.Sound.{AreLeft, IsSound, ArePartsSound, AreBranchesSound}
 use Rattle.fsm_machine.proofs.Holding.{among_without}
 use Rattle.fsm_machine.proofs.States.{up_among}
 use Rattle.fsm_text.specs.Written.{StatementTree, asserted, assigned, chosen, selected, BodyTree, finish, next, PartsTree, only, either, further, BranchesTree, closed, others, listed, MachineTree}
 use Rattle.fsm_io.specs.Known.{Named, symbols, texts}
-use Rattle.fsm_io.specs.Looks.{Mention, asserting, assigning, testing, selecting, listing, body_has_case, holds_case, parts_have_case, in_body, in_statement, in_parts, in_branches, plain_use}
-use Rattle.fsm_io.specs.Elaboration.{Frame, frame_of, state_number, number_of, next_number, assign_bits, body_bits, statement_bits, parts_bits, branches_bits}
+use Rattle.fsm_io.specs.Looks.{Mention, assigning, testing, selecting, listing, body_has_case, holds_case, parts_have_case, in_body, in_statement, in_parts, in_branches, plain_use}
+use Rattle.fsm_io.specs.Elaboration.{frame_of, state_number, number_of, next_number, assign_bits, body_bits, statement_bits, parts_bits, branches_bits}
 use Rattle.fsm_io.specs.States.{is_one_of, bad_names, bad_use, bad_value, bad_at, listed_after, bad_states}
 use Rattle.fsm_io.specs.Unsupported.{forms_at, next_forms, may_assign, expression_forms}
 use Rattle.fsm_io.proofs.StateNames.{number_is, listed_states, one_of_more}

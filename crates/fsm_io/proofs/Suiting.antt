@@ -1,12 +1,12 @@
 -- What a text on its way through the checks gives.
-use Rattle.std.proofs.Common.{◌≡◌, ℕ, Bool, false, List, [], None, map, length, bytes_eq, refl, sym, ap, subst, ◌∙◌}
+use Rattle.std.proofs.Common.{◌≡◌, ℕ, Bool, false, List, None, map, length, bytes_eq, sym, ap, subst, ◌∙◌}
 use Rattle.std.specs.List.{flat_map, All}
 use Rattle.vlsi_base.specs.declared.name.Name.{Name}
 use Rattle.vlsi_base.specs.declared.name.Port.{Port}
 use Rattle.vlsi_base.specs.Member.{In, AllDifferent}
 use Rattle.machine_meaning.specs.Machine.{names_of}
 use Rattle.source_meaning.specs.declared.symbol_table.Symbol.{Symbol}
-use Rattle.source_meaning.specs.Symbols.{all_names, symbol_names}
+use Rattle.source_meaning.specs.Symbols.{all_names}
 use Rattle.source_meaning.specs.Formula.{place}
 use Rattle.source_meaning.specs.Drivers.{is_among}
 use Rattle.source_meaning.specs.Elaboration.{port_bits}

@@ -1,9 +1,8 @@
 -- Whether statements assign a target doesn't hang on what they assign.
-use Rattle.std.proofs.Common.{◌≡◌, ℕ, zero, suc, ◌+◌, ◌-◌, ◌<◌, ◌≤◌, Bool, true, false, cond, List, [], ◌∷◌, ◌++◌, map, length, Option, Some, None, refl, sym, ap, subst, ◌∙◌, bytes_eq, arith, inl, inr}
+use Rattle.std.proofs.Common.{◌≡◌, ℕ, zero, suc, ◌+◌, ◌-◌, ◌<◌, ◌≤◌, Bool, true, false, cond, List, [], ◌∷◌, map, length, Option, Some, None, refl, sym, ap, subst, ◌∙◌, bytes_eq, arith, inl, inr}
 use Rattle.std.specs.Prelude.{◌||◌, ◌&&◌, not, filter}
 use Rattle.std.specs.List.{list_all}
 use Rattle.vlsi_base.specs.Range.{rising}
-use Rattle.vlsi_base.specs.Tree.{Tree}
 use Rattle.vlsi_base.specs.declared.entity.NewName.{NewName}
 use Rattle.vlsi_base.specs.declared.name.Name.{Name}
 use Rattle.vlsi_base.specs.Member.{In, here, there}
@@ -22,7 +21,7 @@ use Rattle.vlsi_model.proofs.Members.{In-cases}
 use Rattle.fsm_text.specs.Written.{StatementTree, asserted, assigned, chosen, selected, BodyTree, finish, next, PartsTree, only, either, further, BranchesTree, closed, others, listed, MachineTree}
 use Rattle.fsm_io.specs.Known.{Named, symbols, texts}
 use Rattle.fsm_io.specs.Drivers.{is_output, unassigned_at, first_of, or_else}
-use Rattle.fsm_io.specs.Elaboration.{Frame, frame_of, state_number, next_number, assign_bits, body_bits, statement_bits, parts_bits, branches_bits}
+use Rattle.fsm_io.specs.Elaboration.{frame_of, state_number, next_number, assign_bits, body_bits, statement_bits, parts_bits, branches_bits}
 use Rattle.fsm_io.specs.Assigned.{always, left_out_at, next_left_out, left_out_of, left_out}
 use Rattle.fsm_io.proofs.Fine.{of_else}
 use Rattle.fsm_io.proofs.Leasts.{unassigned_agree, first_agree}

@@ -1,5 +1,5 @@
 -- The clock and the targets of a text in which nothing is at fault.
-use Rattle.std.proofs.Common.{◌≡◌, ℕ, Bool, true, false, cond, List, [], ◌∷◌, ◌++◌, map, length, Option, Some, None, refl, sym, ap, subst, ◌∙◌, bytes_eq, arith, inl, inr}
+use Rattle.std.proofs.Common.{◌≡◌, ℕ, Bool, true, false, cond, List, [], ◌∷◌, ◌++◌, length, Option, Some, None, refl, sym, ap, subst, ◌∙◌, bytes_eq, arith, inl, inr}
 use Rattle.std.specs.Prelude.{◌&&◌, ◌||◌, not, is_none}
 use Rattle.std.specs.List.{list_any}
 use Rattle.std.proofs.lemmas.Bool.Decides.{nat_tests}
@@ -13,7 +13,7 @@ use Rattle.vlsi_base.specs.declared.name.Name.{Name}
 use Rattle.vlsi_base.specs.declared.range.Range.{Range}
 use Rattle.vlsi_base.specs.Range.{range_bits}
 use Rattle.vlsi_base.specs.Name.{is_supply}
-use Rattle.vlsi_base.specs.Member.{In, here, there, AllDifferent}
+use Rattle.vlsi_base.specs.Member.{In, here, there}
 use Rattle.machine_core.proofs.Values.{In-left, In-right, In-split}
 use Rattle.source_meaning.specs.declared.symbol_table.Role.{Role}
 use Rattle.source_meaning.specs.declared.symbol_table.Role.TheVariants as role
@@ -21,19 +21,18 @@ use Rattle.source_meaning.specs.declared.symbol_table.Symbol.{Symbol}
 use Rattle.source_meaning.specs.declared.statement.Target.{Target}
 use Rattle.source_meaning.specs.declared.statement.Selection.{Selection}
 use Rattle.source_meaning.specs.declared.statement.Selection.TheVariants as selection
-use Rattle.source_meaning.specs.Symbols.{find, symbol_names, names_in, bit_name, symbols_named, port_symbols, role_of_mode, all_names}
+use Rattle.source_meaning.specs.Symbols.{find, symbol_names, bit_name, symbols_named, port_symbols, role_of_mode}
 use Rattle.source_meaning.specs.Drivers.{target_names}
 use Rattle.source_meaning.specs.Formula.{formulas, names_of_found}
 use Rattle.source_meaning.specs.Places.{reads}
 use Rattle.source_meaning.specs.Unsupported.{is_in_mode, is_bit_word, supply_faults, port_form, port_forms}
 use Rattle.source_meaning.specs.Widths.{width, differ, found_width, target_width, target_faults, width_faults, index_fits, range_fits, if_not}
-use Rattle.source_meaning.proofs.Names.{find_text}
 use Rattle.source_meaning.proofs.Lookups.{same_of}
-use Rattle.vlsi_model.proofs.Bits.{IsBit, in_found}
+use Rattle.vlsi_model.proofs.Bits.{IsBit}
 use Rattle.vlsi_model.proofs.Expressions.{AreKnown, empty_left, empty_right, no_line, length-names_in, range_range, width_is}
 use Rattle.vlsi_model.proofs.FineAssignments.{whole_bit, index_bit, range_bit, and_left, and_right}
 use Rattle.fsm_text.specs.Written.{MachineTree}
-use Rattle.fsm_io.specs.Known.{Named, symbols, inner_symbols, generic_symbols, is_clock_port}
+use Rattle.fsm_io.specs.Known.{symbols, inner_symbols, generic_symbols, is_clock_port}
 
 -- ---- the clock
 

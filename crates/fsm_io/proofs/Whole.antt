@@ -1,6 +1,5 @@
 -- Whole texts: what passes, and why others don't.
-use Rattle.std.proofs.Common.{◌≡◌, ℕ, ◌<◌, ◌≤◌, Bool, true, false, cond, List, [], ◌∷◌, length, Option, Some, None, refl, sym, ap, subst, ◌∙◌, inl, inr}
-use Rattle.std.specs.Prelude.{option_map}
+use Rattle.std.proofs.Common.{◌≡◌, ℕ, ◌<◌, Bool, true, false, cond, List, [], ◌∷◌, length, Option, Some, None, refl, sym, ap, subst, ◌∙◌, inl, inr}
 use Rattle.vlsi_base.specs.declared.pragma.Pragma.{Pragma}
 use Rattle.vlsi_base.specs.declared.fault.FaultKind.TheVariants as kind
 use Rattle.vlsi_base.specs.declared.fault.ReadError.{ReadError}
@@ -12,8 +11,7 @@ use Rattle.vhdl_lexer.specs.Listing.{tokens_in}
 use Rattle.fsm_meaning.specs.Fsm.{Fsm}
 use Rattle.fsm_text.specs.Written.{MachineTree}
 use Rattle.fsm_io.specs.Known.{Named, symbols, named, named_in, fits_all}
-use Rattle.fsm_text.specs.Chains.{named_by}
-use Rattle.fsm_io.specs.Checks.{first_fault, fault_of, fault_behind, Passes, PassesLimit, IsRefusedFor}
+use Rattle.fsm_io.specs.Checks.{first_fault, fault_of, fault_behind, PassesLimit, IsRefusedFor}
 use Rattle.fsm_io.specs.Elaboration.{IsMachineOf}
 use Rattle.fsm_io.specs.Laws.{FsmIsChecked}
 use Rattle.fsm_io.specs.Pieces.{HasRoles, PassesBehind, IsPassed, IsRefusedBehind, IsRefusedOrMemory}

@@ -1,5 +1,5 @@
 -- Targets that some state leaves without an assignment on some path of ifs.
-use Rattle.std.specs.Prelude.{ℕ, Bool, List, [], length, Option, None, Some, if◌then◌else◌}
+use Rattle.std.specs.Prelude.{ℕ, Bool, [], length, Option, None, Some, if◌then◌else◌}
 use Rattle.std.specs.List.{list_all}
 use Rattle.vlsi_base.specs.Range.{rising}
 use Rattle.vlsi_base.specs.declared.name.Name.{Name}

@@ -1,7 +1,6 @@
 -- What the text of a state machine comes to: the first check that fails, in their order, or the state machine that it is.
 use Rattle.std.specs.Prelude.{◌≡◌, ◌≤◌, ◌<◌, ◌⊎◌, ℕ, List, [], ◌∷◌, length, Option, None, Some}
 use Rattle.vlsi_base.specs.declared.pragma.Pragma.{Pragma}
-use Rattle.vlsi_base.specs.declared.fault.FaultKind.{FaultKind}
 use Rattle.vlsi_base.specs.declared.fault.FaultKind.TheVariants as kind
 use Rattle.vlsi_base.specs.declared.fault.LimitKind.TheVariants as limit
 use Rattle.vlsi_base.specs.declared.fault.ReadError.{ReadError}

@@ -1,5 +1,5 @@
 -- Where the clock stands that it mustn't, in file order: the lines of the tokens at fault.
-use Rattle.std.specs.Prelude.{ℕ, Bool, true, false, ◌&&◌, bytes_eq, List, [], ◌∷◌, ◌++◌, Option, None, Some, if◌then◌else◌}
+use Rattle.std.specs.Prelude.{ℕ, Bool, true, false, ◌&&◌, bytes_eq, List, [], ◌∷◌, ◌++◌, Some, if◌then◌else◌}
 use Rattle.vlsi_base.specs.Tree.{Tree}
 use Rattle.source_meaning.specs.declared.symbol_table.Symbol.{Symbol}
 use Rattle.source_meaning.specs.Clock.{clock_of, clock_lines, conditions_among, parts_of, is_same_clock}

@@ -1,5 +1,5 @@
 -- Statements, parts and branches one behind the other, on their way to what they are bit by bit.
-use Rattle.std.specs.Prelude.{ℕ, ◌<◌, List, [], ◌∷◌}
+use Rattle.std.specs.Prelude.{◌<◌, List, [], ◌∷◌}
 use Rattle.vlsi_base.specs.Member.{In}
 use Rattle.bool_expr.specs.View.{view}
 use Rattle.fsm_meaning.specs.Statements.{Statements, Parts, further, Branches, listed}

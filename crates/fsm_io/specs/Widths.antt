@@ -1,6 +1,6 @@
 -- Where widths of a state machine don't fit, in file order: the lines of the tokens at fault. The states and the two signals that hold
 -- them have one bit.
-use Rattle.std.specs.Prelude.{ℕ, Bool, true, false, not, bytes_eq, List, [], ◌∷◌, ◌++◌, Option, Some, if◌then◌else◌}
+use Rattle.std.specs.Prelude.{ℕ, Bool, not, bytes_eq, List, [], ◌++◌, Option, Some, if◌then◌else◌}
 use Rattle.source_meaning.specs.declared.symbol_table.Symbol.{Symbol}
 use Rattle.source_meaning.specs.Symbols.{find}
 use Rattle.source_meaning.specs.Widths.{width, differ, found_width, target_width, target_faults, width_faults, condition_faults, if_not, port_faults}

@@ -1,6 +1,5 @@
 -- Declarations that are laid out spell themselves: signals of one bit, and registers.
-use Rattle.std.proofs.Common.{◌≡◌, ℕ, ◌+◌, ◌*◌, ◌≤◌, ◌==◌, Bool, false, List, [], ◌∷◌, ◌++◌, map, Option, None, Some, refl, sym, ap, ◌∙◌, arith, append_assoc}
-use Rattle.std.proofs.lemmas.List.{append-nil}
+use Rattle.std.proofs.Common.{◌≡◌, ℕ, ◌+◌, ◌*◌, ◌≤◌, ◌==◌, Bool, false, List, [], ◌∷◌, ◌++◌, map, Option, None, Some, refl, sym, ap, ◌∙◌, arith}
 use Rattle.vlsi_base.specs.declared.entity.NewName.{NewName}
 use Rattle.vlsi_base.specs.declared.entity.SignalGroup.{SignalGroup}
 use Rattle.vlsi_base.specs.declared.range.Range.{Range}
@@ -12,14 +11,14 @@ use Rattle.grammar_theory.specs.declared.form.Form.TheVariants as form
 use Rattle.grammar_theory.specs.declared.limits.TheConstants.{BITS}
 use Rattle.grammar_theory.specs.Tokens.{code_of}
 use Rattle.grammar_theory.specs.Marks.{State, opens, declares, counts, is_declared}
-use Rattle.grammar_theory.specs.Grammar.{Grammar, nothing, one, ◌or◌, ◌>>=◌, list}
+use Rattle.grammar_theory.specs.Grammar.{list}
 use Rattle.vhdl_front.specs.Cursor.{name_of}
 use Rattle.vhdl_front.specs.Entity.{Names, declared, another, led_names, width, range, scalar, vector, registered, signal_type, signal}
 use Rattle.spell_theory.specs.Spells.{Spells}
 use Rattle.spell_theory.specs.Layout.{Written, turn, line_behind, placed, line_of}
-use Rattle.spell_theory.proofs.Combinators.{spell_nothing, spell_lead, spell_then, spell_left, spell_right, spell_none, spell_more, spell_as, spell_to}
+use Rattle.spell_theory.proofs.Combinators.{spell_nothing, spell_lead, spell_then, spell_left, spell_right, spell_none, spell_more, spell_as}
 use Rattle.spell_theory.proofs.Layouts.{placed_append}
-use Rattle.vhdl_again.specs.Outline.{Bounds, OnePort, a_sign, placed_type, port_bits, with_name, with_bits}
+use Rattle.vhdl_again.specs.Outline.{Bounds, a_sign, placed_type, port_bits, with_name, with_bits}
 use Rattle.vhdl_again.proofs.Entities.{at, spell_word, spell_sign, spell_bounds}
 use Rattle.vhdl_again.proofs.Steps.{Few, opens_step, declares_step, counts_step}
 use Rattle.vst_write.specs.Groups.{Group, bounds_of, declared as declared_as}

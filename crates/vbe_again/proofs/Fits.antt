@@ -1,7 +1,6 @@
 -- Each token of the text of a machine that is laid out is read again where it stands; so the text is a sentence.
-use Rattle.std.proofs.Common.{◌≡◌, ℕ, ◌+◌, ◌-◌, ◌^◌, ◌<◌, ◌≤◌, ◌==◌, Bool, true, false, not, ◌&&◌, List, [], ◌∷◌, ◌++◌, length, Option, None, Some, Ok, refl, sym, subst, arith, codes}
+use Rattle.std.proofs.Common.{◌≡◌, ℕ, ◌+◌, ◌-◌, ◌^◌, ◌<◌, ◌≤◌, Bool, true, false, List, [], ◌∷◌, ◌++◌, length, Option, None, Some, Ok, refl, sym, subst, arith, codes}
 use Rattle.std.specs.List.{All}
-use Rattle.std.specs.Fmt.{decimal}
 use Rattle.std.proofs.lemmas.Fmt.{length-decimal-le}
 use Rattle.std.proofs.lemmas.List.Elements.{All-head, All-tail}
 use Rattle.vlsi_base.specs.declared.name.Name.{Name}
@@ -12,22 +11,20 @@ use Rattle.machine_meaning.specs.Machine.{Equation, Register}
 use Rattle.vhdl_token.specs.Keyword.{keyword_of}
 use Rattle.vhdl_token.specs.declared.keyword.Keyword.TheVariants as word
 use Rattle.vhdl_token.specs.declared.token.PlacedToken.{PlacedToken}
-use Rattle.vhdl_token.specs.declared.token.Token.TheVariants as token
 use Rattle.vhdl_token.specs.declared.token.Sign.TheVariants as sign
 use Rattle.vhdl_lexer.specs.Listing.{tokens_in, refusal_in}
 use Rattle.grammar_theory.specs.declared.limits.TheConstants.{DEPTH}
-use Rattle.grammar_theory.specs.Marks.{State, uncounted}
+use Rattle.grammar_theory.specs.Marks.{uncounted}
 use Rattle.grammar_theory.specs.Outcome.{start}
 use Rattle.grammar_theory.specs.Answers.{AnswersAll}
 use Rattle.port_words.proofs.Numbered.{numbered}
-use Rattle.spell_theory.specs.Layout.{Written, gap, turn, says, text_of, placed}
+use Rattle.spell_theory.specs.Layout.{Written, gap, turn, text_of, placed}
 use Rattle.spell_theory.proofs.Layouts.{first_byte, cut_again}
 use Rattle.spell_theory.proofs.Combinators.{accepts_all}
 use Rattle.vhdl_again.specs.Outline.{Bounds, a_word, a_sign, a_name, entity_layout}
 use Rattle.vhdl_again.specs.EntityAgain.{IsName, AreSmall, CanBeWritten}
 use Rattle.vhdl_again.proofs.VhdlLexer.{vhdl, Fit, fit_both}
 use Rattle.vhdl_again.proofs.Again.{EndsWord, fit_entity}
-use Rattle.vbe_text.specs.Source.{SourceTree}
 use Rattle.vbe_text.specs.Vbe.{vbe, IsSource}
 use Rattle.vst_write.specs.Groups.{Group, bounds_of}
 use Rattle.vst_write.specs.Structure.{bit_layout, name_layout, signal_layout, signals_layout, begin_layout}

@@ -1,9 +1,9 @@
 -- The text of a machine can be laid out: names are words, what is declared is new, and numbers are within the limits.
-use Rattle.std.proofs.Common.{◌≡◌, inl, inr, ℕ, suc, ◌+◌, ◌-◌, ◌<◌, ◌≤◌, ◌^◌, Bool, true, false, not, List, [], ◌∷◌, ◌++◌, map, map-id, length, filter, Option, None, Some, slice_index, refl, sym, ap, subst, ◌∙◌, arith, codes, length-append, get_or}
+use Rattle.std.proofs.Common.{◌≡◌, inl, inr, ℕ, ◌+◌, ◌-◌, ◌<◌, ◌≤◌, ◌^◌, Bool, not, List, [], ◌∷◌, ◌++◌, map, map-id, length, filter, None, Some, slice_index, refl, sym, ap, subst, ◌∙◌, arith, codes, length-append, get_or}
 use Rattle.std.specs.List.{All}
 use Rattle.std.specs.Ordering.{is_lt}
 use Rattle.std.proofs.lemmas.List.{length-map, map-append}
-use Rattle.std.proofs.lemmas.List.Elements.{All-head, All-tail, All-cons, All-nil, All-map, All-weaker, All-append, All-filter, All-get_or}
+use Rattle.std.proofs.lemmas.List.Elements.{All-cons, All-nil, All-map, All-weaker, All-append, All-filter, All-get_or}
 use Rattle.vlsi_base.specs.declared.name.Name.{Name}
 use Rattle.vlsi_base.specs.declared.name.Port.{Port}
 use Rattle.vlsi_base.specs.declared.entity.Mode.TheVariants as mode
@@ -22,20 +22,19 @@ use Rattle.free_names.proofs.Enough.{are_free}
 use Rattle.vhdl_again.specs.Outline.{OnePort}
 use Rattle.vhdl_again.specs.EntityAgain.{IsName, CanBeAPort, CanBeWritten, all_bits}
 use Rattle.net_core.specs.Netlist.{AreInOrder as InOrder}
-use Rattle.vst_write.specs.Groups.{Group, grouped, declared, outline_of, outline}
-use Rattle.vst_again.specs.Says.{IsShort, IsSmall}
+use Rattle.vst_write.specs.Groups.{grouped, declared, outline_of, outline}
+use Rattle.vst_again.specs.Says.{IsSmall}
 use Rattle.vst_again.proofs.Entries.{Entry, Differs, AreDifferent, EntriesNew, total_bits, total_parts, different_parts, all_new, port_entry, signal_entry}
 use Rattle.vst_again.proofs.Fits.{CanBeMentioned}
 use Rattle.vst_again.proofs.Grouped.{Chained, chained, GoodPort, groups_can, groups_differ, bits_again}
 use Rattle.vst_again.proofs.Names.{AllApart, name_of_identifier, entries_differ, kinds_differ, texts_all}
 use Rattle.vst_again.proofs.Netlists.{outline_ports}
-use Rattle.vbe_write.specs.Expressions.{name_of}
 use Rattle.vbe_write.specs.Writable.{CanBeVbe}
 use Rattle.vbe_write.specs.Written.{inner_count, is_output, taken_texts, signal_texts, written_names, written_vars, with_supply_ports, as_port, as_ports}
 use Rattle.vbe_write.proofs.Naming.{as_many_vars}
 use Rattle.vbe_again.specs.Said.{IsWithinLimits}
 use Rattle.vbe_again.proofs.Whole.{Parts, parts_entries, CanBeStated}
-use Rattle.vbe_again.proofs.Fits.{AreMentioned, CanBeGroup, IsMentioned, CanBeSaid}
+use Rattle.vbe_again.proofs.Fits.{AreMentioned, IsMentioned, CanBeSaid}
 use Rattle.vbe_again.proofs.Known.{all_in, all_by, front_all, back_all, unmapped, any_in, apart_of, free_of, IsSignalText, signals_good, renamed_all}
 use Rattle.vbe_again.proofs.Supplied.{supply_groups, all_declared, declared_supplied, written_outline, apart_ports, bits_append, total_declared, group_keys, IsSupplyText, supply_keys}
 

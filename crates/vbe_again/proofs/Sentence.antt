@@ -1,5 +1,5 @@
 -- What is written of a machine is a sentence.
-use Rattle.std.proofs.Common.{◌≡◌, ℕ, List, ◌++◌, map, None, sym, ap, subst}
+use Rattle.std.proofs.Common.{◌≡◌, ℕ, List, ◌++◌, map, None, ap, subst}
 use Rattle.machine_meaning.specs.Machine.{Machine, register_names}
 use Rattle.vhdl_lexer.specs.Listing.{tokens_in, refusal_in}
 use Rattle.spell_theory.specs.Layout.{Written, text_of}

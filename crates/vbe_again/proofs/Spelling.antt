@@ -1,10 +1,10 @@
 -- An expression that is laid out spells itself: names and bits, `not`, and operands that are joined by one gate, however many.
-use Rattle.std.proofs.Common.{◌≡◌, ℕ, zero, suc, ◌+◌, ◌*◌, ◌<◌, ◌≤◌, ◌==◌, Bool, true, false, List, [], ◌∷◌, ◌++◌, Option, None, Some, refl, sym, ap, subst, ◌∙◌, arith, append_assoc}
+use Rattle.std.proofs.Common.{◌≡◌, ℕ, zero, suc, ◌+◌, ◌≤◌, Bool, true, false, List, [], ◌∷◌, ◌++◌, Option, None, Some, refl, sym, ap, subst, ◌∙◌, arith, append_assoc}
 use Rattle.std.proofs.lemmas.List.{append-nil}
 use Rattle.std.proofs.lemmas.Bool.{ne_eqb}
 use Rattle.vlsi_base.specs.declared.expression.Operator.{Operator}
 use Rattle.vlsi_base.specs.declared.name.Name.{Name}
-use Rattle.vlsi_base.specs.Tree.{Tree, bit, name, index, inverse, binary, folded}
+use Rattle.vlsi_base.specs.Tree.{Tree, index, inverse, binary, folded}
 use Rattle.bool_expr.specs.declared.expr.Gate.{Gate}
 use Rattle.bool_expr.specs.declared.expr.Gate.TheVariants as gate
 use Rattle.bool_expr.specs.Expression.{Expression, constant, variable, inverse as not_of, pair, choice}
@@ -15,7 +15,7 @@ use Rattle.grammar_theory.specs.declared.form.Form.{Form}
 use Rattle.grammar_theory.specs.declared.form.Form.TheVariants as form
 use Rattle.grammar_theory.specs.declared.limits.TheConstants.{CHAIN}
 use Rattle.grammar_theory.specs.Tokens.{code, code_of}
-use Rattle.grammar_theory.specs.Marks.{Item, State, plain, opens, run}
+use Rattle.grammar_theory.specs.Marks.{Item, State, plain, opens}
 use Rattle.grammar_theory.specs.Grammar.{Grammar, list, none}
 use Rattle.grammar_theory.specs.Answers.{tokens_of}
 use Rattle.grammar_theory.proofs.Sequence.{run-append}

@@ -1,13 +1,12 @@
 -- Statements that are laid out spell themselves: equations, and blocks with their guards.
-use Rattle.std.proofs.Common.{◌≡◌, ℕ, zero, suc, ◌+◌, ◌-◌, ◌≤◌, ◌<◌, ◌==◌, Bool, true, false, List, [], ◌∷◌, ◌++◌, Option, None, Some, refl, sym, ap, subst, ◌∙◌, arith, append_assoc}
+use Rattle.std.proofs.Common.{◌≡◌, ℕ, suc, ◌+◌, ◌-◌, ◌≤◌, ◌<◌, ◌==◌, true, false, List, [], ◌∷◌, ◌++◌, Option, None, Some, refl, sym, ap, subst, ◌∙◌, arith, append_assoc}
 use Rattle.std.specs.Prelude.{codes}
 use Rattle.std.proofs.lemmas.List.{append-nil}
 use Rattle.std.specs.List.{All}
 use Rattle.std.proofs.lemmas.List.Elements.{All-head, All-tail}
-use Rattle.std.proofs.lemmas.Bool.{ne_eqb}
 use Rattle.vlsi_base.specs.declared.name.Name.{Name}
 use Rattle.vlsi_base.specs.declared.expression.Operator.TheVariants as operator
-use Rattle.vlsi_base.specs.Tree.{Tree, bit, name, stable, inverse, binary, folded}
+use Rattle.vlsi_base.specs.Tree.{Tree, bit, name, stable, inverse, binary}
 use Rattle.bool_expr.specs.declared.expr.Gate.TheVariants as gate
 use Rattle.bool_expr.specs.Expression.{Expression, constant, variable, inverse as not_of, pair, choice}
 use Rattle.machine_meaning.specs.Machine.{Equation, Register}
@@ -16,34 +15,32 @@ use Rattle.vhdl_token.specs.declared.token.PlacedToken.{PlacedToken}
 use Rattle.vhdl_token.specs.declared.token.Token.TheVariants as token
 use Rattle.vhdl_token.specs.declared.token.Sign.TheVariants as sign
 use Rattle.grammar_theory.specs.declared.form.Form.TheVariants as form
-use Rattle.grammar_theory.specs.declared.limits.TheConstants.{CHAIN, DEPTH}
+use Rattle.grammar_theory.specs.declared.limits.TheConstants.{CHAIN}
 use Rattle.grammar_theory.specs.Tokens.{code_of}
 use Rattle.grammar_theory.specs.Marks.{State, plain, starts, chooses, opens, spells}
-use Rattle.grammar_theory.specs.Grammar.{Grammar, nothing, ◌or◌, ◌>>=◌, list}
+use Rattle.grammar_theory.specs.Grammar.{Grammar, list}
 use Rattle.vhdl_front.specs.Cursor.{name_of}
 use Rattle.vhdl_front.specs.Expression.{closing, suffix, named, primary as primary_of, factor, cat, pair as pair_of, relation, joined as joined_by, expression_over, nested, expression}
-use Rattle.source_meaning.specs.declared.statement.Selection.{Selection}
 use Rattle.source_meaning.specs.declared.statement.Selection.TheVariants as selection
-use Rattle.source_meaning.specs.declared.statement.Target.{Target}
-use Rattle.vbe_text.specs.Source.{ChoiceTree, AssignmentTree, StatementTree, asserted, assigned, blocked}
-use Rattle.vbe_text.specs.Vbe.{selected, selecting, target_behind, target, value, assertion, assignment, guarded_assignment, guarded_assignments, guard, repeated, block, labelled, statement}
+use Rattle.vbe_text.specs.Source.{AssignmentTree, StatementTree, assigned, blocked}
+use Rattle.vbe_text.specs.Vbe.{selected, selecting, target_behind, target, assignment, guarded_assignment, guarded_assignments, guard, repeated, block, labelled, statement}
 use Rattle.spell_theory.specs.Spells.{Spells}
 use Rattle.spell_theory.specs.Layout.{Written, gap, turn, says, line_behind, placed, line_of}
-use Rattle.spell_theory.proofs.Combinators.{spell_nothing, spell_lead, spell_then, spell_left, spell_right, spell_none, spell_more, spell_some, spell_as, spell_to}
+use Rattle.spell_theory.proofs.Combinators.{spell_nothing, spell_lead, spell_then, spell_left, spell_right, spell_none, spell_more, spell_some, spell_as}
 use Rattle.spell_theory.proofs.Layouts.{placed_append, line_append}
 use Rattle.vhdl_again.specs.Formula.{with_links}
 use Rattle.vhdl_again.specs.Outline.{a_word, a_sign, a_name}
 use Rattle.vhdl_again.proofs.Entities.{at, spell_word, spell_sign, spell_number}
 use Rattle.vhdl_again.proofs.Expressions.{spell_named, spell_bit, spell_plain_factor, spell_not, spell_relation, spell_joined, spell_alone}
 use Rattle.vhdl_again.proofs.Steps.{Few, plain_step, opens_step, spells_step, started, starts_step, chosen, chooses_step, few_chosen, with_operator}
-use Rattle.vst_write.specs.Structure.{bit_layout, name_layout}
+use Rattle.vst_write.specs.Structure.{bit_layout}
 use Rattle.vst_again.specs.Placed.{selected as selected_by}
 use Rattle.vbe_write.specs.Expressions.{laid, operand, in_parentheses, value_layout}
-use Rattle.vbe_write.specs.Written.{equation_layout, equations_layout, condition_layout, rise_layout, guard_end, guard_layout, label, block_head_layout, block_end, block_layout, loading_layout, register_layout, blocks_layout, clocked_layout, storage_layout}
-use Rattle.vbe_again.specs.Placed.{tree, placed_value, placed_target, placed_assignment, placed_equations, rises, with_condition, placed_guard, placed_block, placed_blocks, placed_clocked, placed_storage}
+use Rattle.vbe_write.specs.Written.{equation_layout, equations_layout, condition_layout, guard_end, label, block_head_layout, block_end, block_layout, loading_layout, register_layout, blocks_layout, clocked_layout, storage_layout}
+use Rattle.vbe_again.specs.Placed.{tree, placed_value, placed_target, placed_assignment, placed_equations, rises, with_condition, placed_guard, placed_blocks, placed_clocked, placed_storage}
 use Rattle.vbe_again.specs.Nesting.{shape_of, operand_within, IsWithin, IsValueWithin}
-use Rattle.vbe_again.specs.Said.{operators, alternatives, IsFewValues}
-use Rattle.vbe_again.proofs.Spelling.{gate_form, inner_of, on_line, flat, flat_operand, can_spell, as_operand, spell_closed_in, spell_nested, joined_whole, none_more}
+use Rattle.vbe_again.specs.Said.{operators, IsFewValues}
+use Rattle.vbe_again.proofs.Spelling.{gate_form, inner_of, on_line, flat, flat_operand, can_spell, as_operand, spell_closed_in, spell_nested, joined_whole}
 use Rattle.vbe_again.proofs.Values.{Begins, spell_begun, Stated, valued, stated}
 
 -- ---- targets

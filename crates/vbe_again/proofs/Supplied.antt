@@ -1,5 +1,5 @@
 -- The ports of a text with the supplies behind them: their groups, and what an entity of them declares.
-use Rattle.std.proofs.Common.{◌≡◌, ◌⊎◌, inl, inr, ℕ, suc, ◌+◌, ◌<◌, ◌≤◌, Bool, true, false, cond, List, [], ◌∷◌, ◌++◌, map, length, bytes_eq, refl, sym, ap, ◌∙◌, arith, codes, length-append}
+use Rattle.std.proofs.Common.{◌≡◌, ◌⊎◌, inl, inr, ℕ, ◌+◌, ◌<◌, ◌≤◌, Bool, true, false, cond, List, [], ◌∷◌, ◌++◌, map, length, bytes_eq, refl, ap, ◌∙◌, arith, codes}
 use Rattle.std.specs.List.{All}
 use Rattle.std.proofs.lemmas.List.{map-append}
 use Rattle.std.proofs.lemmas.List.Elements.{All-head, All-tail, All-cons, All-nil, All-weaker}
@@ -8,7 +8,7 @@ use Rattle.vlsi_base.specs.declared.name.Dir.TheVariants as dir
 use Rattle.vlsi_base.specs.Names.{vdd, vss}
 use Rattle.machine_core.specs.Checked.{IsNoSupply}
 use Rattle.grammar_theory.specs.declared.limits.TheConstants.{BITS}
-use Rattle.vhdl_again.specs.Outline.{OnePort, Outline}
+use Rattle.vhdl_again.specs.Outline.{OnePort}
 use Rattle.vhdl_again.specs.EntityAgain.{IsName, CanBeAPort, CanBeWritten, IsApart, AreApart, all_bits}
 use Rattle.net_core.proofs.Lookups.{same_of}
 use Rattle.vst_write.specs.Groups.{Group, group_of, led_by, grouped, declared, outline_of}

@@ -1,5 +1,5 @@
 -- A value that is laid out spells itself, with the conditions of its alternatives.
-use Rattle.std.proofs.Common.{◌≡◌, ℕ, suc, ◌+◌, ◌≤◌, ◌<◌, Bool, true, false, Option, List, [], ◌∷◌, ◌++◌, refl, sym, ap, subst, ◌∙◌, arith, append_assoc}
+use Rattle.std.proofs.Common.{◌≡◌, ℕ, ◌+◌, ◌≤◌, ◌<◌, Bool, true, false, List, [], ◌∷◌, ◌++◌, refl, sym, ap, subst, ◌∙◌, arith, append_assoc}
 use Rattle.std.proofs.lemmas.List.{append-nil}
 use Rattle.vlsi_base.specs.declared.name.Name.{Name}
 use Rattle.vlsi_base.specs.Tree.{Tree}
@@ -16,17 +16,17 @@ use Rattle.grammar_theory.specs.Tokens.{code_of}
 use Rattle.grammar_theory.specs.Marks.{State, starts, again}
 use Rattle.grammar_theory.specs.Grammar.{Grammar, list, placed as placed_at}
 use Rattle.vhdl_front.specs.Expression.{expression}
-use Rattle.vbe_text.specs.Source.{FurtherTree, ChoiceTree}
+use Rattle.vbe_text.specs.Source.{FurtherTree}
 use Rattle.vbe_text.specs.Vbe.{choice_of, further, choice as choice_at, delay, value}
 use Rattle.spell_theory.specs.Spells.{Spells}
-use Rattle.spell_theory.specs.Layout.{Written, gap, turn, says, line_behind, placed, line_of}
+use Rattle.spell_theory.specs.Layout.{Written, gap, turn, line_behind, placed, line_of}
 use Rattle.spell_theory.proofs.Combinators.{spell_nothing, spell_lead, spell_then, spell_right, spell_none, spell_more, spell_placed, spell_as, spell_same}
 use Rattle.spell_theory.proofs.Layouts.{placed_append}
 use Rattle.vhdl_again.specs.Formula.{with_links}
 use Rattle.vhdl_again.specs.Outline.{a_word, a_sign}
 use Rattle.vhdl_again.proofs.Entities.{at, spell_sign}
 use Rattle.vhdl_again.proofs.Steps.{Few, started, starts_step, one_alternative, again_step, few_alternatives}
-use Rattle.vst_write.specs.Structure.{bit_layout, name_layout}
+use Rattle.vst_write.specs.Structure.{bit_layout}
 use Rattle.vbe_write.specs.Expressions.{Shape, atom, turned, joined, Laid, gate_word, chains, in_parentheses, unless, primary, operand, leading, laid, name_of, expression_layout, value_layout}
 use Rattle.vbe_again.specs.Placed.{tree, with_alternative, placed_value}
 use Rattle.vbe_again.specs.Nesting.{IsValueWithin}

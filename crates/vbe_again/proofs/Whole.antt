@@ -1,5 +1,5 @@
 -- The text of a machine that is laid out spells itself.
-use Rattle.std.proofs.Common.{◌≡◌, ℕ, suc, ◌-◌, ◌==◌, Bool, false, List, [], ◌∷◌, ◌++◌, map, Option, refl, sym, ap, ◌∙◌, append_assoc}
+use Rattle.std.proofs.Common.{◌≡◌, ℕ, suc, ◌-◌, ◌==◌, false, List, [], ◌∷◌, ◌++◌, map, Option, refl, sym, ap, ◌∙◌, append_assoc}
 use Rattle.std.specs.List.{All}
 use Rattle.std.proofs.lemmas.List.{append-nil}
 use Rattle.vlsi_base.specs.declared.name.Name.{Name}
@@ -13,11 +13,10 @@ use Rattle.vhdl_token.specs.declared.token.Sign.TheVariants as sign
 use Rattle.grammar_theory.specs.declared.form.Form.TheVariants as form
 use Rattle.grammar_theory.specs.Tokens.{code_of}
 use Rattle.grammar_theory.specs.Marks.{State, spells}
-use Rattle.grammar_theory.specs.Grammar.{Grammar, nothing, one, ◌or◌, ◌>>=◌, list}
 use Rattle.vhdl_front.specs.Cursor.{name_of}
 use Rattle.vhdl_front.specs.Entity.{declarations}
 use Rattle.vbe_text.specs.Source.{StatementTree, SourceTree}
-use Rattle.vbe_text.specs.Vbe.{repeated, statement, statements, belonging, architecture_head, architecture, source}
+use Rattle.vbe_text.specs.Vbe.{repeated, statements, belonging, architecture_head, architecture, source}
 use Rattle.spell_theory.specs.Spells.{Spells}
 use Rattle.spell_theory.specs.Layout.{Written, line_behind, placed, line_of}
 use Rattle.spell_theory.proofs.Combinators.{spell_nothing, spell_lead, spell_then, spell_left, spell_as, spell_to}

@@ -1,5 +1,4 @@
-use Rattle.std.proofs.Common.{◌≡◌, ◌++◌, List, Bool, sym, ap, subst, ◌∙◌}
-use Rattle.vlsi_base.specs.declared.name.Name.{Name}
+use Rattle.std.proofs.Common.{◌++◌, List, Bool, sym, ap, subst, ◌∙◌}
 use Rattle.fsm_io.specs.Pieces.{AreMarked, mark_each}
 use Rattle.source_meaning.specs.Drivers.{target_names}
 use Rattle.fsm_io.proofs.Marks.{marked_more}

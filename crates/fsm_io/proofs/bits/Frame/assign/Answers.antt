@@ -10,7 +10,6 @@ use Rattle.bool_expr.specs.View.{view}
 use Rattle.source_meaning.specs.Symbols.{all_names}
 use Rattle.source_meaning.specs.Drivers.{target_names}
 use Rattle.source_meaning.specs.Formula.{formulas, place}
-use Rattle.vlsi_model.specs.Numbered.{name_at}
 use Rattle.vlsi_model.proofs.Naming.{name_is}
 use Rattle.fsm_meaning.specs.Statements.{Statements as Meaning, assign, output}
 use Rattle.fsm_code.specs.View.{body_view}

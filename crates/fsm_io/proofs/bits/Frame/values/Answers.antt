@@ -1,4 +1,4 @@
-use Rattle.std.proofs.Common.{map, ap, ◌∙◌, arith}
+use Rattle.std.proofs.Common.{map, ap, ◌∙◌}
 use Rattle.bool_expr.specs.View.{view}
 use Rattle.source_meaning.specs.Symbols.{all_names}
 use Rattle.source_meaning.specs.Formula.{formulas}

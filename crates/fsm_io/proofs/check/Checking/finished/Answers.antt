@@ -1,5 +1,4 @@
 use Rattle.std.proofs.Common.{◌≡◌, length, ap, sym, ◌∙◌, None}
-use Rattle.vlsi_base.specs.declared.name.Port.{Port}
 use Rattle.fsm_code.specs.View.{body_view}
 use Rattle.fsm_io.specs.Checks.{fault_behind}
 use Rattle.fsm_io.specs.Pieces.{tree_of, roles_of, body_over, PassesBehind}

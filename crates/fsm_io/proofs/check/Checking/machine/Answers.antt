@@ -1,6 +1,5 @@
-use Rattle.std.proofs.Common.{List, map, ap, sym, subst, ◌∙◌}
+use Rattle.std.proofs.Common.{map, ap, sym, subst, ◌∙◌}
 use Rattle.vlsi_base.specs.declared.entity.NewName.{NewName}
-use Rattle.vlsi_base.specs.declared.name.Name.{Name}
 use Rattle.source_meaning.specs.Symbols.{scalar}
 use Rattle.fsm_meaning.specs.Fsm.{Fsm}
 use Rattle.fsm_code.specs.View.{body_view}
