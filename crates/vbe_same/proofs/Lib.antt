@@ -1,8 +1,8 @@
-mod Ordered
+pub mod Ordered
 mod Readings
 mod Parts
 mod Weights
 mod Cells
-mod Values
+pub mod Values
 mod Meaning
 mod Same

@@ -1,0 +1,13 @@
+pub mod Trees
+pub mod Plain
+pub mod Formulas
+pub mod Guards
+pub mod Stated
+pub mod Rings
+pub mod Alike
+pub mod Copies
+pub mod Renamed
+pub mod Declared
+pub mod Named
+pub mod Passing
+pub mod Reading
