@@ -111,7 +111,7 @@ few_made m o is given h =
     let k = h.kept in
     let vars = ap length k.vars ∙ length-append (held_names m) (new_names k.text k.count ++ equation_names m) in
     let behind = length-append (new_names k.text k.count) (equation_names m) in
-    let count = length-map (rising 0 k.count) (λ (i : ℕ). record { text = k.text; bit = Some i }) ∙ length_of_rising 0 k.count in
+    let count = length-map {B = Name} (rising 0 k.count) (λ (i : ℕ). record { text = k.text; bit = Some i }) ∙ length_of_rising 0 k.count in
     let all = ap length is ∙ length-append (held_names m) (equation_names m) in
     let ports = ap length h.alike.ports in
     let few = k.few in

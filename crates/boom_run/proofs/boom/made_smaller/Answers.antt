@@ -33,7 +33,8 @@ product-requires-clause-small c =
     omega (arith, given, made)
 
 pub optimise_within-requires : goal.optimise_within-requires
-optimise_within-requires c = c.source_has_few_names.ensures c.args.source.now c.in-Ok.machine c.in-Ok.ensures.accepted c.in-Ok-check_size.ensures.small
+optimise_within-requires c =
+    record { few = c.source_has_few_names.ensures c.args.source.now c.in-Ok.machine c.in-Ok.ensures.accepted c.in-Ok-check_size.ensures.small }
 
 pub product-requires-clause-few : goal.product-requires-clause-few
 product-requires-clause-few c =
