@@ -1,8 +1,8 @@
 mod Letters
-mod Cut
-mod Saying
-mod Sources
-mod Declaring
+pub mod Cut
+pub mod Saying
+pub mod Sources
+pub mod Declaring
 mod Supplied
 mod Running
 mod Stored
