@@ -6,7 +6,7 @@ use Rattle.machine_meaning.specs.Machine.{Machine}
 use Rattle.vbe_io.specs.Text.{IsVbe, IsVbeRefusal}
 use Rattle.fsm_meaning.specs.Fsm.{Fsm}
 use Rattle.fsm_machine.specs.Codes.{Codes}
-use Rattle.fsm_io.specs.Text.{IsFsm, IsFsmRefusal}
+use Rattle.fsm_io.specs.Text.{IsFsmRefusal}
 use Rattle.syf_run.specs.Syf.{style_of, IsEncodedSource}
 use Rattle.tool_words.specs.declared.command.FlowCommand.{FlowCommand}
 

@@ -7,8 +7,8 @@ use Rattle.flow_run.proofs.Refusing.{by_unread, by_kinds, by_budget}
 use Rattle.flow_run.proofs.Drawing.{source_declared, few_names, may_be_drawn}
 use Rattle.flow_run.proofs.flow.laid_out.Goals as goal
 
-pub netlist_within-requires : goal.netlist_within-requires
-netlist_within-requires c = record {
+pub netlist_within-mapped-requires : goal.netlist_within-mapped-requires
+netlist_within-mapped-requires c = record {
   ports = (source_declared c.netlist_law.ensures.declared c.encoded_law.ensures.declared c.args.command.now c.args.source.now
       (origin_view c.in-Ok.read.source.origin) c.in-Ok.read.source.machine c.in-Ok.ensures.read.machine).few_ports;
   few = few_names c.source_has_few_names.ensures c.args.command.now c.args.source.now c.args.catal.now c.args.cells.now
@@ -19,8 +19,8 @@ pub product-requires-clause-netlist : goal.product-requires-clause-netlist
 product-requires-clause-netlist c =
     may_be_drawn c.library_law.ensures.passes c.library_law.ensures.plain c.netlist_law.ensures.declared c.encoded_law.ensures.declared
     c.netlist_law.ensures.writable c.netlist_law.ensures.small c.netlist_law.ensures.short c.args.command.now c.args.source.now c.args.catal.now c.args.cells.now
-    (origin_view c.in-Ok.read.source.origin) c.in-Ok.read.source.machine c.in-Ok.read.library c.in-Ok-netlist_within.mapped.netlist
-    c.in-Ok-netlist_within.mapped.nodes c.in-Ok.ensures.read c.in-Ok-netlist_within.ensures.mapped
+    (origin_view c.in-Ok.read.source.origin) c.in-Ok.read.source.machine c.in-Ok.read.library c.in-Ok-mapped.mapped.netlist
+    c.in-Ok-mapped.mapped.nodes c.in-Ok.ensures.read c.in-Ok-mapped.ensures.mapped
 
 pub returns-in-Err : goal.returns-in-Err
 returns-in-Err c =
@@ -33,11 +33,11 @@ returns-in-Err-check_kinds c =
     (by_kinds c.args.command.now c.args.source.now c.args.catal.now c.args.cells.now (origin_view c.in-Ok.read.source.origin) c.in-Ok.read.source.machine
     c.in-Ok.read.library c.in-Err-check_kinds.status c.in-Ok.ensures.read c.in-Err-check_kinds.ensures.missing)
 
-pub returns-in-Err-netlist_within : goal.returns-in-Err-netlist_within
-returns-in-Err-netlist_within c =
-    subst (λ (r : Refusal). IsJudged (LaysOut c.args.command.now c.args.source.now c.args.catal.now c.args.cells.now) (Err r)) (sym c.plain-in-Err-netlist_within.ensures)
+pub returns-in-Err-mapped : goal.returns-in-Err-mapped
+returns-in-Err-mapped c =
+    subst (λ (r : Refusal). IsJudged (LaysOut c.args.command.now c.args.source.now c.args.catal.now c.args.cells.now) (Err r)) (sym c.plain-in-Err-mapped.ensures)
     (by_budget c.args.command.now c.args.source.now c.args.catal.now c.args.cells.now (origin_view c.in-Ok.read.source.origin) c.in-Ok.read.source.machine
-    c.in-Ok.read.library c.in-Err-netlist_within.status c.in-Ok.ensures.read c.in-Ok-check_kinds.ensures.covered c.in-Err-netlist_within.ensures.refused)
+    c.in-Ok.read.library c.in-Err-mapped.status c.in-Ok.ensures.read c.in-Ok-check_kinds.ensures.covered c.in-Err-mapped.ensures.refused)
 
 pub returns : goal.returns
 returns c = record {
@@ -46,6 +46,6 @@ returns c = record {
   l = c.in-Ok.read.library;
   read = c.in-Ok.ensures.read;
   covered = c.in-Ok-check_kinds.ensures.covered;
-  within = c.in-Ok-netlist_within.ensures.mapped.made.within;
+  within = c.in-Ok-mapped.ensures.mapped.made.within;
   drawn = c.in_ok-drawn.ensures;
 }
