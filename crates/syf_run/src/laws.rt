@@ -3,6 +3,7 @@ ghost use Rattle.syf_run.specs.Laws.{EncodedCanBeDeclared, EncodedIsOne};
 
 use fsm_io::one_fsm;
 use fsm_words::fsm_is_named;
+use vbe_words::{in_order_can_be_written, pins_are_named};
 
 /// The machine that a state machine's text is made can be declared by an entity of a text, its ports with the supplies. And a text is
 /// made one machine by one style. It costs nothing when it is called.
@@ -11,5 +12,7 @@ pub fn encoded_law()
     ensures one { EncodedIsOne }
 {
     fsm_is_named();
+    pins_are_named();
+    in_order_can_be_written();
     one_fsm();
 }
