@@ -46,7 +46,7 @@ FIVE = ["inv_x1", "na2_x1", "zero_x0", "one_x0", "sff1_x4"]
 MORE = ["inv_x8", "na3_x1", "sff1_x8", "xr2_x1", "mx2_x2", "buf_x2"]
 WORDS = ["flow", "s.vbe", "-l", "lib", "-o", "r", "--tracks"]
 OPTIONS = {"-l": "", "-o": "", "--nodes": "", "-e": "", "--seed": ""}
-MACHINES, STATE_MACHINES, CHUNK = 200, 60, 20
+MACHINES, STATE_MACHINES, CHUNK = 200, 30, 20
 
 
 # ---- the second answer

@@ -24,7 +24,7 @@ from words import TOOLS_LINE, command, held, trouble
 
 USAGE = "usage: alliance syf SOURCE.fsm -o NAME [-e STYLE] [--seed N]\n"
 STYLES, MOST_SEED = "orj", 2**32 - 1
-VECTORS, STATES, MACHINES, CHUNK = 10, 20, 240, 20
+VECTORS, STATES, MACHINES, CHUNK = 10, 20, 120, 20
 
 
 # ---- the second answer
