@@ -169,7 +169,8 @@ impl Sought<'_> {
         requires room { place.next + branch_signals (branches_view branches.now) < 2 ^ 32 }
         ensures next { IfOk result (λ r. r.next ≡ place.next + branch_signals (branches_view branches.now)) }
         ensures value { IfOk result (λ r. view r.value
-            ≡ final_branches (given_to self.now.target) place.path place.next (numbered_branches self.now.numbers.now (branches_view branches.now)) (view value)) }
+            ≡ final_branches (given_to self.now.target) place.path place.next
+                (numbered_branches self.now.numbers.now (branches_view branches.now)) (view value)) }
     {
         match branches {
             Branches::Closed => Ok(Reached {

@@ -1,5 +1,4 @@
 pub mod Once
-pub mod Measures
 pub mod Steps
 pub mod Marks
 pub mod Leasts
@@ -19,5 +18,4 @@ pub mod Whole
 pub mod Linking
 pub mod OverPorts
 pub mod Suiting
-pub mod Ordered
 pub mod Reading

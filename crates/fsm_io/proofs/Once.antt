@@ -9,7 +9,7 @@ use Rattle.vlsi_base.specs.declared.name.Name.{Name}
 use Rattle.vlsi_base.specs.declared.name.Port.{Port}
 use Rattle.machine_meaning.specs.Machine.{names_of}
 use Rattle.source_meaning.specs.Elaboration.{port_bits}
-use Rattle.fsm_io.proofs.Ordered.{one_order}
+use Rattle.vlsi_model.proofs.OneOrder.{one_order}
 use Rattle.fsm_text.specs.Written.{MachineTree}
 use Rattle.fsm_text.proofs.Laws as text
 use Rattle.fsm_io.specs.Known.{Named, named, symbols}

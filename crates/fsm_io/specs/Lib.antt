@@ -10,7 +10,6 @@ pub mod Elaboration
 pub mod Assigned
 pub mod Checks
 pub mod Text
-pub mod Measure
 pub mod Pieces
 pub mod Linked
 pub mod Laws

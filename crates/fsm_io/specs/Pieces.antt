@@ -1,5 +1,5 @@
 -- What the code holds on its way.
-use Rattle.std.specs.Prelude.{◌≡◌, ◌<◌, ◌≤◌, ◌⊎◌, ℕ, Bool, List, [], ◌∷◌, map, length, slice_index_or, slice_set, true, false, bytes_eq, Option, None, Some}
+use Rattle.std.specs.Prelude.{◌≡◌, ◌<◌, ◌≤◌, ◌⊎◌, ℕ, Bool, List, [], ◌∷◌, ◌++◌, map, length, slice_index_or, slice_set, true, false, bytes_eq, Option, None, Some}
 use Rattle.vlsi_base.specs.Tree.{Tree, view}
 use Rattle.vlsi_base.specs.declared.name.Name.{Name}
 use Rattle.vlsi_base.specs.declared.name.Port.{Port}
@@ -54,11 +54,6 @@ mention_of (held.States states) = listing states.now
 abbrev pub named_of : Roles → Named
 named_of r = record { current = r.current.now; next = r.next.now; clock = r.clock.now }
 
--- the fault at a line, if there is one
-abbrev pub line_fault : FaultKind → Option ℕ → Option ReadError
-line_fault k None = None
-line_fault k (Some line) = Some (fault k line [])
-
 abbrev pub first_use : List Use → Option Use
 first_use [] = None
 first_use (u ∷ _) = Some u
@@ -80,6 +75,14 @@ is_marked marks k = slice_index_or marks k false
 pub record AreMarked (known : List Symbol) (names : List Name) (marks : List Bool) : Type 0 where
   pub each : length marks ≡ length (all_names known)
   pub marked : (n : Name) → In n (all_names known) → is_marked marks (place (all_names known) n) ≡ is_among names n
+
+-- a declared bit is marked
+abbrev pub is_marked_bit : List Symbol → List Bool → Name → Bool
+is_marked_bit known marks n = is_marked marks (place (all_names known) n)
+
+-- whatever was marked, these more are now
+abbrev pub MarksMore : List Symbol → List Name → List Bool → List Bool → Type 0
+MarksMore known more old new = (names : List Name) → AreMarked known names old → AreMarked known (names ++ more) new
 
 -- ---- what is looked for
 
@@ -201,6 +204,10 @@ pub record PassesBehind (m : MachineTree) (n : Named) : Type 0 where
   pub no_fault : fault_behind m n ≡ None
   pub few_ports : ports_count m ≤ most_ports
   pub few_states : length m.states.states ≤ most_states
+
+-- no check behind that of the pragmas fails, and the text is this state machine
+abbrev pub IsMadeBehind : MachineTree → Named → Fsm → Type 0
+IsMadeBehind m n f = PassesBehind m n × IsMachineOf m n f
 
 -- the text passes all checks, and is this state machine
 pub record IsPassed (m : MachineTree) (pragmas : List Pragma) (f : Fsm) : Type 0 where

@@ -147,7 +147,8 @@ fn least_code(
     body: &Statements,
     codes: &[u64],
 ) -> Result<Option<u64>, AllocError>
-    ensures { IfOk result (λ least. least ≡ least_code (filter (λ c. not (always count (sets_output (name_at symbol.now.text c)) (body_view body.now))) codes.now)) }
+    ensures { IfOk result (λ least. least ≡ least_code
+        (filter (λ c. not (always count (sets_output (name_at symbol.now.text c)) (body_view body.now))) codes.now)) }
 {
     let mut least: Option<u64> = None;
     for code in codes {

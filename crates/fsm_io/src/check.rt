@@ -20,13 +20,12 @@ ghost use Rattle.fsm_io.specs.States.{all_bad_states};
 ghost use Rattle.fsm_io.specs.Assigned.{left_out_of};
 ghost use Rattle.fsm_io.specs.Checks.{most_states, ports_count, PassesLimit, if_state};
 ghost use Rattle.fsm_io.specs.Elaboration.{IsMachineOf};
-ghost use Rattle.fsm_io.specs.Pieces.{named_of, tree_of, roles_of, HasRoles, Suits, names_fault, forms_fault, states_fault, early_fault, body_over, PassesBehind, IsPassed, IsRefusedOrMemory, IsRefusedBehind};
+ghost use Rattle.fsm_io.specs.Pieces.{named_of, tree_of, roles_of, HasRoles, Suits, names_fault, forms_fault, states_fault, early_fault, body_over, IsMadeBehind, IsPassed, IsRefusedOrMemory, IsRefusedBehind};
 
 use crate::assigned::left_out;
 use crate::bits::Frame;
 use crate::clock::clock_fault;
 use crate::drivers::undriven;
-use crate::faults::{fault, line_fault, name_fault, text_fault};
 use crate::forms::unsupported;
 use crate::known::{Roles, named_roles, symbol_table};
 use crate::mentions::{Mention, mentions};
@@ -42,7 +41,9 @@ use std::alloc::{AllocError, Global};
 use vlsi_base::{
     FaultKind, Limit, LimitKind, Name, Names, NewName, Port, Ports, Pragma, ReadError,
 };
-use vlsi_model::{ports_in_file_order, sorted_ports, var_numbers};
+use vlsi_model::{
+    fault, line_fault, name_fault, ports_in_file_order, sorted_ports, text_fault, var_numbers,
+};
 
 /// The most port bits that a state machine may have.
 const MOST_PORTS: usize = 4096;
@@ -348,7 +349,7 @@ fn check_named(
     requires roles { HasRoles (machine_view file.now) (named_of roles) }
     requires some_state { 0 < length (machine_view file.now).states.states }
     requires listed { HasStates (machine_view file.now).step.body }
-    ensures machine { IfOk result (λ f. PassesBehind (machine_view file.now) (named_of roles.entry) × IsMachineOf (machine_view file.now) (named_of roles.entry) f) }
+    ensures machine { IfOk result (λ f. IsMadeBehind (machine_view file.now) (named_of roles.entry) f) }
     ensures refused { IfErr result (λ e. IsRefusedBehind (machine_view file.now) (named_of roles.entry) e) }
 {
     let numbers = Numbers::new(alloc, table)?;

@@ -1,17 +1,14 @@
 // Outputs that nothing assigns.
-ghost use Rattle.std.specs.Prelude.{◌≡◌, ◌++◌, List, None, map, filter, not, IfOk, OnOk};
+ghost use Rattle.std.specs.Prelude.{◌≡◌, map, filter, not, IfOk, OnOk};
 ghost use Rattle.std.specs.List.{flat_map};
-ghost use Rattle.vlsi_base.specs.declared.name.Name.{Name};
 ghost use Rattle.machine_core.specs.Order.{AllDifferent};
 ghost use Rattle.source_meaning.specs.Codes.{name_at, codes_in, least_code};
 ghost use Rattle.source_meaning.specs.Drivers.{target_names};
-ghost use Rattle.source_meaning.specs.Symbols.{all_names};
-ghost use Rattle.source_meaning.specs.Formula.{place};
 ghost use Rattle.fsm_text.specs.Written.{machine_view};
 ghost use Rattle.fsm_io.specs.Known.{symbols};
 ghost use Rattle.fsm_io.specs.Looks.{all_mentions};
 ghost use Rattle.fsm_io.specs.Drivers.{names_at, unassigned_at, first_of, first_unassigned, is_output};
-ghost use Rattle.fsm_io.specs.Pieces.{mention_of, AreMarked, mark_each, is_marked};
+ghost use Rattle.fsm_io.specs.Pieces.{mention_of, AreMarked, MarksMore, mark_each, is_marked, is_marked_bit};
 
 use crate::codes::{bit_of, codes_in, least_with, name_with};
 use crate::mentions::Mention;
@@ -47,7 +44,7 @@ fn mark_target(
     target: &Target,
 ) -> Result<(), AllocError>
     requires { AllDifferent (map (λ s. s.text) numbers.now) }
-    ensures { OnOk result ((names : List Name) → AreMarked numbers.now names marks.old.items → AreMarked numbers.now (names ++ target_names numbers.now target.now) marks.new.items) }
+    ensures { OnOk result (MarksMore numbers.now (target_names numbers.now target.now) marks.old.items marks.new.items) }
 {
     let places = target_places(alloc, numbers, target)?;
     mark_all(marks, &places);
@@ -61,8 +58,7 @@ fn mark_mention(
     mention: Mention,
 ) -> Result<(), AllocError>
     requires { AllDifferent (map (λ s. s.text) numbers.now) }
-    ensures { OnOk result ((names : List Name) → AreMarked numbers.now names marks.old.items
-        → AreMarked numbers.now (names ++ names_at numbers.now (mention_of mention.entry)) marks.new.items) }
+    ensures { OnOk result (MarksMore numbers.now (names_at numbers.now (mention_of mention.entry)) marks.old.items marks.new.items) }
 {
     match mention {
         Mention::Assignment(target, _, _) => mark_target(alloc, numbers, marks, target),
@@ -103,7 +99,8 @@ fn least_unmarked(
     codes: &[u64],
 ) -> Result<Option<u64>, AllocError>
     requires { AllDifferent (map (λ s. s.text) numbers.now) }
-    ensures { IfOk result (λ least. least ≡ least_code (filter (λ c. not (is_marked marks.now (place (all_names numbers.now) (name_at symbol.now.text c)))) codes.now)) }
+    ensures { IfOk result (λ least. least
+        ≡ least_code (filter (λ c. not (is_marked_bit numbers.now marks.now (name_at symbol.now.text c))) codes.now)) }
 {
     let mut least: Option<u64> = None;
     for code in codes {
@@ -122,7 +119,7 @@ fn unassigned_at(
     symbol: &Symbol,
 ) -> Result<Option<NameFault>, AllocError>
     requires { AllDifferent (map (λ s. s.text) numbers.now) }
-    ensures { IfOk result (λ found. found ≡ unassigned_at (λ n. is_marked marks.now (place (all_names numbers.now) n)) symbol.now) }
+    ensures { IfOk result (λ found. found ≡ unassigned_at (is_marked_bit numbers.now marks.now) symbol.now) }
 {
     if !is_output(symbol.role) {
         return Ok(None);
@@ -146,7 +143,7 @@ fn first_unmarked(
     symbols: &[Symbol],
 ) -> Result<Option<NameFault>, AllocError>
     requires { AllDifferent (map (λ s. s.text) numbers.now) }
-    ensures { IfOk result (λ found. found ≡ first_of (unassigned_at (λ n. is_marked marks.now (place (all_names numbers.now) n))) symbols.now) }
+    ensures { IfOk result (λ found. found ≡ first_of (unassigned_at (is_marked_bit numbers.now marks.now)) symbols.now) }
 {
     for symbol in symbols {
         let found = unassigned_at(alloc, numbers, marks, symbol)?;

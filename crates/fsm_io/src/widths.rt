@@ -10,12 +10,12 @@ ghost use Rattle.fsm_io.specs.Widths.{wide_enough, widths_at, clock_widths, all_
 ghost use Rattle.fsm_io.specs.Pieces.{mention_of, named_of};
 
 use crate::known::{Roles, same};
-use crate::measure::{
-    condition_fault, differ, found_width, measured, target_fault, target_width, value_fault,
-};
 use crate::mentions::Mention;
 use fsm_text::{ClockProcess, StateFile};
-use source_meaning::{SymbolTable, Target, ports_fault};
+use source_meaning::{
+    SymbolTable, Target, condition_fault, differ, found_width, measured, ports_fault, target_fault,
+    target_width, value_fault,
+};
 use std::alloc::AllocError;
 use vlsi_base::ParsedExpr;
 

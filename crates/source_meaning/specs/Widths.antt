@@ -40,8 +40,11 @@ operator_width operator.Equal a b = 1
 operator_width operator.Unequal a b = 1
 operator_width _ a b = a
 
--- the width of what an operator gives; none where an operand has none, or where they should be equal and aren't
+-- The width of what an operator gives: one bit of a relation, whatever its operands are; of other operators none where an operand
+-- has none, or where they should be equal and aren't.
 abbrev pub joined_width : Operator → Option ℕ → Option ℕ → Option ℕ
+joined_width operator.Equal a b = Some 1
+joined_width operator.Unequal a b = Some 1
 joined_width op (Some a) (Some b) = if not (needs_equal op) || nat_eq a b then Some (operator_width op a b) else None
 joined_width op _ _ = None
 

@@ -22,4 +22,7 @@ pub use statement::{
 pub use symbol_table::{Role, Symbol, SymbolTable};
 pub use twice::repeated;
 pub use undeclared::{Place, unknown, unknown_name, unknown_read};
-pub use widths::{declared_fault, has_bit, ports_fault, width_fault};
+pub use widths::{
+    Measure, condition_fault, declared_fault, differ, found_width, has_bit, measured, ports_fault,
+    target_fault, target_width, value_fault, width_fault,
+};

@@ -43,7 +43,7 @@ pub fn has_bit(range: Range, k: u32) -> bool
 }
 
 /// How many bits a name has; 0 where it isn't declared.
-fn found_width(table: &SymbolTable, text: &[u8]) -> u64
+pub fn found_width(table: &SymbolTable, text: &[u8]) -> u64
     ensures { result ≡ found_width (find table.now text.now) }
 {
     match table.find(text) {
@@ -105,7 +105,7 @@ fn needs_equal(operator: Operator) -> bool
     }
 }
 
-fn differ(a: Option<u64>, b: Option<u64>) -> bool
+pub fn differ(a: Option<u64>, b: Option<u64>) -> bool
     ensures { result ≡ differ a b }
 {
     match (a, b) {
@@ -122,16 +122,19 @@ fn joined_width(
 ) -> Result<Option<u64>, AllocError>
     ensures { IfOk result (λ width. width ≡ joined_width operator a b) }
 {
-    let (Some(a), Some(b)) = (a, b) else {
-        return Ok(None);
-    };
     match operator {
-        Operator::Join => match a.checked_add(b) {
-            Some(sum) => Ok(Some(sum)),
-            None => Err(AllocError),
+        Operator::Equal | Operator::Unequal => Ok(Some(1)),
+        Operator::Join => match (a, b) {
+            (Some(a), Some(b)) => match a.checked_add(b) {
+                Some(sum) => Ok(Some(sum)),
+                None => Err(AllocError),
+            },
+            _ => Ok(None),
         },
-        Operator::Equal | Operator::Unequal => Ok(if a == b { Some(1) } else { None }),
-        _ => Ok(if a == b { Some(a) } else { None }),
+        _ => match (a, b) {
+            (Some(a), Some(b)) => Ok(if a == b { Some(a) } else { None }),
+            _ => Ok(None),
+        },
     }
 }
 
@@ -176,7 +179,7 @@ fn fitting(width: Option<u64>, fits: bool, line: u32) -> Measure
 
 /// The measure of an expression.
 #[cycle(measure)]
-fn measured(table: &SymbolTable, e: &ParsedExpr) -> Result<Measure, AllocError>
+pub fn measured(table: &SymbolTable, e: &ParsedExpr) -> Result<Measure, AllocError>
     ensures { IfOk result (λ m. m ≡ measure_of table.now (view e.now)) }
 {
     match e {
@@ -229,7 +232,7 @@ fn measure_chain(
 }
 
 /// The first fault of an expression.
-fn value_fault(table: &SymbolTable, e: &ParsedExpr) -> Result<Option<u32>, AllocError>
+pub fn value_fault(table: &SymbolTable, e: &ParsedExpr) -> Result<Option<u32>, AllocError>
     ensures { IfOk result (λ found. found ≡ first_line (width_faults table.now (view e.now))) }
 {
     let made = measured(table, e)?;
@@ -238,7 +241,7 @@ fn value_fault(table: &SymbolTable, e: &ParsedExpr) -> Result<Option<u32>, Alloc
 
 /// The first fault of a condition, which is one bit wide.
 #[tactic(auto, using(crate::proofs::FirstLines::first_line_append))]
-fn condition_fault(
+pub fn condition_fault(
     table: &SymbolTable,
     line: u32,
     e: &ParsedExpr,
@@ -301,7 +304,7 @@ fn are_wide(
     Ok(!differ(made.width, n))
 }
 
-fn target_width(table: &SymbolTable, target: &Target) -> Option<u64>
+pub fn target_width(table: &SymbolTable, target: &Target) -> Option<u64>
     ensures { result ≡ target_width table.now target.now }
 {
     match target.selection {
@@ -311,7 +314,7 @@ fn target_width(table: &SymbolTable, target: &Target) -> Option<u64>
     }
 }
 
-fn target_fault(table: &SymbolTable, target: &Target) -> Option<u32>
+pub fn target_fault(table: &SymbolTable, target: &Target) -> Option<u32>
     ensures { result ≡ first_line (target_faults table.now target.now) }
 {
     match target.selection {

@@ -41,7 +41,7 @@ use Rattle.vbe_text.specs.Source.{SourceTree, StatementTree, statement_view, sou
 use Rattle.vbe_text.proofs.Laws as text_laws
 use Rattle.vbe_io.specs.Text.{IsVbe, IsWritten, Refused, IsVbeRefusal, long, uncut, unwritten, faulty}
 use Rattle.vbe_io.proofs.Once.{pass_or_fail, cut_or_not}
-use Rattle.vbe_same.proofs.Ordered.{one_order}
+use Rattle.vlsi_model.proofs.OneOrder.{one_order}
 use Rattle.vbe_write.specs.Writable.{CanBeVbe}
 use Rattle.vbe_write.specs.Written.{with_supply_ports, signal_texts, written_names, written_vars, as_ports}
 use Rattle.vbe_write.proofs.Naming.{as_many_written}

@@ -15,7 +15,7 @@ use Rattle.vbe_io.specs.Cell.{pin_bits, generic_values, is_left_out, IsOpaque, I
 use Rattle.vbe_io.proofs.AlikeSources.{symbols_alike, refused_alike}
 use Rattle.vbe_io.proofs.Once.{pass_or_fail, written_once}
 use Rattle.vbe_same.specs.Law.{HaveSameMachines, CellsSayTheSame}
-use Rattle.vbe_same.proofs.Ordered.{one_order}
+use Rattle.vlsi_model.proofs.OneOrder.{one_order}
 use Rattle.vbe_same.proofs.Readings.{machine_alike}
 use Rattle.vbe_same.proofs.Parts.{same_ports, same_parts}
 use Rattle.vbe_same.proofs.Weights.{same_machine_size}

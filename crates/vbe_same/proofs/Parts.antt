@@ -9,7 +9,8 @@ use Rattle.source_meaning.specs.declared.statement.DesignFile.{DesignFile}
 use Rattle.source_meaning.specs.Symbols.{symbols}
 use Rattle.source_meaning.specs.Elaboration.{Storage, storage, port_bits, IsMachineOf}
 use Rattle.vbe_same.specs.Law.{HaveSameParts}
-use Rattle.vbe_same.proofs.Ordered.{one_order, Moved, moved_map}
+use Rattle.vbe_same.proofs.Ordered.{Moved, moved_map}
+use Rattle.vlsi_model.proofs.OneOrder.{one_order}
 use Rattle.vbe_same.proofs.Readings.{register_over}
 
 pub same_ports : (design : DesignFile) (m k : Machine) → IsMachineOf design m → IsMachineOf design k → m.ports ≡ k.ports

@@ -3,6 +3,8 @@ use Rattle.std.proofs.Common.{◌≡◌, ◌⊎◌, inl, inr, ℕ, Bool, true, f
 use Rattle.std.specs.Prelude.{◌||◌, not, nat_eq, is_none}
 use Rattle.std.proofs.lemmas.List.{length-map}
 use Rattle.vlsi_base.specs.declared.name.Name.{Name}
+use Rattle.vlsi_base.specs.declared.expression.Operator.{Operator}
+use Rattle.vlsi_base.specs.declared.expression.Operator.TheVariants as operator
 use Rattle.vlsi_base.specs.declared.range.Range.{Range}
 use Rattle.vlsi_base.specs.Tree.{Tree, bit, literal, name, index, slice, stable, inverse, binary}
 use Rattle.machine_core.specs.Order.{In, here}
@@ -100,6 +102,17 @@ equal_widths true true h = refl
 equal_widths true false h = absurd cc
 equal_widths false e h = refl
 
+joined_equal : (op : Operator) (a b : ℕ) → (not (needs_equal op) || nat_eq a b) ≡ true → joined_width op (Some a) (Some b) ≡ Some (operator_width op a b)
+joined_equal operator.Equal a b e = refl
+joined_equal operator.Unequal a b e = refl
+joined_equal operator.Join a b e = refl
+joined_equal operator.And a b e = ap (λ t. cond t (Some a) None) e
+joined_equal operator.Or a b e = ap (λ t. cond t (Some a) None) e
+joined_equal operator.Xor a b e = ap (λ t. cond t (Some a) None) e
+joined_equal operator.Nand a b e = ap (λ t. cond t (Some a) None) e
+joined_equal operator.Nor a b e = ap (λ t. cond t (Some a) None) e
+joined_equal operator.Xnor a b e = ap (λ t. cond t (Some a) None) e
+
 pub width_is : (known : List Symbol) (e : Tree) → AreKnown known (reads e) → width_faults known e ≡ [] → width known e ≡ Some (length (formulas known e))
 width_is known (bit b line) h w = refl
 width_is known (literal r digits line) h w = ap Some (sym (length-map (literal_bits r digits) fixed ∙ length-literal r digits))
@@ -129,7 +142,7 @@ width_is known (binary op line left right) h w =
     let test2 : not (needs_equal op && not (nat_eq (length xs) (length ys))) ≡ true = ap (λ (o : Option ℕ). not (needs_equal op && differ o (Some (length ys)))) (sym x) ∙ ap (λ (o : Option ℕ). not (needs_equal op && differ (width known left) o)) (sym y) ∙ test in
     let equal = equal_widths (needs_equal op) (nat_eq (length xs) (length ys)) test2 in
     ap (λ (o : Option ℕ). joined_width op o (width known right)) x ∙ ap (joined_width op (Some (length xs))) y
-    ∙ ap (λ b. cond b (Some (operator_width op (length xs) (length ys))) None) equal
+    ∙ joined_equal op (length xs) (length ys) equal
     ∙ ap Some (sym (length-operator op xs ys equal))
 
 -- what an expression reads

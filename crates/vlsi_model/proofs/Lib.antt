@@ -20,3 +20,4 @@ pub mod BuildGoals
 pub mod Refusing
 pub mod Rings
 pub mod Turning
+pub mod OneOrder

@@ -15,6 +15,7 @@ mod source;
 pub use build::few;
 pub use check::check_machine;
 pub use equations::var_numbers;
+pub use faults::{fault, line_fault, name_fault, text_fault};
 pub use machine_core::Machine;
 pub use nodes::node_order;
 pub use ports::{ports_in_file_order, sorted_ports};
