@@ -1,5 +1,5 @@
 -- The lines that refusals print.
-use Rattle.std.specs.Prelude.{ℕ, List, [], ◌∷◌, ◌++◌, Option, None, Some, codes}
+use Rattle.std.specs.Prelude.{ℕ, Bool, true, false, List, [], ◌∷◌, ◌++◌, Option, None, Some, codes, if◌then◌else◌}
 use Rattle.std.specs.Fmt.{decimal}
 use Rattle.vlsi_base.specs.Fault.{fault_text, limit_text}
 use Rattle.vlsi_base.specs.Name.{name_text}
@@ -52,6 +52,20 @@ abbrev pub verdict_text : Verdict → List ℕ
 verdict_text (verdict.Differs label name) = codes "differs " ++ (label ++ (codes " " ++ name_text name))
 verdict_text (verdict.NoBehaviour cell) = codes "no behaviour " ++ cell
 verdict_text (verdict.Shorted a b) = codes "shorted " ++ (name_text a ++ (codes " " ++ name_text b))
+verdict_text (verdict.Different name) = codes "different " ++ name_text name
+verdict_text (verdict.Names name) = codes "names " ++ name_text name
+verdict_text (verdict.Unequal name) = codes "differs " ++ name_text name
+verdict_text (verdict.Broken lines) = lines
+
+-- what a comparison found is said without the tool's word
+abbrev pub is_finding : Verdict → Bool
+is_finding (verdict.Unequal name) = true
+is_finding (verdict.Broken lines) = true
+is_finding _ = false
+
+abbrev pub says_all : Status → Bool
+says_all (status.No v) = is_finding v
+says_all _ = false
 
 -- What a refusal says behind the tool's word. Wrong words have a line of their own; what has no line says nothing.
 abbrev pub refusal_text : Status → List ℕ
@@ -67,6 +81,10 @@ refusal_text status.Memory = codes "memory"
 refusal_text (status.Limit l) = limit_line l
 refusal_text (status.No v) = verdict_text v
 
+-- what stands in front: the tool's word, but for what says all by itself
+abbrev pub opening : List ℕ → Status → List ℕ
+opening word s = if says_all s then [] else word ++ codes ": "
+
 -- the line that a tool's refusal prints
 abbrev pub line_of : List ℕ → Status → List ℕ
-line_of word s = word ++ (codes ": " ++ (refusal_text s ++ 10 ∷ []))
+line_of word s = opening word s ++ (refusal_text s ++ 10 ∷ [])

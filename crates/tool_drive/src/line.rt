@@ -1,7 +1,7 @@
 // The line that a refusal prints.
 ghost use Rattle.std.specs.Prelude.{◌≡◌, ◌≤◌, [], ◌∷◌, ◌++◌, OnOk, IfOk, codes};
 ghost use Rattle.std.specs.Fmt.{decimal};
-ghost use Rattle.tool_drive.specs.Lines.{names_text, source_text, library_text, terminal_text, limit_line, file_text, verdict_text, refusal_text, line_of};
+ghost use Rattle.tool_drive.specs.Lines.{names_text, source_text, library_text, terminal_text, limit_line, file_text, verdict_text, refusal_text, opening, line_of};
 ghost use Rattle.tool_drive.specs.Outside.{IsLine};
 ghost use Rattle.vlsi_base.specs.Name.{name_text};
 
@@ -86,6 +86,19 @@ fn verdict(alloc: Global, out: &mut FileBytes, verdict: &Verdict) -> Result<(), 
             name(alloc, out, a)?;
             spaced_name(alloc, out, b)
         }
+        Verdict::Different(item) => {
+            out.append(b"different ")?;
+            name(alloc, out, item)
+        }
+        Verdict::Names(item) => {
+            out.append(b"names ")?;
+            name(alloc, out, item)
+        }
+        Verdict::Unequal(item) => {
+            out.append(b"differs ")?;
+            name(alloc, out, item)
+        }
+        Verdict::Broken(lines) => out.append(lines.as_bytes()),
     }
 }
 
@@ -183,18 +196,29 @@ fn refusal(alloc: Global, out: &mut FileBytes, status: &Status) -> Result<(), Al
     }
 }
 
+// What stands in front of a refusal.
+fn opening(alloc: Global, word: &[u8], status: &Status) -> Result<FileBytes, AllocError>
+    ensures { IfOk result (λ bytes. bytes ≡ opening word.now status.now) }
+{
+    if status.says_all() {
+        return Ok(FileBytes::from_bytes(alloc, b"")?);
+    }
+    let mut line = FileBytes::from_bytes(alloc, word)?;
+    line.append(b": ")?;
+    Ok(line)
+}
+
 // The line that a refusal prints.
 fn line(alloc: Global, word: &[u8], status: &Status) -> Result<FileBytes, AllocError>
     ensures { IfOk result (λ bytes. bytes ≡ line_of word.now status.now) }
 {
-    let mut line = FileBytes::from_bytes(alloc, word)?;
-    line.append(b": ")?;
+    let mut line = opening(alloc, word, status)?;
     refusal(alloc, &mut line, status)?;
     line.append(b"\n")?;
     Ok(line)
 }
 
-/// Prints the line of a refusal by one put, behind the tool's word. Whether that works out doesn't change the answer.
+/// Prints the line of a refusal by one put, behind the tool's word if that is said. Whether that works out doesn't change the answer.
 pub fn tell<T: Sink>(alloc: Global, word: &[u8], status: &Status, out: &mut T)
     ensures told { IsLine (T.seen out.old) (T.seen out.new) (line_of word.now status.now) }
     ensures faults { (T.seen out.old).faults ≤ (T.seen out.new).faults }

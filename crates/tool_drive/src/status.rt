@@ -1,9 +1,10 @@
 // How a call ends.
 ghost use Rattle.std.specs.Prelude.{◌≡◌};
 ghost use Rattle.tool_drive.specs.Status.{code_of, has_line as line_wanted};
+ghost use Rattle.tool_drive.specs.Lines.{says_all};
 
 use cell_model::Kind;
-use vlsi_base::{FileName, InputFault, Limit, Name, Terminal, Text};
+use vlsi_base::{FileBytes, FileName, InputFault, Limit, Name, Terminal, Text};
 
 /// Why a file stopped the run.
 #[derive(Clone, Copy, Debug, PartialEq, Eq)]
@@ -36,6 +37,14 @@ pub enum Verdict {
     NoBehaviour(Text),
     /// Two ports of a layout that are joined.
     Shorted { a: Name, b: Name },
+    /// A port or an instance that isn't the same in two netlists.
+    Different(Name),
+    /// A name that one of two machines has in a role in which the other lacks it.
+    Names(Name),
+    /// An output or a register of two machines that isn't one function in both.
+    Unequal(Name),
+    /// The lines of a layout's breaches, without the end of the last.
+    Broken(FileBytes),
 }
 
 /// How a call ends. As they are built so far, `flow` answers `Accepted`, `Usage`, `Source`, `Library`, `NoCover`, `Budget`, `File`,
@@ -86,6 +95,16 @@ impl Status {
             Status::Memory => 8,
             Status::Limit(_) => 9,
             Status::No(_) => 11,
+        }
+    }
+
+    /// Whether the line of a refusal says all by itself, without the tool's word in front. Takes no memory.
+    pub fn says_all(&self) -> bool
+        ensures { result ≡ says_all self.now }
+    {
+        match self {
+            Status::No(Verdict::Unequal(_) | Verdict::Broken(_)) => true,
+            _ => false,
         }
     }
 

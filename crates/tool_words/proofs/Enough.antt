@@ -6,9 +6,9 @@ use Rattle.tool_words.specs.declared.arguments.Argument.{Argument}
 use Rattle.tool_words.specs.declared.command.Command.TheVariants as command
 use Rattle.tool_words.specs.declared.command.Encoding.{Encoding}
 use Rattle.tool_words.specs.Words.{is_word}
-use Rattle.tool_words.specs.Table.{Entry, Setting, flow, syf, boom, boog, asimut, cougar, library, out, encoding, seed, nodes, tracks, patterns, netlist_library, tools}
+use Rattle.tool_words.specs.Table.{Entry, Setting, flow, syf, boom, boog, asimut, cougar, lvx, druc, proof, flatbeh, library, out, encoding, seed, nodes, tracks, patterns, netlist_library, other_source, other_netlist, tools}
 use Rattle.tool_words.specs.Values.{files, values, only, has_any_ending, code_of, is_of_form, setting_fits, is_source, value_fits, default_of, given_or_default, number_of, fits}
-use Rattle.tool_words.specs.Commands.{encoding_of, coding, flow_with, syf_with, boom_with, boog_with, asimut_with, cougar_with, command_from}
+use Rattle.tool_words.specs.Commands.{encoding_of, coding, flow_with, syf_with, boom_with, boog_with, asimut_with, cougar_with, lvx_with, druc_with, proof_with, flatbeh_with, command_from}
 use Rattle.tool_words.specs.Laws.{FittingIsEnough}
 use Rattle.tool_words.proofs.Spelling.{both}
 
@@ -143,8 +143,49 @@ cougar_enough a fit =
     let o = both (setting_fits a out) true l.1 in
     cougar_from _ _ _ _ _ _ (has_some cougar.endings (only (files a)) f.0).1 (value_of_one a library _ l.0).1 (value_of_one a out _ o.0).1
 
+lvx_from : (s b l : Option (List ℕ)) (x y z : List ℕ) → s ≡ Some x → b ≡ Some y → l ≡ Some z → IsSome (option_map command.Lvx (lvx_with s b l))
+lvx_from s b l x y z p q r = rw (p, q, r) refl
+
+lvx_enough : Enough lvx
+lvx_enough a fit =
+    let f = both (is_source lvx.endings (files a)) (list_all (setting_fits a) lvx.settings) fit in
+    let b = both (setting_fits a other_netlist) (list_all (setting_fits a) (library ∷ [])) f.1 in
+    let l = both (setting_fits a library) true b.1 in
+    lvx_from _ _ _ _ _ _ (has_some lvx.endings (only (files a)) f.0).1 (value_of_one a other_netlist _ b.0).1 (value_of_one a library _ l.0).1
+
+druc_from : (s l : Option (List ℕ)) (x y : List ℕ) → s ≡ Some x → l ≡ Some y → IsSome (option_map command.Druc (druc_with s l))
+druc_from s l x y p q = rw (p, q) refl
+
+druc_enough : Enough druc
+druc_enough a fit =
+    let f = both (is_source druc.endings (files a)) (list_all (setting_fits a) druc.settings) fit in
+    let l = both (setting_fits a library) true f.1 in
+    druc_from _ _ _ _ (has_some druc.endings (only (files a)) f.0).1 (value_of_one a library _ l.0).1
+
+flatbeh_from : (s l o : Option (List ℕ)) (x y z : List ℕ) → s ≡ Some x → l ≡ Some y → o ≡ Some z → IsSome (option_map command.Flatbeh (flatbeh_with s l o))
+flatbeh_from s l o x y z a b c = rw (a, b, c) refl
+
+flatbeh_enough : Enough flatbeh
+flatbeh_enough a fit =
+    let f = both (is_source flatbeh.endings (files a)) (list_all (setting_fits a) flatbeh.settings) fit in
+    let l = both (setting_fits a library) (list_all (setting_fits a) (out ∷ [])) f.1 in
+    let o = both (setting_fits a out) true l.1 in
+    flatbeh_from _ _ _ _ _ _ (has_some flatbeh.endings (only (files a)) f.0).1 (value_of_one a library _ l.0).1 (value_of_one a out _ o.0).1
+
+proof_from : (s b : Option (List ℕ)) (k : Option ℕ) (x y : List ℕ) (n : ℕ) → s ≡ Some x → b ≡ Some y → k ≡ Some n
+    → IsSome (option_map command.Proof (proof_with s b k))
+proof_from s b k x y n p q r = rw (p, q, r) refl
+
+proof_enough : Enough proof
+proof_enough a fit =
+    let f = both (is_source proof.endings (files a)) (list_all (setting_fits a) proof.settings) fit in
+    let b = both (setting_fits a other_source) (list_all (setting_fits a) (nodes ∷ [])) f.1 in
+    let n = both (setting_fits a nodes) true b.1 in
+    proof_from _ _ _ _ _ _ (has_some proof.endings (only (files a)) f.0).1 (value_of_one a other_source _ b.0).1 (nodes_given a n.0).1
+
 each : Each Enough tools
-each = (flow_enough, (syf_enough, (boom_enough, (boog_enough, (asimut_enough, (cougar_enough, tt))))))
+each =
+    (flow_enough, (syf_enough, (boom_enough, (boog_enough, (asimut_enough, (cougar_enough, (lvx_enough, (druc_enough, (proof_enough, (flatbeh_enough, tt))))))))))
 
 pub enough : FittingIsEnough
 enough e arguments h fit = found Enough (λ (x : Entry). is_word x.word e.word) tools e each h arguments fit

@@ -13,9 +13,13 @@ use Rattle.tool_words.specs.declared.command.BoogCommand.{BoogCommand}
 use Rattle.tool_words.specs.declared.command.AsimutCommand.{AsimutCommand}
 use Rattle.tool_words.specs.declared.command.AsimutNetlistCommand.{AsimutNetlistCommand}
 use Rattle.tool_words.specs.declared.command.CougarCommand.{CougarCommand}
+use Rattle.tool_words.specs.declared.command.LvxCommand.{LvxCommand}
+use Rattle.tool_words.specs.declared.command.DrucCommand.{DrucCommand}
+use Rattle.tool_words.specs.declared.command.ProofCommand.{ProofCommand}
+use Rattle.tool_words.specs.declared.command.FlatbehCommand.{FlatbehCommand}
 use Rattle.tool_words.specs.declared.command.Command.{Command}
 use Rattle.tool_words.specs.declared.command.Command.TheVariants as command
-use Rattle.tool_words.specs.Table.{Entry, library, out, encoding, seed, nodes, patterns, netlist_library, tool_of}
+use Rattle.tool_words.specs.Table.{Entry, library, out, encoding, seed, nodes, patterns, netlist_library, other_source, other_netlist, tool_of}
 use Rattle.tool_words.specs.Arguments.{spelling, is_valid, arguments_of}
 use Rattle.tool_words.specs.Values.{files, values, only, number_of, fits}
 
@@ -59,6 +63,22 @@ abbrev pub cougar_with : Option (List ℕ) → Option (List ℕ) → Option (Lis
 cougar_with (Some source) (Some library) (Some out) = Some (record { source = source; library = library; out = out })
 cougar_with _ _ _ = None
 
+abbrev pub lvx_with : Option (List ℕ) → Option (List ℕ) → Option (List ℕ) → Option LvxCommand
+lvx_with (Some source) (Some other) (Some library) = Some (record { source = source; other = other; library = library })
+lvx_with _ _ _ = None
+
+abbrev pub druc_with : Option (List ℕ) → Option (List ℕ) → Option DrucCommand
+druc_with (Some source) (Some library) = Some (record { source = source; library = library })
+druc_with _ _ = None
+
+abbrev pub proof_with : Option (List ℕ) → Option (List ℕ) → Option ℕ → Option ProofCommand
+proof_with (Some source) (Some other) (Some nodes) = Some (record { source = source; other = other; nodes = nodes })
+proof_with _ _ _ = None
+
+abbrev pub flatbeh_with : Option (List ℕ) → Option (List ℕ) → Option (List ℕ) → Option FlatbehCommand
+flatbeh_with (Some source) (Some library) (Some out) = Some (record { source = source; library = library; out = out })
+flatbeh_with _ _ _ = None
+
 abbrev pub command_from : Tool → List Argument → Option Command
 command_from tool.Flow a =
     option_map command.Flow (flow_with (only (files a)) (only (values library.word a)) (only (values out.word a))
@@ -71,6 +91,13 @@ command_from tool.Boog a =
 command_from tool.Asimut a = asimut_with (only (files a)) (only (values patterns.word a)) (only (values netlist_library.word a))
 command_from tool.Cougar a =
     option_map command.Cougar (cougar_with (only (files a)) (only (values library.word a)) (only (values out.word a)))
+command_from tool.Lvx a =
+    option_map command.Lvx (lvx_with (only (files a)) (only (values other_netlist.word a)) (only (values library.word a)))
+command_from tool.Druc a = option_map command.Druc (druc_with (only (files a)) (only (values library.word a)))
+command_from tool.Proof a =
+    option_map command.Proof (proof_with (only (files a)) (only (values other_source.word a)) (number_of nodes a))
+command_from tool.Flatbeh a =
+    option_map command.Flatbeh (flatbeh_with (only (files a)) (only (values library.word a)) (only (values out.word a)))
 
 -- ---- all tools
 

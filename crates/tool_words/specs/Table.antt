@@ -49,6 +49,13 @@ out = record { word = codes "-o"; value = codes "NAME"; need = Once; form = Text
 abbrev pub patterns : Setting
 patterns = record { word = codes "-p"; value = codes "PATTERNS"; need = Once; form = Ending (codes ".pat") }
 
+-- what a source, or a netlist, is compared with
+abbrev pub other_source : Setting
+other_source = record { word = codes "-b"; value = codes "OTHER"; need = Once; form = Ending (codes ".vbe") }
+
+abbrev pub other_netlist : Setting
+other_netlist = record { word = codes "-b"; value = codes "OTHER"; need = Once; form = Ending (codes ".vst") }
+
 abbrev pub netlist_library : Setting
 netlist_library = record { word = codes "-l"; value = codes "DIR"; need = With (codes ".vst"); form = Text }
 
@@ -94,8 +101,20 @@ asimut = record {
 abbrev pub cougar : Entry
 cougar = record { tool = tool.Cougar; word = codes "cougar"; endings = codes ".ap" ∷ []; settings = library ∷ out ∷ [] }
 
+abbrev pub lvx : Entry
+lvx = record { tool = tool.Lvx; word = codes "lvx"; endings = codes ".vst" ∷ []; settings = other_netlist ∷ library ∷ [] }
+
+abbrev pub druc : Entry
+druc = record { tool = tool.Druc; word = codes "druc"; endings = codes ".ap" ∷ []; settings = library ∷ [] }
+
+abbrev pub proof : Entry
+proof = record { tool = tool.Proof; word = codes "proof"; endings = codes ".vbe" ∷ []; settings = other_source ∷ nodes ∷ [] }
+
+abbrev pub flatbeh : Entry
+flatbeh = record { tool = tool.Flatbeh; word = codes "flatbeh"; endings = codes ".vst" ∷ []; settings = library ∷ out ∷ [] }
+
 abbrev pub tools : List Entry
-tools = flow ∷ syf ∷ boom ∷ boog ∷ asimut ∷ cougar ∷ []
+tools = flow ∷ syf ∷ boom ∷ boog ∷ asimut ∷ cougar ∷ lvx ∷ druc ∷ proof ∷ flatbeh ∷ []
 
 -- the tool with this word
 abbrev pub tool_of : List ℕ → Option Entry

@@ -8,7 +8,8 @@ ghost use Rattle.tool_words.specs.View.{entry_view};
 
 use crate::arguments::{Argument, arguments};
 use crate::table::{
-    ENCODING, Entry, LIBRARY, NETLIST_LIBRARY, NODES, OUT, PATTERNS, SEED, Tool, tool_of,
+    ENCODING, Entry, LIBRARY, NETLIST_LIBRARY, NODES, OTHER_NETLIST, OTHER_SOURCE, OUT, PATTERNS, SEED,
+    Tool, tool_of,
 };
 use crate::values::{Wanted, fits, number_of, only};
 use crate::words::{Words, WordsError};
@@ -107,6 +108,48 @@ pub struct CougarCommand {
     pub out: FileName,
 }
 
+/// What `lvx` is asked to do: to compare two netlists by name.
+#[derive(Drop)]
+pub struct LvxCommand {
+    /// The netlist's file, whose name ends in `.vst`.
+    pub source: FileName,
+    /// The file of the netlist that it is compared with, whose name ends in `.vst`.
+    pub other: FileName,
+    /// The folder of the library.
+    pub library: FileName,
+}
+
+/// What `druc` is asked to do: to list where a layout of the library's cells breaks the rules.
+#[derive(Drop)]
+pub struct DrucCommand {
+    /// The layout's file, whose name ends in `.ap`.
+    pub source: FileName,
+    /// The folder of the library.
+    pub library: FileName,
+}
+
+/// What `proof` is asked to do: to compare two sources as functions.
+#[derive(Drop)]
+pub struct ProofCommand {
+    /// The source's file, whose name ends in `.vbe`.
+    pub source: FileName,
+    /// The file of the source that it is compared with, whose name ends in `.vbe`.
+    pub other: FileName,
+    /// The most nodes that a diagram may have.
+    pub nodes: u32,
+}
+
+/// What `flatbeh` is asked to do: to make a data-flow text of a netlist of the library's cells.
+#[derive(Drop)]
+pub struct FlatbehCommand {
+    /// The netlist's file, whose name ends in `.vst`.
+    pub source: FileName,
+    /// The folder of the library.
+    pub library: FileName,
+    /// The name of the text, without `.vbe`.
+    pub out: FileName,
+}
+
 /// What the words of a command ask for.
 #[derive(Drop)]
 pub enum Command {
@@ -117,6 +160,10 @@ pub enum Command {
     Asimut(AsimutCommand),
     AsimutNetlist(AsimutNetlistCommand),
     Cougar(CougarCommand),
+    Lvx(LvxCommand),
+    Druc(DrucCommand),
+    Proof(ProofCommand),
+    Flatbeh(FlatbehCommand),
 }
 
 // The encoding with this letter.
@@ -257,6 +304,72 @@ fn cougar(alloc: Global, arguments: &[Argument]) -> Result<Command, WordsError>
     }))
 }
 
+fn lvx(alloc: Global, arguments: &[Argument]) -> Result<Command, WordsError>
+    ensures ok { IfOk result (λ command. command_from Tool.Lvx arguments.now ≡ Some command) }
+    ensures usage { IsErrOf result Usage → command_from Tool.Lvx arguments.now ≡ None }
+{
+    let source = only(arguments, Wanted::File);
+    let other = only(arguments, Wanted::Value(OTHER_NETLIST.word));
+    let library = only(arguments, Wanted::Value(LIBRARY.word));
+    let (Some(source), Some(other), Some(library)) = (source, other, library) else {
+        return Err(WordsError::Usage);
+    };
+    Ok(Command::Lvx(LvxCommand {
+        source: FileName::from_bytes(alloc, source)?,
+        other: FileName::from_bytes(alloc, other)?,
+        library: FileName::from_bytes(alloc, library)?,
+    }))
+}
+
+fn druc(alloc: Global, arguments: &[Argument]) -> Result<Command, WordsError>
+    ensures ok { IfOk result (λ command. command_from Tool.Druc arguments.now ≡ Some command) }
+    ensures usage { IsErrOf result Usage → command_from Tool.Druc arguments.now ≡ None }
+{
+    let source = only(arguments, Wanted::File);
+    let library = only(arguments, Wanted::Value(LIBRARY.word));
+    let (Some(source), Some(library)) = (source, library) else {
+        return Err(WordsError::Usage);
+    };
+    Ok(Command::Druc(DrucCommand {
+        source: FileName::from_bytes(alloc, source)?,
+        library: FileName::from_bytes(alloc, library)?,
+    }))
+}
+
+fn proof(alloc: Global, arguments: &[Argument]) -> Result<Command, WordsError>
+    ensures ok { IfOk result (λ command. command_from Tool.Proof arguments.now ≡ Some command) }
+    ensures usage { IsErrOf result Usage → command_from Tool.Proof arguments.now ≡ None }
+{
+    let source = only(arguments, Wanted::File);
+    let other = only(arguments, Wanted::Value(OTHER_SOURCE.word));
+    let nodes = number_of(arguments, NODES);
+    let (Some(source), Some(other), Some(nodes)) = (source, other, nodes) else {
+        return Err(WordsError::Usage);
+    };
+    Ok(Command::Proof(ProofCommand {
+        source: FileName::from_bytes(alloc, source)?,
+        other: FileName::from_bytes(alloc, other)?,
+        nodes,
+    }))
+}
+
+fn flatbeh(alloc: Global, arguments: &[Argument]) -> Result<Command, WordsError>
+    ensures ok { IfOk result (λ command. command_from Tool.Flatbeh arguments.now ≡ Some command) }
+    ensures usage { IsErrOf result Usage → command_from Tool.Flatbeh arguments.now ≡ None }
+{
+    let source = only(arguments, Wanted::File);
+    let library = only(arguments, Wanted::Value(LIBRARY.word));
+    let out = only(arguments, Wanted::Value(OUT.word));
+    let (Some(source), Some(library), Some(out)) = (source, library, out) else {
+        return Err(WordsError::Usage);
+    };
+    Ok(Command::Flatbeh(FlatbehCommand {
+        source: FileName::from_bytes(alloc, source)?,
+        library: FileName::from_bytes(alloc, library)?,
+        out: FileName::from_bytes(alloc, out)?,
+    }))
+}
+
 // The command of a tool, from its arguments.
 fn read_command(alloc: Global, entry: Entry, arguments: &[Argument]) -> Result<Command, WordsError>
     ensures ok { IfOk result (λ command. command_among (entry_view entry) arguments.now ≡ Some command) }
@@ -272,6 +385,10 @@ fn read_command(alloc: Global, entry: Entry, arguments: &[Argument]) -> Result<C
         Tool::Boog => boog(alloc, arguments),
         Tool::Asimut => asimut(alloc, arguments),
         Tool::Cougar => cougar(alloc, arguments),
+        Tool::Lvx => lvx(alloc, arguments),
+        Tool::Druc => druc(alloc, arguments),
+        Tool::Proof => proof(alloc, arguments),
+        Tool::Flatbeh => flatbeh(alloc, arguments),
     }
 }
 

@@ -14,6 +14,10 @@ pub enum Tool {
     Boog,
     Asimut,
     Cougar,
+    Lvx,
+    Druc,
+    Proof,
+    Flatbeh,
 }
 
 /// What an option's value is.
@@ -78,6 +82,22 @@ pub(crate) const PATTERNS: Setting = Setting {
     value: "PATTERNS",
     need: Need::Once,
     form: Form::Ending(".pat"),
+};
+
+/// What a source is compared with.
+pub(crate) const OTHER_SOURCE: Setting = Setting {
+    word: "-b",
+    value: "OTHER",
+    need: Need::Once,
+    form: Form::Ending(".vbe"),
+};
+
+/// What a netlist is compared with.
+pub(crate) const OTHER_NETLIST: Setting = Setting {
+    word: "-b",
+    value: "OTHER",
+    need: Need::Once,
+    form: Form::Ending(".vst"),
 };
 
 pub(crate) const NETLIST_LIBRARY: Setting = Setting {
@@ -152,6 +172,30 @@ const TOOLS: &[Entry] = &[
         tool: Tool::Cougar,
         word: "cougar",
         endings: &[".ap"],
+        settings: &[LIBRARY, OUT],
+    },
+    Entry {
+        tool: Tool::Lvx,
+        word: "lvx",
+        endings: &[".vst"],
+        settings: &[OTHER_NETLIST, LIBRARY],
+    },
+    Entry {
+        tool: Tool::Druc,
+        word: "druc",
+        endings: &[".ap"],
+        settings: &[LIBRARY],
+    },
+    Entry {
+        tool: Tool::Proof,
+        word: "proof",
+        endings: &[".vbe"],
+        settings: &[OTHER_SOURCE, NODES],
+    },
+    Entry {
+        tool: Tool::Flatbeh,
+        word: "flatbeh",
+        endings: &[".vst"],
         settings: &[LIBRARY, OUT],
     },
 ];
