@@ -170,7 +170,7 @@ impl Sought<'_> {
         ensures next { IfOk result (λ r. r.next ≡ place.next + branch_signals (branches_view branches.now)) }
         ensures value { IfOk result (λ r. view r.value
             ≡ final_branches (given_to self.now.target) place.path place.next
-                (numbered_branches self.now.numbers.now (branches_view branches.now)) (view value)) }
+            (numbered_branches self.now.numbers.now (branches_view branches.now)) (view value)) }
     {
         match branches {
             Branches::Closed => Ok(Reached {

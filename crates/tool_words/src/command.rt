@@ -8,8 +8,8 @@ ghost use Rattle.tool_words.specs.View.{entry_view};
 
 use crate::arguments::{Argument, arguments};
 use crate::table::{
-    ENCODING, Entry, LIBRARY, NETLIST_LIBRARY, NODES, OTHER_NETLIST, OTHER_SOURCE, OUT, PATTERNS, SEED,
-    Tool, tool_of,
+    ENCODING, Entry, LIBRARY, NETLIST_LIBRARY, NODES, OTHER_NETLIST, OTHER_SOURCE, OUT, PATTERNS,
+    SEED, Tool, tool_of,
 };
 use crate::values::{Wanted, fits, number_of, only};
 use crate::words::{Words, WordsError};

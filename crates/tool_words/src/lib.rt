@@ -10,8 +10,9 @@ mod values;
 mod words;
 
 pub use command::{
-    AsimutCommand, AsimutNetlistCommand, BoogCommand, BoomCommand, Command, CougarCommand, DrucCommand,
-    Encoding, FlatbehCommand, FlowCommand, LvxCommand, ProofCommand, SyfCommand, read_words,
+    AsimutCommand, AsimutNetlistCommand, BoogCommand, BoomCommand, Command, CougarCommand,
+    DrucCommand, Encoding, FlatbehCommand, FlowCommand, LvxCommand, ProofCommand, SyfCommand,
+    read_words,
 };
 pub use laws::words_law;
 pub use usage::usage_line;
