@@ -127,53 +127,6 @@ abbrev pub as_flow : Option Command → Option FlowCommand
 as_flow (Some (command.Flow c)) = Some c
 as_flow _ = None
 
-abbrev pub as_syf : Option Command → Option SyfCommand
-as_syf (Some (command.Syf c)) = Some c
-as_syf _ = None
-
-abbrev pub as_boom : Option Command → Option BoomCommand
-as_boom (Some (command.Boom c)) = Some c
-as_boom _ = None
-
-abbrev pub as_boog : Option Command → Option BoogCommand
-as_boog (Some (command.Boog c)) = Some c
-as_boog _ = None
-
-abbrev pub as_asimut : Option Command → Option AsimutCommand
-as_asimut (Some (command.Asimut c)) = Some c
-as_asimut _ = None
-
-abbrev pub as_asimut_netlist : Option Command → Option AsimutNetlistCommand
-as_asimut_netlist (Some (command.AsimutNetlist c)) = Some c
-as_asimut_netlist _ = None
-
-abbrev pub as_cougar : Option Command → Option CougarCommand
-as_cougar (Some (command.Cougar c)) = Some c
-as_cougar _ = None
-
 -- the command of `flow` that they spell
 abbrev pub flow_of : List (List ℕ) → Option FlowCommand
 flow_of words = as_flow (command_of words)
-
--- the command of `syf` that they spell
-abbrev pub syf_of : List (List ℕ) → Option SyfCommand
-syf_of words = as_syf (command_of words)
-
--- the command of `boom` that they spell
-abbrev pub boom_of : List (List ℕ) → Option BoomCommand
-boom_of words = as_boom (command_of words)
-
--- the command of `boog` that they spell
-abbrev pub boog_of : List (List ℕ) → Option BoogCommand
-boog_of words = as_boog (command_of words)
-
--- the commands of `asimut` that they spell, on a source and on a netlist
-abbrev pub asimut_of : List (List ℕ) → Option AsimutCommand
-asimut_of words = as_asimut (command_of words)
-
-abbrev pub asimut_netlist_of : List (List ℕ) → Option AsimutNetlistCommand
-asimut_netlist_of words = as_asimut_netlist (command_of words)
-
--- the command of `cougar` that they spell
-abbrev pub cougar_of : List (List ℕ) → Option CougarCommand
-cougar_of words = as_cougar (command_of words)
