@@ -11,24 +11,23 @@ use Rattle.tool_words.specs.declared.command.SyfCommand.{SyfCommand}
 use Rattle.tool_words.specs.declared.command.BoomCommand.{BoomCommand}
 use Rattle.tool_words.specs.declared.command.BoogCommand.{BoogCommand}
 use Rattle.tool_words.specs.declared.command.CougarCommand.{CougarCommand}
+use Rattle.tool_words.specs.declared.command.LvxCommand.{LvxCommand}
+use Rattle.tool_words.specs.declared.command.DrucCommand.{DrucCommand}
+use Rattle.tool_words.specs.declared.command.ProofCommand.{ProofCommand}
+use Rattle.tool_words.specs.declared.command.FlatbehCommand.{FlatbehCommand}
 use Rattle.tool_words.specs.Words.{is_word}
-use Rattle.tool_words.specs.Table.{Entry, library, out, encoding, seed, patterns, netlist_library, nodes, flow, syf, boom, boog, asimut, cougar, tools}
+use Rattle.tool_words.specs.Table.{Entry, library, out, encoding, seed, patterns, netlist_library, other_source, other_netlist, nodes, flow, syf, boom, boog, asimut, cougar, lvx, druc, proof, flatbeh, tools}
 use Rattle.tool_words.specs.Values.{files, values, only, number_of}
-use Rattle.tool_words.specs.Commands.{coding, flow_with, syf_with, boom_with, boog_with, asimut_with, cougar_with, command_from, command_of, as_flow, as_syf, as_boom, as_boog, as_asimut, as_asimut_netlist, as_cougar, flow_of, syf_of, boom_of, boog_of, cougar_of, asimut_of, asimut_netlist_of, Spells}
+use Rattle.tool_words.specs.Commands.{coding, flow_with, syf_with, boom_with, boog_with, asimut_with, cougar_with, lvx_with, druc_with, proof_with, flatbeh_with, command_from, command_of, as_flow, flow_of, Spells}
 use Rattle.tool_words.specs.Laws.{WordsAreExact}
 use Rattle.vlsi_shelf.specs.Seen.{SinkSeen}
 use Rattle.tool_drive.specs.declared.status.Status.{Status}
 use Rattle.tool_drive.specs.declared.status.Status.TheVariants as status
 use Rattle.tool_drive.specs.Lines.{line_of as line_of_tool}
-use Rattle.tool_drive.specs.Outside.{Outside, IsLine}
+use Rattle.tool_drive.specs.Outside.{Outside, IsLine, IsUntouched}
 use Rattle.tool_drive.specs.Table.{Caused, IsComplete, memory_complete}
 use Rattle.tool_run.specs.Usage.{word_of, tool_of, line_of, status_of}
-use Rattle.syf_run.specs.Syf.{syf_plan, syf_answers}
-use Rattle.boom_run.specs.Boom.{boom_plan, boom_answers}
-use Rattle.boog_run.specs.Boog.{boog_plan, boog_answers}
-use Rattle.cougar_run.specs.Cougar.{cougar_plan, cougar_answers}
-use Rattle.asimut_run.specs.Asimut.{asimut_plan, asimut_answers}
-use Rattle.asimut_run.specs.Netlist.{netlist_plan, netlist_answers}
+use Rattle.tool_run.specs.Answers.{IsAnswerTo, memory_answer}
 use Rattle.flow_run.specs.Flow.{flow_plan, flow_answers}
 use Rattle.flow_run.specs.Causes.{IsHeadline, IsFree}
 use Rattle.flow_run.specs.Laws.{WhatIsReadIsNeverRefused}
@@ -55,6 +54,22 @@ boog_word (Some c) k h = let same : command.Boog c ≡ k = cc h in subst (λ (ot
 cougar_word : (x : Option CougarCommand) (k : Command) → option_map command.Cougar x ≡ Some k → codes "cougar" ≡ word_of k
 cougar_word None k h = absurd (cc h)
 cougar_word (Some c) k h = let same : command.Cougar c ≡ k = cc h in subst (λ (other : Command). codes "cougar" ≡ word_of other) same refl
+
+lvx_word : (x : Option LvxCommand) (k : Command) → option_map command.Lvx x ≡ Some k → codes "lvx" ≡ word_of k
+lvx_word None k h = absurd (cc h)
+lvx_word (Some c) k h = let same : command.Lvx c ≡ k = cc h in subst (λ (other : Command). codes "lvx" ≡ word_of other) same refl
+
+druc_word : (x : Option DrucCommand) (k : Command) → option_map command.Druc x ≡ Some k → codes "druc" ≡ word_of k
+druc_word None k h = absurd (cc h)
+druc_word (Some c) k h = let same : command.Druc c ≡ k = cc h in subst (λ (other : Command). codes "druc" ≡ word_of other) same refl
+
+proof_word : (x : Option ProofCommand) (k : Command) → option_map command.Proof x ≡ Some k → codes "proof" ≡ word_of k
+proof_word None k h = absurd (cc h)
+proof_word (Some c) k h = let same : command.Proof c ≡ k = cc h in subst (λ (other : Command). codes "proof" ≡ word_of other) same refl
+
+flatbeh_word : (x : Option FlatbehCommand) (k : Command) → option_map command.Flatbeh x ≡ Some k → codes "flatbeh" ≡ word_of k
+flatbeh_word None k h = absurd (cc h)
+flatbeh_word (Some c) k h = let same : command.Flatbeh c ≡ k = cc h in subst (λ (other : Command). codes "flatbeh" ≡ word_of other) same refl
 
 is_asimut : (c k : Command) → codes "asimut" ≡ word_of c → Some c ≡ Some k → codes "asimut" ≡ word_of k
 is_asimut c k w h = let same : c ≡ k = cc h in subst (λ (other : Command). codes "asimut" ≡ word_of other) same w
@@ -88,6 +103,18 @@ asimut_names a k h = asimut_word (only (files a)) (only (values patterns.word a)
 cougar_names : NamesItsCommands cougar
 cougar_names a k h = cougar_word (cougar_with (only (files a)) (only (values library.word a)) (only (values out.word a))) k h
 
+lvx_names : NamesItsCommands lvx
+lvx_names a k h = lvx_word (lvx_with (only (files a)) (only (values other_netlist.word a)) (only (values library.word a))) k h
+
+druc_names : NamesItsCommands druc
+druc_names a k h = druc_word (druc_with (only (files a)) (only (values library.word a))) k h
+
+proof_names : NamesItsCommands proof
+proof_names a k h = proof_word (proof_with (only (files a)) (only (values other_source.word a)) (number_of nodes a)) k h
+
+flatbeh_names : NamesItsCommands flatbeh
+flatbeh_names a k h = flatbeh_word (flatbeh_with (only (files a)) (only (values library.word a)) (only (values out.word a))) k h
+
 abbrev Each : (Entry → Type 0) → List Entry → Type 0
 Each P [] = Unit {0}
 Each P (x ∷ xs) = P x × Each P xs
@@ -104,7 +131,7 @@ found P p (x ∷ xs) e all h = found_by P x e (find p xs) all.0 (found P p xs e 
 spelled : (words : List (List ℕ)) (k : Command) → Spells words k → tool_of words ≡ word_of k
 spelled words k h =
     ap tool_of h.words_are
-    ∙ found NamesItsCommands (λ (e : Entry). is_word e.word h.entry.word) tools h.entry (flow_names, (syf_names, (boom_names, (boog_names, (asimut_names, (cougar_names, tt)))))) h.in_table h.arguments k h.command
+    ∙ found NamesItsCommands (λ (e : Entry). is_word e.word h.entry.word) tools h.entry (flow_names, (syf_names, (boom_names, (boog_names, (asimut_names, (cougar_names, (lvx_names, (druc_names, (proof_names, (flatbeh_names, tt)))))))))) h.in_table h.arguments k h.command
 
 line_is : (words : List (List ℕ)) (s : Status) → (s ≡ status.Usage → ⊥) → line_of_tool (tool_of words) s ≡ line_of words s
 line_is words status.Usage other = absurd (other refl)
@@ -157,50 +184,15 @@ flow_unread ws words.Memory before now s is none =
     subst (λ (x : Status). IfSome (flow_of ws) (λ c. IsComplete (flow_plan c) (flow_answers c) before now x)) (sym is)
     (all_some (flow_of ws) (λ c. memory_complete (flow_plan c) (flow_answers c) before now))
 
-pub syf_unread : (ws : List (List ℕ)) (e : WordsError) (before now : Outside) (s : Status) → s ≡ status_of e → (IsErrOf {T = Command} (Err e) words.Usage → command_of ws ≡ None)
-    → IfSome (syf_of ws) (λ c. IsComplete (syf_plan c) (syf_answers c) before now s)
-syf_unread ws words.Usage before now s is none =
-    subst (λ (o : Option Command). IfSome (as_syf o) (λ c. IsComplete (syf_plan c) (syf_answers c) before now s)) (sym (none refl)) tt
-syf_unread ws words.Memory before now s is none =
-    subst (λ (x : Status). IfSome (syf_of ws) (λ c. IsComplete (syf_plan c) (syf_answers c) before now x)) (sym is)
-    (all_some (syf_of ws) (λ c. memory_complete (syf_plan c) (syf_answers c) before now))
+pub none_answered : (ws : List (List ℕ)) (e : WordsError) (before now : Outside) (s : Status) → IsUntouched before now → s ≡ status_of e
+    → (IsErrOf {T = Command} (Err e) words.Usage → command_of ws ≡ None) → IfSome (command_of ws) (λ k. IsAnswerTo k before now s)
+none_answered ws words.Usage before now s same is none = subst (λ (o : Option Command). IfSome o (λ k. IsAnswerTo k before now s)) (sym (none refl)) tt
+none_answered ws words.Memory before now s same is none =
+    subst (λ (x : Status). IfSome (command_of ws) (λ k. IsAnswerTo k before now x)) (sym is)
+    (all_some (command_of ws) (λ k. memory_answer k before now same))
 
-pub boom_unread : (ws : List (List ℕ)) (e : WordsError) (before now : Outside) (s : Status) → s ≡ status_of e → (IsErrOf {T = Command} (Err e) words.Usage → command_of ws ≡ None)
-    → IfSome (boom_of ws) (λ c. IsComplete (boom_plan c) (boom_answers c) before now s)
-boom_unread ws words.Usage before now s is none =
-    subst (λ (o : Option Command). IfSome (as_boom o) (λ c. IsComplete (boom_plan c) (boom_answers c) before now s)) (sym (none refl)) tt
-boom_unread ws words.Memory before now s is none =
-    subst (λ (x : Status). IfSome (boom_of ws) (λ c. IsComplete (boom_plan c) (boom_answers c) before now x)) (sym is)
-    (all_some (boom_of ws) (λ c. memory_complete (boom_plan c) (boom_answers c) before now))
+-- ---- words that a command is read from
 
-pub boog_unread : (ws : List (List ℕ)) (e : WordsError) (before now : Outside) (s : Status) → s ≡ status_of e → (IsErrOf {T = Command} (Err e) words.Usage → command_of ws ≡ None)
-    → IfSome (boog_of ws) (λ c. IsComplete (boog_plan c) (boog_answers c) before now s)
-boog_unread ws words.Usage before now s is none =
-    subst (λ (o : Option Command). IfSome (as_boog o) (λ c. IsComplete (boog_plan c) (boog_answers c) before now s)) (sym (none refl)) tt
-boog_unread ws words.Memory before now s is none =
-    subst (λ (x : Status). IfSome (boog_of ws) (λ c. IsComplete (boog_plan c) (boog_answers c) before now x)) (sym is)
-    (all_some (boog_of ws) (λ c. memory_complete (boog_plan c) (boog_answers c) before now))
-
-pub cougar_unread : (ws : List (List ℕ)) (e : WordsError) (before now : Outside) (s : Status) → s ≡ status_of e → (IsErrOf {T = Command} (Err e) words.Usage → command_of ws ≡ None)
-    → IfSome (cougar_of ws) (λ c. IsComplete (cougar_plan c) (cougar_answers c) before now s)
-cougar_unread ws words.Usage before now s is none =
-    subst (λ (o : Option Command). IfSome (as_cougar o) (λ c. IsComplete (cougar_plan c) (cougar_answers c) before now s)) (sym (none refl)) tt
-cougar_unread ws words.Memory before now s is none =
-    subst (λ (x : Status). IfSome (cougar_of ws) (λ c. IsComplete (cougar_plan c) (cougar_answers c) before now x)) (sym is)
-    (all_some (cougar_of ws) (λ c. memory_complete (cougar_plan c) (cougar_answers c) before now))
-
-pub asimut_unread : (ws : List (List ℕ)) (e : WordsError) (before now : Outside) (s : Status) → s ≡ status_of e → (IsErrOf {T = Command} (Err e) words.Usage → command_of ws ≡ None)
-    → IfSome (asimut_of ws) (λ c. IsComplete (asimut_plan c) (asimut_answers c) before now s)
-asimut_unread ws words.Usage before now s is none =
-    subst (λ (o : Option Command). IfSome (as_asimut o) (λ c. IsComplete (asimut_plan c) (asimut_answers c) before now s)) (sym (none refl)) tt
-asimut_unread ws words.Memory before now s is none =
-    subst (λ (x : Status). IfSome (asimut_of ws) (λ c. IsComplete (asimut_plan c) (asimut_answers c) before now x)) (sym is)
-    (all_some (asimut_of ws) (λ c. memory_complete (asimut_plan c) (asimut_answers c) before now))
-
-pub netlist_unread : (ws : List (List ℕ)) (e : WordsError) (before now : Outside) (s : Status) → s ≡ status_of e → (IsErrOf {T = Command} (Err e) words.Usage → command_of ws ≡ None)
-    → IfSome (asimut_netlist_of ws) (λ c. IsComplete (netlist_plan c) (netlist_answers c) before now s)
-netlist_unread ws words.Usage before now s is none =
-    subst (λ (o : Option Command). IfSome (as_asimut_netlist o) (λ c. IsComplete (netlist_plan c) (netlist_answers c) before now s)) (sym (none refl)) tt
-netlist_unread ws words.Memory before now s is none =
-    subst (λ (x : Status). IfSome (asimut_netlist_of ws) (λ c. IsComplete (netlist_plan c) (netlist_answers c) before now x)) (sym is)
-    (all_some (asimut_netlist_of ws) (λ c. memory_complete (netlist_plan c) (netlist_answers c) before now))
+pub answer_at : (ws : List (List ℕ)) (k : Command) (before now : Outside) (s : Status) → command_of ws ≡ Some k → IsAnswerTo k before now s
+    → IfSome (command_of ws) (λ c. IsAnswerTo c before now s)
+answer_at ws k before now s is h = subst (λ (o : Option Command). IfSome o (λ c. IsAnswerTo c before now s)) (sym is) h

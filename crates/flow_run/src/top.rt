@@ -1,18 +1,12 @@
 // The top call: words, and then the tool that they ask for.
 ghost use Rattle.std.specs.Prelude.{◌≡◌, ◌⊎◌, true, IfSome, Some, None};
-ghost use Rattle.tool_words.specs.Commands.{command_of, as_flow, as_syf, as_boom, as_boog, as_asimut, as_asimut_netlist, as_cougar};
-ghost use Rattle.tool_words.specs.Commands.{flow_of, syf_of, boom_of, boog_of, asimut_of, asimut_netlist_of, cougar_of};
+ghost use Rattle.tool_words.specs.Commands.{command_of, as_flow, flow_of};
 ghost use Rattle.tool_drive.specs.Outside.{outside, IsLine};
 ghost use Rattle.tool_drive.specs.Status.{has_line};
 ghost use Rattle.tool_drive.specs.Lines.{line_of as line_of_tool};
 ghost use Rattle.tool_drive.specs.Table.{Caused, IsComplete};
-ghost use Rattle.syf_run.specs.Syf.{syf_plan, syf_answers};
-ghost use Rattle.boom_run.specs.Boom.{boom_plan, boom_answers};
-ghost use Rattle.boog_run.specs.Boog.{boog_plan, boog_answers};
 ghost use Rattle.tool_run.specs.Usage.{word_of, line_of};
-ghost use Rattle.asimut_run.specs.Asimut.{asimut_plan, asimut_answers};
-ghost use Rattle.asimut_run.specs.Netlist.{netlist_plan, netlist_answers};
-ghost use Rattle.cougar_run.specs.Cougar.{cougar_plan, cougar_answers};
+ghost use Rattle.tool_run.specs.Answers.{IsAnswerTo};
 ghost use Rattle.flow_run.specs.Flow.{flow_plan, flow_answers};
 ghost use Rattle.flow_run.specs.Causes.{IsHeadline, IsFree};
 
@@ -29,30 +23,8 @@ fn run<S: Shelf, T: Sink>(alloc: Global, command: &Command, shelf: &mut S, out: 
         (outside (S.seen shelf.old) (T.seen out.old)) (outside (S.seen shelf.new) (T.seen out.new)) result) }
     ensures complete { IfSome (as_flow (Some command.now)) (λ c. IsComplete (flow_plan c) (flow_answers c)
         (outside (S.seen shelf.old) (T.seen out.old)) (outside (S.seen shelf.new) (T.seen out.new)) result) }
-    ensures encoding { IfSome (as_syf (Some command.now)) (λ c. Caused (syf_plan c) (syf_answers c)
-        (outside (S.seen shelf.old) (T.seen out.old)) (outside (S.seen shelf.new) (T.seen out.new)) result) }
-    ensures encoding_complete { IfSome (as_syf (Some command.now)) (λ c. IsComplete (syf_plan c) (syf_answers c)
-        (outside (S.seen shelf.old) (T.seen out.old)) (outside (S.seen shelf.new) (T.seen out.new)) result) }
-    ensures optimisation { IfSome (as_boom (Some command.now)) (λ c. Caused (boom_plan c) (boom_answers c)
-        (outside (S.seen shelf.old) (T.seen out.old)) (outside (S.seen shelf.new) (T.seen out.new)) result) }
-    ensures optimisation_complete { IfSome (as_boom (Some command.now)) (λ c. IsComplete (boom_plan c) (boom_answers c)
-        (outside (S.seen shelf.old) (T.seen out.old)) (outside (S.seen shelf.new) (T.seen out.new)) result) }
-    ensures mapping { IfSome (as_boog (Some command.now)) (λ c. Caused (boog_plan c) (boog_answers c)
-        (outside (S.seen shelf.old) (T.seen out.old)) (outside (S.seen shelf.new) (T.seen out.new)) result) }
-    ensures mapping_complete { IfSome (as_boog (Some command.now)) (λ c. IsComplete (boog_plan c) (boog_answers c)
-        (outside (S.seen shelf.old) (T.seen out.old)) (outside (S.seen shelf.new) (T.seen out.new)) result) }
-    ensures simulation { IfSome (as_asimut (Some command.now)) (λ c. Caused (asimut_plan c) (asimut_answers c)
-        (outside (S.seen shelf.old) (T.seen out.old)) (outside (S.seen shelf.new) (T.seen out.new)) result) }
-    ensures simulation_complete { IfSome (as_asimut (Some command.now)) (λ c. IsComplete (asimut_plan c) (asimut_answers c)
-        (outside (S.seen shelf.old) (T.seen out.old)) (outside (S.seen shelf.new) (T.seen out.new)) result) }
-    ensures netlist { IfSome (as_asimut_netlist (Some command.now)) (λ c. Caused (netlist_plan c) (netlist_answers c)
-        (outside (S.seen shelf.old) (T.seen out.old)) (outside (S.seen shelf.new) (T.seen out.new)) result) }
-    ensures netlist_complete { IfSome (as_asimut_netlist (Some command.now)) (λ c. IsComplete (netlist_plan c) (netlist_answers c)
-        (outside (S.seen shelf.old) (T.seen out.old)) (outside (S.seen shelf.new) (T.seen out.new)) result) }
-    ensures extraction { IfSome (as_cougar (Some command.now)) (λ x. Caused (cougar_plan x) (cougar_answers x)
-        (outside (S.seen shelf.old) (T.seen out.old)) (outside (S.seen shelf.new) (T.seen out.new)) result) }
-    ensures extraction_complete { IfSome (as_cougar (Some command.now)) (λ x. IsComplete (cougar_plan x) (cougar_answers x)
-        (outside (S.seen shelf.old) (T.seen out.old)) (outside (S.seen shelf.new) (T.seen out.new)) result) }
+    ensures answer { IsAnswerTo command.now
+        (outside (S.seen shelf.old) (T.seen out.old)) (outside (S.seen shelf.new) (T.seen out.new)) result }
     ensures line { has_line result ≡ true
         → IsLine (T.seen out.old) (T.seen out.new) (line_of_tool (word_of command.now) result) }
     ensures never_usage { result ≡ Status.Usage → ⊥ }
@@ -64,7 +36,11 @@ fn run<S: Shelf, T: Sink>(alloc: Global, command: &Command, shelf: &mut S, out: 
         | Command::Boog(_)
         | Command::Asimut(_)
         | Command::AsimutNetlist(_)
-        | Command::Cougar(_) => run_tool(alloc, command, shelf, out),
+        | Command::Cougar(_)
+        | Command::Lvx(_)
+        | Command::Druc(_)
+        | Command::Proof(_)
+        | Command::Flatbeh(_) => run_tool(alloc, command, shelf, out),
     }
 }
 
@@ -109,39 +85,9 @@ pub fn alliance_main<S: Shelf, T: Sink>(
     ensures lays { IfSome (flow_of words.now) (λ c. IsFree c (outside (S.seen shelf.old) (T.seen out.old)) (outside (S.seen shelf.new) (T.seen out.new))
         → (result ≡ Status.Accepted) ⊎ (result ≡ Status.Memory)) }
 
-    // The answers of syf: each has its cause, and over told files, where nothing failed, it is what the file comes to.
-    ensures encoding { IfSome (syf_of words.now) (λ c. Caused (syf_plan c) (syf_answers c)
-        (outside (S.seen shelf.old) (T.seen out.old)) (outside (S.seen shelf.new) (T.seen out.new)) result) }
-    ensures encoding_complete { IfSome (syf_of words.now) (λ c. IsComplete (syf_plan c) (syf_answers c)
-        (outside (S.seen shelf.old) (T.seen out.old)) (outside (S.seen shelf.new) (T.seen out.new)) result) }
-
-    // The answers of boom: each has its cause, and over told files, where nothing failed, it is what the file comes to.
-    ensures optimisation { IfSome (boom_of words.now) (λ c. Caused (boom_plan c) (boom_answers c)
-        (outside (S.seen shelf.old) (T.seen out.old)) (outside (S.seen shelf.new) (T.seen out.new)) result) }
-    ensures optimisation_complete { IfSome (boom_of words.now) (λ c. IsComplete (boom_plan c) (boom_answers c)
-        (outside (S.seen shelf.old) (T.seen out.old)) (outside (S.seen shelf.new) (T.seen out.new)) result) }
-
-    // The answers of boog: each has its cause, and over told files, where nothing failed, it is what the files come to.
-    ensures mapping { IfSome (boog_of words.now) (λ c. Caused (boog_plan c) (boog_answers c)
-        (outside (S.seen shelf.old) (T.seen out.old)) (outside (S.seen shelf.new) (T.seen out.new)) result) }
-    ensures mapping_complete { IfSome (boog_of words.now) (λ c. IsComplete (boog_plan c) (boog_answers c)
-        (outside (S.seen shelf.old) (T.seen out.old)) (outside (S.seen shelf.new) (T.seen out.new)) result) }
-
-    // The answers of asimut, on a source and on a netlist: each has its cause, and over told files, where nothing failed, it is
-    // what the files come to.
-    ensures simulation { IfSome (asimut_of words.now) (λ c. Caused (asimut_plan c) (asimut_answers c)
-        (outside (S.seen shelf.old) (T.seen out.old)) (outside (S.seen shelf.new) (T.seen out.new)) result) }
-    ensures simulation_complete { IfSome (asimut_of words.now) (λ c. IsComplete (asimut_plan c) (asimut_answers c)
-        (outside (S.seen shelf.old) (T.seen out.old)) (outside (S.seen shelf.new) (T.seen out.new)) result) }
-    ensures netlist { IfSome (asimut_netlist_of words.now) (λ c. Caused (netlist_plan c) (netlist_answers c)
-        (outside (S.seen shelf.old) (T.seen out.old)) (outside (S.seen shelf.new) (T.seen out.new)) result) }
-    ensures netlist_complete { IfSome (asimut_netlist_of words.now) (λ c. IsComplete (netlist_plan c) (netlist_answers c)
-        (outside (S.seen shelf.old) (T.seen out.old)) (outside (S.seen shelf.new) (T.seen out.new)) result) }
-
-    // The answers of cougar: each has its cause, and over told files, where nothing failed, it is what the files come to.
-    ensures extraction { IfSome (cougar_of words.now) (λ x. Caused (cougar_plan x) (cougar_answers x)
-        (outside (S.seen shelf.old) (T.seen out.old)) (outside (S.seen shelf.new) (T.seen out.new)) result) }
-    ensures extraction_complete { IfSome (cougar_of words.now) (λ x. IsComplete (cougar_plan x) (cougar_answers x)
+    // The answers of every other tool: each has its cause and leaves the files that its row says, and over told files, where nothing
+    // failed, it is what the files come to.
+    ensures answer { IfSome (command_of words.now) (λ k. IsAnswerTo k
         (outside (S.seen shelf.old) (T.seen out.old)) (outside (S.seen shelf.new) (T.seen out.new)) result) }
 
     // A refusal prints its line and nothing else, as far as memory and the sink let it.

@@ -18,6 +18,10 @@ word_of (command.Boog c) = codes "boog"
 word_of (command.Asimut c) = codes "asimut"
 word_of (command.AsimutNetlist c) = codes "asimut"
 word_of (command.Cougar c) = codes "cougar"
+word_of (command.Lvx c) = codes "lvx"
+word_of (command.Druc c) = codes "druc"
+word_of (command.Proof c) = codes "proof"
+word_of (command.Flatbeh c) = codes "flatbeh"
 
 abbrev pub is_flow : Command → Bool
 is_flow (command.Flow c) = true
@@ -27,6 +31,10 @@ is_flow (command.Boog c) = false
 is_flow (command.Asimut c) = false
 is_flow (command.AsimutNetlist c) = false
 is_flow (command.Cougar c) = false
+is_flow (command.Lvx c) = false
+is_flow (command.Druc c) = false
+is_flow (command.Proof c) = false
+is_flow (command.Flatbeh c) = false
 
 -- the word that stands first
 abbrev pub tool_of : List (List ℕ) → List ℕ

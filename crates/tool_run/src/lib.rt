@@ -1,7 +1,7 @@
 //! The tools beside `flow`, by the driver of `tool_drive`, and the line on words that spell no command.
 //!
-//! What each tool reads and answers stands in the specs of its crate (`syf_run`, `boom_run`, `boog_run`, `asimut_run`, `cougar_run`); when each
-//! status comes and what it leaves, for all tools, in `specs/Table.antt` of `tool_drive`.
+//! What each tool reads and answers stands in the specs of its crate (`syf_run`, `boom_run` and so
+//! on), and for all together in `specs/Answers.antt`; when each status comes and what it leaves, for all tools, in `specs/Table.antt` of `tool_drive`.
 #![tactic(auto)]
 
 mod run;

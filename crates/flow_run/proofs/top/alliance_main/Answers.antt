@@ -1,5 +1,6 @@
+use Rattle.std.proofs.Common.{refl}
 use Rattle.tool_drive.specs.Outside.{outside}
-use Rattle.flow_run.proofs.Words.{line_by, headline_at, no_headline, free_at, none_free, flow_unread, syf_unread, boom_unread, boog_unread, cougar_unread, asimut_unread, netlist_unread}
+use Rattle.flow_run.proofs.Words.{line_by, headline_at, no_headline, free_at, none_free, flow_unread, answer_at, none_answered}
 use Rattle.flow_run.proofs.top.alliance_main.Goals as goal
 
 pub returns-in-Ok-clause-headline : goal.returns-in-Ok-clause-headline
@@ -32,32 +33,12 @@ returns-in-Err-clause-lays g c =
     none_free c.args.words.now c.in-Err.error (outside (g.S.Shelf.seen c.args.shelf.now) (g.T.Sink.seen c.args.out.now)) (outside (g.S.Shelf.seen c.args.shelf.now) (g.T.Sink.seen c.refuse_words.new.out))
     c.refuse_words.result c.refuse_words.ensures.status c.in-Err.ensures.usage
 
-pub returns-in-Err-clause-encoding_complete : goal.returns-in-Err-clause-encoding_complete
-returns-in-Err-clause-encoding_complete g c =
-    syf_unread c.args.words.now c.in-Err.error (outside (g.S.Shelf.seen c.args.shelf.now) (g.T.Sink.seen c.args.out.now)) (outside (g.S.Shelf.seen c.args.shelf.now) (g.T.Sink.seen c.refuse_words.new.out))
-    c.refuse_words.result c.refuse_words.ensures.status c.in-Err.ensures.usage
+pub returns-in-Err-clause-answer : goal.returns-in-Err-clause-answer
+returns-in-Err-clause-answer g c =
+    none_answered c.args.words.now c.in-Err.error (outside (g.S.Shelf.seen c.args.shelf.now) (g.T.Sink.seen c.args.out.now)) (outside (g.S.Shelf.seen c.args.shelf.now) (g.T.Sink.seen c.refuse_words.new.out))
+    c.refuse_words.result refl c.refuse_words.ensures.status c.in-Err.ensures.usage
 
-pub returns-in-Err-clause-optimisation_complete : goal.returns-in-Err-clause-optimisation_complete
-returns-in-Err-clause-optimisation_complete g c =
-    boom_unread c.args.words.now c.in-Err.error (outside (g.S.Shelf.seen c.args.shelf.now) (g.T.Sink.seen c.args.out.now)) (outside (g.S.Shelf.seen c.args.shelf.now) (g.T.Sink.seen c.refuse_words.new.out))
-    c.refuse_words.result c.refuse_words.ensures.status c.in-Err.ensures.usage
-
-pub returns-in-Err-clause-mapping_complete : goal.returns-in-Err-clause-mapping_complete
-returns-in-Err-clause-mapping_complete g c =
-    boog_unread c.args.words.now c.in-Err.error (outside (g.S.Shelf.seen c.args.shelf.now) (g.T.Sink.seen c.args.out.now)) (outside (g.S.Shelf.seen c.args.shelf.now) (g.T.Sink.seen c.refuse_words.new.out))
-    c.refuse_words.result c.refuse_words.ensures.status c.in-Err.ensures.usage
-
-pub returns-in-Err-clause-extraction_complete : goal.returns-in-Err-clause-extraction_complete
-returns-in-Err-clause-extraction_complete g c =
-    cougar_unread c.args.words.now c.in-Err.error (outside (g.S.Shelf.seen c.args.shelf.now) (g.T.Sink.seen c.args.out.now)) (outside (g.S.Shelf.seen c.args.shelf.now) (g.T.Sink.seen c.refuse_words.new.out))
-    c.refuse_words.result c.refuse_words.ensures.status c.in-Err.ensures.usage
-
-pub returns-in-Err-clause-simulation_complete : goal.returns-in-Err-clause-simulation_complete
-returns-in-Err-clause-simulation_complete g c =
-    asimut_unread c.args.words.now c.in-Err.error (outside (g.S.Shelf.seen c.args.shelf.now) (g.T.Sink.seen c.args.out.now)) (outside (g.S.Shelf.seen c.args.shelf.now) (g.T.Sink.seen c.refuse_words.new.out))
-    c.refuse_words.result c.refuse_words.ensures.status c.in-Err.ensures.usage
-
-pub returns-in-Err-clause-netlist_complete : goal.returns-in-Err-clause-netlist_complete
-returns-in-Err-clause-netlist_complete g c =
-    netlist_unread c.args.words.now c.in-Err.error (outside (g.S.Shelf.seen c.args.shelf.now) (g.T.Sink.seen c.args.out.now)) (outside (g.S.Shelf.seen c.args.shelf.now) (g.T.Sink.seen c.refuse_words.new.out))
-    c.refuse_words.result c.refuse_words.ensures.status c.in-Err.ensures.usage
+pub returns-in-Ok-clause-answer : goal.returns-in-Ok-clause-answer
+returns-in-Ok-clause-answer g c =
+    answer_at c.args.words.now c.in-Ok.command (outside (g.S.Shelf.seen c.args.shelf.now) (g.T.Sink.seen c.args.out.now)) (outside (g.S.Shelf.seen c.run.new.shelf) (g.T.Sink.seen c.run.new.out))
+    c.run.result c.in-Ok.ensures.ok c.run.ensures.answer
