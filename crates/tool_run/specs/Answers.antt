@@ -1,5 +1,6 @@
 -- What the tools beside `flow` answer.
-use Rattle.std.specs.Prelude.{ℕ, Result, inl}
+use Rattle.std.proofs.Common.{inl}
+use Rattle.std.specs.Prelude.{ℕ, Result}
 use Rattle.tool_words.specs.declared.command.Command.{Command}
 use Rattle.tool_words.specs.declared.command.Command.TheVariants as command
 use Rattle.tool_drive.specs.declared.status.Status.{Status}
