@@ -180,11 +180,13 @@ class Checks:
         return width
 
     def joined(self, operator, a, b):
+        if operator in ("=", "/="):
+            return 1
         if a is None or b is None:
             return None
         if operator == "&":
             return a + b
-        return None if a != b else 1 if operator in ("=", "/=") else a
+        return None if a != b else a
 
     def fits(self, name, selection):
         bounds = self.find(name).bounds
