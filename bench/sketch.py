@@ -3,8 +3,7 @@
 
 Usage: bench/sketch.py LAYOUT.ap LIBRARY
 
-`=` is metal 1, `-` metal 2, `|` metal 3, `#` several metals above each other, and `o` a via. A port stands at the left of its line, an
-instance with its cell below the row.
+A port stands at the left of its line, an instance with its cell below the row, and at the end what the signs are.
 """
 
 import pathlib
@@ -18,6 +17,7 @@ from layout import label  # noqa: E402
 
 MARKS = {1: "=", 2: "-", 3: "|", 4: "4", 5: "5", 6: "6"}
 ACROSS, UP = 125, 500
+SIGNS = "= metal 1, - metal 2, | metal 3, # several above each other, o a via"
 
 
 def row_of(y):
@@ -39,13 +39,14 @@ def lines(figure, cells):
     vias = {(item[1], row_of(item[2])) for item in figure.items if item[0] == "V"}
     ports = {row_of(item[2]): label(item[4]) for item in figure.items if item[0] == "C"}
     wide = max(map(len, ports.values()), default=0)
-    for row in range(row_of(top), -1, -1):
+    for row in range(row_of(top) - 1, -1, -1):
         marks = "".join(mark(shapes, vias, x, row) for x in range(0, right + 1, ACROSS))
         yield f"{ports.get(row, ''):>{wide}} {marks}".rstrip()
     below = ""
     for i in instances_of(figure):
         below = below.ljust(wide + 1 + i.x // ACROSS) + f"{i.name}: {i.model} "
     yield below.rstrip()
+    yield SIGNS
 
 
 def main():
