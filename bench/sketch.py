@@ -6,6 +6,7 @@ Usage: bench/sketch.py LAYOUT.ap LIBRARY
 A port stands at the left of its line, an instance with its cell below the row, and at the end what the signs are.
 """
 
+import itertools
 import pathlib
 import sys
 
@@ -39,9 +40,11 @@ def lines(figure, cells):
     vias = {(item[1], row_of(item[2])) for item in figure.items if item[0] == "V"}
     ports = {row_of(item[2]): label(item[4]) for item in figure.items if item[0] == "C"}
     wide = max(map(len, ports.values()), default=0)
-    for row in range(row_of(top) - 1, -1, -1):
+    drawn = []
+    for row in range(row_of(top), -1, -1):
         marks = "".join(mark(shapes, vias, x, row) for x in range(0, right + 1, ACROSS))
-        yield f"{ports.get(row, ''):>{wide}} {marks}".rstrip()
+        drawn.append(f"{ports.get(row, ''):>{wide}} {marks}".rstrip())
+    yield from itertools.dropwhile(lambda line: not line, drawn)
     below = ""
     for i in instances_of(figure):
         below = below.ljust(wide + 1 + i.x // ACROSS) + f"{i.name}: {i.model} "
