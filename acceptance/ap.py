@@ -1,5 +1,5 @@
-"""A second reader of ap files, written from docs/FORMATS.md and docs/LIBRARIES.md. Where these
-were silent, its readings were settled together with those of the program.
+"""A second reader of ap files, written from docs/formats/layouts.md. Where this
+was silent, its readings were settled together with those of the program.
 
 `read(bytes)` gives the Figure, or raises Refused. Run as `ap.py FILE..` it prints for each file the line that cell_probe has
 to print of it: `ok NAME ITEMS TEXT`, `LINE FAULT` or `limit KIND REACHED`.

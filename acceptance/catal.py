@@ -1,4 +1,4 @@
-"""A second reader of a library's CATAL, written from docs/FORMATS.md and docs/LIBRARIES.md alone."""
+"""A second reader of a library's CATAL, written from docs/formats/libraries.md alone."""
 
 import re
 

@@ -1,4 +1,4 @@
-"""A second reader of libraries of cells, and their checks, written from docs/FORMATS.md and docs/LIBRARIES.md alone.
+"""A second reader of libraries of cells, and their checks, written from docs/formats/libraries.md and layouts.md alone.
 
 `library(files, with_tracks)` is the line that cell_probe has to print of a folder, given as a map from names to bytes: `ok`,
 `catal LINE`, `CELL CAUSE`, `limit KIND REACHED` or `missing FILE`. Run as `cellcheck.py [--tracks] FOLDER..` it prints that

@@ -1,4 +1,4 @@
-"""How large the diagrams of a machine's roots are, written from the definition in docs/FORMATS.md, "The nodes of a source": a count
+"""How large the diagrams of a machine's roots are, written from the definition in docs/formats/measures.md: a count
 of truth lists. Functions of few bits are truth lists, as numbers; those of more bits are nodes of a plain diagram, which tests of this
 file compare with the lists.
 

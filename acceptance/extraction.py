@@ -1,4 +1,4 @@
-"""A second reading of layouts, written from docs/FORMATS.md: their rectangles, which of them are joined, the netlist that they give, and
+"""A second reading of layouts, written from docs/formats/layouts.md: their rectangles, which of them are joined, the netlist that they give, and
 which symbolic rules they break.
 
 `flat_of(figure, cells)` has all rectangles of a layout, each turned and moved as its instance is; `extracted(figure, flat, models)` is the

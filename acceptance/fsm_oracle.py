@@ -1,4 +1,4 @@
-"""A second reader of state machines: their checks, and their statements over bits, written from docs/FORMATS.md alone.
+"""A second reader of state machines: their checks, and their statements over bits, written from docs/formats/state-machines.md alone.
 
 `state_machine(text)` gives the StateMachine of state_walk.py that a text is, or raises Refused with what is wrong with it.
 """

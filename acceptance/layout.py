@@ -1,4 +1,4 @@
-"""A second drawing of netlists by private tracks, written from docs/FORMATS.md.
+"""A second drawing of netlists by private tracks, written from docs/formats/blocks.md.
 
 `drawn(n, cells)` gives the text of the layout of a netlist, `report(m, n, cells)` the report on it. A netlist is one of vst.py; cells are
 those of cellcheck.py by their names.

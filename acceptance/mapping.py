@@ -1,5 +1,5 @@
-"""A second mapping of data-flow machines to inverters and gates of two inputs, written from docs/FORMATS.md: how large a
-machine is, its graph, and whether a netlist has the nodes of a graph.
+"""A second mapping of data-flow machines to inverters and gates of two inputs, written from
+docs/formats/netlists.md and measures.md: how large a machine is, its graph, and whether a netlist has the nodes of a graph.
 """
 
 from collections import Counter

@@ -1,4 +1,4 @@
-"""The cells of a library as netlists see them, for the second readers, written from docs/FORMATS.md.
+"""The cells of a library as netlists see them, for the second readers, written from docs/formats/libraries.md.
 
 `library(files, folder)` gives the models of the cells that the library in this folder uses, by their names in file order, or
 raises Refusal with the status and the line behind a tool's word.

@@ -1,4 +1,4 @@
-"""A second reader and runner of pattern files, written by the rules of docs/FORMATS.md.
+"""A second reader and runner of pattern files, written by the rules of docs/formats/patterns.md.
 
 `answer(..)` gives the status and the printed text that `alliance asimut` has to come to on two texts.
 """

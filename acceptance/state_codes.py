@@ -1,4 +1,4 @@
-"""A second encoder of states: the codes of `-e o`, `r` and `j`, written from docs/FORMATS.md alone.
+"""A second encoder of states: the codes of `-e o`, `r` and `j`, written from docs/formats/state-machines.md alone.
 
 A code is a list of bits, bit 0 first. `leads` says of two states whether the branch of the first assigns the second to the next state.
 """

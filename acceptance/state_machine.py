@@ -1,4 +1,4 @@
-"""The equations of a state machine by codes of its states, as docs/FORMATS.md has them: what each register and output shows, from any
+"""The equations of a state machine by codes of its states, as docs/formats/state-machines.md has them: what each register and output shows, from any
 contents of the registers, those that are no code among them.
 """
 

@@ -1,4 +1,4 @@
-"""The data-flow text of a machine, written from docs/FORMATS.md alone: the one spelling that it has. The formulas are those of
+"""The data-flow text of a machine, written from docs/formats/data-flow.md alone: the one spelling that it has. The formulas are those of
 diagrams.py, with two operands an operator and one condition a choice.
 """
 

@@ -1,4 +1,4 @@
-"""A second walker through the statements of a state machine, written from docs/FORMATS.md alone.
+"""A second walker through the statements of a state machine, written from docs/formats/state-machines.md alone.
 
 A body is a list of statements: ("out", bit, formula), ("next", state), ("if", [(condition, body)..], last body or None) and
 ("case", [(states, body)..], body of the others or None). States are numbers, formulas those of vbe_oracle.py.

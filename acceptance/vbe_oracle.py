@@ -1,4 +1,4 @@
-"""A second reader of data-flow texts, written by the rules of docs/FORMATS.md, against which `alliance asimut` is run.
+"""A second reader of data-flow texts, written by the rules of docs/formats/data-flow.md, against which `alliance asimut` is run.
 
 `machine(text)` gives the Machine that a text is, or raises Refused with what is wrong with it. pat_oracle.py runs
 patterns on it.

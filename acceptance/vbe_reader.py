@@ -1,4 +1,4 @@
-"""The statements of data-flow texts, for the second reader, written from docs/FORMATS.md."""
+"""The statements of data-flow texts, for the second reader, written from docs/formats/data-flow.md."""
 
 from vhdl_reader import CHAIN, Reader, Refused, limit
 

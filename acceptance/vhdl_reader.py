@@ -1,4 +1,4 @@
-"""A second reader of VHDL: tokens, entities, declarations and expressions, written from docs/FORMATS.md alone."""
+"""A second reader of VHDL: tokens, entities, declarations and expressions, written from docs/formats/vhdl.md alone."""
 
 import sys
 

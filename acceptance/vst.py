@@ -1,4 +1,4 @@
-"""A second reader of structural texts over a library, and a runner of the netlists, written from docs/FORMATS.md.
+"""A second reader of structural texts over a library, and a runner of the netlists, written from docs/formats/netlists.md.
 
 `netlist(text, models)` gives the Netlist that a text is, over the models of a library (models.py), or raises Refused with
 what is wrong with it first. pat_oracle.py runs patterns on it.

@@ -1,4 +1,4 @@
-"""The grammar of structural texts, for the second reader, written from docs/FORMATS.md."""
+"""The grammar of structural texts, for the second reader, written from docs/formats/netlists.md."""
 
 from typing import NamedTuple
 

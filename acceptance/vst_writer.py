@@ -1,4 +1,4 @@
-"""The one spelling of a netlist as a structural text, written from docs/FORMATS.md."""
+"""The one spelling of a netlist as a structural text, written from docs/formats/netlists.md."""
 
 import itertools
 

@@ -1,4 +1,4 @@
-"""Which words spell a command, and what stands in its files, for the second readers, by docs/FORMATS.md."""
+"""Which words spell a command, and what stands in its files, for the second readers, by docs/formats/commands.md."""
 
 import os
 
