@@ -20,7 +20,7 @@ ghost use Rattle.fsm_io.specs.States.{all_bad_states};
 ghost use Rattle.fsm_io.specs.Assigned.{left_out_of};
 ghost use Rattle.fsm_io.specs.Checks.{most_states, ports_count, PassesLimit, if_state};
 ghost use Rattle.fsm_io.specs.Elaboration.{IsMachineOf};
-ghost use Rattle.fsm_io.specs.Pieces.{named_of, tree_of, roles_of, HasRoles, Suits, names_fault, forms_fault, states_fault, early_fault, body_over, IsMadeBehind, IsPassed, IsRefusedOrMemory, IsRefusedBehind};
+ghost use Rattle.fsm_io.specs.Pieces.{named_of, tree_of, roles_of, HasRoles, Suits, names_fault, forms_fault, states_fault, early_fault, body_over, PassesBehind, IsMadeBehind, IsPassed, IsRefusedOrMemory, IsRefusedBehind};
 
 use crate::assigned::left_out;
 use crate::bits::Frame;
