@@ -2,7 +2,7 @@
 
 import os
 
-TOOLS_LINE = "usage: alliance flow|syf|boom|boog|asimut|cougar ARGUMENTS\n"
+TOOLS_LINE = "usage: alliance flow|syf|boom|boog|asimut|cougar|lvx|druc|proof|flatbeh ARGUMENTS\n"
 
 
 def command(words, endings, options):
