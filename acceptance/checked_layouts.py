@@ -3,8 +3,10 @@ in which a hand changes one. Of each layout druc says which rules it breaks, cou
 netlist of the layout as it was, flatbeh makes a source of it, and proof compares that with the source of the layout as it was.
 """
 
+import os
 import pathlib
 import random
+import re
 from typing import NamedTuple
 
 import cougar
@@ -20,7 +22,7 @@ from models import library
 from pat_oracle import machine_of
 from random_sources import Maker
 from results import Room, shown
-from vst import netlist
+from vst import FILE, netlist
 
 HERE = pathlib.Path(__file__).resolve().parent
 EXAMPLES = HERE.parent / "examples"
@@ -136,7 +138,49 @@ def check_example(results, program, path):
     run_layout(results, program, f"the layout of {path.name}", path.read_bytes(), random.Random(path.name))
 
 
+def walk_of(page):
+    """The commands of an example's page with what each prints; the program's alone."""
+    for block in re.findall(r"```\n(.*?)```", page, re.DOTALL):
+        for command, printed in re.findall(r"\$ build/alliance (.*)\n((?:(?!\$ ).*\n)*)", block):
+            yield command.split(), printed
+
+
+def check_walk(results, program):
+    """The example of the changed layouts: its page says what is printed, and its layout is the one that flow draws."""
+    folder = EXAMPLES / "checking"
+    names = [line.split()[0] for line in (HERE.parent / "cells/CATAL").read_text().splitlines()]
+    with Room() as room:
+        files = {f"examples/checking/{path.name}": path.read_bytes() for path in folder.iterdir()}
+        room.write({**of_cells(names, "cells"), **files})
+        (room.folder / "build").mkdir()
+        got = room.run(program, ["flow", "examples/checking/pick.vbe", "-l", "cells", "-o", "build/pick", "--tracks"])
+        drawn = (room.folder / "build/pick.ap").read_bytes() if got[0] == 0 else b""
+        results.note("the layout of the example", drawn == files["examples/checking/pick.ap"], shown(*got))
+        for words, printed in walk_of((folder / "README.md").read_text()):
+            got = room.run(program, words)
+            results.note(f"the example's {' '.join(words)}", got[1] == printed.encode(), f"came to {shown(*got)}, wanted {printed!r}")
+
+
+FILE_LINE = "limit: file 268435457\n"
+
+
+def check_long(results, program):
+    """Netlists and layouts of one byte more than they may have. All files are read before one is judged."""
+    files = {**of_cells(["inv_x1"]), "a.vst": b"", "b.vst": b"", "a.ap": b""}
+    rows = [(["lvx", "a.vst", "-b", "b.vst", "-l", "lib"], "a.vst"), (["lvx", "a.vst", "-b", "b.vst", "-l", "lib"], "b.vst"),
+            (["druc", "a.ap", "-l", "lib"], "a.ap"), (["flatbeh", "a.vst", "-l", "lib", "-o", "r"], "a.vst")]
+    with Room() as room:
+        room.write(files)
+        for words, name in rows:
+            os.truncate(room.folder / name, FILE + 1)
+            got = room.run(program, words)
+            os.truncate(room.folder / name, 0)
+            results.note(f"{words[0]} with {name} too long", got == (9, f"{words[0]}: {FILE_LINE}".encode()), shown(*got))
+
+
 def jobs(program, seed, times):
+    yield check_long, (program,)
+    yield check_walk, (program,)
     numbers = range(LAYOUTS * times)
     for at in range(0, len(numbers), CHUNK):
         yield check_layouts, (program, seed, numbers[at : at + CHUNK])
