@@ -38,7 +38,8 @@ def follows(machine, output):
 
 class Model:
     """Pins with their directions, vdd and vss among them; the clock pin or None; for each output the inputs on which it depends
-    at once; the kind, where a netlist of inverters and gates of two inputs may use the cell for one."""
+    at once; whether it is a gate or a plain flip-flop; the kind, where a netlist of inverters and gates of two inputs may use the cell for
+    one."""
 
     def __init__(self, name, cell):
         behaviour = cell.behaviour
@@ -51,6 +52,7 @@ class Model:
         self.registers = sorted(self.machine.registers) if self.machine else []
         self.depends = {bit: self.at_once(behaviour, bit) for bit in self.outputs}
         self.known = {}
+        self.is_plain = self.machine is not None and (behaviour.is_gate() or behaviour.is_flip_flop())
         self.kind = self.find_kind(behaviour) if cell.is_mappable() else None
 
     def at_once(self, behaviour, output):

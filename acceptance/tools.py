@@ -12,10 +12,15 @@ import answers
 import asimut
 import boog
 import boom
+import checked_layouts
 import cougar
+import druc
+import flatbeh
 import flow
 import flow_limits
+import lvx
 import net_jobs
+import proof
 import syf
 
 
@@ -38,11 +43,21 @@ def flow_jobs(program, seed, times):
     yield from flow.jobs(program, seed, times)
 
 
+def lvx_jobs(program, seed, times):
+    """Layouts that all four tools check, which take the longest, and then netlists."""
+    yield from checked_layouts.jobs(program, seed, times)
+    yield from lvx.jobs(program, seed, times)
+
+
 TOOLS = {
     "asimut": Tool(asimut.second, answers.agrees, asimut_jobs),
     "boom": Tool(boom.second, boom.agrees, boom.jobs, boom.writes),
     "boog": Tool(boog.second, answers.agrees, boog.jobs, boog.writes),
     "cougar": Tool(cougar.second, answers.agrees, cougar.jobs, cougar.writes),
     "flow": Tool(flow.second, flow.agrees, flow_jobs, flow.writes),
+    "lvx": Tool(lvx.second, lvx.agrees, lvx_jobs),
+    "druc": Tool(druc.second, answers.agrees, druc.jobs),
+    "proof": Tool(proof.second, proof.agrees, proof.jobs),
+    "flatbeh": Tool(flatbeh.second, flatbeh.agrees, flatbeh.jobs, flatbeh.writes),
     "syf": Tool(syf.second, answers.agrees, syf.jobs, syf.writes),
 }
