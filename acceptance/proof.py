@@ -51,8 +51,9 @@ def parsed(words):
 
 
 def roles(m):
-    """The names that are inputs, outputs and registers; the clock is an input."""
-    return [{bit for bit, way in m.ports.items() if way == IN}, {bit for bit, way in m.ports.items() if way == OUT}, set(m.registers)]
+    """The names that are inputs, outputs, the clock and registers; the clock is an input too."""
+    ways = [{bit for bit, way in m.ports.items() if way == wanted} for wanted in (IN, OUT)]
+    return [*ways, {(m.clock, -1)} if m.clock else set(), set(m.registers)]
 
 
 def names_of_one(a, b):
@@ -95,10 +96,10 @@ def roots_of(source, other):
 
 
 def answer(source, other, budget):
-    """The status and the text of two sources; a OneOf where any of some names may be told."""
+    """The status and the text of two sources; a OneOf where any of some names may be told. Of names that one machine alone has, the least is."""
     names = names_of_one(machine_of(source), machine_of(other))
     if names:
-        return 11, OneOf("proof: names ", {spelled(bit) for bit in names})
+        return 11, f"proof: names {spelled(min(names))}\n"
     roots = roots_of(source, other)
     over = next((root.name for root in roots if root.count > budget), None)
     if over is not None:
