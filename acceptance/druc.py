@@ -83,7 +83,8 @@ class Layout:
         one, other = self.shapes[a], self.shapes[b]
         if one.owner is not None or other.owner is None:
             return False
-        return any(s.owner == other.owner and s.terminal is not None and s.metal == one.metal and cellcheck.holds(s.box, one.box) for s in self.shapes)
+        pins = (s for s in self.shapes if s.owner == other.owner and s.terminal is not None and s.metal == one.metal)
+        return any(cellcheck.holds(pin.box, one.box) for pin in pins)
 
     def is_bridged(self, a, b):
         """The first lies within a third of its metal that touches the second."""
@@ -194,33 +195,45 @@ class Box(NamedTuple):
         return f"S {self.x1 + 100},{self.y1 + width // 2},{self.x2 - 100},{self.y1 + width // 2},{width},{name},RIGHT,{layer}"
 
 
+def beside(choose, base):
+    """A rectangle at about the gap from another one, along an axis or across a corner."""
+    step, side = choose.choice([0, 1, 100, 199, 200, 201, 300]), choose.randrange(3)
+    x = base.x2 + step if side != 1 else base.x1 + choose.choice([0, 100, -300])
+    y = base.y2 + choose.choice([step, 0, 199]) if side != 0 else base.y1 + choose.choice([0, 50, -100])
+    return Box(x, y, x + choose.choice([200, 500, 1200]), y + choose.choice([199, 200, 200, 300]))
+
+
+def around(choose, base):
+    """A rectangle that holds another one."""
+    left, below, right, above = (choose.choice(steps) for steps in ([0, 100, 200], [0, 100], [0, 100, 250], [0, 200]))
+    return Box(base.x1 - left, base.y1 - below, base.x2 + right, base.y2 + above)
+
+
+def anywhere(choose):
+    x, y = 500 + 100 * choose.randrange(30), 900 + 100 * choose.randrange(30)
+    return Box(x, y, x + choose.choice([200, 700]), y + choose.choice([200, 200, 199, 400]))
+
+
+def next_box(choose, boxes):
+    kind = choose.random() if boxes else 1
+    if kind > 0.75:
+        return anywhere(choose)
+    base = choose.choice(boxes)
+    return beside(choose, base) if kind < 0.45 else around(choose, base) if kind < 0.6 else base
+
+
 def ladder(choose):
     """Rectangles near each other and near the pins of cells, at distances about the gap, and others that hold or touch them."""
     boxes = []
     for _ in range(choose.randrange(2, 9)):
-        if boxes and choose.random() < 0.75:
-            base = choose.choice(boxes)
-            kind = choose.random()
-            if kind < 0.6:
-                step = choose.choice([0, 1, 100, 199, 200, 201, 300])
-                height, length = choose.choice([199, 200, 200, 300]), choose.choice([200, 500, 1200])
-                side = choose.randrange(3)
-                x = base.x2 + step if side != 1 else base.x1 + choose.choice([0, 100, -300])
-                y = base.y2 + choose.choice([step, 0, 199]) if side != 0 else base.y1 + choose.choice([0, 50, -100])
-                boxes.append(Box(x, y, x + length, y + height))
-            elif kind < 0.8:
-                boxes.append(Box(base.x1 - choose.choice([0, 100, 200]), base.y1 - choose.choice([0, 100]), base.x2 + choose.choice([0, 100, 250]), base.y2 + choose.choice([0, 200])))
-            else:
-                boxes.append(base)
-        else:
-            x, y = 500 + 100 * choose.randrange(30), 900 + 100 * choose.randrange(30)
-            boxes.append(Box(x, y, x + choose.choice([200, 700]), y + choose.choice([200, 200, 199, 400])))
+        boxes.append(next_box(choose, boxes))
     lines = [box.line(choose.choice(["ALU1", "ALU1", "CALU1", "ALU2"]), choose.choice(["*", "a", "b"])) for box in boxes]
     for _ in range(choose.randrange(3)):
         base = choose.choice(boxes)
         lines.append(f"V {base.x1 + 100},{base.y1 + 100},{choose.choice(['CONT_VIA', 'CONT_VIA', 'CONT_VIA2'])}")
     for k in range(choose.randrange(4)):
-        lines.append(f"I {500 * choose.randrange(8)},{choose.choice([0, 0, 5000])},{choose.choice(['inv_x1', 'na2_x1', 'sff1_x4'])},u{k},{choose.choice(['NOSYM', 'SYM_X', 'SYM_Y', 'SYMXY'])}")
+        model, turn = choose.choice(["inv_x1", "na2_x1", "sff1_x4"]), choose.choice(["NOSYM", "SYM_X", "SYM_Y", "SYMXY"])
+        lines.append(f"I {500 * choose.randrange(8)},{choose.choice([0, 0, 5000])},{model},u{k},{turn}")
     choose.shuffle(lines)
     return "\n".join(["V ALLIANCE : 6", "H ladder,P,01/01/2000,100", "A 0,0,10000,10000", *lines, "EOF", ""]).encode()
 
