@@ -182,6 +182,27 @@ def check_layouts(results, program, seed, numbers):
                 run_checked(results, room, program, "a random layout", LayoutMaker(choose, cells).text(), cells)
 
 
+# A cell whose pins are 150 apart, with a narrow wire beside them.
+NEAR_NAME, NEAR_WIDTH = "near_x1", 2500
+NEAR_BEHAVIOUR = b"entity near_x1 is port (i : in bit; nq : out bit; vdd, vss : in bit); end;\narchitecture x of near_x1 is\nbegin\nnq <= not i;\nend;\n"
+NEAR_LAYOUT = b"""V ALLIANCE : 6
+H near_x1,P,01/01/2000,100
+A 0,0,2500,5000
+S 0,300,2500,300,600,vss,RIGHT,CALU1
+S 0,4700,2500,4700,600,vdd,RIGHT,CALU1
+S 500,1000,500,4000,500,i,UP,CALU1
+S 1000,1000,1000,4000,200,nq,UP,CALU1
+S 1800,2000,1800,3000,100,*,UP,ALU1
+EOF
+"""
+
+
+def near_cells():
+    files = of_cells(["inv_x1", "na2_x1", "sff1_x4"])
+    cell = {f"lib/{NEAR_NAME}.vbe": NEAR_BEHAVIOUR, f"lib/{NEAR_NAME}.ap": NEAR_LAYOUT}
+    return {**files, **cell, "lib/CATAL": files["lib/CATAL"] + f"{NEAR_NAME} C\n".encode()}
+
+
 class Box(NamedTuple):
     """A wire by the rectangle that it shows: level, and its ends 100 within."""
 
@@ -222,6 +243,17 @@ def next_box(choose, boxes):
     return beside(choose, base) if kind < 0.45 else around(choose, base) if kind < 0.6 else base
 
 
+def instance_lines(choose, k):
+    """An instance; with one of the near cell, vias on or beside its pins."""
+    model = choose.choice([NEAR_NAME, NEAR_NAME, "inv_x1", "na2_x1", "sff1_x4"])
+    turn = choose.choice(["NOSYM", "SYM_X", "SYM_Y", "SYMXY"])
+    x, y = 500 * choose.randrange(8), choose.choice([0, 0, 5000])
+    yield f"I {x},{y},{model},u{k},{turn}"
+    for at in choose.sample([350, 500, 649, 650, 651, 700, 1000, 1100, 1800], choose.randrange(4) if model == NEAR_NAME else 0):
+        over = at if turn in ("NOSYM", "SYM_Y") else NEAR_WIDTH - at
+        yield f"V {x + over},{y + choose.choice([1000, 2000, 2500, 4000])},CONT_VIA"
+
+
 def ladder(choose):
     """Rectangles near each other and near the pins of cells, at distances about the gap, and others that hold or touch them."""
     boxes = []
@@ -232,14 +264,13 @@ def ladder(choose):
         base = choose.choice(boxes)
         lines.append(f"V {base.x1 + 100},{base.y1 + 100},{choose.choice(['CONT_VIA', 'CONT_VIA', 'CONT_VIA2'])}")
     for k in range(choose.randrange(4)):
-        model, turn = choose.choice(["inv_x1", "na2_x1", "sff1_x4"]), choose.choice(["NOSYM", "SYM_X", "SYM_Y", "SYMXY"])
-        lines.append(f"I {500 * choose.randrange(8)},{choose.choice([0, 0, 5000])},{model},u{k},{turn}")
+        lines += instance_lines(choose, k)
     choose.shuffle(lines)
     return "\n".join(["V ALLIANCE : 6", "H ladder,P,01/01/2000,100", "A 0,0,10000,10000", *lines, "EOF", ""]).encode()
 
 
 def check_ladders(results, program, seed, numbers):
-    files = of_cells(["inv_x1", "na2_x1", "sff1_x4"])
+    files = near_cells()
     cells = cells_in(files, "lib")
     with Room() as room:
         room.write(files)
