@@ -184,7 +184,12 @@ def check_layouts(results, program, seed, numbers):
 
 # A cell whose pins are 150 apart, with a narrow wire beside them.
 NEAR_NAME, NEAR_WIDTH = "near_x1", 2500
-NEAR_BEHAVIOUR = b"entity near_x1 is port (i : in bit; nq : out bit; vdd, vss : in bit); end;\narchitecture x of near_x1 is\nbegin\nnq <= not i;\nend;\n"
+NEAR_BEHAVIOUR = b"""entity near_x1 is port (i : in bit; nq : out bit; vdd, vss : in bit); end;
+architecture x of near_x1 is
+begin
+nq <= not i;
+end;
+"""
 NEAR_LAYOUT = b"""V ALLIANCE : 6
 H near_x1,P,01/01/2000,100
 A 0,0,2500,5000
