@@ -50,8 +50,7 @@ class Bench(NamedTuple):
             path.unlink(missing_ok=True)
         files = {**self.library, **{name: self.text(name) for name in words if name.endswith((".ap", ".vst", ".vbe"))}}
         wanted, got = tool.second(words, files), self.room.run(self.program, words)
-        is_well = tool.agrees(got, wanted) if hasattr(tool, "agrees") else flow.same_answer(got, wanted)
-        self.results.note(f"{title}: {words[0]}", is_well, f"came to {shown(*got)}, wanted {wanted} for {self.text('r.ap')[:4000]!r}")
+        self.results.note(f"{title}: {words[0]}", tool.agrees(got, wanted), f"came to {shown(*got)}, wanted {wanted} for {self.text('r.ap')[:4000]!r}")
         if got[0] == 0 and wanted[0] == 0 and path is not None:
             faults = tool.writes(words, files)[1](path.read_bytes() if path.exists() else b"")
             self.results.note(f"{title}: what {words[0]} wrote", not faults, f"{faults} for {self.text('r.ap')[:4000]!r}")

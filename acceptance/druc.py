@@ -83,7 +83,8 @@ class Layout:
         one, other = self.shapes[a], self.shapes[b]
         if one.owner is not None or other.owner is None:
             return False
-        return any(s.owner == other.owner and s.terminal is not None and s.metal == one.metal and cellcheck.holds(s.box, one.box) for s in self.shapes)
+        pins = (s for s in self.shapes if s.owner == other.owner and s.terminal is not None and s.metal == one.metal)
+        return any(cellcheck.holds(pin.box, one.box) for pin in pins)
 
     def is_bridged(self, a, b):
         """The first lies within a third of its metal that touches the second."""
@@ -181,6 +182,32 @@ def check_layouts(results, program, seed, numbers):
                 run_checked(results, room, program, "a random layout", LayoutMaker(choose, cells).text(), cells)
 
 
+# A cell whose pins are 150 apart, with a narrow wire beside them.
+NEAR_NAME, NEAR_WIDTH = "near_x1", 2500
+NEAR_BEHAVIOUR = b"""entity near_x1 is port (i : in bit; nq : out bit; vdd, vss : in bit); end;
+architecture x of near_x1 is
+begin
+nq <= not i;
+end;
+"""
+NEAR_LAYOUT = b"""V ALLIANCE : 6
+H near_x1,P,01/01/2000,100
+A 0,0,2500,5000
+S 0,300,2500,300,600,vss,RIGHT,CALU1
+S 0,4700,2500,4700,600,vdd,RIGHT,CALU1
+S 500,1000,500,4000,500,i,UP,CALU1
+S 1000,1000,1000,4000,200,nq,UP,CALU1
+S 1800,2000,1800,3000,100,*,UP,ALU1
+EOF
+"""
+
+
+def near_cells():
+    files = of_cells(["inv_x1", "na2_x1", "sff1_x4"])
+    cell = {f"lib/{NEAR_NAME}.vbe": NEAR_BEHAVIOUR, f"lib/{NEAR_NAME}.ap": NEAR_LAYOUT}
+    return {**files, **cell, "lib/CATAL": files["lib/CATAL"] + f"{NEAR_NAME} C\n".encode()}
+
+
 class Box(NamedTuple):
     """A wire by the rectangle that it shows: level, and its ends 100 within."""
 
@@ -194,39 +221,61 @@ class Box(NamedTuple):
         return f"S {self.x1 + 100},{self.y1 + width // 2},{self.x2 - 100},{self.y1 + width // 2},{width},{name},RIGHT,{layer}"
 
 
+def beside(choose, base):
+    """A rectangle at about the gap from another one, along an axis or across a corner."""
+    step, side = choose.choice([0, 1, 100, 199, 200, 201, 300]), choose.randrange(3)
+    x = base.x2 + step if side != 1 else base.x1 + choose.choice([0, 100, -300])
+    y = base.y2 + choose.choice([step, 0, 199]) if side != 0 else base.y1 + choose.choice([0, 50, -100])
+    return Box(x, y, x + choose.choice([200, 500, 1200]), y + choose.choice([199, 200, 200, 300]))
+
+
+def around(choose, base):
+    """A rectangle that holds another one."""
+    left, below, right, above = (choose.choice(steps) for steps in ([0, 100, 200], [0, 100], [0, 100, 250], [0, 200]))
+    return Box(base.x1 - left, base.y1 - below, base.x2 + right, base.y2 + above)
+
+
+def anywhere(choose):
+    x, y = 500 + 100 * choose.randrange(30), 900 + 100 * choose.randrange(30)
+    return Box(x, y, x + choose.choice([200, 700]), y + choose.choice([200, 200, 199, 400]))
+
+
+def next_box(choose, boxes):
+    kind = choose.random() if boxes else 1
+    if kind > 0.75:
+        return anywhere(choose)
+    base = choose.choice(boxes)
+    return beside(choose, base) if kind < 0.45 else around(choose, base) if kind < 0.6 else base
+
+
+def instance_lines(choose, k):
+    """An instance; with one of the near cell, vias on or beside its pins."""
+    model = choose.choice([NEAR_NAME, NEAR_NAME, "inv_x1", "na2_x1", "sff1_x4"])
+    turn = choose.choice(["NOSYM", "SYM_X", "SYM_Y", "SYMXY"])
+    x, y = 500 * choose.randrange(8), choose.choice([0, 0, 5000])
+    yield f"I {x},{y},{model},u{k},{turn}"
+    for at in choose.sample([350, 500, 649, 650, 651, 700, 1000, 1100, 1800], choose.randrange(4) if model == NEAR_NAME else 0):
+        over = at if turn in ("NOSYM", "SYM_Y") else NEAR_WIDTH - at
+        yield f"V {x + over},{y + choose.choice([1000, 2000, 2500, 4000])},CONT_VIA"
+
+
 def ladder(choose):
     """Rectangles near each other and near the pins of cells, at distances about the gap, and others that hold or touch them."""
     boxes = []
     for _ in range(choose.randrange(2, 9)):
-        if boxes and choose.random() < 0.75:
-            base = choose.choice(boxes)
-            kind = choose.random()
-            if kind < 0.6:
-                step = choose.choice([0, 1, 100, 199, 200, 201, 300])
-                height, length = choose.choice([199, 200, 200, 300]), choose.choice([200, 500, 1200])
-                side = choose.randrange(3)
-                x = base.x2 + step if side != 1 else base.x1 + choose.choice([0, 100, -300])
-                y = base.y2 + choose.choice([step, 0, 199]) if side != 0 else base.y1 + choose.choice([0, 50, -100])
-                boxes.append(Box(x, y, x + length, y + height))
-            elif kind < 0.8:
-                boxes.append(Box(base.x1 - choose.choice([0, 100, 200]), base.y1 - choose.choice([0, 100]), base.x2 + choose.choice([0, 100, 250]), base.y2 + choose.choice([0, 200])))
-            else:
-                boxes.append(base)
-        else:
-            x, y = 500 + 100 * choose.randrange(30), 900 + 100 * choose.randrange(30)
-            boxes.append(Box(x, y, x + choose.choice([200, 700]), y + choose.choice([200, 200, 199, 400])))
+        boxes.append(next_box(choose, boxes))
     lines = [box.line(choose.choice(["ALU1", "ALU1", "CALU1", "ALU2"]), choose.choice(["*", "a", "b"])) for box in boxes]
     for _ in range(choose.randrange(3)):
         base = choose.choice(boxes)
         lines.append(f"V {base.x1 + 100},{base.y1 + 100},{choose.choice(['CONT_VIA', 'CONT_VIA', 'CONT_VIA2'])}")
     for k in range(choose.randrange(4)):
-        lines.append(f"I {500 * choose.randrange(8)},{choose.choice([0, 0, 5000])},{choose.choice(['inv_x1', 'na2_x1', 'sff1_x4'])},u{k},{choose.choice(['NOSYM', 'SYM_X', 'SYM_Y', 'SYMXY'])}")
+        lines += instance_lines(choose, k)
     choose.shuffle(lines)
     return "\n".join(["V ALLIANCE : 6", "H ladder,P,01/01/2000,100", "A 0,0,10000,10000", *lines, "EOF", ""]).encode()
 
 
 def check_ladders(results, program, seed, numbers):
-    files = of_cells(["inv_x1", "na2_x1", "sff1_x4"])
+    files = near_cells()
     cells = cells_in(files, "lib")
     with Room() as room:
         room.write(files)

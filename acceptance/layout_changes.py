@@ -66,6 +66,11 @@ def other_cell(choose, fields):
     return kin and with_field(2, sorted(kin))(choose, fields)
 
 
+def as_connector(choose, fields):
+    """A wire on CALU, under some name or none."""
+    return [*with_field(5, (b"a", b"p", b"*"))(choose, fields)[:7], b"C" + fields[7]]
+
+
 LINES = {
     "a wire shifted across": (b"S", across),
     "a wire shifted along": (b"S", along),
@@ -74,7 +79,7 @@ LINES = {
     "a wire widened": (b"S", with_field(4, (b"300", b"400", b"600", b"1000", b"1600"))),
     "a wire narrowed": (b"S", with_field(4, (b"199", b"100", b"1"))),
     "a wire on another metal": (b"S", with_field(7, (b"ALU1", b"ALU2", b"ALU3", b"ALU4"))),
-    "a wire as a connector": (b"S", lambda choose, fields: with_field(7, (b"C" + fields[7],))(choose, with_field(5, (b"a", b"p", b"*"))(choose, fields))),
+    "a wire as a connector": (b"S", as_connector),
     "a via moved in x": (b"V", shifted(0)),
     "a via moved in y": (b"V", shifted(1)),
     "a via of other metals": (b"V", with_field(2, (b"CONT_VIA", b"CONT_VIA2", b"CONT_VIA3"))),

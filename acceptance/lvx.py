@@ -158,8 +158,8 @@ def check_long_chain(results, program, count):
     """Inverters in a chain, of which the last two are exchanged: all others before them are the same."""
     files = of_cells(["inv_x1"])
     models = library(files, "lib")
-    ports = "i : in bit; o : out bit; vdd, vss : in bit"
-    head = f"entity c is port ({ports}); end c;\narchitecture x of c is\ncomponent inv_x1 port (i : in bit; nq : out bit; vdd, vss : in bit); end component;\n"
+    head = "entity c is port (i : in bit; o : out bit; vdd, vss : in bit); end c;\narchitecture x of c is\n"
+    head += "component inv_x1 port (i : in bit; nq : out bit; vdd, vss : in bit); end component;\n"
     head += f"signal s : bit_vector ({count} downto 1);\nbegin\n"
     nets = ["i", *(f"s({k})" for k in range(1, count + 1)), "o"]
     lines = [f"inv_x1 port map (i => {a}, nq => {b}, vdd => vdd, vss => vss);\n" for a, b in zip(nets, nets[1:])]

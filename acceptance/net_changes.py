@@ -123,7 +123,8 @@ def terminal_moved(choose, n, _):
 
 def input_moved(choose, n, _):
     """An input on a net that something drives: mostly a netlist again."""
-    found, driven = [(i, pin) for i, pin in places(n) if i.model.pins[pin] != OUT and pin != i.model.clock], [i.nets[pin] for i, pin in places(n, OUT)]
+    found = [(i, pin) for i, pin in places(n) if i.model.pins[pin] != OUT and pin != i.model.clock]
+    driven = [i.nets[pin] for i, pin in places(n, OUT)]
     driven += [bit for bit, way in n.ports.items() if way != OUT and bit != n.clock]
     if not found or not driven:
         return None

@@ -13,6 +13,7 @@ import asimut
 import boog
 import boom
 import checked_layouts
+import checking_orders
 import cougar
 import druc
 import flatbeh
@@ -44,8 +45,9 @@ def flow_jobs(program, seed, times):
 
 
 def lvx_jobs(program, seed, times):
-    """Layouts that all four tools check, which take the longest, and then netlists."""
+    """Layouts that all four tools check, which take the longest, the orders of their refusals, and then netlists."""
     yield from checked_layouts.jobs(program, seed, times)
+    yield from checking_orders.jobs(program)
     yield from lvx.jobs(program, seed, times)
 
 

@@ -53,7 +53,8 @@ by_yosys() {
   local code=0
   [ -n "$yosys" ] || { echo "- -"; return; }
   timeout "$most" /usr/bin/time -q -f %e -o times "$yosys" -q -p \
-    "read_verilog a.v $1.v; proc; opt_clean; equiv_make a $1 e; hierarchy -top e; equiv_simple; equiv_induct; equiv_status -assert" >said 2>&1 || code=$?
+    "read_verilog a.v $1.v; proc; opt_clean; equiv_make a $1 e; hierarchy -top e; equiv_simple; equiv_induct; equiv_status -assert" \
+    >said 2>&1 || code=$?
   case $code in
     0) echo "$(cat times) equal" ;;
     1) echo "$(cat times) not" ;;
