@@ -1,6 +1,5 @@
 // The ports and instances of one netlist that differ from those of another.
-ghost use Rattle.std.specs.Prelude.{◌≡◌, ◌↔◌, ◌<◌, ◌+◌, ◌^◌, IsTrue, IfOk, MatchOption, map, length};
-ghost use Rattle.net_core.specs.declared.frame.Node.{Node as NodeParts};
+ghost use Rattle.std.specs.Prelude.{◌≡◌, ◌↔◌, ◌<◌, ◌+◌, ◌^◌, ℕ, if◌then◌else◌, IsTrue, IfOk, MatchOption, map, length};
 ghost use Rattle.net_core.specs.Netlist.{Instance, Netlist as Meaning};
 ghost use Rattle.net_core.specs.Places.{Stands};
 ghost use Rattle.net_view.specs.Same.{HasInstance};
@@ -44,7 +43,7 @@ pub(crate) fn odd_port(
 
 /// Whether the classes of all pins of an instance are marked.
 fn are_marked(marks: &[bool], classes: &[u32], node: &Node) -> bool
-    requires { node.now.first + length node.now.pins < 2 ^ 33 }
+    requires { (k : ℕ) → k < length node.now.pins → node.now.first + k < 2 ^ 32 }
     ensures { AllMarked marks.now classes.now node.now result }
 {
     let first = node.first as usize;
@@ -96,18 +95,25 @@ fn is_odd(
 {
     let node = &netlist.nodes()[number];
     let model = &netlist.models()[node.model];
-    !has_instance(other, names, &node.name, model) || !are_marked(marks, netlist.classes(), node)
+    if !has_instance(other, names, &node.name, model) {
+        return true;
+    }
+    !are_marked(marks, netlist.classes(), node)
 }
 
-/// Whether the instance with this number has a lesser name than another, or there is no other.
-fn is_before(nodes: &[Node], number: usize, other: Option<usize>) -> bool
-    requires here { number < length nodes.now }
+/// The place of the lesser name of two instances; without the second that of the first.
+fn lesser_place(nodes: &[Node], place: usize, other: Option<usize>) -> Option<usize>
+    requires here { place < length nodes.now }
     requires there { MatchOption other Unit (λ k. k < length nodes.now) }
-    ensures { result ≡ is_before nodes.now number other }
+    ensures { result ≡ (if is_before nodes.now place other then Some place else other) }
 {
-    match other {
-        Some(other) => nodes[number].name.compare(&nodes[other].name).is_lt(),
-        None => true,
+    let Some(known) = other else {
+        return Some(place);
+    };
+    if nodes[place].name.compare(&nodes[known].name).is_lt() {
+        Some(place)
+    } else {
+        Some(known)
     }
 }
 
@@ -125,8 +131,8 @@ pub(crate) fn odd_instance(
     let nodes = netlist.nodes();
     let mut least = None;
     for k in 0..nodes.len() {
-        if is_odd(netlist, marks, k, other, &names) && is_before(nodes, k, least) {
-            least = Some(k);
+        if is_odd(netlist, marks, k, other, &names) {
+            least = lesser_place(nodes, k, least);
         }
     }
     match least {
