@@ -1,11 +1,10 @@
 -- Classes of terminals, as they are found one after the other.
 use Rattle.std.proofs.Common.{◌≡◌, ◌⊎◌, inl, inr, ℕ, suc, zero, ◌+◌, ◌<◌, ◌≤◌, List, [], ◌∷◌, ◌++◌, length, get_or, take, map, Option, Some, None, refl, sym, ap, subst, ◌∙◌, append_assoc, append-nil, arith}
 use Rattle.std.specs.List.{flat_map}
-use Rattle.std.proofs.lemmas.List.{length-append, map-append, take_more}
+use Rattle.std.proofs.lemmas.List.{length-append, map-append, take_more, take_all}
 use Rattle.std.proofs.lemmas.Grind.{flat_map-append}
 use Rattle.std.proofs.lemmas.List.Folds.{flat_map-map}
 use Rattle.std.proofs.lemmas.Option.{slice_get_within}
-use Rattle.std.proofs.Math.Seq.{take-length}
 use Rattle.vlsi_base.specs.declared.name.Name.{Name}
 use Rattle.vlsi_base.specs.declared.name.Port.{Port}
 use Rattle.vlsi_base.specs.declared.name.Terminal.{Terminal}
@@ -46,11 +45,17 @@ adds_mapped {X} f n xs k x c old now new l at adds is e =
     (adds_one n (map f (take k xs)) (f x) c old now new adds is e)
 
 -- all elements
-pub adds_all : {X : Type 0} (f : X → Terminal) (n : Netlist) (xs : List X) (k : ℕ) (old now : List (Option ℕ)) → k ≡ length xs → AddsClasses n (map f (take k xs)) old now → AddsClasses n (map f xs) old now
-adds_all f n xs k old now e adds = subst (λ ys. AddsClasses n (map f ys) old now) (ap (λ j. take j xs) e ∙ take-length xs) adds
+pub adds_all : {X : Type 0} (f : X → Terminal) (n : Netlist) (xs : List X) (k : ℕ) (old now : List (Option ℕ)) → length xs ≤ k → AddsClasses n (map f (take k xs)) old now → AddsClasses n (map f xs) old now
+adds_all {X} f n xs k old now l adds = subst (λ (ys : List X). AddsClasses n (map f ys) old now) (take_all k xs l) adds
 
 pub none_found : (n : Netlist) → AreClasses n [] []
 none_found n = record { many = refl; each = λ k t c s r. absurd cc }
+
+-- the ports of a netlist, first of all
+pub ports_found : (n : Netlist) (ps qs : List Port) (start now : List (Option ℕ)) → start ≡ [] → ps ≡ qs → AddsClasses n (map (λ p. port p.name) ps) start now → AreClasses n (port_terminals qs ++ []) now
+ports_found n ps qs start now e same adds =
+    let all : AreClasses n (port_terminals ps) now = adds [] (subst (λ (found : List (Option ℕ)). AreClasses n [] found) (sym e) (none_found n)) in
+    subst (λ (ts : List Terminal). AreClasses n ts now) (ap port_terminals same ∙ sym (append-nil (port_terminals qs))) all
 
 -- one more instance
 pub node_more : (n : Netlist) (ports : List Terminal) (nodes : List Node) (k : ℕ) (node : Node) (now new : List (Option ℕ)) → k < length nodes → node ≡ get_or nodes k node
@@ -64,8 +69,8 @@ node_more n ports nodes k node now new l at are adds =
           ∙ ap (λ (ts : List Terminal). flat_map node_pins (take k nodes) ++ ts) (append-nil (node_pins node))
 
 -- all terminals of a netlist with these nodes
-pub all_found : (other n : Netlist) (nodes : List Node) (k : ℕ) (found : List (Option ℕ)) → map (instance_of n.models) nodes ≡ n.instances → k ≡ length nodes
+pub all_found : (other n : Netlist) (nodes : List Node) (k : ℕ) (found : List (Option ℕ)) → map (instance_of n.models) nodes ≡ n.instances → length nodes ≤ k
     → AreClasses other (port_terminals n.ports ++ flat_map node_pins (take k nodes)) found → AreClasses other (terminals n) found
-all_found other n nodes k found seen e are =
+all_found other n nodes k found seen l are =
     subst (λ (ts : List Terminal). AreClasses other (port_terminals n.ports ++ ts) found)
-    (ap (λ j. flat_map node_pins (take j nodes)) e ∙ ap (flat_map node_pins) (take-length nodes) ∙ sym (flat_map-map pins_of (instance_of n.models) nodes) ∙ ap (flat_map pins_of) seen) are
+    (ap (flat_map node_pins) (take_all k nodes l) ∙ sym (flat_map-map pins_of (instance_of n.models) nodes) ∙ ap (flat_map pins_of) seen) are

@@ -1,10 +1,9 @@
 -- Where the members of classes are, as terminals are met one after the other.
 use Rattle.std.proofs.Common.{◌≡◌, ◌⊎◌, inl, inr, ℕ, suc, zero, ◌+◌, ◌<◌, ◌≤◌, Bool, true, false, cond, List, [], ◌∷◌, ◌++◌, length, get_or, take, Option, Some, None, nat_eq, refl, sym, ap, subst, ◌∙◌, arith}
 use Rattle.std.specs.Prelude.{slice_set}
-use Rattle.std.proofs.lemmas.List.{get_or-set_same, get_or-set_other, length-set, length-append, length-take-le, take_more}
+use Rattle.std.proofs.lemmas.List.{get_or-set_same, get_or-set_other, length-set, length-append, length-take-le, take_more, take_all}
 use Rattle.std.proofs.lemmas.Bool.{eqb-true, eqb-false, cases_eq}
 use Rattle.std.proofs.lemmas.Option.{slice_get_within, same_Some}
-use Rattle.std.proofs.Math.Seq.{take-length}
 use Rattle.net_core.specs.Places.{Stands, IsThere}
 use Rattle.net_core.proofs.Standing.{Split, left, right, split, only_one, stands_left, stands_last, stands_same}
 use Rattle.lvx_compare.specs.declared.images.Image.{Image}
@@ -106,22 +105,21 @@ images_step cs fs images c f old e are low at = record { each = λ k d l. by k d
       (image_still cs fs k c f (get_or images k d) e ne (are.each k d (omega (arith, l, n))))
 
 -- one more terminal
-pub images_more : (classes : List ℕ) (found : List (Option ℕ)) (k : ℕ) (images : List Image) (f : Option ℕ) (old : Image) → length found ≡ length classes → k < length classes → f ≡ get_or found k f
+pub images_more : (classes : List ℕ) (found : List (Option ℕ)) (k : ℕ) (images : List Image) (old : Image) → length found ≡ length classes → k < length classes
     → get_or classes k 0 < length images → old ≡ get_or images (get_or classes k 0) old → AreImages (take k classes) (take k found) images
-    → AreImages (take (k + 1) classes) (take (k + 1) found) (slice_set images (get_or classes k 0) (with_member old f))
-images_more classes found k images f old e l at low is are =
-    subst (λ (cs : List ℕ). AreImages cs (take (k + 1) found) (slice_set images (get_or classes k 0) (with_member old f))) (sym (take_more classes k 0 l))
-    (subst (λ (fs : List (Option ℕ)). AreImages (take k classes ++ get_or classes k 0 ∷ []) fs (slice_set images (get_or classes k 0) (with_member old f)))
-    (sym (take_more found k f (omega (arith, l, e)) ∙ ap (λ (o : Option ℕ). take k found ++ o ∷ []) (sym at)))
-    (images_step (take k classes) (take k found) images (get_or classes k 0) f old even are low is)) where
+    → AreImages (take (k + 1) classes) (take (k + 1) found) (slice_set images (get_or classes k 0) (with_member old (get_or found k None)))
+images_more classes found k images old e l low is are =
+    subst (λ (cs : List ℕ). AreImages cs (take (k + 1) found) (slice_set images (get_or classes k 0) (with_member old (get_or found k None)))) (sym (take_more classes k 0 l))
+    (subst (λ (fs : List (Option ℕ)). AreImages (take k classes ++ get_or classes k 0 ∷ []) fs (slice_set images (get_or classes k 0) (with_member old (get_or found k None))))
+    (sym (take_more found k None (omega (arith, l, e))))
+    (images_step (take k classes) (take k found) images (get_or classes k 0) (get_or found k None) old even are low is)) where
       even : length (take k found) ≡ length (take k classes)
       even = let p = length-take-le k found (omega (arith, l, e)) in let q = length-take-le k classes (omega (arith, l)) in p ∙ sym q
 
-pub images_all : (classes : List ℕ) (found : List (Option ℕ)) (k : ℕ) (images : List Image) → length found ≡ length classes → k ≡ length classes → AreImages (take k classes) (take k found) images → AreImages classes found images
-images_all classes found k images e is are =
-    let P : List ℕ → List (Option ℕ) → Type 0 = λ cs fs. AreImages cs fs images in
-    subst (λ (cs : List ℕ). P cs found) (ap (λ j. take j classes) is ∙ take-length classes)
-    (subst (λ (fs : List (Option ℕ)). P (take k classes) fs) (ap (λ j. take j found) (is ∙ sym e) ∙ take-length found) are)
+pub images_all : (classes : List ℕ) (found : List (Option ℕ)) (k : ℕ) (images : List Image) → length found ≡ length classes → length classes ≤ k → AreImages (take k classes) (take k found) images → AreImages classes found images
+images_all classes found k images e l are =
+    subst (λ (cs : List ℕ). AreImages cs found images) (take_all k classes l)
+    (subst (λ (fs : List (Option ℕ)). AreImages (take k classes) fs images) (take_all k found (omega (arith, e, l))) are)
 
 pub images_none : (images : List Image) → ((c : ℕ) (d : Image) → c < length images → get_or images c d ≡ image.Unseen) → AreImages [] [] images
 images_none images all = record { each = λ c d l. subst (λ (i : Image). IsImage [] [] c i) (sym (all c d l)) (λ h. absurd cc) }

@@ -6,9 +6,8 @@ use Rattle.std.specs.Ordering.{is_lt, nat_cmp, ordering_then}
 use Rattle.std.specs.Cmp.Lexicographic.{slice_cmp}
 use Rattle.std.specs.declared.cmp.Ordering.{Ordering}
 use Rattle.std.specs.declared.cmp.Ordering.TheVariants.{Less, Equal, Greater}
-use Rattle.std.proofs.Math.Seq.{take-length}
 use Rattle.std.proofs.lemmas.Bool.{cases_lt}
-use Rattle.std.proofs.lemmas.List.{length-map}
+use Rattle.std.proofs.lemmas.List.{length-map, take_all}
 use Rattle.std.proofs.lemmas.List.Folds.{flat_map-map}
 use Rattle.std.proofs.lemmas.Option.{slice_get_within, get_or_from_slice_get, same_Some}
 use Rattle.vlsi_base.specs.declared.name.Name.{Name}
@@ -26,7 +25,7 @@ use Rattle.net_core.proofs.Rings.{at_place}
 use Rattle.net_view.specs.Same.{HasInstance}
 use Rattle.net_view.proofs.Places.{Which, which_port, which_pin, which}
 use Rattle.lvx_compare.specs.Compared.{HasOtherMembers, IsLeast}
-use Rattle.lvx_compare.specs.Stages.{KeepsMembers, AreMarks, mark_at, AllMarked, IsOddInstance, modelled, parted, KeepsInstance, IsOdd, IsOddName, IsFirstInstance, name_at, is_before}
+use Rattle.lvx_compare.specs.Stages.{KeepsMembers, AreMarks, mark_at, AllMarked, IsOddInstance, other_model, other_members, KeepsInstance, IsOdd, IsOddName, IsFirstInstance, name_at, is_before}
 use Rattle.lvx_compare.proofs.Members.{kept_or_other, self_last, less_is, lesser_still}
 use Rattle.lvx_compare.proofs.Marked.{kept_at, parted_at}
 
@@ -40,13 +39,13 @@ pub names_are : (n : Netlist) (nodes : List Node) → map (instance_of n.models)
 names_are n nodes seen = sym (node_names n.models nodes) ∙ ap (λ (is : List Instance). map (λ (i : Instance). i.name) is) seen
 
 -- all names were learned
-pub names_learned : (n : Netlist) (nodes : List Node) (names : List (List ℕ)) (k : ℕ) → IsNetlist n → map (instance_of n.models) nodes ≡ n.instances → k ≡ length nodes
+pub names_learned : (n : Netlist) (nodes : List Node) (names : List (List ℕ)) (k : ℕ) → IsNetlist n → map (instance_of n.models) nodes ≡ n.instances → length nodes ≤ k
     → AreLearned [] names (map (λ i. i.name) nodes) k → names ≡ map (λ i. i.name) n.instances
-names_learned n nodes names k is seen e learned =
+names_learned n nodes names k is seen l learned =
     let own : map (λ (i : Node). i.name) nodes ≡ map (λ (i : Instance). i.name) n.instances = names_are n nodes seen in
     let once : NoneTwice (map (λ (i : Node). i.name) nodes) = subst (λ (ns : List (List ℕ)). NoneTwice ns) (sym own) is.names in
-    let m : k ≡ length (map (λ (i : Node). i.name) nodes) = e ∙ sym (length-map nodes (λ (i : Node). i.name)) in
-    learned.same refl once ∙ ap (λ j. take j (map (λ (i : Node). i.name) nodes)) m ∙ take-length (map (λ (i : Node). i.name) nodes) ∙ own
+    let m = length-map nodes (λ (i : Node). i.name) in
+    learned.same refl once ∙ take_all k (map (λ (i : Node). i.name) nodes) (omega (arith, m, l)) ∙ own
 
 -- what is known of the nodes of a netlist
 pub record AreNodes (n : Netlist) (nodes : List Node) : Type 0 where
@@ -78,14 +77,19 @@ pins_few n nodes most are is few k node s j l =
 
 -- ---- an instance of a name
 
+-- the node at the place of a name has the name
+named_at : (n : Netlist) (nodes : List Node) (names : List (List ℕ)) (name : List ℕ) (place : ℕ) (node : Node) → map (instance_of n.models) nodes ≡ n.instances → names ≡ map (λ i. i.name) n.instances
+    → position_of names name ≡ Some place → Stands nodes place node → node.name ≡ name
+named_at n nodes names name place node seen are at s =
+    let own : Stands names place node.name = subst (λ (ns : List (List ℕ)). Stands ns place node.name) (sym are) (mapped (λ (i : Instance). i.name) n.instances place (instance_of n.models node) (node_stands n nodes seen place node s)) in
+    stands_same names place node.name name own (position_stands names name place at)
+
 pub found_instance : (n : Netlist) (nodes : List Node) (names : List (List ℕ)) (name model : List ℕ) (place : ℕ) (node : Node) → map (instance_of n.models) nodes ≡ n.instances → names ≡ map (λ i. i.name) n.instances
     → position_of names name ≡ Some place → Stands nodes place node → slice_index_or n.models node.model [] ≡ model → HasInstance n name model
 found_instance n nodes names name model place node seen are at s e = record {
   instance = instance_of n.models node;
   listed = (place, node_stands n nodes seen place node s);
-  named =
-      let own : Stands names place node.name = subst (λ (ns : List (List ℕ)). Stands ns place node.name) (sym are) (mapped (λ (i : Instance). i.name) n.instances place (instance_of n.models node) (node_stands n nodes seen place node s)) in
-      stands_same names place node.name name own (position_stands names name place at);
+  named = named_at n nodes names name place node seen are at s;
   modelled = e;
 }
 
@@ -101,9 +105,18 @@ one_instance n is i j h g e =
 pub instance_model : (n : Netlist) (nodes : List Node) (names : List (List ℕ)) (name model : List ℕ) (place : ℕ) (node : Node) → IsNetlist n → map (instance_of n.models) nodes ≡ n.instances → names ≡ map (λ i. i.name) n.instances
     → position_of names name ≡ Some place → Stands nodes place node → HasInstance n name model → slice_index_or n.models node.model [] ≡ model
 instance_model n nodes names name model place node is seen are at s h =
-    let f = found_instance n nodes names name (slice_index_or n.models node.model []) place node seen are at s refl in
-    let one : instance_of n.models node ≡ h.instance = one_instance n is (instance_of n.models node) h.instance (place, node_stands n nodes seen place node s) h.listed (f.named ∙ sym h.named) in
+    let own = named_at n nodes names name place node seen are at s in
+    let one : instance_of n.models node ≡ h.instance = one_instance n is (instance_of n.models node) h.instance (place, node_stands n nodes seen place node s) h.listed (own ∙ sym h.named) in
     ap (λ (i : Instance). i.model) one ∙ h.modelled
+
+-- a place of a name is one of a node
+pub place_below : (n : Netlist) (nodes : List Node) (names : List (List ℕ)) (name : List ℕ) (place : ℕ) → map (instance_of n.models) nodes ≡ n.instances → names ≡ map (λ i. i.name) n.instances
+    → position_of names name ≡ Some place → place < length nodes
+place_below n nodes names name place seen are at =
+    let w = slice_get_within names place name (position_stands names name place at) in
+    let m : length names ≡ length n.instances = ap length are ∙ length-map n.instances (λ (i : Instance). i.name) in
+    let e : length n.instances ≡ length nodes = ap length (sym seen) ∙ length-map nodes (instance_of n.models) in
+    omega (arith, w, m, e)
 
 pub no_instance : (n : Netlist) (names : List (List ℕ)) (name model : List ℕ) → names ≡ map (λ i. i.name) n.instances → position_of names name ≡ None → HasInstance n name model → ⊥
 no_instance n names name model are none h =
@@ -120,15 +133,15 @@ module _ (n other : Netlist) (marks : List Bool) (nodes : List Node) (is : IsNet
   one_of i at = stands_same n.instances k (instance_of n.models node) i (node_stands n nodes listed.seen k node s) at
 
   pub odd_model : (i : Instance) → Stands n.instances k i → (HasInstance other node.name (slice_index_or n.models node.model []) → ⊥) → IsOddInstance n other i.name
-  odd_model i at no =
+  odd_model i at lacks =
       let P : Instance → Type 0 = λ x. IsOddInstance n other x.name in
-      subst P (one_of i at) (modelled (slice_index_or n.models node.model []) (own_instance n (instance_of n.models node) (k, node_stands n nodes listed.seen k node s)) no)
+      subst P (one_of i at) (other_model (slice_index_or n.models node.model []) (own_instance n (instance_of n.models node) (k, node_stands n nodes listed.seen k node s)) lacks)
 
   pin_odd : AllMarked marks n.classes node false → IsOddInstance n other node.name
   pin_odd m =
       let p = at_place node.pins m.0 m.1 in
       let at : Stands (terminals n) (node.first + m.0) (pin_of node.name p.0) = pin_stands n nodes listed k node s m.0 p.0 p.1 in
-      parted p.0 (node.first + m.0, at) (parted_at n other marks is are (node.first + m.0) (pin_of node.name p.0) at m.2)
+      other_members p.0 (node.first + m.0, at) (parted_at n other marks is are (node.first + m.0) (pin_of node.name p.0) at m.2)
 
   all_kept : AllMarked marks n.classes node true → HasInstance other node.name (slice_index_or n.models node.model []) → KeepsInstance n other (instance_of n.models node)
   all_kept m h = record {
@@ -146,19 +159,19 @@ module _ (n other : Netlist) (marks : List Bool) (nodes : List Node) (is : IsNet
 
 -- an instance that differs is there
 pub odd_there : (n other : Netlist) (name : List ℕ) → IsOddInstance n other name → (i : Instance) × IsThere n.instances i × (i.name ≡ name)
-odd_there n other name (modelled model h no) = (h.instance, h.listed, h.named)
-odd_there n other name (parted pin t h) = by (which n (pin_of name pin) t) where
+odd_there n other name (other_model model h lacks) = (h.instance, h.listed, h.named)
+odd_there n other name (other_members pin t h) = by (which n (pin_of name pin) t) where
   by : Which n (pin_of name pin) → (i : Instance) × IsThere n.instances i × (i.name ≡ name)
   by (which_port p g e) = let no : None ≡ Some name = ap (λ (x : Terminal). x.instance) e in absurd cc
   by (which_pin i q g r e) = (i, g, same_Some i.name name (ap (λ (x : Terminal). x.instance) e))
 
 -- one that is kept doesn't differ
 pub kept_or_odd : (n other : Netlist) (i : Instance) → IsNetlist n → IsThere n.instances i → KeepsInstance n other i → IsOddInstance n other i.name → ⊥
-kept_or_odd n other i is h keeps (modelled model g no) =
+kept_or_odd n other i is h keeps (other_model model g lacks) =
     let one : i ≡ g.instance = one_instance n is i g.instance h g.listed (sym g.named) in
     let same : i.model ≡ model = ap (λ (x : Instance). x.model) one ∙ g.modelled in
-    no (subst (λ (m : List ℕ). HasInstance other i.name m) same keeps.model)
-kept_or_odd n other i is h keeps (parted pin t g) = by (which n (pin_of i.name pin) t) where
+    lacks (subst (λ (m : List ℕ). HasInstance other i.name m) same keeps.model)
+kept_or_odd n other i is h keeps (other_members pin t g) = by (which n (pin_of i.name pin) t) where
   by : Which n (pin_of i.name pin) → ⊥
   by (which_port p q e) = let no : None ≡ Some i.name = ap (λ (x : Terminal). x.instance) e in absurd cc
   by (which_pin j q a b e) =

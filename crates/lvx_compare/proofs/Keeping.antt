@@ -1,6 +1,7 @@
 -- Which classes keep their members, by the images of the classes of both netlists.
 use Rattle.std.proofs.Common.{◌≡◌, ◌⊎◌, inl, inr, ℕ, ◌<◌, ◌≤◌, Bool, true, false, List, length, get_or, map, Option, Some, None, refl, sym, ap, subst, ◌∙◌, arith}
 use Rattle.std.specs.Prelude.{slice_get}
+use Rattle.std.specs.List.{All}
 use Rattle.std.proofs.lemmas.Bool.{cases_eq}
 use Rattle.std.proofs.lemmas.List.{length-map}
 use Rattle.std.proofs.lemmas.Option.{slice_get_within, slice_get-get_or, same_Some}
@@ -11,6 +12,7 @@ use Rattle.net_core.proofs.Standing.{stands_same}
 use Rattle.net_core.proofs.Frames.{unmapped}
 use Rattle.net_core.proofs.Finishing.{class_once}
 use Rattle.net_core.proofs.Rings.{at_place, class_below}
+use Rattle.net_core.proofs.Namings.{turn_below}
 use Rattle.net_view.specs.Same.{AreJoined}
 use Rattle.lvx_compare.specs.declared.images.Image.{Image}
 use Rattle.lvx_compare.specs.declared.images.Image.TheVariants as image
@@ -69,13 +71,13 @@ module _ (n m : Netlist) (is_n : IsNetlist n) (is_m : IsNetlist m) (found : List
     other = found_at apart.second s2.0 s2.1
 
     parted : (s : Terminal) (o : Option ℕ) → IsClassOf m s o → ((d : ℕ) → own.0 ≡ Some d → o ≡ Some d → ⊥) → AreJoined m t s → ⊥
-    parted s o is no j = no j.class (class_there t own.0 j.class own.2 j.first) (class_there s o j.class is j.second)
+    parted s o is apart_from j = apart_from j.class (class_there t own.0 j.class own.2 j.first) (class_there s o j.class is j.second)
 
     by : ((d : ℕ) × (own.0 ≡ Some d) × (one.0 ≡ Some d)) ⊎ ((d : ℕ) → own.0 ≡ Some d → one.0 ≡ Some d → ⊥)
         → ((d : ℕ) × (own.0 ≡ Some d) × (other.0 ≡ Some d)) ⊎ ((d : ℕ) → own.0 ≡ Some d → other.0 ≡ Some d → ⊥)
         → (s : Terminal) × AreJoined n t s × (AreJoined m t s → ⊥)
-    by (inr no) q = (s1.0, record { class = c; first = h; second = (apart.first, s1.1, apart.one) }, parted s1.0 one.0 one.2 no)
-    by (inl p) (inr no) = (s2.0, record { class = c; first = h; second = (apart.second, s2.1, apart.other) }, parted s2.0 other.0 other.2 no)
+    by (inr never) q = (s1.0, record { class = c; first = h; second = (apart.first, s1.1, apart.one) }, parted s1.0 one.0 one.2 never)
+    by (inl p) (inr never) = (s2.0, record { class = c; first = h; second = (apart.second, s2.1, apart.other) }, parted s2.0 other.0 other.2 never)
     by (inl p) (inl q) =
         let same : p.0 ≡ q.0 = same_Some p.0 q.0 (sym p.1 ∙ q.1) in
         absurd (apart.apart p.0 (subst (λ (o : Option ℕ). Stands found apart.first o) p.2 one.1)
@@ -149,7 +151,7 @@ module _ (a b : Netlist) (there here : List (Option ℕ)) (ahead back : List Ima
     many = all.back_many
 
     at : (x : Image) → Stands back d x → IsImage b.classes here d x → HasOtherMembers a b t
-    at image.Unseen s no = absurd (no (across.0, across.2))
+    at image.Unseen s none = absurd (none (across.0, across.2))
     at (image.Within y) s w = let no : true ≡ false = sym (ap is_within s) ∙ e in absurd cc
     at image.Scattered s w =
         let r = scattered b a all.second all.first here all.here_are d t across w in (r.0, inr (r.1, r.2))
@@ -164,14 +166,5 @@ module _ (a b : Netlist) (there here : List (Option ℕ)) (ahead back : List Ima
     parted = λ t c h s. let u = unmapped (is_kept back) ahead c false s in parted_by c u.0 (image_at a there ahead c u.0 all.ahead_are u.1) u.2 t h;
   }
 
-pub turned : (a b : Netlist) (there here : List (Option ℕ)) (ahead back : List Image) → Compared a b there here ahead back → Compared b a here there back ahead
-turned a b there here ahead back all = record {
-  first = all.second;
-  second = all.first;
-  there_are = all.here_are;
-  here_are = all.there_are;
-  ahead_are = all.back_are;
-  back_are = all.ahead_are;
-  ahead_many = all.back_many;
-  back_many = all.ahead_many;
-}
+pub classes_low : (n : Netlist) → IsNetlist n → All (λ class. class < n.count) n.classes
+classes_low n is = turn_below 0 n.count n.classes is.turns

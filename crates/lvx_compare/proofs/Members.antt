@@ -34,9 +34,9 @@ others_turned a b t h = elim h.1 [ inl p ↦ (h.0, inr p) | inr q ↦ (h.0, inl 
 -- ---- the order of names
 
 not_less : (o : Ordering) → (o ≡ Less → ⊥) → is_lt o ≡ false
-not_less Less no = absurd (no refl)
-not_less Equal no = refl
-not_less Greater no = refl
+not_less Less never = absurd (never refl)
+not_less Equal never = refl
+not_less Greater never = refl
 
 pub less_is : (a b : Name) → comes_before a b ≡ true → name_cmp a b ≡ Less
 less_is a b e = by (name_cmp a b) e where
@@ -53,19 +53,19 @@ pub not_back : (a b : Name) → name_cmp a b ≡ Less → comes_before b a ≡ f
 not_back a b less = not_less (name_cmp b a) (λ back. not_itself a (name_total.trans a b a less back))
 
 clash : (o : Ordering) → o ≡ Less → is_lt o ≡ false → ⊥
-clash o less no = let e : true ≡ false = sym (ap is_lt less) ∙ no in absurd cc
+clash o less not_lt = let e : true ≡ false = sym (ap is_lt less) ∙ not_lt in absurd cc
 
 pub not_less_than : (a b : Name) → comes_before a b ≡ false → name_cmp a b ≡ Less → ⊥
-not_less_than a b no less = clash (name_cmp a b) less no
+not_less_than a b not_lt less = clash (name_cmp a b) less not_lt
 
 -- what isn't before a name isn't before a lesser one
 pub lesser_still : (a b c : Name) → name_cmp b a ≡ Less → comes_before c a ≡ false → comes_before c b ≡ false
-lesser_still a b c less no = not_less (name_cmp c b) (λ l. clash (name_cmp c a) (name_total.trans c b a l less) no)
+lesser_still a b c less last = not_less (name_cmp c b) (λ l. clash (name_cmp c a) (name_total.trans c b a l less) last)
 
 -- nor before one that it isn't greater than
 pub first_still : (a b c : Name) → comes_before b a ≡ false → comes_before c b ≡ false → comes_before c a ≡ false
-first_still a b c first no = not_less (name_cmp c a) (λ l. by l (name_cmp a b) refl) where
+first_still a b c first last = not_less (name_cmp c a) (λ l. by l (name_cmp a b) refl) where
   by : name_cmp c a ≡ Less → (o : Ordering) → name_cmp a b ≡ o → ⊥
-  by l Less is = clash (name_cmp c b) (name_total.trans c a b l is) no
-  by l Equal is = let same = name_equal a b is in clash (name_cmp c b) (subst (λ (x : Name). name_cmp c x ≡ Less) same l) no
+  by l Less is = clash (name_cmp c b) (name_total.trans c a b l is) last
+  by l Equal is = let same = name_equal a b is in clash (name_cmp c b) (subst (λ (x : Name). name_cmp c x ≡ Less) same l) last
   by l Greater is = clash (name_cmp b a) (name_total.antisymm b a ∙ ap ordering_reverse is) first

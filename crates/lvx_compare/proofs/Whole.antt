@@ -44,44 +44,44 @@ joined_there : (n : Netlist) (s t : Terminal) → AreJoined n s t → IsThere (t
 joined_there n s t j = is_there n s j.class j.first
 
 lacks_port : (a b : Netlist) → IsNetlist a → (name : Name) → HasPort a name → (HasPort b name → ⊥) → IsOddPort a b name
-lacks_port a b is name h no = record {
+lacks_port a b is name h lacks = record {
   here = h;
-  parted = (port name, inl (port_joined a is name h, λ j. no (port_back b name (joined_there b (port name) (port name) j))));
+  parted = (port name, inl (port_joined a is name h, λ j. lacks (port_back b name (joined_there b (port name) (port name) j))));
 }
 
 port_differs : (a b : Netlist) → IsNetlist a → IsNetlist b → (name : Name) → DiffersAtPort a b name → IsOddPort a b name ⊎ IsOddPort b a name
 port_differs a b is_a is_b name (told.lacking (inl p)) = inl (lacks_port a b is_a name p.0 p.1)
 port_differs a b is_a is_b name (told.lacking (inr q)) = inr (lacks_port b a is_b name q.0 q.1)
-port_differs a b is_a is_b name (told.parted (s, inl p)) = inl (record { here = port_back a name (joined_there a (port name) s p.0); parted = (s, inl p) })
-port_differs a b is_a is_b name (told.parted (s, inr q)) = inr (record { here = port_back b name (joined_there b (port name) s q.0); parted = (s, inl q) })
+port_differs a b is_a is_b name (told.members (s, inl p)) = inl (record { here = port_back a name (joined_there a (port name) s p.0); parted = (s, inl p) })
+port_differs a b is_a is_b name (told.members (s, inr q)) = inr (record { here = port_back b name (joined_there b (port name) s q.0); parted = (s, inl q) })
 
 odd_port_here : (a b : Netlist) (name : Name) → IsOddPort a b name → DiffersAtPort a b name
-odd_port_here a b name h = told.parted h.parted
+odd_port_here a b name h = told.members h.parted
 
 odd_port_there : (a b : Netlist) (name : Name) → IsOddPort b a name → DiffersAtPort a b name
-odd_port_there a b name h = told.parted (others_turned b a (port name) h.parted)
+odd_port_there a b name h = told.members (others_turned b a (port name) h.parted)
 
 -- ---- instances
 
 name_differs : (a b : Netlist) (name : Name) → IsInstanceAtFault a b name → IsOddName a b name ⊎ IsOddName b a name
 name_differs a b name h = by h.differs where
   by : DiffersAtInstance a b name.text → IsOddName a b name ⊎ IsOddName b a name
-  by (told.modelled model (inl p)) = inl (record { scalar = h.scalar; odd = stage.modelled model p.0 p.1 })
-  by (told.modelled model (inr q)) = inr (record { scalar = h.scalar; odd = stage.modelled model q.0 q.1 })
-  by (told.parted pin (s, inl p)) = inl (record { scalar = h.scalar; odd = stage.parted pin (joined_there a (pin_of name.text pin) s p.0) (s, inl p) })
-  by (told.parted pin (s, inr q)) = inr (record { scalar = h.scalar; odd = stage.parted pin (joined_there b (pin_of name.text pin) s q.0) (s, inl q) })
+  by (told.modelled model (inl p)) = inl (record { scalar = h.scalar; odd = stage.other_model model p.0 p.1 })
+  by (told.modelled model (inr q)) = inr (record { scalar = h.scalar; odd = stage.other_model model q.0 q.1 })
+  by (told.joined pin (s, inl p)) = inl (record { scalar = h.scalar; odd = stage.other_members pin (joined_there a (pin_of name.text pin) s p.0) (s, inl p) })
+  by (told.joined pin (s, inr q)) = inr (record { scalar = h.scalar; odd = stage.other_members pin (joined_there b (pin_of name.text pin) s q.0) (s, inl q) })
 
 odd_name_here : (a b : Netlist) (name : Name) → IsOddName a b name → IsInstanceAtFault a b name
 odd_name_here a b name h = record { scalar = h.scalar; differs = by h.odd } where
   by : IsOddInstance a b name.text → DiffersAtInstance a b name.text
-  by (stage.modelled model p no) = told.modelled model (inl (p, no))
-  by (stage.parted pin t g) = told.parted pin g
+  by (stage.other_model model p lacks) = told.modelled model (inl (p, lacks))
+  by (stage.other_members pin t g) = told.joined pin g
 
 odd_name_there : (a b : Netlist) (name : Name) → IsOddName b a name → IsInstanceAtFault a b name
 odd_name_there a b name h = record { scalar = h.scalar; differs = by h.odd } where
   by : IsOddInstance b a name.text → DiffersAtInstance a b name.text
-  by (stage.modelled model p no) = told.modelled model (inr (p, no))
-  by (stage.parted pin t g) = told.parted pin (others_turned b a (pin_of name.text pin) g)
+  by (stage.other_model model p lacks) = told.modelled model (inr (p, lacks))
+  by (stage.other_members pin t g) = told.joined pin (others_turned b a (pin_of name.text pin) g)
 
 -- ---- the lesser of two least names
 
@@ -92,8 +92,8 @@ IsFirst P (Some name) = IsLeast P name
 
 module _ (P Q R : Name → Type 0) (to_left : (name : Name) → P name → R name) (to_right : (name : Name) → Q name → R name) (either : (name : Name) → R name → P name ⊎ Q name) where
   first_of_both : (x y : Option Name) → IsFirst P x → IsFirst Q y → IsFirst R (lesser x y)
-  first_of_both None None no none = λ name r. elim (either name r) [ inl p ↦ no name p | inr q ↦ none name q ]
-  first_of_both None (Some b) no f = record { holds = to_right b f.holds; least = λ o r. elim (either o r) [ inl p ↦ absurd (no o p) | inr q ↦ f.least o q ] }
+  first_of_both None None empty none = λ name r. elim (either name r) [ inl p ↦ empty name p | inr q ↦ none name q ]
+  first_of_both None (Some b) none f = record { holds = to_right b f.holds; least = λ o r. elim (either o r) [ inl p ↦ absurd (none o p) | inr q ↦ f.least o q ] }
   first_of_both (Some a) None f none = record { holds = to_left a f.holds; least = λ o r. elim (either o r) [ inl p ↦ f.least o p | inr q ↦ absurd (none o q) ] }
   first_of_both (Some a) (Some b) f g = by (comes_before b a) refl where
     by : (t : Bool) → comes_before b a ≡ t → IsFirst R (cond t (Some b) (Some a))
@@ -198,14 +198,14 @@ same_told a b p q x y seen none empty =
 same_port : (a b : Netlist) → AreSame a b → (name : Name) → DiffersAtPort a b name → ⊥
 same_port a b same name (told.lacking (inl p)) = p.1 ((same.ports name).0 p.0)
 same_port a b same name (told.lacking (inr q)) = q.1 ((same.ports name).1 q.0)
-same_port a b same name (told.parted (s, inl p)) = p.1 ((same.classes (port name) s).0 p.0)
-same_port a b same name (told.parted (s, inr q)) = q.1 ((same.classes (port name) s).1 q.0)
+same_port a b same name (told.members (s, inl p)) = p.1 ((same.classes (port name) s).0 p.0)
+same_port a b same name (told.members (s, inr q)) = q.1 ((same.classes (port name) s).1 q.0)
 
 same_instance : (a b : Netlist) → AreSame a b → (name : List ℕ) → DiffersAtInstance a b name → ⊥
 same_instance a b same name (told.modelled model (inl p)) = p.1 ((same.instances name model).0 p.0)
 same_instance a b same name (told.modelled model (inr q)) = q.1 ((same.instances name model).1 q.0)
-same_instance a b same name (told.parted pin (s, inl p)) = p.1 ((same.classes (pin_of name pin) s).0 p.0)
-same_instance a b same name (told.parted pin (s, inr q)) = q.1 ((same.classes (pin_of name pin) s).1 q.0)
+same_instance a b same name (told.joined pin (s, inl p)) = p.1 ((same.classes (pin_of name pin) s).0 p.0)
+same_instance a b same name (told.joined pin (s, inr q)) = q.1 ((same.classes (pin_of name pin) s).1 q.0)
 
 same_or_different : (a b : Netlist) → AreSame a b → (name : Name) → IsDifference a b name → ⊥
 same_or_different a b same name (told.at_port l) = same_port a b same name l.holds
@@ -213,13 +213,10 @@ same_or_different a b same name (told.at_instance none l) = same_instance a b sa
 
 one_least : (P : Name → Type 0) (x y : Name) → IsLeast P x → IsLeast P y → x ≡ y
 one_least P x y l m = by (name_cmp x y) refl where
-  no : (c d : Name) → name_cmp c d ≡ Less → comes_before c d ≡ false → ⊥
-  no c d less e = let f = not_less_than c d e in f less
-
   by : (o : Ordering) → name_cmp x y ≡ o → x ≡ y
-  by Less is = absurd (no x y is (m.least x l.holds))
+  by Less is = absurd (not_less_than x y (m.least x l.holds) is)
   by Equal is = name_equal x y is
-  by Greater is = absurd (no y x (name_total.antisymm y x ∙ ap ordering_reverse is) (l.least y m.holds))
+  by Greater is = absurd (not_less_than y x (l.least y m.holds) (name_total.antisymm y x ∙ ap ordering_reverse is))
 
 one_difference : (a b : Netlist) (x y : Name) → IsDifference a b x → IsDifference a b y → x ≡ y
 one_difference a b x y (told.at_port l) (told.at_port m) = one_least (DiffersAtPort a b) x y l m

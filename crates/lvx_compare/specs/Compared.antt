@@ -30,13 +30,13 @@ HasOtherMembers a b t = (s : Terminal) × OnlyOne (AreJoined a t s) (AreJoined b
 -- a port that one netlist lacks, or whose class has other members in the other
 pub data DiffersAtPort (a b : Netlist) (name : Name) : Type 0 where
   lacking : OnlyOne (HasPort a name) (HasPort b name) → DiffersAtPort a b name
-  parted : HasOtherMembers a b (port name) → DiffersAtPort a b name
+  members : HasOtherMembers a b (port name) → DiffersAtPort a b name
 
 -- an instance that one netlist lacks, whose model differs, or one of whose terminals is missing or has a class with other members in
 -- the other netlist
 pub data DiffersAtInstance (a b : Netlist) (name : List ℕ) : Type 0 where
   modelled : (model : List ℕ) → OnlyOne (HasInstance a name model) (HasInstance b name model) → DiffersAtInstance a b name
-  parted : (pin : Name) → HasOtherMembers a b (pin_of name pin) → DiffersAtInstance a b name
+  joined : (pin : Name) → HasOtherMembers a b (pin_of name pin) → DiffersAtInstance a b name
 
 -- an instance's name has no bit
 pub record IsInstanceAtFault (a b : Netlist) (name : Name) : Type 0 where

@@ -1,6 +1,6 @@
 -- The stages of a comparison: the classes of one netlist's terminals in the other, where the members of each class are there, and
 -- what differs as it is seen from one of the two.
-use Rattle.std.specs.Prelude.{◌≡◌, ◌↔◌, ℕ, ◌<◌, Bool, true, false, List, [], length, map, Option, None, Some, MatchOption, slice_get, slice_index_or, if◌then◌else◌, nat_eq}
+use Rattle.std.specs.Prelude.{◌≡◌, ◌↔◌, ℕ, ◌+◌, ◌<◌, Bool, true, false, List, [], ◌++◌, length, map, Option, None, Some, MatchOption, slice_get, slice_index_or, if◌then◌else◌, nat_eq}
 use Rattle.std.specs.Cmp.Lexicographic.{slice_cmp}
 use Rattle.std.specs.Ordering.{nat_cmp, is_lt}
 use Rattle.vlsi_base.specs.declared.name.Name.{Name}
@@ -100,8 +100,8 @@ IsFirstPort n other (Some name) = IsLeast (IsOddPort n other) name
 
 -- it has the instance, and the other hasn't, or not with this model, or a terminal's class has other members there
 pub data IsOddInstance (n other : Netlist) (name : List ℕ) : Type 0 where
-  modelled : (model : List ℕ) → HasInstance n name model → (HasInstance other name model → ⊥) → IsOddInstance n other name
-  parted : (pin : Name) → IsThere (terminals n) (pin_of name pin) → HasOtherMembers n other (pin_of name pin) → IsOddInstance n other name
+  other_model : (model : List ℕ) → HasInstance n name model → (HasInstance other name model → ⊥) → IsOddInstance n other name
+  other_members : (pin : Name) → IsThere (terminals n) (pin_of name pin) → HasOtherMembers n other (pin_of name pin) → IsOddInstance n other name
 
 -- the other has the instance with this model, and its terminals have the same members in their classes
 pub record KeepsInstance (n other : Netlist) (i : Instance) : Type 0 where

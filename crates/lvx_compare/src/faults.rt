@@ -1,5 +1,5 @@
 // The ports and instances of one netlist that differ from those of another.
-ghost use Rattle.std.specs.Prelude.{◌≡◌, ◌↔◌, ◌<◌, ◌+◌, ◌^◌, ℕ, if◌then◌else◌, IsTrue, IfOk, MatchOption, map, length};
+ghost use Rattle.std.specs.Prelude.{◌≡◌, ◌↔◌, ◌<◌, ◌+◌, ◌^◌, ℕ, if◌then◌else◌, IsTrue, IfOk, IfSome, map, length};
 ghost use Rattle.net_core.specs.Netlist.{Instance, Netlist as Meaning};
 ghost use Rattle.net_core.specs.Places.{Stands};
 ghost use Rattle.net_view.specs.Same.{HasInstance};
@@ -81,13 +81,7 @@ fn has_instance(netlist: &Netlist, names: &Roll, name: &Text, model: &Text) -> b
 }
 
 /// Whether the instance with this number differs: it isn't in the other netlist with this model, or the class of a pin isn't marked.
-fn is_odd(
-    netlist: &Netlist,
-    marks: &[bool],
-    number: usize,
-    other: &Netlist,
-    names: &Roll,
-) -> bool
+fn is_odd(netlist: &Netlist, marks: &[bool], number: usize, other: &Netlist, names: &Roll) -> bool
     requires there { number < length netlist.now.instances }
     requires names { names.now ≡ map (λ i. i.name) other.now.instances }
     requires marks { AreMarks netlist.now other.now marks.now }
@@ -104,7 +98,7 @@ fn is_odd(
 /// The place of the lesser name of two instances; without the second that of the first.
 fn lesser_place(nodes: &[Node], place: usize, other: Option<usize>) -> Option<usize>
     requires here { place < length nodes.now }
-    requires there { MatchOption other Unit (λ k. k < length nodes.now) }
+    requires there { IfSome other (λ k. k < length nodes.now) }
     ensures { result ≡ (if is_before nodes.now place other then Some place else other) }
 {
     let Some(known) = other else {

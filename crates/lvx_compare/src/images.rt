@@ -66,7 +66,10 @@ fn images(
 fn marks(alloc: Global, images: &[Image], back: &[Image]) -> Result<Vec<bool>, AllocError>
     ensures { IfOk result (λ marks. marks.items ≡ map (is_kept back.now) images.now) }
 {
-    images.iter().map(|image| image.is_kept(back)).collect(alloc)
+    images
+        .iter()
+        .map(|image| image.is_kept(back))
+        .collect(alloc)
 }
 
 /// For each class of two netlists whether its members are one class of the other. Takes memory and time for each terminal, time

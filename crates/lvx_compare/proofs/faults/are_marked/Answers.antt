@@ -1,0 +1,7 @@
+use Rattle.lvx_compare.proofs.faults.are_marked.Goals as goal
+
+pub returns-then-not-mark_at : goal.returns-then-not-mark_at
+returns-then-not-mark_at c = ?
+
+pub returns : goal.returns
+returns c = ?
