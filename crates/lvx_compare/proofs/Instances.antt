@@ -1,7 +1,7 @@
 -- Instances of one netlist in another, and the least that differs.
 use Rattle.std.proofs.Common.{◌≡◌, ◌⊎◌, inl, inr, ℕ, zero, suc, ◌+◌, ◌<◌, ◌≤◌, ◌^◌, Bool, true, false, not, cond, List, [], ◌∷◌, ◌++◌, length, get_or, take, map, Option, Some, None, refl, sym, ap, subst, ◌∙◌, arith}
-use Rattle.std.specs.Prelude.{slice_index_or}
-use Rattle.std.specs.List.{flat_map}
+use Rattle.std.specs.Prelude.{slice_index_or, IsTrue, ◌↔◌}
+use Rattle.std.specs.List.{All, flat_map}
 use Rattle.std.specs.Ordering.{is_lt, nat_cmp, ordering_then}
 use Rattle.std.specs.Cmp.Lexicographic.{slice_cmp}
 use Rattle.std.specs.declared.cmp.Ordering.{Ordering}
@@ -9,7 +9,7 @@ use Rattle.std.specs.declared.cmp.Ordering.TheVariants.{Less, Equal, Greater}
 use Rattle.std.proofs.lemmas.Bool.{cases_lt}
 use Rattle.std.proofs.lemmas.List.{length-map, take_all}
 use Rattle.std.proofs.lemmas.List.Folds.{flat_map-map}
-use Rattle.std.proofs.lemmas.Option.{slice_get_within, get_or_from_slice_get, same_Some}
+use Rattle.std.proofs.lemmas.Option.{slice_get_within, slice_get_read, get_or_from_slice_get, same_Some}
 use Rattle.vlsi_base.specs.declared.name.Name.{Name}
 use Rattle.vlsi_base.specs.declared.name.Port.{Port}
 use Rattle.vlsi_base.specs.declared.name.Terminal.{Terminal}
@@ -47,12 +47,29 @@ names_learned n nodes names k is seen l learned =
     let m = length-map nodes (λ (i : Node). i.name) in
     learned.same refl once ∙ take_all k (map (λ (i : Node). i.name) nodes) (omega (arith, m, l)) ∙ own
 
+pub nodes_many : (n : Netlist) (nodes : List Node) → map (instance_of n.models) nodes ≡ n.instances → length nodes ≡ length n.instances
+nodes_many n nodes seen = sym (length-map nodes (instance_of n.models)) ∙ ap length seen
+
+-- the model of a node as it is read
+pub model_read : (n : Netlist) (nodes : List Node) (models : List (List ℕ)) (k : ℕ) (node : Node) (r : List ℕ) → All (λ i. i.model < length n.models) nodes → models ≡ n.models → k < length nodes
+    → node ≡ get_or nodes k node → r ≡ get_or models node.model r → slice_index_or n.models node.model [] ≡ r
+model_read n nodes models k node r known same l at is =
+    let low : node.model < length n.models = subst (λ (x : Node). x.model < length n.models) (sym at) (known k node l) in
+    let own : r ≡ get_or n.models node.model r = subst (λ (ms : List (List ℕ)). r ≡ get_or ms node.model r) same is in
+    get_or_from_slice_get n.models node.model r [] (slice_get_read n.models (length n.models) node.model r refl low own)
+
+-- and its name
+pub name_read : (nodes : List Node) (k : ℕ) (node : Node) → k < length nodes → node ≡ get_or nodes k node → node.name ≡ name_at nodes k
+name_read nodes k node l at =
+    let s : Stands nodes k node = slice_get_read nodes (length nodes) k node refl l at in
+    sym (get_or_from_slice_get (map (λ (x : Node). x.name) nodes) k node.name [] (mapped (λ (x : Node). x.name) nodes k node s))
+
 -- what is known of the nodes of a netlist
 pub record AreNodes (n : Netlist) (nodes : List Node) : Type 0 where
   pub seen : map (instance_of n.models) nodes ≡ n.instances
   pub numbered : AreNumbered n.ports nodes
 
-node_stands : (n : Netlist) (nodes : List Node) → map (instance_of n.models) nodes ≡ n.instances → (k : ℕ) (node : Node) → Stands nodes k node → Stands n.instances k (instance_of n.models node)
+pub node_stands : (n : Netlist) (nodes : List Node) → map (instance_of n.models) nodes ≡ n.instances → (k : ℕ) (node : Node) → Stands nodes k node → Stands n.instances k (instance_of n.models node)
 node_stands n nodes seen k node s = subst (λ (is : List Instance). Stands is k (instance_of n.models node)) seen (mapped (instance_of n.models) nodes k node s)
 
 -- a pin of an instance stands behind its first one
@@ -77,22 +94,6 @@ pins_few n nodes most are is few k node s j l =
 
 -- ---- an instance of a name
 
--- the node at the place of a name has the name
-named_at : (n : Netlist) (nodes : List Node) (names : List (List ℕ)) (name : List ℕ) (place : ℕ) (node : Node) → map (instance_of n.models) nodes ≡ n.instances → names ≡ map (λ i. i.name) n.instances
-    → position_of names name ≡ Some place → Stands nodes place node → node.name ≡ name
-named_at n nodes names name place node seen are at s =
-    let own : Stands names place node.name = subst (λ (ns : List (List ℕ)). Stands ns place node.name) (sym are) (mapped (λ (i : Instance). i.name) n.instances place (instance_of n.models node) (node_stands n nodes seen place node s)) in
-    stands_same names place node.name name own (position_stands names name place at)
-
-pub found_instance : (n : Netlist) (nodes : List Node) (names : List (List ℕ)) (name model : List ℕ) (place : ℕ) (node : Node) → map (instance_of n.models) nodes ≡ n.instances → names ≡ map (λ i. i.name) n.instances
-    → position_of names name ≡ Some place → Stands nodes place node → slice_index_or n.models node.model [] ≡ model → HasInstance n name model
-found_instance n nodes names name model place node seen are at s e = record {
-  instance = instance_of n.models node;
-  listed = (place, node_stands n nodes seen place node s);
-  named = named_at n nodes names name place node seen are at s;
-  modelled = e;
-}
-
 -- instances of one name are one
 pub one_instance : (n : Netlist) → IsNetlist n → (i j : Instance) → IsThere n.instances i → IsThere n.instances j → i.name ≡ j.name → i ≡ j
 one_instance n is i j h g e =
@@ -102,21 +103,32 @@ one_instance n is i j h g e =
     let P : ℕ → Type 0 = λ k. Stands n.instances k j in
     stands_same n.instances h.0 i j h.1 (subst P same g.1)
 
-pub instance_model : (n : Netlist) (nodes : List Node) (names : List (List ℕ)) (name model : List ℕ) (place : ℕ) (node : Node) → IsNetlist n → map (instance_of n.models) nodes ≡ n.instances → names ≡ map (λ i. i.name) n.instances
-    → position_of names name ≡ Some place → Stands nodes place node → HasInstance n name model → slice_index_or n.models node.model [] ≡ model
-instance_model n nodes names name model place node is seen are at s h =
-    let own = named_at n nodes names name place node seen are at s in
-    let one : instance_of n.models node ≡ h.instance = one_instance n is (instance_of n.models node) h.instance (place, node_stands n nodes seen place node s) h.listed (own ∙ sym h.named) in
-    ap (λ (i : Instance). i.model) one ∙ h.modelled
-
--- a place of a name is one of a node
-pub place_below : (n : Netlist) (nodes : List Node) (names : List (List ℕ)) (name : List ℕ) (place : ℕ) → map (instance_of n.models) nodes ≡ n.instances → names ≡ map (λ i. i.name) n.instances
-    → position_of names name ≡ Some place → place < length nodes
-place_below n nodes names name place seen are at =
+-- a place of a name is one of an instance
+pub place_below : (n : Netlist) (names : List (List ℕ)) (name : List ℕ) (place : ℕ) → names ≡ map (λ i. i.name) n.instances → position_of names name ≡ Some place → place < length n.instances
+place_below n names name place are at =
     let w = slice_get_within names place name (position_stands names name place at) in
     let m : length names ≡ length n.instances = ap length are ∙ length-map n.instances (λ (i : Instance). i.name) in
-    let e : length n.instances ≡ length nodes = ap length (sym seen) ∙ length-map nodes (instance_of n.models) in
-    omega (arith, w, m, e)
+    omega (arith, w, m)
+
+-- the instance of a name has a model
+pub instance_by : (n : Netlist) (names : List (List ℕ)) (name model : List ℕ) (place : ℕ) (r : Bool) → IsNetlist n → names ≡ map (λ i. i.name) n.instances → position_of names name ≡ Some place
+    → ((i : Instance) → Stands n.instances place i → IsTrue r ↔ (i.model ≡ model)) → IsTrue r ↔ HasInstance n name model
+instance_by n names name model place r is are at each = (to, from) where
+  found : (i : Instance) × Stands n.instances place i
+  found = at_place n.instances place (place_below n names name place are at)
+
+  named : found.0.name ≡ name
+  named =
+      let own : Stands names place found.0.name = subst (λ (ns : List (List ℕ)). Stands ns place found.0.name) (sym are) (mapped (λ (i : Instance). i.name) n.instances place found.0 found.1) in
+      stands_same names place found.0.name name own (position_stands names name place at)
+
+  to : IsTrue r → HasInstance n name model
+  to t = record { instance = found.0; listed = (place, found.1); named = named; modelled = (each found.0 found.1).0 t }
+
+  from : HasInstance n name model → IsTrue r
+  from h =
+      let one : found.0 ≡ h.instance = one_instance n is found.0 h.instance (place, found.1) h.listed (named ∙ sym h.named) in
+      (each found.0 found.1).1 (ap (λ (i : Instance). i.model) one ∙ h.modelled)
 
 pub no_instance : (n : Netlist) (names : List (List ℕ)) (name model : List ℕ) → names ≡ map (λ i. i.name) n.instances → position_of names name ≡ None → HasInstance n name model → ⊥
 no_instance n names name model are none h =

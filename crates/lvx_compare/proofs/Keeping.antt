@@ -161,6 +161,7 @@ module _ (a b : Netlist) (there here : List (Option ℕ)) (ahead back : List Ima
 
   pub marks_are : AreMarks a b (map (is_kept back) ahead)
   marks_are = record {
+    sound = all.first;
     many = length-map ahead (is_kept back) ∙ all.ahead_many;
     kept = λ t c h s. let u = unmapped (is_kept back) ahead c true s in kept_by c u.0 (image_at a there ahead c u.0 all.ahead_are u.1) u.2 t h;
     parted = λ t c h s. let u = unmapped (is_kept back) ahead c false s in parted_by c u.0 (image_at a there ahead c u.0 all.ahead_are u.1) u.2 t h;

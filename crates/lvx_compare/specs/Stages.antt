@@ -7,7 +7,7 @@ use Rattle.vlsi_base.specs.declared.name.Name.{Name}
 use Rattle.vlsi_base.specs.declared.name.Terminal.{Terminal}
 use Rattle.vlsi_base.specs.Names.{comes_before}
 use Rattle.net_core.specs.Places.{Stands, IsThere}
-use Rattle.net_core.specs.Netlist.{Instance, Netlist, port, pin_of, terminals, HasClass, IsClassOf}
+use Rattle.net_core.specs.Netlist.{Instance, Netlist, IsNetlist, port, pin_of, terminals, HasClass, IsClassOf}
 use Rattle.net_core.specs.declared.frame.Node.{Node}
 use Rattle.net_view.specs.Same.{HasInstance, AreJoined}
 use Rattle.lvx_compare.specs.declared.images.Image.{Image}
@@ -68,6 +68,7 @@ KeepsMembers n other t = (s : Terminal) → AreJoined n t s ↔ AreJoined other 
 
 -- a mark for each class of a netlist: whether its members are one class of the other
 pub record AreMarks (n other : Netlist) (marks : List Bool) : Type 0 where
+  pub sound : IsNetlist n
   pub many : length marks ≡ n.count
   pub kept : (t : Terminal) (c : ℕ) → HasClass n t c → Stands marks c true → KeepsMembers n other t
   pub parted : (t : Terminal) (c : ℕ) → HasClass n t c → Stands marks c false → HasOtherMembers n other t

@@ -67,6 +67,15 @@ pub(crate) fn instance_names(alloc: Global, netlist: &Netlist) -> Result<Roll, A
     Ok(names)
 }
 
+/// Whether the instance with this number has this model.
+fn has_model(netlist: &Netlist, number: usize, model: &Text) -> bool
+    requires { number < length netlist.now.instances }
+    ensures { (i : Instance) → Stands netlist.now.instances number i → IsTrue result ↔ (i.model ≡ model.now) }
+{
+    let node = &netlist.nodes()[number];
+    netlist.models()[node.model].is_same(model)
+}
+
 /// Whether a netlist, the names of whose instances these are, has an instance of this name and model.
 fn has_instance(netlist: &Netlist, names: &Roll, name: &Text, model: &Text) -> bool
     requires { names.now ≡ map (λ i. i.name) netlist.now.instances }
@@ -76,23 +85,29 @@ fn has_instance(netlist: &Netlist, names: &Roll, name: &Text, model: &Text) -> b
     let Some(place) = names.place(name) else {
         return false;
     };
-    let node = &netlist.nodes()[place];
-    netlist.models()[node.model].is_same(model)
+    has_model(netlist, place, model)
 }
 
 /// Whether the instance with this number differs: it isn't in the other netlist with this model, or the class of a pin isn't marked.
-fn is_odd(netlist: &Netlist, marks: &[bool], number: usize, other: &Netlist, names: &Roll) -> bool
+fn is_odd(
+    netlist: &Netlist,
+    marks: &[bool],
+    number: usize,
+    other: &Netlist,
+    names: &Roll,
+) -> bool
     requires there { number < length netlist.now.instances }
     requires names { names.now ≡ map (λ i. i.name) other.now.instances }
     requires marks { AreMarks netlist.now other.now marks.now }
     ensures { (i : Instance) → Stands netlist.now.instances number i → IsOdd netlist.now other.now i result }
 {
+    let classes = netlist.classes();
     let node = &netlist.nodes()[number];
     let model = &netlist.models()[node.model];
     if !has_instance(other, names, &node.name, model) {
         return true;
     }
-    !are_marked(marks, netlist.classes(), node)
+    !are_marked(marks, classes, node)
 }
 
 /// The place of the lesser name of two instances; without the second that of the first.
