@@ -50,15 +50,7 @@ names_learned n nodes names k is seen l learned =
 pub nodes_many : (n : Netlist) (nodes : List Node) → map (instance_of n.models) nodes ≡ n.instances → length nodes ≡ length n.instances
 nodes_many n nodes seen = sym (length-map nodes (instance_of n.models)) ∙ ap length seen
 
--- the model of a node as it is read
-pub model_read : (n : Netlist) (nodes : List Node) (models : List (List ℕ)) (k : ℕ) (node : Node) (r : List ℕ) → All (λ i. i.model < length n.models) nodes → models ≡ n.models → k < length nodes
-    → node ≡ get_or nodes k node → r ≡ get_or models node.model r → slice_index_or n.models node.model [] ≡ r
-model_read n nodes models k node r known same l at is =
-    let low : node.model < length n.models = subst (λ (x : Node). x.model < length n.models) (sym at) (known k node l) in
-    let own : r ≡ get_or n.models node.model r = subst (λ (ms : List (List ℕ)). r ≡ get_or ms node.model r) same is in
-    get_or_from_slice_get n.models node.model r [] (slice_get_read n.models (length n.models) node.model r refl low own)
-
--- and its name
+-- the name of a node as it is read
 pub name_read : (nodes : List Node) (k : ℕ) (node : Node) → k < length nodes → node ≡ get_or nodes k node → node.name ≡ name_at nodes k
 name_read nodes k node l at =
     let s : Stands nodes k node = slice_get_read nodes (length nodes) k node refl l at in
@@ -68,6 +60,26 @@ name_read nodes k node l at =
 pub record AreNodes (n : Netlist) (nodes : List Node) : Type 0 where
   pub seen : map (instance_of n.models) nodes ≡ n.instances
   pub numbered : AreNumbered n.ports nodes
+
+-- a node as it is read, with the text of its model
+pub record NodeRead (n : Netlist) (nodes : List Node) (k : ℕ) (node : Node) (text : List ℕ) : Type 0 where
+  pub listed : AreNodes n nodes
+  pub stands : Stands nodes k node
+  pub model : slice_index_or n.models node.model [] ≡ text
+
+pub node_read : (n : Netlist) (nodes : List Node) (models : List (List ℕ)) (k : ℕ) (node : Node) (text : List ℕ) → map (instance_of n.models) nodes ≡ n.instances
+    → All (λ i. i.model < length n.models) nodes → AreNumbered n.ports nodes → models ≡ n.models → k < length n.instances → node ≡ get_or nodes k node → text ≡ get_or models node.model text
+    → NodeRead n nodes k node text
+node_read n nodes models k node text seen known numbered same l at is =
+    let many : length nodes ≡ length n.instances = nodes_many n nodes seen in
+    let below : k < length nodes = omega (arith, many, l) in
+    let low : node.model < length n.models = subst (λ (x : Node). x.model < length n.models) (sym at) (known k node below) in
+    let own : text ≡ get_or n.models node.model text = subst (λ (ms : List (List ℕ)). text ≡ get_or ms node.model text) same is in
+    record {
+      listed = record { seen = seen; numbered = numbered };
+      stands = slice_get_read nodes (length nodes) k node refl below at;
+      model = get_or_from_slice_get n.models node.model text [] (slice_get_read n.models (length n.models) node.model text refl low own);
+    }
 
 pub node_stands : (n : Netlist) (nodes : List Node) → map (instance_of n.models) nodes ≡ n.instances → (k : ℕ) (node : Node) → Stands nodes k node → Stands n.instances k (instance_of n.models node)
 node_stands n nodes seen k node s = subst (λ (is : List Instance). Stands is k (instance_of n.models node)) seen (mapped (instance_of n.models) nodes k node s)

@@ -20,7 +20,7 @@ use Rattle.lvx_compare.specs.declared.comparing.Verdict.TheVariants as verdict
 use Rattle.lvx_compare.specs.Compared as told
 use Rattle.lvx_compare.specs.Compared.{HasPort, AreSame, HasOtherMembers, DiffersAtPort, DiffersAtInstance, IsInstanceAtFault, IsLeast, IsDifference}
 use Rattle.lvx_compare.specs.Stages as stage
-use Rattle.lvx_compare.specs.Stages.{KeepsMembers, IsOddPort, IsFirstPort, IsOddInstance, KeepsInstance, IsOddName, IsFirstInstance, lesser}
+use Rattle.lvx_compare.specs.Stages.{KeepsMembers, AreMarks, IsOddPort, IsFirstPort, IsOddInstance, KeepsInstance, IsOddName, IsFirstInstance, lesser}
 use Rattle.lvx_compare.proofs.Members.{with_itself, is_there, kept_or_other, others_turned, not_less_than, less_is, lesser_still, first_still}
 use Rattle.lvx_compare.proofs.Instances.{odd_there, kept_or_odd}
 
@@ -169,29 +169,39 @@ abbrev pub IsVerdict : Netlist → Netlist → Verdict → Type 0
 IsVerdict a b verdict.Same = AreSame a b
 IsVerdict a b (verdict.Different name) = IsDifference a b name
 
--- what each netlist sees of both
-pub record Seen (a b : Netlist) (port_a port_b instance_a instance_b : Option Name) : Type 0 where
+-- what the two see of their ports
+pub record SeePorts (a b : Netlist) (p q : Option Name) : Type 0 where
   pub first : IsNetlist a
   pub second : IsNetlist b
-  pub port_here : IsFirstPort a b port_a
-  pub port_there : IsFirstPort b a port_b
-  pub instance_here : IsFirstInstance a b instance_a
-  pub instance_there : IsFirstInstance b a instance_b
+  pub here : IsFirstPort a b p
+  pub there : IsFirstPort b a q
 
-pub port_told : (a b : Netlist) (x y : Option Name) (name : Name) → IsNetlist a → IsNetlist b → IsFirstPort a b x → IsFirstPort b a y → lesser x y ≡ Some name → IsDifference a b name
-port_told a b x y name is_a is_b f g e = told.at_port (subst (λ (o : Option Name). IsFirst (DiffersAtPort a b) o) e (ports_told a b is_a is_b x y f g))
+pub see_ports : (a b : Netlist) (ms ns ds es : List Bool) (p q : Option Name) → AreMarks a b ms → AreMarks b a ns → ds ≡ ms → es ≡ ns
+    → ((other : Netlist) → AreMarks a other ds → IsFirstPort a other p) → ((other : Netlist) → AreMarks b other es → IsFirstPort b other q) → SeePorts a b p q
+see_ports a b ms ns ds es p q are_a are_b e f here there = record {
+  first = are_a.sound;
+  second = are_b.sound;
+  here = here b (subst (λ (xs : List Bool). AreMarks a b xs) (sym e) are_a);
+  there = there a (subst (λ (xs : List Bool). AreMarks b a xs) (sym f) are_b);
+}
 
-pub instance_told : (a b : Netlist) (p q x y : Option Name) (name : Name) → Seen a b p q x y → lesser p q ≡ None → lesser x y ≡ Some name → IsDifference a b name
-instance_told a b p q x y name seen none e =
-    told.at_instance (subst (λ (o : Option Name). IsFirst (DiffersAtPort a b) o) none (ports_told a b seen.first seen.second p q seen.port_here seen.port_there))
-    (subst (λ (o : Option Name). IsFirst (IsInstanceAtFault a b) o) e (instances_told a b seen.first seen.second x y seen.instance_here seen.instance_there))
+pub port_told : (a b : Netlist) (p q : Option Name) (name : Name) → SeePorts a b p q → lesser p q ≡ Some name → IsDifference a b name
+port_told a b p q name seen e =
+    told.at_port (subst (λ (o : Option Name). IsFirst (DiffersAtPort a b) o) e (ports_told a b seen.first seen.second p q seen.here seen.there))
 
-pub same_told : (a b : Netlist) (p q x y : Option Name) → Seen a b p q x y → lesser p q ≡ None → lesser x y ≡ None → AreSame a b
-same_told a b p q x y seen none empty =
-    let m = lesser_none p q none in let n = lesser_none x y empty in
+pub instance_told : (a b : Netlist) (p q x y : Option Name) (name : Name) → SeePorts a b p q → IsFirstInstance a b x → IsFirstInstance b a y → lesser p q ≡ None → lesser x y ≡ Some name
+    → IsDifference a b name
+instance_told a b p q x y name seen here there none e =
+    told.at_instance (subst (λ (o : Option Name). IsFirst (DiffersAtPort a b) o) none (ports_told a b seen.first seen.second p q seen.here seen.there))
+    (subst (λ (o : Option Name). IsFirst (IsInstanceAtFault a b) o) e (instances_told a b seen.first seen.second x y here there))
+
+pub same_told : (a b : Netlist) (p q x y : Option Name) → SeePorts a b p q → IsFirstInstance a b x → IsFirstInstance b a y → lesser p q ≡ None → lesser x y ≡ None → AreSame a b
+same_told a b p q x y seen here there none empty =
+    let m = lesser_none p q none in
+    let n = lesser_none x y empty in
     all_same a b seen.first seen.second
-    (subst (λ (o : Option Name). IsFirstPort a b o) m.0 seen.port_here) (subst (λ (o : Option Name). IsFirstPort b a o) m.1 seen.port_there)
-    (subst (λ (o : Option Name). IsFirstInstance a b o) n.0 seen.instance_here) (subst (λ (o : Option Name). IsFirstInstance b a o) n.1 seen.instance_there)
+    (subst (λ (o : Option Name). IsFirstPort a b o) m.0 seen.here) (subst (λ (o : Option Name). IsFirstPort b a o) m.1 seen.there)
+    (subst (λ (o : Option Name). IsFirstInstance a b o) n.0 here) (subst (λ (o : Option Name). IsFirstInstance b a o) n.1 there)
 
 -- ---- a verdict is the only one
 

@@ -89,13 +89,7 @@ fn has_instance(netlist: &Netlist, names: &Roll, name: &Text, model: &Text) -> b
 }
 
 /// Whether the instance with this number differs: it isn't in the other netlist with this model, or the class of a pin isn't marked.
-fn is_odd(
-    netlist: &Netlist,
-    marks: &[bool],
-    number: usize,
-    other: &Netlist,
-    names: &Roll,
-) -> bool
+fn is_odd(netlist: &Netlist, marks: &[bool], number: usize, other: &Netlist, names: &Roll) -> bool
     requires there { number < length netlist.now.instances }
     requires names { names.now ≡ map (λ i. i.name) other.now.instances }
     requires marks { AreMarks netlist.now other.now marks.now }
