@@ -1,0 +1,9 @@
+pub mod Members
+pub mod Finding
+pub mod Imaging
+pub mod Keeping
+pub mod Marked
+pub mod Ports
+pub mod Instances
+pub mod Whole
+pub mod Lawful

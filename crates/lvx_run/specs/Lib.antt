@@ -1,0 +1,2 @@
+pub mod Lvx
+pub mod Laws

@@ -1,0 +1,11 @@
+//! `lvx` as a tool: two netlists of library cells, compared by name.
+//!
+//! What it reads and answers stands in `specs/Lvx.antt`; when each status comes and what it leaves, for all tools, in
+//! `specs/Table.antt` of `tool_drive`.
+#![tactic(auto)]
+
+mod laws;
+mod lvx;
+
+pub use laws::lvx_law;
+pub use lvx::Lvx;

@@ -1,0 +1,95 @@
+// `lvx` as a tool: what it reads, and what it answers.
+ghost use Rattle.std.specs.Prelude.{◌≡◌};
+ghost use Rattle.tool_drive.specs.Table.{IsJudged};
+ghost use Rattle.lvx_run.specs.Lvx.{netlist_file as file_of, texts, Compares};
+
+use cell_lib::{catal_file, library_status, named_files, read_library};
+use cell_pins::pin_table;
+use lvx_compare::{Verdict as Compared, compare};
+use std::alloc::{AllocError, Global};
+use tool_drive::{Over, Product, Refusal, Status, Tool, Verdict, Wanted, bytes_at, refused};
+use tool_words::LvxCommand;
+use vlsi_base::{FileBytes, FileName, MOST_NETLIST_BYTES};
+use vst_io::read_vst;
+
+/// `lvx`, with what it is asked: it compares the netlist in SOURCE with the one in the second file, by name, and prints `same`.
+///
+/// All files are read first: SOURCE, the second file, CATAL, and the behaviour and the layout of each cell that this uses. Then it
+/// is refused, in this order: by `Library`, or a limit of CATAL or of a cell; by `Source`, or a limit, of SOURCE, then of the second
+/// file; by `Different`, with the least name that differs, ports before instances. Memory goes by the files and the netlists.
+#[derive(Drop)]
+pub struct Lvx<'a> {
+    pub command: &'a LvxCommand,
+}
+
+// A netlist's file, of at most `MOST_NETLIST_BYTES` bytes.
+fn netlist_file(name: FileName) -> Wanted
+    ensures { result ≡ file_of name }
+{
+    Wanted {
+        name,
+        most: MOST_NETLIST_BYTES as u64,
+        over: Over::Refused,
+    }
+}
+
+// What the texts come to: of SOURCE, the second file and CATAL, and of the cells' files.
+fn compared(
+    alloc: Global,
+    command: &LvxCommand,
+    first: &[FileBytes],
+    more: &[FileBytes],
+) -> Result<Product, Refusal>
+    ensures { IsJudged (Compares command.now (texts first.now more.now)) result }
+{
+    let library = match read_library(alloc, bytes_at(first, 2), more, false) {
+        Ok(library) => library,
+        Err(error) => return Err(Refusal::plain(library_status(error))),
+    };
+    let table = pin_table(alloc, &library, true)?;
+    let source = match read_vst(alloc, bytes_at(first, 0), &table) {
+        Ok(netlist) => netlist,
+        Err(error) => return Err(Refusal::plain(refused(alloc, &command.source, error))),
+    };
+    let other = match read_vst(alloc, bytes_at(first, 1), &table) {
+        Ok(netlist) => netlist,
+        Err(error) => return Err(Refusal::plain(refused(alloc, &command.other, error))),
+    };
+    match compare(alloc, &source, &other)? {
+        Compared::Same => Ok(Product {
+            name: command.source.copy(alloc)?,
+            file: None,
+            text: FileBytes::from_bytes(alloc, b"same\n")?,
+        }),
+        Compared::Different(name) => Err(Refusal::plain(Status::No(Verdict::Different(name)))),
+    }
+}
+
+impl Tool for Lvx<'_> {
+    ghost use Rattle.lvx_run.specs.Lvx.{lvx_plan, lvx_answers};
+
+    ghost plan = { λ t. lvx_plan t.command.now };
+
+    ghost answers = { λ t. lvx_answers t.command.now };
+
+    fn first(&self, alloc: Global) -> Result<Vec<Wanted>, AllocError> {
+        let mut wanted = Vec::new(alloc);
+        wanted.push(netlist_file(self.command.source.copy(alloc)?))?;
+        wanted.push(netlist_file(self.command.other.copy(alloc)?))?;
+        wanted.push(catal_file(alloc, &self.command.library)?)?;
+        Ok(wanted)
+    }
+
+    fn more(&self, alloc: Global, first: &[FileBytes]) -> Result<Vec<Wanted>, AllocError> {
+        named_files(alloc, &self.command.library, bytes_at(first, 2))
+    }
+
+    fn judge(
+        &self,
+        alloc: Global,
+        first: &[FileBytes],
+        more: &[FileBytes],
+    ) -> Result<Product, Refusal> {
+        compared(alloc, self.command, first, more)
+    }
+}
