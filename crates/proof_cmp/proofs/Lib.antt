@@ -1,0 +1,8 @@
+pub mod Least
+pub mod Ordered
+pub mod Joining
+pub mod Rooting
+pub mod Differing
+pub mod Spreading
+pub mod Alike
+pub mod Comparing
