@@ -2,7 +2,7 @@ pub mod Least
 pub mod Ordered
 pub mod Joining
 pub mod Rooting
-pub mod Differing
+pub mod Descent
 pub mod Spreading
 pub mod Alike
 pub mod Comparing

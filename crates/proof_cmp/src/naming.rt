@@ -82,16 +82,19 @@ fn least_apart<'a>(xs: &[&'a Name], ys: &[&'a Name]) -> Option<&'a Name>
     ensures none { IfNone result (map (λ n. n.now) xs.now ≡ map (λ n. n.now) ys.now) }
     ensures some { IfSome result (λ n. IsLeastApart (map (λ n. n.now) xs.now) (map (λ n. n.now) ys.now) n.now) }
 {
-    let mut same = 0;
-    while same < xs.len() && same < ys.len() && xs[same].is_same(ys[same]) {
-        same += 1;
+    for (k, x) in xs.iter().enumerate() {
+        if k == ys.len() {
+            return Some(*x);
+        }
+        let y = ys[k];
+        if !x.is_same(y) {
+            return Some(lesser(x, y));
+        }
     }
-    match (xs.get(same), ys.get(same)) {
-        (Some(x), Some(y)) => Some(lesser(x, y)),
-        (Some(x), None) => Some(x),
-        (None, Some(y)) => Some(y),
-        (None, None) => None,
+    if xs.len() < ys.len() {
+        return Some(ys[xs.len()]);
     }
+    None
 }
 
 // The lesser one of the name that is lent and the least name that has this role in one of the machines alone. Takes memory for the
