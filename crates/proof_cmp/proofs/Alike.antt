@@ -30,7 +30,8 @@ use Rattle.proof_cmp.specs.Naming.{HaveSameNames}
 use Rattle.proof_cmp.specs.Together.{root_pairs, IsOneFunction}
 use Rattle.proof_cmp.specs.Verdict.{AreEqual, EqualAreAlike}
 use Rattle.proof_cmp.proofs.Least.{Rising, rising, less_not_back}
-use Rattle.proof_cmp.proofs.Joining.{same_clock, same_count}
+use Rattle.proof_cmp.proofs.Roles.{kept_port}
+use Rattle.proof_cmp.proofs.Joining.{same_clock}
 
 -- ---- ports by their names and directions
 
@@ -45,17 +46,6 @@ ins ports = names_of (filter (λ p. is_input p.dir) ports)
 
 abbrev outs_of : List Port → List Name
 outs_of ports = names_of (filter (λ p. not (is_input p.dir)) ports)
-
-kept_in : (t : Port → Bool) (n : Name) (ports : List Port) → In n (names_of (filter t ports)) → In n (names_of ports)
-kept_in t n [] h = elim h [ ]
-kept_in t n (p ∷ ports) h = by (t p) h where
-  first : In n (p.name ∷ names_of (filter t ports)) → In n (p.name ∷ names_of ports)
-  first here = here
-  first (there g) = there (kept_in t n ports g)
-
-  by : (b : Bool) → In n (names_of (if b then p ∷ filter t ports else filter t ports)) → In n (p.name ∷ names_of ports)
-  by true g = first g
-  by false g = there (kept_in t n ports g)
 
 head_same : (x y : Name) (xs ys : List Name) → x ∷ xs ≡ y ∷ ys → (x ≡ y) × (xs ≡ ys)
 head_same x y xs ys e = (cc e, cc e)
@@ -89,11 +79,11 @@ ports_same (p ∷ ps) (q ∷ qs) r s i o = by p.dir q.dir refl refl i o (λ i o.
   by Inward Inward dp dq i o rest = let h = head_same q.name p.name (ins qs) (ins ps) i in both Inward dp dq h.0 (rest h.1 o)
   by Outward Outward dp dq i o rest = let h = head_same q.name p.name (outs_of qs) (outs_of ps) o in both Outward dp dq h.0 (rest i h.1)
   by Inward Outward dp dq i o rest = absurd (crossed
-    (kept_in (λ p. is_input p.dir) p.name qs (subst (λ (l : List Name). In p.name l) (sym i) here))
-    (kept_in (λ p. not (is_input p.dir)) q.name ps (subst (λ (l : List Name). In q.name l) o here)))
+    (kept_port (λ p. is_input p.dir) p.name qs (subst (λ (l : List Name). In p.name l) (sym i) here))
+    (kept_port (λ p. not (is_input p.dir)) q.name ps (subst (λ (l : List Name). In q.name l) o here)))
   by Outward Inward dp dq i o rest = absurd (crossed
-    (kept_in (λ p. not (is_input p.dir)) p.name qs (subst (λ (l : List Name). In p.name l) (sym o) here))
-    (kept_in (λ p. is_input p.dir) q.name ps (subst (λ (l : List Name). In q.name l) i here)))
+    (kept_port (λ p. not (is_input p.dir)) p.name qs (subst (λ (l : List Name). In p.name l) (sym o) here))
+    (kept_port (λ p. is_input p.dir) q.name ps (subst (λ (l : List Name). In q.name l) i here)))
 
 -- ---- the roots by their kinds
 

@@ -58,7 +58,7 @@ module _ (vars v : ℕ) (within : v < vars) (f a b : Truths) (is : f ≡ raised 
 
   -- the function doesn't depend on the variable: another one is its first
   pub other_branch : (variable : ℕ) (low high : Truths) → IsBranch vars f variable low high → (variable ≡ v → ⊥) → (f ≡ raised (v + 1) a) × (f ≡ raised (v + 1) b)
-  other_branch variable low high w apart = by (cases_lt variable v) where
+  other_branch variable low high w apart = by (cases_lt variable v) (cases_lt v variable) where
     early : variable < v → ⊥
     early less = w.depends (
       ap (held variable false) is ∙ held_raised variable v false (halves a b) less
@@ -67,19 +67,22 @@ module _ (vars v : ℕ) (within : v < vars) (f a b : Truths) (is : f ≡ raised 
     late : v < variable → a ≡ b
     late less = same_raised (suc v) a b (sym (ap (held v false) is ∙ held_low v a b) ∙ w.first v less ∙ (ap (held v true) is ∙ held_high v a b))
 
-    by : (variable < v) ⊎ (v ≤ variable) → (f ≡ raised (v + 1) a) × (f ≡ raised (v + 1) b)
-    by (inl less) = absurd (early less)
-    by (inr more) = both_halves (late (omega (arith, more, apart)))
+    by : (variable < v) ⊎ (v ≤ variable) → (v < variable) ⊎ (variable ≤ v) → (f ≡ raised (v + 1) a) × (f ≡ raised (v + 1) b)
+    by (inl less) _ = absurd (early less)
+    by (inr more) (inl less) = both_halves (late less)
+    by (inr more) (inr same) = absurd (apart (omega (arith, more, same)))
 
   -- or it is constant
   pub no_branch : (c : Bool) → f ≡ raised vars (constant c) → (f ≡ raised (v + 1) a) × (f ≡ raised (v + 1) b)
   no_branch c e =
-      let r : ℕ = vars - (v + 1) in
-      let n : vars ≡ v + suc r = omega (arith, within) in
-      let all : raised v (halves a b) ≡ raised v (halves (raised r (constant c)) (raised r (constant c))) =
-      sym is ∙ e ∙ ap (λ (k : ℕ). raised k (constant c)) n ∙ raised_sum v (suc r) (constant c) in
-      let parts = first_half a b (raised r (constant c)) (raised r (constant c)) (same_raised v (halves a b) (halves (raised r (constant c)) (raised r (constant c))) all) in
-      both_halves (parts.0 ∙ sym parts.1)
+      constant_from (vars - (v + 1)) (omega (arith, within))
+    where
+      constant_from : (r : ℕ) → vars ≡ v + suc r → (f ≡ raised (v + 1) a) × (f ≡ raised (v + 1) b)
+      constant_from r n =
+          let all : raised v (halves a b) ≡ raised v (halves (raised r (constant c)) (raised r (constant c))) =
+          sym is ∙ e ∙ ap (λ (k : ℕ). raised k (constant c)) n ∙ raised_sum v (suc r) (constant c) in
+          let parts = first_half a b (raised r (constant c)) (raised r (constant c)) (same_raised v (halves a b) (halves (raised r (constant c)) (raised r (constant c))) all) in
+          both_halves (parts.0 ∙ sym parts.1)
 
 -- ---- the way down
 
@@ -151,13 +154,13 @@ module _ (d : Diagram) (first second root other : NodeId) (v : ℕ) (bits : List
     where
       apart : function_of d high ≡ function_of d high2 → ⊥
       apart e =
-          let here = in_halves d v bits g (function_of d root) less (w.root_is g cg) in
-          let there = in_halves d v bits h (function_of d other) less (w.other_is h ch) in
-          let p = parts (a g false) (a g true) here in
-          let q = parts2 (a h false) (a h true) there in
+          let one = in_halves d v bits g (function_of d root) less (w.root_is g cg) in
+          let two = in_halves d v bits h (function_of d other) less (w.other_is h ch) in
+          let p = parts (a g false) (a g true) one in
+          let q = parts2 (a h false) (a h true) two in
           let lows = same_raised (v + 1) (a g false) (a h false) (sym p.0 ∙ same ∙ q.0) in
           let highs = same_raised (v + 1) (a g true) (a h true) (sym p.1 ∙ e ∙ q.1) in
-          w.apart (here ∙ (λ j. raised v (halves (lows j) (highs j))) ∙ sym there)
+          w.apart (one ∙ (λ j. raised v (halves (lows j) (highs j))) ∙ sym two)
 
   pub step : (is_high : Bool) (root' other' : NodeId) → (IsTrue is_high ↔ (function_of d low ≡ function_of d low2)) → root' ≡ (if is_high then high else low)
       → other' ≡ (if is_high then high2 else low2) → AreApart d first second root' other' (v + 1) (bits ++ is_high ∷ [])

@@ -18,7 +18,7 @@ use Rattle.proof_cmp.specs.Apart.{lesser_of, IsLeastApart, IsLeastAmong, IsLeast
 -- ---- the order of names
 
 less_not_back : (x y : Name) → name_cmp x y ≡ Less → name_cmp y x ≡ Less → ⊥
-less_not_back x y p q = let a = name_total.antisymm x y in absurd (cc (a, p, q))
+less_not_back x y p q = let e : Less ≡ Greater = sym p ∙ name_total.antisymm x y ∙ ap ordering_reverse q in absurd (cc e)
 
 pub less_not_itself : (x : Name) → name_cmp x x ≡ Less → ⊥
 less_not_itself x p = less_not_back x x p p
@@ -43,6 +43,17 @@ rising (x ∷ xs) o = (
   rising xs (λ i j d less w. o (suc i) (suc j) d (omega (arith, less)) (omega (arith, w))),
 )
 
+pub in_order : (xs : List Name) → Rising xs → AreInOrder xs
+in_order [] r i j d less inside = absurd (omega arith)
+in_order (x ∷ xs) r zero zero d less inside = absurd (omega arith)
+in_order (x ∷ xs) r zero (suc j) d less inside = r.0 (slice_index_or xs j d) (at xs j (omega arith)) where
+  at : (xs : List Name) (j : ℕ) → j < length xs → In (slice_index_or xs j d) xs
+  at [] j h = absurd (omega arith)
+  at (y ∷ xs) zero h = here
+  at (y ∷ xs) (suc j) h = there (at xs j (omega arith))
+in_order (x ∷ xs) r (suc i) zero d less inside = absurd (omega arith)
+in_order (x ∷ xs) r (suc i) (suc j) d less inside = in_order xs r.1 i j d (omega (arith, less)) (omega (arith, inside))
+
 -- ---- lists
 
 swap : (xs ys : List Name) (n : Name) → IsApart xs ys n → IsApart ys xs n
@@ -66,11 +77,11 @@ from_first x other xs r here less = less_not_itself x less
 from_first x other xs r (there h) less = less_not_back x other (r.0 other h) less
 
 first_apart : (x y : Name) (xs ys : List Name) → Rising (x ∷ xs) → Rising (y ∷ ys) → name_cmp x y ≡ Less → IsLeastApart (x ∷ xs) (y ∷ ys) x
-first_apart x y xs ys r s less = record { apart = inl (here, no); least = least }
+first_apart x y xs ys r s less = record { apart = inl (here, fresh); least = least }
   where
-    no : In x (y ∷ ys) → ⊥
-    no here = less_not_itself x less
-    no (there h) = less_not_back x y less (s.0 x h)
+    fresh : In x (y ∷ ys) → ⊥
+    fresh here = less_not_itself x less
+    fresh (there h) = less_not_back x y less (s.0 x h)
 
     above : (other : Name) → In other (y ∷ ys) → name_cmp other x ≡ Less → ⊥
     above other here q = less_not_back x other less q

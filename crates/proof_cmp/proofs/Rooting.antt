@@ -205,13 +205,13 @@ module _ (n budget : ℕ) (d0 d1 d2 : Diagram) (zero : NodeId) (vars : d0.table.
 -- ---- one root
 
 -- what the root asks for behind its equations
-pub root_answer_of : (d0 d1 d2 : Diagram) (met : List Bool) (b0 b bs : List NodeId) (es : List Equation) (e : Expression) (r : Result NodeId BddError) → d0.refused ≡ None
-    → HaveAsked {A = Unit {0}} d0 d1 (asked_by d0.table.vars met (functions_of d0 b0) es) (Ok tt) → functions_of d1 b ≡ bound_lists d0.table.vars met (functions_of d0 b0) es
+pub root_answer_of : {A : Type 0} (d0 d1 d2 : Diagram) (met : List Bool) (b0 b bs : List NodeId) (es : List Equation) (e : Expression) (r : Result NodeId BddError) (o : A) → d0.refused ≡ None
+    → HaveAsked {A = A} d0 d1 (asked_by d0.table.vars met (functions_of d0 b0) es) (Ok o) → functions_of d1 b ≡ bound_lists d0.table.vars met (functions_of d0 b0) es
     → bs ≡ b → IsAnswerOf d1 d2 bs e r
     → IsAnswer d0 d2 (root_lists d0.table.vars met (functions_of d0 b0) es e) (root_list d0.table.vars met (functions_of d0 b0) es e) r
-root_answer_of d0 d1 d2 met b0 b bs es e r live h functions same a =
+root_answer_of d0 d1 d2 met b0 b bs es e r o live h functions same a =
     root_answer d0 d1 d2 (asked_by d0.table.vars met (functions_of d0 b0) es) d0.table.vars e b bs (bound_lists d0.table.vars met (functions_of d0 b0) es) r
-    (so_far d0 d1 (asked_by d0.table.vars met (functions_of d0 b0) es) tt live h) h.vars same functions a
+    (so_far d0 d1 (asked_by d0.table.vars met (functions_of d0 b0) es) o live h) h.vars same functions a
 
 -- an equation is refused
 pub equation_refused : {A B : Type 0} (d0 d1 : Diagram) (met : List Bool) (lists : List Truths) (es : List Equation) (e : Expression) (x : BddError)

@@ -198,3 +198,83 @@ given_different m checked ports =
       by : (b : Bool) → is_clock m.clock n ≡ b → ⊥
       by true e = (checked.clock n (clock_is m.clock n e)).apart (inside n i)
       by false e = left_apart (inputs m) (register_names m) n held (kept_name (λ name. not (is_clock m.clock name)) n (input_ports m) h (ap not e)) i
+
+-- ---- the bits that are given, one input port after another
+
+bit_drop : (w : List Bool) (k : ℕ) → bit (drop k w) 0 ≡ bit w k
+bit_drop [] zero = refl
+bit_drop [] (suc k) = refl
+bit_drop (x ∷ w) zero = refl
+bit_drop (x ∷ w) (suc k) = bit_drop w k
+
+drop_one : (w : List Bool) (k : ℕ) → drop 1 (drop k w) ≡ drop (k + 1) w
+drop_one [] zero = refl
+drop_one [] (suc k) = refl
+drop_one (x ∷ w) zero = refl
+drop_one (x ∷ w) (suc k) = drop_one w k
+
+-- the first i names have their bits, of which these many were taken
+pub record IsGiving (c : Option Name) (names : List Name) (held given : List Bool) (i taken : ℕ) : Type 0 where
+  pub goes : given ++ with_clock c (drop i names) (drop taken held) ≡ with_clock c names held
+  pub left : taken + length (but_clock c (drop i names)) ≡ length (but_clock c names)
+
+pub none_given : (c : Option Name) (names : List Name) (held given : List Bool) → given ≡ [] → IsGiving c names held given 0 0
+none_given c names held given e = record { goes = ap (λ (l : List Bool). l ++ with_clock c names held) e; left = omega arith }
+
+module _ (c : Option Name) (names : List Name) (held old new : List Bool) (i taken : ℕ) (x : Name) (within : i < length names) (is : x ≡ slice_index_or names i x)
+    (w : IsGiving c names held old i taken) where
+  row : drop i names ≡ x ∷ drop (i + 1) names
+  row = drop-cons names i x within ∙ ap (λ (y : Name). y ∷ drop (suc i) names) (sym is) ∙ ap (λ (j : ℕ). x ∷ drop j names) (sym (add-one i))
+
+  pub gives_clock : is_clock c x ≡ true → new ≡ old ++ false ∷ [] → IsGiving c names held new (i + 1) taken
+  gives_clock on push = record {
+    goes = ap (λ (l : List Bool). l ++ with_clock c (drop (i + 1) names) (drop taken held)) push
+        ∙ append_assoc old (false ∷ []) (with_clock c (drop (i + 1) names) (drop taken held))
+        ∙ ap (λ (l : List Bool). old ++ l) (sym (ap (λ (ns : List Name). with_clock c ns (drop taken held)) row
+        ∙ ap (λ (b : Bool). if b then false ∷ with_clock c (drop (i + 1) names) (drop taken held) else bit (drop taken held) 0 ∷ with_clock c (drop (i + 1) names) (drop 1 (drop taken held))) on))
+        ∙ w.goes;
+    left = ap (λ (n : ℕ). taken + n) (sym (ap (λ (ns : List Name). length (but_clock c ns)) row
+        ∙ ap (λ (b : Bool). length (if not b then x ∷ but_clock c (drop (i + 1) names) else but_clock c (drop (i + 1) names))) on)) ∙ w.left;
+  }
+
+  rest_is : is_clock c x ≡ false → length (but_clock c (drop i names)) ≡ suc (length (but_clock c (drop (i + 1) names)))
+  rest_is off =
+      ap (λ (ns : List Name). length (but_clock c ns)) row
+      ∙ ap (λ (b : Bool). length (if not b then x ∷ but_clock c (drop (i + 1) names) else but_clock c (drop (i + 1) names))) off
+
+  pub gives_bit : is_clock c x ≡ false → new ≡ old ++ bit held taken ∷ [] → IsGiving c names held new (i + 1) (taken + 1)
+  gives_bit off push = record {
+    goes = ap (λ (l : List Bool). l ++ with_clock c (drop (i + 1) names) (drop (taken + 1) held)) push
+        ∙ append_assoc old (bit held taken ∷ []) (with_clock c (drop (i + 1) names) (drop (taken + 1) held))
+        ∙ ap (λ (l : List Bool). old ++ l) (sym (ap (λ (ns : List Name). with_clock c ns (drop taken held)) row
+        ∙ ap (λ (b : Bool). if b then false ∷ with_clock c (drop (i + 1) names) (drop taken held) else bit (drop taken held) 0 ∷ with_clock c (drop (i + 1) names) (drop 1 (drop taken held))) off
+        ∙ (λ j. bit_drop held taken j ∷ with_clock c (drop (i + 1) names) (drop_one held taken j))))
+        ∙ w.goes;
+    left = (let r = rest_is off in let l = w.left in omega (arith, r, l));
+  }
+
+  -- there is a bit to take
+  pub has_bit : is_clock c x ≡ false → (n : ℕ) → length held ≡ length (but_clock c names) + n → taken < length held
+  has_bit off n long = let r = rest_is off in let l = w.left in omega (arith, r, l, long)
+
+pub all_given : (c : Option Name) (names : List Name) (held given : List Bool) (i taken : ℕ) → drop i names ≡ [] → IsGiving c names held given i taken
+    → given ++ drop taken held ≡ with_clock c names held
+all_given c names held given i taken end w = ap (λ (ns : List Name). given ++ with_clock c ns (drop taken held)) (sym end) ∙ w.goes
+
+pub taken_within : (c : Option Name) (names : List Name) (held given : List Bool) (i taken : ℕ) → IsGiving c names held given i taken → (n : ℕ)
+    → length held ≡ length (but_clock c names) + n → taken ≤ length held
+taken_within c names held given i taken w n long = let l = w.left in omega (arith, l, long)
+
+-- what a machine's inputs and registers are given
+module _ (m : Machine) (checked : IsChecked m) (ports : AreInOrder (input_ports m)) (held given : List Bool) (long : length held ≡ held_count m)
+    (is : given ≡ with_clock m.clock (input_ports m) held) where
+  count : length held ≡ length (but_clock m.clock (input_ports m)) + length (register_names m)
+  count = long ∙ length-append (inputs m) (register_names m)
+
+  pub given_long : length given ≡ length (given_names m)
+  given_long = ap length is ∙ length-with_clock m.clock (input_ports m) held (length (register_names m)) count ∙ sym (length-append (input_ports m) (register_names m))
+
+  pub given_values : values_at (given_names m) given (held_names m) ≡ held
+  given_values =
+      ap (λ (l : List Bool). values_at (given_names m) l (held_names m)) is
+      ∙ values_with_clock m.clock (input_ports m) (register_names m) held (given_different m checked ports) count

@@ -34,7 +34,8 @@ fn halves_at(diagrams: &Diagrams, node: NodeId, variable: u32) -> Halves
     ensures low { IsNode diagrams.now result.low }
     ensures high { IsNode diagrams.now result.high }
     ensures halves { (low high : Truths) → function_of diagrams.now node ≡ raised variable (halves low high)
-        → (function_of diagrams.now result.low ≡ raised (variable + 1) low) × (function_of diagrams.now result.high ≡ raised (variable + 1) high) }
+        → (function_of diagrams.now result.low ≡ raised (variable + 1) low)
+        × (function_of diagrams.now result.high ≡ raised (variable + 1) high) }
 {
     match diagrams.branch(node) {
         Some(branch) if branch.variable == variable => Halves {

@@ -1,7 +1,8 @@
 // Two roots in one diagram.
 //
 // Neither expansion is made: each equation that a root's walk meets is asked for once.
-ghost use Rattle.std.specs.Prelude.{◌≡◌, ℕ, ◌<◌, ◌+◌, ◌^◌, ◌++◌, ◌∷◌, [], true, false, map, length, replicate, None, Ok, IfOk, IfErr, OnOk, filter, not};
+ghost use Rattle.std.specs.Prelude.{◌≡◌, ℕ, ◌<◌, ◌+◌, ◌^◌, ◌++◌, ◌∷◌, [], true, false, not, map, filter, length, replicate, None, Ok};
+ghost use Rattle.std.specs.Prelude.{IfOk, IfErr, OnOk};
 ghost use Rattle.std.specs.List.{All};
 ghost use Rattle.bool_expr.specs.Expression.{bit, IsOver as IsWithin};
 ghost use Rattle.bool_expr.specs.View.{view};
@@ -15,8 +16,7 @@ ghost use Rattle.machine_roots.specs.Asked.{HaveAsked};
 ghost use Rattle.machine_roots.specs.Binding.{AreNodes, variable_lists, put_variables, bound_lists, asked_by};
 ghost use Rattle.machine_roots.specs.Expansion.{held_count};
 ghost use Rattle.proof_cmp.specs.Naming.{HaveSameNames};
-ghost use Rattle.proof_cmp.specs.Together.{joint_order, joint_lists};
-ghost use Rattle.proof_cmp.specs.Joint.{shared_lists, AreShared, root_list, root_lists, IsWalked, IsConeOf, IsWalkedCone, IsJointDiagram};
+ghost use Rattle.proof_cmp.specs.Joint.{shared_lists, AreShared, IsCone, IsWalked, cone_list, cone_lists, AreJoined, cones_order, AreOver};
 
 use bdd_core::{BddError, Diagrams, NodeId};
 use bool_expr::Expr;
@@ -202,11 +202,11 @@ fn root_node(
     requires marks { length met.now ≡ length bound.items + length cone.machine.now.equations }
     requires below { EachReadsBelow (length bound.items) cone.machine.now.equations }
     requires over { IsWithin (view cone.root.now) (length bound.items + length cone.machine.now.equations) }
-    ensures asked { HaveAsked diagrams.old diagrams.new (root_lists diagrams.old.table.vars met.now
-        (functions_of diagrams.old bound.items) cone.machine.now.equations (view cone.root.now)) result }
-    ensures node { IfOk result (λ a. IsAsked diagrams.old diagrams.new (root_lists diagrams.old.table.vars met.now
-        (functions_of diagrams.old bound.items) cone.machine.now.equations (view cone.root.now)) (root_list diagrams.old.table.vars met.now
-        (functions_of diagrams.old bound.items) cone.machine.now.equations (view cone.root.now)) a) }
+    ensures asked { HaveAsked diagrams.old diagrams.new
+        (cone_lists diagrams.old.table.vars met.now (functions_of diagrams.old bound.items) cone.entry) result }
+    ensures node { IfOk result (λ a. IsAsked diagrams.old diagrams.new
+        (cone_lists diagrams.old.table.vars met.now (functions_of diagrams.old bound.items) cone.entry)
+        (cone_list diagrams.old.table.vars met.now (functions_of diagrams.old bound.items) cone.entry) a) }
 {
     let mut bound = bound;
     let equations = cone.machine.equations().as_slice();
@@ -216,9 +216,9 @@ fn root_node(
 
 // Walks through a root's expansion.
 fn walked<'a>(alloc: Global, cone: Cone<'a>) -> Result<WalkedCone<'a>, BddError>
-    requires { IsConeOf cone.entry.machine.now (view cone.entry.root.now) }
+    requires { IsCone cone }
     ensures cone { IfOk result (λ w. w.cone ≡ cone.entry) }
-    ensures names { IfOk result (λ w. IsWalked cone.entry.machine.now (view cone.entry.root.now) w.names) }
+    ensures names { IfOk result (λ w. IsWalked w.cone w.names) }
     ensures kind { IfErr result (λ e. e ≡ BddError.Memory) }
 {
     match walk(alloc, cone.machine, cone.root) {
@@ -257,20 +257,15 @@ fn both_roots(
     second: &WalkedCone,
 ) -> Result<JointDiagram, BddError>
     requires names { HaveSameNames first.now.cone.machine.now second.now.cone.machine.now }
-    requires first { IsWalkedCone first.now }
-    requires second { IsWalkedCone second.now }
-    requires order { order.items ≡ joint_order first.now.cone.machine.now second.now.cone.machine.now
-        (view first.now.cone.root.now) (view second.now.cone.root.now) }
+    requires first { IsWalked first.now.cone first.now.names }
+    requires second { IsWalked second.now.cone second.now.names }
+    requires order { order.items ≡ cones_order first.now.cone second.now.cone }
     requires shared { (budget : ℕ) × AreShared order.items (held_count first.now.cone.machine.now) budget shared }
-    ensures diagram { IfOk result (λ d. IsJointDiagram first.now.cone.machine.now second.now.cone.machine.now
-        (view first.now.cone.root.now) (view second.now.cone.root.now) d) }
+    ensures diagram { IfOk result (λ d. AreJoined first.now.cone second.now.cone d) }
     ensures within { IfOk result (λ _. (budget : ℕ) → AreShared order.items (held_count first.now.cone.machine.now) budget shared
-        → IsOver (joint_lists first.now.cone.machine.now second.now.cone.machine.now
-        (view first.now.cone.root.now) (view second.now.cone.root.now)) budget → ⊥) }
+        → AreOver first.now.cone second.now.cone budget → ⊥) }
     ensures over { IfErr result (λ r. r ≡ BddError.Budget → (budget : ℕ)
-        → AreShared order.items (held_count first.now.cone.machine.now) budget shared
-        → IsOver (joint_lists first.now.cone.machine.now second.now.cone.machine.now
-        (view first.now.cone.root.now) (view second.now.cone.root.now)) budget) }
+        → AreShared order.items (held_count first.now.cone.machine.now) budget shared → AreOver first.now.cone second.now.cone budget) }
 {
     let SharedDiagrams {
         diagrams,
@@ -299,13 +294,11 @@ pub(crate) fn joint_diagram(
     budget: u32,
 ) -> Result<JointDiagram, BddError>
     requires names { HaveSameNames first.machine.now second.machine.now }
-    requires first { IsConeOf first.machine.now (view first.root.now) }
-    requires second { IsConeOf second.machine.now (view second.root.now) }
-    ensures diagram { IfOk result (λ d. IsJointDiagram first.machine.now second.machine.now (view first.root.now) (view second.root.now) d) }
-    ensures within { IfOk result (λ _. IsOver (joint_lists first.machine.now second.machine.now (view first.root.now) (view second.root.now)) budget
-        → ⊥) }
-    ensures over { IfErr result (λ r. r ≡ BddError.Budget
-        → IsOver (joint_lists first.machine.now second.machine.now (view first.root.now) (view second.root.now)) budget) }
+    requires first { IsCone first }
+    requires second { IsCone second }
+    ensures diagram { IfOk result (λ d. AreJoined first.entry second.entry d) }
+    ensures within { IfOk result (λ _. AreOver first.entry second.entry budget → ⊥) }
+    ensures over { IfErr result (λ r. r ≡ BddError.Budget → AreOver first.entry second.entry budget) }
 {
     let root = walked(alloc, first)?;
     let other = walked(alloc, second)?;

@@ -1,17 +1,14 @@
 // The comparison of two machines.
 ghost use Rattle.std.specs.Prelude.{◌≡◌, ◌<◌, ◌^◌, ◌++◌, ◌∷◌, [], length, IfOk, IfErr, IfSome, IfNone, List, Bool};
 ghost use Rattle.bool_expr.specs.Expression.{Expression, val};
-ghost use Rattle.bool_expr.specs.View.{view};
 ghost use Rattle.machine_meaning.specs.Machine.{Machine as MachineValue};
 ghost use Rattle.machine_roots.specs.Expansion.{expansion};
 ghost use Rattle.machine_roots.specs.Roots.{Root};
-ghost use Rattle.machine_roots.specs.Listing.{root_view};
 ghost use Rattle.proof_cmp.specs.Naming.{HaveSameNames};
-ghost use Rattle.bdd_core.specs.Truths.{IsOver};
-ghost use Rattle.proof_cmp.specs.Joint.{IsJointDiagram, IsConeOf, AreTwoRoots};
-ghost use Rattle.proof_cmp.specs.Together.{root_pairs, joint_lists};
+ghost use Rattle.proof_cmp.specs.Joint.{JoinsRoots};
+ghost use Rattle.proof_cmp.specs.Together.{root_pairs, IsOverTogether};
 ghost use Rattle.proof_cmp.specs.Verdict.{AreComparable, IsVerdict, IsRefusal};
-ghost use Rattle.proof_cmp.specs.Comparing.{IsOverPair, DifferOn, IsFound};
+ghost use Rattle.proof_cmp.specs.Comparing.{pair_of, HaveDiagram, IsRootOf, IsOverPair, DifferOn, IsFound};
 
 use crate::differing::{differing_bits, given_bits, spread_bits};
 use crate::joint::{Cone, JointDiagram, joint_diagram};
@@ -46,12 +43,13 @@ fn diagram_of(
     budget: u32,
 ) -> Result<JointDiagram, ProveError>
     requires names { HaveSameNames machines.first.now machines.second.now }
-    requires first { IsConeOf machines.first.now (view first.expr.now) }
-    requires second { IsConeOf machines.second.now (view second.expr.now) }
-    ensures diagram { IfOk result (λ d. IsJointDiagram machines.first.now machines.second.now (view first.expr.now) (view second.expr.now) d) }
-    ensures within { IfOk result (λ _. IsOver (joint_lists machines.first.now machines.second.now (view first.expr.now) (view second.expr.now)) budget
-        → ⊥) }
-    ensures over { IfErr result (λ e. IsOverPair machines.first.now machines.second.now budget (root_view first, root_view second) e) }
+    requires first { IsRootOf machines.first.now first }
+    requires second { IsRootOf machines.second.now second }
+    ensures diagram { IfOk result (λ d. HaveDiagram machines.entry first.entry second.entry d) }
+    ensures within { IfOk result (λ _. IsOverTogether machines.entry.first.now machines.entry.second.now budget
+        (pair_of first.entry second.entry) → ⊥) }
+    ensures over { IfErr result (λ e. IsOverPair machines.entry.first.now machines.entry.second.now budget
+        (pair_of first.entry second.entry) e) }
 {
     let root = Cone {
         machine: machines.first,
@@ -75,11 +73,11 @@ fn difference_in(
     joint: &JointDiagram,
 ) -> Result<Option<Vec<bool>>, AllocError>
     requires few { length m.now.vars < 2 ^ 32 }
-    requires joint { (b : MachineValue) × (x : Expression) × (y : Expression) × AreTwoRoots m.now b x y × IsJointDiagram m.now b x y joint.now }
-    ensures none { IfOk result (λ o. IfNone o ((b : MachineValue) (x y : Expression) → AreTwoRoots m.now b x y
-        → IsJointDiagram m.now b x y joint.now → (w : List Bool) → val (expansion m.now x) w ≡ val (expansion b y) w)) }
-    ensures some { IfOk result (λ o. IfSome o (λ bits. (b : MachineValue) (x y : Expression) → AreTwoRoots m.now b x y
-        → IsJointDiagram m.now b x y joint.now → DifferOn m.now b x y bits.items)) }
+    requires joint { (b : MachineValue) × (x : Expression) × (y : Expression) × JoinsRoots m.now b x y joint.now }
+    ensures none { IfOk result (λ o. IfNone o ((b : MachineValue) (x y : Expression) → JoinsRoots m.now b x y joint.now
+        → (w : List Bool) → val (expansion m.now x) w ≡ val (expansion b y) w)) }
+    ensures some { IfOk result (λ o. IfSome o (λ bits. (b : MachineValue) (x y : Expression) → JoinsRoots m.now b x y joint.now
+        → DifferOn m.now b x y bits.items)) }
 {
     if joint.diagrams.same(joint.first, joint.second) {
         return Ok(None);
@@ -101,10 +99,9 @@ fn found_with<'a>(
     joint: &JointDiagram,
 ) -> Result<Option<Difference<'a>>, AllocError>
     requires few { length m.now.vars < 2 ^ 32 }
-    requires joint { (b : MachineValue) × (x : Expression) × (y : Expression) × AreTwoRoots m.now b x y × IsJointDiagram m.now b x y joint.now }
+    requires joint { (b : MachineValue) × (x : Expression) × (y : Expression) × JoinsRoots m.now b x y joint.now }
     ensures { IfOk result (λ o. (b : MachineValue) (pairs : List (Root × Root)) (p : Root × Root) → p.0.name ≡ name.entry.now
-        → AreTwoRoots m.now b p.0.expr p.1.expr → IsJointDiagram m.now b p.0.expr p.1.expr joint.now
-        → IsFound m.now b pairs found → IsFound m.now b (pairs ++ p ∷ []) o) }
+        → JoinsRoots m.now b p.0.expr p.1.expr joint.now → IsFound m.now b pairs found.entry → IsFound m.now b (pairs ++ p ∷ []) o) }
 {
     if found.is_some() {
         return Ok(found);
@@ -121,14 +118,17 @@ fn compare<'a>(
     machines: Machines<'a>,
     budget: u32,
 ) -> Result<Option<Difference<'a>>, ProveError>
-    requires names { HaveSameNames machines.entry.first.now machines.entry.second.now }
-    requires first { length machines.entry.first.now.vars < 2 ^ 32 }
-    requires second { length machines.entry.second.now.vars < 2 ^ 32 }
+    requires names { HaveSameNames machines.first.now machines.second.now }
+    requires first { length machines.first.now.vars < 2 ^ 32 }
+    requires second { length machines.second.now.vars < 2 ^ 32 }
     ensures within { IfOk result (λ _. AreComparable machines.entry.first.now machines.entry.second.now budget) }
     ensures found { IfOk result (λ o. IsFound machines.entry.first.now machines.entry.second.now
         (root_pairs machines.entry.first.now machines.entry.second.now) o) }
     ensures refusal { IfErr result (λ e. IsRefusal machines.entry.first.now machines.entry.second.now budget e) }
 {
+    // Machines are checked.
+    let _ = machines.first.name();
+    let _ = machines.second.name();
     let firsts = roots(alloc, machines.first)?;
     let seconds = roots(alloc, machines.second)?;
     let mut found = None;
