@@ -1,0 +1,80 @@
+-- The names that have a role, one after another.
+use Rattle.std.proofs.Common.{◌≡◌, ℕ, zero, suc, ◌+◌, ◌<◌, Bool, true, false, not, List, [], ◌∷◌, ◌++◌, length, map, filter, drop, Option, None, Some, option_to_list, refl, sym, arith, ap, ◌∙◌, append_assoc, add-one, drop-cons, if◌then◌else◌}
+use Rattle.std.specs.List.{slice_index_or}
+use Rattle.vlsi_base.specs.declared.name.Name.{Name}
+use Rattle.vlsi_base.specs.declared.name.Port.{Port}
+use Rattle.vlsi_base.specs.Member.{In, here, there}
+use Rattle.machine_meaning.specs.declared.equation.Register.{Register as RegisterParts}
+use Rattle.machine_meaning.specs.Machine.{Machine, Register, names_of, is_input}
+use Rattle.machine_core.specs.View.{register_view}
+use Rattle.machine_core.specs.Checked.{IsChecked, AreInOrder}
+use Rattle.proof_cmp.specs.declared.naming.Role.{Role}
+use Rattle.proof_cmp.specs.declared.naming.Role.TheVariants.{Input, Output, Clock, Register as Stored}
+use Rattle.proof_cmp.specs.Naming.{names_with}
+use Rattle.proof_cmp.proofs.Least.{Rising, rising, in_order}
+
+now_push : (old : List (Bor Name)) (q : Bor Name) → map (λ (n : Bor Name). n.now) (old ++ q ∷ []) ≡ map (λ (n : Bor Name). n.now) old ++ q.now ∷ []
+now_push [] q = refl
+now_push (n ∷ old) q = ap (λ (l : List Name). n.now ∷ l) (now_push old q)
+
+-- one more name behind those that are there
+pub one_more : (old new : List (Bor Name)) (q : Bor Name) (n : Name) (rest more total : List Name) → new ≡ old ++ q ∷ [] → q.now ≡ n → more ≡ n ∷ rest
+    → map (λ (n : Bor Name). n.now) old ++ more ≡ total → map (λ (n : Bor Name). n.now) new ++ rest ≡ total
+one_more old new q n rest more total push named is so_far =
+    ap (λ (l : List (Bor Name)). map (λ (n : Bor Name). n.now) l ++ rest) push
+    ∙ ap (λ (l : List Name). l ++ rest) (now_push old q)
+    ∙ append_assoc (map (λ (n : Bor Name). n.now) old) (q.now ∷ []) rest
+    ∙ ap (λ (x : Name). map (λ (n : Bor Name). n.now) old ++ x ∷ rest) named
+    ∙ ap (λ (l : List Name). map (λ (n : Bor Name). n.now) old ++ l) (sym is) ∙ so_far
+
+module _ (t : Port → Bool) (ports : List Port) (i : ℕ) (p : Port) (within : i < length ports) (is : p ≡ slice_index_or ports i p) where
+  row : drop i ports ≡ p ∷ drop (i + 1) ports
+  row = drop-cons ports i p within ∙ ap (λ (x : Port). x ∷ drop (suc i) ports) (sym is) ∙ ap (λ (j : ℕ). p ∷ drop j ports) (sym (add-one i))
+
+  both : (b : Bool) → t p ≡ b → names_of (filter t (drop i ports)) ≡ names_of (if b then p ∷ filter t (drop (i + 1) ports) else filter t (drop (i + 1) ports))
+  both b e = ap (λ (l : List Port). names_of (filter t l)) row ∙ ap (λ (c : Bool). names_of (if c then p ∷ filter t (drop (i + 1) ports) else filter t (drop (i + 1) ports))) e
+
+  pub port_taken : t p ≡ true → names_of (filter t (drop i ports)) ≡ p.name ∷ names_of (filter t (drop (i + 1) ports))
+  port_taken e = both true e
+
+  pub port_passed : t p ≡ false → names_of (filter t (drop i ports)) ≡ names_of (filter t (drop (i + 1) ports))
+  port_passed e = both false e
+
+pub register_row : (registers : List RegisterParts) (i : ℕ) (r : RegisterParts) → i < length registers → r ≡ slice_index_or registers i r
+    → map (λ (r : RegisterParts). r.name) (drop i registers) ≡ r.name ∷ map (λ (r : RegisterParts). r.name) (drop (i + 1) registers)
+register_row registers i r within is =
+    ap (map (λ (r : RegisterParts). r.name))
+    (drop-cons registers i r within ∙ ap (λ (x : RegisterParts). x ∷ drop (suc i) registers) (sym is) ∙ ap (λ (j : ℕ). r ∷ drop j registers) (sym (add-one i)))
+
+pub registers_again : (registers : List RegisterParts) → map (λ (r : Register). r.name) (map register_view registers) ≡ map (λ (r : RegisterParts). r.name) registers
+registers_again [] = refl
+registers_again (r ∷ registers) = ap (λ (l : List Name). r.name ∷ l) (registers_again registers)
+
+-- ---- each role's names stand in order
+
+pub kept_port : (t : Port → Bool) (n : Name) (ports : List Port) → In n (names_of (filter t ports)) → In n (names_of ports)
+kept_port t n [] h = elim h [ ]
+kept_port t n (p ∷ ports) h = by (t p) h where
+  first : In n (p.name ∷ names_of (filter t ports)) → In n (p.name ∷ names_of ports)
+  first here = here
+  first (there g) = there (kept_port t n ports g)
+
+  by : (b : Bool) → In n (names_of (if b then p ∷ filter t ports else filter t ports)) → In n (p.name ∷ names_of ports)
+  by true g = first g
+  by false g = there (kept_port t n ports g)
+
+kept_rising : (t : Port → Bool) (ports : List Port) → Rising (names_of ports) → Rising (names_of (filter t ports))
+kept_rising t [] r = tt
+kept_rising t (p ∷ ports) r = by (t p) (kept_rising t ports r.1) where
+  by : (b : Bool) → Rising (names_of (filter t ports)) → Rising (names_of (if b then p ∷ filter t ports else filter t ports))
+  by true rest = (λ y h. r.0 y (kept_port t y ports h), rest)
+  by false rest = rest
+
+pub role_ordered : (m : Machine) → IsChecked m → (role : Role) → AreInOrder (names_with m role)
+role_ordered m checked Input = in_order (names_with m Input) (kept_rising (λ p. is_input p.dir) m.ports (rising (names_of m.ports) checked.ports))
+role_ordered m checked Output = in_order (names_with m Output) (kept_rising (λ p. not (is_input p.dir)) m.ports (rising (names_of m.ports) checked.ports))
+role_ordered m checked Clock = by m.clock where
+  by : (c : Option Name) → AreInOrder (option_to_list c)
+  by None i j d less inside = absurd (omega arith)
+  by (Some c) i j d less inside = absurd (omega (arith, less, inside))
+role_ordered m checked Stored = checked.registers

@@ -1,0 +1,120 @@
+// `proof` as a tool: what it reads, and what it answers.
+ghost use Rattle.std.specs.Prelude.{◌≡◌, ◌<◌, ◌^◌, IfOk, IfErr, length};
+ghost use Rattle.vbe_io.specs.Text.{IsVbe, IsVbeRefusal};
+ghost use Rattle.tool_drive.specs.Refusals.{MemoryOr, OfFile};
+ghost use Rattle.tool_drive.specs.Table.{IsJudged};
+ghost use Rattle.proof_run.specs.Proof.{Compares, IsFinding, AreSameFunctions, IsSaidEqual};
+
+use crate::laws::source_has_few_vars;
+use machine_core::Machine;
+use proof_cmp::{ProofVerdict, ProveError, prove};
+use std::alloc::{AllocError, Global};
+use tool_drive::{Product, Refusal, Status, Tool, Verdict, Wanted, bytes_at, refused};
+use tool_words::ProofCommand;
+use vbe_io::read_vbe;
+use vlsi_base::{FileBytes, FileName};
+
+/// `proof`, with what it is asked: it compares the machines of SOURCE and of a second source, and prints `equal`.
+///
+/// It is refused, in this order: by `Source`, or a limit of the text, of SOURCE and then of the second source; by `Names`, where the
+/// machines differ by a name; by `Budget`, at the first roots whose diagram has more nodes than asked for; by `Unequal`, at the first
+/// roots that are different functions. Memory goes by the two files, the two machines and one diagram.
+#[derive(Drop)]
+pub struct Proof<'a> {
+    pub command: &'a ProofCommand,
+}
+
+// The machine of a source, or the status that tells why there is none.
+fn machine_in(alloc: Global, file: &FileName, source: &[u8]) -> Result<Machine, Status>
+    ensures machine { IfOk result (λ m. IsVbe source.now m) }
+    ensures refused { IfErr result (λ s. MemoryOr s (OfFile file.now (IsVbeRefusal source.now) s)) }
+{
+    match read_vbe(alloc, source) {
+        Ok(machine) => Ok(machine),
+        Err(error) => Err(refused(alloc, file, error)),
+    }
+}
+
+// Nothing where the machines are equal; or the status that tells how they differ, or why it isn't known.
+fn equal_within(alloc: Global, a: &Machine, b: &Machine, budget: u32) -> Result<(), Status>
+    requires first { length a.now.vars < 2 ^ 32 }
+    requires second { length b.now.vars < 2 ^ 32 }
+    ensures equal { IfOk result (λ _. AreSameFunctions a.now b.now budget) }
+    ensures refused { IfErr result (λ s. MemoryOr s (IsFinding a.now b.now budget s)) }
+{
+    match prove(alloc, a, b, budget) {
+        Ok(ProofVerdict::Equal) => Ok(()),
+        Ok(ProofVerdict::Differs { name, bits: _ }) => Err(Status::No(Verdict::Unequal(name))),
+        Ok(ProofVerdict::Names(name)) => Err(Status::No(Verdict::Names(name))),
+        Err(ProveError::Memory) => Err(Status::Memory),
+        Err(ProveError::Budget(equation)) => Err(Status::Budget {
+            equation,
+            reached: u64::from(budget) + 1,
+        }),
+    }
+}
+
+// What is printed of equal machines.
+fn product(alloc: Global, command: &ProofCommand) -> Result<Product, AllocError>
+    ensures { IfOk result (λ p. IsSaidEqual command.now p) }
+{
+    Ok(Product {
+        name: command.source.copy(alloc)?,
+        file: None,
+        text: FileBytes::from_bytes(alloc, b"equal\n")?,
+    })
+}
+
+// What the two texts come to.
+fn compared(
+    alloc: Global,
+    command: &ProofCommand,
+    source: &[u8],
+    other: &[u8],
+) -> Result<Product, Refusal>
+    ensures { IsJudged (Compares command.now source.now other.now) result }
+{
+    source_has_few_vars();
+    let first = match machine_in(alloc, &command.source, source) {
+        Ok(machine) => machine,
+        Err(status) => return Err(Refusal::plain(status)),
+    };
+    let second = match machine_in(alloc, &command.other, other) {
+        Ok(machine) => machine,
+        Err(status) => return Err(Refusal::plain(status)),
+    };
+    match equal_within(alloc, &first, &second, command.nodes) {
+        Ok(()) => {}
+        Err(status) => return Err(Refusal::plain(status)),
+    }
+    let said = product(alloc, command)?;
+    Ok(said)
+}
+
+impl Tool for Proof<'_> {
+    ghost use Rattle.proof_run.specs.Proof.{proof_plan, proof_answers};
+
+    ghost plan = { λ t. proof_plan t.command.now };
+
+    ghost answers = { λ t. proof_answers t.command.now };
+
+    fn first(&self, alloc: Global) -> Result<Vec<Wanted>, AllocError> {
+        let mut wanted = Vec::new(alloc);
+        wanted.push(Wanted::limited(self.command.source.copy(alloc)?))?;
+        wanted.push(Wanted::limited(self.command.other.copy(alloc)?))?;
+        Ok(wanted)
+    }
+
+    fn more(&self, alloc: Global, _first: &[FileBytes]) -> Result<Vec<Wanted>, AllocError> {
+        Ok(Vec::new(alloc))
+    }
+
+    fn judge(
+        &self,
+        alloc: Global,
+        first: &[FileBytes],
+        _more: &[FileBytes],
+    ) -> Result<Product, Refusal> {
+        compared(alloc, self.command, bytes_at(first, 0), bytes_at(first, 1))
+    }
+}
