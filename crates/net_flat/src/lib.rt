@@ -1,0 +1,11 @@
+//! A netlist of gates and plain flip-flops as a machine whose registers are its flip-flops, by their names.
+#![tactic(auto)]
+
+mod error;
+mod flat;
+mod parts;
+mod renaming;
+mod taken;
+
+pub use error::FlatError;
+pub use flat::flatbeh;
