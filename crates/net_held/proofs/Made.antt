@@ -90,10 +90,10 @@ class_in_is (u ∷ ts) (d ∷ cs) h (suc k) t c p q = by (same_terminal u t) ref
       let same = terminal_true u t e in
       let w = h 0 (suc k) t (ap Some same) p in absurd (omega (arith, w))
 
-abbrev class_by : InMemory → Terminal → ℕ
+abbrev pub class_by : InMemory → Terminal → ℕ
 class_by n t = class_in (terminals n) n.classes t
 
-class_by_is : (n : InMemory) → IsNetlist n → IsClassFunction n (class_by n)
+pub class_by_is : (n : InMemory) → IsNetlist n → IsClassFunction n (class_by n)
 class_by_is n is = record { each = λ t k h. class_in_is (terminals n) n.classes (netlist_terminals_once n is) h.0 t k h.1 h.2 }
 
 -- ---- what is known of the models
