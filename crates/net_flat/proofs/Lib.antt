@@ -3,6 +3,7 @@ pub mod Taking
 pub mod Knowing
 pub mod Bits
 pub mod Settled
+pub mod Assembling
 pub mod Flattening
 pub mod Naming
 pub mod Texts

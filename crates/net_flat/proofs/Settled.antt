@@ -251,12 +251,3 @@ is_renamed g o is = record {
           loads = is.loads held i b.0 b.1 ∙ ap (bits_next (system g)) b.2 ∙ loads_same g s i x h ∙ sym (map-then (bit (next g.m x)) (λ (t : Seat). t.place) g.seats);
         },
       )
-
--- the setting of a machine whose bits are those
-pub setting_of : (m : Machine) (names : List Name) (s : System) → IsChecked m → AreFree m names → AreRenamed m names s → (g : Setting) × (g.m ≡ m) × (g.names ≡ names) × (s ≡ system g)
-setting_of m names s checked free are = (
-  record { m = m; names = names; text = are.text; seats = are.seats; checked = checked; free = free; shown = are.shown; held = are.held; supplies = are.supplies; moved = are.moved; ordered = are.ordered },
-  refl,
-  refl,
-  are.is,
-)
