@@ -1,0 +1,12 @@
+// Laws: what follows of a machine that is written. They cost nothing when they are called.
+ghost use Rattle.flatbeh_run.specs.Laws.{FlatteningIsRead};
+
+use vbe_round::read_again;
+
+/// What `flatbeh` writes, where it is within the limits of data-flow texts, is read again as a machine that does the same as the
+/// netlist's, with the same registers, and is refused only where memory has run out.
+pub fn flatbeh_law()
+    ensures { FlatteningIsRead }
+{
+    read_again();
+}
