@@ -8,7 +8,15 @@ use Rattle.vbe_again.specs.Said.{IsWithinLimits}
 use Rattle.vbe_io.specs.Text.{IsVbe, IsVbeRefusal}
 use Rattle.tool_words.specs.declared.command.FlatbehCommand.{FlatbehCommand}
 use Rattle.tool_drive.specs.declared.tool.Product.{Product}
+use Rattle.net_core.specs.declared.pins.ModelPins.{ModelPins}
+use Rattle.net_core.specs.Netlist.{Netlist}
+use Rattle.vst_io.specs.Text.{IsVst}
+use Rattle.net_flat.specs.Flat.{HasWords}
 use Rattle.flatbeh_run.specs.Flatbeh.{IsFlattening}
+
+-- a netlist that is read has the words that a data-flow text of it needs
+abbrev pub NetlistHasWords : Type 0
+NetlistHasWords = (bytes : List ℕ) (table : List ModelPins) (n : Netlist) → IsVst bytes table n → HasWords n
 
 -- what these bytes are read as is alike the machine, and they are refused only where memory has run out
 pub record AreReadAs (m : Machine) (bytes : List ℕ) : Type 0 where

@@ -6,6 +6,7 @@ ghost use Rattle.tool_drive.specs.Table.{IsJudged};
 ghost use Rattle.net_flat.specs.Flat.{HasScalarClock};
 ghost use Rattle.flatbeh_run.specs.Flatbeh.{netlist_file as file_of, fault_of, HasVectorClock, Flattens, IsToldOf};
 
+use crate::laws::netlist_has_words;
 use crate::product::product;
 use cell_lib::{catal_file, library_status, named_files, read_library};
 use cell_pins::pin_table;
@@ -18,7 +19,6 @@ use vlsi_base::{
     FaultKind, FileBytes, FileName, InputFault, MOST_NETLIST_BYTES, Name, Names, Text,
 };
 use vst_io::read_vst;
-use vst_words::netlist_is_named;
 
 /// `flatbeh`, with what it is asked: it makes a machine of the netlist in SOURCE, whose registers have the names of its flip-flops,
 /// writes it to NAME.vbe, and prints `size` and how large it is.
@@ -108,7 +108,7 @@ fn flattened(
     ensures { IsJudged (Flattens command.now source.now catal.now cells.now) result }
 {
     // What is read has names that can be written.
-    netlist_is_named();
+    netlist_has_words();
     let library = match read_library(alloc, catal, cells, false) {
         Ok(library) => library,
         Err(error) => return Err(Refusal::plain(library_status(error))),

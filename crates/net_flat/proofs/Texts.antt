@@ -35,7 +35,7 @@ use Rattle.net_held.specs.Signals.{signal_ports}
 use Rattle.net_flat.specs.declared.parts.Part.{Part}
 use Rattle.net_flat.specs.declared.parts.Part.TheVariants as part
 use Rattle.net_flat.specs.Parts.{part_at, names_if, registers_of}
-use Rattle.net_flat.specs.Flat.{HasText, AreApart, HasScalarClock, CanBeText}
+use Rattle.net_flat.specs.Flat.{HasText, AreApart, HasScalarClock, HasWords, CanBeText, NamedHasWords}
 use Rattle.net_flat.proofs.Naming.{IsRegister, register_is, text_of_port}
 
 -- ---- ports of one text stand behind one another
@@ -113,6 +113,13 @@ signals_declared n is named = record {
   runs = runs_at (signal_ports n.ports) (runs_filter n.ports (sorted_of n.ports is.ports) (runs_of n.ports named.ports.runs));
 }
 
+pub named_has_words : NamedHasWords
+named_has_words n is named = record {
+  name = named.name;
+  ports = signals_declared n is named;
+  instances = All-from_In (λ (i : Instance). IsIdentifier i.name) n.instances (λ i j. (All_In CanBeAnInstance n.instances named.instances i j).0);
+}
+
 -- ---- registers
 
 registers_declared : (names : List Name) → AreInOrder names → ((n : Name) → In n names → IsIdentifier n.text × (n.bit ≡ None)) → AreDeclared (as_ports names)
@@ -146,15 +153,15 @@ registers_declared names order each = record {
 
 -- ---- the machine
 
-pub can_be_text : (n : InMemory) (l : Library) (o : Machine) → IsNetlist n → IsChecked o → o.name ≡ n.name → o.ports ≡ signal_ports n.ports
+pub can_be_text : (n : InMemory) (l : Library) (o : Machine) → IsChecked o → o.name ≡ n.name → o.ports ≡ signal_ports n.ports
     → ((name : Name) → In name (register_names o) → In name (registers_of l n.instances)) → AreApart n l → CanBeText n o
-can_be_text n l o is checked name ports registers apart named clock = record {
-  name = subst IsIdentifier (sym name) named.name;
-  ports = subst AreDeclared (sym ports) (signals_declared n is named);
+can_be_text n l o checked name ports registers apart words clock = record {
+  name = subst IsIdentifier (sym name) words.name;
+  ports = subst AreDeclared (sym ports) words.ports;
   registers = registers_declared (register_names o) checked.registers
       (λ r i.
       let s = register_is l n.instances r (registers r i) in
-      (subst (λ (x : Name). IsIdentifier x.text) (sym s.is) (All_In CanBeAnInstance n.instances named.instances s.owner s.listed).0, ap (λ (x : Name). x.bit) s.is));
+      (subst (λ (x : Name). IsIdentifier x.text) (sym s.is) (All_In (λ (i : Instance). IsIdentifier i.name) n.instances words.instances s.owner s.listed), ap (λ (x : Name). x.bit) s.is));
   apart = λ p r i j e.
       apart r.name (registers r.name (In-map (λ (x : Register). x.name) r o.registers j))
       (text_of_port n.ports p r.name.text (In-filter is_signal n.ports p (subst (λ (ps : List Port). In p ps) ports i)).0 e);

@@ -1,5 +1,6 @@
 -- A netlist of gates and plain flip-flops as a machine whose registers are its flip-flops, by their names.
 use Rattle.std.specs.Prelude.{◌≡◌, ◌↔◌, ℕ, ◌<◌, Bool, true, List, map, None, Some}
+use Rattle.std.specs.List.{All}
 use Rattle.vlsi_base.specs.declared.name.Name.{Name}
 use Rattle.vlsi_base.specs.declared.name.Port.{Port}
 use Rattle.vlsi_base.specs.Member.{In}
@@ -10,13 +11,15 @@ use Rattle.cell_model.specs.Library.{Library, cell_of}
 use Rattle.cell_pins.specs.Table.{IsTableOf}
 use Rattle.net_core.specs.declared.pins.ModelPins.{ModelPins}
 use Rattle.net_core.specs.Places.{Stands, IsThere}
-use Rattle.net_core.specs.Netlist.{Instance, Netlist as InMemory}
+use Rattle.net_core.specs.Netlist.{Instance, Netlist as InMemory, IsNetlist}
 use Rattle.net_meaning.specs.Netlist.{Netlist}
 use Rattle.net_meaning.specs.Behaviour.{Contents}
 use Rattle.net_view.specs.Condition.{MeetsCondition}
 use Rattle.net_view.specs.View.{IsSeenAs}
 use Rattle.net_view.specs.Writable.{CanBeNamed}
-use Rattle.vbe_write.specs.Writable.{CanBeVbe}
+use Rattle.port_words.specs.Words.{IsIdentifier}
+use Rattle.vbe_write.specs.Writable.{AreDeclared, CanBeVbe}
+use Rattle.net_held.specs.Signals.{signal_ports}
 use Rattle.net_held.specs.Step.{KeepsStep, FitsContents, IsMachineOfNetlist}
 use Rattle.net_flat.specs.declared.parts.Part.TheVariants as part
 use Rattle.net_flat.specs.Parts.{part_of, registers_of}
@@ -79,6 +82,17 @@ IsFlatWith n l m = (table : List ModelPins) → IsTableOf l true table → Meets
 abbrev pub HasScalarClock : Machine → Type 0
 HasScalarClock m = (name : Name) → m.clock ≡ Some name → name.bit ≡ None
 
--- where the netlist's names can be written, so can the machine's, unless its clock is a bit of a vector
+-- what a data-flow text needs of a netlist's names: those of the netlist and of its instances are identifiers, and its ports but the
+-- supplies can be declared
+pub record HasWords (n : InMemory) : Type 0 where
+  pub name : IsIdentifier n.name
+  pub ports : AreDeclared (signal_ports n.ports)
+  pub instances : All (λ i. IsIdentifier i.name) n.instances
+
+-- then the machine's names can be written, unless its clock is a bit of a vector
 abbrev pub CanBeText : InMemory → Machine → Type 0
-CanBeText n m = CanBeNamed n → HasScalarClock m → CanBeVbe m
+CanBeText n m = HasWords n → HasScalarClock m → CanBeVbe m
+
+-- so it is with a netlist whose names a structural text can have
+abbrev pub NamedHasWords : Type 0
+NamedHasWords = (n : InMemory) → IsNetlist n → CanBeNamed n → HasWords n

@@ -3,9 +3,11 @@
 
 mod error;
 mod flat;
+mod law;
 mod parts;
 mod renaming;
 mod taken;
 
 pub use error::FlatError;
 pub use flat::flatbeh;
+pub use law::named_has_words;
