@@ -1,0 +1,4 @@
+pub mod Laying
+pub mod Showing
+pub mod Built
+pub mod Reaching

@@ -1,0 +1,31 @@
+-- What follows of a machine that `flatbeh` writes.
+use Rattle.std.specs.Prelude.{◌≡◌, ℕ, List, IfSome}
+use Rattle.vlsi_base.specs.declared.fault.ReadError.{ReadError}
+use Rattle.vlsi_base.specs.declared.fault.ReadError.TheVariants as errors
+use Rattle.machine_meaning.specs.Machine.{Machine}
+use Rattle.machine_alike.specs.Alike.{IsAlike}
+use Rattle.vbe_again.specs.Said.{IsWithinLimits}
+use Rattle.vbe_io.specs.Text.{IsVbe, IsVbeRefusal}
+use Rattle.tool_words.specs.declared.command.FlatbehCommand.{FlatbehCommand}
+use Rattle.tool_drive.specs.declared.tool.Product.{Product}
+use Rattle.net_core.specs.declared.pins.ModelPins.{ModelPins}
+use Rattle.net_core.specs.Netlist.{Netlist}
+use Rattle.vst_io.specs.Text.{IsVst}
+use Rattle.net_flat.specs.Flat.{HasWords}
+use Rattle.flatbeh_run.specs.Flatbeh.{IsFlattening}
+
+-- a netlist that is read has the words that a data-flow text of it needs
+abbrev pub NetlistHasWords : Type 0
+NetlistHasWords = (bytes : List ℕ) (table : List ModelPins) (n : Netlist) → IsVst bytes table n → HasWords n
+
+-- what these bytes are read as is alike the machine, and they are refused only where memory has run out
+pub record AreReadAs (m : Machine) (bytes : List ℕ) : Type 0 where
+  pub is : (k : Machine) → IsVbe bytes k → IsAlike m k
+  pub accepted : (e : ReadError) → IsVbeRefusal bytes e → e ≡ errors.Memory
+
+-- Where the machine is within the limits of texts, the file that is written is read again as a machine that does the same: from the
+-- same contents of the registers of the same names, and so of the instances, it shows the same and loads the same as the netlist.
+abbrev pub FlatteningIsRead : Type 0
+FlatteningIsRead =
+    (c : FlatbehCommand) (source catal : List ℕ) (cells : List (List ℕ)) (p : Product) (h : IsFlattening c source catal cells p)
+    → IsWithinLimits h.m → IfSome p.file (AreReadAs h.m)

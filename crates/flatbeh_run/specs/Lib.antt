@@ -1,0 +1,2 @@
+pub mod Flatbeh
+pub mod Laws

@@ -1,0 +1,164 @@
+// `flatbeh` as a tool: what it reads, and what it answers.
+ghost use Rattle.std.specs.Prelude.{◌≡◌, ◌∷◌, [], MatchOption};
+ghost use Rattle.vlsi_base.specs.Names.{scalar};
+ghost use Rattle.tool_drive.specs.Refusals.{MemoryOr};
+ghost use Rattle.tool_drive.specs.Table.{IsJudged};
+ghost use Rattle.net_flat.specs.Flat.{HasScalarClock};
+ghost use Rattle.flatbeh_run.specs.Flatbeh.{netlist_file as file_of, fault_of, HasVectorClock, Flattens, IsToldOf};
+
+use crate::laws::netlist_has_words;
+use crate::product::product;
+use cell_lib::{catal_file, library_status, named_files, read_library};
+use cell_pins::pin_table;
+use machine_core::Machine;
+use net_flat::{FlatError, flatbeh};
+use std::alloc::{AllocError, Global};
+use tool_drive::{Over, Product, Refusal, Status, Tool, Verdict, Wanted, bytes_at, refused};
+use tool_words::FlatbehCommand;
+use vlsi_base::{
+    FaultKind, FileBytes, FileName, InputFault, MOST_NETLIST_BYTES, Name, Names, Text,
+};
+use vst_io::read_vst;
+
+/// `flatbeh`, with what it is asked: it makes a machine of the netlist in SOURCE, whose registers have the names of its flip-flops,
+/// writes it to NAME.vbe, and prints `size` and how large it is.
+///
+/// All files are read first: SOURCE, CATAL, and the behaviour and the layout of each cell that this uses. Then it is refused, in
+/// this order: by `Library`, or a limit of CATAL or of a cell, at the first line or cell at fault; by `Source`, or a limit, of
+/// SOURCE; by `NoBehaviour`, at the first instance whose cell is neither a gate nor a plain flip-flop; by `Source` of `Twice`, at the
+/// first flip-flop with the text of a port; by `Source` of `ClockUse`, where the clock is a bit of a vector, which a data-flow text
+/// can't have. Memory goes by the files, the netlist and its machine.
+#[derive(Drop)]
+pub struct Flatbeh<'a> {
+    pub command: &'a FlatbehCommand,
+}
+
+// A netlist's file, of at most `MOST_NETLIST_BYTES` bytes.
+fn netlist_file(name: FileName) -> Wanted
+    ensures { result ≡ file_of name }
+{
+    Wanted {
+        name,
+        most: MOST_NETLIST_BYTES as u64,
+        over: Over::Refused,
+    }
+}
+
+// The status of a fault of the whole file, with a name.
+fn fault(alloc: Global, command: &FlatbehCommand, kind: FaultKind, name: Name) -> Status
+    ensures { MemoryOr result (result ≡ fault_of command.now kind name) }
+{
+    let mut names = Vec::new(alloc);
+    match names.push(name) {
+        Ok(()) => {}
+        Err(_) => return Status::Memory,
+    }
+    match command.source.copy(alloc) {
+        Ok(file) => Status::Source {
+            file,
+            fault: InputFault {
+                line: 1,
+                kind,
+                names: Names::new(names),
+            },
+        },
+        Err(_) => Status::Memory,
+    }
+}
+
+// How a refusal of the netlist is told.
+fn flat_status(alloc: Global, command: &FlatbehCommand, error: FlatError) -> Status
+    ensures { MemoryOr result (IsToldOf command.now error result) }
+{
+    match error {
+        FlatError::Memory => Status::Memory,
+        FlatError::NoBehaviour(model) => Status::No(Verdict::NoBehaviour(model)),
+        FlatError::Twice(text) => fault(alloc, command, FaultKind::Twice, Name::scalar(text)),
+    }
+}
+
+// The clock, where it is a bit of a vector.
+fn vector_clock(machine: &Machine) -> Option<&Name>
+    ensures { MatchOption result (HasScalarClock machine.now) (λ name. HasVectorClock machine.now name.now) }
+{
+    match machine.clock() {
+        Some(name) if name.bit.is_some() => Some(name),
+        _ => None,
+    }
+}
+
+// The status of a clock that a text can't have.
+fn clock_status(alloc: Global, command: &FlatbehCommand, name: &Name) -> Status
+    ensures { MemoryOr result (result ≡ fault_of command.now FaultKind.ClockUse name.now) }
+{
+    match name.copy(alloc) {
+        Ok(name) => fault(alloc, command, FaultKind::ClockUse, name),
+        Err(_) => Status::Memory,
+    }
+}
+
+// What the texts come to.
+fn flattened(
+    alloc: Global,
+    command: &FlatbehCommand,
+    source: &[u8],
+    catal: &[u8],
+    cells: &[FileBytes],
+) -> Result<Product, Refusal>
+    ensures { IsJudged (Flattens command.now source.now catal.now cells.now) result }
+{
+    // What is read has names that can be written.
+    netlist_has_words();
+    let library = match read_library(alloc, catal, cells, false) {
+        Ok(library) => library,
+        Err(error) => return Err(Refusal::plain(library_status(error))),
+    };
+    let table = pin_table(alloc, &library, true)?;
+    let netlist = match read_vst(alloc, source, &table) {
+        Ok(netlist) => netlist,
+        Err(error) => return Err(Refusal::plain(refused(alloc, &command.source, error))),
+    };
+    let machine = match flatbeh(alloc, &netlist, &library) {
+        Ok(machine) => machine,
+        Err(error) => return Err(Refusal::plain(flat_status(alloc, command, error))),
+    };
+    if let Some(name) = vector_clock(&machine) {
+        return Err(Refusal::plain(clock_status(alloc, command, name)));
+    }
+    let written = product(alloc, &command.out, &machine)?;
+    Ok(written)
+}
+
+impl Tool for Flatbeh<'_> {
+    ghost use Rattle.flatbeh_run.specs.Flatbeh.{flatbeh_plan, flatbeh_answers};
+
+    ghost plan = { λ t. flatbeh_plan t.command.now };
+
+    ghost answers = { λ t. flatbeh_answers t.command.now };
+
+    fn first(&self, alloc: Global) -> Result<Vec<Wanted>, AllocError> {
+        let mut wanted = Vec::new(alloc);
+        wanted.push(netlist_file(self.command.source.copy(alloc)?))?;
+        wanted.push(catal_file(alloc, &self.command.library)?)?;
+        Ok(wanted)
+    }
+
+    fn more(&self, alloc: Global, first: &[FileBytes]) -> Result<Vec<Wanted>, AllocError> {
+        named_files(alloc, &self.command.library, bytes_at(first, 1))
+    }
+
+    fn judge(
+        &self,
+        alloc: Global,
+        first: &[FileBytes],
+        more: &[FileBytes],
+    ) -> Result<Product, Refusal> {
+        flattened(
+            alloc,
+            self.command,
+            bytes_at(first, 0),
+            bytes_at(first, 1),
+            more,
+        )
+    }
+}

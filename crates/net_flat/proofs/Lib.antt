@@ -1,0 +1,9 @@
+pub mod Lists
+pub mod Taking
+pub mod Knowing
+pub mod Bits
+pub mod Settled
+pub mod Assembling
+pub mod Flattening
+pub mod Naming
+pub mod Texts

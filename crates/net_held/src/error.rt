@@ -1,0 +1,25 @@
+// Why a netlist has no machine.
+ghost use Rattle.std.specs.Prelude.{◌≡◌};
+ghost use Rattle.net_held.specs.declared.error.NetMachineError.TheVariants.{Memory};
+
+use std::alloc::AllocError;
+use thiserror::Error;
+use vlsi_base::Text;
+
+/// Why a netlist has no machine.
+#[derive(Debug, Drop, Error)]
+pub enum NetMachineError {
+    #[error("out of memory")]
+    Memory,
+    /// Nothing is known of the cell of this name, which an instance has.
+    #[error("no behaviour")]
+    NoBehaviour(Text),
+}
+
+impl From<AllocError> for NetMachineError {
+    ghost from_gives = { λ _ e. e ≡ Memory };
+
+    fn from(_: AllocError) -> Self {
+        NetMachineError::Memory
+    }
+}
