@@ -1,0 +1,119 @@
+-- Entries of shapes in bands, and the pairs that a sweep along the bands looks at.
+use Rattle.std.specs.Prelude.{◌≡◌, ℕ, ◌+◌, ◌/◌, ◌^◌, ◌<◌, ◌≤◌, min, ℤ, pos, ◌+ℤ◌, ◌≤ℤ◌, List, length, slice_index_or, false, Bool, if◌then◌else◌, Contains}
+use Rattle.sym_geom.specs.declared.rect.Rect.{Rect}
+use Rattle.sym_shapes.specs.Shape.{Shape}
+use Rattle.sym_shapes.specs.Bands.{flipped}
+use Rattle.druc_rules.specs.declared.bands.Cut.{Cut}
+use Rattle.druc_rules.specs.declared.sweep.Entry.{Entry}
+use Rattle.druc_rules.specs.declared.near.Relation.{Relation}
+use Rattle.druc_rules.specs.declared.near.Pair.{Pair}
+use Rattle.druc_rules.specs.Near.{Relates, Has}
+
+-- Numbers of 64 bits for an interval, in either order of its ends, that a gap widens: `low` is at most each end, counted from
+-- the lowest coordinate, and `high` at least all that is within the gap of one.
+pub record IsReach (gap : ℕ) (a b : ℤ) (low high : ℕ) : Type 0 where
+  pub fits : low < 2 ^ 64
+  pub from_a : pos low ≤ℤ (a +ℤ pos (2 ^ 63))
+  pub from_b : pos low ≤ℤ (b +ℤ pos (2 ^ 63))
+  pub to_a : (k : ℕ) → k < 2 ^ 64 → pos k ≤ℤ (a +ℤ pos (2 ^ 63 + gap)) → k ≤ high
+  pub to_b : (k : ℕ) → k < 2 ^ 64 → pos k ≤ℤ (b +ℤ pos (2 ^ 63 + gap)) → k ≤ high
+
+-- a rectangle, turned so that bands are strips of rows
+abbrev pub laid : Bool → Rect → Rect
+laid upright r = if upright then flipped r else r
+
+abbrev pub entry : ℕ → ℕ → ℕ → ℕ → ℕ → Entry
+entry metal band left right place = record { metal = metal; band = band; left = left; right = right; place = place }
+
+-- the shape has an entry in the band of its low edge, and in each from there to that of its high edge, which the gap widens
+pub record IsEntered (cut : Cut) (gap : ℕ) (s : Shape) (place : ℕ) (entries : List Entry) : Type 0 where
+  pub left : ℕ
+  pub right : ℕ
+  pub low : ℕ
+  pub high : ℕ
+  pub across : IsReach gap (laid cut.upright s.rect).x1 (laid cut.upright s.rect).x2 left right
+  pub along : IsReach gap (laid cut.upright s.rect).y1 (laid cut.upright s.rect).y2 low high
+  pub first : Contains entries (entry s.metal (low / 2 ^ min cut.shift 63) left right place)
+  pub each : (b : ℕ) → low / 2 ^ min cut.shift 63 ≤ b → b ≤ high / 2 ^ min cut.shift 63
+      → Contains entries (entry s.metal b left right place)
+
+-- the entries that were there stay, and all others are of one place
+pub record AddsOf (olds news : List Entry) (place : ℕ) : Type 0 where
+  pub kept : (e : Entry) → Contains olds e → Contains news e
+  pub only : (e : Entry) → Contains news e → (e.place ≡ place → ⊥) → Contains olds e
+
+-- in rows, each a band
+abbrev pub uncut : Cut
+uncut = record { upright = false; shift = 0 }
+
+-- how the metal of a shape is cut
+abbrev pub cut_for : List Cut → Shape → Cut
+cut_for cuts s = slice_index_or cuts s.metal uncut
+
+-- each shape is entered, as its metal is cut
+abbrev pub EntersAll : List Shape → List Cut → ℕ → List Entry → Type 0
+EntersAll all cuts gap entries = (k : ℕ) (d : Shape) → k < length all
+    → IsEntered (cut_for cuts (slice_index_or all k d)) gap (slice_index_or all k d) k entries
+
+-- each entry is of a shape
+abbrev pub PlacesWithin : List Shape → List Entry → Type 0
+PlacesWithin all entries = (e : Entry) → Contains entries e → e.place < length all
+
+-- in the band of the first, and not right of it
+pub record InBand (first e : Entry) : Type 0 where
+  pub metal : e.metal ≡ first.metal
+  pub band : e.band ≡ first.band
+  pub left : e.left ≤ first.right
+
+-- an entry is not behind another: by metal, then by band, then by left end
+pub data Precedes (a b : Entry) : Type 0 where
+  by_metal : a.metal < b.metal → Precedes a b
+  by_band : a.metal ≡ b.metal → a.band < b.band → Precedes a b
+  by_left : a.metal ≡ b.metal → a.band ≡ b.band → a.left ≤ b.left → Precedes a b
+
+-- the entry at a place
+abbrev pub entry_from : List Entry → ℕ → Entry
+entry_from entries p = slice_index_or entries p (entry 0 0 0 0 0)
+
+-- each is behind those before it
+abbrev pub Ordered : List Entry → Type 0
+Ordered entries = (p q : ℕ) → p < q → q < length entries → Precedes (entry_from entries p) (entry_from entries q)
+
+-- the entries behind p up to q are in its run
+abbrev pub InRun : List Entry → ℕ → ℕ → Type 0
+InRun entries p q = (k : ℕ) → p < k → k ≤ q → InBand (entry_from entries p) (entry_from entries k)
+
+-- of the shape of the entry p and those of the entries behind it that are below n, all that are so related are there
+abbrev pub SeesRun : List Shape → Relation → List Entry → List Pair → ℕ → ℕ → Type 0
+SeesRun all r entries ps p n = (q : ℕ) → p < q → q < n → Has all r ps (entry_from entries p).place (entry_from entries q).place
+
+-- and of those of its whole run
+abbrev pub SeesFrom : List Shape → Relation → List Entry → List Pair → ℕ → Type 0
+SeesFrom all r entries ps p =
+    (q : ℕ) → p < q → q < length entries → InRun entries p q → Has all r ps (entry_from entries p).place (entry_from entries q).place
+
+-- so from each entry below m
+abbrev pub SeesRuns : List Shape → Relation → List Entry → List Pair → ℕ → Type 0
+SeesRuns all r entries ps m = (p : ℕ) → p < m → SeesFrom all r entries ps p
+
+-- two shapes share a band: their entries there, neither of them right of the other
+pub record Share (entries : List Entry) (i j : ℕ) : Type 0 where
+  pub one : Entry
+  pub other : Entry
+  pub one_there : Contains entries one
+  pub other_there : Contains entries other
+  pub one_is : one.place ≡ i
+  pub other_is : other.place ≡ j
+  pub one_in : InBand one other
+  pub other_in : InBand other one
+
+-- each two that are so related share a band
+abbrev pub SharesAll : List Shape → Relation → List Entry → Type 0
+SharesAll all r entries = (i j : ℕ) → Relates all r i j → Share entries i j
+
+-- the entries of shapes, in order, for a sweep that looks for near shapes and for those that lie within others
+pub record AreSwept (all : List Shape) (near within : Relation) (entries : List Entry) : Type 0 where
+  pub places : PlacesWithin all entries
+  pub ordered : Ordered entries
+  pub near_share : SharesAll all near entries
+  pub within_share : SharesAll all within entries

@@ -1,0 +1,175 @@
+// Bands of a metal, and the entries of shapes in them.
+ghost use Rattle.std.specs.Prelude.{◌≡◌, ◌<◌, ◌^◌, length, OnOk, IfOk};
+ghost use Rattle.sym_shapes.specs.Bands.{IsLevel};
+ghost use Rattle.druc_rules.specs.Sweep.{laid, IsReach, IsEntered, AddsOf, PlacesWithin, EntersAll, AreSwept};
+ghost use Rattle.druc_rules.specs.declared.near.Relation.TheVariants as relation;
+
+use crate::sweep::{Entry, in_order};
+use std::alloc::{AllocError, Global};
+use sym_geom::Rect;
+use sym_shapes::Shape;
+
+/// How a metal is cut into bands: strips of rows, or of columns where it is `upright`, each `2 ^ shift` high or wide.
+#[derive(Clone, Copy)]
+pub struct Cut {
+    upright: bool,
+    shift: u32,
+}
+
+/// How many shapes a metal has, and how far they reach together.
+#[derive(Clone, Copy)]
+struct Extent {
+    wide: u64,
+    high: u64,
+    count: u64,
+}
+
+/// An interval of coordinates, counted from the lowest one, with the gap behind it.
+#[derive(Clone, Copy)]
+struct Reach {
+    low: u64,
+    high: u64,
+}
+
+/// How far it is from one edge to the other.
+fn span(from: &i64, to: &i64) -> u64 {
+    u64::try_from(i64::saturating_sub(*to, *from)).unwrap_or(0)
+}
+
+/// Bands across the metal's short side, about as high as its shapes are on the mean, with the gap: so a shape touches few.
+fn cut_of(extent: &Extent, gap: u32) -> Cut {
+    let upright = extent.wide < extent.high;
+    let total = if upright { extent.wide } else { extent.high };
+    let mean = if extent.count == 0 {
+        0
+    } else {
+        total / extent.count
+    };
+    let high = u64::saturating_add(mean, u64::from(gap));
+    Cut {
+        upright,
+        shift: u32::saturating_sub(64, high.leading_zeros()),
+    }
+}
+
+/// The cuts of all metals.
+fn cuts(shapes: &[Shape], gap: u32) -> [Cut; 256] {
+    let none = Extent {
+        wide: 0,
+        high: 0,
+        count: 0,
+    };
+    let mut extents = [none; 256];
+    for shape in shapes {
+        let rect = shape.rect();
+        let extent = &mut extents[shape.metal() as usize];
+        extent.wide = u64::saturating_add(extent.wide, span(&rect.x1, &rect.x2));
+        extent.high = u64::saturating_add(extent.high, span(&rect.y1, &rect.y2));
+        extent.count = u64::saturating_add(extent.count, 1);
+    }
+    let mut cuts = [cut_of(&none, gap); 256];
+    for metal in 0..256 {
+        cuts[metal] = cut_of(&extents[metal], gap);
+    }
+    cuts
+}
+
+/// A coordinate, counted from the lowest of 64 bits.
+fn level(y: &i64) -> u64
+    ensures { IsLevel y.now result }
+{
+    if *y < 0 {
+        (*y - i64::MIN) as u64
+    } else {
+        *y as u64 + (1 << 63)
+    }
+}
+
+/// The interval between two coordinates in either order, with the gap behind it.
+fn reach(a: &i64, b: &i64, gap: u32) -> Reach
+    ensures { IsReach gap a.now b.now result.low result.high }
+{
+    let one = level(a);
+    let other = level(b);
+    Reach {
+        low: one.min(other),
+        high: u64::saturating_add(one.max(other), u64::from(gap)),
+    }
+}
+
+/// A rectangle, turned so that the bands of its metal are strips of rows.
+fn laid(upright: bool, rect: Rect) -> Rect
+    ensures { result ≡ laid upright rect }
+{
+    if upright {
+        Rect {
+            x1: rect.y1,
+            y1: rect.x1,
+            x2: rect.y2,
+            y2: rect.x2,
+        }
+    } else {
+        rect
+    }
+}
+
+/// Puts an entry of a shape into each band that it touches, with the gap behind it.
+fn enter(
+    entries: &mut Vec<Entry>,
+    cut: &Cut,
+    gap: u32,
+    shape: &Shape,
+    place: u32,
+) -> Result<(), AllocError>
+    ensures adds { OnOk result (AddsOf entries.old.items entries.new.items place) }
+    ensures entered { OnOk result (IsEntered cut.now gap shape.now place entries.new.items) }
+{
+    let rect = laid(cut.upright, shape.rect());
+    let across = reach(&rect.x1, &rect.x2, gap);
+    let along = reach(&rect.y1, &rect.y2, gap);
+    let shift = cut.shift.min(63);
+    let mut entry = Entry {
+        metal: shape.metal(),
+        band: along.low >> shift,
+        left: across.low,
+        right: across.high,
+        place,
+    };
+    entries.push(entry)?;
+    for band in along.low >> shift..along.high >> shift {
+        entry.band = band + 1;
+        entries.push(entry)?;
+    }
+    Ok(())
+}
+
+/// The entries of all shapes.
+fn enter_all(
+    alloc: Global,
+    shapes: &[Shape],
+    cuts: &[Cut],
+    gap: u32,
+) -> Result<Vec<Entry>, AllocError>
+    requires room { length shapes.now < 2 ^ 32 }
+    requires cuts { length cuts.now ≡ 256 }
+    ensures places { IfOk result (λ entries. PlacesWithin shapes.now entries.items) }
+    ensures entered { IfOk result (λ entries. EntersAll shapes.now cuts.now gap entries.items) }
+{
+    let mut entries = Vec::with_capacity(alloc, shapes.len())?;
+    for k in 0..shapes.len() {
+        let cut = cuts[shapes[k].metal() as usize];
+        enter(&mut entries, &cut, gap, &shapes[k], k as u32)?;
+    }
+    Ok(entries)
+}
+
+/// The entries of all shapes in order. Takes memory for a few entries a shape.
+pub fn entries(alloc: Global, shapes: &[Shape], gap: u32) -> Result<Vec<Entry>, AllocError>
+    requires { length shapes.now < 2 ^ 32 }
+    ensures { IfOk result (λ entries. AreSwept shapes.now (relation.Near gap) relation.Within entries.items) }
+{
+    let cuts = cuts(shapes, gap);
+    let mut entries = enter_all(alloc, shapes, &cuts, gap)?;
+    in_order(&mut entries)?;
+    Ok(entries)
+}

@@ -1,0 +1,30 @@
+// Why the breaches of a layout aren't known.
+ghost use Rattle.std.specs.Prelude.{◌≡◌};
+ghost use Rattle.druc_rules.specs.declared.error.DrucError.TheVariants.{Memory};
+
+use std::alloc::{AllocError, AllocFailed};
+use vlsi_base::Text;
+
+/// Why the breaches of a layout aren't known.
+#[derive(Drop)]
+pub enum DrucError {
+    Memory,
+    /// The model of the first instance whose model isn't in the library.
+    UnknownCell(Text),
+}
+
+impl From<AllocError> for DrucError {
+    ghost from_gives = { λ _ e. e ≡ Memory };
+
+    fn from(_: AllocError) -> Self {
+        DrucError::Memory
+    }
+}
+
+impl<T: Drop> From<AllocFailed<T>> for DrucError {
+    ghost from_gives = { λ _ e. e ≡ Memory };
+
+    fn from(_: AllocFailed<T>) -> Self {
+        DrucError::Memory
+    }
+}
