@@ -1,3 +1,2 @@
 pub mod Breaches
-pub mod Near
-pub mod Sweep
+pub mod Excuses

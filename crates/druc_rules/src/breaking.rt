@@ -4,19 +4,18 @@ ghost use Rattle.cell_model.specs.Layout.{instances_of};
 ghost use Rattle.cougar_extract.specs.Extracted.{IsReadyFigure, AreKnown};
 ghost use Rattle.druc_rules.specs.declared.breach.Breach.TheVariants as breaches;
 ghost use Rattle.druc_rules.specs.Breaches.{breach_of, IsNarrowBy, BreachesBy, AreWidths, AddsGaps, IsUnknownRefusal};
-ghost use Rattle.druc_rules.specs.Near.{IsKnown, AreRelated, shape_at};
-ghost use Rattle.druc_rules.specs.declared.near.Relation.TheVariants as relation;
+ghost use Rattle.sym_near.specs.Related.{AreRelated, shape_at};
+ghost use Rattle.sym_near.specs.declared.near.Relation.TheVariants as relation;
+ghost use Rattle.druc_rules.specs.Excuses.{IsKnown};
 
-use crate::bands::entries;
 use crate::breach::{Breach, Breaches, Rules};
 use crate::drawing::layout_shapes;
 use crate::error::DrucError;
 use crate::excuses::{Layout, is_excused};
-use crate::near::{Pair, Relation, is_below};
-use crate::sweep::related;
 use ap_io::Figure;
 use cell_checks::Library;
 use std::alloc::{AllocError, Global};
+use sym_near::{Pair, is_below, near_pairs};
 use sym_shapes::{Shape, joints};
 
 /// Whether a shape is drawn and narrower than this.
@@ -91,15 +90,13 @@ fn gaps(
     ensures { OnOk result (AddsGaps least shapes.now found.old.items found.new.items) }
 {
     let numbers = joints(alloc, shapes)?;
-    let entries = entries(alloc, shapes, least)?;
-    let holders = related(alloc, shapes, Relation::Within, &entries)?;
-    let near = related(alloc, shapes, Relation::Near(least), &entries)?;
+    let pairs = near_pairs(alloc, shapes, least)?;
     let layout = Layout {
         shapes,
         numbers: &numbers,
-        holders: &holders,
+        holders: &pairs.within,
     };
-    put_gaps(found, &layout, &near, least)
+    put_gaps(found, &layout, &pairs.near, least)
 }
 
 /// The breaches of a layout, all and in order: the drawn rectangles that are narrower than the least width in x or y, in the order

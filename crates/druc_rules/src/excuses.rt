@@ -3,10 +3,11 @@ ghost use Rattle.std.specs.Prelude.{◌≡◌, ◌<◌, ◌↔◌, length, IsTru
 ghost use Rattle.std.specs.List.Sorted.{IsNonDecreasingBy};
 ghost use Rattle.sym_geom.specs.Rect.{Meet};
 ghost use Rattle.net_meaning.specs.Breaches.{IsExcused};
-ghost use Rattle.druc_rules.specs.Near.{AreOfOne, Excuses, IsCovered, IsFirstFrom, IsKnown, shape_at};
+ghost use Rattle.sym_near.specs.Related.{shape_at};
+ghost use Rattle.druc_rules.specs.Excuses.{AreOfOne, AreTied, Excuses, IsCovered, IsFirstFrom, IsKnown};
 
-use crate::near::Pair;
 use sym_geom::touches;
+use sym_near::Pair;
 use sym_shapes::Shape;
 
 /// The shapes of a layout, a number for each, which tells the joined ones, and the pairs of which the first lies within the
@@ -55,7 +56,8 @@ fn is_covered(layout: &Layout<'_>, first: u32, second: u32) -> bool
 {
     let one = &layout.shapes[first as usize];
     let other = &layout.shapes[second as usize];
-    let mut k = first_from(layout.holders, first);
+    let start = first_from(layout.holders, first);
+    let mut k = start;
     while k < layout.holders.len() && layout.holders[k].first == first {
         let third = layout.holders[k].second;
         if excuses(one, other, &layout.shapes[third as usize]) {
@@ -66,25 +68,41 @@ fn is_covered(layout: &Layout<'_>, first: u32, second: u32) -> bool
     false
 }
 
+/// Whether one of two shapes is of an instance, and they are joined.
+fn are_tied(layout: &Layout<'_>, first: u32, second: u32) -> bool
+    requires known { IsKnown layout.now }
+    requires first { first < length layout.now.shapes.now }
+    requires second { second < length layout.now.shapes.now }
+    ensures { let all = layout.now.shapes.now in IsTrue result ↔ AreTied all (shape_at all first) (shape_at all second) }
+{
+    let one = &layout.shapes[first as usize];
+    let other = &layout.shapes[second as usize];
+    if one.owner().is_none() && other.owner().is_none() {
+        return false;
+    }
+    layout.numbers[first as usize] == layout.numbers[second as usize]
+}
+
 /// Whether two shapes that don't touch may be near: they are of one instance; one of them is of an instance, and they are joined;
 /// or one lies within a third, which touches the other, or over which the first is drawn where it is a pin of the other's instance.
 pub fn is_excused(layout: &Layout<'_>, first: u32, second: u32) -> bool
     requires known { IsKnown layout.now }
     requires first { first < length layout.now.shapes.now }
     requires second { second < length layout.now.shapes.now }
-    requires metal { (shape_at layout.now.shapes.now first).metal ≡ (shape_at layout.now.shapes.now second).metal }
-    requires apart { Meet (shape_at layout.now.shapes.now first).rect (shape_at layout.now.shapes.now second).rect → ⊥ }
-    ensures { IsTrue result ↔ IsExcused layout.now.shapes.now
-        (shape_at layout.now.shapes.now first) (shape_at layout.now.shapes.now second) }
+    requires apart { let all = layout.now.shapes.now in Meet (shape_at all first).rect (shape_at all second).rect → ⊥ }
+    ensures { let all = layout.now.shapes.now in IsTrue result ↔ IsExcused all (shape_at all first) (shape_at all second) }
 {
-    let one = &layout.shapes[first as usize];
-    let other = &layout.shapes[second as usize];
-    if are_of_one(one, other) {
+    if are_of_one(
+        &layout.shapes[first as usize],
+        &layout.shapes[second as usize],
+    ) {
         return true;
     }
-    let is_of_instance = one.owner().is_some() || other.owner().is_some();
-    if is_of_instance && layout.numbers[first as usize] == layout.numbers[second as usize] {
+    if are_tied(layout, first, second) {
         return true;
     }
-    is_covered(layout, first, second) || is_covered(layout, second, first)
+    if is_covered(layout, first, second) {
+        return true;
+    }
+    is_covered(layout, second, first)
 }

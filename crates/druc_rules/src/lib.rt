@@ -3,15 +3,12 @@
 //! What the list of a layout's breaches is stands in `specs/Breaches.antt`.
 #![tactic(auto)]
 
-mod bands;
 mod breach;
 mod breaking;
 mod drawing;
 mod error;
 mod excuses;
 mod laws;
-mod near;
-mod sweep;
 
 pub use breach::{Breach, Breaches, Rules};
 pub use breaking::broken;

@@ -1,8 +1,8 @@
 // Bands of a metal, and the entries of shapes in them.
 ghost use Rattle.std.specs.Prelude.{◌≡◌, ◌<◌, ◌^◌, length, OnOk, IfOk};
 ghost use Rattle.sym_shapes.specs.Bands.{IsLevel};
-ghost use Rattle.druc_rules.specs.Sweep.{laid, IsReach, IsEntered, AddsOf, PlacesWithin, EntersAll, AreSwept};
-ghost use Rattle.druc_rules.specs.declared.near.Relation.TheVariants as relation;
+ghost use Rattle.sym_near.specs.Sweep.{laid, entry, IsReach, IsEntered, AddsOf, PlacesWithin, EntersAll, AreSwept};
+ghost use Rattle.sym_near.specs.declared.near.Relation.TheVariants as relation;
 
 use crate::sweep::{Entry, in_order};
 use std::alloc::{AllocError, Global};
@@ -26,7 +26,7 @@ struct Extent {
 
 /// An interval of coordinates, counted from the lowest one, with the gap behind it.
 #[derive(Clone, Copy)]
-struct Reach {
+struct Interval {
     low: u64,
     high: u64,
 }
@@ -86,12 +86,12 @@ fn level(y: &i64) -> u64
 }
 
 /// The interval between two coordinates in either order, with the gap behind it.
-fn reach(a: &i64, b: &i64, gap: u32) -> Reach
+fn widened(a: &i64, b: &i64, gap: u32) -> Interval
     ensures { IsReach gap a.now b.now result.low result.high }
 {
     let one = level(a);
     let other = level(b);
-    Reach {
+    Interval {
         low: one.min(other),
         high: u64::saturating_add(one.max(other), u64::from(gap)),
     }
@@ -113,6 +113,19 @@ fn laid(upright: bool, rect: Rect) -> Rect
     }
 }
 
+/// An entry in a band, from the left to the right of a shape.
+fn entry_at(metal: u8, band: u64, across: &Interval, place: u32) -> Entry
+    ensures { result ≡ entry metal band across.now.low across.now.high place }
+{
+    Entry {
+        metal,
+        band,
+        left: across.low,
+        right: across.high,
+        place,
+    }
+}
+
 /// Puts an entry of a shape into each band that it touches, with the gap behind it.
 fn enter(
     entries: &mut Vec<Entry>,
@@ -125,20 +138,15 @@ fn enter(
     ensures entered { OnOk result (IsEntered cut.now gap shape.now place entries.new.items) }
 {
     let rect = laid(cut.upright, shape.rect());
-    let across = reach(&rect.x1, &rect.x2, gap);
-    let along = reach(&rect.y1, &rect.y2, gap);
+    let across = widened(&rect.x1, &rect.x2, gap);
+    let along = widened(&rect.y1, &rect.y2, gap);
     let shift = cut.shift.min(63);
-    let mut entry = Entry {
-        metal: shape.metal(),
-        band: along.low >> shift,
-        left: across.low,
-        right: across.high,
-        place,
-    };
-    entries.push(entry)?;
-    for band in along.low >> shift..along.high >> shift {
-        entry.band = band + 1;
-        entries.push(entry)?;
+    let low = along.low >> shift;
+    let high = along.high >> shift;
+    let metal = shape.metal();
+    entries.push(entry_at(metal, low, &across, place))?;
+    for band in low..high {
+        entries.push(entry_at(metal, band + 1, &across, place))?;
     }
     Ok(())
 }

@@ -1,13 +1,13 @@
 -- Entries of shapes in bands, and the pairs that a sweep along the bands looks at.
-use Rattle.std.specs.Prelude.{◌≡◌, ℕ, ◌+◌, ◌/◌, ◌^◌, ◌<◌, ◌≤◌, min, ℤ, pos, ◌+ℤ◌, ◌≤ℤ◌, List, length, slice_index_or, false, Bool, if◌then◌else◌, Contains}
+use Rattle.std.specs.Prelude.{◌≡◌, ℕ, ◌+◌, ◌/◌, ◌^◌, ◌<◌, ◌≤◌, min, ℤ, pos, ◌+ℤ◌, ◌≤ℤ◌, List, length, slice_index_or, false, Bool, if◌then◌else◌, All, Contains}
 use Rattle.sym_geom.specs.declared.rect.Rect.{Rect}
 use Rattle.sym_shapes.specs.Shape.{Shape}
 use Rattle.sym_shapes.specs.Bands.{flipped}
-use Rattle.druc_rules.specs.declared.bands.Cut.{Cut}
-use Rattle.druc_rules.specs.declared.sweep.Entry.{Entry}
-use Rattle.druc_rules.specs.declared.near.Relation.{Relation}
-use Rattle.druc_rules.specs.declared.near.Pair.{Pair}
-use Rattle.druc_rules.specs.Near.{Relates, Has}
+use Rattle.sym_near.specs.declared.bands.Cut.{Cut}
+use Rattle.sym_near.specs.declared.sweep.Entry.{Entry}
+use Rattle.sym_near.specs.declared.near.Relation.{Relation}
+use Rattle.sym_near.specs.declared.near.Pair.{Pair}
+use Rattle.sym_near.specs.Related.{Relates, Has}
 
 -- Numbers of 64 bits for an interval, in either order of its ends, that a gap widens: `low` is at most each end, counted from
 -- the lowest coordinate, and `high` at least all that is within the gap of one.
@@ -57,7 +57,7 @@ EntersAll all cuts gap entries = (k : ℕ) (d : Shape) → k < length all
 
 -- each entry is of a shape
 abbrev pub PlacesWithin : List Shape → List Entry → Type 0
-PlacesWithin all entries = (e : Entry) → Contains entries e → e.place < length all
+PlacesWithin all entries = All (λ e. e.place < length all) entries
 
 -- in the band of the first, and not right of it
 pub record InBand (first e : Entry) : Type 0 where

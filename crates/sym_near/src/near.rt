@@ -1,7 +1,7 @@
 // Pairs of shapes that are near, or of which one lies within the other.
 ghost use Rattle.std.specs.Prelude.{◌↔◌, ◌<◌, ◌+ℤ◌, ◌<ℤ◌, length, pos, IsTrue};
 ghost use Rattle.sym_geom.specs.Rect.{Near as IsNear, Within as LiesWithin};
-ghost use Rattle.druc_rules.specs.Near.{Relates};
+ghost use Rattle.sym_near.specs.Related.{Relates};
 
 use sym_geom::{Rect, touches};
 use sym_shapes::Shape;

@@ -1,11 +1,11 @@
 // Shapes of one metal that are related, found along bands.
-ghost use Rattle.std.specs.Prelude.{◌≡◌, ◌<◌, ◌≤◌, ◌↔◌, length, IsTrue, OnOk, IfOk};
+ghost use Rattle.std.specs.Prelude.{◌≡◌, ◌<◌, ◌≤◌, ◌↔◌, length, IsTrue, OnOk, Contains};
 ghost use Rattle.std.specs.List.Sorted.{IsPermutation};
-ghost use Rattle.druc_rules.specs.Near.{Gains, Has, AreRelated};
-ghost use Rattle.druc_rules.specs.Sweep.{InBand, PlacesWithin, Ordered, SharesAll, SeesFrom, SeesRuns, entry_from};
+ghost use Rattle.sym_near.specs.Related.{Gains, Relates, pair};
+ghost use Rattle.sym_near.specs.Sweep.{InBand, PlacesWithin, Ordered, SeesFrom, SeesRuns, entry_from};
 
 use crate::near::{Pair, Relation, relates};
-use std::alloc::{AllocError, Global};
+use std::alloc::AllocError;
 use sym_shapes::Shape;
 
 /// A shape in one band that it touches, from its left to its right end there: entries stand in the order of their metals, bands
@@ -49,31 +49,23 @@ fn run_end(entries: &[Entry], p: usize) -> usize
     end
 }
 
-/// Puts two shapes behind the pairs, in each order in which the first is so related to the second.
-fn look(
+/// Puts two shapes behind the pairs, if the first is so related to the second.
+fn put(
     pairs: &mut Vec<Pair>,
     shapes: &[Shape],
     relation: Relation,
-    one: u32,
-    other: u32,
+    first: u32,
+    second: u32,
 ) -> Result<(), AllocError>
-    requires one { one < length shapes.now }
-    requires other { other < length shapes.now }
+    requires first { first < length shapes.now }
+    requires second { second < length shapes.now }
     ensures gains { OnOk result (Gains shapes.now relation pairs.old.items pairs.new.items) }
-    ensures has { OnOk result (Has shapes.now relation pairs.new.items one other) }
+    ensures has { OnOk result (Relates shapes.now relation first second → Contains pairs.new.items (pair first second)) }
 {
-    if relates(shapes, relation, one, other) {
-        pairs.push(Pair {
-            first: one,
-            second: other,
-        })?;
+    if !relates(shapes, relation, first, second) {
+        return Ok(());
     }
-    if relates(shapes, relation, other, one) {
-        pairs.push(Pair {
-            first: other,
-            second: one,
-        })?;
-    }
+    pairs.push(Pair { first, second })?;
     Ok(())
 }
 
@@ -93,13 +85,15 @@ fn look_run(
     let first = entries[p].place;
     let end = run_end(entries, p);
     for q in p + 1..end {
-        look(pairs, shapes, relation, first, entries[q].place)?;
+        let second = entries[q].place;
+        put(pairs, shapes, relation, first, second)?;
+        put(pairs, shapes, relation, second, first)?;
     }
     Ok(())
 }
 
 /// Looks at the shapes of each entry and of its run.
-fn look_all(
+pub fn look_all(
     pairs: &mut Vec<Pair>,
     shapes: &[Shape],
     relation: Relation,
@@ -113,23 +107,4 @@ fn look_all(
         look_run(pairs, shapes, relation, entries, p)?;
     }
     Ok(())
-}
-
-/// All pairs of which the first is so related to the second, in their order, each once. Takes memory for them.
-pub fn related(
-    alloc: Global,
-    shapes: &[Shape],
-    relation: Relation,
-    entries: &[Entry],
-) -> Result<Vec<Pair>, AllocError>
-    requires places { PlacesWithin shapes.now entries.now }
-    requires ordered { Ordered entries.now }
-    requires shares { SharesAll shapes.now relation entries.now }
-    ensures { IfOk result (λ pairs. AreRelated shapes.now relation pairs.items) }
-{
-    let mut pairs = Vec::new(alloc);
-    look_all(&mut pairs, shapes, relation, entries)?;
-    pairs.sort()?;
-    pairs.dedup();
-    Ok(pairs)
 }

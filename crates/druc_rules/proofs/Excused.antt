@@ -1,0 +1,94 @@
+-- When two shapes that don't touch are excused, by their places.
+use Rattle.std.proofs.Common.{◌≡◌, ℕ, ◌<◌, ◌⊎◌, inl, inr, List, length, get_or, None, Some, sym, ◌∙◌, ap, subst}
+use Rattle.vlsi_base.specs.Member.{In}
+use Rattle.cell_model.proofs.Members.{In-at, place-In}
+use Rattle.sym_geom.specs.Rect.{Meet}
+use Rattle.sym_geom.specs.declared.rect.Rect.{Rect}
+use Rattle.sym_shapes.specs.Shape.{Shape}
+use Rattle.sym_shapes.specs.Joined.{Joined}
+use Rattle.net_meaning.specs.Breaches.{IsOverPin, IsBridged, IsExcused, one_instance, first_over_pin, second_over_pin, joined_first, joined_second, first_bridged, second_bridged}
+use Rattle.sym_near.specs.declared.near.Relation.TheVariants as relation
+use Rattle.sym_near.specs.Related.{nowhere, shape_at, Relates}
+use Rattle.druc_rules.specs.Excuses.{AreOfOne, Excuses, IsCovered, AreTied}
+
+meet_back : (a b : Rect) → Meet a b → Meet b a
+meet_back a b m = record { left = m.right; right = m.left; low = m.high; high = m.low }
+
+module _ (all : List Shape) (i j : ℕ) where
+  -- a third shape, which covers the first, is a pin of the second's instance or touches the second
+  pub covered_is : IsCovered all i j → IsOverPin all (shape_at all i) (shape_at all j) ⊎ IsBridged all (shape_at all i) (shape_at all j)
+  covered_is c =
+      let listed : In (shape_at all c.third) all = In-at all c.third nowhere c.holds.second in
+      elim c.excuses [
+        | inl touches ↦ inr (record { third = shape_at all c.third; listed = listed; metal = sym c.holds.metal; within = c.holds.is.1; touches = touches })
+        | inr pin ↦ inl (record {
+          drawn = pin.0;
+          owner = pin.2.0;
+          owned = pin.2.2;
+          pin = shape_at all c.third;
+          name = pin.1.0;
+          listed = listed;
+          of_owner = pin.2.1;
+          named = pin.1.1;
+          metal = sym c.holds.metal;
+          within = c.holds.is.1;
+        })
+      ]
+
+  module _ (low : i < length all) where
+    pub over_pin_covers : IsOverPin all (shape_at all i) (shape_at all j) → IsCovered all i j
+    over_pin_covers o =
+        let k = place-In o.pin all o.listed in
+        let stands : shape_at all k.0 ≡ o.pin = k.2 nowhere in
+        let other : i ≡ k.0 → ⊥ = λ e.
+        let same : (shape_at all i).owner ≡ o.pin.owner = ap (λ (x : ℕ). (shape_at all x).owner) e ∙ ap (λ (s : Shape). s.owner) stands in
+        let clash : None ≡ Some o.owner = sym o.drawn ∙ same ∙ o.of_owner in
+        cc clash in
+        record {
+          third = k.0;
+          holds = record { first = low; second = k.1; metal = sym o.metal ∙ sym (ap (λ (s : Shape). s.metal) stands); is = (other, rw stands o.within) };
+          excuses = inr (o.drawn, (o.name, rw stands o.named), (o.owner, rw stands o.of_owner, o.owned));
+        }
+
+    pub bridged_covers : (Meet (shape_at all i).rect (shape_at all j).rect → ⊥) → IsBridged all (shape_at all i) (shape_at all j) → IsCovered all i j
+    bridged_covers apart b =
+        let k = place-In b.third all b.listed in
+        let stands : shape_at all k.0 ≡ b.third = k.2 nowhere in
+        let other : i ≡ k.0 → ⊥ = λ e.
+        let same : b.third ≡ shape_at all i = sym (ap (λ (x : ℕ). shape_at all x) e ∙ stands) in
+        apart (subst (λ (s : Shape). Meet s.rect (shape_at all j).rect) same b.touches) in
+        record {
+          third = k.0;
+          holds = record { first = low; second = k.1; metal = sym b.metal ∙ sym (ap (λ (s : Shape). s.metal) stands); is = (other, rw stands b.within) };
+          excuses = inl (rw stands b.touches);
+        }
+
+-- the four tests
+abbrev pub Tested : List Shape → ℕ → ℕ → Type 0
+Tested all i j = AreOfOne (shape_at all i) (shape_at all j) ⊎ (AreTied all (shape_at all i) (shape_at all j) ⊎ (IsCovered all i j ⊎ IsCovered all j i))
+
+pub excused_so : (all : List Shape) (i j : ℕ) → Tested all i j → IsExcused all (shape_at all i) (shape_at all j)
+excused_so all i j t = elim t [
+  | inl one ↦ one_instance one.0 one.1 one.2
+  | inr h ↦ elim h [
+    | inl tied ↦ elim tied.of_instance.1 [
+      | inl a ↦ joined_first tied.of_instance.0 a tied.joined
+      | inr b ↦ joined_second tied.of_instance.0 b tied.joined
+    ]
+    | inr k ↦ elim k [
+      | inl first ↦ elim (covered_is all i j first) [ inl o ↦ first_over_pin o | inr b ↦ first_bridged b ]
+      | inr second ↦ elim (covered_is all j i second) [ inl o ↦ second_over_pin o | inr b ↦ second_bridged b ]
+    ]
+  ]
+]
+
+pub tested_so : (all : List Shape) (i j : ℕ) → i < length all → j < length all → (Meet (shape_at all i).rect (shape_at all j).rect → ⊥)
+    → IsExcused all (shape_at all i) (shape_at all j) → Tested all i j
+tested_so all i j hi hj apart (one_instance owner a b) = inl (owner, a, b)
+tested_so all i j hi hj apart (first_over_pin o) = inr (inr (inl (over_pin_covers all i j hi o)))
+tested_so all i j hi hj apart (second_over_pin o) = inr (inr (inr (over_pin_covers all j i hj o)))
+tested_so all i j hi hj apart (joined_first owner a joined) = inr (inl (record { of_instance = (owner, inl a); joined = joined }))
+tested_so all i j hi hj apart (joined_second owner b joined) = inr (inl (record { of_instance = (owner, inr b); joined = joined }))
+tested_so all i j hi hj apart (first_bridged b) = inr (inr (inl (bridged_covers all i j hi apart b)))
+tested_so all i j hi hj apart (second_bridged b) =
+    inr (inr (inr (bridged_covers all j i hj (λ m. apart (meet_back (shape_at all j).rect (shape_at all i).rect m)) b)))

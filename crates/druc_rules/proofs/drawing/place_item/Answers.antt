@@ -1,0 +1,27 @@
+use Rattle.std.proofs.Common.{sym}
+use Rattle.cell_model.proofs.Members.{All-In}
+use Rattle.cell_model.specs.Usable.{IsFormed}
+use Rattle.cell_checks.specs.Checked.{library_of}
+use Rattle.net_view.proofs.Models.{named_cell}
+use Rattle.cougar_extract.proofs.ShownLine.{placed_known, placed_near}
+use Rattle.druc_rules.proofs.Drawn.{one_unknown}
+use Rattle.druc_rules.proofs.drawing.place_item.Goals as goal
+
+pub returns-in_default-cell_of-clause-refused : goal.returns-in_default-cell_of-clause-refused
+returns-in_default-cell_of-clause-refused c =
+    one_unknown (library_of c.args.cells.now) c.args.item.now c.in-Instance.instance c.in-Instance.is c.unknown.result (sym c.in_default-cell_of.ensures) c.unknown.ensures
+
+pub place-requires-clause-formed : goal.place-requires-clause-formed
+place-requires-clause-formed c =
+    All-In IsFormed c.args.cells.now c.requires.formed c.in-Some.cell.now
+    (named_cell c.args.cells.now c.in-Instance.instance.model c.in-Some.cell.now (sym c.in-Some.ensures)).0
+
+pub place-requires-clause-x : goal.place-requires-clause-x
+place-requires-clause-x c = (placed_near (library_of c.args.cells.now) c.args.item.now c.in-Instance.instance c.in-Instance.is c.requires.places).0
+
+pub place-requires-clause-y : goal.place-requires-clause-y
+place-requires-clause-y c = (placed_near (library_of c.args.cells.now) c.args.item.now c.in-Instance.instance c.in-Instance.is c.requires.places).1
+
+pub returns-clause-known : goal.returns-clause-known
+returns-clause-known c =
+    placed_known (library_of c.args.cells.now) c.args.item.now c.in-Instance.instance c.in-Instance.is c.in-Some.cell.now (sym c.in-Some.ensures)

@@ -1,0 +1,86 @@
+-- What `druc` reads and answers.
+use Rattle.std.specs.Prelude.{◌≡◌, ℕ, ◌<◌, List, [], ◌∷◌, ◌++◌, map, length, get_or, false, None, Result, Ok, Err}
+use Rattle.vlsi_base.specs.declared.fault.FaultKind.{FaultKind}
+use Rattle.vlsi_base.specs.declared.fault.FaultKind.TheVariants as kind
+use Rattle.vlsi_base.specs.declared.name.Name.{Name}
+use Rattle.vlsi_base.specs.Names.{scalar}
+use Rattle.ap_io.specs.declared.figure.Figure.{Figure}
+use Rattle.ap_io.specs.ApText.{IsApText}
+use Rattle.ap_io.specs.Refusal.{IsApRefusal}
+use Rattle.catal.specs.Cells.{cells_in}
+use Rattle.cell_model.specs.Library.{Library}
+use Rattle.cell_model.specs.Layout.{instances_of}
+use Rattle.cell_lib.specs.declared.error.LibError.{LibError}
+use Rattle.cell_lib.specs.Files.{catal_name, cell_files}
+use Rattle.cell_lib.specs.Library.{IsLibraryOf, IsRefusedLibrary, status_of}
+use Rattle.net_meaning.specs.Breaches.{Breaches}
+use Rattle.cougar_extract.specs.Extracted.{AreKnown}
+use Rattle.cougar_extract.specs.Refused.{IsFirstUnknown}
+use Rattle.cougar_run.specs.Cougar.{layout_file}
+use Rattle.druc_rules.specs.declared.breach.Breach.{Breach}
+use Rattle.druc_rules.specs.declared.error.DrucError.{DrucError}
+use Rattle.druc_rules.specs.declared.error.DrucError.TheVariants as error
+use Rattle.druc_rules.specs.Breaches.{breach_of}
+use Rattle.tool_words.specs.declared.command.DrucCommand.{DrucCommand}
+use Rattle.tool_drive.specs.declared.status.Status.{Status}
+use Rattle.tool_drive.specs.declared.status.Status.TheVariants as status
+use Rattle.tool_drive.specs.declared.status.Verdict.TheVariants.{Broken}
+use Rattle.tool_drive.specs.declared.tool.Product.{Product}
+use Rattle.tool_drive.specs.declared.tool.Refusal.{Refusal}
+use Rattle.tool_drive.specs.Plan.{Plan, Inputs, limited}
+use Rattle.tool_drive.specs.Refusals.{OfFile}
+use Rattle.druc_run.specs.Report.{report}
+
+-- SOURCE, then CATAL, and then the files of the cells that CATAL uses
+abbrev pub druc_plan : DrucCommand → Plan
+druc_plan c = record {
+  first = layout_file c.source ∷ limited (catal_name c.library) ∷ [];
+  more = λ read. cell_files c.library (cells_in (get_or read 1 []));
+}
+
+-- library and layout are read, the model of each instance is in the library, and these are the layout's breaches
+pub record AreListed (source catal : List ℕ) (cells : List (List ℕ)) (found : List Breach) : Type 0 where
+  pub l : Library
+  pub library : IsLibraryOf false catal cells l
+  pub f : Figure
+  pub figure : IsApText source f
+  pub known : AreKnown (instances_of f.items) l
+  pub breaches : Breaches f.items l (map breach_of found)
+
+-- there is no breach, and that is printed
+pub record IsWithoutBreach (source catal : List ℕ) (cells : List (List ℕ)) (p : Product) : Type 0 where
+  pub none : AreListed source catal cells []
+  pub file : p.file ≡ None
+  pub text : p.text ≡ report [] ++ 10 ∷ []
+
+-- a fault of the whole file stands on line 1
+abbrev pub fault_of : DrucCommand → FaultKind → List Name → Status
+fault_of c k names = status.Source c.source (record { line = 1; kind = k; names = names })
+
+-- What is refused, in this order: the library, the layout, an instance of a cell that the library hasn't, and a layout that has
+-- breaches, which are listed.
+pub data IsRefused (c : DrucCommand) (source catal : List ℕ) (cells : List (List ℕ)) (s : Status) : Type 0 where
+  no_library : (e : LibError) → IsRefusedLibrary false catal cells e → s ≡ status_of e → IsRefused c source catal cells s
+  bad_layout : (l : Library) → IsLibraryOf false catal cells l → OfFile c.source (IsApRefusal source) s → IsRefused c source catal cells s
+  unknown_cell : (l : Library) (f : Figure) (model : List ℕ) → IsLibraryOf false catal cells l → IsApText source f
+      → IsFirstUnknown (instances_of f.items) l model → s ≡ fault_of c kind.UnknownCell (scalar model ∷ []) → IsRefused c source catal cells s
+  broken : (found : List Breach) → AreListed source catal cells found → 0 < length found → s ≡ status.No (Broken (report found))
+      → IsRefused c source catal cells s
+
+-- there is no breach, or one of these refusals
+abbrev pub Checks : DrucCommand → List ℕ → List ℕ → List (List ℕ) → Result Product Refusal → Type 0
+Checks c source catal cells (Ok p) = IsWithoutBreach source catal cells p
+Checks c source catal cells (Err r) = (r.part ≡ None) × IsRefused c source catal cells r.status
+
+abbrev pub druc_answers : DrucCommand → Inputs → Result Product Refusal → Type 0
+druc_answers c i r = Checks c (get_or i.first 0 []) (get_or i.first 1 []) i.more r
+
+-- how a refusal of the rules' check is told
+abbrev pub IsToldOf : DrucCommand → DrucError → Status → Type 0
+IsToldOf c error.Memory s = ⊥
+IsToldOf c (error.UnknownCell model) s = s ≡ fault_of c kind.UnknownCell (scalar model ∷ [])
+
+-- what is answered of breaches that were found
+abbrev pub IsAnswerOf : List Breach → Result Product Refusal → Type 0
+IsAnswerOf found (Ok p) = (found ≡ []) × (p.file ≡ None) × (p.text ≡ report [] ++ 10 ∷ [])
+IsAnswerOf found (Err r) = (r.part ≡ None) × (0 < length found) × (r.status ≡ status.No (Broken (report found)))

@@ -1,0 +1,44 @@
+use Rattle.std.proofs.Common.{◌≡◌, ◌<◌, ℕ, length, subst, arith}
+use Rattle.sym_near.specs.Sweep.{entry_from, SeesRun}
+use Rattle.sym_near.proofs.Sweeps.{gains_none, gains_then, sees_next, sees_whole}
+use Rattle.sym_near.proofs.sweep.look_run.Goals as goal
+
+pub put-requires-clause-first : goal.put-requires-clause-first
+put-requires-clause-first c = c.requires.places c.args.p _ c.requires.p_within
+
+pub put-requires-clause-second : goal.put-requires-clause-second
+put-requires-clause-second c =
+    let low : c.loop-q.q < length c.args.entries.now = omega (arith, c.loop-q-test.true, c.run_end-end.ensures.within) in
+    c.requires.places c.loop-q.q _ low
+
+pub put-2-requires-clause-first : goal.put-2-requires-clause-first
+put-2-requires-clause-first c =
+    let low : c.loop-q.q < length c.args.entries.now = omega (arith, c.loop-q-test.true, c.run_end-end.ensures.within) in
+    c.requires.places c.loop-q.q _ low
+
+pub put-2-requires-clause-second : goal.put-2-requires-clause-second
+put-2-requires-clause-second c = c.requires.places c.args.p _ c.requires.p_within
+
+pub loop-q-init : goal.loop-q-init
+loop-q-init c = record { gains = gains_none c.args.shapes.now c.args.relation c.args.pairs.now.items; run = λ q after low. absurd (omega (arith, after, low)) }
+
+pub loop-q-preserved : goal.loop-q-preserved
+loop-q-preserved c =
+    let all = c.args.shapes.now in
+    let r = c.args.relation in
+    let olds = c.loop-q.pairs.items in
+    let mids = c.put.new.pairs.items in
+    let news = c.put-2.new.pairs.items in
+    let f = c.in_ok-put.ensures.gains in
+    let g = c.in_ok-put-2.ensures.gains in
+    record {
+      gains = gains_then all r c.args.pairs.now.items olds news c.loop-q.invariant.gains (gains_then all r olds mids news f g);
+      run = sees_next all r c.args.entries.now olds mids news c.args.p c.loop-q.q f g c.loop-q.invariant.run c.in_ok-put.ensures.has c.in_ok-put-2.ensures.has;
+    }
+
+pub returns-clause-sees : goal.returns-clause-sees
+returns-clause-sees c =
+    let e : c.loop-q.q ≡ c.run_end-end.result = omega (arith, c.loop-q-test.false, c.loop-q.auto.q-end, c.run_end-end.ensures.after) in
+    sees_whole c.args.shapes.now c.args.relation c.args.entries.now c.loop-q.pairs.items c.args.p c.run_end-end.result
+    (subst (λ (n : ℕ). SeesRun c.args.shapes.now c.args.relation c.args.entries.now c.loop-q.pairs.items c.args.p n) e c.loop-q.invariant.run)
+    c.run_end-end.ensures.after c.run_end-end.ensures.last

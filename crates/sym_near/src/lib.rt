@@ -1,0 +1,12 @@
+//! Pairs of shapes of one metal: which are near, and which lie within which.
+//!
+//! What such pairs are stands in `specs/Related.antt`.
+#![tactic(auto)]
+
+mod bands;
+mod near;
+mod related;
+mod sweep;
+
+pub use near::{Pair, Relation, is_below};
+pub use related::{near_pairs, NearPairs};
