@@ -1,6 +1,7 @@
 -- The pairs of shapes that are too near, among those that are near; the drawn shapes that are too narrow.
-use Rattle.std.proofs.Common.{◌≡◌, ℕ, ◌+◌, ◌<◌, List, [], ◌∷◌, ◌++◌, map, length, get_or, None, refl, sym, ◌∙◌, ap, subst, append_assoc, arith}
+use Rattle.std.proofs.Common.{◌≡◌, ℕ, ◌+◌, ◌<◌, List, [], ◌∷◌, ◌++◌, map, length, take, get_or, refl, sym, ◌∙◌, ap, subst, append_assoc, arith}
 use Rattle.std.specs.List.{Contains}
+use Rattle.std.proofs.lemmas.List.{take_more}
 use Rattle.vlsi_base.specs.Member.{In, Picks, done, pairs}
 use Rattle.cell_model.proofs.Members.{In-at, place-In}
 use Rattle.sym_geom.specs.Rect.{Meet}
@@ -112,3 +113,13 @@ module _ (all : List Shape) (least : ℕ) (near : List Pair) (are : AreRelated a
             (picks_map (both_at all nowhere) P (keys_from 0 all) a.chosen at_places);
         are = a.are ∙ ap (λ (fs : List Found). olds ++ fs) (sym (map_twice (λ (q : Shape × Shape). found.Gap q.0.metal q.0.rect q.1.rect) (both_at all nowhere) a.chosen));
       }
+
+-- ---- loops
+
+pub taken_next : {A : Type 0} (xs : List A) (k : ℕ) (x : A) → k < length xs → x ≡ get_or xs k x → take (k + 1) xs ≡ take k xs ++ x ∷ []
+taken_next xs k x low is = take_more xs k x low ∙ ap (λ y. take k xs ++ y ∷ []) (sym is)
+
+-- what is known of the pair at a place
+pub related_at : (all : List Shape) (least : ℕ) (near : List Pair) (k : ℕ) (p : Pair) → AreRelated all (relation.Near least) near → k < length near → p ≡ get_or near k p
+    → Relates all (relation.Near least) p.first p.second
+related_at all least near k p are low is = are.sound p (k, low, sym is)

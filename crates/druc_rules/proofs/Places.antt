@@ -36,7 +36,7 @@ Rising [] = Unit {0}
 Rising (p ∷ ps) = ((q : Pair) → In q ps → Before p q) × Rising ps
 
 before_so : (p q : Pair) (o1 o2 : Ordering) → MatchOrdering o1 (p.first < q.first) (p.first ≡ q.first) (q.first < p.first)
-    → MatchOrdering o2 (p.second < q.second) (p.second ≡ q.second) (q.second < p.second) → ordering_then o1 (ordering_then o2 Equal) ≡ Less → Before p q
+    → MatchOrdering o2 (p.second < q.second) (p.second ≡ q.second) (q.second < p.second) → ordering_then o1 o2 ≡ Less → Before p q
 before_so p q Less o2 m1 m2 h = inl m1
 before_so p q Equal Less m1 m2 h = inr (m1, m2)
 before_so p q Equal Equal m1 m2 h = absurd (cc h)

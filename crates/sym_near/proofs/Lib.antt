@@ -1,3 +1,4 @@
 pub mod Sweeps
 pub mod Orders
 pub mod Enters
+pub mod Listed

@@ -2,7 +2,6 @@
 use Rattle.std.specs.Prelude.{◌≡◌, ◌≢◌, ◌⊎◌, ℕ, ◌<◌, pos, List, length, slice_index_or, Contains, None}
 use Rattle.std.specs.Ordering.{nat_cmp, ordering_then}
 use Rattle.std.specs.declared.cmp.Ordering.{Ordering}
-use Rattle.std.specs.declared.cmp.Ordering.TheVariants.{Equal}
 use Rattle.std.specs.List.Sorted.{IsStrictlySortedBy}
 use Rattle.sym_geom.specs.Rect.{Meet, Within, Near}
 use Rattle.sym_shapes.specs.Shape.{Shape}
@@ -38,7 +37,7 @@ pair i j = record { first = i; second = j }
 
 -- by the first, then by the second
 abbrev pub pair_cmp : Pair → Pair → Ordering
-pair_cmp p q = ordering_then (nat_cmp p.first q.first) (ordering_then (nat_cmp p.second q.second) Equal)
+pair_cmp p q = ordering_then (nat_cmp p.first q.first) (nat_cmp p.second q.second)
 
 -- pairs that are so related are put behind those that were there
 pub record Gains (all : List Shape) (r : Relation) (olds news : List Pair) : Type 0 where

@@ -11,13 +11,13 @@ put-requires-clause-second c =
     let low : c.loop-q.q < length c.args.entries.now = omega (arith, c.loop-q-test.true, c.run_end-end.ensures.within) in
     c.requires.places c.loop-q.q _ low
 
-pub put-2-requires-clause-first : goal.put-2-requires-clause-first
-put-2-requires-clause-first c =
+pub put-requires-in-loop-q-clause-first : goal.put-requires-in-loop-q-clause-first
+put-requires-in-loop-q-clause-first c =
     let low : c.loop-q.q < length c.args.entries.now = omega (arith, c.loop-q-test.true, c.run_end-end.ensures.within) in
     c.requires.places c.loop-q.q _ low
 
-pub put-2-requires-clause-second : goal.put-2-requires-clause-second
-put-2-requires-clause-second c = c.requires.places c.args.p _ c.requires.p_within
+pub put-requires-in-loop-q-clause-second : goal.put-requires-in-loop-q-clause-second
+put-requires-in-loop-q-clause-second c = c.requires.places c.args.p _ c.requires.p_within
 
 pub loop-q-init : goal.loop-q-init
 loop-q-init c = record { gains = gains_none c.args.shapes.now c.args.relation c.args.pairs.now.items; run = λ q after low. absurd (omega (arith, after, low)) }
@@ -28,7 +28,7 @@ loop-q-preserved c =
     let r = c.args.relation in
     let olds = c.loop-q.pairs.items in
     let mids = c.put.new.pairs.items in
-    let news = c.put-2.new.pairs.items in
+    let news = c.put-in-loop-q.new.pairs.items in
     let f = c.in_ok-put.ensures.gains in
     let g = c.in_ok-put-2.ensures.gains in
     record {

@@ -1,0 +1,85 @@
+-- From the refusals of readers and of the rules' check to the tool's, and from the breaches to its answer.
+use Rattle.std.proofs.Common.{◌≡◌, ℕ, List, map, Option, None, Result, Ok, Err, false, refl, sym, subst}
+use Rattle.vlsi_base.specs.declared.fault.ReadError.{ReadError}
+use Rattle.ap_io.specs.declared.figure.Figure.{Figure}
+use Rattle.ap_io.specs.ApText.{IsApText}
+use Rattle.ap_io.specs.Refusal.{IsApRefusal}
+use Rattle.cell_model.specs.Library.{Library}
+use Rattle.cell_model.specs.Layout.{instances_of}
+use Rattle.cell_lib.specs.declared.error.LibError.{LibError}
+use Rattle.cell_lib.specs.declared.error.LibError.TheVariants as errors
+use Rattle.cell_lib.proofs.Plain.{never_missing, never_unread}
+use Rattle.cell_lib.specs.Cells.{OrMemory}
+use Rattle.cell_lib.specs.Library.{IsLibraryOf, IsRefusedLibrary, status_of}
+use Rattle.net_meaning.specs.Breaches.{Breaches}
+use Rattle.cougar_extract.specs.Extracted.{AreKnown}
+use Rattle.druc_rules.specs.declared.breach.Breach.{Breach}
+use Rattle.druc_rules.specs.declared.error.DrucError.{DrucError}
+use Rattle.druc_rules.specs.declared.error.DrucError.TheVariants as ruling
+use Rattle.druc_rules.specs.Breaches.{breach_of, IsUnknownRefusal}
+use Rattle.tool_words.specs.declared.command.DrucCommand.{DrucCommand}
+use Rattle.tool_drive.specs.declared.status.Status.{Status}
+use Rattle.tool_drive.specs.declared.status.Status.TheVariants as status
+use Rattle.tool_drive.specs.declared.tool.Written.{Written}
+use Rattle.tool_drive.specs.declared.tool.Product.{Product}
+use Rattle.tool_drive.specs.declared.tool.Refusal.{Refusal}
+use Rattle.tool_drive.specs.Table.{IsJudged, IsFair, refusal}
+use Rattle.tool_drive.specs.Refusals.{MemoryOr, OfFile, of_file, judged_file}
+use Rattle.druc_run.specs.Druc.{AreListed, no_library, bad_layout, unknown_cell, broken, Checks, IsToldOf, IsAnswerOf}
+
+module _ (c : DrucCommand) (source list : List ℕ) (cells : List (List ℕ)) where
+  pub by_library : (e : LibError) → OrMemory (IsRefusedLibrary false list cells) e → IsJudged (Checks c source list cells) (Err (refusal (status_of e) None))
+  by_library errors.Memory h = refl
+  by_library (errors.Limit l) h = (refl, no_library (errors.Limit l) h refl)
+  by_library (errors.BadCatal line) h = (refl, no_library (errors.BadCatal line) h refl)
+  by_library (errors.BadCell cell cause) h = (refl, no_library (errors.BadCell cell cause) h refl)
+  by_library (errors.Missing name) h = absurd (never_missing false list cells name h)
+  by_library (errors.ReadFault name) h = absurd (never_unread false list cells name h)
+
+  module _ (l : Library) (library : IsLibraryOf false list cells l) where
+    pub by_layout : (e : ReadError) (s : Status) → IsApRefusal source e → MemoryOr s (OfFile c.source (λ x. x ≡ e) s) → IsJudged (Checks c source list cells) (Err (refusal s None))
+    by_layout e s h k =
+        judged_file (Checks c source list cells) c.source (IsApRefusal source) s (of_file c.source (IsApRefusal source) e h s k) (λ o. (refl, bad_layout l library o))
+
+    module _ (f : Figure) (figure : IsApText source f) where
+      told : (e : DrucError) (s : Status) → IsUnknownRefusal (instances_of f.items) l e → IsToldOf c e s → IsFair s None (Checks c source list cells (Err (refusal s None)))
+      told ruling.Memory s h k = absurd k
+      told (ruling.UnknownCell model) s h k =
+          subst (λ (t : Status). IsFair t None (Checks c source list cells (Err (refusal t None)))) (sym k) (refl, unknown_cell l f model library figure h refl)
+
+      pub by_rules : (e : DrucError) (s : Status) → IsUnknownRefusal (instances_of f.items) l e → MemoryOr s (IsToldOf c e s) → IsJudged (Checks c source list cells) (Err (refusal s None))
+      by_rules e status.Memory h k = refl
+      by_rules e status.Accepted h k = told e status.Accepted h k
+      by_rules e status.Usage h k = told e status.Usage h k
+      by_rules e (status.Source file fault) h k = told e (status.Source file fault) h k
+      by_rules e (status.Library fault) h k = told e (status.Library fault) h k
+      by_rules e (status.NoCover which) h k = told e (status.NoCover which) h k
+      by_rules e (status.Budget equation reached) h k = told e (status.Budget equation reached) h k
+      by_rules e (status.NoPath net terminal) h k = told e (status.NoPath net terminal) h k
+      by_rules e (status.File cause name) h k = told e (status.File cause name) h k
+      by_rules e (status.Limit limit) h k = told e (status.Limit limit) h k
+      by_rules e (status.No verdict) h k = told e (status.No verdict) h k
+
+      module _ (known : AreKnown (instances_of f.items) l) (found : List Breach) (breaches : Breaches f.items l (map breach_of found)) where
+        listed : AreListed source list cells found
+        listed = record { l = l; library = library; f = f; figure = figure; known = known; breaches = breaches }
+
+        pub accepted : (p : Product) → IsAnswerOf found (Ok p) → Checks c source list cells (Ok p)
+        accepted p h = record { none = subst (λ (bs : List Breach). AreListed source list cells bs) h.0 listed; file = h.1; text = h.2 }
+
+        by_status : (s : Status) (part : Option Written) → IsFair s part (IsAnswerOf found (Err (refusal s part))) → IsFair s part (Checks c source list cells (Err (refusal s part)))
+        by_status status.Memory part h = h
+        by_status status.Accepted part h = absurd h
+        by_status status.Usage part h = absurd h
+        by_status (status.File cause name) part h = absurd h
+        by_status (status.Source file fault) part h = (h.0, broken found listed h.1 h.2)
+        by_status (status.Library fault) part h = (h.0, broken found listed h.1 h.2)
+        by_status (status.NoCover which) part h = (h.0, broken found listed h.1 h.2)
+        by_status (status.Budget equation reached) part h = (h.0, broken found listed h.1 h.2)
+        by_status (status.NoPath net terminal) part h = (h.0, broken found listed h.1 h.2)
+        by_status (status.Limit limit) part h = (h.0, broken found listed h.1 h.2)
+        by_status (status.No verdict) part h = (h.0, broken found listed h.1 h.2)
+
+        pub answered : (r : Result Product Refusal) → IsJudged (IsAnswerOf found) r → IsJudged (Checks c source list cells) r
+        answered (Ok p) h = accepted p h
+        answered (Err r) h = by_status r.status r.part h
