@@ -68,6 +68,13 @@ fn is_covered(layout: &Layout<'_>, first: u32, second: u32) -> bool
     false
 }
 
+/// Whether no instance has either.
+fn are_drawn(a: &Shape, b: &Shape) -> bool
+    ensures { IsTrue result ↔ ((a.now.owner ≡ None) × (b.now.owner ≡ None)) }
+{
+    a.owner().is_none() && b.owner().is_none()
+}
+
 /// Whether one of two shapes is of an instance, and they are joined.
 fn are_tied(layout: &Layout<'_>, first: u32, second: u32) -> bool
     requires known { IsKnown layout.now }
@@ -77,7 +84,7 @@ fn are_tied(layout: &Layout<'_>, first: u32, second: u32) -> bool
 {
     let one = &layout.shapes[first as usize];
     let other = &layout.shapes[second as usize];
-    if one.owner().is_none() && other.owner().is_none() {
+    if are_drawn(one, other) {
         return false;
     }
     layout.numbers[first as usize] == layout.numbers[second as usize]

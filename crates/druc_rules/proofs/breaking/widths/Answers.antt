@@ -1,14 +1,14 @@
 use Rattle.std.proofs.Common.{◌≡◌, ◌+◌, ◌++◌, ◌∷◌, [], List, take, sym, ◌∙◌, subst, rules, arith}
 use Rattle.std.proofs.lemmas.List.{take_all}
 use Rattle.sym_shapes.specs.Shape.{Shape}
-use Rattle.druc_rules.specs.declared.breach.Breach.TheVariants as found
+use Rattle.druc_rules.specs.declared.breach.Breach.TheVariants as breach
 use Rattle.druc_rules.specs.Breaches.{AreWidths}
 use Rattle.druc_rules.proofs.Gaps.{widths_none, widths_more, widths_skip, taken_next}
 use Rattle.druc_rules.proofs.breaking.widths.Goals.{then-is_narrow+in_ok-push, else-is_narrow}
 use Rattle.druc_rules.proofs.breaking.widths.Goals as goal
 
 pub loop-shape-init : goal.loop-shape-init
-loop-shape-init c = widths_none c.args.width c.new.result.items c.new.ensures
+loop-shape-init c = widths_none c.args.width c.new-found.result.items c.new-found.ensures.items
 
 pub loop-shape-preserved : goal.loop-shape-preserved
 loop-shape-preserved c =
@@ -21,7 +21,7 @@ loop-shape-preserved c =
       | then-is_narrow+in_ok-push w ↦
           rw (w.found-is, next)
           (widths_more c.args.width (take k all) s olds w.push.new.self.items c.loop-shape.invariant (c.is_narrow.ensures.0 (search (rules, w.if-is_narrow.true)))
-          (w.in_ok-push.ensures.items ∙ (λ i. olds ++ found.Width (w.metal.ensures i) (w.rect.ensures i) ∷ [])))
+          (w.in_ok-push.ensures.items ∙ (λ i. olds ++ breach.Width (w.metal.ensures i) (w.rect.ensures i) ∷ [])))
       | else-is_narrow w ↦
           rw (w.found-is, next)
           (widths_skip c.args.width (take k all) s olds c.loop-shape.invariant (λ h. absurd (search (rules, w.if-is_narrow.false, c.is_narrow.ensures.1 h))))
