@@ -148,5 +148,5 @@ module _ (all : List Shape) (i j : ℕ) (c d : Shape) (hi : i < length all) (hj 
         | inl e ↦ clash (shape_at all i).owner t.of_instance.0 g.0 e
         | inr e ↦ clash (shape_at all j).owner t.of_instance.0 g.1 e
       ] where
-    clash : (o : Option (List ℕ)) (owner : List ℕ) → o ≡ None → o ≡ Some owner → ⊥
-    clash o owner p q = let e : None ≡ Some owner = sym p ∙ q in cc
+        clash : (o : Option (List ℕ)) (owner : List ℕ) → o ≡ None → o ≡ Some owner → ⊥
+        clash o owner p q = let e : None ≡ Some owner = sym p ∙ q in cc

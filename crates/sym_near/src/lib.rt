@@ -9,4 +9,4 @@ mod related;
 mod sweep;
 
 pub use near::{Pair, Relation, is_below};
-pub use related::{near_pairs, NearPairs};
+pub use related::{NearPairs, near_pairs};

@@ -15,9 +15,13 @@ loop-k-preserved c =
     record {
       after = omega (arith, c.loop-k.invariant.after);
       none = none_more all ps c.args.first c.args.second c.requires.known.holders k c.loop-k.invariant.none
-          (λ h. absurd (search (rules, c.if-excuses.false, c.excuses.ensures.1
-          (excuses_from all c.args.first c.args.second c.index-layout-first.result c.index-layout-second.result c.requires.first c.requires.second
-          (holder ps k).second c.index-layout-third.result (holds_at all ps c.args.first c.args.second c.requires.known.holders k c.loop-k-test.true).second h))));
+          (λ h. absurd (search (
+            rules,
+            c.if-excuses.false,
+            c.excuses.ensures.1
+                (excuses_from all c.args.first c.args.second c.index-layout-first.result c.index-layout-second.result c.requires.first c.requires.second
+                (holder ps k).second c.index-layout-third.result (holds_at all ps c.args.first c.args.second c.requires.known.holders k c.loop-k-test.true).second h),
+          )));
     }
 
 pub returns-else-layout-k : goal.returns-else-layout-k

@@ -29,9 +29,13 @@ returns c =
       λ h. excused_so all c.args.first c.args.second (inr (inr (inr (c.is_covered-2.ensures.0 h)))),
       λ e. elim (tested_so all c.args.first c.args.second c.requires.first c.requires.second c.requires.apart e) [
         | inl one ↦ absurd
-            (search (rules, c.if-are_of_one.false, c.are_of_one.ensures.1
-            (one_from all c.args.first c.args.second c.index-layout-first.result c.index-layout-second.result c.requires.first c.requires.second
-            one)))
+            (search (
+              rules,
+              c.if-are_of_one.false,
+              c.are_of_one.ensures.1
+                  (one_from all c.args.first c.args.second c.index-layout-first.result c.index-layout-second.result c.requires.first c.requires.second
+                  one),
+            ))
         | inr h ↦ elim h [
           | inl tied ↦ absurd (search (rules, c.if-are_tied.false, c.are_tied.ensures.1 tied))
           | inr k ↦ elim k [
