@@ -1,13 +1,24 @@
 -- When two shapes that don't touch are excused, by their places.
+<<<<<<< HEAD
 use Rattle.std.proofs.Common.{◌≡◌, ℕ, ◌<◌, ◌⊎◌, inl, inr, List, length, get_or, None, Some, sym, ◌∙◌, ap, subst}
+=======
+use Rattle.std.proofs.Common.{◌≡◌, ℕ, ◌<◌, ◌⊎◌, inl, inr, List, length, get_or, Option, None, Some, refl, sym, ◌∙◌, ap, subst}
+>>>>>>> 87a379cd64cc478e5d9ffa8276dae8432b0db58a
 use Rattle.vlsi_base.specs.Member.{In}
 use Rattle.cell_model.proofs.Members.{In-at, place-In}
 use Rattle.sym_geom.specs.Rect.{Meet}
 use Rattle.sym_geom.specs.declared.rect.Rect.{Rect}
 use Rattle.sym_shapes.specs.Shape.{Shape}
+<<<<<<< HEAD
 use Rattle.sym_shapes.specs.Joined.{Joined}
 use Rattle.net_meaning.specs.Breaches.{IsOverPin, IsBridged, IsExcused, one_instance, first_over_pin, second_over_pin, joined_first, joined_second, first_bridged, second_bridged}
 use Rattle.sym_near.specs.declared.near.Relation.TheVariants as relation
+=======
+use Rattle.sym_shapes.specs.Joints.{NumbersJoined}
+use Rattle.net_meaning.specs.Breaches.{IsOverPin, IsBridged, IsExcused, one_instance, first_over_pin, second_over_pin, joined_first, joined_second, first_bridged, second_bridged}
+use Rattle.sym_near.specs.declared.near.Relation.TheVariants as relation
+use Rattle.sym_near.proofs.Sweeps.{at_any}
+>>>>>>> 87a379cd64cc478e5d9ffa8276dae8432b0db58a
 use Rattle.sym_near.specs.Related.{nowhere, shape_at, Relates}
 use Rattle.druc_rules.specs.Excuses.{AreOfOne, Excuses, IsCovered, AreTied}
 
@@ -43,7 +54,11 @@ module _ (all : List Shape) (i j : ℕ) where
         let other : i ≡ k.0 → ⊥ = λ e.
         let same : (shape_at all i).owner ≡ o.pin.owner = ap (λ (x : ℕ). (shape_at all x).owner) e ∙ ap (λ (s : Shape). s.owner) stands in
         let clash : None ≡ Some o.owner = sym o.drawn ∙ same ∙ o.of_owner in
+<<<<<<< HEAD
         cc clash in
+=======
+        absurd (cc clash) in
+>>>>>>> 87a379cd64cc478e5d9ffa8276dae8432b0db58a
         record {
           third = k.0;
           holds = record { first = low; second = k.1; metal = sym o.metal ∙ sym (ap (λ (s : Shape). s.metal) stands); is = (other, rw stands o.within) };
@@ -92,3 +107,63 @@ tested_so all i j hi hj apart (joined_second owner b joined) = inr (inl (record 
 tested_so all i j hi hj apart (first_bridged b) = inr (inr (inl (bridged_covers all i j hi apart b)))
 tested_so all i j hi hj apart (second_bridged b) =
     inr (inr (inr (bridged_covers all j i hj (λ m. apart (meet_back (shape_at all j).rect (shape_at all i).rect m)) b)))
+<<<<<<< HEAD
+=======
+
+-- ---- by shapes that were read at their places
+
+module _ (all : List Shape) (i j : ℕ) (c d : Shape) (hi : i < length all) (hj : j < length all) where
+  abbrev a : Shape
+  a = get_or all i c
+
+  abbrev b : Shape
+  b = get_or all j d
+
+  a_at : a ≡ shape_at all i
+  a_at = at_any all i c nowhere hi
+
+  b_at : b ≡ shape_at all j
+  b_at = at_any all j d nowhere hj
+
+  -- what holds of the two holds of those at their places, and the other way round
+  to_places : (P : Shape → Shape → Type 0) → P a b → P (shape_at all i) (shape_at all j)
+  to_places P h = subst (λ (x : Shape). P x (shape_at all j)) a_at (subst (λ (y : Shape). P a y) b_at h)
+
+  from_places : (P : Shape → Shape → Type 0) → P (shape_at all i) (shape_at all j) → P a b
+  from_places P h = subst (λ (x : Shape). P x b) (sym a_at) (subst (λ (y : Shape). P (shape_at all i) y) (sym b_at) h)
+
+  pub one_to : AreOfOne a b → AreOfOne (shape_at all i) (shape_at all j)
+  one_to h = to_places AreOfOne h
+
+  pub one_from : AreOfOne (shape_at all i) (shape_at all j) → AreOfOne a b
+  one_from h = from_places AreOfOne h
+
+  pub excuses_from : (k : ℕ) (t : Shape) → k < length all → Excuses (shape_at all i) (shape_at all j) (shape_at all k) → Excuses a b (get_or all k t)
+  excuses_from k t hk h =
+      from_places (λ x y. Excuses x y (get_or all k t)) (subst (λ (z : Shape). Excuses (shape_at all i) (shape_at all j) z) (at_any all k nowhere t hk) h)
+
+  owner_of : (o p : Option (List ℕ)) → ((o ≡ None) × (p ≡ None) → ⊥) → (owner : List ℕ) × ((o ≡ Some owner) ⊎ (p ≡ Some owner))
+  owner_of None None n = absurd (n (refl, refl))
+  owner_of None (Some x) n = (x, inr refl)
+  owner_of (Some x) p n = (x, inl refl)
+
+  module _ (numbers : List ℕ) (told : NumbersJoined all numbers) where
+    pub tied_so : ((a.owner ≡ None) × (b.owner ≡ None) → ⊥) → get_or numbers i 0 ≡ get_or numbers j 0 → AreTied all (shape_at all i) (shape_at all j)
+    tied_so n same = record {
+      of_instance = owner_of (shape_at all i).owner (shape_at all j).owner (to_places (λ x y. ((x.owner ≡ None) × (y.owner ≡ None) → ⊥)) n);
+      joined = (told i j nowhere hi hj).0 same;
+    }
+
+    pub number_so : AreTied all (shape_at all i) (shape_at all j) → get_or numbers i 0 ≡ get_or numbers j 0
+    number_so t = (told i j nowhere hi hj).1 t.joined
+
+  pub tied_owned : AreTied all (shape_at all i) (shape_at all j) → (a.owner ≡ None) × (b.owner ≡ None) → ⊥
+  tied_owned t h =
+      let g = to_places (λ x y. (x.owner ≡ None) × (y.owner ≡ None)) h in
+      elim t.of_instance.1 [
+        | inl e ↦ clash (shape_at all i).owner t.of_instance.0 g.0 e
+        | inr e ↦ clash (shape_at all j).owner t.of_instance.0 g.1 e
+      ] where
+        clash : (o : Option (List ℕ)) (owner : List ℕ) → o ≡ None → o ≡ Some owner → ⊥
+        clash o owner p q = let e : None ≡ Some owner = sym p ∙ q in cc
+>>>>>>> 87a379cd64cc478e5d9ffa8276dae8432b0db58a
