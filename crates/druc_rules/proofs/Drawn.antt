@@ -1,11 +1,6 @@
 -- How an unknown cell is refused, and the whole list.
-<<<<<<< HEAD
-use Rattle.std.proofs.Common.{◌≡◌, ◌⊎◌, inl, inr, ℕ, List, [], ◌∷◌, ◌++◌, map, length, take, None, refl, sym, ◌∙◌, ap, subst}
-use Rattle.vlsi_base.specs.Member.{In, pairs}
-=======
 use Rattle.std.proofs.Common.{◌≡◌, ◌⊎◌, inl, inr, ℕ, List, [], ◌∷◌, ◌++◌, map, length, take, None, Some, refl, sym, ◌∙◌, ap, subst}
 use Rattle.std.specs.Prelude.{slice_get}
->>>>>>> 87a379cd64cc478e5d9ffa8276dae8432b0db58a
 use Rattle.sym_geom.specs.declared.item.Instance.{Instance as Placed}
 use Rattle.sym_geom.specs.declared.item.Item.{Item}
 use Rattle.sym_geom.specs.declared.item.Item.TheVariants as item
@@ -13,19 +8,11 @@ use Rattle.sym_shapes.specs.Shape.{Shape}
 use Rattle.cell_model.specs.Library.{Library, cell_of}
 use Rattle.cell_model.specs.Layout.{instances_of, shapes}
 use Rattle.net_meaning.specs.Breaches.{Breach, width, gap}
-<<<<<<< HEAD
-use Rattle.net_core.specs.Places.{Stands}
-=======
->>>>>>> 87a379cd64cc478e5d9ffa8276dae8432b0db58a
 use Rattle.cougar_extract.specs.Extracted.{AreKnown}
 use Rattle.cougar_extract.proofs.Steps.{unknown_one, unknown_later}
 use Rattle.druc_rules.specs.declared.breach.Rules.{Rules}
 use Rattle.druc_rules.specs.declared.breach.Breach.{Breach as Found}
-<<<<<<< HEAD
-use Rattle.druc_rules.specs.declared.breach.Breach.TheVariants as found
-=======
 use Rattle.druc_rules.specs.declared.breach.Breach.TheVariants as breach
->>>>>>> 87a379cd64cc478e5d9ffa8276dae8432b0db58a
 use Rattle.druc_rules.specs.declared.error.DrucError.{DrucError}
 use Rattle.druc_rules.specs.declared.error.DrucError.TheVariants as errors
 use Rattle.druc_rules.specs.Breaches.{breach_of, BreachesBy, AreWidths, AddsGaps, IsUnknownRefusal}
@@ -39,11 +26,7 @@ one_unknown l one i is e none h =
       | inr u ↦ subst (λ (x : DrucError). IsUnknownRefusal (i ∷ []) l x) (sym u) (unknown_one l i none)
     ])
 
-<<<<<<< HEAD
-pub refused_line : (items : List Item) (l : Library) (k : ℕ) (one : Item) (e : DrucError) → Stands items k one → AreKnown (instances_of (take k items)) l
-=======
 pub refused_line : (items : List Item) (l : Library) (k : ℕ) (one : Item) (e : DrucError) → slice_get items k ≡ Some one → AreKnown (instances_of (take k items)) l
->>>>>>> 87a379cd64cc478e5d9ffa8276dae8432b0db58a
     → IsUnknownRefusal (instances_of (one ∷ [])) l e → IsUnknownRefusal (instances_of items) l e
 refused_line items l k one errors.Memory at known h = tt
 refused_line items l k one (errors.UnknownCell model) at known h = unknown_later items l k one model at known h
@@ -54,19 +37,11 @@ map_both : {A B : Type 0} (f : A → B) (xs ys : List A) → map f (xs ++ ys) �
 map_both f [] ys = refl
 map_both f (x ∷ xs) ys = ap (λ zs. f x ∷ zs) (map_both f xs ys)
 
-<<<<<<< HEAD
-widths_meant : (ss : List Shape) → map breach_of (map (λ (s : Shape). found.Width s.metal s.rect) ss) ≡ map (λ (s : Shape). width s.metal s.rect) ss
-widths_meant [] = refl
-widths_meant (s ∷ ss) = ap (λ (bs : List Breach). width s.metal s.rect ∷ bs) (widths_meant ss)
-
-gaps_meant : (ps : List (Shape × Shape)) → map breach_of (map (λ (p : Shape × Shape). found.Gap p.0.metal p.0.rect p.1.rect) ps) ≡ map (λ (p : Shape × Shape). gap p.0.metal p.0.rect p.1.rect) ps
-=======
 widths_meant : (ss : List Shape) → map breach_of (map (λ (s : Shape). breach.Width s.metal s.rect) ss) ≡ map (λ (s : Shape). width s.metal s.rect) ss
 widths_meant [] = refl
 widths_meant (s ∷ ss) = ap (λ (bs : List Breach). width s.metal s.rect ∷ bs) (widths_meant ss)
 
 gaps_meant : (ps : List (Shape × Shape)) → map breach_of (map (λ (p : Shape × Shape). breach.Gap p.0.metal p.0.rect p.1.rect) ps) ≡ map (λ (p : Shape × Shape). gap p.0.metal p.0.rect p.1.rect) ps
->>>>>>> 87a379cd64cc478e5d9ffa8276dae8432b0db58a
 gaps_meant [] = refl
 gaps_meant (p ∷ ps) = ap (λ (bs : List Breach). gap p.0.metal p.0.rect p.1.rect ∷ bs) (gaps_meant ps)
 
@@ -81,12 +56,7 @@ breaches_by r items l all olds news all_is w g =
       widths = w2.picked;
       gaps = g2.picked;
       are =
-<<<<<<< HEAD
-          ap (λ (fs : List Found). map breach_of fs) (g2.are ∙ ap (λ (fs : List Found). fs ++ map (λ (p : Shape × Shape). found.Gap p.0.metal p.0.rect p.1.rect) g2.near) w2.are)
-          ∙ map_both breach_of (map (λ (s : Shape). found.Width s.metal s.rect) w2.narrow) (map (λ (p : Shape × Shape). found.Gap p.0.metal p.0.rect p.1.rect) g2.near)
-=======
           ap (λ (fs : List Found). map breach_of fs) (g2.are ∙ ap (λ (fs : List Found). fs ++ map (λ (p : Shape × Shape). breach.Gap p.0.metal p.0.rect p.1.rect) g2.near) w2.are)
           ∙ map_both breach_of (map (λ (s : Shape). breach.Width s.metal s.rect) w2.narrow) (map (λ (p : Shape × Shape). breach.Gap p.0.metal p.0.rect p.1.rect) g2.near)
->>>>>>> 87a379cd64cc478e5d9ffa8276dae8432b0db58a
           ∙ (λ i. widths_meant w2.narrow i ++ gaps_meant g2.near i);
     }

@@ -1,24 +1,14 @@
 -- When two shapes that don't touch are excused, by their places.
-<<<<<<< HEAD
-use Rattle.std.proofs.Common.{◌≡◌, ℕ, ◌<◌, ◌⊎◌, inl, inr, List, length, get_or, None, Some, sym, ◌∙◌, ap, subst}
-=======
 use Rattle.std.proofs.Common.{◌≡◌, ℕ, ◌<◌, ◌⊎◌, inl, inr, List, length, get_or, Option, None, Some, refl, sym, ◌∙◌, ap, subst}
->>>>>>> 87a379cd64cc478e5d9ffa8276dae8432b0db58a
 use Rattle.vlsi_base.specs.Member.{In}
 use Rattle.cell_model.proofs.Members.{In-at, place-In}
 use Rattle.sym_geom.specs.Rect.{Meet}
 use Rattle.sym_geom.specs.declared.rect.Rect.{Rect}
 use Rattle.sym_shapes.specs.Shape.{Shape}
-<<<<<<< HEAD
-use Rattle.sym_shapes.specs.Joined.{Joined}
-use Rattle.net_meaning.specs.Breaches.{IsOverPin, IsBridged, IsExcused, one_instance, first_over_pin, second_over_pin, joined_first, joined_second, first_bridged, second_bridged}
-use Rattle.sym_near.specs.declared.near.Relation.TheVariants as relation
-=======
 use Rattle.sym_shapes.specs.Joints.{NumbersJoined}
 use Rattle.net_meaning.specs.Breaches.{IsOverPin, IsBridged, IsExcused, one_instance, first_over_pin, second_over_pin, joined_first, joined_second, first_bridged, second_bridged}
 use Rattle.sym_near.specs.declared.near.Relation.TheVariants as relation
 use Rattle.sym_near.proofs.Sweeps.{at_any}
->>>>>>> 87a379cd64cc478e5d9ffa8276dae8432b0db58a
 use Rattle.sym_near.specs.Related.{nowhere, shape_at, Relates}
 use Rattle.druc_rules.specs.Excuses.{AreOfOne, Excuses, IsCovered, AreTied}
 
@@ -54,11 +44,7 @@ module _ (all : List Shape) (i j : ℕ) where
         let other : i ≡ k.0 → ⊥ = λ e.
         let same : (shape_at all i).owner ≡ o.pin.owner = ap (λ (x : ℕ). (shape_at all x).owner) e ∙ ap (λ (s : Shape). s.owner) stands in
         let clash : None ≡ Some o.owner = sym o.drawn ∙ same ∙ o.of_owner in
-<<<<<<< HEAD
-        cc clash in
-=======
         absurd (cc clash) in
->>>>>>> 87a379cd64cc478e5d9ffa8276dae8432b0db58a
         record {
           third = k.0;
           holds = record { first = low; second = k.1; metal = sym o.metal ∙ sym (ap (λ (s : Shape). s.metal) stands); is = (other, rw stands o.within) };
@@ -107,8 +93,6 @@ tested_so all i j hi hj apart (joined_second owner b joined) = inr (inl (record 
 tested_so all i j hi hj apart (first_bridged b) = inr (inr (inl (bridged_covers all i j hi apart b)))
 tested_so all i j hi hj apart (second_bridged b) =
     inr (inr (inr (bridged_covers all j i hj (λ m. apart (meet_back (shape_at all j).rect (shape_at all i).rect m)) b)))
-<<<<<<< HEAD
-=======
 
 -- ---- by shapes that were read at their places
 
@@ -166,4 +150,3 @@ module _ (all : List Shape) (i j : ℕ) (c d : Shape) (hi : i < length all) (hj 
       ] where
         clash : (o : Option (List ℕ)) (owner : List ℕ) → o ≡ None → o ≡ Some owner → ⊥
         clash o owner p q = let e : None ≡ Some owner = sym p ∙ q in cc
->>>>>>> 87a379cd64cc478e5d9ffa8276dae8432b0db58a

@@ -9,16 +9,10 @@ use Rattle.sym_shapes.specs.Shape.{Shape}
 use Rattle.net_meaning.specs.Breaches.{IsExcused}
 use Rattle.sym_near.specs.declared.near.Relation.TheVariants as relation
 use Rattle.sym_near.specs.declared.near.Pair.{Pair}
-<<<<<<< HEAD
-use Rattle.sym_near.specs.Related.{nowhere, shape_at, Relates, AreRelated, pair}
-use Rattle.druc_rules.specs.declared.breach.Breach.{Breach as Found}
-use Rattle.druc_rules.specs.declared.breach.Breach.TheVariants as found
-=======
 use Rattle.sym_near.proofs.Sweeps.{at_any}
 use Rattle.sym_near.specs.Related.{nowhere, shape_at, Relates, AreRelated, pair}
 use Rattle.druc_rules.specs.declared.breach.Breach.{Breach as Found}
 use Rattle.druc_rules.specs.declared.breach.Breach.TheVariants as breach
->>>>>>> 87a379cd64cc478e5d9ffa8276dae8432b0db58a
 use Rattle.druc_rules.specs.Breaches.{IsNarrowBy, AreTooNearBy, AreWidths, AddsGaps}
 use Rattle.druc_rules.proofs.Picked.{picks_push, picks_skip, picks_map, picks_both, picks_same}
 use Rattle.druc_rules.proofs.Places.{rising_so, picks_sorted, keys_from, key_bounds, key_there, keys_rising, both_at, all_pairs}
@@ -42,20 +36,12 @@ there-of xs x h = let k = place-In x xs h in (k.0, k.1, k.2 x)
 pub widths_none : (least : ℕ) (found : List Found) → found ≡ [] → AreWidths least [] found
 widths_none least found is = record { narrow = []; picked = done; are = is }
 
-<<<<<<< HEAD
-pub widths_more : (least : ℕ) (xs : List Shape) (s : Shape) (olds news : List Found) → AreWidths least xs olds → IsNarrowBy least s → news ≡ olds ++ found.Width s.metal s.rect ∷ []
-=======
 pub widths_more : (least : ℕ) (xs : List Shape) (s : Shape) (olds news : List Found) → AreWidths least xs olds → IsNarrowBy least s → news ≡ olds ++ breach.Width s.metal s.rect ∷ []
->>>>>>> 87a379cd64cc478e5d9ffa8276dae8432b0db58a
     → AreWidths least (xs ++ s ∷ []) news
 widths_more least xs s olds news w own is = record {
   narrow = w.narrow ++ s ∷ [];
   picked = picks_push (IsNarrowBy least) xs w.narrow s w.picked own;
-<<<<<<< HEAD
-  are = is ∙ ap (λ (fs : List Found). fs ++ found.Width s.metal s.rect ∷ []) w.are ∙ sym (map_push (λ (x : Shape). found.Width x.metal x.rect) w.narrow s);
-=======
   are = is ∙ ap (λ (fs : List Found). fs ++ breach.Width s.metal s.rect ∷ []) w.are ∙ sym (map_push (λ (x : Shape). breach.Width x.metal x.rect) w.narrow s);
->>>>>>> 87a379cd64cc478e5d9ffa8276dae8432b0db58a
 }
 
 pub widths_skip : (least : ℕ) (xs : List Shape) (s : Shape) (found : List Found) → AreWidths least xs found → (IsNarrowBy least s → ⊥) → AreWidths least (xs ++ s ∷ []) found
@@ -67,11 +53,7 @@ abbrev pub Unexcused : List Shape → Pair → Type 0
 Unexcused all p = IsExcused all (shape_at all p.first) (shape_at all p.second) → ⊥
 
 abbrev pub gap_at : List Shape → Pair → Found
-<<<<<<< HEAD
-gap_at all p = found.Gap (shape_at all p.first).metal (shape_at all p.first).rect (shape_at all p.second).rect
-=======
 gap_at all p = breach.Gap (shape_at all p.first).metal (shape_at all p.first).rect (shape_at all p.second).rect
->>>>>>> 87a379cd64cc478e5d9ffa8276dae8432b0db58a
 
 -- the near pairs so far that nothing excuses are put behind what was there
 pub record AddsChosen (all : List Shape) (near : List Pair) (olds news : List Found) : Type 0 where
@@ -130,11 +112,7 @@ module _ (all : List Shape) (least : ℕ) (near : List Pair) (are : AreRelated a
         near = map (both_at all nowhere) a.chosen;
         picked = subst (λ (qs : List (Shape × Shape)). Picks P qs (map (both_at all nowhere) a.chosen)) (all_pairs all nowhere)
             (picks_map (both_at all nowhere) P (keys_from 0 all) a.chosen at_places);
-<<<<<<< HEAD
-        are = a.are ∙ ap (λ (fs : List Found). olds ++ fs) (sym (map_twice (λ (q : Shape × Shape). found.Gap q.0.metal q.0.rect q.1.rect) (both_at all nowhere) a.chosen));
-=======
         are = a.are ∙ ap (λ (fs : List Found). olds ++ fs) (sym (map_twice (λ (q : Shape × Shape). breach.Gap q.0.metal q.0.rect q.1.rect) (both_at all nowhere) a.chosen));
->>>>>>> 87a379cd64cc478e5d9ffa8276dae8432b0db58a
       }
 
 -- ---- loops
@@ -142,12 +120,6 @@ module _ (all : List Shape) (least : ℕ) (near : List Pair) (are : AreRelated a
 pub taken_next : {A : Type 0} (xs : List A) (k : ℕ) (x : A) → k < length xs → x ≡ get_or xs k x → take (k + 1) xs ≡ take k xs ++ x ∷ []
 taken_next xs k x low is = take_more xs k x low ∙ ap (λ y. take k xs ++ y ∷ []) (sym is)
 
-<<<<<<< HEAD
--- what is known of the pair at a place
-pub related_at : (all : List Shape) (least : ℕ) (near : List Pair) (k : ℕ) (p : Pair) → AreRelated all (relation.Near least) near → k < length near → p ≡ get_or near k p
-    → Relates all (relation.Near least) p.first p.second
-related_at all least near k p are low is = are.sound p (k, low, sym is)
-=======
 abbrev pub pair_at : List Pair → ℕ → Pair
 pair_at near k = get_or near k (record { first = 0; second = 0 })
 
@@ -155,4 +127,3 @@ pair_at near k = get_or near k (record { first = 0; second = 0 })
 pub related_at : (all : List Shape) (least : ℕ) (near : List Pair) (k : ℕ) → AreRelated all (relation.Near least) near → k < length near
     → Relates all (relation.Near least) (pair_at near k).first (pair_at near k).second
 related_at all least near k are low = are.sound (pair_at near k) (k, low, at_any near k (pair_at near k) (record { first = 0; second = 0 }) low)
->>>>>>> 87a379cd64cc478e5d9ffa8276dae8432b0db58a

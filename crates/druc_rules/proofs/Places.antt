@@ -159,17 +159,10 @@ row_rising : {A : Type 0} (k m : ℕ) (xs : List A) → Rising (map (pair k) (pl
 row_rising k m [] = tt
 row_rising k m (x ∷ xs) = (
   λ q i.
-<<<<<<< HEAD
-    let f = In-map_back (pair k) q (places_from (suc m) xs) i in
-    let b = place_bounds (suc m) xs f.0 f.1 in
-    let low = b.0 in
-    subst (λ (y : Pair). Before (pair k m) y) f.2 (inr (refl, omega (arith, low))),
-=======
       let f = In-map_back (pair k) q (places_from (suc m) xs) i in
       let b = place_bounds (suc m) xs f.0 f.1 in
       let low = b.0 in
       subst (λ (y : Pair). Before (pair k m) y) f.2 (inr (refl, omega (arith, low))),
->>>>>>> 87a379cd64cc478e5d9ffa8276dae8432b0db58a
   row_rising k (suc m) xs,
 )
 

@@ -13,23 +13,14 @@ use Rattle.net_meaning.specs.Breaches.{Breach, width, gap, IsExcused, Breaches}
 use Rattle.cougar_extract.specs.Refused.{IsFirstUnknown}
 use Rattle.druc_rules.specs.declared.breach.Rules.{Rules}
 use Rattle.druc_rules.specs.declared.breach.Breach.{Breach as Found}
-<<<<<<< HEAD
-use Rattle.druc_rules.specs.declared.breach.Breach.TheVariants as found
-=======
 use Rattle.druc_rules.specs.declared.breach.Breach.TheVariants as breach
->>>>>>> 87a379cd64cc478e5d9ffa8276dae8432b0db58a
 use Rattle.druc_rules.specs.declared.error.DrucError.{DrucError}
 use Rattle.druc_rules.specs.declared.error.DrucError.TheVariants as error
 
 -- the breach that an item of the list is
 abbrev pub breach_of : Found → Breach
-<<<<<<< HEAD
-breach_of (found.Width metal rect) = width metal rect
-breach_of (found.Gap metal a b) = gap metal a b
-=======
 breach_of (breach.Width metal rect) = width metal rect
 breach_of (breach.Gap metal a b) = gap metal a b
->>>>>>> 87a379cd64cc478e5d9ffa8276dae8432b0db58a
 
 -- a drawn rectangle narrower than the least width in x or y
 pub record IsNarrowBy (least : ℕ) (s : Shape) : Type 0 where
@@ -68,18 +59,10 @@ IsUnknownRefusal instances l (error.UnknownCell model) = IsFirstUnknown instance
 pub record AreWidths (least : ℕ) (all : List Shape) (found : List Found) : Type 0 where
   pub narrow : List Shape
   pub picked : Picks (IsNarrowBy least) all narrow
-<<<<<<< HEAD
-  pub are : found ≡ map (λ s. found.Width s.metal s.rect) narrow
-=======
   pub are : found ≡ map (λ s. breach.Width s.metal s.rect) narrow
->>>>>>> 87a379cd64cc478e5d9ffa8276dae8432b0db58a
 
 -- the pairs that are too near are put behind what was there
 pub record AddsGaps (least : ℕ) (all : List Shape) (olds news : List Found) : Type 0 where
   pub near : List (Shape × Shape)
   pub picked : Picks (λ p. AreTooNearBy least all p.0 p.1) (pairs all) near
-<<<<<<< HEAD
-  pub are : news ≡ olds ++ map (λ p. found.Gap p.0.metal p.0.rect p.1.rect) near
-=======
   pub are : news ≡ olds ++ map (λ p. breach.Gap p.0.metal p.0.rect p.1.rect) near
->>>>>>> 87a379cd64cc478e5d9ffa8276dae8432b0db58a

@@ -68,8 +68,6 @@ fn is_covered(layout: &Layout<'_>, first: u32, second: u32) -> bool
     false
 }
 
-<<<<<<< HEAD
-=======
 /// Whether no instance has either.
 fn are_drawn(a: &Shape, b: &Shape) -> bool
     ensures { IsTrue result ↔ ((a.now.owner ≡ None) × (b.now.owner ≡ None)) }
@@ -77,7 +75,6 @@ fn are_drawn(a: &Shape, b: &Shape) -> bool
     a.owner().is_none() && b.owner().is_none()
 }
 
->>>>>>> 87a379cd64cc478e5d9ffa8276dae8432b0db58a
 /// Whether one of two shapes is of an instance, and they are joined.
 fn are_tied(layout: &Layout<'_>, first: u32, second: u32) -> bool
     requires known { IsKnown layout.now }
@@ -87,11 +84,7 @@ fn are_tied(layout: &Layout<'_>, first: u32, second: u32) -> bool
 {
     let one = &layout.shapes[first as usize];
     let other = &layout.shapes[second as usize];
-<<<<<<< HEAD
-    if one.owner().is_none() && other.owner().is_none() {
-=======
     if are_drawn(one, other) {
->>>>>>> 87a379cd64cc478e5d9ffa8276dae8432b0db58a
         return false;
     }
     layout.numbers[first as usize] == layout.numbers[second as usize]

@@ -13,13 +13,9 @@ use druc_rules::{Breach, DrucError, Rules, broken, standard_rules_law};
 use std::alloc::{AllocError, Global};
 use tool_drive::{Over, Product, Refusal, Status, Tool, Verdict, Wanted, bytes_at, refused};
 use tool_words::DrucCommand;
-<<<<<<< HEAD
-use vlsi_base::{FaultKind, FileBytes, FileName, InputFault, MOST_NETLIST_BYTES, Name, Names, Text};
-=======
 use vlsi_base::{
     FaultKind, FileBytes, FileName, InputFault, MOST_NETLIST_BYTES, Name, Names, Text,
 };
->>>>>>> 87a379cd64cc478e5d9ffa8276dae8432b0db58a
 
 /// `druc`, with what it is asked: it prints a line for each breach of the rules in the layout in SOURCE, and then `breaches` and how
 /// many there are.

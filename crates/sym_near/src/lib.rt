@@ -9,8 +9,4 @@ mod related;
 mod sweep;
 
 pub use near::{Pair, Relation, is_below};
-<<<<<<< HEAD
-pub use related::{near_pairs, NearPairs};
-=======
 pub use related::{NearPairs, near_pairs};
->>>>>>> 87a379cd64cc478e5d9ffa8276dae8432b0db58a

@@ -1,27 +1,17 @@
 use Rattle.std.proofs.Common.{◌≡◌, ◌+◌, ◌++◌, ◌∷◌, [], List, take, sym, ◌∙◌, ap, subst, append-nil, rules, arith}
-<<<<<<< HEAD
-use Rattle.std.proofs.lemmas.List.{take_all}
-=======
 use Rattle.std.proofs.lemmas.List.{take_all, take_more}
->>>>>>> 87a379cd64cc478e5d9ffa8276dae8432b0db58a
 use Rattle.sym_geom.specs.Rect.{Meet}
 use Rattle.sym_shapes.specs.Shape.{Shape}
 use Rattle.sym_near.specs.declared.near.Relation.TheVariants as relation
 use Rattle.sym_near.specs.declared.near.Pair.{Pair}
 use Rattle.sym_near.specs.Related.{Relates, shape_at}
-<<<<<<< HEAD
-use Rattle.druc_rules.proofs.Gaps.{AddsChosen, chosen_none, chosen_more, chosen_skip, gaps_are, taken_next, related_at}
-=======
 use Rattle.druc_rules.proofs.Gaps.{AddsChosen, chosen_none, chosen_more, chosen_skip, gaps_are, pair_at, related_at}
->>>>>>> 87a379cd64cc478e5d9ffa8276dae8432b0db58a
 use Rattle.druc_rules.proofs.breaking.put_gaps.Goals.{then-not-is_excused+in_ok-push, else-not-is_excused}
 use Rattle.druc_rules.proofs.breaking.put_gaps.Goals as goal
 
 pub loop-pair-init : goal.loop-pair-init
 loop-pair-init c = chosen_none c.args.layout.now.shapes.now c.args.found.now.items c.args.found.now.items (sym (append-nil c.args.found.now.items))
 
-<<<<<<< HEAD
-=======
 pub is_excused-requires-clause-first : goal.is_excused-requires-clause-first
 is_excused-requires-clause-first c =
     (related_at c.args.layout.now.shapes.now c.args.least c.args.near.now c.loop-pair.pair-index c.requires.near c.loop-pair-test.true).first
@@ -53,7 +43,6 @@ loop-pair-preserved c =
           (chosen_skip all (take k near) p before olds c.loop-pair.invariant (λ n. n (c.is_excused.ensures.0 (search (rules, w.if-not-is_excused)))))
     ]
 
->>>>>>> 87a379cd64cc478e5d9ffa8276dae8432b0db58a
 pub returns : goal.returns
 returns c =
     gaps_are c.args.layout.now.shapes.now c.args.least c.args.near.now c.requires.near c.args.found.now.items c.loop-pair.found.items

@@ -1,22 +1,14 @@
 use Rattle.std.proofs.Common.{◌≡◌, ◌+◌, ◌++◌, ◌∷◌, [], List, take, sym, ◌∙◌, subst, rules, arith}
 use Rattle.std.proofs.lemmas.List.{take_all}
 use Rattle.sym_shapes.specs.Shape.{Shape}
-<<<<<<< HEAD
-use Rattle.druc_rules.specs.declared.breach.Breach.TheVariants as found
-=======
 use Rattle.druc_rules.specs.declared.breach.Breach.TheVariants as breach
->>>>>>> 87a379cd64cc478e5d9ffa8276dae8432b0db58a
 use Rattle.druc_rules.specs.Breaches.{AreWidths}
 use Rattle.druc_rules.proofs.Gaps.{widths_none, widths_more, widths_skip, taken_next}
 use Rattle.druc_rules.proofs.breaking.widths.Goals.{then-is_narrow+in_ok-push, else-is_narrow}
 use Rattle.druc_rules.proofs.breaking.widths.Goals as goal
 
 pub loop-shape-init : goal.loop-shape-init
-<<<<<<< HEAD
-loop-shape-init c = widths_none c.args.width c.new.result.items c.new.ensures
-=======
 loop-shape-init c = widths_none c.args.width c.new-found.result.items c.new-found.ensures.items
->>>>>>> 87a379cd64cc478e5d9ffa8276dae8432b0db58a
 
 pub loop-shape-preserved : goal.loop-shape-preserved
 loop-shape-preserved c =
@@ -29,11 +21,7 @@ loop-shape-preserved c =
       | then-is_narrow+in_ok-push w ↦
           rw (w.found-is, next)
           (widths_more c.args.width (take k all) s olds w.push.new.self.items c.loop-shape.invariant (c.is_narrow.ensures.0 (search (rules, w.if-is_narrow.true)))
-<<<<<<< HEAD
-          (w.in_ok-push.ensures.items ∙ (λ i. olds ++ found.Width (w.metal.ensures i) (w.rect.ensures i) ∷ [])))
-=======
           (w.in_ok-push.ensures.items ∙ (λ i. olds ++ breach.Width (w.metal.ensures i) (w.rect.ensures i) ∷ [])))
->>>>>>> 87a379cd64cc478e5d9ffa8276dae8432b0db58a
       | else-is_narrow w ↦
           rw (w.found-is, next)
           (widths_skip c.args.width (take k all) s olds c.loop-shape.invariant (λ h. absurd (search (rules, w.if-is_narrow.false, c.is_narrow.ensures.1 h))))
