@@ -1,5 +1,5 @@
 -- Instances of one netlist in another, and the least that differs.
-use Rattle.std.proofs.Common.{◌≡◌, ◌⊎◌, inl, inr, ℕ, zero, suc, ◌+◌, ◌<◌, ◌≤◌, ◌^◌, Bool, true, false, not, cond, List, [], ◌∷◌, ◌++◌, length, get_or, take, map, Option, Some, None, refl, sym, ap, subst, ◌∙◌, arith}
+use Rattle.std.proofs.Common.{◌≡◌, ◌⊎◌, inl, inr, ℕ, ◌+◌, ◌<◌, ◌≤◌, Bool, true, false, not, cond, List, [], ◌∷◌, ◌++◌, length, get_or, take, map, Option, Some, None, refl, sym, ap, subst, ◌∙◌, arith}
 use Rattle.std.specs.Prelude.{slice_index_or, IsTrue, ◌↔◌}
 use Rattle.std.specs.List.{All, flat_map}
 use Rattle.std.specs.Ordering.{is_lt, nat_cmp, ordering_then}
@@ -11,21 +11,20 @@ use Rattle.std.proofs.lemmas.List.{length-map, take_all}
 use Rattle.std.proofs.lemmas.List.Folds.{flat_map-map}
 use Rattle.std.proofs.lemmas.Option.{slice_get_within, slice_get_read, get_or_from_slice_get, same_Some}
 use Rattle.vlsi_base.specs.declared.name.Name.{Name}
-use Rattle.vlsi_base.specs.declared.name.Port.{Port}
 use Rattle.vlsi_base.specs.declared.name.Terminal.{Terminal}
 use Rattle.vlsi_base.specs.Names.{scalar, comes_before}
 use Rattle.net_core.specs.declared.frame.Node.{Node}
 use Rattle.net_core.specs.Places.{Stands, IsThere, NoneTwice, position_of}
-use Rattle.net_core.specs.Netlist.{Instance, Netlist, IsNetlist, port, pin_of, pins_of, terminals}
+use Rattle.net_core.specs.Netlist.{Instance, Netlist, IsNetlist, pin_of, pins_of, terminals}
 use Rattle.net_core.specs.Frame.{instance_of, node_pins, AreNumbered}
 use Rattle.net_core.proofs.Standing.{stands_same, position_stands, position_absent}
-use Rattle.net_core.proofs.Frames.{mapped, unmapped, port_terminals, pin_found}
+use Rattle.net_core.proofs.Frames.{mapped, port_terminals, pin_found}
 use Rattle.net_core.proofs.Learning.{AreLearned}
 use Rattle.net_core.proofs.Rings.{at_place}
 use Rattle.net_view.specs.Same.{HasInstance}
 use Rattle.net_view.proofs.Places.{Which, which_port, which_pin, which}
-use Rattle.lvx_compare.specs.Compared.{HasOtherMembers, IsLeast}
-use Rattle.lvx_compare.specs.Stages.{KeepsMembers, AreMarks, mark_at, AllMarked, IsOddInstance, other_model, other_members, KeepsInstance, IsOdd, IsOddName, IsFirstInstance, name_at, is_before}
+use Rattle.lvx_compare.specs.Compared.{IsLeast}
+use Rattle.lvx_compare.specs.Stages.{AreMarks, AllMarked, IsOddInstance, other_model, other_members, KeepsInstance, IsOdd, IsOddName, IsFirstInstance, name_at, is_before}
 use Rattle.lvx_compare.proofs.Members.{kept_or_other, self_last, less_is, lesser_still}
 use Rattle.lvx_compare.proofs.Marked.{kept_at, parted_at}
 

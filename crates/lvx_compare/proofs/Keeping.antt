@@ -1,14 +1,13 @@
 -- Which classes keep their members, by the images of the classes of both netlists.
-use Rattle.std.proofs.Common.{◌≡◌, ◌⊎◌, inl, inr, ℕ, ◌<◌, ◌≤◌, Bool, true, false, List, length, get_or, map, Option, Some, None, refl, sym, ap, subst, ◌∙◌, arith}
+use Rattle.std.proofs.Common.{◌≡◌, ◌⊎◌, inl, inr, ℕ, ◌<◌, true, false, List, length, get_or, map, Option, Some, None, refl, sym, ap, subst, ◌∙◌, arith}
 use Rattle.std.specs.Prelude.{slice_get}
 use Rattle.std.specs.List.{All}
 use Rattle.std.proofs.lemmas.Bool.{cases_eq}
 use Rattle.std.proofs.lemmas.List.{length-map}
 use Rattle.std.proofs.lemmas.Option.{slice_get_within, slice_get-get_or, same_Some}
 use Rattle.vlsi_base.specs.declared.name.Terminal.{Terminal}
-use Rattle.net_core.specs.Places.{Stands, IsThere}
+use Rattle.net_core.specs.Places.{Stands}
 use Rattle.net_core.specs.Netlist.{Netlist, IsNetlist, terminals, HasClass, IsClassOf}
-use Rattle.net_core.proofs.Standing.{stands_same}
 use Rattle.net_core.proofs.Frames.{unmapped}
 use Rattle.net_core.proofs.Finishing.{class_once}
 use Rattle.net_core.proofs.Rings.{at_place, class_below}
@@ -18,7 +17,7 @@ use Rattle.lvx_compare.specs.declared.images.Image.{Image}
 use Rattle.lvx_compare.specs.declared.images.Image.TheVariants as image
 use Rattle.lvx_compare.specs.Compared.{HasOtherMembers}
 use Rattle.lvx_compare.specs.Stages.{AreClasses, IsScattered, IsImage, AreImages, is_within, is_kept, KeepsMembers, AreMarks}
-use Rattle.lvx_compare.proofs.Members.{with_itself, is_there}
+use Rattle.lvx_compare.proofs.Members.{is_there}
 
 -- whether two places hold one class
 together : (o p : Option ℕ) → ((d : ℕ) × (o ≡ Some d) × (p ≡ Some d)) ⊎ ((d : ℕ) → o ≡ Some d → p ≡ Some d → ⊥)
@@ -166,6 +165,18 @@ module _ (a b : Netlist) (there here : List (Option ℕ)) (ahead back : List Ima
     kept = λ t c h s. let u = unmapped (is_kept back) ahead c true s in kept_by c u.0 (image_at a there ahead c u.0 all.ahead_are u.1) u.2 t h;
     parted = λ t c h s. let u = unmapped (is_kept back) ahead c false s in parted_by c u.0 (image_at a there ahead c u.0 all.ahead_are u.1) u.2 t h;
   }
+
+pub turned : (a b : Netlist) (there here : List (Option ℕ)) (ahead back : List Image) → Compared a b there here ahead back → Compared b a here there back ahead
+turned a b there here ahead back all = record {
+  first = all.second;
+  second = all.first;
+  there_are = all.here_are;
+  here_are = all.there_are;
+  ahead_are = all.back_are;
+  back_are = all.ahead_are;
+  ahead_many = all.back_many;
+  back_many = all.ahead_many;
+}
 
 pub classes_low : (n : Netlist) → IsNetlist n → All (λ class. class < n.count) n.classes
 classes_low n is = turn_below 0 n.count n.classes is.turns

@@ -1,5 +1,5 @@
 -- Laws of netlists that are the same.
-use Rattle.std.proofs.Common.{◌≡◌, ◌↔◌, ◌⊎◌, ℕ, Bool, List, map, refl, sym, ap, subst, ◌∙◌}
+use Rattle.std.proofs.Common.{◌≡◌, ◌↔◌, ℕ, Bool, List, map, sym, ap, subst, ◌∙◌}
 use Rattle.vlsi_base.specs.declared.name.Name.{Name}
 use Rattle.vlsi_base.specs.declared.name.Port.{Port}
 use Rattle.vlsi_base.specs.declared.name.Terminal.{Terminal}
@@ -7,7 +7,7 @@ use Rattle.vlsi_base.specs.Member.{In}
 use Rattle.sym_geom.specs.declared.item.Item.{Item}
 use Rattle.net_core.specs.declared.pins.ModelPins.{ModelPins}
 use Rattle.net_core.specs.Places.{IsThere}
-use Rattle.net_core.specs.Netlist.{Instance, Netlist as InMemory, IsNetlist, terminals, HasClass}
+use Rattle.net_core.specs.Netlist.{Netlist as InMemory, IsNetlist, terminals, HasClass}
 use Rattle.net_core.specs.Checks.{Fits}
 use Rattle.net_core.proofs.Frames.{mapped, unmapped}
 use Rattle.cell_model.specs.Library.{Library}
@@ -17,11 +17,11 @@ use Rattle.cell_pins.specs.Table.{IsTableOf}
 use Rattle.cell_pins.proofs.Sound.{member_at as in_from_place}
 use Rattle.net_meaning.specs.Netlist.{Member, Netlist, IsTerminal, a_port, a_pin, Extracts}
 use Rattle.net_view.specs.View.{member_of, IsSeenAs}
-use Rattle.net_view.specs.Same.{HasInstance, AreJoined, AreSameByName}
+use Rattle.net_view.specs.Same.{HasInstance, AreJoined}
 use Rattle.net_view.proofs.Lists.{in_place}
 use Rattle.net_view.proofs.Places.{has_class}
 use Rattle.net_view.proofs.Terminals.{seen_ports, seen_instances, terminals_are_there}
-use Rattle.lvx_compare.specs.Compared.{HasPort, AreSame}
+use Rattle.lvx_compare.specs.Compared.{HasPort}
 use Rattle.lvx_compare.specs.Laws.{SameIsEquivalence, SameByNameIsSame, OneLayoutIsSame}
 
 turn : {P Q : Type 0} → (P ↔ Q) → (Q ↔ P)

@@ -1,6 +1,6 @@
 -- The stages of a comparison: the classes of one netlist's terminals in the other, where the members of each class are there, and
 -- what differs as it is seen from one of the two.
-use Rattle.std.specs.Prelude.{◌≡◌, ◌↔◌, ℕ, ◌+◌, ◌<◌, Bool, true, false, List, [], ◌++◌, length, map, Option, None, Some, MatchOption, slice_get, slice_index_or, if◌then◌else◌, nat_eq}
+use Rattle.std.specs.Prelude.{◌≡◌, ◌↔◌, ℕ, ◌+◌, ◌<◌, Bool, true, false, List, [], ◌++◌, length, map, Option, None, Some, slice_get, slice_index_or, if◌then◌else◌, nat_eq}
 use Rattle.std.specs.Cmp.Lexicographic.{slice_cmp}
 use Rattle.std.specs.Ordering.{nat_cmp, is_lt}
 use Rattle.vlsi_base.specs.declared.name.Name.{Name}

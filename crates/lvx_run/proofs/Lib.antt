@@ -1,2 +1,1 @@
 pub mod Netlists
-pub mod Contents

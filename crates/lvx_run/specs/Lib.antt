@@ -1,2 +1,1 @@
 pub mod Lvx
-pub mod Laws

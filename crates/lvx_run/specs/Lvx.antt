@@ -1,5 +1,5 @@
 -- What `lvx` reads and answers.
-use Rattle.std.specs.Prelude.{◌≡◌, ℕ, true, false, List, [], ◌∷◌, ◌++◌, codes, get_or, None, Result, Ok, Err}
+use Rattle.std.specs.Prelude.{◌≡◌, ◌⊎◌, ℕ, true, false, List, [], ◌∷◌, ◌++◌, codes, get_or, None, Result, Ok, Err}
 use Rattle.vlsi_base.specs.declared.limits.TheConstants.{MOST_NETLIST_BYTES}
 use Rattle.vlsi_base.specs.declared.name.Name.{Name}
 use Rattle.catal.specs.Cells.{cells_in}
@@ -61,16 +61,24 @@ pub record IsSame (t : Texts) : Type 0 where
   pub read : AreRead t a b
   pub same : AreSame a b
 
+-- why not both files are netlists of the cells in a table: SOURCE is refused, or else the second file
+abbrev pub IsUnread : LvxCommand → List ℕ → List ℕ → List ModelPins → Status → Type 0
+IsUnread c source other table s =
+    OfFile c.source (IsVstRefusal source table) s ⊎ ((n : Netlist) × IsVst source table n × OfFile c.other (IsVstRefusal other table) s)
+
 -- What is refused, in this order: the library, SOURCE, the second file, the first name that differs.
 pub data IsRefused (c : LvxCommand) (t : Texts) (s : Status) : Type 0 where
   no_library : (e : LibError) → IsRefusedLibrary false t.catal t.cells e → s ≡ status_of e → IsRefused c t s
-  bad_source : (l : Library) (table : List ModelPins) → AreCells t l table → OfFile c.source (IsVstRefusal t.source table) s → IsRefused c t s
-  bad_other : (l : Library) (table : List ModelPins) (n : Netlist) → AreCells t l table → IsVst t.source table n
-      → OfFile c.other (IsVstRefusal t.other table) s → IsRefused c t s
+  unread : (l : Library) (table : List ModelPins) → AreCells t l table → IsUnread c t.source t.other table s → IsRefused c t s
   different : (a b : Netlist) (name : Name) → AreRead t a b → IsDifference a b name → s ≡ status.No (Different name) → IsRefused c t s
 
 abbrev pub same_text : List ℕ
 same_text = codes "same" ++ 10 ∷ []
+
+-- what is answered to two netlists
+abbrev pub Tells : LvxCommand → Netlist → Netlist → Result Product Refusal → Type 0
+Tells c a b (Ok p) = (p.name ≡ c.source) × (p.file ≡ None) × (p.text ≡ same_text) × AreSame a b
+Tells c a b (Err r) = (r.part ≡ None) × ((name : Name) × IsDifference a b name × (r.status ≡ status.No (Different name)))
 
 -- The netlists are the same, this is printed, and no file is written; or one of these refusals.
 abbrev pub Compares : LvxCommand → Texts → Result Product Refusal → Type 0

@@ -4,8 +4,6 @@
 //! `specs/Table.antt` of `tool_drive`.
 #![tactic(auto)]
 
-mod laws;
 mod lvx;
 
-pub use laws::lvx_law;
 pub use lvx::Lvx;

@@ -1,11 +1,15 @@
 // `lvx` as a tool: what it reads, and what it answers.
-ghost use Rattle.std.specs.Prelude.{◌≡◌};
+ghost use Rattle.std.specs.Prelude.{◌≡◌, IfOk, IfErr};
+ghost use Rattle.net_core.specs.Checks.{IsPinTable};
+ghost use Rattle.vst_io.specs.Text.{IsVst};
+ghost use Rattle.tool_drive.specs.Refusals.{MemoryOr};
 ghost use Rattle.tool_drive.specs.Table.{IsJudged};
-ghost use Rattle.lvx_run.specs.Lvx.{netlist_file as file_of, texts, Compares};
+ghost use Rattle.lvx_run.specs.Lvx.{netlist_file as file_of, texts, IsUnread, Tells, Compares};
 
 use cell_lib::{catal_file, library_status, named_files, read_library};
 use cell_pins::pin_table;
 use lvx_compare::{Verdict as Compared, compare};
+use net_core::{Netlist, PinTable};
 use std::alloc::{AllocError, Global};
 use tool_drive::{Over, Product, Refusal, Status, Tool, Verdict, Wanted, bytes_at, refused};
 use tool_words::LvxCommand;
@@ -33,6 +37,43 @@ fn netlist_file(name: FileName) -> Wanted
     }
 }
 
+// The netlists in the bytes of SOURCE and of the second file, or the status of the first that is refused.
+fn read_both(
+    alloc: Global,
+    command: &LvxCommand,
+    source: &[u8],
+    other: &[u8],
+    table: &PinTable,
+) -> Result<(Netlist, Netlist), Status>
+    requires { IsPinTable table.now }
+    ensures first { IfOk result (λ both. IsVst source.now table.now both.0) }
+    ensures second { IfOk result (λ both. IsVst other.now table.now both.1) }
+    ensures refused { IfErr result (λ s. MemoryOr s (IsUnread command.now source.now other.now table.now s)) }
+{
+    let first = match read_vst(alloc, source, table) {
+        Ok(netlist) => netlist,
+        Err(error) => return Err(refused(alloc, &command.source, error)),
+    };
+    match read_vst(alloc, other, table) {
+        Ok(second) => Ok((first, second)),
+        Err(fault) => Err(refused(alloc, &command.other, fault)),
+    }
+}
+
+// What two netlists come to.
+fn told(alloc: Global, command: &LvxCommand, a: &Netlist, b: &Netlist) -> Result<Product, Refusal>
+    ensures { IsJudged (Tells command.now a.now b.now) result }
+{
+    match compare(alloc, a, b)? {
+        Compared::Same => Ok(Product {
+            name: command.source.copy(alloc)?,
+            file: None,
+            text: FileBytes::from_bytes(alloc, b"same\n")?,
+        }),
+        Compared::Different(name) => Err(Refusal::plain(Status::No(Verdict::Different(name)))),
+    }
+}
+
 // What the texts come to: of SOURCE, the second file and CATAL, and of the cells' files.
 fn compared(
     alloc: Global,
@@ -47,21 +88,11 @@ fn compared(
         Err(error) => return Err(Refusal::plain(library_status(error))),
     };
     let table = pin_table(alloc, &library, true)?;
-    let source = match read_vst(alloc, bytes_at(first, 0), &table) {
-        Ok(netlist) => netlist,
-        Err(error) => return Err(Refusal::plain(refused(alloc, &command.source, error))),
-    };
-    let other = match read_vst(alloc, bytes_at(first, 1), &table) {
-        Ok(netlist) => netlist,
-        Err(error) => return Err(Refusal::plain(refused(alloc, &command.other, error))),
-    };
-    match compare(alloc, &source, &other)? {
-        Compared::Same => Ok(Product {
-            name: command.source.copy(alloc)?,
-            file: None,
-            text: FileBytes::from_bytes(alloc, b"same\n")?,
-        }),
-        Compared::Different(name) => Err(Refusal::plain(Status::No(Verdict::Different(name)))),
+    let source = bytes_at(first, 0);
+    let other = bytes_at(first, 1);
+    match read_both(alloc, command, source, other, &table) {
+        Ok(both) => told(alloc, command, &both.0, &both.1),
+        Err(status) => Err(Refusal::plain(status)),
     }
 }
 

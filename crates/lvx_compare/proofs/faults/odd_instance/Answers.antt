@@ -1,6 +1,5 @@
-use Rattle.std.proofs.Common.{◌≡◌, ◌<◌, ◌≤◌, ◌+◌, ◌∙◌, ℕ, Bool, true, false, List, Option, Some, None, length, sym, ap, subst, arith}
+use Rattle.std.proofs.Common.{◌≡◌, ◌<◌, ◌+◌, ◌∙◌, ℕ, Bool, Option, Some, length, sym, ap, subst, arith}
 use Rattle.vlsi_base.specs.Names.{scalar}
-use Rattle.net_core.specs.Places.{Stands}
 use Rattle.net_core.specs.declared.frame.Node.{Node}
 use Rattle.net_core.proofs.Rings.{at_place}
 use Rattle.lvx_compare.specs.Stages.{IsOdd, name_at}

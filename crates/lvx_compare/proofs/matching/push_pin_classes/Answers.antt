@@ -1,4 +1,4 @@
-use Rattle.std.proofs.Common.{List, ℕ, map, sym, subst, arith}
+use Rattle.std.proofs.Common.{List, ℕ, map, subst, arith}
 use Rattle.vlsi_base.specs.declared.name.Name.{Name}
 use Rattle.net_core.specs.Netlist.{pin_of, IsClassOf}
 use Rattle.lvx_compare.specs.Stages.{AddsClasses}
