@@ -1,5 +1,5 @@
 -- Machines whose roots are the same functions do the same.
-use Rattle.std.proofs.Common.{◌≡◌, ◌⊎◌, inl, inr, ℕ, zero, suc, ◌+◌, ◌<◌, Bool, true, false, not, List, [], ◌∷◌, ◌++◌, length, map, filter, refl, sym, ap, subst, ◌∙◌, arith, length-append, if◌then◌else◌}
+use Rattle.std.proofs.Common.{◌≡◌, ◌⊎◌, inl, inr, ℕ, ◌+◌, Bool, true, false, not, List, [], ◌∷◌, ◌++◌, length, map, filter, refl, sym, ap, subst, ◌∙◌, length-append, if◌then◌else◌}
 use Rattle.std.specs.Prelude.{zip}
 use Rattle.std.specs.List.{All}
 use Rattle.std.proofs.lemmas.List.{length-map}
@@ -13,21 +13,19 @@ use Rattle.bool_expr.specs.Expression.{Expression, val}
 use Rattle.machine_meaning.specs.Named.{is_same_name, value_at, values_at}
 use Rattle.machine_meaning.specs.Machine.{Machine, Equation, Register, is_input, names_of, inputs, outputs, register_names}
 use Rattle.machine_meaning.specs.Cycles.{Settles, outs, next}
-use Rattle.machine_core.specs.Order.{IsOrdered, equation_names}
+use Rattle.machine_core.specs.Order.{IsOrdered}
 use Rattle.machine_core.specs.Built.{built}
 use Rattle.machine_core.specs.Checked.{IsChecked}
 use Rattle.machine_core.proofs.Names.{same_name-true, same_name-itself}
 use Rattle.machine_core.proofs.Known.{known}
 use Rattle.machine_core.proofs.Solve.{settles_once_known}
 use Rattle.machine_core.proofs.Built.{built_settles}
-use Rattle.machine_core.proofs.Values.{In-map}
-use Rattle.machine_alike.specs.Alike.{IsAlike}
 use Rattle.machine_roots.specs.Expansion.{held_count, expansion}
 use Rattle.machine_roots.specs.Roots.{Root, roots, register_roots, expression_of}
 use Rattle.machine_roots.proofs.Expanding.{value_of_expansion}
 use Rattle.proof_cmp.specs.declared.naming.Role.TheVariants.{Input, Output, Register as Stored}
 use Rattle.proof_cmp.specs.Naming.{HaveSameNames}
-use Rattle.proof_cmp.specs.Together.{root_pairs, IsOneFunction}
+use Rattle.proof_cmp.specs.Together.{IsOneFunction}
 use Rattle.proof_cmp.specs.Verdict.{AreEqual, EqualAreAlike}
 use Rattle.proof_cmp.proofs.Least.{Rising, rising, less_not_back}
 use Rattle.proof_cmp.proofs.Roles.{kept_port}
@@ -35,11 +33,11 @@ use Rattle.proof_cmp.proofs.Joining.{same_clock}
 
 -- ---- ports by their names and directions
 
-port_of : Name → Dir → Port
+abbrev port_of : Name → Dir → Port
 port_of n d = record { name = n; dir = d }
 
 same_port : (p q : Port) (d : Dir) → p.dir ≡ d → q.dir ≡ d → q.name ≡ p.name → q ≡ p
-same_port p q d e f n = λ j. port_of (n j) ((f ∙ sym e) j)
+same_port p q d e f n = ap (λ (x : Name). port_of x q.dir) n ∙ ap (port_of p.name) (f ∙ sym e)
 
 abbrev ins : List Port → List Name
 ins ports = names_of (filter (λ p. is_input p.dir) ports)
@@ -79,11 +77,11 @@ ports_same (p ∷ ps) (q ∷ qs) r s i o = by p.dir q.dir refl refl i o (λ i o.
   by Inward Inward dp dq i o rest = let h = head_same q.name p.name (ins qs) (ins ps) i in both Inward dp dq h.0 (rest h.1 o)
   by Outward Outward dp dq i o rest = let h = head_same q.name p.name (outs_of qs) (outs_of ps) o in both Outward dp dq h.0 (rest i h.1)
   by Inward Outward dp dq i o rest = absurd (crossed
-    (kept_port (λ p. is_input p.dir) p.name qs (subst (λ (l : List Name). In p.name l) (sym i) here))
-    (kept_port (λ p. not (is_input p.dir)) q.name ps (subst (λ (l : List Name). In q.name l) o here)))
+      (kept_port (λ p. is_input p.dir) p.name qs (subst (λ (l : List Name). In p.name l) (sym i) here))
+      (kept_port (λ p. not (is_input p.dir)) q.name ps (subst (λ (l : List Name). In q.name l) o here)))
   by Outward Inward dp dq i o rest = absurd (crossed
-    (kept_port (λ p. not (is_input p.dir)) p.name qs (subst (λ (l : List Name). In p.name l) (sym o) here))
-    (kept_port (λ p. is_input p.dir) q.name ps (subst (λ (l : List Name). In q.name l) i here)))
+      (kept_port (λ p. not (is_input p.dir)) p.name qs (subst (λ (l : List Name). In p.name l) (sym o) here))
+      (kept_port (λ p. is_input p.dir) q.name ps (subst (λ (l : List Name). In q.name l) i here)))
 
 -- ---- the roots by their kinds
 
@@ -92,16 +90,16 @@ abbrev shown_root : Machine → Name → Root
 shown_root m name = record { name = name; expr = expression_of m.equations name }
 
 module _ (a b : Machine) where
-  shown_all : (names : List Name) (as bs : List Root) → All (IsOneFunction a b) (zip (map (shown_root a) names ++ as) (map (shown_root b) names ++ bs))
-      → ((n : Name) → In n names → IsOneFunction a b (shown_root a n, shown_root b n)) × All (IsOneFunction a b) (zip as bs)
-  shown_all [] as bs all = (λ n h. elim h [ ], all)
-  shown_all (x ∷ names) as bs all = (λ n h. by n h, rest.1) where
-    rest : ((n : Name) → In n names → IsOneFunction a b (shown_root a n, shown_root b n)) × All (IsOneFunction a b) (zip as bs)
-    rest = shown_all names as bs (All-tail (IsOneFunction a b) (shown_root a x, shown_root b x) (zip (map (shown_root a) names ++ as) (map (shown_root b) names ++ bs)) all)
-
-    by : (n : Name) → In n (x ∷ names) → IsOneFunction a b (shown_root a n, shown_root b n)
-    by n here = All-head (IsOneFunction a b) (shown_root a x, shown_root b x) (zip (map (shown_root a) names ++ as) (map (shown_root b) names ++ bs)) all
-    by n (there h) = rest.0 n h
+  shown_all : (names : List Name) (xs ys : List Root) → All (IsOneFunction a b) (zip (map (shown_root a) names ++ xs) (map (shown_root b) names ++ ys))
+      → ((n : Name) → In n names → IsOneFunction a b (shown_root a n, shown_root b n)) × All (IsOneFunction a b) (zip xs ys)
+  shown_all [] xs ys all = (λ n h. elim h [ ], all)
+  shown_all (x ∷ names) xs ys all =
+      let rest = shown_all names xs ys (All-tail (IsOneFunction a b) (shown_root a x, shown_root b x) (zip (map (shown_root a) names ++ xs) (map (shown_root b) names ++ ys)) all) in
+      (λ n h. by n h rest.0, rest.1)
+    where
+      by : (n : Name) → In n (x ∷ names) → ((m : Name) → In m names → IsOneFunction a b (shown_root a m, shown_root b m)) → IsOneFunction a b (shown_root a n, shown_root b n)
+      by n here rest = All-head (IsOneFunction a b) (shown_root a x, shown_root b x) (zip (map (shown_root a) names ++ xs) (map (shown_root b) names ++ ys)) all
+      by n (there h) rest = rest n h
 
 -- ---- what outputs show
 
@@ -112,9 +110,15 @@ shown_value vars w (e ∷ es) n h all = by (is_same_name e.name n) refl h (λ p.
   first : value_at vars w e.name ≡ val e.expr w
   first = All-head (λ (e : Equation). value_at vars w e.name ≡ val e.expr w) e es all
 
+  either : (m : Name) → In m (e.name ∷ map (λ (e : Equation). e.name) es) → (m ≡ e.name) ⊎ In m (map (λ (e : Equation). e.name) es)
+  either m here = inl refl
+  either m (there p) = inr p
+
   later : is_same_name e.name n ≡ false → In n (e.name ∷ map (λ (e : Equation). e.name) es) → In n (map (λ (e : Equation). e.name) es)
-  later t here = absurd (let s = same_name-itself e.name in cc (s, t))
-  later t (there p) = p
+  later t h = elim (either n h) [
+    | inl same ↦ absurd (let s : is_same_name e.name n ≡ true = subst (λ (m : Name). is_same_name e.name m ≡ true) (sym same) (same_name-itself e.name) in cc (s, t))
+    | inr p ↦ p
+  ]
 
   by : (b : Bool) → is_same_name e.name n ≡ b → In n (e.name ∷ map (λ (e : Equation). e.name) es) → (In n (map (λ (e : Equation). e.name) es) → value_at vars w n ≡ val (expression_of es n) w)
       → value_at vars w n ≡ val (if b then e.expr else expression_of es n) w
@@ -159,9 +163,9 @@ module _ (a b : Machine) (ca : IsChecked a) (cb : IsChecked b) (same : HaveSameN
 
   shows : ((n : Name) → In n (outputs a) → IsOneFunction a b (shown_root a n, shown_root b n)) → outs b v ≡ outs a w
   shows all = ap (values_at b.vars v) same_outputs ∙ values_same a.vars b.vars w v (outputs a) (λ n h.
-    shown_value b.vars v b.equations n (cb.driven n (subst (λ (l : List Name). In n l) (sym same_outputs) h)) q.equations
-    ∙ one_value (shown_root a n) (shown_root b n) (all n h)
-    ∙ sym (shown_value a.vars w a.equations n (ca.driven n h) p.equations))
+      shown_value b.vars v b.equations n (cb.driven n (subst (λ (l : List Name). In n l) (sym same_outputs) h)) q.equations
+      ∙ one_value (shown_root a n) (shown_root b n) (all n h)
+      ∙ sym (shown_value a.vars w a.equations n (ca.driven n h) p.equations))
 
   held : (n : Name) → In n (register_names a) → value_at b.vars v n ≡ value_at a.vars w n
   held = value_same a.vars b.vars w v (register_names a) (ap (values_at b.vars v) (sym (same Stored)) ∙ q.registers ∙ sym p.registers)

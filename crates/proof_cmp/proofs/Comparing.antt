@@ -1,11 +1,11 @@
 -- Roots, one pair after another.
-use Rattle.std.proofs.Common.{◌≡◌, ◌↔◌, ◌⊎◌, inl, inr, ℕ, zero, suc, ◌+◌, ◌<◌, ◌≤◌, Bool, true, false, List, [], ◌∷◌, ◌++◌, length, map, take, drop, get_or, Option, None, Some, refl, sym, ap, subst, ◌∙◌, arith, append_assoc, length-append, if◌then◌else◌}
-use Rattle.std.specs.Prelude.{zip}
+use Rattle.std.proofs.Common.{◌≡◌, ◌⊎◌, inl, inr, ℕ, zero, suc, ◌+◌, ◌<◌, ◌≤◌, Bool, true, false, List, [], ◌∷◌, ◌++◌, length, map, take, drop, get_or, Option, None, Some, refl, sym, ap, subst, ◌∙◌, arith, append_assoc, length-append, if◌then◌else◌}
+use Rattle.std.specs.Prelude.{zip, is_some, ◌^◌}
 use Rattle.std.specs.List.{All, slice_index_or}
-use Rattle.std.proofs.lemmas.List.{length-map}
+use Rattle.std.proofs.lemmas.List.{length-map, take_more}
 use Rattle.std.proofs.lemmas.List.Elements.{All-push, All-nil}
 use Rattle.vlsi_base.specs.declared.name.Name.{Name}
-use Rattle.vlsi_base.specs.Member.{In, here, there}
+use Rattle.vlsi_base.specs.Member.{In, here, there, AllDifferent}
 use Rattle.bool_expr.specs.Expression.{Expression, constant, variable, inverse, pair, choice, variables, val, bit, IsOver}
 use Rattle.bool_expr.specs.View.{view}
 use Rattle.bdd_core.specs.Truths.{Truths, truths}
@@ -18,7 +18,7 @@ use Rattle.machine_core.specs.Order.{EachReadsBelow, held_names}
 use Rattle.machine_core.specs.Checked.{IsChecked}
 use Rattle.machine_core.proofs.Values.{In-split}
 use Rattle.machine_roots.specs.Expansion.{held_count, expansion, in_order, place_among}
-use Rattle.machine_roots.specs.Roots.{Root, roots, register_roots, expression_of, order_of, list_by}
+use Rattle.machine_roots.specs.Roots.{Root, roots, register_roots, expression_of, order_of}
 use Rattle.machine_roots.specs.Listing.{root_view, AreRoots}
 use Rattle.machine_roots.specs.declared.listing.RootExpr.{RootExpr}
 use Rattle.machine_roots.proofs.Names.{length-vars}
@@ -29,12 +29,13 @@ use Rattle.proof_cmp.specs.declared.proving.Difference.{Difference}
 use Rattle.proof_cmp.specs.declared.joint.JointDiagram.{JointDiagram}
 use Rattle.proof_cmp.specs.declared.naming.Role.TheVariants.{Input, Output, Register as Stored}
 use Rattle.proof_cmp.specs.Naming.{HaveSameNames}
-use Rattle.proof_cmp.specs.Together.{root_pairs, joint_order, IsOverTogether, IsFirstOver, IsOneFunction, given_names, value_on}
-use Rattle.proof_cmp.specs.Verdict.{IsFirstDifference, AreComparable, IsRefusal}
-use Rattle.proof_cmp.specs.Joint.{IsJointDiagram, AreTwoRoots}
+use Rattle.proof_cmp.specs.Together.{root_pairs, IsOverTogether, IsOneFunction, given_names, value_on}
+use Rattle.proof_cmp.specs.Verdict.{AreComparable, IsRefusal}
+use Rattle.proof_cmp.specs.Joint.{IsJointDiagram, AreTwoRoots, JoinsRoots}
 use Rattle.proof_cmp.specs.Bits.{Computes, AreSpread}
 use Rattle.proof_cmp.specs.Comparing.{IsOverPair, DifferOn, IsFound}
-use Rattle.proof_cmp.proofs.Joining.{has_first, has_second, same_held}
+use Rattle.proof_cmp.proofs.Joining.{has_first, has_second, same_held, joint_few, joint_different, joint_within}
+use Rattle.proof_cmp.proofs.Both.{at_in_list}
 
 -- ---- two functions of one diagram
 
@@ -167,9 +168,7 @@ split_pairs (y ∷ xs) zero x h is = ap (λ (z : Root × Root). z ∷ xs) (sym i
 split_pairs (y ∷ xs) (suc i) x h is = ap (λ (l : List (Root × Root)). y ∷ l) (split_pairs xs i x (omega arith) is)
 
 take_next : (xs : List (Root × Root)) (i : ℕ) (x : Root × Root) → i < length xs → x ≡ get_or xs i x → take (i + 1) xs ≡ take i xs ++ x ∷ []
-take_next [] i x h is = absurd (omega arith)
-take_next (y ∷ xs) zero x h is = ap (λ (z : Root × Root). z ∷ []) (sym is)
-take_next (y ∷ xs) (suc i) x h is = ap (λ (l : List (Root × Root)). y ∷ l) (take_next xs i x (omega arith) is)
+take_next xs i x h is = take_more xs i x h ∙ ap (λ (z : Root × Root). take i xs ++ z ∷ []) (sym is)
 
 take_whole : (xs : List (Root × Root)) (i : ℕ) → length xs ≤ i → take i xs ≡ xs
 take_whole [] zero h = refl
@@ -235,15 +234,18 @@ module _ (a b : Machine) (same : HaveSameNames a b) (firsts seconds : List RootE
 
     pub refused_here : (old : Option Difference) → IsComparing a b budget k old → (e : ProveError) → IsOverPair a b budget the_pair e → IsRefusal a b budget e
     refused_here old w error.Memory over = tt
-    refused_here old w (error.Budget name) over = (same, record {
-      before = take k (root_pairs a b);
-      pair = the_pair;
-      after = drop (suc k) (root_pairs a b);
-      all = split_pairs (root_pairs a b) k the_pair (let l = pairs_long in omega (arith, inside, l)) here_is;
-      named = over.0;
-      over = over.1;
-      first = w.within;
-    })
+    refused_here old w (error.Budget name) over = (
+      same,
+      record {
+        before = take k (root_pairs a b);
+        pair = the_pair;
+        after = drop (suc k) (root_pairs a b);
+        all = split_pairs (root_pairs a b) k the_pair (let l = pairs_long in omega (arith, inside, l)) here_is;
+        named = over.0;
+        over = over.1;
+        first = w.within;
+      },
+    )
 
   pub all_compared : (budget k : ℕ) (found : Option Difference) → length firsts ≤ k → IsComparing a b budget k found → AreComparable a b budget × IsFound a b (root_pairs a b) found
   all_compared budget k found end w =
@@ -281,3 +283,28 @@ module _ (a b : Machine) (pairs : List (Root × Root)) (p : Root × Root) where
 
   pub none_found : IsOneFunction a b p → IsFound a b pairs None → IsFound a b (pairs ++ p ∷ []) None
   none_found one w = All-push (IsOneFunction a b) pairs p w one
+
+  pub kept_found : (o : Option Difference) → is_some o ≡ true → IsFound a b pairs o → IsFound a b (pairs ++ p ∷ []) o
+  kept_found None e w = absurd (cc e)
+  kept_found (Some d) e w = found_before d w
+
+-- ---- the order of a diagram
+
+module _ (a b : Machine) (x y : Expression) (d : JointDiagram) (j : JoinsRoots a b x y d) where
+  pub order_short : length d.order.items ≤ held_count a
+  order_short =
+      let few = joint_few a b j.roots.names j.roots.first.ordered j.roots.second.ordered x y j.roots.over j.roots.other in
+      omega (arith, few, ap length j.diagram.order)
+
+  pub order_fits : length a.vars < 2 ^ 32 → length d.order.items < 2 ^ 32
+  order_fits few = let long = length-vars a j.roots.first.ordered in omega (arith, few, long, order_short)
+
+  pub order_apart : (order : List ℕ) → order ≡ d.order.items → AllDifferent order
+  order_apart order is =
+      subst AllDifferent (sym (is ∙ j.diagram.order)) (joint_different a b j.roots.names j.roots.first.ordered j.roots.second.ordered x y j.roots.over j.roots.other)
+
+  pub order_inside : (order : List ℕ) (n : ℕ) → order ≡ d.order.items → n ≡ held_count a → All (λ k. k < n) order
+  order_inside order n is held k e w =
+      let low = joint_within a b j.roots.names j.roots.first.ordered j.roots.second.ordered x y j.roots.over j.roots.other (slice_index_or order k e)
+      (subst (λ (o : List ℕ). In (slice_index_or order k e) o) (is ∙ j.diagram.order) (at_in_list order k e w)) in
+      omega (arith, low, held)

@@ -1,5 +1,5 @@
 -- The way to bits on which two functions differ.
-use Rattle.std.proofs.Common.{◌≡◌, ◌↔◌, ◌⊎◌, inl, inr, ℕ, zero, suc, ◌+◌, ◌-◌, ◌<◌, ◌≤◌, Bool, true, false, List, [], ◌∷◌, ◌++◌, length, Option, None, Some, IsTrue, refl, sym, ap, subst, ◌∙◌, arith, append_assoc, append-nil, add-one, length-append, if◌then◌else◌}
+use Rattle.std.proofs.Common.{◌≡◌, ◌↔◌, ◌⊎◌, inl, inr, ℕ, zero, suc, ◌+◌, ◌-◌, ◌<◌, ◌≤◌, Bool, true, false, List, [], ◌∷◌, ◌++◌, length, IsTrue, refl, sym, ap, subst, ◌∙◌, arith, append_assoc, append-nil, add-one, length-append, if◌then◌else◌}
 use Rattle.std.proofs.lemmas.Bool.{cases_lt}
 use Rattle.bdd_core.specs.declared.node.NodeId.{NodeId}
 use Rattle.bdd_core.specs.Truths.{Truths, constant, halves, truths}
@@ -61,8 +61,8 @@ module _ (vars v : ℕ) (within : v < vars) (f a b : Truths) (is : f ≡ raised 
   other_branch variable low high w apart = by (cases_lt variable v) (cases_lt v variable) where
     early : variable < v → ⊥
     early less = w.depends (
-      ap (held variable false) is ∙ held_raised variable v false (halves a b) less
-      ∙ sym (ap (held variable true) is ∙ held_raised variable v true (halves a b) less))
+        ap (held variable false) is ∙ held_raised variable v false (halves a b) less
+        ∙ sym (ap (held variable true) is ∙ held_raised variable v true (halves a b) less))
 
     late : v < variable → a ≡ b
     late less = same_raised (suc v) a b (sym (ap (held v false) is ∙ held_low v a b) ∙ w.first v less ∙ (ap (held v true) is ∙ held_high v a b))

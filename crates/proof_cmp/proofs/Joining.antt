@@ -1,29 +1,28 @@
 -- Two roots in one diagram: its order, and what is asked for.
-use Rattle.std.proofs.Common.{◌≡◌, ◌≢◌, ◌⊎◌, inl, inr, ℕ, zero, suc, ◌+◌, ◌<◌, ◌≤◌, Bool, true, false, not, List, [], ◌∷◌, ◌++◌, length, map, filter, replicate, Option, None, Some, option_to_list, refl, sym, ap, subst, ◌∙◌, arith, if◌then◌else◌, ◌||◌}
-use Rattle.std.specs.Prelude.{nat_eq, ◌==◌}
+use Rattle.std.proofs.Common.{◌≡◌, ◌⊎◌, inl, inr, ℕ, ◌+◌, ◌<◌, ◌≤◌, Bool, true, false, not, List, [], ◌∷◌, ◌++◌, length, map, filter, replicate, Option, None, Some, option_to_list, refl, sym, ap, subst, ◌∙◌, arith, if◌then◌else◌, ◌||◌}
+use Rattle.std.specs.Prelude.{nat_eq}
 use Rattle.std.specs.List.{slice_index_or}
-use Rattle.std.proofs.lemmas.Bool.{eqb-true, eq-eqb}
+use Rattle.std.proofs.lemmas.Bool.{eqb-true}
 use Rattle.std.proofs.lemmas.List.{length-replicate}
 use Rattle.vlsi_base.specs.declared.name.Name.{Name}
 use Rattle.vlsi_base.specs.Member.{In, here, there, AllDifferent}
-use Rattle.vlsi_base.specs.Range.{falling}
 use Rattle.bool_expr.specs.Expression.{Expression, bit, IsOver as IsWithin}
 use Rattle.bool_expr.specs.Support.{among}
 use Rattle.machine_meaning.specs.Machine.{Machine, is_clock}
 use Rattle.machine_core.specs.Order.{held_names, IsOrdered}
-use Rattle.machine_core.proofs.Values.{In-left, In-right, In-split, In-map}
-use Rattle.bdd_core.specs.Truths.{Truths, constant, IsOver}
+use Rattle.machine_core.proofs.Values.{In-left, In-right, In-split}
+use Rattle.bdd_core.specs.Truths.{Truths, constant}
 use Rattle.bdd_core.specs.Nodes.{raised, place}
 use Rattle.bdd_core.specs.Asked.{asked_of}
 use Rattle.machine_roots.specs.Expansion.{held_count, expansion, subexpressions, place_among}
 use Rattle.machine_roots.specs.Roots.{order_of, list_by}
-use Rattle.machine_roots.specs.Walk.{Meets, AreMet}
-use Rattle.machine_roots.specs.Binding.{variable_list, variable_lists, put_variables, held_lists, bound_lists, asked_by}
-use Rattle.machine_roots.proofs.Members.{CountsIn, over_in}
+use Rattle.machine_roots.specs.Walk.{AreMet}
+use Rattle.machine_roots.specs.Binding.{variable_list, variable_lists, held_lists, bound_lists, asked_by}
+use Rattle.machine_roots.proofs.Members.{CountsIn}
 use Rattle.machine_roots.proofs.Names.{length-vars}
 use Rattle.machine_roots.proofs.Few.{few_below}
-use Rattle.machine_roots.proofs.Denoting.{order_different, place_within, place_again, in_order_of, order_in, length_put, put_at}
-use Rattle.machine_roots.proofs.Sets.{counts_members, counts_append, counts_constant, contains_in, in_contains, IsVariable}
+use Rattle.machine_roots.proofs.Denoting.{order_different, place_again, in_order_of, order_in, length_put, put_at}
+use Rattle.machine_roots.proofs.Sets.{counts_members, counts_append, counts_constant, IsVariable}
 use Rattle.proof_cmp.specs.declared.naming.Role.TheVariants.{Input, Clock, Register}
 use Rattle.proof_cmp.specs.Naming.{HaveSameNames}
 use Rattle.proof_cmp.specs.Together.{joint_order, joint_lists}
@@ -53,10 +52,10 @@ same_count a b same = ap length (same_held a b same)
 
 among_in : (k : ℕ) (xs : List ℕ) → among k xs ≡ true → In k xs
 among_in k [] e = absurd (cc e)
-among_in k (x ∷ xs) e = by (nat_eq x k) refl e where
-  by : (b : Bool) → nat_eq x k ≡ b → (b || among k xs) ≡ true → In k (x ∷ xs)
-  by true t p = subst (λ (y : ℕ). In k (y ∷ xs)) (sym (eqb-true x k t)) here
-  by false t p = there (among_in k xs p)
+among_in k (x ∷ xs) e = by (nat_eq x k) refl e (λ p. among_in k xs p) where
+  by : (b : Bool) → nat_eq x k ≡ b → (b || among k xs) ≡ true → (among k xs ≡ true → In k xs) → In k (x ∷ xs)
+  by true t p rest = subst (λ (y : ℕ). In k (y ∷ xs)) (sym (eqb-true x k t)) here
+  by false t p rest = there (rest p)
 
 in_among : (k : ℕ) (xs : List ℕ) → In k xs → among k xs ≡ true
 in_among k [] h = elim h [ ]
@@ -68,17 +67,14 @@ in_among k (x ∷ xs) (there h) = by (nat_eq x k) (in_among k xs h) where
 
 filter_in : (t : ℕ → Bool) (k : ℕ) (xs : List ℕ) → In k (filter t xs) → In k xs × (t k ≡ true)
 filter_in t k [] h = elim h [ ]
-filter_in t k (x ∷ xs) h = by (t x) refl h where
-  deeper : In k (filter t xs) → In k (x ∷ xs) × (t k ≡ true)
-  deeper p = let r = filter_in t k xs p in (there r.0, r.1)
+filter_in t k (x ∷ xs) h = by (t x) refl h (λ p. filter_in t k xs p) where
+  first : (m : ℕ) → t x ≡ true → In m (x ∷ filter t xs) → (In m (filter t xs) → In m xs × (t m ≡ true)) → In m (x ∷ xs) × (t m ≡ true)
+  first m e here rest = (here, e)
+  first m e (there p) rest = let r = rest p in (there r.0, r.1)
 
-  first : t x ≡ true → In k (x ∷ filter t xs) → In k (x ∷ xs) × (t k ≡ true)
-  first e here = (here, e)
-  first e (there p) = deeper p
-
-  by : (b : Bool) → t x ≡ b → In k (if b then x ∷ filter t xs else filter t xs) → In k (x ∷ xs) × (t k ≡ true)
-  by true e p = first e p
-  by false e p = deeper p
+  by : (b : Bool) → t x ≡ b → In k (if b then x ∷ filter t xs else filter t xs) → (In k (filter t xs) → In k xs × (t k ≡ true)) → In k (x ∷ xs) × (t k ≡ true)
+  by true e p rest = first k e p rest
+  by false e p rest = let r = rest p in (there r.0, r.1)
 
 in_filter : (t : ℕ → Bool) (k : ℕ) (xs : List ℕ) → In k xs → t k ≡ true → In k (filter t xs)
 in_filter t k [] h e = elim h [ ]
@@ -284,8 +280,8 @@ module _ (a b : Machine) (same : HaveSameNames a b) (oa : IsOrdered a) (ob : IsO
         subst (λ (l : List Truths). CountsIn l all_asked) (sym (map_append (list_by order) (subexpressions (expansion a x)) (subexpressions (expansion b y))))
         (counts_append (lists_over a order x) (lists_over b order y) all_asked
         (λ t c. counts_members (asked_of n (bound_lists n met lists a.equations) x ++ (asked_by n met lists a.equations ++ variable_lists n)) all_asked
-            (λ f h. behind f (root_lists n met_b lists b.equations y) (asked_of n (bound_lists n met lists a.equations) x) (asked_by n met lists a.equations) (variable_lists n) (raised n (constant false) ∷ []) h)
-            t (lists_counted a oa x over met marks order has_first lists long variable_at t c))
+        (λ f h. behind f (root_lists n met_b lists b.equations y) (asked_of n (bound_lists n met lists a.equations) x) (asked_by n met lists a.equations) (variable_lists n) (raised n (constant false) ∷ []) h)
+        t (lists_counted a oa x over met marks order has_first lists long variable_at t c))
         (λ t c. counts_members (asked_of n (bound_lists n met_b lists b.equations) y ++ (asked_by n met_b lists b.equations ++ variable_lists n)) all_asked
-            (λ f h. before f (root_lists n met lists a.equations x) (asked_of n (bound_lists n met_b lists b.equations) y) (asked_by n met_b lists b.equations) (variable_lists n) (raised n (constant false) ∷ []) h)
-            t (lists_counted b ob y other met_b marks_b order has_second lists long_b variable_at_b t c)))
+        (λ f h. before f (root_lists n met lists a.equations x) (asked_of n (bound_lists n met_b lists b.equations) y) (asked_by n met_b lists b.equations) (variable_lists n) (raised n (constant false) ∷ []) h)
+        t (lists_counted b ob y other met_b marks_b order has_second lists long_b variable_at_b t c)))

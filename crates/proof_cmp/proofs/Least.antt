@@ -1,5 +1,6 @@
 -- The least name by which two lists, and two machines in some of their roles, differ.
-use Rattle.std.proofs.Common.{◌≡◌, ◌⊎◌, inl, inr, ℕ, zero, suc, ◌+◌, ◌<◌, ◌≤◌, Bool, true, false, List, [], ◌∷◌, ◌++◌, length, map, take, drop, Option, None, Some, refl, sym, ap, subst, ◌∙◌, arith, if◌then◌else◌}
+use Rattle.std.proofs.Common.{Bor, IfNone, IfSome, ◌≡◌, ◌⊎◌, inl, inr, ℕ, zero, suc, ◌<◌, List, [], ◌∷◌, ◌++◌, length, take, drop, Option, None, Some, refl, sym, ap, subst, ◌∙◌, arith, if◌then◌else◌}
+use Rattle.std.specs.Option.{option_copied}
 use Rattle.std.specs.List.{slice_index_or}
 use Rattle.std.specs.Ordering.{is_lt, ordering_reverse}
 use Rattle.std.specs.declared.cmp.Ordering.{Ordering}
@@ -13,11 +14,11 @@ use Rattle.machine_core.specs.Checked.{AreInOrder}
 use Rattle.proof_cmp.specs.declared.naming.Role.{Role}
 use Rattle.proof_cmp.specs.declared.naming.Role.TheVariants.{Input, Output, Clock, Register}
 use Rattle.proof_cmp.specs.Naming.{names_with, HaveSameNames, IsApart, IsLeastOneSided}
-use Rattle.proof_cmp.specs.Apart.{lesser_of, IsLeastApart, IsLeastAmong, IsLeastIn}
+use Rattle.proof_cmp.specs.Apart.{lesser_of, picked, IsLeastApart, IsLeastAmong, IsLeastIn}
 
 -- ---- the order of names
 
-less_not_back : (x y : Name) → name_cmp x y ≡ Less → name_cmp y x ≡ Less → ⊥
+pub less_not_back : (x y : Name) → name_cmp x y ≡ Less → name_cmp y x ≡ Less → ⊥
 less_not_back x y p q = let e : Less ≡ Greater = sym p ∙ name_total.antisymm x y ∙ ap ordering_reverse q in absurd (cc e)
 
 pub less_not_itself : (x : Name) → name_cmp x x ≡ Less → ⊥
@@ -80,8 +81,10 @@ first_apart : (x y : Name) (xs ys : List Name) → Rising (x ∷ xs) → Rising 
 first_apart x y xs ys r s less = record { apart = inl (here, fresh); least = least }
   where
     fresh : In x (y ∷ ys) → ⊥
-    fresh here = less_not_itself x less
-    fresh (there h) = less_not_back x y less (s.0 x h)
+    fresh h = elim (head_or x y ys h) [
+      | inl e ↦ less_not_itself x (subst (λ (z : Name). name_cmp x z ≡ Less) (sym e) less)
+      | inr g ↦ less_not_back x y less (s.0 x g)
+    ]
 
     above : (other : Name) → In other (y ∷ ys) → name_cmp other x ≡ Less → ⊥
     above other here q = less_not_back x other less q
@@ -96,8 +99,10 @@ deeper : (c : Name) (xs ys : List Name) (n : Name) → Rising (c ∷ xs) → Ris
 deeper c xs ys n r s w = record { apart = up w.apart; least = λ other a. w.least other (down other a) }
   where
     fresh : (zs : List Name) → Rising (c ∷ zs) → In n zs → (os : List Name) → (In n os → ⊥) → In n (c ∷ os) → ⊥
-    fresh zs t h os none here = less_not_itself c (t.0 c h)
-    fresh zs t h os none (there g) = none g
+    fresh zs t h os none g = elim (head_or n c os g) [
+      | inl e ↦ less_not_itself c (t.0 c (subst (λ (z : Name). In z zs) e h))
+      | inr k ↦ none k
+    ]
 
     up : IsApart xs ys n → IsApart (c ∷ xs) (c ∷ ys) n
     up (inl p) = inl (there p.0, fresh xs r p.0 ys p.1)
@@ -209,7 +214,7 @@ module _ (a b : Machine) (role : Role) (roles : List Role) where
   none_yet w same r here = sym same
   none_yet w same r (there h) = w r h
 
-abbrev all_roles : List Role
+abbrev pub all_roles : List Role
 all_roles = Register ∷ Clock ∷ Output ∷ Input ∷ []
 
 each_role : (r : Role) → In r all_roles
@@ -226,3 +231,32 @@ least_of_all a b n w = record { one_sided = (w.role, w.apart); least = λ other 
 
 pub no_role : (a b : Machine) → IsLeastIn a b [] None
 no_role a b r h = elim h [ ]
+
+-- ---- what the calls tell
+
+pub one_role : (a b : Machine) (role : Role) (roles : List Role) (least apart o : Option Name) → IfNone apart (names_with a role ≡ names_with b role)
+    → IfSome apart (IsLeastApart (names_with a role) (names_with b role)) → o ≡ picked least apart → IsLeastIn a b roles least → IsLeastIn a b (role ∷ roles) o
+one_role a b role roles least apart o none some is w = subst (IsLeastIn a b (role ∷ roles)) (sym is) (by least apart none some w) where
+  by : (least apart : Option Name) → IfNone apart (names_with a role ≡ names_with b role) → IfSome apart (IsLeastApart (names_with a role) (names_with b role))
+      → IsLeastIn a b roles least → IsLeastIn a b (role ∷ roles) (picked least apart)
+  by None None none some w = none_yet a b role roles w none
+  by None (Some n) none some w = only_now a b role roles n w some
+  by (Some m) None none some w = only_before a b role roles m w none
+  by (Some m) (Some n) none some w = both_roles a b role roles m n w some
+
+pub told_none : (a b : Machine) (o : Option (Bor Name)) → IsLeastIn a b all_roles (option_copied o) → IfNone o (HaveSameNames a b)
+told_none a b None w = none_at_all a b w
+told_none a b (Some n) w = tt
+
+pub told_some : (a b : Machine) (o : Option (Bor Name)) → IsLeastIn a b all_roles (option_copied o) → IfSome o (λ n. IsLeastOneSided a b n.now)
+told_some a b None w = tt
+told_some a b (Some n) w = least_of_all a b n.now w
+
+-- an option of what is lent, and of the name itself
+pub none_copied : (o : Option (Bor Name)) (P : Type 0) → IfNone o P → IfNone (option_copied o) P
+none_copied None P h = h
+none_copied (Some n) P h = tt
+
+pub some_copied : (o : Option (Bor Name)) (P : Name → Type 0) → IfSome o (λ n. P n.now) → IfSome (option_copied o) P
+some_copied None P h = tt
+some_copied (Some n) P h = h

@@ -1,13 +1,13 @@
 -- What is asked for counts the same as all subexpressions of an expansion, over an order that has each name that the expansion reads,
 -- and perhaps others.
-use Rattle.std.proofs.Common.{◌≡◌, ◌⊎◌, inl, inr, ℕ, zero, suc, ◌+◌, ◌-◌, ◌<◌, ◌≤◌, Bool, true, false, List, [], ◌∷◌, ◌++◌, length, map, slice_get, None, Some, refl, sym, ap, subst, ◌∙◌, arith}
+use Rattle.std.proofs.Common.{◌≡◌, ◌⊎◌, inl, inr, ℕ, zero, suc, ◌+◌, ◌-◌, ◌<◌, ◌≤◌, Bool, true, List, [], ◌∷◌, ◌++◌, length, map, slice_get, None, Some, refl, sym, ap, subst, ◌∙◌, arith}
 use Rattle.std.specs.List.{slice_index_or}
 use Rattle.std.proofs.lemmas.Bool.{cases_lt}
 use Rattle.std.proofs.lemmas.Option.{slice_get_within, slice_get-get_or}
 use Rattle.vlsi_base.specs.Member.{In, here, there}
 use Rattle.vlsi_base.specs.Range.{falling}
 use Rattle.bool_expr.specs.Expression.{Expression, constant, variable, inverse, pair, choice, variables, bit, IsOver}
-use Rattle.machine_meaning.specs.Machine.{Machine}
+use Rattle.machine_meaning.specs.Machine.{Machine, Equation}
 use Rattle.machine_core.specs.Order.{IsOrdered}
 use Rattle.machine_core.proofs.Values.{In-left, In-right, In-split, In-map}
 use Rattle.bdd_core.specs.Truths.{Truths}

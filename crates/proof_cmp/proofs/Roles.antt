@@ -1,6 +1,8 @@
 -- The names that have a role, one after another.
-use Rattle.std.proofs.Common.{◌≡◌, ℕ, zero, suc, ◌+◌, ◌<◌, Bool, true, false, not, List, [], ◌∷◌, ◌++◌, length, map, filter, drop, Option, None, Some, option_to_list, refl, sym, arith, ap, ◌∙◌, append_assoc, add-one, drop-cons, if◌then◌else◌}
+use Rattle.std.proofs.Common.{Bor, ◌≡◌, ◌≤◌, inl, inr, take, ℕ, zero, suc, ◌+◌, ◌<◌, Bool, true, false, not, List, [], ◌∷◌, ◌++◌, length, map, filter, drop, Option, None, Some, option_to_list, refl, sym, arith, ap, ◌∙◌, append_assoc, add-one, drop-cons, if◌then◌else◌}
 use Rattle.std.specs.List.{slice_index_or}
+use Rattle.std.proofs.lemmas.Bool.{cases_lt}
+use Rattle.std.proofs.lemmas.List.{length-map, take_more}
 use Rattle.vlsi_base.specs.declared.name.Name.{Name}
 use Rattle.vlsi_base.specs.declared.name.Port.{Port}
 use Rattle.vlsi_base.specs.Member.{In, here, there}
@@ -26,6 +28,27 @@ one_more old new q n rest more total push named is so_far =
     ∙ append_assoc (map (λ (n : Bor Name). n.now) old) (q.now ∷ []) rest
     ∙ ap (λ (x : Name). map (λ (n : Bor Name). n.now) old ++ x ∷ rest) named
     ∙ ap (λ (l : List Name). map (λ (n : Bor Name). n.now) old ++ l) (sym is) ∙ so_far
+
+-- ---- names by their places
+
+now_map : (bs : List (Bor Name)) (k : ℕ) (d : Bor Name) → slice_index_or (map (λ (n : Bor Name). n.now) bs) k d.now ≡ (slice_index_or bs k d).now
+now_map [] k d = refl
+now_map (b ∷ bs) zero d = refl
+now_map (b ∷ bs) (suc k) d = now_map bs k d
+
+pub now_at : (bs : List (Bor Name)) (k : ℕ) (q : Bor Name) → q ≡ slice_index_or bs k q → q.now ≡ slice_index_or (map (λ (n : Bor Name). n.now) bs) k q.now
+now_at bs k q is = ap (λ (n : Bor Name). n.now) is ∙ sym (now_map bs k q)
+
+pub nows_long : (bs : List (Bor Name)) → length (map (λ (n : Bor Name). n.now) bs) ≡ length bs
+nows_long bs = length-map bs (λ (n : Bor Name). n.now)
+
+pub strictly : (k n : ℕ) → k ≤ n → (k ≡ n → ⊥) → k < n
+strictly k n room apart = elim (cases_lt k n) [ inl less ↦ less | inr more ↦ absurd (apart (omega (arith, room, more))) ]
+
+pub next_same : (xs ys : List Name) (k : ℕ) (x y : Name) → k < length xs → k < length ys → x ≡ slice_index_or xs k x → y ≡ slice_index_or ys k y → x ≡ y → take k xs ≡ take k ys
+    → take (k + 1) xs ≡ take (k + 1) ys
+next_same xs ys k x y hx hy isx isy same so_far =
+    take_more xs k x hx ∙ ap (λ (z : Name). take k xs ++ z ∷ []) (sym isx ∙ same ∙ isy) ∙ ap (λ (l : List Name). l ++ slice_index_or ys k y ∷ []) so_far ∙ sym (take_more ys k y hy)
 
 module _ (t : Port → Bool) (ports : List Port) (i : ℕ) (p : Port) (within : i < length ports) (is : p ≡ slice_index_or ports i p) where
   row : drop i ports ≡ p ∷ drop (i + 1) ports
@@ -54,14 +77,14 @@ registers_again (r ∷ registers) = ap (λ (l : List Name). r.name ∷ l) (regis
 
 pub kept_port : (t : Port → Bool) (n : Name) (ports : List Port) → In n (names_of (filter t ports)) → In n (names_of ports)
 kept_port t n [] h = elim h [ ]
-kept_port t n (p ∷ ports) h = by (t p) h where
-  first : In n (p.name ∷ names_of (filter t ports)) → In n (p.name ∷ names_of ports)
-  first here = here
-  first (there g) = there (kept_port t n ports g)
+kept_port t n (p ∷ ports) h = by (t p) h (λ g. kept_port t n ports g) where
+  first : (m : Name) → In m (p.name ∷ names_of (filter t ports)) → (In m (names_of (filter t ports)) → In m (names_of ports)) → In m (p.name ∷ names_of ports)
+  first m here rest = here
+  first m (there g) rest = there (rest g)
 
-  by : (b : Bool) → In n (names_of (if b then p ∷ filter t ports else filter t ports)) → In n (p.name ∷ names_of ports)
-  by true g = first g
-  by false g = there (kept_port t n ports g)
+  by : (b : Bool) → In n (names_of (if b then p ∷ filter t ports else filter t ports)) → (In n (names_of (filter t ports)) → In n (names_of ports)) → In n (p.name ∷ names_of ports)
+  by true g rest = first n g rest
+  by false g rest = there (rest g)
 
 kept_rising : (t : Port → Bool) (ports : List Port) → Rising (names_of ports) → Rising (names_of (filter t ports))
 kept_rising t [] r = tt

@@ -1,5 +1,5 @@
 -- One root after another in shared diagrams, and what is known of both in the end.
-use Rattle.std.proofs.Common.{◌≡◌, ℕ, zero, suc, ◌<◌, Bool, false, List, [], ◌∷◌, ◌++◌, length, replicate, None, Result, Ok, Err, IfOk, refl, sym, ap, subst, ◌∙◌, arith, append_assoc}
+use Rattle.std.proofs.Common.{◌≡◌, ℕ, zero, suc, Bool, false, List, [], ◌∷◌, ◌++◌, length, replicate, None, Result, Ok, Err, refl, sym, ap, subst, ◌∙◌, arith, append_assoc}
 use Rattle.std.proofs.lemmas.List.Elements.{Contains-append_right}
 use Rattle.bool_expr.specs.Expression.{Expression, constant as steady, IsOver as IsWithin}
 use Rattle.bdd_core.specs.declared.node.NodeId.{NodeId}
@@ -8,7 +8,7 @@ use Rattle.bdd_core.specs.declared.node.BddError.TheVariants.{Budget}
 use Rattle.bdd_core.specs.Truths.{Truths, constant, IsOver}
 use Rattle.bdd_core.specs.Nodes.{raised}
 use Rattle.bdd_core.specs.Counting.{Holds}
-use Rattle.bdd_core.specs.Diagram.{Diagram, IsNode, function_of, functions_of, Keeps, IsAsked, IsAnswer}
+use Rattle.bdd_core.specs.Diagram.{Diagram, IsNode, function_of, functions_of, IsAsked, IsAnswer}
 use Rattle.bdd_core.specs.Asked.{asked_of, IsAnswerOf}
 use Rattle.bdd_core.proofs.Asking.{SoFar, same_functions, over_sub}
 use Rattle.machine_meaning.specs.Machine.{Machine, Equation}
@@ -25,7 +25,7 @@ use Rattle.proof_cmp.specs.declared.joint.SharedDiagrams.{SharedDiagrams}
 use Rattle.proof_cmp.specs.Naming.{HaveSameNames}
 use Rattle.proof_cmp.specs.Together.{joint_order, joint_lists}
 use Rattle.proof_cmp.specs.Joint.{shared_lists, AreShared, root_list, root_lists}
-use Rattle.proof_cmp.proofs.Joining.{first_denotes, second_denotes, two_counted, all_counted, all_asked, none_missing, first_counted}
+use Rattle.proof_cmp.proofs.Joining.{first_denotes, second_denotes, two_counted, all_counted, all_asked, none_missing}
 
 abbrev good : NodeId → Result NodeId BddError
 good a = Ok a
@@ -170,8 +170,8 @@ zero_refused n budget d0 d1 e vars same none live a is =
     let p : IsOver (raised n (constant false) ∷ []) d0.table.budget = subst (λ (k : ℕ). IsOver (raised k (constant false) ∷ []) d0.table.budget) vars o in
     over_in zero (shared_lists n) budget (counts_constant n (shared_lists n)) (subst (λ (k : ℕ). IsOver zero k) same p)
 
-module _ (n budget : ℕ) (d0 d1 d2 : Diagram) (zero : NodeId) (vars : d0.table.vars ≡ n) (same : d0.table.budget ≡ budget) (none : Holds [] d0.table)
-    (a : IsAnswerOf d0 d1 [] zero_expression (good zero)) where
+module _ (n budget : ℕ) (d0 d1 d2 : Diagram) (nought : NodeId) (vars : d0.table.vars ≡ n) (same : d0.table.budget ≡ budget) (none : Holds [] d0.table)
+    (a : IsAnswerOf d0 d1 [] zero_expression (good nought)) where
   zero_holds : Holds (raised n (constant false) ∷ []) d1.table
   zero_holds = subst (λ (k : ℕ). Holds (raised k (constant false) ∷ []) d1.table) vars (a.ok.holds [] none)
 
@@ -180,12 +180,12 @@ module _ (n budget : ℕ) (d0 d1 d2 : Diagram) (zero : NodeId) (vars : d0.table.
   held_refused e h is = subst (λ (k : ℕ). IsOver (shared_lists n) k) (a.budget ∙ same) (h.over is (raised n (constant false) ∷ []) zero_holds)
 
   -- all inputs and registers are bound
-  pub are_shared : {A : Type 0} (order : List ℕ) (held : ℕ) (s : SharedDiagrams) (before : List NodeId) (r : A) → n ≡ length order → s.diagrams ≡ d2 → s.zero ≡ zero → before ≡ replicate held zero
+  pub are_shared : {A : Type 0} (order : List ℕ) (held : ℕ) (s : SharedDiagrams) (before : List NodeId) (r : A) → n ≡ length order → s.diagrams ≡ d2 → s.zero ≡ nought → before ≡ replicate held nought
       → HaveAsked {A = A} d1 d2 (variable_lists n) (Ok r) → AreNodes d2 s.bound.items → functions_of d2 s.bound.items ≡ put_variables n 0 order (functions_of d1 before) → AreShared order held budget s
   are_shared order held s before r long is_d is_zero filled h nodes functions =
-      let kept = h.keeps zero a.ok.node in
-      let zero_is : function_of d1 zero ≡ raised n (constant false) = a.ok.is ∙ ap (λ (k : ℕ). raised k (constant false)) vars in
-      let each : functions_of d1 before ≡ replicate held (raised n (constant false)) = ap (functions_of d1) filled ∙ map_filled held zero d1 ∙ ap (replicate held) zero_is in
+      let kept = h.keeps nought a.ok.node in
+      let zero_is : function_of d1 nought ≡ raised n (constant false) = a.ok.is ∙ ap (λ (k : ℕ). raised k (constant false)) vars in
+      let each : functions_of d1 before ≡ replicate held (raised n (constant false)) = ap (functions_of d1) filled ∙ map_filled held nought d1 ∙ ap (replicate held) zero_is in
       record {
         vars = ap (λ (d : Diagram). d.table.vars) is_d ∙ h.vars ∙ a.vars ∙ vars ∙ long;
         budget = ap (λ (d : Diagram). d.table.budget) is_d ∙ h.budget ∙ a.budget ∙ same;
@@ -198,7 +198,7 @@ module _ (n budget : ℕ) (d0 d1 d2 : Diagram) (zero : NodeId) (vars : d0.table.
             (subst (λ (k : ℕ). Holds (shared_lists k) d2.table) long (h.holds (raised n (constant false) ∷ []) zero_holds));
       }
     where
-      map_filled : (held : ℕ) (zero : NodeId) (d : Diagram) → functions_of d (replicate held zero) ≡ replicate held (function_of d zero)
+      map_filled : (held : ℕ) (node : NodeId) (d : Diagram) → functions_of d (replicate held node) ≡ replicate held (function_of d node)
       map_filled zero node d = refl
       map_filled (suc held) node d = ap (λ (l : List Truths). function_of d node ∷ l) (map_filled held node d)
 

@@ -1,14 +1,14 @@
 -- Bits at the places that an order names, and among the bits of input ports and registers.
-use Rattle.std.proofs.Common.{◌≡◌, ◌⊎◌, inl, inr, ℕ, zero, suc, ◌+◌, ◌<◌, ◌≤◌, Bool, true, false, not, List, [], ◌∷◌, ◌++◌, length, map, filter, drop, Option, None, Some, refl, sym, ap, subst, ◌∙◌, arith, append_assoc, add-one, drop-cons, length-append, if◌then◌else◌}
+use Rattle.std.proofs.Common.{◌≡◌, ◌⊎◌, inl, inr, ℕ, zero, suc, ◌+◌, ◌-◌, ◌<◌, ◌≤◌, Bool, true, false, not, take, length-drop, List, [], ◌∷◌, ◌++◌, length, map, filter, drop, Option, None, Some, refl, sym, ap, subst, ◌∙◌, arith, append_assoc, add-one, drop-cons, length-append, if◌then◌else◌}
 use Rattle.std.specs.Prelude.{nat_eq}
 use Rattle.std.specs.List.{slice_index_or}
 use Rattle.std.proofs.Math.ListN.{set}
 use Rattle.std.proofs.lemmas.Bool.{eqb-true, cases_lt}
-use Rattle.std.proofs.lemmas.List.{length-set, get_or-set_same, get_or-set_other, length-map}
+use Rattle.std.proofs.lemmas.List.{take_all, length-set, get_or-set_same, get_or-set_other}
 use Rattle.vlsi_base.specs.declared.name.Name.{Name}
 use Rattle.vlsi_base.specs.Member.{In, here, there, AllDifferent}
 use Rattle.bool_expr.specs.Expression.{bit}
-use Rattle.machine_meaning.specs.Named.{is_same_name, value_at, values_at}
+use Rattle.machine_meaning.specs.Named.{value_at, values_at}
 use Rattle.machine_meaning.specs.Machine.{Machine, is_clock, input_ports, inputs, register_names}
 use Rattle.machine_core.specs.Order.{held_names}
 use Rattle.machine_core.specs.Checked.{IsChecked, AreInOrder}
@@ -78,15 +78,14 @@ abbrev pub but_clock : Option Name → List Name → List Name
 but_clock c names = filter (λ name. not (is_clock c name)) names
 
 pub length-with_clock : (c : Option Name) (names : List Name) (w : List Bool) (rest : ℕ) → length w ≡ length (but_clock c names) + rest → length (with_clock c names w) ≡ length names + rest
-length-with_clock c [] w rest e = e
-length-with_clock c (n ∷ names) w rest e = by (is_clock c n) e where
-  by : (b : Bool) → length w ≡ length (if not b then n ∷ but_clock c names else but_clock c names) + rest
+length-with_clock c [] w rest e = omega (arith, e)
+length-with_clock c (n ∷ names) w rest e = by (is_clock c n) w e (λ v f. length-with_clock c names v rest f) where
+  by : (b : Bool) (w : List Bool) → length w ≡ length (if not b then n ∷ but_clock c names else but_clock c names) + rest
+      → ((v : List Bool) → length v ≡ length (but_clock c names) + rest → length (with_clock c names v) ≡ length names + rest)
       → length (if b then false ∷ with_clock c names w else bit w 0 ∷ with_clock c names (drop 1 w)) ≡ suc (length names) + rest
-  by true e = let r = length-with_clock c names w rest e in omega (arith, r)
-  by false e = shorter w e where
-    shorter : (w : List Bool) → length w ≡ suc (length (but_clock c names)) + rest → suc (length (with_clock c names (drop 1 w))) ≡ suc (length names) + rest
-    shorter [] e = absurd (omega arith)
-    shorter (x ∷ w) e = let r = length-with_clock c names w rest (omega arith) in omega (arith, r)
+  by true w e again = let r = again w e in omega (arith, r)
+  by false [] e again = absurd (omega arith)
+  by false (x ∷ w) e again = let r = again w (omega arith) in omega (arith, r)
 
 -- a name that isn't asked for is passed over
 skip : (n : Name) (b : Bool) (names : List Name) (w : List Bool) (asked : List Name) → (In n asked → ⊥) → values_at (n ∷ names) (b ∷ w) asked ≡ values_at names w asked
@@ -109,14 +108,14 @@ values_itself (n ∷ names) (b ∷ w) d e =
 
 filter_names : (t : Name → Bool) (n : Name) (xs : List Name) → In n (filter t xs) → In n xs
 filter_names t n [] h = elim h [ ]
-filter_names t n (x ∷ xs) h = by (t x) h where
-  first : In n (x ∷ filter t xs) → In n (x ∷ xs)
-  first here = here
-  first (there p) = there (filter_names t n xs p)
+filter_names t n (x ∷ xs) h = by (t x) h (λ p. filter_names t n xs p) where
+  first : (m : Name) → In m (x ∷ filter t xs) → (In m (filter t xs) → In m xs) → In m (x ∷ xs)
+  first m here rest = here
+  first m (there p) rest = there (rest p)
 
-  by : (b : Bool) → In n (if b then x ∷ filter t xs else filter t xs) → In n (x ∷ xs)
-  by true p = first p
-  by false p = there (filter_names t n xs p)
+  by : (b : Bool) → In n (if b then x ∷ filter t xs else filter t xs) → (In n (filter t xs) → In n xs) → In n (x ∷ xs)
+  by true p rest = first n p rest
+  by false p rest = there (rest p)
 
 asked_from : (c : Option Name) (n : Name) (names rest : List Name) → In n (but_clock c names ++ rest) → In n (names ++ rest)
 asked_from c n names rest h = elim (In-split n (but_clock c names) rest h) [
@@ -126,21 +125,19 @@ asked_from c n names rest h = elim (In-split n (but_clock c names) rest h) [
 
 pub values_with_clock : (c : Option Name) (names rest : List Name) (w : List Bool) → AllDifferent (names ++ rest) → length w ≡ length (but_clock c names) + length rest
     → values_at (names ++ rest) (with_clock c names w) (but_clock c names ++ rest) ≡ w
-values_with_clock c [] rest w d e = values_itself rest w d e
-values_with_clock c (n ∷ names) rest w d e = by (is_clock c n) e where
+values_with_clock c [] rest w d e = values_itself rest w d (omega (arith, e))
+values_with_clock c (n ∷ names) rest w d e = by (is_clock c n) w e (λ v f. values_with_clock c names rest v d.1 f) where
   fresh : In n (but_clock c names ++ rest) → ⊥
   fresh h = d.0 (asked_from c n names rest h)
 
-  by : (b : Bool) → length w ≡ length (if not b then n ∷ but_clock c names else but_clock c names) + length rest
+  by : (b : Bool) (w : List Bool) → length w ≡ length (if not b then n ∷ but_clock c names else but_clock c names) + length rest
+      → ((v : List Bool) → length v ≡ length (but_clock c names) + length rest → values_at (names ++ rest) (with_clock c names v) (but_clock c names ++ rest) ≡ v)
       → values_at (n ∷ (names ++ rest)) (if b then false ∷ with_clock c names w else bit w 0 ∷ with_clock c names (drop 1 w)) ((if not b then n ∷ but_clock c names else but_clock c names) ++ rest) ≡ w
-  by true e = skip n false (names ++ rest) (with_clock c names w) (but_clock c names ++ rest) fresh ∙ values_with_clock c names rest w d.1 e
-  by false e = shorter w e where
-    shorter : (w : List Bool) → length w ≡ suc (length (but_clock c names)) + length rest
-        → values_at (n ∷ (names ++ rest)) (bit w 0 ∷ with_clock c names (drop 1 w)) (n ∷ (but_clock c names ++ rest)) ≡ w
-    shorter [] e = absurd (omega arith)
-    shorter (x ∷ w) e =
-        let deeper = skip n x (names ++ rest) (with_clock c names w) (but_clock c names ++ rest) fresh ∙ values_with_clock c names rest w d.1 (omega arith) in
-        λ j. own_first n x (names ++ rest) (with_clock c names w) j ∷ deeper j
+  by true w e again = skip n false (names ++ rest) (with_clock c names w) (but_clock c names ++ rest) fresh ∙ again w e
+  by false [] e again = absurd (omega arith)
+  by false (x ∷ w) e again =
+      let deeper = skip n x (names ++ rest) (with_clock c names w) (but_clock c names ++ rest) fresh ∙ again w (omega arith) in
+      λ j. own_first n x (names ++ rest) (with_clock c names w) j ∷ deeper j
 
 -- ---- names that are given bits are different
 
@@ -207,11 +204,14 @@ bit_drop [] (suc k) = refl
 bit_drop (x ∷ w) zero = refl
 bit_drop (x ∷ w) (suc k) = bit_drop w k
 
+drop_next : (w : List Bool) (k : ℕ) → drop 1 (drop k w) ≡ drop (suc k) w
+drop_next [] zero = refl
+drop_next [] (suc k) = refl
+drop_next (x ∷ w) zero = refl
+drop_next (x ∷ w) (suc k) = drop_next w k
+
 drop_one : (w : List Bool) (k : ℕ) → drop 1 (drop k w) ≡ drop (k + 1) w
-drop_one [] zero = refl
-drop_one [] (suc k) = refl
-drop_one (x ∷ w) zero = refl
-drop_one (x ∷ w) (suc k) = drop_one w k
+drop_one w k = drop_next w k ∙ ap (λ (j : ℕ). drop j w) (sym (add-one k))
 
 -- the first i names have their bits, of which these many were taken
 pub record IsGiving (c : Option Name) (names : List Name) (held given : List Bool) (i taken : ℕ) : Type 0 where
@@ -264,6 +264,15 @@ all_given c names held given i taken end w = ap (λ (ns : List Name). given ++ w
 pub taken_within : (c : Option Name) (names : List Name) (held given : List Bool) (i taken : ℕ) → IsGiving c names held given i taken → (n : ℕ)
     → length held ≡ length (but_clock c names) + n → taken ≤ length held
 taken_within c names held given i taken w n long = let l = w.left in omega (arith, l, long)
+
+-- what is behind those that were taken, whole
+pub drop_taken : (held : List Bool) (k : ℕ) → take (length held - k) (drop k held) ≡ drop k held
+drop_taken held k = take_all (length held - k) (drop k held) (let l = length-drop k held in omega (arith, l))
+
+-- there is a bit for each input but the clock, and for each register
+pub counted : (m : Machine) (c : Option Name) (names : List Name) (held : List Bool) → c ≡ m.clock → names ≡ input_ports m → length held ≡ held_count m
+    → length held ≡ length (but_clock c names) + length (register_names m)
+counted m c names held ec en long = long ∙ length-append (inputs m) (register_names m) ∙ (λ j. length (but_clock (sym ec j) (sym en j)) + length (register_names m))
 
 -- what a machine's inputs and registers are given
 module _ (m : Machine) (checked : IsChecked m) (ports : AreInOrder (input_ports m)) (held given : List Bool) (long : length held ≡ held_count m)

@@ -21,6 +21,11 @@ has_direction Outward p = not (is_input p.dir)
 abbrev pub lesser_of : Name → Name → Name
 lesser_of a b = if is_lt (name_cmp a b) then a else b
 
+abbrev pub picked : Option Name → Option Name → Option Name
+picked None other = other
+picked (Some one) None = Some one
+picked (Some one) (Some other) = Some (lesser_of one other)
+
 -- the least name that stands in one of the lists alone
 pub record IsLeastApart (xs ys : List Name) (name : Name) : Type 0 where
   pub apart : IsApart xs ys name

@@ -1,10 +1,9 @@
 -- Bits on which two functions differ.
-use Rattle.std.specs.Prelude.{◌≡◌, ℕ, ◌<◌, Bool, List, length}
+use Rattle.std.specs.Prelude.{◌≡◌, ℕ, Bool, List}
 use Rattle.vlsi_base.specs.Member.{In}
 use Rattle.bool_expr.specs.Expression.{bit}
 use Rattle.bdd_core.specs.declared.node.NodeId.{NodeId}
-use Rattle.bdd_core.specs.Truths.{Truths, truths, halves}
-use Rattle.bdd_core.specs.Nodes.{raised}
+use Rattle.bdd_core.specs.Truths.{truths}
 use Rattle.bdd_core.specs.Diagram.{Diagram, IsNode, function_of}
 use Rattle.machine_roots.specs.Expansion.{place_among}
 

@@ -109,11 +109,7 @@ fn is_clock(clock: Option<&Name>, name: &Name) -> bool
 }
 
 /// The bits of inputs and registers, with 0 for the clock where it stands among the input ports. Takes memory for them.
-pub(crate) fn given_bits(
-    alloc: Global,
-    m: &Machine,
-    held: &[bool],
-) -> Result<Vec<bool>, AllocError>
+pub(crate) fn given_bits(alloc: Global, m: &Machine, held: &[bool]) -> Result<Vec<bool>, AllocError>
     requires { length held.now ≡ held_count m.now }
     ensures length { IfOk result (λ v. length v.items ≡ length (given_names m.now)) }
     ensures values { IfOk result (λ v. values_at (given_names m.now) v.items (held_names m.now) ≡ held.now) }

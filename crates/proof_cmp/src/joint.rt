@@ -117,12 +117,7 @@ fn bind_held(
 }
 
 // Diagrams in which the variables of an order stand for inputs and registers; each other input or register is bound to 0.
-fn share(
-    alloc: Global,
-    order: &[u32],
-    held: usize,
-    budget: u32,
-) -> Result<SharedDiagrams, BddError>
+fn share(alloc: Global, order: &[u32], held: usize, budget: u32) -> Result<SharedDiagrams, BddError>
     requires few { length order.now < 2 ^ 32 }
     requires within { All (λ k. k < held) order.now }
     ensures shared { IfOk result (λ s. AreShared order.now held budget s) }
@@ -228,11 +223,7 @@ fn walked<'a>(alloc: Global, cone: Cone<'a>) -> Result<WalkedCone<'a>, BddError>
 }
 
 // What a first walk meets, and then what only a second one meets.
-fn joined_order(
-    alloc: Global,
-    first: &WalkedNames,
-    second: &[u32],
-) -> Result<Vec<u32>, BddError>
+fn joined_order(alloc: Global, first: &WalkedNames, second: &[u32]) -> Result<Vec<u32>, BddError>
     requires within { All (λ k. k < length first.now.met.items) second.now }
     ensures items { IfOk result (λ v. v.items ≡ first.now.order.items ++ filter (λ k. not (bit first.now.met.items k)) second.now) }
     ensures kind { IfErr result (λ e. e ≡ BddError.Memory) }

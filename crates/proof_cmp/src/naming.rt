@@ -5,7 +5,7 @@ ghost use Rattle.machine_meaning.specs.Machine.{names_of};
 ghost use Rattle.machine_core.specs.Checked.{AreInOrder, IsChecked};
 ghost use Rattle.proof_cmp.specs.Naming.{names_with, HaveSameNames, IsLeastOneSided};
 ghost use Rattle.proof_cmp.specs.declared.naming.Role.{Role as RoleValue};
-ghost use Rattle.proof_cmp.specs.Apart.{has_direction, lesser_of, IsLeastApart, IsLeastIn};
+ghost use Rattle.proof_cmp.specs.Apart.{has_direction, lesser_of, picked, IsLeastApart, IsLeastIn};
 
 use machine_core::Machine;
 use machine_meaning::Register;
@@ -75,6 +75,17 @@ fn lesser<'a>(a: &'a Name, b: &'a Name) -> &'a Name
     if a.compare(b).is_lt() { a } else { b }
 }
 
+// The lesser one of two names of which there may be none.
+fn lesser_or<'a>(a: Option<&'a Name>, b: Option<&'a Name>) -> Option<&'a Name>
+    ensures { option_copied result ≡ picked (option_copied a.entry) (option_copied b.entry) }
+{
+    match (a, b) {
+        (Some(one), Some(other)) => Some(lesser(one, other)),
+        (Some(one), None) => Some(one),
+        (None, other) => other,
+    }
+}
+
 // The least name that stands in one of the lists alone, where each is in the order of names.
 fn least_apart<'a>(xs: &[&'a Name], ys: &[&'a Name]) -> Option<&'a Name>
     requires xs { AreInOrder (map (λ n. n.now) xs.now) }
@@ -112,11 +123,7 @@ fn lesser_with<'a>(
     let firsts = names_with(alloc, a, role)?;
     let seconds = names_with(alloc, b, role)?;
     let apart = least_apart(&firsts, &seconds);
-    Ok(match (least, apart) {
-        (Some(one), Some(other)) => Some(lesser(one, other)),
-        (Some(one), None) => Some(one),
-        (None, other) => other,
-    })
+    Ok(lesser_or(least, apart))
 }
 
 /// The least name that has a role in one of the machines alone; `None` exactly where each role has the same names in both. Takes

@@ -82,10 +82,11 @@ fn difference_in(
     if joint.diagrams.same(joint.first, joint.second) {
         return Ok(None);
     }
-    let vars = joint.order.len() as u32;
+    let order = joint.order.as_slice();
+    let vars = order.len() as u32;
     let bits = differing_bits(alloc, &joint.diagrams, vars, joint.first, joint.second)?;
     let held = m.vars().as_slice().len() - m.equations().as_slice().len();
-    let spread = spread_bits(alloc, &joint.order, &bits, held)?;
+    let spread = spread_bits(alloc, order, &bits, held)?;
     let given = given_bits(alloc, m, &spread)?;
     Ok(Some(given))
 }
@@ -131,9 +132,11 @@ fn compare<'a>(
     let _ = machines.second.name();
     let firsts = roots(alloc, machines.first)?;
     let seconds = roots(alloc, machines.second)?;
+    let others = seconds.as_slice();
     let mut found = None;
     for (k, first) in firsts.iter().enumerate() {
-        let joint = diagram_of(alloc, machines, *first, seconds[k], budget)?;
+        let second = others[k];
+        let joint = diagram_of(alloc, machines, *first, second, budget)?;
         found = found_with(alloc, machines.first, found, first.name, &joint)?;
     }
     Ok(found)

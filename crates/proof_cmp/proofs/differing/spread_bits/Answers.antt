@@ -1,4 +1,4 @@
-use Rattle.std.proofs.Common.{refl, length, ◌<◌, ◌≤◌}
+use Rattle.std.proofs.Common.{refl}
 use Rattle.proof_cmp.proofs.Spreading.{spreads_more, all_spread}
 use Rattle.proof_cmp.proofs.differing.spread_bits.Goals as goal
 
