@@ -20,22 +20,27 @@ use Rattle.machine_core.specs.Checked.{IsChecked, AreInOrder}
 use Rattle.source_bits.specs.Driven.{Numbered, NumberedStorage}
 use Rattle.vlsi_model.specs.Numbered.{name_at}
 use Rattle.vlsi_model.proofs.Building.{map-then}
-use Rattle.vlsi_model.proofs.Assembly.{All-from_In}
-use Rattle.vlsi_model.proofs.Naming.{rising_more, name_is}
+use Rattle.vlsi_model.proofs.Assembly.{All-from_In, In-permutation}
+use Rattle.vlsi_model.proofs.Naming.{rising_more}
+use Rattle.vlsi_model.proofs.Bits.{In-rising}
+use Rattle.vlsi_model.proofs.Members.{In-map_back}
+use Rattle.vlsi_model.proofs.Sorting.{In-at}
+use Rattle.std.proofs.lemmas.List.Sorted.{IsPermutation-sym}
 use Rattle.net_held.proofs.Local.{take_front}
 use Rattle.bit_named.specs.System.{System, IsSystem, Falls, FitsPorts, IsMachineOfBits}
 use Rattle.net_flat.specs.declared.renaming.Seat.{Seat}
 use Rattle.net_flat.specs.Renamed.{seat_at, stored_of, driven_from, inner_name, inner_names, is_port, new_names, renamed_system, IsLongerThan, AreAllNames, AreRenamed, AreFree, IsRenamed}
-use Rattle.net_flat.proofs.Bits.{Setting, system, seat_is, seat_names, is_system, falls, fits_ports}
+use Rattle.net_flat.proofs.Bits.{Setting, system, is_system, falls, fits_ports}
+use Rattle.net_flat.proofs.Lists.{names_whole}
 use Rattle.net_flat.proofs.Settled.{is_renamed}
 
 -- ---- loops
 
-pub seats_more : (names : List Name) (k : ℕ) (name : Name) (seats : List Seat) → seats ≡ map (seat_at names) (rising 0 k) → slice_get names k ≡ Some name
+pub seats_more : (names : List Name) (k : ℕ) (name : Name) (seats : List Seat) → seats ≡ map (seat_at names) (rising 0 k) → name_at names k ≡ name
     → seats ++ record { name = name; place = k } ∷ [] ≡ map (seat_at names) (rising 0 (k + 1))
 seats_more names k name seats so_far is =
     let made : Name → ℕ → Seat = λ n i. record { name = n; place = i } in
-    let last : made name k ≡ seat_at names (0 + k) = ap (λ (n : Name). made n k) (sym (name_is names k name is)) ∙ (let e : k ≡ 0 + k = omega arith in ap (seat_at names) e) in
+    let last : made name k ≡ seat_at names (0 + k) = ap (λ (n : Name). made n k) (sym is) ∙ (let e : k ≡ 0 + k = omega arith in ap (seat_at names) e) in
     ap (λ (xs : List Seat). xs ++ made name k ∷ []) so_far ∙ ap (λ (b : Seat). map (seat_at names) (rising 0 k) ++ b ∷ []) last
     ∙ sym (ap (map (seat_at names)) (rising_more 0 k) ∙ map-append (seat_at names) (rising 0 k) ((0 + k) ∷ []))
 
@@ -44,6 +49,21 @@ inner_same f g text k [] same = refl
 inner_same f g text k (n ∷ ns) same =
     ap (λ (b : Bool). cond b n (record { text = text; bit = Some k }) ∷ inner_names f text (k + 1) ns) (same n)
     ∙ ap (λ (rest : List Name). inner_name g text k n ∷ rest) (inner_same f g text (k + 1) ns same)
+
+pub seats_named : (names : List Name) → map (λ (s : Seat). s.name) (map (seat_at names) (rising 0 (length names))) ≡ names
+seats_named names = map-then (λ (s : Seat). s.name) (seat_at names) (rising 0 (length names)) ∙ names_whole names
+
+-- their places are below a number
+abbrev pub Lows : List Seat → ℕ → Type 0
+Lows seats n = (k : ℕ) (d : Seat) → k < length seats → (get_or seats k d).place < n
+
+pub places_low : (names : List Name) (made seats : List Seat) (n : ℕ) → made ≡ map (seat_at names) (rising 0 (length names)) → IsPermutation made seats → length names ≡ n
+    → (k : ℕ) (d : Seat) → k < length seats → (get_or seats k d).place < n
+places_low names made seats n e moved count k d l =
+    let i = In-permutation seats made (get_or seats k d) (IsPermutation-sym made seats moved) (In-at seats k d l) in
+    let r = In-map_back (seat_at names) (get_or seats k d) (rising 0 (length names)) (subst (λ (ss : List Seat). In (get_or seats k d) ss) e i) in
+    let low = (In-rising 0 (length names) r.0 r.1).1 in
+    subst (λ (s : Seat). s.place < n) r.2 (omega (arith, low, count))
 
 -- ---- names
 

@@ -121,7 +121,7 @@ module _ (once : SettlesOnce) (n : InMemory) (l : Library) (table : List ModelPi
       is.holds k seen t ∙ ap (λ (v : Netlist). held_by l v.instances t) seen.is ∙ held_are l n.instances t (plain_in n l plain)
 
   place_low : (p : ℕ) → In p renamed.places → p < length names
-  place_low p i = (In-rising 0 (length names) p (In-permutation renamed.places (rising 0 (length names)) p (IsPermutation-sym (rising 0 (length names)) renamed.places renamed.moved) i)).1
+  place_low p i = let l = (In-rising 0 (length names) p (In-permutation renamed.places (rising 0 (length names)) p (IsPermutation-sym (rising 0 (length names)) renamed.places renamed.moved) i)).1 in omega (arith, l)
 
   -- what the registers hold, by their names
   by_name : (k : Netlist) (seen : IsSeenAs n k) (t : Contents) → map (bit (KeepsStep.held (is.of_netlist.step k seen) t)) renamed.places ≡ held_by_name o t

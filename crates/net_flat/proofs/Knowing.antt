@@ -10,6 +10,7 @@ use Rattle.vlsi_base.specs.Names.{scalar}
 use Rattle.vlsi_base.specs.Member.{In, here, there}
 use Rattle.vlsi_model.proofs.Sorting.{In-at, place_of_In}
 use Rattle.vlsi_model.proofs.Members.{In-map_back}
+use Rattle.vlsi_model.proofs.Naming.{same_default}
 use Rattle.cell_model.specs.Cell.{Function, gate, flip_flop, other, opaque, Cell}
 use Rattle.cell_checks.specs.Checked.{library_of}
 use Rattle.cell_model.specs.Library.{Library, cell_of, cell_named}
@@ -93,16 +94,19 @@ is_plain n l parts nodes are knows none i h is =
 
 -- the model of the first instance that is neither
 pub first_is : (n : InMemory) (l : Library) (models : List (List ℕ)) (parts : List Part) (nodes : List Node) (k : ℕ) (node : Node) (model : List ℕ) → models ≡ n.models → AreNodes n nodes
-    → KnowsParts n l parts → IsFirstNode nodes parts k → node ≡ slice_index_or nodes k node → model ≡ slice_index_or models node.model [] → IsFirstOther n l model
+    → KnowsParts n l parts → IsFirstNode nodes parts k → node ≡ slice_index_or nodes k node → model ≡ slice_index_or models node.model model → IsFirstOther n l model
 first_is n l models parts nodes k node model of are knows h is named =
     let i = instance_of n.models node in
+    let inside : node.model < length n.models = subst (λ (d : Node). d.model < length n.models) (sym is) (are.inside k node h.inside) in
+    let same : slice_index_or n.models node.model [] ≡ model =
+    same_default n.models node.model [] model inside ∙ ap (λ (ms : List (List ℕ)). slice_index_or ms node.model model) (sym of) ∙ sym named in
     let there : Stands n.instances k i = subst (λ (is : List Instance). Stands is k i) are.seen (mapped (instance_of n.models) nodes k node (stands_of nodes k node h.inside is)) in
     record {
       place = k;
       owner = i;
       stands = there;
-      is = ap (λ (ms : List (List ℕ)). slice_index_or ms node.model []) (sym of) ∙ sym named;
-      other = subst (IsOther l) (ap (λ (ms : List (List ℕ)). slice_index_or ms node.model []) (sym of) ∙ sym named) (tested_other l i.model (other_here n l parts nodes are knows k i true there h.is));
+      is = same;
+      other = subst (IsOther l) same (tested_other l i.model (other_here n l parts nodes are knows k i true there h.is));
       first = λ j o low at is. not_both (is_other (part_at (cell_of l o.model))) (ap is_other (other_tested l o.model is)) (other_here n l parts nodes are knows j o false at (h.first j low));
     }
 
@@ -167,3 +171,9 @@ first_twice n l names k name text e h is named = record {
       not_both (is_taken n.ports before) (text_taken n.ports before taken)
       (subst (λ (x : Name). is_taken n.ports x ≡ false) (get_or_from_slice_get names j before before s) (h.2 j before low));
 }
+
+-- a plain netlist has no opaque cell
+pub never_opaque : (n : InMemory) (l : Library) (model : List ℕ) → IsPlain n l → IsFirstOpaque n l model → ⊥
+never_opaque n l model plain h =
+    plain h.owner (h.place, h.stands)
+    (record { cell = h.unknown.cell; found = ap (cell_of l) h.is ∙ h.unknown.found; is = ap part_of h.unknown.unknown })

@@ -41,7 +41,7 @@ use Rattle.net_flat.proofs.Flattening.{names_each}
 pub record IsRegister (is : List Instance) (name : Name) : Type 0 where
   pub owner : Instance
   pub listed : In owner is
-  pub is : name ≡ scalar owner.name
+  pub named : name ≡ scalar owner.name
 
 one_name : (p : Part) (i : Instance) (name : Name) → In name (names_if p i) → name ≡ scalar i.name
 one_name part.Gate i name j = elim j [ ]
@@ -52,8 +52,8 @@ one_name part.Other i name j = elim j [ ]
 pub register_is : (l : Library) (is : List Instance) (name : Name) → In name (registers_of l is) → IsRegister is name
 register_is l [] name j = elim j [ ]
 register_is l (i ∷ is) name j = elim (In-split name (names_if (part_at (cell_of l i.model)) i) (registers_of l is) j) [
-  | inl a ↦ record { owner = i; listed = here; is = one_name (part_at (cell_of l i.model)) i name a }
-  | inr b ↦ let r = register_is l is name b in record { owner = r.owner; listed = there r.listed; is = r.is }
+  | inl a ↦ record { owner = i; listed = here; named = one_name (part_at (cell_of l i.model)) i name a }
+  | inr b ↦ let r = register_is l is name b in record { owner = r.owner; listed = there r.listed; named = r.named }
 ]
 
 pub text_of_port : (ports : List Port) (p : Port) (text : List ℕ) → In p ports → p.name.text ≡ text → HasText ports text
@@ -79,7 +79,7 @@ names_different l (i ∷ is) d =
     different_append (names_if (part_at (cell_of l i.model)) i) (registers_of l is) (one_different (part_at (cell_of l i.model)) i) (names_different l is d.1)
     (λ x a b.
     let r = register_is l is x b in
-    let e : i.name ≡ r.owner.name = ap (λ (n : Name). n.text) (sym (one_name (part_at (cell_of l i.model)) i x a) ∙ r.is) in
+    let e : i.name ≡ r.owner.name = ap (λ (n : Name). n.text) (sym (one_name (part_at (cell_of l i.model)) i x a) ∙ r.named) in
     d.0 (subst (λ (t : List ℕ). In t (map (λ (i : Instance). i.name) is)) (sym e) (In-map (λ (i : Instance). i.name) r.owner is r.listed)))
 
 -- ---- none is a supply

@@ -70,7 +70,7 @@ module _ (g : Setting) (hs i x : List Bool) (h : Settles g.m hs i x) where
       let n = input_count in
       let z : ins g + k ≡ length i + k = omega (arith, n) in
       ap (λ (w : List Bool). bit w (ins g + k)) pieces.1 ∙ ap (bit (i ++ drop (ins g) x)) z ∙ bit_right i (drop (ins g) x) k
-      ∙ sym (get_or-take (drop (ins g) x) (regs g) k false l) ∙ ap (λ (w : List Bool). bit w k) pieces.2
+      ∙ sym (get_or-take (regs g) (drop (ins g) x) k false l) ∙ ap (λ (w : List Bool). bit w k) pieces.2
 
   equation_holds : (k : ℕ) (e : Equation) → k < eqs g → ((o : Equation) → get_or g.m.equations k o ≡ e) → bit x (ins g + regs g + k) ≡ val e.expr x
   equation_holds k e l at =

@@ -16,7 +16,7 @@ use Rattle.vlsi_base.specs.Member.{In, here, there}
 use Rattle.machine_meaning.specs.Machine.{Machine, Register, register_names}
 use Rattle.machine_core.specs.Checked.{IsChecked, AreInOrder}
 use Rattle.machine_core.proofs.Values.{In-map}
-use Rattle.source_meaning.proofs.Lookups.{same_of}
+use Rattle.net_core.proofs.Lookups.{same_of}
 use Rattle.vlsi_model.proofs.Members.{In-map_back}
 use Rattle.vlsi_model.proofs.PortBits.{In-filter}
 use Rattle.vlsi_model.proofs.Sorting.{In-at, place_of_In}
@@ -54,7 +54,7 @@ RunsAt ps = (k : ℕ) (p q : Port) → slice_get ps k ≡ Some p → slice_get p
 runs_of : (ps : List Port) → RunsAt ps → Runs ps
 runs_of [] h = tt
 runs_of (p ∷ []) h = (tt, tt)
-runs_of (p ∷ q ∷ ps) h = (h 0 p q refl refl, runs_of (q ∷ ps) (λ k a b x y. h (suc k) a b x y))
+runs_of (p ∷ q ∷ ps) h = (h 0 p q refl refl, runs_of (q ∷ ps) (λ k a b x y. let e : suc (k + 1) ≡ suc k + 1 = omega arith in h (suc k) a b x (subst (λ (j : ℕ). slice_get (p ∷ q ∷ ps) j ≡ Some b) e y)))
 
 runs_at : (ps : List Port) → Runs ps → RunsAt ps
 runs_at [] h k p q x y e = absurd cc
@@ -65,7 +65,7 @@ runs_at (a ∷ b ∷ ps) h zero p q x y e =
     let q_is : b ≡ q = cc in
     let go : a.name.text ≡ b.name.text → GoesOn a b = h.0 in
     subst (λ (z : Port). GoesOn z q) p_is (subst (λ (z : Port). GoesOn a z) q_is (go (ap (λ (z : Port). z.name.text) p_is ∙ e ∙ ap (λ (z : Port). z.name.text) (sym q_is))))
-runs_at (a ∷ b ∷ ps) h (suc k) p q x y e = runs_at (b ∷ ps) h.1 k p q x y e
+runs_at (a ∷ b ∷ ps) h (suc k) p q x y e = let z : suc k + 1 ≡ suc (k + 1) = omega arith in runs_at (b ∷ ps) h.1 k p q x (subst (λ (j : ℕ). slice_get (a ∷ b ∷ ps) j ≡ Some q) z y) e
 
 -- names between two of one text have that text
 between : (p q r : Name) → comes_before p q ≡ true → comes_before q r ≡ true → p.text ≡ r.text → p.text ≡ q.text
@@ -161,7 +161,7 @@ can_be_text n l o checked name ports registers apart words clock = record {
   registers = registers_declared (register_names o) checked.registers
       (λ r i.
       let s = register_is l n.instances r (registers r i) in
-      (subst (λ (x : Name). IsIdentifier x.text) (sym s.is) (All_In (λ (i : Instance). IsIdentifier i.name) n.instances words.instances s.owner s.listed), ap (λ (x : Name). x.bit) s.is));
+      (subst (λ (x : Name). IsIdentifier x.text) (sym s.named) (All_In (λ (i : Instance). IsIdentifier i.name) n.instances words.instances s.owner s.listed), ap (λ (x : Name). x.bit) s.named));
   apart = λ p r i j e.
       apart r.name (registers r.name (In-map (λ (x : Register). x.name) r o.registers j))
       (text_of_port n.ports p r.name.text (In-filter is_signal n.ports p (subst (λ (ps : List Port). In p ps) ports i)).0 e);

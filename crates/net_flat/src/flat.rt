@@ -67,6 +67,8 @@ pub fn flatbeh(alloc: Global, netlist: &Netlist, library: &Library) -> Result<Ma
         Err(NetMachineError::Memory) => return Err(FlatError::Memory),
         Err(NetMachineError::NoBehaviour(model)) => return Err(FlatError::NoBehaviour(model)),
     };
+    // Its names aren't read here: the call says that the machine is checked.
+    let _ = machine.vars();
     let made = named(alloc, &machine, &names)?;
     Ok(made)
 }

@@ -35,10 +35,9 @@ fn seats(alloc: Global, names: &[Name]) -> Result<Vec<Seat>, AllocError>
 {
     let mut seats = Vec::new(alloc);
     for k in 0..names.len() {
-        seats.push(Seat {
-            name: names[k].copy(alloc)?,
-            place: k as u32,
-        })?;
+        let name = names[k].copy(alloc)?;
+        let place = k as u32;
+        seats.push(Seat { name, place })?;
     }
     Ok(seats)
 }
