@@ -291,6 +291,7 @@ is_machine b text e = record {
   clock_is = b.clock_is;
   checked = checked b;
   registers = ap length b.registers ∙ length-map b.s.stored (λ (r : NumberedStorage). register_from (names b) b.table r);
+  named = registers_are b;
   forth = forth b;
   back = back b;
   loads = loads b;

@@ -5,7 +5,7 @@ use Rattle.vlsi_base.specs.declared.name.Port.{Port}
 use Rattle.vlsi_base.specs.declared.name.Dir.TheVariants as dir
 use Rattle.bool_expr.specs.Expression.{variables, IsOver, bit, val}
 use Rattle.machine_meaning.specs.Named.{values_at}
-use Rattle.machine_meaning.specs.Machine.{Machine, names_of}
+use Rattle.machine_meaning.specs.Machine.{Machine, names_of, register_names}
 use Rattle.machine_meaning.specs.Cycles.{Settles, next}
 use Rattle.machine_core.specs.Order.{In, AllDifferent}
 use Rattle.machine_core.specs.Checked.{AreInOrder, IsNoSupply, IsChecked}
@@ -84,13 +84,14 @@ bits_next s y = map (λ r. if val r.enable y then val r.next y else bit y r.bit)
 abbrev pub bits_shown : System → Machine → List Bool → List Bool
 bits_shown s m x = values_at m.vars x s.names
 
--- The machine has this name, these ports and this clock, and settles as the bits do.
+-- The machine has this name, these ports and this clock, a register for each stored bit, by its name, and settles as the bits do.
 pub record IsMachineOfBits (name : List ℕ) (ports : List Port) (clock : Option Name) (s : System) (m : Machine) : Type 0 where
   pub text : m.name ≡ name
   pub ports_are : m.ports ≡ ports
   pub clock_is : m.clock ≡ clock
   pub checked : IsChecked m
   pub registers : length m.registers ≡ length s.stored
+  pub named : register_names m ≡ map (name_at s.names) (stored_bits s)
   pub forth : (held i x : List Bool) → Settles m held i x → BitsSettle s held i (bits_shown s m x)
   pub back : (held i y : List Bool) → BitsSettle s held i y → (x : List Bool) × Settles m held i x × (bits_shown s m x ≡ y)
   pub loads : (held i x : List Bool) → Settles m held i x → next m x ≡ bits_next s (bits_shown s m x)

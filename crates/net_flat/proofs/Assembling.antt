@@ -26,8 +26,8 @@ use Rattle.vlsi_model.proofs.Bits.{In-rising}
 use Rattle.vlsi_model.proofs.Members.{In-map_back}
 use Rattle.vlsi_model.proofs.Sorting.{In-at}
 use Rattle.std.proofs.lemmas.List.Sorted.{IsPermutation-sym}
-use Rattle.net_held.proofs.Local.{take_front}
-use Rattle.bit_named.specs.System.{System, IsSystem, Falls, FitsPorts, IsMachineOfBits}
+use Rattle.net_machine.proofs.Local.{take_front}
+use Rattle.bit_machine.specs.System.{System, IsSystem, Falls, FitsPorts, IsMachineOfBits}
 use Rattle.net_flat.specs.declared.renaming.Seat.{Seat}
 use Rattle.net_flat.specs.Renamed.{seat_at, stored_of, driven_from, inner_name, inner_names, is_port, new_names, renamed_system, IsLongerThan, AreAllNames, AreRenamed, AreFree, IsRenamed}
 use Rattle.net_flat.proofs.Bits.{Setting, system, is_system, falls, fits_ports}

@@ -29,8 +29,8 @@ use Rattle.vlsi_model.proofs.PortBits.{In-filter, filter-In}
 use Rattle.vlsi_model.proofs.Sorting.{In-at, place_of_In, different_names}
 use Rattle.vlsi_model.proofs.Building.{map-then, map_same}
 use Rattle.vlsi_model.proofs.Assembly.{In-permutation}
-use Rattle.bit_named.specs.System.{System, stored_bits, driven_bits, held_bits, all_bits, IsSystem, Falls, FitsPorts}
-use Rattle.bit_named.proofs.Built.{All_In}
+use Rattle.bit_machine.specs.System.{System, stored_bits, driven_bits, held_bits, all_bits, IsSystem, Falls, FitsPorts}
+use Rattle.bit_machine.proofs.Built.{All_In}
 use Rattle.net_flat.specs.declared.renaming.Seat.{Seat}
 use Rattle.net_flat.specs.Renamed.{seat_at, register_at, stored_of, driven_from, inner_name, inner_names, is_port, new_names, renamed_system, IsLongerThan, AreFree}
 use Rattle.net_flat.proofs.Lists.{name_left, name_right, names_between, names_whole, unmap_different, rising_count}
@@ -285,8 +285,7 @@ shorter a b l e = let z = ap length e in omega (arith, l, z)
 
 parts_different : (g : Setting) → AllDifferent (inputs g.m) × AllDifferent (equation_names g.m) × ((x : Name) → In x (inputs g.m) → In x (equation_names g.m) → ⊥)
 parts_different g =
-    let d = subst (λ (ns : List Name). AllDifferent ns) g.checked.ordered.vars g.checked.ordered.different in
-    (
+    let d = subst (λ (ns : List Name). AllDifferent ns) g.checked.ordered.vars g.checked.ordered.different in (
       different_left (inputs g.m) (register_names g.m) (different_left (held_names g.m) (equation_names g.m) d),
       different_right (held_names g.m) (equation_names g.m) d,
       λ x i j. apart (held_names g.m) (equation_names g.m) d x (In-left x (inputs g.m) (register_names g.m) i) j,

@@ -34,9 +34,9 @@ use Rattle.net_meaning.specs.Netlist.{Member, Netlist}
 use Rattle.net_meaning.specs.Behaviour.{Contents, Valuation, NetSettles, model_of, cell_at, net_next}
 use Rattle.net_view.specs.Condition.{MeetsCondition}
 use Rattle.net_view.specs.View.{IsSeenAs, member_of}
-use Rattle.net_held.specs.Step.{held_in, held_at, held_by, FitsContents, zeros, zeros_of, no_contents, ShowAlike, AreInStep, KeepsStep, IsMachineOfNetlist, IsMachineInOrder, IsInOrderWith}
-use Rattle.net_held.specs.Signals.{IsClockPort}
-use Rattle.net_held.proofs.Drivers.{In_there}
+use Rattle.net_machine.specs.Step.{held_in, held_at, held_by, FitsContents, zeros, zeros_of, no_contents, ShowAlike, AreInStep, KeepsStep, IsMachineOfNetlist, IsMachineInOrder, IsInOrderWith}
+use Rattle.net_machine.specs.Signals.{IsClockPort}
+use Rattle.net_machine.proofs.Drivers.{In_there}
 use Rattle.net_flat.specs.declared.parts.Part.{Part}
 use Rattle.net_flat.specs.declared.parts.Part.TheVariants as part
 use Rattle.net_flat.specs.Parts.{part_of, part_at, names_if, registers_of}
@@ -103,8 +103,7 @@ names_each n l table m plain is k seen =
 -- ---- the machine with the instances' names
 
 module _ (once : SettlesOnce) (n : InMemory) (l : Library) (table : List ModelPins) (m o : Machine) (checked : IsChecked m) (plain : IsPlain n l) (is : IsMachineInOrder n l table m)
-  (renamed : IsRenamed m (registers_of l n.instances) o) where
-
+    (renamed : IsRenamed m (registers_of l n.instances) o) where
   abbrev names : List Name
   names = registers_of l n.instances
 

@@ -19,8 +19,8 @@ use Rattle.net_core.specs.Places.{Stands, IsThere}
 use Rattle.net_core.specs.Frame.{instance_of}
 use Rattle.net_core.specs.Netlist.{Instance, Netlist as InMemory}
 use Rattle.net_core.proofs.Frames.{mapped, unmapped}
-use Rattle.net_held.specs.Signals.{HasBehaviour, IsFirstOpaque}
-use Rattle.net_held.proofs.Knowing.{AreNodes, stands_of}
+use Rattle.net_machine.specs.Signals.{HasBehaviour, IsFirstOpaque}
+use Rattle.net_machine.proofs.Knowing.{AreNodes, stands_of}
 use Rattle.net_flat.specs.declared.parts.Part.{Part}
 use Rattle.net_flat.specs.declared.parts.Part.TheVariants as part
 use Rattle.net_flat.specs.Parts.{part_of, part_at, names_if, registers_of}

@@ -24,12 +24,12 @@ use Rattle.net_meaning.specs.Netlist.{Netlist}
 use Rattle.net_meaning.specs.Behaviour.{Contents}
 use Rattle.net_view.specs.Condition.{MeetsCondition}
 use Rattle.net_view.specs.View.{IsSeenAs, netlist_by}
-use Rattle.net_held.specs.Signals.{signal_ports, MeetsConditionWith}
-use Rattle.net_held.specs.Step.{KeepsStep, IsMachineInOrder, IsInOrderWith}
-use Rattle.net_held.proofs.Drivers.{In_there}
-use Rattle.net_held.proofs.Clocks.{port_place}
-use Rattle.net_held.proofs.Knowing.{stands_of}
-use Rattle.net_held.proofs.Made.{class_by, class_by_is}
+use Rattle.net_machine.specs.Signals.{signal_ports, MeetsConditionWith}
+use Rattle.net_machine.specs.Step.{KeepsStep, IsMachineInOrder, IsInOrderWith}
+use Rattle.net_machine.proofs.Drivers.{In_there}
+use Rattle.net_machine.proofs.Clocks.{port_place}
+use Rattle.net_machine.proofs.Knowing.{stands_of}
+use Rattle.net_machine.proofs.Made.{class_by, class_by_is}
 use Rattle.net_flat.specs.declared.parts.Part.{Part}
 use Rattle.net_flat.specs.declared.parts.Part.TheVariants as part
 use Rattle.net_flat.specs.Parts.{part_at, names_if, registers_of}

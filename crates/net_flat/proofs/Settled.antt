@@ -25,12 +25,12 @@ use Rattle.vlsi_model.proofs.PortBits.{In-filter, filter-In}
 use Rattle.vlsi_model.proofs.Sorting.{place_of_In}
 use Rattle.vlsi_model.proofs.Building.{map-then, map_same}
 use Rattle.net_core.specs.Places.{Stands}
-use Rattle.bit_named.specs.System.{System, stored_bits, BitsSettle, bits_next, bits_shown, IsMachineOfBits}
-use Rattle.bit_named.proofs.Showing.{shown_at}
-use Rattle.bit_named.proofs.Built.{All_In}
-use Rattle.net_held.proofs.Local.{machine_equation, settled_pieces}
-use Rattle.net_held.proofs.Places.{bits_between, bit_right}
-use Rattle.net_held.proofs.Knowing.{stands_of}
+use Rattle.bit_machine.specs.System.{System, stored_bits, BitsSettle, bits_next, bits_shown, IsMachineOfBits}
+use Rattle.bit_machine.proofs.Showing.{shown_at}
+use Rattle.bit_machine.proofs.Built.{All_In}
+use Rattle.net_machine.proofs.Local.{machine_equation, settled_pieces}
+use Rattle.net_machine.proofs.Places.{bits_between, bit_right}
+use Rattle.net_machine.proofs.Knowing.{stands_of}
 use Rattle.net_flat.specs.declared.renaming.Seat.{Seat}
 use Rattle.net_flat.specs.Renamed.{seat_at, register_at, stored_of, driven_from, inner_name, inner_names, is_port, IsRenamed, ComesTo, AreRenamed, AreFree}
 use Rattle.net_flat.proofs.Lists.{name_left, name_right, names_whole}

@@ -30,8 +30,8 @@ use Rattle.net_core.specs.Netlist.{Instance, Netlist as InMemory, IsNetlist}
 use Rattle.net_view.specs.Writable.{CanBeAnInstance, CanBeNamed}
 use Rattle.vbe_write.specs.Written.{as_port, as_ports}
 use Rattle.vbe_write.specs.Writable.{AreDeclared, CanBeVbe}
-use Rattle.bit_named.proofs.Built.{All_In}
-use Rattle.net_held.specs.Signals.{signal_ports}
+use Rattle.bit_machine.proofs.Built.{All_In}
+use Rattle.net_machine.specs.Signals.{signal_ports}
 use Rattle.net_flat.specs.declared.parts.Part.{Part}
 use Rattle.net_flat.specs.declared.parts.Part.TheVariants as part
 use Rattle.net_flat.specs.Parts.{part_at, names_if, registers_of}

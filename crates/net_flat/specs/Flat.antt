@@ -19,8 +19,8 @@ use Rattle.net_view.specs.View.{IsSeenAs}
 use Rattle.net_view.specs.Writable.{CanBeNamed}
 use Rattle.port_words.specs.Words.{IsIdentifier}
 use Rattle.vbe_write.specs.Writable.{AreDeclared, CanBeVbe}
-use Rattle.net_held.specs.Signals.{signal_ports}
-use Rattle.net_held.specs.Step.{KeepsStep, FitsContents, IsMachineOfNetlist}
+use Rattle.net_machine.specs.Signals.{signal_ports}
+use Rattle.net_machine.specs.Step.{KeepsStep, FitsContents, IsMachineOfNetlist}
 use Rattle.net_flat.specs.declared.parts.Part.TheVariants as part
 use Rattle.net_flat.specs.Parts.{part_of, registers_of}
 

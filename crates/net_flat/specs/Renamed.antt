@@ -14,7 +14,7 @@ use Rattle.machine_core.specs.Checked.{IsChecked, AreInOrder, IsNoSupply}
 use Rattle.machine_core.specs.Order.{equation_names}
 use Rattle.source_bits.specs.Driven.{Numbered, NumberedStorage}
 use Rattle.vlsi_model.specs.Numbered.{name_at}
-use Rattle.bit_named.specs.System.{System}
+use Rattle.bit_machine.specs.System.{System}
 use Rattle.net_flat.specs.declared.renaming.Seat.{Seat}
 
 -- ---- the bits of a machine with other names

@@ -1,6 +1,6 @@
 // A netlist as a machine whose registers have its instances' names.
 ghost use Rattle.std.specs.Prelude.{◌≡◌, IfOk, IfErr, OnOk};
-ghost use Rattle.net_held.specs.Signals.{MeetsConditionWith};
+ghost use Rattle.net_machine.specs.Signals.{MeetsConditionWith};
 ghost use Rattle.net_flat.specs.Parts.{registers_of};
 ghost use Rattle.net_flat.specs.Flat.{IsPlain, AreApart, IsFlatWith, CanBeText};
 ghost use Rattle.net_flat.specs.Answers.{IsFlatRefusal};
@@ -12,7 +12,7 @@ use crate::taken::first_taken;
 use cell_checks::Library;
 use machine_core::{Machine, settles_once};
 use net_core::Netlist;
-use net_held::{NetMachineError, machine_of};
+use net_machine::{NetMachineError, machine_of};
 use std::alloc::Global;
 use vlsi_base::Name;
 

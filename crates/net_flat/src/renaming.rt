@@ -10,11 +10,11 @@ ghost use Rattle.machine_meaning.specs.Machine.{names_of};
 ghost use Rattle.machine_core.specs.Checked.{AreInOrder};
 ghost use Rattle.machine_core.specs.View.{equation_view, register_view};
 ghost use Rattle.source_bits.specs.Driven.{driven_view, stored_view};
-ghost use Rattle.bit_named.specs.System.{system_of};
+ghost use Rattle.bit_machine.specs.System.{system_of};
 ghost use Rattle.net_flat.specs.Renamed.{seat_at, stored_of, driven_from, inner_names, IsLongerThan, AreAllNames, AreRenamed, AreFree, IsRenamed};
 
 use crate::taken::index_of;
-use bit_named::{BitSystem, DrivenBit, StoredBit, machine_of_bits};
+use bit_machine::{BitSystem, DrivenBit, StoredBit, machine_of_bits};
 use bool_expr::copy;
 use machine_core::Machine;
 use machine_meaning::{Equation, Register};
@@ -191,7 +191,13 @@ fn all_names(
     let mut all = Vec::new(alloc);
     push_names(alloc, &mut all, inputs)?;
     push_names(alloc, &mut all, names)?;
-    push_inner(alloc, &mut all, &index, &text, machine.equations().as_slice())?;
+    push_inner(
+        alloc,
+        &mut all,
+        &index,
+        &text,
+        machine.equations().as_slice(),
+    )?;
     Ok(Names::new(all))
 }
 

@@ -15,11 +15,13 @@ use Rattle.net_core.specs.Places.{Stands, NoneTwice}
 use Rattle.net_core.specs.Netlist.{Netlist as InMemory, IsNetlist, terminals, IsClassFunction}
 use Rattle.net_core.proofs.Finishing.{netlist_terminals_once}
 use Rattle.net_meaning.specs.Netlist.{Netlist}
+use Rattle.net_meaning.specs.Behaviour.{Contents}
 use Rattle.net_view.specs.Condition.{MeetsCondition}
+use Rattle.net_view.specs.View.{IsSeenAs}
 use Rattle.bit_machine.specs.System.{System, system_of, IsSystem, Falls, FitsPorts, IsMachineOfBits}
 use Rattle.bit_machine.specs.declared.system.BitSystem.{BitSystem}
 use Rattle.net_machine.specs.Signals.{signal_ports, IsClockPort, MeetsConditionWith, HasBehaviour}
-use Rattle.net_machine.specs.Step.{KeepsStep, IsMachineWith}
+use Rattle.net_machine.specs.Step.{held_by, KeepsStep, IsMachineWith, IsInOrderWith}
 use Rattle.net_machine.specs.Bits.{net_system}
 use Rattle.net_machine.specs.Gathered.{KnowsModels, AreKnown, HasClockOf, AreBitsOf}
 use Rattle.net_machine.specs.declared.known.Known.{Known as KnownParts}
@@ -29,7 +31,7 @@ use Rattle.net_machine.proofs.Whole.{is_system}
 use Rattle.net_machine.proofs.Fitting.{fits_ports}
 use Rattle.net_machine.proofs.Falling.{falls}
 use Rattle.net_machine.proofs.Ranking.{class_ranks}
-use Rattle.net_machine.proofs.Stepping.{keeps_step}
+use Rattle.net_machine.proofs.Stepping.{keeps_step, keeps_order}
 
 -- ---- a class for each terminal
 
@@ -88,10 +90,10 @@ class_in_is (u ∷ ts) (d ∷ cs) h (suc k) t c p q = by (same_terminal u t) ref
       let same = terminal_true u t e in
       let w = h 0 (suc k) t (ap Some same) p in absurd (omega (arith, w))
 
-abbrev class_by : InMemory → Terminal → ℕ
+abbrev pub class_by : InMemory → Terminal → ℕ
 class_by n t = class_in (terminals n) n.classes t
 
-class_by_is : (n : InMemory) → IsNetlist n → IsClassFunction n (class_by n)
+pub class_by_is : (n : InMemory) → IsNetlist n → IsClassFunction n (class_by n)
 class_by_is n is = record { each = λ t k h. class_in_is (terminals n) n.classes (netlist_terminals_once n is) h.0 t k h.1 h.2 }
 
 -- ---- what is known of the models
@@ -160,5 +162,31 @@ module _ (n : InMemory) (l : Library) (clock : Option Name) (b : BitSystem) (g :
   pub machine_made : (name : List ℕ) (ports : List Port) (m : Machine) → name ≡ n.name → ports ≡ signal_ports n.ports → IsMachineOfBits name ports clock (system_of b) m → IsMachineWith n l m
   machine_made name ports m e f is =
       machine_is m
+      (subst (λ (t : List ℕ). IsMachineOfBits t (signal_ports n.ports) clock (system_of b) m) e
+      (subst (λ (ps : List Port). IsMachineOfBits name ps clock (system_of b) m) f is))
+
+  -- it keeps step, and holds what the instances hold in their order
+  abbrev StepsInOrder : Machine → Netlist → Type 0
+  StepsInOrder m k = (step : KeepsStep k l m) × ((t : Contents) → step.held t ≡ held_by l k.instances t)
+
+  in_order : (m : Machine) → IsMachineOfBits n.name (signal_ports n.ports) clock (system_of b) m → IsInOrderWith n l m
+  in_order m is table table_is condition = record {
+    of_netlist = record {
+      name = is.text;
+      ports = is.ports_are;
+      clock = subst (IsClockPort table n) (sym is.clock_is) (clock_found n l table (record { netlist = g.net; condition = condition; table_is = table_is; checked = g.checked }) clock g.clock_is);
+      step = λ k seen. (both k seen).0;
+    };
+    holds = λ k seen t. (both k seen).1 t;
+  } where
+    both : (k : Netlist) → IsSeenAs n k → StepsInOrder m k
+    both k seen =
+        let s = scene n l clock b g table table_is condition k.class seen.classes in
+        let made = subst (λ (x : System). IsMachineOfBits n.name (signal_ports n.ports) clock x m) (g.bits.is k.class seen.classes) is in
+        subst (StepsInOrder m) (sym seen.is) (keeps_step s n.name m made, keeps_order s n.name m made)
+
+  pub in_order_made : (name : List ℕ) (ports : List Port) (m : Machine) → name ≡ n.name → ports ≡ signal_ports n.ports → IsMachineOfBits name ports clock (system_of b) m → IsInOrderWith n l m
+  in_order_made name ports m e f is =
+      in_order m
       (subst (λ (t : List ℕ). IsMachineOfBits t (signal_ports n.ports) clock (system_of b) m) e
       (subst (λ (ps : List Port). IsMachineOfBits name ps clock (system_of b) m) f is))

@@ -13,6 +13,7 @@ use Rattle.cell_model.specs.Cell.{Function, gate, flip_flop, other, opaque, Cell
 use Rattle.cell_model.specs.Library.{cell_of}
 use Rattle.net_core.specs.Netlist.{Instance}
 use Rattle.net_meaning.specs.Behaviour.{Contents}
+use Rattle.net_machine.specs.Step.{held_in, held_at}
 use Rattle.net_machine.specs.Body.{body_of, body_at, width}
 use Rattle.net_machine.specs.Bits.{widths, numbers, body_stored, body_driven}
 use Rattle.net_machine.proofs.Scenes.{Scene}
@@ -57,16 +58,6 @@ driven_by s base (k ∷ is) d j = elim (In-split d (body_driven s.class k.name (
 ]
 
 -- ---- what is held
-
-abbrev pub held_in : Function → List Bool → List Bool
-held_in (gate e) xs = []
-held_in (flip_flop data_pin clock_pin) xs = bit xs 0 ∷ []
-held_in (other m) xs = map (bit xs) (rising 0 (length m.registers))
-held_in opaque xs = []
-
-abbrev pub held_at : Option Cell → List Bool → List Bool
-held_at None xs = []
-held_at (Some c) xs = held_in c.function xs
 
 -- what the instances hold, one after another
 abbrev pub held_all : Scene → List Instance → Contents → List Bool

@@ -32,7 +32,8 @@ use Rattle.net_machine.proofs.Scenes.{Scene, shown_pins}
 use Rattle.net_machine.proofs.Blocks.{body_in, shown_low}
 use Rattle.net_machine.proofs.Whole.{rising_count}
 use Rattle.net_machine.proofs.Local.{BodyHolds, machine_registers, machine_settles, machine_holds}
-use Rattle.net_machine.proofs.Places.{held_in, local}
+use Rattle.net_machine.specs.Step.{held_in}
+use Rattle.net_machine.proofs.Places.{local}
 use Rattle.vlsi_model.proofs.Members.{In-cases, In-map_back}
 
 -- the netlist with this scene's classes

@@ -34,7 +34,7 @@ use Rattle.net_view.specs.View.{member_of}
 use Rattle.bit_machine.specs.System.{BitsSettle, bits_next, bits_shown, IsMachineOfBits}
 use Rattle.bit_machine.proofs.Showing.{shown_at}
 use Rattle.net_machine.specs.Signals.{signal_ports, net_inputs}
-use Rattle.net_machine.specs.Step.{FitsContents, zeros, zeros_of, no_contents, ShowAlike, AreInStep, KeepsStep}
+use Rattle.net_machine.specs.Step.{held_in, held_at, held_by, FitsContents, zeros, zeros_of, no_contents, ShowAlike, AreInStep, KeepsStep}
 use Rattle.net_machine.specs.Body.{Load, Body, body_of, body_at, width}
 use Rattle.net_machine.specs.Bits.{own_name, is_signal, fixed_bit, own_of, port_driven, class_of_port, classes_driven, numbers, body_stored, body_driven, stored_from}
 use Rattle.net_machine.specs.Gathered.{bits_count}
@@ -46,7 +46,7 @@ use Rattle.net_machine.proofs.Blocks.{all_stored, all_driven, body_in}
 use Rattle.net_machine.proofs.Whole.{system, first, names_count, instances_apart, rising_count}
 use Rattle.net_machine.proofs.Fitting.{name_of_port, clock_port, picked, supply_name}
 use Rattle.net_machine.proofs.Local.{BodyHolds, take_front, settled_pieces}
-use Rattle.net_machine.proofs.Places.{Place, first as at_first, next as at_next, place_of, placed_in, driven_in, driven_by, held_in, held_at, held_all, held_count, held_split, held_join, local, inner_of, inner_at, bit_left, block_at, blocks_count, bit_right}
+use Rattle.net_machine.proofs.Places.{Place, first as at_first, next as at_next, place_of, placed_in, driven_in, driven_by, held_all, held_count, held_split, held_join, local, inner_of, inner_at, bit_left, block_at, blocks_count, bit_right}
 use Rattle.net_machine.proofs.Settling.{seen_net, Driven, holds_if, driven_if, pins_shown, AgreeBelow, Stage, drives, holds, IsLocal, FitsHeld, held_itself, loads_next, stored_next, loads, reads_agree, local_pieces, rising_split}
 use Rattle.net_core.proofs.Rings.{class_below}
 use Rattle.std.specs.Cmp.Lexicographic.{bytes_decides}
@@ -561,6 +561,11 @@ next_fits s w one c o j e is =
     ∙ ap (λ (x : Function). length (loaded (seen_net s) w r.0.name x)) f
     ∙ length-map o.registers (λ (q : Register). cond (val q.enable (w.inner r.0.name)) (val q.next (w.inner r.0.name)) (value_at o.vars (w.inner r.0.name) q.name))
 
+-- what the instances hold, as the netlist is seen
+held_same : (s : Scene) (t : Contents) (is : List Instance) → held_all s is t ≡ held_by s.l (map member_of is) t
+held_same s t [] = refl
+held_same s t (i ∷ is) = ap (λ (xs : List Bool). held_at (cell_of s.l i.model) (t i.name) ++ xs) (held_same s t is)
+
 -- ---- in step
 
 value_absent : (names : List Name) (x : List Bool) (n : Name) → (In n names → ⊥) → value_at names x n ≡ false
@@ -658,3 +663,9 @@ keeps_step s text m is = record {
               ∙ next_is s (bits_of_net s t w) w (agree s t i w h) settles.driven (λ k at m p. (pieces_in s t i w h k at m p m.seat.cell.function refl).0);
         },
       )
+
+-- what the machine holds is what the instances hold, one after another
+pub keeps_order : (s : Scene) (text : List ℕ) (m : Machine) (is : IsMachineOfBits text (signal_ports s.n.ports) s.clock (system s) m) (t : Contents)
+    → KeepsStep.held (keeps_step s text m is) t ≡ held_by s.l (map member_of s.n.instances) t
+unfolding keeps_step
+keeps_order s text m is t = held_same s t s.n.instances

@@ -1,7 +1,10 @@
 -- A netlist of cells and a machine in step, cycle for cycle.
-use Rattle.std.specs.Prelude.{◌≡◌, Bool, true, false, List, [], ◌∷◌, length, replicate, Option, None, Some}
+use Rattle.std.specs.Prelude.{◌≡◌, Bool, true, false, List, [], ◌∷◌, map, length, replicate, Option, None, Some}
+use Rattle.std.specs.List.{flat_map}
 use Rattle.vlsi_base.specs.declared.name.Name.{Name}
 use Rattle.vlsi_base.specs.Member.{In}
+use Rattle.vlsi_base.specs.Range.{rising}
+use Rattle.bool_expr.specs.Expression.{bit}
 use Rattle.machine_meaning.specs.Named.{value_at}
 use Rattle.machine_meaning.specs.Machine.{Machine, inputs, names_of}
 use Rattle.machine_meaning.specs.Cycles.{Settles, next, AreVectors}
@@ -16,6 +19,21 @@ use Rattle.net_meaning.specs.Behaviour.{Contents, Valuation, bit_of, NetSettles,
 use Rattle.net_view.specs.Condition.{MeetsCondition}
 use Rattle.net_view.specs.View.{IsSeenAs}
 use Rattle.net_machine.specs.Signals.{signal_ports, IsClockPort}
+
+-- what an instance holds, bit for bit: a flip-flop one bit, and another machine one for each of its registers
+abbrev pub held_in : Function → List Bool → List Bool
+held_in (gate e) xs = []
+held_in (flip_flop data_pin clock_pin) xs = bit xs 0 ∷ []
+held_in (other m) xs = map (bit xs) (rising 0 (length m.registers))
+held_in opaque xs = []
+
+abbrev pub held_at : Option Cell → List Bool → List Bool
+held_at None xs = []
+held_at (Some c) xs = held_in c.function xs
+
+-- what the instances hold, one after another
+abbrev pub held_by : Library → List Member → Contents → List Bool
+held_by l ones t = flat_map (λ one. held_at (cell_of l one.model) (t one.name)) ones
 
 -- an instance of another machine holds a bit for each of its registers
 abbrev pub FitsContents : Netlist → Library → Contents → Type 0
@@ -74,9 +92,17 @@ pub record IsMachineOfNetlist (n : InMemory) (l : Library) (table : List ModelPi
   pub clock : IsClockPort table n m.clock
   pub step : (k : Netlist) → IsSeenAs n k → KeepsStep k l m
 
+-- And its registers are those of the instances in their order: they hold what the instances hold, one after another.
+pub record IsMachineInOrder (n : InMemory) (l : Library) (table : List ModelPins) (m : Machine) : Type 0 where
+  pub of_netlist : IsMachineOfNetlist n l table m
+  pub holds : (k : Netlist) (seen : IsSeenAs n k) (t : Contents) → KeepsStep.held (of_netlist.step k seen) t ≡ held_by l k.instances t
+
 -- it is that with the table of pins of all of the library's cells, where the netlist meets what each stage asks
 abbrev pub IsMachineWith : InMemory → Library → Machine → Type 0
 IsMachineWith n l m = (table : List ModelPins) → IsTableOf l true table → MeetsCondition table n → IsMachineOfNetlist n l table m
+
+abbrev pub IsInOrderWith : InMemory → Library → Machine → Type 0
+IsInOrderWith n l m = (table : List ModelPins) → IsTableOf l true table → MeetsCondition table n → IsMachineInOrder n l table m
 
 -- From contents that fit and under a vector the netlist has a valuation, and any two give each class the same bit.
 abbrev pub NetSettlesOnce : Netlist → Library → List Name → Option Name → Contents → List Bool → Type 0

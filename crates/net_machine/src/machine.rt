@@ -1,7 +1,7 @@
 // A netlist of cells as a machine.
 ghost use Rattle.std.specs.Prelude.{◌≡◌, IfOk, IfErr, OnOk};
 ghost use Rattle.net_machine.specs.Signals.{signal_ports, MeetsConditionWith, HasBehaviour};
-ghost use Rattle.net_machine.specs.Step.{IsMachineWith};
+ghost use Rattle.net_machine.specs.Step.{IsMachineWith, IsInOrderWith};
 ghost use Rattle.net_machine.specs.Answers.{IsMachineRefusal};
 
 use crate::bits::gather;
@@ -48,6 +48,7 @@ pub fn machine_of(
 ) -> Result<Machine, NetMachineError>
     requires { MeetsConditionWith library.now netlist.now }
     ensures machine { IfOk result (λ m. IsMachineWith netlist.now library.now m) }
+    ensures order { IfOk result (λ m. IsInOrderWith netlist.now library.now m) }
     ensures known { OnOk result (HasBehaviour netlist.now library.now) }
     ensures refused { IfErr result (λ e. IsMachineRefusal netlist.now library.now e) }
 {

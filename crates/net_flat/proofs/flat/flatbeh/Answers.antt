@@ -1,7 +1,7 @@
 use Rattle.std.proofs.Common.{◌≡◌, ◌∙◌, List, sym, subst}
 use Rattle.vlsi_base.specs.declared.name.Name.{Name}
-use Rattle.net_held.specs.Answers.{IsMachineRefusal}
-use Rattle.net_held.specs.declared.error.NetMachineError.{NetMachineError}
+use Rattle.net_machine.specs.Answers.{IsMachineRefusal}
+use Rattle.net_machine.specs.declared.error.NetMachineError.{NetMachineError}
 use Rattle.net_flat.specs.Parts.{registers_of}
 use Rattle.net_flat.specs.Renamed.{AreFree, IsRenamed}
 use Rattle.net_flat.proofs.Knowing.{never_opaque}

@@ -3,7 +3,7 @@ use Rattle.std.specs.Prelude.{slice_index_or}
 use Rattle.vlsi_base.specs.declared.name.Name.{Name}
 use Rattle.vlsi_base.specs.declared.name.Port.{Port}
 use Rattle.net_core.specs.declared.frame.Node.{Node}
-use Rattle.net_held.proofs.Knowing.{AreNodes}
+use Rattle.net_machine.proofs.Knowing.{AreNodes}
 use Rattle.net_flat.specs.declared.parts.Part.{Part}
 use Rattle.net_flat.specs.Parts.{registers_of}
 use Rattle.net_flat.specs.Nodes.{HasNoOther}

@@ -1,5 +1,5 @@
 use Rattle.std.proofs.Common.{◌∙◌}
-use Rattle.bit_named.specs.System.{system_of}
+use Rattle.bit_machine.specs.System.{system_of}
 use Rattle.net_flat.proofs.Assembling.{system_is, system_falls, system_fits, renamed_is}
 use Rattle.net_flat.proofs.renaming.named.Goals as goal
 

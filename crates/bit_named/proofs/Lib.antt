@@ -1,4 +1,0 @@
-pub mod Laying
-pub mod Showing
-pub mod Built
-pub mod Reaching

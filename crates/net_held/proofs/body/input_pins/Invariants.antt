@@ -1,7 +1,0 @@
-use Rattle.std.proofs.Common.{◌≡◌, ◌++◌, map, filter, drop}
-use Rattle.machine_meaning.specs.Machine.{is_input, names_of}
-use Rattle.net_held.proofs.body.input_pins.Given as goal
-
-abbrev pub invariant-loop-pin : goal.invariant-loop-pin
-invariant-loop-pin l = l.names.items ++ names_of (filter (λ p. is_input p.dir) (map (λ p. p.port) (drop l.pin-index l.pins)))
-    ≡ names_of (filter (λ p. is_input p.dir) (map (λ p. p.port) l.pins))

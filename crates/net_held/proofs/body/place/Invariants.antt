@@ -1,6 +1,0 @@
-use Rattle.std.proofs.Common.{◌≡◌, ◌+◌, drop}
-use Rattle.source_meaning.specs.Formula.{place}
-use Rattle.net_held.proofs.body.place.Given as goal
-
-abbrev pub invariant-loop-k : goal.invariant-loop-k
-invariant-loop-k l = l.k + place (drop l.k l.names) l.name ≡ place l.names l.name
