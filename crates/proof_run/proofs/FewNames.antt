@@ -1,12 +1,12 @@
 -- The names of a machine that is read are few.
-use Rattle.std.proofs.Common.{◌≡◌, ◌⊎◌, inl, inr, ℕ, ◌+◌, ◌-◌, ◌*◌, ◌^◌, ◌≤◌, ◌<◌, Bool, true, false, not, cond, List, [], ◌∷◌, ◌++◌, length, map, filter, Some, refl, sym, ◌∙◌, ap, subst, arith, length-append}
+use Rattle.std.proofs.Common.{◌≡◌, ◌⊎◌, inl, inr, ℕ, ◌+◌, ◌≤◌, Bool, true, false, not, cond, List, [], ◌∷◌, length, map, filter, refl, ◌∙◌, ap, subst, arith, length-append}
 use Rattle.std.proofs.lemmas.List.{length-map}
 use Rattle.std.proofs.lemmas.List.Sorted.{length_permutation}
 use Rattle.vlsi_base.specs.declared.name.Name.{Name}
 use Rattle.vlsi_base.specs.declared.name.Port.{Port}
 use Rattle.vlsi_base.specs.Member.{In, here, there, AllDifferent}
 use Rattle.grammar_theory.specs.declared.limits.TheConstants.{BITS}
-use Rattle.machine_meaning.specs.Machine.{Machine, Equation, Register, is_input, is_clock, names_of, input_ports, inputs, register_names}
+use Rattle.machine_meaning.specs.Machine.{Machine, Equation, Register, is_input, is_clock, input_ports, inputs, register_names}
 use Rattle.machine_core.specs.Order.{held_names, equation_names}
 use Rattle.source_meaning.specs.Checks.{most_ports}
 use Rattle.source_meaning.specs.Symbols.{symbols, all_names}

@@ -1,12 +1,11 @@
 -- From the refusals of the reader and of the comparison to the tool's.
-use Rattle.std.proofs.Common.{◌≡◌, ℕ, ◌+◌, List, None, Err, refl}
+use Rattle.std.proofs.Common.{ℕ, List, None, Err, refl}
 use Rattle.machine_meaning.specs.Machine.{Machine}
 use Rattle.vbe_io.specs.Text.{IsVbe, IsVbeRefusal}
 use Rattle.tool_words.specs.declared.command.ProofCommand.{ProofCommand}
 use Rattle.tool_drive.specs.declared.status.Status.{Status}
 use Rattle.tool_drive.specs.declared.status.Status.TheVariants as status
 use Rattle.tool_drive.specs.declared.status.Verdict.{Verdict}
-use Rattle.tool_drive.specs.declared.status.Verdict.TheVariants as verdict
 use Rattle.tool_drive.specs.Table.{IsJudged, refusal}
 use Rattle.tool_drive.specs.Refusals.{MemoryOr, OfFile, judged_file}
 use Rattle.proof_run.specs.Proof.{IsFinding, bad_source, bad_other, found, Compares}

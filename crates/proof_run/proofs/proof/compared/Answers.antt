@@ -2,7 +2,7 @@ use Rattle.std.proofs.Common.{Err, sym, subst}
 use Rattle.tool_drive.specs.declared.tool.Refusal.{Refusal}
 use Rattle.tool_drive.specs.Table.{IsJudged}
 use Rattle.proof_run.specs.Proof.{Compares}
-use Rattle.proof_run.proofs.Refusing.{by_source, by_other, by_finding}
+use Rattle.proof_run.proofs.Refusing.{by_other, by_finding}
 use Rattle.proof_run.proofs.proof.compared.Goals as goal
 
 pub returns-in-Err-machine_in : goal.returns-in-Err-machine_in
