@@ -1,0 +1,13 @@
+pub mod Begins
+pub mod Clock
+pub mod Statements
+pub mod Fits
+pub mod Pragmas
+pub mod Names
+pub mod Declared
+pub mod Dull
+pub mod Counting
+pub mod Own
+pub mod Whole
+pub mod Total
+pub mod Sentence

@@ -1,0 +1,4 @@
+pub mod Plain
+pub mod States
+pub mod Writing
+pub mod One

@@ -1,0 +1,4 @@
+pub mod Layout
+pub mod Written
+pub mod Writable
+pub mod Pieces

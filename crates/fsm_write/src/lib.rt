@@ -1,0 +1,10 @@
+//! State machines, written as texts.
+#![tactic(auto)]
+
+mod expressions;
+mod statements;
+mod words;
+mod writer;
+
+pub use words::Words;
+pub use writer::write_fsm;
