@@ -7,9 +7,8 @@ use Rattle.sym_geom.specs.declared.rect.Rect.{Rect}
 use Rattle.sym_shapes.specs.Shape.{Shape}
 use Rattle.sym_shapes.specs.Joints.{NumbersJoined}
 use Rattle.net_meaning.specs.Breaches.{IsOverPin, IsBridged, IsExcused, one_instance, first_over_pin, second_over_pin, joined_first, joined_second, first_bridged, second_bridged}
-use Rattle.sym_near.specs.declared.near.Relation.TheVariants as relation
 use Rattle.sym_near.proofs.Sweeps.{at_any}
-use Rattle.sym_near.specs.Related.{nowhere, shape_at, Relates}
+use Rattle.sym_near.specs.Related.{nowhere, shape_at}
 use Rattle.druc_rules.specs.Excuses.{AreOfOne, Excuses, IsCovered, AreTied}
 
 meet_back : (a b : Rect) → Meet a b → Meet b a

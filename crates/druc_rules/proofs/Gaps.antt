@@ -2,15 +2,14 @@
 use Rattle.std.proofs.Common.{◌≡◌, ℕ, ◌+◌, ◌<◌, List, [], ◌∷◌, ◌++◌, map, length, take, get_or, refl, sym, ◌∙◌, ap, subst, append_assoc, arith}
 use Rattle.std.specs.List.{Contains}
 use Rattle.std.proofs.lemmas.List.{take_more}
-use Rattle.vlsi_base.specs.Member.{In, Picks, done, pairs}
+use Rattle.vlsi_base.specs.Member.{In, Picks, done}
 use Rattle.cell_model.proofs.Members.{In-at, place-In}
-use Rattle.sym_geom.specs.Rect.{Meet}
 use Rattle.sym_shapes.specs.Shape.{Shape}
 use Rattle.net_meaning.specs.Breaches.{IsExcused}
 use Rattle.sym_near.specs.declared.near.Relation.TheVariants as relation
 use Rattle.sym_near.specs.declared.near.Pair.{Pair}
 use Rattle.sym_near.proofs.Sweeps.{at_any}
-use Rattle.sym_near.specs.Related.{nowhere, shape_at, Relates, AreRelated, pair}
+use Rattle.sym_near.specs.Related.{nowhere, shape_at, Relates, AreRelated}
 use Rattle.druc_rules.specs.declared.breach.Breach.{Breach as Found}
 use Rattle.druc_rules.specs.declared.breach.Breach.TheVariants as breach
 use Rattle.druc_rules.specs.Breaches.{IsNarrowBy, AreTooNearBy, AreWidths, AddsGaps}

@@ -1,17 +1,15 @@
 -- A search among the shapes within which one lies.
-use Rattle.std.proofs.Common.{◌≡◌, ℕ, zero, suc, [], ◌∷◌, ◌+◌, ◌<◌, ◌≤◌, inl, inr, List, length, get_or, refl, sym, ◌∙◌, ap, subst, arith}
-use Rattle.std.specs.List.{Contains}
+use Rattle.std.proofs.Common.{◌≡◌, ℕ, zero, suc, [], ◌∷◌, ◌+◌, ◌<◌, ◌≤◌, inl, inr, List, length, get_or, sym, ◌∙◌, ap, subst, arith}
 use Rattle.std.specs.List.Sorted.{IsNonDecreasingBy}
 use Rattle.std.proofs.lemmas.Bool.{cases_lt}
 use Rattle.sym_shapes.specs.Shape.{Shape}
-use Rattle.vlsi_base.specs.Member.{In}
 use Rattle.cell_model.proofs.Members.{In-at}
 use Rattle.sym_near.specs.declared.near.Relation.TheVariants as relation
 use Rattle.sym_near.specs.declared.near.Pair.{Pair}
 use Rattle.sym_near.proofs.Sweeps.{at_any}
 use Rattle.sym_near.specs.Related.{pair, shape_at, Relates, AreRelated}
 use Rattle.druc_rules.specs.Excuses.{Excuses, IsCovered, IsFirstFrom}
-use Rattle.druc_rules.proofs.Places.{Before, Rising, rising_so}
+use Rattle.druc_rules.proofs.Places.{Rising, rising_so}
 
 abbrev pub holder : List Pair → ℕ → Pair
 holder ps k = get_or ps k (record { first = 0; second = 0 })

@@ -1,15 +1,14 @@
 -- All pairs of places of a list, in the order of the first and then of the second, and sorted lists of some of them.
-use Rattle.std.proofs.Common.{◌≡◌, ℕ, zero, suc, ◌+◌, ◌<◌, ◌≤◌, ◌⊎◌, inl, inr, List, [], ◌∷◌, ◌++◌, map, length, get_or, refl, sym, ◌∙◌, ap, subst, arith}
-use Rattle.std.specs.List.{Contains, AllByRecursion}
+use Rattle.std.proofs.Common.{◌≡◌, ℕ, suc, ◌+◌, ◌<◌, ◌≤◌, ◌⊎◌, inl, inr, List, [], ◌∷◌, ◌++◌, map, length, get_or, refl, sym, ◌∙◌, ap, subst, arith}
+use Rattle.std.specs.List.{AllByRecursion}
 use Rattle.std.specs.List.Sorted.{IsStrictlySortedBy}
 use Rattle.std.specs.Ordering.{MatchOrdering, nat_cmp, ordering_then}
 use Rattle.std.specs.declared.cmp.Ordering.{Ordering}
 use Rattle.std.specs.declared.cmp.Ordering.TheVariants.{Less, Equal, Greater}
 use Rattle.std.proofs.lemmas.Bool.{cases_eq}
 use Rattle.std.proofs.lemmas.Cmp.{ranked}
-use Rattle.std.proofs.lemmas.List.Elements.{All-from_recursion, All-contains}
 use Rattle.vlsi_base.specs.Member.{In, here, there, Picks, done, takes, skips, pairs}
-use Rattle.cell_model.proofs.Members.{In-at, place-In, In-split, In-left, In-right, In-map, In-map_back}
+use Rattle.cell_model.proofs.Members.{In-split, In-left, In-right, In-map, In-map_back}
 use Rattle.sym_near.specs.declared.near.Pair.{Pair}
 use Rattle.sym_near.specs.Related.{pair, pair_cmp}
 

@@ -1,9 +1,7 @@
 -- By the standard rules the list is that of the rules of symbolic layouts.
 use Rattle.std.proofs.Common.{◌≡◌, ℕ, List, sym, subst}
-use Rattle.std.specs.Prelude.{◌⊎◌, pos, ◌+ℤ◌, ◌<ℤ◌}
-use Rattle.vlsi_base.specs.Member.{In, Picks, pairs}
+use Rattle.vlsi_base.specs.Member.{Picks, pairs}
 use Rattle.sym_geom.specs.declared.grid.TheConstants.{LEAST_WIDTH, LEAST_GAP}
-use Rattle.sym_geom.specs.Rect.{Near}
 use Rattle.sym_geom.specs.declared.item.Item.{Item}
 use Rattle.sym_shapes.specs.Shape.{Shape}
 use Rattle.cell_model.specs.Library.{Library}

@@ -6,7 +6,6 @@ use Rattle.sym_geom.specs.Rect.{Meet, Near}
 use Rattle.sym_geom.specs.declared.item.Item.{Item}
 use Rattle.sym_geom.specs.declared.item.Instance.{Instance as Placed}
 use Rattle.sym_shapes.specs.Shape.{Shape}
-use Rattle.ap_io.specs.declared.figure.Figure.{Figure}
 use Rattle.cell_model.specs.Library.{Library}
 use Rattle.cell_model.specs.Layout.{shapes}
 use Rattle.net_meaning.specs.Breaches.{Breach, width, gap, IsExcused, Breaches}

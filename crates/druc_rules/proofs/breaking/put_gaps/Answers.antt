@@ -1,10 +1,7 @@
 use Rattle.std.proofs.Common.{◌≡◌, ◌+◌, ◌++◌, ◌∷◌, [], List, take, sym, ◌∙◌, ap, subst, append-nil, rules, arith}
 use Rattle.std.proofs.lemmas.List.{take_all, take_more}
-use Rattle.sym_geom.specs.Rect.{Meet}
 use Rattle.sym_shapes.specs.Shape.{Shape}
-use Rattle.sym_near.specs.declared.near.Relation.TheVariants as relation
 use Rattle.sym_near.specs.declared.near.Pair.{Pair}
-use Rattle.sym_near.specs.Related.{Relates, shape_at}
 use Rattle.druc_rules.proofs.Gaps.{AddsChosen, chosen_none, chosen_more, chosen_skip, gaps_are, pair_at, related_at}
 use Rattle.druc_rules.proofs.breaking.put_gaps.Goals.{then-not-is_excused+in_ok-push, else-not-is_excused}
 use Rattle.druc_rules.proofs.breaking.put_gaps.Goals as goal

@@ -1,8 +1,8 @@
-use Rattle.std.proofs.Common.{false, Err, List, map, sym, subst}
+use Rattle.std.proofs.Common.{Err, List, map, sym, subst}
 use Rattle.tool_drive.specs.declared.tool.Refusal.{Refusal}
 use Rattle.tool_drive.specs.Table.{IsJudged}
 use Rattle.druc_rules.specs.declared.breach.Breach.{Breach}
-use Rattle.druc_rules.specs.Breaches.{breach_of, BreachesBy}
+use Rattle.druc_rules.specs.Breaches.{breach_of}
 use Rattle.cougar_run.proofs.Ready.{ready_figure}
 use Rattle.druc_run.specs.Druc.{Checks, IsAnswerOf}
 use Rattle.druc_run.proofs.Refusing.{by_library, by_layout, by_rules, answered}
