@@ -1,5 +1,5 @@
 -- The clock's rise spells itself.
-use Rattle.std.proofs.Common.{◌≡◌, ℕ, ◌+◌, ◌<◌, true, List, [], ◌∷◌, ◌++◌, codes, refl, ap, ◌∙◌, arith}
+use Rattle.std.proofs.Common.{ℕ, ◌+◌, ◌<◌, true, List, [], ◌∷◌, codes, refl, arith}
 use Rattle.std.proofs.lemmas.List.{append-nil}
 use Rattle.vlsi_base.specs.declared.expression.Operator.TheVariants as operator
 use Rattle.vlsi_base.specs.Tree.{Tree, bit, name, stable, inverse, binary}
@@ -14,7 +14,7 @@ use Rattle.grammar_theory.specs.Tokens.{code_of}
 use Rattle.grammar_theory.specs.Marks.{State, plain, spells}
 use Rattle.grammar_theory.specs.Grammar.{Grammar}
 use Rattle.vhdl_front.specs.Cursor.{name_of}
-use Rattle.vhdl_front.specs.Expression.{suffix, named, primary as primary_of, factor, cat, pair as pair_of, relation, joined as joined_by, expression_over, expression}
+use Rattle.vhdl_front.specs.Expression.{suffix, named, primary as primary_of, factor, cat, pair as pair_of, relation, joined as joined_by, expression}
 use Rattle.spell_theory.specs.Spells.{Spells}
 use Rattle.spell_theory.specs.Layout.{placed}
 use Rattle.spell_theory.proofs.Combinators.{spell_nothing, spell_lead, spell_then, spell_left, spell_right, spell_none, spell_more, spell_some, spell_as}

@@ -1,8 +1,7 @@
 -- How often the text of a state machine assigns each bit: as often as its statements do.
-use Rattle.std.proofs.Common.{◌≡◌, ◌⊎◌, inl, inr, ℕ, ◌+◌, ◌<◌, ◌≤◌, Bool, true, false, nat_lt, List, [], ◌∷◌, ◌++◌, map, filter, length, codes, Option, None, Some, Ok, if◌then◌else◌, refl, sym, ap, subst, ◌∙◌, arith, append_assoc}
+use Rattle.std.proofs.Common.{◌≡◌, ◌⊎◌, inl, inr, ℕ, ◌+◌, ◌<◌, ◌≤◌, Bool, true, false, List, [], ◌∷◌, ◌++◌, map, filter, length, Option, None, Some, if◌then◌else◌, refl, sym, ap, subst, ◌∙◌, arith, append_assoc}
 use Rattle.std.specs.List.{Contains}
 use Rattle.std.proofs.lemmas.Bool.{lt-ltb}
-use Rattle.std.proofs.lemmas.List.{append-nil}
 use Rattle.vlsi_base.specs.declared.name.Name.{Name}
 use Rattle.vlsi_base.specs.Names.{scalar}
 use Rattle.bool_expr.specs.declared.expr.Gate.{Gate}
@@ -19,17 +18,16 @@ use Rattle.vhdl_token.specs.declared.token.Token.{Token}
 use Rattle.vhdl_token.specs.declared.token.Token.TheVariants as token
 use Rattle.vhdl_token.specs.declared.token.Sign.TheVariants as sign
 use Rattle.grammar_theory.specs.declared.form.Form.TheVariants as form
-use Rattle.grammar_theory.specs.declared.limits.TheConstants.{DEPTH, CHAIN}
+use Rattle.grammar_theory.specs.declared.limits.TheConstants.{CHAIN}
 use Rattle.grammar_theory.specs.Tokens.{code_of, is_of}
 use Rattle.grammar_theory.specs.Marks.{step}
-use Rattle.grammar_theory.specs.Outcome.{start}
 use Rattle.vhdl_front.specs.Reading.{number_at, closing_at}
 use Rattle.source_meaning.specs.declared.statement.Target.{Target}
 use Rattle.source_meaning.specs.declared.symbol_table.Symbol.{Symbol}
 use Rattle.source_meaning.specs.Symbols.{all_names}
 use Rattle.source_meaning.specs.Drivers.{is_among, target_names}
 use Rattle.vbe_text.specs.VbeReading.{selected_at, opened_at, selecting_at, target_behind_at, target_at}
-use Rattle.spell_theory.specs.Layout.{Written, gap, turn, says, line_behind, placed, line_of}
+use Rattle.spell_theory.specs.Layout.{Written, gap, turn, placed, line_of}
 use Rattle.spell_theory.proofs.Layouts.{placed_append}
 use Rattle.vhdl_again.specs.Outline.{a_word, a_sign, a_name}
 use Rattle.vhdl_again.proofs.Entities.{at}
@@ -41,7 +39,7 @@ use Rattle.fsm_text.specs.Chains.{assigned_here, counted_bits, times, taken, beh
 use Rattle.fsm_write.specs.declared.words.Words.{Words}
 use Rattle.fsm_write.specs.Layout.{behind, separated, comma, bar, state_text, ending, end_of_line, assignment_layout, states_layout, then_layout, arrow_layout, case_head, if_layout, case_layout, part_layout, branch_layout, body_layout, parts_layout, branches_layout}
 use Rattle.fsm_again.specs.Nesting.{target_of, once, times_in, times_in_parts, times_in_branches}
-use Rattle.fsm_again.proofs.Dull.{IsStop, Stretch, last, more, Quiet, none_here, goes_on, stretch_both, over_stretch, quiet_both, quiet_stretch, Dull, stops, goes}
+use Rattle.fsm_again.proofs.Dull.{IsStop, Stretch, last, more, Quiet, goes_on, over_stretch, quiet_both, quiet_stretch}
 
 -- ---- layouts without `<=`
 

@@ -1,12 +1,12 @@
 -- What the text of a state machine declares is new, and what it mentions can be mentioned.
-use Rattle.std.proofs.Common.{◌≡◌, ◌⊎◌, inl, inr, ℕ, zero, suc, ◌+◌, ◌<◌, ◌≤◌, ◌^◌, Bool, true, false, not, List, [], ◌∷◌, ◌++◌, map, filter, length, Option, None, Some, slice_index, get_or, refl, sym, ap, subst, ◌∙◌, arith, length-append}
+use Rattle.std.proofs.Common.{◌≡◌, ℕ, ◌+◌, ◌<◌, ◌≤◌, ◌^◌, not, List, [], ◌∷◌, ◌++◌, map, filter, length, Option, None, slice_index, refl, sym, ap, subst, ◌∙◌, arith, length-append}
 use Rattle.std.specs.List.{All, Contains}
 use Rattle.std.specs.Ordering.{is_lt}
 use Rattle.std.proofs.lemmas.List.{length-map, map-id}
 use Rattle.std.proofs.lemmas.List.Elements.{All-head, All-tail, All-cons, All-nil, All-map, All-weaker, All-append, All-filter, All-get_or}
 use Rattle.vlsi_base.specs.declared.name.Name.{Name}
 use Rattle.vlsi_base.specs.declared.name.Port.{Port}
-use Rattle.vlsi_base.specs.Member.{In, here, there, AllDifferent}
+use Rattle.vlsi_base.specs.Member.{In, AllDifferent}
 use Rattle.vlsi_base.specs.Names.{scalar}
 use Rattle.bool_expr.specs.Expression.{Expression, constant, variable, inverse as not_of, pair, choice, IsOver}
 use Rattle.machine_meaning.specs.Machine.{is_input, names_of}
@@ -14,23 +14,18 @@ use Rattle.machine_core.proofs.Values.{In-left, In-right, In-map}
 use Rattle.fsm_meaning.specs.Statements as st
 use Rattle.fsm_meaning.specs.Fsm.{Fsm, fsm_outputs}
 use Rattle.fsm_core.specs.Checked.{IsAssignmentOf, IsBodyOf, ArePartsOf, AreBranchesOf, IsCheckedFsm}
-use Rattle.grammar_theory.specs.declared.limits.TheConstants.{BITS}
-use Rattle.grammar_theory.specs.Marks.{State, uncounted, is_declared}
-use Rattle.source_meaning.specs.Checks.{most_ports}
-use Rattle.free_names.specs.Free.{is_free}
+use Rattle.grammar_theory.specs.Marks.{uncounted}
 use Rattle.vhdl_again.specs.EntityAgain.{IsName, CanBeWritten}
 use Rattle.vst_write.specs.Groups.{grouped, declared, outline}
-use Rattle.vst_again.proofs.Entries.{Entry, EntriesNew, port_entry, Differs, AreDifferent, total_bits, all_new, different_parts, total_parts}
+use Rattle.vst_again.proofs.Entries.{Entry, EntriesNew, port_entry, AreDifferent, total_bits, all_new, different_parts, total_parts}
 use Rattle.vst_again.proofs.Fits.{CanBeMentioned}
-use Rattle.vst_again.proofs.Grouped.{Chained, chained, GoodPort, groups_differ, bits_again}
+use Rattle.vst_again.proofs.Grouped.{chained, GoodPort, groups_differ, bits_again}
 use Rattle.vst_again.proofs.Names.{AllApart, name_of_identifier, entries_differ, kinds_differ, texts_all}
 use Rattle.vst_again.proofs.Netlists.{Sound, outline_written}
-use Rattle.vbe_write.specs.Expressions.{name_of}
 use Rattle.vbe_again.proofs.Fits.{AreMentioned}
-use Rattle.vbe_again.proofs.Known.{all_in, all_by, apart_of, free_of}
+use Rattle.vbe_again.proofs.Known.{all_in, all_by, free_of}
 use Rattle.vbe_again.proofs.Supplied.{group_keys, total_declared}
 use Rattle.fsm_write.specs.declared.words.Words.{Words}
-use Rattle.fsm_write.specs.Layout.{state_text}
 use Rattle.fsm_write.specs.Pieces.{IsKnownAssignment, IsKnownBody, AreKnownParts, AreKnownBranches}
 use Rattle.fsm_write.specs.Writable.{CanBeFsm}
 use Rattle.fsm_write.specs.Written.{taken_texts, texts_of, AreWords}

@@ -1,5 +1,5 @@
 -- Tokens among which no assignment begins: a target with `<=` behind it doesn't stand in front of them.
-use Rattle.std.proofs.Common.{◌≡◌, ◌⊎◌, inl, inr, ℕ, zero, suc, ◌==◌, Bool, true, false, List, [], ◌∷◌, ◌++◌, length, Option, None, Some, Result, Ok, Err, if◌then◌else◌, refl, sym, ap, ◌∙◌}
+use Rattle.std.proofs.Common.{◌≡◌, ℕ, Bool, true, false, List, [], ◌∷◌, ◌++◌, length, Option, None, Some, Result, Ok, Err, if◌then◌else◌, refl, sym, ap, ◌∙◌}
 use Rattle.vhdl_token.specs.declared.keyword.Keyword.TheVariants as word
 use Rattle.vhdl_token.specs.declared.token.PlacedToken.{PlacedToken}
 use Rattle.vhdl_token.specs.declared.token.Sign.TheVariants as sign

@@ -1,5 +1,5 @@
 -- Each token of the text of a state machine is read again where it stands.
-use Rattle.std.proofs.Common.{◌≡◌, ℕ, ◌<◌, ◌^◌, Bool, true, false, List, [], ◌∷◌, ◌++◌, map, Option, None, Some, refl, codes, arith}
+use Rattle.std.proofs.Common.{ℕ, Bool, true, false, List, [], ◌∷◌, ◌++◌, map, Option, None, Some, refl, codes, arith}
 use Rattle.std.specs.List.{All}
 use Rattle.std.proofs.lemmas.List.Elements.{All-head, All-tail, All-map}
 use Rattle.vlsi_base.specs.declared.name.Name.{Name}
@@ -22,8 +22,8 @@ use Rattle.vst_again.proofs.Fits.{CanBeMentioned}
 use Rattle.vbe_write.specs.Expressions.{Shape, atom, turned, joined, Laid, gate_word, chains, in_parentheses, unless, primary, operand, leading, laid, name_of, expression_layout}
 use Rattle.vbe_again.proofs.Fits.{Fitting, AreMentioned}
 use Rattle.fsm_write.specs.declared.words.Words.{Words}
-use Rattle.fsm_write.specs.Layout.{behind, separated, comma, bar, state_text, ending, end_of_line, assignment_layout, states_layout, then_layout, arrow_layout, case_head, if_layout, case_layout, part_layout, branch_layout, body_layout, parts_layout, branches_layout}
-use Rattle.fsm_write.specs.Written.{architecture_name, head_layout, texts_of, type_layout, signals_layout, begin_layout, process_layout, step_layout, rise_layout, load_layout, clock_layout, last_layout, declarations_layout, processes_layout}
+use Rattle.fsm_write.specs.Layout.{behind, separated, comma, bar, state_text, ending, end_of_line, assignment_layout, states_layout, then_layout, arrow_layout, if_layout, case_layout, part_layout, branch_layout, body_layout, parts_layout, branches_layout}
+use Rattle.fsm_write.specs.Written.{architecture_name, head_layout, texts_of, type_layout, signals_layout, begin_layout, process_layout, step_layout, rise_layout, load_layout, clock_layout, last_layout, declarations_layout}
 
 -- what fits in front of every byte
 abbrev pub FitsAll : List Written → Type 0

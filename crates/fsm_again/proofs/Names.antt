@@ -1,15 +1,14 @@
 -- The names of a text are words, and they differ.
-use Rattle.std.proofs.Common.{◌≡◌, ◌⊎◌, inl, inr, ℕ, zero, suc, ◌+◌, ◌<◌, ◌≤◌, ◌^◌, ◌==◌, Bool, true, false, not, cond, ◌&&◌, List, [], ◌∷◌, ◌++◌, map, drop, length, Option, None, Some, bytes_eq, slice_index, get_or, refl, sym, ap, subst, ◌∙◌, arith, codes, length-append, append-nil}
-use Rattle.std.specs.List.{All, Contains, list_all}
+use Rattle.std.proofs.Common.{◌≡◌, inl, inr, ℕ, zero, suc, ◌<◌, ◌≤◌, ◌^◌, ◌==◌, Bool, true, false, not, cond, ◌&&◌, List, [], ◌∷◌, ◌++◌, drop, length, None, Some, bytes_eq, slice_index, refl, sym, ap, subst, ◌∙◌, arith, codes, length-append, append-nil}
+use Rattle.std.specs.List.{list_all}
 use Rattle.std.specs.Char.{is_ascii_digit}
 use Rattle.std.specs.Fmt.{decimal}
 use Rattle.std.proofs.str.Laws.{order}
 use Rattle.std.proofs.lemmas.Bool.{and_parts, eq-eqb}
 use Rattle.std.proofs.lemmas.Fmt.{length-decimal-le}
-use Rattle.std.proofs.lemmas.List.{length-map}
 use Rattle.vhdl_token.specs.declared.keyword.Keyword.{Keyword}
 use Rattle.vhdl_token.specs.Keyword.{keyword_text, keyword_among, keyword_of, keywords}
-use Rattle.spell_theory.specs.Words.{is_small_letter, is_in_small_word, IsSmallWord}
+use Rattle.spell_theory.specs.Words.{is_small_letter, is_in_small_word}
 use Rattle.spell_theory.proofs.Letters.{by_bytes, small_digit, all_implied, all_append, decimal_is}
 use Rattle.net_core.proofs.Lookups.{same_of}
 use Rattle.free_names.specs.Free.{is_free, candidate, IsFirstFree}

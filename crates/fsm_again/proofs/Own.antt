@@ -1,8 +1,7 @@
 -- Which bits the text of a state machine counts: each target that is written is one bit, its own.
-use Rattle.std.proofs.Common.{◌≡◌, ◌⊎◌, inl, inr, ℕ, zero, suc, ◌+◌, ◌-◌, ◌<◌, ◌≤◌, Bool, true, false, not, cond, get_or, List, [], ◌∷◌, ◌++◌, map, filter, length, bytes_eq, is_none, Option, None, Some, if◌then◌else◌, refl, sym, ap, subst, ◌∙◌, arith}
+use Rattle.std.proofs.Common.{◌≡◌, ◌⊎◌, inl, inr, ℕ, zero, suc, ◌+◌, ◌-◌, ◌<◌, Bool, true, false, not, cond, get_or, List, [], ◌∷◌, map, filter, length, bytes_eq, is_none, Option, None, Some, if◌then◌else◌, refl, sym, ap, subst, ◌∙◌, arith}
 use Rattle.std.specs.List.{All, Contains, flat_map}
-use Rattle.std.proofs.lemmas.List.{append-nil}
-use Rattle.std.proofs.lemmas.List.Elements.{All-head, All-tail, All-cons, All-nil, All-map, All-weaker, All-append}
+use Rattle.std.proofs.lemmas.List.Elements.{All-head, All-tail, All-cons, All-nil, All-map, All-append}
 use Rattle.vlsi_base.specs.declared.name.Name.{Name}
 use Rattle.vlsi_base.specs.declared.name.Port.{Port}
 use Rattle.vlsi_base.specs.declared.name.Dir.{Dir}
@@ -17,19 +16,18 @@ use Rattle.fsm_meaning.specs.Fsm.{Fsm, fsm_outputs}
 use Rattle.net_core.proofs.Lookups.{same_of}
 use Rattle.source_meaning.specs.declared.symbol_table.Symbol.{Symbol}
 use Rattle.source_meaning.specs.declared.statement.Target.{Target}
-use Rattle.source_meaning.specs.Symbols.{role_of_mode, port_symbols, find, symbol_names, names_in}
+use Rattle.source_meaning.specs.Symbols.{role_of_mode, port_symbols, find, names_in}
 use Rattle.source_meaning.specs.declared.symbol_table.Role.TheVariants as role
 use Rattle.source_meaning.specs.Formula.{names_of_found}
 use Rattle.source_meaning.specs.Drivers.{target_names}
 use Rattle.vhdl_again.specs.Outline.{Bounds, OnePort, placed_type, placed_port, placed_ports, placed_entity}
-use Rattle.vhdl_again.specs.EntityAgain.{IsApart, AreApart}
+use Rattle.vhdl_again.specs.EntityAgain.{AreApart}
 use Rattle.vst_write.specs.Groups.{Group, bounds_of, grouped, declared, outline, outline_of}
 use Rattle.vst_again.specs.Placed.{selected}
-use Rattle.vst_again.proofs.Grouped.{Chained, one_port, bound_ports, group_ports, ports_again, groups_apart}
+use Rattle.vst_again.proofs.Grouped.{one_port, bound_ports, group_ports, ports_again, groups_apart}
 use Rattle.vst_again.proofs.Names.{texts_all}
 use Rattle.vst_again.proofs.Netlists.{Sound, outline_ports}
 use Rattle.vst_write.proofs.Runs.{some_groups}
-use Rattle.vbe_again.specs.Placed.{placed_target}
 use Rattle.vbe_again.proofs.Known.{all_in, all_by}
 use Rattle.fsm_text.specs.Chains.{is_out, next_symbols, counted_symbols}
 use Rattle.fsm_write.specs.declared.words.Words.{Words}

@@ -1,5 +1,5 @@
 -- What is written of a state machine is a sentence.
-use Rattle.std.proofs.Common.{◌≡◌, ℕ, ◌+◌, ◌<◌, ◌≤◌, false, List, [], ◌∷◌, ◌++◌, map, length, codes, Option, None, Some, Ok, Err, slice_index, refl, sym, ap, subst, ◌∙◌, arith, append_assoc}
+use Rattle.std.proofs.Common.{◌≡◌, ℕ, false, List, [], ◌∷◌, ◌++◌, map, length, codes, None, Some, Ok, Err, slice_index, refl, sym, ap, subst, ◌∙◌, arith, append_assoc}
 use Rattle.vlsi_base.specs.declared.entity.Entity.{Entity}
 use Rattle.vlsi_base.specs.declared.pragma.Pragma.{Pragma}
 use Rattle.fsm_meaning.specs.Fsm.{Fsm}
@@ -7,7 +7,7 @@ use Rattle.vhdl_token.specs.declared.token.PlacedToken.{PlacedToken}
 use Rattle.vhdl_token.specs.declared.token.Tokens.{Tokens}
 use Rattle.lexer_base.specs.declared.piece.Piece.{Piece}
 use Rattle.lexer_base.specs.declared.piece.Piece.TheVariants as piece
-use Rattle.lexer_base.specs.Listing.{tokens_from, pragmas_from, refusal_from, tokens_among}
+use Rattle.lexer_base.specs.Listing.{tokens_from, pragmas_from, refusal_from}
 use Rattle.vhdl_lexer.specs.Listing.{pieces, tokens_in, refusal_in}
 use Rattle.vhdl_token.specs.Keyword.{keyword_of}
 use Rattle.grammar_theory.specs.declared.limits.TheConstants.{DEPTH}
@@ -22,23 +22,22 @@ use Rattle.vhdl_again.specs.Outline.{entity_layout, placed_entity, with_ports}
 use Rattle.vhdl_again.specs.EntityAgain.{IsName}
 use Rattle.vhdl_again.proofs.VhdlLexer.{vhdl}
 use Rattle.vhdl_again.proofs.InFront.{entity_is_read_in_front}
-use Rattle.vst_write.specs.Groups.{grouped, declared, outline, outline_of}
+use Rattle.vst_write.specs.Groups.{grouped, declared, outline}
 use Rattle.vst_write.proofs.Runs.{some_groups}
 use Rattle.vst_again.proofs.Entries.{EntriesNew, port_entry}
 use Rattle.vst_again.proofs.Netlists.{outline_name, outline_ports}
 use Rattle.source_meaning.specs.declared.symbol_table.Symbol.{Symbol}
-use Rattle.fsm_text.specs.Written.{MachineTree}
 use Rattle.fsm_text.specs.Fsm.{fsm, machine}
 use Rattle.fsm_text.specs.Chains.{named_by, counted_symbols, overfull}
-use Rattle.fsm_text.specs.Texts.{counted_in, PassesChain, PassesBefore, IsMachine}
+use Rattle.fsm_text.specs.Texts.{counted_in, PassesBefore}
 use Rattle.fsm_write.specs.declared.words.Words.{Words}
 use Rattle.fsm_write.specs.Written.{step_layout, clock_layout, last_layout, declarations_layout, layout, pragma_line, text}
 use Rattle.fsm_write.proofs.Known.{some_states}
 use Rattle.fsm_again.specs.Placed.{placed_pragmas, first_line, machine_of}
-use Rattle.fsm_again.specs.Said.{IsSentence, WrittenIsASentence}
+use Rattle.fsm_again.specs.Said.{WrittenIsASentence}
 use Rattle.fsm_again.proofs.Pragmas.{dashed, pragma_pieces}
 use Rattle.fsm_again.proofs.Fits.{fit_layout}
-use Rattle.fsm_again.proofs.Declared.{Ready, sound_ports, are_said, clock_said, name_said, body_said, type_added, current_added, next_added, added_no_port, two_signals, all_entries, name_entry, further_texts, entries_new, entity_can}
+use Rattle.fsm_again.proofs.Declared.{Ready, sound_ports, are_said, clock_said, name_said, body_said, current_added, next_added, added_no_port, two_signals, name_entry, further_texts, entries_new, entity_can}
 use Rattle.fsm_again.proofs.Own.{counted_here, are_own, current_uncounted}
 use Rattle.fsm_again.proofs.Total.{never_overfull}
 use Rattle.fsm_again.proofs.Whole.{whole_layout, machine_at, spell_machine}

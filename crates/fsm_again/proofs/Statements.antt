@@ -1,15 +1,14 @@
 -- Statements that are laid out spell themselves.
-use Rattle.std.proofs.Common.{◌≡◌, ℕ, zero, suc, ◌+◌, ◌-◌, ◌≤◌, ◌==◌, false, List, [], ◌∷◌, ◌++◌, map, Option, None, Some, refl, sym, ap, subst, ◌∙◌, arith, append_assoc}
+use Rattle.std.proofs.Common.{◌≡◌, ℕ, zero, suc, ◌-◌, ◌≤◌, List, [], ◌∷◌, ◌++◌, map, Option, None, Some, refl, sym, ap, subst, ◌∙◌, arith, append_assoc}
 use Rattle.std.proofs.lemmas.List.{append-nil}
 use Rattle.std.proofs.lemmas.Bool.{ne_eqb}
 use Rattle.vlsi_base.specs.declared.name.Name.{Name}
 use Rattle.vlsi_base.specs.Names.{scalar}
 use Rattle.vlsi_base.specs.declared.entity.NewName.{NewName}
-use Rattle.vlsi_base.specs.Tree.{Tree, name}
+use Rattle.vlsi_base.specs.Tree.{Tree}
 use Rattle.bool_expr.specs.Expression.{Expression, variable}
 use Rattle.fsm_meaning.specs.Statements as st
 use Rattle.fsm_core.specs.Checked.{ListsStates, PartsListStates, BranchesListStates}
-use Rattle.vhdl_token.specs.declared.keyword.Keyword.{Keyword}
 use Rattle.vhdl_token.specs.declared.keyword.Keyword.TheVariants as word
 use Rattle.vhdl_token.specs.declared.token.PlacedToken.{PlacedToken}
 use Rattle.vhdl_token.specs.declared.token.Token.TheVariants as token
@@ -19,16 +18,15 @@ use Rattle.grammar_theory.specs.declared.limits.TheConstants.{CHAIN}
 use Rattle.grammar_theory.specs.Tokens.{code_of}
 use Rattle.grammar_theory.specs.Marks.{State, plain, starts, opens}
 use Rattle.grammar_theory.specs.Grammar.{Grammar, none, list}
-use Rattle.vhdl_front.specs.Expression.{closing, less, expression}
+use Rattle.vhdl_front.specs.Expression.{closing}
 use Rattle.source_meaning.specs.declared.statement.Selection.TheVariants as selection
-use Rattle.source_meaning.specs.declared.statement.Target.{Target}
 use Rattle.vbe_text.specs.Vbe.{selected, selecting, target_behind, target}
 use Rattle.spell_theory.specs.Spells.{Spells}
 use Rattle.spell_theory.specs.Layout.{Written, gap, turn, line_behind, placed, line_of}
 use Rattle.spell_theory.proofs.Combinators.{spell_nothing, spell_lead, spell_then, spell_left, spell_right, spell_none, spell_more, spell_some, spell_as, spell_same}
 use Rattle.spell_theory.proofs.Layouts.{placed_append, line_append}
 use Rattle.vhdl_again.specs.Formula.{with_links}
-use Rattle.vhdl_again.specs.Outline.{a_word, a_sign, a_name}
+use Rattle.vhdl_again.specs.Outline.{a_word, a_sign}
 use Rattle.vhdl_again.proofs.Entities.{at, spell_word, spell_sign, spell_number}
 use Rattle.vhdl_again.proofs.Steps.{Few, plain_step, opens_step, started, starts_step}
 use Rattle.vst_write.specs.Structure.{bit_layout, name_layout}
@@ -38,11 +36,11 @@ use Rattle.vbe_again.specs.Placed.{tree, placed_target}
 use Rattle.vbe_again.specs.Nesting.{bit_within, IsWithin}
 use Rattle.vbe_again.specs.Said.{operators}
 use Rattle.vbe_again.proofs.Spelling.{on_line, flat, spell_expression}
-use Rattle.vbe_again.proofs.Values.{Begins, spell_begun}
-use Rattle.fsm_text.specs.Written.{StatementTree, assigned, chosen, selected as selects, BodyTree, finish, next, PartsTree, further as further_tree, BranchesTree, listed as listed_tree, PartTree, BranchTree, followed, body_of, parts_of, branched, branches_of, last_branch as last_of}
+use Rattle.vbe_again.proofs.Values.{spell_begun}
+use Rattle.fsm_text.specs.Written.{StatementTree, assigned, chosen, selected as selects, BodyTree, next, PartsTree, further as further_tree, BranchesTree, listed as listed_tree, PartTree, BranchTree, body_of, parts_of, branches_of}
 use Rattle.fsm_text.specs.Fsm.{used_name, assignment, part, further_part, last_part, behind_if, conditional, next_state, listed_states, listed_branch, led_branch, others_branch, last_branch, branches, behind_case, case_statement, statement, body_over, nested, body}
 use Rattle.fsm_write.specs.declared.words.Words.{Words}
-use Rattle.fsm_write.specs.Layout.{behind, separated, bar, state_text, ending, end_of_line, assignment_layout, states_layout, then_layout, arrow_layout, case_head, if_layout, case_layout, part_layout, branch_layout, body_layout, parts_layout, branches_layout}
+use Rattle.fsm_write.specs.Layout.{behind, separated, bar, state_text, ending, end_of_line, assignment_layout, states_layout, then_layout, arrow_layout, if_layout, case_layout, part_layout, branch_layout, body_layout, parts_layout, branches_layout}
 use Rattle.fsm_again.specs.Placed.{named_at, placed_assignment, behind_body, placed_body, placed_parts, placed_branches}
 use Rattle.fsm_again.specs.Nesting.{HasRoom, IsAssignmentWithin, IsBodyWithin, ArePartsWithin, AreBranchesWithin}
 use Rattle.fsm_again.proofs.Begins.{begins}

@@ -1,34 +1,30 @@
 -- No target of the text of a state machine is assigned more often than a text may have it.
-use Rattle.std.proofs.Common.{◌≡◌, ℕ, ◌+◌, ◌≤◌, true, filter, List, [], ◌∷◌, ◌++◌, codes, Option, None, Some, refl, sym, ap, subst, ◌∙◌, arith, append_assoc}
+use Rattle.std.proofs.Common.{◌≡◌, ℕ, ◌+◌, ◌≤◌, true, filter, List, [], ◌∷◌, ◌++◌, codes, Option, None, refl, sym, ap, subst, ◌∙◌, arith, append_assoc}
 use Rattle.std.proofs.lemmas.List.{append-nil}
 use Rattle.vlsi_base.specs.declared.name.Name.{Name}
 use Rattle.vlsi_base.specs.Names.{scalar}
-use Rattle.fsm_meaning.specs.Statements as st
 use Rattle.fsm_meaning.specs.Fsm.{Fsm}
 use Rattle.fsm_core.specs.Checked.{IsBodyOf}
 use Rattle.vhdl_token.specs.declared.keyword.Keyword.TheVariants as word
 use Rattle.vhdl_token.specs.declared.token.PlacedToken.{PlacedToken}
-use Rattle.vhdl_token.specs.declared.token.Token.{Token}
 use Rattle.vhdl_token.specs.declared.token.Token.TheVariants as token
 use Rattle.vhdl_token.specs.declared.token.Sign.TheVariants as sign
-use Rattle.grammar_theory.specs.declared.form.Form.TheVariants as form
 use Rattle.grammar_theory.specs.declared.limits.TheConstants.{CHAIN}
-use Rattle.grammar_theory.specs.Tokens.{code_of, is_of}
+use Rattle.grammar_theory.specs.Tokens.{code_of}
 use Rattle.source_meaning.specs.declared.symbol_table.Symbol.{Symbol}
 use Rattle.source_meaning.specs.Symbols.{all_names, find}
 use Rattle.source_meaning.specs.Formula.{names_of_found}
-use Rattle.source_meaning.specs.Drivers.{is_among, target_names}
-use Rattle.spell_theory.specs.Layout.{Written, gap, turn, says, line_behind, placed, line_of}
-use Rattle.vhdl_again.specs.Outline.{a_word, a_sign, a_name}
+use Rattle.source_meaning.specs.Drivers.{is_among}
+use Rattle.spell_theory.specs.Layout.{Written, gap, line_behind, placed}
+use Rattle.vhdl_again.specs.Outline.{a_word, a_sign}
 use Rattle.vhdl_again.proofs.Entities.{at}
-use Rattle.vbe_again.specs.Placed.{placed_target}
-use Rattle.fsm_text.specs.Chains.{counted_bits, times, overfull}
+use Rattle.fsm_text.specs.Chains.{overfull}
 use Rattle.fsm_write.specs.declared.words.Words.{Words}
 use Rattle.fsm_write.specs.Layout.{comma, separated, ending, end_of_line, then_layout, body_layout}
 use Rattle.fsm_write.specs.Written.{architecture_name, texts_of, head_layout, type_layout, signals_layout, begin_layout, process_layout, step_layout, rise_layout, load_layout, clock_layout, last_layout, declarations_layout}
 use Rattle.fsm_again.specs.Nesting.{times_in}
-use Rattle.fsm_again.proofs.Dull.{IsStop, Stretch, last, more, Quiet, quiet_stretch}
-use Rattle.fsm_again.proofs.Counting.{AreOwn, Counted, Counts, Room, counts_both, counts_as, none_counts, front_counts, back_counts, counted_as, counted_none, counted_both, counted_unnamed, assigning, body_counts, quiet_names, stop_semicolon, stop_is, stop_end, stop_if, stop_then, stretch_ending, name_quiet}
+use Rattle.fsm_again.proofs.Dull.{IsStop, Stretch, last, more, quiet_stretch}
+use Rattle.fsm_again.proofs.Counting.{AreOwn, Counts, counts_both, counts_as, none_counts, front_counts, back_counts, counted_unnamed, body_counts, quiet_names, stop_semicolon, stop_is, stop_end, stop_if, stop_then, stretch_ending, name_quiet}
 use Rattle.fsm_again.proofs.Whole.{flat_names}
 use Rattle.vbe_again.proofs.Spelling.{on_line}
 

@@ -1,5 +1,5 @@
 -- The text of a state machine that is laid out spells itself.
-use Rattle.std.proofs.Common.{◌≡◌, ℕ, ◌+◌, ◌-◌, ◌<◌, ◌==◌, Bool, false, List, [], ◌∷◌, ◌++◌, map, length, Option, None, codes, refl, sym, ap, subst, ◌∙◌, arith, append_assoc}
+use Rattle.std.proofs.Common.{◌≡◌, ℕ, ◌-◌, ◌<◌, ◌==◌, false, List, [], ◌∷◌, ◌++◌, map, length, None, refl, sym, ap, subst, ◌∙◌, arith, append_assoc}
 use Rattle.std.specs.BTreeSet.{insert_key}
 use Rattle.std.specs.Cmp.Lexicographic.{slice_cmp}
 use Rattle.std.specs.Ordering.{nat_cmp}
@@ -8,7 +8,6 @@ use Rattle.vlsi_base.specs.declared.name.Name.{Name}
 use Rattle.vlsi_base.specs.declared.entity.NewName.{NewName}
 use Rattle.vlsi_base.specs.Tree.{Tree}
 use Rattle.fsm_meaning.specs.Statements as st
-use Rattle.fsm_meaning.specs.Fsm.{Fsm}
 use Rattle.fsm_core.specs.Checked.{ListsStates}
 use Rattle.vhdl_token.specs.declared.keyword.Keyword.TheVariants as word
 use Rattle.vhdl_token.specs.declared.token.PlacedToken.{PlacedToken}
@@ -16,29 +15,28 @@ use Rattle.vhdl_token.specs.declared.token.Token.TheVariants as token
 use Rattle.vhdl_token.specs.declared.token.Sign.TheVariants as sign
 use Rattle.grammar_theory.specs.declared.form.Form.TheVariants as form
 use Rattle.grammar_theory.specs.Tokens.{code_of}
-use Rattle.grammar_theory.specs.Marks.{State, uncounted, is_declared, plain, starts, opens, declares, spells}
-use Rattle.grammar_theory.specs.Grammar.{Grammar, list}
+use Rattle.grammar_theory.specs.Marks.{State, is_declared, starts, opens, declares, spells}
+use Rattle.grammar_theory.specs.Grammar.{list}
 use Rattle.vhdl_front.specs.Cursor.{name_of}
 use Rattle.vhdl_front.specs.Entity.{declared, another}
-use Rattle.vhdl_front.specs.Expression.{expression}
 use Rattle.vbe_text.specs.Vbe.{repeated, belonging, architecture_head}
 use Rattle.spell_theory.specs.Spells.{Spells}
-use Rattle.spell_theory.specs.Layout.{Written, gap, turn, line_behind, placed, line_of}
+use Rattle.spell_theory.specs.Layout.{Written, line_behind, placed, line_of}
 use Rattle.spell_theory.proofs.Combinators.{spell_nothing, spell_lead, spell_then, spell_left, spell_right, spell_none, spell_more, spell_as, spell_to}
 use Rattle.spell_theory.proofs.Layouts.{placed_append, line_append}
-use Rattle.vhdl_again.specs.Outline.{Outline, a_word, a_sign, a_name, entity_layout, placed_entity, with_name}
+use Rattle.vhdl_again.specs.Outline.{Outline, a_sign, entity_layout, placed_entity, with_name}
 use Rattle.vhdl_again.proofs.Entities.{at, spell_word, spell_sign, spell_identifier, spell_entity}
-use Rattle.vhdl_again.proofs.Steps.{Few, plain_step, opens_step, declares_step, spells_step, started, starts_step}
+use Rattle.vhdl_again.proofs.Steps.{Few, opens_step, declares_step, spells_step, started, starts_step}
 use Rattle.vst_again.proofs.Entries.{Entry, with_entries, EntriesNew, port_entry, new_front, new_back, ports_new, with_port_entries, few_entries}
 use Rattle.vbe_again.proofs.Spelling.{on_line}
 use Rattle.vbe_again.proofs.Values.{spell_begun}
 use Rattle.fsm_text.specs.declared.file.StateType.{StateType}
 use Rattle.fsm_text.specs.declared.file.StateSignals.{StateSignals}
 use Rattle.fsm_text.specs.Written.{StepTree, ClockTree, MachineTree}
-use Rattle.fsm_text.specs.Fsm.{used_name, sensitivity, body, label, process_head, label_again, process_end, step_process, load, loading, clock_process, state_names, state_type, of_type, state_signals, processes, architecture, machine}
+use Rattle.fsm_text.specs.Fsm.{sensitivity, label, process_head, label_again, process_end, step_process, load, loading, clock_process, state_names, state_type, of_type, state_signals, processes, architecture, machine}
 use Rattle.fsm_write.specs.declared.words.Words.{Words}
-use Rattle.fsm_write.specs.Layout.{comma, behind, separated, ending, end_of_line, then_layout, body_layout}
-use Rattle.fsm_write.specs.Written.{architecture_name, head_layout, texts_of, type_layout, signals_layout, begin_layout, process_layout, step_layout, rise_layout, load_layout, clock_layout, last_layout, declarations_layout}
+use Rattle.fsm_write.specs.Layout.{comma, behind, separated, ending, end_of_line, body_layout}
+use Rattle.fsm_write.specs.Written.{architecture_name, head_layout, texts_of, type_layout, signals_layout, begin_layout, step_layout, load_layout, clock_layout, last_layout, declarations_layout}
 use Rattle.fsm_again.specs.Nesting.{IsBodyWithin}
 use Rattle.fsm_again.specs.Placed.{named_at, behind_body, placed_body, rises}
 use Rattle.fsm_again.proofs.Clock.{behind_rise, spell_rise, rise_begins}

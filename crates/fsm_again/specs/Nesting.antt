@@ -1,5 +1,5 @@
 -- How deep statements are nested as they are written, and how long their expressions are.
-use Rattle.std.specs.Prelude.{◌≡◌, ℕ, zero, suc, ◌+◌, ◌≤◌, Bool, List, if◌then◌else◌}
+use Rattle.std.specs.Prelude.{ℕ, ◌+◌, ◌≤◌, Bool, if◌then◌else◌}
 use Rattle.vlsi_base.specs.declared.name.Name.{Name}
 use Rattle.vlsi_base.specs.Names.{scalar}
 use Rattle.bool_expr.specs.Expression.{Expression}

@@ -1,6 +1,5 @@
 -- The value of the text of a state machine: what stands there, with each line on which it stands.
 use Rattle.std.specs.Prelude.{ℕ, true, List, [], ◌∷◌, map, codes}
-use Rattle.vlsi_base.specs.declared.name.Name.{Name}
 use Rattle.vlsi_base.specs.declared.entity.NewName.{NewName}
 use Rattle.vlsi_base.specs.declared.expression.Operator.TheVariants as operator
 use Rattle.vlsi_base.specs.declared.pragma.Pragma.{Pragma}

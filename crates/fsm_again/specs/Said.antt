@@ -1,5 +1,5 @@
 -- What is written of a state machine is a sentence.
-use Rattle.std.specs.Prelude.{◌≡◌, ℕ, ◌≤◌, List, length, None}
+use Rattle.std.specs.Prelude.{◌≡◌, ◌≤◌, length, None}
 use Rattle.std.specs.List.{All}
 use Rattle.vlsi_base.specs.declared.limits.TheConstants.{MOST_SOURCE_BYTES}
 use Rattle.vlsi_base.specs.declared.name.Name.{Name}

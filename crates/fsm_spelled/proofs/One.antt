@@ -1,5 +1,5 @@
 -- A state machine has one text.
-use Rattle.std.proofs.Common.{◌≡◌, inl, inr, ℕ, ◌<◌, ◌≤◌, true, false, List, refl, sym, ap, ◌∙◌, arith}
+use Rattle.std.proofs.Common.{◌≡◌, inl, inr, ℕ, ◌≤◌, true, false, List, sym, ap, ◌∙◌, arith}
 use Rattle.std.proofs.str.Laws.{order}
 use Rattle.vlsi_base.specs.declared.name.Name.{Name}
 use Rattle.free_names.specs.Free.{is_free, candidate, IsFirstFree}

@@ -1,5 +1,5 @@
 -- The expressions of a text of a state machine have no choice.
-use Rattle.std.proofs.Common.{ℕ, zero, suc, ◌+◌, ◌/◌, Bool, true, false, cond, List, [], ◌∷◌, ◌++◌, map, length, take, drop, bytes_eq, codes, Some}
+use Rattle.std.proofs.Common.{ℕ, zero, suc, ◌+◌, ◌/◌, Bool, true, false, cond, List, [], ◌∷◌, map, length, take, drop, bytes_eq, codes, Some}
 use Rattle.vlsi_base.specs.declared.name.Name.{Name}
 use Rattle.vlsi_base.specs.declared.expression.Operator.{Operator}
 use Rattle.vlsi_base.specs.declared.expression.Operator.TheVariants as operator

@@ -1,7 +1,6 @@
 -- The states that a text declares are identifiers, and none is a port.
-use Rattle.std.proofs.Common.{◌≡◌, ℕ, List, [], ◌∷◌, ◌++◌, map, Option, None, Some, refl, sym, ap, subst, ◌∙◌}
+use Rattle.std.proofs.Common.{◌≡◌, ℕ, List, [], ◌∷◌, ◌++◌, None, Some, sym, ap, subst, ◌∙◌}
 use Rattle.std.specs.List.Sorted.{IsPermutation}
-use Rattle.vlsi_base.specs.declared.name.Name.{Name}
 use Rattle.vlsi_base.specs.declared.name.Port.{Port}
 use Rattle.vlsi_base.specs.declared.name.Dir.{Dir}
 use Rattle.vlsi_base.specs.declared.entity.NewName.{NewName}
@@ -14,13 +13,13 @@ use Rattle.vhdl_front.specs.Cursor.{name_of}
 use Rattle.vhdl_front.specs.Entity.{new_name, declared, another}
 use Rattle.source_meaning.specs.declared.symbol_table.Role.TheVariants as role
 use Rattle.source_meaning.specs.declared.symbol_table.Symbol.{Symbol}
-use Rattle.source_meaning.specs.Symbols.{port_symbols, scalar}
+use Rattle.source_meaning.specs.Symbols.{port_symbols}
 use Rattle.source_meaning.specs.Elaboration.{port_bits}
 use Rattle.vlsi_model.proofs.Assembly.{In-permutation}
 use Rattle.vlsi_model.proofs.Bits.{texts}
 use Rattle.vbe_words.proofs.Cut.{IsShortWord, AreNamed, named_in}
-use Rattle.vbe_words.proofs.Saying.{Every, every_in, words_of, Says, says_then, says_behind, says_nothing, says_list, says_name}
-use Rattle.vbe_words.proofs.Declaring.{IsBit, same_symbol, text_of, machine_dir, machine_bits}
+use Rattle.vbe_words.proofs.Saying.{Every, words_of, Says, says_then, says_behind, says_nothing, says_list, says_name}
+use Rattle.vbe_words.proofs.Declaring.{same_symbol, text_of, machine_dir, machine_bits}
 use Rattle.fsm_text.specs.Written.{MachineTree}
 use Rattle.fsm_text.specs.declared.file.StateType.{StateType}
 use Rattle.fsm_text.specs.Fsm.{state_names, state_type, architecture, machine}

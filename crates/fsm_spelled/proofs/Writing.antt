@@ -1,34 +1,28 @@
 -- A state machine that is read can be written.
-use Rattle.std.proofs.Common.{◌≡◌, ℕ, ◌+◌, ◌<◌, ◌≤◌, ◌^◌, List, [], ◌∷◌, map, length, Option, None, Some, refl, sym, ap, subst, ◌∙◌, arith}
+use Rattle.std.proofs.Common.{◌≡◌, ◌<◌, List, [], ◌∷◌, map, length, Option, None, Some, refl, sym, ap, subst, ◌∙◌, arith}
 use Rattle.std.specs.List.{All}
-use Rattle.std.specs.List.Sorted.{IsPermutation}
 use Rattle.std.specs.Ordering.{is_lt}
 use Rattle.std.proofs.lemmas.List.{length-map}
 use Rattle.std.proofs.lemmas.List.Sorted.{length_permutation}
 use Rattle.std.proofs.lemmas.List.Elements.{All-cons, All-nil}
 use Rattle.vlsi_base.specs.declared.name.Name.{Name}
-use Rattle.vlsi_base.specs.declared.name.Port.{Port}
 use Rattle.vlsi_base.specs.declared.fault.ReadError.{ReadError}
 use Rattle.vlsi_base.specs.declared.entity.NewName.{NewName}
 use Rattle.vlsi_base.specs.Member.{In, here, there}
 use Rattle.machine_meaning.specs.Machine.{names_of}
-use Rattle.fsm_meaning.specs.Fsm.{Fsm}
-use Rattle.fsm_core.specs.Checked.{IsCheckedFsm}
 use Rattle.port_words.specs.Words.{IsIdentifier}
 use Rattle.source_meaning.specs.declared.symbol_table.Symbol.{Symbol}
 use Rattle.source_meaning.specs.Symbols.{scalar}
-use Rattle.source_meaning.specs.Checks.{if_symbol, first_repeated, most_ports}
+use Rattle.source_meaning.specs.Checks.{if_symbol, first_repeated}
 use Rattle.source_meaning.specs.Elaboration.{port_bits}
-use Rattle.vlsi_model.proofs.Bits.{texts, different_texts}
+use Rattle.vlsi_model.proofs.Bits.{different_texts}
 use Rattle.vbe_words.specs.Laws.{InOrderCanBeWritten}
 use Rattle.vbe_words.proofs.Saying.{Every}
-use Rattle.fsm_text.specs.Written.{MachineTree}
 use Rattle.fsm_io.specs.Known.{symbols}
 use Rattle.fsm_io.specs.Elaboration.{frame_of}
 use Rattle.fsm_io.specs.Laws.{FsmIsChecked}
-use Rattle.fsm_io.specs.Text.{IsFsm}
 use Rattle.fsm_words.specs.Laws.{FsmIsNamed}
-use Rattle.fsm_write.specs.Writable.{CanBeFsm, IsPlainBody}
+use Rattle.fsm_write.specs.Writable.{IsPlainBody}
 use Rattle.fsm_spelled.specs.Laws.{FsmCanBeWritten}
 use Rattle.fsm_spelled.proofs.Plain.{plain_body}
 use Rattle.fsm_spelled.proofs.States.{IsNewWord, state_words, state_apart}

@@ -1,6 +1,5 @@
 -- How the statements of a state machine are laid out, each on a line.
 use Rattle.std.specs.Prelude.{ℕ, List, [], ◌∷◌, ◌++◌, map}
-use Rattle.vlsi_base.specs.declared.name.Name.{Name}
 use Rattle.bool_expr.specs.Expression.{Expression}
 use Rattle.fsm_meaning.specs.Statements.{Assignment, output, next, Statements, finish, assign, choose, select, Parts, only, either, further, Branches, closed, others, listed}
 use Rattle.vhdl_token.specs.declared.keyword.Keyword.{Keyword}

@@ -1,5 +1,5 @@
 -- State machines that a text can declare, and whose expressions it can have.
-use Rattle.std.specs.Prelude.{◌≡◌, ℕ, List, None}
+use Rattle.std.specs.Prelude.{◌≡◌, None}
 use Rattle.std.specs.List.{All}
 use Rattle.vlsi_base.specs.declared.name.Name.{Name}
 use Rattle.vlsi_base.specs.declared.name.Port.{Port}

@@ -1,4 +1,4 @@
-use Rattle.std.proofs.Common.{◌≡◌, ◌++◌, map}
+use Rattle.std.proofs.Common.{◌≡◌, ◌++◌}
 use Rattle.spell_theory.specs.Layout.{text_of}
 use Rattle.fsm_write.specs.Layout.{comma, behind}
 use Rattle.fsm_write.specs.Written.{texts_of}

@@ -1,8 +1,8 @@
-use Rattle.std.proofs.Common.{◌≡◌, ◌++◌, ◌∙◌, List, [], ◌∷◌, arith, rules, sym, ap, subst}
+use Rattle.std.proofs.Common.{◌≡◌, ◌++◌, ◌∙◌, [], ◌∷◌, arith, rules, sym, ap, subst}
 use Rattle.std.proofs.lemmas.Result.{on_ok_weaker}
 use Rattle.bool_expr.specs.View.{view}
 use Rattle.vhdl_token.specs.declared.keyword.Keyword.TheVariants as word
-use Rattle.spell_theory.specs.Layout.{Written, gap, turn, text_of}
+use Rattle.spell_theory.specs.Layout.{gap, turn, text_of}
 use Rattle.vhdl_again.specs.Outline.{a_word}
 use Rattle.vbe_write.specs.Expressions.{expression_layout}
 use Rattle.vbe_write.proofs.Texts.{put_two, next_part}
