@@ -1,10 +1,6 @@
 -- What is written is read again.
-use Rattle.std.proofs.Common.{◌≡◌, ℕ, List, Option, Some, IfSome, sym, subst}
-use Rattle.tool_words.specs.declared.command.FlatbehCommand.{FlatbehCommand}
-use Rattle.tool_drive.specs.declared.tool.Product.{Product}
-use Rattle.vbe_again.specs.Said.{text, IsWithinLimits}
+use Rattle.std.proofs.Common.{ℕ, List, Option, IfSome, sym, subst}
 use Rattle.vbe_round.specs.Again.{ReadAgain}
-use Rattle.flatbeh_run.specs.Flatbeh.{IsFlattening}
 use Rattle.flatbeh_run.specs.Laws.{AreReadAs, FlatteningIsRead}
 
 pub is_read : ReadAgain → FlatteningIsRead

@@ -25,7 +25,7 @@ use Rattle.tool_drive.specs.declared.tool.Product.{Product}
 use Rattle.tool_drive.specs.declared.tool.Refusal.{Refusal}
 use Rattle.tool_drive.specs.Table.{IsJudged, IsFair, refusal}
 use Rattle.tool_drive.specs.Refusals.{MemoryOr, OfFile, of_file, judged_file}
-use Rattle.flatbeh_run.specs.Flatbeh.{AreRead, HasVectorClock, fault_of, no_library, bad_netlist, no_behaviour, twice, vector_clock, Flattens, IsToldOf}
+use Rattle.flatbeh_run.specs.Flatbeh.{HasVectorClock, fault_of, no_library, bad_netlist, no_behaviour, twice, vector_clock, Flattens, IsToldOf}
 
 -- a status for which P holds, or out of memory, is one that a tool may answer
 judged : (A : Result Product Refusal → Type 0) (P : Status → Type 0) → ((t : Status) → P t → IsFair t None (A (Err (refusal t None)))) → (s : Status) → MemoryOr s (P s)

@@ -1,9 +1,7 @@
 -- The names of a structural text are words, and its ports but the supplies can be declared.
-use Rattle.std.proofs.Common.{◌≡◌, ◌-◌, inl, inr, ℕ, Bool, true, false, not, List, [], ◌∷◌, ◌++◌, map, length, filter, Option, None, Some, refl, sym, ap, ◌∙◌, subst, arith}
-use Rattle.std.specs.List.{All, flat_map}
+use Rattle.std.proofs.Common.{◌≡◌, inl, inr, ℕ, Bool, true, false, not, List, [], ◌∷◌, map, Option, None, Some, refl, sym, ap, ◌∙◌, subst, arith}
+use Rattle.std.specs.List.{All}
 use Rattle.std.proofs.lemmas.List.{map-append}
-use Rattle.std.specs.List.Sorted.{IsPermutation}
-use Rattle.std.specs.Ordering.{is_lt}
 use Rattle.std.proofs.lemmas.List.Elements.{All-nil}
 use Rattle.std.proofs.lemmas.List.Sorted.{IsPermutation-sym}
 use Rattle.vlsi_base.specs.declared.name.Name.{Name}
@@ -15,52 +13,43 @@ use Rattle.vlsi_base.specs.declared.entity.Entity.{Entity}
 use Rattle.vlsi_base.specs.declared.entity.NewName.{NewName}
 use Rattle.vlsi_base.specs.declared.entity.TypeWord.{TypeWord}
 use Rattle.vlsi_base.specs.declared.entity.TypeWord.TheVariants as type
-use Rattle.vlsi_base.specs.declared.entity.PortGroup.{PortGroup}
 use Rattle.vlsi_base.specs.declared.entity.SignalGroup.{SignalGroup}
 use Rattle.vlsi_base.specs.Range.{range_bits}
 use Rattle.vlsi_base.specs.Name.{is_supply}
 use Rattle.vlsi_base.specs.NamePlaces.{name_of as name_with}
 use Rattle.vlsi_base.specs.Member.{In, here, there, AllDifferent}
-use Rattle.vhdl_token.specs.declared.keyword.Keyword.{Keyword}
-use Rattle.vhdl_token.specs.declared.keyword.Keyword.TheVariants as word
-use Rattle.grammar_theory.specs.Marks.{plain, enters}
-use Rattle.grammar_theory.specs.Grammar.{Grammar}
+use Rattle.grammar_theory.specs.Marks.{enters}
 use Rattle.grammar_theory.specs.declared.limits.TheConstants.{DEPTH}
 use Rattle.vhdl_front.specs.Cursor.{name_of}
 use Rattle.machine_meaning.specs.Machine.{names_of}
-use Rattle.machine_core.specs.Checked.{AreInOrder}
 use Rattle.machine_core.proofs.Values.{In-split, In-left, In-right, In-map}
 use Rattle.source_meaning.specs.declared.symbol_table.Role.{Role}
 use Rattle.source_meaning.specs.declared.symbol_table.Role.TheVariants as role
 use Rattle.source_meaning.specs.declared.symbol_table.Symbol.{Symbol}
-use Rattle.source_meaning.specs.Symbols.{role_of_word, names_in, bit_name, symbol_names, symbols_named, port_symbols, signal_symbols}
+use Rattle.source_meaning.specs.Symbols.{role_of_word, names_in, symbol_names, symbols_named, port_symbols, signal_symbols}
 use Rattle.source_meaning.specs.Elaboration.{port_of, ports_of_role}
-use Rattle.source_meaning.specs.Checks.{first_repeated}
 use Rattle.vlsi_model.proofs.Members.{In-cases, In-map_back, different_left}
 use Rattle.vlsi_model.proofs.Bits.{different_texts, texts, text_in}
 use Rattle.vlsi_model.proofs.Building.{map-then}
 use Rattle.vlsi_model.proofs.Assembly.{In-permutation, All-from_In}
 use Rattle.vlsi_model.proofs.PortBits.{In-filter, filter-In}
 use Rattle.port_words.specs.Words.{IsIdentifier, ArePortsNamed}
-use Rattle.vst_text.specs.declared.file.Declaration.{Declaration}
-use Rattle.vst_text.specs.declared.file.Declaration.TheVariants as declares
 use Rattle.vst_text.specs.declared.file.InstanceStatement.{InstanceStatement}
 use Rattle.vst_text.specs.declared.file.StructuralFile.{StructuralFile}
 use Rattle.vst_text.specs.Vst.{among_instances, instance_statement, instance_statements, architecture, structure}
 use Rattle.vbe_write.specs.Writable.{AreDeclared}
 use Rattle.vst_io.specs.Nets.{signal_groups, nets, bits_of, names, port_bits, instance_of}
-use Rattle.vst_io.specs.Text.{IsWritten, IsNetlistOf, IsVst}
+use Rattle.vst_io.specs.Text.{IsWritten, IsNetlistOf}
 use Rattle.vst_io.proofs.First.{faultless}
 use Rattle.net_core.specs.declared.pins.ModelPins.{ModelPins}
 use Rattle.net_core.specs.Netlist.{Instance, Netlist, AreInOrder as StandInOrder}
-use Rattle.cell_pins.proofs.Ports.{Sorted, sorted_of, sorted_filter, sorted_pairs}
-use Rattle.net_machine.specs.Signals.{signal_ports}
-use Rattle.net_flat.specs.Flat.{HasWords}
+use Rattle.cell_pins.proofs.Ports.{sorted_of, sorted_filter, sorted_pairs}
+use Rattle.net_held.specs.Signals.{signal_ports}
 use Rattle.flatbeh_run.specs.Laws.{NetlistHasWords}
 use Rattle.vbe_words.specs.Laws.{InOrderCanBeWritten}
 use Rattle.vbe_words.proofs.Cut.{IsShortWord, AreNamed, named_in}
-use Rattle.vbe_words.proofs.Saying.{Every, every_append, every_in, words_of, Says, says_then, says_behind, says_or, says_nothing, says_list, says_name}
-use Rattle.vbe_words.proofs.Sources.{IsEntityWord, says_entity, IsSymbolWord, ports_words}
+use Rattle.vbe_words.proofs.Saying.{Every, every_in, words_of, Says, says_then, says_behind, says_nothing, says_list, says_name}
+use Rattle.vbe_words.proofs.Sources.{IsEntityWord, says_entity, ports_words}
 use Rattle.vbe_words.proofs.Declaring.{IsBit, AreBits, bits_named, machine_dir}
 
 -- ---- what the grammar says

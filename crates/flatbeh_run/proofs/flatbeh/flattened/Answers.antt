@@ -1,7 +1,8 @@
 use Rattle.std.proofs.Common.{true, Err, sym, subst}
 use Rattle.tool_drive.specs.declared.tool.Refusal.{Refusal}
 use Rattle.tool_drive.specs.Table.{IsJudged}
-use Rattle.asimut_run.proofs.Supplies.{lists_supplies}
+use Rattle.machine_core.specs.Checked.{IsChecked}
+use Rattle.flatbeh_run.proofs.Supplies.{lists_supplies}
 use Rattle.flatbeh_run.specs.Flatbeh.{Flattens}
 use Rattle.flatbeh_run.proofs.Refusing.{by_library, by_netlist, by_flat, by_clock}
 use Rattle.flatbeh_run.proofs.flatbeh.flattened.Goals as goal
@@ -26,3 +27,27 @@ returns-in-Err-flatbeh c =
     subst (λ (r : Refusal). IsJudged (Flattens c.args.command.now c.args.source.now c.args.catal.now c.args.cells.now) (Err r)) (sym c.plain-in-Err-flatbeh.ensures)
     (by_flat c.args.command.now c.args.source.now c.args.catal.now c.args.cells.now c.in-Ok.library c.in_ok-table.table c.in-Ok.ensures.ok c.in_ok-table.ensures.table c.in-Ok-read_vst.netlist
     c.in-Ok-read_vst.ensures.accepted c.in-Err-flatbeh.error c.flat_status.result c.in-Err-flatbeh.ensures.refused c.flat_status.ensures)
+
+pub returns-in-Some : goal.returns-in-Some
+returns-in-Some c =
+    subst (λ (r : Refusal). IsJudged (Flattens c.args.command.now c.args.source.now c.args.catal.now c.args.cells.now) (Err r)) (sym c.plain-in-Some.ensures)
+    (by_clock c.args.command.now c.args.source.now c.args.catal.now c.args.cells.now c.in-Ok.library c.in_ok-table.table c.in-Ok.ensures.ok c.in_ok-table.ensures.table c.in-Ok-read_vst.netlist
+    c.in-Ok-read_vst.ensures.accepted c.in-Ok-flatbeh.machine c.in-Ok-flatbeh.ensures.plain c.in-Ok-flatbeh.ensures.apart
+    (c.in-Ok-flatbeh.ensures.machine c.in_ok-table.table c.in_ok-table.ensures.table (c.in-Ok-read_vst.ensures.condition (lists_supplies c.in-Ok.library true c.in_ok-table.table c.in_ok-table.ensures.table)))
+    c.in-Some.name.now c.clock_status.result c.in-Some.ensures c.clock_status.ensures)
+
+pub returns : goal.returns
+returns c = record {
+  l = c.in-Ok.library;
+  table = c.in_ok-table.table;
+  n = c.in-Ok-read_vst.netlist;
+  m = c.in-Ok-flatbeh.machine;
+  read = record { library = c.in-Ok.ensures.ok; pins = c.in_ok-table.ensures.table; netlist = c.in-Ok-read_vst.ensures.accepted };
+  plain = c.in-Ok-flatbeh.ensures.plain;
+  apart = c.in-Ok-flatbeh.ensures.apart;
+  flat = c.in-Ok-flatbeh.ensures.machine c.in_ok-table.table c.in_ok-table.ensures.table
+      (c.in-Ok-read_vst.ensures.condition (lists_supplies c.in-Ok.library true c.in_ok-table.table c.in_ok-table.ensures.table));
+  checked = subst IsChecked c.machine.view_is c.machine.invariant;
+  names = c.in-Ok-flatbeh.ensures.text (c.netlist_has_words.ensures c.args.source.now c.in_ok-table.table c.in-Ok-read_vst.netlist c.in-Ok-read_vst.ensures.accepted) c.in_default.ensures;
+  written = c.in_ok-written.ensures;
+}
