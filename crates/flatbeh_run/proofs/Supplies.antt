@@ -12,8 +12,8 @@ use Rattle.cell_pins.specs.Table.{IsModelOf, AreModels, no_models, listed, left_
 use Rattle.net_core.specs.declared.pins.ModelPin.{ModelPin}
 use Rattle.net_core.specs.declared.pins.ModelPins.{ModelPins}
 use Rattle.net_core.specs.Places.{IsThere}
-use Rattle.net_held.proofs.Cells.{pin_of_port, vdd_in, vss_in}
-use Rattle.net_held.proofs.Drivers.{In_there}
+use Rattle.net_machine.proofs.Cells.{pin_of_port, vdd_in, vss_in}
+use Rattle.net_machine.proofs.Drivers.{In_there}
 use Rattle.vst_io.specs.Text.{ListsSupplies}
 use Rattle.vst_io.proofs.Condition.{all_from}
 

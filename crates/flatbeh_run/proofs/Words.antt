@@ -44,7 +44,7 @@ use Rattle.vst_io.proofs.First.{faultless}
 use Rattle.net_core.specs.declared.pins.ModelPins.{ModelPins}
 use Rattle.net_core.specs.Netlist.{Instance, Netlist, AreInOrder as StandInOrder}
 use Rattle.cell_pins.proofs.Ports.{sorted_of, sorted_filter, sorted_pairs}
-use Rattle.net_held.specs.Signals.{signal_ports}
+use Rattle.net_machine.specs.Signals.{signal_ports}
 use Rattle.flatbeh_run.specs.Laws.{NetlistHasWords}
 use Rattle.vbe_words.specs.Laws.{InOrderCanBeWritten}
 use Rattle.vbe_words.proofs.Cut.{IsShortWord, AreNamed, named_in}
