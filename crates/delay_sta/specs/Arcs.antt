@@ -8,11 +8,11 @@ use Rattle.cell_model.specs.declared.cell.Arc.{Arc}
 -- given
 abbrev pub time_of : Option ℕ → ℕ → List ℕ
 time_of None drag = []
-time_of (Some time) drag = 1000 * time + drag ∷ []
+time_of (Some time) drag = (1000 * time + drag) ∷ []
 
 -- the times of all edges with a load in femtofarads, which a resistance in ohm makes femtoseconds: of the falls, then of the rises
 abbrev pub times : Arc → ℕ → List ℕ
-times a load = flat_map (λ t. time_of t.0 t.1)
+times a load = flat_map (λ (t : Option ℕ × ℕ). time_of t.0 t.1)
     ((a.tphl, a.rdown * load) ∷ (a.tpll, a.rdown * load) ∷ (a.taf, a.rdown * load)
     ∷ (a.tplh, a.rup * load) ∷ (a.tphh, a.rup * load) ∷ (a.tar, a.rup * load) ∷ [])
 

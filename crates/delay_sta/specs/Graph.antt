@@ -32,6 +32,10 @@ abbrev pub IsTimedAt : Netlist → (ℕ → ℕ) → List ℕ → Cell → Arc �
 IsTimedAt n loads owner c a x =
     MatchBool x.begins (IsStepAt n loads BeginsThere owner c a (step_of x)) (IsStepAt n loads GoesThrough owner c a (step_of x))
 
+-- what is found of an arc: exactly such a step
+abbrev pub IsFoundAs : Netlist → (ℕ → ℕ) → List ℕ → Cell → Arc → Option TimedArc → Type 0
+IsFoundAs n loads owner c a found = (x : TimedArc) → (found ≡ Some x) ↔ IsTimedAt n loads owner c a x
+
 -- so is an arc of the cell
 pub record IsTimedIn (n : Netlist) (loads : ℕ → ℕ) (owner : List ℕ) (c : Cell) (x : TimedArc) : Type 0 where
   pub arc : Arc
@@ -100,9 +104,9 @@ IsBy None latest = Unit {0}
 IsBy (Some time) latest = (t : ℕ) × (latest ≡ Some t) × (time ≤ t)
 
 -- the latest of a time and the arrivals of arcs
-pub record IsLatest (start : Option ℕ) (arrivals : List (Option ℕ)) (arcs : List TimedArc) (latest : Option ℕ) : Type 0 where
-  pub is : (latest ≡ start) ⊎ ((x : TimedArc) × IsThere arcs x × (latest ≡ arrival_by arrivals x))
-  pub start : IsBy start latest
+pub record IsLatest (initial : Option ℕ) (arrivals : List (Option ℕ)) (arcs : List TimedArc) (latest : Option ℕ) : Type 0 where
+  pub is : (latest ≡ initial) ⊎ ((x : TimedArc) × IsThere arcs x × (latest ≡ arrival_by arrivals x))
+  pub start : IsBy initial latest
   pub each : (x : TimedArc) → IsThere arcs x → IsBy (arrival_by arrivals x) latest
 
 -- where paths start, there they arrive at 0

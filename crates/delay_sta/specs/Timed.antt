@@ -7,7 +7,7 @@ use Rattle.net_core.specs.declared.pins.ModelPins.{ModelPins}
 use Rattle.net_core.specs.Places.{Stands, IsThere, NoneTwice}
 use Rattle.net_core.specs.Netlist.{Instance, Netlist}
 use Rattle.net_core.specs.Checks.{Fits, Passes}
-use Rattle.delay_sta.specs.declared.delays.Delays.{Delays}
+use Rattle.delay_sta.specs.declared.arrivals.Delays.{Delays}
 use Rattle.delay_sta.specs.Loads.{load}
 use Rattle.delay_sta.specs.Paths.{Step, IsStep, BeginsThere, GoesThrough, Arrives, IsEnd, IsGreatest}
 

@@ -1,11 +1,11 @@
 // The timing graph of a netlist: the arcs of its instances, between classes.
-ghost use Rattle.std.specs.Prelude.{◌≡◌, ◌↔◌, ◌<◌, ℕ, [], Some, length, slice_index, IsTrue, IfOk, OnOk, IfSome};
+ghost use Rattle.std.specs.Prelude.{◌≡◌, ◌↔◌, ◌<◌, ℕ, [], length, slice_index, IsTrue, IfOk, OnOk, IfSome};
 ghost use Rattle.std.specs.List.{All};
 ghost use Rattle.cell_model.specs.View.{function_view};
 ghost use Rattle.net_core.specs.Netlist.{IsNetlist, pin_of, IsClassOf};
 ghost use Rattle.delay_sta.specs.Loads.{load};
 ghost use Rattle.delay_sta.specs.Paths.{HasPin};
-ghost use Rattle.delay_sta.specs.Graph.{AreFound, IsWay, IsTimedAt, IsShort, AddsArcs, AreTimedArcs, AreGrouped};
+ghost use Rattle.delay_sta.specs.Graph.{AreFound, IsWay, IsFoundAs, IsShort, AddsArcs, AreTimedArcs, AreGrouped};
 
 use crate::arc::arc_delay;
 use cell_checks::Library;
@@ -85,7 +85,7 @@ fn timed_arc(
     requires sound { IsNetlist netlist.now }
     requires each { length loads.now ≡ netlist.now.count }
     ensures short { IfOk result (λ found. IfSome found IsShort) }
-    ensures found { IfOk result (λ found. (x : _) → (found ≡ Some x) ↔ IsTimedAt netlist.now (slice_index loads.now) owner.now cell.now arc.now x) }
+    ensures found { IfOk result (IsFoundAs netlist.now (slice_index loads.now) owner.now cell.now arc.now) }
 {
     let Some(begins) = way(cell.function.as_enum(), &arc.from) else {
         return Ok(None);

@@ -1,10 +1,12 @@
 //! How long the paths through a netlist of cells take.
 #![tactic(auto)]
 
+mod analysis;
 mod arc;
-mod delays;
+mod arrivals;
 mod graph;
 mod loads;
 mod settle;
 
-pub use delays::{Delays, delays, worst};
+pub use analysis::delays;
+pub use arrivals::{Delays, worst};

@@ -1,14 +1,15 @@
-// How long the paths through a netlist take.
-ghost use Rattle.std.specs.Prelude.{◌≡◌, ◌↔◌, ◌⊎◌, ◌<◌, ◌≤◌, ℕ, None, length, slice_index, slice_index_or, IsTrue, IfOk, OnOk};
+// When paths arrive in the classes of a netlist.
+ghost use Rattle.std.specs.Prelude.{◌≡◌, ◌↔◌, ◌⊎◌, ◌<◌, ◌≤◌, ℕ, None, false, length, slice_index, slice_index_or, IsTrue, IfOk, OnOk};
 ghost use Rattle.std.specs.Option.{option_copied};
-ghost use Rattle.cell_model.specs.Library.{Library as Cells};
-ghost use Rattle.net_core.specs.Netlist.{Netlist as InMemory, IsNetlist};
+ghost use Rattle.cell_checks.specs.Checked.{IsChecked};
+ghost use Rattle.net_core.specs.Netlist.{IsNetlist};
 ghost use Rattle.net_core.specs.Places.{IsThere};
 ghost use Rattle.delay_sta.specs.Loads.{load};
-ghost use Rattle.delay_sta.specs.Paths.{IsEnd, Arrives, IsGreatest, IsWorst};
+ghost use Rattle.delay_sta.specs.Paths.{IsEnd, Arrives, IsGreatest};
 ghost use Rattle.delay_sta.specs.Graph.{AreFound, AreStartsOf, IsStartPort, data_pin, IsDataClass, IsOutputBefore};
 ghost use Rattle.delay_sta.specs.Timed.{CanBeTimed, IsPathOrder, AreDelaysOf};
 
+use crate::arrivals::Delays;
 use crate::graph::{class_of, grouped, timed_arcs};
 use crate::loads::{cell_places, loads};
 use crate::settle::settle;
@@ -18,42 +19,6 @@ use cell_pins::pin_table;
 use net_core::{Netlist, class_order};
 use std::alloc::{AllocError, Global};
 use vlsi_base::{Dir, Name, Port, Text, is_supply};
-
-/// When paths arrive in the classes of a netlist.
-#[derive(Drop)]
-pub struct Delays {
-    // The greatest arrival of each class, in femtoseconds; none where no path comes to it.
-    arrivals: Vec<Option<u128>>,
-    // The load of each class, in femtofarads.
-    loads: Vec<u64>,
-    // The classes at which paths end.
-    ends: Vec<u32>,
-    // The classes, each behind those from which paths go on to it.
-    order: Vec<u32>,
-}
-
-impl Delays {
-    /// The greatest arrival of each class, in femtoseconds; none where no path comes to it. Takes no memory.
-    pub fn arrivals(&self) -> &[Option<u128>]
-        ensures { result.now ≡ self.now.arrivals.items }
-    {
-        &self.arrivals
-    }
-
-    /// The load of each class, in femtofarads. Takes no memory.
-    pub fn loads(&self) -> &[u64]
-        ensures { result.now ≡ self.now.loads.items }
-    {
-        &self.loads
-    }
-
-    /// The classes, each behind those from which paths go on to it. Takes no memory.
-    pub fn order(&self) -> &[u32]
-        ensures { result.now ≡ self.now.order.items }
-    {
-        &self.order
-    }
-}
 
 fn is_start(port: &Port) -> bool
     ensures { IsTrue result ↔ IsStartPort port.now }
@@ -146,7 +111,8 @@ fn path_order(
     netlist: &Netlist,
     library: &Library,
 ) -> Result<Vec<u32>, AllocError>
-    requires { CanBeTimed library.now netlist.now }
+    requires checked { IsChecked false library.now }
+    requires netlist { CanBeTimed library.now netlist.now }
     ensures { IfOk result (λ order. IsPathOrder netlist.now library.now order.items) }
 {
     let table = pin_table(alloc, library, false)?;
@@ -188,8 +154,8 @@ pub fn delays(alloc: Global, netlist: &Netlist, library: &Library) -> Result<Del
 {
     // Its classes aren't read here: the call says that the netlist is sound.
     let _ = netlist.classes();
-    let order = path_order(alloc, netlist, library)?;
     let places = cell_places(alloc, netlist.models(), library.cells())?;
+    let order = path_order(alloc, netlist, library)?;
     let loads = loads(alloc, netlist, library, &places)?;
     let arrivals = arrivals(alloc, netlist, library, &places, &loads, &order)?;
     let ends = ends(alloc, netlist, library, &places)?;
@@ -199,18 +165,4 @@ pub fn delays(alloc: Global, netlist: &Netlist, library: &Library) -> Result<Del
         ends,
         order,
     })
-}
-
-/// The greatest time, in femtoseconds, of all paths that end at an output port or at the data pin of a flip-flop; 0 where there is
-/// none. Takes no memory, and time for each such end.
-pub fn worst(delays: &Delays) -> u128
-    ensures { (n : InMemory) (l : Cells) → AreDelaysOf n l delays.now → IsWorst n l result }
-{
-    let mut worst = 0;
-    for class in &delays.ends {
-        if let Some(Some(time)) = delays.arrivals.get(*class as usize) {
-            worst = worst.max(*time);
-        }
-    }
-    worst
 }
