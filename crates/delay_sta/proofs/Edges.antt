@@ -18,6 +18,7 @@ use Rattle.net_core.specs.Netlist.{Instance, Netlist, IsNetlist, port, pin_of, p
 use Rattle.net_core.proofs.Frames.{mapped, unmapped}
 use Rattle.net_core.proofs.Finishing.{class_once}
 use Rattle.net_core.proofs.Rings.{class_below}
+use Rattle.net_core.proofs.Namings.{turn_below}
 use Rattle.net_core.proofs.Standing.{Split, left, right, split, stands_left, stands_same}
 use Rattle.delay_sta.specs.declared.arrivals.Delays.{Delays}
 use Rattle.delay_sta.specs.Paths.{Step, Leads, starts, begins, goes_on, TakesTo, IsStep, IsStart, IsEnd, at_port, at_data, Arrives, Ends, IsGreatest, IsWorst}
@@ -48,6 +49,12 @@ ports_few n sound = by (cases_lt (length n.classes) (length n.ports)) where
       let w = slice_get_within (terminals n) (length n.classes) (port p.0.name) s in
       let e = sound.each in
       absurd (omega (arith, w, e))
+
+pub classes_low : (n : Netlist) → IsNetlist n → All (λ class. class < n.count) n.classes
+classes_low n sound = turn_below 0 n.count n.classes sound.turns
+
+pub class_low : (n : Netlist) → IsNetlist n → (k : ℕ) → k < length n.ports → get_or n.classes k 0 < n.count
+class_low n sound k l = let few = ports_few n sound in classes_low n sound k 0 (omega (arith, l, few))
 
 -- ---- where paths start
 

@@ -1,13 +1,14 @@
 -- Arrivals of classes, settled along an order of them.
 use Rattle.std.proofs.Common.{◌≡◌, ◌≢◌, ◌⊎◌, inl, inr, ℕ, zero, suc, ◌+◌, ◌*◌, ◌^◌, ◌<◌, ◌≤◌, Bool, true, false, cond, List, [], ◌∷◌, ◌++◌, map, length, get_or, take, nat_eq, Option, Some, None, refl, sym, ap, subst, ◌∙◌, arith}
-use Rattle.std.specs.Prelude.{slice_set}
+use Rattle.std.specs.Prelude.{slice_set, IfSome}
 use Rattle.std.specs.List.{sum_by, All}
 use Rattle.std.specs.Global.{Vec}
 use Rattle.std.proofs.lemmas.List.{take_more, get_or-set_same, get_or-set_other, length-set, length-map, get_or_past}
 use Rattle.std.proofs.lemmas.List.Sums.{sum_by-cons}
 use Rattle.std.proofs.lemmas.Bool.{cases_lt, eqb-true, eq-eqb}
-use Rattle.std.proofs.lemmas.Option.{slice_get_within}
+use Rattle.std.proofs.lemmas.Option.{slice_get_within, slice_get-get_or}
 use Rattle.net_core.specs.Places.{Stands, IsThere, NoneTwice}
+use Rattle.net_core.proofs.Rings.{each_there}
 use Rattle.net_core.proofs.Standing.{Split, left, right, split, stands_left, stands_last, only_one, stands_same}
 use Rattle.delay_sta.specs.declared.graph.TimedArc.{TimedArc}
 use Rattle.delay_sta.specs.Paths.{Step, Leads, starts, begins, goes_on, TakesTo, IsGreatest}
@@ -227,6 +228,30 @@ module _ (groups : List (Vec TimedArc)) (order : List ℕ) (old now : List (Opti
       by : At d → time ≤ (k + 1) * 2 ^ 96
       by (inl same) = small_here time (sym at_class ∙ ap (λ c. get_or new c None) (sym same) ∙ e)
       by (inr ne) = let m = before.small d time (sym (elsewhere d ne) ∙ e) in omega (arith, m)
+
+-- a class of the order has a place
+pub class_inside : (groups : List (Vec TimedArc)) (order : List ℕ) (count k : ℕ) → IsGraph groups order count → k < length order → get_or order k 0 < count
+class_inside groups order count k graph l = graph.inside (get_or order k 0) (k, slice_get-get_or order k 0 l)
+
+-- what taking the latest of a group asks for
+pub inside_at : (groups : List (Vec TimedArc)) (order : List ℕ) (old now : List (Option ℕ)) (k class : ℕ) (arcs : List TimedArc) → IsGraph groups order (length old) → Settling groups order old now k → arcs ≡ group_of groups class
+    → All (λ x. x.from < length now) arcs
+inside_at groups order old now k class arcs graph before e = each_there (λ (x : TimedArc). x.from < length now) arcs (λ x t.
+    let l = graph.from class x (subst (λ (xs : List TimedArc). IsThere xs x) e t) in
+    let m = before.many in omega (arith, l, m))
+
+pub few_at : (groups : List (Vec TimedArc)) (order : List ℕ) (old now : List (Option ℕ)) (k class : ℕ) (arcs : List TimedArc) → IsGraph groups order (length old) → Settling groups order old now k → k < length order → arcs ≡ group_of groups class
+    → All (λ x. IfSome (get_or now x.from None) (λ t. t + x.delay < 2 ^ 128)) arcs
+few_at groups order old now k class arcs graph before less e = each_there (λ (x : TimedArc). IfSome (get_or now x.from None) (λ t. t + x.delay < 2 ^ 128)) arcs each where
+  each : (x : TimedArc) → IsThere arcs x → IfSome (get_or now x.from None) (λ t. t + x.delay < 2 ^ 128)
+  each x t = by (get_or now x.from None) refl where
+    by : (o : Option ℕ) → get_or now x.from None ≡ o → IfSome o (λ t. t + x.delay < 2 ^ 128)
+    by None f = tt
+    by (Some u) f =
+        let m = before.small x.from u f in
+        let s = graph.short class x (subst (λ (xs : List TimedArc). IsThere xs x) e t) in
+        let n = graph.few in
+        omega (arith, m, s, n, less)
 
 -- ---- what is settled
 

@@ -59,8 +59,10 @@ fn output_classes(alloc: Global, ports: &[Port], classes: &[u32]) -> Result<Vec<
 {
     let mut ends = Vec::new(alloc);
     for k in 0..ports.len() {
-        if ports[k].dir == Dir::Out {
-            ends.push(classes[k])?;
+        let port = &ports[k];
+        match port.dir {
+            Dir::In => {}
+            Dir::Out => ends.push(classes[k])?,
         }
     }
     Ok(ends)
