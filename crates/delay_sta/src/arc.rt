@@ -21,13 +21,21 @@ fn later(latest: Option<u128>, time: Option<u32>, drag: u128) -> Option<u128>
     }
 }
 
+/// What a load adds to each edge behind a resistance.
+fn drag(resistance: u32, load: u64) -> u128
+    ensures value { result ≡ resistance * load }
+    ensures few { result ≤ (2 ^ 32 - 1) * (2 ^ 64 - 1) }
+{
+    u128::from(resistance) * u128::from(load)
+}
+
 /// How long an arc takes with a load in femtofarads, in femtoseconds: its slowest edge.
 pub fn arc_delay(arc: &Arc, load: u64) -> u128
     ensures value { result ≡ arc_delay arc.now load }
     ensures short { result < 2 ^ 96 }
 {
-    let fall = u128::from(arc.rdown) * u128::from(load);
-    let rise = u128::from(arc.rup) * u128::from(load);
+    let fall = drag(arc.rdown, load);
+    let rise = drag(arc.rup, load);
     let latest = later(None, arc.tar, rise);
     let latest = later(latest, arc.tphh, rise);
     let latest = later(latest, arc.tplh, rise);
