@@ -2,12 +2,13 @@
 """Makes a circuit of two-input gates and registers, and patterns for it: as data-flow VHDL with a pattern file, and as
 Verilog with a test bench that gives the same vectors and prints the outputs.
 
-Usage: bench/asimut_inputs.py GATES PATTERNS FOLDER [SEED] [--nands | --blocks]
+Usage: bench/asimut_inputs.py GATES PATTERNS FOLDER [SEED] [--nands | --blocks | --chain | --wide]
 
 Writes c.vbe, p.pat, c.v and vectors.txt into the folder. One gate in fifty feeds a register; all have one clock, and it
 rises in every other pattern. With --nands all gates are nands and there are 16 registers, so that 16,000 gates are within
 the size of a source that is mapped. With --blocks they stand besides in blocks of 256, each over the inputs and a register
-of its own, so that diagrams stay small.
+of its own, so that diagrams stay small. With --chain all operators stand in one equation, one over the other. With --wide
+there are a vector of GATES bits that go in and one of as many that come out, with one gate between two bits.
 """
 import pathlib
 import random
@@ -42,6 +43,38 @@ def circuit(gates, choose, kinds=KINDS, count=None):
     return made, [(r, f"g{choose.randrange(gates)}") for r in registers]
 
 
+def chain(gates, choose):
+    """One equation over the inputs and a register, and that register; as text, since it is one gate of many operands."""
+    names = INPUTS + ["r0"]
+    operands = [choose.choice(names) for _ in range(gates + 1)]
+    lines = [" xor ".join(operands[k : k + 20]) for k in range(0, len(operands), 20)]
+    return "\n  xor ".join(lines)
+
+
+def chain_texts(gates, choose):
+    operands = chain(gates, choose)
+    source = (
+        "entity c is port (ck : in bit; d : in bit_vector (7 downto 0); q : out bit_vector (7 downto 0)); end c;\n"
+        "architecture vbe of c is\n  signal r0 : reg_bit register;\n  signal g : bit;\nbegin\n"
+        f"g <= {operands};\nstate : block (ck and not ck'stable) begin\nr0 <= guarded g;\nend block;\n"
+    )
+    source += "".join(f"q({k}) <= g xor d({k});\n" for k in range(8)) + "end vbe;\n"
+    right = operands.replace("xor", "^").replace("(", "[").replace(")", "]")
+    outputs = "".join(f"assign q[{k}] = g ^ d[{k}];\n" for k in range(8))
+    circuit_text = f"module c(input ck, input [7:0] d, output [7:0] q);\nreg r0 = 0;\nwire g = {right};\nalways @(posedge ck) r0 <= g;\n{outputs}endmodule\n"
+    return source, circuit_text
+
+
+def wide_texts(width, choose):
+    last = width - 1
+    pairs = [(k, choose.choice(["and", "or", "xor", "nand", "nor", "xnor"]), choose.randrange(width)) for k in range(width)]
+    ports = f"ck : in bit; d : in bit_vector ({last} downto 0); q : out bit_vector ({last} downto 0)"
+    source = f"entity c is port ({ports}); end c;\narchitecture vbe of c is\nbegin\n"
+    source += "".join(f"q({k}) <= d({k}) {kind} d({other});\n" for k, kind, other in pairs) + "end vbe;\n"
+    assigns = "".join(f"assign q[{k}] = {VERILOG[kind].format(f'd[{k}]', f'd[{other}]')};\n" for k, kind, other in pairs)
+    return source, f"module c(input ck, input [{last}:0] d, output [{last}:0] q);\n{assigns}endmodule\n"
+
+
 def signals(names, kind):
     """Declarations of ten names a line."""
     return "".join(f"  signal {', '.join(names[k : k + 10])} : {kind};\n" for k in range(0, len(names), 10))
@@ -70,12 +103,12 @@ def verilog(made, registers):
     lines += [f"{r} <= {gate};\n" for r, gate in registers]
     lines.append("end\n")
     lines += [f"assign q[{k}] = {made[-1 - k][0]};\n" for k in range(8)]
-    return "".join(lines) + "endmodule\n" + BENCH
+    return "".join(lines) + "endmodule\n"
 
 
 # The inputs settle before the clock rises, and the outputs are shown when all has settled again.
 BENCH = """module bench;
-reg ck = 0; reg [7:0] d = 0; wire [7:0] q; integer file, got; reg [7:0] next_d; reg next_ck;
+reg ck = 0; reg [LAST:0] d = 0; wire [LAST:0] q; integer file, got; reg [LAST:0] next_d; reg next_ck;
 c dut(ck, d, q);
 initial begin
   file = $fopen("vectors.txt", "r");
@@ -91,20 +124,28 @@ endmodule
 
 
 def main():
-    words = [word for word in sys.argv[1:] if word not in ("--nands", "--blocks")]
+    words = [word for word in sys.argv[1:] if not word.startswith("--")]
     gates, patterns, folder = int(words[0]), int(words[1]), pathlib.Path(words[2])
     choose = random.Random(f"{words[3] if len(words) > 3 else 1} {gates} {patterns}")
-    if "--blocks" in sys.argv:
-        made, registers = blocks(gates, choose)
+    width = gates if "--wide" in sys.argv else 8
+    if "--wide" in sys.argv:
+        source, module = wide_texts(gates, choose)
+    elif "--chain" in sys.argv:
+        source, module = chain_texts(gates, choose)
     else:
-        made, registers = circuit(gates, choose, ["nand"], 16) if "--nands" in sys.argv else circuit(gates, choose)
-    vectors = [(k % 2, choose.getrandbits(8)) for k in range(patterns)]
-    rows = "".join(f"< {k} ns> : {ck} {d:02x} ?*;\n" for k, (ck, d) in enumerate(vectors))
+        if "--blocks" in sys.argv:
+            made, registers = blocks(gates, choose)
+        else:
+            made, registers = circuit(gates, choose, ["nand"], 16) if "--nands" in sys.argv else circuit(gates, choose)
+        source, module = vhdl(made, registers), verilog(made, registers)
+    digits, last = (width + 3) // 4, width - 1
+    vectors = [(k % 2, f"{choose.getrandbits(width):0{digits}x}") for k in range(patterns)]
+    rows = "".join(f"< {k} ns> : {ck} {d} ?*;\n" for k, (ck, d) in enumerate(vectors))
     texts = {
-        "c.vbe": vhdl(made, registers),
-        "p.pat": f"in ck;\nin d (7 downto 0) X;\nout q (7 downto 0) X;\nbegin\n{rows}end;\n",
-        "c.v": verilog(made, registers),
-        "vectors.txt": "".join(f"{ck} {d:02x}\n" for ck, d in vectors),
+        "c.vbe": source,
+        "p.pat": f"in ck;\nin d ({last} downto 0) X;\nout q ({last} downto 0) X;\nbegin\n{rows}end;\n",
+        "c.v": module + BENCH.replace("LAST", str(last)),
+        "vectors.txt": "".join(f"{ck} {d}\n" for ck, d in vectors),
     }
     for name, text in texts.items():
         (folder / name).write_text(text)
