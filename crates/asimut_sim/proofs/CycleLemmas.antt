@@ -144,3 +144,27 @@ writes_next from values old now after k v room h is e w =
 
 pub writes_ends : (from : ℕ) (values old now : List Bool) (k : ℕ) → length values ≤ k → Writes from values old now k → (j : ℕ) → j < length values → bit now (from + j) ≡ bit values j
 writes_ends from values old now k h w j l = w.written j (omega (arith, h, l))
+
+pub held_many : (f : FlatMachine) → IsFlat f → (i s : List Bool) → length i ≡ length (inputs f.machine.now) → length s ≡ length f.machine.now.registers
+    → 2 + length i + length s ≡ f.settling.start
+held_many f flat i s hi hs =
+    let m = f.machine.now in
+    let start = flat.start in
+    omega (arith, start, length-append (inputs m) (register_names m), length-map m.registers (λ r. r.name), hi, hs)
+
+pub constants_kept : (a b c : List Bool) (n : ℕ) → 2 ≤ n → HasConstants a → ((k : ℕ) → k < 2 → bit b k ≡ bit a k) → ((k : ℕ) → k < n → bit c k ≡ bit b k) → HasConstants c
+constants_kept a b c n h constants first second = record {
+  zero = second 0 (omega (arith, h)) ∙ first 0 (omega arith) ∙ constants.zero;
+  one = second 1 (omega (arith, h)) ∙ first 1 (omega arith) ∙ constants.one;
+}
+
+-- the inputs and then the contents are written, and the operators are run
+pub settled : BuiltSettles → (f : FlatMachine) → IsFlat f → (b c d i s : List Bool) → length i ≡ length (inputs f.machine.now) → length s ≡ length f.machine.now.registers
+    → ((k : ℕ) → k < length i → bit b (2 + k) ≡ bit i k) → ((k : ℕ) → k < 2 + length i → bit c k ≡ bit b k)
+    → ((k : ℕ) → k < length s → bit c (2 + length i + k) ≡ bit s k) → ((k : ℕ) → k < f.settling.start → bit d k ≡ bit c k) → Obeys f.settling d
+    → Settles f.machine.now s i (bits_of d f.vars.items)
+settled law f flat b c d i s hi hs inputs_are kept contents_are before obeys =
+    let many = held_many f flat i s hi hs in
+    settles_from law f flat d i s hi hs obeys
+    (λ k l. before (2 + k) (omega (arith, many, l)) ∙ kept (2 + k) (omega (arith, l)) ∙ inputs_are k l)
+    (λ k l. before (2 + length i + k) (omega (arith, many, l)) ∙ contents_are k l)

@@ -1,5 +1,5 @@
 -- Expressions on the way into a program.
-use Rattle.std.proofs.Common.{◌≡◌, ℕ, ◌+◌, ◌<◌, ◌≤◌, Bool, List, [], ◌∷◌, ◌++◌, map, length, drop, get_or, refl, sym, ◌∙◌, ap, subst, arith, Option, Some, option_to_list, false, if◌then◌else◌}
+use Rattle.std.proofs.Common.{◌≡◌, ℕ, ◌+◌, ◌<◌, ◌≤◌, Bool, List, [], ◌∷◌, ◌++◌, map, length, drop, length-drop, get_or, refl, sym, ◌∙◌, ap, subst, arith, Option, Some, option_to_list, false, if◌then◌else◌}
 use Rattle.std.specs.List.{All}
 use Rattle.std.proofs.lemmas.List.{get_or-map, map_push, length_push, length-map}
 use Rattle.std.proofs.lemmas.List.Elements.{All-nil, All-push, All-pop, All-weaker}
@@ -167,12 +167,13 @@ down_choice first p q r vars e rest condition one other steps items place at pus
 pub record Lays (first p : Program) (start vars : List ℕ) (equations : List EquationParts) (i : ℕ) : Type 0 where
   pub goes_on : GoesOn first p
   pub within : AreBelow (extent p) vars
+  pub many : length vars + length (drop i equations) ≡ length start + length equations
   pub reads : EachReadsBelow (length vars) (map equation_view (drop i equations))
   pub values : (a : List Bool) → Obeys p a → built (bits_of a vars) (map equation_view (drop i equations)) ≡ built (bits_of a start) (map equation_view equations)
 
 pub lays_begins : (p : Program) (vars : List ℕ) (equations : List EquationParts) → IsProgram p → AreBelow (extent p) vars
     → EachReadsBelow (length vars) (map equation_view equations) → Lays p p vars vars equations 0
-lays_begins p vars equations program within reads = record { goes_on = goes_on_itself p program; within = within; reads = reads; values = λ a h. refl }
+lays_begins p vars equations program within reads = record { goes_on = goes_on_itself p program; within = within; many = refl; reads = reads; values = λ a h. refl }
 
 pub lays_over : (first p : Program) (start vars : List ℕ) (equations : List EquationParts) (i : ℕ) (e : EquationParts) → i < length equations → e ≡ get_or equations i e
     → Lays first p start vars equations i → IsOver (view e.expr) (length vars)
@@ -186,11 +187,15 @@ lays_next first p q start vars items equations i e place h is pushed c l =
     let rest = map equation_view (drop (i + 1) equations) in
     let P : List Equation → Type 0 = λ x. EachReadsBelow (length vars) x in
     let many : length items ≡ length vars + 1 = ap length pushed ∙ length_push vars place in
+    let before = l.many in
+    let left = length-drop i equations in
+    let fewer = length-drop (i + 1) equations in
     let Q : ℕ → Type 0 = λ n. EachReadsBelow n rest in
     let R : List ℕ → Type 0 = λ x. AreBelow (extent q) x in
     record {
       goes_on = goes_on_further first p q l.goes_on c.goes_on;
       within = subst R (sym pushed) (All-push (λ k. k < extent q) vars place (below_weaker (extent p) (extent q) vars (extent_grows p q c.goes_on) l.within) c.within);
+      many = omega (arith, many, before, left, fewer, h);
       reads = subst Q (sym many) (subst P (rest-cons equations i e h is) l.reads).1;
       values = λ a o.
           ap (λ (x : List ℕ). built (bits_of a x) rest) pushed
@@ -205,5 +210,10 @@ pub lays_ends : (first p : Program) (start vars : List ℕ) (equations : List Eq
 lays_ends first p start vars equations i none l = record {
   goes_on = l.goes_on;
   within = l.within;
+  many =
+      let before = l.many in
+      let left : length (drop i equations) ≡ 0 = ap length none in
+      let all = length-map equations equation_view in
+      omega (arith, before, left, all);
   values = λ a h. sym (ap (λ (x : List EquationParts). built (bits_of a vars) (map equation_view x)) none) ∙ l.values a h;
 }

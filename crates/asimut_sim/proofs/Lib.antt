@@ -12,3 +12,4 @@ pub mod ProgramLemmas
 pub mod LayoutLemmas
 pub mod LoadsLemmas
 pub mod CycleLemmas
+pub mod FlatLemmas

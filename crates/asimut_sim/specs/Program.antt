@@ -60,4 +60,5 @@ pub record Ascends (old new : Program) (steps : List Step) (inner place : ℕ) :
 pub record ComputesEach (old new : Program) (vars places : List ℕ) (equations : List Equation) : Type 0 where
   pub goes_on : GoesOn old new
   pub within : AreBelow (extent new) places
+  pub many : length places ≡ length vars + length equations
   pub values : (a : List Bool) → Obeys new a → bits_of a places ≡ built (bits_of a vars) equations

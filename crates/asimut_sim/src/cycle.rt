@@ -34,7 +34,6 @@ fn settle(flat: &FlatMachine, inputs: &[bool], contents: &[bool], bits: &mut [bo
     ensures bits { IsArray flat.now bits.new }
 {
     built_settles();
-    let _vars = flat.machine.vars();
     write(bits, 2, inputs);
     write(bits, 2 + inputs.len(), contents);
     flat.settling.run(bits);

@@ -28,7 +28,8 @@ fn ascend_one(program: &mut Program, step: Step, inner: u32) -> Result<u32, Allo
     requires inner { inner < extent program.old }
     ensures { IfOk result (λ place. Ascends program.old program.new (step ∷ []) inner place) }
 {
-    program.push(step_operator(step, inner))
+    let place = program.push(step_operator(step, inner))?;
+    Ok(place)
 }
 
 // The steps' operators, the last one first, from the operand that it lacks.
@@ -55,7 +56,8 @@ fn lay(alloc: Global, program: &mut Program, e: &Expr, vars: &[u32]) -> Result<u
     ensures { IfOk result (λ place. Computes program.old program.new vars.now (view e.now) place) }
 {
     let (steps, inner) = descend(alloc, program, e, vars)?;
-    ascend(program, steps, inner)
+    let place = ascend(program, steps, inner)?;
+    Ok(place)
 }
 
 // The steps down to the variable or constant at the end of the chain, and its place. The other operands are laid out.
