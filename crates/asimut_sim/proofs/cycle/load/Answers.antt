@@ -2,6 +2,7 @@ use Rattle.std.proofs.Common.{◌≡◌, ◌∙◌, List, ap, sym, subst, rules,
 use Rattle.std.specs.List.{All}
 use Rattle.asimut_sim.specs.declared.layout.Load.{Load}
 use Rattle.asimut_sim.specs.Flat.{IsLoadBelow, held_after}
+use Rattle.asimut_sim.specs.Program.{extent}
 use Rattle.asimut_sim.proofs.CycleLemmas.{loads_from, as_many_contents}
 use Rattle.asimut_sim.proofs.LoadsLemmas.{loads_weaker}
 use Rattle.asimut_sim.proofs.cycle.load.Goals as goal
@@ -20,7 +21,7 @@ load_all-requires-clause-below c =
     let size = c.requires.bits.size in
     let more = c.run.auto.bits in
     let P : List Load → Type 0 = λ x. All (IsLoadBelow (length c.run.new.bits)) x in
-    subst P (sym c.deref.ensures.value) (loads_weaker _ (length c.run.new.bits) _ (omega (arith, size, more)) c.requires.flat.loads_within)
+    subst P (sym c.deref.ensures.value) (loads_weaker (extent c.args.flat.now.loading) (length c.run.new.bits) c.args.flat.now.loads.items (omega (arith, size, more)) c.requires.flat.loads_within)
 
 pub load_all-requires-clause-lengths : goal.load_all-requires-clause-lengths
 load_all-requires-clause-lengths c =

@@ -1,4 +1,4 @@
-use Rattle.std.proofs.Common.{◌∙◌, arith}
+use Rattle.std.proofs.Common.{◌∙◌, ◌+◌, length, arith}
 use Rattle.asimut_sim.proofs.CycleLemmas.{held_many, settling_fits, constants_kept, settled}
 use Rattle.asimut_sim.proofs.cycle.settle.Goals as goal
 
@@ -26,7 +26,7 @@ run-requires-clause-room c =
     omega (arith, room, size, more)
 
 pub run-requires-clause-constants : goal.run-requires-clause-constants
-run-requires-clause-constants c = constants_kept c.args.bits.now c.write.new.bits c.write-2.new.bits _ (omega arith) c.requires.bits.constants c.write.ensures.before c.write-2.ensures.before
+run-requires-clause-constants c = constants_kept c.args.bits.now c.write.new.bits c.write-2.new.bits (2 + length c.args.inputs.now) (omega arith) c.requires.bits.constants c.write.ensures.before c.write-2.ensures.before
 
 pub returns-clause-settles : goal.returns-clause-settles
 returns-clause-settles c =
