@@ -33,7 +33,6 @@ fn first_places(alloc: Global, count: usize) -> Result<Vec<u32>, AllocError>
 
 /// The flat machine of a machine. It takes memory for each name and each operator; places past 2^32 count as memory that
 /// there isn't.
-#[tactic(none)]
 pub(crate) fn flatten<'a>(
     alloc: Global,
     machine: &'a Machine,
@@ -59,7 +58,6 @@ pub(crate) fn flatten<'a>(
 }
 
 /// An array for the flat machine.
-#[tactic(none)]
 pub(crate) fn new_array(alloc: Global, flat: &FlatMachine) -> Result<Vec<bool>, AllocError>
     requires { IsFlat flat.now }
     ensures { IfOk result (λ bits. IsArray flat.now bits.items) }

@@ -43,7 +43,6 @@ fn is_rise(before: bool, now: bool) -> bool
     !before && now
 }
 
-#[tactic(none)]
 fn see(
     alloc: Global,
     flat: &FlatMachine,
@@ -116,7 +115,6 @@ fn shown_pattern(
 }
 
 // One pattern: what it comes to, filled in if that is what it expects.
-#[tactic(none)]
 fn pass(
     alloc: Global,
     flat: &FlatMachine,
@@ -142,7 +140,6 @@ fn pass(
     Ok(shown_pattern(alloc, columns, pattern, &seen)?)
 }
 
-#[tactic(none)]
 fn fill(
     alloc: Global,
     flat: &FlatMachine,
@@ -178,7 +175,6 @@ fn fill(
 /// expected, by pattern, then by column, then from the left. The machine is laid out as a list of operators; each of them is
 /// evaluated once where the clock doesn't rise, and at most twice where it does. It takes memory for what it answers, and
 /// while it runs for each operator, one bit a name, and an index of the names.
-#[tactic(none)]
 pub fn simulate(alloc: Global, machine: &Machine, patterns: &Patterns) -> Result<Patterns, SimError>
     requires { AreFor machine.now.ports patterns.now }
     ensures filled { IfOk result (λ out. IsFilled machine.now patterns.now out) }
