@@ -10,7 +10,7 @@ pub descend-returns-in-Const : goal.descend-returns-in-Const
 descend-returns-in-Const t c = down_constant _ _ _ _ _ _ _ _ (search rules) c.constant_place.ensures.before c.constant_place.ensures.value c.loop-rest.invariant.1
 
 pub descend-returns-in-Var : goal.descend-returns-in-Var
-descend-returns-in-Var t c = down_variable _ _ _ _ _ _ c.in-Var.k.now _ (search rules) refl c.requires.vars c.loop-rest.invariant.1
+descend-returns-in-Var t c = down_variable _ _ _ _ _ _ c.in-Var.k _ (search rules) refl c.requires.vars c.loop-rest.invariant.1
 
 pub descend-loop-rest-preserved-in-Not : goal.descend-loop-rest-preserved-in-Not
 descend-loop-rest-preserved-in-Not t c =
