@@ -27,7 +27,7 @@ from vst import FILE, netlist
 HERE = pathlib.Path(__file__).resolve().parent
 EXAMPLES = HERE.parent / "examples"
 CELLS = [*flow.FIVE, "inv_x2", "no2_x1", "sff1_x8", "xr2_x1"]
-LAYOUTS, CHUNK, MOST_SIZE = 10, 1, 90
+LAYOUTS, CHUNK, MOST_SIZE = 5, 1, 90
 TO_NETLIST = ["cougar", "r.ap", "-l", "lib", "-o", "n"]
 TO_COMPARE = ["lvx", "n.vst", "-b", "n0.vst", "-l", "lib"]
 TO_SOURCE = ["flatbeh", "n.vst", "-l", "lib", "-o", "f"]

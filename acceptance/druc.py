@@ -23,7 +23,7 @@ from words import command, held, of_folder, trouble
 USAGE = "usage: alliance druc SOURCE.ap -l DIR\n"
 WORDS = ["druc", "r.ap", "-l", "lib"]
 WIDTH, GAP = 200, 200
-LAYOUTS, LADDERS, CHUNK = 500, 60, 50
+LAYOUTS, LADDERS, CHUNK = 300, 60, 50
 
 
 # ---- the second answer

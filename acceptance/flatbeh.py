@@ -29,7 +29,7 @@ from words import command, held, trouble
 HERE = pathlib.Path(__file__).resolve().parent
 USAGE = "usage: alliance flatbeh SOURCE.vst -l DIR -o NAME\n"
 WORDS = ["flatbeh", "r.vst", "-l", "lib", "-o", "r"]
-NETLISTS, SOURCES, CHUNK = 150, 40, 15
+NETLISTS, SOURCES, CHUNK = 75, 20, 15
 
 
 # ---- the second answer

@@ -21,7 +21,7 @@ from words import command, held, trouble
 
 USAGE = "usage: alliance lvx SOURCE.vst -b OTHER.vst -l DIR\n"
 WORDS = ["lvx", "a.vst", "-b", "b.vst", "-l", "lib"]
-NETLISTS, CHUNK = 100, 10
+NETLISTS, CHUNK = 60, 10
 
 
 # ---- the second answer

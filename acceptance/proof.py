@@ -27,7 +27,7 @@ HERE = pathlib.Path(__file__).resolve().parent
 EXAMPLES = HERE.parent / "examples"
 USAGE = "usage: alliance proof SOURCE.vbe -b OTHER.vbe [--nodes N]\n"
 WORDS = ["proof", "a.vbe", "-b", "b.vbe"]
-MACHINES, CHUNK, MOST_SIZE, MOST_NAMES = 80, 8, 300, 16
+MACHINES, CHUNK, MOST_SIZE, MOST_NAMES = 48, 8, 300, 16
 
 
 # ---- the second answer
