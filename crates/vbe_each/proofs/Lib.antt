@@ -1,0 +1,8 @@
+pub mod Counting
+pub mod Arranging
+pub mod Loops
+pub mod Orders
+mod Drivers
+mod Designs
+mod Trees
+mod Texts

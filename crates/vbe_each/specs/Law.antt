@@ -1,0 +1,16 @@
+-- Each source, and each text, has an answer. That none has two is said where texts are defined.
+use Rattle.std.specs.Prelude.{◌⊎◌, ℕ, List}
+use Rattle.vlsi_base.specs.declared.fault.ReadError.{ReadError}
+use Rattle.machine_meaning.specs.Machine.{Machine}
+use Rattle.source_meaning.specs.declared.statement.DesignFile.{DesignFile}
+use Rattle.source_meaning.specs.Checks.{Passes, IsRefusedFor}
+use Rattle.source_meaning.specs.Elaboration.{IsMachineOf}
+use Rattle.vbe_io.specs.Text.{IsVbe, Refused}
+
+-- A source passes its checks and has a machine, or there is a reason why it is none.
+abbrev pub EachDesign : Type 0
+EachDesign = (design : DesignFile) → (Passes design × ((m : Machine) × IsMachineOf design m)) ⊎ ((e : ReadError) × IsRefusedFor design e)
+
+-- Bytes are a text that is a machine, or they have a refusal.
+abbrev pub EachText : Type 0
+EachText = (bytes : List ℕ) → ((m : Machine) × IsVbe bytes m) ⊎ ((e : ReadError) × Refused bytes e)
