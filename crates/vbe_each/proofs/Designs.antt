@@ -97,7 +97,7 @@ machine_from design f o =
         registers = regs.moved;
         registers_order = regs.order;
         equations = o.moved;
-        earlier = o.earlier;
+        earlier = o.in_turn;
       }),
     )
 

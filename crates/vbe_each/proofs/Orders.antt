@@ -17,7 +17,7 @@ use Rattle.vbe_each.proofs.Loops.{Loop, EachReadsOne, loop_among, ring_reads}
 pub record Ordered (driven earlier : List Name) (rest : List Definition) : Type 0 where
   pub order : List Definition
   pub moved : IsPermutation rest order
-  pub earlier : EachReadsEarlier driven earlier order
+  pub in_turn : EachReadsEarlier driven earlier order
 
 -- ---- the next definition
 
@@ -85,37 +85,37 @@ each_reads_one defs rest earlier inside covered waits n i =
     let w = waits m.0 m.1 in
     (w.0, elim (covered w.0 w.2) [ inl a ↦ absurd (w.3 a) | inr b ↦ b ], (m.0, inside m.0 m.1, m.2, w.1))
 
+-- what an answer for all but the next definition makes of the answer for all
+with_next : (defs : List Definition) (driven earlier : List Name) (rest : List Definition) (r : Next driven earlier rest)
+    → Ordered driven (earlier ++ r.definition.name ∷ []) (r.front ++ r.back) ⊎ Loop defs → Ordered driven earlier rest ⊎ Loop defs
+with_next defs driven earlier rest r (inr l) = inr l
+with_next defs driven earlier rest r (inl o) =
+    let d = r.definition in
+    let moved = subst (λ (ds : List Definition). IsPermutation ds (d ∷ (r.front ++ r.back))) (sym r.is) (IsPermutation-middle r.front d r.back) in
+    inl (record {
+      order = d ∷ o.order;
+      moved = IsPermutation-trans rest (d ∷ (r.front ++ r.back)) (d ∷ o.order) moved (IsPermutation-cons d (r.front ++ r.back) o.order o.moved);
+      in_turn = (r.ready, o.in_turn);
+    })
+
 order_from : (count : ℕ) (defs rest : List Definition) (earlier : List Name) → length rest ≡ count → ((d : Definition) → In d rest → In d defs) → Covered (names_defined defs) earlier rest
     → Ordered (names_defined defs) earlier rest ⊎ Loop defs
-order_from zero defs [] earlier many inside covered = inl (record { order = []; moved = IsPermutation-refl []; earlier = tt })
+order_from zero defs [] earlier many inside covered = inl (record { order = []; moved = IsPermutation-refl []; in_turn = tt })
 order_from zero defs (a ∷ rest) earlier many inside covered = absurd (omega (arith, many))
 order_from (suc count) defs [] earlier many inside covered = absurd (omega (arith, many))
-order_from (suc count) defs (a ∷ rest) earlier many inside covered = by (next_or_none driven earlier all) where
-  driven : List Name
-  driven = names_defined defs
-
-  all : List Definition
-  all = a ∷ rest
-
-  more : (r : Next driven earlier all) → Ordered driven (earlier ++ r.definition.name ∷ []) (r.front ++ r.back) ⊎ Loop defs → Ordered driven earlier all ⊎ Loop defs
-  more r (inr l) = inr l
-  more r (inl o) =
-      let d = r.definition in
-      let moved = subst (λ (ds : List Definition). IsPermutation ds (d ∷ (r.front ++ r.back))) (sym r.is) (IsPermutation-middle r.front d r.back) in
-      inl (record {
-        order = d ∷ o.order;
-        moved = IsPermutation-trans all (d ∷ (r.front ++ r.back)) (d ∷ o.order) moved (IsPermutation-cons d (r.front ++ r.back) o.order o.moved);
-        earlier = (r.ready, o.earlier);
-      })
-
-  by : Next driven earlier all ⊎ ((d : Definition) → In d all → Waits driven earlier d) → Ordered driven earlier all ⊎ Loop defs
-  by (inr waits) = inr (loop_among defs (names_defined all) (each_reads_one defs all earlier inside covered waits) a.name here)
-  by (inl r) =
-      let d = r.definition in
-      let long : length all ≡ length (r.front ++ r.back) + 1 = ap (λ (ds : List Definition). length ds) r.is ∙ count_around d r.front r.back in
-      more r (order_from count defs (r.front ++ r.back) (earlier ++ d.name ∷ []) (omega (arith, long, many))
-      (λ e i. inside e (subst (λ (ds : List Definition). In e ds) (sym r.is) (inside_behind d e r.front r.back i)))
-      (covered_behind driven earlier r.front d r.back (subst (Covered driven earlier) r.is covered)))
+order_from (suc count) defs (a ∷ rest) earlier many inside covered =
+    let driven = names_defined defs in
+    let all = a ∷ rest in
+    elim (next_or_none driven earlier all) [
+      | inr waits ↦ inr (loop_among defs (names_defined all) (each_reads_one defs all earlier inside covered waits) a.name here)
+      | inl r ↦
+          let d = r.definition in
+          let long : length all ≡ length (r.front ++ r.back) + 1 = ap (λ (ds : List Definition). length ds) r.is ∙ count_around d r.front r.back in
+          with_next defs driven earlier all r
+          (order_from count defs (r.front ++ r.back) (earlier ++ d.name ∷ []) (omega (arith, long, many))
+          (λ e i. inside e (subst (λ (ds : List Definition). In e ds) (sym r.is) (inside_behind d e r.front r.back i)))
+          (covered_behind driven earlier r.front d r.back (subst (Covered driven earlier) r.is covered)))
+    ]
 
 pub order_or_loop : (defs : List Definition) → Ordered (names_defined defs) [] defs ⊎ Loop defs
 order_or_loop defs = order_from (length defs) defs defs [] refl (λ d i. i) (λ n i. inr i)
@@ -164,4 +164,4 @@ no_ring defs apart o (a ∷ rest) h =
     let each : EachReadsOne defs (a ∷ rest) = λ n i. let r = ring_reads defs a a rest h.1 n i in (r.0, elim r.1 [ inl same ↦ subst (λ (z : Name). In z (a ∷ rest)) same here | inr j ↦ there j ], r.2) in
     let first = each a here in
     let ordered : In a (names_defined o.order) = In-permutation (names_defined defs) (names_defined o.order) a (IsPermutation-map (λ (d : Definition). d.name) defs o.order o.moved) (reader_is defs a first.0 first.2) in
-    never_known defs (a ∷ rest) apart each [] o.order (λ d i. In-permutation o.order defs d (IsPermutation-sym defs o.order o.moved) i) (λ n i j. elim j [ ]) o.earlier a here (inr ordered)
+    never_known defs (a ∷ rest) apart each [] o.order (λ d i. In-permutation o.order defs d (IsPermutation-sym defs o.order o.moved) i) (λ n i j. elim j [ ]) o.in_turn a here (inr ordered)

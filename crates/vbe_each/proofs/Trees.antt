@@ -1,6 +1,7 @@
 -- What a grammar has read lies in memory somewhere: each tree is what some source is seen as.
 use Rattle.std.proofs.Common.{◌≡◌, List, [], ◌∷◌, map, refl, ap, ◌∙◌}
 use Rattle.std.specs.Ptr.{null_ptr}
+use Rattle.std.specs.Global.{Box}
 use Rattle.vlsi_base.specs.Tree.{Tree, bit, literal, name, index, slice, stable, inverse, binary, view}
 use Rattle.vlsi_base.specs.declared.expression.ParsedExpr.{ParsedExpr, Bit, Literal, Name, Index, Slice, Stable, Not', Binary'}
 use Rattle.source_meaning.specs.declared.statement.Guarded.{Guarded}
@@ -12,6 +13,10 @@ use Rattle.source_meaning.specs.declared.statement.Statement.TheVariants as stat
 use Rattle.source_meaning.specs.declared.statement.DesignFile.{DesignFile}
 use Rattle.vbe_text.specs.Source.{GuardedTree, ChoiceTree, AssignmentTree, BlockTree, StatementTree, asserted, assigned, blocked, SourceTree, guarded_view, choice_view, assignment_view, block_view, statement_view, source_view}
 
+-- where an expression lies has no effect
+somewhere : Box (Unit {0})
+somewhere = record { ptr = null_ptr; alloc = record { memory = record { seal = tt } }; value = tt }
+
 pub expr_of : Tree → ParsedExpr
 expr_of (bit b line) = Bit b line
 expr_of (literal radix digits line) = Literal radix digits line
@@ -19,8 +24,8 @@ expr_of (name text line) = Name text line
 expr_of (index text line n) = Index text line n
 expr_of (slice text line range) = Slice text line range
 expr_of (stable text line) = Stable text line
-expr_of (inverse line e) = Not' line null_ptr (expr_of e)
-expr_of (binary op line left right) = Binary' op line null_ptr (expr_of left) null_ptr (expr_of right)
+expr_of (inverse line e) = Not' line somewhere (expr_of e)
+expr_of (binary op line left right) = Binary' op line somewhere (expr_of left) somewhere (expr_of right)
 
 expr_seen : (t : Tree) → view (expr_of t) ≡ t
 unfolding expr_of
