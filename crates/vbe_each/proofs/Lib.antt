@@ -6,3 +6,4 @@ mod Drivers
 mod Designs
 mod Trees
 mod Texts
+mod CellTexts

@@ -1,5 +1,5 @@
-// That each source, and each text, is a machine or has a refusal.
-ghost use Rattle.vbe_each.specs.Law.{EachDesign, EachText};
+// That each source, and each text, has an answer.
+ghost use Rattle.vbe_each.specs.Law.{EachCell, EachDesign, EachText};
 
 /// A source that passes its checks is a machine, and each other source has a refusal.
 pub fn each_design_has_an_answer()
@@ -9,4 +9,9 @@ pub fn each_design_has_an_answer()
 /// Whatever the bytes are, they are a machine or have a refusal.
 pub fn each_text_has_an_answer()
     ensures { EachText }
+{}
+
+/// Whatever the bytes are, they are the text of a cell or have a refusal as one.
+pub fn each_cell_has_an_answer()
+    ensures { EachCell }
 {}
