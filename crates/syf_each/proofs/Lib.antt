@@ -1,0 +1,4 @@
+mod Signals
+mod Counted
+mod Free
+mod Encoded
