@@ -1,5 +1,5 @@
 -- Things whose names are different stand in the order of names in some arrangement.
-use Rattle.std.proofs.Common.{◌≡◌, ◌≢◌, inl, inr, ℕ, zero, suc, Bool, List, [], ◌∷◌, ◌++◌, map, length, get_or, refl, sym, ap, ◌∙◌, subst, arith}
+use Rattle.std.proofs.Common.{◌≡◌, ◌≢◌, inl, inr, zero, suc, List, [], ◌∷◌, map, get_or, refl, sym, ap, ◌∙◌, subst, arith}
 use Rattle.std.specs.List.Sorted.{IsPermutation}
 use Rattle.std.specs.Ordering.{ordering_reverse}
 use Rattle.std.specs.declared.cmp.Ordering.{Ordering}
@@ -32,10 +32,13 @@ put {A} key x (y ∷ ys) h apart = by (name_cmp (key x) (key y)) refl (put key x
   by Less e r = record {
     list = x ∷ y ∷ ys;
     moved = IsPermutation-refl (x ∷ y ∷ ys);
-    rising = (λ z i. elim (In-cases z y ys i) [
-      | inl same ↦ subst (λ w. name_cmp (key x) (key w) ≡ Less) same e
-      | inr j ↦ name_total.trans (key x) (key y) (key z) e (h.0 z j)
-    ], h);
+    rising = (
+      λ z i. elim (In-cases z y ys i) [
+        | inl same ↦ subst (λ w. name_cmp (key x) (key w) ≡ Less) same e
+        | inr j ↦ name_total.trans (key x) (key y) (key z) e (h.0 z j)
+      ],
+      h,
+    );
   }
   by Equal e r = absurd (apart y here (name_equal (key x) (key y) e))
   by Greater e r =
@@ -43,10 +46,13 @@ put {A} key x (y ∷ ys) h apart = by (name_cmp (key x) (key y)) refl (put key x
         list = y ∷ r.list;
         moved = IsPermutation-trans (x ∷ y ∷ ys) (y ∷ x ∷ ys) (y ∷ r.list)
             (IsPermutation-middle (x ∷ []) y ys) (IsPermutation-cons y (x ∷ ys) r.list r.moved);
-        rising = (λ z i. elim (In-cases z x ys (In-permutation r.list (x ∷ ys) z (IsPermutation-sym (x ∷ ys) r.list r.moved) i)) [
-          | inl same ↦ subst (λ w. name_cmp (key y) (key w) ≡ Less) same before
-          | inr j ↦ h.0 z j
-        ], r.rising);
+        rising = (
+          λ z i. elim (In-cases z x ys (In-permutation r.list (x ∷ ys) z (IsPermutation-sym (x ∷ ys) r.list r.moved) i)) [
+            | inl same ↦ subst (λ w. name_cmp (key y) (key w) ≡ Less) same before
+            | inr j ↦ h.0 z j
+          ],
+          r.rising,
+        );
       }
 
 arrange : {A : Type 0} (key : A → Name) (xs : List A) → AllDifferent (map key xs) → Arranged key xs

@@ -1,18 +1,16 @@
 -- Bytes are the text of a cell, or they have a refusal as one.
-use Rattle.std.proofs.Common.{◌≡◌, ◌⊎◌, inl, inr, ℕ, ◌<◌, ◌≤◌, Bool, true, false, List, length, Option, None, Some, arith, refl, sym, ap, ◌∙◌}
+use Rattle.std.proofs.Common.{◌≡◌, ◌⊎◌, inl, inr, ℕ, ◌<◌, ◌≤◌, Bool, true, false, List, length, None, Some, arith, refl, ap}
 use Rattle.std.proofs.lemmas.Bool.{cases_lt}
 use Rattle.std.proofs.lemmas.List.Sorted.{length_permutation}
 use Rattle.vlsi_base.specs.declared.name.Port.{Port}
 use Rattle.vlsi_base.specs.declared.fault.InputFault.{InputFault}
 use Rattle.vlsi_base.specs.declared.fault.ReadError.{ReadError}
 use Rattle.vlsi_base.specs.declared.fault.ReadError.TheVariants as errors
-use Rattle.vhdl_lexer.specs.Listing.{tokens_in, refusal_in}
-use Rattle.vhdl_token.specs.declared.token.Tokens.{Tokens}
+use Rattle.vhdl_lexer.specs.Listing.{tokens_in}
 use Rattle.source_meaning.specs.declared.statement.DesignFile.{DesignFile}
 use Rattle.source_meaning.specs.Symbols.{symbols}
 use Rattle.source_meaning.specs.Checks.{most_ports}
-use Rattle.vbe_text.specs.Vbe.{RefusedAs}
-use Rattle.vbe_io.specs.Text.{IsWritten, IsVbe, Refused, long, uncut, unwritten, faulty}
+use Rattle.vbe_io.specs.Text.{IsWritten, Refused, long, uncut, unwritten, faulty}
 use Rattle.vbe_io.specs.Cell.{pin_bits, generic_values, is_left_out, IsOpaque, IsCellText, pins_error, CellRefused, other, wide}
 use Rattle.vbe_io.specs.declared.cell_text.CellText.{CellText}
 use Rattle.vbe_io.proofs.Cells.{different_pins, uncut_other, unwritten_other}

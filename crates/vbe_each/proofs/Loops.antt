@@ -1,5 +1,5 @@
 -- Names that read each other in a loop, and the ring that a loop is when it is named from the least of them on.
-use Rattle.std.proofs.Common.{◌≡◌, ◌⊎◌, inl, inr, ℕ, zero, suc, ◌+◌, ◌≤◌, List, [], ◌∷◌, ◌++◌, length, refl, sym, ap, ◌∙◌, subst, arith, append_assoc, append-nil}
+use Rattle.std.proofs.Common.{◌≡◌, ◌⊎◌, inl, inr, ℕ, zero, suc, List, [], ◌∷◌, ◌++◌, length, refl, sym, ap, ◌∙◌, subst, arith, append_assoc, append-nil}
 use Rattle.std.specs.Ordering.{ordering_reverse}
 use Rattle.std.specs.declared.cmp.Ordering.{Ordering}
 use Rattle.std.specs.declared.cmp.Ordering.TheVariants.{Less, Equal, Greater}
@@ -174,8 +174,12 @@ ring_of defs l =
     let t = turned defs r.front r.name r.back (subst (IsRound defs) r.is l.round) in record {
       first = r.name;
       rest = r.back ++ r.front;
-      ring = (t.0, t.1, All-from_In (λ n. name_cmp r.name n ≡ Greater → ⊥) (r.back ++ r.front)
-      (λ n i. r.least n (subst (λ (ns : List Name). In n ns) (sym r.is) (within_turned r.name n r.front r.back i))));
+      ring = (
+        t.0,
+        t.1,
+        All-from_In (λ n. name_cmp r.name n ≡ Greater → ⊥) (r.back ++ r.front)
+            (λ n i. r.least n (subst (λ (ns : List Name). In n ns) (sym r.is) (within_turned r.name n r.front r.back i))),
+      );
     }
 
 -- in a ring each reads one

@@ -8,8 +8,7 @@ use Rattle.vlsi_base.specs.declared.fault.ReadError.TheVariants as errors
 use Rattle.vhdl_lexer.specs.Listing.{tokens_in, refusal_in}
 use Rattle.machine_meaning.specs.Machine.{Machine}
 use Rattle.source_meaning.specs.declared.statement.DesignFile.{DesignFile}
-use Rattle.vbe_text.specs.Source.{SourceTree}
-use Rattle.vbe_text.specs.Vbe.{IsSource, RefusedAs}
+use Rattle.vbe_text.specs.Vbe.{IsSource}
 use Rattle.vbe_text.proofs.Laws as text
 use Rattle.vbe_io.specs.Text.{IsWritten, IsVbe, Refused, long, uncut, unwritten, faulty}
 use Rattle.vbe_each.specs.Law.{EachText}
