@@ -8,9 +8,11 @@ use Rattle.clap.proofs.WalkLemmas.{both}
 use Rattle.tool_words.specs.declared.command.Command.{Command}
 use Rattle.tool_words.specs.declared.command.Command.TheVariants as command
 use Rattle.tool_words.specs.Words.{is_word}
-use Rattle.tool_words.specs.Table.{Entry, tools, tool_of, flow, gen, syf, boom, boog, asimut, cougar, lvx, druc, proof, flatbeh}
+use Rattle.tool_words.specs.declared.command.Encoding.TheVariants as encoding_variant
+use Rattle.tool_words.specs.Table.{Entry, tools, tool_of, flow, gen, syf, boom, boog, asimut, cougar, lvx, druc, proof, flatbeh, library, out, seed, nodes, size, patterns, netlist_library, other_source, other_netlist}
+use Rattle.tool_words.specs.Values.{has_ending, source_of, text_of, number_of, encoding_of}
 use Rattle.tool_words.specs.Arguments.{command_line, given}
-use Rattle.tool_words.specs.Commands.{asimut_on, asimut_with, command_from, command_in, command_by, are_taken, word_of, command_of}
+use Rattle.tool_words.specs.Commands.{flow_on, gen_with, generated, syf_with, boom_with, boog_with, asimut_on, asimut_with, cougar_with, lvx_with, druc_with, proof_with, flatbeh_with, command_from, command_in, command_by, are_taken, word_of, command_of}
 use Rattle.tool_words.specs.Laws.{ToolComesFirst}
 
 -- ---- clap's parse of it is exact
@@ -54,27 +56,48 @@ asimut_on_named s p true (Some l) k h = by_asimut (command.AsimutNetlist (record
 asimut_named : (s p l : Option (List ℕ)) (k : Command) → asimut_with s p l ≡ Some k → codes "asimut" ≡ word_of k
 asimut_named None p l k h = absurd (cc h)
 asimut_named (Some s) None l k h = absurd (cc h)
-asimut_named (Some s) (Some p) l k h = asimut_on_named s p _ l k h
+asimut_named (Some s) (Some p) l k h = asimut_on_named s p (has_ending s (codes ".vst")) l k h
 
 abbrev Each : (Entry → Type 0) → List Entry → Type 0
 Each P [] = Unit {0}
 Each P (x ∷ xs) = P x × Each P xs
 
+flow_names : Names flow
+flow_names g k h = named command.Flow (codes "flow") (λ c. refl) (flow_on (source_of flow.endings g) (encoding_of g) g) k h
+
+gen_names : Names gen
+gen_names g k h = named command.Gen (codes "gen") (λ c. refl) (gen_with (number_of size g) (flow_on (option_map generated (text_of out g)) (Some encoding_variant.Adjacent) g)) k h
+
+syf_names : Names syf
+syf_names g k h = named command.Syf (codes "syf") (λ c. refl) (syf_with (source_of syf.endings g) (text_of out g) (encoding_of g) (number_of seed g)) k h
+
+boom_names : Names boom
+boom_names g k h = named command.Boom (codes "boom") (λ c. refl) (boom_with (source_of boom.endings g) (text_of out g) (number_of nodes g)) k h
+
+boog_names : Names boog
+boog_names g k h = named command.Boog (codes "boog") (λ c. refl) (boog_with (source_of boog.endings g) (text_of library g) (text_of out g)) k h
+
+asimut_names : Names asimut
+asimut_names g k h = asimut_named (source_of asimut.endings g) (text_of patterns g) (text_of netlist_library g) k h
+
+cougar_names : Names cougar
+cougar_names g k h = named command.Cougar (codes "cougar") (λ c. refl) (cougar_with (source_of cougar.endings g) (text_of library g) (text_of out g)) k h
+
+lvx_names : Names lvx
+lvx_names g k h = named command.Lvx (codes "lvx") (λ c. refl) (lvx_with (source_of lvx.endings g) (text_of other_netlist g) (text_of library g)) k h
+
+druc_names : Names druc
+druc_names g k h = named command.Druc (codes "druc") (λ c. refl) (druc_with (source_of druc.endings g) (text_of library g)) k h
+
+proof_names : Names proof
+proof_names g k h = named command.Proof (codes "proof") (λ c. refl) (proof_with (source_of proof.endings g) (text_of other_source g) (number_of nodes g)) k h
+
+flatbeh_names : Names flatbeh
+flatbeh_names g k h = named command.Flatbeh (codes "flatbeh") (λ c. refl) (flatbeh_with (source_of flatbeh.endings g) (text_of library g) (text_of out g)) k h
+
 each_named : Each Names tools
-each_named = (
-  λ g k h. named command.Flow (codes "flow") (λ a. refl) _ k h,
-  (λ g k h. named command.Gen (codes "gen") (λ a. refl) _ k h,
-  (λ g k h. named command.Syf (codes "syf") (λ a. refl) _ k h,
-  (λ g k h. named command.Boom (codes "boom") (λ a. refl) _ k h,
-  (λ g k h. named command.Boog (codes "boog") (λ a. refl) _ k h,
-  (λ g k h. asimut_named _ _ _ k h,
-  (λ g k h. named command.Cougar (codes "cougar") (λ a. refl) _ k h,
-  (λ g k h. named command.Lvx (codes "lvx") (λ a. refl) _ k h,
-  (λ g k h. named command.Druc (codes "druc") (λ a. refl) _ k h,
-  (λ g k h. named command.Proof (codes "proof") (λ a. refl) _ k h,
-  (λ g k h. named command.Flatbeh (codes "flatbeh") (λ a. refl) _ k h,
-  tt)))))))))),
-)
+each_named =
+    (flow_names, (gen_names, (syf_names, (boom_names, (boog_names, (asimut_names, (cougar_names, (lvx_names, (druc_names, (proof_names, (flatbeh_names, tt)))))))))))
 
 -- what is found is one of the list
 one_by : (P : Entry → Type 0) (x e : Entry) (rest : Option Entry) → P x → (rest ≡ Some e → P e) → (b : Bool) → cond b (Some x) rest ≡ Some e → P e
