@@ -1,6 +1,6 @@
 use Rattle.std.proofs.Common.{◌≡◌, ◌++◌, List, map, ap, ap₂, ◌∙◌}
 use Rattle.std.specs.Prelude.{true}
-use Rattle.clap.specs.Words.{App, Rule, app_of, rule_of}
+use Rattle.clap.specs.Words.{App, Rule, rule_of}
 use Rattle.clap.specs.Simple.{Shape, on_top}
 use Rattle.tool_words.specs.Arguments.{source_rules, option_rule}
 use Rattle.tool_words.specs.View.{settings_view, texts_view}

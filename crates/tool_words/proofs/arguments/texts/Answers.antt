@@ -1,4 +1,4 @@
-use Rattle.std.proofs.Common.{rules, ◌≡◌, ℕ, ◌+◌, List, ◌∷◌, drop, sym, ◌∙◌}
+use Rattle.std.proofs.Common.{rules, ◌≡◌, ◌+◌, ◌∷◌, drop, sym, ◌∙◌}
 use Rattle.tool_words.proofs.Texts.{from_word, text_here, none_here, one_more}
 use Rattle.tool_words.proofs.arguments.texts.Goals as goal
 
