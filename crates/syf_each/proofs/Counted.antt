@@ -1,5 +1,5 @@
 -- The statements of a text have at most two signals for each of its tokens, of which there are no more than bytes.
-use Rattle.std.proofs.Common.{◌≡◌, ℕ, zero, suc, ◌+◌, ◌-◌, ◌*◌, ◌≤◌, Bool, List, [], ◌∷◌, ◌++◌, drop, length, Option, None, Some, inl, inr, refl, sym, ap, ◌∙◌, subst, arith, length-append}
+use Rattle.std.proofs.Common.{◌≡◌, ℕ, zero, suc, ◌+◌, ◌-◌, ◌*◌, ◌≤◌, Bool, false, List, [], ◌∷◌, ◌++◌, drop, length, Option, None, Some, inl, inr, refl, sym, ap, ◌∙◌, subst, arith, length-append}
 use Rattle.vlsi_base.specs.declared.entity.Entity.{Entity}
 use Rattle.vhdl_token.specs.declared.token.PlacedToken.{PlacedToken}
 use Rattle.vhdl_token.specs.declared.token.Tokens.{Tokens}
@@ -13,7 +13,7 @@ use Rattle.grammar_theory.specs.declared.limits.TheConstants.{DEPTH}
 use Rattle.grammar_theory.specs.Marks.{Mark, Item}
 use Rattle.grammar_theory.specs.Grammar.{Grammar, none, nothing, One, Then, ◌or◌, list, at_some}
 use Rattle.grammar_theory.specs.Answers.{tokens_of}
-use Rattle.vhdl_front.specs.Expression.{less}
+use Rattle.vhdl_front.specs.Expression.{less as less_room}
 use Rattle.fsm_text.specs.Written.{StatementTree, chosen, selected, asserted, assigned, BodyTree, PartTree, BranchTree, BranchesTree, body_of, parts_of, branches_of, StepTree, ClockTree, MachineTree}
 use Rattle.fsm_text.specs.Fsm.{part, further_part, last_part, behind_if, conditional, listed_branch, led_branch, others_branch, last_branch, branches, behind_case, case_statement, assertion, assignment, statement, body_over, nested, body, step_process, processes, architecture, machine}
 use Rattle.fsm_io.specs.Text.{IsWritten}
@@ -62,10 +62,7 @@ weighs_or {A} {L} {M} {k} {f} one two = record { each = λ items v h. elim h [ i
 weighs_nothing : {A : Type 0} (f : A → ℕ) (k : ℕ) (x : A) → f x ≤ k → Weighs (nothing x) k f
 weighs_nothing {A} f k x less = record { each = λ items v h. subst (λ (y : A). f y ≤ k + 2 * length items) (sym h.1) (omega (arith, less)) }
 
--- more before it, and less of each value
-weighs_more : {A : Type 0} {G : Grammar A} {f : A → ℕ} (k c : ℕ) → Weighs G k f → Weighs G (c + k) (λ x. c + f x)
-weighs_more {A} {G} {f} k c one = record { each = λ items v h. let a = one.each items v h in omega (arith, a) }
-
+-- less of each value
 weighs_less : {A : Type 0} {G : Grammar A} {k : ℕ} {f g : A → ℕ} → Weighs G k f → ((x : A) → g x ≤ f x) → Weighs G k g
 weighs_less {A} {G} {k} {f} {g} one below = record { each = λ items v h. let a = one.each items v h in let b = below v in omega (arith, a, b) }
 
@@ -115,9 +112,9 @@ last_adds inner h k =
 if_adds : (room : ℕ) (inner : Grammar BodyTree) → Adds inner in_body → Adds (behind_if room inner) in_statement
 unfolding behind_if
 if_adds room inner h k =
-    weighs_then (part_adds room inner h k) (λ first n less. weighs_then (adds_list (further_adds room inner h) n) (λ more p less'. weighs_then (last_adds inner h p) (λ last q less''.
+    weighs_then (part_adds room inner h k) (λ first n less. weighs_then (adds_list (further_adds room inner h) n) (λ more p less2. weighs_then (last_adds inner h p) (λ last q less3.
     weighs_behind (λ u. weighs_behind (λ v. weighs_behind (λ w.
-    weighs_nothing (λ (st : StatementTree). k + in_statement st) q (chosen (parts_of first more last)) (let all = in_if first more last in omega (arith, all, less, less', less''))))))))
+    weighs_nothing (λ (st : StatementTree). k + in_statement st) q (chosen (parts_of first more last)) (let all = in_if first more last in omega (arith, all, less, less2, less3))))))))
 
 conditional_adds : (room : ℕ) (inner : Grammar BodyTree) → Adds inner in_body → Adds (conditional room inner) in_statement
 unfolding conditional
@@ -148,8 +145,8 @@ last_branch_adds inner h k =
 branches_add : (inner : Grammar BodyTree) → Adds inner in_body → Adds (branches inner) in_branches
 unfolding branches
 branches_add inner h k =
-    weighs_then (adds_list (led_adds inner h) k) (λ all n less. weighs_then (last_branch_adds inner h n) (λ last p less'.
-    weighs_nothing (λ (b : BranchesTree). k + in_branches b) p (branches_of all last) (let whole = in_case all last in omega (arith, whole, less, less'))))
+    weighs_then (adds_list (led_adds inner h) k) (λ all n less. weighs_then (last_branch_adds inner h n) (λ last p less2.
+    weighs_nothing (λ (b : BranchesTree). k + in_branches b) p (branches_of all last) (let whole = in_case all last in omega (arith, whole, less, less2))))
 
 behind_case_adds : (line : ℕ) (inner : Grammar BodyTree) → Adds inner in_body → Adds (behind_case line inner) in_statement
 unfolding behind_case
@@ -188,7 +185,7 @@ over_adds room inner h k =
 nested_adds : (deeper room : ℕ) → Adds (nested deeper room) in_body
 unfolding nested
 nested_adds zero room = over_adds room none (λ k. record { each = λ items v h. elim h [ ] })
-nested_adds (suc deeper) room = over_adds room (nested deeper (less room)) (nested_adds deeper (less room))
+nested_adds (suc deeper) room = over_adds room (nested deeper (less_room room)) (nested_adds deeper (less_room room))
 
 body_adds : (room : ℕ) → Adds (body room) in_body
 body_adds room k = record { each = λ items v h. (nested_adds h.level room k).each items v h.sentence }
@@ -248,7 +245,7 @@ few_tokens line (p ∷ ps) =
 
 tokens_few : (bytes : List ℕ) → length (tokens_in bytes).items ≤ length bytes
 unfolding tokens_in, pieces_from
-tokens_few bytes = let a = few_tokens 1 (pieces bytes) in let b = few_pieces (length bytes) _ bytes in omega (arith, a, b)
+tokens_few bytes = let a = few_tokens 1 (pieces bytes) in let b = few_pieces (length bytes) false bytes in omega (arith, a, b)
 
 length_tokens : (items : List Item) → length (tokens_of items) ≡ length items
 length_tokens [] = refl

@@ -57,8 +57,8 @@ from_low n b (suc more) = by (nat_le n (2 ^ b)) (from_low n (suc b) more) where
 -- a code has no more bits than there are states
 width_low : (how : Style) (f : Fsm) → (codes_by how f).width ≤ length f.states
 width_low style.OneHot f = omega arith
-width_low (style.Random seed) f = from_low (length f.states) 0 (length f.states)
-width_low style.Adjacent f = from_low (length f.states) 0 (length f.states)
+width_low (style.Random seed) f = let low = from_low (length f.states) 0 (length f.states) in omega (arith, low)
+width_low style.Adjacent f = let low = from_low (length f.states) 0 (length f.states) in omega (arith, low)
 
 -- ---- how many names there are
 
@@ -66,7 +66,7 @@ width_low style.Adjacent f = from_low (length f.states) 0 (length f.states)
 record IsSmall (f : Fsm) : Type 0 where
   ports : length f.ports ≤ 4096
   states : length f.states ≤ 256
-  signals : signals f.body ≤ 2 * 1048576
+  inside : signals f.body ≤ 2 * 1048576
 
 small : (source : List ℕ) (f : Fsm) → IsFsm source f → IsSmall f
 small source f is = record {
@@ -74,11 +74,12 @@ small source f is = record {
   states =
       let same = ap (λ (ns : List Name). length ns) is.machine.states ∙ length-map is.tree.states.states (λ (s : NewName). scalar s.text) in
       let few = is.passes.few_states in omega (arith, same, few);
-  signals =
+  inside =
       let same = ap signals is.machine.body ∙ of_body (frame_of is.tree is.names (names_of f.ports)) is.tree.step.body in
       let few = few_signals source is.tree is.written in
       let bytes = is.written.few in
-      omega (arith, same, few, bytes);
+      let most : MOST_SOURCE_BYTES ≡ 1048576 = refl in
+      omega (arith, same, few, bytes, most);
 }
 
 filter_fits : {A : Type 0} (p : A → Bool) (xs : List A) → length (filter p xs) ≤ length xs
@@ -100,7 +101,7 @@ outputs_few f =
 -- ---- the machine
 
 few_inside : (f : Fsm) → IsSmall f → inner_count f + length f.ports < 2 ^ 32
-few_inside f s = let a = s.ports in let b = s.states in let d = s.signals in omega (arith, a, b, d)
+few_inside f s = let a = s.ports in let b = s.states in let d = s.inside in omega (arith, a, b, d)
 
 few_names : (f : Fsm) (c : Codes) (st : List ℕ) → TextsAreFree → IsSmall f → c.width ≤ length f.states
     → length (machine_of f c st (inner_names f)).vars + length f.ports < 2 ^ 32 - 2 ^ 16
@@ -111,7 +112,7 @@ few_names f c st free s wide =
     let outs = outputs_few f in
     let a = s.ports in
     let b = s.states in
-    let d = s.signals in
+    let d = s.inside in
     omega (arith, vars, inner, ins, outs, a, b, d, wide)
 
 pub encoded : FsmIsChecked → EncodingsAreCodes → TextsAreFree → MachineIsOrdered → MachineDoesAs → EncodedExists
