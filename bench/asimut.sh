@@ -4,13 +4,16 @@
 #
 # Usage: bench/asimut.sh PROGRAM [SECONDS] [--chain | --wide]      (a run that takes longer than SECONDS, 300 at first, is cut off)
 #
-# With --chain all operators stand in one equation, and with --wide there is one gate for each bit of a wide vector. GATES and
-# PATTERNS in the environment are other lists of numbers, each rising. Netlists: netlists.sh.
+# With --chain all operators stand in one equation. With --wide each gate gives a bit of a wide vector; there are at most 2,047.
+# GATES and PATTERNS in the environment are other lists of numbers, each rising. Netlists: netlists.sh.
 #
-# Columns: gates, patterns, bytes of the source, seconds and megabytes of asimut; by how much its seconds grow when the
-# gates double, and when the patterns double; nanoseconds for a gate and pattern beyond reading; then the seconds of iverilog
-# (it translates) and of vvp (it runs), and those in which verilator builds a program and runs it. Each equation is computed
-# once or twice a pattern, so that gates times patterns is the cost, beside that of reading.
+# Columns: gates, patterns, bytes of the source; of asimut the seconds without a pattern, which is reading the source, then those
+# with the patterns on a source that has the ports and no gate, which is reading and printing them, then those on the circuit,
+# and megabytes; by how much its seconds grow when the gates double, and when the patterns double; nanoseconds for a gate and
+# pattern beyond reading and printing; then the seconds of iverilog (it translates) and of vvp (it runs) with vvp's nanoseconds
+# for a gate and pattern, and the seconds in which verilator builds a program and runs it with that program's nanoseconds. Less
+# than 0.02 seconds count as too few to divide. Each gate is computed once where the clock doesn't rise and twice where it does,
+# so that gates times patterns is the cost, beside that of reading.
 set -eu
 
 if [ $# -lt 1 ] || [ ! -x "$1" ] || [ ! -x /usr/bin/time ]; then
@@ -26,8 +29,14 @@ for word in "${@:2}"; do
     *) most=$word ;;
   esac
 done
-# A file has at most a mebibyte, and a pattern of a wide vector a digit for four bits.
-[ "$kind" = --wide ] && numbers="10 50 200" || numbers="100 1000 10000"
+case $kind in
+  --wide) sizes="250 500 1000 2000" numbers="10 100 1000" ;;
+  --chain | "") sizes="1000 2000 4000 8000 16000" numbers="100 1000 10000" ;;
+  *)
+    echo "unknown: $kind" >&2
+    exit 2
+    ;;
+esac
 here=$(dirname "$(realpath "$0")")
 . "$here/measure.sh"
 work=$(mktemp -d)
@@ -41,7 +50,7 @@ command -v verilator >/dev/null || verilator=no
 cd "$work"
 printf 'begin\nend;\n' >none.pat
 
-# agrees SECONDS OUTPUT: stops where a simulator that ran shows other outputs than asimut.
+# agrees SECONDS FILE: stops where a simulator that ran shows other outputs than asimut.
 agrees() {
   if [ "$took" != - ] && [ "$1" != - ] && ! cmp -s outputs "$2"; then
     echo "the outputs of $gates gates and $patterns patterns differ" >&2
@@ -49,15 +58,22 @@ agrees() {
   fi
 }
 
-row='%6s %8s %8s  %8s %5s  %6s %9s %6s  %8s %8s  %8s %8s\n'
-printf "$row" gates patterns bytes seconds MB gates*2 patterns*2 ns iverilog vvp build run
+# each SECONDS BEYOND..: nanoseconds for a gate and pattern of what a run takes beyond others, or - where one failed or it is little.
+each() {
+  echo "$@" | awk -v n="$gates" -v m="$patterns" \
+    '{ left = 2 * $1; for (k = 1; k <= NF; k++) { left -= $k; if ($k == "-") failed = 1 } if (!failed && left >= 0.02) printf "%.1f", left * 1e9 / n / m; else printf "-" }'
+}
+
+row='%6s %8s %8s  %7s %7s %8s %5s  %7s %10s %6s  %8s %8s %6s  %8s %8s %6s\n'
+printf "$row" gates patterns bytes source texts seconds MB gates*2 patterns*2 ns iverilog vvp ns build run ns
 declare -A seconds
 gates_before=0
-for gates in ${GATES:-1000 2000 4000 8000 16000}; do
+for gates in ${GATES:-$sizes}; do
   patterns_before=0
   for patterns in ${PATTERNS:-$numbers}; do
     python3 "$here/asimut_inputs.py" "$gates" "$patterns" "$work" $kind
-    read -r reads _ < <(measured printed "$program" asimut c.vbe -p none.pat)
+    read -r source _ < <(measured printed "$program" asimut c.vbe -p none.pat)
+    read -r texts _ < <(measured printed "$program" asimut b.vbe -p p.pat)
     read -r took memory < <(measured printed "$program" asimut c.vbe -p p.pat)
     seconds[$gates,$patterns]=$took
     sed -n 's/^<.*?\([0-9a-f]*\);$/\1/p' printed >outputs
@@ -76,8 +92,8 @@ for gates in ${GATES:-1000 2000 4000 8000 16000}; do
     fi
     by_gates=$(growth "${seconds[$gates_before,$patterns]:--}" "$gates_before" "$took" "$gates")
     by_patterns=$(growth "${seconds[$gates,$patterns_before]:--}" "$patterns_before" "$took" "$patterns")
-    each=$(awk -v r="$reads" -v t="$took" -v g="$gates" -v p="$patterns" 'BEGIN { if (t + 0 > 0 && r != "-") printf "%.1f", (t - r) * 1e9 / g / p; else printf "-" }')
-    printf "$row" "$gates" "$patterns" "$(wc -c <c.vbe)" "$took" "$(megabytes "$memory")" "$by_gates" "$by_patterns" "$each" "$translates" "$runs" "$builds" "$goes"
+    printf "$row" "$gates" "$patterns" "$(wc -c <c.vbe)" "$source" "$texts" "$took" "$(megabytes "$memory")" "$by_gates" "$by_patterns" \
+      "$(each "$took" "$source" "$texts")" "$translates" "$runs" "$(each "$runs")" "$builds" "$goes" "$(each "$goes")"
     patterns_before=$patterns
   done
   gates_before=$gates
