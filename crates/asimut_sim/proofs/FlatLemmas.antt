@@ -20,6 +20,7 @@ use Rattle.asimut_sim.specs.Program.{extent, Obeys, bits_of, AreBelow, ComputesE
 use Rattle.asimut_sim.specs.Flat.{AreLoadsOf, ComputesLoads, IsFlat}
 use Rattle.asimut_sim.proofs.CycleLemmas.{rising_below}
 use Rattle.asimut_sim.proofs.LoadLemmas.{All-unmap}
+use Rattle.asimut_sim.proofs.LayoutLemmas.{below_weaker}
 
 pub vars_many : (m : Machine) (vars : List Name) (equations : List EquationParts) → IsChecked m → vars ≡ m.vars → map equation_view equations ≡ m.equations
     → length vars ≡ length (held_names m) + length equations
@@ -60,11 +61,17 @@ registers_over m n registers checked is many =
     let Q : ℕ → Type 0 = λ k. All (LoadsOver k) registers in
     subst Q (sym many) (All-unmap (λ r. IsOver r.next (length m.vars) × IsOver r.enable (length m.vars)) register_view registers (subst P (sym is) checked.loads))
 
-pub flat_from : (f : FlatMachine) (p q : Program) (places : List ℕ) (held : ℕ) (equations : List EquationParts) (registers : List RegisterParts)
+-- registers read places that stand before what is laid out for them
+pub loading_below : (p q : Program) (vars items : List ℕ) → q.start ≡ extent p → items ≡ vars → AreBelow (extent p) vars → AreBelow (extent q) items
+loading_below p q vars items start is below =
+    let P : List ℕ → Type 0 = λ x. AreBelow (extent q) x in subst P (sym is) (below_weaker (extent p) (extent q) vars (omega (arith, start)) below)
+
+pub flat_from : (f : FlatMachine) (p q : Program) (places items : List ℕ) (held : ℕ) (equations : List EquationParts) (registers : List RegisterParts)
     → IsChecked f.machine.now → map equation_view equations ≡ f.machine.now.equations → map register_view registers ≡ f.machine.now.registers
     → held ≡ length (held_names f.machine.now) → places ≡ rising 2 held → p.start ≡ 2 + held → q.start ≡ extent f.settling
-    → ComputesEach p f.settling places f.vars.items (map equation_view equations) → ComputesLoads q f.loading f.vars.items f.loads.items (map register_view registers) → IsFlat f
-flat_from f p q places held equations registers checked e r many is start behind each loads = record {
+    → ComputesEach p f.settling places f.vars.items (map equation_view equations) → items ≡ f.vars.items
+    → ComputesLoads q f.loading items f.loads.items (map register_view registers) → IsFlat f
+flat_from f p q places items held equations registers checked e r many is start behind each all loads = record {
   checked = checked;
   start = each.goes_on.start ∙ start ∙ ap (λ (n : ℕ). 2 + n) many;
   settling = each.goes_on.program;
@@ -75,5 +82,8 @@ flat_from f p q places held equations registers checked e r many is start behind
       each.values a h ∙ ap (λ (x : List ℕ). built (bits_of a x) (map equation_view equations)) (is ∙ ap (rising 2) many)
       ∙ ap (built (bits_of a (rising 2 (length (held_names f.machine.now))))) e;
   loads_within = loads.within;
-  loads = λ a h. let P : List Register → Type 0 = λ x. AreLoadsOf a (bits_of a f.vars.items) f.loads.items x in subst P r (loads.values a h);
+  loads = λ a h.
+      let P : List Register → Type 0 = λ x. AreLoadsOf a (bits_of a items) f.loads.items x in
+      let Q : List ℕ → Type 0 = λ x. AreLoadsOf a (bits_of a x) f.loads.items f.machine.now.registers in
+      subst Q all (subst P r (loads.values a h));
 }

@@ -89,8 +89,10 @@ pub record Down (first p : Program) (vars : List ℕ) (e : Expression) (steps : 
   pub over : IsOver rest (length vars)
   pub value : (a : List Bool) → Obeys p a → steps_value a steps (val rest (bits_of a vars)) ≡ val e (bits_of a vars)
 
-pub down_begins : (p : Program) (vars : List ℕ) (e : Expression) → IsProgram p → IsOver e (length vars) → Down p p vars e [] e
-down_begins p vars e program over = record { goes_on = goes_on_itself p program; below = All-nil (StepBelow (extent p)); over = over; value = λ a h. refl }
+pub down_begins : (p : Program) (vars : List ℕ) (e : Expression) (steps : List Step) → steps ≡ [] → IsProgram p → IsOver e (length vars) → Down p p vars e steps e
+down_begins p vars e steps none program over =
+    let P : List Step → Type 0 = λ x. Down p p vars e x e in
+    subst P (sym none) (record { goes_on = goes_on_itself p program; below = All-nil (StepBelow (extent p)); over = over; value = λ a h. refl })
 
 pub down_constant : (first p : Program) (vars : List ℕ) (e rest : Expression) (steps : List Step) (b : Bool) (place : ℕ) → rest ≡ constant b → place < 2
     → ((a : List Bool) → HasConstants a → bit a place ≡ b) → Down first p vars e steps rest → Descends first p vars e steps place

@@ -45,8 +45,10 @@ held_is_loaded a w (l ∷ ls) (r ∷ rs) (b ∷ held) h =
 pub loads_weaker : (n m : ℕ) (ls : List Load) → n ≤ m → All (IsLoadBelow n) ls → All (IsLoadBelow m) ls
 loads_weaker n m ls h all = All-weaker (IsLoadBelow n) (IsLoadBelow m) (λ l b. let x = b.0 in let y = b.1 in (omega (arith, x, h), omega (arith, y, h))) ls all
 
-pub loads_none : (p : Program) (vars : List ℕ) → IsProgram p → ComputesLoads p p vars [] []
-loads_none p vars program = record { goes_on = goes_on_itself p program; within = All-nil (IsLoadBelow (extent p)); values = λ a h. tt }
+pub loads_none : (p : Program) (vars : List ℕ) (ls : List Load) → ls ≡ [] → IsProgram p → ComputesLoads p p vars ls []
+loads_none p vars ls none program =
+    let P : List Load → Type 0 = λ x. ComputesLoads p p vars x [] in
+    subst P (sym none) (record { goes_on = goes_on_itself p program; within = All-nil (IsLoadBelow (extent p)); values = λ a h. tt })
 
 pub loads_one : (p q s : Program) (vars : List ℕ) (r : Register) (l : Load) → Computes p q vars r.next l.next → Computes q s vars r.enable l.enable
     → ComputesLoads p s vars (l ∷ []) (r ∷ [])

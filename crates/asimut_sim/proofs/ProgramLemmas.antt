@@ -78,9 +78,11 @@ pub record Ran (p : Program) (old a : List Bool) (k : ℕ) : Type 0 where
 pub ran_begins : (p : Program) (a : List Bool) → Ran p a a 0
 ran_begins p a = record { before = λ j h. refl; each = λ j d h. absurd (omega (arith, h)) }
 
-pub ran_next : (p : Program) (old a : List Bool) (k i : ℕ) (o : Operator) (v : Bool) → IsProgram p → extent p ≤ length a → k < length p.operators.items → i ≡ p.start + k
-    → o ≡ get_or p.operators.items k o → v ≡ chosen a o → Ran p old a k → Ran p old (set a i v) (k + 1)
-ran_next p old a k i o v program room h at is value r =
+pub ran_next : (p : Program) (operators : List Operator) (old a : List Bool) (k i : ℕ) (o : Operator) (v : Bool) → IsProgram p → operators ≡ p.operators.items → extent p ≤ length a
+    → k < length operators → i ≡ p.start + k → o ≡ get_or operators k o → v ≡ chosen a o → Ran p old a k → Ran p old (set a i v) (k + 1)
+ran_next p operators old a k i o v program all room low at read value r =
+    let h : k < length p.operators.items = let many = ap length all in omega (arith, low, many) in
+    let is : o ≡ get_or p.operators.items k o = read ∙ ap (λ (x : List Operator). get_or x k o) all in
     let within : i < length a = omega (arith, room, h, at) in
     record {
       before = λ j l. bit-set_other a i j v (omega (arith, l, at)) ∙ r.before j l;
@@ -98,15 +100,20 @@ ran_next p old a k i o v program room h at is value r =
           j l;
     }
 
-pub ran_ends : (p : Program) (old a : List Bool) (k : ℕ) → IsProgram p → HasConstants old → length p.operators.items ≤ k → Ran p old a k → Obeys p a
-ran_ends p old a k program constants h r =
+pub ran_ends : (p : Program) (operators : List Operator) (old a : List Bool) (k : ℕ) → IsProgram p → HasConstants old → operators ≡ p.operators.items → length operators ≤ k
+    → Ran p old a k → Obeys p a
+ran_ends p operators old a k program constants all h r =
     let two = program.constants in
+    let many = ap length all in
     record {
       constants = record { zero = r.before 0 (omega (arith, two)) ∙ constants.zero; one = r.before 1 (omega (arith, two)) ∙ constants.one };
-      each = λ j d l. r.each j d (omega (arith, l, h));
+      each = λ j d l. r.each j d (omega (arith, l, h, many));
     }
 
-pub reads_at : (p : Program) (n k : ℕ) (o : Operator) → IsProgram p → extent p ≤ n → k < length p.operators.items → o ≡ get_or p.operators.items k o → ReadsBelow n o
-reads_at p n k o program room h is =
+pub reads_at : (p : Program) (operators : List Operator) (n k : ℕ) (o : Operator) → IsProgram p → operators ≡ p.operators.items → extent p ≤ n → k < length operators
+    → o ≡ get_or operators k o → ReadsBelow n o
+reads_at p operators n k o program all room low read =
+    let h : k < length p.operators.items = let many = ap length all in omega (arith, low, many) in
+    let is : o ≡ get_or p.operators.items k o = read ∙ ap (λ (x : List Operator). get_or x k o) all in
     let reads = program.reads k o h in
     subst (ReadsBelow n) (sym is) (reads_weaker (p.start + k) n (get_or p.operators.items k o) (omega (arith, room, h)) reads)

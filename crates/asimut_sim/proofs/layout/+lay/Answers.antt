@@ -4,7 +4,7 @@ use Rattle.asimut_sim.proofs.LayoutLemmas.{computes_from, down_begins, down_cons
 use Rattle.asimut_sim.proofs.layout.+lay.Goals as goal
 
 pub descend-loop-rest-init : goal.descend-loop-rest-init
-descend-loop-rest-init t c = (omega arith, down_begins _ _ _ c.requires.program c.requires.over)
+descend-loop-rest-init t c = (omega arith, down_begins _ _ _ _ c.new-steps.ensures.items c.requires.program c.requires.over)
 
 pub descend-returns-in-Const : goal.descend-returns-in-Const
 descend-returns-in-Const t c = down_constant _ _ _ _ _ _ _ _ (search rules) c.constant_place.ensures.before c.constant_place.ensures.value c.loop-rest.invariant.1

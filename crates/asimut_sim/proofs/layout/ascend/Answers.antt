@@ -1,3 +1,4 @@
+use Rattle.std.proofs.Common.{◌≡◌, length, arith}
 use Rattle.std.proofs.lemmas.List.{nil_from_length}
 use Rattle.asimut_sim.proofs.LayoutLemmas.{climbs_begins, climbs_step, climbs_next, climbs_ends}
 use Rattle.asimut_sim.proofs.layout.ascend.Goals as goal
@@ -21,4 +22,8 @@ loop-step-preserved c =
     c.loop-step.invariant c.in_ok-place.ensures
 
 pub returns : goal.returns
-returns c = ?
+returns c =
+    let cases = c.in_default.ensures.cases in
+    let none : length c.loop-step.steps.items ≡ 0 = omega (arith, cases) in
+    climbs_ends c.args.program.now c.loop-step.program c.loop-step.steps.items c.loop-step.place c.args.steps.items c.args.inner
+    (nil_from_length c.loop-step.steps.items none) c.loop-step.invariant

@@ -5,7 +5,7 @@ use Rattle.asimut_sim.proofs.LoadsLemmas.{loads_none, loads_more, loads_all}
 use Rattle.asimut_sim.proofs.layout.lay_registers.Goals as goal
 
 pub loop-register-init : goal.loop-register-init
-loop-register-init c = loads_none c.args.program.now c.args.vars.now c.requires.program
+loop-register-init c = loads_none c.args.program.now c.args.vars.now c.new-loads.result.items c.new-loads.ensures.items c.requires.program
 
 pub lay_register-requires-clause-program : goal.lay_register-requires-clause-program
 lay_register-requires-clause-program c = c.loop-register.invariant.goes_on.program
