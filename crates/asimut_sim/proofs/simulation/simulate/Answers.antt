@@ -2,9 +2,3 @@ use Rattle.asimut_sim.proofs.simulation.simulate.Goals as goal
 
 pub fill-requires-clause-plan : goal.fill-requires-clause-plan
 fill-requires-clause-plan c = rw c.in_ok-flat.ensures.machine c.in_ok-plan.ensures
-
-pub returns-clause-filled : goal.returns-clause-filled
-returns-clause-filled c = ?
-
-pub returns-in_err-filled-clause-differs : goal.returns-in_err-filled-clause-differs
-returns-in_err-filled-clause-differs c = ?
