@@ -1,6 +1,5 @@
 -- An array that has settled, and registers that load from it.
-use Rattle.std.proofs.Common.{◌≡◌, ℕ, zero, suc, ◌+◌, ◌-◌, ◌<◌, ◌≤◌, Bool, true, false, List, [], ◌∷◌, ◌++◌, map, length, get_or, replicate, set, refl, sym, ◌∙◌, ap, subst, arith, ⊎_elim, get_or-set_same, length-append, below_more}
-use Rattle.std.specs.List.{All}
+use Rattle.std.proofs.Common.{◌≡◌, ℕ, zero, suc, ◌+◌, ◌-◌, ◌<◌, ◌≤◌, Bool, true, false, List, [], ◌∷◌, ◌++◌, length, get_or, replicate, set, refl, sym, ◌∙◌, ap, subst, arith, ⊎_elim, get_or-set_same, length-append, below_more}
 use Rattle.std.proofs.lemmas.Bool.{cases_lt}
 use Rattle.std.proofs.lemmas.List.{get_or_append_left, get_or-append_right, get_or-replicate, length-replicate, length-map, length-set}
 use Rattle.std.proofs.lemmas.List.Elements.{All-head, All-tail, All-from_get_or}
@@ -10,10 +9,8 @@ use Rattle.bool_expr.specs.Expression.{bit}
 use Rattle.machine_meaning.specs.Named.{value_at, values_at}
 use Rattle.machine_meaning.specs.Machine.{Machine, inputs, register_names}
 use Rattle.machine_meaning.specs.Cycles.{Settles, next}
-use Rattle.machine_core.specs.Order.{held_names, IsOrdered}
+use Rattle.machine_core.specs.Order.{held_names}
 use Rattle.machine_core.specs.Built.{built, BuiltSettles}
-use Rattle.pat_meaning.specs.Circuit.{of_machine}
-use Rattle.pat_meaning.specs.Simulation.{Takes}
 use Rattle.asimut_sim.specs.Load.{loaded}
 use Rattle.asimut_sim.specs.declared.flat.FlatMachine.{FlatMachine}
 use Rattle.asimut_sim.specs.Operator.{HasConstants}
@@ -39,8 +36,8 @@ both_bits a xs ys m h g k l =
     let many = length-append xs ys in
     ⊎_elim (λ before. h k before ∙ sym (get_or_append_left xs ys false k before))
     (λ behind.
-        let at : m + k ≡ m + length xs + (k - length xs) = omega (arith, behind) in
-        ap (bit a) at ∙ g (k - length xs) (omega (arith, l, many, behind)) ∙ sym (get_or-append_right xs ys (length xs) k false refl behind))
+    let at : m + k ≡ m + length xs + (k - length xs) = omega (arith, behind) in
+    ap (bit a) at ∙ g (k - length xs) (omega (arith, l, many, behind)) ∙ sym (get_or-append_right xs ys (length xs) k false refl behind))
     (cases_lt k (length xs))
 
 pub held_bits : (m : Machine) (a i s : List Bool) → length i ≡ length (inputs m) → length s ≡ length m.registers → ((k : ℕ) → k < length i → bit a (2 + k) ≡ bit i k)
@@ -135,11 +132,11 @@ writes_next from values old now after k v room h is e w =
     let P : List Bool → Type 0 = λ x. Writes from values old x (k + 1) in
     subst P (sym e)
     (record {
-        before = λ j l. bit-set_other now (from + k) j v (omega (arith, l)) ∙ w.before j l;
-        written =
-            below_more (λ j. bit (set now (from + k) v) (from + j) ≡ bit values j) k
-            (λ j l. bit-set_other now (from + k) (from + j) v (omega (arith, l)) ∙ w.written j l)
-            (get_or-set_same now (from + k) v false (omega (arith, room, h)) ∙ is);
+      before = λ j l. bit-set_other now (from + k) j v (omega (arith, l)) ∙ w.before j l;
+      written =
+          below_more (λ j. bit (set now (from + k) v) (from + j) ≡ bit values j) k
+          (λ j l. bit-set_other now (from + k) (from + j) v (omega (arith, l)) ∙ w.written j l)
+          (get_or-set_same now (from + k) v false (omega (arith, room, h)) ∙ is);
     })
 
 pub writes_ends : (from : ℕ) (values old now : List Bool) (k : ℕ) → length values ≤ k → Writes from values old now k → (j : ℕ) → j < length values → bit now (from + j) ≡ bit values j

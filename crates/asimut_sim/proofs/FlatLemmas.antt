@@ -1,5 +1,5 @@
 -- A flat machine from its parts.
-use Rattle.std.proofs.Common.{◌≡◌, ℕ, ◌+◌, ◌<◌, ◌≤◌, Bool, List, [], ◌++◌, map, length, refl, sym, ◌∙◌, ap, subst, arith, length-append}
+use Rattle.std.proofs.Common.{◌≡◌, ℕ, ◌+◌, List, [], map, length, refl, sym, ◌∙◌, ap, subst, arith, length-append}
 use Rattle.std.specs.List.{All}
 use Rattle.bool_expr.specs.Expression.{IsOver}
 use Rattle.std.proofs.lemmas.List.{length-map}
@@ -16,7 +16,7 @@ use Rattle.machine_core.specs.View.{equation_view, register_view}
 use Rattle.asimut_sim.specs.Load.{LoadsOver}
 use Rattle.asimut_sim.specs.declared.program.Program.{Program}
 use Rattle.asimut_sim.specs.declared.flat.FlatMachine.{FlatMachine}
-use Rattle.asimut_sim.specs.Program.{extent, Obeys, bits_of, AreBelow, ComputesEach}
+use Rattle.asimut_sim.specs.Program.{extent, bits_of, AreBelow, ComputesEach}
 use Rattle.asimut_sim.specs.Flat.{AreLoadsOf, ComputesLoads, IsFlat}
 use Rattle.asimut_sim.proofs.CycleLemmas.{rising_below}
 use Rattle.asimut_sim.proofs.LoadLemmas.{All-unmap}

@@ -1,5 +1,5 @@
 -- Expressions on the way into a program.
-use Rattle.std.proofs.Common.{◌≡◌, ℕ, ◌+◌, ◌<◌, ◌≤◌, Bool, List, [], ◌∷◌, ◌++◌, map, length, drop, length-drop, get_or, refl, sym, ◌∙◌, ap, subst, arith, Option, Some, option_to_list, false, if◌then◌else◌}
+use Rattle.std.proofs.Common.{◌≡◌, ℕ, ◌+◌, ◌<◌, ◌≤◌, Bool, List, [], ◌∷◌, ◌++◌, map, length, drop, length-drop, get_or, refl, sym, ◌∙◌, ap, subst, arith, Some, false, if◌then◌else◌}
 use Rattle.std.specs.List.{All}
 use Rattle.std.proofs.lemmas.List.{get_or-map, map_push, length_push, length-map}
 use Rattle.std.proofs.lemmas.List.Elements.{All-nil, All-push, All-pop, All-weaker}
@@ -45,9 +45,6 @@ pub record Climbs (first p : Program) (steps : List Step) (place : ℕ) (whole :
 
 pub climbs_begins : (p : Program) (steps : List Step) (inner : ℕ) → IsProgram p → All (StepBelow (extent p)) steps → inner < extent p → Climbs p p steps inner steps inner
 climbs_begins p steps inner program below within = record { goes_on = goes_on_itself p program; within = within; below = below; value = λ a h. refl }
-
-pub popped : (items steps : List Step) (s : Step) (r : Option Step) → items ≡ steps ++ option_to_list r → r ≡ Some s → items ≡ steps ++ s ∷ []
-popped items steps s r e is = e ∙ ap (λ (x : Option Step). steps ++ option_to_list x) is
 
 pub climbs_step : (first p : Program) (items steps : List Step) (s : Step) (place : ℕ) (whole : List Step) (inner : ℕ) → items ≡ steps ++ s ∷ []
     → Climbs first p items place whole inner → StepBelow (extent p) s
@@ -161,9 +158,9 @@ down_choice first p q r vars e rest condition one other steps items place at pus
     down_more first p r vars e rest other steps items (step.Choice place at) pushed (goes_on_further p q r c.goes_on f.goes_on) (omega (arith, low, grows), f.within)
     (over_at vars rest (choice condition one other) is d.over).1.1
     (λ a h.
-        ap (λ (x : Bool). if x then bit a at else val other (bits_of a vars)) (c.value a (f.goes_on.keeps a h))
-        ∙ ap (λ (x : Bool). if val condition (bits_of a vars) then x else val other (bits_of a vars)) (f.value a h)
-        ∙ ap (λ (x : Expression). val x (bits_of a vars)) (sym is)) d
+    ap (λ (x : Bool). if x then bit a at else val other (bits_of a vars)) (c.value a (f.goes_on.keeps a h))
+    ∙ ap (λ (x : Bool). if val condition (bits_of a vars) then x else val other (bits_of a vars)) (f.value a h)
+    ∙ ap (λ (x : Expression). val x (bits_of a vars)) (sym is)) d
 
 -- of equations: those that are left give the whole
 pub record Lays (first p : Program) (start vars : List ℕ) (equations : List EquationParts) (i : ℕ) : Type 0 where

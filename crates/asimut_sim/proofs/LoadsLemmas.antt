@@ -1,18 +1,16 @@
 -- Registers whose loads are laid out.
-use Rattle.std.proofs.Common.{◌≡◌, ℕ, suc, ◌+◌, ◌<◌, ◌≤◌, Bool, false, List, [], ◌∷◌, ◌++◌, map, length, take, drop, get_or, set, refl, sym, ◌∙◌, ap, subst, arith, append_assoc, append-nil, if◌then◌else◌}
-use Rattle.std.specs.List.{All, AllZip}
-use Rattle.std.proofs.lemmas.List.{length-map, map_more, take_all, drop_more, take_more_set, drop-set-lt, get_or_read, drop_all, length-set}
+use Rattle.std.proofs.Common.{◌≡◌, ℕ, suc, ◌+◌, ◌<◌, ◌≤◌, Bool, List, [], ◌∷◌, ◌++◌, map, length, take, drop, get_or, set, refl, sym, ◌∙◌, ap, subst, arith, append_assoc, append-nil, if◌then◌else◌}
+use Rattle.std.specs.List.{All}
+use Rattle.std.proofs.lemmas.List.{map_more, take_all, drop_more, take_more_set, drop-set-lt, drop_all}
 use Rattle.std.proofs.lemmas.List.Elements.{All-nil, All-cons, All-append, All-weaker}
-use Rattle.vlsi_base.specs.declared.name.Name.{Name}
 use Rattle.bool_expr.specs.Expression.{bit, val}
-use Rattle.bool_expr.specs.View.{view}
 use Rattle.machine_meaning.specs.Machine.{Register}
 use Rattle.machine_meaning.specs.declared.equation.Register.{Register as Parts}
 use Rattle.machine_core.specs.View.{register_view}
 use Rattle.asimut_sim.specs.Load.{loaded}
 use Rattle.asimut_sim.specs.declared.layout.Load.{Load}
 use Rattle.asimut_sim.specs.declared.program.Program.{Program}
-use Rattle.asimut_sim.specs.Program.{extent, IsProgram, Obeys, GoesOn, bits_of, Computes}
+use Rattle.asimut_sim.specs.Program.{extent, IsProgram, bits_of, Computes}
 use Rattle.asimut_sim.specs.Flat.{IsLoadBelow, AreLoadsOf, ComputesLoads, held_after}
 use Rattle.asimut_sim.proofs.ProgramLemmas.{goes_on_itself, goes_on_further, extent_grows}
 

@@ -1,5 +1,5 @@
 -- What multiplexers give, and what they read.
-use Rattle.std.proofs.Common.{◌≡◌, ◌≢◌, ℕ, ◌+◌, ◌<◌, ◌≤◌, Bool, true, false, not, List, [], ◌∷◌, ◌++◌, refl, sym, ◌∙◌, ap, arith, set, if◌then◌else◌, get_or-set_other}
+use Rattle.std.proofs.Common.{◌≡◌, ◌≢◌, ℕ, ◌<◌, ◌≤◌, Bool, true, false, not, List, [], ◌∷◌, ◌++◌, refl, ◌∙◌, ap, arith, set, if◌then◌else◌, get_or-set_other}
 use Rattle.bool_expr.specs.Expression.{bit, gate_value}
 use Rattle.bool_expr.specs.declared.expr.Gate.TheVariants.{And, Or, Nand, Nor, Xor, Xnor}
 use Rattle.asimut_sim.specs.declared.operator.Operator.{Operator}

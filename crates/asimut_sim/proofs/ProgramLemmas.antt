@@ -1,5 +1,5 @@
 -- Programs that get one operator more, and their runs.
-use Rattle.std.proofs.Common.{◌≡◌, ◌≢◌, ℕ, ◌+◌, ◌<◌, ◌≤◌, Bool, false, List, [], ◌∷◌, ◌++◌, length, refl, sym, ◌∙◌, ap, subst, arith, set, get_or, get_or-set_same, below_more}
+use Rattle.std.proofs.Common.{◌≡◌, ℕ, ◌+◌, ◌<◌, ◌≤◌, Bool, false, List, [], ◌∷◌, ◌++◌, length, refl, sym, ◌∙◌, ap, subst, arith, set, get_or, get_or-set_same, below_more}
 use Rattle.std.proofs.lemmas.List.{get_or_append_left, get_or_push, get_or_read, length_push}
 use Rattle.bool_expr.specs.Expression.{bit}
 use Rattle.asimut_sim.specs.declared.operator.Operator.{Operator}
@@ -90,13 +90,13 @@ ran_next p operators old a k i o v program all room low at read value r =
           let P : ℕ → Type 0 = λ n. bit (set a i v) (p.start + n) ≡ chosen (set a i v) (get_or p.operators.items n d) in
           below_more P k
           (λ n m.
-              let reads = program.reads n d (omega (arith, m, h)) in
-              bit-set_other a i (p.start + n) v (omega (arith, m, at)) ∙ r.each n d m
-              ∙ sym (chosen_set a i v (get_or p.operators.items n d) (reads_weaker (p.start + n) i (get_or p.operators.items n d) (omega (arith, m, at)) reads)))
+          let reads = program.reads n d (omega (arith, m, h)) in
+          bit-set_other a i (p.start + n) v (omega (arith, m, at)) ∙ r.each n d m
+          ∙ sym (chosen_set a i v (get_or p.operators.items n d) (reads_weaker (p.start + n) i (get_or p.operators.items n d) (omega (arith, m, at)) reads)))
           (let reads = program.reads k d h in
-              ap (bit (set a i v)) (sym at) ∙ get_or-set_same a i v false within ∙ value
-              ∙ ap (chosen a) (get_or_read p.operators.items k o h is d)
-              ∙ sym (chosen_set a i v (get_or p.operators.items k d) (reads_weaker (p.start + k) i (get_or p.operators.items k d) (omega (arith, at)) reads)))
+          ap (bit (set a i v)) (sym at) ∙ get_or-set_same a i v false within ∙ value
+          ∙ ap (chosen a) (get_or_read p.operators.items k o h is d)
+          ∙ sym (chosen_set a i v (get_or p.operators.items k d) (reads_weaker (p.start + k) i (get_or p.operators.items k d) (omega (arith, at)) reads)))
           j l;
     }
 

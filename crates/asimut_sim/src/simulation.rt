@@ -164,9 +164,7 @@ fn fill(
     let mut made = PatternList::new(Vec::new(alloc));
     for (number, pattern) in patterns.iter().enumerate() {
         let number = number as u32;
-        made.push(pass(
-            alloc, flat, plan, columns, pattern, number, &mut state,
-        )?)?;
+        made.push(pass(alloc, flat, plan, columns, pattern, number, &mut state)?)?;
     }
     Ok(made)
 }

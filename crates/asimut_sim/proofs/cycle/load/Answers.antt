@@ -1,4 +1,4 @@
-use Rattle.std.proofs.Common.{◌≡◌, ◌∙◌, List, ap, sym, subst, rules, arith, le_of_eq, length}
+use Rattle.std.proofs.Common.{◌∙◌, List, ap, sym, subst, arith, length}
 use Rattle.std.specs.List.{All}
 use Rattle.asimut_sim.specs.declared.layout.Load.{Load}
 use Rattle.asimut_sim.specs.Flat.{IsLoadBelow, held_after}

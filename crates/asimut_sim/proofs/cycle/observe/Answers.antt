@@ -1,4 +1,4 @@
-use Rattle.std.proofs.Common.{◌≡◌, ◌∙◌, Bool, refl, ap, sym, subst, length}
+use Rattle.std.proofs.Common.{◌∙◌, Bool, refl, ap, sym, subst, length}
 use Rattle.pat_meaning.specs.Circuit.{of_machine}
 use Rattle.pat_meaning.specs.Simulation.{Takes}
 use Rattle.asimut_sim.specs.Program.{bits_of}

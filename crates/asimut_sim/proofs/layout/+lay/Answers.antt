@@ -21,9 +21,11 @@ descend-loop-rest-preserved-in-Pair t c =
     (search (rules, the_lemmas), down_pair _ _ _ _ _ _ _ _ _ _ _ _ c.in_ok-push-in-Pair.ensures.items (search rules) c.in_ok-right-in-Pair.ensures c.loop-rest.invariant.1)
 
 pub descend-loop-rest-preserved : goal.descend-loop-rest-preserved
-descend-loop-rest-preserved t c =
-    (search (rules, the_lemmas), down_choice _ _ _ _ _ _ _ _ _ _ _ _ _ _ c.in_ok-push-in-Choice.ensures.items (search rules) c.in_ok-condition-in-Choice.ensures
-      c.in_ok-first-in-Choice.ensures c.loop-rest.invariant.1)
+descend-loop-rest-preserved t c = (
+  search (rules, the_lemmas),
+  down_choice _ _ _ _ _ _ _ _ _ _ _ _ _ _ c.in_ok-push-in-Choice.ensures.items (search rules) c.in_ok-condition-in-Choice.ensures
+      c.in_ok-first-in-Choice.ensures c.loop-rest.invariant.1,
+)
 
 pub lay-ascend-requires-clause-program : goal.lay-ascend-requires-clause-program
 lay-ascend-requires-clause-program t c = c.in_ok-steps.ensures.goes_on.program
