@@ -1,7 +1,9 @@
 -- The first bit of a range, from the left, at which a test answers true.
-use Rattle.std.proofs.Common.{◌≡◌, ℕ, zero, suc, ◌+◌, ◌-◌, ◌<◌, ◌≤◌, Bool, true, false, ◌||◌, ◌&&◌, nat_le, nat_lt, List, [], ◌∷◌, Option, Some, None, refl, sym, ap, subst, ◌∙◌, inl, inr, arith}
+use Rattle.std.proofs.Common.{◌≡◌, ℕ, zero, suc, ◌+◌, ◌-◌, ◌<◌, ◌≤◌, Bool, true, false, ◌||◌, ◌&&◌, nat_le, nat_lt, bytes_eq, List, [], ◌∷◌, length, take, get_or, Option, Some, None, refl, sym, ap, subst, ◌∙◌, inl, inr, arith}
 use Rattle.std.specs.List.{list_any, find}
 use Rattle.std.proofs.str.Laws.{order}
+use Rattle.std.proofs.lemmas.List.Folds.{list_any_more}
+use Rattle.std.proofs.lemmas.Slice.Eq.{bytes_eq-Decides}
 use Rattle.std.proofs.lemmas.Bool.{lt-ltb, ltb-true, ltb-false, lt-leb, le-leb}
 use Rattle.std.proofs.lemmas.Bool.Decides.{leb_tells}
 use Rattle.vlsi_base.specs.declared.name.Name.{Name}
@@ -14,7 +16,10 @@ use Rattle.pat_io.specs.Digits.{bit_range}
 use Rattle.pat_io.specs.Apart.{share_bit}
 use Rattle.pat_io.specs.FirstBit.{is_left_of, IsFirst, FirstOf}
 use Rattle.pat_io.proofs.Ranges.{bit_name, bounds, up_ends, down_ends, up_range, down_range, InRange}
-use Rattle.pat_io.proofs.Listing.{some_shared}
+use Rattle.pat_io.proofs.Listing.{lists_between, lists_not, some_shared}
+
+clash : (b : Bool) → b ≡ true → b ≡ false → ⊥
+clash b e f = cc
 
 -- ---- left and right
 
@@ -23,63 +28,6 @@ left_up r j k e h = rw e (lt-ltb j k h)
 
 left_down : (r : Range) (j k : ℕ) → nat_le r.left r.right ≡ false → k < j → is_left_of r j k ≡ true
 left_down r j k e h = rw e (lt-ltb k j h)
-
--- what stands left, seen from whichever end
-abbrev Left : Bool → ℕ → ℕ → Bool
-Left up j k = if up then nat_lt j k else nat_lt k j
-
-left_left : (up : Bool) (i j k : ℕ) → Left up i j ≡ true → Left up j k ≡ true → Left up i k ≡ true
-left_left true i j k a b = let x = ltb-true i j a in let y = ltb-true j k b in lt-ltb i k (omega arith)
-left_left false i j k a b = let x = ltb-true j i a in let y = ltb-true k j b in lt-ltb k i (omega arith)
-
-left_not : (up : Bool) (i j k : ℕ) → Left up i j ≡ true → Left up k j ≡ false → Left up i k ≡ true
-left_not true i j k a b = let x = ltb-true i j a in let y = ltb-false k j b in lt-ltb i k (omega arith)
-left_not false i j k a b = let x = ltb-true j i a in let y = ltb-false j k b in lt-ltb k i (omega arith)
-
--- ---- of two tests
-
-either : (a b : Bool) → a ≡ false → b ≡ false → (a || b) ≡ false
-either a b h g = rw (h, g) refl
-
-or_first : (a b : Bool) → a ≡ true → (a || b) ≡ true
-or_first a b h = rw h refl
-
-or_second : (a b : Bool) → b ≡ true → (a || b) ≡ true
-or_second true b h = refl
-or_second false b h = h
-
-pub second_left : (r : Range) (a b : ℕ) (p q : ℕ → Bool) → is_left_of r b a ≡ true → IsFirst p r a → IsFirst q r b → IsFirst (λ k. p k || q k) r b
-second_left r a b p q left f g = record {
-  low = g.low;
-  high = g.high;
-  holds = or_second (p b) (q b) g.holds;
-  none_left = λ j low high l. either (p j) (q j) (f.none_left j low high (left_left (nat_le r.left r.right) j b a l left)) (g.none_left j low high l);
-}
-
-pub first_left : (r : Range) (a b : ℕ) (p q : ℕ → Bool) → is_left_of r b a ≡ false → IsFirst p r a → IsFirst q r b → IsFirst (λ k. p k || q k) r a
-first_left r a b p q left f g = record {
-  low = f.low;
-  high = f.high;
-  holds = or_first (p a) (q a) f.holds;
-  none_left = λ j low high l. either (p j) (q j) (f.none_left j low high l) (g.none_left j low high (left_not (nat_le r.left r.right) j a b l left));
-}
-
-pub only_first : (r : Range) (a : ℕ) (p q : ℕ → Bool) → IsFirst p r a → FirstOf q r None → IsFirst (λ k. p k || q k) r a
-only_first r a p q f g = record {
-  low = f.low;
-  high = f.high;
-  holds = or_first (p a) (q a) f.holds;
-  none_left = λ j low high l. either (p j) (q j) (f.none_left j low high l) (g j low high);
-}
-
-pub only_second : (r : Range) (o : Option ℕ) (p q : ℕ → Bool) → FirstOf p r None → FirstOf q r o → FirstOf (λ k. p k || q k) r o
-only_second r None p q f g = λ j low high. either (p j) (q j) (f j low high) (g j low high)
-only_second r (Some b) p q f g = record {
-  low = g.low;
-  high = g.high;
-  holds = or_second (p b) (q b) g.holds;
-  none_left = λ j low high l. either (p j) (q j) (f j low high) (g.none_left j low high l);
-}
 
 -- a test that answers the same
 pub same_first : (r : Range) (o : Option ℕ) (p q : ℕ → Bool) → ((k : ℕ) → q k ≡ p k) → FirstOf p r o → FirstOf q r o
@@ -90,6 +38,27 @@ same_first r (Some k) p q h f = record {
   holds = h k ∙ f.holds;
   none_left = λ j low high l. h j ∙ f.none_left j low high l;
 }
+
+-- ---- the bits that a column lists
+
+pub none_by_name : (text : List ℕ) (r : Range) (c : ParsedColumn) → bytes_eq c.name text ≡ false → FirstOf (λ k. lists (record { text = text; bit = Some k }) c) r None
+none_by_name text r c other j low high = lists_not text c j (λ named i. clash (bytes_eq c.name text) ((bytes_eq-Decides c.name text).1 named) other)
+
+pub first_between : (text : List ℕ) (r s : Range) (c : ParsedColumn) (o : Option ℕ) → bytes_eq c.name text ≡ true → c.range ≡ Some s
+    → FirstOf (λ k. nat_le (least s) k && nat_le k (greatest s)) r o → FirstOf (λ k. lists (record { text = text; bit = Some k }) c) r o
+first_between text r s c o named ranged f =
+    same_first r o (λ k. nat_le (least s) k && nat_le k (greatest s)) (λ k. lists (record { text = text; bit = Some k }) c)
+    (λ k. lists_between text c s k ((bytes_eq-Decides c.name text).0 named) ranged) f
+
+-- one more column
+pub first_more : (text : List ℕ) (r : Range) (columns : List ParsedColumn) (i : ℕ) (d : ParsedColumn) (o : Option ℕ) → i < length columns → get_or columns i d ≡ d
+    → FirstOf (λ k. list_any (lists (record { text = text; bit = Some k })) (take i columns) || lists (record { text = text; bit = Some k }) d) r o
+    → FirstOf (λ k. list_any (lists (record { text = text; bit = Some k })) (take (i + 1) columns)) r o
+first_more text r columns i d o within is f =
+    same_first r o (λ k. list_any (lists (record { text = text; bit = Some k })) (take i columns) || lists (record { text = text; bit = Some k }) d)
+    (λ k. list_any (lists (record { text = text; bit = Some k })) (take (i + 1) columns))
+    (λ k. list_any_more (lists (record { text = text; bit = Some k })) columns i d within
+    ∙ ap (λ (c : ParsedColumn). list_any (lists (record { text = text; bit = Some k })) (take i columns) || lists (record { text = text; bit = Some k }) c) is) f
 
 -- ---- what is found
 
@@ -128,9 +97,6 @@ find_first p text r k f = elim (leb_tells r.left r.right) [
 ]
 
 -- ---- the bit that is listed again
-
-clash : (b : Bool) → b ≡ true → b ≡ false → ⊥
-clash b e f = cc
 
 name_of : (n : Name) (text : List ℕ) (bit : Option ℕ) → n.text ≡ text → n.bit ≡ bit → n ≡ record { text = text; bit = bit }
 name_of n text bit t b =

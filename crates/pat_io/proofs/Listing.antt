@@ -1,5 +1,5 @@
 -- Which bits a column lists, and when one before it lists one of them.
-use Rattle.std.proofs.Common.{◌≡◌, ℕ, ◌≤◌, Bool, true, false, ◌&&◌, ◌||◌, nat_le, List, [], ◌∷◌, ◌++◌, bytes_eq, Option, Some, None, refl, sym, ap, subst, ◌∙◌}
+use Rattle.std.proofs.Common.{◌≡◌, ℕ, ◌≤◌, Bool, true, false, ◌&&◌, ◌||◌, nat_le, List, [], ◌∷◌, ◌++◌, bytes_eq, Option, Some, None, refl, sym, ap, subst, ◌∙◌, if◌then◌else◌}
 use Rattle.std.specs.List.{list_any, find}
 use Rattle.std.proofs.lemmas.Bool.{le-leb, leb-true}
 use Rattle.std.proofs.lemmas.Slice.Eq.{bytes_eq-Decides}
@@ -44,21 +44,21 @@ record Passes {A : Type 0} (p : A → Bool) (xs : List A) : Type 0 where
 
 passing : {A : Type 0} (p : A → Bool) (xs : List A) → list_any p xs ≡ true → Passes p xs
 passing p [] h = absurd cc
-passing p (x ∷ xs) h = by (p x) refl h where
-  by : (b : Bool) → p x ≡ b → (b || list_any p xs) ≡ true → Passes p (x ∷ xs)
-  by true e h = record { one = x; among = here; passes = e }
-  by false e h = let more = passing p xs h in record { one = more.one; among = there more.among; passes = more.passes }
+passing p (x ∷ xs) h = by (p x) refl h (passing p xs) where
+  by : (b : Bool) → p x ≡ b → (b || list_any p xs) ≡ true → (list_any p xs ≡ true → Passes p xs) → Passes p (x ∷ xs)
+  by true e h later = record { one = x; among = here; passes = e }
+  by false e h later = let more = later h in record { one = more.one; among = there more.among; passes = more.passes }
 
 find_none : {A : Type 0} (p : A → Bool) (xs : List A) → ((x : A) → In x xs → p x ≡ false) → find p xs ≡ None
 find_none p [] h = refl
 find_none p (x ∷ xs) h = rw (h x here) (find_none p xs (λ y i. h y (there i)))
 
 none_found : {A : Type 0} (p : A → Bool) (xs : List A) → find p xs ≡ None → (x : A) → In x xs → p x ≡ false
-none_found {A} p (y ∷ xs) h x i = by (p y) refl h x i where
-  by : (b : Bool) → p y ≡ b → (if b then Some y else find p xs) ≡ None → (x : A) → In x (y ∷ xs) → p x ≡ false
-  by true e h x i = absurd cc
-  by false e h x here = e
-  by false e h x (there i) = none_found p xs h x i
+none_found {A} p (y ∷ xs) h x i = by (p y) refl h x i (λ z g. none_found p xs g z) where
+  by : (b : Bool) → p y ≡ b → (if b then Some y else find p xs) ≡ None → (z : A) → In z (y ∷ xs) → ((z : A) → find p xs ≡ None → In z xs → p z ≡ false) → p z ≡ false
+  by true e h z i later = absurd cc
+  by false e h z here later = e
+  by false e h z (there i) later = later z h i
 none_found p [] h x i = elim i [ ]
 
 clash : (b : Bool) → b ≡ true → b ≡ false → ⊥

@@ -51,10 +51,13 @@ fn first_in_both(range: Range, other: Range) -> Option<u32>
 fn first_in(name: &[u8], range: Range, column: &ParsedColumn) -> Option<u32>
     ensures { FirstOf (λ k. lists (record { text = name.now; bit = Some k }) column.now) range result }
 {
-    match column.range {
-        Some(other) if column.name.as_bytes() == name => first_in_both(range, other),
-        _ => None,
+    let Some(other) = column.range else {
+        return None;
+    };
+    if column.name.as_bytes() == name {
+        return first_in_both(range, other);
     }
+    None
 }
 
 /// The first bit of a range, from the left, that some column of the same name lists.
@@ -70,6 +73,7 @@ fn first_in_any(name: &[u8], range: Range, columns: &[ParsedColumn]) -> Option<u
 
 /// The first bit of a column that one before it lists as well, where there is one; a scalar's has no number. Its time goes by
 /// the number of columns, however many bits they list.
+#[tactic(auto, using(crate::proofs::Firsts::named_scalar))]
 pub fn first_again(before: &[ParsedColumn], column: &ParsedColumn) -> Option<u32>
     requires again { list_any (share_bit column.now) before.now ≡ true }
     ensures { first_again before.now column.now ≡ Some (record { text = column.now.name; bit = result }) }

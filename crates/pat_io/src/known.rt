@@ -42,6 +42,13 @@ fn share_bit(a: &ParsedColumn, b: &ParsedColumn) -> bool
     a.name.as_bytes() == b.name.as_bytes() && overlap(a.range, b.range)
 }
 
+/// Whether a column lists a bit that one of these lists.
+fn shares_bit(columns: &[ParsedColumn], column: &ParsedColumn) -> bool
+    ensures { result ≡ list_any (share_bit column.now) columns.now }
+{
+    columns.iter().any(|other| share_bit(column, other))
+}
+
 /// Whether a column lists a bit that one before it lists. The first ones, as many as `apart` says, list no bit twice, so
 /// only a column behind them is compared with those before it.
 fn is_listed(columns: &[ParsedColumn], apart: usize, place: usize, column: &ParsedColumn) -> bool
@@ -54,9 +61,7 @@ fn is_listed(columns: &[ParsedColumn], apart: usize, place: usize, column: &Pars
     if place < apart {
         return false;
     }
-    columns[..place]
-        .iter()
-        .any(|other| share_bit(column, other))
+    shares_bit(&columns[..place], column)
 }
 
 /// The fault of a column that is told by its name and this bit.
