@@ -32,7 +32,7 @@ use Rattle.pat_io.specs.Digits.{column_width, bit_range, column_of, value_for, v
 use Rattle.pat_io.specs.Fitting.{if_not, is_port, column_fits, column_line, column_faults, value_fits, value_faults, pattern_faults, width_faults}
 use Rattle.pat_io.specs.PatternText.{fault_in}
 use Rattle.pat_io.specs.ReadAgain.{written_range, written_column, written_digits, written_values, written_pattern, written, WrittenMeansItself}
-use Rattle.pat_io.proofs.Ranges.{and_parts, all_in, names_in, ends_order, length_names}
+use Rattle.pat_io.proofs.Ranges.{all_in, names_in, ends_order, length_names}
 use Rattle.pat_io.proofs.Listing.{IsNew, new_column}
 use Rattle.pat_io.proofs.Again.{digits_read_again}
 

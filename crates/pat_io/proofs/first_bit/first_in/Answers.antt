@@ -1,4 +1,4 @@
-use Rattle.std.proofs.Common.{rules, ◌≡◌, Bool, true, false, bytes_eq}
+use Rattle.std.proofs.Common.{rules, ◌≡◌, true, false, bytes_eq}
 use Rattle.pat_io.proofs.Firsts.{none_by_name, first_between}
 use Rattle.pat_io.proofs.first_bit.first_in.Goals as goal
 
