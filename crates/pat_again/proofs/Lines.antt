@@ -1,5 +1,5 @@
 -- Whether what is written has a fault, and what it means, doesn't go by its lines.
-use Rattle.std.proofs.Common.{◌≡◌, ℕ, Bool, true, false, not, ◌&&◌, ◌||◌, nat_le, bytes_eq, List, [], ◌∷◌, ◌++◌, map, Option, None, Some, refl, sym, ap, ◌∙◌, if◌then◌else◌}
+use Rattle.std.proofs.Common.{◌≡◌, ℕ, Bool, true, false, ◌||◌, nat_le, List, [], ◌∷◌, ◌++◌, map, Option, None, Some, refl, sym, ap, ◌∙◌, if◌then◌else◌}
 use Rattle.std.specs.List.{list_any, find}
 use Rattle.vlsi_base.specs.declared.name.Name.{Name}
 use Rattle.vlsi_base.specs.declared.name.Port.{Port}
@@ -102,7 +102,7 @@ all_known ports [] l xs ys h none = refl
 all_known ports (c ∷ cs) l xs ys h none =
     let parts = known (written_column 1 c) (unknown_name ports ys (written_column 1 c)) (unknown_behind ports (ys ++ written_column 1 c ∷ []) (map (written_column 1) cs)) none in
     let same : unknown_name ports xs (written_column l c) ≡ unknown_name ports ys (written_column 1 c) =
-      ap (λ (o : Option Name). if is_known ports (written_column 1 c) then o else Some (record { text = c.name; bit = None })) (again_alike xs ys c l h) in
+    ap (λ (o : Option Name). if is_known ports (written_column 1 c) then o else Some (record { text = c.name; bit = None })) (again_alike xs ys c l h) in
     stays_known (written_column l c) (unknown_name ports xs (written_column l c)) (unknown_behind ports (xs ++ written_column l c ∷ []) (columns_from (line_behind l) cs)) (same ∙ parts.0)
     (all_known ports cs (line_behind l) (xs ++ written_column l c ∷ []) (ys ++ written_column 1 c ∷ []) (one_more xs ys c l h) parts.1)
 
