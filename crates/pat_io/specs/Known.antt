@@ -34,6 +34,7 @@ is_known ports c = is_supply_input c || list_any (is_of_port c) ports
 abbrev pub bits_of : ParsedColumn → List Name
 bits_of c = column_names (column_of c)
 
+-- a column lists the bit
 abbrev pub lists : Name → ParsedColumn → Bool
 lists n c = list_any (is_same_name n) (bits_of c)
 
@@ -45,7 +46,7 @@ first_again before c = find (λ n. list_any (lists n) before) (bits_of c)
 abbrev pub unknown_name : List Port → List ParsedColumn → ParsedColumn → Option Name
 unknown_name ports before c = if is_known ports c then first_again before c else Some (record { text = c.name; bit = None })
 
--- it is told with the line of its column
+-- the fault that is told: this name, on the line of its column
 abbrev pub unknown_fault : ParsedColumn → Name → InputFault
 unknown_fault c n = record { line = c.line; kind = Unknown; names = n ∷ [] }
 
