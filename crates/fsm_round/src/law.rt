@@ -1,0 +1,19 @@
+// What is written of a state machine is read again.
+ghost use Rattle.fsm_round.specs.Again.{FsmIsAccepted, FsmReadAgain};
+
+use fsm_io::{never_both, one_fsm};
+
+/// What the text of a state machine is read as is that state machine: the same name, ports, clock, states and statements.
+pub fn fsm_read_again()
+    ensures { FsmReadAgain }
+{
+    one_fsm();
+}
+
+/// The text of a state machine passes all checks of texts, and where it is within their limits it is refused only where memory has
+/// run out.
+pub fn fsm_is_accepted()
+    ensures { FsmIsAccepted }
+{
+    never_both();
+}
