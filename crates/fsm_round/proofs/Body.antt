@@ -67,7 +67,7 @@ abbrev pub frame_with : List Symbol → Words → Frame
 frame_with known w = record { vars = w.vars; known = known; states = texts_of w.states; next = w.next }
 
 module _ (known : List Symbol) (clock : List ℕ) (w : Words) (f : Fsm) (can : CanReadBody known clock w f) where
-  state_again : (k : ℕ) → k < length w.states → state_number (texts_of w.states) (state_text w k) ≡ k
+  pub state_again : (k : ℕ) → k < length w.states → state_number (texts_of w.states) (state_text w k) ≡ k
   state_again k l =
       let many = length-map w.states (λ (n : Name). n.text) in
       ap (state_number (texts_of w.states)) (sym (get_or-map (λ (n : Name). n.text) w.states k (scalar []) [] l))
@@ -82,14 +82,14 @@ module _ (known : List Symbol) (clock : List ℕ) (w : Words) (f : Fsm) (can : C
       ap (λ (n : ℕ). n ∷ rest) (state_again k (All-head P k ks all)) ∙ ap (λ (ns : List ℕ). k ∷ ns) (states_again line ks (All-tail P k ks all))
 
   condition_again : (e : Expression) → ReadsInputs f e → HasNoChoice e → (line : ℕ) → condition_of (frame_with known w) (tree w.vars line e) ≡ e
-  condition_again e reads no line =
-      let x = said known clock w.vars f can.inputs e reads no line in
+  condition_again e reads free line =
+      let x = said known clock w.vars f can.inputs e reads free line in
       ap (λ (fs : List Formula). numbered w.vars (first_bit fs)) x.plain.bits ∙ x.again
 
   output_again : (n : Name) (e : Expression) → IsAssignmentOf f (s.output n e) → HasNoChoice e → (line : ℕ) (rest : s.Statements)
       → statement_bits (frame_with known w) (placed_assignment w line (s.output n e)) rest ≡ s.assign (s.output n e) rest
-  output_again n e of no line rest =
-      let x = said known clock w.vars f can.inputs e of.1 no line in
+  output_again n e of free line rest =
+      let x = said known clock w.vars f can.inputs e of.1 free line in
       let i = contains_in (fsm_outputs f) n of.0 in
       let t = placed_target line n in
       let v = tree w.vars line e in
@@ -100,58 +100,58 @@ module _ (known : List Symbol) (clock : List ℕ) (w : Words) (f : Fsm) (can : C
 
   next_again : (k : ℕ) → k < length w.states → (line : ℕ) (rest : s.Statements) → statement_bits (frame_with known w) (placed_assignment w line (s.next k)) rest ≡ s.assign (s.next k) rest
   next_again k l line rest =
-      let t = record (placed_target line (scalar w.next)) { name = w.next } in
+      let t = placed_target line (scalar w.next) in
       let v = name (state_text w k) line in
       ap (λ b. cond b (s.assign (s.next (next_number (texts_of w.states) v)) rest) (assign_bits w.vars (target_names known t) (formulas known v) rest)) (itself w.next)
       ∙ ap (λ (j : ℕ). s.assign (s.next j) rest) (state_again k l)
 
   mutual
     pub body_again : (line : ℕ) (b : s.Statements) → IsBodyOf f b → IsPlainBody b → IsKnownBody w b → body_bits (frame_with known w) (placed_body w line b) ≡ b
-    body_again line s.finish of no is = refl
-    body_again line (s.assign (s.output n e) rest) of no is =
-        output_again n e of.0 no.0 line (body_bits (frame_with known w) (placed_body w (line_behind line) rest))
-        ∙ ap (λ (y : s.Statements). s.assign (s.output n e) y) (body_again (line_behind line) rest of.1 no.1 is.1)
-    body_again line (s.assign (s.next k) rest) of no is =
+    body_again line s.finish of free is = refl
+    body_again line (s.assign (s.output n e) rest) of free is =
+        output_again n e of.0 free.0 line (body_bits (frame_with known w) (placed_body w (line_behind line) rest))
+        ∙ ap (λ (y : s.Statements). s.assign (s.output n e) y) (body_again (line_behind line) rest of.1 free.1 is.1)
+    body_again line (s.assign (s.next k) rest) of free is =
         next_again k is.0 line (body_bits (frame_with known w) (placed_body w (line_behind line) rest))
-        ∙ ap (λ (y : s.Statements). s.assign (s.next k) y) (body_again (line_behind line) rest of.1 no.1 is.1)
-    body_again line (s.choose ps rest) of no is =
+        ∙ ap (λ (y : s.Statements). s.assign (s.next k) y) (body_again (line_behind line) rest of.1 free.1 is.1)
+    body_again line (s.choose ps rest) of free is =
         let l = line_of line (if_layout w ps) in
-        ap (λ (y : s.Parts). s.choose y (body_bits (frame_with known w) (placed_body w l rest))) (parts_again line ps of.0 no.0 is.0)
-        ∙ ap (λ (y : s.Statements). s.choose ps y) (body_again l rest of.1 no.1 is.1)
-    body_again line (s.select bs rest) of no is =
+        ap (λ (y : s.Parts). s.choose y (body_bits (frame_with known w) (placed_body w l rest))) (parts_again line ps of.0 free.0 is.0)
+        ∙ ap (λ (y : s.Statements). s.choose ps y) (body_again l rest of.1 free.1 is.1)
+    body_again line (s.select bs rest) of free is =
         let l = line_of line (case_layout w bs) in
-        ap (λ (y : s.Branches). s.select y (body_bits (frame_with known w) (placed_body w l rest))) (branches_again (line_behind line) bs of.0 no.0 is.0)
-        ∙ ap (λ (y : s.Statements). s.select bs y) (body_again l rest of.1 no.1 is.1)
+        ap (λ (y : s.Branches). s.select y (body_bits (frame_with known w) (placed_body w l rest))) (branches_again (line_behind line) bs of.0 free.0 is.0)
+        ∙ ap (λ (y : s.Statements). s.select bs y) (body_again l rest of.1 free.1 is.1)
 
     parts_again : (line : ℕ) (ps : s.Parts) → ArePartsOf f ps → ArePlainParts ps → AreKnownParts w ps → parts_bits (frame_with known w) (placed_parts w line ps) ≡ ps
-    parts_again line (s.only c a) of no is =
-        ap (λ (y : Expression). s.only y (body_bits (frame_with known w) (placed_body w (line_behind line) a))) (condition_again c of.0 no.0 line)
-        ∙ ap (λ (y : s.Statements). s.only c y) (body_again (line_behind line) a of.1 no.1 is.1)
-    parts_again line (s.either c a b) of no is =
+    parts_again line (s.only c a) of free is =
+        ap (λ (y : Expression). s.only y (body_bits (frame_with known w) (placed_body w (line_behind line) a))) (condition_again c of.0 free.0 line)
+        ∙ ap (λ (y : s.Statements). s.only c y) (body_again (line_behind line) a of.1 free.1 is.1)
+    parts_again line (s.either c a b) of free is =
         let F = frame_with known w in
         let l = line_behind (behind_body w (line_behind line) a) in
         let A = body_bits F (placed_body w (line_behind line) a) in
         let B = body_bits F (placed_body w l b) in
-        ap (λ (y : Expression). s.either y A B) (condition_again c of.0 no.0 line)
-        ∙ ap (λ (y : s.Statements). s.either c y B) (body_again (line_behind line) a of.1.0 no.1.0 is.0.1)
-        ∙ ap (λ (y : s.Statements). s.either c a y) (body_again l b of.1.1 no.1.1 is.1)
-    parts_again line (s.further c a more) of no is =
+        ap (λ (y : Expression). s.either y A B) (condition_again c of.0 free.0 line)
+        ∙ ap (λ (y : s.Statements). s.either c y B) (body_again (line_behind line) a of.1.0 free.1.0 is.0.1)
+        ∙ ap (λ (y : s.Statements). s.either c a y) (body_again l b of.1.1 free.1.1 is.1)
+    parts_again line (s.further c a more) of free is =
         let F = frame_with known w in
         let l = behind_body w (line_behind line) a in
         let A = body_bits F (placed_body w (line_behind line) a) in
         let M = parts_bits F (placed_parts w l more) in
-        ap (λ (y : Expression). s.further y A M) (condition_again c of.0 no.0 line)
-        ∙ ap (λ (y : s.Statements). s.further c y M) (body_again (line_behind line) a of.1.0 no.1.0 is.0.1)
-        ∙ ap (λ (y : s.Parts). s.further c a y) (parts_again l more of.1.1 no.1.1 is.1)
+        ap (λ (y : Expression). s.further y A M) (condition_again c of.0 free.0 line)
+        ∙ ap (λ (y : s.Statements). s.further c y M) (body_again (line_behind line) a of.1.0 free.1.0 is.0.1)
+        ∙ ap (λ (y : s.Parts). s.further c a y) (parts_again l more of.1.1 free.1.1 is.1)
 
     branches_again : (line : ℕ) (bs : s.Branches) → AreBranchesOf f bs → ArePlainBranches bs → AreKnownBranches w bs → branches_bits (frame_with known w) (placed_branches w line bs) ≡ bs
-    branches_again line s.closed of no is = refl
-    branches_again line (s.others a) of no is = ap (λ (y : s.Statements). s.others y) (body_again (line_behind line) a of no is)
-    branches_again line (s.listed ks a more) of no is =
+    branches_again line s.closed of free is = refl
+    branches_again line (s.others a) of free is = ap (λ (y : s.Statements). s.others y) (body_again (line_behind line) a of free is)
+    branches_again line (s.listed ks a more) of free is =
         let F = frame_with known w in
         let l = behind_body w (line_behind line) a in
         let A = body_bits F (placed_body w (line_behind line) a) in
         let M = branches_bits F (placed_branches w l more) in
         ap (λ (y : List ℕ). s.listed y A M) (states_again line ks is.0.0.1)
-        ∙ ap (λ (y : s.Statements). s.listed ks y M) (body_again (line_behind line) a of.0 no.0 is.0.1)
-        ∙ ap (λ (y : s.Branches). s.listed ks a y) (branches_again l more of.1 no.1 is.1)
+        ∙ ap (λ (y : s.Statements). s.listed ks y M) (body_again (line_behind line) a of.0 free.0 is.0.1)
+        ∙ ap (λ (y : s.Branches). s.listed ks a y) (branches_again l more of.1 free.1 is.1)

@@ -6,7 +6,7 @@ use Rattle.bool_expr.specs.Expression.{Expression, constant, variable, inverse a
 use Rattle.source_meaning.specs.declared.symbol_table.Role.TheVariants as role
 use Rattle.source_meaning.specs.declared.symbol_table.Symbol.{Symbol}
 use Rattle.source_meaning.specs.Symbols.{find}
-use Rattle.source_meaning.specs.Formula.{numbered, place}
+use Rattle.source_meaning.specs.Formula.{named, numbered, place}
 use Rattle.source_meaning.specs.Widths.{if_not, target_width, target_faults}
 use Rattle.source_meaning.specs.Drivers.{target_names}
 use Rattle.vbe_write.specs.Expressions.{name_of}
@@ -18,10 +18,14 @@ use Rattle.fsm_core.specs.Checked.{IsInput, ReadsInputs}
 use Rattle.fsm_io.specs.Unsupported.{is_input, may_read, read_forms, expression_forms}
 use Rattle.fsm_write.specs.Writable.{IsPlain as HasNoChoice}
 
--- the variable is an input that can be read, and its name has its number
-pub record IsReadInput (known : List Symbol) (clock : List ℕ) (vars : List Name) (k : ℕ) : Type 0 where
-  pub readable : IsReadable known (Some clock) (name_of vars k)
+-- the name is an input that can be read
+pub record IsReadName (known : List Symbol) (clock : List ℕ) (n : Name) : Type 0 where
+  pub readable : IsReadable known (Some clock) n
   pub input : readable.declared.symbol.role ≡ role.Input
+
+-- the variable has the name of such an input, which has its number
+pub record IsReadInput (known : List Symbol) (clock : List ℕ) (vars : List Name) (k : ℕ) : Type 0 where
+  pub name : IsReadName known clock (name_of vars k)
   pub again : place vars (name_of vars k) ≡ k
 
 -- so it is with each input but the clock
@@ -41,33 +45,33 @@ bit_forms : (known : List Symbol) (n : Name) (d : IsDeclared known n) → d.symb
 bit_forms known n d e line None = ap (λ b. if_not b line) (may known n d e)
 bit_forms known n d e line (Some k) = ap (λ b. if_not b line) (may known n d e)
 
-plain_name : (known : List Symbol) (clock : List ℕ) (n : Name) (line : ℕ) → IsReadable known (Some clock) n → IsPlain known (Some clock) (placed_name line n) (formula_of (n ∷ []) (variable 0))
+plain_name : (known : List Symbol) (clock : List ℕ) (n : Name) (line : ℕ) → IsReadable known (Some clock) n → IsPlain known (Some clock) (placed_name line n) (named n)
 plain_name known clock n line r = by n.bit refl where
-  by : (b : Option ℕ) → n.bit ≡ b → IsPlain known (Some clock) (placed_bit n.text line b) (formula_of (n ∷ []) (variable 0))
+  by : (b : Option ℕ) → n.bit ≡ b → IsPlain known (Some clock) (placed_bit n.text line b) (named n)
   by None e = plain_whole known (Some clock) n line r e
   by (Some k) e = plain_index known (Some clock) n line k r e
 
 pub said : (known : List Symbol) (clock : List ℕ) (vars : List Name) (f : Fsm) → InputsAreRead known clock vars f → (e : Expression) → ReadsInputs f e → HasNoChoice e → (line : ℕ) → IsSaid known clock vars (tree vars line e) e
-said known clock vars f all (constant b) reads no line = record { plain = plain_bit known (Some clock) b line; forms = refl; again = refl }
-said known clock vars f all (variable k) reads no line =
+said known clock vars f all (constant b) reads free line = record { plain = plain_bit known (Some clock) b line; forms = refl; again = refl }
+said known clock vars f all (variable k) reads free line =
     let r = all k reads in
     record {
-      plain = plain_name known clock (name_of vars k) line r.readable;
-      forms = bit_forms known (name_of vars k) r.readable.declared r.input line (name_of vars k).bit;
+      plain = plain_name known clock (name_of vars k) line r.name.readable;
+      forms = bit_forms known (name_of vars k) r.name.readable.declared r.name.input line (name_of vars k).bit;
       again = ap (λ (j : ℕ). variable j) r.again;
     }
-said known clock vars f all (not_of e) reads no line =
-    let s = said known clock vars f all e reads no line in
+said known clock vars f all (not_of e) reads free line =
+    let s = said known clock vars f all e reads free line in
     record { plain = plain_not known (Some clock) (tree vars line e) (formula_of vars e) line s.plain; forms = s.forms; again = ap (λ (x : Expression). not_of x) s.again }
-said known clock vars f all (pair g a b) reads no line =
-    let s = said known clock vars f all a reads.0 no.0 line in
-    let t = said known clock vars f all b reads.1 no.1 line in
+said known clock vars f all (pair g a b) reads free line =
+    let s = said known clock vars f all a reads.0 free.0 line in
+    let t = said known clock vars f all b reads.1 free.1 line in
     record {
       plain = plain_pair known (Some clock) g (tree vars line a) (tree vars line b) (formula_of vars a) (formula_of vars b) line s.plain t.plain;
       forms = nothing (expression_forms known (tree vars line a)) (expression_forms known (tree vars line b)) s.forms t.forms;
       again = ap (λ (x : Expression). pair g x (numbered vars (formula_of vars b))) s.again ∙ ap (λ (x : Expression). pair g a x) t.again;
     }
-said known clock vars f all (choice c a b) reads no line = absurd no
+said known clock vars f all (choice c a b) reads free line = absurd free
 
 -- ---- targets
 

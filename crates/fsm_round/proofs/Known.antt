@@ -134,16 +134,21 @@ further_no_port w f r t h p i e = elim (In-cases t w.type_name (texts_of w.state
   ]
 ]
 
+pub group_differ : (w : Words) (f : Fsm) → Ready w f → AllDifferent (map (λ (g : Group). g.text) (grouped f.ports))
+group_differ w f r =
+    subst (λ (ts : List (List ℕ)). AllDifferent ts) (group_texts (grouped f.ports)) (keys_differ (map port_entry (map declared (grouped f.ports))) (groups_differ f.ports (sound_ports w f r).chain))
+
+pub further_differ : (w : Words) (f : Fsm) → Ready w f → AllDifferent (further_texts w)
+further_differ w f r = apart_differ (further_texts w) (further_apart w f r)
+
 differ_here : (w : Words) (f : Fsm) → Ready w f → AllDifferent (texts (symbols_of w f))
 differ_here w f r =
-    let chain = (sound_ports w f r).chain in
     let split : texts (symbols_of w f) ≡ map (λ (g : Group). g.text) (grouped f.ports) ++ further_texts w =
     map-append (λ (s : Symbol). s.text) (port_part f) (inner_part w f) ∙ ap (λ (ts : List (List ℕ)). ts ++ texts (inner_part w f)) (port_texts f)
     ∙ ap (λ (ts : List (List ℕ)). map (λ (g : Group). g.text) (grouped f.ports) ++ ts) (inner_texts w f) in
     subst (λ (ts : List (List ℕ)). AllDifferent ts) (sym split)
     (different_append (map (λ (g : Group). g.text) (grouped f.ports)) (further_texts w)
-    (subst (λ (ts : List (List ℕ)). AllDifferent ts) (group_texts (grouped f.ports)) (keys_differ (map port_entry (map declared (grouped f.ports))) (groups_differ f.ports chain)))
-    (apart_differ (further_texts w) (further_apart w f r))
+    (group_differ w f r) (further_differ w f r)
     (λ t h g. let p = group_port f t h in further_no_port w f r t g p.0 p.1 p.2))
 
 pub symbols_differ : (w : Words) (f : Fsm) → Ready w f → AllDifferent (texts (symbols (machine_of w f)))

@@ -1,12 +1,14 @@
 // What is written of a state machine is read again.
 ghost use Rattle.fsm_round.specs.Again.{FsmIsAccepted, FsmReadAgain};
 
+use fsm_again::written_is_a_sentence;
 use fsm_io::{never_both, one_fsm};
 
 /// What the text of a state machine is read as is that state machine: the same name, ports, clock, states and statements.
 pub fn fsm_read_again()
     ensures { FsmReadAgain }
 {
+    written_is_a_sentence();
     one_fsm();
 }
 
@@ -15,5 +17,6 @@ pub fn fsm_read_again()
 pub fn fsm_is_accepted()
     ensures { FsmIsAccepted }
 {
+    written_is_a_sentence();
     never_both();
 }
