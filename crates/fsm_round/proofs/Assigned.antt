@@ -40,6 +40,10 @@ either_way : {X : Type 0} (a b : Bool) → (a || b) ≡ true → (a ≡ true →
 either_way true b e f g = f refl
 either_way false b e f g = g e
 
+one_way : {X : Type 0} (c a b : Bool) → cond c a b ≡ true → (a ≡ true → X) → (b ≡ true → X) → X
+one_way true a b e f g = f e
+one_way false a b e f g = g e
+
 module _ (known : List Symbol) (clock : List ℕ) (w : Words) (f : Fsm) (can : CanReadBody known clock w f) (n : Name) where
   -- the name is among those that these places assign
   abbrev IsNamed : List Mention → Type 0
@@ -98,16 +102,12 @@ module _ (known : List Symbol) (clock : List ℕ) (w : Words) (f : Fsm) (can : C
     named_branches : (line q : ℕ) (bs : s.Branches) → AreBranchesOf f bs → sure_branches (sets_output n) q bs ≡ true → IsNamed (in_branches (placed_branches w line bs))
     named_branches line q s.closed of e = absurd cc
     named_branches line q (s.others a) of e = named_body true (line_behind line) q a of e
-    named_branches line q (s.listed ks a more) of e = by (among q ks) e where
-      A : List Mention
-      A = in_body true (placed_body w (line_behind line) a)
-
-      M : List Mention
-      M = in_branches (placed_branches w (behind_body w (line_behind line) a) more)
-
-      by : (b : Bool) → cond b (sure (sets_output n) q a) (sure_branches (sets_output n) q more) ≡ true → IsNamed (A ++ M)
-      by true e = named_left A M (named_body true (line_behind line) q a of.0 e)
-      by false e = named_right A M (named_branches (behind_body w (line_behind line) a) q more of.1 e)
+    named_branches line q (s.listed ks a more) of e =
+        let A = in_body true (placed_body w (line_behind line) a) in
+        let l = behind_body w (line_behind line) a in
+        let M = in_branches (placed_branches w l more) in
+        one_way (among q ks) (sure (sets_output n) q a) (sure_branches (sets_output n) q more) e
+        (λ now. named_left A M (named_body true (line_behind line) q a of.0 now)) (λ later. named_right A M (named_branches l q more of.1 later))
 
 -- ---- no bit of an output is left out
 

@@ -25,8 +25,8 @@ abbrev pub process_with : Words → List ℕ → ℕ → ℕ → ClockTree
 process_with w clock rise load = record { sensitivity = []; condition_line = rise; condition = rises rise clock; target = named_at load w.current; value = named_at load w.next }
 
 -- what is known of the names in it
-pub record CanClock (known : List Symbol) (clock : List ℕ) (w : Words) : Type 0 where
-  pub clock : IsClock known clock
+pub record CanClock (known : List Symbol) (text : List ℕ) (w : Words) : Type 0 where
+  pub clock : IsClock known text
   pub current : InRole known role.Inner (scalar w.current)
   pub next : InRole known role.Inner (scalar w.next)
   pub apart : bytes_eq w.current w.next ≡ false
