@@ -1,5 +1,5 @@
 -- Each output bit that is assigned on each path is assigned somewhere in the text, and none is left out.
-use Rattle.std.proofs.Common.{◌≡◌, inl, inr, ℕ, zero, suc, ◌+◌, ◌<◌, ◌≤◌, Bool, true, false, cond, not, ◌&&◌, ◌||◌, List, [], ◌∷◌, ◌++◌, map, filter, length, bytes_eq, Option, None, Some, refl, sym, ap, subst, ◌∙◌, arith}
+use Rattle.std.proofs.Common.{◌≡◌, ℕ, zero, suc, ◌+◌, ◌<◌, ◌≤◌, Bool, true, false, cond, not, ◌&&◌, ◌||◌, List, [], ◌∷◌, ◌++◌, filter, Option, None, refl, sym, ap, subst, ◌∙◌, arith}
 use Rattle.std.specs.List.{flat_map, list_all}
 use Rattle.std.proofs.lemmas.Bool.{and_parts}
 use Rattle.std.proofs.lemmas.Grind.{flat_map-append}
@@ -7,7 +7,6 @@ use Rattle.vlsi_base.specs.declared.name.Name.{Name}
 use Rattle.vlsi_base.specs.Member.{In, here, there}
 use Rattle.vlsi_base.specs.Names.{scalar}
 use Rattle.vlsi_base.specs.Range.{rising}
-use Rattle.vlsi_base.specs.Tree.{name}
 use Rattle.bool_expr.specs.Support.{among}
 use Rattle.machine_meaning.specs.Named.{is_same_name}
 use Rattle.machine_core.proofs.Names.{same_name-true, same_name-itself}
@@ -15,21 +14,20 @@ use Rattle.machine_core.proofs.Values.{In-left, In-right}
 use Rattle.source_meaning.specs.declared.symbol_table.Role.{Role}
 use Rattle.source_meaning.specs.declared.symbol_table.Role.TheVariants as role
 use Rattle.source_meaning.specs.declared.symbol_table.Symbol.{Symbol}
-use Rattle.source_meaning.specs.declared.drivers.NameFault.{NameFault}
 use Rattle.source_meaning.specs.Symbols.{symbol_names}
 use Rattle.source_meaning.specs.Drivers.{is_among, target_names, least, fault_at}
 use Rattle.spell_theory.specs.Layout.{line_behind, line_of}
-use Rattle.vbe_again.specs.Placed.{tree, placed_target}
+use Rattle.vbe_again.specs.Placed.{placed_target}
 use Rattle.fsm_meaning.specs.Statements as s
 use Rattle.fsm_meaning.specs.Fsm.{Fsm, fsm_outputs}
 use Rattle.fsm_meaning.specs.Assigned.{sure, sure_parts, sure_branches, sets_output}
 use Rattle.fsm_core.specs.Checked.{IsBodyOf, ArePartsOf, AreBranchesOf}
 use Rattle.fsm_io.specs.Drivers.{is_output, names_at, unassigned_at, first_of, or_else}
-use Rattle.fsm_io.specs.Looks.{Mention, assigning, testing, selecting, listing, body_has_case, parts_have_case, in_body, in_parts, in_branches}
+use Rattle.fsm_io.specs.Looks.{Mention, body_has_case, parts_have_case, in_body, in_parts, in_branches}
 use Rattle.fsm_io.specs.Assigned.{always}
 use Rattle.fsm_write.specs.declared.words.Words.{Words}
-use Rattle.fsm_write.specs.Layout.{state_text, if_layout, case_layout}
-use Rattle.fsm_again.specs.Placed.{named_at, behind_body, placed_body, placed_parts, placed_branches}
+use Rattle.fsm_write.specs.Layout.{if_layout, case_layout}
+use Rattle.fsm_again.specs.Placed.{behind_body, placed_body, placed_parts, placed_branches}
 use Rattle.fsm_round.proofs.Known.{contains_in}
 use Rattle.fsm_round.proofs.Expressions.{names_are}
 use Rattle.fsm_round.proofs.Body.{CanReadBody}

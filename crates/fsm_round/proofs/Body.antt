@@ -1,5 +1,5 @@
 -- Statements as they are written are read as the same.
-use Rattle.std.proofs.Common.{◌≡◌, ℕ, zero, suc, ◌+◌, ◌<◌, Bool, true, false, cond, List, [], ◌∷◌, map, length, bytes_eq, get_or, Some, refl, sym, ap, subst, ◌∙◌, arith}
+use Rattle.std.proofs.Common.{◌≡◌, ℕ, zero, suc, ◌+◌, ◌<◌, Bool, true, false, cond, List, [], ◌∷◌, map, length, bytes_eq, get_or, refl, sym, ap, subst, ◌∙◌, arith}
 use Rattle.std.specs.List.{All}
 use Rattle.std.proofs.lemmas.List.{get_or-map, length-map}
 use Rattle.std.proofs.lemmas.List.Elements.{All-head, All-tail}
@@ -16,23 +16,20 @@ use Rattle.source_meaning.specs.Formula.{Formula, formulas, first_bit, numbered}
 use Rattle.source_meaning.specs.Drivers.{target_names}
 use Rattle.source_meaning.proofs.Lookups.{same_of}
 use Rattle.vlsi_model.proofs.Sorting.{In-at}
-use Rattle.vbe_write.specs.Expressions.{name_of}
 use Rattle.vbe_again.specs.Placed.{tree, placed_target}
-use Rattle.vbe_round.proofs.Formulas.{formula_of}
 use Rattle.spell_theory.specs.Layout.{line_behind, line_of}
 use Rattle.fsm_meaning.specs.Statements as s
 use Rattle.fsm_meaning.specs.Fsm.{Fsm, fsm_outputs}
 use Rattle.fsm_core.specs.Checked.{ReadsInputs, IsAssignmentOf, IsBodyOf, ArePartsOf, AreBranchesOf}
-use Rattle.fsm_text.specs.Written.{BodyTree}
 use Rattle.fsm_io.specs.Elaboration.{Frame, state_number, next_number, assign_bits, condition_of, body_bits, statement_bits, parts_bits, branches_bits}
 use Rattle.fsm_write.specs.declared.words.Words.{Words}
 use Rattle.fsm_write.specs.Layout.{state_text, if_layout, case_layout}
-use Rattle.fsm_write.specs.Pieces.{IsKnownAssignment, AreKnownStates, IsKnownBody, AreKnownParts, AreKnownBranches}
+use Rattle.fsm_write.specs.Pieces.{IsKnownBody, AreKnownParts, AreKnownBranches}
 use Rattle.fsm_write.specs.Writable.{IsPlain as HasNoChoice, IsPlainBody, ArePlainParts, ArePlainBranches}
 use Rattle.fsm_write.specs.Written.{texts_of}
 use Rattle.fsm_again.specs.Placed.{named_at, behind_body, placed_assignment, placed_body, placed_parts, placed_branches}
 use Rattle.fsm_round.proofs.Known.{InRole, contains_in}
-use Rattle.fsm_round.proofs.Expressions.{InputsAreRead, IsSaid, said, names_are}
+use Rattle.fsm_round.proofs.Expressions.{InputsAreRead, said, names_are}
 
 pub itself : (x : List ℕ) → bytes_eq x x ≡ true
 itself x = (bytes_eq-Decides x x).1 refl

@@ -1,12 +1,10 @@
 -- The process at the clock has no fault: its condition is the clock's rise, and it loads the next state.
-use Rattle.std.proofs.Common.{◌≡◌, ℕ, Bool, true, false, cond, not, ◌&&◌, ◌||◌, List, [], ◌∷◌, ◌++◌, bytes_eq, is_none, Option, None, Some, refl, sym, ap, subst, ◌∙◌}
+use Rattle.std.proofs.Common.{◌≡◌, ℕ, true, false, List, [], bytes_eq, is_none, Some, refl, ap, ◌∙◌}
 use Rattle.vlsi_base.specs.Names.{scalar}
-use Rattle.vlsi_base.specs.Tree.{name}
 use Rattle.source_meaning.specs.declared.symbol_table.Role.TheVariants as role
 use Rattle.source_meaning.specs.declared.symbol_table.Symbol.{Symbol}
 use Rattle.source_meaning.specs.Symbols.{find}
 use Rattle.source_meaning.specs.Widths.{declared_width, found_width, condition_faults, if_not}
-use Rattle.source_meaning.specs.Clock.{may_clock}
 use Rattle.vbe_round.proofs.Plain.{AreUsed, nothing, width_found}
 use Rattle.vbe_round.proofs.Guards.{IsClock}
 use Rattle.fsm_text.specs.Written.{ClockTree}

@@ -1,5 +1,5 @@
 -- Expressions and targets of a state machine as they are written: they have no fault, and are read as the same.
-use Rattle.std.proofs.Common.{◌≡◌, ℕ, Bool, true, false, not, List, [], ◌∷◌, ◌++◌, Option, None, Some, refl, sym, ap, ◌∙◌}
+use Rattle.std.proofs.Common.{◌≡◌, ℕ, true, List, [], ◌∷◌, Option, None, Some, refl, sym, ap, ◌∙◌}
 use Rattle.vlsi_base.specs.declared.name.Name.{Name}
 use Rattle.vlsi_base.specs.Tree.{Tree}
 use Rattle.bool_expr.specs.Expression.{Expression, constant, variable, inverse as not_of, pair, choice}
@@ -10,12 +10,12 @@ use Rattle.source_meaning.specs.Formula.{named, numbered, place}
 use Rattle.source_meaning.specs.Widths.{if_not, target_width, target_faults}
 use Rattle.source_meaning.specs.Drivers.{target_names}
 use Rattle.vbe_write.specs.Expressions.{name_of}
-use Rattle.vbe_again.specs.Placed.{operator_of, placed_bit, placed_name, tree, placed_target}
+use Rattle.vbe_again.specs.Placed.{placed_bit, placed_name, tree, placed_target}
 use Rattle.vbe_round.proofs.Plain.{IsDeclared, IsReadable, IsPlain, plain_bit, plain_whole, plain_index, plain_not, plain_pair, nothing, names_found, width_found, bit_fits}
 use Rattle.vbe_round.proofs.Formulas.{formula_of}
 use Rattle.fsm_meaning.specs.Fsm.{Fsm}
 use Rattle.fsm_core.specs.Checked.{IsInput, ReadsInputs}
-use Rattle.fsm_io.specs.Unsupported.{is_input, may_read, read_forms, expression_forms}
+use Rattle.fsm_io.specs.Unsupported.{is_input, may_read, expression_forms}
 use Rattle.fsm_write.specs.Writable.{IsPlain as HasNoChoice}
 
 -- the name is an input that can be read

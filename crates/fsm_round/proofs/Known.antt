@@ -1,5 +1,5 @@
 -- What the text of a state machine declares: its ports, the type with its states, and the two signals, each name once.
-use Rattle.std.proofs.Common.{◌≡◌, inl, inr, ℕ, Bool, true, false, not, ◌||◌, List, [], ◌∷◌, ◌++◌, map, filter, length, Option, None, Some, bytes_eq, codes, get_or, refl, sym, ap, subst, ◌∙◌}
+use Rattle.std.proofs.Common.{◌≡◌, inl, inr, ℕ, Bool, true, false, not, ◌||◌, List, [], ◌∷◌, ◌++◌, map, filter, Option, None, Some, bytes_eq, codes, get_or, refl, sym, ap, subst, ◌∙◌}
 use Rattle.std.specs.List.{All, Contains}
 use Rattle.std.proofs.lemmas.List.{map-append}
 use Rattle.std.proofs.lemmas.List.Elements.{All-head, All-tail}

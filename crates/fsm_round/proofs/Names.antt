@@ -1,10 +1,7 @@
 -- The names of the text of a state machine, as its checks look at them: inputs that are read, the clock, and the two signals.
-use Rattle.std.proofs.Common.{◌≡◌, inl, inr, ℕ, ◌<◌, Bool, true, false, cond, not, ◌&&◌, ◌||◌, List, [], ◌∷◌, ◌++◌, map, filter, length, bytes_eq, is_none, get_or, slice_index, codes, Option, None, Some, refl, sym, ap, subst, ◌∙◌, arith}
-use Rattle.std.specs.List.{All}
-use Rattle.std.proofs.lemmas.Bool.{and_parts}
+use Rattle.std.proofs.Common.{◌≡◌, ℕ, Bool, true, false, not, List, [], ◌∷◌, map, filter, bytes_eq, is_none, slice_index, codes, Option, None, Some, refl, sym, ap, subst, ◌∙◌, arith}
 use Rattle.std.proofs.lemmas.Slice.Eq.{bytes_eq-Decides}
 use Rattle.std.proofs.lemmas.Option.{get_or_from_slice_get, slice_get_within}
-use Rattle.std.proofs.lemmas.List.{length-map}
 use Rattle.std.proofs.lemmas.List.Elements.{All-head}
 use Rattle.vlsi_base.specs.declared.name.Name.{Name}
 use Rattle.vlsi_base.specs.declared.name.Port.{Port}
@@ -19,22 +16,19 @@ use Rattle.vlsi_base.specs.Tree.{name}
 use Rattle.machine_meaning.specs.Named.{is_same_name}
 use Rattle.machine_meaning.specs.Machine.{is_input, names_of}
 use Rattle.machine_core.proofs.Names.{same_name-itself}
-use Rattle.machine_core.proofs.Values.{In-left, In-right, In-map}
+use Rattle.machine_core.proofs.Values.{In-right, In-map}
 use Rattle.source_meaning.specs.declared.symbol_table.Role.TheVariants as role
 use Rattle.source_meaning.specs.declared.symbol_table.Symbol.{Symbol}
 use Rattle.source_meaning.specs.Symbols.{find, role_of_mode}
 use Rattle.source_meaning.specs.Clock.{may_clock, clock_lines}
 use Rattle.source_meaning.specs.Formula.{place}
-use Rattle.vlsi_model.proofs.Bits.{texts}
-use Rattle.vlsi_model.proofs.Members.{In-map_back, different_left, different_right}
+use Rattle.vlsi_model.proofs.Members.{In-map_back, different_left}
 use Rattle.vlsi_model.proofs.Numbering.{place_of_at}
 use Rattle.vlsi_model.proofs.PortBits.{In-filter, filter-In}
-use Rattle.vhdl_again.specs.Outline.{Bounds, OnePort, placed_port, placed_ports}
+use Rattle.vhdl_again.specs.Outline.{Bounds, placed_port, placed_ports}
 use Rattle.vst_write.specs.Groups.{Group, grouped, mode_of, bounds_of, declared, outline_of}
-use Rattle.vst_write.proofs.Runs.{some_groups}
 use Rattle.vst_again.proofs.Grouped.{group_ports, ports_again}
 use Rattle.vbe_write.specs.Expressions.{name_of}
-use Rattle.vbe_again.proofs.Known.{all_in}
 use Rattle.vbe_round.proofs.Plain.{LiesIn, IsDeclared}
 use Rattle.vbe_round.proofs.Guards.{IsClock}
 use Rattle.vbe_round.proofs.Declared.{in_flat, range_on, bit_of_group}
@@ -44,9 +38,9 @@ use Rattle.fsm_core.specs.Checked.{IsInput}
 use Rattle.fsm_io.specs.Known.{symbols, is_clock_port}
 use Rattle.fsm_write.specs.declared.words.Words.{Words}
 use Rattle.fsm_write.specs.Written.{texts_of}
-use Rattle.fsm_again.specs.Placed.{first_line, machine_of}
-use Rattle.fsm_again.proofs.Declared.{Ready, sound_ports, type_added, current_added, next_added, further_texts, two_signals}
-use Rattle.fsm_round.proofs.Known.{InRole, symbols_differ, group_differ, port_declared, inner_declared, further_no_port, contains_in, in_contains, port_named, output_declared, input_declared, port_free, leaf_named, names_differ, ports_line, further_differ}
+use Rattle.fsm_again.specs.Placed.{machine_of}
+use Rattle.fsm_again.proofs.Declared.{Ready, sound_ports, current_added, next_added, further_texts, two_signals}
+use Rattle.fsm_round.proofs.Known.{InRole, group_differ, port_declared, inner_declared, further_no_port, contains_in, in_contains, port_named, output_declared, input_declared, port_free, leaf_named, names_differ, ports_line, further_differ}
 use Rattle.fsm_round.proofs.Expressions.{IsReadName, IsReadInput}
 use Rattle.fsm_round.proofs.Body.{itself, other, CanReadBody}
 use Rattle.fsm_round.proofs.Quiet.{CanLook}

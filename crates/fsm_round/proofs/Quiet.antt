@@ -1,17 +1,16 @@
 -- What stands in the statements as they are written: each name is declared, widths fit, no form is left out, and the clock isn't read.
-use Rattle.std.proofs.Common.{◌≡◌, ℕ, suc, ◌+◌, ◌≤◌, Bool, true, false, cond, not, ◌&&◌, ◌||◌, List, [], ◌∷◌, ◌++◌, map, length, bytes_eq, is_none, Option, Some, refl, sym, ap, subst, ◌∙◌, arith}
+use Rattle.std.proofs.Common.{◌≡◌, ℕ, suc, ◌+◌, ◌≤◌, Bool, true, false, cond, not, ◌||◌, List, [], ◌∷◌, ◌++◌, map, bytes_eq, is_none, Option, Some, refl, sym, ap, subst, ◌∙◌, arith}
 use Rattle.std.specs.List.{flat_map}
 use Rattle.std.proofs.lemmas.Grind.{flat_map-append}
 use Rattle.vlsi_base.specs.declared.name.Name.{Name}
 use Rattle.vlsi_base.specs.declared.entity.NewName.{NewName}
-use Rattle.vlsi_base.specs.Member.{In}
 use Rattle.vlsi_base.specs.Names.{scalar}
-use Rattle.vlsi_base.specs.Tree.{Tree, name}
+use Rattle.vlsi_base.specs.Tree.{name}
 use Rattle.bool_expr.specs.Expression.{Expression}
 use Rattle.source_meaning.specs.declared.symbol_table.Symbol.{Symbol}
 use Rattle.source_meaning.specs.Symbols.{find}
-use Rattle.source_meaning.specs.Places.{Use, reads}
-use Rattle.source_meaning.specs.Widths.{width, differ, target_width, target_faults, width_faults, condition_faults, if_not}
+use Rattle.source_meaning.specs.Places.{reads}
+use Rattle.source_meaning.specs.Widths.{width, differ, target_width, target_faults, width_faults, if_not}
 use Rattle.source_meaning.specs.Clock.{clock_lines}
 use Rattle.spell_theory.specs.Layout.{line_behind, line_of}
 use Rattle.vbe_again.specs.Placed.{tree, placed_target}
@@ -21,15 +20,15 @@ use Rattle.fsm_meaning.specs.Fsm.{Fsm, fsm_outputs}
 use Rattle.fsm_core.specs.Checked.{ReadsInputs, IsAssignmentOf, IsBodyOf, ArePartsOf, AreBranchesOf, cases_in, cases_in_parts, cases_in_branches}
 use Rattle.fsm_io.specs.Known.{Named}
 use Rattle.fsm_io.specs.Drivers.{is_output}
-use Rattle.fsm_io.specs.Looks.{Mention, assigning, testing, selecting, listing, body_has_case, parts_have_case, in_body, in_parts, in_branches, is_plain, value_uses, uses_at}
+use Rattle.fsm_io.specs.Looks.{Mention, assigning, testing, selecting, listing, body_has_case, parts_have_case, in_body, in_parts, in_branches, value_uses, uses_at}
 use Rattle.fsm_io.specs.Widths.{wide_enough, widths_at}
 use Rattle.fsm_io.specs.Unsupported.{may_assign, expression_forms, next_forms, forms_at}
 use Rattle.fsm_io.specs.Clock.{clock_reads_at}
 use Rattle.fsm_write.specs.declared.words.Words.{Words}
 use Rattle.fsm_write.specs.Layout.{state_text, if_layout, case_layout}
-use Rattle.fsm_write.specs.Writable.{IsPlain as HasNoChoice, IsPlainAssignment, IsPlainBody, ArePlainParts, ArePlainBranches}
+use Rattle.fsm_write.specs.Writable.{IsPlain as HasNoChoice, IsPlainBody, ArePlainParts, ArePlainBranches}
 use Rattle.fsm_again.specs.Placed.{named_at, behind_body, placed_body, placed_parts, placed_branches}
-use Rattle.fsm_round.proofs.Known.{InRole, contains_in}
+use Rattle.fsm_round.proofs.Known.{contains_in}
 use Rattle.fsm_round.proofs.Expressions.{IsSaid, said, width_is, faults_are}
 use Rattle.fsm_round.proofs.Body.{itself, CanReadBody}
 

@@ -1,5 +1,5 @@
 -- The text of a state machine passes all checks, and is read as the same.
-use Rattle.std.proofs.Common.{◌≡◌, inl, inr, ℕ, ◌+◌, ◌<◌, ◌≤◌, Bool, true, false, cond, not, ◌&&◌, ◌||◌, List, [], ◌∷◌, ◌++◌, map, length, bytes_eq, codes, Option, None, Some, refl, sym, ap, subst, ◌∙◌, arith}
+use Rattle.std.proofs.Common.{◌≡◌, inl, ℕ, ◌<◌, Bool, true, false, cond, not, ◌&&◌, ◌||◌, List, [], ◌∷◌, ◌++◌, map, length, bytes_eq, Option, None, Some, refl, sym, ap, subst, ◌∙◌, arith}
 use Rattle.std.specs.List.{All, list_any, flat_map}
 use Rattle.std.proofs.lemmas.List.{length-map}
 use Rattle.std.proofs.lemmas.List.Elements.{All-head, All-tail}
@@ -24,14 +24,13 @@ use Rattle.source_meaning.specs.Elaboration.{port_bits}
 use Rattle.source_meaning.specs.Checks.{if_symbol, if_use, if_line, if_name, first_repeated}
 use Rattle.source_meaning.proofs.Lookups.{same_of}
 use Rattle.vlsi_model.proofs.Bits.{texts}
-use Rattle.vhdl_lexer.specs.Listing.{tokens_in}
 use Rattle.vst_write.specs.Groups.{Group, grouped, declared}
 use Rattle.vst_write.proofs.Runs.{some_groups}
-use Rattle.vst_again.proofs.Grouped.{GoodBits, bits_good}
+use Rattle.vst_again.proofs.Grouped.{bits_good}
 use Rattle.vst_again.proofs.Names.{texts_all}
 use Rattle.vst_again.proofs.Netlists.{outline_name}
 use Rattle.vbe_again.proofs.Known.{all_by, all_in}
-use Rattle.vbe_round.proofs.Plain.{AreUsed, used_both, nothing}
+use Rattle.vbe_round.proofs.Plain.{used_both, nothing}
 use Rattle.vbe_round.proofs.Stated.{none_unknown}
 use Rattle.vbe_round.proofs.Declared.{entity_fine, FitsSupply, entity_forms}
 use Rattle.fsm_meaning.specs.Statements.{Assignment, Statements}
@@ -40,14 +39,14 @@ use Rattle.fsm_meaning.specs.Assigned.{sure, sets_next, sets_output}
 use Rattle.fsm_core.specs.Checked.{IsCheckedFsm}
 use Rattle.fsm_text.specs.Written.{MachineTree}
 use Rattle.fsm_io.specs.Known.{Named, symbols, texts as new_texts, is_clock_port, fits_all, named}
-use Rattle.fsm_io.specs.Looks.{Mention, body_has_case, uses_at, all_uses, all_mentions, clock_uses}
+use Rattle.fsm_io.specs.Looks.{body_has_case, uses_at, all_uses, all_mentions, clock_uses}
 use Rattle.fsm_io.specs.Widths.{widths_at, clock_widths, all_widths}
-use Rattle.fsm_io.specs.Drivers.{names_at, unassigned_at, first_of, or_else, first_unassigned}
+use Rattle.fsm_io.specs.Drivers.{names_at, or_else, first_unassigned}
 use Rattle.fsm_io.specs.Unsupported.{forms_at, clock_forms, behind_mentions, all_forms}
 use Rattle.fsm_io.specs.Clock.{is_edge, clock_reads_at, all_clock_reads}
 use Rattle.fsm_io.specs.States.{bad_states, all_bad_states}
-use Rattle.fsm_io.specs.Assigned.{always, left_out_at, next_left_out, left_out}
-use Rattle.fsm_io.specs.Elaboration.{Frame, frame_of, body_bits, IsMachineOf}
+use Rattle.fsm_io.specs.Assigned.{always, next_left_out, left_out}
+use Rattle.fsm_io.specs.Elaboration.{frame_of, body_bits, IsMachineOf}
 use Rattle.fsm_io.specs.Checks.{if_state, fault_behind, fault_of, first_fault, Passes}
 use Rattle.fsm_io.specs.Text.{IsFsm, Refused, IsFsmRefusal}
 use Rattle.fsm_io.specs.Laws.{OneFsm, NeverBoth}
@@ -56,12 +55,12 @@ use Rattle.fsm_write.specs.declared.words.Words.{Words}
 use Rattle.fsm_write.specs.Writable.{CanBeFsm}
 use Rattle.fsm_write.specs.Written.{AreWords, texts_of, text}
 use Rattle.fsm_write.proofs.Known.{known as known_body}
-use Rattle.fsm_again.specs.Placed.{named_at, placed_pragmas, type_line, body_line, placed_body, machine_of}
+use Rattle.fsm_again.specs.Placed.{named_at, placed_pragmas, type_line, body_line, machine_of}
 use Rattle.fsm_again.specs.Said.{IsWithinLimits, WrittenIsASentence}
 use Rattle.fsm_again.proofs.Declared.{Ready, sound_ports}
 use Rattle.fsm_round.specs.Again.{FsmReadAgain, FsmIsAccepted}
 use Rattle.fsm_round.proofs.Known.{symbols_differ, ports_line, port_free, output_bit, ports_permuted, in_contains}
-use Rattle.fsm_round.proofs.Body.{itself, frame_with, body_again}
+use Rattle.fsm_round.proofs.Body.{itself, body_again}
 use Rattle.fsm_round.proofs.Quiet.{AreQuiet, roles_with, has_case, quiet_body}
 use Rattle.fsm_round.proofs.States.{none_bad}
 use Rattle.fsm_round.proofs.Assigned.{named_body, outputs_assigned, among_all, each_always}

@@ -1,13 +1,13 @@
 -- Each state that is assigned or listed as it is written is one, and none is listed twice.
 use Rattle.std.proofs.Common.{◌≡◌, inl, inr, ℕ, suc, ◌+◌, ◌<◌, ◌≤◌, ◌==◌, Bool, true, false, cond, not, ◌&&◌, ◌||◌, List, [], ◌∷◌, ◌++◌, map, length, bytes_eq, refl, sym, ap, subst, ◌∙◌, arith, append_assoc, append-nil}
-use Rattle.std.specs.List.{All, list_any}
+use Rattle.std.specs.List.{list_any}
 use Rattle.std.proofs.lemmas.Bool.{and_parts, eq-eqb}
 use Rattle.std.proofs.lemmas.List.{map-append}
 use Rattle.vlsi_base.specs.declared.name.Name.{Name}
 use Rattle.vlsi_base.specs.declared.entity.NewName.{NewName}
 use Rattle.vlsi_base.specs.Member.{In, here, there, AllDifferent}
 use Rattle.vlsi_base.specs.Names.{scalar}
-use Rattle.vlsi_base.specs.Tree.{Tree, name}
+use Rattle.vlsi_base.specs.Tree.{name}
 use Rattle.bool_expr.specs.Support.{among}
 use Rattle.machine_core.proofs.Values.{In-split, In-map}
 use Rattle.source_meaning.specs.declared.symbol_table.Symbol.{Symbol}
@@ -22,7 +22,7 @@ use Rattle.fsm_meaning.specs.Statements as s
 use Rattle.fsm_meaning.specs.Fsm.{Fsm, fsm_outputs}
 use Rattle.fsm_machine.specs.MachineOf.{all_states}
 use Rattle.fsm_machine.specs.Signals.{without}
-use Rattle.fsm_machine.specs.Sound.{IsSound, ArePartsSound, AreBranchesSound, AreLeft}
+use Rattle.fsm_machine.specs.Sound.{IsSound, ArePartsSound, AreBranchesSound}
 use Rattle.fsm_machine.proofs.Holding.{among_without}
 use Rattle.fsm_core.specs.Checked.{IsBodyOf, ArePartsOf, AreBranchesOf, ListsStates, PartsListStates, BranchesListStates, cases_in, cases_in_parts, cases_in_branches}
 use Rattle.fsm_io.specs.Known.{texts}
@@ -89,13 +89,28 @@ leads_both w c d before xs ys p q = record {
   good = λ more. ap (bad_states (texts_of w.states) w.next before) (append_assoc xs ys more) ∙ p.good (ys ++ more) ∙ q.good more;
 }
 
--- places that list
-leads_on : (w : Words) (c d : ℕ) (before : List (List ℕ)) (ms : List Mention) → Leads w c before ms → (d ≡ 0 → c ≡ 0) → Leads w d before ms
-leads_on w c d before ms p none = record { behind = p.behind; same = λ e. p.same (none e); good = p.good }
-
 -- nothing was listed before the one case
 abbrev Begins : ℕ → List (List ℕ) → Type 0
 Begins count before = 0 < count → before ≡ []
+
+-- where no case follows
+no_begin : (count : ℕ) (before : List (List ℕ)) → count ≡ 0 → Begins count before
+no_begin count before none some = absurd (omega (arith, none, some))
+
+one_not_none : (k : ℕ) {X : Type 0} → suc k ≡ 0 → X
+one_not_none k e = absurd (omega (arith, e))
+
+-- the same of places with a case, behind which something was listed
+leads_some : (w : Words) (c k : ℕ) (before : List (List ℕ)) (ms : List Mention) → Leads w c before ms → Leads w (suc k) before ms
+leads_some w c k before ms p = record { behind = p.behind; same = λ e. one_not_none k e; good = p.good }
+
+-- states that are listed without a fault
+leads_listed : (w : Words) (before : List (List ℕ)) (names : List NewName) (ms : List Mention) → bad_names (texts_of w.states) before names ≡ [] → Leads w 1 (before ++ texts names) ms → Leads w 1 before (listing names ∷ ms)
+leads_listed w before names ms none p = record {
+  behind = p.behind;
+  same = λ e. one_not_none 0 e;
+  good = λ more. ap (λ (us : List Use). us ++ bad_states (texts_of w.states) w.next (before ++ texts names) (ms ++ more)) none ∙ p.good more;
+}
 
 -- the first part of two, and the second
 first_begins : (c d : ℕ) (before : List (List ℕ)) → Begins (c + d) before → Begins c before
@@ -207,10 +222,9 @@ module _ (known : List Symbol) (clock : List ℕ) (w : Words) (f : Fsm) (can : C
         subst (λ (b : List (List ℕ)). Leads w 1 b all) (sym fresh)
         (leads_branches (line_behind line) (all_states f) bs of.0 is.0 sound.0 lists.0 (omega (arith, few)) [] (λ k e h. elim h [ ]) (λ k h. elim h [ ])) in
         leads_first w (suc (c + d)) before (selecting seen line (named_at line w.current)) (all ++ in_body (seen || true) (placed_body w l rest)) refl refl
-        (leads_on w (1 + d) (suc (c + d)) before (all ++ in_body (seen || true) (placed_body w l rest))
+        (leads_some w (1 + d) (c + d) before (all ++ in_body (seen || true) (placed_body w l rest))
         (leads_both w 1 d before all (in_body (seen || true) (placed_body w l rest)) p
-        (leads_body (seen || true) l rest of.1 is.1 sound.1 lists.1 (omega (arith, few)) p.behind (λ some. absurd (omega (arith, few, some)))))
-        (λ e. absurd (omega (arith, e))))
+        (leads_body (seen || true) l rest of.1 is.1 sound.1 lists.1 (omega (arith, few)) p.behind (no_begin d p.behind (omega (arith, few))))))
 
     leads_parts : (seen : Bool) (line : ℕ) (ps : s.Parts) → ArePartsOf f ps → AreKnownParts w ps → ArePartsSound (all_states f) ps → PartsListStates ps → cases_in_parts ps ≤ 1 → (before : List (List ℕ)) → Begins (cases_in_parts ps) before
         → Leads w (cases_in_parts ps) before (in_parts seen (placed_parts w line ps))
@@ -242,11 +256,11 @@ module _ (known : List Symbol) (clock : List ℕ) (w : Words) (f : Fsm) (can : C
     -- where these states were listed before, and none of those that are left
     leads_branches : (line : ℕ) (left : List ℕ) (bs : s.Branches) → AreBranchesOf f bs → AreKnownBranches w bs → AreBranchesSound (all_states f) left bs → BranchesListStates bs → cases_in_branches bs ≡ 0
         → (ks : List ℕ) → ((k : ℕ) → among k left ≡ true → In k ks → ⊥) → AreNumbers ks → Leads w 1 (map (state_text w) ks) (in_branches (placed_branches w line bs))
-    leads_branches line left s.closed of is sound lists none ks apart all = leads_on w 0 1 (map (state_text w) ks) [] (leads_none w (map (state_text w) ks)) (λ e. absurd (omega (arith, e)))
+    leads_branches line left s.closed of is sound lists none ks apart all = leads_some w 0 0 (map (state_text w) ks) [] (leads_none w (map (state_text w) ks))
     leads_branches line left (s.others a) of is sound lists none ks apart all =
         let before = map (state_text w) ks in
-        leads_on w (cases_in a) 1 before (in_body true (placed_body w (line_behind line) a))
-        (leads_body true (line_behind line) a of is sound lists (omega (arith, none)) before (λ some. absurd (omega (arith, none, some)))) (λ e. absurd (omega (arith, e)))
+        leads_some w (cases_in a) 0 before (in_body true (placed_body w (line_behind line) a))
+        (leads_body true (line_behind line) a of is sound lists (omega (arith, none)) before (no_begin (cases_in a) before (omega (arith, none))))
     leads_branches line left (s.listed these a more) of is sound lists none ks apart all =
         let A = texts_of w.states in
         let names = map (λ k. named_at line (state_text w k)) these in
@@ -258,19 +272,14 @@ module _ (known : List Symbol) (clock : List ℕ) (w : Words) (f : Fsm) (can : C
         let numbers : AreNumbers these = λ k h. all_in (λ (k : ℕ). k < length w.states) these is.0.0.1 k h in
         let good : bad_names A before names ≡ [] = names_good line ks these lists.0.1 (λ k h g. apart k (sound.0 k (in_among k these h)) g) all numbers in
         let listed : before ++ texts names ≡ now = ap (λ (ts : List (List ℕ)). before ++ ts) (texts_listed line these) ∙ sym (map-append (state_text w) ks these) in
-        let p = leads_body true (line_behind line) a of.0 is.0.1 sound.1.0 lists.1.0 (omega (arith, none)) now (λ some. absurd (omega (arith, none, some))) in
+        let p = leads_body true (line_behind line) a of.0 is.0.1 sound.1.0 lists.1.0 (omega (arith, none)) now (no_begin (cases_in a) now (omega (arith, none))) in
         let same : p.behind ≡ now = p.same (omega (arith, none)) in
         let q : Leads w 1 p.behind rest =
         subst (λ (b : List (List ℕ)). Leads w 1 b rest) (sym same)
         (leads_branches l (without these left) more of.1 is.1 sound.1.1 lists.1.1 (omega (arith, none)) (ks ++ these) (later these left ks apart) (both_numbers ks these all numbers)) in
-        let both = leads_both w (cases_in a) 1 now own rest p q in
-        record {
-          behind = both.behind;
-          same = λ e. absurd (omega (arith, e));
-          good = λ x.
-              ap (λ (us : List Use). us ++ bad_states A w.next (before ++ texts names) ((own ++ rest) ++ x)) good
-              ∙ ap (λ (b : List (List ℕ)). bad_states A w.next b ((own ++ rest) ++ x)) listed ∙ both.good x;
-        }
+        leads_listed w before names (own ++ rest) good
+        (subst (λ (b : List (List ℕ)). Leads w 1 b (own ++ rest)) (sym listed)
+        (leads_some w (cases_in a + 1) 0 now (own ++ rest) (leads_both w (cases_in a) 1 now own rest p q)))
 
   -- no place has a fault
   pub none_bad : (line : ℕ) (b : s.Statements) → IsBodyOf f b → IsKnownBody w b → IsSound (all_states f) b → ListsStates b → cases_in b ≤ 1 → bad_states (texts_of w.states) w.next [] (in_body false (placed_body w line b)) ≡ []
