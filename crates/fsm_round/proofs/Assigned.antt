@@ -25,6 +25,7 @@ use Rattle.fsm_core.specs.Checked.{IsBodyOf, ArePartsOf, AreBranchesOf}
 use Rattle.fsm_io.specs.Drivers.{is_output, names_at, unassigned_at, first_of, or_else}
 use Rattle.fsm_io.specs.Looks.{Mention, body_has_case, parts_have_case, in_body, in_parts, in_branches}
 use Rattle.fsm_io.specs.Assigned.{always}
+use Rattle.fsm_io.proofs.StateNames.{or_second}
 use Rattle.fsm_write.specs.declared.words.Words.{Words}
 use Rattle.fsm_write.specs.Layout.{if_layout, case_layout}
 use Rattle.fsm_again.specs.Placed.{behind_body, placed_body, placed_parts, placed_branches}
@@ -109,12 +110,9 @@ module _ (known : List Symbol) (clock : List ℕ) (w : Words) (f : Fsm) (can : C
 
 -- ---- no bit of an output is left out
 
-in_among : (names : List Name) (n : Name) → In n names → is_among names n ≡ true
+pub in_among : (names : List Name) (n : Name) → In n names → is_among names n ≡ true
 in_among (m ∷ names) n here = ap (λ b. b || is_among names n) (same_name-itself m)
-in_among (m ∷ names) n (there h) = second (is_same_name m n) (in_among names n h) where
-  second : (b : Bool) → is_among names n ≡ true → (b || is_among names n) ≡ true
-  second true e = refl
-  second false e = e
+in_among (m ∷ names) n (there h) = or_second (is_same_name m n) (is_among names n) (in_among names n h)
 in_among [] n h = elim h [ ]
 
 none_pass : (p : Name → Bool) (names : List Name) → ((n : Name) → In n names → p n ≡ false) → filter p names ≡ []
@@ -142,9 +140,6 @@ none_first {A} {B} look (x ∷ xs) h = ap (λ (o : Option B). or_else o (first_o
 pub outputs_assigned : (assigned : Name → Bool) (known : List Symbol) (names : List Name) → ((x : Symbol) → In x known → x.role ≡ role.Output → (n : Name) → In n (symbol_names x) → In n names)
     → ((n : Name) → In n names → assigned n ≡ true) → first_of (unassigned_at assigned) known ≡ None
 outputs_assigned assigned known names bits h = none_first (unassigned_at assigned) known (λ x i. assigned_all assigned x (λ e n j. h n (bits x i e n j)))
-
-pub among_all : (names : List Name) (n : Name) → In n names → is_among names n ≡ true
-among_all names n h = in_among names n h
 
 -- ---- on each path with each state
 

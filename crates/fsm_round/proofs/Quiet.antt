@@ -24,6 +24,7 @@ use Rattle.fsm_io.specs.Looks.{Mention, assigning, testing, selecting, listing, 
 use Rattle.fsm_io.specs.Widths.{wide_enough, widths_at}
 use Rattle.fsm_io.specs.Unsupported.{may_assign, expression_forms, next_forms, forms_at}
 use Rattle.fsm_io.specs.Clock.{clock_reads_at}
+use Rattle.fsm_io.proofs.Sounds.{neither}
 use Rattle.fsm_write.specs.declared.words.Words.{Words}
 use Rattle.fsm_write.specs.Layout.{state_text, if_layout, case_layout}
 use Rattle.fsm_write.specs.Writable.{IsPlain as HasNoChoice, IsPlainBody, ArePlainParts, ArePlainBranches}
@@ -98,10 +99,6 @@ mutual
       let l = behind_body w (line_behind line) a in
       let x = one_of_two (body_has_case (placed_body w (line_behind line) a)) (parts_have_case (placed_parts w l more)) in
       omega (arith, x, case_counted w (line_behind line) a, parts_counted w l more)
-
-neither : (a b : Bool) → (a || b) ≡ false → (a ≡ false) × (b ≡ false)
-neither true b e = absurd cc
-neither false b e = (refl, e)
 
 mutual
   no_case : (w : Words) (line : ℕ) (b : s.Statements) → body_has_case (placed_body w line b) ≡ false → cases_in b ≡ 0

@@ -50,6 +50,7 @@ use Rattle.fsm_io.specs.Elaboration.{frame_of, body_bits, IsMachineOf}
 use Rattle.fsm_io.specs.Checks.{if_state, fault_behind, fault_of, first_fault, Passes}
 use Rattle.fsm_io.specs.Text.{IsFsm, Refused, IsFsmRefusal}
 use Rattle.fsm_io.specs.Laws.{OneFsm, NeverBoth}
+use Rattle.fsm_io.proofs.StateNames.{or_second}
 use Rattle.fsm_io.proofs.Surely.{Blind, body_same}
 use Rattle.fsm_write.specs.declared.words.Words.{Words}
 use Rattle.fsm_write.specs.Writable.{CanBeFsm}
@@ -63,7 +64,7 @@ use Rattle.fsm_round.proofs.Known.{symbols_differ, ports_line, port_free, output
 use Rattle.fsm_round.proofs.Body.{itself, body_again}
 use Rattle.fsm_round.proofs.Quiet.{AreQuiet, roles_with, has_case, quiet_body}
 use Rattle.fsm_round.proofs.States.{none_bad}
-use Rattle.fsm_round.proofs.Assigned.{named_body, outputs_assigned, among_all, each_always}
+use Rattle.fsm_round.proofs.Assigned.{named_body, in_among, outputs_assigned, each_always}
 use Rattle.fsm_round.proofs.Clock.{process_uses, process_widths, process_forms, process_edge}
 use Rattle.fsm_round.proofs.Names.{can_read, can_look, can_clock, clock_declared, signals_apart, current_free, next_free, clock_found}
 
@@ -110,10 +111,6 @@ states_again line (n ∷ ns) all =
 
 all_signs : (a b c d : Bool) → a ≡ true → b ≡ true → c ≡ true → d ≡ true → ((a && (b && c)) && d) ≡ true
 all_signs a b c d p q r s = rw (p, q, r, s) refl
-
-or_second : (a b : Bool) → b ≡ true → (a || b) ≡ true
-or_second true b e = refl
-or_second false b e = e
 
 module _ (w : Words) (f : Fsm) (r : Ready w f) where
   abbrev m : MachineTree
@@ -169,7 +166,7 @@ module _ (w : Words) (f : Fsm) (r : Ready w f) where
   all_driven : first_unassigned m ≡ None
   all_driven =
       let N = flat_map (names_at known) (all_mentions m) in
-      outputs_assigned (is_among N) known (fsm_outputs f) (output_bit w f r) (λ x h. among_all N x (output_named x h))
+      outputs_assigned (is_among N) known (fsm_outputs f) (output_bit w f r) (λ x h. in_among N x (output_named x h))
 
   fit_groups : All FitsSupply (grouped f.ports)
   fit_groups =

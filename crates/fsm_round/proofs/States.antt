@@ -29,6 +29,7 @@ use Rattle.fsm_io.specs.Known.{texts}
 use Rattle.fsm_io.specs.Looks.{Mention, assigning, testing, selecting, listing, body_has_case, parts_have_case, in_body, in_parts, in_branches, use_of}
 use Rattle.fsm_io.specs.Elaboration.{state_number}
 use Rattle.fsm_io.specs.States.{is_one_of, bad_names, bad_value, bad_at, listed_after, bad_states}
+use Rattle.fsm_io.proofs.StateNames.{or_second}
 use Rattle.fsm_write.specs.declared.words.Words.{Words}
 use Rattle.fsm_write.specs.Layout.{state_text, if_layout, case_layout}
 use Rattle.fsm_write.specs.Pieces.{IsKnownBody, AreKnownParts, AreKnownBranches}
@@ -38,10 +39,6 @@ use Rattle.fsm_round.proofs.Known.{contains_in}
 use Rattle.fsm_round.proofs.Body.{itself, other, CanReadBody, state_again}
 
 -- ---- lists
-
-or_second : (a b : Bool) → b ≡ true → (a || b) ≡ true
-or_second true b e = refl
-or_second false b e = e
 
 in_one_of : (ts : List (List ℕ)) (t : List ℕ) → In t ts → is_one_of ts t ≡ true
 in_one_of (u ∷ ts) t here = ap (λ b. b || list_any (λ (x : List ℕ). bytes_eq x t) ts) (itself t)
