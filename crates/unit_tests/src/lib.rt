@@ -1,5 +1,5 @@
 //! Tests of single calls that no run of a tool shows: what a text is cut into, orders and rings, values and sizes of expressions,
-//! numbers, and the shelves and sinks by themselves.
+//! numbers, a state machine that is written, and the shelves and sinks by themselves.
 #![tactic(auto)]
 
 #[cfg(test)]
@@ -10,5 +10,7 @@ mod nodes;
 mod numbers;
 #[cfg(test)]
 mod shelves;
+#[cfg(test)]
+mod states;
 #[cfg(test)]
 mod texts;
