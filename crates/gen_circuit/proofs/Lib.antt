@@ -1,0 +1,4 @@
+pub mod Lists
+pub mod Checking
+pub mod Made
+pub mod Weight

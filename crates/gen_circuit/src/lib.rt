@@ -1,0 +1,8 @@
+//! A circuit of any size from a number: its gates and what they read come from the words of a generator that the number seeds.
+#![tactic(auto)]
+
+mod law;
+mod making;
+
+pub use law::{circuits_are_checked, circuits_are_small};
+pub use making::{LEAST_SIZE, MOST_SIZE, circuit};
