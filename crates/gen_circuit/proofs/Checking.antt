@@ -214,7 +214,7 @@ registers_in_order = in_order (four_bits (codes "r")) ((refl, (refl, (refl, tt))
 
 -- ---- checked
 
-length_gates : (j : ℕ) (ws : List ℕ) → length (gates j ws) ≡ length ws
+pub length_gates : (j : ℕ) (ws : List ℕ) → length (gates j ws) ≡ length ws
 length_gates j [] = refl
 length_gates j (w ∷ ws) = let h = length_gates (j + 1) ws in omega arith
 

@@ -1,4 +1,7 @@
 pub mod Lists
 pub mod Checking
-pub mod Made
 pub mod Weight
+pub mod Made
+pub mod Named
+pub mod Long
+pub mod Read

@@ -15,7 +15,7 @@ use Rattle.gen_circuit.proofs.Checking.{length_vars, words_each}
 abbrev pub weigh : ℕ → List Equation → ℕ
 weigh n es = fold (λ a (e : Equation). a + size_of e.expr) n es
 
-kind_weight : (w : ℕ) → gate_size (kind w) ≤ 4
+pub kind_weight : (w : ℕ) → gate_size (kind w) ≤ 4
 kind_weight w = by (w % 4 == 0) (w % 4 == 1) (w % 4 == 2) where
   by : (a b c : Bool) → gate_size (if a then gate.Nand else if b then gate.Nor else if c then gate.Xor else gate.And) ≤ 4
   by true b c = omega arith

@@ -4,5 +4,7 @@
 mod law;
 mod making;
 
-pub use law::{circuits_are_checked, circuits_are_small};
+pub use law::{
+    circuits_are_checked, circuits_are_read_again, circuits_are_small, circuits_can_be_written,
+};
 pub use making::{LEAST_SIZE, MOST_SIZE, circuit};
