@@ -1,7 +1,7 @@
 -- The line of a tool's refusals, what words that spell a command come to, and words that no command is read from.
 use Rattle.std.proofs.Common.{◌≡◌, ◌⊎◌, inr, ℕ, ◌≤◌, Bool, true, false, cond, ◌&&◌, nat_le, List, [], ◌∷◌, ◌++◌, Option, None, Some, option_map, IfSome, Err, IsErrOf, refl, sym, ◌∙◌, ap, subst}
 use Rattle.std.specs.Prelude.{codes}
-use Rattle.std.proofs.lemmas.Bool.{and_parts, leb-true}
+use Rattle.std.proofs.lemmas.Bool.{leb-true}
 use Rattle.vlsi_base.specs.Number.{value_of}
 use Rattle.clap.specs.Words.{Row, first_of}
 use Rattle.tool_words.specs.declared.table.Tool.{Tool}

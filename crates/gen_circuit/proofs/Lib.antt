@@ -3,5 +3,6 @@ pub mod Checking
 pub mod Weight
 pub mod Made
 pub mod Named
+pub mod Lengths
 pub mod Long
 pub mod Read

@@ -34,39 +34,7 @@ use Rattle.vbe_again.proofs.Known.{all_in, any_in, renamed_all}
 use Rattle.gen_circuit.specs.Generated.{clock, bit_of, four_bits, ports, of_gate, kind, choices, operand, gate_by, gates, output, register, circuit_by}
 use Rattle.gen_circuit.proofs.Named.{each_all}
 use Rattle.gen_circuit.proofs.Checking.{length_gates}
-
--- ---- operands are variables
-
-pub operand_is : (j n : ℕ) → (k : ℕ) × (operand j n ≡ variable k)
-operand_is j n = by (nat_lt n 8) where
-  by : (b : Bool) → (k : ℕ) × ((if b then variable n else of_gate (j - 1 - (n - 8))) ≡ variable k)
-  by true = (n, refl)
-  by false = (8 + (j - 1 - (n - 8)), refl)
-
--- what holds of every gate of a kind between two variables holds of gate j
-pub by_gate : (P : Expression → Type 0) → ((w a b : ℕ) → P (pair (kind w) (variable a) (variable b))) → (j w : ℕ) → P (gate_by j w).expr
-by_gate P h j w =
-    let a = operand_is j (w / 2 ^ 8 % choices j) in
-    let b = operand_is j (w / 2 ^ 20 % choices j) in
-    subst (λ x. P (pair (kind w) x (operand j (w / 2 ^ 20 % choices j)))) (sym a.1) (subst (λ x. P (pair (kind w) (variable a.0) x)) (sym b.1) (h w a.0 b.0))
-
-pub by_gates : (P : Expression → Type 0) → ((w a b : ℕ) → P (pair (kind w) (variable a) (variable b))) → (j : ℕ) (ws : List ℕ) → All (λ (e : Equation). P e.expr) (gates j ws)
-by_gates P h j [] = All-nil (λ (e : Equation). P e.expr)
-by_gates P h j (w ∷ ws) = All-cons (λ (e : Equation). P e.expr) (gate_by j w) (gates (j + 1) ws) (by_gate P h j w) (by_gates P h (j + 1) ws)
-
-pub by_outputs : (P : Expression → Type 0) → ((a : ℕ) → P (variable a)) → (size : ℕ) → All (λ (e : Equation). P e.expr) (map (output size) (rising 0 4))
-by_outputs P h size =
-    each_all (λ (e : Equation). P e.expr) (map (output size) (rising 0 4))
-    (h (8 + (size - 1 - 0)), (h (8 + (size - 1 - 1)), (h (8 + (size - 1 - 2)), (h (8 + (size - 1 - 3)), tt))))
-
-pub by_equations : (P : Expression → Type 0) → ((w a b : ℕ) → P (pair (kind w) (variable a) (variable b))) → ((a : ℕ) → P (variable a)) → (ws : List ℕ) (size : ℕ)
-    → All (λ (e : Equation). P e.expr) (circuit_by ws size).equations
-by_equations P h v ws size = All-append (λ (e : Equation). P e.expr) (gates 0 ws) (map (output size) (rising 0 4)) (by_gates P h 0 ws) (by_outputs P v size)
-
-by_registers : (P : Register → Type 0) → ((t : ℕ) → t < 4 → (a : ℕ) → P (record { name = bit_of (codes "r") t; next = variable a; enable = constant true })) → (size : ℕ) → All P (map (register size) (rising 0 4))
-by_registers P h size =
-    each_all P (map (register size) (rising 0 4))
-    (h 0 (omega arith) (8 + (size - 5 - 0)), (h 1 (omega arith) (8 + (size - 5 - 1)), (h 2 (omega arith) (8 + (size - 5 - 2)), (h 3 (omega arith) (8 + (size - 5 - 3)), tt))))
+use Rattle.gen_circuit.proofs.Lengths.{by_equations, by_registers, size, size_both, IsBrief, scalar_brief, four_brief, texts_brief, signals_size, IsShortValue, name_short, gate_short, equations_size, blocks_size, entity_size, stored_size}
 
 -- ---- parentheses and operators
 
@@ -85,56 +53,6 @@ value_few g a b = (omega arith, omega arith)
 
 name_few : (a : ℕ) → IsFewValues (variable a)
 name_few a = (omega arith, omega arith)
-
--- ---- lengths
-
-abbrev size : List Written → ℕ
-size ws = length (text_of ws)
-
-size_both : (xs ys : List Written) → size (xs ++ ys) ≡ size xs + size ys
-size_both xs ys = ap (λ (t : List ℕ). length t) (text_append xs ys) ∙ length-append (text_of xs) (text_of ys)
-
--- a name of at most 24 bytes
-abbrev IsBrief : Name → Type 0
-IsBrief n = size (name_layout n) ≤ 24
-
-scalar_brief : (t : List ℕ) → length t ≤ 11 → IsBrief (scalar t)
-scalar_brief t few = let h = length-append t [] in omega (arith, h, few)
-
-bit_brief : (t : List ℕ) (k : ℕ) → length t ≤ 1 → k < 4 → IsBrief (bit_of t k)
-bit_brief t k few small =
-    let d = length-decimal-le 1 k (omega arith) (omega (arith, small)) (omega (arith, small)) in
-    let a = length-append t (40 ∷ decimal k ++ 41 ∷ []) in
-    let b = length-append (decimal k) (41 ∷ []) in
-    omega (arith, a, b, d, few)
-
-four_brief : (t : List ℕ) → length t ≤ 1 → All IsBrief (four_bits t)
-four_brief t few =
-    each_all IsBrief (four_bits t) (bit_brief t 0 few (omega arith), (bit_brief t 1 few (omega arith), (bit_brief t 2 few (omega arith), (bit_brief t 3 few (omega arith), tt))))
-
-name_brief : (vars : List Name) → All IsBrief vars → (k : ℕ) → IsBrief (name_of vars k)
-name_brief [] h k = omega arith
-name_brief (n ∷ vars) h zero = All-head IsBrief n vars h
-name_brief (n ∷ vars) h (suc k) = name_brief vars (All-tail IsBrief n vars h) k
-
--- ---- texts of signals
-
-rising_less : (m n : ℕ) → All (λ k. k < m + n) (rising m n)
-rising_less m zero = All-nil (λ k. k < m + 0)
-rising_less m (suc n) =
-    All-cons (λ k. k < m + suc n) m (rising (m + 1) n) (omega arith) (All-weaker (λ k. k < m + 1 + n) (λ k. k < m + suc n) (λ k w. omega (arith, w)) (rising (m + 1) n) (rising_less (m + 1) n))
-
-number_brief : (k : ℕ) → k < 2 ^ 32 → length (numbered (codes "n") k) ≤ 11
-number_brief k small = let n = length-decimal-le 10 k (omega arith) (omega (arith, small)) (omega (arith, small)) in omega (arith, n)
-
-texts_brief : (taken : List (List ℕ)) (many : ℕ) → many + length taken ≤ 2 ^ 32 → All (λ t. length t ≤ 11) (free_texts (codes "n") taken many)
-texts_brief taken many few =
-    let most = many + length taken in
-    let p : ℕ → Bool = λ k. is_free taken (numbered (codes "n") k) in
-    let G : ℕ → Type 0 = λ k. length (numbered (codes "n") k) ≤ 11 in
-    All-map (λ t. length t ≤ 11) (numbered (codes "n")) (free_numbers (codes "n") taken many)
-    (All-take G many (filter p (rising 0 most))
-    (All-filter p G (rising 0 most) (All-weaker (λ k. k < 0 + most) G (λ k w. number_brief k (omega (arith, w, few))) (rising 0 most) (rising_less 0 most))))
 
 -- ---- how many there are
 
@@ -184,108 +102,6 @@ vars_brief ws size few =
     All-append IsBrief (four_bits (codes "x")) (four_bits (codes "r") ++ written_names (circuit_by ws size)) (four_brief (codes "x") (omega arith))
     (All-append IsBrief (four_bits (codes "r")) (written_names (circuit_by ws size)) (four_brief (codes "r") (omega arith)) (names_brief ws size few))
 
--- ---- parts of the text
-
-signals_size : (ss : List (List ℕ)) → All (λ t. length t ≤ 11) ss → size (signals_layout ss) ≤ 26 * length ss
-signals_size [] h = omega arith
-signals_size (s ∷ ss) h =
-    let both = size_both (signal_layout s) (signals_layout ss) in
-    let rest = signals_size ss (All-tail (λ t. length t ≤ 11) s ss h) in
-    let own = All-head (λ t. length t ≤ 11) s ss h in
-    let one = length-append s (text_of (gap ∷ a_sign sign.Colon ∷ gap ∷ a_word word.Bit ∷ a_sign sign.Semicolon ∷ turn ∷ [])) in
-    let is : size (signal_layout s) ≡ 7 + length (s ++ text_of (gap ∷ a_sign sign.Colon ∷ gap ∷ a_word word.Bit ∷ a_sign sign.Semicolon ∷ turn ∷ [])) = refl in
-    omega (arith, both, rest, own, one, is)
-
-word_size : (g : Gate) → length (keyword_text (gate_word g)) ≤ 4
-word_size gate.And = omega arith
-word_size gate.Or = omega arith
-word_size gate.Nand = omega arith
-word_size gate.Nor = omega arith
-word_size gate.Xor = omega arith
-word_size gate.Xnor = omega arith
-
--- an equation under a short name, over short names
-abbrev IsShortValue : List Name → Expression → Type 0
-IsShortValue vars e = (n : Name) → IsBrief n → size (equation_layout vars n e) ≤ 84
-
-name_short : (vars : List Name) → All IsBrief vars → (a : ℕ) → IsShortValue vars (variable a)
-name_short vars h a n short =
-    let x = name_brief vars h a in
-    let p = size_both (name_layout n) (gap ∷ a_sign sign.Assign ∷ gap ∷ name_layout (name_of vars a) ++ (a_sign sign.Semicolon ∷ turn ∷ [])) in
-    let q = size_both (name_layout (name_of vars a)) (a_sign sign.Semicolon ∷ turn ∷ []) in
-    let r : size (gap ∷ a_sign sign.Assign ∷ gap ∷ name_layout (name_of vars a) ++ (a_sign sign.Semicolon ∷ turn ∷ [])) ≡ 4 + size (name_layout (name_of vars a) ++ (a_sign sign.Semicolon ∷ turn ∷ [])) = refl in
-    let s : size (a_sign sign.Semicolon ∷ turn ∷ []) ≡ 2 = refl in
-    omega (arith, short, x, p, q, r, s)
-
-gate_short : (vars : List Name) → All IsBrief vars → (g : Gate) (a b : ℕ) → IsShortValue vars (pair g (variable a) (variable b))
-gate_short vars h g a b n short =
-    let A = name_layout (name_of vars a) in
-    let B = name_layout (name_of vars b) in
-    let E : List Written = a_sign sign.Semicolon ∷ turn ∷ [] in
-    let W : List Written = gap ∷ a_word (gate_word g) ∷ gap ∷ B in
-    let x = name_brief vars h a in
-    let y = name_brief vars h b in
-    let w = word_size g in
-    let p = size_both (name_layout n) (gap ∷ a_sign sign.Assign ∷ gap ∷ (A ++ W) ++ E) in
-    let q = size_both (A ++ W) E in
-    let r = size_both A W in
-    let k = length-append (keyword_text (gate_word g)) (32 ∷ text_of B) in
-    let u : size (gap ∷ a_sign sign.Assign ∷ gap ∷ (A ++ W) ++ E) ≡ 4 + size ((A ++ W) ++ E) = refl in
-    let v : size W ≡ 1 + length (keyword_text (gate_word g) ++ 32 ∷ text_of B) = refl in
-    let z : size E ≡ 2 = refl in
-    omega (arith, short, x, y, w, p, q, r, k, u, v, z)
-
-equations_size : (vars names : List Name) (es : List Equation) → All IsBrief names → All (λ (e : Equation). IsShortValue vars e.expr) es
-    → size (equations_layout vars names es) ≤ 84 * length es
-equations_size vars [] es h short = omega arith
-equations_size vars (n ∷ names) [] h short = omega arith
-equations_size vars (n ∷ names) (e ∷ es) h short =
-    let P : Equation → Type 0 = λ x. IsShortValue vars x.expr in
-    let both = size_both (equation_layout vars n e.expr) (equations_layout vars names es) in
-    let one = All-head P e es short n (All-head IsBrief n names h) in
-    let rest = equations_size vars names es (All-tail IsBrief n names h) (All-tail P e es short) in
-    omega (arith, both, one, rest)
-
--- the block of a register
-block_size : (vars : List Name) → All IsBrief vars → (k t a : ℕ) → size (block_head_layout vars clock k (constant true)) ≤ 60 → t < 4
-    → size (register_layout vars clock k (record { name = bit_of (codes "r") t; next = variable a; enable = constant true })) ≤ 160
-block_size vars h k t a head small =
-    let r : Register = record { name = bit_of (codes "r") t; next = variable a; enable = constant true } in
-    let A = name_layout (name_of vars a) in
-    let R = name_layout (bit_of (codes "r") t) in
-    let E : List Written = a_sign sign.Semicolon ∷ turn ∷ [] in
-    let L : List Written = gap ∷ a_sign sign.Assign ∷ gap ∷ a_word word.Guarded ∷ gap ∷ A ++ E in
-    let x = name_brief vars h a in
-    let y = bit_brief (codes "r") t (omega arith) small in
-    let p = size_both (block_head_layout vars clock k (constant true)) (loading_layout vars r ++ block_end) in
-    let q = size_both (loading_layout vars r) block_end in
-    let u = size_both R L in
-    let v = size_both A E in
-    let load : size (loading_layout vars r) ≡ 2 + size (R ++ L) = refl in
-    let guarded : size L ≡ 12 + size (A ++ E) = refl in
-    let end : size E ≡ 2 = refl in
-    let last : size block_end ≡ 11 = refl in
-    omega (arith, x, y, p, q, u, v, load, guarded, end, last, head)
-
-blocks_size : (vars : List Name) → All IsBrief vars → (size_of : ℕ) → size (storage_layout vars (Some clock) (map (register size_of) (rising 0 4))) ≤ 640
-blocks_size vars h n =
-    let L : ℕ → List Written = λ t. register_layout vars clock t (register n t) in
-    let h0 : size (block_head_layout vars clock 0 (constant true)) ≡ 48 = refl in
-    let h1 : size (block_head_layout vars clock 1 (constant true)) ≡ 48 = refl in
-    let h2 : size (block_head_layout vars clock 2 (constant true)) ≡ 48 = refl in
-    let h3 : size (block_head_layout vars clock 3 (constant true)) ≡ 48 = refl in
-    let b0 = block_size vars h 0 0 (8 + (n - 5 - 0)) (omega (arith, h0)) (omega arith) in
-    let b1 = block_size vars h 1 1 (8 + (n - 5 - 1)) (omega (arith, h1)) (omega arith) in
-    let b2 = block_size vars h 2 2 (8 + (n - 5 - 2)) (omega (arith, h2)) (omega arith) in
-    let b3 = block_size vars h 3 3 (8 + (n - 5 - 3)) (omega (arith, h3)) (omega arith) in
-    let p0 = size_both (L 0) (L 1 ++ (L 2 ++ (L 3 ++ []))) in
-    let p1 = size_both (L 1) (L 2 ++ (L 3 ++ [])) in
-    let p2 = size_both (L 2) (L 3 ++ []) in
-    let p3 = size_both (L 3) [] in
-    let none : size [] ≡ 0 = refl in
-    let all : size (storage_layout vars (Some clock) (map (register n) (rising 0 4))) ≡ size (L 0 ++ (L 1 ++ (L 2 ++ (L 3 ++ [])))) = refl in
-    omega (arith, b0, b1, b2, b3, p0, p1, p2, p3, none, all)
-
 -- ---- the whole text
 
 text_short : (ws : List ℕ) (n : ℕ) → length ws ≤ 4000 → length (text (circuit_by ws n)) ≤ 1048576
@@ -306,9 +122,9 @@ text_short ws n few =
     let e = size_both begin_layout (F ++ (G ++ last_layout)) in
     let f = size_both F (G ++ last_layout) in
     let g = size_both G last_layout in
-    let entity : size A ≡ 147 = refl in
+    let entity = entity_size in
+    let stored = stored_size in
     let head : size B ≡ 34 = refl in
-    let stored : size D ≡ 45 = refl in
     let begin : size begin_layout ≡ 6 = refl in
     let last : size last_layout ≡ 15 = refl in
     let signals = signals_size (signal_texts m) (signals_brief ws n few) in

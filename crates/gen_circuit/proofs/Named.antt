@@ -7,6 +7,7 @@ use Rattle.vlsi_base.specs.declared.name.Port.{Port}
 use Rattle.vlsi_base.specs.Member.{In, here, there}
 use Rattle.vlsi_base.specs.Range.{rising}
 use Rattle.machine_meaning.specs.Machine.{Register, register_names}
+use Rattle.vhdl_token.specs.Keyword.{keyword_of}
 use Rattle.port_words.specs.Words.{IsIdentifier, GoesOn}
 use Rattle.vbe_write.specs.Written.{as_ports}
 use Rattle.vbe_write.specs.Writable.{AreDeclared, CanBeVbe}
@@ -68,6 +69,7 @@ on : (p q : Port) → GoesOn p q → p.name.text ≡ q.name.text → GoesOn p q
 on p q g same = g
 
 pub ports_declared : AreDeclared ports
+unfolding keyword_of
 ports_declared = record {
   words = each_all (λ p. IsIdentifier p.name.text) ports (
     (refl, refl),
@@ -92,6 +94,7 @@ ports_declared = record {
 }
 
 stored_declared : (size : ℕ) → AreDeclared (as_ports (map (λ (r : Register). r.name) (map (register size) (rising 0 4))))
+unfolding keyword_of
 stored_declared size = record {
   words = each_all (λ p. IsIdentifier p.name.text) (as_ports (four_bits (codes "r"))) ((refl, refl), ((refl, refl), ((refl, refl), ((refl, refl), tt))));
   runs = runs_of (as_ports (four_bits (codes "r")))
@@ -111,6 +114,7 @@ stored_r : (size : ℕ) (r : Register) → In r (map (register size) (rising 0 4
 stored_r size = each_in (λ r. letter r.name.text ≡ 114) (map (register size) (rising 0 4)) (refl, (refl, (refl, (refl, tt))))
 
 pub can_be_vbe : (ws : List ℕ) (size : ℕ) → CanBeVbe (circuit_by ws size)
+unfolding keyword_of
 can_be_vbe ws size = record {
   name = (refl, refl);
   ports = ports_declared;

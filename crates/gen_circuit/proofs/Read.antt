@@ -52,7 +52,8 @@ use Rattle.gen_circuit.specs.Written.{CircuitsCanBeWritten, IsReadAgain, Circuit
 use Rattle.gen_circuit.proofs.Checking.{is_checked, words_each}
 use Rattle.gen_circuit.proofs.Weight.{kind_weight}
 use Rattle.gen_circuit.proofs.Named.{each_all, can_be_vbe}
-use Rattle.gen_circuit.proofs.Long.{by_equations, length_equations, within_limits}
+use Rattle.gen_circuit.proofs.Lengths.{by_equations}
+use Rattle.gen_circuit.proofs.Long.{length_equations, within_limits}
 
 -- ---- what a text declares
 
