@@ -1,10 +1,11 @@
 -- The command line that the code builds is that of the tool's entry.
-use Rattle.std.proofs.Common.{◌≡◌, ℕ, Bool, true, false, ◌&&◌, not, List, [], ◌∷◌, ◌++◌, map, refl, sym, subst, ◌∙◌, ap, append_assoc}
+use Rattle.std.proofs.Common.{◌≡◌, ℕ, Bool, true, false, ◌&&◌, not, is_some, List, [], ◌∷◌, ◌++◌, map, refl, sym, ◌∙◌, ap, append_assoc}
 use Rattle.std.proofs.lemmas.List.{append-nil}
 use Rattle.std.specs.List.{list_all}
-use Rattle.clap.specs.Words.{App, Shape, Rule, app_of, rule_of, fields_of, AddsArg, AddsInTurn, with_rule}
+use Rattle.clap.specs.Words.{App, Shape, Rule, app_of, rule_of, AddsArg, AddsInTurn, with_rule}
+use Rattle.clap.specs.declared.builder.command.Command.TheViews.{out-Command}
 use Rattle.clap.specs.Simple.{app_of_fields, on_top}
-use Rattle.clap.specs.Walk.{is_simple_arg}
+use Rattle.clap.specs.Walk.{is_empty, is_simple_arg}
 use Rattle.clap.specs.declared.builder.arg.Arg.{Arg}
 use Rattle.clap.specs.declared.builder.command.Command.{Command}
 use Rattle.clap.proofs.WalkLemmas.{both}
@@ -12,7 +13,7 @@ use Rattle.clap.proofs.SimpleLemmas.{is_false}
 use Rattle.tool_words.specs.Table.{Setting}
 use Rattle.tool_words.specs.Arguments.{source_rules, option_rule}
 
-abbrev all_simple : List Rule → Bool
+abbrev pub all_simple : List Rule → Bool
 all_simple rules = list_all (λ (r : Rule). r.is_simple) rules
 
 simple_options : (settings : List Setting) → all_simple (map option_rule settings) ≡ true
@@ -23,9 +24,18 @@ pub simple_rules : (endings : List (List ℕ)) (settings : List Setting) → all
 simple_rules [] settings = simple_options settings
 simple_rules (e ∷ rest) settings = simple_options settings
 
+second : (a b : Bool) → (a && b) ≡ true → b ≡ true
+second true b h = h
+second false b h = absurd (cc h)
+
+last : (a b c d e f g h i j : Bool) → (a && (b && (c && (d && (e && (f && (g && (h && (i && j))))))))) ≡ true → j ≡ true
+last a b c d e f g h i j p = second i j (second h (i && j) (second g (h && (i && j)) (second f (g && (h && (i && j))) (second e (f && (g && (h && (i && j)))) (second d (e && (f && (g && (h && (i && j))))) (second c (d && (e && (f && (g && (h && (i && j)))))) (second b (c && (d && (e && (f && (g && (h && (i && j))))))) (second a (b && (c && (d && (e && (f && (g && (h && (i && j)))))))) p))))))))
+
 -- a simple argument isn't global
 local : (a : Arg) → is_simple_arg a ≡ true → a.global ≡ false
-local a h = is_false a.global (both _ _ (both _ _ (both _ _ (both _ _ (both _ _ (both _ _ (both _ _ (both _ _ (both _ _ h).1).1).1).1).1).1).1).1).1
+local a h = is_false a.global
+    (last (is_empty a.overrides.items) (is_empty a.default_vals_ifs.items) (is_empty a.groups.items) (not (is_some a.val_delim)) (not (is_some a.terminator))
+    (not a.allow_hyphen_values) (not a.allow_negative_numbers) (not a.require_equals) (not a.last) (not a.global) h)
 
 abbrev pub with_rules : App → List Rule → App
 with_rules a rules = on_top (λ (s : Shape). record s { rules = s.rules ++ rules }) a
@@ -46,8 +56,8 @@ added old new (a ∷ rest) simple h =
     ∙ ap (λ (x : App). with_rules x (map rule_of rest)) (h.1.shape (local a s.0))
     ∙ with_more (app_of old) (rule_of a) (map rule_of rest)
 
-pub without_name : (old new : Command) → fields_of new ≡ record (fields_of old) { no_binary_name = true } → app_of new ≡ on_top (λ (s : Shape). record s { no_binary_name = true }) (app_of old)
+pub without_name : (old new : Command) → out-Command new ≡ record (out-Command old) { no_binary_name = true } → app_of new ≡ on_top (λ (s : Shape). record s { no_binary_name = true }) (app_of old)
 without_name old new h = ap app_of_fields h
 
-pub without_help : (old new : Command) → fields_of new ≡ record (fields_of old) { disable_help_flag = true } → app_of new ≡ on_top (λ (s : Shape). record s { disable_help_flag = true }) (app_of old)
+pub without_help : (old new : Command) → out-Command new ≡ record (out-Command old) { disable_help_flag = true } → app_of new ≡ on_top (λ (s : Shape). record s { disable_help_flag = true }) (app_of old)
 without_help old new h = ap app_of_fields h

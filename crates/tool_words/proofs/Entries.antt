@@ -12,7 +12,7 @@ use Rattle.tool_words.specs.declared.command.Encoding.TheVariants as encoding_va
 use Rattle.tool_words.specs.Table.{Entry, tools, tool_of, flow, gen, syf, boom, boog, asimut, cougar, lvx, druc, proof, flatbeh, library, out, seed, nodes, size, patterns, netlist_library, other_source, other_netlist}
 use Rattle.tool_words.specs.Values.{has_ending, source_of, text_of, number_of, encoding_of}
 use Rattle.tool_words.specs.Arguments.{command_line, given}
-use Rattle.tool_words.specs.Commands.{flow_on, gen_with, generated, syf_with, boom_with, boog_with, asimut_on, asimut_with, cougar_with, lvx_with, druc_with, proof_with, flatbeh_with, command_from, command_in, command_by, are_taken, word_of, command_of}
+use Rattle.tool_words.specs.Commands.{flow_on, gen_with, generated, syf_with, boom_with, boog_with, asimut_on, asimut_with, cougar_with, lvx_with, druc_with, proof_with, flatbeh_with, command_from, command_by, are_taken, word_of}
 use Rattle.tool_words.specs.Laws.{ToolComesFirst}
 
 -- ---- clap's parse of it is exact

@@ -1,6 +1,6 @@
 -- The words behind a tool's, as `clap` takes them: by one simple command with the arguments of the tool's entry.
-use Rattle.std.specs.Prelude.{ℕ, Bool, true, List, [], ◌∷◌, ◌++◌, map, Option, None, Some, is_some, if◌then◌else◌, codes}
-use Rattle.clap.specs.Words.{App, Row, Rule, Kinds, new_app, new_rule, matches_of, fault_of}
+use Rattle.std.specs.Prelude.{ℕ, true, List, [], ◌∷◌, ◌++◌, map, None, Some, is_some, if◌then◌else◌, codes}
+use Rattle.clap.specs.Words.{App, Row, Rule, Kinds, new_rule, matches_of, fault_of}
 use Rattle.clap.specs.Simple.{new_shape}
 use Rattle.clap.specs.declared.builder.action.ArgAction.{ArgAction}
 use Rattle.clap.specs.declared.builder.action.ArgAction.TheVariants.{Set, SetTrue}

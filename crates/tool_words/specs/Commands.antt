@@ -14,8 +14,6 @@ use Rattle.tool_words.specs.declared.command.GenCommand.{GenCommand}
 use Rattle.tool_words.specs.declared.command.SyfCommand.{SyfCommand}
 use Rattle.tool_words.specs.declared.command.BoomCommand.{BoomCommand}
 use Rattle.tool_words.specs.declared.command.BoogCommand.{BoogCommand}
-use Rattle.tool_words.specs.declared.command.AsimutCommand.{AsimutCommand}
-use Rattle.tool_words.specs.declared.command.AsimutNetlistCommand.{AsimutNetlistCommand}
 use Rattle.tool_words.specs.declared.command.CougarCommand.{CougarCommand}
 use Rattle.tool_words.specs.declared.command.LvxCommand.{LvxCommand}
 use Rattle.tool_words.specs.declared.command.DrucCommand.{DrucCommand}

@@ -1,5 +1,5 @@
 -- What is given for SOURCE and for an option, where it is of the form that the table has.
-use Rattle.std.specs.Prelude.{ℕ, Bool, true, ◌&&◌, List, [], ◌∷◌, length, Option, None, Some, option_map, option_and_then, if◌then◌else◌, codes, nat_eq, nat_le}
+use Rattle.std.specs.Prelude.{ℕ, Bool, ◌&&◌, List, length, Option, None, Some, option_map, option_and_then, if◌then◌else◌, codes, nat_eq, nat_le}
 use Rattle.std.specs.List.{ends_with, list_all, list_any}
 use Rattle.clap.specs.Words.{Row, first_of, found_of, rows_of}
 use Rattle.clap.specs.declared.parser.matches.ArgMatches.{ArgMatches}

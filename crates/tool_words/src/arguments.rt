@@ -72,10 +72,10 @@ fn command_line<'a>(alloc: Global, entry: Entry) -> Result<Command<'a>, AllocErr
     ensures { IfOk result (λ command. app_of command ≡ command_line (entry_view entry)) }
 {
     let arguments = options(alloc, source(alloc, entry.endings)?, entry.settings)?;
-    Command::new(alloc, entry.word)
+    let command = Command::new(alloc, entry.word)
         .no_binary_name(true)
-        .disable_help_flag(true)
-        .args(arguments)
+        .disable_help_flag(true);
+    Ok(command.args(arguments)?)
 }
 
 /// What the words give for each argument of the tool. `Usage` exactly where something is wrong with them.
@@ -94,6 +94,17 @@ pub(crate) fn arguments<'a>(
     Ok(command.try_get_matches_from(words)?)
 }
 
+fn as_text(word: &[u8]) -> Result<&str, WordsError>
+    ensures ok { IfOk result (λ text. text.now ≡ word.now) }
+    ensures utf8 { IfOk result (λ text. is_utf8 word.now ≡ true) }
+    ensures usage { IsErrOf result Usage → is_utf8 word.now ≡ false }
+{
+    match str::from_utf8(word) {
+        Ok(text) => Ok(text),
+        Err(_) => Err(WordsError::Usage),
+    }
+}
+
 /// The words as text. `Usage` exactly where one of them isn't UTF-8.
 pub(crate) fn texts<'a>(alloc: Global, words: &'a [Text]) -> Result<Vec<&'a str>, WordsError>
     ensures ok { IfOk result (λ texts. texts_view texts.items ≡ words.now) }
@@ -102,9 +113,7 @@ pub(crate) fn texts<'a>(alloc: Global, words: &'a [Text]) -> Result<Vec<&'a str>
 {
     let mut texts = Vec::new(alloc);
     for word in words {
-        let Ok(text) = str::from_utf8(word.as_bytes()) else {
-            return Err(WordsError::Usage);
-        };
+        let text = as_text(word.as_bytes())?;
         texts.push(text)?;
     }
     Ok(texts)

@@ -253,7 +253,11 @@ fn flow(
     Ok(Command::Flow(flow_on(alloc, source, encoding, matches)?))
 }
 
-fn generate(alloc: Global, endings: &[&'static str], matches: &ArgMatches) -> Result<Command, WordsError>
+fn generate(
+    alloc: Global,
+    endings: &[&'static str],
+    matches: &ArgMatches,
+) -> Result<Command, WordsError>
     ensures ok { IfOk result (λ command. command_from Tool.Gen (texts_view endings.now) (found matches.now) ≡ Some command) }
     ensures usage { IsErrOf result Usage → command_from Tool.Gen (texts_view endings.now) (found matches.now) ≡ None }
 {
@@ -266,11 +270,7 @@ fn generate(alloc: Global, endings: &[&'static str], matches: &ArgMatches) -> Re
     Ok(Command::Gen(GenCommand { size, flow }))
 }
 
-fn syf(
-    alloc: Global,
-    endings: &[&'static str],
-    matches: &ArgMatches,
-) -> Result<Command, WordsError>
+fn syf(alloc: Global, endings: &[&'static str], matches: &ArgMatches) -> Result<Command, WordsError>
     ensures ok { IfOk result (λ command. command_from Tool.Syf (texts_view endings.now) (found matches.now) ≡ Some command) }
     ensures usage { IsErrOf result Usage → command_from Tool.Syf (texts_view endings.now) (found matches.now) ≡ None }
 {
@@ -355,11 +355,7 @@ fn cougar(
     }))
 }
 
-fn lvx(
-    alloc: Global,
-    endings: &[&'static str],
-    matches: &ArgMatches,
-) -> Result<Command, WordsError>
+fn lvx(alloc: Global, endings: &[&'static str], matches: &ArgMatches) -> Result<Command, WordsError>
     ensures ok { IfOk result (λ command. command_from Tool.Lvx (texts_view endings.now) (found matches.now) ≡ Some command) }
     ensures usage { IsErrOf result Usage → command_from Tool.Lvx (texts_view endings.now) (found matches.now) ≡ None }
 {
@@ -397,7 +393,11 @@ fn proof(
     let Some(nodes) = number(matches, NODES) else {
         return Err(WordsError::Usage);
     };
-    Ok(Command::Proof(ProofCommand { source, other, nodes }))
+    Ok(Command::Proof(ProofCommand {
+        source,
+        other,
+        nodes,
+    }))
 }
 
 fn flatbeh(
