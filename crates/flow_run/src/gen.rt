@@ -65,8 +65,8 @@ fn write_source<S: Shelf>(
     ensures written { OnOk result
         (Writes (S.seen shelf.old).files (S.seen shelf.new).files command.now.flow.source (circuit_text command.now)) }
     ensures counts { OnOk result (NoneFalls (S.seen shelf.old).counts (S.seen shelf.new).counts) }
-    ensures unwritten { (t u : SinkSeen)
-        → IfErr result (λ s. IsUnwritten command.now (outside (S.seen shelf.old) t) (outside (S.seen shelf.new) u) s) }
+    ensures unwritten { IfErr result (λ s. (t u : SinkSeen)
+        → IsUnwritten command.now (outside (S.seen shelf.old) t) (outside (S.seen shelf.new) u) s) }
 {
     let Ok(name) = command.flow.source.copy(alloc) else {
         return Err(Status::Memory);
