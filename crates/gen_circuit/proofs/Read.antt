@@ -142,8 +142,8 @@ module _ (m : Machine) (given : IsGiven m) (design : DesignFile) (same : source_
 
   equations_each : (k : Machine) → IsMachineOf design k → length k.equations ≡ length (map (equation_over k.vars) (definitions_of vars (written_names m) m.equations))
   equations_each k is =
-      length_permutation k.equations (map (equation_over k.vars) (definitions_of vars (written_names m) m.equations))
-      (subst (λ (ds : List Definition). IsPermutation k.equations (map (equation_over k.vars) ds)) definitions_is is.equations)
+      sym (length_permutation k.equations (map (equation_over k.vars) (definitions_of vars (written_names m) m.equations))
+      (subst (λ (ds : List Definition). IsPermutation k.equations (map (equation_over k.vars) ds)) definitions_is is.equations))
 
   registers_have : (P : Register → Type 0) (k : Machine) → IsMachineOf design k → All P (map (register_over k.vars) (map (stored_as vars) m.registers)) → All P k.registers
   registers_have P k is h =
