@@ -1,12 +1,12 @@
 -- Every circuit is checked.
-use Rattle.std.proofs.Common.{◌≡◌, ◌≢◌, ℕ, zero, suc, ◌+◌, ◌-◌, ◌/◌, ◌%◌, ◌<◌, ◌≤◌, ◌^◌, min, Bool, true, false, List, [], ◌∷◌, ◌++◌, map, length, codes, Option, None, Some, nat_lt, ◌⊎◌, inl, inr, slice_index, refl, sym, ap, subst, ◌∙◌, mod-lt, length-append, arith, if◌then◌else◌}
+use Rattle.std.proofs.Common.{◌≡◌, ℕ, zero, suc, ◌+◌, ◌-◌, ◌/◌, ◌%◌, ◌<◌, ◌≤◌, ◌^◌, Bool, true, false, List, [], ◌∷◌, ◌++◌, map, length, codes, Option, None, Some, nat_lt, ◌⊎◌, inl, inr, slice_index, refl, sym, ap, subst, mod-lt, length-append, arith, if◌then◌else◌}
 use Rattle.std.specs.Fmt.{decimal}
 use Rattle.std.specs.List.{All}
 use Rattle.std.specs.declared.cmp.Ordering.TheVariants.{Less}
 use Rattle.std.proofs.lemmas.Fmt.{decimal_injective}
 use Rattle.std.proofs.lemmas.Bool.{ltb-true, ltb-false}
 use Rattle.std.proofs.lemmas.List.{length-map}
-use Rattle.std.proofs.lemmas.List.Elements.{All-nil, All-cons, All-append, All-map}
+use Rattle.std.proofs.lemmas.List.Elements.{All-nil, All-cons, All-append}
 use Rattle.std.proofs.lemmas.List.Kept.{AllPairs-cons}
 use Rattle.rand_core.specs.Pcg32Seed.{pcg32_seed}
 use Rattle.rand_core.specs.Steps.{first_words}
@@ -16,7 +16,7 @@ use Rattle.vlsi_base.specs.Name.{name_cmp}
 use Rattle.vlsi_base.specs.Member.{In, here, there, AllDifferent}
 use Rattle.vlsi_base.specs.Range.{rising}
 use Rattle.bool_expr.specs.Expression.{IsOver, variable}
-use Rattle.machine_meaning.specs.Machine.{Machine, Equation, Register, names_of}
+use Rattle.machine_meaning.specs.Machine.{Equation, Register, names_of}
 use Rattle.machine_core.specs.Order.{EachReadsBelow, IsOrdered}
 use Rattle.machine_core.specs.Checked.{AreInOrder, IsNoSupply, IsClockOf, IsChecked}
 use Rattle.gen_circuit.specs.Generated.{clock, bit_of, four_bits, gate_name, ports, of_gate, choices, operand, gate_by, gates, output, register, circuit_by, words_of, generated}

@@ -1,19 +1,16 @@
 -- How long the parts of a circuit's text are.
-use Rattle.std.proofs.Common.{◌≡◌, ℕ, zero, suc, ◌+◌, ◌-◌, ◌*◌, ◌/◌, ◌%◌, ◌<◌, ◌≤◌, ◌^◌, Bool, true, false, not, List, [], ◌∷◌, ◌++◌, map, filter, length, codes, Option, None, Some, nat_lt, length-append, get_or, refl, sym, ap, subst, ◌∙◌, arith, if◌then◌else◌}
+use Rattle.std.proofs.Common.{◌≡◌, ℕ, zero, suc, ◌+◌, ◌-◌, ◌*◌, ◌/◌, ◌%◌, ◌<◌, ◌≤◌, ◌^◌, Bool, true, false, List, [], ◌∷◌, ◌++◌, map, filter, length, codes, Some, nat_lt, length-append, refl, sym, ap, subst, ◌∙◌, arith, if◌then◌else◌}
 use Rattle.std.specs.List.{All}
 use Rattle.std.specs.Fmt.{decimal}
 use Rattle.std.proofs.lemmas.Fmt.{length-decimal-le, decimal_digit}
-use Rattle.std.proofs.lemmas.List.{length-map}
 use Rattle.std.proofs.lemmas.List.Elements.{All-head, All-tail, All-nil, All-cons, All-append, All-map, All-weaker, All-take, All-filter}
-use Rattle.std.proofs.lemmas.List.Filters.{length-filter_both}
 use Rattle.vlsi_base.specs.declared.name.Name.{Name}
 use Rattle.vlsi_base.specs.Names.{scalar}
 use Rattle.vlsi_base.specs.Range.{rising}
 use Rattle.bool_expr.specs.declared.expr.Gate.{Gate}
 use Rattle.bool_expr.specs.declared.expr.Gate.TheVariants as gate
 use Rattle.bool_expr.specs.Expression.{Expression, constant, variable, pair}
-use Rattle.machine_meaning.specs.Machine.{Machine, Equation, Register, inputs, outputs, register_names}
-use Rattle.machine_core.specs.Order.{equation_names}
+use Rattle.machine_meaning.specs.Machine.{Equation, Register}
 use Rattle.vhdl_token.specs.Keyword.{keyword_text}
 use Rattle.vhdl_token.specs.declared.keyword.Keyword.TheVariants as word
 use Rattle.vhdl_token.specs.declared.token.Sign.TheVariants as sign
@@ -22,14 +19,13 @@ use Rattle.vhdl_token.specs.declared.token.Token.TheVariants as token
 use Rattle.spell_theory.specs.Layout.{Written, gap, turn, says, spelling, text_of}
 use Rattle.vhdl_again.specs.Outline.{a_word, a_sign, entity_layout}
 use Rattle.vst_write.specs.Groups.{outline}
-use Rattle.vst_write.specs.Structure.{name_layout, signal_layout, signals_layout, begin_layout}
+use Rattle.vst_write.specs.Structure.{name_layout, signal_layout, signals_layout}
 use Rattle.vst_write.proofs.Texts.{text_append}
 use Rattle.free_names.specs.Free.{is_free, numbered, free_numbers, free_texts}
 use Rattle.vbe_write.specs.Expressions.{gate_word, name_of}
-use Rattle.vbe_write.specs.Written.{is_output, inner_count, taken_texts, signal_texts, written_names, written_vars, with_supply_ports, head_layout, registers_layout, equation_layout, equations_layout, guard_layout, block_head_layout, block_end, loading_layout, register_layout, blocks_layout, storage_layout, last_layout, layout}
+use Rattle.vbe_write.specs.Written.{with_supply_ports, registers_layout, equation_layout, equations_layout, guard_layout, block_head_layout, block_end, loading_layout, register_layout, storage_layout}
 use Rattle.gen_circuit.specs.Generated.{clock, bit_of, four_bits, ports, of_gate, kind, choices, operand, gate_by, gates, output, register, circuit_by}
 use Rattle.gen_circuit.proofs.Named.{each_all}
-use Rattle.gen_circuit.proofs.Checking.{length_gates}
 
 -- ---- operands are variables
 

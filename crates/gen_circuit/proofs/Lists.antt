@@ -1,5 +1,5 @@
 -- Members of lists, lists in which nothing stands twice, and lists that grow at their end.
-use Rattle.std.proofs.Common.{◌≡◌, ℕ, zero, suc, ◌+◌, List, [], ◌∷◌, ◌++◌, map, ◌⊎◌, inl, inr, refl, sym, ap, ◌∙◌, subst, arith, add-one, zero-add}
+use Rattle.std.proofs.Common.{◌≡◌, ℕ, zero, suc, ◌+◌, List, [], ◌∷◌, ◌++◌, map, ◌⊎◌, inl, inr, refl, ap, ◌∙◌, arith, add-one, zero-add}
 use Rattle.vlsi_base.specs.Member.{In, here, there, AllDifferent}
 use Rattle.vlsi_base.specs.Range.{rising}
 

@@ -1,37 +1,28 @@
 -- The text of every circuit is within the limits of texts.
-use Rattle.std.proofs.Common.{◌≡◌, ℕ, zero, suc, ◌+◌, ◌-◌, ◌*◌, ◌/◌, ◌%◌, ◌<◌, ◌≤◌, ◌^◌, Bool, true, false, not, List, [], ◌∷◌, ◌++◌, map, filter, length, codes, Option, None, Some, nat_lt, length-append, get_or, refl, sym, ap, subst, ◌∙◌, arith, if◌then◌else◌}
+use Rattle.std.proofs.Common.{◌≡◌, ℕ, suc, ◌+◌, ◌-◌, ◌≤◌, not, List, ◌++◌, map, length, codes, Option, None, Some, length-append, refl, arith}
 use Rattle.std.specs.List.{All}
-use Rattle.std.specs.Fmt.{decimal}
-use Rattle.std.proofs.lemmas.Fmt.{length-decimal-le}
 use Rattle.std.proofs.lemmas.List.{length-map}
-use Rattle.std.proofs.lemmas.List.Elements.{All-head, All-tail, All-nil, All-cons, All-append, All-map, All-weaker, All-take, All-filter}
+use Rattle.std.proofs.lemmas.List.Elements.{All-append, All-map, All-weaker}
 use Rattle.std.proofs.lemmas.List.Filters.{length-filter_both}
 use Rattle.vlsi_base.specs.declared.name.Name.{Name}
 use Rattle.vlsi_base.specs.Names.{scalar}
 use Rattle.vlsi_base.specs.Range.{rising}
 use Rattle.bool_expr.specs.declared.expr.Gate.{Gate}
-use Rattle.bool_expr.specs.declared.expr.Gate.TheVariants as gate
-use Rattle.bool_expr.specs.Expression.{Expression, constant, variable, pair}
-use Rattle.machine_meaning.specs.Machine.{Machine, Equation, Register, inputs, outputs, register_names}
+use Rattle.bool_expr.specs.Expression.{variable, pair}
+use Rattle.machine_meaning.specs.Machine.{Equation, outputs}
 use Rattle.machine_core.specs.Order.{equation_names}
-use Rattle.vhdl_token.specs.Keyword.{keyword_text}
-use Rattle.vhdl_token.specs.declared.keyword.Keyword.TheVariants as word
-use Rattle.vhdl_token.specs.declared.token.Sign.TheVariants as sign
 use Rattle.grammar_theory.specs.declared.limits.TheConstants.{DEPTH, CHAIN}
-use Rattle.spell_theory.specs.Layout.{Written, gap, turn, text_of}
-use Rattle.vhdl_again.specs.Outline.{a_word, a_sign, entity_layout}
+use Rattle.vhdl_again.specs.Outline.{entity_layout}
 use Rattle.vst_write.specs.Groups.{outline}
-use Rattle.vst_write.specs.Structure.{name_layout, signal_layout, signals_layout, begin_layout}
-use Rattle.vst_write.proofs.Texts.{text_append}
-use Rattle.free_names.specs.Free.{is_free, numbered, free_numbers, free_texts}
+use Rattle.vst_write.specs.Structure.{signals_layout, begin_layout}
 use Rattle.free_names.proofs.Enough.{are_free}
 use Rattle.vst_again.specs.Says.{IsShort, IsSmall, IsSmallPort}
-use Rattle.vbe_write.specs.Expressions.{gate_word, name_of}
-use Rattle.vbe_write.specs.Written.{is_output, inner_count, taken_texts, signal_texts, written_names, written_vars, with_supply_ports, head_layout, registers_layout, equation_layout, equations_layout, block_head_layout, block_end, loading_layout, register_layout, blocks_layout, storage_layout, last_layout, layout}
+use Rattle.vbe_write.specs.Expressions.{name_of}
+use Rattle.vbe_write.specs.Written.{is_output, inner_count, taken_texts, signal_texts, written_names, written_vars, with_supply_ports, head_layout, registers_layout, equations_layout, storage_layout, last_layout, layout}
 use Rattle.vbe_again.specs.Nesting.{bit_within, shape_of, operand_within, IsWithin, IsValueWithin}
 use Rattle.vbe_again.specs.Said.{text, operators, IsFewValues, IsWithinLimits}
 use Rattle.vbe_again.proofs.Known.{all_in, any_in, renamed_all}
-use Rattle.gen_circuit.specs.Generated.{clock, bit_of, four_bits, ports, of_gate, kind, choices, operand, gate_by, gates, output, register, circuit_by}
+use Rattle.gen_circuit.specs.Generated.{clock, four_bits, ports, kind, gates, output, register, circuit_by}
 use Rattle.gen_circuit.proofs.Named.{each_all}
 use Rattle.gen_circuit.proofs.Checking.{length_gates}
 use Rattle.gen_circuit.proofs.Lengths.{by_equations, by_registers, size, size_both, IsBrief, scalar_brief, four_brief, texts_brief, signals_size, IsShortValue, name_short, gate_short, equations_size, blocks_size, entity_size, stored_size}
@@ -129,7 +120,7 @@ text_short ws n few =
     let last : size last_layout ≡ 15 = refl in
     let signals = signals_size (signal_texts m) (signals_brief ws n few) in
     let equations = equations_size (written_vars m) (written_names m) m.equations (names_brief ws n few)
-        (by_equations (IsShortValue (written_vars m)) (λ w a b. gate_short (written_vars m) vars (kind w) a b) (name_short (written_vars m) vars) ws n) in
+    (by_equations (IsShortValue (written_vars m)) (λ w a b. gate_short (written_vars m) vars (kind w) a b) (name_short (written_vars m) vars) ws n) in
     let blocks = blocks_size (written_vars m) vars n in
     let inner = inner_few ws n in
     let each = signals_each ws n few in

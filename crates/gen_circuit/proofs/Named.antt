@@ -6,12 +6,12 @@ use Rattle.vlsi_base.specs.declared.name.Name.{Name}
 use Rattle.vlsi_base.specs.declared.name.Port.{Port}
 use Rattle.vlsi_base.specs.Member.{In, here, there}
 use Rattle.vlsi_base.specs.Range.{rising}
-use Rattle.machine_meaning.specs.Machine.{Register, register_names}
+use Rattle.machine_meaning.specs.Machine.{Register}
 use Rattle.vhdl_token.specs.Keyword.{keyword_of}
 use Rattle.port_words.specs.Words.{IsIdentifier, GoesOn}
 use Rattle.vbe_write.specs.Written.{as_ports}
 use Rattle.vbe_write.specs.Writable.{AreDeclared, CanBeVbe}
-use Rattle.gen_circuit.specs.Generated.{clock, four_bits, ports, register, circuit_by}
+use Rattle.gen_circuit.specs.Generated.{four_bits, ports, register, circuit_by}
 
 -- what holds of each member, one by one
 abbrev pub Each : {A : Type 0} → (A → Type 0) → List A → Type 0
@@ -122,6 +122,6 @@ can_be_vbe ws size = record {
   apart = λ p r i j e. ports_no_r p i (ap letter e ∙ stored_r size r j);
   clock = λ name e. sym (ap bit_of_clock e);
 } where
-    bit_of_clock : Option Name → Option ℕ
-    bit_of_clock None = None
-    bit_of_clock (Some n) = n.bit
+  bit_of_clock : Option Name → Option ℕ
+  bit_of_clock None = None
+  bit_of_clock (Some n) = n.bit

@@ -3,14 +3,14 @@ use Rattle.std.proofs.Common.{◌≡◌, ℕ, ◌+◌, ◌*◌, ◌<◌, ◌≤�
 use Rattle.std.specs.List.{All}
 use Rattle.std.specs.List.Sorted.{IsPermutation}
 use Rattle.std.proofs.lemmas.List.{length-map, map-append}
-use Rattle.std.proofs.lemmas.List.Elements.{All-head, All-tail, All-nil, All-cons, All-map}
+use Rattle.std.proofs.lemmas.List.Elements.{All-head, All-tail, All-nil, All-cons}
 use Rattle.std.proofs.lemmas.List.Sorted.{All-permutation, length_permutation, IsPermutation-sym}
 use Rattle.rand_core.specs.Pcg32Seed.{pcg32_seed}
 use Rattle.rand_pcg.specs.Pcg.{pcg32, pcg32_of_seed}
 use Rattle.vlsi_base.specs.declared.name.Name.{Name}
 use Rattle.vlsi_base.specs.declared.name.Port.{Port}
 use Rattle.vlsi_base.specs.declared.entity.PortGroup.{PortGroup}
-use Rattle.bool_expr.specs.Expression.{Expression, variable, pair, size_of}
+use Rattle.bool_expr.specs.Expression.{Expression, size_of}
 use Rattle.machine_meaning.specs.Machine.{Machine, Equation, Register, is_input, names_of, register_names}
 use Rattle.machine_meaning.specs.Size.{machine_size}
 use Rattle.machine_core.specs.Order.{held_names}
@@ -29,7 +29,6 @@ use Rattle.spell_theory.specs.Layout.{line_behind}
 use Rattle.vhdl_again.specs.Outline.{OnePort, placed_port, placed_ports}
 use Rattle.vbe_text.specs.Source.{SourceTree, StatementTree, statement_view, source_view}
 use Rattle.vbe_text.proofs.Laws as text_laws
-use Rattle.vbe_io.specs.Text.{IsVbe}
 use Rattle.vst_write.specs.Groups.{Group, grouped, declared, outline_of}
 use Rattle.vbe_write.specs.Written.{with_supply_ports, signal_texts, written_names, written_vars}
 use Rattle.vbe_again.specs.Placed.{placed_signals, placed_groups, placed_storage, source_of}
@@ -47,7 +46,7 @@ use Rattle.vbe_round.proofs.Declared.{port_symbol, stored_symbol, signal_symbol,
 use Rattle.vbe_round.proofs.Named.{IsGiven, port_groups, stored_groups, symbols_on, clock_of_text}
 use Rattle.vbe_round.proofs.Passing.{Stores, machine_stated, all_stated}
 use Rattle.vbe_round.proofs.Reading.{read_again}
-use Rattle.gen_circuit.specs.Generated.{kind, register, circuit_by, words_of, generated}
+use Rattle.gen_circuit.specs.Generated.{register, circuit_by, words_of, generated}
 use Rattle.gen_circuit.specs.Written.{CircuitsCanBeWritten, IsReadAgain, CircuitsAreReadAgain}
 use Rattle.gen_circuit.proofs.Checking.{is_checked, words_each}
 use Rattle.gen_circuit.proofs.Weight.{kind_weight}

@@ -1,11 +1,11 @@
 -- How large a circuit is.
-use Rattle.std.proofs.Common.{◌≡◌, ℕ, zero, suc, ◌+◌, ◌-◌, ◌*◌, ◌/◌, ◌%◌, ◌^◌, ◌==◌, ◌≤◌, Bool, true, false, List, [], ◌∷◌, ◌++◌, map, length, fold, nat_lt, refl, arith, if◌then◌else◌}
+use Rattle.std.proofs.Common.{◌≡◌, ℕ, ◌+◌, ◌-◌, ◌*◌, ◌/◌, ◌%◌, ◌^◌, ◌==◌, ◌≤◌, Bool, true, false, List, [], ◌∷◌, ◌++◌, map, length, fold, nat_lt, refl, arith, if◌then◌else◌}
 use Rattle.rand_core.specs.Pcg32Seed.{pcg32_seed}
 use Rattle.rand_pcg.specs.Pcg.{pcg32, pcg32_of_seed}
 use Rattle.vlsi_base.specs.Range.{rising}
 use Rattle.bool_expr.specs.declared.expr.Gate.TheVariants as gate
-use Rattle.bool_expr.specs.Expression.{Expression, variable, pair, gate_size, size_of}
-use Rattle.machine_meaning.specs.Machine.{Machine, Equation}
+use Rattle.bool_expr.specs.Expression.{variable, gate_size, size_of}
+use Rattle.machine_meaning.specs.Machine.{Equation}
 use Rattle.machine_meaning.specs.Size.{machine_size}
 use Rattle.gen_circuit.specs.Generated.{of_gate, kind, choices, operand, gate_by, gates, output, circuit_by, words_of, generated}
 use Rattle.gen_circuit.specs.Laws.{IsSmallFor, CircuitsAreSmall}
@@ -53,8 +53,8 @@ small ws size each = record {
   vars = let h = length_vars ws size in omega (arith, h, each);
   weight = let h = gates_weight 0 0 ws (map (output size) (rising 0 4)) (outputs_weight size) in weight h;
 } where
-    weight : weigh 0 (gates 0 ws ++ map (output size) (rising 0 4)) ≤ 0 + 4 * length ws → machine_size (circuit_by ws size) ≤ 4 * size + 28
-    weight h = omega (arith, h, each)
+  weight : weigh 0 (gates 0 ws ++ map (output size) (rising 0 4)) ≤ 0 + 4 * length ws → machine_size (circuit_by ws size) ≤ 4 * size + 28
+  weight h = omega (arith, h, each)
 
 pub circuits_are_small : CircuitsAreSmall
 unfolding generated

@@ -1,5 +1,5 @@
 -- What is written of a circuit, and what that is read as.
-use Rattle.std.specs.Prelude.{◌≡◌, ℕ, ◌≤◌}
+use Rattle.std.specs.Prelude.{◌≡◌, ◌≤◌}
 use Rattle.vlsi_base.specs.declared.fault.ReadError.{ReadError}
 use Rattle.vlsi_base.specs.declared.fault.ReadError.TheVariants as errors
 use Rattle.machine_meaning.specs.Machine.{Machine}

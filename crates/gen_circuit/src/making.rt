@@ -175,12 +175,7 @@ fn names(alloc: Global, equations: &[Equation]) -> Result<Vec<Name>, AllocError>
 }
 
 // Puts the bits of a vector of ports behind others.
-fn push_ports(
-    alloc: Global,
-    text: &[u8],
-    dir: Dir,
-    ports: &mut Vec<Port>,
-) -> Result<(), AllocError>
+fn push_ports(alloc: Global, text: &[u8], dir: Dir, ports: &mut Vec<Port>) -> Result<(), AllocError>
     ensures { OnOk result (ports.new.items ≡ ports.old.items ++ map (port_of dir) (four_bits text.now)) }
 {
     for bit in 0..WIDTH {
