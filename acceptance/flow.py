@@ -41,11 +41,12 @@ from words import TOOLS_LINE, command, held, of_folder, trouble
 HERE = pathlib.Path(__file__).resolve().parent
 EXAMPLES = HERE.parent / "examples"
 ROW = ROWS / "flow-layouts/one-inverter.txt"
-USAGE = "usage: alliance flow SOURCE -l DIR -o NAME [-e STYLE] --tracks [--seed N] [--nodes N]\n"
+USAGE = "usage: alliance flow SOURCE -l DIR -o NAME [-e STYLE] --tracks [--rows N] [--metals N] [--seed N] [--moves N] [--nodes N] [--fanout N]\n"
 FIVE = ["inv_x1", "na2_x1", "zero_x0", "one_x0", "sff1_x4"]
 MORE = ["inv_x8", "na3_x1", "sff1_x8", "xr2_x1", "mx2_x2", "buf_x2"]
 WORDS = ["flow", "s.vbe", "-l", "lib", "-o", "r", "--tracks"]
-OPTIONS = {"-l": "", "-o": "", "--nodes": "", "-e": "", "--seed": ""}
+UNUSED = {"--rows": (1, 256), "--metals": (4, 6), "--moves": (0, 1000000), "--fanout": (4, 1000000)}
+OPTIONS = {"-l": "", "-o": "", "--nodes": "", "-e": "", "--seed": ""} | dict.fromkeys(UNUSED, "")
 MACHINES, STATE_MACHINES, CHUNK = 200, 30, 20
 
 
@@ -68,6 +69,10 @@ def parsed(words):
     found = command([word for word in words if word != "--tracks"], (".vbe", ".fsm"), OPTIONS)
     if not found or "-l" not in found[1] or "-o" not in found[1] or style_of(found[1]) is None:
         return None
+    for option, (least, most) in UNUSED.items():
+        number = found[1].get(option, str(least))
+        if not re.fullmatch("[0-9]{1,10}", number) or not least <= int(number) <= most:
+            return None
     nodes = found[1].get("--nodes", str(NODES))
     if not re.fullmatch("[0-9]{1,10}", nodes) or not 1 <= int(nodes) <= MOST_NODES:
         return None

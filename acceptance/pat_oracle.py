@@ -65,6 +65,17 @@ class Column:
             return False
         return self.bounds is None or (self.low() <= other.high() and other.low() <= self.high())
 
+    def first_shared(self, other):
+        """The first bit, in this column's order, of those that both list."""
+        if self.bounds is None:
+            return self.name, -1
+        left, _, right = self.bounds
+        return self.name, max(left, other.low()) if left <= right else min(left, other.high())
+
+    def place(self, bit):
+        """How many bits of the column stand left of this one."""
+        return 0 if self.bounds is None else abs(self.bounds[0] - bit[1])
+
     def text(self):
         bounds = ""
         if self.bounds:
@@ -176,8 +187,11 @@ def is_supply(column):
 def check_columns(columns, ports):
     known = {(bit[0], way) for bit, way in ports.items()}
     for k, column in enumerate(columns):
-        if not (is_supply(column) or (column.name, column.way) in known) or any(column.shares(c) for c in columns[:k]):
+        if not (is_supply(column) or (column.name, column.way) in known):
             raise fault(column.line, "unknown", column.name)
+        shared = [column.first_shared(c) for c in columns[:k] if column.shares(c)]
+        if shared:
+            raise fault(column.line, "unknown", spelled(min(shared, key=column.place)))
 
 
 def column_fits(column, ports):

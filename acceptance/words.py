@@ -2,22 +2,40 @@
 
 import os
 
-TOOLS_LINE = "usage: alliance flow|syf|boom|boog|asimut|cougar|lvx|druc|proof|flatbeh ARGUMENTS\n"
+TOOLS_LINE = "usage: alliance flow|gen|syf|boom|boog|asimut|cougar|lvx|druc|proof|flatbeh ARGUMENTS\n"
+
+
+def option_of(word):
+    """The option that a word spells, and the value that stands with it, or None."""
+    if word.startswith("--"):
+        name, sign, value = word.partition("=")
+        return name, value if sign else None
+    value = word[2:]
+    return word[:2], value[1:] if value.startswith("=") else value or None
+
+
+def is_option(word):
+    return word.startswith("-") and word != "-"
 
 
 def command(words, endings, options):
-    """SOURCE and the values of the options, each a word with the ending of its value; None where the words aren't so."""
-    source, given, rest = None, {}, list(words[1:])
+    """SOURCE and the values of the options, each with the ending of its value; None where the words aren't so."""
+    source, given, rest, ended = None, {}, list(words[1:]), False
     while rest:
         word = rest.pop(0)
-        if not word.startswith("-"):
+        if ended or not is_option(word):
             if source is not None or not word.endswith(endings):
                 return None
             source = word
-        elif word not in options or word in given or not rest or rest[0].startswith("-") or not rest[0].endswith(options[word]):
-            return None
+        elif word == "--":
+            ended = True
         else:
-            given[word] = rest.pop(0)
+            option, value = option_of(word)
+            if value is None and rest and not is_option(rest[0]):
+                value = rest.pop(0)
+            if option not in options or option in given or value is None or not value.endswith(options[option]):
+                return None
+            given[option] = value
     return None if source is None else (source, given)
 
 

@@ -7,3 +7,9 @@ pub mod Once
 pub mod PlanLemmas
 pub mod SimLemmas
 pub mod Leads
+pub mod OperatorLemmas
+pub mod ProgramLemmas
+pub mod LayoutLemmas
+pub mod LoadsLemmas
+pub mod CycleLemmas
+pub mod FlatLemmas

@@ -2,6 +2,7 @@
 use Rattle.std.proofs.Common.{◌≡◌, ℕ, suc, ◌+◌, ◌<◌, Bool, true, false, List, [], ◌∷◌, ◌++◌, map, length, take, drop, replicate, Option, None, Some, refl, sym, ◌∙◌, ap, subst, add-one, length-append, arith, if◌then◌else◌}
 use Rattle.std.specs.List.{slice_index_or}
 use Rattle.std.proofs.lemmas.List.{length-replicate, length-map}
+use Rattle.std.proofs.Math.Seq.{take-append_seam}
 use Rattle.vlsi_base.specs.declared.name.Name.{Name}
 use Rattle.vlsi_base.specs.declared.name.Dir.{Dir}
 use Rattle.vlsi_base.specs.declared.name.Dir.TheVariants.{In, Out}
@@ -14,7 +15,7 @@ use Rattle.pat_meaning.specs.declared.patterns.Pattern.{Pattern}
 use Rattle.pat_meaning.specs.Columns.{column_names, listed, given_bits, Fits, FitsColumns}
 use Rattle.pat_meaning.specs.Circuit.{of_machine}
 use Rattle.pat_meaning.specs.Simulation.{vector, clock_bit, Compared, compared_bits, compared_value, compared_values, is_different, first_difference, filled_value, filled_values}
-use Rattle.asimut_sim.specs.Places.{one_on, bit_at}
+use Rattle.asimut_sim.specs.Places.{one_on, place_of, bit_at}
 use Rattle.asimut_sim.specs.Listed.{wanted_value, wanted_bits, is_other, other_place, shown_value, shown}
 use Rattle.pat_meaning.specs.Simulation.{rises, Takes}
 use Rattle.asimut_sim.specs.Plan.{clock_place, IsPlan}
@@ -208,6 +209,16 @@ pub seen-is : (m : Machine) (columns : List Column) (names : List Name) (from_bi
     → seen ≡ values_at m.vars w (listed columns)
 seen-is m columns names from_bits from_clock into into1 w w1 seen plan e f h =
     h ∙ ap (λ x. map (bit_at x) into1) f ∙ ap (λ x. map (bit_at w) x) (e ∙ plan.seen) ∙ bits-values m.vars w (listed columns)
+
+-- each input has a bit
+pub inputs_many : (m : Machine) (columns : List Column) (names : List Name) (from_bits from1 : List (Option ℕ)) (from_clock : Option ℕ) (into : List (Option ℕ)) (bits1 inputs1 inputs2 : List Bool)
+    → IsPlan m columns names from_bits from_clock into → from1 ≡ from_bits → inputs1 ≡ map (bit_at bits1) from1 → inputs2 ≡ inputs1 → length inputs2 ≡ length (inputs m)
+inputs_many m columns names from_bits from1 from_clock into bits1 inputs1 inputs2 plan f i1 i2 =
+    ap length (i2 ∙ i1) ∙ length-map from1 (bit_at bits1) ∙ ap length (f ∙ plan.inputs) ∙ length-map (inputs m) (place_of (listed columns))
+
+-- a list that was written whole
+pub written : (new old : List Bool) (n : ℕ) → length new ≡ n → take n (new ++ drop (length new) old) ≡ new
+written new old n e = ap (λ (k : ℕ). take k (new ++ drop (length new) old)) (sym e) ∙ take-append_seam new (drop (length new) old)
 
 pub sees-from : (m : Machine) (columns : List Column) (p : Pattern) (names : List Name) (from_bits from1 : List (Option ℕ)) (from_clock : Option ℕ) (into : List (Option ℕ))
     (values : List Value) (bits bits1 bits2 inputs1 inputs2 s t w : List Bool) (before now : Bool)

@@ -1,123 +1,98 @@
-// One cycle of a machine: its names settle, and its registers load.
-ghost use Rattle.std.specs.Prelude.{◌≡◌, ◌++◌, ◌+◌, length, drop, map, IfOk, OnOk, All};
-ghost use Rattle.machine_meaning.specs.Machine.{inputs as input_names};
-ghost use Rattle.machine_meaning.specs.Cycles.{Settles, next};
-ghost use Rattle.machine_core.specs.Built.{built};
-ghost use Rattle.machine_core.specs.Order.{EachReadsBelow};
-ghost use Rattle.machine_core.specs.View.{equation_view, register_view};
-ghost use Rattle.machine_meaning.specs.Machine.{register_names};
+// One cycle of a flat machine: its names settle, and its registers load.
+ghost use Rattle.std.specs.Prelude.{◌≡◌, ℕ, ◌+◌, ◌<◌, ◌≤◌, length, All, if◌then◌else◌};
+ghost use Rattle.bool_expr.specs.Expression.{bit};
+ghost use Rattle.machine_meaning.specs.Machine.{inputs as input_names, register_names};
 ghost use Rattle.machine_meaning.specs.Named.{values_at};
+ghost use Rattle.machine_meaning.specs.Cycles.{Settles, next};
 ghost use Rattle.pat_meaning.specs.Circuit.{of_machine};
 ghost use Rattle.pat_meaning.specs.Simulation.{Takes};
-ghost use Rattle.asimut_sim.specs.Load.{loaded, loaded_bit, LoadsOver};
+ghost use Rattle.asimut_sim.specs.Program.{bits_of};
+ghost use Rattle.asimut_sim.specs.Flat.{IsLoadBelow, held_after, IsFlat, IsArray};
 
-use bool_expr::{Bits, value};
-use machine_core::{Machine, built_settles};
-use machine_meaning::{Equation, Register};
-use std::alloc::{AllocError, Global};
+use crate::flat::FlatMachine;
+use crate::layout::Load;
+use machine_core::built_settles;
 
-// Each equation in turn adds its value.
-fn add_values(w: &mut Bits, equations: &[Equation]) -> Result<(), AllocError>
-    requires { EachReadsBelow (length w.old) (map equation_view equations.now) }
-    ensures { OnOk result (w.new ≡ built w.old (map equation_view equations.now)) }
+// Writes bits at the places from this one on.
+fn write(bits: &mut [bool], from: usize, values: &[bool])
+    requires { from + length values.now ≤ length bits.old }
+    ensures before { (k : ℕ) → k < from → bit bits.new k ≡ bit bits.old k }
+    ensures written { (k : ℕ) → k < length values.now → bit bits.new (from + k) ≡ bit values.now k }
 {
-    for equation in equations {
-        let bit = value(&equation.expr, w);
-        w.push(bit)?;
+    for (k, value) in values.iter().enumerate() {
+        bits[from + k] = *value;
     }
-    Ok(())
 }
 
-fn beginning(alloc: Global, inputs: &[bool], contents: &[bool]) -> Result<Bits, AllocError>
-    ensures { IfOk result (λ w. w ≡ inputs.now ++ contents.now) }
-{
-    let mut bits = Vec::new(alloc);
-    bits.extend_from_slice(inputs)?;
-    bits.extend_from_slice(contents)?;
-    Ok(Bits::new(bits))
-}
-
-/// The valuation of the machine's names under an input vector, from the contents of its registers. Each equation is
-/// evaluated once. It takes memory for one bit a name.
-pub fn settle(
-    alloc: Global,
-    machine: &Machine,
-    inputs: &[bool],
-    contents: &[bool],
-) -> Result<Bits, AllocError>
-    requires inputs { length inputs.now ≡ length (input_names machine.now) }
-    requires contents { length contents.now ≡ length machine.now.registers }
-    ensures { IfOk result (λ w. Settles machine.now contents.now inputs.now w) }
+// All names settle under an input vector, from the contents of the registers.
+fn settle(flat: &FlatMachine, inputs: &[bool], contents: &[bool], bits: &mut [bool])
+    requires flat { IsFlat flat.now }
+    requires inputs { length inputs.now ≡ length (input_names flat.now.machine.now) }
+    requires contents { length contents.now ≡ length flat.now.machine.now.registers }
+    requires bits { IsArray flat.now bits.old }
+    ensures settles { Settles flat.now.machine.now contents.now inputs.now (bits_of bits.new flat.now.vars.items) }
+    ensures bits { IsArray flat.now bits.new }
 {
     built_settles();
-    let mut w = beginning(alloc, inputs, contents)?;
-    add_values(&mut w, machine.equations().as_slice())?;
-    Ok(w)
+    write(bits, 2, inputs);
+    write(bits, 2 + inputs.len(), contents);
+    flat.settling.run(bits);
 }
 
-// A register takes its next bit where its enable is 1, and keeps the one that it held elsewhere.
-fn load_one(w: &Bits, register: &Register, held: bool) -> bool
-    requires { LoadsOver (length w.now) register.now }
-    ensures { result ≡ loaded_bit w.now (register_view register.now) held }
+// What a register holds after the clock's rise: its next bit where its enable is 1, and what it held elsewhere.
+fn loaded(load: &Load, bits: &[bool], held: bool) -> bool
+    requires { IsLoadBelow (length bits.now) load.now }
+    ensures { result ≡ (if bit bits.now load.now.enable then bit bits.now load.now.next else held) }
 {
-    if value(&register.enable, w) {
-        value(&register.next, w)
+    if bits[load.enable as usize] {
+        bits[load.next as usize]
     } else {
         held
     }
 }
 
-fn load_all(
-    alloc: Global,
-    w: &Bits,
-    registers: &[Register],
-    contents: &[bool],
-) -> Result<Vec<bool>, AllocError>
-    requires over { All (LoadsOver (length w.now)) registers.now }
-    requires lengths { length contents.now ≡ length registers.now }
-    ensures { IfOk result (λ after. after.items ≡ loaded w.now (map register_view registers.now) contents.now) }
+fn load_all(loads: &[Load], bits: &[bool], contents: &mut [bool])
+    requires below { All (IsLoadBelow (length bits.now)) loads.now }
+    requires lengths { length contents.old ≡ length loads.now }
+    ensures { contents.new ≡ held_after bits.now loads.now contents.old }
 {
-    let mut after = Vec::new(alloc);
-    for (k, register) in registers.iter().enumerate() {
-        let bit = load_one(w, register, contents[k]);
-        after.push(bit)?;
+    for (k, load) in loads.iter().enumerate() {
+        contents[k] = loaded(load, bits, contents[k]);
     }
-    Ok(after)
 }
 
-/// What the registers hold after the clock's rise, from a valuation that has settled on their contents. It takes memory
-/// for one bit a register.
-pub fn load(
-    alloc: Global,
-    machine: &Machine,
-    w: &Bits,
-    contents: &[bool],
-) -> Result<Vec<bool>, AllocError>
-    requires each { length w.now ≡ length machine.now.vars }
-    requires held { values_at machine.now.vars w.now (register_names machine.now) ≡ contents.now }
-    ensures { IfOk result (λ after. after.items ≡ next machine.now w.now) }
+// The registers load, from bits that have settled on their contents.
+fn load(flat: &FlatMachine, bits: &mut [bool], contents: &mut [bool])
+    requires flat { IsFlat flat.now }
+    requires bits { IsArray flat.now bits.old }
+    requires held { values_at flat.now.machine.now.vars (bits_of bits.old flat.now.vars.items) (register_names flat.now.machine.now) ≡ contents.old }
+    ensures loads { contents.new ≡ next flat.now.machine.now (bits_of bits.old flat.now.vars.items) }
+    ensures bits { IsArray flat.now bits.new }
 {
-    load_all(alloc, w, machine.registers().as_slice(), contents)
+    flat.loading.run(bits);
+    load_all(&flat.loads, bits, contents);
 }
 
-/// What is observed in a pattern with this input vector: where the clock rises, the registers load and all settles again.
-/// It takes memory for one bit a name.
+/// What is observed in a pattern with this input vector, over the contents of the registers: where the clock rises, the
+/// registers load and all settles again.
 pub(crate) fn observe(
-    alloc: Global,
-    machine: &Machine,
+    flat: &FlatMachine,
     inputs: &[bool],
     is_rising: bool,
-    contents: &mut Vec<bool>,
-) -> Result<Bits, AllocError>
-    requires inputs { length inputs.now ≡ length (input_names machine.now) }
-    requires contents { length contents.old.items ≡ length machine.now.registers }
-    ensures takes { IfOk result (λ w. Takes is_rising (of_machine machine.now) inputs.now contents.old.items w contents.new.items) }
-    ensures each { IfOk result (λ _. length contents.new.items ≡ length machine.now.registers) }
+    contents: &mut [bool],
+    bits: &mut [bool],
+)
+    requires flat { IsFlat flat.now }
+    requires inputs { length inputs.now ≡ length (input_names flat.now.machine.now) }
+    requires contents { length contents.old ≡ length flat.now.machine.now.registers }
+    requires bits { IsArray flat.now bits.old }
+    ensures takes { Takes is_rising (of_machine flat.now.machine.now) inputs.now contents.old (bits_of bits.new flat.now.vars.items) contents.new }
+    ensures bits { IsArray flat.now bits.new }
 {
-    let first = settle(alloc, machine, inputs, contents)?;
+    settle(flat, inputs, contents, bits);
     if !is_rising {
-        return Ok(first);
+        return;
     }
-    *contents = load(alloc, machine, &first, contents)?;
-    settle(alloc, machine, inputs, contents)
+    load(flat, bits, contents);
+    settle(flat, inputs, contents, bits);
 }

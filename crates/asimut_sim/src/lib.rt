@@ -4,12 +4,15 @@
 mod columns;
 mod copies;
 mod cycle;
+mod flat;
+mod layout;
+mod operator;
 mod places;
 mod plan;
+mod program;
 mod refusal;
 mod simulation;
 mod values;
 
-pub use cycle::{load, settle};
 pub use refusal::SimError;
 pub use simulation::{observes_once, simulate};

@@ -1,7 +1,8 @@
 // The places of names in lists of names, and bits by place.
-ghost use Rattle.std.specs.Prelude.{◌≡◌, ◌++◌, map, IfOk, OnOk};
+ghost use Rattle.std.specs.Prelude.{◌≡◌, ◌++◌, map, length, IfOk, OnOk};
 ghost use Rattle.machine_core.specs.Order.{AllDifferent};
 ghost use Rattle.std.specs.FinMap.{get};
+ghost use Rattle.asimut_sim.specs.Program.{AreBelow, bits_of};
 ghost use Rattle.asimut_sim.specs.Places.{IsIndexOf, bit_at as bit_of};
 
 use std::alloc::{AllocError, Global};
@@ -70,4 +71,32 @@ pub(crate) fn bits_at(
         found.push(bit_at(bits, *place))?;
     }
     Ok(found)
+}
+
+/// The bits of an array that stand at places of a list of its places. Where there is none it reads as 0. It takes memory for
+/// one bit a place.
+pub(crate) fn seen_bits(
+    alloc: Global,
+    bits: &[bool],
+    vars: &[u32],
+    places: &[Option<usize>],
+) -> Result<Vec<bool>, AllocError>
+    requires { AreBelow (length bits.now) vars.now }
+    ensures { IfOk result (λ v. v.items ≡ map (bit_of (bits_of bits.now vars.now)) places.now) }
+{
+    let mut seen = Vec::new(alloc);
+    for place in places {
+        seen.push(seen_bit(bits, vars, *place))?;
+    }
+    Ok(seen)
+}
+
+fn seen_bit(bits: &[bool], vars: &[u32], place: Option<usize>) -> bool
+    requires { AreBelow (length bits.now) vars.now }
+    ensures { result ≡ bit_of (bits_of bits.now vars.now) place }
+{
+    match place {
+        Some(k) if k < vars.len() => bits[vars[k] as usize],
+        _ => false,
+    }
 }

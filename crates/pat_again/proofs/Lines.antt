@@ -1,10 +1,14 @@
 -- Whether what is written has a fault, and what it means, doesn't go by its lines.
-use Rattle.std.proofs.Common.{◌≡◌, ℕ, Bool, true, false, not, ◌&&◌, ◌||◌, nat_le, bytes_eq, List, [], ◌∷◌, ◌++◌, map, Option, None, Some, refl, sym, ap, ◌∙◌}
-use Rattle.std.specs.List.{list_any}
+use Rattle.std.proofs.Common.{◌≡◌, ℕ, Bool, true, false, ◌||◌, nat_le, List, [], ◌∷◌, ◌++◌, map, Option, None, Some, refl, sym, ap, ◌∙◌, if◌then◌else◌}
+use Rattle.std.specs.List.{list_any, find}
+use Rattle.vlsi_base.specs.declared.name.Name.{Name}
 use Rattle.vlsi_base.specs.declared.name.Port.{Port}
+use Rattle.vlsi_base.specs.declared.fault.InputFault.{InputFault}
 use Rattle.vlsi_base.specs.declared.fault.FaultKind.{FaultKind}
 use Rattle.vlsi_base.specs.declared.fault.FaultKind.TheVariants as kind
 use Rattle.vlsi_base.specs.declared.fault.ReadError.{ReadError}
+use Rattle.machine_meaning.specs.Named.{is_same_name}
+use Rattle.pat_meaning.specs.Columns.{names_of_range}
 use Rattle.pat_meaning.specs.declared.patterns.BitRange.{BitRange}
 use Rattle.pat_meaning.specs.declared.patterns.Column.{Column}
 use Rattle.pat_meaning.specs.declared.patterns.Pattern.{Pattern}
@@ -12,10 +16,10 @@ use Rattle.pat_meaning.specs.declared.patterns.Patterns.{Patterns}
 use Rattle.pat_meaning.specs.declared.patterns.Value.{Value}
 use Rattle.pat_text.specs.declared.parsed.ParsedColumn.{ParsedColumn}
 use Rattle.pat_text.specs.declared.parsed.PatternFile.{PatternFile}
-use Rattle.pat_io.specs.Known.{share_bit, overlap, is_known, is_unknown, if_at_fault, unknown_behind, unknown_columns}
+use Rattle.pat_io.specs.Known.{bits_of, lists, first_again, is_known, unknown_name, fault_of, unknown_behind, unknown_faults}
 use Rattle.pat_io.specs.Digits.{bit_range, column_of, value_for, values_for, pattern_for, patterns_for}
 use Rattle.pat_io.specs.Fitting.{if_not, column_fits, column_line, column_faults, value_fits, value_faults, pattern_faults, width_faults, time_behind, time_faults}
-use Rattle.pat_io.specs.PatternText.{first_column, first_line, unknown_error, line_error, or_else, fault_in}
+use Rattle.pat_io.specs.PatternText.{first_fault, first_line, unknown_error, line_error, or_else, fault_in}
 use Rattle.pat_io.specs.ReadAgain.{written_range, written_column, written_digits, written_values, written_pattern, written}
 use Rattle.pat_again.proofs.Places.{line_behind}
 use Rattle.pat_again.proofs.Columns.{columns_from, lines_behind}
@@ -27,9 +31,9 @@ or_none : (a b : Option ReadError) → or_else a b ≡ None → (a ≡ None) × 
 or_none None b h = (refl, h)
 or_none (Some e) b h = absurd cc
 
-none_unknown : (cs : List ParsedColumn) → unknown_error (first_column cs) ≡ None → cs ≡ []
+none_unknown : (fs : List InputFault) → unknown_error (first_fault fs) ≡ None → fs ≡ []
 none_unknown [] h = refl
-none_unknown (c ∷ cs) h = absurd cc
+none_unknown (f ∷ fs) h = absurd cc
 
 no_line : (k : FaultKind) (lines : List ℕ) → line_error k (first_line lines) ≡ None → lines ≡ []
 no_line k [] h = refl
@@ -46,23 +50,21 @@ held false line rest h = absurd cc
 holds : (b : Bool) (line : ℕ) (rest : List ℕ) → b ≡ true → rest ≡ [] → if_not b line ++ rest ≡ []
 holds b line rest h g = rw (h, g) refl
 
-known : (b : Bool) (c : ParsedColumn) (rest : List ParsedColumn) → if_at_fault b c ++ rest ≡ [] → (b ≡ false) × (rest ≡ [])
-known false c rest h = (refl, h)
-known true c rest h = absurd cc
+known : (c : ParsedColumn) (o : Option Name) (rest : List InputFault) → fault_of c o ++ rest ≡ [] → (o ≡ None) × (rest ≡ [])
+known c None rest h = (refl, h)
+known c (Some n) rest h = absurd cc
 
-stays_known : (b : Bool) (c : ParsedColumn) (rest : List ParsedColumn) → b ≡ false → rest ≡ [] → if_at_fault b c ++ rest ≡ []
-stays_known b c rest h g = rw (h, g) refl
+stays_known : (c : ParsedColumn) (o : Option Name) (rest : List InputFault) → o ≡ None → rest ≡ [] → fault_of c o ++ rest ≡ []
+stays_known c o rest h g = rw (h, g) refl
 
 -- ---- names
 
-same_overlap : (r s : Option BitRange) (l m : ℕ) → overlap (written_range l r) (written_range m s) ≡ overlap (written_range 1 r) (written_range 1 s)
-same_overlap None None l m = refl
-same_overlap None (Some s) l m = refl
-same_overlap (Some r) None l m = refl
-same_overlap (Some r) (Some s) l m = refl
+same_range : (r : Option BitRange) (l : ℕ) → bit_range (written_range l r) ≡ bit_range (written_range 1 r)
+same_range None l = refl
+same_range (Some r) l = refl
 
-same_share : (c d : Column) (l m : ℕ) → share_bit (written_column l c) (written_column m d) ≡ share_bit (written_column 1 c) (written_column 1 d)
-same_share c d l m = ap (λ (b : Bool). bytes_eq c.name d.name && b) (same_overlap c.range d.range l m)
+same_names : (c : Column) (l : ℕ) → bits_of (written_column l c) ≡ bits_of (written_column 1 c)
+same_names c l = ap (names_of_range c.name) (same_range c.range l)
 
 any_append : (p : ParsedColumn → Bool) (xs : List ParsedColumn) (y : ParsedColumn) → list_any p (xs ++ y ∷ []) ≡ (list_any p xs || p y)
 any_append p [] y = or_false (p y) where
@@ -74,24 +76,34 @@ any_append p (x ∷ xs) y = ap (λ (b : Bool). p x || b) (any_append p xs y) ∙
   or_assoc true b c = refl
   or_assoc false b c = refl
 
--- a column shares as many bits with those before it
-abbrev ShareAlike : List ParsedColumn → List ParsedColumn → Type 0
-ShareAlike xs ys = (c : Column) (m : ℕ) → list_any (share_bit (written_column m c)) xs ≡ list_any (share_bit (written_column 1 c)) ys
+-- the two list the same bits
+abbrev ListAlike : List ParsedColumn → List ParsedColumn → Type 0
+ListAlike xs ys = (n : Name) → list_any (lists n) xs ≡ list_any (lists n) ys
 
-one_more : (xs ys : List ParsedColumn) (d : Column) (l : ℕ) → ShareAlike xs ys → ShareAlike (xs ++ written_column l d ∷ []) (ys ++ written_column 1 d ∷ [])
-one_more xs ys d l h c m =
-    any_append (share_bit (written_column m c)) xs (written_column l d)
-    ∙ ap (λ (b : Bool). b || share_bit (written_column m c) (written_column l d)) (h c m)
-    ∙ ap (λ (b : Bool). list_any (share_bit (written_column 1 c)) ys || b) (same_share c d m l)
-    ∙ sym (any_append (share_bit (written_column 1 c)) ys (written_column 1 d))
+one_more : (xs ys : List ParsedColumn) (d : Column) (l : ℕ) → ListAlike xs ys → ListAlike (xs ++ written_column l d ∷ []) (ys ++ written_column 1 d ∷ [])
+one_more xs ys d l h n =
+    any_append (lists n) xs (written_column l d)
+    ∙ ap (λ (b : Bool). b || lists n (written_column l d)) (h n)
+    ∙ ap (λ (names : List Name). list_any (lists n) ys || list_any (is_same_name n) names) (same_names d l)
+    ∙ sym (any_append (lists n) ys (written_column 1 d))
 
-all_known : (ports : List Port) (cs : List Column) (l : ℕ) (xs ys : List ParsedColumn) → ShareAlike xs ys
+found_alike : (p q : Name → Bool) (ns : List Name) → ((n : Name) → p n ≡ q n) → find p ns ≡ find q ns
+found_alike p q [] h = refl
+found_alike p q (n ∷ ns) h = ap (λ (b : Bool). if b then Some n else find p ns) (h n) ∙ ap (λ (o : Option Name). if q n then Some n else o) (found_alike p q ns h)
+
+again_alike : (xs ys : List ParsedColumn) (c : Column) (l : ℕ) → ListAlike xs ys → first_again xs (written_column l c) ≡ first_again ys (written_column 1 c)
+again_alike xs ys c l h =
+    ap (λ (names : List Name). find (λ n. list_any (lists n) xs) names) (same_names c l)
+    ∙ found_alike (λ n. list_any (lists n) xs) (λ n. list_any (lists n) ys) (bits_of (written_column 1 c)) h
+
+all_known : (ports : List Port) (cs : List Column) (l : ℕ) (xs ys : List ParsedColumn) → ListAlike xs ys
     → unknown_behind ports ys (map (written_column 1) cs) ≡ [] → unknown_behind ports xs (columns_from l cs) ≡ []
 all_known ports [] l xs ys h none = refl
 all_known ports (c ∷ cs) l xs ys h none =
-    let parts = known (is_unknown ports ys (written_column 1 c)) (written_column 1 c) (unknown_behind ports (ys ++ written_column 1 c ∷ []) (map (written_column 1) cs)) none in
-    let same : is_unknown ports xs (written_column l c) ≡ is_unknown ports ys (written_column 1 c) = ap (λ (b : Bool). not (is_known ports (written_column 1 c)) || b) (h c l) in
-    stays_known (is_unknown ports xs (written_column l c)) (written_column l c) (unknown_behind ports (xs ++ written_column l c ∷ []) (columns_from (line_behind l) cs)) (same ∙ parts.0)
+    let parts = known (written_column 1 c) (unknown_name ports ys (written_column 1 c)) (unknown_behind ports (ys ++ written_column 1 c ∷ []) (map (written_column 1) cs)) none in
+    let same : unknown_name ports xs (written_column l c) ≡ unknown_name ports ys (written_column 1 c) =
+    ap (λ (o : Option Name). if is_known ports (written_column 1 c) then o else Some (record { text = c.name; bit = None })) (again_alike xs ys c l h) in
+    stays_known (written_column l c) (unknown_name ports xs (written_column l c)) (unknown_behind ports (xs ++ written_column l c ∷ []) (columns_from (line_behind l) cs)) (same ∙ parts.0)
     (all_known ports cs (line_behind l) (xs ++ written_column l c ∷ []) (ys ++ written_column 1 c ∷ []) (one_more xs ys c l h) parts.1)
 
 -- ---- widths
@@ -141,10 +153,6 @@ times_rise cs (q ∷ qs) line before none =
 
 -- ---- what is meant
 
-same_range : (r : Option BitRange) (l : ℕ) → bit_range (written_range l r) ≡ bit_range (written_range 1 r)
-same_range None l = refl
-same_range (Some r) l = refl
-
 same_columns : (cs : List Column) (l : ℕ) → map column_of (columns_from l cs) ≡ map column_of (map (written_column 1) cs)
 same_columns [] l = refl
 same_columns (c ∷ cs) l =
@@ -183,10 +191,10 @@ without_fault ports p none =
     let cs = map (written_column 1) p.columns in
     let qs = map (written_pattern 1 p.columns) p.patterns in
     let line = line_behind (lines_behind 1 p.columns) in
-    let names = or_none (unknown_error (first_column (unknown_columns ports cs))) (or_else (line_error kind.Width (first_line (width_faults ports (written 1 p)))) (line_error kind.TimeBack (first_line (time_faults 0 qs)))) none in
+    let names = or_none (unknown_error (first_fault (unknown_faults ports cs))) (or_else (line_error kind.Width (first_line (width_faults ports (written 1 p)))) (line_error kind.TimeBack (first_line (time_faults 0 qs)))) none in
     let more = or_none (line_error kind.Width (first_line (width_faults ports (written 1 p)))) (line_error kind.TimeBack (first_line (time_faults 0 qs))) names.1 in
     let widths = no_lines (column_faults ports cs) (pattern_faults cs qs) (no_line kind.Width (width_faults ports (written 1 p)) more.0) in
-    let known : unknown_columns ports (columns_from 1 p.columns) ≡ [] = all_known ports p.columns 1 [] [] (λ c m. refl) (none_unknown (unknown_columns ports cs) names.0) in
+    let known : unknown_faults ports (columns_from 1 p.columns) ≡ [] = all_known ports p.columns 1 [] [] (λ n. refl) (none_unknown (unknown_faults ports cs) names.0) in
     let wide : width_faults ports (placed p) ≡ [] = both_empty (column_faults ports (columns_from 1 p.columns)) (pattern_faults (columns_from 1 p.columns) (patterns_from line p.columns p.patterns)) (all_fit ports p.columns 1 widths.0) (patterns_fit p.columns p.patterns 1 line widths.1) in
     let rise : time_faults 0 (patterns_from line p.columns p.patterns) ≡ [] = times_rise p.columns p.patterns line 0 (no_line kind.TimeBack (time_faults 0 qs) more.1) in
     rw (known, wide, rise) refl

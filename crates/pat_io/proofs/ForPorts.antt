@@ -10,6 +10,7 @@ use Rattle.vlsi_base.specs.declared.name.Dir.{Dir}
 use Rattle.vlsi_base.specs.declared.name.Dir.TheVariants as dir
 use Rattle.vlsi_base.specs.declared.name.Port.{Port}
 use Rattle.vlsi_base.specs.declared.range.Range.{Range}
+use Rattle.vlsi_base.specs.declared.fault.InputFault.{InputFault}
 use Rattle.vlsi_base.specs.declared.fault.FaultKind.{FaultKind}
 use Rattle.vlsi_base.specs.declared.fault.FaultKind.TheVariants as kind
 use Rattle.vlsi_base.specs.declared.fault.ReadError.{ReadError}
@@ -28,10 +29,10 @@ use Rattle.pat_text.specs.declared.parsed.PatternFile.{PatternFile}
 use Rattle.vlsi_base.specs.Radix.{digit_width}
 use Rattle.vlsi_base.specs.Name.{is_supply}
 use Rattle.vlsi_base.specs.Range.{rising, is_ordered, least}
-use Rattle.pat_io.specs.Known.{is_same_dir, is_supply_input, unknown_columns}
+use Rattle.pat_io.specs.Known.{is_same_dir, is_supply_input, unknown_faults}
 use Rattle.pat_io.specs.Digits.{column_width, number_bits, digit_value, digits_bits, unused, column_bits, column_of, value_for, values_for, pattern_for, patterns_for}
 use Rattle.pat_io.specs.Fitting.{if_not, is_port, column_fits, column_line, column_faults, value_fits, value_faults, pattern_faults, width_faults, time_faults}
-use Rattle.pat_io.specs.PatternText.{first_column, first_line, unknown_error, line_error, or_else, fault_in, OrMemory, IsWritten, IsPatternRefusal, faulty}
+use Rattle.pat_io.specs.PatternText.{first_fault, first_line, unknown_error, line_error, or_else, fault_in, OrMemory, IsWritten, IsPatternRefusal, faulty}
 use Rattle.pat_io.proofs.Ranges.{and_parts, range_all, range_test, length_names}
 use Rattle.pat_io.proofs.Different.{different}
 use Rattle.pat_io.proofs.Matching.{Given, Matches, matching_file}
@@ -48,9 +49,9 @@ or_both : (a b : Option ReadError) → or_else a b ≡ None → (a ≡ None) × 
 or_both None b h = (refl, h)
 or_both (Some e) b h = absurd cc
 
-no_column : (cs : List ParsedColumn) → unknown_error (first_column cs) ≡ None → cs ≡ []
-no_column [] h = refl
-no_column (c ∷ cs) h = absurd cc
+no_name : (fs : List InputFault) → unknown_error (first_fault fs) ≡ None → fs ≡ []
+no_name [] h = refl
+no_name (f ∷ fs) h = absurd cc
 
 no_line : (k : FaultKind) (lines : List ℕ) → line_error k (first_line lines) ≡ None → lines ≡ []
 no_line k [] h = refl
@@ -65,17 +66,17 @@ holds true line h = refl
 holds false line h = absurd cc
 
 pub record HasNoFault (ports : List Port) (parsed : PatternFile) : Type 0 where
-  pub known : unknown_columns ports parsed.columns ≡ []
+  pub known : unknown_faults ports parsed.columns ≡ []
   pub columns : column_faults ports parsed.columns ≡ []
   pub values : pattern_faults parsed.columns parsed.patterns ≡ []
 
 no_fault : (ports : List Port) (parsed : PatternFile) → fault_in ports parsed ≡ None → HasNoFault ports parsed
 unfolding fault_in
 no_fault ports parsed h =
-    let a = or_both (unknown_error (first_column (unknown_columns ports parsed.columns))) (or_else (line_error kind.Width (first_line (width_faults ports parsed))) (line_error kind.TimeBack (first_line (time_faults 0 parsed.patterns)))) h in
+    let a = or_both (unknown_error (first_fault (unknown_faults ports parsed.columns))) (or_else (line_error kind.Width (first_line (width_faults ports parsed))) (line_error kind.TimeBack (first_line (time_faults 0 parsed.patterns)))) h in
     let b = or_both (line_error kind.Width (first_line (width_faults ports parsed))) (line_error kind.TimeBack (first_line (time_faults 0 parsed.patterns))) a.1 in
     let w = no_append (column_faults ports parsed.columns) (pattern_faults parsed.columns parsed.patterns) (no_line kind.Width (width_faults ports parsed) b.0) in
-    record { known = no_column (unknown_columns ports parsed.columns) a.0; columns = w.0; values = w.1 }
+    record { known = no_name (unknown_faults ports parsed.columns) a.0; columns = w.0; values = w.1 }
 
 -- ---- columns
 

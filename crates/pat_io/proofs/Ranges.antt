@@ -12,7 +12,7 @@ use Rattle.pat_meaning.specs.declared.patterns.BitRange.{BitRange}
 use Rattle.pat_meaning.specs.Columns.{range_bits, bits_named, names_of_range}
 use Rattle.vlsi_base.specs.Range.{rising, falling, least, greatest}
 use Rattle.vlsi_base.proofs.Ranges.{length_of_rising, length_of_falling}
-use Rattle.pat_io.specs.Known.{overlap}
+use Rattle.pat_io.specs.Apart.{overlap}
 use Rattle.pat_io.specs.Digits.{column_width, bit_range}
 
 pub and_parts : (a b : Bool) → (a && b) ≡ true → (a ≡ true) × (b ≡ true)
@@ -25,7 +25,7 @@ all_in P (y ∷ xs) h x here = All-head P y xs h
 all_in P (y ∷ xs) h x (there i) = all_in P xs (All-tail P y xs h) x i
 all_in P [] h x i = elim i [ ]
 
-abbrev bit_name : List ℕ → ℕ → Name
+abbrev pub bit_name : List ℕ → ℕ → Name
 bit_name text k = record { text = text; bit = Some k }
 
 -- what holds of each bit holds of all that rise, and of all that fall
@@ -43,19 +43,19 @@ pub record Ends (r : Range) (low high : ℕ) : Type 0 where
   pub high_is : greatest r ≡ high
   pub order : low ≤ high
 
-up_ends : (r : Range) → nat_le r.left r.right ≡ true → r.left ≤ r.right → Ends r r.left r.right
+pub up_ends : (r : Range) → nat_le r.left r.right ≡ true → r.left ≤ r.right → Ends r r.left r.right
 up_ends r e up = record { low_is = rw e refl; high_is = rw e refl; order = up }
 
-down_ends : (r : Range) → nat_le r.left r.right ≡ false → r.right < r.left → Ends r r.right r.left
+pub down_ends : (r : Range) → nat_le r.left r.right ≡ false → r.right < r.left → Ends r r.right r.left
 down_ends r e down = record { low_is = rw e refl; high_is = rw e refl; order = omega arith }
 
-abbrev bounds : Range → BitRange
+abbrev pub bounds : Range → BitRange
 bounds r = record { left = r.left; right = r.right }
 
-up_range : (r : Range) → nat_le r.left r.right ≡ true → range_bits (bounds r) ≡ rising r.left (r.right - r.left + 1)
+pub up_range : (r : Range) → nat_le r.left r.right ≡ true → range_bits (bounds r) ≡ rising r.left (r.right - r.left + 1)
 up_range r e = rw e refl
 
-down_range : (r : Range) → nat_le r.left r.right ≡ false → range_bits (bounds r) ≡ falling r.right (r.left - r.right + 1)
+pub down_range : (r : Range) → nat_le r.left r.right ≡ false → range_bits (bounds r) ≡ falling r.right (r.left - r.right + 1)
 down_range r e = rw e refl
 
 pub range_all : (P : Name → Type 0) (text : List ℕ) (r : Range) → ((j : ℕ) → least r ≤ j → j ≤ greatest r → P (bit_name text j)) → All P (bits_named text (range_bits (record { left = r.left; right = r.right })))

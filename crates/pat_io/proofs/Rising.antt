@@ -21,8 +21,7 @@ use Rattle.vlsi_base.specs.Name.{name_cmp, bit_cmp}
 use Rattle.vlsi_base.specs.Range.{least, greatest}
 use Rattle.vlsi_base.proofs.NameOrder.{name_total}
 use Rattle.pat_text.specs.declared.parsed.ParsedColumn.{ParsedColumn}
-use Rattle.pat_io.specs.Known.{overlap, share_bit}
-use Rattle.pat_io.specs.Apart.{least_bit, greatest_bit, first_name, last_name, comes_before}
+use Rattle.pat_io.specs.Apart.{overlap, share_bit, least_bit, greatest_bit, first_name, last_name, comes_before}
 use Rattle.pat_io.proofs.Ranges.{ends_order}
 
 -- ---- one column before another

@@ -1,5 +1,5 @@
 -- What is written of patterns for ports has no fault, and means them.
-use Rattle.std.proofs.Common.{◌≡◌, ℕ, zero, suc, ◌+◌, ◌≤◌, ◌<◌, Bool, true, false, not, ◌&&◌, ◌||◌, bytes_eq, List, [], ◌∷◌, ◌++◌, length, map, codes, Option, Some, None, refl, sym, ap, subst, ◌∙◌, ◌⊎◌, inl, inr, arith}
+use Rattle.std.proofs.Common.{◌≡◌, ℕ, zero, suc, ◌+◌, ◌≤◌, ◌<◌, Bool, true, false, not, ◌&&◌, ◌||◌, bytes_eq, List, [], ◌∷◌, ◌++◌, length, map, codes, Option, Some, None, refl, sym, ap, subst, ◌∙◌, ◌⊎◌, inl, inr, arith, if◌then◌else◌}
 use Rattle.std.specs.List.{All, list_any, list_all}
 use Rattle.std.proofs.lemmas.List.Elements.{All-nil, All-cons, All-head, All-tail}
 use Rattle.std.proofs.lemmas.Bool.{le-leb}
@@ -10,6 +10,7 @@ use Rattle.vlsi_base.specs.declared.name.Dir.{Dir}
 use Rattle.vlsi_base.specs.declared.name.Dir.TheVariants as dir
 use Rattle.vlsi_base.specs.declared.name.Port.{Port}
 use Rattle.vlsi_base.specs.declared.range.Range.{Range}
+use Rattle.vlsi_base.specs.declared.fault.InputFault.{InputFault}
 use Rattle.machine_meaning.specs.Named.{is_same_name}
 use Rattle.machine_core.specs.Order.{In, here, there, AllDifferent}
 use Rattle.machine_core.proofs.Names.{same_name-itself}
@@ -26,12 +27,13 @@ use Rattle.pat_meaning.specs.Answers.{IsSupplyColumn, IsOfPorts}
 use Rattle.pat_text.specs.declared.parsed.ParsedColumn.{ParsedColumn}
 use Rattle.vlsi_base.specs.Name.{is_supply}
 use Rattle.vlsi_base.specs.Range.{rising, is_ordered, least, greatest}
-use Rattle.pat_io.specs.Known.{is_same_dir, is_supply_input, is_of_port, is_known, share_bit, overlap, is_unknown, if_at_fault, unknown_behind, unknown_columns}
+use Rattle.pat_io.specs.Known.{is_same_dir, is_supply_input, is_of_port, is_known, bits_of, first_again, unknown_name, fault_of, unknown_behind, unknown_faults}
 use Rattle.pat_io.specs.Digits.{column_width, bit_range, column_of, value_for, values_for, pattern_for}
 use Rattle.pat_io.specs.Fitting.{if_not, is_port, column_fits, column_line, column_faults, value_fits, value_faults, pattern_faults, width_faults}
 use Rattle.pat_io.specs.PatternText.{fault_in}
 use Rattle.pat_io.specs.ReadAgain.{written_range, written_column, written_digits, written_values, written_pattern, written, WrittenMeansItself}
-use Rattle.pat_io.proofs.Ranges.{and_parts, all_in, names_in, ends_order, length_names, common}
+use Rattle.pat_io.proofs.Ranges.{all_in, names_in, ends_order, length_names}
+use Rattle.pat_io.proofs.Listing.{IsNew, new_column}
 use Rattle.pat_io.proofs.Again.{digits_read_again}
 
 -- ---- columns stay as they are
@@ -179,45 +181,32 @@ in_listed (c ∷ cs) d n here j = In-left n (column_names (column_of c)) (listed
 in_listed (c ∷ cs) d n (there i) j = In-right n (column_names (column_of c)) (listed (map column_of cs)) (in_listed cs d n i j)
 in_listed [] d n i j = elim i [ ]
 
-unshared : (c : ParsedColumn) (cs : List ParsedColumn) → AllDifferent (listed (map column_of (c ∷ cs))) → (d : ParsedColumn) → In d cs → share_bit d c ≡ false
-unshared c cs h d i = by (share_bit d c) refl where
-  by : (b : Bool) → share_bit d c ≡ b → share_bit d c ≡ false
-  by false e = e
-  by true e =
-      let parts = and_parts (bytes_eq d.name c.name) (overlap d.range c.range) e in
-      let same = (bytes_eq-Decides d.name c.name).0 parts.0 in
-      let k = common d.range c.range parts.1 in
-      let at_d = names_in d.name k.bit d.range k.in_first in
-      let at_c = names_in c.name k.bit c.range k.in_second in
-      let There : List ℕ → Type 0 = λ text. In (record { text = text; bit = k.bit }) (column_names (column_of c)) in
-      absurd (apart (column_names (column_of c)) (listed (map column_of cs)) h (record { text = d.name; bit = k.bit }) (subst There (sym same) at_c) (in_listed cs d (record { text = d.name; bit = k.bit }) i at_d))
-
-none_any : {A : Type 0} (p : A → Bool) (xs : List A) → ((x : A) → In x xs → p x ≡ false) → list_any p xs ≡ false
-none_any p [] h = refl
-none_any p (x ∷ xs) h = rw (h x here) (none_any p xs (λ y i. h y (there i)))
+-- where all bits are different, a later column lists none of the first one's
+unlisted : (c : ParsedColumn) (cs : List ParsedColumn) → AllDifferent (listed (map column_of (c ∷ cs))) → (d : ParsedColumn) → In d cs → (n : Name) → In n (bits_of c) → In n (bits_of d) → ⊥
+unlisted c cs h d i n at_c at_d = apart (column_names (column_of c)) (listed (map column_of cs)) h n at_c (in_listed cs d n i at_d)
 
 alone : (b c : ParsedColumn) → In b (c ∷ []) → c ≡ b
 alone b c here = refl
 alone b c (there i) = elim i [ ]
 
-no_column_of : (b : Bool) (c : ParsedColumn) (rest : List ParsedColumn) → b ≡ false → rest ≡ [] → if_at_fault b c ++ rest ≡ []
-no_column_of b c rest h g = rw (h, g) refl
+no_fault_of : (c : ParsedColumn) (o : Option Name) (rest : List InputFault) → o ≡ None → rest ≡ [] → fault_of c o ++ rest ≡ []
+no_fault_of c o rest h g = rw (h, g) refl
 
-neither : (a b : Bool) → a ≡ true → b ≡ false → (not a || b) ≡ false
-neither a b h g = rw (h, g) refl
+nameless : (b : Bool) (o : Option Name) (n : Name) → b ≡ true → o ≡ None → (if b then o else Some n) ≡ None
+nameless b o n h g = rw (h, g) refl
 
 none_unknown : (ports : List Port) (before cs : List ParsedColumn) → All (λ c. IsSupplyColumn c ⊎ IsOfPorts ports c) (map column_of cs) → AllDifferent (listed (map column_of cs))
-    → ((b : ParsedColumn) → In b before → (d : ParsedColumn) → In d cs → share_bit d b ≡ false) → unknown_behind ports before cs ≡ []
+    → ((d : ParsedColumn) → In d cs → IsNew before d) → unknown_behind ports before cs ≡ []
 none_unknown ports before [] right different earlier = refl
 none_unknown ports before (c ∷ cs) right different earlier =
     let P : Column → Type 0 = λ c. IsSupplyColumn c ⊎ IsOfPorts ports c in
     let known = known_of ports c.name c.line c.dir c.format c.range (All-head P (column_of c) (map column_of cs) right) in
-    no_column_of (is_unknown ports before c) c (unknown_behind ports (before ++ c ∷ []) cs)
-    (neither (is_known ports c) (list_any (share_bit c) before) known (none_any (share_bit c) before (λ b i. earlier b i c here)))
+    no_fault_of c (unknown_name ports before c) (unknown_behind ports (before ++ c ∷ []) cs)
+    (nameless (is_known ports c) (first_again before c) (record { text = c.name; bit = None }) known (new_column before c (earlier c here)))
     (none_unknown ports (before ++ c ∷ []) cs (All-tail P (column_of c) (map column_of cs) right) (behind (column_names (column_of c)) (listed (map column_of cs)) different)
-    (λ b i d j. elim (In-split b before (c ∷ []) i) [
-      | inl left ↦ earlier b left d (there j)
-      | inr right ↦ let P : ParsedColumn → Type 0 = λ x. share_bit d x ≡ false in subst P (alone b c right) (unshared c cs different d j)
+    (λ d j b i. elim (In-split b before (c ∷ []) i) [
+      | inl left ↦ earlier d (there j) b left
+      | inr right ↦ let New : ParsedColumn → Type 0 = λ x. (n : Name) → In n (bits_of x) → In n (bits_of d) → ⊥ in subst New (alone b c right) (unlisted c cs different d j)
     ]))
 
 -- ---- values
@@ -276,7 +265,7 @@ written_means_itself ports p line for free rise =
     let Different : List Column → Type 0 = λ x. AllDifferent (listed x) in
     let right = subst Every (sym (columns_back line p.columns)) for.columns in
     let different = subst Different (sym (columns_back line p.columns)) for.different in
-    let known : unknown_columns ports cs ≡ [] = none_unknown ports [] cs right different (λ b i d j. elim i [ ]) in
+    let known : unknown_faults ports cs ≡ [] = none_unknown ports [] cs right different (λ d j b i. elim i [ ]) in
     let wide : width_faults ports (written line p) ≡ [] = no_lines (column_faults ports cs) (pattern_faults cs (map (written_pattern line p.columns) p.patterns)) (columns_fitting ports free cs (order_columns line p.columns) right) (patterns_fitting line p.columns p.patterns for.values) in
     let made : List Column → List Pattern → Patterns = λ x y. record { columns = x; patterns = y } in
     (rw (known, wide, rise) refl, ap (λ (x : List Column). made x (map (pattern_for cs) (map (written_pattern line p.columns) p.patterns))) (columns_back line p.columns) ∙ ap (made p.columns) (patterns_again line p.columns p.patterns for.values))

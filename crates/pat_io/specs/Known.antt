@@ -1,13 +1,17 @@
 -- Names that a pattern file may list: which columns are of ports, and which list a bit once more.
-use Rattle.std.specs.Prelude.{Bool, true, false, not, ◌&&◌, ◌||◌, nat_le, bytes_eq, List, [], ◌∷◌, ◌++◌, Option, None, Some}
-use Rattle.std.specs.List.{list_any}
+use Rattle.std.specs.Prelude.{Bool, true, false, ◌&&◌, ◌||◌, bytes_eq, List, [], ◌∷◌, ◌++◌, Option, None, Some, if◌then◌else◌}
+use Rattle.std.specs.List.{list_any, find}
 use Rattle.vlsi_base.specs.declared.name.Dir.{Dir}
 use Rattle.vlsi_base.specs.declared.name.Dir.TheVariants.{In, Out}
+use Rattle.vlsi_base.specs.declared.name.Name.{Name}
 use Rattle.vlsi_base.specs.declared.name.Port.{Port}
-use Rattle.vlsi_base.specs.declared.range.Range.{Range}
+use Rattle.vlsi_base.specs.declared.fault.InputFault.{InputFault}
+use Rattle.vlsi_base.specs.declared.fault.FaultKind.TheVariants.{Unknown}
 use Rattle.vlsi_base.specs.Name.{is_supply}
-use Rattle.vlsi_base.specs.Range.{least, greatest}
+use Rattle.machine_meaning.specs.Named.{is_same_name}
+use Rattle.pat_meaning.specs.Columns.{column_names}
 use Rattle.pat_text.specs.declared.parsed.ParsedColumn.{ParsedColumn}
+use Rattle.pat_io.specs.Digits.{column_of}
 
 abbrev pub is_same_dir : Dir → Dir → Bool
 is_same_dir In In = true
@@ -26,30 +30,35 @@ is_of_port c p = bytes_eq p.name.text c.name && is_same_dir p.dir c.dir
 abbrev pub is_known : List Port → ParsedColumn → Bool
 is_known ports c = is_supply_input c || list_any (is_of_port c) ports
 
--- two ranges have a bit in common; where there are none both are the one bit of a scalar
-abbrev pub overlap : Option Range → Option Range → Bool
-overlap None None = true
-overlap None (Some s) = false
-overlap (Some r) None = false
-overlap (Some r) (Some s) = nat_le (least r) (greatest s) && nat_le (least s) (greatest r)
+-- the bits that a column lists, from the left bound of its range to the right one; a scalar lists its name without a bit
+abbrev pub bits_of : ParsedColumn → List Name
+bits_of c = column_names (column_of c)
 
--- two columns list one bit
-abbrev pub share_bit : ParsedColumn → ParsedColumn → Bool
-share_bit c d = bytes_eq c.name d.name && overlap c.range d.range
+-- a column lists the bit
+abbrev pub lists : Name → ParsedColumn → Bool
+lists n c = list_any (is_same_name n) (bits_of c)
 
--- the column is of no port, or lists a bit that one before it lists
-abbrev pub is_unknown : List Port → List ParsedColumn → ParsedColumn → Bool
-is_unknown ports before c = not (is_known ports c) || list_any (share_bit c) before
+-- the first bit of a column that one before it lists as well
+abbrev pub first_again : List ParsedColumn → ParsedColumn → Option Name
+first_again before c = find (λ n. list_any (lists n) before) (bits_of c)
 
-abbrev pub if_at_fault : Bool → ParsedColumn → List ParsedColumn
-if_at_fault true c = c ∷ []
-if_at_fault false c = []
+-- by which name a column is unknown: of no port, by its own; else by its first bit that is listed again, where there is one
+abbrev pub unknown_name : List Port → List ParsedColumn → ParsedColumn → Option Name
+unknown_name ports before c = if is_known ports c then first_again before c else Some (record { text = c.name; bit = None })
 
--- the columns at fault behind these
-abbrev pub unknown_behind : List Port → List ParsedColumn → List ParsedColumn → List ParsedColumn
+-- the fault that is told: this name, on the line of its column
+abbrev pub unknown_fault : ParsedColumn → Name → InputFault
+unknown_fault c n = record { line = c.line; kind = Unknown; names = n ∷ [] }
+
+abbrev pub fault_of : ParsedColumn → Option Name → List InputFault
+fault_of c None = []
+fault_of c (Some n) = unknown_fault c n ∷ []
+
+-- the faults of the columns behind these
+abbrev pub unknown_behind : List Port → List ParsedColumn → List ParsedColumn → List InputFault
 unknown_behind ports before [] = []
-unknown_behind ports before (c ∷ cs) = if_at_fault (is_unknown ports before c) c ++ unknown_behind ports (before ++ c ∷ []) cs
+unknown_behind ports before (c ∷ cs) = fault_of c (unknown_name ports before c) ++ unknown_behind ports (before ++ c ∷ []) cs
 
 -- all of them, in file order
-abbrev pub unknown_columns : List Port → List ParsedColumn → List ParsedColumn
-unknown_columns ports columns = unknown_behind ports [] columns
+abbrev pub unknown_faults : List Port → List ParsedColumn → List InputFault
+unknown_faults ports columns = unknown_behind ports [] columns

@@ -2,6 +2,7 @@
 use Rattle.std.specs.Prelude.{◌≡◌, ℕ, ◌+◌, ◌<◌, ◌≤◌, List, [], ◌∷◌, length, Option, None, Some}
 use Rattle.vlsi_base.specs.declared.limits.TheConstants.{MOST_SOURCE_BYTES}
 use Rattle.vlsi_base.specs.declared.name.Port.{Port}
+use Rattle.vlsi_base.specs.declared.fault.InputFault.{InputFault}
 use Rattle.vlsi_base.specs.declared.fault.FaultKind.{FaultKind}
 use Rattle.vlsi_base.specs.declared.fault.FaultKind.TheVariants as kind
 use Rattle.vlsi_base.specs.declared.fault.LimitKind.TheVariants.{File}
@@ -9,27 +10,25 @@ use Rattle.vlsi_base.specs.declared.fault.ReadError.{ReadError}
 use Rattle.vlsi_base.specs.declared.fault.ReadError.TheVariants as error
 use Rattle.pat_meaning.specs.declared.patterns.Patterns.{Patterns}
 use Rattle.pat_lexer.specs.Listing.{tokens_in, refusal_in}
-use Rattle.pat_text.specs.declared.parsed.ParsedColumn.{ParsedColumn}
 use Rattle.pat_text.specs.declared.parsed.PatternFile.{PatternFile}
 use Rattle.pat_text.specs.Answers.{IsFile, IsSyntaxFault}
-use Rattle.pat_io.specs.Known.{unknown_columns}
+use Rattle.pat_io.specs.Known.{unknown_faults}
 use Rattle.pat_io.specs.Digits.{patterns_for}
 use Rattle.pat_io.specs.Fitting.{width_faults, time_faults}
 
 -- ---- the first place at fault
 
-abbrev pub first_column : List ParsedColumn → Option ParsedColumn
-first_column [] = None
-first_column (c ∷ _) = Some c
+abbrev pub first_fault : List InputFault → Option InputFault
+first_fault [] = None
+first_fault (f ∷ _) = Some f
 
 abbrev pub first_line : List ℕ → Option ℕ
 first_line [] = None
 first_line (line ∷ _) = Some line
 
--- an unknown column is told by its name
-abbrev pub unknown_error : Option ParsedColumn → Option ReadError
+abbrev pub unknown_error : Option InputFault → Option ReadError
 unknown_error None = None
-unknown_error (Some c) = Some (error.Input (record { line = c.line; kind = kind.Unknown; names = record { text = c.name; bit = None } ∷ [] }))
+unknown_error (Some f) = Some (error.Input f)
 
 abbrev pub line_error : FaultKind → Option ℕ → Option ReadError
 line_error k None = None
@@ -42,7 +41,7 @@ or_else (Some e) o = Some e
 -- names first, then widths, then times
 unfoldable pub fault_in : List Port → PatternFile → Option ReadError
 fault_in ports parsed =
-    or_else (unknown_error (first_column (unknown_columns ports parsed.columns)))
+    or_else (unknown_error (first_fault (unknown_faults ports parsed.columns)))
     (or_else (line_error kind.Width (first_line (width_faults ports parsed))) (line_error kind.TimeBack (first_line (time_faults 0 parsed.patterns))))
 
 -- this error, or memory has run out

@@ -2,8 +2,7 @@
 ghost use Rattle.std.specs.Prelude.{◌≡◌, ◌≤◌, IfOk, IsTrue, length, map, take};
 ghost use Rattle.std.specs.List.{IsDistinct};
 ghost use Rattle.vlsi_base.specs.Name.{name_cmp};
-ghost use Rattle.pat_io.specs.Known.{share_bit};
-ghost use Rattle.pat_io.specs.Apart.{least_bit, greatest_bit, first_name, comes_before};
+ghost use Rattle.pat_io.specs.Apart.{share_bit, least_bit, greatest_bit, first_name, comes_before};
 
 use pat_text::ParsedColumn;
 use std::alloc::{AllocError, Global};

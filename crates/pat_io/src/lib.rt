@@ -4,6 +4,7 @@
 mod apart;
 mod bits;
 mod build;
+mod first_bit;
 mod index;
 mod known;
 mod laws;

@@ -4,37 +4,20 @@ ghost use Rattle.std.specs.Option.{option_copied};
 ghost use Rattle.pat_meaning.specs.Answers.{AreFor};
 ghost use Rattle.pat_lexer.specs.Listing.{tokens_in, refusal_in};
 ghost use Rattle.pat_io.specs.Digits.{patterns_for};
-ghost use Rattle.pat_io.specs.PatternText.{unknown_error, line_error, fault_in, OrMemory, IsWritten, IsPatternText, IsPatternRefusal};
+ghost use Rattle.pat_io.specs.PatternText.{line_error, fault_in, OrMemory, IsWritten, IsPatternText, IsPatternRefusal};
 
 use crate::build::patterns;
 use crate::index::Index;
-use crate::known::unknown_column;
+use crate::known::unknown;
 use crate::times::time_fault;
 use crate::widths::width_fault;
 use pat_lexer::tokens;
 use pat_meaning::Patterns;
-use pat_text::{ParsedColumn, PatternFile, read_patterns};
+use pat_text::{PatternFile, read_patterns};
 use std::alloc::Global;
 use vlsi_base::{
     FaultKind, InputFault, Limit, LimitKind, MOST_SOURCE_BYTES, Name, Names, Port, Ports, ReadError,
 };
-
-fn unknown(alloc: Global, column: &ParsedColumn) -> ReadError
-    ensures { OrMemory (unknown_error (Some column.now)) result }
-{
-    let Ok(text) = column.name.copy(alloc) else {
-        return ReadError::Memory;
-    };
-    let mut names = Vec::new(alloc);
-    match names.push(Name::scalar(text)) {
-        Ok(()) => ReadError::Input(InputFault {
-            line: column.line,
-            kind: FaultKind::Unknown,
-            names: Names::new(names),
-        }),
-        Err(_) => ReadError::Memory,
-    }
-}
 
 fn at_line(alloc: Global, kind: FaultKind, line: u32) -> ReadError
     ensures { Some result ≡ line_error kind (Some line) }
@@ -53,8 +36,8 @@ fn check(alloc: Global, ports: &[Port], parsed: &PatternFile) -> Result<(), Read
     ensures faulty { IfErr result (λ e. OrMemory (fault_in ports.now parsed.now) e) }
 {
     let index = Index::of(alloc, ports)?;
-    if let Some(column) = unknown_column(alloc, &index, ports, parsed.columns.as_slice())? {
-        return Err(unknown(alloc, column));
+    if let Some(fault) = unknown(alloc, &index, ports, parsed.columns.as_slice())? {
+        return Err(ReadError::Input(fault));
     }
     if let Some(line) = width_fault(alloc, &index, ports, parsed)? {
         return Err(at_line(alloc, FaultKind::Width, line));
@@ -85,10 +68,10 @@ fn written(alloc: Global, bytes: &[u8], ports: &Ports) -> Result<PatternFile, Re
 ///
 /// It is refused, in this order: `Limit` of `File` with 1,048,577 reached, where it has more than 1,048,576 bytes; what the
 /// lexer refuses; `Input` with `Syntax` at the first token with which the tokens so far begin no pattern file; with
-/// `Unknown` at the first listed name that is no port of its direction, nor vdd or vss as an input, or that lists a bit once
-/// more, with that name; with `Width` at the first name that is listed with other bits than it has, or the first value
-/// with more or fewer digits than its column needs or a bit set that the column hasn't; with `TimeBack` at the first pattern
-/// that is before the one before it. Only `Unknown` has a name. It takes memory by the number of bytes and of port bits.
+/// `Unknown` at the first listed name that is no port of its direction, nor vdd or vss as an input, with that name, or that
+/// lists a bit once more, with the first such bit from the left; with `Width` at the first name that is listed with other
+/// bits than it has, or the first value with more or fewer digits than its column needs or a bit set that the column hasn't;
+/// with `TimeBack` at the first pattern that is before the one before it. Only `Unknown` has a name. It takes memory by the number of bytes and of port bits.
 pub fn read_pat(alloc: Global, bytes: &[u8], ports: &Ports) -> Result<Patterns, ReadError>
     ensures accepted { IfOk result (λ p. IsPatternText bytes.now ports.now p) }
     ensures fits { IfOk result (λ p. AreFor ports.now p) }

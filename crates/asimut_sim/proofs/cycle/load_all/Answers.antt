@@ -1,12 +1,24 @@
-use Rattle.std.proofs.Common.{arith}
-use Rattle.asimut_sim.proofs.LoadLemmas.{loads_over, goes-next}
+use Rattle.std.proofs.Common.{◌<◌, ap, set, length, arith}
+use Rattle.std.proofs.lemmas.List.{get_or_default}
+use Rattle.asimut_sim.proofs.LoadsLemmas.{written_next, written_all}
 use Rattle.asimut_sim.proofs.cycle.load_all.Goals as goal
 
-pub load_one-bit-requires : goal.load_one-bit-requires
-load_one-bit-requires c = loads_over _ c.args.registers.now c.loop-k.k c.index-registers-k.result c.requires.over c.loop-k-test.true c.index-registers-k.is
+pub loaded-requires : goal.loaded-requires
+loaded-requires c = c.requires.below c.loop-k.k _ c.loop-k-test.true
 
 pub loop-k-preserved : goal.loop-k-preserved
 loop-k-preserved c =
-    rw (c.in_ok-push.ensures.items, c.load_one-bit.ensures)
-    (goes-next c.args.w.now c.args.registers.now c.args.contents.now c.loop-k.k c.loop-k.after.items c.index-registers-k.result _
-    c.loop-k-test.true c.index-registers-k.is (omega arith) c.loop-k.invariant)
+    let low = c.loop-k-test.true in
+    let size = c.loop-k.auto.contents in
+    let lengths = c.requires.lengths in
+    let within : c.loop-k.k < length c.loop-k.contents = omega (arith, low, size, lengths) in
+    written_next c.args.bits.now c.args.loads.now c.args.contents.now c.loop-k.contents _ c.loop-k.k _ _ low (get_or_default _ c.loop-k.k _ _ low)
+    within (get_or_default _ c.loop-k.k _ _ within)
+    (ap (set c.loop-k.contents c.loop-k.k) c.loaded.ensures) c.loop-k.invariant
+
+pub returns : goal.returns
+returns c =
+    let low = c.loop-k-test.false in
+    let size = c.loop-k.auto.contents in
+    let lengths = c.requires.lengths in
+    written_all c.args.bits.now c.args.loads.now c.args.contents.now c.loop-k.contents c.loop-k.k low (omega (arith, low, size, lengths)) c.loop-k.invariant

@@ -1,6 +1,6 @@
 use Rattle.std.proofs.Common.{◌≤◌, ◌-◌, length, take}
 use Rattle.std.specs.List.{IsDistinct}
-use Rattle.pat_io.specs.Known.{share_bit}
+use Rattle.pat_io.specs.Apart.{share_bit}
 use Rattle.pat_io.proofs.apart.apart_count.Given as goal
 
 abbrev pub invariant-loop-beyond : goal.invariant-loop-beyond

@@ -1,7 +1,7 @@
 use Rattle.std.proofs.Common.{map, List, subst, Bor}
 use Rattle.std.specs.List.{IsDistinct}
 use Rattle.pat_text.specs.declared.parsed.ParsedColumn.{ParsedColumn}
-use Rattle.pat_io.specs.Known.{share_bit}
+use Rattle.pat_io.specs.Apart.{share_bit}
 use Rattle.pat_io.proofs.Rising.{distinct_moved}
 use Rattle.pat_io.proofs.apart.are_apart.Goals as goal
 

@@ -1,5 +1,0 @@
-use Rattle.asimut_sim.proofs.Rest.{Continues}
-use Rattle.asimut_sim.proofs.cycle.add_values.Given as goal
-
-abbrev pub invariant-loop-equation : goal.invariant-loop-equation
-invariant-loop-equation l = Continues l.fn.w l.w l.equations l.equation-index
