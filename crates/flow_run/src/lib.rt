@@ -8,7 +8,7 @@
 #![tactic(auto)]
 
 mod flow;
-mod gen;
+mod gen_run;
 mod layout;
 mod reading;
 mod report;
@@ -16,7 +16,7 @@ mod right_layout;
 mod source;
 mod top;
 
-pub use gen::{circuit_law, gen_law};
+pub use gen_run::{circuit_law, gen_law};
 pub use reading::reading_law;
 pub use right_layout::right_layout_law;
 pub use top::alliance_main;

@@ -12,7 +12,7 @@ ghost use Rattle.flow_run.specs.Causes.{IsHeadline, IsFree};
 ghost use Rattle.flow_run.specs.Generated.{IsFitting, IsRun, IsGenHeadline, IsGenFree};
 
 use crate::flow::run_flow;
-use crate::gen::{gen_law, run_gen};
+use crate::gen_run::{gen_law, run_gen};
 use crate::reading::reading_law;
 use std::alloc::Global;
 use tool_run::{Status, refuse_words, run_tool};
@@ -36,7 +36,7 @@ fn run<S: Shelf, T: Sink>(alloc: Global, command: &Command, shelf: &mut S, out: 
 {
     match command {
         Command::Flow(flow) => run_flow(alloc, b"flow", flow, shelf, out),
-        Command::Gen(gen) => run_gen(alloc, gen, shelf, out),
+        Command::Gen(generate) => run_gen(alloc, generate, shelf, out),
         Command::Syf(_)
         | Command::Boom(_)
         | Command::Boog(_)

@@ -1,5 +1,5 @@
 use Rattle.flow_run.proofs.Circuits.{run_headline, run_ends}
-use Rattle.flow_run.proofs.gen.gen_law.Goals as goal
+use Rattle.flow_run.proofs.gen_run.gen_law.Goals as goal
 
 pub returns-clause-headline : goal.returns-clause-headline
 returns-clause-headline c = run_headline c.circuits_are_read_again.ensures

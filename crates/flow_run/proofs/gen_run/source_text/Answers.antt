@@ -4,7 +4,7 @@ use Rattle.machine_meaning.specs.Machine.{Machine}
 use Rattle.vbe_write.specs.Writable.{CanBeVbe}
 use Rattle.vbe_again.specs.Said.{text}
 use Rattle.flow_run.specs.Generated.{circuit_text}
-use Rattle.flow_run.proofs.gen.source_text.Goals as goal
+use Rattle.flow_run.proofs.gen_run.source_text.Goals as goal
 
 pub write_vbe-requires-clause-names : goal.write_vbe-requires-clause-names
 write_vbe-requires-clause-names c =

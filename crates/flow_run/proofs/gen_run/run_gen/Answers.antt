@@ -2,7 +2,7 @@ use Rattle.std.proofs.Common.{refl, subst}
 use Rattle.tool_drive.specs.declared.status.Status.{Status}
 use Rattle.tool_drive.specs.Outside.{outside}
 use Rattle.flow_run.specs.Generated.{IsUnwritten, unwritten, laid}
-use Rattle.flow_run.proofs.gen.run_gen.Goals as goal
+use Rattle.flow_run.proofs.gen_run.run_gen.Goals as goal
 
 pub returns-in-Ok-clause-run : goal.returns-in-Ok-clause-run
 returns-in-Ok-clause-run g c =
