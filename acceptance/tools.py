@@ -19,6 +19,7 @@ import druc
 import flatbeh
 import flow
 import flow_limits
+import gen
 import lvx
 import net_jobs
 import proof
@@ -57,6 +58,7 @@ TOOLS = {
     "boog": Tool(boog.second, answers.agrees, boog.jobs, boog.writes),
     "cougar": Tool(cougar.second, answers.agrees, cougar.jobs, cougar.writes),
     "flow": Tool(flow.second, flow.agrees, flow_jobs, flow.writes),
+    "gen": Tool(gen.second, gen.agrees, gen.jobs, gen.writes),
     "lvx": Tool(lvx.second, lvx.agrees, lvx_jobs),
     "druc": Tool(druc.second, answers.agrees, druc.jobs),
     "proof": Tool(proof.second, proof.agrees, proof.jobs),

@@ -9,4 +9,5 @@ pub mod Drawing
 pub mod Lines
 pub mod Standing
 pub mod Rows
+pub mod Circuits
 pub mod Words

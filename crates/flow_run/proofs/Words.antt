@@ -1,148 +1,49 @@
--- The word of a command's tool, the line of its refusals, and words that no command is read from.
-use Rattle.std.proofs.Common.{◌≡◌, ◌⊎◌, inr, ℕ, Bool, true, false, cond, List, [], ◌∷◌, Option, None, Some, option_map, IfSome, Err, IsErrOf, refl, sym, ◌∙◌, ap, subst}
+-- The line of a tool's refusals, what words that spell a command come to, and words that no command is read from.
+use Rattle.std.proofs.Common.{◌≡◌, ◌⊎◌, inr, ℕ, ◌≤◌, Bool, true, false, cond, ◌&&◌, nat_le, List, [], ◌∷◌, ◌++◌, Option, None, Some, option_map, IfSome, Err, IsErrOf, refl, sym, ◌∙◌, ap, subst}
 use Rattle.std.specs.Prelude.{codes}
-use Rattle.std.specs.List.{find}
+use Rattle.std.proofs.lemmas.Bool.{leb-true}
+use Rattle.vlsi_base.specs.Number.{value_of}
+use Rattle.clap.specs.Words.{Row, first_of}
+use Rattle.tool_words.specs.declared.table.Tool.{Tool}
+use Rattle.tool_words.specs.declared.table.Tool.TheVariants as tool
+use Rattle.tool_words.specs.declared.command.Encoding.{Encoding}
+use Rattle.tool_words.specs.declared.command.Encoding.TheVariants as encoding_variant
+use Rattle.tool_words.specs.declared.command.Numbers.{Numbers}
 use Rattle.tool_words.specs.declared.command.Command.{Command}
 use Rattle.tool_words.specs.declared.command.Command.TheVariants as command
+use Rattle.tool_words.specs.declared.command.FlowCommand.{FlowCommand}
+use Rattle.tool_words.specs.declared.command.GenCommand.{GenCommand}
 use Rattle.tool_words.specs.declared.words.WordsError.{WordsError}
 use Rattle.tool_words.specs.declared.words.WordsError.TheVariants as words
-use Rattle.tool_words.specs.declared.command.FlowCommand.{FlowCommand}
-use Rattle.tool_words.specs.declared.command.SyfCommand.{SyfCommand}
-use Rattle.tool_words.specs.declared.command.BoomCommand.{BoomCommand}
-use Rattle.tool_words.specs.declared.command.BoogCommand.{BoogCommand}
-use Rattle.tool_words.specs.declared.command.CougarCommand.{CougarCommand}
-use Rattle.tool_words.specs.declared.command.LvxCommand.{LvxCommand}
-use Rattle.tool_words.specs.declared.command.DrucCommand.{DrucCommand}
-use Rattle.tool_words.specs.declared.command.ProofCommand.{ProofCommand}
-use Rattle.tool_words.specs.declared.command.FlatbehCommand.{FlatbehCommand}
-use Rattle.tool_words.specs.Words.{is_word}
-use Rattle.tool_words.specs.Table.{Entry, library, out, encoding, seed, patterns, netlist_library, other_source, other_netlist, nodes, flow, syf, boom, boog, asimut, cougar, lvx, druc, proof, flatbeh, tools}
-use Rattle.tool_words.specs.Values.{files, values, only, number_of}
-use Rattle.tool_words.specs.Commands.{coding, flow_with, syf_with, boom_with, boog_with, asimut_with, cougar_with, lvx_with, druc_with, proof_with, flatbeh_with, command_from, command_of, as_flow, flow_of, Spells}
-use Rattle.tool_words.specs.Laws.{WordsAreExact}
+use Rattle.tool_words.specs.Table.{Entry, library, out, size, tool_of as entry_of}
+use Rattle.tool_words.specs.Arguments.{given}
+use Rattle.tool_words.specs.Values.{is_numeral, number_within, number_or_default, number_of, text_of}
+use Rattle.tool_words.specs.Commands.{numbers_of, flow_with, flow_on, gen_with, generated, asimut_on, asimut_with, command_from, are_taken, command_in, command_by, command_of, word_of, as_flow, flow_of, as_gen, gen_of}
+use Rattle.tool_words.specs.Laws.{ToolComesFirst}
 use Rattle.vlsi_shelf.specs.Seen.{SinkSeen}
 use Rattle.tool_drive.specs.declared.status.Status.{Status}
 use Rattle.tool_drive.specs.declared.status.Status.TheVariants as status
 use Rattle.tool_drive.specs.Lines.{line_of as line_of_tool}
 use Rattle.tool_drive.specs.Outside.{Outside, IsLine, IsUntouched}
 use Rattle.tool_drive.specs.Table.{Caused, IsComplete, memory_complete}
-use Rattle.tool_run.specs.Usage.{word_of, tool_of, line_of, status_of}
+use Rattle.tool_run.specs.Usage.{tool_of, line_of, status_of}
 use Rattle.tool_run.specs.Answers.{IsAnswerTo, memory_answer}
 use Rattle.flow_run.specs.Flow.{flow_plan, flow_answers}
 use Rattle.flow_run.specs.Causes.{IsHeadline, IsFree}
 use Rattle.flow_run.specs.Laws.{WhatIsReadIsNeverRefused}
+use Rattle.flow_run.specs.Generated.{IsFitting, IsRun, unwritten, IsGenHeadline, IsGenFree, RunsHaveHeadlines, FreeRunsEnd}
 use Rattle.flow_run.proofs.Rows.{if_some, headline_of, laid_free}
-
--- ---- the entry's word is that of the command's tool
-
-flow_word : (x : Option FlowCommand) (k : Command) → option_map command.Flow x ≡ Some k → codes "flow" ≡ word_of k
-flow_word None k h = absurd (cc h)
-flow_word (Some c) k h = let same : command.Flow c ≡ k = cc h in subst (λ (other : Command). codes "flow" ≡ word_of other) same refl
-
-syf_word : (x : Option SyfCommand) (k : Command) → option_map command.Syf x ≡ Some k → codes "syf" ≡ word_of k
-syf_word None k h = absurd (cc h)
-syf_word (Some c) k h = let same : command.Syf c ≡ k = cc h in subst (λ (other : Command). codes "syf" ≡ word_of other) same refl
-
-boom_word : (x : Option BoomCommand) (k : Command) → option_map command.Boom x ≡ Some k → codes "boom" ≡ word_of k
-boom_word None k h = absurd (cc h)
-boom_word (Some c) k h = let same : command.Boom c ≡ k = cc h in subst (λ (other : Command). codes "boom" ≡ word_of other) same refl
-
-boog_word : (x : Option BoogCommand) (k : Command) → option_map command.Boog x ≡ Some k → codes "boog" ≡ word_of k
-boog_word None k h = absurd (cc h)
-boog_word (Some c) k h = let same : command.Boog c ≡ k = cc h in subst (λ (other : Command). codes "boog" ≡ word_of other) same refl
-
-cougar_word : (x : Option CougarCommand) (k : Command) → option_map command.Cougar x ≡ Some k → codes "cougar" ≡ word_of k
-cougar_word None k h = absurd (cc h)
-cougar_word (Some c) k h = let same : command.Cougar c ≡ k = cc h in subst (λ (other : Command). codes "cougar" ≡ word_of other) same refl
-
-lvx_word : (x : Option LvxCommand) (k : Command) → option_map command.Lvx x ≡ Some k → codes "lvx" ≡ word_of k
-lvx_word None k h = absurd (cc h)
-lvx_word (Some c) k h = let same : command.Lvx c ≡ k = cc h in subst (λ (other : Command). codes "lvx" ≡ word_of other) same refl
-
-druc_word : (x : Option DrucCommand) (k : Command) → option_map command.Druc x ≡ Some k → codes "druc" ≡ word_of k
-druc_word None k h = absurd (cc h)
-druc_word (Some c) k h = let same : command.Druc c ≡ k = cc h in subst (λ (other : Command). codes "druc" ≡ word_of other) same refl
-
-proof_word : (x : Option ProofCommand) (k : Command) → option_map command.Proof x ≡ Some k → codes "proof" ≡ word_of k
-proof_word None k h = absurd (cc h)
-proof_word (Some c) k h = let same : command.Proof c ≡ k = cc h in subst (λ (other : Command). codes "proof" ≡ word_of other) same refl
-
-flatbeh_word : (x : Option FlatbehCommand) (k : Command) → option_map command.Flatbeh x ≡ Some k → codes "flatbeh" ≡ word_of k
-flatbeh_word None k h = absurd (cc h)
-flatbeh_word (Some c) k h = let same : command.Flatbeh c ≡ k = cc h in subst (λ (other : Command). codes "flatbeh" ≡ word_of other) same refl
-
-is_asimut : (c k : Command) → codes "asimut" ≡ word_of c → Some c ≡ Some k → codes "asimut" ≡ word_of k
-is_asimut c k w h = let same : c ≡ k = cc h in subst (λ (other : Command). codes "asimut" ≡ word_of other) same w
-
-asimut_word : (s p l : Option (List ℕ)) (k : Command) → asimut_with s p l ≡ Some k → codes "asimut" ≡ word_of k
-asimut_word None p l k h = absurd (cc h)
-asimut_word (Some s) None l k h = absurd (cc h)
-asimut_word (Some s) (Some p) None k h = is_asimut (command.Asimut (record { source = s; patterns = p })) k refl h
-asimut_word (Some s) (Some p) (Some l) k h = is_asimut (command.AsimutNetlist (record { source = s; patterns = p; library = l })) k refl h
-
-abbrev NamesItsCommands : Entry → Type 0
-NamesItsCommands e = (arguments : List _) (k : Command) → command_from e.tool arguments ≡ Some k → e.word ≡ word_of k
-
-flow_names : NamesItsCommands flow
-flow_names a k h =
-    flow_word
-    (flow_with (only (files a)) (only (values library.word a)) (only (values out.word a)) (coding (number_of encoding a) (number_of seed a)) (number_of nodes a)) k h
-
-syf_names : NamesItsCommands syf
-syf_names a k h = syf_word (syf_with (only (files a)) (only (values out.word a)) (coding (number_of encoding a) (number_of seed a))) k h
-
-boom_names : NamesItsCommands boom
-boom_names a k h = boom_word (boom_with (only (files a)) (only (values out.word a)) (number_of nodes a)) k h
-
-boog_names : NamesItsCommands boog
-boog_names a k h = boog_word (boog_with (only (files a)) (only (values library.word a)) (only (values out.word a))) k h
-
-asimut_names : NamesItsCommands asimut
-asimut_names a k h = asimut_word (only (files a)) (only (values patterns.word a)) (only (values netlist_library.word a)) k h
-
-cougar_names : NamesItsCommands cougar
-cougar_names a k h = cougar_word (cougar_with (only (files a)) (only (values library.word a)) (only (values out.word a))) k h
-
-lvx_names : NamesItsCommands lvx
-lvx_names a k h = lvx_word (lvx_with (only (files a)) (only (values other_netlist.word a)) (only (values library.word a))) k h
-
-druc_names : NamesItsCommands druc
-druc_names a k h = druc_word (druc_with (only (files a)) (only (values library.word a))) k h
-
-proof_names : NamesItsCommands proof
-proof_names a k h = proof_word (proof_with (only (files a)) (only (values other_source.word a)) (number_of nodes a)) k h
-
-flatbeh_names : NamesItsCommands flatbeh
-flatbeh_names a k h = flatbeh_word (flatbeh_with (only (files a)) (only (values library.word a)) (only (values out.word a))) k h
-
-abbrev Each : (Entry → Type 0) → List Entry → Type 0
-Each P [] = Unit {0}
-Each P (x ∷ xs) = P x × Each P xs
-
--- what is found is one of the list
-found_by : (P : Entry → Type 0) (x e : Entry) (rest : Option Entry) → P x → (rest ≡ Some e → P e) → (b : Bool) → cond b (Some x) rest ≡ Some e → P e
-found_by P x e rest here behind true h = let same : x ≡ e = cc h in subst P same here
-found_by P x e rest here behind false h = behind h
-
-found : (P : Entry → Type 0) (p : Entry → Bool) (xs : List Entry) (e : Entry) → Each P xs → find p xs ≡ Some e → P e
-found P p [] e all h = absurd (cc h)
-found P p (x ∷ xs) e all h = found_by P x e (find p xs) all.0 (found P p xs e all.1) (p x) h
-
-spelled : (words : List (List ℕ)) (k : Command) → Spells words k → tool_of words ≡ word_of k
-spelled words k h =
-    ap tool_of h.words_are
-    ∙ found NamesItsCommands (λ (e : Entry). is_word e.word h.entry.word) tools h.entry (flow_names, (syf_names, (boom_names, (boog_names, (asimut_names, (cougar_names, (lvx_names, (druc_names, (proof_names, (flatbeh_names, tt)))))))))) h.in_table h.arguments k h.command
 
 line_is : (words : List (List ℕ)) (s : Status) → (s ≡ status.Usage → ⊥) → line_of_tool (tool_of words) s ≡ line_of words s
 line_is words status.Usage other = absurd (other refl)
 line_is words _ other = refl
 
 -- the line behind the tool's word is the line that the words' refusal prints
-pub line_by : WordsAreExact → (words : List (List ℕ)) (k : Command) (s : Status) (before now : SinkSeen) → command_of words ≡ Some k → (s ≡ status.Usage → ⊥)
+pub line_by : ToolComesFirst → (words : List (List ℕ)) (k : Command) (s : Status) (before now : SinkSeen) → command_of words ≡ Some k → (s ≡ status.Usage → ⊥)
     → IsLine before now (line_of_tool (word_of k) s) → IsLine before now (line_of words s)
 line_by law words k s before now is other h =
     subst (λ (l : List ℕ). IsLine before now l)
-    (ap (λ (w : List ℕ). line_of_tool w s) (sym (spelled words k ((law words k).0 is))) ∙ line_is words s other) h
+    (ap (λ (w : List ℕ). line_of_tool w s) (sym (ap tool_of (law words k is).1)) ∙ line_is words s other) h
 
 pub headline_at : (words : List (List ℕ)) (k : Command) (before now : Outside) (s : Status) → command_of words ≡ Some k
     → IfSome (as_flow (Some k)) (λ c. Caused (flow_plan c) (flow_answers c) before now s) → IfSome (flow_of words) (λ c. s ≡ status.Accepted → IsHeadline c before now)
@@ -196,3 +97,141 @@ none_answered ws words.Memory before now s same is none =
 pub answer_at : (ws : List (List ℕ)) (k : Command) (before now : Outside) (s : Status) → command_of ws ≡ Some k → IsAnswerTo k before now s
     → IfSome (command_of ws) (λ c. IsAnswerTo c before now s)
 answer_at ws k before now s is h = subst (λ (o : Option Command). IfSome o (λ c. IsAnswerTo c before now s)) (sym is) h
+
+-- ---- words that spell `gen`
+
+-- a number that is given lies within its bounds
+within : (n : ℕ) (text : Option (List ℕ)) → number_or_default size.form text ≡ Some n → (8 ≤ n) × (n ≤ 4000)
+within n None h = absurd (cc h)
+within n (Some text) h = by (is_numeral text) (nat_le 8 (value_of text)) (nat_le (value_of text) 4000) refl refl h where
+  by : (a b d : Bool) → nat_le 8 (value_of text) ≡ b → nat_le (value_of text) 4000 ≡ d → cond ((a && b) && d) (Some (value_of text)) None ≡ Some n → (8 ≤ n) × (n ≤ 4000)
+  by true true true e f h =
+      let same : value_of text ≡ n = cc h in
+      subst (λ (k : ℕ). (8 ≤ k) × (k ≤ 4000)) same (leb-true 8 (value_of text) e, leb-true (value_of text) 4000 f)
+  by true true false e f h = absurd (cc h)
+  by true false d e f h = absurd (cc h)
+  by false b d e f h = absurd (cc h)
+
+-- the source is NAME.vbe
+abbrev IsNamed : FlowCommand → Type 0
+IsNamed f = f.source ≡ f.out ++ codes ".vbe"
+
+named_by : (e : Encoding) (ns : Option Numbers) (l o : Option (List ℕ)) (f : FlowCommand) → flow_with (option_map generated o) (Some e) ns l o ≡ Some f → IsNamed f
+named_by e ns l None f h = absurd (cc h)
+named_by e None l (Some o) f h = absurd (cc h)
+named_by e (Some ns) None (Some o) f h = absurd (cc h)
+named_by e (Some ns) (Some l) (Some o) f h =
+    let made : FlowCommand = record {
+      source = o ++ codes ".vbe";
+      library = l;
+      out = o;
+      encoding = e;
+      rows = ns.rows;
+      metals = ns.metals;
+      seed = ns.seed;
+      moves = ns.moves;
+      nodes = ns.nodes;
+      fanout = ns.fanout;
+    } in
+    let same : made ≡ f = cc h in
+    subst IsNamed same refl
+
+gen_by : (n : Option ℕ) (f : Option FlowCommand) (c : GenCommand) → ((k : ℕ) → n ≡ Some k → (8 ≤ k) × (k ≤ 4000)) → ((x : FlowCommand) → f ≡ Some x → IsNamed x)
+    → option_map command.Gen (gen_with n f) ≡ Some (command.Gen c) → IsFitting c
+gen_by None f c bounds named h = absurd (cc h)
+gen_by (Some n) None c bounds named h = absurd (cc h)
+gen_by (Some n) (Some f) c bounds named h =
+    let made : GenCommand = record { size = n; flow = f } in
+    let same : made ≡ c = cc h in
+    subst IsFitting same (record { least = (bounds n refl).0; most = (bounds n refl).1; source = named f refl })
+
+other : {A : Type 0} (f : A → Command) (o : Option A) (c : GenCommand) → ((a : A) → f a ≡ command.Gen c → ⊥) → option_map f o ≡ Some (command.Gen c) → ⊥
+other f None c never h = cc h
+other f (Some a) c never h = never a (cc h)
+
+no_asimut_on : (s p : List ℕ) (b : Bool) (l : Option (List ℕ)) (c : GenCommand) → asimut_on s p b l ≡ Some (command.Gen c) → ⊥
+no_asimut_on s p false None c h = cc h
+no_asimut_on s p false (Some l) c h = cc h
+no_asimut_on s p true None c h = cc h
+no_asimut_on s p true (Some l) c h = cc h
+
+no_asimut : (s p l : Option (List ℕ)) (c : GenCommand) → asimut_with s p l ≡ Some (command.Gen c) → ⊥
+no_asimut None p l c h = cc h
+no_asimut (Some s) None l c h = cc h
+no_asimut (Some s) (Some p) l c h = no_asimut_on s p _ l c h
+
+from_gen : (t : Tool) (endings : List (List ℕ)) (g : List Row) (c : GenCommand) → command_from t endings g ≡ Some (command.Gen c) → IsFitting c
+from_gen tool.Gen endings g c h =
+    gen_by (number_of size g) (flow_on (option_map generated (text_of out g)) (Some encoding_variant.Adjacent) g) c (λ k e. within k (first_of size.name g) e)
+    (λ x e. named_by encoding_variant.Adjacent (numbers_of g) (text_of library g) (text_of out g) x e) h
+from_gen tool.Flow endings g c h = absurd (other command.Flow _ c (λ a e. cc e) h)
+from_gen tool.Syf endings g c h = absurd (other command.Syf _ c (λ a e. cc e) h)
+from_gen tool.Boom endings g c h = absurd (other command.Boom _ c (λ a e. cc e) h)
+from_gen tool.Boog endings g c h = absurd (other command.Boog _ c (λ a e. cc e) h)
+from_gen tool.Asimut endings g c h = absurd (no_asimut _ _ _ c h)
+from_gen tool.Cougar endings g c h = absurd (other command.Cougar _ c (λ a e. cc e) h)
+from_gen tool.Lvx endings g c h = absurd (other command.Lvx _ c (λ a e. cc e) h)
+from_gen tool.Druc endings g c h = absurd (other command.Druc _ c (λ a e. cc e) h)
+from_gen tool.Proof endings g c h = absurd (other command.Proof _ c (λ a e. cc e) h)
+from_gen tool.Flatbeh endings g c h = absurd (other command.Flatbeh _ c (λ a e. cc e) h)
+
+in_gen : (o : Option Entry) (ws : List (List ℕ)) (c : GenCommand) → command_by o ws ≡ Some (command.Gen c) → IsFitting c
+in_gen None ws c h = absurd (cc h)
+in_gen (Some e) ws c h = by (are_taken e ws) h where
+  by : (b : Bool) → cond b (command_from e.tool e.endings (given e ws)) None ≡ Some (command.Gen c) → IsFitting c
+  by true h = from_gen e.tool e.endings (given e ws) c h
+  by false h = absurd (cc h)
+
+gen_fits : (ws : List (List ℕ)) (c : GenCommand) → command_of ws ≡ Some (command.Gen c) → IsFitting c
+gen_fits [] c h = absurd (cc h)
+gen_fits (word ∷ ws) c h = in_gen (entry_of word) ws c h
+
+pub fitting : (ws : List (List ℕ)) (k : Command) → command_of ws ≡ Some k → IfSome (as_gen (Some k)) IsFitting
+fitting ws (command.Gen c) h = gen_fits ws c h
+fitting ws (command.Flow c) h = tt
+fitting ws (command.Syf c) h = tt
+fitting ws (command.Boom c) h = tt
+fitting ws (command.Boog c) h = tt
+fitting ws (command.Asimut c) h = tt
+fitting ws (command.AsimutNetlist c) h = tt
+fitting ws (command.Cougar c) h = tt
+fitting ws (command.Lvx c) h = tt
+fitting ws (command.Druc c) h = tt
+fitting ws (command.Proof c) h = tt
+fitting ws (command.Flatbeh c) h = tt
+
+pub run_at : (ws : List (List ℕ)) (k : Command) (before now : Outside) (s : Status) → command_of ws ≡ Some k → IfSome (as_gen (Some k)) (λ c. IsRun c before now s)
+    → IfSome (gen_of ws) (λ c. IsRun c before now s)
+run_at ws k before now s is h = subst (λ (o : Option Command). IfSome (as_gen o) (λ c. IsRun c before now s)) (sym is) h
+
+both : {A : Type 0} {P Q R : A → Type 0} (o : Option A) → ((x : A) → P x → Q x → R x) → IfSome o P → IfSome o Q → IfSome o R
+both None f p q = tt
+both (Some x) f p q = f x p q
+
+pub gen_headline_at : RunsHaveHeadlines → (ws : List (List ℕ)) (k : Command) (before now : Outside) (s : Status) → command_of ws ≡ Some k
+    → IfSome (as_gen (Some k)) (λ c. IsRun c before now s) → IfSome (gen_of ws) (λ c. s ≡ status.Accepted → IsGenHeadline c before now)
+gen_headline_at law ws k before now s is h =
+    subst (λ (o : Option Command). IfSome (as_gen o) (λ c. s ≡ status.Accepted → IsGenHeadline c before now)) (sym is)
+    (both (as_gen (Some k)) (λ c fit run accepted. law c before now s fit run accepted) (fitting ws k is) h)
+
+pub gen_free_at : FreeRunsEnd → (ws : List (List ℕ)) (k : Command) (before now : Outside) (s : Status) → command_of ws ≡ Some k
+    → IfSome (as_gen (Some k)) (λ c. IsRun c before now s) → IfSome (gen_of ws) (λ c. IsGenFree c before now → (s ≡ status.Accepted) ⊎ (s ≡ status.Memory))
+gen_free_at law ws k before now s is h =
+    subst (λ (o : Option Command). IfSome (as_gen o) (λ c. IsGenFree c before now → (s ≡ status.Accepted) ⊎ (s ≡ status.Memory))) (sym is)
+    (both (as_gen (Some k)) (λ c fit run free. law c before now s fit run free) (fitting ws k is) h)
+
+pub never_run : (ws : List (List ℕ)) (e : WordsError) (before now : Outside) (s : Status) → IsUntouched before now → s ≡ status_of e
+    → (IsErrOf {T = Command} (Err e) words.Usage → command_of ws ≡ None) → IfSome (gen_of ws) (λ c. IsRun c before now s)
+never_run ws words.Usage before now s same is none = subst (λ (o : Option Command). IfSome (as_gen o) (λ c. IsRun c before now s)) (sym (none refl)) tt
+never_run ws words.Memory before now s same is none =
+    subst (λ (x : Status). IfSome (gen_of ws) (λ c. IsRun c before now x)) (sym is) (all_some (gen_of ws) (λ c. unwritten same))
+
+pub no_gen_headline : (ws : List (List ℕ)) (e : WordsError) (before now : Outside) (s : Status) → s ≡ status_of e
+    → IfSome (gen_of ws) (λ c. s ≡ status.Accepted → IsGenHeadline c before now)
+no_gen_headline ws e before now s is = all_some (gen_of ws) (λ c accepted. absurd (not_accepted e s is accepted))
+
+pub no_gen_free : (ws : List (List ℕ)) (e : WordsError) (before now : Outside) (s : Status) → s ≡ status_of e → (IsErrOf {T = Command} (Err e) words.Usage → command_of ws ≡ None)
+    → IfSome (gen_of ws) (λ c. IsGenFree c before now → (s ≡ status.Accepted) ⊎ (s ≡ status.Memory))
+no_gen_free ws words.Usage before now s is none =
+    subst (λ (o : Option Command). IfSome (as_gen o) (λ c. IsGenFree c before now → (s ≡ status.Accepted) ⊎ (s ≡ status.Memory))) (sym (none refl)) tt
+no_gen_free ws words.Memory before now s is none = all_some (gen_of ws) (λ c free. inr is)

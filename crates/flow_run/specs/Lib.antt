@@ -9,3 +9,4 @@ pub mod Drawn
 pub mod Flow
 pub mod Causes
 pub mod Laws
+pub mod Generated

@@ -1,5 +1,5 @@
 // `flow` as a tool: what it reads, and what it answers.
-ghost use Rattle.std.specs.Prelude.{◌≡◌, ◌≤◌, ◌<◌, ◌+◌, ◌-◌, ◌^◌, true, IfOk, IfErr, OnOk, length, codes};
+ghost use Rattle.std.specs.Prelude.{◌≡◌, ◌≤◌, ◌<◌, ◌+◌, ◌-◌, ◌^◌, true, IfOk, IfErr, OnOk, length};
 ghost use Rattle.machine_meaning.specs.Size.{machine_size};
 ghost use Rattle.source_meaning.specs.Checks.{most_ports};
 ghost use Rattle.boog_map.specs.Netlist.{Covers};
@@ -256,9 +256,10 @@ impl Tool for Flow<'_> {
     }
 }
 
-/// Runs `flow` by the driver.
+/// Runs `flow` by the driver; the lines of refusals have this word in front.
 pub fn run_flow<S: Shelf, T: Sink>(
     alloc: Global,
+    word: &[u8],
     command: &FlowCommand,
     shelf: &mut S,
     out: &mut T,
@@ -267,9 +268,9 @@ pub fn run_flow<S: Shelf, T: Sink>(
         (outside (S.seen shelf.old) (T.seen out.old)) (outside (S.seen shelf.new) (T.seen out.new)) result }
     ensures complete { IsComplete (flow_plan command.now) (flow_answers command.now)
         (outside (S.seen shelf.old) (T.seen out.old)) (outside (S.seen shelf.new) (T.seen out.new)) result }
-    ensures line { has_line result ≡ true → IsLine (T.seen out.old) (T.seen out.new) (line_of (codes "flow") result) }
+    ensures line { has_line result ≡ true → IsLine (T.seen out.old) (T.seen out.new) (line_of word.now result) }
     ensures never_usage { result ≡ Status.Usage → ⊥ }
 {
     let tool = Flow { command };
-    drive(alloc, b"flow", &tool, shelf, out)
+    drive(alloc, word, &tool, shelf, out)
 }

@@ -1,13 +1,14 @@
 //! The top call of the program: words in, files and a report out, a status with its cause.
 //!
 //! `alliance_main` is what the program does. What `flow` reads and answers stands in `specs/Flow.antt`, and what its layout is,
-//! in `specs/Causes.antt` and `specs/RightLayout.antt`, of a state machine besides in `specs/States.antt`; when each status comes and
-//! what it leaves, for all tools, in `specs/Table.antt` of `tool_drive`; the words of a command, in `specs/` of `tool_words`. What
-//! `syf`, `boom`, `boog`, `cougar` and `asimut` read and answer stands in `syf_run`, `boom_run`, `boog_run`, `cougar_run` and
-//! `asimut_run`.
+//! in `specs/Causes.antt` and `specs/RightLayout.antt`, of a state machine besides in `specs/States.antt`; what a run of `gen` is, in
+//! `specs/Generated.antt`; when each status comes and what it leaves, for all tools, in `specs/Table.antt` of `tool_drive`; the words
+//! of a command, in `specs/` of `tool_words`. What each other tool reads and answers stands in the crate that is called like it, as
+//! `syf_run` and `boom_run`.
 #![tactic(auto)]
 
 mod flow;
+mod gen_run;
 mod layout;
 mod reading;
 mod report;
@@ -15,6 +16,7 @@ mod right_layout;
 mod source;
 mod top;
 
+pub use gen_run::{circuit_law, gen_law};
 pub use reading::reading_law;
 pub use right_layout::right_layout_law;
 pub use top::alliance_main;

@@ -1,16 +1,18 @@
 // The top call: words, and then the tool that they ask for.
 ghost use Rattle.std.specs.Prelude.{◌≡◌, ◌⊎◌, true, IfSome, Some, None};
-ghost use Rattle.tool_words.specs.Commands.{command_of, as_flow, flow_of};
+ghost use Rattle.tool_words.specs.Commands.{command_of, as_flow, flow_of, as_gen, gen_of, word_of};
 ghost use Rattle.tool_drive.specs.Outside.{outside, IsLine};
 ghost use Rattle.tool_drive.specs.Status.{has_line};
 ghost use Rattle.tool_drive.specs.Lines.{line_of as line_of_tool};
 ghost use Rattle.tool_drive.specs.Table.{Caused, IsComplete};
-ghost use Rattle.tool_run.specs.Usage.{word_of, line_of};
+ghost use Rattle.tool_run.specs.Usage.{line_of};
 ghost use Rattle.tool_run.specs.Answers.{IsAnswerTo};
 ghost use Rattle.flow_run.specs.Flow.{flow_plan, flow_answers};
 ghost use Rattle.flow_run.specs.Causes.{IsHeadline, IsFree};
+ghost use Rattle.flow_run.specs.Generated.{IsFitting, IsRun, IsGenHeadline, IsGenFree};
 
 use crate::flow::run_flow;
+use crate::gen_run::{gen_law, run_gen};
 use crate::reading::reading_law;
 use std::alloc::Global;
 use tool_run::{Status, refuse_words, run_tool};
@@ -19,9 +21,12 @@ use vlsi_shelf::{Shelf, Sink};
 
 // Runs the tool that a command is for.
 fn run<S: Shelf, T: Sink>(alloc: Global, command: &Command, shelf: &mut S, out: &mut T) -> Status
+    requires { IfSome (as_gen (Some command.now)) IsFitting }
     ensures cause { IfSome (as_flow (Some command.now)) (λ c. Caused (flow_plan c) (flow_answers c)
         (outside (S.seen shelf.old) (T.seen out.old)) (outside (S.seen shelf.new) (T.seen out.new)) result) }
     ensures complete { IfSome (as_flow (Some command.now)) (λ c. IsComplete (flow_plan c) (flow_answers c)
+        (outside (S.seen shelf.old) (T.seen out.old)) (outside (S.seen shelf.new) (T.seen out.new)) result) }
+    ensures run { IfSome (as_gen (Some command.now)) (λ c. IsRun c
         (outside (S.seen shelf.old) (T.seen out.old)) (outside (S.seen shelf.new) (T.seen out.new)) result) }
     ensures answer { IsAnswerTo command.now
         (outside (S.seen shelf.old) (T.seen out.old)) (outside (S.seen shelf.new) (T.seen out.new)) result }
@@ -30,7 +35,8 @@ fn run<S: Shelf, T: Sink>(alloc: Global, command: &Command, shelf: &mut S, out: 
     ensures never_usage { result ≡ Status.Usage → ⊥ }
 {
     match command {
-        Command::Flow(flow) => run_flow(alloc, flow, shelf, out),
+        Command::Flow(flow) => run_flow(alloc, b"flow", flow, shelf, out),
+        Command::Gen(generate) => run_gen(alloc, generate, shelf, out),
         Command::Syf(_)
         | Command::Boom(_)
         | Command::Boog(_)
@@ -44,19 +50,32 @@ fn run<S: Shelf, T: Sink>(alloc: Global, command: &Command, shelf: &mut S, out: 
     }
 }
 
-/// Does what the words ask, over a shelf and a sink: `flow` lays the source out with the cells of the library, `syf` makes a data-flow
-/// source of a state machine, `boom` makes the source smaller, `boog` makes a netlist of these cells, `asimut` runs patterns on the
-/// source, or on the netlist of the library's cells, `cougar` takes the netlist out of a layout of these cells.
+/// Does what the words ask, over a shelf and a sink: `flow` lays the source out with the cells of the library, `gen` first makes a
+/// source of a number, `syf` makes a data-flow source of a state machine, `boom` makes the source smaller, `boog` makes a netlist of
+/// these cells, `asimut` runs patterns on the source, or on the netlist of the library's cells, `cougar` takes the netlist out of a
+/// layout of these cells, `lvx` compares two netlists by name, `druc` lists where a layout breaks the rules, `proof` compares two
+/// sources as functions, and `flatbeh` makes a data-flow source of a netlist.
 ///
 /// The words are taken apart first, and only then is a file read. A tool reads its files in their order, then writes its file,
-/// if it has one, and then prints its text by one put. `flow` reads SOURCE, CATAL, and the behaviour and the layout of each cell
-/// that this uses, writes the layout to NAME.ap and prints the report. `syf` reads SOURCE, writes the data-flow source to NAME.vbe and
-/// prints each state with its code. `boom` reads SOURCE, writes the smaller one to NAME.vbe and prints how large it is. `boog` reads
-/// the same files as `flow`, writes the netlist to NAME.vst and prints how many cells it has. `asimut` reads SOURCE and PATTERNS, for
-/// a netlist also CATAL and the behaviour and the layout of each cell that this uses, and prints the patterns with every output filled
-/// in. `cougar` reads the same files as `boog`, with a layout for SOURCE, writes the netlist to NAME.vst and prints how many cells and
-/// nets it has. A refusal prints its line by one put; if that fails the status stays as it was. Memory for what is read and answered
-/// is taken on `alloc` and given back.
+/// if it has one, and then prints its text by one put.
+///
+/// - `flow` reads SOURCE, CATAL, and the behaviour and the layout of each cell that this uses, writes the layout to NAME.ap and
+///   prints the report.
+/// - `gen` first writes the source to NAME.vbe, and then does with it what `flow` does.
+/// - `syf` reads SOURCE, writes the data-flow source to NAME.vbe and prints each state with its code.
+/// - `boom` reads SOURCE, writes the smaller one to NAME.vbe and prints how large it is.
+/// - `boog` reads the same files as `flow`, writes the netlist to NAME.vst and prints how many cells it has.
+/// - `asimut` reads SOURCE and PATTERNS, for a netlist also CATAL and the behaviour and the layout of each cell that this uses, and
+///   prints the patterns with every output filled in.
+/// - `cougar` reads the same files as `boog`, with a layout for SOURCE, writes the netlist to NAME.vst and prints how many cells and
+///   nets it has.
+/// - `lvx` reads SOURCE, OTHER, and the files of the library, and prints that the netlists are the same.
+/// - `druc` reads the same files as `cougar`, and prints what breaks the rules, and how often.
+/// - `proof` reads SOURCE and OTHER, and prints that they are equal.
+/// - `flatbeh` reads the same files as `boog`, with a netlist for SOURCE, writes the source to NAME.vbe and prints how large it is.
+///
+/// A refusal prints its line by one put; if that fails the status stays as it was. Memory for what is read and answered is taken on
+/// `alloc` and given back.
 pub fn alliance_main<S: Shelf, T: Sink>(
     alloc: Global,
     words: &Words,
@@ -85,6 +104,21 @@ pub fn alliance_main<S: Shelf, T: Sink>(
     ensures lays { IfSome (flow_of words.now) (λ c. IsFree c (outside (S.seen shelf.old) (T.seen out.old)) (outside (S.seen shelf.new) (T.seen out.new))
         → (result ≡ Status.Accepted) ⊎ (result ≡ Status.Memory)) }
 
+    // `gen` writes NAME.vbe, the text of the circuit that is made of the seed, and answers from there as `flow` does; or it can't
+    // write it.
+    ensures run { IfSome (gen_of words.now) (λ c. IsRun c
+        (outside (S.seen shelf.old) (T.seen out.old)) (outside (S.seen shelf.new) (T.seen out.new)) result) }
+
+    // Where it answers 0, NAME.vbe is the text of exactly this circuit and NAME.ap is a right layout of it, and the report on it was
+    // printed.
+    ensures generated { IfSome (gen_of words.now) (λ c. result ≡ Status.Accepted
+        → IsGenHeadline c (outside (S.seen shelf.old) (T.seen out.old)) (outside (S.seen shelf.new) (T.seen out.new))) }
+
+    // Where all files of the library are there, and are one that covers it, no diagram is over the budget, and no call failed, it
+    // answers 0, or out of memory.
+    ensures generates { IfSome (gen_of words.now) (λ c. IsGenFree c (outside (S.seen shelf.old) (T.seen out.old)) (outside (S.seen shelf.new) (T.seen out.new))
+        → (result ≡ Status.Accepted) ⊎ (result ≡ Status.Memory)) }
+
     // The answers of every other tool: each has its cause and leaves the files that its row says, and over told files, where nothing
     // failed, it is what the files come to.
     ensures answer { IfSome (command_of words.now) (λ k. IsAnswerTo k
@@ -95,6 +129,7 @@ pub fn alliance_main<S: Shelf, T: Sink>(
 {
     words_law();
     reading_law();
+    gen_law();
     match read_words(alloc, words) {
         Ok(command) => run(alloc, &command, shelf, out),
         Err(error) => refuse_words(alloc, words, error, out),

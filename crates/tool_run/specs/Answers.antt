@@ -1,4 +1,4 @@
--- What the tools beside `flow` answer.
+-- What the tools beside `flow` and `gen` answer.
 use Rattle.std.proofs.Common.{inl}
 use Rattle.std.specs.Prelude.{ℕ, Result}
 use Rattle.tool_words.specs.declared.command.Command.{Command}
@@ -29,6 +29,7 @@ IsAnswer plan A before now s = Caused plan A before now s × IsComplete plan A b
 -- so it is of the tool that the command is for, by its plan and by how what is read and what is answered belong together
 abbrev pub IsAnswerTo : Command → Outside → Outside → Status → Type 0
 IsAnswerTo (command.Flow c) before now s = Unit {0}
+IsAnswerTo (command.Gen c) before now s = Unit {0}
 IsAnswerTo (command.Syf c) before now s = IsAnswer (syf_plan c) (syf_answers c) before now s
 IsAnswerTo (command.Boom c) before now s = IsAnswer (boom_plan c) (boom_answers c) before now s
 IsAnswerTo (command.Boog c) before now s = IsAnswer (boog_plan c) (boog_answers c) before now s
@@ -45,6 +46,7 @@ IsAnswerTo (command.Flatbeh c) before now s = IsAnswer (flatbeh_plan c) (flatbeh
 -- out of memory answers everything, where no file changed
 pub memory_answer : (k : Command) (before now : Outside) → IsUntouched before now → IsAnswerTo k before now status.Memory
 memory_answer (command.Flow c) before now same = tt
+memory_answer (command.Gen c) before now same = tt
 memory_answer (command.Syf c) before now same = (inl same, memory_complete (syf_plan c) (syf_answers c) before now)
 memory_answer (command.Boom c) before now same = (inl same, memory_complete (boom_plan c) (boom_answers c) before now)
 memory_answer (command.Boog c) before now same = (inl same, memory_complete (boog_plan c) (boog_answers c) before now)

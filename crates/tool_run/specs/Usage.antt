@@ -1,5 +1,5 @@
 -- The lines that refusals print, whatever the words.
-use Rattle.std.specs.Prelude.{ℕ, Bool, true, false, List, [], ◌∷◌, codes}
+use Rattle.std.specs.Prelude.{ℕ, Bool, true, false, List, [], ◌∷◌}
 use Rattle.tool_words.specs.Usage.{usage_of}
 use Rattle.tool_words.specs.declared.words.WordsError.{WordsError}
 use Rattle.tool_words.specs.declared.words.WordsError.TheVariants as words
@@ -9,32 +9,20 @@ use Rattle.tool_drive.specs.declared.status.Status.{Status}
 use Rattle.tool_drive.specs.declared.status.Status.TheVariants as status
 use Rattle.tool_drive.specs.Lines.{line_of as line_of_tool}
 
--- the word of a command's tool
-abbrev pub word_of : Command → List ℕ
-word_of (command.Flow c) = codes "flow"
-word_of (command.Syf c) = codes "syf"
-word_of (command.Boom c) = codes "boom"
-word_of (command.Boog c) = codes "boog"
-word_of (command.Asimut c) = codes "asimut"
-word_of (command.AsimutNetlist c) = codes "asimut"
-word_of (command.Cougar c) = codes "cougar"
-word_of (command.Lvx c) = codes "lvx"
-word_of (command.Druc c) = codes "druc"
-word_of (command.Proof c) = codes "proof"
-word_of (command.Flatbeh c) = codes "flatbeh"
-
-abbrev pub is_flow : Command → Bool
-is_flow (command.Flow c) = true
-is_flow (command.Syf c) = false
-is_flow (command.Boom c) = false
-is_flow (command.Boog c) = false
-is_flow (command.Asimut c) = false
-is_flow (command.AsimutNetlist c) = false
-is_flow (command.Cougar c) = false
-is_flow (command.Lvx c) = false
-is_flow (command.Druc c) = false
-is_flow (command.Proof c) = false
-is_flow (command.Flatbeh c) = false
+-- the tools that lay a source out, which this crate doesn't run
+abbrev pub lays_out : Command → Bool
+lays_out (command.Flow c) = true
+lays_out (command.Gen c) = true
+lays_out (command.Syf c) = false
+lays_out (command.Boom c) = false
+lays_out (command.Boog c) = false
+lays_out (command.Asimut c) = false
+lays_out (command.AsimutNetlist c) = false
+lays_out (command.Cougar c) = false
+lays_out (command.Lvx c) = false
+lays_out (command.Druc c) = false
+lays_out (command.Proof c) = false
+lays_out (command.Flatbeh c) = false
 
 -- the word that stands first
 abbrev pub tool_of : List (List ℕ) → List ℕ

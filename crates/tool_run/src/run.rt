@@ -1,9 +1,10 @@
-// The tools beside `flow`, each by the driver.
+// The tools beside `flow` and `gen`, each by the driver.
 ghost use Rattle.std.specs.Prelude.{◌≡◌, true, false};
 ghost use Rattle.tool_drive.specs.Outside.{outside, IsLine};
 ghost use Rattle.tool_drive.specs.Status.{has_line};
 ghost use Rattle.tool_drive.specs.Lines.{line_of};
-ghost use Rattle.tool_run.specs.Usage.{is_flow, word_of};
+ghost use Rattle.tool_words.specs.Commands.{word_of};
+ghost use Rattle.tool_run.specs.Usage.{lays_out};
 ghost use Rattle.tool_run.specs.Answers.{IsAnswerTo};
 
 use asimut_run::{Asimut, AsimutNetlist};
@@ -20,14 +21,14 @@ use tool_drive::{Status, drive};
 use tool_words::Command;
 use vlsi_shelf::{Shelf, Sink};
 
-/// Runs the tool that a command is for. `flow` isn't run here, but by the crate that has the top call.
+/// Runs the tool that a command is for. `flow` and `gen` aren't run here, but by the crate that has the top call.
 pub fn run_tool<S: Shelf, T: Sink>(
     alloc: Global,
     command: &Command,
     shelf: &mut S,
     out: &mut T,
 ) -> Status
-    requires { is_flow command.now ≡ false }
+    requires { lays_out command.now ≡ false }
     // Every status has its cause and leaves the files that its row says, and over told files, where nothing failed, it is what the
     // files come to.
     ensures answer { IsAnswerTo command.now
@@ -38,7 +39,7 @@ pub fn run_tool<S: Shelf, T: Sink>(
     ensures never_usage { result ≡ Status.Usage → ⊥ }
 {
     match command {
-        Command::Flow(_) => unreachable!(),
+        Command::Flow(_) | Command::Gen(_) => unreachable!(),
         Command::Syf(command) => drive(alloc, b"syf", &Syf { command }, shelf, out),
         Command::Boom(command) => drive(alloc, b"boom", &Boom { command }, shelf, out),
         Command::Boog(command) => drive(alloc, b"boog", &Boog { command }, shelf, out),

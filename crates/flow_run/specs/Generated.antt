@@ -1,0 +1,119 @@
+-- What a run of `gen` is: the text of a circuit is written as NAME.vbe, and from there `flow` answers.
+use Rattle.std.specs.Prelude.{◌≡◌, ◌⊎◌, ◌≤◌, true, ℕ, ◌++◌, List, codes, Option, Some, IfSome}
+use Rattle.std.specs.FinMap.{get, insert}
+use Rattle.vlsi_shelf.specs.Files.{Files}
+use Rattle.vlsi_shelf.specs.Counts.{Rose, NoneFalls}
+use Rattle.vlsi_shelf.specs.Shelf.{Writes, SameBut}
+use Rattle.vlsi_shelf.specs.Sink.{Puts}
+use Rattle.machine_meaning.specs.Machine.{Machine}
+use Rattle.machine_alike.specs.Alike.{IsAlike}
+use Rattle.vbe_io.specs.Text.{IsVbe}
+use Rattle.vbe_again.specs.Said.{text}
+use Rattle.catal.specs.Cells.{cells_in}
+use Rattle.cell_model.specs.Library.{Library}
+use Rattle.cell_lib.specs.Files.{catal_name, cell_files}
+use Rattle.cell_lib.specs.Library.{IsLibraryOf}
+use Rattle.boog_map.specs.Netlist.{Covers}
+use Rattle.gen_circuit.specs.Generated.{generated}
+use Rattle.gen_circuit.specs.declared.making.TheConstants.{LEAST_SIZE, MOST_SIZE}
+use Rattle.tool_words.specs.declared.command.GenCommand.{GenCommand}
+use Rattle.tool_drive.specs.declared.status.Status.{Status}
+use Rattle.tool_drive.specs.declared.status.Status.TheVariants as status
+use Rattle.tool_drive.specs.declared.status.FileCause.TheVariants.{WriteFault}
+use Rattle.tool_drive.specs.Outside.{Outside, IsUntouched, NothingFailed}
+use Rattle.tool_drive.specs.Held.{Holds, AreHad}
+use Rattle.tool_drive.specs.Table.{Caused, IsComplete}
+use Rattle.flow_run.specs.Flow.{flow_plan, flow_answers, IsWithinNodes, IsRefused}
+use Rattle.flow_run.specs.Causes.{IsDrawn}
+
+-- What words that spell `gen` ask for: a circuit of 8 to 4,000 gates, and NAME.vbe for SOURCE.
+pub record IsFitting (c : GenCommand) : Type 0 where
+  pub least : LEAST_SIZE ≤ c.size
+  pub most : c.size ≤ MOST_SIZE
+  pub source : c.flow.source ≡ c.flow.out ++ codes ".vbe"
+
+-- the circuit of the size and the seed that are asked for, and its text
+abbrev pub circuit_of : GenCommand → Machine
+circuit_of c = generated c.flow.seed c.size
+
+abbrev pub circuit_text : GenCommand → List ℕ
+circuit_text c = text (circuit_of c)
+
+-- ---- a run
+
+-- The source wasn't written: memory ran out, and no file changed; or the shelf failed, and no other file changed.
+abbrev pub IsUnwritten : GenCommand → Outside → Outside → Status → Type 0
+IsUnwritten c before now status.Memory = IsUntouched before now
+IsUnwritten c before now (status.File WriteFault name) =
+    (name ≡ c.flow.source) × Rose before.counts.write_faults now.counts.write_faults × SameBut before.files now.files name
+IsUnwritten c before now s = ⊥
+
+-- NAME.vbe was written: it holds the text of the circuit, no other file changed, and nothing was printed.
+pub record IsWritten (c : GenCommand) (before now : Outside) : Type 0 where
+  pub files : Writes before.files now.files c.flow.source (circuit_text c)
+  pub counts : NoneFalls before.counts now.counts
+  pub told : now.told ≡ before.told
+  pub faults : now.faults ≡ before.faults
+
+-- Either the source wasn't written; or it was, and then `flow` answered what it answers to the files that stood there now: with its
+-- cause, and over told files, where nothing failed, what they come to.
+pub data IsRun (c : GenCommand) (before now : Outside) (s : Status) : Type 0 where
+  unwritten : IsUnwritten c before now s → IsRun c before now s
+  laid : (written : Outside) → IsWritten c before written → Caused (flow_plan c.flow) (flow_answers c.flow) written now s
+      → IsComplete (flow_plan c.flow) (flow_answers c.flow) written now s → IsRun c before now s
+
+-- ---- the headline
+
+-- the files with NAME.vbe written
+abbrev pub with_source : Files → GenCommand → Files
+with_source files c = insert files c.flow.source (circuit_text c)
+
+-- NAME.vbe holds the text of exactly this circuit; what that says is a machine that is alike; NAME.ap is a right layout of it, by the
+-- library that stood there, on which the report is this one; and every other file is as it was.
+pub record IsGenerated (old : Files) (now : Option Files) (c : GenCommand) (report : List ℕ) : Type 0 where
+  pub drawn : IsDrawn (with_source old c) now c.flow report
+  pub said : IsVbe (circuit_text c) drawn.m
+  pub alike : IsAlike (circuit_of c) drawn.m
+  pub stands : IfSome now (λ files. get files c.flow.source ≡ Some (circuit_text c))
+
+-- exactly the report was printed, and source and layout stand whole
+abbrev pub IsGenHeadline : GenCommand → Outside → Outside → Type 0
+IsGenHeadline c before now = (report : List ℕ) × Puts before.told now.told report × IfSome before.files (λ old. IsGenerated old now.files c report)
+
+-- ---- completeness
+
+-- Nothing stands in the way: the files are told; with NAME.vbe written, all files of the library are there, and are one whose cells
+-- may be drawn with tracks, with a usable cell of each kind that mapping needs; no diagram of the source's roots is over the budget, in
+-- whichever order its equations stand; and no call on the shelf or the sink failed.
+pub record IsGenFree (c : GenCommand) (before now : Outside) : Type 0 where
+  pub files : Files
+  pub told : before.files ≡ Some files
+  pub catal : List ℕ
+  pub cells : List (List ℕ)
+  pub catal_is : Holds (with_source files c) (catal_name c.flow.library) catal
+  pub cells_are : AreHad (with_source files c) (cell_files c.flow.library (cells_in catal)) cells
+  pub l : Library
+  pub library : IsLibraryOf true catal cells l
+  pub covered : Covers l (circuit_of c)
+  pub within : (m : Machine) → IsVbe (circuit_text c) m → IsWithinNodes m c.flow.nodes
+  pub ran : NothingFailed before now
+  pub printed : Rose before.faults now.faults → ⊥
+
+-- ---- laws
+
+-- Whatever the circuit, what is written of it is never refused, where a library covers it and no diagram is over the budget.
+abbrev pub CircuitsAreNeverRefused : Type 0
+CircuitsAreNeverRefused =
+    (c : GenCommand) (catal : List ℕ) (cells : List (List ℕ)) (l : Library) (s : Status)
+    → IsFitting c → IsLibraryOf true catal cells l → Covers l (circuit_of c)
+    → ((m : Machine) → IsVbe (circuit_text c) m → IsWithinNodes m c.flow.nodes) → IsRefused c.flow (circuit_text c) catal cells s → ⊥
+
+-- From a run to its headline, and to an answer of 0.
+abbrev pub RunsHaveHeadlines : Type 0
+RunsHaveHeadlines =
+    (c : GenCommand) (before now : Outside) (s : Status) → IsFitting c → IsRun c before now s → s ≡ status.Accepted → IsGenHeadline c before now
+
+abbrev pub FreeRunsEnd : Type 0
+FreeRunsEnd =
+    (c : GenCommand) (before now : Outside) (s : Status) → IsFitting c → IsRun c before now s → IsGenFree c before now
+    → (s ≡ status.Accepted) ⊎ (s ≡ status.Memory)

@@ -1,0 +1,25 @@
+-- What is written of a circuit, and what that is read as.
+use Rattle.std.specs.Prelude.{◌≡◌, ◌≤◌}
+use Rattle.vlsi_base.specs.declared.fault.ReadError.{ReadError}
+use Rattle.vlsi_base.specs.declared.fault.ReadError.TheVariants as errors
+use Rattle.machine_meaning.specs.Machine.{Machine}
+use Rattle.machine_meaning.specs.Size.{machine_size}
+use Rattle.machine_alike.specs.Alike.{IsAlike}
+use Rattle.vbe_io.specs.Text.{IsVbe, IsVbeRefusal}
+use Rattle.vbe_write.specs.Writable.{CanBeVbe}
+use Rattle.vbe_again.specs.Said.{text, IsWithinLimits}
+use Rattle.gen_circuit.specs.Laws.{OfEveryCircuit}
+
+-- A text can declare the names of each circuit, and that text is within the limits of texts, of which one is that of its bytes.
+abbrev pub CircuitsCanBeWritten : Type 0
+CircuitsCanBeWritten = OfEveryCircuit (λ size m. CanBeVbe m × IsWithinLimits m)
+
+-- What the text of a circuit is read as is a machine that is alike, and that weighs at most 16,384; and the text is refused only where
+-- memory has run out.
+pub record IsReadAgain (m : Machine) : Type 0 where
+  pub alike : (k : Machine) → IsVbe (text m) k → IsAlike m k
+  pub light : (k : Machine) → IsVbe (text m) k → machine_size k ≤ 16384
+  pub accepted : (e : ReadError) → IsVbeRefusal (text m) e → e ≡ errors.Memory
+
+abbrev pub CircuitsAreReadAgain : Type 0
+CircuitsAreReadAgain = OfEveryCircuit (λ size m. IsReadAgain m)
