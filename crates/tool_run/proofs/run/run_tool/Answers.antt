@@ -1,9 +1,34 @@
 use Rattle.std.proofs.Common.{sym, subst}
 use Rattle.tool_words.specs.declared.command.Command.{Command}
+use Rattle.tool_words.specs.Commands.{word_of}
 use Rattle.tool_drive.specs.Outside.{IsLine}
 use Rattle.tool_drive.specs.Lines.{line_of}
-use Rattle.tool_run.specs.Usage.{word_of}
 use Rattle.tool_run.proofs.run.run_tool.Goals as goal
+
+pub returns-in-Syf-clause-line : goal.returns-in-Syf-clause-line
+returns-in-Syf-clause-line g c lined =
+    subst (λ (k : Command). IsLine (g.T.Sink.seen c.args.out.now) (g.T.Sink.seen c.drive-in-Syf.new.out) (line_of (word_of k) c.drive-in-Syf.result)) (sym c.in-Syf.is)
+    (c.drive-in-Syf.ensures.line lined)
+
+pub returns-in-Boom-clause-line : goal.returns-in-Boom-clause-line
+returns-in-Boom-clause-line g c lined =
+    subst (λ (k : Command). IsLine (g.T.Sink.seen c.args.out.now) (g.T.Sink.seen c.drive-in-Boom.new.out) (line_of (word_of k) c.drive-in-Boom.result)) (sym c.in-Boom.is)
+    (c.drive-in-Boom.ensures.line lined)
+
+pub returns-in-Boog-clause-line : goal.returns-in-Boog-clause-line
+returns-in-Boog-clause-line g c lined =
+    subst (λ (k : Command). IsLine (g.T.Sink.seen c.args.out.now) (g.T.Sink.seen c.drive-in-Boog.new.out) (line_of (word_of k) c.drive-in-Boog.result)) (sym c.in-Boog.is)
+    (c.drive-in-Boog.ensures.line lined)
+
+pub returns-in-Asimut-clause-line : goal.returns-in-Asimut-clause-line
+returns-in-Asimut-clause-line g c lined =
+    subst (λ (k : Command). IsLine (g.T.Sink.seen c.args.out.now) (g.T.Sink.seen c.drive-in-Asimut.new.out) (line_of (word_of k) c.drive-in-Asimut.result)) (sym c.in-Asimut.is)
+    (c.drive-in-Asimut.ensures.line lined)
+
+pub returns-in-AsimutNetlist-clause-line : goal.returns-in-AsimutNetlist-clause-line
+returns-in-AsimutNetlist-clause-line g c lined =
+    subst (λ (k : Command). IsLine (g.T.Sink.seen c.args.out.now) (g.T.Sink.seen c.drive-in-AsimutNetlist.new.out) (line_of (word_of k) c.drive-in-AsimutNetlist.result)) (sym c.in-AsimutNetlist.is)
+    (c.drive-in-AsimutNetlist.ensures.line lined)
 
 pub returns-in-Cougar-clause-line : goal.returns-in-Cougar-clause-line
 returns-in-Cougar-clause-line g c lined =
@@ -19,3 +44,13 @@ pub returns-in-Druc-clause-line : goal.returns-in-Druc-clause-line
 returns-in-Druc-clause-line g c lined =
     subst (λ (k : Command). IsLine (g.T.Sink.seen c.args.out.now) (g.T.Sink.seen c.drive-in-Druc.new.out) (line_of (word_of k) c.drive-in-Druc.result)) (sym c.in-Druc.is)
     (c.drive-in-Druc.ensures.line lined)
+
+pub returns-in-Proof-clause-line : goal.returns-in-Proof-clause-line
+returns-in-Proof-clause-line g c lined =
+    subst (λ (k : Command). IsLine (g.T.Sink.seen c.args.out.now) (g.T.Sink.seen c.drive-in-Proof.new.out) (line_of (word_of k) c.drive-in-Proof.result)) (sym c.in-Proof.is)
+    (c.drive-in-Proof.ensures.line lined)
+
+pub returns-in-Flatbeh-clause-line : goal.returns-in-Flatbeh-clause-line
+returns-in-Flatbeh-clause-line g c lined =
+    subst (λ (k : Command). IsLine (g.T.Sink.seen c.args.out.now) (g.T.Sink.seen c.drive-in-Flatbeh.new.out) (line_of (word_of k) c.drive-in-Flatbeh.result)) (sym c.in-Flatbeh.is)
+    (c.drive-in-Flatbeh.ensures.line lined)
