@@ -7,8 +7,8 @@ use Rattle.tool_run.proofs.run.run_tool.Goals as goal
 
 pub returns-in-Syf-clause-line : goal.returns-in-Syf-clause-line
 returns-in-Syf-clause-line g c lined =
-    subst (λ (k : Command). IsLine (g.T.Sink.seen c.args.out.now) (g.T.Sink.seen c.drive-in-Syf.new.out) (line_of (word_of k) c.drive-in-Syf.result)) (sym c.in-Syf.is)
-    (c.drive-in-Syf.ensures.line lined)
+    subst (λ (k : Command). IsLine (g.T.Sink.seen c.args.out.now) (g.T.Sink.seen c.drive.new.out) (line_of (word_of k) c.drive.result)) (sym c.in-Syf.is)
+    (c.drive.ensures.line lined)
 
 pub returns-in-Boom-clause-line : goal.returns-in-Boom-clause-line
 returns-in-Boom-clause-line g c lined =
