@@ -19,13 +19,12 @@ use Rattle.source_meaning.specs.Checks.{most_ports, if_symbol, first_repeated}
 use Rattle.vlsi_model.proofs.Bits.{different_texts, different_bits}
 use Rattle.vlsi_model.proofs.Members.{different_Sub}
 use Rattle.vlsi_model.proofs.PortBits.{ports_sub}
-use Rattle.vbe_each.proofs.Arranging.{InNameOrder, in_name_order}
+use Rattle.vbe_each.proofs.Arranging.{in_name_order}
 use Rattle.fsm_meaning.specs.Fsm.{Fsm}
 use Rattle.fsm_text.specs.Written.{MachineTree}
-use Rattle.fsm_text.specs.Texts.{IsMachine, RefusedAs}
 use Rattle.fsm_text.proofs.Laws as text
 use Rattle.fsm_io.specs.Known.{Named, named, symbols}
-use Rattle.fsm_io.specs.Checks.{most_states, ports_count, first_fault, fault_of, PassesLimit, ports, states, Passes}
+use Rattle.fsm_io.specs.Checks.{most_states, ports_count, first_fault, fault_of, PassesLimit, ports, states}
 use Rattle.fsm_io.specs.Elaboration.{frame_of, body_bits, IsMachineOf}
 use Rattle.fsm_io.specs.Text.{IsWritten, IsFsm, Refused, long, uncut, unwritten, faulty}
 use Rattle.fsm_io.proofs.Listed.{has_state}
@@ -84,13 +83,16 @@ sound bytes m written none = by (named m pragmas) refl where
       let f = machine_from m n both.0 in
       elim (limit_or_few m) [
         | inl over ↦ inr (over.0, faulty m written (inr (none, over.1)))
-        | inr few ↦ inl (f.0, record {
-          tree = m;
-          names = n;
-          written = written;
-          passes = record { names = is; no_fault = none; few_ports = few.0; some_state = has_state (tokens_in bytes) m written.machine; few_states = few.1 };
-          machine = f.1;
-        })
+        | inr few ↦ inl (
+          f.0,
+          record {
+            tree = m;
+            names = n;
+            written = written;
+            passes = record { names = is; no_fault = none; few_ports = few.0; some_state = has_state (tokens_in bytes) m written.machine; few_states = few.1 };
+            machine = f.1;
+          },
+        )
       ]
 
 of_tree : (bytes : List ℕ) (m : MachineTree) → IsWritten bytes m → Answer bytes

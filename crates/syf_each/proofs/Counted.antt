@@ -1,8 +1,7 @@
 -- The statements of a text have at most two signals for each of its tokens, of which there are no more than bytes.
-use Rattle.std.proofs.Common.{◌≡◌, ℕ, zero, suc, ◌+◌, ◌-◌, ◌*◌, ◌≤◌, Bool, false, List, [], ◌∷◌, ◌++◌, drop, length, Option, None, Some, inl, inr, refl, sym, ap, ◌∙◌, subst, arith, length-append}
+use Rattle.std.proofs.Common.{◌≡◌, ℕ, zero, suc, ◌+◌, ◌-◌, ◌*◌, ◌≤◌, Bool, false, List, [], ◌∷◌, drop, length, Option, None, Some, inl, inr, refl, sym, ap, subst, arith, length-append}
 use Rattle.vlsi_base.specs.declared.entity.Entity.{Entity}
 use Rattle.vhdl_token.specs.declared.token.PlacedToken.{PlacedToken}
-use Rattle.vhdl_token.specs.declared.token.Tokens.{Tokens}
 use Rattle.lexer_base.specs.declared.piece.Piece.{Piece}
 use Rattle.lexer_base.specs.declared.piece.Piece.TheVariants as piece
 use Rattle.lexer_base.specs.Lexical.{length_of}
@@ -11,13 +10,13 @@ use Rattle.vhdl_lexer.specs.Listing.{cut, behind, pieces, tokens_in}
 use Rattle.grammar_theory.specs.declared.form.Form.{Form}
 use Rattle.grammar_theory.specs.declared.limits.TheConstants.{DEPTH}
 use Rattle.grammar_theory.specs.Marks.{Mark, Item}
-use Rattle.grammar_theory.specs.Grammar.{Grammar, none, nothing, One, Then, ◌or◌, list, at_some}
+use Rattle.grammar_theory.specs.Grammar.{Grammar, none, nothing, One, Then, ◌or◌, list}
 use Rattle.grammar_theory.specs.Answers.{tokens_of}
 use Rattle.vhdl_front.specs.Expression.{less as less_room}
 use Rattle.fsm_text.specs.Written.{StatementTree, chosen, selected, asserted, assigned, BodyTree, PartTree, BranchTree, BranchesTree, body_of, parts_of, branches_of, StepTree, ClockTree, MachineTree}
 use Rattle.fsm_text.specs.Fsm.{part, further_part, last_part, behind_if, conditional, listed_branch, led_branch, others_branch, last_branch, branches, behind_case, case_statement, assertion, assignment, statement, body_over, nested, body, step_process, processes, architecture, machine}
 use Rattle.fsm_io.specs.Text.{IsWritten}
-use Rattle.syf_each.proofs.Signals.{in_body, in_statement, in_parts, in_branches, total, in_further, in_listed, in_last, in_all, in_if, in_case}
+use Rattle.syf_each.proofs.Signals.{in_body, in_statement, in_branches, total, in_further, in_listed, in_last, in_all, in_if, in_case}
 
 -- ---- grammars
 
@@ -82,11 +81,11 @@ list_each L f one items (v ∷ vs) h =
     let both = length-append h.0 h.1 in
     omega (arith, first, rest, all, both)
 
-adds_list : {A : Type 0} {L : Grammar A} {f : A → ℕ} → Adds L f → Adds (list L) (total f)
-adds_list {A} {L} {f} one = adds (list_each L f one)
+adds_list : {A : Type 0} (L : Grammar A) (f : A → ℕ) → Adds L f → Adds (list L) (total f)
+adds_list L f one = adds (list_each L f one)
 
-adds_or : {A : Type 0} {L M : Grammar A} {f : A → ℕ} → Adds L f → Adds M f → Adds (L or M) f
-adds_or one two k = weighs_or (one k) (two k)
+adds_or : {A : Type 0} (L M : Grammar A) (f : A → ℕ) → Adds L f → Adds M f → Adds (L or M) f
+adds_or L M f one two k = weighs_or (one k) (two k)
 
 -- ---- ifs
 
@@ -112,7 +111,7 @@ last_adds inner h k =
 if_adds : (room : ℕ) (inner : Grammar BodyTree) → Adds inner in_body → Adds (behind_if room inner) in_statement
 unfolding behind_if
 if_adds room inner h k =
-    weighs_then (part_adds room inner h k) (λ first n less. weighs_then (adds_list (further_adds room inner h) n) (λ more p less2. weighs_then (last_adds inner h p) (λ last q less3.
+    weighs_then (part_adds room inner h k) (λ first n less. weighs_then (adds_list (further_part room inner) in_further (further_adds room inner h) n) (λ more p less2. weighs_then (last_adds inner h p) (λ last q less3.
     weighs_behind (λ u. weighs_behind (λ v. weighs_behind (λ w.
     weighs_nothing (λ (st : StatementTree). k + in_statement st) q (chosen (parts_of first more last)) (let all = in_if first more last in omega (arith, all, less, less2, less3))))))))
 
@@ -145,7 +144,7 @@ last_branch_adds inner h k =
 branches_add : (inner : Grammar BodyTree) → Adds inner in_body → Adds (branches inner) in_branches
 unfolding branches
 branches_add inner h k =
-    weighs_then (adds_list (led_adds inner h) k) (λ all n less. weighs_then (last_branch_adds inner h n) (λ last p less2.
+    weighs_then (adds_list (led_branch inner) in_listed (led_adds inner h) k) (λ all n less. weighs_then (last_branch_adds inner h n) (λ last p less2.
     weighs_nothing (λ (b : BranchesTree). k + in_branches b) p (branches_of all last) (let whole = in_case all last in omega (arith, whole, less, less2))))
 
 behind_case_adds : (line : ℕ) (inner : Grammar BodyTree) → Adds inner in_body → Adds (behind_case line inner) in_statement
@@ -174,12 +173,14 @@ assignment_adds room k =
 
 statement_adds : (room : ℕ) (inner : Grammar BodyTree) → Adds inner in_body → Adds (statement room inner) in_statement
 unfolding statement
-statement_adds room inner h = adds_or (assertion_adds room) (adds_or (conditional_adds room inner h) (adds_or (case_adds room inner h) (assignment_adds room)))
+statement_adds room inner h =
+    adds_or (assertion room) _ in_statement (assertion_adds room)
+    (adds_or (conditional room inner) _ in_statement (conditional_adds room inner h) (adds_or (case_statement room inner) (assignment room) in_statement (case_adds room inner h) (assignment_adds room)))
 
 over_adds : (room : ℕ) (inner : Grammar BodyTree) → Adds inner in_body → Adds (body_over room inner) in_body
 unfolding body_over
 over_adds room inner h k =
-    weighs_then (adds_list (statement_adds room inner h) k) (λ all n less.
+    weighs_then (adds_list (statement room inner) in_statement (statement_adds room inner h) k) (λ all n less.
     weighs_nothing (λ (b : BodyTree). k + in_body b) n (body_of all) (let whole = in_all all in omega (arith, whole, less)))
 
 nested_adds : (deeper room : ℕ) → Adds (nested deeper room) in_body
@@ -244,7 +245,7 @@ few_tokens line (p ∷ ps) =
     omega (arith, one, rest, both)
 
 tokens_few : (bytes : List ℕ) → length (tokens_in bytes).items ≤ length bytes
-unfolding tokens_in, pieces_from
+unfolding tokens_in pieces_from
 tokens_few bytes = let a = few_tokens 1 (pieces bytes) in let b = few_pieces (length bytes) false bytes in omega (arith, a, b)
 
 length_tokens : (items : List Item) → length (tokens_of items) ≡ length items

@@ -1,5 +1,5 @@
 -- A text of a state machine is made a machine by each style.
-use Rattle.std.proofs.Common.{◌≡◌, inl, inr, ℕ, zero, suc, ◌+◌, ◌-◌, ◌*◌, ◌^◌, ◌<◌, ◌≤◌, Bool, true, false, not, List, [], map, filter, length, codes, refl, sym, ap, ◌∙◌, subst, arith, if◌then◌else◌}
+use Rattle.std.proofs.Common.{◌≡◌, ℕ, zero, suc, ◌+◌, ◌-◌, ◌*◌, ◌^◌, ◌<◌, ◌≤◌, Bool, true, false, not, List, [], filter, length, codes, refl, ap, ◌∙◌, arith, if◌then◌else◌}
 use Rattle.std.specs.Prelude.{nat_le}
 use Rattle.std.proofs.lemmas.List.{length-map}
 use Rattle.std.proofs.lemmas.List.Sorted.{length_permutation}
@@ -9,21 +9,16 @@ use Rattle.vlsi_base.specs.declared.limits.TheConstants.{MOST_SOURCE_BYTES}
 use Rattle.vlsi_base.specs.declared.name.Name.{Name}
 use Rattle.vlsi_base.specs.declared.name.Port.{Port}
 use Rattle.machine_meaning.specs.Named.{is_same_name}
-use Rattle.machine_meaning.specs.Machine.{Machine, is_input, names_of}
+use Rattle.machine_meaning.specs.Machine.{is_input, names_of}
 use Rattle.source_meaning.specs.Symbols.{scalar}
-use Rattle.source_meaning.specs.Checks.{most_ports}
 use Rattle.source_meaning.specs.Elaboration.{port_bits}
-use Rattle.free_names.specs.Free.{IsFirstFree}
 use Rattle.free_names.specs.Laws.{TextsAreFree}
 use Rattle.fsm_meaning.specs.Fsm.{Fsm, fsm_inputs, fsm_outputs}
-use Rattle.fsm_meaning.specs.Statements.{Statements}
 use Rattle.fsm_machine.specs.Codes.{Codes, AreCodes}
-use Rattle.fsm_machine.specs.Encoding.{width_from, width_of, EncodingsAreCodes}
+use Rattle.fsm_machine.specs.Encoding.{width_from, EncodingsAreCodes}
 use Rattle.fsm_machine.specs.MachineOf.{machine_of}
 use Rattle.fsm_machine.specs.Meaning.{MachineIsOrdered}
 use Rattle.fsm_machine.specs.Signals.{signals}
-use Rattle.fsm_core.specs.Checked.{IsCheckedFsm}
-use Rattle.fsm_io.specs.Checks.{most_states}
 use Rattle.fsm_io.specs.Known.{symbols}
 use Rattle.fsm_io.specs.Elaboration.{frame_of}
 use Rattle.fsm_io.specs.Text.{IsFsm}
@@ -34,9 +29,8 @@ use Rattle.syf_encode.specs.Codes.{words_of, codes_by}
 use Rattle.syf_machine.specs.Law.{MachineDoesAs}
 use Rattle.syf_machine.specs.Named.{port_texts, inner_count, inner_names, IsMachineOf}
 use Rattle.syf_machine.proofs.Encoded.{are_free, inner_each, vars_each, is_checked}
-use Rattle.syf_run.specs.Syf.{IsEncodedSource}
 use Rattle.syf_each.specs.Law.{EncodedExists}
-use Rattle.syf_each.proofs.Signals.{in_body, of_body}
+use Rattle.syf_each.proofs.Signals.{of_body}
 use Rattle.syf_each.proofs.Counted.{few_signals}
 use Rattle.syf_each.proofs.Free.{first_free}
 

@@ -1,14 +1,13 @@
 -- How many signals the statements of a text have.
-use Rattle.std.proofs.Common.{◌≡◌, ℕ, suc, ◌+◌, Bool, true, false, List, [], ◌∷◌, map, Option, None, Some, refl, ap, ◌∙◌, bytes_eq, arith, if◌then◌else◌}
+use Rattle.std.proofs.Common.{◌≡◌, ℕ, ◌+◌, Bool, true, false, List, [], ◌∷◌, Option, None, Some, refl, bytes_eq, arith, if◌then◌else◌}
 use Rattle.vlsi_base.specs.declared.name.Name.{Name}
-use Rattle.vlsi_base.specs.declared.entity.NewName.{NewName}
 use Rattle.vlsi_base.specs.Tree.{Tree}
 use Rattle.source_meaning.specs.declared.statement.Target.{Target}
 use Rattle.source_meaning.specs.Formula.{Formula, formulas}
 use Rattle.source_meaning.specs.Drivers.{target_names}
 use Rattle.fsm_meaning.specs.Statements as s
 use Rattle.fsm_machine.specs.Signals.{signals, part_signals, branch_signals}
-use Rattle.fsm_text.specs.Written.{StatementTree, asserted, assigned, chosen, selected, BodyTree, finish, next, PartsTree, only, either, further, BranchesTree, closed, others, listed, PartTree, BranchTree, followed, body_of, parts_of, last_branch, branched, branches_of}
+use Rattle.fsm_text.specs.Written.{StatementTree, asserted, assigned, chosen, selected, BodyTree, finish, next, PartsTree, only, either, further, BranchesTree, closed, others, listed, PartTree, BranchTree, body_of, parts_of, branched, branches_of}
 use Rattle.fsm_io.specs.Elaboration.{Frame, next_number, assign_bits, body_bits, statement_bits, parts_bits, branches_bits}
 
 -- two or three for each part of an if, and one for each branch of a case
