@@ -122,7 +122,7 @@ above a b e = name_total.antisymm b a ∙ ap ordering_reverse e
 not_above_itself : (a : Name) → name_cmp a a ≡ Greater → ⊥
 not_above_itself a e = let f : Greater ≡ Less = sym e ∙ above a a e in absurd cc
 
--- a lesser name and one that isn't less are not equal
+-- the least of a name and of others
 least_of : (a : Name) (names : List Name) → Least (a ∷ names)
 least_of a [] = record {
   front = [];
