@@ -8,16 +8,15 @@ use Rattle.tool_words.specs.declared.table.Tool.{Tool}
 use Rattle.tool_words.specs.declared.table.Tool.TheVariants as tool
 use Rattle.tool_words.specs.declared.command.Encoding.{Encoding}
 use Rattle.tool_words.specs.declared.command.Encoding.TheVariants as encoding_variant
-use Rattle.tool_words.specs.declared.command.Numbers.{Numbers}
 use Rattle.tool_words.specs.declared.command.Command.{Command}
 use Rattle.tool_words.specs.declared.command.Command.TheVariants as command
 use Rattle.tool_words.specs.declared.command.FlowCommand.{FlowCommand}
 use Rattle.tool_words.specs.declared.command.GenCommand.{GenCommand}
 use Rattle.tool_words.specs.declared.words.WordsError.{WordsError}
 use Rattle.tool_words.specs.declared.words.WordsError.TheVariants as words
-use Rattle.tool_words.specs.Table.{Entry, library, out, size, tool_of as entry_of}
+use Rattle.tool_words.specs.Table.{Entry, library, out, size, patterns, netlist_library, tool_of as entry_of}
 use Rattle.tool_words.specs.Arguments.{given}
-use Rattle.tool_words.specs.Values.{is_numeral, number_within, number_or_default, number_of, text_of}
+use Rattle.tool_words.specs.Values.{is_numeral, number_within, number_or_default, number_of, source_of, text_of}
 use Rattle.tool_words.specs.Commands.{numbers_of, flow_with, flow_on, gen_with, generated, asimut_on, asimut_with, command_from, are_taken, command_in, command_by, command_of, word_of, as_flow, flow_of, as_gen, gen_of}
 use Rattle.tool_words.specs.Laws.{ToolComesFirst}
 use Rattle.vlsi_shelf.specs.Seen.{SinkSeen}
@@ -116,7 +115,7 @@ within n (Some text) h = by (is_numeral text) (nat_le 8 (value_of text)) (nat_le
 abbrev IsNamed : FlowCommand → Type 0
 IsNamed f = f.source ≡ f.out ++ codes ".vbe"
 
-named_by : (e : Encoding) (ns : Option Numbers) (l o : Option (List ℕ)) (f : FlowCommand) → flow_with (option_map generated o) (Some e) ns l o ≡ Some f → IsNamed f
+named_by : (e : Encoding) (ns : Option _) (l o : Option (List ℕ)) (f : FlowCommand) → flow_with (option_map generated o) (Some e) ns l o ≡ Some f → IsNamed f
 named_by e ns l None f h = absurd (cc h)
 named_by e None l (Some o) f h = absurd (cc h)
 named_by e (Some ns) None (Some o) f h = absurd (cc h)
@@ -168,7 +167,7 @@ from_gen tool.Flow endings g c h = absurd (other command.Flow _ c (λ a e. cc e)
 from_gen tool.Syf endings g c h = absurd (other command.Syf _ c (λ a e. cc e) h)
 from_gen tool.Boom endings g c h = absurd (other command.Boom _ c (λ a e. cc e) h)
 from_gen tool.Boog endings g c h = absurd (other command.Boog _ c (λ a e. cc e) h)
-from_gen tool.Asimut endings g c h = absurd (no_asimut _ _ _ c h)
+from_gen tool.Asimut endings g c h = absurd (no_asimut (source_of endings g) (text_of patterns g) (text_of netlist_library g) c h)
 from_gen tool.Cougar endings g c h = absurd (other command.Cougar _ c (λ a e. cc e) h)
 from_gen tool.Lvx endings g c h = absurd (other command.Lvx _ c (λ a e. cc e) h)
 from_gen tool.Druc endings g c h = absurd (other command.Druc _ c (λ a e. cc e) h)

@@ -43,8 +43,8 @@ returns-in-Ok-clause-answer g c =
     answer_at c.args.words.now c.in-Ok.command (outside (g.S.Shelf.seen c.args.shelf.now) (g.T.Sink.seen c.args.out.now)) (outside (g.S.Shelf.seen c.run.new.shelf) (g.T.Sink.seen c.run.new.out))
     c.run.result c.in-Ok.ensures.ok c.run.ensures.answer
 
-pub run-requires-in-Ok : goal.run-requires-in-Ok
-run-requires-in-Ok g c = fitting c.args.words.now c.in-Ok.command c.in-Ok.ensures.ok
+pub run-requires : goal.run-requires
+run-requires g c = fitting c.args.words.now c.in-Ok.command c.in-Ok.ensures.ok
 
 pub returns-in-Ok-clause-run : goal.returns-in-Ok-clause-run
 returns-in-Ok-clause-run g c =
