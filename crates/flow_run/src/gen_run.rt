@@ -10,9 +10,7 @@ ghost use Rattle.flow_run.specs.Generated.{IsFitting, IsRun, IsUnwritten, RunsHa
 
 use crate::flow::run_flow;
 use crate::reading::reading_law;
-use gen_circuit::{
-    circuit, circuits_are_read_again, circuits_are_small, circuits_can_be_written,
-};
+use gen_circuit::{circuit, circuits_are_read_again, circuits_are_small, circuits_can_be_written};
 use lib_same::{libraries_are_same, library_is_never_refused};
 use std::alloc::{AllocError, Global};
 use tool_drive::{FileCause, Status, tell};
@@ -56,11 +54,7 @@ fn source_text(alloc: Global, command: &GenCommand) -> Result<FileBytes, AllocEr
 }
 
 // Writes it as the source.
-fn write_source<S: Shelf>(
-    alloc: Global,
-    command: &GenCommand,
-    shelf: &mut S,
-) -> Result<(), Status>
+fn write_source<S: Shelf>(alloc: Global, command: &GenCommand, shelf: &mut S) -> Result<(), Status>
     requires { IsFitting command.now }
     ensures written { OnOk result
         (Writes (S.seen shelf.old).files (S.seen shelf.new).files command.now.flow.source (circuit_text command.now)) }
