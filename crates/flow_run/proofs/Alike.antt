@@ -1,5 +1,5 @@
 -- What is right for a machine is right for one alike.
-use Rattle.std.proofs.Common.{◌≡◌, ◌⊎◌, ◌↔◌, ℕ, ◌<◌, Bool, List, ◌++◌, length, map, Option, None, Some, refl, sym, ap, subst, ◌∙◌}
+use Rattle.std.proofs.Common.{◌≡◌, ◌⊎◌, ◌↔◌, ℕ, ◌<◌, Bool, List, ◌++◌, length, map, Option, sym, ap, subst, ◌∙◌}
 use Rattle.std.specs.List.{All}
 use Rattle.vlsi_base.specs.declared.name.Name.{Name}
 use Rattle.vlsi_base.specs.declared.name.Port.{Port}
@@ -13,9 +13,9 @@ use Rattle.machine_core.specs.Order.{IsOrdered}
 use Rattle.machine_alike.specs.Alike.{IsAlike, AlikeRun, AlikeBothWays}
 use Rattle.machine_alike.proofs.Runs.{inputs_same, outputs_same, registers_same}
 use Rattle.cell_model.specs.Library.{Library}
-use Rattle.net_meaning.specs.Netlist.{Netlist, port}
+use Rattle.net_meaning.specs.Netlist.{Netlist}
 use Rattle.net_meaning.specs.Behaviour.{Contents, Valuation, NetSettles, NetTrace, net_next, net_outs}
-use Rattle.net_meaning.specs.Agreement.{Agrees, IsMatched, register_instance}
+use Rattle.net_meaning.specs.Agreement.{Agrees, register_instance}
 use Rattle.net_meaning.specs.Well.{IsDriver, an_input, an_output, OneDriver, IsSpecial, of_vdd, of_vss, of_clock, IsWell, gate_instance, buffer_instance}
 use Rattle.cell_model.specs.Access.{count_to}
 use Rattle.ocp_rows.specs.Placement.{Placement}

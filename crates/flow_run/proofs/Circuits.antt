@@ -1,5 +1,5 @@
 -- Runs of `gen`: what is written of a circuit is never refused, the headline, and when an answer of 0 has to come.
-use Rattle.std.proofs.Common.{◌≡◌, ◌⊎◌, inl, inr, ℕ, ◌+◌, ◌-◌, ◌==◌, ◌<◌, ◌≤◌, ◌^◌, Bool, true, false, cond, not, List, [], ◌∷◌, ◌++◌, map, drop, length, Option, None, Some, option_map, IfSome, Result, Ok, Err, get_or, codes, nat_eq, length-append, refl, sym, ap, subst, ◌∙◌, arith, min}
+use Rattle.std.proofs.Common.{◌≡◌, ◌⊎◌, inl, inr, ℕ, ◌-◌, ◌==◌, ◌≤◌, Bool, true, false, cond, not, List, [], ◌∷◌, ◌++◌, drop, length, Option, None, Some, option_map, IfSome, Result, Ok, Err, codes, nat_eq, length-append, refl, sym, ap, subst, ◌∙◌, arith}
 use Rattle.std.specs.List.{ends_with}
 use Rattle.std.specs.FinMap.{get, insert, get-insert, slice_cmp-IsAntisymmetric, nat_cmp-IsAntisymmetric}
 use Rattle.std.specs.Ordering.{nat_cmp, is_eq}
@@ -10,14 +10,12 @@ use Rattle.std.specs.declared.cmp.Ordering.TheVariants.{Less, Equal, Greater}
 use Rattle.std.proofs.Math.Seq.{drop-append_seam}
 use Rattle.std.proofs.lemmas.List.{length-map}
 use Rattle.vlsi_base.specs.Member.{In}
-use Rattle.vlsi_base.specs.declared.fault.ReadError.{ReadError}
 use Rattle.vlsi_base.specs.declared.fault.ReadError.TheVariants as errors
 use Rattle.vlsi_shelf.specs.Files.{Files}
-use Rattle.vlsi_shelf.specs.Counts.{Rose, Counts, NoneFalls}
+use Rattle.vlsi_shelf.specs.Counts.{Rose, NoneFalls}
 use Rattle.vlsi_shelf.specs.Shelf.{Writes}
 use Rattle.vlsi_shelf.specs.Sink.{Puts}
 use Rattle.machine_meaning.specs.Machine.{Machine, register_names}
-use Rattle.machine_meaning.specs.Size.{machine_size}
 use Rattle.machine_alike.specs.Alike.{IsAlike}
 use Rattle.catal.specs.Laws.{NeverBoth as NeverBothLists}
 use Rattle.cell_model.specs.declared.kind.Kind.{Kind}
@@ -25,9 +23,8 @@ use Rattle.cell_model.specs.Covering.{HasCellOf, needed}
 use Rattle.cell_model.specs.Library.{Library}
 use Rattle.cell_lib.specs.Library.{bad_cell, IsLibraryOf}
 use Rattle.lib_same.specs.Law.{LibraryIsNeverRefused, LibrariesCoverTheSame}
-use Rattle.boog_map.specs.Netlist.{has_registers, Covers}
+use Rattle.boog_map.specs.Netlist.{Covers}
 use Rattle.vbe_io.specs.Text.{IsVbe}
-use Rattle.gen_circuit.specs.Laws.{CircuitsAreChecked}
 use Rattle.gen_circuit.specs.Written.{IsReadAgain, CircuitsCanBeWritten, CircuitsAreReadAgain}
 use Rattle.tool_words.specs.declared.command.FlowCommand.{FlowCommand}
 use Rattle.tool_words.specs.declared.command.GenCommand.{GenCommand}
@@ -40,13 +37,13 @@ use Rattle.tool_drive.specs.Outside.{Outside, NothingFailed}
 use Rattle.tool_drive.specs.Held.{Holds}
 use Rattle.tool_drive.specs.Plan.{Inputs, inputs, Reading, got, reading}
 use Rattle.tool_drive.specs.Refusals.{OfFile}
-use Rattle.tool_drive.specs.Table.{status_of, Caused, Follows, IsComplete}
-use Rattle.flow_run.specs.Origin.{Origin, equations, states, is_fsm, IsOf, IsSourceFor, IsSourceRefusal, refusal_by}
-use Rattle.flow_run.specs.Flow.{flow_plan, flow_answers, AreRead, IsSourceOf, IsNoSource, no_list, no_text, over_size, IsUnread, no_source, no_cell, IsWithinNodes, IsRefused, unread, uncovered, over_budget}
-use Rattle.flow_run.specs.Causes.{Stand, IsDrawn, StandsWhole, IsHeadline}
+use Rattle.tool_drive.specs.Table.{status_of, Follows, IsComplete}
+use Rattle.flow_run.specs.Origin.{Origin, equations, states, is_fsm, IsOf, IsSourceFor, refusal_by}
+use Rattle.flow_run.specs.Flow.{flow_plan, flow_answers, IsNoSource, no_list, no_text, over_size, no_source, no_cell, unread, uncovered, over_budget}
+use Rattle.flow_run.specs.Causes.{Stand, IsDrawn}
 use Rattle.flow_run.specs.Drawn.{layout_name}
 use Rattle.flow_run.specs.Laws.{WhatIsReadIsNeverRefused}
-use Rattle.flow_run.specs.Generated.{IsFitting, circuit_of, circuit_text, IsUnwritten, IsWritten, IsRun, unwritten, laid, with_source, IsGenerated, IsGenHeadline, IsGenFree, CircuitsAreNeverRefused, RunsHaveHeadlines, FreeRunsEnd}
+use Rattle.flow_run.specs.Generated.{IsFitting, circuit_of, circuit_text, IsUnwritten, IsWritten, unwritten, laid, with_source, IsGenerated, IsGenFree, CircuitsAreNeverRefused, RunsHaveHeadlines, FreeRunsEnd}
 use Rattle.flow_run.proofs.Rows.{headline_of}
 use Rattle.flow_run.proofs.Standing.{reads}
 

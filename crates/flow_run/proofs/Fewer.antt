@@ -1,5 +1,5 @@
 -- A machine that was made smaller has few gates for the one that was given.
-use Rattle.std.proofs.Common.{◌≡◌, ℕ, ◌+◌, ◌-◌, ◌*◌, ◌≤◌, ◌<◌, min, Bool, true, false, cond, List, [], ◌∷◌, ◌++◌, map, length, sum, inl, inr, refl, sym, ◌∙◌, ap, subst, arith}
+use Rattle.std.proofs.Common.{◌≡◌, ℕ, ◌+◌, ◌*◌, ◌≤◌, Bool, true, false, cond, List, [], ◌∷◌, map, length, inl, inr, refl, ◌∙◌, ap, subst, arith}
 use Rattle.std.specs.Prelude.{sum_by, nat_lt, if◌then◌else◌}
 use Rattle.std.specs.List.{AllZip, list_any}
 use Rattle.std.proofs.lemmas.List.Sums.{sum_by-append, sum_by-cons}
@@ -12,7 +12,7 @@ use Rattle.machine_meaning.specs.Size.{machine_size}
 use Rattle.machine_alike.specs.Alike.{IsAlike}
 use Rattle.machine_alike.proofs.Runs.{outputs_same, registers_same}
 use Rattle.machine_roots.specs.Expansion.{with_variables, held_count}
-use Rattle.boom_opt.specs.Optimised.{is_output, inner_size, behind_new, IsGivenOrSmaller, new_names, IsOptimised}
+use Rattle.boom_opt.specs.Optimised.{is_output, inner_size, behind_new, IsGivenOrSmaller, IsOptimised}
 use Rattle.net_meaning.specs.Netlist.{Netlist}
 use Rattle.ocp_rows.specs.Order.{IsLean}
 use Rattle.flow_run.specs.Lean.{IsLeanBy}

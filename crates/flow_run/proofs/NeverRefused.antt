@@ -1,11 +1,11 @@
 -- What is read, and covered by its library, isn't refused.
-use Rattle.std.proofs.Common.{◌≡◌, ℕ, ◌<◌, ◌≤◌, Bool, true, false, List, ◌∷◌, ◌++◌, ap, subst, arith}
+use Rattle.std.proofs.Common.{◌≡◌, ℕ, Bool, true, false, List, ◌∷◌, ◌++◌, ap, subst, arith}
 use Rattle.std.specs.List.{All}
 use Rattle.vlsi_base.specs.Member.{In, here, there}
 use Rattle.vlsi_base.specs.declared.name.Name.{Name}
 use Rattle.machine_core.proofs.Values.{In-right}
 use Rattle.cell_model.proofs.Members.{All-In}
-use Rattle.machine_roots.specs.Roots.{Root, roots, IsOverBudget, IsFirstOver}
+use Rattle.machine_roots.specs.Roots.{Root, IsOverBudget, IsFirstOver}
 use Rattle.vlsi_base.specs.declared.fault.ReadError.TheVariants as reading
 use Rattle.machine_meaning.specs.Machine.{Machine}
 use Rattle.machine_meaning.specs.Size.{machine_size}
@@ -27,7 +27,7 @@ use Rattle.tool_drive.specs.declared.status.Status.{Status}
 use Rattle.tool_drive.specs.declared.status.Status.TheVariants as status
 use Rattle.tool_drive.specs.Refusals.{OfFile}
 use Rattle.flow_run.specs.Origin.{Origin, equations, states, is_fsm, IsOf, refusal_by}
-use Rattle.flow_run.specs.Flow.{AreRead, IsNoSource, no_list, no_text, over_size, IsUnread, no_source, no_cell, IsWithinNodes, IsRefused, unread, uncovered, over_budget}
+use Rattle.flow_run.specs.Flow.{AreRead, IsNoSource, no_list, no_text, over_size, IsUnread, no_source, no_cell, IsWithinNodes, unread, uncovered, over_budget}
 use Rattle.flow_run.specs.Laws.{WhatIsReadIsNeverRefused}
 
 -- where no diagram is over the budget, none is the first

@@ -16,8 +16,8 @@ use Rattle.tool_words.specs.declared.words.WordsError.{WordsError}
 use Rattle.tool_words.specs.declared.words.WordsError.TheVariants as words
 use Rattle.tool_words.specs.Table.{Entry, library, out, size, patterns, netlist_library, tool_of as entry_of}
 use Rattle.tool_words.specs.Arguments.{given}
-use Rattle.tool_words.specs.Values.{is_numeral, number_within, number_or_default, number_of, source_of, text_of}
-use Rattle.tool_words.specs.Commands.{numbers_of, flow_with, flow_on, gen_with, generated, asimut_on, asimut_with, command_from, are_taken, command_in, command_by, command_of, word_of, as_flow, flow_of, as_gen, gen_of}
+use Rattle.tool_words.specs.Values.{is_numeral, number_or_default, number_of, source_of, text_of}
+use Rattle.tool_words.specs.Commands.{numbers_of, flow_with, flow_on, gen_with, generated, asimut_on, asimut_with, command_from, are_taken, command_by, command_of, word_of, as_flow, flow_of, as_gen, gen_of}
 use Rattle.tool_words.specs.Laws.{ToolComesFirst}
 use Rattle.vlsi_shelf.specs.Seen.{SinkSeen}
 use Rattle.tool_drive.specs.declared.status.Status.{Status}

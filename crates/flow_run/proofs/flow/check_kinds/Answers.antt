@@ -1,12 +1,8 @@
-use Rattle.std.proofs.Common.{All, sym, ap, subst}
-use Rattle.cell_model.specs.declared.kind.Kind.{Kind}
+use Rattle.std.proofs.Common.{All, sym, subst}
 use Rattle.cell_model.specs.Library.{Library}
 use Rattle.cell_model.specs.Usable.{IsFormed}
 use Rattle.cell_model.specs.Connectors.{PinsAreConnectors}
-use Rattle.cell_model.specs.Covering.{needed, HasCellOf, IsFirstMissing}
 use Rattle.cell_pins.proofs.Sound.{connected}
-use Rattle.vlsi_base.specs.Member.{In}
-use Rattle.boog_map.specs.Netlist.{has_registers}
 use Rattle.flow_run.proofs.flow.check_kinds.Goals as goal
 
 pub first_missing-requires-clause-formed : goal.first_missing-requires-clause-formed
