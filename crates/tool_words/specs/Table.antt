@@ -54,37 +54,37 @@ netlist_library = record { name = codes "library"; letter = Some 108; value = co
 
 -- how states get their codes
 abbrev pub encoding : Setting
-encoding = record { name = codes "encoding"; letter = Some 101; value = codes "STYLE"; required = false; form = Text }
+encoding = record { name = codes "encoding"; letter = Some 101; value = codes "o|r|j"; required = false; form = Text }
 
 abbrev pub tracks : Setting
 tracks = record { name = codes "tracks"; letter = None; value = []; required = true; form = Flag }
 
 -- how many rows of cells, and how many metals
 abbrev pub rows : Setting
-rows = record { name = codes "rows"; letter = None; value = codes "N"; required = false; form = Number 1 256 None }
+rows = record { name = codes "rows"; letter = None; value = codes "1..256"; required = false; form = Number 1 256 None }
 
 abbrev pub metals : Setting
-metals = record { name = codes "metals"; letter = None; value = codes "N"; required = false; form = Number 4 6 (Some 6) }
+metals = record { name = codes "metals"; letter = None; value = codes "4..6"; required = false; form = Number 4 6 (Some 6) }
 
 -- of random words
 abbrev pub seed : Setting
-seed = record { name = codes "seed"; letter = None; value = codes "N"; required = false; form = Number 0 4294967295 (Some 0) }
+seed = record { name = codes "seed"; letter = None; value = codes "0..4294967295"; required = false; form = Number 0 4294967295 (Some 0) }
 
 -- how often the placement is tried to be made better
 abbrev pub moves : Setting
-moves = record { name = codes "moves"; letter = None; value = codes "N"; required = false; form = Number 0 1000000 (Some 10000) }
+moves = record { name = codes "moves"; letter = None; value = codes "0..1000000"; required = false; form = Number 0 1000000 (Some 10000) }
 
 -- the most nodes that a diagram may have
 abbrev pub nodes : Setting
-nodes = record { name = codes "nodes"; letter = None; value = codes "N"; required = false; form = Number 1 4000000 (Some 200000) }
+nodes = record { name = codes "nodes"; letter = None; value = codes "1..4000000"; required = false; form = Number 1 4000000 (Some 200000) }
 
--- the most pins that a cell's output may drive
+-- the most sinks of a net: pins of cells that read it, but for clock pins
 abbrev pub fanout : Setting
-fanout = record { name = codes "fanout"; letter = None; value = codes "N"; required = false; form = Number 4 1000000 (Some 32) }
+fanout = record { name = codes "fanout"; letter = None; value = codes "4..1000000"; required = false; form = Number 4 1000000 (Some 32) }
 
 -- how large a source is made
 abbrev pub size : Setting
-size = record { name = codes "size"; letter = None; value = codes "N"; required = true; form = Number 8 4000 None }
+size = record { name = codes "size"; letter = None; value = codes "8..4000"; required = true; form = Number 8 4000 None }
 
 abbrev pub flow : Entry
 flow = record {

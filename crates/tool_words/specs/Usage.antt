@@ -2,11 +2,15 @@
 use Rattle.std.specs.Prelude.{ℕ, Bool, List, [], ◌∷◌, ◌++◌, Option, None, Some, if◌then◌else◌, codes}
 use Rattle.tool_words.specs.Table.{Form, Flag, Ending, Setting, Entry, tools, tool_of}
 
--- SOURCE, with its ending where it may have but one
+-- each ending behind a bar
+abbrev pub more_endings : List (List ℕ) → List ℕ
+more_endings [] = []
+more_endings (ending ∷ rest) = codes "|" ++ (ending ++ more_endings rest)
+
+-- SOURCE, with the endings of which it has one
 abbrev pub source_usage : List (List ℕ) → List ℕ
 source_usage [] = []
-source_usage (ending ∷ []) = codes " SOURCE" ++ ending
-source_usage (ending ∷ other ∷ rest) = codes " SOURCE"
+source_usage (ending ∷ rest) = codes " SOURCE" ++ (ending ++ more_endings rest)
 
 abbrev pub value_usage : Form → List ℕ → List ℕ
 value_usage Flag value = []

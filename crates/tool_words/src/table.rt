@@ -109,7 +109,7 @@ pub(crate) const NETLIST_LIBRARY: Setting = Setting {
 pub(crate) const ENCODING: Setting = Setting {
     name: "encoding",
     letter: Some(b'e'),
-    value: "STYLE",
+    value: "o|r|j",
     required: false,
     form: Form::Text,
 };
@@ -126,7 +126,7 @@ const TRACKS: Setting = Setting {
 pub(crate) const ROWS: Setting = Setting {
     name: "rows",
     letter: None,
-    value: "N",
+    value: "1..256",
     required: false,
     form: Form::Number(1, 256, None),
 };
@@ -135,7 +135,7 @@ pub(crate) const ROWS: Setting = Setting {
 pub(crate) const METALS: Setting = Setting {
     name: "metals",
     letter: None,
-    value: "N",
+    value: "4..6",
     required: false,
     form: Form::Number(4, 6, Some(6)),
 };
@@ -144,7 +144,7 @@ pub(crate) const METALS: Setting = Setting {
 pub(crate) const SEED: Setting = Setting {
     name: "seed",
     letter: None,
-    value: "N",
+    value: "0..4294967295",
     required: false,
     form: Form::Number(0, u32::MAX, Some(0)),
 };
@@ -153,7 +153,7 @@ pub(crate) const SEED: Setting = Setting {
 pub(crate) const MOVES: Setting = Setting {
     name: "moves",
     letter: None,
-    value: "N",
+    value: "0..1000000",
     required: false,
     form: Form::Number(0, 1_000_000, Some(10_000)),
 };
@@ -162,16 +162,16 @@ pub(crate) const MOVES: Setting = Setting {
 pub(crate) const NODES: Setting = Setting {
     name: "nodes",
     letter: None,
-    value: "N",
+    value: "1..4000000",
     required: false,
     form: Form::Number(1, 4_000_000, Some(200_000)),
 };
 
-/// The most pins that a cell's output may drive.
+/// The most sinks of a net: pins of cells that read it, but for clock pins.
 pub(crate) const FANOUT: Setting = Setting {
     name: "fanout",
     letter: None,
-    value: "N",
+    value: "4..1000000",
     required: false,
     form: Form::Number(4, 1_000_000, Some(32)),
 };
@@ -180,7 +180,7 @@ pub(crate) const FANOUT: Setting = Setting {
 pub(crate) const SIZE: Setting = Setting {
     name: "size",
     letter: None,
-    value: "N",
+    value: "8..4000",
     required: true,
     form: Form::Number(8, 4_000, None),
 };

@@ -1,6 +1,6 @@
 // The usage lines, from the table.
 ghost use Rattle.std.specs.Prelude.{◌≡◌, ◌++◌, map, OnOk, IfOk, option_map};
-ghost use Rattle.tool_words.specs.Usage.{source_usage, value_usage, option_usage, setting_usage, settings_usage, entry_usage, more_words, tool_words, of_words, usage_of};
+ghost use Rattle.tool_words.specs.Usage.{source_usage, more_endings, value_usage, option_usage, setting_usage, settings_usage, entry_usage, more_words, tool_words, of_words, usage_of};
 ghost use Rattle.tool_words.specs.View.{form_view, setting_view, settings_view, texts_view, entry_view};
 
 use crate::table::{Entry, Form, Setting, tool_of, tools};
@@ -8,18 +8,26 @@ use crate::words::Words;
 use std::alloc::{AllocError, Global};
 use vlsi_base::FileBytes;
 
-// SOURCE, with its ending where it may have but one.
+// SOURCE, with the endings of which it has one, and bars between.
 fn source(out: &mut FileBytes, endings: &[&'static str]) -> Result<(), AllocError>
     ensures { OnOk result (out.new ≡ out.old ++ source_usage (texts_view endings.now)) }
 {
-    match endings {
-        [] => Ok(()),
-        [ending] => {
-            out.append(b" SOURCE")?;
-            out.append(ending.as_bytes())
-        }
-        _ => out.append(b" SOURCE"),
+    let Some((first, rest)) = endings.split_first() else {
+        return Ok(());
+    };
+    out.append(b" SOURCE")?;
+    out.append(first.as_bytes())?;
+    more_endings(out, rest)
+}
+
+fn more_endings(out: &mut FileBytes, endings: &[&'static str]) -> Result<(), AllocError>
+    ensures { OnOk result (out.new ≡ out.old ++ more_endings (texts_view endings.now)) }
+{
+    for ending in endings {
+        out.append(b"|")?;
+        out.append(ending.as_bytes())?;
     }
+    Ok(())
 }
 
 fn value(out: &mut FileBytes, form: Form, value: &str) -> Result<(), AllocError>
