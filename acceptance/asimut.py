@@ -22,7 +22,7 @@ HERE = pathlib.Path(__file__).resolve().parent
 EXAMPLES, CELLS = HERE.parent / "examples", HERE.parent / "cells"
 ROW = ROWS / "asimut-runs/the-inverter.txt"
 TEXT_WORDS = ["asimut", "row1.vbe", "-p", "t.pat"]
-USAGE = "usage: alliance asimut SOURCE -p PATTERNS.pat [-l DIR]\n"
+USAGE = "usage: alliance asimut SOURCE.vbe|.vst -p PATTERNS.pat [-l DIR]\n"
 MACHINES, RINGS, CHANGES, IN_VERILOG = 200, 60, 600, 40
 CHUNK = 100
 

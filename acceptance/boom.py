@@ -21,7 +21,7 @@ from words import TOOLS_LINE, command, held, trouble
 
 HERE = pathlib.Path(__file__).resolve().parent
 EXAMPLES = HERE.parent / "examples"
-USAGE = "usage: alliance boom SOURCE.vbe -o NAME [--nodes N]\n"
+USAGE = "usage: alliance boom SOURCE.vbe -o NAME [--nodes 1..4000000]\n"
 WORDS = ["boom", "s.vbe", "-o", "r"]
 MOST_NODES, NODES = 4_000_000, 200_000
 MACHINES, CHUNK = 300, 25

@@ -16,8 +16,8 @@ from results import Room, compare, run_in, shown
 from vbe_oracle import Machine
 from vhdl_reader import Refused
 
-OPTIONS = "[--rows N] [--metals N] [--seed N] [--moves N] [--nodes N] [--fanout N]"
-USAGE = f"usage: alliance gen --size N -l DIR -o NAME --tracks {OPTIONS}\n"
+OPTIONS = "[--rows 1..256] [--metals 4..6] [--seed 0..4294967295] [--moves 0..1000000] [--nodes 1..4000000] [--fanout 4..1000000]"
+USAGE = f"usage: alliance gen --size 8..4000 -l DIR -o NAME --tracks {OPTIONS}\n"
 BOUNDS = {
     "--size": (8, 4000), "--rows": (1, 256), "--metals": (4, 6), "--seed": (0, 2**32 - 1), "--moves": (0, 10**6), "--nodes": (1, 4 * 10**6),
     "--fanout": (4, 10**6),

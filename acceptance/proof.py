@@ -25,7 +25,7 @@ from words import command, held, trouble
 
 HERE = pathlib.Path(__file__).resolve().parent
 EXAMPLES = HERE.parent / "examples"
-USAGE = "usage: alliance proof SOURCE.vbe -b OTHER.vbe [--nodes N]\n"
+USAGE = "usage: alliance proof SOURCE.vbe -b OTHER.vbe [--nodes 1..4000000]\n"
 WORDS = ["proof", "a.vbe", "-b", "b.vbe"]
 MACHINES, CHUNK, MOST_SIZE, MOST_NAMES = 48, 8, 300, 16
 

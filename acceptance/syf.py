@@ -22,7 +22,7 @@ from vbe_oracle import FILE
 from vhdl_reader import Refused
 from words import TOOLS_LINE, command, held, trouble
 
-USAGE = "usage: alliance syf SOURCE.fsm -o NAME [-e STYLE] [--seed N]\n"
+USAGE = "usage: alliance syf SOURCE.fsm -o NAME [-e o|r|j] [--seed 0..4294967295]\n"
 STYLES, MOST_SEED = "orj", 2**32 - 1
 VECTORS, STATES, MACHINES, CHUNK = 10, 20, 120, 20
 

@@ -50,7 +50,7 @@ pub struct FlowCommand {
     pub moves: u32,
     /// The most nodes that a diagram may have, 1 to 4,000,000.
     pub nodes: u32,
-    /// The most pins that a cell's output may drive, 4 to 1,000,000.
+    /// The most sinks of a net, 4 to 1,000,000: pins of cells that read it, but for clock pins.
     pub fanout: u32,
 }
 
