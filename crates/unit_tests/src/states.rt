@@ -15,9 +15,7 @@ port (
   ck : in bit;
   k : in bit;
   reset : in bit;
-  seen : out bit_vector (1 downto 0);
-  vdd : in bit;
-  vss : in bit);
+  seen : out bit_vector (1 downto 0));
 end gate;
 
 architecture fsm of gate is
