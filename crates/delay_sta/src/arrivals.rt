@@ -14,7 +14,7 @@ pub struct Delays {
     pub(crate) loads: Vec<u64>,
     // The classes at which paths end.
     pub(crate) ends: Vec<u32>,
-    // The classes, each behind those from which paths go on to it.
+    // The classes; behind a class to which steps lead stand those to which paths go on from there.
     pub(crate) order: Vec<u32>,
 }
 
@@ -29,14 +29,14 @@ impl Delays {
         }
     }
 
-    /// The load of each class, in femtofarads. Takes no memory.
+    /// The load of each class, by its number, in femtofarads. Takes no memory.
     pub fn loads(&self) -> &[u64]
         ensures { result.now ≡ self.now.loads.items }
     {
         &self.loads
     }
 
-    /// The classes, each behind those from which paths go on to it. Takes no memory.
+    /// The classes, each once; behind a class to which steps lead stand those to which paths go on from there. Takes no memory.
     pub fn order(&self) -> &[u32]
         ensures { result.now ≡ self.now.order.items }
     {

@@ -10,7 +10,8 @@ use Rattle.fsm_write.specs.Writable.{CanBeFsm}
 use Rattle.fsm_write.specs.Written.{AreWords, text}
 use Rattle.fsm_again.specs.Said.{IsWithinLimits}
 
--- What the text of a state machine is read as is the same state machine, with all its parts.
+-- What the text of a checked state machine that can be written is read as, within the limits of texts, is the same state machine, with
+-- all its parts.
 pub record FsmReadAgain : Type 0 where
   pub is : (f g : Fsm) (w : Words) → IsCheckedFsm f → CanBeFsm f → AreWords f w → IsWithinLimits w f → IsFsm (text w f) g → g ≡ f
 

@@ -4,8 +4,8 @@ ghost use Rattle.fsm_round.specs.Again.{FsmIsAccepted, FsmReadAgain};
 use fsm_again::written_is_a_sentence;
 use fsm_io::{never_both, one_fsm};
 
-/// What the text of a state machine is read as is that state machine, with the same name, ports, clock, states and statements, where
-/// its names can be declared and the text is within the limits of texts.
+/// What the text of a state machine is read as is that state machine, with the same name, ports, clock, states and statements, where it
+/// is checked, its names can be declared, its expressions have no choice, and the text is within the limits of texts.
 pub fn fsm_read_again()
     ensures { FsmReadAgain }
 {
@@ -13,8 +13,7 @@ pub fn fsm_read_again()
     one_fsm();
 }
 
-/// The text of a state machine whose names can be declared passes all checks of texts where it is within their limits, and is this
-/// state machine: it is refused only where memory has run out.
+/// The text of such a state machine passes all checks of texts, and is this state machine: it is refused only where memory has run out.
 pub fn fsm_is_accepted()
     ensures { FsmIsAccepted }
 {

@@ -1,4 +1,6 @@
 //! Drives: cells that can stand for others, and what exchanges of them do to the delays of a netlist.
+//!
+//! Putting buffers into a netlist and choosing its drives, which these laws are for, aren't built yet.
 #![tactic(auto)]
 
 mod drive;

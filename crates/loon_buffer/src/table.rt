@@ -76,7 +76,8 @@ impl DriveTable {
         })
     }
 
-    /// The places of the other usable cells that can stand for the cell at a place; none past the last cell. Takes no memory.
+    /// The places of the other usable cells that can stand for the cell at a place, in no stated order; none where that isn't usable, and
+    /// past the last cell. Takes no memory.
     pub fn drives(&self, place: usize) -> &[usize]
         ensures { result.now ≡ drives_at self.now.drives.items place }
     {

@@ -1,4 +1,5 @@
--- Each source, and each text, has an answer. That none has two is said where texts are defined.
+-- Each source, and each text, has an answer. That none is both a machine and refused, and how far its machines and its refusals are one,
+-- is said where texts are defined.
 use Rattle.std.specs.Prelude.{◌⊎◌, ℕ, List}
 use Rattle.vlsi_base.specs.declared.fault.ReadError.{ReadError}
 use Rattle.machine_meaning.specs.Machine.{Machine}
