@@ -1,0 +1,10 @@
+pub mod Tables
+pub mod Ordered
+pub mod Grouping
+pub mod Gathering
+pub mod Loading
+pub mod Settling
+pub mod Routes
+pub mod Edges
+pub mod Finding
+pub mod Exact

@@ -1,0 +1,5 @@
+pub mod Arcs
+pub mod Loads
+pub mod Paths
+pub mod Timed
+pub mod Graph

@@ -1,0 +1,12 @@
+//! How long the paths through a netlist of cells take.
+#![tactic(auto)]
+
+mod analysis;
+mod arc;
+mod arrivals;
+mod graph;
+mod loads;
+mod settle;
+
+pub use analysis::delays;
+pub use arrivals::{Delays, worst};

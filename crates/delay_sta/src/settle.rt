@@ -1,0 +1,63 @@
+// The latest arrivals of the classes of a timing graph.
+ghost use Rattle.std.specs.Prelude.{◌≡◌, ◌+◌, ◌^◌, ◌<◌, ◌⊎◌, None, IfSome, length, slice_index_or};
+ghost use Rattle.std.specs.List.{All};
+ghost use Rattle.delay_sta.specs.Graph.{IsShort, IsGraph, later_by, arrival_by, IsBy, IsLatest, AreStarts, AreSettled};
+
+use crate::graph::TimedArc;
+
+/// When a path arrives by an arc, where classes have these arrivals.
+fn arrival_by(arrivals: &[Option<u128>], arc: &TimedArc) -> Option<u128>
+    requires inside { arc.now.from < length arrivals.now }
+    requires few { IfSome (slice_index_or arrivals.now arc.now.from None) (λ t. t + arc.now.delay < 2 ^ 128) }
+    ensures { result ≡ arrival_by arrivals.now arc.now }
+{
+    if arc.begins {
+        return Some(arc.delay);
+    }
+    match arrivals[arc.from as usize] {
+        Some(time) => Some(time + arc.delay),
+        None => None,
+    }
+}
+
+/// The later of two arrivals.
+fn later(one: Option<u128>, other: Option<u128>) -> Option<u128>
+    ensures is { (result ≡ one) ⊎ (result ≡ other) }
+    ensures one { IsBy one result }
+    ensures other { IsBy other result }
+{
+    match (one, other) {
+        (Some(one), Some(other)) => Some(one.max(other)),
+        (Some(one), None) => Some(one),
+        (None, other) => other,
+    }
+}
+
+/// The latest of an arrival and those by arcs.
+fn latest(
+    start: Option<u128>,
+    arrivals: &[Option<u128>],
+    arcs: &[TimedArc],
+) -> Option<u128>
+    requires inside { All (λ x. x.from < length arrivals.now) arcs.now }
+    requires few { All (λ x. IfSome (slice_index_or arrivals.now x.from None) (λ t. t + x.delay < 2 ^ 128)) arcs.now }
+    ensures { IsLatest start arrivals.now arcs.now result }
+{
+    let mut latest = start;
+    for arc in arcs {
+        latest = later(latest, arrival_by(arrivals, arc));
+    }
+    latest
+}
+
+/// Goes through classes in their order: from the arrivals of those where paths start to the latest arrivals of all. Takes no memory.
+pub fn settle(arrivals: &mut [Option<u128>], order: &[u32], groups: &[Vec<TimedArc>])
+    requires graph { IsGraph groups.now order.now (length arrivals.old) }
+    requires starts { AreStarts arrivals.old }
+    ensures { AreSettled groups.now arrivals.old arrivals.new }
+{
+    for class in order {
+        let class = *class as usize;
+        arrivals[class] = latest(arrivals[class], arrivals, &groups[class]);
+    }
+}
