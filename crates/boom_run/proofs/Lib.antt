@@ -1,4 +1,3 @@
 pub mod Declared
-mod Counted
 pub mod FewNames
 mod Refusing

@@ -52,12 +52,6 @@ pub record IsMadeSmaller (c : BoomCommand) (source : List ℕ) (p : Product) : T
   pub made : IsWithinBudget m c.nodes o
   pub written : IsWrittenAs c o p
 
--- The names of a source that is small enough, and as many more as it weighs, have numbers of 32 bits.
-abbrev pub SourceHasFewNames : Type 0
-SourceHasFewNames =
-    (source : List ℕ) (m : Machine) → IsVbe source m → machine_size m ≤ MOST_SIZE
-    → length m.vars + length m.ports + machine_size m < 2 ^ 32 - 1
-
 -- the status of the first root over the budget
 pub record IsBudgetStatus (m : Machine) (budget : ℕ) (s : Status) : Type 0 where
   pub name : Name

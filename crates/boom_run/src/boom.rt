@@ -8,13 +8,13 @@ ghost use Rattle.boog_run.specs.declared.netlist.TheConstants.{MOST_SIZE};
 ghost use Rattle.vbe_write.specs.Writable.{CanBeVbe};
 ghost use Rattle.boom_run.specs.Boom.{MakesSmaller, IsWrittenAs, IsWithinBudget, IsBudgetStatus, report as report_of};
 
-use crate::laws::source_has_few_names;
 use boog_run::check_size;
 use boom_opt::{BoomError, Optimised, optimise};
 use machine_core::{Machine, machine_size};
 use std::alloc::{AllocError, Global};
 use tool_drive::{Product, Refusal, Status, Tool, Wanted, bytes_at, refused};
 use tool_words::BoomCommand;
+use vbe_few::source_has_few_names;
 use vbe_io::read_vbe;
 use vbe_words::{in_order_can_be_written, machine_is_named, registers_are_named};
 use vbe_write::write_vbe;

@@ -5,7 +5,5 @@
 #![tactic(auto)]
 
 mod boom;
-mod laws;
 
 pub use boom::{Boom, optimise_within};
-pub use laws::source_has_few_names;

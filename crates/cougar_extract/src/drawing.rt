@@ -23,9 +23,9 @@ use vlsi_base::{Name, Text};
 
 /// The shapes of a layout, and for each whether it is a connector of an output pin of an instance.
 #[derive(Drop)]
-pub(crate) struct Drawing {
-    pub(crate) shapes: Vec<Shape>,
-    pub(crate) gives: Vec<bool>,
+pub struct Drawing {
+    pub shapes: Vec<Shape>,
+    pub gives: Vec<bool>,
 }
 
 /// A copy of a name, if there is one.
@@ -162,7 +162,7 @@ fn own_shapes(alloc: Global, items: &[Item]) -> Result<Drawing, AllocError>
 
 /// The shapes of a figure with these cells. It is refused by `UnknownCell` exactly where the model of an instance is no cell, at
 /// the first such. Takes memory for the shapes, and time for them and for each instance and each cell.
-pub(crate) fn draw_layout(
+pub fn draw_layout(
     alloc: Global,
     items: &[Item],
     cells: &[Cell],

@@ -15,6 +15,7 @@ mod names;
 mod pairs;
 mod shorts;
 
+pub use drawing::{Drawing, draw_layout};
 pub use error::{ExtractError, Step, Steps};
 pub use extracting::extract;
 pub use laws::{extracted_fits, extracted_is_given};

@@ -1,4 +1,4 @@
--- How an unknown cell is refused, and the whole list.
+-- The whole list.
 use Rattle.std.proofs.Common.{◌≡◌, ◌⊎◌, inl, inr, ℕ, List, [], ◌∷◌, ◌++◌, map, take, None, Some, refl, sym, ◌∙◌, ap, subst}
 use Rattle.std.specs.Prelude.{slice_get}
 use Rattle.sym_geom.specs.declared.item.Instance.{Instance as Placed}
@@ -16,22 +16,6 @@ use Rattle.druc_rules.specs.declared.breach.Breach.TheVariants as breach
 use Rattle.druc_rules.specs.declared.error.DrucError.{DrucError}
 use Rattle.druc_rules.specs.declared.error.DrucError.TheVariants as errors
 use Rattle.druc_rules.specs.Breaches.{breach_of, BreachesBy, AreWidths, AddsGaps, IsUnknownRefusal}
-
-pub one_unknown : (l : Library) (one : Item) (i : Placed) → one ≡ item.Instance i → (e : DrucError) → cell_of l i.model ≡ None
-    → (e ≡ errors.Memory) ⊎ (e ≡ errors.UnknownCell i.model) → IsUnknownRefusal (instances_of (one ∷ [])) l e
-one_unknown l one i is e none h =
-    subst (λ (x : Item). IsUnknownRefusal (instances_of (x ∷ [])) l e) (sym is)
-    (elim h [
-      | inl m ↦ subst (λ (x : DrucError). IsUnknownRefusal (i ∷ []) l x) (sym m) tt
-      | inr u ↦ subst (λ (x : DrucError). IsUnknownRefusal (i ∷ []) l x) (sym u) (unknown_one l i none)
-    ])
-
-pub refused_line : (items : List Item) (l : Library) (k : ℕ) (one : Item) (e : DrucError) → slice_get items k ≡ Some one → AreKnown (instances_of (take k items)) l
-    → IsUnknownRefusal (instances_of (one ∷ [])) l e → IsUnknownRefusal (instances_of items) l e
-refused_line items l k one errors.Memory at known h = tt
-refused_line items l k one (errors.UnknownCell model) at known h = unknown_later items l k one model at known h
-
--- ---- the list
 
 map_both : {A B : Type 0} (f : A → B) (xs ys : List A) → map f (xs ++ ys) ≡ map f xs ++ map f ys
 map_both f [] ys = refl

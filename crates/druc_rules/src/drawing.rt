@@ -1,153 +1,21 @@
 // The shapes of a layout.
-ghost use Rattle.std.specs.Prelude.{◌≡◌, ◌⊎◌, ◌++◌, ◌∷◌, [], ◌<◌, ◌^◌, neg_ℤ, Some, IfOk, OnOk, IfErr, All, length};
-ghost use Rattle.std.specs.Option.{option_copied};
+ghost use Rattle.std.specs.Prelude.{◌≡◌, ◌<◌, ◌^◌, IfOk, OnOk, IfErr, All, length};
 ghost use Rattle.vlsi_base.specs.Member.{In};
-ghost use Rattle.sym_geom.specs.Rect.{IsCoordinate, HasCoordinates, moved};
+ghost use Rattle.sym_geom.specs.Rect.{IsCoordinate};
 ghost use Rattle.sym_geom.specs.declared.item.Instance.{Instance as PlacedInstance};
 ghost use Rattle.sym_shapes.specs.Ready.{IsReady};
-ghost use Rattle.cell_model.specs.Library.{cell_named};
-ghost use Rattle.cell_model.specs.Layout.{placed as placed_shape, instance_shapes, instances_of, all_instances_show, shapes as shapes_of};
+ghost use Rattle.cell_model.specs.Layout.{instances_of, shapes as shapes_of};
 ghost use Rattle.cell_model.specs.Usable.{IsFormed};
 ghost use Rattle.cell_checks.specs.Checked.{library_of};
 ghost use Rattle.cougar_extract.specs.Extracted.{AreKnown};
-ghost use Rattle.cougar_extract.specs.Stages.{HasCellEdges, placed_rect as placed_rect_of};
-ghost use Rattle.druc_rules.specs.declared.error.DrucError.TheVariants as error;
 ghost use Rattle.druc_rules.specs.Breaches.{IsUnknownRefusal};
 
 use crate::error::DrucError;
 use cell_model::Cell;
-use std::alloc::{AllocError, Global};
-use sym_geom::{Instance, Item, Rect, transform};
-use sym_shapes::{Shape, drawn};
-use vlsi_base::{Name, Text};
-
-/// The first cell of this name. Takes time for each cell.
-fn cell_of<'c>(cells: &'c [Cell], model: &Text) -> Option<&'c Cell>
-    ensures { option_copied result ≡ cell_named cells.now model.now }
-{
-    for cell in cells {
-        if cell.name.is_same(model) {
-            return Some(cell);
-        }
-    }
-    None
-}
-
-/// A copy of a name, if there is one.
-fn copied(alloc: Global, name: Option<&Name>) -> Result<Option<Name>, AllocError>
-    ensures { IfOk result (λ made. made ≡ option_copied name.entry) }
-{
-    match name {
-        Some(own) => Ok(Some(own.copy(alloc)?)),
-        None => Ok(None),
-    }
-}
-
-/// A rectangle of a cell, counted from the lower left corner of the cell's box.
-fn from_corner(corner: &Rect, rect: &Rect) -> Rect
-    requires corner { HasCoordinates corner.now }
-    requires rect { HasCellEdges rect.now }
-    ensures { result ≡ moved rect.now (neg_ℤ corner.now.x1) (neg_ℤ corner.now.y1) }
-{
-    Rect {
-        x1: rect.x1 - corner.x1,
-        y1: rect.y1 - corner.y1,
-        x2: rect.x2 - corner.x1,
-        y2: rect.y2 - corner.y1,
-    }
-}
-
-/// Where an instance shows a rectangle of its cell.
-fn placed_rect(cell: &Cell, instance: &Instance, rect: &Rect) -> Rect
-    requires bounds { HasCoordinates cell.now.bounds }
-    requires rect { HasCellEdges rect.now }
-    requires x { IsCoordinate instance.now.x }
-    requires y { IsCoordinate instance.now.y }
-    ensures { result ≡ placed_rect_of cell.now instance.now rect.now }
-{
-    let bounds = &cell.bounds;
-    let width = bounds.x2 - bounds.x1;
-    let height = bounds.y2 - bounds.y1;
-    transform(
-        instance.transform,
-        from_corner(bounds, rect),
-        width,
-        height,
-        instance.x,
-        instance.y,
-    )
-}
-
-/// A shape of a cell as an instance shows it.
-fn placed(
-    alloc: Global,
-    cell: &Cell,
-    instance: &Instance,
-    shape: &Shape,
-) -> Result<Shape, AllocError>
-    requires bounds { HasCoordinates cell.now.bounds }
-    requires rect { HasCellEdges shape.now.rect }
-    requires x { IsCoordinate instance.now.x }
-    requires y { IsCoordinate instance.now.y }
-    ensures { IfOk result (λ made. made ≡ placed_shape cell.now instance.now shape.now) }
-{
-    let rect = placed_rect(cell, instance, &shape.rect());
-    let owner = instance.name.copy(alloc)?;
-    let name = copied(alloc, shape.name())?;
-    Ok(Shape::new(shape.metal(), rect, Some(owner), shape.line(), name))
-}
-
-/// Puts the shapes of an instance behind those that are there.
-fn place(
-    alloc: Global,
-    shapes: &mut Vec<Shape>,
-    cell: &Cell,
-    instance: &Instance,
-) -> Result<(), AllocError>
-    requires formed { IsFormed cell.now }
-    requires x { IsCoordinate instance.now.x }
-    requires y { IsCoordinate instance.now.y }
-    ensures { OnOk result (shapes.new.items ≡ shapes.old.items ++ instance_shapes (Some cell.now) instance.now) }
-{
-    let own = drawn(alloc, cell.items.as_slice())?;
-    for shape in &own {
-        shapes.push(placed(alloc, cell, instance, shape)?)?;
-    }
-    Ok(())
-}
-
-fn unknown(alloc: Global, model: &Text) -> DrucError
-    ensures { (result ≡ error.Memory) ⊎ (result ≡ error.UnknownCell model.now) }
-{
-    match model.copy(alloc) {
-        Ok(model) => DrucError::UnknownCell(model),
-        Err(_) => DrucError::Memory,
-    }
-}
-
-/// Puts the shapes of a line that is an instance behind those that are there.
-fn place_item(
-    alloc: Global,
-    shapes: &mut Vec<Shape>,
-    item: &Item,
-    cells: &[Cell],
-) -> Result<(), DrucError>
-    requires formed { All IsFormed cells.now }
-    requires places { (i : PlacedInstance) → In i (instances_of (item.now ∷ [])) → IsCoordinate i.x × IsCoordinate i.y }
-    ensures shapes { OnOk result (shapes.new.items ≡ shapes.old.items
-        ++ all_instances_show (library_of cells.now) (instances_of (item.now ∷ []))) }
-    ensures known { OnOk result (AreKnown (instances_of (item.now ∷ [])) (library_of cells.now)) }
-    ensures refused { IfErr result (λ e. IsUnknownRefusal (instances_of (item.now ∷ [])) (library_of cells.now) e) }
-{
-    let Item::Instance(instance) = item else {
-        return Ok(());
-    };
-    let Some(cell) = cell_of(cells, &instance.model) else {
-        return Err(unknown(alloc, &instance.model));
-    };
-    place(alloc, shapes, cell, instance)?;
-    Ok(())
-}
+use cougar_extract::{ExtractError, draw_layout};
+use std::alloc::Global;
+use sym_geom::Item;
+use sym_shapes::Shape;
 
 /// The shapes of a figure with these cells. It is refused by `UnknownCell` exactly where the model of an instance is no cell, at
 /// the first such. Takes memory for the shapes, and time for them and for each instance and each cell.
@@ -164,9 +32,10 @@ pub(crate) fn layout_shapes(
     ensures known { OnOk result (AreKnown (instances_of items.now) (library_of cells.now)) }
     ensures refused { IfErr result (λ e. IsUnknownRefusal (instances_of items.now) (library_of cells.now) e) }
 {
-    let mut shapes = drawn(alloc, items)?;
-    for item in items {
-        place_item(alloc, &mut shapes, item, cells)?;
+    match draw_layout(alloc, items, cells) {
+        Ok(drawing) => Ok(drawing.shapes),
+        Err(ExtractError::UnknownCell(model)) => Err(DrucError::UnknownCell(model)),
+        Err(ExtractError::Memory) => Err(DrucError::Memory),
+        Err(ExtractError::Shorted { .. }) => unreachable!(),
     }
-    Ok(shapes)
 }

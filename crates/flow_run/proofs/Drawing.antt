@@ -31,7 +31,7 @@ use Rattle.machine_alike.specs.Alike.{IsAlike, AlikeRun, AlikeBothWays}
 use Rattle.machine_roots.specs.Roots.{IsGreatestDcount}
 use Rattle.boog_run.specs.Laws.{CanBeDeclared, SourceCanBeDeclared, NetlistIsWritable, NetlistIsSmall, NetlistIsShort}
 use Rattle.boog_run.specs.declared.netlist.TheConstants.{MOST_SIZE}
-use Rattle.boom_run.specs.Boom.{SourceHasFewNames}
+use Rattle.vbe_few.specs.Law.{SourceHasFewNames}
 use Rattle.syf_run.specs.Syf.{style_of}
 use Rattle.syf_run.specs.Laws.{EncodedCanBeDeclared}
 use Rattle.tool_words.specs.declared.command.FlowCommand.{FlowCommand}
@@ -72,7 +72,7 @@ does_as true c source (states f k) m is = is.does
 -- the names of a source, and as many more as it weighs, have numbers of 32 bits
 few_as : SourceHasFewNames → (b : Bool) (c : FlowCommand) (source : List ℕ) (o : Origin) (m : Machine) → IsOf b c source o m → machine_size m ≤ MOST_SIZE
     → length m.vars + length m.ports + machine_size m < 2 ^ 32 - 1
-few_as law false c source equations m is small = law source m is small
+few_as law false c source equations m is small = let few = law source m is in omega (arith, few, small)
 few_as law false c source (states f k) m is small = absurd is
 few_as law true c source equations m is small = absurd is
 few_as law true c source (states f k) m is small = let room = is.few in omega (arith, room, small)

@@ -1,7 +1,6 @@
 //! State machines, written as texts.
 #![tactic(auto)]
 
-mod expressions;
 mod statements;
 mod words;
 mod writer;

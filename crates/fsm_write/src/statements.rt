@@ -11,10 +11,10 @@ ghost use Rattle.fsm_write.specs.Layout.{bar, behind, state_text, assignment_lay
 ghost use Rattle.fsm_write.specs.Pieces.{IsKnownAssignment, AreKnownStates, IsKnownBody, AreKnownParts, AreKnownBranches};
 
 use crate::Words;
-use crate::expressions::{Speller, name};
 use bool_expr::Expr;
 use fsm_code::{Assignment, Branches, Parts, Statements};
 use std::alloc::{AllocError, Global};
+use vbe_write::{Speller, spell_name};
 use vlsi_base::{FileBytes, Name};
 
 /// What statements are written with: the names of a text.
@@ -72,7 +72,7 @@ impl Writer<'_> {
         requires { IsOver (view value.now) (length self.now.words.now.vars) }
         ensures { OnOk result (out.new ≡ out.old ++ text_of (assignment_layout self.now.words.now (output target.now (view value.now)))) }
     {
-        name(self.alloc, out, target)?;
+        spell_name(self.alloc, out, target)?;
         out.append(b" <= ")?;
         self.expression(out, value)?;
         out.append(b";\n")

@@ -1,3 +1,1 @@
-mod Counted
-mod FewNames
 mod Refusing

@@ -58,7 +58,3 @@ Compares c source other (Err r) = (r.part ≡ None) × IsRefused c source other 
 
 abbrev pub proof_answers : ProofCommand → Inputs → Result Product Refusal → Type 0
 proof_answers c i r = Compares c (get_or i.first 0 []) (get_or i.first 1 []) r
-
--- the names of a source that is read have numbers of 32 bits
-abbrev pub SourceHasFewVars : Type 0
-SourceHasFewVars = (source : List ℕ) (m : Machine) → IsVbe source m → length m.vars < 2 ^ 32

@@ -4,8 +4,6 @@
 //! `specs/Table.antt` of `tool_drive`.
 #![tactic(auto)]
 
-mod laws;
 mod proof;
 
-pub use laws::source_has_few_vars;
 pub use proof::Proof;

@@ -5,12 +5,12 @@ ghost use Rattle.tool_drive.specs.Refusals.{MemoryOr, OfFile};
 ghost use Rattle.tool_drive.specs.Table.{IsJudged};
 ghost use Rattle.proof_run.specs.Proof.{Compares, IsFinding, AreSameFunctions, IsSaidEqual};
 
-use crate::laws::source_has_few_vars;
 use machine_core::Machine;
 use proof_cmp::{ProofVerdict, ProveError, prove};
 use std::alloc::{AllocError, Global};
 use tool_drive::{Product, Refusal, Status, Tool, Verdict, Wanted, bytes_at, refused};
 use tool_words::ProofCommand;
+use vbe_few::source_has_few_names;
 use vbe_io::read_vbe;
 use vlsi_base::{FileBytes, FileName};
 
@@ -74,7 +74,7 @@ fn compared(
 ) -> Result<Product, Refusal>
     ensures { IsJudged (Compares command.now source.now other.now) result }
 {
-    source_has_few_vars();
+    source_has_few_names();
     let first = match machine_in(alloc, &command.source, source) {
         Ok(machine) => machine,
         Err(status) => return Err(Refusal::plain(status)),

@@ -47,11 +47,10 @@ pub enum Verdict {
     Broken(FileBytes),
 }
 
-/// How a call ends. As they are built so far, `flow` answers `Accepted`, `Usage`, `Source`, `Library`, `NoCover`, `Budget`, `File`,
-/// `Memory` and `Limit`; `syf` `Accepted`, `Usage`, `Source`, `File`, `Memory` and `Limit`; `boom` these and `Budget`; `boog` as `flow`,
-/// but for `Budget`; `asimut` `Accepted`, `Usage`, `Source`, `File`, `Memory`, `Limit` and `No`, and on a netlist `Library` too; `cougar`
-/// `Accepted`, `Usage`, `Source`, `Library`, `File`, `Memory`, `Limit` and `No`. The driver itself answers `File`, `Memory` and the
-/// limit file; the other refusals are the tools'.
+/// How a call ends. Every tool may answer `Accepted`, `Usage`, `File`, `Memory` and `Limit`, and `Source` where it is given one. Those
+/// that read a library answer `Library` too, those that map to its cells `NoCover`, those that build diagrams `Budget`, and those that
+/// compare, or that need each cell's behaviour, `No`. The driver itself answers `File`, `Memory` and the limit file; the other refusals
+/// are the tools'.
 #[derive(Drop)]
 pub enum Status {
     /// What was asked is done, and printed.

@@ -12,11 +12,12 @@ use bool_expr::{Expr, Gate};
 use std::alloc::{AllocError, Global};
 use vlsi_base::{FileBytes, Name};
 
-/// What expressions are written with: the names of their variables.
+/// What expressions are written with: the names of their variables, in the order of the variables' numbers.
 #[derive(Clone, Copy)]
-pub(crate) struct Speller<'a> {
-    pub(crate) alloc: Global,
-    pub(crate) names: &'a [Name],
+pub struct Speller<'a> {
+    /// Where the text of a name takes its memory, which it gives back.
+    pub alloc: Global,
+    pub names: &'a [Name],
 }
 
 // Whether more than two operands may be joined by both gates, which are one.
@@ -43,8 +44,8 @@ fn gate_word(out: &mut FileBytes, gate: Gate) -> Result<(), AllocError>
     }
 }
 
-/// A name, with its bit in parentheses.
-pub(crate) fn name(alloc: Global, out: &mut FileBytes, name: &Name) -> Result<(), AllocError>
+/// Appends a name, with its bit in parentheses where it has one.
+pub fn spell_name(alloc: Global, out: &mut FileBytes, name: &Name) -> Result<(), AllocError>
     ensures { OnOk result (out.new ≡ out.old ++ text_of (name_layout name.now)) }
 {
     let text = name.to_text(alloc)?;
@@ -172,16 +173,17 @@ impl Speller<'_> {
         out.append(b")")
     }
 
-    /// A whole expression. Operands that are joined by one gate from the left stand without parentheses.
+    /// Appends a whole expression. Operands that are joined by one gate from the left stand without parentheses, and what stands in
+    /// parentheses costs stack.
     #[cycle(whole)]
-    pub(crate) fn whole(&self, out: &mut FileBytes, e: &Expr) -> Result<(), AllocError>
+    pub fn whole(&self, out: &mut FileBytes, e: &Expr) -> Result<(), AllocError>
         requires { IsOver (view e.now) (length self.now.names.now) }
         ensures { OnOk result (out.new ≡ out.old ++ text_of (expression_layout self.now.names.now (view e.now))) }
     {
         match e {
             Expr::Const(true) => out.append(b"'1'"),
             Expr::Const(false) => out.append(b"'0'"),
-            Expr::Var(k) => name(self.alloc, out, &self.names[*k as usize]),
+            Expr::Var(k) => spell_name(self.alloc, out, &self.names[*k as usize]),
             Expr::Not(inner) => {
                 out.append(b"not ")?;
                 self.primary(out, inner)

@@ -6,4 +6,5 @@ mod names;
 mod registers;
 mod writer;
 
+pub use expressions::{Speller, spell_name};
 pub use writer::write_vbe;

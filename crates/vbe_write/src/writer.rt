@@ -13,7 +13,7 @@ ghost use Rattle.vbe_write.specs.Pieces.{front_text, declared_text, stated_text}
 ghost use Rattle.vbe_write.specs.Written.{with_supply_ports, head_layout, equation_layout, equations_layout, condition_layout, rise_layout, block_head_layout, loading_layout, register_layout, blocks_layout, clocked_layout, storage_layout, layout};
 ghost use Rattle.vbe_write.specs.Writable.{CanBeVbe};
 
-use crate::expressions::{Speller, name};
+use crate::expressions::{Speller, spell_name};
 use crate::names::spelling_of;
 use crate::registers::registers;
 use bool_expr::Expr;

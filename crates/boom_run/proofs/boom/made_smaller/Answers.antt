@@ -5,7 +5,7 @@ use Rattle.tool_drive.specs.Table.{IsJudged}
 use Rattle.boog_run.specs.declared.netlist.TheConstants.{MOST_SIZE}
 use Rattle.boom_run.specs.Boom.{MakesSmaller}
 use Rattle.boom_run.proofs.Declared.{can_be_vbe}
-use Rattle.boom_run.proofs.FewNames.{few_made}
+use Rattle.boom_run.proofs.FewNames.{few_made, few_weighed}
 use Rattle.boom_run.proofs.Refusing.{by_source, by_size, by_budget}
 use Rattle.boom_run.proofs.boom.made_smaller.Goals as goal
 
@@ -34,12 +34,12 @@ product-requires-clause-small c =
 
 pub optimise_within-requires : goal.optimise_within-requires
 optimise_within-requires c =
-    record { few = c.source_has_few_names.ensures c.args.source.now c.in-Ok.machine c.in-Ok.ensures.accepted c.in-Ok-check_size.ensures.small }
+    record { few = few_weighed c.in-Ok.machine (c.source_has_few_names.ensures c.args.source.now c.in-Ok.machine c.in-Ok.ensures.accepted) c.in-Ok-check_size.ensures.small }
 
 pub product-requires-clause-few : goal.product-requires-clause-few
 product-requires-clause-few c =
     few_made c.in-Ok.machine c.in-Ok-optimise_within.made.machine c.in-Ok.ensures.accepted.machine.checked.ordered.vars
-    (c.source_has_few_names.ensures c.args.source.now c.in-Ok.machine c.in-Ok.ensures.accepted c.in-Ok-check_size.ensures.small)
+    (few_weighed c.in-Ok.machine (c.source_has_few_names.ensures c.args.source.now c.in-Ok.machine c.in-Ok.ensures.accepted) c.in-Ok-check_size.ensures.small)
     c.in-Ok-optimise_within.ensures.made.optimised
 
 pub product-requires-clause-names : goal.product-requires-clause-names

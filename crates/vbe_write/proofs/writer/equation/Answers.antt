@@ -17,7 +17,7 @@ returns c =
     let end : List Written = a_sign sign.Semicolon ∷ turn ∷ [] in
     let z = c.append-2.new.self in
     on_ok_weaker c.append-2.result
-    (λ e. put_two n (a ++ (v ++ end)) c.args.out.now c.name.new.out z c.in_ok-name.ensures
-    (put_two a (v ++ end) c.name.new.out c.append.new.self z c.in_ok-append.ensures.ok
+    (λ e. put_two n (a ++ (v ++ end)) c.args.out.now c.spell_name.new.out z c.in_ok-spell_name.ensures
+    (put_two a (v ++ end) c.spell_name.new.out c.append.new.self z c.in_ok-append.ensures.ok
     (put_two v end c.append.new.self c.value.new.out z c.in_ok-value.ensures e)))
     c.append-2.ensures.ok

@@ -19,7 +19,7 @@ returns c =
     let z = c.append-3.new.self in
     on_ok_weaker c.append-3.result
     (λ e. put_two (gap ∷ gap ∷ []) (n ++ (a ++ (v ++ end))) c.args.out.now c.append.new.self z c.in_ok-append.ensures.ok
-    (put_two n (a ++ (v ++ end)) c.append.new.self c.name.new.out z c.in_ok-name.ensures
-    (put_two a (v ++ end) c.name.new.out c.append-2.new.self z c.in_ok-append-2.ensures.ok
+    (put_two n (a ++ (v ++ end)) c.append.new.self c.spell_name.new.out z c.in_ok-spell_name.ensures
+    (put_two a (v ++ end) c.spell_name.new.out c.append-2.new.self z c.in_ok-append-2.ensures.ok
     (put_two v end c.append-2.new.self c.value.new.out z c.in_ok-value.ensures e))))
     c.append-3.ensures.ok

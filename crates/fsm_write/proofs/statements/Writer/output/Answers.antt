@@ -17,7 +17,7 @@ returns c =
     let v = expression_layout c.args.self.now.words.now.vars (view c.args.value.now) in
     let z = c.append-2.new.self in
     on_ok_weaker c.append-2.result
-    (λ e. put_two n (a ++ (v ++ end_of_line)) c.args.out.now c.name.new.out z c.in_ok-name.ensures
-    (put_two a (v ++ end_of_line) c.name.new.out c.append.new.self z c.in_ok-append.ensures.ok
+    (λ e. put_two n (a ++ (v ++ end_of_line)) c.args.out.now c.spell_name.new.out z c.in_ok-spell_name.ensures
+    (put_two a (v ++ end_of_line) c.spell_name.new.out c.append.new.self z c.in_ok-append.ensures.ok
     (put_two v end_of_line c.append.new.self c.expression.new.out z c.in_ok-expression.ensures e)))
     c.append-2.ensures.ok

@@ -17,8 +17,8 @@ use Rattle.vlsi_model.proofs.Bits.{bit_all}
 use Rattle.vlsi_model.proofs.FineSources.{facts}
 use Rattle.vlsi_model.proofs.Assembly.{equation_of, register_of, defined_is, stored_is}
 use Rattle.vbe_io.specs.Text.{IsVbe}
-use Rattle.proof_run.specs.Proof.{SourceHasFewVars}
-use Rattle.proof_run.proofs.Counted.{declared_few}
+use Rattle.vbe_few.specs.Law.{SourceHasFewNames}
+use Rattle.vbe_few.proofs.Counted.{declared_few}
 
 -- ---- different names of a list
 
@@ -98,7 +98,7 @@ few_inputs m =
 held_long : (m : Machine) → length (held_names m) ≡ length (inputs m) + length m.registers
 held_long m = length-append (inputs m) (register_names m) ∙ ap (λ n. length (inputs m) + n) (length-map m.registers (λ (r : Register). r.name))
 
-pub source_has_few : SourceHasFewVars
+pub source_has_few : SourceHasFewNames
 source_has_few source m is =
     let ports = few_ports source m is in
     let equations = few_equations source m is in
