@@ -162,11 +162,7 @@ fn own_shapes(alloc: Global, items: &[Item]) -> Result<Drawing, AllocError>
 
 /// The shapes of a figure with these cells. It is refused by `UnknownCell` exactly where the model of an instance is no cell, at
 /// the first such. Takes memory for the shapes, and time for them and for each instance and each cell.
-pub fn draw_layout(
-    alloc: Global,
-    items: &[Item],
-    cells: &[Cell],
-) -> Result<Drawing, ExtractError>
+pub fn draw_layout(alloc: Global, items: &[Item], cells: &[Cell]) -> Result<Drawing, ExtractError>
     requires ready { All IsReady items.now }
     requires few { length items.now < 2 ^ 32 }
     requires places { (i : PlacedInstance) → In i (instances_of items.now) → IsCoordinate i.x × IsCoordinate i.y }

@@ -87,7 +87,7 @@ fn equation(
     requires { IsOver (view value.now) (length speller.now.names.now) }
     ensures { OnOk result (out.new ≡ out.old ++ text_of (equation_layout speller.now.names.now target.now (view value.now))) }
 {
-    name(speller.alloc, out, target)?;
+    spell_name(speller.alloc, out, target)?;
     out.append(b" <= ")?;
     speller.value(out, value)?;
     out.append(b";\n")
@@ -172,7 +172,7 @@ fn loading(
     ensures { OnOk result (out.new ≡ out.old ++ text_of (loading_layout speller.now.names.now (register_view register.now))) }
 {
     out.append(b"  ")?;
-    name(speller.alloc, out, &register.name)?;
+    spell_name(speller.alloc, out, &register.name)?;
     out.append(b" <= guarded ")?;
     speller.value(out, &register.next)?;
     out.append(b";\n")
