@@ -1,13 +1,14 @@
-use Rattle.std.proofs.Common.{◌≡◌, ◌<◌, ◌∙◌, ℕ, List, Some, None, ap, length, get_or, refl, sym, subst, arith}
+use Rattle.std.proofs.Common.{◌≡◌, ◌+◌, ◌<◌, ◌∙◌, ℕ, List, Some, None, ap, length, get_or, refl, sym, subst, arith}
 use Rattle.std.specs.Prelude.{slice_get, slice_index}
 use Rattle.std.specs.Global.{Vec}
 use Rattle.std.proofs.lemmas.List.{length-map}
+use Rattle.std.proofs.lemmas.Option.{slice_get_read, slice_get_past}
 use Rattle.cell_model.specs.Cell.{Cell}
 use Rattle.cell_model.specs.Library.{Library}
 use Rattle.net_core.specs.Frame.{instance_of}
-use Rattle.delay_sta.specs.Graph.{AreFound}
+use Rattle.delay_sta.specs.Graph.{AreFound, AddsArcs}
 use Rattle.delay_sta.specs.declared.graph.TimedArc.{TimedArc}
-use Rattle.delay_sta.proofs.Gathering.{at_node, node_some, node_none, all_so_far}
+use Rattle.delay_sta.proofs.Gathering.{AreSoFar, at_node, node_some, node_none, all_so_far}
 use Rattle.delay_sta.proofs.graph.timed_arcs.Goals.{in-Some+in_ok-push_arcs, in_default}
 use Rattle.delay_sta.proofs.graph.timed_arcs.Goals as goal
 
@@ -17,8 +18,16 @@ loop-node-preserved c =
     let at = at_node c.args.netlist.now c.args.library.now c.args.netlist.now.models c.cells.result.now c.nodes-node-items.result.now c.args.places.now c.loop-node.node-index c.node-item.result refl same c.nodes-node-items.ensures.seen
         c.nodes-node-items.ensures.known (subst (λ (cs : List Cell). AreFound cs c.args.netlist.now.models c.args.places.now) (sym same) c.requires.cells) c.loop-node-test.true c.node-item.is in
     elim c.match-get.branch [
-      | in-Some+in_ok-push_arcs w ↦ ?
-      | in_default w ↦ ?
+      | in-Some+in_ok-push_arcs w ↦
+          let s = slice_get_read c.cells.result.now (length c.cells.result.now) (slice_index c.args.places.now c.node-item.result.model) w.in-Some.cell.now refl w.in-Some.ensures.lookup.3.0 w.in-Some.ensures.lookup.1 in
+          node_some c.args.netlist.now c.args.library.now c.requires.sound c.args.loads.now c.requires.loads c.loop-node.arcs.items c.match-get.arcs.items c.loop-node.node-index c.node-item.result w.in-Some.cell.now
+          (record { stands = at.stands; cell = at.cell ∙ s })
+          (subst (λ (v : Vec TimedArc). AddsArcs c.args.netlist.now (slice_index c.args.loads.now) c.node-item.result.name w.in-Some.cell.now c.loop-node.arcs.items v.items) (sym w.arcs-is) w.in_ok-push_arcs.ensures)
+          c.loop-node.invariant
+      | in_default w ↦
+          subst (λ (v : Vec TimedArc). AreSoFar c.args.netlist.now c.args.library.now v.items (c.loop-node.node-index + 1)) (sym w.arcs-is)
+          (node_none c.args.netlist.now c.args.library.now c.loop-node.arcs.items c.loop-node.node-index c.node-item.result
+          (record { stands = at.stands; cell = at.cell ∙ slice_get_past c.cells.result.now (slice_index c.args.places.now c.node-item.result.model) w.in_default.ensures.lookup.3 }) c.loop-node.invariant)
     ]
 
 pub returns : goal.returns
