@@ -1,60 +1,48 @@
--- Arguments, and the words that spell them: files, options with their values, and flags, in any order.
-use Rattle.std.specs.Prelude.{ℕ, Bool, true, false, not, ◌&&◌, List, [], ◌∷◌, Option, None, Some, option_map, if◌then◌else◌}
-use Rattle.std.specs.List.{find}
-use Rattle.tool_words.specs.declared.arguments.Argument.{Argument}
-use Rattle.tool_words.specs.declared.arguments.Argument.TheVariants as argument
-use Rattle.tool_words.specs.Words.{is_word, is_option}
-use Rattle.tool_words.specs.Table.{Form, Flag, Setting}
+-- The words behind a tool's, as `clap` takes them: by one simple command with the arguments of the tool's entry.
+use Rattle.std.specs.Prelude.{ℕ, true, List, [], ◌∷◌, ◌++◌, map, None, Some, is_some, if◌then◌else◌, codes}
+use Rattle.clap.specs.Words.{App, Row, Rule, Kinds, new_rule, matches_of, fault_of}
+use Rattle.clap.specs.Simple.{new_shape}
+use Rattle.clap.specs.declared.builder.action.ArgAction.{ArgAction}
+use Rattle.clap.specs.declared.builder.action.ArgAction.TheVariants.{Set, SetTrue}
+use Rattle.tool_words.specs.Table.{Form, Flag, Setting, Entry}
 
-abbrev pub is_flag : Form → Bool
-is_flag Flag = true
-is_flag _ = false
+-- the name of SOURCE
+abbrev pub source : List ℕ
+source = codes "source"
 
--- the option with this word
-abbrev pub setting_of : List Setting → List ℕ → Option Setting
-setting_of settings word = find (λ (s : Setting). is_word s.word word) settings
+-- SOURCE, of a tool that has one, stands by itself
+abbrev pub source_rules : List (List ℕ) → List Rule
+source_rules [] = []
+source_rules (ending ∷ others) = record (new_rule source) { required = true } ∷ []
 
-abbrev pub is_flag_of : Option Setting → Bool
-is_flag_of None = false
-is_flag_of (Some s) = is_flag s.form
+abbrev pub action_for : Form → ArgAction
+action_for Flag = SetTrue
+action_for _ = Set
 
-abbrev pub has_value_of : Option Setting → Bool
-has_value_of None = false
-has_value_of (Some s) = not (is_flag s.form)
+-- an option is spelled by its letter, or else by its name
+abbrev pub option_rule : Setting → Rule
+option_rule s = record (new_rule s.name) {
+  short = s.letter;
+  long = if is_some s.letter then None else Some s.name;
+  action = Some (action_for s.form);
+  required = s.required;
+}
 
--- the word is a flag of the tool
-abbrev pub names_flag : List Setting → List ℕ → Bool
-names_flag settings word = is_flag_of (setting_of settings word)
+-- the tool's word isn't among its words, and it has no help
+abbrev pub command_line : Entry → App
+command_line e = record {
+  top = record (new_shape e.word) {
+    rules = source_rules e.endings ++ map option_rule e.settings;
+    no_binary_name = true;
+    disable_help_flag = true;
+  };
+  subs = [];
+}
 
--- the word is an option of the tool that has a value
-abbrev pub names_value : List Setting → List ℕ → Bool
-names_value settings word = has_value_of (setting_of settings word)
+-- what is wrong with the words
+unfoldable pub faults : Entry → List (List ℕ) → Kinds
+faults e words = fault_of (command_line e) words
 
-abbrev pub spelling : Argument → List (List ℕ)
-spelling (argument.File file) = file ∷ []
-spelling (argument.Value option value) = option ∷ value ∷ []
-spelling (argument.Flag option) = option ∷ []
-
--- the argument is one that a tool with these options may have
-abbrev pub is_valid : List Setting → Argument → Bool
-is_valid settings (argument.File file) = not (is_option file)
-is_valid settings (argument.Value option value) = names_value settings option && not (is_option value)
-is_valid settings (argument.Flag option) = names_flag settings option
-
--- The same as a function, word by word: the arguments that words spell, behind an option that waits for its value.
-abbrev pub with_argument : Argument → Option (List Argument) → Option (List Argument)
-with_argument a rest = option_map (λ more. a ∷ more) rest
-
-abbrev pub arguments_behind : List Setting → Option (List ℕ) → List (List ℕ) → Option (List Argument)
-arguments_behind settings None [] = Some []
-arguments_behind settings (Some option) [] = None
-arguments_behind settings (Some option) (word ∷ words) =
-    if is_option word then None else with_argument (argument.Value option word) (arguments_behind settings None words)
-arguments_behind settings None (word ∷ words) =
-    if names_flag settings word then with_argument (argument.Flag word) (arguments_behind settings None words)
-    else if names_value settings word then arguments_behind settings (Some word) words
-    else if is_option word then None
-    else with_argument (argument.File word) (arguments_behind settings None words)
-
-abbrev pub arguments_of : List Setting → List (List ℕ) → Option (List Argument)
-arguments_of settings words = arguments_behind settings None words
+-- what they give for each argument, where nothing is wrong
+unfoldable pub given : Entry → List (List ℕ) → List Row
+given e words = matches_of (command_line e) words

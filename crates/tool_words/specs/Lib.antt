@@ -1,9 +1,7 @@
 pub mod Words
 pub mod Table
 pub mod Arguments
-pub mod Steps
 pub mod Values
-pub mod Wanted
 pub mod Commands
 pub mod Usage
 pub mod View

@@ -1,5 +1,5 @@
 -- The table of tools: for each its word, its SOURCE and its options. A tool more is an entry more.
-use Rattle.std.specs.Prelude.{ℕ, List, [], ◌∷◌, Option, Some, codes}
+use Rattle.std.specs.Prelude.{ℕ, Bool, true, false, List, [], ◌∷◌, Option, None, Some, codes}
 use Rattle.std.specs.List.{find}
 use Rattle.tool_words.specs.declared.table.Tool.{Tool}
 use Rattle.tool_words.specs.declared.table.Tool.TheVariants as tool
@@ -13,24 +13,16 @@ pub data Form : Type 0 where
   Text : Form
   -- a text with this ending
   Ending : List ℕ → Form
-  -- a number in decimal digits, from the first to the second
-  Number : ℕ → ℕ → Form
-  -- one of these letters
-  Letter : List ℕ → Form
+  -- a number in decimal digits, from the first to the second; and the number that stands for it where it is left out, if one does
+  Number : ℕ → ℕ → Option ℕ → Form
 
--- how often an option stands among the words
-pub data Need : Type 0 where
-  Once : Need
-  -- at most once; where it doesn't stand, this number or letter is its value, if there is one
-  Perhaps : Option ℕ → Need
-  -- once where SOURCE has this ending, and never elsewhere
-  With : List ℕ → Need
-
--- an option: its word, how the usage line calls its value, how often it stands, and what its value is
+-- An option: its name; the letter that spells it, where the name itself doesn't; how the usage line calls its value; whether it has
+-- to stand among the words; and what its value is. It stands there at most once.
 pub record Setting : Type 0 where
-  pub word : List ℕ
+  pub name : List ℕ
+  pub letter : Option ℕ
   pub value : List ℕ
-  pub need : Need
+  pub required : Bool
   pub form : Form
 
 -- a tool: its word, the endings of which its SOURCE has one, and its options; without endings it has no SOURCE
@@ -41,44 +33,73 @@ pub record Entry : Type 0 where
   pub settings : List Setting
 
 abbrev pub library : Setting
-library = record { word = codes "-l"; value = codes "DIR"; need = Once; form = Text }
+library = record { name = codes "library"; letter = Some 108; value = codes "DIR"; required = true; form = Text }
 
 abbrev pub out : Setting
-out = record { word = codes "-o"; value = codes "NAME"; need = Once; form = Text }
+out = record { name = codes "out"; letter = Some 111; value = codes "NAME"; required = true; form = Text }
 
 abbrev pub patterns : Setting
-patterns = record { word = codes "-p"; value = codes "PATTERNS"; need = Once; form = Ending (codes ".pat") }
+patterns = record { name = codes "patterns"; letter = Some 112; value = codes "PATTERNS"; required = true; form = Ending (codes ".pat") }
 
 -- what a source, or a netlist, is compared with
 abbrev pub other_source : Setting
-other_source = record { word = codes "-b"; value = codes "OTHER"; need = Once; form = Ending (codes ".vbe") }
+other_source = record { name = codes "other"; letter = Some 98; value = codes "OTHER"; required = true; form = Ending (codes ".vbe") }
 
 abbrev pub other_netlist : Setting
-other_netlist = record { word = codes "-b"; value = codes "OTHER"; need = Once; form = Ending (codes ".vst") }
+other_netlist = record { name = codes "other"; letter = Some 98; value = codes "OTHER"; required = true; form = Ending (codes ".vst") }
 
+-- the library where it stands only beside a netlist
 abbrev pub netlist_library : Setting
-netlist_library = record { word = codes "-l"; value = codes "DIR"; need = With (codes ".vst"); form = Text }
+netlist_library = record { name = codes "library"; letter = Some 108; value = codes "DIR"; required = false; form = Text }
 
--- how states get their codes: o, r or j, and j where it isn't given
+-- how states get their codes
 abbrev pub encoding : Setting
-encoding = record { word = codes "-e"; value = codes "STYLE"; need = Perhaps (Some 106); form = Letter (codes "orj") }
+encoding = record { name = codes "encoding"; letter = Some 101; value = codes "STYLE"; required = false; form = Text }
 
+abbrev pub tracks : Setting
+tracks = record { name = codes "tracks"; letter = None; value = []; required = true; form = Flag }
+
+-- how many rows of cells, and how many metals
+abbrev pub rows : Setting
+rows = record { name = codes "rows"; letter = None; value = codes "N"; required = false; form = Number 1 256 None }
+
+abbrev pub metals : Setting
+metals = record { name = codes "metals"; letter = None; value = codes "N"; required = false; form = Number 4 6 (Some 6) }
+
+-- of random words
 abbrev pub seed : Setting
-seed = record { word = codes "--seed"; value = codes "N"; need = Perhaps (Some 0); form = Number 0 4294967295 }
+seed = record { name = codes "seed"; letter = None; value = codes "N"; required = false; form = Number 0 4294967295 (Some 0) }
+
+-- how often the placement is tried to be made better
+abbrev pub moves : Setting
+moves = record { name = codes "moves"; letter = None; value = codes "N"; required = false; form = Number 0 1000000 (Some 10000) }
 
 -- the most nodes that a diagram may have
 abbrev pub nodes : Setting
-nodes = record { word = codes "--nodes"; value = codes "N"; need = Perhaps (Some 200000); form = Number 1 4000000 }
+nodes = record { name = codes "nodes"; letter = None; value = codes "N"; required = false; form = Number 1 4000000 (Some 200000) }
 
-abbrev pub tracks : Setting
-tracks = record { word = codes "--tracks"; value = []; need = Once; form = Flag }
+-- the most pins that a cell's output may drive
+abbrev pub fanout : Setting
+fanout = record { name = codes "fanout"; letter = None; value = codes "N"; required = false; form = Number 4 1000000 (Some 32) }
+
+-- how large a source is made
+abbrev pub size : Setting
+size = record { name = codes "size"; letter = None; value = codes "N"; required = true; form = Number 8 4000 None }
 
 abbrev pub flow : Entry
 flow = record {
   tool = tool.Flow;
   word = codes "flow";
   endings = codes ".vbe" ∷ codes ".fsm" ∷ [];
-  settings = library ∷ out ∷ encoding ∷ tracks ∷ seed ∷ nodes ∷ [];
+  settings = library ∷ out ∷ encoding ∷ tracks ∷ rows ∷ metals ∷ seed ∷ moves ∷ nodes ∷ fanout ∷ [];
+}
+
+abbrev pub gen : Entry
+gen = record {
+  tool = tool.Gen;
+  word = codes "gen";
+  endings = [];
+  settings = size ∷ library ∷ out ∷ tracks ∷ rows ∷ metals ∷ seed ∷ moves ∷ nodes ∷ fanout ∷ [];
 }
 
 abbrev pub syf : Entry
@@ -114,7 +135,7 @@ abbrev pub flatbeh : Entry
 flatbeh = record { tool = tool.Flatbeh; word = codes "flatbeh"; endings = codes ".vst" ∷ []; settings = library ∷ out ∷ [] }
 
 abbrev pub tools : List Entry
-tools = flow ∷ syf ∷ boom ∷ boog ∷ asimut ∷ cougar ∷ lvx ∷ druc ∷ proof ∷ flatbeh ∷ []
+tools = flow ∷ gen ∷ syf ∷ boom ∷ boog ∷ asimut ∷ cougar ∷ lvx ∷ druc ∷ proof ∷ flatbeh ∷ []
 
 -- the tool with this word
 abbrev pub tool_of : List ℕ → Option Entry

@@ -1,6 +1,6 @@
 -- The usage lines, from the table.
-use Rattle.std.specs.Prelude.{ℕ, List, [], ◌∷◌, ◌++◌, Option, None, Some, codes}
-use Rattle.tool_words.specs.Table.{Form, Flag, Ending, Need, Once, Setting, Entry, tools, tool_of}
+use Rattle.std.specs.Prelude.{ℕ, Bool, List, [], ◌∷◌, ◌++◌, Option, None, Some, if◌then◌else◌, codes}
+use Rattle.tool_words.specs.Table.{Form, Flag, Ending, Setting, Entry, tools, tool_of}
 
 -- SOURCE, with its ending where it may have but one
 abbrev pub source_usage : List (List ℕ) → List ℕ
@@ -13,17 +13,20 @@ value_usage Flag value = []
 value_usage (Ending ending) value = codes " " ++ (value ++ ending)
 value_usage _ value = codes " " ++ value
 
--- what may be left out stands in brackets
-abbrev pub before_word : Need → List ℕ
-before_word Once = codes " "
-before_word _ = codes " ["
+-- a letter behind one dash, or the name behind two
+abbrev pub option_usage : Option ℕ → List ℕ → List ℕ
+option_usage (Some letter) name = codes "-" ++ letter ∷ []
+option_usage None name = codes "--" ++ name
 
-abbrev pub behind_value : Need → List ℕ
-behind_value Once = []
-behind_value _ = codes "]"
+-- what may be left out stands in brackets
+abbrev pub before_option : Bool → List ℕ
+before_option required = if required then codes " " else codes " ["
+
+abbrev pub behind_value : Bool → List ℕ
+behind_value required = if required then [] else codes "]"
 
 abbrev pub setting_usage : Setting → List ℕ
-setting_usage s = before_word s.need ++ (s.word ++ (value_usage s.form s.value ++ behind_value s.need))
+setting_usage s = before_option s.required ++ (option_usage s.letter s.name ++ (value_usage s.form s.value ++ behind_value s.required))
 
 abbrev pub settings_usage : List Setting → List ℕ
 settings_usage [] = []

@@ -1,35 +1,39 @@
--- What stands among arguments, and whether a tool takes it.
-use Rattle.std.specs.Prelude.{ℕ, Bool, true, false, ◌&&◌, List, [], ◌∷◌, length, Option, None, Some, is_some, if◌then◌else◌, nat_eq, nat_le}
-use Rattle.std.specs.List.{ends_with, filter_map, find, list_all, list_any}
+-- What is given for SOURCE and for an option, where it is of the form that the table has.
+use Rattle.std.specs.Prelude.{ℕ, Bool, ◌&&◌, List, length, Option, None, Some, option_map, option_and_then, if◌then◌else◌, codes, nat_eq, nat_le}
+use Rattle.std.specs.List.{ends_with, list_all, list_any}
+use Rattle.clap.specs.Words.{Row, first_of, found_of, rows_of}
+use Rattle.clap.specs.declared.parser.matches.ArgMatches.{ArgMatches}
 use Rattle.vlsi_base.specs.Number.{is_digit, value_of}
-use Rattle.tool_words.specs.declared.arguments.Argument.{Argument}
-use Rattle.tool_words.specs.declared.arguments.Argument.TheVariants as argument
+use Rattle.tool_words.specs.declared.command.Encoding.{Encoding}
+use Rattle.tool_words.specs.declared.command.Encoding.TheVariants as encoding_variant
 use Rattle.tool_words.specs.Words.{is_word}
-use Rattle.tool_words.specs.Table.{Form, Flag, Text, Ending, Number, Letter, Need, Once, Perhaps, With, Setting, Entry}
+use Rattle.tool_words.specs.Table.{Form, Ending, Number, Setting, encoding}
+use Rattle.tool_words.specs.Arguments.{source}
 
--- ---- files and values, in their order
+-- what the code's parse found
+abbrev pub found : ArgMatches → List Row
+found m = rows_of (found_of m)
 
-abbrev pub as_file : Argument → Option (List ℕ)
-as_file (argument.File file) = Some file
-as_file (argument.Value option value) = None
-as_file (argument.Flag option) = None
-
-abbrev pub files : List Argument → List (List ℕ)
-files arguments = filter_map as_file arguments
-
--- the value of this option; a flag has the empty one
-abbrev pub as_value : List ℕ → Argument → Option (List ℕ)
-as_value option (argument.File file) = None
-as_value option (argument.Value other value) = if is_word option other then Some value else None
-as_value option (argument.Flag other) = if is_word option other then Some [] else None
-
-abbrev pub values : List ℕ → List Argument → List (List ℕ)
-values option arguments = filter_map (as_value option) arguments
-
--- ---- whether a value is of its form
+-- ---- texts
 
 abbrev pub has_ending : List ℕ → List ℕ → Bool
 has_ending text ending = ends_with nat_eq text ending
+
+abbrev pub with_ending : List (List ℕ) → List ℕ → Option (List ℕ)
+with_ending endings text = if list_any (has_ending text) endings then Some text else None
+
+abbrev pub text_by : Form → List ℕ → Option (List ℕ)
+text_by (Ending ending) text = if has_ending text ending then Some text else None
+text_by _ text = Some text
+
+-- SOURCE, with one of the endings
+abbrev pub source_of : List (List ℕ) → List Row → Option (List ℕ)
+source_of endings rows = option_and_then (with_ending endings) (first_of source rows)
+
+abbrev pub text_of : Setting → List Row → Option (List ℕ)
+text_of s rows = option_and_then (text_by s.form) (first_of s.name rows)
+
+-- ---- numbers
 
 -- 1 to 10 decimal digits
 abbrev pub is_numeral : List ℕ → Bool
@@ -39,68 +43,43 @@ is_numeral text = nat_le 1 (length text) && nat_le (length text) 10 && list_all 
 abbrev pub number_within : ℕ → ℕ → List ℕ → Option ℕ
 number_within least most text = if is_numeral text && nat_le least (value_of text) && nat_le (value_of text) most then Some (value_of text) else None
 
--- the letter that the text is, among these
-abbrev pub letter_among : List ℕ → List ℕ → Option ℕ
-letter_among letters text = find (λ letter. is_word text (letter ∷ [])) letters
+abbrev pub number_by : Form → List ℕ → Option ℕ
+number_by (Number least most default) text = number_within least most text
+number_by _ text = None
 
--- a value as a number, and a letter as its code
-abbrev pub code_of : Form → List ℕ → Option ℕ
-code_of (Number least most) value = number_within least most value
-code_of (Letter letters) value = letter_among letters value
-code_of _ value = None
-
-abbrev pub is_of_form : Form → List ℕ → Bool
-is_of_form Flag value = true
-is_of_form Text value = true
-is_of_form (Ending ending) value = has_ending value ending
-is_of_form form value = is_some (code_of form value)
-
--- ---- whether arguments are those of a tool
-
--- the only one of a list
-abbrev pub only : {A : Type 0} → List A → Option A
-only [] = None
-only (x ∷ []) = Some x
-only (x ∷ y ∷ rest) = None
-
--- a file with one of the endings
-abbrev pub has_any_ending : List (List ℕ) → Option (List ℕ) → Bool
-has_any_ending endings None = false
-has_any_ending endings (Some file) = list_any (λ ending. has_ending file ending) endings
-
--- SOURCE: one file with one of the endings, or none where the tool has no SOURCE
-abbrev pub is_source : List (List ℕ) → List (List ℕ) → Bool
-is_source endings files = if nat_eq (length endings) 0 then nat_eq (length files) 0 else has_any_ending endings (only files)
-
--- so many times an option may stand beside these files
-abbrev pub is_enough : Need → List (List ℕ) → ℕ → Bool
-is_enough Once files times = nat_eq times 1
-is_enough (Perhaps default) files times = nat_le times 1
-is_enough (With ending) files times = nat_eq times (if has_any_ending (ending ∷ []) (only files) then 1 else 0)
-
-abbrev pub value_fits : Form → Option (List ℕ) → Bool
-value_fits form None = true
-value_fits form (Some value) = is_of_form form value
-
--- the option stands there as often as it may, with a value of its form
-abbrev pub setting_fits : List Argument → Setting → Bool
-setting_fits arguments s =
-    is_enough s.need (files arguments) (length (values s.word arguments)) && value_fits s.form (only (values s.word arguments))
-
-abbrev pub fits : Entry → List Argument → Bool
-fits e arguments = is_source e.endings (files arguments) && list_all (setting_fits arguments) e.settings
-
--- ---- numbers and letters
-
--- what stands for an option that is left out
-abbrev pub default_of : Need → Option ℕ
-default_of (Perhaps default) = default
+abbrev pub default_of : Form → Option ℕ
+default_of (Number least most default) = default
 default_of _ = None
 
--- the number or the letter that an option is given, or the one that stands for it
-abbrev pub given_or_default : Setting → Option (List ℕ) → Option ℕ
-given_or_default s (Some value) = code_of s.form value
-given_or_default s None = default_of s.need
+abbrev pub number_or_default : Form → Option (List ℕ) → Option ℕ
+number_or_default form None = default_of form
+number_or_default form (Some text) = number_by form text
 
-abbrev pub number_of : Setting → List Argument → Option ℕ
-number_of s arguments = given_or_default s (only (values s.word arguments))
+-- the number that is given, or the one that stands for it
+abbrev pub number_of : Setting → List Row → Option ℕ
+number_of s rows = number_or_default s.form (first_of s.name rows)
+
+abbrev pub number_or_none : Form → Option (List ℕ) → Option (Option ℕ)
+number_or_none form None = Some None
+number_or_none form (Some text) = option_map (λ n. Some n) (number_by form text)
+
+-- the number that is given, if one is
+abbrev pub number_if_given : Setting → List Row → Option (Option ℕ)
+number_if_given s rows = number_or_none s.form (first_of s.name rows)
+
+-- ---- how states get their codes
+
+-- by o, r or j
+abbrev pub encoding_by : List ℕ → Option Encoding
+encoding_by text =
+    if is_word text (codes "o") then Some encoding_variant.OneHot
+    else if is_word text (codes "r") then Some encoding_variant.Random
+    else if is_word text (codes "j") then Some encoding_variant.Adjacent
+    else None
+
+abbrev pub encoding_or_default : Option (List ℕ) → Option Encoding
+encoding_or_default None = Some encoding_variant.Adjacent
+encoding_or_default (Some text) = encoding_by text
+
+abbrev pub encoding_of : List Row → Option Encoding
+encoding_of rows = encoding_or_default (first_of encoding.name rows)

@@ -1,136 +1,120 @@
-// The arguments that words spell.
-ghost use Rattle.std.specs.Prelude.{◌≡◌, ◌∷◌, ℕ, List, Some, None, map, option_map, IfOk, IsErrOf};
+// The words behind a tool's, taken by `clap`.
+ghost use Rattle.std.specs.Prelude.{◌≡◌, ◌++◌, [], true, false, map, IfOk, IsErrOf};
+ghost use Rattle.std.specs.List.{list_all};
+ghost use Rattle.std.specs.Str.{is_utf8};
+ghost use Rattle.clap.specs.Words.{app_of, rule_of, is_simple_and_free};
 ghost use Rattle.tool_words.specs.declared.words.WordsError.TheVariants.{Usage};
-ghost use Rattle.tool_words.specs.Arguments.{is_flag, setting_of, arguments_of};
-ghost use Rattle.tool_words.specs.Steps.{ComesTo, SpellsNone, IsTaken};
-ghost use Rattle.tool_words.specs.View.{form_view, setting_view, settings_view};
+ghost use Rattle.tool_words.specs.Arguments.{source_rules, action_for, option_rule, command_line, faults, given};
+ghost use Rattle.tool_words.specs.Values.{found};
+ghost use Rattle.tool_words.specs.View.{form_view, setting_view, settings_view, texts_view, entry_view};
 
-use crate::table::{Form, Setting};
-use crate::words::{WordsError, is_option, is_same};
+use crate::table::{Entry, Form, Setting};
+use crate::words::WordsError;
+use clap::{Arg, ArgAction, ArgMatches, Command};
 use std::alloc::{AllocError, Global};
-use vlsi_base::{FileName, Text};
+use vlsi_base::Text;
 
-/// What one word, or an option and its value, stand for.
-#[derive(Drop)]
-pub(crate) enum Argument {
-    File(FileName),
-    /// An option, and its value.
-    Value(Text, FileName),
-    /// An option without a value.
-    Flag(Text),
-}
+/// The name of SOURCE.
+pub(crate) const SOURCE: &str = "source";
 
-fn is_flag(form: Form) -> bool
-    ensures { result ≡ is_flag (form_view form) }
+fn action_for(form: Form) -> ArgAction
+    ensures { result ≡ action_for (form_view form) }
 {
     match form {
-        Form::Flag => true,
-        _ => false,
+        Form::Flag => ArgAction::SetTrue,
+        _ => ArgAction::Set,
     }
 }
 
-// The option with this word.
-fn setting_of(settings: &[Setting], word: &[u8]) -> Option<Setting>
-    ensures { option_map setting_view result ≡ setting_of (settings_view settings.now) word.now }
+// An option is spelled by its letter, or else by its name.
+fn option<'a>(alloc: Global, setting: Setting) -> Arg<'a>
+    ensures { rule_of result ≡ option_rule (setting_view setting) }
+{
+    let option = Arg::new(alloc, setting.name)
+        .action(action_for(setting.form))
+        .required(setting.required);
+    match setting.letter {
+        Some(letter) => option.short(char::from(letter)),
+        None => option.long(setting.name),
+    }
+}
+
+// SOURCE, of a tool that has one.
+fn source<'a>(alloc: Global, endings: &[&'static str]) -> Result<Vec<Arg<'a>>, AllocError>
+    ensures { IfOk result (λ arguments. map rule_of arguments.items ≡ source_rules (texts_view endings.now)) }
+{
+    let mut arguments = Vec::new(alloc);
+    match endings {
+        [] => Ok(arguments),
+        [_, ..] => {
+            arguments.push(Arg::new(alloc, SOURCE).required(true))?;
+            Ok(arguments)
+        }
+    }
+}
+
+fn options<'a>(
+    alloc: Global,
+    mut arguments: Vec<Arg<'a>>,
+    settings: &[Setting],
+) -> Result<Vec<Arg<'a>>, AllocError>
+    ensures { IfOk result (λ all. map rule_of all.items
+        ≡ map rule_of arguments.entry.items ++ map option_rule (settings_view settings.now)) }
 {
     for setting in settings {
-        if is_same(setting.word.as_bytes(), word) {
-            return Some(*setting);
-        }
+        arguments.push(option(alloc, *setting))?;
     }
-    None
+    Ok(arguments)
 }
 
-// What a word comes to: an argument, or an option that waits for its value.
-#[derive(Drop)]
-enum Step {
-    Found(Argument),
-    Waits(Text),
-}
-
-// A word behind an option that waits for its value.
-fn value(alloc: Global, settings: &[Setting], option: Text, word: &[u8]) -> Result<Step, WordsError>
-    ensures ok { IfOk result (λ step. ComesTo (settings_view settings.now) (Some option) word.now step) }
-    ensures usage { IsErrOf result Usage → SpellsNone (settings_view settings.now) (Some option) word.now }
+// The command line of a tool. Help isn't one of its options.
+fn command_line<'a>(alloc: Global, entry: Entry) -> Result<Command<'a>, AllocError>
+    ensures { IfOk result (λ command. app_of command ≡ command_line (entry_view entry)) }
 {
-    if is_option(word) {
-        return Err(WordsError::Usage);
-    }
-    let value = FileName::from_bytes(alloc, word)?;
-    Ok(Step::Found(Argument::Value(option, value)))
+    let arguments = options(alloc, source(alloc, entry.endings)?, entry.settings)?;
+    let command = Command::new(alloc, entry.word)
+        .no_binary_name(true)
+        .disable_help_flag(true);
+    Ok(command.args(arguments)?)
 }
 
-// A word where no option waits.
-fn plain(alloc: Global, settings: &[Setting], word: &[u8]) -> Result<Step, WordsError>
-    ensures ok { IfOk result (λ step. ComesTo (settings_view settings.now) None word.now step) }
-    ensures usage { IsErrOf result Usage → SpellsNone (settings_view settings.now) None word.now }
-{
-    if let Some(setting) = setting_of(settings, word) {
-        let option = Text::from_bytes(alloc, word)?;
-        if is_flag(setting.form) {
-            return Ok(Step::Found(Argument::Flag(option)));
-        }
-        return Ok(Step::Waits(option));
-    }
-    if is_option(word) {
-        return Err(WordsError::Usage);
-    }
-    Ok(Step::Found(Argument::File(FileName::from_bytes(alloc, word)?)))
-}
-
-fn read_word(
+/// What the words give for each argument of the tool. `Usage` exactly where something is wrong with them.
+#[tactic(auto, unfolding(crate::specs::Arguments::faults, crate::specs::Arguments::given))]
+pub(crate) fn arguments<'a>(
     alloc: Global,
-    settings: &[Setting],
-    awaits: Option<Text>,
-    word: &[u8],
-) -> Result<Step, WordsError>
-    ensures ok { IfOk result (λ step. ComesTo (settings_view settings.now) awaits word.now step) }
-    ensures usage { IsErrOf result Usage → SpellsNone (settings_view settings.now) awaits word.now }
+    entry: Entry,
+    words: &'a [&'a str],
+) -> Result<ArgMatches<'a>, WordsError>
+    requires { is_simple_and_free (command_line (entry_view entry)) ≡ true }
+    ensures fine { IfOk result (λ m. faults (entry_view entry) (texts_view words.now) ≡ []) }
+    ensures ok { IfOk result (λ m. found m ≡ given (entry_view entry) (texts_view words.now)) }
+    ensures usage { IsErrOf result Usage → faults (entry_view entry) (texts_view words.now) ≡ [] → ⊥ }
 {
-    match awaits {
-        Some(option) => value(alloc, settings, option, word),
-        None => plain(alloc, settings, word),
+    let command = command_line(alloc, entry)?;
+    Ok(command.try_get_matches_from(words)?)
+}
+
+fn as_text(word: &[u8]) -> Result<&str, WordsError>
+    ensures ok { IfOk result (λ text. text.now ≡ word.now) }
+    ensures utf8 { IfOk result (λ text. is_utf8 word.now ≡ true) }
+    ensures usage { IsErrOf result Usage → is_utf8 word.now ≡ false }
+{
+    match str::from_utf8(word) {
+        Ok(text) => Ok(text),
+        Err(_) => Err(WordsError::Usage),
     }
 }
 
-// Takes one word more: what it spells stands behind what was found, or an option waits.
-#[tactic(auto, using(crate::proofs::Behind::behind_one))]
-fn take_word(
-    alloc: Global,
-    settings: &[Setting],
-    found: &mut Vec<Argument>,
-    awaits: Option<Text>,
-    word: &[u8],
-) -> Result<Option<Text>, WordsError>
-    ensures ok { IfOk result (IsTaken (settings_view settings.now) awaits word.now found.old.items found.new.items) }
-    ensures usage { IsErrOf result Usage → SpellsNone (settings_view settings.now) awaits word.now }
+/// The words as text. `Usage` exactly where one of them isn't UTF-8.
+pub(crate) fn texts<'a>(alloc: Global, words: &'a [Text]) -> Result<Vec<&'a str>, WordsError>
+    ensures ok { IfOk result (λ texts. texts_view texts.items ≡ words.now) }
+    ensures utf8 { IfOk result (λ texts. list_all is_utf8 words.now ≡ true) }
+    ensures usage { IsErrOf result Usage → list_all is_utf8 words.now ≡ false }
 {
-    match read_word(alloc, settings, awaits, word)? {
-        Step::Found(argument) => {
-            found.push(argument)?;
-            Ok(None)
-        }
-        Step::Waits(option) => Ok(Some(option)),
-    }
-}
-
-/// The arguments that words spell for a tool with these options. `Usage` exactly where they spell none: an option without
-/// its value, a value that begins with `-`, or an option that the tool doesn't have.
-pub(crate) fn arguments(
-    alloc: Global,
-    settings: &[Setting],
-    words: &[Text],
-) -> Result<Vec<Argument>, WordsError>
-    ensures ok { IfOk result (λ found. arguments_of (settings_view settings.now) words.now ≡ Some found.items) }
-    ensures usage { IsErrOf result Usage → arguments_of (settings_view settings.now) words.now ≡ None }
-{
-    let mut found = Vec::new(alloc);
-    let mut awaits = None;
+    let mut texts = Vec::new(alloc);
     for word in words {
-        awaits = take_word(alloc, settings, &mut found, awaits, word.as_bytes())?;
+        let text = as_text(word.as_bytes())?;
+        texts.push(text)?;
     }
-    match awaits {
-        Some(_) => Err(WordsError::Usage),
-        None => Ok(found),
-    }
+    Ok(texts)
 }

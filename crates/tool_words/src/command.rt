@@ -1,20 +1,22 @@
 // The commands of the tools.
-ghost use Rattle.std.specs.Prelude.{◌≡◌, Some, None, IfOk, IsErrOf};
+ghost use Rattle.std.specs.Prelude.{◌≡◌, true, Some, None, IfOk, IsErrOf};
+ghost use Rattle.clap.specs.Words.{is_simple_and_free};
 ghost use Rattle.tool_words.specs.declared.words.WordsError.TheVariants.{Usage};
-ghost use Rattle.tool_words.specs.Table.{encoding, seed};
-ghost use Rattle.tool_words.specs.Values.{number_of};
-ghost use Rattle.tool_words.specs.Commands.{encoding_of, coding, command_from, command_among, command_of};
-ghost use Rattle.tool_words.specs.View.{entry_view};
+ghost use Rattle.tool_words.specs.Arguments.{command_line};
+ghost use Rattle.tool_words.specs.Values.{found};
+ghost use Rattle.tool_words.specs.Commands.{numbers_of, flow_on, command_from, command_in, command_of};
+ghost use Rattle.tool_words.specs.View.{texts_view, entry_view};
 
-use crate::arguments::{Argument, arguments};
+use crate::arguments::{arguments, texts};
 use crate::table::{
-    ENCODING, Entry, LIBRARY, NETLIST_LIBRARY, NODES, OTHER_NETLIST, OTHER_SOURCE, OUT, PATTERNS,
-    SEED, Tool, tool_of,
+    Entry, FANOUT, LIBRARY, METALS, MOVES, NETLIST_LIBRARY, NODES, OTHER_NETLIST, OTHER_SOURCE,
+    OUT, PATTERNS, ROWS, SEED, SIZE, Tool, tool_of,
 };
-use crate::values::{Wanted, fits, number_of, only};
+use crate::values::{encoding, given, has_ending, number, number_if_given, source, text};
 use crate::words::{Words, WordsError};
+use clap::ArgMatches;
 use std::alloc::{AllocError, Global};
-use vlsi_base::FileName;
+use vlsi_base::{FileName, Text};
 
 /// How the states of a state machine get their codes.
 #[derive(Clone, Copy, PartialEq, Eq)]
@@ -36,11 +38,29 @@ pub struct FlowCommand {
     pub library: FileName,
     /// The name of the layout, without `.ap`.
     pub out: FileName,
-    /// How the states of a source in `.fsm` get their codes, and the seed of the random words.
+    /// How the states of a source in `.fsm` get their codes.
     pub encoding: Encoding,
+    /// How many rows the cells stand in, 1 to 256, where the words say so.
+    pub rows: Option<u32>,
+    /// How many metals the wires are drawn on, 4 to 6.
+    pub metals: u32,
+    /// The seed of the random words.
     pub seed: u32,
-    /// The most nodes that a diagram may have.
+    /// How often the placement is tried to be made better, at most 1,000,000 times.
+    pub moves: u32,
+    /// The most nodes that a diagram may have, 1 to 4,000,000.
     pub nodes: u32,
+    /// The most pins that a cell's output may drive, 4 to 1,000,000.
+    pub fanout: u32,
+}
+
+/// What `gen` is asked to do: to write a source, and to lay it out as `flow` does.
+#[derive(Drop)]
+pub struct GenCommand {
+    /// How large the source is, 8 to 4,000.
+    pub size: u32,
+    /// What `flow` is asked to do with it. The source is NAME.vbe, and the seed is also that of its text.
+    pub flow: FlowCommand,
 }
 
 /// What `syf` is asked to do: to make a data-flow text of a state machine.
@@ -154,6 +174,7 @@ pub struct FlatbehCommand {
 #[derive(Drop)]
 pub enum Command {
     Flow(FlowCommand),
+    Gen(GenCommand),
     Syf(SyfCommand),
     Boom(BoomCommand),
     Boog(BoogCommand),
@@ -166,235 +187,273 @@ pub enum Command {
     Flatbeh(FlatbehCommand),
 }
 
-// The encoding with this letter.
-fn encoding_of(letter: u32) -> Encoding
-    ensures { result ≡ encoding_of letter }
-{
-    if letter == 111 {
-        return Encoding::OneHot;
-    }
-    if letter == 114 {
-        return Encoding::Random;
-    }
-    Encoding::Adjacent
+// The numbers that `flow` and `gen` have.
+#[derive(Clone, Copy)]
+struct Numbers {
+    rows: Option<u32>,
+    metals: u32,
+    seed: u32,
+    moves: u32,
+    nodes: u32,
+    fanout: u32,
 }
 
-// How states get their codes, and the seed.
-fn coding(arguments: &[Argument]) -> Option<(Encoding, u32)>
-    ensures { result ≡ coding (number_of encoding arguments.now) (number_of seed arguments.now) }
+fn read_numbers(matches: &ArgMatches) -> Option<Numbers>
+    ensures { result ≡ numbers_of (found matches.now) }
 {
-    let letter = number_of(arguments, ENCODING)?;
-    let seed = number_of(arguments, SEED)?;
-    Some((encoding_of(letter), seed))
+    Some(Numbers {
+        rows: number_if_given(matches, ROWS)?,
+        metals: number(matches, METALS)?,
+        seed: number(matches, SEED)?,
+        moves: number(matches, MOVES)?,
+        nodes: number(matches, NODES)?,
+        fanout: number(matches, FANOUT)?,
+    })
 }
 
-fn flow(alloc: Global, arguments: &[Argument]) -> Result<Command, WordsError>
-    ensures ok { IfOk result (λ command. command_from Tool.Flow arguments.now ≡ Some command) }
-    ensures usage { IsErrOf result Usage → command_from Tool.Flow arguments.now ≡ None }
+// What `flow` is asked to do with a source and an encoding.
+fn flow_on(
+    alloc: Global,
+    source: FileName,
+    encoding: Encoding,
+    matches: &ArgMatches,
+) -> Result<FlowCommand, WordsError>
+    ensures ok { IfOk result (λ flow. flow_on (Some source) (Some encoding) (found matches.now) ≡ Some flow) }
+    ensures usage { IsErrOf result Usage → flow_on (Some source) (Some encoding) (found matches.now) ≡ None }
 {
-    let source = only(arguments, Wanted::File);
-    let library = only(arguments, Wanted::Value(LIBRARY.word));
-    let out = only(arguments, Wanted::Value(OUT.word));
-    let (Some(source), Some(library), Some(out)) = (source, library, out) else {
+    let Some(numbers) = read_numbers(matches) else {
         return Err(WordsError::Usage);
     };
-    let (Some((encoding, seed)), Some(nodes)) = (coding(arguments), number_of(arguments, NODES))
-    else {
-        return Err(WordsError::Usage);
-    };
-    Ok(Command::Flow(FlowCommand {
-        source: FileName::from_bytes(alloc, source)?,
-        library: FileName::from_bytes(alloc, library)?,
-        out: FileName::from_bytes(alloc, out)?,
+    Ok(FlowCommand {
+        source,
+        library: text(alloc, matches, LIBRARY)?,
+        out: text(alloc, matches, OUT)?,
         encoding,
-        seed,
-        nodes,
-    }))
+        rows: numbers.rows,
+        metals: numbers.metals,
+        seed: numbers.seed,
+        moves: numbers.moves,
+        nodes: numbers.nodes,
+        fanout: numbers.fanout,
+    })
 }
 
-fn syf(alloc: Global, arguments: &[Argument]) -> Result<Command, WordsError>
-    ensures ok { IfOk result (λ command. command_from Tool.Syf arguments.now ≡ Some command) }
-    ensures usage { IsErrOf result Usage → command_from Tool.Syf arguments.now ≡ None }
+fn flow(
+    alloc: Global,
+    endings: &[&'static str],
+    matches: &ArgMatches,
+) -> Result<Command, WordsError>
+    ensures ok { IfOk result (λ command. command_from Tool.Flow (texts_view endings.now) (found matches.now) ≡ Some command) }
+    ensures usage { IsErrOf result Usage → command_from Tool.Flow (texts_view endings.now) (found matches.now) ≡ None }
 {
-    let source = only(arguments, Wanted::File);
-    let out = only(arguments, Wanted::Value(OUT.word));
-    let (Some(source), Some(out)) = (source, out) else {
+    let source = source(alloc, matches, endings)?;
+    let Some(encoding) = encoding(matches) else {
         return Err(WordsError::Usage);
     };
-    let Some((encoding, seed)) = coding(arguments) else {
+    Ok(Command::Flow(flow_on(alloc, source, encoding, matches)?))
+}
+
+fn generate(
+    alloc: Global,
+    endings: &[&'static str],
+    matches: &ArgMatches,
+) -> Result<Command, WordsError>
+    ensures ok { IfOk result (λ command. command_from Tool.Gen (texts_view endings.now) (found matches.now) ≡ Some command) }
+    ensures usage { IsErrOf result Usage → command_from Tool.Gen (texts_view endings.now) (found matches.now) ≡ None }
+{
+    let Some(size) = number(matches, SIZE) else {
+        return Err(WordsError::Usage);
+    };
+    let mut source = text(alloc, matches, OUT)?;
+    source.append(b".vbe")?;
+    let flow = flow_on(alloc, source, Encoding::Adjacent, matches)?;
+    Ok(Command::Gen(GenCommand { size, flow }))
+}
+
+fn syf(alloc: Global, endings: &[&'static str], matches: &ArgMatches) -> Result<Command, WordsError>
+    ensures ok { IfOk result (λ command. command_from Tool.Syf (texts_view endings.now) (found matches.now) ≡ Some command) }
+    ensures usage { IsErrOf result Usage → command_from Tool.Syf (texts_view endings.now) (found matches.now) ≡ None }
+{
+    let source = source(alloc, matches, endings)?;
+    let out = text(alloc, matches, OUT)?;
+    let (Some(encoding), Some(seed)) = (encoding(matches), number(matches, SEED)) else {
         return Err(WordsError::Usage);
     };
     Ok(Command::Syf(SyfCommand {
-        source: FileName::from_bytes(alloc, source)?,
-        out: FileName::from_bytes(alloc, out)?,
+        source,
+        out,
         encoding,
         seed,
     }))
 }
 
-fn boom(alloc: Global, arguments: &[Argument]) -> Result<Command, WordsError>
-    ensures ok { IfOk result (λ command. command_from Tool.Boom arguments.now ≡ Some command) }
-    ensures usage { IsErrOf result Usage → command_from Tool.Boom arguments.now ≡ None }
+fn boom(
+    alloc: Global,
+    endings: &[&'static str],
+    matches: &ArgMatches,
+) -> Result<Command, WordsError>
+    ensures ok { IfOk result (λ command. command_from Tool.Boom (texts_view endings.now) (found matches.now) ≡ Some command) }
+    ensures usage { IsErrOf result Usage → command_from Tool.Boom (texts_view endings.now) (found matches.now) ≡ None }
 {
-    let source = only(arguments, Wanted::File);
-    let out = only(arguments, Wanted::Value(OUT.word));
-    let nodes = number_of(arguments, NODES);
-    let (Some(source), Some(out), Some(nodes)) = (source, out, nodes) else {
+    let source = source(alloc, matches, endings)?;
+    let out = text(alloc, matches, OUT)?;
+    let Some(nodes) = number(matches, NODES) else {
         return Err(WordsError::Usage);
     };
-    Ok(Command::Boom(BoomCommand {
-        source: FileName::from_bytes(alloc, source)?,
-        out: FileName::from_bytes(alloc, out)?,
-        nodes,
-    }))
+    Ok(Command::Boom(BoomCommand { source, out, nodes }))
 }
 
-fn boog(alloc: Global, arguments: &[Argument]) -> Result<Command, WordsError>
-    ensures ok { IfOk result (λ command. command_from Tool.Boog arguments.now ≡ Some command) }
-    ensures usage { IsErrOf result Usage → command_from Tool.Boog arguments.now ≡ None }
+fn boog(
+    alloc: Global,
+    endings: &[&'static str],
+    matches: &ArgMatches,
+) -> Result<Command, WordsError>
+    ensures ok { IfOk result (λ command. command_from Tool.Boog (texts_view endings.now) (found matches.now) ≡ Some command) }
+    ensures usage { IsErrOf result Usage → command_from Tool.Boog (texts_view endings.now) (found matches.now) ≡ None }
 {
-    let source = only(arguments, Wanted::File);
-    let library = only(arguments, Wanted::Value(LIBRARY.word));
-    let out = only(arguments, Wanted::Value(OUT.word));
-    let (Some(source), Some(library), Some(out)) = (source, library, out) else {
-        return Err(WordsError::Usage);
-    };
     Ok(Command::Boog(BoogCommand {
-        source: FileName::from_bytes(alloc, source)?,
-        library: FileName::from_bytes(alloc, library)?,
-        out: FileName::from_bytes(alloc, out)?,
+        source: source(alloc, matches, endings)?,
+        library: text(alloc, matches, LIBRARY)?,
+        out: text(alloc, matches, OUT)?,
     }))
 }
 
-fn asimut(alloc: Global, arguments: &[Argument]) -> Result<Command, WordsError>
-    ensures ok { IfOk result (λ command. command_from Tool.Asimut arguments.now ≡ Some command) }
-    ensures usage { IsErrOf result Usage → command_from Tool.Asimut arguments.now ≡ None }
+fn asimut(
+    alloc: Global,
+    endings: &[&'static str],
+    matches: &ArgMatches,
+) -> Result<Command, WordsError>
+    ensures ok { IfOk result (λ command. command_from Tool.Asimut (texts_view endings.now) (found matches.now) ≡ Some command) }
+    ensures usage { IsErrOf result Usage → command_from Tool.Asimut (texts_view endings.now) (found matches.now) ≡ None }
 {
-    let source = only(arguments, Wanted::File);
-    let patterns = only(arguments, Wanted::Value(PATTERNS.word));
-    let (Some(source), Some(patterns)) = (source, patterns) else {
-        return Err(WordsError::Usage);
-    };
-    let source = FileName::from_bytes(alloc, source)?;
-    let patterns = FileName::from_bytes(alloc, patterns)?;
-    match only(arguments, Wanted::Value(NETLIST_LIBRARY.word)) {
-        None => Ok(Command::Asimut(AsimutCommand { source, patterns })),
-        Some(library) => Ok(Command::AsimutNetlist(AsimutNetlistCommand {
+    let source = source(alloc, matches, endings)?;
+    let patterns = text(alloc, matches, PATTERNS)?;
+    let is_netlist = has_ending(source.as_bytes(), ".vst");
+    match (is_netlist, given(matches, NETLIST_LIBRARY.name)) {
+        (false, None) => Ok(Command::Asimut(AsimutCommand { source, patterns })),
+        (true, Some(library)) => Ok(Command::AsimutNetlist(AsimutNetlistCommand {
             source,
             patterns,
-            library: FileName::from_bytes(alloc, library)?,
+            library: FileName::from_bytes(alloc, library.as_bytes())?,
         })),
+        _ => Err(WordsError::Usage),
     }
 }
 
-fn cougar(alloc: Global, arguments: &[Argument]) -> Result<Command, WordsError>
-    ensures ok { IfOk result (λ command. command_from Tool.Cougar arguments.now ≡ Some command) }
-    ensures usage { IsErrOf result Usage → command_from Tool.Cougar arguments.now ≡ None }
+fn cougar(
+    alloc: Global,
+    endings: &[&'static str],
+    matches: &ArgMatches,
+) -> Result<Command, WordsError>
+    ensures ok { IfOk result (λ command. command_from Tool.Cougar (texts_view endings.now) (found matches.now) ≡ Some command) }
+    ensures usage { IsErrOf result Usage → command_from Tool.Cougar (texts_view endings.now) (found matches.now) ≡ None }
 {
-    let source = only(arguments, Wanted::File);
-    let library = only(arguments, Wanted::Value(LIBRARY.word));
-    let out = only(arguments, Wanted::Value(OUT.word));
-    let (Some(source), Some(library), Some(out)) = (source, library, out) else {
-        return Err(WordsError::Usage);
-    };
     Ok(Command::Cougar(CougarCommand {
-        source: FileName::from_bytes(alloc, source)?,
-        library: FileName::from_bytes(alloc, library)?,
-        out: FileName::from_bytes(alloc, out)?,
+        source: source(alloc, matches, endings)?,
+        library: text(alloc, matches, LIBRARY)?,
+        out: text(alloc, matches, OUT)?,
     }))
 }
 
-fn lvx(alloc: Global, arguments: &[Argument]) -> Result<Command, WordsError>
-    ensures ok { IfOk result (λ command. command_from Tool.Lvx arguments.now ≡ Some command) }
-    ensures usage { IsErrOf result Usage → command_from Tool.Lvx arguments.now ≡ None }
+fn lvx(alloc: Global, endings: &[&'static str], matches: &ArgMatches) -> Result<Command, WordsError>
+    ensures ok { IfOk result (λ command. command_from Tool.Lvx (texts_view endings.now) (found matches.now) ≡ Some command) }
+    ensures usage { IsErrOf result Usage → command_from Tool.Lvx (texts_view endings.now) (found matches.now) ≡ None }
 {
-    let source = only(arguments, Wanted::File);
-    let other = only(arguments, Wanted::Value(OTHER_NETLIST.word));
-    let library = only(arguments, Wanted::Value(LIBRARY.word));
-    let (Some(source), Some(other), Some(library)) = (source, other, library) else {
-        return Err(WordsError::Usage);
-    };
     Ok(Command::Lvx(LvxCommand {
-        source: FileName::from_bytes(alloc, source)?,
-        other: FileName::from_bytes(alloc, other)?,
-        library: FileName::from_bytes(alloc, library)?,
+        source: source(alloc, matches, endings)?,
+        other: text(alloc, matches, OTHER_NETLIST)?,
+        library: text(alloc, matches, LIBRARY)?,
     }))
 }
 
-fn druc(alloc: Global, arguments: &[Argument]) -> Result<Command, WordsError>
-    ensures ok { IfOk result (λ command. command_from Tool.Druc arguments.now ≡ Some command) }
-    ensures usage { IsErrOf result Usage → command_from Tool.Druc arguments.now ≡ None }
+fn druc(
+    alloc: Global,
+    endings: &[&'static str],
+    matches: &ArgMatches,
+) -> Result<Command, WordsError>
+    ensures ok { IfOk result (λ command. command_from Tool.Druc (texts_view endings.now) (found matches.now) ≡ Some command) }
+    ensures usage { IsErrOf result Usage → command_from Tool.Druc (texts_view endings.now) (found matches.now) ≡ None }
 {
-    let source = only(arguments, Wanted::File);
-    let library = only(arguments, Wanted::Value(LIBRARY.word));
-    let (Some(source), Some(library)) = (source, library) else {
-        return Err(WordsError::Usage);
-    };
     Ok(Command::Druc(DrucCommand {
-        source: FileName::from_bytes(alloc, source)?,
-        library: FileName::from_bytes(alloc, library)?,
+        source: source(alloc, matches, endings)?,
+        library: text(alloc, matches, LIBRARY)?,
     }))
 }
 
-fn proof(alloc: Global, arguments: &[Argument]) -> Result<Command, WordsError>
-    ensures ok { IfOk result (λ command. command_from Tool.Proof arguments.now ≡ Some command) }
-    ensures usage { IsErrOf result Usage → command_from Tool.Proof arguments.now ≡ None }
+fn proof(
+    alloc: Global,
+    endings: &[&'static str],
+    matches: &ArgMatches,
+) -> Result<Command, WordsError>
+    ensures ok { IfOk result (λ command. command_from Tool.Proof (texts_view endings.now) (found matches.now) ≡ Some command) }
+    ensures usage { IsErrOf result Usage → command_from Tool.Proof (texts_view endings.now) (found matches.now) ≡ None }
 {
-    let source = only(arguments, Wanted::File);
-    let other = only(arguments, Wanted::Value(OTHER_SOURCE.word));
-    let nodes = number_of(arguments, NODES);
-    let (Some(source), Some(other), Some(nodes)) = (source, other, nodes) else {
+    let source = source(alloc, matches, endings)?;
+    let other = text(alloc, matches, OTHER_SOURCE)?;
+    let Some(nodes) = number(matches, NODES) else {
         return Err(WordsError::Usage);
     };
     Ok(Command::Proof(ProofCommand {
-        source: FileName::from_bytes(alloc, source)?,
-        other: FileName::from_bytes(alloc, other)?,
+        source,
+        other,
         nodes,
     }))
 }
 
-fn flatbeh(alloc: Global, arguments: &[Argument]) -> Result<Command, WordsError>
-    ensures ok { IfOk result (λ command. command_from Tool.Flatbeh arguments.now ≡ Some command) }
-    ensures usage { IsErrOf result Usage → command_from Tool.Flatbeh arguments.now ≡ None }
+fn flatbeh(
+    alloc: Global,
+    endings: &[&'static str],
+    matches: &ArgMatches,
+) -> Result<Command, WordsError>
+    ensures ok { IfOk result (λ command. command_from Tool.Flatbeh (texts_view endings.now) (found matches.now) ≡ Some command) }
+    ensures usage { IsErrOf result Usage → command_from Tool.Flatbeh (texts_view endings.now) (found matches.now) ≡ None }
 {
-    let source = only(arguments, Wanted::File);
-    let library = only(arguments, Wanted::Value(LIBRARY.word));
-    let out = only(arguments, Wanted::Value(OUT.word));
-    let (Some(source), Some(library), Some(out)) = (source, library, out) else {
-        return Err(WordsError::Usage);
-    };
     Ok(Command::Flatbeh(FlatbehCommand {
-        source: FileName::from_bytes(alloc, source)?,
-        library: FileName::from_bytes(alloc, library)?,
-        out: FileName::from_bytes(alloc, out)?,
+        source: source(alloc, matches, endings)?,
+        library: text(alloc, matches, LIBRARY)?,
+        out: text(alloc, matches, OUT)?,
     }))
 }
 
-// The command of a tool, from its arguments.
-fn read_command(alloc: Global, entry: Entry, arguments: &[Argument]) -> Result<Command, WordsError>
-    ensures ok { IfOk result (λ command. command_among (entry_view entry) arguments.now ≡ Some command) }
-    ensures usage { IsErrOf result Usage → command_among (entry_view entry) arguments.now ≡ None }
+// The command of a tool, from what its words give.
+fn read_command(
+    alloc: Global,
+    tool: Tool,
+    endings: &[&'static str],
+    matches: &ArgMatches,
+) -> Result<Command, WordsError>
+    ensures ok { IfOk result (λ command. command_from tool (texts_view endings.now) (found matches.now) ≡ Some command) }
+    ensures usage { IsErrOf result Usage → command_from tool (texts_view endings.now) (found matches.now) ≡ None }
 {
-    if !fits(entry, arguments) {
-        return Err(WordsError::Usage);
-    }
-    match entry.tool {
-        Tool::Flow => flow(alloc, arguments),
-        Tool::Syf => syf(alloc, arguments),
-        Tool::Boom => boom(alloc, arguments),
-        Tool::Boog => boog(alloc, arguments),
-        Tool::Asimut => asimut(alloc, arguments),
-        Tool::Cougar => cougar(alloc, arguments),
-        Tool::Lvx => lvx(alloc, arguments),
-        Tool::Druc => druc(alloc, arguments),
-        Tool::Proof => proof(alloc, arguments),
-        Tool::Flatbeh => flatbeh(alloc, arguments),
+    match tool {
+        Tool::Flow => flow(alloc, endings, matches),
+        Tool::Gen => generate(alloc, endings, matches),
+        Tool::Syf => syf(alloc, endings, matches),
+        Tool::Boom => boom(alloc, endings, matches),
+        Tool::Boog => boog(alloc, endings, matches),
+        Tool::Asimut => asimut(alloc, endings, matches),
+        Tool::Cougar => cougar(alloc, endings, matches),
+        Tool::Lvx => lvx(alloc, endings, matches),
+        Tool::Druc => druc(alloc, endings, matches),
+        Tool::Proof => proof(alloc, endings, matches),
+        Tool::Flatbeh => flatbeh(alloc, endings, matches),
     }
 }
 
-/// Takes words apart: the tool's word, and then its files, options with their values, and flags in any order, as the table of
-/// tools has them. `Usage` exactly where the words are nothing of this form. It reads no file, and takes memory for what it
-/// answers.
+// The command that the words behind a tool's spell.
+fn read_behind(alloc: Global, entry: Entry, words: &[Text]) -> Result<Command, WordsError>
+    requires { is_simple_and_free (command_line (entry_view entry)) ≡ true }
+    ensures ok { IfOk result (λ command. command_in (entry_view entry) words.now ≡ Some command) }
+    ensures usage { IsErrOf result Usage → command_in (entry_view entry) words.now ≡ None }
+{
+    let texts = texts(alloc, words)?;
+    let matches = arguments(alloc, entry, texts.as_slice())?;
+    read_command(alloc, entry.tool, entry.endings, &matches)
+}
+
+/// Takes words apart: the tool's word, and then its SOURCE and its options, as the table of tools has them. They are spelled as in any
+/// program of today: in any order, `-l DIR` or `-lDIR`, `--nodes 64` or `--nodes=64`, and `--` before a SOURCE that begins with `-`.
+/// `Usage` exactly where the words are nothing of this form. It reads no file, and takes memory for what it reads and answers.
 pub fn read_words(alloc: Global, words: &Words) -> Result<Command, WordsError>
     ensures ok { IfOk result (λ command. command_of words.now ≡ Some command) }
     ensures usage { IsErrOf result Usage → command_of words.now ≡ None }
@@ -405,6 +464,5 @@ pub fn read_words(alloc: Global, words: &Words) -> Result<Command, WordsError>
     let Some(entry) = tool_of(tool.as_bytes()) else {
         return Err(WordsError::Usage);
     };
-    let arguments = arguments(alloc, entry.settings, rest)?;
-    read_command(alloc, entry, &arguments)
+    read_behind(alloc, entry, rest)
 }

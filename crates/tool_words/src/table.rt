@@ -9,6 +9,7 @@ use crate::words::is_same;
 #[derive(Clone, Copy)]
 pub enum Tool {
     Flow,
+    Gen,
     Syf,
     Boom,
     Boog,
@@ -29,28 +30,18 @@ pub(crate) enum Form {
     Text,
     /// A text with this ending.
     Ending(&'static str),
-    /// A number in decimal digits, from the first to the second.
-    Number(u32, u32),
-    /// One of these letters.
-    Letter(&'static str),
+    /// A number in decimal digits, from the first to the second; and the number that stands for it where it is left out, if one does.
+    Number(u32, u32, Option<u32>),
 }
 
-/// How often an option stands among the words.
-#[derive(Clone, Copy)]
-pub(crate) enum Need {
-    Once,
-    /// At most once. Where it doesn't stand, this number or letter is its value, if there is one.
-    Perhaps(Option<u32>),
-    /// Once where SOURCE has this ending, and never elsewhere.
-    With(&'static str),
-}
-
-/// An option: its word, how the usage line calls its value, how often it stands, and what its value is.
+/// An option: its name; the letter that spells it, where the name itself doesn't; how the usage line calls its value; whether it has to
+/// stand among the words; and what its value is. It stands there at most once.
 #[derive(Clone, Copy)]
 pub(crate) struct Setting {
-    pub(crate) word: &'static str,
+    pub(crate) name: &'static str,
+    pub(crate) letter: Option<u8>,
     pub(crate) value: &'static str,
-    pub(crate) need: Need,
+    pub(crate) required: bool,
     pub(crate) form: Form,
 }
 
@@ -64,77 +55,134 @@ pub(crate) struct Entry {
 }
 
 pub(crate) const LIBRARY: Setting = Setting {
-    word: "-l",
+    name: "library",
+    letter: Some(b'l'),
     value: "DIR",
-    need: Need::Once,
+    required: true,
     form: Form::Text,
 };
 
 pub(crate) const OUT: Setting = Setting {
-    word: "-o",
+    name: "out",
+    letter: Some(b'o'),
     value: "NAME",
-    need: Need::Once,
+    required: true,
     form: Form::Text,
 };
 
 pub(crate) const PATTERNS: Setting = Setting {
-    word: "-p",
+    name: "patterns",
+    letter: Some(b'p'),
     value: "PATTERNS",
-    need: Need::Once,
+    required: true,
     form: Form::Ending(".pat"),
 };
 
 /// What a source is compared with.
 pub(crate) const OTHER_SOURCE: Setting = Setting {
-    word: "-b",
+    name: "other",
+    letter: Some(b'b'),
     value: "OTHER",
-    need: Need::Once,
+    required: true,
     form: Form::Ending(".vbe"),
 };
 
 /// What a netlist is compared with.
 pub(crate) const OTHER_NETLIST: Setting = Setting {
-    word: "-b",
+    name: "other",
+    letter: Some(b'b'),
     value: "OTHER",
-    need: Need::Once,
+    required: true,
     form: Form::Ending(".vst"),
 };
 
+/// The library where it stands only beside a netlist.
 pub(crate) const NETLIST_LIBRARY: Setting = Setting {
-    word: "-l",
+    name: "library",
+    letter: Some(b'l'),
     value: "DIR",
-    need: Need::With(".vst"),
+    required: false,
     form: Form::Text,
 };
 
 /// How states get their codes: `o`, `r` or `j`.
 pub(crate) const ENCODING: Setting = Setting {
-    word: "-e",
+    name: "encoding",
+    letter: Some(b'e'),
     value: "STYLE",
-    need: Need::Perhaps(Some(106)),
-    form: Form::Letter("orj"),
+    required: false,
+    form: Form::Text,
 };
 
-pub(crate) const SEED: Setting = Setting {
-    word: "--seed",
+const TRACKS: Setting = Setting {
+    name: "tracks",
+    letter: None,
+    value: "",
+    required: true,
+    form: Form::Flag,
+};
+
+/// How many rows of cells.
+pub(crate) const ROWS: Setting = Setting {
+    name: "rows",
+    letter: None,
     value: "N",
-    need: Need::Perhaps(Some(0)),
-    form: Form::Number(0, u32::MAX),
+    required: false,
+    form: Form::Number(1, 256, None),
+};
+
+/// How many metals.
+pub(crate) const METALS: Setting = Setting {
+    name: "metals",
+    letter: None,
+    value: "N",
+    required: false,
+    form: Form::Number(4, 6, Some(6)),
+};
+
+/// Of random words.
+pub(crate) const SEED: Setting = Setting {
+    name: "seed",
+    letter: None,
+    value: "N",
+    required: false,
+    form: Form::Number(0, u32::MAX, Some(0)),
+};
+
+/// How often the placement is tried to be made better.
+pub(crate) const MOVES: Setting = Setting {
+    name: "moves",
+    letter: None,
+    value: "N",
+    required: false,
+    form: Form::Number(0, 1_000_000, Some(10_000)),
 };
 
 /// The most nodes that a diagram may have.
 pub(crate) const NODES: Setting = Setting {
-    word: "--nodes",
+    name: "nodes",
+    letter: None,
     value: "N",
-    need: Need::Perhaps(Some(200_000)),
-    form: Form::Number(1, 4_000_000),
+    required: false,
+    form: Form::Number(1, 4_000_000, Some(200_000)),
 };
 
-const TRACKS: Setting = Setting {
-    word: "--tracks",
-    value: "",
-    need: Need::Once,
-    form: Form::Flag,
+/// The most pins that a cell's output may drive.
+pub(crate) const FANOUT: Setting = Setting {
+    name: "fanout",
+    letter: None,
+    value: "N",
+    required: false,
+    form: Form::Number(4, 1_000_000, Some(32)),
+};
+
+/// How large a source is made.
+pub(crate) const SIZE: Setting = Setting {
+    name: "size",
+    letter: None,
+    value: "N",
+    required: true,
+    form: Form::Number(8, 4_000, None),
 };
 
 const TOOLS: &[Entry] = &[
@@ -142,7 +190,17 @@ const TOOLS: &[Entry] = &[
         tool: Tool::Flow,
         word: "flow",
         endings: &[".vbe", ".fsm"],
-        settings: &[LIBRARY, OUT, ENCODING, TRACKS, SEED, NODES],
+        settings: &[
+            LIBRARY, OUT, ENCODING, TRACKS, ROWS, METALS, SEED, MOVES, NODES, FANOUT,
+        ],
+    },
+    Entry {
+        tool: Tool::Gen,
+        word: "gen",
+        endings: &[],
+        settings: &[
+            SIZE, LIBRARY, OUT, TRACKS, ROWS, METALS, SEED, MOVES, NODES, FANOUT,
+        ],
     },
     Entry {
         tool: Tool::Syf,

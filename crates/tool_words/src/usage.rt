@@ -1,9 +1,9 @@
 // The usage lines, from the table.
 ghost use Rattle.std.specs.Prelude.{◌≡◌, ◌++◌, map, OnOk, IfOk, option_map};
-ghost use Rattle.tool_words.specs.Usage.{source_usage, value_usage, setting_usage, settings_usage, entry_usage, more_words, tool_words, of_words, usage_of};
+ghost use Rattle.tool_words.specs.Usage.{source_usage, value_usage, option_usage, setting_usage, settings_usage, entry_usage, more_words, tool_words, of_words, usage_of};
 ghost use Rattle.tool_words.specs.View.{form_view, setting_view, settings_view, texts_view, entry_view};
 
-use crate::table::{Entry, Form, Need, Setting, tool_of, tools};
+use crate::table::{Entry, Form, Setting, tool_of, tools};
 use crate::words::Words;
 use std::alloc::{AllocError, Global};
 use vlsi_base::FileBytes;
@@ -39,17 +39,30 @@ fn value(out: &mut FileBytes, form: Form, value: &str) -> Result<(), AllocError>
     }
 }
 
+// A letter behind one dash, or the name behind two.
+fn option(out: &mut FileBytes, letter: Option<u8>, name: &str) -> Result<(), AllocError>
+    ensures { OnOk result (out.new ≡ out.old ++ option_usage letter name.now) }
+{
+    match letter {
+        Some(letter) => out.append(&[b'-', letter]),
+        None => {
+            out.append(b"--")?;
+            out.append(name.as_bytes())
+        }
+    }
+}
+
 // What may be left out stands in brackets.
 fn setting(out: &mut FileBytes, setting: Setting) -> Result<(), AllocError>
     ensures { OnOk result (out.new ≡ out.old ++ setting_usage (setting_view setting)) }
 {
-    if let Need::Once = setting.need {
+    if setting.required {
         out.append(b" ")?;
-        out.append(setting.word.as_bytes())?;
+        option(out, setting.letter, setting.name)?;
         value(out, setting.form, setting.value)
     } else {
         out.append(b" [")?;
-        out.append(setting.word.as_bytes())?;
+        option(out, setting.letter, setting.name)?;
         value(out, setting.form, setting.value)?;
         out.append(b"]")
     }

@@ -1,72 +1,89 @@
-// What stands among arguments, and whether a tool takes it.
-ghost use Rattle.std.specs.Prelude.{◌≡◌, map, length};
-ghost use Rattle.std.specs.List.{filter_map, list_all};
-ghost use Rattle.std.specs.Option.{option_copied};
-ghost use Rattle.tool_words.specs.Values.{files, has_ending, has_any_ending, number_within, letter_among, code_of, is_of_form, value_fits, is_source, is_enough, setting_fits, fits, only, default_of, number_of};
-ghost use Rattle.tool_words.specs.Wanted.{as_wanted};
-ghost use Rattle.tool_words.specs.View.{form_view, need_view, setting_view, settings_view, texts_view, entry_view};
+// What is given for SOURCE and for an option, where it is of the form that the table has.
+ghost use Rattle.std.specs.Prelude.{◌≡◌, Some, None, option_map, if◌then◌else◌, IfOk, IsErrOf};
+ghost use Rattle.std.specs.List.{list_any};
+ghost use Rattle.clap.specs.Words.{first_of};
+ghost use Rattle.tool_words.specs.declared.words.WordsError.TheVariants.{Usage};
+ghost use Rattle.tool_words.specs.Values.{found, has_ending, text_by, source_of, text_of, number_within, number_by, default_of, number_of, number_if_given, encoding_by, encoding_of};
+ghost use Rattle.tool_words.specs.View.{form_view, setting_view, texts_view};
 
-use crate::arguments::Argument;
-use crate::table::{Entry, Form, Need, Setting};
-use crate::words::is_same;
-use vlsi_base::read_u64;
+use crate::arguments::SOURCE;
+use crate::command::Encoding;
+use crate::table::{ENCODING, Form, Setting};
+use crate::words::{WordsError, is_same};
+use clap::ArgMatches;
+use std::alloc::Global;
+use vlsi_base::{FileName, read_u64};
 
 // The most digits of a number.
 const MOST_DIGITS: usize = 10;
 
-/// What is looked for among arguments: files, or the values of an option.
-#[derive(Clone, Copy)]
-pub(crate) enum Wanted {
-    File,
-    Value(&'static str),
-}
-
-// The file, or the value of the option, if that is what the argument is. A flag's value is empty.
-fn picked(wanted: Wanted, argument: &Argument) -> Option<&[u8]>
-    ensures { option_copied result ≡ as_wanted wanted argument.now }
+// The text that is given for an argument.
+pub(crate) fn given<'a>(matches: &ArgMatches<'a>, name: &str) -> Option<&'a str>
+    ensures { option_map (λ text. text.now) result ≡ first_of name.now (found matches.now) }
 {
-    match (wanted, argument) {
-        (Wanted::File, Argument::File(file)) => Some(file.as_bytes()),
-        (Wanted::Value(option), Argument::Value(other, value))
-            if is_same(option.as_bytes(), other.as_bytes()) => { Some(value.as_bytes()) }
-        (Wanted::Value(option), Argument::Flag(other))
-            if is_same(option.as_bytes(), other.as_bytes()) => { Some(&[]) }
-        _ => None,
-    }
+    matches.get_str(name)
 }
 
-/// The only one that is looked for, where there is exactly one.
-pub(crate) fn only(arguments: &[Argument], which: Wanted) -> Option<&[u8]>
-    ensures { option_copied result ≡ only (filter_map (as_wanted which) arguments.now) }
-{
-    let mut found: Option<&[u8]> = None;
-    for argument in arguments {
-        if let Some(text) = picked(which, argument) {
-            if found.is_some() {
-                return None;
-            }
-            found = Some(text);
-        }
-    }
-    found
-}
-
-fn count(arguments: &[Argument], which: Wanted) -> usize
-    ensures { result ≡ length (filter_map (as_wanted which) arguments.now) }
-{
-    let mut times = 0;
-    for argument in arguments {
-        if picked(which, argument).is_some() {
-            times += 1;
-        }
-    }
-    times
-}
-
-fn has_ending(text: &[u8], ending: &str) -> bool
+pub(crate) fn has_ending(text: &[u8], ending: &str) -> bool
     ensures { result ≡ has_ending text.now ending.now }
 {
     text.ends_with(ending.as_bytes())
+}
+
+fn has_any_ending(text: &[u8], endings: &[&'static str]) -> bool
+    ensures { result ≡ list_any (has_ending text.now) (texts_view endings.now) }
+{
+    for ending in endings {
+        if has_ending(text, ending) {
+            return true;
+        }
+    }
+    false
+}
+
+/// SOURCE. `Usage` exactly where it has none of these endings, or isn't given.
+pub(crate) fn source(
+    alloc: Global,
+    matches: &ArgMatches,
+    endings: &[&'static str],
+) -> Result<FileName, WordsError>
+    ensures ok { IfOk result (λ file. source_of (texts_view endings.now) (found matches.now) ≡ Some file) }
+    ensures usage { IsErrOf result Usage → source_of (texts_view endings.now) (found matches.now) ≡ None }
+{
+    let Some(file) = given(matches, SOURCE) else {
+        return Err(WordsError::Usage);
+    };
+    if !has_any_ending(file.as_bytes(), endings) {
+        return Err(WordsError::Usage);
+    }
+    Ok(FileName::from_bytes(alloc, file.as_bytes())?)
+}
+
+fn is_of_form(form: Form, text: &[u8]) -> bool
+    ensures { text_by (form_view form) text.now ≡ if result then Some text.now else None }
+{
+    match form {
+        Form::Ending(ending) => has_ending(text, ending),
+        _ => true,
+    }
+}
+
+/// The text of an option. `Usage` exactly where it isn't of its form, or isn't given.
+pub(crate) fn text(
+    alloc: Global,
+    matches: &ArgMatches,
+    setting: Setting,
+) -> Result<FileName, WordsError>
+    ensures ok { IfOk result (λ text. text_of (setting_view setting) (found matches.now) ≡ Some text) }
+    ensures usage { IsErrOf result Usage → text_of (setting_view setting) (found matches.now) ≡ None }
+{
+    let Some(text) = given(matches, setting.name) else {
+        return Err(WordsError::Usage);
+    };
+    if !is_of_form(setting.form, text.as_bytes()) {
+        return Err(WordsError::Usage);
+    }
+    Ok(FileName::from_bytes(alloc, text.as_bytes())?)
 }
 
 // The number that the text spells in decimal digits, within these bounds.
@@ -83,133 +100,68 @@ fn number_within(least: u32, most: u32, text: &[u8]) -> Option<u32>
     Some(n as u32)
 }
 
-// The letter that the text is, among these.
-fn letter_among(letters: &str, text: &[u8]) -> Option<u8>
-    ensures { result ≡ letter_among letters.now text.now }
+fn number_by(form: Form, text: &[u8]) -> Option<u32>
+    ensures { result ≡ number_by (form_view form) text.now }
 {
-    let letters = letters.as_bytes();
-    for letter in letters {
-        if is_same(text, &[*letter]) {
-            return Some(*letter);
-        }
+    match form {
+        Form::Number(least, most, _) => number_within(least, most, text),
+        _ => None,
+    }
+}
+
+fn default_of(form: Form) -> Option<u32>
+    ensures { result ≡ default_of (form_view form) }
+{
+    match form {
+        Form::Number(_, _, default) => default,
+        _ => None,
+    }
+}
+
+/// The number of an option, or the one that stands for it where it is left out.
+pub(crate) fn number(matches: &ArgMatches, setting: Setting) -> Option<u32>
+    ensures { result ≡ number_of (setting_view setting) (found matches.now) }
+{
+    match given(matches, setting.name) {
+        Some(text) => number_by(setting.form, text.as_bytes()),
+        None => default_of(setting.form),
+    }
+}
+
+/// The number of an option, if it is given. None where what is given is no number within its bounds.
+pub(crate) fn number_if_given(matches: &ArgMatches, setting: Setting) -> Option<Option<u32>>
+    ensures { result ≡ number_if_given (setting_view setting) (found matches.now) }
+{
+    match given(matches, setting.name) {
+        Some(text) => match number_by(setting.form, text.as_bytes()) {
+            Some(n) => Some(Some(n)),
+            None => None,
+        },
+        None => Some(None),
+    }
+}
+
+fn encoding_by(text: &[u8]) -> Option<Encoding>
+    ensures { result ≡ encoding_by text.now }
+{
+    if is_same(text, b"o") {
+        return Some(Encoding::OneHot);
+    }
+    if is_same(text, b"r") {
+        return Some(Encoding::Random);
+    }
+    if is_same(text, b"j") {
+        return Some(Encoding::Adjacent);
     }
     None
 }
 
-fn code_of(form: Form, text: &[u8]) -> Option<u32>
-    ensures { result ≡ code_of (form_view form) text.now }
+/// How states get their codes. None where what is given for it is none of its letters.
+pub(crate) fn encoding(matches: &ArgMatches) -> Option<Encoding>
+    ensures { result ≡ encoding_of (found matches.now) }
 {
-    match form {
-        Form::Number(least, most) => number_within(least, most, text),
-        Form::Letter(letters) => match letter_among(letters, text) {
-            Some(letter) => Some(u32::from(letter)),
-            None => None,
-        },
-        _ => None,
-    }
-}
-
-fn is_of_form(form: Form, text: &[u8]) -> bool
-    ensures { result ≡ is_of_form (form_view form) text.now }
-{
-    match form {
-        Form::Flag | Form::Text => true,
-        Form::Ending(ending) => has_ending(text, ending),
-        Form::Number(..) | Form::Letter(_) => code_of(form, text).is_some(),
-    }
-}
-
-fn value_fits(form: Form, value: Option<&[u8]>) -> bool
-    ensures { result ≡ value_fits (form_view form) (option_copied value.entry) }
-{
-    match value {
-        Some(text) => is_of_form(form, text),
-        None => true,
-    }
-}
-
-fn has_any_ending(endings: &[&'static str], file: Option<&[u8]>) -> bool
-    ensures { result ≡ has_any_ending (texts_view endings.now) (option_copied file.entry) }
-{
-    let Some(file) = file else {
-        return false;
-    };
-    for ending in endings {
-        if has_ending(file, ending) {
-            return true;
-        }
-    }
-    false
-}
-
-// SOURCE: one file with one of the endings, or none where the tool has no SOURCE.
-fn is_source(endings: &[&'static str], arguments: &[Argument]) -> bool
-    ensures { result ≡ is_source (texts_view endings.now) (files arguments.now) }
-{
-    if endings.is_empty() {
-        count(arguments, Wanted::File) == 0
-    } else {
-        has_any_ending(endings, only(arguments, Wanted::File))
-    }
-}
-
-fn is_enough(need: Need, arguments: &[Argument], times: usize) -> bool
-    ensures { result ≡ is_enough (need_view need) (files arguments.now) times }
-{
-    match need {
-        Need::Once => times == 1,
-        Need::Perhaps(_) => times <= 1,
-        Need::With(ending) => {
-            if has_any_ending(&[ending], only(arguments, Wanted::File)) {
-                times == 1
-            } else {
-                times == 0
-            }
-        }
-    }
-}
-
-fn setting_fits(arguments: &[Argument], setting: Setting) -> bool
-    ensures { result ≡ setting_fits arguments.now (setting_view setting) }
-{
-    let wanted = Wanted::Value(setting.word);
-    is_enough(setting.need, arguments, count(arguments, wanted))
-        && value_fits(setting.form, only(arguments, wanted))
-}
-
-fn settings_fit(arguments: &[Argument], settings: &[Setting]) -> bool
-    ensures { result ≡ list_all (setting_fits arguments.now) (settings_view settings.now) }
-{
-    for setting in settings {
-        if !setting_fits(arguments, *setting) {
-            return false;
-        }
-    }
-    true
-}
-
-/// Whether the arguments are those of the tool: its SOURCE, and each option as often as it stands and of its form.
-pub(crate) fn fits(entry: Entry, arguments: &[Argument]) -> bool
-    ensures { result ≡ fits (entry_view entry) arguments.now }
-{
-    is_source(entry.endings, arguments) && settings_fit(arguments, entry.settings)
-}
-
-fn default_of(need: Need) -> Option<u32>
-    ensures { result ≡ default_of (need_view need) }
-{
-    match need {
-        Need::Perhaps(default) => default,
-        _ => None,
-    }
-}
-
-/// The number or the letter that an option is given, or the one that stands for it where it is left out.
-pub(crate) fn number_of(arguments: &[Argument], setting: Setting) -> Option<u32>
-    ensures { result ≡ number_of (setting_view setting) arguments.now }
-{
-    match only(arguments, Wanted::Value(setting.word)) {
-        Some(text) => code_of(setting.form, text),
-        None => default_of(setting.need),
+    match given(matches, ENCODING.name) {
+        Some(text) => encoding_by(text.as_bytes()),
+        None => Some(Encoding::Adjacent),
     }
 }

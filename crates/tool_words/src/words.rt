@@ -1,8 +1,11 @@
 // Words, and why they are no command.
 ghost use Rattle.std.specs.Prelude.{◌≡◌, ◌++◌, ◌∷◌, [], OnOk, OnErr};
-ghost use Rattle.tool_words.specs.declared.words.WordsError.TheVariants.{Memory};
-ghost use Rattle.tool_words.specs.Words.{is_word, is_option};
+ghost use Rattle.clap.specs.Words.{kind_of};
+ghost use Rattle.clap.specs.declared.error.kind.ErrorKind.TheVariants.{OutOfMemory};
+ghost use Rattle.tool_words.specs.declared.words.WordsError.TheVariants.{Memory, Usage};
+ghost use Rattle.tool_words.specs.Words.{is_word};
 
+use clap::error::ErrorKind;
 use std::alloc::{AllocError, AllocFailed, Global};
 use std::marker::Model;
 use thiserror::Error;
@@ -74,19 +77,20 @@ impl<T: Drop> From<AllocFailed<T>> for WordsError {
     }
 }
 
+impl From<clap::Error> for WordsError {
+    ghost from_gives = { λ error e. e ≡ Usage → kind_of error ≡ OutOfMemory → ⊥ };
+
+    fn from(error: clap::Error) -> Self {
+        match error.kind() {
+            ErrorKind::OutOfMemory => WordsError::Memory,
+            _ => WordsError::Usage,
+        }
+    }
+}
+
 /// Whether two texts are the same bytes. Takes no memory.
 pub fn is_same(a: &[u8], b: &[u8]) -> bool
     ensures { result ≡ is_word a.now b.now }
 {
     a == b
-}
-
-/// Whether the word begins with `-`, and so is never a file or a value.
-pub(crate) fn is_option(word: &[u8]) -> bool
-    ensures { result ≡ is_option word.now }
-{
-    match word {
-        [] => false,
-        [first, ..] => *first == b'-',
-    }
 }
