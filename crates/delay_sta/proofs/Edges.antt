@@ -1,29 +1,28 @@
 -- Where paths start and end, and the greatest of their times.
-use Rattle.std.proofs.Common.{◌≡◌, ◌≢◌, ◌⊎◌, inl, inr, ℕ, zero, suc, ◌+◌, ◌<◌, ◌≤◌, Bool, true, false, List, [], ◌∷◌, ◌++◌, map, length, get_or, take, nat_eq, Option, Some, None, refl, sym, ap, ◌∙◌, subst, arith, max}
-use Rattle.std.specs.Prelude.{◌↔◌, slice_set, slice_get}
+use Rattle.std.proofs.Common.{◌≡◌, ◌⊎◌, inl, inr, ℕ, zero, suc, ◌+◌, ◌<◌, ◌≤◌, Bool, true, false, List, [], ◌∷◌, ◌++◌, map, length, get_or, nat_eq, Option, Some, None, refl, sym, ap, ◌∙◌, subst, arith, max}
+use Rattle.std.specs.Prelude.{◌↔◌, slice_set}
 use Rattle.std.specs.List.{All}
-use Rattle.std.proofs.lemmas.List.{get_or-set_same, get_or-set_other, length-set, get_or_past}
+use Rattle.std.proofs.lemmas.List.{get_or-set_same, get_or-set_other, length-set}
 use Rattle.std.proofs.lemmas.Bool.{cases_lt, eqb-true, eq-eqb}
-use Rattle.std.proofs.lemmas.Option.{slice_get_within, slice_get_read, slice_get-get_or, get_or_from_slice_get}
+use Rattle.std.proofs.lemmas.Option.{slice_get_within, slice_get-get_or}
 use Rattle.vlsi_base.specs.declared.name.Name.{Name}
 use Rattle.vlsi_base.specs.declared.name.Port.{Port}
 use Rattle.vlsi_base.specs.declared.name.Dir.TheVariants as dir
-use Rattle.vlsi_base.specs.declared.name.Terminal.{Terminal}
 use Rattle.cell_model.specs.Cell.{Function, gate, flip_flop, other, opaque, Cell}
 use Rattle.cell_model.specs.Library.{Library, cell_of}
 use Rattle.net_core.specs.declared.frame.Node.{Node}
 use Rattle.net_core.specs.Places.{Stands, IsThere}
 use Rattle.net_core.specs.Frame.{instance_of}
-use Rattle.net_core.specs.Netlist.{Instance, Netlist, IsNetlist, port, pin_of, pins_of, terminals, HasClass, IsClassOf}
-use Rattle.net_core.proofs.Frames.{mapped, unmapped}
+use Rattle.net_core.specs.Netlist.{Instance, Netlist, IsNetlist, port, pin_of, terminals, HasClass}
+use Rattle.net_core.proofs.Frames.{mapped}
 use Rattle.net_core.proofs.Finishing.{class_once}
 use Rattle.net_core.proofs.Rings.{class_below}
 use Rattle.net_core.proofs.Namings.{turn_below}
-use Rattle.net_core.proofs.Standing.{Split, left, right, split, stands_left, stands_same}
+use Rattle.net_core.proofs.Standing.{stands_left, stands_same}
 use Rattle.delay_sta.specs.declared.arrivals.Delays.{Delays}
-use Rattle.delay_sta.specs.Paths.{Step, Leads, starts, begins, goes_on, TakesTo, IsStep, IsStart, IsEnd, at_port, at_data, Arrives, Ends, IsGreatest, IsWorst}
+use Rattle.delay_sta.specs.Paths.{IsStart, IsEnd, at_port, at_data, Arrives, Ends, IsGreatest, IsWorst}
 use Rattle.delay_sta.specs.Timed.{AreDelaysOf}
-use Rattle.delay_sta.specs.Graph.{StartsIn, AreStartsOf, IsStartPort, data_pin, IsDataClass, IsOutputBefore}
+use Rattle.delay_sta.specs.Graph.{AreStartsOf, IsStartPort, data_pin, IsDataClass, IsOutputBefore}
 use Rattle.delay_sta.proofs.Gathering.{AtNode}
 use Rattle.delay_sta.proofs.Grouping.{nothing_there, there_more}
 
@@ -126,17 +125,19 @@ pub started_all : (n : Netlist) → IsNetlist n → (arrivals : List (Option ℕ
 started_all n sound arrivals k all h = record {
   many = h.many;
   zero = λ class time e. (h.zero class time e).0;
-  each = λ class. ((λ e. (h.zero class 0 e).1), (λ g.
-      let w = slice_get_within n.ports g.listed.0 g.input g.listed.1 in
-      let l = ports_few n sound in
-      let s : Stands n.classes g.listed.0 (get_or n.classes g.listed.0 0) = slice_get-get_or n.classes g.listed.0 0 (omega (arith, w, l)) in
-      let own = port_class n sound g.listed.0 g.input (get_or n.classes g.listed.0 0) g.listed.1 s in
-      let same : get_or n.classes g.listed.0 0 ≡ class = class_once n sound (port g.input.name) (get_or n.classes g.listed.0 0) class own g.joined in
-      subst (λ c. get_or arrivals c None ≡ Some 0) same (h.each g.listed.0 g.input (get_or n.classes g.listed.0 0) (omega (arith, w, all)) g.listed.1 s (g.takes, g.signal))));
+  each = λ class. (
+    (λ e. (h.zero class 0 e).1),
+    (λ g.
+        let w = slice_get_within n.ports g.listed.0 g.input g.listed.1 in
+        let l = ports_few n sound in
+        let s : Stands n.classes g.listed.0 (get_or n.classes g.listed.0 0) = slice_get-get_or n.classes g.listed.0 0 (omega (arith, w, l)) in
+        let own = port_class n sound g.listed.0 g.input (get_or n.classes g.listed.0 0) g.listed.1 s in
+        let same : get_or n.classes g.listed.0 0 ≡ class = class_once n sound (port g.input.name) (get_or n.classes g.listed.0 0) class own g.joined in
+        subst (λ c. get_or arrivals c None ≡ Some 0) same (h.each g.listed.0 g.input (get_or n.classes g.listed.0 0) (omega (arith, w, all)) g.listed.1 s (g.takes, g.signal))),
+  );
 }
 
 -- ---- where paths end
-
 
 pub outputs_none : (ports : List Port) (classes : List ℕ) (class : ℕ) → IsThere [] class ↔ IsOutputBefore ports classes 0 class
 outputs_none ports classes class = ((λ t. absurd (nothing_there class t)), (λ h. let l = h.before in absurd (omega (arith, l))))

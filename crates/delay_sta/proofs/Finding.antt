@@ -1,9 +1,9 @@
 -- Cells by their names, and pins by theirs.
-use Rattle.std.proofs.Common.{◌≡◌, ℕ, zero, suc, ◌+◌, ◌<◌, ◌≤◌, Bool, true, false, cond, List, [], ◌∷◌, ◌++◌, map, length, get_or, take, drop, Option, Some, None, refl, sym, ap, ◌∙◌, subst, arith, replicate}
-use Rattle.std.specs.Prelude.{slice_get, IsTrue, ◌↔◌}
-use Rattle.std.specs.List.{All, flat_map}
+use Rattle.std.proofs.Common.{◌≡◌, ℕ, ◌+◌, ◌<◌, ◌≤◌, Bool, true, false, cond, List, [], ◌∷◌, ◌++◌, map, length, get_or, drop, Some, refl, sym, ap, ◌∙◌, subst, arith, replicate}
+use Rattle.std.specs.Prelude.{slice_get}
+use Rattle.std.specs.List.{flat_map}
 use Rattle.std.specs.Cmp.Lexicographic.{bytes_decides}
-use Rattle.std.proofs.lemmas.List.{drop_more, drop_all, length_push, get_or_append_left, get_or_push, map-append, length-append}
+use Rattle.std.proofs.lemmas.List.{drop_more, drop_all, length_push, get_or_append_left, get_or_push}
 use Rattle.std.proofs.lemmas.Bool.{cases_lt}
 use Rattle.std.proofs.lemmas.Option.{slice_get_within, slice_get_read, slice_get_past, get_or_from_slice_get}
 use Rattle.std.proofs.Common.{append_assoc, append-nil, ◌⊎◌, inl, inr}
@@ -15,7 +15,7 @@ use Rattle.cell_model.specs.declared.cell.Pin.{Pin}
 use Rattle.cell_model.specs.Cell.{Cell}
 use Rattle.cell_model.specs.Library.{Library, cell_named, cell_of}
 use Rattle.net_core.specs.declared.frame.Node.{Node}
-use Rattle.net_core.specs.Places.{Stands, IsThere}
+use Rattle.net_core.specs.Places.{Stands}
 use Rattle.net_core.specs.Frame.{instance_of}
 use Rattle.net_core.specs.Netlist.{Instance, Netlist}
 use Rattle.net_core.proofs.Standing.{stands_same}
@@ -105,7 +105,7 @@ capacitances_next n l k node pins old new at is pushed before =
     let low = slice_get_within n.instances k (instance_of n.models node) at.stands in
     let here : get_or n.instances k (instance_of n.models node) ≡ instance_of n.models node = get_or_from_slice_get n.instances k (instance_of n.models node) (instance_of n.models node) at.stands in
     let rest : drop k n.instances ≡ instance_of n.models node ∷ drop (k + 1) n.instances =
-        drop_more n.instances k (instance_of n.models node) low ∙ ap (λ (i : Instance). i ∷ drop (k + 1) n.instances) here in
+    drop_more n.instances k (instance_of n.models node) low ∙ ap (λ (i : Instance). i ∷ drop (k + 1) n.instances) here in
     let own : map (input_capacitance pins) node.pins ≡ instance_capacitances l (instance_of n.models node) = ap (λ (ps : List Pin). map (input_capacitance ps) node.pins) is in
     ap (λ (ys : List ℕ). ys ++ flat_map (instance_capacitances l) (drop (k + 1) n.instances)) (pushed ∙ ap (λ (ys : List ℕ). old ++ ys) own)
     ∙ append_assoc old (instance_capacitances l (instance_of n.models node)) (flat_map (instance_capacitances l) (drop (k + 1) n.instances))

@@ -1,6 +1,6 @@
 -- The arcs of instances, as they are gathered.
-use Rattle.std.proofs.Common.{◌≡◌, ◌⊎◌, inl, inr, ℕ, zero, suc, ◌+◌, ◌<◌, ◌≤◌, Bool, true, false, List, [], ◌∷◌, ◌++◌, map, length, get_or, take, Option, Some, None, refl, sym, ap, ◌∙◌, subst, arith}
-use Rattle.std.specs.Prelude.{◌↔◌, slice_get, slice_index}
+use Rattle.std.proofs.Common.{◌≡◌, ◌⊎◌, inl, inr, ℕ, ◌+◌, ◌<◌, ◌≤◌, Bool, true, false, List, [], ◌∷◌, ◌++◌, map, length, get_or, take, Option, Some, None, refl, sym, ap, ◌∙◌, subst, arith}
+use Rattle.std.specs.Prelude.{slice_get, slice_index}
 use Rattle.std.specs.Bool.{MatchBool}
 use Rattle.std.specs.List.{All}
 use Rattle.std.proofs.lemmas.List.{take_more, take_all}
@@ -12,16 +12,16 @@ use Rattle.cell_model.specs.Cell.{Function, Cell}
 use Rattle.cell_model.specs.Library.{Library, cell_named, cell_of}
 use Rattle.net_core.specs.declared.frame.Node.{Node}
 use Rattle.net_core.specs.Places.{Stands, IsThere}
-use Rattle.net_core.specs.Netlist.{Instance, Netlist, IsNetlist, pin_of, HasClass}
+use Rattle.net_core.specs.Netlist.{Instance, Netlist, IsNetlist, pin_of}
 use Rattle.net_core.specs.Frame.{instance_of}
-use Rattle.net_core.proofs.Frames.{mapped, unmapped}
+use Rattle.net_core.proofs.Frames.{mapped}
 use Rattle.net_core.proofs.Rings.{class_below}
-use Rattle.net_core.proofs.Standing.{stands_left, stands_last, stands_same}
+use Rattle.net_core.proofs.Standing.{stands_same}
 use Rattle.delay_sta.specs.declared.graph.TimedArc.{TimedArc}
 use Rattle.delay_sta.specs.Arcs.{arc_delay}
 use Rattle.delay_sta.specs.Loads.{load}
 use Rattle.delay_sta.specs.Paths.{Step, IsStepAt, IsStep, BeginsThere, GoesThrough}
-use Rattle.delay_sta.specs.Graph.{AreFound, step_of, IsTimedAt, IsFoundAs, IsTimedIn, IsTimed, IsShort, AddsArcs, AreTimedArcs}
+use Rattle.delay_sta.specs.Graph.{AreFound, step_of, IsTimedAt, IsFoundAs, IsTimed, IsShort, AddsArcs, AreTimedArcs}
 use Rattle.delay_sta.proofs.Grouping.{nothing_there, there_more}
 
 -- ---- arcs of an instance
@@ -134,13 +134,23 @@ timed_at_site n l x s = by x.begins s.is where
 
 begins_site : (n : Netlist) (l : Library) (x : TimedArc) → x.begins ≡ true → IsStep n l BeginsThere (step_of x) → Site n l x
 begins_site n l x e h = record {
-  owner = h.owner; listed = h.listed; cell = h.cell; found = h.found; arc = h.arc; has = h.has;
+  owner = h.owner;
+  listed = h.listed;
+  cell = h.cell;
+  found = h.found;
+  arc = h.arc;
+  has = h.has;
   is = subst (λ b. MatchBool b (IsStepAt n (load n l) BeginsThere h.owner.name h.cell h.arc (step_of x)) (IsStepAt n (load n l) GoesThrough h.owner.name h.cell h.arc (step_of x))) (sym e) h.is;
 }
 
 goes_site : (n : Netlist) (l : Library) (x : TimedArc) → x.begins ≡ false → IsStep n l GoesThrough (step_of x) → Site n l x
 goes_site n l x e h = record {
-  owner = h.owner; listed = h.listed; cell = h.cell; found = h.found; arc = h.arc; has = h.has;
+  owner = h.owner;
+  listed = h.listed;
+  cell = h.cell;
+  found = h.found;
+  arc = h.arc;
+  has = h.has;
   is = subst (λ b. MatchBool b (IsStepAt n (load n l) BeginsThere h.owner.name h.cell h.arc (step_of x)) (IsStepAt n (load n l) GoesThrough h.owner.name h.cell h.arc (step_of x))) (sym e) h.is;
 }
 
@@ -160,9 +170,12 @@ none_so_far n l = record { sound = λ x t. absurd (nothing_there x t); complete 
 
 pub all_so_far : (n : Netlist) (l : Library) (arcs : List TimedArc) (k : ℕ) → length n.instances ≤ k → AreSoFar n l arcs k → AreTimedArcs n l arcs
 all_so_far n l arcs k all h = record {
-  each = λ x. ((λ t. (h.sound x t).0), (λ g. let s = site_of n l x g in
-      let w = slice_get_within n.instances s.listed.0 s.owner s.listed.1 in
-      h.complete s.listed.0 s.owner s.cell s.arc x (omega (arith, w, all)) s.listed.1 s.found s.has s.is));
+  each = λ x. (
+    (λ t. (h.sound x t).0),
+    (λ g. let s = site_of n l x g in
+        let w = slice_get_within n.instances s.listed.0 s.owner s.listed.1 in
+        h.complete s.listed.0 s.owner s.cell s.arc x (omega (arith, w, all)) s.listed.1 s.found s.has s.is),
+  );
   short = λ x t. (h.sound x t).1;
 }
 
@@ -196,15 +209,18 @@ node_some n l sound loads same old new k node c at adds before = record { sound 
   sound_now : (x : TimedArc) → IsThere new x → IsTimed n l x × IsShort x
   sound_now x t = elim (adds.sound x t) [
     | inl u ↦ before.sound x u
-    | inr w ↦ (timed_at_site n l x (record {
-      owner = instance_of n.models node;
-      listed = (k, at.stands);
-      cell = c;
-      found = at.cell;
-      arc = w.0.arc;
-      has = w.0.has;
-      is = timed_with n sound (slice_index loads) (load n l) same node.name c w.0.arc x w.0.is;
-    }), w.1)
+    | inr w ↦ (
+      timed_at_site n l x (record {
+        owner = instance_of n.models node;
+        listed = (k, at.stands);
+        cell = c;
+        found = at.cell;
+        arc = w.0.arc;
+        has = w.0.has;
+        is = timed_with n sound (slice_index loads) (load n l) same node.name c w.0.arc x w.0.is;
+      }),
+      w.1,
+    )
   ]
 
   complete : (j : ℕ) (o : Instance) (d : Cell) (a : Arc) (x : TimedArc) → j < k + 1 → Stands n.instances j o → cell_of l o.model ≡ Some d → IsThere d.arcs a → IsTimedAt n (load n l) o.name d a x → IsThere new x
@@ -217,7 +233,7 @@ node_some n l sound loads same old new k node c at adds before = record { sound 
         let same_cell : d ≡ c = let g : Some d ≡ Some c = sym f ∙ ap (λ (p : Instance). cell_of l p.model) same_owner ∙ at.cell in cc in
         let there : IsThere c.arcs a = subst (λ (b : Cell). IsThere b.arcs a) same_cell t in
         let here : IsTimedAt n (load n l) node.name c a x =
-            subst (λ (b : Cell). IsTimedAt n (load n l) node.name b a x) same_cell (subst (λ (p : Instance). IsTimedAt n (load n l) p.name d a x) same_owner h) in
+        subst (λ (b : Cell). IsTimedAt n (load n l) node.name b a x) same_cell (subst (λ (p : Instance). IsTimedAt n (load n l) p.name d a x) same_owner h) in
         adds.complete x (record { arc = a; has = there; is = timed_with n sound (load n l) (slice_index loads) (λ m q. sym (same m q)) node.name c a x here })
 
 pub node_none : (n : Netlist) (l : Library) (arcs : List TimedArc) (k : ℕ) (node : Node) → AtNode n l k node None → AreSoFar n l arcs k → AreSoFar n l arcs (k + 1)

@@ -1,15 +1,13 @@
 -- Loads of classes, summed terminal by terminal.
-use Rattle.std.proofs.Common.{◌≡◌, ◌≢◌, ◌⊎◌, ℕ, zero, suc, ◌+◌, ◌*◌, ◌^◌, ◌<◌, ◌≤◌, Bool, true, false, cond, List, [], ◌∷◌, ◌++◌, map, length, get_or, take, nat_eq, refl, sym, ap, subst, ◌∙◌, arith}
+use Rattle.std.proofs.Common.{◌≡◌, ℕ, zero, suc, ◌+◌, ◌*◌, ◌^◌, ◌<◌, ◌≤◌, Bool, true, false, cond, List, [], ◌∷◌, ◌++◌, map, length, get_or, take, nat_eq, refl, sym, ap, ◌∙◌, arith}
 use Rattle.std.specs.Prelude.{slice_set}
-use Rattle.std.specs.List.{All, flat_map, zip, sum_by}
+use Rattle.std.specs.List.{flat_map, zip, sum_by}
 use Rattle.std.proofs.lemmas.List.{get_or-set_same, get_or-set_other, length-set, length-map, length-append, take_all}
 use Rattle.std.proofs.lemmas.List.Sums.{sum_by_push}
 use Rattle.std.proofs.lemmas.Bool.{eqb-true, eq-eqb}
-use Rattle.vlsi_base.specs.declared.name.Name.{Name}
 use Rattle.vlsi_base.specs.declared.name.Port.{Port}
-use Rattle.vlsi_base.specs.declared.name.Terminal.{Terminal}
 use Rattle.cell_model.specs.Library.{Library, cell_of}
-use Rattle.net_core.specs.Netlist.{Instance, Netlist, port, pin_of, pins_of, terminals, IsNetlist}
+use Rattle.net_core.specs.Netlist.{Instance, Netlist, port, pin_of, pins_of, terminals}
 use Rattle.delay_sta.specs.Loads.{input_capacitance, pins_at, capacitances, share}
 
 zip_more : (rs cs : List ℕ) (k : ℕ) → length rs ≡ length cs → k < length cs → take (k + 1) (zip rs cs) ≡ take k (zip rs cs) ++ (get_or rs k 0, get_or cs k 0) ∷ []
@@ -55,13 +53,13 @@ summed_step rs cs sums count k old new before same l low short is added = record
   value class c true e =
       let q : get_or cs k 0 ≡ class = eqb-true (get_or cs k 0) class e in
       let put : get_or (slice_set sums (get_or cs k 0) new) class 0 ≡ new =
-          ap (λ j. get_or (slice_set sums (get_or cs k 0) new) j 0) (sym q) ∙ get_or-set_same sums (get_or cs k 0) new 0 inside in
+      ap (λ j. get_or (slice_set sums (get_or cs k 0) new) j 0) (sym q) ∙ get_or-set_same sums (get_or cs k 0) new 0 inside in
       let was : get_or sums (get_or cs k 0) 0 ≡ get_or sums class 0 = ap (λ j. get_or sums j 0) q in
       let part = same_class class q in
       omega (arith, put, was, part, is, added)
   value class c false e =
       let put : get_or (slice_set sums (get_or cs k 0) new) class 0 ≡ get_or sums class 0 =
-          get_or-set_other sums (get_or cs k 0) class new 0 (λ q. let no : true ≡ false = sym (eq-eqb (get_or cs k 0) class (sym q)) ∙ e in absurd cc) in
+      get_or-set_other sums (get_or cs k 0) class new 0 (λ q. let no : true ≡ false = sym (eq-eqb (get_or cs k 0) class (sym q)) ∙ e in absurd cc) in
       let part = other_class class e in
       omega (arith, put, part)
 

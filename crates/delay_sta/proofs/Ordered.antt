@@ -1,13 +1,12 @@
 -- An order of classes from that of the netlist's checks.
-use Rattle.std.proofs.Common.{◌≡◌, ◌≢◌, ◌⊎◌, inl, inr, ℕ, zero, suc, ◌<◌, Bool, true, false, cond, List, [], ◌∷◌, ◌++◌, map, length, Some, refl, sym, ap, ◌∙◌, subst, arith}
-use Rattle.std.specs.Prelude.{IsTrue}
-use Rattle.std.specs.List.{All, flat_map, zip}
+use Rattle.std.proofs.Common.{◌≡◌, inr, ℕ, suc, ◌<◌, Bool, true, false, cond, List, [], ◌∷◌, ◌++◌, map, Some, refl, sym, ap, ◌∙◌, subst, arith}
+use Rattle.std.specs.List.{All, zip}
 use Rattle.vlsi_base.specs.declared.name.Name.{Name}
 use Rattle.vlsi_base.specs.declared.name.Dir.TheVariants as dir
 use Rattle.vlsi_base.specs.declared.name.Terminal.{Terminal}
 use Rattle.machine_meaning.specs.Named.{is_same_text}
 use Rattle.cell_model.specs.Cell.{Function, Cell}
-use Rattle.cell_model.specs.Library.{Library, cell_named, cell_of, IsUsable}
+use Rattle.cell_model.specs.Library.{Library, cell_named, cell_of}
 use Rattle.cell_model.proofs.Members.{All-In}
 use Rattle.cell_model.specs.Usable.{IsFormed}
 use Rattle.cell_checks.specs.Checked.{IsChecked}
@@ -19,12 +18,12 @@ use Rattle.net_core.specs.declared.tally.Role.{Role}
 use Rattle.net_core.specs.declared.tally.ClassFault.{ClassFault}
 use Rattle.net_core.specs.Places.{Stands, IsThere}
 use Rattle.net_core.specs.Netlist.{Instance, Netlist, pin_of, HasClass}
-use Rattle.net_core.specs.Checks.{pins_named, Fits, IsPinTable, Passes, HasSoundClasses, NoClass, has_fault, all_clocks, tally_of, roles, port_role, pin_role, pin_roles, DependsOn, IsRing}
+use Rattle.net_core.specs.Checks.{pins_named, Fits, IsPinTable, Passes, NoClass, has_fault, all_clocks, tally_of, roles, port_role, pin_role, pin_roles, DependsOn}
 use Rattle.net_core.specs.Links.{IsClassOrder}
 use Rattle.net_core.proofs.Rings.{each_there}
-use Rattle.delay_sta.specs.Paths.{Step, HasPin, IsStep, BeginsThere, GoesThrough}
+use Rattle.delay_sta.specs.Paths.{Step, IsStep, BeginsThere, GoesThrough}
 use Rattle.delay_sta.specs.Timed.{CanBeTimed, IsAnyStep, a_beginning, going_on, IsPathOrder}
-use Rattle.delay_sta.proofs.Tables.{there_In, In_there, pins_same, names_same, Row, row_of, pin_at_place, Signal, signal_of, depends_there}
+use Rattle.delay_sta.proofs.Tables.{there_In, pins_same, Row, row_of, pin_at_place, signal_of, depends_there}
 
 all_at : {X : Type 0} (P : X → Type 0) (xs : List X) → All P xs → (x : X) → IsThere xs x → P x
 all_at P xs all x t = All-In P xs all x (there_In xs t.0 x t.1)

@@ -1,23 +1,19 @@
 -- Paths through the graph are paths through the netlist, and back.
-use Rattle.std.proofs.Common.{◌≡◌, ◌⊎◌, inl, inr, ℕ, zero, suc, ◌+◌, ◌<◌, ◌≤◌, ◌^◌, Bool, true, false, List, [], ◌∷◌, ◌++◌, map, length, get_or, Option, Some, None, refl, sym, ap, ◌∙◌, subst, arith}
-use Rattle.std.specs.Prelude.{◌↔◌}
+use Rattle.std.proofs.Common.{◌≡◌, ◌⊎◌, inl, inr, ℕ, zero, suc, ◌+◌, ◌<◌, ◌≤◌, ◌^◌, Bool, true, false, List, [], ◌∷◌, length, get_or, Option, Some, None, refl, sym, ◌∙◌, subst, arith}
 use Rattle.std.specs.Bool.{MatchBool}
 use Rattle.std.specs.List.{All}
 use Rattle.std.specs.Global.{Vec}
 use Rattle.std.proofs.lemmas.Bool.{cases_lt}
-use Rattle.std.proofs.lemmas.Option.{slice_get_within}
-use Rattle.vlsi_base.specs.declared.name.Name.{Name}
 use Rattle.vlsi_base.specs.Member.{In, here, there, AllDifferent}
-use Rattle.cell_model.specs.Cell.{Function, Cell}
 use Rattle.cell_model.specs.Library.{Library}
 use Rattle.net_core.specs.Places.{Stands, IsThere, NoneTwice}
-use Rattle.net_core.specs.Netlist.{Netlist, IsNetlist, pin_of, HasClass}
+use Rattle.net_core.specs.Netlist.{Netlist, IsNetlist, pin_of}
 use Rattle.net_core.proofs.Rings.{class_below, each_there}
 use Rattle.delay_sta.specs.declared.graph.TimedArc.{TimedArc}
 use Rattle.delay_sta.specs.Paths.{Step, Leads, starts, begins, goes_on, TakesTo, IsStep, BeginsThere, GoesThrough, IsStart, Arrives, IsGreatest}
 use Rattle.delay_sta.specs.Timed.{IsAnyStep, a_beginning, going_on, IsPathOrder}
-use Rattle.delay_sta.specs.Graph.{step_of, IsTimed, IsShort, AreTimedArcs, group_of, AreGrouped, IsIn, IsGraph, StartsIn, AreStartsOf, AreSettled}
-use Rattle.delay_sta.proofs.Tables.{there_In, In_there}
+use Rattle.delay_sta.specs.Graph.{step_of, IsTimed, AreTimedArcs, group_of, AreGrouped, IsIn, IsGraph, StartsIn, AreStartsOf, AreSettled}
+use Rattle.delay_sta.proofs.Tables.{In_there}
 use Rattle.delay_sta.proofs.Settling.{group_within}
 
 -- ---- paths by other words
@@ -84,9 +80,10 @@ below_in (suc n) x l = by (cases_lt x n) (below_in n x) where
 
 different : (xs : List ℕ) → NoneTwice xs → AllDifferent xs
 different [] once = tt
-different (x ∷ xs) once =
-    ((λ i. let t = In_there x xs i in let e : 0 ≡ suc t.0 = once 0 (suc t.0) x refl t.1 in absurd (omega (arith, e))),
-    different xs (λ i j y p q. let e : suc i ≡ suc j = once (suc i) (suc j) y p q in omega (arith, e)))
+different (x ∷ xs) once = (
+  (λ i. let t = In_there x xs i in let e : 0 ≡ suc t.0 = once 0 (suc t.0) x refl t.1 in absurd (omega (arith, e))),
+  different xs (λ i j y p q. let e : suc i ≡ suc j = once (suc i) (suc j) y p q in omega (arith, e)),
+)
 
 pub few_classes : (n : ℕ) (xs : List ℕ) → NoneTwice xs → ((x : ℕ) → IsThere xs x → x < n) → length xs ≤ n
 few_classes n xs once low =

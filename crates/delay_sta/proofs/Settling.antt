@@ -1,5 +1,5 @@
 -- Arrivals of classes, settled along an order of them.
-use Rattle.std.proofs.Common.{◌≡◌, ◌≢◌, ◌⊎◌, inl, inr, ℕ, zero, suc, ◌+◌, ◌*◌, ◌^◌, ◌<◌, ◌≤◌, Bool, true, false, cond, List, [], ◌∷◌, ◌++◌, map, length, get_or, take, nat_eq, Option, Some, None, refl, sym, ap, subst, ◌∙◌, arith}
+use Rattle.std.proofs.Common.{◌≡◌, ◌≢◌, ◌⊎◌, inl, inr, ℕ, ◌+◌, ◌*◌, ◌^◌, ◌<◌, ◌≤◌, Bool, true, false, cond, List, [], ◌∷◌, ◌++◌, map, length, get_or, take, nat_eq, Option, Some, None, refl, sym, ap, subst, ◌∙◌, arith}
 use Rattle.std.specs.Prelude.{slice_set, IfSome}
 use Rattle.std.specs.List.{sum_by, All}
 use Rattle.std.specs.Global.{Vec}
@@ -7,12 +7,12 @@ use Rattle.std.proofs.lemmas.List.{take_more, get_or-set_same, get_or-set_other,
 use Rattle.std.proofs.lemmas.List.Sums.{sum_by-cons}
 use Rattle.std.proofs.lemmas.Bool.{cases_lt, eqb-true, eq-eqb}
 use Rattle.std.proofs.lemmas.Option.{slice_get_within, slice_get-get_or}
-use Rattle.net_core.specs.Places.{Stands, IsThere, NoneTwice}
+use Rattle.net_core.specs.Places.{Stands, IsThere}
 use Rattle.net_core.proofs.Rings.{each_there}
 use Rattle.net_core.proofs.Standing.{Split, left, right, split, stands_left, stands_last, only_one, stands_same}
 use Rattle.delay_sta.specs.declared.graph.TimedArc.{TimedArc}
 use Rattle.delay_sta.specs.Paths.{Step, Leads, starts, begins, goes_on, TakesTo, IsGreatest}
-use Rattle.delay_sta.specs.Graph.{step_of, group_of, IsShort, IsIn, IsGraph, later_by, arrival_by, IsBy, IsLatest, StartsIn, AreStarts, AreSettled}
+use Rattle.delay_sta.specs.Graph.{step_of, group_of, IsIn, IsGraph, later_by, arrival_by, IsBy, IsLatest, StartsIn, AreStarts, AreSettled}
 
 -- ---- not later
 
@@ -55,24 +55,24 @@ pub latest_more : (initial : Option ℕ) (arrivals : List (Option ℕ)) (arcs : 
     → IsLatest initial arrivals (take (k + 1) arcs) now
 latest_more initial arrivals arcs k x old now l at before is older newer =
     subst (λ (xs : List TimedArc). IsLatest initial arrivals xs now) (sym more) (record { is = source is; start = by_through initial old now before.start older; each = each }) where
-  more : take (k + 1) arcs ≡ take k arcs ++ x ∷ []
-  more = take_more arcs k x l ∙ ap (λ (y : TimedArc). take k arcs ++ y ∷ []) (sym at)
+      more : take (k + 1) arcs ≡ take k arcs ++ x ∷ []
+      more = take_more arcs k x l ∙ ap (λ (y : TimedArc). take k arcs ++ y ∷ []) (sym at)
 
-  kept : (y : TimedArc) → IsThere (take k arcs) y → IsThere (take k arcs ++ x ∷ []) y
-  kept y t = (t.0, stands_left (take k arcs) (x ∷ []) t.0 y t.1)
+      kept : (y : TimedArc) → IsThere (take k arcs) y → IsThere (take k arcs ++ x ∷ []) y
+      kept y t = (t.0, stands_left (take k arcs) (x ∷ []) t.0 y t.1)
 
-  source : (now ≡ old) ⊎ (now ≡ arrival_by arrivals x) → (now ≡ initial) ⊎ ((y : TimedArc) × IsThere (take k arcs ++ x ∷ []) y × (now ≡ arrival_by arrivals y))
-  source (inl same) = elim before.is [
-    | inl e ↦ inl (same ∙ e)
-    | inr w ↦ inr (w.0, kept w.0 w.1, same ∙ w.2)
-  ]
-  source (inr same) = inr (x, (length (take k arcs), stands_last (take k arcs) x), same)
+      source : (now ≡ old) ⊎ (now ≡ arrival_by arrivals x) → (now ≡ initial) ⊎ ((y : TimedArc) × IsThere (take k arcs ++ x ∷ []) y × (now ≡ arrival_by arrivals y))
+      source (inl same) = elim before.is [
+        | inl e ↦ inl (same ∙ e)
+        | inr w ↦ inr (w.0, kept w.0 w.1, same ∙ w.2)
+      ]
+      source (inr same) = inr (x, (length (take k arcs), stands_last (take k arcs) x), same)
 
-  each : (y : TimedArc) → IsThere (take k arcs ++ x ∷ []) y → IsBy (arrival_by arrivals y) now
-  each y t = from (split (take k arcs) (x ∷ []) t.0 y t.1) where
-    from : Split (take k arcs) (x ∷ []) t.0 y → IsBy (arrival_by arrivals y) now
-    from (left s) = by_through (arrival_by arrivals y) old now (before.each y (t.0, s)) older
-    from (right j n s) = let e : x ≡ y = only_one x y (j, s) in subst (λ (z : TimedArc). IsBy (arrival_by arrivals z) now) e newer
+      each : (y : TimedArc) → IsThere (take k arcs ++ x ∷ []) y → IsBy (arrival_by arrivals y) now
+      each y t = from (split (take k arcs) (x ∷ []) t.0 y t.1) where
+        from : Split (take k arcs) (x ∷ []) t.0 y → IsBy (arrival_by arrivals y) now
+        from (left s) = by_through (arrival_by arrivals y) old now (before.each y (t.0, s)) older
+        from (right j n s) = let e : x ≡ y = only_one x y (j, s) in subst (λ (z : TimedArc). IsBy (arrival_by arrivals z) now) e newer
 
 -- ---- along the order
 
@@ -127,31 +127,31 @@ module _ (groups : List (Vec TimedArc)) (order : List ℕ) (old now : List (Opti
         let to : x.to ≡ class = graph.to class x t in
         let own : IsThere (group_of groups x.to) x = subst (λ c. IsThere (group_of groups c) x) (sym to) t in
         subst (λ c. TakesTo (StartsIn old) (IsIn groups true) (IsIn groups false) c time) to (by_way own x.begins refl found) where
-      by_from : IsThere (group_of groups x.to) x → x.begins ≡ false → (o : Option ℕ) → get_or now x.from None ≡ o → later_by x.delay o ≡ Some time
-          → TakesTo (StartsIn old) (IsIn groups true) (IsIn groups false) x.to time
-      by_from own way None f g = absurd cc
-      by_from own way (Some u) f g =
-          let w = before.sound x.from u f in
-          let total : u + x.delay ≡ time = cc in
-          let sum = sum_by-cons (λ (s : Step). s.delay) (step_of x) w.path in
-          let part = w.sum in
-          record {
-            path = step_of x ∷ w.path;
-            leads = goes_on {s = step_of x} w.leads (record { arc = x; listed = own; way = way; is = refl });
-            sum = omega (arith, total, sum, part);
-          }
+          by_from : IsThere (group_of groups x.to) x → x.begins ≡ false → (o : Option ℕ) → get_or now x.from None ≡ o → later_by x.delay o ≡ Some time
+              → TakesTo (StartsIn old) (IsIn groups true) (IsIn groups false) x.to time
+          by_from own way None f g = absurd cc
+          by_from own way (Some u) f g =
+              let w = before.sound x.from u f in
+              let total : u + x.delay ≡ time = cc in
+              let sum = sum_by-cons (λ (s : Step). s.delay) (step_of x) w.path in
+              let part = w.sum in
+              record {
+                path = step_of x ∷ w.path;
+                leads = goes_on {s = step_of x} w.leads (record { arc = x; listed = own; way = way; is = refl });
+                sum = omega (arith, total, sum, part);
+              }
 
-      by_way : IsThere (group_of groups x.to) x → (b : Bool) → x.begins ≡ b → cond b (Some x.delay) (later_by x.delay (get_or now x.from None)) ≡ Some time
-          → TakesTo (StartsIn old) (IsIn groups true) (IsIn groups false) x.to time
-      by_way own true way g =
-          let total : x.delay ≡ time = cc in
-          let sum = sum_by-cons (λ (s : Step). s.delay) (step_of x) [] in
-          record {
-            path = step_of x ∷ [];
-            leads = begins {s = step_of x} (record { arc = x; listed = own; way = way; is = refl });
-            sum = omega (arith, total, sum);
-          }
-      by_way own false way g = by_from own way (get_or now x.from None) refl g
+          by_way : IsThere (group_of groups x.to) x → (b : Bool) → x.begins ≡ b → cond b (Some x.delay) (later_by x.delay (get_or now x.from None)) ≡ Some time
+              → TakesTo (StartsIn old) (IsIn groups true) (IsIn groups false) x.to time
+          by_way own true way g =
+              let total : x.delay ≡ time = cc in
+              let sum = sum_by-cons (λ (s : Step). s.delay) (step_of x) [] in
+              record {
+                path = step_of x ∷ [];
+                leads = begins {s = step_of x} (record { arc = x; listed = own; way = way; is = refl });
+                sum = omega (arith, total, sum);
+              }
+          by_way own false way g = by_from own way (get_or now x.from None) refl g
 
     by : (latest ≡ get_or now class None) ⊎ ((x : TimedArc) × IsThere (group_of groups class) x × (latest ≡ arrival_by now x))
         → TakesTo (StartsIn old) (IsIn groups true) (IsIn groups false) class time
@@ -299,9 +299,12 @@ module _ (groups : List (Vec TimedArc)) (order : List ℕ) (old now : List (Opti
     by None e = λ d p.
         let r = subst (λ (o : Option ℕ). IsBy (Some (sum_by (λ s. s.delay) p.path)) o) e (longest class p.path p.leads) in
         let no = r.1 in absurd cc
-    by (Some t) e = (ended.sound class t e, λ d p.
-        let r = subst (λ (o : Option ℕ). IsBy (Some (sum_by (λ s. s.delay) p.path)) o) e (longest class p.path p.leads) in
-        let same : t ≡ r.0 = let q = r.1 in cc in
-        let less = r.2 in
-        let is = p.sum in
-        omega (arith, same, less, is))
+    by (Some t) e = (
+      ended.sound class t e,
+      λ d p.
+          let r = subst (λ (o : Option ℕ). IsBy (Some (sum_by (λ s. s.delay) p.path)) o) e (longest class p.path p.leads) in
+          let same : t ≡ r.0 = let q = r.1 in cc in
+          let less = r.2 in
+          let is = p.sum in
+          omega (arith, same, less, is),
+    )

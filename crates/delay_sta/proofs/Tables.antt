@@ -1,5 +1,5 @@
 -- The pins that a table of a library's cells has for a cell.
-use Rattle.std.proofs.Common.{◌≡◌, ◌≢◌, ◌⊎◌, inl, inr, ℕ, zero, suc, ◌+◌, ◌<◌, ◌≤◌, Bool, true, false, cond, List, [], ◌∷◌, ◌++◌, map, filter, length, bytes_eq, Option, None, Some, refl, sym, ap, ◌∙◌, subst, arith}
+use Rattle.std.proofs.Common.{◌≡◌, ◌≢◌, ◌⊎◌, inl, inr, ℕ, zero, suc, ◌+◌, ◌<◌, ◌≤◌, Bool, true, false, cond, List, [], ◌∷◌, ◌++◌, map, filter, length, bytes_eq, Some, refl, sym, ap, ◌∙◌, subst, arith}
 use Rattle.std.specs.Prelude.{◌↔◌, IsTrue}
 use Rattle.std.specs.Ordering.{is_lt, ordering_reverse}
 use Rattle.std.specs.Cmp.Lexicographic.{bytes_decides}
@@ -18,12 +18,12 @@ use Rattle.vlsi_base.proofs.NameOrder.{name_total, name_exact}
 use Rattle.machine_meaning.specs.Machine.{names_of}
 use Rattle.machine_meaning.specs.Named.{is_same_text}
 use Rattle.cell_model.specs.Cell.{Function, gate, flip_flop, other, opaque, Cell, pin_ports}
-use Rattle.cell_model.specs.Library.{Library, cell_named, cell_of}
+use Rattle.cell_model.specs.Library.{cell_named}
 use Rattle.cell_model.specs.Usable.{IsFormed}
 use Rattle.cell_model.specs.declared.cell.Pin.{Pin}
 use Rattle.cell_pins.specs.Pins.{supply, with_supply, all_ports}
-use Rattle.cell_pins.specs.Follows.{DependsAtOnce, DependsOn}
-use Rattle.cell_pins.specs.Table.{first_places, DependsAt, IsPinOf, ArePins, no_pins, one_pin, AreModels, no_models, listed, left_out}
+use Rattle.cell_pins.specs.Follows.{DependsAtOnce}
+use Rattle.cell_pins.specs.Table.{first_places, DependsAt, IsPinOf, ArePins, one_pin, AreModels, no_models, listed, left_out}
 use Rattle.net_core.specs.declared.pins.ModelPin.{ModelPin}
 use Rattle.net_core.specs.declared.pins.ModelPins.{ModelPins}
 use Rattle.net_core.specs.Places.{Stands, IsThere}
@@ -163,9 +163,10 @@ in_supplied name ps x apart t = elim (before_or_behind x.name name apart) [
       let r = there_filter (λ (p : Port). comes_before p.name name) ps t.0 x t.1 e in
       (r.0, stands_left (filter (λ p. comes_before p.name name) ps) (supply name ∷ filter (λ p. comes_before name p.name) ps) r.0 x r.1)
   | inr e ↦
-      let r = there_filter (λ (p : Port). comes_before name p.name) ps t.0 x t.1 e in
-      (length (filter (λ p. comes_before p.name name) ps) + suc r.0,
-      stands_right (filter (λ p. comes_before p.name name) ps) (supply name ∷ filter (λ p. comes_before name p.name) ps) (suc r.0) x r.1)
+      let r = there_filter (λ (p : Port). comes_before name p.name) ps t.0 x t.1 e in (
+        length (filter (λ p. comes_before p.name name) ps) + suc r.0,
+        stands_right (filter (λ p. comes_before p.name name) ps) (supply name ∷ filter (λ p. comes_before name p.name) ps) (suc r.0) x r.1,
+      )
 ]
 
 -- a pin that the cell has, as a port that is no supply

@@ -1,5 +1,5 @@
 -- What timing asks of a netlist, and what it finds.
-use Rattle.std.specs.Prelude.{◌≡◌, ◌↔◌, ℕ, ◌<◌, Bool, List, length, Option, None, Some, slice_index, slice_index_or}
+use Rattle.std.specs.Prelude.{◌≡◌, ◌↔◌, ℕ, ◌<◌, Bool, List, length, None, Some, slice_index, slice_index_or}
 use Rattle.cell_model.specs.Cell.{Cell}
 use Rattle.cell_model.specs.Library.{Library, cell_of, IsUsable}
 use Rattle.cell_pins.specs.Table.{IsTableOf}

@@ -49,13 +49,7 @@ fn way(function: &Function, pin: &Name) -> Option<bool>
 {
     match function {
         Function::Gate(_) => Some(false),
-        Function::FlipFlop { clock, .. } => {
-            if pin.is_same(clock) {
-                Some(true)
-            } else {
-                None
-            }
-        }
+        Function::FlipFlop { clock, .. } => { if pin.is_same(clock) { Some(true) } else { None } }
         Function::Other(_) => None,
         Function::Opaque => None,
     }

@@ -26,11 +26,7 @@ fn cell_place(cells: &[Cell], model: &Text) -> usize
 }
 
 /// The places of the cells of models.
-pub fn cell_places(
-    alloc: Global,
-    models: &[Text],
-    cells: &[Cell],
-) -> Result<Vec<usize>, AllocError>
+pub fn cell_places(alloc: Global, models: &[Text], cells: &[Cell]) -> Result<Vec<usize>, AllocError>
     ensures { IfOk result (λ places. AreFound cells.now models.now places.items) }
 {
     let mut places = Vec::new(alloc);

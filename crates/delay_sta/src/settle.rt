@@ -34,11 +34,7 @@ fn later(one: Option<u128>, other: Option<u128>) -> Option<u128>
 }
 
 /// The latest of an arrival and those by arcs.
-fn latest(
-    start: Option<u128>,
-    arrivals: &[Option<u128>],
-    arcs: &[TimedArc],
-) -> Option<u128>
+fn latest(start: Option<u128>, arrivals: &[Option<u128>], arcs: &[TimedArc]) -> Option<u128>
     requires inside { All (λ x. x.from < length arrivals.now) arcs.now }
     requires few { All (λ x. IfSome (slice_index_or arrivals.now x.from None) (λ t. t + x.delay < 2 ^ 128)) arcs.now }
     ensures { IsLatest start arrivals.now arcs.now result }

@@ -1,5 +1,4 @@
-use Rattle.std.proofs.Common.{◌≡◌, ◌+◌, ◌≤◌, ◌<◌, ◌∙◌, List, Option, ℕ, true, false, None, Some, ap, length, get_or, refl, sym, subst, arith, rules}
-use Rattle.std.specs.Prelude.{slice_set}
+use Rattle.std.proofs.Common.{◌≡◌, ◌+◌, ◌<◌, ◌∙◌, List, Option, ℕ, true, false, ap, length, get_or, refl, sym, subst, arith}
 use Rattle.std.specs.Global.{Vec}
 use Rattle.std.proofs.lemmas.Option.{slice_get-get_or, slice_get_read}
 use Rattle.vlsi_base.specs.declared.name.Port.{Port}
@@ -21,8 +20,8 @@ index_mut-requires c =
 pub loop-k-preserved : goal.loop-k-preserved
 loop-k-preserved c =
     let s : Stands c.args.netlist.now.ports c.loop-k.k c.index-ports-k.result =
-        subst (λ (ps : List Port). Stands ps c.loop-k.k c.index-ports-k.result) c.ports-ports.ensures
-        (slice_get_read c.ports-ports.result.now (length c.ports-ports.result.now) c.loop-k.k c.index-ports-k.result refl c.loop-k-test.true c.index-ports-k.is) in
+    subst (λ (ps : List Port). Stands ps c.loop-k.k c.index-ports-k.result) c.ports-ports.ensures
+    (slice_get_read c.ports-ports.result.now (length c.ports-ports.result.now) c.loop-k.k c.index-ports-k.result refl c.loop-k-test.true c.index-ports-k.is) in
     elim c.if-is_start.branch [
       | then-is_start w ↦
           let e = ap length c.ports-ports.ensures in
@@ -31,8 +30,8 @@ loop-k-preserved c =
           let t = c.loop-k-test.true in
           let low : c.loop-k.k < length c.classes-classes.result.now = omega (arith, e, f, few, t) in
           let j : Stands c.args.netlist.now.classes c.loop-k.k (get_or c.classes-classes.result.now c.loop-k.k 0) =
-              subst (λ (cs : List ℕ). Stands cs c.loop-k.k (get_or c.classes-classes.result.now c.loop-k.k 0)) c.classes-classes.ensures.classes
-              (slice_get-get_or c.classes-classes.result.now c.loop-k.k 0 low) in
+          subst (λ (cs : List ℕ). Stands cs c.loop-k.k (get_or c.classes-classes.result.now c.loop-k.k 0)) c.classes-classes.ensures.classes
+          (slice_get-get_or c.classes-classes.result.now c.loop-k.k 0 low) in
           let h : IsStartPort c.index-ports-k.result = c.is_start.ensures.0 w.if-is_start.true in
           subst (λ (v : Vec (Option ℕ)). StartedSoFar c.args.netlist.now v.items (c.loop-k.k + 1)) (sym w.arrivals-is)
           (started_then c.args.netlist.now c.classes-classes.ensures.sound c.loop-k.arrivals.items c.loop-k.k c.index-ports-k.result (get_or c.classes-classes.result.now c.loop-k.k 0)

@@ -1,4 +1,4 @@
-use Rattle.std.proofs.Common.{◌≡◌, ◌*◌, ◌++◌, ◌∙◌, List, [], ℕ, Option, None, Some, ap, refl, sym, max}
+use Rattle.std.proofs.Common.{◌≡◌, ◌*◌, ◌++◌, ◌∙◌, [], ℕ, Option, ap, refl, max}
 use Rattle.std.specs.Option.{unwrap_or}
 use Rattle.cell_model.specs.declared.cell.Arc.{Arc}
 use Rattle.delay_sta.specs.Arcs.{time_of, times, greatest, arc_delay}

@@ -1,4 +1,4 @@
-use Rattle.std.proofs.Common.{◌≡◌, ℕ, ◌<◌, false, List, length, get_or, ◌∙◌, subst, arith}
+use Rattle.std.proofs.Common.{◌<◌, false, List, get_or, ◌∙◌, subst, arith}
 use Rattle.std.proofs.lemmas.List.{get_or_default, take_all, length-set}
 use Rattle.delay_sta.specs.declared.graph.TimedArc.{TimedArc}
 use Rattle.delay_sta.specs.Graph.{AreGrouped}

@@ -1,4 +1,4 @@
-use Rattle.std.proofs.Common.{◌≡◌, ◌∙◌, Option, ap, subst}
+use Rattle.std.proofs.Common.{◌∙◌, Option, ap, subst}
 use Rattle.std.specs.Prelude.{slice_index, IfSome}
 use Rattle.std.specs.Global.{Vec}
 use Rattle.delay_sta.specs.declared.graph.TimedArc.{TimedArc}

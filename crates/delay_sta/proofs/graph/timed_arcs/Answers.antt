@@ -1,5 +1,5 @@
-use Rattle.std.proofs.Common.{◌≡◌, ◌+◌, ◌<◌, ◌∙◌, ℕ, List, Some, None, ap, length, get_or, refl, sym, subst, arith}
-use Rattle.std.specs.Prelude.{slice_get, slice_index}
+use Rattle.std.proofs.Common.{◌+◌, ◌∙◌, List, ap, length, refl, sym, subst, arith}
+use Rattle.std.specs.Prelude.{slice_index}
 use Rattle.std.specs.Global.{Vec}
 use Rattle.std.proofs.lemmas.List.{length-map}
 use Rattle.std.proofs.lemmas.Option.{slice_get_read, slice_get_past}
@@ -16,7 +16,7 @@ pub loop-node-preserved : goal.loop-node-preserved
 loop-node-preserved c =
     let same = ap (λ (x : Library). x.cells) c.cells.ensures.value in
     let at = at_node c.args.netlist.now c.args.library.now c.args.netlist.now.models c.cells.result.now c.nodes-node-items.result.now c.args.places.now c.loop-node.node-index c.node-item.result refl same c.nodes-node-items.ensures.seen
-        c.nodes-node-items.ensures.known (subst (λ (cs : List Cell). AreFound cs c.args.netlist.now.models c.args.places.now) (sym same) c.requires.cells) c.loop-node-test.true c.node-item.is in
+    c.nodes-node-items.ensures.known (subst (λ (cs : List Cell). AreFound cs c.args.netlist.now.models c.args.places.now) (sym same) c.requires.cells) c.loop-node-test.true c.node-item.is in
     elim c.match-get.branch [
       | in-Some+in_ok-push_arcs w ↦
           let s = slice_get_read c.cells.result.now (length c.cells.result.now) (slice_index c.args.places.now c.node-item.result.model) w.in-Some.cell.now refl w.in-Some.ensures.lookup.3.0 w.in-Some.ensures.lookup.1 in

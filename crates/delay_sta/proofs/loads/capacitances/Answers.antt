@@ -1,13 +1,12 @@
-use Rattle.std.proofs.Common.{◌≡◌, List, ℕ, Option, ap, length, get_or, map, ◌++◌, refl, sym, ◌∙◌, subst, arith, rules}
-use Rattle.std.specs.Prelude.{slice_get, slice_index}
+use Rattle.std.proofs.Common.{List, ap, length, map, ◌++◌, refl, sym, ◌∙◌, subst, arith, rules}
 use Rattle.std.proofs.lemmas.List.{length-map}
 use Rattle.cell_model.specs.Cell.{Cell}
-use Rattle.cell_model.specs.Library.{Library, cell_of}
+use Rattle.cell_model.specs.Library.{Library}
 use Rattle.net_core.specs.Frame.{instance_of}
 use Rattle.vlsi_base.specs.declared.name.Name.{Name}
 use Rattle.delay_sta.specs.Loads.{input_capacitance, pins_at}
 use Rattle.delay_sta.specs.Graph.{AreFound}
-use Rattle.delay_sta.proofs.Gathering.{AtNode, at_node}
+use Rattle.delay_sta.proofs.Gathering.{at_node}
 use Rattle.delay_sta.proofs.Finding.{capacitances_start, capacitances_next, capacitances_end}
 use Rattle.delay_sta.proofs.loads.capacitances.Goals as goal
 
@@ -20,7 +19,7 @@ loop-node-preserved c =
     let l = c.args.library.now in
     let same = ap (λ (x : Library). x.cells) c.cells.ensures.value in
     let at = at_node c.args.netlist.now c.args.library.now c.args.netlist.now.models c.cells.result.now c.nodes-node-items.result.now c.args.places.now c.loop-node.node-index c.node-item.result refl same c.nodes-node-items.ensures.seen
-        c.nodes-node-items.ensures.known (subst (λ (cs : List Cell). AreFound cs c.args.netlist.now.models c.args.places.now) (sym same) c.requires) c.loop-node-test.true c.node-item.is in
+    c.nodes-node-items.ensures.known (subst (λ (cs : List Cell). AreFound cs c.args.netlist.now.models c.args.places.now) (sym same) c.requires) c.loop-node-test.true c.node-item.is in
     let found = at.cell in
     capacitances_next c.args.netlist.now c.args.library.now c.loop-node.node-index c.node-item.result c.pins_at-pins.result.now c.loop-node.capacitances.items c.push_capacitances.new.capacitances.items
     (record { stands = at.stands; cell = refl })

@@ -1,4 +1,4 @@
-use Rattle.std.proofs.Common.{ℕ, ◌≤◌, length, refl, rules, arith}
+use Rattle.std.proofs.Common.{length, rules, arith}
 use Rattle.delay_sta.proofs.Finding.{found_at, passed_at, absent_at}
 use Rattle.delay_sta.proofs.loads.cell_place.Goals as goal
 

@@ -1,4 +1,4 @@
-use Rattle.std.proofs.Common.{◌≡◌, ℕ, ◌<◌, None, List, get_or, length, sym, ◌∙◌, subst, arith}
+use Rattle.std.proofs.Common.{◌≡◌, None, List, get_or, length, sym, ◌∙◌, subst, arith}
 use Rattle.std.proofs.lemmas.Option.{slice_get-get_or}
 use Rattle.delay_sta.specs.declared.graph.TimedArc.{TimedArc}
 use Rattle.delay_sta.specs.Graph.{group_of, IsLatest}
@@ -30,7 +30,7 @@ latest-requires c =
     let l = class_inside c.args.groups.now c.args.order.now (length c.args.arrivals.now) c.loop-class.class-index c.requires.graph c.loop-class-test.true in
     let m = c.requires.graph.many in
     let e : c.deref.result.now ≡ group_of c.args.groups.now (get_or c.args.order.now c.loop-class.class-index 0) =
-        c.deref.ensures.value ∙ sym (group_at c.args.groups.now (get_or c.args.order.now c.loop-class.class-index 0) c.index-groups-class.result (omega (arith, l, m)) c.index-groups-class.is) in
+    c.deref.ensures.value ∙ sym (group_at c.args.groups.now (get_or c.args.order.now c.loop-class.class-index 0) c.index-groups-class.result (omega (arith, l, m)) c.index-groups-class.is) in
     record {
       inside = inside_at c.args.groups.now c.args.order.now c.args.arrivals.now c.loop-class.arrivals c.loop-class.class-index (get_or c.args.order.now c.loop-class.class-index 0) c.deref.result.now c.requires.graph c.loop-class.invariant e;
       few = few_at c.args.groups.now c.args.order.now c.args.arrivals.now c.loop-class.arrivals c.loop-class.class-index (get_or c.args.order.now c.loop-class.class-index 0) c.deref.result.now c.requires.graph c.loop-class.invariant c.loop-class-test.true e;
@@ -41,7 +41,7 @@ loop-class-preserved c =
     let l = class_inside c.args.groups.now c.args.order.now (length c.args.arrivals.now) c.loop-class.class-index c.requires.graph c.loop-class-test.true in
     let m = c.requires.graph.many in
     let e : c.deref.result.now ≡ group_of c.args.groups.now (get_or c.args.order.now c.loop-class.class-index 0) =
-        c.deref.ensures.value ∙ sym (group_at c.args.groups.now (get_or c.args.order.now c.loop-class.class-index 0) c.index-groups-class.result (omega (arith, l, m)) c.index-groups-class.is) in
+    c.deref.ensures.value ∙ sym (group_at c.args.groups.now (get_or c.args.order.now c.loop-class.class-index 0) c.index-groups-class.result (omega (arith, l, m)) c.index-groups-class.is) in
     settling_step c.args.groups.now c.args.order.now c.args.arrivals.now c.loop-class.arrivals c.loop-class.class-index (get_or c.args.order.now c.loop-class.class-index 0) c.latest.result
     c.requires.graph c.loop-class.invariant (slice_get-get_or c.args.order.now c.loop-class.class-index 0 c.loop-class-test.true)
     (subst (λ (xs : List TimedArc). IsLatest (get_or c.loop-class.arrivals (get_or c.args.order.now c.loop-class.class-index 0) None) c.loop-class.arrivals xs c.latest.result) e c.latest.ensures)
