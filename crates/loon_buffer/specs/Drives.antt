@@ -1,16 +1,26 @@
 -- Cells that can stand for others, and netlists in which no exchange of one helps.
-use Rattle.std.specs.Prelude.{◌≡◌, ◌≢◌, ◌↔◌, ℕ, ◌<◌, ◌≤◌, Bool, false, List, [], map, length, Some, slice_index_or}
-use Rattle.cell_model.specs.Cell.{Cell}
+use Rattle.std.specs.Prelude.{◌≡◌, ◌≢◌, ◌↔◌, ℕ, ◌<◌, ◌≤◌, Bool, List, [], map, length, Some, slice_index_or}
+use Rattle.std.specs.Global.{Vec}
+use Rattle.bool_expr.specs.Expression.{Expression, bit, val, IsOver}
+use Rattle.cell_model.specs.Cell.{Cell, Function, gate}
 use Rattle.cell_model.specs.Library.{Library, cell_of, IsUsable}
 use Rattle.net_core.specs.Places.{Stands, IsThere}
 use Rattle.net_core.specs.Netlist.{Instance, Netlist, SetsModel}
 use Rattle.net_theory.specs.Exchanges.{IsDrive}
 use Rattle.delay_sta.specs.Paths.{IsWorst}
-use Rattle.loon_buffer.specs.declared.table.DriveTable.{DriveTable}
 
--- the bits of a vector of six from this place on
+-- two vectors have the same bits from this place up to the sixth
 abbrev pub Agrees : List Bool → List Bool → ℕ → Type 0
-Agrees w bits known = (k : ℕ) → known ≤ k → k < 6 → slice_index_or w k false ≡ slice_index_or bits k false
+Agrees w bits known = (k : ℕ) → known ≤ k → k < 6 → bit w k ≡ bit bits k
+
+-- two expressions have one value on each such vector
+abbrev pub HaveSameValues : Expression → Expression → List Bool → ℕ → Type 0
+HaveSameValues e x bits known = (w : List Bool) → Agrees w bits known → val x w ≡ val e w
+
+-- a gate reads at most six inputs
+abbrev pub IsNarrow : Function → Type 0
+IsNarrow (gate e) = IsOver e 6
+IsNarrow _ = Unit {0}
 
 -- at the second place stands another usable cell, which can stand for the usable cell at the first
 pub record IsOtherDrive (cells : List Cell) (place k : ℕ) : Type 0 where
@@ -23,10 +33,18 @@ pub record IsOtherDrive (cells : List Cell) (place k : ℕ) : Type 0 where
   pub as_usable : IsUsable now
   pub drive : IsDrive was now
 
--- the others that can stand for each cell of a library, by places
-pub record IsDriveTable (l : Library) (t : DriveTable) : Type 0 where
-  pub many : length t.drives.items ≡ length l.cells
-  pub each : (place k : ℕ) → place < length l.cells → IsThere (slice_index_or (map (λ d. d.items) t.drives.items) place []) k ↔ IsOtherDrive l.cells place k
+-- the places below an end of the others that can stand for the cell at a place
+abbrev pub AreOtherDrives : List Cell → ℕ → ℕ → List ℕ → Type 0
+AreOtherDrives cells place end drives = (k : ℕ) → IsThere drives k ↔ ((k < end) × IsOtherDrive cells place k)
+
+-- those of the cell at a place
+abbrev pub drives_at : List (Vec ℕ) → ℕ → List ℕ
+drives_at table place = slice_index_or (map (λ d. d.items) table) place []
+
+-- the others that can stand for each of these cells, by places
+pub record IsDriveTable (cells : List Cell) (table : List (Vec ℕ)) : Type 0 where
+  pub many : length table ≡ length cells
+  pub each : (place : ℕ) → place < length cells → AreOtherDrives cells place (length cells) (drives_at table place)
 
 -- one instance's cell is exchanged for a usable cell that can stand for it
 pub record IsExchange (l : Library) (n m : Netlist) : Type 0 where

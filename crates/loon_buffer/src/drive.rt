@@ -1,24 +1,26 @@
 // Whether a cell can stand for another.
-ghost use Rattle.std.specs.Prelude.{◌≡◌, ◌↔◌, ◌≤◌, List, Bool, length, map, IsTrue};
-ghost use Rattle.bool_expr.specs.Expression.{val, IsOver};
+ghost use Rattle.std.specs.Prelude.{◌≡◌, ◌↔◌, ◌≤◌, map, IsTrue};
+ghost use Rattle.bool_expr.specs.Expression.{IsOver};
 ghost use Rattle.bool_expr.specs.View.{view};
 ghost use Rattle.cell_model.specs.Library.{IsUsable};
+ghost use Rattle.cell_model.specs.Cell.{gate};
 ghost use Rattle.cell_model.specs.View.{function_view};
 ghost use Rattle.net_theory.specs.Exchanges.{IsSameFunction, IsDrive};
-ghost use Rattle.loon_buffer.specs.Drives.{Agrees};
+ghost use Rattle.loon_buffer.specs.Drives.{HaveSameValues, IsNarrow};
 
 use bool_expr::{Expr, value_at};
 use cell_model::{Cell, Function, Pin};
+use vlsi_base::{Name, Port};
 
 /// The most inputs of a gate.
 const MOST_INPUTS: usize = 6;
 
-/// Whether two expressions have one value at all vectors whose bits from `known` on are these.
-fn same_values(e: &Expr, x: &Expr, known: usize, bits: [bool; MOST_INPUTS]) -> bool
+/// Whether two expressions have one value on all vectors with these bits from the place `known` on.
+fn same_values(e: &Expr, x: &Expr, bits: [bool; MOST_INPUTS], known: usize) -> bool
     requires one { IsOver (view e.now) 6 }
     requires other { IsOver (view x.now) 6 }
     requires within { known ≤ 6 }
-    ensures { IsTrue result ↔ ((w : List Bool) → length w ≡ 6 → Agrees w bits known → val (view x.now) w ≡ val (view e.now) w) }
+    ensures { IsTrue result ↔ HaveSameValues (view e.now) (view x.now) bits known }
 {
     if known == 0 {
         return value_at(e, &bits) == value_at(x, &bits);
@@ -26,34 +28,64 @@ fn same_values(e: &Expr, x: &Expr, known: usize, bits: [bool; MOST_INPUTS]) -> b
     let next = known - 1;
     let mut low = bits;
     low[next] = false;
+    if !same_values(e, x, low, next) {
+        return false;
+    }
     let mut high = bits;
     high[next] = true;
-    same_values(e, x, next, low) && same_values(e, x, next, high)
+    same_values(e, x, high, next)
 }
 
-/// Whether two functions are the same: of gates on all vectors, of flip-flops by their pins.
+/// Whether two gates compute one function: on all vectors.
+fn same_gates(e: &Expr, x: &Expr) -> bool
+    requires one { IsNarrow (gate (view e.now)) }
+    requires other { IsNarrow (gate (view x.now)) }
+    ensures { IsTrue result ↔ IsSameFunction (gate (view e.now)) (gate (view x.now)) }
+{
+    same_values(e, x, [false; MOST_INPUTS], MOST_INPUTS)
+}
+
+/// Whether two flip-flops, by their data and clock pins, have the same pins.
+fn same_clocked(one: (&Name, &Name), other: (&Name, &Name)) -> bool
+    ensures { IsTrue result ↔ ((other.0.now ≡ one.0.now) × (other.1.now ≡ one.1.now)) }
+{
+    other.0.is_same(one.0) && other.1.is_same(one.1)
+}
+
+/// Whether two functions are the same: those of gates on all vectors, those of flip-flops by their pins.
 fn same_functions(one: &Function, other: &Function) -> bool
+    requires one { IsNarrow (function_view one.now) }
+    requires other { IsNarrow (function_view other.now) }
     ensures { IsTrue result ↔ IsSameFunction (function_view one.now) (function_view other.now) }
 {
-    match (one, other) {
-        (Function::Gate(e), Function::Gate(x)) => {
-            same_values(e, x, MOST_INPUTS, [false; MOST_INPUTS])
-        }
-        (
-            Function::FlipFlop {
-                data: data,
-                clock: clock,
-            },
+    match one {
+        Function::Gate(e) => match other {
+            Function::Gate(x) => same_gates(e, x),
+            Function::FlipFlop { .. } => false,
+            Function::Other(_) => false,
+            Function::Opaque => false,
+        },
+        Function::FlipFlop { data, clock } => match other {
+            Function::Gate(_) => false,
             Function::FlipFlop {
                 data: other_data,
                 clock: other_clock,
-            },
-        ) => data.is_same(other_data) && clock.is_same(other_clock),
-        _ => false,
+            } => same_clocked((data, clock), (other_data, other_clock)),
+            Function::Other(_) => false,
+            Function::Opaque => false,
+        },
+        Function::Other(_) => false,
+        Function::Opaque => false,
     }
 }
 
-/// Whether two lists of pins have the same names and directions.
+fn same_port(one: &Port, other: &Port) -> bool
+    ensures { IsTrue result ↔ (other.now ≡ one.now) }
+{
+    other.dir == one.dir && other.name.is_same(&one.name)
+}
+
+/// Whether two lists of pins have the same names and directions in the same order.
 fn same_pins(one: &[Pin], other: &[Pin]) -> bool
     ensures { IsTrue result ↔ (map (λ p. p.port) other.now ≡ map (λ p. p.port) one.now) }
 {
@@ -61,7 +93,7 @@ fn same_pins(one: &[Pin], other: &[Pin]) -> bool
         return false;
     }
     for k in 0..one.len() {
-        if one[k].port.dir != other[k].port.dir || !one[k].port.name.is_same(&other[k].port.name) {
+        if !same_port(&one[k].port, &other[k].port) {
             return false;
         }
     }

@@ -1,10 +1,7 @@
-//! Nets with few sinks, and cells that make the longest path short.
+//! Drives of cells.
 #![tactic(auto)]
 
-mod choose;
 mod drive;
-mod exchange;
 mod table;
 
-pub use choose::choose_drives;
 pub use table::DriveTable;
