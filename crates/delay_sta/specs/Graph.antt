@@ -8,9 +8,9 @@ use Rattle.vlsi_base.specs.declared.name.Name.{Name}
 use Rattle.vlsi_base.specs.declared.name.Port.{Port}
 use Rattle.vlsi_base.specs.declared.name.Dir.TheVariants as dir
 use Rattle.vlsi_base.specs.Name.{is_supply}
-use Rattle.cell_model.specs.Library.{Library, cell_named}
+use Rattle.cell_model.specs.Library.{Library, cell_named, cell_of}
 use Rattle.net_core.specs.Places.{Stands, IsThere, NoneTwice}
-use Rattle.net_core.specs.Netlist.{Netlist, pin_of, HasClass}
+use Rattle.net_core.specs.Netlist.{Instance, Netlist, pin_of, HasClass}
 use Rattle.delay_sta.specs.declared.graph.TimedArc.{TimedArc}
 use Rattle.delay_sta.specs.Paths.{Step, IsStepAt, IsStep, BeginsThere, GoesThrough, IsStart, TakesTo, IsGreatest}
 
@@ -45,6 +45,18 @@ pub record IsTimedIn (n : Netlist) (loads : ℕ → ℕ) (owner : List ℕ) (c :
 -- and such a step of the netlist
 abbrev pub IsTimed : Netlist → Library → TimedArc → Type 0
 IsTimed n l x = MatchBool x.begins (IsStep n l BeginsThere (step_of x)) (IsStep n l GoesThrough (step_of x))
+
+-- an arc of the instance with its number, between the pins at its places among the instance's
+pub record IsOwned (n : Netlist) (l : Library) (x : TimedArc) : Type 0 where
+  pub owner : Instance
+  pub stands : Stands n.instances x.owner owner
+  pub cell : Cell
+  pub found : cell_of l owner.model ≡ Some cell
+  pub arc : Arc
+  pub has : IsThere cell.arcs arc
+  pub input : Stands owner.pins x.input arc.from
+  pub output : Stands owner.pins x.output arc.to
+  pub is : IsTimedAt n (load n l) owner.name cell arc x
 
 -- so much less than 2 ^ 128 that fewer than 2 ^ 32 of them can be added
 abbrev pub IsShort : TimedArc → Type 0

@@ -9,4 +9,6 @@ mod loads;
 mod settle;
 
 pub use analysis::delays;
-pub use arrivals::{Delays, worst};
+pub use arrivals::{Delays, time_of, worst};
+pub use graph::TimedArc;
+pub use loads::input_capacitance;

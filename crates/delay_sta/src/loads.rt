@@ -26,7 +26,11 @@ fn cell_place(cells: &[Cell], model: &Text) -> usize
 }
 
 /// The places of the cells of models.
-pub fn cell_places(alloc: Global, models: &[Text], cells: &[Cell]) -> Result<Vec<usize>, AllocError>
+pub fn cell_places(
+    alloc: Global,
+    models: &[Text],
+    cells: &[Cell],
+) -> Result<Vec<usize>, AllocError>
     ensures { IfOk result (λ places. AreFound cells.now models.now places.items) }
 {
     let mut places = Vec::new(alloc);
@@ -46,7 +50,7 @@ fn is_input_named(pin: &Pin, name: &Name) -> bool
 }
 
 /// The capacitance of the input pin of this name.
-fn input_capacitance(pins: &[Pin], name: &Name) -> u32
+pub fn input_capacitance(pins: &[Pin], name: &Name) -> u32
     ensures { result ≡ input_capacitance pins.now name.now }
 {
     for pin in pins {

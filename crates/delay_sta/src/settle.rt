@@ -6,7 +6,7 @@ ghost use Rattle.delay_sta.specs.Graph.{IsShort, IsGraph, later_by, arrival_by, 
 use crate::graph::TimedArc;
 
 /// When a path arrives by an arc, where classes have these arrivals.
-fn arrival_by(arrivals: &[Option<u128>], arc: &TimedArc) -> Option<u128>
+pub fn arrival_by(arrivals: &[Option<u128>], arc: &TimedArc) -> Option<u128>
     requires inside { arc.now.from < length arrivals.now }
     requires few { IfSome (slice_index_or arrivals.now arc.now.from None) (λ t. t + arc.now.delay < 2 ^ 128) }
     ensures { result ≡ arrival_by arrivals.now arc.now }
@@ -34,7 +34,11 @@ fn later(one: Option<u128>, other: Option<u128>) -> Option<u128>
 }
 
 /// The latest of an arrival and those by arcs.
-fn latest(start: Option<u128>, arrivals: &[Option<u128>], arcs: &[TimedArc]) -> Option<u128>
+fn latest(
+    start: Option<u128>,
+    arrivals: &[Option<u128>],
+    arcs: &[TimedArc],
+) -> Option<u128>
     requires inside { All (λ x. x.from < length arrivals.now) arcs.now }
     requires few { All (λ x. IfSome (slice_index_or arrivals.now x.from None) (λ t. t + x.delay < 2 ^ 128)) arcs.now }
     ensures { IsLatest start arrivals.now arcs.now result }
@@ -46,14 +50,32 @@ fn latest(start: Option<u128>, arrivals: &[Option<u128>], arcs: &[TimedArc]) -> 
     latest
 }
 
-/// Goes through classes in their order: from the arrivals of those where paths start to the latest arrivals of all. Takes no memory.
-pub fn settle(arrivals: &mut [Option<u128>], order: &[u32], groups: &[Vec<TimedArc>])
-    requires graph { IsGraph groups.now order.now (length arrivals.old) }
-    requires starts { AreStarts arrivals.old }
-    ensures { AreSettled groups.now arrivals.old arrivals.new }
-{
+/// Goes through classes in their order and takes anew the arrivals of those that are stale, and of each behind which one changes.
+/// Takes no memory.
+pub fn settle(
+    arrivals: &mut [Option<u128>],
+    stale: &mut [bool],
+    starts: &[Option<u128>],
+    order: &[u32],
+    arcs: &[Vec<TimedArc>],
+    reached: &[Vec<u32>],
+) {
     for class in order {
         let class = *class as usize;
-        arrivals[class] = latest(arrivals[class], arrivals, &groups[class]);
+        if stale[class] {
+            stale[class] = false;
+            let arrival = latest(starts[class], arrivals, &arcs[class]);
+            if arrival != arrivals[class] {
+                arrivals[class] = arrival;
+                mark(stale, &reached[class]);
+            }
+        }
+    }
+}
+
+/// Marks classes as stale.
+pub fn mark(stale: &mut [bool], classes: &[u32]) {
+    for class in classes {
+        stale[*class as usize] = true;
     }
 }
