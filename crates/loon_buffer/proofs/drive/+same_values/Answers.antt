@@ -1,4 +1,4 @@
-use Rattle.std.proofs.Common.{◌≡◌, ◌+◌, ◌-◌, ℕ, Bool, true, false, List, length, refl, sym, ◌∙◌, subst, arith, rules}
+use Rattle.std.proofs.Common.{◌≡◌, ◌+◌, ◌-◌, Bool, true, false, length, refl, sym, ◌∙◌, subst, arith, rules}
 use Rattle.std.specs.Prelude.{slice_set}
 use mathlib.Core.Bool.{beq}
 use Rattle.bool_expr.specs.View.{view}

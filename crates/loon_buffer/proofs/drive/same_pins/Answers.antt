@@ -1,4 +1,4 @@
-use Rattle.std.proofs.Common.{◌≡◌, ◌<◌, false, true, length, get_or, refl, arith}
+use Rattle.std.proofs.Common.{◌<◌, length, get_or, refl, arith}
 use Rattle.std.proofs.lemmas.List.{get_or_default}
 use Rattle.loon_buffer.proofs.Listing.{same_next, other_here}
 use Rattle.loon_buffer.proofs.drive.same_pins.Goals as goal
@@ -11,8 +11,8 @@ returns-then-not-same_port c =
       (λ h. absurd cc),
       (λ same. c.if-not-same_port.ensures.1
           (other_here c.args.one.now c.args.other.now c.loop-k.k (get_or c.args.one.now c.loop-k.k c.index-one-k.result) (get_or c.args.other.now c.loop-k.k c.index-other-k.result) l m
-    (get_or_default c.args.one.now c.loop-k.k c.index-one-k.result (get_or c.args.one.now c.loop-k.k c.index-one-k.result) l)
-    (get_or_default c.args.other.now c.loop-k.k c.index-other-k.result (get_or c.args.other.now c.loop-k.k c.index-other-k.result) m) same)),
+          (get_or_default c.args.one.now c.loop-k.k c.index-one-k.result (get_or c.args.one.now c.loop-k.k c.index-one-k.result) l)
+          (get_or_default c.args.other.now c.loop-k.k c.index-other-k.result (get_or c.args.other.now c.loop-k.k c.index-other-k.result) m) same)),
     )
 
 pub loop-k-preserved : goal.loop-k-preserved
