@@ -2,6 +2,8 @@
 #![tactic(auto)]
 
 mod drive;
+mod laws;
 mod table;
 
+pub use laws::others_law;
 pub use table::DriveTable;

@@ -1,0 +1,8 @@
+// Which exchanges of cells can make the longest path shorter.
+ghost use Rattle.loon_buffer.specs.Drives.{OthersDoNotHelp};
+
+/// An exchange of an instance's cell makes the longest path no shorter where the instance has no pin in a class to which a step of that
+/// path leads.
+pub fn others_law()
+    ensures { OthersDoNotHelp }
+{}
