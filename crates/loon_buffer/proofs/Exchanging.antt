@@ -81,14 +81,14 @@ parted (x ∷ is) (suc k) i j s =
       set = ap (λ (ys : List Instance). x ∷ ys) r.set;
     }
 
-stands_other : (is : List Instance) (place k : ℕ) (i j : Instance) → k ≢ place → Stands is k i → Stands (slice_set is place j) k i
+pub stands_other : (is : List Instance) (place k : ℕ) (i j : Instance) → k ≢ place → Stands is k i → Stands (slice_set is place j) k i
 stands_other [] place k i j apart s = absurd cc
 stands_other (x ∷ is) zero zero i j apart s = absurd (apart refl)
 stands_other (x ∷ is) zero (suc k) i j apart s = s
 stands_other (x ∷ is) (suc place) zero i j apart s = s
 stands_other (x ∷ is) (suc place) (suc k) i j apart s = stands_other is place k i j (λ e. apart (ap suc e)) s
 
-stands_set : (is : List Instance) (place : ℕ) (i j : Instance) → Stands is place i → Stands (slice_set is place j) place j
+pub stands_set : (is : List Instance) (place : ℕ) (i j : Instance) → Stands is place i → Stands (slice_set is place j) place j
 stands_set [] place i j s = absurd cc
 stands_set (x ∷ is) zero i j s = refl
 stands_set (x ∷ is) (suc place) i j s = stands_set is place i j s
@@ -112,19 +112,19 @@ pin_counts l (i ∷ is) =
 
 -- ---- one instance has another model
 
-abbrev with_model : Instance → List ℕ → Instance
+abbrev pub with_model : Instance → List ℕ → Instance
 with_model i model = record i { model = model }
 
-abbrev changed : Netlist → ℕ → Instance → List ℕ → Netlist
+abbrev pub changed : Netlist → ℕ → Instance → List ℕ → Netlist
 changed n place was model = record n { instances = slice_set n.instances place (with_model was model) }
 
 module _ (n : Netlist) (l : Library) (place : ℕ) (was : Instance) (model : List ℕ) (stood : Stands n.instances place was) where
-  kept : terminals (changed n place was model) ≡ terminals n
+  pub kept : terminals (changed n place was model) ≡ terminals n
   kept = terminals_set (record { ports = n.ports; models = n.models; instances = n.instances })
       (record { ports = n.ports; models = n.models; instances = slice_set n.instances place (with_model was model) }) place model
       (record { was = was; stood = stood; now = refl })
 
-  has_kept : (t : Terminal) (class : ℕ) → HasClass n t class → HasClass (changed n place was model) t class
+  pub has_kept : (t : Terminal) (class : ℕ) → HasClass n t class → HasClass (changed n place was model) t class
   has_kept t class h = (h.0, subst (λ (ts : List Terminal). Stands ts h.0 t) (sym kept) h.1, h.2)
 
   parts : Parted n.instances place was (with_model was model)

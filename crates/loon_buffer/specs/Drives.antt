@@ -8,6 +8,7 @@ use Rattle.cell_model.specs.Library.{Library, cell_of, IsUsable}
 use Rattle.net_core.specs.Places.{Stands, IsThere}
 use Rattle.net_core.specs.Netlist.{Instance, Netlist, pin_of, HasClass, SetsModel}
 use Rattle.net_theory.specs.Exchanges.{IsDrive}
+use Rattle.delay_sta.specs.Timed.{CanBeTimed}
 use Rattle.delay_sta.specs.Paths.{Step, TakesTo, BeginsThere, GoesThrough, IsStep, IsStart, IsEnd, IsWorst}
 
 -- two vectors have the same bits from this place up to the sixth
@@ -98,3 +99,15 @@ OthersDoNotHelp = (l : Library) (n m : Netlist) (x : IsExchange l n m) (class ti
     → (p : TakesTo (IsStart n) (IsStep n l BeginsThere) (IsStep n l GoesThrough) class time)
     → ((s : Step) → IsThere p.path s → IsAt n s.to x.place → ⊥)
     → IsWorst m l longest → time ≤ longest
+
+-- before any exchange
+abbrev pub NoExchangeYet : Type 0
+NoExchangeYet = (l : Library) (n : Netlist) → CanBeTimed l n → OnlyExchanges l n n
+
+-- exchanges and one more
+abbrev pub OneExchangeMore : Type 0
+OneExchangeMore = (l : Library) (old mid new : Netlist) → OnlyExchanges l old mid → IsExchange l mid new → OnlyExchanges l old new
+
+-- after an exchange a netlist can be timed, as before
+abbrev pub ExchangesCanBeTimed : Type 0
+ExchangesCanBeTimed = (l : Library) (n m : Netlist) → CanBeTimed l n → IsExchange l n m → CanBeTimed l m
