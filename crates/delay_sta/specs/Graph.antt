@@ -12,6 +12,7 @@ use Rattle.cell_model.specs.Library.{Library, cell_named, cell_of}
 use Rattle.net_core.specs.Places.{Stands, IsThere, NoneTwice}
 use Rattle.net_core.specs.Netlist.{Instance, Netlist, pin_of, HasClass}
 use Rattle.delay_sta.specs.declared.graph.TimedArc.{TimedArc}
+use Rattle.delay_sta.specs.Loads.{load}
 use Rattle.delay_sta.specs.Paths.{Step, IsStepAt, IsStep, BeginsThere, GoesThrough, IsStart, TakesTo, IsGreatest}
 
 -- the place of the cell of each model

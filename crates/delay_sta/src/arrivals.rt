@@ -1,6 +1,7 @@
 // What is found of the delays of a netlist.
-ghost use Rattle.std.specs.Prelude.{◌≡◌, None, slice_index_or};
+ghost use Rattle.std.specs.Prelude.{◌≡◌, ◌<◌, ◌≤◌, None, false, take, length, slice_index, slice_index_or, IfSome, IfNone};
 ghost use Rattle.cell_model.specs.Library.{Library as Cells};
+ghost use Rattle.net_core.specs.Places.{IsThere};
 ghost use Rattle.net_core.specs.Netlist.{Netlist as InMemory, IsNetlist};
 ghost use Rattle.delay_sta.specs.Paths.{IsWorst};
 ghost use Rattle.delay_sta.specs.Timed.{CanBeTimed, AreDelaysOf};

@@ -1,2 +1,4 @@
 pub mod Vectors
 pub mod Listing
+pub mod Exchanging
+pub mod Keeping

@@ -1,13 +1,12 @@
 -- Lists of pins that are compared place by place, and places of drives that are gathered.
-use Rattle.std.proofs.Common.{◌≡◌, ◌≢◌, ◌⊎◌, inl, inr, ℕ, zero, suc, ◌+◌, ◌<◌, ◌≤◌, Bool, true, false, List, [], ◌∷◌, ◌++◌, map, length, get_or, take, nat_eq, refl, sym, ap, ◌∙◌, subst, arith}
-use Rattle.std.specs.Prelude.{◌↔◌}
+use Rattle.std.proofs.Common.{◌≡◌, ◌⊎◌, inl, inr, ℕ, ◌+◌, ◌<◌, ◌≤◌, List, [], ◌∷◌, ◌++◌, map, length, get_or, take, refl, sym, ap, ◌∙◌, subst, arith}
 use Rattle.std.specs.Global.{Vec}
 use Rattle.std.proofs.lemmas.List.{take_more, take_all, get_or-map, length-map, get_or_append_left, get_or_push, map-append, length-append}
 use Rattle.std.proofs.lemmas.Bool.{cases_lt}
 use Rattle.vlsi_base.specs.declared.name.Port.{Port}
 use Rattle.cell_model.specs.declared.cell.Pin.{Pin}
 use Rattle.cell_model.specs.Cell.{Cell}
-use Rattle.net_core.specs.Places.{Stands, IsThere}
+use Rattle.net_core.specs.Places.{IsThere}
 use Rattle.delay_sta.proofs.Grouping.{nothing_there, there_more}
 use Rattle.loon_buffer.specs.Drives.{IsOtherDrive, AreOtherDrives, drives_at, IsDriveTable}
 
@@ -17,20 +16,20 @@ ports_of pins = map (λ (p : Pin). p.port) pins
 -- so many pins are the same
 pub same_next : (one other : List Pin) (k : ℕ) (p q : Pin) → k < length one → k < length other → p ≡ get_or one k p → q ≡ get_or other k q → q.port ≡ p.port
     → take k (ports_of other) ≡ take k (ports_of one) → take (k + 1) (ports_of other) ≡ take (k + 1) (ports_of one)
-same_next one other k p q l m at as same before =
+same_next one other k p q l m at others same before =
     take_more (ports_of other) k q.port (omega (arith, m, length-map other (λ (x : Pin). x.port)))
     ∙ ap (λ (ps : List Port). ps ++ get_or (ports_of other) k q.port ∷ []) before
-    ∙ ap (λ (x : Port). take k (ports_of one) ++ x ∷ []) (read other q m as ∙ same ∙ sym (read one p l at) ∙ unread)
+    ∙ ap (λ (x : Port). take k (ports_of one) ++ x ∷ []) (read other q m others ∙ same ∙ sym (read one p l at) ∙ unread)
     ∙ sym (take_more (ports_of one) k q.port (omega (arith, l, length-map one (λ (x : Pin). x.port)))) where
-  read : (ps : List Pin) (x : Pin) → k < length ps → x ≡ get_or ps k x → get_or (ports_of ps) k x.port ≡ x.port
-  read ps x l at = get_or-map (λ (y : Pin). y.port) ps k x x.port l ∙ ap (λ (y : Pin). y.port) (sym at)
+      read : (ps : List Pin) (x : Pin) → k < length ps → x ≡ get_or ps k x → get_or (ports_of ps) k x.port ≡ x.port
+      read ps x l at = get_or-map (λ (y : Pin). y.port) ps k x x.port l ∙ ap (λ (y : Pin). y.port) (sym at)
 
-  unread : get_or (ports_of one) k p.port ≡ get_or (ports_of one) k q.port
-  unread = get_or-map (λ (y : Pin). y.port) one k p p.port l ∙ sym (get_or-map (λ (y : Pin). y.port) one k p q.port l)
+      unread : get_or (ports_of one) k p.port ≡ get_or (ports_of one) k q.port
+      unread = get_or-map (λ (y : Pin). y.port) one k p p.port l ∙ sym (get_or-map (λ (y : Pin). y.port) one k p q.port l)
 
 pub other_here : (one other : List Pin) (k : ℕ) (p q : Pin) → k < length one → k < length other → p ≡ get_or one k p → q ≡ get_or other k q → ports_of other ≡ ports_of one → q.port ≡ p.port
-other_here one other k p q l m at as same =
-    ap (λ (y : Pin). y.port) as ∙ sym (get_or-map (λ (y : Pin). y.port) other k q p.port m)
+other_here one other k p q l m at others same =
+    ap (λ (y : Pin). y.port) others ∙ sym (get_or-map (λ (y : Pin). y.port) other k q p.port m)
     ∙ ap (λ (ps : List Port). get_or ps k p.port) same
     ∙ get_or-map (λ (y : Pin). y.port) one k p p.port l ∙ ap (λ (y : Pin). y.port) (sym at)
 
@@ -102,7 +101,7 @@ drives_more cells old new k d are pushed before = record { many = many; each = e
     by : (place < k) ⊎ (k ≤ place) → AreOtherDrives cells place (length cells) (get_or (map (λ (v : Vec ℕ). v.items) old ++ d.items ∷ []) place [])
     by (inl m) =
         subst (λ (ds : List ℕ). AreOtherDrives cells place (length cells) ds)
-        (sym (get_or_append_left (map (λ (v : Vec ℕ). v.items) old) (d.items ∷ []) place [] (omega (arith, m, mapped)))) (before.each place m)
+        (sym (get_or_append_left (map (λ (v : Vec ℕ). v.items) old) (d.items ∷ []) [] place (omega (arith, m, mapped)))) (before.each place m)
     by (inr m) =
         let e : place ≡ k = omega (arith, l, m) in
         let last : get_or (map (λ (v : Vec ℕ). v.items) old ++ d.items ∷ []) place [] ≡ d.items = get_or_push (map (λ (v : Vec ℕ). v.items) old) d.items [] place (mapped ∙ sym e) in

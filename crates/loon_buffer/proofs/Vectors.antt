@@ -1,26 +1,28 @@
 -- Values of expressions on all vectors of six bits, bit by bit.
-use Rattle.std.proofs.Common.{◌≡◌, ◌≢◌, ◌⊎◌, inl, inr, ℕ, ◌+◌, ◌<◌, ◌≤◌, Bool, true, false, List, length, get_or, nat_eq, refl, sym, ap, ◌∙◌, arith}
+use Rattle.std.proofs.Common.{◌≡◌, ◌≢◌, ℕ, ◌+◌, ◌≤◌, Bool, true, false, List, length, nat_eq, refl, sym, ap, ◌∙◌, arith}
 use Rattle.std.specs.Prelude.{slice_set}
 use Rattle.std.proofs.lemmas.List.{get_or-set_same, get_or-set_other}
 use Rattle.std.proofs.lemmas.Bool.{eqb-true, eq-eqb}
 use Rattle.bool_expr.specs.Expression.{Expression, constant, variable, inverse, pair, choice, bit, val, IsOver}
 use Rattle.machine_core.proofs.Values.{val-agrees}
 use Rattle.machine_core.proofs.Known.{IsOver-In}
-use Rattle.loon_buffer.specs.Drives.{Agrees, HaveSameValues}
+use Rattle.cell_model.specs.Cell.{Function, gate, flip_flop, other, opaque, Cell, cell_inputs}
+use Rattle.cell_model.specs.Library.{IsPlain, IsUsable}
+use Rattle.loon_buffer.specs.Drives.{Agrees, HaveSameValues, IsNarrow}
 
 pub over_more : (e : Expression) (n m : ℕ) → n ≤ m → IsOver e n → IsOver e m
 over_more (constant b) n m l over = tt
 over_more (variable k) n m l over = omega (arith, l, over)
 over_more (inverse e) n m l over = over_more e n m l over
 over_more (pair g a b) n m l over = (over_more a n m l over.0, over_more b n m l over.1)
-over_more (choice c a b) n m l over = (over_more c n m l over.0, over_more a n m l over.1.0, over_more b n m l over.1.1)
+over_more (choice c a b) n m l over = (over_more c n m l over.0, (over_more a n m l over.1.0, over_more b n m l over.1.1))
 
 -- where all bits are known
 one_vector : (e : Expression) → IsOver e 6 → (w bits : List Bool) → Agrees w bits 0 → val e w ≡ val e bits
 one_vector e over w bits agrees = val-agrees e w bits (λ k i. agrees k (omega arith) (IsOver-In e 6 over k i))
 
 pub known_same : (e x : Expression) → IsOver e 6 → IsOver x 6 → (bits : List Bool) → val e bits ≡ val x bits → HaveSameValues e x bits 0
-known_same e x over other bits same w agrees = one_vector x other w bits agrees ∙ sym same ∙ sym (one_vector e over w bits agrees)
+known_same e x over narrower bits same w agrees = one_vector x narrower w bits agrees ∙ sym same ∙ sym (one_vector e over w bits agrees)
 
 pub known_here : (e x : Expression) (bits : List Bool) (known : ℕ) → HaveSameValues e x bits known → val e bits ≡ val x bits
 known_here e x bits known same = sym (same bits (λ k l m. refl))
@@ -52,3 +54,14 @@ module _ (e x : Expression) (bits : List Bool) (known next : ℕ) (is : known �
     by : (b : Bool) → bit w next ≡ b → val x w ≡ val e w
     by false q = low w (agrees_next false w agrees q)
     by true q = high w (agrees_next true w agrees q)
+
+-- ---- cells
+
+narrow_function : (c : Cell) (f : Function) → IsPlain c f → IsNarrow f
+narrow_function c (gate e) h = over_more e (length (cell_inputs c)) 6 h.1 h.2
+narrow_function c (flip_flop d k) h = tt
+narrow_function c (other m) h = tt
+narrow_function c opaque h = tt
+
+pub narrow : (c : Cell) → IsUsable c → IsNarrow c.function
+narrow c usable = narrow_function c c.function usable.function

@@ -1,13 +1,15 @@
 -- Cells that can stand for others, and netlists in which no exchange of one helps.
 use Rattle.std.specs.Prelude.{◌≡◌, ◌≢◌, ◌↔◌, ℕ, ◌<◌, ◌≤◌, Bool, List, [], map, length, Some, slice_index_or}
 use Rattle.std.specs.Global.{Vec}
+use Rattle.vlsi_base.specs.declared.name.Name.{Name}
 use Rattle.bool_expr.specs.Expression.{Expression, bit, val, IsOver}
 use Rattle.cell_model.specs.Cell.{Cell, Function, gate}
 use Rattle.cell_model.specs.Library.{Library, cell_of, IsUsable}
 use Rattle.net_core.specs.Places.{Stands, IsThere}
-use Rattle.net_core.specs.Netlist.{Instance, Netlist, SetsModel}
+use Rattle.net_core.specs.Netlist.{Instance, Netlist, pin_of, HasClass, SetsModel}
 use Rattle.net_theory.specs.Exchanges.{IsDrive}
-use Rattle.delay_sta.specs.Paths.{IsWorst}
+use Rattle.delay_sta.specs.Timed.{CanBeTimed}
+use Rattle.delay_sta.specs.Paths.{Step, TakesTo, BeginsThere, GoesThrough, IsStep, IsStart, IsEnd, IsWorst}
 
 -- two vectors have the same bits from this place up to the sixth
 abbrev pub Agrees : List Bool → List Bool → ℕ → Type 0
@@ -82,3 +84,30 @@ pub record OnlyExchanges (l : Library) (old new : Netlist) : Type 0 where
 -- the names of all usable cells are among the models that instances can be given
 abbrev pub HasDrives : Library → Netlist → Type 0
 HasDrives l n = (c : Cell) → IsThere l.cells c → IsUsable c → IsThere n.models c.name
+
+-- an instance, by its place, has a pin in the class
+pub record IsAt (n : Netlist) (class place : ℕ) : Type 0 where
+  pub owner : Instance
+  pub stands : Stands n.instances place owner
+  pub pin : Name
+  pub joined : HasClass n (pin_of owner.name pin) class
+
+-- After an exchange the longest path takes at least as long as each path to an end had taken of which no step leads to a class in which
+-- the exchanged instance has a pin. So only the instances at the classes of a longest path can make it shorter.
+abbrev pub OthersDoNotHelp : Type 0
+OthersDoNotHelp = (l : Library) (n m : Netlist) (x : IsExchange l n m) (class time longest : ℕ) → IsEnd n l class
+    → (p : TakesTo (IsStart n) (IsStep n l BeginsThere) (IsStep n l GoesThrough) class time)
+    → ((s : Step) → IsThere p.path s → IsAt n s.to x.place → ⊥)
+    → IsWorst m l longest → time ≤ longest
+
+-- before any exchange
+abbrev pub NoExchangeYet : Type 0
+NoExchangeYet = (l : Library) (n : Netlist) → CanBeTimed l n → OnlyExchanges l n n
+
+-- exchanges and one more
+abbrev pub OneExchangeMore : Type 0
+OneExchangeMore = (l : Library) (old mid new : Netlist) → OnlyExchanges l old mid → IsExchange l mid new → OnlyExchanges l old new
+
+-- after an exchange a netlist can be timed, as before
+abbrev pub ExchangesCanBeTimed : Type 0
+ExchangesCanBeTimed = (l : Library) (n m : Netlist) → CanBeTimed l n → IsExchange l n m → CanBeTimed l m

@@ -45,11 +45,11 @@ fn same_gates(e: &Expr, x: &Expr) -> bool
     same_values(e, x, [false; MOST_INPUTS], MOST_INPUTS)
 }
 
-/// Whether two flip-flops, by their data and clock pins, have the same pins.
-fn same_clocked(one: (&Name, &Name), other: (&Name, &Name)) -> bool
-    ensures { IsTrue result ↔ ((other.0.now ≡ one.0.now) × (other.1.now ≡ one.1.now)) }
+/// Whether two flip-flops have the same data and clock pins.
+fn same_clocked(data: &Name, clock: &Name, other_data: &Name, other_clock: &Name) -> bool
+    ensures { IsTrue result ↔ ((other_data.now ≡ data.now) × (other_clock.now ≡ clock.now)) }
 {
-    other.0.is_same(one.0) && other.1.is_same(one.1)
+    other_data.is_same(data) && other_clock.is_same(clock)
 }
 
 /// Whether two functions are the same: those of gates on all vectors, those of flip-flops by their pins.
@@ -70,7 +70,7 @@ fn same_functions(one: &Function, other: &Function) -> bool
             Function::FlipFlop {
                 data: other_data,
                 clock: other_clock,
-            } => same_clocked((data, clock), (other_data, other_clock)),
+            } => same_clocked(data, clock, other_data, other_clock),
             Function::Other(_) => false,
             Function::Opaque => false,
         },

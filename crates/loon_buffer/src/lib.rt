@@ -4,7 +4,9 @@
 mod choose;
 mod drive;
 mod exchange;
+mod laws;
 mod table;
 
 pub use choose::choose_drives;
+pub use laws::{exchanges_law, others_law};
 pub use table::DriveTable;

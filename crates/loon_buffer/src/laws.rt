@@ -1,0 +1,15 @@
+// Which exchanges of cells can make the longest path shorter.
+ghost use Rattle.loon_buffer.specs.Drives.{OthersDoNotHelp, NoExchangeYet, OneExchangeMore, ExchangesCanBeTimed};
+
+/// An exchange of an instance's cell makes the longest path no shorter where the instance has no pin in a class to which a step of that
+/// path leads.
+pub fn others_law()
+    ensures { OthersDoNotHelp }
+{}
+
+/// What exchanges one after the other come to, and that the netlist can still be timed.
+pub fn exchanges_law()
+    ensures none { NoExchangeYet }
+    ensures one_more { OneExchangeMore }
+    ensures timed { ExchangesCanBeTimed }
+{}
