@@ -198,7 +198,7 @@ module _ (n : Netlist) (l : Library) (place : ℕ) (was : Instance) (model : Lis
     apart : h.listed.0 ≢ place
     apart e = never (record { owner = h.owner; stands = subst (λ k. Stands n.instances k h.owner) e h.listed.1; pin = h.arc.to; joined = h.is.to })
 
-  start_kept : (class : ℕ) → IsStart n class → IsStart (changed n place was model) class
+  pub start_kept : (class : ℕ) → IsStart n class → IsStart (changed n place was model) class
   start_kept class h = record { input = h.input; listed = h.listed; takes = h.takes; signal = h.signal; joined = has_kept (port h.input.name) class h.joined }
 
   leads_kept : (class : ℕ) (path : List Step) → ((s : Step) → IsThere path s → IsAt n s.to place → ⊥) → Leads (IsStart n) (IsStep n l BeginsThere) (IsStep n l GoesThrough) class path
@@ -221,7 +221,7 @@ clocked (other m) g data_name clock_name same is = absurd cc
 clocked opaque g data_name clock_name same is = absurd cc
 
 module _ (l : Library) (n : Netlist) (place : ℕ) (was : Instance) (stood : Stands n.instances place was) (c d : Cell) (found : cell_of l was.model ≡ Some c) (listed : cell_of l d.name ≡ Some d) (same : IsSameFunction c.function d.function) where
-  end_kept : (class : ℕ) → IsEnd n l class → IsEnd (changed n place was d.name) l class
+  pub end_kept : (class : ℕ) → IsEnd n l class → IsEnd (changed n place was d.name) l class
   end_kept class (at_port output there gives joined) = at_port output there gives (has_kept n l place was d.name stood (port output.name) class joined)
   end_kept class (at_data i b data_name clock_name there of is joined) = by (nat_eq there.0 place) refl where
     by : (t : Bool) → nat_eq there.0 place ≡ t → IsEnd (changed n place was d.name) l class

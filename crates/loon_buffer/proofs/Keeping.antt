@@ -77,7 +77,7 @@ flat_same h (x ∷ is) zero i j s e =
     ap (λ (ys : List Role). ys ++ flat_map h is) (e ∙ ap h (sym q))
 flat_same h (x ∷ is) (suc k) i j s e = ap (λ (ys : List Role). h x ++ ys) (flat_same h is k i j s e)
 
-apart_of : (k place : ℕ) → nat_eq k place ≡ false → k ≢ place
+pub apart_of : (k place : ℕ) → nat_eq k place ≡ false → k ≢ place
 apart_of k place e q = let no : true ≡ false = sym (eq-eqb k place q) ∙ e in absurd cc
 
 -- ---- one exchange more
