@@ -1,5 +1,5 @@
 -- Paths after an exchange of an instance's cell: a step stands in the place of each.
-use Rattle.std.proofs.Common.{◌≡◌, ◌≢◌, ◌⊎◌, inl, inr, ℕ, ◌≤◌, Bool, true, false, List, [], ◌∷◌, map, nat_eq, Some, refl, sym, ap, ◌∙◌, subst, arith}
+use Rattle.std.proofs.Common.{◌≡◌, ◌⊎◌, inl, inr, ℕ, ◌≤◌, Bool, true, false, List, [], ◌∷◌, nat_eq, Some, refl, sym, ap, ◌∙◌, subst}
 use Rattle.std.specs.List.{sum_by}
 use Rattle.std.proofs.lemmas.Bool.{eqb-true}
 use Rattle.vlsi_base.specs.declared.name.Name.{Name}
@@ -9,8 +9,8 @@ use Rattle.vlsi_base.specs.declared.name.Dir.TheVariants as dir
 use Rattle.cell_model.specs.declared.cell.Arc.{Arc}
 use Rattle.cell_model.specs.declared.cell.Pin.{Pin}
 use Rattle.cell_model.specs.Cell.{Function, gate, flip_flop, other, opaque, Cell, pin_ports}
-use Rattle.cell_model.specs.Library.{Library, cell_of, IsUsable}
-use Rattle.net_core.specs.Places.{Stands, IsThere}
+use Rattle.cell_model.specs.Library.{Library, cell_of}
+use Rattle.net_core.specs.Places.{Stands}
 use Rattle.net_core.specs.Netlist.{Instance, Netlist, pin_of, HasClass}
 use Rattle.net_core.proofs.Standing.{stands_same}
 use Rattle.net_core.proofs.Frames.{mapped, unmapped}
@@ -18,7 +18,7 @@ use Rattle.net_theory.specs.Exchanges.{IsSameFunction, IsDrive}
 use Rattle.delay_sta.specs.Arcs.{arc_delay}
 use Rattle.delay_sta.specs.Loads.{load}
 use Rattle.delay_sta.specs.Paths.{Step, Leads, starts, begins, goes_on, TakesTo, HasPin, IsStepAt, IsStep, BeginsThere, GoesThrough, IsStart, IsEnd, IsWorst}
-use Rattle.loon_buffer.specs.Drives.{IsExchange, HasItsArcs, HaveTheirArcs, StandFor, no_steps, one_step, PathsStay, StepsStay}
+use Rattle.loon_buffer.specs.Drives.{HasItsArcs, StandFor, no_steps, one_step, PathsStay, StepsStay}
 use Rattle.loon_buffer.proofs.Exchanging.{with_model, changed, has_kept, stands_other, stands_set, start_kept, end_kept}
 use Rattle.loon_buffer.proofs.Keeping.{apart_of}
 
@@ -99,7 +99,9 @@ module _ (l : Library) (n : Netlist) (place : ℕ) (was : Instance) (stood : Sta
   step_at : (owner : List ℕ) (e : Cell) (a : Arc) (s : Step) → HasClass n (pin_of owner a.from) s.from → HasClass n (pin_of owner a.to) s.to
       → Allows e.function a.from → HasPin e.pins dir.In a.from → HasPin e.pins dir.Out a.to → IsStepAt now (load now l) Allows owner e a (timed_by s a)
   step_at owner e a s from to allowed takes gives = record {
-    allowed = allowed; takes = takes; gives = gives;
+    allowed = allowed;
+    takes = takes;
+    gives = gives;
     from = has_kept n l place was d.name stood (pin_of owner a.from) s.from from;
     to = has_kept n l place was d.name stood (pin_of owner a.to) s.to to;
     delay = refl;
@@ -108,30 +110,45 @@ module _ (l : Library) (n : Netlist) (place : ℕ) (was : Instance) (stood : Sta
   step_stays : (s : Step) → IsStep n l Allows s → (t : Step) × IsStep now l Allows t × (t.from ≡ s.from) × (t.to ≡ s.to)
   step_stays s h = by (nat_eq h.listed.0 place) refl where
     by : (b : Bool) → nat_eq h.listed.0 place ≡ b → (t : Step) × IsStep now l Allows t × (t.from ≡ s.from) × (t.to ≡ s.to)
-    by false e = (timed_by s h.arc, record {
-      owner = h.owner;
-      listed = (h.listed.0, stands_other n.instances place h.listed.0 h.owner (with_model was d.name) (apart_of h.listed.0 place e) h.listed.1);
-      cell = h.cell; found = h.found; arc = h.arc; has = h.has;
-      is = step_at h.owner.name h.cell h.arc s h.is.from h.is.to h.is.allowed h.is.takes h.is.gives;
-    }, refl, refl)
+    by false e = (
+      timed_by s h.arc,
+      record {
+        owner = h.owner;
+        listed = (h.listed.0, stands_other n.instances place h.listed.0 h.owner (with_model was d.name) (apart_of h.listed.0 place e) h.listed.1);
+        cell = h.cell;
+        found = h.found;
+        arc = h.arc;
+        has = h.has;
+        is = step_at h.owner.name h.cell h.arc s h.is.from h.is.to h.is.allowed h.is.takes h.is.gives;
+      },
+      refl,
+      refl,
+    )
     by true e =
         let owner : h.owner ≡ was = stands_same n.instances place h.owner was (subst (λ k. Stands n.instances k h.owner) (eqb-true h.listed.0 place e) h.listed.1) stood in
         let cell : h.cell ≡ c = (let f : Some h.cell ≡ Some c = sym h.found ∙ ap (λ (o : Instance). cell_of l o.model) owner ∙ found in cc) in
         let allowed : Allows d.function h.arc.from = allows_too c.function d.function h.arc.from drive.function (subst (λ (x : Cell). Allows x.function h.arc.from) cell h.is.allowed) in
         let takes : HasPin d.pins dir.In h.arc.from = has_too c d drive.pins dir.In h.arc.from (subst (λ (x : Cell). HasPin x.pins dir.In h.arc.from) cell h.is.takes) in
         let gives : HasPin d.pins dir.Out h.arc.to = has_too c d drive.pins dir.Out h.arc.to (subst (λ (x : Cell). HasPin x.pins dir.Out h.arc.to) cell h.is.gives) in
-        let a = whole.one h.arc.from h.arc.to (either d.function h.arc.from allowed) takes gives in
-        (timed_by s a.1, record {
-          owner = with_model was d.name;
-          listed = (place, stands_set n.instances place was (with_model was d.name) stood);
-          cell = d; found = listed; arc = a.1; has = (a.0, a.2);
-          is = step_at was.name d a.1 s
-              (subst (λ (m : Name). HasClass n (pin_of was.name m) s.from) (sym a.3) (subst (λ (o : Instance). HasClass n (pin_of o.name h.arc.from) s.from) owner h.is.from))
-              (subst (λ (m : Name). HasClass n (pin_of was.name m) s.to) (sym a.4) (subst (λ (o : Instance). HasClass n (pin_of o.name h.arc.to) s.to) owner h.is.to))
-              (subst (λ (m : Name). Allows d.function m) (sym a.3) allowed)
-              (subst (λ (m : Name). HasPin d.pins dir.In m) (sym a.3) takes)
-              (subst (λ (m : Name). HasPin d.pins dir.Out m) (sym a.4) gives);
-        }, refl, refl)
+        let a = whole.one h.arc.from h.arc.to (either d.function h.arc.from allowed) takes gives in (
+          timed_by s a.1,
+          record {
+            owner = with_model was d.name;
+            listed = (place, stands_set n.instances place was (with_model was d.name) stood);
+            cell = d;
+            found = listed;
+            arc = a.1;
+            has = (a.0, a.2);
+            is = step_at was.name d a.1 s
+                (subst (λ (m : Name). HasClass n (pin_of was.name m) s.from) (sym a.3) (subst (λ (o : Instance). HasClass n (pin_of o.name h.arc.from) s.from) owner h.is.from))
+                (subst (λ (m : Name). HasClass n (pin_of was.name m) s.to) (sym a.4) (subst (λ (o : Instance). HasClass n (pin_of o.name h.arc.to) s.to) owner h.is.to))
+                (subst (λ (m : Name). Allows d.function m) (sym a.3) allowed)
+                (subst (λ (m : Name). HasPin d.pins dir.In m) (sym a.3) takes)
+                (subst (λ (m : Name). HasPin d.pins dir.Out m) (sym a.4) gives);
+          },
+          refl,
+          refl,
+        )
 
 goes_either : (f : Function) (pin : Name) → GoesThrough f pin → BeginsThere f pin ⊎ GoesThrough f pin
 goes_either f pin h = inr h
