@@ -3,3 +3,4 @@ pub mod Listing
 pub mod Exchanging
 pub mod Keeping
 pub mod Staying
+pub mod Listed

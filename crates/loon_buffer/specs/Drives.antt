@@ -142,3 +142,18 @@ abbrev pub PathsStay : Type 0
 PathsStay = (l : Library) (n m : Netlist) (x : IsExchange l n m) (class time longest : ℕ) → IsEnd n l class
     → (p : TakesTo (IsStart n) (IsStep n l BeginsThere) (IsStep n l GoesThrough) class time) (steps : List Step) → StandFor n m l p.path steps
     → IsWorst m l longest → sum_by (λ s. s.delay) steps ≤ longest
+
+-- an exchange for a drive that a table lists
+pub record IsListedExchange (l : Library) (table : List (Vec ℕ)) (n m : Netlist) : Type 0 where
+  pub exchange : IsExchange l n m
+  pub from : ℕ
+  pub stood : Stands l.cells from exchange.was
+  pub to : ℕ
+  pub stands : Stands l.cells to exchange.now
+  pub listed : IsThere (drives_at table from) to
+
+-- where none of these makes the longest path shorter, none does
+abbrev pub TableIsEnough : Type 0
+TableIsEnough = (l : Library) (table : List (Vec ℕ)) (n : Netlist) → IsDriveTable l.cells table → CanBeTimed l n
+    → ((m : Netlist) (time other : ℕ) → IsListedExchange l table n m → IsWorst n l time → IsWorst m l other → time ≤ other)
+    → IsDriven n l
