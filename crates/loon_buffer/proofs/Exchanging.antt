@@ -1,6 +1,6 @@
 -- What an exchange of an instance's cell leaves as it was: steps to classes in which the instance has no pin.
-use Rattle.std.proofs.Common.{◌≡◌, ◌≢◌, ◌⊎◌, inl, inr, ℕ, zero, suc, ◌+◌, ◌-◌, ◌<◌, ◌≤◌, Bool, true, false, cond, List, [], ◌∷◌, ◌++◌, map, length, take, nat_eq, Option, Some, None, refl, sym, ap, ◌∙◌, subst, append_assoc, arith}
-use Rattle.std.specs.Prelude.{slice_set, slice_get}
+use Rattle.std.proofs.Common.{◌≡◌, ◌≢◌, ℕ, zero, suc, ◌+◌, ◌-◌, ◌<◌, ◌≤◌, Bool, true, false, cond, List, [], ◌∷◌, ◌++◌, map, length, take, nat_eq, Some, refl, sym, ap, ◌∙◌, subst, append_assoc, arith}
+use Rattle.std.specs.Prelude.{slice_set}
 use Rattle.std.specs.List.{flat_map, zip, sum_by}
 use Rattle.std.proofs.lemmas.List.{length-map, length-append}
 use Rattle.std.proofs.lemmas.List.Concat.{flat_map-append}
@@ -9,20 +9,19 @@ use Rattle.std.proofs.lemmas.Bool.{eqb-true, eq-eqb}
 use Rattle.vlsi_base.specs.declared.name.Name.{Name}
 use Rattle.vlsi_base.specs.declared.name.Port.{Port}
 use Rattle.vlsi_base.specs.declared.name.Terminal.{Terminal}
-use Rattle.cell_model.specs.declared.cell.Arc.{Arc}
 use Rattle.cell_model.specs.Cell.{Function, gate, flip_flop, other, opaque, Cell}
 use Rattle.cell_model.specs.Library.{Library, cell_of}
 use Rattle.net_core.specs.Places.{Stands, IsThere}
-use Rattle.net_core.specs.Netlist.{Instance, Netlist, port, pin_of, pins_of, terminals, HasClass, SetsModel}
+use Rattle.net_core.specs.Netlist.{Instance, Netlist, port, pin_of, pins_of, terminals, HasClass}
 use Rattle.net_core.proofs.Standing.{stands_right, stands_same}
 use Rattle.net_core.proofs.Frames.{mapped, flat_join}
 use Rattle.net_core.proofs.Changing.{terminals_set}
 use Rattle.net_theory.specs.Exchanges.{IsSameFunction}
 use Rattle.delay_sta.specs.Arcs.{arc_delay}
-use Rattle.delay_sta.specs.Loads.{share, load, capacitances}
-use Rattle.delay_sta.specs.Paths.{Step, Leads, starts, begins, goes_on, TakesTo, IsStepAt, IsStep, BeginsThere, GoesThrough, IsStart, IsEnd, at_port, at_data, IsWorst}
+use Rattle.delay_sta.specs.Loads.{share, load}
+use Rattle.delay_sta.specs.Paths.{Step, Leads, starts, begins, goes_on, TakesTo, IsStep, BeginsThere, GoesThrough, IsStart, IsEnd, at_port, at_data, IsWorst}
 use Rattle.delay_sta.proofs.Finding.{instance_capacitances}
-use Rattle.loon_buffer.specs.Drives.{IsExchange, IsAt, OthersDoNotHelp}
+use Rattle.loon_buffer.specs.Drives.{IsAt, OthersDoNotHelp}
 
 -- ---- sums of which a part doesn't count
 
@@ -75,7 +74,8 @@ parted (x ∷ is) zero i j s =
 parted (x ∷ is) (suc k) i j s =
     let r = parted is k i j s in
     record {
-      front = x ∷ r.front; back = r.back;
+      front = x ∷ r.front;
+      back = r.back;
       taken = ap (λ (ys : List Instance). x ∷ ys) r.taken;
       whole = ap (λ (ys : List Instance). x ∷ ys) r.whole;
       set = ap (λ (ys : List Instance). x ∷ ys) r.set;
@@ -157,13 +157,15 @@ module _ (n : Netlist) (l : Library) (place : ℕ) (was : Instance) (model : Lis
       let many : length (instance_capacitances l was) ≡ length was.pins = length-map was.pins _ in
       let p = some_at was.pins (k - (length n.ports + length (flat_map pins_of parts.front))) (omega (arith, a, b, f, many, low, high)) in
       let there = flat_join pins_of n.instances place (k - (length n.ports + length (flat_map pins_of parts.front))) was (pin_of was.name p.0) stood
-          (mapped (pin_of was.name) was.pins (k - (length n.ports + length (flat_map pins_of parts.front))) p.0 p.1) in
+      (mapped (pin_of was.name) was.pins (k - (length n.ports + length (flat_map pins_of parts.front))) p.0 p.1) in
       let at = stands_right (map (λ (q : Port). port q.name) n.ports) (flat_map pins_of n.instances)
-          (length (flat_map pins_of (take place n.instances)) + (k - (length n.ports + length (flat_map pins_of parts.front)))) (pin_of was.name p.0) there in
+      (length (flat_map pins_of (take place n.instances)) + (k - (length n.ports + length (flat_map pins_of parts.front)))) (pin_of was.name p.0) there in
       let index : length (map (λ (q : Port). port q.name) n.ports) + (length (flat_map pins_of (take place n.instances)) + (k - (length n.ports + length (flat_map pins_of parts.front)))) ≡ k =
-          omega (arith, a, b, d, f, g, low) in
+      omega (arith, a, b, d, f, g, low) in
       record {
-        owner = was; stands = stood; pin = p.0;
+        owner = was;
+        stands = stood;
+        pin = p.0;
         joined = (k, subst (λ m. Stands (terminals n) m (pin_of was.name p.0)) index at, subst (λ m. Stands n.classes k m) e s);
       }
 
@@ -180,9 +182,14 @@ module _ (n : Netlist) (l : Library) (place : ℕ) (was : Instance) (model : Lis
   step_kept Allows s never h = record {
     owner = h.owner;
     listed = (h.listed.0, stands_other n.instances place h.listed.0 h.owner (with_model was model) apart h.listed.1);
-    cell = h.cell; found = h.found; arc = h.arc; has = h.has;
+    cell = h.cell;
+    found = h.found;
+    arc = h.arc;
+    has = h.has;
     is = record {
-      allowed = h.is.allowed; takes = h.is.takes; gives = h.is.gives;
+      allowed = h.is.allowed;
+      takes = h.is.takes;
+      gives = h.is.gives;
       from = has_kept (pin_of h.owner.name h.arc.from) s.from h.is.from;
       to = has_kept (pin_of h.owner.name h.arc.to) s.to h.is.to;
       delay = h.is.delay ∙ ap (arc_delay h.arc) (load_kept s.to never);
@@ -191,7 +198,7 @@ module _ (n : Netlist) (l : Library) (place : ℕ) (was : Instance) (model : Lis
     apart : h.listed.0 ≢ place
     apart e = never (record { owner = h.owner; stands = subst (λ k. Stands n.instances k h.owner) e h.listed.1; pin = h.arc.to; joined = h.is.to })
 
-  start_kept : (class : ℕ) → IsStart n class → IsStart (changed n place was model) class
+  pub start_kept : (class : ℕ) → IsStart n class → IsStart (changed n place was model) class
   start_kept class h = record { input = h.input; listed = h.listed; takes = h.takes; signal = h.signal; joined = has_kept (port h.input.name) class h.joined }
 
   leads_kept : (class : ℕ) (path : List Step) → ((s : Step) → IsThere path s → IsAt n s.to place → ⊥) → Leads (IsStart n) (IsStep n l BeginsThere) (IsStep n l GoesThrough) class path
@@ -214,7 +221,7 @@ clocked (other m) g data_name clock_name same is = absurd cc
 clocked opaque g data_name clock_name same is = absurd cc
 
 module _ (l : Library) (n : Netlist) (place : ℕ) (was : Instance) (stood : Stands n.instances place was) (c d : Cell) (found : cell_of l was.model ≡ Some c) (listed : cell_of l d.name ≡ Some d) (same : IsSameFunction c.function d.function) where
-  end_kept : (class : ℕ) → IsEnd n l class → IsEnd (changed n place was d.name) l class
+  pub end_kept : (class : ℕ) → IsEnd n l class → IsEnd (changed n place was d.name) l class
   end_kept class (at_port output there gives joined) = at_port output there gives (has_kept n l place was d.name stood (port output.name) class joined)
   end_kept class (at_data i b data_name clock_name there of is joined) = by (nat_eq there.0 place) refl where
     by : (t : Bool) → nat_eq there.0 place ≡ t → IsEnd (changed n place was d.name) l class

@@ -1,7 +1,7 @@
 -- What an exchange of an instance's cell keeps, and what exchanges one after the other come to.
-use Rattle.std.proofs.Common.{◌≡◌, ◌≢◌, ◌⊎◌, inl, inr, ℕ, zero, suc, ◌<◌, Bool, true, false, List, [], ◌∷◌, ◌++◌, map, length, nat_eq, Option, Some, None, refl, sym, ap, ◌∙◌, subst, arith}
-use Rattle.std.specs.Prelude.{slice_set, slice_get}
-use Rattle.std.specs.List.{All, flat_map, zip}
+use Rattle.std.proofs.Common.{◌≡◌, ◌≢◌, ◌⊎◌, inl, inr, ℕ, zero, suc, ◌<◌, Bool, true, false, List, [], ◌∷◌, ◌++◌, map, length, nat_eq, Some, refl, sym, ap, ◌∙◌, subst}
+use Rattle.std.specs.Prelude.{slice_set}
+use Rattle.std.specs.List.{flat_map, zip}
 use Rattle.std.proofs.lemmas.List.{length-set}
 use Rattle.std.proofs.lemmas.List.Elements.{All-set}
 use Rattle.std.proofs.lemmas.Bool.{eqb-true, eq-eqb}
@@ -10,7 +10,6 @@ use Rattle.vlsi_base.specs.declared.name.Name.{Name}
 use Rattle.vlsi_base.specs.declared.name.Port.{Port}
 use Rattle.vlsi_base.specs.declared.name.Terminal.{Terminal}
 use Rattle.vlsi_base.specs.Names.{vdd, vss}
-use Rattle.bool_expr.specs.Expression.{val}
 use Rattle.cell_model.specs.Cell.{Function, gate, flip_flop, other, opaque, Cell}
 use Rattle.cell_model.specs.Library.{Library, cell_of, IsPlain, IsUsable}
 use Rattle.cell_pins.specs.Pins.{with_supply, all_ports}
@@ -20,14 +19,14 @@ use Rattle.net_core.specs.declared.pins.ModelPins.{ModelPins}
 use Rattle.net_core.specs.declared.tally.Role.{Role}
 use Rattle.net_core.specs.declared.tally.ClassFault.{ClassFault}
 use Rattle.net_core.specs.Places.{Stands, IsThere}
-use Rattle.net_core.specs.Netlist.{Instance, Netlist, pin_of, terminals, HasClass}
-use Rattle.net_core.specs.Checks.{pins_named, Fits, port_role, pin_role, pin_roles, roles, tally_of, all_clocks, has_fault, HasSoundClasses, DependsOn, IsRing, Passes}
+use Rattle.net_core.specs.Netlist.{Instance, Netlist, pin_of, HasClass}
+use Rattle.net_core.specs.Checks.{pins_named, Fits, port_role, pin_role, roles, tally_of, all_clocks, has_fault, DependsOn, Passes}
 use Rattle.net_core.proofs.Standing.{stands_same}
 use Rattle.net_theory.specs.Exchanges.{IsSameFunction, IsDrive}
 use Rattle.delay_sta.specs.Timed.{CanBeTimed}
 use Rattle.delay_sta.proofs.Tables.{Row, row_of, pins_same}
 use Rattle.loon_buffer.specs.Drives.{IsExchange, IsChosenFor, OnlyExchanges, NoExchangeYet, OneExchangeMore, ExchangesCanBeTimed}
-use Rattle.loon_buffer.proofs.Exchanging.{with_model, changed, kept, stands_other, stands_set}
+use Rattle.loon_buffer.proofs.Exchanging.{with_model, changed, kept, stands_set}
 
 -- ---- cells that can stand for others
 
@@ -78,7 +77,7 @@ flat_same h (x ∷ is) zero i j s e =
     ap (λ (ys : List Role). ys ++ flat_map h is) (e ∙ ap h (sym q))
 flat_same h (x ∷ is) (suc k) i j s e = ap (λ (ys : List Role). h x ++ ys) (flat_same h is k i j s e)
 
-apart_of : (k place : ℕ) → nat_eq k place ≡ false → k ≢ place
+pub apart_of : (k place : ℕ) → nat_eq k place ≡ false → k ≢ place
 apart_of k place e q = let no : true ≡ false = sym (eq-eqb k place q) ∙ e in absurd cc
 
 -- ---- one exchange more
@@ -115,7 +114,11 @@ module _ (l : Library) (old mid new : Netlist) (before : OnlyExchanges l old mid
       let same : x.was ≡ h.now = (let f : Some x.was ≡ Some h.now = sym found ∙ h.listed in cc) in
       record {
         same = ap (λ (o : Instance). with_model o x.now.name) h.same;
-        was = h.was; found = h.found; now = x.now; listed = x.listed; usable = x.usable;
+        was = h.was;
+        found = h.found;
+        now = x.now;
+        listed = x.listed;
+        usable = x.usable;
         drive = drive_through h.was h.now x.now h.drive (subst (λ (c : Cell). IsDrive c x.now) same x.drive);
       }
 
@@ -129,9 +132,9 @@ module _ (l : Library) (old mid new : Netlist) (before : OnlyExchanges l old mid
     by true e =
         let q : k ≡ x.place = eqb-true k x.place e in
         let last : with_model x.sets.was x.now.name ≡ j =
-            stands_same (slice_set mid.instances x.place (with_model x.sets.was x.now.name)) x.place (with_model x.sets.was x.now.name) j
-            (stands_set mid.instances x.place x.sets.was (with_model x.sets.was x.now.name) x.sets.stood)
-            (subst (λ m. Stands (slice_set mid.instances x.place (with_model x.sets.was x.now.name)) m j) q u) in
+        stands_same (slice_set mid.instances x.place (with_model x.sets.was x.now.name)) x.place (with_model x.sets.was x.now.name) j
+        (stands_set mid.instances x.place x.sets.was (with_model x.sets.was x.now.name) x.sets.stood)
+        (subst (λ m. Stands (slice_set mid.instances x.place (with_model x.sets.was x.now.name)) m j) q u) in
         subst (λ (o : Instance). IsChosenFor l i o) last
         (chosen_here i (before.each k i x.sets.was s (subst (λ m. Stands mid.instances m x.sets.was) (sym q) x.sets.stood)))
 
@@ -229,7 +232,8 @@ module _ (l : Library) (n : Netlist) (place : ℕ) (was : Instance) (stood : Sta
     by : (o ≡ other_one) ⊎ IsThere n.instances o → Origin o
     by (inr u) = record { before = o; there = u; name = refl; pins = refl }
     by (inl e) = record {
-      before = was; there = (place, stood);
+      before = was;
+      there = (place, stood);
       name = ap (λ (i : Instance). i.name) e;
       pins = ap (λ (i : Instance). pins_named timed.table i.model) e ∙ pins_equal;
     }

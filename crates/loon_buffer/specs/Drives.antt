@@ -1,15 +1,18 @@
 -- Cells that can stand for others, and netlists in which no exchange of one helps.
-use Rattle.std.specs.Prelude.{◌≡◌, ◌≢◌, ◌↔◌, ℕ, ◌<◌, ◌≤◌, Bool, List, [], map, length, Some, slice_index_or}
+use Rattle.std.specs.Prelude.{◌≡◌, ◌≢◌, ◌⊎◌, ◌↔◌, ℕ, ◌<◌, ◌≤◌, Bool, List, [], ◌∷◌, map, length, Some, slice_index_or}
+use Rattle.std.specs.List.{sum_by}
 use Rattle.std.specs.Global.{Vec}
 use Rattle.vlsi_base.specs.declared.name.Name.{Name}
+use Rattle.vlsi_base.specs.declared.name.Dir.TheVariants as dir
 use Rattle.bool_expr.specs.Expression.{Expression, bit, val, IsOver}
+use Rattle.cell_model.specs.declared.cell.Arc.{Arc}
 use Rattle.cell_model.specs.Cell.{Cell, Function, gate}
 use Rattle.cell_model.specs.Library.{Library, cell_of, IsUsable}
 use Rattle.net_core.specs.Places.{Stands, IsThere}
 use Rattle.net_core.specs.Netlist.{Instance, Netlist, pin_of, HasClass, SetsModel}
 use Rattle.net_theory.specs.Exchanges.{IsDrive}
 use Rattle.delay_sta.specs.Timed.{CanBeTimed}
-use Rattle.delay_sta.specs.Paths.{Step, TakesTo, BeginsThere, GoesThrough, IsStep, IsStart, IsEnd, IsWorst}
+use Rattle.delay_sta.specs.Paths.{Step, TakesTo, HasPin, BeginsThere, GoesThrough, IsStep, IsStart, IsEnd, IsWorst}
 
 -- two vectors have the same bits from this place up to the sixth
 abbrev pub Agrees : List Bool → List Bool → ℕ → Type 0
@@ -111,3 +114,46 @@ OneExchangeMore = (l : Library) (old mid new : Netlist) → OnlyExchanges l old 
 -- after an exchange a netlist can be timed, as before
 abbrev pub ExchangesCanBeTimed : Type 0
 ExchangesCanBeTimed = (l : Library) (n m : Netlist) → CanBeTimed l n → IsExchange l n m → CanBeTimed l m
+
+-- a cell has one arc from each input pin at which paths begin or from which they go on to each output pin
+pub record HasItsArcs (c : Cell) : Type 0 where
+  pub one : (from to : Name) → BeginsThere c.function from ⊎ GoesThrough c.function from → HasPin c.pins dir.In from → HasPin c.pins dir.Out to
+      → (k : ℕ) × (a : Arc) × Stands c.arcs k a × (a.from ≡ from) × (a.to ≡ to)
+  pub once : (j k : ℕ) (a b : Arc) → Stands c.arcs j a → Stands c.arcs k b → a.from ≡ b.from → a.to ≡ b.to → j ≡ k
+
+-- so have all usable cells of a library
+abbrev pub HaveTheirArcs : Library → Type 0
+HaveTheirArcs l = (model : List ℕ) (c : Cell) → cell_of l model ≡ Some c → IsUsable c → HasItsArcs c
+
+-- after an exchange a step stands in the place of each, between the same classes
+abbrev pub StepsStay : Type 0
+StepsStay = (l : Library) (n m : Netlist) → IsExchange l n m → HaveTheirArcs l → (s : Step)
+    → (IsStep n l BeginsThere s → (t : Step) × IsStep m l BeginsThere t × (t.from ≡ s.from) × (t.to ≡ s.to))
+    × (IsStep n l GoesThrough s → (t : Step) × IsStep m l GoesThrough t × (t.from ≡ s.from) × (t.to ≡ s.to))
+
+-- steps of a netlist that stand, one by one, in the place of those of a path in another
+pub data StandFor (n m : Netlist) (l : Library) : List Step → List Step → Type 0 where
+  no_steps : StandFor n m l [] []
+  one_step : {s t : Step} {path steps : List Step} → t.from ≡ s.from → t.to ≡ s.to → (IsStep n l BeginsThere s → IsStep m l BeginsThere t) → (IsStep n l GoesThrough s → IsStep m l GoesThrough t)
+      → StandFor n m l path steps → StandFor n m l (s ∷ path) (t ∷ steps)
+
+-- after an exchange the longest path takes at least as long as steps that stand in the place of those of a path to an end
+abbrev pub PathsStay : Type 0
+PathsStay = (l : Library) (n m : Netlist) (x : IsExchange l n m) (class time longest : ℕ) → IsEnd n l class
+    → (p : TakesTo (IsStart n) (IsStep n l BeginsThere) (IsStep n l GoesThrough) class time) (steps : List Step) → StandFor n m l p.path steps
+    → IsWorst m l longest → sum_by (λ s. s.delay) steps ≤ longest
+
+-- an exchange for a drive that a table lists
+pub record IsListedExchange (l : Library) (table : List (Vec ℕ)) (n m : Netlist) : Type 0 where
+  pub exchange : IsExchange l n m
+  pub from : ℕ
+  pub stood : Stands l.cells from exchange.was
+  pub to : ℕ
+  pub stands : Stands l.cells to exchange.now
+  pub listed : IsThere (drives_at table from) to
+
+-- where none of these makes the longest path shorter, none does
+abbrev pub TableIsEnough : Type 0
+TableIsEnough = (l : Library) (table : List (Vec ℕ)) (n : Netlist) → IsDriveTable l.cells table → CanBeTimed l n
+    → ((m : Netlist) (time other : ℕ) → IsListedExchange l table n m → IsWorst n l time → IsWorst m l other → time ≤ other)
+    → IsDriven n l

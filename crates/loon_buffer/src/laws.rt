@@ -1,5 +1,5 @@
 // Which exchanges of cells can make the longest path shorter.
-ghost use Rattle.loon_buffer.specs.Drives.{OthersDoNotHelp, NoExchangeYet, OneExchangeMore, ExchangesCanBeTimed};
+ghost use Rattle.loon_buffer.specs.Drives.{OthersDoNotHelp, TableIsEnough, StepsStay, PathsStay, NoExchangeYet, OneExchangeMore, ExchangesCanBeTimed};
 
 /// An exchange of an instance's cell makes the longest path no shorter where the instance has no pin in a class to which a step of that
 /// path leads.
@@ -7,9 +7,16 @@ pub fn others_law()
     ensures { OthersDoNotHelp }
 {}
 
-/// What exchanges one after the other come to, and that the netlist can still be timed.
+/// What exchanges one after the other come to, that the netlist can still be timed, and that the exchanges that a table lists are enough.
 pub fn exchanges_law()
     ensures none { NoExchangeYet }
     ensures one_more { OneExchangeMore }
     ensures timed { ExchangesCanBeTimed }
+    ensures table { TableIsEnough }
+{}
+
+/// What becomes of paths by an exchange: a step stands in the place of each, and the longest path takes at least as long as these.
+pub fn paths_law()
+    ensures steps { StepsStay }
+    ensures paths { PathsStay }
 {}

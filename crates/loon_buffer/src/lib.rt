@@ -8,5 +8,5 @@ mod laws;
 mod table;
 
 pub use choose::choose_drives;
-pub use laws::{exchanges_law, others_law};
+pub use laws::{exchanges_law, others_law, paths_law};
 pub use table::DriveTable;
