@@ -1,0 +1,4 @@
+pub mod Sinks
+pub mod Wired
+pub mod Repeaters
+pub mod Limited
