@@ -1,0 +1,4 @@
+pub mod Marking
+pub mod Loading
+pub mod Cells
+pub mod Putting

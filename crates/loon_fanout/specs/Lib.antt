@@ -2,3 +2,4 @@ pub mod Sinks
 pub mod Wired
 pub mod Repeaters
 pub mod Limited
+pub mod Stages

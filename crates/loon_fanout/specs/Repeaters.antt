@@ -1,5 +1,5 @@
 -- What a group of sinks is put behind.
-use Rattle.std.specs.Prelude.{◌≡◌, ℕ, ◌<◌, Bool, List, [], ◌∷◌, length, Some, slice_get}
+use Rattle.std.specs.Prelude.{◌≡◌, ◌⊎◌, ℕ, ◌<◌, Bool, List, [], ◌∷◌, length, Some, slice_get}
 use Rattle.bool_expr.specs.Expression.{Expression, val}
 use Rattle.vlsi_base.specs.Member.{In}
 use Rattle.cell_model.specs.declared.kind.Kind.TheVariants as kind
@@ -16,14 +16,12 @@ GivesItsInput (other machine) inputs = ⊥
 GivesItsInput opaque inputs = ⊥
 
 -- a usable cell whose function is its input
-pub record IsBufferCell (c : Cell) : Type 0 where
-  pub usable : IsUsable c
-  pub same : GivesItsInput c.function (length (cell_inputs c))
+abbrev pub IsBufferCell : Cell → Type 0
+IsBufferCell c = IsUsable c × GivesItsInput c.function (length (cell_inputs c))
 
 -- a usable cell that inverts its input
-pub record IsInverterCell (c : Cell) : Type 0 where
-  pub usable : IsUsable c
-  pub kind : HasKind c kind.Inv
+abbrev pub IsInverterCell : Cell → Type 0
+IsInverterCell c = IsUsable c × HasKind c kind.Inv
 
 -- the first of a list that has P
 pub record IsFirst {A : Type 0} (P : A → Type 0) (xs : List A) (x : A) : Type 0 where
@@ -43,10 +41,6 @@ pub data IsRepeater (cells : List Cell) : Repeater → Type 0 where
   inverters : {c : Cell} → ((b : Cell) → In b cells → IsBufferCell b → ⊥) → IsFirst IsInverterCell cells c
       → IsRepeater cells (record { cell = c; gates = 2 })
 
--- a cell of the list can be a part of a repeater
-abbrev pub CanRepeat : List Cell → Cell → Type 0
-CanRepeat cells c = In c cells × (IsBufferCell c ⊎ IsInverterCell c)
-
 -- there is neither a buffer nor an inverter
 abbrev pub NoneRepeats : List Cell → Type 0
-NoneRepeats cells = (c : Cell) → CanRepeat cells c → ⊥
+NoneRepeats cells = (c : Cell) → In c cells → IsBufferCell c ⊎ IsInverterCell c → ⊥

@@ -37,10 +37,10 @@ fn widened(alloc: Global, classes: &[u32]) -> Result<Vec<usize>, AllocError> {
 fn wiring_of(alloc: Global, netlist: &Netlist) -> Result<Wiring, AllocError> {
     Ok(Wiring {
         classes: widened(alloc, netlist.classes())?,
-        count: netlist.count() as usize,
+        first: netlist.count(),
         high: class_of_port(alloc, netlist, b"vdd")?,
         low: class_of_port(alloc, netlist, b"vss")?,
-        gates: 0,
+        reads: Vec::new(alloc),
     })
 }
 
@@ -67,7 +67,7 @@ fn buffered(
     alloc: Global,
     netlist: &Netlist,
     repeater: Option<&Repeater>,
-    loads: Vec<Vec<usize>>,
+    loads: &[Vec<usize>],
     limit: usize,
 ) -> Result<Netlist, AllocError> {
     let mut wiring = wiring_of(alloc, netlist)?;
@@ -75,13 +75,13 @@ fn buffered(
         wiring.limit_all(alloc, repeater, loads, limit)?;
     }
     let taken = names_of(alloc, netlist.nodes())?;
-    let names = free_texts(alloc, b"b", &taken, wiring.gates)?;
+    let names = free_texts(alloc, b"b", &taken, wiring.reads.len())?;
     let plan = Plan {
         netlist,
         repeater,
         names: &names,
         classes: &wiring.classes,
-        count: wiring.count,
+        count: wiring.count(),
     };
     build(alloc, &plan)
 }
@@ -107,10 +107,10 @@ pub fn limit_fanout(
     let loads = loads(alloc, netlist, library)?;
     let limit = fanout as usize;
     if !is_crowded(&loads, limit) {
-        return Ok(buffered(alloc, netlist, None, loads, limit)?);
+        return Ok(buffered(alloc, netlist, None, &loads, limit)?);
     }
-    match make_repeater(alloc, library)? {
-        Some(found) => Ok(buffered(alloc, netlist, Some(&found), loads, limit)?),
+    match make_repeater(alloc, library.cells())? {
+        Some(found) => Ok(buffered(alloc, netlist, Some(&found), &loads, limit)?),
         None => Err(BufferError::NoBuffer),
     }
 }

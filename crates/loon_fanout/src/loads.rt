@@ -1,13 +1,27 @@
 // The sinks of each class of a netlist.
+ghost use Rattle.std.specs.Prelude.{◌≡◌, ◌<◌, ◌++◌, [], false, map, length, IfOk, OnOk};
+ghost use Rattle.std.specs.List.{All, flat_map, list_any};
+ghost use Rattle.std.specs.Option.{option_copied};
+ghost use Rattle.machine_meaning.specs.Machine.{is_clock};
+ghost use Rattle.machine_meaning.specs.Named.{is_same_name};
+ghost use Rattle.cell_model.specs.Cell.{cell_inputs};
+ghost use Rattle.cell_model.specs.View.{function_view};
+ghost use Rattle.cell_model.specs.Library.{cell_named};
+ghost use Rattle.net_core.specs.Frame.{instance_of};
+ghost use Rattle.loon_fanout.specs.Sinks.{is_clock_of, is_sink_pin, is_sink_of};
+ghost use Rattle.loon_fanout.specs.Stages.{is_input_among, pin_marks, all_marks, AddsLoad, AreLoads};
 
 use cell_checks::Library;
-use cell_model::{Cell, Function};
+use cell_model::{Cell, Function, Pin};
+use machine_core::Machine;
 use net_core::{Netlist, Node};
 use std::alloc::{AllocError, Global};
-use vlsi_base::{Dir, Name, Text};
+use vlsi_base::{Dir, Name, Port, Text};
 
 /// The first cell of this name.
-fn cell_named<'l>(cells: &'l [Cell], model: &Text) -> Option<&'l Cell> {
+fn cell_named<'l>(cells: &'l [Cell], model: &Text) -> Option<&'l Cell>
+    ensures { option_copied result ≡ cell_named cells.now model.now }
+{
     for cell in cells {
         if cell.name.is_same(model) {
             return Some(cell);
@@ -16,40 +30,64 @@ fn cell_named<'l>(cells: &'l [Cell], model: &Text) -> Option<&'l Cell> {
     None
 }
 
-fn is_clock_of(function: &Function, name: &Name) -> bool {
+#[tactic(auto, using(cell_pins::proofs::Starts::same_test))]
+fn is_same(a: &Name, b: &Name) -> bool
+    ensures { result ≡ is_same_name a.now b.now }
+{
+    a.is_same(b)
+}
+
+fn is_clock(machine: &Machine, name: &Name) -> bool
+    ensures { result ≡ is_clock machine.now.clock name.now }
+{
+    match machine.clock() {
+        Some(clock) => is_same(clock, name),
+        None => false,
+    }
+}
+
+fn is_clock_of(function: &Function, name: &Name) -> bool
+    ensures { result ≡ is_clock_of (function_view function.now) name.now }
+{
     match function {
         Function::Gate(_) => false,
-        Function::FlipFlop { clock, .. } => clock.is_same(name),
-        Function::Other(machine) => match machine.clock() {
-            Some(clock) => clock.is_same(name),
-            None => false,
-        },
+        Function::FlipFlop { clock, .. } => is_same(clock, name),
+        Function::Other(machine) => is_clock(machine, name),
         Function::Opaque => false,
     }
 }
 
-fn is_input_of(cell: &Cell, name: &Name) -> bool {
-    for pin in cell.pins.as_slice() {
-        if pin.port.dir == Dir::In && pin.port.name.is_same(name) {
+fn is_input_of(pins: &[Pin], name: &Name) -> bool
+    ensures { result ≡ is_input_among pins.now name.now }
+{
+    for pin in pins {
+        if pin.port.dir == Dir::In && is_same(&pin.port.name, name) {
             return true;
         }
     }
     false
 }
 
-fn is_sink_of(cell: Option<&Cell>, name: &Name) -> bool {
+#[tactic(auto, using(crate::proofs::Marking::input_of))]
+fn is_sink_pin(cell: &Cell, name: &Name) -> bool
+    ensures { result ≡ is_sink_pin cell.now name.now }
+{
+    is_input_of(cell.pins.as_slice(), name) && !is_clock_of(cell.function.as_enum(), name)
+}
+
+fn is_sink_of(cell: Option<&Cell>, name: &Name) -> bool
+    ensures { result ≡ is_sink_of (option_copied cell.entry) name.now }
+{
     match cell {
-        Some(cell) => is_input_of(cell, name) && !is_clock_of(cell.function.as_enum(), name),
+        Some(cell) => is_sink_pin(cell, name),
         None => false,
     }
 }
 
 /// Puts a mark for each pin behind the others: whether it is a sink.
-fn push_marks(
-    marks: &mut Vec<bool>,
-    cell: Option<&Cell>,
-    pins: &[Name],
-) -> Result<(), AllocError> {
+fn push_marks(marks: &mut Vec<bool>, cell: Option<&Cell>, pins: &[Name]) -> Result<(), AllocError>
+    ensures { OnOk result (marks.new.items ≡ marks.old.items ++ map (is_sink_of (option_copied cell.entry)) pins.now) }
+{
     for pin in pins {
         marks.push(is_sink_of(cell, pin))?;
     }
@@ -59,14 +97,27 @@ fn push_marks(
 fn push_nodes(
     marks: &mut Vec<bool>,
     models: &[Text],
-    cells: &[Cell],
+    library: &Library,
     nodes: &[Node],
-) -> Result<(), AllocError> {
+) -> Result<(), AllocError>
+    requires { All (λ i. i.model < length models.now) nodes.now }
+    ensures { OnOk result (marks.new.items ≡ marks.old.items ++ flat_map (pin_marks library.now) (map (instance_of models.now) nodes.now)) }
+{
     for node in nodes {
-        let cell = cell_named(cells, &models[node.model]);
+        let cell = cell_named(library.cells(), &models[node.model]);
         push_marks(marks, cell, node.pins.as_slice())?;
     }
     Ok(())
+}
+
+fn unmarked(alloc: Global, ports: &[Port]) -> Result<Vec<bool>, AllocError>
+    ensures { IfOk result (λ marks. marks.items ≡ map (λ p. false) ports.now) }
+{
+    let mut marks = Vec::new(alloc);
+    for _ in ports {
+        marks.push(false)?;
+    }
+    Ok(marks)
 }
 
 /// A mark for each terminal in order: whether it is a sink.
@@ -74,10 +125,57 @@ fn sink_marks(
     alloc: Global,
     netlist: &Netlist,
     library: &Library,
-) -> Result<Vec<bool>, AllocError> {
-    let mut marks = vec![in alloc; false; netlist.ports().len()]?;
-    push_nodes(&mut marks, netlist.models(), library.cells(), netlist.nodes())?;
+) -> Result<Vec<bool>, AllocError>
+    ensures { IfOk result (λ marks. marks.items ≡ all_marks library.now netlist.now) }
+{
+    let mut marks = unmarked(alloc, netlist.ports())?;
+    push_nodes(&mut marks, netlist.models(), library, netlist.nodes())?;
     Ok(marks)
+}
+
+fn no_loads(alloc: Global, count: u32) -> Result<Vec<Vec<usize>>, AllocError>
+    ensures { IfOk result (λ loads. AreLoads [] [] count loads.items) }
+{
+    let mut loads = Vec::new(alloc);
+    for _ in 0..count {
+        loads.push(Vec::new(alloc))?;
+    }
+    Ok(loads)
+}
+
+/// Puts a place behind those of a class, if it is marked.
+fn add_load(
+    loads: &mut [Vec<usize>],
+    mark: bool,
+    class: usize,
+    place: usize,
+) -> Result<(), AllocError>
+    requires { class < length loads.old }
+    ensures { OnOk result (AddsLoad loads.old loads.new mark class place) }
+{
+    if !mark {
+        return Ok(());
+    }
+    loads[class].push(place)?;
+    Ok(())
+}
+
+/// The places of each class that are marked.
+fn marked_loads(
+    alloc: Global,
+    count: u32,
+    marks: &[bool],
+    classes: &[u32],
+) -> Result<Vec<Vec<usize>>, AllocError>
+    requires each { length marks.now ≡ length classes.now }
+    requires inside { All (λ class. class < count) classes.now }
+    ensures { IfOk result (λ loads. AreLoads marks.now classes.now count loads.items) }
+{
+    let mut loads = no_loads(alloc, count)?;
+    for place in 0..classes.len() {
+        add_load(&mut loads, marks[place], classes[place] as usize, place)?;
+    }
+    Ok(loads)
 }
 
 /// The places of the sinks of each class, in order. Takes memory for them.
@@ -85,17 +183,9 @@ pub(crate) fn loads(
     alloc: Global,
     netlist: &Netlist,
     library: &Library,
-) -> Result<Vec<Vec<usize>>, AllocError> {
+) -> Result<Vec<Vec<usize>>, AllocError>
+    ensures { IfOk result (λ loads. AreLoads (all_marks library.now netlist.now) netlist.now.classes netlist.now.count loads.items) }
+{
     let marks = sink_marks(alloc, netlist, library)?;
-    let mut loads = Vec::new(alloc);
-    for _ in 0..netlist.count() {
-        loads.push(Vec::new(alloc))?;
-    }
-    let classes = netlist.classes();
-    for place in 0..classes.len() {
-        if marks[place] {
-            loads[classes[place] as usize].push(place)?;
-        }
-    }
-    Ok(loads)
+    marked_loads(alloc, netlist.count(), &marks, netlist.classes())
 }

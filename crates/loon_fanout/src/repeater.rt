@@ -1,14 +1,26 @@
 // What groups of sinks are put behind.
+ghost use Rattle.std.specs.Prelude.{◌≡◌, ◌↔◌, ◌∷◌, [], Bool, map, filter, length, IsTrue, IfOk, IfSome, IfNone, All, if◌then◌else◌};
+ghost use Rattle.vlsi_base.specs.Member.{In};
+ghost use Rattle.bool_expr.specs.Expression.{val, IsOver};
+ghost use Rattle.bool_expr.specs.View.{view};
+ghost use Rattle.machine_meaning.specs.Machine.{is_input, names_of};
+ghost use Rattle.machine_meaning.specs.Named.{is_same_name};
+ghost use Rattle.vlsi_base.specs.Names.{scalar};
+ghost use Rattle.cell_model.specs.Usable.{IsFormed};
+ghost use Rattle.cell_model.specs.Connectors.{PinsAreConnectors};
+ghost use Rattle.cell_model.specs.declared.cell.Cell.{Cell};
+ghost use Rattle.loon_fanout.specs.Repeaters.{IsBufferCell, IsInverterCell, IsFirst, NoneRepeats};
+ghost use Rattle.loon_fanout.specs.Stages.{tie_of, IsPart, IsRepeaterOf};
 
+use bool_expr::{Expr, value_at};
 use cell_checks::Library;
 use cell_model::{Cell, Function, Kind, Pin, kind_of, usable};
-use bool_expr::{Expr, value_at};
 use cell_pins::{all_ports, is_scalar};
 use std::alloc::{AllocError, Global};
 use vlsi_base::{Dir, Name, Names, Port, Text};
 
 /// What a pin of a gate of one input is tied to.
-#[derive(Clone, Copy, PartialEq)]
+#[derive(Clone, Copy)]
 pub(crate) enum Tie {
     High,
     Low,
@@ -18,42 +30,62 @@ pub(crate) enum Tie {
     Driven,
 }
 
-/// A cell of one input: its name, its pins with vdd and vss in the order of names, what each is tied to, the place of its input
-/// among them, and how many gates of it stand in a row.
+/// A cell of one input: its name, its pins with vdd and vss in the order of names, what each is tied to, and whether two gates of
+/// it stand in a row.
 #[derive(Drop)]
 pub(crate) struct Repeater {
     pub(crate) model: Text,
     pub(crate) pins: Names,
     pub(crate) ties: Vec<Tie>,
-    pub(crate) input: usize,
-    pub(crate) gates: usize,
+    pub(crate) twice: bool,
 }
 
-fn gives_its_input(e: &Expr) -> bool {
+/// Whether a gate of one input gives it.
+fn gives_its_input(e: &Expr) -> bool
+    requires { IsOver (view e.now) 1 }
+    ensures { IsTrue result ↔ ((a : Bool) → val (view e.now) (a ∷ []) ≡ a) }
+{
     !value_at(e, &[false]) && value_at(e, &[true])
 }
 
-fn input_count(pins: &[Pin]) -> usize {
+fn count_inputs(pins: &[Pin]) -> usize
+    ensures { result ≡ length (filter (λ p. is_input p.port.dir) pins.now) }
+{
     pins.iter().filter(|pin| pin.port.dir == Dir::In).count()
 }
 
-fn is_buffer(cell: &Cell) -> bool {
-    if !usable(cell) || input_count(cell.pins.as_slice()) != 1 {
+fn is_buffer(cell: &Cell) -> bool
+    requires formed { IsFormed cell.now }
+    requires connectors { PinsAreConnectors cell.now }
+    ensures { IsTrue result ↔ IsBufferCell cell.now }
+{
+    if !usable(cell) {
         return false;
     }
+    let inputs = count_inputs(cell.pins.as_slice());
     match cell.function.as_enum() {
-        Function::Gate(e) => gives_its_input(e),
+        Function::Gate(e) => inputs == 1 && gives_its_input(e),
         Function::FlipFlop { .. } => false,
         Function::Other(_) => false,
         Function::Opaque => false,
     }
 }
 
-fn is_inverter(cell: &Cell) -> bool {
+#[tactic(auto, using(cell_model::proofs::KindLemmas::kind_told, cell_model::proofs::KindLemmas::kind_said))]
+fn is_inverter(cell: &Cell) -> bool
+    requires formed { IsFormed cell.now }
+    requires connectors { PinsAreConnectors cell.now }
+    ensures { IsTrue result ↔ IsInverterCell cell.now }
+{
     usable(cell) && kind_of(cell) == Some(Kind::Inv)
 }
 
-fn first_buffer(cells: &[Cell]) -> Option<&Cell> {
+fn first_buffer(cells: &[Cell]) -> Option<&Cell>
+    requires formed { All IsFormed cells.now }
+    requires connectors { All PinsAreConnectors cells.now }
+    ensures found { IfSome result (λ c. IsFirst IsBufferCell cells.now c.now) }
+    ensures none { IfNone result ((c : Cell) → In c cells.now → IsBufferCell c → ⊥) }
+{
     for cell in cells {
         if is_buffer(cell) {
             return Some(cell);
@@ -62,7 +94,12 @@ fn first_buffer(cells: &[Cell]) -> Option<&Cell> {
     None
 }
 
-fn first_inverter(cells: &[Cell]) -> Option<&Cell> {
+fn first_inverter(cells: &[Cell]) -> Option<&Cell>
+    requires formed { All IsFormed cells.now }
+    requires connectors { All PinsAreConnectors cells.now }
+    ensures found { IfSome result (λ c. IsFirst IsInverterCell cells.now c.now) }
+    ensures none { IfNone result ((c : Cell) → In c cells.now → IsInverterCell c → ⊥) }
+{
     for cell in cells {
         if is_inverter(cell) {
             return Some(cell);
@@ -71,11 +108,20 @@ fn first_inverter(cells: &[Cell]) -> Option<&Cell> {
     None
 }
 
-fn tie_of(port: &Port) -> Tie {
-    if is_scalar(&port.name, b"vdd") {
+#[tactic(auto, using(cell_pins::proofs::Starts::same_test))]
+fn is_named(name: &Name, text: &[u8]) -> bool
+    ensures { result ≡ is_same_name name.now (scalar text.now) }
+{
+    is_scalar(name, text)
+}
+
+fn tie_of(port: &Port) -> Tie
+    ensures { result ≡ tie_of port.now }
+{
+    if is_named(&port.name, b"vdd") {
         return Tie::High;
     }
-    if is_scalar(&port.name, b"vss") {
+    if is_named(&port.name, b"vss") {
         return Tie::Low;
     }
     match port.dir {
@@ -84,7 +130,9 @@ fn tie_of(port: &Port) -> Tie {
     }
 }
 
-fn ties_of(alloc: Global, ports: &[Port]) -> Result<Vec<Tie>, AllocError> {
+fn ties_of(alloc: Global, ports: &[Port]) -> Result<Vec<Tie>, AllocError>
+    ensures { IfOk result (λ ties. ties.items ≡ map tie_of ports.now) }
+{
     let mut ties = Vec::new(alloc);
     for port in ports {
         ties.push(tie_of(port))?;
@@ -92,7 +140,9 @@ fn ties_of(alloc: Global, ports: &[Port]) -> Result<Vec<Tie>, AllocError> {
     Ok(ties)
 }
 
-fn port_names(alloc: Global, ports: &[Port]) -> Result<Vec<Name>, AllocError> {
+fn port_names(alloc: Global, ports: &[Port]) -> Result<Vec<Name>, AllocError>
+    ensures { IfOk result (λ names. names.items ≡ names_of ports.now) }
+{
     let mut names = Vec::new(alloc);
     for port in ports {
         names.push(port.name.copy(alloc)?)?;
@@ -100,36 +150,31 @@ fn port_names(alloc: Global, ports: &[Port]) -> Result<Vec<Name>, AllocError> {
     Ok(names)
 }
 
-/// The place of the first pin that reads.
-fn input_place(ties: &[Tie]) -> usize {
-    for (place, tie) in ties.iter().enumerate() {
-        if *tie == Tie::Read {
-            return place;
-        }
-    }
-    0
-}
-
-fn repeater_of(alloc: Global, cell: &Cell, gates: usize) -> Result<Repeater, AllocError> {
+fn repeater_of(alloc: Global, cell: &Cell, twice: bool) -> Result<Repeater, AllocError>
+    ensures { IfOk result (λ r. IsPart cell.now (if twice then 2 else 1) r) }
+{
     let ports = all_ports(alloc, cell)?;
-    let ties = ties_of(alloc, &ports)?;
     Ok(Repeater {
         model: cell.name.copy(alloc)?,
         pins: Names::new(port_names(alloc, &ports)?),
-        input: input_place(&ties),
-        ties,
-        gates,
+        ties: ties_of(alloc, &ports)?,
+        twice,
     })
 }
 
 /// One gate of the first buffer, or two of the first inverter where there is no buffer; none where there is neither. Takes memory
 /// for the names of pins.
-pub(crate) fn make_repeater(alloc: Global, library: &Library) -> Result<Option<Repeater>, AllocError> {
-    if let Some(cell) = first_buffer(library.cells()) {
-        return Ok(Some(repeater_of(alloc, cell, 1)?));
+pub(crate) fn make_repeater(alloc: Global, cells: &[Cell]) -> Result<Option<Repeater>, AllocError>
+    requires formed { All IsFormed cells.now }
+    requires connectors { All PinsAreConnectors cells.now }
+    ensures found { IfOk result (λ r. IfSome r (λ b. IsRepeaterOf cells.now b)) }
+    ensures none { IfOk result (λ r. IfNone r (NoneRepeats cells.now)) }
+{
+    if let Some(cell) = first_buffer(cells) {
+        return Ok(Some(repeater_of(alloc, cell, false)?));
     }
-    if let Some(cell) = first_inverter(library.cells()) {
-        return Ok(Some(repeater_of(alloc, cell, 2)?));
+    if let Some(cell) = first_inverter(cells) {
+        return Ok(Some(repeater_of(alloc, cell, true)?));
     }
     Ok(None)
 }
