@@ -6,10 +6,9 @@ use Rattle.bool_expr.specs.Expression.{Expression, val}
 use Rattle.cell_model.specs.declared.cell.Pin.{Pin}
 use Rattle.cell_model.specs.Function.{Function, gate, flip_flop, other, opaque}
 use Rattle.cell_model.specs.Cell.{Cell, cell_inputs}
-use Rattle.cell_model.specs.Library.{IsUsable}
 use Rattle.cell_model.proofs.Members.{place-In}
 use Rattle.cell_model.proofs.KindLemmas.{inputs_among, inputs_counted}
-use Rattle.loon_fanout.specs.Repeaters.{GivesItsInput, IsBufferCell, IsFirst}
+use Rattle.loon_fanout.specs.Repeaters.{GivesItsInput, IsFirst}
 
 -- the first that a loop met
 pub first_met : {A : Type 0} (P : A → Type 0) (xs : List A) (k : ℕ) (x : A) → k < length xs → x ≡ get_or xs k x → P x
@@ -36,15 +35,10 @@ none_met P xs k over before x h has =
     let r = place-In x xs h in
     before r.0 x (let low = r.1 in omega (arith, low, over)) (subst P (sym (r.2 x)) has)
 
--- a gate of one input that gives it
-pub buffer_gate : (c : Cell) (e : Expression) (n : ℕ) → n ≡ inputs_among c.pins → c.function ≡ gate e → IsUsable c → n ≡ 1
-    → (r : Bool) → (IsTrue r ↔ ((a : Bool) → val e (a ∷ []) ≡ a)) → IsTrue r ↔ IsBufferCell c
-buffer_gate c e n counted is usable one r same = (
-  λ h. (usable, subst (λ (f : Function). GivesItsInput f (length (cell_inputs c))) (sym is) (inputs_counted c n counted ∙ one, same.0 h)),
-  λ h. same.1 (let g : GivesItsInput (gate e) (length (cell_inputs c)) = subst (λ (f : Function). GivesItsInput f (length (cell_inputs c))) is h.1 in g.1),
-)
-
-pub not_one : (c : Cell) (e : Expression) (n : ℕ) → n ≡ inputs_among c.pins → c.function ≡ gate e → (n ≡ 1 → ⊥) → IsBufferCell c → ⊥
-not_one c e n counted is other_number h =
-    let g : GivesItsInput (gate e) (length (cell_inputs c)) = subst (λ (f : Function). GivesItsInput f (length (cell_inputs c))) is h.1 in
-    other_number (sym (inputs_counted c n counted) ∙ g.0)
+-- a gate that gives its one input
+pub buffer_gate : (c : Cell) (e : Expression) (n : ℕ) → n ≡ inputs_among c.pins → c.function ≡ gate e
+    → (r : Bool) → (IsTrue r ↔ ((n ≡ 1) × ((a : Bool) → val e (a ∷ []) ≡ a))) → IsTrue r ↔ GivesItsInput c.function (length (cell_inputs c))
+buffer_gate c e n counted is r same =
+    let many = inputs_counted c n counted in
+    subst (λ (f : Function). IsTrue r ↔ GivesItsInput f (length (cell_inputs c))) (sym is)
+    (subst (λ (m : ℕ). IsTrue r ↔ ((m ≡ 1) × ((a : Bool) → val e (a ∷ []) ≡ a))) (sym many) same)

@@ -1,6 +1,8 @@
 -- Places by their classes.
 use Rattle.std.proofs.Common.{◌≡◌, ℕ, suc, ◌+◌, ◌<◌, ◌≤◌, Bool, true, false, ◌&&◌, List, [], ◌∷◌, ◌++◌, length, drop, get_or, nat_eq, refl, sym, ◌∙◌, ap, subst, add-one, drop-cons, append_assoc, append-nil, arith, if◌then◌else◌}
 use Rattle.std.proofs.Math.ListN.{drop_of_length-le}
+use Rattle.std.proofs.lemmas.List.Elements.{All-cons}
+use Rattle.std.specs.List.{All}
 use Rattle.std.specs.Global.{Vec}
 use Rattle.loon_fanout.specs.Stages.{marked_places, AddsLoad, AreLoads}
 
@@ -15,37 +17,42 @@ load_start marks classes count loads none = record {
   each = λ class d low. ap (λ (xs : List ℕ). xs ++ marked_places 0 marks classes class) (none.each class d low);
 }
 
-dropped : {A : Type 0} (xs : List A) (k : ℕ) (x : A) → k < length xs → x ≡ get_or xs k x → drop k xs ≡ x ∷ drop (k + 1) xs
-dropped {A} xs k x low is =
-    drop-cons xs k x low ∙ ap (λ (y : A). y ∷ drop (suc k) xs) (sym is) ∙ ap (λ (j : ℕ). x ∷ drop j xs) (sym (add-one k))
+dropped : {A : Type 0} (xs : List A) (k : ℕ) (d : A) → k < length xs → drop k xs ≡ get_or xs k d ∷ drop (k + 1) xs
+dropped {A} xs k d low = drop-cons xs k d low ∙ ap (λ (j : ℕ). get_or xs k d ∷ drop j xs) (sym (add-one k))
 
-pub load_step : (marks : List Bool) (classes : List ℕ) (count place : ℕ) (old new : List (Vec ℕ)) (mark : Bool) (class : ℕ)
-    → place < length classes → length marks ≡ length classes → mark ≡ get_or marks place mark → class ≡ get_or classes place class
-    → SoFar marks classes count place old → AddsLoad old new mark class place → SoFar marks classes count (place + 1) new
-load_step marks classes count place old new mark class low same is_mark is_class so_far after = record {
+one : (place : ℕ) (b : Bool) (rest : List ℕ) → (if b then place ∷ [] else []) ++ rest ≡ (if b then place ∷ rest else rest)
+one place true rest = refl
+one place false rest = refl
+
+pub load_step : (marks : List Bool) (classes : List ℕ) (count place : ℕ) (old new : List (Vec ℕ)) (d0 : Bool) (e : ℕ)
+    → place < length classes → length marks ≡ length classes
+    → SoFar marks classes count place old → AddsLoad old new (get_or marks place d0) (get_or classes place e) place → SoFar marks classes count (place + 1) new
+load_step marks classes count place old new d0 e low same so_far after = record {
   many = after.many ∙ so_far.many;
   each = λ k d inside. each k d inside;
 } where
+  abbrev mark : Bool
+  mark = get_or marks place d0
+
+  abbrev class : ℕ
+  class = get_or classes place e
+
   each : (k : ℕ) (d : Vec ℕ) → k < count
       → (get_or new k d).items ++ marked_places (place + 1) (drop (place + 1) marks) (drop (place + 1) classes) k ≡ marked_places 0 marks classes k
   each k d inside =
       let many = so_far.many in
       let rest : List ℕ = marked_places (place + 1) (drop (place + 1) marks) (drop (place + 1) classes) k in
       let here : List ℕ = (get_or old k d).items in
-      let marks_are = dropped marks place mark (omega (arith, low, same)) is_mark in
-      let classes_are = dropped classes place class low is_class in
+      let marks_are = dropped marks place d0 (omega (arith, low, same)) in
+      let classes_are = dropped classes place e low in
       let whole : marked_places place (drop place marks) (drop place classes) k ≡ (if mark && nat_eq class k then place ∷ rest else rest) =
           ap (λ (ms : List Bool). marked_places place ms (drop place classes) k) marks_are
           ∙ ap (λ (cs : List ℕ). marked_places place (mark ∷ drop (place + 1) marks) cs k) classes_are
           ∙ ap (λ (j : ℕ). if mark && nat_eq class k then place ∷ marked_places j (drop (place + 1) marks) (drop (place + 1) classes) k else marked_places j (drop (place + 1) marks) (drop (place + 1) classes) k) (sym (add-one place)) in
       ap (λ (xs : List ℕ). xs ++ rest) (after.each k d (omega (arith, inside, many)))
       ∙ append_assoc here (if mark && nat_eq class k then place ∷ [] else []) rest
-      ∙ ap (λ (xs : List ℕ). here ++ xs) (one (mark && nat_eq class k) rest ∙ sym whole)
+      ∙ ap (λ (xs : List ℕ). here ++ xs) (one place (mark && nat_eq class k) rest ∙ sym whole)
       ∙ so_far.each k d inside
-
-  one : (b : Bool) (rest : List ℕ) → (if b then place ∷ [] else []) ++ rest ≡ (if b then place ∷ rest else rest)
-  one true rest = refl
-  one false rest = refl
 
 pub load_end : (marks : List Bool) (classes : List ℕ) (count place : ℕ) (loads : List (Vec ℕ)) → length marks ≡ length classes → length classes ≤ place
     → SoFar marks classes count place loads → AreLoads marks classes count loads
@@ -56,3 +63,24 @@ load_end marks classes count place loads same over so_far = record {
       ∙ ap (λ (ms : List Bool). (get_or loads class d).items ++ marked_places place ms (drop place classes) class) (sym (drop_of_length-le marks (omega (arith, same, over))))
       ∙ so_far.each class d low;
 }
+
+-- the places are those of terminals
+pub marked_below : (place : ℕ) (marks : List Bool) (classes : List ℕ) (class : ℕ) → All (λ k. k < place + length classes) (marked_places place marks classes class)
+marked_below place [] classes class = λ k d low. absurd (omega (arith, low))
+marked_below place (m ∷ marks) [] class = λ k d low. absurd (omega (arith, low))
+marked_below place (m ∷ marks) (c ∷ classes) class = by (m && nat_eq c class) (grown (marked_below (suc place) marks classes class)) where
+  grown : All (λ k. k < suc place + length classes) (marked_places (suc place) marks classes class) → All (λ k. k < place + length (c ∷ classes)) (marked_places (suc place) marks classes class)
+  grown h k d low = let r = h k d low in omega (arith, r)
+
+  by : (b : Bool) → All (λ k. k < place + length (c ∷ classes)) (marked_places (suc place) marks classes class)
+      → All (λ k. k < place + length (c ∷ classes)) (if b then place ∷ marked_places (suc place) marks classes class else marked_places (suc place) marks classes class)
+  by true h = All-cons (λ k. k < place + length (c ∷ classes)) place (marked_places (suc place) marks classes class) (omega arith) h
+  by false h = h
+
+pub loads_below : (marks : List Bool) (classes : List ℕ) (count n : ℕ) (loads : List (Vec ℕ)) → AreLoads marks classes count loads → length classes ≡ n
+    → All (λ sinks. All (λ place. place < n) sinks.items) loads
+loads_below marks classes count n loads are many k d low =
+    let all = are.many in
+    let one = marked_below 0 marks classes k in
+    subst (λ (xs : List ℕ). All (λ place. place < n) xs) (sym (are.each k d (omega (arith, low, all))))
+    (λ j e below. let r = one j e below in omega (arith, r, many))

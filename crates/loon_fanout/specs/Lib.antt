@@ -3,3 +3,5 @@ pub mod Wired
 pub mod Repeaters
 pub mod Limited
 pub mod Stages
+pub mod Building
+pub mod Laws

@@ -1,6 +1,6 @@
 -- A netlist none of whose nets has more than so many sinks, from one that may have.
-use Rattle.std.specs.Prelude.{◌≡◌, ◌↔◌, ◌⊎◌, ℕ, ◌+◌, ◌*◌, ◌^◌, ◌<◌, ◌≤◌, List, [], ◌∷◌, ◌++◌, codes, length, map, take, drop, None, Some}
-use Rattle.std.specs.List.{flat_map}
+use Rattle.std.specs.Prelude.{◌≡◌, ◌↔◌, ◌⊎◌, ℕ, ◌+◌, ◌*◌, ◌^◌, ◌<◌, ◌≤◌, List, [], ◌∷◌, ◌++◌, codes, length, map, Some}
+use Rattle.std.specs.List.{All, flat_map}
 use Rattle.vlsi_base.specs.declared.name.Terminal.{Terminal}
 use Rattle.vlsi_base.specs.Names.{vdd, vss}
 use Rattle.machine_meaning.specs.Machine.{names_of, Machine}
@@ -23,21 +23,25 @@ pub data AreGroups {A : Type 0} (size : ℕ) : List A → List (List A) → Type
   last : {xs : List A} → 0 < length xs → length xs ≤ size → AreGroups size xs (xs ∷ [])
   next : {xs ys : List A} {groups : List (List A)} → length xs ≡ size → AreGroups size ys groups → AreGroups size (xs ++ ys) (xs ∷ groups)
 
--- one round on a net: each group of its sinks is put behind gates of its own, which have the next names
-abbrev pub with_round : Repeater → Wired → ℕ → List (List ℕ) → List (List Terminal) → Wired
-with_round b n class names [] = n
-with_round b n class names (group ∷ groups) =
-    with_round b (with_group b.cell n class (take b.gates names) group) class (drop b.gates names) groups
+-- a group of sinks, and the names of the gates that it is put behind
+pub record Row : Type 0 where
+  pub names : List (List ℕ)
+  pub group : List Terminal
+
+-- one round on a net: each group of its sinks is put behind gates of its own
+abbrev pub with_round : Cell → Wired → ℕ → List Row → Wired
+with_round c n class [] = n
+with_round c n class (row ∷ rows) = with_round c (with_group c n class row.names row.group) class rows
 
 -- The netlist after as many rounds as it takes: while a net has more than so many sinks, there is a round on the first such net. The
 -- gates that are put in have these names, in their order.
 pub data IsLimited (l : Library) (limit : ℕ) (b : Repeater) : List (List ℕ) → Wired → Wired → Type 0 where
   within : {n : Wired} → ((class : ℕ) → length (sinks l n class) ≤ limit) → IsLimited l limit b [] n n
-  round : {n k : Wired} {now later : List (List ℕ)} (class : ℕ) (groups : List (List Terminal))
+  round : {n k : Wired} {later : List (List ℕ)} (class : ℕ) (rows : List Row)
       → limit < length (sinks l n class) → ((c : ℕ) → c < class → length (sinks l n c) ≤ limit)
-      → AreGroups limit (sinks l n class) groups → length now ≡ length groups * b.gates
-      → IsLimited l limit b later (with_round b n class now groups) k
-      → IsLimited l limit b (now ++ later) n k
+      → AreGroups limit (sinks l n class) (map (λ r. r.group) rows) → All (λ r. length r.names ≡ b.gates) rows
+      → IsLimited l limit b later (with_round b.cell n class rows) k
+      → IsLimited l limit b (flat_map (λ r. r.names) rows ++ later) n k
 
 -- a net has more sinks than that
 abbrev pub IsCrowded : Library → ℕ → InMemory → Type 0

@@ -13,7 +13,7 @@ use Rattle.cell_model.specs.declared.cell.Pin.{Pin}
 use Rattle.cell_model.specs.Cell.{Cell}
 use Rattle.cell_model.specs.Library.{Library, cell_of}
 use Rattle.cell_pins.specs.Pins.{all_ports}
-use Rattle.net_core.specs.Netlist.{Instance, Netlist as InMemory}
+use Rattle.net_core.specs.Netlist.{Instance, Netlist as InMemory, port, HasClass}
 use Rattle.loon_fanout.specs.declared.repeater.Tie.{Tie}
 use Rattle.loon_fanout.specs.declared.repeater.Tie.TheVariants as tie
 use Rattle.loon_fanout.specs.declared.repeater.Repeater.{Repeater as Parts}
@@ -163,3 +163,17 @@ pub data LimitsAll (r : Parts) (limit : ℕ) : ℕ → List (Vec ℕ) → Wiring
   done : {class : ℕ} {v : Wiring} → LimitsAll r limit class [] v v
   more : {class : ℕ} {v w u : Wiring} {sinks : Vec ℕ} {rest : List (Vec ℕ)}
       → LimitsClass r limit class v sinks.items w → LimitsAll r limit (suc class) rest w u → LimitsAll r limit class (sinks ∷ rest) v u
+
+-- ---- the whole
+
+-- a class has more sinks than that
+abbrev pub HasLongLoad : ℕ → List (Vec ℕ) → Type 0
+HasLongLoad limit loads = (class : ℕ) × (sinks : Vec ℕ) × (slice_get loads class ≡ Some sinks) × (limit < length sinks.items)
+
+-- a netlist's classes, with no gates put in
+pub record IsStart (n : InMemory) (v : Wiring) : Type 0 where
+  pub classes : v.classes.items ≡ n.classes
+  pub first : v.first ≡ n.count
+  pub high : HasClass n (port vdd) v.high
+  pub low : HasClass n (port vss) v.low
+  pub reads : v.reads.items ≡ []

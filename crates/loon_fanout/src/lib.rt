@@ -3,10 +3,12 @@
 
 mod build;
 mod error;
+mod laws;
 mod limit;
 mod loads;
 mod repeater;
 mod wiring;
 
 pub use error::BufferError;
+pub use laws::{limited_law, split_law};
 pub use limit::limit_fanout;

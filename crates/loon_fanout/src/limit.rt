@@ -1,11 +1,14 @@
 // Nets with many sinks put behind buffers.
-ghost use Rattle.std.specs.Prelude.{◌≤◌, IfOk, OnOk, IfErr};
-ghost use Rattle.net_core.specs.Netlist.{IsNetlist};
-ghost use Rattle.net_view.specs.Right.{HasPinsOfCells};
-ghost use Rattle.loon_fanout.specs.Limited.{IsBuffered, HasFanout, IsOfCells, HasRoomForGates, StaysRight, IsBufferRefusal};
+ghost use Rattle.std.specs.Prelude.{◌≡◌, ◌≤◌, ◌<◌, ◌↔◌, map, length, IsTrue, IfOk, OnOk, IfErr};
+ghost use Rattle.vlsi_base.specs.Names.{scalar};
+ghost use Rattle.net_core.specs.Netlist.{IsNetlist, port, terminals, HasClass};
+ghost use Rattle.net_core.specs.Places.{IsThere};
+ghost use Rattle.loon_fanout.specs.Repeaters.{NoneRepeats};
+ghost use Rattle.loon_fanout.specs.Limited.{IsCrowded, IsBuffered, HasFanout, IsOfCells, HasRoomForGates, StaysRight, IsBufferRefusal};
+ghost use Rattle.loon_fanout.specs.Stages.{HasLongLoad, IsStart};
 
 use crate::BufferError;
-use crate::build::{Plan, build};
+use crate::build::{Sketch, build, push_gates, push_nodes};
 use crate::loads::loads;
 use crate::repeater::{Repeater, make_repeater};
 use crate::wiring::Wiring;
@@ -15,7 +18,11 @@ use net_core::{Netlist, Node};
 use std::alloc::{AllocError, Global};
 use vlsi_base::{Name, Terminal, Text};
 
-fn class_of_port(alloc: Global, netlist: &Netlist, text: &[u8]) -> Result<usize, AllocError> {
+/// The class of a scalar port.
+fn class_of_port(alloc: Global, netlist: &Netlist, text: &[u8]) -> Result<usize, AllocError>
+    requires { IsThere (terminals netlist.now) (port (scalar text.now)) }
+    ensures { IfOk result (λ k. HasClass netlist.now (port (scalar text.now)) k) }
+{
     let port = Terminal {
         instance: None,
         pin: Name::scalar(Text::from_bytes(alloc, text)?),
@@ -26,7 +33,9 @@ fn class_of_port(alloc: Global, netlist: &Netlist, text: &[u8]) -> Result<usize,
     }
 }
 
-fn widened(alloc: Global, classes: &[u32]) -> Result<Vec<usize>, AllocError> {
+fn widened(alloc: Global, classes: &[u32]) -> Result<Vec<usize>, AllocError>
+    ensures { IfOk result (λ wide. wide.items ≡ classes.now) }
+{
     let mut wide = Vec::new(alloc);
     for class in classes {
         wide.push(*class as usize)?;
@@ -34,7 +43,11 @@ fn widened(alloc: Global, classes: &[u32]) -> Result<Vec<usize>, AllocError> {
     Ok(wide)
 }
 
-fn wiring_of(alloc: Global, netlist: &Netlist) -> Result<Wiring, AllocError> {
+/// A netlist's classes, with no gates put in.
+fn wiring_of(alloc: Global, netlist: &Netlist, library: &Library) -> Result<Wiring, AllocError>
+    requires { IsOfCells netlist.now library.now }
+    ensures { IfOk result (λ v. IsStart netlist.now v) }
+{
     Ok(Wiring {
         classes: widened(alloc, netlist.classes())?,
         first: netlist.count(),
@@ -44,7 +57,9 @@ fn wiring_of(alloc: Global, netlist: &Netlist) -> Result<Wiring, AllocError> {
     })
 }
 
-fn names_of(alloc: Global, nodes: &[Node]) -> Result<Vec<Text>, AllocError> {
+fn names_of(alloc: Global, nodes: &[Node]) -> Result<Vec<Text>, AllocError>
+    ensures { IfOk result (λ names. names.items ≡ map (λ i. i.name) nodes.now) }
+{
     let mut names = Vec::new(alloc);
     for node in nodes {
         names.push(node.name.copy(alloc)?)?;
@@ -53,7 +68,9 @@ fn names_of(alloc: Global, nodes: &[Node]) -> Result<Vec<Text>, AllocError> {
 }
 
 /// Whether a class has more sinks than that.
-fn is_crowded(loads: &[Vec<usize>], limit: usize) -> bool {
+fn is_crowded(loads: &[Vec<usize>], limit: usize) -> bool
+    ensures { IsTrue result ↔ HasLongLoad limit loads.now }
+{
     for sinks in loads {
         if sinks.len() > limit {
             return true;
@@ -62,28 +79,28 @@ fn is_crowded(loads: &[Vec<usize>], limit: usize) -> bool {
     false
 }
 
-/// The netlist with its nets behind repeaters.
-fn buffered(
+/// The netlist of these classes, with gates behind its instances for those that were put in.
+fn with_gates(
     alloc: Global,
     netlist: &Netlist,
     repeater: Option<&Repeater>,
-    loads: &[Vec<usize>],
-    limit: usize,
+    wiring: Wiring,
 ) -> Result<Netlist, AllocError> {
-    let mut wiring = wiring_of(alloc, netlist)?;
-    if let Some(repeater) = repeater {
-        wiring.limit_all(alloc, repeater, loads, limit)?;
-    }
     let taken = names_of(alloc, netlist.nodes())?;
     let names = free_texts(alloc, b"b", &taken, wiring.reads.len())?;
-    let plan = Plan {
-        netlist,
-        repeater,
-        names: &names,
-        classes: &wiring.classes,
-        count: wiring.count(),
+    let mut entries = Vec::new(alloc);
+    push_nodes(alloc, &mut entries, netlist.models(), netlist.nodes())?;
+    if let Some(repeater) = repeater {
+        push_gates(alloc, &mut entries, repeater, &names)?;
+    }
+    let count = wiring.count();
+    let Wiring { classes, .. } = wiring;
+    let sketch = Sketch {
+        entries,
+        classes,
+        count,
     };
-    build(alloc, &plan)
+    build(alloc, netlist, &sketch)
 }
 
 /// Puts buffers into a netlist until no net has more than `fanout` sinks; a netlist in which none has stays as it is.
@@ -103,14 +120,29 @@ pub fn limit_fanout(
     netlist: &Netlist,
     library: &Library,
     fanout: u32,
-) -> Result<Netlist, BufferError> {
+) -> Result<Netlist, BufferError>
+    requires size { 2 ≤ fanout }
+    requires cells { IsOfCells netlist.now library.now }
+    requires room { HasRoomForGates netlist.now }
+    ensures buffered { IfOk result (λ r. IsBuffered netlist.now library.now fanout r) }
+    ensures fanout { IfOk result (λ r. HasFanout library.now fanout r) }
+    ensures right { IfOk result (λ r. StaysRight netlist.now library.now r) }
+    ensures cells { IfOk result (λ r. IsOfCells r library.now) }
+    ensures sound { IfOk result (λ r. IsNetlist r) }
+    ensures covered { OnOk result (IsCrowded library.now fanout netlist.now → NoneRepeats library.now.cells → ⊥) }
+    ensures refused { IfErr result (λ e. IsBufferRefusal netlist.now library.now fanout e) }
+{
     let loads = loads(alloc, netlist, library)?;
+    let mut wiring = wiring_of(alloc, netlist, library)?;
     let limit = fanout as usize;
     if !is_crowded(&loads, limit) {
-        return Ok(buffered(alloc, netlist, None, &loads, limit)?);
+        return Ok(with_gates(alloc, netlist, None, wiring)?);
     }
     match make_repeater(alloc, library.cells())? {
-        Some(found) => Ok(buffered(alloc, netlist, Some(&found), &loads, limit)?),
+        Some(found) => {
+            wiring.limit_all(alloc, &found, &loads, limit)?;
+            Ok(with_gates(alloc, netlist, Some(&found), wiring)?)
+        }
         None => Err(BufferError::NoBuffer),
     }
 }

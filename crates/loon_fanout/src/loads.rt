@@ -145,13 +145,13 @@ fn no_loads(alloc: Global, count: u32) -> Result<Vec<Vec<usize>>, AllocError>
 
 /// Puts a place behind those of a class, if it is marked.
 fn add_load(
-    loads: &mut [Vec<usize>],
+    loads: &mut Vec<Vec<usize>>,
     mark: bool,
     class: usize,
     place: usize,
 ) -> Result<(), AllocError>
-    requires { class < length loads.old }
-    ensures { OnOk result (AddsLoad loads.old loads.new mark class place) }
+    requires { class < length loads.old.items }
+    ensures { OnOk result (AddsLoad loads.old.items loads.new.items mark class place) }
 {
     if !mark {
         return Ok(());

@@ -6,10 +6,11 @@ ghost use Rattle.bool_expr.specs.View.{view};
 ghost use Rattle.machine_meaning.specs.Machine.{is_input, names_of};
 ghost use Rattle.machine_meaning.specs.Named.{is_same_name};
 ghost use Rattle.vlsi_base.specs.Names.{scalar};
+ghost use Rattle.cell_model.specs.Cell.{cell_inputs};
 ghost use Rattle.cell_model.specs.Usable.{IsFormed};
 ghost use Rattle.cell_model.specs.Connectors.{PinsAreConnectors};
 ghost use Rattle.cell_model.specs.declared.cell.Cell.{Cell};
-ghost use Rattle.loon_fanout.specs.Repeaters.{IsBufferCell, IsInverterCell, IsFirst, NoneRepeats};
+ghost use Rattle.loon_fanout.specs.Repeaters.{GivesItsInput, IsBufferCell, IsInverterCell, IsFirst, NoneRepeats};
 ghost use Rattle.loon_fanout.specs.Stages.{tie_of, IsPart, IsRepeaterOf};
 
 use bool_expr::{Expr, value_at};
@@ -54,21 +55,33 @@ fn count_inputs(pins: &[Pin]) -> usize
     pins.iter().filter(|pin| pin.port.dir == Dir::In).count()
 }
 
+/// Whether a gate of so many inputs has one, and gives it.
+fn is_buffer_gate(e: &Expr, inputs: usize) -> bool
+    requires { IsOver (view e.now) inputs }
+    ensures { IsTrue result ↔ ((inputs ≡ 1) × ((a : Bool) → val (view e.now) (a ∷ []) ≡ a)) }
+{
+    inputs == 1 && gives_its_input(e)
+}
+
+/// Whether a cell is a gate that gives its one input.
+fn gives_input(cell: &Cell) -> bool
+    requires { IsFormed cell.now }
+    ensures { IsTrue result ↔ GivesItsInput cell.now.function (length (cell_inputs cell.now)) }
+{
+    match cell.function.as_enum() {
+        Function::Gate(e) => is_buffer_gate(e, count_inputs(cell.pins.as_slice())),
+        Function::FlipFlop { .. } => false,
+        Function::Other(_) => false,
+        Function::Opaque => false,
+    }
+}
+
 fn is_buffer(cell: &Cell) -> bool
     requires formed { IsFormed cell.now }
     requires connectors { PinsAreConnectors cell.now }
     ensures { IsTrue result ↔ IsBufferCell cell.now }
 {
-    if !usable(cell) {
-        return false;
-    }
-    let inputs = count_inputs(cell.pins.as_slice());
-    match cell.function.as_enum() {
-        Function::Gate(e) => inputs == 1 && gives_its_input(e),
-        Function::FlipFlop { .. } => false,
-        Function::Other(_) => false,
-        Function::Opaque => false,
-    }
+    usable(cell) && gives_input(cell)
 }
 
 #[tactic(auto, using(cell_model::proofs::KindLemmas::kind_told, cell_model::proofs::KindLemmas::kind_said))]
@@ -162,6 +175,20 @@ fn repeater_of(alloc: Global, cell: &Cell, twice: bool) -> Result<Repeater, Allo
     })
 }
 
+/// Two gates of the first inverter; none where there is none.
+fn two_inverters(alloc: Global, cells: &[Cell]) -> Result<Option<Repeater>, AllocError>
+    requires formed { All IsFormed cells.now }
+    requires connectors { All PinsAreConnectors cells.now }
+    requires no_buffer { (c : Cell) → In c cells.now → IsBufferCell c → ⊥ }
+    ensures found { IfOk result (λ r. IfSome r (λ b. IsRepeaterOf cells.now b)) }
+    ensures none { IfOk result (λ r. IfNone r (NoneRepeats cells.now)) }
+{
+    match first_inverter(cells) {
+        Some(cell) => Ok(Some(repeater_of(alloc, cell, true)?)),
+        None => Ok(None),
+    }
+}
+
 /// One gate of the first buffer, or two of the first inverter where there is no buffer; none where there is neither. Takes memory
 /// for the names of pins.
 pub(crate) fn make_repeater(alloc: Global, cells: &[Cell]) -> Result<Option<Repeater>, AllocError>
@@ -170,11 +197,8 @@ pub(crate) fn make_repeater(alloc: Global, cells: &[Cell]) -> Result<Option<Repe
     ensures found { IfOk result (λ r. IfSome r (λ b. IsRepeaterOf cells.now b)) }
     ensures none { IfOk result (λ r. IfNone r (NoneRepeats cells.now)) }
 {
-    if let Some(cell) = first_buffer(cells) {
-        return Ok(Some(repeater_of(alloc, cell, false)?));
+    match first_buffer(cells) {
+        Some(cell) => Ok(Some(repeater_of(alloc, cell, false)?)),
+        None => two_inverters(alloc, cells),
     }
-    if let Some(cell) = first_inverter(cells) {
-        return Ok(Some(repeater_of(alloc, cell, true)?));
-    }
-    Ok(None)
 }

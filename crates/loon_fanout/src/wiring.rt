@@ -1,5 +1,5 @@
 // A netlist's classes, and gates put behind them.
-ghost use Rattle.std.specs.Prelude.{◌≡◌, ◌≤◌, ◌<◌, ◌++◌, [], map, length, IfOk, OnOk, if◌then◌else◌};
+ghost use Rattle.std.specs.Prelude.{◌≡◌, ◌≤◌, ◌<◌, ◌++◌, [], ◌-◌, take, drop, map, length, IfOk, OnOk, if◌then◌else◌};
 ghost use Rattle.std.specs.List.{All};
 ghost use Rattle.loon_fanout.specs.Stages.{next_class, ends_of, tied_class, is_read, read_place, set_places, EndsGroup, PutsGate, PutsRow, Moves, PutsBehind, PutsGroups, LimitsClass, LimitsAll};
 
@@ -75,6 +75,15 @@ fn group_end(many: usize, start: usize, limit: usize) -> usize
         return many;
     }
     start + limit
+}
+
+/// The places of a list from one to another.
+fn group(sinks: &[usize], start: usize, end: usize) -> &[usize]
+    requires order { start ≤ end }
+    requires inside { end ≤ length sinks.now }
+    ensures { result.now ≡ take (end - start) (drop start sinks.now) }
+{
+    &sinks[start..end]
 }
 
 /// The class of each terminal so far, how many classes there were at first, the classes of the supplies, and the class that each
@@ -187,7 +196,8 @@ impl Wiring {
         let mut start = 0;
         while start < sinks.len() {
             let end = group_end(sinks.len(), start, limit);
-            let input = self.put_behind(repeater, class, &sinks[start..end])?;
+            let group = group(sinks, start, end);
+            let input = self.put_behind(repeater, class, group)?;
             inputs.push(input)?;
             start = end;
         }
