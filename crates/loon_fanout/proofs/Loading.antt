@@ -31,12 +31,6 @@ load_step marks classes count place old new d0 e low same so_far after = record 
   many = after.many ∙ so_far.many;
   each = λ k d inside. each k d inside;
 } where
-  abbrev mark : Bool
-  mark = get_or marks place d0
-
-  abbrev class : ℕ
-  class = get_or classes place e
-
   each : (k : ℕ) (d : Vec ℕ) → k < count
       → (get_or new k d).items ++ marked_places (place + 1) (drop (place + 1) marks) (drop (place + 1) classes) k ≡ marked_places 0 marks classes k
   each k d inside =
@@ -45,13 +39,13 @@ load_step marks classes count place old new d0 e low same so_far after = record 
       let here : List ℕ = (get_or old k d).items in
       let marks_are = dropped marks place d0 (omega (arith, low, same)) in
       let classes_are = dropped classes place e low in
-      let whole : marked_places place (drop place marks) (drop place classes) k ≡ (if mark && nat_eq class k then place ∷ rest else rest) =
+      let whole : marked_places place (drop place marks) (drop place classes) k ≡ (if get_or marks place d0 && nat_eq (get_or classes place e) k then place ∷ rest else rest) =
           ap (λ (ms : List Bool). marked_places place ms (drop place classes) k) marks_are
-          ∙ ap (λ (cs : List ℕ). marked_places place (mark ∷ drop (place + 1) marks) cs k) classes_are
-          ∙ ap (λ (j : ℕ). if mark && nat_eq class k then place ∷ marked_places j (drop (place + 1) marks) (drop (place + 1) classes) k else marked_places j (drop (place + 1) marks) (drop (place + 1) classes) k) (sym (add-one place)) in
+          ∙ ap (λ (cs : List ℕ). marked_places place (get_or marks place d0 ∷ drop (place + 1) marks) cs k) classes_are
+          ∙ ap (λ (j : ℕ). if get_or marks place d0 && nat_eq (get_or classes place e) k then place ∷ marked_places j (drop (place + 1) marks) (drop (place + 1) classes) k else marked_places j (drop (place + 1) marks) (drop (place + 1) classes) k) (sym (add-one place)) in
       ap (λ (xs : List ℕ). xs ++ rest) (after.each k d (omega (arith, inside, many)))
-      ∙ append_assoc here (if mark && nat_eq class k then place ∷ [] else []) rest
-      ∙ ap (λ (xs : List ℕ). here ++ xs) (one place (mark && nat_eq class k) rest ∙ sym whole)
+      ∙ append_assoc here (if get_or marks place d0 && nat_eq (get_or classes place e) k then place ∷ [] else []) rest
+      ∙ ap (λ (xs : List ℕ). here ++ xs) (one place (get_or marks place d0 && nat_eq (get_or classes place e) k) rest ∙ sym whole)
       ∙ so_far.each k d inside
 
 pub load_end : (marks : List Bool) (classes : List ℕ) (count place : ℕ) (loads : List (Vec ℕ)) → length marks ≡ length classes → length classes ≤ place

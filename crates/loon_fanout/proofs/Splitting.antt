@@ -57,10 +57,10 @@ any_in test (x ∷ xs) h = elim (either (test x) (list_any test xs) h) [
 
 in_any : {A : Type 0} (test : A → Bool) (xs : List A) (x : A) → In x xs → test x ≡ true → list_any test xs ≡ true
 in_any test (y ∷ xs) x here h = ap (λ (b : Bool). b || list_any test xs) h
-in_any test (y ∷ xs) x (there k) h = by (test y) where
-  by : (b : Bool) → (b || list_any test xs) ≡ true
-  by true = refl
-  by false = in_any test xs x k h
+in_any test (y ∷ xs) x (there k) h = by (test y) (in_any test xs x k h) where
+  by : (b : Bool) → list_any test xs ≡ true → (b || list_any test xs) ≡ true
+  by true r = refl
+  by false r = r
 in_any test [] x h k = elim h [ ]
 
 is_false : (b : Bool) → (b ≡ true → ⊥) → b ≡ false
@@ -222,15 +222,12 @@ module _ (w : Wired) (source : ℕ → Source) (rank : ℕ → ℕ) (l : Library
       rw (same_name-false output vdd s.0, same_name-false output vss s.1, apart) refl
 
   vdd_class : pin_class w c k vdd ≡ w.class (port vdd)
-  vdd_class = rw (same_name-itself vdd) refl
+  vdd_class = refl
 
   vss_class : pin_class w c k vss ≡ w.class (port vss)
-  vss_class = by (is_same_name vss vdd) refl where
-    by : (x : Bool) → is_same_name vss vdd ≡ x → pin_class w c k vss ≡ w.class (port vss)
-    by true e = absurd (cc e)
-    by false e = rw (e, same_name-itself vss) refl
+  vss_class = refl
 
-  is_buffer : IsBuffer l (record { name = name; model = c.name }) c
+  abbrev is_buffer : IsBuffer l (record { name = name; model = c.name }) c
   is_buffer = record {
     found = b.found;
     usable = b.usable;

@@ -3,7 +3,7 @@ use Rattle.std.proofs.Common.{◌≡◌, ◌↔◌, ℕ, zero, suc, ◌+◌, ◌
 use Rattle.std.proofs.lemmas.Bool.{cases_eq}
 use Rattle.std.specs.Prelude.{slice_set}
 use Rattle.std.specs.List.{All, zip}
-use Rattle.std.proofs.lemmas.List.{get_or-set_same, get_or-set_other, length-set}
+use Rattle.std.proofs.lemmas.List.{get_or-set_same, get_or-set_other, length-set, take_all}
 use Rattle.vlsi_base.specs.declared.name.Terminal.{Terminal}
 use Rattle.vlsi_base.specs.Member.{In, here, there}
 use Rattle.net_core.specs.declared.error.BuildError.{BuildError}
@@ -11,7 +11,7 @@ use Rattle.net_core.specs.declared.error.BuildError.TheVariants as error
 use Rattle.net_core.specs.Places.{Stands, IsThere, NoneTwice}
 use Rattle.net_core.specs.Joins.{Draft, Joined, same, along, against, terminal_at, draft_terminals, with_join, IsNoJoin}
 use Rattle.net_core.proofs.Joining.{terminal_stands, terminal_is}
-use Rattle.net_theory.proofs.Basics.{In-map, In-map_back}
+use Rattle.net_theory.proofs.Basics.{In-map, In-map_back, length-map}
 use Rattle.loon_fanout.specs.Sinks.{class_among}
 use Rattle.loon_fanout.specs.Building.{with_joins, AreHeads, joins_of}
 use Rattle.loon_fanout.proofs.Terminals.{class_is}
@@ -65,7 +65,8 @@ pairs_next all [] classes heads i t low each is = absurd (omega (arith, low))
 pairs_next all (u ∷ ts) [] heads i t low each is = absurd (omega (arith, each))
 pairs_next all (u ∷ ts) (k ∷ classes) heads zero t low each is = ap (λ (x : Terminal). (x, terminal_at all (get_or heads k 0)) ∷ []) (sym is)
 pairs_next all (u ∷ ts) (k ∷ classes) heads (suc i) t low each is =
-    ap (λ (xs : List (Terminal × Terminal)). (u, terminal_at all (get_or heads k 0)) ∷ xs) (pairs_next all ts classes heads i t (omega (arith, low)) (omega (arith, each)) is)
+    ap (λ (j : ℕ). take j ((u, terminal_at all (get_or heads k 0)) ∷ map (paired all heads) (zip ts classes))) (let e : suc i + 1 ≡ suc (i + 1) = omega arith in e)
+    ∙ ap (λ (xs : List (Terminal × Terminal)). (u, terminal_at all (get_or heads k 0)) ∷ xs) (pairs_next all ts classes heads i t (omega (arith, low)) (omega (arith, each)) is)
 
 module _ (d now : Draft) (ts : List Terminal) (classes heads : List ℕ) (i : ℕ) (a b : Terminal) (are : ts ≡ draft_terminals d) (each : length classes ≡ length ts)
     (are_heads : AreHeads classes heads) (so_far : now ≡ with_joins d (take i (joins_of ts classes heads))) (low : i < length ts)
@@ -110,6 +111,18 @@ module _ (d now : Draft) (ts : List Terminal) (classes heads : List ℕ) (i : �
       ∙ ap (λ (xs : List (Terminal × Terminal)). d.joins ++ xs)
       (ap (λ (x : Terminal). take i (joins_of ts classes heads) ++ (a, x) ∷ []) (sym b_is) ∙ sym (pairs_next ts ts classes heads i a low each is_a)))
 
+zip_many : (ts : List Terminal) (ks : List ℕ) → length ks ≡ length ts → length (zip ts ks) ≡ length ts
+zip_many [] ks h = refl
+zip_many (t ∷ ts) [] h = absurd (omega (arith, h))
+zip_many (t ∷ ts) (k ∷ ks) h = let r = zip_many ts ks (omega (arith, h)) in omega (arith, r)
+
+pub joined_all : (d now : Draft) (ts : List Terminal) (classes heads : List ℕ) (i : ℕ) → length classes ≡ length ts → length ts ≤ i
+    → now ≡ with_joins d (take i (joins_of ts classes heads)) → now ≡ with_joins d (joins_of ts classes heads)
+joined_all d now ts classes heads i each over so_far =
+    let many = length-map (paired ts heads) (zip ts classes) in
+    let zipped = zip_many ts classes each in
+    so_far ∙ ap (with_joins d) (take_all i (joins_of ts classes heads) (omega (arith, many, zipped, over)))
+
 -- ---- classes
 
 zip_in : (ts : List Terminal) (classes : List ℕ) (i : ℕ) (t : Terminal) (k : ℕ) → Stands ts i t → Stands classes i k → In (t, k) (zip ts classes)
@@ -132,10 +145,10 @@ module _ (ts : List Terminal) (classes heads : List ℕ) (once : NoneTwice ts) (
   number_at : (i : ℕ) (t : Terminal) → Stands ts i t → (k : ℕ) × Stands classes i k × (get_or classes i 0 ≡ k) × (i < length classes)
   number_at i t h = find ts classes each i h where
     find : (us : List Terminal) (ks : List ℕ) → length ks ≡ length us → (j : ℕ) → Stands us j t → (k : ℕ) × Stands ks j k × (get_or ks j 0 ≡ k) × (j < length ks)
-    find [] ks same j s = absurd cc
-    find (u ∷ us) [] same j s = absurd (omega (arith, same))
-    find (u ∷ us) (k ∷ ks) same zero s = (k, refl, refl, omega arith)
-    find (u ∷ us) (k ∷ ks) same (suc j) s = let r = find us ks (omega (arith, same)) j s in (r.0, r.1, r.2, (let low = r.3 in omega (arith, low)))
+    find [] ks alike j s = absurd cc
+    find (u ∷ us) [] alike j s = absurd (omega (arith, alike))
+    find (u ∷ us) (k ∷ ks) alike zero s = (k, refl, refl, omega arith)
+    find (u ∷ us) (k ∷ ks) alike (suc j) s = let r = find us ks (omega (arith, alike)) j s in (r.0, r.1, r.2, (let low = r.3 in omega (arith, low)))
 
   -- the pair of a terminal
   pair_in : (i : ℕ) (t : Terminal) (k : ℕ) → Stands ts i t → Stands classes i k → In (t, terminal_at ts (get_or heads k 0)) joins

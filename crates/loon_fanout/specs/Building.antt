@@ -46,6 +46,7 @@ abbrev pub sketch_terminals : InMemory → Sketch → List Terminal
 sketch_terminals n s = terminals_of n.ports (map instance_by s.entries.items)
 
 pub record IsBuildable (n : InMemory) (s : Sketch) : Type 0 where
+  pub order : AreInOrder (map (λ p. p.name) n.ports)
   pub pins : All (λ e. AreInOrder e.pins) s.entries.items
   pub names : NoneTwice (map (λ e. e.name) s.entries.items)
   pub many : length s.entries.items < 2 ^ 32

@@ -63,7 +63,7 @@ fn copied_ports(alloc: Global, ports: &[Port]) -> Result<Vec<Port>, AllocError>
     Ok(copies)
 }
 
-fn entry(alloc: Global, name: &Text, model: &Text, pins: &[Name]) -> Result<Entry, AllocError>
+fn make_entry(alloc: Global, name: &Text, model: &Text, pins: &[Name]) -> Result<Entry, AllocError>
     ensures { IfOk result (λ e. e ≡ record { name = name.now; model = model.now; pins = pins.now }) }
 {
     Ok(Entry {
@@ -85,7 +85,7 @@ pub(crate) fn push_nodes(
 {
     for node in nodes {
         let pins = node.pins.as_slice();
-        entries.push(entry(alloc, &node.name, &models[node.model], pins)?)?;
+        entries.push(make_entry(alloc, &node.name, &models[node.model], pins)?)?;
     }
     Ok(())
 }
@@ -101,7 +101,7 @@ pub(crate) fn push_gates(
 {
     for name in names {
         let pins = repeater.pins.as_slice();
-        entries.push(entry(alloc, name, &repeater.model, pins)?)?;
+        entries.push(make_entry(alloc, name, &repeater.model, pins)?)?;
     }
     Ok(())
 }
