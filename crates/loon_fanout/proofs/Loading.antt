@@ -1,10 +1,12 @@
 -- Places by their classes.
-use Rattle.std.proofs.Common.{◌≡◌, ℕ, suc, ◌+◌, ◌<◌, ◌≤◌, Bool, true, false, ◌&&◌, List, [], ◌∷◌, ◌++◌, length, drop, get_or, nat_eq, refl, sym, ◌∙◌, ap, subst, add-one, drop-cons, append_assoc, append-nil, arith, if◌then◌else◌}
+use Rattle.std.proofs.Common.{◌≡◌, ℕ, zero, suc, Some, ◌+◌, ◌<◌, ◌≤◌, Bool, true, false, ◌&&◌, List, [], ◌∷◌, ◌++◌, length, drop, get_or, nat_eq, refl, sym, ◌∙◌, ap, subst, add-one, drop-cons, append_assoc, append-nil, arith, if◌then◌else◌}
 use Rattle.std.proofs.Math.ListN.{drop_of_length-le}
 use Rattle.std.proofs.lemmas.List.Elements.{All-cons}
 use Rattle.std.specs.List.{All}
+use Rattle.std.specs.Prelude.{slice_get}
+use Rattle.std.proofs.lemmas.Option.{slice_get_within}
 use Rattle.std.specs.Global.{Vec}
-use Rattle.loon_fanout.specs.Stages.{marked_places, AddsLoad, AreLoads}
+use Rattle.loon_fanout.specs.Stages.{marked_places, AddsLoad, AreLoads, HasLongLoad}
 
 pub record SoFar (marks : List Bool) (classes : List ℕ) (count place : ℕ) (loads : List (Vec ℕ)) : Type 0 where
   pub many : length loads ≡ count
@@ -78,3 +80,17 @@ loads_below marks classes count n loads are many k d low =
     let one = marked_below 0 marks classes k in
     subst (λ (xs : List ℕ). All (λ place. place < n) xs) (sym (are.each k d (omega (arith, low, all))))
     (λ j e below. let r = one j e below in omega (arith, r, many))
+
+-- no class has more sinks where a loop met none
+got : {A : Type 0} (xs : List A) (k : ℕ) (x : A) → slice_get xs k ≡ Some x → get_or xs k x ≡ x
+got [] k x e = absurd cc
+got (y ∷ xs) zero x e = cc
+got (y ∷ xs) (suc k) x e = got xs k x e
+
+pub none_long : (loads : List (Vec ℕ)) (limit met : ℕ) → length loads ≤ met → ((k : ℕ) (d : Vec ℕ) → k < met → length (get_or loads k d).items ≤ limit)
+    → HasLongLoad limit loads → ⊥
+none_long loads limit met over each (k, v, stands, long) =
+    let low = slice_get_within loads k v stands in
+    let same = ap (λ (x : Vec ℕ). length x.items) (got loads k v stands) in
+    let small = each k v (omega (arith, low, over)) in
+    absurd (omega (arith, small, same, long))
