@@ -42,9 +42,9 @@ load_step marks classes count place old new d0 e low same so_far after = record 
       let marks_are = dropped marks place d0 (omega (arith, low, same)) in
       let classes_are = dropped classes place e low in
       let whole : marked_places place (drop place marks) (drop place classes) k ≡ (if get_or marks place d0 && nat_eq (get_or classes place e) k then place ∷ rest else rest) =
-          ap (λ (ms : List Bool). marked_places place ms (drop place classes) k) marks_are
-          ∙ ap (λ (cs : List ℕ). marked_places place (get_or marks place d0 ∷ drop (place + 1) marks) cs k) classes_are
-          ∙ ap (λ (j : ℕ). if get_or marks place d0 && nat_eq (get_or classes place e) k then place ∷ marked_places j (drop (place + 1) marks) (drop (place + 1) classes) k else marked_places j (drop (place + 1) marks) (drop (place + 1) classes) k) (sym (add-one place)) in
+      ap (λ (ms : List Bool). marked_places place ms (drop place classes) k) marks_are
+      ∙ ap (λ (cs : List ℕ). marked_places place (get_or marks place d0 ∷ drop (place + 1) marks) cs k) classes_are
+      ∙ ap (λ (j : ℕ). if get_or marks place d0 && nat_eq (get_or classes place e) k then place ∷ marked_places j (drop (place + 1) marks) (drop (place + 1) classes) k else marked_places j (drop (place + 1) marks) (drop (place + 1) classes) k) (sym (add-one place)) in
       ap (λ (xs : List ℕ). xs ++ rest) (after.each k d (omega (arith, inside, many)))
       ∙ append_assoc here (if get_or marks place d0 && nat_eq (get_or classes place e) k then place ∷ [] else []) rest
       ∙ ap (λ (xs : List ℕ). here ++ xs) (one place (get_or marks place d0 && nat_eq (get_or classes place e) k) rest ∙ sym whole)

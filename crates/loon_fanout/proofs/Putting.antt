@@ -133,7 +133,7 @@ pub record LimitingAll (r : Repeater) (limit : ℕ) (first now : Wiring) (loads 
 
 pub all_start : (r : Repeater) (limit : ℕ) (first : Wiring) (loads : List (Vec ℕ)) → All (λ sinks. All (λ place. place < length first.classes.items) sinks.items) loads
     → LimitingAll r limit first first loads 0
-all_start r limit first loads places = record { steps = λ u h. h; places = places; }
+all_start r limit first loads places = record { steps = λ u h. h; places = places }
 
 pub all_step : (r : Repeater) (limit : ℕ) (first now next : Wiring) (loads : List (Vec ℕ)) (class : ℕ) (sinks : Vec ℕ) → class < length loads → sinks ≡ get_or loads class sinks
     → LimitsClass r limit class now sinks.items next → length now.classes.items ≤ length next.classes.items

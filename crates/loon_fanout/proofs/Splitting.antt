@@ -217,8 +217,8 @@ module _ (w : Wired) (source : ℕ → Source) (rank : ℕ → ℕ) (l : Library
   output_class =
       let s = signal (λ p. not (is_input p.dir)) output in_outputs in
       let apart = is_false (list_any (λ pin. is_same_name pin output) (cell_inputs c)) (λ e.
-          let x = any_in (λ (pin : Name). is_same_name pin output) (cell_inputs c) e in
-          in_or_out c output b.usable (subst (λ (n : Name). In n (cell_inputs c)) (same_name-true x.0 output x.2) x.1) in_outputs) in
+      let x = any_in (λ (pin : Name). is_same_name pin output) (cell_inputs c) e in
+      in_or_out c output b.usable (subst (λ (n : Name). In n (cell_inputs c)) (same_name-true x.0 output x.2) x.1) in_outputs) in
       rw (same_name-false output vdd s.0, same_name-false output vss s.1, apart) refl
 
   vdd_class : pin_class w c k vdd ≡ w.class (port vdd)
@@ -249,7 +249,7 @@ module _ (w : Wired) (source : ℕ → Source) (rank : ℕ → ℕ) (l : Library
       let names : Some i.name ≡ Some s.owner.name = ap (λ (x : Terminal). x.instance) s.is in
       let one_name : i.name ≡ s.owner.name = cc names in
       let seats = h.one_name mine.seat other.seat mine.listed other.listed
-          (ap (λ (x : Member). x.name) mine.member ∙ one_name ∙ sym (ap (λ (x : Member). x.name) other.member)) in
+      (ap (λ (x : Member). x.name) mine.member ∙ one_name ∙ sym (ap (λ (x : Member). x.name) other.member)) in
       let members : i ≡ member_of s.owner = sym mine.member ∙ ap (λ (x : Seat). x.member) seats ∙ other.member in
       let again : cell_of l i.model ≡ Some s.cell = subst (λ (x : Member). cell_of l x.model ≡ Some s.cell) (sym members) s.found in
       let found = has.found in
@@ -279,7 +279,7 @@ module _ (w : Wired) (source : ℕ → Source) (rank : ℕ → ℕ) (l : Library
         let one_name : s.owner.name ≡ register_instance x = cc names in
         let other = sits (sourced w source rank) l m f r h (member_of s.owner) s.cell (In-map member_of s.owner w.instances s.listed) s.found in
         let seats = h.one_name mine.seat other.seat mine.listed other.listed
-            (ap (λ (y : Member). y.name) mine.member ∙ number ∙ sym one_name ∙ sym (ap (λ (y : Member). y.name) other.member)) in
+        (ap (λ (y : Member). y.name) mine.member ∙ number ∙ sym one_name ∙ sym (ap (λ (y : Member). y.name) other.member)) in
         let members : i ≡ member_of s.owner = sym mine.member ∙ ap (λ (y : Seat). y.member) seats ∙ other.member in
         let again : cell_of l i.model ≡ Some s.cell = subst (λ (y : Member). cell_of l y.model ≡ Some s.cell) (sym members) s.found in
         let found = has.found in
@@ -293,7 +293,7 @@ module _ (w : Wired) (source : ℕ → Source) (rank : ℕ → ℕ) (l : Library
           | inr on_clock ↦ absurd (let yes = subst (λ (n : Name). is_same_name clock_pin n ≡ false) on_clock off in let itself = same_name-itself clock_pin in let no : false ≡ true = sym yes ∙ itself in cc no)
         ] in
         let t_is : u.0 ≡ pin_of i.name data_pin =
-            s.is ∙ ap (λ (n : List ℕ). pin_of n s.pin) (one_name ∙ sym number) ∙ ap (pin_of i.name) data_is in
+        s.is ∙ ap (λ (n : List ℕ). pin_of n s.pin) (one_name ∙ sym number) ∙ ap (pin_of i.name) data_is in
         let hit = in_any (is_same_terminal (pin_of i.name data_pin)) group u.0 u.1 (subst (λ (t : Terminal). is_same_terminal (pin_of i.name data_pin) t ≡ true) (sym t_is) (terminal_itself (pin_of i.name data_pin))) in
         let no : false ≡ true = sym e ∙ hit in absurd (cc no))
 

@@ -32,19 +32,19 @@ heads_step classes heads count place class low is inside so_far = record {
       × (get_or classes (get_or (slice_set heads class place) (get_or classes i 0) 0) 0 ≡ get_or classes i 0)
   each i before = elim (cases_eq (get_or classes i 0) class) [
     | inl hit ↦
-      let many = so_far.many in
-      let new : get_or (slice_set heads class place) (get_or classes i 0) 0 ≡ place =
-          ap (λ (k : ℕ). get_or (slice_set heads class place) k 0) hit ∙ get_or-set_same heads class place 0 (omega (arith, inside, many)) in
-      (omega (arith, new, low), ap (λ (h : ℕ). get_or classes h 0) new ∙ sym is ∙ sym hit)
+        let many = so_far.many in
+        let new : get_or (slice_set heads class place) (get_or classes i 0) 0 ≡ place =
+        ap (λ (k : ℕ). get_or (slice_set heads class place) k 0) hit ∙ get_or-set_same heads class place 0 (omega (arith, inside, many)) in
+        (omega (arith, new, low), ap (λ (h : ℕ). get_or classes h 0) new ∙ sym is ∙ sym hit)
     | inr miss ↦
-      let old : get_or (slice_set heads class place) (get_or classes i 0) 0 ≡ get_or heads (get_or classes i 0) 0 = get_or-set_other heads class (get_or classes i 0) place 0 miss in
-      let earlier : i < place = elim (cases_eq i place) [
-        | inl last ↦ absurd (miss (ap (λ (j : ℕ). get_or classes j 0) last ∙ sym is))
-        | inr other ↦ omega (arith, before, other)
-      ] in
-      let r = so_far.each i earlier in
-      let below = r.0 in
-      (omega (arith, old, below), ap (λ (h : ℕ). get_or classes h 0) old ∙ r.1)
+        let old : get_or (slice_set heads class place) (get_or classes i 0) 0 ≡ get_or heads (get_or classes i 0) 0 = get_or-set_other heads class (get_or classes i 0) place 0 miss in
+        let earlier : i < place = elim (cases_eq i place) [
+          | inl last ↦ absurd (miss (ap (λ (j : ℕ). get_or classes j 0) last ∙ sym is))
+          | inr other ↦ omega (arith, before, other)
+        ] in
+        let r = so_far.each i earlier in
+        let below = r.0 in
+        (omega (arith, old, below), ap (λ (h : ℕ). get_or classes h 0) old ∙ r.1)
   ]
 
 pub heads_end : (classes heads : List ℕ) (count place : ℕ) → All (λ class. class < count) classes → length classes ≤ place → HeadsSoFar classes heads count place → AreHeads classes heads

@@ -200,7 +200,11 @@ fn join_all(
 
 /// The netlist of the name and the ports of another, with these instances and classes. Takes memory for it, and meanwhile for each
 /// terminal.
-pub(crate) fn build(alloc: Global, netlist: &Netlist, sketch: &Sketch) -> Result<Netlist, AllocError>
+pub(crate) fn build(
+    alloc: Global,
+    netlist: &Netlist,
+    sketch: &Sketch,
+) -> Result<Netlist, AllocError>
     requires { IsBuildable netlist.now sketch.now }
     ensures built { IfOk result (λ r. IsBuilt netlist.now sketch.now r) }
     ensures sound { IfOk result (λ r. IsNetlist r) }

@@ -121,11 +121,7 @@ fn unmarked(alloc: Global, ports: &[Port]) -> Result<Vec<bool>, AllocError>
 }
 
 /// A mark for each terminal in order: whether it is a sink.
-fn sink_marks(
-    alloc: Global,
-    netlist: &Netlist,
-    library: &Library,
-) -> Result<Vec<bool>, AllocError>
+fn sink_marks(alloc: Global, netlist: &Netlist, library: &Library) -> Result<Vec<bool>, AllocError>
     ensures { IfOk result (λ marks. marks.items ≡ all_marks library.now netlist.now) }
 {
     let mut marks = unmarked(alloc, netlist.ports())?;

@@ -26,12 +26,12 @@ returns-clause-built c =
     let name_is = c.in_ok-copy.ensures ∙ c.name.ensures in
     let begun_is = c.in_ok-builder.ensures ∙ begun_parts n c.in_ok-copy.field-0 c.new.result name_is ports_are in
     let terminals_are =
-        c.deref-4.ensures.value ∙ c.in_ok-terminals.ensures
-        ∙ ap (λ (ps : List Port). terminals_of ps (map instance_by c.deref-2.result.now)) c.ports-2.ensures
-        ∙ ap (λ (es : List Entry). terminals_of n.ports (map instance_by es)) c.deref-2.ensures.value in
+    c.deref-4.ensures.value ∙ c.in_ok-terminals.ensures
+    ∙ ap (λ (ps : List Port). terminals_of ps (map instance_by c.deref-2.result.now)) c.ports-2.ensures
+    ∙ ap (λ (es : List Entry). terminals_of n.ports (map instance_by es)) c.deref-2.ensures.value in
     let heads_are : AreHeads s.classes.items c.deref-6.result.now =
-        subst (λ (hs : List ℕ). AreHeads s.classes.items hs) (sym c.deref-6.ensures.value)
-        (subst (λ (cs : List ℕ). AreHeads cs c.in_ok-heads.heads.items) c.deref-3.ensures.value c.in_ok-heads.ensures) in
+    subst (λ (hs : List ℕ). AreHeads s.classes.items hs) (sym c.deref-6.ensures.value)
+    (subst (λ (cs : List ℕ). AreHeads cs c.in_ok-heads.heads.items) c.deref-3.ensures.value c.in_ok-heads.ensures) in
     if_both (λ r. IsFinished c.join_all.new.builder r) (λ r. IsNetlist r) (λ r. IsBuilt n s r) c.finish.result
     (λ r. built_by n s c.in_ok-builder.builder c.add_all.new.builder c.join_all.new.builder c.deref.result.now c.deref-4.result.now c.deref-5.result.now c.deref-6.result.now r
     c.requires begun_is c.deref.ensures.value c.in_ok-add_all.ensures terminals_are c.deref-5.ensures.value heads_are c.in_ok-join_all.ensures)
