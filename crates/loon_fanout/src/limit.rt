@@ -85,7 +85,9 @@ fn with_gates(
     netlist: &Netlist,
     repeater: Option<&Repeater>,
     wiring: Wiring,
-) -> Result<Netlist, AllocError> {
+) -> Result<Netlist, AllocError>
+    ensures { IfOk result (λ r. IsNetlist r) }
+{
     let taken = names_of(alloc, netlist.nodes())?;
     let names = free_texts(alloc, b"b", &taken, wiring.reads.len())?;
     let mut entries = Vec::new(alloc);
