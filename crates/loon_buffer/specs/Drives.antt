@@ -125,7 +125,7 @@ pub record HasItsArcs (c : Cell) : Type 0 where
 abbrev pub HaveTheirArcs : Library → Type 0
 HaveTheirArcs l = (model : List ℕ) (c : Cell) → cell_of l model ≡ Some c → IsUsable c → HasItsArcs c
 
--- after an exchange a step stands in the place of each, between the same classes
+-- after an exchange some step of the same kind leads between the same classes as each step before
 abbrev pub StepsStay : Type 0
 StepsStay = (l : Library) (n m : Netlist) → IsExchange l n m → HaveTheirArcs l → (s : Step)
     → (IsStep n l BeginsThere s → (t : Step) × IsStep m l BeginsThere t × (t.from ≡ s.from) × (t.to ≡ s.to))

@@ -15,7 +15,8 @@ pub fn exchanges_law()
     ensures table { TableIsEnough }
 {}
 
-/// What becomes of paths by an exchange: a step stands in the place of each, and the longest path takes at least as long as these.
+/// What becomes of paths by an exchange: some step of the same kind leads between the same classes as each step before, and the longest
+/// path takes at least as long as such steps in the place of a path's.
 pub fn paths_law()
     ensures steps { StepsStay }
     ensures paths { PathsStay }
