@@ -8,10 +8,11 @@ use Rattle.vlsi_base.specs.declared.name.Name.{Name}
 use Rattle.vlsi_base.specs.declared.name.Port.{Port}
 use Rattle.vlsi_base.specs.declared.name.Dir.TheVariants as dir
 use Rattle.vlsi_base.specs.Name.{is_supply}
-use Rattle.cell_model.specs.Library.{Library, cell_named}
+use Rattle.cell_model.specs.Library.{Library, cell_named, cell_of}
 use Rattle.net_core.specs.Places.{Stands, IsThere, NoneTwice}
-use Rattle.net_core.specs.Netlist.{Netlist, pin_of, HasClass}
+use Rattle.net_core.specs.Netlist.{Instance, Netlist, pin_of, HasClass}
 use Rattle.delay_sta.specs.declared.graph.TimedArc.{TimedArc}
+use Rattle.delay_sta.specs.Loads.{load}
 use Rattle.delay_sta.specs.Paths.{Step, IsStepAt, IsStep, BeginsThere, GoesThrough, IsStart, TakesTo, IsGreatest}
 
 -- the place of the cell of each model
@@ -46,6 +47,18 @@ pub record IsTimedIn (n : Netlist) (loads : ℕ → ℕ) (owner : List ℕ) (c :
 abbrev pub IsTimed : Netlist → Library → TimedArc → Type 0
 IsTimed n l x = MatchBool x.begins (IsStep n l BeginsThere (step_of x)) (IsStep n l GoesThrough (step_of x))
 
+-- an arc of the instance with its number, from and to the pins at its places among the instance's
+pub record IsOwned (n : Netlist) (l : Library) (x : TimedArc) : Type 0 where
+  pub owner : Instance
+  pub stands : Stands n.instances x.owner owner
+  pub cell : Cell
+  pub found : cell_of l owner.model ≡ Some cell
+  pub arc : Arc
+  pub has : IsThere cell.arcs arc
+  pub input : Stands owner.pins x.input arc.from
+  pub output : Stands owner.pins x.output arc.to
+  pub is : IsTimedAt n (load n l) owner.name cell arc x
+
 -- so much less than 2 ^ 128 that fewer than 2 ^ 32 of them can be added
 abbrev pub IsShort : TimedArc → Type 0
 IsShort x = x.delay < 2 ^ 96
@@ -68,6 +81,22 @@ group_of groups class = slice_index_or (map (λ g. g.items) groups) class []
 -- arcs by the class to which they lead
 abbrev pub AreGrouped : List TimedArc → List (Vec TimedArc) → Type 0
 AreGrouped arcs groups = (x : TimedArc) (class : ℕ) → class < length groups → IsThere (group_of groups class) x ↔ (IsThere arcs x × (x.to ≡ class))
+
+-- all steps of a netlist by the class to which they lead, each with its instance
+pub record AreArcsOf (n : Netlist) (l : Library) (arcs : List (Vec TimedArc)) : Type 0 where
+  pub many : length arcs ≡ n.count
+  pub owned : (class : ℕ) (x : TimedArc) → IsThere (group_of arcs class) x → IsOwned n l x × (x.to ≡ class) × IsShort x
+  pub complete : (x : TimedArc) → IsOwned n l x → IsThere (group_of arcs x.to) x
+
+-- the numbers of a class
+abbrev pub numbers_of : List (Vec ℕ) → ℕ → List ℕ
+numbers_of lists class = slice_index_or (map (λ v. v.items) lists) class []
+
+-- the class to which each arc leads is listed at the class from which it comes
+pub record AreReached (arcs : List (Vec TimedArc)) (reached : List (Vec ℕ)) : Type 0 where
+  pub many : length reached ≡ length arcs
+  pub inside : (from to : ℕ) → IsThere (numbers_of reached from) to → to < length arcs
+  pub each : (class : ℕ) (x : TimedArc) → IsThere (group_of arcs class) x → IsThere (numbers_of reached x.from) class
 
 -- an arc of the graph, with which paths begin or go on
 pub record IsIn (groups : List (Vec TimedArc)) (begins : Bool) (s : Step) : Type 0 where
@@ -108,6 +137,16 @@ pub record IsLatest (initial : Option ℕ) (arrivals : List (Option ℕ)) (arcs 
   pub is : (latest ≡ initial) ⊎ ((x : TimedArc) × IsThere arcs x × (latest ≡ arrival_by arrivals x))
   pub start : IsBy initial latest
   pub each : (x : TimedArc) → IsThere arcs x → IsBy (arrival_by arrivals x) latest
+
+-- a class arrives when the latest of its start and its arcs does
+abbrev pub IsInTime : List (Vec TimedArc) → List (Option ℕ) → List (Option ℕ) → ℕ → Type 0
+IsInTime arcs starts arrivals class =
+    IsLatest (slice_index_or starts class None) arrivals (group_of arcs class) (slice_index_or arrivals class None)
+
+-- so does each class that isn't stale
+abbrev pub AreInTime : List (Vec TimedArc) → List (Option ℕ) → List (Option ℕ) → List Bool → Type 0
+AreInTime arcs starts arrivals stale =
+    (class : ℕ) → class < length arcs → slice_index_or stale class false ≡ false → IsInTime arcs starts arrivals class
 
 -- where paths start, there they arrive at 0
 abbrev pub StartsIn : List (Option ℕ) → ℕ → Type 0

@@ -3,3 +3,4 @@ pub mod Loads
 pub mod Paths
 pub mod Timed
 pub mod Graph
+pub mod Exchanged

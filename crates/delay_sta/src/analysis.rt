@@ -10,7 +10,7 @@ ghost use Rattle.delay_sta.specs.Graph.{AreFound, AreStartsOf, IsStartPort, data
 ghost use Rattle.delay_sta.specs.Timed.{CanBeTimed, IsPathOrder, AreDelaysOf};
 
 use crate::arrivals::Delays;
-use crate::graph::{class_of, grouped, timed_arcs};
+use crate::graph::{grouped, pin_place, timed_arcs, TimedArc};
 use crate::loads::{cell_places, loads};
 use crate::settle::settle;
 use cell_checks::Library;
@@ -68,23 +68,12 @@ fn output_classes(alloc: Global, ports: &[Port], classes: &[u32]) -> Result<Vec<
     Ok(ends)
 }
 
-/// Puts the class of a flip-flop's data pin behind the others.
-fn push_data_class(
-    alloc: Global,
-    ends: &mut Vec<u32>,
-    netlist: &Netlist,
-    owner: &Text,
-    cell: &Cell,
-) -> Result<(), AllocError>
-    requires { IsNetlist netlist.now }
-    ensures { OnOk result ((class : ℕ) → IsThere ends.new.items class ↔ (IsThere ends.old.items class ⊎ IsDataClass netlist.now owner.now cell.now class)) }
+/// The class of a flip-flop's data pin.
+fn data_class(netlist: &Netlist, owner: usize, cell: &Cell) -> Option<u32>
 {
-    if let Some(data) = data_pin(cell) {
-        if let Some(class) = class_of(alloc, netlist, owner, data)? {
-            ends.push(class)?;
-        }
-    }
-    Ok(())
+    let node = &netlist.nodes()[owner];
+    let place = pin_place(node.pins.as_slice(), data_pin(cell)?)?;
+    Some(netlist.classes()[node.first as usize + place])
 }
 
 /// The classes at which paths end.
@@ -99,16 +88,23 @@ fn ends(
     ensures { IfOk result (λ ends. (class : ℕ) → IsThere ends.items class ↔ IsEnd netlist.now library.now class) }
 {
     let mut ends = output_classes(alloc, netlist.ports(), netlist.classes())?;
-    for node in netlist.nodes() {
+    for owner in 0..netlist.nodes().len() {
+        let node = &netlist.nodes()[owner];
         if let Some(cell) = library.cells().get(places[node.model]) {
-            push_data_class(alloc, &mut ends, netlist, &node.name, cell)?;
+            if let Some(class) = data_class(netlist, owner, cell) {
+                ends.push(class)?;
+            }
         }
     }
     Ok(ends)
 }
 
 /// The classes of a netlist, each behind those from which paths go on to it.
-fn path_order(alloc: Global, netlist: &Netlist, library: &Library) -> Result<Vec<u32>, AllocError>
+fn path_order(
+    alloc: Global,
+    netlist: &Netlist,
+    library: &Library,
+) -> Result<Vec<u32>, AllocError>
     requires checked { IsChecked false library.now }
     requires netlist { CanBeTimed library.now netlist.now }
     ensures { IfOk result (λ order. IsPathOrder netlist.now library.now order.items) }
@@ -117,29 +113,24 @@ fn path_order(alloc: Global, netlist: &Netlist, library: &Library) -> Result<Vec
     class_order(alloc, netlist, &table)
 }
 
-/// The greatest arrivals of classes.
-fn arrivals(
-    alloc: Global,
-    netlist: &Netlist,
-    library: &Library,
-    places: &[usize],
-    loads: &[u64],
-    order: &[u32],
-) -> Result<Vec<Option<u128>>, AllocError>
-    requires sound { IsNetlist netlist.now }
-    requires cells { AreFound library.now.cells netlist.now.models places.now }
-    requires each { length loads.now ≡ netlist.now.count }
-    requires loads { (class : ℕ) → class < netlist.now.count → slice_index loads.now class ≡ load netlist.now library.now class }
-    requires order { IsPathOrder netlist.now library.now order.now }
-    ensures many { IfOk result (λ arrivals. length arrivals.items ≡ netlist.now.count) }
-    ensures arrivals { IfOk result (λ arrivals. (class : ℕ) → class < netlist.now.count
-        → IsGreatest (Arrives netlist.now library.now class) (slice_index_or arrivals.items class None)) }
-{
-    let arcs = timed_arcs(alloc, netlist, library, places, loads)?;
-    let groups = grouped(alloc, netlist.count(), &arcs)?;
-    let mut arrivals = starts(alloc, netlist)?;
-    settle(&mut arrivals, order, &groups);
-    Ok(arrivals)
+/// No numbers for each of so many classes.
+fn no_numbers(alloc: Global, count: usize) -> Result<Vec<Vec<u32>>, AllocError> {
+    let mut groups = Vec::new(alloc);
+    for _ in 0..count {
+        groups.push(Vec::new(alloc))?;
+    }
+    Ok(groups)
+}
+
+/// The classes to which arcs lead from each class.
+fn reached(alloc: Global, arcs: &[Vec<TimedArc>], count: usize) -> Result<Vec<Vec<u32>>, AllocError> {
+    let mut reached = no_numbers(alloc, count)?;
+    for group in arcs {
+        for arc in group {
+            reached[arc.from as usize].push(arc.to)?;
+        }
+    }
+    Ok(reached)
 }
 
 /// When paths arrive in the classes of a netlist of usable cells that has passed its checks. A path starts at an input port that is
@@ -155,12 +146,23 @@ pub fn delays(alloc: Global, netlist: &Netlist, library: &Library) -> Result<Del
     let places = cell_places(alloc, netlist.models(), library.cells())?;
     let order = path_order(alloc, netlist, library)?;
     let loads = loads(alloc, netlist, library, &places)?;
-    let arrivals = arrivals(alloc, netlist, library, &places, &loads, &order)?;
+    let arcs = timed_arcs(alloc, netlist, library, &places, &loads)?;
+    let arcs = grouped(alloc, netlist.count(), &arcs)?;
+    let starts = starts(alloc, netlist)?;
+    let reached = reached(alloc, &arcs, netlist.count() as usize)?;
     let ends = ends(alloc, netlist, library, &places)?;
-    Ok(Delays {
-        arrivals,
+    let mut made = Delays {
+        arrivals: starts.clone()?,
         loads,
         ends,
         order,
-    })
+        starts,
+        arcs,
+        reached,
+        places,
+        stale: vec![in alloc; true; netlist.count() as usize]?,
+        marks: vec![in alloc; false; netlist.count() as usize]?,
+    };
+    settle(&mut made.arrivals, &mut made.stale, &made.starts, &made.order, (&made.arcs, &made.reached));
+    Ok(made)
 }

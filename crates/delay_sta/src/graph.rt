@@ -25,22 +25,23 @@ pub struct TimedArc {
     pub delay: u128,
     /// Whether paths begin with it, as at a flip-flop.
     pub begins: bool,
+    /// The number of its instance.
+    pub owner: u32,
+    /// The place of the pin at which it begins among the pins of its instance.
+    pub input: usize,
+    /// The place of the pin at which it ends.
+    pub output: usize,
 }
 
-/// The class of an instance's pin, where it has one of this name.
-pub fn class_of(
-    alloc: Global,
-    netlist: &Netlist,
-    owner: &Text,
-    pin: &Name,
-) -> Result<Option<u32>, AllocError>
-    ensures { IfOk result (λ class. IsClassOf netlist.now (pin_of owner.now pin.now) class) }
+/// The place of a name among names.
+pub fn pin_place(pins: &[Name], name: &Name) -> Option<usize>
 {
-    let terminal = Terminal {
-        instance: Some(owner.copy(alloc)?),
-        pin: pin.copy(alloc)?,
-    };
-    Ok(netlist.class(&terminal))
+    for place in 0..pins.len() {
+        if pins[place].is_same(name) {
+            return Some(place);
+        }
+    }
+    None
 }
 
 /// Whether paths begin with an arc from a pin or go on with it; none where they do neither.
@@ -49,7 +50,13 @@ fn way(function: &Function, pin: &Name) -> Option<bool>
 {
     match function {
         Function::Gate(_) => Some(false),
-        Function::FlipFlop { clock, .. } => { if pin.is_same(clock) { Some(true) } else { None } }
+        Function::FlipFlop { clock, .. } => {
+            if pin.is_same(clock) {
+                Some(true)
+            } else {
+                None
+            }
+        }
         Function::Other(_) => None,
         Function::Opaque => None,
     }
@@ -67,57 +74,46 @@ fn has_pin(pins: &[Pin], dir: Dir, name: &Name) -> bool
     false
 }
 
-/// An arc of an instance's cell, where its pins are as it says.
+/// An arc of the cell of an instance, by its number, where its pins are as it says.
 fn timed_arc(
-    alloc: Global,
     netlist: &Netlist,
-    owner: &Text,
+    owner: u32,
     cell: &Cell,
     arc: &Arc,
     loads: &[u64],
-) -> Result<Option<TimedArc>, AllocError>
-    requires sound { IsNetlist netlist.now }
-    requires each { length loads.now ≡ netlist.now.count }
-    ensures short { IfOk result (λ found. IfSome found IsShort) }
-    ensures found { IfOk result (IsFoundAs netlist.now (slice_index loads.now) owner.now cell.now arc.now) }
+) -> Option<TimedArc>
 {
-    let Some(begins) = way(cell.function.as_enum(), &arc.from) else {
-        return Ok(None);
-    };
+    let node = &netlist.nodes()[owner as usize];
+    let begins = way(cell.function.as_enum(), &arc.from)?;
     let pins = cell.pins.as_slice();
     if !has_pin(pins, Dir::In, &arc.from) || !has_pin(pins, Dir::Out, &arc.to) {
-        return Ok(None);
+        return None;
     }
-    let Some(from) = class_of(alloc, netlist, owner, &arc.from)? else {
-        return Ok(None);
-    };
-    let Some(to) = class_of(alloc, netlist, owner, &arc.to)? else {
-        return Ok(None);
-    };
-    let delay = arc_delay(arc, loads[to as usize]);
-    Ok(Some(TimedArc {
-        from,
+    let input = pin_place(node.pins.as_slice(), &arc.from)?;
+    let output = pin_place(node.pins.as_slice(), &arc.to)?;
+    let to = netlist.classes()[node.first as usize + output];
+    Some(TimedArc {
+        from: netlist.classes()[node.first as usize + input],
         to,
-        delay,
+        delay: arc_delay(arc, loads[to as usize]),
         begins,
-    }))
+        owner,
+        input,
+        output,
+    })
 }
 
 /// Puts the arcs of an instance behind the others.
 fn push_arcs(
-    alloc: Global,
     arcs: &mut Vec<TimedArc>,
     netlist: &Netlist,
-    owner: &Text,
+    owner: u32,
     cell: &Cell,
     loads: &[u64],
 ) -> Result<(), AllocError>
-    requires sound { IsNetlist netlist.now }
-    requires each { length loads.now ≡ netlist.now.count }
-    ensures { OnOk result (AddsArcs netlist.now (slice_index loads.now) owner.now cell.now arcs.old.items arcs.new.items) }
 {
     for arc in cell.arcs.as_slice() {
-        if let Some(timed) = timed_arc(alloc, netlist, owner, cell, arc, loads)? {
+        if let Some(timed) = timed_arc(netlist, owner, cell, arc, loads) {
             arcs.push(timed)?;
         }
     }
@@ -132,16 +128,12 @@ pub fn timed_arcs(
     places: &[usize],
     loads: &[u64],
 ) -> Result<Vec<TimedArc>, AllocError>
-    requires sound { IsNetlist netlist.now }
-    requires cells { AreFound library.now.cells netlist.now.models places.now }
-    requires each { length loads.now ≡ netlist.now.count }
-    requires loads { (class : ℕ) → class < netlist.now.count → slice_index loads.now class ≡ load netlist.now library.now class }
-    ensures { IfOk result (λ arcs. AreTimedArcs netlist.now library.now arcs.items) }
 {
     let mut arcs = Vec::new(alloc);
-    for node in netlist.nodes() {
+    for owner in 0..netlist.nodes().len() {
+        let node = &netlist.nodes()[owner];
         if let Some(cell) = library.cells().get(places[node.model]) {
-            push_arcs(alloc, &mut arcs, netlist, &node.name, cell, loads)?;
+            push_arcs(&mut arcs, netlist, owner as u32, cell, loads)?;
         }
     }
     Ok(arcs)

@@ -4,9 +4,11 @@
 mod analysis;
 mod arc;
 mod arrivals;
+mod exchange;
 mod graph;
 mod loads;
 mod settle;
+mod trace;
 
 pub use analysis::delays;
 pub use arrivals::{Delays, worst};

@@ -46,7 +46,7 @@ fn is_input_named(pin: &Pin, name: &Name) -> bool
 }
 
 /// The capacitance of the input pin of this name.
-fn input_capacitance(pins: &[Pin], name: &Name) -> u32
+pub(crate) fn input_capacitance(pins: &[Pin], name: &Name) -> u32
     ensures { result ≡ input_capacitance pins.now name.now }
 {
     for pin in pins {

@@ -6,7 +6,7 @@ ghost use Rattle.delay_sta.specs.Graph.{IsShort, IsGraph, later_by, arrival_by, 
 use crate::graph::TimedArc;
 
 /// When a path arrives by an arc, where classes have these arrivals.
-fn arrival_by(arrivals: &[Option<u128>], arc: &TimedArc) -> Option<u128>
+pub(crate) fn arrival_by(arrivals: &[Option<u128>], arc: &TimedArc) -> Option<u128>
     requires inside { arc.now.from < length arrivals.now }
     requires few { IfSome (slice_index_or arrivals.now arc.now.from None) (λ t. t + arc.now.delay < 2 ^ 128) }
     ensures { result ≡ arrival_by arrivals.now arc.now }
@@ -46,14 +46,46 @@ fn latest(start: Option<u128>, arrivals: &[Option<u128>], arcs: &[TimedArc]) -> 
     latest
 }
 
-/// Goes through classes in their order: from the arrivals of those where paths start to the latest arrivals of all. Takes no memory.
-pub fn settle(arrivals: &mut [Option<u128>], order: &[u32], groups: &[Vec<TimedArc>])
-    requires graph { IsGraph groups.now order.now (length arrivals.old) }
-    requires starts { AreStarts arrivals.old }
-    ensures { AreSettled groups.now arrivals.old arrivals.new }
+/// Marks classes as stale.
+fn mark(stale: &mut [bool], classes: &[u32])
+    requires { All (λ class. class < length stale.old) classes.now }
+    ensures many { length stale.new ≡ length stale.old }
+    ensures marked { (class : ℕ) → IsThere classes.now class → slice_index_or stale.new class false ≡ true }
+    ensures others { (class : ℕ) → (IsThere classes.now class → ⊥) → slice_index_or stale.new class false ≡ slice_index_or stale.old class false }
 {
+    for class in classes {
+        stale[*class as usize] = true;
+    }
+}
+
+/// Goes through classes in their order and takes anew the arrivals of those that are stale, and of each that is reached from one whose
+/// arrival changes. Takes no memory.
+pub(crate) fn settle(
+    arrivals: &mut [Option<u128>],
+    stale: &mut [bool],
+    starts: &[Option<u128>],
+    order: &[u32],
+    graph: (&[Vec<TimedArc>], &[Vec<u32>]),
+)
+    requires graph { IsGraph graph.0.now order.now (length arrivals.old) }
+    requires reached { AreReached graph.0.now graph.1.now }
+    requires starts { AreStarts starts.now }
+    requires many { (length starts.now ≡ length arrivals.old) × (length stale.old ≡ length arrivals.old) }
+    requires rest { AreInTime graph.0.now starts.now arrivals.old stale.old }
+    ensures many { (length arrivals.new ≡ length arrivals.old) × (length stale.new ≡ length stale.old) }
+    ensures settled { AreSettled graph.0.now starts.now arrivals.new }
+    ensures fresh { (class : ℕ) → slice_index_or stale.new class false ≡ false }
+{
+    let (arcs, reached) = graph;
     for class in order {
         let class = *class as usize;
-        arrivals[class] = latest(arrivals[class], arrivals, &groups[class]);
+        if stale[class] {
+            stale[class] = false;
+            let arrival = latest(starts[class], arrivals, &arcs[class]);
+            if arrival != arrivals[class] {
+                arrivals[class] = arrival;
+                mark(stale, &reached[class]);
+            }
+        }
     }
 }

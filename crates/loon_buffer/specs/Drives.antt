@@ -12,7 +12,8 @@ use Rattle.net_core.specs.Places.{Stands, IsThere}
 use Rattle.net_core.specs.Netlist.{Instance, Netlist, pin_of, HasClass, SetsModel}
 use Rattle.net_theory.specs.Exchanges.{IsDrive}
 use Rattle.delay_sta.specs.Timed.{CanBeTimed}
-use Rattle.delay_sta.specs.Paths.{Step, TakesTo, HasPin, BeginsThere, GoesThrough, IsStep, IsStart, IsEnd, IsWorst}
+use Rattle.delay_sta.specs.Paths.{Step, TakesTo, BeginsThere, GoesThrough, IsStep, IsStart, IsEnd, IsWorst}
+use Rattle.delay_sta.specs.Exchanged.{HaveTheirArcs}
 
 -- two vectors have the same bits from this place up to the sixth
 abbrev pub Agrees : List Bool → List Bool → ℕ → Type 0
@@ -114,16 +115,6 @@ OneExchangeMore = (l : Library) (old mid new : Netlist) → OnlyExchanges l old 
 -- after an exchange a netlist can be timed, as before
 abbrev pub ExchangesCanBeTimed : Type 0
 ExchangesCanBeTimed = (l : Library) (n m : Netlist) → CanBeTimed l n → IsExchange l n m → CanBeTimed l m
-
--- a cell has one arc from each input pin at which paths begin or from which they go on to each output pin
-pub record HasItsArcs (c : Cell) : Type 0 where
-  pub one : (from to : Name) → BeginsThere c.function from ⊎ GoesThrough c.function from → HasPin c.pins dir.In from → HasPin c.pins dir.Out to
-      → (k : ℕ) × (a : Arc) × Stands c.arcs k a × (a.from ≡ from) × (a.to ≡ to)
-  pub once : (j k : ℕ) (a b : Arc) → Stands c.arcs j a → Stands c.arcs k b → a.from ≡ b.from → a.to ≡ b.to → j ≡ k
-
--- so have all usable cells of a library
-abbrev pub HaveTheirArcs : Library → Type 0
-HaveTheirArcs l = (model : List ℕ) (c : Cell) → cell_of l model ≡ Some c → IsUsable c → HasItsArcs c
 
 -- after an exchange some step of the same kind leads between the same classes as each step before
 abbrev pub StepsStay : Type 0

@@ -1,0 +1,10 @@
+pub mod Marking
+pub mod Loading
+pub mod Cells
+pub mod Putting
+pub mod Terminals
+pub mod Adding
+pub mod Tying
+pub mod Builds
+pub mod Kept
+pub mod Splitting

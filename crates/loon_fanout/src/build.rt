@@ -1,0 +1,219 @@
+// The netlist of its parts.
+ghost use Rattle.std.specs.Prelude.{◌≡◌, ◌++◌, ◌<◌, map, length, IfOk, OnOk};
+ghost use Rattle.std.specs.List.{All};
+ghost use Rattle.machine_meaning.specs.Machine.{names_of};
+ghost use Rattle.net_core.specs.declared.error.BuildError.TheVariants.{Memory};
+ghost use Rattle.net_core.specs.Netlist.{IsNetlist, port, pin_of, terminals_of};
+ghost use Rattle.net_core.specs.Frame.{instance_of};
+ghost use Rattle.net_core.specs.Joins.{draft_terminals};
+ghost use Rattle.loon_fanout.specs.Building.{instance_by, gate_by, with_instances, with_joins, IsAddable, AreHeads, joins_of, IsBuildable, IsBuilt};
+
+use crate::repeater::Repeater;
+use net_core::{BuildError, Builder, Netlist, Node};
+use std::alloc::{AllocError, Global};
+use vlsi_base::{Listed, Name, Names, Port, Terminal, Text};
+
+/// An instance that is put into a netlist: its name, its model, and its pins in the order of names.
+#[derive(Drop)]
+pub(crate) struct Entry {
+    name: Text,
+    model: Text,
+    pins: Names,
+}
+
+/// The instances of a netlist, the class of each of its terminals in order, and how many classes there are.
+#[derive(Drop)]
+pub(crate) struct Sketch {
+    pub(crate) entries: Vec<Entry>,
+    pub(crate) classes: Vec<usize>,
+    pub(crate) count: usize,
+}
+
+/// What is refused for memory alone.
+fn only_memory(error: BuildError) -> AllocError
+    requires { error ≡ Memory }
+{
+    match error {
+        BuildError::Memory => AllocError,
+        BuildError::Twice => unreachable!(),
+        BuildError::Unknown => unreachable!(),
+    }
+}
+
+fn copied_names(alloc: Global, names: &[Name]) -> Result<Vec<Name>, AllocError>
+    ensures { IfOk result (λ copies. copies.items ≡ names.now) }
+{
+    let mut copies = Vec::new(alloc);
+    for name in names {
+        copies.push(name.copy(alloc)?)?;
+    }
+    Ok(copies)
+}
+
+fn copied_ports(alloc: Global, ports: &[Port]) -> Result<Vec<Port>, AllocError>
+    ensures { IfOk result (λ copies. copies.items ≡ ports.now) }
+{
+    let mut copies = Vec::new(alloc);
+    for port in ports {
+        copies.push(Port {
+            name: port.name.copy(alloc)?,
+            dir: port.dir,
+        })?;
+    }
+    Ok(copies)
+}
+
+fn make_entry(alloc: Global, name: &Text, model: &Text, pins: &[Name]) -> Result<Entry, AllocError>
+    ensures { IfOk result (λ e. e ≡ record { name = name.now; model = model.now; pins = pins.now }) }
+{
+    Ok(Entry {
+        name: name.copy(alloc)?,
+        model: model.copy(alloc)?,
+        pins: Names::new(copied_names(alloc, pins)?),
+    })
+}
+
+/// Puts the instances of a netlist behind the others.
+pub(crate) fn push_nodes(
+    alloc: Global,
+    entries: &mut Vec<Entry>,
+    models: &[Text],
+    nodes: &[Node],
+) -> Result<(), AllocError>
+    requires { All (λ i. i.model < length models.now) nodes.now }
+    ensures { OnOk result (map instance_by entries.new.items ≡ map instance_by entries.old.items ++ map (instance_of models.now) nodes.now) }
+{
+    for node in nodes {
+        let pins = node.pins.as_slice();
+        entries.push(make_entry(alloc, &node.name, &models[node.model], pins)?)?;
+    }
+    Ok(())
+}
+
+/// Puts gates of these names behind the others.
+pub(crate) fn push_gates(
+    alloc: Global,
+    entries: &mut Vec<Entry>,
+    repeater: &Repeater,
+    names: &[Text],
+) -> Result<(), AllocError>
+    ensures { OnOk result (map instance_by entries.new.items ≡ map instance_by entries.old.items ++ map (gate_by repeater.now) names.now) }
+{
+    for name in names {
+        let pins = repeater.pins.as_slice();
+        entries.push(make_entry(alloc, name, &repeater.model, pins)?)?;
+    }
+    Ok(())
+}
+
+fn port_terminals(alloc: Global, ports: &[Port]) -> Result<Vec<Terminal>, AllocError>
+    ensures { IfOk result (λ terminals. terminals.items ≡ map (λ p. port p.name) ports.now) }
+{
+    let mut terminals = Vec::new(alloc);
+    for port in ports {
+        terminals.push(Terminal {
+            instance: None,
+            pin: port.name.copy(alloc)?,
+        })?;
+    }
+    Ok(terminals)
+}
+
+fn push_pins(
+    alloc: Global,
+    terminals: &mut Vec<Terminal>,
+    owner: &Text,
+    pins: &[Name],
+) -> Result<(), AllocError>
+    ensures { OnOk result (terminals.new.items ≡ terminals.old.items ++ map (pin_of owner.now) pins.now) }
+{
+    for pin in pins {
+        terminals.push(Terminal {
+            instance: Some(owner.copy(alloc)?),
+            pin: pin.copy(alloc)?,
+        })?;
+    }
+    Ok(())
+}
+
+/// The terminals of these ports and instances, in order.
+fn all_terminals(
+    alloc: Global,
+    ports: &[Port],
+    entries: &[Entry],
+) -> Result<Vec<Terminal>, AllocError>
+    ensures { IfOk result (λ terminals. terminals.items ≡ terminals_of ports.now (map instance_by entries.now)) }
+{
+    let mut terminals = port_terminals(alloc, ports)?;
+    for entry in entries {
+        push_pins(alloc, &mut terminals, &entry.name, entry.pins.as_slice())?;
+    }
+    Ok(terminals)
+}
+
+fn add_all(alloc: Global, builder: &mut Builder, entries: &[Entry]) -> Result<(), AllocError>
+    requires { IsAddable builder.now entries.now }
+    ensures { OnOk result (builder.new ≡ with_instances builder.old (map instance_by entries.now)) }
+{
+    for entry in entries {
+        match builder.add(alloc, &entry.name, &entry.model, &entry.pins) {
+            Ok(_) => {}
+            Err(error) => return Err(only_memory(error)),
+        }
+    }
+    Ok(())
+}
+
+/// For each class the place of a terminal in it.
+fn heads(alloc: Global, classes: &[usize], count: usize) -> Result<Vec<usize>, AllocError>
+    requires { All (λ class. class < count) classes.now }
+    ensures { IfOk result (λ heads. AreHeads classes.now heads.items) }
+{
+    let mut heads = vec![in alloc; 0; count]?;
+    for place in 0..classes.len() {
+        heads[classes[place]] = place;
+    }
+    Ok(heads)
+}
+
+/// Joins each terminal to the head of its class.
+fn join_all(
+    builder: &mut Builder,
+    terminals: &[Terminal],
+    classes: &[usize],
+    heads: &[usize],
+) -> Result<(), AllocError>
+    requires terminals { terminals.now ≡ draft_terminals builder.now }
+    requires each { length classes.now ≡ length terminals.now }
+    requires heads { AreHeads classes.now heads.now }
+    ensures { OnOk result (builder.new ≡ with_joins builder.old (joins_of terminals.now classes.now heads.now)) }
+{
+    for place in 0..terminals.len() {
+        let head = heads[classes[place]];
+        match builder.join(&terminals[place], &terminals[head]) {
+            Ok(()) => {}
+            Err(error) => return Err(only_memory(error)),
+        }
+    }
+    Ok(())
+}
+
+/// The netlist of the name and the ports of another, with these instances and classes. Takes memory for it, and meanwhile for each
+/// terminal.
+pub(crate) fn build(
+    alloc: Global,
+    netlist: &Netlist,
+    sketch: &Sketch,
+) -> Result<Netlist, AllocError>
+    requires { IsBuildable netlist.now sketch.now }
+    ensures built { IfOk result (λ r. IsBuilt netlist.now sketch.now r) }
+    ensures sound { IfOk result (λ r. IsNetlist r) }
+{
+    let ports = copied_ports(alloc, netlist.ports())?;
+    let mut builder = Builder::begin(alloc, netlist.name().copy(alloc)?, Listed::new(ports))?;
+    add_all(alloc, &mut builder, &sketch.entries)?;
+    let terminals = all_terminals(alloc, netlist.ports(), &sketch.entries)?;
+    let heads = heads(alloc, &sketch.classes, sketch.count)?;
+    join_all(&mut builder, &terminals, &sketch.classes, &heads)?;
+    builder.finish(alloc)
+}

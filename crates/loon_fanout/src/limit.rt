@@ -1,0 +1,150 @@
+// Nets with many sinks put behind buffers.
+ghost use Rattle.std.specs.Prelude.{◌≡◌, ◌≤◌, ◌<◌, ◌↔◌, map, length, IsTrue, IfOk, OnOk, IfErr};
+ghost use Rattle.vlsi_base.specs.Names.{scalar};
+ghost use Rattle.net_core.specs.Netlist.{IsNetlist, port, terminals, HasClass};
+ghost use Rattle.net_core.specs.Places.{IsThere};
+ghost use Rattle.loon_fanout.specs.Repeaters.{NoneRepeats};
+ghost use Rattle.loon_fanout.specs.Limited.{IsCrowded, IsBuffered, HasFanout, IsOfCells, HasRoomForGates, StaysRight, IsBufferRefusal};
+ghost use Rattle.loon_fanout.specs.Stages.{HasLongLoad, IsStart};
+
+use crate::BufferError;
+use crate::build::{Sketch, build, push_gates, push_nodes};
+use crate::loads::loads;
+use crate::repeater::{Repeater, make_repeater};
+use crate::wiring::Wiring;
+use cell_checks::Library;
+use free_names::free_texts;
+use net_core::{Netlist, Node};
+use std::alloc::{AllocError, Global};
+use vlsi_base::{Name, Terminal, Text};
+
+/// The class of a scalar port.
+fn class_of_port(alloc: Global, netlist: &Netlist, text: &[u8]) -> Result<usize, AllocError>
+    requires { IsThere (terminals netlist.now) (port (scalar text.now)) }
+    ensures { IfOk result (λ k. HasClass netlist.now (port (scalar text.now)) k) }
+{
+    let port = Terminal {
+        instance: None,
+        pin: Name::scalar(Text::from_bytes(alloc, text)?),
+    };
+    match netlist.class(&port) {
+        Some(class) => Ok(class as usize),
+        None => unreachable!(),
+    }
+}
+
+fn widened(alloc: Global, classes: &[u32]) -> Result<Vec<usize>, AllocError>
+    ensures { IfOk result (λ wide. wide.items ≡ classes.now) }
+{
+    let mut wide = Vec::new(alloc);
+    for class in classes {
+        wide.push(*class as usize)?;
+    }
+    Ok(wide)
+}
+
+/// A netlist's classes, with no gates put in.
+fn wiring_of(alloc: Global, netlist: &Netlist, library: &Library) -> Result<Wiring, AllocError>
+    requires { IsOfCells netlist.now library.now }
+    ensures { IfOk result (λ v. IsStart netlist.now v) }
+{
+    Ok(Wiring {
+        classes: widened(alloc, netlist.classes())?,
+        first: netlist.count(),
+        high: class_of_port(alloc, netlist, b"vdd")?,
+        low: class_of_port(alloc, netlist, b"vss")?,
+        reads: Vec::new(alloc),
+    })
+}
+
+fn names_of(alloc: Global, nodes: &[Node]) -> Result<Vec<Text>, AllocError>
+    ensures { IfOk result (λ names. names.items ≡ map (λ i. i.name) nodes.now) }
+{
+    let mut names = Vec::new(alloc);
+    for node in nodes {
+        names.push(node.name.copy(alloc)?)?;
+    }
+    Ok(names)
+}
+
+/// Whether a class has more sinks than that.
+fn is_crowded(loads: &[Vec<usize>], limit: usize) -> bool
+    ensures { IsTrue result ↔ HasLongLoad limit loads.now }
+{
+    for sinks in loads {
+        if sinks.len() > limit {
+            return true;
+        }
+    }
+    false
+}
+
+/// The netlist of these classes, with gates behind its instances for those that were put in.
+fn with_gates(
+    alloc: Global,
+    netlist: &Netlist,
+    repeater: Option<&Repeater>,
+    wiring: Wiring,
+) -> Result<Netlist, AllocError>
+    ensures { IfOk result (λ r. IsNetlist r) }
+{
+    let taken = names_of(alloc, netlist.nodes())?;
+    let names = free_texts(alloc, b"b", &taken, wiring.reads.len())?;
+    let mut entries = Vec::new(alloc);
+    push_nodes(alloc, &mut entries, netlist.models(), netlist.nodes())?;
+    if let Some(repeater) = repeater {
+        push_gates(alloc, &mut entries, repeater, &names)?;
+    }
+    let count = wiring.count();
+    let Wiring { classes, .. } = wiring;
+    let sketch = Sketch {
+        entries,
+        classes,
+        count,
+    };
+    build(alloc, netlist, &sketch)
+}
+
+/// Puts buffers into a netlist until no net has more than `fanout` sinks; a netlist in which none has stays as it is.
+///
+/// The sinks of a net are the input pins of instances in its class, other than clock pins, vdd and vss. While a net has too many,
+/// its sinks in their order (instances in order, pins by name) are cut into groups of `fanout`, the last perhaps smaller, and each
+/// group is put behind a buffer of its own: the first usable cell of the library whose function is its input, or where there is
+/// none two of the first inverter in a row. Buffers stand behind the other instances and are called b0, b1 and so on, without the
+/// names that instances have. Nets are taken in the order of their classes.
+///
+/// It is refused by `NoBuffer` exactly where a net has too many sinks and the library has neither a buffer nor an inverter. The
+/// netlist must be of usable cells, with ports vdd and vss, and with all gates it must have fewer than 2^32 pins. Takes memory for
+/// the netlist and for each terminal; time for each terminal with the logarithm of their number, and for each instance once for
+/// each cell of the library.
+pub fn limit_fanout(
+    alloc: Global,
+    netlist: &Netlist,
+    library: &Library,
+    fanout: u32,
+) -> Result<Netlist, BufferError>
+    requires size { 2 ≤ fanout }
+    requires cells { IsOfCells netlist.now library.now }
+    requires room { HasRoomForGates netlist.now }
+    ensures buffered { IfOk result (λ r. IsBuffered netlist.now library.now fanout r) }
+    ensures fanout { IfOk result (λ r. HasFanout library.now fanout r) }
+    ensures right { IfOk result (λ r. StaysRight netlist.now library.now r) }
+    ensures cells { IfOk result (λ r. IsOfCells r library.now) }
+    ensures sound { IfOk result (λ r. IsNetlist r) }
+    ensures covered { OnOk result (IsCrowded library.now fanout netlist.now → NoneRepeats library.now.cells → ⊥) }
+    ensures refused { IfErr result (λ e. IsBufferRefusal netlist.now library.now fanout e) }
+{
+    let loads = loads(alloc, netlist, library)?;
+    let mut wiring = wiring_of(alloc, netlist, library)?;
+    let limit = fanout as usize;
+    if !is_crowded(&loads, limit) {
+        return Ok(with_gates(alloc, netlist, None, wiring)?);
+    }
+    match make_repeater(alloc, library.cells())? {
+        Some(found) => {
+            wiring.limit_all(alloc, &found, &loads, limit)?;
+            Ok(with_gates(alloc, netlist, Some(&found), wiring)?)
+        }
+        None => Err(BufferError::NoBuffer),
+    }
+}
