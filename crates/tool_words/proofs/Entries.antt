@@ -9,10 +9,10 @@ use Rattle.tool_words.specs.declared.command.Command.{Command}
 use Rattle.tool_words.specs.declared.command.Command.TheVariants as command
 use Rattle.tool_words.specs.Words.{is_word}
 use Rattle.tool_words.specs.declared.command.Encoding.TheVariants as encoding_variant
-use Rattle.tool_words.specs.Table.{Entry, tools, tool_of, flow, gen, syf, boom, boog, asimut, cougar, lvx, druc, proof, flatbeh, library, out, seed, nodes, size, patterns, netlist_library, other_source, other_netlist}
+use Rattle.tool_words.specs.Table.{Entry, tools, tool_of, flow, gen, syf, boom, boog, loon, asimut, cougar, lvx, druc, proof, flatbeh, library, out, seed, nodes, size, fanout, patterns, netlist_library, other_source, other_netlist}
 use Rattle.tool_words.specs.Values.{has_ending, source_of, text_of, number_of, encoding_of}
 use Rattle.tool_words.specs.Arguments.{command_line, given}
-use Rattle.tool_words.specs.Commands.{flow_on, gen_with, generated, syf_with, boom_with, boog_with, asimut_on, asimut_with, cougar_with, lvx_with, druc_with, proof_with, flatbeh_with, command_from, command_by, are_taken, word_of}
+use Rattle.tool_words.specs.Commands.{flow_on, gen_with, generated, syf_with, boom_with, boog_with, loon_with, asimut_on, asimut_with, cougar_with, lvx_with, druc_with, proof_with, flatbeh_with, command_from, command_by, are_taken, word_of}
 use Rattle.tool_words.specs.Laws.{ToolComesFirst}
 
 -- ---- clap's parse of it is exact
@@ -77,6 +77,10 @@ boom_names g k h = named command.Boom (codes "boom") (λ c. refl) (boom_with (so
 boog_names : Names boog
 boog_names g k h = named command.Boog (codes "boog") (λ c. refl) (boog_with (source_of boog.endings g) (text_of library g) (text_of out g)) k h
 
+loon_names : Names loon
+loon_names g k h =
+    named command.Loon (codes "loon") (λ c. refl) (loon_with (source_of loon.endings g) (text_of library g) (text_of out g) (number_of fanout g)) k h
+
 asimut_names : Names asimut
 asimut_names g k h = asimut_named (source_of asimut.endings g) (text_of patterns g) (text_of netlist_library g) k h
 
@@ -97,7 +101,7 @@ flatbeh_names g k h = named command.Flatbeh (codes "flatbeh") (λ c. refl) (flat
 
 each_named : Each Names tools
 each_named =
-    (flow_names, (gen_names, (syf_names, (boom_names, (boog_names, (asimut_names, (cougar_names, (lvx_names, (druc_names, (proof_names, (flatbeh_names, tt)))))))))))
+    (flow_names, (gen_names, (syf_names, (boom_names, (boog_names, (loon_names, (asimut_names, (cougar_names, (lvx_names, (druc_names, (proof_names, (flatbeh_names, tt))))))))))))
 
 -- what is found is one of the list
 one_by : (P : Entry → Type 0) (x e : Entry) (rest : Option Entry) → P x → (rest ≡ Some e → P e) → (b : Bool) → cond b (Some x) rest ≡ Some e → P e

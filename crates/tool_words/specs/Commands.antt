@@ -19,6 +19,7 @@ use Rattle.tool_words.specs.declared.command.LvxCommand.{LvxCommand}
 use Rattle.tool_words.specs.declared.command.DrucCommand.{DrucCommand}
 use Rattle.tool_words.specs.declared.command.ProofCommand.{ProofCommand}
 use Rattle.tool_words.specs.declared.command.FlatbehCommand.{FlatbehCommand}
+use Rattle.tool_words.specs.declared.command.LoonCommand.{LoonCommand}
 use Rattle.tool_words.specs.declared.command.Command.{Command}
 use Rattle.tool_words.specs.declared.command.Command.TheVariants as command
 use Rattle.tool_words.specs.Table.{Entry, library, out, seed, nodes, rows, metals, moves, fanout, size, patterns, netlist_library, other_source, other_netlist, tool_of}
@@ -75,6 +76,10 @@ abbrev pub boog_with : Option (List ℕ) → Option (List ℕ) → Option (List 
 boog_with (Some source) (Some library) (Some out) = Some (record { source = source; library = library; out = out })
 boog_with _ _ _ = None
 
+abbrev pub loon_with : Option (List ℕ) → Option (List ℕ) → Option (List ℕ) → Option ℕ → Option LoonCommand
+loon_with (Some source) (Some library) (Some out) (Some fanout) = Some (record { source = source; library = library; out = out; fanout = fanout })
+loon_with _ _ _ _ = None
+
 -- patterns are run on a source, or with a library on a netlist
 abbrev pub asimut_on : List ℕ → List ℕ → Bool → Option (List ℕ) → Option Command
 asimut_on source patterns false None = Some (command.Asimut (record { source = source; patterns = patterns }))
@@ -113,6 +118,7 @@ command_from tool.Gen endings g =
 command_from tool.Syf endings g = option_map command.Syf (syf_with (source_of endings g) (text_of out g) (encoding_of g) (number_of seed g))
 command_from tool.Boom endings g = option_map command.Boom (boom_with (source_of endings g) (text_of out g) (number_of nodes g))
 command_from tool.Boog endings g = option_map command.Boog (boog_with (source_of endings g) (text_of library g) (text_of out g))
+command_from tool.Loon endings g = option_map command.Loon (loon_with (source_of endings g) (text_of library g) (text_of out g) (number_of fanout g))
 command_from tool.Asimut endings g = asimut_with (source_of endings g) (text_of patterns g) (text_of netlist_library g)
 command_from tool.Cougar endings g = option_map command.Cougar (cougar_with (source_of endings g) (text_of library g) (text_of out g))
 command_from tool.Lvx endings g = option_map command.Lvx (lvx_with (source_of endings g) (text_of other_netlist g) (text_of library g))
@@ -148,6 +154,7 @@ word_of (command.Gen c) = codes "gen"
 word_of (command.Syf c) = codes "syf"
 word_of (command.Boom c) = codes "boom"
 word_of (command.Boog c) = codes "boog"
+word_of (command.Loon c) = codes "loon"
 word_of (command.Asimut c) = codes "asimut"
 word_of (command.AsimutNetlist c) = codes "asimut"
 word_of (command.Cougar c) = codes "cougar"

@@ -119,6 +119,9 @@ asimut = record {
   settings = patterns ∷ netlist_library ∷ [];
 }
 
+abbrev pub loon : Entry
+loon = record { tool = tool.Loon; word = codes "loon"; endings = codes ".vst" ∷ []; settings = library ∷ out ∷ fanout ∷ [] }
+
 abbrev pub cougar : Entry
 cougar = record { tool = tool.Cougar; word = codes "cougar"; endings = codes ".ap" ∷ []; settings = library ∷ out ∷ [] }
 
@@ -135,7 +138,7 @@ abbrev pub flatbeh : Entry
 flatbeh = record { tool = tool.Flatbeh; word = codes "flatbeh"; endings = codes ".vst" ∷ []; settings = library ∷ out ∷ [] }
 
 abbrev pub tools : List Entry
-tools = flow ∷ gen ∷ syf ∷ boom ∷ boog ∷ asimut ∷ cougar ∷ lvx ∷ druc ∷ proof ∷ flatbeh ∷ []
+tools = flow ∷ gen ∷ syf ∷ boom ∷ boog ∷ loon ∷ asimut ∷ cougar ∷ lvx ∷ druc ∷ proof ∷ flatbeh ∷ []
 
 -- the tool with this word
 abbrev pub tool_of : List ℕ → Option Entry

@@ -97,6 +97,19 @@ pub struct BoogCommand {
     pub out: FileName,
 }
 
+/// What `loon` is asked to do: to put buffers into a netlist of the library's cells, and to choose the cells that make it fast.
+#[derive(Drop)]
+pub struct LoonCommand {
+    /// The netlist's file, whose name ends in `.vst`.
+    pub source: FileName,
+    /// The folder of the library.
+    pub library: FileName,
+    /// The name of the new netlist, without `.vst`.
+    pub out: FileName,
+    /// The most sinks of a net, 4 to 1,000,000: pins of cells that read it, but for clock pins.
+    pub fanout: u32,
+}
+
 /// What `asimut` is asked to do: to run patterns on the source.
 #[derive(Drop)]
 pub struct AsimutCommand {
@@ -178,6 +191,7 @@ pub enum Command {
     Syf(SyfCommand),
     Boom(BoomCommand),
     Boog(BoogCommand),
+    Loon(LoonCommand),
     Asimut(AsimutCommand),
     AsimutNetlist(AsimutNetlistCommand),
     Cougar(CougarCommand),
@@ -318,6 +332,28 @@ fn boog(
     }))
 }
 
+fn loon(
+    alloc: Global,
+    endings: &[&'static str],
+    matches: &ArgMatches,
+) -> Result<Command, WordsError>
+    ensures ok { IfOk result (λ command. command_from Tool.Loon (texts_view endings.now) (found matches.now) ≡ Some command) }
+    ensures usage { IsErrOf result Usage → command_from Tool.Loon (texts_view endings.now) (found matches.now) ≡ None }
+{
+    let source = source(alloc, matches, endings)?;
+    let library = text(alloc, matches, LIBRARY)?;
+    let out = text(alloc, matches, OUT)?;
+    let Some(fanout) = number(matches, FANOUT) else {
+        return Err(WordsError::Usage);
+    };
+    Ok(Command::Loon(LoonCommand {
+        source,
+        library,
+        out,
+        fanout,
+    }))
+}
+
 fn asimut(
     alloc: Global,
     endings: &[&'static str],
@@ -431,6 +467,7 @@ fn read_command(
         Tool::Syf => syf(alloc, endings, matches),
         Tool::Boom => boom(alloc, endings, matches),
         Tool::Boog => boog(alloc, endings, matches),
+        Tool::Loon => loon(alloc, endings, matches),
         Tool::Asimut => asimut(alloc, endings, matches),
         Tool::Cougar => cougar(alloc, endings, matches),
         Tool::Lvx => lvx(alloc, endings, matches),

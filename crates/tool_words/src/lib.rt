@@ -11,8 +11,8 @@ mod words;
 
 pub use command::{
     AsimutCommand, AsimutNetlistCommand, BoogCommand, BoomCommand, Command, CougarCommand,
-    DrucCommand, Encoding, FlatbehCommand, FlowCommand, GenCommand, LvxCommand, ProofCommand,
-    SyfCommand, read_words,
+    DrucCommand, Encoding, FlatbehCommand, FlowCommand, GenCommand, LoonCommand, LvxCommand,
+    ProofCommand, SyfCommand, read_words,
 };
 pub use laws::words_law;
 pub use usage::usage_line;

@@ -13,6 +13,7 @@ pub enum Tool {
     Syf,
     Boom,
     Boog,
+    Loon,
     Asimut,
     Cougar,
     Lvx,
@@ -219,6 +220,12 @@ const TOOLS: &[Entry] = &[
         word: "boog",
         endings: &[".vbe"],
         settings: &[LIBRARY, OUT],
+    },
+    Entry {
+        tool: Tool::Loon,
+        word: "loon",
+        endings: &[".vst"],
+        settings: &[LIBRARY, OUT, FANOUT],
     },
     Entry {
         tool: Tool::Asimut,
