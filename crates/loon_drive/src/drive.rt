@@ -1,0 +1,73 @@
+// Buffers, and then drives.
+ghost use Rattle.std.specs.Prelude.{◌≡◌, ◌≤◌, IfOk, IfErr, map};
+ghost use Rattle.net_core.specs.Netlist.{IsNetlist};
+ghost use Rattle.delay_sta.specs.Timed.{CanBeTimed};
+ghost use Rattle.delay_sta.specs.Exchanged.{HaveTheirArcs};
+ghost use Rattle.loon_fanout.specs.Limited.{HasFanout, IsOfCells, HasRoomForGates, StaysRight, IsBufferRefusal};
+ghost use Rattle.loon_drive.specs.Driven.{IsDrivenFrom};
+
+use cell_checks::Library;
+use cell_model::Cell;
+use delay_sta::{delays, worst};
+use loon_buffer::{DriveTable, choose_drives};
+use loon_fanout::{BufferError, limit_fanout};
+use net_core::Netlist;
+use std::alloc::{AllocError, Global};
+use vlsi_base::{Listed, Text, Texts};
+
+/// A netlist, and how long its longest path takes, in femtoseconds.
+#[derive(Drop)]
+pub struct Driven {
+    pub netlist: Netlist,
+    pub delay: u128,
+}
+
+fn cell_names(alloc: Global, cells: &[Cell]) -> Result<Vec<Text>, AllocError>
+    ensures { IfOk result (λ names. names.items ≡ map (λ c. c.name) cells.now) }
+{
+    let mut names = Vec::new(alloc);
+    for cell in cells {
+        names.push(cell.name.copy(alloc)?)?;
+    }
+    Ok(names)
+}
+
+/// Cells exchanged for drives of them, so that no exchange of one more makes the longest path shorter.
+fn exchanged(alloc: Global, mut netlist: Netlist, library: &Library) -> Result<Driven, AllocError> {
+    netlist.reserve_models(alloc, &Listed::new(cell_names(alloc, library.cells())?))?;
+    let table = DriveTable::begin(alloc, library)?;
+    let mut times = delays(alloc, &netlist, library)?;
+    choose_drives(&mut netlist, &table, library, &mut times);
+    let delay = worst(&times);
+    Ok(Driven { netlist, delay })
+}
+
+/// Puts buffers into a netlist until no net has more than `fanout` sinks, and then exchanges cells for drives of them until no exchange
+/// of one instance's cell makes the longest path shorter.
+///
+/// It is refused by `NoBuffer` exactly where a net has too many sinks and the library has neither a buffer nor an inverter. The
+/// netlist must be of usable cells and have passed its checks; with all gates it must have fewer than 2^32 pins. Takes memory
+/// for the netlist, for each terminal and arc, and for each pair of cells of which one can stand for the other.
+pub fn drive_netlist(
+    alloc: Global,
+    netlist: &Netlist,
+    library: &Library,
+    fanout: u32,
+) -> Result<Driven, BufferError>
+    requires size { 2 ≤ fanout }
+    requires sound { IsNetlist netlist.now }
+    requires cells { IsOfCells netlist.now library.now }
+    requires room { HasRoomForGates netlist.now }
+    requires timed { CanBeTimed library.now netlist.now }
+    requires arcs { HaveTheirArcs library.now }
+    ensures driven { IfOk result (λ d. IsDrivenFrom netlist.now library.now fanout d.netlist d.delay) }
+    ensures sound { IfOk result (λ d. IsNetlist d.netlist) }
+    ensures cells { IfOk result (λ d. IsOfCells d.netlist library.now) }
+    ensures fanout { IfOk result (λ d. HasFanout library.now fanout d.netlist) }
+    ensures right { IfOk result (λ d. StaysRight netlist.now library.now d.netlist) }
+    ensures timed { IfOk result (λ d. CanBeTimed library.now d.netlist) }
+    ensures refused { IfErr result (λ e. IsBufferRefusal netlist.now library.now fanout e) }
+{
+    let buffered = limit_fanout(alloc, netlist, library, fanout)?;
+    Ok(exchanged(alloc, buffered, library)?)
+}

@@ -1,0 +1,9 @@
+// What exchanges of cells keep.
+ghost use Rattle.loon_drive.specs.Laws.{CellsStay, RightStays, FanoutStays};
+
+/// What a netlist of a library's cells is, it still is once cells are exchanged for drives of them.
+pub fn exchanged_law()
+    ensures cells { CellsStay }
+    ensures right { RightStays }
+    ensures fanout { FanoutStays }
+{}

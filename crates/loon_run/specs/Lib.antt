@@ -1,0 +1,2 @@
+pub mod Loon
+pub mod Laws

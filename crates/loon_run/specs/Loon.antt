@@ -1,0 +1,92 @@
+-- What `loon` reads and answers.
+use Rattle.std.specs.Prelude.{◌≡◌, ℕ, true, false, List, [], ◌∷◌, ◌++◌, length, get_or, codes, None, Some, Result, Ok, Err}
+use Rattle.std.specs.Fmt.{decimal}
+use Rattle.vlsi_base.specs.declared.limits.TheConstants.{MOST_NETLIST_BYTES}
+use Rattle.catal.specs.Cells.{cells_in}
+use Rattle.cell_model.specs.declared.kind.Kind.TheVariants as kind
+use Rattle.cell_model.specs.Library.{Library}
+use Rattle.cell_lib.specs.declared.error.LibError.{LibError}
+use Rattle.cell_lib.specs.Files.{catal_name, cell_files}
+use Rattle.cell_lib.specs.Library.{IsLibraryOf, IsRefusedLibrary, status_of}
+use Rattle.cell_pins.specs.Table.{IsTableOf}
+use Rattle.net_core.specs.declared.pins.ModelPins.{ModelPins}
+use Rattle.net_core.specs.Netlist.{Netlist}
+use Rattle.loon_fanout.specs.Limited.{IsCrowded, HasFanout, StaysRight}
+use Rattle.loon_fanout.specs.Repeaters.{NoneRepeats}
+use Rattle.loon_drive.specs.Driven.{IsDrivenFrom}
+use Rattle.spell_theory.specs.Layout.{text_of}
+use Rattle.vst_write.specs.Written.{layout}
+use Rattle.vst_io.specs.Text.{IsVst, IsVstRefusal}
+use Rattle.tool_words.specs.declared.command.LoonCommand.{LoonCommand}
+use Rattle.tool_drive.specs.declared.status.Status.{Status}
+use Rattle.tool_drive.specs.declared.status.Status.TheVariants as status
+use Rattle.tool_drive.specs.declared.tool.Over.TheVariants.{Refused}
+use Rattle.tool_drive.specs.declared.tool.Wanted.{Wanted}
+use Rattle.tool_drive.specs.declared.tool.Product.{Product}
+use Rattle.tool_drive.specs.declared.tool.Refusal.{Refusal}
+use Rattle.tool_drive.specs.Plan.{Plan, Inputs, limited}
+use Rattle.tool_drive.specs.Refusals.{OfFile}
+
+-- a netlist's file
+abbrev pub netlist_file : List ℕ → Wanted
+netlist_file name = record { name = name; most = MOST_NETLIST_BYTES; over = Refused }
+
+-- SOURCE, CATAL, and then the files of the cells that CATAL uses
+abbrev pub loon_plan : LoonCommand → Plan
+loon_plan c = record {
+  first = netlist_file c.source ∷ limited (catal_name c.library) ∷ [];
+  more = λ read. cell_files c.library (cells_in (get_or read 1 []));
+}
+
+-- a word and a number on a line
+abbrev pub count_line : List ℕ → ℕ → List ℕ
+count_line word n = word ++ (codes " " ++ (decimal n ++ 10 ∷ []))
+
+-- how many instances a netlist has, and how many femtoseconds its longest path takes
+abbrev pub report : Netlist → ℕ → List ℕ
+report n delay = count_line (codes "cells") (length n.instances) ++ count_line (codes "delay") delay
+
+-- the text of the netlist, by the table of the usable cells' pins, is that of NAME.vst, and the report is printed
+pub record IsWrittenAs (out : List ℕ) (table : List ModelPins) (n : Netlist) (delay : ℕ) (p : Product) : Type 0 where
+  pub name : p.name ≡ out ++ codes ".vst"
+  pub file : p.file ≡ Some (text_of (layout n table))
+  pub text : p.text ≡ report n delay
+
+-- CATAL and the cells' files are this library, this is the table of the pins of its usable cells, and the source is this netlist of
+-- them
+pub record AreRead (source catal : List ℕ) (cells : List (List ℕ)) (l : Library) (table : List ModelPins) (n : Netlist) : Type 0 where
+  pub library : IsLibraryOf false catal cells l
+  pub pins : IsTableOf l false table
+  pub netlist : IsVst source table n
+
+-- Library and netlist are read. The netlist with buffers and with cells exchanged for drives of them is written: no net has more sinks
+-- than asked for, no exchange of one instance's cell makes the longest path shorter, and it is right for each machine that the read
+-- one is right for.
+pub record IsLimiting (c : LoonCommand) (source catal : List ℕ) (cells : List (List ℕ)) (p : Product) : Type 0 where
+  pub l : Library
+  pub table : List ModelPins
+  pub n : Netlist
+  pub read : AreRead source catal cells l table n
+  pub k : Netlist
+  pub delay : ℕ
+  pub driven : IsDrivenFrom n l c.fanout k delay
+  pub fanout : HasFanout l c.fanout k
+  pub right : StaysRight n l k
+  pub written : IsWrittenAs c.out table k delay p
+
+-- What is refused, in this order: the library, the netlist, and a net with too many sinks where the library has neither a buffer nor
+-- an inverter.
+pub data IsRefused (c : LoonCommand) (source catal : List ℕ) (cells : List (List ℕ)) (s : Status) : Type 0 where
+  no_library : (e : LibError) → IsRefusedLibrary false catal cells e → s ≡ status_of e → IsRefused c source catal cells s
+  bad_netlist : (l : Library) (table : List ModelPins) → IsLibraryOf false catal cells l → IsTableOf l false table
+      → OfFile c.source (IsVstRefusal source table) s → IsRefused c source catal cells s
+  no_buffer : (l : Library) (table : List ModelPins) (n : Netlist) → AreRead source catal cells l table n → IsCrowded l c.fanout n
+      → NoneRepeats l.cells → s ≡ status.NoCover kind.Inv → IsRefused c source catal cells s
+
+-- the netlist is written and the report is printed, or one of these refusals
+abbrev pub Limits : LoonCommand → List ℕ → List ℕ → List (List ℕ) → Result Product Refusal → Type 0
+Limits c source catal cells (Ok p) = IsLimiting c source catal cells p
+Limits c source catal cells (Err r) = (r.part ≡ None) × IsRefused c source catal cells r.status
+
+abbrev pub loon_answers : LoonCommand → Inputs → Result Product Refusal → Type 0
+loon_answers c i r = Limits c (get_or i.first 0 []) (get_or i.first 1 []) i.more r

@@ -1,0 +1,65 @@
+// What is written and printed of a netlist.
+ghost use Rattle.std.specs.Prelude.{◌≡◌, ◌++◌, IfOk, OnOk};
+ghost use Rattle.net_core.specs.Checks.{Fits};
+ghost use Rattle.net_view.specs.Writable.{CanBeNamed, PinsCanBeWritten};
+ghost use Rattle.loon_run.specs.Loon.{count_line as count_line_of, report as report_of, IsWrittenAs};
+
+use loon_drive::Driven;
+use net_core::PinTable;
+use std::alloc::{AllocError, Global};
+use tool_drive::Product;
+use vlsi_base::{FileBytes, FileName};
+use vst_write::{WriteError, write_vst};
+
+fn push_count(
+    alloc: Global,
+    text: &mut FileBytes,
+    word: &[u8],
+    count: u128,
+) -> Result<(), AllocError>
+    ensures { OnOk result (text.new ≡ text.old ++ count_line_of word.now count) }
+{
+    let digits = count.to_string(alloc)?;
+    text.append(word)?;
+    text.append(b" ")?;
+    text.append(digits.as_bytes())?;
+    text.append(b"\n")?;
+    Ok(())
+}
+
+// How many instances there are, and how long the longest path takes.
+fn report(alloc: Global, driven: &Driven) -> Result<FileBytes, AllocError>
+    ensures { IfOk result (λ text. text ≡ report_of driven.now.netlist driven.now.delay) }
+{
+    let mut text = FileBytes::from_bytes(alloc, b"")?;
+    push_count(alloc, &mut text, b"cells", driven.netlist.nodes().len() as u128)?;
+    push_count(alloc, &mut text, b"delay", driven.delay)?;
+    Ok(text)
+}
+
+/// The netlist's file, NAME.vst, and what is printed.
+pub(crate) fn product(
+    alloc: Global,
+    out: &FileName,
+    driven: &Driven,
+    table: &PinTable,
+) -> Result<Product, AllocError>
+    requires fits { Fits driven.now.netlist table.now }
+    requires pins { PinsCanBeWritten table.now }
+    requires named { CanBeNamed driven.now.netlist }
+    ensures { IfOk result (λ p. IsWrittenAs out.now table.now driven.now.netlist driven.now.delay p) }
+{
+    let file = match write_vst(alloc, &driven.netlist, table) {
+        Ok(file) => file,
+        Err(WriteError::Memory) => return Err(AllocError),
+        Err(WriteError::BadMap) => unreachable!(),
+    };
+    let mut name = out.copy(alloc)?;
+    name.append(b".vst")?;
+    let text = report(alloc, driven)?;
+    Ok(Product {
+        name,
+        file: Some(file),
+        text,
+    })
+}
