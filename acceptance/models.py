@@ -38,8 +38,8 @@ def follows(machine, output):
 
 class Model:
     """Pins with their directions, vdd and vss among them; the clock pin or None; for each output the inputs on which it depends
-    at once; whether it is a gate or a plain flip-flop; the kind, where a netlist of inverters and gates of two inputs may use the cell for
-    one."""
+    at once; whether it is a gate or a plain flip-flop; whether a layout may use it; the kind, where a netlist of inverters and gates of two
+    inputs may use the cell for one; and the numbers of its generics."""
 
     def __init__(self, name, cell):
         behaviour = cell.behaviour
@@ -53,7 +53,9 @@ class Model:
         self.depends = {bit: self.at_once(behaviour, bit) for bit in self.outputs}
         self.known = {}
         self.is_plain = self.machine is not None and (behaviour.is_gate() or behaviour.is_flip_flop())
-        self.kind = self.find_kind(behaviour) if cell.is_mappable() else None
+        self.is_usable = cell.is_mappable()
+        self.kind = self.find_kind(behaviour) if self.is_usable else None
+        self.generics = behaviour.generics
 
     def at_once(self, behaviour, output):
         if self.machine is None or behaviour.is_flip_flop():
@@ -63,8 +65,17 @@ class Model:
     def find_kind(self, behaviour):
         if behaviour.is_flip_flop():
             return "dff"
-        shown = [self.run(bits, ())[0][self.outputs[0]] for bits in itertools.product((0, 1), repeat=len(self.inputs))]
-        return GATES.get(tuple(shown))
+        return GATES.get(self.table())
+
+    def table(self):
+        """The values of a gate, over its inputs from all 0 to all 1."""
+        return tuple(self.run(bits, ())[0][self.outputs[0]] for bits in itertools.product((0, 1), repeat=len(self.inputs)))
+
+    def can_stand_for(self, other):
+        """Whether it is a drive of a usable cell: usable, with the same pins, directions and function."""
+        if not self.is_usable or self.pins != other.pins or self.clock != other.clock:
+            return False
+        return self.clock is not None or self.table() == other.table()
 
     def data(self):
         """The input of a plain flip-flop that isn't its clock."""

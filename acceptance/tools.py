@@ -20,6 +20,7 @@ import flatbeh
 import flow
 import flow_limits
 import gen
+import loon
 import lvx
 import net_jobs
 import proof
@@ -59,6 +60,7 @@ TOOLS = {
     "cougar": Tool(cougar.second, answers.agrees, cougar.jobs, cougar.writes),
     "flow": Tool(flow.second, flow.agrees, flow_jobs, flow.writes),
     "gen": Tool(gen.second, gen.agrees, gen.jobs, gen.writes),
+    "loon": Tool(loon.second, loon.agrees, loon.jobs, loon.writes),
     "lvx": Tool(lvx.second, lvx.agrees, lvx_jobs),
     "druc": Tool(druc.second, answers.agrees, druc.jobs),
     "proof": Tool(proof.second, proof.agrees, proof.jobs),
