@@ -19,6 +19,7 @@ use Rattle.tool_drive.specs.declared.tool.Product.{Product}
 use Rattle.syf_machine.specs.Meaning.{DoesAs}
 use Rattle.flow_run.specs.Origin.{Origin, equations, states}
 use Rattle.flow_run.specs.RightLayout.{IsRightLayout}
+use Rattle.flow_run.specs.Mapped.{IsDrivenNetlist}
 
 abbrev pub layout_name : List ℕ → List ℕ
 layout_name out = out ++ codes ".ap"
@@ -28,30 +29,32 @@ abbrev pub DoesAsOrigin : Origin → Machine → Type 0
 DoesAsOrigin equations m = Unit {0}
 DoesAsOrigin (states f k) m = DoesAs f k m
 
--- A netlist for a machine as it was made smaller, both small enough and with names that can be written, of a library whose cells may
--- be drawn with tracks.
-pub record MayBeDrawn (l : Library) (from : Origin) (m : Machine) (n : Netlist) : Type 0 where
+-- A netlist for a machine as it was made smaller, with buffers and drives, small enough and with names that can be written, of a library
+-- whose cells may be drawn with tracks.
+pub record MayBeDrawn (l : Library) (from : Origin) (m : Machine) (fanout : ℕ) (k : Netlist) (delay : ℕ) : Type 0 where
   pub origin : DoesAsOrigin from m
   pub o : Machine
   pub optimised : IsOptimised m o
+  pub n : Netlist
   pub netlist : IsNetlistFor l o n
+  pub driven : IsDrivenNetlist l o n fanout k delay
   pub checked : IsChecked m
   pub ordered : IsChecked o
   pub passed : HasPassed true l
   pub plain : HasPassed false l
   pub small : machine_size m ≤ MOST_SIZE
-  pub named : CanBeNamed n
-  pub short : HasShortNames n
-  pub instances : length n.instances ≤ 2 * MOST_SIZE
-  pub ports : length n.ports ≤ most_ports + 2
+  pub named : CanBeNamed k
+  pub short : HasShortNames k
+  pub instances : length k.instances ≤ 64 * MOST_SIZE
+  pub ports : length k.ports ≤ most_ports + 2
 
 -- how long the nets are, in one row
 abbrev pub IsLengthOf : Library → Netlist → ℕ → Type 0
 IsLengthOf l n long = (k : Seen) → IsSeenAs n k → long ≡ half_perimeter k l (row_of k)
 
 -- NAME.ap is a right layout of the machine by this library, and the report on it is printed
-pub record IsDrawnAs (out : List ℕ) (o : Origin) (m : Machine) (l : Library) (p : Product) : Type 0 where
+pub record IsDrawnAs (out : List ℕ) (o : Origin) (m : Machine) (l : Library) (fanout : ℕ) (p : Product) : Type 0 where
   pub bytes : List ℕ
   pub name : p.name ≡ layout_name out
   pub file : p.file ≡ Some bytes
-  pub right : IsRightLayout bytes o m l p.text
+  pub right : IsRightLayout bytes o m l fanout p.text
