@@ -1,6 +1,5 @@
 -- What is drawn of a netlist.
 use Rattle.std.specs.Prelude.{◌≡◌, ℕ, ◌*◌, ◌+◌, ◌≤◌, true, false, List, length, ◌++◌, codes, Some}
-use Rattle.source_meaning.specs.Checks.{most_ports}
 use Rattle.machine_meaning.specs.Machine.{Machine}
 use Rattle.machine_meaning.specs.Size.{machine_size}
 use Rattle.machine_core.specs.Checked.{IsChecked}
@@ -9,17 +8,16 @@ use Rattle.cell_checks.specs.Checked.{IsChecked as HasPassed}
 use Rattle.net_core.specs.Netlist.{Netlist}
 use Rattle.net_meaning.specs.Netlist.{Netlist as Seen}
 use Rattle.net_view.specs.View.{IsSeenAs}
-use Rattle.net_view.specs.Writable.{CanBeNamed, HasShortNames}
 use Rattle.ocp_place.specs.Law.{row_of}
 use Rattle.ocp_rows.specs.Length.{half_perimeter}
 use Rattle.boom_opt.specs.Optimised.{IsOptimised}
-use Rattle.boog_run.specs.Boog.{IsNetlistFor}
 use Rattle.boog_run.specs.declared.netlist.TheConstants.{MOST_SIZE}
 use Rattle.tool_drive.specs.declared.tool.Product.{Product}
 use Rattle.syf_machine.specs.Meaning.{DoesAs}
 use Rattle.flow_run.specs.Origin.{Origin, equations, states}
 use Rattle.flow_run.specs.RightLayout.{IsRightLayout}
-use Rattle.flow_run.specs.Mapped.{IsDrivenNetlist}
+use Rattle.boog_driven.specs.Netlist.{IsDrivenNetlist}
+use Rattle.boog_driven.specs.Laws.{IsDrawableSoon}
 
 abbrev pub layout_name : List ℕ → List ℕ
 layout_name out = out ++ codes ".ap"
@@ -35,18 +33,13 @@ pub record MayBeDrawn (l : Library) (from : Origin) (m : Machine) (fanout : ℕ)
   pub origin : DoesAsOrigin from m
   pub o : Machine
   pub optimised : IsOptimised m o
-  pub n : Netlist
-  pub netlist : IsNetlistFor l o n
-  pub driven : IsDrivenNetlist l o n fanout k delay
+  pub netlist : IsDrivenNetlist l o fanout k delay
   pub checked : IsChecked m
   pub ordered : IsChecked o
   pub passed : HasPassed true l
   pub plain : HasPassed false l
   pub small : machine_size m ≤ MOST_SIZE
-  pub named : CanBeNamed k
-  pub short : HasShortNames k
-  pub instances : length k.instances ≤ 64 * MOST_SIZE
-  pub ports : length k.ports ≤ most_ports + 2
+  pub soon : IsDrawableSoon l k
 
 -- how long the nets are, in one row
 abbrev pub IsLengthOf : Library → Netlist → ℕ → Type 0

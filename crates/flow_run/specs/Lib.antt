@@ -3,7 +3,6 @@ pub mod States
 pub mod View
 pub mod Report
 pub mod Lean
-pub mod Driven
 pub mod RightLayout
 pub mod Mapped
 pub mod Drawn

@@ -6,12 +6,9 @@ use Rattle.machine_roots.specs.Roots.{IsGreatestDcount}
 use Rattle.cell_model.specs.declared.kind.Kind.{Kind}
 use Rattle.cell_model.specs.Covering.{needed, IsFirstMissing}
 use Rattle.cell_model.specs.Library.{Library}
-use Rattle.net_core.specs.Netlist.{Netlist, IsNetlist}
-use Rattle.net_view.specs.Right.{IsRightNetlist}
-use Rattle.loon_fanout.specs.Limited.{IsOfCells, HasFanout}
-use Rattle.loon_drive.specs.Driven.{IsDrivenFrom}
+use Rattle.net_core.specs.Netlist.{Netlist}
+use Rattle.boog_driven.specs.Netlist.{IsDrivenNetlist}
 use Rattle.boog_map.specs.Netlist.{has_registers}
-use Rattle.boog_run.specs.Boog.{IsNetlistFor}
 use Rattle.boom_run.specs.Boom.{IsWithinBudget}
 use Rattle.tool_drive.specs.declared.status.Status.{Status}
 use Rattle.tool_drive.specs.declared.status.Status.TheVariants as status
@@ -22,21 +19,11 @@ pub record IsMissingIn (l : Library) (m : Machine) (s : Status) : Type 0 where
   pub first : IsFirstMissing l.cells kind (needed (has_registers m))
   pub is : s ≡ status.NoCover kind
 
--- a netlist for a machine, with buffers and drives
-pub record IsDrivenNetlist (l : Library) (o : Machine) (n : Netlist) (fanout : ℕ) (k : Netlist) (delay : ℕ) : Type 0 where
-  pub made : IsDrivenFrom n l fanout k delay
-  pub sound : IsNetlist k
-  pub cells : IsOfCells k l
-  pub few : HasFanout l fanout k
-  pub right : IsRightNetlist k l o
-
 -- What the machine is mapped to, as it was made smaller within the budget, with buffers and drives: its longest path takes so long; and
 -- the most nodes that a diagram of the machine's roots has.
 pub record IsMappedFor (l : Library) (m : Machine) (budget fanout : ℕ) (k : Netlist) (delay nodes : ℕ) : Type 0 where
   pub o : Machine
   pub made : IsWithinBudget m budget o
   pub ordered : IsChecked o
-  pub n : Netlist
-  pub netlist : IsNetlistFor l o n
-  pub driven : IsDrivenNetlist l o n fanout k delay
+  pub netlist : IsDrivenNetlist l o fanout k delay
   pub counted : IsGreatestDcount m nodes

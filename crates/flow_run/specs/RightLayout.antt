@@ -17,7 +17,7 @@ use Rattle.machine_roots.specs.Roots.{IsGreatestDcount}
 use Rattle.flow_run.specs.Origin.{Origin}
 use Rattle.flow_run.specs.States.{AgreesWith}
 use Rattle.flow_run.specs.Lean.{IsLeanBy}
-use Rattle.flow_run.specs.Driven.{IsDrivenAs}
+use Rattle.boog_driven.specs.Netlist.{IsDrivenAs}
 use Rattle.flow_run.specs.Report.{report_of}
 
 -- The bytes are the ap file of a figure that has the machine's name. Joined wherever shapes of one metal meet, the figure

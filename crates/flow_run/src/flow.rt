@@ -4,6 +4,7 @@ ghost use Rattle.machine_meaning.specs.Size.{machine_size};
 ghost use Rattle.source_meaning.specs.Checks.{most_ports};
 ghost use Rattle.boog_map.specs.Netlist.{Covers};
 ghost use Rattle.boom_run.specs.Boom.{IsBudgetStatus};
+ghost use Rattle.delay_sta.specs.Exchanged.{HaveTheirArcs};
 ghost use Rattle.cell_lib.specs.Library.{status_of};
 ghost use Rattle.cell_lib.specs.Load.{refused as list_refusal};
 ghost use Rattle.tool_drive.specs.Outside.{outside, IsLine};
@@ -18,14 +19,16 @@ ghost use Rattle.flow_run.specs.Mapped.{IsMissingIn, IsMappedFor};
 
 use crate::layout::product;
 use crate::source::{Counted, Origin, Source};
-use boog_run::{check_size, netlist_law, netlist_of};
+use boog_driven::{driven_netlist_law, driven_netlist_of};
+use boog_run::{check_size, netlist_law};
 use boom_run::optimise_within;
 use catal::{CatalError, read_catal};
 use cell_checks::Library;
 use cell_lib::{catal_file, library_law, library_status, named_files, read_library};
 use cell_model::first_missing;
 use fsm_io::read_fsm;
-use loon_drive::{Driven, drive_netlist};
+use loon_drive::Driven;
+use loon_run::loon_law;
 use machine_core::Machine;
 use std::alloc::{AllocError, Global};
 use syf_run::{Encoded, encoded_law, encoded_machine, style_of};
@@ -170,6 +173,8 @@ fn netlist_within(
     command: &FlowCommand,
 ) -> Result<Mapped, Status>
     requires ports { length machine.now.ports ≤ most_ports }
+    requires sinks { 2 ≤ command.now.fanout }
+    requires arcs { HaveTheirArcs library.now }
     requires few { length machine.now.vars + length machine.now.ports + machine_size machine.now < 2 ^ 32 - 1 }
     ensures mapped { IfOk result (λ p. IsMappedFor library.now machine.now command.now.nodes command.now.fanout
         p.driven.netlist p.driven.delay p.nodes) }
@@ -181,10 +186,7 @@ fn netlist_within(
     };
     // A machine is checked.
     let _ = made.machine.name();
-    let Ok(netlist) = netlist_of(alloc, &made.machine, library) else {
-        return Err(Status::Memory);
-    };
-    match drive_netlist(alloc, &netlist, library, command.fanout) {
+    match driven_netlist_of(alloc, &made.machine, library, command.fanout) {
         Ok(driven) => Ok(Mapped {
             nodes: made.nodes,
             driven,
@@ -206,6 +208,8 @@ fn laid_out(
     // What is read has names that can be written, few of them, and is small enough.
     library_law();
     netlist_law();
+    driven_netlist_law();
+    loon_law();
     source_has_few_names();
     encoded_law();
     let read = match read_all(alloc, command, source, catal, cells) {

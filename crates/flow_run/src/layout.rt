@@ -10,9 +10,10 @@ ghost use Rattle.flow_run.specs.Drawn.{layout_name as layout_name_of, MayBeDrawn
 use crate::report::report;
 use crate::source::Counted;
 use ap_io::{Figure, write_ap, written_is_read_again};
+use boog_driven::driven_netlist_law;
 use cell_checks::Library;
 use cell_pins::pin_table;
-use loon_drive::{Driven, driven_law};
+use loon_drive::Driven;
 use machine_alike::alike_law;
 use nero_tracks::{TrackError, columns_are_free, route_tracks};
 use net_core::Netlist;
@@ -72,7 +73,7 @@ pub(crate) fn product(
     requires nodes { IsGreatestDcount counted.now.source.machine counted.now.nodes }
     ensures { IfOk result (λ p. IsDrawnAs out.now (origin_view counted.now.source.origin) counted.now.source.machine library.now counted.now.fanout p) }
 {
-    driven_law();
+    driven_netlist_law();
     right_is_well_formed();
     right_may_be_drawn();
     right_drawings_are_right();
