@@ -17,6 +17,7 @@ use Rattle.ocp_rows.specs.Placement.{Placement}
 use Rattle.ocp_rows.specs.Order.{IsInNetlistOrder, IsLean}
 use Rattle.boog_run.specs.Laws.{CanBeDeclared}
 use Rattle.boog_run.specs.declared.netlist.TheConstants.{MOST_SIZE}
+use Rattle.loon_drive.specs.Driven.{most_sinks}
 use Rattle.loon_drive.specs.Fanout.{HasFewReaders, NeedsItsBuffers}
 use Rattle.boog_driven.specs.Netlist.{IsDrivenNetlist, IsDrivenAs}
 
@@ -25,8 +26,8 @@ use Rattle.boog_driven.specs.Netlist.{IsDrivenNetlist, IsDrivenAs}
 pub record IsGoodNetlist (l : Library) (m : Machine) (fanout : ℕ) (y : Seen) (delay : ℕ) : Type 0 where
   pub order : (p : Placement) → p.rows ≡ y.instances ∷ [] → (buffers : ℕ) × IsInNetlistOrder y l m p buffers
   pub lean : IsLean y m
-  pub readers : HasFewReaders y l m fanout
-  pub buffers : NeedsItsBuffers y l fanout
+  pub readers : HasFewReaders y l m (most_sinks fanout)
+  pub buffers : NeedsItsBuffers y l (most_sinks fanout)
   pub driven : IsDrivenAs y l m delay
 
 abbrev pub DrivenIsGood : Type 0
@@ -45,5 +46,5 @@ pub record IsDrawableSoon (l : Library) (k : Netlist) : Type 0 where
 abbrev pub DrivenIsDrawable : Type 0
 DrivenIsDrawable =
     (catal : List ℕ) (cells : List (List ℕ)) (l : Library) (m : Machine) (fanout : ℕ) (k : Netlist) (delay : ℕ)
-    → IsLibraryOf false catal cells l → IsChecked m → CanBeDeclared m → machine_size m ≤ MOST_SIZE → 2 ≤ fanout → IsDrivenNetlist l m fanout k delay
+    → IsLibraryOf false catal cells l → IsChecked m → CanBeDeclared m → machine_size m ≤ MOST_SIZE → IsDrivenNetlist l m fanout k delay
     → IsDrawableSoon l k

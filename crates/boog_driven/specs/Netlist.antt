@@ -12,7 +12,7 @@ use Rattle.boog_run.specs.Boog.{IsNetlistFor}
 use Rattle.delay_sta.specs.Paths.{IsWorst}
 use Rattle.loon_buffer.specs.Drives.{IsDriven}
 use Rattle.loon_fanout.specs.Limited.{IsOfCells, HasFanout}
-use Rattle.loon_drive.specs.Driven.{IsDrivenFrom}
+use Rattle.loon_drive.specs.Driven.{most_sinks, IsDrivenFrom}
 
 -- The machine is mapped, and of that netlist comes this one, with so many sinks of a net at most; its longest path takes so many
 -- femtoseconds. It is right for the machine too.
@@ -22,7 +22,7 @@ pub record IsDrivenNetlist (l : Library) (m : Machine) (fanout : ℕ) (k : Netli
   pub made : IsDrivenFrom n l fanout k delay
   pub sound : IsNetlist k
   pub cells : IsOfCells k l
-  pub few : HasFanout l fanout k
+  pub few : HasFanout l (most_sinks fanout) k
   pub right : IsRightNetlist k l m
 
 -- Held in memory, with the machine's ports and for each instance the pins of its cell, the netlist's longest path takes so many

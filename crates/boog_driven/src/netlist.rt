@@ -26,7 +26,6 @@ pub fn driven_netlist_of(
     fanout: u32,
 ) -> Result<Driven, Status>
     requires ports { length machine.now.ports ≤ most_ports }
-    requires size { 2 ≤ fanout }
     requires arcs { HaveTheirArcs library.now }
     ensures driven { IfOk result (λ d. IsDrivenNetlist library.now machine.now fanout d.netlist d.delay) }
     ensures small { OnOk result (size_of machine.now ≤ MOST_SIZE) }

@@ -8,6 +8,7 @@ use Rattle.boom_opt.specs.Optimised.{inner_size}
 use Rattle.cell_model.specs.Library.{Library}
 use Rattle.net_meaning.specs.Netlist.{Netlist}
 use Rattle.ocp_rows.specs.Order.{begins_with_g}
+use Rattle.loon_drive.specs.Driven.{most_sinks}
 use Rattle.loon_drive.specs.Fanout.{HasFewReaders, NeedsItsBuffers}
 
 -- The instances named g are at most the size of the machine and 2, where its inner signals count no more than four times the nodes of
@@ -17,5 +18,5 @@ pub record IsLeanBy (n : Netlist) (l : Library) (m : Machine) (fanout : ℕ) : T
   pub dags : List ℕ
   pub each : AllZip (IsDag m) (roots m) dags
   pub gates : count_by (λ i. begins_with_g i.name) n.instances ≤ machine_size m - inner_size m + min (inner_size m) (4 * sum dags) + 2
-  pub readers : HasFewReaders n l m fanout
-  pub buffers : NeedsItsBuffers n l fanout
+  pub readers : HasFewReaders n l m (most_sinks fanout)
+  pub buffers : NeedsItsBuffers n l (most_sinks fanout)

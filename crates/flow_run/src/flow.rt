@@ -173,7 +173,6 @@ fn netlist_within(
     command: &FlowCommand,
 ) -> Result<Mapped, Status>
     requires ports { length machine.now.ports ≤ most_ports }
-    requires sinks { 2 ≤ command.now.fanout }
     requires arcs { HaveTheirArcs library.now }
     requires few { length machine.now.vars + length machine.now.ports + machine_size machine.now < 2 ^ 32 - 1 }
     ensures mapped { IfOk result (λ p. IsMappedFor library.now machine.now command.now.nodes command.now.fanout

@@ -13,7 +13,7 @@ use Rattle.net_view.specs.Right.{IsRightNetlist}
 use Rattle.free_names.specs.Free.{free_texts}
 use Rattle.loon_buffer.specs.Drives.{IsChosenFor, OnlyExchanges}
 use Rattle.loon_fanout.specs.Limited.{IsOfCells, HasFanout, IsBuffered}
-use Rattle.loon_drive.specs.Driven.{IsDrivenFrom}
+use Rattle.loon_drive.specs.Driven.{most_sinks, IsDrivenFrom}
 use Rattle.loon_drive.specs.Fanout.{IsBuffer, HasFewReaders, NeedsItsBuffers}
 
 -- ---- exchanges of cells
@@ -47,18 +47,18 @@ pub record IsGrown (n k : Netlist) : Type 0 where
   pub few : buffers ≤ 2 * length (terminals n)
 
 abbrev pub DrivenIsGrown : Type 0
-DrivenIsGrown = (n : Netlist) (l : Library) (limit : ℕ) (k : Netlist) (delay : ℕ) → 2 ≤ limit → IsDrivenFrom n l limit k delay → IsGrown n k
+DrivenIsGrown = (n : Netlist) (l : Library) (fanout : ℕ) (k : Netlist) (delay : ℕ) → IsDrivenFrom n l fanout k delay → IsGrown n k
 
 -- each given instance has a drive of its cell
 abbrev pub DrivenIsChosen : Type 0
 DrivenIsChosen =
-    (n : Netlist) (l : Library) (limit : ℕ) (k : Netlist) (delay place : ℕ) (i j : Instance) → IsOfCells n l → IsDrivenFrom n l limit k delay
+    (n : Netlist) (l : Library) (fanout : ℕ) (k : Netlist) (delay place : ℕ) (i j : Instance) → IsOfCells n l → IsDrivenFrom n l fanout k delay
     → Stands n.instances place i → Stands k.instances place j → IsChosenFor l i j
 
 -- what is joined was joined
 abbrev pub DrivenIsFiner : Type 0
 DrivenIsFiner =
-    (n : Netlist) (l : Library) (limit : ℕ) (k : Netlist) (delay : ℕ) (t u : Terminal) (a b c : ℕ) → IsNetlist n → IsDrivenFrom n l limit k delay
+    (n : Netlist) (l : Library) (fanout : ℕ) (k : Netlist) (delay : ℕ) (t u : Terminal) (a b c : ℕ) → IsNetlist n → IsDrivenFrom n l fanout k delay
     → HasClass n t a → HasClass n u b → HasClass k t c → HasClass k u c → a ≡ b
 
 -- of a netlist that is well formed for a machine: few input pins read a class
@@ -70,6 +70,6 @@ FanoutIsSeen =
 -- where none of the given instances is named like a buffer, there are buffers only where a net had too many sinks
 abbrev pub BuffersAreNeeded : Type 0
 BuffersAreNeeded =
-    (n : Netlist) (l : Library) (limit : ℕ) (k : Netlist) (delay : ℕ) (y : Seen) → HasPassed false l → IsNetlist n → IsOfCells n l → IsOfCells k l
-    → IsDrivenFrom n l limit k delay → IsSeenAs k y → ((i : Instance) → (place : ℕ) → Stands n.instances place i → IsBuffer (record { name = i.name; model = i.model }) → ⊥)
-    → NeedsItsBuffers y l limit
+    (n : Netlist) (l : Library) (fanout : ℕ) (k : Netlist) (delay : ℕ) (y : Seen) → HasPassed false l → IsNetlist n → IsOfCells n l → IsOfCells k l
+    → IsDrivenFrom n l fanout k delay → IsSeenAs k y → ((i : Instance) → (place : ℕ) → Stands n.instances place i → IsBuffer (record { name = i.name; model = i.model }) → ⊥)
+    → NeedsItsBuffers y l (most_sinks fanout)

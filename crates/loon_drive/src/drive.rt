@@ -1,10 +1,10 @@
 // Buffers, and then drives.
-ghost use Rattle.std.specs.Prelude.{◌≡◌, ◌≤◌, IfOk, IfErr, map};
+ghost use Rattle.std.specs.Prelude.{◌≡◌, IfOk, IfErr, map};
 ghost use Rattle.net_core.specs.Netlist.{IsNetlist};
 ghost use Rattle.delay_sta.specs.Timed.{CanBeTimed};
 ghost use Rattle.delay_sta.specs.Exchanged.{HaveTheirArcs};
 ghost use Rattle.loon_fanout.specs.Limited.{HasFanout, IsOfCells, HasRoomForGates, StaysRight, IsBufferRefusal};
-ghost use Rattle.loon_drive.specs.Driven.{IsDrivenFrom};
+ghost use Rattle.loon_drive.specs.Driven.{most_sinks, IsDrivenFrom};
 
 use cell_checks::Library;
 use cell_model::Cell;
@@ -42,7 +42,7 @@ fn exchanged(alloc: Global, mut netlist: Netlist, library: &Library) -> Result<D
     Ok(Driven { netlist, delay })
 }
 
-/// Puts buffers into a netlist until no net has more than `fanout` sinks, and then exchanges cells for drives of them until no exchange
+/// Puts buffers into a netlist until no net has more than `fanout` sinks, where less than 2 counts as 2, and then exchanges cells for drives of them until no exchange
 /// of one instance's cell makes the longest path shorter.
 ///
 /// It is refused by `NoBuffer` exactly where a net has too many sinks and the library has neither a buffer nor an inverter. The
@@ -54,7 +54,6 @@ pub fn drive_netlist(
     library: &Library,
     fanout: u32,
 ) -> Result<Driven, BufferError>
-    requires size { 2 ≤ fanout }
     requires sound { IsNetlist netlist.now }
     requires cells { IsOfCells netlist.now library.now }
     requires room { HasRoomForGates netlist.now }
@@ -63,11 +62,11 @@ pub fn drive_netlist(
     ensures driven { IfOk result (λ d. IsDrivenFrom netlist.now library.now fanout d.netlist d.delay) }
     ensures sound { IfOk result (λ d. IsNetlist d.netlist) }
     ensures cells { IfOk result (λ d. IsOfCells d.netlist library.now) }
-    ensures fanout { IfOk result (λ d. HasFanout library.now fanout d.netlist) }
+    ensures fanout { IfOk result (λ d. HasFanout library.now (most_sinks fanout) d.netlist) }
     ensures right { IfOk result (λ d. StaysRight netlist.now library.now d.netlist) }
     ensures timed { IfOk result (λ d. CanBeTimed library.now d.netlist) }
-    ensures refused { IfErr result (λ e. IsBufferRefusal netlist.now library.now fanout e) }
+    ensures refused { IfErr result (λ e. IsBufferRefusal netlist.now library.now (most_sinks fanout) e) }
 {
-    let buffered = limit_fanout(alloc, netlist, library, fanout)?;
+    let buffered = limit_fanout(alloc, netlist, library, fanout.max(2))?;
     Ok(exchanged(alloc, buffered, library)?)
 }

@@ -13,7 +13,7 @@ use Rattle.net_core.specs.declared.pins.ModelPins.{ModelPins}
 use Rattle.net_core.specs.Netlist.{Netlist}
 use Rattle.loon_fanout.specs.Limited.{IsCrowded, HasFanout, StaysRight}
 use Rattle.loon_fanout.specs.Repeaters.{NoneRepeats}
-use Rattle.loon_drive.specs.Driven.{IsDrivenFrom}
+use Rattle.loon_drive.specs.Driven.{most_sinks, IsDrivenFrom}
 use Rattle.spell_theory.specs.Layout.{text_of}
 use Rattle.vst_write.specs.Written.{layout}
 use Rattle.vst_io.specs.Text.{IsVst, IsVstRefusal}
@@ -70,7 +70,7 @@ pub record IsLimiting (c : LoonCommand) (source catal : List ℕ) (cells : List 
   pub k : Netlist
   pub delay : ℕ
   pub driven : IsDrivenFrom n l c.fanout k delay
-  pub fanout : HasFanout l c.fanout k
+  pub fanout : HasFanout l (most_sinks c.fanout) k
   pub right : StaysRight n l k
   pub written : IsWrittenAs c.out table k delay p
 
@@ -80,7 +80,7 @@ pub data IsRefused (c : LoonCommand) (source catal : List ℕ) (cells : List (Li
   no_library : (e : LibError) → IsRefusedLibrary false catal cells e → s ≡ status_of e → IsRefused c source catal cells s
   bad_netlist : (l : Library) (table : List ModelPins) → IsLibraryOf false catal cells l → IsTableOf l false table
       → OfFile c.source (IsVstRefusal source table) s → IsRefused c source catal cells s
-  no_buffer : (l : Library) (table : List ModelPins) (n : Netlist) → AreRead source catal cells l table n → IsCrowded l c.fanout n
+  no_buffer : (l : Library) (table : List ModelPins) (n : Netlist) → AreRead source catal cells l table n → IsCrowded l (most_sinks c.fanout) n
       → NoneRepeats l.cells → s ≡ status.NoCover kind.Inv → IsRefused c source catal cells s
 
 -- the netlist is written and the report is printed, or one of these refusals
