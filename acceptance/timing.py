@@ -3,6 +3,8 @@
 Times are femtoseconds. `cells` gives for each instance's name the cell that it is timed with, so that exchanges can be tried.
 """
 
+import random
+
 from models import IN, OUT
 from vhdl_reader import SUPPLIES
 
@@ -76,11 +78,21 @@ def worst_of_all_paths(n, cells):
     return max((time for net in ends(n) for time in paths(net)), default=0)
 
 
-def better_exchange(n, cells, models):
-    """An instance and another drive of its cell with which the longest path is shorter, or None."""
-    now = worst(n, cells)
+def exchanges(n, cells, models):
+    """Each instance with each other drive of its cell."""
+    drives = {}
     for i in n.instances:
-        for model in models.values():
-            if model is not cells[i.name] and model.can_stand_for(cells[i.name]) and worst(n, {**cells, i.name: model}) < now:
-                return i.name, model.name
-    return None
+        cell = cells[i.name]
+        if cell.name not in drives:
+            drives[cell.name] = [model for model in models.values() if model is not cell and model.can_stand_for(cell)]
+        yield from ((i.name, model) for model in drives[cell.name])
+
+
+def better_exchange(n, cells, models, most=400):
+    """An instance and another drive of its cell with which the longest path is shorter, or None. Where the netlist is large, so many of them
+    are tried, taken at random."""
+    tried, now = list(exchanges(n, cells, models)), worst(n, cells)
+    if len(tried) * len(n.instances) > most * most:
+        tried = random.Random(len(tried)).sample(tried, min(len(tried), 1 + most * most // (4 * len(n.instances))))
+    better = ((name, model.name) for name, model in tried if worst(n, {**cells, name: model}) < now)
+    return next(better, None)

@@ -40,6 +40,7 @@ fn run<S: Shelf, T: Sink>(alloc: Global, command: &Command, shelf: &mut S, out: 
         Command::Syf(_)
         | Command::Boom(_)
         | Command::Boog(_)
+        | Command::Loon(_)
         | Command::Asimut(_)
         | Command::AsimutNetlist(_)
         | Command::Cougar(_)
@@ -52,7 +53,7 @@ fn run<S: Shelf, T: Sink>(alloc: Global, command: &Command, shelf: &mut S, out: 
 
 /// Does what the words ask, over a shelf and a sink: `flow` lays the source out with the cells of the library, `gen` first makes a
 /// source of a number, `syf` makes a data-flow source of a state machine, `boom` makes the source smaller, `boog` makes a netlist of
-/// these cells, `asimut` runs patterns on the source, or on the netlist of the library's cells, `cougar` takes the netlist out of a
+/// these cells, `loon` puts buffers into a netlist and chooses its cells, `asimut` runs patterns on the source, or on the netlist of the library's cells, `cougar` takes the netlist out of a
 /// layout of these cells, `lvx` compares two netlists by name, `druc` lists where a layout breaks the rules, `proof` compares two
 /// sources as functions, and `flatbeh` makes a data-flow source of a netlist.
 ///
@@ -65,6 +66,8 @@ fn run<S: Shelf, T: Sink>(alloc: Global, command: &Command, shelf: &mut S, out: 
 /// - `syf` reads SOURCE, writes the data-flow source to NAME.vbe and prints each state with its code.
 /// - `boom` reads SOURCE, writes the smaller one to NAME.vbe and prints how large it is.
 /// - `boog` reads the same files as `flow`, writes the netlist to NAME.vst and prints how many cells it has.
+/// - `loon` reads the same files as `boog`, with a netlist for SOURCE, writes the new netlist to NAME.vst and prints how many cells it
+///   has and how many femtoseconds its longest path takes.
 /// - `asimut` reads SOURCE and PATTERNS, for a netlist also CATAL and the behaviour and the layout of each cell that this uses, and
 ///   prints the patterns with every output filled in.
 /// - `cougar` reads the same files as `boog`, with a layout for SOURCE, writes the netlist to NAME.vst and prints how many cells and

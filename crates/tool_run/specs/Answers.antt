@@ -13,6 +13,7 @@ use Rattle.tool_drive.specs.Table.{Caused, IsComplete, memory_complete}
 use Rattle.syf_run.specs.Syf.{syf_plan, syf_answers}
 use Rattle.boom_run.specs.Boom.{boom_plan, boom_answers}
 use Rattle.boog_run.specs.Boog.{boog_plan, boog_answers}
+use Rattle.loon_run.specs.Loon.{loon_plan, loon_answers}
 use Rattle.asimut_run.specs.Asimut.{asimut_plan, asimut_answers}
 use Rattle.asimut_run.specs.Netlist.{netlist_plan, netlist_answers}
 use Rattle.cougar_run.specs.Cougar.{cougar_plan, cougar_answers}
@@ -33,6 +34,7 @@ IsAnswerTo (command.Gen c) before now s = Unit {0}
 IsAnswerTo (command.Syf c) before now s = IsAnswer (syf_plan c) (syf_answers c) before now s
 IsAnswerTo (command.Boom c) before now s = IsAnswer (boom_plan c) (boom_answers c) before now s
 IsAnswerTo (command.Boog c) before now s = IsAnswer (boog_plan c) (boog_answers c) before now s
+IsAnswerTo (command.Loon c) before now s = IsAnswer (loon_plan c) (loon_answers c) before now s
 IsAnswerTo (command.Asimut c) before now s = IsAnswer (asimut_plan c) (asimut_answers c) before now s
 IsAnswerTo (command.AsimutNetlist c) before now s = IsAnswer (netlist_plan c) (netlist_answers c) before now s
 IsAnswerTo (command.Cougar c) before now s = IsAnswer (cougar_plan c) (cougar_answers c) before now s
@@ -50,6 +52,7 @@ memory_answer (command.Gen c) before now same = tt
 memory_answer (command.Syf c) before now same = (inl same, memory_complete (syf_plan c) (syf_answers c) before now)
 memory_answer (command.Boom c) before now same = (inl same, memory_complete (boom_plan c) (boom_answers c) before now)
 memory_answer (command.Boog c) before now same = (inl same, memory_complete (boog_plan c) (boog_answers c) before now)
+memory_answer (command.Loon c) before now same = (inl same, memory_complete (loon_plan c) (loon_answers c) before now)
 memory_answer (command.Asimut c) before now same = (inl same, memory_complete (asimut_plan c) (asimut_answers c) before now)
 memory_answer (command.AsimutNetlist c) before now same = (inl same, memory_complete (netlist_plan c) (netlist_answers c) before now)
 memory_answer (command.Cougar c) before now same = (inl same, memory_complete (cougar_plan c) (cougar_answers c) before now)

@@ -16,6 +16,7 @@ lays_out (command.Gen c) = true
 lays_out (command.Syf c) = false
 lays_out (command.Boom c) = false
 lays_out (command.Boog c) = false
+lays_out (command.Loon c) = false
 lays_out (command.Asimut c) = false
 lays_out (command.AsimutNetlist c) = false
 lays_out (command.Cougar c) = false

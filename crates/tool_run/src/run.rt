@@ -13,6 +13,7 @@ use boom_run::Boom;
 use cougar_run::Cougar;
 use druc_run::Druc;
 use flatbeh_run::Flatbeh;
+use loon_run::Loon;
 use lvx_run::Lvx;
 use proof_run::Proof;
 use std::alloc::Global;
@@ -43,6 +44,7 @@ pub fn run_tool<S: Shelf, T: Sink>(
         Command::Syf(command) => drive(alloc, b"syf", &Syf { command }, shelf, out),
         Command::Boom(command) => drive(alloc, b"boom", &Boom { command }, shelf, out),
         Command::Boog(command) => drive(alloc, b"boog", &Boog { command }, shelf, out),
+        Command::Loon(command) => drive(alloc, b"loon", &Loon { command }, shelf, out),
         Command::Asimut(command) => drive(alloc, b"asimut", &Asimut { command }, shelf, out),
         Command::AsimutNetlist(command) => {
             drive(alloc, b"asimut", &AsimutNetlist { command }, shelf, out)

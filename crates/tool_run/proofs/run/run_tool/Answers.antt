@@ -20,6 +20,11 @@ returns-in-Boog-clause-line g c lined =
     subst (λ (k : Command). IsLine (g.T.Sink.seen c.args.out.now) (g.T.Sink.seen c.drive-in-Boog.new.out) (line_of (word_of k) c.drive-in-Boog.result)) (sym c.in-Boog.is)
     (c.drive-in-Boog.ensures.line lined)
 
+pub returns-in-Loon-clause-line : goal.returns-in-Loon-clause-line
+returns-in-Loon-clause-line g c lined =
+    subst (λ (k : Command). IsLine (g.T.Sink.seen c.args.out.now) (g.T.Sink.seen c.drive-in-Loon.new.out) (line_of (word_of k) c.drive-in-Loon.result)) (sym c.in-Loon.is)
+    (c.drive-in-Loon.ensures.line lined)
+
 pub returns-in-Asimut-clause-line : goal.returns-in-Asimut-clause-line
 returns-in-Asimut-clause-line g c lined =
     subst (λ (k : Command). IsLine (g.T.Sink.seen c.args.out.now) (g.T.Sink.seen c.drive-in-Asimut.new.out) (line_of (word_of k) c.drive-in-Asimut.result)) (sym c.in-Asimut.is)
