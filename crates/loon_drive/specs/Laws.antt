@@ -24,16 +24,16 @@ AreExchanged l n k = OnlyExchanges l (record n { models = k.models }) k
 
 -- a netlist of cells of the library is still one
 abbrev pub CellsStay : Type 0
-CellsStay = (l : Library) (n k : Netlist) → HasPassed false l → IsNetlist k → AreExchanged l n k → IsOfCells n l → IsOfCells k l
+CellsStay = (l : Library) (n k : Netlist) → AreExchanged l n k → IsOfCells n l → IsOfCells k l
 
 -- and is still right for a machine
 abbrev pub RightStays : Type 0
-RightStays = (l : Library) (n k : Netlist) (m : Machine) → HasPassed false l → AreExchanged l n k → IsRightNetlist n l m → IsRightNetlist k l m
+RightStays = (l : Library) (n k : Netlist) (m : Machine) → IsNetlist n → AreExchanged l n k → IsRightNetlist n l m → IsRightNetlist k l m
 
 -- and its nets have no more sinks
 abbrev pub FanoutStays : Type 0
 FanoutStays =
-    (l : Library) (n k : Netlist) (limit : ℕ) → HasPassed false l → AreExchanged l n k → IsOfCells n l → HasFanout l limit n → HasFanout l limit k
+    (l : Library) (n k : Netlist) (limit : ℕ) → AreExchanged l n k → HasFanout l limit n → HasFanout l limit k
 
 -- ---- the whole
 

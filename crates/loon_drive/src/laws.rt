@@ -6,7 +6,9 @@ pub fn exchanged_law()
     ensures cells { CellsStay }
     ensures right { RightStays }
     ensures fanout { FanoutStays }
-{}
+{
+    net_theory::exchanged_law();
+}
 
 /// A netlist with buffers and other drives has the instances of the given one, each with a drive of its cell, and buffers behind them;
 /// what is joined in it was joined; few pins read a class; and there are buffers only where a net had too many sinks.
