@@ -1,3 +1,4 @@
 pub mod Driven
+pub mod Errors
 pub mod Fanout
 pub mod Laws

@@ -1,19 +1,25 @@
 // Buffers, and then drives.
-ghost use Rattle.std.specs.Prelude.{◌≡◌, IfOk, IfErr, map};
-ghost use Rattle.net_core.specs.Netlist.{IsNetlist};
+ghost use Rattle.std.specs.Prelude.{◌≡◌, IfOk, IfErr, OnOk, MatchOption, map};
+ghost use Rattle.net_core.specs.Netlist.{IsNetlist, ReservesModels};
+ghost use Rattle.delay_sta.specs.Paths.{IsWorst};
 ghost use Rattle.delay_sta.specs.Timed.{CanBeTimed};
 ghost use Rattle.delay_sta.specs.Exchanged.{HaveTheirArcs};
-ghost use Rattle.loon_fanout.specs.Limited.{HasFanout, IsOfCells, HasRoomForGates, StaysRight, IsBufferRefusal};
+ghost use Rattle.loon_buffer.specs.Drives.{HasDrives, OnlyExchanges, IsDriven};
+ghost use Rattle.loon_fanout.specs.Limited.{HasFanout, IsOfCells, HasRoomForGates, StaysRight};
 ghost use Rattle.loon_drive.specs.Driven.{most_sinks, IsDrivenFrom};
+ghost use Rattle.loon_drive.specs.Errors.{HasFault, IsDriveRefusal};
 
+use crate::error::DriveError;
+use crate::laws::exchanged_law;
 use cell_checks::Library;
 use cell_model::Cell;
+use cell_pins::pin_table;
 use delay_sta::{delays, worst};
 use loon_buffer::{DriveTable, choose_drives};
-use loon_fanout::{BufferError, limit_fanout};
-use net_core::Netlist;
+use loon_fanout::limit_fanout;
+use net_core::{CheckError, NetFault, Netlist, check};
 use std::alloc::{AllocError, Global};
-use vlsi_base::{Listed, Text, Texts};
+use vlsi_base::{Listed, Text};
 
 /// A netlist, and how long its longest path takes, in femtoseconds.
 #[derive(Drop)]
@@ -32,9 +38,47 @@ fn cell_names(alloc: Global, cells: &[Cell]) -> Result<Vec<Text>, AllocError>
     Ok(names)
 }
 
+/// Makes room for the names of all cells among the models that instances can be given.
+fn reserve(alloc: Global, netlist: &mut Netlist, library: &Library) -> Result<(), AllocError>
+    ensures same { OnOk result (netlist.new ≡ record netlist.old { models = netlist.new.models }) }
+    ensures drives { OnOk result (HasDrives library.now netlist.new) }
+{
+    let names = Listed::new(cell_names(alloc, library.cells())?);
+    netlist.reserve_models(alloc, &names)
+}
+
+/// A fault of a netlist of usable cells; none where its paths can be timed.
+fn fault(
+    alloc: Global,
+    netlist: &Netlist,
+    library: &Library,
+) -> Result<Option<NetFault>, AllocError>
+    requires { IsOfCells netlist.now library.now }
+    ensures { IfOk result (λ found. MatchOption found (CanBeTimed library.now netlist.now) (HasFault library.now netlist.now)) }
+{
+    // The library's cells have passed their checks.
+    let _ = library.cells();
+    let table = pin_table(alloc, library, false)?;
+    match check(alloc, netlist, &table) {
+        Ok(()) => Ok(None),
+        Err(CheckError::Memory) => Err(AllocError),
+        Err(CheckError::Fault(fault)) => Ok(Some(fault)),
+    }
+}
+
 /// Cells exchanged for drives of them, so that no exchange of one more makes the longest path shorter.
-fn exchanged(alloc: Global, mut netlist: Netlist, library: &Library) -> Result<Driven, AllocError> {
-    netlist.reserve_models(alloc, &Listed::new(cell_names(alloc, library.cells())?))?;
+fn exchanged(alloc: Global, mut netlist: Netlist, library: &Library) -> Result<Driven, AllocError>
+    requires timed { CanBeTimed library.now netlist }
+    requires drives { HasDrives library.now netlist }
+    requires arcs { HaveTheirArcs library.now }
+    ensures sound { IfOk result (λ d. IsNetlist d.netlist) }
+    ensures exchanged { IfOk result (λ d. OnlyExchanges library.now netlist d.netlist) }
+    ensures timed { IfOk result (λ d. CanBeTimed library.now d.netlist) }
+    ensures driven { IfOk result (λ d. IsDriven d.netlist library.now) }
+    ensures worst { IfOk result (λ d. IsWorst d.netlist library.now d.delay) }
+{
+    // The call says that the netlist is sound.
+    let _ = netlist.classes();
     let table = DriveTable::begin(alloc, library)?;
     let mut times = delays(alloc, &netlist, library)?;
     choose_drives(&mut netlist, &table, library, &mut times);
@@ -42,22 +86,20 @@ fn exchanged(alloc: Global, mut netlist: Netlist, library: &Library) -> Result<D
     Ok(Driven { netlist, delay })
 }
 
-/// Puts buffers into a netlist until no net has more than `fanout` sinks, where less than 2 counts as 2, and then exchanges cells for drives of them until no exchange
-/// of one instance's cell makes the longest path shorter.
+/// Puts buffers into a netlist until no net has more than `fanout` sinks, where less than 2 counts as 2, and then exchanges cells for
+/// drives of them until no exchange of one instance's cell makes the longest path shorter.
 ///
-/// It is refused by `NoBuffer` exactly where a net has too many sinks and the library has neither a buffer nor an inverter. The
-/// netlist must be of usable cells and have passed its checks; with all gates it must have fewer than 2^32 pins. Takes memory
-/// for the netlist, for each terminal and arc, and for each pair of cells of which one can stand for the other.
+/// It is refused by `NoBuffer` exactly where a net has too many sinks and the library has neither a buffer nor an inverter, and by
+/// `Fault` where the netlist with buffers has a fault. The netlist must be of usable cells; with all gates it must have fewer than 2^32
+/// pins. Takes memory for the netlist, for each terminal and arc, and for each pair of cells of which one can stand for the other.
 pub fn drive_netlist(
     alloc: Global,
     netlist: &Netlist,
     library: &Library,
     fanout: u32,
-) -> Result<Driven, BufferError>
-    requires sound { IsNetlist netlist.now }
+) -> Result<Driven, DriveError>
     requires cells { IsOfCells netlist.now library.now }
     requires room { HasRoomForGates netlist.now }
-    requires timed { CanBeTimed library.now netlist.now }
     requires arcs { HaveTheirArcs library.now }
     ensures driven { IfOk result (λ d. IsDrivenFrom netlist.now library.now fanout d.netlist d.delay) }
     ensures sound { IfOk result (λ d. IsNetlist d.netlist) }
@@ -65,8 +107,13 @@ pub fn drive_netlist(
     ensures fanout { IfOk result (λ d. HasFanout library.now (most_sinks fanout) d.netlist) }
     ensures right { IfOk result (λ d. StaysRight netlist.now library.now d.netlist) }
     ensures timed { IfOk result (λ d. CanBeTimed library.now d.netlist) }
-    ensures refused { IfErr result (λ e. IsBufferRefusal netlist.now library.now (most_sinks fanout) e) }
+    ensures refused { IfErr result (λ e. IsDriveRefusal netlist.now library.now fanout e) }
 {
-    let buffered = limit_fanout(alloc, netlist, library, fanout.max(2))?;
-    Ok(exchanged(alloc, buffered, library)?)
+    exchanged_law();
+    let mut limited = limit_fanout(alloc, netlist, library, fanout.max(2))?;
+    reserve(alloc, &mut limited, library)?;
+    if let Some(fault) = fault(alloc, &limited, library)? {
+        return Err(DriveError::Fault(fault));
+    }
+    Ok(exchanged(alloc, limited, library)?)
 }

@@ -2,7 +2,9 @@
 #![tactic(auto)]
 
 mod drive;
+mod error;
 mod laws;
 
 pub use drive::{Driven, drive_netlist};
+pub use error::DriveError;
 pub use laws::{driven_law, exchanged_law};
