@@ -1,1 +1,4 @@
 mod Exchanged
+mod Lists
+pub mod Cells
+pub mod Fitting

@@ -2,7 +2,7 @@
 use Rattle.std.specs.Prelude.{ℕ, false, List}
 use Rattle.cell_model.specs.Library.{Library}
 use Rattle.cell_pins.specs.Table.{IsTableOf}
-use Rattle.net_core.specs.declared.check.NetFault.{NetFault}
+use Rattle.net_core.specs.declared.error.NetFault.{NetFault}
 use Rattle.net_core.specs.declared.pins.ModelPins.{ModelPins}
 use Rattle.net_core.specs.Netlist.{Netlist}
 use Rattle.net_core.specs.Checks.{IsFault}
