@@ -34,6 +34,7 @@ use Rattle.net_view.proofs.Lists.{in_place}
 use Rattle.ocp_rows.specs.Order.{IsInNetlistOrder}
 use Rattle.ocp_rows.specs.Placement.{Placement}
 use Rattle.vbe_words.specs.Laws.{CatalIsNamed, CellCanBeWritten, with_supplies}
+use Rattle.vst_words.proofs.Pins.{said_in, name_in, table_written}
 use Rattle.boog_run.specs.Boog.{IsNetlistFor, IsWritable}
 use Rattle.boog_run.specs.declared.netlist.TheConstants.{MOST_SIZE}
 use Rattle.boog_run.proofs.Sizes.{few_cells}
@@ -98,41 +99,6 @@ named_so r g b name few i =
 
 -- ---- cells of a library that was read
 
-pub said_in : (tracks : Bool) (all : List Source) (cells : List Cell) → AreCells (IsCell tracks) all cells → (c : Cell) → In c cells → (s : Source) × In s all × IsCell tracks s c
-said_in tracks _ _ none c i = elim i [ ]
-said_in tracks _ _ (next {source = s} {rest = all} {cell = d} {cells = cells} made rest) c here = (s, here, made)
-said_in tracks _ _ (next {source = s} {rest = all} {cell = d} {cells = cells} made rest) c (there i) = let x = said_in tracks all cells rest c i in (x.0, there x.1, x.2)
-
-pub name_in : (names files : List (List ℕ)) (s : Source) → In s (sources names files) → In s.name names
-name_in [] files s i = elim i [ ]
-name_in (n ∷ names) files s here = here
-name_in (n ∷ names) files s (there i) = there (name_in names (drop 2 files) s i)
-
-ports_back : (g : List GenericValue) (ports : List Port) → map (λ (p : Pin). p.port) (map (pin_of g) ports) ≡ ports
-ports_back g [] = refl
-ports_back g (p ∷ ps) = ap (λ (r : List Port). p ∷ r) (ports_back g ps)
-
--- ---- pins of models
-
-abbrev made : Name → Dir → Port
-made n d = record { name = n; dir = d }
-
-one_port : (p : ModelPin) (x : Port) → p.name ≡ x.name → p.dir ≡ x.dir → port_of p ≡ x
-one_port p x same way = ap₂ made same way
-
-model_ports : (f : Function) (ports xs : List Port) (ps : List ModelPin) → ArePins f ports xs ps → map port_of ps ≡ xs
-model_ports f ports _ _ no_pins = refl
-model_ports f ports _ _ (one_pin {port = x} {p = p} {rest = xs} {pins = ps} is rest) =
-    ap (λ (y : Port). y ∷ map port_of ps) (one_port p x is.name is.dir) ∙ ap (λ (ys : List Port). x ∷ ys) (model_ports f ports xs ps rest)
-
-model_written : (all : Bool) (cells : List Cell) (table : List ModelPins) → AreModels (IsListed all) cells table → ((c : Cell) → In c cells → CanBePorts (all_ports c))
-    → (m : ModelPins) → In m table → CanBePorts (map port_of m.pins)
-model_written all _ _ no_models can m i = elim i [ ]
-model_written all _ _ (left_out {c = c} {cells = cells} {models = table} out rest) can m i = model_written all cells table rest (λ d j. can d (there j)) m i
-model_written all _ _ (listed {c = c} {m = n} {cells = cells} {models = table} among is rest) can m here =
-    subst (λ (ps : List Port). CanBePorts ps) (sym (model_ports c.function (all_ports c) (all_ports c) n.pins is.pins)) (can c here)
-model_written all _ _ (listed {c = c} {m = n} {cells = cells} {models = table} among is rest) can m (there i) = model_written all cells table rest (λ d j. can d (there j)) m i
-
 -- ---- a netlist
 
 pub same_names : (xs : List Instance) → map (λ (i : Instance). i.name) xs ≡ map (λ (i : Member). i.name) (map member_of xs)
@@ -145,15 +111,8 @@ module _ (lists : CatalIsNamed) (pins_written : CellCanBeWritten) (list : List �
       let x = said_in false (sources library.names files) l.cells library.cells c i in
       subst (λ (t : List ℕ). IsIdentifier t) (sym x.2.said.name) (lists list library.names library.uses x.0.name (name_in library.names files x.0 x.1))
 
-  cell_written : (c : Cell) → In c l.cells → CanBePorts (all_ports c)
-  cell_written c i =
-      let x = said_in false (sources library.names files) l.cells library.cells c i in
-      let said = x.2.said in
-      subst (λ (ps : List Port). CanBePorts (with_supplies ps)) (sym (ap (map (λ (p : Pin). p.port)) said.does.pins ∙ ports_back said.text.generics said.text.ports))
-      (pins_written x.0.vbe said.text said.text_read)
-
   pub pins_can : (table : List ModelPins) → IsTableOf l false table → PinsCanBeWritten table
-  pins_can table r = All-from (λ (m : ModelPins). CanBePorts (map port_of m.pins)) table (λ m i. model_written false l.cells table r cell_written m i)
+  pins_can table r = table_written pins_written false false list files l table library r
 
   module _ (m : Machine) (n : Netlist) (netlist : IsNetlistFor l m n) (small : machine_size m ≤ MOST_SIZE) where
     abbrev seen : Seen

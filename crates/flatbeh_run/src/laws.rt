@@ -3,12 +3,14 @@ ghost use Rattle.flatbeh_run.specs.Laws.{FlatteningIsRead, NetlistHasWords};
 
 use vbe_round::read_again;
 use vbe_words::in_order_can_be_written;
+use vst_words::netlist_words_law;
 
 /// A netlist that is read has the words that a data-flow text of it needs.
 pub fn netlist_has_words()
     ensures { NetlistHasWords }
 {
     in_order_can_be_written();
+    netlist_words_law();
 }
 
 /// What `flatbeh` writes, where it is within the limits of data-flow texts, is read again as a machine that does the same as the
