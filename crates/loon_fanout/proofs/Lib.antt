@@ -8,3 +8,8 @@ pub mod Tying
 pub mod Builds
 pub mod Kept
 pub mod Splitting
+pub mod States
+pub mod Gating
+pub mod Moving
+pub mod Rounds
+pub mod Staying
