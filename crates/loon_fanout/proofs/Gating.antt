@@ -13,7 +13,6 @@ use Rattle.machine_meaning.specs.Machine.{Machine, inputs, outputs, is_input, na
 use Rattle.machine_meaning.specs.Named.{is_same_text, is_same_name}
 use Rattle.machine_core.specs.Checked.{IsChecked}
 use Rattle.machine_core.proofs.Names.{same_name-true, same_name-itself, same_name-false}
-use Rattle.sym_shapes.specs.Shape.{connector_names}
 use Rattle.cell_model.specs.Cell.{Function, gate, flip_flop, other, opaque, Cell, pin_ports, cell_inputs, cell_outputs}
 use Rattle.cell_model.specs.Library.{Library, cell_of, IsUsable, IsPlain}
 use Rattle.cell_model.proofs.Members.{In-split, In-left, In-right, In-map, In-map_back}
@@ -93,26 +92,26 @@ module _ (l : Library) (m : Machine) (w : Wired) (s : State l m w) (c : Cell) (b
   pub rank_new : rank_after top ≡ suc (s.rank a + s.rank a)
   rank_new = ap (λ (e : Bool). if e then suc (s.rank a + s.rank a) else s.rank top + s.rank top) (eq-eqb top top refl)
 
-  member : (i : Member) → In i (map member_of w.instances) → i.name ≢ name
+  pub member : (i : Member) → In i (map member_of w.instances) → i.name ≢ name
   member i listed e = let x = In-map_back member_of i w.instances listed in new_name x.0 x.1 (ap (λ (y : Member). y.name) x.2 ∙ e)
 
-  old_owner : (t : Terminal) → IsTerminal (as_netlist w) l t → is_same_owner t.instance (Some name) ≡ false
+  pub old_owner : (t : Terminal) → IsTerminal (as_netlist w) l t → is_same_owner t.instance (Some name) ≡ false
   old_owner t (a_port listed) = refl
   old_owner t (a_pin i cell listed found pin) = text_differs i.name name (member i listed)
 
   pub class_kept : (t : Terminal) → IsTerminal (as_netlist w) l t → after.class t ≡ w.class t
   class_kept t is = ap (λ (x : Bool). if x then pin_class w c k t.pin else w.class t) (old_owner t is)
 
-  source_kept : (t : Terminal) → IsTerminal (as_netlist w) l t → source_of added t ≡ source_of old t
+  pub source_kept : (t : Terminal) → IsTerminal (as_netlist w) l t → source_of added t ≡ source_of old t
   source_kept t is = ap source_after (class_kept t is) ∙ source_old (w.class t) (s.shows.numbered t is)
 
-  pins_kept : (owner : List ℕ) (pins : List Name) → ((p : Name) → In p pins → IsTerminal (as_netlist w) l (pin_of owner p)) → pin_sources added owner pins ≡ pin_sources old owner pins
+  pub pins_kept : (owner : List ℕ) (pins : List Name) → ((p : Name) → In p pins → IsTerminal (as_netlist w) l (pin_of owner p)) → pin_sources added owner pins ≡ pin_sources old owner pins
   pins_kept owner [] each = refl
   pins_kept owner (p ∷ pins) each =
       ap (λ (x : Source). x ∷ pin_sources added owner pins) (source_kept (pin_of owner p) (each p here))
       ∙ ap (λ (xs : List Source). source_of old (pin_of owner p) ∷ xs) (pins_kept owner pins (λ q g. each q (there g)))
 
-  leaves_low : (owner : List ℕ) (pins : List Name) (leaves : List ℕ) → ((p : Name) → In p pins → IsTerminal (as_netlist w) l (pin_of owner p))
+  pub leaves_low : (owner : List ℕ) (pins : List Name) (leaves : List ℕ) → ((p : Name) → In p pins → IsTerminal (as_netlist w) l (pin_of owner p))
       → pin_sources old owner pins ≡ map node leaves → (y : ℕ) → In y leaves → y < top
   leaves_low owner [] [] each same y h = elim h [ ]
   leaves_low owner [] (z ∷ leaves) each same y h = absurd (cc same)
@@ -120,7 +119,7 @@ module _ (l : Library) (m : Machine) (w : Wired) (s : State l m w) (c : Cell) (b
   leaves_low owner (p ∷ pins) (z ∷ leaves) each same y here = terminal_low l m w s (pin_of owner p) y (each p here) (cc same)
   leaves_low owner (p ∷ pins) (z ∷ leaves) each same y (there h) = leaves_low owner pins leaves (λ q g. each q (there g)) (cc same) y h
 
-  plays : (p : Seat) (d : Cell) (u : Function) → In p s.shows.seats → Has (as_netlist w) l p.member d → IsUsable d → d.function ≡ u → IsPlain d u
+  pub plays : (p : Seat) (d : Cell) (u : Function) → In p s.shows.seats → Has (as_netlist w) l p.member d → IsUsable d → d.function ≡ u → IsPlain d u
       → Plays old m s.values s.roots p d u → Plays added m values_after s.roots p d u
   plays p d (gate e) g has usable is plain was =
       let each = λ (z : Name) (h : In z (cell_inputs d)). input_terminal (as_netlist w) l p.member d z has usable h in
@@ -151,10 +150,10 @@ module _ (l : Library) (m : Machine) (w : Wired) (s : State l m w) (c : Cell) (b
   plays p d (other machine) g has usable is plain was = absurd was
   plays p d opaque g has usable is plain was = absurd was
 
-  supply : (i : Member) (d : Cell) (n : Name) → Has (as_netlist w) l i d → IsUsable d → (n ≡ vdd) ⊎ (n ≡ vss) → IsTerminal (as_netlist w) l (pin_of i.name n)
+  pub supply : (i : Member) (d : Cell) (n : Name) → Has (as_netlist w) l i d → IsUsable d → (n ≡ vdd) ⊎ (n ≡ vss) → IsTerminal (as_netlist w) l (pin_of i.name n)
   supply i d n has usable is = a_pin i d has.listed has.found ((usable.connectors n).1 (elim is [ inl x ↦ inl x | inr y ↦ inr (inl y) ]))
 
-  seated_old : (p : Seat) → In p s.shows.seats → IsSeated added l m values_after s.roots p
+  pub seated_old : (p : Seat) → In p s.shows.seats → IsSeated added l m values_after s.roots p
   seated_old p g =
       let t = s.shows.seated p g in
       let has = seat_has old l m s.values s.roots s.shows p g in
@@ -172,37 +171,37 @@ module _ (l : Library) (m : Machine) (w : Wired) (s : State l m w) (c : Cell) (b
   pub a_low : a < top
   a_low = node_low l m w s k a low_k shows_a
 
-  new_class : (pin : Name) → after.class (pin_of name pin) ≡ pin_class w c k pin
+  pub new_class : (pin : Name) → after.class (pin_of name pin) ≡ pin_class w c k pin
   new_class pin = ap (λ (x : Bool). if x then pin_class w c k pin else w.class (pin_of name pin)) (text_itself name)
 
   abbrev input : Name
   input = (one_of (cell_inputs c) b.one).0
 
-  input_is : cell_inputs c ≡ input ∷ []
+  pub input_is : cell_inputs c ≡ input ∷ []
   input_is = (one_of (cell_inputs c) b.one).1
 
-  plain_gate : IsPlain c (gate b.expr)
+  pub plain_gate : IsPlain c (gate b.expr)
   plain_gate = subst (λ (u : Function). IsPlain c u) b.is_gate b.usable.function
 
   abbrev output : Name
   output = (one_of (cell_outputs c) plain_gate.0).0
 
-  output_is : cell_outputs c ≡ output ∷ []
+  pub output_is : cell_outputs c ≡ output ∷ []
   output_is = (one_of (cell_outputs c) plain_gate.0).1
 
-  in_inputs : In input (cell_inputs c)
+  pub in_inputs : In input (cell_inputs c)
   in_inputs = subst (λ (ns : List Name). In input ns) (sym input_is) here
 
-  in_outputs : In output (cell_outputs c)
+  pub in_outputs : In output (cell_outputs c)
   in_outputs = subst (λ (ns : List Name). In output ns) (sym output_is) here
 
-  signal : (test : Port → Bool) (pin : Name) → In pin (names_of (filter test (pin_ports c))) → (pin ≢ vdd) × (pin ≢ vss)
+  pub signal : (test : Port → Bool) (pin : Name) → In pin (names_of (filter test (pin_ports c))) → (pin ≢ vdd) × (pin ≢ vss)
   signal test pin inside =
       let p = In-map_back (λ (y : Port). y.name) pin (filter test (pin_ports c)) inside in
       let q = in_filter test (pin_ports c) p.0 p.1 in
       b.signals pin (subst (λ (n : Name). In n (names_of (pin_ports c))) p.2 (In-map (λ (y : Port). y.name) p.0 (pin_ports c) q.0))
 
-  input_class : after.class (pin_of name input) ≡ k
+  pub input_class : after.class (pin_of name input) ≡ k
   input_class = new_class input ∙ by where
     by : pin_class w c k input ≡ k
     by =
@@ -210,7 +209,7 @@ module _ (l : Library) (m : Machine) (w : Wired) (s : State l m w) (c : Cell) (b
         let among = in_any (λ (pin : Name). is_same_name pin input) (cell_inputs c) input in_inputs (same_name-itself input) in
         rw (same_name-false input vdd t.0, same_name-false input vss t.1, among) refl
 
-  output_class : after.class (pin_of name output) ≡ w.count
+  pub output_class : after.class (pin_of name output) ≡ w.count
   output_class = new_class output ∙ by where
     by : pin_class w c k output ≡ w.count
     by =
@@ -220,13 +219,13 @@ module _ (l : Library) (m : Machine) (w : Wired) (s : State l m w) (c : Cell) (b
         in_or_out c output b.usable (subst (λ (n : Name). In n (cell_inputs c)) (same_name-true x.0 output x.2) x.1) in_outputs) in
         rw (same_name-false output vdd t.0, same_name-false output vss t.1, apart) refl
 
-  vdd_low : w.class (port vdd) < w.count
+  pub vdd_low : w.class (port vdd) < w.count
   vdd_low = s.shows.numbered (port vdd) (a_port ((s.shows.ports vdd).1 (inl refl)))
 
-  vss_low : w.class (port vss) < w.count
+  pub vss_low : w.class (port vss) < w.count
   vss_low = s.shows.numbered (port vss) (a_port ((s.shows.ports vss).1 (inr (inl refl))))
 
-  seated_new : IsSeated added l m values_after s.roots last
+  pub seated_new : IsSeated added l m values_after s.roots last
   seated_new = record {
     cell = c;
     found = b.found;
@@ -251,28 +250,28 @@ module _ (l : Library) (m : Machine) (w : Wired) (s : State l m w) (c : Cell) (b
   pub kind : (p : Seat) → In p (s.shows.seats ++ last ∷ []) → In p s.shows.seats ⊎ (p ≡ last)
   kind p g = elim (In-split p s.shows.seats (last ∷ []) g) [ inl first ↦ inl first | inr new ↦ inr (In-one last p new) ]
 
-  seated : (p : Seat) → In p (s.shows.seats ++ last ∷ []) → IsSeated added l m values_after s.roots p
+  pub seated : (p : Seat) → In p (s.shows.seats ++ last ∷ []) → IsSeated added l m values_after s.roots p
   seated p g = elim (kind p g) [
     | inl first ↦ seated_old p first
     | inr new ↦ subst (λ (z : Seat). IsSeated added l m values_after s.roots z) (sym new) seated_new
   ]
 
-  one_node : (p q : Seat) → In p s.shows.seats ⊎ (p ≡ last) → In q s.shows.seats ⊎ (q ≡ last) → p.node ≡ q.node → p ≡ q
+  pub one_node : (p q : Seat) → In p s.shows.seats ⊎ (p ≡ last) → In q s.shows.seats ⊎ (q ≡ last) → p.node ≡ q.node → p ≡ q
   one_node p q (inl x) (inl y) same = s.shows.one_node p q x y same
   one_node p q (inl x) (inr y) same = let low_one = seat_low l m w s p x in let e = ap (λ (z : Seat). z.node) y in absurd (omega (arith, low_one, e, same))
   one_node p q (inr x) (inl y) same = let low_one = seat_low l m w s q y in let e = ap (λ (z : Seat). z.node) x in absurd (omega (arith, low_one, e, same))
   one_node p q (inr x) (inr y) same = x ∙ sym y
 
-  one_name : (p q : Seat) → In p s.shows.seats ⊎ (p ≡ last) → In q s.shows.seats ⊎ (q ≡ last) → p.member.name ≡ q.member.name → p ≡ q
+  pub one_name : (p q : Seat) → In p s.shows.seats ⊎ (p ≡ last) → In q s.shows.seats ⊎ (q ≡ last) → p.member.name ≡ q.member.name → p ≡ q
   one_name p q (inl x) (inl y) same = s.shows.one_name p q x y same
   one_name p q (inl x) (inr y) same = absurd (member p.member (seat_has old l m s.values s.roots s.shows p x).listed (same ∙ ap (λ (z : Seat). z.member.name) y))
   one_name p q (inr x) (inl y) same = absurd (member q.member (seat_has old l m s.values s.roots s.shows q y).listed (sym same ∙ ap (λ (z : Seat). z.member.name) x))
   one_name p q (inr x) (inr y) same = x ∙ sym y
 
-  old_or_new : (x : ℕ) → x < suc w.count → (x < w.count) ⊎ (x ≡ w.count)
+  pub old_or_new : (x : ℕ) → x < suc w.count → (x < w.count) ⊎ (x ≡ w.count)
   old_or_new x below = elim (cases_lt x w.count) [ inl low_one ↦ inl low_one | inr up ↦ inr (omega (arith, below, up)) ]
 
-  one_class : (x y : ℕ) → (x < w.count) ⊎ (x ≡ w.count) → (y < w.count) ⊎ (y ≡ w.count) → source_after x ≡ source_after y → x ≡ y
+  pub one_class : (x y : ℕ) → (x < w.count) ⊎ (x ≡ w.count) → (y < w.count) ⊎ (y ≡ w.count) → source_after x ≡ source_after y → x ≡ y
   one_class x y (inl d) (inl e) same = s.shows.one_class x y d e (sym (source_old x d) ∙ same ∙ source_old y e)
   one_class x y (inl d) (inr e) same =
       let low_one = node_low l m w s x top d (sym (source_old x d) ∙ same ∙ ap source_after e ∙ source_new) in absurd (omega (arith, low_one))
@@ -280,28 +279,28 @@ module _ (l : Library) (m : Machine) (w : Wired) (s : State l m w) (c : Cell) (b
       let low_one = node_low l m w s y top e (sym (source_old y e) ∙ sym same ∙ ap source_after d ∙ source_new) in absurd (omega (arith, low_one))
   one_class x y (inr d) (inr e) same = d ∙ sym e
 
-  more : (x : Source) → ComesFrom m s.shows.seats x → ComesFrom m (s.shows.seats ++ last ∷ []) x
+  pub more : (x : Source) → ComesFrom m s.shows.seats x → ComesFrom m (s.shows.seats ++ last ∷ []) x
   more high x = tt
   more low x = tt
   more ticking x = x
   more (node y) x = elim x [ inl low_one ↦ inl low_one | inr p ↦ inr (p.0, In-left p.0 s.shows.seats (last ∷ []) p.1, p.2) ]
 
-  origins : (x : ℕ) → (x < w.count) ⊎ (x ≡ w.count) → ComesFrom m (s.shows.seats ++ last ∷ []) (source_after x)
+  pub origins : (x : ℕ) → (x < w.count) ⊎ (x ≡ w.count) → ComesFrom m (s.shows.seats ++ last ∷ []) (source_after x)
   origins x (inl below) = subst (λ (z : Source). ComesFrom m (s.shows.seats ++ last ∷ []) z) (sym (source_old x below)) (more (s.source x) (s.shows.origins x below))
   origins x (inr is) = subst (λ (z : Source). ComesFrom m (s.shows.seats ++ last ∷ []) z) (sym (ap source_after is ∙ source_new)) (inr (last, In-last last s.shows.seats, refl))
 
-  port_kept : (n : Name) → (n ≡ vdd) ⊎ ((n ≡ vss) ⊎ In n (names_of m.ports)) → source_of added (port n) ≡ source_of old (port n)
+  pub port_kept : (n : Name) → (n ≡ vdd) ⊎ ((n ≡ vss) ⊎ In n (names_of m.ports)) → source_of added (port n) ≡ source_of old (port n)
   port_kept n is = source_kept (port n) (a_port ((s.shows.ports n).1 is))
 
-  old_class : (t : Terminal) → IsTerminal (as_netlist w) l t → after.class t < suc w.count
+  pub old_class : (t : Terminal) → IsTerminal (as_netlist w) l t → after.class t < suc w.count
   old_class t is = let e = class_kept t is in let below = s.shows.numbered t is in omega (arith, e, below)
 
-  gate_class : (d : Cell) (n : Name) → c ≡ d → In n (connector_names d.items) → after.class (pin_of name n) < suc w.count
-  gate_class d n same listed = elim ((b.usable.connectors n).0 (subst (λ (z : Cell). In n (connector_names z.items)) (sym same) listed)) [
+  pub gate_class : (d : Cell) (n : Name) → c ≡ d → (n ≡ vdd) ⊎ ((n ≡ vss) ⊎ In n (names_of (pin_ports d))) → after.class (pin_of name n) < suc w.count
+  gate_class d n same named_so = elim named_so [
     | inl is ↦ let e = ap (λ (z : Name). after.class (pin_of name z)) is in let v = new_class vdd in let low_one = vdd_low in omega (arith, e, v, low_one)
     | inr others ↦ elim others [
       | inl is ↦ let e = ap (λ (z : Name). after.class (pin_of name z)) is in let v = new_class vss in let low_one = vss_low in omega (arith, e, v, low_one)
-      | inr pin ↦ elim (In-pins (pin_ports c) n pin) [
+      | inr pin ↦ elim (In-pins (pin_ports c) n (subst (λ (z : Cell). In n (names_of (pin_ports z))) (sym same) pin)) [
         | inl i ↦
             let e = ap (λ (z : Name). after.class (pin_of name z)) (In-only input n (cell_inputs c) input_is i) in
             let v = input_class in omega (arith, e, v, low_k)
@@ -312,10 +311,10 @@ module _ (l : Library) (m : Machine) (w : Wired) (s : State l m w) (c : Cell) (b
     ]
   ]
 
-  instances_after : map member_of after.instances ≡ map member_of w.instances ++ last.member ∷ []
+  pub instances_after : map member_of after.instances ≡ map member_of w.instances ++ last.member ∷ []
   instances_after = map-append member_of w.instances (gate_named c name ∷ [])
 
-  numbered : (t : Terminal) → IsTerminal (as_netlist after) l t → after.class t < suc w.count
+  pub numbered : (t : Terminal) → IsTerminal (as_netlist after) l t → after.class t < suc w.count
   numbered t (a_port {name = n} g) = old_class (port n) (a_port g)
   numbered t (a_pin {name = n} i d listed found g) =
       elim (In-split i (map member_of w.instances) (last.member ∷ []) (subst (λ (all : List Member). In i all) instances_after listed)) [
@@ -325,7 +324,8 @@ module _ (l : Library) (m : Machine) (w : Wired) (s : State l m w) (c : Cell) (b
             let there_found : cell_of l c.name ≡ Some d = subst (λ (z : Member). cell_of l z.model ≡ Some d) is found in
             let gate_found : cell_of l c.name ≡ Some c = b.found in
             let same : c ≡ d = cc (there_found, gate_found) in
-            subst (λ (z : Member). after.class (pin_of z.name n) < suc w.count) (sym is) (gate_class d n same g)
+            let usable : IsUsable d = subst (λ (z : Cell). IsUsable z) same b.usable in
+            subst (λ (z : Member). after.class (pin_of z.name n) < suc w.count) (sym is) (gate_class d n same ((usable.connectors n).0 g))
       ]
 
   abbrev pub shows_after : IsChecked m → Shows added l m values_after s.roots
@@ -349,7 +349,7 @@ module _ (l : Library) (m : Machine) (w : Wired) (s : State l m w) (c : Cell) (b
     different = s.shows.different;
   }
 
-  means_after : Means m values_after s.roots
+  pub means_after : Means m values_after s.roots
   means_after =
       let all = fresh_beyond l m w s in
       record {

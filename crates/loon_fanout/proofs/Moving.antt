@@ -46,11 +46,11 @@ module _ (l : Library) (m : Machine) (w : Wired) (s : State l m w) where
   here_net = net l m w s
 
   -- an instance of the sink's name is its owner
-  record Owns (i : Member) (d : Cell) (t : Terminal) (x : IsSink l w t) : Type 0 where
+  pub record Owns (i : Member) (d : Cell) (t : Terminal) (x : IsSink l w t) : Type 0 where
     pub usable : IsUsable d
     pub cell : x.cell ≡ d
 
-  owns : (i : Member) (d : Cell) → Has (as_netlist w) l i d → (t : Terminal) (x : IsSink l w t) → x.owner.name ≡ i.name → Owns i d t x
+  pub owns : (i : Member) (d : Cell) → Has (as_netlist w) l i d → (t : Terminal) (x : IsSink l w t) → x.owner.name ≡ i.name → Owns i d t x
   owns i d has t x name =
       let mine = sits here_net l m s.values s.roots s.shows i d has.listed has.found in
       let others = sits here_net l m s.values s.roots s.shows (member_of x.owner) x.cell (In-map member_of x.owner w.instances x.listed) x.found in
@@ -62,7 +62,7 @@ module _ (l : Library) (m : Machine) (w : Wired) (s : State l m w) where
       record { usable = mine.usable; cell = cc (again, found) }
 
   -- the only sink of a flip-flop is its data pin
-  data_pin_of : (c : Cell) (d ck pin : Name) → IsUsable c → c.function ≡ flip_flop d ck → In pin (cell_inputs c) → is_clock_of c.function pin ≡ false → pin ≡ d
+  pub data_pin_of : (c : Cell) (d ck pin : Name) → IsUsable c → c.function ≡ flip_flop d ck → In pin (cell_inputs c) → is_clock_of c.function pin ≡ false → pin ≡ d
   data_pin_of c d ck pin usable is input no_clock =
       let off : is_same_name ck pin ≡ false = subst (λ (u : Function). is_clock_of u pin ≡ false) is no_clock in
       let two : IsPlain c (flip_flop d ck) = subst (λ (u : Function). IsPlain c u) is usable.function in
@@ -74,7 +74,7 @@ module _ (l : Library) (m : Machine) (w : Wired) (s : State l m w) where
           let no : false ≡ true = sym yes ∙ itself in cc no)
       ]
 
-  own_has : (t : Terminal) (x : IsSink l w t) → Has (as_netlist w) l (member_of x.owner) x.cell
+  pub own_has : (t : Terminal) (x : IsSink l w t) → Has (as_netlist w) l (member_of x.owner) x.cell
   own_has t x = record { listed = In-map member_of x.owner w.instances x.listed; found = x.found }
 
   pub sink_terminal : (t : Terminal) → IsSink l w t → IsTerminal (as_netlist w) l t
@@ -126,7 +126,7 @@ module _ (l : Library) (m : Machine) (w : Wired) (s : State l m w) (group : List
   abbrev pub moved : Terminal → Bool
   moved t = list_any (is_same_terminal t) group
 
-  movable : (t : Terminal) → moved t ≡ true → IsMovable l m w s b t
+  pub movable : (t : Terminal) → moved t ≡ true → IsMovable l m w s b t
   movable t e =
       let u = any_in (is_same_terminal t) group e in
       each t (subst (λ (x : Terminal). In x group) (sym (terminal_same t u.0 u.2)) u.1)
@@ -134,24 +134,24 @@ module _ (l : Library) (m : Machine) (w : Wired) (s : State l m w) (group : List
   pub class_after : (t : Terminal) → after.class t ≡ (if moved t then to else w.class t)
   class_after t = ap (λ (x : ℕ). if moved t then x else w.class t) to_is
 
-  source_by : (t : Terminal) → source_of there_net t ≡ (if moved t then node b else source_of old t)
+  pub source_by : (t : Terminal) → source_of there_net t ≡ (if moved t then node b else source_of old t)
   source_by t = ap s.source (class_after t) ∙ by (moved t) where
     by : (e : Bool) → s.source (if e then to else w.class t) ≡ (if e then node b else source_of old t)
     by true = shows_b
     by false = refl
 
-  source_kept : (t : Terminal) → moved t ≡ false → source_of there_net t ≡ source_of old t
+  pub source_kept : (t : Terminal) → moved t ≡ false → source_of there_net t ≡ source_of old t
   source_kept t stays = source_by t ∙ ap (λ (e : Bool). if e then node b else source_of old t) stays
 
   -- what shows no node keeps its class
-  not_moved : (t : Terminal) (x : Source) → source_of old t ≡ x → ((y : ℕ) → x ≡ node y → ⊥) → moved t ≡ false
+  pub not_moved : (t : Terminal) (x : Source) → source_of old t ≡ x → ((y : ℕ) → x ≡ node y → ⊥) → moved t ≡ false
   not_moved t x is apart = is_false (moved t) (λ e. let g = movable t e in absurd (apart g.from (sym is ∙ g.shows)))
 
-  no_port : (n : Name) → moved (port n) ≡ false
+  pub no_port : (n : Name) → moved (port n) ≡ false
   no_port n = is_false (moved (port n)) (λ e. let g = movable (port n) e in
       let wrong : None ≡ Some g.sink.owner.name = ap (λ (x : Terminal). x.instance) g.sink.is in absurd (cc wrong))
 
-  no_output : (i : Member) (d : Cell) (pin : Name) → Has (as_netlist w) l i d → In pin (cell_outputs d) → moved (pin_of i.name pin) ≡ false
+  pub no_output : (i : Member) (d : Cell) (pin : Name) → Has (as_netlist w) l i d → In pin (cell_outputs d) → moved (pin_of i.name pin) ≡ false
   no_output i d pin has out = is_false (moved (pin_of i.name pin)) (λ e.
       let g = movable (pin_of i.name pin) e in
       let names : Some i.name ≡ Some g.sink.owner.name = ap (λ (x : Terminal). x.instance) g.sink.is in
@@ -162,20 +162,20 @@ module _ (l : Library) (m : Machine) (w : Wired) (s : State l m w) (group : List
       let mine : In pin (cell_inputs g.sink.cell) = subst (λ (n : Name). In n (cell_inputs g.sink.cell)) (sym pins) input in
       in_or_out d pin o.usable (subst (λ (x : Cell). In pin (cell_inputs x)) o.cell mine) out)
 
-  choose : (e : Bool) (y : ℕ) (x : Source) → x ≡ node y → (if e then node b else x) ≡ node (if e then b else y)
+  pub choose : (e : Bool) (y : ℕ) (x : Source) → x ≡ node y → (if e then node b else x) ≡ node (if e then b else y)
   choose true y x is = refl
   choose false y x is = is
 
-  from_is : (t : Terminal) (y : ℕ) (g : IsMovable l m w s b t) → source_of old t ≡ node y → g.from ≡ y
+  pub from_is : (t : Terminal) (y : ℕ) (g : IsMovable l m w s b t) → source_of old t ≡ node y → g.from ≡ y
   from_is t y g is = let nodes : node g.from ≡ node y = sym g.shows ∙ is in cc nodes
 
-  leaf_bits : (t : Terminal) (y : ℕ) → source_of old t ≡ node y → (i r : List Bool) → s.values i r (if moved t then b else y) ≡ s.values i r y
+  pub leaf_bits : (t : Terminal) (y : ℕ) → source_of old t ≡ node y → (i r : List Bool) → s.values i r (if moved t then b else y) ≡ s.values i r y
   leaf_bits t y is i r = by (moved t) refl where
     by : (e : Bool) → moved t ≡ e → s.values i r (if e then b else y) ≡ s.values i r y
     by true e = let g = movable t e in sym (g.bits i r) ∙ ap (s.values i r) (from_is t y g is)
     by false e = refl
 
-  leaf_rank : (p : Seat) → In p s.shows.seats → (pin : Name) (y : ℕ) → source_of old (pin_of p.member.name pin) ≡ node y → s.rank y < s.rank p.node
+  pub leaf_rank : (p : Seat) → In p s.shows.seats → (pin : Name) (y : ℕ) → source_of old (pin_of p.member.name pin) ≡ node y → s.rank y < s.rank p.node
       → s.rank (if moved (pin_of p.member.name pin) then b else y) < s.rank p.node
   leaf_rank p listed pin y is before = by (moved (pin_of p.member.name pin)) refl where
     by : (e : Bool) → moved (pin_of p.member.name pin) ≡ e → s.rank (if e then b else y) < s.rank p.node
@@ -191,7 +191,7 @@ module _ (l : Library) (m : Machine) (w : Wired) (s : State l m w) (group : List
   leaves_after owner (p ∷ pins) [] = []
   leaves_after owner (p ∷ pins) (y ∷ leaves) = (if moved (pin_of owner p) then b else y) ∷ leaves_after owner pins leaves
 
-  reads_after : (owner : List ℕ) (pins : List Name) (leaves : List ℕ) → pin_sources old owner pins ≡ map node leaves
+  pub reads_after : (owner : List ℕ) (pins : List Name) (leaves : List ℕ) → pin_sources old owner pins ≡ map node leaves
       → pin_sources there_net owner pins ≡ map node (leaves_after owner pins leaves)
   reads_after owner [] [] same = refl
   reads_after owner [] (y ∷ leaves) same = absurd (cc same)
@@ -203,7 +203,7 @@ module _ (l : Library) (m : Machine) (w : Wired) (s : State l m w) (group : List
       let shown_z : source_of there_net (pin_of owner p) ≡ node z = source_by (pin_of owner p) ∙ choose (moved (pin_of owner p)) y (source_of old (pin_of owner p)) first in
       ap (λ (x : Source). x ∷ pin_sources there_net owner pins) shown_z ∙ ap (λ (xs : List Source). node z ∷ xs) (reads_after owner pins leaves others)
 
-  bits_after : (owner : List ℕ) (pins : List Name) (leaves : List ℕ) → pin_sources old owner pins ≡ map node leaves
+  pub bits_after : (owner : List ℕ) (pins : List Name) (leaves : List ℕ) → pin_sources old owner pins ≡ map node leaves
       → (i r : List Bool) → map (s.values i r) (leaves_after owner pins leaves) ≡ map (s.values i r) leaves
   bits_after owner [] [] same i r = refl
   bits_after owner [] (y ∷ leaves) same i r = absurd (cc same)
@@ -214,7 +214,7 @@ module _ (l : Library) (m : Machine) (w : Wired) (s : State l m w) (group : List
       ap (λ (x : Bool). x ∷ map (s.values i r) (leaves_after owner pins leaves)) (leaf_bits (pin_of owner p) y first i r)
       ∙ ap (λ (xs : List Bool). s.values i r y ∷ xs) (bits_after owner pins leaves others i r)
 
-  ranks_after : (p : Seat) → In p s.shows.seats → (pins : List Name) (leaves : List ℕ) → pin_sources old p.member.name pins ≡ map node leaves
+  pub ranks_after : (p : Seat) → In p s.shows.seats → (pins : List Name) (leaves : List ℕ) → pin_sources old p.member.name pins ≡ map node leaves
       → ((y : ℕ) → In y leaves → s.rank y < s.rank p.node) → (z : ℕ) → In z (leaves_after p.member.name pins leaves) → s.rank z < s.rank p.node
   ranks_after p listed [] leaves same before z h = elim h [ ]
   ranks_after p listed (pin ∷ pins) [] same before z h = elim h [ ]
@@ -223,7 +223,7 @@ module _ (l : Library) (m : Machine) (w : Wired) (s : State l m w) (group : List
   ranks_after p listed (pin ∷ pins) (y ∷ leaves) same before z (there h) =
       let others : pin_sources old p.member.name pins ≡ map node leaves = cc same in ranks_after p listed pins leaves others (λ x g. before x (there g)) z h
 
-  outputs_kept : (i : Member) (d : Cell) → Has (as_netlist w) l i d → (names : List Name) → ((y : Name) → In y names → In y (cell_outputs d))
+  pub outputs_kept : (i : Member) (d : Cell) → Has (as_netlist w) l i d → (names : List Name) → ((y : Name) → In y names → In y (cell_outputs d))
       → pin_sources there_net i.name names ≡ pin_sources old i.name names
   outputs_kept i d has [] among = refl
   outputs_kept i d has (p ∷ names) among =
@@ -231,7 +231,7 @@ module _ (l : Library) (m : Machine) (w : Wired) (s : State l m w) (group : List
       ∙ ap (λ (xs : List Source). source_of old (pin_of i.name p) ∷ xs) (outputs_kept i d has names (λ y g. among y (there g)))
 
   -- a register loads the new node exactly where its data pin is moved
-  any_is : (i : Member) (d : Cell) (data_pin clock_pin : Name) (j : ℕ) → Has (as_netlist w) l i d → d.function ≡ flip_flop data_pin clock_pin → i.name ≡ register_instance j
+  pub any_is : (i : Member) (d : Cell) (data_pin clock_pin : Name) (j : ℕ) → Has (as_netlist w) l i d → d.function ≡ flip_flop data_pin clock_pin → i.name ≡ register_instance j
       → list_any (λ t. is_same_owner t.instance (Some (register_instance j))) group ≡ moved (pin_of i.name data_pin)
   any_is i d data_pin clock_pin j has is number = by (moved (pin_of i.name data_pin)) refl where
     by : (y : Bool) → moved (pin_of i.name data_pin) ≡ y → list_any (λ t. is_same_owner t.instance (Some (register_instance j))) group ≡ y
@@ -255,7 +255,7 @@ module _ (l : Library) (m : Machine) (w : Wired) (s : State l m w) (group : List
         let hit = in_any (is_same_terminal (pin_of i.name data_pin)) group u.0 u.1 (subst (λ (t : Terminal). is_same_terminal (pin_of i.name data_pin) t ≡ true) (sym t_is) (terminal_itself (pin_of i.name data_pin))) in
         let no : false ≡ true = sym e ∙ hit in absurd (cc no))
 
-  plays : (p : Seat) (d : Cell) (u : Function) → In p s.shows.seats → Has (as_netlist w) l p.member d → IsUsable d → d.function ≡ u → IsPlain d u
+  pub plays : (p : Seat) (d : Cell) (u : Function) → In p s.shows.seats → Has (as_netlist w) l p.member d → IsUsable d → d.function ≡ u → IsPlain d u
       → Plays old m s.values s.roots p d u → Plays there_net m s.values roots_there p d u
   plays p d (gate e) g has usable is plain was = record {
     beyond = was.beyond;
@@ -280,7 +280,7 @@ module _ (l : Library) (m : Machine) (w : Wired) (s : State l m w) (group : List
   plays p d (other machine) g has usable is plain was = absurd was
   plays p d opaque g has usable is plain was = absurd was
 
-  seated : (p : Seat) → In p s.shows.seats → IsSeated there_net l m s.values roots_there p
+  pub seated : (p : Seat) → In p s.shows.seats → IsSeated there_net l m s.values roots_there p
   seated p g =
       let t = s.shows.seated p g in
       let has = seat_has old l m s.values s.roots s.shows p g in
@@ -293,14 +293,14 @@ module _ (l : Library) (m : Machine) (w : Wired) (s : State l m w) (group : List
         plays = plays p t.cell t.cell.function g has t.usable refl t.usable.function t.plays;
       }
 
-  port_kept : (n : Name) → source_of there_net (port n) ≡ source_of old (port n)
+  pub port_kept : (n : Name) → source_of there_net (port n) ≡ source_of old (port n)
   port_kept n = source_kept (port n) (no_port n)
 
-  same_terminal : (t : Terminal) → IsTerminal (as_netlist after) l t → IsTerminal (as_netlist w) l t
+  pub same_terminal : (t : Terminal) → IsTerminal (as_netlist after) l t → IsTerminal (as_netlist w) l t
   same_terminal t (a_port {name = n} g) = a_port g
   same_terminal t (a_pin {name = n} i d listed found g) = a_pin i d listed found g
 
-  numbered : (t : Terminal) → IsTerminal (as_netlist after) l t → after.class t < w.count
+  pub numbered : (t : Terminal) → IsTerminal (as_netlist after) l t → after.class t < w.count
   numbered t is = subst (λ (x : ℕ). x < w.count) (sym (class_after t)) (by (moved t)) where
     by : (e : Bool) → (if e then to else w.class t) < w.count
     by true = low_to
@@ -327,13 +327,13 @@ module _ (l : Library) (m : Machine) (w : Wired) (s : State l m w) (group : List
     different = s.shows.different;
   }
 
-  load_bits : (k : ℕ) (r : IsRegister l m w s k) (i t : List Bool) → s.values i t (roots_there.load k) ≡ s.values i t (s.roots.load k)
+  pub load_bits : (k : ℕ) (r : IsRegister l m w s k) (i t : List Bool) → s.values i t (roots_there.load k) ≡ s.values i t (s.roots.load k)
   load_bits k r i t =
       let has = seat_has old l m s.values s.roots s.shows r.seat r.listed in
       ap (λ (y : Bool). s.values i t (if y then b else s.roots.load k)) (any_is r.seat.member r.cell r.data_pin r.clock_pin k (record { listed = has.listed; found = r.found }) r.is r.named)
       ∙ leaf_bits (pin_of r.seat.member.name r.data_pin) (s.roots.load k) r.loads i t
 
-  means_after : Means m s.values roots_there
+  pub means_after : Means m s.values roots_there
   means_after = record {
     held_inputs = s.means.held_inputs;
     held_registers = s.means.held_registers;

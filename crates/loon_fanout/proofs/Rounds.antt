@@ -188,6 +188,7 @@ module _ (l : Library) (m : Machine) (checked : IsChecked m) (w : Wired) (s : St
 
   one_gate : ((v : Bool) → val b.expr (v ∷ []) ≡ v) → (name : List ℕ) (j : ℕ) → name ≡ buffer_instance j → ((i : Instance) → In i w.instances → i.name ≢ name)
       → IsKept l m w s k a (with_group c w k (name ∷ []) group)
+  unfolding shown_new pending_kept sink_kept
   one_gate gives name j named new_name =
       let t = gate_state l m checked w s c b name j named new_name k a low reads in
       let new = shown_new l m checked w s c b name j named new_name k a low reads a low_a (λ v. v) (λ i r. refl) (omega arith) in
@@ -203,6 +204,7 @@ module _ (l : Library) (m : Machine) (checked : IsChecked m) (w : Wired) (s : St
   two_gates : ((v : Bool) → val b.expr (v ∷ []) ≡ not v) → (first second : List ℕ) (i j : ℕ) → first ≡ buffer_instance i → second ≡ buffer_instance j
       → (new_first : (x : Instance) → In x w.instances → x.name ≢ first) → (new_second : (x : Instance) → In x (w.instances ++ gate_named c first ∷ []) → x.name ≢ second)
       → IsKept l m w s k a (with_group c w k (first ∷ second ∷ []) group)
+  unfolding shown_new pending_kept sink_kept
   two_gates inverts first second i j named_first named_second new_first new_second =
       let u = with_gate c w k first in
       let t = gate_state l m checked w s c b first i named_first new_first k a low reads in
@@ -255,12 +257,12 @@ row_kept l m checked w s c gates (twice b inverts) k a low reads group each (x �
 -- a state of a netlist, and names that are new to it
 pub record IsReady (l : Library) (m : Machine) (c : Cell) (names : List (List ℕ)) (w : Wired) : Type 0 where
   pub state : State l m w
-  pub names : AreNew c names w.instances
+  pub new : AreNew c names w.instances
 
 round_ready : (l : Library) (m : Machine) → IsChecked m → (c : Cell) (gates : ℕ) → Repeats l c gates → (rows : List Row) (w : Wired) (s : State l m w) (k a : ℕ) → k < w.count → s.source k ≡ node a
     → ((row : Row) → In row rows → (length row.names ≡ gates) × ((t : Terminal) → In t row.group → IsPending l m w s a t))
     → (later : List (List ℕ)) → AreNew c (flat_map (λ r. r.names) rows ++ later) w.instances → IsReady l m c later (with_round c w k rows)
-round_ready l m checked c gates b [] w s k a low reads each later new = record { state = s; names = new }
+round_ready l m checked c gates b [] w s k a low reads each later new = record { state = s; new = new }
 round_ready l m checked c gates b (row ∷ rows) w s k a low reads each later new =
     let first = each row here in
     let r = row_kept l m checked w s c gates b k a low reads row.group first.1 row.names (flat_map (λ (x : Row). x.names) rows) later first.0 new in
@@ -269,7 +271,7 @@ round_ready l m checked c gates b (row ∷ rows) w s k a low reads each later ne
 
 in_groups : {A : Type 0} (size : ℕ) (xs : List A) (groups : List (List A)) → AreGroups size xs groups → (g : List A) → In g groups → (x : A) → In x g → In x xs
 in_groups size xs groups (last more few) g here x h = h
-in_groups size xs groups (last more few) g (there no) x h = elim no [ ]
+in_groups size xs groups (last more few) g (there absent) x h = elim absent [ ]
 in_groups size xs groups (next {xs = ys} {ys = zs} full rest) g here x h = In-left x ys zs h
 in_groups size xs groups (next {xs = ys} {ys = zs} {groups = more} full rest) g (there g_in) x h = In-right x ys zs (in_groups size zs more rest g g_in x h)
 
@@ -313,10 +315,10 @@ pub limited_state : (l : Library) (m : Machine) → IsChecked m → (limit : ℕ
 limited_state l m checked limit b repeats names w u (within few) s new = s
 limited_state l m checked limit b repeats names w u (round {later = later} class rows large earlier groups many rest) s new =
     let r = class_read l m w s class limit large in
-    let each = λ (row : Row) (row_in : In row rows). (
+    let each : (row : Row) → In row rows → (length row.names ≡ b.gates) × ((t : Terminal) → In t row.group → IsPending l m w s r.at t) = λ row row_in. (
         All-In (λ (x : Row). length x.names ≡ b.gates) rows many row row_in,
-        λ (t : Terminal) (g : In t row.group). pending_at l m w s class r t
+        λ t g. pending_at l m w s class r t
             (in_groups limit (sinks l w class) (map (λ (x : Row). x.group) rows) groups row.group (In-map (λ (x : Row). x.group) row rows row_in) t g),
     ) in
     let ready = round_ready l m checked b.cell b.gates repeats rows w s class r.at r.low r.shows each later new in
-    limited_state l m checked limit b repeats later (with_round b.cell w class rows) u rest ready.state ready.names
+    limited_state l m checked limit b repeats later (with_round b.cell w class rows) u rest ready.state ready.new

@@ -227,8 +227,8 @@ module _ (r : InMemory) (l : Library) (is : IsNetlist r) (celled : (i : Instance
 -- ---- the law
 
 gate_cell : (l : Library) (c : Cell) (gates : ℕ) → Repeats l c gates → IsGateCell l c
-gate_cell l c gates (once b same) = b
-gate_cell l c gates (twice b same) = b
+gate_cell l c gates (once b gives) = b
+gate_cell l c gates (twice b inverts) = b
 
 -- no gate was put in, or there is a cell for them
 data WasLimited (l : Library) (b : Repeater) (names : List (List ℕ)) (n k : Wired) : Type 0 where
@@ -258,7 +258,7 @@ module _ (tracks : Bool) (n : InMemory) (l : Library) (limit : ℕ) (r : InMemor
   ports_same = buffered.is.ports ∙ (limited_stays_beside l limit buffered.repeater buffered.names (wired_of n) buffered.wired buffered.limited).ports
 
   celled_new : WasLimited l buffered.repeater buffered.names (wired_of n) buffered.wired → (i : Instance) → In i (map (gate_named cell) buffered.names) → IsCelled l i
-  celled_new (unchanged none same) i h = absurd (nothing i (subst (λ (all : List (List ℕ)). In i (map (gate_named cell) all)) none h)) where
+  celled_new (unchanged none alike) i h = absurd (nothing i (subst (λ (all : List (List ℕ)). In i (map (gate_named cell) all)) none h)) where
     nothing : (i : Instance) → In i [] → ⊥
     nothing i k = elim k [ ]
   celled_new (by_gates repeats) i h =
@@ -282,7 +282,7 @@ module _ (tracks : Bool) (n : InMemory) (l : Library) (limit : ℕ) (r : InMemor
 
   module _ (m : Machine) (checked : IsChecked m) (right : IsRightNetlist n l m) where
     state : WasLimited l buffered.repeater buffered.names (wired_of n) buffered.wired → State l m buffered.wired
-    state (unchanged none same) = subst (λ (w : Wired). State l m w) (sym same) (state_of n l is_n celled_n m checked right)
+    state (unchanged none alike) = subst (λ (w : Wired). State l m w) (sym alike) (state_of n l is_n celled_n m checked right)
     state (by_gates repeats) =
         limited_state l m checked limit buffered.repeater repeats buffered.names (wired_of n) buffered.wired buffered.limited (state_of n l is_n celled_n m checked right) new_names
 
