@@ -30,6 +30,7 @@ use Rattle.loon_fanout.specs.Sinks.{Wired, is_same_owner}
 use Rattle.loon_fanout.specs.Wired.{pin_class, with_gate}
 use Rattle.loon_fanout.specs.Laws.{as_netlist, sourced, gate_named}
 use Rattle.loon_fanout.proofs.Splitting.{any_in, in_any, is_false, one_of, in_or_out}
+use Rattle.loon_fanout.proofs.Gates.{own_class, input as gate_input, output as gate_output, input_is, output_is, input_class, output_class}
 use Rattle.loon_fanout.proofs.States.{State, IsGateCell, net, fresh, fresh_beyond, seat_low, node_low, terminal_low, load_low, output_low}
 
 not_same : (x y : ℕ) → x < y → nat_eq x y ≡ false
@@ -172,52 +173,19 @@ module _ (l : Library) (m : Machine) (w : Wired) (s : State l m w) (c : Cell) (b
   a_low = node_low l m w s k a low_k shows_a
 
   pub new_class : (pin : Name) → after.class (pin_of name pin) ≡ pin_class w c k pin
-  new_class pin = ap (λ (x : Bool). if x then pin_class w c k pin else w.class (pin_of name pin)) (text_itself name)
+  new_class pin = own_class c w name k pin
 
-  abbrev input : Name
-  input = (one_of (cell_inputs c) b.one).0
+  abbrev pub input : Name
+  input = gate_input l c b
 
-  pub input_is : cell_inputs c ≡ input ∷ []
-  input_is = (one_of (cell_inputs c) b.one).1
+  abbrev pub output : Name
+  output = gate_output l c b
 
-  pub plain_gate : IsPlain c (gate b.expr)
-  plain_gate = subst (λ (u : Function). IsPlain c u) b.is_gate b.usable.function
+  pub read_class : after.class (pin_of name input) ≡ k
+  read_class = new_class input ∙ input_class l c b w k
 
-  abbrev output : Name
-  output = (one_of (cell_outputs c) plain_gate.0).0
-
-  pub output_is : cell_outputs c ≡ output ∷ []
-  output_is = (one_of (cell_outputs c) plain_gate.0).1
-
-  pub in_inputs : In input (cell_inputs c)
-  in_inputs = subst (λ (ns : List Name). In input ns) (sym input_is) here
-
-  pub in_outputs : In output (cell_outputs c)
-  in_outputs = subst (λ (ns : List Name). In output ns) (sym output_is) here
-
-  pub signal : (test : Port → Bool) (pin : Name) → In pin (names_of (filter test (pin_ports c))) → (pin ≢ vdd) × (pin ≢ vss)
-  signal test pin inside =
-      let p = In-map_back (λ (y : Port). y.name) pin (filter test (pin_ports c)) inside in
-      let q = in_filter test (pin_ports c) p.0 p.1 in
-      b.signals pin (subst (λ (n : Name). In n (names_of (pin_ports c))) p.2 (In-map (λ (y : Port). y.name) p.0 (pin_ports c) q.0))
-
-  pub input_class : after.class (pin_of name input) ≡ k
-  input_class = new_class input ∙ by where
-    by : pin_class w c k input ≡ k
-    by =
-        let t = signal (λ p. is_input p.dir) input in_inputs in
-        let among = in_any (λ (pin : Name). is_same_name pin input) (cell_inputs c) input in_inputs (same_name-itself input) in
-        rw (same_name-false input vdd t.0, same_name-false input vss t.1, among) refl
-
-  pub output_class : after.class (pin_of name output) ≡ w.count
-  output_class = new_class output ∙ by where
-    by : pin_class w c k output ≡ w.count
-    by =
-        let t = signal (λ p. not (is_input p.dir)) output in_outputs in
-        let apart = is_false (list_any (λ pin. is_same_name pin output) (cell_inputs c)) (λ e.
-        let x = any_in (λ (pin : Name). is_same_name pin output) (cell_inputs c) e in
-        in_or_out c output b.usable (subst (λ (n : Name). In n (cell_inputs c)) (same_name-true x.0 output x.2) x.1) in_outputs) in
-        rw (same_name-false output vdd t.0, same_name-false output vss t.1, apart) refl
+  pub driven_class : after.class (pin_of name output) ≡ w.count
+  driven_class = new_class output ∙ output_class l c b w k
 
   pub vdd_low : w.class (port vdd) < w.count
   vdd_low = s.shows.numbered (port vdd) (a_port ((s.shows.ports vdd).1 (inl refl)))
@@ -236,9 +204,9 @@ module _ (l : Library) (m : Machine) (w : Wired) (s : State l m w) (c : Cell) (b
       beyond = fresh_beyond l m w s;
       named = named_b j named b.one;
       leaves = a ∷ [];
-      reads = ap (pin_sources added name) input_is
-          ∙ ap (λ (x : ℕ). source_after x ∷ []) input_class ∙ ap (λ (x : Source). x ∷ []) (source_old k low_k ∙ shows_a);
-      shows = ap (pin_sources added name) output_is ∙ ap (λ (x : ℕ). source_after x ∷ []) output_class ∙ ap (λ (x : Source). x ∷ []) source_new;
+      reads = ap (pin_sources added name) (input_is l c b)
+          ∙ ap (λ (x : ℕ). source_after x ∷ []) read_class ∙ ap (λ (x : Source). x ∷ []) (source_old k low_k ∙ shows_a);
+      shows = ap (pin_sources added name) (output_is l c b) ∙ ap (λ (x : ℕ). source_after x ∷ []) driven_class ∙ ap (λ (x : Source). x ∷ []) source_new;
       value = λ i t held. value_new i t ∙ ap (λ (x : Bool). val b.expr (x ∷ [])) (sym (value_old i t a a_low));
       earlier = λ z listed.
           let same = In-one a z listed in let ranks = ap rank_after same in let one = rank_old a a_low in let two = rank_new in omega (arith, ranks, one, two);
@@ -302,11 +270,11 @@ module _ (l : Library) (m : Machine) (w : Wired) (s : State l m w) (c : Cell) (b
       | inl is ↦ let e = ap (λ (z : Name). after.class (pin_of name z)) is in let v = new_class vss in let low_one = vss_low in omega (arith, e, v, low_one)
       | inr pin ↦ elim (In-pins (pin_ports c) n (subst (λ (z : Cell). In n (names_of (pin_ports z))) (sym same) pin)) [
         | inl i ↦
-            let e = ap (λ (z : Name). after.class (pin_of name z)) (In-only input n (cell_inputs c) input_is i) in
-            let v = input_class in omega (arith, e, v, low_k)
+            let e = ap (λ (z : Name). after.class (pin_of name z)) (In-only input n (cell_inputs c) (input_is l c b) i) in
+            let v = read_class in omega (arith, e, v, low_k)
         | inr o ↦
-            let e = ap (λ (z : Name). after.class (pin_of name z)) (In-only output n (cell_outputs c) output_is o) in
-            let v = output_class in omega (arith, e, v)
+            let e = ap (λ (z : Name). after.class (pin_of name z)) (In-only output n (cell_outputs c) (output_is l c b) o) in
+            let v = driven_class in omega (arith, e, v)
       ]
     ]
   ]

@@ -13,3 +13,7 @@ pub mod Gating
 pub mod Moving
 pub mod Rounds
 pub mod Staying
+pub mod Gates
+pub mod Few
+pub mod Behind
+pub mod Needed

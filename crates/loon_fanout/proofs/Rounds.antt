@@ -269,17 +269,17 @@ round_ready l m checked c gates b (row ∷ rows) w s k a low reads each later ne
     round_ready l m checked c gates b rows (with_group c w k row.names row.group) r.kept.state k a r.kept.low r.kept.reads
     (λ x x_in. ((each x (there x_in)).0, λ t g. r.kept.pending t ((each x (there x_in)).1 t g))) later r.names
 
-in_groups : {A : Type 0} (size : ℕ) (xs : List A) (groups : List (List A)) → AreGroups size xs groups → (g : List A) → In g groups → (x : A) → In x g → In x xs
+pub in_groups : {A : Type 0} (size : ℕ) (xs : List A) (groups : List (List A)) → AreGroups size xs groups → (g : List A) → In g groups → (x : A) → In x g → In x xs
 in_groups size xs groups (last more few) g here x h = h
 in_groups size xs groups (last more few) g (there absent) x h = elim absent [ ]
 in_groups size xs groups (next {xs = ys} {ys = zs} full rest) g here x h = In-left x ys zs h
 in_groups size xs groups (next {xs = ys} {ys = zs} {groups = more} full rest) g (there g_in) x h = In-right x ys zs (in_groups size zs more rest g g_in x h)
 
-some_of : {A : Type 0} (n : ℕ) (xs : List A) → n < length xs → (x : A) × In x xs
+pub some_of : {A : Type 0} (n : ℕ) (xs : List A) → n < length xs → (x : A) × In x xs
 some_of n [] h = absurd (omega (arith, h))
 some_of n (x ∷ xs) h = (x, here)
 
-sink_of : (l : Library) (w : Wired) (k : ℕ) (t : Terminal) → SinkAt l w k t → IsSink l w t
+pub sink_of : (l : Library) (w : Wired) (k : ℕ) (t : Terminal) → SinkAt l w k t → IsSink l w t
 sink_of l w k t x = record { owner = x.owner; listed = x.listed; cell = x.cell; found = x.found; pin = x.pin; input = x.input; no_clock = x.no_clock; is = x.is }
 
 -- a class with sinks shows a node

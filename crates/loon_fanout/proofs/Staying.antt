@@ -78,7 +78,7 @@ module _ (tracks : Bool) (l : Library) (passed : HasPassed tracks l) where
   inverter_repeats c listed usable (other machine) is gives = absurd gives
   inverter_repeats c listed usable opaque is gives = absurd gives
 
-  repeats : (b : Repeater) → IsRepeater l.cells b → Repeats l b.cell b.gates
+  pub repeats : (b : Repeater) → IsRepeater l.cells b → Repeats l b.cell b.gates
   repeats b (buffer {c = c} first) = buffer_repeats c (in_from_place l.cells first.place c first.stands) first.holds.0 c.function refl first.holds.1
   repeats b (inverters {c = c} none first) = inverter_repeats c (in_from_place l.cells first.place c first.stands) first.holds.0 c.function refl first.holds.1
 
@@ -231,7 +231,7 @@ gate_cell l c gates (once b gives) = b
 gate_cell l c gates (twice b inverts) = b
 
 -- no gate was put in, or there is a cell for them
-data WasLimited (l : Library) (b : Repeater) (names : List (List ℕ)) (n k : Wired) : Type 0 where
+pub data WasLimited (l : Library) (b : Repeater) (names : List (List ℕ)) (n k : Wired) : Type 0 where
   unchanged : names ≡ [] → k ≡ n → WasLimited l b names n k
   by_gates : Repeats l b.cell b.gates → WasLimited l b names n k
 
@@ -242,22 +242,22 @@ was_limited l limit b names n k (round class rows large earlier groups many rest
 
 module _ (tracks : Bool) (n : InMemory) (l : Library) (limit : ℕ) (r : InMemory) (passed : HasPassed tracks l) (is_n : IsNetlist n) (is_r : IsNetlist r) (of_cells : IsOfCells n l)
     (buffered : IsBuffered n l limit r) where
-  abbrev cell : Cell
+  abbrev pub cell : Cell
   cell = buffered.repeater.cell
 
-  how : WasLimited l buffered.repeater buffered.names (wired_of n) buffered.wired
+  pub how : WasLimited l buffered.repeater buffered.names (wired_of n) buffered.wired
   how = was_limited l limit buffered.repeater buffered.names (wired_of n) buffered.wired buffered.limited (λ crowded. repeats tracks l passed buffered.repeater (buffered.chosen crowded))
 
-  celled_n : (i : Instance) → IsThere n.instances i → IsCelled l i
+  pub celled_n : (i : Instance) → IsThere n.instances i → IsCelled l i
   celled_n i h = let c = of_cells.found i h in record { cell = c.0; found = c.1; connected = c.2.connectors; pins = c.3 }
 
-  all_instances : r.instances ≡ n.instances ++ map (gate_named cell) buffered.names
+  pub all_instances : r.instances ≡ n.instances ++ map (gate_named cell) buffered.names
   all_instances = buffered.is.instances ∙ (limited_stays_beside l limit buffered.repeater buffered.names (wired_of n) buffered.wired buffered.limited).instances
 
-  ports_same : r.ports ≡ n.ports
+  pub ports_same : r.ports ≡ n.ports
   ports_same = buffered.is.ports ∙ (limited_stays_beside l limit buffered.repeater buffered.names (wired_of n) buffered.wired buffered.limited).ports
 
-  celled_new : WasLimited l buffered.repeater buffered.names (wired_of n) buffered.wired → (i : Instance) → In i (map (gate_named cell) buffered.names) → IsCelled l i
+  pub celled_new : WasLimited l buffered.repeater buffered.names (wired_of n) buffered.wired → (i : Instance) → In i (map (gate_named cell) buffered.names) → IsCelled l i
   celled_new (unchanged none alike) i h = absurd (nothing i (subst (λ (all : List (List ℕ)). In i (map (gate_named cell) all)) none h)) where
     nothing : (i : Instance) → In i [] → ⊥
     nothing i k = elim k [ ]
@@ -266,7 +266,7 @@ module _ (tracks : Bool) (n : InMemory) (l : Library) (limit : ℕ) (r : InMemor
       let x = In-map_back (gate_named cell) i buffered.names h in
       subst (λ (y : Instance). IsCelled l y) x.2 (record { cell = cell; found = b.found; connected = b.usable.connectors; pins = refl })
 
-  celled_r : (i : Instance) → IsThere r.instances i → IsCelled l i
+  pub celled_r : (i : Instance) → IsThere r.instances i → IsCelled l i
   celled_r i h =
       let listed = subst (λ (all : List Instance). In i all) all_instances (in_from_place r.instances h.0 i h.1) in
       elim (In-split i n.instances (map (gate_named cell) buffered.names) listed) [
@@ -274,7 +274,7 @@ module _ (tracks : Bool) (n : InMemory) (l : Library) (limit : ℕ) (r : InMemor
         | inr new ↦ celled_new how i new
       ]
 
-  new_names : AreNew cell buffered.names n.instances
+  pub new_names : AreNew cell buffered.names n.instances
   new_names =
       are_new cell buffered.names n.instances
       (buffer_names (map (λ (i : Instance). i.name) n.instances) (length buffered.names) buffered.names buffered.named)

@@ -1,5 +1,6 @@
 // What is true of each netlist that is limited.
 ghost use Rattle.loon_fanout.specs.Laws.{LimitedStaysBeside, GroupSplits, BufferedStaysRight};
+ghost use Rattle.loon_fanout.specs.Nets.{BuffersAreNeeded, RightHasFewInputs};
 
 /// No net of a limited netlist has more sinks than the limit; its ports are those of the given one, and behind the given instances
 /// stand the gates that were put in.
@@ -15,4 +16,14 @@ pub fn split_law()
 /// Where a netlist of usable cells is right for a machine, it still is once its nets are limited.
 pub fn stays_right_law()
     ensures { BufferedStaysRight }
+{}
+
+/// No class of a right netlist but those of vdd, vss and the clock has more input pins than its nets have sinks at most.
+pub fn few_inputs_law()
+    ensures { RightHasFewInputs }
+{}
+
+/// A limited netlist that would do without its buffers has none.
+pub fn needed_law()
+    ensures { BuffersAreNeeded }
 {}
