@@ -1,22 +1,19 @@
 -- A limited netlist that would do without its buffers has none.
-use Rattle.std.proofs.Common.{◌≡◌, ◌≢◌, ◌⊎◌, inl, inr, ℕ, suc, ◌+◌, ◌<◌, ◌≤◌, Bool, true, false, List, [], ◌∷◌, ◌++◌, length, map, Some, refl, sym, ◌∙◌, ap, subst, arith}
+use Rattle.std.proofs.Common.{◌≡◌, ◌≢◌, ◌⊎◌, inl, inr, ℕ, suc, ◌<◌, Bool, true, false, List, [], ◌∷◌, ◌++◌, length, map, Some, refl, sym, ◌∙◌, ap, subst, arith}
 use Rattle.std.proofs.lemmas.Option.{same_Some}
-use Rattle.std.proofs.lemmas.List.{map-append}
 use Rattle.vlsi_base.specs.declared.name.Name.{Name}
-use Rattle.vlsi_base.specs.declared.name.Port.{Port}
 use Rattle.vlsi_base.specs.declared.name.Terminal.{Terminal}
-use Rattle.vlsi_base.specs.Member.{In, here, there, AllDifferent}
+use Rattle.vlsi_base.specs.Member.{In, AllDifferent}
 use Rattle.machine_meaning.specs.Machine.{names_of}
 use Rattle.machine_core.proofs.Names.{same_name-itself}
 use Rattle.machine_meaning.specs.Named.{is_same_name}
-use Rattle.cell_model.specs.Cell.{Function, flip_flop, Cell, pin_ports, cell_inputs, cell_outputs}
+use Rattle.cell_model.specs.Cell.{Function, Cell, pin_ports}
 use Rattle.cell_model.specs.Library.{Library, cell_of, IsUsable}
 use Rattle.cell_model.proofs.Members.{In-split, In-left, In-map, In-map_back}
 use Rattle.cell_checks.specs.Checked.{IsChecked as HasPassed}
-use Rattle.cell_pins.proofs.Sound.{member_at as in_from_place}
-use Rattle.net_core.specs.Places.{Stands, IsThere, NoneTwice}
-use Rattle.net_core.specs.Netlist.{Instance, Netlist as InMemory, IsNetlist, terminals, HasClass}
-use Rattle.net_meaning.specs.Netlist.{Member, Netlist, pin_of, IsTerminal, a_port, a_pin}
+use Rattle.net_core.specs.Places.{IsThere, NoneTwice}
+use Rattle.net_core.specs.Netlist.{Instance, Netlist as InMemory, IsNetlist, terminals}
+use Rattle.net_meaning.specs.Netlist.{Member, Netlist, pin_of, a_pin}
 use Rattle.net_meaning.specs.Well.{Has, IsClockPin, a_clock_pin, buffer_instance}
 use Rattle.net_theory.proofs.Basics.{In-names}
 use Rattle.net_view.specs.View.{member_of, IsSeenAs}
@@ -28,11 +25,11 @@ use Rattle.loon_fanout.specs.Repeaters.{Repeater}
 use Rattle.loon_fanout.specs.Limited.{IsLimited, within, round, IsNetlistOf, IsBuffered, IsOfCells}
 use Rattle.loon_fanout.specs.Laws.{as_netlist, gate_named}
 use Rattle.loon_fanout.specs.Nets.{AreOne, alike, tied, turned, through, IsStaying, staying, FitsWithoutBuffers, HasNoBuffer, BuffersAreNeeded}
-use Rattle.loon_fanout.proofs.Splitting.{SinkAt, sink_at}
-use Rattle.loon_fanout.proofs.Moving.{IsSink}
-use Rattle.loon_fanout.proofs.Rounds.{sink_of, some_of}
-use Rattle.loon_fanout.proofs.Behind.{AreGood, one_instance, pin_names_differ, sinks_differ, Follows, RoundFollows, limited_follows}
-use Rattle.loon_fanout.proofs.Staying.{repeats, celled_r, all_instances, new_names}
+use Rattle.loon_fanout.proofs.Splitting.{sink_at}
+use Rattle.loon_fanout.proofs.RightMove.{IsSink}
+use Rattle.loon_fanout.proofs.RightRounds.{sink_of, some_of}
+use Rattle.loon_fanout.proofs.OneClass.{AreGood, one_instance, pin_names_differ, sinks_differ, RoundFollows, limited_follows}
+use Rattle.loon_fanout.proofs.RightStay.{repeats, celled_r, all_instances, new_names}
 
 -- ---- classes of a netlist in memory
 
@@ -86,8 +83,14 @@ module _ (l : Library) (r : InMemory) (is : IsNetlist r) (celled : (i : Instance
   met a d (turned h) = elim (met d a h) [
     | inl e ↦ inl (sym e)
     | inr x ↦ inr (record {
-        first = x.second; second = x.first; first_in = x.second_in; second_in = x.first_in; first_class = x.second_class; second_class = x.first_class; one = turned x.one;
-      })
+      first = x.second;
+      second = x.first;
+      first_in = x.second_in;
+      second_in = x.first_in;
+      first_class = x.second_class;
+      second_class = x.first_class;
+      one = turned x.one;
+    })
   ]
   met a d (through {b = mid} h g) = by (met a mid h) (met mid d g) where
     by : (a ≡ mid) ⊎ Met a mid → (mid ≡ d) ⊎ Met mid d → (a ≡ d) ⊎ Met a d
@@ -205,8 +208,8 @@ module _ (tracks : Bool) (n : InMemory) (l : Library) (limit : ℕ) (r : InMemor
         let few = fits (k.class a.0) ts (sinks_differ l (wired_of n) good_n.names good_n.pins class) (λ t h. (
           stays t (sunk t h),
           ones l r is_r celled w buffered.is limited.good k seen a.0 t (there_r a.0 (sunk a.0 a.1)) (there_r t (sunk t h))
-          (through (turned (limited.follows.moves a.0 (sunk a.0 a.1)))
-          (subst (λ (x : ℕ). AreOne (as_netlist w) l x (w.class t)) (class_at t h ∙ sym (class_at a.0 a.1)) (limited.follows.moves t (sunk t h)))),
+              (through (turned (limited.follows.moves a.0 (sunk a.0 a.1)))
+              (subst (λ (x : ℕ). AreOne (as_netlist w) l x (w.class t)) (class_at t h ∙ sym (class_at a.0 a.1)) (limited.follows.moves t (sunk t h)))),
         )) in
         absurd (omega (arith, few, large))
 

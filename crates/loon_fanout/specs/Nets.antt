@@ -32,6 +32,20 @@ RightHasFewInputs =
     (n : InMemory) (l : Library) (m : Machine) (limit : ℕ) (k : Netlist) → IsNetlist n → IsChecked m → IsOfCells n l
     → IsRightNetlist n l m → HasFanout l limit n → IsSeenAs n k → HasFewInputs k l m limit
 
+-- ---- limited netlists
+
+-- a limited netlist is of usable cells, and no net of it has more sinks than that
+abbrev pub BufferedRemains : Type 0
+BufferedRemains =
+    (tracks : Bool) (n : InMemory) (l : Library) (limit : ℕ) (r : InMemory) → HasPassed tracks l → IsNetlist n → IsNetlist r
+    → IsOfCells n l → IsBuffered n l limit r → IsOfCells r l × HasFanout l limit r
+
+-- where the given netlist is right for a machine, the limited one has few input pins in each class
+abbrev pub BufferedHasFewInputs : Type 0
+BufferedHasFewInputs =
+    (tracks : Bool) (n : InMemory) (l : Library) (m : Machine) (limit : ℕ) (r : InMemory) (k : Netlist) → HasPassed tracks l → IsNetlist n
+    → IsNetlist r → IsChecked m → IsOfCells n l → IsRightNetlist n l m → IsBuffered n l limit r → IsSeenAs r k → HasFewInputs k l m limit
+
 -- ---- buffers taken out
 
 -- Two classes are made one when each instance named b is taken out, and the two classes that it ties are made one.

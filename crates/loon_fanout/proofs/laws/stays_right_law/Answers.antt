@@ -1,4 +1,4 @@
-use Rattle.loon_fanout.proofs.Staying.{buffered_stays_right}
+use Rattle.loon_fanout.proofs.RightStay.{buffered_stays_right}
 use Rattle.loon_fanout.proofs.laws.stays_right_law.Goals as goal
 
 pub returns : goal.returns

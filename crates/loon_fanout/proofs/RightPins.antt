@@ -1,9 +1,8 @@
 -- The pins of a gate of one input that is put in.
-use Rattle.std.proofs.Common.{◌≡◌, ◌≢◌, Bool, not, List, [], ◌∷◌, filter, refl, sym, ◌∙◌, ap, subst, ℕ, Some, if◌then◌else◌}
+use Rattle.std.proofs.Common.{◌≡◌, ◌≢◌, Bool, not, List, [], ◌∷◌, filter, refl, sym, ap, subst, ℕ, if◌then◌else◌}
 use Rattle.std.specs.List.{list_any}
 use Rattle.vlsi_base.specs.declared.name.Name.{Name}
 use Rattle.vlsi_base.specs.declared.name.Port.{Port}
-use Rattle.vlsi_base.specs.declared.name.Terminal.{Terminal}
 use Rattle.vlsi_base.specs.Names.{vdd, vss}
 use Rattle.vlsi_base.specs.Member.{In, here}
 use Rattle.machine_meaning.specs.Machine.{is_input, names_of}
@@ -18,7 +17,7 @@ use Rattle.net_meaning.specs.Netlist.{pin_of}
 use Rattle.loon_fanout.specs.Sinks.{Wired}
 use Rattle.loon_fanout.specs.Wired.{pin_class, with_gate}
 use Rattle.loon_fanout.proofs.Splitting.{any_in, in_any, is_false, one_of, in_or_out}
-use Rattle.loon_fanout.proofs.States.{IsGateCell}
+use Rattle.loon_fanout.proofs.RightStates.{IsGateCell}
 
 -- the class of a pin of the gate
 pub own_class : (c : Cell) (w : Wired) (name : List ℕ) (k : ℕ) (pin : Name) → (with_gate c w k name).class (pin_of name pin) ≡ pin_class w c k pin

@@ -1,5 +1,5 @@
 -- Sinks moved to another class with the same bits, in a netlist that shows nodes.
-use Rattle.std.proofs.Common.{◌≡◌, ◌⊎◌, inl, inr, ℕ, ◌-◌, ◌<◌, Bool, true, false, List, [], ◌∷◌, map, Option, Some, None, refl, sym, ◌∙◌, ap, subst, arith, if◌then◌else◌}
+use Rattle.std.proofs.Common.{◌≡◌, inl, inr, ℕ, ◌-◌, ◌<◌, Bool, true, false, List, [], ◌∷◌, map, Some, None, refl, sym, ◌∙◌, ap, subst, if◌then◌else◌}
 use Rattle.std.specs.List.{list_any}
 use Rattle.vlsi_base.specs.declared.name.Name.{Name}
 use Rattle.vlsi_base.specs.declared.name.Terminal.{Terminal}
@@ -17,16 +17,16 @@ use Rattle.net_core.specs.Netlist.{Instance}
 use Rattle.net_meaning.specs.Netlist.{Member, port, pin_of, IsTerminal, a_port, a_pin}
 use Rattle.net_meaning.specs.Agreement.{register_instance}
 use Rattle.net_meaning.specs.Well.{Has}
-use Rattle.net_theory.specs.Sources.{Source, high, low, ticking, node, Values, Seat, Roots, Sourced, source_of, pin_sources, Plays, IsSeated, Shows}
+use Rattle.net_theory.specs.Sources.{Source, high, low, ticking, node, Seat, Roots, Sourced, source_of, pin_sources, Plays, IsSeated, Shows}
 use Rattle.net_theory.specs.Meaning.{Means}
-use Rattle.net_theory.proofs.Seats.{In-two, Sits, sits, seat_has, input_terminal, pin_source}
+use Rattle.net_theory.proofs.Seats.{In-two, sits, seat_has, input_terminal, pin_source}
 use Rattle.net_view.specs.View.{member_of}
 use Rattle.loon_fanout.specs.Sinks.{Wired, is_clock_of, is_same_owner, is_same_terminal}
 use Rattle.loon_fanout.specs.Wired.{with_moved}
 use Rattle.loon_fanout.specs.Laws.{as_netlist, sourced, roots_after}
 use Rattle.loon_fanout.proofs.Terminals.{terminal_same, terminal_itself, owner_same}
 use Rattle.loon_fanout.proofs.Splitting.{any_in, in_any, is_false, in_or_out}
-use Rattle.loon_fanout.proofs.States.{State, net, IsRegister, register}
+use Rattle.loon_fanout.proofs.RightStates.{State, net, IsRegister, register}
 
 -- an input of an instance's cell, and no clock pin
 pub record IsSink (l : Library) (w : Wired) (t : Terminal) : Type 0 where
@@ -69,9 +69,9 @@ module _ (l : Library) (m : Machine) (w : Wired) (s : State l m w) where
       elim (In-two d ck pin (cell_inputs c) two.1 two.2 two.3 two.4 input) [
         | inl on_data ↦ on_data
         | inr on_clock ↦ absurd (
-          let yes = subst (λ (n : Name). is_same_name ck n ≡ false) on_clock off in
-          let itself = same_name-itself ck in
-          let no : false ≡ true = sym yes ∙ itself in cc no)
+            let yes = subst (λ (n : Name). is_same_name ck n ≡ false) on_clock off in
+            let itself = same_name-itself ck in
+            let no : false ≡ true = sym yes ∙ itself in cc no)
       ]
 
   pub own_has : (t : Terminal) (x : IsSink l w t) → Has (as_netlist w) l (member_of x.owner) x.cell
@@ -93,9 +93,11 @@ module _ (l : Library) (m : Machine) (w : Wired) (s : State l m w) where
             let r = pin_source here_net p.member.name (cell_inputs x.cell) plays.leaves x.pin plays.reads x.input in
             (r.0, subst (λ (y : Member). source_of here_net (pin_of y.name x.pin) ≡ node r.0) member r.2)
         by p member (flip_flop d ck) is usable plays =
-            let on = data_pin_of x.cell d ck x.pin usable is x.input x.no_clock in
-            (s.roots.load plays.number, ap (λ (y : Name). source_of here_net (pin_of x.owner.name y)) on
-            ∙ subst (λ (y : Member). source_of here_net (pin_of y.name d) ≡ node (s.roots.load plays.number)) member plays.loads)
+            let on = data_pin_of x.cell d ck x.pin usable is x.input x.no_clock in (
+              s.roots.load plays.number,
+              ap (λ (y : Name). source_of here_net (pin_of x.owner.name y)) on
+                  ∙ subst (λ (y : Member). source_of here_net (pin_of y.name d) ≡ node (s.roots.load plays.number)) member plays.loads,
+            )
         by p member (other machine) is usable plays = absurd plays
         by p member opaque is usable plays = absurd plays
 

@@ -1,53 +1,48 @@
 -- A netlist that is right for a machine still is once its nets are limited.
-use Rattle.std.proofs.Common.{◌≡◌, ◌≢◌, ◌⊎◌, inl, inr, ℕ, zero, suc, ◌+◌, ◌<◌, ◌≤◌, Bool, true, false, not, List, [], ◌∷◌, ◌++◌, length, map, All, AllPairs, codes, Some, refl, sym, ◌∙◌, ap, subst, arith, append_assoc, if◌then◌else◌}
-use Rattle.std.specs.Prelude.{slice_get}
-use Rattle.std.proofs.lemmas.Option.{slice_get_within, same_Some}
-use Rattle.std.proofs.lemmas.List.{map-append}
+use Rattle.std.proofs.Common.{◌≡◌, ◌≢◌, inl, inr, ℕ, suc, ◌<◌, Bool, List, [], ◌∷◌, ◌++◌, length, map, codes, Some, refl, sym, ◌∙◌, ap, subst, arith, append_assoc, if◌then◌else◌}
+use Rattle.std.proofs.lemmas.Option.{slice_get_within}
 use Rattle.vlsi_base.specs.declared.name.Name.{Name}
 use Rattle.vlsi_base.specs.declared.name.Port.{Port}
 use Rattle.vlsi_base.specs.declared.name.Terminal.{Terminal}
 use Rattle.vlsi_base.specs.Names.{vdd, vss}
 use Rattle.vlsi_base.specs.Member.{In, here, there}
-use Rattle.bool_expr.specs.Expression.{val}
-use Rattle.machine_meaning.specs.Machine.{Machine, names_of}
-use Rattle.machine_meaning.specs.Named.{is_same_text}
+use Rattle.machine_meaning.specs.Machine.{Machine}
 use Rattle.machine_core.specs.Checked.{IsChecked}
 use Rattle.cell_model.specs.declared.kind.Kind.TheVariants as kinds
 use Rattle.cell_model.specs.Cell.{Function, gate, flip_flop, other, opaque, Cell, cell_inputs}
-use Rattle.cell_model.specs.Library.{Library, cell_named, cell_of, IsUsable}
+use Rattle.cell_model.specs.Library.{Library, cell_named, IsUsable}
 use Rattle.cell_model.specs.Covering.{IsFunctionOf}
 use Rattle.cell_model.specs.Usable.{IsFormed}
-use Rattle.cell_model.proofs.Members.{In-split, In-left, In-right, In-map, In-map_back, All-In}
+use Rattle.cell_model.proofs.Members.{In-split, In-right, In-map, In-map_back, All-In}
 use Rattle.cell_model.proofs.Texts.{text_itself, text_differs}
 use Rattle.cell_checks.specs.Checked.{IsChecked as HasPassed}
-use Rattle.cell_pins.specs.Pins.{with_supply, all_ports}
+use Rattle.cell_pins.specs.Pins.{with_supply}
 use Rattle.cell_pins.proofs.Sound.{member_at as in_from_place, Apart, apart_rest, apart_first}
-use Rattle.net_core.specs.Places.{Stands, IsThere, NoneTwice}
+use Rattle.net_core.specs.Places.{IsThere, NoneTwice}
 use Rattle.net_core.specs.Netlist.{Instance, Netlist as InMemory, IsNetlist, terminals, HasClass}
 use Rattle.net_core.proofs.Finishing.{netlist_terminals_once}
 use Rattle.net_core.proofs.Namings.{turn_reached}
 use Rattle.net_core.proofs.Rings.{at_place, class_below}
-use Rattle.net_meaning.specs.Netlist.{Member, Netlist, IsTerminal, a_port, a_pin}
+use Rattle.net_meaning.specs.Netlist.{Netlist, IsTerminal, a_port, a_pin}
 use Rattle.net_meaning.specs.Laws.{AreSame}
 use Rattle.net_meaning.specs.Well.{buffer_instance}
-use Rattle.net_theory.specs.Sources.{Sourced, Shows}
 use Rattle.net_theory.specs.Laws.{IsCounted}
 use Rattle.net_theory.proofs.Elsewhere.{moved_source, moved as shown_elsewhere}
 use Rattle.net_view.specs.View.{member_of, netlist_by, IsSeenAs}
 use Rattle.net_view.specs.Right.{IsRightNetlist}
 use Rattle.net_view.proofs.Lists.{in_place}
 use Rattle.net_view.proofs.Places.{has_class}
-use Rattle.net_view.proofs.Terminals.{seen_ports, seen_instances, seen_classes, IsCelled, terminal_there, there_terminal}
+use Rattle.net_view.proofs.Terminals.{seen_ports, seen_instances, IsCelled, terminal_there, there_terminal}
 use Rattle.net_view.proofs.Seen.{seen_class}
 use Rattle.free_names.specs.Free.{free_numbers, free_texts}
 use Rattle.loon_fanout.specs.Sinks.{Wired, sinks, class_among, wired_of}
-use Rattle.loon_fanout.specs.Repeaters.{Repeater, GivesItsInput, IsBufferCell, IsInverterCell, IsFirst, IsRepeater, buffer, inverters}
-use Rattle.loon_fanout.specs.Limited.{IsLimited, within, round, IsCrowded, IsNetlistOf, IsBuffered, IsOfCells, StaysRight}
+use Rattle.loon_fanout.specs.Repeaters.{Repeater, GivesItsInput, IsRepeater, buffer, inverters}
+use Rattle.loon_fanout.specs.Limited.{IsLimited, within, round, IsNetlistOf, IsBuffered, IsOfCells}
 use Rattle.loon_fanout.specs.Laws.{as_netlist, sourced, gate_named, BufferedStaysRight}
 use Rattle.loon_fanout.proofs.Terminals.{class_is}
 use Rattle.loon_fanout.proofs.Kept.{limited_stays_beside}
-use Rattle.loon_fanout.proofs.States.{State, IsGateCell}
-use Rattle.loon_fanout.proofs.Rounds.{AreNew, Repeats, once, twice, limited_state}
+use Rattle.loon_fanout.proofs.RightStates.{State, IsGateCell}
+use Rattle.loon_fanout.proofs.RightRounds.{AreNew, Repeats, once, twice, limited_state}
 
 -- ---- the repeater
 
@@ -226,7 +221,7 @@ module _ (r : InMemory) (l : Library) (is : IsNetlist r) (celled : (i : Instance
 
 -- ---- the law
 
-gate_cell : (l : Library) (c : Cell) (gates : ℕ) → Repeats l c gates → IsGateCell l c
+pub gate_cell : (l : Library) (c : Cell) (gates : ℕ) → Repeats l c gates → IsGateCell l c
 gate_cell l c gates (once b gives) = b
 gate_cell l c gates (twice b inverts) = b
 

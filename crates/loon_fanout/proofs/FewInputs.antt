@@ -1,5 +1,5 @@
 -- The input pins of a class are among its sinks.
-use Rattle.std.proofs.Common.{◌≡◌, ◌≢◌, ◌⊎◌, inl, inr, ℕ, suc, ◌+◌, ◌<◌, ◌≤◌, Bool, true, false, not, ◌&&◌, List, [], ◌∷◌, ◌++◌, length, map, filter, Option, None, Some, refl, sym, ◌∙◌, ap, subst, arith, nat_eq, eq-eqb}
+use Rattle.std.proofs.Common.{◌≡◌, ◌⊎◌, inl, inr, ℕ, suc, ◌≤◌, Bool, true, false, not, ◌&&◌, List, [], ◌∷◌, length, filter, Option, None, Some, refl, sym, ◌∙◌, ap, subst, arith, nat_eq, eq-eqb}
 use Rattle.std.specs.List.{flat_map, list_any}
 use Rattle.std.proofs.lemmas.Option.{same_Some}
 use Rattle.vlsi_base.specs.declared.name.Name.{Name}
@@ -14,9 +14,9 @@ use Rattle.cell_model.specs.Library.{Library, cell_of, IsUsable, IsPlain}
 use Rattle.cell_model.proofs.Members.{In-left, In-right, In-map, In-map_back}
 use Rattle.cell_pins.specs.Pins.{all_ports}
 use Rattle.net_core.specs.Places.{IsThere}
-use Rattle.net_core.specs.Netlist.{Instance, Netlist as InMemory, IsNetlist, terminals, HasClass}
-use Rattle.net_meaning.specs.Netlist.{Member, Netlist, port, pin_of, IsTerminal}
-use Rattle.net_meaning.specs.Well.{Has, IsClockPin, a_clock_pin, IsSpecial, of_clock, IsFlipFlop, IsWell}
+use Rattle.net_core.specs.Netlist.{Instance, Netlist as InMemory, IsNetlist}
+use Rattle.net_meaning.specs.Netlist.{Member, Netlist, pin_of, IsTerminal}
+use Rattle.net_meaning.specs.Well.{Has, a_clock_pin, IsSpecial, of_clock, IsFlipFlop, IsWell}
 use Rattle.net_theory.proofs.Basics.{In-names}
 use Rattle.net_theory.proofs.Seats.{input_terminal}
 use Rattle.net_view.specs.View.{member_of, IsSeenAs}
@@ -26,11 +26,11 @@ use Rattle.net_view.proofs.Places.{pin_there}
 use Rattle.net_view.proofs.Ports.{names_to}
 use Rattle.net_view.proofs.Terminals.{seen_instances, IsCelled}
 use Rattle.net_view.proofs.Seen.{seen_class, seen_is_well_formed}
-use Rattle.loon_fanout.specs.Sinks.{is_clock_of, is_sink_pin, is_sink_of, instance_sinks, sinks, wired_of}
+use Rattle.loon_fanout.specs.Sinks.{is_clock_of, is_sink_of, instance_sinks, sinks, wired_of}
 use Rattle.loon_fanout.specs.Limited.{HasFanout, IsOfCells}
 use Rattle.loon_fanout.specs.Nets.{IsInputPin, an_input_pin, HasFewInputs, RightHasFewInputs}
 use Rattle.loon_fanout.proofs.Splitting.{in_any, is_false}
-use Rattle.loon_fanout.proofs.Staying.{is_seen}
+use Rattle.loon_fanout.proofs.RightStay.{is_seen}
 
 -- ---- lists
 

@@ -1,7 +1,6 @@
 -- A netlist that shows nodes with the meaning of a machine, and what is new to it.
-use Rattle.std.proofs.Common.{◌≡◌, ◌≢◌, ◌⊎◌, inl, inr, ℕ, suc, ◌+◌, ◌<◌, ◌≤◌, Bool, List, [], ◌∷◌, length, map, Some, refl, sym, ◌∙◌, ap, subst, arith}
+use Rattle.std.proofs.Common.{◌≡◌, ◌≢◌, inl, inr, ℕ, suc, ◌+◌, ◌<◌, ◌≤◌, List, [], ◌∷◌, length, Some, refl, ◌∙◌, ap, subst, arith}
 use Rattle.vlsi_base.specs.declared.name.Name.{Name}
-use Rattle.vlsi_base.specs.declared.name.Port.{Port}
 use Rattle.vlsi_base.specs.declared.name.Terminal.{Terminal}
 use Rattle.vlsi_base.specs.Names.{vdd, vss}
 use Rattle.vlsi_base.specs.Member.{In, here, there}
@@ -9,9 +8,8 @@ use Rattle.bool_expr.specs.Expression.{Expression}
 use Rattle.machine_meaning.specs.Machine.{Machine, inputs, outputs, names_of}
 use Rattle.cell_model.specs.Cell.{Function, gate, flip_flop, other, opaque, Cell, pin_ports, cell_inputs}
 use Rattle.cell_model.specs.Library.{Library, cell_of, IsUsable, IsPlain}
-use Rattle.net_meaning.specs.Netlist.{Member, Netlist, port, pin_of, IsTerminal, a_port, a_pin}
+use Rattle.net_meaning.specs.Netlist.{port, pin_of, IsTerminal, a_port}
 use Rattle.net_meaning.specs.Agreement.{register_instance}
-use Rattle.net_meaning.specs.Well.{Has}
 use Rattle.net_theory.specs.Sources.{Source, node, Values, Seat, Roots, Sourced, source_of, Plays, ComesFrom, Shows}
 use Rattle.net_theory.specs.Meaning.{Means}
 use Rattle.net_theory.proofs.Basics.{at_number, number_in, In-names}

@@ -1,5 +1,5 @@
 -- Rounds on nets, in a netlist that shows nodes.
-use Rattle.std.proofs.Common.{◌≡◌, ◌≢◌, ◌⊎◌, inl, inr, ℕ, suc, ◌+◌, ◌-◌, ◌<◌, ◌≤◌, Bool, true, false, not, List, [], ◌∷◌, ◌++◌, length, map, All, Some, refl, sym, ◌∙◌, ap, subst, arith, if◌then◌else◌}
+use Rattle.std.proofs.Common.{◌≡◌, ◌≢◌, inl, inr, ℕ, suc, ◌-◌, ◌<◌, ◌≤◌, Bool, true, false, not, List, [], ◌∷◌, ◌++◌, length, map, refl, sym, ◌∙◌, ap, subst, arith, if◌then◌else◌}
 use Rattle.std.specs.List.{flat_map}
 use Rattle.vlsi_base.specs.declared.name.Terminal.{Terminal}
 use Rattle.vlsi_base.specs.Member.{In, here, there}
@@ -8,21 +8,19 @@ use Rattle.machine_meaning.specs.Machine.{Machine}
 use Rattle.machine_core.specs.Checked.{IsChecked}
 use Rattle.cell_model.specs.Cell.{Cell}
 use Rattle.cell_model.specs.Library.{Library}
-use Rattle.cell_model.proofs.Members.{In-split, In-left, In-right, In-map, All-In}
+use Rattle.cell_model.proofs.Members.{In-left, In-right, In-map, All-In}
 use Rattle.net_core.specs.Netlist.{Instance}
-use Rattle.net_meaning.specs.Netlist.{Member, IsTerminal}
 use Rattle.net_meaning.specs.Well.{buffer_instance}
-use Rattle.net_theory.specs.Sources.{Source, node, Seat, Shows}
-use Rattle.net_theory.proofs.Seats.{seat_has}
+use Rattle.net_theory.specs.Sources.{node, Seat}
 use Rattle.loon_fanout.specs.Sinks.{Wired, sinks}
-use Rattle.loon_fanout.specs.Wired.{with_gate, with_row, with_moved, with_group}
+use Rattle.loon_fanout.specs.Wired.{with_gate, with_moved, with_group}
 use Rattle.loon_fanout.specs.Repeaters.{Repeater}
 use Rattle.loon_fanout.specs.Limited.{AreGroups, last, next, Row, with_round, IsLimited, within, round}
-use Rattle.loon_fanout.specs.Laws.{as_netlist, sourced, gate_named}
+use Rattle.loon_fanout.specs.Laws.{gate_named}
 use Rattle.loon_fanout.proofs.Splitting.{SinkAt, sink_at}
-use Rattle.loon_fanout.proofs.States.{State, IsGateCell, net, fresh, seat_low, node_low}
-use Rattle.loon_fanout.proofs.Gating.{gated, source_old, source_new, value_old, value_new, rank_old, rank_new, class_kept, kind}
-use Rattle.loon_fanout.proofs.Moving.{IsSink, sink_terminal, sink_shows, IsMovable, moved, class_after, moved_state}
+use Rattle.loon_fanout.proofs.RightStates.{State, IsGateCell, fresh, seat_low, node_low}
+use Rattle.loon_fanout.proofs.RightGate.{gated, source_old, source_new, value_old, value_new, rank_old, rank_new, class_kept, kind}
+use Rattle.loon_fanout.proofs.RightMove.{IsSink, sink_terminal, sink_shows, IsMovable, moved, class_after, moved_state}
 
 -- a class shows a node whose bits are g of those of node a, and that doesn't rank below it
 pub record IsShown (l : Library) (m : Machine) (w : Wired) (s : State l m w) (a : ℕ) (g : Bool → Bool) (c : ℕ) : Type 0 where
@@ -193,12 +191,12 @@ module _ (l : Library) (m : Machine) (checked : IsChecked m) (w : Wired) (s : St
       let t = gate_state l m checked w s c b name j named new_name k a low reads in
       let new = shown_new l m checked w s c b name j named new_name k a low reads a low_a (λ v. v) (λ i r. refl) (omega arith) in
       let shown : IsShown l m (with_gate c w k name) t a (λ v. v) w.count =
-          record { at = new.at; below = new.below; shows = new.shows; bits = λ i r. new.bits i r ∙ gives (t.values i r a); ranks = new.ranks } in
+      record { at = new.at; below = new.below; shows = new.shows; bits = λ i r. new.bits i r ∙ gives (t.values i r a); ranks = new.ranks } in
       let before = before_new l m checked w s c b name j named new_name k a low reads a low_a w.instances new_name (λ p listed i i_in same lower. lower) in
       let later = λ (z : Terminal) (h : IsPending l m w s a z). pending_kept l m checked w s c b name j named new_name k a low reads a low_a z h in
       let end = group_moved l m (with_gate c w k name) t w.instances a w.count (one_less w.count) shown before group
-          (λ z g. later z (each z g)) (λ z g. (each z g).sink.listed) k (omega (arith, low))
-          (source_old l m w s c b name j named new_name k a low reads k low ∙ reads) in
+      (λ z g. later z (each z g)) (λ z g. (each z g).sink.listed) k (omega (arith, low))
+      (source_old l m w s c b name j named new_name k a low reads k low ∙ reads) in
       record { state = end.state; low = end.low; reads = end.reads; pending = λ z h. end.pending z (later z h) }
 
   two_gates : ((v : Bool) → val b.expr (v ∷ []) ≡ not v) → (first second : List ℕ) (i j : ℕ) → first ≡ buffer_instance i → second ≡ buffer_instance j
@@ -217,13 +215,13 @@ module _ (l : Library) (m : Machine) (checked : IsChecked m) (w : Wired) (s : St
       let v = gate_state l m checked u t c b second j named_second new_second w.count inverted.at inverted.below inverted.shows in
       let new = shown_new l m checked u t c b second j named_second new_second w.count inverted.at inverted.below inverted.shows a low_at (λ x. val b.expr (x ∷ [])) inverted.bits inverted.ranks in
       let shown : IsShown l m (with_gate c u w.count second) v a (λ x. x) u.count =
-          record { at = new.at; below = new.below; shows = new.shows; bits = λ y r. new.bits y r ∙ both (v.values y r a); ranks = new.ranks } in
+      record { at = new.at; below = new.below; shows = new.shows; bits = λ y r. new.bits y r ∙ both (v.values y r a); ranks = new.ranks } in
       let before_v = before_new l m checked u t c b second j named_second new_second w.count inverted.at inverted.below inverted.shows a low_at w.instances
-          (λ x x_in. new_second x (In-left x w.instances (gate_named c first ∷ []) x_in)) before in
+      (λ x x_in. new_second x (In-left x w.instances (gate_named c first ∷ []) x_in)) before in
       let later = λ (z : Terminal) (h : IsPending l m w s a z). pending_kept l m checked u t c b second j named_second new_second w.count inverted.at inverted.below inverted.shows a low_at z (kept z h) in
       let end = group_moved l m (with_gate c u w.count second) v w.instances a u.count (one_less u.count) shown before_v group
-          (λ z g. later z (each z g)) (λ z g. (each z g).sink.listed) k (omega (arith, low))
-          (source_old l m u t c b second j named_second new_second w.count inverted.at inverted.below inverted.shows k low_t ∙ reads_t) in
+      (λ z g. later z (each z g)) (λ z g. (each z g).sink.listed) k (omega (arith, low))
+      (source_old l m u t c b second j named_second new_second w.count inverted.at inverted.below inverted.shows k low_t ∙ reads_t) in
       record { state = end.state; low = end.low; reads = end.reads; pending = λ z h. end.pending z (later z h) } where
         both : (x : Bool) → val b.expr (val b.expr (x ∷ []) ∷ []) ≡ x
         both x = ap (λ (y : Bool). val b.expr (y ∷ [])) (inverts x) ∙ inverts (not x) ∙ twice_not x
@@ -316,9 +314,9 @@ limited_state l m checked limit b repeats names w u (within few) s new = s
 limited_state l m checked limit b repeats names w u (round {later = later} class rows large earlier groups many rest) s new =
     let r = class_read l m w s class limit large in
     let each : (row : Row) → In row rows → (length row.names ≡ b.gates) × ((t : Terminal) → In t row.group → IsPending l m w s r.at t) = λ row row_in. (
-        All-In (λ (x : Row). length x.names ≡ b.gates) rows many row row_in,
-        λ t g. pending_at l m w s class r t
-            (in_groups limit (sinks l w class) (map (λ (x : Row). x.group) rows) groups row.group (In-map (λ (x : Row). x.group) row rows row_in) t g),
+      All-In (λ (x : Row). length x.names ≡ b.gates) rows many row row_in,
+      λ t g. pending_at l m w s class r t
+          (in_groups limit (sinks l w class) (map (λ (x : Row). x.group) rows) groups row.group (In-map (λ (x : Row). x.group) row rows row_in) t g),
     ) in
     let ready = round_ready l m checked b.cell b.gates repeats rows w s class r.at r.low r.shows each later new in
     limited_state l m checked limit b repeats later (with_round b.cell w class rows) u rest ready.state ready.new

@@ -1,27 +1,22 @@
 -- A gate of one input put into a netlist that shows nodes.
-use Rattle.std.proofs.Common.{◌≡◌, ◌≢◌, ◌⊎◌, inl, inr, ℕ, suc, ◌+◌, ◌<◌, ◌≤◌, Bool, true, false, not, List, [], ◌∷◌, ◌++◌, length, map, filter, Some, refl, sym, ◌∙◌, ap, subst, arith, nat_eq, eqb-true, eq-eqb, if◌then◌else◌}
+use Rattle.std.proofs.Common.{◌≡◌, ◌≢◌, ◌⊎◌, inl, inr, ℕ, suc, ◌+◌, ◌<◌, Bool, false, List, [], ◌∷◌, ◌++◌, length, map, Some, refl, sym, ◌∙◌, ap, subst, arith, nat_eq, eqb-true, eq-eqb, if◌then◌else◌}
 use Rattle.std.proofs.lemmas.Bool.{cases_lt}
 use Rattle.std.proofs.lemmas.List.{map-append}
-use Rattle.std.specs.List.{list_any}
 use Rattle.vlsi_base.specs.declared.name.Name.{Name}
-use Rattle.vlsi_base.specs.declared.name.Port.{Port}
 use Rattle.vlsi_base.specs.declared.name.Terminal.{Terminal}
 use Rattle.vlsi_base.specs.Names.{vdd, vss}
 use Rattle.vlsi_base.specs.Member.{In, here, there}
 use Rattle.bool_expr.specs.Expression.{val}
-use Rattle.machine_meaning.specs.Machine.{Machine, inputs, outputs, is_input, names_of}
-use Rattle.machine_meaning.specs.Named.{is_same_text, is_same_name}
+use Rattle.machine_meaning.specs.Machine.{Machine, inputs, outputs, names_of}
 use Rattle.machine_core.specs.Checked.{IsChecked}
-use Rattle.machine_core.proofs.Names.{same_name-true, same_name-itself, same_name-false}
 use Rattle.cell_model.specs.Cell.{Function, gate, flip_flop, other, opaque, Cell, pin_ports, cell_inputs, cell_outputs}
 use Rattle.cell_model.specs.Library.{Library, cell_of, IsUsable, IsPlain}
-use Rattle.cell_model.proofs.Members.{In-split, In-left, In-right, In-map, In-map_back}
-use Rattle.cell_model.proofs.Texts.{text_itself, text_differs}
-use Rattle.cell_pins.proofs.Ports.{in_filter}
+use Rattle.cell_model.proofs.Members.{In-split, In-left, In-right, In-map_back}
+use Rattle.cell_model.proofs.Texts.{text_differs}
 use Rattle.net_core.specs.Netlist.{Instance}
-use Rattle.net_meaning.specs.Netlist.{Member, Netlist, port, pin_of, IsTerminal, a_port, a_pin}
+use Rattle.net_meaning.specs.Netlist.{Member, port, pin_of, IsTerminal, a_port, a_pin}
 use Rattle.net_meaning.specs.Well.{Has, named_b, buffer_instance}
-use Rattle.net_theory.specs.Sources.{Source, high, low, ticking, node, Values, Seat, Roots, Sourced, source_of, pin_sources, Plays, IsSeated, ComesFrom, Shows}
+use Rattle.net_theory.specs.Sources.{Source, high, low, ticking, node, Values, Seat, Sourced, source_of, pin_sources, Plays, IsSeated, ComesFrom, Shows}
 use Rattle.net_theory.specs.Meaning.{Means}
 use Rattle.net_theory.proofs.Basics.{number_in, In-names, In-inputs, In-held, In-pins}
 use Rattle.net_theory.proofs.Seats.{In-only, seat_has, input_terminal, output_terminal}
@@ -29,9 +24,9 @@ use Rattle.net_view.specs.View.{member_of}
 use Rattle.loon_fanout.specs.Sinks.{Wired, is_same_owner}
 use Rattle.loon_fanout.specs.Wired.{pin_class, with_gate}
 use Rattle.loon_fanout.specs.Laws.{as_netlist, sourced, gate_named}
-use Rattle.loon_fanout.proofs.Splitting.{any_in, in_any, is_false, one_of, in_or_out}
-use Rattle.loon_fanout.proofs.Gates.{own_class, input as gate_input, output as gate_output, input_is, output_is, input_class, output_class}
-use Rattle.loon_fanout.proofs.States.{State, IsGateCell, net, fresh, fresh_beyond, seat_low, node_low, terminal_low, load_low, output_low}
+use Rattle.loon_fanout.proofs.Splitting.{is_false}
+use Rattle.loon_fanout.proofs.RightPins.{own_class, input as gate_input, output as gate_output, input_is, output_is, input_class, output_class}
+use Rattle.loon_fanout.proofs.RightStates.{State, IsGateCell, net, fresh, fresh_beyond, seat_low, node_low, terminal_low, load_low, output_low}
 
 not_same : (x y : ℕ) → x < y → nat_eq x y ≡ false
 not_same x y below = is_false (nat_eq x y) (λ e. let same = eqb-true x y e in absurd (omega (arith, same, below)))

@@ -1,5 +1,5 @@
 -- Classes that the gates of rounds tie: what was one class still is, once these are taken out.
-use Rattle.std.proofs.Common.{◌≡◌, ◌≢◌, ◌⊎◌, inl, inr, ℕ, suc, ◌+◌, ◌-◌, ◌<◌, Bool, true, false, List, [], ◌∷◌, ◌++◌, length, map, filter, All, Some, refl, sym, ◌∙◌, ap, subst, arith, nat_eq, if◌then◌else◌}
+use Rattle.std.proofs.Common.{◌≡◌, ◌≢◌, inl, inr, ℕ, suc, ◌-◌, Bool, true, false, List, [], ◌∷◌, ◌++◌, length, map, filter, Some, refl, sym, ◌∙◌, ap, subst, arith, nat_eq, if◌then◌else◌}
 use Rattle.std.proofs.lemmas.List.{map-append}
 use Rattle.std.proofs.lemmas.Option.{same_Some}
 use Rattle.std.specs.List.{flat_map, list_any}
@@ -25,11 +25,11 @@ use Rattle.loon_fanout.specs.Limited.{AreGroups, last, next, Row, with_round, Is
 use Rattle.loon_fanout.specs.Laws.{as_netlist, gate_named}
 use Rattle.loon_fanout.specs.Nets.{AreOne, alike, tied, turned, through}
 use Rattle.loon_fanout.proofs.Terminals.{terminal_same}
-use Rattle.loon_fanout.proofs.Splitting.{flat_in, any_in, is_false, in_or_out, SinkAt, sink_at}
-use Rattle.loon_fanout.proofs.States.{IsGateCell}
-use Rattle.loon_fanout.proofs.Gates.{own_class, input, output, in_inputs, in_outputs, input_class, output_class}
-use Rattle.loon_fanout.proofs.Moving.{IsSink}
-use Rattle.loon_fanout.proofs.Rounds.{AreNew, Repeats, once, twice, in_groups, sink_of}
+use Rattle.loon_fanout.proofs.Splitting.{flat_in, any_in, is_false, in_or_out, sink_at}
+use Rattle.loon_fanout.proofs.RightStates.{IsGateCell}
+use Rattle.loon_fanout.proofs.RightPins.{own_class, input, output, in_inputs, in_outputs, input_class, output_class}
+use Rattle.loon_fanout.proofs.RightMove.{IsSink}
+use Rattle.loon_fanout.proofs.RightRounds.{AreNew, Repeats, once, twice, in_groups, sink_of}
 
 -- ---- lists whose members differ
 
@@ -79,10 +79,10 @@ all_differ l (i ∷ is) names pins =
     (differ_map (pin_of i.name) (filter (is_sink_of (cell_of l i.model)) i.pins) (λ x y e. ap (λ (t : Terminal). t.pin) e) (differ_filter (is_sink_of (cell_of l i.model)) i.pins (pins i here)))
     (all_differ l is names.1 (λ x h. pins x (there h)))
     (λ t h g.
-        let r = flat_in (instance_sinks l) t is g in
-        let both : Some i.name ≡ Some r.0.name = sym (owned l i t h) ∙ owned l r.0 t r.2 in
-        let same : i.name ≡ r.0.name = cc both in
-        names.0 (subst (λ (n : List ℕ). In n (map (λ i. i.name) is)) (sym same) (In-map (λ (x : Instance). x.name) r.0 is r.1)))
+    let r = flat_in (instance_sinks l) t is g in
+    let both : Some i.name ≡ Some r.0.name = sym (owned l i t h) ∙ owned l r.0 t r.2 in
+    let same : i.name ≡ r.0.name = cc both in
+    names.0 (subst (λ (n : List ℕ). In n (map (λ i. i.name) is)) (sym same) (In-map (λ (x : Instance). x.name) r.0 is r.1)))
 
 pub sinks_differ : (l : Library) (w : Wired) → AllDifferent (map (λ i. i.name) w.instances) → ((i : Instance) → In i w.instances → AllDifferent i.pins) → (k : ℕ) → AllDifferent (sinks l w k)
 sinks_differ l w names pins k = differ_filter (λ t. nat_eq (w.class t) k) (flat_map (instance_sinks l) w.instances) (all_differ l w.instances names pins)
@@ -113,7 +113,7 @@ still_good : (l : Library) (is : List Instance) (c : Cell) → IsGateCell l c �
 still_good l is c b name new_name good = record {
   names = subst (λ (ns : List (List ℕ)). AllDifferent ns) (sym (map-append (λ (i : Instance). i.name) is (gate_named c name ∷ [])))
       (differ_append (map (λ i. i.name) is) (name ∷ []) good.names (λ h. elim h [ ], tt) (λ x h g.
-          let r = In-map_back (λ (i : Instance). i.name) x is h in new_name r.0 r.1 (r.2 ∙ In-one name x g)));
+      let r = In-map_back (λ (i : Instance). i.name) x is h in new_name r.0 r.1 (r.2 ∙ In-one name x g)));
   usable = λ i d h found. elim (In-split i is (gate_named c name ∷ []) h) [
     | inl old ↦ good.usable i d old found
     | inr new ↦
@@ -168,7 +168,7 @@ module _ (l : Library) (c : Cell) (b : IsGateCell l c) (w : Wired) (k : ℕ) (na
       let apart : i.name ≢ name = λ same. new_name m.0 m.1 (ap (λ (z : Member). z.name) m.2 ∙ same) in
       let listed = subst (λ (all : List Member). In i all) (sym (map-append member_of w.instances (gate_named c name ∷ []))) (In-left i (map member_of w.instances) (map member_of (gate_named c name ∷ [])) has.listed) in
       let now : AreOne (as_netlist gated) l (gated.class (pin_of i.name x)) (gated.class (pin_of i.name y)) =
-          tied i e j x y (record { listed = listed; found = has.found }) named x_in y_in in
+      tied i e j x y (record { listed = listed; found = has.found }) named x_in y_in in
       subst (λ (z : ℕ). AreOne (as_netlist gated) l z (w.class (pin_of i.name y))) (class_old i.name x apart)
       (subst (λ (z : ℕ). AreOne (as_netlist gated) l (gated.class (pin_of i.name x)) z) (class_old i.name y apart) now)
   gate_ones a d (turned h) = turned (gate_ones d a h)
@@ -234,7 +234,7 @@ module _ (l : Library) (u : Wired) (good : AreGood l u.instances) (group : List 
   move_ones a d alike = alike
   move_ones a d (tied i e j x y has named x_in y_in) =
       let now : AreOne (as_netlist after) l (after.class (pin_of i.name x)) (after.class (pin_of i.name y)) =
-          tied i e j x y (record { listed = has.listed; found = has.found }) named x_in y_in in
+      tied i e j x y (record { listed = has.listed; found = has.found }) named x_in y_in in
       through (from_old (pin_of i.name x)) (subst (λ (z : ℕ). AreOne (as_netlist after) l (after.class (pin_of i.name x)) z) (output_same i e y has y_in) now)
   move_ones a d (turned h) = turned (move_ones d a h)
   move_ones a d (through {b = mid} h g) = through (move_ones a mid h) (move_ones mid d g)
@@ -285,8 +285,8 @@ row_follows l c gates (once b gives) w k group good each (x ∷ []) others later
     let good_u = still_good l w.instances c b x new.1 good in
     let sunk = λ (t : Terminal) (h : In t group). (each t h).0 in
     let tie = tied_at l c b v x new.0.0 new.0.1 (In-right (gate_named c x) w.instances (gate_named c x ∷ []) here) k w.count
-        (own_kept l w u group sunk x (input l c b) new.1 ∙ own_class c w x k (input l c b) ∙ input_class l c b w k)
-        (own_kept l w u group sunk x (output l c b) new.1 ∙ own_class c w x k (output l c b) ∙ output_class l c b w k) in
+    (own_kept l w u group sunk x (input l c b) new.1 ∙ own_class c w x k (input l c b) ∙ input_class l c b w k)
+    (own_kept l w u group sunk x (output l c b) new.1 ∙ own_class c w x k (output l c b) ∙ output_class l c b w k) in
     let each_u : (t : Terminal) → In t group → IsSink l u t × (u.class t ≡ k) = λ t h. (f.kept t (sunk t h), sink_class l c b w k x new.1 t (sunk t h) ∙ (each t h).1) in
     let g = move_follows l u good_u group k w.count (one_less w.count) each_u tie in
     record {
@@ -313,12 +313,12 @@ row_follows l c gates (twice b inverts) w k group good each (x ∷ y ∷ []) oth
     let sunk = λ (t : Terminal) (h : In t group). (each t h).0 in
     let class_2 : (t : Terminal) → IsSink l w t → u2.class t ≡ w.class t = λ t s. sink_class l c b u1 w.count y new_y t (f1.kept t s) ∙ sink_class l c b w k x new.1 t s in
     let first = tied_at l c b v x new.0.0 new.0.1
-        (In-left (gate_named c x) u1.instances (gate_named c y ∷ []) (In-right (gate_named c x) w.instances (gate_named c x ∷ []) here)) k w.count
-        (own_kept l w u2 group sunk x (input l c b) new.1 ∙ class_old l c b u1 w.count y new_y x (input l c b) apart_xy ∙ own_class c w x k (input l c b) ∙ input_class l c b w k)
-        (own_kept l w u2 group sunk x (output l c b) new.1 ∙ class_old l c b u1 w.count y new_y x (output l c b) apart_xy ∙ own_class c w x k (output l c b) ∙ output_class l c b w k) in
+    (In-left (gate_named c x) u1.instances (gate_named c y ∷ []) (In-right (gate_named c x) w.instances (gate_named c x ∷ []) here)) k w.count
+    (own_kept l w u2 group sunk x (input l c b) new.1 ∙ class_old l c b u1 w.count y new_y x (input l c b) apart_xy ∙ own_class c w x k (input l c b) ∙ input_class l c b w k)
+    (own_kept l w u2 group sunk x (output l c b) new.1 ∙ class_old l c b u1 w.count y new_y x (output l c b) apart_xy ∙ own_class c w x k (output l c b) ∙ output_class l c b w k) in
     let second = tied_at l c b v y new.2.0.0 new.2.0.1 (In-right (gate_named c y) u1.instances (gate_named c y ∷ []) here) w.count u1.count
-        (own_kept l w u2 group sunk y (input l c b) old_y ∙ own_class c u1 y w.count (input l c b) ∙ input_class l c b u1 w.count)
-        (own_kept l w u2 group sunk y (output l c b) old_y ∙ own_class c u1 y w.count (output l c b) ∙ output_class l c b u1 w.count) in
+    (own_kept l w u2 group sunk y (input l c b) old_y ∙ own_class c u1 y w.count (input l c b) ∙ input_class l c b u1 w.count)
+    (own_kept l w u2 group sunk y (output l c b) old_y ∙ own_class c u1 y w.count (output l c b) ∙ output_class l c b u1 w.count) in
     let each_2 : (t : Terminal) → In t group → IsSink l u2 t × (u2.class t ≡ k) = λ t h. (f.kept t (sunk t h), class_2 t (sunk t h) ∙ (each t h).1) in
     let g = move_follows l u2 good2 group k u1.count (one_less u1.count) each_2 (through first second) in
     record {
@@ -348,10 +348,10 @@ round_follows l c gates b (row ∷ rows) w k good each differ later new =
     let u = with_group c w k row.names row.group in
     let r = row_follows l c gates b w k row.group good first.1 row.names (flat_map (λ (x : Row). x.names) rows) later first.0 new in
     let after : (x : Row) → In x rows → (length x.names ≡ gates) × ((t : Terminal) → In t x.group → IsSink l u t × (u.class t ≡ k)) = λ x x_in. (
-        (each x (there x_in)).0,
-        λ t g.
-            let s = (each x (there x_in)).1 t g in
-            (r.follows.kept t s.0, r.stays t s.0 (λ h. apart_append row.group (flat_map group_of rows) differ t h (in_rows x rows x_in t g)) ∙ s.1),
+      (each x (there x_in)).0,
+      λ t g.
+          let s = (each x (there x_in)).1 t g in
+          (r.follows.kept t s.0, r.stays t s.0 (λ h. apart_append row.group (flat_map group_of rows) differ t h (in_rows x rows x_in t g)) ∙ s.1),
     ) in
     let rest = round_follows l c gates b rows u k r.good after (differ_later row.group (flat_map group_of rows) differ) later r.names in
     record { follows = follow_on l w u (with_round c u k rows) r.follows rest.follows; names = rest.names; good = rest.good } where
@@ -381,10 +381,10 @@ pub limited_follows : (l : Library) (limit : ℕ) (b : Repeater) → Repeats l b
 limited_follows l limit b repeats names w u (within few) good new = record { follows = follow_itself l w; names = tt; good = good }
 limited_follows l limit b repeats names w u (round {later = later} class rows large earlier groups many rest) good new =
     let each : (row : Row) → In row rows → (length row.names ≡ b.gates) × ((t : Terminal) → In t row.group → IsSink l w t × (w.class t ≡ class)) = λ row row_in. (
-        All-In (λ (x : Row). length x.names ≡ b.gates) rows many row row_in,
-        λ t g.
-            let s = sink_at l w class t (in_groups limit (sinks l w class) (map (λ (x : Row). x.group) rows) groups row.group (In-map (λ (x : Row). x.group) row rows row_in) t g) in
-            (sink_of l w class t s, s.class),
+      All-In (λ (x : Row). length x.names ≡ b.gates) rows many row row_in,
+      λ t g.
+          let s = sink_at l w class t (in_groups limit (sinks l w class) (map (λ (x : Row). x.group) rows) groups row.group (In-map (λ (x : Row). x.group) row rows row_in) t g) in
+          (sink_of l w class t s, s.class),
     ) in
     let differ = subst (λ (ts : List Terminal). AllDifferent ts) (groups_whole limit (sinks l w class) (map (λ (x : Row). x.group) rows) groups ∙ whole_rows rows) (sinks_differ l w good.names good.pins class) in
     let r = round_follows l b.cell b.gates repeats rows w class good each differ later new in
