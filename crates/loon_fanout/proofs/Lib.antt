@@ -8,3 +8,13 @@ pub mod Tying
 pub mod Builds
 pub mod Kept
 pub mod Splitting
+pub mod RightStates
+pub mod RightGate
+pub mod RightMove
+pub mod RightRounds
+pub mod RightStay
+pub mod RightPins
+pub mod FewInputs
+pub mod OneClass
+pub mod Needed
+pub mod Remaining

@@ -32,7 +32,7 @@ use Rattle.loon_fanout.proofs.Terminals.{terminal_same, terminal_itself, owner_s
 
 -- ---- lists
 
-flat_in : {A B : Type 0} (f : A → List B) (y : B) (xs : List A) → In y (flat_map f xs) → (x : A) × In x xs × In y (f x)
+pub flat_in : {A B : Type 0} (f : A → List B) (y : B) (xs : List A) → In y (flat_map f xs) → (x : A) × In x xs × In y (f x)
 flat_in f y [] h = elim h [ ]
 flat_in f y (x ∷ xs) h = elim (In-split y (f x) (flat_map f xs) h) [
   | inl front ↦ (x, here, front)
@@ -48,14 +48,14 @@ both true true h = (refl, refl)
 both true false h = absurd (cc h)
 both false b h = absurd (cc h)
 
-any_in : {A : Type 0} (test : A → Bool) (xs : List A) → list_any test xs ≡ true → (x : A) × In x xs × (test x ≡ true)
+pub any_in : {A : Type 0} (test : A → Bool) (xs : List A) → list_any test xs ≡ true → (x : A) × In x xs × (test x ≡ true)
 any_in test [] h = absurd (cc h)
 any_in test (x ∷ xs) h = elim (either (test x) (list_any test xs) h) [
   | inl first ↦ (x, here, first)
   | inr later ↦ let r = any_in test xs later in (r.0, there r.1, r.2)
 ]
 
-in_any : {A : Type 0} (test : A → Bool) (xs : List A) (x : A) → In x xs → test x ≡ true → list_any test xs ≡ true
+pub in_any : {A : Type 0} (test : A → Bool) (xs : List A) (x : A) → In x xs → test x ≡ true → list_any test xs ≡ true
 in_any test (y ∷ xs) x here h = ap (λ (b : Bool). b || list_any test xs) h
 in_any test (y ∷ xs) x (there k) h = by (test y) (in_any test xs x k h) where
   by : (b : Bool) → list_any test xs ≡ true → (b || list_any test xs) ≡ true
@@ -63,11 +63,11 @@ in_any test (y ∷ xs) x (there k) h = by (test y) (in_any test xs x k h) where
   by false r = r
 in_any test [] x h k = elim h [ ]
 
-is_false : (b : Bool) → (b ≡ true → ⊥) → b ≡ false
+pub is_false : (b : Bool) → (b ≡ true → ⊥) → b ≡ false
 is_false true h = absurd (h refl)
 is_false false h = refl
 
-one_of : {A : Type 0} (xs : List A) → length xs ≡ 1 → (x : A) × (xs ≡ x ∷ [])
+pub one_of : {A : Type 0} (xs : List A) → length xs ≡ 1 → (x : A) × (xs ≡ x ∷ [])
 one_of [] h = absurd (omega (arith, h))
 one_of (x ∷ []) h = (x, refl)
 one_of (x ∷ y ∷ xs) h = absurd (omega (arith, h))

@@ -1,0 +1,223 @@
+-- A limited netlist that would do without its buffers has none.
+use Rattle.std.proofs.Common.{◌≡◌, ◌≢◌, ◌⊎◌, inl, inr, ℕ, suc, ◌<◌, Bool, true, false, List, [], ◌∷◌, ◌++◌, length, map, Some, refl, sym, ◌∙◌, ap, subst, arith}
+use Rattle.std.proofs.lemmas.Option.{same_Some}
+use Rattle.vlsi_base.specs.declared.name.Name.{Name}
+use Rattle.vlsi_base.specs.declared.name.Terminal.{Terminal}
+use Rattle.vlsi_base.specs.Member.{In, AllDifferent}
+use Rattle.machine_meaning.specs.Machine.{names_of}
+use Rattle.machine_core.proofs.Names.{same_name-itself}
+use Rattle.machine_meaning.specs.Named.{is_same_name}
+use Rattle.cell_model.specs.Cell.{Function, Cell, pin_ports}
+use Rattle.cell_model.specs.Library.{Library, cell_of, IsUsable}
+use Rattle.cell_model.proofs.Members.{In-split, In-left, In-map, In-map_back}
+use Rattle.cell_checks.specs.Checked.{IsChecked as HasPassed}
+use Rattle.net_core.specs.Places.{IsThere, NoneTwice}
+use Rattle.net_core.specs.Netlist.{Instance, Netlist as InMemory, IsNetlist, terminals}
+use Rattle.net_meaning.specs.Netlist.{Member, Netlist, pin_of, a_pin}
+use Rattle.net_meaning.specs.Well.{Has, IsClockPin, a_clock_pin, buffer_instance}
+use Rattle.net_theory.proofs.Basics.{In-names}
+use Rattle.net_view.specs.View.{member_of, IsSeenAs}
+use Rattle.net_view.proofs.Lists.{in_place}
+use Rattle.net_view.proofs.Terminals.{seen_instances, IsCelled, terminal_there}
+use Rattle.net_view.proofs.Seen.{seen_class}
+use Rattle.loon_fanout.specs.Sinks.{Wired, is_clock_of, sinks, wired_of}
+use Rattle.loon_fanout.specs.Repeaters.{Repeater}
+use Rattle.loon_fanout.specs.Limited.{IsLimited, within, round, IsNetlistOf, IsBuffered, IsOfCells}
+use Rattle.loon_fanout.specs.Laws.{as_netlist, gate_named}
+use Rattle.loon_fanout.specs.Nets.{AreOne, alike, tied, turned, through, IsStaying, staying, FitsWithoutBuffers, HasNoBuffer, BuffersAreNeeded}
+use Rattle.loon_fanout.proofs.Splitting.{sink_at}
+use Rattle.loon_fanout.proofs.RightMove.{IsSink}
+use Rattle.loon_fanout.proofs.RightRounds.{sink_of, some_of}
+use Rattle.loon_fanout.proofs.OneClass.{AreGood, one_instance, pin_names_differ, sinks_differ, RoundFollows, limited_follows}
+use Rattle.loon_fanout.proofs.RightStay.{repeats, celled_r, all_instances, new_names}
+
+-- ---- classes of a netlist in memory
+
+module _ (l : Library) (r : InMemory) (is : IsNetlist r) (celled : (i : Instance) → IsThere r.instances i → IsCelled l i) (w : Wired) (of : IsNetlistOf r w) (good : AreGood l w.instances)
+    (k : Netlist) (seen : IsSeenAs r k) where
+  same_class : (t u : Terminal) → IsThere (terminals r) t → IsThere (terminals r) u → w.class t ≡ w.class u → k.class t ≡ k.class u
+  same_class t u t_in u_in e = (of.classes t u (k.class t) (k.class u) (seen_class r k is seen t t_in) (seen_class r k is seen u u_in)).1 e
+
+  instances_same : k.instances ≡ map member_of w.instances
+  instances_same = seen_instances r k seen ∙ ap (map member_of) of.instances
+
+  pub pin_in : (i : Member) (c : Cell) → Has (as_netlist w) l i c → (pin : Name) → In pin (names_of (pin_ports c)) → IsThere (terminals r) (pin_of i.name pin)
+  pin_in i c has pin h =
+      let m = In-map_back member_of i w.instances has.listed in
+      let usable = good.usable m.0 c m.1 (subst (λ (x : Member). cell_of l x.model ≡ Some c) (sym m.2) has.found) in
+      let listed = subst (λ (all : List Member). In i all) (sym instances_same) has.listed in
+      terminal_there r l k seen celled (pin_of i.name pin) (a_pin i c listed has.found ((usable.connectors pin).1 (inr (inr h))))
+
+  -- terminals of two classes that are one
+  record Met (a d : ℕ) : Type 0 where
+    first : Terminal
+    second : Terminal
+    first_in : IsThere (terminals r) first
+    second_in : IsThere (terminals r) second
+    first_class : w.class first ≡ a
+    second_class : w.class second ≡ d
+    one : AreOne k l (k.class first) (k.class second)
+
+  joined : (a mid d : ℕ) → Met a mid → Met mid d → Met a d
+  joined a mid d x y = record {
+    first = x.first;
+    second = y.second;
+    first_in = x.first_in;
+    second_in = y.second_in;
+    first_class = x.first_class;
+    second_class = y.second_class;
+    one = through x.one (subst (λ (z : ℕ). AreOne k l z (k.class y.second)) (same_class y.first x.second y.first_in x.second_in (y.first_class ∙ sym x.second_class)) y.one);
+  }
+
+  met : (a d : ℕ) → AreOne (as_netlist w) l a d → (a ≡ d) ⊎ Met a d
+  met a d alike = inl refl
+  met a d (tied i c j x y has named x_in y_in) = inr (record {
+    first = pin_of i.name x;
+    second = pin_of i.name y;
+    first_in = pin_in i c has x (In-names _ (pin_ports c) x x_in);
+    second_in = pin_in i c has y (In-names _ (pin_ports c) y y_in);
+    first_class = refl;
+    second_class = refl;
+    one = tied i c j x y (record { listed = subst (λ (all : List Member). In i all) (sym instances_same) has.listed; found = has.found }) named x_in y_in;
+  })
+  met a d (turned h) = elim (met d a h) [
+    | inl e ↦ inl (sym e)
+    | inr x ↦ inr (record {
+      first = x.second;
+      second = x.first;
+      first_in = x.second_in;
+      second_in = x.first_in;
+      first_class = x.second_class;
+      second_class = x.first_class;
+      one = turned x.one;
+    })
+  ]
+  met a d (through {b = mid} h g) = by (met a mid h) (met mid d g) where
+    by : (a ≡ mid) ⊎ Met a mid → (mid ≡ d) ⊎ Met mid d → (a ≡ d) ⊎ Met a d
+    by (inl x) (inl y) = inl (x ∙ y)
+    by (inl x) (inr y) = inr (subst (λ (z : ℕ). Met z d) (sym x) y)
+    by (inr x) (inl y) = inr (subst (λ (z : ℕ). Met a z) y x)
+    by (inr x) (inr y) = inr (joined a mid d x y)
+
+  pub ones : (t u : Terminal) → IsThere (terminals r) t → IsThere (terminals r) u → AreOne (as_netlist w) l (w.class t) (w.class u) → AreOne k l (k.class t) (k.class u)
+  ones t u t_in u_in h = elim (met (w.class t) (w.class u) h) [
+    | inl e ↦ subst (λ (z : ℕ). AreOne k l (k.class t) z) (same_class t u t_in u_in e) alike
+    | inr x ↦
+        subst (λ (z : ℕ). AreOne k l z (k.class u)) (same_class x.first t x.first_in t_in x.first_class)
+        (subst (λ (z : ℕ). AreOne k l (k.class x.first) z) (same_class x.second u x.second_in u_in x.second_class) x.one)
+  ]
+
+-- ---- the law
+
+all_different : (xs : List (List ℕ)) → NoneTwice xs → AllDifferent xs
+all_different [] once_only = tt
+all_different (x ∷ xs) once_only = (not_later, all_different xs later) where
+  not_later : In x xs → ⊥
+  not_later h =
+      let p = in_place x xs h in
+      let wrong : 0 ≡ suc p.0 = once_only 0 (suc p.0) x refl p.1 in
+      absurd (omega (arith, wrong))
+
+  later : NoneTwice xs
+  later a b z p q = let e : suc a ≡ suc b = once_only (suc a) (suc b) z p q in omega (arith, e)
+
+-- nothing was put in, or a class had too many sinks
+was_crowded : (l : Library) (limit : ℕ) (b : Repeater) (names : List (List ℕ)) (n k : Wired) → IsLimited l limit b names n k → (names ≡ []) ⊎ ((class : ℕ) × (limit < length (sinks l n class)))
+was_crowded l limit b names n k (within few) = inl refl
+was_crowded l limit b names n k (round class rows large earlier groups many rest) = inr (class, large)
+
+module _ (tracks : Bool) (n : InMemory) (l : Library) (limit : ℕ) (r : InMemory) (k : Netlist) (passed : HasPassed tracks l) (is_n : IsNetlist n) (is_r : IsNetlist r) (of_cells : IsOfCells n l)
+    (no_b : (i : Instance) (j : ℕ) → IsThere n.instances i → i.name ≢ buffer_instance j) (buffered : IsBuffered n l limit r) (seen : IsSeenAs r k) (fits : FitsWithoutBuffers k l limit) where
+  abbrev w : Wired
+  w = buffered.wired
+
+  instances_r : r.instances ≡ n.instances ++ map (gate_named buffered.repeater.cell) buffered.names
+  instances_r = all_instances tracks n l limit r passed is_n is_r of_cells buffered
+
+  good_n : AreGood l n.instances
+  good_n = record {
+    names = all_different (map (λ i. i.name) n.instances) is_n.names;
+    usable = λ i d h found. let c = of_cells.found i (in_place i n.instances h) in subst (λ (x : Cell). IsUsable x) (same_Some c.0 d (sym c.1 ∙ found)) c.2;
+    pins = λ i h. let c = of_cells.found i (in_place i n.instances h) in subst (λ (ns : List Name). AllDifferent ns) (sym c.3) (pin_names_differ c.0 c.2);
+  }
+
+  in_k : (i : Instance) → In i n.instances → In (member_of i) k.instances
+  in_k i h =
+      subst (λ (all : List Member). In (member_of i) all) (sym (seen_instances r k seen))
+      (In-map member_of i r.instances (subst (λ (all : List Instance). In i all) (sym instances_r) (In-left i n.instances (map (gate_named buffered.repeater.cell) buffered.names) h)))
+
+  -- where nothing was put in, there is no buffer
+  unchanged : buffered.names ≡ [] → HasNoBuffer k
+  unchanged none i j h e =
+      let m = In-map_back member_of i r.instances (subst (λ (all : List Member). In i all) (seen_instances r k seen) h) in
+      let listed = subst (λ (all : List Instance). In m.0 all) (instances_r ∙ ap (λ (ns : List (List ℕ)). n.instances ++ map (gate_named buffered.repeater.cell) ns) none) m.1 in
+      elim (In-split m.0 n.instances [] listed) [
+        | inl old ↦ no_b m.0 j (in_place m.0 n.instances old) (ap (λ (x : Member). x.name) m.2 ∙ e)
+        | inr new ↦ nothing m.0 new
+      ] where
+        nothing : (x : Instance) → In x [] → ⊥
+        nothing x g = elim g [ ]
+
+  module _ (class : ℕ) (large : limit < length (sinks l (wired_of n) class)) where
+    limited : RoundFollows l buffered.repeater.cell [] (wired_of n) w
+    limited =
+        limited_follows l limit buffered.repeater (repeats tracks l passed buffered.repeater (buffered.chosen (class, large))) buffered.names (wired_of n) w buffered.limited good_n
+        (new_names tracks n l limit r passed is_n is_r of_cells buffered)
+
+    celled : (i : Instance) → IsThere r.instances i → IsCelled l i
+    celled i h = celled_r tracks n l limit r passed is_n is_r of_cells buffered i h
+
+    sunk : (t : Terminal) → In t (sinks l (wired_of n) class) → IsSink l (wired_of n) t
+    sunk t h = sink_of l (wired_of n) class t (sink_at l (wired_of n) class t h)
+
+    there_r : (t : Terminal) → IsSink l (wired_of n) t → IsThere (terminals r) t
+    there_r t h =
+        let s = limited.follows.kept t h in
+        subst (λ (x : Terminal). IsThere (terminals r) x) (sym s.is)
+        (pin_in l r is_r celled w buffered.is limited.good k seen (member_of s.owner) s.cell (record { listed = In-map member_of s.owner w.instances s.listed; found = s.found }) s.pin (In-names _ (pin_ports s.cell) s.pin s.input))
+
+    no_clock : (t : Terminal) (s : IsSink l w t) (y : Terminal) → y ≡ pin_of s.owner.name s.pin → IsClockPin k l y → ⊥
+    no_clock t s y e (a_clock_pin i c d ck has function) =
+        let names : Some i.name ≡ Some s.owner.name = ap (λ (x : Terminal). x.instance) e in
+        let name : i.name ≡ s.owner.name = cc names in
+        let pin : ck ≡ s.pin = ap (λ (x : Terminal). x.pin) e in
+        let m = In-map_back member_of i w.instances (subst (λ (all : List Member). In i all) (seen_instances r k seen ∙ ap (map member_of) buffered.is.instances) has.listed) in
+        let same = one_instance w.instances limited.good.names m.0 s.owner m.1 s.listed (ap (λ (x : Member). x.name) m.2 ∙ name) in
+        let found : cell_of l m.0.model ≡ Some c = subst (λ (x : Member). cell_of l x.model ≡ Some c) (sym m.2) has.found in
+        let again : cell_of l m.0.model ≡ Some s.cell = subst (λ (x : Instance). cell_of l x.model ≡ Some s.cell) (sym same) s.found in
+        let cells : s.cell ≡ c = same_Some s.cell c (sym again ∙ found) in
+        let off : is_same_name ck s.pin ≡ false = subst (λ (u : Function). is_clock_of u s.pin ≡ false) (ap (λ (x : Cell). x.function) cells ∙ function) s.no_clock in
+        let no : is_same_name ck ck ≡ false = subst (λ (x : Name). is_same_name ck x ≡ false) (sym pin) off in
+        let yes = same_name-itself ck in
+        let wrong : true ≡ false = sym yes ∙ no in absurd (cc wrong)
+
+    stays : (t : Terminal) → IsSink l (wired_of n) t → IsStaying k l t
+    stays t s =
+        let now = limited.follows.kept t s in
+        subst (λ (x : Terminal). IsStaying k l x) (sym s.is)
+        (staying (member_of s.owner) s.cell (record { listed = in_k s.owner s.listed; found = s.found }) s.input (λ j. no_b s.owner j (in_place s.owner n.instances s.listed))
+        (no_clock t now (pin_of s.owner.name s.pin) (sym s.is ∙ now.is)))
+
+    class_at : (t : Terminal) → In t (sinks l (wired_of n) class) → (wired_of n).class t ≡ class
+    class_at t h = (sink_at l (wired_of n) class t h).class
+
+    too_many : ⊥
+    too_many =
+        let ts = sinks l (wired_of n) class in
+        let a = some_of limit ts large in
+        let few = fits (k.class a.0) ts (sinks_differ l (wired_of n) good_n.names good_n.pins class) (λ t h. (
+          stays t (sunk t h),
+          ones l r is_r celled w buffered.is limited.good k seen a.0 t (there_r a.0 (sunk a.0 a.1)) (there_r t (sunk t h))
+              (through (turned (limited.follows.moves a.0 (sunk a.0 a.1)))
+              (subst (λ (x : ℕ). AreOne (as_netlist w) l x (w.class t)) (class_at t h ∙ sym (class_at a.0 a.1)) (limited.follows.moves t (sunk t h)))),
+        )) in
+        absurd (omega (arith, few, large))
+
+  needed : HasNoBuffer k
+  needed = elim (was_crowded l limit buffered.repeater buffered.names (wired_of n) w buffered.limited) [
+    | inl none ↦ unchanged none
+    | inr crowd ↦ absurd (too_many crowd.0 crowd.1)
+  ]
+
+pub buffers_are_needed : BuffersAreNeeded
+buffers_are_needed tracks n l limit r k passed is_n is_r of_cells no_b buffered seen fits = needed tracks n l limit r k passed is_n is_r of_cells no_b buffered seen fits

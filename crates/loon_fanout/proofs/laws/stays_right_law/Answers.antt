@@ -1,0 +1,5 @@
+use Rattle.loon_fanout.proofs.RightStay.{buffered_stays_right}
+use Rattle.loon_fanout.proofs.laws.stays_right_law.Goals as goal
+
+pub returns : goal.returns
+returns c = buffered_stays_right

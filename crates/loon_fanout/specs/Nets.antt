@@ -1,0 +1,78 @@
+-- What is true of the nets of a limited netlist, in the terms of a netlist that layouts give.
+use Rattle.std.specs.Prelude.{◌≡◌, ◌≢◌, ℕ, ◌≤◌, Bool, List, length}
+use Rattle.vlsi_base.specs.declared.name.Name.{Name}
+use Rattle.vlsi_base.specs.declared.name.Terminal.{Terminal}
+use Rattle.vlsi_base.specs.Member.{In, AllDifferent}
+use Rattle.machine_meaning.specs.Machine.{Machine}
+use Rattle.machine_core.specs.Checked.{IsChecked}
+use Rattle.cell_model.specs.Cell.{Cell, cell_inputs, cell_outputs}
+use Rattle.cell_model.specs.Library.{Library}
+use Rattle.cell_checks.specs.Checked.{IsChecked as HasPassed}
+use Rattle.net_core.specs.Places.{IsThere}
+use Rattle.net_core.specs.Netlist.{Instance, Netlist as InMemory, IsNetlist}
+use Rattle.net_meaning.specs.Netlist.{Member, Netlist, pin_of}
+use Rattle.net_meaning.specs.Well.{Has, IsClockPin, IsSpecial, buffer_instance}
+use Rattle.net_view.specs.View.{IsSeenAs}
+use Rattle.net_view.specs.Right.{IsRightNetlist}
+use Rattle.loon_fanout.specs.Limited.{IsBuffered, HasFanout, IsOfCells}
+
+-- an input pin of an instance's cell; supplies are none
+pub data IsInputPin (n : Netlist) (l : Library) : Terminal → Type 0 where
+  an_input_pin : {name : Name} (i : Member) (c : Cell) → Has n l i c → In name (cell_inputs c) → IsInputPin n l (pin_of i.name name)
+
+-- no class but those of vdd, vss and the clock has more input pins than that
+abbrev pub HasFewInputs : Netlist → Library → Machine → ℕ → Type 0
+HasFewInputs n l m limit =
+    (k : ℕ) (pins : List Terminal) → AllDifferent pins
+    → ((t : Terminal) → In t pins → IsInputPin n l t × (n.class t ≡ k) × (IsSpecial n m t → ⊥)) → length pins ≤ limit
+
+-- So it is for a right netlist none of whose nets has more sinks than that, as each that it can be seen as.
+abbrev pub RightHasFewInputs : Type 0
+RightHasFewInputs =
+    (n : InMemory) (l : Library) (m : Machine) (limit : ℕ) (k : Netlist) → IsNetlist n → IsChecked m → IsOfCells n l
+    → IsRightNetlist n l m → HasFanout l limit n → IsSeenAs n k → HasFewInputs k l m limit
+
+-- ---- limited netlists
+
+-- a limited netlist is of usable cells, and no net of it has more sinks than that
+abbrev pub BufferedRemains : Type 0
+BufferedRemains =
+    (tracks : Bool) (n : InMemory) (l : Library) (limit : ℕ) (r : InMemory) → HasPassed tracks l → IsNetlist n → IsNetlist r
+    → IsOfCells n l → IsBuffered n l limit r → IsOfCells r l × HasFanout l limit r
+
+-- where the given netlist is right for a machine, the limited one has few input pins in each class
+abbrev pub BufferedHasFewInputs : Type 0
+BufferedHasFewInputs =
+    (tracks : Bool) (n : InMemory) (l : Library) (m : Machine) (limit : ℕ) (r : InMemory) (k : Netlist) → HasPassed tracks l → IsNetlist n
+    → IsNetlist r → IsChecked m → IsOfCells n l → IsRightNetlist n l m → IsBuffered n l limit r → IsSeenAs r k → HasFewInputs k l m limit
+
+-- ---- buffers taken out
+
+-- Two classes are made one when each instance named b is taken out, and the two classes that it ties are made one.
+pub data AreOne (n : Netlist) (l : Library) : ℕ → ℕ → Type 0 where
+  alike : {a : ℕ} → AreOne n l a a
+  tied : (i : Member) (c : Cell) (j : ℕ) (input output : Name) → Has n l i c → i.name ≡ buffer_instance j → In input (cell_inputs c)
+      → In output (cell_outputs c) → AreOne n l (n.class (pin_of i.name input)) (n.class (pin_of i.name output))
+  turned : {a b : ℕ} → AreOne n l a b → AreOne n l b a
+  through : {a b d : ℕ} → AreOne n l a b → AreOne n l b d → AreOne n l a d
+
+-- an input pin, and no clock pin, of an instance that isn't named b
+pub data IsStaying (n : Netlist) (l : Library) : Terminal → Type 0 where
+  staying : {name : Name} (i : Member) (c : Cell) → Has n l i c → In name (cell_inputs c) → ((j : ℕ) → i.name ≢ buffer_instance j)
+      → (IsClockPin n l (pin_of i.name name) → ⊥) → IsStaying n l (pin_of i.name name)
+
+-- with the instances named b taken out so, no class has more such pins than that
+abbrev pub FitsWithoutBuffers : Netlist → Library → ℕ → Type 0
+FitsWithoutBuffers n l limit =
+    (k : ℕ) (pins : List Terminal) → AllDifferent pins → ((t : Terminal) → In t pins → IsStaying n l t × AreOne n l k (n.class t))
+    → length pins ≤ limit
+
+abbrev pub HasNoBuffer : Netlist → Type 0
+HasNoBuffer n = (i : Member) (j : ℕ) → In i n.instances → i.name ≢ buffer_instance j
+
+-- Where the limited netlist would do without its buffers, it has none; the given one has no instances of their names.
+abbrev pub BuffersAreNeeded : Type 0
+BuffersAreNeeded =
+    (tracks : Bool) (n : InMemory) (l : Library) (limit : ℕ) (r : InMemory) (k : Netlist) → HasPassed tracks l → IsNetlist n → IsNetlist r
+    → IsOfCells n l → ((i : Instance) (j : ℕ) → IsThere n.instances i → i.name ≢ buffer_instance j) → IsBuffered n l limit r
+    → IsSeenAs r k → FitsWithoutBuffers k l limit → HasNoBuffer k
