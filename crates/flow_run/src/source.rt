@@ -17,10 +17,9 @@ pub(crate) struct Source {
     pub(crate) machine: Machine,
 }
 
-/// A source, the most nodes that a diagram of its machine's roots has, and the most sinks that a net may have.
+/// A source, and the most nodes that a diagram of its machine's roots has.
 #[derive(Drop)]
 pub(crate) struct Counted {
     pub(crate) source: Source,
     pub(crate) nodes: u32,
-    pub(crate) fanout: u32,
 }

@@ -1,4 +1,3 @@
 pub mod Driven
 pub mod Errors
-pub mod Fanout
 pub mod Laws

@@ -7,4 +7,4 @@ mod laws;
 
 pub use drive::{Driven, drive_netlist};
 pub use error::DriveError;
-pub use laws::{driven_law, exchanged_law};
+pub use laws::exchanged_law;
