@@ -9,11 +9,15 @@ use Rattle.cell_lib.specs.declared.error.LibError.{LibError}
 use Rattle.cell_lib.specs.Files.{catal_name, cell_files}
 use Rattle.cell_lib.specs.Library.{IsLibraryOf, IsRefusedLibrary, status_of}
 use Rattle.cell_pins.specs.Table.{IsTableOf}
+use Rattle.net_core.specs.declared.error.NetFault.{NetFault}
 use Rattle.net_core.specs.declared.pins.ModelPins.{ModelPins}
 use Rattle.net_core.specs.Netlist.{Netlist}
 use Rattle.loon_fanout.specs.Limited.{IsCrowded, HasFanout, StaysRight}
 use Rattle.loon_fanout.specs.Repeaters.{NoneRepeats}
+use Rattle.loon_drive.specs.declared.error.DriveError.{DriveError}
+use Rattle.loon_drive.specs.declared.error.DriveError.TheVariants as error
 use Rattle.loon_drive.specs.Driven.{most_sinks, IsDrivenFrom}
+use Rattle.loon_drive.specs.Errors.{IsFaulty}
 use Rattle.spell_theory.specs.Layout.{text_of}
 use Rattle.vst_write.specs.Written.{layout}
 use Rattle.vst_io.specs.Text.{IsVst, IsVstRefusal}
@@ -74,14 +78,20 @@ pub record IsLimiting (c : LoonCommand) (source catal : List ℕ) (cells : List 
   pub right : StaysRight n l k
   pub written : IsWrittenAs c.out table k delay p
 
--- What is refused, in this order: the library, the netlist, and a net with too many sinks where the library has neither a buffer nor
--- an inverter.
+-- a fault of the whole file stands on line 1
+abbrev pub fault_of : LoonCommand → NetFault → Status
+fault_of c f = status.Source c.source (record { line = 1; kind = f.kind; names = f.names })
+
+-- What is refused, in this order: the library, the netlist, a net with too many sinks where the library has neither a buffer nor an
+-- inverter, and a fault of the netlist with buffers, told as one of the source.
 pub data IsRefused (c : LoonCommand) (source catal : List ℕ) (cells : List (List ℕ)) (s : Status) : Type 0 where
   no_library : (e : LibError) → IsRefusedLibrary false catal cells e → s ≡ status_of e → IsRefused c source catal cells s
   bad_netlist : (l : Library) (table : List ModelPins) → IsLibraryOf false catal cells l → IsTableOf l false table
       → OfFile c.source (IsVstRefusal source table) s → IsRefused c source catal cells s
   no_buffer : (l : Library) (table : List ModelPins) (n : Netlist) → AreRead source catal cells l table n → IsCrowded l (most_sinks c.fanout) n
       → NoneRepeats l.cells → s ≡ status.NoCover kind.Inv → IsRefused c source catal cells s
+  faulty : (l : Library) (table : List ModelPins) (n : Netlist) (f : NetFault) → AreRead source catal cells l table n → IsFaulty n l c.fanout f
+      → s ≡ fault_of c f → IsRefused c source catal cells s
 
 -- the netlist is written and the report is printed, or one of these refusals
 abbrev pub Limits : LoonCommand → List ℕ → List ℕ → List (List ℕ) → Result Product Refusal → Type 0
@@ -90,3 +100,9 @@ Limits c source catal cells (Err r) = (r.part ≡ None) × IsRefused c source ca
 
 abbrev pub loon_answers : LoonCommand → Inputs → Result Product Refusal → Type 0
 loon_answers c i r = Limits c (get_or i.first 0 []) (get_or i.first 1 []) i.more r
+
+-- how a refusal is told
+abbrev pub IsToldOf : LoonCommand → DriveError → Status → Type 0
+IsToldOf c error.Memory s = ⊥
+IsToldOf c error.NoBuffer s = s ≡ status.NoCover kind.Inv
+IsToldOf c (error.Fault f) s = s ≡ fault_of c f

@@ -1,10 +1,18 @@
 // Laws: what holds of what is read and written. They cost nothing when they are called.
-ghost use Rattle.loon_run.specs.Laws.{LibraryHasArcs, NetlistIsReady, DrivenCanBeNamed};
+ghost use Rattle.loon_run.specs.Laws.{LibraryHasArcs, NetlistIsOfCells, DrivenIsWritable};
 
-/// The usable cells of a library that is read have their arcs; a netlist of them that is read can be timed and has names that can be
-/// written, and so has what is made of it.
+use cell_lib::library_law;
+use vbe_words::catal_is_named;
+use vst_words::netlist_words_law;
+
+/// The usable cells of a library that is read have their arcs; a netlist that is read with their pins is one of them; and what is made of
+/// it can be written.
 pub fn loon_law()
     ensures arcs { LibraryHasArcs }
-    ensures ready { NetlistIsReady }
-    ensures named { DrivenCanBeNamed }
-{}
+    ensures cells { NetlistIsOfCells }
+    ensures writable { DrivenIsWritable }
+{
+    library_law();
+    catal_is_named();
+    netlist_words_law();
+}

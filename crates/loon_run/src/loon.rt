@@ -2,20 +2,20 @@
 ghost use Rattle.std.specs.Prelude.{◌≡◌, ◌*◌, ◌<◌, ◌^◌, length, IfErr, IfOk};
 ghost use Rattle.net_core.specs.Netlist.{terminals};
 ghost use Rattle.loon_fanout.specs.Limited.{HasRoomForGates};
+ghost use Rattle.tool_drive.specs.Refusals.{MemoryOr};
 ghost use Rattle.tool_drive.specs.Table.{IsJudged};
-ghost use Rattle.loon_run.specs.Loon.{netlist_file as file_of, Limits};
+ghost use Rattle.loon_run.specs.Loon.{netlist_file as file_of, fault_of, IsToldOf, Limits};
 
 use crate::laws::loon_law;
 use crate::product::product;
 use cell_lib::{catal_file, library_status, named_files, read_library};
 use cell_pins::pin_table;
-use loon_drive::drive_netlist;
-use loon_fanout::BufferError;
-use net_core::Netlist;
+use loon_drive::{DriveError, drive_netlist};
+use net_core::{NetFault, Netlist};
 use std::alloc::{AllocError, Global};
 use tool_drive::{Kind, Over, Product, Refusal, Status, Tool, Wanted, bytes_at, refused};
 use tool_words::LoonCommand;
-use vlsi_base::{FileBytes, FileName, MOST_NETLIST_BYTES};
+use vlsi_base::{FileBytes, FileName, InputFault, MOST_NETLIST_BYTES};
 use vst_io::read_vst;
 
 /// `loon`, with what it is asked: it puts buffers into the netlist in SOURCE until no net has more sinks than asked for, exchanges
@@ -25,7 +25,7 @@ use vst_io::read_vst;
 /// All files are read first: SOURCE, CATAL, and the behaviour and the layout of each cell that this uses. Then it is refused, in this
 /// order: by `Library`, or a limit of CATAL or of a cell, at the first line or cell at fault; by `Source`, or a limit, of SOURCE, in
 /// which cells that aren't usable are unknown; by `NoCover` of an inverter, where a net has too many sinks and the library has neither
-/// a buffer nor an inverter. Memory goes by the files, the netlist, its arcs, and each pair of cells of which one can stand for the
+/// a buffer nor an inverter; by `Source` on line 1, where the netlist with buffers has a fault. Memory goes by the files, the netlist, its arcs, and each pair of cells of which one can stand for the
 /// other; a netlist of 2^27 pins or more is answered as out of memory.
 #[derive(Drop)]
 pub struct Loon<'a> {
@@ -50,10 +50,31 @@ fn has_room(netlist: &Netlist) -> bool
     (netlist.classes().len() as u64) < 1 << 27
 }
 
-fn buffer_status(error: BufferError) -> Status {
+// The status of a fault of the whole file.
+fn fault_status(alloc: Global, command: &LoonCommand, fault: NetFault) -> Status
+    ensures { MemoryOr result (result ≡ fault_of command.now fault) }
+{
+    match command.source.copy(alloc) {
+        Ok(file) => Status::Source {
+            file,
+            fault: InputFault {
+                line: 1,
+                kind: fault.kind,
+                names: fault.names,
+            },
+        },
+        Err(_) => Status::Memory,
+    }
+}
+
+// How a refusal is told.
+fn drive_status(alloc: Global, command: &LoonCommand, error: DriveError) -> Status
+    ensures { MemoryOr result (IsToldOf command.now error result) }
+{
     match error {
-        BufferError::Memory => Status::Memory,
-        BufferError::NoBuffer => Status::NoCover(Kind::Inv),
+        DriveError::Memory => Status::Memory,
+        DriveError::NoBuffer => Status::NoCover(Kind::Inv),
+        DriveError::Fault(fault) => fault_status(alloc, command, fault),
     }
 }
 
@@ -82,7 +103,7 @@ fn limited(
     }
     let driven = match drive_netlist(alloc, &netlist, &library, command.fanout) {
         Ok(driven) => driven,
-        Err(error) => return Err(Refusal::plain(buffer_status(error))),
+        Err(error) => return Err(Refusal::plain(drive_status(alloc, command, error))),
     };
     let written = product(alloc, &command.out, &driven, &table)?;
     Ok(written)

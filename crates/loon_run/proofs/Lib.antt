@@ -1,0 +1,3 @@
+mod Arcs
+mod Lists
+mod Refusing
