@@ -1,7 +1,6 @@
 // What is written and printed of a netlist.
 ghost use Rattle.std.specs.Prelude.{◌≡◌, ◌++◌, IfOk, OnOk};
-ghost use Rattle.net_core.specs.Checks.{Fits};
-ghost use Rattle.net_view.specs.Writable.{CanBeNamed, PinsCanBeWritten};
+ghost use Rattle.loon_run.specs.Laws.{IsWritable};
 ghost use Rattle.loon_run.specs.Loon.{count_line as count_line_of, report as report_of, IsWrittenAs};
 
 use loon_drive::Driven;
@@ -44,9 +43,7 @@ pub(crate) fn product(
     driven: &Driven,
     table: &PinTable,
 ) -> Result<Product, AllocError>
-    requires fits { Fits driven.now.netlist table.now }
-    requires pins { PinsCanBeWritten table.now }
-    requires named { CanBeNamed driven.now.netlist }
+    requires { IsWritable table.now driven.now.netlist }
     ensures { IfOk result (λ p. IsWrittenAs out.now table.now driven.now.netlist driven.now.delay p) }
 {
     let file = match write_vst(alloc, &driven.netlist, table) {
