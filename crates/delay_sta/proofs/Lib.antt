@@ -8,3 +8,8 @@ pub mod Routes
 pub mod Edges
 pub mod Finding
 pub mod Exact
+pub mod Differing
+pub mod Owned
+pub mod Reloading
+pub mod Retiming
+pub mod Following

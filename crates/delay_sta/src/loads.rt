@@ -130,6 +130,7 @@ pub fn loads(
     requires { AreFound library.now.cells netlist.now.models places.now }
     ensures many { IfOk result (λ loads. length loads.items ≡ netlist.now.count) }
     ensures loads { IfOk result (λ loads. (class : ℕ) → class < netlist.now.count → slice_index loads.items class ≡ load netlist.now library.now class) }
+    ensures short { IfOk result (λ _. All (λ c. c < 2 ^ 32) (capacitances netlist.now library.now)) }
 {
     let capacitances = capacitances(alloc, netlist, library, places)?;
     sums(alloc, netlist.count(), &capacitances, netlist.classes())

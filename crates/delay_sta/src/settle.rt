@@ -47,7 +47,7 @@ fn latest(start: Option<u128>, arrivals: &[Option<u128>], arcs: &[TimedArc]) -> 
 }
 
 /// Marks classes as stale.
-fn mark(stale: &mut [bool], classes: &[u32])
+pub(crate) fn mark(stale: &mut [bool], classes: &[u32])
     requires { All (λ class. class < length stale.old) classes.now }
     ensures many { length stale.new ≡ length stale.old }
     ensures marked { (class : ℕ) → IsThere classes.now class → slice_index_or stale.new class false ≡ true }
