@@ -13,7 +13,7 @@ use Rattle.cell_model.specs.declared.cell.Pin.{Pin}
 use Rattle.cell_model.specs.Cell.{Function, Cell, pin_ports}
 use Rattle.cell_model.specs.Library.{Library, cell_of, IsUsable}
 use Rattle.net_core.specs.Places.{Stands, IsThere}
-use Rattle.net_core.specs.Netlist.{Instance, Netlist, SetsModel, port, pin_of, terminals, HasClass}
+use Rattle.net_core.specs.Netlist.{Instance, Netlist, port, pin_of, terminals, HasClass}
 use Rattle.net_core.proofs.Standing.{stands_same}
 use Rattle.net_core.proofs.Frames.{mapped, unmapped}
 use Rattle.net_core.proofs.Changing.{terminals_set}
@@ -23,7 +23,7 @@ use Rattle.delay_sta.specs.Loads.{load}
 use Rattle.delay_sta.specs.Paths.{HasPin, IsStepAt, IsStart, BeginsThere, GoesThrough}
 use Rattle.delay_sta.specs.Graph.{step_of, IsTimedAt, IsOwned}
 use Rattle.delay_sta.specs.Timed.{CanBeTimed}
-use Rattle.delay_sta.specs.Exchanged.{Begins, HasItsArcs, HaveTheirArcs, AreAlike, IsExchangeAt}
+use Rattle.delay_sta.specs.Exchanged.{Begins, HasItsArcs, HaveTheirArcs, AreAlike, IsExchangeAt, IsSetTo}
 use Rattle.delay_sta.specs.Changes.{IsOnlyArc, IsPlaced}
 
 -- ---- lists in which one element is another
@@ -108,7 +108,7 @@ flip l n m number d = record {
   alike = record {
     begins = λ pin. ((d.alike.begins pin).1, (d.alike.begins pin).0);
     through = λ pin. ((d.alike.through pin).1, (d.alike.through pin).0);
-    data = sym d.alike.data;
+    data_pins = sym d.alike.data_pins;
   };
   old_arcs = d.new_arcs;
   new_arcs = d.old_arcs;
@@ -118,7 +118,7 @@ flip l n m number d = record {
   behind = sym d.behind;
 }
 
-abbrev changed : Netlist → ℕ → Instance → List ℕ → Netlist
+abbrev pub changed : Netlist → ℕ → Instance → List ℕ → Netlist
 changed n number was model = record n { instances = slice_set n.instances number (record was { model = model }) }
 
 changed_terminals : (n : Netlist) (number : ℕ) (was : Instance) (model : List ℕ) → Stands n.instances number was → terminals (changed n number was model) ≡ terminals n
@@ -126,36 +126,50 @@ changed_terminals n number was model stood = terminals_set (record { ports = n.p
     (record { ports = n.ports; models = n.models; instances = slice_set n.instances number (record was { model = model }) }) number model
     (record { was = was; stood = stood; now = refl })
 
-pub differ_of : (l : Library) (n m : Netlist) (number place : ℕ) (x : IsExchangeAt l n number place) → SetsModel n m number x.now.name → CanBeTimed l n → HaveTheirArcs l → Differ l n m number
-differ_of l n m number place x sets timed have = subst (λ (k : Netlist). Differ l n k number) (sym sets.now) (record {
+was_arcs : (l : Library) (n : Netlist) (number place : ℕ) (x : IsExchangeAt l n number place) → CanBeTimed l n → HaveTheirArcs l → HasItsArcs x.was
+was_arcs l n number place x timed have =
+    let u = timed.usable x.owner (number, x.stands) in
+    have x.owner.model x.was x.found (let same : u.0 ≡ x.was = (let f : Some u.0 ≡ Some x.was = sym u.1 ∙ x.found in cc) in subst IsUsable same u.2)
+
+-- the netlist behind an exchange
+abbrev pub exchanged : (l : Library) (n : Netlist) (number place : ℕ) → IsExchangeAt l n number place → Netlist
+exchanged l n number place x = changed n number x.owner x.now.name
+
+abbrev pub differ_at : (l : Library) (n : Netlist) (number place : ℕ) (x : IsExchangeAt l n number place) → CanBeTimed l n → HaveTheirArcs l → Differ l n (changed n number x.owner x.now.name) number
+differ_at l n number place x timed have = record {
   ports = refl;
   models = refl;
   classes = refl;
   count = refl;
-  terminals = changed_terminals n number sets.was x.now.name sets.stood;
-  old = sets.was;
-  stood = sets.stood;
-  new = record (sets.was) { model = x.now.name };
-  stands = stands_set n.instances number sets.was (record (sets.was) { model = x.now.name }) sets.stood;
+  terminals = changed_terminals n number x.owner x.now.name x.stands;
+  old = x.owner;
+  stood = x.stands;
+  new = record (x.owner) { model = x.now.name };
+  stands = stands_set n.instances number x.owner (record (x.owner) { model = x.now.name }) x.stands;
   name = refl;
   pins = refl;
   was = x.was;
-  found = found;
+  found = x.found;
   now = x.now;
   listed = x.listed;
   same = x.pins;
   alike = x.alike;
-  old_arcs =
-      let u = timed.usable sets.was (number, sets.stood) in
-      have sets.was.model x.was found (let same : u.0 ≡ x.was = (let f : Some u.0 ≡ Some x.was = sym u.1 ∙ found in cc) in subst IsUsable same u.2);
+  old_arcs = was_arcs l n number place x timed have;
   new_arcs = have x.now.name x.now x.listed x.usable;
-  there = λ k i apart s. stands_other n.instances number k i (record (sets.was) { model = x.now.name }) apart s;
-  back = λ k i apart s. stands_back n.instances number k i (record (sets.was) { model = x.now.name }) apart s;
-  before = take_set n.instances number (record (sets.was) { model = x.now.name });
-  behind = drop_set n.instances number (record (sets.was) { model = x.now.name });
-}) where
-  found : cell_of l sets.was.model ≡ Some x.was
-  found = ap (λ (o : Instance). cell_of l o.model) (stands_same n.instances number sets.was x.owner sets.stood x.stands) ∙ x.found
+  there = λ k i apart s. stands_other n.instances number k i (record (x.owner) { model = x.now.name }) apart s;
+  back = λ k i apart s. stands_back n.instances number k i (record (x.owner) { model = x.now.name }) apart s;
+  before = take_set n.instances number (record (x.owner) { model = x.now.name });
+  behind = drop_set n.instances number (record (x.owner) { model = x.now.name });
+}
+
+pub set_to_is : (l : Library) (n m : Netlist) (number place : ℕ) (x : IsExchangeAt l n number place) → IsSetTo l n m number place → m ≡ changed n number x.owner x.now.name
+set_to_is l n m number place x set =
+    let cell : set.cell ≡ x.now = stands_same l.cells place set.cell x.now set.there x.there in
+    let owner : set.sets.was ≡ x.owner = stands_same n.instances number set.sets.was x.owner set.sets.stood x.stands in
+    set.sets.now ∙ ap (λ (o : Instance). changed n number o set.cell.name) owner ∙ ap (λ (c : Cell). changed n number x.owner c.name) cell
+
+pub differ_of : (l : Library) (n m : Netlist) (number place : ℕ) → IsExchangeAt l n number place → IsSetTo l n m number place → CanBeTimed l n → HaveTheirArcs l → Differ l n m number
+differ_of l n m number place x set timed have = subst (λ (k : Netlist). Differ l n k number) (sym (set_to_is l n m number place x set)) (differ_at l n number place x timed have)
 
 -- ---- what stays
 
@@ -346,8 +360,8 @@ all_arcs_over l n m number d all = record { each = each } where
 pub only_arc : (c : Cell) (a : Arc) → HasItsArcs c → IsThere c.arcs a → IsOnlyArc c.arcs a.from a.to a
 only_arc c a whole t = record {
   has = t;
-  from = refl;
-  to = refl;
+  leaves = refl;
+  enters = refl;
   once = λ b u e f.
       let same : u.0 ≡ t.0 = whole.once u.0 t.0 b a u.1 t.1 e f in
       stands_same c.arcs t.0 b a (subst (λ k. Stands c.arcs k b) same u.1) t.1;

@@ -18,7 +18,7 @@ use Rattle.delay_sta.specs.Arcs.{arc_delay}
 use Rattle.delay_sta.specs.Loads.{load}
 use Rattle.delay_sta.specs.Paths.{Step, IsStep, BeginsThere, GoesThrough, IsStart, IsEnd, at_port, at_data}
 use Rattle.delay_sta.specs.Timed.{IsAnyStep, a_beginning, going_on, IsPathOrder}
-use Rattle.delay_sta.specs.Graph.{step_of, IsOwned, IsShort, group_of, numbers_of, AreArcsOf, AreReached, AreStartsOf, StartsIn, IsInTime, IsLatest, data_pin}
+use Rattle.delay_sta.specs.Graph.{step_of, IsOwned, IsShort, group_of, numbers_of, AreArcsOf, AreReached, AreStartsOf, StartsIn, data_pin}
 use Rattle.delay_sta.specs.Changes.{ArePinClasses, IsPlaced, IsRetimed, AreRetimed}
 use Rattle.delay_sta.proofs.Differing.{Differ, flip, has_over, start_over, apart_of, Parts, parts_of, with_delay, Moved, moved, owned_kept, AllArcs, placed_of}
 use Rattle.delay_sta.proofs.Owned.{Allowed, owned_of, step_is}
@@ -90,7 +90,7 @@ end_over l n m number d class (at_data i c data_name clock_name there found is j
   by true e =
       let owner : i ≡ d.old = stands_same n.instances number i d.old (subst (λ k. Stands n.instances k i) (eqb-true there.0 number e) there.1) d.stood in
       let cell : c ≡ d.was = (let f : Some c ≡ Some d.was = sym found ∙ ap (λ (o : Instance). cell_of l o.model) owner ∙ d.found in cc) in
-      let clock = clocked d.now.function data_name (sym d.alike.data ∙ ap (λ (x : Cell). data_pin x.function) (sym cell) ∙ ap data_pin is) in
+      let clock = clocked d.now.function data_name (sym d.alike.data_pins ∙ ap (λ (x : Cell). data_pin x.function) (sym cell) ∙ ap data_pin is) in
       let name : i.name ≡ d.new.name = ap (λ (o : Instance). o.name) owner ∙ sym d.name in
       at_data d.new d.now data_name clock.0 (number, d.stands) d.listed clock.1
       (has_over l n m number d (pin_of d.new.name data_name) class (subst (λ (o : List ℕ). HasClass n (pin_of o data_name) class) name joined))
@@ -182,22 +182,28 @@ module _ (l : Library) (n m : Netlist) (number : ℕ) (d : Differ l n m number) 
   arcs_over = record { many = many ∙ are.many ∙ sym d.count; owned = owned_now; complete = complete_now }
 
   pub reached_over : (reached : List (Vec ℕ)) → AreReached old reached → AreReached new reached
-  reached_over reached h = record {
-    many = h.many ∙ sym many;
-    inside = λ from to t. let e = many in let b = h.inside from to t in omega (arith, e, b);
-    each = each;
-  } where
-    each : (class : ℕ) (y : TimedArc) → IsThere (group_of new class) y → IsThere (numbers_of reached y.from) class
-    each class y t = by (there_or_not classes class) where
+  reached_over reached h = record { many = h.many ∙ sym many; only = only; each = each } where
+    only : (from to : ℕ) → IsThere (numbers_of reached from) to → (y : TimedArc) × IsThere (group_of new to) y × (y.begins ≡ false) × (y.from ≡ from)
+    only from to t = by (there_or_not classes to) (h.only from to t) where
+      by : IsThere classes to ⊎ (IsThere classes to → ⊥) → (x : TimedArc) × IsThere (group_of old to) x × (x.begins ≡ false) × (x.from ≡ from)
+          → (y : TimedArc) × IsThere (group_of new to) y × (y.begins ≡ false) × (y.from ≡ from)
+      by (inr lacks) x = (x.0, subst (λ (xs : List TimedArc). IsThere xs x.0) (sym (others to lacks)) x.1, x.2, x.3)
+      by (inl u) x =
+          let r = changed to u in
+          let w = slice_get_within (group_of old to) x.1.0 x.0 x.1.1 in
+          let k = r.many in
+          let y = at_place (group_of new to) x.1.0 (omega (arith, w, k)) in
+          let e = (r.each x.1.0 x.0 y.0 x.1.1 y.1).same in
+          (y.0, (x.1.0, y.1), ap (λ (z : TimedArc). z.begins) e ∙ x.2, ap (λ (z : TimedArc). z.from) e ∙ x.3)
+
+    each : (class : ℕ) (y : TimedArc) → IsThere (group_of new class) y → y.begins ≡ false → IsThere (numbers_of reached y.from) class
+    each class y t way = by (there_or_not classes class) where
       by : IsThere classes class ⊎ (IsThere classes class → ⊥) → IsThere (numbers_of reached y.from) class
-      by (inr lacks) = h.each class y (subst (λ (xs : List TimedArc). IsThere xs y) (others class lacks) t)
+      by (inr lacks) = h.each class y (subst (λ (xs : List TimedArc). IsThere xs y) (others class lacks) t) way
       by (inl u) =
           let r = changed class u in
           let w = slice_get_within (group_of new class) t.0 y t.1 in
           let k = r.many in
           let x = at_place (group_of old class) t.0 (omega (arith, w, k)) in
-          subst (λ f. IsThere (numbers_of reached f) class) (sym (ap (λ (z : TimedArc). z.from) (r.each t.0 x.0 y x.1 t.1).same)) (h.each class x.0 (t.0, x.1))
-
-  pub in_time_over : (initial arrivals : List (Option ℕ)) (class : ℕ) → (IsThere classes class → ⊥) → IsInTime old initial arrivals class → IsInTime new initial arrivals class
-  in_time_over initial arrivals class lacks h =
-      subst (λ (xs : List TimedArc). IsLatest (get_or initial class None) arrivals xs (get_or arrivals class None)) (sym (others class lacks)) h
+          let e = (r.each t.0 x.0 y x.1 t.1).same in
+          subst (λ f. IsThere (numbers_of reached f) class) (sym (ap (λ (z : TimedArc). z.from) e)) (h.each class x.0 (t.0, x.1) (sym (ap (λ (z : TimedArc). z.begins) e) ∙ way))

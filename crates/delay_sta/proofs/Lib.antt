@@ -13,3 +13,6 @@ pub mod Owned
 pub mod Reloading
 pub mod Retiming
 pub mod Following
+pub mod Swapping
+pub mod Delaying
+pub mod PinClasses

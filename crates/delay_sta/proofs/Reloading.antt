@@ -1,11 +1,11 @@
 -- The loads of two netlists that differ in the cell of one instance.
-use Rattle.std.proofs.Common.{◌≡◌, ◌⊎◌, inl, inr, ℕ, zero, suc, ◌+◌, ◌*◌, ◌<◌, ◌≤◌, Bool, true, false, cond, List, [], ◌∷◌, ◌++◌, map, length, get_or, take, drop, nat_eq, Option, Some, refl, sym, ap, ◌∙◌, subst, append_assoc, arith}
+use Rattle.std.proofs.Common.{◌≡◌, ◌⊎◌, inl, inr, ℕ, zero, suc, ◌+◌, ◌*◌, ◌^◌, ◌<◌, ◌≤◌, Bool, true, false, cond, List, [], ◌∷◌, ◌++◌, map, length, get_or, take, drop, nat_eq, Option, Some, refl, sym, ap, ◌∙◌, subst, append_assoc, arith}
 use Rattle.std.specs.Prelude.{slice_set}
-use Rattle.std.specs.List.{flat_map, zip, sum_by}
+use Rattle.std.specs.List.{All, flat_map, zip, sum_by}
 use Rattle.std.proofs.lemmas.List.{length-map, length-append, length-set, get_or-set_same, get_or-set_other, take_all}
 use Rattle.std.proofs.lemmas.List.Concat.{flat_map-append}
 use Rattle.std.proofs.lemmas.List.Sums.{sum_by-cons, sum_by-append, sum_by_push, sum_by-take-le}
-use Rattle.std.proofs.lemmas.Bool.{eqb-true, eq-eqb}
+use Rattle.std.proofs.lemmas.Bool.{cases_lt, eqb-true, eq-eqb}
 use Rattle.std.proofs.lemmas.Option.{slice_get_within}
 use Rattle.vlsi_base.specs.declared.name.Name.{Name}
 use Rattle.vlsi_base.specs.declared.name.Port.{Port}
@@ -24,18 +24,18 @@ use Rattle.delay_sta.proofs.Differing.{Differ}
 
 -- ---- sums over two lists at once
 
-zip_append : (xs ys as bs : List ℕ) → length xs ≡ length as → zip (xs ++ ys) (as ++ bs) ≡ zip xs as ++ zip ys bs
+zip_append : (xs ys ks bs : List ℕ) → length xs ≡ length ks → zip (xs ++ ys) (ks ++ bs) ≡ zip xs ks ++ zip ys bs
 zip_append [] ys [] bs e = refl
-zip_append [] ys (a ∷ as) bs e = absurd (omega (arith, e))
+zip_append [] ys (a ∷ ks) bs e = absurd (omega (arith, e))
 zip_append (x ∷ xs) ys [] bs e = absurd (omega (arith, e))
-zip_append (x ∷ xs) ys (a ∷ as) bs e = ap (λ (ps : List (ℕ × ℕ)). (x, a) ∷ ps) (zip_append xs ys as bs (omega (arith, e)))
+zip_append (x ∷ xs) ys (a ∷ ks) bs e = ap (λ (ps : List (ℕ × ℕ)). (x, a) ∷ ps) (zip_append xs ys ks bs (omega (arith, e)))
 
 -- in parts of the same lengths
-sum_parts : (class : ℕ) (xs ys zs as bs cs : List ℕ) → length xs ≡ length as → length ys ≡ length bs
-    → sum_by (share class) (zip (xs ++ (ys ++ zs)) (as ++ (bs ++ cs))) ≡ sum_by (share class) (zip xs as) + (sum_by (share class) (zip ys bs) + sum_by (share class) (zip zs cs))
-sum_parts class xs ys zs as bs cs e f =
-    ap (sum_by (share class)) (zip_append xs (ys ++ zs) as (bs ++ cs) e) ∙ sum_by-append (share class) (zip xs as) (zip (ys ++ zs) (bs ++ cs))
-    ∙ ap (λ m. sum_by (share class) (zip xs as) + m) (ap (sum_by (share class)) (zip_append ys zs bs cs f) ∙ sum_by-append (share class) (zip ys bs) (zip zs cs))
+sum_parts : (class : ℕ) (xs ys zs ks bs cs : List ℕ) → length xs ≡ length ks → length ys ≡ length bs
+    → sum_by (share class) (zip (xs ++ (ys ++ zs)) (ks ++ (bs ++ cs))) ≡ sum_by (share class) (zip xs ks) + (sum_by (share class) (zip ys bs) + sum_by (share class) (zip zs cs))
+sum_parts class xs ys zs ks bs cs e f =
+    ap (sum_by (share class)) (zip_append xs (ys ++ zs) ks (bs ++ cs) e) ∙ sum_by-append (share class) (zip xs ks) (zip (ys ++ zs) (bs ++ cs))
+    ∙ ap (λ m. sum_by (share class) (zip xs ks) + m) (ap (sum_by (share class)) (zip_append ys zs bs cs f) ∙ sum_by-append (share class) (zip ys bs) (zip zs cs))
 
 share_other : (class r c : ℕ) → nat_eq c class ≡ false → share class (r, c) ≡ 0
 share_other class r c e = ap (λ b. cond b r 0) e
@@ -96,6 +96,36 @@ load_parts n l number classes c class =
     ∙ sum_parts class (fronts l n.ports (take number n.instances)) (own l c.owner) (flat_map (own l) (drop (suc number) n.instances)) c.front classes c.back
     (front_count l n (take number n.instances) ∙ sym c.before) (length-map c.owner.pins _ ∙ sym c.many)
 
+-- ---- no capacitance is too great
+
+all_left : (xs ys : List ℕ) → All (λ c. c < 2 ^ 32) (xs ++ ys) → All (λ c. c < 2 ^ 32) xs
+all_left [] ys h k d l = absurd (omega (arith, l))
+all_left (x ∷ xs) ys h zero d l = h 0 d (omega arith)
+all_left (x ∷ xs) ys h (suc k) d l = all_left xs ys (λ j e m. h (suc j) e (omega (arith, m))) k d (omega (arith, l))
+
+all_right : (xs ys : List ℕ) → All (λ c. c < 2 ^ 32) (xs ++ ys) → All (λ c. c < 2 ^ 32) ys
+all_right [] ys h = h
+all_right (x ∷ xs) ys h = all_right xs ys (λ j e m. h (suc j) e (omega (arith, m)))
+
+all_join : (xs ys : List ℕ) → All (λ c. c < 2 ^ 32) xs → All (λ c. c < 2 ^ 32) ys → All (λ c. c < 2 ^ 32) (xs ++ ys)
+all_join [] ys h g = g
+all_join (x ∷ xs) ys h g zero d l = h 0 d (omega arith)
+all_join (x ∷ xs) ys h g (suc k) d l = all_join xs ys (λ j e m. h (suc j) e (omega (arith, m))) g k d (omega (arith, l))
+
+-- so sums aren't
+sum_small : (class : ℕ) (rs cs : List ℕ) → All (λ c. c < 2 ^ 32) rs → sum_by (share class) (zip rs cs) ≤ length cs * 4294967295
+sum_small class [] cs h = omega arith
+sum_small class (r ∷ rs) [] h = omega arith
+sum_small class (r ∷ rs) (c ∷ cs) h =
+    let a = sum_by-cons (share class) (r, c) (zip rs cs) in
+    let rest = sum_small class rs cs (λ j e m. h (suc j) e (omega (arith, m))) in
+    let first : r < 2 ^ 32 = h 0 0 (omega arith) in
+    let part = by (nat_eq c class) refl in
+    omega (arith, a, rest, first, part) where
+      by : (b : Bool) → nat_eq c class ≡ b → share class (r, c) ≤ r
+      by true e = let p : share class (r, c) ≡ r = ap (λ t. cond t r 0) e in omega (arith, p)
+      by false e = let p = share_other class r c e in omega (arith, p)
+
 -- ---- the loads of both
 
 module _ (l : Library) (n m : Netlist) (number : ℕ) (d : Differ l n m number) (classes : List ℕ) (c : ArePinClasses n number classes) where
@@ -141,6 +171,46 @@ module _ (l : Library) (n m : Netlist) (number : ℕ) (d : Differ l n m number) 
       ap (λ (o : Instance). pin_load (pins_at (cell_of l o.model)) o.pins classes class) old_owner ∙ ap (λ (f : Option Cell). pin_load (pins_at f) d.old.pins classes class) d.found in
       omega (arith, a, p)
 
+  -- there is room for any other pins
+  pub load_room : All (λ k. k < 2 ^ 32) (capacitances n l) → length n.classes < 2 ^ 32 → (class left_over : ℕ) → left_over + pin_load d.was.pins d.old.pins classes class ≡ load n l class
+      → left_over + length d.old.pins * 4294967296 < 2 ^ 64
+  load_room short few class left_over e =
+      let a = load_parts n l number classes c class in
+      let p : pin_load (pins_at (cell_of l c.owner.model)) c.owner.pins classes class ≡ pin_load d.was.pins d.old.pins classes class =
+      ap (λ (o : Instance). pin_load (pins_at (cell_of l o.model)) o.pins classes class) old_owner ∙ ap (λ (f : Option Cell). pin_load (pins_at f) d.old.pins classes class) d.found in
+      let all : All (λ k. k < 2 ^ 32) (fronts l n.ports (take number n.instances) ++ (own l c.owner ++ flat_map (own l) (drop (suc number) n.instances))) =
+      subst (λ (rs : List ℕ). All (λ k. k < 2 ^ 32) rs) (caps_by l n.ports n.instances number c.owner c.stands) short in
+      let f = sum_small class (fronts l n.ports (take number n.instances)) c.front (all_left (fronts l n.ports (take number n.instances)) (own l c.owner ++ flat_map (own l) (drop (suc number) n.instances)) all) in
+      let g = sum_small class (flat_map (own l) (drop (suc number) n.instances)) c.back
+      (all_right (own l c.owner) (flat_map (own l) (drop (suc number) n.instances)) (all_right (fronts l n.ports (take number n.instances)) (own l c.owner ++ flat_map (own l) (drop (suc number) n.instances)) all)) in
+      let w : length n.classes ≡ length (c.front ++ (classes ++ c.back)) = ap length c.whole in
+      let x = length-append c.front (classes ++ c.back) in
+      let y = length-append classes c.back in
+      let z : length classes ≡ length d.old.pins = c.many ∙ ap (λ (o : Instance). length o.pins) old_owner in
+      omega (arith, a, p, f, g, w, x, y, z, e, few)
+
+  pub short_over : All (λ k. k < 2 ^ 32) (capacitances n l) → All (λ k. k < 2 ^ 32) (map (input_capacitance d.now.pins) d.old.pins) → All (λ k. k < 2 ^ 32) (capacitances m l)
+  short_over short given =
+      subst (λ (rs : List ℕ). All (λ k. k < 2 ^ 32) rs) (sym (caps_by l m.ports m.instances number d.new d.stands))
+      (all_join (fronts l m.ports (take number m.instances)) (own l d.new ++ flat_map (own l) (drop (suc number) m.instances)) front
+      (all_join (own l d.new) (flat_map (own l) (drop (suc number) m.instances)) middle back)) where
+        all : All (λ k. k < 2 ^ 32) (fronts l n.ports (take number n.instances) ++ (own l d.old ++ flat_map (own l) (drop (suc number) n.instances)))
+        all = subst (λ (rs : List ℕ). All (λ k. k < 2 ^ 32) rs) (caps_by l n.ports n.instances number d.old d.stood) short
+
+        front : All (λ k. k < 2 ^ 32) (fronts l m.ports (take number m.instances))
+        front = subst (λ (ps : List Port). All (λ k. k < 2 ^ 32) (fronts l ps (take number m.instances))) (sym d.ports)
+            (subst (λ (is : List Instance). All (λ k. k < 2 ^ 32) (fronts l n.ports is)) (sym d.before)
+            (all_left (fronts l n.ports (take number n.instances)) (own l d.old ++ flat_map (own l) (drop (suc number) n.instances)) all))
+
+        back : All (λ k. k < 2 ^ 32) (flat_map (own l) (drop (suc number) m.instances))
+        back = subst (λ (is : List Instance). All (λ k. k < 2 ^ 32) (flat_map (own l) is)) (sym d.behind)
+            (all_right (own l d.old) (flat_map (own l) (drop (suc number) n.instances))
+            (all_right (fronts l n.ports (take number n.instances)) (own l d.old ++ flat_map (own l) (drop (suc number) n.instances)) all))
+
+        middle : All (λ k. k < 2 ^ 32) (own l d.new)
+        middle = subst (λ (f : Option Cell). All (λ k. k < 2 ^ 32) (map (input_capacitance (pins_at f)) d.new.pins)) (sym d.listed)
+            (subst (λ (ns : List Name). All (λ k. k < 2 ^ 32) (map (input_capacitance d.now.pins) ns)) (sym d.pins) given)
+
 -- ---- the classes of an instance's pins
 
 pub pin_class : (n : Netlist) → IsNetlist n → (number : ℕ) (classes : List ℕ) (c : ArePinClasses n number classes) (j : ℕ) (pin : Name) (class : ℕ)
@@ -182,12 +252,14 @@ pub record TakenSoFar (rs cs old now : List ℕ) (k : ℕ) : Type 0 where
 pub record GivenSoFar (rs cs old now : List ℕ) (k : ℕ) : Type 0 where
   pub many : length now ≡ length old
   pub each : (class : ℕ) → class < length old → get_or now class 0 ≡ get_or old class 0 + sum_by (share class) (take k (zip rs cs))
+  pub small : (class : ℕ) → class < length old → get_or now class 0 ≤ get_or old class 0 + k * 4294967296
+  pub short : (j : ℕ) → j < k → get_or rs j 0 < 2 ^ 32
 
 pub taken_none : (rs cs old : List ℕ) → TakenSoFar rs cs old old 0
 taken_none rs cs old = record { many = refl; each = λ class l. omega arith }
 
 pub given_none : (rs cs old : List ℕ) → GivenSoFar rs cs old old 0
-given_none rs cs old = record { many = refl; each = λ class l. omega arith }
+given_none rs cs old = record { many = refl; each = λ class l. omega arith; small = λ class l. omega arith; short = λ j l. absurd (omega (arith, l)) }
 
 pushed : (rs cs : List ℕ) (k : ℕ) → length rs ≡ length cs → k < length cs → (class : ℕ)
     → sum_by (share class) (take (k + 1) (zip rs cs)) ≡ sum_by (share class) (take k (zip rs cs)) + share class (get_or rs k 0, get_or cs k 0)
@@ -229,8 +301,8 @@ taken_step rs cs old now k was new before same l low is less = record { many = l
         omega (arith, put, part, b, p)
 
 pub given_step : (rs cs old now : List ℕ) (k was new : ℕ) → GivenSoFar rs cs old now k → length rs ≡ length cs → k < length cs → get_or cs k 0 < length old
-    → was ≡ get_or now (get_or cs k 0) 0 → new ≡ was + get_or rs k 0 → GivenSoFar rs cs old (slice_set now (get_or cs k 0) new) (k + 1)
-given_step rs cs old now k was new before same l low is more = record { many = length-set now (get_or cs k 0) new ∙ before.many; each = each } where
+    → was ≡ get_or now (get_or cs k 0) 0 → new ≡ was + get_or rs k 0 → get_or rs k 0 < 2 ^ 32 → GivenSoFar rs cs old (slice_set now (get_or cs k 0) new) (k + 1)
+given_step rs cs old now k was new before same l low is more few = record { many = length-set now (get_or cs k 0) new ∙ before.many; each = each; small = small; short = short } where
   inside : get_or cs k 0 < length now
   inside = let m = before.many in omega (arith, m, low)
 
@@ -251,6 +323,23 @@ given_step rs cs old now k was new before same l low is more = record { many = l
         let b = before.each class c in
         let p = pushed rs cs k same l class in
         omega (arith, put, part, b, p)
+
+  small : (class : ℕ) → class < length old → get_or (slice_set now (get_or cs k 0) new) class 0 ≤ get_or old class 0 + (k + 1) * 4294967296
+  small class c = by (nat_eq (get_or cs k 0) class) refl where
+    by : (b : Bool) → nat_eq (get_or cs k 0) class ≡ b → get_or (slice_set now (get_or cs k 0) new) class 0 ≤ get_or old class 0 + (k + 1) * 4294967296
+    by true e =
+        let q : get_or cs k 0 ≡ class = eqb-true (get_or cs k 0) class e in
+        let put = (written (get_or cs k 0) new now class inside).here (sym q) in
+        let at : get_or now (get_or cs k 0) 0 ≡ get_or now class 0 = ap (λ j. get_or now j 0) q in
+        let b = before.small class c in
+        omega (arith, put, at, b, is, more, few)
+    by false e =
+        let put = (written (get_or cs k 0) new now class inside).else_where e in
+        let b = before.small class c in
+        omega (arith, put, b)
+
+  short : (j : ℕ) → j < k + 1 → get_or rs j 0 < 2 ^ 32
+  short j m = elim (cases_lt j k) [ inl less ↦ before.short j less | inr last ↦ let e : j ≡ k = omega (arith, m, last) in subst (λ i. get_or rs i 0 < 2 ^ 32) (sym e) few ]
 
 -- so many pins make less than all
 pub sum_front : (rs cs : List ℕ) (k : ℕ) → length rs ≡ length cs → k < length cs → (class : ℕ) → get_or cs k 0 ≡ class

@@ -45,7 +45,7 @@ arc_found arcs from to k load time a b l at is e only =
 pub arc_absent : (arcs : List Arc) (from to : Name) (k : ℕ) (b : Arc) → length arcs ≤ k → LacksArc arcs from to k → IsOnlyArc arcs from to b → ⊥
 arc_absent arcs from to k b all lacks only =
     let w = slice_get_within arcs only.has.0 b only.has.1 in
-    lacks only.has.0 b (omega (arith, w, all)) only.has.1 only.from only.to
+    lacks only.has.0 b (omega (arith, w, all)) only.has.1 only.leaves only.enters
 
 -- ---- the cell and the pins of a node
 
@@ -102,7 +102,7 @@ placed_once n l x p q =
     let cell : q.cell ≡ p.cell = (let f : Some q.cell ≡ Some p.cell = sym q.found ∙ ap (λ (o : Instance). cell_of l o.model) owner ∙ p.found in cc) in
     let input : q.input ≡ p.input = stands_same p.owner.pins x.input q.input p.input (subst (λ (o : Instance). Stands o.pins x.input q.input) owner q.begins_at) p.begins_at in
     let output : q.output ≡ p.output = stands_same p.owner.pins x.output q.output p.output (subst (λ (o : Instance). Stands o.pins x.output q.output) owner q.ends_at) p.ends_at in
-    q.only.once p.arc (subst (λ (c : Cell). IsThere c.arcs p.arc) (sym cell) p.only.has) (p.only.from ∙ sym input) (p.only.to ∙ sym output)
+    q.only.once p.arc (subst (λ (c : Cell). IsThere c.arcs p.arc) (sym cell) p.only.has) (p.only.leaves ∙ sym input) (p.only.enters ∙ sym output)
 
 pub retimed_as : (n : Netlist) (l : Library) (load time : ℕ) (x : TimedArc) (p : IsPlaced n l x) → time < 2 ^ 96 → time ≡ arc_delay p.arc load → IsRetimed n l load x (with_delay x time)
 retimed_as n l load time x p short is = record { same = refl; short = short; time = λ q. is ∙ ap (λ (a : Arc). arc_delay a load) (placed_once n l x p q) }

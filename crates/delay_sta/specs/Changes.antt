@@ -1,6 +1,6 @@
 -- What an exchange of an instance's cell does to loads and arcs.
-use Rattle.std.specs.Prelude.{◌≡◌, ℕ, ◌++◌, List, map, length, Some, take}
-use Rattle.std.specs.List.{zip, sum_by}
+use Rattle.std.specs.Prelude.{◌≡◌, ℕ, ◌^◌, ◌<◌, ◌++◌, List, map, length, Some, slice_index, take}
+use Rattle.std.specs.List.{All, zip, sum_by}
 use Rattle.vlsi_base.specs.declared.name.Name.{Name}
 use Rattle.cell_model.specs.declared.cell.Arc.{Arc}
 use Rattle.cell_model.specs.declared.cell.Pin.{Pin}
@@ -10,7 +10,7 @@ use Rattle.net_core.specs.Places.{Stands, IsThere}
 use Rattle.net_core.specs.Netlist.{Instance, Netlist, terminals_of}
 use Rattle.delay_sta.specs.declared.graph.TimedArc.{TimedArc}
 use Rattle.delay_sta.specs.Arcs.{arc_delay}
-use Rattle.delay_sta.specs.Loads.{input_capacitance, share}
+use Rattle.delay_sta.specs.Loads.{input_capacitance, capacitances, share, load}
 use Rattle.delay_sta.specs.Graph.{IsShort}
 
 -- what pins with these names and classes add to the load of a class, where a cell has these pins
@@ -27,11 +27,17 @@ pub record ArePinClasses (n : Netlist) (number : ℕ) (classes : List ℕ) : Typ
   pub whole : n.classes ≡ front ++ (classes ++ back)
   pub before : length front ≡ length (terminals_of n.ports (take number n.instances))
 
+-- the load of each class, from capacitances that fit 32 bits
+pub record AreLoads (n : Netlist) (l : Library) (loads : List ℕ) : Type 0 where
+  pub many : length loads ≡ n.count
+  pub each : (class : ℕ) → class < n.count → slice_index loads class ≡ load n l class
+  pub short : All (λ c. c < 2 ^ 32) (capacitances n l)
+
 -- the only arc of a cell from one pin to another
 pub record IsOnlyArc (arcs : List Arc) (from to : Name) (a : Arc) : Type 0 where
   pub has : IsThere arcs a
-  pub from : a.from ≡ from
-  pub to : a.to ≡ to
+  pub leaves : a.from ≡ from
+  pub enters : a.to ≡ to
   pub once : (b : Arc) → IsThere arcs b → b.from ≡ from → b.to ≡ to → b ≡ a
 
 -- an arc of the instance with its number, the only one between the pins at its places among the instance's

@@ -1,11 +1,12 @@
 // Delays behind an exchange of one instance's cell.
-ghost use Rattle.std.specs.Prelude.{◌≡◌, ◌+◌, ◌^◌, ◌<◌, ◌≤◌, ◌↔◌, ℕ, IsTrue, length, slice_index};
+ghost use Rattle.std.specs.Prelude.{◌≡◌, ◌+◌, ◌*◌, ◌^◌, ◌<◌, ◌≤◌, ◌↔◌, ℕ, IsTrue, map, length, slice_index};
 ghost use Rattle.std.specs.List.{All};
 ghost use Rattle.net_core.specs.Places.{IsThere};
 ghost use Rattle.net_core.specs.Netlist.{IsNetlist};
 ghost use Rattle.cell_model.specs.declared.cell.Arc.{Arc as CellArc};
 ghost use Rattle.delay_sta.specs.declared.graph.TimedArc.{TimedArc as ArcInTime};
 ghost use Rattle.delay_sta.specs.Arcs.{arc_delay};
+ghost use Rattle.delay_sta.specs.Loads.{input_capacitance};
 ghost use Rattle.delay_sta.specs.Graph.{AreFound, group_of};
 ghost use Rattle.delay_sta.specs.Timed.{CanBeTimed, AreDelaysOf};
 ghost use Rattle.delay_sta.specs.Exchanged.{HaveTheirArcs, IsExchangeAt, IsSetTo};
@@ -26,6 +27,7 @@ fn pin_classes(netlist: &Netlist, number: u32) -> &[u32]
     requires { number < length netlist.now.instances }
     ensures classes { ArePinClasses netlist.now number result.now }
     ensures inside { All (λ class. class < netlist.now.count) result.now }
+    ensures few { length netlist.now.classes < 2 ^ 32 }
     ensures sound { IsNetlist netlist.now }
 {
     let node = &netlist.nodes()[number as usize];
@@ -52,10 +54,11 @@ fn take_loads(loads: &mut [u64], classes: &[u32], names: &[Name], pins: &[Pin])
 fn give_loads(loads: &mut [u64], classes: &[u32], names: &[Name], pins: &[Pin])
     requires each { length names.now ≡ length classes.now }
     requires inside { All (λ class. class < length loads.old) classes.now }
-    requires room { (class : ℕ) → class < length loads.old → slice_index loads.old class + pin_load pins.now names.now classes.now class < 2 ^ 64 }
+    requires room { (class : ℕ) → class < length loads.old → slice_index loads.old class + length names.now * 4294967296 < 2 ^ 64 }
     ensures many { length loads.new ≡ length loads.old }
     ensures each { (class : ℕ) → class < length loads.old
         → slice_index loads.new class ≡ slice_index loads.old class + pin_load pins.now names.now classes.now class }
+    ensures short { All (λ c. c < 2 ^ 32) (map (input_capacitance pins.now) names.now) }
 {
     for k in 0..classes.len() {
         loads[classes[k] as usize] += u64::from(input_capacitance(pins, &names[k]));

@@ -1,0 +1,106 @@
+-- The delays of a netlist behind an exchange.
+use Rattle.std.proofs.Common.{◌≡◌, ◌⊎◌, inl, inr, ℕ, ◌+◌, ◌<◌, ◌≤◌, ◌^◌, Bool, true, false, List, [], ◌∷◌, length, get_or, Option, Some, None, refl, sym, ap, ◌∙◌, subst, arith}
+use Rattle.std.specs.Prelude.{◌↔◌, slice_index}
+use Rattle.std.specs.List.{All}
+use Rattle.std.specs.Global.{Vec}
+use Rattle.std.proofs.lemmas.List.{length-append}
+use Rattle.cell_model.specs.Library.{Library}
+use Rattle.net_core.specs.Places.{Stands, IsThere}
+use Rattle.net_core.specs.Netlist.{Netlist, IsNetlist}
+use Rattle.net_core.proofs.Rings.{each_there}
+use Rattle.delay_sta.specs.declared.arrivals.Delays.{Delays}
+use Rattle.delay_sta.specs.declared.graph.TimedArc.{TimedArc}
+use Rattle.delay_sta.specs.Loads.{load}
+use Rattle.delay_sta.specs.Paths.{Arrives, IsEnd, IsGreatest}
+use Rattle.delay_sta.specs.Timed.{CanBeTimed, IsPathOrder, AreDelaysOf}
+use Rattle.delay_sta.specs.Graph.{AreFound, AreArcsOf, AreReached, AreStartsOf, AreStarts, AreSettled, AreInTime, AreSources, IsGraph, IsLatest, arrival_by, group_of}
+use Rattle.delay_sta.specs.Exchanged.{HaveTheirArcs, IsExchangeAt, IsSetTo}
+use Rattle.delay_sta.specs.Changes.{ArePinClasses, AreLoads, IsPlaced, AreRetimed}
+use Rattle.delay_sta.proofs.Differing.{Differ, flip, differ_of, AllArcs, all_arcs, all_arcs_over}
+use Rattle.delay_sta.proofs.Owned.{graph_is, arrivals_are, in_time}
+use Rattle.delay_sta.proofs.Reloading.{over_classes}
+use Rattle.delay_sta.proofs.Following.{there_or_not, order_over, starts_over, ends_over, placed_over, arcs_over, reached_over}
+
+-- arcs after their times were changed
+pub record Changed (m : Netlist) (l : Library) (loads classes : List ℕ) (old new : List (Vec TimedArc)) : Type 0 where
+  pub many : length new ≡ length old
+  pub changed : (class : ℕ) → IsThere classes class → AreRetimed m l (slice_index loads class) (group_of old class) (group_of new class)
+  pub others : (class : ℕ) → (IsThere classes class → ⊥) → group_of new class ≡ group_of old class
+
+module _ (l : Library) (n m : Netlist) (number place : ℕ) (x : IsExchangeAt l n number place) (set : IsSetTo l n m number place) (timed : CanBeTimed l n) (have : HaveTheirArcs l)
+    (sound : IsNetlist n) (now_sound : IsNetlist m) (d : Delays) (are : AreDelaysOf n l d) (classes : List ℕ) (own : ArePinClasses m number classes) where
+  differ : Differ l n m number
+  differ = differ_of l n m number place x set timed have
+
+  whole : AllArcs m l
+  whole = all_arcs_over l n m number differ (all_arcs l n timed have)
+
+  old_own : ArePinClasses n number classes
+  old_own = over_classes l m n number (flip l n m number differ) classes own
+
+  pub count_same : m.count ≡ n.count
+  count_same = differ.count
+
+  pub arcs_placed : (class : ℕ) (y : TimedArc) → IsThere (group_of d.arcs.items class) y → IsPlaced m l y
+  arcs_placed = placed_over l n m number differ whole d.arcs.items are.arcs
+
+  pub cells_found : AreFound l.cells m.models d.places.items
+  cells_found = subst (λ (ms : List (List ℕ)). AreFound l.cells ms d.places.items) (sym differ.models) are.places
+
+  -- the delays before were settled
+  old_in_time : (class : ℕ) → class < n.count → IsLatest (get_or d.starts.items class None) d.arrivals.items (group_of d.arcs.items class) (get_or d.arrivals.items class None)
+  old_in_time class low = in_time n l sound d.arcs.items d.starts.items d.arrivals.items are.arcs are.starts are.arrivals class low
+
+  pub now_starts : AreStartsOf m d.starts.items
+  now_starts = starts_over l n m number differ d.starts.items are.starts
+
+  pub now_ends : (class : ℕ) → IsThere d.ends.items class ↔ IsEnd m l class
+  now_ends = ends_over l n m number differ d.ends.items are.ends
+
+  pub now_order : IsPathOrder m l d.order.items
+  now_order = order_over l n m number differ now_sound d.order.items are.order
+
+  pub now_arcs : (loads : List ℕ) (new : List (Vec TimedArc)) → AreLoads m l loads → Changed m l loads classes d.arcs.items new → AreArcsOf m l new
+  now_arcs loads new known c = arcs_over l n m number differ sound whole classes old_own loads d.arcs.items new are.arcs c.many
+      (λ class low. known.each class (subst (λ k. class < k) (sym differ.count) low)) c.changed c.others
+
+  pub now_reached : (loads : List ℕ) (new : List (Vec TimedArc)) → AreLoads m l loads → Changed m l loads classes d.arcs.items new → AreReached new d.reached.items
+  now_reached loads new known c = reached_over l n m number differ sound whole classes old_own loads d.arcs.items new are.arcs c.many
+      (λ class low. known.each class (subst (λ k. class < k) (sym differ.count) low)) c.changed c.others d.reached.items are.reached
+
+  pub now_graph : (loads : List ℕ) (new : List (Vec TimedArc)) → AreLoads m l loads → Changed m l loads classes d.arcs.items new → length d.order.items < 2 ^ 32 → IsGraph new d.order.items (length d.arrivals.items)
+  now_graph loads new known c few =
+      subst (λ k. IsGraph new d.order.items k) (differ.count ∙ sym are.counted.0) (graph_is m l new (now_arcs loads new known c) now_sound d.order.items now_order few)
+
+  pub now_sources : (loads : List ℕ) (new : List (Vec TimedArc)) → Changed m l loads classes d.arcs.items new → AreSources new d.starts.items d.arrivals.items
+  now_sources loads new c class low empty = by (old_in_time class inside).is where
+    inside : class < n.count
+    inside = let a = c.many in let b = are.arcs.many in omega (arith, low, a, b)
+
+    was_empty : (xs : List TimedArc) → (group_of d.arcs.items class ≡ xs) → group_of d.arcs.items class ≡ []
+    was_empty [] e = e
+    was_empty (y ∷ xs) e = absurd (elim (there_or_not classes class) [
+      | inl t ↦ let r = (c.changed class t).many in let f = ap length e in let g = ap length empty in omega (arith, r, f, g)
+      | inr lacks ↦ let r = ap length (c.others class lacks) in let f = ap length e in let g = ap length empty in omega (arith, r, f, g)
+    ])
+
+    by : (get_or d.arrivals.items class None ≡ get_or d.starts.items class None) ⊎ ((y : TimedArc) × IsThere (group_of d.arcs.items class) y × (get_or d.arrivals.items class None ≡ arrival_by d.arrivals.items y))
+        → get_or d.arrivals.items class None ≡ get_or d.starts.items class None
+    by (inl e) = e
+    by (inr w) =
+        let t = subst (λ (xs : List TimedArc). IsThere xs w.0) (was_empty (group_of d.arcs.items class) refl) w.1 in
+        let s : None ≡ Some w.0 = t.1 in absurd cc
+
+  pub now_rest : (loads : List ℕ) (new : List (Vec TimedArc)) (stale : List Bool) → AreLoads m l loads → Changed m l loads classes d.arcs.items new
+      → ((class : ℕ) → IsThere classes class → get_or stale class false ≡ true) → AreInTime new d.starts.items d.arrivals.items stale
+  now_rest loads new stale known c marked class low fresh = by (there_or_not classes class) where
+    inside : class < n.count
+    inside = let a = c.many in let b = are.arcs.many in omega (arith, low, a, b)
+
+    by : IsThere classes class ⊎ (IsThere classes class → ⊥) → IsLatest (get_or d.starts.items class None) d.arrivals.items (group_of new class) (get_or d.arrivals.items class None)
+    by (inl t) = let no : true ≡ false = sym (marked class t) ∙ fresh in absurd cc
+    by (inr lacks) = subst (λ (xs : List TimedArc). IsLatest (get_or d.starts.items class None) d.arrivals.items xs (get_or d.arrivals.items class None)) (sym (c.others class lacks)) (old_in_time class inside)
+
+  pub now_arrivals : (loads : List ℕ) (new : List (Vec TimedArc)) → AreLoads m l loads → Changed m l loads classes d.arcs.items new → (arrivals : List (Option ℕ)) → AreSettled new d.starts.items arrivals
+      → (class : ℕ) → class < m.count → IsGreatest (Arrives m l class) (get_or arrivals class None)
+  now_arrivals loads new known c arrivals settled class low = arrivals_are m l new (now_arcs loads new known c) now_sound d.starts.items arrivals now_starts settled class low
