@@ -4,6 +4,9 @@ pub mod Grouping
 pub mod Gathering
 pub mod Loading
 pub mod Settling
+pub mod Passing
+pub mod Placing
+pub mod Reaching
 pub mod Routes
 pub mod Edges
 pub mod Finding
