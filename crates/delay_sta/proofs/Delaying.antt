@@ -6,7 +6,7 @@ use Rattle.std.specs.Global.{Vec}
 use Rattle.std.proofs.lemmas.List.{length-append}
 use Rattle.cell_model.specs.Library.{Library}
 use Rattle.net_core.specs.Places.{Stands, IsThere}
-use Rattle.net_core.specs.Netlist.{Netlist, IsNetlist}
+use Rattle.net_core.specs.Netlist.{Netlist, IsNetlist, InTurn, ended, again, first}
 use Rattle.net_core.proofs.Rings.{each_there}
 use Rattle.delay_sta.specs.declared.arrivals.Delays.{Delays}
 use Rattle.delay_sta.specs.declared.graph.TimedArc.{TimedArc}
@@ -19,6 +19,7 @@ use Rattle.delay_sta.specs.Changes.{ArePinClasses, AreLoads, IsPlaced, AreRetime
 use Rattle.delay_sta.proofs.Differing.{Differ, flip, differ_of, AllArcs, all_arcs, all_arcs_over}
 use Rattle.delay_sta.proofs.Owned.{graph_is, arrivals_are, in_time}
 use Rattle.delay_sta.proofs.Reloading.{over_classes}
+use Rattle.delay_sta.proofs.Routes.{few_classes}
 use Rattle.delay_sta.proofs.Following.{there_or_not, order_over, starts_over, ends_over, placed_over, arcs_over, reached_over}
 
 -- arcs after their times were changed
@@ -26,6 +27,41 @@ pub record Changed (m : Netlist) (l : Library) (loads classes : List ℕ) (old n
   pub many : length new ≡ length old
   pub changed : (class : ℕ) → IsThere classes class → AreRetimed m l (slice_index loads class) (group_of old class) (group_of new class)
   pub others : (class : ℕ) → (IsThere classes class → ⊥) → group_of new class ≡ group_of old class
+
+-- the same of equal lists
+
+pub graph_as : (groups gs : List (Vec TimedArc)) (order os : List ℕ) (arrivals ts : List (Option ℕ)) → gs ≡ groups → os ≡ order → ts ≡ arrivals → IsGraph groups order (length arrivals) → IsGraph gs os (length ts)
+graph_as groups gs order os arrivals ts e f g h =
+    subst (λ (x : List (Vec TimedArc)). IsGraph x os (length ts)) (sym e) (subst (λ (x : List ℕ). IsGraph groups x (length ts)) (sym f) (subst (λ (x : List (Option ℕ)). IsGraph groups order (length x)) (sym g) h))
+
+pub reached_as : (groups gs : List (Vec TimedArc)) (reached rs : List (Vec ℕ)) → gs ≡ groups → rs ≡ reached → AreReached groups reached → AreReached gs rs
+reached_as groups gs reached rs e f h = subst (λ (x : List (Vec TimedArc)). AreReached x rs) (sym e) (subst (λ (x : List (Vec ℕ)). AreReached groups x) (sym f) h)
+
+pub starts_as : (initial ts : List (Option ℕ)) → ts ≡ initial → AreStarts initial → AreStarts ts
+starts_as initial ts e h = subst AreStarts (sym e) h
+
+pub sources_as : (groups gs : List (Vec TimedArc)) (initial is arrivals ts : List (Option ℕ)) → gs ≡ groups → is ≡ initial → ts ≡ arrivals → AreSources groups initial arrivals → AreSources gs is ts
+sources_as groups gs initial is arrivals ts e f g h =
+    subst (λ (x : List (Vec TimedArc)). AreSources x is ts) (sym e) (subst (λ (x : List (Option ℕ)). AreSources groups x ts) (sym f) (subst (λ (x : List (Option ℕ)). AreSources groups initial x) (sym g) h))
+
+pub rest_as : (groups gs : List (Vec TimedArc)) (initial is arrivals ts : List (Option ℕ)) (stale bs : List Bool) → gs ≡ groups → is ≡ initial → ts ≡ arrivals → bs ≡ stale → AreInTime groups initial arrivals stale → AreInTime gs is ts bs
+rest_as groups gs initial is arrivals ts stale bs e f g b h =
+    subst (λ (x : List (Vec TimedArc)). AreInTime x is ts bs) (sym e) (subst (λ (x : List (Option ℕ)). AreInTime groups x ts bs) (sym f)
+    (subst (λ (x : List (Option ℕ)). AreInTime groups initial x bs) (sym g) (subst (λ (x : List Bool). AreInTime groups initial arrivals x) (sym b) h)))
+
+pub settled_as : (groups gs : List (Vec TimedArc)) (initial is now : List (Option ℕ)) → gs ≡ groups → is ≡ initial → AreSettled gs is now → AreSettled groups initial now
+settled_as groups gs initial is now e f h = subst (λ (x : List (Option ℕ)). AreSettled groups x now) f (subst (λ (x : List (Vec TimedArc)). AreSettled x is now) e h)
+
+turn_few : (met count : ℕ) (ks : List ℕ) → InTurn met ks count → count ≤ met + length ks
+turn_few met count [] ended = omega arith
+turn_few met count (x ∷ ks) (again l t) = let r = turn_few met count ks t in omega (arith, r)
+turn_few met count (x ∷ ks) (first t) = let r = turn_few (met + 1) count ks t in omega (arith, r)
+
+pub changed_as : (m : Netlist) (l : Library) (loads ls classes : List ℕ) (old os new : List (Vec TimedArc)) → ls ≡ loads → os ≡ old → length new ≡ length os
+    → ((class : ℕ) → IsThere classes class → AreRetimed m l (slice_index ls class) (group_of os class) (group_of new class)) → ((class : ℕ) → (IsThere classes class → ⊥) → group_of new class ≡ group_of os class)
+    → Changed m l loads classes old new
+changed_as m l loads ls classes old os new e f many changed others =
+    subst (λ (z : List ℕ). Changed m l z classes old new) e (subst (λ (z : List (Vec TimedArc)). Changed m l ls classes z new) f (record { many = many; changed = changed; others = others }))
 
 module _ (l : Library) (n m : Netlist) (number place : ℕ) (x : IsExchangeAt l n number place) (set : IsSetTo l n m number place) (timed : CanBeTimed l n) (have : HaveTheirArcs l)
     (sound : IsNetlist n) (now_sound : IsNetlist m) (d : Delays) (are : AreDelaysOf n l d) (classes : List ℕ) (own : ArePinClasses m number classes) where
@@ -68,9 +104,9 @@ module _ (l : Library) (n m : Netlist) (number place : ℕ) (x : IsExchangeAt l 
   now_reached loads new known c = reached_over l n m number differ sound whole classes old_own loads d.arcs.items new are.arcs c.many
       (λ class low. known.each class (subst (λ k. class < k) (sym differ.count) low)) c.changed c.others d.reached.items are.reached
 
-  pub now_graph : (loads : List ℕ) (new : List (Vec TimedArc)) → AreLoads m l loads → Changed m l loads classes d.arcs.items new → length d.order.items < 2 ^ 32 → IsGraph new d.order.items (length d.arrivals.items)
+  pub now_graph : (loads : List ℕ) (new : List (Vec TimedArc)) → AreLoads m l loads → Changed m l loads classes d.arcs.items new → length m.classes < 2 ^ 32 → IsGraph new d.order.items (length d.arrivals.items)
   now_graph loads new known c few =
-      subst (λ k. IsGraph new d.order.items k) (differ.count ∙ sym are.counted.0) (graph_is m l new (now_arcs loads new known c) now_sound d.order.items now_order few)
+      subst (λ k. IsGraph new d.order.items k) (differ.count ∙ sym are.counted.0) (graph_is m l new (now_arcs loads new known c) now_sound d.order.items now_order (let f = few_classes m.count d.order.items now_order.once now_order.inside in let t = turn_few 0 m.count m.classes now_sound.turns in omega (arith, f, t, few)))
 
   pub now_sources : (loads : List ℕ) (new : List (Vec TimedArc)) → Changed m l loads classes d.arcs.items new → AreSources new d.starts.items d.arrivals.items
   now_sources loads new c class low empty = by (old_in_time class inside).is where

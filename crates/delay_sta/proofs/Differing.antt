@@ -47,12 +47,12 @@ stands_back (z ∷ xs) zero (suc k) x y apart s = s
 stands_back (z ∷ xs) (suc place) zero x y apart s = s
 stands_back (z ∷ xs) (suc place) (suc k) x y apart s = stands_back xs place k x y (λ e. apart (ap suc e)) s
 
-take_set : {X : Type 0} (xs : List X) (place : ℕ) (y : X) → take place (slice_set xs place y) ≡ take place xs
+pub take_set : {X : Type 0} (xs : List X) (place : ℕ) (y : X) → take place (slice_set xs place y) ≡ take place xs
 take_set [] place y = refl
 take_set (z ∷ xs) zero y = refl
 take_set {X} (z ∷ xs) (suc place) y = ap (λ (zs : List X). z ∷ zs) (take_set xs place y)
 
-drop_set : {X : Type 0} (xs : List X) (place : ℕ) (y : X) → drop (suc place) (slice_set xs place y) ≡ drop (suc place) xs
+pub drop_set : {X : Type 0} (xs : List X) (place : ℕ) (y : X) → drop (suc place) (slice_set xs place y) ≡ drop (suc place) xs
 drop_set [] place y = refl
 drop_set (z ∷ xs) zero y = refl
 drop_set (z ∷ xs) (suc place) y = drop_set xs place y
@@ -121,12 +121,12 @@ flip l n m number d = record {
 abbrev pub changed : Netlist → ℕ → Instance → List ℕ → Netlist
 changed n number was model = record n { instances = slice_set n.instances number (record was { model = model }) }
 
-changed_terminals : (n : Netlist) (number : ℕ) (was : Instance) (model : List ℕ) → Stands n.instances number was → terminals (changed n number was model) ≡ terminals n
+pub changed_terminals : (n : Netlist) (number : ℕ) (was : Instance) (model : List ℕ) → Stands n.instances number was → terminals (changed n number was model) ≡ terminals n
 changed_terminals n number was model stood = terminals_set (record { ports = n.ports; models = n.models; instances = n.instances })
     (record { ports = n.ports; models = n.models; instances = slice_set n.instances number (record was { model = model }) }) number model
     (record { was = was; stood = stood; now = refl })
 
-was_arcs : (l : Library) (n : Netlist) (number place : ℕ) (x : IsExchangeAt l n number place) → CanBeTimed l n → HaveTheirArcs l → HasItsArcs x.was
+pub was_arcs : (l : Library) (n : Netlist) (number place : ℕ) (x : IsExchangeAt l n number place) → CanBeTimed l n → HaveTheirArcs l → HasItsArcs x.was
 was_arcs l n number place x timed have =
     let u = timed.usable x.owner (number, x.stands) in
     have x.owner.model x.was x.found (let same : u.0 ≡ x.was = (let f : Some u.0 ≡ Some x.was = sym u.1 ∙ x.found in cc) in subst IsUsable same u.2)

@@ -3,18 +3,21 @@ use Rattle.std.proofs.Common.{◌≡◌, ℕ, zero, suc, ◌+◌, ◌<◌, ◌�
 use Rattle.std.specs.List.{All, flat_map}
 use Rattle.std.proofs.lemmas.List.{length-map, length-append, length-take, length-drop, take-append-drop}
 use Rattle.std.proofs.lemmas.List.Concat.{flat_map-append}
-use Rattle.std.proofs.lemmas.Option.{slice_get_read}
+use Rattle.std.proofs.lemmas.Option.{slice_get_read, slice_get-get_or, slice_get_within, get_or_from_slice_get}
 use Rattle.vlsi_base.specs.declared.name.Port.{Port}
 use Rattle.net_core.specs.declared.frame.Node.{Node}
 use Rattle.net_core.specs.Places.{Stands}
 use Rattle.net_core.specs.Frame.{instance_of, node_pins, AreNumbered}
 use Rattle.net_core.specs.Netlist.{Instance, Netlist, IsNetlist, port, pin_of, pins_of, terminals, terminals_of}
 use Rattle.net_core.proofs.Frames.{mapped, terminals_count}
+use Rattle.net_core.proofs.Namings.{turn_below}
+use Rattle.net_core.proofs.Standing.{stands_left, stands_right}
 use Rattle.delay_sta.specs.Changes.{ArePinClasses}
 use Rattle.delay_sta.proofs.Reloading.{whole_by}
 
 map_take : {X Y : Type 0} (f : X → Y) (xs : List X) (k : ℕ) → map f (take k xs) ≡ take k (map f xs)
-map_take f [] k = refl
+map_take f [] zero = refl
+map_take f [] (suc k) = refl
 map_take f (x ∷ xs) zero = refl
 map_take {X} {Y} f (x ∷ xs) (suc k) = ap (λ (ys : List Y). f x ∷ ys) (map_take f xs k)
 
@@ -70,3 +73,17 @@ classes_at n k node classes h is = record {
       let l = h.last in
       let e : length classes ≡ length node.pins = ap length is ∙ (let s : length (take (length node.pins) (drop node.first n.classes)) ≡ length node.pins = omega (arith, t, d, l) in s) in
       e ∙ ap length (sym h.pins)
+
+pub inside_of : (n : Netlist) → IsNetlist n → (number : ℕ) (classes : List ℕ) → ArePinClasses n number classes → All (λ class. class < n.count) classes
+inside_of n sound number classes c k d l =
+    let s : Stands classes k (get_or classes k d) = slice_get-get_or classes k d l in
+    let t = stands_right c.front (classes ++ c.back) k (get_or classes k d) (stands_left classes c.back k (get_or classes k d) s) in
+    let u : Stands n.classes (length c.front + k) (get_or classes k d) = subst (λ (cs : List ℕ). Stands cs (length c.front + k) (get_or classes k d)) (sym c.whole) t in
+    subst (λ v. v < n.count) (get_or_from_slice_get n.classes (length c.front + k) (get_or classes k d) (get_or classes k d) u)
+    (turn_below 0 n.count n.classes sound.turns (length c.front + k) (get_or classes k d) (slice_get_within n.classes (length c.front + k) (get_or classes k d) u))
+
+pub number_low : (n : Netlist) (nodes : List Node) (k : ℕ) → map (instance_of n.models) nodes ≡ n.instances → k < length n.instances → k < length nodes
+number_low n nodes k seen low =
+    let e = ap length seen in
+    let m = length-map nodes (instance_of n.models) in
+    omega (arith, e, m, low)

@@ -108,7 +108,7 @@ all_right [] ys h = h
 all_right (x ∷ xs) ys h = all_right xs ys (λ j e m. h (suc j) e (omega (arith, m)))
 
 all_join : (xs ys : List ℕ) → All (λ c. c < 2 ^ 32) xs → All (λ c. c < 2 ^ 32) ys → All (λ c. c < 2 ^ 32) (xs ++ ys)
-all_join [] ys h g = g
+all_join [] ys h g k d l = g k d l
 all_join (x ∷ xs) ys h g zero d l = h 0 d (omega arith)
 all_join (x ∷ xs) ys h g (suc k) d l = all_join xs ys (λ j e m. h (suc j) e (omega (arith, m))) g k d (omega (arith, l))
 
@@ -129,7 +129,7 @@ sum_small class (r ∷ rs) (c ∷ cs) h =
 -- ---- the loads of both
 
 module _ (l : Library) (n m : Netlist) (number : ℕ) (d : Differ l n m number) (classes : List ℕ) (c : ArePinClasses n number classes) where
-  pub over_classes : ArePinClasses m number classes
+  abbrev pub over_classes : ArePinClasses m number classes
   over_classes = record {
     owner = d.new;
     stands = d.stands;

@@ -144,6 +144,14 @@ retimed_step n l load old now k time x before s p short is = record { many = len
   rest : (j : ℕ) (a : TimedArc) → k + 1 ≤ j → Stands old j a → Stands (slice_set now k (with_delay x time)) j a
   rest j a m t = stands_other now k j a (with_delay x time) (λ e. let same : j ≡ k = e in omega (arith, m, same)) (before.rest j a (omega (arith, m)) t)
 
+-- what has not changed yet
+pub not_yet : (n : Netlist) (l : Library) (load : ℕ) (old now : List TimedArc) (k : ℕ) (x : TimedArc) → RetimedSoFar n l load old now k → Stands now k x → Stands old k x
+not_yet n l load old now k x h s =
+    let w = slice_get_within now k x s in
+    let m = h.many in
+    let y = at_place old k (omega (arith, w, m)) in
+    subst (λ (z : TimedArc). Stands old k z) (stands_same now k y.0 x (h.rest k y.0 (omega arith) y.1) s) y.1
+
 pub retimed_all : (n : Netlist) (l : Library) (load : ℕ) (old now : List TimedArc) (k : ℕ) → length now ≤ k → RetimedSoFar n l load old now k → AreRetimed n l load old now
 retimed_all n l load old now k all h = record {
   many = h.many;

@@ -1,8 +1,8 @@
 // Delays behind an exchange of one instance's cell.
-ghost use Rattle.std.specs.Prelude.{◌≡◌, ◌+◌, ◌*◌, ◌^◌, ◌<◌, ◌≤◌, ◌↔◌, ℕ, IsTrue, map, length, slice_index};
+ghost use Rattle.std.specs.Prelude.{◌≡◌, ◌+◌, ◌*◌, ◌^◌, ◌<◌, ◌≤◌, ◌↔◌, ℕ, IsTrue, map, length, take, drop, slice_index};
 ghost use Rattle.std.specs.List.{All};
-ghost use Rattle.net_core.specs.Places.{IsThere};
-ghost use Rattle.net_core.specs.Netlist.{IsNetlist};
+ghost use Rattle.net_core.specs.Places.{Stands, IsThere};
+ghost use Rattle.net_core.specs.Netlist.{Netlist as InMemory, IsNetlist};
 ghost use Rattle.cell_model.specs.declared.cell.Arc.{Arc as CellArc};
 ghost use Rattle.delay_sta.specs.declared.graph.TimedArc.{TimedArc as ArcInTime};
 ghost use Rattle.delay_sta.specs.Arcs.{arc_delay};
@@ -10,7 +10,7 @@ ghost use Rattle.delay_sta.specs.Loads.{input_capacitance};
 ghost use Rattle.delay_sta.specs.Graph.{AreFound, group_of};
 ghost use Rattle.delay_sta.specs.Timed.{CanBeTimed, AreDelaysOf};
 ghost use Rattle.delay_sta.specs.Exchanged.{HaveTheirArcs, IsExchangeAt, IsSetTo};
-ghost use Rattle.delay_sta.specs.Changes.{pin_load, ArePinClasses, IsOnlyArc, IsPlaced, AreRetimed};
+ghost use Rattle.delay_sta.specs.Changes.{pin_load, ArePinClasses, AreLoads, IsOnlyArc, IsPlaced, AreRetimed};
 
 use crate::arc::arc_delay;
 use crate::arrivals::Delays;
@@ -18,9 +18,18 @@ use crate::graph::TimedArc;
 use crate::loads::input_capacitance;
 use crate::settle::{mark, settle};
 use cell_checks::Library;
-use cell_model::{Arc, Cell, Pin};
+use cell_model::{Arc, Pin};
 use net_core::Netlist;
 use vlsi_base::Name;
+
+/// So many of the classes, from the first on.
+fn classes_from<'c>(classes: &'c [u32], first: u32, many: usize) -> &'c [u32]
+    requires { first + many ≤ length classes.now }
+    ensures { result.now ≡ take many (drop first classes.now) }
+{
+    let start = first as usize;
+    &classes[start..start + many]
+}
 
 /// The classes of an instance's pins.
 fn pin_classes(netlist: &Netlist, number: u32) -> &[u32]
@@ -31,9 +40,8 @@ fn pin_classes(netlist: &Netlist, number: u32) -> &[u32]
     ensures sound { IsNetlist netlist.now }
 {
     let node = &netlist.nodes()[number as usize];
-    let first = node.first as usize;
-    let last = first + node.pins.as_slice().len();
-    &netlist.classes()[first..last]
+    let classes = netlist.classes();
+    classes_from(classes, node.first, node.pins.as_slice().len())
 }
 
 /// The loads without those of pins with these names and classes, where a cell has these pins.
@@ -98,7 +106,7 @@ fn time_of(
     ensures short { result < 2 ^ 96 }
     ensures time { (p : IsPlaced netlist.now library.now arc.now) → result ≡ arc_delay p.arc load }
 {
-    let node = &netlist.nodes()[arc.owner as usize];
+    let node = &netlist.nodes()[arc.owner];
     let cell = &library.cells()[places[node.model]];
     let pins = node.pins.as_slice();
     time_between(cell.arcs.as_slice(), &pins[arc.input], &pins[arc.output], load)
@@ -137,7 +145,7 @@ fn change_arcs(
     requires placed { (class : ℕ) (x : ArcInTime) → IsThere (group_of arcs.old class) x → IsPlaced netlist.now library.now x }
     ensures many { length arcs.new ≡ length arcs.old }
     ensures changed { (class : ℕ) → IsThere classes.now class
-        → AreRetimed netlist.now library.now (slice_index by.1.now class) (group_of arcs.old class) (group_of arcs.new class) }
+        → AreRetimed netlist.now library.now (slice_index by.entry.1.now class) (group_of arcs.old class) (group_of arcs.new class) }
     ensures others { (class : ℕ) → (IsThere classes.now class → ⊥) → group_of arcs.new class ≡ group_of arcs.old class }
 {
     let (places, loads) = by;
@@ -147,13 +155,55 @@ fn change_arcs(
     }
 }
 
-/// A test.
-fn test_it(cells: &[Cell]) -> u32
-    ensures { result ≡ 1 }
+/// The loads of a netlist in which an instance has another cell, where its own is at the first place and the other at the second.
+fn change_loads(
+    loads: &mut [u64],
+    netlist: &Netlist,
+    library: &Library,
+    number: u32,
+    places: (usize, usize),
+)
+    requires timed { CanBeTimed library.now netlist.now }
+    requires arcs { HaveTheirArcs library.now }
+    requires loads { AreLoads netlist.now library.now loads.old }
+    requires exchange { IsExchangeAt library.now netlist.now number places.1 }
+    requires was { (x : IsExchangeAt library.now netlist.now number places.1) → Stands library.now.cells places.0 x.was }
+    ensures { (m : InMemory) → IsSetTo library.now netlist.now m number places.1 → AreLoads m library.now loads.new }
 {
-   if cells.len() > 0 {
-     let pins = cells[0].pins.as_slice();
-     return 2;
-   }
-   1
+    let (old, new) = places;
+    let cells = library.cells();
+    let names = netlist.nodes()[number as usize].pins.as_slice();
+    let classes = pin_classes(netlist, number);
+    take_loads(loads, classes, names, cells[old].pins.as_slice());
+    give_loads(loads, classes, names, cells[new].pins.as_slice());
+}
+
+impl Delays {
+    /// Puts the cell at a place of the library in the place of an instance's, by its number; the delays are then those of the changed
+    /// netlist. What is marked stays marked. Takes no memory, and time for each class, and for the arcs at the instance's pins.
+    pub fn exchange(
+        &mut self,
+        netlist: &mut Netlist,
+        library: &Library,
+        number: u32,
+        place: usize,
+    )
+        requires sound { IsNetlist netlist.old }
+        requires timed { CanBeTimed library.now netlist.old }
+        requires arcs { HaveTheirArcs library.now }
+        requires delays { AreDelaysOf netlist.old library.now self.old }
+        requires exchange { IsExchangeAt library.now netlist.old number place }
+        ensures sound { IsNetlist netlist.new }
+        ensures sets { IsSetTo library.now netlist.old netlist.new number place }
+        ensures delays { AreDelaysOf netlist.new library.now self.new }
+        ensures marks { self.new.marks ≡ self.old.marks }
+    {
+        let was = self.places[netlist.nodes()[number as usize].model];
+        change_loads(&mut self.loads, netlist, library, number, (was, place));
+        netlist.set_model(number, &library.cells()[place].name);
+        let classes = pin_classes(netlist, number);
+        change_arcs(&mut self.arcs, netlist, library, classes, (&self.places, &self.loads));
+        mark(&mut self.stale, classes);
+        settle(&mut self.arrivals, &mut self.stale, &self.starts, &self.order, (&self.arcs, &self.reached));
+    }
 }
