@@ -6,7 +6,7 @@ use Rattle.std.specs.Global.{Vec}
 use Rattle.std.proofs.lemmas.List.{take_more, length-map, get_or_past}
 use Rattle.std.proofs.lemmas.List.Sums.{sum_by-cons}
 use Rattle.std.proofs.lemmas.Bool.{cases_lt}
-use Rattle.std.proofs.lemmas.Option.{slice_get_within}
+use Rattle.std.proofs.lemmas.Option.{slice_get_within, slice_get-get_or}
 use Rattle.net_core.specs.Places.{Stands, IsThere}
 use Rattle.net_core.proofs.Rings.{each_there}
 use Rattle.net_core.proofs.Standing.{Split, left, right, split, stands_left, stands_last, only_one}
@@ -206,6 +206,10 @@ module _ (groups : List (Vec TimedArc)) (order : List ℕ) (count : ℕ) (old no
                 let n = graph.few in
                 omega (arith, a, r, d, b, n)
           ]
+
+-- a class of the order has a place
+pub class_inside : (groups : List (Vec TimedArc)) (order : List ℕ) (count k : ℕ) → IsGraph groups order count → k < length order → get_or order k 0 < count
+class_inside groups order count k graph l = graph.inside (get_or order k 0) (k, slice_get-get_or order k 0 l)
 
 -- ---- what is settled
 

@@ -173,7 +173,8 @@ pub fn timed_arcs(
     let mut arcs = Vec::new(alloc);
     let nodes = netlist.nodes();
     for owner in 0..nodes.len() {
-        if let Some(cell) = library.cells().get(places[nodes[owner].model]) {
+        let node = &nodes[owner];
+        if let Some(cell) = library.cells().get(places[node.model]) {
             push_arcs(&mut arcs, netlist, owner, cell, loads)?;
         }
     }
