@@ -288,7 +288,7 @@ module _ (groups : List (Vec TimedArc)) (order : List ℕ) (count : ℕ) (old no
         let no = r.1 in absurd cc
     by (Some t) e = (
       (let p = graph.complete class (omega (arith, l, many)) in
-      taken groups order count old now (length order) graph zeros whole p.0 class t (slice_get_within order p.0 class p.1) p.1 e),
+          taken groups order count old now (length order) graph zeros whole p.0 class t (slice_get_within order p.0 class p.1) p.1 e),
       λ d p.
           let r = subst (λ (o : Option ℕ). IsBy (Some (sum_by (λ s. s.delay) p.path)) o) e (longest class p.path p.leads) in
           let same : t ≡ r.0 = let q = r.1 in cc in

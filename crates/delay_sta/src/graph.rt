@@ -68,13 +68,7 @@ fn way(function: &Function, pin: &Name) -> Option<bool>
 {
     match function {
         Function::Gate(_) => Some(false),
-        Function::FlipFlop { clock, .. } => {
-            if pin.is_same(clock) {
-                Some(true)
-            } else {
-                None
-            }
-        }
+        Function::FlipFlop { clock, .. } => { if pin.is_same(clock) { Some(true) } else { None } }
         Function::Other(_) => None,
         Function::Opaque => None,
     }
@@ -223,11 +217,7 @@ fn no_numbers(alloc: Global, count: u32) -> Result<Vec<Vec<u32>>, AllocError>
 }
 
 /// For each of so many classes, those to which paths go on from there.
-pub fn reached(
-    alloc: Global,
-    count: u32,
-    arcs: &[TimedArc],
-) -> Result<Vec<Vec<u32>>, AllocError>
+pub fn reached(alloc: Global, count: u32, arcs: &[TimedArc]) -> Result<Vec<Vec<u32>>, AllocError>
     requires { All (λ x. x.from < count) arcs.now }
     ensures many { IfOk result (λ lists. length lists.items ≡ count) }
     ensures reached { IfOk result (λ lists. AreOnward arcs.now lists.items) }

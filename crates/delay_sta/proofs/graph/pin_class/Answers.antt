@@ -1,4 +1,4 @@
-use Rattle.std.proofs.Common.{ap, length, arith}
+use Rattle.std.proofs.Common.{arith}
 use Rattle.delay_sta.proofs.Placing.{AreNodesOf, read_low, read_class}
 use Rattle.delay_sta.proofs.graph.pin_class.Goals as goal
 

@@ -1,4 +1,4 @@
-use Rattle.std.proofs.Common.{◌≡◌, Bool, Option, Some, List, refl, subst, arith}
+use Rattle.std.proofs.Common.{Bool, Option, Some, List, refl, subst, arith}
 use Rattle.std.specs.Prelude.{slice_index}
 use Rattle.vlsi_base.specs.declared.name.Dir.TheVariants as dir
 use Rattle.cell_model.specs.declared.cell.Pin.{Pin}
