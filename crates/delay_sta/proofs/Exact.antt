@@ -38,14 +38,20 @@ pub no_output : (n : Netlist) (loads : ℕ → ℕ) (number : ℕ) (c : Cell) (a
 no_output n loads number c a h = none_found n loads number c a (λ o s g. h g.gives) (λ o s g. h g.gives)
 
 pub no_from : (n : Netlist) (loads : ℕ → ℕ) (number : ℕ) (i : Instance) (c : Cell) (a : Arc) → Stands n.instances number i → (IsThere i.pins a.from → ⊥) → IsFoundAs n loads number c a None
-no_from n loads number i c a s lacks x = ((λ e. absurd cc), (λ h.
-    let same : h.owner ≡ i = stands_same n.instances number h.owner i h.stands s in
-    absurd (lacks (x.input, subst (λ (o : Instance). Stands o.pins x.input a.from) same h.input))))
+no_from n loads number i c a s lacks x = (
+  (λ e. absurd cc),
+  (λ h.
+      let same : h.owner ≡ i = stands_same n.instances number h.owner i h.stands s in
+      absurd (lacks (x.input, subst (λ (o : Instance). Stands o.pins x.input a.from) same h.input))),
+)
 
 pub no_to : (n : Netlist) (loads : ℕ → ℕ) (number : ℕ) (i : Instance) (c : Cell) (a : Arc) → Stands n.instances number i → (IsThere i.pins a.to → ⊥) → IsFoundAs n loads number c a None
-no_to n loads number i c a s lacks x = ((λ e. absurd cc), (λ h.
-    let same : h.owner ≡ i = stands_same n.instances number h.owner i h.stands s in
-    absurd (lacks (x.output, subst (λ (o : Instance). Stands o.pins x.output a.to) same h.output))))
+no_to n loads number i c a s lacks x = (
+  (λ e. absurd cc),
+  (λ h.
+      let same : h.owner ≡ i = stands_same n.instances number h.owner i h.stands s in
+      absurd (lacks (x.output, subst (λ (o : Instance). Stands o.pins x.output a.to) same h.output))),
+)
 
 abbrev timed : ℕ → ℕ → ℕ → Bool → ℕ → ℕ → ℕ → TimedArc
 timed from to delay begins owner input output =

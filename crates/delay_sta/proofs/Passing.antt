@@ -1,11 +1,14 @@
 -- Classes passed in their order, whose arrivals are taken anew where they are stale.
 use Rattle.std.proofs.Common.{◌≡◌, ◌≢◌, ◌⊎◌, inl, inr, ℕ, ◌+◌, ◌<◌, ◌≤◌, Bool, true, false, cond, List, [], length, get_or, nat_eq, Option, Some, None, refl, sym, ap, subst, ◌∙◌, arith}
-use Rattle.std.specs.Prelude.{slice_set}
+use Rattle.std.specs.Prelude.{not, slice_set}
+use Rattle.std.specs.List.{All}
+use Rattle.std.specs.Option.{option_eq}
 use Rattle.std.specs.Global.{Vec}
 use Rattle.std.proofs.lemmas.List.{get_or-set_same, get_or-set_other, length-set, get_or_past}
 use Rattle.std.proofs.lemmas.Bool.{cases_lt, eqb-true, eq-eqb}
 use Rattle.std.proofs.lemmas.Option.{slice_get_within}
 use Rattle.net_core.specs.Places.{Stands, IsThere}
+use Rattle.net_core.proofs.Rings.{each_there}
 use Rattle.net_core.proofs.Standing.{stands_same}
 use Rattle.delay_sta.specs.declared.graph.TimedArc.{TimedArc}
 use Rattle.delay_sta.specs.Graph.{group_of, numbers_of, AreReached, IsGraph, later_by, arrival_by, IsBy, IsLatest, IsInTime, AreInTime, AreSources, AreStarts, AreSettled}
@@ -47,6 +50,26 @@ marked_next classes old now k class before here low = record {
 
 pub marked_all : (classes : List ℕ) (old now : List Bool) (k class : ℕ) → MarkedSoFar classes old now k → length classes ≤ k → IsThere classes class → get_or now class false ≡ true
 marked_all classes old now k class h all t = let w = slice_get_within classes t.0 class t.1 in h.marked t.0 class (omega (arith, w, all)) t.1
+
+-- ---- arrivals compared
+
+pub changed_of : (a b : Option ℕ) → not (option_eq nat_eq a b) ≡ true → a ≢ b
+changed_of None None e same = absurd cc
+changed_of None (Some y) e same = absurd cc
+changed_of (Some x) None e same = absurd cc
+changed_of (Some x) (Some y) e same =
+    let n : x ≡ y = cc in
+    let t : nat_eq x y ≡ true = eq-eqb x y n in
+    let no : not true ≡ true = ap not (sym t) ∙ e in absurd cc
+
+pub same_of : (a b : Option ℕ) → not (option_eq nat_eq a b) ≡ false → a ≡ b
+same_of None None e = refl
+same_of None (Some y) e = absurd cc
+same_of (Some x) None e = absurd cc
+same_of (Some x) (Some y) e = by (nat_eq x y) refl where
+  by : (t : Bool) → nat_eq x y ≡ t → Some x ≡ Some y
+  by true q = ap Some (eqb-true x y q)
+  by false q = let no : not false ≡ false = ap not (sym q) ∙ e in absurd cc
 
 -- ---- classes in their order
 
@@ -90,6 +113,16 @@ module _ (groups : List (Vec TimedArc)) (order : List ℕ) (count : ℕ) (old no
         let w = slice_get_within order p.0 class p.1 in
         are.passed p.0 class (omega (arith, w, ended)) p.1
     by (inr l) = let m = are.many.1 in get_or_past stale class false (omega (arith, l, m))
+
+  -- what is reached from a class
+  pub reached_low : (class : ℕ) (reached : List (Vec ℕ)) → AreReached groups reached → All (λ d. d < length (slice_set stale class false)) (numbers_of reached class)
+  reached_low class reached is = each_there (λ (d : ℕ). d < length (slice_set stale class false)) (numbers_of reached class) (λ d t.
+      let x = is.only class d t in
+      let w = group_within groups d x.0 x.1 in
+      let m = graph.many in
+      let n = are.many.1 in
+      let e = length-set stale class false in
+      omega (arith, w, m, n, e))
 
   -- a class that isn't stale
   pub passed_fresh : (class : ℕ) → Stands order k class → get_or stale class false ≡ false → ArePassed groups order count old now stale (k + 1)

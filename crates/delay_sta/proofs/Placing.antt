@@ -1,14 +1,14 @@
 -- Pins by their places among an instance's, and their classes.
-use Rattle.std.proofs.Common.{◌≡◌, ◌⊎◌, inl, inr, ℕ, ◌+◌, ◌<◌, ◌≤◌, List, ◌++◌, map, length, get_or, take, Some, None, sym, ap, ◌∙◌, subst, arith}
+use Rattle.std.proofs.Common.{◌≡◌, ◌⊎◌, inl, inr, ℕ, ◌+◌, ◌<◌, ◌≤◌, List, ◌++◌, map, length, get_or, take, Option, Some, None, refl, sym, ap, ◌∙◌, subst, arith}
 use Rattle.std.specs.List.{flat_map}
 use Rattle.std.proofs.lemmas.List.{length-map}
 use Rattle.std.proofs.lemmas.Bool.{cases_lt}
-use Rattle.std.proofs.lemmas.Option.{slice_get_within, slice_get-get_or, get_or_from_slice_get}
+use Rattle.std.proofs.lemmas.Option.{slice_get_within, slice_get-get_or, slice_get_read, get_or_from_slice_get}
 use Rattle.vlsi_base.specs.declared.name.Name.{Name}
 use Rattle.vlsi_base.specs.declared.name.Port.{Port}
 use Rattle.vlsi_base.specs.declared.name.Terminal.{Terminal}
 use Rattle.net_core.specs.declared.frame.Node.{Node}
-use Rattle.net_core.specs.Places.{Stands, IsThere, NoneTwice}
+use Rattle.net_core.specs.Places.{Stands, IsThere, IsPlaceOf, NoneTwice}
 use Rattle.net_core.specs.Netlist.{Instance, Netlist, IsNetlist, AreInOrder, port, pin_of, pins_of, terminals, terminals_of, HasClass}
 use Rattle.net_core.specs.Frame.{instance_of, node_pins, AreNumbered}
 use Rattle.net_core.proofs.Frames.{mapped, unmapped, port_terminals, terminals_are, pin_found, flat_split}
@@ -107,3 +107,39 @@ name_passed names name k at s before apart j l t = by (cases_lt j k) where
 
 pub name_absent : (names : List Name) (name : Name) (k : ℕ) → length names ≤ k → LacksName names name k → IsThere names name → ⊥
 name_absent names name k all before t = let w = slice_get_within names t.0 name t.1 in before t.0 (omega (arith, w, all)) t.1
+
+-- ---- a pin's class, as it is read
+
+-- what is asked of an instance's number and a pin's place
+abbrev pub HasPinAt : Netlist → ℕ → ℕ → Type 0
+HasPinAt n owner place = (i : Instance) × (pin : Name) × Stands n.instances owner i × Stands i.pins place pin
+
+pub node_read : (n : Netlist) (nodes : List Node) (owner : ℕ) (node : Node) → AreNodesOf n nodes → owner < length n.instances → node ≡ get_or nodes owner node → Stands nodes owner node
+node_read n nodes owner node are low at = let m = nodes_many n nodes are in slice_get_read nodes (length nodes) owner node refl (omega (arith, low, m)) at
+
+pub read_low : (n : Netlist) (nodes : List Node) (classes : List ℕ) (owner place : ℕ) (node : Node) → IsNetlist n → AreNodesOf n nodes → classes ≡ n.classes → HasPinAt n owner place → node ≡ get_or nodes owner node
+    → node.first + place < length classes
+read_low n nodes classes owner place node sound are same has at =
+    let w = slice_get_within n.instances owner has.0 has.2 in
+    let s = node_read n nodes owner node are w at in
+    let l = instance_place_low n sound nodes are owner node s has.0 place has.1 has.2 has.3 in
+    let e = ap length same in
+    omega (arith, l, e)
+
+pub read_class : (n : Netlist) (nodes : List Node) (classes : List ℕ) (owner place : ℕ) (node : Node) → IsNetlist n → AreNodesOf n nodes → classes ≡ n.classes → node ≡ get_or nodes owner node
+    → (i : Instance) (pin : Name) → Stands n.instances owner i → Stands i.pins place pin → HasClass n (pin_of i.name pin) (get_or classes (node.first + place) 0)
+read_class n nodes classes owner place node sound are same at i pin s t =
+    let w = slice_get_within n.instances owner i s in
+    let r = node_read n nodes owner node are w at in
+    subst (λ (cs : List ℕ). HasClass n (pin_of i.name pin) (get_or cs (node.first + place) 0)) (sym same) (instance_class n sound nodes are owner node r i place pin s t)
+
+-- the instance of a node, as it is read
+pub instance_read : (n : Netlist) (nodes : List Node) (owner : ℕ) (node : Node) → AreNodesOf n nodes → owner < length n.instances → node ≡ get_or nodes owner node → Stands n.instances owner (instance_of n.models node)
+instance_read n nodes owner node are low at =
+    let s = node_read n nodes owner node are low at in
+    subst (λ (is : List Instance). Stands is owner (instance_of n.models node)) are.seen (mapped (instance_of n.models) nodes owner node s)
+
+-- a place that is found
+pub placed : (pins names : List Name) (name : Name) (o : Option ℕ) (k : ℕ) → names ≡ pins → IsPlaceOf names name o → o ≡ Some k → Stands pins k name
+placed pins names name o k same is found =
+    subst (λ (xs : List Name). Stands xs k name) same (subst (λ (p : Option ℕ). IsPlaceOf names name p) found is)

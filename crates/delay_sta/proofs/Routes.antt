@@ -13,7 +13,7 @@ use Rattle.delay_sta.specs.declared.graph.TimedArc.{TimedArc}
 use Rattle.delay_sta.specs.Loads.{load}
 use Rattle.delay_sta.specs.Paths.{Step, Leads, starts, begins, goes_on, TakesTo, IsStepAt, IsStep, BeginsThere, GoesThrough, IsStart, Arrives, IsGreatest}
 use Rattle.delay_sta.specs.Timed.{IsAnyStep, a_beginning, going_on, IsPathOrder}
-use Rattle.delay_sta.specs.Graph.{step_of, IsTimedAt, IsOwned, AreTimedArcs, group_of, AreGrouped, AreArcsOf, numbers_of, AreOnward, AreReached, IsIn, IsGraph, StartsIn, AreStartsOf, AreSettled}
+use Rattle.delay_sta.specs.Graph.{step_of, IsOwned, AreTimedArcs, group_of, AreGrouped, AreArcsOf, AreOnward, AreReached, IsIn, IsGraph, StartsIn, AreStartsOf, AreSettled}
 use Rattle.delay_sta.proofs.Tables.{In_there}
 use Rattle.delay_sta.proofs.Placing.{pin_of_class}
 use Rattle.delay_sta.proofs.Settling.{group_within}

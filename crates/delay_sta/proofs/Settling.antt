@@ -6,7 +6,7 @@ use Rattle.std.specs.Global.{Vec}
 use Rattle.std.proofs.lemmas.List.{take_more, length-map, get_or_past}
 use Rattle.std.proofs.lemmas.List.Sums.{sum_by-cons}
 use Rattle.std.proofs.lemmas.Bool.{cases_lt}
-use Rattle.std.proofs.lemmas.Option.{slice_get_within}
+use Rattle.std.proofs.lemmas.Option.{slice_get_within, slice_get-get_or}
 use Rattle.net_core.specs.Places.{Stands, IsThere}
 use Rattle.net_core.proofs.Rings.{each_there}
 use Rattle.net_core.proofs.Standing.{Split, left, right, split, stands_left, stands_last, only_one}
@@ -207,6 +207,10 @@ module _ (groups : List (Vec TimedArc)) (order : List ℕ) (count : ℕ) (old no
                 omega (arith, a, r, d, b, n)
           ]
 
+-- a class of the order has a place
+pub class_inside : (groups : List (Vec TimedArc)) (order : List ℕ) (count k : ℕ) → IsGraph groups order count → k < length order → get_or order k 0 < count
+class_inside groups order count k graph l = graph.inside (get_or order k 0) (k, slice_get-get_or order k 0 l)
+
 -- ---- what is settled
 
 pub nothing_in : {X : Type 0} (x : X) → IsThere [] x → ⊥
@@ -284,7 +288,7 @@ module _ (groups : List (Vec TimedArc)) (order : List ℕ) (count : ℕ) (old no
         let no = r.1 in absurd cc
     by (Some t) e = (
       (let p = graph.complete class (omega (arith, l, many)) in
-      taken groups order count old now (length order) graph zeros whole p.0 class t (slice_get_within order p.0 class p.1) p.1 e),
+          taken groups order count old now (length order) graph zeros whole p.0 class t (slice_get_within order p.0 class p.1) p.1 e),
       λ d p.
           let r = subst (λ (o : Option ℕ). IsBy (Some (sum_by (λ s. s.delay) p.path)) o) e (longest class p.path p.leads) in
           let same : t ≡ r.0 = let q = r.1 in cc in

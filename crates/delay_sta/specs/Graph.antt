@@ -13,7 +13,7 @@ use Rattle.net_core.specs.Places.{Stands, IsThere, NoneTwice}
 use Rattle.net_core.specs.Netlist.{Instance, Netlist, pin_of, HasClass}
 use Rattle.delay_sta.specs.declared.graph.TimedArc.{TimedArc}
 use Rattle.delay_sta.specs.Loads.{load}
-use Rattle.delay_sta.specs.Paths.{Step, IsStepAt, IsStep, BeginsThere, GoesThrough, IsStart, TakesTo, IsGreatest}
+use Rattle.delay_sta.specs.Paths.{Step, IsStepAt, BeginsThere, GoesThrough, IsStart, TakesTo, IsGreatest}
 
 -- the place of the cell of each model
 pub record AreFound (cells : List Cell) (models : List (List ℕ)) (places : List ℕ) : Type 0 where

@@ -108,11 +108,7 @@ fn ends(
 }
 
 /// The classes of a netlist, each behind those from which paths go on to it.
-fn path_order(
-    alloc: Global,
-    netlist: &Netlist,
-    library: &Library,
-) -> Result<Vec<u32>, AllocError>
+fn path_order(alloc: Global, netlist: &Netlist, library: &Library) -> Result<Vec<u32>, AllocError>
     requires checked { IsChecked false library.now }
     requires netlist { CanBeTimed library.now netlist.now }
     ensures { IfOk result (λ order. IsPathOrder netlist.now library.now order.items) }

@@ -68,13 +68,7 @@ fn way(function: &Function, pin: &Name) -> Option<bool>
 {
     match function {
         Function::Gate(_) => Some(false),
-        Function::FlipFlop { clock, .. } => {
-            if pin.is_same(clock) {
-                Some(true)
-            } else {
-                None
-            }
-        }
+        Function::FlipFlop { clock, .. } => { if pin.is_same(clock) { Some(true) } else { None } }
         Function::Other(_) => None,
         Function::Opaque => None,
     }
@@ -173,7 +167,8 @@ pub fn timed_arcs(
     let mut arcs = Vec::new(alloc);
     let nodes = netlist.nodes();
     for owner in 0..nodes.len() {
-        if let Some(cell) = library.cells().get(places[nodes[owner].model]) {
+        let node = &nodes[owner];
+        if let Some(cell) = library.cells().get(places[node.model]) {
             push_arcs(&mut arcs, netlist, owner, cell, loads)?;
         }
     }
@@ -222,11 +217,7 @@ fn no_numbers(alloc: Global, count: u32) -> Result<Vec<Vec<u32>>, AllocError>
 }
 
 /// For each of so many classes, those to which paths go on from there.
-pub fn reached(
-    alloc: Global,
-    count: u32,
-    arcs: &[TimedArc],
-) -> Result<Vec<Vec<u32>>, AllocError>
+pub fn reached(alloc: Global, count: u32, arcs: &[TimedArc]) -> Result<Vec<Vec<u32>>, AllocError>
     requires { All (λ x. x.from < count) arcs.now }
     ensures many { IfOk result (λ lists. length lists.items ≡ count) }
     ensures reached { IfOk result (λ lists. AreOnward arcs.now lists.items) }
