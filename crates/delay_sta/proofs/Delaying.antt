@@ -17,9 +17,9 @@ use Rattle.delay_sta.specs.Graph.{AreFound, AreArcsOf, AreReached, AreStartsOf, 
 use Rattle.delay_sta.specs.Exchanged.{HaveTheirArcs, IsExchangeAt, IsSetTo}
 use Rattle.delay_sta.specs.Changes.{ArePinClasses, AreLoads, IsPlaced, AreRetimed}
 use Rattle.delay_sta.proofs.Differing.{Differ, flip, differ_of, AllArcs, all_arcs, all_arcs_over}
-use Rattle.delay_sta.proofs.Owned.{graph_is, arrivals_are, in_time}
+use Rattle.delay_sta.proofs.Owned.{in_time}
 use Rattle.delay_sta.proofs.Reloading.{over_classes}
-use Rattle.delay_sta.proofs.Routes.{few_classes}
+use Rattle.delay_sta.proofs.Routes.{graph_of, arrivals_of}
 use Rattle.delay_sta.proofs.Following.{there_or_not, order_over, starts_over, ends_over, placed_over, arcs_over, reached_over}
 
 -- arcs after their times were changed
@@ -36,9 +36,6 @@ graph_as groups gs order os arrivals ts e f g h =
 
 pub reached_as : (groups gs : List (Vec TimedArc)) (reached rs : List (Vec ℕ)) → gs ≡ groups → rs ≡ reached → AreReached groups reached → AreReached gs rs
 reached_as groups gs reached rs e f h = subst (λ (x : List (Vec TimedArc)). AreReached x rs) (sym e) (subst (λ (x : List (Vec ℕ)). AreReached groups x) (sym f) h)
-
-pub starts_as : (initial ts : List (Option ℕ)) → ts ≡ initial → AreStarts initial → AreStarts ts
-starts_as initial ts e h = subst AreStarts (sym e) h
 
 pub sources_as : (groups gs : List (Vec TimedArc)) (initial is arrivals ts : List (Option ℕ)) → gs ≡ groups → is ≡ initial → ts ≡ arrivals → AreSources groups initial arrivals → AreSources gs is ts
 sources_as groups gs initial is arrivals ts e f g h =
@@ -106,7 +103,8 @@ module _ (l : Library) (n m : Netlist) (number place : ℕ) (x : IsExchangeAt l 
 
   pub now_graph : (loads : List ℕ) (new : List (Vec TimedArc)) → AreLoads m l loads → Changed m l loads classes d.arcs.items new → length m.classes < 2 ^ 32 → IsGraph new d.order.items (length d.arrivals.items)
   now_graph loads new known c few =
-      subst (λ k. IsGraph new d.order.items k) (differ.count ∙ sym are.counted.0) (graph_is m l new (now_arcs loads new known c) now_sound d.order.items now_order (let f = few_classes m.count d.order.items now_order.once now_order.inside in let t = turn_few 0 m.count m.classes now_sound.turns in omega (arith, f, t, few)))
+      let t = turn_few 0 m.count m.classes now_sound.turns in
+      subst (λ k. IsGraph new d.order.items k) (differ.count ∙ sym are.counted.0) (graph_of m l now_sound new d.order.items (now_arcs loads new known c) now_order (omega (arith, t, few)))
 
   pub now_sources : (loads : List ℕ) (new : List (Vec TimedArc)) → Changed m l loads classes d.arcs.items new → AreSources new d.starts.items d.arrivals.items
   now_sources loads new c class low empty = by (old_in_time class inside).is where
@@ -139,4 +137,4 @@ module _ (l : Library) (n m : Netlist) (number place : ℕ) (x : IsExchangeAt l 
 
   pub now_arrivals : (loads : List ℕ) (new : List (Vec TimedArc)) → AreLoads m l loads → Changed m l loads classes d.arcs.items new → (arrivals : List (Option ℕ)) → AreSettled new d.starts.items arrivals
       → (class : ℕ) → class < m.count → IsGreatest (Arrives m l class) (get_or arrivals class None)
-  now_arrivals loads new known c arrivals settled class low = arrivals_are m l new (now_arcs loads new known c) now_sound d.starts.items arrivals now_starts settled class low
+  now_arrivals loads new known c arrivals settled class low = arrivals_of m l now_sound new d.order.items (now_arcs loads new known c) now_order d.starts.items arrivals now_starts settled class low

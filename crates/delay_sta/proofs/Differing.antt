@@ -131,10 +131,6 @@ was_arcs l n number place x timed have =
     let u = timed.usable x.owner (number, x.stands) in
     have x.owner.model x.was x.found (let same : u.0 ≡ x.was = (let f : Some u.0 ≡ Some x.was = sym u.1 ∙ x.found in cc) in subst IsUsable same u.2)
 
--- the netlist behind an exchange
-abbrev pub exchanged : (l : Library) (n : Netlist) (number place : ℕ) → IsExchangeAt l n number place → Netlist
-exchanged l n number place x = changed n number x.owner x.now.name
-
 abbrev pub differ_at : (l : Library) (n : Netlist) (number place : ℕ) (x : IsExchangeAt l n number place) → CanBeTimed l n → HaveTheirArcs l → Differ l n (changed n number x.owner x.now.name) number
 differ_at l n number place x timed have = record {
   ports = refl;

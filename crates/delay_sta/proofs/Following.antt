@@ -119,8 +119,8 @@ module _ (l : Library) (n m : Netlist) (number : ℕ) (d : Differ l n m number) 
       let p = parts_of n (load n l) h.owner.name h.cell h.arc x h.is in (
         x.output,
         pin_class n sound number classes c x.output h.arc.to x.to
-        (subst (λ (o : Instance). Stands o.pins x.output h.arc.to) owner h.output)
-        (subst (λ (o : Instance). HasClass n (pin_of o.name h.arc.to) x.to) owner p.to),
+            (subst (λ (o : Instance). Stands o.pins x.output h.arc.to) owner h.output)
+            (subst (λ (o : Instance). HasClass n (pin_of o.name h.arc.to) x.to) owner p.to),
       )
 
   low : (x : TimedArc) (class : ℕ) → IsOwned n l x → x.to ≡ class → class < n.count

@@ -1,45 +1,22 @@
--- The arcs of instances are the steps of a netlist, and its arrivals the latest by them.
-use Rattle.std.proofs.Common.{◌≡◌, ◌⊎◌, inl, inr, ℕ, ◌+◌, ◌<◌, ◌≤◌, ◌^◌, Bool, true, false, cond, List, [], ◌∷◌, map, length, get_or, Option, Some, None, refl, sym, ap, ◌∙◌, subst, arith}
+-- The arcs of instances are the steps of a netlist, and the arrivals of its classes are in time.
+use Rattle.std.proofs.Common.{◌≡◌, ◌⊎◌, inl, inr, ℕ, ◌+◌, ◌<◌, Bool, true, false, cond, List, [], ◌∷◌, get_or, Option, Some, None, refl, sym, ap, ◌∙◌, subst, arith}
 use Rattle.std.specs.Bool.{MatchBool}
-use Rattle.std.specs.List.{flat_map, sum_by}
+use Rattle.std.specs.List.{sum_by}
 use Rattle.std.specs.Global.{Vec}
 use Rattle.std.proofs.lemmas.List.Sums.{sum_by-cons}
 use Rattle.vlsi_base.specs.declared.name.Name.{Name}
-use Rattle.vlsi_base.specs.declared.name.Port.{Port}
-use Rattle.vlsi_base.specs.declared.name.Terminal.{Terminal}
 use Rattle.cell_model.specs.Cell.{Function}
 use Rattle.cell_model.specs.Library.{Library}
-use Rattle.net_core.specs.Places.{Stands, IsThere}
-use Rattle.net_core.specs.Netlist.{Instance, Netlist, IsNetlist, port, pin_of, pins_of, terminals}
-use Rattle.net_core.proofs.Standing.{Split, left, right, split, stands_same}
-use Rattle.net_core.proofs.Frames.{mapped, unmapped, flat_split}
+use Rattle.net_core.specs.Places.{IsThere}
+use Rattle.net_core.specs.Netlist.{Netlist, IsNetlist, pin_of}
 use Rattle.net_core.proofs.Rings.{class_below}
 use Rattle.delay_sta.specs.declared.graph.TimedArc.{TimedArc}
 use Rattle.delay_sta.specs.Loads.{load}
-use Rattle.delay_sta.specs.Paths.{Step, Leads, starts, begins, goes_on, IsStep, BeginsThere, GoesThrough, IsStart, Arrives, IsGreatest, TakesTo}
-use Rattle.delay_sta.specs.Timed.{IsAnyStep, a_beginning, going_on, IsPathOrder}
-use Rattle.delay_sta.specs.Graph.{step_of, IsOwned, group_of, AreArcsOf, IsIn, IsGraph, later_by, arrival_by, IsBy, IsLatest, IsInTime, StartsIn, AreStartsOf, AreSettled}
-use Rattle.delay_sta.proofs.Differing.{Parts, parts_of, timed_of}
-
--- ---- pins
-
--- a pin that has a class is one of its instance
-pub pin_inside : (n : Netlist) → IsNetlist n → (k : ℕ) (owner : Instance) (pin : Name) → Stands n.instances k owner → IsThere (terminals n) (pin_of owner.name pin) → IsThere owner.pins pin
-pin_inside n sound k owner pin s t = by (split (map (λ (p : Port). port p.name) n.ports) (flat_map pins_of n.instances) t.0 (pin_of owner.name pin) t.1) where
-  by : Split (map (λ (p : Port). port p.name) n.ports) (flat_map pins_of n.instances) t.0 (pin_of owner.name pin) → IsThere owner.pins pin
-  by (left here) =
-      let u = unmapped (λ (p : Port). port p.name) n.ports t.0 (pin_of owner.name pin) here in
-      let no : None ≡ Some owner.name = ap (λ (q : Terminal). q.instance) u.2 in absurd cc
-  by (right j e there) =
-      let w = flat_split pins_of n.instances j (pin_of owner.name pin) there in
-      let u = unmapped (pin_of w.item.name) w.item.pins w.inner (pin_of owner.name pin) w.inside in
-      let owners : Some w.item.name ≡ Some owner.name = ap (λ (q : Terminal). q.instance) u.2 in
-      let named : w.item.name ≡ owner.name = cc in
-      let at : w.place ≡ k = sound.names w.place k owner.name
-      (subst (λ (m : List ℕ). Stands (map (λ (i : Instance). i.name) n.instances) w.place m) named (mapped (λ (i : Instance). i.name) n.instances w.place w.item w.stands))
-      (mapped (λ (i : Instance). i.name) n.instances k owner s) in
-      let same : w.item ≡ owner = stands_same n.instances k w.item owner (subst (λ i. Stands n.instances i w.item) at w.stands) s in
-      (w.inner, subst (λ (o : Instance). Stands o.pins w.inner pin) same (subst (λ (x : Name). Stands w.item.pins w.inner x) (ap (λ (q : Terminal). q.pin) u.2) u.1))
+use Rattle.delay_sta.specs.Paths.{Step, Leads, starts, begins, goes_on, IsStep, BeginsThere, GoesThrough, IsStart, Arrives, IsGreatest}
+use Rattle.delay_sta.specs.Graph.{step_of, IsOwned, group_of, AreArcsOf, later_by, arrival_by, IsBy, IsInTime, AreStartsOf}
+use Rattle.delay_sta.proofs.Differing.{parts_of, timed_of}
+use Rattle.delay_sta.proofs.Placing.{pin_of_class}
+use Rattle.delay_sta.proofs.Routes.{low_from}
 
 -- ---- arcs and steps
 
@@ -69,8 +46,8 @@ arc_for b s owner input output = record { from = s.from; to = s.to; delay = s.de
 pub owned_of : (n : Netlist) (l : Library) → IsNetlist n → (b : Bool) (s : Step) → IsStep n l (Allowed b) s → Owning n l b s
 unfolding arc_for
 owned_of n l sound b s h =
-    let i = pin_inside n sound h.listed.0 h.owner h.arc.from h.listed.1 (h.is.from.0, h.is.from.1) in
-    let o = pin_inside n sound h.listed.0 h.owner h.arc.to h.listed.1 (h.is.to.0, h.is.to.1) in
+    let i = pin_of_class n sound h.listed.0 h.owner h.listed.1 h.arc.from s.from h.is.from in
+    let o = pin_of_class n sound h.listed.0 h.owner h.listed.1 h.arc.to s.to h.is.to in
     record {
       arc = arc_for b s h.listed.0 i.0 o.0;
       is = record {
@@ -114,74 +91,6 @@ step_is n l x b e h =
         delay = p.delay;
       };
     }
-
-pub any_step : (n : Netlist) (l : Library) (x : TimedArc) → IsOwned n l x → IsAnyStep n l (step_of x)
-any_step n l x h = by x.begins refl where
-  by : (b : Bool) → x.begins ≡ b → IsAnyStep n l (step_of x)
-  by true e = a_beginning (step_is n l x true e h)
-  by false e = going_on (step_is n l x false e h)
-
-pub low_from : (n : Netlist) (l : Library) → IsNetlist n → (x : TimedArc) → IsOwned n l x → x.from < n.count
-low_from n l sound x h = class_below n sound (pin_of h.owner.name h.arc.from) x.from (parts_of n (load n l) h.owner.name h.cell h.arc x h.is).from
-
-pub low_to : (n : Netlist) (l : Library) → IsNetlist n → (x : TimedArc) → IsOwned n l x → x.to < n.count
-low_to n l sound x h = class_below n sound (pin_of h.owner.name h.arc.to) x.to (parts_of n (load n l) h.owner.name h.cell h.arc x h.is).to
-
--- ---- the graph
-
-module _ (n : Netlist) (l : Library) (arcs : List (Vec TimedArc)) (are : AreArcsOf n l arcs) where
-  behind_all : (order : List ℕ) → IsPathOrder n l order → (x y : TimedArc) (c d i j : ℕ) → IsThere (group_of arcs c) x → IsThere (group_of arcs d) y → x.begins ≡ false → x.from ≡ d → Stands order i c → Stands order j d → j < i
-  behind_all order ordered x y c d i j hx hy way e si sj =
-      let a = are.owned c x hx in
-      let b = are.owned d y hy in
-      ordered.behind (step_of x) (step_of y) i j (step_is n l x false way a.0) (any_step n l y b.0) (e ∙ sym b.1)
-      (subst (λ k. Stands order i k) (sym a.1) si) (subst (λ k. Stands order j k) (sym b.1) sj)
-
-  pub graph_is : IsNetlist n → (order : List ℕ) → IsPathOrder n l order → length order < 2 ^ 32 → IsGraph arcs order n.count
-  graph_is sound order ordered few = record {
-    many = are.many;
-    to = λ class x t. (are.owned class x t).1;
-    from = λ class x t. low_from n l sound x (are.owned class x t).0;
-    short = λ class x t. (are.owned class x t).2;
-    inside = ordered.inside;
-    once = ordered.once;
-    complete = ordered.complete;
-    behind = behind_all order ordered;
-    few = few;
-  }
-
-  in_step : (b : Bool) (s : Step) → IsIn arcs b s → IsStep n l (Allowed b) s
-  in_step b s h = subst (λ (u : Step). IsStep n l (Allowed b) u) h.is (step_is n l h.arc b h.way (are.owned h.arc.to h.arc h.listed).0)
-
-  step_in : IsNetlist n → (b : Bool) (s : Step) → IsStep n l (Allowed b) s → IsIn arcs b s
-  step_in sound b s h = let o = owned_of n l sound b s h in record { arc = o.arc; listed = are.complete o.arc o.is; way = o.way; is = o.step }
-
--- ---- paths by other words
-
-leads_by : (S T : ℕ → Type 0) (B C G H : Step → Type 0) → ((class : ℕ) → S class → T class) → ((s : Step) → B s → C s) → ((s : Step) → G s → H s)
-    → (class : ℕ) (path : List Step) → Leads S B G class path → Leads T C H class path
-leads_by S T B C G H f g h class _ (starts p) = starts (f class p)
-leads_by S T B C G H f g h _ _ (begins {s = s} p) = begins (g s p)
-leads_by S T B C G H f g h _ _ (goes_on {s = s} {path = path} lead p) = goes_on (leads_by S T B C G H f g h s.from path lead) (h s p)
-
-takes_by : (S T : ℕ → Type 0) (B C G H : Step → Type 0) → ((class : ℕ) → S class → T class) → ((s : Step) → B s → C s) → ((s : Step) → G s → H s)
-    → (class time : ℕ) → TakesTo S B G class time → TakesTo T C H class time
-takes_by S T B C G H f g h class time t = record { path = t.path; leads = leads_by S T B C G H f g h class t.path t.leads; sum = t.sum }
-
-greatest_by : (P Q : ℕ → Type 0) → ((d : ℕ) → P d → Q d) → ((d : ℕ) → Q d → P d) → (o : Option ℕ) → IsGreatest P o → IsGreatest Q o
-greatest_by P Q f g None h = λ d q. h d (g d q)
-greatest_by P Q f g (Some d) h = (f d h.0, λ e q. h.1 e (g e q))
-
--- ---- arrivals that are settled are those of the netlist
-
-pub arrivals_are : (n : Netlist) (l : Library) (arcs : List (Vec TimedArc)) → AreArcsOf n l arcs → IsNetlist n → (initial now : List (Option ℕ)) → AreStartsOf n initial → AreSettled arcs initial now
-    → (class : ℕ) → class < n.count → IsGreatest (Arrives n l class) (get_or now class None)
-arrivals_are n l arcs are sound initial now begun settled class low =
-    let m = begun.many in
-    greatest_by (TakesTo (StartsIn initial) (IsIn arcs true) (IsIn arcs false) class) (Arrives n l class)
-    (λ d p. takes_by (StartsIn initial) (IsStart n) (IsIn arcs true) (IsStep n l BeginsThere) (IsIn arcs false) (IsStep n l GoesThrough) (λ c h. (begun.each c).0 h) (in_step n l arcs are true) (in_step n l arcs are false) class d p)
-    (λ d p. takes_by (IsStart n) (StartsIn initial) (IsStep n l BeginsThere) (IsIn arcs true) (IsStep n l GoesThrough) (IsIn arcs false) (λ c h. (begun.each c).1 h) (step_in n l arcs are sound true) (step_in n l arcs are sound false) class d p)
-    (get_or now class None) (settled class (omega (arith, low, m)))
 
 -- ---- the arrivals of a netlist are in time
 

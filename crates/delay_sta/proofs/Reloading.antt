@@ -88,7 +88,7 @@ behind_sum l class is cs = sum_by (share class) (zip (flat_map (own l) is) cs)
 
 load_parts : (n : Netlist) (l : Library) (number : ℕ) (classes : List ℕ) (c : ArePinClasses n number classes) (class : ℕ)
     → load n l class ≡ before_sum l class n.ports (take number n.instances) c.front
-      + (pin_load (pins_at (cell_of l c.owner.model)) c.owner.pins classes class + behind_sum l class (drop (suc number) n.instances) c.back)
+    + (pin_load (pins_at (cell_of l c.owner.model)) c.owner.pins classes class + behind_sum l class (drop (suc number) n.instances) c.back)
 unfolding load
 load_parts n l number classes c class =
     ap (λ (rs : List ℕ). sum_by (share class) (zip rs n.classes)) (caps_by l n.ports n.instances number c.owner c.stands)
@@ -254,12 +254,6 @@ pub record GivenSoFar (rs cs old now : List ℕ) (k : ℕ) : Type 0 where
   pub each : (class : ℕ) → class < length old → get_or now class 0 ≡ get_or old class 0 + sum_by (share class) (take k (zip rs cs))
   pub small : (class : ℕ) → class < length old → get_or now class 0 ≤ get_or old class 0 + k * 4294967296
   pub short : (j : ℕ) → j < k → get_or rs j 0 < 2 ^ 32
-
-pub taken_none : (rs cs old : List ℕ) → TakenSoFar rs cs old old 0
-taken_none rs cs old = record { many = refl; each = λ class l. omega arith }
-
-pub given_none : (rs cs old : List ℕ) → GivenSoFar rs cs old old 0
-given_none rs cs old = record { many = refl; each = λ class l. omega arith; small = λ class l. omega arith; short = λ j l. absurd (omega (arith, l)) }
 
 pushed : (rs cs : List ℕ) (k : ℕ) → length rs ≡ length cs → k < length cs → (class : ℕ)
     → sum_by (share class) (take (k + 1) (zip rs cs)) ≡ sum_by (share class) (take k (zip rs cs)) + share class (get_or rs k 0, get_or cs k 0)

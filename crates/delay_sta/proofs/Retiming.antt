@@ -29,47 +29,7 @@ use Rattle.delay_sta.proofs.Differing.{stands_set, stands_other, stands_back, ap
 abbrev pub LacksArc : List Arc → Name → Name → ℕ → Type 0
 LacksArc arcs from to k = (j : ℕ) (a : Arc) → j < k → Stands arcs j a → a.from ≡ from → a.to ≡ to → ⊥
 
-pub arc_passed : (arcs : List Arc) (from to : Name) (k : ℕ) (a : Arc) → k < length arcs → a ≡ get_or arcs k a → LacksArc arcs from to k → ((a.from ≡ from) × (a.to ≡ to) → ⊥) → LacksArc arcs from to (k + 1)
-arc_passed arcs from to k a l at before apart j b m s f t = by (cases_lt j k) where
-  by : (j < k) ⊎ (k ≤ j) → ⊥
-  by (inl less) = before j b less s f t
-  by (inr more) =
-      let same : j ≡ k = omega (arith, m, more) in
-      let as_arc : b ≡ a = stands_same arcs k b a (subst (λ i. Stands arcs i b) same s) (slice_get_read arcs (length arcs) k a refl l at) in
-      apart (ap (λ (c : Arc). c.from) (sym as_arc) ∙ f, ap (λ (c : Arc). c.to) (sym as_arc) ∙ t)
-
-pub arc_found : (arcs : List Arc) (from to : Name) (k load time : ℕ) (a b : Arc) → k < length arcs → a ≡ get_or arcs k a → (a.from ≡ from) × (a.to ≡ to) → time ≡ arc_delay a load → IsOnlyArc arcs from to b → time ≡ arc_delay b load
-arc_found arcs from to k load time a b l at is e only =
-    e ∙ ap (λ (c : Arc). arc_delay c load) (only.once a (k, slice_get_read arcs (length arcs) k a refl l at) is.0 is.1)
-
-pub arc_absent : (arcs : List Arc) (from to : Name) (k : ℕ) (b : Arc) → length arcs ≤ k → LacksArc arcs from to k → IsOnlyArc arcs from to b → ⊥
-arc_absent arcs from to k b all lacks only =
-    let w = slice_get_within arcs only.has.0 b only.has.1 in
-    lacks only.has.0 b (omega (arith, w, all)) only.has.1 only.leaves only.enters
-
--- ---- the cell and the pins of a node
-
-pub record NodeAt (n : Netlist) (l : Library) (cells : List Cell) (places : List ℕ) (node : Node) (i : Instance) : Type 0 where
-  pub owner : i ≡ instance_of n.models node
-  pub known : node.model < length places
-  pub cell : slice_get cells (slice_index places node.model) ≡ cell_of l i.model
-
-pub node_at : (n : Netlist) (l : Library) (cells : List Cell) (nodes : List Node) (places : List ℕ) (k : ℕ) (node : Node) (i : Instance) → cells ≡ l.cells
-    → map (instance_of n.models) nodes ≡ n.instances → All (λ (d : Node). d.model < length n.models) nodes → AreFound cells n.models places → k < length nodes → node ≡ get_or nodes k node
-    → Stands n.instances k i → NodeAt n l cells places node i
-node_at n l cells nodes places k node i same seen known found low at s = record {
-  owner = owner;
-  known = let m = found.many in let k = less in omega (arith, m, k);
-  cell = found.each node.model less ∙ ap (λ (cs : List Cell). cell_named cs (get_or n.models node.model [])) same ∙ ap (λ (o : Instance). cell_of l o.model) (sym owner);
-} where
-  here : Stands nodes k node
-  here = slice_get_read nodes (length nodes) k node refl low at
-
-  owner : i ≡ instance_of n.models node
-  owner = stands_same n.instances k i (instance_of n.models node) s (subst (λ (is : List Instance). Stands is k (instance_of n.models node)) seen (mapped (instance_of n.models) nodes k node here))
-
-  less : node.model < length n.models
-  less = subst (λ (d : Node). d.model < length n.models) (sym at) (known k node low)
+-- ---- nodes
 
 pub node_low : (n : Netlist) (nodes : List Node) (k : ℕ) (i : Instance) → map (instance_of n.models) nodes ≡ n.instances → Stands n.instances k i → k < length nodes
 node_low n nodes k i seen s =
@@ -82,18 +42,21 @@ node_low n nodes k i seen s =
 
 -- the same arc, after another time
 pub placed_as : (n : Netlist) (l : Library) (x y : TimedArc) → y ≡ with_delay x y.delay → (p : IsPlaced n l x) → (q : IsPlaced n l y) × (q.arc ≡ p.arc)
-placed_as n l x y e p = subst (λ (z : TimedArc). (q : IsPlaced n l z) × (q.arc ≡ p.arc)) (sym e) (record {
-  owner = p.owner;
-  stands = p.stands;
-  cell = p.cell;
-  found = p.found;
-  input = p.input;
-  output = p.output;
-  begins_at = p.begins_at;
-  ends_at = p.ends_at;
-  arc = p.arc;
-  only = p.only;
-}, refl)
+placed_as n l x y e p = subst (λ (z : TimedArc). (q : IsPlaced n l z) × (q.arc ≡ p.arc)) (sym e) (
+  record {
+    owner = p.owner;
+    stands = p.stands;
+    cell = p.cell;
+    found = p.found;
+    input = p.input;
+    output = p.output;
+    begins_at = p.begins_at;
+    ends_at = p.ends_at;
+    arc = p.arc;
+    only = p.only;
+  },
+  refl,
+)
 
 -- the arc of an arc's place
 pub placed_once : (n : Netlist) (l : Library) (x : TimedArc) (p q : IsPlaced n l x) → p.arc ≡ q.arc
@@ -120,9 +83,6 @@ pub record RetimedSoFar (n : Netlist) (l : Library) (load : ℕ) (old now : List
   pub many : length now ≡ length old
   pub done : (j : ℕ) (x y : TimedArc) → j < k → Stands old j x → Stands now j y → IsRetimed n l load x y
   pub rest : (j : ℕ) (x : TimedArc) → k ≤ j → Stands old j x → Stands now j x
-
-pub retimed_none : (n : Netlist) (l : Library) (load : ℕ) (old : List TimedArc) → RetimedSoFar n l load old old 0
-retimed_none n l load old = record { many = refl; done = λ j x y low s t. absurd (omega (arith, low)); rest = λ j x low s. s }
 
 pub retimed_step : (n : Netlist) (l : Library) (load : ℕ) (old now : List TimedArc) (k time : ℕ) (x : TimedArc) → RetimedSoFar n l load old now k → Stands now k x → (p : IsPlaced n l x)
     → time < 2 ^ 96 → time ≡ arc_delay p.arc load → RetimedSoFar n l load old (slice_set now k (with_delay x time)) (k + 1)
@@ -165,14 +125,6 @@ pub record ChangedSoFar (n : Netlist) (l : Library) (loads classes : List ℕ) (
   pub either : (class : ℕ) → (group_of now class ≡ group_of old class) ⊎ AreRetimed n l (get_or loads class 0) (group_of old class) (group_of now class)
   pub changed : (j class : ℕ) → j < k → Stands classes j class → AreRetimed n l (get_or loads class 0) (group_of old class) (group_of now class)
   pub others : (class : ℕ) → (IsThere classes class → ⊥) → group_of now class ≡ group_of old class
-
-pub changed_none : (n : Netlist) (l : Library) (loads classes : List ℕ) (old : List (Vec TimedArc)) → ChangedSoFar n l loads classes old old 0
-changed_none n l loads classes old = record {
-  many = refl;
-  either = λ class. inl refl;
-  changed = λ j class low s. absurd (omega (arith, low));
-  others = λ class lacks. refl;
-}
 
 are_through : (n : Netlist) (l : Library) (load : ℕ) (xs ys zs : List TimedArc) → AreRetimed n l load xs ys → AreRetimed n l load ys zs → AreRetimed n l load xs zs
 are_through n l load xs ys zs h g = record {

@@ -62,7 +62,7 @@ fn take_loads(loads: &mut [u64], classes: &[u32], names: &[Name], pins: &[Pin])
 fn give_loads(loads: &mut [u64], classes: &[u32], names: &[Name], pins: &[Pin])
     requires each { length names.now ≡ length classes.now }
     requires inside { All (λ class. class < length loads.old) classes.now }
-    requires room { (class : ℕ) → class < length loads.old → slice_index loads.old class + length names.now * 4294967296 < 2 ^ 64 }
+    requires room { (class : ℕ) → class < length loads.old → slice_index loads.old class + length names.now * 2 ^ 32 < 2 ^ 64 }
     ensures many { length loads.new ≡ length loads.old }
     ensures each { (class : ℕ) → class < length loads.old
         → slice_index loads.new class ≡ slice_index loads.old class + pin_load pins.now names.now classes.now class }
@@ -109,7 +109,12 @@ fn time_of(
     let node = &netlist.nodes()[arc.owner];
     let cell = &library.cells()[places[node.model]];
     let pins = node.pins.as_slice();
-    time_between(cell.arcs.as_slice(), &pins[arc.input], &pins[arc.output], load)
+    time_between(
+        cell.arcs.as_slice(),
+        &pins[arc.input],
+        &pins[arc.output],
+        load,
+    )
 }
 
 /// Gives the arcs to one class the times that they take with its load.
@@ -181,13 +186,7 @@ fn change_loads(
 impl Delays {
     /// Puts the cell at a place of the library in the place of an instance's, by its number; the delays are then those of the changed
     /// netlist. What is marked stays marked. Takes no memory, and time for each class, and for the arcs at the instance's pins.
-    pub fn exchange(
-        &mut self,
-        netlist: &mut Netlist,
-        library: &Library,
-        number: u32,
-        place: usize,
-    )
+    pub fn exchange(&mut self, netlist: &mut Netlist, library: &Library, number: u32, place: usize)
         requires sound { IsNetlist netlist.old }
         requires timed { CanBeTimed library.now netlist.old }
         requires arcs { HaveTheirArcs library.now }
@@ -202,8 +201,20 @@ impl Delays {
         change_loads(&mut self.loads, netlist, library, number, (was, place));
         netlist.set_model(number, &library.cells()[place].name);
         let classes = pin_classes(netlist, number);
-        change_arcs(&mut self.arcs, netlist, library, classes, (&self.places, &self.loads));
+        change_arcs(
+            &mut self.arcs,
+            netlist,
+            library,
+            classes,
+            (&self.places, &self.loads),
+        );
         mark(&mut self.stale, classes);
-        settle(&mut self.arrivals, &mut self.stale, &self.starts, &self.order, (&self.arcs, &self.reached));
+        settle(
+            &mut self.arrivals,
+            &mut self.stale,
+            &self.starts,
+            &self.order,
+            (&self.arcs, &self.reached),
+        );
     }
 }

@@ -66,6 +66,7 @@ returns c =
       counted = (c.in_ok-arrivals.ensures.many.0 ∙ size, c.in_ok-loads.ensures.many);
       arrivals = arrivals_of n l sound arcs c.in_ok-order.order.items are c.in_ok-order.ensures old now c.in_ok-starts.ensures settled;
       loads = c.in_ok-loads.ensures.loads;
+      short = c.in_ok-loads.ensures.short;
       ends = c.in_ok-ends.ensures;
       order = c.in_ok-order.ensures;
       starts = c.in_ok-starts.ensures;
