@@ -8,6 +8,7 @@ pub mod Passing
 pub mod Placing
 pub mod Reaching
 pub mod Routes
+pub mod Resting
 pub mod Edges
 pub mod Finding
 pub mod Exact

@@ -229,3 +229,12 @@ module _ (n : Netlist) (l : Library) (sound : IsNetlist n) (groups : List (Vec T
       (λ d p. takes_as (StartsIn old) (IsStart n) (IsIn groups true) (IsStep n l BeginsThere) (IsIn groups false) (IsStep n l GoesThrough) (λ c h. (starts_are.each c).0 h) begins_in goes_in class d p)
       (λ d p. takes_as (IsStart n) (StartsIn old) (IsStep n l BeginsThere) (IsIn groups true) (IsStep n l GoesThrough) (IsIn groups false) (λ c h. (starts_are.each c).1 h) in_begins in_goes class d p)
       (get_or now class None) (settled class (omega (arith, low, m)))
+
+  -- and back: the greatest arrivals of the netlist are those of the graph
+  pub settled_of : (old now : List (Option ℕ)) → AreStartsOf n old → ((class : ℕ) → class < n.count → IsGreatest (Arrives n l class) (get_or now class None)) → AreSettled groups old now
+  settled_of old now starts_are greatest class low =
+      let m = starts_are.many in
+      greatest_as (Arrives n l class) (TakesTo (StartsIn old) (IsIn groups true) (IsIn groups false) class)
+      (λ d p. takes_as (IsStart n) (StartsIn old) (IsStep n l BeginsThere) (IsIn groups true) (IsStep n l GoesThrough) (IsIn groups false) (λ c h. (starts_are.each c).1 h) in_begins in_goes class d p)
+      (λ d p. takes_as (StartsIn old) (IsStart n) (IsIn groups true) (IsStep n l BeginsThere) (IsIn groups false) (IsStep n l GoesThrough) (λ c h. (starts_are.each c).0 h) begins_in goes_in class d p)
+      (get_or now class None) (greatest class (omega (arith, low, m)))
