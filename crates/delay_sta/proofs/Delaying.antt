@@ -1,23 +1,19 @@
 -- The delays of a netlist behind an exchange.
-use Rattle.std.proofs.Common.{◌≡◌, ◌⊎◌, inl, inr, ℕ, ◌+◌, ◌<◌, ◌≤◌, ◌^◌, Bool, true, false, List, [], ◌∷◌, length, get_or, Option, Some, None, refl, sym, ap, ◌∙◌, subst, arith}
+use Rattle.std.proofs.Common.{◌≡◌, ◌⊎◌, inl, inr, ℕ, ◌+◌, ◌<◌, ◌≤◌, ◌^◌, Bool, true, false, List, [], ◌∷◌, length, get_or, Option, None, refl, sym, ap, ◌∙◌, subst, arith}
 use Rattle.std.specs.Prelude.{◌↔◌, slice_index}
-use Rattle.std.specs.List.{All}
 use Rattle.std.specs.Global.{Vec}
-use Rattle.std.proofs.lemmas.List.{length-append}
 use Rattle.cell_model.specs.Library.{Library}
-use Rattle.net_core.specs.Places.{Stands, IsThere}
+use Rattle.net_core.specs.Places.{IsThere}
 use Rattle.net_core.specs.Netlist.{Netlist, IsNetlist, InTurn, ended, again, first}
-use Rattle.net_core.proofs.Rings.{each_there}
 use Rattle.delay_sta.specs.declared.arrivals.Delays.{Delays}
 use Rattle.delay_sta.specs.declared.graph.TimedArc.{TimedArc}
-use Rattle.delay_sta.specs.Loads.{load}
 use Rattle.delay_sta.specs.Paths.{Arrives, IsEnd, IsGreatest}
 use Rattle.delay_sta.specs.Timed.{CanBeTimed, IsPathOrder, AreDelaysOf}
-use Rattle.delay_sta.specs.Graph.{AreFound, AreArcsOf, AreReached, AreStartsOf, AreStarts, AreSettled, AreInTime, AreSources, IsGraph, IsLatest, arrival_by, group_of}
+use Rattle.delay_sta.specs.Graph.{AreFound, AreArcsOf, AreReached, AreStartsOf, AreSettled, AreInTime, AreSources, IsGraph, IsLatest, group_of}
 use Rattle.delay_sta.specs.Exchanged.{HaveTheirArcs, IsExchangeAt, IsSetTo}
 use Rattle.delay_sta.specs.Changes.{ArePinClasses, AreLoads, IsPlaced, AreRetimed}
 use Rattle.delay_sta.proofs.Differing.{Differ, flip, differ_of, AllArcs, all_arcs, all_arcs_over}
-use Rattle.delay_sta.proofs.Owned.{in_time}
+use Rattle.delay_sta.proofs.Resting.{delays_in_time, delays_sources}
 use Rattle.delay_sta.proofs.Reloading.{over_classes}
 use Rattle.delay_sta.proofs.Routes.{graph_of, arrivals_of}
 use Rattle.delay_sta.proofs.Following.{there_or_not, order_over, starts_over, ends_over, placed_over, arcs_over, reached_over}
@@ -61,7 +57,7 @@ changed_as m l loads ls classes old os new e f many changed others =
     subst (λ (z : List ℕ). Changed m l z classes old new) e (subst (λ (z : List (Vec TimedArc)). Changed m l ls classes z new) f (record { many = many; changed = changed; others = others }))
 
 module _ (l : Library) (n m : Netlist) (number place : ℕ) (x : IsExchangeAt l n number place) (set : IsSetTo l n m number place) (timed : CanBeTimed l n) (have : HaveTheirArcs l)
-    (sound : IsNetlist n) (now_sound : IsNetlist m) (d : Delays) (are : AreDelaysOf n l d) (classes : List ℕ) (own : ArePinClasses m number classes) where
+    (sound : IsNetlist n) (now_sound : IsNetlist m) (d : Delays) (are : AreDelaysOf n l d) (classes : List ℕ) (own : ArePinClasses m number classes) (few : length m.classes < 2 ^ 32) where
   differ : Differ l n m number
   differ = differ_of l n m number place x set timed have
 
@@ -80,9 +76,8 @@ module _ (l : Library) (n m : Netlist) (number place : ℕ) (x : IsExchangeAt l 
   pub cells_found : AreFound l.cells m.models d.places.items
   cells_found = subst (λ (ms : List (List ℕ)). AreFound l.cells ms d.places.items) (sym differ.models) are.places
 
-  -- the delays before were settled
-  old_in_time : (class : ℕ) → class < n.count → IsLatest (get_or d.starts.items class None) d.arrivals.items (group_of d.arcs.items class) (get_or d.arrivals.items class None)
-  old_in_time class low = in_time n l sound d.arcs.items d.starts.items d.arrivals.items are.arcs are.starts are.arrivals class low
+  few_classes : n.count < 2 ^ 32
+  few_classes = let t = turn_few 0 m.count m.classes now_sound.turns in let e = differ.count in omega (arith, t, e, few)
 
   pub now_starts : AreStartsOf m d.starts.items
   now_starts = starts_over l n m number differ d.starts.items are.starts
@@ -101,29 +96,22 @@ module _ (l : Library) (n m : Netlist) (number place : ℕ) (x : IsExchangeAt l 
   now_reached loads new known c = reached_over l n m number differ sound whole classes old_own loads d.arcs.items new are.arcs c.many
       (λ class low. known.each class (subst (λ k. class < k) (sym differ.count) low)) c.changed c.others d.reached.items are.reached
 
-  pub now_graph : (loads : List ℕ) (new : List (Vec TimedArc)) → AreLoads m l loads → Changed m l loads classes d.arcs.items new → length m.classes < 2 ^ 32 → IsGraph new d.order.items (length d.arrivals.items)
-  now_graph loads new known c few =
-      let t = turn_few 0 m.count m.classes now_sound.turns in
-      subst (λ k. IsGraph new d.order.items k) (differ.count ∙ sym are.counted.0) (graph_of m l now_sound new d.order.items (now_arcs loads new known c) now_order (omega (arith, t, few)))
+  pub now_graph : (loads : List ℕ) (new : List (Vec TimedArc)) → AreLoads m l loads → Changed m l loads classes d.arcs.items new → IsGraph new d.order.items (length d.arrivals.items)
+  now_graph loads new known c =
+      let e = differ.count in
+      let f = few_classes in
+      subst (λ k. IsGraph new d.order.items k) (differ.count ∙ sym are.counted.0) (graph_of m l now_sound new d.order.items (now_arcs loads new known c) now_order (omega (arith, e, f)))
 
   pub now_sources : (loads : List ℕ) (new : List (Vec TimedArc)) → Changed m l loads classes d.arcs.items new → AreSources new d.starts.items d.arrivals.items
-  now_sources loads new c class low empty = by (old_in_time class inside).is where
-    inside : class < n.count
-    inside = let a = c.many in let b = are.arcs.many in omega (arith, low, a, b)
-
-    was_empty : (xs : List TimedArc) → (group_of d.arcs.items class ≡ xs) → group_of d.arcs.items class ≡ []
-    was_empty [] e = e
-    was_empty (y ∷ xs) e = absurd (elim (there_or_not classes class) [
-      | inl t ↦ let r = (c.changed class t).many in let f = ap length e in let g = ap length empty in omega (arith, r, f, g)
-      | inr lacks ↦ let r = ap length (c.others class lacks) in let f = ap length e in let g = ap length empty in omega (arith, r, f, g)
-    ])
-
-    by : (get_or d.arrivals.items class None ≡ get_or d.starts.items class None) ⊎ ((y : TimedArc) × IsThere (group_of d.arcs.items class) y × (get_or d.arrivals.items class None ≡ arrival_by d.arrivals.items y))
-        → get_or d.arrivals.items class None ≡ get_or d.starts.items class None
-    by (inl e) = e
-    by (inr w) =
-        let t = subst (λ (xs : List TimedArc). IsThere xs w.0) (was_empty (group_of d.arcs.items class) refl) w.1 in
-        let s : None ≡ Some w.0 = t.1 in absurd cc
+  now_sources loads new c class low empty =
+      let a = c.many in
+      delays_sources n l sound d few_classes are class (omega (arith, low, a)) (was_empty (group_of d.arcs.items class) refl) where
+        was_empty : (xs : List TimedArc) → (group_of d.arcs.items class ≡ xs) → group_of d.arcs.items class ≡ []
+        was_empty [] e = e
+        was_empty (y ∷ xs) e = absurd (elim (there_or_not classes class) [
+          | inl t ↦ let r = (c.changed class t).many in let f = ap length e in let g = ap length empty in omega (arith, r, f, g)
+          | inr lacks ↦ let r = ap length (c.others class lacks) in let f = ap length e in let g = ap length empty in omega (arith, r, f, g)
+        ])
 
   pub now_rest : (loads : List ℕ) (new : List (Vec TimedArc)) (stale : List Bool) → AreLoads m l loads → Changed m l loads classes d.arcs.items new
       → ((class : ℕ) → IsThere classes class → get_or stale class false ≡ true) → AreInTime new d.starts.items d.arrivals.items stale
@@ -133,7 +121,7 @@ module _ (l : Library) (n m : Netlist) (number place : ℕ) (x : IsExchangeAt l 
 
     by : IsThere classes class ⊎ (IsThere classes class → ⊥) → IsLatest (get_or d.starts.items class None) d.arrivals.items (group_of new class) (get_or d.arrivals.items class None)
     by (inl t) = let no : true ≡ false = sym (marked class t) ∙ fresh in absurd cc
-    by (inr lacks) = subst (λ (xs : List TimedArc). IsLatest (get_or d.starts.items class None) d.arrivals.items xs (get_or d.arrivals.items class None)) (sym (c.others class lacks)) (old_in_time class inside)
+    by (inr lacks) = subst (λ (xs : List TimedArc). IsLatest (get_or d.starts.items class None) d.arrivals.items xs (get_or d.arrivals.items class None)) (sym (c.others class lacks)) (delays_in_time n l sound d few_classes are class inside)
 
   pub now_arrivals : (loads : List ℕ) (new : List (Vec TimedArc)) → AreLoads m l loads → Changed m l loads classes d.arcs.items new → (arrivals : List (Option ℕ)) → AreSettled new d.starts.items arrivals
       → (class : ℕ) → class < m.count → IsGreatest (Arrives m l class) (get_or arrivals class None)

@@ -1,5 +1,5 @@
 -- Two netlists that differ in the cell of one instance: what one has of the other.
-use Rattle.std.proofs.Common.{◌≡◌, ◌≢◌, ◌⊎◌, inl, inr, ℕ, zero, suc, Bool, true, false, List, [], ◌∷◌, map, take, drop, nat_eq, Some, refl, sym, ap, ◌∙◌, subst}
+use Rattle.std.proofs.Common.{◌≡◌, ◌≢◌, inl, inr, ℕ, zero, suc, Bool, true, false, List, [], ◌∷◌, take, drop, nat_eq, Some, refl, sym, ap, ◌∙◌, subst}
 use Rattle.std.specs.Prelude.{slice_set}
 use Rattle.std.specs.Bool.{MatchBool}
 use Rattle.std.proofs.lemmas.Bool.{eqb-true, eq-eqb}
@@ -227,7 +227,7 @@ way_begins : (f : Function) (b : Bool) (pin : Name) → MatchBool b (BeginsThere
 way_begins f true pin h = inl h
 way_begins f false pin h = inr h
 
-has_too : (c d : Cell) → pin_ports d ≡ pin_ports c → (way : Dir) (name : Name) → HasPin c.pins way name → HasPin d.pins way name
+pub has_too : (c d : Cell) → pin_ports d ≡ pin_ports c → (way : Dir) (name : Name) → HasPin c.pins way name → HasPin d.pins way name
 has_too c d same way name h =
     let s = subst (λ (ps : List Port). Stands ps h.listed.0 h.pin.port) (sym same) (mapped (λ (p : Pin). p.port) c.pins h.listed.0 h.pin h.listed.1) in
     let u = unmapped (λ (p : Pin). p.port) d.pins h.listed.0 h.pin.port s in

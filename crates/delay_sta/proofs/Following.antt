@@ -1,8 +1,8 @@
 -- What is known of a netlist's delays goes over to one that differs in the cell of one instance.
-use Rattle.std.proofs.Common.{◌≡◌, ◌≢◌, ◌⊎◌, inl, inr, ℕ, zero, suc, ◌+◌, ◌<◌, ◌≤◌, Bool, true, false, List, [], ◌∷◌, length, get_or, nat_eq, Option, Some, None, refl, sym, ap, ◌∙◌, subst, arith}
+use Rattle.std.proofs.Common.{◌≡◌, ◌⊎◌, inl, inr, ℕ, zero, suc, ◌<◌, Bool, true, false, List, [], ◌∷◌, length, nat_eq, Option, Some, None, refl, sym, ap, ◌∙◌, subst, arith}
 use Rattle.std.specs.Prelude.{◌↔◌, slice_index}
 use Rattle.std.specs.Global.{Vec}
-use Rattle.std.proofs.lemmas.Bool.{eqb-true, eq-eqb}
+use Rattle.std.proofs.lemmas.Bool.{eqb-true}
 use Rattle.std.proofs.lemmas.Option.{slice_get_within}
 use Rattle.vlsi_base.specs.declared.name.Name.{Name}
 use Rattle.vlsi_base.specs.declared.name.Port.{Port}
@@ -16,11 +16,11 @@ use Rattle.net_core.proofs.Rings.{at_place, class_below}
 use Rattle.delay_sta.specs.declared.graph.TimedArc.{TimedArc}
 use Rattle.delay_sta.specs.Arcs.{arc_delay}
 use Rattle.delay_sta.specs.Loads.{load}
-use Rattle.delay_sta.specs.Paths.{Step, IsStep, BeginsThere, GoesThrough, IsStart, IsEnd, at_port, at_data}
+use Rattle.delay_sta.specs.Paths.{Step, IsStep, IsEnd, at_port, at_data}
 use Rattle.delay_sta.specs.Timed.{IsAnyStep, a_beginning, going_on, IsPathOrder}
-use Rattle.delay_sta.specs.Graph.{step_of, IsOwned, IsShort, group_of, numbers_of, AreArcsOf, AreReached, AreStartsOf, StartsIn, data_pin}
+use Rattle.delay_sta.specs.Graph.{step_of, IsOwned, IsShort, group_of, numbers_of, AreArcsOf, AreReached, AreStartsOf, data_pin}
 use Rattle.delay_sta.specs.Changes.{ArePinClasses, IsPlaced, IsRetimed, AreRetimed}
-use Rattle.delay_sta.proofs.Differing.{Differ, flip, has_over, start_over, apart_of, Parts, parts_of, with_delay, Moved, moved, owned_kept, AllArcs, placed_of}
+use Rattle.delay_sta.proofs.Differing.{Differ, flip, has_over, start_over, apart_of, parts_of, with_delay, moved, owned_kept, AllArcs, placed_of}
 use Rattle.delay_sta.proofs.Owned.{Allowed, owned_of, step_is}
 use Rattle.delay_sta.proofs.Reloading.{load_off, pin_class}
 use Rattle.delay_sta.proofs.Retiming.{placed_as}

@@ -1,5 +1,5 @@
 -- The classes of an instance's pins among those of all terminals.
-use Rattle.std.proofs.Common.{◌≡◌, ℕ, zero, suc, ◌+◌, ◌<◌, ◌≤◌, List, [], ◌∷◌, ◌++◌, map, length, get_or, take, drop, Some, refl, sym, ap, ◌∙◌, subst, arith}
+use Rattle.std.proofs.Common.{◌≡◌, ℕ, zero, suc, ◌+◌, ◌<◌, ◌≤◌, List, [], ◌∷◌, ◌++◌, map, length, get_or, take, drop, refl, sym, ap, ◌∙◌, subst, arith}
 use Rattle.std.specs.List.{All, flat_map}
 use Rattle.std.proofs.lemmas.List.{length-map, length-append, length-take, length-drop, take-append-drop}
 use Rattle.std.proofs.lemmas.List.Concat.{flat_map-append}
@@ -7,8 +7,8 @@ use Rattle.std.proofs.lemmas.Option.{slice_get_read, slice_get-get_or, slice_get
 use Rattle.vlsi_base.specs.declared.name.Port.{Port}
 use Rattle.net_core.specs.declared.frame.Node.{Node}
 use Rattle.net_core.specs.Places.{Stands}
-use Rattle.net_core.specs.Frame.{instance_of, node_pins, AreNumbered}
-use Rattle.net_core.specs.Netlist.{Instance, Netlist, IsNetlist, port, pin_of, pins_of, terminals, terminals_of}
+use Rattle.net_core.specs.Frame.{instance_of, AreNumbered}
+use Rattle.net_core.specs.Netlist.{Instance, Netlist, IsNetlist, port, pin_of, pins_of, terminals_of}
 use Rattle.net_core.proofs.Frames.{mapped, terminals_count}
 use Rattle.net_core.proofs.Namings.{turn_below}
 use Rattle.net_core.proofs.Standing.{stands_left, stands_right}

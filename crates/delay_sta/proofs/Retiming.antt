@@ -1,26 +1,24 @@
 -- Arcs that take another time than before, and are else as they were.
-use Rattle.std.proofs.Common.{◌≡◌, ◌⊎◌, inl, inr, ℕ, zero, suc, ◌+◌, ◌^◌, ◌<◌, ◌≤◌, Bool, true, false, List, [], ◌∷◌, map, length, get_or, nat_eq, Option, Some, refl, sym, ap, ◌∙◌, subst, arith}
-use Rattle.std.specs.Prelude.{slice_set, slice_get, slice_index}
-use Rattle.std.specs.List.{All}
+use Rattle.std.proofs.Common.{◌≡◌, ◌⊎◌, inl, inr, ℕ, zero, suc, ◌+◌, ◌^◌, ◌<◌, ◌≤◌, Bool, true, false, List, [], ◌∷◌, map, length, get_or, nat_eq, Some, refl, sym, ap, ◌∙◌, subst, arith}
+use Rattle.std.specs.Prelude.{slice_set}
 use Rattle.std.specs.Global.{Vec}
-use Rattle.std.proofs.lemmas.List.{length-map, length-set, get_or-map, get_or-set_same, get_or-set_other}
-use Rattle.std.proofs.lemmas.Bool.{cases_lt, eqb-true, eq-eqb}
-use Rattle.std.proofs.lemmas.Option.{slice_get_within, slice_get_read, slice_get-get_or, get_or_from_slice_get}
+use Rattle.std.proofs.lemmas.List.{length-map, length-set, get_or-map, get_or-set_same}
+use Rattle.std.proofs.lemmas.Bool.{cases_lt, eqb-true}
+use Rattle.std.proofs.lemmas.Option.{slice_get_within}
 use Rattle.vlsi_base.specs.declared.name.Name.{Name}
 use Rattle.cell_model.specs.declared.cell.Arc.{Arc}
 use Rattle.cell_model.specs.Cell.{Cell}
-use Rattle.cell_model.specs.Library.{Library, cell_named, cell_of}
+use Rattle.cell_model.specs.Library.{Library, cell_of}
 use Rattle.net_core.specs.declared.frame.Node.{Node}
 use Rattle.net_core.specs.Places.{Stands, IsThere}
 use Rattle.net_core.specs.Frame.{instance_of}
 use Rattle.net_core.specs.Netlist.{Instance, Netlist}
-use Rattle.net_core.proofs.Frames.{mapped}
 use Rattle.net_core.proofs.Rings.{at_place}
 use Rattle.net_core.proofs.Standing.{stands_same}
 use Rattle.delay_sta.specs.declared.graph.TimedArc.{TimedArc}
 use Rattle.delay_sta.specs.Arcs.{arc_delay}
-use Rattle.delay_sta.specs.Graph.{AreFound, IsShort, group_of}
-use Rattle.delay_sta.specs.Changes.{IsOnlyArc, IsPlaced, IsRetimed, AreRetimed}
+use Rattle.delay_sta.specs.Graph.{group_of}
+use Rattle.delay_sta.specs.Changes.{IsPlaced, IsRetimed, AreRetimed}
 use Rattle.delay_sta.proofs.Differing.{stands_set, stands_other, stands_back, apart_of, with_delay}
 
 -- ---- the arc between two pins

@@ -1,6 +1,5 @@
 -- The loads of a netlist behind an exchange.
 use Rattle.std.proofs.Common.{◌≡◌, ℕ, ◌+◌, ◌*◌, ◌^◌, ◌<◌, ◌≤◌, List, map, length, get_or, refl, sym, ap, ◌∙◌, subst, arith}
-use Rattle.std.specs.Prelude.{slice_index}
 use Rattle.std.specs.List.{All}
 use Rattle.vlsi_base.specs.declared.name.Name.{Name}
 use Rattle.cell_model.specs.declared.cell.Pin.{Pin}
@@ -13,8 +12,8 @@ use Rattle.net_core.specs.Frame.{instance_of}
 use Rattle.net_core.specs.Places.{Stands}
 use Rattle.net_core.proofs.Frames.{mapped}
 use Rattle.net_core.proofs.Standing.{stands_same}
-use Rattle.std.proofs.lemmas.Option.{slice_get_read, slice_get_within, get_or_from_slice_get}
-use Rattle.delay_sta.specs.Loads.{input_capacitance, load}
+use Rattle.std.proofs.lemmas.Option.{slice_get_read, get_or_from_slice_get}
+use Rattle.delay_sta.specs.Loads.{input_capacitance}
 use Rattle.delay_sta.specs.Timed.{CanBeTimed}
 use Rattle.delay_sta.specs.Exchanged.{HaveTheirArcs, IsExchangeAt, IsSetTo}
 use Rattle.delay_sta.specs.Changes.{pin_load, ArePinClasses, AreLoads}
