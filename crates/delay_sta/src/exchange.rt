@@ -58,7 +58,7 @@ fn take_loads(loads: &mut [u64], classes: &[u32], names: &[Name], pins: &[Pin])
     }
 }
 
-/// The loads with those of such pins.
+/// The loads with those of pins with these names and classes, where a cell has these pins and the sums have room.
 fn give_loads(loads: &mut [u64], classes: &[u32], names: &[Name], pins: &[Pin])
     requires each { length names.now ≡ length classes.now }
     requires inside { All (λ class. class < length loads.old) classes.now }
