@@ -10,14 +10,14 @@ use Rattle.cell_model.specs.Library.{Library, cell_of}
 use Rattle.net_core.specs.Netlist.{Instance, Netlist, port, pin_of, pins_of, terminals}
 use Rattle.delay_sta.specs.Loads.{input_capacitance, pins_at, capacitances, share}
 
-zip_more : (rs cs : List ℕ) (k : ℕ) → length rs ≡ length cs → k < length cs → take (k + 1) (zip rs cs) ≡ take k (zip rs cs) ++ (get_or rs k 0, get_or cs k 0) ∷ []
+pub zip_more : (rs cs : List ℕ) (k : ℕ) → length rs ≡ length cs → k < length cs → take (k + 1) (zip rs cs) ≡ take k (zip rs cs) ++ (get_or rs k 0, get_or cs k 0) ∷ []
 zip_more [] cs k e l = absurd (omega (arith, l, e))
 zip_more (x ∷ rs) [] k e l = absurd (omega (arith, l))
 zip_more (x ∷ rs) (c ∷ cs) zero e l = refl
 zip_more (x ∷ rs) (c ∷ cs) (suc k) e l = let n : suc k + 1 ≡ suc (k + 1) = omega arith in
     rw n (ap (λ (ms : List (ℕ × ℕ)). (x, c) ∷ ms) (zip_more rs cs k (omega (arith, e)) (omega (arith, l))))
 
-zip_length : (rs cs : List ℕ) → length rs ≡ length cs → length (zip rs cs) ≡ length cs
+pub zip_length : (rs cs : List ℕ) → length rs ≡ length cs → length (zip rs cs) ≡ length cs
 zip_length [] [] e = refl
 zip_length [] (c ∷ cs) e = absurd (omega (arith, e))
 zip_length (x ∷ rs) [] e = refl

@@ -10,10 +10,12 @@ use Rattle.net_core.specs.Places.{Stands, IsThere, NoneTwice}
 use Rattle.net_core.specs.Netlist.{Netlist, IsNetlist, pin_of}
 use Rattle.net_core.proofs.Rings.{class_below, each_there}
 use Rattle.delay_sta.specs.declared.graph.TimedArc.{TimedArc}
-use Rattle.delay_sta.specs.Paths.{Step, Leads, starts, begins, goes_on, TakesTo, IsStep, BeginsThere, GoesThrough, IsStart, Arrives, IsGreatest}
+use Rattle.delay_sta.specs.Loads.{load}
+use Rattle.delay_sta.specs.Paths.{Step, Leads, starts, begins, goes_on, TakesTo, IsStepAt, IsStep, BeginsThere, GoesThrough, IsStart, Arrives, IsGreatest}
 use Rattle.delay_sta.specs.Timed.{IsAnyStep, a_beginning, going_on, IsPathOrder}
-use Rattle.delay_sta.specs.Graph.{step_of, IsTimed, AreTimedArcs, group_of, AreGrouped, IsIn, IsGraph, StartsIn, AreStartsOf, AreSettled}
+use Rattle.delay_sta.specs.Graph.{step_of, IsOwned, AreTimedArcs, group_of, AreGrouped, AreArcsOf, AreOnward, AreReached, IsIn, IsGraph, StartsIn, AreStartsOf, AreSettled}
 use Rattle.delay_sta.proofs.Tables.{In_there}
+use Rattle.delay_sta.proofs.Placing.{pin_of_class}
 use Rattle.delay_sta.proofs.Settling.{group_within}
 
 -- ---- paths by other words
@@ -93,60 +95,113 @@ few_classes n xs once low =
 
 -- ---- the arcs of a netlist
 
-module _ (n : Netlist) (l : Library) (sound : IsNetlist n) (arcs : List TimedArc) (are : AreTimedArcs n l arcs) where
-  from_begins : (x : TimedArc) → x.begins ≡ true → IsTimed n l x → IsStep n l BeginsThere (step_of x)
-  from_begins x e h = by x.begins e h where
-    by : (b : Bool) → b ≡ true → MatchBool b (IsStep n l BeginsThere (step_of x)) (IsStep n l GoesThrough (step_of x)) → IsStep n l BeginsThere (step_of x)
-    by true e h = h
+module _ (n : Netlist) (l : Library) (sound : IsNetlist n) where
+  begins_step : (x : TimedArc) → x.begins ≡ true → IsOwned n l x → IsStep n l BeginsThere (step_of x)
+  begins_step x e o = by x.begins e o.is where
+    by : (b : Bool) → b ≡ true → MatchBool b (IsStepAt n (load n l) BeginsThere o.owner.name o.cell o.arc (step_of x)) (IsStepAt n (load n l) GoesThrough o.owner.name o.cell o.arc (step_of x)) → IsStep n l BeginsThere (step_of x)
+    by true e h = record { owner = o.owner; listed = (x.owner, o.stands); cell = o.cell; found = o.found; arc = o.arc; has = o.has; is = h }
     by false e h = absurd cc
 
-  from_goes : (x : TimedArc) → x.begins ≡ false → IsTimed n l x → IsStep n l GoesThrough (step_of x)
-  from_goes x e h = by x.begins e h where
-    by : (b : Bool) → b ≡ false → MatchBool b (IsStep n l BeginsThere (step_of x)) (IsStep n l GoesThrough (step_of x)) → IsStep n l GoesThrough (step_of x)
-    by false e h = h
+  goes_step : (x : TimedArc) → x.begins ≡ false → IsOwned n l x → IsStep n l GoesThrough (step_of x)
+  goes_step x e o = by x.begins e o.is where
+    by : (b : Bool) → b ≡ false → MatchBool b (IsStepAt n (load n l) BeginsThere o.owner.name o.cell o.arc (step_of x)) (IsStepAt n (load n l) GoesThrough o.owner.name o.cell o.arc (step_of x)) → IsStep n l GoesThrough (step_of x)
+    by false e h = record { owner = o.owner; listed = (x.owner, o.stands); cell = o.cell; found = o.found; arc = o.arc; has = o.has; is = h }
     by true e h = absurd cc
 
-  any_step : (x : TimedArc) → IsThere arcs x → IsAnyStep n l (step_of x)
-  any_step x t = by x.begins ((are.each x).0 t) where
-    by : (b : Bool) → MatchBool b (IsStep n l BeginsThere (step_of x)) (IsStep n l GoesThrough (step_of x)) → IsAnyStep n l (step_of x)
-    by true h = a_beginning h
-    by false h = going_on h
+  any_step : (x : TimedArc) → IsOwned n l x → IsAnyStep n l (step_of x)
+  any_step x o = by x.begins refl where
+    by : (b : Bool) → x.begins ≡ b → IsAnyStep n l (step_of x)
+    by true e = a_beginning (begins_step x e o)
+    by false e = going_on (goes_step x e o)
 
-  low_from : (x : TimedArc) → IsThere arcs x → x.from < n.count
-  low_from x t = by (any_step x t) where
+  pub low_from : (x : TimedArc) → IsOwned n l x → x.from < n.count
+  low_from x o = by (any_step x o) where
     by : IsAnyStep n l (step_of x) → x.from < n.count
     by (a_beginning h) = class_below n sound (pin_of h.owner.name h.arc.from) x.from h.is.from
     by (going_on h) = class_below n sound (pin_of h.owner.name h.arc.from) x.from h.is.from
 
-  low_to : (x : TimedArc) → IsThere arcs x → x.to < n.count
-  low_to x t = by (any_step x t) where
+  pub low_to : (x : TimedArc) → IsOwned n l x → x.to < n.count
+  low_to x o = by (any_step x o) where
     by : IsAnyStep n l (step_of x) → x.to < n.count
     by (a_beginning h) = class_below n sound (pin_of h.owner.name h.arc.to) x.to h.is.to
     by (going_on h) = class_below n sound (pin_of h.owner.name h.arc.to) x.to h.is.to
 
-  pub all_to : All (λ x. x.to < n.count) arcs
-  all_to = each_there (λ (x : TimedArc). x.to < n.count) arcs low_to
+  -- a step, and the instance and the places of its pins
+  arc_for : Bool → Step → ℕ → ℕ → ℕ → TimedArc
+  arc_for b s owner input output = record { from = s.from; to = s.to; delay = s.delay; begins = b; owner = owner; input = input; output = output }
+
+  abbrev ArcOf : Bool → Step → Type 0
+  ArcOf b s = (x : TimedArc) × IsOwned n l x × (x.begins ≡ b) × (step_of x ≡ s)
+
+  begins_arc : (s : Step) → IsStep n l BeginsThere s → ArcOf true s
+  unfolding arc_for
+  begins_arc s h =
+      let p = pin_of_class n sound h.listed.0 h.owner h.listed.1 h.arc.from s.from h.is.from in
+      let q = pin_of_class n sound h.listed.0 h.owner h.listed.1 h.arc.to s.to h.is.to in (
+        arc_for true s h.listed.0 p.0 q.0,
+        record { owner = h.owner; stands = h.listed.1; cell = h.cell; found = h.found; arc = h.arc; has = h.has; input = p.1; output = q.1; is = h.is },
+        refl,
+        refl,
+      )
+
+  goes_arc : (s : Step) → IsStep n l GoesThrough s → ArcOf false s
+  unfolding arc_for
+  goes_arc s h =
+      let p = pin_of_class n sound h.listed.0 h.owner h.listed.1 h.arc.from s.from h.is.from in
+      let q = pin_of_class n sound h.listed.0 h.owner h.listed.1 h.arc.to s.to h.is.to in (
+        arc_for false s h.listed.0 p.0 q.0,
+        record { owner = h.owner; stands = h.listed.1; cell = h.cell; found = h.found; arc = h.arc; has = h.has; input = p.1; output = q.1; is = h.is },
+        refl,
+        refl,
+      )
+
+  -- arcs in a row, grouped and listed
+  module _ (arcs : List TimedArc) (are : AreTimedArcs n l arcs) where
+    pub all_to : All (λ x. x.to < n.count) arcs
+    all_to = each_there (λ (x : TimedArc). x.to < n.count) arcs (λ x t. low_to x ((are.each x).0 t))
+
+    pub all_from : All (λ x. x.from < n.count) arcs
+    all_from = each_there (λ (x : TimedArc). x.from < n.count) arcs (λ x t. low_from x ((are.each x).0 t))
+
+    pub arcs_of : (groups : List (Vec TimedArc)) → AreGrouped arcs groups → length groups ≡ n.count → AreArcsOf n l groups
+    arcs_of groups grouped many = record {
+      many = many;
+      owned = λ class x t.
+          let g = (grouped x class (group_within groups class x t)).0 t in
+          ((are.each x).0 g.0, g.1, are.short x g.0);
+      complete = λ x o. let low = low_to x o in (grouped x x.to (omega (arith, low, many))).1 ((are.each x).1 o, refl);
+    }
+
+    pub reached_of : (groups : List (Vec TimedArc)) (lists : List (Vec ℕ)) → AreGrouped arcs groups → length groups ≡ n.count → AreOnward arcs lists → length lists ≡ n.count → AreReached groups lists
+    reached_of groups lists grouped many onward each = record {
+      many = each ∙ sym many;
+      only = λ from to t.
+          let w = (onward from to).0 t in
+          let low = low_to w.0 ((are.each w.0).0 w.1) in
+          let to_is = w.4 in
+          (w.0, (grouped w.0 to (omega (arith, low, many, to_is))).1 (w.1, w.4), w.2, w.3);
+      each = λ class x t way.
+          let g = (grouped x class (group_within groups class x t)).0 t in
+          (onward x.from class).1 (x, g.0, way, refl, g.1);
+    }
 
 -- ---- the graph of a netlist
 
-module _ (n : Netlist) (l : Library) (sound : IsNetlist n) (arcs : List TimedArc) (groups : List (Vec TimedArc)) (order : List ℕ)
-    (are : AreTimedArcs n l arcs) (grouped : AreGrouped arcs groups) (many : length groups ≡ n.count) (ordered : IsPathOrder n l order) (few : n.count < 2 ^ 32) where
-  listed : (class : ℕ) (x : TimedArc) → IsThere (group_of groups class) x → IsThere arcs x × (x.to ≡ class)
-  listed class x t = (grouped x class (group_within groups class x t)).0 t
-
+module _ (n : Netlist) (l : Library) (sound : IsNetlist n) (groups : List (Vec TimedArc)) (order : List ℕ)
+    (are : AreArcsOf n l groups) (ordered : IsPathOrder n l order) where
   behind : (x y : TimedArc) (c d i j : ℕ) → IsThere (group_of groups c) x → IsThere (group_of groups d) y → x.begins ≡ false → x.from ≡ d → Stands order i c → Stands order j d → j < i
   behind x y c d i j hx hy way e si sj =
-      let a = listed c x hx in
-      let b = listed d y hy in
-      ordered.behind (step_of x) (step_of y) i j (from_goes n l sound arcs are x way ((are.each x).0 a.0)) (any_step n l sound arcs are y b.0) (e ∙ sym b.1)
+      let a = are.owned c x hx in
+      let b = are.owned d y hy in
+      ordered.behind (step_of x) (step_of y) i j (goes_step n l sound x way a.0) (any_step n l sound y b.0) (e ∙ sym b.1)
       (subst (λ k. Stands order i k) (sym a.1) si) (subst (λ k. Stands order j k) (sym b.1) sj)
 
-  pub graph_of : IsGraph groups order n.count
-  graph_of = record {
-    many = many;
-    to = λ class x t. (listed class x t).1;
-    from = λ class x t. low_from n l sound arcs are x (listed class x t).0;
-    short = λ class x t. are.short x (listed class x t).0;
+  pub graph_of : n.count < 2 ^ 32 → IsGraph groups order n.count
+  graph_of few = record {
+    many = are.many;
+    to = λ class x t. (are.owned class x t).1;
+    from = λ class x t. low_from n l sound x (are.owned class x t).0;
+    short = λ class x t. (are.owned class x t).2;
     inside = ordered.inside;
     once = ordered.once;
     complete = ordered.complete;
@@ -156,27 +211,16 @@ module _ (n : Netlist) (l : Library) (sound : IsNetlist n) (arcs : List TimedArc
 
   -- a step of the graph is one of the netlist, and back
   begins_in : (s : Step) → IsIn groups true s → IsStep n l BeginsThere s
-  begins_in s h = subst (λ (u : Step). IsStep n l BeginsThere u) h.is (from_begins n l sound arcs are h.arc h.way ((are.each h.arc).0 (listed h.arc.to h.arc h.listed).0))
+  begins_in s h = subst (λ (u : Step). IsStep n l BeginsThere u) h.is (begins_step n l sound h.arc h.way (are.owned h.arc.to h.arc h.listed).0)
 
   goes_in : (s : Step) → IsIn groups false s → IsStep n l GoesThrough s
-  goes_in s h = subst (λ (u : Step). IsStep n l GoesThrough u) h.is (from_goes n l sound arcs are h.arc h.way ((are.each h.arc).0 (listed h.arc.to h.arc h.listed).0))
-
-  arc_for : Bool → Step → TimedArc
-  arc_for b s = record { from = s.from; to = s.to; delay = s.delay; begins = b }
+  goes_in s h = subst (λ (u : Step). IsStep n l GoesThrough u) h.is (goes_step n l sound h.arc h.way (are.owned h.arc.to h.arc h.listed).0)
 
   in_begins : (s : Step) → IsStep n l BeginsThere s → IsIn groups true s
-  unfolding arc_for
-  in_begins s h =
-      let t = (are.each (arc_for true s)).1 h in
-      let low = low_to n l sound arcs are (arc_for true s) t in
-      record { arc = arc_for true s; listed = (grouped (arc_for true s) s.to (omega (arith, low, many))).1 (t, refl); way = refl; is = refl }
+  in_begins s h = let a = begins_arc n l sound s h in record { arc = a.0; listed = are.complete a.0 a.1; way = a.2; is = a.3 }
 
   in_goes : (s : Step) → IsStep n l GoesThrough s → IsIn groups false s
-  unfolding arc_for
-  in_goes s h =
-      let t = (are.each (arc_for false s)).1 h in
-      let low = low_to n l sound arcs are (arc_for false s) t in
-      record { arc = arc_for false s; listed = (grouped (arc_for false s) s.to (omega (arith, low, many))).1 (t, refl); way = refl; is = refl }
+  in_goes s h = let a = goes_arc n l sound s h in record { arc = a.0; listed = are.complete a.0 a.1; way = a.2; is = a.3 }
 
   pub arrivals_of : (old now : List (Option ℕ)) → AreStartsOf n old → AreSettled groups old now → (class : ℕ) → class < n.count → IsGreatest (Arrives n l class) (get_or now class None)
   arrivals_of old now starts_are settled class low =
@@ -185,3 +229,12 @@ module _ (n : Netlist) (l : Library) (sound : IsNetlist n) (arcs : List TimedArc
       (λ d p. takes_as (StartsIn old) (IsStart n) (IsIn groups true) (IsStep n l BeginsThere) (IsIn groups false) (IsStep n l GoesThrough) (λ c h. (starts_are.each c).0 h) begins_in goes_in class d p)
       (λ d p. takes_as (IsStart n) (StartsIn old) (IsStep n l BeginsThere) (IsIn groups true) (IsStep n l GoesThrough) (IsIn groups false) (λ c h. (starts_are.each c).1 h) in_begins in_goes class d p)
       (get_or now class None) (settled class (omega (arith, low, m)))
+
+  -- and back: the greatest arrivals of the netlist are those of the graph
+  pub settled_of : (old now : List (Option ℕ)) → AreStartsOf n old → ((class : ℕ) → class < n.count → IsGreatest (Arrives n l class) (get_or now class None)) → AreSettled groups old now
+  settled_of old now starts_are greatest class low =
+      let m = starts_are.many in
+      greatest_as (Arrives n l class) (TakesTo (StartsIn old) (IsIn groups true) (IsIn groups false) class)
+      (λ d p. takes_as (IsStart n) (StartsIn old) (IsStep n l BeginsThere) (IsIn groups true) (IsStep n l GoesThrough) (IsIn groups false) (λ c h. (starts_are.each c).1 h) in_begins in_goes class d p)
+      (λ d p. takes_as (StartsIn old) (IsStart n) (IsIn groups true) (IsStep n l BeginsThere) (IsIn groups false) (IsStep n l GoesThrough) (λ c h. (starts_are.each c).0 h) begins_in goes_in class d p)
+      (get_or now class None) (greatest class (omega (arith, low, m)))

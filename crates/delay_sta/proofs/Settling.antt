@@ -1,18 +1,18 @@
 -- Arrivals of classes, settled along an order of them.
-use Rattle.std.proofs.Common.{◌≡◌, ◌≢◌, ◌⊎◌, inl, inr, ℕ, ◌+◌, ◌*◌, ◌^◌, ◌<◌, ◌≤◌, Bool, true, false, cond, List, [], ◌∷◌, ◌++◌, map, length, get_or, take, nat_eq, Option, Some, None, refl, sym, ap, subst, ◌∙◌, arith}
-use Rattle.std.specs.Prelude.{slice_set, IfSome}
+use Rattle.std.proofs.Common.{◌≡◌, ◌⊎◌, inl, inr, ℕ, zero, suc, ◌+◌, ◌*◌, ◌^◌, ◌<◌, ◌≤◌, Bool, true, false, cond, List, [], ◌∷◌, ◌++◌, map, length, get_or, take, Option, Some, None, refl, sym, ap, subst, ◌∙◌, arith}
+use Rattle.std.specs.Prelude.{IfSome}
 use Rattle.std.specs.List.{sum_by, All}
 use Rattle.std.specs.Global.{Vec}
-use Rattle.std.proofs.lemmas.List.{take_more, get_or-set_same, get_or-set_other, length-set, length-map, get_or_past}
+use Rattle.std.proofs.lemmas.List.{take_more, length-map, get_or_past}
 use Rattle.std.proofs.lemmas.List.Sums.{sum_by-cons}
-use Rattle.std.proofs.lemmas.Bool.{cases_lt, eqb-true, eq-eqb}
+use Rattle.std.proofs.lemmas.Bool.{cases_lt}
 use Rattle.std.proofs.lemmas.Option.{slice_get_within, slice_get-get_or}
 use Rattle.net_core.specs.Places.{Stands, IsThere}
 use Rattle.net_core.proofs.Rings.{each_there}
-use Rattle.net_core.proofs.Standing.{Split, left, right, split, stands_left, stands_last, only_one, stands_same}
+use Rattle.net_core.proofs.Standing.{Split, left, right, split, stands_left, stands_last, only_one}
 use Rattle.delay_sta.specs.declared.graph.TimedArc.{TimedArc}
 use Rattle.delay_sta.specs.Paths.{Step, Leads, starts, begins, goes_on, TakesTo, IsGreatest}
-use Rattle.delay_sta.specs.Graph.{step_of, group_of, IsIn, IsGraph, later_by, arrival_by, IsBy, IsLatest, StartsIn, AreStarts, AreSettled}
+use Rattle.delay_sta.specs.Graph.{step_of, group_of, IsIn, IsGraph, later_by, arrival_by, IsBy, IsLatest, IsInTime, AreSources, StartsIn, AreStarts, AreSettled}
 
 -- ---- not later
 
@@ -76,201 +76,188 @@ latest_more initial arrivals arcs k x old now l at before is older newer =
 
 -- ---- along the order
 
--- what holds when so many classes of the order are settled
-pub record Settling (groups : List (Vec TimedArc)) (order : List ℕ) (old now : List (Option ℕ)) (k : ℕ) : Type 0 where
-  pub many : length now ≡ length old
-  pub sound : (class time : ℕ) → get_or now class None ≡ Some time → TakesTo (StartsIn old) (IsIn groups true) (IsIn groups false) class time
-  pub started : (class : ℕ) → StartsIn old class → IsBy (Some 0) (get_or now class None)
-  pub done : (j class : ℕ) (x : TimedArc) → j < k → Stands order j class → IsThere (group_of groups class) x → IsBy (arrival_by now x) (get_or now class None)
-  pub small : (class time : ℕ) → get_or now class None ≡ Some time → time ≤ k * 2 ^ 96
+-- a list is empty, or something is there
+pub some_or_none : {X : Type 0} (xs : List X) → (xs ≡ []) ⊎ ((x : X) × IsThere xs x)
+some_or_none [] = inl refl
+some_or_none (x ∷ xs) = inr (x, (0, refl))
 
-pub settling_start : (groups : List (Vec TimedArc)) (order : List ℕ) (old : List (Option ℕ)) → AreStarts old → Settling groups order old old 0
-settling_start groups order old zeros = record {
-  many = refl;
-  sound = λ class time e.
+-- the classes before a place of the order are in time, and so are those to which no arc leads
+pub record AreBefore (groups : List (Vec TimedArc)) (order : List ℕ) (old now : List (Option ℕ)) (k : ℕ) : Type 0 where
+  pub in_time : (j class : ℕ) → j < k → Stands order j class → IsInTime groups old now class
+  pub sources : AreSources groups old now
+
+module _ (groups : List (Vec TimedArc)) (order : List ℕ) (count : ℕ) (old now : List (Option ℕ)) (k : ℕ)
+    (graph : IsGraph groups order count) (zeros : AreStarts old) (before : AreBefore groups order old now k) where
+  abbrev Taken : ℕ → ℕ → Type 0
+  Taken class time = TakesTo (StartsIn old) (IsIn groups true) (IsIn groups false) class time
+
+  -- where paths go on from a class, it is a source or stands before
+  from_before : (x : TimedArc) (class i : ℕ) → IsThere (group_of groups class) x → x.begins ≡ false → Stands order i class
+      → (group_of groups x.from ≡ []) ⊎ ((j : ℕ) × (j < i) × Stands order j x.from)
+  from_before x class i t way s = by (some_or_none (group_of groups x.from)) where
+    by : (group_of groups x.from ≡ []) ⊎ ((y : TimedArc) × IsThere (group_of groups x.from) y) → (group_of groups x.from ≡ []) ⊎ ((j : ℕ) × (j < i) × Stands order j x.from)
+    by (inl e) = inl e
+    by (inr y) =
+        let p = graph.complete x.from (graph.from class x t) in
+        inr (p.0, graph.behind x y.0 class x.from i p.0 t y.1 way refl s p.1, p.1)
+
+  source_at : (class time : ℕ) → class < count → group_of groups class ≡ [] → get_or now class None ≡ Some time → get_or old class None ≡ Some time
+  source_at class time l e f = let m = graph.many in sym (before.sources class (omega (arith, l, m)) e) ∙ f
+
+  small_step : (j class time : ℕ) → j < k → Stands order j class → get_or now class None ≡ Some time
+      → ((i c t : ℕ) → i < j → Stands order i c → get_or now c None ≡ Some t → t ≤ (i + 1) * 2 ^ 96) → time ≤ (j + 1) * 2 ^ 96
+  small_step j class time l s f rest = by (before.in_time j class l s).is where
+    by_from : (x : TimedArc) → IsThere (group_of groups class) x → x.begins ≡ false → (o : Option ℕ) → get_or now x.from None ≡ o → later_by x.delay o ≡ Some time → time ≤ (j + 1) * 2 ^ 96
+    by_from x t way None g h = absurd cc
+    by_from x t way (Some u) g h =
+        let d = graph.short class x t in
+        let total : u + x.delay ≡ time = cc in
+        elim (from_before x class j t way s) [
+          | inl e ↦ let z = zeros x.from u (source_at x.from u (graph.from class x t) e g) in omega (arith, d, total, z)
+          | inr w ↦ let a = w.1 in let r = rest w.0 x.from u w.1 w.2 g in omega (arith, a, r, d, total)
+        ]
+
+    by_arc : (x : TimedArc) → IsThere (group_of groups class) x → (b : Bool) → x.begins ≡ b → cond b (Some x.delay) (later_by x.delay (get_or now x.from None)) ≡ Some time → time ≤ (j + 1) * 2 ^ 96
+    by_arc x t true way g = let d = graph.short class x t in let total : x.delay ≡ time = cc in omega (arith, d, total)
+    by_arc x t false way g = by_from x t way (get_or now x.from None) refl g
+
+    by : (get_or now class None ≡ get_or old class None) ⊎ ((x : TimedArc) × IsThere (group_of groups class) x × (get_or now class None ≡ arrival_by now x)) → time ≤ (j + 1) * 2 ^ 96
+    by (inl same) = let z = zeros class time (sym same ∙ f) in omega (arith, z)
+    by (inr w) = by_arc w.0 w.1 w.0.begins refl (sym w.2 ∙ f)
+
+  small_below : (m j class time : ℕ) → j < m → m ≤ k → Stands order j class → get_or now class None ≡ Some time → time ≤ (j + 1) * 2 ^ 96
+  small_below zero j class time l low s f = absurd (omega (arith, l))
+  small_below (suc m) j class time l low s f =
+      small_step j class time (omega (arith, l, low)) s f (λ i c t less at g. small_below m i c t (omega (arith, less, l)) (omega (arith, low)) at g)
+
+  started : (class time : ℕ) → get_or old class None ≡ Some time → Taken class time
+  started class time e =
       let z = zeros class time e in
-      record { path = []; leads = starts (subst (λ t. get_or old class None ≡ Some t) z e); sum = z };
-  started = λ class h. (0, h, omega arith);
-  done = λ j class x l s t. absurd (omega (arith, l));
-  small = λ class time e. let z = zeros class time e in omega (arith, z);
-}
+      record { path = []; leads = starts (subst (λ t. get_or old class None ≡ Some t) z e); sum = z }
 
-module _ (groups : List (Vec TimedArc)) (order : List ℕ) (old now : List (Option ℕ)) (k class : ℕ) (latest : Option ℕ)
-    (graph : IsGraph groups order (length old)) (before : Settling groups order old now k) (here : Stands order k class)
-    (is : IsLatest (get_or now class None) now (group_of groups class) latest) where
-  abbrev new : List (Option ℕ)
-  new = slice_set now class latest
+  taken_step : (j class time : ℕ) → j < k → Stands order j class → get_or now class None ≡ Some time
+      → ((i c t : ℕ) → i < j → Stands order i c → get_or now c None ≡ Some t → Taken c t) → Taken class time
+  taken_step j class time l s f rest = by (before.in_time j class l s).is where
+    own : (x : TimedArc) → IsThere (group_of groups class) x → IsThere (group_of groups x.to) x
+    own x t = subst (λ c. IsThere (group_of groups c) x) (sym (graph.to class x t)) t
 
-  low : class < length now
-  low = let l = graph.inside class (k, here) in let m = before.many in omega (arith, l, m)
+    by_from : (x : TimedArc) → IsThere (group_of groups class) x → x.begins ≡ false → (o : Option ℕ) → get_or now x.from None ≡ o → later_by x.delay o ≡ Some time → Taken x.to time
+    by_from x t way None g h = absurd cc
+    by_from x t way (Some u) g h =
+        let w : Taken x.from u = elim (from_before x class j t way s) [
+          | inl e ↦ started x.from u (source_at x.from u (graph.from class x t) e g)
+          | inr v ↦ rest v.0 x.from u v.1 v.2 g
+        ] in
+        let total : u + x.delay ≡ time = cc in
+        let sum = sum_by-cons (λ (p : Step). p.delay) (step_of x) w.path in
+        let part = w.sum in
+        record {
+          path = step_of x ∷ w.path;
+          leads = goes_on {s = step_of x} w.leads (record { arc = x; listed = own x t; way = way; is = refl });
+          sum = omega (arith, total, sum, part);
+        }
 
-  at_class : get_or new class None ≡ latest
-  at_class = get_or-set_same now class latest None low
+    by_arc : (x : TimedArc) → IsThere (group_of groups class) x → (b : Bool) → x.begins ≡ b → cond b (Some x.delay) (later_by x.delay (get_or now x.from None)) ≡ Some time → Taken x.to time
+    by_arc x t true way g =
+        let total : x.delay ≡ time = cc in
+        let sum = sum_by-cons (λ (p : Step). p.delay) (step_of x) [] in
+        record {
+          path = step_of x ∷ [];
+          leads = begins {s = step_of x} (record { arc = x; listed = own x t; way = way; is = refl });
+          sum = omega (arith, total, sum);
+        }
+    by_arc x t false way g = by_from x t way (get_or now x.from None) refl g
 
-  elsewhere : (d : ℕ) → d ≢ class → get_or new d None ≡ get_or now d None
-  elsewhere d ne = get_or-set_other now class d latest None ne
+    by : (get_or now class None ≡ get_or old class None) ⊎ ((x : TimedArc) × IsThere (group_of groups class) x × (get_or now class None ≡ arrival_by now x)) → Taken class time
+    by (inl same) = started class time (sym same ∙ f)
+    by (inr w) = subst (λ c. Taken c time) (graph.to class w.0 w.1) (by_arc w.0 w.1 w.0.begins refl (sym w.2 ∙ f))
 
-  -- this class, or another one
-  abbrev At : ℕ → Type 0
-  At d = (d ≡ class) ⊎ (d ≢ class)
+  taken_below : (m j class time : ℕ) → j < m → m ≤ k → Stands order j class → get_or now class None ≡ Some time → Taken class time
+  taken_below zero j class time l low s f = absurd (omega (arith, l))
+  taken_below (suc m) j class time l low s f =
+      taken_step j class time (omega (arith, l, low)) s f (λ i c t less at g. taken_below m i c t (omega (arith, less, l)) (omega (arith, low)) at g)
 
-  at : (d : ℕ) → At d
-  at d = by (nat_eq d class) refl where
-    by : (b : Bool) → nat_eq d class ≡ b → At d
-    by true e = inl (eqb-true d class e)
-    by false e = inr (λ same. let no : true ≡ false = sym (eq-eqb d class same) ∙ e in absurd cc)
+  pub taken : (j class time : ℕ) → j < k → Stands order j class → get_or now class None ≡ Some time → Taken class time
+  taken j class time l s f = taken_below k j class time l (omega arith) s f
 
-  taken : (time : ℕ) → latest ≡ Some time → TakesTo (StartsIn old) (IsIn groups true) (IsIn groups false) class time
-  taken time e = by is.is where
-    by_arc : (x : TimedArc) → IsThere (group_of groups class) x → arrival_by now x ≡ Some time → TakesTo (StartsIn old) (IsIn groups true) (IsIn groups false) class time
-    by_arc x t found =
-        let to : x.to ≡ class = graph.to class x t in
-        let own : IsThere (group_of groups x.to) x = subst (λ c. IsThere (group_of groups c) x) (sym to) t in
-        subst (λ c. TakesTo (StartsIn old) (IsIn groups true) (IsIn groups false) c time) to (by_way own x.begins refl found) where
-          by_from : IsThere (group_of groups x.to) x → x.begins ≡ false → (o : Option ℕ) → get_or now x.from None ≡ o → later_by x.delay o ≡ Some time
-              → TakesTo (StartsIn old) (IsIn groups true) (IsIn groups false) x.to time
-          by_from own way None f g = absurd cc
-          by_from own way (Some u) f g =
-              let w = before.sound x.from u f in
-              let total : u + x.delay ≡ time = cc in
-              let sum = sum_by-cons (λ (s : Step). s.delay) (step_of x) w.path in
-              let part = w.sum in
-              record {
-                path = step_of x ∷ w.path;
-                leads = goes_on {s = step_of x} w.leads (record { arc = x; listed = own; way = way; is = refl });
-                sum = omega (arith, total, sum, part);
-              }
+  -- what taking the latest of the arcs to the next class asks for
+  pub inside_at : (class : ℕ) (arcs : List TimedArc) → length now ≡ count → arcs ≡ group_of groups class → All (λ x. x.from < length now) arcs
+  inside_at class arcs many e = each_there (λ (x : TimedArc). x.from < length now) arcs (λ x t.
+      let l = graph.from class x (subst (λ (xs : List TimedArc). IsThere xs x) e t) in omega (arith, l, many))
 
-          by_way : IsThere (group_of groups x.to) x → (b : Bool) → x.begins ≡ b → cond b (Some x.delay) (later_by x.delay (get_or now x.from None)) ≡ Some time
-              → TakesTo (StartsIn old) (IsIn groups true) (IsIn groups false) x.to time
-          by_way own true way g =
-              let total : x.delay ≡ time = cc in
-              let sum = sum_by-cons (λ (s : Step). s.delay) (step_of x) [] in
-              record {
-                path = step_of x ∷ [];
-                leads = begins {s = step_of x} (record { arc = x; listed = own; way = way; is = refl });
-                sum = omega (arith, total, sum);
-              }
-          by_way own false way g = by_from own way (get_or now x.from None) refl g
+  pub few_at : (class : ℕ) (arcs : List TimedArc) → Stands order k class → arcs ≡ group_of groups class
+      → All (λ x. x.begins ≡ false → IfSome (get_or now x.from None) (λ t. t + x.delay < 2 ^ 128)) arcs
+  few_at class arcs here e = each_there (λ (x : TimedArc). x.begins ≡ false → IfSome (get_or now x.from None) (λ t. t + x.delay < 2 ^ 128)) arcs each where
+    each : (x : TimedArc) → IsThere arcs x → x.begins ≡ false → IfSome (get_or now x.from None) (λ t. t + x.delay < 2 ^ 128)
+    each x t way = by (get_or now x.from None) refl where
+      at : IsThere (group_of groups class) x
+      at = subst (λ (xs : List TimedArc). IsThere xs x) e t
 
-    by : (latest ≡ get_or now class None) ⊎ ((x : TimedArc) × IsThere (group_of groups class) x × (latest ≡ arrival_by now x))
-        → TakesTo (StartsIn old) (IsIn groups true) (IsIn groups false) class time
-    by (inl same) = before.sound class time (sym same ∙ e)
-    by (inr w) = by_arc w.0 w.1 (sym w.2 ∙ e)
-
-  small_here : (time : ℕ) → latest ≡ Some time → time ≤ (k + 1) * 2 ^ 96
-  small_here time e = by is.is where
-    by_arc : (x : TimedArc) → IsThere (group_of groups class) x → (b : Bool) → cond b (Some x.delay) (later_by x.delay (get_or now x.from None)) ≡ Some time → time ≤ (k + 1) * 2 ^ 96
-    by_arc x t true g = let s = graph.short class x t in let total : x.delay ≡ time = cc in omega (arith, s, total)
-    by_arc x t false g = from (get_or now x.from None) refl g where
-      from : (o : Option ℕ) → get_or now x.from None ≡ o → later_by x.delay o ≡ Some time → time ≤ (k + 1) * 2 ^ 96
-      from None f g = absurd cc
-      from (Some u) f g =
-          let s = graph.short class x t in
-          let m = before.small x.from u f in
-          let total : u + x.delay ≡ time = cc in
-          omega (arith, s, m, total)
-
-    by : (latest ≡ get_or now class None) ⊎ ((x : TimedArc) × IsThere (group_of groups class) x × (latest ≡ arrival_by now x)) → time ≤ (k + 1) * 2 ^ 96
-    by (inl same) = let m = before.small class time (sym same ∙ e) in omega (arith, m)
-    by (inr w) = by_arc w.0 w.1 w.0.begins (sym w.2 ∙ e)
-
-  -- an arc to a class that is settled doesn't begin where this one's arrival changes
-  same_arrival : (j d : ℕ) (x : TimedArc) → j < k + 1 → Stands order j d → IsThere (group_of groups d) x → arrival_by new x ≡ arrival_by now x
-  same_arrival j d x l s t = by x.begins refl where
-    from : x.begins ≡ false → get_or new x.from None ≡ get_or now x.from None
-    from way = where_from (at x.from) where
-      changed : x.from ≡ class → (latest ≡ get_or now class None) ⊎ ((y : TimedArc) × IsThere (group_of groups class) y × (latest ≡ arrival_by now y)) → latest ≡ get_or now class None
-      changed e (inl same) = same
-      changed e (inr w) = let f = graph.behind x w.0 d class j k t w.1 way e s here in absurd (omega (arith, f, l))
-
-      where_from : At x.from → get_or new x.from None ≡ get_or now x.from None
-      where_from (inr ne) = elsewhere x.from ne
-      where_from (inl e) = ap (λ c. get_or new c None) e ∙ at_class ∙ changed e is.is ∙ ap (λ c. get_or now c None) (sym e)
-
-    by : (b : Bool) → x.begins ≡ b → cond b (Some x.delay) (later_by x.delay (get_or new x.from None)) ≡ cond b (Some x.delay) (later_by x.delay (get_or now x.from None))
-    by true way = refl
-    by false way = ap (later_by x.delay) (from way)
-
-  pub settling_step : Settling groups order old (slice_set now class latest) (k + 1)
-  settling_step = record { many = length-set now class latest ∙ before.many; sound = sound; started = started; done = done; small = small } where
-    sound : (d time : ℕ) → get_or new d None ≡ Some time → TakesTo (StartsIn old) (IsIn groups true) (IsIn groups false) d time
-    sound d time e = by (at d) where
-      by : At d → TakesTo (StartsIn old) (IsIn groups true) (IsIn groups false) d time
-      by (inl same) =
-          subst (λ c. TakesTo (StartsIn old) (IsIn groups true) (IsIn groups false) c time) (sym same)
-          (taken time (sym at_class ∙ ap (λ c. get_or new c None) (sym same) ∙ e))
-      by (inr ne) = before.sound d time (sym (elsewhere d ne) ∙ e)
-
-    started : (d : ℕ) → StartsIn old d → IsBy (Some 0) (get_or new d None)
-    started d h = by (at d) where
-      by : At d → IsBy (Some 0) (get_or new d None)
-      by (inl same) =
-          let now_by = before.started d h in
-          let later : IsBy (get_or now d None) latest = subst (λ c. IsBy (get_or now c None) latest) (sym same) is.start in
-          let e : latest ≡ get_or new d None = sym at_class ∙ ap (λ c. get_or new c None) (sym same) in
-          subst (λ (o : Option ℕ). IsBy (Some 0) o) e (by_through (Some 0) (get_or now d None) latest now_by later)
-      by (inr ne) = subst (λ (o : Option ℕ). IsBy (Some 0) o) (sym (elsewhere d ne)) (before.started d h)
-
-    done : (j d : ℕ) (x : TimedArc) → j < k + 1 → Stands order j d → IsThere (group_of groups d) x → IsBy (arrival_by new x) (get_or new d None)
-    done j d x l s t = subst (λ (o : Option ℕ). IsBy o (get_or new d None)) (sym (same_arrival j d x l s t)) (by (at d)) where
-      by : At d → IsBy (arrival_by now x) (get_or new d None)
-      by (inl same) =
-          let e : latest ≡ get_or new d None = sym at_class ∙ ap (λ c. get_or new c None) (sym same) in
-          subst (λ (o : Option ℕ). IsBy (arrival_by now x) o) e (is.each x (subst (λ c. IsThere (group_of groups c) x) same t))
-      by (inr ne) =
-          let apart : j ≢ k = λ q. ne (stands_same order k d class (subst (λ i. Stands order i d) q s) here) in
-          let less : j < k = omega (arith, l, apart) in
-          subst (λ (o : Option ℕ). IsBy (arrival_by now x) o) (sym (elsewhere d ne)) (before.done j d x less s t)
-
-    small : (d time : ℕ) → get_or new d None ≡ Some time → time ≤ (k + 1) * 2 ^ 96
-    small d time e = by (at d) where
-      by : At d → time ≤ (k + 1) * 2 ^ 96
-      by (inl same) = small_here time (sym at_class ∙ ap (λ c. get_or new c None) (sym same) ∙ e)
-      by (inr ne) = let m = before.small d time (sym (elsewhere d ne) ∙ e) in omega (arith, m)
+      by : (o : Option ℕ) → get_or now x.from None ≡ o → IfSome o (λ t. t + x.delay < 2 ^ 128)
+      by None f = tt
+      by (Some u) f =
+          let d = graph.short class x at in
+          elim (from_before x class k at way here) [
+            | inl q ↦ let z = zeros x.from u (source_at x.from u (graph.from class x at) q f) in omega (arith, d, z)
+            | inr w ↦
+                let a = w.1 in
+                let r = small_below k w.0 x.from u w.1 (omega arith) w.2 f in
+                let b = slice_get_within order k class here in
+                let n = graph.few in
+                omega (arith, a, r, d, b, n)
+          ]
 
 -- a class of the order has a place
 pub class_inside : (groups : List (Vec TimedArc)) (order : List ℕ) (count k : ℕ) → IsGraph groups order count → k < length order → get_or order k 0 < count
 class_inside groups order count k graph l = graph.inside (get_or order k 0) (k, slice_get-get_or order k 0 l)
 
--- what taking the latest of a group asks for
-pub inside_at : (groups : List (Vec TimedArc)) (order : List ℕ) (old now : List (Option ℕ)) (k class : ℕ) (arcs : List TimedArc) → IsGraph groups order (length old) → Settling groups order old now k → arcs ≡ group_of groups class
-    → All (λ x. x.from < length now) arcs
-inside_at groups order old now k class arcs graph before e = each_there (λ (x : TimedArc). x.from < length now) arcs (λ x t.
-    let l = graph.from class x (subst (λ (xs : List TimedArc). IsThere xs x) e t) in
-    let m = before.many in omega (arith, l, m))
-
-pub few_at : (groups : List (Vec TimedArc)) (order : List ℕ) (old now : List (Option ℕ)) (k class : ℕ) (arcs : List TimedArc) → IsGraph groups order (length old) → Settling groups order old now k → k < length order → arcs ≡ group_of groups class
-    → All (λ x. IfSome (get_or now x.from None) (λ t. t + x.delay < 2 ^ 128)) arcs
-few_at groups order old now k class arcs graph before less e = each_there (λ (x : TimedArc). IfSome (get_or now x.from None) (λ t. t + x.delay < 2 ^ 128)) arcs each where
-  each : (x : TimedArc) → IsThere arcs x → IfSome (get_or now x.from None) (λ t. t + x.delay < 2 ^ 128)
-  each x t = by (get_or now x.from None) refl where
-    by : (o : Option ℕ) → get_or now x.from None ≡ o → IfSome o (λ t. t + x.delay < 2 ^ 128)
-    by None f = tt
-    by (Some u) f =
-        let m = before.small x.from u f in
-        let s = graph.short class x (subst (λ (xs : List TimedArc). IsThere xs x) e t) in
-        let n = graph.few in
-        omega (arith, m, s, n, less)
-
 -- ---- what is settled
 
-module _ (groups : List (Vec TimedArc)) (order : List ℕ) (old now : List (Option ℕ)) (k : ℕ) (graph : IsGraph groups order (length old))
-    (all : length order ≤ k) (ended : Settling groups order old now k) where
+pub nothing_in : {X : Type 0} (x : X) → IsThere [] x → ⊥
+nothing_in {X} x t = by t.0 t.1 where
+  by : (k : ℕ) → Stands [] k x → ⊥
+  by k s = absurd cc
+
+pub arrives_within : (xs : List (Option ℕ)) (class time : ℕ) → get_or xs class None ≡ Some time → class < length xs
+arrives_within xs class time e = by (cases_lt class (length xs)) where
+  by : (class < length xs) ⊎ (length xs ≤ class) → class < length xs
+  by (inl l) = l
+  by (inr l) = let no : None ≡ Some time = sym (get_or_past xs class None l) ∙ e in absurd cc
+
+-- where no arc leads to a class and it is in time, it arrives when it starts
+pub source_in_time : (groups : List (Vec TimedArc)) (old now : List (Option ℕ)) (class : ℕ) → group_of groups class ≡ [] → IsInTime groups old now class → get_or now class None ≡ get_or old class None
+source_in_time groups old now class e h = by h.is where
+  by : (get_or now class None ≡ get_or old class None) ⊎ ((x : TimedArc) × IsThere (group_of groups class) x × (get_or now class None ≡ arrival_by now x)) → get_or now class None ≡ get_or old class None
+  by (inl same) = same
+  by (inr w) = absurd (nothing_in w.0 (subst (λ (xs : List TimedArc). IsThere xs w.0) e w.1))
+
+-- where all classes are in time, their arrivals are the greatest
+module _ (groups : List (Vec TimedArc)) (order : List ℕ) (count : ℕ) (old now : List (Option ℕ))
+    (graph : IsGraph groups order count) (zeros : AreStarts old) (many : length old ≡ count)
+    (all : (class : ℕ) → class < count → IsInTime groups old now class) where
+  whole : AreBefore groups order old now (length order)
+  whole = record {
+    in_time = λ j class l s. all class (graph.inside class (j, s));
+    sources = λ class l e. let m = graph.many in source_in_time groups old now class e (all class (omega (arith, l, m)));
+  }
+
   done_at : (class : ℕ) (x : TimedArc) → IsThere (group_of groups class) x → IsBy (arrival_by now x) (get_or now class None)
   done_at class x t =
       let low = group_within groups class x t in
-      let many = graph.many in
-      let p = graph.complete class (omega (arith, low, many)) in
-      let w = slice_get_within order p.0 class p.1 in
-      ended.done p.0 class x (omega (arith, w, all)) p.1 t
+      let m = graph.many in
+      (all class (omega (arith, low, m))).each x t
+
+  begun : (class : ℕ) → StartsIn old class → IsBy (Some 0) (get_or now class None)
+  begun class h =
+      let low = arrives_within old class 0 h in
+      subst (λ (o : Option ℕ). IsBy o (get_or now class None)) h (all class (omega (arith, low, many))).start
 
   by_way : (x : TimedArc) (b : Bool) → x.begins ≡ b → arrival_by now x ≡ cond b (Some x.delay) (later_by x.delay (get_or now x.from None))
   by_way x b e = ap (λ c. cond c (Some x.delay) (later_by x.delay (get_or now x.from None))) e
 
   longest : (class : ℕ) (path : List Step) → Leads (StartsIn old) (IsIn groups true) (IsIn groups false) class path
       → IsBy (Some (sum_by (λ s. s.delay) path)) (get_or now class None)
-  longest class _ (starts h) = ended.started class h
+  longest class _ (starts h) = begun class h
   longest _ _ (begins {s = s} h) =
       let x = h.arc in
       let by = subst (λ (o : Option ℕ). IsBy o (get_or now x.to None)) (by_way x true h.way) (done_at x.to x h.listed) in
@@ -293,14 +280,15 @@ module _ (groups : List (Vec TimedArc)) (order : List ℕ) (old now : List (Opti
       let whole : IsBy (Some (sum_by (λ u. u.delay) (s ∷ path))) (get_or now x.to None) = (by.0, by.1, omega (arith, less, more, sum, delay)) in
       subst (λ c. IsBy (Some (sum_by (λ u. u.delay) (s ∷ path))) (get_or now c None)) to whole
 
-  pub settled : AreSettled groups old now
-  settled class l = by (get_or now class None) refl where
+  pub settled_in_time : AreSettled groups old now
+  settled_in_time class l = by (get_or now class None) refl where
     by : (o : Option ℕ) → get_or now class None ≡ o → IsGreatest (TakesTo (StartsIn old) (IsIn groups true) (IsIn groups false) class) o
     by None e = λ d p.
         let r = subst (λ (o : Option ℕ). IsBy (Some (sum_by (λ s. s.delay) p.path)) o) e (longest class p.path p.leads) in
         let no = r.1 in absurd cc
     by (Some t) e = (
-      ended.sound class t e,
+      (let p = graph.complete class (omega (arith, l, many)) in
+          taken groups order count old now (length order) graph zeros whole p.0 class t (slice_get_within order p.0 class p.1) p.1 e),
       λ d p.
           let r = subst (λ (o : Option ℕ). IsBy (Some (sum_by (λ s. s.delay) p.path)) o) e (longest class p.path p.leads) in
           let same : t ≡ r.0 = let q = r.1 in cc in

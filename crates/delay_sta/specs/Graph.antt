@@ -13,7 +13,7 @@ use Rattle.net_core.specs.Places.{Stands, IsThere, NoneTwice}
 use Rattle.net_core.specs.Netlist.{Instance, Netlist, pin_of, HasClass}
 use Rattle.delay_sta.specs.declared.graph.TimedArc.{TimedArc}
 use Rattle.delay_sta.specs.Loads.{load}
-use Rattle.delay_sta.specs.Paths.{Step, IsStepAt, IsStep, BeginsThere, GoesThrough, IsStart, TakesTo, IsGreatest}
+use Rattle.delay_sta.specs.Paths.{Step, IsStepAt, BeginsThere, GoesThrough, IsStart, TakesTo, IsGreatest}
 
 -- the place of the cell of each model
 pub record AreFound (cells : List Cell) (models : List (List ℕ)) (places : List ℕ) : Type 0 where
@@ -33,19 +33,24 @@ abbrev pub IsTimedAt : Netlist → (ℕ → ℕ) → List ℕ → Cell → Arc �
 IsTimedAt n loads owner c a x =
     MatchBool x.begins (IsStepAt n loads BeginsThere owner c a (step_of x)) (IsStepAt n loads GoesThrough owner c a (step_of x))
 
+-- an arc of this cell is such a step at the instance with this number, from and to the pins at its places among the instance's
+pub record IsTimedOf (n : Netlist) (loads : ℕ → ℕ) (number : ℕ) (c : Cell) (a : Arc) (x : TimedArc) : Type 0 where
+  pub numbered : x.owner ≡ number
+  pub owner : Instance
+  pub stands : Stands n.instances number owner
+  pub input : Stands owner.pins x.input a.from
+  pub output : Stands owner.pins x.output a.to
+  pub is : IsTimedAt n loads owner.name c a x
+
 -- what is found of an arc: exactly such a step
-abbrev pub IsFoundAs : Netlist → (ℕ → ℕ) → List ℕ → Cell → Arc → Option TimedArc → Type 0
-IsFoundAs n loads owner c a found = (x : TimedArc) → (found ≡ Some x) ↔ IsTimedAt n loads owner c a x
+abbrev pub IsFoundAs : Netlist → (ℕ → ℕ) → ℕ → Cell → Arc → Option TimedArc → Type 0
+IsFoundAs n loads number c a found = (x : TimedArc) → (found ≡ Some x) ↔ IsTimedOf n loads number c a x
 
 -- so is an arc of the cell
-pub record IsTimedIn (n : Netlist) (loads : ℕ → ℕ) (owner : List ℕ) (c : Cell) (x : TimedArc) : Type 0 where
+pub record IsTimedIn (n : Netlist) (loads : ℕ → ℕ) (number : ℕ) (c : Cell) (x : TimedArc) : Type 0 where
   pub arc : Arc
   pub has : IsThere c.arcs arc
-  pub is : IsTimedAt n loads owner c arc x
-
--- and such a step of the netlist
-abbrev pub IsTimed : Netlist → Library → TimedArc → Type 0
-IsTimed n l x = MatchBool x.begins (IsStep n l BeginsThere (step_of x)) (IsStep n l GoesThrough (step_of x))
+  pub is : IsTimedOf n loads number c arc x
 
 -- an arc of the instance with its number, from and to the pins at its places among the instance's
 pub record IsOwned (n : Netlist) (l : Library) (x : TimedArc) : Type 0 where
@@ -64,14 +69,14 @@ abbrev pub IsShort : TimedArc → Type 0
 IsShort x = x.delay < 2 ^ 96
 
 -- the arcs of an instance were put behind the others
-pub record AddsArcs (n : Netlist) (loads : ℕ → ℕ) (owner : List ℕ) (c : Cell) (old new : List TimedArc) : Type 0 where
+pub record AddsArcs (n : Netlist) (loads : ℕ → ℕ) (number : ℕ) (c : Cell) (old new : List TimedArc) : Type 0 where
   pub kept : (x : TimedArc) → IsThere old x → IsThere new x
-  pub sound : (x : TimedArc) → IsThere new x → IsThere old x ⊎ (IsTimedIn n loads owner c x × IsShort x)
-  pub complete : (x : TimedArc) → IsTimedIn n loads owner c x → IsThere new x
+  pub sound : (x : TimedArc) → IsThere new x → IsThere old x ⊎ (IsTimedIn n loads number c x × IsShort x)
+  pub complete : (x : TimedArc) → IsTimedIn n loads number c x → IsThere new x
 
--- all steps of a netlist, and no others
+-- all steps of a netlist, each with its instance, and no others
 pub record AreTimedArcs (n : Netlist) (l : Library) (arcs : List TimedArc) : Type 0 where
-  pub each : (x : TimedArc) → IsThere arcs x ↔ IsTimed n l x
+  pub each : (x : TimedArc) → IsThere arcs x ↔ IsOwned n l x
   pub short : (x : TimedArc) → IsThere arcs x → IsShort x
 
 -- the arcs to a class
@@ -92,11 +97,20 @@ pub record AreArcsOf (n : Netlist) (l : Library) (arcs : List (Vec TimedArc)) : 
 abbrev pub numbers_of : List (Vec ℕ) → ℕ → List ℕ
 numbers_of lists class = slice_index_or (map (λ v. v.items) lists) class []
 
--- the class to which each arc leads is listed at the class from which it comes
+-- an arc with which paths go on from one class to another
+abbrev pub IsOnward : List TimedArc → ℕ → ℕ → Type 0
+IsOnward arcs from to = (x : TimedArc) × IsThere arcs x × (x.begins ≡ false) × (x.from ≡ from) × (x.to ≡ to)
+
+-- at each class are listed those to which paths go on from there with one of these arcs
+abbrev pub AreOnward : List TimedArc → List (Vec ℕ) → Type 0
+AreOnward arcs reached = (from to : ℕ) → IsThere (numbers_of reached from) to ↔ IsOnward arcs from to
+
+-- at each class are listed those to which paths go on from there, so none to which an arc leads that begins paths
 pub record AreReached (arcs : List (Vec TimedArc)) (reached : List (Vec ℕ)) : Type 0 where
   pub many : length reached ≡ length arcs
-  pub inside : (from to : ℕ) → IsThere (numbers_of reached from) to → to < length arcs
-  pub each : (class : ℕ) (x : TimedArc) → IsThere (group_of arcs class) x → IsThere (numbers_of reached x.from) class
+  pub only : (from to : ℕ) → IsThere (numbers_of reached from) to
+      → (x : TimedArc) × IsThere (group_of arcs to) x × (x.begins ≡ false) × (x.from ≡ from)
+  pub each : (class : ℕ) (x : TimedArc) → IsThere (group_of arcs class) x → x.begins ≡ false → IsThere (numbers_of reached x.from) class
 
 -- an arc of the graph, with which paths begin or go on
 pub record IsIn (groups : List (Vec TimedArc)) (begins : Bool) (s : Step) : Type 0 where
@@ -147,6 +161,11 @@ IsInTime arcs starts arrivals class =
 abbrev pub AreInTime : List (Vec TimedArc) → List (Option ℕ) → List (Option ℕ) → List Bool → Type 0
 AreInTime arcs starts arrivals stale =
     (class : ℕ) → class < length arcs → slice_index_or stale class false ≡ false → IsInTime arcs starts arrivals class
+
+-- a class to which no arc leads arrives when it starts
+abbrev pub AreSources : List (Vec TimedArc) → List (Option ℕ) → List (Option ℕ) → Type 0
+AreSources arcs starts arrivals =
+    (class : ℕ) → class < length arcs → group_of arcs class ≡ [] → slice_index_or arrivals class None ≡ slice_index_or starts class None
 
 -- where paths start, there they arrive at 0
 abbrev pub StartsIn : List (Option ℕ) → ℕ → Type 0

@@ -1,5 +1,6 @@
 -- What timing asks of a netlist, and what it finds.
-use Rattle.std.specs.Prelude.{◌≡◌, ◌↔◌, ℕ, ◌<◌, Bool, false, List, length, None, Some, slice_index, slice_index_or}
+use Rattle.std.specs.Prelude.{◌≡◌, ◌↔◌, ℕ, ◌^◌, ◌<◌, Bool, false, List, length, None, Some, slice_index, slice_index_or}
+use Rattle.std.specs.List.{All}
 use Rattle.cell_model.specs.Cell.{Cell}
 use Rattle.cell_model.specs.Library.{Library, cell_of, IsUsable}
 use Rattle.cell_pins.specs.Table.{IsTableOf}
@@ -8,7 +9,7 @@ use Rattle.net_core.specs.Places.{Stands, IsThere, NoneTwice}
 use Rattle.net_core.specs.Netlist.{Instance, Netlist}
 use Rattle.net_core.specs.Checks.{Fits, Passes}
 use Rattle.delay_sta.specs.declared.arrivals.Delays.{Delays}
-use Rattle.delay_sta.specs.Loads.{load}
+use Rattle.delay_sta.specs.Loads.{capacitances, load}
 use Rattle.delay_sta.specs.Graph.{AreFound, AreStartsOf, AreArcsOf, AreReached}
 use Rattle.delay_sta.specs.Paths.{Step, IsStep, BeginsThere, GoesThrough, Arrives, IsEnd, IsGreatest}
 
@@ -35,12 +36,13 @@ pub record IsPathOrder (n : Netlist) (l : Library) (order : List ℕ) : Type 0 w
   pub behind : (s t : Step) (i j : ℕ) → IsStep n l GoesThrough s → IsAnyStep n l t → s.from ≡ t.to → Stands order i s.to → Stands order j t.to → j < i
 
 -- The greatest arrival and the load of each class, the classes at which paths end, and an order of the classes. Beside them stands what
--- an exchange of a cell needs: the classes where paths start, all arcs, where they lead from each class, and the cells of models; no
--- arrival is stale.
+-- an exchange of a cell needs: no capacitance is so great that loads might not fit 64 bits, the classes where paths start, all arcs,
+-- where they lead from each class, and the cells of models; no arrival is stale.
 pub record AreDelaysOf (n : Netlist) (l : Library) (d : Delays) : Type 0 where
   pub counted : (length d.arrivals.items ≡ n.count) × (length d.loads.items ≡ n.count)
   pub arrivals : (class : ℕ) → class < n.count → IsGreatest (Arrives n l class) (slice_index_or d.arrivals.items class None)
   pub loads : (class : ℕ) → class < n.count → slice_index d.loads.items class ≡ load n l class
+  pub short : All (λ c. c < 2 ^ 32) (capacitances n l)
   pub ends : (class : ℕ) → IsThere d.ends.items class ↔ IsEnd n l class
   pub order : IsPathOrder n l d.order.items
   pub starts : AreStartsOf n d.starts.items

@@ -6,11 +6,11 @@ ghost use Rattle.net_core.specs.Netlist.{IsNetlist};
 ghost use Rattle.net_core.specs.Places.{IsThere};
 ghost use Rattle.delay_sta.specs.Loads.{load};
 ghost use Rattle.delay_sta.specs.Paths.{IsEnd, Arrives, IsGreatest};
-ghost use Rattle.delay_sta.specs.Graph.{AreFound, AreStartsOf, IsStartPort, data_pin, IsDataClass, IsOutputBefore};
+ghost use Rattle.delay_sta.specs.Graph.{AreFound, IsGraph, AreReached, AreStarts, AreSettled, AreStartsOf, IsStartPort, data_pin, IsDataClass, IsOutputBefore};
 ghost use Rattle.delay_sta.specs.Timed.{CanBeTimed, IsPathOrder, AreDelaysOf};
 
 use crate::arrivals::Delays;
-use crate::graph::{grouped, pin_place, timed_arcs, TimedArc};
+use crate::graph::{TimedArc, class_of, grouped, reached, timed_arcs};
 use crate::loads::{cell_places, loads};
 use crate::settle::settle;
 use cell_checks::Library;
@@ -68,12 +68,23 @@ fn output_classes(alloc: Global, ports: &[Port], classes: &[u32]) -> Result<Vec<
     Ok(ends)
 }
 
-/// The class of a flip-flop's data pin.
-fn data_class(netlist: &Netlist, owner: usize, cell: &Cell) -> Option<u32>
+/// Puts the class of a flip-flop's data pin behind the others.
+fn push_data_class(
+    alloc: Global,
+    ends: &mut Vec<u32>,
+    netlist: &Netlist,
+    owner: &Text,
+    cell: &Cell,
+) -> Result<(), AllocError>
+    requires { IsNetlist netlist.now }
+    ensures { OnOk result ((class : ℕ) → IsThere ends.new.items class ↔ (IsThere ends.old.items class ⊎ IsDataClass netlist.now owner.now cell.now class)) }
 {
-    let node = &netlist.nodes()[owner];
-    let place = pin_place(node.pins.as_slice(), data_pin(cell)?)?;
-    Some(netlist.classes()[node.first as usize + place])
+    if let Some(data) = data_pin(cell) {
+        if let Some(class) = class_of(alloc, netlist, owner, data)? {
+            ends.push(class)?;
+        }
+    }
+    Ok(())
 }
 
 /// The classes at which paths end.
@@ -88,23 +99,16 @@ fn ends(
     ensures { IfOk result (λ ends. (class : ℕ) → IsThere ends.items class ↔ IsEnd netlist.now library.now class) }
 {
     let mut ends = output_classes(alloc, netlist.ports(), netlist.classes())?;
-    for owner in 0..netlist.nodes().len() {
-        let node = &netlist.nodes()[owner];
+    for node in netlist.nodes() {
         if let Some(cell) = library.cells().get(places[node.model]) {
-            if let Some(class) = data_class(netlist, owner, cell) {
-                ends.push(class)?;
-            }
+            push_data_class(alloc, &mut ends, netlist, &node.name, cell)?;
         }
     }
     Ok(ends)
 }
 
 /// The classes of a netlist, each behind those from which paths go on to it.
-fn path_order(
-    alloc: Global,
-    netlist: &Netlist,
-    library: &Library,
-) -> Result<Vec<u32>, AllocError>
+fn path_order(alloc: Global, netlist: &Netlist, library: &Library) -> Result<Vec<u32>, AllocError>
     requires checked { IsChecked false library.now }
     requires netlist { CanBeTimed library.now netlist.now }
     ensures { IfOk result (λ order. IsPathOrder netlist.now library.now order.items) }
@@ -113,24 +117,24 @@ fn path_order(
     class_order(alloc, netlist, &table)
 }
 
-/// No numbers for each of so many classes.
-fn no_numbers(alloc: Global, count: usize) -> Result<Vec<Vec<u32>>, AllocError> {
-    let mut groups = Vec::new(alloc);
-    for _ in 0..count {
-        groups.push(Vec::new(alloc))?;
-    }
-    Ok(groups)
-}
-
-/// The classes to which arcs lead from each class.
-fn reached(alloc: Global, arcs: &[Vec<TimedArc>], count: usize) -> Result<Vec<Vec<u32>>, AllocError> {
-    let mut reached = no_numbers(alloc, count)?;
-    for group in arcs {
-        for arc in group {
-            reached[arc.from as usize].push(arc.to)?;
-        }
-    }
-    Ok(reached)
+/// The greatest arrivals of classes, none of which is stale.
+fn settled(
+    alloc: Global,
+    starts: &[Option<u128>],
+    order: &[u32],
+    graph: (&[Vec<TimedArc>], &[Vec<u32>]),
+) -> Result<(Vec<Option<u128>>, Vec<bool>), AllocError>
+    requires graph { IsGraph graph.0.now order.now (length starts.now) }
+    requires reached { AreReached graph.0.now graph.1.now }
+    requires starts { AreStarts starts.now }
+    ensures many { IfOk result (λ made. (length made.0.items ≡ length starts.now) × (length made.1.items ≡ length starts.now)) }
+    ensures settled { IfOk result (λ made. AreSettled graph.entry.0.now starts.now made.0.items) }
+    ensures fresh { IfOk result (λ made. (class : ℕ) → slice_index_or made.1.items class false ≡ false) }
+{
+    let mut arrivals = starts.to_vec(alloc)?;
+    let mut stale = vec![in alloc; true; starts.len()]?;
+    settle(&mut arrivals, &mut stale, starts, order, graph);
+    Ok((arrivals, stale))
 }
 
 /// When paths arrive in the classes of a netlist of usable cells that has passed its checks. A path starts at an input port that is
@@ -146,23 +150,21 @@ pub fn delays(alloc: Global, netlist: &Netlist, library: &Library) -> Result<Del
     let places = cell_places(alloc, netlist.models(), library.cells())?;
     let order = path_order(alloc, netlist, library)?;
     let loads = loads(alloc, netlist, library, &places)?;
-    let arcs = timed_arcs(alloc, netlist, library, &places, &loads)?;
-    let arcs = grouped(alloc, netlist.count(), &arcs)?;
+    let all = timed_arcs(alloc, netlist, library, &places, &loads)?;
+    let arcs = grouped(alloc, netlist.count(), &all)?;
+    let reached = reached(alloc, netlist.count(), &all)?;
     let starts = starts(alloc, netlist)?;
-    let reached = reached(alloc, &arcs, netlist.count() as usize)?;
-    let ends = ends(alloc, netlist, library, &places)?;
-    let mut made = Delays {
-        arrivals: starts.clone()?,
+    let (arrivals, stale) = settled(alloc, &starts, &order, (&arcs, &reached))?;
+    Ok(Delays {
+        arrivals,
         loads,
-        ends,
+        ends: ends(alloc, netlist, library, &places)?,
         order,
         starts,
         arcs,
         reached,
         places,
-        stale: vec![in alloc; true; netlist.count() as usize]?,
+        stale,
         marks: vec![in alloc; false; netlist.count() as usize]?,
-    };
-    settle(&mut made.arrivals, &mut made.stale, &made.starts, &made.order, (&made.arcs, &made.reached));
-    Ok(made)
+    })
 }

@@ -23,7 +23,7 @@ pub struct Delays {
     pub(crate) starts: Vec<Option<u128>>,
     // The arcs to each class.
     pub(crate) arcs: Vec<Vec<TimedArc>>,
-    // The classes to which arcs lead from each class.
+    // The classes to which paths go on from each class.
     pub(crate) reached: Vec<Vec<u32>>,
     // The place of the cell of each model.
     pub(crate) places: Vec<usize>,

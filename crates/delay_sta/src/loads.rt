@@ -112,6 +112,7 @@ fn sums(
     ensures many { IfOk result (λ sums. length sums.items ≡ count) }
     ensures sums { IfOk result (λ sums. (class : ℕ) → class < count
         → slice_index sums.items class ≡ sum_by (share class) (zip capacitances.now classes.now)) }
+    ensures short { IfOk result (λ _. All (λ c. c < 2 ^ 32) capacitances.now) }
 {
     let mut sums: Vec<u64> = vec![in alloc; 0; count as usize]?;
     for k in 0..classes.len() {
@@ -130,6 +131,7 @@ pub fn loads(
     requires { AreFound library.now.cells netlist.now.models places.now }
     ensures many { IfOk result (λ loads. length loads.items ≡ netlist.now.count) }
     ensures loads { IfOk result (λ loads. (class : ℕ) → class < netlist.now.count → slice_index loads.items class ≡ load netlist.now library.now class) }
+    ensures short { IfOk result (λ _. All (λ c. c < 2 ^ 32) (capacitances netlist.now library.now)) }
 {
     let capacitances = capacitances(alloc, netlist, library, places)?;
     sums(alloc, netlist.count(), &capacitances, netlist.classes())

@@ -1,14 +1,15 @@
 // The latest arrivals of the classes of a timing graph.
-ghost use Rattle.std.specs.Prelude.{◌≡◌, ◌+◌, ◌^◌, ◌<◌, ◌⊎◌, None, IfSome, length, slice_index_or};
+ghost use Rattle.std.specs.Prelude.{◌≡◌, ◌+◌, ◌^◌, ◌<◌, ◌⊎◌, ℕ, true, false, None, IfSome, length, slice_index_or};
 ghost use Rattle.std.specs.List.{All};
-ghost use Rattle.delay_sta.specs.Graph.{IsShort, IsGraph, later_by, arrival_by, IsBy, IsLatest, AreStarts, AreSettled};
+ghost use Rattle.net_core.specs.Places.{IsThere};
+ghost use Rattle.delay_sta.specs.Graph.{IsGraph, AreReached, arrival_by, IsBy, IsLatest, AreInTime, AreSources, AreStarts, AreSettled};
 
 use crate::graph::TimedArc;
 
 /// When a path arrives by an arc, where classes have these arrivals.
 pub(crate) fn arrival_by(arrivals: &[Option<u128>], arc: &TimedArc) -> Option<u128>
     requires inside { arc.now.from < length arrivals.now }
-    requires few { IfSome (slice_index_or arrivals.now arc.now.from None) (λ t. t + arc.now.delay < 2 ^ 128) }
+    requires few { arc.now.begins ≡ false → IfSome (slice_index_or arrivals.now arc.now.from None) (λ t. t + arc.now.delay < 2 ^ 128) }
     ensures { result ≡ arrival_by arrivals.now arc.now }
 {
     if arc.begins {
@@ -36,7 +37,7 @@ fn later(one: Option<u128>, other: Option<u128>) -> Option<u128>
 /// The latest of an arrival and those by arcs.
 fn latest(start: Option<u128>, arrivals: &[Option<u128>], arcs: &[TimedArc]) -> Option<u128>
     requires inside { All (λ x. x.from < length arrivals.now) arcs.now }
-    requires few { All (λ x. IfSome (slice_index_or arrivals.now x.from None) (λ t. t + x.delay < 2 ^ 128)) arcs.now }
+    requires few { All (λ x. x.begins ≡ false → IfSome (slice_index_or arrivals.now x.from None) (λ t. t + x.delay < 2 ^ 128)) arcs.now }
     ensures { IsLatest start arrivals.now arcs.now result }
 {
     let mut latest = start;
@@ -47,7 +48,7 @@ fn latest(start: Option<u128>, arrivals: &[Option<u128>], arcs: &[TimedArc]) -> 
 }
 
 /// Marks classes as stale.
-fn mark(stale: &mut [bool], classes: &[u32])
+pub(crate) fn mark(stale: &mut [bool], classes: &[u32])
     requires { All (λ class. class < length stale.old) classes.now }
     ensures many { length stale.new ≡ length stale.old }
     ensures marked { (class : ℕ) → IsThere classes.now class → slice_index_or stale.new class false ≡ true }
@@ -71,9 +72,10 @@ pub(crate) fn settle(
     requires reached { AreReached graph.0.now graph.1.now }
     requires starts { AreStarts starts.now }
     requires many { (length starts.now ≡ length arrivals.old) × (length stale.old ≡ length arrivals.old) }
+    requires sources { AreSources graph.0.now starts.now arrivals.old }
     requires rest { AreInTime graph.0.now starts.now arrivals.old stale.old }
     ensures many { (length arrivals.new ≡ length arrivals.old) × (length stale.new ≡ length stale.old) }
-    ensures settled { AreSettled graph.0.now starts.now arrivals.new }
+    ensures settled { AreSettled graph.entry.0.now starts.now arrivals.new }
     ensures fresh { (class : ℕ) → slice_index_or stale.new class false ≡ false }
 {
     let (arcs, reached) = graph;

@@ -6,7 +6,7 @@ use Rattle.delay_sta.proofs.Grouping.{grouped_next}
 use Rattle.delay_sta.proofs.graph.grouped.Goals as goal
 
 abbrev plain : TimedArc
-plain = record { from = 0; to = 0; delay = 0; begins = false }
+plain = record { from = 0; to = 0; delay = 0; begins = false; owner = 0; input = 0; output = 0 }
 
 pub loop-arc-preserved : goal.loop-arc-preserved
 loop-arc-preserved c =

@@ -1,4 +1,4 @@
-use Rattle.std.proofs.Common.{◌≡◌, ℕ, ◌<◌, List, length, get_or, sym, ap, ◌∙◌, subst}
+use Rattle.std.proofs.Common.{◌≡◌, ℕ, ◌^◌, ◌<◌, List, length, get_or, sym, ap, ◌∙◌, subst}
 use Rattle.std.specs.List.{All, zip, sum_by}
 use Rattle.std.specs.Global.{Vec}
 use Rattle.net_core.proofs.Namings.{if_ok}
@@ -25,3 +25,8 @@ returns-clause-loads c =
     (λ v h class low. h class (subst (λ m. class < m) (sym c.count.ensures) low)
     ∙ ap (λ (xs : List ℕ). sum_by (share class) (zip xs c.classes.result.now)) (c.deref.ensures.value ∙ c.in_ok-capacitances.ensures)
     ∙ ap (λ (xs : List ℕ). sum_by (share class) (zip (capacitances c.args.netlist.now c.args.library.now) xs)) c.classes.ensures.classes) c.sums.ensures.sums
+
+pub returns-clause-short : goal.returns-clause-short
+returns-clause-short c =
+    if_ok (λ (v : Vec ℕ). All (λ k. k < 2 ^ 32) c.deref.result.now) (λ (v : Vec ℕ). All (λ k. k < 2 ^ 32) (capacitances c.args.netlist.now c.args.library.now)) c.sums.result
+    (λ v h. subst (λ (xs : List ℕ). All (λ k. k < 2 ^ 32) xs) (c.deref.ensures.value ∙ c.in_ok-capacitances.ensures) h) c.sums.ensures.short

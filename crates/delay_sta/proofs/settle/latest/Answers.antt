@@ -6,7 +6,7 @@ use Rattle.delay_sta.proofs.Settling.{latest_start, latest_more}
 use Rattle.delay_sta.proofs.settle.latest.Goals as goal
 
 abbrev plain : TimedArc
-plain = record { from = 0; to = 0; delay = 0; begins = false }
+plain = record { from = 0; to = 0; delay = 0; begins = false; owner = 0; input = 0; output = 0 }
 
 pub loop-arc-init : goal.loop-arc-init
 loop-arc-init c = latest_start c.args.start c.args.arrivals.now
