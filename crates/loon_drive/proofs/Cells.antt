@@ -44,7 +44,7 @@ pin_names f ports _ _ (one_pin {port = x} {p = p} {rest = rest} {pins = pins} is
     ap (λ (n : Name). n ∷ map (λ (q : ModelPin). q.name) pins) is.name ∙ ap (λ (ns : List Name). x.name ∷ ns) (pin_names f ports rest pins more)
 
 -- no two cells of a list have one name
-abbrev AreApart : List Cell → Type 0
+abbrev pub AreApart : List Cell → Type 0
 AreApart [] = Unit {0}
 AreApart (c ∷ cells) = ((d : Cell) → In d cells → c.name ≢ d.name) × AreApart cells
 
@@ -65,8 +65,8 @@ behind m models model apart t = by t.0 t.1 where
   by (suc k) s = (k, s)
 
 is_usable : (c : Cell) → IsListed false c → IsUsable c
-is_usable c (inl no) = let bad : false ≡ true = no in absurd cc
-is_usable c (inr yes) = yes
+is_usable c (inl bad) = let e : false ≡ true = bad in absurd cc
+is_usable c (inr is) = is
 
 passed : (c : Cell) (cells : List Cell) (m : ModelPins) (models : List ModelPins) (model : List ℕ) → c.name ≢ model → m.model ≢ model
     → Row cells models model → Row (c ∷ cells) (m ∷ models) model

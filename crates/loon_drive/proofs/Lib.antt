@@ -2,3 +2,4 @@ mod Exchanged
 mod Lists
 pub mod Cells
 pub mod Fitting
+mod Reserving
