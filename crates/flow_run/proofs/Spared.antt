@@ -21,7 +21,7 @@ use Rattle.tool_drive.specs.Plan.{Inputs, inputs, Reading, got, lacking, long, g
 use Rattle.tool_drive.specs.Table.{refusal, ComesTo, Caused}
 use Rattle.flow_run.specs.Origin.{is_fsm}
 use Rattle.flow_run.specs.Flow.{flow_plan, flow_answers, IsRefused, no_list, no_text, over_size, no_source, no_cell, unread, uncovered, over_budget}
-use Rattle.flow_run.specs.Generated.{IsFitting, circuit_text, unwritten, laid, with_source, IsForLibrary, IsSourceSpared, SourcesAreSpared}
+use Rattle.flow_run.specs.Generated.{IsFitting, circuit_text, unwritten, laid, with_source, IsForLibrary, SourcesAreSpared}
 use Rattle.flow_run.proofs.Standing.{stood, held_is}
 use Rattle.flow_run.proofs.Circuits.{fits, not_text, is_text, source_read, written_here, held_same}
 

@@ -1,10 +1,9 @@
 -- The names of a circuit in its text are its own, and what it is made of is read as it is.
-use Rattle.std.proofs.Common.{◌≡◌, ℕ, zero, suc, ◌+◌, Bool, true, false, cond, not, List, [], ◌∷◌, ◌++◌, map, filter, length, take, codes, refl, sym, ap, ◌∙◌, arith, append-nil}
+use Rattle.std.proofs.Common.{◌≡◌, ℕ, zero, suc, ◌+◌, Bool, true, false, cond, not, List, [], ◌∷◌, ◌++◌, map, filter, length, take, codes, refl, sym, ap, ◌∙◌}
 use Rattle.vlsi_base.specs.declared.name.Name.{Name}
 use Rattle.vlsi_base.specs.Names.{scalar}
 use Rattle.vlsi_base.specs.Range.{rising}
-use Rattle.bool_expr.specs.Expression.{constant}
-use Rattle.machine_meaning.specs.Machine.{Equation, Register}
+use Rattle.machine_meaning.specs.Machine.{Equation}
 use Rattle.machine_core.specs.Order.{equation_names}
 use Rattle.free_names.specs.Free.{is_free, numbered}
 use Rattle.vbe_write.specs.Written.{is_output, inner_count, renamed, taken_texts, signal_texts, written_names}

@@ -13,7 +13,6 @@ use Rattle.vlsi_base.specs.declared.fault.FaultKind.TheVariants as kind
 use Rattle.vlsi_base.specs.Member.{In, here, there, AllDifferent}
 use Rattle.vlsi_base.specs.Name.{is_supply}
 use Rattle.machine_meaning.specs.Machine.{Machine, Equation, Register, names_of, register_names}
-use Rattle.machine_core.specs.Checked.{IsChecked}
 use Rattle.machine_core.specs.Order.{held_names, equation_names}
 use Rattle.machine_core.proofs.Values.{In-map}
 use Rattle.machine_alike.specs.Alike.{IsAlike}
@@ -42,7 +41,6 @@ use Rattle.vbe_text.proofs.Laws as text_laws
 use Rattle.vbe_io.specs.Text.{IsVbe, IsWritten, Refused, IsVbeRefusal, long, uncut, unwritten, faulty}
 use Rattle.vbe_io.proofs.Once.{pass_or_fail, cut_or_not}
 use Rattle.vlsi_model.proofs.OneOrder.{one_order}
-use Rattle.vbe_write.specs.Writable.{CanBeVbe}
 use Rattle.vbe_write.specs.Written.{with_supply_ports, signal_texts, written_names, written_vars, as_ports}
 use Rattle.vbe_write.proofs.Naming.{as_many_written}
 use Rattle.vst_write.specs.Groups.{Group, grouped, declared}
