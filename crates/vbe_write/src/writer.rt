@@ -295,6 +295,8 @@ fn statements(
 /// text grows with the machine where choices are whole values, each at most in the last part of another; a choice within the condition
 /// of a choice, and that within an operand, doubles what stands there.
 ///
+/// A text can be read again where the stem is a letter in lower case; another stem is written as it is.
+///
 /// Takes memory for the text and its names, and time for the text and, for each name, the logarithm of their number.
 pub fn write_vbe_by(alloc: Global, machine: &Machine, stem: &[u8]) -> Result<FileBytes, AllocError>
     requires names { CanBeVbe machine.now }
@@ -318,7 +320,7 @@ pub fn write_vbe_by(alloc: Global, machine: &Machine, stem: &[u8]) -> Result<Fil
     Ok(out)
 }
 
-/// Writes a machine as `write_vbe_by` does, with the inner signals n0, n1, and so on.
+/// Writes a machine as `write_vbe_by` does, with the inner signals n0, n1, and so on. Takes the same memory.
 pub fn write_vbe(alloc: Global, machine: &Machine) -> Result<FileBytes, AllocError>
     requires names { CanBeVbe machine.now }
     requires few { length machine.now.vars + length machine.now.ports < 2 ^ 32 }
