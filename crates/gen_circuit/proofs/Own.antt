@@ -1,5 +1,5 @@
 -- The names of a circuit in its text are its own, and what it is made of is read as it is.
-use Rattle.std.proofs.Common.{◌≡◌, ℕ, zero, suc, ◌+◌, Bool, true, false, cond, not, List, [], ◌∷◌, ◌++◌, map, filter, length, take, codes, refl, sym, ap, ◌∙◌}
+use Rattle.std.proofs.Common.{◌≡◌, ℕ, zero, suc, ◌+◌, ◌≤◌, Bool, true, false, cond, not, List, [], ◌∷◌, ◌++◌, map, filter, length, take, codes, refl, sym, ap, ◌∙◌, arith}
 use Rattle.vlsi_base.specs.declared.name.Name.{Name}
 use Rattle.vlsi_base.specs.Names.{scalar}
 use Rattle.vlsi_base.specs.Range.{rising}
@@ -51,9 +51,10 @@ filter_all : (p : ℕ → Bool) → ((k : ℕ) → p k ≡ true) → (xs : List 
 filter_all p each [] = refl
 filter_all p each (x ∷ xs) = ap (λ (b : Bool). cond b (x ∷ filter p xs) (filter p xs)) (each x) ∙ ap (λ (ys : List ℕ). x ∷ ys) (filter_all p each xs)
 
-take_rising : (k many extra : ℕ) → take many (rising k (many + extra)) ≡ rising k many
-take_rising k zero extra = refl
-take_rising k (suc many) extra = ap (λ (ys : List ℕ). k ∷ ys) (take_rising (k + 1) many extra)
+take_rising : (k many n : ℕ) → many ≤ n → take many (rising k n) ≡ rising k many
+take_rising k zero n few = refl
+take_rising k (suc many) zero few = absurd (omega (arith, few))
+take_rising k (suc many) (suc n) few = ap (λ (ys : List ℕ). k ∷ ys) (take_rising (k + 1) many n (omega (arith, few)))
 
 -- no port and no register has the text of a gate
 texts_are : (ws : List ℕ) (size : ℕ) → signal_texts (codes "g") (circuit_by ws size) ≡ map (numbered (codes "g")) (rising 0 (length ws))
@@ -62,7 +63,7 @@ texts_are ws size =
     let p : ℕ → Bool = λ k. is_free (taken_texts m) (numbered (codes "g") k) in
     let many = inner_count m in
     ap (λ (ks : List ℕ). map (numbered (codes "g")) (take many ks)) (filter_all p (λ k. refl) (rising 0 (many + length (taken_texts m))))
-    ∙ ap (map (numbered (codes "g"))) (take_rising 0 many (length (taken_texts m)) ∙ ap (rising 0) (inner_is ws size))
+    ∙ ap (map (numbered (codes "g"))) (take_rising 0 many (many + length (taken_texts m)) (omega arith) ∙ ap (rising 0) (inner_is ws size))
 
 -- ---- the names
 

@@ -46,7 +46,7 @@ use Rattle.vbe_round.proofs.Declared.{port_symbol, stored_symbol, signal_symbol,
 use Rattle.vbe_round.proofs.Named.{IsGiven, port_groups, stored_groups, symbols_on, clock_of_text}
 use Rattle.vbe_round.proofs.Passing.{Stores, machine_stated, all_stated}
 use Rattle.vbe_round.proofs.Reading.{read_again_by, itself, not_refused}
-use Rattle.vbe_each.proofs.Texts.{each_text}
+use Rattle.vbe_each.specs.Law.{EachText}
 use Rattle.gen_circuit.specs.Generated.{register, circuit_by, words_of, generated}
 use Rattle.gen_circuit.specs.Written.{text, CircuitsCanBeWritten, IsReadAgain, CircuitsAreReadAgain}
 use Rattle.gen_circuit.proofs.Checking.{is_checked, words_each}
@@ -214,8 +214,8 @@ light ws size design k few given same is alike =
 letter_g : IsLetter (codes "g")
 letter_g = record { letter = 103; is = refl; small = refl }
 
-is_read_again : (ws : List ℕ) (size : ℕ) → length ws ≡ size → 8 ≤ size → size ≤ 4000 → IsReadAgain (circuit_by ws size)
-is_read_again ws size each least most =
+is_read_again : EachText → (ws : List ℕ) (size : ℕ) → length ws ≡ size → 8 ≤ size → size ≤ 4000 → IsReadAgain (circuit_by ws size)
+is_read_again each_text ws size each least most =
     let m = circuit_by ws size in
     let checked = is_checked ws size each least most in
     let named = can_be_vbe ws size in
@@ -243,6 +243,6 @@ circuits_can_be_written seed size least most =
     let each = words_each pcg32 size (pcg32_of_seed (pcg32_seed 16 seed)) in
     (can_be_vbe ws size, within_limits ws size (omega (arith, each, most)))
 
-pub circuits_are_read_again : CircuitsAreReadAgain
+pub circuits_are_read_again : EachText → CircuitsAreReadAgain
 unfolding generated
-circuits_are_read_again seed size least most = is_read_again (words_of seed size) size (words_each pcg32 size (pcg32_of_seed (pcg32_seed 16 seed))) least most
+circuits_are_read_again each_text seed size least most = is_read_again each_text (words_of seed size) size (words_each pcg32 size (pcg32_of_seed (pcg32_seed 16 seed))) least most

@@ -2,6 +2,8 @@
 ghost use Rattle.gen_circuit.specs.Laws.{CircuitsAreChecked, CircuitsAreSmall};
 ghost use Rattle.gen_circuit.specs.Written.{CircuitsCanBeWritten, CircuitsAreReadAgain};
 
+use vbe_each::each_text_has_an_answer;
+
 /// Every circuit is a checked machine. It costs nothing when it is called.
 pub fn circuits_are_checked()
     ensures { CircuitsAreChecked }
@@ -21,4 +23,6 @@ pub fn circuits_can_be_written()
 /// tool; and it is refused only where memory has run out. It costs nothing when it is called.
 pub fn circuits_are_read_again()
     ensures { CircuitsAreReadAgain }
-{}
+{
+    each_text_has_an_answer();
+}
