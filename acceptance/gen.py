@@ -67,18 +67,18 @@ def bit(name, k=-1):
 def operand(j, number):
     if number < 8:
         return bit("xr"[number // 4], number % 4)
-    return bit(f"n{j - 1 - (number - 8)}")
+    return bit(f"g{j - 1 - (number - 8)}")
 
 
 def circuit(seed, size):
-    """The circuit, whose gate j is called nj as in the text that is written."""
+    """The circuit, whose gate j is called gj, in the text that is written too."""
     equations = []
     for j, word in enumerate(words_of(seed, size)):
         most = 8 + min(j, 8)
         operands = [operand(j, (word >> 8) % most), operand(j, (word >> 20) % most)]
-        equations.append(((f"n{j}", -1), ("join", ("nand", "nor", "xor", "and")[word % 4], operands)))
-    equations += [(("y", t), bit(f"n{size - 1 - t}")) for t in range(4)]
-    registers = {("r", t): (bit(f"n{size - 5 - t}"), 1) for t in range(4)}
+        equations.append(((f"g{j}", -1), ("join", ("nand", "nor", "xor", "and")[word % 4], operands)))
+    equations += [(("y", t), bit(f"g{size - 1 - t}")) for t in range(4)]
+    registers = {("r", t): (bit(f"g{size - 5 - t}"), 1) for t in range(4)}
     ports = {("ck", -1): IN, **{("x", t): IN for t in range(4)}, **{("y", t): OUT for t in range(4)}}
     return Machine("gen", ports, "ck", equations, registers)
 

@@ -16,7 +16,7 @@ use Rattle.vlsi_shelf.specs.Counts.{Rose, NoneFalls}
 use Rattle.vlsi_shelf.specs.Shelf.{Writes}
 use Rattle.vlsi_shelf.specs.Sink.{Puts}
 use Rattle.machine_meaning.specs.Machine.{Machine, register_names}
-use Rattle.machine_alike.specs.Alike.{IsAlike}
+use Rattle.machine_alike.specs.Alike.{IsAlike, AlikeRun, AlikeBothWays}
 use Rattle.catal.specs.Laws.{NeverBoth as NeverBothLists}
 use Rattle.cell_model.specs.declared.kind.Kind.{Kind}
 use Rattle.cell_model.specs.Covering.{HasCellOf, needed}
@@ -25,6 +25,7 @@ use Rattle.cell_lib.specs.Library.{bad_cell, IsLibraryOf}
 use Rattle.lib_same.specs.Law.{LibraryIsNeverRefused, LibrariesCoverTheSame}
 use Rattle.boog_map.specs.Netlist.{Covers}
 use Rattle.vbe_io.specs.Text.{IsVbe}
+use Rattle.gen_circuit.specs.Laws.{CircuitsAreChecked}
 use Rattle.gen_circuit.specs.Written.{IsReadAgain, CircuitsCanBeWritten, CircuitsAreReadAgain}
 use Rattle.tool_words.specs.declared.command.FlowCommand.{FlowCommand}
 use Rattle.tool_words.specs.declared.command.GenCommand.{GenCommand}
@@ -44,6 +45,7 @@ use Rattle.flow_run.specs.Causes.{Stand, IsDrawn}
 use Rattle.flow_run.specs.Drawn.{layout_name}
 use Rattle.flow_run.specs.Laws.{WhatIsReadIsNeverRefused}
 use Rattle.flow_run.specs.Generated.{IsFitting, circuit_of, circuit_text, IsUnwritten, IsWritten, unwritten, laid, with_source, IsGenerated, IsGenFree, CircuitsAreNeverRefused, RunsHaveHeadlines, FreeRunsEnd}
+use Rattle.flow_run.proofs.Alike.{well_alike, agrees_alike}
 use Rattle.flow_run.proofs.Rows.{headline_of}
 use Rattle.flow_run.proofs.Standing.{reads}
 
@@ -57,7 +59,7 @@ no_states out =
     ap (λ (k : ℕ). pointwise nat_eq (codes ".fsm") (drop k (out ++ codes ".vbe"))) n
     ∙ ap (λ (xs : List ℕ). pointwise nat_eq (codes ".fsm") xs) (drop-append_seam out (codes ".vbe"))
 
-is_text : (c : GenCommand) → IsFitting c → is_fsm c.flow ≡ false
+pub is_text : (c : GenCommand) → IsFitting c → is_fsm c.flow ≡ false
 is_text c fit = ap (λ (s : List ℕ). ends_with nat_eq s (codes ".fsm")) fit.source ∙ no_states c.flow.out
 
 -- the source is no layout
@@ -70,7 +72,7 @@ apart c fit same =
 
 -- ---- files
 
-written_here : (files : Files) (name bytes : List ℕ) → get (insert files name bytes) name ≡ Some bytes
+pub written_here : (files : Files) (name bytes : List ℕ) → get (insert files name bytes) name ≡ Some bytes
 written_here files name bytes =
     get-insert nat_list_cmp_total files name bytes name
     ∙ ap (λ (r : Ordering). cond (is_eq r) (Some bytes) (get files name)) (tied_itself nat_list_cmp_total name)
@@ -89,7 +91,7 @@ read_as false c source equations m e h = (refl, h)
 read_as false c source (states f k) m e h = absurd h
 read_as true c source o m e h = absurd (cc e)
 
-source_read : (c : GenCommand) → IsFitting c → (source : List ℕ) (o : Origin) (m : Machine) → IsSourceFor c.flow source o m → (o ≡ equations) × IsVbe source m
+pub source_read : (c : GenCommand) → IsFitting c → (source : List ℕ) (o : Origin) (m : Machine) → IsSourceFor c.flow source o m → (o ≡ equations) × IsVbe source m
 source_read c fit source o m h = read_as (is_fsm c.flow) c.flow source o m (is_text c fit) h
 
 -- as many registers, so the same kinds are asked for
@@ -103,22 +105,23 @@ covers_alike l m k alike covered =
 
 -- ---- never refused
 
-module _ (again : CircuitsAreReadAgain) (lists : NeverBothLists) (never : WhatIsReadIsNeverRefused) (libraries : LibraryIsNeverRefused) (cover : LibrariesCoverTheSame) where
-  fits : (c : GenCommand) → IsFitting c → IsReadAgain (circuit_of c)
+module _ (again : CircuitsAreReadAgain) where
+  pub fits : (c : GenCommand) → IsFitting c → IsReadAgain (circuit_of c)
   fits c fit = again c.flow.seed c.size fit.least fit.most
 
-  not_text : (b : Bool) (c : GenCommand) → IsFitting c → b ≡ false → (s : Status) → OfFile c.flow.source (refusal_by b (circuit_text c)) s → ⊥
+  pub not_text : (b : Bool) (c : GenCommand) → IsFitting c → b ≡ false → (s : Status) → OfFile c.flow.source (refusal_by b (circuit_text c)) s → ⊥
   not_text true c fit e s h = cc e
   not_text false c fit e (status.Source name fault) h = cc ((fits c fit).accepted (errors.Input fault) h.1)
   not_text false c fit e (status.Limit l) h = cc ((fits c fit).accepted (errors.Limit l) h)
   not_text false c fit e _ h = absurd h
 
+module _ (again : CircuitsAreReadAgain) (lists : NeverBothLists) (never : WhatIsReadIsNeverRefused) (libraries : LibraryIsNeverRefused) (cover : LibrariesCoverTheSame) where
   no_source_never : (c : GenCommand) (catal : List ℕ) (cells : List (List ℕ)) (l : Library) (s : Status) → IsFitting c → IsLibraryOf true catal cells l
       → IsNoSource c.flow (circuit_text c) catal s → ⊥
   no_source_never c catal cells l s fit library (no_list fault refused is) = lists catal library.names fault library.uses refused
-  no_source_never c catal cells l s fit library (no_text names uses h) = not_text (is_fsm c.flow) c fit (is_text c fit) s h
+  no_source_never c catal cells l s fit library (no_text names uses h) = not_text again (is_fsm c.flow) c fit (is_text c fit) s h
   no_source_never c catal cells l s fit library (over_size names o m uses machine over is) =
-      let small = (fits c fit).light m (source_read c fit (circuit_text c) o m machine).1 in
+      let small = (fits again c fit).light m (source_read c fit (circuit_text c) o m machine).1 in
       absurd (omega (arith, small, over))
 
   pub circuits_never : CircuitsAreNeverRefused
@@ -128,25 +131,30 @@ module _ (again : CircuitsAreReadAgain) (lists : NeverBothLists) (never : WhatIs
   circuits_never c catal cells l s fit library covered within (uncovered o m own kind read missing is) =
       never c.flow (circuit_text c) catal cells o m own s read
       (((cover true true catal cells l own library read.library).machines m).0
-      (covers_alike l (circuit_of c) m ((fits c fit).alike m (source_read c fit (circuit_text c) o m read.machine).1) covered))
+      (covers_alike l (circuit_of c) m ((fits again c fit).alike m (source_read c fit (circuit_text c) o m read.machine).1) covered))
       (λ x k is. within k (source_read c fit (circuit_text c) x k is).1) (uncovered o m own kind read missing is)
   circuits_never c catal cells l s fit library covered within (over_budget o m own read too b) =
       never c.flow (circuit_text c) catal cells o m own s read too (λ x k is. within k (source_read c fit (circuit_text c) x k is).1) (over_budget o m own read too b)
 
 -- ---- the headline
 
-module _ (again : CircuitsAreReadAgain) where
-  held_same : (files : Files) (name bytes other : List ℕ) → Holds (insert files name bytes) name other → other ≡ bytes
-  held_same files name bytes other h = cc (sym h.is ∙ written_here files name bytes)
+pub held_same : (files : Files) (name bytes other : List ℕ) → Holds (insert files name bytes) name other → other ≡ bytes
+held_same files name bytes other h = cc (sym h.is ∙ written_here files name bytes)
 
+module _ (again : CircuitsAreReadAgain) (checked : CircuitsAreChecked) (runs : AlikeRun) (both : AlikeBothWays) where
   generated : (c : GenCommand) → IsFitting c → (old : Files) (now : Option Files) (report : List ℕ) → IsDrawn (with_source old c) now c.flow report → IsGenerated old now c report
   generated c fit old now report d =
       let same : d.source ≡ circuit_text c = held_same old c.flow.source (circuit_text c) d.source d.stood.source_is in
       let said : IsVbe (circuit_text c) d.m = subst (λ (s : List ℕ). IsVbe s d.m) same (source_read c fit d.source d.o d.m d.read.machine).1 in
+      let alike : IsAlike (circuit_of c) d.m = (fits again c fit).alike d.m said in
+      let n = d.right.netlist in
       record {
+        itself = (fits again c fit).itself;
         drawn = d;
         said = said;
-        alike = (again c.flow.seed c.size fit.least fit.most).alike d.m said;
+        alike = alike;
+        well = well_alike n d.l (circuit_of c) d.m alike d.right.well;
+        agrees = agrees_alike n d.l (circuit_of c) d.m alike runs both (checked c.flow.seed c.size fit.least fit.most).ordered said.machine.checked.ordered d.right.agrees;
         stands = subst (λ (o : Option Files). IfSome o (λ files. get files c.flow.source ≡ Some (circuit_text c))) (sym d.written)
             (written_apart (with_source old c) c.flow.source d.bytes (layout_name c.flow.out) (apart c fit) ∙ written_here old c.flow.source (circuit_text c));
       }

@@ -10,4 +10,5 @@ pub mod Lines
 pub mod Standing
 pub mod Rows
 pub mod Circuits
+pub mod Spared
 pub mod Words

@@ -32,7 +32,7 @@ stood files c first more g h =
 
 -- ---- and back
 
-held_is : (files : Files) (name bytes : List ℕ) → Holds files name bytes → held (get files name) (limited name) ≡ got bytes
+pub held_is : (files : Files) (name bytes : List ℕ) → Holds files name bytes → held (get files name) (limited name) ≡ got bytes
 held_is files name bytes h =
     ap (λ (o : Option (List ℕ)). held o (limited name)) h.is ∙ cond-true (leb (length bytes) 1048576) (got bytes) (long 1048576) (le-leb (length bytes) 1048576 h.fits)
 

@@ -3,6 +3,7 @@ use Rattle.std.proofs.Common.{◌≡◌, ◌⊎◌, inr, ℕ, ◌≤◌, Bool, t
 use Rattle.std.specs.Prelude.{codes}
 use Rattle.std.proofs.lemmas.Bool.{leb-true}
 use Rattle.vlsi_base.specs.Number.{value_of}
+use Rattle.vlsi_shelf.specs.Files.{Files}
 use Rattle.clap.specs.Words.{Row, first_of}
 use Rattle.tool_words.specs.declared.table.Tool.{Tool}
 use Rattle.tool_words.specs.declared.table.Tool.TheVariants as tool
@@ -30,7 +31,7 @@ use Rattle.tool_run.specs.Answers.{IsAnswerTo, memory_answer}
 use Rattle.flow_run.specs.Flow.{flow_plan, flow_answers}
 use Rattle.flow_run.specs.Causes.{IsHeadline, IsFree}
 use Rattle.flow_run.specs.Laws.{WhatIsReadIsNeverRefused}
-use Rattle.flow_run.specs.Generated.{IsFitting, IsRun, unwritten, IsGenHeadline, IsGenFree, RunsHaveHeadlines, FreeRunsEnd}
+use Rattle.flow_run.specs.Generated.{IsFitting, IsRun, unwritten, IsGenHeadline, IsSourceSpared, IsGenFree, RunsHaveHeadlines, SourcesAreSpared, FreeRunsEnd}
 use Rattle.flow_run.proofs.Rows.{if_some, headline_of, laid_free}
 
 line_is : (words : List (List ℕ)) (s : Status) → (s ≡ status.Usage → ⊥) → line_of_tool (tool_of words) s ≡ line_of words s
@@ -215,6 +216,12 @@ gen_headline_at law ws k before now s is h =
     subst (λ (o : Option Command). IfSome (as_gen o) (λ c. s ≡ status.Accepted → IsGenHeadline c before now)) (sym is)
     (both (as_gen (Some k)) (λ c fit run accepted. law c before now s fit run accepted) (fitting ws k is) h)
 
+pub spared_at : SourcesAreSpared → (ws : List (List ℕ)) (k : Command) (before now : Outside) (s : Status) → command_of ws ≡ Some k
+    → IfSome (as_gen (Some k)) (λ c. IsRun c before now s) → IfSome (gen_of ws) (λ c. IsSourceSpared c before s)
+spared_at law ws k before now s is h =
+    subst (λ (o : Option Command). IfSome (as_gen o) (λ c. IsSourceSpared c before s)) (sym is)
+    (both (as_gen (Some k)) (λ c fit run. law c before now s fit run) (fitting ws k is) h)
+
 pub gen_free_at : FreeRunsEnd → (ws : List (List ℕ)) (k : Command) (before now : Outside) (s : Status) → command_of ws ≡ Some k
     → IfSome (as_gen (Some k)) (λ c. IsRun c before now s) → IfSome (gen_of ws) (λ c. IsGenFree c before now → (s ≡ status.Accepted) ⊎ (s ≡ status.Memory))
 gen_free_at law ws k before now s is h =
@@ -230,6 +237,17 @@ never_run ws words.Memory before now s same is none =
 pub no_gen_headline : (ws : List (List ℕ)) (e : WordsError) (before now : Outside) (s : Status) → s ≡ status_of e
     → IfSome (gen_of ws) (λ c. s ≡ status.Accepted → IsGenHeadline c before now)
 no_gen_headline ws e before now s is = all_some (gen_of ws) (λ c accepted. absurd (not_accepted e s is accepted))
+
+any_files : (told : Option Files) → IfSome told (λ old. Unit {0})
+any_files None = tt
+any_files (Some old) = tt
+
+unread_spared : (c : GenCommand) (before : Outside) (e : WordsError) → IsSourceSpared c before (status_of e)
+unread_spared c before words.Usage = any_files before.files
+unread_spared c before words.Memory = any_files before.files
+
+pub no_words_spared : (ws : List (List ℕ)) (e : WordsError) (before : Outside) (s : Status) → s ≡ status_of e → IfSome (gen_of ws) (λ c. IsSourceSpared c before s)
+no_words_spared ws e before s is = all_some (gen_of ws) (λ c. subst (λ (x : Status). IsSourceSpared c before x) (sym is) (unread_spared c before e))
 
 pub no_gen_free : (ws : List (List ℕ)) (e : WordsError) (before now : Outside) (s : Status) → s ≡ status_of e → (IsErrOf {T = Command} (Err e) words.Usage → command_of ws ≡ None)
     → IfSome (gen_of ws) (λ c. IsGenFree c before now → (s ≡ status.Accepted) ⊎ (s ≡ status.Memory))

@@ -1,6 +1,7 @@
 -- What a run of `gen` is: the text of a circuit is written as NAME.vbe, and from there `flow` answers.
 use Rattle.std.specs.Prelude.{◌≡◌, ◌⊎◌, ◌≤◌, true, ℕ, ◌++◌, List, codes, Option, Some, IfSome}
 use Rattle.std.specs.FinMap.{get, insert}
+use Rattle.vlsi_base.specs.declared.fault.Limit.{Limit}
 use Rattle.vlsi_shelf.specs.Files.{Files}
 use Rattle.vlsi_shelf.specs.Counts.{Rose, NoneFalls}
 use Rattle.vlsi_shelf.specs.Shelf.{Writes, SameBut}
@@ -8,13 +9,16 @@ use Rattle.vlsi_shelf.specs.Sink.{Puts}
 use Rattle.machine_meaning.specs.Machine.{Machine}
 use Rattle.machine_alike.specs.Alike.{IsAlike}
 use Rattle.vbe_io.specs.Text.{IsVbe}
-use Rattle.vbe_again.specs.Said.{text}
 use Rattle.catal.specs.Cells.{cells_in}
 use Rattle.cell_model.specs.Library.{Library}
-use Rattle.cell_lib.specs.Files.{catal_name, cell_files}
-use Rattle.cell_lib.specs.Library.{IsLibraryOf}
+use Rattle.cell_lib.specs.declared.error.LibError.{LibError}
+use Rattle.cell_lib.specs.Files.{catal_name, cell_files, library_plan}
+use Rattle.cell_lib.specs.Library.{IsLibraryOf, IsRefusedLibrary, status_of}
 use Rattle.boog_map.specs.Netlist.{Covers}
+use Rattle.net_meaning.specs.Well.{IsWell}
+use Rattle.net_meaning.specs.Agreement.{Agrees}
 use Rattle.gen_circuit.specs.Generated.{generated}
+use Rattle.gen_circuit.specs.Written.{text}
 use Rattle.gen_circuit.specs.declared.making.TheConstants.{LEAST_SIZE, MOST_SIZE}
 use Rattle.tool_words.specs.declared.command.GenCommand.{GenCommand}
 use Rattle.tool_drive.specs.declared.status.Status.{Status}
@@ -22,7 +26,8 @@ use Rattle.tool_drive.specs.declared.status.Status.TheVariants as status
 use Rattle.tool_drive.specs.declared.status.FileCause.TheVariants.{WriteFault}
 use Rattle.tool_drive.specs.Outside.{Outside, IsUntouched, NothingFailed}
 use Rattle.tool_drive.specs.Held.{Holds, AreHad}
-use Rattle.tool_drive.specs.Table.{Caused, IsComplete}
+use Rattle.tool_drive.specs.Plan.{long, reading}
+use Rattle.tool_drive.specs.Table.{file_limit, Caused, IsComplete}
 use Rattle.flow_run.specs.Flow.{flow_plan, flow_answers, IsWithinNodes, IsRefused}
 use Rattle.flow_run.specs.Causes.{IsDrawn}
 
@@ -32,7 +37,7 @@ pub record IsFitting (c : GenCommand) : Type 0 where
   pub most : c.size ≤ MOST_SIZE
   pub source : c.flow.source ≡ c.flow.out ++ codes ".vbe"
 
--- the circuit of the size and the seed that are asked for, and its text
+-- the circuit of the size and the seed that are asked for, and its text, in which the gates are g0, g1, and so on, as in the circuit
 abbrev pub circuit_of : GenCommand → Machine
 circuit_of c = generated c.flow.seed c.size
 
@@ -68,17 +73,47 @@ pub data IsRun (c : GenCommand) (before now : Outside) (s : Status) : Type 0 whe
 abbrev pub with_source : Files → GenCommand → Files
 with_source files c = insert files c.flow.source (circuit_text c)
 
--- NAME.vbe holds the text of exactly this circuit; what that says is a machine that is alike; NAME.ap is a right layout of it, by the
--- library that stood there, on which the report is this one; and every other file is as it was.
+-- NAME.vbe holds a text of exactly this circuit. NAME.ap is a right layout, by the library that stood there, of a machine of this text,
+-- which leaves the order of equations open; the report is that on it; and the netlist of the layout is well formed for exactly this
+-- circuit, and behaves as it. Every other file is as it was.
 pub record IsGenerated (old : Files) (now : Option Files) (c : GenCommand) (report : List ℕ) : Type 0 where
+  pub itself : IsVbe (circuit_text c) (circuit_of c)
   pub drawn : IsDrawn (with_source old c) now c.flow report
   pub said : IsVbe (circuit_text c) drawn.m
   pub alike : IsAlike (circuit_of c) drawn.m
+  pub well : IsWell drawn.right.netlist drawn.l (circuit_of c)
+  pub agrees : Agrees drawn.right.netlist drawn.l (circuit_of c)
   pub stands : IfSome now (λ files. get files c.flow.source ≡ Some (circuit_text c))
 
 -- exactly the report was printed, and source and layout stand whole
 abbrev pub IsGenHeadline : GenCommand → Outside → Outside → Type 0
 IsGenHeadline c before now = (report : List ℕ) × Puts before.told now.told report × IfSome before.files (λ old. IsGenerated old now.files c report)
+
+-- ---- refusals over told files
+
+-- CATAL, or the first of its cells that is none, is refused so.
+pub record IsLibraryRefused (c : GenCommand) (files : Files) (s : Status) : Type 0 where
+  pub catal : List ℕ
+  pub cells : List (List ℕ)
+  pub catal_is : Holds files (catal_name c.flow.library) catal
+  pub cells_are : AreHad files (cell_files c.flow.library (cells_in catal)) cells
+  pub error : LibError
+  pub refused : IsRefusedLibrary true catal cells error
+  pub is : s ≡ status_of error
+
+-- a file of the library is the first that is longer than it may be
+abbrev pub IsLibraryTooLong : GenCommand → Files → Limit → Type 0
+IsLibraryTooLong c files l = (most : ℕ) × (l ≡ file_limit most) × (reading files (library_plan c.flow.library) ≡ long most)
+
+-- Status 2 never comes, and 9 comes for a file of the library alone.
+abbrev pub IsForLibrary : GenCommand → Files → Status → Type 0
+IsForLibrary c files (status.Source name fault) = ⊥
+IsForLibrary c files (status.Limit l) = IsLibraryTooLong c files l ⊎ IsLibraryRefused c files (status.Limit l)
+IsForLibrary c files s = Unit {0}
+
+-- So it is over files that are told, whatever the library is.
+abbrev pub IsSourceSpared : GenCommand → Outside → Status → Type 0
+IsSourceSpared c before s = IfSome before.files (λ old. IsForLibrary c (with_source old c) s)
 
 -- ---- completeness
 
@@ -108,10 +143,13 @@ CircuitsAreNeverRefused =
     → IsFitting c → IsLibraryOf true catal cells l → Covers l (circuit_of c)
     → ((m : Machine) → IsVbe (circuit_text c) m → IsWithinNodes m c.flow.nodes) → IsRefused c.flow (circuit_text c) catal cells s → ⊥
 
--- From a run to its headline, and to an answer of 0.
+-- From a run to its headline, to what of its refusals comes, and to an answer of 0.
 abbrev pub RunsHaveHeadlines : Type 0
 RunsHaveHeadlines =
     (c : GenCommand) (before now : Outside) (s : Status) → IsFitting c → IsRun c before now s → s ≡ status.Accepted → IsGenHeadline c before now
+
+abbrev pub SourcesAreSpared : Type 0
+SourcesAreSpared = (c : GenCommand) (before now : Outside) (s : Status) → IsFitting c → IsRun c before now s → IsSourceSpared c before s
 
 abbrev pub FreeRunsEnd : Type 0
 FreeRunsEnd =

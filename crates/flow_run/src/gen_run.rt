@@ -6,16 +6,20 @@ ghost use Rattle.vlsi_shelf.specs.Shelf.{Writes};
 ghost use Rattle.tool_drive.specs.Outside.{outside, IsLine};
 ghost use Rattle.tool_drive.specs.Status.{has_line};
 ghost use Rattle.tool_drive.specs.Lines.{line_of};
-ghost use Rattle.flow_run.specs.Generated.{IsFitting, IsRun, IsUnwritten, RunsHaveHeadlines, FreeRunsEnd, CircuitsAreNeverRefused, circuit_text};
+ghost use Rattle.flow_run.specs.Generated.{IsFitting, IsRun, IsUnwritten, RunsHaveHeadlines, SourcesAreSpared, FreeRunsEnd, CircuitsAreNeverRefused, circuit_text};
 
 use crate::flow::run_flow;
 use crate::reading::reading_law;
-use gen_circuit::{circuit, circuits_are_read_again, circuits_are_small, circuits_can_be_written};
+use gen_circuit::{
+    circuit, circuits_are_checked, circuits_are_read_again, circuits_are_small,
+    circuits_can_be_written,
+};
 use lib_same::{libraries_are_same, library_is_never_refused};
+use machine_alike::alike_law;
 use std::alloc::{AllocError, Global};
 use tool_drive::{FileCause, Status, tell};
 use tool_words::GenCommand;
-use vbe_write::write_vbe;
+use vbe_write::write_vbe_by;
 use vlsi_base::FileBytes;
 use vlsi_shelf::{Shelf, ShelfError, Sink};
 
@@ -31,15 +35,18 @@ pub fn circuit_law()
     libraries_are_same();
 }
 
-/// Where a run answers 0, source and layout stand whole; and where nothing stands in its way, it answers 0, or out of memory. It costs
-/// nothing when it is called.
+/// Where a run answers 0, source and layout stand whole; the source that it writes is never refused; and where nothing stands in its
+/// way, it answers 0, or out of memory. It costs nothing when it is called.
 pub fn gen_law()
     ensures headline { RunsHaveHeadlines }
+    ensures spared { SourcesAreSpared }
     ensures free { FreeRunsEnd }
 {
     circuit_law();
+    circuits_are_checked();
     circuits_can_be_written();
     circuits_are_read_again();
+    alike_law();
 }
 
 // The text of the circuit that is asked for.
@@ -50,7 +57,7 @@ fn source_text(alloc: Global, command: &GenCommand) -> Result<FileBytes, AllocEr
     circuits_are_small();
     circuits_can_be_written();
     let machine = circuit(alloc, command.flow.seed, command.size)?;
-    write_vbe(alloc, &machine)
+    write_vbe_by(alloc, &machine, b"g")
 }
 
 // Writes it as the source.

@@ -9,7 +9,7 @@ ghost use Rattle.tool_run.specs.Usage.{line_of};
 ghost use Rattle.tool_run.specs.Answers.{IsAnswerTo};
 ghost use Rattle.flow_run.specs.Flow.{flow_plan, flow_answers};
 ghost use Rattle.flow_run.specs.Causes.{IsHeadline, IsFree};
-ghost use Rattle.flow_run.specs.Generated.{IsFitting, IsRun, IsGenHeadline, IsGenFree};
+ghost use Rattle.flow_run.specs.Generated.{IsFitting, IsRun, IsGenHeadline, IsSourceSpared, IsGenFree};
 
 use crate::flow::run_flow;
 use crate::gen_run::{gen_law, run_gen};
@@ -112,10 +112,14 @@ pub fn alliance_main<S: Shelf, T: Sink>(
     ensures run { IfSome (gen_of words.now) (λ c. IsRun c
         (outside (S.seen shelf.old) (T.seen out.old)) (outside (S.seen shelf.new) (T.seen out.new)) result) }
 
-    // Where it answers 0, NAME.vbe is the text of exactly this circuit and NAME.ap is a right layout of it, and the report on it was
-    // printed.
+    // Where it answers 0, NAME.vbe is a text of exactly this circuit, NAME.ap is a right layout of what this text is, whose netlist
+    // behaves as exactly this circuit, and the report on it was printed.
     ensures generated { IfSome (gen_of words.now) (λ c. result ≡ Status.Accepted
         → IsGenHeadline c (outside (S.seen shelf.old) (T.seen out.old)) (outside (S.seen shelf.new) (T.seen out.new))) }
+
+    // Over told files, whatever the library is, the source is never refused: status 2 never comes, and 9 for a file of the library
+    // alone.
+    ensures spared { IfSome (gen_of words.now) (λ c. IsSourceSpared c (outside (S.seen shelf.old) (T.seen out.old)) result) }
 
     // Where all files of the library are there, and are one that covers it, no diagram is over the budget, and no call failed, it
     // answers 0, or out of memory.

@@ -150,15 +150,15 @@ rising_less m zero = All-nil (λ k. k < m + 0)
 rising_less m (suc n) =
     All-cons (λ k. k < m + suc n) m (rising (m + 1) n) (omega arith) (All-weaker (λ k. k < m + 1 + n) (λ k. k < m + suc n) (λ k w. omega (arith, w)) (rising (m + 1) n) (rising_less (m + 1) n))
 
-number_brief : (k : ℕ) → k < 2 ^ 32 → length (numbered (codes "n") k) ≤ 11
+number_brief : (k : ℕ) → k < 2 ^ 32 → length (numbered (codes "g") k) ≤ 11
 number_brief k small = let n = length-decimal-le 10 k (omega arith) (omega (arith, small)) (omega (arith, small)) in omega (arith, n)
 
-pub texts_brief : (taken : List (List ℕ)) (many : ℕ) → many + length taken ≤ 2 ^ 32 → All (λ t. length t ≤ 11) (free_texts (codes "n") taken many)
+pub texts_brief : (taken : List (List ℕ)) (many : ℕ) → many + length taken ≤ 2 ^ 32 → All (λ t. length t ≤ 11) (free_texts (codes "g") taken many)
 texts_brief taken many few =
     let most = many + length taken in
-    let p : ℕ → Bool = λ k. is_free taken (numbered (codes "n") k) in
-    let G : ℕ → Type 0 = λ k. length (numbered (codes "n") k) ≤ 11 in
-    All-map (λ t. length t ≤ 11) (numbered (codes "n")) (free_numbers (codes "n") taken many)
+    let p : ℕ → Bool = λ k. is_free taken (numbered (codes "g") k) in
+    let G : ℕ → Type 0 = λ k. length (numbered (codes "g") k) ≤ 11 in
+    All-map (λ t. length t ≤ 11) (numbered (codes "g")) (free_numbers (codes "g") taken many)
     (All-take G many (filter p (rising 0 most))
     (All-filter p G (rising 0 most) (All-weaker (λ k. k < 0 + most) G (λ k w. number_brief k (omega (arith, w, few))) (rising 0 most) (rising_less 0 most))))
 

@@ -5,4 +5,5 @@ pub mod Made
 pub mod Named
 pub mod Lengths
 pub mod Long
+pub mod Own
 pub mod Read

@@ -18,9 +18,9 @@ use Rattle.vst_write.specs.Structure.{signals_layout, begin_layout}
 use Rattle.free_names.proofs.Enough.{are_free}
 use Rattle.vst_again.specs.Says.{IsShort, IsSmall, IsSmallPort}
 use Rattle.vbe_write.specs.Expressions.{name_of}
-use Rattle.vbe_write.specs.Written.{is_output, inner_count, taken_texts, signal_texts, written_names, written_vars, with_supply_ports, head_layout, registers_layout, equations_layout, storage_layout, last_layout, layout}
+use Rattle.vbe_write.specs.Written.{is_output, inner_count, taken_texts, signal_texts, written_names, written_vars, with_supply_ports, head_layout, registers_layout, equations_layout, storage_layout, last_layout, layout_by}
 use Rattle.vbe_again.specs.Nesting.{bit_within, shape_of, operand_within, IsWithin, IsValueWithin}
-use Rattle.vbe_again.specs.Said.{text, operators, IsFewValues, IsWithinLimits}
+use Rattle.vbe_again.specs.Said.{text_by, operators, IsFewValues, IsWithinLimitsBy}
 use Rattle.vbe_again.proofs.Known.{all_in, any_in, renamed_all}
 use Rattle.gen_circuit.specs.Generated.{clock, four_bits, ports, kind, gates, output, register, circuit_by}
 use Rattle.gen_circuit.proofs.Named.{each_all}
@@ -64,48 +64,48 @@ inner_few ws size =
 taken_few : (ws : List ℕ) (size : ℕ) → length (taken_texts (circuit_by ws size)) ≡ 13
 taken_few ws size = refl
 
-signals_each : (ws : List ℕ) (size : ℕ) → length ws ≤ 4000 → length (signal_texts (circuit_by ws size)) ≡ inner_count (circuit_by ws size)
+signals_each : (ws : List ℕ) (size : ℕ) → length ws ≤ 4000 → length (signal_texts (codes "g") (circuit_by ws size)) ≡ inner_count (circuit_by ws size)
 signals_each ws size few =
     let m = circuit_by ws size in
     let inner = inner_few ws size in
     let taken = taken_few ws size in
-    (are_free (codes "n") (taken_texts m) (inner_count m) (omega (arith, inner, taken, few))).each
+    (are_free (codes "g") (taken_texts m) (inner_count m) (omega (arith, inner, taken, few))).each
 
-signals_brief : (ws : List ℕ) (size : ℕ) → length ws ≤ 4000 → All (λ t. length t ≤ 11) (signal_texts (circuit_by ws size))
+signals_brief : (ws : List ℕ) (size : ℕ) → length ws ≤ 4000 → All (λ t. length t ≤ 11) (signal_texts (codes "g") (circuit_by ws size))
 signals_brief ws size few =
     let m = circuit_by ws size in
     let inner = inner_few ws size in
     let taken = taken_few ws size in
     texts_brief (taken_texts m) (inner_count m) (omega (arith, inner, taken, few))
 
-names_brief : (ws : List ℕ) (size : ℕ) → length ws ≤ 4000 → All IsBrief (written_names (circuit_by ws size))
+names_brief : (ws : List ℕ) (size : ℕ) → length ws ≤ 4000 → All IsBrief (written_names (codes "g") (circuit_by ws size))
 names_brief ws size few =
     let m = circuit_by ws size in
     let each = signals_each ws size few in
-    let mapped = length-map (signal_texts m) scalar in
-    renamed_all IsBrief (is_output m) (equation_names m) (map scalar (signal_texts m))
+    let mapped = length-map (signal_texts (codes "g") m) scalar in
+    renamed_all IsBrief (is_output m) (equation_names m) (map scalar (signal_texts (codes "g") m))
     (λ n e. all_in IsBrief (four_bits (codes "y")) (four_brief (codes "y") (omega arith)) n (any_in (outputs m) n e))
-    (All-map IsBrief scalar (signal_texts m) (All-weaker (λ t. length t ≤ 11) (λ t. IsBrief (scalar t)) scalar_brief (signal_texts m) (signals_brief ws size few)))
+    (All-map IsBrief scalar (signal_texts (codes "g") m) (All-weaker (λ t. length t ≤ 11) (λ t. IsBrief (scalar t)) scalar_brief (signal_texts (codes "g") m) (signals_brief ws size few)))
     (omega (arith, each, mapped))
 
-vars_brief : (ws : List ℕ) (size : ℕ) → length ws ≤ 4000 → All IsBrief (written_vars (circuit_by ws size))
+vars_brief : (ws : List ℕ) (size : ℕ) → length ws ≤ 4000 → All IsBrief (written_vars (codes "g") (circuit_by ws size))
 vars_brief ws size few =
-    All-append IsBrief (four_bits (codes "x")) (four_bits (codes "r") ++ written_names (circuit_by ws size)) (four_brief (codes "x") (omega arith))
-    (All-append IsBrief (four_bits (codes "r")) (written_names (circuit_by ws size)) (four_brief (codes "r") (omega arith)) (names_brief ws size few))
+    All-append IsBrief (four_bits (codes "x")) (four_bits (codes "r") ++ written_names (codes "g") (circuit_by ws size)) (four_brief (codes "x") (omega arith))
+    (All-append IsBrief (four_bits (codes "r")) (written_names (codes "g") (circuit_by ws size)) (four_brief (codes "r") (omega arith)) (names_brief ws size few))
 
 -- ---- the whole text
 
-text_short : (ws : List ℕ) (n : ℕ) → length ws ≤ 4000 → length (text (circuit_by ws n)) ≤ 1048576
-unfolding layout
+text_short : (ws : List ℕ) (n : ℕ) → length ws ≤ 4000 → length (text_by (codes "g") (circuit_by ws n)) ≤ 1048576
+unfolding layout_by
 text_short ws n few =
     let m = circuit_by ws n in
     let vars = vars_brief ws n few in
     let A = entity_layout (outline (codes "gen") (with_supply_ports ports)) in
     let B = head_layout (codes "gen") in
-    let C = signals_layout (signal_texts m) in
+    let C = signals_layout (signal_texts (codes "g") m) in
     let D = registers_layout (four_bits (codes "r")) in
-    let F = equations_layout (written_vars m) (written_names m) m.equations in
-    let G = storage_layout (written_vars m) (Some clock) (map (register n) (rising 0 4)) in
+    let F = equations_layout (written_vars (codes "g") m) (written_names (codes "g") m) m.equations in
+    let G = storage_layout (written_vars (codes "g") m) (Some clock) (map (register n) (rising 0 4)) in
     let a = size_both A (B ++ (C ++ (D ++ (begin_layout ++ (F ++ (G ++ last_layout)))))) in
     let b = size_both B (C ++ (D ++ (begin_layout ++ (F ++ (G ++ last_layout))))) in
     let c = size_both C (D ++ (begin_layout ++ (F ++ (G ++ last_layout)))) in
@@ -118,20 +118,20 @@ text_short ws n few =
     let head : size B ≡ 34 = refl in
     let begin : size begin_layout ≡ 6 = refl in
     let last : size last_layout ≡ 15 = refl in
-    let signals = signals_size (signal_texts m) (signals_brief ws n few) in
-    let equations = equations_size (written_vars m) (written_names m) m.equations (names_brief ws n few)
-    (by_equations (IsShortValue (written_vars m)) (λ w a b. gate_short (written_vars m) vars (kind w) a b) (name_short (written_vars m) vars) ws n) in
-    let blocks = blocks_size (written_vars m) vars n in
+    let signals = signals_size (signal_texts (codes "g") m) (signals_brief ws n few) in
+    let equations = equations_size (written_vars (codes "g") m) (written_names (codes "g") m) m.equations (names_brief ws n few)
+    (by_equations (IsShortValue (written_vars (codes "g") m)) (λ w a b. gate_short (written_vars (codes "g") m) vars (kind w) a b) (name_short (written_vars (codes "g") m) vars) ws n) in
+    let blocks = blocks_size (written_vars (codes "g") m) vars n in
     let inner = inner_few ws n in
     let each = signals_each ws n few in
     let many = length_equations ws n in
-    let all : length (text m) ≡ size (A ++ (B ++ (C ++ (D ++ (begin_layout ++ (F ++ (G ++ last_layout))))))) = refl in
+    let all : length (text_by (codes "g") m) ≡ size (A ++ (B ++ (C ++ (D ++ (begin_layout ++ (F ++ (G ++ last_layout))))))) = refl in
     omega (arith, a, b, c, d, e, f, g, entity, head, stored, begin, last, signals, equations, blocks, inner, each, many, all, few)
 
-pub within_limits : (ws : List ℕ) (n : ℕ) → length ws ≤ 4000 → IsWithinLimits (circuit_by ws n)
+pub within_limits : (ws : List ℕ) (n : ℕ) → length ws ≤ 4000 → IsWithinLimitsBy (codes "g") (circuit_by ws n)
 within_limits ws n few =
     let m = circuit_by ws n in
-    let vars = written_vars m in
+    let vars = written_vars (codes "g") m in
     record {
       name = omega arith;
       ports = each_all IsSmallPort ports (

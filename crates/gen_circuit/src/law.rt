@@ -2,6 +2,8 @@
 ghost use Rattle.gen_circuit.specs.Laws.{CircuitsAreChecked, CircuitsAreSmall};
 ghost use Rattle.gen_circuit.specs.Written.{CircuitsCanBeWritten, CircuitsAreReadAgain};
 
+use vbe_each::each_text_has_an_answer;
+
 /// Every circuit is a checked machine. It costs nothing when it is called.
 pub fn circuits_are_checked()
     ensures { CircuitsAreChecked }
@@ -17,8 +19,10 @@ pub fn circuits_can_be_written()
     ensures { CircuitsCanBeWritten }
 {}
 
-/// What the text of a circuit is read as does the same and is small enough for each tool; and it is refused only where memory has run
-/// out. It costs nothing when it is called.
+/// The text of a circuit is a text of exactly this circuit, and each machine of that text does the same and is small enough for each
+/// tool; and it is refused only where memory has run out. It costs nothing when it is called.
 pub fn circuits_are_read_again()
     ensures { CircuitsAreReadAgain }
-{}
+{
+    each_text_has_an_answer();
+}

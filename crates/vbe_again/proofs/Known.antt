@@ -1,6 +1,9 @@
 -- What is known of each member of a list, and of the free texts that a machine's text gives to inner signals.
-use Rattle.std.proofs.Common.{◌≡◌, ℕ, zero, suc, ◌+◌, ◌<◌, ◌≤◌, ◌^◌, Bool, true, false, not, cond, ◌||◌, List, [], ◌∷◌, ◌++◌, map, length, filter, bytes_eq, slice_index, refl, sym, subst, arith, codes, get_or}
-use Rattle.std.specs.List.{All, list_any}
+use Rattle.std.proofs.Common.{◌≡◌, ℕ, zero, suc, ◌+◌, ◌<◌, ◌≤◌, ◌^◌, Bool, true, false, not, cond, ◌||◌, List, [], ◌∷◌, ◌++◌, map, length, filter, bytes_eq, slice_index, refl, sym, subst, arith, get_or}
+use Rattle.std.specs.List.{All, list_any, list_all}
+use Rattle.std.specs.Char.{is_ascii_digit}
+use Rattle.std.specs.Fmt.{decimal}
+use Rattle.std.proofs.lemmas.Bool.{and_parts}
 use Rattle.std.proofs.lemmas.Fmt.{length-decimal-le}
 use Rattle.std.proofs.lemmas.List.Elements.{All-head, All-tail, All-cons, All-nil, All-map, All-weaker, All-take, All-filter, filter_passes}
 use Rattle.std.proofs.lemmas.List.Sums.{AllPass-from_list_all}
@@ -9,11 +12,14 @@ use Rattle.vlsi_base.specs.Member.{In, here, there, AllDifferent}
 use Rattle.vlsi_base.specs.Range.{rising}
 use Rattle.machine_meaning.specs.Named.{is_same_name}
 use Rattle.machine_core.proofs.Names.{same_name-true}
+use Rattle.spell_theory.specs.Words.{is_small_letter, is_in_small_word}
+use Rattle.spell_theory.proofs.Letters.{by_bytes, small_letter, decimal_is}
 use Rattle.port_words.proofs.Numbered.{numbered as is_numbered}
 use Rattle.free_names.specs.Free.{is_free, numbered, free_numbers, free_texts}
 use Rattle.vhdl_again.specs.EntityAgain.{IsName}
 use Rattle.vst_again.proofs.Names.{AllApart, not_of, name_of_identifier}
 use Rattle.vbe_write.specs.Written.{renamed}
+use Rattle.vbe_again.specs.Said.{IsLetter}
 
 -- ---- members
 
@@ -60,28 +66,44 @@ rising_less m zero = All-nil (λ k. k < m + 0)
 rising_less m (suc n) =
     All-cons (λ k. k < m + suc n) m (rising (m + 1) n) (omega arith) (All-weaker (λ k. k < m + 1 + n) (λ k. k < m + suc n) (λ k w. omega (arith, w)) (rising (m + 1) n) (rising_less (m + 1) n))
 
--- a text that a signal has: a word that is no text of a port or a register, and begins as no supply does
+-- a text that a signal has: a word that is no text of a port or a register, whose second letter is a digit, which that of no supply is
 pub record IsSignalText (taken : List (List ℕ)) (t : List ℕ) : Type 0 where
   pub name : IsName t
   pub free : is_free taken t ≡ true
-  pub first : slice_index t 0 ≡ 110
+  pub second : is_ascii_digit (slice_index t 1) ≡ true
 
-one_signal : (taken : List (List ℕ)) (k : ℕ) → k < 2 ^ 32 → is_free taken (numbered (codes "n") k) ≡ true → IsSignalText taken (numbered (codes "n") k)
-one_signal taken k small free =
+first_digit : (ds : List ℕ) → list_all is_ascii_digit ds ≡ true → 0 < length ds → is_ascii_digit (slice_index ds 0) ≡ true
+first_digit [] all some = absurd (omega (arith, some))
+first_digit (d ∷ ds) all some = (and_parts (is_ascii_digit d) (list_all is_ascii_digit ds) all).0
+
+one_signal : (letter : ℕ) (taken : List (List ℕ)) (k : ℕ) → is_small_letter letter ≡ true → k < 2 ^ 32 → is_free taken (letter ∷ decimal k) ≡ true
+    → IsSignalText taken (letter ∷ decimal k)
+one_signal letter taken k is small free =
     let n = length-decimal-le 10 k (omega arith) (omega (arith, small)) (omega (arith, small)) in
-    record { name = name_of_identifier (numbered (codes "n") k) (is_numbered 110 k refl refl (omega (arith, small))) (omega (arith, n)); free = free; first = refl }
+    let d = decimal_is k (omega (arith, small)) in
+    let within : is_in_small_word letter ≡ true = by_bytes is_small_letter is_in_small_word refl letter (small_letter letter is) is in
+    record {
+      name = name_of_identifier (letter ∷ decimal k) (is_numbered letter k is within (omega (arith, small))) (omega (arith, n));
+      free = free;
+      second = first_digit (decimal k) d.digits d.some;
+    }
 
-pub signals_good : (taken : List (List ℕ)) (many : ℕ) → many + length taken ≤ 2 ^ 32 → All (IsSignalText taken) (free_texts (codes "n") taken many)
-signals_good taken many few =
+signals_of : (letter : ℕ) (taken : List (List ℕ)) (many : ℕ) → is_small_letter letter ≡ true → many + length taken ≤ 2 ^ 32
+    → All (IsSignalText taken) (free_texts (letter ∷ []) taken many)
+signals_of letter taken many is few =
     let most = many + length taken in
-    let p : ℕ → Bool = λ k. is_free taken (numbered (codes "n") k) in
-    let G : ℕ → Type 0 = λ k. IsSignalText taken (numbered (codes "n") k) in
-    All-map (IsSignalText taken) (numbered (codes "n")) (free_numbers (codes "n") taken many)
+    let p : ℕ → Bool = λ k. is_free taken (letter ∷ decimal k) in
+    let G : ℕ → Type 0 = λ k. IsSignalText taken (letter ∷ decimal k) in
+    All-map (IsSignalText taken) (numbered (letter ∷ [])) (free_numbers (letter ∷ []) taken many)
     (All-take G many (filter p (rising 0 most))
     (λ k d l. (
     let w = All-filter p (λ k. k < 0 + most) (rising 0 most) (rising_less 0 most) k d l in
-    one_signal taken (get_or (filter p (rising 0 most)) k d) (omega (arith, w, few)) (filter_passes p (rising 0 most) k d l)
+    one_signal letter taken (get_or (filter p (rising 0 most)) k d) is (omega (arith, w, few)) (filter_passes p (rising 0 most) k d l)
     )))
+
+pub signals_good : (stem : List ℕ) (taken : List (List ℕ)) (many : ℕ) → IsLetter stem → many + length taken ≤ 2 ^ 32 → All (IsSignalText taken) (free_texts stem taken many)
+signals_good stem taken many is few =
+    subst (λ (s : List ℕ). All (IsSignalText taken) (free_texts s taken many)) (sym is.is) (signals_of is.letter taken many is.small few)
 
 -- ---- names that are replaced
 

@@ -1,6 +1,7 @@
 -- The text of a machine can be laid out: names are words, what is declared is new, and numbers are within the limits.
-use Rattle.std.proofs.Common.{◌≡◌, inl, inr, ℕ, ◌+◌, ◌-◌, ◌<◌, ◌≤◌, ◌^◌, Bool, not, List, [], ◌∷◌, ◌++◌, map, map-id, length, filter, None, Some, slice_index, refl, sym, ap, subst, ◌∙◌, arith, codes, length-append, get_or}
+use Rattle.std.proofs.Common.{◌≡◌, inl, inr, ℕ, ◌+◌, ◌-◌, ◌<◌, ◌≤◌, ◌^◌, Bool, true, false, not, List, [], ◌∷◌, ◌++◌, map, map-id, length, filter, None, Some, slice_index, refl, sym, ap, subst, ◌∙◌, arith, codes, length-append, get_or}
 use Rattle.std.specs.List.{All}
+use Rattle.std.specs.Char.{is_ascii_digit}
 use Rattle.std.specs.Ordering.{is_lt}
 use Rattle.std.proofs.lemmas.List.{length-map, map-append}
 use Rattle.std.proofs.lemmas.List.Elements.{All-cons, All-nil, All-map, All-weaker, All-append, All-filter, All-get_or}
@@ -32,20 +33,26 @@ use Rattle.vst_again.proofs.Netlists.{outline_ports}
 use Rattle.vbe_write.specs.Writable.{CanBeVbe}
 use Rattle.vbe_write.specs.Written.{inner_count, is_output, taken_texts, signal_texts, written_names, written_vars, with_supply_ports, as_port, as_ports}
 use Rattle.vbe_write.proofs.Naming.{as_many_vars}
-use Rattle.vbe_again.specs.Said.{IsWithinLimits}
+use Rattle.vbe_again.specs.Said.{IsLetter, IsWithinLimitsBy}
 use Rattle.vbe_again.proofs.Whole.{Parts, parts_entries, CanBeStated}
 use Rattle.vbe_again.proofs.Fits.{AreMentioned, IsMentioned, CanBeSaid}
 use Rattle.vbe_again.proofs.Known.{all_in, all_by, front_all, back_all, unmapped, any_in, apart_of, free_of, IsSignalText, signals_good, renamed_all}
 use Rattle.vbe_again.proofs.Supplied.{supply_groups, all_declared, declared_supplied, written_outline, apart_ports, bits_append, total_declared, group_keys, IsSupplyText, supply_keys}
 
+-- a stem with which a machine's text is within the limits
+pub record Limits (m : Machine) : Type 0 where
+  pub stem : List ℕ
+  pub letter : IsLetter stem
+  pub within : IsWithinLimitsBy stem m
+
 -- what the text of a machine is laid out of
-abbrev pub parts_of : Machine → Parts
-parts_of m = record {
+abbrev pub parts_of : List ℕ → Machine → Parts
+parts_of stem m = record {
   entity = outline m.name (with_supply_ports m.ports);
-  signals = signal_texts m;
+  signals = signal_texts stem m;
   groups = grouped (as_ports (register_names m));
-  vars = written_vars m;
-  names = written_names m;
+  vars = written_vars stem m;
+  names = written_names stem m;
   equations = m.equations;
   clock = m.clock;
   registers = m.registers;
@@ -53,18 +60,18 @@ parts_of m = record {
 
 -- ---- ports and registers
 
-pub good_ports : (m : Machine) → CanBeVbe m → IsWithinLimits m → All GoodPort m.ports
-good_ports m named limits k d l = let s = limits.ports k d l in (name_of_identifier _ (named.ports.words k d l) s.0, s.1)
+pub good_ports : (m : Machine) → CanBeVbe m → Limits m → All GoodPort m.ports
+good_ports m named limits k d l = let s = limits.within.ports k d l in (name_of_identifier _ (named.ports.words k d l) s.0, s.1)
 
 pub names_back : (names : List Name) → map (λ p. p.name) (as_ports names) ≡ names
 names_back [] = refl
 names_back (n ∷ names) = ap (λ (ns : List Name). n ∷ ns) (names_back names)
 
 -- the names of registers as ports
-pub good_stored : (m : Machine) → CanBeVbe m → IsWithinLimits m → All GoodPort (as_ports (register_names m))
+pub good_stored : (m : Machine) → CanBeVbe m → Limits m → All GoodPort (as_ports (register_names m))
 good_stored m named limits =
     let words : All (λ r. IsName r.name.text × IsSmall r.name.bit) m.registers =
-    λ k d l. (let s = limits.registers k d l in (
+    λ k d l. (let s = limits.within.registers k d l in (
       name_of_identifier _ (unmapped (λ (n : Name). Word n) (λ r. r.name) m.registers (unmapped (λ (p : Port). Word p.name) as_port (register_names m) (named.registers.words)) k d l) s.0,
       s.1,
     )) in
@@ -91,19 +98,19 @@ no_stored_supply m checked =
 
 -- ---- how many
 
-pub few_taken : (m : Machine) → IsWithinLimits m → inner_count m + length (taken_texts m) ≤ 2 ^ 32
+pub few_taken : (m : Machine) → Limits m → inner_count m + length (taken_texts m) ≤ 2 ^ 32
 few_taken m limits =
     let a : length (taken_texts m) ≡ length (map (λ p. p.name.text) m.ports) + length (map (λ r. r.name.text) m.registers) = length-append (map (λ p. p.name.text) m.ports) (map (λ r. r.name.text) m.registers) in
     let b : length (map (λ p. p.name.text) m.ports) ≡ length m.ports = length-map m.ports (λ p. p.name.text) in
     let c : length (map (λ r. r.name.text) m.registers) ≡ length m.registers = length-map m.registers (λ r. r.name.text) in
-    let bits = limits.bits in
+    let bits = limits.within.bits in
     omega (arith, a, b, c, bits)
 
-pub signals_are : (m : Machine) → IsWithinLimits m → All (IsSignalText (taken_texts m)) (signal_texts m)
-signals_are m limits = signals_good (taken_texts m) (inner_count m) (few_taken m limits)
+pub signals_are : (m : Machine) → (limits : Limits m) → All (IsSignalText (taken_texts m)) (signal_texts limits.stem m)
+signals_are m limits = signals_good limits.stem (taken_texts m) (inner_count m) limits.letter (few_taken m limits)
 
-pub many_signals : (m : Machine) → IsWithinLimits m → length (signal_texts m) ≡ inner_count m
-many_signals m limits = let few = few_taken m limits in (are_free (codes "n") (taken_texts m) (inner_count m) (omega (arith, few))).each
+pub many_signals : (m : Machine) → (limits : Limits m) → length (signal_texts limits.stem m) ≡ inner_count m
+many_signals m limits = let few = few_taken m limits in (are_free limits.stem (taken_texts m) (inner_count m) (omega (arith, few))).each
 
 -- ---- what is declared is new
 
@@ -134,8 +141,8 @@ supply_stored : (m : Machine) → IsChecked m → (a b : List ℕ) → IsSupplyT
 supply_stored m checked a b s r same = supply_clash r.0.name b a (all_in (λ (r : Register). IsNoSupply r.name) m.registers (no_stored_supply m checked) r.0 r.1) r.2 s (sym same)
 
 supply_signal : (taken : List (List ℕ)) (a b : List ℕ) → IsSupplyText a → IsSignalText taken b → a ≡ b → ⊥
-supply_signal taken a b (inl f) s same = let e : 118 ≡ 110 = ap (λ (t : List ℕ). slice_index t 0) (sym f ∙ same) ∙ s.first in absurd (omega (arith, e))
-supply_signal taken a b (inr f) s same = let e : 118 ≡ 110 = ap (λ (t : List ℕ). slice_index t 0) (sym f ∙ same) ∙ s.first in absurd (omega (arith, e))
+supply_signal taken a b (inl f) s same = let e : false ≡ true = ap (λ (t : List ℕ). is_ascii_digit (slice_index t 1)) (sym f ∙ same) ∙ s.second in absurd cc
+supply_signal taken a b (inr f) s same = let e : false ≡ true = ap (λ (t : List ℕ). is_ascii_digit (slice_index t 1)) (sym f ∙ same) ∙ s.second in absurd cc
 
 port_stored : (m : Machine) → CanBeVbe m → (a b : List ℕ) → IsPortText m a → IsStoredText m b → a ≡ b → ⊥
 port_stored m named a b p r same = named.apart p.0 r.0 p.1 r.1 (p.2 ∙ same ∙ sym r.2)
@@ -155,8 +162,8 @@ port_entries m = map port_entry (map declared (grouped m.ports))
 abbrev pub supply_entries : List Entry
 supply_entries = map port_entry (map declared supply_groups)
 
-abbrev pub signal_entries : Machine → List Entry
-signal_entries m = map signal_entry (signal_texts m)
+abbrev pub signal_entries : List ℕ → Machine → List Entry
+signal_entries stem m = map signal_entry (signal_texts stem m)
 
 abbrev pub stored_entries : Machine → List Entry
 stored_entries m = map port_entry (map declared (grouped (as_ports (register_names m))))
@@ -171,8 +178,8 @@ stored_keys m =
     (All-map (λ (p : Port). IsStoredText m p.name.text) as_port (register_names m)
     (All-map (λ (n : Name). IsStoredText m n.text) (λ r. r.name) m.registers (all_by (λ (r : Register). IsStoredText m r.name.text) m.registers (λ r h. (r, h, refl))))))
 
-signal_keys : (m : Machine) → IsWithinLimits m → All (λ e. IsSignalText (taken_texts m) e.key) (signal_entries m)
-signal_keys m limits = All-map (λ (e : Entry). IsSignalText (taken_texts m) e.key) signal_entry (signal_texts m) (signals_are m limits)
+signal_keys : (m : Machine) → (limits : Limits m) → All (λ e. IsSignalText (taken_texts m) e.key) (signal_entries limits.stem m)
+signal_keys m limits = All-map (λ (e : Entry). IsSignalText (taken_texts m) e.key) signal_entry (signal_texts limits.stem m) (signals_are m limits)
 
 supplies_differ : AreDifferent (map port_entry (map declared supply_groups))
 supplies_differ =
@@ -184,16 +191,16 @@ ports_differ m checked named =
     different_parts (port_entries m) supply_entries (groups_differ m.ports (port_chain m checked named)) supplies_differ
     (kinds_differ (IsPortText m) IsSupplyText (port_supply m checked) (port_entries m) supply_entries (port_keys m) supply_keys)
 
-signals_differ : (m : Machine) → IsWithinLimits m → AreDifferent (signal_entries m)
+signals_differ : (m : Machine) → (limits : Limits m) → AreDifferent (signal_entries limits.stem m)
 signals_differ m limits =
     let few = few_taken m limits in
-    let free = are_free (codes "n") (taken_texts m) (inner_count m) (omega (arith, few)) in
-    entries_differ (λ (t : List ℕ). t) signal_entry (λ x y e. e) (signal_texts m) (subst AllApart (sym (map-id (signal_texts m))) (apart_of (signal_texts m) free.different))
+    let free = are_free limits.stem (taken_texts m) (inner_count m) (omega (arith, few)) in
+    entries_differ (λ (t : List ℕ). t) signal_entry (λ x y e. e) (signal_texts limits.stem m) (subst AllApart (sym (map-id (signal_texts limits.stem m))) (apart_of (signal_texts limits.stem m) free.different))
 
-pub all_differ : (m : Machine) → IsChecked m → CanBeVbe m → IsWithinLimits m → AreDifferent ((port_entries m ++ supply_entries) ++ (signal_entries m ++ stored_entries m))
+pub all_differ : (m : Machine) → IsChecked m → CanBeVbe m → (limits : Limits m) → AreDifferent ((port_entries m ++ supply_entries) ++ (signal_entries limits.stem m ++ stored_entries m))
 all_differ m checked named limits =
     let P = port_entries m in
-    let S = signal_entries m in
+    let S = signal_entries limits.stem m in
     let R = stored_entries m in
     let T = taken_texts m in
     let SR : AreDifferent (S ++ R) =
@@ -221,16 +228,16 @@ declared_bits m checked named =
     let b = bits_again m.ports (port_chain m checked named) in
     omega (arith, a, b)
 
-all_few : (m : Machine) → IsChecked m → CanBeVbe m → IsWithinLimits m → total_bits (map port_entry (all_declared m.ports) ++ (signal_entries m ++ stored_entries m)) ≤ BITS
+all_few : (m : Machine) → IsChecked m → CanBeVbe m → (limits : Limits m) → total_bits (map port_entry (all_declared m.ports) ++ (signal_entries limits.stem m ++ stored_entries m)) ≤ BITS
 all_few m checked named limits =
-    let a = total_parts (map port_entry (all_declared m.ports)) (signal_entries m ++ stored_entries m) in
-    let b = total_parts (signal_entries m) (stored_entries m) in
+    let a = total_parts (map port_entry (all_declared m.ports)) (signal_entries limits.stem m ++ stored_entries m) in
+    let b = total_parts (signal_entries limits.stem m) (stored_entries m) in
     let c = total_declared (all_declared m.ports) in
     let d = declared_bits m checked named in
-    let e = total_signals (signal_texts m) in
+    let e = total_signals (signal_texts limits.stem m) in
     let f = many_signals m limits in
     let g = stored_bits m checked named in
-    let bits = limits.bits in
+    let bits = limits.within.bits in
     omega (arith, a, b, c, d, e, f, g, bits)
 
 -- the entries of the ports with the supplies
@@ -243,9 +250,9 @@ some_declared m = omega (arith, length-append (map declared (grouped m.ports)) (
 ports_declared : (m : Machine) → IsChecked m → map declared (grouped (with_supply_ports m.ports)) ≡ all_declared m.ports
 ports_declared m checked = declared_supplied m.ports (no_port_supply m checked)
 
-pub what_is_new : (m : Machine) → IsChecked m → CanBeVbe m → IsWithinLimits m → EntriesNew (parts_entries (parts_of m)) uncounted
+pub what_is_new : (m : Machine) → IsChecked m → CanBeVbe m → (limits : Limits m) → EntriesNew (parts_entries (parts_of limits.stem m)) uncounted
 what_is_new m checked named limits =
-    let rest = signal_entries m ++ stored_entries m in
+    let rest = signal_entries limits.stem m ++ stored_entries m in
     let D = map declared (grouped (with_supply_ports m.ports)) in
     let same = ports_declared m checked in
     let some : 0 < length D = subst (λ (ps : List OnePort). 0 < length ps) (sym same) (some_declared m) in
@@ -266,38 +273,38 @@ supplies_can =
     let two : OnePort = record { name = codes "vss"; mode = mode.In; bounds = None } in
     All-cons CanBeAPort one (two ∷ []) (supply_names.0, tt) (All-cons CanBeAPort two [] (supply_names.1, tt) (All-nil CanBeAPort))
 
-entity_can : (m : Machine) → IsChecked m → CanBeVbe m → IsWithinLimits m → CanBeWritten (outline m.name (with_supply_ports m.ports))
+entity_can : (m : Machine) → IsChecked m → CanBeVbe m → Limits m → CanBeWritten (outline m.name (with_supply_ports m.ports))
 entity_can m checked named limits =
-    let bits = limits.bits in
+    let bits = limits.within.bits in
     let d = declared_bits m checked named in
     let can : All CanBeAPort (all_declared m.ports) = All-append CanBeAPort (map declared (grouped m.ports)) (map declared supply_groups) (groups_can m.ports (good_ports m named limits)) supplies_can in
     let apart = apart_ports (all_declared m.ports) (subst AreDifferent (sym (port_entries_are m)) (ports_differ m checked named)) in
     subst (λ (ps : List OnePort). CanBeWritten (outline_of m.name ps)) (sym (ports_declared m checked))
-    (written_outline m.name (all_declared m.ports) (some_declared m) (name_of_identifier m.name named.name limits.name) can apart (omega (arith, d, bits)))
+    (written_outline m.name (all_declared m.ports) (some_declared m) (name_of_identifier m.name named.name limits.within.name) can apart (omega (arith, d, bits)))
 
 -- ---- names that are mentioned
 
-port_names : (m : Machine) (p : Port → Bool) → CanBeVbe m → IsWithinLimits m → All CanBeMentioned (names_of (filter p m.ports))
+port_names : (m : Machine) (p : Port → Bool) → CanBeVbe m → Limits m → All CanBeMentioned (names_of (filter p m.ports))
 port_names m p named limits = All-map CanBeMentioned (λ (q : Port). q.name) (filter p m.ports) (All-filter p GoodPort m.ports (good_ports m named limits))
 
-inputs_can : (m : Machine) → CanBeVbe m → IsWithinLimits m → All CanBeMentioned (inputs m)
+inputs_can : (m : Machine) → CanBeVbe m → Limits m → All CanBeMentioned (inputs m)
 inputs_can m named limits = All-filter (λ name. not (is_clock m.clock name)) CanBeMentioned (input_ports m) (port_names m (λ p. is_input p.dir) named limits)
 
-registers_can : (m : Machine) → CanBeVbe m → IsWithinLimits m → All CanBeMentioned (register_names m)
+registers_can : (m : Machine) → CanBeVbe m → Limits m → All CanBeMentioned (register_names m)
 registers_can m named limits = unmapped GoodPort as_port (register_names m) (good_stored m named limits)
 
-names_can : (m : Machine) → CanBeVbe m → IsWithinLimits m → All CanBeMentioned (written_names m)
+names_can : (m : Machine) → CanBeVbe m → (limits : Limits m) → All CanBeMentioned (written_names limits.stem m)
 names_can m named limits =
     let many = many_signals m limits in
-    let same : length (map scalar (signal_texts m)) ≡ length (signal_texts m) = length-map (signal_texts m) scalar in
-    renamed_all CanBeMentioned (is_output m) (equation_names m) (map scalar (signal_texts m))
+    let same : length (map scalar (signal_texts limits.stem m)) ≡ length (signal_texts limits.stem m) = length-map (signal_texts limits.stem m) scalar in
+    renamed_all CanBeMentioned (is_output m) (equation_names m) (map scalar (signal_texts limits.stem m))
     (λ n e. all_in CanBeMentioned (outputs m) (port_names m (λ p. not (is_input p.dir)) named limits) n (any_in (outputs m) n e))
-    (All-map CanBeMentioned scalar (signal_texts m) (All-weaker (IsSignalText (taken_texts m)) (λ t. CanBeMentioned (scalar t)) (λ t s. (s.name, tt)) (signal_texts m) (signals_are m limits)))
+    (All-map CanBeMentioned scalar (signal_texts limits.stem m) (All-weaker (IsSignalText (taken_texts m)) (λ t. CanBeMentioned (scalar t)) (λ t s. (s.name, tt)) (signal_texts limits.stem m) (signals_are m limits)))
     (omega (arith, many, same))
 
-pub vars_can : (m : Machine) → CanBeVbe m → IsWithinLimits m → All CanBeMentioned (written_vars m)
+pub vars_can : (m : Machine) → CanBeVbe m → (limits : Limits m) → All CanBeMentioned (written_vars limits.stem m)
 vars_can m named limits =
-    All-append CanBeMentioned (held_names m) (written_names m) (All-append CanBeMentioned (inputs m) (register_names m) (inputs_can m named limits) (registers_can m named limits)) (names_can m named limits)
+    All-append CanBeMentioned (held_names m) (written_names limits.stem m) (All-append CanBeMentioned (inputs m) (register_names m) (inputs_can m named limits) (registers_can m named limits)) (names_can m named limits)
 
 mentions : (names : List Name) (e : Expression) → All CanBeMentioned names → IsOver e (length names) → AreMentioned names e
 mentions names (constant b) can over = tt
@@ -324,15 +331,15 @@ equations_over m checked =
     let b : length (equation_names m) ≡ length m.equations = length-map m.equations (λ e. e.name) in
     each_over (length (held_names m)) (length m.vars) m.equations (omega (arith, a, b)) checked.ordered.below
 
-pub reads_can : (m : Machine) → IsChecked m → CanBeVbe m → IsWithinLimits m → (e : Expression) → IsOver e (length m.vars) → AreMentioned (written_vars m) e
-reads_can m checked named limits e over = mentions (written_vars m) e (vars_can m named limits) (subst (IsOver e) (sym (as_many_vars m checked)) over)
+pub reads_can : (m : Machine) → IsChecked m → CanBeVbe m → (limits : Limits m) → (e : Expression) → IsOver e (length m.vars) → AreMentioned (written_vars limits.stem m) e
+reads_can m checked named limits e over = mentions (written_vars limits.stem m) e (vars_can m named limits) (subst (IsOver e) (sym (as_many_vars limits.stem m checked)) over)
 
 -- ---- the whole
 
-clock_can : (m : Machine) → IsChecked m → CanBeVbe m → IsWithinLimits m → (n : Name) → m.clock ≡ Some n → IsName n.text
+clock_can : (m : Machine) → IsChecked m → CanBeVbe m → Limits m → (n : Name) → m.clock ≡ Some n → IsName n.text
 clock_can m checked named limits n e = (all_in CanBeMentioned (input_ports m) (port_names m (λ p. is_input p.dir) named limits) n (checked.clock n e).port).0
 
-stored_can : (m : Machine) → IsChecked m → CanBeVbe m → IsWithinLimits m → All (IsMentioned (written_vars m)) m.registers
+stored_can : (m : Machine) → IsChecked m → CanBeVbe m → (limits : Limits m) → All (IsMentioned (written_vars limits.stem m)) m.registers
 stored_can m checked named limits k d l =
     let loads = checked.loads k d l in
     record {
@@ -341,13 +348,13 @@ stored_can m checked named limits k d l =
       enable = reads_can m checked named limits (get_or m.registers k d).enable loads.1;
     }
 
-pub can_be_said : (m : Machine) → IsChecked m → CanBeVbe m → IsWithinLimits m → CanBeSaid (parts_of m)
+pub can_be_said : (m : Machine) → IsChecked m → CanBeVbe m → (limits : Limits m) → CanBeSaid (parts_of limits.stem m)
 can_be_said m checked named limits =
-    let bits = limits.bits in
+    let bits = limits.within.bits in
     let over = equations_over m checked in
     record {
       entity = entity_can m checked named limits;
-      signals = All-weaker (IsSignalText (taken_texts m)) IsName (λ t s. s.name) (signal_texts m) (signals_are m limits);
+      signals = All-weaker (IsSignalText (taken_texts m)) IsName (λ t s. s.name) (signal_texts limits.stem m) (signals_are m limits);
       groups = unmapped CanBeAPort declared (grouped (as_ports (register_names m))) (groups_can (as_ports (register_names m)) (good_stored m named limits));
       names = names_can m named limits;
       equations = λ k d l. reads_can m checked named limits (get_or m.equations k d).expr (over k d l);
@@ -356,8 +363,8 @@ can_be_said m checked named limits =
       registers = stored_can m checked named limits;
     }
 
-pub can_be_stated : (m : Machine) → IsWithinLimits m → CanBeStated DEPTH (DEPTH - 2) (parts_of m)
+pub can_be_stated : (m : Machine) → (limits : Limits m) → CanBeStated DEPTH (DEPTH - 2) (parts_of limits.stem m)
 can_be_stated m limits = record {
-  equations = λ k d l. record { nested = limits.nested k d l; few = limits.values k d l };
-  registers = λ k d l. record { holds = record { nested = limits.loads_nested k d l; few = limits.loads k d l }; within = limits.guards_nested k d l; free = limits.guards k d l };
+  equations = λ k d l. record { nested = limits.within.nested k d l; few = limits.within.values k d l };
+  registers = λ k d l. record { holds = record { nested = limits.within.loads_nested k d l; few = limits.within.loads k d l }; within = limits.within.guards_nested k d l; free = limits.within.guards k d l };
 }

@@ -8,24 +8,25 @@ use Rattle.vbe_text.specs.Vbe.{IsSource}
 use Rattle.vst_write.specs.Groups.{grouped, declared, outline}
 use Rattle.vst_write.specs.Structure.{signals_layout, begin_layout}
 use Rattle.vst_again.proofs.Netlists.{outline_name}
-use Rattle.vbe_write.specs.Written.{with_supply_ports, head_layout, registers_layout, equations_layout, storage_layout, last_layout, signal_texts, written_vars, written_names, layout}
+use Rattle.vbe_write.specs.Written.{with_supply_ports, head_layout, registers_layout, equations_layout, storage_layout, last_layout, signal_texts, written_vars, written_names, layout_by}
 use Rattle.vbe_again.specs.Placed.{source_of}
 use Rattle.vbe_again.specs.Said.{WrittenIsASentence}
 use Rattle.vbe_again.proofs.Whole.{parts_layout}
 use Rattle.vbe_again.proofs.Fits.{sentence}
-use Rattle.vbe_again.proofs.Machines.{parts_of, what_is_new, can_be_said, can_be_stated}
+use Rattle.vbe_again.proofs.Machines.{Limits, parts_of, what_is_new, can_be_said, can_be_stated}
 
-layout_is : (m : Machine) → parts_layout (parts_of m) ≡ layout m
-unfolding layout
-layout_is m =
+layout_is : (stem : List ℕ) (m : Machine) → parts_layout (parts_of stem m) ≡ layout_by stem m
+unfolding layout_by
+layout_is stem m =
     let rest : List Written =
-    signals_layout (signal_texts m)
+    signals_layout (signal_texts stem m)
     ++ (registers_layout (register_names m)
     ++ (begin_layout
-    ++ (equations_layout (written_vars m) (written_names m) m.equations ++ (storage_layout (written_vars m) m.clock m.registers ++ last_layout)))) in
+    ++ (equations_layout (written_vars stem m) (written_names stem m) m.equations ++ (storage_layout (written_vars stem m) m.clock m.registers ++ last_layout)))) in
     ap (λ (n : List ℕ). entity_layout (outline m.name (with_supply_ports m.ports)) ++ (head_layout n ++ rest)) (outline_name m.name (map declared (grouped (with_supply_ports m.ports))))
 
 pub written_is_a_sentence : WrittenIsASentence
-written_is_a_sentence m checked named limits =
-    subst (λ (ws : List Written). (refusal_in (text_of ws) ≡ None) × IsSource (tokens_in (text_of ws)) (source_of m)) (layout_is m)
-    (sentence (parts_of m) (can_be_said m checked named limits) (what_is_new m checked named limits) (can_be_stated m limits))
+written_is_a_sentence stem m letter checked named within =
+    let limits : Limits m = record { stem = stem; letter = letter; within = within } in
+    subst (λ (ws : List Written). (refusal_in (text_of ws) ≡ None) × IsSource (tokens_in (text_of ws)) (source_of stem m)) (layout_is stem m)
+    (sentence (parts_of stem m) (can_be_said m checked named limits) (what_is_new m checked named limits) (can_be_stated m limits))

@@ -126,16 +126,17 @@ placed_groups line (g ∷ gs) =
 
 -- ---- the whole text
 
-abbrev pub source_of : Machine → SourceTree
-source_of m =
+-- by a stem for inner signals
+abbrev pub source_of : List ℕ → Machine → SourceTree
+source_of stem m =
     let entity = outline m.name (with_supply_ports m.ports) in
     let declared = line_of (line_of 1 (entity_layout entity)) (head_layout m.name) in
-    let stored = line_of declared (signals_layout (signal_texts m)) in
+    let stored = line_of declared (signals_layout (signal_texts stem m)) in
     let begun = line_of (line_of stored (registers_layout (register_names m))) begin_layout in
-    let blocks = line_of begun (equations_layout (written_vars m) (written_names m) m.equations) in
+    let blocks = line_of begun (equations_layout (written_vars stem m) (written_names stem m) m.equations) in
     record {
       entity = placed_entity 1 entity;
-      declarations = record { signals = placed_signals declared (signal_texts m) ++ placed_groups stored (grouped (as_ports (register_names m))) };
-      statements = placed_equations (written_vars m) begun (written_names m) m.equations
-          ++ placed_storage (written_vars m) blocks m.clock m.registers;
+      declarations = record { signals = placed_signals declared (signal_texts stem m) ++ placed_groups stored (grouped (as_ports (register_names m))) };
+      statements = placed_equations (written_vars stem m) begun (written_names stem m) m.equations
+          ++ placed_storage (written_vars stem m) blocks m.clock m.registers;
     }

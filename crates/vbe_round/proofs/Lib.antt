@@ -6,6 +6,7 @@ pub mod Stated
 pub mod Rings
 pub mod Alike
 pub mod Copies
+pub mod Itself
 pub mod Renamed
 pub mod Declared
 pub mod Named

@@ -2,6 +2,7 @@
 use Rattle.std.proofs.Common.{◌≡◌, ◌⊎◌, inl, inr, ℕ, Bool, true, false, not, ◌||◌, List, [], ◌∷◌, ◌++◌, map, length, filter, Option, None, Some, bytes_eq, slice_index, refl, sym, ap, subst, ◌∙◌, arith, codes, map-id}
 use Rattle.std.specs.Prelude.{option_map}
 use Rattle.std.specs.List.{list_any}
+use Rattle.std.specs.Char.{is_ascii_digit}
 use Rattle.std.proofs.lemmas.List.{length-map, map-append}
 use Rattle.std.proofs.lemmas.Slice.Eq.{bytes_eq-Decides}
 use Rattle.vlsi_base.specs.declared.name.Name.{Name}
@@ -41,10 +42,9 @@ use Rattle.std.proofs.lemmas.List.Elements.{All-head, All-tail}
 use Rattle.vbe_write.specs.Expressions.{name_of}
 use Rattle.vbe_write.specs.Writable.{CanBeVbe}
 use Rattle.vbe_write.specs.Written.{is_output, inner_count, taken_texts, signal_texts, written_names, written_vars, as_port, as_ports}
-use Rattle.vbe_again.specs.Said.{IsWithinLimits}
 use Rattle.vbe_again.proofs.Supplied.{supply_groups}
 use Rattle.vbe_again.proofs.Known.{all_in, any_in, free_of, IsSignalText}
-use Rattle.vbe_again.proofs.Machines.{port_chain, stored_chain, no_port_supply, few_taken, signals_are, many_signals, all_differ, port_taken, stored_taken, port_entries, supply_entries, signal_entries, stored_entries}
+use Rattle.vbe_again.proofs.Machines.{Limits, port_chain, stored_chain, no_port_supply, few_taken, signals_are, many_signals, all_differ, port_taken, stored_taken, port_entries, supply_entries, signal_entries, stored_entries}
 use Rattle.vbe_round.proofs.Plain.{LiesIn, IsDeclared, IsReadable}
 use Rattle.vbe_round.proofs.Formulas.{AreReadable, IsDriven}
 use Rattle.vbe_round.proofs.Guards.{IsClock}
@@ -56,7 +56,7 @@ use Rattle.vbe_round.proofs.Declared.{in_flat, flat_in, range_on, bit_of_group, 
 pub record IsGiven (m : Machine) : Type 0 where
   pub checked : IsChecked m
   pub named : CanBeVbe m
-  pub limits : IsWithinLimits m
+  pub limits : Limits m
 
 -- the groups of ports, with the supplies, and of registers
 abbrev pub port_groups : Machine → List Group
@@ -66,8 +66,8 @@ abbrev pub stored_groups : Machine → List Group
 stored_groups m = grouped (as_ports (register_names m))
 
 -- the symbols of the text, where its declarations begin on these lines
-abbrev pub symbols_on : ℕ → ℕ → ℕ → Machine → List Symbol
-symbols_on line d s m = on_lines port_symbol line (port_groups m) ++ (on_lines signal_symbol d (signal_texts m) ++ on_lines stored_symbol s (stored_groups m))
+abbrev pub symbols_on : List ℕ → ℕ → ℕ → ℕ → Machine → List Symbol
+symbols_on stem line d s m = on_lines port_symbol line (port_groups m) ++ (on_lines signal_symbol d (signal_texts stem m) ++ on_lines stored_symbol s (stored_groups m))
 
 -- ---- their texts differ
 
@@ -93,27 +93,27 @@ signal_keys (s ∷ ss) = ap (λ (ts : List (List ℕ)). s ∷ ts) (signal_keys s
 three : (a b c x y z : List (List ℕ)) → a ≡ x → b ≡ y → c ≡ z → a ++ (b ++ c) ≡ x ++ (y ++ z)
 three a b c x y z e f g = ap (λ (w : List (List ℕ)). w ++ (b ++ c)) e ∙ ap (λ (w : List (List ℕ)). x ++ (w ++ c)) f ∙ ap (λ (w : List (List ℕ)). x ++ (y ++ w)) g
 
-pub symbols_differ : (line d s : ℕ) (m : Machine) → IsGiven m → AllDifferent (texts (symbols_on line d s m))
+pub symbols_differ : (line d s : ℕ) (m : Machine) (given : IsGiven m) → AllDifferent (texts (symbols_on given.limits.stem line d s m))
 symbols_differ line d s m given =
     let text : Symbol → List ℕ = λ x. x.text in
     let key : Entry → List ℕ = λ e. e.key in
     let G = on_lines port_symbol line (port_groups m) in
-    let S = on_lines signal_symbol d (signal_texts m) in
+    let S = on_lines signal_symbol d (signal_texts given.limits.stem m) in
     let R = on_lines stored_symbol s (stored_groups m) in
     let P = port_entries m ++ supply_entries in
-    let left : texts (symbols_on line d s m) ≡ texts G ++ (texts S ++ texts R) = map-append text G (S ++ R) ∙ ap (λ (ts : List (List ℕ)). texts G ++ ts) (map-append text S R) in
-    let right : map key (P ++ (signal_entries m ++ stored_entries m)) ≡ map key P ++ (map key (signal_entries m) ++ map key (stored_entries m)) =
-    map-append key P (signal_entries m ++ stored_entries m) ∙ ap (λ (ts : List (List ℕ)). map key P ++ ts) (map-append key (signal_entries m) (stored_entries m)) in
+    let left : texts (symbols_on given.limits.stem line d s m) ≡ texts G ++ (texts S ++ texts R) = map-append text G (S ++ R) ∙ ap (λ (ts : List (List ℕ)). texts G ++ ts) (map-append text S R) in
+    let right : map key (P ++ (signal_entries given.limits.stem m ++ stored_entries m)) ≡ map key P ++ (map key (signal_entries given.limits.stem m) ++ map key (stored_entries m)) =
+    map-append key P (signal_entries given.limits.stem m ++ stored_entries m) ∙ ap (λ (ts : List (List ℕ)). map key P ++ ts) (map-append key (signal_entries given.limits.stem m) (stored_entries m)) in
     let ports : map key P ≡ map (λ g. g.text) (port_groups m) =
     map-append key (port_entries m) supply_entries ∙ ap (λ (ts : List (List ℕ)). ts ++ map key supply_entries) (group_texts (grouped m.ports))
     ∙ ap (λ (ts : List (List ℕ)). map (λ g. g.text) (grouped m.ports) ++ ts) (group_texts supply_groups)
     ∙ sym (map-append (λ (g : Group). g.text) (grouped m.ports) supply_groups) in
-    let same : texts G ++ (texts S ++ texts R) ≡ map key P ++ (map key (signal_entries m) ++ map key (stored_entries m)) =
-    three (texts G) (texts S) (texts R) (map key P) (map key (signal_entries m)) (map key (stored_entries m))
+    let same : texts G ++ (texts S ++ texts R) ≡ map key P ++ (map key (signal_entries given.limits.stem m) ++ map key (stored_entries m)) =
+    three (texts G) (texts S) (texts R) (map key P) (map key (signal_entries given.limits.stem m)) (map key (stored_entries m))
     (texts_on port_symbol (λ (g : Group). g.text) (λ l g. refl) line (port_groups m) ∙ sym ports)
-    (texts_on signal_symbol (λ (t : List ℕ). t) (λ l t. refl) d (signal_texts m) ∙ map-id (signal_texts m) ∙ sym (signal_keys (signal_texts m)))
+    (texts_on signal_symbol (λ (t : List ℕ). t) (λ l t. refl) d (signal_texts given.limits.stem m) ∙ map-id (signal_texts given.limits.stem m) ∙ sym (signal_keys (signal_texts given.limits.stem m)))
     (texts_on stored_symbol (λ (g : Group). g.text) (λ l g. refl) s (stored_groups m) ∙ sym (group_texts (stored_groups m))) in
-    subst (λ (ts : List (List ℕ)). AllDifferent ts) (sym (left ∙ same ∙ sym right)) (keys_differ (P ++ (signal_entries m ++ stored_entries m)) (all_differ m given.checked given.named given.limits))
+    subst (λ (ts : List (List ℕ)). AllDifferent ts) (sym (left ∙ same ∙ sym right)) (keys_differ (P ++ (signal_entries given.limits.stem m ++ stored_entries m)) (all_differ m given.checked given.named given.limits))
 
 -- ---- how names are declared
 
@@ -130,7 +130,7 @@ in_role known different s n r listed text lies is = record {
 
 module _ (line d s : ℕ) (m : Machine) (given : IsGiven m) where
   abbrev pub known : List Symbol
-  known = symbols_on line d s m
+  known = symbols_on given.limits.stem line d s m
 
   different : AllDifferent (texts known)
   different = symbols_differ line d s m given
@@ -141,15 +141,15 @@ module _ (line d s : ℕ) (m : Machine) (given : IsGiven m) where
       let l = in_lines port_symbol line (port_groups m) g.0 (In-left g.0 (grouped m.ports) supply_groups g.1) in
       let b = bit_of_group g.0 p l.0 g.2 in
       in_role known different (port_symbol l.0 g.0) p.name (role_of_mode (mode_of p.dir))
-      (In-left (port_symbol l.0 g.0) (on_lines port_symbol line (port_groups m)) (on_lines signal_symbol d (signal_texts m) ++ on_lines stored_symbol s (stored_groups m)) l.1)
+      (In-left (port_symbol l.0 g.0) (on_lines port_symbol line (port_groups m)) (on_lines signal_symbol d (signal_texts given.limits.stem m) ++ on_lines stored_symbol s (stored_groups m)) l.1)
       b.text b.lies (ap (λ (x : Dir). role_of_mode (mode_of x)) b.dir)
 
-  pub signal_declared : (t : List ℕ) → In t (signal_texts m) → InRole known role.Inner (scalar t)
+  pub signal_declared : (t : List ℕ) → In t (signal_texts given.limits.stem m) → InRole known role.Inner (scalar t)
   signal_declared t h =
-      let l = in_lines signal_symbol d (signal_texts m) t h in
+      let l = in_lines signal_symbol d (signal_texts given.limits.stem m) t h in
       in_role known different (signal_symbol l.0 t) (scalar t) role.Inner
-      (In-right (signal_symbol l.0 t) (on_lines port_symbol line (port_groups m)) (on_lines signal_symbol d (signal_texts m) ++ on_lines stored_symbol s (stored_groups m))
-      (In-left (signal_symbol l.0 t) (on_lines signal_symbol d (signal_texts m)) (on_lines stored_symbol s (stored_groups m)) l.1))
+      (In-right (signal_symbol l.0 t) (on_lines port_symbol line (port_groups m)) (on_lines signal_symbol d (signal_texts given.limits.stem m) ++ on_lines stored_symbol s (stored_groups m))
+      (In-left (signal_symbol l.0 t) (on_lines signal_symbol d (signal_texts given.limits.stem m)) (on_lines stored_symbol s (stored_groups m)) l.1))
       refl tt refl
 
   pub register_declared : (n : Name) → In n (register_names m) → InRole known role.Register n
@@ -159,8 +159,8 @@ module _ (line d s : ℕ) (m : Machine) (given : IsGiven m) where
       let l = in_lines stored_symbol s (stored_groups m) g.0 g.1 in
       let b = bit_of_group g.0 p l.0 g.2 in
       in_role known different (stored_symbol l.0 g.0) n role.Register
-      (In-right (stored_symbol l.0 g.0) (on_lines port_symbol line (port_groups m)) (on_lines signal_symbol d (signal_texts m) ++ on_lines stored_symbol s (stored_groups m))
-      (In-right (stored_symbol l.0 g.0) (on_lines signal_symbol d (signal_texts m)) (on_lines stored_symbol s (stored_groups m)) l.1))
+      (In-right (stored_symbol l.0 g.0) (on_lines port_symbol line (port_groups m)) (on_lines signal_symbol d (signal_texts given.limits.stem m) ++ on_lines stored_symbol s (stored_groups m))
+      (In-right (stored_symbol l.0 g.0) (on_lines signal_symbol d (signal_texts given.limits.stem m)) (on_lines stored_symbol s (stored_groups m)) l.1))
       b.text b.lies refl
 
   -- ---- kinds of names
@@ -193,15 +193,15 @@ module _ (line d s : ℕ) (m : Machine) (given : IsGiven m) where
 
   -- a name of an equation is an output's or a signal's
   abbrev pub IsWrittenName : Name → Type 0
-  IsWrittenName n = (In n (equation_names m) × In n (outputs m)) ⊎ ((t : List ℕ) × In t (signal_texts m) × (scalar t ≡ n))
+  IsWrittenName n = (In n (equation_names m) × In n (outputs m)) ⊎ ((t : List ℕ) × In t (signal_texts given.limits.stem m) × (scalar t ≡ n))
 
-  pub written_name : (n : Name) → In n (written_names m) → IsWrittenName n
+  pub written_name : (n : Name) → In n (written_names given.limits.stem m) → IsWrittenName n
   written_name n h =
       let many = many_signals m given.limits in
-      let same : length (map scalar (signal_texts m)) ≡ length (signal_texts m) = length-map (signal_texts m) scalar in
-      elim (whence (is_output m) (equation_names m) (map scalar (signal_texts m)) n (omega (arith, many, same)) h) [
+      let same : length (map scalar (signal_texts given.limits.stem m)) ≡ length (signal_texts given.limits.stem m) = length-map (signal_texts given.limits.stem m) scalar in
+      elim (whence (is_output m) (equation_names m) (map scalar (signal_texts given.limits.stem m)) n (omega (arith, many, same)) h) [
         | inl i ↦ inl (i.0, any_in (outputs m) n i.1)
-        | inr j ↦ inr (In-map_back scalar n (signal_texts m) j)
+        | inr j ↦ inr (In-map_back scalar n (signal_texts given.limits.stem m) j)
       ]
 
   -- ---- no supplies
@@ -223,15 +223,15 @@ module _ (line d s : ℕ) (m : Machine) (given : IsGiven m) where
   var_free : (n : Name) → In n m.vars → is_supply n.text ≡ false
   var_free n h = name_free n (all_in IsNoSupply (names_of m.ports ++ m.vars) given.checked.supplies n (In-right n (names_of m.ports) m.vars h))
 
-  pub signal_free : (t : List ℕ) → In t (signal_texts m) → is_supply t ≡ false
+  pub signal_free : (t : List ℕ) → In t (signal_texts given.limits.stem m) → is_supply t ≡ false
   signal_free t h =
-      let good = all_in (IsSignalText (taken_texts m)) (signal_texts m) (signals_are m given.limits) t h in
-      name_free (scalar t) ((λ e. first_apart good.first e), (λ e. first_apart_too good.first e)) where
-        first_apart : slice_index t 0 ≡ 110 → t ≡ codes "vdd" → ⊥
-        first_apart f e = let g : 118 ≡ 110 = sym (ap (λ (u : List ℕ). slice_index u 0) e) ∙ f in absurd (omega (arith, g))
+      let good = all_in (IsSignalText (taken_texts m)) (signal_texts given.limits.stem m) (signals_are m given.limits) t h in
+      name_free (scalar t) ((λ e. digit_apart good.second e), (λ e. digit_apart_too good.second e)) where
+        digit_apart : is_ascii_digit (slice_index t 1) ≡ true → t ≡ codes "vdd" → ⊥
+        digit_apart f e = let g : false ≡ true = sym (ap (λ (u : List ℕ). is_ascii_digit (slice_index u 1)) e) ∙ f in absurd cc
 
-        first_apart_too : slice_index t 0 ≡ 110 → t ≡ codes "vss" → ⊥
-        first_apart_too f e = let g : 118 ≡ 110 = sym (ap (λ (u : List ℕ). slice_index u 0) e) ∙ f in absurd (omega (arith, g))
+        digit_apart_too : is_ascii_digit (slice_index t 1) ≡ true → t ≡ codes "vss" → ⊥
+        digit_apart_too f e = let g : false ≡ true = sym (ap (λ (u : List ℕ). is_ascii_digit (slice_index u 1)) e) ∙ f in absurd cc
 
   -- ---- the clock
 
@@ -270,9 +270,9 @@ module _ (line d s : ℕ) (m : Machine) (given : IsGiven m) where
       let bit = alone c n d p (sym same) none in
       clock.apart (subst (λ (x : Name). In x m.vars) (name_is c n (sym same) none bit) h)
 
-  signal_apart : (c : Name) → m.clock ≡ Some c → (t : List ℕ) → In t (signal_texts m) → t ≡ c.text → ⊥
+  signal_apart : (c : Name) → m.clock ≡ Some c → (t : List ℕ) → In t (signal_texts given.limits.stem m) → t ≡ c.text → ⊥
   signal_apart c is t h same =
-      let good = all_in (IsSignalText (taken_texts m)) (signal_texts m) (signals_are m given.limits) t h in
+      let good = all_in (IsSignalText (taken_texts m)) (signal_texts given.limits.stem m) (signals_are m given.limits) t h in
       let q = port_named (λ p. is_input p.dir) c (given.checked.clock c is).port in
       free_of (taken_texts m) c.text t good.free (port_taken m c.text (q.0, q.1, ap (λ (x : Name). x.text) q.3)) (sym same)
 
@@ -287,7 +287,7 @@ module _ (line d s : ℕ) (m : Machine) (given : IsGiven m) where
   var_readable : (n : Name) → IsDeclared known n → In n m.vars → IsReadable known clock_of_text n
   var_readable n p h = record { declared = p; leaf_is = leaf_named n (var_free n h); other = other_than_clock n p (λ c is. var_apart c is n p h) }
 
-  signal_readable : (t : List ℕ) → In t (signal_texts m) → IsReadable known clock_of_text (scalar t)
+  signal_readable : (t : List ℕ) → In t (signal_texts given.limits.stem m) → IsReadable known clock_of_text (scalar t)
   signal_readable t h =
       let p = (signal_declared t h).declared in
       record { declared = p; leaf_is = leaf_named (scalar t) (signal_free t h); other = other_than_clock (scalar t) p (λ c is. signal_apart c is t h) }
@@ -298,8 +298,8 @@ module _ (line d s : ℕ) (m : Machine) (given : IsGiven m) where
   equation_var : (n : Name) → In n (equation_names m) → In n m.vars
   equation_var n h = subst (λ (ns : List Name). In n ns) (sym given.checked.ordered.vars) (In-right n (held_names m) (equation_names m) h)
 
-  all_readable : (n : Name) → In n (written_vars m) → IsReadable known clock_of_text n
-  all_readable n h = elim (In-split n (held_names m) (written_names m) h) [
+  all_readable : (n : Name) → In n (written_vars given.limits.stem m) → IsReadable known clock_of_text n
+  all_readable n h = elim (In-split n (held_names m) (written_names given.limits.stem m) h) [
     | inl i ↦ elim (In-split n (inputs m) (register_names m) i) [
       | inl a ↦ var_readable n (input_declared n (In-filter (λ name. not (is_clock m.clock name)) (input_ports m) n a).0).declared (held_var n i)
       | inr b ↦ var_readable n (register_declared n b).declared (held_var n i)
@@ -310,8 +310,8 @@ module _ (line d s : ℕ) (m : Machine) (given : IsGiven m) where
     ]
   ]
 
-  pub readable : AreReadable known clock_of_text (written_vars m)
-  readable k l = all_readable (name_of (written_vars m) k) (In-at (written_vars m) k (scalar []) l)
+  pub readable : AreReadable known clock_of_text (written_vars given.limits.stem m)
+  readable k l = all_readable (name_of (written_vars given.limits.stem m) k) (In-at (written_vars given.limits.stem m) k (scalar []) l)
 
   -- ---- names that are driven
 
@@ -329,12 +329,12 @@ module _ (line d s : ℕ) (m : Machine) (given : IsGiven m) where
       let r = output_declared n h in
       record { declared = r.declared; may = ap (may_drive false) r.declared.found ∙ drives_output r.declared.symbol r.role; needs = ap needs_driver r.role }
 
-  signal_driven : (t : List ℕ) → In t (signal_texts m) → IsDriven known false (scalar t)
+  signal_driven : (t : List ℕ) → In t (signal_texts given.limits.stem m) → IsDriven known false (scalar t)
   signal_driven t h =
       let r = signal_declared t h in
       record { declared = r.declared; may = ap (may_drive false) r.declared.found ∙ drives_inner r.declared.symbol r.role; needs = ap needs_driver r.role }
 
-  pub written_driven : (n : Name) → In n (written_names m) → IsDriven known false n
+  pub written_driven : (n : Name) → In n (written_names given.limits.stem m) → IsDriven known false n
   written_driven n h = elim (written_name n h) [
     | inl a ↦ output_driven n a.1
     | inr b ↦ subst (λ (x : Name). IsDriven known false x) b.2 (signal_driven b.0 b.1)
@@ -378,35 +378,35 @@ module _ (line d s : ℕ) (m : Machine) (given : IsGiven m) where
   taken_output : (n : Name) → In n (outputs m) → In n.text (taken_texts m)
   taken_output n h = let q = port_named (λ p. not (is_input p.dir)) n h in port_taken m n.text (q.0, q.1, ap (λ (x : Name). x.text) q.3)
 
-  no_signal : (n : Name) → In n.text (taken_texts m) → In n (map scalar (signal_texts m)) → ⊥
+  no_signal : (n : Name) → In n.text (taken_texts m) → In n (map scalar (signal_texts given.limits.stem m)) → ⊥
   no_signal n h i =
-      let t = In-map_back scalar n (signal_texts m) i in
-      let good = all_in (IsSignalText (taken_texts m)) (signal_texts m) (signals_are m given.limits) t.0 t.1 in
+      let t = In-map_back scalar n (signal_texts given.limits.stem m) i in
+      let good = all_in (IsSignalText (taken_texts m)) (signal_texts given.limits.stem m) (signals_are m given.limits) t.0 t.1 in
       free_of (taken_texts m) n.text t.0 good.free h (ap (λ (x : Name). x.text) (sym t.2))
 
   vars_apart : AllDifferent (held_names m ++ equation_names m)
   vars_apart = subst (λ (ns : List Name). AllDifferent ns) given.checked.ordered.vars given.checked.ordered.different
 
-  signals_apart : AllDifferent (map scalar (signal_texts m))
+  signals_apart : AllDifferent (map scalar (signal_texts given.limits.stem m))
   signals_apart =
       let few = few_taken m given.limits in
-      different_map scalar (signal_texts m) (λ x y i j e. ap (λ (n : Name). n.text) e) (are_free (codes "n") (taken_texts m) (inner_count m) (omega (arith, few))).different
+      different_map scalar (signal_texts given.limits.stem m) (λ x y i j e. ap (λ (n : Name). n.text) e) (are_free given.limits.stem (taken_texts m) (inner_count m) (omega (arith, few))).different
 
-  names_apart : AllDifferent (written_names m)
+  names_apart : AllDifferent (written_names given.limits.stem m)
   names_apart =
       let many = many_signals m given.limits in
-      let same : length (map scalar (signal_texts m)) ≡ length (signal_texts m) = length-map (signal_texts m) scalar in
-      renamed_differ (is_output m) (equation_names m) (map scalar (signal_texts m)) (omega (arith, many, same)) (different_right (held_names m) (equation_names m) vars_apart) signals_apart
+      let same : length (map scalar (signal_texts given.limits.stem m)) ≡ length (signal_texts given.limits.stem m) = length-map (signal_texts given.limits.stem m) scalar in
+      renamed_differ (is_output m) (equation_names m) (map scalar (signal_texts given.limits.stem m)) (omega (arith, many, same)) (different_right (held_names m) (equation_names m) vars_apart) signals_apart
       (λ x k h. no_signal x (taken_output x (any_in (outputs m) x k)) h)
 
-  held_apart : (n : Name) → In n (held_names m) → In n (written_names m) → ⊥
+  held_apart : (n : Name) → In n (held_names m) → In n (written_names given.limits.stem m) → ⊥
   held_apart n h g = elim (written_name n g) [
     | inl a ↦ (split_different (held_names m) (equation_names m) vars_apart).1 n h a.0
-    | inr b ↦ no_signal n (taken_name n h) (subst (λ (x : Name). In x (map scalar (signal_texts m))) b.2 (In-map scalar b.0 (signal_texts m) b.1))
+    | inr b ↦ no_signal n (taken_name n h) (subst (λ (x : Name). In x (map scalar (signal_texts given.limits.stem m))) b.2 (In-map scalar b.0 (signal_texts given.limits.stem m) b.1))
   ]
 
-  pub written_differ : AllDifferent (held_names m ++ written_names m)
-  written_differ = different_append (held_names m) (written_names m) (different_left (held_names m) (equation_names m) vars_apart) names_apart held_apart
+  pub written_differ : AllDifferent (held_names m ++ written_names given.limits.stem m)
+  written_differ = different_append (held_names m) (written_names given.limits.stem m) (different_left (held_names m) (equation_names m) vars_apart) names_apart held_apart
 
   -- ---- the outputs keep their names
 
@@ -421,19 +421,19 @@ module _ (line d s : ℕ) (m : Machine) (given : IsGiven m) where
     in_any (x ∷ xs) n (there h) = either (is_same_name x n) (list_any (λ y. is_same_name y n) xs) (in_any xs n h)
     in_any [] n h = elim h [ ]
 
-  pub output_value : (n : Name) → In n (outputs m) → (w : List Bool) → value_at (written_names m) w n ≡ value_at (equation_names m) w n
-  output_value n h w = kept_value (is_output m) (equation_names m) (map scalar (signal_texts m)) n (is_kept n h) (no_signal n (taken_output n h)) w
+  pub output_value : (n : Name) → In n (outputs m) → (w : List Bool) → value_at (written_names given.limits.stem m) w n ≡ value_at (equation_names m) w n
+  output_value n h w = kept_value (is_output m) (equation_names m) (map scalar (signal_texts given.limits.stem m)) n (is_kept n h) (no_signal n (taken_output n h)) w
 
   -- ---- all that needs it is driven
 
-  output_written : (n : Name) → In n (outputs m) → In n (written_names m)
-  output_written n h = kept_there (is_output m) (equation_names m) (map scalar (signal_texts m)) n (is_kept n h) (given.checked.driven n h)
+  output_written : (n : Name) → In n (outputs m) → In n (written_names given.limits.stem m)
+  output_written n h = kept_there (is_output m) (equation_names m) (map scalar (signal_texts given.limits.stem m)) n (is_kept n h) (given.checked.driven n h)
 
-  signal_written : (t : List ℕ) → In t (signal_texts m) → In (scalar t) (written_names m)
+  signal_written : (t : List ℕ) → In t (signal_texts given.limits.stem m) → In (scalar t) (written_names given.limits.stem m)
   signal_written t h =
       let many = many_signals m given.limits in
-      let same : length (map scalar (signal_texts m)) ≡ length (signal_texts m) = length-map (signal_texts m) scalar in
-      other_there (is_output m) (equation_names m) (map scalar (signal_texts m)) (scalar t) (omega (arith, many, same)) (In-map scalar t (signal_texts m) h)
+      let same : length (map scalar (signal_texts given.limits.stem m)) ≡ length (signal_texts given.limits.stem m) = length-map (signal_texts given.limits.stem m) scalar in
+      other_there (is_output m) (equation_names m) (map scalar (signal_texts given.limits.stem m)) (scalar t) (omega (arith, many, same)) (In-map scalar t (signal_texts given.limits.stem m) h)
 
   out_dir : (x : Dir) → needs_driver (role_of_mode (mode_of x)) ≡ true → not (is_input x) ≡ true
   out_dir dir.In e = absurd cc
@@ -444,7 +444,7 @@ module _ (line d s : ℕ) (m : Machine) (given : IsGiven m) where
   supply_dir g (there here) = refl
   supply_dir g (there (there h)) = elim h [ ]
 
-  port_symbol_driven : (l : ℕ) (g : Group) → In g (port_groups m) → needs_driver (role_of_mode (mode_of g.dir)) ≡ true → (n : Name) → In n (symbol_names (port_symbol l g)) → In n (written_names m)
+  port_symbol_driven : (l : ℕ) (g : Group) → In g (port_groups m) → needs_driver (role_of_mode (mode_of g.dir)) ≡ true → (n : Name) → In n (symbol_names (port_symbol l g)) → In n (written_names given.limits.stem m)
   port_symbol_driven l g h needs n i = elim (In-split g (grouped m.ports) supply_groups h) [
     | inl a ↦
         let p : Port = record { name = n; dir = g.dir } in
@@ -461,26 +461,26 @@ module _ (line d s : ℕ) (m : Machine) (given : IsGiven m) where
       let x = In-map_back as_port p (register_names m) listed in
       subst (λ (y : Name). In y (register_names m)) (ap (λ (q : Port). q.name) x.2) x.1
 
-  pub symbol_driven : (x : Symbol) → In x known → needs_driver x.role ≡ true → (n : Name) → In n (symbol_names x) → In n (written_names m ++ register_names m)
+  pub symbol_driven : (x : Symbol) → In x known → needs_driver x.role ≡ true → (n : Name) → In n (symbol_names x) → In n (written_names given.limits.stem m ++ register_names m)
   symbol_driven x h needs n i =
       let G = on_lines port_symbol line (port_groups m) in
-      let S = on_lines signal_symbol d (signal_texts m) in
+      let S = on_lines signal_symbol d (signal_texts given.limits.stem m) in
       let R = on_lines stored_symbol s (stored_groups m) in
       elim (In-split x G (S ++ R) h) [
         | inl a ↦
             let f = from_lines port_symbol line (port_groups m) x a in
-            In-left n (written_names m) (register_names m)
+            In-left n (written_names given.limits.stem m) (register_names m)
             (port_symbol_driven f.0 f.1 f.2 (ap (λ (y : Symbol). needs_driver y.role) f.3 ∙ needs) n (subst (λ (y : Symbol). In n (symbol_names y)) (sym f.3) i))
         | inr b ↦ elim (In-split x S R b) [
           | inl c ↦
-              let f = from_lines signal_symbol d (signal_texts m) x c in
+              let f = from_lines signal_symbol d (signal_texts given.limits.stem m) x c in
               elim (In-cases n (scalar f.1) [] (subst (λ (y : Symbol). In n (symbol_names y)) (sym f.3) i)) [
-                | inl same ↦ In-left n (written_names m) (register_names m) (subst (λ (y : Name). In y (written_names m)) same (signal_written f.1 f.2))
+                | inl same ↦ In-left n (written_names given.limits.stem m) (register_names m) (subst (λ (y : Name). In y (written_names given.limits.stem m)) same (signal_written f.1 f.2))
                 | inr j ↦ absurd (elim j [ ])
               ]
           | inr e ↦
               let f = from_lines stored_symbol s (stored_groups m) x e in
-              In-right n (written_names m) (register_names m) (stored_symbol_driven f.0 f.1 f.2 n (subst (λ (y : Symbol). In n (symbol_names y)) (sym f.3) i))
+              In-right n (written_names given.limits.stem m) (register_names m) (stored_symbol_driven f.0 f.1 f.2 n (subst (λ (y : Symbol). In n (symbol_names y)) (sym f.3) i))
         ]
       ]
 
@@ -529,7 +529,7 @@ module _ (line d s : ℕ) (m : Machine) (given : IsGiven m) where
       let b = port_is known p h in
       let x = b.symbol in
       let G = on_lines port_symbol line (port_groups m) in
-      let S = on_lines signal_symbol d (signal_texts m) in
+      let S = on_lines signal_symbol d (signal_texts given.limits.stem m) in
       let R = on_lines stored_symbol s (stored_groups m) in
       elim (In-split x G (S ++ R) b.declared) [
         | inl a ↦
@@ -545,7 +545,7 @@ module _ (line d s : ℕ) (m : Machine) (given : IsGiven m) where
               | inr j ↦ let no : true ≡ false = sym (supply_text g j) ∙ ap (λ (y : Symbol). is_supply y.text) f.3 ∙ b.no_supply in absurd cc
             ]
         | inr c ↦ elim (In-split x S R c) [
-          | inl i ↦ let f = from_lines signal_symbol d (signal_texts m) x i in absurd (not_inner p.dir (ap (λ (y : Symbol). y.role) f.3 ∙ b.role))
+          | inl i ↦ let f = from_lines signal_symbol d (signal_texts given.limits.stem m) x i in absurd (not_inner p.dir (ap (λ (y : Symbol). y.role) f.3 ∙ b.role))
           | inr j ↦ let f = from_lines stored_symbol s (stored_groups m) x j in absurd (not_register p.dir (ap (λ (y : Symbol). y.role) f.3 ∙ b.role))
         ]
       ]

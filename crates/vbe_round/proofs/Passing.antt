@@ -91,20 +91,20 @@ stated_storage known (Some clock) vars c all line rs clocked driven over = state
 -- ---- of a machine
 
 pub machine_stated : (line d s begun blocks : ℕ) (m : Machine) → (given : IsGiven m)
-    → Stores (known line d s m given) (clock_of_text line d s m given) (placed_storage (written_vars m) blocks m.clock m.registers) (map (stored_as (written_vars m)) m.registers) (register_names m)
+    → Stores (known line d s m given) (clock_of_text line d s m given) (placed_storage (written_vars given.limits.stem m) blocks m.clock m.registers) (map (stored_as (written_vars given.limits.stem m)) m.registers) (register_names m)
 machine_stated line d s begun blocks m given =
-    let many = as_many_vars m given.checked in
-    stated_storage (known line d s m given) m.clock (written_vars m) (clock_declared line d s m given) (readable line d s m given) blocks m.registers given.checked.clocked
+    let many = as_many_vars given.limits.stem m given.checked in
+    stated_storage (known line d s m given) m.clock (written_vars given.limits.stem m) (clock_declared line d s m given) (readable line d s m given) blocks m.registers given.checked.clocked
     (register_driven line d s m given)
     (subst (λ k. All (λ r. IsOver r.next k × IsOver r.enable k) m.registers) (sym many) given.checked.loads)
 
 pub all_stated : (line d s begun blocks : ℕ) (m : Machine) → (given : IsGiven m)
-    → (t : Stores (known line d s m given) (clock_of_text line d s m given) (placed_storage (written_vars m) blocks m.clock m.registers) (map (stored_as (written_vars m)) m.registers) (register_names m))
+    → (t : Stores (known line d s m given) (clock_of_text line d s m given) (placed_storage (written_vars given.limits.stem m) blocks m.clock m.registers) (map (stored_as (written_vars given.limits.stem m)) m.registers) (register_names m))
     → AreStated (known line d s m given) (clock_of_text line d s m given)
-    (placed_equations (written_vars m) begun (written_names m) m.equations ++ placed_storage (written_vars m) blocks m.clock m.registers)
-    (definitions_of (written_vars m) (written_names m) m.equations) (map (stored_as (written_vars m)) m.registers) (written_names m ++ register_names m) t.clocks
+    (placed_equations (written_vars given.limits.stem m) begun (written_names given.limits.stem m) m.equations ++ placed_storage (written_vars given.limits.stem m) blocks m.clock m.registers)
+    (definitions_of (written_vars given.limits.stem m) (written_names given.limits.stem m) m.equations) (map (stored_as (written_vars given.limits.stem m)) m.registers) (written_names given.limits.stem m ++ register_names m) t.clocks
 all_stated line d s begun blocks m given t =
-    let many = as_many_vars m given.checked in
-    stated_equations (known line d s m given) (clock_of_text line d s m given) (written_vars m) (readable line d s m given) (written_names m) m.equations begun
-    (placed_storage (written_vars m) blocks m.clock m.registers) (map (stored_as (written_vars m)) m.registers) (register_names m) t.clocks (as_many_written m) (written_driven line d s m given)
+    let many = as_many_vars given.limits.stem m given.checked in
+    stated_equations (known line d s m given) (clock_of_text line d s m given) (written_vars given.limits.stem m) (readable line d s m given) (written_names given.limits.stem m) m.equations begun
+    (placed_storage (written_vars given.limits.stem m) blocks m.clock m.registers) (map (stored_as (written_vars given.limits.stem m)) m.registers) (register_names m) t.clocks (as_many_written given.limits.stem m) (written_driven line d s m given)
     (subst (λ k. All (λ e. IsOver e.expr k) m.equations) (sym many) (equations_over m given.checked)) t.stated

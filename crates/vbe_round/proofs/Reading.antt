@@ -1,5 +1,5 @@
 -- What is read of the text of a machine: it passes the checks, and is a machine that is alike.
-use Rattle.std.proofs.Common.{◌≡◌, inl, inr, ℕ, ◌<◌, Bool, true, false, cond, ◌||◌, List, [], ◌∷◌, ◌++◌, map, length, Option, None, Some, bytes_eq, refl, sym, ap, subst, ◌∙◌, arith}
+use Rattle.std.proofs.Common.{◌≡◌, inl, inr, ℕ, ◌<◌, Bool, true, false, cond, ◌||◌, List, [], ◌∷◌, ◌++◌, map, length, Option, None, Some, bytes_eq, codes, refl, sym, ap, subst, ◌∙◌, arith}
 use Rattle.std.specs.Prelude.{option_map}
 use Rattle.std.specs.List.{All, list_any}
 use Rattle.std.specs.List.Sorted.{IsPermutation}
@@ -12,9 +12,8 @@ use Rattle.vlsi_base.specs.declared.fault.ReadError.TheVariants as errors
 use Rattle.vlsi_base.specs.declared.fault.FaultKind.TheVariants as kind
 use Rattle.vlsi_base.specs.Member.{In, here, there, AllDifferent}
 use Rattle.vlsi_base.specs.Name.{is_supply}
-use Rattle.machine_meaning.specs.Machine.{Machine, Register, names_of, register_names}
-use Rattle.machine_core.specs.Checked.{IsChecked}
-use Rattle.machine_core.specs.Order.{held_names}
+use Rattle.machine_meaning.specs.Machine.{Machine, Equation, Register, names_of, register_names}
+use Rattle.machine_core.specs.Order.{held_names, equation_names}
 use Rattle.machine_core.proofs.Values.{In-map}
 use Rattle.machine_alike.specs.Alike.{IsAlike}
 use Rattle.vhdl_lexer.specs.Listing.{tokens_in}
@@ -42,18 +41,17 @@ use Rattle.vbe_text.proofs.Laws as text_laws
 use Rattle.vbe_io.specs.Text.{IsVbe, IsWritten, Refused, IsVbeRefusal, long, uncut, unwritten, faulty}
 use Rattle.vbe_io.proofs.Once.{pass_or_fail, cut_or_not}
 use Rattle.vlsi_model.proofs.OneOrder.{one_order}
-use Rattle.vbe_write.specs.Writable.{CanBeVbe}
 use Rattle.vbe_write.specs.Written.{with_supply_ports, signal_texts, written_names, written_vars, as_ports}
 use Rattle.vbe_write.proofs.Naming.{as_many_written}
 use Rattle.vst_write.specs.Groups.{Group, grouped, declared}
 use Rattle.vst_again.proofs.Grouped.{GoodBits, bits_good}
 use Rattle.vst_again.proofs.Netlists.{outline_name}
 use Rattle.vbe_again.specs.Placed.{source_of}
-use Rattle.vbe_again.specs.Said.{text, IsWithinLimits}
+use Rattle.vbe_again.specs.Said.{text_by, IsLetter}
 use Rattle.vbe_again.proofs.Sentence.{written_is_a_sentence}
 use Rattle.vbe_again.proofs.Whole.{declared_on, stored_on, begun_on, blocks_on}
 use Rattle.vbe_again.proofs.Machines.{parts_of, some_declared, equations_over, port_chain, stored_chain}
-use Rattle.vbe_round.specs.Again.{ReadAgain}
+use Rattle.vbe_round.specs.Again.{ReadAgainBy, ReadAgain}
 use Rattle.std.proofs.Common.{get_or}
 use Rattle.std.proofs.lemmas.List.{map-append}
 use Rattle.std.proofs.lemmas.List.Elements.{All-map}
@@ -85,6 +83,7 @@ use Rattle.vbe_round.proofs.Rings.{no_ring, definitions_of, each_lower}
 use Rattle.vbe_round.proofs.Copies.{equation_over, register_over, stored_as, IsCopy, names_over, copy_is_alike}
 use Rattle.vbe_round.proofs.Declared.{port_symbol, stored_symbol, signal_symbol, on_lines, entity_symbols, signals_both, signals_on, stored_on as symbols_stored, entity_fine, declarations_fine, FitsSupply, entity_forms, declarations_forms}
 use Rattle.vbe_round.proofs.Named.{IsGiven, port_groups, stored_groups, symbols_on, symbols_differ, name_free, signal_free, clock_of_text, written_differ, output_value, symbol_driven, port_bit, bit_port}
+use Rattle.vbe_round.proofs.Itself.{IsReadAsItself, equations_themselves, registers_themselves}
 use Rattle.vbe_round.proofs.Passing.{Stores, machine_stated, all_stated}
 
 -- ---- names that are declared once
@@ -111,21 +110,21 @@ never_repeated before (s ∷ known) d apart =
 abbrev ports_line : ℕ
 ports_line = line_behind (line_behind 1)
 
-abbrev signals_line : Machine → ℕ
-signals_line m = declared_on 1 (parts_of m)
+abbrev signals_line : List ℕ → Machine → ℕ
+signals_line stem m = declared_on 1 (parts_of stem m)
 
-abbrev registers_line : Machine → ℕ
-registers_line m = stored_on 1 (parts_of m)
+abbrev registers_line : List ℕ → Machine → ℕ
+registers_line stem m = stored_on 1 (parts_of stem m)
 
-abbrev equations_line : Machine → ℕ
-equations_line m = begun_on 1 (parts_of m)
+abbrev equations_line : List ℕ → Machine → ℕ
+equations_line stem m = begun_on 1 (parts_of stem m)
 
-abbrev blocks_line : Machine → ℕ
-blocks_line m = blocks_on 1 (parts_of m)
+abbrev blocks_line : List ℕ → Machine → ℕ
+blocks_line stem m = blocks_on 1 (parts_of stem m)
 
 -- what the text declares
-abbrev symbols_of : Machine → List Symbol
-symbols_of m = symbols_on ports_line (signals_line m) (registers_line m) m
+abbrev symbols_of : List ℕ → Machine → List Symbol
+symbols_of stem m = symbols_on stem ports_line (signals_line stem m) (registers_line stem m) m
 
 some_groups : (m : Machine) → 0 < length (map declared (port_groups m))
 some_groups m = subst (λ (ps : List OnePort). 0 < length ps) (sym (map-append declared (grouped m.ports) supply_groups)) (some_declared m)
@@ -137,18 +136,18 @@ abbrev entity_of : List ℕ → List Group → List PortGroup
 entity_of name gs = placed_port ports_line (outline_of name (map declared gs)).first ∷ placed_ports ports_line (outline_of name (map declared gs)).others
 
 -- what holds of the groups with the supplies holds of the entity
-of_entity : {A : Type 0} (look : List PortGroup → A) (x : A) (m : Machine) → IsGiven m → look (entity_of m.name (port_groups m)) ≡ x → look (source_of m).entity.ports ≡ x
+of_entity : {A : Type 0} (look : List PortGroup → A) (x : A) (m : Machine) → (given : IsGiven m) → look (entity_of m.name (port_groups m)) ≡ x → look (source_of given.limits.stem m).entity.ports ≡ x
 of_entity look x m given e = ap (λ (gs : List Group). look (entity_of m.name gs)) (groups_are m given) ∙ e
 
-symbols_are : (m : Machine) → IsGiven m → port_symbols (source_of m).entity.ports ++ signal_symbols (source_of m).declarations.signals ≡ symbols_of m
+symbols_are : (m : Machine) → (given : IsGiven m) → port_symbols (source_of given.limits.stem m).entity.ports ++ signal_symbols (source_of given.limits.stem m).declarations.signals ≡ symbols_of given.limits.stem m
 symbols_are m given =
     let G = on_lines port_symbol ports_line (port_groups m) in
-    let S = placed_signals (signals_line m) (signal_texts m) in
-    let R = placed_groups (registers_line m) (stored_groups m) in
-    let ports : port_symbols (source_of m).entity.ports ≡ G = of_entity port_symbols G m given (entity_symbols ports_line m.name (port_groups m) (some_groups m)) in
-    let signals : signal_symbols (S ++ R) ≡ on_lines signal_symbol (signals_line m) (signal_texts m) ++ on_lines stored_symbol (registers_line m) (stored_groups m) =
-    signals_both S R ∙ ap (λ (xs : List Symbol). xs ++ signal_symbols R) (signals_on (signals_line m) (signal_texts m))
-    ∙ ap (λ (xs : List Symbol). on_lines signal_symbol (signals_line m) (signal_texts m) ++ xs) (symbols_stored (registers_line m) (stored_groups m)) in
+    let S = placed_signals (signals_line given.limits.stem m) (signal_texts given.limits.stem m) in
+    let R = placed_groups (registers_line given.limits.stem m) (stored_groups m) in
+    let ports : port_symbols (source_of given.limits.stem m).entity.ports ≡ G = of_entity port_symbols G m given (entity_symbols ports_line m.name (port_groups m) (some_groups m)) in
+    let signals : signal_symbols (S ++ R) ≡ on_lines signal_symbol (signals_line given.limits.stem m) (signal_texts given.limits.stem m) ++ on_lines stored_symbol (registers_line given.limits.stem m) (stored_groups m) =
+    signals_both S R ∙ ap (λ (xs : List Symbol). xs ++ signal_symbols R) (signals_on (signals_line given.limits.stem m) (signal_texts given.limits.stem m))
+    ∙ ap (λ (xs : List Symbol). on_lines signal_symbol (signals_line given.limits.stem m) (signal_texts given.limits.stem m) ++ xs) (symbols_stored (registers_line given.limits.stem m) (stored_groups m)) in
     ap (λ (xs : List Symbol). xs ++ signal_symbols (S ++ R)) ports ∙ ap (λ (xs : List Symbol). G ++ xs) signals
 
 good_groups : (m : Machine) → IsGiven m → All GoodBits (port_groups m)
@@ -163,7 +162,7 @@ fit_groups m given =
     All-append FitsSupply (grouped m.ports) supply_groups
     (All-weaker (λ (g : Group). is_supply g.text ≡ false) FitsSupply (λ g e. inl e) (grouped m.ports)
     (texts_all (λ t. is_supply t ≡ false) m.ports
-    (All-weaker (λ (p : Port). IsNoSupply p.name) (λ (p : Port). is_supply p.name.text ≡ false) (λ p n. name_free ports_line (signals_line m) (registers_line m) m given p.name n) m.ports (no_port_supply m given.checked))))
+    (All-weaker (λ (p : Port). IsNoSupply p.name) (λ (p : Port). is_supply p.name.text ≡ false) (λ p n. name_free ports_line (signals_line given.limits.stem m) (registers_line given.limits.stem m) m given p.name n) m.ports (no_port_supply m given.checked))))
     (all_by FitsSupply supply_groups fits) where
       fits : (g : Group) → In g supply_groups → FitsSupply g
       fits g here = inr (refl, refl)
@@ -175,7 +174,7 @@ free_stored m given =
     texts_all (λ t. is_supply t ≡ false) (as_ports (register_names m))
     (All-map (λ (p : Port). is_supply p.name.text ≡ false) as_port (register_names m)
     (All-map (λ (n : Name). is_supply n.text ≡ false) (λ (r : Register). r.name) m.registers
-    (All-weaker (λ (r : Register). IsNoSupply r.name) (λ (r : Register). is_supply r.name.text ≡ false) (λ r n. name_free ports_line (signals_line m) (registers_line m) m given r.name n) m.registers (no_stored_supply m given.checked))))
+    (All-weaker (λ (r : Register). IsNoSupply r.name) (λ (r : Register). is_supply r.name.text ≡ false) (λ r n. name_free ports_line (signals_line given.limits.stem m) (registers_line given.limits.stem m) m given r.name n) m.registers (no_stored_supply m given.checked))))
 
 -- ---- lists
 
@@ -201,29 +200,29 @@ all_none p q r s t u v = rw (p, q, r, s, t, u, v) refl
 
 -- ---- a design of that text
 
-module _ (m : Machine) (given : IsGiven m) (design : DesignFile) (same : source_view design ≡ source_of m) where
+module _ (m : Machine) (given : IsGiven m) (design : DesignFile) (same : source_view design ≡ source_of given.limits.stem m) where
   -- the machine's names as the text has them
   abbrev vars : List Name
-  vars = held_names m ++ written_names m
+  vars = held_names m ++ written_names given.limits.stem m
 
-  known_is : symbols design ≡ symbols_of m
+  known_is : symbols design ≡ symbols_of given.limits.stem m
   known_is = ap (λ (t : SourceTree). port_symbols t.entity.ports ++ signal_symbols t.declarations.signals) same ∙ symbols_are m given
 
   found : {A : Type 0} (look : List Symbol → Statement → List A) (of : List Symbol → StatementTree → List A) → ((known : List Symbol) (s : Statement) → look known s ≡ of known (statement_view s))
-      → in_statements (look (symbols design)) design.statements ≡ in_each (of (symbols_of m)) (source_of m).statements
+      → in_statements (look (symbols design)) design.statements ≡ in_each (of (symbols_of given.limits.stem m)) (source_of given.limits.stem m).statements
   found look of seen =
       ap (λ (known : List Symbol). in_statements (look known) design.statements) known_is
-      ∙ statements_each (look (symbols_of m)) (of (symbols_of m)) (seen (symbols_of m)) design.statements
-      ∙ ap (λ (t : SourceTree). in_each (of (symbols_of m)) t.statements) same
+      ∙ statements_each (look (symbols_of given.limits.stem m)) (of (symbols_of given.limits.stem m)) (seen (symbols_of given.limits.stem m)) design.statements
+      ∙ ap (λ (t : SourceTree). in_each (of (symbols_of given.limits.stem m)) t.statements) same
 
   abbrev ck : Option (List ℕ)
-  ck = clock_of_text ports_line (signals_line m) (registers_line m) m given
+  ck = clock_of_text ports_line (signals_line given.limits.stem m) (registers_line given.limits.stem m) m given
 
-  stores : Stores (symbols_of m) ck (placed_storage (written_vars m) (blocks_line m) m.clock m.registers) (map (stored_as (written_vars m)) m.registers) (register_names m)
-  stores = machine_stated ports_line (signals_line m) (registers_line m) (equations_line m) (blocks_line m) m given
+  stores : Stores (symbols_of given.limits.stem m) ck (placed_storage (written_vars given.limits.stem m) (blocks_line given.limits.stem m) m.clock m.registers) (map (stored_as (written_vars given.limits.stem m)) m.registers) (register_names m)
+  stores = machine_stated ports_line (signals_line given.limits.stem m) (registers_line given.limits.stem m) (equations_line given.limits.stem m) (blocks_line given.limits.stem m) m given
 
-  stated : AreStated (symbols_of m) ck (source_of m).statements (definitions_of vars (written_names m) m.equations) (map (stored_as vars) m.registers) (written_names m ++ register_names m) stores.clocks
-  stated = all_stated ports_line (signals_line m) (registers_line m) (equations_line m) (blocks_line m) m given stores
+  stated : AreStated (symbols_of given.limits.stem m) ck (source_of given.limits.stem m).statements (definitions_of vars (written_names given.limits.stem m) m.equations) (map (stored_as vars) m.registers) (written_names given.limits.stem m ++ register_names m) stores.clocks
+  stated = all_stated ports_line (signals_line given.limits.stem m) (registers_line given.limits.stem m) (equations_line given.limits.stem m) (blocks_line given.limits.stem m) m given stores
 
   clock_is : clock_text design ≡ ck
   clock_is = ap first_text (found statement_clocks clocks_at clocks_are ∙ stated.clocks) ∙ stores.first
@@ -232,13 +231,13 @@ module _ (m : Machine) (given : IsGiven m) (design : DesignFile) (same : source_
 
   none_twice : first_repeated [] (symbols design) ≡ None
   none_twice =
-      ap (first_repeated []) known_is ∙ never_repeated [] (symbols_of m) (symbols_differ ports_line (signals_line m) (registers_line m) m given) (λ t h g. elim h [ ])
+      ap (first_repeated []) known_is ∙ never_repeated [] (symbols_of given.limits.stem m) (symbols_differ ports_line (signals_line given.limits.stem m) (registers_line given.limits.stem m) m given) (λ t h g. elim h [ ])
 
   all_known : first_unknown (symbols design) (in_statements statement_uses design.statements) ≡ None
   all_known =
       ap (λ (us : List Use). first_unknown (symbols design) us) (found (λ known. statement_uses) (λ known. uses_at) (λ known. uses_are))
-      ∙ ap (λ (known : List Symbol). first_unknown known (in_each uses_at (source_of m).statements)) known_is
-      ∙ none_unknown (symbols_of m) (in_each uses_at (source_of m).statements) stated.uses
+      ∙ ap (λ (known : List Symbol). first_unknown known (in_each uses_at (source_of given.limits.stem m).statements)) known_is
+      ∙ none_unknown (symbols_of given.limits.stem m) (in_each uses_at (source_of given.limits.stem m).statements) stated.uses
 
   all_wide : all_width_faults design ≡ []
   all_wide =
@@ -246,26 +245,26 @@ module _ (m : Machine) (given : IsGiven m) (design : DesignFile) (same : source_
       (ap (λ (t : SourceTree). port_faults t.entity.ports) same ∙ of_entity port_faults [] m given (entity_fine ports_line m.name (port_groups m) (some_groups m) (good_groups m given)))
       (nothing (signal_faults design.declarations.signals) (in_statements (statement_faults (symbols design)) design.statements)
       (ap (λ (t : SourceTree). signal_faults t.declarations.signals) same
-      ∙ declarations_fine (signals_line m) (registers_line m) (signal_texts m) (stored_groups m) (bits_good (as_ports (register_names m)) (stored_chain m given.checked given.named)))
+      ∙ declarations_fine (signals_line given.limits.stem m) (registers_line given.limits.stem m) (signal_texts given.limits.stem m) (stored_groups m) (bits_good (as_ports (register_names m)) (stored_chain m given.checked given.named)))
       (found statement_faults widths_at widths_are ∙ stated.widths))
 
-  drivers_is : all_driven (drivers design) ≡ written_names m ++ register_names m
+  drivers_is : all_driven (drivers design) ≡ written_names given.limits.stem m ++ register_names m
   drivers_is = ap all_driven (found statement_drivers drivers_at drivers_are) ∙ stated.drivers
 
-  driven_apart : AllDifferent (written_names m ++ register_names m)
+  driven_apart : AllDifferent (written_names given.limits.stem m ++ register_names m)
   driven_apart =
-      let d = written_differ ports_line (signals_line m) (registers_line m) m given in
-      different_append (written_names m) (register_names m) (different_right (held_names m) (written_names m) d)
-      (different_right (inputs m) (register_names m) (different_left (held_names m) (written_names m) d))
-      (λ n h g. (split_different (held_names m) (written_names m) d).1 n (In-right n (inputs m) (register_names m) g) h)
+      let d = written_differ ports_line (signals_line given.limits.stem m) (registers_line given.limits.stem m) m given in
+      different_append (written_names given.limits.stem m) (register_names m) (different_right (held_names m) (written_names given.limits.stem m) d)
+      (different_right (inputs m) (register_names m) (different_left (held_names m) (written_names given.limits.stem m) d))
+      (λ n h g. (split_different (held_names m) (written_names given.limits.stem m) d).1 n (In-right n (inputs m) (register_names m) g) h)
 
   none_again : first_second_driver [] (drivers design) ≡ None
   none_again = driven_once (drivers design) (subst (λ (ns : List Name). AllDifferent ns) (sym drivers_is) driven_apart)
 
   all_driven_there : first_undriven (all_driven (drivers design)) (symbols design) ≡ None
   all_driven_there =
-      ap (λ (ns : List Name). first_undriven ns (symbols design)) drivers_is ∙ ap (λ (known : List Symbol). first_undriven (written_names m ++ register_names m) known) known_is
-      ∙ all_are_driven (written_names m ++ register_names m) (symbols_of m) (symbol_driven ports_line (signals_line m) (registers_line m) m given)
+      ap (λ (ns : List Name). first_undriven ns (symbols design)) drivers_is ∙ ap (λ (known : List Symbol). first_undriven (written_names given.limits.stem m ++ register_names m) known) known_is
+      ∙ all_are_driven (written_names given.limits.stem m ++ register_names m) (symbols_of given.limits.stem m) (symbol_driven ports_line (signals_line given.limits.stem m) (registers_line given.limits.stem m) m given)
 
   all_forms : all_unsupported design ≡ []
   all_forms =
@@ -273,8 +272,8 @@ module _ (m : Machine) (given : IsGiven m) (design : DesignFile) (same : source_
       (ap (λ (t : SourceTree). port_forms t.entity.ports) same ∙ of_entity port_forms [] m given (entity_forms ports_line m.name (port_groups m) (some_groups m) (fit_groups m given)))
       (nothing (signal_forms design.declarations.signals) (in_statements (statement_forms (symbols design)) design.statements)
       (ap (λ (t : SourceTree). signal_forms t.declarations.signals) same
-      ∙ declarations_forms (signals_line m) (registers_line m) (signal_texts m) (stored_groups m)
-      (all_by (λ t. is_supply t ≡ false) (signal_texts m) (signal_free ports_line (signals_line m) (registers_line m) m given)) (free_stored m given))
+      ∙ declarations_forms (signals_line given.limits.stem m) (registers_line given.limits.stem m) (signal_texts given.limits.stem m) (stored_groups m)
+      (all_by (λ t. is_supply t ≡ false) (signal_texts given.limits.stem m) (signal_free ports_line (signals_line given.limits.stem m) (registers_line given.limits.stem m) m given)) (free_stored m given))
       (found statement_forms forms_at forms_are ∙ stated.forms))
 
   all_clocks : all_clock_lines design ≡ []
@@ -287,33 +286,33 @@ module _ (m : Machine) (given : IsGiven m) (design : DesignFile) (same : source_
 
   -- ---- rings and ports
 
-  definitions_is : definitions design ≡ definitions_of vars (written_names m) m.equations
+  definitions_is : definitions design ≡ definitions_of vars (written_names given.limits.stem m) m.equations
   definitions_is = found statement_definitions definitions_at definitions_are ∙ stated.definitions
 
   rings : HasNoRing design
   rings ring is =
-      no_ring (definitions_of vars (written_names m) m.equations) (place vars)
-      (each_lower vars (held_names m) (written_names m) m.equations (written_differ ports_line (signals_line m) (registers_line m) m given) refl given.checked.ordered.below) ring
+      no_ring (definitions_of vars (written_names given.limits.stem m) m.equations) (place vars)
+      (each_lower vars (held_names m) (written_names given.limits.stem m) m.equations (written_differ ports_line (signals_line given.limits.stem m) (registers_line given.limits.stem m) m given) refl given.checked.ordered.below) ring
       (subst (λ (ds : List Definition). IsRing ds ring) definitions_is is)
 
   ports_apart : AllDifferent m.ports
   ports_apart = different_unmapped (λ (p : Port). p.name) m.ports (different_left_names m given)
 
-  port_order : IsPermutation m.ports (port_bits (symbols_of m))
+  port_order : IsPermutation m.ports (port_bits (symbols_of given.limits.stem m))
   port_order =
-      permutation_same m.ports (port_bits (symbols_of m)) ports_apart
-      (different_unmapped (λ (p : Port). p.name) (port_bits (symbols_of m))
-      (different_Sub (names_of (port_bits (symbols_of m))) (all_names (symbols_of m)) (ports_sub (symbols_of m)) (different_bits (symbols_of m) (symbols_differ ports_line (signals_line m) (registers_line m) m given))))
-      (port_bit ports_line (signals_line m) (registers_line m) m given) (bit_port ports_line (signals_line m) (registers_line m) m given)
+      permutation_same m.ports (port_bits (symbols_of given.limits.stem m)) ports_apart
+      (different_unmapped (λ (p : Port). p.name) (port_bits (symbols_of given.limits.stem m))
+      (different_Sub (names_of (port_bits (symbols_of given.limits.stem m))) (all_names (symbols_of given.limits.stem m)) (ports_sub (symbols_of given.limits.stem m)) (different_bits (symbols_of given.limits.stem m) (symbols_differ ports_line (signals_line given.limits.stem m) (registers_line given.limits.stem m) m given))))
+      (port_bit ports_line (signals_line given.limits.stem m) (registers_line given.limits.stem m) m given) (bit_port ports_line (signals_line given.limits.stem m) (registers_line given.limits.stem m) m given)
 
   passing : Passes design
   passing = record {
     no_fault = no_fault;
     no_ring = rings;
     few_ports =
-        let few = given.limits.few_ports in
-        let count = length_permutation m.ports (port_bits (symbols_of m)) port_order in
-        let own : length (port_bits (symbols design)) ≡ length (port_bits (symbols_of m)) = ap (λ (known : List Symbol). length (port_bits known)) known_is in
+        let few = given.limits.within.few_ports in
+        let count = length_permutation m.ports (port_bits (symbols_of given.limits.stem m)) port_order in
+        let own : length (port_bits (symbols design)) ≡ length (port_bits (symbols_of given.limits.stem m)) = ap (λ (known : List Symbol). length (port_bits known)) known_is in
         omega (arith, few, count, own);
   }
 
@@ -334,20 +333,20 @@ module _ (m : Machine) (given : IsGiven m) (design : DesignFile) (same : source_
     by (Some c) none = ap (λ (b : Option ℕ). Some (record { text = c.text; bit = b })) (sym (none c refl))
 
   module _ (k : Machine) (is : IsMachineOf design k) where
-    definitions_over : IsPermutation k.equations (map (equation_over k.vars) (definitions_of vars (written_names m) m.equations))
+    definitions_over : IsPermutation k.equations (map (equation_over k.vars) (definitions_of vars (written_names given.limits.stem m) m.equations))
     definitions_over = subst (λ (ds : List Definition). IsPermutation k.equations (map (equation_over k.vars) ds)) definitions_is is.equations
 
     registers_over : IsPermutation k.registers (map (register_over k.vars) (map (stored_as vars) m.registers))
     registers_over = subst (λ (rs : List Storage). IsPermutation k.registers (map (register_over k.vars) rs)) storage_are is.registers
 
-    copy : IsCopy m k (written_names m)
+    copy : IsCopy m k (written_names given.limits.stem m)
     copy =
-        let D = definitions_of vars (written_names m) m.equations in
+        let D = definitions_of vars (written_names given.limits.stem m) m.equations in
         let R = map (register_over k.vars) (map (stored_as vars) m.registers) in
         record {
           name = is.name ∙ ap (λ (t : SourceTree). t.entity.name) same ∙ outline_name m.name (map declared (grouped (with_supply_ports m.ports)));
           ports =
-              one_order (λ (p : Port). p.name) (port_bits (symbols_of m)) k.ports m.ports (subst (λ (known : List Symbol). IsPermutation k.ports (port_bits known)) known_is is.ports) port_order is.checked.ports given.checked.ports;
+              one_order (λ (p : Port). p.name) (port_bits (symbols_of given.limits.stem m)) k.ports m.ports (subst (λ (known : List Symbol). IsPermutation k.ports (port_bits known)) known_is is.ports) port_order is.checked.ports given.checked.ports;
           clock = is.clock ∙ clock_again;
           registers =
               one_order (λ (r : Register). r.name) R k.registers R registers_over (IsPermutation-refl R) is.checked.registers
@@ -360,42 +359,77 @@ module _ (m : Machine) (given : IsGiven m) (design : DesignFile) (same : source_
 
     alike : IsAlike m k
     alike =
-        copy_is_alike m k (written_names m)
+        copy_is_alike m k (written_names given.limits.stem m)
         (record {
           ordered = given.checked.ordered;
-          each = as_many_written m;
-          different = written_differ ports_line (signals_line m) (registers_line m) m given;
+          each = as_many_written given.limits.stem m;
+          different = written_differ ports_line (signals_line given.limits.stem m) (registers_line given.limits.stem m) m given;
           equations = equations_over m given.checked;
           registers = given.checked.loads;
-          outputs = output_value ports_line (signals_line m) (registers_line m) m given;
+          outputs = output_value ports_line (signals_line given.limits.stem m) (registers_line given.limits.stem m) m given;
         }) copy is.checked.ordered
 
--- ---- the law
+  -- ---- and it is the machine itself
 
-given_by : (m : Machine) → IsChecked m → CanBeVbe m → IsWithinLimits m → IsGiven m
-given_by m checked named limits = record { checked = checked; named = named; limits = limits }
+  pub is_itself : written_names given.limits.stem m ≡ equation_names m → IsReadAsItself m → IsMachineOf design m
+  is_itself own plain =
+      let different = given.checked.ordered.different in
+      let names : held_names m ++ equation_names m ≡ m.vars = sym given.checked.ordered.vars in
+      let over : List Name → List Name → List Equation = λ vs ns. map (equation_over m.vars) (definitions_of vs ns m.equations) in
+      let equations : map (equation_over m.vars) (definitions design) ≡ m.equations =
+      ap (λ (ds : List Definition). map (equation_over m.vars) ds) definitions_is ∙ ap (λ (ns : List Name). over (held_names m ++ ns) ns) own
+      ∙ ap (λ (vs : List Name). over vs (equation_names m)) names ∙ equations_themselves m.vars different m.equations (equations_over m given.checked) plain.equations in
+      let registers : map (register_over m.vars) (storage design) ≡ m.registers =
+      ap (λ (rs : List Storage). map (register_over m.vars) rs) storage_are
+      ∙ ap (λ (ns : List Name). map (register_over m.vars) (map (stored_as (held_names m ++ ns)) m.registers)) own
+      ∙ ap (λ (vs : List Name). map (register_over m.vars) (map (stored_as vs) m.registers)) names ∙ registers_themselves m.vars different m.registers given.checked.loads plain.registers in
+      record {
+        checked = given.checked;
+        name = sym (ap (λ (t : SourceTree). t.entity.name) same ∙ outline_name m.name (map declared (grouped (with_supply_ports m.ports))));
+        ports = subst (λ (known : List Symbol). IsPermutation m.ports (port_bits known)) (sym known_is) port_order;
+        clock = sym clock_again;
+        equations = subst (λ (es : List Equation). IsPermutation m.equations es) (sym equations) (IsPermutation-refl m.equations);
+        registers = subst (λ (rs : List Register). IsPermutation m.registers rs) (sym registers) (IsPermutation-refl m.registers);
+      }
+
+-- ---- the laws
 
 -- what is written there is the value of the text
-view_is : (m : Machine) → IsGiven m → (design : DesignFile) → IsWritten (text m) design → source_view design ≡ source_of m
+view_is : (m : Machine) → (given : IsGiven m) → (design : DesignFile) → IsWritten (text_by given.limits.stem m) design → source_view design ≡ source_of given.limits.stem m
 view_is m given design written =
-    text_laws.one_source (tokens_in (text m)) (source_view design) (source_of m) written.source (written_is_a_sentence m given.checked given.named given.limits).1
+    text_laws.one_source (tokens_in (text_by given.limits.stem m)) (source_view design) (source_of given.limits.stem m) written.source (written_is_a_sentence given.limits.stem m given.limits.letter given.checked given.named given.limits.within).1
 
-is_alike : (m k : Machine) → IsGiven m → IsVbe (text m) k → IsAlike m k
+is_alike : (m k : Machine) → (given : IsGiven m) → IsVbe (text_by given.limits.stem m) k → IsAlike m k
 is_alike m k given is = alike m given is.design (view_is m given is.design is.written) k is.machine
 
-not_refused : (m : Machine) (e : ReadError) → IsGiven m → Refused (text m) e → ⊥
-not_refused m e given (long many same) = let few = given.limits.short in absurd (omega (arith, few, many))
-not_refused m e given (uncut few some) = cut_or_not (text m) e (written_is_a_sentence m given.checked given.named given.limits).0 some
-not_refused m e given (unwritten few cut not) = text_laws.never_both (tokens_in (text m)) (source_of m) e (written_is_a_sentence m given.checked given.named given.limits).1 not
+pub not_refused : (m : Machine) (e : ReadError) → (given : IsGiven m) → Refused (text_by given.limits.stem m) e → ⊥
+not_refused m e given (long many same) = let few = given.limits.within.short in absurd (omega (arith, few, many))
+not_refused m e given (uncut few some) = cut_or_not (text_by given.limits.stem m) e (written_is_a_sentence given.limits.stem m given.limits.letter given.checked given.named given.limits.within).0 some
+not_refused m e given (unwritten few cut not) = text_laws.never_both (tokens_in (text_by given.limits.stem m)) (source_of given.limits.stem m) e (written_is_a_sentence given.limits.stem m given.limits.letter given.checked given.named given.limits.within).1 not
 not_refused m e given (faulty design written refused) = pass_or_fail design e (passing m given design (view_is m given design written)) refused
 
-only_memory : (m : Machine) (e : ReadError) → IsGiven m → IsVbeRefusal (text m) e → e ≡ errors.Memory
+only_memory : (m : Machine) (e : ReadError) → (given : IsGiven m) → IsVbeRefusal (text_by given.limits.stem m) e → e ≡ errors.Memory
 only_memory m errors.Memory given r = refl
 only_memory m (errors.Input f) given r = absurd (not_refused m (errors.Input f) given r)
 only_memory m (errors.Limit l) given r = absurd (not_refused m (errors.Limit l) given r)
 
-pub read_again : ReadAgain
-read_again = record {
-  is = λ m k checked named limits is. is_alike m k (given_by m checked named limits) is;
-  accepted = λ m e checked named limits r. only_memory m e (given_by m checked named limits) r;
+-- where there is a machine of the text at all
+pub itself : (m k : Machine) (given : IsGiven m) → written_names given.limits.stem m ≡ equation_names m → IsReadAsItself m → IsVbe (text_by given.limits.stem m) k
+    → IsVbe (text_by given.limits.stem m) m
+itself m k given own plain is = record {
+  design = is.design;
+  written = is.written;
+  passes = is.passes;
+  machine = is_itself m given is.design (view_is m given is.design is.written) own plain;
 }
+
+pub read_again_by : (stem : List ℕ) → IsLetter stem → ReadAgainBy stem
+read_again_by stem letter = record {
+  is = λ m k checked named within is.
+      is_alike m k (record { checked = checked; named = named; limits = record { stem = stem; letter = letter; within = within } }) is;
+  accepted = λ m e checked named within r.
+      only_memory m e (record { checked = checked; named = named; limits = record { stem = stem; letter = letter; within = within } }) r;
+}
+
+pub read_again : ReadAgain
+read_again = read_again_by (codes "n") (record { letter = 110; is = refl; small = refl })

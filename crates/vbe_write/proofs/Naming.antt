@@ -1,6 +1,6 @@
 -- The names that a text has.
 use Rattle.std.proofs.Common.{◌≡◌, ℕ, suc, ◌+◌, ◌-◌, ◌<◌, ◌≤◌, ◌^◌, Bool, true, false, not, ◌||◌, cond, List, [], ◌∷◌, ◌++◌, length, take, drop, get_or, map, filter, Option, None, Some, refl, sym, ap, subst, ◌∙◌, append_assoc, append-nil, arith, length-append, length-drop, if◌then◌else◌}
-use Rattle.std.specs.Prelude.{is_some, is_none, option_map, codes}
+use Rattle.std.specs.Prelude.{is_some, is_none, option_map}
 use Rattle.std.specs.List.{list_any, All}
 use Rattle.std.specs.Option.{option_or}
 use Rattle.std.specs.Cmp.{eq_by_cmp_equiv}
@@ -203,11 +203,11 @@ as_many_renamed p (n ∷ ns) (o ∷ os) = one_more (p n) n o (renamed p ns (o �
 
 -- ---- all names
 
-pub as_many_written : (m : Machine) → length (written_names m) ≡ length m.equations
-as_many_written m = as_many_renamed (is_output m) (equation_names m) (map scalar (signal_texts m)) ∙ length-map m.equations (λ e. e.name)
+pub as_many_written : (stem : List ℕ) (m : Machine) → length (written_names stem m) ≡ length m.equations
+as_many_written stem m = as_many_renamed (is_output m) (equation_names m) (map scalar (signal_texts stem m)) ∙ length-map m.equations (λ e. e.name)
 
-pub vars_are : (m : Machine) → written_vars m ≡ held_names m ++ written_names m
-vars_are m = refl
+pub vars_are : (stem : List ℕ) (m : Machine) → written_vars stem m ≡ held_names m ++ written_names stem m
+vars_are stem m = refl
 
 pub many_held : (m : Machine) → IsChecked m → length m.vars - length m.equations ≡ length (held_names m)
 many_held m checked =
@@ -216,12 +216,12 @@ many_held m checked =
 pub held_first : (m : Machine) → IsChecked m → take (length (held_names m)) m.vars ≡ held_names m
 held_first m checked = ap (take (length (held_names m))) checked.ordered.vars ∙ take-append_seam (held_names m) (equation_names m)
 
-pub written_behind : (m : Machine) → drop (length (held_names m)) (written_vars m) ≡ written_names m
-written_behind m = ap (drop (length (held_names m))) (vars_are m) ∙ drop-append_seam (held_names m) (written_names m)
+pub written_behind : (stem : List ℕ) (m : Machine) → drop (length (held_names m)) (written_vars stem m) ≡ written_names stem m
+written_behind stem m = ap (drop (length (held_names m))) (vars_are stem m) ∙ drop-append_seam (held_names m) (written_names stem m)
 
-pub as_many_vars : (m : Machine) → IsChecked m → length (written_vars m) ≡ length m.vars
-as_many_vars m checked =
-    omega (arith, ap (λ (ns : List Name). length ns) (vars_are m), length-append (held_names m) (written_names m), as_many_written m, ap (λ (ns : List Name). length ns) checked.ordered.vars, length-append (held_names m) (equation_names m), length-map m.equations (λ e. e.name))
+pub as_many_vars : (stem : List ℕ) (m : Machine) → IsChecked m → length (written_vars stem m) ≡ length m.vars
+as_many_vars stem m checked =
+    omega (arith, ap (λ (ns : List Name). length ns) (vars_are stem m), length-append (held_names m) (written_names stem m), as_many_written stem m, ap (λ (ns : List Name). length ns) checked.ordered.vars, length-append (held_names m) (equation_names m), length-map m.equations (λ e. e.name))
 
 -- ---- expressions are over them
 
@@ -290,19 +290,19 @@ count_is m index es same knows = inner_counted index (outputs m) knows es ∙ ap
 pub knows_outputs : (m : Machine) (index : NamePlaces) (ps : List Port) (names : List Name) → ps ≡ m.ports → names ≡ map (λ p. p.name) (filter (λ p. not (is_input p.dir)) ps) → Knows index names → Knows index (outputs m)
 knows_outputs m index ps names same are knows = subst (Knows index) (are ∙ ap (λ (xs : List Port). map (λ p. p.name) (filter (λ p. not (is_input p.dir)) xs)) same) knows
 
-pub signals_are : (m : Machine) (index : NamePlaces) (es : List Equation) (texts signals : List (List ℕ)) → map equation_view es ≡ m.equations → Knows index (outputs m) → texts ≡ taken_texts m
-    → signals ≡ free_texts (codes "n") texts (inner_of index es) → signals ≡ signal_texts m
-signals_are m index es texts signals same knows are made =
-    made ∙ ap (λ (ts : List (List ℕ)). free_texts (codes "n") ts (inner_of index es)) are ∙ ap (free_texts (codes "n") (taken_texts m)) (count_is m index es same knows)
+pub signals_are : (stem : List ℕ) (m : Machine) (index : NamePlaces) (es : List Equation) (texts signals : List (List ℕ)) → map equation_view es ≡ m.equations → Knows index (outputs m) → texts ≡ taken_texts m
+    → signals ≡ free_texts stem texts (inner_of index es) → signals ≡ signal_texts stem m
+signals_are stem m index es texts signals same knows are made =
+    made ∙ ap (λ (ts : List (List ℕ)). free_texts stem ts (inner_of index es)) are ∙ ap (free_texts stem (taken_texts m)) (count_is m index es same knows)
 
-pub vars_made : (m : Machine) (index : NamePlaces) (es : List Equation) (texts : List (List ℕ)) (old new : List Name) → map equation_view es ≡ m.equations → Knows index (outputs m) → texts ≡ taken_texts m
-    → old ≡ held_names m → new ≡ old ++ renamed (keeps index) (map (λ e. e.name) es) (map scalar (free_texts (codes "n") texts (inner_of index es))) → new ≡ written_vars m
-vars_made m index es texts old new same knows are held made =
+pub vars_made : (stem : List ℕ) (m : Machine) (index : NamePlaces) (es : List Equation) (texts : List (List ℕ)) (old new : List Name) → map equation_view es ≡ m.equations → Knows index (outputs m) → texts ≡ taken_texts m
+    → old ≡ held_names m → new ≡ old ++ renamed (keeps index) (map (λ e. e.name) es) (map scalar (free_texts stem texts (inner_of index es))) → new ≡ written_vars stem m
+vars_made stem m index es texts old new same knows are held made =
     made
-    ∙ ap (λ (ts : List (List ℕ)). old ++ renamed (keeps index) (map (λ e. e.name) es) (map scalar ts)) (signals_are m index es texts (free_texts (codes "n") texts (inner_of index es)) same knows are refl)
-    ∙ ap (λ (ns : List Name). old ++ renamed (keeps index) ns (map scalar (signal_texts m))) (sym (names_seen es) ∙ ap (map (λ e. e.name)) same)
-    ∙ ap (λ (ns : List Name). old ++ ns) (renamed_by m index knows (equation_names m) (map scalar (signal_texts m)))
-    ∙ ap (λ (ns : List Name). ns ++ written_names m) held
+    ∙ ap (λ (ts : List (List ℕ)). old ++ renamed (keeps index) (map (λ e. e.name) es) (map scalar ts)) (signals_are stem m index es texts (free_texts stem texts (inner_of index es)) same knows are refl)
+    ∙ ap (λ (ns : List Name). old ++ renamed (keeps index) ns (map scalar (signal_texts stem m))) (sym (names_seen es) ∙ ap (map (λ e. e.name)) same)
+    ∙ ap (λ (ns : List Name). old ++ ns) (renamed_by m index knows (equation_names m) (map scalar (signal_texts stem m)))
+    ∙ ap (λ (ns : List Name). ns ++ written_names stem m) held
 
 pub stored_over : (m : Machine) (rs : List Register) (n : ℕ) → IsChecked m → map register_view rs ≡ m.registers → n ≡ length m.vars → All (λ r. IsOver (view r.next) n × IsOver (view r.enable) n) rs
 stored_over m rs n checked same many =
@@ -324,14 +324,14 @@ held_are m names all made es checked same also stated copied =
     copied ∙ ap (λ (n : ℕ). take n names) (ap (λ (ns : List Name). length ns - length es) also ∙ ap (λ (n : ℕ). length m.vars - n) e ∙ many_held m checked)
     ∙ ap (take (length (held_names m))) same ∙ held_first m checked
 
-pub behind_are : (m : Machine) (all made : List Name) (es : List Equation) → IsChecked m → all ≡ m.vars → map equation_view es ≡ m.equations → made ≡ written_vars m → drop (length all - length es) made ≡ written_names m
-behind_are m all made es checked also stated is =
+pub behind_are : (stem : List ℕ) (m : Machine) (all made : List Name) (es : List Equation) → IsChecked m → all ≡ m.vars → map equation_view es ≡ m.equations → made ≡ written_vars stem m → drop (length all - length es) made ≡ written_names stem m
+behind_are stem m all made es checked also stated is =
     let e : length es ≡ length m.equations = sym (length-map es equation_view) ∙ ap (λ xs. length xs) stated in
     ap (λ (n : ℕ). drop n made) (ap (λ (ns : List Name). length ns - length es) also ∙ ap (λ (n : ℕ). length m.vars - n) e ∙ many_held m checked)
-    ∙ ap (drop (length (held_names m))) is ∙ written_behind m
+    ∙ ap (drop (length (held_names m))) is ∙ written_behind stem m
 
-pub within_all : (m : Machine) (all made : List Name) (k : ℕ) → IsChecked m → all ≡ m.vars → made ≡ written_vars m → length all - k ≤ length made
-within_all m all made k checked also is = omega (arith, ap (λ (ns : List Name). length ns) also, ap (λ (ns : List Name). length ns) is, as_many_vars m checked)
+pub within_all : (stem : List ℕ) (m : Machine) (all made : List Name) (k : ℕ) → IsChecked m → all ≡ m.vars → made ≡ written_vars stem m → length all - k ≤ length made
+within_all stem m all made k checked also is = omega (arith, ap (λ (ns : List Name). length ns) also, ap (λ (ns : List Name). length ns) is, as_many_vars stem m checked)
 
 -- all that is behind a place
 pub behind_all : (xs : List Name) (k : ℕ) → take (length xs - k) (drop k xs) ≡ drop k xs

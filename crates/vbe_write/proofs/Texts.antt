@@ -22,7 +22,7 @@ use Rattle.vst_write.specs.Structure.{begin_layout}
 use Rattle.vbe_write.specs.Pieces.{front_text, declared_text, stated_text}
 use Rattle.vbe_write.specs.Expressions.{in_parentheses, primary, operand, join, laid, expression_layout, value_layout}
 use Rattle.machine_meaning.specs.Machine.{Register as Stored}
-use Rattle.vbe_write.specs.Written.{with_supply_ports, signal_texts, written_names, written_vars, head_layout, registers_layout, label, last_layout, layout, equation_layout, equations_layout, register_layout, blocks_layout, clocked_layout, storage_layout}
+use Rattle.vbe_write.specs.Written.{with_supply_ports, signal_texts, written_names, written_vars, head_layout, registers_layout, label, last_layout, layout_by, equation_layout, equations_layout, register_layout, blocks_layout, clocked_layout, storage_layout}
 
 -- two parts that are put one behind the other
 pub put_two : (xs ys : List Written) (out a b : List ℕ) → a ≡ out ++ text_of xs → b ≡ a ++ text_of ys → b ≡ out ++ text_of (xs ++ ys)
@@ -86,14 +86,14 @@ choice_put names c a b out x1 x2 x3 x4 x5 x6 x7 e1 e2 e3 e4 e5 e6 e7 =
 
 -- ---- the whole text
 
-pub whole_text : (m : Machine) (a b z : List ℕ) → a ≡ [] ++ front_text m → b ≡ a ++ declared_text (signal_texts m) m.registers → z ≡ b ++ stated_text (written_vars m) (written_names m) m → z ≡ text_of (layout m)
-unfolding layout
-whole_text m a b z ae be ze =
+pub whole_text : (stem : List ℕ) (m : Machine) (a b z : List ℕ) → a ≡ [] ++ front_text m → b ≡ a ++ declared_text (signal_texts stem m) m.registers → z ≡ b ++ stated_text (written_vars stem m) (written_names stem m) m → z ≡ text_of (layout_by stem m)
+unfolding layout_by
+whole_text stem m a b z ae be ze =
     let E = entity_layout (outline m.name (with_supply_ports m.ports)) in
     let H = head_layout m.name in
-    let S = signals_layout (signal_texts m) in
+    let S = signals_layout (signal_texts stem m) in
     let R = registers_layout (register_names m) in
-    let W : List Written = equations_layout (written_vars m) (written_names m) m.equations ++ (storage_layout (written_vars m) m.clock m.registers ++ last_layout) in
+    let W : List Written = equations_layout (written_vars stem m) (written_names stem m) m.equations ++ (storage_layout (written_vars stem m) m.clock m.registers ++ last_layout) in
     let D : List Written = S ++ (R ++ begin_layout) in
     let all : z ≡ [] ++ text_of ((E ++ H) ++ (D ++ W)) = put_two (E ++ H) (D ++ W) [] a z ae (put_two D W a b z be ze) in
     all ∙ ap text_of (append_assoc E H (D ++ W) ∙ ap (λ (ws : List Written). E ++ (H ++ ws)) (append_assoc S (R ++ begin_layout) W ∙ ap (λ (ws : List Written). S ++ ws) (append_assoc R begin_layout W)))

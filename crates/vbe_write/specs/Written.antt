@@ -33,9 +33,9 @@ taken_texts m = map (λ p. p.name.text) m.ports ++ map (λ r. r.name.text) m.reg
 abbrev pub inner_count : Machine → ℕ
 inner_count m = length (filter (λ name. not (is_output m name)) (equation_names m))
 
--- n0, n1, and so on, without those whose text a port or a register has
-abbrev pub signal_texts : Machine → List (List ℕ)
-signal_texts m = free_texts (codes "n") (taken_texts m) (inner_count m)
+-- a stem with 0, with 1, and so on, without those that are the text of a port or a register
+abbrev pub signal_texts : List ℕ → Machine → List (List ℕ)
+signal_texts stem m = free_texts stem (taken_texts m) (inner_count m)
 
 -- the names of equations, where those of inner signals are replaced by others in their order
 abbrev pub renamed : (Name → Bool) → List Name → List Name → List Name
@@ -44,12 +44,12 @@ renamed keeps (n ∷ names) [] = n ∷ renamed keeps names []
 renamed keeps (n ∷ names) (o ∷ others) = if keeps n then n ∷ renamed keeps names (o ∷ others) else o ∷ renamed keeps names others
 
 -- the names under which the text has the equations
-abbrev pub written_names : Machine → List Name
-written_names m = renamed (is_output m) (equation_names m) (map scalar (signal_texts m))
+abbrev pub written_names : List ℕ → Machine → List Name
+written_names stem m = renamed (is_output m) (equation_names m) (map scalar (signal_texts stem m))
 
 -- all names but the clock's as the text has them: variable k of an expression is number k of them
-abbrev pub written_vars : Machine → List Name
-written_vars m = inputs m ++ register_names m ++ written_names m
+abbrev pub written_vars : List ℕ → Machine → List Name
+written_vars stem m = inputs m ++ register_names m ++ written_names stem m
 
 -- ---- layout
 
@@ -163,13 +163,17 @@ storage_layout vars (Some clock) rs = clocked_layout vars clock rs
 abbrev pub last_layout : List Written
 last_layout = a_word word.End ∷ gap ∷ a_name architecture_name ∷ a_sign sign.Semicolon ∷ turn ∷ []
 
--- the whole text: the entity, the declarations of inner signals and of registers, the equations, and the blocks
-unfoldable pub layout : Machine → List Written
-layout m =
+-- the whole text, by a stem for inner signals: the entity, the declarations of these and of registers, the equations, and the blocks
+unfoldable pub layout_by : List ℕ → Machine → List Written
+layout_by stem m =
     entity_layout (outline m.name (with_supply_ports m.ports))
     ++ (head_layout m.name
-    ++ (signals_layout (signal_texts m)
+    ++ (signals_layout (signal_texts stem m)
     ++ (registers_layout (register_names m)
     ++ (begin_layout
-    ++ (equations_layout (written_vars m) (written_names m) m.equations
-    ++ (storage_layout (written_vars m) m.clock m.registers ++ last_layout))))))
+    ++ (equations_layout (written_vars stem m) (written_names stem m) m.equations
+    ++ (storage_layout (written_vars stem m) m.clock m.registers ++ last_layout))))))
+
+-- the text whose inner signals are n0, n1, and so on
+abbrev pub layout : Machine → List Written
+layout m = layout_by (codes "n") m

@@ -7,4 +7,4 @@ mod registers;
 mod writer;
 
 pub use expressions::{Speller, spell_name};
-pub use writer::write_vbe;
+pub use writer::{write_vbe, write_vbe_by};

@@ -1,5 +1,5 @@
 // The names that a text has.
-ghost use Rattle.std.specs.Prelude.{◌≡◌, ◌<◌, ◌≤◌, ◌^◌, ◌+◌, ◌++◌, not, is_none, is_some, map, filter, length, take, drop, codes, IfOk, OnOk};
+ghost use Rattle.std.specs.Prelude.{◌≡◌, ◌<◌, ◌≤◌, ◌^◌, ◌+◌, ◌++◌, not, is_none, is_some, map, filter, length, take, drop, IfOk, OnOk};
 ghost use Rattle.std.specs.List.{list_any};
 ghost use Rattle.std.specs.FinMap.{get};
 ghost use Rattle.vlsi_base.specs.declared.name.Name.{Name};
@@ -109,22 +109,20 @@ fn index_of<'a>(alloc: Global, names: &'a [Name]) -> Result<NameIndex<'a>, Alloc
     Ok(index)
 }
 
-// Finds names for inner signals, and puts all names of equations behind those that are there.
-fn rename<'a>(
+// A text for each equation whose name the index lacks: the stem with a number, none of which is taken.
+fn inner_texts<'a>(
     alloc: Global,
-    vars: &mut Vec<Name>,
+    stem: &[u8],
     outputs: &NameIndex<'a>,
     equations: &'a [Equation],
     taken: &[Text],
 ) -> Result<Vec<Text>, AllocError>
     requires { length equations.now + length taken.now < 2 ^ 63 }
-    ensures signals { IfOk result (λ signals. signals.items ≡ free_texts (codes "n") taken.now (inner_of outputs.now equations.now)) }
-    ensures vars { OnOk result (vars.new.items ≡ vars.old.items ++ renamed (λ n. is_some (get outputs.now n)) (map (λ e. e.name) equations.now)
-        (map scalar (free_texts (codes "n") taken.now (inner_of outputs.now equations.now)))) }
+    ensures are { IfOk result (λ signals. signals.items ≡ free_texts stem.now taken.now (inner_of outputs.now equations.now)) }
+    ensures each { IfOk result (λ signals. length signals.items ≡ length (filter (λ e. is_none (get outputs.now e.name)) equations.now)) }
 {
     let many = count_inner(outputs, equations);
-    let signals = free_texts(alloc, b"n", taken, many)?;
-    push_renamed(alloc, vars, outputs, equations, &signals)?;
+    let signals = free_texts(alloc, stem, taken, many)?;
     Ok(signals)
 }
 
@@ -140,12 +138,17 @@ fn first_names(alloc: Global, names: &[Name], many: usize) -> Result<Vec<Name>, 
     Ok(made)
 }
 
-/// The names of a machine's text. Takes memory for them, and time for each the logarithm of how many there are.
-pub(crate) fn spelling_of(alloc: Global, machine: &Machine) -> Result<Spelling, AllocError>
+/// The names of a machine's text, where inner signals have the stem with a number. Takes memory for them, and time for each the
+/// logarithm of how many there are.
+pub(crate) fn spelling_of(
+    alloc: Global,
+    machine: &Machine,
+    stem: &[u8],
+) -> Result<Spelling, AllocError>
     requires { length machine.now.vars + length machine.now.ports < 2 ^ 32 }
-    ensures signals { IfOk result (λ made. made.signals.items ≡ signal_texts machine.now) }
-    ensures vars { IfOk result (λ made. made.vars.items ≡ written_vars machine.now) }
-    ensures held { IfOk result (λ made. drop made.held made.vars.items ≡ written_names machine.now) }
+    ensures signals { IfOk result (λ made. made.signals.items ≡ signal_texts stem.now machine.now) }
+    ensures vars { IfOk result (λ made. made.vars.items ≡ written_vars stem.now machine.now) }
+    ensures held { IfOk result (λ made. drop made.held made.vars.items ≡ written_names stem.now machine.now) }
     ensures within { IfOk result (λ made. made.held ≤ length made.vars.items) }
 {
     let ports = machine.ports().as_slice();
@@ -155,7 +158,8 @@ pub(crate) fn spelling_of(alloc: Global, machine: &Machine) -> Result<Spelling, 
     let texts = taken(alloc, ports, machine.registers().as_slice())?;
     let held = machine.vars().as_slice().len() - equations.len();
     let mut vars = first_names(alloc, machine.vars().as_slice(), held)?;
-    let signals = rename(alloc, &mut vars, &outputs, equations, &texts)?;
+    let signals = inner_texts(alloc, stem, &outputs, equations, &texts)?;
+    push_renamed(alloc, &mut vars, &outputs, equations, &signals)?;
     Ok(Spelling {
         signals,
         vars,

@@ -10,7 +10,7 @@ ghost use Rattle.vlsi_base.specs.Names.{scalar};
 ghost use Rattle.vlsi_base.specs.declared.name.Dir.TheVariants.{In};
 ghost use Rattle.vst_write.specs.Structure.{signal_layout, signals_layout};
 ghost use Rattle.vbe_write.specs.Pieces.{front_text, declared_text, stated_text};
-ghost use Rattle.vbe_write.specs.Written.{with_supply_ports, head_layout, equation_layout, equations_layout, condition_layout, rise_layout, block_head_layout, loading_layout, register_layout, blocks_layout, clocked_layout, storage_layout, layout};
+ghost use Rattle.vbe_write.specs.Written.{with_supply_ports, head_layout, equation_layout, equations_layout, condition_layout, rise_layout, block_head_layout, loading_layout, register_layout, blocks_layout, clocked_layout, storage_layout, layout_by, layout};
 ghost use Rattle.vbe_write.specs.Writable.{CanBeVbe};
 
 use crate::expressions::{Speller, spell_name};
@@ -289,19 +289,21 @@ fn statements(
 }
 
 /// Writes a machine as a data-flow text: its entity, with the supplies behind its ports; a signal for each inner equation, named by
-/// `n` and a number, from 0 on, without those that make the text of a port or a register; its registers; its equations in their order;
+/// the stem and a number, from 0 on, without those that make the text of a port or a register; its registers; its equations in their order;
 /// and for each register a block that asks for the clock's rise and for the register's enable. A choice is written by `when` and
 /// `else` as far as it is the whole value, and by `and`, `or` and `not` within expressions, where its condition stands twice. So the
 /// text grows with the machine where choices are whole values, each at most in the last part of another; a choice within the condition
 /// of a choice, and that within an operand, doubles what stands there.
 ///
+/// A text can be read again where the stem is a letter in lower case; another stem is written as it is.
+///
 /// Takes memory for the text and its names, and time for the text and, for each name, the logarithm of their number.
-pub fn write_vbe(alloc: Global, machine: &Machine) -> Result<FileBytes, AllocError>
+pub fn write_vbe_by(alloc: Global, machine: &Machine, stem: &[u8]) -> Result<FileBytes, AllocError>
     requires names { CanBeVbe machine.now }
     requires few { length machine.now.vars + length machine.now.ports < 2 ^ 32 }
-    ensures { IfOk result (λ bytes. bytes ≡ text_of (layout machine.now)) }
+    ensures { IfOk result (λ bytes. bytes ≡ text_of (layout_by stem.now machine.now)) }
 {
-    let names = spelling_of(alloc, machine)?;
+    let names = spelling_of(alloc, machine, stem)?;
     let speller = Speller {
         alloc,
         names: &names.vars,
@@ -316,4 +318,13 @@ pub fn write_vbe(alloc: Global, machine: &Machine) -> Result<FileBytes, AllocErr
     )?;
     statements(&mut out, &speller, &names.vars[names.held..], machine)?;
     Ok(out)
+}
+
+/// Writes a machine as `write_vbe_by` does, with the inner signals n0, n1, and so on. Takes the same memory.
+pub fn write_vbe(alloc: Global, machine: &Machine) -> Result<FileBytes, AllocError>
+    requires names { CanBeVbe machine.now }
+    requires few { length machine.now.vars + length machine.now.ports < 2 ^ 32 }
+    ensures { IfOk result (λ bytes. bytes ≡ text_of (layout machine.now)) }
+{
+    write_vbe_by(alloc, machine, b"n")
 }

@@ -2,17 +2,17 @@ use Rattle.std.proofs.Common.{sym, subst, ap, ◌+◌, ◌<◌, ◌^◌, length,
 use Rattle.std.proofs.lemmas.Result.{IfOk-weaker}
 use Rattle.machine_meaning.specs.Machine.{Machine}
 use Rattle.vbe_write.specs.Writable.{CanBeVbe}
-use Rattle.vbe_again.specs.Said.{text}
+use Rattle.gen_circuit.specs.Written.{text}
 use Rattle.flow_run.specs.Generated.{circuit_text}
 use Rattle.flow_run.proofs.gen_run.source_text.Goals as goal
 
-pub write_vbe-requires-clause-names : goal.write_vbe-requires-clause-names
-write_vbe-requires-clause-names c =
+pub write_vbe_by-requires-clause-names : goal.write_vbe_by-requires-clause-names
+write_vbe_by-requires-clause-names c =
     subst CanBeVbe (sym c.in_ok-machine.ensures)
     (c.circuits_can_be_written.ensures c.args.command.now.flow.seed c.args.command.now.size c.requires.least c.requires.most).0
 
-pub write_vbe-requires-clause-few : goal.write_vbe-requires-clause-few
-write_vbe-requires-clause-few c =
+pub write_vbe_by-requires-clause-few : goal.write_vbe_by-requires-clause-few
+write_vbe_by-requires-clause-few c =
     let h = c.circuits_are_small.ensures c.args.command.now.flow.seed c.args.command.now.size c.requires.least c.requires.most in
     let most = c.requires.most in
     let ports = h.ports in
@@ -21,5 +21,5 @@ write_vbe-requires-clause-few c =
 
 pub returns : goal.returns
 returns c =
-    IfOk-weaker c.write_vbe.result (λ bytes. bytes ≡ text c.in_ok-machine.machine) (λ bytes. bytes ≡ circuit_text c.args.command.now)
-    (λ bytes e. e ∙ ap text c.in_ok-machine.ensures) c.write_vbe.ensures
+    IfOk-weaker c.write_vbe_by.result (λ bytes. bytes ≡ text c.in_ok-machine.machine) (λ bytes. bytes ≡ circuit_text c.args.command.now)
+    (λ bytes e. e ∙ ap text c.in_ok-machine.ensures) c.write_vbe_by.ensures

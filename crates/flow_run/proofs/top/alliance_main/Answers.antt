@@ -1,6 +1,6 @@
 use Rattle.std.proofs.Common.{refl}
 use Rattle.tool_drive.specs.Outside.{outside}
-use Rattle.flow_run.proofs.Words.{line_by, headline_at, no_headline, free_at, none_free, flow_unread, answer_at, none_answered, fitting, run_at, gen_headline_at, gen_free_at, never_run, no_gen_headline, no_gen_free}
+use Rattle.flow_run.proofs.Words.{line_by, headline_at, no_headline, free_at, none_free, flow_unread, answer_at, none_answered, fitting, run_at, gen_headline_at, spared_at, gen_free_at, never_run, no_gen_headline, no_words_spared, no_gen_free}
 use Rattle.flow_run.proofs.top.alliance_main.Goals as goal
 
 pub returns-in-Ok-clause-headline : goal.returns-in-Ok-clause-headline
@@ -56,6 +56,11 @@ returns-in-Ok-clause-generated g c =
     gen_headline_at c.gen_law.ensures.headline c.args.words.now c.in-Ok.command (outside (g.S.Shelf.seen c.args.shelf.now) (g.T.Sink.seen c.args.out.now)) (outside (g.S.Shelf.seen c.run.new.shelf) (g.T.Sink.seen c.run.new.out))
     c.run.result c.in-Ok.ensures.ok c.run.ensures.run
 
+pub returns-in-Ok-clause-spared : goal.returns-in-Ok-clause-spared
+returns-in-Ok-clause-spared g c =
+    spared_at c.gen_law.ensures.spared c.args.words.now c.in-Ok.command (outside (g.S.Shelf.seen c.args.shelf.now) (g.T.Sink.seen c.args.out.now)) (outside (g.S.Shelf.seen c.run.new.shelf) (g.T.Sink.seen c.run.new.out))
+    c.run.result c.in-Ok.ensures.ok c.run.ensures.run
+
 pub returns-in-Ok-clause-generates : goal.returns-in-Ok-clause-generates
 returns-in-Ok-clause-generates g c =
     gen_free_at c.gen_law.ensures.free c.args.words.now c.in-Ok.command (outside (g.S.Shelf.seen c.args.shelf.now) (g.T.Sink.seen c.args.out.now)) (outside (g.S.Shelf.seen c.run.new.shelf) (g.T.Sink.seen c.run.new.out))
@@ -70,6 +75,10 @@ pub returns-in-Err-clause-generated : goal.returns-in-Err-clause-generated
 returns-in-Err-clause-generated g c =
     no_gen_headline c.args.words.now c.in-Err.error (outside (g.S.Shelf.seen c.args.shelf.now) (g.T.Sink.seen c.args.out.now)) (outside (g.S.Shelf.seen c.args.shelf.now) (g.T.Sink.seen c.refuse_words.new.out))
     c.refuse_words.result c.refuse_words.ensures.status
+
+pub returns-in-Err-clause-spared : goal.returns-in-Err-clause-spared
+returns-in-Err-clause-spared g c =
+    no_words_spared c.args.words.now c.in-Err.error (outside (g.S.Shelf.seen c.args.shelf.now) (g.T.Sink.seen c.args.out.now)) c.refuse_words.result c.refuse_words.ensures.status
 
 pub returns-in-Err-clause-generates : goal.returns-in-Err-clause-generates
 returns-in-Err-clause-generates g c =
