@@ -46,7 +46,7 @@ use Rattle.fsm_io.specs.Checks.{if_state, most_states, fault_behind, ports_count
 -- what stands there, wherever it lies in memory
 abbrev pub mention_of : Held → Mention
 mention_of (held.Assertion e) = asserting (view e.now)
-mention_of (held.Assignment t line e) = assigning t.now line (view e.now)
+mention_of (held.Assignment t first e) = assigning t.now first (view e.now)
 mention_of (held.Condition line e) = testing line (view e.now)
 mention_of (held.Case seen line called) = selecting seen line called.now
 mention_of (held.States states) = listing states.now
@@ -134,7 +134,7 @@ AssignmentFits f t e = bytes_eq t.name f.next.now ≡ false → CanBeAssigned f 
 abbrev mutual
   pub StatementFits : HeldFrame → StatementTree → Type 0
   StatementFits f (asserted e) = Unit {0}
-  StatementFits f (assigned t line e) = AssignmentFits f t e
+  StatementFits f (assigned t first e) = AssignmentFits f t e
   StatementFits f (chosen parts) = PartsFit f parts
   StatementFits f (selected line called branches) = BranchesFit f branches
 

@@ -7,9 +7,9 @@ ghost use Rattle.source_meaning.specs.Drivers.{target_names};
 ghost use Rattle.source_bits.specs.Formulas.{first_of};
 ghost use Rattle.fsm_meaning.specs.Statements.{assign, output};
 ghost use Rattle.fsm_code.specs.View as code;
-ghost use Rattle.fsm_text.specs.Written.{assigned, statement_view, body_view, parts_view, branches_view};
-ghost use Rattle.fsm_io.specs.Elaboration.{condition_of, assign_bits, body_bits, statement_bits, parts_bits, branches_bits, state_number, next_number};
-ghost use Rattle.fsm_io.specs.Pieces.{IsFrame, frame_view, CanBeRead, CanBeAssigned, StatementFits, BodyFits, PartsFit, BranchesFit};
+ghost use Rattle.fsm_text.specs.Written.{statement_view, body_view, parts_view, branches_view};
+ghost use Rattle.fsm_io.specs.Elaboration.{condition_of, assign_bits, assignment_bits, body_bits, statement_bits, parts_bits, branches_bits, state_number, next_number};
+ghost use Rattle.fsm_io.specs.Pieces.{IsFrame, frame_view, CanBeRead, CanBeAssigned, AssignmentFits, StatementFits, BodyFits, PartsFit, BranchesFit};
 
 use crate::known::same;
 use crate::linked::{
@@ -115,8 +115,8 @@ impl Frame<'_> {
         rest: Statements,
     ) -> Result<Statements, AllocError>
         requires frame { IsFrame self.now }
-        requires fits { StatementFits self.now (assigned target.now 0 (tree e.now)) }
-        ensures { IfOk result (λ made. code.body_view made ≡ statement_bits (frame_view self.now) (assigned target.now 0 (tree e.now)) (code.body_view rest)) }
+        requires fits { AssignmentFits self.now target.now (tree e.now) }
+        ensures { IfOk result (λ made. code.body_view made ≡ assignment_bits (frame_view self.now) target.now (tree e.now) (code.body_view rest)) }
     {
         if same(&target.name, self.next) {
             let number = self.state(e)?;
