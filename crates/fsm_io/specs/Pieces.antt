@@ -105,16 +105,21 @@ is_steady (may.Only name) = true
 abbrev pub readable_forms : Readable → Tree → List ℕ
 readable_forms r = read_forms (may_be_read r) (is_steady r)
 
+-- as many as 32 bits can number
+abbrev pub most_numbered : ℕ
+most_numbered = 4294967295
+
 -- ---- statements over port bits
 
 abbrev pub frame_view : HeldFrame → Frame
 frame_view f = record { vars = f.vars.now; known = f.numbers.now; states = symbol_texts f.states.now; next = f.next.now }
 
--- the declared names differ, the port bits are declared bits that differ, and each has its place
+-- the declared names differ, the port bits are declared bits that differ, each has its place, and the states can be numbered
 pub record IsFrame (f : HeldFrame) : Type 0 where
   pub texts : AllDifferent (map (λ (s : Symbol). s.text) f.numbers.now)
   pub declared : (n : Name) → In n f.vars.now → In n (all_names f.numbers.now)
   pub table : HasVars (all_names f.numbers.now) f.vars.now f.places.now
+  pub few : length f.states.now ≤ most_numbered
 
 -- an expression reads port bits alone
 pub record CanBeRead (f : HeldFrame) (e : Tree) : Type 0 where
@@ -179,6 +184,7 @@ pub record Suits (c : Checking) : Type 0 where
   pub once : first_repeated [] (symbols (tree_of c)) ≡ None
   pub roles : HasRoles (tree_of c) (roles_of c)
   pub some_state : 0 < length (tree_of c).states.states
+  pub few : length (tree_of c).states.states ≤ most_numbered
   pub listed : HasStates (tree_of c).step.body
 
 -- the checks in three stages

@@ -1,5 +1,5 @@
 // Targets that some state leaves without an assignment on some path of ifs.
-ghost use Rattle.std.specs.Prelude.{◌≡◌, filter, not, length, IfOk};
+ghost use Rattle.std.specs.Prelude.{◌≡◌, ◌≤◌, filter, not, length, IfOk};
 ghost use Rattle.bool_expr.specs.Support.{among};
 ghost use Rattle.source_meaning.specs.Codes.{name_at, least_code};
 ghost use Rattle.fsm_meaning.specs.Assigned.{sure, sure_parts, sure_branches, sets_output};
@@ -7,7 +7,7 @@ ghost use Rattle.fsm_code.specs.View.{assignment_view, body_view, parts_view, br
 ghost use Rattle.fsm_text.specs.Written.{machine_view};
 ghost use Rattle.fsm_io.specs.Known.{symbols};
 ghost use Rattle.fsm_io.specs.Assigned.{always, left_out_at, left_out_of};
-ghost use Rattle.fsm_io.specs.Pieces.{sets_of, named_of};
+ghost use Rattle.fsm_io.specs.Pieces.{sets_of, named_of, most_numbered};
 ghost use Rattle.fsm_io.specs.Drivers.{first_of};
 
 use crate::codes::{bit_of, codes_in, least_with, name_with};
@@ -200,14 +200,12 @@ fn first_left_out(
     Ok(None)
 }
 
-/// How many states there are. More than 32 bits can number are answered as out of memory.
-fn state_count(file: &StateFile) -> Result<u32, AllocError>
-    ensures { IfOk result (λ count. count ≡ length (machine_view file.now).states.states) }
+/// How many states there are.
+fn state_count(file: &StateFile) -> u32
+    requires { length (machine_view file.now).states.states ≤ most_numbered }
+    ensures { result ≡ length (machine_view file.now).states.states }
 {
-    match u32::try_from(file.states.states.as_slice().len()) {
-        Ok(count) => Ok(count),
-        Err(_) => Err(AllocError),
-    }
+    file.states.states.as_slice().len() as u32
 }
 
 /// The first output that some state doesn't assign on every path, with its least such bit, or else the next state. Takes time for
@@ -219,10 +217,11 @@ pub fn left_out(
     file: &StateFile,
     body: &Statements,
 ) -> Result<Option<NameFault>, AllocError>
-    requires { table.now ≡ symbols (machine_view file.now) }
+    requires known { table.now ≡ symbols (machine_view file.now) }
+    requires few { length (machine_view file.now).states.states ≤ most_numbered }
     ensures { IfOk result (λ found. found ≡ left_out_of (machine_view file.now) (named_of roles.entry) (body_view body.now)) }
 {
-    let count = state_count(file)?;
+    let count = state_count(file);
     let found = first_left_out(alloc, table.as_slice(), count, body)?;
     if let Some(fault) = found {
         return Ok(Some(fault));

@@ -73,12 +73,13 @@ impl Frame<'_> {
     }
 
     /// The state that is assigned, by its number.
-    fn state(&self, e: &ParsedExpr) -> Result<u32, AllocError>
-        ensures { IfOk result (λ number. number ≡ next_number (frame_view self.now).states (tree e.now)) }
+    fn state(&self, e: &ParsedExpr) -> u32
+        requires { IsFrame self.now }
+        ensures { result ≡ next_number (frame_view self.now).states (tree e.now) }
     {
         match plain_name(e) {
             Some(place) => state_number(self.states, place.text),
-            None => Ok(0),
+            None => 0,
         }
     }
 
@@ -119,7 +120,7 @@ impl Frame<'_> {
         ensures { IfOk result (λ made. code.body_view made ≡ assignment_bits (frame_view self.now) target.now (tree e.now) (code.body_view rest)) }
     {
         if same(&target.name, self.next) {
-            let number = self.state(e)?;
+            let number = self.state(e);
             let after = Box::new(self.alloc, rest)?;
             Ok(Statements::Assign(Assignment::Next(number), after))
         } else {
@@ -154,11 +155,12 @@ impl Frame<'_> {
 
     /// The numbers of these states.
     fn numbers_of(&self, names: &[NewName]) -> Result<Vec<u32>, AllocError>
+        requires { IsFrame self.now }
         ensures { IfOk result (λ made. made.items ≡ map (λ n. state_number (frame_view self.now).states n.text) names.now) }
     {
         let mut made = Vec::new(self.alloc);
         for name in names {
-            made.push(state_number(self.states, &name.text)?)?;
+            made.push(state_number(self.states, &name.text))?;
         }
         Ok(made)
     }
