@@ -1,5 +1,5 @@
 -- What the code holds on its way.
-use Rattle.std.specs.Prelude.{◌≡◌, ◌<◌, ◌≤◌, ◌⊎◌, ℕ, Bool, List, [], ◌∷◌, ◌++◌, map, length, slice_index_or, slice_set, true, false, bytes_eq, Option, None, Some}
+use Rattle.std.specs.Prelude.{◌≡◌, ◌<◌, ◌≤◌, ◌⊎◌, ℕ, ◌+◌, Bool, List, [], ◌∷◌, ◌++◌, map, length, slice_index_or, slice_set, true, false, bytes_eq, Option, None, Some}
 use Rattle.vlsi_base.specs.Tree.{Tree, view}
 use Rattle.vlsi_base.specs.declared.name.Name.{Name}
 use Rattle.vlsi_base.specs.declared.name.Port.{Port}
@@ -60,6 +60,16 @@ first_use (u ∷ _) = Some u
 
 abbrev pub symbol_texts : List Symbol → List (List ℕ)
 symbol_texts known = map (λ (s : Symbol). s.text) known
+
+-- ---- bits of one name
+
+-- by numbers: 0 is the name without a bit, and k + 1 its bit k
+abbrev pub bit_code : Option ℕ → ℕ
+bit_code None = 0
+bit_code (Some k) = k + 1
+
+abbrev pub bit_named : List ℕ → Option ℕ → Name
+bit_named text bit = record { text = text; bit = bit }
 
 -- ---- marks of bits
 
