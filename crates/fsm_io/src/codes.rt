@@ -55,11 +55,7 @@ fn lesser(a: Option<u32>, b: Option<u32>) -> Option<u32>
 }
 
 /// The lesser of a bit and the least so far, unless the bit passes.
-pub fn least_with(
-    passes: bool,
-    bit: Option<u32>,
-    least: Option<Option<u32>>,
-) -> Option<Option<u32>>
+pub fn least_with(passes: bool, bit: Option<u32>, least: Option<Option<u32>>) -> Option<Option<u32>>
     ensures { option_map bit_code result ≡ (if passes then option_map bit_code least else Some (least_with (bit_code bit) (option_map bit_code least))) }
 {
     if passes {

@@ -154,10 +154,7 @@ fn next_token(cursor: &Cursor) -> FirstToken
 
 /// An expression, with what is kept of its first token.
 #[tactic(auto, unfolding(crate::specs::FsmReading::headed_at))]
-pub fn headed_expression(
-    cursor: &mut Cursor,
-    room: u32,
-) -> Result<(FirstToken, ParsedExpr), Stop>
+pub fn headed_expression(cursor: &mut Cursor, room: u32) -> Result<(FirstToken, ParsedExpr), Stop>
     ensures { Gives (λ p. (p.0, view p.1)) result cursor.new (headed_at (expression_at room) cursor.old) }
 {
     let first = next_token(cursor);
