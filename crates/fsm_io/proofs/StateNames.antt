@@ -133,14 +133,14 @@ number_within (x ∷ all) t = by (bytes_eq x t) (number_within all t) where
 pub few_numbers : (known : List Symbol) (t : List ℕ) (k : ℕ) → k ≡ state_number (symbol_texts known) t → length known ≤ most_numbered → k ≤ most_numbered
 few_numbers known t k is few =
     let within = number_within (symbol_texts known) t in
-    let same = length-map (λ (s : Symbol). s.text) known in
+    let same = length-map known (λ (s : Symbol). s.text) in
     omega (arith, is, within, same, few)
 
 -- as many names as states
 pub few_table : (known : List Symbol) (names states : List NewName) → symbol_texts known ≡ texts names → names ≡ states → length states ≤ most_numbered → length known ≤ most_numbered
 few_table known names states named same few =
-    let a = length-map (λ (s : Symbol). s.text) known in
-    let b = length-map (λ (n : NewName). n.text) states in
+    let a = length-map known (λ (s : Symbol). s.text) in
+    let b = length-map states (λ (n : NewName). n.text) in
     let c : length (symbol_texts known) ≡ length (texts states) = ap length (named ∙ ap texts same) in
     omega (arith, a, b, c, few)
 
