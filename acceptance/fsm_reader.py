@@ -92,9 +92,9 @@ class MachineReader(Reader):
         _, name, line = self.take("id")
         selection = self.selection()
         self.take("<=")
-        at = self.line()
+        at, start = self.line(), self.at
         tree = self.expression_anew()
-        is_one = tree[0] == "name"
+        is_one = self.at == start + 1 and tree[0] == "name"
         self.take(";")
         return "assign", (name, line, selection), at, tree, is_one
 

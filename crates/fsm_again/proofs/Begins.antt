@@ -1,5 +1,5 @@
--- The line of an expression's first token.
-use Rattle.std.proofs.Common.{ℕ, Bool, true, false, List, [], ◌∷◌, ◌++◌, refl, ap, ◌∙◌}
+-- An expression's first token.
+use Rattle.std.proofs.Common.{◌≡◌, ℕ, Bool, true, false, List, [], ◌∷◌, ◌++◌, Ok, refl, sym, ap, ◌∙◌}
 use Rattle.vlsi_base.specs.declared.name.Name.{Name}
 use Rattle.bool_expr.specs.declared.expr.Gate.{Gate}
 use Rattle.bool_expr.specs.declared.expr.Gate.TheVariants as gate
@@ -8,6 +8,10 @@ use Rattle.vhdl_token.specs.declared.keyword.Keyword.TheVariants as word
 use Rattle.vhdl_token.specs.declared.token.PlacedToken.{PlacedToken}
 use Rattle.vhdl_token.specs.declared.token.Token.TheVariants as token
 use Rattle.vhdl_token.specs.declared.token.Sign.TheVariants as sign
+use Rattle.grammar_theory.specs.Marks.{Item, State, run}
+use Rattle.grammar_theory.specs.Grammar.{Grammar}
+use Rattle.grammar_theory.specs.Answers.{tokens_of}
+use Rattle.spell_theory.specs.Spells.{Spells}
 use Rattle.spell_theory.specs.Layout.{Written, gap, placed, line_of}
 use Rattle.spell_theory.proofs.Layouts.{placed_append}
 use Rattle.vhdl_again.specs.Outline.{a_word, a_sign}
@@ -15,6 +19,8 @@ use Rattle.vhdl_again.proofs.Entities.{at}
 use Rattle.vst_write.specs.Structure.{bit_layout}
 use Rattle.vbe_write.specs.Expressions.{Shape, atom, turned, joined, Laid, gate_word, chains, in_parentheses, unless, primary, operand, leading, laid, name_of, expression_layout}
 use Rattle.vbe_again.proofs.Values.{Begins}
+use Rattle.fsm_text.specs.Fsm.{headed}
+use Rattle.fsm_text.specs.FsmReading.{kept_here}
 
 -- what these begin with, the others in front of which they stand begin with too
 in_front : (line : ℕ) (xs ys : List Written) → Begins line (placed line xs) → Begins line (placed line (xs ++ ys))
@@ -50,3 +56,10 @@ begins names (variable k) line =
 begins names (not_of e) line = record { first = at (token.Keyword word.Not) line; others = placed line (primary (laid names e)); are = refl; on = refl }
 begins names (pair g a b) line = of_pair names g a b line (begins names a line)
 begins names (choice c a b) line = of_pair names gate.Or (pair gate.And c a) (pair gate.And (not_of c) b) line (of_pair names gate.And c a line (begins names c line))
+
+-- with what is kept of the first token, of which there is one
+pub spell_headed : {A : Type 0} {L : Grammar A} {x : A} {line : ℕ} {ts : List PlacedToken} {s s' : State} → Begins line ts → Spells L x ts s s' → Spells (headed L) (kept_here ts, x) ts s s'
+spell_headed {A} {L} {x} {line} {ts} {s} {s'} b r = by r.items r.are r.sentence r.clean where
+  by : (items : List Item) → tokens_of items ≡ ts → L items x → run items s ≡ Ok s' → Spells (headed L) (kept_here ts, x) ts s s'
+  by [] are sentence clean = let none : [] ≡ b.first ∷ b.others = are ∙ b.are in absurd cc
+  by (i ∷ is) are sentence clean = record { items = i ∷ is; are = are; sentence = (sentence, sym (ap kept_here are)); clean = clean }

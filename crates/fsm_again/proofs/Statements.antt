@@ -37,13 +37,15 @@ use Rattle.vbe_again.specs.Nesting.{bit_within, IsWithin}
 use Rattle.vbe_again.specs.Said.{operators}
 use Rattle.vbe_again.proofs.Spelling.{on_line, flat, spell_expression}
 use Rattle.vbe_again.proofs.Values.{spell_begun}
+use Rattle.fsm_text.specs.declared.file.FirstToken.{FirstToken}
 use Rattle.fsm_text.specs.Written.{StatementTree, assigned, chosen, selected as selects, BodyTree, next, PartsTree, further as further_tree, BranchesTree, listed as listed_tree, PartTree, BranchTree, body_of, parts_of, branches_of}
 use Rattle.fsm_text.specs.Fsm.{used_name, assignment, part, further_part, last_part, behind_if, conditional, next_state, listed_states, listed_branch, led_branch, others_branch, last_branch, branches, behind_case, case_statement, statement, body_over, nested, body}
+use Rattle.fsm_text.specs.FsmReading.{kept_here}
 use Rattle.fsm_write.specs.declared.words.Words.{Words}
 use Rattle.fsm_write.specs.Layout.{behind, separated, bar, state_text, ending, end_of_line, assignment_layout, states_layout, then_layout, arrow_layout, if_layout, case_layout, part_layout, branch_layout, body_layout, parts_layout, branches_layout}
 use Rattle.fsm_again.specs.Placed.{named_at, placed_assignment, behind_body, placed_body, placed_parts, placed_branches}
 use Rattle.fsm_again.specs.Nesting.{HasRoom, IsAssignmentWithin, IsBodyWithin, ArePartsWithin, AreBranchesWithin}
-use Rattle.fsm_again.proofs.Begins.{begins}
+use Rattle.fsm_again.proofs.Begins.{begins, spell_headed}
 
 -- ---- names
 
@@ -73,19 +75,19 @@ spell_target room n line s few within =
 
 -- an assignment of a value, to the end of its line
 spell_assigned : (room line : ℕ) (n : Name) (names : List Name) (e : Expression) (s : State) → Few s → bit_within n.bit room → IsWithin names e room → operators e ≤ CHAIN
-    → Spells (assignment room) (assigned (placed_target line n) line (tree names line e)) (placed line (name_layout n ++ (gap ∷ a_sign sign.Assign ∷ gap ∷ expression_layout names e ++ end_of_line))) (started s) (started s)
+    → Spells (assignment room) (assigned (placed_target line n) (kept_here (placed line (expression_layout names e))) (tree names line e)) (placed line (name_layout n ++ (gap ∷ a_sign sign.Assign ∷ gap ∷ expression_layout names e ++ end_of_line))) (started s) (started s)
 unfolding assignment code_of
 spell_assigned room line n names e s few target_fits fits free =
     let t = started s in
-    let y = assigned (placed_target line n) line (tree names line e) in
-    let value : ℕ × Tree = (line, tree names line e) in
-    let back : List Written = gap ∷ a_sign sign.Assign ∷ gap ∷ expression_layout names e ++ end_of_line in
     let E = placed line (expression_layout names e) in
+    let y = assigned (placed_target line n) (kept_here E) (tree names line e) in
+    let value : FirstToken × Tree = (kept_here E, tree names line e) in
+    let back : List Written = gap ∷ a_sign sign.Assign ∷ gap ∷ expression_layout names e ++ end_of_line in
     let a : PlacedToken = at (token.Sign sign.Assign) line in
     spell_as (ap (λ (z : List PlacedToken). placed line (name_layout n) ++ (a ∷ z)) (sym (on_line line (expression_layout names e) end_of_line (flat names line e))) ∙ sym (on_line line (name_layout n) back (flat_name line n.bit)))
     (spell_then (placed_target line n) y (spell_target room n line t few target_fits)
     (spell_sign sign.Assign line y few
-    (spell_then value y (spell_begun line (begins names e line) (spell_expression names e room line t few fits (omega (arith, free))))
+    (spell_then value y (spell_headed (begins names e line) (spell_expression names e room line t few fits (omega (arith, free))))
     (spell_lead (form.Sign sign.Semicolon) (λ _. starts) (at (token.Sign sign.Semicolon) line) y refl (starts_step (with_links (operators e) t) few) (spell_nothing y t))))) where
       flat_name : (line : ℕ) (b : Option ℕ) → line_of line (bit_layout b) ≡ line
       flat_name line None = refl
@@ -93,6 +95,7 @@ spell_assigned room line n names e s few target_fits fits free =
 
 spell_assignment : (w : Words) (a : st.Assignment) (room line : ℕ) (s : State) → Few s → IsAssignmentWithin w room a
     → Spells (assignment room) (placed_assignment w line a) (placed line (assignment_layout w a)) (started s) (started s)
+unfolding code_of
 spell_assignment w (st.output n e) room line s few within = spell_assigned room line n w.vars e s few within.0 within.1.0 within.1.1
 spell_assignment w (st.next k) room line s few within = spell_assigned room line (scalar w.next) (scalar (state_text w k) ∷ []) (variable 0) s few tt tt (omega arith)
 

@@ -7,11 +7,15 @@ use Rattle.vlsi_base.specs.Tree.{Tree, bit, name, stable, inverse, binary}
 use Rattle.source_meaning.specs.declared.statement.Selection.TheVariants as selection
 use Rattle.fsm_meaning.specs.Statements as s
 use Rattle.fsm_meaning.specs.Fsm.{Fsm}
-use Rattle.spell_theory.specs.Layout.{line_behind, line_of}
+use Rattle.bool_expr.specs.Expression.{Expression}
+use Rattle.spell_theory.specs.Layout.{line_behind, placed, line_of}
 use Rattle.vhdl_again.specs.Outline.{placed_entity, entity_layout}
 use Rattle.vst_write.specs.Groups.{outline}
+use Rattle.vbe_write.specs.Expressions.{expression_layout}
 use Rattle.vbe_again.specs.Placed.{tree, placed_target}
+use Rattle.fsm_text.specs.declared.file.FirstToken.{FirstToken}
 use Rattle.fsm_text.specs.Written.{StatementTree, assigned, chosen, selected, BodyTree, finish, next, PartsTree, only, either, further, BranchesTree, closed, others, listed, MachineTree}
+use Rattle.fsm_text.specs.FsmReading.{kept_here}
 use Rattle.fsm_write.specs.declared.words.Words.{Words}
 use Rattle.fsm_write.specs.Layout.{state_text, if_layout, case_layout, body_layout}
 use Rattle.fsm_write.specs.Written.{head_layout}
@@ -21,10 +25,18 @@ use Rattle.fsm_write.specs.Written.{head_layout}
 abbrev pub named_at : ℕ → List ℕ → NewName
 named_at line text = record { text = text; line = line }
 
+-- what is kept of the first token of an expression that is laid out
+abbrev pub kept_at : Words → ℕ → Expression → FirstToken
+kept_at w line e = kept_here (placed line (expression_layout w.vars e))
+
+-- of a name alone
+abbrev pub bare_at : ℕ → FirstToken
+bare_at line = record { line = line; is_name = true }
+
 abbrev pub placed_assignment : Words → ℕ → s.Assignment → StatementTree
-placed_assignment w line (s.output n e) = assigned (placed_target line n) line (tree w.vars line e)
+placed_assignment w line (s.output n e) = assigned (placed_target line n) (kept_at w line e) (tree w.vars line e)
 placed_assignment w line (s.next k) =
-    assigned (record { name = w.next; line = line; selection = selection.Whole }) line (name (state_text w k) line)
+    assigned (record { name = w.next; line = line; selection = selection.Whole }) (bare_at line) (name (state_text w k) line)
 
 -- the line on which statements end that begin on this line
 abbrev pub behind_body : Words → ℕ → s.Statements → ℕ

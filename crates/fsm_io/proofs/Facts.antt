@@ -21,6 +21,7 @@ use Rattle.vlsi_model.proofs.Bits.{different_texts, in_found, found_in, bit_all}
 use Rattle.vlsi_model.proofs.Expressions.{AreKnown, known_right, empty_left, empty_right, no_line, IsScalarClock}
 use Rattle.vlsi_model.proofs.FineAssignments.{and_right}
 use Rattle.vlsi_model.proofs.PortBits.{is_port_bit}
+use Rattle.fsm_text.specs.declared.file.FirstToken.{FirstToken}
 use Rattle.fsm_text.specs.Written.{MachineTree}
 use Rattle.fsm_io.specs.Known.{Named, symbols, is_clock_port, is_state_signal}
 use Rattle.fsm_io.specs.Looks.{assigning, testing, value_uses}
@@ -74,10 +75,10 @@ output_role role.Register e = absurd cc
 pub condition_reads : (m : MachineTree) (n : Named) → Facts m n → (line : ℕ) (e : Tree) → IsFine (symbols m) n (testing line e) → ReadsPorts m n e
 condition_reads m n f line e x = reads_ports (symbols m) n.clock e f.scalar x.uses (empty_right _ (width_faults (symbols m) e) x.widths) x.clock x.forms
 
-pub fine_assignment : (m : MachineTree) (n : Named) → Facts m n → (t : Target) (line : ℕ) (e : Tree) → bytes_eq t.name n.next ≡ false → IsFine (symbols m) n (assigning t line e) → IsFineAssignment m n t e
-fine_assignment m n f t line e other x =
+pub fine_assignment : (m : MachineTree) (n : Named) → Facts m n → (t : Target) (first : FirstToken) (e : Tree) → bytes_eq t.name n.next ≡ false → IsFine (symbols m) n (assigning t first e) → IsFineAssignment m n t e
+fine_assignment m n f t first e other x =
     let known = symbols m in
-    let uses : AreKnown known (value_uses false e) = subst (λ b. AreKnown known (value_uses b e)) other (known_right known (record { text = t.name; line = t.line } ∷ []) (value_uses (bytes_eq t.name n.next) e) x.uses) in
+    let uses : AreKnown known (value_uses false first e) = subst (λ b. AreKnown known (value_uses b first e)) other (known_right known (record { text = t.name; line = t.line } ∷ []) (value_uses (bytes_eq t.name n.next) first e) x.uses) in
     let target = x.uses (record { text = t.name; line = t.line }) here in
     let s = target.0 in
     let found : find known t.name ≡ Some s = target.1 in
@@ -87,7 +88,7 @@ fine_assignment m n f t line e other x =
     let wide = no_line (not (differ (width known e) (target_width known t))) t.line (empty_left _ (target_faults known t ++ width_faults known e) widths) in
     let fine = fine_target known t s found (empty_left (target_faults known t) _ behind) in
     let inside = empty_right (target_faults known t) (width_faults known e) behind in
-    let forms : (if_not (may_assign (find known t.name)) t.line ++ expression_forms known e) ≡ [] = subst (λ b. cond b (next_forms line e) (if_not (may_assign (find known t.name)) t.line ++ expression_forms known e) ≡ []) other x.forms in
+    let forms : (if_not (may_assign (find known t.name)) t.line ++ expression_forms known e) ≡ [] = subst (λ b. cond b (next_forms first e) (if_not (may_assign (find known t.name)) t.line ++ expression_forms known e) ≡ []) other x.forms in
     let may = no_line (may_assign (find known t.name)) t.line (empty_left _ (expression_forms known e) forms) in
     let out : s.role ≡ role.Output = output_role s.role (ap may_assign (sym found) ∙ may) in
     let clock : clock_lines (Some n.clock) e ≡ [] = subst (λ b. cond b [] (clock_lines (Some n.clock) e) ≡ []) other x.clock in

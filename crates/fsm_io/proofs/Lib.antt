@@ -9,6 +9,7 @@ pub mod Facts
 pub mod Fits
 pub mod BodyReads
 pub mod Surely
+pub mod Few
 pub mod StateNames
 pub mod Sounds
 pub mod Listed

@@ -22,9 +22,10 @@ use Rattle.fsm_machine.specs.MachineOf.{up}
 use Rattle.fsm_machine.specs.Sound.{AreLeft, IsSound, ArePartsSound, AreBranchesSound}
 use Rattle.fsm_machine.proofs.Holding.{among_without}
 use Rattle.fsm_machine.proofs.States.{up_among}
+use Rattle.fsm_text.specs.declared.file.FirstToken.{FirstToken}
 use Rattle.fsm_text.specs.Written.{StatementTree, asserted, assigned, chosen, selected, BodyTree, finish, next, PartsTree, only, either, further, BranchesTree, closed, others, listed, MachineTree}
 use Rattle.fsm_io.specs.Known.{Named, symbols, texts}
-use Rattle.fsm_io.specs.Looks.{Mention, assigning, testing, selecting, listing, body_has_case, holds_case, parts_have_case, in_body, in_statement, in_parts, in_branches, plain_use}
+use Rattle.fsm_io.specs.Looks.{Mention, assigning, testing, selecting, listing, body_has_case, holds_case, parts_have_case, in_body, in_statement, in_parts, in_branches, plain_use, is_plain}
 use Rattle.fsm_io.specs.Elaboration.{frame_of, state_number, number_of, next_number, assign_bits, body_bits, statement_bits, parts_bits, branches_bits}
 use Rattle.fsm_io.specs.States.{is_one_of, bad_names, bad_use, bad_value, bad_at, listed_after, bad_states}
 use Rattle.fsm_io.specs.Unsupported.{forms_at, next_forms, may_assign, expression_forms}
@@ -159,21 +160,25 @@ outputs_sound states vars [] xs rest h = h
 outputs_sound states vars (k ∷ ks) [] rest h = h
 outputs_sound states vars (k ∷ ks) (x ∷ xs) rest h = (tt, outputs_sound states vars ks xs rest h)
 
-known_next : (all : List (List ℕ)) (line : ℕ) (e : Tree) → next_forms line e ≡ [] → bad_value all e ≡ [] → among (next_number all e) (up 0 (length all)) ≡ true
-known_next all line e f b = by (plain_use e) f b where
+one_alone : (b c : Bool) (line : ℕ) → if_not (b && c) line ≡ [] → if_not c line ≡ []
+one_alone true c line f = f
+one_alone false c line f = absurd cc
+
+known_next : (all : List (List ℕ)) (first : FirstToken) (e : Tree) → next_forms first e ≡ [] → bad_value all e ≡ [] → among (next_number all e) (up 0 (length all)) ≡ true
+known_next all first e f b = by (plain_use e) (one_alone first.is_name (is_plain e) first.line f) b where
   at : (u : Use) (c : Bool) → is_one_of all u.text ≡ c → cond c [] (u ∷ []) ≡ [] → among (state_number all u.text) (up 0 (length all)) ≡ true
   at u true is e = let r = number_is all u.text is in let small = r.0 in up_among (state_number all u.text) 0 (length all) (omega arith) (omega (arith, small))
   at u false is e = absurd cc
 
-  by : (o : Option Use) → if_not (is_some o) line ≡ [] → bad_use all o ≡ [] → among (number_of all o) (up 0 (length all)) ≡ true
+  by : (o : Option Use) → if_not (is_some o) first.line ≡ [] → bad_use all o ≡ [] → among (number_of all o) (up 0 (length all)) ≡ true
   by None f b = absurd cc
   by (Some u) f b = at u (is_one_of all u.text) refl b
 
-assignment_sound : (m : MachineTree) (n : Named) (vars : List Name) (t : Target) (line : ℕ) (e : Tree) (rest : s.Statements) → IsSound (up 0 (length (texts m.states.states))) rest
-    → (c : Bool) → cond c (next_forms line e) (if_not (may_assign (find (symbols m) t.name)) t.line ++ expression_forms (symbols m) e) ≡ [] → cond c (bad_value (texts m.states.states) e) [] ≡ []
+assignment_sound : (m : MachineTree) (n : Named) (vars : List Name) (t : Target) (first : FirstToken) (e : Tree) (rest : s.Statements) → IsSound (up 0 (length (texts m.states.states))) rest
+    → (c : Bool) → cond c (next_forms first e) (if_not (may_assign (find (symbols m) t.name)) t.line ++ expression_forms (symbols m) e) ≡ [] → cond c (bad_value (texts m.states.states) e) [] ≡ []
     → IsSound (up 0 (length (texts m.states.states))) (cond c (s.assign (s.next (next_number (texts m.states.states) e)) rest) (assign_bits vars (target_names (symbols m) t) (formulas (symbols m) e) rest))
-assignment_sound m n vars t line e rest h true f b = (known_next (texts m.states.states) line e f b, h)
-assignment_sound m n vars t line e rest h false f b = outputs_sound (up 0 (length (texts m.states.states))) vars (target_names (symbols m) t) (formulas (symbols m) e) rest h
+assignment_sound m n vars t first e rest h true f b = (known_next (texts m.states.states) first e f b, h)
+assignment_sound m n vars t first e rest h false f b = outputs_sound (up 0 (length (texts m.states.states))) vars (target_names (symbols m) t) (formulas (symbols m) e) rest h
 
 -- nothing in these places is no state, where these were listed before
 abbrev pub Good : MachineTree → Named → List (List ℕ) → List Mention → Type 0

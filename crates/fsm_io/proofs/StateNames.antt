@@ -1,5 +1,5 @@
 -- Names of states and their numbers.
-use Rattle.std.proofs.Common.{◌≡◌, ℕ, suc, ◌+◌, ◌<◌, ◌⊎◌, Bool, true, false, cond, List, [], ◌∷◌, ◌++◌, map, length, get_or, drop, Option, Some, None, refl, sym, ap, subst, ◌∙◌, bytes_eq, arith, inl, inr}
+use Rattle.std.proofs.Common.{◌≡◌, ℕ, suc, ◌+◌, ◌<◌, ◌≤◌, ◌⊎◌, Bool, true, false, cond, List, [], ◌∷◌, ◌++◌, map, length, get_or, drop, Option, Some, None, refl, sym, ap, subst, ◌∙◌, bytes_eq, arith, inl, inr}
 use Rattle.std.specs.Prelude.{◌||◌, ◌&&◌, not, ◌==◌, option_map}
 use Rattle.std.proofs.lemmas.Bool.{eqb-true}
 use Rattle.vlsi_base.specs.declared.entity.NewName.{NewName}
@@ -10,13 +10,13 @@ use Rattle.fsm_io.specs.Known.{texts, inner_symbols}
 use Rattle.fsm_io.specs.Looks.{use_of}
 use Rattle.fsm_io.specs.Elaboration.{state_number}
 use Rattle.fsm_io.specs.States.{is_one_of, bad_names, bad_at, bad_states, listed_after}
-use Rattle.fsm_io.specs.Pieces.{symbol_texts, first_use, mention_of}
+use Rattle.fsm_io.specs.Pieces.{symbol_texts, first_use, mention_of, most_numbered}
 use Rattle.fsm_io.specs.declared.mentions.Mention.{Mention as Held}
 use Rattle.source_meaning.specs.declared.symbol_table.Symbol.{Symbol}
 use Rattle.source_meaning.specs.Known.{position_of}
 use Rattle.source_meaning.proofs.Knowing.{not_behind}
 use Rattle.source_meaning.proofs.Turns.{or_first}
-use Rattle.std.proofs.lemmas.List.{at_drop_more}
+use Rattle.std.proofs.lemmas.List.{at_drop_more, length-map}
 use Rattle.std.specs.Option.{is_some}
 
 either_true : (a b : Bool) → (a || b) ≡ true → (a ≡ true) ⊎ (b ≡ true)
@@ -119,6 +119,30 @@ place_listed (x ∷ known) t = by (bytes_eq x.text t) (position_of known t) (pla
   by true o e = refl
   by false None e = e
   by false (Some j) e = e
+
+-- ---- numbers of states
+
+number_within : (all : List (List ℕ)) (t : List ℕ) → state_number all t ≤ length all
+number_within [] t = omega arith
+number_within (x ∷ all) t = by (bytes_eq x t) (number_within all t) where
+  by : (b : Bool) → state_number all t ≤ length all → cond b 0 (state_number all t + 1) ≤ suc (length all)
+  by true h = omega arith
+  by false h = omega (arith, h)
+
+-- a number of at most 32 bits, where there are few states
+pub few_numbers : (known : List Symbol) (t : List ℕ) (k : ℕ) → k ≡ state_number (symbol_texts known) t → length known ≤ most_numbered → k ≤ most_numbered
+few_numbers known t k is few =
+    let within = number_within (symbol_texts known) t in
+    let same = length-map known (λ (s : Symbol). s.text) in
+    omega (arith, is, within, same, few)
+
+-- as many names as states
+pub few_table : (known : List Symbol) (names states : List NewName) → symbol_texts known ≡ texts names → names ≡ states → length states ≤ most_numbered → length known ≤ most_numbered
+few_table known names states named same few =
+    let a = length-map known (λ (s : Symbol). s.text) in
+    let b = length-map states (λ (n : NewName). n.text) in
+    let c : length (symbol_texts known) ≡ length (texts states) = ap length (named ∙ ap texts same) in
+    omega (arith, a, b, c, few)
 
 -- ---- loops over names
 

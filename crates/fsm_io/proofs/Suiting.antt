@@ -1,5 +1,5 @@
 -- What a text on its way through the checks gives.
-use Rattle.std.proofs.Common.{◌≡◌, ℕ, Bool, false, List, None, map, length, bytes_eq, sym, ap, subst, ◌∙◌}
+use Rattle.std.proofs.Common.{◌≡◌, ◌≤◌, ℕ, Bool, false, List, None, map, length, bytes_eq, sym, ap, subst, ◌∙◌}
 use Rattle.std.specs.List.{flat_map, All}
 use Rattle.vlsi_base.specs.declared.name.Name.{Name}
 use Rattle.vlsi_base.specs.declared.name.Port.{Port}
@@ -33,7 +33,7 @@ use Rattle.vlsi_model.proofs.Sorting.{different_names}
 use Rattle.vlsi_model.proofs.Assembly.{In-permutation, All-from_In}
 use Rattle.fsm_io.specs.declared.bits.Frame.{Frame as HeldFrame}
 use Rattle.fsm_io.specs.Looks.{asserting, assigning, testing, selecting, listing}
-use Rattle.fsm_io.specs.Pieces.{roles_of, early_fault, IsFrame, CanBeRead, BodyFits}
+use Rattle.fsm_io.specs.Pieces.{roles_of, early_fault, most_numbered, IsFrame, CanBeRead, BodyFits}
 use Rattle.fsm_io.proofs.Fine.{early_fine, each_fine}
 use Rattle.fsm_io.proofs.Facts.{Facts, facts, ReadsPorts, condition_reads, fine_assignment}
 use Rattle.fsm_io.proofs.Fits.{Fits, fits_body}
@@ -75,11 +75,12 @@ vars_differ k s ports vars p is =
     (different_names (names_of (port_bits known)) (names_of ports) (IsPermutation-map (λ (q : Port). q.name) (port_bits known) ports p) (ports_differ known (different_texts known s.once)))
 
 pub frame_ok : (k : Checking) (f : HeldFrame) (ports : List Port) → Suits k → f.numbers.now ≡ k.numbers.now → f.vars.now ≡ names_of ports → HasVars (all_names k.numbers.now) f.vars.now f.places.now
-    → IsPermutation (port_bits (symbols (tree_of k))) ports → IsFrame f
-frame_ok k f ports s same vars table p = record {
+    → IsPermutation (port_bits (symbols (tree_of k))) ports → length f.states.now ≤ most_numbered → IsFrame f
+frame_ok k f ports s same vars table p few = record {
   texts = subst (λ (ks : List Symbol). AllDifferent (map (λ (x : Symbol). x.text) ks)) (sym same) (suits_different k s);
   declared = λ n i. subst (λ (ks : List Symbol). In n (all_names ks)) (sym same) (port_declared k s ports p n (subst (λ (ns : List Name). In n ns) vars i));
   table = subst (λ (ks : List Symbol). HasVars (all_names ks) f.vars.now f.places.now) (sym same) table;
+  few = few;
 }
 
 read_in : (k : Checking) (f : HeldFrame) (ports : List Port) → f.numbers.now ≡ symbols (tree_of k) → f.vars.now ≡ names_of ports → IsPermutation (port_bits (symbols (tree_of k))) ports

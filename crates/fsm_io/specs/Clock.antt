@@ -19,7 +19,7 @@ is_edge known clock e = is_same_clock (clock_of known e) (Some clock) && is_empt
 -- each read of the clock and each `stable`; what is assigned to the next state reads nothing
 abbrev pub clock_reads_at : Named → Mention → List ℕ
 clock_reads_at n (asserting e) = clock_lines (Some n.clock) e
-clock_reads_at n (assigning t line e) = if bytes_eq t.name n.next then [] else clock_lines (Some n.clock) e
+clock_reads_at n (assigning t first e) = if bytes_eq t.name n.next then [] else clock_lines (Some n.clock) e
 clock_reads_at n (testing line e) = clock_lines (Some n.clock) e
 clock_reads_at n (selecting seen line called) = []
 clock_reads_at n (listing states) = []

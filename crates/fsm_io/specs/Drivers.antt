@@ -21,7 +21,7 @@ is_output role.Register = false
 -- the bits that assignments name, from the left
 abbrev pub names_at : List Symbol → Mention → List Name
 names_at known (asserting e) = []
-names_at known (assigning t line e) = target_names known t
+names_at known (assigning t first e) = target_names known t
 names_at known (testing line e) = []
 names_at known (selecting seen line called) = []
 names_at known (listing states) = []

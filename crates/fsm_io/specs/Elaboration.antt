@@ -8,6 +8,7 @@ use Rattle.machine_meaning.specs.Machine.{names_of}
 use Rattle.machine_core.specs.Checked.{AreInOrder}
 use Rattle.source_meaning.specs.declared.symbol_table.Symbol.{Symbol}
 use Rattle.source_meaning.specs.Symbols.{scalar}
+use Rattle.source_meaning.specs.declared.statement.Target.{Target}
 use Rattle.source_meaning.specs.Formula.{Formula, formulas, first_bit, numbered}
 use Rattle.source_meaning.specs.Drivers.{target_names}
 use Rattle.source_meaning.specs.Elaboration.{port_bits}
@@ -47,6 +48,12 @@ pub record Frame : Type 0 where
 abbrev pub condition_of : Frame → Tree → Expression
 condition_of f c = numbered f.vars (first_bit (formulas f.known c))
 
+-- an assignment before the others
+abbrev pub assignment_bits : Frame → Target → Tree → s.Statements → s.Statements
+assignment_bits f t e rest =
+    if bytes_eq t.name f.next then s.assign (s.next (next_number f.states e)) rest
+    else assign_bits f.vars (target_names f.known t) (formulas f.known e) rest
+
 abbrev mutual
   pub body_bits : Frame → BodyTree → s.Statements
   body_bits f finish = s.finish
@@ -55,9 +62,7 @@ abbrev mutual
   -- before the others
   pub statement_bits : Frame → StatementTree → s.Statements → s.Statements
   statement_bits f (asserted e) rest = rest
-  statement_bits f (assigned t line e) rest =
-      if bytes_eq t.name f.next then s.assign (s.next (next_number f.states e)) rest
-      else assign_bits f.vars (target_names f.known t) (formulas f.known e) rest
+  statement_bits f (assigned t first e) rest = assignment_bits f t e rest
   statement_bits f (chosen parts) rest = s.choose (parts_bits f parts) rest
   statement_bits f (selected line called branches) rest = s.select (branches_bits f branches) rest
 

@@ -6,14 +6,15 @@ use Rattle.vlsi_base.specs.Tree.{Tree, name}
 use Rattle.vlsi_base.specs.declared.entity.NewName.{NewName}
 use Rattle.source_meaning.specs.declared.statement.Target.{Target}
 use Rattle.source_meaning.specs.Places.{Use, reads}
+use Rattle.fsm_text.specs.declared.file.FirstToken.{FirstToken}
 use Rattle.fsm_text.specs.Written.{StatementTree, asserted, assigned, chosen, selected, BodyTree, finish, next, PartsTree, only, either, further, BranchesTree, closed, others, listed, ClockTree, MachineTree}
 use Rattle.fsm_io.specs.Known.{Named}
 
--- an assertion; an assignment with the line of what is assigned; a condition with its line; a case with its line and its name, of which
+-- an assertion; an assignment with the first token of what is assigned; a condition with its line; a case with its line and its name, of which
 -- is said whether another stands before it; the states of a branch
 pub data Mention : Type 0 where
   asserting : Tree → Mention
-  assigning : Target → ℕ → Tree → Mention
+  assigning : Target → FirstToken → Tree → Mention
   testing : ℕ → Tree → Mention
   selecting : Bool → ℕ → NewName → Mention
   listing : List NewName → Mention
@@ -26,7 +27,7 @@ abbrev mutual
 
   pub holds_case : StatementTree → Bool
   holds_case (asserted e) = false
-  holds_case (assigned t line e) = false
+  holds_case (assigned t first e) = false
   holds_case (chosen parts) = parts_have_case parts
   holds_case (selected line called branches) = true
 
@@ -43,7 +44,7 @@ abbrev mutual
 
   pub in_statement : Bool → StatementTree → List Mention
   in_statement seen (asserted e) = asserting e ∷ []
-  in_statement seen (assigned t line e) = assigning t line e ∷ []
+  in_statement seen (assigned t first e) = assigning t first e ∷ []
   in_statement seen (chosen parts) = in_parts seen parts
   in_statement seen (selected line called branches) = selecting seen line called ∷ in_branches branches
 
@@ -78,13 +79,17 @@ plain_use _ = None
 abbrev pub is_plain : Tree → Bool
 is_plain e = is_some (plain_use e)
 
--- A name that is assigned to the next state stands for a state, and is looked at with the states.
-abbrev pub value_uses : Bool → Tree → List Use
-value_uses to_next e = if to_next && is_plain e then [] else reads e
+-- a name alone, in no parentheses
+abbrev pub is_bare : FirstToken → Tree → Bool
+is_bare first e = first.is_name && is_plain e
+
+-- A bare name that is assigned to the next state stands for a state, and is looked at with the states.
+abbrev pub value_uses : Bool → FirstToken → Tree → List Use
+value_uses to_next first e = if to_next && is_bare first e then [] else reads e
 
 abbrev pub uses_at : Named → Mention → List Use
 uses_at n (asserting e) = reads e
-uses_at n (assigning t line e) = record { text = t.name; line = t.line } ∷ value_uses (bytes_eq t.name n.next) e
+uses_at n (assigning t first e) = record { text = t.name; line = t.line } ∷ value_uses (bytes_eq t.name n.next) first e
 uses_at n (testing line e) = reads e
 uses_at n (selecting seen line called) = use_of called ∷ []
 uses_at n (listing states) = []

@@ -1,5 +1,5 @@
 -- What the code holds on its way.
-use Rattle.std.specs.Prelude.{◌≡◌, ◌<◌, ◌≤◌, ◌⊎◌, ℕ, Bool, List, [], ◌∷◌, ◌++◌, map, length, slice_index_or, slice_set, true, false, bytes_eq, Option, None, Some}
+use Rattle.std.specs.Prelude.{◌≡◌, ◌<◌, ◌≤◌, ◌⊎◌, ℕ, ◌+◌, Bool, List, [], ◌∷◌, ◌++◌, map, length, slice_index_or, slice_set, true, false, bytes_eq, Option, None, Some}
 use Rattle.vlsi_base.specs.Tree.{Tree, view}
 use Rattle.vlsi_base.specs.declared.name.Name.{Name}
 use Rattle.vlsi_base.specs.declared.name.Port.{Port}
@@ -46,7 +46,7 @@ use Rattle.fsm_io.specs.Checks.{if_state, most_states, fault_behind, ports_count
 -- what stands there, wherever it lies in memory
 abbrev pub mention_of : Held → Mention
 mention_of (held.Assertion e) = asserting (view e.now)
-mention_of (held.Assignment t line e) = assigning t.now line (view e.now)
+mention_of (held.Assignment t first e) = assigning t.now first (view e.now)
 mention_of (held.Condition line e) = testing line (view e.now)
 mention_of (held.Case seen line called) = selecting seen line called.now
 mention_of (held.States states) = listing states.now
@@ -60,6 +60,16 @@ first_use (u ∷ _) = Some u
 
 abbrev pub symbol_texts : List Symbol → List (List ℕ)
 symbol_texts known = map (λ (s : Symbol). s.text) known
+
+-- ---- bits of one name
+
+-- by numbers: 0 is the name without a bit, and k + 1 its bit k
+abbrev pub bit_code : Option ℕ → ℕ
+bit_code None = 0
+bit_code (Some k) = k + 1
+
+abbrev pub bit_named : List ℕ → Option ℕ → Name
+bit_named text bit = record { text = text; bit = bit }
 
 -- ---- marks of bits
 
@@ -105,16 +115,21 @@ is_steady (may.Only name) = true
 abbrev pub readable_forms : Readable → Tree → List ℕ
 readable_forms r = read_forms (may_be_read r) (is_steady r)
 
+-- as many as 32 bits can number
+abbrev pub most_numbered : ℕ
+most_numbered = 4294967295
+
 -- ---- statements over port bits
 
 abbrev pub frame_view : HeldFrame → Frame
 frame_view f = record { vars = f.vars.now; known = f.numbers.now; states = symbol_texts f.states.now; next = f.next.now }
 
--- the declared names differ, the port bits are declared bits that differ, and each has its place
+-- the declared names differ, the port bits are declared bits that differ, each has its place, and the states can be numbered
 pub record IsFrame (f : HeldFrame) : Type 0 where
   pub texts : AllDifferent (map (λ (s : Symbol). s.text) f.numbers.now)
   pub declared : (n : Name) → In n f.vars.now → In n (all_names f.numbers.now)
   pub table : HasVars (all_names f.numbers.now) f.vars.now f.places.now
+  pub few : length f.states.now ≤ most_numbered
 
 -- an expression reads port bits alone
 pub record CanBeRead (f : HeldFrame) (e : Tree) : Type 0 where
@@ -134,7 +149,7 @@ AssignmentFits f t e = bytes_eq t.name f.next.now ≡ false → CanBeAssigned f 
 abbrev mutual
   pub StatementFits : HeldFrame → StatementTree → Type 0
   StatementFits f (asserted e) = Unit {0}
-  StatementFits f (assigned t line e) = AssignmentFits f t e
+  StatementFits f (assigned t first e) = AssignmentFits f t e
   StatementFits f (chosen parts) = PartsFit f parts
   StatementFits f (selected line called branches) = BranchesFit f branches
 
@@ -179,6 +194,7 @@ pub record Suits (c : Checking) : Type 0 where
   pub once : first_repeated [] (symbols (tree_of c)) ≡ None
   pub roles : HasRoles (tree_of c) (roles_of c)
   pub some_state : 0 < length (tree_of c).states.states
+  pub few : length (tree_of c).states.states ≤ most_numbered
   pub listed : HasStates (tree_of c).step.body
 
 -- the checks in three stages

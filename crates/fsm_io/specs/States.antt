@@ -28,7 +28,7 @@ bad_value states e = bad_use states (plain_use e)
 -- what is at fault in one place, where these were listed before
 abbrev pub bad_at : List (List ℕ) → List ℕ → List (List ℕ) → Mention → List Use
 bad_at states to before (asserting e) = []
-bad_at states to before (assigning t line e) = if bytes_eq t.name to then bad_value states e else []
+bad_at states to before (assigning t first e) = if bytes_eq t.name to then bad_value states e else []
 bad_at states to before (testing line e) = []
 bad_at states to before (selecting seen line called) = []
 bad_at states to before (listing names) = bad_names states before names
@@ -36,7 +36,7 @@ bad_at states to before (listing names) = bad_names states before names
 -- what was listed before the next place
 abbrev pub listed_after : List (List ℕ) → Mention → List (List ℕ)
 listed_after before (asserting e) = before
-listed_after before (assigning t line e) = before
+listed_after before (assigning t first e) = before
 listed_after before (testing line e) = before
 listed_after before (selecting seen line called) = before
 listed_after before (listing names) = before ++ texts names

@@ -7,9 +7,10 @@ use Rattle.source_meaning.specs.declared.symbol_table.Symbol.{Symbol}
 use Rattle.source_meaning.specs.Symbols.{find}
 use Rattle.source_meaning.specs.Widths.{if_not}
 use Rattle.source_meaning.specs.Unsupported.{literal_faults, supply_faults, port_forms}
+use Rattle.fsm_text.specs.declared.file.FirstToken.{FirstToken}
 use Rattle.fsm_text.specs.Written.{MachineTree, ClockTree}
 use Rattle.fsm_io.specs.Known.{Named, symbols}
-use Rattle.fsm_io.specs.Looks.{Mention, asserting, assigning, testing, selecting, listing, found, body_has_case, is_plain}
+use Rattle.fsm_io.specs.Looks.{Mention, asserting, assigning, testing, selecting, listing, found, body_has_case, is_bare}
 use Rattle.fsm_io.specs.Drivers.{is_output}
 
 abbrev pub is_input : Role → Bool
@@ -39,9 +40,9 @@ read_forms reads steady (binary op line left right) = read_forms reads steady le
 abbrev pub expression_forms : List Symbol → Tree → List ℕ
 expression_forms known e = read_forms (λ text. may_read (find known text)) false e
 
--- one name is assigned to the next state
-abbrev pub next_forms : ℕ → Tree → List ℕ
-next_forms line e = if_not (is_plain e) line
+-- one bare name is assigned to the next state
+abbrev pub next_forms : FirstToken → Tree → List ℕ
+next_forms first e = if_not (is_bare first e) first.line
 
 abbrev pub may_assign : Option Symbol → Bool
 may_assign None = true
@@ -50,8 +51,8 @@ may_assign (Some s) = is_output s.role
 -- there is one case alone, over the current state
 abbrev pub forms_at : List Symbol → Named → Mention → List ℕ
 forms_at known n (asserting e) = expression_forms known e
-forms_at known n (assigning t line e) =
-    if bytes_eq t.name n.next then next_forms line e else if_not (may_assign (find known t.name)) t.line ++ expression_forms known e
+forms_at known n (assigning t first e) =
+    if bytes_eq t.name n.next then next_forms first e else if_not (may_assign (find known t.name)) t.line ++ expression_forms known e
 forms_at known n (testing line e) = expression_forms known e
 forms_at known n (selecting seen line called) = if_not (not seen) line ++ if_not (bytes_eq called.text n.current) called.line
 forms_at known n (listing states) = []

@@ -1,5 +1,6 @@
 // Targets that some state leaves without an assignment on some path of ifs.
-ghost use Rattle.std.specs.Prelude.{◌≡◌, filter, not, length, IfOk};
+ghost use Rattle.std.specs.Prelude.{◌≡◌, ◌≤◌, filter, map, not, length, IfOk};
+ghost use Rattle.std.specs.Option.{option_map};
 ghost use Rattle.bool_expr.specs.Support.{among};
 ghost use Rattle.source_meaning.specs.Codes.{name_at, least_code};
 ghost use Rattle.fsm_meaning.specs.Assigned.{sure, sure_parts, sure_branches, sets_output};
@@ -7,10 +8,10 @@ ghost use Rattle.fsm_code.specs.View.{assignment_view, body_view, parts_view, br
 ghost use Rattle.fsm_text.specs.Written.{machine_view};
 ghost use Rattle.fsm_io.specs.Known.{symbols};
 ghost use Rattle.fsm_io.specs.Assigned.{always, left_out_at, left_out_of};
-ghost use Rattle.fsm_io.specs.Pieces.{sets_of, named_of};
+ghost use Rattle.fsm_io.specs.Pieces.{sets_of, named_of, bit_code, most_numbered};
 ghost use Rattle.fsm_io.specs.Drivers.{first_of};
 
-use crate::codes::{bit_of, codes_in, least_with, name_with};
+use crate::codes::{bits_in, least_with, name_with};
 use crate::drivers::is_output;
 use crate::known::Roles;
 use fsm_code::{Assignment, Branches, Parts, Statements};
@@ -140,23 +141,22 @@ fn is_always(sought: Sought, count: u32, body: &Statements) -> bool
     true
 }
 
-/// The code of the least of a symbol's bits that isn't.
-fn least_code(
+/// The least of these bits of a symbol that isn't.
+fn least_bit(
     symbol: &Symbol,
     count: u32,
     body: &Statements,
-    codes: &[u64],
-) -> Result<Option<u64>, AllocError>
-    ensures { IfOk result (λ least. least ≡ least_code
-        (filter (λ c. not (always count (sets_output (name_at symbol.now.text c)) (body_view body.now))) codes.now)) }
+    bits: &[Option<u32>],
+) -> Option<Option<u32>>
+    ensures { option_map bit_code result ≡ least_code
+        (filter (λ c. not (always count (sets_output (name_at symbol.now.text c)) (body_view body.now))) (map bit_code bits.now)) }
 {
-    let mut least: Option<u64> = None;
-    for code in codes {
-        let bit = bit_of(*code)?;
-        let passes = is_always(Sought::Bit(&symbol.text, bit), count, body);
-        least = least_with(passes, *code, least);
+    let mut least: Option<Option<u32>> = None;
+    for bit in bits {
+        let passes = is_always(Sought::Bit(&symbol.text, *bit), count, body);
+        least = least_with(passes, *bit, least);
     }
-    Ok(least)
+    least
 }
 
 /// The least of an output's bits that isn't.
@@ -171,8 +171,8 @@ fn left_out_at(
     if !is_output(symbol.role) {
         return Ok(None);
     }
-    let codes = codes_in(alloc, symbol.range)?;
-    let least = least_code(symbol, count, body, &codes)?;
+    let bits = bits_in(alloc, symbol.range)?;
+    let least = least_bit(symbol, count, body, &bits);
     let found = name_with(alloc, &symbol.text, least)?;
     match found {
         Some(name) => Ok(Some(NameFault {
@@ -200,14 +200,12 @@ fn first_left_out(
     Ok(None)
 }
 
-/// How many states there are. More than 32 bits can number are answered as out of memory.
-fn state_count(file: &StateFile) -> Result<u32, AllocError>
-    ensures { IfOk result (λ count. count ≡ length (machine_view file.now).states.states) }
+/// How many states there are.
+fn state_count(file: &StateFile) -> u32
+    requires { length (machine_view file.now).states.states ≤ most_numbered }
+    ensures { result ≡ length (machine_view file.now).states.states }
 {
-    match u32::try_from(file.states.states.as_slice().len()) {
-        Ok(count) => Ok(count),
-        Err(_) => Err(AllocError),
-    }
+    file.states.states.as_slice().len() as u32
 }
 
 /// The first output that some state doesn't assign on every path, with its least such bit, or else the next state. Takes time for
@@ -219,10 +217,11 @@ pub fn left_out(
     file: &StateFile,
     body: &Statements,
 ) -> Result<Option<NameFault>, AllocError>
-    requires { table.now ≡ symbols (machine_view file.now) }
+    requires known { table.now ≡ symbols (machine_view file.now) }
+    requires few { length (machine_view file.now).states.states ≤ most_numbered }
     ensures { IfOk result (λ found. found ≡ left_out_of (machine_view file.now) (named_of roles.entry) (body_view body.now)) }
 {
-    let count = state_count(file)?;
+    let count = state_count(file);
     let found = first_left_out(alloc, table.as_slice(), count, body)?;
     if let Some(fault) = found {
         return Ok(Some(fault));

@@ -7,9 +7,9 @@ ghost use Rattle.source_meaning.specs.Drivers.{target_names};
 ghost use Rattle.source_bits.specs.Formulas.{first_of};
 ghost use Rattle.fsm_meaning.specs.Statements.{assign, output};
 ghost use Rattle.fsm_code.specs.View as code;
-ghost use Rattle.fsm_text.specs.Written.{assigned, statement_view, body_view, parts_view, branches_view};
-ghost use Rattle.fsm_io.specs.Elaboration.{condition_of, assign_bits, body_bits, statement_bits, parts_bits, branches_bits, state_number, next_number};
-ghost use Rattle.fsm_io.specs.Pieces.{IsFrame, frame_view, CanBeRead, CanBeAssigned, StatementFits, BodyFits, PartsFit, BranchesFit};
+ghost use Rattle.fsm_text.specs.Written.{statement_view, body_view, parts_view, branches_view};
+ghost use Rattle.fsm_io.specs.Elaboration.{condition_of, assign_bits, assignment_bits, body_bits, statement_bits, parts_bits, branches_bits, state_number, next_number};
+ghost use Rattle.fsm_io.specs.Pieces.{IsFrame, frame_view, CanBeRead, CanBeAssigned, AssignmentFits, StatementFits, BodyFits, PartsFit, BranchesFit};
 
 use crate::known::same;
 use crate::linked::{
@@ -73,12 +73,13 @@ impl Frame<'_> {
     }
 
     /// The state that is assigned, by its number.
-    fn state(&self, e: &ParsedExpr) -> Result<u32, AllocError>
-        ensures { IfOk result (λ number. number ≡ next_number (frame_view self.now).states (tree e.now)) }
+    fn state(&self, e: &ParsedExpr) -> u32
+        requires { IsFrame self.now }
+        ensures { result ≡ next_number (frame_view self.now).states (tree e.now) }
     {
         match plain_name(e) {
             Some(place) => state_number(self.states, place.text),
-            None => Ok(0),
+            None => 0,
         }
     }
 
@@ -115,11 +116,11 @@ impl Frame<'_> {
         rest: Statements,
     ) -> Result<Statements, AllocError>
         requires frame { IsFrame self.now }
-        requires fits { StatementFits self.now (assigned target.now 0 (tree e.now)) }
-        ensures { IfOk result (λ made. code.body_view made ≡ statement_bits (frame_view self.now) (assigned target.now 0 (tree e.now)) (code.body_view rest)) }
+        requires fits { AssignmentFits self.now target.now (tree e.now) }
+        ensures { IfOk result (λ made. code.body_view made ≡ assignment_bits (frame_view self.now) target.now (tree e.now) (code.body_view rest)) }
     {
         if same(&target.name, self.next) {
-            let number = self.state(e)?;
+            let number = self.state(e);
             let after = Box::new(self.alloc, rest)?;
             Ok(Statements::Assign(Assignment::Next(number), after))
         } else {
@@ -154,11 +155,12 @@ impl Frame<'_> {
 
     /// The numbers of these states.
     fn numbers_of(&self, names: &[NewName]) -> Result<Vec<u32>, AllocError>
+        requires { IsFrame self.now }
         ensures { IfOk result (λ made. made.items ≡ map (λ n. state_number (frame_view self.now).states n.text) names.now) }
     {
         let mut made = Vec::new(self.alloc);
         for name in names {
-            made.push(state_number(self.states, &name.text)?)?;
+            made.push(state_number(self.states, &name.text))?;
         }
         Ok(made)
     }

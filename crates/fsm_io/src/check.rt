@@ -20,7 +20,7 @@ ghost use Rattle.fsm_io.specs.States.{all_bad_states};
 ghost use Rattle.fsm_io.specs.Assigned.{left_out_of};
 ghost use Rattle.fsm_io.specs.Checks.{most_states, ports_count, PassesLimit, if_state};
 ghost use Rattle.fsm_io.specs.Elaboration.{IsMachineOf};
-ghost use Rattle.fsm_io.specs.Pieces.{named_of, tree_of, roles_of, HasRoles, Suits, names_fault, forms_fault, states_fault, early_fault, body_over, PassesBehind, IsMadeBehind, IsPassed, IsRefusedOrMemory, IsRefusedBehind};
+ghost use Rattle.fsm_io.specs.Pieces.{named_of, tree_of, roles_of, HasRoles, Suits, names_fault, forms_fault, states_fault, early_fault, body_over, PassesBehind, IsMadeBehind, IsPassed, IsRefusedOrMemory, IsRefusedBehind, most_numbered};
 
 use crate::assigned::left_out;
 use crate::bits::Frame;
@@ -348,6 +348,7 @@ fn check_named(
     requires once { first_repeated [] (symbols (machine_view file.now)) ≡ None }
     requires roles { HasRoles (machine_view file.now) (named_of roles) }
     requires some_state { 0 < length (machine_view file.now).states.states }
+    requires few { length (machine_view file.now).states.states ≤ most_numbered }
     requires listed { HasStates (machine_view file.now).step.body }
     ensures machine { IfOk result (λ f. IsMadeBehind (machine_view file.now) (named_of roles.entry) f) }
     ensures refused { IfErr result (λ e. IsRefusedBehind (machine_view file.now) (named_of roles.entry) e) }
@@ -375,6 +376,7 @@ pub fn check_fsm(
     pragmas: &[Pragma],
 ) -> Result<StateMachine, ReadError>
     requires some_state { 0 < length (machine_view file.now).states.states }
+    requires few { length (machine_view file.now).states.states ≤ most_numbered }
     requires listed { HasStates (machine_view file.now).step.body }
     ensures machine { IfOk result (λ f. IsPassed (machine_view file.now) pragmas.now f) }
     ensures refused { IfErr result (λ e. IsRefusedOrMemory (machine_view file.now) pragmas.now e) }

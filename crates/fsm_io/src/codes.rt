@@ -1,72 +1,83 @@
-// Bits of one name, by numbers: 0 is the name without a bit, and k + 1 its bit k.
-ghost use Rattle.std.specs.Prelude.{◌≡◌, ◌+◌, map, Some, IfOk, if◌then◌else◌};
+// Bits of one name. They are ordered by numbers: 0 is the name without a bit, and k + 1 its bit k.
+ghost use Rattle.std.specs.Prelude.{◌≡◌, ◌+◌, map, min, Some, IfOk, if◌then◌else◌};
 ghost use Rattle.std.specs.Option.{option_map};
-ghost use Rattle.source_meaning.specs.Codes.{bit_of, name_at, codes_in, least_with};
+ghost use Rattle.vlsi_base.specs.Range.{range_bits};
+ghost use Rattle.source_meaning.specs.Codes.{codes_in, least_with};
+ghost use Rattle.fsm_io.specs.Pieces.{bit_code, bit_named};
 
 use std::alloc::{AllocError, Global};
 use vlsi_base::{Name, Range, Text};
 
-fn codes_of(alloc: Global, bits: &[u32]) -> Result<Vec<u64>, AllocError>
-    ensures { IfOk result (λ codes. codes.items ≡ map (λ k. k + 1) bits.now) }
+fn some_of(alloc: Global, numbers: &[u32]) -> Result<Vec<Option<u32>>, AllocError>
+    ensures { IfOk result (λ bits. bits.items ≡ map Some numbers.now) }
 {
-    let mut codes = Vec::new(alloc);
-    for bit in bits {
-        codes.push(u64::from(*bit) + 1)?;
+    let mut bits = Vec::new(alloc);
+    for number in numbers {
+        bits.push(Some(*number))?;
     }
-    Ok(codes)
+    Ok(bits)
 }
 
-/// The codes of a name's bits, from the left.
-pub fn codes_in(alloc: Global, range: Option<Range>) -> Result<Vec<u64>, AllocError>
-    ensures { IfOk result (λ codes. codes.items ≡ codes_in range) }
+fn bits_of(alloc: Global, range: Range) -> Result<Vec<Option<u32>>, AllocError>
+    ensures { IfOk result (λ bits. map bit_code bits.items ≡ map (λ k. k + 1) (range_bits range)) }
+{
+    let numbers = range.bits(alloc)?;
+    let bits = some_of(alloc, &numbers)?;
+    Ok(bits)
+}
+
+/// A name's bits, from the left; a scalar has one without a number. Takes memory for each.
+pub fn bits_in(alloc: Global, range: Option<Range>) -> Result<Vec<Option<u32>>, AllocError>
+    ensures { IfOk result (λ bits. map bit_code bits.items ≡ codes_in range) }
 {
     match range {
-        Some(range) => {
-            let bits = range.bits(alloc)?;
-            codes_of(alloc, &bits)
-        }
+        Some(range) => bits_of(alloc, range),
         None => {
-            let mut codes = Vec::new(alloc);
-            codes.push(0)?;
-            Ok(codes)
+            let mut bits = Vec::new(alloc);
+            bits.push(None)?;
+            Ok(bits)
         }
     }
 }
 
-/// The bit of a code; a bit over 32 bits is answered as out of memory.
-pub fn bit_of(code: u64) -> Result<Option<u32>, AllocError>
-    ensures { IfOk result (λ bit. bit ≡ bit_of code) }
+/// The first of two bits in their order.
+#[tactic(auto, using(crate::proofs::Leasts::lesser_some, crate::proofs::Leasts::lesser_left, crate::proofs::Leasts::lesser_right))]
+fn lesser(a: Option<u32>, b: Option<u32>) -> Option<u32>
+    ensures { bit_code result ≡ min (bit_code a) (bit_code b) }
 {
-    if code == 0 {
-        return Ok(None);
-    }
-    match u32::try_from(code - 1) {
-        Ok(k) => Ok(Some(k)),
-        Err(_) => Err(AllocError),
+    match a {
+        Some(j) => match b {
+            Some(k) => Some(j.min(k)),
+            None => None,
+        },
+        None => None,
     }
 }
 
-/// The lesser of a code and the least so far, unless the code's bit passes.
-pub fn least_with(passes: bool, code: u64, least: Option<u64>) -> Option<u64>
-    ensures { result ≡ (if passes then least else Some (least_with code least)) }
+/// The lesser of a bit and the least so far, unless the bit passes.
+pub fn least_with(passes: bool, bit: Option<u32>, least: Option<Option<u32>>) -> Option<Option<u32>>
+    ensures { option_map bit_code result ≡ (if passes then option_map bit_code least else Some (least_with (bit_code bit) (option_map bit_code least))) }
 {
     if passes {
         return least;
     }
     match least {
-        Some(before) => Some(code.min(before)),
-        None => Some(code),
+        Some(before) => Some(lesser(bit, before)),
+        None => Some(bit),
     }
 }
 
-/// The name with this code, if there is one.
-pub fn name_with(alloc: Global, text: &Text, code: Option<u64>) -> Result<Option<Name>, AllocError>
-    ensures { IfOk result (λ name. name ≡ option_map (name_at text.now) code) }
+/// The name with this bit, if there is one.
+pub fn name_with(
+    alloc: Global,
+    text: &Text,
+    bit: Option<Option<u32>>,
+) -> Result<Option<Name>, AllocError>
+    ensures { IfOk result (λ name. name ≡ option_map (bit_named text.now) bit) }
 {
-    let Some(code) = code else {
+    let Some(bit) = bit else {
         return Ok(None);
     };
     let text = text.copy(alloc)?;
-    let bit = bit_of(code)?;
     Ok(Some(Name { text, bit }))
 }

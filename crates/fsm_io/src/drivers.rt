@@ -1,16 +1,17 @@
 // Outputs that nothing assigns.
 ghost use Rattle.std.specs.Prelude.{◌≡◌, map, filter, not, IfOk, OnOk};
 ghost use Rattle.std.specs.List.{flat_map};
+ghost use Rattle.std.specs.Option.{option_map};
 ghost use Rattle.machine_core.specs.Order.{AllDifferent};
-ghost use Rattle.source_meaning.specs.Codes.{name_at, codes_in, least_code};
+ghost use Rattle.source_meaning.specs.Codes.{name_at, least_code};
 ghost use Rattle.source_meaning.specs.Drivers.{target_names};
 ghost use Rattle.fsm_text.specs.Written.{machine_view};
 ghost use Rattle.fsm_io.specs.Known.{symbols};
 ghost use Rattle.fsm_io.specs.Looks.{all_mentions};
 ghost use Rattle.fsm_io.specs.Drivers.{names_at, unassigned_at, first_of, first_unassigned, is_output};
-ghost use Rattle.fsm_io.specs.Pieces.{mention_of, AreMarked, MarksMore, mark_each, is_marked, is_marked_bit};
+ghost use Rattle.fsm_io.specs.Pieces.{mention_of, AreMarked, MarksMore, mark_each, is_marked, is_marked_bit, bit_code, bit_named};
 
-use crate::codes::{bit_of, codes_in, least_with, name_with};
+use crate::codes::{bits_in, least_with, name_with};
 use crate::mentions::Mention;
 use fsm_text::StateFile;
 use source_bits::{Numbers, target_places};
@@ -91,24 +92,30 @@ fn is_marked(marks: &[bool], number: u32) -> bool
     }
 }
 
-/// The code of the least of a symbol's bits that isn't marked.
+fn is_marked_bit(numbers: &Numbers, marks: &[bool], symbol: &Symbol, bit: Option<u32>) -> bool
+    requires { AllDifferent (map (λ s. s.text) numbers.now) }
+    ensures { result ≡ is_marked_bit numbers.now marks.now (bit_named symbol.now.text bit) }
+{
+    is_marked(marks, numbers.number(symbol.text.as_bytes(), bit))
+}
+
+/// The least of these bits of a symbol that isn't marked.
 fn least_unmarked(
     numbers: &Numbers,
     marks: &[bool],
     symbol: &Symbol,
-    codes: &[u64],
-) -> Result<Option<u64>, AllocError>
+    bits: &[Option<u32>],
+) -> Option<Option<u32>>
     requires { AllDifferent (map (λ s. s.text) numbers.now) }
-    ensures { IfOk result (λ least. least
-        ≡ least_code (filter (λ c. not (is_marked_bit numbers.now marks.now (name_at symbol.now.text c))) codes.now)) }
+    ensures { option_map bit_code result
+        ≡ least_code (filter (λ c. not (is_marked_bit numbers.now marks.now (name_at symbol.now.text c))) (map bit_code bits.now)) }
 {
-    let mut least: Option<u64> = None;
-    for code in codes {
-        let bit = bit_of(*code)?;
-        let number = numbers.number(symbol.text.as_bytes(), bit);
-        least = least_with(is_marked(marks, number), *code, least);
+    let mut least: Option<Option<u32>> = None;
+    for bit in bits {
+        let passes = is_marked_bit(numbers, marks, symbol, *bit);
+        least = least_with(passes, *bit, least);
     }
-    Ok(least)
+    least
 }
 
 /// The least of an output's bits that isn't marked.
@@ -124,8 +131,8 @@ fn unassigned_at(
     if !is_output(symbol.role) {
         return Ok(None);
     }
-    let codes = codes_in(alloc, symbol.range)?;
-    let least = least_unmarked(numbers, marks, symbol, &codes)?;
+    let bits = bits_in(alloc, symbol.range)?;
+    let least = least_unmarked(numbers, marks, symbol, &bits);
     let found = name_with(alloc, &symbol.text, least)?;
     match found {
         Some(name) => Ok(Some(NameFault {

@@ -15,8 +15,8 @@ ghost use Rattle.fsm_io.specs.Pieces.{mention_of, named_of, may_be_read, is_stea
 use crate::drivers::is_output;
 use crate::known::{Roles, same};
 use crate::mentions::Mention;
-use crate::names::plain_name;
-use fsm_text::{ClockProcess, StateFile, StateSignals};
+use crate::names::is_bare;
+use fsm_text::{ClockProcess, FirstToken, StateFile, StateSignals};
 use source_meaning::{Role, SymbolTable, Target, literal_fault, ports_form};
 use vlsi_base::{NewName, ParsedExpr, Text, is_supply};
 
@@ -114,13 +114,14 @@ fn may_assign(table: &SymbolTable, target: &Target) -> bool
     }
 }
 
-/// One name is assigned to the next state.
-fn next_fault(line: u32, value: &ParsedExpr) -> Option<u32>
-    ensures { result ≡ first_line (next_forms line (view value.now)) }
+/// One bare name is assigned to the next state.
+fn next_fault(first: FirstToken, value: &ParsedExpr) -> Option<u32>
+    ensures { result ≡ first_line (next_forms first (view value.now)) }
 {
-    match plain_name(value) {
-        Some(_) => None,
-        None => Some(line),
+    if is_bare(first, value) {
+        None
+    } else {
+        Some(first.line)
     }
 }
 
@@ -129,13 +130,13 @@ fn assignment_fault(
     table: &SymbolTable,
     roles: Roles,
     target: &Target,
-    line: u32,
+    first: FirstToken,
     value: &ParsedExpr,
 ) -> Option<u32>
-    ensures { result ≡ first_line (forms_at table.now (named_of roles.entry) (assigning target.now line (view value.now))) }
+    ensures { result ≡ first_line (forms_at table.now (named_of roles.entry) (assigning target.now first (view value.now))) }
 {
     if same(&target.name, roles.next) {
-        return next_fault(line, value);
+        return next_fault(first, value);
     }
     if may_assign(table, target) {
         read_fault(Readable::Inputs(table), value)
@@ -163,7 +164,7 @@ fn fault_at(table: &SymbolTable, roles: Roles, mention: Mention) -> Option<u32>
 {
     match mention {
         Mention::Assertion(e) => read_fault(Readable::Inputs(table), e),
-        Mention::Assignment(target, line, e) => assignment_fault(table, roles, target, line, e),
+        Mention::Assignment(target, first, e) => assignment_fault(table, roles, target, first, e),
         Mention::Condition(_, e) => read_fault(Readable::Inputs(table), e),
         Mention::Case(seen, line, name) => case_fault(roles, seen, line, name),
         Mention::States(_) => None,

@@ -4,7 +4,7 @@ ghost use Rattle.fsm_text.specs.Written.{statement_view, body_view, parts_view, 
 ghost use Rattle.fsm_io.specs.Looks.{body_has_case, holds_case, parts_have_case, in_body, in_statement, in_parts, in_branches};
 ghost use Rattle.fsm_io.specs.Pieces.{mention_of};
 
-use fsm_text::{Body, Branches, Parts, Statement};
+use fsm_text::{Body, Branches, FirstToken, Parts, Statement};
 use source_meaning::Target;
 use std::alloc::{AllocError, Global};
 use vlsi_base::{NewName, ParsedExpr};
@@ -13,8 +13,8 @@ use vlsi_base::{NewName, ParsedExpr};
 #[derive(Clone, Copy)]
 pub enum Mention<'a> {
     Assertion(&'a ParsedExpr),
-    /// The target, the line of what is assigned, and that.
-    Assignment(&'a Target, u32, &'a ParsedExpr),
+    /// The target, the first token of what is assigned, and that.
+    Assignment(&'a Target, FirstToken, &'a ParsedExpr),
     /// The line of a condition, and the condition.
     Condition(u32, &'a ParsedExpr),
     /// Whether another case stands before this one, its line, and its name.
@@ -60,8 +60,8 @@ fn push_statement<'a>(
             list.push(Mention::Assertion(e))?;
             Ok(seen)
         }
-        Statement::Assign(target, line, e) => {
-            list.push(Mention::Assignment(target, *line, e))?;
+        Statement::Assign(target, first, e) => {
+            list.push(Mention::Assignment(target, *first, e))?;
             Ok(seen)
         }
         Statement::If(parts) => push_parts(list, seen, parts),

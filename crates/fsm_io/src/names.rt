@@ -3,8 +3,9 @@ ghost use Rattle.std.specs.Prelude.{◌≡◌};
 ghost use Rattle.std.specs.Option.{option_map};
 ghost use Rattle.vlsi_base.specs.Tree.{view};
 ghost use Rattle.source_meaning.specs.Uses.{use_of as place_use};
-ghost use Rattle.fsm_io.specs.Looks.{plain_use};
+ghost use Rattle.fsm_io.specs.Looks.{plain_use, is_bare};
 
+use fsm_text::FirstToken;
 use source_meaning::Place;
 use vlsi_base::ParsedExpr;
 
@@ -23,4 +24,11 @@ pub fn plain_name(e: &ParsedExpr) -> Option<Place<'_>>
         }
         _ => None,
     }
+}
+
+/// Whether an expression with this first token is a name alone, in no parentheses.
+pub fn is_bare(first: FirstToken, e: &ParsedExpr) -> bool
+    ensures { result ≡ is_bare first (view e.now) }
+{
+    first.is_name && plain_name(e).is_some()
 }

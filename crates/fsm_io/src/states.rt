@@ -1,12 +1,12 @@
 // Names of states that are none, or that a case lists twice.
-ghost use Rattle.std.specs.Prelude.{◌≡◌, ◌++◌, [], None, map, IfOk};
+ghost use Rattle.std.specs.Prelude.{◌≡◌, ◌≤◌, ◌++◌, [], None, map, length, IfOk};
 ghost use Rattle.std.specs.Option.{option_map};
 ghost use Rattle.vlsi_base.specs.Tree.{view};
 ghost use Rattle.source_meaning.specs.Uses.{use_of as place_use};
 ghost use Rattle.fsm_io.specs.Known.{texts};
 ghost use Rattle.fsm_io.specs.Elaboration.{state_number};
 ghost use Rattle.fsm_io.specs.States.{is_one_of, bad_names, bad_value, bad_at, listed_after, bad_states};
-ghost use Rattle.fsm_io.specs.Pieces.{mention_of, first_use, symbol_texts};
+ghost use Rattle.fsm_io.specs.Pieces.{mention_of, first_use, symbol_texts, most_numbered};
 
 use crate::known::{Roles, same, with_name, with_names};
 use crate::mentions::Mention;
@@ -23,31 +23,23 @@ pub fn state_table(alloc: Global, states: &[NewName]) -> Result<SymbolTable, All
     Ok(made)
 }
 
-/// The number, if it has at most 32 bits; a greater one is answered as out of memory.
-fn small(k: usize) -> Result<u32, AllocError>
-    ensures { IfOk result (λ n. n ≡ k) }
+/// The place of a state; as many as there are where it is none.
+#[tactic(auto, using(crate::proofs::StateNames::number_some, crate::proofs::StateNames::number_none))]
+fn place_of(states: &SymbolTable, text: &Text) -> usize
+    ensures { result ≡ state_number (symbol_texts states.now) text.now }
 {
-    match u32::try_from(k) {
-        Ok(n) => Ok(n),
-        Err(_) => Err(AllocError),
+    match states.place(text.as_bytes()) {
+        Some(place) => place,
+        None => states.as_slice().len(),
     }
 }
 
-/// The number of a state; as many as there are where it is none. One over 32 bits is answered as out of memory.
-#[tactic(auto, using(crate::proofs::StateNames::number_some, crate::proofs::StateNames::number_none))]
-pub fn state_number(states: &SymbolTable, text: &Text) -> Result<u32, AllocError>
-    ensures { IfOk result (λ number. number ≡ state_number (symbol_texts states.now) text.now) }
+/// The number of a state; as many as there are where it is none.
+pub fn state_number(states: &SymbolTable, text: &Text) -> u32
+    requires { length states.now ≤ most_numbered }
+    ensures { result ≡ state_number (symbol_texts states.now) text.now }
 {
-    match states.place(text.as_bytes()) {
-        Some(place) => {
-            let number = small(place)?;
-            Ok(number)
-        }
-        None => {
-            let count = small(states.as_slice().len())?;
-            Ok(count)
-        }
-    }
+    place_of(states, text) as u32
 }
 
 fn is_listed(names: &SymbolTable, text: &Text) -> bool

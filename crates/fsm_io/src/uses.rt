@@ -11,8 +11,8 @@ ghost use Rattle.fsm_io.specs.Pieces.{mention_of, named_of};
 
 use crate::known::{Roles, same};
 use crate::mentions::Mention;
-use crate::names::plain_name;
-use fsm_text::{ClockProcess, StateFile};
+use crate::names::is_bare;
+use fsm_text::{ClockProcess, FirstToken, StateFile};
 use source_meaning::{Place, SymbolTable, Target, unknown_name, unknown_read};
 use vlsi_base::{NewName, ParsedExpr};
 
@@ -27,16 +27,17 @@ fn unknown_among<'a>(table: &SymbolTable, names: &'a [NewName]) -> Option<Place<
     None
 }
 
-/// In what is assigned: a name that is assigned to the next state is looked at with the states.
+/// In what is assigned: a bare name that is assigned to the next state is looked at with the states.
 #[tactic(auto, using(source_meaning::proofs::Unknowns::first_unknown_append))]
 fn unknown_in_value<'a>(
     table: &SymbolTable,
     to_next: bool,
+    first: FirstToken,
     value: &'a ParsedExpr,
 ) -> Option<Place<'a>>
-    ensures { option_map place_use result ≡ first_unknown table.now (value_uses to_next (view value.now)) }
+    ensures { option_map place_use result ≡ first_unknown table.now (value_uses to_next first (view value.now)) }
 {
-    if to_next && plain_name(value).is_some() {
+    if to_next && is_bare(first, value) {
         None
     } else {
         unknown_read(table, value)
@@ -48,13 +49,14 @@ fn unknown_in_assignment<'a>(
     table: &SymbolTable,
     roles: Roles,
     target: &'a Target,
+    first: FirstToken,
     value: &'a ParsedExpr,
 ) -> Option<Place<'a>>
-    ensures { option_map place_use result ≡ first_unknown table.now (uses_at (named_of roles.entry) (assigning target.now 0 (view value.now))) }
+    ensures { option_map place_use result ≡ first_unknown table.now (uses_at (named_of roles.entry) (assigning target.now first (view value.now))) }
 {
     match unknown_name(table, &target.name, target.line) {
         Some(place) => Some(place),
-        None => unknown_in_value(table, same(&target.name, roles.next), value),
+        None => unknown_in_value(table, same(&target.name, roles.next), first, value),
     }
 }
 
@@ -64,7 +66,9 @@ fn unknown_at<'a>(table: &SymbolTable, roles: Roles, mention: Mention<'a>) -> Op
 {
     match mention {
         Mention::Assertion(e) => unknown_read(table, e),
-        Mention::Assignment(target, _, e) => unknown_in_assignment(table, roles, target, e),
+        Mention::Assignment(target, first, e) => {
+            unknown_in_assignment(table, roles, target, first, e)
+        }
         Mention::Condition(_, e) => unknown_read(table, e),
         Mention::Case(_, _, name) => unknown_name(table, &name.text, name.line),
         Mention::States(_) => None,

@@ -5,8 +5,8 @@ ghost use Rattle.vlsi_base.specs.Tree.{view};
 ghost use Rattle.source_meaning.specs.Lines.{first_line};
 ghost use Rattle.fsm_text.specs.Written.{machine_view, clock_view};
 ghost use Rattle.fsm_io.specs.Known.{symbols};
-ghost use Rattle.fsm_io.specs.Looks.{all_mentions, assigning};
-ghost use Rattle.fsm_io.specs.Widths.{wide_enough, widths_at, clock_widths, all_widths};
+ghost use Rattle.fsm_io.specs.Looks.{all_mentions};
+ghost use Rattle.fsm_io.specs.Widths.{wide_enough, assignment_widths, widths_at, clock_widths, all_widths};
 ghost use Rattle.fsm_io.specs.Pieces.{mention_of, named_of};
 
 use crate::known::{Roles, same};
@@ -37,7 +37,7 @@ fn assignment_fault(
     target: &Target,
     value: &ParsedExpr,
 ) -> Result<Option<u32>, AllocError>
-    ensures { IfOk result (λ line. line ≡ first_line (widths_at table.now (named_of roles.entry) (assigning target.now 0 (view value.now)))) }
+    ensures { IfOk result (λ line. line ≡ first_line (assignment_widths table.now (named_of roles.entry) target.now (view value.now))) }
 {
     let measure = measured(table, value)?;
     let to_next = same(&target.name, roles.next);

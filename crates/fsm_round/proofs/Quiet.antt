@@ -28,7 +28,7 @@ use Rattle.fsm_io.proofs.Sounds.{neither}
 use Rattle.fsm_write.specs.declared.words.Words.{Words}
 use Rattle.fsm_write.specs.Layout.{state_text, if_layout, case_layout}
 use Rattle.fsm_write.specs.Writable.{IsPlain as HasNoChoice, IsPlainBody, ArePlainParts, ArePlainBranches}
-use Rattle.fsm_again.specs.Placed.{named_at, behind_body, placed_body, placed_parts, placed_branches}
+use Rattle.fsm_again.specs.Placed.{named_at, kept_at, bare_at, behind_body, placed_body, placed_parts, placed_branches}
 use Rattle.fsm_round.proofs.Known.{contains_in}
 use Rattle.fsm_round.proofs.Expressions.{IsSaid, said, width_is, faults_are}
 use Rattle.fsm_round.proofs.Body.{itself, CanReadBody}
@@ -155,7 +155,7 @@ module _ (known : List Symbol) (clock : List ℕ) (w : Words) (f : Fsm) (can : C
   same_width : (a b : Option ℕ) (line : ℕ) → a ≡ Some 1 → b ≡ Some 1 → if_not (not (differ a b)) line ≡ []
   same_width a b line e g = ap (λ (o : Option ℕ). if_not (not (differ o b)) line) e ∙ ap (λ (o : Option ℕ). if_not (not (differ (Some 1) o)) line) g
 
-  quiet_output : (x : Name) (e : Expression) → IsAssignmentOf f (s.output x e) → HasNoChoice e → (line : ℕ) → IsQuiet known roles (assigning (placed_target line x) line (tree w.vars line e))
+  quiet_output : (x : Name) (e : Expression) → IsAssignmentOf f (s.output x e) → HasNoChoice e → (line : ℕ) → IsQuiet known roles (assigning (placed_target line x) (kept_at w line e) (tree w.vars line e))
   quiet_output x e of free line =
       let t = placed_target line x in
       let v = tree w.vars line e in
@@ -164,28 +164,28 @@ module _ (known : List Symbol) (clock : List ℕ) (w : Words) (f : Fsm) (can : C
       let apart = can.body.others x i in
       let p = fine e of.1 free line in
       record {
-        uses = (is_used known x r.declared, subst (λ b. AreUsed known (value_uses b v)) (sym apart) p.plain.uses);
+        uses = (is_used known x r.declared, subst (λ b. AreUsed known (value_uses b (kept_at w line e) v)) (sym apart) p.plain.uses);
         widths =
             ap (λ b. wide_enough b (width known v) (target_width known t) line ++ (target_faults known t ++ width_faults known v)) apart
             ∙ nothing (if_not (not (differ (width known v) (target_width known t))) line) (target_faults known t ++ width_faults known v)
             (same_width (width known v) (target_width known t) line p.plain.width (width_is known x line r.declared))
             (nothing (target_faults known t) (width_faults known v) (faults_are known x line r.declared) p.plain.faults);
         forms =
-            ap (λ b. cond b (next_forms line v) (if_not (may_assign (find known x.text)) line ++ expression_forms known v)) apart
+            ap (λ b. cond b (next_forms (kept_at w line e) v) (if_not (may_assign (find known x.text)) line ++ expression_forms known v)) apart
             ∙ nothing (if_not (may_assign (find known x.text)) line) (expression_forms known v)
             (ap (λ b. if_not b line) (ap may_assign r.declared.found ∙ ap is_output r.role)) p.forms;
         clocks = ap (λ b. cond b [] (clock_lines (Some clock) v)) apart ∙ p.plain.clocks;
       }
 
-  quiet_next : (k line : ℕ) → IsQuiet known roles (assigning (placed_target line (scalar w.next)) line (name (state_text w k) line))
+  quiet_next : (k line : ℕ) → IsQuiet known roles (assigning (placed_target line (scalar w.next)) (bare_at line) (name (state_text w k) line))
   quiet_next k line =
       let t = placed_target line (scalar w.next) in
       let v = name (state_text w k) line in
       let is = itself w.next in
       record {
-        uses = (can.next, subst (λ b. AreUsed known (value_uses b v)) (sym is) tt);
+        uses = (can.next, subst (λ b. AreUsed known (value_uses b (bare_at line) v)) (sym is) tt);
         widths = ap (λ b. wide_enough b (width known v) (target_width known t) line ++ []) is;
-        forms = ap (λ b. cond b (next_forms line v) (if_not (may_assign (find known w.next)) line ++ expression_forms known v)) is;
+        forms = ap (λ b. cond b (next_forms (bare_at line) v) (if_not (may_assign (find known w.next)) line ++ expression_forms known v)) is;
         clocks = ap (λ b. cond b [] (clock_lines (Some clock) v)) is;
       }
 
@@ -216,11 +216,11 @@ module _ (known : List Symbol) (clock : List ℕ) (w : Words) (f : Fsm) (can : C
     quiet_body seen line s.finish of free few = quiet_none known roles
     quiet_body seen line (s.assign (s.output x e) rest) of free few =
         let l = line_behind line in
-        quiet_first known roles (assigning (placed_target line x) line (tree w.vars line e)) (in_body (seen || false) (placed_body w l rest)) (quiet_output x e of.0 free.0 line)
+        quiet_first known roles (assigning (placed_target line x) (kept_at w line e) (tree w.vars line e)) (in_body (seen || false) (placed_body w l rest)) (quiet_output x e of.0 free.0 line)
         (quiet_body (seen || false) l rest of.1 free.1 (let x = one_of_two seen false in omega (arith, x, few)))
     quiet_body seen line (s.assign (s.next k) rest) of free few =
         let l = line_behind line in
-        quiet_first known roles (assigning (placed_target line (scalar w.next)) line (name (state_text w k) line)) (in_body (seen || false) (placed_body w l rest)) (quiet_next k line)
+        quiet_first known roles (assigning (placed_target line (scalar w.next)) (bare_at line) (name (state_text w k) line)) (in_body (seen || false) (placed_body w l rest)) (quiet_next k line)
         (quiet_body (seen || false) l rest of.1 free.1 (let x = one_of_two seen false in omega (arith, x, few)))
     quiet_body seen line (s.choose ps rest) of free few =
         let l = line_of line (if_layout w ps) in

@@ -34,7 +34,7 @@ use Rattle.fsm_write.specs.declared.words.Words.{Words}
 use Rattle.fsm_write.specs.Layout.{state_text, if_layout, case_layout}
 use Rattle.fsm_write.specs.Pieces.{IsKnownBody, AreKnownParts, AreKnownBranches}
 use Rattle.fsm_write.specs.Written.{texts_of}
-use Rattle.fsm_again.specs.Placed.{named_at, behind_body, placed_body, placed_parts, placed_branches}
+use Rattle.fsm_again.specs.Placed.{named_at, kept_at, bare_at, behind_body, placed_body, placed_parts, placed_branches}
 use Rattle.fsm_round.proofs.Known.{contains_in}
 use Rattle.fsm_round.proofs.Body.{itself, other, CanReadBody, state_again}
 
@@ -191,14 +191,14 @@ module _ (known : List Symbol) (clock : List ℕ) (w : Words) (f : Fsm) (can : C
     leads_body seen line (s.assign (s.output x e) rest) of is sound lists few before begins =
         let l = line_behind line in
         let v = tree w.vars line e in
-        leads_first w (cases_in rest) before (assigning (placed_target line x) line v) (in_body (seen || false) (placed_body w l rest))
+        leads_first w (cases_in rest) before (assigning (placed_target line x) (kept_at w line e) v) (in_body (seen || false) (placed_body w l rest))
         (ap (λ b. cond b (bad_value (texts_of w.states) v) []) (can.others x (contains_in (fsm_outputs f) x of.0.0))) refl
         (leads_body (seen || false) l rest of.1 is.1 sound.1 lists few before begins)
     leads_body seen line (s.assign (s.next k) rest) of is sound lists few before begins =
         let l = line_behind line in
         let v = name (state_text w k) line in
         let u : Use = record { text = state_text w k; line = line } in
-        leads_first w (cases_in rest) before (assigning (placed_target line (scalar w.next)) line v) (in_body (seen || false) (placed_body w l rest))
+        leads_first w (cases_in rest) before (assigning (placed_target line (scalar w.next)) (bare_at line) v) (in_body (seen || false) (placed_body w l rest))
         (ap (λ b. cond b (bad_value (texts_of w.states) v) []) (itself w.next) ∙ ap (λ b. cond b [] (u ∷ [])) (is_state k is.0)) refl
         (leads_body (seen || false) l rest of.1 is.1 sound.1 lists few before begins)
     leads_body seen line (s.choose ps rest) of is sound lists few before begins =

@@ -25,6 +25,7 @@ use Rattle.vbe_text.proofs.VbeLanguage.{exact_target}
 use Rattle.fsm_text.specs.Written.{StatementTree, asserted, assigned, chosen, BodyTree, PartTree, BranchTree, parts_of, body_of}
 use Rattle.fsm_text.specs.Fsm.{used_name, next_name, sensitivity, assertion, assignment, part, further_part, last_part, behind_if, next_state, listed_states, listed_branch}
 use Rattle.fsm_text.specs.FsmReading.{used_name_at, next_name_at, listed_names_at, sensitivity_at, assertion_at, assignment_at, part_at, further_part_at, led_last_at, last_part_at, behind_if_at, next_state_at, listed_states_at, listed_branch_at}
+use Rattle.fsm_text.proofs.Headed.{exact_headed}
 
 abbrev paren : Form
 paren = form.Sign sign.LeftParen
@@ -99,7 +100,7 @@ exact_condition room = exact_placed (exact_expression room)
 
 pub exact_assignment : {P : Type 0} (room : ℕ) → Exact P (assignment room) (assignment room) false (numbers (form.Identifier ∷ [])) [] (assignment_at room)
 unfolding assignment assignment_at
-exact_assignment room = exact_then (under (λ _. tt) (exact_target room)) (λ x. exact_then (exact_one (form.Sign sign.Assign)) (λ t. exact_then (exact_condition room)
+exact_assignment room = exact_then (under (λ _. tt) (exact_target room)) (λ x. exact_then (exact_one (form.Sign sign.Assign)) (λ t. exact_then (exact_headed (exact_expression room))
     (λ e. exact_then (exact_marked semicolon (λ _. starts)) (λ u. exact_nothing (assigned x e.0 e.1)) refl) refl) refl) refl
 
 -- ---- ifs

@@ -1,3 +1,4 @@
+pub mod Headed
 pub mod FsmLanguage
 pub mod Whens
 pub mod Nested

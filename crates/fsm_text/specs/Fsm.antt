@@ -1,21 +1,22 @@
 -- The grammar of state machines. Here and below, `room` is how many parentheses, ifs and cases more may be open. The
 -- operators of each expression are counted from 0: the token behind it begins the count anew.
-use Rattle.std.specs.Prelude.{ℕ, zero, suc, ◌-◌, List, [], ◌∷◌, Option, None, Some}
+use Rattle.std.specs.Prelude.{◌≡◌, ℕ, zero, suc, ◌-◌, List, [], ◌∷◌, Option, None, Some}
 use Rattle.vlsi_base.specs.declared.entity.Entity.{Entity}
 use Rattle.vlsi_base.specs.declared.entity.NewName.{NewName}
 use Rattle.vhdl_token.specs.declared.keyword.Keyword.TheVariants as word
 use Rattle.vhdl_token.specs.declared.token.Sign.TheVariants as sign
 use Rattle.grammar_theory.specs.declared.form.Form.TheVariants as form
 use Rattle.grammar_theory.specs.declared.limits.TheConstants.{DEPTH}
-use Rattle.grammar_theory.specs.Marks.{starts, opens, spells}
+use Rattle.grammar_theory.specs.Marks.{starts, opens, spells, Item}
 use Rattle.grammar_theory.specs.Grammar.{Grammar, none, nothing, one, marked, ◌or◌, ◌>>=◌, list, placed, at_some}
 use Rattle.vhdl_front.specs.Cursor.{name_of}
 use Rattle.vhdl_front.specs.Expression.{closing, expression, less}
 use Rattle.vhdl_front.specs.Entity.{new_name, identifier, declared, another, entity}
 use Rattle.vbe_text.specs.Vbe.{target, report, severity, repeated, architecture_head}
+use Rattle.fsm_text.specs.declared.file.FirstToken.{FirstToken}
 use Rattle.fsm_text.specs.declared.file.StateType.{StateType}
 use Rattle.fsm_text.specs.declared.file.StateSignals.{StateSignals}
-use Rattle.fsm_text.specs.Written.{StatementTree, asserted, assigned, chosen, selected, BodyTree, BranchesTree, PartTree, BranchTree, StepTree, ClockTree, MachineTree, body_of, parts_of, branches_of}
+use Rattle.fsm_text.specs.Written.{kept_of, StatementTree, asserted, assigned, chosen, selected, BodyTree, BranchesTree, PartTree, BranchTree, StepTree, ClockTree, MachineTree, body_of, parts_of, branches_of}
 
 -- ---- names
 
@@ -38,6 +39,11 @@ sensitivity room = (do
   more ← list next_name
   closing (first ∷ more)) or nothing []
 
+-- a sentence of at least one token, with what is kept of the first
+abbrev pub headed : {A : Type 0} → Grammar A → Grammar (FirstToken × A)
+headed L [] v = ⊥
+headed L (t ∷ items) v = L (t ∷ items) v.1 × (v.0 ≡ kept_of t.token)
+
 -- ---- statements; what may stand in an if or a case is a parameter
 
 unfoldable pub assertion : ℕ → Grammar StatementTree
@@ -53,7 +59,7 @@ unfoldable pub assignment : ℕ → Grammar StatementTree
 assignment room = do
   x ← target room
   t ← one (form.Sign sign.Assign)
-  e ← placed (expression room)
+  e ← headed (expression room)
   u ← marked (form.Sign sign.Semicolon) (λ _. starts)
   nothing (assigned x e.0 e.1)
 

@@ -15,9 +15,10 @@ use Rattle.vhdl_front.specs.Entity.{new_name}
 use Rattle.vhdl_front.specs.Reading.{closing_at, expression_at}
 use Rattle.vhdl_front.specs.EntityReading.{identifier_at, declared_at, another_at, entity_at}
 use Rattle.vbe_text.specs.VbeReading.{target_at, report_at, severity_at, stop_at, repeated_at, architecture_head_at}
+use Rattle.fsm_text.specs.declared.file.FirstToken.{FirstToken}
 use Rattle.fsm_text.specs.declared.file.StateType.{StateType}
 use Rattle.fsm_text.specs.declared.file.StateSignals.{StateSignals}
-use Rattle.fsm_text.specs.Written.{StatementTree, asserted, assigned, chosen, selected, BodyTree, BranchesTree, closed, others, listed, PartTree, BranchTree, StepTree, ClockTree, MachineTree, body_of, parts_of}
+use Rattle.fsm_text.specs.Written.{kept_of, StatementTree, asserted, assigned, chosen, selected, BodyTree, BranchesTree, closed, others, listed, PartTree, BranchTree, StepTree, ClockTree, MachineTree, body_of, parts_of}
 
 -- ---- names
 
@@ -41,6 +42,17 @@ listed_names_at room here = do
 unfoldable pub sensitivity_at : ℕ → Reader (List NewName)
 sensitivity_at room here = if is_at (form.Sign sign.LeftParen) here.rest then listed_names_at room here else Ok ([], here)
 
+-- what is kept of the next token; where there is none, its line is 0
+abbrev pub kept_here : List PlacedToken → FirstToken
+kept_here [] = record { line = 0; is_name = false }
+kept_here (t ∷ ts) = kept_of t
+
+-- what is read, with what is kept of its first token
+unfoldable pub headed_at : {A : Type 0} → Reader A → Reader (FirstToken × A)
+headed_at read here = do
+  v ← read here
+  Ok ((kept_here here.rest, v.0), v.1)
+
 -- ---- statements
 
 unfoldable pub assertion_at : ℕ → Reader StatementTree
@@ -56,7 +68,7 @@ unfoldable pub assignment_at : ℕ → Reader StatementTree
 assignment_at room here = do
   x ← target_at room here
   t ← take_at (form.Sign sign.Assign) x.1
-  e ← placed_at (expression_at room) t.1
+  e ← headed_at (expression_at room) t.1
   u ← take_marked (form.Sign sign.Semicolon) (λ _. starts) e.1
   Ok (assigned x.0 e.0.0 e.0.1, u.1)
 

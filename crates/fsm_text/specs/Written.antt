@@ -3,7 +3,11 @@ use Rattle.std.specs.Prelude.{ℕ, List, [], ◌∷◌, Option, None, Some}
 use Rattle.vlsi_base.specs.Tree.{Tree, view}
 use Rattle.vlsi_base.specs.declared.entity.Entity.{Entity}
 use Rattle.vlsi_base.specs.declared.entity.NewName.{NewName}
+use Rattle.vhdl_token.specs.declared.token.PlacedToken.{PlacedToken}
+use Rattle.grammar_theory.specs.declared.form.Form.TheVariants as form
+use Rattle.grammar_theory.specs.Tokens.{is_of}
 use Rattle.source_meaning.specs.declared.statement.Target.{Target}
+use Rattle.fsm_text.specs.declared.file.FirstToken.{FirstToken}
 use Rattle.fsm_text.specs.declared.file.Statement.{Statement, Assert, Assign, If', Case'}
 use Rattle.fsm_text.specs.declared.file.Body.{Body, Finish, Next'}
 use Rattle.fsm_text.specs.declared.file.Parts.{Parts, Only', Either', Further'}
@@ -14,11 +18,15 @@ use Rattle.fsm_text.specs.declared.file.StepProcess.{StepProcess}
 use Rattle.fsm_text.specs.declared.file.ClockProcess.{ClockProcess}
 use Rattle.fsm_text.specs.declared.file.StateFile.{StateFile}
 
+-- what is kept of the first token of what is assigned
+abbrev pub kept_of : PlacedToken → FirstToken
+kept_of t = record { line = t.line; is_name = is_of form.Identifier t }
+
 -- lines, names and targets as in Statement, Body, Parts and Branches
 mutual
   pub data StatementTree : Type 0 where
     asserted : Tree → StatementTree
-    assigned : Target → ℕ → Tree → StatementTree
+    assigned : Target → FirstToken → Tree → StatementTree
     chosen : PartsTree → StatementTree
     selected : ℕ → NewName → BranchesTree → StatementTree
 
@@ -99,7 +107,7 @@ branches_of all last = branched all (last_branch last)
 abbrev mutual
   pub statement_view : Statement → StatementTree
   statement_view (Assert e) = asserted (view e)
-  statement_view (Assign target line e) = assigned target line (view e)
+  statement_view (Assign target first e) = assigned target first (view e)
   statement_view (If' p parts) = chosen (parts_view parts)
   statement_view (Case' line name p branches) = selected line name (branches_view branches)
 

@@ -3,14 +3,21 @@
 use source_meaning::Target;
 use vlsi_base::{Entity, NewName, NewNames, ParsedExpr};
 
+/// The first token of what is assigned: its line, and whether it is a name, and so no parenthesis.
+#[derive(Clone, Copy)]
+pub struct FirstToken {
+    pub line: u32,
+    pub is_name: bool,
+}
+
 /// A statement of the process that takes a step.
 #[derive(Drop)]
 #[cycle(body)]
 pub enum Statement {
     /// An assertion, which has no effect.
     Assert(ParsedExpr),
-    /// A target, the line of the first token of what is assigned to it, and that.
-    Assign(Target, u32, ParsedExpr),
+    /// A target, the first token of what is assigned to it, and that.
+    Assign(Target, FirstToken, ParsedExpr),
     /// The parts of an if.
     If(Box<Parts>),
     /// The line of `case`, the name behind it, and the branches.

@@ -13,7 +13,8 @@ mod statements;
 
 pub use counting::named_by;
 pub use file::{
-    Body, Branches, ClockProcess, Parts, StateFile, StateSignals, StateType, Statement, StepProcess,
+    Body, Branches, ClockProcess, FirstToken, Parts, StateFile, StateSignals, StateType, Statement,
+    StepProcess,
 };
 pub use law::{each_text, never_both, one_refusal, reads_once};
 pub use machine::read_machine;

@@ -1,12 +1,13 @@
 // Reading names that are used, words behind which something is open, and expressions with their lines.
 ghost use Rattle.std.specs.Prelude.{◌≡◌, ◌<◌, ◌∷◌, [], IfOk};
-ghost use Rattle.vlsi_base.specs.Tree.{operand_of};
+ghost use Rattle.vlsi_base.specs.Tree.{operand_of, view};
 ghost use Rattle.grammar_theory.specs.Tokens.{code};
 ghost use Rattle.grammar_theory.specs.Marks.{opens};
 ghost use Rattle.grammar_theory.specs.Outcome.{Gives, line_here, list_at, placed_at, take_marked, with_front};
 ghost use Rattle.vhdl_front.specs.Reading.{expression_at};
-ghost use Rattle.fsm_text.specs.FsmReading.{used_name_at, next_name_at, listed_names_at, sensitivity_at, next_state_at, listed_states_at};
+ghost use Rattle.fsm_text.specs.FsmReading.{used_name_at, next_name_at, listed_names_at, sensitivity_at, next_state_at, listed_states_at, kept_here, headed_at};
 
+use crate::file::FirstToken;
 use grammar_theory::{Breach, Form, Reason, Stop};
 use vhdl_front::{Cursor, name_bytes};
 use vhdl_token::{Keyword, PlacedToken, Sign};
@@ -133,4 +134,30 @@ pub fn placed_expression(cursor: &mut Cursor, room: u32) -> Result<(u32, ParsedE
     let line = next_line(cursor);
     let parsed = cursor.expression(room)?;
     Ok((line, parsed))
+}
+
+/// What is kept of the next token; at the end its line is 0.
+fn next_token(cursor: &Cursor) -> FirstToken
+    ensures { result ≡ kept_here cursor.now.rest }
+{
+    match cursor.rest().first() {
+        Some(token) => FirstToken {
+            line: token.line,
+            is_name: Form::Identifier.fits(token),
+        },
+        None => FirstToken {
+            line: 0,
+            is_name: false,
+        },
+    }
+}
+
+/// An expression, with what is kept of its first token.
+#[tactic(auto, unfolding(crate::specs::FsmReading::headed_at))]
+pub fn headed_expression(cursor: &mut Cursor, room: u32) -> Result<(FirstToken, ParsedExpr), Stop>
+    ensures { Gives (λ p. (p.0, view p.1)) result cursor.new (headed_at (expression_at room) cursor.old) }
+{
+    let first = next_token(cursor);
+    let parsed = cursor.expression(room)?;
+    Ok((first, parsed))
 }

@@ -9,7 +9,7 @@ ghost use Rattle.fsm_text.specs.FsmReading.{assertion_at, assignment_at, part_at
 ghost use Rattle.fsm_text.specs.Pieces.{goes_on, led_branch_at, listed_list_at, others_at, part_view, branch_view};
 
 use crate::file::{Body, Branches, Statement};
-use crate::names::{enter, listed_states, placed_expression, used_name};
+use crate::names::{enter, headed_expression, listed_states, placed_expression, used_name};
 use crate::pieces::{Branch, Part, linked_body, linked_branches, linked_parts};
 use grammar_theory::{Form, Stop};
 use vbe_text::target;
@@ -62,9 +62,9 @@ fn assignment(cursor: &mut Cursor, room: u32) -> Result<Statement, Stop>
 {
     let target = target(cursor, room)?;
     let _sign = cursor.take(Form::Sign(Sign::Assign))?;
-    let (line, parsed) = placed_expression(cursor, room)?;
+    let (first, parsed) = headed_expression(cursor, room)?;
     let _semicolon = cursor.take_starting(Form::Sign(Sign::Semicolon))?;
-    Ok(Statement::Assign(target, line, parsed))
+    Ok(Statement::Assign(target, first, parsed))
 }
 
 /// What stands in an if or a case, where so many more could be open before it.

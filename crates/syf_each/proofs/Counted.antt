@@ -1,12 +1,7 @@
 -- The statements of a text have at most two signals for each of its tokens, of which there are no more than bytes.
-use Rattle.std.proofs.Common.{◌≡◌, ℕ, zero, suc, ◌+◌, ◌-◌, ◌*◌, ◌≤◌, Bool, false, List, [], ◌∷◌, drop, length, Option, None, Some, inl, inr, refl, sym, ap, subst, arith, length-append}
+use Rattle.std.proofs.Common.{◌≡◌, ℕ, zero, suc, ◌+◌, ◌-◌, ◌*◌, ◌≤◌, List, [], ◌∷◌, length, Option, None, Some, inl, inr, sym, ap, subst, arith, length-append}
 use Rattle.vlsi_base.specs.declared.entity.Entity.{Entity}
 use Rattle.vhdl_token.specs.declared.token.PlacedToken.{PlacedToken}
-use Rattle.lexer_base.specs.declared.piece.Piece.{Piece}
-use Rattle.lexer_base.specs.declared.piece.Piece.TheVariants as piece
-use Rattle.lexer_base.specs.Lexical.{length_of}
-use Rattle.lexer_base.specs.Listing.{pieces_within, pieces_from, tokens_of as tokens_at, tokens_from, line_after}
-use Rattle.vhdl_lexer.specs.Listing.{cut, behind, pieces, tokens_in}
 use Rattle.grammar_theory.specs.declared.form.Form.{Form}
 use Rattle.grammar_theory.specs.declared.limits.TheConstants.{DEPTH}
 use Rattle.grammar_theory.specs.Marks.{Mark, Item}
@@ -16,6 +11,7 @@ use Rattle.vhdl_front.specs.Expression.{less as less_room}
 use Rattle.fsm_text.specs.Written.{StatementTree, chosen, selected, asserted, assigned, BodyTree, PartTree, BranchTree, BranchesTree, body_of, parts_of, branches_of, StepTree, ClockTree, MachineTree}
 use Rattle.fsm_text.specs.Fsm.{part, further_part, last_part, behind_if, conditional, listed_branch, led_branch, others_branch, last_branch, branches, behind_case, case_statement, assertion, assignment, statement, body_over, nested, body, step_process, processes, architecture, machine}
 use Rattle.fsm_io.specs.Text.{IsWritten}
+use Rattle.fsm_io.proofs.Few.{tokens_few, length_tokens}
 use Rattle.syf_each.proofs.Signals.{in_body, in_statement, in_branches, total, in_further, in_listed, in_last, in_all, in_if, in_case}
 
 -- ---- grammars
@@ -215,42 +211,7 @@ machine_adds : (room : ℕ) → Adds (machine room) (λ m. in_body m.step.body)
 unfolding machine
 machine_adds room k = weighs_behind (λ e. architecture_adds room e k)
 
--- ---- tokens and bytes
-
-few_pieces : (n : ℕ) (state : Bool) (text : List ℕ) → length (pieces_within cut behind n state text) ≤ n
-unfolding pieces_within
-few_pieces zero state text = omega arith
-few_pieces (suc n) state [] = omega arith
-few_pieces (suc n) state (b ∷ bs) =
-    let first = cut state (b ∷ bs) in
-    let rest = few_pieces n (behind first state) (drop (length_of first - 1) bs) in
-    omega (arith, rest)
-
-one_token : (line : ℕ) (p : Piece) → length (tokens_at line p) ≤ 1
-one_token line piece.Blank = omega arith
-one_token line piece.NewLine = omega arith
-one_token line (piece.Comment n) = omega arith
-one_token line (piece.Pragma key name n) = omega arith
-one_token line (piece.Token t n) = omega arith
-one_token line (piece.TooLong n) = omega arith
-one_token line (piece.TooGreat n) = omega arith
-one_token line piece.Bad = omega arith
-
-few_tokens : (line : ℕ) (ps : List Piece) → length (tokens_from line ps) ≤ length ps
-few_tokens line [] = omega arith
-few_tokens line (p ∷ ps) =
-    let one = one_token line p in
-    let rest = few_tokens (line_after line p) ps in
-    let both = length-append (tokens_at line p) (tokens_from (line_after line p) ps) in
-    omega (arith, one, rest, both)
-
-tokens_few : (bytes : List ℕ) → length (tokens_in bytes).items ≤ length bytes
-unfolding tokens_in pieces_from
-tokens_few bytes = let a = few_tokens 1 (pieces bytes) in let b = few_pieces (length bytes) false bytes in omega (arith, a, b)
-
-length_tokens : (items : List Item) → length (tokens_of items) ≡ length items
-length_tokens [] = refl
-length_tokens (i ∷ items) = ap suc (length_tokens items)
+-- ---- bytes
 
 -- the statements of a text have at most two signals for each byte
 pub few_signals : (bytes : List ℕ) (m : MachineTree) → IsWritten bytes m → in_body m.step.body ≤ 2 * length bytes

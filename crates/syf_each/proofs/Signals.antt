@@ -7,6 +7,7 @@ use Rattle.source_meaning.specs.Formula.{Formula, formulas}
 use Rattle.source_meaning.specs.Drivers.{target_names}
 use Rattle.fsm_meaning.specs.Statements as s
 use Rattle.fsm_machine.specs.Signals.{signals, part_signals, branch_signals}
+use Rattle.fsm_text.specs.declared.file.FirstToken.{FirstToken}
 use Rattle.fsm_text.specs.Written.{StatementTree, asserted, assigned, chosen, selected, BodyTree, finish, next, PartsTree, only, either, further, BranchesTree, closed, others, listed, PartTree, BranchTree, body_of, parts_of, branched, branches_of}
 use Rattle.fsm_io.specs.Elaboration.{Frame, next_number, assign_bits, body_bits, statement_bits, parts_bits, branches_bits}
 
@@ -37,8 +38,8 @@ of_assigned vars [] values rest = refl
 of_assigned vars (n ∷ names) [] rest = refl
 of_assigned vars (n ∷ names) (v ∷ values) rest = of_assigned vars names values rest
 
-of_assignment : (f : Frame) (t : Target) (line : ℕ) (e : Tree) (rest : s.Statements) → signals (statement_bits f (assigned t line e) rest) ≡ signals rest
-of_assignment f t line e rest = by (bytes_eq t.name f.next) where
+of_assignment : (f : Frame) (t : Target) (first : FirstToken) (e : Tree) (rest : s.Statements) → signals (statement_bits f (assigned t first e) rest) ≡ signals rest
+of_assignment f t first e rest = by (bytes_eq t.name f.next) where
   by : (b : Bool) → signals (if b then s.assign (s.next (next_number f.states e)) rest else assign_bits f.vars (target_names f.known t) (formulas f.known e) rest) ≡ signals rest
   by true = refl
   by false = of_assigned f.vars (target_names f.known t) (formulas f.known e) rest

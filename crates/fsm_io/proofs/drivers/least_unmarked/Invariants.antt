@@ -1,13 +1,11 @@
-use Rattle.std.proofs.Common.{◌≡◌, drop}
-use Rattle.std.specs.Prelude.{filter, not}
+use Rattle.std.proofs.Common.{◌≡◌, ℕ, map, drop}
+use Rattle.std.specs.Prelude.{filter, not, option_map}
 use Rattle.source_meaning.specs.Codes.{least_code, name_at}
-use Rattle.source_meaning.specs.Symbols.{all_names}
-use Rattle.source_meaning.specs.Formula.{place}
 use Rattle.source_meaning.proofs.Least.{together}
-use Rattle.fsm_io.specs.Pieces.{is_marked}
+use Rattle.fsm_io.specs.Pieces.{is_marked_bit, bit_code}
 use Rattle.fsm_io.proofs.drivers.least_unmarked.Given as goal
 
-abbrev pub invariant-loop-code : goal.invariant-loop-code
-invariant-loop-code l =
-    together l.least (least_code (filter (λ c. not (is_marked l.marks (place (all_names l.numbers) (name_at l.symbol.text c)))) (drop l.code-index l.codes)))
-    ≡ least_code (filter (λ c. not (is_marked l.marks (place (all_names l.numbers) (name_at l.symbol.text c)))) l.codes)
+abbrev pub invariant-loop-bit : goal.invariant-loop-bit
+invariant-loop-bit l =
+    together (option_map bit_code l.least) (least_code (filter (λ (c : ℕ). not (is_marked_bit l.numbers l.marks (name_at l.symbol.text c))) (map bit_code (drop l.bit-index l.bits))))
+    ≡ least_code (filter (λ (c : ℕ). not (is_marked_bit l.numbers l.marks (name_at l.symbol.text c))) (map bit_code l.bits))

@@ -3,6 +3,7 @@ use Rattle.vlsi_base.specs.declared.name.Name.{Name}
 use Rattle.source_meaning.specs.Symbols.{all_names}
 use Rattle.vlsi_model.specs.Numbered.{HasVars}
 use Rattle.fsm_io.proofs.Suiting.{suits_different, vars_declared, vars_differ, frame_ok, fits_ok}
+use Rattle.fsm_io.proofs.StateNames.{few_table}
 use Rattle.fsm_io.proofs.check.Checking.body.Goals as goal
 
 pub var_numbers-requires-clause-texts : goal.var_numbers-requires-clause-texts
@@ -20,7 +21,7 @@ body-requires-clause-frame c =
     frame_ok c.args.self.now _ c.args.ports.now c.requires.suits refl (c.deref-2.ensures.value ∙ c.in_ok-vars.ensures)
     (subst (λ (ns : List Name). HasVars all ns c.deref-3.result.now) (c.deref.ensures.value ∙ sym c.deref-2.ensures.value)
     (subst (λ (ps : List ℕ). HasVars all c.deref.result.now ps) (sym c.deref-3.ensures.value) c.in_ok-places.ensures))
-    c.requires.moved
+    c.requires.moved (few_table c.in_ok-states.states c.as_slice.result.now c.args.self.now.file.now.states.states c.in_ok-states.ensures c.as_slice.ensures c.requires.suits.few)
 
 pub body-requires-clause-fits : goal.body-requires-clause-fits
 body-requires-clause-fits c = fits_ok c.args.self.now _ c.args.ports.now c.requires.suits c.requires.sound refl (c.deref-2.ensures.value ∙ c.in_ok-vars.ensures) refl c.requires.moved
