@@ -1,11 +1,10 @@
 -- A netlist that is read has a port: an entity declares some, in a range that holds a bit, and they go in or out.
-use Rattle.std.proofs.Common.{◌≡◌, ℕ, suc, ◌-◌, ◌+◌, ◌<◌, ◌≤◌, Bool, true, false, cond, not, leb, List, [], ◌∷◌, ◌++◌, map, length, Option, None, Some, refl, sym, subst, arith, ◌∙◌, ap}
+use Rattle.std.proofs.Common.{◌≡◌, ℕ, ◌-◌, ◌<◌, ◌≤◌, Bool, true, false, cond, not, leb, List, [], ◌∷◌, ◌++◌, map, length, Option, None, Some, refl, subst, arith}
 use Rattle.std.specs.Prelude.{◌&&◌, ◌||◌}
 use Rattle.std.specs.List.{flat_map}
 use Rattle.std.proofs.lemmas.Bool.Decides.{nat_tests}
 use Rattle.std.proofs.lemmas.List.Sorted.{IsPermutation-sym}
 use Rattle.vlsi_base.specs.declared.name.Name.{Name}
-use Rattle.vlsi_base.specs.declared.name.Port.{Port}
 use Rattle.vlsi_base.specs.declared.range.Range.{Range}
 use Rattle.vlsi_base.specs.declared.entity.Entity.{Entity}
 use Rattle.vlsi_base.specs.declared.entity.NewName.{NewName}
@@ -16,7 +15,6 @@ use Rattle.vlsi_base.specs.Range.{is_ordered, range_bits}
 use Rattle.vlsi_base.specs.Member.{In, here}
 use Rattle.vhdl_token.specs.declared.keyword.Keyword.{Keyword}
 use Rattle.vhdl_token.specs.declared.keyword.Keyword.TheVariants as word
-use Rattle.grammar_theory.specs.Grammar.{Grammar}
 use Rattle.grammar_theory.specs.declared.limits.TheConstants.{DEPTH}
 use Rattle.vhdl_front.specs.Entity.{Names, led_names, own_names, names as new_names, closed, port_behind, port, port_clause, ending, entity}
 use Rattle.machine_core.proofs.Values.{In-left}
@@ -30,9 +28,9 @@ use Rattle.vlsi_model.proofs.Bits.{both_le, has-range}
 use Rattle.net_core.specs.declared.pins.ModelPins.{ModelPins}
 use Rattle.net_core.specs.Netlist.{Netlist}
 use Rattle.vst_text.specs.declared.file.StructuralFile.{StructuralFile}
-use Rattle.vst_text.specs.Vst.{instance_statements, architecture, structure}
+use Rattle.vst_text.specs.Vst.{architecture, structure}
 use Rattle.vst_io.specs.Nets.{signal_groups, nets, bits_of, names, port_bits}
-use Rattle.vst_io.specs.Faults.{port_form, is_in_bit, declaration_widths, all_widths, declaration_forms, all_forms}
+use Rattle.vst_io.specs.Faults.{port_form, is_in_bit, declaration_widths, declaration_forms}
 use Rattle.vst_io.specs.Text.{IsWritten, IsVst}
 use Rattle.vst_io.proofs.First.{faultless}
 use Rattle.vbe_words.proofs.Cut.{AreNamed, named_in}
@@ -167,9 +165,9 @@ no_inout g e =
     let behind = none_right (supply_faults (not true || is_in_bit g) g.names) (if_not (not (is_inout g.mode)) g.mode_line ++ if_not (not (is_resolved g.kind.word)) g.kind.line) e in
     let h = holds_if (not (is_inout g.mode)) g.mode_line (none_left (if_not (not (is_inout g.mode)) g.mode_line) (if_not (not (is_resolved g.kind.word)) g.kind.line) behind) in
     by (is_inout g.mode) h where
-  by : (b : Bool) → not b ≡ true → b ≡ false
-  by true h = absurd cc
-  by false h = refl
+      by : (b : Bool) → not b ≡ true → b ≡ false
+      by true h = absurd cc
+      by false h = refl
 
 first_in : (groups : List PortGroup) (others : List Symbol) → HasGroup groups → port_faults groups ≡ [] → flat_map (port_form true) groups ≡ []
     → First (port_bits (port_symbols groups ++ others))
@@ -184,9 +182,11 @@ first_in (g ∷ groups) others h widths forms = by g.names h where
   by : (ns : List NewName) → HasSome ns → First (port_bits ((symbols_named (role_of_mode g.mode) g.kind.range g.line ns ++ port_symbols groups) ++ others))
   by [] some = absurd some
   by (n ∷ ns) some =
-      let p = first_port g.mode (names n.text (bits_of g.kind.range)) way (first_name n.text (bits_of g.kind.range) bits) in
-      (p.0, In-left p.0 (ports_of_role (role_of_mode g.mode) (names n.text (bits_of g.kind.range)))
-      (port_bits ((symbols_named (role_of_mode g.mode) g.kind.range g.line ns ++ port_symbols groups) ++ others)) p.1)
+      let p = first_port g.mode (names n.text (bits_of g.kind.range)) way (first_name n.text (bits_of g.kind.range) bits) in (
+        p.0,
+        In-left p.0 (ports_of_role (role_of_mode g.mode) (names n.text (bits_of g.kind.range)))
+            (port_bits ((symbols_named (role_of_mode g.mode) g.kind.range g.line ns ++ port_symbols groups) ++ others)) p.1,
+      )
 
 some_of : {A : Type 0} (xs : List A) (x : A) → In x xs → 0 < length xs
 some_of [] x i = elim i [ ]
@@ -197,6 +197,6 @@ has_port bytes table n is =
     let f = is.file in
     let checked = faultless table f is.no_fault in
     let p = first_in f.entity.ports (signal_symbols (signal_groups f.declarations)) (file_declares bytes f is.written)
-        (none_left (port_faults f.entity.ports) (flat_map declaration_widths f.declarations) checked.declared.widths)
-        (none_left (flat_map (port_form true) f.entity.ports) (flat_map declaration_forms f.declarations) checked.declared.forms) in
+    (none_left (port_faults f.entity.ports) (flat_map declaration_widths f.declarations) checked.declared.widths)
+    (none_left (flat_map (port_form true) f.entity.ports) (flat_map declaration_forms f.declarations) checked.declared.forms) in
     some_of n.ports p.0 (In-permutation (port_bits (nets f)) n.ports p.0 (IsPermutation-sym n.ports (port_bits (nets f)) is.netlist.ports) p.1)

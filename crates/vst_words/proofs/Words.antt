@@ -1,9 +1,8 @@
 -- The names of a structural text are words, and its ports but the supplies can be declared.
-use Rattle.std.proofs.Common.{◌≡◌, inl, inr, ℕ, ◌≤◌, ◌<◌, length, bytes_eq, ◌||◌, Bool, true, false, not, List, [], ◌∷◌, map, Option, None, Some, refl, sym, ap, ap₂, ◌∙◌, subst, arith}
+use Rattle.std.proofs.Common.{◌≡◌, inl, inr, ℕ, ◌≤◌, bytes_eq, ◌||◌, Bool, true, false, not, List, [], ◌∷◌, map, Option, None, Some, refl, sym, ap, ap₂, ◌∙◌, subst}
 use Rattle.std.specs.Prelude.{codes}
 use Rattle.std.specs.List.{All}
 use Rattle.std.proofs.lemmas.List.{map-append}
-use Rattle.std.proofs.lemmas.List.Elements.{All-nil}
 use Rattle.std.proofs.lemmas.List.Sorted.{IsPermutation-sym}
 use Rattle.vlsi_base.specs.declared.name.Name.{Name}
 use Rattle.vlsi_base.specs.declared.name.Port.{Port}
@@ -22,7 +21,6 @@ use Rattle.vlsi_base.specs.Member.{In, here, there, AllDifferent}
 use Rattle.grammar_theory.specs.Marks.{enters}
 use Rattle.grammar_theory.specs.declared.limits.TheConstants.{DEPTH}
 use Rattle.vhdl_front.specs.Cursor.{name_of}
-use Rattle.machine_meaning.specs.Machine.{names_of}
 use Rattle.machine_core.proofs.Values.{In-split, In-left, In-right, In-map}
 use Rattle.source_meaning.specs.declared.symbol_table.Role.{Role}
 use Rattle.source_meaning.specs.declared.symbol_table.Role.TheVariants as role
@@ -43,10 +41,9 @@ use Rattle.vst_io.specs.Nets.{signal_groups, nets, bits_of, names, port_bits, in
 use Rattle.vst_io.specs.Text.{IsWritten, IsNetlistOf, signal_ports}
 use Rattle.vst_io.proofs.First.{faultless}
 use Rattle.net_core.specs.declared.pins.ModelPins.{ModelPins}
-use Rattle.net_core.specs.Netlist.{Instance, Netlist, AreInOrder as StandInOrder}
-use Rattle.cell_pins.proofs.Ports.{sorted_of, sorted_filter, sorted_pairs}
+use Rattle.net_core.specs.Netlist.{Instance, Netlist}
 use Rattle.net_view.specs.Condition.{MeetsCondition}
-use Rattle.net_view.specs.Writable.{CanBeAnInstance, CanBeNamed}
+use Rattle.net_view.specs.Writable.{CanBeAnInstance}
 use Rattle.net_view.proofs.Lists.{in_place}
 use Rattle.net_core.proofs.Lookups.{same_of}
 use Rattle.cell_model.proofs.Members.{All-In}
@@ -160,7 +157,7 @@ no_signal (g ∷ groups) s d i e = elim (In-split s (symbols_named (role_of_word
     | inr k ↦ inner r none range line ns k
   ]
 
-abbrev is_signal : Port → Bool
+abbrev pub is_signal : Port → Bool
 is_signal p = not (is_supply p.name.text)
 
 to_false : (b : Bool) → not b ≡ true → b ≡ false
