@@ -1,5 +1,5 @@
 -- The names of a structural text are words, and its ports but the supplies can be declared.
-use Rattle.std.proofs.Common.{List, [], ◌∷◌, absurd, arith}
+use Rattle.std.proofs.Common.{List, [], ◌∷◌, arith}
 use Rattle.std.proofs.lemmas.List.Elements.{All-nil}
 use Rattle.vlsi_base.specs.declared.name.Port.{Port}
 use Rattle.machine_meaning.specs.Machine.{names_of}

@@ -1,2 +1,3 @@
+pub mod HasPort
 pub mod Pins
 pub mod Words

@@ -8,12 +8,11 @@ use Rattle.vlsi_base.specs.Member.{In, here, there}
 use Rattle.port_words.specs.Words.{CanBePorts}
 use Rattle.cell_model.specs.declared.cell.Pin.{Pin}
 use Rattle.cell_model.specs.Cell.{Cell, Function}
-use Rattle.cell_model.specs.Library.{Library}
 use Rattle.cell_model.proofs.Members.{All-from}
 use Rattle.vbe_io.specs.declared.cell_text.GenericValue.{GenericValue}
 use Rattle.cell_function.specs.Timing.{pin_of}
 use Rattle.cell_lib.specs.Cells.{Source, sources, AreCells, none, next}
-use Rattle.cell_lib.specs.Library.{IsCell, IsLibraryOf}
+use Rattle.cell_lib.specs.Library.{IsCell}
 use Rattle.cell_pins.specs.Pins.{all_ports}
 use Rattle.cell_pins.specs.Table.{ArePins, no_pins, one_pin, AreModels, no_models, listed, left_out, IsListed}
 use Rattle.net_core.specs.declared.pins.ModelPin.{ModelPin}

@@ -1,9 +1,8 @@
 -- The names of a structural text are words, and its ports but the supplies can be declared.
-use Rattle.std.proofs.Common.{◌≡◌, inl, inr, ℕ, ◌≤◌, ◌<◌, length, bytes_eq, ◌||◌, Bool, true, false, not, List, [], ◌∷◌, map, Option, None, Some, refl, sym, ap, ◌∙◌, subst, arith}
+use Rattle.std.proofs.Common.{◌≡◌, inl, inr, ℕ, ◌≤◌, bytes_eq, ◌||◌, Bool, true, false, not, List, [], ◌∷◌, map, Option, None, Some, refl, sym, ap, ap₂, ◌∙◌, subst}
 use Rattle.std.specs.Prelude.{codes}
 use Rattle.std.specs.List.{All}
 use Rattle.std.proofs.lemmas.List.{map-append}
-use Rattle.std.proofs.lemmas.List.Elements.{All-nil}
 use Rattle.std.proofs.lemmas.List.Sorted.{IsPermutation-sym}
 use Rattle.vlsi_base.specs.declared.name.Name.{Name}
 use Rattle.vlsi_base.specs.declared.name.Port.{Port}
@@ -22,7 +21,6 @@ use Rattle.vlsi_base.specs.Member.{In, here, there, AllDifferent}
 use Rattle.grammar_theory.specs.Marks.{enters}
 use Rattle.grammar_theory.specs.declared.limits.TheConstants.{DEPTH}
 use Rattle.vhdl_front.specs.Cursor.{name_of}
-use Rattle.machine_meaning.specs.Machine.{names_of}
 use Rattle.machine_core.proofs.Values.{In-split, In-left, In-right, In-map}
 use Rattle.source_meaning.specs.declared.symbol_table.Role.{Role}
 use Rattle.source_meaning.specs.declared.symbol_table.Role.TheVariants as role
@@ -43,15 +41,15 @@ use Rattle.vst_io.specs.Nets.{signal_groups, nets, bits_of, names, port_bits, in
 use Rattle.vst_io.specs.Text.{IsWritten, IsNetlistOf, signal_ports}
 use Rattle.vst_io.proofs.First.{faultless}
 use Rattle.net_core.specs.declared.pins.ModelPins.{ModelPins}
-use Rattle.net_core.specs.Netlist.{Instance, Netlist, AreInOrder as StandInOrder}
-use Rattle.cell_pins.proofs.Ports.{sorted_of, sorted_filter, sorted_pairs}
+use Rattle.net_core.specs.Netlist.{Instance, Netlist}
 use Rattle.net_view.specs.Condition.{MeetsCondition}
-use Rattle.net_view.specs.Writable.{CanBeAnInstance, CanBeNamed}
+use Rattle.net_view.specs.Writable.{CanBeAnInstance}
 use Rattle.net_view.proofs.Lists.{in_place}
 use Rattle.net_core.proofs.Lookups.{same_of}
-use Rattle.cell_model.proofs.Members.{place-In}
+use Rattle.cell_model.proofs.Members.{All-In}
 use Rattle.vst_io.specs.Text.{IsVst}
 use Rattle.vst_words.specs.Laws.{NetlistHasNames, NetlistCanBeNamed}
+use Rattle.vst_words.proofs.HasPort.{has_port}
 use Rattle.vbe_words.specs.Laws.{InOrderCanBeWritten}
 use Rattle.vbe_words.proofs.Cut.{IsShortWord, AreNamed, named_in}
 use Rattle.vbe_words.proofs.Saying.{Every, every_in, words_of, Says, says_then, says_behind, says_nothing, says_list, says_name}
@@ -159,7 +157,7 @@ no_signal (g ∷ groups) s d i e = elim (In-split s (symbols_named (role_of_word
     | inr k ↦ inner r none range line ns k
   ]
 
-abbrev is_signal : Port → Bool
+abbrev pub is_signal : Port → Bool
 is_signal p = not (is_supply p.name.text)
 
 to_false : (b : Bool) → not b ≡ true → b ≡ false
@@ -229,22 +227,27 @@ word_vss : IsIdentifier (codes "vss")
 unfolding keyword_of
 word_vss = (refl, refl)
 
+same_port : (p q : Port) → p.name.text ≡ q.name.text → p.name.bit ≡ q.name.bit → p.dir ≡ q.dir → q ≡ p
+same_port p q text bit way = ap₂ port_of (sym way) (ap₂ (λ (t : List ℕ) (b : Option ℕ). named t b) (sym text) (sym bit)) where
+  named : List ℕ → Option ℕ → Name
+  named t b = record { text = t; bit = b }
+
+no_bit : (a : ℕ) (o : Option ℕ) → o ≡ None → o ≡ Some a → ⊥
+no_bit a o none some = let no : None ≡ Some a = sym none ∙ some in absurd cc
+
+supply_word : (text : List ℕ) → is_supply text ≡ true → IsIdentifier text
+supply_word text is = by (bytes_eq text (codes "vdd")) refl is where
+  by : (b : Bool) → bytes_eq text (codes "vdd") ≡ b → (b || bytes_eq text (codes "vss")) ≡ true → IsIdentifier text
+  by true e h = subst IsIdentifier (sym (same_of text (codes "vdd") e)) word_vdd
+  by false e h = subst IsIdentifier (sym (same_of text (codes "vss") h)) word_vss
+
 module _ (table : List ModelPins) (n : Netlist) (met : MeetsCondition table n) (signals : ArePortsNamed (signal_ports n)) where
   signal : (p : Port) → In p n.ports → is_supply p.name.text ≡ false → In p (signal_ports n)
-  signal p i no = filter-In is_signal n.ports p i (rw no refl)
+  signal p i isnt = filter-In is_signal n.ports p i (ap not isnt)
 
   -- a port with the text of a supply
   supply_of : (p : Port) → In p n.ports → is_supply p.name.text ≡ true → (p.name.bit ≡ None) × (p.dir ≡ dir.In)
-  supply_of p i yes = met.supplies p (in_place p n.ports i) yes
-
-  same_port : (p q : Port) → p.name.text ≡ q.name.text → p.name.bit ≡ q.name.bit → p.dir ≡ q.dir → q ≡ p
-  same_port p q text bit way = cc
-
-  supply_word : (text : List ℕ) → is_supply text ≡ true → IsIdentifier text
-  supply_word text yes = by (bytes_eq text (codes "vdd")) refl yes where
-    by : (b : Bool) → bytes_eq text (codes "vdd") ≡ b → (b || bytes_eq text (codes "vss")) ≡ true → IsIdentifier text
-    by true e h = subst IsIdentifier (sym (same_of text (codes "vdd") e)) word_vdd
-    by false e h = subst IsIdentifier (sym (same_of text (codes "vss") h)) word_vss
+  supply_of p i is = met.supplies p (in_place p n.ports i) is
 
   pub all_named : ArePortsNamed n.ports
   all_named = record {
@@ -254,36 +257,34 @@ module _ (table : List ModelPins) (n : Netlist) (met : MeetsCondition table n) (
     directed = λ p q i j e. by_way p q i j e (is_supply p.name.text) refl;
   } where
     by_word : (p : Port) → In p n.ports → (b : Bool) → is_supply p.name.text ≡ b → IsIdentifier p.name.text
-    by_word p i true yes = supply_word p.name.text yes
-    by_word p i false no = signals.words p (signal p i no)
+    by_word p i true is = supply_word p.name.text is
+    by_word p i false isnt = signals.words p (signal p i isnt)
 
     other : (p q : Port) (b : Bool) → p.name.text ≡ q.name.text → is_supply p.name.text ≡ b → is_supply q.name.text ≡ b
     other p q b e h = ap is_supply (sym e) ∙ h
 
     by_scalar : (p q : Port) → In p n.ports → In q n.ports → p.name.text ≡ q.name.text → p.name.bit ≡ None → (b : Bool) → is_supply p.name.text ≡ b → q ≡ p
-    by_scalar p q i j e none true yes =
-        let x = supply_of p i yes in let y = supply_of q j (other p q true e yes) in same_port p q e (x.0 ∙ sym y.0) (x.1 ∙ sym y.1)
-    by_scalar p q i j e none false no = signals.scalars p q (signal p i no) (signal q j (other p q false e no)) e none
+    by_scalar p q i j e none true is =
+        let x = supply_of p i is in let y = supply_of q j (other p q true e is) in same_port p q e (x.0 ∙ sym y.0) (x.1 ∙ sym y.1)
+    by_scalar p q i j e none false isnt = signals.scalars p q (signal p i isnt) (signal q j (other p q false e isnt)) e none
 
     by_whole : (p q : Port) (a b k : ℕ) → In p n.ports → In q n.ports → p.name.text ≡ q.name.text → p.name.bit ≡ Some a → q.name.bit ≡ Some b → a ≤ k → k ≤ b
         → (v : Bool) → is_supply p.name.text ≡ v → HasBit n.ports p.name.text k
-    by_whole p q a b k i j e f g low high true yes = let x = supply_of p i yes in let no : None ≡ Some a = sym x.0 ∙ f in absurd cc
-    by_whole p q a b k i j e f g low high false no =
-        let h = signals.whole p q a b k (signal p i no) (signal q j (other p q false e no)) e f g low high in
+    by_whole p q a b k i j e f g low high true is = let x = supply_of p i is in absurd (no_bit a p.name.bit x.0 f)
+    by_whole p q a b k i j e f g low high false isnt =
+        let h = signals.whole p q a b k (signal p i isnt) (signal q j (other p q false e isnt)) e f g low high in
         record { port = h.port; declared = (In-filter is_signal n.ports h.port h.declared).0; text_is = h.text_is; bit_is = h.bit_is }
 
     by_way : (p q : Port) → In p n.ports → In q n.ports → p.name.text ≡ q.name.text → (b : Bool) → is_supply p.name.text ≡ b → p.dir ≡ q.dir
-    by_way p q i j e true yes = let x = supply_of p i yes in let y = supply_of q j (other p q true e yes) in x.1 ∙ sym y.1
-    by_way p q i j e false no = signals.directed p q (signal p i no) (signal q j (other p q false e no)) e
+    by_way p q i j e true is = let x = supply_of p i is in let y = supply_of q j (other p q true e is) in x.1 ∙ sym y.1
+    by_way p q i j e false isnt = signals.directed p q (signal p i isnt) (signal q j (other p q false e isnt)) e
 
 pub netlist_named : InOrderCanBeWritten → NetlistCanBeNamed
-netlist_named law bytes table n is met models some =
+netlist_named law bytes table n is met models =
     let words = netlist_names bytes table n is in
     record {
       name = words.name;
-      ports = law n.ports (all_named table n met (signals_named bytes table n is)) is.netlist.sound.ports some;
-      instances = All-from_In CanBeAnInstance n.instances (λ i j. (every_name i j, models i j));
+      ports = law n.ports (all_named table n met words.signals) is.netlist.sound.ports (has_port bytes table n is);
+      instances = All-from_In CanBeAnInstance n.instances
+          (λ i j. (All-In (λ (x : Instance). IsIdentifier x.name) n.instances words.instances i j, models i j));
     }
-  where
-    every_name : (i : Instance) → In i n.instances → IsIdentifier i.name
-    every_name i j = let r = place-In i n.instances j in subst (λ (x : Instance). IsIdentifier x.name) (r.2 i) ((netlist_names bytes table n is).instances r.0 i r.1)

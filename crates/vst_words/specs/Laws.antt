@@ -1,5 +1,5 @@
 -- Netlists that are read, and the pins of cells, have names that can be written.
-use Rattle.std.specs.Prelude.{ℕ, ◌<◌, Bool, false, List, length}
+use Rattle.std.specs.Prelude.{ℕ, Bool, List}
 use Rattle.std.specs.List.{All}
 use Rattle.vlsi_base.specs.Member.{In}
 use Rattle.port_words.specs.Words.{IsIdentifier, ArePortsNamed}
@@ -26,7 +26,7 @@ NetlistHasNames = (bytes : List ℕ) (table : List ModelPins) (n : Netlist) → 
 abbrev pub NetlistCanBeNamed : Type 0
 NetlistCanBeNamed =
     (bytes : List ℕ) (table : List ModelPins) (n : Netlist) → IsVst bytes table n → MeetsCondition table n
-    → ((i : Instance) → In i n.instances → IsIdentifier i.model) → 0 < length n.ports → CanBeNamed n
+    → ((i : Instance) → In i n.instances → IsIdentifier i.model) → CanBeNamed n
 
 -- so can the names of the pins of a library that is read
 abbrev pub TableCanBeWritten : Type 0
