@@ -28,7 +28,7 @@ HaveTheirArcs l = (model : List ℕ) (c : Cell) → cell_of l model ≡ Some c �
 pub record AreAlike (f g : Function) : Type 0 where
   pub begins : (pin : Name) → BeginsThere f pin ↔ BeginsThere g pin
   pub through : (pin : Name) → GoesThrough f pin ↔ GoesThrough g pin
-  pub data : data_pin f ≡ data_pin g
+  pub data_pins : data_pin f ≡ data_pin g
 
 -- At this place of the library stands a usable cell with the pins of the instance's, directions among them, and alike to paths; its
 -- name is among the models.
