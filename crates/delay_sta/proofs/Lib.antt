@@ -8,3 +8,4 @@ pub mod Routes
 pub mod Edges
 pub mod Finding
 pub mod Exact
+pub mod Tracing

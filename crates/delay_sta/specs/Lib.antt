@@ -4,3 +4,4 @@ pub mod Paths
 pub mod Timed
 pub mod Graph
 pub mod Exchanged
+pub mod Traces
