@@ -20,3 +20,4 @@ pub mod Following
 pub mod Swapping
 pub mod Delaying
 pub mod PinClasses
+pub mod Tracing

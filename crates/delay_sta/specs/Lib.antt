@@ -5,3 +5,4 @@ pub mod Timed
 pub mod Graph
 pub mod Exchanged
 pub mod Changes
+pub mod Traces

@@ -57,7 +57,7 @@ same_through (flip_flop a b) opaque h p q = absurd p
 same_through (other m) g h p q = absurd p
 same_through opaque g h p q = absurd p
 
-drive_through : (c d e : Cell) → IsDrive c d → IsDrive d e → IsDrive c e
+pub drive_through : (c d e : Cell) → IsDrive c d → IsDrive d e → IsDrive c e
 drive_through c d e p q = record { pins = q.pins ∙ p.pins; function = same_through c.function d.function e.function p.function q.function }
 
 -- ---- lists in which one instance is another

@@ -4,3 +4,6 @@ pub mod Exchanging
 pub mod Keeping
 pub mod Staying
 pub mod Listed
+pub mod Marked
+pub mod Choosing
+pub mod Passing

@@ -16,12 +16,12 @@ use Rattle.loon_buffer.proofs.Exchanging.{with_model}
 use Rattle.loon_buffer.proofs.Keeping.{apart_of}
 
 -- a cell that is found by a name stands in the list, and has the name
-record Named (cells : List Cell) (model : List ℕ) (c : Cell) : Type 0 where
-  place : ℕ
-  stands : Stands cells place c
-  name : c.name ≡ model
+pub record Named (cells : List Cell) (model : List ℕ) (c : Cell) : Type 0 where
+  pub place : ℕ
+  pub stands : Stands cells place c
+  pub name : c.name ≡ model
 
-named : (cells : List Cell) (model : List ℕ) (c : Cell) → cell_named cells model ≡ Some c → Named cells model c
+pub named : (cells : List Cell) (model : List ℕ) (c : Cell) → cell_named cells model ≡ Some c → Named cells model c
 named [] model c e = absurd cc
 named (d ∷ cells) model c e = by (λ f. named cells model c f) (is_same_text d.name model) refl e where
   by : (cell_named cells model ≡ Some c → Named cells model c) → (b : Bool) → is_same_text d.name model ≡ b → cond b (Some d) (cell_named cells model) ≡ Some c → Named (d ∷ cells) model c
@@ -30,7 +30,7 @@ named (d ∷ cells) model c e = by (λ f. named cells model c f) (is_same_text d
       record { place = 0; stands = f; name = ap (λ (x : Cell). x.name) (sym same) ∙ (bytes_decides d.name model).0 t }
   by further false t f = let r = further f in record { place = suc r.place; stands = r.stands; name = r.name }
 
-set_same : (is : List Instance) (place : ℕ) (i : Instance) → Stands is place i → slice_set is place i ≡ is
+pub set_same : (is : List Instance) (place : ℕ) (i : Instance) → Stands is place i → slice_set is place i ≡ is
 set_same [] place i s = absurd cc
 set_same (x ∷ is) zero i s =
     let f : Some x ≡ Some i = s in
@@ -39,7 +39,7 @@ set_same (x ∷ is) zero i s =
 set_same (x ∷ is) (suc place) i s = ap (λ (ys : List Instance). x ∷ ys) (set_same is place i s)
 
 -- the longest path of a netlist takes one time
-worst_once : (n : Netlist) (l : Library) (a b : ℕ) → IsWorst n l a → IsWorst n l b → a ≤ b
+pub worst_once : (n : Netlist) (l : Library) (a b : ℕ) → IsWorst n l a → IsWorst n l b → a ≤ b
 worst_once n l a b p q = by p.is where
   by : Ends n l a ⊎ (a ≡ 0) → a ≤ b
   by (inl e) = q.most a e

@@ -18,7 +18,8 @@ use Rattle.net_theory.specs.Exchanges.{IsSameFunction, IsDrive}
 use Rattle.delay_sta.specs.Arcs.{arc_delay}
 use Rattle.delay_sta.specs.Loads.{load}
 use Rattle.delay_sta.specs.Paths.{Step, Leads, starts, begins, goes_on, TakesTo, HasPin, IsStepAt, IsStep, BeginsThere, GoesThrough, IsStart, IsEnd, IsWorst}
-use Rattle.loon_buffer.specs.Drives.{HasItsArcs, StandFor, no_steps, one_step, PathsStay, StepsStay}
+use Rattle.delay_sta.specs.Exchanged.{HasItsArcs}
+use Rattle.loon_buffer.specs.Drives.{StandFor, no_steps, one_step, PathsStay, StepsStay}
 use Rattle.loon_buffer.proofs.Exchanging.{with_model, changed, has_kept, stands_other, stands_set, start_kept, end_kept}
 use Rattle.loon_buffer.proofs.Keeping.{apart_of}
 
