@@ -8,3 +8,12 @@ pub mod Tying
 pub mod Builds
 pub mod Kept
 pub mod Splitting
+pub mod Picking
+pub mod Gates
+pub mod Sinking
+pub mod Following
+pub mod Grouping
+pub mod Rounds
+pub mod Starting
+pub mod Counted
+pub mod Gating

@@ -5,3 +5,4 @@ pub mod Limited
 pub mod Stages
 pub mod Building
 pub mod Laws
+pub mod Gated
