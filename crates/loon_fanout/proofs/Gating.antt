@@ -1,5 +1,5 @@
 -- The netlist that is built of a wiring and of the gates that were put in.
-use Rattle.std.proofs.Common.{◌≡◌, ◌≢◌, ◌↔◌, ◌⊎◌, inl, inr, ℕ, zero, suc, ◌+◌, ◌*◌, ◌^◌, ◌<◌, ◌≤◌, Bool, true, false, not, List, [], ◌∷◌, ◌++◌, map, filter, length, Option, None, Some, codes, bytes_eq, refl, sym, ◌∙◌, ap, subst, arith, append-nil, length-append, nat_eq, eqb-true, if◌then◌else◌}
+use Rattle.std.proofs.Common.{◌≡◌, ◌≢◌, ◌↔◌, ◌⊎◌, inl, inr, ℕ, zero, suc, ◌+◌, ◌*◌, ◌^◌, ◌<◌, ◌≤◌, Bool, true, false, not, ◌&&◌, List, [], ◌∷◌, ◌++◌, map, filter, length, Option, None, Some, codes, bytes_eq, refl, sym, ◌∙◌, ap, subst, arith, append-nil, length-append, nat_eq, eqb-true, if◌then◌else◌}
 use Rattle.std.proofs.lemmas.List.{map-append}
 use Rattle.std.specs.Global.{Vec}
 use Rattle.std.specs.List.{All, flat_map, list_all}
@@ -184,11 +184,11 @@ module _ (l : Library) (limit : ℕ) (k : InMemory) (w : Wired) (of : IsNetlistO
 free_not : (taken : List (List ℕ)) (text : List ℕ) → is_free taken text ≡ true → In text taken → ⊥
 free_not [] text h i = elim i [ ]
 free_not (t ∷ taken) text h here = by (bytes_eq t t) (itself t) h where
-  by : (b : Bool) → b ≡ true → (if not b then is_free taken t else false) ≡ true → ⊥
+  by : (b : Bool) → b ≡ true → (not b && is_free taken t) ≡ true → ⊥
   by true e h = absurd (cc h)
   by false e h = absurd (cc e)
 free_not (t ∷ taken) text h (there i) = by (bytes_eq t text) h (λ k. free_not taken text k i) where
-  by : (b : Bool) → (if not b then is_free taken text else false) ≡ true → (is_free taken text ≡ true → ⊥) → ⊥
+  by : (b : Bool) → (not b && is_free taken text) ≡ true → (is_free taken text ≡ true → ⊥) → ⊥
   by true h rest = absurd (cc h)
   by false h rest = rest h
 

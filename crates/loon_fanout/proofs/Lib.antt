@@ -17,3 +17,4 @@ pub mod Rounds
 pub mod Starting
 pub mod Counted
 pub mod Gating
+pub mod Wholes

@@ -69,7 +69,7 @@ all_counted c r gates part limit class loads v u (more {w = x} {sinks = places} 
 
 -- ---- what is kept
 
-below_or : (a b : ℕ) → (a < b) ⊎ (b ≤ a)
+pub below_or : (a b : ℕ) → (a < b) ⊎ (b ≤ a)
 below_or a zero = inr (omega arith)
 below_or zero (suc b) = inl (omega arith)
 below_or (suc a) (suc b) = elim (below_or a b) [ inl h ↦ inl (omega (arith, h)) | inr h ↦ inr (omega (arith, h)) ]

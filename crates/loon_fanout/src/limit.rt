@@ -16,7 +16,7 @@ use crate::loads::loads;
 use crate::repeater::{Repeater, make_repeater};
 use crate::wiring::Wiring;
 use cell_checks::Library;
-use free_names::free_texts;
+use free_names::{free_texts, texts_are_free};
 use net_core::{Netlist, Node};
 use std::alloc::{AllocError, Global};
 use vlsi_base::{Name, Terminal, Text};
@@ -49,7 +49,8 @@ fn widened(alloc: Global, classes: &[u32]) -> Result<Vec<usize>, AllocError>
 /// A netlist's classes, with no gates put in.
 fn wiring_of(alloc: Global, netlist: &Netlist, library: &Library) -> Result<Wiring, AllocError>
     requires { IsOfCells netlist.now library.now }
-    ensures { IfOk result (λ v. IsStart netlist.now v) }
+    ensures start { IfOk result (λ v. IsStart netlist.now v) }
+    ensures sound { OnOk result (IsNetlist netlist.now) }
 {
     Ok(Wiring {
         classes: widened(alloc, netlist.classes())?,
@@ -161,6 +162,7 @@ pub fn limit_fanout(
     ensures covered { OnOk result (IsCrowded library.now fanout netlist.now → NoneRepeats library.now.cells → ⊥) }
     ensures refused { IfErr result (λ e. IsBufferRefusal netlist.now library.now fanout e) }
 {
+    texts_are_free();
     let loads = loads(alloc, netlist, library)?;
     let mut wiring = wiring_of(alloc, netlist, library)?;
     let limit = fanout as usize;
