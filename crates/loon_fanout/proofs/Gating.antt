@@ -1,6 +1,7 @@
 -- The netlist that is built of a wiring and of the gates that were put in.
 use Rattle.std.proofs.Common.{◌≡◌, ◌≢◌, ◌↔◌, ◌⊎◌, inl, inr, ℕ, zero, suc, ◌+◌, ◌*◌, ◌^◌, ◌<◌, ◌≤◌, Bool, true, false, not, ◌&&◌, List, [], ◌∷◌, ◌++◌, map, filter, length, Option, None, Some, codes, bytes_eq, refl, sym, ◌∙◌, ap, subst, arith, append-nil, length-append, nat_eq, eqb-true, if◌then◌else◌}
 use Rattle.std.proofs.lemmas.List.{map-append}
+use Rattle.std.specs.Prelude.{IfOk, Result, Ok, Err}
 use Rattle.std.specs.Global.{Vec}
 use Rattle.std.specs.List.{All, flat_map, list_all}
 use Rattle.vlsi_base.specs.declared.name.Name.{Name}
@@ -49,9 +50,9 @@ module _ (n : InMemory) (r : Option Parts) (v : Wiring) (s : Sketch) (entries : 
   abbrev listed : List Instance → List Terminal
   listed is = terminals_of n.ports is
 
-  pub can_build : IsNetlist n → IsGatable n r v → IsBuildable n s
-  can_build sound can = record {
-    order = sound.ports;
+  pub can_build : IsGatable n r v → IsBuildable n s
+  can_build can = record {
+    order = can.order;
     pins = all_map instance_by (λ i. AreInOrder i.pins) s.entries.items (subst (λ (is : List Instance). All (λ i. AreInOrder i.pins) is) (sym entries) can.pins);
     names = subst (λ (ns : List (List ℕ)). NoneTwice ns)
         (ap (map (λ (i : Instance). i.name)) (sym entries) ∙ map_twice (λ (i : Instance). i.name) instance_by s.entries.items) can.names;
@@ -75,6 +76,20 @@ module _ (n : InMemory) (r : Option Parts) (v : Wiring) (s : Sketch) (entries : 
         (subst (λ (is : List Instance). (i ≡ j) ↔ (class_among (listed is) s.classes.items x ≡ class_among (listed is) s.classes.items y)) entries
         (b.classes x y i j p q));
   }
+
+pub if_one : {T E : Type 0} (P Q : T → Type 0) (r : Result T E) → ((x : T) → P x → Q x) → IfOk r P → IfOk r Q
+if_one P Q (Ok x) f p = f x p
+if_one P Q (Err e) f p = tt
+
+-- the instances of the entries
+pub entries_are : (n : InMemory) (r : Option Parts) (v : Wiring) (models : List (List ℕ)) (nodes : List Node) (names : List (List ℕ)) (empty given all : List Entry) → empty ≡ []
+    → map instance_by given ≡ map instance_by empty ++ map (instance_of models) nodes → map instance_by all ≡ map instance_by given ++ gates_by r names
+    → map (instance_of n.models) nodes ≡ n.instances → models ≡ n.models → names ≡ gate_names n (length v.reads.items) → map instance_by all ≡ gated n r v
+entries_are n r v models nodes names empty given all none_yet is_given is_all seen same named =
+    is_all
+    ∙ ap (λ (is : List Instance). is ++ gates_by r names)
+    (is_given ∙ ap (λ (es : List Entry). map instance_by es ++ map (instance_of models) nodes) none_yet ∙ ap (λ (ms : List (List ℕ)). map (instance_of ms) nodes) same ∙ seen)
+    ∙ ap (λ (ns : List (List ℕ)). n.instances ++ gates_by r ns) named
 
 -- ---- what it is of
 
@@ -101,8 +116,9 @@ module _ (l : Library) (n : InMemory) (r : Option Parts) (v : Wiring) (w : Wired
   terms : all_terminals w ≡ gated_terminals n r v
   terms = ap (λ (ps : List Port). terminals_of ps w.instances) ports ∙ ap (terminals_of n.ports) instances
 
-  pub can_gate : ((i : Instance) → In i w.instances → AreInOrder i.pins × (0 < length i.pins)) → length (all_terminals w) < 2 ^ 32 → length v.reads.items < 2 ^ 32 → IsGatable n r v
-  can_gate pins few gates = record {
+  pub can_gate : AreInOrder (map (λ p. p.name) n.ports) → ((i : Instance) → In i w.instances → AreInOrder i.pins × (0 < length i.pins)) → length (all_terminals w) < 2 ^ 32 → length v.reads.items < 2 ^ 32 → IsGatable n r v
+  can_gate order pins few gates = record {
+    order = order;
     pins = subst (λ (is : List Instance). All (λ i. AreInOrder i.pins) is) instances (All-from (λ (i : Instance). AreInOrder i.pins) w.instances (λ i k. (pins i k).0));
     names = subst (λ (is : List Instance). NoneTwice (map (λ i. i.name) is)) instances
         (twice_of (names_in w) (subst (λ (ns : List (List ℕ)). AllDifferent ns) (append-nil (names_in w)) f.names));

@@ -3,7 +3,7 @@ use Rattle.std.proofs.Common.{◌≡◌, ◌≢◌, ◌↔◌, ◌⊎◌, inl, i
 use Rattle.std.proofs.lemmas.Option.{slice_get_within}
 use Rattle.std.specs.Global.{Vec}
 use Rattle.std.specs.List.{All, flat_map}
-use Rattle.std.specs.Prelude.{slice_get}
+use Rattle.std.specs.Prelude.{slice_get, IsTrue, IfSome, IfNone}
 use Rattle.vlsi_base.specs.declared.name.Name.{Name}
 use Rattle.vlsi_base.specs.declared.name.Port.{Port}
 use Rattle.vlsi_base.specs.declared.name.Terminal.{Terminal}
@@ -13,7 +13,7 @@ use Rattle.machine_meaning.specs.Machine.{names_of}
 use Rattle.cell_model.specs.Cell.{Cell, pin_ports, opaque}
 use Rattle.cell_model.specs.Library.{Library, cell_of, IsUsable}
 use Rattle.cell_model.proofs.Members.{All-In, In-split, In-left, In-map, In-map_back}
-use Rattle.cell_checks.specs.Checked.{IsChecked}
+use Rattle.cell_checks.specs.Checked.{IsChecked, library_of}
 use Rattle.cell_pins.specs.Pins.{supply, all_ports}
 use Rattle.cell_pins.proofs.Sound.{member_at}
 use Rattle.net_core.specs.Netlist.{Instance, Netlist as InMemory, IsNetlist, AreInOrder, port, pins_of, terminals_of, terminals}
@@ -94,6 +94,7 @@ pub record Built (l : Library) (n : InMemory) (r : Option Parts) (v : Wiring) (l
   pub order : (i : Instance) → In i w.instances → AreInOrder i.pins
   pub pins : length (all_terminals w) < 2 ^ 32
   pub gates : length v.reads.items < 2 ^ 32
+  pub ports_order : AreInOrder (map (λ p. p.name) n.ports)
 
 some_pin : (c : Cell) (pins : List Name) → pins ≡ names_of (all_ports c) → 0 < length pins
 some_pin c pins is = by pins (subst (λ (ns : List Name). In vdd ns) (sym is) (In-map (λ (p : Port). p.name) (supply vdd) (all_ports c) (vdd_there (pin_ports c)))) where
@@ -103,7 +104,7 @@ some_pin c pins is = by pins (subst (λ (ns : List Name). In vdd ns) (sym is) (I
 
 pub built_gatable : (l : Library) (n : InMemory) (r : Option Parts) (v : Wiring) (limit : ℕ) (w : Wired) → Built l n r v limit w → IsGatable n r v
 built_gatable l n r v limit w b =
-    can_gate l n r v w b.follows b.ports b.instances (λ i k. (b.order i k, let c = b.cells i k in some_pin c.0 i.pins c.3)) b.pins b.gates
+    can_gate l n r v w b.follows b.ports b.instances b.ports_order (λ i k. (b.order i k, let c = b.cells i k in some_pin c.0 i.pins c.3)) b.pins b.gates
 
 pub built_fanout : (l : Library) (n : InMemory) (r : Option Parts) (v : Wiring) (limit : ℕ) (w : Wired) (k : InMemory) → Built l n r v limit w → IsGated n r v k → IsNetlist k → HasFanout l limit k
 built_fanout l n r v limit w k b g sound =
@@ -138,6 +139,7 @@ start_built l n v limit sound cells room start few = record {
   order = λ i k. All-In (λ (x : Instance). AreInOrder x.pins) n.instances sound.pins i k;
   pins = by_room (length (terminals n)) room;
   gates = let e = ap length start.reads in omega (arith, e);
+  ports_order = sound.ports;
 }
 
 
@@ -244,6 +246,7 @@ module _ (law : TextsAreFree) (l : Library) (n : InMemory) (limit : ℕ) (size :
       pins = let a = ap length at_end.classes in let m = map_many d.end.class (all_terminals d.end) in
           room_pins (length (all_terminals d.end)) (length (terminals n)) (let f = few_pins in omega (arith, a, m, f)) room;
       gates = let f = few_all in omega (arith, f);
+      ports_order = sound.ports;
     };
   }
 
@@ -295,3 +298,55 @@ limited_buffered l n r u limit b k rep h g = record {
 pub not_none : (cells : List Cell) (b : Repeater) → IsRepeater cells b → NoneRepeats cells → ⊥
 not_none cells b (buffer {c = c} first) lacks = lacks c (member_at cells first.place c first.stands) (inl first.holds)
 not_none cells b (inverters {c = c} none first) lacks = lacks c (member_at cells first.place c first.stands) (inr first.holds)
+
+some_of : {A : Type 0} (P : A → Type 0) (o : Option A) (x : A) → o ≡ Some x → IfSome o P → P x
+some_of {A} P o x is h = subst (λ (p : Option A). IfSome p P) is h
+
+none_of : {A : Type 0} (Q : Type 0) (o : Option A) → o ≡ None → IfNone o Q → Q
+none_of {A} Q o is h = subst (λ (p : Option A). IfNone p Q) is h
+
+-- where no net is crowded
+pub record Calm (l : Library) (n : InMemory) (v : Wiring) (limit : ℕ) : Type 0 where
+  pub not_crowded : IsCrowded l limit n → ⊥
+  pub built : Built l n None v limit (wired_of n)
+
+pub calm : (l : Library) (n : InMemory) (v : Wiring) (limit : ℕ) → IsNetlist n → IsOfCells n l → HasRoomForGates n → IsStart n v → (loads seen : List (Vec ℕ))
+    → AreLoads (all_marks l n) n.classes n.count loads → seen ≡ loads → (b : Bool) → b ≡ false → (IsTrue b ↔ HasLongLoad limit seen) → Calm l n v limit
+calm l n v limit sound cells room start loads seen are same b is told = record {
+  not_crowded = never;
+  built = start_built l n v limit sound cells room start (few_sinks l limit n never);
+} where
+  never : IsCrowded l limit n → ⊥
+  never c =
+      let h : b ≡ true = told.1 (subst (λ (ls : List (Vec ℕ)). HasLongLoad limit ls) (sym same) (crowded_long l limit n v loads sound cells start are c)) in
+      let wrong : false ≡ true = sym is ∙ h in cc wrong
+
+pub crowded : (l : Library) (n : InMemory) (limit : ℕ) → IsNetlist n → (loads seen : List (Vec ℕ)) → AreLoads (all_marks l n) n.classes n.count loads → seen ≡ loads
+    → (b : Bool) → b ≡ true → (IsTrue b ↔ HasLongLoad limit seen) → IsCrowded l limit n
+crowded l n limit sound loads seen are same b is told =
+    long_crowded l limit n loads sound are (subst (λ (ls : List (Vec ℕ)). HasLongLoad limit ls) same (told.0 is))
+
+-- where one is, and there is a repeater
+pub record Repeated (l : Library) (n : InMemory) (r : Parts) (u : Wiring) (limit : ℕ) : Type 0 where
+  pub b : Repeater
+  pub rep : IsRepeater l.cells b
+  pub done : LimitedBuilt l n r u limit b
+
+cells_of : (l : Library) (cs : List Cell) → library_of cs ≡ l → cs ≡ l.cells
+cells_of l cs e = ap (λ (x : Library). x.cells) e
+
+pub repeated : TextsAreFree → (l : Library) (n : InMemory) (limit : ℕ) → 2 ≤ limit → IsNetlist n → IsOfCells n l → HasRoomForGates n → (cs : List Cell) → library_of cs ≡ l → IsChecked false l
+    → (o : Option Parts) (r : Parts) → o ≡ Some r → IfSome o (λ x. IsRepeaterOf cs x) → (v u : Wiring) → IsStart n v → (loads seen : List (Vec ℕ))
+    → AreLoads (all_marks l n) n.classes n.count loads → seen ≡ loads → LimitsAll r limit 0 seen v u → Repeated l n r u limit
+repeated law l n limit size sound cells room cs same_cells checked o r is found v u start loads seen are same h =
+    let q = some_of (λ (x : Parts). IsRepeaterOf cs x) o r is found in
+    let rep = subst (λ (xs : List Cell). IsRepeater xs q.repeater) (cells_of l cs same_cells) q.chosen in
+    record {
+      b = q.repeater;
+      rep = rep;
+      done = limited_built law l n limit size sound cells room checked q.repeater rep r q.is v u start loads are
+          (subst (λ (ls : List (Vec ℕ)). LimitsAll r limit 0 ls v u) same h);
+    }
+
+pub lacking : (l : Library) (cs : List Cell) → library_of cs ≡ l → (o : Option Parts) → o ≡ None → IfNone o (NoneRepeats cs) → NoneRepeats l.cells
+lacking l cs same o is none_found = subst (λ (xs : List Cell). NoneRepeats xs) (cells_of l cs same) (none_of (NoneRepeats cs) o is none_found)

@@ -29,6 +29,7 @@ gated_terminals n r v = terminals_of n.ports (gated n r v)
 
 -- such a netlist can be built
 pub record IsGatable (n : InMemory) (r : Option Parts) (v : Wiring) : Type 0 where
+  pub order : AreInOrder (map (λ p. p.name) n.ports)
   pub pins : All (λ i. AreInOrder i.pins) (gated n r v)
   pub names : NoneTwice (map (λ i. i.name) (gated n r v))
   pub many : length (gated n r v) < 2 ^ 32
