@@ -7,7 +7,7 @@ use Rattle.net_core.specs.Places.{Stands}
 use Rattle.loon_fanout.specs.declared.repeater.Tie.{Tie}
 use Rattle.loon_fanout.specs.declared.repeater.Repeater.{Repeater as Parts}
 use Rattle.loon_fanout.specs.declared.wiring.Wiring.{Wiring}
-use Rattle.loon_fanout.specs.Stages.{tied_class, ends_of, marked_places, PutsGate, PutsRow, once, two, set_places, Moves, PutsBehind, PutsGroups, none, one, LimitsClass, few, many, LimitsAll, done, more, AreLoads}
+use Rattle.loon_fanout.specs.Stages.{tied_class, ends_of, marked_places, PutsGate, PutsRow, once, two, set_places, PutsBehind, PutsGroups, none, one, LimitsClass, few, many, LimitsAll, done, more, AreLoads}
 use Rattle.loon_fanout.proofs.Rounds.{gates_in}
 
 -- ---- pins by gates
@@ -186,13 +186,13 @@ marked_few place (m ∷ marks) (c ∷ classes) k n =
     let b = sum_one c k n in
     let d = marked_few (suc place) marks classes k n in
     omega (arith, a, b, d) where
-  each : (j : ℕ) → many_at place (m ∷ marks) (c ∷ classes) j ≤ is_at c j + many_at (suc place) marks classes j
-  each j = by m (nat_eq c j) (marked_places (suc place) marks classes j) where
-    by : (a b : Bool) (later : List ℕ) → length (if a && b then place ∷ later else later) ≤ (if b then 1 else 0) + length later
-    by true true later = omega arith
-    by true false later = omega arith
-    by false true later = omega arith
-    by false false later = omega arith
+      each : (j : ℕ) → many_at place (m ∷ marks) (c ∷ classes) j ≤ is_at c j + many_at (suc place) marks classes j
+      each j = by m (nat_eq c j) (marked_places (suc place) marks classes j) where
+        by : (a b : Bool) (later : List ℕ) → length (if a && b then place ∷ later else later) ≤ (if b then 1 else 0) + length later
+        by true true later = omega arith
+        by true false later = omega arith
+        by false true later = omega arith
+        by false false later = omega arith
 
 total_sum : (f : ℕ → ℕ) (loads : List (Vec ℕ)) (k : ℕ) → ((i : ℕ) (x : Vec ℕ) → Stands loads i x → length x.items ≡ f (k + i)) → total loads ≡ sum_from f k (length loads)
 total_sum f [] k each = refl
@@ -211,7 +211,7 @@ loads_few marks classes count loads are =
     ap (λ (y : Vec ℕ). length y.items) (sym (got loads i x at)) ∙ ap length (are.each i x (omega (arith, inside, all))) ∙ ap (many_at 0 marks classes) zero_i) in
     let b = marked_few 0 marks classes 0 (length loads) in
     omega (arith, a, b) where
-  got : (xs : List (Vec ℕ)) (k : ℕ) (x : Vec ℕ) → slice_get xs k ≡ Some x → get_or xs k x ≡ x
-  got [] k x e = absurd cc
-  got (y ∷ xs) zero x e = cc
-  got (y ∷ xs) (suc k) x e = got xs k x e
+      got : (xs : List (Vec ℕ)) (k : ℕ) (x : Vec ℕ) → slice_get xs k ≡ Some x → get_or xs k x ≡ x
+      got [] k x e = absurd cc
+      got (y ∷ xs) zero x e = cc
+      got (y ∷ xs) (suc k) x e = got xs k x e

@@ -1,36 +1,32 @@
 -- A wiring follows a netlist whose classes are a function of terminals, gate by gate and group by group.
-use Rattle.std.proofs.Common.{◌≡◌, ◌≢◌, ◌⊎◌, inl, inr, ℕ, zero, suc, ◌+◌, ◌-◌, ◌<◌, ◌≤◌, Bool, true, false, ◌||◌, List, [], ◌∷◌, ◌++◌, map, filter, length, Option, None, Some, refl, sym, ◌∙◌, ap, subst, arith, append-nil, append_assoc, length-append, nat_eq, if◌then◌else◌}
+use Rattle.std.proofs.Common.{◌≡◌, inl, inr, ℕ, zero, suc, ◌+◌, ◌-◌, ◌<◌, ◌≤◌, Bool, true, false, List, [], ◌∷◌, ◌++◌, map, length, Some, refl, sym, ◌∙◌, ap, subst, arith, append-nil, append_assoc, length-append, nat_eq, if◌then◌else◌}
 use Rattle.std.proofs.lemmas.Grind.{flat_map-append}
 use Rattle.std.proofs.lemmas.List.{map-append}
-use Rattle.std.specs.Prelude.{slice_set}
 use Rattle.std.specs.List.{flat_map, list_any}
 use Rattle.vlsi_base.specs.declared.name.Name.{Name}
-use Rattle.vlsi_base.specs.declared.name.Port.{Port}
 use Rattle.vlsi_base.specs.declared.name.Terminal.{Terminal}
 use Rattle.vlsi_base.specs.Names.{vdd, vss}
-use Rattle.vlsi_base.specs.Member.{In, here, there, AllDifferent}
+use Rattle.vlsi_base.specs.Member.{In, here, AllDifferent}
 use Rattle.machine_meaning.specs.Machine.{names_of}
 use Rattle.machine_meaning.specs.Named.{is_same_name}
 use Rattle.cell_model.specs.Cell.{Cell, cell_inputs}
-use Rattle.cell_model.specs.Library.{Library, cell_of}
-use Rattle.cell_model.proofs.Members.{In-split, In-left, In-right, In-map, In-map_back}
+use Rattle.cell_model.specs.Library.{Library}
+use Rattle.cell_model.proofs.Members.{In-split, In-left, In-map, In-map_back}
 use Rattle.cell_model.proofs.Texts.{text_itself}
 use Rattle.cell_pins.specs.Pins.{all_ports}
 use Rattle.cell_pins.proofs.Sound.{member_at}
-use Rattle.net_core.specs.Netlist.{Instance, port, pin_of, pins_of, terminals_of}
+use Rattle.net_core.specs.Netlist.{Instance, port, pin_of, pins_of}
 use Rattle.net_core.specs.Places.{Stands}
-use Rattle.net_core.proofs.Standing.{stands_left, stands_right}
+use Rattle.net_core.proofs.Standing.{stands_right}
 use Rattle.loon_fanout.specs.declared.repeater.Tie.{Tie}
-use Rattle.loon_fanout.specs.declared.repeater.Repeater.{Repeater as Parts}
 use Rattle.loon_fanout.specs.declared.wiring.Wiring.{Wiring}
-use Rattle.loon_fanout.specs.Sinks.{Wired, sinks, is_same_owner, is_same_terminal}
-use Rattle.loon_fanout.specs.Wired.{pin_class, with_gate, with_row, with_moved, with_group}
+use Rattle.loon_fanout.specs.Sinks.{Wired, sinks, is_same_owner}
+use Rattle.loon_fanout.specs.Wired.{pin_class, with_gate}
 use Rattle.loon_fanout.specs.Laws.{gate_named}
-use Rattle.loon_fanout.specs.Stages.{tie_of, next_class, ends_of, tied_class, read_place, PutsGate, PutsRow, once, two, set_places, Moves, PutsBehind, IsPart}
-use Rattle.loon_fanout.proofs.Terminals.{terminal_same, terminal_itself}
-use Rattle.loon_fanout.proofs.Picking.{is_false, any_in, not_any, filter_none, map_same, different_append, different_left, different_right, different_apart, different_map, AtPlaces, at_more, only_one}
+use Rattle.loon_fanout.specs.Stages.{tie_of, next_class, ends_of, tied_class, read_place, PutsGate}
+use Rattle.loon_fanout.proofs.Picking.{filter_none, map_same, different_append, different_apart, different_map, only_one}
 use Rattle.loon_fanout.proofs.Gates.{IsGate}
-use Rattle.loon_fanout.proofs.Sinking.{all_terminals, all_sinks, names_in, Owned, sink_owned, sink_there, not_new, its_input, own_class, old_class, sinks_gate, Moved, sinks_moved, eq_itself, eq_not}
+use Rattle.loon_fanout.proofs.Sinking.{all_terminals, all_sinks, names_in, sink_there, not_new, its_input, own_class, old_class, sinks_gate, eq_not}
 
 -- The classes by places are those of the terminals, and the names that are left can be given to gates.
 pub record Follows (l : Library) (left : List (List ℕ)) (v : Wiring) (w : Wired) : Type 0 where
@@ -122,8 +118,8 @@ module _ (l : Library) (c : Cell) (input : Name) (g : IsGate l c input) (left : 
       let a = not_new w name t new i in
       let b : is_same_owner t.instance (Some name) ≡ is_same_owner (Some name) (Some name) = ap (λ (x : Terminal). is_same_owner x.instance (Some name)) (sym r.2) in
       same_text (sym a ∙ b) where
-    same_text : false ≡ is_same_owner (Some name) (Some name) → ⊥
-    same_text e = let y = text_itself name in let wrong : false ≡ true = e ∙ y in cc wrong
+        same_text : false ≡ is_same_owner (Some name) (Some name) → ⊥
+        same_text e = let y = text_itself name in let wrong : false ≡ true = e ∙ y in cc wrong
 
   differ : AllDifferent (all_terminals after)
   differ = subst (λ (ts : List Terminal). AllDifferent ts) (sym more)
@@ -134,22 +130,22 @@ module _ (l : Library) (c : Cell) (input : Name) (g : IsGate l c input) (left : 
   sinks_differ : AllDifferent (all_sinks l after)
   sinks_differ = subst (λ (ts : List Terminal). AllDifferent ts) (sym (sinks_more l c input g w read name))
       (different_append (all_sinks l w) (pin_of name input ∷ []) f.sinks_differ ((λ i. elim i [ ]), tt) apart) where
-    apart : (t : Terminal) → In t (all_sinks l w) → In t (pin_of name input ∷ []) → ⊥
-    apart t i j = foreign t (sink_there l w t i) (only j) where
-      in_pins : In input (names_of (all_ports c))
-      in_pins = let r = g.place 0 0 in member_at (names_of (all_ports c)) r.0 input r.2
+        apart : (t : Terminal) → In t (all_sinks l w) → In t (pin_of name input ∷ []) → ⊥
+        apart t i j = foreign t (sink_there l w t i) (only j) where
+          in_pins : In input (names_of (all_ports c))
+          in_pins = let r = g.place 0 0 in member_at (names_of (all_ports c)) r.0 input r.2
 
-      only : In t (pin_of name input ∷ []) → In t pins
-      only k = subst (λ (x : Terminal). In x pins) (sym (only_one t (pin_of name input) k)) (In-map (pin_of name) input (names_of (all_ports c)) in_pins)
+          only : In t (pin_of name input ∷ []) → In t pins
+          only k = subst (λ (x : Terminal). In x pins) (sym (only_one t (pin_of name input) k)) (In-map (pin_of name) input (names_of (all_ports c)) in_pins)
 
   below : (t : Terminal) → In t (all_terminals after) → after.class t < after.count
   below t i = elim (In-split t (all_terminals w) pins (subst (λ (ts : List Terminal). In t ts) more i)) [
     | inl a ↦ let b = f.below t a in let e = old_same t a in omega (arith, b, e)
     | inr b ↦
-      let r = In-map_back (pin_of name) t (names_of (all_ports c)) b in
-      let h = pin_below w c read r.0 reads (f.below (port vdd) f.on_vdd) (f.below (port vss) f.on_vss) in
-      let e = own_class c w read name r.0 in
-      subst (λ (x : Terminal). after.class x < after.count) r.2 (subst (λ (k : ℕ). k < suc w.count) (sym e) h)
+        let r = In-map_back (pin_of name) t (names_of (all_ports c)) b in
+        let h = pin_below w c read r.0 reads (f.below (port vdd) f.on_vdd) (f.below (port vss) f.on_vss) in
+        let e = own_class c w read name r.0 in
+        subst (λ (x : Terminal). after.class x < after.count) r.2 (subst (λ (k : ℕ). k < suc w.count) (sym e) h)
   ]
 
   there_still : (t : Terminal) → In t (all_terminals w) → In t (all_terminals after)

@@ -1,6 +1,6 @@
 -- A cell of one input, as it is put in.
-use Rattle.std.proofs.Common.{◌≡◌, ◌≢◌, ◌⊎◌, inl, inr, ℕ, zero, suc, ◌+◌, ◌<◌, ◌≤◌, Bool, true, false, not, ◌&&◌, ◌||◌, List, [], ◌∷◌, ◌++◌, map, filter, length, Option, None, Some, refl, sym, ◌∙◌, ap, subst, arith, length-append, if◌then◌else◌}
-use Rattle.std.specs.List.{All, list_any}
+use Rattle.std.proofs.Common.{◌≡◌, ◌≢◌, inl, inr, ℕ, suc, ◌+◌, ◌<◌, ◌≤◌, Bool, true, false, not, ◌&&◌, ◌||◌, List, [], ◌∷◌, map, filter, length, Option, Some, refl, sym, ◌∙◌, ap, subst, arith, length-append, if◌then◌else◌}
+use Rattle.std.specs.List.{list_any}
 use Rattle.vlsi_base.specs.declared.name.Name.{Name}
 use Rattle.vlsi_base.specs.declared.name.Port.{Port}
 use Rattle.vlsi_base.specs.Names.{vdd, vss, comes_before}
@@ -10,7 +10,7 @@ use Rattle.machine_meaning.specs.Machine.{is_input, names_of}
 use Rattle.machine_meaning.specs.Named.{is_same_name}
 use Rattle.machine_core.proofs.Names.{same_name-true, same_name-itself, same_name-false}
 use Rattle.cell_model.specs.declared.kind.Kind.TheVariants as kind
-use Rattle.cell_model.specs.Cell.{Function, gate, flip_flop, other, opaque, Cell, pin_ports, cell_inputs, cell_outputs}
+use Rattle.cell_model.specs.Cell.{Function, gate, flip_flop, other, opaque, Cell, pin_ports, cell_inputs}
 use Rattle.cell_model.specs.Covering.{IsFunctionOf}
 use Rattle.cell_model.specs.Library.{Library, cell_of, cell_named, IsUsable, IsPlain}
 use Rattle.cell_model.specs.Usable.{IsFormed}
@@ -24,14 +24,13 @@ use Rattle.net_core.specs.Netlist.{AreInOrder, port}
 use Rattle.net_core.specs.Places.{Stands}
 use Rattle.net_view.proofs.Ports.{both_cases, port_stays}
 use Rattle.net_theory.proofs.Basics.{length-map}
-use Rattle.loon_fanout.specs.declared.repeater.Tie.{Tie}
 use Rattle.loon_fanout.specs.declared.repeater.Tie.TheVariants as tie
 use Rattle.loon_fanout.specs.declared.wiring.Wiring.{Wiring}
-use Rattle.loon_fanout.specs.Sinks.{Wired, is_clock_of, is_sink_pin, is_sink_of}
+use Rattle.loon_fanout.specs.Sinks.{Wired, is_clock_of, is_sink_of}
 use Rattle.loon_fanout.specs.Wired.{pin_class}
-use Rattle.loon_fanout.specs.Repeaters.{Repeater, IsRepeater, buffer, inverters, IsFirst, GivesItsInput, IsBufferCell, IsInverterCell}
+use Rattle.loon_fanout.specs.Repeaters.{Repeater, IsRepeater, buffer, inverters, GivesItsInput, IsBufferCell, IsInverterCell}
 use Rattle.loon_fanout.specs.Stages.{tie_of, is_read, read_place, ends_of, tied_class, next_class}
-use Rattle.loon_fanout.proofs.Picking.{is_false, any_in, in_any, not_any, filter_none, filter_same, filter_in, only_one}
+use Rattle.loon_fanout.proofs.Picking.{is_false, in_any, not_any, filter_none, filter_same, filter_in, only_one}
 
 -- what is needed of a cell that is put in
 pub record IsGate (l : Library) (c : Cell) (input : Name) : Type 0 where
@@ -197,25 +196,25 @@ module _ (l : Library) (c : Cell) (checked : IsChecked false l) (inside : In c l
       → (p : Port) → In p (all_ports c) → tied_class (ends_of v read) (tie_of p) ≡ pin_class w c read p.name
   tied w v read high low count p i =
       by (is_same_name p.name vdd) (is_same_name p.name vss) (is_input p.dir) (list_any (λ x. is_same_name x p.name) (cell_inputs c)) refl refl agree where
-    agree : is_same_name p.name vdd ≡ false → is_same_name p.name vss ≡ false → is_input p.dir ≡ list_any (λ x. is_same_name x p.name) (cell_inputs c)
-    agree a b = elim (both_cases (pin_ports c) p i) [
-      | inl is ↦ absurd (let n = ap (λ (y : Port). is_same_name y.name vss) is in let wrong : false ≡ true = sym b ∙ n ∙ same_name-itself vss in cc wrong)
-      | inr rest ↦ elim rest [
-        | inl is ↦ absurd (let n = ap (λ (y : Port). is_same_name y.name vdd) is in let wrong : false ≡ true = sym a ∙ n ∙ same_name-itself vdd in cc wrong)
-        | inr j ↦ inputs_agree p j
-      ]
-    ]
+        agree : is_same_name p.name vdd ≡ false → is_same_name p.name vss ≡ false → is_input p.dir ≡ list_any (λ x. is_same_name x p.name) (cell_inputs c)
+        agree a b = elim (both_cases (pin_ports c) p i) [
+          | inl is ↦ absurd (let n = ap (λ (y : Port). is_same_name y.name vss) is in let wrong : false ≡ true = sym b ∙ n ∙ same_name-itself vss in cc wrong)
+          | inr rest ↦ elim rest [
+            | inl is ↦ absurd (let n = ap (λ (y : Port). is_same_name y.name vdd) is in let wrong : false ≡ true = sym a ∙ n ∙ same_name-itself vdd in cc wrong)
+            | inr j ↦ inputs_agree p j
+          ]
+        ]
 
-    by : (a b x y : Bool) → is_same_name p.name vdd ≡ a → is_same_name p.name vss ≡ b
-        → (is_same_name p.name vdd ≡ false → is_same_name p.name vss ≡ false → x ≡ y)
-        → tied_class (ends_of v read) (if a then tie.High else if b then tie.Low else if x then tie.Read else tie.Driven)
-        ≡ (if a then w.class (port vdd) else if b then w.class (port vss) else if y then read else w.count)
-    by true b x y d e same = sym high
-    by false true x y d e same = sym low
-    by false false true true d e same = refl
-    by false false false false d e same = sym count
-    by false false true false d e same = absurd (let wrong : true ≡ false = same d e in cc wrong)
-    by false false false true d e same = absurd (let wrong : false ≡ true = same d e in cc wrong)
+        by : (a b x y : Bool) → is_same_name p.name vdd ≡ a → is_same_name p.name vss ≡ b
+            → (is_same_name p.name vdd ≡ false → is_same_name p.name vss ≡ false → x ≡ y)
+            → tied_class (ends_of v read) (if a then tie.High else if b then tie.Low else if x then tie.Read else tie.Driven)
+            ≡ (if a then w.class (port vdd) else if b then w.class (port vss) else if y then read else w.count)
+        by true b x y d e same = sym high
+        by false true x y d e same = sym low
+        by false false true true d e same = refl
+        by false false false false d e same = sym count
+        by false false true false d e same = absurd (let wrong : true ≡ false = same d e in cc wrong)
+        by false false false true d e same = absurd (let wrong : false ≡ true = same d e in cc wrong)
 
   map_tied : (w : Wired) (v : Wiring) (read : ℕ) (ports : List Port) → ((p : Port) → In p ports → tied_class (ends_of v read) (tie_of p) ≡ pin_class w c read p.name)
       → map (tied_class (ends_of v read)) (map tie_of ports) ≡ map (pin_class w c read) (names_of ports)
@@ -235,9 +234,9 @@ module _ (l : Library) (c : Cell) (checked : IsChecked false l) (inside : In c l
       ∙ ap (λ (ns : List Name). list_any (λ pin. is_same_name pin name) ns && not (is_clock_of c.function name)) input_is
       ∙ ap (λ (f : Function). (is_same_name input name || false) && not (is_clock_of f name)) is_gate
       ∙ by (is_same_name input name) where
-    by : (b : Bool) → ((b || false) && not false) ≡ b
-    by true = refl
-    by false = refl
+        by : (b : Bool) → ((b || false) && not false) ≡ b
+        by true = refl
+        by false = refl
 
   different : AllDifferent (names_of (all_ports c))
   different = sorted_different (all_ports c) (all_sorted c formed)
@@ -289,17 +288,20 @@ module _ (l : Library) (c : Cell) (checked : IsChecked false l) (inside : In c l
       omega (arith, a, ins, others, b, d, outs, one)
 
   pub gate_fits : (name : Name) × IsGate l c name
-  gate_fits = (input, record {
-    found = found;
-    usable = usable;
-    sinks = sinks_are;
-    different = different;
-    order = sorted_pairs (all_ports c) (all_sorted c formed);
-    reads = reads;
-    ties = λ w v read high low count. map_tied w v read (all_ports c) (tied w v read high low count);
-    place = placed;
-    few = few_pins;
-  })
+  gate_fits = (
+    input,
+    record {
+      found = found;
+      usable = usable;
+      sinks = sinks_are;
+      different = different;
+      order = sorted_pairs (all_ports c) (all_sorted c formed);
+      reads = reads;
+      ties = λ w v read high low count. map_tied w v read (all_ports c) (tied w v read high low count);
+      place = placed;
+      few = few_pins;
+    },
+  )
 
 -- ---- repeaters
 

@@ -1,28 +1,22 @@
 -- The netlist that is built of a wiring and of the gates that were put in.
-use Rattle.std.proofs.Common.{◌≡◌, ◌≢◌, ◌↔◌, ◌⊎◌, inl, inr, ℕ, zero, suc, ◌+◌, ◌*◌, ◌^◌, ◌<◌, ◌≤◌, Bool, true, false, not, ◌&&◌, List, [], ◌∷◌, ◌++◌, map, filter, length, Option, None, Some, codes, bytes_eq, refl, sym, ◌∙◌, ap, subst, arith, append-nil, length-append, nat_eq, eqb-true, if◌then◌else◌}
-use Rattle.std.proofs.lemmas.List.{map-append}
+use Rattle.std.proofs.Common.{◌≡◌, ◌↔◌, ℕ, zero, suc, ◌+◌, ◌^◌, ◌<◌, ◌≤◌, Bool, true, false, not, ◌&&◌, List, [], ◌∷◌, ◌++◌, map, filter, length, Option, Some, codes, bytes_eq, refl, sym, ◌∙◌, ap, subst, arith, append-nil, length-append, nat_eq, eqb-true}
 use Rattle.std.specs.Prelude.{IfOk, Result, Ok, Err}
-use Rattle.std.specs.Global.{Vec}
-use Rattle.std.specs.List.{All, flat_map, list_all}
+use Rattle.std.specs.List.{All, flat_map}
 use Rattle.vlsi_base.specs.declared.name.Name.{Name}
 use Rattle.vlsi_base.specs.declared.name.Port.{Port}
 use Rattle.vlsi_base.specs.declared.name.Terminal.{Terminal}
 use Rattle.vlsi_base.specs.Member.{In, here, there, AllDifferent}
-use Rattle.machine_meaning.specs.Machine.{names_of}
-use Rattle.cell_model.specs.Cell.{Cell}
-use Rattle.cell_model.specs.Library.{Library, cell_of, IsUsable}
-use Rattle.cell_model.proofs.Members.{All-In, All-from, In-split, In-left, In-map, In-map_back}
-use Rattle.cell_pins.specs.Pins.{all_ports}
+use Rattle.cell_model.specs.Library.{Library}
+use Rattle.cell_model.proofs.Members.{All-In, All-from, In-map, In-map_back}
 use Rattle.cell_pins.proofs.Ports.{in_filter}
-use Rattle.cell_pins.proofs.Sound.{member_at}
 use Rattle.net_core.specs.declared.frame.Node.{Node}
 use Rattle.net_core.specs.Frame.{instance_of}
 use Rattle.net_core.specs.Netlist.{Instance, Netlist as InMemory, IsNetlist, AreInOrder, port, pins_of, terminals_of, terminals, HasClass}
-use Rattle.net_core.specs.Places.{Stands, IsThere, NoneTwice}
+use Rattle.net_core.specs.Places.{Stands, NoneTwice}
 use Rattle.net_core.proofs.Lookups.{itself}
 use Rattle.net_view.proofs.Lists.{map_twice}
-use Rattle.free_names.specs.Free.{is_free, free_texts}
-use Rattle.free_names.specs.Laws.{AreFree, TextsAreFree}
+use Rattle.free_names.specs.Free.{is_free}
+use Rattle.free_names.specs.Laws.{TextsAreFree}
 use Rattle.loon_fanout.specs.declared.build.Entry.{Entry}
 use Rattle.loon_fanout.specs.declared.build.Sketch.{Sketch}
 use Rattle.loon_fanout.specs.declared.repeater.Repeater.{Repeater as Parts}
@@ -33,7 +27,7 @@ use Rattle.loon_fanout.specs.Gated.{gate_names, gates_by, gated, gated_terminals
 use Rattle.loon_fanout.specs.Limited.{IsNetlistOf, HasFanout}
 use Rattle.loon_fanout.specs.Stages.{next_class}
 use Rattle.loon_fanout.proofs.Terminals.{class_of_map, class_is}
-use Rattle.loon_fanout.proofs.Picking.{is_false, filter_same, filter_none, different_append, different_of, twice_of, stands_in}
+use Rattle.loon_fanout.proofs.Picking.{filter_same, different_append, different_of, twice_of, stands_in}
 use Rattle.loon_fanout.proofs.Sinking.{all_terminals, all_sinks, names_in, sink_there, eq_itself, eq_not}
 use Rattle.loon_fanout.proofs.Following.{Follows}
 
@@ -102,12 +96,12 @@ instances_few (i ∷ is) each =
     let m = map_many (pin i) i.pins in
     let n = length-append (pins_of i) (flat_map pins_of is) in
     omega (arith, a, b, m, n) where
-  pin : Instance → Name → Terminal
-  pin i x = record { instance = Some i.name; pin = x }
+      pin : Instance → Name → Terminal
+      pin i x = record { instance = Some i.name; pin = x }
 
-  map_many : {A B : Type 0} (f : A → B) (xs : List A) → length (map f xs) ≡ length xs
-  map_many f [] = refl
-  map_many f (x ∷ xs) = let h = map_many f xs in omega (arith, h)
+      map_many : {A B : Type 0} (f : A → B) (xs : List A) → length (map f xs) ≡ length xs
+      map_many f [] = refl
+      map_many f (x ∷ xs) = let h = map_many f xs in omega (arith, h)
 
 module _ (l : Library) (n : InMemory) (r : Option Parts) (v : Wiring) (w : Wired) (f : Follows l [] v w) (ports : w.ports ≡ n.ports) (instances : w.instances ≡ gated n r v) where
   abbrev of_parts : List Port → List Instance → List Terminal
@@ -165,11 +159,11 @@ module _ (l : Library) (limit : ℕ) (k : InMemory) (w : Wired) (of : IsNetlistO
       let s = stands_in (terminals k) t i in
       let c = there_is (terminals k) k.classes sound.each s.0 t s.1 in
       (s.0, s.1, subst (λ (j : ℕ). Stands k.classes s.0 j) (sym (class_is (terminals k) k.classes t s.0 c.0 once s.1 c.1)) c.1) where
-    there_is : (ts : List Terminal) (ks : List ℕ) → length ks ≡ length ts → (p : ℕ) (t : Terminal) → Stands ts p t → (c : ℕ) × Stands ks p c
-    there_is [] ks many p t at = absurd cc
-    there_is (u ∷ ts) [] many p t at = absurd (omega (arith, many))
-    there_is (u ∷ ts) (c ∷ ks) many zero t at = (c, refl)
-    there_is (u ∷ ts) (c ∷ ks) many (suc p) t at = there_is ts ks (omega (arith, many)) p t at
+        there_is : (ts : List Terminal) (ks : List ℕ) → length ks ≡ length ts → (p : ℕ) (t : Terminal) → Stands ts p t → (c : ℕ) × Stands ks p c
+        there_is [] ks many p t at = absurd cc
+        there_is (u ∷ ts) [] many p t at = absurd (omega (arith, many))
+        there_is (u ∷ ts) (c ∷ ks) many zero t at = (c, refl)
+        there_is (u ∷ ts) (c ∷ ks) many (suc p) t at = there_is ts ks (omega (arith, many)) p t at
 
   agree : (t u : Terminal) → In t (terminals k) → In u (terminals k) → nat_eq ((wired_of k).class u) ((wired_of k).class t) ≡ nat_eq (w.class u) (w.class t)
   agree t u i j = by (nat_eq (w.class u) (w.class t)) refl where
@@ -213,10 +207,11 @@ pub names_apart : TextsAreFree → (n : InMemory) (many : ℕ) → IsNetlist n �
 names_apart law n many sound room =
     let taken : List (List ℕ) = map (λ (i : Instance). i.name) n.instances in
     let m = map_many (λ (i : Instance). i.name) n.instances in
-    let a = law (codes "b") taken many (omega (arith, m, room)) in
-    (different_append taken (gate_names n many) (different_of taken sound.names) a.different
-    (λ t i j. free_not taken t (All-In (λ u. is_free taken u ≡ true) (gate_names n many) a.free t j) i),
-    a.each) where
-  map_many : {A B : Type 0} (f : A → B) (xs : List A) → length (map f xs) ≡ length xs
-  map_many f [] = refl
-  map_many f (x ∷ xs) = let h = map_many f xs in omega (arith, h)
+    let a = law (codes "b") taken many (omega (arith, m, room)) in (
+      different_append taken (gate_names n many) (different_of taken sound.names) a.different
+          (λ t i j. free_not taken t (All-In (λ u. is_free taken u ≡ true) (gate_names n many) a.free t j) i),
+      a.each,
+    ) where
+      map_many : {A B : Type 0} (f : A → B) (xs : List A) → length (map f xs) ≡ length xs
+      map_many f [] = refl
+      map_many f (x ∷ xs) = let h = map_many f xs in omega (arith, h)

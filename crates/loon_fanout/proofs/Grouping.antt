@@ -1,13 +1,12 @@
 -- A group of sinks that is put behind gates: what a wiring that follows has then.
-use Rattle.std.proofs.Common.{◌≡◌, ◌≢◌, ◌⊎◌, inl, inr, ℕ, zero, suc, ◌+◌, ◌-◌, ◌<◌, ◌≤◌, Bool, true, false, ◌||◌, List, [], ◌∷◌, ◌++◌, map, filter, length, Option, None, Some, refl, sym, ◌∙◌, ap, subst, arith, append-nil, append_assoc, nat_eq, eqb-true, if◌then◌else◌}
-use Rattle.std.proofs.lemmas.List.{map-append}
+use Rattle.std.proofs.Common.{◌≡◌, ◌≢◌, ℕ, zero, suc, ◌+◌, ◌-◌, ◌<◌, ◌≤◌, Bool, true, false, ◌||◌, List, [], ◌∷◌, ◌++◌, map, length, None, Some, refl, sym, ◌∙◌, ap, subst, arith, append-nil, append_assoc, nat_eq, eqb-true, if◌then◌else◌}
 use Rattle.std.specs.Prelude.{slice_set}
 use Rattle.std.specs.Global.{Vec}
 use Rattle.std.specs.List.{list_any}
 use Rattle.vlsi_base.specs.declared.name.Name.{Name}
 use Rattle.vlsi_base.specs.declared.name.Terminal.{Terminal}
 use Rattle.vlsi_base.specs.Names.{vdd, vss}
-use Rattle.vlsi_base.specs.Member.{In, here, there, AllDifferent}
+use Rattle.vlsi_base.specs.Member.{In, AllDifferent}
 use Rattle.machine_meaning.specs.Machine.{names_of}
 use Rattle.cell_model.specs.Cell.{Cell}
 use Rattle.cell_model.specs.Library.{Library}
@@ -25,7 +24,7 @@ use Rattle.loon_fanout.specs.Sinks.{Wired, sinks, is_same_terminal}
 use Rattle.loon_fanout.specs.Wired.{with_gate, with_row, with_moved, with_group}
 use Rattle.loon_fanout.specs.Stages.{tie_of, next_class, PutsGate, PutsRow, once, two, set_places, Moves, PutsBehind, IsPart}
 use Rattle.loon_fanout.proofs.Terminals.{terminal_same, terminal_itself}
-use Rattle.loon_fanout.proofs.Picking.{is_false, any_in, not_any, map_same, AtPlaces, at_more}
+use Rattle.loon_fanout.proofs.Picking.{is_false, not_any, map_same, AtPlaces, at_more}
 use Rattle.loon_fanout.proofs.Gates.{IsGate}
 use Rattle.loon_fanout.proofs.Sinking.{all_terminals, all_sinks, Owned, sink_owned, its_input, Moved, sinks_moved, eq_itself, eq_not}
 use Rattle.loon_fanout.proofs.Following.{Follows, gate_follows, gate_grows, gate_place, gate_sinks, none_behind}
@@ -71,7 +70,6 @@ pub record RowDone (l : Library) (c : Cell) (gates : ℕ) (left : List (List ℕ
 
 module _ (l : Library) (c : Cell) (input : Name) (g : IsGate l c input) (v : Wiring) (w : Wired) (class : ℕ) (low : class < w.count) (ties : List Tie)
     (are : ties ≡ map tie_of (all_ports c)) where
-
   one_gate : (later : List (List ℕ)) (name : List ℕ) (u : Wiring) (place : ℕ) → Follows l (name ∷ later) v w → PutsGate ties v u class place
       → RowDone l c 1 (name ∷ later) u w class place (next_class v)
   one_gate later name u place f puts = record {
@@ -158,16 +156,16 @@ pub row_done : (l : Library) (c : Cell) (input : Name) → IsGate l c input → 
 row_done l c input g r gates part left v u w class place driven low enough f (once single puts) =
     let one : gates ≡ 1 = part.gates ∙ ap (λ (b : Bool). if b then 2 else 1) single in
     subst (λ (n : ℕ). RowDone l c n left u w class place (next_class v)) (sym one) (by left (omega (arith, enough, one)) f) where
-  by : (names : List (List ℕ)) → 1 ≤ length names → Follows l names v w → RowDone l c 1 names u w class place (next_class v)
-  by [] h f = absurd (omega (arith, h))
-  by (name ∷ later) h f = one_gate l c input g v w class low r.ties.items part.ties later name u place f puts
+      by : (names : List (List ℕ)) → 1 ≤ length names → Follows l names v w → RowDone l c 1 names u w class place (next_class v)
+      by [] h f = absurd (omega (arith, h))
+      by (name ∷ later) h f = one_gate l c input g v w class low r.ties.items part.ties later name u place f puts
 row_done l c input g r gates part left v u w class place driven low enough f (two m other double puts again) =
     let both : gates ≡ 2 = part.gates ∙ ap (λ (b : Bool). if b then 2 else 1) double in
     subst (λ (n : ℕ). RowDone l c n left u w class place (next_class m)) (sym both) (by left (omega (arith, enough, both)) f) where
-  by : (names : List (List ℕ)) → 2 ≤ length names → Follows l names v w → RowDone l c 2 names u w class place (next_class m)
-  by [] h f = absurd (omega (arith, h))
-  by (name ∷ []) h f = absurd (omega (arith, h))
-  by (name ∷ next ∷ later) h f = two_gates l c input g v w class low r.ties.items part.ties later name next m u place other f puts again
+      by : (names : List (List ℕ)) → 2 ≤ length names → Follows l names v w → RowDone l c 2 names u w class place (next_class m)
+      by [] h f = absurd (omega (arith, h))
+      by (name ∷ []) h f = absurd (omega (arith, h))
+      by (name ∷ next ∷ later) h f = two_gates l c input g v w class low r.ties.items part.ties later name next m u place other f puts again
 
 -- ---- terminals that are moved
 
@@ -200,11 +198,11 @@ set_all f ts (p ∷ ps) (u ∷ us) k d at =
     ∙ map_same (λ t. if list_any (is_same_terminal t) us then k else if is_same_terminal t u then k else f t)
     (λ t. if is_same_terminal t u || list_any (is_same_terminal t) us then k else f t) ts
     (λ t i. by (f t) (is_same_terminal t u) (list_any (is_same_terminal t) us)) where
-  by : (j : ℕ) (a b : Bool) → (if b then k else if a then k else j) ≡ (if a || b then k else j)
-  by j true true = refl
-  by j true false = refl
-  by j false true = refl
-  by j false false = refl
+      by : (j : ℕ) (a b : Bool) → (if b then k else if a then k else j) ≡ (if a || b then k else j)
+      by j true true = refl
+      by j true false = refl
+      by j false true = refl
+      by j false false = refl
 
 -- ---- a group
 

@@ -1,5 +1,5 @@
 -- Rounds by places are rounds on terminals.
-use Rattle.std.proofs.Common.{◌≡◌, ◌≢◌, ◌⊎◌, inl, inr, ℕ, zero, suc, ◌+◌, ◌<◌, ◌≤◌, Bool, true, false, List, [], ◌∷◌, ◌++◌, map, length, refl, sym, ◌∙◌, ap, subst, arith, append-nil, append_assoc, length-append, if◌then◌else◌}
+use Rattle.std.proofs.Common.{◌≡◌, ◌⊎◌, inl, inr, ℕ, zero, suc, ◌+◌, ◌<◌, ◌≤◌, Bool, List, [], ◌∷◌, ◌++◌, map, length, refl, sym, ◌∙◌, ap, subst, arith, append-nil, append_assoc, length-append, if◌then◌else◌}
 use Rattle.std.proofs.lemmas.List.Elements.{All-cons}
 use Rattle.std.proofs.lemmas.Option.{slice_get_within}
 use Rattle.std.specs.Global.{Vec}
@@ -15,7 +15,7 @@ use Rattle.loon_fanout.specs.Sinks.{Wired, sinks}
 use Rattle.loon_fanout.specs.Wired.{with_group}
 use Rattle.loon_fanout.specs.Repeaters.{Repeater}
 use Rattle.loon_fanout.specs.Limited.{Row, with_round, AreGroups, last, next, IsLimited, within, round}
-use Rattle.loon_fanout.specs.Stages.{PutsGate, PutsRow, once, two, PutsBehind, PutsGroups, none, one, LimitsClass, few, many, LimitsAll, done, more, IsPart}
+use Rattle.loon_fanout.specs.Stages.{PutsRow, once, two, PutsBehind, PutsGroups, none, one, LimitsClass, few, many, LimitsAll, done, more, IsPart}
 use Rattle.loon_fanout.proofs.Picking.{AtPlaces, at_more, at_append, at_many, Halves, at_halves}
 use Rattle.loon_fanout.proofs.Gates.{IsGate}
 use Rattle.loon_fanout.proofs.Sinking.{all_terminals}
@@ -186,38 +186,38 @@ module _ (l : Library) (c : Cell) (input : Name) (g : IsGate l c input) (r : Par
       (d.now ∙ append_assoc h.back is (d.first ∷ []))
       (let k = d.kept.more in omega (arith, k, low))
       (let a = ap length d.parts in let n = length-append d.names d.later in let b = d.many in omega (arith, a, n, b, step, enough)))
-      where
-    h : Halves (all_terminals w) group rest us
-    h = at_halves (all_terminals w) group rest us at
+    where
+      h : Halves (all_terminals w) group rest us
+      h = at_halves (all_terminals w) group rest us at
 
-    step : gates_in x ≡ gates_in v + gates
-    step = behind_counted c r gates part v x class place group behind
+      step : gates_in x ≡ gates_in v + gates
+      step = behind_counted c r gates part v x class place group behind
 
-    more_gates : gates_in x ≤ gates_in u
-    more_gates = groups_counted c r gates part limit class x u rest (inputs ++ place ∷ []) all others
+      more_gates : gates_in x ≤ gates_in u
+      more_gates = groups_counted c r gates part limit class x u rest (inputs ++ place ∷ []) all others
 
-    front_many : length group ≡ length h.front
-    front_many = at_many (all_terminals w) group h.front h.first
+      front_many : length group ≡ length h.front
+      front_many = at_many (all_terminals w) group h.front h.first
 
-    few_front : length h.front ≤ limit
-    few_front = let n = front_many in omega (arith, n, small)
+      few_front : length h.front ≤ limit
+      few_front = let n = front_many in omega (arith, n, small)
 
-    some_front : 0 < length h.front
-    some_front = let n = front_many in omega (arith, n, some_group)
+      some_front : 0 < length h.front
+      some_front = let n = front_many in omega (arith, n, some_group)
 
-    full_front : (h.back ≡ []) ⊎ (length h.front ≡ limit)
-    full_front = elim full [
-      | inl none_left ↦ inl (is_none (all_terminals w) rest h.back h.second none_left)
-      | inr whole ↦ inr (sym front_many ∙ whole)
-    ]
+      full_front : (h.back ≡ []) ⊎ (length h.front ≡ limit)
+      full_front = elim full [
+        | inl none_left ↦ inl (is_none (all_terminals w) rest h.back h.second none_left)
+        | inr whole ↦ inr (sym front_many ∙ whole)
+      ]
 
-    d : GroupDone l c gates limit left x w class place h.front (h.back ++ is)
-    d = group_done l c input g r gates part limit left v x w class place group h.front (h.back ++ is) low
-        (let a = step in let b = more_gates in omega (arith, a, b, enough)) few_front some f h.first
-        (now ∙ ap (λ (ts : List Terminal). ts ++ is) h.parts ∙ append_assoc h.front h.back is) behind
+      d : GroupDone l c gates limit left x w class place h.front (h.back ++ is)
+      d = group_done l c input g r gates part limit left v x w class place group h.front (h.back ++ is) low
+          (let a = step in let b = more_gates in omega (arith, a, b, enough)) few_front some f h.first
+          (now ∙ ap (λ (ts : List Terminal). ts ++ is) h.parts ∙ append_assoc h.front h.back is) behind
 
-    grown : (ps : List ℕ) (ts : List Terminal) → AtPlaces (all_terminals w) ps ts → AtPlaces (all_terminals (with_group c w class d.names h.front)) ps ts
-    grown ps ts k = subst (λ (ys : List Terminal). AtPlaces ys ps ts) (sym d.grown) (at_more (all_terminals w) d.more ps ts k)
+      grown : (ps : List ℕ) (ts : List Terminal) → AtPlaces (all_terminals w) ps ts → AtPlaces (all_terminals (with_group c w class d.names h.front)) ps ts
+      grown ps ts k = subst (λ (ys : List Terminal). AtPlaces ys ps ts) (sym d.grown) (at_more (all_terminals w) d.more ps ts k)
 
 -- ---- the rounds on a class
 
@@ -341,12 +341,12 @@ module _ (l : Library) (b : Repeater) (input : Name) (g : IsGate l b.cell input)
       (let k = d.kept.more in omega (arith, k, low))
       (λ k under. let is = ap length (d.kept.old k (λ e. omega (arith, e, under)) (omega (arith, under, low))) in let h = earlier k under in omega (arith, is, h))
       (let a = ap length d.parts in let n = length-append (names_of_rows d.rows) d.later in let e = d.counted in omega (arith, a, n, e, enough))) where
-    long : limit < length (sinks l w class)
-    long = let n = at_many (all_terminals w) places (sinks l w class) at in omega (arith, n, large)
+        long : limit < length (sinks l w class)
+        long = let n = at_many (all_terminals w) places (sinks l w class) at in omega (arith, n, large)
 
-    d : RoundDone l b.cell b.gates limit left v x w class inputs (sinks l w class)
-    d = round_done l b.cell input g r b.gates part limit class some left v x w places [] inputs (sinks l w class) [] puts f at tt (sym (append-nil (sinks l w class))) low
-        (let a = class_counted b.cell r b.gates part limit class x u inputs others in omega (arith, a, enough))
+        d : RoundDone l b.cell b.gates limit left v x w class inputs (sinks l w class)
+        d = round_done l b.cell input g r b.gates part limit class some left v x w places [] inputs (sinks l w class) [] puts f at tt (sym (append-nil (sinks l w class))) low
+            (let a = class_counted b.cell r b.gates part limit class x u inputs others in omega (arith, a, enough))
 
   pub all_done : (class : ℕ) (loads : List (Vec ℕ)) (left : List (List ℕ)) (v u : Wiring) (w : Wired) → LimitsAll r limit class loads v u → Follows l left v w → AreLeft l limit loads class w
       → gates_in u ≤ gates_in v + length left → AllDone l limit b left v u w
@@ -365,11 +365,11 @@ module _ (l : Library) (b : Repeater) (input : Name) (g : IsGate l b.cell input)
       all_step l limit b left v x u w class d
       (all_done (suc class) rest d.later x u d.end others d.follows (next_left l limit places rest class w d.end d.more h d.small d.kept d.grown)
       (let a = ap length d.parts in let n = length-append d.used d.later in let e = d.counted in omega (arith, a, n, e, enough))) where
-    at_class : class + 0 ≡ class
-    at_class = omega arith
+        at_class : class + 0 ≡ class
+        at_class = omega arith
 
-    d : ClassDone l limit b left v x w class
-    d = class_done class left v x w places.items this f
-        (subst (λ (k : ℕ). AtPlaces (all_terminals w) places.items (sinks l w k)) at_class (h.each 0 places refl))
-        (let a = h.within in omega (arith, a)) h.earlier
-        (let a = all_counted b.cell r b.gates part limit (suc class) rest x u others in omega (arith, a, enough))
+        d : ClassDone l limit b left v x w class
+        d = class_done class left v x w places.items this f
+            (subst (λ (k : ℕ). AtPlaces (all_terminals w) places.items (sinks l w k)) at_class (h.each 0 places refl))
+            (let a = h.within in omega (arith, a)) h.earlier
+            (let a = all_counted b.cell r b.gates part limit (suc class) rest x u others in omega (arith, a, enough))

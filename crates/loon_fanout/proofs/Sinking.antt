@@ -1,27 +1,23 @@
 -- The sinks of the classes after gates are put in, and after sinks are moved.
-use Rattle.std.proofs.Common.{◌≡◌, ◌≢◌, ◌⊎◌, inl, inr, ℕ, zero, suc, ◌+◌, ◌-◌, ◌<◌, ◌≤◌, Bool, true, false, not, ◌&&◌, List, [], ◌∷◌, ◌++◌, map, filter, length, Option, None, Some, refl, sym, ◌∙◌, ap, subst, arith, append-nil, append_assoc, nat_eq, eqb-true, if◌then◌else◌}
+use Rattle.std.proofs.Common.{◌≡◌, ◌≢◌, inl, inr, ℕ, ◌+◌, ◌-◌, Bool, true, false, not, ◌&&◌, List, [], ◌∷◌, ◌++◌, map, filter, Some, refl, sym, ◌∙◌, ap, subst, append-nil, nat_eq, eqb-true, if◌then◌else◌}
 use Rattle.std.proofs.lemmas.Bool.{eq-eqb}
 use Rattle.std.proofs.lemmas.Grind.{flat_map-append}
-use Rattle.std.proofs.lemmas.List.{map-append}
 use Rattle.std.specs.List.{flat_map, list_any}
 use Rattle.vlsi_base.specs.declared.name.Name.{Name}
 use Rattle.vlsi_base.specs.declared.name.Port.{Port}
 use Rattle.vlsi_base.specs.declared.name.Terminal.{Terminal}
 use Rattle.vlsi_base.specs.Member.{In, here, there, AllDifferent}
-use Rattle.machine_meaning.specs.Machine.{names_of}
-use Rattle.machine_meaning.specs.Named.{is_same_text}
 use Rattle.cell_model.specs.Cell.{Cell}
 use Rattle.cell_model.specs.Library.{Library, cell_of}
 use Rattle.cell_model.proofs.Members.{In-split, In-left, In-right, In-map, In-map_back}
-use Rattle.cell_model.proofs.Texts.{text_same, text_itself, text_differs}
-use Rattle.cell_pins.specs.Pins.{all_ports}
+use Rattle.cell_model.proofs.Texts.{text_itself, text_differs}
 use Rattle.cell_pins.proofs.Ports.{in_filter}
 use Rattle.net_core.specs.Netlist.{Instance, port, pin_of, pins_of, terminals_of}
 use Rattle.loon_fanout.specs.Sinks.{Wired, is_sink_of, instance_sinks, sinks, is_same_owner, is_same_terminal}
 use Rattle.loon_fanout.specs.Wired.{pin_class, with_gate, with_moved}
 use Rattle.loon_fanout.specs.Laws.{gate_named}
 use Rattle.loon_fanout.proofs.Terminals.{terminal_same, terminal_itself}
-use Rattle.loon_fanout.proofs.Picking.{is_false, either_way, any_in, in_any, not_any, filter_append, filter_same, filter_twice, filter_all, filter_none, filter_in, different_filter, different_apart}
+use Rattle.loon_fanout.proofs.Picking.{is_false, any_in, in_any, filter_append, filter_same, filter_twice, filter_all, filter_none, filter_in, different_filter, different_apart}
 use Rattle.loon_fanout.proofs.Gates.{IsGate}
 
 -- ---- numbers
@@ -81,10 +77,10 @@ pub not_new : (w : Wired) (name : List ℕ) (t : Terminal) → (In name (names_i
 not_new w name t new i = elim (In-split t (map (λ p. port p.name) w.ports) (flat_map pins_of w.instances) i) [
   | inl a ↦ let r = In-map_back (λ (p : Port). port p.name) t w.ports a in subst (λ (u : Terminal). is_same_owner u.instance (Some name) ≡ false) r.2 refl
   | inr b ↦
-    let r = flat_in pins_of t w.instances b in
-    let p = In-map_back (pin_of r.0.name) t r.0.pins r.2 in
-    subst (λ (u : Terminal). is_same_owner u.instance (Some name) ≡ false) p.2
-    (text_differs r.0.name name (λ e. new (subst (λ (n : List ℕ). In n (names_in w)) e (In-map (λ (x : Instance). x.name) r.0 w.instances r.1))))
+      let r = flat_in pins_of t w.instances b in
+      let p = In-map_back (pin_of r.0.name) t r.0.pins r.2 in
+      subst (λ (u : Terminal). is_same_owner u.instance (Some name) ≡ false) p.2
+      (text_differs r.0.name name (λ e. new (subst (λ (n : List ℕ). In n (names_in w)) e (In-map (λ (x : Instance). x.name) r.0 w.instances r.1))))
 ]
 
 -- ---- a gate

@@ -1,30 +1,29 @@
 -- What is known before gates are put in: sinks by places are sinks by terminals.
-use Rattle.std.proofs.Common.{◌≡◌, ◌≢◌, ◌⊎◌, inl, inr, ℕ, zero, suc, ◌+◌, ◌<◌, ◌≤◌, Bool, true, false, ◌&&◌, List, [], ◌∷◌, ◌++◌, map, filter, length, get_or, Some, refl, sym, ◌∙◌, ap, subst, arith, append_assoc, length-append, nat_eq, if◌then◌else◌}
+use Rattle.std.proofs.Common.{◌≡◌, inl, inr, ℕ, zero, suc, ◌+◌, ◌<◌, Bool, true, false, ◌&&◌, List, [], ◌∷◌, ◌++◌, map, filter, length, get_or, Some, refl, sym, ◌∙◌, ap, subst, arith, append_assoc, length-append, nat_eq, if◌then◌else◌}
 use Rattle.std.proofs.lemmas.Option.{slice_get_within}
 use Rattle.std.specs.Prelude.{slice_get}
 use Rattle.std.specs.Global.{Vec}
-use Rattle.std.specs.List.{All, flat_map}
-use Rattle.vlsi_base.specs.declared.name.Name.{Name}
+use Rattle.std.specs.List.{flat_map}
 use Rattle.vlsi_base.specs.declared.name.Port.{Port}
 use Rattle.vlsi_base.specs.declared.name.Terminal.{Terminal}
 use Rattle.vlsi_base.specs.Names.{vdd, vss}
-use Rattle.vlsi_base.specs.Member.{In, here, there, AllDifferent}
+use Rattle.vlsi_base.specs.Member.{In, AllDifferent}
 use Rattle.cell_model.specs.Library.{Library, cell_of}
 use Rattle.cell_model.proofs.Members.{All-In, In-left, In-right, In-split, In-map, In-map_back}
 use Rattle.cell_pins.proofs.Ports.{in_filter}
 use Rattle.cell_pins.proofs.Sound.{member_at}
-use Rattle.net_core.specs.Netlist.{Instance, Netlist as InMemory, IsNetlist, port, pin_of, pins_of, terminals_of, terminals, HasClass}
-use Rattle.net_core.specs.Places.{Stands, IsThere, NoneTwice}
+use Rattle.net_core.specs.Netlist.{Instance, Netlist as InMemory, IsNetlist, port, pin_of, pins_of, terminals}
+use Rattle.net_core.specs.Places.{Stands, NoneTwice}
 use Rattle.net_core.proofs.Finishing.{netlist_terminals_once}
 use Rattle.net_core.proofs.Namings.{turn_below}
 use Rattle.net_core.proofs.Standing.{stands_right}
 use Rattle.loon_fanout.specs.declared.wiring.Wiring.{Wiring}
-use Rattle.loon_fanout.specs.Sinks.{Wired, is_sink_of, instance_sinks, sinks, is_same_terminal, class_among, wired_of}
+use Rattle.loon_fanout.specs.Sinks.{is_sink_of, instance_sinks, sinks, is_same_terminal, class_among, wired_of}
 use Rattle.loon_fanout.specs.Limited.{IsOfCells}
-use Rattle.loon_fanout.specs.Stages.{pin_marks, all_marks, marked_places, AreLoads, IsStart, next_class}
+use Rattle.loon_fanout.specs.Stages.{pin_marks, all_marks, marked_places, AreLoads, IsStart}
 use Rattle.loon_fanout.proofs.Terminals.{terminal_same, terminal_itself, class_is}
 use Rattle.loon_fanout.proofs.Picking.{is_false, map_same, different_append, different_left, different_right, different_apart, different_of, AtPlaces}
-use Rattle.loon_fanout.proofs.Sinking.{all_terminals, all_sinks, names_in}
+use Rattle.loon_fanout.proofs.Sinking.{all_sinks}
 use Rattle.loon_fanout.proofs.Following.{Follows, none_behind}
 use Rattle.loon_fanout.proofs.Rounds.{AreLeft}
 
@@ -154,15 +153,15 @@ marked_at f k (m ∷ marks) (u ∷ us) before place is =
     by m (nat_eq (f u) k) refl
     (subst (λ (ts : List Terminal). AtPlaces ts (marked_places (suc place) marks (map f us) k) (filter (λ t. nat_eq (f t) k) (keep marks us))) (append_assoc before (u ∷ []) us)
     (marked_at f k marks us (before ++ u ∷ []) (suc place) (let n = length-append before (u ∷ []) in omega (arith, n, is)))) where
-  stands : Stands (before ++ (u ∷ us)) place u
-  stands = let n : length before + 0 ≡ place = omega (arith, is) in
-      subst (λ (j : ℕ). Stands (before ++ (u ∷ us)) j u) n (stands_right before (u ∷ us) 0 u refl)
+      stands : Stands (before ++ (u ∷ us)) place u
+      stands = let n : length before + 0 ≡ place = omega (arith, is) in
+          subst (λ (j : ℕ). Stands (before ++ (u ∷ us)) j u) n (stands_right before (u ∷ us) 0 u refl)
 
-  by : (a b : Bool) → nat_eq (f u) k ≡ b → AtPlaces (before ++ (u ∷ us)) (marked_places (suc place) marks (map f us) k) (filter (λ t. nat_eq (f t) k) (keep marks us))
-      → AtPlaces (before ++ (u ∷ us)) (if a && b then place ∷ (marked_places (suc place) marks (map f us) k) else (marked_places (suc place) marks (map f us) k)) (filter (λ t. nat_eq (f t) k) (if a then u ∷ keep marks us else keep marks us))
-  by true true e h = subst (λ (c : Bool). AtPlaces (before ++ (u ∷ us)) (place ∷ (marked_places (suc place) marks (map f us) k)) (if c then u ∷ filter (λ t. nat_eq (f t) k) (keep marks us) else filter (λ t. nat_eq (f t) k) (keep marks us))) (sym e) (stands, h)
-  by true false e h = subst (λ (c : Bool). AtPlaces (before ++ (u ∷ us)) (marked_places (suc place) marks (map f us) k) (if c then u ∷ filter (λ t. nat_eq (f t) k) (keep marks us) else filter (λ t. nat_eq (f t) k) (keep marks us))) (sym e) h
-  by false b e h = h
+      by : (a b : Bool) → nat_eq (f u) k ≡ b → AtPlaces (before ++ (u ∷ us)) (marked_places (suc place) marks (map f us) k) (filter (λ t. nat_eq (f t) k) (keep marks us))
+          → AtPlaces (before ++ (u ∷ us)) (if a && b then place ∷ (marked_places (suc place) marks (map f us) k) else (marked_places (suc place) marks (map f us) k)) (filter (λ t. nat_eq (f t) k) (if a then u ∷ keep marks us else keep marks us))
+      by true true e h = subst (λ (c : Bool). AtPlaces (before ++ (u ∷ us)) (place ∷ (marked_places (suc place) marks (map f us) k)) (if c then u ∷ filter (λ t. nat_eq (f t) k) (keep marks us) else filter (λ t. nat_eq (f t) k) (keep marks us))) (sym e) (stands, h)
+      by true false e h = subst (λ (c : Bool). AtPlaces (before ++ (u ∷ us)) (marked_places (suc place) marks (map f us) k) (if c then u ∷ filter (λ t. nat_eq (f t) k) (keep marks us) else filter (λ t. nat_eq (f t) k) (keep marks us))) (sym e) h
+      by false b e h = h
 
 pub places_are_sinks : (l : Library) (n : InMemory) → IsNetlist n → (k : ℕ) → AtPlaces (terminals n) (marked_places 0 (all_marks l n) n.classes k) (sinks l (wired_of n) k)
 places_are_sinks l n sound k =

@@ -1,43 +1,42 @@
 -- Nets with many sinks put behind buffers: what the call gives.
-use Rattle.std.proofs.Common.{◌≡◌, ◌≢◌, ◌↔◌, ◌⊎◌, inl, inr, ℕ, zero, suc, ◌+◌, ◌*◌, ◌^◌, ◌<◌, ◌≤◌, Bool, true, false, List, [], ◌∷◌, ◌++◌, map, length, get_or, Option, None, Some, codes, pos, refl, sym, ◌∙◌, ap, subst, arith, append-nil, length-append}
-use Rattle.std.proofs.lemmas.Option.{slice_get_within}
+use Rattle.std.proofs.Common.{◌≡◌, ◌↔◌, inl, inr, ℕ, zero, suc, ◌+◌, ◌*◌, ◌^◌, ◌<◌, ◌≤◌, Bool, true, false, List, [], ◌∷◌, ◌++◌, map, length, Option, None, Some, pos, refl, sym, ◌∙◌, ap, subst, arith, append-nil, length-append}
 use Rattle.std.specs.Global.{Vec}
-use Rattle.std.specs.List.{All, flat_map}
-use Rattle.std.specs.Prelude.{slice_get, IsTrue, IfSome, IfNone}
+use Rattle.std.specs.List.{flat_map}
+use Rattle.std.specs.Prelude.{IsTrue, IfSome, IfNone}
 use Rattle.vlsi_base.specs.declared.name.Name.{Name}
 use Rattle.vlsi_base.specs.declared.name.Port.{Port}
 use Rattle.vlsi_base.specs.declared.name.Terminal.{Terminal}
 use Rattle.vlsi_base.specs.Names.{vdd, vss}
-use Rattle.vlsi_base.specs.Member.{In, here, there, AllDifferent}
+use Rattle.vlsi_base.specs.Member.{In, AllDifferent}
 use Rattle.machine_meaning.specs.Machine.{names_of}
 use Rattle.cell_model.specs.Cell.{Cell, pin_ports, opaque}
 use Rattle.cell_model.specs.Library.{Library, cell_of, IsUsable}
-use Rattle.cell_model.proofs.Members.{All-In, In-split, In-left, In-map, In-map_back}
+use Rattle.cell_model.proofs.Members.{All-In, In-split, In-map, In-map_back}
 use Rattle.cell_checks.specs.Checked.{IsChecked, library_of}
 use Rattle.cell_pins.specs.Pins.{supply, all_ports}
 use Rattle.cell_pins.proofs.Sound.{member_at}
 use Rattle.net_core.specs.Netlist.{Instance, Netlist as InMemory, IsNetlist, AreInOrder, port, pins_of, terminals_of, terminals}
-use Rattle.net_core.specs.Places.{Stands, IsThere}
+use Rattle.net_core.specs.Places.{Stands}
 use Rattle.net_core.proofs.Finishing.{netlist_terminals_once}
 use Rattle.net_view.proofs.Ports.{vdd_there}
 use Rattle.free_names.specs.Laws.{TextsAreFree}
 use Rattle.loon_fanout.specs.declared.repeater.Repeater.{Repeater as Parts}
 use Rattle.loon_fanout.specs.declared.wiring.Wiring.{Wiring}
 use Rattle.loon_fanout.specs.Sinks.{Wired, sinks, wired_of}
-use Rattle.loon_fanout.specs.Repeaters.{Repeater, IsRepeater, buffer, inverters, IsFirst, NoneRepeats}
+use Rattle.loon_fanout.specs.Repeaters.{Repeater, IsRepeater, buffer, inverters, NoneRepeats}
 use Rattle.loon_fanout.specs.Building.{gate_by}
-use Rattle.loon_fanout.specs.Gated.{gate_names, gates_by, gated, IsGatable, IsGated}
+use Rattle.loon_fanout.specs.Gated.{gate_names, gated, IsGatable, IsGated}
 use Rattle.loon_fanout.specs.Laws.{gate_named, StaysBeside}
-use Rattle.loon_fanout.specs.Limited.{IsLimited, within, IsCrowded, IsNetlistOf, IsBuffered, HasFanout, IsOfCells, HasRoomForGates}
+use Rattle.loon_fanout.specs.Limited.{IsLimited, within, IsCrowded, IsBuffered, HasFanout, IsOfCells, HasRoomForGates}
 use Rattle.loon_fanout.specs.Stages.{tie_of, all_marks, AreLoads, LimitsAll, IsStart, IsPart, IsRepeaterOf, HasLongLoad}
-use Rattle.loon_fanout.proofs.Picking.{map_same, different_of, AtPlaces, at_many, stands_in}
-use Rattle.loon_fanout.proofs.Gates.{IsGate, Chosen, chosen}
+use Rattle.loon_fanout.proofs.Picking.{map_same, different_of, at_many, stands_in}
+use Rattle.loon_fanout.proofs.Gates.{Chosen, chosen}
 use Rattle.loon_fanout.proofs.Kept.{limited_stays_beside}
 use Rattle.loon_fanout.proofs.Sinking.{all_terminals}
 use Rattle.loon_fanout.proofs.Following.{Follows, none_behind}
-use Rattle.loon_fanout.proofs.Rounds.{below_or, gates_in, AllDone, AreLeft, all_done}
+use Rattle.loon_fanout.proofs.Rounds.{below_or, gates_in, AllDone, all_done}
 use Rattle.loon_fanout.proofs.Starting.{follows_start, load_is, left_start}
-use Rattle.loon_fanout.proofs.Counted.{total, counted, loads_few}
+use Rattle.loon_fanout.proofs.Counted.{counted, loads_few}
 use Rattle.loon_fanout.proofs.Gating.{can_gate, is_of, instances_few, has_fanout, names_apart}
 
 by_room : (k : ℕ) → 32 * k < 2 ^ 32 → k < 2 ^ 32
@@ -76,9 +75,9 @@ pub crowded_long : (l : Library) (limit : ℕ) (n : InMemory) (v : Wiring) (load
     → AreLoads (all_marks l n) n.classes n.count loads → IsCrowded l limit n → HasLongLoad limit loads
 crowded_long l limit n v loads sound cells start are (k, long) = elim (below_or k n.count) [
   | inl low ↦
-    let many = are.many in
-    let at = get_stands loads k (omega (arith, low, many)) in
-    (k, at.0, at.1, let m = at_many (terminals n) at.0.items (sinks l (wired_of n) k) (load_is l n loads sound are k at.0 at.1) in omega (arith, m, long))
+      let many = are.many in
+      let at = get_stands loads k (omega (arith, low, many)) in
+      (k, at.0, at.1, let m = at_many (terminals n) at.0.items (sinks l (wired_of n) k) (load_is l n loads sound are k at.0 at.1) in omega (arith, m, long))
   | inr over ↦ absurd (let e = ap length (not_behind l n v sound cells start k over) in omega (arith, e, long))
 ]
 
@@ -141,7 +140,6 @@ start_built l n v limit sound cells room start few = record {
   gates = let e = ap length start.reads in omega (arith, e);
   ports_order = sound.ports;
 }
-
 
 -- ---- with gates
 

@@ -163,13 +163,14 @@ pub fn limit_fanout(
     ensures refused { IfErr result (λ e. IsBufferRefusal netlist.now library.now fanout e) }
 {
     texts_are_free();
+    let cells = library.cells();
     let loads = loads(alloc, netlist, library)?;
     let mut wiring = wiring_of(alloc, netlist, library)?;
     let limit = fanout as usize;
     if !is_crowded(&loads, limit) {
         return Ok(with_gates(alloc, netlist, None, wiring)?);
     }
-    match make_repeater(alloc, library.cells())? {
+    match make_repeater(alloc, cells)? {
         Some(found) => {
             wiring.limit_all(alloc, &found, &loads, limit)?;
             Ok(with_gates(alloc, netlist, Some(&found), wiring)?)
