@@ -4,11 +4,12 @@ use Rattle.std.proofs.lemmas.Option.{slice_get_within}
 use Rattle.std.specs.Prelude.{slice_set, slice_get}
 use Rattle.std.specs.Global.{Vec}
 use Rattle.net_core.specs.Places.{Stands}
+use Rattle.net_theory.proofs.Basics.{length-map}
 use Rattle.loon_fanout.specs.declared.repeater.Tie.{Tie}
 use Rattle.loon_fanout.specs.declared.repeater.Repeater.{Repeater as Parts}
 use Rattle.loon_fanout.specs.declared.wiring.Wiring.{Wiring}
 use Rattle.loon_fanout.specs.Stages.{tied_class, ends_of, marked_places, PutsGate, PutsRow, once, two, set_places, PutsBehind, PutsGroups, none, one, LimitsClass, few, many, LimitsAll, done, more, AreLoads}
-use Rattle.loon_fanout.proofs.Rounds.{gates_in}
+use Rattle.loon_fanout.proofs.Rounds.{gates_in, below_or}
 
 -- ---- pins by gates
 
@@ -19,10 +20,6 @@ pins_in v = length v.classes.items
 record Pins (v u : Wiring) : Type 0 where
   pub few : pins_in u + 4 * gates_in v ≤ pins_in v + 4 * gates_in u
   pub more : gates_in v ≤ gates_in u
-
-map_many : {A B : Type 0} (f : A → B) (xs : List A) → length (map f xs) ≡ length xs
-map_many f [] = refl
-map_many f (x ∷ xs) = let h = map_many f xs in omega (arith, h)
 
 pins_then : (v m u : Wiring) → Pins v m → Pins m u → Pins v u
 pins_then v m u a b = record {
@@ -36,7 +33,7 @@ pins_same v = record { few = omega arith; more = omega arith }
 gate_pins : (ties : List Tie) (v u : Wiring) (read place : ℕ) → length ties ≤ 4 → PutsGate ties v u read place → (gates_in u ≡ gates_in v + 1) × Pins v u
 gate_pins ties v u read place small h =
     let a = ap length h.classes ∙ length-append v.classes.items (map (tied_class (ends_of v read)) ties) in
-    let n = map_many (tied_class (ends_of v read)) ties in
+    let n = length-map (tied_class (ends_of v read)) ties in
     let b = ap length h.reads ∙ length-append v.reads.items (read ∷ []) in
     (omega (arith, b), record { few = omega (arith, a, n, b, small); more = omega (arith, b) })
 
@@ -96,11 +93,6 @@ record Class (limit : ℕ) (v u : Wiring) (places : List ℕ) : Type 0 where
   pub small : length places ≤ limit → gates_in u ≤ gates_in v
   pub large : limit < length places → gates_in u + 8 ≤ gates_in v + 4 * length places
   pub pins : Pins v u
-
-below_or : (a b : ℕ) → (a < b) ⊎ (b ≤ a)
-below_or a zero = inr (omega arith)
-below_or zero (suc b) = inl (omega arith)
-below_or (suc a) (suc b) = elim (below_or a b) [ inl h ↦ inl (omega (arith, h)) | inr h ↦ inr (omega (arith, h)) ]
 
 class_pins : (r : Parts) (limit class : ℕ) → 2 ≤ limit → length r.ties.items ≤ 4 → (v u : Wiring) (places : List ℕ) → LimitsClass r limit class v places u → Class limit v u places
 class_pins r limit class size small v u places (few under) = record { small = λ h. omega arith; large = λ h. absurd (omega (arith, h, under)); pins = pins_same v }

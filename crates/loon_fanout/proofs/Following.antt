@@ -18,6 +18,7 @@ use Rattle.cell_pins.proofs.Sound.{member_at}
 use Rattle.net_core.specs.Netlist.{Instance, port, pin_of, pins_of}
 use Rattle.net_core.specs.Places.{Stands}
 use Rattle.net_core.proofs.Standing.{stands_right}
+use Rattle.net_theory.proofs.Basics.{length-map}
 use Rattle.loon_fanout.specs.declared.repeater.Tie.{Tie}
 use Rattle.loon_fanout.specs.declared.wiring.Wiring.{Wiring}
 use Rattle.loon_fanout.specs.Sinks.{Wired, sinks, is_same_owner}
@@ -75,10 +76,6 @@ stands_map : {A B : Type 0} (f : A → B) (xs : List A) (k : ℕ) (x : A) → St
 stands_map f [] k x e = absurd cc
 stands_map f (y ∷ xs) zero x e = let same : y ≡ x = cc in ap (λ z. Some (f z)) same
 stands_map f (y ∷ xs) (suc k) x e = stands_map f xs k x e
-
-map_many : {A B : Type 0} (f : A → B) (xs : List A) → length (map f xs) ≡ length xs
-map_many f [] = refl
-map_many f (x ∷ xs) = let h = map_many f xs in omega (arith, h)
 
 module _ (l : Library) (c : Cell) (input : Name) (g : IsGate l c input) (left : List (List ℕ)) (name : List ℕ) (v u : Wiring) (w : Wired) (read place : ℕ) (ties : List Tie)
     (f : Follows l (name ∷ left) v w) (are : ties ≡ map tie_of (all_ports c)) (puts : PutsGate ties v u read place) (reads : read < w.count) where
@@ -176,7 +173,7 @@ module _ (l : Library) (c : Cell) (input : Name) (g : IsGate l c input) (left : 
   pub gate_place : Stands (all_terminals after) place (pin_of name input)
   gate_place =
       let r = g.place (length v.classes.items) (length v.classes.items) in
-      let many : length v.classes.items ≡ length (all_terminals w) = ap length f.classes ∙ map_many w.class (all_terminals w) in
+      let many : length v.classes.items ≡ length (all_terminals w) = ap length f.classes ∙ length-map w.class (all_terminals w) in
       let is : place ≡ length (all_terminals w) + r.0 =
       puts.place
       ∙ ap (λ (ts : List Tie). read_place (length v.classes.items) (length v.classes.items) ts) are

@@ -17,6 +17,7 @@ use Rattle.net_core.proofs.Lookups.{itself}
 use Rattle.net_view.proofs.Lists.{map_twice}
 use Rattle.free_names.specs.Free.{is_free}
 use Rattle.free_names.specs.Laws.{TextsAreFree}
+use Rattle.net_theory.proofs.Basics.{length-map}
 use Rattle.loon_fanout.specs.declared.build.Entry.{Entry}
 use Rattle.loon_fanout.specs.declared.build.Sketch.{Sketch}
 use Rattle.loon_fanout.specs.declared.repeater.Repeater.{Repeater as Parts}
@@ -50,15 +51,12 @@ module _ (n : InMemory) (r : Option Parts) (v : Wiring) (s : Sketch) (entries : 
     pins = all_map instance_by (λ i. AreInOrder i.pins) s.entries.items (subst (λ (is : List Instance). All (λ i. AreInOrder i.pins) is) (sym entries) can.pins);
     names = subst (λ (ns : List (List ℕ)). NoneTwice ns)
         (ap (map (λ (i : Instance). i.name)) (sym entries) ∙ map_twice (λ (i : Instance). i.name) instance_by s.entries.items) can.names;
-    many = let a = map_many instance_by s.entries.items in let b = ap length entries in let h = can.many in omega (arith, a, b, h);
+    many = let a = length-map instance_by s.entries.items in let b = ap length entries in let h = can.many in omega (arith, a, b, h);
     few = subst (λ (is : List Instance). length (listed is) < 2 ^ 32) (sym entries) can.few;
     each = ap length classes ∙ can.each ∙ ap (λ (is : List Instance). length (listed is)) (sym entries);
     inside = subst (λ (ks : List ℕ). All (λ class. class < s.count) ks) (sym classes)
         (subst (λ (m : ℕ). All (λ class. class < m) v.classes.items) (sym count) can.inside);
-  } where
-    map_many : {A B : Type 0} (f : A → B) (xs : List A) → length (map f xs) ≡ length xs
-    map_many f [] = refl
-    map_many f (x ∷ xs) = let h = map_many f xs in omega (arith, h)
+  }
 
   pub is_gated : (k : InMemory) → IsBuilt n s k → IsGated n r v k
   is_gated k b = record {
@@ -93,15 +91,11 @@ instances_few [] each = omega arith
 instances_few (i ∷ is) each =
     let a = each i here in
     let b = instances_few is (λ j k. each j (there k)) in
-    let m = map_many (pin i) i.pins in
+    let m = length-map (pin i) i.pins in
     let n = length-append (pins_of i) (flat_map pins_of is) in
     omega (arith, a, b, m, n) where
       pin : Instance → Name → Terminal
       pin i x = record { instance = Some i.name; pin = x }
-
-      map_many : {A B : Type 0} (f : A → B) (xs : List A) → length (map f xs) ≡ length xs
-      map_many f [] = refl
-      map_many f (x ∷ xs) = let h = map_many f xs in omega (arith, h)
 
 module _ (l : Library) (n : InMemory) (r : Option Parts) (v : Wiring) (w : Wired) (f : Follows l [] v w) (ports : w.ports ≡ n.ports) (instances : w.instances ≡ gated n r v) where
   abbrev of_parts : List Port → List Instance → List Terminal
@@ -122,15 +116,12 @@ module _ (l : Library) (n : InMemory) (r : Option Parts) (v : Wiring) (w : Wired
         let e = ap length instances in omega (arith, a, b, e, few);
     few = subst (λ (ts : List Terminal). length ts < 2 ^ 32) terms few;
     gates = gates;
-    each = ap length f.classes ∙ map_many w.class (all_terminals w) ∙ ap length terms;
+    each = ap length f.classes ∙ length-map w.class (all_terminals w) ∙ ap length terms;
     inside = subst (λ (m : ℕ). All (λ class. class < m) v.classes.items) f.count
         (subst (λ (ks : List ℕ). All (λ class. class < w.count) ks) (sym f.classes)
         (All-from (λ (k : ℕ). k < w.count) (map w.class (all_terminals w)) (λ k i.
         let t = In-map_back w.class k (all_terminals w) i in subst (λ (j : ℕ). j < w.count) t.2 (f.below t.0 t.1))));
-  } where
-    map_many : {A B : Type 0} (g : A → B) (xs : List A) → length (map g xs) ≡ length xs
-    map_many g [] = refl
-    map_many g (x ∷ xs) = let h = map_many g xs in omega (arith, h)
+  }
 
   pub is_of : (k : InMemory) → IsGated n r v k → IsNetlistOf k w
   is_of k g = record {
@@ -206,12 +197,9 @@ pub names_apart : TextsAreFree → (n : InMemory) (many : ℕ) → IsNetlist n �
     → AllDifferent (map (λ i. i.name) n.instances ++ gate_names n many) × (length (gate_names n many) ≡ many)
 names_apart law n many sound room =
     let taken : List (List ℕ) = map (λ (i : Instance). i.name) n.instances in
-    let m = map_many (λ (i : Instance). i.name) n.instances in
+    let m = length-map (λ (i : Instance). i.name) n.instances in
     let a = law (codes "b") taken many (omega (arith, m, room)) in (
       different_append taken (gate_names n many) (different_of taken sound.names) a.different
           (λ t i j. free_not taken t (All-In (λ u. is_free taken u ≡ true) (gate_names n many) a.free t j) i),
       a.each,
-    ) where
-      map_many : {A B : Type 0} (f : A → B) (xs : List A) → length (map f xs) ≡ length xs
-      map_many f [] = refl
-      map_many f (x ∷ xs) = let h = map_many f xs in omega (arith, h)
+    )

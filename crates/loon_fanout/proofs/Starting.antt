@@ -17,6 +17,7 @@ use Rattle.net_core.specs.Places.{Stands, NoneTwice}
 use Rattle.net_core.proofs.Finishing.{netlist_terminals_once}
 use Rattle.net_core.proofs.Namings.{turn_below}
 use Rattle.net_core.proofs.Standing.{stands_right}
+use Rattle.net_theory.proofs.Basics.{length-map}
 use Rattle.loon_fanout.specs.declared.wiring.Wiring.{Wiring}
 use Rattle.loon_fanout.specs.Sinks.{is_sink_of, instance_sinks, sinks, is_same_terminal, class_among, wired_of}
 use Rattle.loon_fanout.specs.Limited.{IsOfCells}
@@ -126,22 +127,18 @@ keep_map {A} {B} g test (n ∷ ns) = by (test n) (keep_map g test ns) where
   by true h = ap (λ (zs : List B). g n ∷ zs) h
   by false h = h
 
-map_many : {A B : Type 0} (f : A → B) (xs : List A) → length (map f xs) ≡ length xs
-map_many f [] = refl
-map_many f (x ∷ xs) = let h = map_many f xs in omega (arith, h)
-
 keep_sinks : (l : Library) (is : List Instance) → keep (flat_map (pin_marks l) is) (flat_map pins_of is) ≡ flat_map (instance_sinks l) is
 keep_sinks l [] = refl
 keep_sinks l (i ∷ is) =
     keep_append (pin_marks l i) (flat_map (pin_marks l) is) (pins_of i) (flat_map pins_of is)
-    (map_many (is_sink_of (cell_of l i.model)) i.pins ∙ sym (map_many (pin_of i.name) i.pins))
+    (length-map (is_sink_of (cell_of l i.model)) i.pins ∙ sym (length-map (pin_of i.name) i.pins))
     ∙ ap (λ (ts : List Terminal). ts ++ keep (flat_map (pin_marks l) is) (flat_map pins_of is)) (keep_map (pin_of i.name) (is_sink_of (cell_of l i.model)) i.pins)
     ∙ ap (λ (ts : List Terminal). instance_sinks l i ++ ts) (keep_sinks l is)
 
 keep_all : (l : Library) (n : InMemory) → keep (all_marks l n) (terminals n) ≡ all_sinks l (wired_of n)
 keep_all l n =
     keep_append (map (λ (p : Port). false) n.ports) (flat_map (pin_marks l) n.instances) (map (λ (p : Port). port p.name) n.ports) (flat_map pins_of n.instances)
-    (map_many (λ (p : Port). false) n.ports ∙ sym (map_many (λ (p : Port). port p.name) n.ports))
+    (length-map (λ (p : Port). false) n.ports ∙ sym (length-map (λ (p : Port). port p.name) n.ports))
     ∙ ap (λ (ts : List Terminal). ts ++ keep (flat_map (pin_marks l) n.instances) (flat_map pins_of n.instances)) (keep_none (λ (p : Port). port p.name) n.ports)
     ∙ keep_sinks l n.instances
 

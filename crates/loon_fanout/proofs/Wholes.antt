@@ -20,6 +20,7 @@ use Rattle.net_core.specs.Places.{Stands}
 use Rattle.net_core.proofs.Finishing.{netlist_terminals_once}
 use Rattle.net_view.proofs.Ports.{vdd_there}
 use Rattle.free_names.specs.Laws.{TextsAreFree}
+use Rattle.net_theory.proofs.Basics.{length-map}
 use Rattle.loon_fanout.specs.declared.repeater.Repeater.{Repeater as Parts}
 use Rattle.loon_fanout.specs.declared.wiring.Wiring.{Wiring}
 use Rattle.loon_fanout.specs.Sinks.{Wired, sinks, wired_of}
@@ -50,10 +51,6 @@ room_pins p k a h = omega (arith, a, h)
 
 wide : (k : ℕ) → k < 2 ^ 32 → k < 2 ^ 64
 wide k h = omega (arith, h)
-
-map_many : {A B : Type 0} (f : A → B) (xs : List A) → length (map f xs) ≡ length xs
-map_many f [] = refl
-map_many f (x ∷ xs) = let h = map_many f xs in omega (arith, h)
 
 -- ---- crowded nets
 
@@ -168,7 +165,7 @@ module _ (law : TextsAreFree) (l : Library) (n : InMemory) (limit : ℕ) (size :
   names = gate_names n (gates_in u)
 
   few_ties : length r.ties.items ≤ 4
-  few_ties = let a = ap length part.ties in let m = map_many tie_of (all_ports b.cell) in let f = ch.fits.few in omega (arith, a, m, f)
+  few_ties = let a = ap length part.ties in let m = length-map tie_of (all_ports b.cell) in let f = ch.fits.few in omega (arith, a, m, f)
 
   few_gates : gates_in u ≤ 4 * length (terminals n)
   few_gates =
@@ -241,7 +238,7 @@ module _ (law : TextsAreFree) (l : Library) (n : InMemory) (limit : ℕ) (size :
       cells = each_instance (λ i. (c : Cell) × (cell_of l i.model ≡ Some c) × IsUsable c × (i.pins ≡ names_of (all_ports c)))
           (λ i k. given_cells l n cells i k) (λ name. (b.cell, ch.fits.found, ch.fits.usable, refl));
       order = each_instance (λ i. AreInOrder i.pins) (λ i k. All-In (λ (x : Instance). AreInOrder x.pins) n.instances sound.pins i k) (λ name. ch.fits.order);
-      pins = let a = ap length at_end.classes in let m = map_many d.end.class (all_terminals d.end) in
+      pins = let a = ap length at_end.classes in let m = length-map d.end.class (all_terminals d.end) in
           room_pins (length (all_terminals d.end)) (length (terminals n)) (let f = few_pins in omega (arith, a, m, f)) room;
       gates = let f = few_all in omega (arith, f);
       ports_order = sound.ports;
