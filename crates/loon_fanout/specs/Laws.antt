@@ -10,7 +10,8 @@ use Rattle.machine_meaning.specs.Machine.{Machine, names_of}
 use Rattle.cell_model.specs.Cell.{Cell, gate, pin_ports, cell_inputs}
 use Rattle.cell_model.specs.Library.{Library, cell_of, IsUsable}
 use Rattle.cell_pins.specs.Pins.{all_ports}
-use Rattle.net_core.specs.Netlist.{Instance}
+use Rattle.cell_checks.specs.Checked.{IsChecked as HasPassed}
+use Rattle.net_core.specs.Netlist.{Instance, Netlist as InMemory, IsNetlist}
 use Rattle.net_meaning.specs.Netlist.{Netlist}
 use Rattle.net_meaning.specs.Agreement.{register_instance}
 use Rattle.net_meaning.specs.Well.{buffer_instance}
@@ -20,7 +21,7 @@ use Rattle.net_view.specs.View.{member_of}
 use Rattle.loon_fanout.specs.Sinks.{Wired, sinks, is_same_owner, is_same_terminal}
 use Rattle.loon_fanout.specs.Wired.{with_group}
 use Rattle.loon_fanout.specs.Repeaters.{Repeater}
-use Rattle.loon_fanout.specs.Limited.{IsLimited}
+use Rattle.loon_fanout.specs.Limited.{IsLimited, IsBuffered, IsOfCells, StaysRight}
 
 -- a gate of this name, with the pins of its cell
 abbrev pub gate_named : Cell → List ℕ → Instance
@@ -73,3 +74,12 @@ GroupSplits =
     → (c : Cell) → IsOneGate l c → (name : List ℕ) (j : ℕ) → name ≡ buffer_instance j → ((i : Instance) → In i w.instances → i.name ≢ name)
     → (k a fresh : ℕ) → k < w.count → source k ≡ node a → (group : List Terminal) → ((t : Terminal) → In t group → In t (sinks l w k))
     → IsSplit (sourced w source rank) (as_netlist (with_group c w k (name ∷ []) group)) l m (is_in group) a fresh r (roots_after r group fresh)
+
+-- ---- a netlist that is limited stays right
+
+-- Where a netlist of usable cells of a checked library is right for a machine, it still is once its nets are limited: it has the
+-- machine's ports, each class has one driver, and it behaves as the machine does.
+abbrev pub BufferedStaysRight : Type 0
+BufferedStaysRight =
+    (tracks : Bool) (n : InMemory) (l : Library) (limit : ℕ) (r : InMemory) → HasPassed tracks l → IsNetlist n → IsNetlist r
+    → IsOfCells n l → IsBuffered n l limit r → StaysRight n l r

@@ -10,5 +10,5 @@ mod repeater;
 mod wiring;
 
 pub use error::BufferError;
-pub use laws::{limited_law, split_law};
+pub use laws::{limited_law, split_law, stays_right_law};
 pub use limit::limit_fanout;

@@ -12,6 +12,7 @@ ghost use Rattle.loon_fanout.specs.Gated.{gate_names, gates_by, IsGatable, IsGat
 
 use crate::BufferError;
 use crate::build::{Entry, Sketch, build, push_gates, push_nodes};
+use crate::laws::stays_right_law;
 use crate::loads::loads;
 use crate::repeater::{Repeater, make_repeater};
 use crate::wiring::Wiring;
@@ -163,6 +164,7 @@ pub fn limit_fanout(
     ensures refused { IfErr result (λ e. IsBufferRefusal netlist.now library.now fanout e) }
 {
     texts_are_free();
+    stays_right_law();
     let cells = library.cells();
     let loads = loads(alloc, netlist, library)?;
     let mut wiring = wiring_of(alloc, netlist, library)?;

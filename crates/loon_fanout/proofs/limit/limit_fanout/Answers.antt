@@ -1,4 +1,4 @@
-use Rattle.std.proofs.Common.{◌<◌, ℕ, List, All, length, ap, sym, subst, None, Some}
+use Rattle.std.proofs.Common.{◌<◌, ℕ, List, All, length, ap, sym, subst, None, Some, false}
 use Rattle.std.specs.Global.{Vec}
 use Rattle.cell_model.specs.Cell.{Cell}
 use Rattle.cell_model.specs.Library.{Library}
@@ -59,7 +59,9 @@ returns-then-not-is_crowded-clause-fanout c =
     c.in_ok-with_gates.field-0 k.built c.in_ok-with_gates.ensures.gated c.in_ok-with_gates.ensures.sound
 
 pub returns-then-not-is_crowded-clause-right : goal.returns-then-not-is_crowded-clause-right
-returns-then-not-is_crowded-clause-right c = ?
+returns-then-not-is_crowded-clause-right c =
+    c.stays_right_law.ensures false c.args.netlist.now c.args.library.now c.args.fanout c.in_ok-with_gates.field-0 c.cells-cells.ensures.checked
+    c.in_ok-wiring.ensures.sound c.in_ok-with_gates.ensures.sound c.requires.cells (returns-then-not-is_crowded-clause-buffered c)
 
 pub returns-then-not-is_crowded-clause-cells : goal.returns-then-not-is_crowded-clause-cells
 returns-then-not-is_crowded-clause-cells c =
@@ -92,7 +94,9 @@ returns-in-Some-clause-fanout c =
     c.in_ok-with_gates-in-Some.field-0 k.done.built c.in_ok-with_gates-in-Some.ensures.gated c.in_ok-with_gates-in-Some.ensures.sound
 
 pub returns-in-Some-clause-right : goal.returns-in-Some-clause-right
-returns-in-Some-clause-right c = ?
+returns-in-Some-clause-right c =
+    c.stays_right_law.ensures false c.args.netlist.now c.args.library.now c.args.fanout c.in_ok-with_gates-in-Some.field-0 c.cells-cells.ensures.checked
+    c.in_ok-wiring.ensures.sound c.in_ok-with_gates-in-Some.ensures.sound c.requires.cells (returns-in-Some-clause-buffered c)
 
 pub returns-in-Some-clause-cells : goal.returns-in-Some-clause-cells
 returns-in-Some-clause-cells c =
