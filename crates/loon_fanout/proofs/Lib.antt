@@ -18,3 +18,13 @@ pub mod FewInputs
 pub mod OneClass
 pub mod Needed
 pub mod Remaining
+pub mod Picking
+pub mod Gates
+pub mod Sinking
+pub mod Following
+pub mod Grouping
+pub mod Rounds
+pub mod Starting
+pub mod Counted
+pub mod Gating
+pub mod Wholes
