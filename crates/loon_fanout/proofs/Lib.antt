@@ -18,3 +18,6 @@ pub mod FewInputs
 pub mod OneClass
 pub mod Needed
 pub mod Remaining
+pub mod PassLoops
+pub mod PassTallies
+pub mod PassPins
