@@ -21,3 +21,5 @@ pub mod Remaining
 pub mod PassLoops
 pub mod PassTallies
 pub mod PassPins
+pub mod PassSteps
+pub mod PassRounds
