@@ -23,3 +23,4 @@ pub mod PassTallies
 pub mod PassPins
 pub mod PassSteps
 pub mod PassRounds
+pub mod Passing

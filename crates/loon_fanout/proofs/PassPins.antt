@@ -1,5 +1,5 @@
 -- The pins of instances of usable cells, by a table of pins.
-use Rattle.std.proofs.Common.{◌≡◌, ◌≢◌, ◌⊎◌, inl, inr, ℕ, ◌+◌, ◌≤◌, Bool, true, false, not, List, [], ◌∷◌, ◌++◌, map, filter, Some, None, refl, sym, ap, ◌∙◌, subst, arith, append_assoc, append-nil}
+use Rattle.std.proofs.Common.{◌≡◌, ◌≢◌, ◌⊎◌, inl, inr, ℕ, ◌+◌, ◌≤◌, Bool, true, false, not, List, [], ◌∷◌, ◌++◌, length, map, filter, Some, None, refl, sym, ap, ◌∙◌, subst, arith, append_assoc, append-nil}
 use Rattle.std.specs.Prelude.{IsTrue}
 use Rattle.std.specs.List.{flat_map}
 use Rattle.std.proofs.lemmas.Grind.{flat_map-append}
@@ -304,7 +304,7 @@ module _ (l : Library) (table : List ModelPins) (c : Cell) (b : IsGateCell l c) 
     x = port_at a.output a.known
 
     d : DependsAt c.function (all_ports c) x.0 a.place
-    d = picked_has (DependsAt c.function (all_ports c) x.0) (first_places _) a.output.depends_on a.place x.2.depends a.depends
+    d = picked_has (DependsAt c.function (all_ports c) x.0) (first_places (length (all_ports c))) a.output.depends_on a.place x.2.depends a.depends
 
     q : (p : ModelPin) × Stands (pins_named table c.name) a.place p × IsPinOf c.function (all_ports c) d.0 p
     q = pin_at c.function (all_ports c) (all_ports c) (pins_named table c.name) a.place d.0 row d.1

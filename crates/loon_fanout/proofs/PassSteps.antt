@@ -7,7 +7,6 @@ use Rattle.vlsi_base.specs.declared.name.Port.{Port}
 use Rattle.vlsi_base.specs.declared.name.Terminal.{Terminal}
 use Rattle.vlsi_base.specs.Names.{vdd, vss}
 use Rattle.vlsi_base.specs.Member.{In, here, there}
-use Rattle.machine_core.proofs.Names.{same_name-itself, same_name-false}
 use Rattle.cell_model.specs.Cell.{Cell}
 use Rattle.cell_model.specs.Library.{Library}
 use Rattle.cell_model.proofs.Members.{In-split, In-map_back, In-map}
@@ -21,7 +20,6 @@ use Rattle.net_core.specs.declared.tally.Role.TheVariants as role
 use Rattle.net_core.specs.declared.tally.Tally.{Tally}
 use Rattle.net_core.specs.Netlist.{Instance, port, pin_of}
 use Rattle.net_core.specs.Checks.{pins_named, pin_role}
-use Rattle.net_view.proofs.Ports.{supplies_differ}
 use Rattle.loon_fanout.specs.Sinks.{Wired, is_same_terminal}
 use Rattle.loon_fanout.specs.Wired.{pin_class, with_gate, with_moved}
 use Rattle.loon_fanout.specs.Laws.{gate_named}
@@ -85,10 +83,10 @@ module _ (l : Library) (table : List ModelPins) (clocks : ℕ) (w : Wired) (s : 
     gives : m.role ≡ role.OutputPin → u.class m.terminal ≡ w.count → m.terminal ≡ pin_of name (output l c b) → NewMark m
 
   class_high : pin_class w c k vdd ≡ w.class (port vdd)
-  class_high = rw (same_name-itself vdd) refl
+  class_high = refl
 
   class_low : pin_class w c k vss ≡ w.class (port vss)
-  class_low = rw (same_name-false vss vdd (λ e. supplies_differ (sym e)), same_name-itself vss) refl
+  class_low = refl
 
   new_mark : (m : Mark) → In m new → NewMark m
   new_mark m h =
