@@ -28,3 +28,9 @@ pub mod Starting
 pub mod Counted
 pub mod Gating
 pub mod Wholes
+pub mod PassLoops
+pub mod PassTallies
+pub mod PassPins
+pub mod PassSteps
+pub mod PassRounds
+pub mod Passing
