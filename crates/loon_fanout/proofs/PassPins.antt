@@ -1,5 +1,5 @@
 -- The pins of instances of usable cells, by a table of pins.
-use Rattle.std.proofs.Common.{◌≡◌, ◌≢◌, ◌⊎◌, inl, inr, ℕ, ◌+◌, ◌≤◌, Bool, true, false, not, List, [], ◌∷◌, ◌++◌, length, map, filter, Some, None, refl, sym, ap, ◌∙◌, subst, arith, append_assoc, append-nil}
+use Rattle.std.proofs.Common.{◌≡◌, ◌≢◌, ◌⊎◌, inl, inr, ℕ, Bool, true, false, not, List, [], ◌∷◌, ◌++◌, length, map, filter, Some, refl, sym, ap, ◌∙◌, subst, append_assoc, append-nil}
 use Rattle.std.specs.Prelude.{IsTrue}
 use Rattle.std.specs.List.{flat_map}
 use Rattle.std.proofs.lemmas.Grind.{flat_map-append}
@@ -14,7 +14,7 @@ use Rattle.vlsi_base.specs.Member.{In, here, there, AllDifferent}
 use Rattle.machine_meaning.specs.Machine.{is_input, names_of}
 use Rattle.machine_meaning.specs.Named.{is_same_name}
 use Rattle.machine_core.proofs.Names.{same_name-itself}
-use Rattle.cell_model.specs.Cell.{Function, gate, flip_flop, other, opaque, Cell, pin_ports, cell_inputs, cell_outputs}
+use Rattle.cell_model.specs.Cell.{Function, gate, flip_flop, other, opaque, Cell, pin_ports, cell_inputs}
 use Rattle.cell_model.specs.Library.{Library, cell_of, IsPlain, IsUsable}
 use Rattle.cell_model.proofs.Members.{In-split, In-map, In-map_back, In-left, In-right}
 use Rattle.cell_pins.specs.Pins.{supply, all_ports, IsClockPin}
@@ -27,7 +27,7 @@ use Rattle.net_core.specs.declared.pins.ModelPin.{ModelPin}
 use Rattle.net_core.specs.declared.pins.ModelPins.{ModelPins}
 use Rattle.net_core.specs.declared.tally.Role.{Role}
 use Rattle.net_core.specs.declared.tally.Role.TheVariants as role
-use Rattle.net_core.specs.Places.{Stands, IsThere}
+use Rattle.net_core.specs.Places.{Stands}
 use Rattle.net_core.specs.Netlist.{Instance, port, pin_of}
 use Rattle.net_core.specs.Checks.{pins_named, port_role, pin_role, pin_role_of}
 use Rattle.net_core.proofs.Standing.{stands_same}
@@ -155,46 +155,46 @@ pub sink_role : (l : Library) (table : List ModelPins) (w : Wired) → AreGood l
 sink_role l table w good i listed made q q_in s =
     role_in q (x.2.dir ∙ way) (no_clock_pin q (λ t. clock_named made.cell.function made.cell x.0.name made.usable.function
     (subst (λ (n : Name). is_clock_of made.cell.function n ≡ false) (sym named) off) (x.2.clock.0 t))) where
-  names : Some i.name ≡ Some s.owner.name
-  names = ap (λ (t : Terminal). t.instance) s.is
+      names : Some i.name ≡ Some s.owner.name
+      names = ap (λ (t : Terminal). t.instance) s.is
 
-  name : i.name ≡ s.owner.name
-  name = cc names
+      name : i.name ≡ s.owner.name
+      name = cc names
 
-  same : i ≡ s.owner
-  same = one_instance w.instances good.names i s.owner listed s.listed name
+      same : i ≡ s.owner
+      same = one_instance w.instances good.names i s.owner listed s.listed name
 
-  cells : s.cell ≡ made.cell
-  cells = same_Some s.cell made.cell (sym s.found ∙ ap (λ (y : Instance). cell_of l y.model) (sym same) ∙ made.found)
+      cells : s.cell ≡ made.cell
+      cells = same_Some s.cell made.cell (sym s.found ∙ ap (λ (y : Instance). cell_of l y.model) (sym same) ∙ made.found)
 
-  pins : q.name ≡ s.pin
-  pins = ap (λ (t : Terminal). t.pin) s.is
+      pins : q.name ≡ s.pin
+      pins = ap (λ (t : Terminal). t.pin) s.is
 
-  x : (y : Port) × In y (all_ports made.cell) × IsPinOf made.cell.function (all_ports made.cell) y q
-  x = port_of_pin made.cell.function (all_ports made.cell) (all_ports made.cell) (pins_named table i.model) q made.row q_in
+      x : (y : Port) × In y (all_ports made.cell) × IsPinOf made.cell.function (all_ports made.cell) y q
+      x = port_of_pin made.cell.function (all_ports made.cell) (all_ports made.cell) (pins_named table i.model) q made.row q_in
 
-  named : x.0.name ≡ s.pin
-  named = sym x.2.name ∙ pins
+      named : x.0.name ≡ s.pin
+      named = sym x.2.name ∙ pins
 
-  off : is_clock_of made.cell.function s.pin ≡ false
-  off = subst (λ (c : Cell). is_clock_of c.function s.pin ≡ false) cells s.no_clock
+      off : is_clock_of made.cell.function s.pin ≡ false
+      off = subst (λ (c : Cell). is_clock_of c.function s.pin ≡ false) cells s.no_clock
 
-  into : In s.pin (cell_inputs made.cell)
-  into = subst (λ (c : Cell). In s.pin (cell_inputs c)) cells s.input
+      into : In s.pin (cell_inputs made.cell)
+      into = subst (λ (c : Cell). In s.pin (cell_inputs c)) cells s.input
 
-  way : x.0.dir ≡ dir.In
-  way =
-      let p = In-map_back (λ (y : Port). y.name) s.pin (filter (λ p. is_input p.dir) (pin_ports made.cell)) into in
-      let p_in = in_filter (λ (y : Port). is_input y.dir) (pin_ports made.cell) p.0 p.1 in
-      elim (both_cases (pin_ports made.cell) x.0 x.1) [
-        | inl e ↦ ap (λ (y : Port). y.dir) e
-        | inr r ↦ elim r [
-          | inl e ↦ ap (λ (y : Port). y.dir) e
-          | inr j ↦
-              let one = one_port (pin_ports made.cell) x.0 p.0 (sorted_different (pin_ports made.cell) (sorted_of (pin_ports made.cell) made.usable.order)) j p_in.0 (named ∙ sym p.2) in
-              ap (λ (y : Port). y.dir) one ∙ in_dir p.0.dir p_in.1
-        ]
-      ]
+      way : x.0.dir ≡ dir.In
+      way =
+          let p = In-map_back (λ (y : Port). y.name) s.pin (filter (λ p. is_input p.dir) (pin_ports made.cell)) into in
+          let p_in = in_filter (λ (y : Port). is_input y.dir) (pin_ports made.cell) p.0 p.1 in
+          elim (both_cases (pin_ports made.cell) x.0 x.1) [
+            | inl e ↦ ap (λ (y : Port). y.dir) e
+            | inr r ↦ elim r [
+              | inl e ↦ ap (λ (y : Port). y.dir) e
+              | inr j ↦
+                  let one = one_port (pin_ports made.cell) x.0 p.0 (sorted_different (pin_ports made.cell) (sorted_of (pin_ports made.cell) made.usable.order)) j p_in.0 (named ∙ sym p.2) in
+                  ap (λ (y : Port). y.dir) one ∙ in_dir p.0.dir p_in.1
+            ]
+          ]
 
 -- an instance has a pin for each supply
 pub supply_pin : (l : Library) (table : List ModelPins) (i : Instance) → IsMade l table i → (name : Name) → (name ≡ vdd) ⊎ (name ≡ vss)

@@ -1,5 +1,5 @@
 -- Rounds on nets: a netlist whose classes have no fault and that has no ring is still one.
-use Rattle.std.proofs.Common.{◌≡◌, ◌≢◌, ◌⊎◌, inl, inr, ℕ, suc, ◌+◌, ◌-◌, ◌<◌, ◌≤◌, Bool, true, false, List, [], ◌∷◌, ◌++◌, length, map, Some, None, refl, sym, ap, ◌∙◌, subst, arith, if◌then◌else◌}
+use Rattle.std.proofs.Common.{◌≡◌, ◌≢◌, ◌⊎◌, inl, inr, ℕ, suc, ◌-◌, ◌<◌, ◌≤◌, Bool, true, false, List, [], ◌∷◌, ◌++◌, length, map, refl, sym, ap, ◌∙◌, subst, arith, if◌then◌else◌}
 use Rattle.std.specs.Prelude.{nat_lt}
 use Rattle.std.specs.List.{flat_map, list_any}
 use Rattle.std.proofs.lemmas.Bool.{cases_lt}
@@ -23,19 +23,18 @@ use Rattle.net_core.specs.Checks.{pins_named, pin_role}
 use Rattle.loon_fanout.specs.Sinks.{Wired, sinks, is_same_terminal}
 use Rattle.loon_fanout.specs.Wired.{pin_class, with_gate, with_moved, with_group}
 use Rattle.loon_fanout.specs.Repeaters.{Repeater}
-use Rattle.loon_fanout.specs.Limited.{AreGroups, Row, with_round, IsLimited, within, round}
+use Rattle.loon_fanout.specs.Limited.{Row, with_round, IsLimited, within, round}
 use Rattle.loon_fanout.specs.Laws.{gate_named}
 use Rattle.loon_fanout.proofs.Terminals.{terminal_same}
 use Rattle.loon_fanout.proofs.Splitting.{any_in, sink_at}
 use Rattle.loon_fanout.proofs.RightStates.{IsGateCell}
-use Rattle.loon_fanout.proofs.RightPins.{own_class, input, output, input_class, output_class}
+use Rattle.loon_fanout.proofs.RightPins.{own_class, input_class, output_class}
 use Rattle.loon_fanout.proofs.RightMove.{IsSink}
 use Rattle.loon_fanout.proofs.RightRounds.{AreNew, Repeats, once, twice, in_groups, some_of, sink_of}
-use Rattle.loon_fanout.proofs.RightStay.{gate_cell}
-use Rattle.loon_fanout.proofs.OneClass.{AreGood, still_good, own_kept, row_follows, round_follows, apart_append, differ_later, groups_whole, whole_rows, whole, group_of, sinks_differ}
+use Rattle.loon_fanout.proofs.OneClass.{AreGood, still_good, own_kept, row_follows, round_follows, apart_append, differ_later, groups_whole, whole_rows, group_of, sinks_differ}
 use Rattle.loon_fanout.proofs.PassLoops.{HasNoLoop, contracted}
-use Rattle.loon_fanout.proofs.PassTallies.{Mark, tally_in, somewhere, input_pin, input_pins, IsGood, IsFine}
-use Rattle.loon_fanout.proofs.PassPins.{pin_mark, pin_marked, IsMade, sink_role, sink_pin, role_out, Arc, gate_arc}
+use Rattle.loon_fanout.proofs.PassTallies.{somewhere, input_pin, input_pins, IsGood, IsFine}
+use Rattle.loon_fanout.proofs.PassPins.{pin_mark, pin_marked, sink_role, sink_pin, role_out, Arc, gate_arc}
 use Rattle.loon_fanout.proofs.PassSteps.{all_marks, tally_at, IsSane, gate_keeps, gate_fresh, gate_sane, move_keeps, move_sane}
 
 -- an output pin in one class depends at once on an input pin in the other

@@ -1,9 +1,8 @@
 -- A gate of one input put in, and sinks moved: classes that have no fault still have none.
-use Rattle.std.proofs.Common.{◌≡◌, ◌≢◌, ◌⊎◌, inl, inr, ℕ, suc, ◌+◌, ◌-◌, ◌<◌, ◌≤◌, Bool, true, false, List, [], ◌∷◌, ◌++◌, length, map, nat_eq, Some, None, refl, sym, ap, ◌∙◌, subst, arith, if◌then◌else◌}
+use Rattle.std.proofs.Common.{◌≡◌, ◌≢◌, ◌⊎◌, inl, inr, ℕ, suc, ◌+◌, ◌-◌, ◌<◌, ◌≤◌, Bool, true, false, List, [], ◌∷◌, ◌++◌, nat_eq, Some, None, refl, sym, ap, ◌∙◌, subst, arith, if◌then◌else◌}
 use Rattle.std.specs.List.{list_any}
 use Rattle.std.proofs.lemmas.Bool.{cases_lt, eqb-true, eq-eqb}
 use Rattle.vlsi_base.specs.declared.name.Name.{Name}
-use Rattle.vlsi_base.specs.declared.name.Port.{Port}
 use Rattle.vlsi_base.specs.declared.name.Terminal.{Terminal}
 use Rattle.vlsi_base.specs.Names.{vdd, vss}
 use Rattle.vlsi_base.specs.Member.{In, here, there}
@@ -19,7 +18,7 @@ use Rattle.net_core.specs.declared.tally.Role.{Role}
 use Rattle.net_core.specs.declared.tally.Role.TheVariants as role
 use Rattle.net_core.specs.declared.tally.Tally.{Tally}
 use Rattle.net_core.specs.Netlist.{Instance, port, pin_of}
-use Rattle.net_core.specs.Checks.{pins_named, pin_role}
+use Rattle.net_core.specs.Checks.{pins_named}
 use Rattle.loon_fanout.specs.Sinks.{Wired, is_same_terminal}
 use Rattle.loon_fanout.specs.Wired.{pin_class, with_gate, with_moved}
 use Rattle.loon_fanout.specs.Laws.{gate_named}
@@ -29,7 +28,7 @@ use Rattle.loon_fanout.proofs.RightStates.{IsGateCell}
 use Rattle.loon_fanout.proofs.RightPins.{own_class, input, output, input_class, output_class}
 use Rattle.loon_fanout.proofs.RightMove.{IsSink}
 use Rattle.loon_fanout.proofs.OneClass.{AreGood}
-use Rattle.loon_fanout.proofs.PassTallies.{Mark, Counts, tally_in, joined, nowhere, somewhere, found, unmoved, only, input_port, output_port, input_pin, clock_pin, output_pin, input_ports, output_ports, input_pins, clock_pins, output_pins, output_pin_least, is_input_pin, is_output_pin, IsGood, IsFine}
+use Rattle.loon_fanout.proofs.PassTallies.{Mark, Counts, tally_in, joined, nowhere, somewhere, found, unmoved, only, input_port, output_port, input_pin, clock_pin, output_pin, input_ports, output_ports, input_pins, clock_pins, output_pins, output_pin_least, IsGood, IsFine}
 use Rattle.loon_fanout.proofs.PassPins.{instance_marks, pin_mark, marks, marks_push, MarkOf, of_port, of_pin, mark_of, IsMade, sink_role, GatePin, on_supply, reads, drives, gate_pin, gate_output, gate_pins_differ}
 
 abbrev pub all_marks : List ModelPins → Wired → List Mark

@@ -1,6 +1,6 @@
 -- A limited netlist passes its checks where the given one does.
-use Rattle.std.proofs.Common.{◌≡◌, ◌≢◌, ◌⊎◌, inl, inr, ℕ, zero, suc, ◌+◌, ◌-◌, ◌<◌, ◌≤◌, Bool, true, false, List, [], ◌∷◌, ◌++◌, length, map, nat_eq, Some, None, refl, sym, ap, ◌∙◌, subst, arith, append_assoc, if◌then◌else◌}
-use Rattle.std.specs.List.{All, flat_map, zip, fold}
+use Rattle.std.proofs.Common.{◌≡◌, ◌⊎◌, inl, inr, ℕ, suc, ◌+◌, ◌-◌, ◌<◌, ◌≤◌, Bool, true, false, List, [], ◌∷◌, ◌++◌, length, map, nat_eq, Some, refl, sym, ap, ◌∙◌, subst, arith, append_assoc, if◌then◌else◌}
+use Rattle.std.specs.List.{flat_map, zip, fold}
 use Rattle.std.proofs.lemmas.Bool.{cases_lt, eqb-true, eq-eqb}
 use Rattle.std.proofs.lemmas.Grind.{flat_map-append, fold-append}
 use Rattle.std.proofs.lemmas.List.{map-append}
@@ -23,33 +23,31 @@ use Rattle.cell_pins.proofs.Sound.{pin_names, member_at as in_from_place}
 use Rattle.net_core.specs.declared.pins.ModelPin.{ModelPin}
 use Rattle.net_core.specs.declared.pins.ModelPins.{ModelPins}
 use Rattle.net_core.specs.declared.tally.Role.{Role}
-use Rattle.net_core.specs.declared.tally.Role.TheVariants as role
 use Rattle.net_core.specs.declared.tally.Tally.{Tally}
-use Rattle.net_core.specs.declared.tally.ClassFault.{ClassFault}
-use Rattle.net_core.specs.Places.{Stands, IsThere, NoneTwice}
+use Rattle.net_core.specs.Places.{Stands, IsThere}
 use Rattle.net_core.specs.Netlist.{Instance, Netlist as InMemory, IsNetlist, port, pin_of, pins_of, terminals, HasClass}
-use Rattle.net_core.specs.Checks.{pins_named, Fits, port_role, pin_role, pin_roles, roles, tally_of, tally, is_clock_pin, all_clocks, class_test, HasSoundClasses, IsPinOf, DependsOn, IsRing, Passes}
-use Rattle.net_core.proofs.Finishing.{netlist_terminals_once, class_once}
+use Rattle.net_core.specs.Checks.{pins_named, Fits, port_role, pin_role, pin_roles, roles, tally_of, tally, is_clock_pin, all_clocks, HasSoundClasses, IsPinOf, DependsOn, IsRing, Passes}
+use Rattle.net_core.proofs.Finishing.{netlist_terminals_once}
 use Rattle.net_core.proofs.Namings.{turn_reached}
 use Rattle.net_core.proofs.Rings.{class_below, at_place}
 use Rattle.net_view.proofs.Lists.{in_place, map_twice}
 use Rattle.net_view.proofs.Places.{has_class}
 use Rattle.net_view.proofs.Models.{named_cell, model_found}
-use Rattle.loon_fanout.specs.Sinks.{Wired, sinks, is_same_terminal, class_among, wired_of}
+use Rattle.loon_fanout.specs.Sinks.{Wired, sinks, is_same_terminal, wired_of}
 use Rattle.loon_fanout.specs.Repeaters.{Repeater}
-use Rattle.loon_fanout.specs.Limited.{IsLimited, within, round, IsNetlistOf, IsBuffered, IsOfCells}
+use Rattle.loon_fanout.specs.Limited.{IsLimited, within, round, IsBuffered, IsOfCells}
 use Rattle.loon_fanout.specs.Laws.{gate_named, IsTied, BufferedPasses}
 use Rattle.loon_fanout.proofs.Terminals.{terminal_same, terminal_itself, class_is}
 use Rattle.loon_fanout.proofs.Splitting.{flat_in, sink_at}
 use Rattle.loon_fanout.proofs.RightStates.{IsGateCell}
-use Rattle.loon_fanout.proofs.RightRounds.{AreNew, Repeats, some_of}
+use Rattle.loon_fanout.proofs.RightRounds.{some_of}
 use Rattle.loon_fanout.proofs.RightStay.{repeats, gate_cell, WasLimited, unchanged, by_gates, how, all_instances, ports_same, new_names}
 use Rattle.loon_fanout.proofs.Remaining.{still_of_cells}
 use Rattle.loon_fanout.proofs.OneClass.{AreGood, pin_names_differ}
 use Rattle.loon_fanout.proofs.Needed.{all_different}
 use Rattle.loon_fanout.proofs.PassLoops.{Chain, Ring, ring_in, none_twice, chain_next, chain_last, Plus, one, more, HasNoLoop, along}
-use Rattle.loon_fanout.proofs.PassTallies.{Mark, members, tally_in, Counts, nowhere, somewhere, told_alike, input_port, output_port, input_pin, clock_pin, output_pin, input_ports, output_ports, input_pins, clock_pins, output_pins, IsGood, IsFine, no_fault, good_of}
-use Rattle.loon_fanout.proofs.PassPins.{mark, port_mark, pin_mark, instance_marks, marks, pin_marked, IsMade, supply_pin, Arc, gate_pin, GatePin, on_supply, reads, drives}
+use Rattle.loon_fanout.proofs.PassTallies.{Mark, tally_in, Counts, nowhere, somewhere, told_alike, input_port, output_port, input_pin, clock_pin, output_pin, input_ports, output_ports, input_pins, clock_pins, output_pins, IsGood, IsFine, no_fault, good_of}
+use Rattle.loon_fanout.proofs.PassPins.{port_mark, pin_mark, instance_marks, marks, pin_marked, IsMade, supply_pin, gate_pin, GatePin, on_supply, reads, drives}
 use Rattle.loon_fanout.proofs.PassSteps.{all_marks, tally_at, IsSane}
 use Rattle.loon_fanout.proofs.PassRounds.{Edge, read_is_fine, Limits, limited_passes}
 
@@ -345,9 +343,6 @@ module _ (tracks all : Bool) (n : InMemory) (l : Library) (limit : ℕ) (r : InM
   }
 
   -- ---- it has the clock pins of the other
-
-  gates : List Instance
-  gates = map (gate_named cell) buffered.names
 
   roles_r : roles table r ≡ roles table n ++ pin_roles table (map (gate_named cell) buffered.names)
   roles_r =
