@@ -7,7 +7,7 @@ use Rattle.vlsi_base.specs.declared.name.Dir.{Dir}
 use Rattle.vlsi_base.specs.declared.name.Dir.TheVariants as dir
 use Rattle.vlsi_base.specs.Member.{In, here, there}
 use Rattle.vlsi_base.specs.Names.{comes_before}
-use Rattle.machine_meaning.specs.Machine.{is_input, names_of}
+use Rattle.machine_meaning.specs.Machine.{is_input}
 use Rattle.machine_meaning.specs.Named.{is_same_name, is_same_text}
 use Rattle.machine_core.proofs.Names.{same_name-itself}
 use Rattle.vbe_io.specs.declared.cell_text.GenericValue.{GenericValue}
@@ -18,16 +18,16 @@ use Rattle.cell_model.specs.declared.cell.Arc.{Arc}
 use Rattle.cell_model.specs.declared.cell.Pin.{Pin}
 use Rattle.cell_model.specs.View.{function_view}
 use Rattle.cell_model.specs.Cell.{Cell, Function, gate, flip_flop, other, opaque, pin_ports, cell_outputs}
-use Rattle.cell_model.specs.Library.{Library, cell_named, IsUsable, IsPlain}
+use Rattle.cell_model.specs.Library.{cell_named, IsUsable, IsPlain}
 use Rattle.cell_model.proofs.Members.{In-map}
 use Rattle.cell_function.specs.Row.{first, only_output, output_names}
 use Rattle.cell_function.specs.Timing.{pin_of, arc_of, begins_arc, arcs_to, arcs_of}
 use Rattle.cell_pins.proofs.Ports.{Sorted, sorted_of, before_itself}
 use Rattle.cell_lib.specs.Cells.{Source, sources, AreCells, none, next}
-use Rattle.cell_lib.specs.Library.{IsCell, DoesAs, IsLibraryOf}
-use Rattle.net_core.specs.Places.{Stands, IsThere}
-use Rattle.delay_sta.specs.Paths.{HasPin, BeginsThere, GoesThrough}
-use Rattle.delay_sta.specs.Exchanged.{Begins, HasItsArcs, HaveTheirArcs}
+use Rattle.cell_lib.specs.Library.{IsCell, DoesAs}
+use Rattle.net_core.specs.Places.{Stands}
+use Rattle.delay_sta.specs.Paths.{HasPin}
+use Rattle.delay_sta.specs.Exchanged.{Begins, HasItsArcs}
 use Rattle.loon_run.specs.Laws.{LibraryHasArcs}
 use Rattle.loon_run.proofs.Lists.{stands_in, in_stands, in_cases}
 

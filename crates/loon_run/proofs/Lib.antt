@@ -4,3 +4,4 @@ mod Numbered
 mod Refusing
 mod Supplies
 mod Writing
+mod Bare

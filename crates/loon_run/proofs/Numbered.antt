@@ -1,5 +1,5 @@
 -- A letter with a number behind it is an identifier, however large the number: no reserved word has a digit.
-use Rattle.std.proofs.Common.{◌≡◌, ℕ, suc, zero, ◌+◌, ◌/◌, ◌%◌, ◌<◌, ◌==◌, nat_lt, Bool, true, false, not, cond, ◌&&◌, List, [], ◌∷◌, length, Option, None, Some, bytes_eq, slice_index, refl, sym, ap, ◌∙◌, arith}
+use Rattle.std.proofs.Common.{◌≡◌, ℕ, suc, zero, ◌+◌, ◌/◌, ◌%◌, ◌<◌, ◌==◌, nat_lt, Bool, true, false, not, cond, List, [], ◌∷◌, None, Some, bytes_eq, slice_index, refl, sym, ap, ◌∙◌, arith}
 use Rattle.std.specs.List.{list_all}
 use Rattle.std.specs.Char.{is_ascii_digit}
 use Rattle.std.specs.Fmt.{decimal, digits, digits_onto, digit_glyph}
@@ -10,7 +10,7 @@ use Rattle.vhdl_token.specs.declared.keyword.Keyword.{Keyword}
 use Rattle.vhdl_token.specs.Keyword.{keyword_text, keyword_among, keyword_of, keywords}
 use Rattle.spell_theory.specs.Words.{is_small_letter, is_in_small_word}
 use Rattle.spell_theory.proofs.Letters.{by_bytes, small_digit, all_implied, both, digit_of_ten}
-use Rattle.port_words.specs.Words.{is_word, IsIdentifier}
+use Rattle.port_words.specs.Words.{IsIdentifier}
 
 none_among : (w : List ℕ) (ks : List Keyword) → list_all (λ k. not (is_ascii_digit (slice_index (keyword_text k) 1))) ks ≡ true
     → is_ascii_digit (slice_index w 1) ≡ true → keyword_among w ks ≡ None

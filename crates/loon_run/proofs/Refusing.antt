@@ -1,5 +1,5 @@
 -- From the refusals of readers and of buffering to the tool's.
-use Rattle.std.proofs.Common.{◌≡◌, ℕ, true, List, None, Result, Err, false, sym, subst, refl}
+use Rattle.std.proofs.Common.{◌≡◌, ℕ, List, None, Result, Err, false, sym, subst, refl}
 use Rattle.vlsi_base.specs.declared.fault.ReadError.{ReadError}
 use Rattle.cell_model.specs.Library.{Library}
 use Rattle.cell_lib.specs.declared.error.LibError.{LibError}
@@ -22,7 +22,7 @@ use Rattle.tool_drive.specs.declared.tool.Product.{Product}
 use Rattle.tool_drive.specs.declared.tool.Refusal.{Refusal}
 use Rattle.tool_drive.specs.Table.{IsJudged, IsFair, refusal}
 use Rattle.tool_drive.specs.Refusals.{MemoryOr, OfFile, of_file, judged_file}
-use Rattle.loon_run.specs.Loon.{AreRead, no_library, bad_netlist, no_buffer, Limits, IsToldOf}
+use Rattle.loon_run.specs.Loon.{no_library, bad_netlist, no_buffer, Limits, IsToldOf}
 
 -- a status for which P holds, or out of memory, is one that a tool may answer
 judged : (A : Result Product Refusal → Type 0) (P : Status → Type 0) → ((t : Status) → P t → IsFair t None (A (Err (refusal t None)))) → (s : Status) → MemoryOr s (P s)

@@ -1,30 +1,24 @@
 -- The netlist with buffers and with cells exchanged can be written.
-use Rattle.std.proofs.Common.{◌≡◌, inl, inr, ℕ, zero, suc, ◌<◌, Bool, true, false, List, [], ◌∷◌, ◌++◌, map, filter, take, length, Some, refl, sym, ap, ◌∙◌, subst, arith}
+use Rattle.std.proofs.Common.{◌≡◌, inl, inr, ℕ, zero, suc, ◌<◌, false, List, [], ◌∷◌, map, length, refl, sym, ap, ◌∙◌, subst, arith}
 use Rattle.std.specs.Prelude.{codes}
-use Rattle.std.specs.List.{All}
-use Rattle.vlsi_base.specs.declared.name.Port.{Port}
-use Rattle.vlsi_base.specs.Member.{In, here, there}
+use Rattle.vlsi_base.specs.Member.{In}
 use Rattle.vlsi_base.specs.Names.{vdd, vss}
-use Rattle.machine_meaning.specs.Machine.{names_of}
 use Rattle.port_words.specs.Words.{IsIdentifier, CanBePorts}
 use Rattle.free_names.specs.Free.{numbered, free_numbers, free_texts}
-use Rattle.cell_model.specs.Cell.{Cell}
-use Rattle.cell_model.specs.Library.{Library, cell_of, IsUsable}
+use Rattle.cell_model.specs.Library.{Library}
 use Rattle.cell_model.proofs.Members.{In-split, In-map_back, All-In, All-from}
 use Rattle.cell_lib.specs.Cells.{sources}
 use Rattle.cell_lib.specs.Library.{IsLibraryOf}
 use Rattle.cell_lib.specs.Laws.{LibraryPasses}
-use Rattle.cell_pins.specs.Pins.{all_ports}
-use Rattle.cell_pins.specs.Table.{IsTableOf}
 use Rattle.net_core.specs.declared.pins.ModelPins.{ModelPins}
-use Rattle.net_core.specs.Places.{Stands, IsThere}
-use Rattle.net_core.specs.Netlist.{Instance, Netlist, terminals, port}
+use Rattle.net_core.specs.Places.{Stands}
+use Rattle.net_core.specs.Netlist.{Instance, Netlist}
 use Rattle.net_view.specs.Condition.{MeetsCondition}
 use Rattle.net_view.specs.Writable.{CanBeAnInstance, CanBeNamed}
 use Rattle.net_view.proofs.Lists.{in_place}
 use Rattle.net_view.proofs.Models.{named_cell}
 use Rattle.vbe_words.specs.Laws.{CatalIsNamed}
-use Rattle.loon_buffer.specs.Drives.{OnlyExchanges, IsChosenFor}
+use Rattle.loon_buffer.specs.Drives.{OnlyExchanges}
 use Rattle.loon_fanout.specs.Sinks.{wired_of}
 use Rattle.loon_fanout.specs.Limited.{IsBuffered}
 use Rattle.loon_fanout.specs.Laws.{gate_named, LimitedStaysBeside}
@@ -127,12 +121,12 @@ module _ (known : Known) (catal source : List ℕ) (files : List (List ℕ)) (l 
       (All-In (λ (y : Instance). IsIdentifier y.name) n.instances (known.names source table n is).instances))
 
   pub driven_named : HasUsableCells l n → HasUsableCells l k → CanBeNamed k
-  driven_named cells driven =
+  driven_named cells after =
       let given = known.named source table n is met (model_named known.lists catal files l library n cells) in
       record {
         name = subst IsIdentifier (sym name_same) given.name;
         ports = subst CanBePorts (sym ports_same) given.ports;
-        instances = All-from CanBeAnInstance k.instances (λ i at. (every_name i at, model_named known.lists catal files l library k driven i at));
+        instances = All-from CanBeAnInstance k.instances (λ i at. (every_name i at, model_named known.lists catal files l library k after i at));
       }
 
 pub driven_is_writable : Known → DrivenIsWritable

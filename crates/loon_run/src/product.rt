@@ -31,7 +31,12 @@ fn report(alloc: Global, driven: &Driven) -> Result<FileBytes, AllocError>
     ensures { IfOk result (λ text. text ≡ report_of driven.now.netlist driven.now.delay) }
 {
     let mut text = FileBytes::from_bytes(alloc, b"")?;
-    push_count(alloc, &mut text, b"cells", driven.netlist.nodes().len() as u128)?;
+    push_count(
+        alloc,
+        &mut text,
+        b"cells",
+        driven.netlist.nodes().len() as u128,
+    )?;
     push_count(alloc, &mut text, b"delay", driven.delay)?;
     Ok(text)
 }
