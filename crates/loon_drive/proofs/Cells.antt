@@ -1,6 +1,5 @@
 -- The usable cells in a table of pins, and the netlists that fit it.
-use Rattle.std.proofs.Common.{◌≡◌, ◌≢◌, ◌⊎◌, inl, inr, ℕ, zero, suc, Bool, true, false, cond, List, [], ◌∷◌, map, bytes_eq, Option, None, Some, refl, sym, ap, ◌∙◌, subst, arith}
-use Rattle.std.specs.Prelude.{All, AllPairs, IsTrue}
+use Rattle.std.proofs.Common.{◌≡◌, ◌≢◌, inl, inr, ℕ, zero, suc, Bool, true, false, cond, List, [], ◌∷◌, map, bytes_eq, Some, refl, sym, ap, ◌∙◌, subst}
 use Rattle.std.specs.Cmp.Lexicographic.{bytes_decides}
 use Rattle.vlsi_base.specs.declared.name.Name.{Name}
 use Rattle.vlsi_base.specs.declared.name.Port.{Port}
@@ -8,7 +7,7 @@ use Rattle.vlsi_base.specs.Member.{In, here, there}
 use Rattle.machine_meaning.specs.Machine.{names_of}
 use Rattle.machine_meaning.specs.Named.{is_same_text}
 use Rattle.cell_model.specs.Cell.{Cell, Function}
-use Rattle.cell_model.specs.Library.{Library, cell_named, cell_of, IsUsable}
+use Rattle.cell_model.specs.Library.{cell_named, IsUsable}
 use Rattle.cell_pins.specs.Pins.{all_ports}
 use Rattle.cell_pins.specs.Table.{ArePins, no_pins, one_pin, IsModelOf, AreModels, no_models, listed, left_out, IsListed}
 use Rattle.net_core.specs.declared.pins.ModelPin.{ModelPin}
@@ -122,13 +121,13 @@ pub is_listed : (cells : List Cell) (table : List ModelPins) (model : List ℕ) 
 is_listed _ _ model c no_models found usable = absurd cc
 is_listed _ _ model c (listed {c = d} {m = m} {cells = cells} {models = models} p is rest) found usable =
     by (is_same_text d.name model) refl found (λ f. is_listed cells models model c rest f usable) where
-  by : (b : Bool) → is_same_text d.name model ≡ b → cond b (Some d) (cell_named cells model) ≡ Some c
-      → (cell_named cells model ≡ Some c → IsThere (map (λ (x : ModelPins). x.model) models) model) → IsThere (map (λ (x : ModelPins). x.model) (m ∷ models)) model
-  by true e f later = (zero, ap Some (is.name ∙ text_true d.name model e))
-  by false e f later = let r = later f in (suc r.0, r.1)
+      by : (b : Bool) → is_same_text d.name model ≡ b → cond b (Some d) (cell_named cells model) ≡ Some c
+          → (cell_named cells model ≡ Some c → IsThere (map (λ (x : ModelPins). x.model) models) model) → IsThere (map (λ (x : ModelPins). x.model) (m ∷ models)) model
+      by true e f later = (zero, ap Some (is.name ∙ text_true d.name model e))
+      by false e f later = let r = later f in (suc r.0, r.1)
 is_listed _ _ model c (left_out {c = d} {cells = cells} {models = models} p rest) found usable =
     by (is_same_text d.name model) found (λ f. is_listed cells models model c rest f usable) where
-  by : (b : Bool) → cond b (Some d) (cell_named cells model) ≡ Some c → (cell_named cells model ≡ Some c → IsThere (map (λ (x : ModelPins). x.model) models) model)
-      → IsThere (map (λ (x : ModelPins). x.model) models) model
-  by true f later = let same : d ≡ c = cc f in absurd (p (inr (subst IsUsable (sym same) usable)))
-  by false f later = later f
+      by : (b : Bool) → cond b (Some d) (cell_named cells model) ≡ Some c → (cell_named cells model ≡ Some c → IsThere (map (λ (x : ModelPins). x.model) models) model)
+          → IsThere (map (λ (x : ModelPins). x.model) models) model
+      by true f later = let same : d ≡ c = cc f in absurd (p (inr (subst IsUsable (sym same) usable)))
+      by false f later = later f

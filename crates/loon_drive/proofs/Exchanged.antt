@@ -1,27 +1,24 @@
 -- What exchanges of cells for drives of them keep.
-use Rattle.std.proofs.Common.{◌≡◌, ℕ, zero, suc, Bool, true, false, not, cond, ◌&&◌, List, [], ◌∷◌, ◌++◌, map, filter, length, bytes_eq, nat_eq, Option, Some, None, refl, sym, ap, ap₂, ◌∙◌, subst, ◌≤◌, arith}
+use Rattle.std.proofs.Common.{◌≡◌, ℕ, zero, suc, Bool, true, false, not, cond, ◌&&◌, List, [], ◌∷◌, ◌++◌, map, filter, length, bytes_eq, nat_eq, Option, Some, refl, sym, ap, ap₂, ◌∙◌, subst, ◌≤◌, arith}
 use Rattle.std.specs.List.{flat_map, list_any}
 use Rattle.vlsi_base.specs.declared.name.Name.{Name}
 use Rattle.vlsi_base.specs.declared.name.Port.{Port}
 use Rattle.vlsi_base.specs.declared.name.Terminal.{Terminal}
 use Rattle.vlsi_base.specs.Member.{In, here, there}
 use Rattle.vlsi_base.specs.Names.{vdd, vss}
-use Rattle.machine_meaning.specs.Machine.{Machine, names_of, is_input}
-use Rattle.machine_meaning.specs.Named.{is_same_text, is_same_name}
-use Rattle.cell_model.specs.Cell.{Function, gate, flip_flop, other, opaque, Cell, pin_ports, cell_inputs}
-use Rattle.cell_model.specs.Library.{Library, cell_of, IsUsable}
+use Rattle.machine_meaning.specs.Machine.{names_of, is_input}
+use Rattle.machine_meaning.specs.Named.{is_same_name}
+use Rattle.cell_model.specs.Cell.{Function, gate, flip_flop, other, opaque, Cell, cell_inputs}
+use Rattle.cell_model.specs.Library.{Library, cell_of}
 use Rattle.cell_pins.specs.Pins.{with_supply, all_ports}
 use Rattle.net_core.specs.Places.{Stands, IsThere, NoneTwice}
-use Rattle.net_core.specs.Netlist.{Instance, Netlist, IsNetlist, port, pin_of, pins_of, terminals, terminals_of, HasClass, IsClassFunction}
+use Rattle.net_core.specs.Netlist.{Instance, Netlist, port, pin_of, pins_of, terminals, terminals_of}
 use Rattle.net_core.proofs.Lookups.{same_of, itself}
-use Rattle.net_core.proofs.Standing.{stands_same}
 use Rattle.net_meaning.specs.Netlist.{Member, Netlist as Seen}
 use Rattle.net_theory.specs.Exchanges.{IsSameFunction, IsDrive, IsExchanged, ShownExchanged}
-use Rattle.net_view.specs.View.{member_of, netlist_by, IsSeenAs}
-use Rattle.net_view.specs.Right.{IsRightNetlist}
-use Rattle.loon_buffer.specs.Drives.{IsChosenFor, OnlyExchanges}
-use Rattle.loon_fanout.specs.Sinks.{is_clock_of, is_sink_pin, is_sink_of, instance_sinks, sinks, class_among, wired_of, Wired}
-use Rattle.loon_fanout.specs.Limited.{IsOfCells, HasFanout}
+use Rattle.net_view.specs.View.{member_of, netlist_by}
+use Rattle.loon_buffer.specs.Drives.{IsChosenFor}
+use Rattle.loon_fanout.specs.Sinks.{is_clock_of, is_sink_pin, is_sink_of, instance_sinks, sinks, class_among, wired_of}
 use Rattle.loon_drive.specs.Laws.{AreExchanged, CellsStay, RightStays, FanoutStays}
 
 -- ---- two lists of instances, one by one
@@ -83,10 +80,13 @@ cells_stay l n k x cells = record {
       let b = back_at l n.instances k.instances (chosen_of l n k x) at.0 j at.1 in
       let c = b.2 in
       let f = cells.found b.0 (at.0, b.1) in
-      let same : f.0 ≡ c.was = some_same f.0 c.was (sym f.1 ∙ c.found) in
-      (c.now, c.listed, c.usable,
-      ap (λ (i : Instance). i.pins) c.same ∙ f.3 ∙ ap (λ (d : Cell). names_of (all_ports d)) same
-      ∙ ap (λ (ps : List Port). names_of (with_supply vss (with_supply vdd ps))) (sym c.drive.pins));
+      let same : f.0 ≡ c.was = some_same f.0 c.was (sym f.1 ∙ c.found) in (
+        c.now,
+        c.listed,
+        c.usable,
+        ap (λ (i : Instance). i.pins) c.same ∙ f.3 ∙ ap (λ (d : Cell). names_of (all_ports d)) same
+            ∙ ap (λ (ps : List Port). names_of (with_supply vss (with_supply vdd ps))) (sym c.drive.pins),
+      );
   on_vdd = subst (λ (ts : List Terminal). IsThere ts (port vdd)) (sym (terminals_same l n k x)) cells.on_vdd;
   on_vss = subst (λ (ts : List Terminal). IsThere ts (port vss)) (sym (terminals_same l n k x)) cells.on_vss;
 }
@@ -118,7 +118,7 @@ filter_same {A} p q same (x ∷ xs) =
 own_sinks : (l : Library) (i j : Instance) → IsChosenFor l i j → instance_sinks l j ≡ instance_sinks l i
 own_sinks l i j c =
     let sink : (name : Name) → is_sink_of (cell_of l j.model) name ≡ is_sink_of (cell_of l i.model) name =
-        λ name. ap (λ (o : Option Cell). is_sink_of o name) c.listed ∙ same_sink c.was c.now name c.drive ∙ sym (ap (λ (o : Option Cell). is_sink_of o name) c.found) in
+    λ name. ap (λ (o : Option Cell). is_sink_of o name) c.listed ∙ same_sink c.was c.now name c.drive ∙ sym (ap (λ (o : Option Cell). is_sink_of o name) c.found) in
     ap (λ (y : Instance). map (pin_of y.name) (filter (is_sink_of (cell_of l j.model)) y.pins)) c.same
     ∙ ap (λ (ns : List Name). map (pin_of i.name) ns) (filter_same (is_sink_of (cell_of l j.model)) (is_sink_of (cell_of l i.model)) sink i.pins)
 
@@ -134,9 +134,9 @@ sinks_by at class ts = filter (λ t. nat_eq (at t) class) ts
 pub fanout_stays : FanoutStays
 fanout_stays l n k limit x few class =
     let sinks_same : sinks l (wired_of k) class ≡ sinks l (wired_of n) class =
-        ap (λ (ts : List Terminal). sinks_by (class_among ts k.classes) class (flat_map (instance_sinks l) k.instances)) (terminals_same l n k x)
-        ∙ ap (λ (cs : List ℕ). sinks_by (class_among (terminals n) cs) class (flat_map (instance_sinks l) k.instances)) (classes_same l n k x)
-        ∙ ap (λ (ts : List Terminal). sinks_by (class_among (terminals n) n.classes) class ts) (all_sinks l n.instances k.instances (chosen_of l n k x)) in
+    ap (λ (ts : List Terminal). sinks_by (class_among ts k.classes) class (flat_map (instance_sinks l) k.instances)) (terminals_same l n k x)
+    ∙ ap (λ (cs : List ℕ). sinks_by (class_among (terminals n) cs) class (flat_map (instance_sinks l) k.instances)) (classes_same l n k x)
+    ∙ ap (λ (ts : List Terminal). sinks_by (class_among (terminals n) n.classes) class ts) (all_sinks l n.instances k.instances (chosen_of l n k x)) in
     subst (λ (ts : List Terminal). length ts ≤ limit) (sym sinks_same) (few class)
 
 -- ---- right for a machine
@@ -204,8 +204,10 @@ right_stays shown l n k m sound x right = record {
   sourced = record { netlist = y; source = right.sourced.source; rank = right.sourced.rank };
   seen = record {
     is = refl;
-    classes = record { each = λ t c h. right.seen.classes.each t c (subst (λ (ts : List Terminal). HasClassIn ts n.classes t c) (terminals_same l n k x)
-        (subst (λ (cs : List ℕ). HasClassIn (terminals k) cs t c) (classes_same l n k x) h)) };
+    classes = record {
+      each = λ t c h. right.seen.classes.each t c (subst (λ (ts : List Terminal). HasClassIn ts n.classes t c) (terminals_same l n k x)
+          (subst (λ (cs : List ℕ). HasClassIn (terminals k) cs t c) (classes_same l n k x) h));
+    };
   };
   values = right.values;
   roots = right.roots;
@@ -242,7 +244,7 @@ right_stays shown l n k m sound x right = record {
         let ch = r.4 in
         let name : j.name ≡ i.name = ap (λ (z : Instance). z.name) ch.same ∙ ap (λ (z : Member). z.name) r.5 in
         let model : model_of k.instances i.name i.model ≡ j.model =
-            subst (λ (t : List ℕ). model_of k.instances t i.model ≡ j.model) name (model_found k.instances once r.0 j i.model r.3) in
+        subst (λ (t : List ℕ). model_of k.instances t i.model ≡ j.model) name (model_found k.instances once r.0 j i.model r.3) in
         let was : c ≡ ch.was = some_same c ch.was (sym found ∙ sym (ap (λ (z : Member). cell_of l z.model) r.5) ∙ ch.found) in
         (ch.now, ap (cell_of l) model ∙ ch.listed, ch.usable, subst (λ (z : Cell). IsDrive z ch.now) (sym was) ch.drive);
   }

@@ -3,3 +3,4 @@ mod Lists
 pub mod Cells
 pub mod Fitting
 mod Reserving
+mod Driving

@@ -1,6 +1,6 @@
 -- Room for the names of a library's cells.
 use Rattle.std.proofs.Common.{◌≡◌, ℕ, List, map, Result, Ok, Err, subst, sym}
-use Rattle.std.specs.Prelude.{OnOk, All}
+use Rattle.std.specs.Prelude.{OnOk}
 use Rattle.std.specs.declared.alloc.AllocError.{AllocError}
 use Rattle.vlsi_base.specs.Member.{In}
 use Rattle.cell_model.specs.Cell.{Cell}

@@ -8,7 +8,7 @@ use Rattle.loon_fanout.specs.Limited.{IsBuffered}
 
 -- What words ask for is 4 or more. Less than 2 counts as 2, since groups of one sink would never be fewer.
 abbrev pub most_sinks : ℕ → ℕ
-most_sinks fanout = max 2 fanout
+most_sinks fanout = max fanout 2
 
 -- The netlist is buffered, and then cells are exchanged for drives of them until no exchange of one instance's cell makes the longest
 -- path shorter, which takes so many femtoseconds. It may be given more models than the buffered one.

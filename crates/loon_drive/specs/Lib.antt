@@ -1,3 +1,2 @@
 pub mod Driven
-pub mod Errors
 pub mod Laws

@@ -1,23 +1,21 @@
 // Buffers, and then drives.
-ghost use Rattle.std.specs.Prelude.{◌≡◌, IfOk, IfErr, OnOk, MatchOption, map};
+ghost use Rattle.std.specs.Prelude.{◌≡◌, IfOk, IfErr, OnOk, map};
 ghost use Rattle.net_core.specs.Netlist.{IsNetlist, ReservesModels};
 ghost use Rattle.delay_sta.specs.Paths.{IsWorst};
 ghost use Rattle.delay_sta.specs.Timed.{CanBeTimed};
 ghost use Rattle.delay_sta.specs.Exchanged.{HaveTheirArcs};
 ghost use Rattle.loon_buffer.specs.Drives.{HasDrives, OnlyExchanges, IsDriven};
-ghost use Rattle.loon_fanout.specs.Limited.{HasFanout, IsOfCells, HasRoomForGates, StaysRight};
+ghost use Rattle.loon_fanout.specs.Limited.{HasFanout, IsOfCells, HasRoomForGates, StaysRight, IsBufferRefusal};
+ghost use Rattle.loon_fanout.specs.Laws.{IsTied};
 ghost use Rattle.loon_drive.specs.Driven.{most_sinks, IsDrivenFrom};
-ghost use Rattle.loon_drive.specs.Errors.{HasFault, IsDriveRefusal};
 
-use crate::error::DriveError;
 use crate::laws::exchanged_law;
 use cell_checks::Library;
 use cell_model::Cell;
-use cell_pins::pin_table;
 use delay_sta::{delays, worst};
 use loon_buffer::{DriveTable, choose_drives};
-use loon_fanout::limit_fanout;
-use net_core::{CheckError, NetFault, Netlist, check};
+use loon_fanout::{BufferError, limit_fanout, passes_law};
+use net_core::Netlist;
 use std::alloc::{AllocError, Global};
 use vlsi_base::{Listed, Text};
 
@@ -47,25 +45,6 @@ fn reserve(alloc: Global, netlist: &mut Netlist, library: &Library) -> Result<()
     netlist.reserve_models(alloc, &names)
 }
 
-/// A fault of a netlist of usable cells; none where its paths can be timed.
-fn fault(
-    alloc: Global,
-    netlist: &Netlist,
-    library: &Library,
-) -> Result<Option<NetFault>, AllocError>
-    requires { IsOfCells netlist.now library.now }
-    ensures { IfOk result (λ found. MatchOption found (CanBeTimed library.now netlist.now) (HasFault library.now netlist.now)) }
-{
-    // The library's cells have passed their checks.
-    let _ = library.cells();
-    let table = pin_table(alloc, library, false)?;
-    match check(alloc, netlist, &table) {
-        Ok(()) => Ok(None),
-        Err(CheckError::Memory) => Err(AllocError),
-        Err(CheckError::Fault(fault)) => Ok(Some(fault)),
-    }
-}
-
 /// Cells exchanged for drives of them, so that no exchange of one more makes the longest path shorter.
 fn exchanged(alloc: Global, mut netlist: Netlist, library: &Library) -> Result<Driven, AllocError>
     requires timed { CanBeTimed library.now netlist }
@@ -89,16 +68,19 @@ fn exchanged(alloc: Global, mut netlist: Netlist, library: &Library) -> Result<D
 /// Puts buffers into a netlist until no net has more than `fanout` sinks, where less than 2 counts as 2, and then exchanges cells for
 /// drives of them until no exchange of one instance's cell makes the longest path shorter.
 ///
-/// It is refused by `NoBuffer` exactly where a net has too many sinks and the library has neither a buffer nor an inverter, and by
-/// `Fault` where the netlist with buffers has a fault. The netlist must be of usable cells; with all gates it must have fewer than 2^32
-/// pins. Takes memory for the netlist, for each terminal and arc, and for each pair of cells of which one can stand for the other.
+/// It is refused by `NoBuffer` exactly where a net has too many sinks and the library has neither a buffer nor an inverter. The netlist
+/// must be of usable cells, with each instance's vdd and vss at the ports of these names, and pass its checks; with all gates it must
+/// have fewer than 2^32 pins. Takes memory for the netlist, for each terminal and arc, and for each pair of cells of which one can
+/// stand for the other.
 pub fn drive_netlist(
     alloc: Global,
     netlist: &Netlist,
     library: &Library,
     fanout: u32,
-) -> Result<Driven, DriveError>
+) -> Result<Driven, BufferError>
     requires cells { IsOfCells netlist.now library.now }
+    requires tied { IsTied netlist.now }
+    requires timed { CanBeTimed library.now netlist.now }
     requires room { HasRoomForGates netlist.now }
     requires arcs { HaveTheirArcs library.now }
     ensures driven { IfOk result (λ d. IsDrivenFrom netlist.now library.now fanout d.netlist d.delay) }
@@ -107,13 +89,15 @@ pub fn drive_netlist(
     ensures fanout { IfOk result (λ d. HasFanout library.now (most_sinks fanout) d.netlist) }
     ensures right { IfOk result (λ d. StaysRight netlist.now library.now d.netlist) }
     ensures timed { IfOk result (λ d. CanBeTimed library.now d.netlist) }
-    ensures refused { IfErr result (λ e. IsDriveRefusal netlist.now library.now fanout e) }
+    ensures refused { IfErr result (λ e. IsBufferRefusal netlist.now library.now (most_sinks fanout) e) }
 {
     exchanged_law();
+    passes_law();
+    // Both netlists are sound, and the library's cells have passed their checks.
+    let _ = netlist.classes();
+    let _ = library.cells();
     let mut limited = limit_fanout(alloc, netlist, library, fanout.max(2))?;
     reserve(alloc, &mut limited, library)?;
-    if let Some(fault) = fault(alloc, &limited, library)? {
-        return Err(DriveError::Fault(fault));
-    }
+    let _ = limited.classes();
     Ok(exchanged(alloc, limited, library)?)
 }

@@ -2,9 +2,7 @@
 #![tactic(auto)]
 
 mod drive;
-mod error;
 mod laws;
 
 pub use drive::{Driven, drive_netlist};
-pub use error::DriveError;
 pub use laws::exchanged_law;

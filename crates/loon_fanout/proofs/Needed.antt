@@ -109,7 +109,7 @@ module _ (l : Library) (r : InMemory) (is : IsNetlist r) (celled : (i : Instance
 
 -- ---- the law
 
-all_different : (xs : List (List ℕ)) → NoneTwice xs → AllDifferent xs
+pub all_different : (xs : List (List ℕ)) → NoneTwice xs → AllDifferent xs
 all_different [] once_only = tt
 all_different (x ∷ xs) once_only = (not_later, all_different xs later) where
   not_later : In x xs → ⊥

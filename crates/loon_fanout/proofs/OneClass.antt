@@ -40,12 +40,12 @@ differ_append (x ∷ xs) ys d e apart = (
   differ_append xs ys d.1 e (λ y h g. apart y (there h) g),
 )
 
-apart_append : {A : Type 0} (xs ys : List A) → AllDifferent (xs ++ ys) → (x : A) → In x xs → In x ys → ⊥
+pub apart_append : {A : Type 0} (xs ys : List A) → AllDifferent (xs ++ ys) → (x : A) → In x xs → In x ys → ⊥
 apart_append [] ys d x h g = elim h [ ]
 apart_append (y ∷ xs) ys d x here g = d.0 (In-right x xs ys g)
 apart_append (y ∷ xs) ys d x (there h) g = apart_append xs ys d.1 x h g
 
-differ_later : {A : Type 0} (xs ys : List A) → AllDifferent (xs ++ ys) → AllDifferent ys
+pub differ_later : {A : Type 0} (xs ys : List A) → AllDifferent (xs ++ ys) → AllDifferent ys
 differ_later [] ys d = d
 differ_later (x ∷ xs) ys d = differ_later xs ys d.1
 
@@ -109,7 +109,7 @@ In-one : {A : Type 0} (x y : A) → In y (x ∷ []) → y ≡ x
 In-one x y here = refl
 In-one x y (there h) = elim h [ ]
 
-still_good : (l : Library) (is : List Instance) (c : Cell) → IsGateCell l c → (name : List ℕ) → ((i : Instance) → In i is → i.name ≢ name) → AreGood l is → AreGood l (is ++ gate_named c name ∷ [])
+pub still_good : (l : Library) (is : List Instance) (c : Cell) → IsGateCell l c → (name : List ℕ) → ((i : Instance) → In i is → i.name ≢ name) → AreGood l is → AreGood l (is ++ gate_named c name ∷ [])
 still_good l is c b name new_name good = record {
   names = subst (λ (ns : List (List ℕ)). AllDifferent ns) (sym (map-append (λ (i : Instance). i.name) is (gate_named c name ∷ [])))
       (differ_append (map (λ i. i.name) is) (name ∷ []) good.names (λ h. elim h [ ], tt) (λ x h g.
@@ -247,7 +247,7 @@ module _ (l : Library) (u : Wired) (good : AreGood l u.instances) (group : List 
   }
 
 -- pins of instances of other names aren't moved
-own_kept : (l : Library) (w u : Wired) (group : List Terminal) → ((t : Terminal) → In t group → IsSink l w t) → (name : List ℕ) (pin : Name) → ((i : Instance) → In i w.instances → i.name ≢ name)
+pub own_kept : (l : Library) (w u : Wired) (group : List Terminal) → ((t : Terminal) → In t group → IsSink l w t) → (name : List ℕ) (pin : Name) → ((i : Instance) → In i w.instances → i.name ≢ name)
     → (with_moved group u).class (pin_of name pin) ≡ u.class (pin_of name pin)
 own_kept l w u group each name pin apart = ap (λ (x : Bool). if x then u.count - 1 else u.class (pin_of name pin)) (is_false (list_any (is_same_terminal (pin_of name pin)) group) (λ e.
     let x = any_in (is_same_terminal (pin_of name pin)) group e in
@@ -273,7 +273,7 @@ pub record RowFollows (l : Library) (c : Cell) (rest : List (List ℕ)) (group :
   pub good : AreGood l u.instances
   pub stays : (t : Terminal) → IsSink l w t → (In t group → ⊥) → u.class t ≡ w.class t
 
-row_follows : (l : Library) (c : Cell) (gates : ℕ) → Repeats l c gates → (w : Wired) (k : ℕ) (group : List Terminal) → AreGood l w.instances → ((t : Terminal) → In t group → IsSink l w t × (w.class t ≡ k))
+pub row_follows : (l : Library) (c : Cell) (gates : ℕ) → Repeats l c gates → (w : Wired) (k : ℕ) (group : List Terminal) → AreGood l w.instances → ((t : Terminal) → In t group → IsSink l w t × (w.class t ≡ k))
     → (names others later : List (List ℕ)) → length names ≡ gates → AreNew c ((names ++ others) ++ later) w.instances
     → RowFollows l c (others ++ later) group w (with_group c w k names group)
 row_follows l c gates (once b gives) w k group good each [] others later many new = absurd (omega (arith, many))
@@ -335,10 +335,10 @@ pub record RoundFollows (l : Library) (c : Cell) (rest : List (List ℕ)) (w u :
   pub names : AreNew c rest u.instances
   pub good : AreGood l u.instances
 
-abbrev group_of : Row → List Terminal
+abbrev pub group_of : Row → List Terminal
 group_of r = r.group
 
-round_follows : (l : Library) (c : Cell) (gates : ℕ) → Repeats l c gates → (rows : List Row) (w : Wired) (k : ℕ) → AreGood l w.instances
+pub round_follows : (l : Library) (c : Cell) (gates : ℕ) → Repeats l c gates → (rows : List Row) (w : Wired) (k : ℕ) → AreGood l w.instances
     → ((row : Row) → In row rows → (length row.names ≡ gates) × ((t : Terminal) → In t row.group → IsSink l w t × (w.class t ≡ k)))
     → AllDifferent (flat_map group_of rows) → (later : List (List ℕ)) → AreNew c (flat_map (λ r. r.names) rows ++ later) w.instances
     → RoundFollows l c later w (with_round c w k rows)
@@ -360,19 +360,19 @@ round_follows l c gates b (row ∷ rows) w k good each differ later new =
       in_rows x (y ∷ ys) here t g = In-left t y.group (flat_map group_of ys) g
       in_rows x (y ∷ ys) (there h) t g = In-right t y.group (flat_map group_of ys) (in_rows x ys h t g)
 
-abbrev whole : {A : Type 0} → List (List A) → List A
+abbrev pub whole : {A : Type 0} → List (List A) → List A
 whole {A} [] = []
 whole {A} (g ∷ gs) = g ++ whole gs
 
 -- the groups of a list are the list
-groups_whole : {A : Type 0} (size : ℕ) (xs : List A) (groups : List (List A)) → AreGroups size xs groups → xs ≡ whole groups
+pub groups_whole : {A : Type 0} (size : ℕ) (xs : List A) (groups : List (List A)) → AreGroups size xs groups → xs ≡ whole groups
 groups_whole size xs groups (last more few) = sym (nil_behind xs) where
   nil_behind : {A : Type 0} (ys : List A) → ys ++ [] ≡ ys
   nil_behind [] = refl
   nil_behind {A} (y ∷ ys) = ap (λ (zs : List A). y ∷ zs) (nil_behind ys)
 groups_whole {A} size xs groups (next {xs = ys} {ys = zs} {groups = more} full rest) = ap (λ (x : List A). ys ++ x) (groups_whole size zs more rest)
 
-whole_rows : (rows : List Row) → whole (map (λ r. r.group) rows) ≡ flat_map group_of rows
+pub whole_rows : (rows : List Row) → whole (map (λ r. r.group) rows) ≡ flat_map group_of rows
 whole_rows [] = refl
 whole_rows (row ∷ rows) = ap (λ (x : List Terminal). row.group ++ x) (whole_rows rows)
 

@@ -1,5 +1,5 @@
 -- What is true of each netlist that is limited.
-use Rattle.std.specs.Prelude.{◌≡◌, ◌≢◌, ℕ, ◌<◌, ◌≤◌, Bool, List, [], ◌∷◌, ◌++◌, Some, length, map, if◌then◌else◌}
+use Rattle.std.specs.Prelude.{◌≡◌, ◌≢◌, ◌⊎◌, ℕ, ◌<◌, ◌≤◌, Bool, List, [], ◌∷◌, ◌++◌, Some, length, map, if◌then◌else◌}
 use Rattle.std.specs.List.{list_any}
 use Rattle.vlsi_base.specs.declared.name.Name.{Name}
 use Rattle.vlsi_base.specs.declared.name.Terminal.{Terminal}
@@ -10,14 +10,19 @@ use Rattle.machine_meaning.specs.Machine.{Machine, names_of}
 use Rattle.cell_model.specs.Cell.{Cell, gate, pin_ports, cell_inputs}
 use Rattle.cell_model.specs.Library.{Library, cell_of, IsUsable}
 use Rattle.cell_pins.specs.Pins.{all_ports}
+use Rattle.cell_pins.specs.Table.{IsTableOf}
 use Rattle.cell_checks.specs.Checked.{IsChecked as HasPassed}
+use Rattle.net_core.specs.declared.pins.ModelPins.{ModelPins}
+use Rattle.net_core.specs.Places.{IsThere}
 use Rattle.net_core.specs.Netlist.{Instance, Netlist as InMemory, IsNetlist}
+use Rattle.net_core.specs.Checks.{Fits, Passes}
 use Rattle.net_meaning.specs.Netlist.{Netlist}
 use Rattle.net_meaning.specs.Agreement.{register_instance}
 use Rattle.net_meaning.specs.Well.{buffer_instance}
 use Rattle.net_theory.specs.Sources.{Source, node, Values, Roots, Sourced, Shows}
 use Rattle.net_theory.specs.Split.{IsSplit}
 use Rattle.net_view.specs.View.{member_of}
+use Rattle.net_view.specs.Condition.{AreTogether}
 use Rattle.loon_fanout.specs.Sinks.{Wired, sinks, is_same_owner, is_same_terminal}
 use Rattle.loon_fanout.specs.Wired.{with_group}
 use Rattle.loon_fanout.specs.Repeaters.{Repeater}
@@ -83,3 +88,17 @@ abbrev pub BufferedStaysRight : Type 0
 BufferedStaysRight =
     (tracks : Bool) (n : InMemory) (l : Library) (limit : ℕ) (r : InMemory) → HasPassed tracks l → IsNetlist n → IsNetlist r
     → IsOfCells n l → IsBuffered n l limit r → StaysRight n l r
+
+-- ---- a netlist that is limited passes its checks
+
+-- each instance's pins of supplies are in the classes of the ports of their names
+abbrev pub IsTied : InMemory → Type 0
+IsTied n = (i : Instance) (supply : Name) → IsThere n.instances i → (supply ≡ vdd) ⊎ (supply ≡ vss) → AreTogether n supply i.name
+
+-- Where a netlist of usable cells of a checked library, whose supplies are tied, fits the table of their pins and has no fault, so
+-- it is once its nets are limited.
+abbrev pub BufferedPasses : Type 0
+BufferedPasses =
+    (tracks all : Bool) (n : InMemory) (l : Library) (limit : ℕ) (r : InMemory) (table : List ModelPins) → HasPassed tracks l → IsNetlist n
+    → IsNetlist r → IsOfCells n l → IsTied n → IsTableOf l all table → Fits n table → Passes table n → IsBuffered n l limit r
+    → Fits r table × Passes table r

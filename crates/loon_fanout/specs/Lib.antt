@@ -6,3 +6,4 @@ pub mod Stages
 pub mod Building
 pub mod Laws
 pub mod Nets
+pub mod Gated

@@ -1,5 +1,5 @@
 // What is true of each netlist that is limited.
-ghost use Rattle.loon_fanout.specs.Laws.{LimitedStaysBeside, GroupSplits, BufferedStaysRight};
+ghost use Rattle.loon_fanout.specs.Laws.{LimitedStaysBeside, GroupSplits, BufferedStaysRight, BufferedPasses};
 ghost use Rattle.loon_fanout.specs.Nets.{BufferedHasFewInputs, BufferedRemains, BuffersAreNeeded, RightHasFewInputs};
 
 /// No net of a limited netlist has more sinks than the limit; its ports are those of the given one, and behind the given instances
@@ -33,4 +33,9 @@ pub fn few_inputs_law()
 /// A limited netlist that would do without its buffers has none.
 pub fn needed_law()
     ensures { BuffersAreNeeded }
+{}
+
+/// A limited netlist of a checked library passes its checks where the given one does, and its instances' supplies are tied.
+pub fn passes_law()
+    ensures { BufferedPasses }
 {}

@@ -10,5 +10,7 @@ mod repeater;
 mod wiring;
 
 pub use error::BufferError;
-pub use laws::{few_inputs_law, limited_law, needed_law, remains_law, split_law, stays_right_law};
+pub use laws::{
+    few_inputs_law, limited_law, needed_law, passes_law, remains_law, split_law, stays_right_law,
+};
 pub use limit::limit_fanout;

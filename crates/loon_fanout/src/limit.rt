@@ -1,19 +1,23 @@
 // Nets with many sinks put behind buffers.
-ghost use Rattle.std.specs.Prelude.{◌≡◌, ◌≤◌, ◌<◌, ◌↔◌, map, length, IsTrue, IfOk, OnOk, IfErr};
+ghost use Rattle.std.specs.Prelude.{◌≡◌, ◌≤◌, ◌<◌, ◌↔◌, ◌+◌, ◌^◌, ◌++◌, map, length, IsTrue, IfOk, OnOk, IfErr};
+ghost use Rattle.std.specs.Option.{option_copied};
 ghost use Rattle.vlsi_base.specs.Names.{scalar};
 ghost use Rattle.net_core.specs.Netlist.{IsNetlist, port, terminals, HasClass};
 ghost use Rattle.net_core.specs.Places.{IsThere};
 ghost use Rattle.loon_fanout.specs.Repeaters.{NoneRepeats};
 ghost use Rattle.loon_fanout.specs.Limited.{IsCrowded, IsBuffered, HasFanout, IsOfCells, HasRoomForGates, StaysRight, IsBufferRefusal};
 ghost use Rattle.loon_fanout.specs.Stages.{HasLongLoad, IsStart};
+ghost use Rattle.loon_fanout.specs.Building.{instance_by};
+ghost use Rattle.loon_fanout.specs.Gated.{gate_names, gates_by, IsGatable, IsGated};
 
 use crate::BufferError;
-use crate::build::{Sketch, build, push_gates, push_nodes};
+use crate::build::{Entry, Sketch, build, push_gates, push_nodes};
+use crate::laws::stays_right_law;
 use crate::loads::loads;
 use crate::repeater::{Repeater, make_repeater};
 use crate::wiring::Wiring;
 use cell_checks::Library;
-use free_names::free_texts;
+use free_names::{free_texts, texts_are_free};
 use net_core::{Netlist, Node};
 use std::alloc::{AllocError, Global};
 use vlsi_base::{Name, Terminal, Text};
@@ -46,7 +50,8 @@ fn widened(alloc: Global, classes: &[u32]) -> Result<Vec<usize>, AllocError>
 /// A netlist's classes, with no gates put in.
 fn wiring_of(alloc: Global, netlist: &Netlist, library: &Library) -> Result<Wiring, AllocError>
     requires { IsOfCells netlist.now library.now }
-    ensures { IfOk result (λ v. IsStart netlist.now v) }
+    ensures start { IfOk result (λ v. IsStart netlist.now v) }
+    ensures sound { OnOk result (IsNetlist netlist.now) }
 {
     Ok(Wiring {
         classes: widened(alloc, netlist.classes())?,
@@ -79,6 +84,31 @@ fn is_crowded(loads: &[Vec<usize>], limit: usize) -> bool
     false
 }
 
+/// The names that so many gates are given: b0, b1 and so on, without those that instances have.
+#[tactic(auto, using(crate::proofs::Gating::nodes_named))]
+fn gate_names(alloc: Global, netlist: &Netlist, many: usize) -> Result<Vec<Text>, AllocError>
+    requires { many + length netlist.now.instances < 2 ^ 63 }
+    ensures { IfOk result (λ names. names.items ≡ gate_names netlist.now many) }
+{
+    let taken = names_of(alloc, netlist.nodes())?;
+    free_texts(alloc, b"b", &taken, many)
+}
+
+/// Puts gates of these names behind the others, where there is a repeater.
+fn push_repeaters(
+    alloc: Global,
+    entries: &mut Vec<Entry>,
+    repeater: Option<&Repeater>,
+    names: &[Text],
+) -> Result<(), AllocError>
+    ensures { OnOk result (map instance_by entries.new.items ≡ map instance_by entries.old.items ++ gates_by (option_copied repeater.entry) names.now) }
+{
+    match repeater {
+        Some(repeater) => push_gates(alloc, entries, repeater, names),
+        None => Ok(()),
+    }
+}
+
 /// The netlist of these classes, with gates behind its instances for those that were put in.
 fn with_gates(
     alloc: Global,
@@ -86,15 +116,14 @@ fn with_gates(
     repeater: Option<&Repeater>,
     wiring: Wiring,
 ) -> Result<Netlist, AllocError>
-    ensures { IfOk result (λ r. IsNetlist r) }
+    requires { IsGatable netlist.now (option_copied repeater) wiring }
+    ensures gated { IfOk result (λ r. IsGated netlist.now (option_copied repeater.entry) wiring r) }
+    ensures sound { IfOk result (λ r. IsNetlist r) }
 {
-    let taken = names_of(alloc, netlist.nodes())?;
-    let names = free_texts(alloc, b"b", &taken, wiring.reads.len())?;
+    let names = gate_names(alloc, netlist, wiring.reads.len())?;
     let mut entries = Vec::new(alloc);
     push_nodes(alloc, &mut entries, netlist.models(), netlist.nodes())?;
-    if let Some(repeater) = repeater {
-        push_gates(alloc, &mut entries, repeater, &names)?;
-    }
+    push_repeaters(alloc, &mut entries, repeater, &names)?;
     let count = wiring.count();
     let Wiring { classes, .. } = wiring;
     let sketch = Sketch {
@@ -134,13 +163,16 @@ pub fn limit_fanout(
     ensures covered { OnOk result (IsCrowded library.now fanout netlist.now → NoneRepeats library.now.cells → ⊥) }
     ensures refused { IfErr result (λ e. IsBufferRefusal netlist.now library.now fanout e) }
 {
+    texts_are_free();
+    stays_right_law();
+    let cells = library.cells();
     let loads = loads(alloc, netlist, library)?;
     let mut wiring = wiring_of(alloc, netlist, library)?;
     let limit = fanout as usize;
     if !is_crowded(&loads, limit) {
         return Ok(with_gates(alloc, netlist, None, wiring)?);
     }
-    match make_repeater(alloc, library.cells())? {
+    match make_repeater(alloc, cells)? {
         Some(found) => {
             wiring.limit_all(alloc, &found, &loads, limit)?;
             Ok(with_gates(alloc, netlist, Some(&found), wiring)?)

@@ -29,7 +29,7 @@ use Rattle.net_core.specs.Places.{Stands, IsThere}
 use Rattle.delay_sta.specs.Paths.{HasPin, BeginsThere, GoesThrough}
 use Rattle.delay_sta.specs.Exchanged.{Begins, HasItsArcs, HaveTheirArcs}
 use Rattle.loon_run.specs.Laws.{LibraryHasArcs}
-use Rattle.loon_run.proofs.Lists.{stands_in, in_stands}
+use Rattle.loon_run.proofs.Lists.{stands_in, in_stands, in_cases}
 
 -- ---- lists
 
@@ -47,13 +47,13 @@ only_member x y (there i) = elim i [ ]
 module _ (f : Parts) (generics : List GenericValue) (to : Name) where
   listed : (p : Port) (ports : List Port) → In p ports → begins_arc f p ≡ true → In (arc_of generics p.name to) (arcs_to f generics to ports)
   listed p [] i is = elim i [ ]
-  listed p (q ∷ rest) i is = by (begins_arc f q) refl i (λ j. listed p rest j is) where
-    by : (b : Bool) → begins_arc f q ≡ b → In p (q ∷ rest) → (In p rest → In (arc_of generics p.name to) (arcs_to f generics to rest))
+  listed p (q ∷ rest) i is = by (begins_arc f q) refl (in_cases p q rest i) (λ j. listed p rest j is) where
+    by : (b : Bool) → begins_arc f q ≡ b → (q ≡ p) ⊎ In p rest → (In p rest → In (arc_of generics p.name to) (arcs_to f generics to rest))
         → In (arc_of generics p.name to) (cond b (arc_of generics q.name to ∷ arcs_to f generics to rest) (arcs_to f generics to rest))
-    by true e here later = here
-    by true e (there j) later = there (later j)
-    by false e here later = absurd cc
-    by false e (there j) later = later j
+    by true e (inl same) later = subst (λ (r : Port). In (arc_of generics r.name to) (arc_of generics q.name to ∷ arcs_to f generics to rest)) same here
+    by true e (inr j) later = there (later j)
+    by false e (inl same) later = let bad : true ≡ false = sym is ∙ ap (begins_arc f) (sym same) ∙ e in absurd cc
+    by false e (inr j) later = later j
 
   -- the port at which an arc begins
   of_port : (a : Arc) (ports : List Port) → In a (arcs_to f generics to ports) → (p : Port) × In p ports × (a ≡ arc_of generics p.name to)
@@ -62,8 +62,10 @@ module _ (f : Parts) (generics : List GenericValue) (to : Name) where
     by : (b : Bool) → In a (cond b (arc_of generics q.name to ∷ arcs_to f generics to rest) (arcs_to f generics to rest))
         → (In a (arcs_to f generics to rest) → (p : Port) × In p rest × (a ≡ arc_of generics p.name to))
         → (p : Port) × In p (q ∷ rest) × (a ≡ arc_of generics p.name to)
-    by true here later = (q, here, refl)
-    by true (there j) later = let r = later j in (r.0, there r.1, r.2)
+    by true j later = elim (in_cases a (arc_of generics q.name to) (arcs_to f generics to rest) j) [
+      | inl same ↦ (q, here, sym same)
+      | inr k ↦ let r = later k in (r.0, there r.1, r.2)
+    ]
     by false j later = let r = later j in (r.0, there r.1, r.2)
 
   -- no two begin at one port
@@ -104,12 +106,13 @@ only_one ports to is = ap (λ (names : List Name). if nat_eq (length names) 1 th
 
 out_name : (ports : List Port) (p : Port) → In p ports → p.dir ≡ dir.Out → In p.name (output_names ports)
 out_name [] p i is = elim i [ ]
-out_name (q ∷ rest) p i is = by (is_input q.dir) refl i (λ j. out_name rest p j is) where
-  by : (b : Bool) → is_input q.dir ≡ b → In p (q ∷ rest) → (In p rest → In p.name (output_names rest)) → In p.name (output_names (q ∷ rest))
-  by true e here later = let no : is_input p.dir ≡ false = ap is_input is in absurd cc
-  by true e (there j) later = rw e (later j)
-  by false e here later = rw e here
-  by false e (there j) later = rw e (there (later j))
+out_name (q ∷ rest) p i is = by (is_input q.dir) refl (in_cases p q rest i) (λ j. out_name rest p j is) where
+  by : (b : Bool) → is_input q.dir ≡ b → (q ≡ p) ⊎ In p rest → (In p rest → In p.name (output_names rest)) → In p.name (output_names (q ∷ rest))
+  by true e (inl same) later =
+      let bad : true ≡ false = sym e ∙ ap (λ (r : Port). is_input r.dir) same ∙ ap is_input is in absurd cc
+  by true e (inr j) later = rw e (later j)
+  by false e (inl same) later = rw e (subst (λ (r : Port). In r.name (q.name ∷ output_names rest)) same here)
+  by false e (inr j) later = rw e (there (later j))
 
 module _ (text : CellText) (c : Cell) (does : DoesAs text c) (usable : IsUsable c) where
   same_ports : pin_ports c ≡ text.ports
@@ -156,11 +159,11 @@ module _ (text : CellText) (c : Cell) (does : DoesAs text c) (usable : IsUsable 
         let starts : Begins (function_view does.computed) p.0.name = subst (λ (n : Name). Begins (function_view does.computed) n) (sym p.2) (subst (λ (f : Function). Begins f from) does.function h) in
         let i = listed does.computed text.generics to.0 p.0 text.ports p.1 (begins does.computed p.0 starts p.3) in
         let r = in_stands (arc_of text.generics p.0.name to.0) (arcs_to does.computed text.generics to.0 text.ports) i in
-        (r.0, arc_of text.generics p.0.name to.0, subst (λ (as : List Arc). Stands as r.0 (arc_of text.generics p.0.name to.0)) (sym the_arcs) r.1, p.2, sym (to_output name gives));
+        (r.0, arc_of text.generics p.0.name to.0, subst (λ (arcs : List Arc). Stands arcs r.0 (arc_of text.generics p.0.name to.0)) (sym the_arcs) r.1, p.2, sym (to_output name gives));
     once = λ j k a b p q from same.
         once_to does.computed text.generics to.0 text.ports
         (subst Sorted same_ports (sorted_of (pin_ports c) usable.order)) j k a b
-        (subst (λ (as : List Arc). Stands as j a) the_arcs p) (subst (λ (as : List Arc). Stands as k b) the_arcs q) from;
+        (subst (λ (arcs : List Arc). Stands arcs j a) the_arcs p) (subst (λ (arcs : List Arc). Stands arcs k b) the_arcs q) from;
   }
 
 -- ---- a library

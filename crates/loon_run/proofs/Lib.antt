@@ -1,3 +1,6 @@
 mod Arcs
 mod Lists
+mod Numbered
 mod Refusing
+mod Supplies
+mod Writing

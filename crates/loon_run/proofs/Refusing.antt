@@ -11,9 +11,10 @@ use Rattle.cell_pins.specs.Table.{IsTableOf}
 use Rattle.net_core.specs.declared.pins.ModelPins.{ModelPins}
 use Rattle.net_core.specs.Netlist.{Netlist}
 use Rattle.vst_io.specs.Text.{IsVst, IsVstRefusal}
-use Rattle.loon_drive.specs.declared.error.DriveError.{DriveError}
-use Rattle.loon_drive.specs.declared.error.DriveError.TheVariants as error
-use Rattle.loon_drive.specs.Errors.{IsDriveRefusal}
+use Rattle.loon_fanout.specs.declared.error.BufferError.{BufferError}
+use Rattle.loon_fanout.specs.declared.error.BufferError.TheVariants as error
+use Rattle.loon_fanout.specs.Limited.{IsBufferRefusal}
+use Rattle.loon_drive.specs.Driven.{most_sinks}
 use Rattle.tool_words.specs.declared.command.LoonCommand.{LoonCommand}
 use Rattle.tool_drive.specs.declared.status.Status.{Status}
 use Rattle.tool_drive.specs.declared.status.Status.TheVariants as status
@@ -21,7 +22,7 @@ use Rattle.tool_drive.specs.declared.tool.Product.{Product}
 use Rattle.tool_drive.specs.declared.tool.Refusal.{Refusal}
 use Rattle.tool_drive.specs.Table.{IsJudged, IsFair, refusal}
 use Rattle.tool_drive.specs.Refusals.{MemoryOr, OfFile, of_file, judged_file}
-use Rattle.loon_run.specs.Loon.{AreRead, no_library, bad_netlist, no_buffer, faulty, Limits, IsToldOf}
+use Rattle.loon_run.specs.Loon.{AreRead, no_library, bad_netlist, no_buffer, Limits, IsToldOf}
 
 -- a status for which P holds, or out of memory, is one that a tool may answer
 judged : (A : Result Product Refusal → Type 0) (P : Status → Type 0) → ((t : Status) → P t → IsFair t None (A (Err (refusal t None)))) → (s : Status) → MemoryOr s (P s)
@@ -53,14 +54,11 @@ module _ (c : LoonCommand) (source list : List ℕ) (cells : List (List ℕ)) wh
         judged_file (Limits c source list cells) c.source (IsVstRefusal source table) s (of_file c.source (IsVstRefusal source table) e h s k) (λ o. (refl, bad_netlist l table library pins o))
 
     module _ (n : Netlist) (netlist : IsVst source table n) where
-      told : (e : DriveError) → IsDriveRefusal n l c.fanout e → (t : Status) → IsToldOf c e t → IsFair t None (Limits c source list cells (Err (refusal t None)))
+      told : (e : BufferError) → IsBufferRefusal n l (most_sinks c.fanout) e → (t : Status) → IsToldOf e t → IsFair t None (Limits c source list cells (Err (refusal t None)))
       told error.Memory h t k = absurd k
       told error.NoBuffer h t k =
           subst (λ (s : Status). IsFair s None (Limits c source list cells (Err (refusal s None)))) (sym k)
           (refl, no_buffer l table n (record { library = library; pins = pins; netlist = netlist }) h.0 h.1 refl)
-      told (error.Fault f) h t k =
-          subst (λ (s : Status). IsFair s None (Limits c source list cells (Err (refusal s None)))) (sym k)
-          (refl, faulty l table n f (record { library = library; pins = pins; netlist = netlist }) h refl)
 
-      pub by_drive : (e : DriveError) (s : Status) → IsDriveRefusal n l c.fanout e → MemoryOr s (IsToldOf c e s) → IsJudged (Limits c source list cells) (Err (refusal s None))
-      by_drive e s h k = judged (Limits c source list cells) (IsToldOf c e) (told e h) s k
+      pub by_drive : (e : BufferError) (s : Status) → IsBufferRefusal n l (most_sinks c.fanout) e → MemoryOr s (IsToldOf e s) → IsJudged (Limits c source list cells) (Err (refusal s None))
+      by_drive e s h k = judged (Limits c source list cells) (IsToldOf e) (told e h) s k

@@ -4,24 +4,37 @@ use Rattle.cell_model.specs.Library.{Library}
 use Rattle.cell_lib.specs.Library.{IsLibraryOf}
 use Rattle.cell_pins.specs.Table.{IsTableOf}
 use Rattle.net_core.specs.declared.pins.ModelPins.{ModelPins}
-use Rattle.net_core.specs.Netlist.{Netlist, IsNetlist}
+use Rattle.net_core.specs.Places.{IsThere}
+use Rattle.net_core.specs.Netlist.{Instance, Netlist, IsNetlist}
 use Rattle.net_core.specs.Checks.{Fits, IsPinTable}
 use Rattle.net_view.specs.Condition.{MeetsCondition}
 use Rattle.net_view.specs.Writable.{CanBeNamed, PinsCanBeWritten}
+use Rattle.delay_sta.specs.Timed.{CanBeTimed}
 use Rattle.delay_sta.specs.Exchanged.{HaveTheirArcs}
 use Rattle.loon_fanout.specs.Limited.{IsOfCells}
-use Rattle.loon_drive.specs.Driven.{IsDrivenFrom}
+use Rattle.loon_fanout.specs.Laws.{IsTied}
 use Rattle.vst_io.specs.Text.{IsVst}
+use Rattle.loon_run.specs.Loon.{IsMade}
 
 -- each usable cell of a library that is read has its arcs
 abbrev pub LibraryHasArcs : Type 0
 LibraryHasArcs = (tracks : Bool) (catal : List ℕ) (files : List (List ℕ)) (l : Library) → IsLibraryOf tracks catal files l → HaveTheirArcs l
 
--- a netlist that is read with the pins of the usable cells is one of these
-abbrev pub NetlistIsOfCells : Type 0
-NetlistIsOfCells =
+-- each instance has a usable cell of the library, and its pins
+abbrev pub HasUsableCells : Library → Netlist → Type 0
+HasUsableCells l n = (i : Instance) → IsThere n.instances i → IsOfCells n l
+
+-- what is asked of a netlist that is to get buffers and drives
+pub record IsDrivable (l : Library) (n : Netlist) : Type 0 where
+  pub cells : HasUsableCells l n
+  pub tied : IsTied n
+  pub timed : CanBeTimed l n
+
+-- so is a netlist that is read with the pins of the usable cells
+abbrev pub NetlistIsDrivable : Type 0
+NetlistIsDrivable =
     (catal : List ℕ) (files : List (List ℕ)) (l : Library) (table : List ModelPins) (n : Netlist) → IsLibraryOf false catal files l
-    → IsTableOf l false table → IsNetlist n → MeetsCondition table n → IsOfCells n l
+    → IsTableOf l false table → IsNetlist n → MeetsCondition table n → IsDrivable l n
 
 -- what becomes of it can be written with these pins
 pub record IsWritable (table : List ModelPins) (k : Netlist) : Type 0 where
@@ -33,4 +46,4 @@ abbrev pub DrivenIsWritable : Type 0
 DrivenIsWritable =
     (catal source : List ℕ) (files : List (List ℕ)) (l : Library) (table : List ModelPins) (n k : Netlist) (fanout delay : ℕ)
     → IsLibraryOf false catal files l → IsTableOf l false table → IsPinTable table → IsVst source table n → MeetsCondition table n
-    → IsDrivenFrom n l fanout k delay → IsOfCells n l → IsOfCells k l → IsWritable table k
+    → IsMade n l fanout k delay → HasUsableCells l k → IsWritable table k

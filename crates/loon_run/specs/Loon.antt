@@ -9,15 +9,13 @@ use Rattle.cell_lib.specs.declared.error.LibError.{LibError}
 use Rattle.cell_lib.specs.Files.{catal_name, cell_files}
 use Rattle.cell_lib.specs.Library.{IsLibraryOf, IsRefusedLibrary, status_of}
 use Rattle.cell_pins.specs.Table.{IsTableOf}
-use Rattle.net_core.specs.declared.error.NetFault.{NetFault}
 use Rattle.net_core.specs.declared.pins.ModelPins.{ModelPins}
 use Rattle.net_core.specs.Netlist.{Netlist}
+use Rattle.loon_fanout.specs.declared.error.BufferError.{BufferError}
+use Rattle.loon_fanout.specs.declared.error.BufferError.TheVariants as error
 use Rattle.loon_fanout.specs.Limited.{IsCrowded, HasFanout, StaysRight}
 use Rattle.loon_fanout.specs.Repeaters.{NoneRepeats}
-use Rattle.loon_drive.specs.declared.error.DriveError.{DriveError}
-use Rattle.loon_drive.specs.declared.error.DriveError.TheVariants as error
 use Rattle.loon_drive.specs.Driven.{most_sinks, IsDrivenFrom}
-use Rattle.loon_drive.specs.Errors.{IsFaulty}
 use Rattle.spell_theory.specs.Layout.{text_of}
 use Rattle.vst_write.specs.Written.{layout}
 use Rattle.vst_io.specs.Text.{IsVst, IsVstRefusal}
@@ -63,9 +61,14 @@ pub record AreRead (source catal : List ℕ) (cells : List (List ℕ)) (l : Libr
   pub pins : IsTableOf l false table
   pub netlist : IsVst source table n
 
--- Library and netlist are read. The netlist with buffers and with cells exchanged for drives of them is written: no net has more sinks
--- than asked for, no exchange of one instance's cell makes the longest path shorter, and it is right for each machine that the read
--- one is right for.
+-- A netlist without instances stays as it is, and takes no time. Another gets buffers, and then its cells are exchanged for drives of
+-- them: no net has more sinks than asked for, and no exchange of one instance's cell makes the longest path, which takes so many
+-- femtoseconds, shorter.
+pub data IsMade (n : Netlist) (l : Library) (fanout : ℕ) : Netlist → ℕ → Type 0 where
+  bare : n.instances ≡ [] → IsMade n l fanout n 0
+  driven : {k : Netlist} {delay : ℕ} → IsDrivenFrom n l fanout k delay → HasFanout l (most_sinks fanout) k → IsMade n l fanout k delay
+
+-- Library and netlist are read, and what is made of it is written; it is right for each machine that the read one is right for.
 pub record IsLimiting (c : LoonCommand) (source catal : List ℕ) (cells : List (List ℕ)) (p : Product) : Type 0 where
   pub l : Library
   pub table : List ModelPins
@@ -73,25 +76,18 @@ pub record IsLimiting (c : LoonCommand) (source catal : List ℕ) (cells : List 
   pub read : AreRead source catal cells l table n
   pub k : Netlist
   pub delay : ℕ
-  pub driven : IsDrivenFrom n l c.fanout k delay
-  pub fanout : HasFanout l (most_sinks c.fanout) k
+  pub made : IsMade n l c.fanout k delay
   pub right : StaysRight n l k
   pub written : IsWrittenAs c.out table k delay p
 
--- a fault of the whole file stands on line 1
-abbrev pub fault_of : LoonCommand → NetFault → Status
-fault_of c f = status.Source c.source (record { line = 1; kind = f.kind; names = f.names })
-
--- What is refused, in this order: the library, the netlist, a net with too many sinks where the library has neither a buffer nor an
--- inverter, and a fault of the netlist with buffers, told as one of the source.
+-- What is refused, in this order: the library, the netlist, and a net with too many sinks where the library has neither a buffer nor
+-- an inverter.
 pub data IsRefused (c : LoonCommand) (source catal : List ℕ) (cells : List (List ℕ)) (s : Status) : Type 0 where
   no_library : (e : LibError) → IsRefusedLibrary false catal cells e → s ≡ status_of e → IsRefused c source catal cells s
   bad_netlist : (l : Library) (table : List ModelPins) → IsLibraryOf false catal cells l → IsTableOf l false table
       → OfFile c.source (IsVstRefusal source table) s → IsRefused c source catal cells s
   no_buffer : (l : Library) (table : List ModelPins) (n : Netlist) → AreRead source catal cells l table n → IsCrowded l (most_sinks c.fanout) n
       → NoneRepeats l.cells → s ≡ status.NoCover kind.Inv → IsRefused c source catal cells s
-  faulty : (l : Library) (table : List ModelPins) (n : Netlist) (f : NetFault) → AreRead source catal cells l table n → IsFaulty n l c.fanout f
-      → s ≡ fault_of c f → IsRefused c source catal cells s
 
 -- the netlist is written and the report is printed, or one of these refusals
 abbrev pub Limits : LoonCommand → List ℕ → List ℕ → List (List ℕ) → Result Product Refusal → Type 0
@@ -102,7 +98,6 @@ abbrev pub loon_answers : LoonCommand → Inputs → Result Product Refusal → 
 loon_answers c i r = Limits c (get_or i.first 0 []) (get_or i.first 1 []) i.more r
 
 -- how a refusal is told
-abbrev pub IsToldOf : LoonCommand → DriveError → Status → Type 0
-IsToldOf c error.Memory s = ⊥
-IsToldOf c error.NoBuffer s = s ≡ status.NoCover kind.Inv
-IsToldOf c (error.Fault f) s = s ≡ fault_of c f
+abbrev pub IsToldOf : BufferError → Status → Type 0
+IsToldOf error.Memory s = ⊥
+IsToldOf error.NoBuffer s = s ≡ status.NoCover kind.Inv

@@ -1,18 +1,20 @@
 // Laws: what holds of what is read and written. They cost nothing when they are called.
-ghost use Rattle.loon_run.specs.Laws.{LibraryHasArcs, NetlistIsOfCells, DrivenIsWritable};
+ghost use Rattle.loon_run.specs.Laws.{LibraryHasArcs, NetlistIsDrivable, DrivenIsWritable};
 
 use cell_lib::library_law;
+use loon_fanout::limited_law;
 use vbe_words::catal_is_named;
 use vst_words::netlist_words_law;
 
-/// The usable cells of a library that is read have their arcs; a netlist that is read with their pins is one of them; and what is made of
-/// it can be written.
+/// The usable cells of a library that is read have their arcs; a netlist that is read with their pins is of them, and can get buffers
+/// and drives; and what is made of it can be written.
 pub fn loon_law()
     ensures arcs { LibraryHasArcs }
-    ensures cells { NetlistIsOfCells }
+    ensures drivable { NetlistIsDrivable }
     ensures writable { DrivenIsWritable }
 {
     library_law();
+    limited_law();
     catal_is_named();
     netlist_words_law();
 }

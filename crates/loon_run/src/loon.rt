@@ -1,21 +1,25 @@
 // `loon` as a tool: what it reads, and what it answers.
-ghost use Rattle.std.specs.Prelude.{◌≡◌, ◌*◌, ◌<◌, ◌^◌, length, IfErr, IfOk};
-ghost use Rattle.net_core.specs.Netlist.{terminals};
-ghost use Rattle.loon_fanout.specs.Limited.{HasRoomForGates};
+ghost use Rattle.std.specs.Prelude.{◌≡◌, OnOk, IfOk, IfErr};
+ghost use Rattle.delay_sta.specs.Exchanged.{HaveTheirArcs};
+ghost use Rattle.loon_fanout.specs.Limited.{HasRoomForGates, StaysRight, IsBufferRefusal};
+ghost use Rattle.loon_drive.specs.Driven.{most_sinks};
 ghost use Rattle.tool_drive.specs.Refusals.{MemoryOr};
 ghost use Rattle.tool_drive.specs.Table.{IsJudged};
-ghost use Rattle.loon_run.specs.Loon.{netlist_file as file_of, fault_of, IsToldOf, Limits};
+ghost use Rattle.loon_run.specs.Loon.{netlist_file as file_of, IsMade, IsToldOf, Limits};
+ghost use Rattle.loon_run.specs.Laws.{HasUsableCells, IsDrivable};
 
 use crate::laws::loon_law;
 use crate::product::product;
+use cell_checks::Library;
 use cell_lib::{catal_file, library_status, named_files, read_library};
 use cell_pins::pin_table;
-use loon_drive::{DriveError, drive_netlist};
-use net_core::{NetFault, Netlist};
+use loon_drive::{Driven, drive_netlist};
+use loon_fanout::BufferError;
+use net_core::Netlist;
 use std::alloc::{AllocError, Global};
 use tool_drive::{Kind, Over, Product, Refusal, Status, Tool, Wanted, bytes_at, refused};
 use tool_words::LoonCommand;
-use vlsi_base::{FileBytes, FileName, InputFault, MOST_NETLIST_BYTES};
+use vlsi_base::{FileBytes, FileName, MOST_NETLIST_BYTES};
 use vst_io::read_vst;
 
 /// `loon`, with what it is asked: it puts buffers into the netlist in SOURCE until no net has more sinks than asked for, exchanges
@@ -25,7 +29,7 @@ use vst_io::read_vst;
 /// All files are read first: SOURCE, CATAL, and the behaviour and the layout of each cell that this uses. Then it is refused, in this
 /// order: by `Library`, or a limit of CATAL or of a cell, at the first line or cell at fault; by `Source`, or a limit, of SOURCE, in
 /// which cells that aren't usable are unknown; by `NoCover` of an inverter, where a net has too many sinks and the library has neither
-/// a buffer nor an inverter; by `Source` on line 1, where the netlist with buffers has a fault. Memory goes by the files, the netlist, its arcs, and each pair of cells of which one can stand for the
+/// a buffer nor an inverter. Memory goes by the files, the netlist, its arcs, and each pair of cells of which one can stand for the
 /// other; a netlist of 2^27 pins or more is answered as out of memory.
 #[derive(Drop)]
 pub struct Loon<'a> {
@@ -43,38 +47,45 @@ fn netlist_file(name: FileName) -> Wanted
     }
 }
 
-// Whether there are few enough pins that gates can be put in.
-fn has_room(netlist: &Netlist) -> bool
-    ensures { result ≡ true → HasRoomForGates netlist.now }
+// A netlist of so many pins that gates can't be put in is answered as out of memory.
+fn room(netlist: &Netlist) -> Result<(), AllocError>
+    ensures { OnOk result (HasRoomForGates netlist.now) }
 {
-    (netlist.classes().len() as u64) < 1 << 27
-}
-
-// The status of a fault of the whole file.
-fn fault_status(alloc: Global, command: &LoonCommand, fault: NetFault) -> Status
-    ensures { MemoryOr result (result ≡ fault_of command.now fault) }
-{
-    match command.source.copy(alloc) {
-        Ok(file) => Status::Source {
-            file,
-            fault: InputFault {
-                line: 1,
-                kind: fault.kind,
-                names: fault.names,
-            },
-        },
-        Err(_) => Status::Memory,
+    if netlist.classes().len() < 1 << 27 {
+        Ok(())
+    } else {
+        Err(AllocError)
     }
 }
 
+// What is made of a netlist; one without instances stays as it is.
+fn driven(
+    alloc: Global,
+    netlist: Netlist,
+    library: &Library,
+    fanout: u32,
+) -> Result<Driven, BufferError>
+    requires drivable { IsDrivable library.now netlist }
+    requires arcs { HaveTheirArcs library.now }
+    ensures made { IfOk result (λ d. IsMade netlist library.now fanout d.netlist d.delay) }
+    ensures cells { IfOk result (λ d. HasUsableCells library.now d.netlist) }
+    ensures right { IfOk result (λ d. StaysRight netlist library.now d.netlist) }
+    ensures refused { IfErr result (λ e. IsBufferRefusal netlist library.now (most_sinks fanout) e) }
+{
+    if netlist.nodes().is_empty() {
+        return Ok(Driven { netlist, delay: 0 });
+    }
+    room(&netlist)?;
+    drive_netlist(alloc, &netlist, library, fanout)
+}
+
 // How a refusal is told.
-fn drive_status(alloc: Global, command: &LoonCommand, error: DriveError) -> Status
-    ensures { MemoryOr result (IsToldOf command.now error result) }
+fn drive_status(error: BufferError) -> Status
+    ensures { MemoryOr result (IsToldOf error result) }
 {
     match error {
-        DriveError::Memory => Status::Memory,
-        DriveError::NoBuffer => Status::NoCover(Kind::Inv),
-        DriveError::Fault(fault) => fault_status(alloc, command, fault),
+        BufferError::Memory => Status::Memory,
+        BufferError::NoBuffer => Status::NoCover(Kind::Inv),
     }
 }
 
@@ -98,12 +109,9 @@ fn limited(
         Ok(netlist) => netlist,
         Err(error) => return Err(Refusal::plain(refused(alloc, &command.source, error))),
     };
-    if !has_room(&netlist) {
-        return Err(Refusal::plain(Status::Memory));
-    }
-    let driven = match drive_netlist(alloc, &netlist, &library, command.fanout) {
+    let driven = match driven(alloc, netlist, &library, command.fanout) {
         Ok(driven) => driven,
-        Err(error) => return Err(Refusal::plain(drive_status(alloc, command, error))),
+        Err(error) => return Err(Refusal::plain(drive_status(error))),
     };
     let written = product(alloc, &command.out, &driven, &table)?;
     Ok(written)

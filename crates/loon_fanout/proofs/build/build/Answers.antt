@@ -1,4 +1,4 @@
-use Rattle.std.proofs.Common.{◌≡◌, ◌∙◌, ℕ, List, ap, map, sym, subst}
+use Rattle.std.proofs.Common.{◌∙◌, ℕ, List, ap, map, sym, subst}
 use Rattle.vlsi_base.specs.declared.name.Port.{Port}
 use Rattle.net_core.specs.Netlist.{AreInOrder, terminals_of, IsNetlist}
 use Rattle.net_core.specs.Joins.{IsFinished}

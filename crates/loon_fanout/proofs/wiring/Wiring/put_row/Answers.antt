@@ -1,4 +1,4 @@
-use Rattle.std.proofs.Common.{◌≡◌, ℕ, List, sym, subst}
+use Rattle.std.proofs.Common.{ℕ, List, sym, subst}
 use Rattle.loon_fanout.specs.declared.repeater.Tie.{Tie}
 use Rattle.loon_fanout.specs.Stages.{PutsGate, PutsRow, once, two}
 use Rattle.loon_fanout.proofs.wiring.Wiring.put_row.Goals as goal
