@@ -6,7 +6,8 @@ ghost use Rattle.vlsi_shelf.specs.Shelf.{Writes};
 ghost use Rattle.tool_drive.specs.Outside.{outside, IsLine};
 ghost use Rattle.tool_drive.specs.Status.{has_line};
 ghost use Rattle.tool_drive.specs.Lines.{line_of};
-ghost use Rattle.flow_run.specs.Generated.{IsFitting, IsRun, IsUnwritten, RunsHaveHeadlines, SourcesAreSpared, FreeRunsEnd, CircuitsAreNeverRefused, circuit_text};
+ghost use Rattle.flow_run.specs.Generated.{IsFitting, IsRun, IsUnwritten, circuit_text};
+ghost use Rattle.flow_run.specs.Generated.{RunsHaveHeadlines, SourcesAreSpared, FreeRunsEnd, CircuitsAreNeverRefused};
 
 use crate::flow::run_flow;
 use crate::reading::reading_law;

@@ -52,10 +52,11 @@ fn run<S: Shelf, T: Sink>(alloc: Global, command: &Command, shelf: &mut S, out: 
 }
 
 /// Does what the words ask, over a shelf and a sink: `flow` lays the source out with the cells of the library, `gen` first makes a
-/// source of a number, `syf` makes a data-flow source of a state machine, `boom` makes the source smaller, `boog` makes a netlist of
-/// these cells, `loon` puts buffers into a netlist and chooses its cells, `asimut` runs patterns on the source, or on the netlist of the library's cells, `cougar` takes the netlist out of a
-/// layout of these cells, `lvx` compares two netlists by name, `druc` lists where a layout breaks the rules, `proof` compares two
-/// sources as functions, and `flatbeh` makes a data-flow source of a netlist.
+/// source of a number, `syf` makes a data-flow source of a state machine, `boom` makes the source smaller, `boog` makes a netlist
+/// of these cells, `loon` puts buffers into a netlist and chooses its cells, `asimut` runs patterns on the source, or on the
+/// netlist of the library's cells, `cougar` takes the netlist out of a layout of these cells, `lvx` compares two netlists by name,
+/// `druc` lists where a layout breaks the rules, `proof` compares two sources as functions, and `flatbeh` makes a data-flow source
+/// of a netlist.
 ///
 /// The words are taken apart first, and only then is a file read. A tool reads its files in their order, then writes its file,
 /// if it has one, and then prints its text by one put.
