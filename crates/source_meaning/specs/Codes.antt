@@ -1,5 +1,5 @@
 -- Bits of one name, by numbers: 0 is the name without a bit, and k + 1 its bit k.
-use Rattle.std.specs.Prelude.{◌≡◌, ℕ, zero, suc, ◌+◌, Bool, true, false, not, List, [], ◌∷◌, map, min, Option, None, Some}
+use Rattle.std.specs.Prelude.{◌≡◌, ◌≤◌, ◌^◌, ℕ, zero, suc, ◌+◌, Bool, true, false, not, List, [], ◌∷◌, map, min, Option, None, Some}
 use Rattle.std.specs.BTreeSet.{BTreeSet}
 use Rattle.vlsi_base.specs.declared.name.Name.{Name}
 use Rattle.vlsi_base.specs.declared.range.Range.{Range}
@@ -26,6 +26,11 @@ abbrev pub selected_codes : Option Range → Selection → List ℕ
 selected_codes range selection.Whole = codes_in range
 selected_codes range (selection.Bit k) = (k + 1) ∷ []
 selected_codes range (selection.Bits r) = codes_in (Some r)
+
+-- each is the code of a bit whose number has 32 bits
+abbrev pub AreCodes : List ℕ → Type 0
+AreCodes [] = Unit {0}
+AreCodes (c ∷ codes) = (c ≤ 2 ^ 32) × AreCodes codes
 
 abbrev pub same_bool : Bool → Bool → Bool
 same_bool true b = b
