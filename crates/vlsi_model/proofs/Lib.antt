@@ -17,7 +17,7 @@ pub mod Orders
 pub mod Building
 pub mod SourceBits
 pub mod BuildGoals
-pub mod Few
+pub mod Counted
 pub mod Refusing
 pub mod Rings
 pub mod Turning

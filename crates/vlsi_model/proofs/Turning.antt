@@ -221,7 +221,7 @@ pub In_any : (x : ℕ) (xs : List ℕ) → In x xs → list_any (λ y. nat_eq y 
 In_any x (y ∷ xs) i = by (nat_eq y x) refl (In-cases x y xs i) (In_any x xs) where
   by : (b : Bool) → nat_eq y x ≡ b → (y ≡ x) ⊎ In x xs → (In x xs → list_any (λ z. nat_eq z x) xs ≡ true) → (b || list_any (λ z. nat_eq z x) xs) ≡ true
   by true is h rest = refl
-  by false is (inl same) rest = let t : nat_eq y x ≡ true = grind (arith, nat_tests) in absurd (cc (t, is))
+  by false is (inl same) rest = let t : nat_eq y x ≡ true = grind (arith, nat_tests) in let clash : true ≡ false = sym t ∙ is in absurd (cc clash)
   by false is (inr i) rest = rest i
 In_any x [] i = elim i [ ]
 

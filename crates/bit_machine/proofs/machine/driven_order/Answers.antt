@@ -7,7 +7,7 @@ use Rattle.source_bits.specs.Driven.{driven_view}
 use Rattle.bit_order.specs.declared.outcome.Order.TheVariants.{Sorted, Ring}
 use Rattle.vlsi_model.specs.Nodes.{IsOrderOfBits}
 use Rattle.vlsi_model.proofs.Members.{different_right}
-use Rattle.vlsi_model.proofs.Few.{few_below}
+use Rattle.vlsi_model.proofs.Counted.{few_below}
 use Rattle.bit_machine.specs.System.{system_of, held_bits, driven_bits}
 use Rattle.bit_machine.proofs.Laying.{laid, no_ring, bits_count}
 use Rattle.bit_machine.proofs.Reaching.{driven_inside, driven_over, driven_once}

@@ -10,7 +10,7 @@ use Rattle.vlsi_model.specs.Nodes.{HasNodes}
 use Rattle.vlsi_model.proofs.Building.{map-then}
 use Rattle.bit_machine.specs.System.{system_of}
 use Rattle.bit_machine.specs.Laid.{var_bits}
-use Rattle.vlsi_model.proofs.Few.{few_below}
+use Rattle.vlsi_model.proofs.Counted.{few_below}
 use Rattle.bit_machine.proofs.Laying.{bits_different, bits_inside}
 use Rattle.bit_machine.proofs.Reaching.{driven_inside, driven_over, stored_inside, stored_next, stored_enable, bits_below}
 use Rattle.bit_machine.proofs.machine.parts.Goals as goal

@@ -8,7 +8,7 @@ use Rattle.source_bits.specs.declared.driven.StoredBit.{StoredBit}
 use Rattle.vlsi_model.specs.Numbered.{name_at}
 use Rattle.vlsi_model.proofs.SourceBits.{sound, stored_names_are}
 use Rattle.vlsi_model.proofs.BuildGoals.{over_numbers, stored_bits_inside, laid_out}
-use Rattle.vlsi_model.proofs.Few.{stored_few}
+use Rattle.vlsi_model.proofs.Counted.{stored_few}
 use Rattle.vlsi_model.proofs.build.register_order.Goals as goal
 
 pub name_order-requires-clause-inside : goal.name_order-requires-clause-inside

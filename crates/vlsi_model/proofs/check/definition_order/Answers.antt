@@ -8,7 +8,7 @@ use Rattle.source_meaning.specs.Symbols.{symbols, all_names}
 use Rattle.source_bits.specs.declared.driven.DrivenBit.{DrivenBit}
 use Rattle.vlsi_model.proofs.SourceBits.{sound, driven_inside, driven_over, driven_different}
 use Rattle.vlsi_model.proofs.Refusing.{order_of_source}
-use Rattle.vlsi_model.proofs.Few.{driven_few}
+use Rattle.vlsi_model.proofs.Counted.{driven_few}
 use Rattle.vlsi_model.proofs.check.definition_order.Goals as goal
 
 pub node_order-requires-clause-inside : goal.node_order-requires-clause-inside

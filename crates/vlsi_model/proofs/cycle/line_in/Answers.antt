@@ -10,10 +10,10 @@ use Rattle.vlsi_model.proofs.Turning.{any_In, In_any}
 use Rattle.vlsi_model.proofs.cycle.line_in.Goals as goal
 
 pub returns-in-Assert : goal.returns-in-Assert
-returns-in-Assert c = λ line d. let e : statement.Assert c.in-Assert.field-0 ≡ statement.Assign d.assignment = sym c.in-Assert.is ∙ d.is in absurd (cc e)
+returns-in-Assert c = λ line d. let a = c.in-Assert.is in let b = d.is in absurd cc
 
 pub returns-in-Block : goal.returns-in-Block
-returns-in-Block c = λ line d. let e : statement.Block c.in-Block.field-0 ≡ statement.Assign d.assignment = sym c.in-Block.is ∙ d.is in absurd (cc e)
+returns-in-Block c = λ line d. let a = c.in-Block.is in let b = d.is in absurd cc
 
 pub returns-then-contains : goal.returns-then-contains
 returns-then-contains c = record {

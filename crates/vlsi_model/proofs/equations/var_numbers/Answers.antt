@@ -5,7 +5,7 @@ use Rattle.source_meaning.specs.Formula.{place}
 use Rattle.machine_core.specs.Order.{In}
 use Rattle.vlsi_model.proofs.Numbering.{place_within}
 use Rattle.vlsi_model.proofs.Naming.{vars_more, vars_all}
-use Rattle.vlsi_model.proofs.Few.{no_more, all_in}
+use Rattle.vlsi_model.proofs.Counted.{no_more, all_in}
 use Rattle.vlsi_model.proofs.equations.var_numbers.Goals as goal
 
 pub index_mut-requires : goal.index_mut-requires
@@ -20,7 +20,7 @@ pub overflow_cast-k : goal.overflow_cast-k
 overflow_cast-k c =
     let all = all_names c.args.numbers.now in
     let fit = no_more c.args.vars.now all c.requires.different (all_in (λ (n : Name). In n all) c.args.vars.now c.requires.declared) in
-    let h = c.total in ?
+    omega (arith, fit, c.total.ensures, c.loop-k-test.true)
 
 pub loop-k-preserved : goal.loop-k-preserved
 loop-k-preserved c =
