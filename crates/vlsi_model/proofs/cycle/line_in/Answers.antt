@@ -12,8 +12,8 @@ use Rattle.vlsi_model.proofs.cycle.line_in.Goals as goal
 pub returns-in-Assert : goal.returns-in-Assert
 returns-in-Assert c = λ line d. let a = c.in-Assert.is in let b = d.is in absurd cc
 
-pub returns-in-Block : goal.returns-in-Block
-returns-in-Block c = λ line d. let a = c.in-Block.is in let b = d.is in absurd cc
+pub returns : goal.returns
+returns c = λ line d. let a = c.in-Block.is in let b = d.is in absurd cc
 
 pub returns-then-contains : goal.returns-then-contains
 returns-then-contains c = record {
@@ -23,8 +23,8 @@ returns-then-contains c = record {
   on = refl;
 }
 
-pub returns-else-contains : goal.returns-else-contains
-returns-else-contains c = λ line d.
+pub returns-in-Assign : goal.returns-in-Assign
+returns-in-Assign c = λ line d.
     let known = c.args.numbers.now in
     let e : statement.Assign d.assignment ≡ statement.Assign c.in-Assign.assignment = sym d.is ∙ c.in-Assign.is in
     let same : d.assignment ≡ c.in-Assign.assignment = cc e in

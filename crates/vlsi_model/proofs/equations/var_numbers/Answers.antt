@@ -1,4 +1,4 @@
-use Rattle.std.proofs.Common.{◌≡◌, List, refl, sym, ap, ◌∙◌, arith, subst}
+use Rattle.std.proofs.Common.{◌≡◌, ℕ, List, refl, sym, ap, ◌∙◌, arith, subst}
 use Rattle.vlsi_base.specs.declared.name.Name.{Name}
 use Rattle.source_meaning.specs.Symbols.{all_names}
 use Rattle.source_meaning.specs.Formula.{place}
