@@ -1,4 +1,4 @@
-use Rattle.std.proofs.Common.{◌≡◌, true, false, List, map, ℕ, refl, sym, ap, ◌∙◌, subst}
+use Rattle.std.proofs.Common.{◌≡◌, true, false, List, map, ℕ, refl, sym, ◌∙◌, subst}
 use Rattle.machine_core.specs.Order.{In}
 use Rattle.source_meaning.specs.declared.statement.Assignment.{Assignment}
 use Rattle.source_meaning.specs.declared.statement.Statement.{Statement}
