@@ -1,9 +1,10 @@
 -- A netlist with buffers and with room for models, and what exchanges of its cells come to.
-use Rattle.std.proofs.Common.{◌≡◌, ℕ, List, false, sym, ap, ◌∙◌, subst}
+use Rattle.std.proofs.Common.{◌≡◌, ◌≤◌, ℕ, List, false, sym, ap, ◌∙◌, subst}
 use Rattle.cell_model.specs.Library.{Library}
 use Rattle.cell_checks.specs.Checked.{IsChecked as HasPassed}
 use Rattle.net_core.specs.Places.{IsThere}
 use Rattle.net_core.specs.Netlist.{Netlist, IsNetlist}
+use Rattle.delay_sta.specs.Paths.{IsWorst}
 use Rattle.delay_sta.specs.Timed.{CanBeTimed}
 use Rattle.loon_buffer.specs.Drives.{OnlyExchanges}
 use Rattle.loon_fanout.specs.Laws.{IsTied, BufferedPasses}
@@ -37,10 +38,18 @@ module _ (n : Netlist) (l : Library) (limit : ℕ) (r now : Netlist) (same : now
         usable = λ i at. let f = still.found i (subst (λ (k : Netlist). IsThere k.instances i) same at) in (f.0, f.1, f.2);
       }
 
-  pub are : (k : Netlist) → OnlyExchanges l now k → AreExchanged l r k
-  are k e = subst (λ (x : Netlist). OnlyExchanges l x k) (same ∙ ap with_models (sym (ap (λ (x : Netlist). x.models) e.now))) e where
+  -- the exchanged netlist can be given the same models
+  models_now : (k : Netlist) → OnlyExchanges l now k → now ≡ record r { models = k.models }
+  models_now k e = same ∙ ap with_models (sym (ap (λ (x : Netlist). x.models) e.now)) where
     with_models : List (List ℕ) → Netlist
     with_models ms = record r { models = ms }
+
+  pub are : (k : Netlist) → OnlyExchanges l now k → AreExchanged l r k
+  are k e = subst (λ (x : Netlist). OnlyExchanges l x k) (models_now k e) e
+
+  pub no_slower_again : (k : Netlist) (delay : ℕ) → OnlyExchanges l now k → ((before : ℕ) → IsWorst now l before → delay ≤ before)
+      → (before : ℕ) → IsWorst (record r { models = k.models }) l before → delay ≤ before
+  no_slower_again k delay e law before was = law before (subst (λ (x : Netlist). IsWorst x l before) (sym (models_now k e)) was)
 
   pub right_again : RightStays → (k : Netlist) → IsNetlist r → OnlyExchanges l now k → StaysRight n l r → StaysRight n l k
   right_again law k sound e stays = λ m checked right. law l r k m sound (are k e) (stays m checked right)

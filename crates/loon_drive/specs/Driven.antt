@@ -1,5 +1,5 @@
 -- A netlist whose nets have few sinks, and whose cells are chosen so that its longest path is short.
-use Rattle.std.specs.Prelude.{ℕ, max}
+use Rattle.std.specs.Prelude.{ℕ, ◌≤◌, max}
 use Rattle.cell_model.specs.Library.{Library}
 use Rattle.net_core.specs.Netlist.{Netlist}
 use Rattle.delay_sta.specs.Paths.{IsWorst}
@@ -11,10 +11,12 @@ abbrev pub most_sinks : ℕ → ℕ
 most_sinks fanout = max fanout 2
 
 -- The netlist is buffered, and then cells are exchanged for drives of them until no exchange of one instance's cell makes the longest
--- path shorter, which takes so many femtoseconds. It may be given more models than the buffered one.
+-- path shorter, which takes so many femtoseconds, and no more than before the exchanges. It may be given more models than the buffered
+-- one.
 pub record IsDrivenFrom (n : Netlist) (l : Library) (fanout : ℕ) (k : Netlist) (delay : ℕ) : Type 0 where
   pub buffered : Netlist
   pub is_buffered : IsBuffered n l (most_sinks fanout) buffered
   pub exchanged : OnlyExchanges l (record buffered { models = k.models }) k
   pub driven : IsDriven k l
   pub worst : IsWorst k l delay
+  pub no_slower : (before : ℕ) → IsWorst (record buffered { models = k.models }) l before → delay ≤ before

@@ -1,5 +1,5 @@
 // Buffers, and then drives.
-ghost use Rattle.std.specs.Prelude.{◌≡◌, IfOk, IfErr, OnOk, map};
+ghost use Rattle.std.specs.Prelude.{◌≡◌, ◌≤◌, ℕ, IfOk, IfErr, OnOk, map};
 ghost use Rattle.net_core.specs.Netlist.{IsNetlist, ReservesModels};
 ghost use Rattle.delay_sta.specs.Paths.{IsWorst};
 ghost use Rattle.delay_sta.specs.Timed.{CanBeTimed};
@@ -55,6 +55,7 @@ fn exchanged(alloc: Global, mut netlist: Netlist, library: &Library) -> Result<D
     ensures timed { IfOk result (λ d. CanBeTimed library.now d.netlist) }
     ensures driven { IfOk result (λ d. IsDriven d.netlist library.now) }
     ensures worst { IfOk result (λ d. IsWorst d.netlist library.now d.delay) }
+    ensures no_slower { IfOk result (λ d. (before : ℕ) → IsWorst netlist library.now before → d.delay ≤ before) }
 {
     // The call says that the netlist is sound.
     let _ = netlist.classes();

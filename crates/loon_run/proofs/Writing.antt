@@ -36,6 +36,7 @@ use Rattle.loon_run.proofs.Numbered.{numbered_word}
 
 pub netlist_is_drivable : LibraryPasses → NetlistIsDrivable
 netlist_is_drivable passes catal files l table n library of sound met = record {
+  sound = sound;
   cells = λ i t. record {
     found = found l table of (passes false catal files l library) n met.fits;
     on_vdd = let both = met.tied i vdd t (inl refl) in (both.of_port.0, both.of_port.1);

@@ -26,6 +26,7 @@ HasUsableCells l n = (i : Instance) → IsThere n.instances i → IsOfCells n l
 
 -- what is asked of a netlist that is to get buffers and drives
 pub record IsDrivable (l : Library) (n : Netlist) : Type 0 where
+  pub sound : IsNetlist n
   pub cells : HasUsableCells l n
   pub tied : IsTied n
   pub timed : CanBeTimed l n

@@ -10,7 +10,7 @@ use Rattle.cell_lib.specs.Files.{catal_name, cell_files}
 use Rattle.cell_lib.specs.Library.{IsLibraryOf, IsRefusedLibrary, status_of}
 use Rattle.cell_pins.specs.Table.{IsTableOf}
 use Rattle.net_core.specs.declared.pins.ModelPins.{ModelPins}
-use Rattle.net_core.specs.Netlist.{Netlist}
+use Rattle.net_core.specs.Netlist.{Netlist, IsNetlist}
 use Rattle.loon_fanout.specs.declared.error.BufferError.{BufferError}
 use Rattle.loon_fanout.specs.declared.error.BufferError.TheVariants as error
 use Rattle.loon_fanout.specs.Limited.{IsCrowded, HasFanout, StaysRight}
@@ -63,7 +63,7 @@ pub record AreRead (source catal : List ℕ) (cells : List (List ℕ)) (l : Libr
 
 -- A netlist without instances stays as it is, and takes no time. Another gets buffers, and then its cells are exchanged for drives of
 -- them: no net has more sinks than asked for, and no exchange of one instance's cell makes the longest path, which takes so many
--- femtoseconds, shorter.
+-- femtoseconds and no more than before the exchanges, shorter.
 pub data IsMade (n : Netlist) (l : Library) (fanout : ℕ) : Netlist → ℕ → Type 0 where
   bare : n.instances ≡ [] → IsMade n l fanout n 0
   driven : {k : Netlist} {delay : ℕ} → IsDrivenFrom n l fanout k delay → HasFanout l (most_sinks fanout) k → IsMade n l fanout k delay
@@ -76,6 +76,7 @@ pub record IsLimiting (c : LoonCommand) (source catal : List ℕ) (cells : List 
   pub read : AreRead source catal cells l table n
   pub k : Netlist
   pub delay : ℕ
+  pub sound : IsNetlist k
   pub made : IsMade n l c.fanout k delay
   pub right : StaysRight n l k
   pub written : IsWrittenAs c.out table k delay p

@@ -1,5 +1,6 @@
 // `loon` as a tool: what it reads, and what it answers.
 ghost use Rattle.std.specs.Prelude.{◌≡◌, OnOk, IfOk, IfErr};
+ghost use Rattle.net_core.specs.Netlist.{IsNetlist};
 ghost use Rattle.delay_sta.specs.Exchanged.{HaveTheirArcs};
 ghost use Rattle.loon_fanout.specs.Limited.{HasRoomForGates, StaysRight, IsBufferRefusal};
 ghost use Rattle.loon_drive.specs.Driven.{most_sinks};
@@ -67,6 +68,7 @@ fn driven(
 ) -> Result<Driven, BufferError>
     requires drivable { IsDrivable library.now netlist }
     requires arcs { HaveTheirArcs library.now }
+    ensures sound { IfOk result (λ d. IsNetlist d.netlist) }
     ensures made { IfOk result (λ d. IsMade netlist library.now fanout d.netlist d.delay) }
     ensures cells { IfOk result (λ d. HasUsableCells library.now d.netlist) }
     ensures right { IfOk result (λ d. StaysRight netlist library.now d.netlist) }

@@ -2,7 +2,7 @@ use Rattle.std.proofs.Common.{ℕ, subst}
 use Rattle.std.proofs.lemmas.Result.{err_from_is_err_and}
 use Rattle.loon_fanout.specs.Limited.{IsBuffered, HasFanout, IsBufferRefusal}
 use Rattle.loon_drive.specs.Driven.{most_sinks}
-use Rattle.loon_drive.proofs.Driving.{timed_again, are, right_again}
+use Rattle.loon_drive.proofs.Driving.{timed_again, are, no_slower_again, right_again}
 use Rattle.loon_drive.proofs.drive.drive_netlist.Goals as goal
 
 pub returns-in_err-limited-clause-refused : goal.returns-in_err-limited-clause-refused
@@ -25,6 +25,8 @@ returns-clause-driven c = record {
       c.in_ok-exchanged.field-0.netlist c.in_ok-exchanged.ensures.exchanged;
   driven = c.in_ok-exchanged.ensures.driven;
   worst = c.in_ok-exchanged.ensures.worst;
+  no_slower = no_slower_again c.args.netlist.now c.args.library.now c.max.result c.in_ok-limited.limited c.reserve.new.netlist c.in_ok-reserve.ensures.same
+      c.in_ok-exchanged.field-0.netlist c.in_ok-exchanged.field-0.delay c.in_ok-exchanged.ensures.exchanged c.in_ok-exchanged.ensures.no_slower;
 }
 
 pub returns-clause-cells : goal.returns-clause-cells

@@ -46,6 +46,7 @@ returns c = record {
   read = record { library = c.in-Ok.ensures.ok; pins = c.in_ok-table.ensures.table; netlist = c.in-Ok-read_vst.ensures.accepted };
   k = c.in-Ok-driven.driven.netlist;
   delay = c.in-Ok-driven.driven.delay;
+  sound = c.in-Ok-driven.ensures.sound;
   made = c.in-Ok-driven.ensures.made;
   right = c.in-Ok-driven.ensures.right;
   written = c.in_ok-written.ensures;
