@@ -191,8 +191,6 @@ module _ (m : Machine) (checked : IsChecked m) (g : Graph) (sub : IsSubjectGraph
         record {
           one_row = row;
           gates = length is.gates;
-          buffers = 0;
-          unbuffered = refl;
           names = names z l m g is;
           after = mapped_after z l m g is;
         }

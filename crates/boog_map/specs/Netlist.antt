@@ -50,7 +50,7 @@ UsesFirstCells n l = (i : Instance) → IsThere n.instances i → (k : Kind) × 
 -- in one row its instances stand in the order of a netlist: q0, q1 and so on, then g0, g1 and so on, each gate after those
 -- that it reads
 abbrev pub StandsInOrder : InMemory → Library → Machine → Type 0
-StandsInOrder n l m = (k : Netlist) (p : Placement) → IsSeenAs n k → p.rows ≡ k.instances ∷ [] → IsInNetlistOrder k l m p
+StandsInOrder n l m = (k : Netlist) (p : Placement) → IsSeenAs n k → p.rows ≡ k.instances ∷ [] → IsInNetlistOrder k l m p 0
 
 -- there is one cell for each register and for each node that is reached from a root
 pub record HasOneCellEach (n : InMemory) (m : Machine) (g : Graph) : Type 0 where

@@ -121,19 +121,19 @@ module _ (lists : CatalIsNamed) (pins_written : CellCanBeWritten) (list : List �
     abbrev placed : Placement
     placed = record { rows = seen.instances ∷ []; ports = [] }
 
-    in_order : IsInNetlistOrder seen l m placed
+    in_order : IsInNetlistOrder seen l m placed 0
     in_order = netlist.order seen placed netlist.right.seen refl
 
-    names_are : map (λ (i : Instance). i.name) n.instances ≡ names_by (length m.registers) in_order.gates in_order.buffers
+    names_are : map (λ (i : Instance). i.name) n.instances ≡ names_by (length m.registers) in_order.gates 0
     names_are = same_names n.instances ∙ sym (ap (λ (k : Seen). map (λ (i : Member). i.name) k.instances) netlist.right.seen.is) ∙ in_order.names
 
     instance_named : (i : Instance) → In i n.instances → IsIdentifier i.name
     instance_named i there_is =
         let count = length-map (λ (x : Instance). x.name) n.instances in
         let same = ap (λ (names : List (List ℕ)). length names) names_are in
-        let sum = many (length m.registers) in_order.gates in_order.buffers in
+        let sum = many (length m.registers) in_order.gates 0 in
         let few = few_cells n m netlist.graph netlist.subject netlist.each in
-        named_so (length m.registers) in_order.gates in_order.buffers i.name (omega (arith, few, small, count, same, sum))
+        named_so (length m.registers) in_order.gates 0 i.name (omega (arith, few, small, count, same, sum))
         (subst (λ (ns : List (List ℕ)). In i.name ns) names_are (In-map (λ (x : Instance). x.name) i n.instances there_is))
 
     model_named : (i : Instance) → In i n.instances → IsIdentifier i.model

@@ -87,19 +87,19 @@ module _ (list : List ℕ) (files : List (List ℕ)) (l : Library) (library : Is
   abbrev placed : Placement
   placed = record { rows = seen.instances ∷ []; ports = [] }
 
-  in_order : IsInNetlistOrder seen l m placed
+  in_order : IsInNetlistOrder seen l m placed 0
   in_order = netlist.order seen placed netlist.right.seen refl
 
-  names_are : map (λ (i : Instance). i.name) n.instances ≡ names_by (length m.registers) in_order.gates in_order.buffers
+  names_are : map (λ (i : Instance). i.name) n.instances ≡ names_by (length m.registers) in_order.gates 0
   names_are = same_names n.instances ∙ sym (ap (λ (k : Seen). map (λ (i : Member). i.name) k.instances) netlist.right.seen.is) ∙ in_order.names
 
   name_short : (i : Instance) → In i n.instances → IsShort i.name
   name_short i at =
       let count = length-map (λ (x : Instance). x.name) n.instances in
       let same = ap (λ (names : List (List ℕ)). length names) names_are in
-      let sum = many (length m.registers) in_order.gates in_order.buffers in
+      let sum = many (length m.registers) in_order.gates 0 in
       let few = few_cells n m netlist.graph netlist.subject netlist.each in
-      short_so (length m.registers) in_order.gates in_order.buffers i.name (omega (arith, few, small, count, same, sum))
+      short_so (length m.registers) in_order.gates 0 i.name (omega (arith, few, small, count, same, sum))
       (subst (λ (ns : List (List ℕ)). In i.name ns) names_are (In-map (λ (x : Instance). x.name) i n.instances at))
 
   cell_short : CatalIsShort → (c : Cell) → In c l.cells → IsShort c.name

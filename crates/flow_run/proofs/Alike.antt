@@ -88,13 +88,11 @@ module _ (n : Netlist) (l : Library) (m o : Machine) (a : IsAlike m o) where
   }
 
   -- the order of its instances is one of registers, of which both have the same number
-  pub order_alike : (p : Placement) → IsInNetlistOrder n l o p → IsInNetlistOrder n l m p
-  order_alike p q = record {
+  pub order_alike : (p : Placement) (buffers : ℕ) → IsInNetlistOrder n l o p buffers → IsInNetlistOrder n l m p buffers
+  order_alike p buffers q = record {
     one_row = q.one_row;
     gates = q.gates;
-    buffers = q.buffers;
-    unbuffered = q.unbuffered;
     names = q.names
-        ∙ ap (λ (k : ℕ). map register_instance (count_to k) ++ (map gate_instance (count_to q.gates) ++ map buffer_instance (count_to q.buffers))) (registers_same m o a);
+        ∙ ap (λ (k : ℕ). map register_instance (count_to k) ++ (map gate_instance (count_to q.gates) ++ map buffer_instance (count_to buffers))) (registers_same m o a);
     after = q.after;
   }

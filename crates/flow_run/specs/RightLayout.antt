@@ -36,7 +36,7 @@ pub record IsRightLayout (bytes : List ℕ) (o : Origin) (m : Machine) (l : Libr
   pub by_states : AgreesWith o netlist l m
   pub lawful : Breaches figure.items l []
   pub is_placed : IsPlaced figure.bounds figure.items netlist l placement
-  pub in_order : IsInNetlistOrder netlist l m placement
+  pub in_order : IsInNetlistOrder netlist l m placement 0
   pub lean : IsLeanBy netlist m
   pub nodes : ℕ
   pub counted : IsGreatestDcount m nodes

@@ -5,7 +5,7 @@ use Rattle.std.proofs.lemmas.Bool.{cases_lt}
 use Rattle.std.specs.Str.Parse.{digits_value}
 use Rattle.std.specs.Fmt.{digits_onto, digits, digit_glyph}
 use Rattle.net_meaning.specs.Agreement.{register_instance}
-use Rattle.net_meaning.specs.Well.{gate_instance}
+use Rattle.net_meaning.specs.Well.{gate_instance, buffer_instance}
 
 pub register_names : (j k : ℕ) → j < 2 ^ 64 → k < 2 ^ 64 → register_instance j ≡ register_instance k → j ≡ k
 register_names j k p q same = let rest : decimal j ≡ decimal k = cc same in decimal_injective j k p q rest
@@ -19,6 +19,12 @@ first (x ∷ xs) = x
 
 pub not_both : (j k : ℕ) → register_instance j ≡ gate_instance k → ⊥
 not_both j k same = absurd (omega (arith, ap first same))
+
+pub no_register_buffers : (j k : ℕ) → register_instance j ≡ buffer_instance k → ⊥
+no_register_buffers j k same = absurd (omega (arith, ap first same))
+
+pub no_gate_buffers : (j k : ℕ) → gate_instance j ≡ buffer_instance k → ⊥
+no_gate_buffers j k same = absurd (omega (arith, ap first same))
 
 ten_pos : (k : ℕ) → 0 < 10 ^ k
 ten_pos zero = omega arith

@@ -10,6 +10,7 @@ use Rattle.cell_model.specs.Library.{Library, cell_of}
 use Rattle.net_meaning.specs.Netlist.{Member, pin_of}
 use Rattle.net_meaning.specs.Agreement.{register_instance}
 use Rattle.net_meaning.specs.Well.{gate_instance, buffer_instance, Has}
+use Rattle.net_meaning.specs.Buffers.{AreOne, alike, tied, turned, through}
 use Rattle.cell_model.specs.Access.{count_to}
 use Rattle.ocp_rows.specs.Order.{Reads, begins_with_g, IsLean}
 use Rattle.net_theory.specs.Sources.{node, IsNumber, Seat, Sourced, source_of}
@@ -17,7 +18,7 @@ use Rattle.net_theory.proofs.Basics.{number_of, at_number, number_below, number_
 use Rattle.net_theory.proofs.Seats.{only, In-only, pin_source}
 use Rattle.graph_theory.specs.Graph.{Node, fixed, inv, nand, Graph, is_logic, is_fixed, held_count, IsSmall}
 use Rattle.graph_theory.specs.Maps.{Maps}
-use Rattle.graph_theory.proofs.Names.{gate_apart, not_both}
+use Rattle.graph_theory.proofs.Names.{gate_apart, not_both, no_register_buffers, no_gate_buffers}
 use Rattle.graph_theory.proofs.Shown.{In-split}
 
 -- lists with the same elements at the same numbers are one
@@ -216,6 +217,22 @@ module _ (n : Sourced) (l : Library) (m : Machine) (g : Graph) (h : Maps n l m g
         let nodes = ap (λ (z : Seat). z.node) one in absurd (omega (arith, lower, nodes))
   ]
 
+  -- there are no buffers to take out
+  no_buffers : (i : Member) (k : ℕ) → In i n.netlist.instances → i.name ≡ buffer_instance k → ⊥
+  no_buffers i k listed named =
+      let p = In-map_back (λ (p : Seat). p.member) i (h.registers ++ h.gates) (subst (λ (all : List Member). In i all) h.instances listed) in
+      let is : p.0.member.name ≡ buffer_instance k = ap (λ (z : Member). z.name) p.2 ∙ named in
+      elim (In-split p.0 h.registers h.gates p.1) [
+        | inl x ↦ let q = number_of p.0 h.registers x in no_register_buffers q.0 k (sym (h.register_at q.0 p.0 q.1).named ∙ is)
+        | inr y ↦ let q = number_of p.0 h.gates y in no_gate_buffers q.0 k (sym (h.gate_at q.0 p.0 q.1).named ∙ is)
+      ]
+
+  are_one : (a b : ℕ) → AreOne n.netlist l a b → a ≡ b
+  are_one a b alike = refl
+  are_one a b (tied i c j x y has named reads drives) = absurd (no_buffers i j has.listed named)
+  are_one a b (turned one) = sym (are_one b a one)
+  are_one a b (through {b = d} one two) = are_one a d one ∙ are_one d b two
+
   pub mapped_after : (k j : ℕ) → Reads n.netlist l k j → j < k
   mapped_after k j reads =
       let reader = gate_of k reads.reader reads.reader_cell reads.has_reader reads.reader_name in
@@ -230,7 +247,8 @@ module _ (n : Sourced) (l : Library) (m : Machine) (g : Graph) (h : Maps n l m g
       let shown : source_of n (pin_of read.seat.member.name reads.output) ≡ node read.seat.node =
       subst (λ (x : Name). source_of n (pin_of read.seat.member.name x) ≡ node read.seat.node) (sym is_one) one.2 in
       let joined : n.netlist.class (pin_of reader.seat.member.name reads.input) ≡ n.netlist.class (pin_of read.seat.member.name reads.output) =
-      ap (λ (z : Member). n.netlist.class (pin_of z.name reads.input)) reader.member ∙ reads.joined ∙ sym (ap (λ (z : Member). n.netlist.class (pin_of z.name reads.output)) read.member) in
+      ap (λ (z : Member). n.netlist.class (pin_of z.name reads.input)) reader.member
+      ∙ are_one (n.netlist.class (pin_of reads.reader.name reads.input)) (n.netlist.class (pin_of reads.read.name reads.output)) reads.joined ∙ sym (ap (λ (z : Member). n.netlist.class (pin_of z.name reads.output)) read.member) in
       let same_source : node leaf.0 ≡ node read.seat.node = sym leaf.2 ∙ ap n.source joined ∙ shown in
       let same : leaf.0 ≡ read.seat.node = cc same_source in
       let below = s.cut.earlier leaf.0 leaf.1 in

@@ -32,7 +32,7 @@ MappedIsRight = (n : Sourced) (l : Library) (m : Machine) (g : Graph) → IsChec
 -- its instances stand in the order of a netlist
 abbrev pub MappedIsInOrder : Type 0
 MappedIsInOrder = (n : Sourced) (l : Library) (m : Machine) (g : Graph) (p : Placement) → Maps n l m g
-    → p.rows ≡ n.netlist.instances ∷ [] → IsInNetlistOrder n.netlist l m p
+    → p.rows ≡ n.netlist.instances ∷ [] → IsInNetlistOrder n.netlist l m p 0
 
 -- and it is lean
 abbrev pub MappedIsLean : Type 0

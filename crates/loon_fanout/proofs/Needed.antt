@@ -24,7 +24,8 @@ use Rattle.loon_fanout.specs.Sinks.{Wired, is_clock_of, sinks, wired_of}
 use Rattle.loon_fanout.specs.Repeaters.{Repeater}
 use Rattle.loon_fanout.specs.Limited.{IsLimited, within, round, IsNetlistOf, IsBuffered, IsOfCells}
 use Rattle.loon_fanout.specs.Laws.{as_netlist, gate_named}
-use Rattle.loon_fanout.specs.Nets.{AreOne, alike, tied, turned, through, IsStaying, staying, FitsWithoutBuffers, HasNoBuffer, BuffersAreNeeded}
+use Rattle.net_meaning.specs.Buffers.{AreOne, alike, tied, turned, through}
+use Rattle.loon_fanout.specs.Nets.{IsStaying, staying, FitsWithoutBuffers, HasNoBuffer, BuffersAreNeeded}
 use Rattle.loon_fanout.proofs.Splitting.{sink_at}
 use Rattle.loon_fanout.proofs.RightMove.{IsSink}
 use Rattle.loon_fanout.proofs.RightRounds.{sink_of, some_of}

@@ -23,7 +23,7 @@ use Rattle.loon_fanout.specs.Wired.{pin_class, with_gate, with_moved, with_group
 use Rattle.loon_fanout.specs.Repeaters.{Repeater}
 use Rattle.loon_fanout.specs.Limited.{AreGroups, last, next, Row, with_round, IsLimited, within, round}
 use Rattle.loon_fanout.specs.Laws.{as_netlist, gate_named}
-use Rattle.loon_fanout.specs.Nets.{AreOne, alike, tied, turned, through}
+use Rattle.net_meaning.specs.Buffers.{AreOne, alike, tied, turned, through}
 use Rattle.loon_fanout.proofs.Terminals.{terminal_same}
 use Rattle.loon_fanout.proofs.Splitting.{flat_in, any_in, is_false, in_or_out, sink_at}
 use Rattle.loon_fanout.proofs.RightStates.{IsGateCell}

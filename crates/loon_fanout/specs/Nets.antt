@@ -12,6 +12,7 @@ use Rattle.net_core.specs.Places.{IsThere}
 use Rattle.net_core.specs.Netlist.{Instance, Netlist as InMemory, IsNetlist}
 use Rattle.net_meaning.specs.Netlist.{Member, Netlist, pin_of}
 use Rattle.net_meaning.specs.Well.{Has, IsClockPin, IsSpecial, buffer_instance}
+use Rattle.net_meaning.specs.Buffers.{AreOne}
 use Rattle.net_view.specs.View.{IsSeenAs}
 use Rattle.net_view.specs.Right.{IsRightNetlist}
 use Rattle.loon_fanout.specs.Limited.{IsBuffered, HasFanout, IsOfCells}
@@ -47,14 +48,6 @@ BufferedHasFewInputs =
     → IsNetlist r → IsChecked m → IsOfCells n l → IsRightNetlist n l m → IsBuffered n l limit r → IsSeenAs r k → HasFewInputs k l m limit
 
 -- ---- buffers taken out
-
--- Two classes are made one when each instance named b is taken out, and the two classes that it ties are made one.
-pub data AreOne (n : Netlist) (l : Library) : ℕ → ℕ → Type 0 where
-  alike : {a : ℕ} → AreOne n l a a
-  tied : (i : Member) (c : Cell) (j : ℕ) (input output : Name) → Has n l i c → i.name ≡ buffer_instance j → In input (cell_inputs c)
-      → In output (cell_outputs c) → AreOne n l (n.class (pin_of i.name input)) (n.class (pin_of i.name output))
-  turned : {a b : ℕ} → AreOne n l a b → AreOne n l b a
-  through : {a b d : ℕ} → AreOne n l a b → AreOne n l b d → AreOne n l a d
 
 -- an input pin, and no clock pin, of an instance that isn't named b
 pub data IsStaying (n : Netlist) (l : Library) : Terminal → Type 0 where

@@ -2,5 +2,6 @@ pub mod Netlist
 pub mod Behaviour
 pub mod Agreement
 pub mod Well
+pub mod Buffers
 pub mod Breaches
 pub mod Laws

@@ -9,10 +9,11 @@ use Rattle.cell_model.specs.Library.{Library}
 use Rattle.net_meaning.specs.Netlist.{Member, Netlist, pin_of}
 use Rattle.net_meaning.specs.Agreement.{register_instance}
 use Rattle.net_meaning.specs.Well.{gate_instance, buffer_instance, Has}
+use Rattle.net_meaning.specs.Buffers.{AreOne}
 use Rattle.ocp_rows.specs.Placement.{Placement}
 use Rattle.cell_model.specs.Access.{count_to}
 
--- gate number k has an input pin in the class of an output pin of gate number j
+-- gate number k has an input pin in the class of an output pin of gate number j, or would have once the buffers are taken out
 pub record Reads (n : Netlist) (l : Library) (k j : ℕ) : Type 0 where
   pub reader : Member
   pub read : Member
@@ -26,16 +27,13 @@ pub record Reads (n : Netlist) (l : Library) (k j : ℕ) : Type 0 where
   pub output : Name
   pub is_input : In input (cell_inputs reader_cell)
   pub is_output : In output (cell_outputs read_cell)
-  pub joined : n.class (pin_of reader.name input) ≡ n.class (pin_of read.name output)
+  pub joined : AreOne n l (n.class (pin_of reader.name input)) (n.class (pin_of read.name output))
 
 -- One row in the order of the netlist: the registers in the order of their names, as q0, q1 and so on; then the gates, as g0,
--- g1 and so on, each after those that it reads; then the buffers b0, b1 and so on, of which there are none as long as nets are
--- not buffered.
-pub record IsInNetlistOrder (n : Netlist) (l : Library) (m : Machine) (p : Placement) : Type 0 where
+-- g1 and so on, each after those that it reads; then so many buffers, as b0, b1 and so on.
+pub record IsInNetlistOrder (n : Netlist) (l : Library) (m : Machine) (p : Placement) (buffers : ℕ) : Type 0 where
   pub one_row : p.rows ≡ n.instances ∷ []
   pub gates : ℕ
-  pub buffers : ℕ
-  pub unbuffered : buffers ≡ 0
   pub names : map (λ i. i.name) n.instances
       ≡ map register_instance (count_to (length m.registers)) ++ (map gate_instance (count_to gates) ++ map buffer_instance (count_to buffers))
   pub after : (k j : ℕ) → Reads n l k j → j < k
