@@ -36,7 +36,7 @@ pub record IsDrawn (old : Files) (now : Option Files) (c : FlowCommand) (report 
   pub read : AreRead c source catal cells o m l
   pub bytes : List ℕ
   pub written : now ≡ Some (insert old (layout_name c.out) bytes)
-  pub right : IsRightLayout bytes o m l report
+  pub right : IsRightLayout bytes o m l c.fanout report
 
 -- the layout stands whole, on a shelf that tells its files
 abbrev pub StandsWhole : Outside → Outside → FlowCommand → List ℕ → Type 0

@@ -1,6 +1,5 @@
 -- What is drawn of a netlist.
 use Rattle.std.specs.Prelude.{◌≡◌, ℕ, ◌*◌, ◌+◌, ◌≤◌, true, false, List, length, ◌++◌, codes, Some}
-use Rattle.source_meaning.specs.Checks.{most_ports}
 use Rattle.machine_meaning.specs.Machine.{Machine}
 use Rattle.machine_meaning.specs.Size.{machine_size}
 use Rattle.machine_core.specs.Checked.{IsChecked}
@@ -9,16 +8,16 @@ use Rattle.cell_checks.specs.Checked.{IsChecked as HasPassed}
 use Rattle.net_core.specs.Netlist.{Netlist}
 use Rattle.net_meaning.specs.Netlist.{Netlist as Seen}
 use Rattle.net_view.specs.View.{IsSeenAs}
-use Rattle.net_view.specs.Writable.{CanBeNamed, HasShortNames}
 use Rattle.ocp_place.specs.Law.{row_of}
 use Rattle.ocp_rows.specs.Length.{half_perimeter}
 use Rattle.boom_opt.specs.Optimised.{IsOptimised}
-use Rattle.boog_run.specs.Boog.{IsNetlistFor}
 use Rattle.boog_run.specs.declared.netlist.TheConstants.{MOST_SIZE}
 use Rattle.tool_drive.specs.declared.tool.Product.{Product}
 use Rattle.syf_machine.specs.Meaning.{DoesAs}
 use Rattle.flow_run.specs.Origin.{Origin, equations, states}
 use Rattle.flow_run.specs.RightLayout.{IsRightLayout}
+use Rattle.boog_driven.specs.Netlist.{IsDrivenNetlist}
+use Rattle.boog_driven.specs.Laws.{IsDrawableSoon}
 
 abbrev pub layout_name : List ℕ → List ℕ
 layout_name out = out ++ codes ".ap"
@@ -28,30 +27,27 @@ abbrev pub DoesAsOrigin : Origin → Machine → Type 0
 DoesAsOrigin equations m = Unit {0}
 DoesAsOrigin (states f k) m = DoesAs f k m
 
--- A netlist for a machine as it was made smaller, both small enough and with names that can be written, of a library whose cells may
--- be drawn with tracks.
-pub record MayBeDrawn (l : Library) (from : Origin) (m : Machine) (n : Netlist) : Type 0 where
+-- A netlist for a machine as it was made smaller, with buffers and drives, small enough and with names that can be written, of a library
+-- whose cells may be drawn with tracks.
+pub record MayBeDrawn (l : Library) (from : Origin) (m : Machine) (fanout : ℕ) (k : Netlist) (delay : ℕ) : Type 0 where
   pub origin : DoesAsOrigin from m
   pub o : Machine
   pub optimised : IsOptimised m o
-  pub netlist : IsNetlistFor l o n
+  pub netlist : IsDrivenNetlist l o fanout k delay
   pub checked : IsChecked m
   pub ordered : IsChecked o
   pub passed : HasPassed true l
   pub plain : HasPassed false l
   pub small : machine_size m ≤ MOST_SIZE
-  pub named : CanBeNamed n
-  pub short : HasShortNames n
-  pub instances : length n.instances ≤ 2 * MOST_SIZE
-  pub ports : length n.ports ≤ most_ports + 2
+  pub soon : IsDrawableSoon l k
 
 -- how long the nets are, in one row
 abbrev pub IsLengthOf : Library → Netlist → ℕ → Type 0
 IsLengthOf l n long = (k : Seen) → IsSeenAs n k → long ≡ half_perimeter k l (row_of k)
 
 -- NAME.ap is a right layout of the machine by this library, and the report on it is printed
-pub record IsDrawnAs (out : List ℕ) (o : Origin) (m : Machine) (l : Library) (p : Product) : Type 0 where
+pub record IsDrawnAs (out : List ℕ) (o : Origin) (m : Machine) (l : Library) (fanout : ℕ) (p : Product) : Type 0 where
   pub bytes : List ℕ
   pub name : p.name ≡ layout_name out
   pub file : p.file ≡ Some bytes
-  pub right : IsRightLayout bytes o m l p.text
+  pub right : IsRightLayout bytes o m l fanout p.text

@@ -62,7 +62,7 @@ pub record IsLaidOut (c : FlowCommand) (source catal : List ℕ) (cells : List (
   pub read : AreRead c source catal cells o m l
   pub covered : Covers l m
   pub within : IsWithinNodes m c.nodes
-  pub drawn : IsDrawnAs c.out o m l p
+  pub drawn : IsDrawnAs c.out o m l c.fanout p
 
 -- Why there is no source that can be laid out, in this order: the lines of CATAL and their number; the text of the source and its
 -- ports; its size.

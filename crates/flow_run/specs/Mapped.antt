@@ -7,8 +7,8 @@ use Rattle.cell_model.specs.declared.kind.Kind.{Kind}
 use Rattle.cell_model.specs.Covering.{needed, IsFirstMissing}
 use Rattle.cell_model.specs.Library.{Library}
 use Rattle.net_core.specs.Netlist.{Netlist}
+use Rattle.boog_driven.specs.Netlist.{IsDrivenNetlist}
 use Rattle.boog_map.specs.Netlist.{has_registers}
-use Rattle.boog_run.specs.Boog.{IsNetlistFor}
 use Rattle.boom_run.specs.Boom.{IsWithinBudget}
 use Rattle.tool_drive.specs.declared.status.Status.{Status}
 use Rattle.tool_drive.specs.declared.status.Status.TheVariants as status
@@ -19,10 +19,11 @@ pub record IsMissingIn (l : Library) (m : Machine) (s : Status) : Type 0 where
   pub first : IsFirstMissing l.cells kind (needed (has_registers m))
   pub is : s ≡ status.NoCover kind
 
--- a netlist for the machine as it was made smaller within the budget, and the most nodes that a diagram of its roots has
-pub record IsMappedFor (l : Library) (m : Machine) (budget : ℕ) (n : Netlist) (nodes : ℕ) : Type 0 where
+-- What the machine is mapped to, as it was made smaller within the budget, with buffers and drives: its longest path takes so long; and
+-- the most nodes that a diagram of the machine's roots has.
+pub record IsMappedFor (l : Library) (m : Machine) (budget fanout : ℕ) (k : Netlist) (delay nodes : ℕ) : Type 0 where
   pub o : Machine
   pub made : IsWithinBudget m budget o
   pub ordered : IsChecked o
-  pub netlist : IsNetlistFor l o n
+  pub netlist : IsDrivenNetlist l o fanout k delay
   pub counted : IsGreatestDcount m nodes

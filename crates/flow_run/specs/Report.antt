@@ -37,19 +37,20 @@ held_lines equations m = register_lines 0 m.registers
 held_lines (states f k) m = code_lines f.states k.codes
 
 -- The report by its numbers: the source, its registers or codes, its size, the most nodes that a diagram of its roots has, how many cells and
--- nets the layout has, the length of its nets and the number of its breaches.
-abbrev pub report_by : Origin → Machine → ℕ → ℕ → ℕ → ℕ → ℕ → List ℕ
-report_by o m nodes cells nets length breaches = together (
+-- nets the layout has, how many femtoseconds its longest path takes, the length of its nets and the number of its breaches.
+abbrev pub report_by : Origin → Machine → ℕ → ℕ → ℕ → ℕ → ℕ → ℕ → List ℕ
+report_by o m nodes cells nets delay length breaches = together (
     source_line m.name
     ∷ held_lines o m
     ∷ count_line (codes "size") (machine_size m)
     ∷ count_line (codes "nodes") nodes
     ∷ count_line (codes "cells") cells
     ∷ count_line (codes "nets") nets
+    ∷ count_line (codes "delay") delay
     ∷ count_line (codes "length") length
     ∷ count_line (codes "breaches") breaches
     ∷ (codes "accepted" ++ line_end) ∷ [])
 
--- The report on a machine's netlist and its placement.
-abbrev pub report_of : Origin → Machine → ℕ → Netlist → Library → Placement → ℕ → List ℕ
-report_of o m nodes n l p breaches = report_by o m nodes (length n.instances) (net_count n) (half_perimeter n l p) breaches
+-- The report on a machine's netlist, whose longest path takes so long, and on its placement.
+abbrev pub report_of : Origin → Machine → ℕ → ℕ → Netlist → Library → Placement → ℕ → List ℕ
+report_of o m nodes delay n l p breaches = report_by o m nodes (length n.instances) (net_count n) delay (half_perimeter n l p) breaches

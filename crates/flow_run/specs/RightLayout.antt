@@ -17,14 +17,16 @@ use Rattle.machine_roots.specs.Roots.{IsGreatestDcount}
 use Rattle.flow_run.specs.Origin.{Origin}
 use Rattle.flow_run.specs.States.{AgreesWith}
 use Rattle.flow_run.specs.Lean.{IsLeanBy}
+use Rattle.boog_driven.specs.Netlist.{IsDrivenAs}
 use Rattle.flow_run.specs.Report.{report_of}
 
 -- The bytes are the ap file of a figure that has the machine's name. Joined wherever shapes of one metal meet, the figure
 -- is a netlist of the library's cells that is well formed for the machine, behaves as the machine does, and breaks no
 -- symbolic rule. Of a state machine it does what this does, from the codes of its states and behind vectors that reset. Its ports,
--- instances, supplies and box are those of a placement, one row in the order of the netlist, and it has few gates.
--- The report is that of machine, netlist and placement, and has the most nodes of a diagram of the machine's roots.
-pub record IsRightLayout (bytes : List ℕ) (o : Origin) (m : Machine) (l : Library) (report : List ℕ) : Type 0 where
+-- instances, supplies and box are those of a placement, one row in the order of the netlist. It has few gates, few pins read each net,
+-- buffers stand only where more would, and no exchange of one instance's cell makes it faster. The report is that of machine, netlist
+-- and placement, and has the most nodes of a diagram of the machine's roots and the delay of the netlist.
+pub record IsRightLayout (bytes : List ℕ) (o : Origin) (m : Machine) (l : Library) (fanout : ℕ) (report : List ℕ) : Type 0 where
   pub figure : Figure
   pub netlist : Netlist
   pub placement : Placement
@@ -36,17 +38,20 @@ pub record IsRightLayout (bytes : List ℕ) (o : Origin) (m : Machine) (l : Libr
   pub by_states : AgreesWith o netlist l m
   pub lawful : Breaches figure.items l []
   pub is_placed : IsPlaced figure.bounds figure.items netlist l placement
-  pub in_order : IsInNetlistOrder netlist l m placement 0
-  pub lean : IsLeanBy netlist m
+  pub many_buffers : ℕ
+  pub in_order : IsInNetlistOrder netlist l m placement many_buffers
+  pub lean : IsLeanBy netlist l m fanout
+  pub delay : ℕ
+  pub driven : IsDrivenAs netlist l m delay
   pub nodes : ℕ
   pub counted : IsGreatestDcount m nodes
-  pub reported : report ≡ report_of o m nodes netlist l placement 0
+  pub reported : report ≡ report_of o m nodes delay netlist l placement 0
 
 -- From matched contents and under every list of vectors, the netlist of a right layout runs, and gives the outputs of the
 -- machine.
 abbrev pub RightLayoutsRun : Type 0
 RightLayoutsRun =
-    (bytes : List ℕ) (o : Origin) (m : Machine) (l : Library) (report : List ℕ) (right : IsRightLayout bytes o m l report)
+    (bytes : List ℕ) (o : Origin) (m : Machine) (l : Library) (fanout : ℕ) (report : List ℕ) (right : IsRightLayout bytes o m l fanout report)
     (s : List Bool) (t : Contents) (v : List (List Bool))
     → length s ≡ length m.registers → IsMatched s t → AreVectors m v
     → (ws : List (List Bool)) × NetTrace right.netlist l m t v ws × RunOf m s v (map (net_outs right.netlist (outputs m)) ws)

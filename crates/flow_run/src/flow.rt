@@ -4,6 +4,7 @@ ghost use Rattle.machine_meaning.specs.Size.{machine_size};
 ghost use Rattle.source_meaning.specs.Checks.{most_ports};
 ghost use Rattle.boog_map.specs.Netlist.{Covers};
 ghost use Rattle.boom_run.specs.Boom.{IsBudgetStatus};
+ghost use Rattle.delay_sta.specs.Exchanged.{HaveTheirArcs};
 ghost use Rattle.cell_lib.specs.Library.{status_of};
 ghost use Rattle.cell_lib.specs.Load.{refused as list_refusal};
 ghost use Rattle.tool_drive.specs.Outside.{outside, IsLine};
@@ -18,15 +19,17 @@ ghost use Rattle.flow_run.specs.Mapped.{IsMissingIn, IsMappedFor};
 
 use crate::layout::product;
 use crate::source::{Counted, Origin, Source};
-use boog_run::{check_size, netlist_law, netlist_of};
+use boog_driven::{driven_netlist_law, driven_netlist_of};
+use boog_run::{check_size, netlist_law};
 use boom_run::optimise_within;
 use catal::{CatalError, read_catal};
 use cell_checks::Library;
 use cell_lib::{catal_file, library_law, library_status, named_files, read_library};
 use cell_model::first_missing;
 use fsm_io::read_fsm;
+use loon_drive::Driven;
+use loon_run::loon_law;
 use machine_core::Machine;
-use net_core::Netlist;
 use std::alloc::{AllocError, Global};
 use syf_run::{Encoded, encoded_law, encoded_machine, style_of};
 use tool_drive::{LibraryFault, Product, Refusal, Status, Tool, Wanted, bytes_at, drive, refused};
@@ -153,11 +156,12 @@ fn check_kinds(machine: &Machine, library: &Library) -> Result<(), Status>
     }
 }
 
-/// A netlist of the library's cells for a machine that was made smaller before, and the most nodes that a diagram of its roots has.
+/// A netlist of the library's cells, with buffers and drives, for a machine that was made smaller before, and the most nodes that a
+/// diagram of its roots has.
 #[derive(Drop)]
 struct Mapped {
     nodes: u32,
-    netlist: Netlist,
+    driven: Driven,
 }
 
 // The netlist of the machine made smaller, or the status of the first root over the budget. The smaller machine is small enough and
@@ -166,23 +170,25 @@ fn netlist_within(
     alloc: Global,
     machine: &Machine,
     library: &Library,
-    budget: u32,
+    command: &FlowCommand,
 ) -> Result<Mapped, Status>
     requires ports { length machine.now.ports ≤ most_ports }
+    requires arcs { HaveTheirArcs library.now }
     requires few { length machine.now.vars + length machine.now.ports + machine_size machine.now < 2 ^ 32 - 1 }
-    ensures mapped { IfOk result (λ p. IsMappedFor library.now machine.now budget p.netlist p.nodes) }
-    ensures refused { IfErr result (λ s. MemoryOr s (IsBudgetStatus machine.now budget s)) }
+    ensures mapped { IfOk result (λ p. IsMappedFor library.now machine.now command.now.nodes command.now.fanout
+        p.driven.netlist p.driven.delay p.nodes) }
+    ensures refused { IfErr result (λ s. MemoryOr s (IsBudgetStatus machine.now command.now.nodes s)) }
 {
-    let made = match optimise_within(alloc, machine, budget) {
+    let made = match optimise_within(alloc, machine, command.nodes) {
         Ok(made) => made,
         Err(status) => return Err(status),
     };
     // A machine is checked.
     let _ = made.machine.name();
-    match netlist_of(alloc, &made.machine, library) {
-        Ok(netlist) => Ok(Mapped {
+    match driven_netlist_of(alloc, &made.machine, library, command.fanout) {
+        Ok(driven) => Ok(Mapped {
             nodes: made.nodes,
-            netlist,
+            driven,
         }),
         Err(_) => Err(Status::Memory),
     }
@@ -201,6 +207,8 @@ fn laid_out(
     // What is read has names that can be written, few of them, and is small enough.
     library_law();
     netlist_law();
+    driven_netlist_law();
+    loon_law();
     source_has_few_names();
     encoded_law();
     let read = match read_all(alloc, command, source, catal, cells) {
@@ -212,13 +220,17 @@ fn laid_out(
         Ok(()) => {}
         Err(status) => return Err(Refusal::plain(status)),
     }
-    let mapped = netlist_within(alloc, &source.machine, &library, command.nodes);
-    let Mapped { nodes, netlist } = match mapped {
+    let mapped = netlist_within(alloc, &source.machine, &library, command);
+    let Mapped { nodes, driven } = match mapped {
         Ok(mapped) => mapped,
         Err(status) => return Err(Refusal::plain(status)),
     };
-    let counted = Counted { source, nodes };
-    let drawn = product(alloc, &command.out, &counted, &netlist, &library)?;
+    let counted = Counted {
+        source,
+        nodes,
+        fanout: command.fanout,
+    };
+    let drawn = product(alloc, &command.out, &counted, &driven, &library)?;
     Ok(drawn)
 }
 

@@ -10,8 +10,10 @@ ghost use Rattle.flow_run.specs.Drawn.{layout_name as layout_name_of, MayBeDrawn
 use crate::report::report;
 use crate::source::Counted;
 use ap_io::{Figure, write_ap, written_is_read_again};
+use boog_driven::driven_netlist_law;
 use cell_checks::Library;
 use cell_pins::pin_table;
+use loon_drive::Driven;
 use machine_alike::alike_law;
 use nero_tracks::{TrackError, columns_are_free, route_tracks};
 use net_core::Netlist;
@@ -63,13 +65,15 @@ pub(crate) fn product(
     alloc: Global,
     out: &FileName,
     counted: &Counted,
-    netlist: &Netlist,
+    driven: &Driven,
     library: &Library,
 ) -> Result<Product, AllocError>
-    requires netlist { MayBeDrawn library.now (origin_view counted.now.source.origin) counted.now.source.machine netlist.now }
+    requires netlist { MayBeDrawn library.now (origin_view counted.now.source.origin) counted.now.source.machine counted.now.fanout
+        driven.now.netlist driven.now.delay }
     requires nodes { IsGreatestDcount counted.now.source.machine counted.now.nodes }
-    ensures { IfOk result (λ p. IsDrawnAs out.now (origin_view counted.now.source.origin) counted.now.source.machine library.now p) }
+    ensures { IfOk result (λ p. IsDrawnAs out.now (origin_view counted.now.source.origin) counted.now.source.machine library.now counted.now.fanout p) }
 {
+    driven_netlist_law();
     right_is_well_formed();
     right_may_be_drawn();
     right_drawings_are_right();
@@ -79,9 +83,9 @@ pub(crate) fn product(
     // It meets the condition of placing and drawing with these pins.
     let pins = pin_table(alloc, library, false)?;
     let _ = pins;
-    let sheet = drawing(alloc, netlist, library)?;
+    let sheet = drawing(alloc, &driven.netlist, library)?;
     let file = write_ap(alloc, &sheet.figure)?;
-    let text = report(alloc, counted, netlist, sheet.wire)?;
+    let text = report(alloc, counted, driven, sheet.wire)?;
     let name = layout_name(alloc, out)?;
     Ok(Product {
         name,

@@ -8,6 +8,7 @@ ghost use Rattle.flow_run.specs.Report.{source_line as source_line_of, count_lin
 ghost use Rattle.flow_run.specs.Report.{register_lines as register_lines_of, held_lines as held_lines_of, report_by};
 
 use crate::source::{Counted, Origin, Source};
+use loon_drive::Driven;
 use machine_core::{Machine, machine_size};
 use machine_meaning::Register;
 use net_core::Netlist;
@@ -117,18 +118,19 @@ fn nets(netlist: &Netlist) -> u128
 pub(crate) fn report(
     alloc: Global,
     counted: &Counted,
-    netlist: &Netlist,
+    driven: &Driven,
     wire: u128,
 ) -> Result<FileBytes, AllocError>
     requires { size_of counted.now.source.machine ≤ MOST_SIZE }
     ensures { IfOk result (λ text. text ≡ report_by (origin_view counted.now.source.origin) counted.now.source.machine counted.now.nodes
-        (length netlist.now.instances) (netlist.now.count - 2) wire 0) }
+        (length driven.now.netlist.instances) (driven.now.netlist.count - 2) driven.now.delay wire 0) }
 {
     let mut out = head(alloc, &counted.source)?;
     count_line(alloc, &mut out, b"size", size(&counted.source.machine))?;
     count_line(alloc, &mut out, b"nodes", u128::from(counted.nodes))?;
-    count_line(alloc, &mut out, b"cells", cells(netlist))?;
-    count_line(alloc, &mut out, b"nets", nets(netlist))?;
+    count_line(alloc, &mut out, b"cells", cells(&driven.netlist))?;
+    count_line(alloc, &mut out, b"nets", nets(&driven.netlist))?;
+    count_line(alloc, &mut out, b"delay", driven.delay)?;
     count_line(alloc, &mut out, b"length", wire)?;
     count_line(alloc, &mut out, b"breaches", 0)?;
     out.append(b"accepted\n")?;

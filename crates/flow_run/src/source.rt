@@ -17,9 +17,10 @@ pub(crate) struct Source {
     pub(crate) machine: Machine,
 }
 
-/// A source, and the most nodes that a diagram of its machine's roots has.
+/// A source, the most nodes that a diagram of its machine's roots has, and the most sinks that a net may have.
 #[derive(Drop)]
 pub(crate) struct Counted {
     pub(crate) source: Source,
     pub(crate) nodes: u32,
+    pub(crate) fanout: u32,
 }

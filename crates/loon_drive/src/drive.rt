@@ -5,7 +5,7 @@ ghost use Rattle.delay_sta.specs.Paths.{IsWorst};
 ghost use Rattle.delay_sta.specs.Timed.{CanBeTimed};
 ghost use Rattle.delay_sta.specs.Exchanged.{HaveTheirArcs};
 ghost use Rattle.loon_buffer.specs.Drives.{HasDrives, OnlyExchanges, IsDriven};
-ghost use Rattle.loon_fanout.specs.Limited.{HasFanout, IsOfCells, HasRoomForGates, StaysRight, IsBufferRefusal};
+ghost use Rattle.loon_fanout.specs.Limited.{HasFanout, HasFewGates, IsOfCells, HasRoomForGates, StaysRight, IsBufferRefusal};
 ghost use Rattle.loon_fanout.specs.Laws.{IsTied};
 ghost use Rattle.loon_drive.specs.Driven.{most_sinks, IsDrivenFrom};
 
@@ -66,7 +66,7 @@ fn exchanged(alloc: Global, mut netlist: Netlist, library: &Library) -> Result<D
     Ok(Driven { netlist, delay })
 }
 
-/// Puts buffers into a netlist until no net has more than `fanout` sinks, where less than 2 counts as 2, and then exchanges cells for
+/// Puts buffers into a netlist until no net has more than `fanout` sinks, where less than 4 counts as 4, and then exchanges cells for
 /// drives of them until no exchange of one instance's cell makes the longest path shorter.
 ///
 /// It is refused by `NoBuffer` exactly where a net has too many sinks and the library has neither a buffer nor an inverter. The netlist
@@ -90,6 +90,7 @@ pub fn drive_netlist(
     ensures fanout { IfOk result (λ d. HasFanout library.now (most_sinks fanout) d.netlist) }
     ensures right { IfOk result (λ d. StaysRight netlist.now library.now d.netlist) }
     ensures timed { IfOk result (λ d. CanBeTimed library.now d.netlist) }
+    ensures few { IfOk result (λ d. HasFewGates netlist.now library.now d.netlist) }
     ensures refused { IfErr result (λ e. IsBufferRefusal netlist.now library.now (most_sinks fanout) e) }
 {
     exchanged_law();
@@ -97,7 +98,7 @@ pub fn drive_netlist(
     // Both netlists are sound, and the library's cells have passed their checks.
     let _ = netlist.classes();
     let _ = library.cells();
-    let mut limited = limit_fanout(alloc, netlist, library, fanout.max(2))?;
+    let mut limited = limit_fanout(alloc, netlist, library, fanout.max(4))?;
     reserve(alloc, &mut limited, library)?;
     let _ = limited.classes();
     Ok(exchanged(alloc, limited, library)?)

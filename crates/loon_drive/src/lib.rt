@@ -5,4 +5,4 @@ mod drive;
 mod laws;
 
 pub use drive::{Driven, drive_netlist};
-pub use laws::exchanged_law;
+pub use laws::{driven_law, exchanged_law};

@@ -14,7 +14,7 @@ use Rattle.net_view.specs.Right.{IsRightNetlist}
 use Rattle.free_names.specs.Free.{free_texts}
 use Rattle.loon_fanout.specs.declared.error.BufferError.{BufferError}
 use Rattle.loon_fanout.specs.declared.error.BufferError.TheVariants as error
-use Rattle.loon_fanout.specs.Sinks.{Wired, sinks, wired_of}
+use Rattle.loon_fanout.specs.Sinks.{Wired, all_sinks, sinks, wired_of}
 use Rattle.loon_fanout.specs.Wired.{with_group}
 use Rattle.loon_fanout.specs.Repeaters.{Repeater, IsRepeater, NoneRepeats}
 
@@ -67,6 +67,10 @@ pub record IsBuffered (n : InMemory) (l : Library) (limit : ℕ) (r : InMemory) 
 -- no net has more sinks than that
 abbrev pub HasFanout : Library → ℕ → InMemory → Type 0
 HasFanout l limit n = (class : ℕ) → length (sinks l (wired_of n) class) ≤ limit
+
+-- there are at most as many gates as the given netlist has sinks
+abbrev pub HasFewGates : InMemory → Library → InMemory → Type 0
+HasFewGates n l r = length r.instances ≤ length n.instances + length (all_sinks l n.instances)
 
 -- each instance has a usable cell of the library, and its pins
 pub record IsOfCells (n : InMemory) (l : Library) : Type 0 where

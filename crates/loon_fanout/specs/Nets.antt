@@ -9,7 +9,7 @@ use Rattle.cell_model.specs.Cell.{Cell, cell_inputs, cell_outputs}
 use Rattle.cell_model.specs.Library.{Library}
 use Rattle.cell_checks.specs.Checked.{IsChecked as HasPassed}
 use Rattle.net_core.specs.Places.{IsThere}
-use Rattle.net_core.specs.Netlist.{Instance, Netlist as InMemory, IsNetlist}
+use Rattle.net_core.specs.Netlist.{Instance, Netlist as InMemory, IsNetlist, terminals}
 use Rattle.net_meaning.specs.Netlist.{Member, Netlist, pin_of}
 use Rattle.net_meaning.specs.Well.{Has, IsClockPin, IsSpecial, buffer_instance}
 use Rattle.net_meaning.specs.Buffers.{AreOne}
@@ -69,3 +69,11 @@ BuffersAreNeeded =
     (tracks : Bool) (n : InMemory) (l : Library) (limit : ℕ) (r : InMemory) (k : Netlist) → HasPassed tracks l → IsNetlist n → IsNetlist r
     → IsOfCells n l → ((i : Instance) (j : ℕ) → IsThere n.instances i → i.name ≢ buffer_instance j) → IsBuffered n l limit r
     → IsSeenAs r k → FitsWithoutBuffers k l limit → HasNoBuffer k
+
+-- Terminals of the given netlist that are in one class of the limited one, once the buffers are taken out of this, were in one class.
+abbrev pub BufferedJoinsNothing : Type 0
+BufferedJoinsNothing =
+    (tracks : Bool) (n : InMemory) (l : Library) (limit : ℕ) (r : InMemory) (y k : Netlist) → HasPassed tracks l → IsNetlist n → IsNetlist r
+    → IsOfCells n l → ((i : Instance) (j : ℕ) → IsThere n.instances i → i.name ≢ buffer_instance j) → IsBuffered n l limit r
+    → IsSeenAs n y → IsSeenAs r k → (t u : Terminal) → IsThere (terminals n) t → IsThere (terminals n) u → AreOne k l (k.class t) (k.class u)
+    → y.class t ≡ y.class u

@@ -1,5 +1,5 @@
 -- What is drawn of a netlist is right, and can be written.
-use Rattle.std.specs.Prelude.{◌≤◌, false, length}
+use Rattle.std.specs.Prelude.{◌≤◌, false, filter, length, sum_by}
 use Rattle.machine_meaning.specs.Machine.{Machine}
 use Rattle.machine_core.specs.Checked.{IsChecked}
 use Rattle.cell_model.specs.Library.{Library}
@@ -13,7 +13,7 @@ use Rattle.net_drawing.specs.Drawing.{IsDrawable}
 use Rattle.ap_io.specs.declared.figure.Figure.{Figure}
 use Rattle.ap_io.specs.ApText.{IsFigure, IsWithinLimits}
 use Rattle.ocp_place.specs.Drawable.{IsDrawableIn}
-use Rattle.ocp_place.specs.Nets.{signal_ports, net_number}
+use Rattle.ocp_place.specs.Nets.{is_signal, signal_ports, net_number}
 use Rattle.nero_tracks.specs.Columns.{HaveOwnColumns}
 use Rattle.route_draw.specs.Drawn.{IsDrawnInTracks}
 
@@ -30,8 +30,13 @@ RightDrawingsAreRight =
     (l : Library) (n : InMemory) (m : Machine) (k : Netlist) (f : Figure) → HasPassed false l → IsDrawableIn l n → IsChecked m → IsRightNetlist n l m
     → IsSeenAs n k → IsDrawnInTracks l n f → Extracts f.items l k
 
+-- so few instances, and pins that are no supplies, as a source within the limits gives with all its buffers
+pub record HasFewPins (n : InMemory) : Type 0 where
+  pub instances : length n.instances ≤ 65536
+  pub pins : sum_by (λ i. length (filter is_signal i.pins)) n.instances ≤ 163840
+
 -- The figure can be written, where its names can, and it is no larger than a source within the limits gives.
 abbrev pub DrawingCanBeWritten : Type 0
 DrawingCanBeWritten =
     (l : Library) (n : InMemory) (f : Figure) → HasPassed false l → IsDrawableIn l n → CanBeNamed n → HasShortNames n
-    → length n.instances ≤ 32768 → length n.ports ≤ 8192 → IsDrawnInTracks l n f → IsFigure f × IsWithinLimits f
+    → HasFewPins n → length n.ports ≤ 8192 → IsDrawnInTracks l n f → IsFigure f × IsWithinLimits f

@@ -1,0 +1,40 @@
+// The netlist of a machine, with buffers and drives.
+ghost use Rattle.std.specs.Prelude.{◌≤◌, IfOk, IfErr, OnOk, length};
+ghost use Rattle.machine_meaning.specs.Size.{machine_size as size_of};
+ghost use Rattle.source_meaning.specs.Checks.{most_ports};
+ghost use Rattle.delay_sta.specs.Exchanged.{HaveTheirArcs};
+ghost use Rattle.tool_drive.specs.Refusals.{MemoryOr};
+ghost use Rattle.boog_run.specs.Boog.{IsNoNetlist};
+ghost use Rattle.boog_run.specs.declared.netlist.TheConstants.{MOST_SIZE};
+ghost use Rattle.boog_driven.specs.Netlist.{IsDrivenNetlist};
+
+use boog_run::netlist_of;
+use cell_checks::Library;
+use loon_drive::{Driven, drive_netlist};
+use loon_fanout::BufferError;
+use machine_core::Machine;
+use std::alloc::Global;
+use tool_drive::Status;
+
+/// A netlist of the library's cells for the machine, with buffers where a net had more than `fanout` sinks and with drives that no single
+/// exchange makes faster; or the status that tells why there is none: `Limit` of `Size`, `NoCover`, or out of memory. A library that
+/// covers a machine has an inverter, so nothing stands in the way of buffers.
+pub fn driven_netlist_of(
+    alloc: Global,
+    machine: &Machine,
+    library: &Library,
+    fanout: u32,
+) -> Result<Driven, Status>
+    requires ports { length machine.now.ports ≤ most_ports }
+    requires arcs { HaveTheirArcs library.now }
+    ensures driven { IfOk result (λ d. IsDrivenNetlist library.now machine.now fanout d.netlist d.delay) }
+    ensures small { OnOk result (size_of machine.now ≤ MOST_SIZE) }
+    ensures refused { IfErr result (λ s. MemoryOr s (IsNoNetlist library.now machine.now s)) }
+{
+    let netlist = netlist_of(alloc, machine, library)?;
+    match drive_netlist(alloc, &netlist, library, fanout) {
+        Ok(driven) => Ok(driven),
+        Err(BufferError::Memory) => Err(Status::Memory),
+        Err(BufferError::NoBuffer) => unreachable!(),
+    }
+}
