@@ -20,6 +20,9 @@ use Rattle.net_meaning.specs.Well.{IsDriver, an_input, an_output, OneDriver, IsS
 use Rattle.cell_model.specs.Access.{count_to}
 use Rattle.ocp_rows.specs.Placement.{Placement}
 use Rattle.ocp_rows.specs.Order.{IsInNetlistOrder}
+use Rattle.cell_pins.specs.Pins.{with_supply}
+use Rattle.loon_fanout.specs.Nets.{HasFewInputs}
+use Rattle.boog_driven.specs.Netlist.{IsDrivenAs}
 
 module _ (n : Netlist) (l : Library) (m o : Machine) (a : IsAlike m o) where
   driver_to : (t : Terminal) → IsDriver n l o t → IsDriver n l m t
@@ -95,4 +98,19 @@ module _ (n : Netlist) (l : Library) (m o : Machine) (a : IsAlike m o) where
     names = q.names
         ∙ ap (λ (k : ℕ). map register_instance (count_to k) ++ (map gate_instance (count_to q.gates) ++ map buffer_instance (count_to buffers))) (registers_same m o a);
     after = q.after;
+  }
+
+  -- few input pins read each class, since the same classes are left out
+  pub inputs_alike : (limit : ℕ) → HasFewInputs n l o limit → HasFewInputs n l m limit
+  inputs_alike limit few k pins apart each = few k pins apart (λ t i. let e = each t i in (e.0, e.1, λ s. e.2 (special_to t s)))
+
+  -- and it is driven, by the same ports
+  pub driven_alike : (delay : ℕ) → IsDrivenAs n l o delay → IsDrivenAs n l m delay
+  driven_alike delay d = record {
+    held = d.held;
+    ports = subst (λ (ports : List Port). d.held.ports ≡ with_supply vss (with_supply vdd ports)) a.ports d.ports;
+    seen = d.seen;
+    pins = d.pins;
+    worst = d.worst;
+    driven = d.driven;
   }

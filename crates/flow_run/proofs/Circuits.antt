@@ -46,6 +46,7 @@ use Rattle.flow_run.specs.Drawn.{layout_name}
 use Rattle.flow_run.specs.Laws.{WhatIsReadIsNeverRefused}
 use Rattle.flow_run.specs.Generated.{IsFitting, circuit_of, circuit_text, IsUnwritten, IsWritten, unwritten, laid, with_source, IsGenerated, IsGenFree, CircuitsAreNeverRefused, RunsHaveHeadlines, FreeRunsEnd}
 use Rattle.flow_run.proofs.Alike.{well_alike, agrees_alike}
+use Rattle.flow_run.proofs.Netlists.{covers_alike}
 use Rattle.flow_run.proofs.Rows.{headline_of}
 use Rattle.flow_run.proofs.Standing.{reads}
 
@@ -93,15 +94,6 @@ read_as true c source o m e h = absurd (cc e)
 
 pub source_read : (c : GenCommand) → IsFitting c → (source : List ℕ) (o : Origin) (m : Machine) → IsSourceFor c.flow source o m → (o ≡ equations) × IsVbe source m
 source_read c fit source o m h = read_as (is_fsm c.flow) c.flow source o m (is_text c fit) h
-
--- as many registers, so the same kinds are asked for
-covers_alike : (l : Library) (m k : Machine) → IsAlike m k → Covers l m → Covers l k
-covers_alike l m k alike covered =
-    let names : length (register_names k) ≡ length (register_names m) = ap (λ ns. length ns) alike.registers in
-    let a = length-map k.registers (λ r. r.name) in
-    let b = length-map m.registers (λ r. r.name) in
-    let many : length m.registers ≡ length k.registers = omega (arith, names, a, b) in
-    subst (λ (n : ℕ). (kind : Kind) → In kind (needed (not (n == 0))) → HasCellOf l.cells kind) many covered
 
 -- ---- never refused
 

@@ -29,7 +29,7 @@ use Rattle.vbe_words.specs.Laws.{with_supplies}
 use Rattle.machine_core.specs.Checked.{IsChecked}
 use Rattle.machine_alike.specs.Alike.{IsAlike, AlikeRun, AlikeBothWays}
 use Rattle.machine_roots.specs.Roots.{IsGreatestDcount}
-use Rattle.boog_run.specs.Laws.{CanBeDeclared, SourceCanBeDeclared, NetlistIsWritable, NetlistIsSmall, NetlistIsShort}
+use Rattle.boog_run.specs.Laws.{CanBeDeclared, SourceCanBeDeclared}
 use Rattle.boog_run.specs.declared.netlist.TheConstants.{MOST_SIZE}
 use Rattle.vbe_few.specs.Law.{SourceHasFewNames}
 use Rattle.syf_run.specs.Syf.{style_of}
@@ -41,7 +41,9 @@ use Rattle.flow_run.specs.RightLayout.{IsRightLayout}
 use Rattle.flow_run.specs.Mapped.{IsMappedFor}
 use Rattle.flow_run.specs.Drawn.{DoesAsOrigin, MayBeDrawn, IsLengthOf}
 use Rattle.flow_run.specs.Flow.{AreRead}
-use Rattle.flow_run.proofs.Alike.{well_alike, agrees_alike, order_alike}
+use Rattle.loon_drive.specs.Driven.{most_sinks}
+use Rattle.boog_driven.specs.Laws.{DrivenIsDrawable, DrivenIsGood}
+use Rattle.flow_run.proofs.Alike.{well_alike, agrees_alike, order_alike, inputs_alike, driven_alike}
 use Rattle.flow_run.proofs.Fewer.{lean_by}
 use Rattle.flow_run.proofs.States.{by_states}
 
@@ -92,16 +94,15 @@ declared_alike m o a d = record {
 }
 
 -- what is read and mapped may be drawn
-pub may_be_drawn : LibraryPasses → LibraryNeedsNoTracks → SourceCanBeDeclared → EncodedCanBeDeclared → NetlistIsWritable → NetlistIsSmall → NetlistIsShort
-    → (c : FlowCommand) (source list : List ℕ) (cells : List (List ℕ)) (o : Origin) (m : Machine) (l : Library) (n : Netlist) (nodes : ℕ)
-    → AreRead c source list cells o m l → IsMappedFor l m c.nodes n nodes → MayBeDrawn l o m n
-may_be_drawn passes plain texts machines writable few short c source list cells o m l n nodes read h =
+pub may_be_drawn : LibraryPasses → LibraryNeedsNoTracks → SourceCanBeDeclared → EncodedCanBeDeclared → DrivenIsDrawable
+    → (c : FlowCommand) (source list : List ℕ) (cells : List (List ℕ)) (o : Origin) (m : Machine) (l : Library) (k : Netlist) (delay nodes : ℕ)
+    → AreRead c source list cells o m l → IsMappedFor l m c.nodes c.fanout k delay nodes → MayBeDrawn l o m c.fanout k delay
+may_be_drawn passes plain texts machines drawable c source list cells o m l k delay nodes read h =
     let library = plain true list cells l read.library in
     let declared = declared_alike m h.o h.made.optimised.alike (source_declared texts machines c source o m read.machine) in
     let given = read.small in
     let made = h.made.optimised.small.size in
     let small : machine_size h.o ≤ MOST_SIZE = omega (arith, given, made) in
-    let sizes = few l h.o n h.ordered declared small h.netlist in
     record {
       origin = does_as (is_fsm c) c source o m read.machine;
       o = h.o;
@@ -112,31 +113,29 @@ may_be_drawn passes plain texts machines writable few short c source list cells 
       passed = passes true list cells l read.library;
       plain = passes false list cells l library;
       small = read.small;
-      named = (writable list cells l h.o n library declared small h.netlist).named;
-      short = short list cells l h.o n library declared small h.netlist;
-      instances = sizes.0;
-      ports = sizes.1;
+      soon = drawable list cells l h.o c.fanout k delay library h.ordered declared small h.netlist;
     }
 
-pub drawable : RightMayBeDrawn → (l : Library) (o : Origin) (m : Machine) (n : Netlist) (table : List ModelPins) → IsTableOf l false table
-    → IsPinTable table → MayBeDrawn l o m n → IsDrawableIn l n
-drawable may l o m n table of_library is_table h = may l n h.o false table h.plain of_library is_table h.netlist.sound h.ordered h.netlist.right h.netlist.pins
+pub drawable : RightMayBeDrawn → (l : Library) (o : Origin) (m : Machine) (fanout : ℕ) (n : Netlist) (delay : ℕ) (table : List ModelPins)
+    → IsTableOf l false table → IsPinTable table → MayBeDrawn l o m fanout n delay → IsDrawableIn l n
+drawable may l o m fanout n delay table of_library is_table h =
+    may l n h.o false table h.plain of_library is_table h.netlist.sound h.ordered h.netlist.right h.soon.pins
 
 -- the numbers of a netlist in memory are those of the netlist that it is seen as
-report_same : (o : Origin) (m : Machine) (nodes : ℕ) (l : Library) (n : Netlist) (k : Seen) (long : ℕ) → IsSeenAs n k → IsLengthOf l n long
-    → report_by o m nodes (length n.instances) (n.count - 2) long 0 ≡ report_of o m nodes k l (row_of k) 0
-report_same o m nodes l n k long seen measured =
+report_same : (o : Origin) (m : Machine) (nodes delay : ℕ) (l : Library) (n : Netlist) (k : Seen) (long : ℕ) → IsSeenAs n k → IsLengthOf l n long
+    → report_by o m nodes (length n.instances) (n.count - 2) delay long 0 ≡ report_of o m nodes delay k l (row_of k) 0
+report_same o m nodes delay l n k long seen measured =
     let cells : length k.instances ≡ length n.instances = ap (λ (x : Seen). length x.instances) seen.is ∙ length-map n.instances member_of in
     let nets : net_count k ≡ n.count - 2 = ap (λ (x : Seen). net_count x) seen.is in
-    ap (λ (a : ℕ). report_by o m nodes a (n.count - 2) long 0) (sym cells)
-    ∙ ap (λ (a : ℕ). report_by o m nodes (length k.instances) a long 0) (sym nets)
-    ∙ ap (λ (a : ℕ). report_by o m nodes (length k.instances) (net_count k) a 0) (measured k seen)
+    ap (λ (a : ℕ). report_by o m nodes a (n.count - 2) delay long 0) (sym cells)
+    ∙ ap (λ (a : ℕ). report_by o m nodes (length k.instances) a delay long 0) (sym nets)
+    ∙ ap (λ (a : ℕ). report_by o m nodes (length k.instances) (net_count k) delay a 0) (measured k seen)
 
-pub right_layout : RightIsWellFormed → RightDrawingsAreRight → DrawingCanBeWritten → WrittenIsReadAgain → AlikeRun → AlikeBothWays
-    → (l : Library) (o : Origin) (m : Machine) (n : Netlist) (f : Figure) (long nodes : ℕ) (report : List ℕ)
-    → IsDrawableIn l n → MayBeDrawn l o m n → IsDrawnInTracks l n f → IsLengthOf l n long → IsGreatestDcount m nodes
-    → report ≡ report_by o m nodes (length n.instances) (n.count - 2) long 0 → IsRightLayout (text_of f) o m l report
-right_layout well extracted written again runs back l o m n f long nodes report given h drawn measured counted reported =
+pub right_layout : RightIsWellFormed → RightDrawingsAreRight → DrawingCanBeWritten → WrittenIsReadAgain → AlikeRun → AlikeBothWays → DrivenIsGood
+    → (l : Library) (o : Origin) (m : Machine) (fanout : ℕ) (n : Netlist) (delay : ℕ) (f : Figure) (long nodes : ℕ) (report : List ℕ)
+    → IsDrawableIn l n → MayBeDrawn l o m fanout n delay → IsDrawnInTracks l n f → IsLengthOf l n long → IsGreatestDcount m nodes
+    → report ≡ report_by o m nodes (length n.instances) (n.count - 2) delay long 0 → IsRightLayout (text_of f) o m l fanout report
+right_layout well extracted written again runs back good l o m fanout n delay f long nodes report given h drawn measured counted reported =
     let right = h.netlist.right in
     let k = right.sourced.netlist in
     let p = row_of k in
@@ -144,9 +143,10 @@ right_layout well extracted written again runs back l o m n f long nodes report 
     let both = well n l h.o h.ordered right in
     let is_well = well_alike k l m h.o a both.0 in
     let agrees = agrees_alike k l m h.o a runs back h.checked.ordered h.ordered.ordered both.1 in
-    let instances = h.instances in
-    let ports = h.ports in
-    let fits = written l n f h.plain given h.named h.short (omega (arith, instances)) (omega (arith, ports)) drawn in
+    let is_good = good l h.o fanout n delay k h.plain h.ordered h.netlist right.seen in
+    let order = is_good.order p refl in
+    let ports = h.soon.ports in
+    let fits = written l n f h.plain given h.soon.named h.soon.short h.soon.few (omega (arith, ports)) drawn in
     record {
       figure = f;
       netlist = k;
@@ -159,9 +159,12 @@ right_layout well extracted written again runs back l o m n f long nodes report 
       by_states = by_states o k l m is_well h.checked.ordered agrees h.origin;
       lawful = drawn.lawful;
       is_placed = drawn.placed k right.seen;
-      in_order = order_alike k l m h.o a p (h.netlist.order k p right.seen refl);
-      lean = lean_by k m h.o h.optimised (h.netlist.lean k right.seen);
+      many_buffers = order.0;
+      in_order = order_alike k l m h.o a p order.0 order.1;
+      lean = lean_by k l m h.o fanout h.optimised is_good.lean (inputs_alike k l m h.o a (most_sinks fanout) is_good.inputs) is_good.buffers;
+      delay = delay;
+      driven = driven_alike k l m h.o a delay is_good.driven;
       nodes = nodes;
       counted = counted;
-      reported = reported ∙ report_same o m nodes l n k long right.seen measured;
+      reported = reported ∙ report_same o m nodes delay l n k long right.seen measured;
     }

@@ -14,7 +14,10 @@ use Rattle.machine_alike.proofs.Runs.{outputs_same, registers_same}
 use Rattle.machine_roots.specs.Expansion.{with_variables, held_count}
 use Rattle.boom_opt.specs.Optimised.{is_output, inner_size, behind_new, IsGivenOrSmaller, IsOptimised}
 use Rattle.net_meaning.specs.Netlist.{Netlist}
+use Rattle.cell_model.specs.Library.{Library}
 use Rattle.ocp_rows.specs.Order.{IsLean}
+use Rattle.loon_fanout.specs.Nets.{HasFewInputs, FitsWithoutBuffers, HasNoBuffer}
+use Rattle.loon_drive.specs.Driven.{most_sinks}
 use Rattle.flow_run.specs.Lean.{IsLeanBy}
 use Rattle.flow_run.proofs.Outputs.{is_no_output}
 
@@ -130,12 +133,19 @@ outer_less m o h =
     let held = registers_same m o a in
     omega (arith, shown, none, both, loaded, outs, held)
 
-pub lean_by : (k : Netlist) (m o : Machine) → IsOptimised m o → IsLean k o → IsLeanBy k m
-lean_by k m o h lean =
+pub lean_by : (k : Netlist) (l : Library) (m o : Machine) (fanout : ℕ) → IsOptimised m o → IsLean k o → HasFewInputs k l m (most_sinks fanout)
+    → (FitsWithoutBuffers k l (most_sinks fanout) → HasNoBuffer k) → IsLeanBy k l m fanout
+lean_by k l m o fanout h lean inputs buffers =
     let gates = lean.gates in
     let of_m = two_parts m in
     let of_o = two_parts o in
     let outer = outer_less m o h in
     let size = h.small.size in
     let inner = h.small.inner in
-    record { dags = h.small.dags; each = h.small.each; gates = omega (arith, gates, of_m, of_o, outer, size, inner) }
+    record {
+      dags = h.small.dags;
+      each = h.small.each;
+      gates = omega (arith, gates, of_m, of_o, outer, size, inner);
+      inputs = inputs;
+      buffers = buffers;
+    }

@@ -1,11 +1,13 @@
 pub mod Judging
 pub mod NeverRefused
+pub mod Netlists
 pub mod Refusing
 pub mod Alike
 pub mod Outputs
 pub mod Fewer
 pub mod States
 pub mod Drawing
+pub mod SameText
 pub mod Lines
 pub mod Standing
 pub mod Rows

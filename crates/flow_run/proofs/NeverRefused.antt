@@ -37,7 +37,7 @@ none_first m budget name within f =
     All-In (λ (r : Root). IsOverBudget m budget r → ⊥) (f.before ++ f.root ∷ f.after) all f.root (In-right f.root f.before (f.root ∷ f.after) here) f.over
 
 -- where each of these kinds has a cell, none is missing
-none_missing : (cells : List Cell) (k : Kind) (kinds : List Kind) → ((j : Kind) → In j kinds → HasCellOf cells j) → IsFirstMissing cells k kinds → ⊥
+pub none_missing : (cells : List Cell) (k : Kind) (kinds : List Kind) → ((j : Kind) → In j kinds → HasCellOf cells j) → IsFirstMissing cells k kinds → ⊥
 none_missing cells k _ each (first lacks) = lacks (each k here)
 none_missing cells k _ each (later {ks = kinds} has rest) = none_missing cells k kinds (λ j i. each j (there i)) rest
 

@@ -7,7 +7,6 @@ use Rattle.vlsi_shelf.specs.Counts.{Rose, NoneFalls}
 use Rattle.vlsi_shelf.specs.Shelf.{Writes, SameBut}
 use Rattle.vlsi_shelf.specs.Sink.{Puts}
 use Rattle.machine_meaning.specs.Machine.{Machine}
-use Rattle.machine_alike.specs.Alike.{IsAlike}
 use Rattle.vbe_io.specs.Text.{IsVbe}
 use Rattle.catal.specs.Cells.{cells_in}
 use Rattle.cell_model.specs.Library.{Library}
@@ -15,8 +14,6 @@ use Rattle.cell_lib.specs.declared.error.LibError.{LibError}
 use Rattle.cell_lib.specs.Files.{catal_name, cell_files, library_plan}
 use Rattle.cell_lib.specs.Library.{IsLibraryOf, IsRefusedLibrary, status_of}
 use Rattle.boog_map.specs.Netlist.{Covers}
-use Rattle.net_meaning.specs.Well.{IsWell}
-use Rattle.net_meaning.specs.Agreement.{Agrees}
 use Rattle.gen_circuit.specs.Generated.{generated}
 use Rattle.gen_circuit.specs.Written.{text}
 use Rattle.gen_circuit.specs.declared.making.TheConstants.{LEAST_SIZE, MOST_SIZE}
@@ -28,6 +25,7 @@ use Rattle.tool_drive.specs.Outside.{Outside, IsUntouched, NothingFailed}
 use Rattle.tool_drive.specs.Held.{Holds, AreHad}
 use Rattle.tool_drive.specs.Plan.{long, reading}
 use Rattle.tool_drive.specs.Table.{file_limit, Caused, IsComplete}
+use Rattle.flow_run.specs.Origin.{equations}
 use Rattle.flow_run.specs.Flow.{flow_plan, flow_answers, IsWithinNodes, IsRefused}
 use Rattle.flow_run.specs.Causes.{IsDrawn}
 
@@ -73,16 +71,13 @@ pub data IsRun (c : GenCommand) (before now : Outside) (s : Status) : Type 0 whe
 abbrev pub with_source : Files → GenCommand → Files
 with_source files c = insert files c.flow.source (circuit_text c)
 
--- NAME.vbe holds a text of exactly this circuit. NAME.ap is a right layout, by the library that stood there, of a machine of this text,
--- which leaves the order of equations open; the report is that on it; and the netlist of the layout is well formed for exactly this
--- circuit, and behaves as it. Every other file is as it was.
+-- NAME.vbe holds a text of exactly this circuit. NAME.ap is a right layout, by the library that stood there, of exactly this circuit, and
+-- the report is that on it. Every other file is as it was.
 pub record IsGenerated (old : Files) (now : Option Files) (c : GenCommand) (report : List ℕ) : Type 0 where
   pub itself : IsVbe (circuit_text c) (circuit_of c)
   pub drawn : IsDrawn (with_source old c) now c.flow report
-  pub said : IsVbe (circuit_text c) drawn.m
-  pub alike : IsAlike (circuit_of c) drawn.m
-  pub well : IsWell drawn.right.netlist drawn.l (circuit_of c)
-  pub agrees : Agrees drawn.right.netlist drawn.l (circuit_of c)
+  pub source : drawn.o ≡ equations
+  pub circuit : drawn.m ≡ circuit_of c
   pub stands : IfSome now (λ files. get files c.flow.source ≡ Some (circuit_text c))
 
 -- exactly the report was printed, and source and layout stand whole

@@ -14,6 +14,7 @@ ghost use Rattle.tool_drive.specs.Refusals.{MemoryOr};
 ghost use Rattle.tool_drive.specs.Table.{IsJudged, Caused, IsComplete};
 ghost use Rattle.flow_run.specs.Origin.{is_fsm as is_state_machine, IsSourceFor, IsSourceRefusal};
 ghost use Rattle.flow_run.specs.View.{origin_view};
+ghost use Rattle.boog_run.specs.declared.netlist.TheConstants.{MOST_SIZE};
 ghost use Rattle.flow_run.specs.Flow.{flow_plan, flow_answers, IsSourceOf, AreRead, IsNoSource, IsUnread, LaysOut};
 ghost use Rattle.flow_run.specs.Mapped.{IsMissingIn, IsMappedFor};
 
@@ -174,6 +175,8 @@ fn netlist_within(
 ) -> Result<Mapped, Status>
     requires ports { length machine.now.ports ≤ most_ports }
     requires arcs { HaveTheirArcs library.now }
+    requires small { machine_size machine.now ≤ MOST_SIZE }
+    requires covered { Covers library.now machine.now }
     requires few { length machine.now.vars + length machine.now.ports + machine_size machine.now < 2 ^ 32 - 1 }
     ensures mapped { IfOk result (λ p. IsMappedFor library.now machine.now command.now.nodes command.now.fanout
         p.driven.netlist p.driven.delay p.nodes) }
@@ -190,7 +193,7 @@ fn netlist_within(
             nodes: made.nodes,
             driven,
         }),
-        Err(_) => Err(Status::Memory),
+        Err(status) => Err(status),
     }
 }
 

@@ -113,13 +113,12 @@ pub fn alliance_main<S: Shelf, T: Sink>(
     ensures run { IfSome (gen_of words.now) (λ c. IsRun c
         (outside (S.seen shelf.old) (T.seen out.old)) (outside (S.seen shelf.new) (T.seen out.new)) result) }
 
-    // Where it answers 0, NAME.vbe is a text of exactly this circuit, NAME.ap is a right layout of what this text is, whose netlist
-    // behaves as exactly this circuit, and the report on it was printed.
+    // Where it answers 0, NAME.vbe is a text of exactly this circuit, NAME.ap is a right layout of exactly this circuit, and the report
+    // on it was printed.
     ensures generated { IfSome (gen_of words.now) (λ c. result ≡ Status.Accepted
         → IsGenHeadline c (outside (S.seen shelf.old) (T.seen out.old)) (outside (S.seen shelf.new) (T.seen out.new))) }
 
-    // Over told files, whatever the library is, the source is never refused: status 2 never comes, and 9 for a file of the library
-    // alone.
+    // Over told files, whatever the library is, status 2 never comes, and 9 comes for a file of the library alone.
     ensures spared { IfSome (gen_of words.now) (λ c. IsSourceSpared c (outside (S.seen shelf.old) (T.seen out.old)) result) }
 
     // Where all files of the library are there, and are one that covers it, no diagram is over the budget, and no call failed, it

@@ -11,6 +11,7 @@ pub netlist_within-mapped-requires : goal.netlist_within-mapped-requires
 netlist_within-mapped-requires c = record {
   ports = (source_declared c.netlist_law.ensures.declared c.encoded_law.ensures.declared c.args.command.now c.args.source.now
       (origin_view c.in-Ok.read.source.origin) c.in-Ok.read.source.machine c.in-Ok.ensures.read.machine).few_ports;
+  arcs = c.loon_law.ensures.arcs true c.args.catal.now c.args.cells.now c.in-Ok.read.library c.in-Ok.ensures.read.library;
   few = few_names c.source_has_few_names.ensures c.args.command.now c.args.source.now c.args.catal.now c.args.cells.now
       (origin_view c.in-Ok.read.source.origin) c.in-Ok.read.source.machine c.in-Ok.read.library c.in-Ok.ensures.read;
 }
@@ -18,8 +19,8 @@ netlist_within-mapped-requires c = record {
 pub product-requires-clause-netlist : goal.product-requires-clause-netlist
 product-requires-clause-netlist c =
     may_be_drawn c.library_law.ensures.passes c.library_law.ensures.plain c.netlist_law.ensures.declared c.encoded_law.ensures.declared
-    c.netlist_law.ensures.writable c.netlist_law.ensures.small c.netlist_law.ensures.short c.args.command.now c.args.source.now c.args.catal.now c.args.cells.now
-    (origin_view c.in-Ok.read.source.origin) c.in-Ok.read.source.machine c.in-Ok.read.library c.in-Ok-mapped.mapped.netlist
+    c.driven_netlist_law.ensures.drawable c.args.command.now c.args.source.now c.args.catal.now c.args.cells.now
+    (origin_view c.in-Ok.read.source.origin) c.in-Ok.read.source.machine c.in-Ok.read.library c.in-Ok-mapped.mapped.driven.netlist c.in-Ok-mapped.mapped.driven.delay
     c.in-Ok-mapped.mapped.nodes c.in-Ok.ensures.read c.in-Ok-mapped.ensures.mapped
 
 pub returns-in-Err : goal.returns-in-Err
