@@ -33,7 +33,7 @@ meaning_at m ordered j x at = ap (name_of (expansions m)) (place_of_equation m o
 expansion_of_named : (m : Machine) → IsOrdered m → (n : Name) → In n (equation_names m) → expansion m (expression_of m.equations n) ≡ meaning m n
 expansion_of_named m ordered n i =
     let p = has_place m.equations n i in
-    ap (expansion m) (expression_is m ordered n p) ∙ sym (meaning_at m ordered p.number p.equation p.at) ∙ ap (meaning m) p.named
+    ap (expansion m) (expression_is m ordered n p) ∙ sym (meaning_at m ordered p.number p.equation p.at) ∙ ap (meaning m) p.name_is
 
 abbrev inputs_of : Option Name → List Port → List Name
 inputs_of clock ports = filter (λ name. not (is_clock clock name)) (names_of (filter (λ p. is_input p.dir) ports))
@@ -64,31 +64,35 @@ module _ (m k : Machine) (one : AreOfOne m k) where
   equation_means : (j : ℕ) (x : Equation) → slice_get m.equations j ≡ Some x → MeanTheSameBelow (held_count m + j) → meaning m x.name ≡ meaning k x.name
   equation_means j x at below =
       let bits : List Definition = one.driven in
-      let d = In-map_back (equation_over m.vars) x bits (In-permutation m.equations (map (equation_over m.vars) bits) x one.equations (in_at m.equations j x at)) in
+      let listed : In x (map (equation_over m.vars) bits) =
+      In-permutation m.equations (map (equation_over m.vars) bits) x one.equations (in_at m.equations j x at) in
+      let d = In-map_back (equation_over m.vars) x bits listed in
       let other : Equation = equation_over k.vars d.0 in
-      let there = stands_at k.equations other
-      (In-permutation (map (equation_over k.vars) bits) k.equations other (IsPermutation-sym k.equations (map (equation_over k.vars) bits) one.other_equations)
-      (In-map (equation_over k.vars) d.0 bits d.1)) in
+      let found = stands_at k.equations other
+      (In-permutation (map (equation_over k.vars) bits) k.equations other
+      (IsPermutation-sym k.equations (map (equation_over k.vars) bits) one.other_equations) (In-map (equation_over k.vars) d.0 bits d.1)) in
       let over : IsOver (numbered m.vars d.0.formula) (held_count m + j) =
       subst (λ (y : Equation). IsOver y.expr (held_count m + j)) (sym d.2) (equation_below m.equations (held_count m) j x one.first.ordered.below at) in
       let put : expansion m (numbered m.vars d.0.formula) ≡ expansion k (numbered k.vars d.0.formula) =
       same_put m.vars k.vars (name_of (expansions m)) (name_of (expansions k)) (held_count m + j) d.0.formula over below in
       meaning_at m one.first.ordered j x at ∙ ap (λ (y : Equation). expansion m y.expr) (sym d.2) ∙ put
-      ∙ sym (meaning_at k one.second.ordered there.0 other there.1) ∙ ap (λ (y : Equation). meaning k y.name) d.2
+      ∙ sym (meaning_at k one.second.ordered found.0 other found.1) ∙ ap (λ (y : Equation). meaning k y.name) d.2
 
   -- by induction along the first machine's numbers, all names mean the same
   all_mean : (b : ℕ) → b ≤ length m.vars → MeanTheSameBelow b
   all_mean zero within n low = absurd (omega (arith, low))
   all_mean (suc b) within n low =
       by (all_mean b (omega (arith, within)))
-      (In-split n (held_names m) (equation_names m) (subst (λ (ns : List Name). In n ns) one.first.ordered.vars (place_In m.vars n (omega (arith, low, within)))))
+      (In-split n (held_names m) (equation_names m)
+      (subst (λ (ns : List Name). In n ns) one.first.ordered.vars (place_In m.vars n (omega (arith, low, within)))))
     where
       by : MeanTheSameBelow b → In n (held_names m) ⊎ In n (equation_names m) → meaning m n ≡ meaning k n
       by below (inl i) = held_means n i
       by below (inr i) =
           let p = has_place m.equations n i in
-          let at : place m.vars n ≡ held_count m + p.number = ap (place m.vars) (sym p.named) ∙ place_of_equation m one.first.ordered p.number p.equation p.at in
-          subst (λ (y : Name). meaning m y ≡ meaning k y) p.named
+          let at : place m.vars n ≡ held_count m + p.number =
+          ap (place m.vars) (sym p.name_is) ∙ place_of_equation m one.first.ordered p.number p.equation p.at in
+          subst (λ (y : Name). meaning m y ≡ meaning k y) p.name_is
           (equation_means p.number p.equation p.at (λ y less. below y (omega (arith, less, at, low))))
 
   -- a formula over each machine's numbers has one expansion

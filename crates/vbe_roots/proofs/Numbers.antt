@@ -30,13 +30,13 @@ pub record HasPlace (es : List Equation) (n : Name) : Type 0 where
   pub equation : Equation
   pub number : ℕ
   pub at : slice_get es number ≡ Some equation
-  pub named : equation.name ≡ n
+  pub name_is : equation.name ≡ n
 
 pub has_place : (es : List Equation) (n : Name) → In n (map (λ (e : Equation). e.name) es) → HasPlace es n
 has_place es n h =
     let found = In-map_back (λ (e : Equation). e.name) n es h in
     let at = stands_at es found.0 found.1 in
-    record { equation = found.0; number = at.0; at = at.1; named = found.2 }
+    record { equation = found.0; number = at.0; at = at.1; name_is = found.2 }
 
 abbrev names : List Equation → List Name
 names es = map (λ e. e.name) es
@@ -66,7 +66,8 @@ place_behind (f ∷ front) es j x different at =
     ∙ omega (arith, rest)
 
 -- an equation's name has its place behind the inputs and registers
-pub place_of_equation : (m : Machine) → IsOrdered m → (j : ℕ) (x : Equation) → slice_get m.equations j ≡ Some x → place m.vars x.name ≡ held_count m + j
+pub place_of_equation : (m : Machine) → IsOrdered m → (j : ℕ) (x : Equation) → slice_get m.equations j ≡ Some x
+    → place m.vars x.name ≡ held_count m + j
 place_of_equation m ordered j x at =
     ap (λ (ns : List Name). place ns x.name) ordered.vars
     ∙ place_behind (held_names m) m.equations j x (subst AllDifferent ordered.vars ordered.different) at
@@ -101,7 +102,7 @@ says_at (e ∷ es) (suc j) x different at =
 pub expression_is : (m : Machine) → IsOrdered m → (n : Name) (p : HasPlace m.equations n) → expression_of m.equations n ≡ p.equation.expr
 expression_is m ordered n p =
     let apart : AllDifferent (equation_names m) = different_behind (held_names m) (equation_names m) (subst AllDifferent ordered.vars ordered.different) in
-    ap (expression_of m.equations) (sym p.named) ∙ says_at m.equations p.number p.equation apart p.at
+    ap (expression_of m.equations) (sym p.name_is) ∙ says_at m.equations p.number p.equation apart p.at
 
 -- ---- formulas over two lists of names
 

@@ -58,11 +58,12 @@ storage_seen known (Some text) (statement.Block a) (statement.Block b) e =
     ap (λ (g : Tree). stored (enable_of known text g) (in_assignments (assignment_definitions known) a.assignments)) guards
     ∙ ap (λ (ds : List Definition). stored (enable_of known text (view b.guard)) ds) all
 
-in_source : {K A : Type 0} (key : DesignFile → K) (look : K → Statement → List A) → SeenBy source_view key → ((k : K) → SeenBy statement_view (look k))
-    → SeenBy source_view (λ design. in_statements (look (key design)) design.statements)
+in_source : {K A : Type 0} (key : DesignFile → K) (look : K → Statement → List A) → SeenBy source_view key
+    → ((k : K) → SeenBy statement_view (look k)) → SeenBy source_view (λ design. in_statements (look (key design)) design.statements)
 in_source key look keyed seen a b e =
     ap (λ k. in_statements (look k) a.statements) (keyed a b e)
-    ∙ of_each statement_view (λ s xs. look (key b) s ++ xs) (in_statements (look (key b))) (λ s rest. refl) (λ s t same. ap (λ found. λ xs. found ++ xs) (seen (key b) s t same))
+    ∙ of_each statement_view (λ s xs. look (key b) s ++ xs) (in_statements (look (key b))) (λ s rest. refl)
+    (λ s t same. ap (λ found. λ xs. found ++ xs) (seen (key b) s t same))
     a.statements b.statements (ap (λ (t : SourceTree). t.statements) e)
 
 definitions_alike : SeenBy source_view definitions
@@ -95,7 +96,8 @@ kept_names : (vars : List Name) (rs : List Storage) → map (λ (r : Register). 
 kept_names vars [] = refl
 kept_names vars (r ∷ rs) = ap (λ (ns : List Name). r.name ∷ ns) (kept_names vars rs)
 
-kept_order : (m : Machine) (rs : List Storage) → m.registers ≡ map (register_over m.vars) rs → AreInOrder (register_names m) → AreInOrder (map (λ (r : Storage). r.name) rs)
+kept_order : (m : Machine) (rs : List Storage) → m.registers ≡ map (register_over m.vars) rs → AreInOrder (register_names m)
+    → AreInOrder (map (λ (r : Storage). r.name) rs)
 kept_order m rs is order = subst AreInOrder (ap (map (λ (r : Register). r.name)) is ∙ kept_names m.vars rs) order
 
 pub of_one : MachinesHaveTheSameParts → (bytes : List ℕ) (m k : Machine) → IsVbe bytes m → IsVbe bytes k → AreOfOne m k
@@ -116,7 +118,8 @@ of_one parts bytes m k is of =
       driven = definitions is.design;
       equations = is.machine.equations;
       other_equations =
-          subst (λ (ds : List Definition). IsPermutation k.equations (map (equation_over k.vars) ds)) (definitions_alike of.design is.design same) of.machine.equations;
+          subst (λ (ds : List Definition). IsPermutation k.equations (map (equation_over k.vars) ds)) (definitions_alike of.design is.design same)
+          of.machine.equations;
       kept = p.items;
       registers = p.is;
       other_registers = q.is ∙ ap (map (register_over k.vars)) one;

@@ -43,7 +43,8 @@ abbrev output_root : Machine → Name → Root
 output_root m n = record { name = n; expr = expression_of m.equations n }
 
 module _ (m k : Machine) (one : AreOfOne m k) where
-  output_roots : (ns : List Name) → ((n : Name) → In n ns → In n (outputs m)) → AllZip (HaveOneExpansion m k) (map (output_root m) ns) (map (output_root k) ns)
+  output_roots : (ns : List Name) → ((n : Name) → In n ns → In n (outputs m))
+      → AllZip (HaveOneExpansion m k) (map (output_root m) ns) (map (output_root k) ns)
   output_roots [] inside = tt
   output_roots (n ∷ ns) inside = ((refl, output_means m k one n (inside n here)), output_roots ns (λ x i. inside x (there i)))
 
@@ -65,12 +66,13 @@ module _ (m k : Machine) (one : AreOfOne m k) where
 
   pub same_roots : AllZip (HaveOneExpansion m k) (roots m) (roots k)
   same_roots =
-      zip_append (HaveOneExpansion m k) (map (output_root m) (outputs m)) (register_roots m.registers) (map (output_root k) (outputs k)) (register_roots k.registers)
+      zip_append (HaveOneExpansion m k) (map (output_root m) (outputs m)) (register_roots m.registers) (map (output_root k) (outputs k))
+      (register_roots k.registers)
       (subst (λ (ns : List Name). AllZip (HaveOneExpansion m k) (map (output_root m) (outputs m)) (map (output_root k) ns)) (outputs_same m k one)
       (output_roots (outputs m) (λ n i. i)))
       (subst (λ (rs : List Register). AllZip (HaveOneExpansion m k) (register_roots rs) (register_roots k.registers)) (sym one.registers)
-      (subst (λ (rs : List Register). AllZip (HaveOneExpansion m k) (register_roots (map (register_over m.vars) one.kept)) (register_roots rs)) (sym one.other_registers)
-      (loaded_roots one.kept (λ s i. i))))
+      (subst (λ (rs : List Register). AllZip (HaveOneExpansion m k) (register_roots (map (register_over m.vars) one.kept)) (register_roots rs))
+      (sym one.other_registers) (loaded_roots one.kept (λ s i. i))))
 
   -- ---- their diagrams are those of the expansions
 

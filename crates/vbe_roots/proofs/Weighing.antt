@@ -46,7 +46,8 @@ bits_weigh names vars (d ∷ ds) =
     ∙ ap (λ (n : ℕ). cond (is_among names d.name) 0 n + sum_by (inner_equation names) (map (equation_over vars) ds)) (same_size vars [] d.formula)
     ∙ ap (λ (n : ℕ). inner_bit names d + n) (bits_weigh names vars ds) ∙ sym (sum_by-cons (inner_bit names) d ds)
 
-inner_weighs : (m : Machine) (ds : List Definition) → IsPermutation m.equations (map (equation_over m.vars) ds) → inner_size m ≡ sum_by (inner_bit (outputs m)) ds
+inner_weighs : (m : Machine) (ds : List Definition) → IsPermutation m.equations (map (equation_over m.vars) ds)
+    → inner_size m ≡ sum_by (inner_bit (outputs m)) ds
 inner_weighs m ds is =
     sym (sum_by-IsPermutation (inner_equation (outputs m)) m.equations (map (equation_over m.vars) ds) is) ∙ bits_weigh (outputs m) m.vars ds
 
