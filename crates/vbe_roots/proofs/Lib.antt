@@ -1,0 +1,6 @@
+mod Readings
+mod Numbers
+mod Meanings
+mod Rooting
+mod Weighing
+mod Same
