@@ -25,6 +25,8 @@ use Rattle.cell_lib.specs.Library.{bad_cell, IsLibraryOf}
 use Rattle.lib_same.specs.Law.{LibraryIsNeverRefused, LibrariesCoverTheSame}
 use Rattle.boog_map.specs.Netlist.{Covers}
 use Rattle.vbe_io.specs.Text.{IsVbe}
+use Rattle.vbe_same.specs.Law.{MachinesWeighTheSame}
+use Rattle.vbe_roots.specs.Law.{MachinesHaveTheSameDags, MachinesCountTheSame, InnerSignalsWeighTheSame}
 use Rattle.gen_circuit.specs.Laws.{CircuitsAreChecked}
 use Rattle.gen_circuit.specs.Written.{IsReadAgain, CircuitsCanBeWritten, CircuitsAreReadAgain}
 use Rattle.tool_words.specs.declared.command.FlowCommand.{FlowCommand}
@@ -43,9 +45,10 @@ use Rattle.flow_run.specs.Origin.{Origin, equations, states, is_fsm, IsOf, IsSou
 use Rattle.flow_run.specs.Flow.{flow_plan, flow_answers, IsNoSource, no_list, no_text, over_size, no_source, no_cell, unread, uncovered, over_budget}
 use Rattle.flow_run.specs.Causes.{Stand, IsDrawn}
 use Rattle.flow_run.specs.Drawn.{layout_name}
+use Rattle.flow_run.specs.RightLayout.{IsRightLayout}
 use Rattle.flow_run.specs.Laws.{WhatIsReadIsNeverRefused}
 use Rattle.flow_run.specs.Generated.{IsFitting, circuit_of, circuit_text, IsUnwritten, IsWritten, unwritten, laid, with_source, IsGenerated, IsGenFree, CircuitsAreNeverRefused, RunsHaveHeadlines, FreeRunsEnd}
-use Rattle.flow_run.proofs.Alike.{well_alike, agrees_alike}
+use Rattle.flow_run.proofs.SameText.{right_same}
 use Rattle.flow_run.proofs.Netlists.{covers_alike}
 use Rattle.flow_run.proofs.Rows.{headline_of}
 use Rattle.flow_run.proofs.Standing.{reads}
@@ -133,22 +136,45 @@ module _ (again : CircuitsAreReadAgain) (lists : NeverBothLists) (never : WhatIs
 pub held_same : (files : Files) (name bytes other : List ℕ) → Holds (insert files name bytes) name other → other ≡ bytes
 held_same files name bytes other h = cc (sym h.is ∙ written_here files name bytes)
 
-module _ (again : CircuitsAreReadAgain) (checked : CircuitsAreChecked) (runs : AlikeRun) (both : AlikeBothWays) where
+module _ (again : CircuitsAreReadAgain) (checked : CircuitsAreChecked) (runs : AlikeRun) (both : AlikeBothWays) (weights : MachinesWeighTheSame)
+    (dags : MachinesHaveTheSameDags) (counts : MachinesCountTheSame) (inner : InnerSignalsWeighTheSame) where
+  -- the circuit is read of its own text too, and what is right for the machine that was read is right for it
   generated : (c : GenCommand) → IsFitting c → (old : Files) (now : Option Files) (report : List ℕ) → IsDrawn (with_source old c) now c.flow report → IsGenerated old now c report
   generated c fit old now report d =
-      let same : d.source ≡ circuit_text c = held_same old c.flow.source (circuit_text c) d.source d.stood.source_is in
-      let said : IsVbe (circuit_text c) d.m = subst (λ (s : List ℕ). IsVbe s d.m) same (source_read c fit d.source d.o d.m d.read.machine).1 in
-      let alike : IsAlike (circuit_of c) d.m = (fits again c fit).alike d.m said in
-      let n = d.right.netlist in
+      let k = circuit_of c in
+      let text = circuit_text c in
+      let again_read = fits again c fit in
+      let itself : IsVbe text k = again_read.itself in
+      let same : d.source ≡ text = held_same old c.flow.source text d.source d.stood.source_is in
+      let read = source_read c fit d.source d.o d.m d.read.machine in
+      let said : IsVbe text d.m = subst (λ (s : List ℕ). IsVbe s d.m) same read.1 in
+      let light = again_read.light k itself in
       record {
-        itself = (fits again c fit).itself;
-        drawn = d;
-        said = said;
-        alike = alike;
-        well = well_alike n d.l (circuit_of c) d.m alike d.right.well;
-        agrees = agrees_alike n d.l (circuit_of c) d.m alike runs both (checked c.flow.seed c.size fit.least fit.most).ordered said.machine.checked.ordered d.right.agrees;
-        stands = subst (λ (o : Option Files). IfSome o (λ files. get files c.flow.source ≡ Some (circuit_text c))) (sym d.written)
-            (written_apart (with_source old c) c.flow.source d.bytes (layout_name c.flow.out) (apart c fit) ∙ written_here old c.flow.source (circuit_text c));
+        itself = itself;
+        drawn = record {
+          source = d.source;
+          catal = d.catal;
+          cells = d.cells;
+          stood = d.stood;
+          o = equations;
+          m = k;
+          l = d.l;
+          read = record {
+            machine = subst (λ (b : Bool). IsOf b c.flow d.source equations k) (sym (is_text c fit)) (subst (λ (s : List ℕ). IsVbe s k) (sym same) itself);
+            small = omega (arith, light);
+            library = d.read.library;
+          };
+          bytes = d.bytes;
+          written = d.written;
+          right = right_same d.l k d.m (again_read.alike d.m said) (weights text d.m k said itself) (inner text d.m k said itself)
+              (dags text d.m k said itself) (counts text d.m k said itself) runs both (checked c.flow.seed c.size fit.least fit.most).ordered
+              said.machine.checked.ordered d.bytes c.flow.fanout report
+              (subst (λ (o : Origin). IsRightLayout d.bytes o d.m d.l c.flow.fanout report) read.0 d.right);
+        };
+        source = refl;
+        circuit = refl;
+        stands = subst (λ (o : Option Files). IfSome o (λ files. get files c.flow.source ≡ Some text)) (sym d.written)
+            (written_apart (with_source old c) c.flow.source d.bytes (layout_name c.flow.out) (apart c fit) ∙ written_here old c.flow.source text);
       }
 
   stands_whole : (c : GenCommand) → IsFitting c → (before mid now : Option Files) (report : List ℕ) → Writes before mid c.flow.source (circuit_text c)

@@ -20,6 +20,8 @@ use machine_alike::alike_law;
 use std::alloc::{AllocError, Global};
 use tool_drive::{FileCause, Status, tell};
 use tool_words::GenCommand;
+use vbe_roots::roots_are_the_same;
+use vbe_same::machines_are_the_same;
 use vbe_write::write_vbe_by;
 use vlsi_base::FileBytes;
 use vlsi_shelf::{Shelf, ShelfError, Sink};
@@ -48,6 +50,8 @@ pub fn gen_law()
     circuits_can_be_written();
     circuits_are_read_again();
     alike_law();
+    machines_are_the_same();
+    roots_are_the_same();
 }
 
 // The text of the circuit that is asked for.

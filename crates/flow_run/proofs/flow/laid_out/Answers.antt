@@ -11,6 +11,8 @@ pub netlist_within-mapped-requires : goal.netlist_within-mapped-requires
 netlist_within-mapped-requires c = record {
   ports = (source_declared c.netlist_law.ensures.declared c.encoded_law.ensures.declared c.args.command.now c.args.source.now
       (origin_view c.in-Ok.read.source.origin) c.in-Ok.read.source.machine c.in-Ok.ensures.read.machine).few_ports;
+  small = c.in-Ok.ensures.read.small;
+  covered = c.in-Ok-check_kinds.ensures.covered;
   arcs = c.loon_law.ensures.arcs true c.args.catal.now c.args.cells.now c.in-Ok.read.library c.in-Ok.ensures.read.library;
   few = few_names c.source_has_few_names.ensures c.args.command.now c.args.source.now c.args.catal.now c.args.cells.now
       (origin_view c.in-Ok.read.source.origin) c.in-Ok.read.source.machine c.in-Ok.read.library c.in-Ok.ensures.read;
