@@ -105,7 +105,7 @@ supply_keeps name apart ps =
 pub cell_signals : (c : Cell) → IsFormed c → length (pin_ports c) ≤ length (filter is_signal (names_of (all_ports c)))
 cell_signals c formed =
     let a = all_kept (λ (p : Port). is_signal p.name) (pin_ports c) (λ p i.
-        let no = formed.signals p.name (In-map (λ (q : Port). q.name) p (pin_ports c) i) in signal_of p.name no.0 no.1) in
+    let no = formed.signals p.name (In-map (λ (q : Port). q.name) p (pin_ports c) i) in signal_of p.name no.0 no.1) in
     let b = supply_keeps vdd no_vdd_of (pin_ports c) in
     let d = supply_keeps vss no_vss_of (with_supply vdd (pin_ports c)) in
     let e = by_names is_signal (all_ports c) in
