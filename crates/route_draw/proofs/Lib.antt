@@ -5,5 +5,6 @@ pub mod Joins
 pub mod Drawing
 pub mod Counts
 pub mod Goods
+pub mod Pins
 pub mod Spread
 pub mod Written

@@ -1,9 +1,9 @@
 -- Where the cells of a row and their pins lie, and how many lines the pins have.
-use Rattle.std.proofs.Common.{◌≡◌, ◌⊎◌, inl, inr, ℕ, suc, ◌+◌, ◌*◌, ◌≤◌, Bool, true, false, not, cond, List, [], ◌∷◌, filter, length, Option, None, Some, refl, sym, ap, subst, ◌∙◌, arith, length-append}
-use Rattle.std.specs.Prelude.{ℤ, pos, ◌+ℤ◌, ◌-ℤ◌, ◌≤ℤ◌, flat_map, slice_get}
+use Rattle.std.proofs.Common.{◌≡◌, ◌⊎◌, inl, inr, ℕ, suc, ◌+◌, ◌*◌, ◌≤◌, Bool, true, false, cond, List, [], ◌∷◌, length, Option, None, Some, refl, sym, ap, subst, ◌∙◌, arith, length-append}
+use Rattle.std.specs.Prelude.{ℤ, pos, ◌+ℤ◌, ◌-ℤ◌, ◌≤ℤ◌, flat_map, slice_get, sum_by}
 use Rattle.std.proofs.lemmas.Int.{ints}
 use Rattle.std.proofs.lemmas.List.{length-map}
-use Rattle.std.proofs.lemmas.List.Filters.{length-filter_both}
+use Rattle.std.proofs.lemmas.List.Sums.{sum_by-cons}
 use Rattle.vlsi_base.specs.declared.name.Name.{Name}
 use Rattle.vlsi_base.specs.declared.name.Port.{Port}
 use Rattle.vlsi_base.specs.Member.{In, here, there}
@@ -11,9 +11,9 @@ use Rattle.sym_geom.specs.declared.rect.Rect.{Rect}
 use Rattle.sym_geom.specs.declared.rect.Transform.{Transform}
 use Rattle.sym_geom.specs.declared.item.Instance.{Instance}
 use Rattle.sym_geom.specs.declared.item.Item.{Item}
-use Rattle.machine_meaning.specs.Machine.{is_input, names_of}
+use Rattle.machine_meaning.specs.Machine.{names_of}
 use Rattle.sym_shapes.specs.Shape.{Shape, drawn}
-use Rattle.cell_model.specs.Cell.{Function, gate, flip_flop, other, opaque, Cell, pin_ports, cell_inputs, cell_outputs, cell_width}
+use Rattle.cell_model.specs.Cell.{Function, gate, flip_flop, other, opaque, Cell, pin_ports, cell_outputs, cell_width}
 use Rattle.cell_model.specs.Library.{Library, cell_of, IsPlain, IsUsable}
 use Rattle.cell_model.specs.Access.{Point, access_point, count_to}
 use Rattle.cell_model.proofs.Members.{In-split}
@@ -25,6 +25,7 @@ use Rattle.net_drawing.proofs.Access.{reached}
 use Rattle.net_drawing.proofs.Coding.{In_get}
 use Rattle.net_drawing.proofs.Ranges.{flat_all}
 use Rattle.ocp_place.specs.Nets.{driven, driven_by}
+use Rattle.route_draw.proofs.Pins.{cell_pins, signal_pins}
 use Rattle.route_draw.proofs.Counts.{summed, summed_least, summed_both, summed_none, summed_ones, only_at, only_once, flat_long, flat_sum}
 
 -- the cell of an instance, at most 32 columns wide
@@ -98,14 +99,14 @@ pub record IsPinPoint (q : Point) : Type 0 where
   pub x : ℕ
   pub y : ℕ
   pub is : q ≡ (pos x, pos y)
-  pub near : x ≤ 600000000
+  pub near : x ≤ 1100000000
   pub low : y ≤ 5000
 
 kept : {A : Type 0} (t : Bool) (xs : List A) (y : A) → In y (cond t xs []) → In y xs
 kept true xs y i = i
 kept false xs y i = elim i [ ]
 
-own_pin : {A : Type 0} (P : A → Type 0) (n : Netlist) (net : Numbering) (k : ℕ) (g : Point → List A) (l : Library) (one : Member) (m : IsModelOf l one) (b : ℕ) → b ≤ 530000000
+own_pin : {A : Type 0} (P : A → Type 0) (n : Netlist) (net : Numbering) (k : ℕ) (g : Point → List A) (l : Library) (one : Member) (m : IsModelOf l one) (b : ℕ) → b ≤ 1060000000
     → ((q : Point) → IsPinPoint q → (y : A) → In y (g q) → P y) → (owner : List ℕ) (pin : Name) → In pin (names_of (pin_ports m.cell))
     → (y : A) → In y (of_pin n net k g (pos b) owner m.cell pin) → P y
 own_pin P n net k g l one m b near ok owner pin listed y i =
@@ -126,7 +127,7 @@ own_pin P n net k g l one m b near ok owner pin listed y i =
 
 -- what holds of all that points of pins give
 pub pins_all : {A : Type 0} (P : A → Type 0) (n : Netlist) (l : Library) (net : Numbering) (k : ℕ) (g : Point → List A)
-    → ((one : Member) → In one n.instances → IsModelOf l one) → length n.instances ≤ 32768
+    → ((one : Member) → In one n.instances → IsModelOf l one) → length n.instances ≤ 65536
     → ((q : Point) → IsPinPoint q → (y : A) → In y (g q) → P y) → (y : A) → In y (of_pins n l net k g) → P y
 pins_all P n l net k g each few ok y i =
     let r = spread l (λ x one. of_cell n net k g x one.name (cell_of l one.model)) n.instances 1500 each y i in
@@ -137,29 +138,13 @@ pins_all P n l net k g each few ok y i =
     flat_all P (names_of (pin_ports m.cell)) (of_pin n net k g (pos r.1) r.0.name m.cell)
     (λ p pin at z h. own_pin P n net k g l r.0 m r.1 (omega (arith, low, few)) ok r.0.name pin (In_get (names_of (pin_ports m.cell)) p pin at) z h) y j
 
--- ---- how many pins there are
+-- ---- how many outputs there are
 
 plain_outputs : (c : Cell) (f : Function) → IsPlain c f → length (cell_outputs c) ≡ 1
 plain_outputs c (gate e) h = h.0
 plain_outputs c (flip_flop data_pin clock_pin) h = h.0
 plain_outputs c (other machine) h = elim h [ ]
 plain_outputs c opaque h = elim h [ ]
-
-plain_inputs : (c : Cell) (f : Function) → IsPlain c f → length (cell_inputs c) ≤ 6
-plain_inputs c (gate e) h = h.1
-plain_inputs c (flip_flop data_pin clock_pin) h = let two = h.1 in omega (arith, two)
-plain_inputs c (other machine) h = elim h [ ]
-plain_inputs c opaque h = elim h [ ]
-
-pub pins_few : (c : Cell) → IsUsable c → length (names_of (pin_ports c)) ≤ 7
-pins_few c usable =
-    let a = plain_outputs c c.function usable.function in
-    let b = plain_inputs c c.function usable.function in
-    let d = length-filter_both (λ (p : Port). is_input p.dir) (λ (p : Port). not (is_input p.dir)) (λ p. refl) (pin_ports c) in
-    let e = length-map (filter (λ (p : Port). is_input p.dir) (pin_ports c)) (λ (p : Port). p.name) in
-    let f = length-map (filter (λ (p : Port). not (is_input p.dir)) (pin_ports c)) (λ (p : Port). p.name) in
-    let g = length-map (pin_ports c) (λ (p : Port). p.name) in
-    omega (arith, a, b, d, e, f, g)
 
 pub driven_few : (n : Netlist) (l : Library) (ms : List Member) → ((one : Member) → In one ms → IsModelOf l one) → length (driven n l ms) ≤ length ms
 driven_few n l [] each = omega arith
@@ -186,15 +171,15 @@ pin_most : {A : Type 0} (t : Bool) (xs : List A) → length xs ≤ 4 → length 
 pin_most true xs h = h
 pin_most false xs h = omega arith
 
-along_sum : {A : Type 0} (l : Library) (f : ℕ → ℤ → Member → List A) (b many : ℕ) (ms : List Member) (x : ℤ)
-    → ((one : Member) → In one ms → (z : ℤ) → summed (λ k. length (f k z one)) many ≤ b) → summed (λ k. length (along l (f k) x ms)) many ≤ b * length ms
+along_sum : {A : Type 0} (l : Library) (f : ℕ → ℤ → Member → List A) (b : Member → ℕ) (many : ℕ) (ms : List Member) (x : ℤ)
+    → ((one : Member) → In one ms → (z : ℤ) → summed (λ k. length (f k z one)) many ≤ 4 * b one) → summed (λ k. length (along l (f k) x ms)) many ≤ 4 * sum_by b ms
 along_sum l f b many [] x each = let a = summed_none many in omega (arith, a)
 along_sum l f b many (one ∷ rest) x each =
     let y = x +ℤ model_width l one.model in
     let a = summed_both (λ k. length (along l (f k) x (one ∷ rest))) (λ k. length (f k x one)) (λ k. length (along l (f k) y rest)) many (λ k. length-append (f k x one) (along l (f k) y rest)) in
     let c = each one here x in
     let d = along_sum l f b many rest y (λ o i. each o (there i)) in
-    let e : b * length (one ∷ rest) ≡ b + b * length rest = omega arith in
+    let e = sum_by-cons b one rest in
     omega (arith, a, c, d, e)
 
 module _ (n : Netlist) (l : Library) (net : Numbering) (ports : List Name) (many : ℕ) where
@@ -209,14 +194,15 @@ module _ (n : Netlist) (l : Library) (net : Numbering) (ports : List Name) (many
       let d = only_once 4 a many in
       omega (arith, b, d)
 
-  one_cell : (one : Member) → IsModelOf l one → (x : ℤ) → summed (λ k. length (of_cell n net k (rises k) x one.name (cell_of l one.model))) many ≤ 28
+  one_cell : (one : Member) → IsModelOf l one → (x : ℤ) → summed (λ k. length (of_cell n net k (rises k) x one.name (cell_of l one.model))) many ≤ 4 * signal_pins l one
   one_cell one m x =
-      subst (λ (o : Option Cell). summed (λ k. length (of_cell n net k (rises k) x one.name o)) many ≤ 28) (sym m.found)
+      subst (λ (o : Option Cell). summed (λ k. length (of_cell n net k (rises k) x one.name o)) many ≤ 4 * cell_pins o) (sym m.found)
       (let a = flat_sum (λ k. of_pin n net k (rises k) x one.name m.cell) 4 many (names_of (pin_ports m.cell)) (λ pin i. one_pin x one.name m.cell pin) in
-      let b = pins_few m.cell m.usable in
+      let b = length-map (pin_ports m.cell) (λ (p : Port). p.name) in
       omega (arith, a, b))
 
-  pub nets_few : ((one : Member) → In one n.instances → IsModelOf l one) → length (flat_map (net_wiring n l net ports) (count_to many)) ≤ many + 28 * length n.instances
+  pub nets_few : ((one : Member) → In one n.instances → IsModelOf l one)
+      → length (flat_map (net_wiring n l net ports) (count_to many)) ≤ many + 4 * sum_by (signal_pins l) n.instances
   nets_few each =
       let xs = λ (k : ℕ). track_over k (slice_get ports k) (port_xs (slice_get ports k)) (of_pins n l net k (λ (q : Point). q.0 ∷ [])) in
       let a = flat_long (net_wiring n l net ports) many in
@@ -225,5 +211,5 @@ module _ (n : Netlist) (l : Library) (net : Numbering) (ports : List Name) (many
       let c = summed_least (λ k. length (xs k)) (λ k. 1) many
       (λ k. track_most k (slice_get ports k) (port_xs (slice_get ports k)) (of_pins n l net k (λ (q : Point). q.0 ∷ []))) in
       let d = summed_ones many in
-      let e = along_sum l (λ k x one. of_cell n net k (rises k) x one.name (cell_of l one.model)) 28 many n.instances (pos 1500) (λ one i x. one_cell one (each one i) x) in
+      let e = along_sum l (λ k x one. of_cell n net k (rises k) x one.name (cell_of l one.model)) (signal_pins l) many n.instances (pos 1500) (λ one i x. one_cell one (each one i) x) in
       omega (arith, a, b, c, d, e)

@@ -1,6 +1,6 @@
 -- The drawing of a netlist can be written.
 use Rattle.std.proofs.Common.{◌≡◌, ◌≢◌, inl, inr, ℕ, zero, suc, ◌+◌, ◌*◌, ◌<◌, ◌≤◌, ◌^◌, List, [], ◌∷◌, ◌++◌, map, filter, length, not, Option, None, Some, false, refl, sym, ap, subst, ◌∙◌, arith, get_or, length-append}
-use Rattle.std.specs.Prelude.{ℤ, pos, ◌+ℤ◌, AllPairs, flat_map, slice_get, IfSome}
+use Rattle.std.specs.Prelude.{ℤ, pos, ◌+ℤ◌, AllPairs, flat_map, slice_get, sum_by, IfSome}
 use Rattle.std.specs.List.{All, AllByRecursion}
 use Rattle.std.proofs.lemmas.Int.{ints}
 use Rattle.std.proofs.lemmas.Bool.{cases_lt}
@@ -25,8 +25,9 @@ use Rattle.ap_io.specs.ApText.{IsWord, IsLine, IsNear, IsShort, IsItemWithin, Is
 use Rattle.ap_io.specs.Spelling.{head_text, items_text, text_of}
 use Rattle.ap_io.proofs.Brief.{IsBrief, lines_brief, head_brief}
 use Rattle.port_words.specs.Words.{IsIdentifier}
-use Rattle.cell_model.specs.Cell.{Cell}
+use Rattle.cell_model.specs.Cell.{Cell, pin_ports}
 use Rattle.cell_model.specs.Library.{Library}
+use Rattle.cell_model.specs.Usable.{IsFormed}
 use Rattle.cell_model.specs.Layout.{instances_of}
 use Rattle.cell_model.specs.Access.{Point, count_to}
 use Rattle.cell_model.proofs.Mapped.{usable_is_mappable}
@@ -40,7 +41,7 @@ use Rattle.net_core.specs.Netlist.{Instance as Node, Netlist as InMemory}
 use Rattle.net_meaning.specs.Netlist.{Member, Netlist, port}
 use Rattle.net_view.specs.View.{member_of, IsSeenAs}
 use Rattle.net_view.specs.Writable.{CanBeAnInstance, CanBeNamed, HasShortNames}
-use Rattle.net_view.proofs.Lists.{map_twice}
+use Rattle.net_view.proofs.Lists.{in_place, map_twice}
 use Rattle.net_view.proofs.Models.{named_cell}
 use Rattle.net_view.proofs.Terminals.{seen_ports, seen_instances}
 use Rattle.ocp_rows.specs.Placement.{row_width, rows_width, standing, supplies, supply_ports, track_ports, track_y, net_count}
@@ -51,12 +52,13 @@ use Rattle.ocp_place.specs.Drawable.{IsDrawableIn}
 use Rattle.ocp_place.specs.Nets.{is_signal, is_among, signal_ports, port_classes, driven, net_number}
 use Rattle.ocp_place.specs.Orderly.{IsOrderly}
 use Rattle.ocp_place.proofs.Classes.{known, known_seen}
-use Rattle.ocp_place.proofs.Seen.{orderly}
+use Rattle.ocp_place.proofs.Seen.{own_cell, orderly}
 use Rattle.nero_tracks.proofs.Numbered.{nets_are_counted}
 use Rattle.route_draw.specs.Drawn.{IsDrawnInTracks}
-use Rattle.route_draw.specs.Law.{DrawingCanBeWritten}
+use Rattle.route_draw.specs.Law.{HasFewPins, DrawingCanBeWritten}
 use Rattle.route_draw.specs.Pieces.{row_supplies}
 use Rattle.route_draw.proofs.Counts.{filter_less}
+use Rattle.route_draw.proofs.Pins.{cell_pins, signal_pins, cell_signals, sums_less}
 use Rattle.route_draw.proofs.Goods.{IsGood, IsGoodLabel, IsWireWidth, word_of, vdd_label, vss_label, no_label, level_good, upright_good, low_via_good, high_via_good, port_good, instance_good, all_by, least_one, greatest_one}
 use Rattle.route_draw.proofs.Joins.{rows_are, supplies_are}
 use Rattle.route_draw.proofs.Spread.{IsModelOf, IsPinPoint, stood, standing_is, standing_long, spread, row_is, pins_all, driven_few, nets_few}
@@ -103,7 +105,7 @@ supply_ports_good = (
   (port_good (Alu One) 600 (pos 500) (pos 4700) vdd rail_width (near_pos 500 (omega arith)) (near_pos 4700 (omega arith)) vdd_label, tt),
 )
 
-supplies_good : (w : ℕ) → w ≤ 600000000 → AreGood (row_supplies w)
+supplies_good : (w : ℕ) → w ≤ 1100000000 → AreGood (row_supplies w)
 supplies_good w low =
     let end : IsNear (pos (1500 + w)) = near_pos (1500 + w) (omega (arith, low)) in
     let a = near_pos 500 (omega arith) in
@@ -175,7 +177,7 @@ riser_good k name q high label at =
       (low_via_good q.0 q.1 name x y label, (high_via_good q.0 q.1 name x y label, (high_via_good q.0 (track_y k) name x high label, tt))),
     )
 
-module _ (n : Netlist) (l : Library) (net : Numbering) (ports : List Name) (each : (one : Member) → In one n.instances → IsModelOf l one) (few : length n.instances ≤ 32768)
+module _ (n : Netlist) (l : Library) (net : Numbering) (ports : List Name) (each : (one : Member) → In one n.instances → IsModelOf l one) (few : length n.instances ≤ 65536)
     (labels : (name : Name) → In name ports → IsGoodLabel (Some name)) where
   net_good : (k : ℕ) → k ≤ 100000 → AreGood (net_wiring n l net ports k)
   net_good k low =
@@ -233,7 +235,7 @@ record IsBoxWithin (b : Rect) : Type 0 where
   pub y2 : IsNear b.y2
 
 module _ (l : Library) (n : InMemory) (f : Figure) (passed : HasPassed false l) (given : IsDrawableIn l n) (named : CanBeNamed n) (short : HasShortNames n)
-    (few_instances : length n.instances ≤ 32768) (few_ports : length n.ports ≤ 8192) (drawn : IsDrawnInTracks l n f) where
+    (few : HasFewPins n) (few_ports : length n.ports ≤ 8192) (drawn : IsDrawnInTracks l n f) where
   -- the netlist of layouts that it is known by
   abbrev k : Netlist
   k = known n
@@ -253,8 +255,27 @@ module _ (l : Library) (n : InMemory) (f : Figure) (passed : HasPassed false l) 
   members : k.instances ≡ map member_of n.instances
   members = seen_instances n k seen
 
-  few_members : length k.instances ≤ 32768
-  few_members = let a = ap (λ (ms : List Member). length ms) members in let b = length-map n.instances member_of in omega (arith, a, b)
+  few_members : length k.instances ≤ 65536
+  few_members =
+      let a = ap (λ (ms : List Member). length ms) members in
+      let b = length-map n.instances member_of in
+      let c = few.instances in
+      omega (arith, a, b, c)
+
+  -- the pins of an instance are those of its cell, with its supplies
+  pins_of_cell : (i : Node) → In i n.instances → signal_pins l (member_of i) ≤ length (filter is_signal i.pins)
+  pins_of_cell i listed =
+      let own = own_cell l n given i (in_place i n.instances listed) in
+      let formed = All-In IsFormed l.cells passed.formed own.cell (named_cell l.cells i.model own.cell own.found).0 in
+      subst (λ (o : Option Cell). cell_pins o ≤ length (filter is_signal i.pins)) (sym own.found)
+      (subst (λ (pins : List Name). length (pin_ports own.cell) ≤ length (filter is_signal pins)) (sym own.pins) (cell_signals own.cell formed))
+
+  few_pins : sum_by (signal_pins l) k.instances ≤ 163840
+  few_pins =
+      let a = ap (λ (ms : List Member). sum_by (signal_pins l) ms) members in
+      let b = sums_less (signal_pins l) (λ (i : Node). length (filter is_signal i.pins)) member_of n.instances pins_of_cell in
+      let c = few.pins in
+      omega (arith, a, b, c)
 
   models : (one : Member) → In one k.instances → IsModelOf l one
   models one listed =
@@ -279,7 +300,7 @@ module _ (l : Library) (n : InMemory) (f : Figure) (passed : HasPassed false l) 
             };
             wide = wide;
           }))
-          | inr few ↦ few
+          | inr narrow ↦ narrow
         ];
       }
 
@@ -315,7 +336,7 @@ module _ (l : Library) (n : InMemory) (f : Figure) (passed : HasPassed false l) 
         short_model = small.1;
       })
 
-  instance_at : (one : Member) (b : ℕ) → In one k.instances → b ≤ 600000000 → AllByRecursion (λ (i : Instance). IsGood (item.Instance i)) (stood NoSym (pos 0) (pos b) one)
+  instance_at : (one : Member) (b : ℕ) → In one k.instances → b ≤ 1100000000 → AllByRecursion (λ (i : Instance). IsGood (item.Instance i)) (stood NoSym (pos 0) (pos b) one)
   instance_at one b i low =
       let w = named_well one i in (
         instance_good (record { x = pos b; y = pos 0; model = one.model; name = one.name; transform = NoSym }) (near_pos b (omega (arith, low))) (near_pos 0 (omega arith)) w.model w.name
@@ -328,8 +349,8 @@ module _ (l : Library) (n : InMemory) (f : Figure) (passed : HasPassed false l) 
       let r = In-map_back (λ (x : Instance). item.Instance x) one (standing l NoSym (pos 0) (pos 1500) k.instances) i in
       let s = spread l (stood NoSym (pos 0)) k.instances 1500 models r.0 (subst (λ (is : List Instance). In r.0 is) (standing_is l NoSym (pos 0) (pos 1500) k.instances) r.1) in
       let low = s.3 in
-      let few = few_members in
-      subst IsGood r.2 (all_in (λ (x : Instance). IsGood (item.Instance x)) (stood NoSym (pos 0) (pos s.1) s.0) (instance_at s.0 s.1 s.2 (omega (arith, low, few))) r.0 s.4))
+      let members_few = few_members in
+      subst IsGood r.2 (all_in (λ (x : Instance). IsGood (item.Instance x)) (stood NoSym (pos 0) (pos s.1) s.0) (instance_at s.0 s.1 s.2 (omega (arith, low, members_few))) r.0 s.4))
 
   -- how many nets there are
   few_nets : net_count k ≤ length names + length k.instances
@@ -344,12 +365,12 @@ module _ (l : Library) (n : InMemory) (f : Figure) (passed : HasPassed false l) 
   few_tracks : net_count k ≤ 100000
   few_tracks = let a = few_nets in let b = few_members in let c = few_names in omega (arith, a, b, c)
 
-  row_wide : (w : ℕ) × (pos w ≡ row_width l k.instances) × (w ≤ 600000000)
+  row_wide : (w : ℕ) × (pos w ≡ row_width l k.instances) × (w ≤ 1100000000)
   row_wide =
       let r = row_is l k.instances models in
       let low = r.2 in
-      let few = few_members in
-      (r.0, r.1, omega (arith, low, few))
+      let members_few = few_members in
+      (r.0, r.1, omega (arith, low, members_few))
 
   items_are : f.items ≡ track_items k l net names
   items_are = drawn.lines k seen
@@ -365,8 +386,8 @@ module _ (l : Library) (n : InMemory) (f : Figure) (passed : HasPassed false l) 
       (subst (λ (items : List Item). AreGood items) (supplies_are l row_wide.0 k.instances row_wide.1) (supplies_good row_wide.0 row_wide.2))
       (nets_good k l net names models few_members labels (net_count k) few_tracks)))))
 
-  -- two lines for each port, one for each instance and 28 for its pins, one for each net, and ten for the supplies
-  few_items : length f.items ≤ 10 + (2 * length names + 30 * length k.instances)
+  -- two lines for each port, one for each instance and one for its net, four for each of its signal pins, and ten for the supplies
+  few_items : length f.items ≤ 10 + (2 * length names + 2 * length k.instances + 4 * sum_by (signal_pins l) k.instances)
   few_items =
       let is = standing l NoSym (pos 0) (pos 1500) k.instances in
       let a = ap (λ (items : List Item). length items) items_are in
@@ -420,7 +441,8 @@ module _ (l : Library) (n : InMemory) (f : Figure) (passed : HasPassed false l) 
       let d = few_items in
       let e = few_names in
       let g = few_members in
-      omega (arith, a, b, c, d, e, g)
+      let h = few_pins in
+      omega (arith, a, b, c, d, e, g, h)
 
   pub is_figure : IsFigure f
   is_figure = record {
@@ -442,5 +464,5 @@ module _ (l : Library) (n : InMemory) (f : Figure) (passed : HasPassed false l) 
   }
 
 pub drawing_can_be_written : DrawingCanBeWritten
-drawing_can_be_written l n f passed given named short instances ports drawn =
-    (is_figure l n f passed given named short instances ports drawn, is_within l n f passed given named short instances ports drawn)
+drawing_can_be_written l n f passed given named short few ports drawn =
+    (is_figure l n f passed given named short few ports drawn, is_within l n f passed given named short few ports drawn)
