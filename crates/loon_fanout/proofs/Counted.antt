@@ -219,7 +219,7 @@ marked_few place (m ∷ marks) (c ∷ classes) k n = by m (marked_few (suc place
           one_more : (b : Bool) (later : List ℕ) → length (if b then place ∷ later else later) ≤ (if b then 1 else 0) + length later
           one_more true later = omega arith
           one_more false later = omega arith
-  by false later = later
+  by false later = let same : sum_from (many_at place (false ∷ marks) (c ∷ classes)) k n ≤ marked marks = later in omega (arith, same)
 
 total_sum : (f : ℕ → ℕ) (loads : List (Vec ℕ)) (k : ℕ) → ((i : ℕ) (x : Vec ℕ) → Stands loads i x → length x.items ≡ f (k + i)) → total loads ≡ sum_from f k (length loads)
 total_sum f [] k each = refl
@@ -246,13 +246,13 @@ loads_marked marks classes count loads are =
 
 -- ---- marks are as many as sinks
 
-marked_append : (ms more : List Bool) → marked (ms ++ more) ≡ marked ms + marked more
-marked_append [] more = refl
-marked_append (m ∷ ms) more = let r = marked_append ms more in omega (arith, r)
+marked_append : (ms others : List Bool) → marked (ms ++ others) ≡ marked ms + marked others
+marked_append [] others = omega arith
+marked_append (m ∷ ms) others = let r = marked_append ms others in omega (arith, r)
 
 none_marked : {A : Type 0} (xs : List A) → marked (map (λ x. false) xs) ≡ 0
 none_marked [] = refl
-none_marked (x ∷ xs) = none_marked xs
+none_marked (x ∷ xs) = let r = none_marked xs in omega (arith, r)
 
 marked_filter : {A B : Type 0} (test : A → Bool) (f : A → B) (xs : List A) → marked (map test xs) ≡ length (map f (filter test xs))
 marked_filter test f [] = refl
@@ -260,7 +260,7 @@ marked_filter {A} {B} test f (x ∷ xs) = by (test x) (marked_filter test f xs) 
   by : (b : Bool) → marked (map test xs) ≡ length (map f (filter test xs))
       → (if b then 1 else 0) + marked (map test xs) ≡ length (map f (if b then x ∷ filter test xs else filter test xs))
   by true h = omega (arith, h)
-  by false h = h
+  by false h = omega (arith, h)
 
 marked_sinks : (l : Library) (is : List Instance) → marked (flat_map (pin_marks l) is) ≡ length (all_sinks l is)
 marked_sinks l [] = refl
