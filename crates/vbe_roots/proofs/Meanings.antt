@@ -14,7 +14,7 @@ use Rattle.source_meaning.specs.Elaboration.{Definition}
 use Rattle.vlsi_model.proofs.Members.{In-map_back}
 use Rattle.vlsi_model.proofs.Assembly.{In-permutation}
 use Rattle.vlsi_model.proofs.Numbering.{place_In, place_within, place_front}
-use Rattle.machine_roots.specs.Expansion.{put_in, expansions, expansion, held_count}
+use Rattle.machine_roots.specs.Expansion.{expansions, expansion, held_count}
 use Rattle.machine_roots.specs.Roots.{expression_of}
 use Rattle.machine_roots.proofs.Names.{name_of, expansion_held, expansion_at}
 use Rattle.machine_roots.proofs.Reaching.{equation_below}

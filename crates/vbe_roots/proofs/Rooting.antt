@@ -1,12 +1,12 @@
 -- The roots of two machines of one text, place by place.
-use Rattle.std.proofs.Common.{◌≡◌, ℕ, List, [], ◌∷◌, ◌++◌, map, length, refl, sym, ap, subst}
+use Rattle.std.proofs.Common.{ℕ, List, [], ◌∷◌, ◌++◌, map, length, refl, sym, subst}
 use Rattle.std.specs.List.{All, AllZip}
 use Rattle.vlsi_base.specs.declared.name.Name.{Name}
 use Rattle.vlsi_base.specs.Member.{In, here, there}
 use Rattle.bool_expr.specs.Expression.{Expression, variables, IsOver}
 use Rattle.bool_expr.specs.Support.{first_meetings}
 use Rattle.bdd_core.specs.Truths.{IsCountOf}
-use Rattle.machine_meaning.specs.Machine.{Machine, Equation, Register, outputs}
+use Rattle.machine_meaning.specs.Machine.{Machine, Register, outputs}
 use Rattle.machine_core.proofs.Values.{In-map}
 use Rattle.source_meaning.specs.Elaboration.{Storage}
 use Rattle.vlsi_model.proofs.Sorting.{place_of_In}
