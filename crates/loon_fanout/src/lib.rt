@@ -11,7 +11,6 @@ mod wiring;
 
 pub use error::BufferError;
 pub use laws::{
-    few_inputs_law, joins_nothing_law, limited_law, needed_law, passes_law, remains_law, split_law,
-    stays_right_law,
+    few_inputs_law, limited_law, needed_law, passes_law, remains_law, split_law, stays_right_law,
 };
 pub use limit::limit_fanout;
