@@ -22,6 +22,5 @@ pub fn driven_law()
     ensures needed { DrivenNeedsItsBuffers }
 {
     loon_fanout::few_inputs_law();
-    loon_fanout::joins_nothing_law();
     loon_fanout::needed_law();
 }
