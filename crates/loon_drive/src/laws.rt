@@ -21,6 +21,7 @@ pub fn driven_law()
     ensures inputs { DrivenHasFewInputs }
     ensures needed { DrivenNeedsItsBuffers }
 {
+    loon_fanout::limited_law();
     loon_fanout::few_inputs_law();
     loon_fanout::needed_law();
 }

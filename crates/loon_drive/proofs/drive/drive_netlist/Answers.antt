@@ -20,6 +20,7 @@ exchanged-requires-clause-timed c =
 pub returns-clause-driven : goal.returns-clause-driven
 returns-clause-driven c = record {
   buffered = c.in_ok-limited.limited;
+  sound = c.in_ok-limited.ensures.sound;
   is_buffered = subst (λ (m : ℕ). IsBuffered c.args.netlist.now c.args.library.now m c.in_ok-limited.limited) c.max.ensures c.in_ok-limited.ensures.buffered;
   exchanged = are c.args.netlist.now c.args.library.now c.max.result c.in_ok-limited.limited c.reserve.new.netlist c.in_ok-reserve.ensures.same
       c.in_ok-exchanged.field-0.netlist c.in_ok-exchanged.ensures.exchanged;
