@@ -1,14 +1,11 @@
 -- The instances of a netlist with buffers and other drives.
 use Rattle.std.proofs.Common.{◌≡◌, ◌⊎◌, inl, inr, ℕ, zero, suc, ◌≤◌, ◌<◌, false, List, [], ◌∷◌, ◌++◌, map, length, refl, sym, ◌∙◌, ap, subst, arith}
 use Rattle.std.proofs.lemmas.List.{map-append}
-use Rattle.vlsi_base.specs.declared.name.Name.{Name}
 use Rattle.vlsi_base.specs.Member.{In}
-use Rattle.machine_meaning.specs.Machine.{names_of}
 use Rattle.cell_model.specs.Cell.{Cell}
 use Rattle.cell_model.specs.Library.{Library}
 use Rattle.cell_model.proofs.Members.{In-map_back}
 use Rattle.cell_checks.specs.Checked.{IsChecked as HasPassed}
-use Rattle.cell_pins.specs.Pins.{all_ports}
 use Rattle.net_core.specs.Places.{Stands}
 use Rattle.net_core.specs.Netlist.{Instance, Netlist}
 use Rattle.loon_buffer.specs.Drives.{IsChosenFor}
@@ -51,8 +48,8 @@ gate_pins : (n : Netlist) (l : Library) (limit : ℕ) (r : Netlist) (b : IsBuffe
 gate_pins n l limit r b passed i at = elim (was_crowded l limit b.repeater b.names (wired_of n) b.wired b.limited) [
   | inl none ↦ absurd (nothing (subst (λ (names : List (List ℕ)). In i (map (gate_named b.repeater.cell) names)) none at))
   | inr crowded ↦
-    let made = In-map_back (gate_named b.repeater.cell) i b.names at in
-    ap (λ (x : Instance). length x.pins) (sym made.2) ∙ repeater_pins l b.repeater passed (b.chosen crowded)
+      let made = In-map_back (gate_named b.repeater.cell) i b.names at in
+      ap (λ (x : Instance). length x.pins) (sym made.2) ∙ repeater_pins l b.repeater passed (b.chosen crowded)
 ] where
   nothing : In i [] → ⊥
   nothing h = elim h [ ]

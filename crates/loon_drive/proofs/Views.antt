@@ -1,5 +1,5 @@
 -- Netlists whose cells are exchanged, as those that layouts give: classes, inputs, outputs and clock pins are the same.
-use Rattle.std.proofs.Common.{◌≡◌, ◌≢◌, ℕ, List, map, filter, not, refl, sym, ◌∙◌, ap, ap₂, subst, Some}
+use Rattle.std.proofs.Common.{◌≡◌, ℕ, List, map, filter, not, refl, sym, ◌∙◌, ap, ap₂, subst, Some}
 use Rattle.vlsi_base.specs.declared.name.Name.{Name}
 use Rattle.vlsi_base.specs.declared.name.Port.{Port}
 use Rattle.vlsi_base.specs.declared.name.Terminal.{Terminal}
@@ -10,7 +10,7 @@ use Rattle.cell_model.specs.Library.{Library, cell_of}
 use Rattle.cell_model.proofs.Members.{In-map, In-map_back}
 use Rattle.net_core.specs.Netlist.{Instance, Netlist, terminals}
 use Rattle.net_meaning.specs.Netlist.{Member, Netlist as Seen, pin_of}
-use Rattle.net_meaning.specs.Well.{Has, IsClockPin, a_clock_pin, IsSpecial, of_vdd, of_vss, of_clock, buffer_instance}
+use Rattle.net_meaning.specs.Well.{Has, IsClockPin, a_clock_pin, IsSpecial, of_vdd, of_vss, of_clock}
 use Rattle.net_meaning.specs.Buffers.{AreOne, alike, tied, turned, through}
 use Rattle.net_theory.specs.Exchanges.{IsSameFunction}
 use Rattle.net_view.specs.View.{member_of, netlist_by, IsSeenAs}
@@ -138,7 +138,7 @@ module _ (l : Library) (r k : Netlist) (x : AreExchanged l r k) (class : Termina
         name = same_instance_name l f.1 j ch ∙ ap (λ (z : Member). z.name) f.5;
         pins = ch.drive.pins ∙ ap (λ (d : Cell). pin_ports d) was;
         clock = λ data_pin clock_pin is.
-        drive_clocked ch.was.function ch.now.function ch.drive.function data_pin clock_pin (ap (λ (d : Cell). d.function) was ∙ is);
+            drive_clocked ch.was.function ch.now.function ch.drive.function data_pin clock_pin (ap (λ (d : Cell). d.function) was ∙ is);
       }
 
   pub back : Meets l (netlist_by class k) (netlist_by class r)
@@ -155,7 +155,7 @@ module _ (l : Library) (r k : Netlist) (x : AreExchanged l r k) (class : Termina
         name = sym (same_instance_name l f.0 g.0 ch) ∙ ap (λ (z : Member). z.name) g.2;
         pins = sym ch.drive.pins ∙ ap (λ (d : Cell). pin_ports d) now;
         clock = λ data_pin clock_pin is.
-        was_clocked ch.was.function ch.now.function ch.drive.function data_pin clock_pin (ap (λ (d : Cell). d.function) now ∙ is);
+            was_clocked ch.was.function ch.now.function ch.drive.function data_pin clock_pin (ap (λ (d : Cell). d.function) now ∙ is);
       }
 
   -- names stay
