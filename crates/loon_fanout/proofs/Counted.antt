@@ -1,14 +1,19 @@
--- How many pins there are with all gates.
-use Rattle.std.proofs.Common.{◌≡◌, ◌⊎◌, inl, inr, ℕ, zero, suc, ◌+◌, ◌*◌, ◌<◌, ◌≤◌, Bool, true, false, ◌&&◌, List, [], ◌∷◌, ◌++◌, map, length, get_or, Some, refl, sym, ◌∙◌, ap, arith, length-append, nat_eq, eqb-true, if◌then◌else◌}
+-- How many gates and pins there are with all gates.
+use Rattle.std.proofs.Common.{◌≡◌, ◌⊎◌, inl, inr, ℕ, zero, suc, ◌+◌, ◌*◌, ◌<◌, ◌≤◌, Bool, true, false, List, [], ◌∷◌, ◌++◌, map, filter, length, get_or, Some, refl, sym, ◌∙◌, ap, arith, length-append, nat_eq, eqb-true, if◌then◌else◌}
 use Rattle.std.proofs.lemmas.Option.{slice_get_within}
 use Rattle.std.specs.Prelude.{slice_set, slice_get}
 use Rattle.std.specs.Global.{Vec}
+use Rattle.std.specs.List.{flat_map}
+use Rattle.vlsi_base.specs.declared.name.Port.{Port}
+use Rattle.cell_model.specs.Library.{Library, cell_of}
+use Rattle.net_core.specs.Netlist.{Instance, Netlist as InMemory, pin_of, pins_of}
 use Rattle.net_core.specs.Places.{Stands}
 use Rattle.net_theory.proofs.Basics.{length-map}
 use Rattle.loon_fanout.specs.declared.repeater.Tie.{Tie}
 use Rattle.loon_fanout.specs.declared.repeater.Repeater.{Repeater as Parts}
 use Rattle.loon_fanout.specs.declared.wiring.Wiring.{Wiring}
-use Rattle.loon_fanout.specs.Stages.{tied_class, ends_of, marked_places, PutsGate, PutsRow, once, two, set_places, PutsBehind, PutsGroups, none, one, LimitsClass, few, many, LimitsAll, done, more, AreLoads}
+use Rattle.loon_fanout.specs.Sinks.{is_sink_of, instance_sinks, all_sinks}
+use Rattle.loon_fanout.specs.Stages.{tied_class, ends_of, pin_marks, all_marks, marked_places, PutsGate, PutsRow, once, two, set_places, PutsBehind, PutsGroups, none, one, LimitsClass, few, many, LimitsAll, done, more, AreLoads}
 use Rattle.loon_fanout.proofs.Rounds.{gates_in, below_or}
 
 -- ---- pins by gates
@@ -64,14 +69,16 @@ behind_pins r v u class place group small h =
     let n = ap length h.moved.classes ∙ set_many h.middle.classes.items group h.driven in
     (omega (arith, b, e), record { few = omega (arith, few_row, e, n); more = omega (arith, more_row, e) })
 
-record Groups (v u : Wiring) (places inputs all : List ℕ) : Type 0 where
+-- what a round puts in; groups of four or more are at most a quarter of the sinks, but for the last
+record Groups (limit : ℕ) (v u : Wiring) (places inputs all : List ℕ) : Type 0 where
   pub gates : gates_in u + 2 * length inputs ≤ gates_in v + 2 * length all
   pub halves : 2 * length all ≤ 2 * length inputs + length places + 1
+  pub quarters : 4 ≤ limit → 4 * length all ≤ 4 * length inputs + length places + 3
   pub pins : Pins v u
 
 groups_pins : (r : Parts) (limit class : ℕ) → 2 ≤ limit → length r.ties.items ≤ 4 → (v u : Wiring) (places inputs all : List ℕ) → PutsGroups r limit class v places inputs u all
-    → Groups v u places inputs all
-groups_pins r limit class size small v u places inputs all none = record { gates = omega arith; halves = omega arith; pins = pins_same v }
+    → Groups limit v u places inputs all
+groups_pins r limit class size small v u places inputs all none = record { gates = omega arith; halves = omega arith; quarters = λ four. omega arith; pins = pins_same v }
 groups_pins r limit class size small v u places inputs all (one {w = x} {group = group} {rest = rest} {input = input} some within full behind later) =
     let a = behind_pins r v x class input group small behind in
     let rec = groups_pins r limit class size small x u rest (inputs ++ input ∷ []) all later in
@@ -86,16 +93,29 @@ groups_pins r limit class size small v u places inputs all (one {w = x} {group =
         | inl none_left ↦ let z = ap length none_left in omega (arith, z, halves, n, some, size_is)
         | inr whole ↦ omega (arith, whole, size, halves, n, size_is)
       ];
+      quarters = λ four.
+          let quarters = rec.quarters four in
+          elim full [
+            | inl none_left ↦ let z = ap length none_left in omega (arith, z, quarters, n, some, size_is)
+            | inr whole ↦ omega (arith, whole, four, quarters, n, size_is)
+          ];
       pins = pins_then v x u a.1 rec.pins;
     }
 
+-- with a limit of four or more, a class takes no more gates than it has sinks
 record Class (limit : ℕ) (v u : Wiring) (places : List ℕ) : Type 0 where
   pub small : length places ≤ limit → gates_in u ≤ gates_in v
   pub large : limit < length places → gates_in u + 8 ≤ gates_in v + 4 * length places
+  pub fewer : 4 ≤ limit → gates_in u ≤ gates_in v + length places
   pub pins : Pins v u
 
 class_pins : (r : Parts) (limit class : ℕ) → 2 ≤ limit → length r.ties.items ≤ 4 → (v u : Wiring) (places : List ℕ) → LimitsClass r limit class v places u → Class limit v u places
-class_pins r limit class size small v u places (few under) = record { small = λ h. omega arith; large = λ h. absurd (omega (arith, h, under)); pins = pins_same v }
+class_pins r limit class size small v u places (few under) = record {
+  small = λ h. omega arith;
+  large = λ h. absurd (omega (arith, h, under));
+  fewer = λ four. omega arith;
+  pins = pins_same v;
+}
 class_pins r limit class size small v u places (many {w = x} {inputs = inputs} over groups later) =
     let a = groups_pins r limit class size small v x places [] inputs groups in
     let rec = class_pins r limit class size small x u inputs later in
@@ -107,6 +127,12 @@ class_pins r limit class size small v u places (many {w = x} {inputs = inputs} o
         | inl more_left ↦ let e = rec.large more_left in omega (arith, e, gates, halves, over, size)
         | inr few_left ↦ let e = rec.small few_left in omega (arith, e, gates, halves, over, size)
       ];
+      fewer = λ four.
+          let quarters = a.quarters four in
+          elim (below_or limit (length inputs)) [
+            | inl more_left ↦ let e = rec.fewer four in omega (arith, e, gates, quarters, more_left, four)
+            | inr few_left ↦ let e = rec.small few_left in omega (arith, e, gates, quarters, over, four)
+          ];
       pins = pins_then v x u a.pins rec.pins;
     }
 
@@ -116,25 +142,29 @@ abbrev pub total : List (Vec ℕ) → ℕ
 total [] = 0
 total (x ∷ loads) = length x.items + total loads
 
-pub record Counted (v u : Wiring) (loads : ℕ) : Type 0 where
+pub record Counted (limit : ℕ) (v u : Wiring) (loads : ℕ) : Type 0 where
   pub gates : gates_in u ≤ gates_in v + 4 * loads
+  pub fewer : 4 ≤ limit → gates_in u ≤ gates_in v + loads
   pub pins : pins_in u + 4 * gates_in v ≤ pins_in v + 4 * gates_in u
 
-all_pins : (r : Parts) (limit class : ℕ) → 2 ≤ limit → length r.ties.items ≤ 4 → (loads : List (Vec ℕ)) (v u : Wiring) → LimitsAll r limit class loads v u
-    → (gates_in u ≤ gates_in v + 4 * total loads) × Pins v u
-all_pins r limit class size small loads v u done = (omega arith, pins_same v)
-all_pins r limit class size small loads v u (more {w = x} {sinks = places} {rest = rest} here later) =
+pub counted : (r : Parts) (limit class : ℕ) → 2 ≤ limit → length r.ties.items ≤ 4 → (loads : List (Vec ℕ)) (v u : Wiring) → LimitsAll r limit class loads v u
+    → Counted limit v u (total loads)
+counted r limit class size small loads v u done = record { gates = omega arith; fewer = λ four. omega arith; pins = omega arith }
+counted r limit class size small loads v u (more {w = x} {sinks = places} {rest = rest} here later) =
     let a = class_pins r limit class size small v x places.items here in
-    let rec = all_pins r limit (suc class) size small rest x u later in
-    let b = rec.0 in
+    let rec = counted r limit (suc class) size small rest x u later in
+    let gates = rec.gates in
+    let pins = rec.pins in
+    let here_pins = a.pins.few in
     let one_class : gates_in x ≤ gates_in v + 4 * length places.items = elim (below_or limit (length places.items)) [
       | inl over ↦ let e = a.large over in omega (arith, e)
       | inr under ↦ let e = a.small under in omega (arith, e)
     ] in
-    (omega (arith, b, one_class), pins_then v x u a.pins rec.1)
-
-pub counted : (r : Parts) (limit class : ℕ) → 2 ≤ limit → length r.ties.items ≤ 4 → (loads : List (Vec ℕ)) (v u : Wiring) → LimitsAll r limit class loads v u → Counted v u (total loads)
-counted r limit class size small loads v u h = let a = all_pins r limit class size small loads v u h in record { gates = a.0; pins = a.1.few }
+    record {
+      gates = omega (arith, gates, one_class);
+      fewer = λ four. let e = a.fewer four in let f = rec.fewer four in omega (arith, e, f);
+      pins = omega (arith, pins, here_pins);
+    }
 
 -- ---- loads are no more than terminals
 
@@ -170,21 +200,26 @@ sum_zero k (suc n) = let r = sum_zero (suc k) n in omega (arith, r)
 abbrev many_at : ℕ → List Bool → List ℕ → ℕ → ℕ
 many_at place marks classes j = length (marked_places place marks classes j)
 
-marked_few : (place : ℕ) (marks : List Bool) (classes : List ℕ) (k n : ℕ) → sum_from (many_at place marks classes) k n ≤ length classes
+-- how many are marked
+abbrev pub marked : List Bool → ℕ
+marked [] = 0
+marked (m ∷ marks) = (if m then 1 else 0) + marked marks
+
+marked_few : (place : ℕ) (marks : List Bool) (classes : List ℕ) (k n : ℕ) → sum_from (many_at place marks classes) k n ≤ marked marks
 marked_few place [] classes k n = let z = sum_zero k n in omega (arith, z)
 marked_few place (m ∷ marks) [] k n = let z = sum_zero k n in omega (arith, z)
-marked_few place (m ∷ marks) (c ∷ classes) k n =
-    let a = sum_both (is_at c) (many_at (suc place) marks classes) (many_at place (m ∷ marks) (c ∷ classes)) k n each in
-    let b = sum_one c k n in
-    let d = marked_few (suc place) marks classes k n in
-    omega (arith, a, b, d) where
-      each : (j : ℕ) → many_at place (m ∷ marks) (c ∷ classes) j ≤ is_at c j + many_at (suc place) marks classes j
-      each j = by m (nat_eq c j) (marked_places (suc place) marks classes j) where
-        by : (a b : Bool) (later : List ℕ) → length (if a && b then place ∷ later else later) ≤ (if b then 1 else 0) + length later
-        by true true later = omega arith
-        by true false later = omega arith
-        by false true later = omega arith
-        by false false later = omega arith
+marked_few place (m ∷ marks) (c ∷ classes) k n = by m (marked_few (suc place) marks classes k n) where
+  by : (b : Bool) → sum_from (many_at (suc place) marks classes) k n ≤ marked marks → sum_from (many_at place (b ∷ marks) (c ∷ classes)) k n ≤ (if b then 1 else 0) + marked marks
+  by true later =
+      let a = sum_both (is_at c) (many_at (suc place) marks classes) (many_at place (true ∷ marks) (c ∷ classes)) k n each in
+      let b = sum_one c k n in
+      omega (arith, a, b, later) where
+        each : (j : ℕ) → many_at place (true ∷ marks) (c ∷ classes) j ≤ is_at c j + many_at (suc place) marks classes j
+        each j = one_more (nat_eq c j) (marked_places (suc place) marks classes j) where
+          one_more : (b : Bool) (later : List ℕ) → length (if b then place ∷ later else later) ≤ (if b then 1 else 0) + length later
+          one_more true later = omega arith
+          one_more false later = omega arith
+  by false later = let same : sum_from (many_at place (false ∷ marks) (c ∷ classes)) k n ≤ marked marks = later in omega (arith, same)
 
 total_sum : (f : ℕ → ℕ) (loads : List (Vec ℕ)) (k : ℕ) → ((i : ℕ) (x : Vec ℕ) → Stands loads i x → length x.items ≡ f (k + i)) → total loads ≡ sum_from f k (length loads)
 total_sum f [] k each = refl
@@ -194,8 +229,9 @@ total_sum f (x ∷ loads) k each =
     let b = total_sum f loads (suc k) (λ i y at. let next : k + suc i ≡ suc k + i = omega arith in each (suc i) y at ∙ ap f next) in
     omega (arith, a, b)
 
-pub loads_few : (marks : List Bool) (classes : List ℕ) (count : ℕ) (loads : List (Vec ℕ)) → AreLoads marks classes count loads → total loads ≤ length classes
-loads_few marks classes count loads are =
+-- loads are no more than the marks
+pub loads_marked : (marks : List Bool) (classes : List ℕ) (count : ℕ) (loads : List (Vec ℕ)) → AreLoads marks classes count loads → total loads ≤ marked marks
+loads_marked marks classes count loads are =
     let a = total_sum (many_at 0 marks classes) loads 0 (λ i x at.
     let inside = slice_get_within loads i x at in
     let all = are.many in
@@ -207,3 +243,58 @@ loads_few marks classes count loads are =
       got [] k x e = absurd cc
       got (y ∷ xs) zero x e = cc
       got (y ∷ xs) (suc k) x e = got xs k x e
+
+-- ---- marks are as many as sinks
+
+marked_append : (ms others : List Bool) → marked (ms ++ others) ≡ marked ms + marked others
+marked_append [] others = omega arith
+marked_append (m ∷ ms) others = let r = marked_append ms others in omega (arith, r)
+
+none_marked : {A : Type 0} (xs : List A) → marked (map (λ x. false) xs) ≡ 0
+none_marked [] = refl
+none_marked (x ∷ xs) = let r = none_marked xs in omega (arith, r)
+
+marked_filter : {A B : Type 0} (test : A → Bool) (f : A → B) (xs : List A) → marked (map test xs) ≡ length (map f (filter test xs))
+marked_filter test f [] = refl
+marked_filter {A} {B} test f (x ∷ xs) = by (test x) (marked_filter test f xs) where
+  by : (b : Bool) → marked (map test xs) ≡ length (map f (filter test xs))
+      → (if b then 1 else 0) + marked (map test xs) ≡ length (map f (if b then x ∷ filter test xs else filter test xs))
+  by true h = omega (arith, h)
+  by false h = omega (arith, h)
+
+marked_sinks : (l : Library) (is : List Instance) → marked (flat_map (pin_marks l) is) ≡ length (all_sinks l is)
+marked_sinks l [] = refl
+marked_sinks l (i ∷ is) =
+    let a = marked_append (pin_marks l i) (flat_map (pin_marks l) is) in
+    let b = marked_filter (is_sink_of (cell_of l i.model)) (pin_of i.name) i.pins in
+    let d = marked_sinks l is in
+    let n = length-append (instance_sinks l i) (all_sinks l is) in
+    omega (arith, a, b, d, n)
+
+marked_all : (l : Library) (n : InMemory) → marked (all_marks l n) ≡ length (all_sinks l n.instances)
+marked_all l n =
+    let a = marked_append (map (λ (p : Port). false) n.ports) (flat_map (pin_marks l) n.instances) in
+    let b = none_marked n.ports in
+    let d = marked_sinks l n.instances in
+    omega (arith, a, b, d)
+
+filter_few : {A B : Type 0} (test : A → Bool) (f : A → B) (xs : List A) → length (map f (filter test xs)) ≤ length (map f xs)
+filter_few test f [] = omega arith
+filter_few {A} {B} test f (x ∷ xs) = by (test x) (filter_few test f xs) where
+  by : (b : Bool) → length (map f (filter test xs)) ≤ length (map f xs) → length (map f (if b then x ∷ filter test xs else filter test xs)) ≤ suc (length (map f xs))
+  by true h = omega (arith, h)
+  by false h = omega (arith, h)
+
+-- sinks are no more than pins
+pub sinks_few : (l : Library) (is : List Instance) → length (all_sinks l is) ≤ length (flat_map pins_of is)
+sinks_few l [] = omega arith
+sinks_few l (i ∷ is) =
+    let a = filter_few (is_sink_of (cell_of l i.model)) (pin_of i.name) i.pins in
+    let b = sinks_few l is in
+    let m = length-append (instance_sinks l i) (all_sinks l is) in
+    let n = length-append (pins_of i) (flat_map pins_of is) in
+    omega (arith, a, b, m, n)
+
+-- all loads are no more than the sinks
+pub loads_few : (l : Library) (n : InMemory) (loads : List (Vec ℕ)) → AreLoads (all_marks l n) n.classes n.count loads → total loads ≤ length (all_sinks l n.instances)
+loads_few l n loads are = let a = loads_marked (all_marks l n) n.classes n.count loads are in let b = marked_all l n in omega (arith, a, b)

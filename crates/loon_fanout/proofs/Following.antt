@@ -64,7 +64,7 @@ map_pins : (f : Terminal → ℕ) (name : List ℕ) (ns : List Name) → map f (
 map_pins f name [] = refl
 map_pins f name (n ∷ ns) = ap (λ (ks : List ℕ). f (pin_of name n) ∷ ks) (map_pins f name ns)
 
-pin_below : (w : Wired) (c : Cell) (read : ℕ) (pin : Name) → read < w.count → w.class (port vdd) < w.count → w.class (port vss) < w.count → pin_class w c read pin < suc w.count
+pub pin_below : (w : Wired) (c : Cell) (read : ℕ) (pin : Name) → read < w.count → w.class (port vdd) < w.count → w.class (port vss) < w.count → pin_class w c read pin < suc w.count
 pin_below w c read pin r high low = by (is_same_name pin vdd) (is_same_name pin vss) (list_any (λ x. is_same_name x pin) (cell_inputs c)) where
   by : (a b x : Bool) → (if a then w.class (port vdd) else if b then w.class (port vss) else if x then read else w.count) < suc w.count
   by true b x = omega (arith, high)

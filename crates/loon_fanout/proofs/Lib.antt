@@ -17,6 +17,8 @@ pub mod RightPins
 pub mod FewInputs
 pub mod OneClass
 pub mod Needed
+pub mod Origins
+pub mod JoinsNothing
 pub mod Remaining
 pub mod Picking
 pub mod Gates

@@ -122,6 +122,14 @@ all_different (x ∷ xs) once_only = (not_later, all_different xs later) where
   later : NoneTwice xs
   later a b z p q = let e : suc a ≡ suc b = once_only (suc a) (suc b) z p q in omega (arith, e)
 
+-- the instances of the given netlist
+pub good_instances : (l : Library) (n : InMemory) → IsNetlist n → IsOfCells n l → AreGood l n.instances
+good_instances l n is_n of_cells = record {
+  names = all_different (map (λ i. i.name) n.instances) is_n.names;
+  usable = λ i d h found. let c = of_cells.found i (in_place i n.instances h) in subst (λ (x : Cell). IsUsable x) (same_Some c.0 d (sym c.1 ∙ found)) c.2;
+  pins = λ i h. let c = of_cells.found i (in_place i n.instances h) in subst (λ (ns : List Name). AllDifferent ns) (sym c.3) (pin_names_differ c.0 c.2);
+}
+
 -- nothing was put in, or a class had too many sinks
 was_crowded : (l : Library) (limit : ℕ) (b : Repeater) (names : List (List ℕ)) (n k : Wired) → IsLimited l limit b names n k → (names ≡ []) ⊎ ((class : ℕ) × (limit < length (sinks l n class)))
 was_crowded l limit b names n k (within few) = inl refl
@@ -136,11 +144,7 @@ module _ (tracks : Bool) (n : InMemory) (l : Library) (limit : ℕ) (r : InMemor
   instances_r = all_instances tracks n l limit r passed is_n is_r of_cells buffered
 
   good_n : AreGood l n.instances
-  good_n = record {
-    names = all_different (map (λ i. i.name) n.instances) is_n.names;
-    usable = λ i d h found. let c = of_cells.found i (in_place i n.instances h) in subst (λ (x : Cell). IsUsable x) (same_Some c.0 d (sym c.1 ∙ found)) c.2;
-    pins = λ i h. let c = of_cells.found i (in_place i n.instances h) in subst (λ (ns : List Name). AllDifferent ns) (sym c.3) (pin_names_differ c.0 c.2);
-  }
+  good_n = good_instances l n is_n of_cells
 
   in_k : (i : Instance) → In i n.instances → In (member_of i) k.instances
   in_k i h =

@@ -2,7 +2,7 @@
 use Rattle.std.proofs.Common.{◌≡◌, ◌≢◌, inl, inr, ℕ, suc, ◌-◌, Bool, true, false, List, [], ◌∷◌, ◌++◌, length, map, filter, Some, refl, sym, ◌∙◌, ap, subst, arith, nat_eq, if◌then◌else◌}
 use Rattle.std.proofs.lemmas.List.{map-append}
 use Rattle.std.proofs.lemmas.Option.{same_Some}
-use Rattle.std.specs.List.{flat_map, list_any}
+use Rattle.std.specs.List.{All, flat_map, list_any}
 use Rattle.vlsi_base.specs.declared.name.Name.{Name}
 use Rattle.vlsi_base.specs.declared.name.Terminal.{Terminal}
 use Rattle.vlsi_base.specs.Member.{In, here, there, AllDifferent}
@@ -155,10 +155,10 @@ module _ (l : Library) (c : Cell) (b : IsGateCell l c) (w : Wired) (k : ℕ) (na
   abbrev gated : Wired
   gated = with_gate c w k name
 
-  class_old : (owner : List ℕ) (pin : Name) → owner ≢ name → gated.class (pin_of owner pin) ≡ w.class (pin_of owner pin)
+  pub class_old : (owner : List ℕ) (pin : Name) → owner ≢ name → gated.class (pin_of owner pin) ≡ w.class (pin_of owner pin)
   class_old owner pin apart = ap (λ (x : Bool). if x then pin_class w c k pin else w.class (pin_of owner pin)) (text_differs owner name apart)
 
-  sink_class : (t : Terminal) → IsSink l w t → gated.class t ≡ w.class t
+  pub sink_class : (t : Terminal) → IsSink l w t → gated.class t ≡ w.class t
   sink_class t s = ap gated.class s.is ∙ class_old s.owner.name s.pin (new_name s.owner s.listed) ∙ ap w.class (sym s.is)
 
   gate_ones : (a d : ℕ) → AreOne (as_netlist w) l a d → AreOne (as_netlist gated) l a d
@@ -174,7 +174,7 @@ module _ (l : Library) (c : Cell) (b : IsGateCell l c) (w : Wired) (k : ℕ) (na
   gate_ones a d (turned h) = turned (gate_ones d a h)
   gate_ones a d (through {b = mid} h g) = through (gate_ones a mid h) (gate_ones mid d g)
 
-  gate_follows : Follows l w gated
+  pub gate_follows : Follows l w gated
   gate_follows = record {
     ones = gate_ones;
     kept = λ t s. record {
@@ -338,6 +338,23 @@ pub record RoundFollows (l : Library) (c : Cell) (rest : List (List ℕ)) (w u :
 abbrev pub group_of : Row → List Terminal
 group_of r = r.group
 
+in_rows : (x : Row) (rows : List Row) → In x rows → (t : Terminal) → In t x.group → In t (flat_map group_of rows)
+in_rows x [] h t g = elim h [ ]
+in_rows x (y ∷ ys) here t g = In-left t y.group (flat_map group_of ys) g
+in_rows x (y ∷ ys) (there h) t g = In-right t y.group (flat_map group_of ys) (in_rows x ys h t g)
+
+-- the sinks of the rows behind the first are still in the class
+pub after_row : (l : Library) (c : Cell) (gates : ℕ) (rest : List (List ℕ)) (row : Row) (rows : List Row) (w u : Wired) (k : ℕ) → RowFollows l c rest row.group w u
+    → ((x : Row) → In x (row ∷ rows) → (length x.names ≡ gates) × ((t : Terminal) → In t x.group → IsSink l w t × (w.class t ≡ k)))
+    → AllDifferent (flat_map group_of (row ∷ rows))
+    → (x : Row) → In x rows → (length x.names ≡ gates) × ((t : Terminal) → In t x.group → IsSink l u t × (u.class t ≡ k))
+after_row l c gates rest row rows w u k r each differ x x_in = (
+  (each x (there x_in)).0,
+  λ t g.
+      let s = (each x (there x_in)).1 t g in
+      (r.follows.kept t s.0, r.stays t s.0 (λ h. apart_append row.group (flat_map group_of rows) differ t h (in_rows x rows x_in t g)) ∙ s.1),
+)
+
 pub round_follows : (l : Library) (c : Cell) (gates : ℕ) → Repeats l c gates → (rows : List Row) (w : Wired) (k : ℕ) → AreGood l w.instances
     → ((row : Row) → In row rows → (length row.names ≡ gates) × ((t : Terminal) → In t row.group → IsSink l w t × (w.class t ≡ k)))
     → AllDifferent (flat_map group_of rows) → (later : List (List ℕ)) → AreNew c (flat_map (λ r. r.names) rows ++ later) w.instances
@@ -347,18 +364,9 @@ round_follows l c gates b (row ∷ rows) w k good each differ later new =
     let first = each row here in
     let u = with_group c w k row.names row.group in
     let r = row_follows l c gates b w k row.group good first.1 row.names (flat_map (λ (x : Row). x.names) rows) later first.0 new in
-    let after : (x : Row) → In x rows → (length x.names ≡ gates) × ((t : Terminal) → In t x.group → IsSink l u t × (u.class t ≡ k)) = λ x x_in. (
-      (each x (there x_in)).0,
-      λ t g.
-          let s = (each x (there x_in)).1 t g in
-          (r.follows.kept t s.0, r.stays t s.0 (λ h. apart_append row.group (flat_map group_of rows) differ t h (in_rows x rows x_in t g)) ∙ s.1),
-    ) in
+    let after = after_row l c gates (flat_map (λ (x : Row). x.names) rows ++ later) row rows w u k r each differ in
     let rest = round_follows l c gates b rows u k r.good after (differ_later row.group (flat_map group_of rows) differ) later r.names in
-    record { follows = follow_on l w u (with_round c u k rows) r.follows rest.follows; names = rest.names; good = rest.good } where
-      in_rows : (x : Row) (rows : List Row) → In x rows → (t : Terminal) → In t x.group → In t (flat_map group_of rows)
-      in_rows x [] h t g = elim h [ ]
-      in_rows x (y ∷ ys) here t g = In-left t y.group (flat_map group_of ys) g
-      in_rows x (y ∷ ys) (there h) t g = In-right t y.group (flat_map group_of ys) (in_rows x ys h t g)
+    record { follows = follow_on l w u (with_round c u k rows) r.follows rest.follows; names = rest.names; good = rest.good }
 
 abbrev pub whole : {A : Type 0} → List (List A) → List A
 whole {A} [] = []
@@ -376,17 +384,26 @@ pub whole_rows : (rows : List Row) → whole (map (λ r. r.group) rows) ≡ flat
 whole_rows [] = refl
 whole_rows (row ∷ rows) = ap (λ (x : List Terminal). row.group ++ x) (whole_rows rows)
 
+-- the rows of a round are of sinks of its class
+pub rows_sunk : (l : Library) (limit gates class : ℕ) (w : Wired) (rows : List Row) → AreGroups limit (sinks l w class) (map (λ r. r.group) rows) → All (λ r. length r.names ≡ gates) rows
+    → (row : Row) → In row rows → (length row.names ≡ gates) × ((t : Terminal) → In t row.group → IsSink l w t × (w.class t ≡ class))
+rows_sunk l limit gates class w rows groups many row row_in = (
+  All-In (λ (x : Row). length x.names ≡ gates) rows many row row_in,
+  λ t g.
+      let s = sink_at l w class t (in_groups limit (sinks l w class) (map (λ (x : Row). x.group) rows) groups row.group (In-map (λ (x : Row). x.group) row rows row_in) t g) in
+      (sink_of l w class t s, s.class),
+)
+
+pub rows_differ : (l : Library) (limit class : ℕ) (w : Wired) (rows : List Row) → AreGood l w.instances → AreGroups limit (sinks l w class) (map (λ r. r.group) rows)
+    → AllDifferent (flat_map group_of rows)
+rows_differ l limit class w rows good groups =
+    subst (λ (ts : List Terminal). AllDifferent ts) (groups_whole limit (sinks l w class) (map (λ (x : Row). x.group) rows) groups ∙ whole_rows rows) (sinks_differ l w good.names good.pins class)
+
 pub limited_follows : (l : Library) (limit : ℕ) (b : Repeater) → Repeats l b.cell b.gates → (names : List (List ℕ)) (w u : Wired) → IsLimited l limit b names w u
     → AreGood l w.instances → AreNew b.cell names w.instances → RoundFollows l b.cell [] w u
 limited_follows l limit b repeats names w u (within few) good new = record { follows = follow_itself l w; names = tt; good = good }
 limited_follows l limit b repeats names w u (round {later = later} class rows large earlier groups many rest) good new =
-    let each : (row : Row) → In row rows → (length row.names ≡ b.gates) × ((t : Terminal) → In t row.group → IsSink l w t × (w.class t ≡ class)) = λ row row_in. (
-      All-In (λ (x : Row). length x.names ≡ b.gates) rows many row row_in,
-      λ t g.
-          let s = sink_at l w class t (in_groups limit (sinks l w class) (map (λ (x : Row). x.group) rows) groups row.group (In-map (λ (x : Row). x.group) row rows row_in) t g) in
-          (sink_of l w class t s, s.class),
-    ) in
-    let differ = subst (λ (ts : List Terminal). AllDifferent ts) (groups_whole limit (sinks l w class) (map (λ (x : Row). x.group) rows) groups ∙ whole_rows rows) (sinks_differ l w good.names good.pins class) in
-    let r = round_follows l b.cell b.gates repeats rows w class good each differ later new in
+    let each = rows_sunk l limit b.gates class w rows groups many in
+    let r = round_follows l b.cell b.gates repeats rows w class good each (rows_differ l limit class w rows good groups) later new in
     let f = limited_follows l limit b repeats later (with_round b.cell w class rows) u rest r.good r.names in
     record { follows = follow_on l w (with_round b.cell w class rows) u r.follows f.follows; names = tt; good = f.good }

@@ -23,12 +23,12 @@ use Rattle.free_names.specs.Laws.{TextsAreFree}
 use Rattle.net_theory.proofs.Basics.{length-map}
 use Rattle.loon_fanout.specs.declared.repeater.Repeater.{Repeater as Parts}
 use Rattle.loon_fanout.specs.declared.wiring.Wiring.{Wiring}
-use Rattle.loon_fanout.specs.Sinks.{Wired, sinks, wired_of}
+use Rattle.loon_fanout.specs.Sinks.{Wired, all_sinks, sinks, wired_of}
 use Rattle.loon_fanout.specs.Repeaters.{Repeater, IsRepeater, buffer, inverters, NoneRepeats}
 use Rattle.loon_fanout.specs.Building.{gate_by}
 use Rattle.loon_fanout.specs.Gated.{gate_names, gated, IsGatable, IsGated}
 use Rattle.loon_fanout.specs.Laws.{gate_named, StaysBeside}
-use Rattle.loon_fanout.specs.Limited.{IsLimited, within, IsCrowded, IsBuffered, HasFanout, IsOfCells, HasRoomForGates}
+use Rattle.loon_fanout.specs.Limited.{IsLimited, within, IsCrowded, IsBuffered, HasFanout, HasFewGates, IsOfCells, HasRoomForGates}
 use Rattle.loon_fanout.specs.Stages.{tie_of, all_marks, AreLoads, LimitsAll, IsStart, IsPart, IsRepeaterOf, HasLongLoad}
 use Rattle.loon_fanout.proofs.Picking.{map_same, different_of, at_many, stands_in}
 use Rattle.loon_fanout.proofs.Gates.{Chosen, chosen}
@@ -37,7 +37,7 @@ use Rattle.loon_fanout.proofs.Sinking.{all_terminals}
 use Rattle.loon_fanout.proofs.Following.{Follows, none_behind}
 use Rattle.loon_fanout.proofs.Rounds.{below_or, gates_in, AllDone, all_done}
 use Rattle.loon_fanout.proofs.Starting.{follows_start, load_is, left_start}
-use Rattle.loon_fanout.proofs.Counted.{counted, loads_few}
+use Rattle.loon_fanout.proofs.Counted.{counted, loads_few, sinks_few}
 use Rattle.loon_fanout.proofs.Gating.{can_gate, is_of, instances_few, has_fanout, names_apart}
 
 by_room : (k : ℕ) → 32 * k < 2 ^ 32 → k < 2 ^ 32
@@ -150,6 +150,7 @@ pub record LimitedBuilt (l : Library) (n : InMemory) (r : Parts) (u : Wiring) (l
   pub named : length (gate_names n (gates_in u)) ≡ gates_in u
   pub limited : IsLimited l limit b (gate_names n (gates_in u)) (wired_of n) wired
   pub built : Built l n (Some r) u limit wired
+  pub fewer : 4 ≤ limit → gates_in u ≤ length (all_sinks l n.instances)
 
 none_left : {A : Type 0} (xs : List A) → length xs ≡ 0 → xs ≡ []
 none_left [] h = refl
@@ -170,10 +171,11 @@ module _ (law : TextsAreFree) (l : Library) (n : InMemory) (limit : ℕ) (size :
   few_gates : gates_in u ≤ 4 * length (terminals n)
   few_gates =
       let a = (counted r limit 0 size few_ties loads v u h).gates in
-      let t = loads_few (all_marks l n) n.classes n.count loads are in
-      let e = sound.each in
+      let t = loads_few l n loads are in
+      let p = sinks_few l n.instances in
+      let m = length-append (map (λ (q : Port). port q.name) n.ports) (flat_map pins_of n.instances) in
       let z = ap length start.reads in
-      omega (arith, a, t, e, z)
+      omega (arith, a, t, p, m, z)
 
   few_pins : length u.classes.items ≤ 17 * length (terminals n)
   few_pins =
@@ -230,6 +232,11 @@ module _ (law : TextsAreFree) (l : Library) (n : InMemory) (limit : ℕ) (size :
     wired = d.end;
     named = apart.1;
     limited = limited;
+    fewer = λ four.
+        let a = (counted r limit 0 size few_ties loads v u h).fewer four in
+        let t = loads_few l n loads are in
+        let z = ap length start.reads in
+        omega (arith, a, t, z);
     built = record {
       follows = at_end;
       ports = beside.ports;
@@ -288,6 +295,21 @@ limited_buffered l n r u limit b k rep h g = record {
   limited = h.limited;
   is = is_of l n (Some r) u h.wired h.built.follows h.built.ports h.built.instances k g;
 }
+
+-- there are no more gates than sinks
+pub start_few : (l : Library) (n : InMemory) (v : Wiring) (k : InMemory) → IsGated n None v k → HasFewGates n l k
+start_few l n v k g = let a = ap length (g.instances ∙ append-nil n.instances) in omega (arith, a)
+
+pub limited_few : (l : Library) (n : InMemory) (r : Parts) (u : Wiring) (limit : ℕ) (b : Repeater) (k : InMemory) → LimitedBuilt l n r u limit b → IsGated n (Some r) u k
+    → 4 ≤ limit → HasFewGates n l k
+limited_few l n r u limit b k h g four =
+    let names = gate_names n (gates_in u) in
+    let a = ap length g.instances in
+    let m = length-append n.instances (map (gate_by r) names) in
+    let p = length-map (gate_by r) names in
+    let named = h.named in
+    let few = h.fewer four in
+    omega (arith, a, m, p, named, few)
 
 -- a library that has a repeater doesn't lack one
 pub not_none : (cells : List Cell) (b : Repeater) → IsRepeater cells b → NoneRepeats cells → ⊥

@@ -8,7 +8,7 @@ use Rattle.cell_pins.proofs.Sound.{connected}
 use Rattle.loon_fanout.specs.Stages.{all_marks}
 use Rattle.loon_fanout.proofs.Loading.{loads_below}
 use Rattle.loon_fanout.specs.Sinks.{wired_of}
-use Rattle.loon_fanout.proofs.Wholes.{built_gatable, built_fanout, built_cells, start_buffered, limited_buffered, not_none, Calm, calm, crowded, Repeated, repeated, lacking}
+use Rattle.loon_fanout.proofs.Wholes.{built_gatable, built_fanout, built_cells, start_buffered, limited_buffered, start_few, limited_few, not_none, Calm, calm, crowded, Repeated, repeated, lacking}
 use Rattle.loon_fanout.proofs.limit.limit_fanout.Goals as goal
 
 pub make_repeater-requires-clause-formed : goal.make_repeater-requires-clause-formed
@@ -69,6 +69,10 @@ returns-then-not-is_crowded-clause-cells c =
     built_cells c.args.library.now c.args.netlist.now None c.in_ok-wiring.wiring c.args.fanout (wired_of c.args.netlist.now)
     c.in_ok-with_gates.field-0 k.built c.in_ok-with_gates.ensures.gated
 
+pub returns-then-not-is_crowded-clause-few : goal.returns-then-not-is_crowded-clause-few
+returns-then-not-is_crowded-clause-few c = λ four.
+    start_few c.args.library.now c.args.netlist.now c.in_ok-wiring.wiring c.in_ok-with_gates.field-0 c.in_ok-with_gates.ensures.gated
+
 pub returns-then-not-is_crowded-clause-covered : goal.returns-then-not-is_crowded-clause-covered
 returns-then-not-is_crowded-clause-covered c = λ over lacks. let k = calm_then c in k.not_crowded over
 
@@ -103,6 +107,12 @@ returns-in-Some-clause-cells c =
     let k = repeated_then c in
     built_cells c.args.library.now c.args.netlist.now (Some c.in-Some.found) c.limit_all.new.self c.args.fanout k.done.wired
     c.in_ok-with_gates-in-Some.field-0 k.done.built c.in_ok-with_gates-in-Some.ensures.gated
+
+pub returns-in-Some-clause-few : goal.returns-in-Some-clause-few
+returns-in-Some-clause-few c =
+    let k = repeated_then c in
+    limited_few c.args.library.now c.args.netlist.now c.in-Some.found c.limit_all.new.self c.args.fanout k.b c.in_ok-with_gates-in-Some.field-0 k.done
+    c.in_ok-with_gates-in-Some.ensures.gated
 
 pub returns-in-Some-clause-covered : goal.returns-in-Some-clause-covered
 returns-in-Some-clause-covered c = λ over lacks. let k = repeated_then c in not_none c.args.library.now.cells k.b k.rep lacks
