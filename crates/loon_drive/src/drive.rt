@@ -90,6 +90,7 @@ pub fn drive_netlist(
     ensures fanout { IfOk result (λ d. HasFanout library.now (most_sinks fanout) d.netlist) }
     ensures right { IfOk result (λ d. StaysRight netlist.now library.now d.netlist) }
     ensures timed { IfOk result (λ d. CanBeTimed library.now d.netlist) }
+    ensures few { IfOk result (λ d. HasFewGates netlist.now library.now d.netlist) }
     ensures refused { IfErr result (λ e. IsBufferRefusal netlist.now library.now (most_sinks fanout) e) }
 {
     exchanged_law();

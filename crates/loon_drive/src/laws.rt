@@ -24,4 +24,5 @@ pub fn driven_law()
     loon_fanout::limited_law();
     loon_fanout::few_inputs_law();
     loon_fanout::needed_law();
+    loon_fanout::joins_nothing_law();
 }

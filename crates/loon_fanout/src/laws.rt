@@ -1,6 +1,6 @@
 // What is true of each netlist that is limited.
 ghost use Rattle.loon_fanout.specs.Laws.{LimitedStaysBeside, GroupSplits, BufferedStaysRight, BufferedPasses};
-ghost use Rattle.loon_fanout.specs.Nets.{BufferedHasFewInputs, BufferedRemains, BuffersAreNeeded, RightHasFewInputs};
+ghost use Rattle.loon_fanout.specs.Nets.{BufferedHasFewInputs, BufferedJoinsNothing, BufferedRemains, BuffersAreNeeded, RightHasFewInputs};
 
 /// No net of a limited netlist has more sinks than the limit; its ports are those of the given one, and behind the given instances
 /// stand the gates that were put in.
@@ -33,6 +33,11 @@ pub fn few_inputs_law()
 /// A limited netlist that would do without its buffers has none.
 pub fn needed_law()
     ensures { BuffersAreNeeded }
+{}
+
+/// A limited netlist joins nothing that was apart, once its buffers are taken out.
+pub fn joins_nothing_law()
+    ensures { BufferedJoinsNothing }
 {}
 
 /// A limited netlist of a checked library passes its checks where the given one does, and its instances' supplies are tied.

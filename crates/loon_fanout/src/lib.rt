@@ -11,6 +11,7 @@ mod wiring;
 
 pub use error::BufferError;
 pub use laws::{
-    few_inputs_law, limited_law, needed_law, passes_law, remains_law, split_law, stays_right_law,
+    few_inputs_law, joins_nothing_law, limited_law, needed_law, passes_law, remains_law, split_law,
+    stays_right_law,
 };
 pub use limit::limit_fanout;

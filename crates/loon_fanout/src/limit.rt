@@ -5,7 +5,7 @@ ghost use Rattle.vlsi_base.specs.Names.{scalar};
 ghost use Rattle.net_core.specs.Netlist.{IsNetlist, port, terminals, HasClass};
 ghost use Rattle.net_core.specs.Places.{IsThere};
 ghost use Rattle.loon_fanout.specs.Repeaters.{NoneRepeats};
-ghost use Rattle.loon_fanout.specs.Limited.{IsCrowded, IsBuffered, HasFanout, IsOfCells, HasRoomForGates, StaysRight, IsBufferRefusal};
+ghost use Rattle.loon_fanout.specs.Limited.{IsCrowded, IsBuffered, HasFanout, HasFewGates, IsOfCells, HasRoomForGates, StaysRight, IsBufferRefusal};
 ghost use Rattle.loon_fanout.specs.Stages.{HasLongLoad, IsStart};
 ghost use Rattle.loon_fanout.specs.Building.{instance_by};
 ghost use Rattle.loon_fanout.specs.Gated.{gate_names, gates_by, IsGatable, IsGated};
@@ -136,8 +136,8 @@ fn with_gates(
 
 /// Puts buffers into a netlist until no net has more than `fanout` sinks; a netlist in which none has stays as it is.
 ///
-/// The sinks of a net are the input pins of instances in its class, other than clock pins, vdd and vss. While a net has too many,
-/// its sinks in their order (instances in order, pins by name) are cut into groups of `fanout`, the last perhaps smaller, and each
+/// The sinks of a net are the input pins of instances in its class, other than clock pins, vdd and vss; the classes of the ports vdd
+/// and vss are no nets. While a net has too many, its sinks in their order (instances in order, pins by name) are cut into groups of `fanout`, the last perhaps smaller, and each
 /// group is put behind a buffer of its own: the first usable cell of the library whose function is its input, or where there is
 /// none two of the first inverter in a row. Buffers stand behind the other instances and are called b0, b1 and so on, without the
 /// names that instances have. Nets are taken in the order of their classes.
@@ -160,6 +160,7 @@ pub fn limit_fanout(
     ensures right { IfOk result (λ r. StaysRight netlist.now library.now r) }
     ensures cells { IfOk result (λ r. IsOfCells r library.now) }
     ensures sound { IfOk result (λ r. IsNetlist r) }
+    ensures few { IfOk result (λ r. 4 ≤ fanout → HasFewGates netlist.now library.now r) }
     ensures covered { OnOk result (IsCrowded library.now fanout netlist.now → NoneRepeats library.now.cells → ⊥) }
     ensures refused { IfErr result (λ e. IsBufferRefusal netlist.now library.now fanout e) }
 {
