@@ -1,5 +1,6 @@
 -- A netlist with buffers and with room for models, and what exchanges of its cells come to.
-use Rattle.std.proofs.Common.{◌≡◌, ◌≤◌, ℕ, List, false, sym, ap, ◌∙◌, subst}
+use Rattle.std.proofs.Common.{◌≡◌, ◌≤◌, ◌+◌, ℕ, List, length, false, sym, ap, ◌∙◌, subst}
+use Rattle.std.proofs.Math.Nat.{le-max_right}
 use Rattle.cell_model.specs.Library.{Library}
 use Rattle.cell_checks.specs.Checked.{IsChecked as HasPassed}
 use Rattle.net_core.specs.Places.{IsThere}
@@ -7,8 +8,10 @@ use Rattle.net_core.specs.Netlist.{Netlist, IsNetlist}
 use Rattle.delay_sta.specs.Paths.{IsWorst}
 use Rattle.delay_sta.specs.Timed.{CanBeTimed}
 use Rattle.loon_buffer.specs.Drives.{OnlyExchanges}
+use Rattle.loon_fanout.specs.Sinks.{all_sinks}
 use Rattle.loon_fanout.specs.Laws.{IsTied, BufferedPasses}
-use Rattle.loon_fanout.specs.Limited.{IsBuffered, IsOfCells, StaysRight}
+use Rattle.loon_fanout.specs.Limited.{IsBuffered, HasFewGates, IsOfCells, StaysRight}
+use Rattle.loon_drive.specs.Driven.{most_sinks}
 use Rattle.loon_drive.specs.Laws.{AreExchanged, RightStays}
 
 module _ (n : Netlist) (l : Library) (limit : ℕ) (r now : Netlist) (same : now ≡ record r { models = now.models }) where
@@ -53,3 +56,12 @@ module _ (n : Netlist) (l : Library) (limit : ℕ) (r now : Netlist) (same : now
 
   pub right_again : RightStays → (k : Netlist) → IsNetlist r → OnlyExchanges l now k → StaysRight n l r → StaysRight n l k
   right_again law k sound e stays = λ m checked right. law l r k m sound (are k e) (stays m checked right)
+
+  -- exchanges put in no gates
+  pub few_again : (k : Netlist) → OnlyExchanges l now k → HasFewGates n l r → HasFewGates n l k
+  few_again k e few =
+      subst (λ (many : ℕ). many ≤ length n.instances + length (all_sinks l n.instances)) (sym (e.many ∙ ap (λ (x : Netlist). length x.instances) same)) few
+
+-- what words ask for is 4 or more
+pub most_is_four : (fanout limit : ℕ) → limit ≡ most_sinks fanout → 4 ≤ limit
+most_is_four fanout limit is = subst (λ (m : ℕ). 4 ≤ m) (sym is) (le-max_right fanout 4)

@@ -23,7 +23,7 @@ use Rattle.loon_drive.specs.Laws.{AreExchanged, CellsStay, RightStays, FanoutSta
 
 -- ---- two lists of instances, one by one
 
-data AreChosen (l : Library) : List Instance → List Instance → Type 0 where
+pub data AreChosen (l : Library) : List Instance → List Instance → Type 0 where
   none : AreChosen l [] []
   more : {i j : Instance} {is js : List Instance} → IsChosenFor l i j → AreChosen l is js → AreChosen l (i ∷ is) (j ∷ js)
 
@@ -34,11 +34,11 @@ chosen l (i ∷ is) [] many each = absurd (omega (arith, many))
 chosen l (i ∷ is) (j ∷ js) many each =
     more (each 0 i j refl refl) (chosen l is js (omega (arith, many)) (λ k a b p q. each (suc k) a b p q))
 
-chosen_of : (l : Library) (n k : Netlist) → AreExchanged l n k → AreChosen l n.instances k.instances
+pub chosen_of : (l : Library) (n k : Netlist) → AreExchanged l n k → AreChosen l n.instances k.instances
 chosen_of l n k x = chosen l n.instances k.instances x.many x.each
 
 -- the given one behind one of the list
-back_at : (l : Library) (is js : List Instance) → AreChosen l is js → (k : ℕ) (j : Instance) → Stands js k j → (i : Instance) × Stands is k i × IsChosenFor l i j
+pub back_at : (l : Library) (is js : List Instance) → AreChosen l is js → (k : ℕ) (j : Instance) → Stands js k j → (i : Instance) × Stands is k i × IsChosenFor l i j
 back_at l _ _ none k j s = absurd cc
 back_at l _ _ (more {i = a} {j = b} {is = is} {js = js} c rest) zero j s = let same : b ≡ j = cc s in (a, refl, subst (λ (x : Instance). IsChosenFor l a x) same c)
 back_at l _ _ (more {i = a} {j = b} {is = is} {js = js} c rest) (suc k) j s = let r = back_at l is js rest k j s in (r.0, r.1, r.2)
@@ -52,19 +52,19 @@ same_pins l _ _ (more {i = i} {j = j} {is = is} {js = js} c rest) =
     ap (λ (ts : List Terminal). ts ++ flat_map pins_of js) (same_pins_of l i j c) ∙ ap (λ (ts : List Terminal). pins_of i ++ ts) (same_pins l is js rest)
 
 module _ (l : Library) (n k : Netlist) (x : AreExchanged l n k) where
-  ports_same : k.ports ≡ n.ports
+  pub ports_same : k.ports ≡ n.ports
   ports_same = ap (λ (y : Netlist). y.ports) x.now
 
-  classes_same : k.classes ≡ n.classes
+  pub classes_same : k.classes ≡ n.classes
   classes_same = ap (λ (y : Netlist). y.classes) x.now
 
   count_same : k.count ≡ n.count
   count_same = ap (λ (y : Netlist). y.count) x.now
 
-  name_same : k.name ≡ n.name
+  pub name_same : k.name ≡ n.name
   name_same = ap (λ (y : Netlist). y.name) x.now
 
-  terminals_same : terminals k ≡ terminals n
+  pub terminals_same : terminals k ≡ terminals n
   terminals_same =
       ap (λ (ps : List Port). terminals_of ps k.instances) ports_same
       ∙ ap (λ (ts : List Terminal). map (λ (p : Port). port p.name) n.ports ++ ts) (same_pins l n.instances k.instances (chosen_of l n k x))
@@ -181,20 +181,20 @@ members l all _ _ (more {i = i} {j = j} {is = is} {js = js} c rest) finds =
     ap (λ (y : Member). y ∷ map member_of js) (ap₂ made name model)
     ∙ ap (λ (ys : List Member). driven_by all (member_of i) ∷ ys) (members l all is js rest (λ k y model s. finds (suc k) y model s))
 
-same_names : (l : Library) (is js : List Instance) → AreChosen l is js → map (λ (j : Instance). j.name) js ≡ map (λ (i : Instance). i.name) is
+pub same_names : (l : Library) (is js : List Instance) → AreChosen l is js → map (λ (j : Instance). j.name) js ≡ map (λ (i : Instance). i.name) is
 same_names l _ _ none = refl
 same_names l _ _ (more {i = i} {j = j} {is = is} {js = js} c rest) =
     ap (λ (t : List ℕ). t ∷ map (λ (y : Instance). y.name) js) (ap (λ (y : Instance). y.name) c.same)
     ∙ ap (λ (ts : List (List ℕ)). i.name ∷ ts) (same_names l is js rest)
 
 -- the instance behind a member
-of_member : (l : Library) (is js : List Instance) → AreChosen l is js → (y : Member) → In y (map member_of is)
+pub of_member : (l : Library) (is js : List Instance) → AreChosen l is js → (y : Member) → In y (map member_of is)
     → (k : ℕ) × (i : Instance) × (j : Instance) × Stands js k j × IsChosenFor l i j × (member_of i ≡ y)
 of_member l _ _ none y at = elim at [ ]
 of_member l _ _ (more {i = i} {j = j} {is = is} {js = js} c rest) _ here = (0, i, j, refl, c, refl)
 of_member l _ _ (more {i = i} {j = j} {is = is} {js = js} c rest) y (there at) = let r = of_member l is js rest y at in (suc r.0, r.1, r.2, r.3, r.4, r.5)
 
-abbrev HasClassIn : List Terminal → List ℕ → Terminal → ℕ → Type 0
+abbrev pub HasClassIn : List Terminal → List ℕ → Terminal → ℕ → Type 0
 HasClassIn ts cs t class = (p : ℕ) × Stands ts p t × Stands cs p class
 
 pub right_stays : ShownExchanged → RightStays

@@ -4,3 +4,7 @@ pub mod Cells
 pub mod Fitting
 mod Reserving
 mod Driving
+mod Pins
+mod Grown
+mod Views
+mod Nets

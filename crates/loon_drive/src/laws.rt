@@ -21,7 +21,8 @@ pub fn driven_law()
     ensures inputs { DrivenHasFewInputs }
     ensures needed { DrivenNeedsItsBuffers }
 {
+    loon_fanout::limited_law();
     loon_fanout::few_inputs_law();
-    loon_fanout::joins_nothing_law();
     loon_fanout::needed_law();
+    loon_fanout::joins_nothing_law();
 }

@@ -2,7 +2,7 @@ use Rattle.std.proofs.Common.{ℕ, subst}
 use Rattle.std.proofs.lemmas.Result.{err_from_is_err_and}
 use Rattle.loon_fanout.specs.Limited.{IsBuffered, HasFanout, IsBufferRefusal}
 use Rattle.loon_drive.specs.Driven.{most_sinks}
-use Rattle.loon_drive.proofs.Driving.{timed_again, are, no_slower_again, right_again}
+use Rattle.loon_drive.proofs.Driving.{timed_again, are, no_slower_again, right_again, few_again, most_is_four}
 use Rattle.loon_drive.proofs.drive.drive_netlist.Goals as goal
 
 pub returns-in_err-limited-clause-refused : goal.returns-in_err-limited-clause-refused
@@ -20,6 +20,7 @@ exchanged-requires-clause-timed c =
 pub returns-clause-driven : goal.returns-clause-driven
 returns-clause-driven c = record {
   buffered = c.in_ok-limited.limited;
+  sound = c.in_ok-limited.ensures.sound;
   is_buffered = subst (λ (m : ℕ). IsBuffered c.args.netlist.now c.args.library.now m c.in_ok-limited.limited) c.max.ensures c.in_ok-limited.ensures.buffered;
   exchanged = are c.args.netlist.now c.args.library.now c.max.result c.in_ok-limited.limited c.reserve.new.netlist c.in_ok-reserve.ensures.same
       c.in_ok-exchanged.field-0.netlist c.in_ok-exchanged.ensures.exchanged;
@@ -47,3 +48,9 @@ pub returns-clause-right : goal.returns-clause-right
 returns-clause-right c =
     right_again c.args.netlist.now c.args.library.now c.max.result c.in_ok-limited.limited c.reserve.new.netlist c.in_ok-reserve.ensures.same
     c.exchanged_law.ensures.right c.in_ok-exchanged.field-0.netlist c.in_ok-limited.ensures.sound c.in_ok-exchanged.ensures.exchanged c.in_ok-limited.ensures.right
+
+pub returns-clause-few : goal.returns-clause-few
+returns-clause-few c =
+    few_again c.args.netlist.now c.args.library.now c.max.result c.in_ok-limited.limited c.reserve.new.netlist c.in_ok-reserve.ensures.same
+    c.in_ok-exchanged.field-0.netlist c.in_ok-exchanged.ensures.exchanged
+    (c.in_ok-limited.ensures.few (most_is_four c.args.fanout c.max.result c.max.ensures))
