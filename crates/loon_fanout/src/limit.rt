@@ -136,8 +136,8 @@ fn with_gates(
 
 /// Puts buffers into a netlist until no net has more than `fanout` sinks; a netlist in which none has stays as it is.
 ///
-/// The sinks of a net are the input pins of instances in its class, other than clock pins, vdd and vss; the classes of the ports vdd
-/// and vss are no nets. While a net has too many, its sinks in their order (instances in order, pins by name) are cut into groups of `fanout`, the last perhaps smaller, and each
+/// The sinks of a net are the input pins of instances in its class, other than clock pins, vdd and vss. While a net has too many,
+/// its sinks in their order (instances in order, pins by name) are cut into groups of `fanout`, the last perhaps smaller, and each
 /// group is put behind a buffer of its own: the first usable cell of the library whose function is its input, or where there is
 /// none two of the first inverter in a row. Buffers stand behind the other instances and are called b0, b1 and so on, without the
 /// names that instances have. Nets are taken in the order of their classes.
