@@ -14,8 +14,8 @@ use Rattle.loon_buffer.specs.Drives.{IsDriven}
 use Rattle.loon_fanout.specs.Limited.{IsOfCells, HasFanout, HasFewGates}
 use Rattle.loon_drive.specs.Driven.{most_sinks, IsDrivenFrom}
 
--- The machine is mapped, and of that netlist comes this one, with so many sinks of a net at most; its longest path takes so many
--- femtoseconds. It is right for the machine too.
+-- The machine is mapped, and of that netlist comes this one, with at most so many sinks of a net, or 4 where that is less; its longest
+-- path takes so many femtoseconds. It is right for the machine too.
 pub record IsDrivenNetlist (l : Library) (m : Machine) (fanout : ℕ) (k : Netlist) (delay : ℕ) : Type 0 where
   pub n : Netlist
   pub mapped : IsNetlistFor l m n
@@ -30,6 +30,7 @@ pub record IsDrivenNetlist (l : Library) (m : Machine) (fanout : ℕ) (k : Netli
 -- femtoseconds, and no exchange of one instance's cell for another drive of it makes that path shorter.
 pub record IsDrivenAs (n : Seen) (l : Library) (m : Machine) (delay : ℕ) : Type 0 where
   pub held : Netlist
+  pub sound : IsNetlist held
   pub ports : held.ports ≡ with_supply vss (with_supply vdd m.ports)
   pub seen : IsSeenAs held n
   pub pins : HasPinsOfCells held l

@@ -16,9 +16,10 @@ use machine_core::Machine;
 use std::alloc::Global;
 use tool_drive::Status;
 
-/// A netlist of the library's cells for the machine, with buffers where a net had more than `fanout` sinks and with drives that no single
-/// exchange makes faster; or the status that tells why there is none: `Limit` of `Size`, `NoCover`, or out of memory. A library that
-/// covers a machine has an inverter, so nothing stands in the way of buffers.
+/// A netlist of the library's cells for the machine, with buffers where a net had more than `fanout` sinks, or 4 where that is less, and
+/// with drives that no single exchange makes faster; or the status that tells why there is none: `Limit` of `Size`, `NoCover`, or out of
+/// memory. A library that covers a machine has an inverter, so nothing stands in the way of buffers. Each usable cell must have its
+/// arcs, as those of a library that is read have. Takes memory for graph and netlist, and what `drive_netlist` takes.
 pub fn driven_netlist_of(
     alloc: Global,
     machine: &Machine,

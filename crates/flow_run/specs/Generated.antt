@@ -71,7 +71,7 @@ pub data IsRun (c : GenCommand) (before now : Outside) (s : Status) : Type 0 whe
 abbrev pub with_source : Files → GenCommand → Files
 with_source files c = insert files c.flow.source (circuit_text c)
 
--- NAME.vbe holds a text of exactly this circuit. NAME.ap is a right layout, by the library that stood there, of exactly this circuit, and
+-- NAME.vbe holds a text of this circuit, as a text says a machine but for the order of its equations. NAME.ap is a right layout, by the library that stood there, of exactly this circuit, and
 -- the report is that on it. Every other file is as it was.
 pub record IsGenerated (old : Files) (now : Option Files) (c : GenCommand) (report : List ℕ) : Type 0 where
   pub itself : IsVbe (circuit_text c) (circuit_of c)

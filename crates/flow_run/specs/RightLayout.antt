@@ -24,8 +24,8 @@ use Rattle.flow_run.specs.Report.{report_of}
 -- is a netlist of the library's cells that is well formed for the machine, behaves as the machine does, and breaks no
 -- symbolic rule. Of a state machine it does what this does, from the codes of its states and behind vectors that reset. Its ports,
 -- instances, supplies and box are those of a placement, one row in the order of the netlist. It has few gates, few pins read each net,
--- buffers stand only where more would, and no exchange of one instance's cell makes it faster. The report is that of machine, netlist
--- and placement, and has the most nodes of a diagram of the machine's roots and the delay of the netlist.
+-- it has no buffer at all where it would do without them, and no exchange of one instance's cell makes its longest path shorter. The
+-- report is that of machine, netlist and placement, and has the most nodes of a diagram of the machine's roots and the time of that path.
 pub record IsRightLayout (bytes : List ℕ) (o : Origin) (m : Machine) (l : Library) (fanout : ℕ) (report : List ℕ) : Type 0 where
   pub figure : Figure
   pub netlist : Netlist

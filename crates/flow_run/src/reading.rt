@@ -5,8 +5,8 @@ use lib_same::{covered_lacks_nothing, libraries_are_same, library_is_never_refus
 use syf_run::encoded_law;
 use vbe_same::machines_are_the_same;
 
-/// Where the source is a machine that isn't too large, and the files are a library that covers it, none of the causes of a refusal
-/// holds of them. It costs nothing when it is called.
+/// Where the source is a machine that isn't too large, the files are a library that covers it, and no diagram is over the budget, none
+/// of the causes of a refusal holds of them. It costs nothing when it is called.
 pub fn reading_law()
     ensures { WhatIsReadIsNeverRefused }
 {
