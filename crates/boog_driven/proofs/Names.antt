@@ -50,10 +50,10 @@ no_text (t ∷ taken) text apart = by (bytes_eq t text) refl (no_text taken text
 pub free_buffers : (taken : List (List ℕ)) (many : ℕ) → ((t : List ℕ) (k : ℕ) → In t taken → t ≢ buffer_instance k)
     → free_texts (codes "b") taken many ≡ map buffer_instance (count_to many)
 free_buffers taken many apart = ap (map buffer_instance) (
-  ap (take many) (all_pass (λ k. is_free taken (buffer_instance k)) (rising 0 (many + length taken)) (λ k. no_text taken (buffer_instance k) (λ t i. apart t k i)))
-  ∙ first_rising many (length taken) 0
-  ∙ counted many
-)
+    ap (take many) (all_pass (λ k. is_free taken (buffer_instance k)) (rising 0 (many + length taken)) (λ k. no_text taken (buffer_instance k) (λ t i. apart t k i)))
+    ∙ first_rising many (length taken) 0
+    ∙ counted many
+    )
 
 -- ---- registers, gates and buffers
 

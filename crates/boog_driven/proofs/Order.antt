@@ -50,12 +50,12 @@ record WasGate (l : Library) (n : Netlist) (i : Member) (c : Cell) : Type 0 wher
 new_name : (new : Instance) (i : Member) (number : ℕ) → member_of new ≡ i → i.name ≡ gate_instance number → new.name ≡ gate_instance number
 new_name new i number is named = ap (λ (z : Member). z.name) is ∙ named
 
-was_by : (l : Library) (n : Netlist) (i : Member) (c : Cell) (place : ℕ) (old new : Instance) → Stands n.instances place old → old.name ≡ i.name → member_of new ≡ i
-    → cell_of l i.model ≡ Some c → (ch : IsChosenFor l old new) → WasGate l n i c
-was_by l n i c place old new stood named is found ch = record {
+was_by : (l : Library) (n : Netlist) (i : Member) (c : Cell) (number place : ℕ) (old new : Instance) → Stands n.instances place old → old.name ≡ gate_instance number
+    → i.name ≡ gate_instance number → member_of new ≡ i → cell_of l i.model ≡ Some c → (ch : IsChosenFor l old new) → WasGate l n i c
+was_by l n i c number place old new stood old_named named is found ch = record {
   old = old;
   listed = (place, stood);
-  name = named;
+  name = old_named ∙ sym named;
   was = ch.was;
   found = ch.found;
   same = subst (λ (z : Cell). pin_ports z ≡ pin_ports ch.was) now ch.drive.pins;
@@ -97,7 +97,7 @@ module _ (l : Library) (m : Machine) (n k : Netlist) (fanout delay : ℕ) (mappe
           let r = In-map_back member_of i k.instances (subst (λ (ms : List Member). In i ms) (seen_instances k y seen) has.listed) in
           let at = in_place r.0 k.instances r.1 in
           let old = stood at.0 x r.0 at.1 (new_name r.0 i x r.2 named) in
-          was_by l n i c at.0 old.0 r.0 old.1 (old.2 ∙ sym named) r.2 has.found (chosen n l fanout k delay at.0 old.0 r.0 made old.1 at.1)
+          was_by l n i c x at.0 old.0 r.0 old.1 old.2 named r.2 has.found (chosen n l fanout k delay at.0 old.0 r.0 made old.1 at.1)
         where
           -- it stood at the same place
           stood : (place number : ℕ) (new : Instance) → Stands k.instances place new → new.name ≡ gate_instance number
