@@ -81,6 +81,7 @@ module _ (l : Library) (m : Machine) (n : Netlist) (mapped : IsNetlistFor l m n)
 
   -- ---- how many there are
 
+  -- at most 3276 registers, and 16386 gates
   pub few_instances : machine_size m ≤ MOST_SIZE → length n.instances ≤ 19662
   few_instances small =
       let few = few_cells n m mapped.graph mapped.subject mapped.each in
