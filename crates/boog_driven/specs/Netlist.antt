@@ -22,7 +22,7 @@ pub record IsDrivenNetlist (l : Library) (m : Machine) (fanout : ℕ) (k : Netli
   pub made : IsDrivenFrom n l fanout k delay
   pub sound : IsNetlist k
   pub cells : IsOfCells k l
-  pub fanout : HasFanout l (most_sinks fanout) k
+  pub limited : HasFanout l (most_sinks fanout) k
   pub few : HasFewGates n l k
   pub right : IsRightNetlist k l m
 

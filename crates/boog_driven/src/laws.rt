@@ -4,7 +4,7 @@ ghost use Rattle.boog_driven.specs.Laws.{DrivenIsGood, DrivenIsDrawable};
 use boog_run::netlist_law;
 use cell_lib::library_law;
 use loon_drive::driven_law;
-use vbe_words::{catal_is_named, cell_can_be_written, names_are_short};
+use vbe_words::{catal_is_named, names_are_short};
 
 /// A netlist for a machine, with buffers and drives, stands in order, is lean and driven, and can be drawn where the machine can be
 /// declared.
@@ -16,6 +16,5 @@ pub fn driven_netlist_law()
     library_law();
     netlist_law();
     catal_is_named();
-    cell_can_be_written();
     names_are_short();
 }

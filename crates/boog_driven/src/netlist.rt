@@ -10,6 +10,7 @@ ghost use Rattle.boog_driven.specs.Netlist.{IsDrivenNetlist};
 
 use boog_run::netlist_of;
 use cell_checks::Library;
+use cell_pins::pin_table;
 use loon_drive::{Driven, drive_netlist};
 use loon_fanout::BufferError;
 use machine_core::Machine;
@@ -33,6 +34,12 @@ pub fn driven_netlist_of(
     ensures refused { IfErr result (λ s. MemoryOr s (IsNoNetlist library.now machine.now s)) }
 {
     let netlist = netlist_of(alloc, machine, library)?;
+    // Machine and library are checked; and what stages ask of a netlist is said by a table of pins, so there has to be one.
+    let _ = machine.name();
+    let _ = library.cells();
+    let Ok(_table) = pin_table(alloc, library, false) else {
+        return Err(Status::Memory);
+    };
     match drive_netlist(alloc, &netlist, library, fanout) {
         Ok(driven) => Ok(driven),
         Err(BufferError::Memory) => Err(Status::Memory),
