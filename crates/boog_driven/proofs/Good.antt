@@ -29,6 +29,7 @@ pins_of_cells k l cells i c at found =
 driven_as : (l : Library) (m : Machine) (fanout : ℕ) (k : Netlist) (delay : ℕ) (y : Seen) → DrivenIsGrown → IsDrivenNetlist l m fanout k delay → IsSeenAs k y → IsDrivenAs y l m delay
 driven_as l m fanout k delay y grown d seen = record {
   held = k;
+  sound = d.sound;
   ports = (grown d.n l fanout k delay d.made).ports ∙ d.mapped.right.ports;
   seen = seen;
   pins = pins_of_cells k l d.cells;
