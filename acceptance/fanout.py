@@ -17,14 +17,14 @@ class Put:
         self.name, self.model, self.nets = name, model, dict(nets)
 
 
+def is_sink(item, pin):
+    """Input pins are sinks of their nets, but for clocks and supplies."""
+    return item.model.pins[pin] == IN and pin != item.model.clock and pin[0] not in SUPPLIES
+
+
 def sinks(items, net):
-    """Input pins but clocks and supplies, by instances in their order and then by names."""
-    return [
-        (item, pin)
-        for item in items
-        for pin in sorted(item.nets)
-        if item.nets[pin] == net and item.model.pins[pin] == IN and pin != item.model.clock and pin[0] not in SUPPLIES
-    ]
+    """By instances in their order and then by names."""
+    return [(item, pin) for item in items for pin in sorted(item.nets) if item.nets[pin] == net and is_sink(item, pin)]
 
 
 def repeater(models):
@@ -48,7 +48,7 @@ def counts(items):
     found = {}
     for item in items:
         for pin, net in item.nets.items():
-            if item.model.pins[pin] == IN and pin != item.model.clock and pin[0] not in SUPPLIES:
+            if is_sink(item, pin):
                 found[net] = found.get(net, 0) + 1
     return found
 

@@ -1,6 +1,7 @@
 """What the second readers say of `flow`, and what no case of it has: random machines and state machines over random libraries, large and
-small sources, and the layouts that it writes, read again: extracted, compared with a second drawing, and run beside their sources. Of a
-state machine a layout is run beside the walk too: from the codes of states, and behind a reset from any contents.
+small sources, nets that many pins read, and the layouts that it writes, read again: extracted, compared with a second drawing, and run
+beside their sources. Of a state machine a layout is run beside the walk too: from the codes of states, and behind a reset from any
+contents. Of each netlist driven.py says which buffers and drives it has to have.
 """
 
 import pathlib
@@ -13,6 +14,7 @@ import catal
 import cellcheck
 import cells
 import diagrams
+import driven
 import extraction
 import layout
 import models
@@ -23,11 +25,12 @@ from boom import MOST_NODES, NODES, inner_size
 from case_file import ROWS, Case
 from fsm_oracle import state_machine
 from mapping import CHOICE, MOST_SIZE, Graph, machine_size
-from models import IN, Refusal, first_missing, first_of
+from models import IN, Refusal, first_missing
 from pat_oracle import machine_of
 from random_sources import WORDS as SOURCE_WORDS
 from random_sources import Maker, changed
 from random_states import StateMaker
+from random_wide import WideMaker, with_drives
 from results import Room, compare, run_in, shown
 from state_codes import code_lines
 from state_machine import machine_of as equations_of
@@ -45,9 +48,12 @@ USAGE = "usage: alliance flow SOURCE.vbe|.fsm -l DIR -o NAME [-e o|r|j] --tracks
 FIVE = ["inv_x1", "na2_x1", "zero_x0", "one_x0", "sff1_x4"]
 MORE = ["inv_x8", "na3_x1", "sff1_x8", "xr2_x1", "mx2_x2", "buf_x2"]
 WORDS = ["flow", "s.vbe", "-l", "lib", "-o", "r", "--tracks"]
-UNUSED = {"--rows": (1, 256), "--metals": (4, 6), "--moves": (0, 1000000), "--fanout": (4, 1000000)}
-OPTIONS = {"-l": "", "-o": "", "--nodes": "", "-e": "", "--seed": ""} | dict.fromkeys(UNUSED, "")
-MACHINES, STATE_MACHINES, CHUNK = 200, 30, 20
+BOUNDS = {"--rows": (1, 256), "--metals": (4, 6), "--moves": (0, 1000000), "--fanout": (4, 1000000), "--nodes": (1, MOST_NODES)}
+OPTIONS = {"-l": "", "-o": "", "-e": "", "--seed": ""} | dict.fromkeys(BOUNDS, "")
+FANOUT = 32
+# the lines of the report that go by the optimised source: which one comes out is open
+OPEN = ("cells", "nets", "delay", "length")
+MACHINES, STATE_MACHINES, WIDE, CHUNK = 200, 30, 36, 20
 
 
 # ---- the second answer
@@ -58,6 +64,7 @@ class Flow(NamedTuple):
     folder: str
     out: str
     nodes: int
+    fanout: int
     style: tuple
 
 
@@ -69,14 +76,12 @@ def parsed(words):
     found = command([word for word in words if word != "--tracks"], (".vbe", ".fsm"), OPTIONS)
     if not found or "-l" not in found[1] or "-o" not in found[1] or style_of(found[1]) is None:
         return None
-    for option, (least, most) in UNUSED.items():
+    for option, (least, most) in BOUNDS.items():
         number = found[1].get(option, str(least))
         if not re.fullmatch("[0-9]{1,10}", number) or not least <= int(number) <= most:
             return None
-    nodes = found[1].get("--nodes", str(NODES))
-    if not re.fullmatch("[0-9]{1,10}", nodes) or not 1 <= int(nodes) <= MOST_NODES:
-        return None
-    return Flow(found[0], found[1]["-l"], found[1]["-o"], int(nodes), style_of(found[1]))
+    nodes, fanout = int(found[1].get("--nodes", NODES)), int(found[1].get("--fanout", FANOUT))
+    return Flow(found[0], found[1]["-l"], found[1]["-o"], nodes, fanout, style_of(found[1]))
 
 
 class Source(NamedTuple):
@@ -118,7 +123,7 @@ def checked(files, folder):
 
 
 def of_files(found, files):
-    """The status and the text without its word; (0, the lines of the report that are fixed, and the most cells) where it is laid out."""
+    """The status and the text without its word; (0, the lines of the report, and the most cells) where it is laid out."""
     names_read(files, found.folder)
     source = source_of(found, files)
     m = source.machine
@@ -130,25 +135,30 @@ def of_files(found, files):
     if kind:
         return 4, f"flow: no cover: {kind}\n"
     name = diagrams.first_over(m, found.nodes)
-    return (0, (lines_of(source), most_cells(m))) if name is None else (5, f"flow: budget: {spelled(name)} {found.nodes + 1}\n")
+    return (0, (lines_of(source), most_instances(m))) if name is None else (5, f"flow: budget: {spelled(name)} {found.nodes + 1}\n")
 
 
-def most_cells(m):
-    """The most cells of a layout: its registers, and as many gates as the size of the source and 2, where its inner signals count no more
-    than four times the nodes of its roots."""
+def most_gates(m):
+    """The most gates of a layout but for buffers: the size of the source and 2, where its inner signals count no more than four times the
+    nodes of its roots."""
     inner = inner_size(m)
-    return len(m.registers) + machine_size(m) - inner + min(inner, CHOICE * sum(s.dag for s in diagrams.sizes(m))) + 2
+    return machine_size(m) - inner + min(inner, CHOICE * sum(s.dag for s in diagrams.sizes(m))) + 2
+
+
+def most_instances(m):
+    """With registers and buffers: there are no more buffers than inputs of gates and registers."""
+    return 3 * most_gates(m) + 2 * len(m.registers)
 
 
 def lines_of(source):
-    """The lines of the report but those that go by the optimised source: which one comes out is open."""
+    """The lines of the report, of those that are open the first word alone."""
     m = source.machine
-    return [f"source {m.name}", *source.held, f"size {machine_size(m)}", f"nodes {diagrams.greatest(m)}", "breaches 0", "accepted"]
+    return [f"source {m.name}", *source.held, f"size {machine_size(m)}", f"nodes {diagrams.greatest(m)}", *OPEN, "breaches 0", "accepted"]
 
 
 def second(words, files):
     """What the second readers say of a command over files: (status, text), or (2, Ring) where any of some rings may be named. Of a layout it
-    is (0, the lines of its report that are fixed, and the most cells)."""
+    is (0, the lines of its report, and the most cells)."""
     found = parsed(words)
     if found is None:
         return 1, USAGE
@@ -168,11 +178,11 @@ def second(words, files):
 def agrees(got, wanted):
     if wanted[0] != 0:
         return same_answer(got, wanted)
-    lines = [line.split(" ") for line in bytes(got[1]).decode(errors="replace").split("\n") if line]
-    fixed, most = wanted[1]
-    cells_told = [int(words[1]) for words in lines if words[0] == "cells"]
-    return got[0] == 0 and [" ".join(words) for words in lines if words[0] not in ("cells", "nets", "length")] == fixed \
-        and len(cells_told) == 1 and cells_told[0] <= most
+    lines, (lines_wanted, most) = bytes(got[1]).decode(errors="replace").split("\n"), wanted[1]
+    told = [re.fullmatch(f"({'|'.join(OPEN)}) (0|[1-9][0-9]*)", line) for line in lines]
+    cells_told = [int(found[2]) for found in told if found and found[1] == "cells"]
+    known = [found[1] if found else line for found, line in zip(told, lines)]
+    return got[0] == 0 and known == [*lines_wanted, ""] and cells_told[0] <= most
 
 
 # ---- the layout that is written
@@ -187,7 +197,7 @@ def read_again(words, files, text):
     return Netlist(n.name, n.all_ports, n.instances), flat
 
 
-def netlist_faults(m, of_name, n):
+def netlist_faults(m, of_name, n, fanout):
     """What isn't as it has to be in the netlist of a layout of a machine, but how it behaves."""
     if n.name != m.name:
         yield f"the name {n.name}"
@@ -195,11 +205,14 @@ def netlist_faults(m, of_name, n):
         yield "the ports"
     if n.clock != ((m.clock, -1) if m.registers else None):
         yield f"the clock {n.clock}"
-    if len(n.instances) > most_cells(m):
-        yield f"{len(n.instances)} instances, and not {most_cells(m)} at most"
-    if any(i.model is not first_of(of_name, i.model.kind) for i in n.instances if i.model.kind):
-        yield "a cell that isn't the first of its kind"
-    yield from order_faults(n, len(m.registers))
+    plain = [i for i in n.instances if not driven.is_buffer(i)]
+    if len(plain) > len(m.registers) + most_gates(m):
+        yield f"{len(plain)} registers and gates, and not {most_gates(m)} gates at most"
+    if any(i.model.kind is None for i in plain):
+        yield "a cell of no kind"
+        return
+    found = list(driven.faults(n, of_name, fanout))
+    yield from found or order_faults(driven.unbuffered(n, of_name), len(m.registers))
 
 
 def walk_faults(source, n, choose):
@@ -221,7 +234,7 @@ def written_faults(words, files, text):
         n, flat = read_again(words, files, text)
     except (ap.Refused, extraction.Refused, Refused) as refused:
         return [f"it is refused: {refused}"]
-    faults = list(netlist_faults(m, of_name, n))
+    faults = list(netlist_faults(m, of_name, n, found.fanout))
     breaches = flat.breaches()
     if breaches:
         faults.append(f"{breaches} rules are broken")
@@ -246,7 +259,7 @@ def writes(words, files):
 
 
 def run_laid_out(results, room, program, title, files, words=WORDS):
-    """Runs flow; where it succeeds its layout is read again, and the length that it printed is that of the layout."""
+    """Runs flow; where it succeeds its layout is read again, and the report that it printed is the one on that layout."""
     wanted, source = second(words, files), files[words[1]]
     room.write(files)
     got = room.run(program, words)
@@ -254,25 +267,35 @@ def run_laid_out(results, room, program, title, files, words=WORDS):
     if got[0] or wanted[0]:
         results.note(f"{title}: files behind a refusal", room.held() == files, "a file changed")
         return
-    text = room.held().get("r.ap") or b""
+    check_laid_out(results, title, words, files, room.held().get("r.ap") or b"", got[1])
+
+
+def check_laid_out(results, title, words, files, text, printed):
+    """The layout that a command wrote, and that the report is the one on it."""
+    source = files[words[1]]
     faults = written_faults(words, files, text)
-    results.note(f"{title}: the layout", not faults, f"{faults} in {text[:3000]!r} for {source[:2000]!r}")
+    results.note(f"{title}: the layout", not faults, f"{faults} of {words} in {text[:3000]!r} for {source[:2000]!r}")
     if not faults:
         n, _ = read_again(words, files, text)
         found = source_of(parsed(words), files)
-        report = layout.report(found.machine, found.held, n, checked(files, "lib"))
-        results.note(f"{title}: the report", bytes(got[1]) == report.encode(), f"{shown(*got)} is not {report!r}")
+        report = layout.report(found.machine, found.held, n, checked(files, parsed(words).folder))
+        results.note(f"{title}: the report", bytes(printed) == report.encode(), f"{bytes(printed)!r} is not {report!r}")
 
 
 def random_files(choose):
-    """A library that mostly has a cell of each kind, in any order, and sometimes a file that is spoilt."""
+    """A library that mostly has a cell of each kind, in any order, now and then with made drives of some, and sometimes a file that is
+    spoilt."""
     names = [name for name in FIVE if choose.random() < 0.97]
     names += choose.sample(MORE, choose.randrange(3))
     choose.shuffle(names)
-    files = of_cells(names)
+    files = with_drives(choose, names) if choose.random() < 0.3 else of_cells(names)
     if choose.random() < 0.05:
         cells.spoil(choose, files)
     return files
+
+
+def words_within(fanout):
+    return [*WORDS, "--fanout", str(fanout)] if fanout else WORDS
 
 
 def check_machines(results, program, seed, numbers):
@@ -281,11 +304,13 @@ def check_machines(results, program, seed, numbers):
         source = Maker(choose).source()
         source = changed(choose, source, SOURCE_WORDS) if choose.random() < 0.2 else source
         with Room() as room:
-            run_laid_out(results, room, program, "a random source and library", {**random_files(choose), "s.vbe": source.encode()})
+            files = {**random_files(choose), "s.vbe": source.encode()}
+            run_laid_out(results, room, program, "a random source and library", files, words_within(choose.choice([None, 4, 4, 5])))
 
 
 def words_by(choose):
-    return ["flow", "s.fsm", *WORDS[2:], "-e", choose.choice(STYLES), "--seed", str(choose.choice([0, choose.randrange(2**32)]))]
+    style = ["-e", choose.choice(STYLES), "--seed", str(choose.choice([0, choose.randrange(2**32)]))]
+    return ["flow", "s.fsm", *words_within(choose.choice([None, 4]))[2:], *style]
 
 
 def check_states(results, program, seed, numbers):
@@ -294,6 +319,19 @@ def check_states(results, program, seed, numbers):
         files = {**random_files(choose), "s.fsm": StateMaker(choose).source().encode()}
         with Room() as room:
             run_laid_out(results, room, program, "a random state machine and library", files, words_by(choose))
+
+
+def check_wide(results, program, seed, numbers):
+    """Nets that 5, 40 and 300 pins read, each with the fan-outs 4, 8 and 33, over libraries with and without a buffer and more drives."""
+    for number in numbers:
+        choose = random.Random(f"{seed} flow wide {number}")
+        readers, fanout = (5, 40, 300)[number % 3], (4, 8, 33)[number // 3 % 3]
+        names = [*FIVE, *choose.sample(["buf_x2", "buf_x4", "inv_x2", "inv_x4", "inv_x8", "sff1_x8"], choose.randrange(5))]
+        choose.shuffle(names)
+        library = with_drives(choose, names) if choose.random() < 0.5 else of_cells(names)
+        files = {**library, "s.vbe": WideMaker(choose, readers).source().encode()}
+        with Room() as room:
+            run_laid_out(results, room, program, f"{readers} readers with {fanout}", files, words_within(fanout))
 
 
 def chain(signals):
@@ -323,7 +361,9 @@ def check_examples(results, program):
     for path in sorted(EXAMPLES.glob("*/*.vbe")):
         for names in (FIVE, [line.split()[0] for line in (HERE.parent / "cells/CATAL").read_text().splitlines()]):
             with Room() as room:
-                run_laid_out(results, room, program, f"the example {path.name}", {**of_cells(names), "s.vbe": path.read_bytes()})
+                files = {**of_cells(names), "s.vbe": path.read_bytes()}
+                for fanout in (None, 4):
+                    run_laid_out(results, room, program, f"the example {path.name}", files, words_within(fanout))
     for path in sorted(EXAMPLES.glob("*/*.fsm")):
         for style in STYLES:
             with Room() as room:
@@ -359,5 +399,7 @@ def jobs(program, seed, times):
     numbers = range(STATE_MACHINES * times)
     for at in range(0, len(numbers), CHUNK):
         yield check_states, (program, seed, numbers[at : at + CHUNK])
+    for number in range(WIDE * times):
+        yield check_wide, (program, seed, [number])
     yield check_examples, (program,)
     yield check_words, (program,)

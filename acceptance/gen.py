@@ -1,6 +1,7 @@
 """What the second readers say of `gen`, and what no case of it has: a second maker of the circuits, written from docs/formats/commands.md
 and from what its authors say of PCG32, and the texts that are written for many seeds and sizes, read again by the second reader: each
-is exactly that circuit, in its one spelling. For these no library is there, so that nothing is laid out.
+is exactly that circuit, in its one spelling. For these no library is there, so that nothing is laid out; some more are laid out, with
+few sinks of a net, and read again as the layouts of `flow` are.
 """
 
 import random
@@ -10,8 +11,10 @@ from typing import NamedTuple
 import flow
 import state_text
 import vbe_oracle
-from flow import agrees  # noqa: F401
+from boog import of_cells
+from flow import agrees
 from models import IN, OUT
+from random_wide import with_drives
 from results import Room, compare, run_in, shown
 from vbe_oracle import Machine
 from vhdl_reader import Refused
@@ -23,7 +26,7 @@ BOUNDS = {
     "--fanout": (4, 10**6),
 }
 SIZES = [8, 9, 15, 16, 17, 100, 999, 1000, 1001]
-CIRCUITS, CHUNK, LARGE = 200, 25, [(0, 4000), (2**32 - 1, 4000)]
+CIRCUITS, CHUNK, LARGE, LAYOUTS = 200, 25, [(0, 4000), (2**32 - 1, 4000)], 12
 
 
 # ---- the words of PCG32
@@ -92,6 +95,7 @@ class Gen(NamedTuple):
     folder: str
     out: str
     nodes: int
+    fanout: int
 
 
 def parsed(words):
@@ -110,7 +114,8 @@ def parsed(words):
         text = given.get(word, str(least))
         if not re.fullmatch("[0-9]{1,10}", text) or not least <= int(text) <= most:
             return None
-    return Gen(int(given.get("--seed", 0)), int(given["--size"]), given["-l"], given["-o"], int(given.get("--nodes", flow.NODES)))
+    nodes, fanout = int(given.get("--nodes", flow.NODES)), int(given.get("--fanout", flow.FANOUT))
+    return Gen(int(given.get("--seed", 0)), int(given["--size"]), given["-l"], given["-o"], nodes, fanout)
 
 
 def made(found):
@@ -119,7 +124,8 @@ def made(found):
 
 
 def as_flow(found):
-    return ["flow", f"{found.out}.vbe", "-l", found.folder, "-o", found.out, "--tracks", "--nodes", str(found.nodes)]
+    most = ["--nodes", str(found.nodes), "--fanout", str(found.fanout)]
+    return ["flow", f"{found.out}.vbe", "-l", found.folder, "-o", found.out, "--tracks", *most]
 
 
 def second(words, files):
@@ -172,6 +178,24 @@ def check_circuits(results, program, seed, numbers):
         check_source(results, program, choose.choice([0, 1, number, choose.randrange(2**32)]), size)
 
 
+def check_layouts(results, program, seed, numbers):
+    """Circuits that are laid out; the layout and the report are those of the source that was written."""
+    for number in numbers:
+        choose = random.Random(f"{seed} gen layout {number}")
+        size, fanout = choose.choice([8, 20, 60, 150]), choose.choice([4, 4, 5, 8, 33])
+        more = choose.sample(["buf_x2", "inv_x2", "inv_x4", "inv_x8", "sff1_x8"], choose.randrange(5))
+        files = with_drives(choose, [*flow.FIVE, *more]) if number % 2 else of_cells([*flow.FIVE, *more])
+        words = ["gen", "--seed", str(choose.randrange(2**32)), "--size", str(size), "-l", "lib", "-o", "r", "--tracks", "--fanout", str(fanout)]
+        with Room() as room:
+            room.write(files)
+            got, wanted = room.run(program, words), second(words, files)
+            held = room.held()
+        title, found = f"a layout of {size} gates", parsed(words)
+        results.note(title, agrees(got, wanted), f"{words} came to {shown(*got)}, wanted {wanted}")
+        if got[0] == 0 and wanted[0] == 0:
+            flow.check_laid_out(results, title, as_flow(found), {**files, **made(found)}, held.get("r.ap", b""), got[1])
+
+
 def check_words(results, program):
     words = ["gen", "--size", "8", "-l", "lib", "-o", "nowhere/g", "--tracks"]
     compare(results, "a source in a folder that isn't there", run_in({}, program, words), 7, b"gen: file: write fault nowhere/g.vbe\n", {})
@@ -183,6 +207,8 @@ def check_words(results, program):
 def jobs(program, seed, times):
     for given in LARGE:
         yield check_source, (program, *given)
+    for number in range(LAYOUTS * times):
+        yield check_layouts, (program, seed, [number])
     numbers = range(CIRCUITS * times)
     for at in range(0, len(numbers), CHUNK):
         yield check_circuits, (program, seed, numbers[at : at + CHUNK])

@@ -9,6 +9,7 @@ import itertools
 import cellcheck
 import diagrams
 from mapping import machine_size
+from timing import own_cells, worst
 from vhdl_reader import SUPPLIES
 
 FIRST, COLUMN, TRACK = 1500, 500, 5500
@@ -105,5 +106,6 @@ def report(m, held, n, cells):
     """With the lines on what registers hold."""
     placed = Placed(n, cells)
     lines = [f"source {m.name}", *held]
-    lines += [f"size {machine_size(m)}", f"nodes {diagrams.greatest(m)}", f"cells {len(n.instances)}", f"nets {len(placed.nets)}", f"length {placed.length()}"]
+    lines += [f"size {machine_size(m)}", f"nodes {diagrams.greatest(m)}", f"cells {len(n.instances)}", f"nets {len(placed.nets)}"]
+    lines += [f"delay {worst(n, own_cells(n))}", f"length {placed.length()}"]
     return "\n".join([*lines, "breaches 0", "accepted", ""])

@@ -1,0 +1,55 @@
+"""Sources with nets that many pins read, made at random, and libraries with several drives of their cells."""
+
+import re
+
+from boog import of_cells
+
+# what reads the wide signal s: each gives bit k of o, or what register k takes
+GATES = ["not s", "s", "s nand a({j})", "s and a({k})", "a({k}) when s else r({r})", "s xor a({k})", "not (s or r({r}))"]
+LOADS = ["s", "s", "s and r({next})", "r({next}) xor s", "not r({next})"]
+
+
+class WideMaker:
+    """A source in which so many outputs and registers read one input, signal or register."""
+
+    def __init__(self, choose, readers):
+        self.choose, self.readers = choose, readers
+
+    def source(self):
+        choose, last = self.choose, self.readers - 1
+        kinds = choose.sample(GATES, choose.randrange(1, 4))
+        registers = choose.choice([1, 2, self.readers])
+        places = [{"j": choose.randrange(8), "k": k, "r": k % registers, "next": (k + 1) % registers} for k in range(self.readers)]
+        wide = choose.choice(["i", "i", "not i", "i xor a(0)", "r(0)"])
+        head = f"entity wide is port (ck, i : in bit; a : in bit_vector ({max(last, 7)} downto 0); o : out bit_vector ({last} downto 0); "
+        body = "".join(f"o({place['k']}) <= {choose.choice(kinds).format(**place)};\n" for place in places)
+        return (
+            f"{head}vdd, vss : in bit); end wide;\narchitecture vbe of wide is\nsignal s : bit;\n"
+            f"signal r : reg_vector ({registers - 1} downto 0) register;\nbegin\ns <= {wide};\n{body}"
+            f"load : block (ck and not ck'stable) begin\n{''.join(self.load(places[k]) for k in range(registers))}end block;\nend vbe;\n"
+        )
+
+    def load(self, place):
+        return f"r({place['k']}) <= guarded {self.choose.choice(LOADS).format(**place)};\n"
+
+
+# ---- drives
+
+
+def made_drive(choose, files, name, new):
+    """Another drive of a cell of a library's files: the same but for its name and the numbers of its generics."""
+    vbe, figure = files[f"lib/{name}.vbe"].decode(), files[f"lib/{name}.ap"].decode()
+    renamed = re.sub(rf"\b{name}\b", new, vbe)
+    numbered = re.sub(r":= \d+", lambda _: f":= {choose.choice([0, 1, 8, 40, choose.randrange(4000), choose.randrange(10**6)])}", renamed)
+    return {f"lib/{new}.vbe": numbered.encode(), f"lib/{new}.ap": re.sub(rf"\b{name}\b", new, figure).encode()}
+
+
+def with_drives(choose, names):
+    """The library of some of this repository's cells, of some of which there are up to three made drives more, anywhere in its list."""
+    files, listed = of_cells(names), list(names)
+    for name in choose.sample(names, min(len(names), 3)):
+        for k in range(choose.choice([1, 2, 3])):
+            files.update(made_drive(choose, files, name, f"{name}_m{k}"))
+            listed.insert(choose.randrange(len(listed) + 1), f"{name}_m{k}")
+    files["lib/CATAL"] = "".join(f"{name} C\n" for name in listed).encode()
+    return files
