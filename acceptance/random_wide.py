@@ -7,30 +7,34 @@ from boog import of_cells
 # what reads the wide signal s: each gives bit k of o, or what register k takes
 GATES = ["not s", "s", "s nand a({j})", "s and a({k})", "a({k}) when s else r({r})", "s xor a({k})", "not (s or r({r}))"]
 LOADS = ["s", "s", "s and r({next})", "r({next}) xor s", "not r({next})"]
+# the same where there are so many readers that each shall be one gate or register
+MANY, SMALL_GATES, SMALL_LOADS = 100, ["not s", "s nand a({k})"], ["s"]
 
 
 class WideMaker:
     """A source in which so many outputs and registers read one input, signal or register."""
 
     def __init__(self, choose, readers):
-        self.choose, self.readers = choose, readers
+        self.choose, self.readers, self.is_many = choose, readers, readers > MANY
+        self.registers = choose.choice([1, 2, readers])
+        self.outputs = 1 if self.is_many and self.registers == readers else readers
 
     def source(self):
         choose, last = self.choose, self.readers - 1
-        kinds = choose.sample(GATES, choose.randrange(1, 4))
-        registers = choose.choice([1, 2, self.readers])
-        places = [{"j": choose.randrange(8), "k": k, "r": k % registers, "next": (k + 1) % registers} for k in range(self.readers)]
+        kinds = [choose.choice(SMALL_GATES)] if self.is_many else choose.sample(GATES, choose.randrange(1, 4))
+        loads = SMALL_LOADS if self.is_many else LOADS
         wide = choose.choice(["i", "i", "not i", "i xor a(0)", "r(0)"])
-        head = f"entity wide is port (ck, i : in bit; a : in bit_vector ({max(last, 7)} downto 0); o : out bit_vector ({last} downto 0); "
-        body = "".join(f"o({place['k']}) <= {choose.choice(kinds).format(**place)};\n" for place in places)
+        head = f"entity wide is port (ck, i : in bit; a : in bit_vector ({max(last, 7)} downto 0); o : out bit_vector ({self.outputs - 1} downto 0); "
+        body = "".join(f"o({k}) <= {self.reader(kinds, k)};\n" for k in range(self.outputs))
+        taken = "".join(f"r({k}) <= guarded {self.reader(loads, k)};\n" for k in range(self.registers))
         return (
             f"{head}vdd, vss : in bit); end wide;\narchitecture vbe of wide is\nsignal s : bit;\n"
-            f"signal r : reg_vector ({registers - 1} downto 0) register;\nbegin\ns <= {wide};\n{body}"
-            f"load : block (ck and not ck'stable) begin\n{''.join(self.load(places[k]) for k in range(registers))}end block;\nend vbe;\n"
+            f"signal r : reg_vector ({self.registers - 1} downto 0) register;\nbegin\ns <= {wide};\n{body}"
+            f"load : block (ck and not ck'stable) begin\n{taken}end block;\nend vbe;\n"
         )
 
-    def load(self, place):
-        return f"r({place['k']}) <= guarded {self.choose.choice(LOADS).format(**place)};\n"
+    def reader(self, kinds, k):
+        return self.choose.choice(kinds).format(j=self.choose.randrange(8), k=k, r=k % self.registers, next=(k + 1) % self.registers)
 
 
 # ---- drives
