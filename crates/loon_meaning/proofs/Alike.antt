@@ -35,9 +35,9 @@ use Rattle.loon_drive.specs.Driven.{most_sinks, IsDrivenFrom}
 use Rattle.loon_drive.specs.Laws.{CellsStay}
 use Rattle.loon_meaning.specs.Meaning.{ShowsSame, ArePorts, BehavesAs}
 use Rattle.loon_meaning.specs.Laws.{DrivenBehavesAsBefore}
-use Rattle.loon_meaning.proofs.Lists.{more_in}
+use Rattle.loon_meaning.proofs.Lists.{more_in, IsMadeOf}
 use Rattle.loon_meaning.proofs.Behind.{all_terminals, AreNumbered, HaveValues, Behind}
-use Rattle.loon_meaning.proofs.Limiting.{IsMadeOf, IsReady, gives_back, limited_behind}
+use Rattle.loon_meaning.proofs.Limiting.{IsReady, gives_back, limited_behind}
 use Rattle.loon_meaning.proofs.Bits.{Gives, Cycle, AreBits, AreAmong, bits_of, bits_same, bits_shown, valuation_of, settles_by}
 use Rattle.loon_meaning.proofs.Exchanging.{AreChosen, chosen, terminals_same, bits_to, bits_from}
 use Rattle.loon_meaning.proofs.Numbers.{IsByClass, renumbered, renumbered_bit}

@@ -8,23 +8,19 @@ use Rattle.vlsi_base.specs.declared.name.Terminal.{Terminal}
 use Rattle.vlsi_base.specs.Names.{vdd, vss}
 use Rattle.vlsi_base.specs.Member.{In, here, there}
 use Rattle.bool_expr.specs.Expression.{val}
-use Rattle.machine_meaning.specs.Machine.{names_of}
 use Rattle.machine_meaning.specs.Named.{is_same_name}
-use Rattle.cell_model.specs.Cell.{Cell, pin_ports, cell_inputs, cell_outputs}
+use Rattle.cell_model.specs.Cell.{Cell, cell_inputs}
 use Rattle.cell_model.specs.Library.{Library}
 use Rattle.cell_model.proofs.Members.{In-split, In-left, In-right, In-map}
 use Rattle.cell_model.proofs.Texts.{text_differs}
-use Rattle.cell_pins.specs.Pins.{all_ports}
 use Rattle.net_core.specs.Netlist.{Instance, port, pin_of, terminals_of}
-use Rattle.net_theory.proofs.Basics.{In-names}
-use Rattle.net_view.proofs.Ports.{names_to}
 use Rattle.loon_fanout.specs.Sinks.{Wired, is_same_owner}
 use Rattle.loon_fanout.specs.Wired.{pin_class, with_gate}
 use Rattle.loon_fanout.specs.Laws.{gate_named}
 use Rattle.loon_fanout.proofs.Splitting.{is_false}
 use Rattle.loon_fanout.proofs.RightPins.{own_class, input, output, in_inputs, in_outputs, input_class, output_class}
 use Rattle.loon_fanout.proofs.RightStates.{IsGateCell}
-use Rattle.loon_meaning.proofs.Lists.{In-one, Origin, of_port, of_pin, origin, pin_in, more_in}
+use Rattle.loon_meaning.proofs.Lists.{In-one, input_pin, output_pin, Origin, of_port, of_pin, origin, pin_in, more_in}
 
 abbrev pub all_terminals : Wired → List Terminal
 all_terminals w = terminals_of w.ports w.instances
@@ -32,13 +28,6 @@ all_terminals w = terminals_of w.ports w.instances
 -- the classes of terminals are below the count
 abbrev pub AreNumbered : Wired → Type 0
 AreNumbered w = (t : Terminal) → In t (all_terminals w) → w.class t < w.count
-
--- pins of a cell are pins of its gates
-pub input_pin : (c : Cell) (name : Name) → In name (cell_inputs c) → In name (names_of (all_ports c))
-input_pin c name h = names_to (pin_ports c) name (inr (inr (In-names _ (pin_ports c) name h)))
-
-pub output_pin : (c : Cell) (name : Name) → In name (cell_outputs c) → In name (names_of (all_ports c))
-output_pin c name h = names_to (pin_ports c) name (inr (inr (In-names _ (pin_ports c) name h)))
 
 module _ (l : Library) (c : Cell) (b : IsGateCell l c) where
   abbrev pub value : Bool → Bool

@@ -15,9 +15,7 @@ use Rattle.net_core.specs.Netlist.{Instance, Netlist as InMemory, port, pin_of, 
 use Rattle.net_meaning.specs.Netlist.{Member, Netlist}
 use Rattle.net_meaning.specs.Behaviour.{Contents, Valuation, Drives, NetSettles}
 use Rattle.net_view.specs.View.{member_of, netlist_by}
-use Rattle.loon_meaning.proofs.Lists.{named_in, pin_in}
-use Rattle.loon_meaning.proofs.Behind.{input_pin, output_pin}
-use Rattle.loon_meaning.proofs.Limiting.{IsMadeOf}
+use Rattle.loon_meaning.proofs.Lists.{named_in, pin_in, input_pin, output_pin, IsMadeOf}
 
 abbrev pub pins_by : (Terminal → Bool) → List ℕ → List Name → List Bool
 pins_by g owner pins = map (λ p. g (pin_of owner p)) pins

@@ -16,9 +16,7 @@ use Rattle.net_meaning.specs.Behaviour.{Valuation, model_of, cell_at, loaded, ne
 use Rattle.net_theory.specs.Exchanges.{IsSameFunction}
 use Rattle.net_view.specs.View.{member_of, netlist_by}
 use Rattle.loon_buffer.specs.Drives.{IsChosenFor}
-use Rattle.loon_meaning.proofs.Lists.{pin_in}
-use Rattle.loon_meaning.proofs.Behind.{input_pin}
-use Rattle.loon_meaning.proofs.Limiting.{IsMadeOf}
+use Rattle.loon_meaning.proofs.Lists.{pin_in, input_pin, IsMadeOf}
 use Rattle.loon_meaning.proofs.Bits.{bits_of}
 use Rattle.loon_meaning.proofs.Exchanging.{AreChosen, none, more}
 

@@ -7,11 +7,9 @@ use Rattle.vlsi_base.specs.declared.name.Terminal.{Terminal}
 use Rattle.vlsi_base.specs.Names.{vdd, vss}
 use Rattle.vlsi_base.specs.Member.{In, here, there}
 use Rattle.bool_expr.specs.Expression.{val}
-use Rattle.machine_meaning.specs.Machine.{names_of}
 use Rattle.cell_model.specs.Cell.{Cell, cell_inputs}
-use Rattle.cell_model.specs.Library.{Library, cell_of, IsUsable}
+use Rattle.cell_model.specs.Library.{Library}
 use Rattle.cell_model.proofs.Members.{In-split, In-map, In-map_back, All-In}
-use Rattle.cell_pins.specs.Pins.{all_ports}
 use Rattle.net_core.specs.Netlist.{Instance, port, pin_of}
 use Rattle.loon_fanout.specs.Sinks.{Wired, sinks}
 use Rattle.loon_fanout.specs.Wired.{with_group}
@@ -22,13 +20,9 @@ use Rattle.loon_fanout.proofs.Splitting.{sink_at}
 use Rattle.loon_fanout.proofs.RightStates.{IsGateCell}
 use Rattle.loon_fanout.proofs.RightRounds.{AreNew, Repeats, once, twice, in_groups, some_of}
 use Rattle.loon_fanout.proofs.RightStay.{gate_cell}
-use Rattle.loon_meaning.proofs.Lists.{pin_in}
-use Rattle.loon_meaning.proofs.Behind.{all_terminals, AreNumbered, input_pin, Behind, nothing_behind, kept_in, both_behind}
+use Rattle.loon_meaning.proofs.Lists.{pin_in, input_pin, IsMadeOf}
+use Rattle.loon_meaning.proofs.Behind.{all_terminals, AreNumbered, Behind, nothing_behind, kept_in, both_behind}
 use Rattle.loon_meaning.proofs.Moving.{Reads, AreApart, Grown, one_gate, two_gates}
-
--- an instance has a usable cell, and its pins
-abbrev pub IsMadeOf : Library → Instance → Type 0
-IsMadeOf l i = (c : Cell) × (cell_of l i.model ≡ Some c) × IsUsable c × (i.pins ≡ names_of (all_ports c))
 
 -- what is known before each round
 pub record IsReady (l : Library) (w : Wired) : Type 0 where

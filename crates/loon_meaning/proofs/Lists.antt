@@ -1,12 +1,18 @@
--- Terminals of lists of instances.
+-- Instances, their cells and their terminals.
 use Rattle.std.proofs.Common.{◌≡◌, ◌⊎◌, inl, inr, ℕ, List, [], ◌∷◌, ◌++◌, map, Option, None, Some, refl, sym, ap, subst}
 use Rattle.std.specs.List.{flat_map}
 use Rattle.vlsi_base.specs.declared.name.Name.{Name}
 use Rattle.vlsi_base.specs.declared.name.Port.{Port}
 use Rattle.vlsi_base.specs.declared.name.Terminal.{Terminal}
 use Rattle.vlsi_base.specs.Member.{In, here, there}
+use Rattle.machine_meaning.specs.Machine.{names_of}
+use Rattle.cell_model.specs.Cell.{Cell, pin_ports, cell_inputs, cell_outputs}
+use Rattle.cell_model.specs.Library.{Library, cell_of, IsUsable}
 use Rattle.cell_model.proofs.Members.{In-split, In-left, In-right, In-map, In-map_back}
+use Rattle.cell_pins.specs.Pins.{all_ports}
 use Rattle.net_core.specs.Netlist.{Instance, port, pin_of, pins_of, terminals_of}
+use Rattle.net_theory.proofs.Basics.{In-names}
+use Rattle.net_view.proofs.Ports.{names_to}
 
 pub flat_in : {A B : Type 0} (f : A → List B) (y : B) (xs : List A) → In y (flat_map f xs) → (x : A) × In x xs × In y (f x)
 flat_in f y [] h = elim h [ ]
@@ -55,3 +61,16 @@ more_in ports is more t h = by (origin ports is t h) where
   by : Origin ports is t → In t (terminals_of ports (is ++ more))
   by (of_port p p_in e) = subst (λ (x : Terminal). In x (terminals_of ports (is ++ more))) e (port_in ports (is ++ more) p p_in)
   by (of_pin i pin i_in q e) = subst (λ (x : Terminal). In x (terminals_of ports (is ++ more))) e (pin_in ports (is ++ more) i pin (In-left i is more i_in) q)
+
+-- ---- cells
+
+-- pins of a cell are pins of its gates
+pub input_pin : (c : Cell) (name : Name) → In name (cell_inputs c) → In name (names_of (all_ports c))
+input_pin c name h = names_to (pin_ports c) name (inr (inr (In-names _ (pin_ports c) name h)))
+
+pub output_pin : (c : Cell) (name : Name) → In name (cell_outputs c) → In name (names_of (all_ports c))
+output_pin c name h = names_to (pin_ports c) name (inr (inr (In-names _ (pin_ports c) name h)))
+
+-- an instance has a usable cell, and its pins
+abbrev pub IsMadeOf : Library → Instance → Type 0
+IsMadeOf l i = (c : Cell) × (cell_of l i.model ≡ Some c) × IsUsable c × (i.pins ≡ names_of (all_ports c))
