@@ -28,7 +28,7 @@ use Rattle.loon_fanout.specs.Limited.{IsLimited, IsBuffered, IsOfCells}
 use Rattle.loon_fanout.specs.Laws.{gate_named}
 use Rattle.loon_fanout.specs.Nets.{BufferedRemains}
 use Rattle.loon_fanout.proofs.Terminals.{class_is}
-use Rattle.loon_fanout.proofs.RightPins.{input_is, output_is}
+use Rattle.loon_fanout.proofs.RightPins.{input, output, input_is, output_is}
 use Rattle.loon_fanout.proofs.RightStates.{IsGateCell}
 use Rattle.loon_fanout.proofs.RightStay.{WasLimited, unchanged, by_gates, gate_cell, how, all_instances, ports_same, new_names}
 use Rattle.loon_drive.specs.Driven.{most_sinks, IsDrivenFrom}
@@ -81,7 +81,8 @@ module _ (l : Library) (c : Cell) (b : IsGateCell l c) (w u : Wired) (names : Li
     gives_from all name name_in =
         let own : Gives at t name c (gate b.expr) =
         subst (λ (v : Function). Gives at t name c v) b.is_gate (all (gate_named c name) c (In-map (gate_named c) name names name_in) b.found) in
-        let lists = sym (ap (λ (ps : List Name). map (λ p. at (pin_of name p)) ps) (output_is l c b)) ∙ own
+        let lists : at (pin_of name (output l c b)) ∷ [] ≡ val b.expr (at (pin_of name (input l c b)) ∷ []) ∷ [] =
+        sym (ap (λ (ps : List Name). map (λ p. at (pin_of name p)) ps) (output_is l c b)) ∙ own
         ∙ ap (λ (ps : List Name). val b.expr (map (λ p. at (pin_of name p)) ps) ∷ []) (input_is l c b) in
         cc lists
 

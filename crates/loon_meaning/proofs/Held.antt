@@ -94,16 +94,16 @@ module _ (l : Library) (g : Terminal → Bool) (owner : List ℕ) where
   nothing_by (Some c) each = each c refl
 
   held_nothing : (is : List Instance) → HoldNothing l is → held_by l g is owner ≡ []
-  held_nothing [] none = refl
-  held_nothing (i ∷ is) none = by (is_same_text i.name owner) (nothing_by (cell_of l i.model) (λ c found. none i c here found g owner)) (held_nothing is (λ x c h. none x c (there h))) where
+  held_nothing [] empty = refl
+  held_nothing (i ∷ is) empty = by (is_same_text i.name owner) (nothing_by (cell_of l i.model) (λ c found. empty i c here found g owner)) (held_nothing is (λ x c h. empty x c (there h))) where
     by : (b : Bool) → cell_holds g owner (cell_of l i.model) ≡ [] → held_by l g is owner ≡ [] → (if b then cell_holds g owner (cell_of l i.model) else held_by l g is owner) ≡ []
     by true first rest = first
     by false first rest = rest
 
   pub held_before : (is others : List Instance) → HoldNothing l others → held_by l g (is ++ others) owner ≡ held_by l g is owner
-  held_before [] others none = held_nothing others none
-  held_before (i ∷ is) others none =
-      ap (λ (r : List Bool). if is_same_text i.name owner then cell_holds g owner (cell_of l i.model) else r) (held_before is others none)
+  held_before [] others empty = held_nothing others empty
+  held_before (i ∷ is) others empty =
+      ap (λ (r : List Bool). if is_same_text i.name owner then cell_holds g owner (cell_of l i.model) else r) (held_before is others empty)
 
   -- ---- exchanged cells
 

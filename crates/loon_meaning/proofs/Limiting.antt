@@ -77,14 +77,14 @@ module _ (l : Library) (c : Cell) (b : IsGateCell l c) where
         → AreNew c (flat_map (λ r. r.names) rows ++ left) w.instances
         → Grown l c b w0 (with_round c w k rows) (names ++ flat_map (λ r. r.names) rows) left
     round_grown gates how [] w names left h apart each new =
-        subst (λ (ns : List (List ℕ)). Grown l c b w0 w ns left) (sym (append-nil names)) (record { behind = h; apart = apart; left = new })
+        subst (λ (ns : List (List ℕ)). Grown l c b w0 w ns left) (sym (append-nil names)) (record { behind = h; apart = apart; rest = new })
     round_grown gates how (row ∷ rows) w names left h apart each new =
         let others = flat_map (λ (r : Row). r.names) rows in
         let first = each row here in
         let g = row_grown gates how w names h apart row.group first.1 row.names (others ++ left) first.0
         (subst (λ (ns : List (List ℕ)). AreNew c ns w.instances) (append_assoc row.names others left) new) in
         subst (λ (ns : List (List ℕ)). Grown l c b w0 (with_round c w k (row ∷ rows)) ns left) (append_assoc names row.names others)
-        (round_grown gates how rows (with_group c w k row.names row.group) (names ++ row.names) left g.behind g.apart (λ x x_in. each x (there x_in)) g.left)
+        (round_grown gates how rows (with_group c w k row.names row.group) (names ++ row.names) left g.behind g.apart (λ x x_in. each x (there x_in)) g.rest)
 
   -- ---- all rounds
 
@@ -125,4 +125,4 @@ module _ (l : Library) (c : Cell) (b : IsGateCell l c) where
       let others = flat_map (λ (x : Row). x.names) rows in
       both_behind l c b w next u others later grown.behind
       (limited_behind limit gates how r cell_is gates_is later next u (subst (λ (x : Cell). IsLimited l limit r later (with_round x w class rows) u) cell_is rest)
-      (ready_after w next others ready grown.behind) grown.left)
+      (ready_after w next others ready grown.behind) grown.rest)

@@ -93,7 +93,7 @@ module _ (l : Library) (c : Cell) (b : IsGateCell l c) where
   pub record Grown (w0 w : Wired) (names left : List (List ℕ)) : Type 0 where
     pub behind : Behind l c b w0 w names
     pub apart : AreApart w0 names
-    pub left : AreNew c left w.instances
+    pub rest : AreNew c left w.instances
 
   one_less : (x : ℕ) → suc x - 1 ≡ x
   one_less x = omega arith
@@ -133,7 +133,7 @@ module _ (l : Library) (c : Cell) (b : IsGateCell l c) where
           behind = moved_behind w0 u (names ++ name ∷ []) g apart_u k group each (omega arith)
               (λ f values. ap f (one_less w.count) ∙ new_value l c b w0 w names h k low_here name new vdd_here vss_here f values ∙ gives (f k));
           apart = apart_u;
-          left = rest;
+          rest = rest;
         }
 
     two_gates : ((v : Bool) → val b.expr (v ∷ []) ≡ not v) → (first second : List ℕ) (left : List (List ℕ)) → ((i : Instance) → In i w.instances → i.name ≢ first)
@@ -158,7 +158,7 @@ module _ (l : Library) (c : Cell) (b : IsGateCell l c) where
               (earlier l c b w0 u (names ++ first ∷ []) g w.count low_u second new_second vdd_u vss_u f values))
               ∙ turned (f k));
           apart = apart_z;
-          left = rest;
+          rest = rest;
         } where
           turned : (v : Bool) → value l c b (value l c b v) ≡ v
           turned v = ap (value l c b) (inverts v) ∙ inverts (not v) ∙ twice_not v

@@ -19,9 +19,9 @@ pub record ShowsSame (l : Library) (n k : Netlist) (w v : Valuation) : Type 0 wh
   pub held : (owner : List ℕ) → net_next n l w owner ≡ net_next k l v owner
 
 -- inputs and a clock among the ports
-pub record ArePorts (n : Netlist) (inputs : List Name) (clock : Option Name) : Type 0 where
-  pub inputs : (name : Name) → In name inputs → In name n.ports
-  pub clock : (name : Name) → clock ≡ Some name → In name n.ports
+pub record ArePorts (n : Netlist) (input_names : List Name) (clock_name : Option Name) : Type 0 where
+  pub inputs : (name : Name) → In name input_names → In name n.ports
+  pub clock : (name : Name) → clock_name ≡ Some name → In name n.ports
 
 -- Two netlists behave alike: they have the same ports, and whichever of these are inputs and the clock, from all contents and under
 -- all vectors, each valuation of one has a valuation of the other that shows the same.
