@@ -30,14 +30,14 @@ use Rattle.loon_fanout.specs.Nets.{BufferedRemains}
 use Rattle.loon_fanout.proofs.Terminals.{class_is}
 use Rattle.loon_fanout.proofs.RightPins.{input, output, input_is, output_is}
 use Rattle.loon_fanout.proofs.RightStates.{IsGateCell}
-use Rattle.loon_fanout.proofs.RightStay.{WasLimited, unchanged, by_gates, gate_cell, how, all_instances, ports_same, new_names}
+use Rattle.loon_fanout.proofs.RightStay.{WasLimited, unchanged, by_gates, how, all_instances, ports_same, new_names}
 use Rattle.loon_drive.specs.Driven.{most_sinks, IsDrivenFrom}
 use Rattle.loon_drive.specs.Laws.{CellsStay}
 use Rattle.loon_meaning.specs.Meaning.{ShowsSame, ArePorts, BehavesAs}
 use Rattle.loon_meaning.specs.Laws.{DrivenBehavesAsBefore}
 use Rattle.loon_meaning.proofs.Lists.{more_in, IsMadeOf}
 use Rattle.loon_meaning.proofs.Behind.{all_terminals, AreNumbered, HaveValues, Behind}
-use Rattle.loon_meaning.proofs.Limiting.{IsReady, gives_back, limited_behind}
+use Rattle.loon_meaning.proofs.Limiting.{IsReady, returns, limited_behind}
 use Rattle.loon_meaning.proofs.Bits.{Gives, Cycle, AreBits, AreAmong, bits_of, bits_same, bits_shown, valuation_of, settles_by}
 use Rattle.loon_meaning.proofs.Exchanging.{AreChosen, chosen, terminals_same, bits_to, bits_from}
 use Rattle.loon_meaning.proofs.Numbers.{IsByClass, renumbered, renumbered_bit}
@@ -46,12 +46,12 @@ use Rattle.loon_meaning.proofs.Held.{loaded_by, held_by, HoldNothing, next_is, h
 -- ---- instances behind those of a netlist
 
 -- each of these instances gives what its cell does
-abbrev GiveAll : Library → (Terminal → Bool) → Contents → List Instance → Type 0
+abbrev pub GiveAll : Library → (Terminal → Bool) → Contents → List Instance → Type 0
 GiveAll l g t is = (i : Instance) (c : Cell) → In i is → cell_of l i.model ≡ Some c → Gives g t i.name c c.function
 
 -- The second has more instances behind those of the first, which hold nothing. The bits of the first one's classes go on to bits by which
 -- they give what their cells do; and by such bits the terminals of the first have the same bits in both.
-record Carries (l : Library) (w u : Wired) (others : List Instance) : Type 0 where
+pub record Carries (l : Library) (w u : Wired) (others : List Instance) : Type 0 where
   pub forth : (f : ℕ → Bool) → (g : ℕ → Bool) × ((k : ℕ) → k < w.count → g k ≡ f k) × ((t : Contents) → GiveAll l (λ s. g (u.class s)) t others)
   pub back : (f : ℕ → Bool) (t : Contents) → GiveAll l (λ s. f (u.class s)) t others → (s : Terminal) → In s (all_terminals w) → f (u.class s) ≡ f (w.class s)
   pub nothing : HoldNothing l others
@@ -114,7 +114,7 @@ carries_itself l w = record {
 -- ---- the whole
 
 -- What is known of a netlist and one with more instances behind its own, whose cells are exchanged for drives.
-record AreDriven (l : Library) (n k : InMemory) (p q : Terminal → ℕ) (w u : Wired) (others : List Instance) : Type 0 where
+pub record AreDriven (l : Library) (n k : InMemory) (p q : Terminal → ℕ) (w u : Wired) (others : List Instance) : Type 0 where
   pub carries : Carries l w u others
   pub first_ports : w.ports ≡ n.ports
   pub first_instances : w.instances ≡ n.instances
@@ -345,9 +345,9 @@ module _ (n : InMemory) (l : Library) (fanout : ℕ) (k : InMemory) (delay : ℕ
       (subst (λ (w : Wired). Carries l (wired_of n) w []) (sym same) (carries_itself l (wired_of n)))
   carries_by (by_gates repeats) =
       let c = d.is_buffered.repeater.cell in
-      let b = gate_cell l c d.is_buffered.repeater.gates repeats in
-      carried l c b (wired_of n) wired d.is_buffered.names
-      (limited_behind l c b (most_sinks fanout) d.is_buffered.repeater.gates (gives_back l c d.is_buffered.repeater.gates repeats) d.is_buffered.repeater refl refl
+      let row = returns l c d.is_buffered.repeater.gates repeats in
+      carried l c row.gate (wired_of n) wired d.is_buffered.names
+      (limited_behind l (most_sinks fanout) d.is_buffered.repeater row.gate row.gives
       d.is_buffered.names (wired_of n) wired d.is_buffered.limited ready (new_names false n l (most_sinks fanout) r passed is_n d.sound of_cells d.is_buffered))
 
   module _ (y x : Netlist) (seen_y : IsSeenAs n y) (seen_x : IsSeenAs k x) where

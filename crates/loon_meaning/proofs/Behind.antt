@@ -20,7 +20,7 @@ use Rattle.loon_fanout.specs.Laws.{gate_named}
 use Rattle.loon_fanout.proofs.Splitting.{is_false}
 use Rattle.loon_fanout.proofs.RightPins.{own_class, input, output, in_inputs, in_outputs, input_class, output_class}
 use Rattle.loon_fanout.proofs.RightStates.{IsGateCell}
-use Rattle.loon_meaning.proofs.Lists.{In-one, input_pin, output_pin, Origin, of_port, of_pin, origin, pin_in, more_in}
+use Rattle.loon_meaning.proofs.Lists.{In-one, input_pin, output_pin, Origin, of_port, of_pin, origin, port_in, pin_in, more_in}
 
 abbrev pub all_terminals : Wired → List Terminal
 all_terminals w = terminals_of w.ports w.instances
@@ -160,7 +160,7 @@ module _ (l : Library) (c : Cell) (b : IsGateCell l c) where
     numbered_after : AreNumbered after
     numbered_after t t_in = by (origin w.ports after.instances t t_in) where
       by : Origin w.ports after.instances t → after.class t < suc w.count
-      by (of_port p p_in e) = subst (λ (x : Terminal). after.class x < suc w.count) e (low_old (port p.name) (In-left (port p.name) _ _ (In-map (λ (q : Port). port q.name) p w.ports p_in)))
+      by (of_port p p_in e) = subst (λ (x : Terminal). after.class x < suc w.count) e (low_old (port p.name) (port_in w.ports w.instances p p_in))
       by (of_pin i pin i_in q e) = elim (In-split i w.instances (gate_named c name ∷ []) i_in) [
         | inl old ↦ subst (λ (x : Terminal). after.class x < suc w.count) e (low_old (pin_of i.name pin) (pin_in w.ports w.instances i pin old q))
         | inr last ↦

@@ -19,7 +19,6 @@ use Rattle.loon_fanout.specs.Laws.{gate_named}
 use Rattle.loon_fanout.proofs.Splitting.{sink_at}
 use Rattle.loon_fanout.proofs.RightStates.{IsGateCell}
 use Rattle.loon_fanout.proofs.RightRounds.{AreNew, Repeats, once, twice, in_groups, some_of}
-use Rattle.loon_fanout.proofs.RightStay.{gate_cell}
 use Rattle.loon_meaning.proofs.Lists.{pin_in, input_pin, IsMadeOf}
 use Rattle.loon_meaning.proofs.Behind.{all_terminals, AreNumbered, Behind, nothing_behind, kept_in, both_behind}
 use Rattle.loon_meaning.proofs.Moving.{Reads, AreApart, Grown, one_gate, two_gates}
@@ -49,16 +48,21 @@ pub data GivesBack (l : Library) (c : Cell) (b : IsGateCell l c) : ℕ → Type 
   by_one : ((v : Bool) → val b.expr (v ∷ []) ≡ v) → GivesBack l c b 1
   by_two : ((v : Bool) → val b.expr (v ∷ []) ≡ not v) → GivesBack l c b 2
 
-pub gives_back : (l : Library) (c : Cell) (gates : ℕ) (r : Repeats l c gates) → GivesBack l c (gate_cell l c gates r) gates
-gives_back l c _ (once b gives) = by_one gives
-gives_back l c _ (twice b inverts) = by_two inverts
+-- the cell of such a row
+pub record Returns (l : Library) (c : Cell) (gates : ℕ) : Type 0 where
+  pub gate : IsGateCell l c
+  pub gives : GivesBack l c gate gates
+
+pub returns : (l : Library) (c : Cell) (gates : ℕ) → Repeats l c gates → Returns l c gates
+returns l c _ (once b gives) = record { gate = b; gives = by_one gives }
+returns l c _ (twice b inverts) = record { gate = b; gives = by_two inverts }
 
 module _ (l : Library) (c : Cell) (b : IsGateCell l c) where
   -- ---- a round
 
   module _ (w0 : Wired) (k : ℕ) (low : k < w0.count) (on_vdd : In (port vdd) (all_terminals w0)) (on_vss : In (port vss) (all_terminals w0)) where
     -- a row takes its names
-    row_grown : (gates : ℕ) → GivesBack l c b gates → (w : Wired) (names : List (List ℕ)) → Behind l c b w0 w names → AreApart l c b w0 names
+    pub row_grown : (gates : ℕ) → GivesBack l c b gates → (w : Wired) (names : List (List ℕ)) → Behind l c b w0 w names → AreApart l c b w0 names
         → (group : List Terminal) → ((t : Terminal) → In t group → Reads w0 k t) → (row left : List (List ℕ)) → length row ≡ gates
         → AreNew c (row ++ left) w.instances → Grown l c b w0 (with_group c w k row group) (names ++ row) left
     row_grown _ (by_one gives) w names h apart group each [] left many new = absurd (omega (arith, many))
@@ -72,7 +76,7 @@ module _ (l : Library) (c : Cell) (b : IsGateCell l c) where
         subst (λ (ns : List (List ℕ)). Grown l c b w0 (with_group c w k (x ∷ y ∷ []) group) ns left) (append_assoc names (x ∷ []) (y ∷ []))
         (two_gates l c b w0 w k low on_vdd on_vss group each names h apart inverts x y left new.1 new.2.1 new.2.2)
 
-    round_grown : (gates : ℕ) → GivesBack l c b gates → (rows : List Row) (w : Wired) (names left : List (List ℕ)) → Behind l c b w0 w names → AreApart l c b w0 names
+    pub round_grown : (gates : ℕ) → GivesBack l c b gates → (rows : List Row) (w : Wired) (names left : List (List ℕ)) → Behind l c b w0 w names → AreApart l c b w0 names
         → ((row : Row) → In row rows → (length row.names ≡ gates) × ((t : Terminal) → In t row.group → Reads w0 k t))
         → AreNew c (flat_map (λ r. r.names) rows ++ left) w.instances
         → Grown l c b w0 (with_round c w k rows) (names ++ flat_map (λ r. r.names) rows) left
@@ -110,19 +114,18 @@ module _ (l : Library) (c : Cell) (b : IsGateCell l c) where
       let r = sink_reads l w k t.0 ready t.1 in
       subst (λ (x : ℕ). x < w.count) r.class (ready.numbered t.0 r.listed)
 
-  pub limited_behind : (limit gates : ℕ) → GivesBack l c b gates → (r : Repeater) → r.cell ≡ c → r.gates ≡ gates → (names : List (List ℕ)) (w u : Wired) → IsLimited l limit r names w u
-      → IsReady l w → AreNew c names w.instances → Behind l c b w u names
-  limited_behind limit gates how r cell_is gates_is names w u (within few) ready new = nothing_behind l c b w ready.numbered
-  limited_behind limit gates how r cell_is gates_is names w u (round {later = later} class rows large earlier groups many rest) ready new =
-      let each : (row : Row) → In row rows → (length row.names ≡ gates) × ((t : Terminal) → In t row.group → Reads w class t) = λ row row_in. (
-        All-In (λ (x : Row). length x.names ≡ r.gates) rows many row row_in ∙ gates_is,
-        λ t g. sink_reads l w class t ready
-            (in_groups limit (sinks l w class) (map (λ (x : Row). x.group) rows) groups row.group (In-map (λ (x : Row). x.group) row rows row_in) t g),
-      ) in
-      let grown = round_grown w class (class_low w class limit ready large) ready.on_vdd ready.on_vss gates how rows w [] later
-      (nothing_behind l c b w ready.numbered) (λ name h. elim h [ ]) each new in
-      let next = with_round c w class rows in
-      let others = flat_map (λ (x : Row). x.names) rows in
-      both_behind l c b w next u others later grown.behind
-      (limited_behind limit gates how r cell_is gates_is later next u (subst (λ (x : Cell). IsLimited l limit r later (with_round x w class rows) u) cell_is rest)
-      (ready_after w next others ready grown.behind) grown.rest)
+pub limited_behind : (l : Library) (limit : ℕ) (r : Repeater) (b : IsGateCell l r.cell) → GivesBack l r.cell b r.gates → (names : List (List ℕ)) (w u : Wired) → IsLimited l limit r names w u
+    → IsReady l w → AreNew r.cell names w.instances → Behind l r.cell b w u names
+limited_behind l limit r b how names w u (within few) ready new = nothing_behind l r.cell b w ready.numbered
+limited_behind l limit r b how names w u (round {later = later} class rows large earlier groups many rest) ready new =
+    let each : (row : Row) → In row rows → (length row.names ≡ r.gates) × ((t : Terminal) → In t row.group → Reads w class t) = λ row row_in. (
+      All-In (λ (x : Row). length x.names ≡ r.gates) rows many row row_in,
+      λ t g. sink_reads l w class t ready
+          (in_groups limit (sinks l w class) (map (λ (x : Row). x.group) rows) groups row.group (In-map (λ (x : Row). x.group) row rows row_in) t g),
+    ) in
+    let grown = round_grown l r.cell b w class (class_low l r.cell b w class limit ready large) ready.on_vdd ready.on_vss r.gates how rows w [] later
+    (nothing_behind l r.cell b w ready.numbered) (λ name h. elim h [ ]) each new in
+    let next = with_round r.cell w class rows in
+    let others = flat_map (λ (x : Row). x.names) rows in
+    both_behind l r.cell b w next u others later grown.behind
+    (limited_behind l limit r b how later next u rest (ready_after l r.cell b w next others ready grown.behind) grown.rest)

@@ -123,7 +123,7 @@ module _ (l : Library) (c : Cell) (b : IsGateCell l c) where
     vss_here : In (port vss) (all_terminals w)
     vss_here = kept_in l c b w0 w names h (port vss) on_vss
 
-    one_gate : ((v : Bool) → val b.expr (v ∷ []) ≡ v) → (name : List ℕ) (left : List (List ℕ)) → ((i : Instance) → In i w.instances → i.name ≢ name)
+    pub one_gate : ((v : Bool) → val b.expr (v ∷ []) ≡ v) → (name : List ℕ) (left : List (List ℕ)) → ((i : Instance) → In i w.instances → i.name ≢ name)
         → AreNew c left (w.instances ++ gate_named c name ∷ []) → Grown w0 (with_group c w k (name ∷ []) group) (names ++ name ∷ []) left
     one_gate gives name left new rest =
         let u = with_gate c w k name in
@@ -136,7 +136,7 @@ module _ (l : Library) (c : Cell) (b : IsGateCell l c) where
           rest = rest;
         }
 
-    two_gates : ((v : Bool) → val b.expr (v ∷ []) ≡ not v) → (first second : List ℕ) (left : List (List ℕ)) → ((i : Instance) → In i w.instances → i.name ≢ first)
+    pub two_gates : ((v : Bool) → val b.expr (v ∷ []) ≡ not v) → (first second : List ℕ) (left : List (List ℕ)) → ((i : Instance) → In i w.instances → i.name ≢ first)
         → ((i : Instance) → In i (w.instances ++ gate_named c first ∷ []) → i.name ≢ second)
         → AreNew c left ((w.instances ++ gate_named c first ∷ []) ++ gate_named c second ∷ [])
         → Grown w0 (with_group c w k (first ∷ second ∷ []) group) ((names ++ first ∷ []) ++ second ∷ []) left
