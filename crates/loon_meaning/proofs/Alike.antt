@@ -1,12 +1,12 @@
 -- A netlist with buffers and other drives behaves as before.
-use Rattle.std.proofs.Common.{◌≡◌, ◌↔◌, inl, inr, ℕ, ◌<◌, ◌≤◌, Bool, false, List, [], ◌∷◌, ◌++◌, map, length, Option, Some, refl, sym, ◌∙◌, ap, subst, arith, append-nil}
+use Rattle.std.proofs.Common.{◌≡◌, ◌↔◌, inl, inr, ℕ, ◌<◌, Bool, false, List, [], ◌∷◌, ◌++◌, map, Some, refl, sym, ◌∙◌, ap, subst, arith}
 use Rattle.vlsi_base.specs.declared.name.Name.{Name}
 use Rattle.vlsi_base.specs.declared.name.Port.{Port}
 use Rattle.vlsi_base.specs.declared.name.Terminal.{Terminal}
 use Rattle.vlsi_base.specs.Names.{vdd, vss}
 use Rattle.vlsi_base.specs.Member.{In}
 use Rattle.bool_expr.specs.Expression.{bit, val}
-use Rattle.cell_model.specs.Cell.{Function, gate, flip_flop, other, opaque, Cell, cell_inputs, cell_outputs}
+use Rattle.cell_model.specs.Cell.{Function, gate, Cell}
 use Rattle.cell_model.specs.Library.{Library, cell_of}
 use Rattle.cell_model.proofs.Members.{In-split, In-left, In-right, In-map, In-map_back}
 use Rattle.cell_checks.specs.Checked.{IsChecked as HasPassed}
@@ -22,9 +22,8 @@ use Rattle.net_view.specs.View.{netlist_by, IsSeenAs}
 use Rattle.net_view.proofs.Lists.{in_place}
 use Rattle.net_view.proofs.Places.{has_class}
 use Rattle.net_view.proofs.Terminals.{IsCelled, terminal_there}
-use Rattle.loon_buffer.specs.Drives.{OnlyExchanges}
 use Rattle.loon_fanout.specs.Sinks.{Wired, wired_of}
-use Rattle.loon_fanout.specs.Limited.{IsLimited, IsBuffered, IsOfCells}
+use Rattle.loon_fanout.specs.Limited.{IsOfCells}
 use Rattle.loon_fanout.specs.Laws.{gate_named}
 use Rattle.loon_fanout.specs.Nets.{BufferedRemains}
 use Rattle.loon_fanout.proofs.Terminals.{class_is}
@@ -33,15 +32,15 @@ use Rattle.loon_fanout.proofs.RightStates.{IsGateCell}
 use Rattle.loon_fanout.proofs.RightStay.{WasLimited, unchanged, by_gates, how, all_instances, ports_same, new_names}
 use Rattle.loon_drive.specs.Driven.{most_sinks, IsDrivenFrom}
 use Rattle.loon_drive.specs.Laws.{CellsStay}
-use Rattle.loon_meaning.specs.Meaning.{ShowsSame, ArePorts, BehavesAs}
+use Rattle.loon_meaning.specs.Meaning.{ShowsSame, BehavesAs}
 use Rattle.loon_meaning.specs.Laws.{DrivenBehavesAsBefore}
 use Rattle.loon_meaning.proofs.Lists.{more_in, IsMadeOf}
-use Rattle.loon_meaning.proofs.Behind.{all_terminals, AreNumbered, HaveValues, Behind}
+use Rattle.loon_meaning.proofs.Behind.{all_terminals, HaveValues, Behind}
 use Rattle.loon_meaning.proofs.Limiting.{IsReady, returns, limited_behind}
 use Rattle.loon_meaning.proofs.Bits.{Gives, Cycle, AreBits, AreAmong, bits_of, bits_same, bits_shown, valuation_of, settles_by}
 use Rattle.loon_meaning.proofs.Exchanging.{AreChosen, chosen, terminals_same, bits_to, bits_from}
 use Rattle.loon_meaning.proofs.Numbers.{IsByClass, renumbered, renumbered_bit}
-use Rattle.loon_meaning.proofs.Held.{loaded_by, held_by, HoldNothing, next_is, held_same, held_before, held_exchanged}
+use Rattle.loon_meaning.proofs.Held.{loaded_by, HoldNothing, next_is, held_same, held_before, held_exchanged}
 
 -- ---- instances behind those of a netlist
 
@@ -73,9 +72,9 @@ module _ (l : Library) (c : Cell) (b : IsGateCell l c) (w u : Wired) (names : Li
 
     gives_to : HaveValues l c b f u names → (name : List ℕ) → In name names → Gives at t name c c.function
     gives_to values name name_in = subst (λ (v : Function). Gives at t name c v) (sym b.is_gate) (
-      ap (λ (ps : List Name). map (λ p. at (pin_of name p)) ps) (output_is l c b)
-          ∙ ap (λ (x : Bool). x ∷ []) (values name name_in)
-          ∙ ap (λ (ps : List Name). val b.expr (map (λ p. at (pin_of name p)) ps) ∷ []) (sym (input_is l c b)))
+        ap (λ (ps : List Name). map (λ p. at (pin_of name p)) ps) (output_is l c b)
+        ∙ ap (λ (x : Bool). x ∷ []) (values name name_in)
+        ∙ ap (λ (ps : List Name). val b.expr (map (λ p. at (pin_of name p)) ps) ∷ []) (sym (input_is l c b)))
 
     gives_from : GiveAll l at t (map (gate_named c) names) → HaveValues l c b f u names
     gives_from all name name_in =
@@ -277,15 +276,19 @@ module _ (l : Library) (n k : InMemory) (p q : Terminal → ℕ) (w u : Wired) (
     forth = λ inputs clock t i wv among settled.
         let y : Cycle = record { inputs = inputs; clock = clock; contents = t; vector = i } in
         let ports : AreAmong y n.ports = record { inputs = among.inputs; clock = among.clock } in
-        let given = bits_shown l y n p wv settled in
-        (valuation_of (vs y ports wv.classes given), settled_forth y ports wv.classes given,
-        shows wv (valuation_of (vs y ports wv.classes given)) (both_forth y ports wv.classes given) there);
+        let given = bits_shown l y n p wv settled in (
+          valuation_of (vs y ports wv.classes given),
+          settled_forth y ports wv.classes given,
+          shows wv (valuation_of (vs y ports wv.classes given)) (both_forth y ports wv.classes given) there,
+        );
     back = λ inputs clock t i vv among settled.
         let y : Cycle = record { inputs = inputs; clock = clock; contents = t; vector = i } in
         let ports : AreAmong y n.ports = record { inputs = among.inputs; clock = among.clock } in
-        let given = bits_shown l y k q vv settled in
-        (valuation_of (ws_back y ports vv.classes given), settled_back y ports vv.classes given,
-        shows (valuation_of (ws_back y ports vv.classes given)) vv (both_back y ports vv.classes given) there);
+        let given = bits_shown l y k q vv settled in (
+          valuation_of (ws_back y ports vv.classes given),
+          settled_back y ports vv.classes given,
+          shows (valuation_of (ws_back y ports vv.classes given)) vv (both_back y ports vv.classes given) there,
+        );
   }
 
 -- ---- what is known of the driven netlist

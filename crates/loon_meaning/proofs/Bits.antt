@@ -8,7 +8,7 @@ use Rattle.vlsi_base.specs.Member.{In, here, there}
 use Rattle.bool_expr.specs.Expression.{bit, val}
 use Rattle.machine_meaning.specs.Machine.{names_of}
 use Rattle.cell_model.specs.Cell.{Function, gate, flip_flop, other, opaque, Cell, cell_inputs, cell_outputs}
-use Rattle.cell_model.specs.Library.{Library, cell_of, IsUsable, IsPlain}
+use Rattle.cell_model.specs.Library.{Library, cell_of, IsPlain}
 use Rattle.cell_model.proofs.Members.{In-map, In-map_back}
 use Rattle.cell_pins.specs.Pins.{all_ports}
 use Rattle.net_core.specs.Netlist.{Instance, Netlist as InMemory, port, pin_of, terminals_of}

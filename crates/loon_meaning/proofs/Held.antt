@@ -4,18 +4,15 @@ use Rattle.vlsi_base.specs.declared.name.Name.{Name}
 use Rattle.vlsi_base.specs.declared.name.Port.{Port}
 use Rattle.vlsi_base.specs.declared.name.Terminal.{Terminal}
 use Rattle.vlsi_base.specs.Member.{In, here, there}
-use Rattle.machine_meaning.specs.Machine.{names_of}
 use Rattle.machine_meaning.specs.Named.{is_same_text}
 use Rattle.cell_model.specs.Cell.{Function, gate, flip_flop, other, opaque, Cell}
 use Rattle.cell_model.specs.Library.{Library, cell_of, IsPlain}
 use Rattle.cell_model.proofs.Texts.{text_same}
-use Rattle.cell_pins.specs.Pins.{all_ports}
 use Rattle.net_core.specs.Netlist.{Instance, Netlist as InMemory, pin_of, terminals_of}
 use Rattle.net_meaning.specs.Netlist.{Netlist}
 use Rattle.net_meaning.specs.Behaviour.{Valuation, model_of, cell_at, loaded, next_held}
 use Rattle.net_theory.specs.Exchanges.{IsSameFunction}
 use Rattle.net_view.specs.View.{member_of, netlist_by}
-use Rattle.loon_buffer.specs.Drives.{IsChosenFor}
 use Rattle.loon_meaning.proofs.Lists.{pin_in, input_pin, IsMadeOf}
 use Rattle.loon_meaning.proofs.Bits.{bits_of}
 use Rattle.loon_meaning.proofs.Exchanging.{AreChosen, none, more}
@@ -57,7 +54,7 @@ module _ (l : Library) (n : InMemory) (class : Terminal → ℕ) (w : Valuation)
     by : (b : Bool) → next_held seen w owner (cell_of l i.model) ≡ cell_holds (bits_of class w.classes) owner (cell_of l i.model)
         → next_held seen w owner (cell_at l (model_of (map member_of is) owner)) ≡ held_by l (bits_of class w.classes) is owner
         → next_held seen w owner (cell_at l (if b then Some i.model else model_of (map member_of is) owner))
-            ≡ (if b then cell_holds (bits_of class w.classes) owner (cell_of l i.model) else held_by l (bits_of class w.classes) is owner)
+        ≡ (if b then cell_holds (bits_of class w.classes) owner (cell_of l i.model) else held_by l (bits_of class w.classes) is owner)
     by true first rest = first
     by false first rest = rest
 

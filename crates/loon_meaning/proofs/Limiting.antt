@@ -1,5 +1,5 @@
 -- Rounds on nets, and the bits of classes.
-use Rattle.std.proofs.Common.{◌≡◌, inl, inr, ℕ, ◌<◌, Bool, not, List, [], ◌∷◌, ◌++◌, map, length, Some, refl, sym, ◌∙◌, ap, subst, arith, append_assoc, append-nil}
+use Rattle.std.proofs.Common.{◌≡◌, inl, inr, ℕ, ◌<◌, Bool, not, List, [], ◌∷◌, ◌++◌, map, length, refl, sym, ◌∙◌, subst, arith, append_assoc, append-nil}
 use Rattle.std.proofs.lemmas.Option.{same_Some}
 use Rattle.std.specs.List.{flat_map}
 use Rattle.vlsi_base.specs.declared.name.Name.{Name}
@@ -10,7 +10,7 @@ use Rattle.bool_expr.specs.Expression.{val}
 use Rattle.cell_model.specs.Cell.{Cell, cell_inputs}
 use Rattle.cell_model.specs.Library.{Library}
 use Rattle.cell_model.proofs.Members.{In-split, In-map, In-map_back, All-In}
-use Rattle.net_core.specs.Netlist.{Instance, port, pin_of}
+use Rattle.net_core.specs.Netlist.{Instance, port}
 use Rattle.loon_fanout.specs.Sinks.{Wired, sinks}
 use Rattle.loon_fanout.specs.Wired.{with_group}
 use Rattle.loon_fanout.specs.Repeaters.{Repeater}

@@ -1,18 +1,17 @@
 -- A group of sinks put behind a row of gates, and the bits of classes.
-use Rattle.std.proofs.Common.{◌≡◌, ◌≢◌, inl, inr, ℕ, suc, ◌-◌, ◌<◌, Bool, true, false, not, List, [], ◌∷◌, ◌++◌, map, length, None, Some, refl, sym, ◌∙◌, ap, subst, arith, append_assoc, if◌then◌else◌}
+use Rattle.std.proofs.Common.{◌≡◌, ◌≢◌, inl, inr, ℕ, suc, ◌-◌, ◌<◌, Bool, true, false, not, List, [], ◌∷◌, ◌++◌, map, None, Some, refl, sym, ◌∙◌, ap, subst, arith, if◌then◌else◌}
 use Rattle.std.specs.List.{list_any}
 use Rattle.vlsi_base.specs.declared.name.Name.{Name}
-use Rattle.vlsi_base.specs.declared.name.Port.{Port}
 use Rattle.vlsi_base.specs.declared.name.Terminal.{Terminal}
 use Rattle.vlsi_base.specs.Names.{vdd, vss}
-use Rattle.vlsi_base.specs.Member.{In, here}
+use Rattle.vlsi_base.specs.Member.{In}
 use Rattle.bool_expr.specs.Expression.{val}
 use Rattle.cell_model.specs.Cell.{Cell}
 use Rattle.cell_model.specs.Library.{Library}
 use Rattle.cell_model.proofs.Members.{In-left, In-split}
-use Rattle.net_core.specs.Netlist.{Instance, port, pin_of, terminals_of}
+use Rattle.net_core.specs.Netlist.{Instance, port, pin_of}
 use Rattle.loon_fanout.specs.Sinks.{Wired, is_same_terminal}
-use Rattle.loon_fanout.specs.Wired.{with_gate, with_row, with_moved, with_group}
+use Rattle.loon_fanout.specs.Wired.{with_gate, with_moved, with_group}
 use Rattle.loon_fanout.specs.Laws.{gate_named}
 use Rattle.loon_fanout.proofs.Splitting.{is_false, any_in}
 use Rattle.loon_fanout.proofs.Terminals.{terminal_same}
@@ -20,7 +19,7 @@ use Rattle.loon_fanout.proofs.RightPins.{input, output}
 use Rattle.loon_fanout.proofs.RightStates.{IsGateCell}
 use Rattle.loon_fanout.proofs.RightRounds.{AreNew}
 use Rattle.loon_meaning.proofs.Lists.{In-one, Origin, of_port, of_pin, origin}
-use Rattle.loon_meaning.proofs.Behind.{all_terminals, AreNumbered, value, read_pin, driven_pin, HaveValues, Behind, kept_in, earlier, new_value, gate_behind}
+use Rattle.loon_meaning.proofs.Behind.{all_terminals, AreNumbered, value, HaveValues, Behind, kept_in, earlier, new_value, gate_behind}
 
 -- a terminal with this class
 pub record Reads (w : Wired) (k : ℕ) (t : Terminal) : Type 0 where

@@ -9,7 +9,7 @@ use Rattle.cell_model.specs.Cell.{Function, gate, flip_flop, other, opaque, Cell
 use Rattle.cell_model.specs.Library.{Library}
 use Rattle.net_meaning.specs.Netlist.{Netlist}
 use Rattle.net_meaning.specs.Behaviour.{Contents, Valuation, pin_bits, Drives, NetSettles, net_next}
-use Rattle.loon_meaning.specs.Meaning.{BehavesAs, RunsAs, ArePorts, IsRun, RunSame}
+use Rattle.loon_meaning.specs.Meaning.{BehavesAs, ArePorts, RunSame}
 use Rattle.loon_meaning.specs.Laws.{AlikeRunAlike}
 
 -- what each owner holds is the same
