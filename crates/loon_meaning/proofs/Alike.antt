@@ -60,7 +60,8 @@ some_same a b e = cc e
 
 module _ (l : Library) (c : Cell) (b : IsGateCell l c) (w u : Wired) (names : List (List ℕ)) (h : Behind l c b w u names) where
   -- the cell of a gate
-  cell_is : (i : Instance) (d : Cell) → In i (map (gate_named c) names) → cell_of l i.model ≡ Some d → (name : List ℕ) × In name names × (gate_named c name ≡ i) × (c ≡ d)
+  cell_is : (i : Instance) (d : Cell) → In i (map (gate_named c) names) → cell_of l i.model ≡ Some d
+      → (name : List ℕ) × In name names × (gate_named c name ≡ i) × (c ≡ d)
   cell_is i d i_in found =
       let x = In-map_back (gate_named c) i names i_in in
       let mine : cell_of l c.name ≡ Some d = subst (λ (y : Instance). cell_of l y.model ≡ Some d) (sym x.2) found in
@@ -293,7 +294,8 @@ module _ (l : Library) (n k : InMemory) (p q : Terminal → ℕ) (w u : Wired) (
 
 -- ---- what is known of the driven netlist
 
-module _ (n : InMemory) (l : Library) (fanout : ℕ) (k : InMemory) (delay : ℕ) (passed : HasPassed false l) (is_n : IsNetlist n) (is_k : IsNetlist k) (of_cells : IsOfCells n l)
+module _ (n : InMemory) (l : Library) (fanout : ℕ) (k : InMemory) (delay : ℕ) (passed : HasPassed false l) (is_n : IsNetlist n) (is_k : IsNetlist k)
+    (of_cells : IsOfCells n l)
     (d : IsDrivenFrom n l fanout k delay) (remains : BufferedRemains) (stay : CellsStay) where
   abbrev r : InMemory
   r = d.buffered

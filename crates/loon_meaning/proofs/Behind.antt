@@ -67,7 +67,8 @@ module _ (l : Library) (c : Cell) (b : IsGateCell l c) where
   pub kept_in : (w u : Wired) (names : List (List ℕ)) → Behind w u names → (t : Terminal) → In t (all_terminals w) → In t (all_terminals u)
   kept_in w u names h t t_in =
       subst (λ (is : List Instance). In t (terminals_of u.ports is)) (sym h.instances)
-      (subst (λ (ps : List Port). In t (terminals_of ps (w.instances ++ map (gate_named c) names))) (sym h.ports) (more_in w.ports w.instances (map (gate_named c) names) t t_in))
+      (subst (λ (ps : List Port). In t (terminals_of ps (w.instances ++ map (gate_named c) names))) (sym h.ports)
+      (more_in w.ports w.instances (map (gate_named c) names) t t_in))
 
   gate_in : (w u : Wired) (names : List (List ℕ)) → Behind w u names → (name : List ℕ) → In name names → In (gate_named c name) u.instances
   gate_in w u names h name name_in =
@@ -127,7 +128,8 @@ module _ (l : Library) (c : Cell) (b : IsGateCell l c) where
 
   -- ---- one gate more
 
-  module _ (w0 w : Wired) (names : List (List ℕ)) (h : Behind w0 w names) (read : ℕ) (low : read < w.count) (name : List ℕ) (new : (i : Instance) → In i w.instances → i.name ≢ name)
+  module _ (w0 w : Wired) (names : List (List ℕ)) (h : Behind w0 w names) (read : ℕ) (low : read < w.count) (name : List ℕ)
+      (new : (i : Instance) → In i w.instances → i.name ≢ name)
       (on_vdd : In (port vdd) (all_terminals w)) (on_vss : In (port vss) (all_terminals w)) where
     abbrev after : Wired
     after = with_gate c w read name
@@ -190,7 +192,9 @@ module _ (l : Library) (c : Cell) (b : IsGateCell l c) where
       wider k = if nat_eq k w.count then value (before.0 read) else before.0 k
 
       wider_old : (k : ℕ) → k < w.count → wider k ≡ before.0 k
-      wider_old k below = ap (λ (x : Bool). if x then value (before.0 read) else before.0 k) (is_false (nat_eq k w.count) (λ e. let same = eqb-true k w.count e in absurd (omega (arith, same, below))))
+      wider_old k below =
+          ap (λ (x : Bool). if x then value (before.0 read) else before.0 k)
+          (is_false (nat_eq k w.count) (λ e. let same = eqb-true k w.count e in absurd (omega (arith, same, below))))
 
       wider_new : wider w.count ≡ value (before.0 read)
       wider_new = ap (λ (x : Bool). if x then value (before.0 read) else before.0 w.count) (eq-eqb w.count w.count refl)

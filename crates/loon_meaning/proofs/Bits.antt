@@ -64,9 +64,12 @@ module _ (l : Library) (y : Cycle) (ports : List Port) (is : List Instance) (cel
   port_same name h = same (port name) (named_in ports is name h)
 
   pins_same : (i : Instance) → In i is → (pins : List Name) → ((p : Name) → In p pins → In p i.pins) → pins_by f i.name pins ≡ pins_by g i.name pins
-  pins_same i i_in pins inside = map_same (λ p. f (pin_of i.name p)) (λ p. g (pin_of i.name p)) pins (λ p p_in. same (pin_of i.name p) (pin_in ports is i p i_in (inside p p_in)))
+  pins_same i i_in pins inside =
+      map_same (λ p. f (pin_of i.name p)) (λ p. g (pin_of i.name p)) pins
+      (λ p p_in. same (pin_of i.name p) (pin_in ports is i p i_in (inside p p_in)))
 
-  gives_same : (i : Instance) → In i is → (c : Cell) (u : Function) → i.pins ≡ names_of (all_ports c) → Gives f y.contents i.name c u → Gives g y.contents i.name c u
+  gives_same : (i : Instance) → In i is → (c : Cell) (u : Function) → i.pins ≡ names_of (all_ports c) → Gives f y.contents i.name c u
+      → Gives g y.contents i.name c u
   gives_same i i_in c u pins h = by u h where
     outs : pins_by f i.name (cell_outputs c) ≡ pins_by g i.name (cell_outputs c)
     outs = pins_same i i_in (cell_outputs c) (λ p p_in. subst (λ (ns : List Name). In p ns) (sym pins) (output_pin c p p_in))
@@ -137,7 +140,8 @@ module _ (l : Library) (y : Cycle) (n : InMemory) (class : Terminal → ℕ) whe
     some_same : (a b : Cell) → Some a ≡ Some b → a ≡ b
     some_same a b e = cc e
 
-    by : (i : Instance) (c : Cell) (u : Function) → IsPlain c u → Gives (bits_of class w) y.contents i.name c u → Drives seen (valuation_of w) y.contents i.name c u
+    by : (i : Instance) (c : Cell) (u : Function) → IsPlain c u → Gives (bits_of class w) y.contents i.name c u
+        → Drives seen (valuation_of w) y.contents i.name c u
     by i c (gate e) plain d = d
     by i c (flip_flop a k) plain d = d
     by i c (other m) plain d = absurd plain

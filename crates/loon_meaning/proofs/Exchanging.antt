@@ -21,7 +21,8 @@ pub data AreChosen (l : Library) : List Instance → List Instance → Type 0 wh
   none : AreChosen l [] []
   more : {i j : Instance} {is js : List Instance} → IsChosenFor l i j → AreChosen l is js → AreChosen l (i ∷ is) (j ∷ js)
 
-pub chosen : (l : Library) (is js : List Instance) → length js ≡ length is → ((k : ℕ) (i j : Instance) → Stands is k i → Stands js k j → IsChosenFor l i j) → AreChosen l is js
+pub chosen : (l : Library) (is js : List Instance) → length js ≡ length is → ((k : ℕ) (i j : Instance) → Stands is k i → Stands js k j → IsChosenFor l i j)
+    → AreChosen l is js
 chosen l [] [] many each = none
 chosen l [] (j ∷ js) many each = absurd (omega (arith, many))
 chosen l (i ∷ is) [] many each = absurd (omega (arith, many))
@@ -105,7 +106,8 @@ module _ (l : Library) (y : Cycle) (ports : List Port) (is js : List Instance) (
         let name : j.name ≡ r.0.name = ap (λ (x : Instance). x.name) c.same in
         let old = h.each r.0 c.was r.1 c.found in
         subst (λ (x : List ℕ). Gives g y.contents x d d.function) (sym name)
-        (subst (λ (x : Cell). Gives g y.contents r.0.name x x.function) same (drive_gives g y.contents r.0.name c.was c.now c.drive c.was.function c.now.function c.drive.function old));
+        (subst (λ (x : Cell). Gives g y.contents r.0.name x x.function) same
+        (drive_gives g y.contents r.0.name c.was c.now c.drive c.was.function c.now.function c.drive.function old));
   }
 
   pub bits_from : AreBits l y ports js g → AreBits l y ports is g
@@ -119,6 +121,8 @@ module _ (l : Library) (y : Cycle) (ports : List Port) (is js : List Instance) (
         let c = r.2 in
         let same : c.was ≡ d = some_same c.was d (sym c.found ∙ found) in
         let name : r.0.name ≡ i.name = ap (λ (x : Instance). x.name) c.same in
-        let new : Gives g y.contents i.name c.now c.now.function = subst (λ (x : List ℕ). Gives g y.contents x c.now c.now.function) name (h.each r.0 c.now r.1 c.listed) in
-        subst (λ (x : Cell). Gives g y.contents i.name x x.function) same (drive_gave g y.contents i.name c.was c.now c.drive c.was.function c.now.function c.drive.function new);
+        let new : Gives g y.contents i.name c.now c.now.function =
+        subst (λ (x : List ℕ). Gives g y.contents x c.now c.now.function) name (h.each r.0 c.now r.1 c.listed) in
+        subst (λ (x : Cell). Gives g y.contents i.name x x.function) same
+        (drive_gave g y.contents i.name c.was c.now c.drive c.was.function c.now.function c.drive.function new);
   }

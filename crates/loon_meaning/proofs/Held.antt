@@ -60,7 +60,8 @@ module _ (l : Library) (n : InMemory) (class : Terminal → ℕ) (w : Valuation)
 
 -- ---- the same bits
 
-module _ (l : Library) (ports : List Port) (all : List Instance) (f g : Terminal → Bool) (same : (t : Terminal) → In t (terminals_of ports all) → f t ≡ g t) (owner : List ℕ) where
+module _ (l : Library) (ports : List Port) (all : List Instance) (f g : Terminal → Bool) (same : (t : Terminal) → In t (terminals_of ports all) → f t ≡ g t)
+    (owner : List ℕ) where
   cell_same : (i : Instance) → In i all → i.name ≡ owner → IsMadeOf l i → cell_holds f owner (cell_of l i.model) ≡ cell_holds g owner (cell_of l i.model)
   cell_same i i_in name m = ap (cell_holds f owner) m.1 ∙ by m.0.function m.2.function ∙ sym (ap (cell_holds g owner) m.1) where
     by : (u : Function) → IsPlain m.0 u → loaded_by f owner u ≡ loaded_by g owner u
@@ -71,7 +72,8 @@ module _ (l : Library) (ports : List Port) (all : List Instance) (f g : Terminal
     by (other machine) plain = absurd plain
     by opaque plain = absurd plain
 
-  pub held_same : (is : List Instance) → ((i : Instance) → In i is → In i all) → ((i : Instance) → In i is → IsMadeOf l i) → held_by l f is owner ≡ held_by l g is owner
+  pub held_same : (is : List Instance) → ((i : Instance) → In i is → In i all) → ((i : Instance) → In i is → IsMadeOf l i)
+      → held_by l f is owner ≡ held_by l g is owner
   held_same [] inside cells = refl
   held_same (i ∷ is) inside cells = by (is_same_text i.name owner) refl (held_same is (λ x h. inside x (there h)) (λ x h. cells x (there h))) where
     by : (b : Bool) → is_same_text i.name owner ≡ b → held_by l f is owner ≡ held_by l g is owner
@@ -92,10 +94,13 @@ module _ (l : Library) (g : Terminal → Bool) (owner : List ℕ) where
 
   held_nothing : (is : List Instance) → HoldNothing l is → held_by l g is owner ≡ []
   held_nothing [] empty = refl
-  held_nothing (i ∷ is) empty = by (is_same_text i.name owner) (nothing_by (cell_of l i.model) (λ c found. empty i c here found g owner)) (held_nothing is (λ x c h. empty x c (there h))) where
-    by : (b : Bool) → cell_holds g owner (cell_of l i.model) ≡ [] → held_by l g is owner ≡ [] → (if b then cell_holds g owner (cell_of l i.model) else held_by l g is owner) ≡ []
-    by true first rest = first
-    by false first rest = rest
+  held_nothing (i ∷ is) empty =
+      by (is_same_text i.name owner)
+      (nothing_by (cell_of l i.model) (λ c found. empty i c here found g owner)) (held_nothing is (λ x c h. empty x c (there h))) where
+        by : (b : Bool) → cell_holds g owner (cell_of l i.model) ≡ [] → held_by l g is owner ≡ []
+            → (if b then cell_holds g owner (cell_of l i.model) else held_by l g is owner) ≡ []
+        by true first rest = first
+        by false first rest = rest
 
   pub held_before : (is others : List Instance) → HoldNothing l others → held_by l g (is ++ others) owner ≡ held_by l g is owner
   held_before [] others empty = held_nothing others empty

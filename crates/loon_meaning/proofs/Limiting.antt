@@ -76,7 +76,8 @@ module _ (l : Library) (c : Cell) (b : IsGateCell l c) where
         subst (λ (ns : List (List ℕ)). Grown l c b w0 (with_group c w k (x ∷ y ∷ []) group) ns left) (append_assoc names (x ∷ []) (y ∷ []))
         (two_gates l c b w0 w k low on_vdd on_vss group each names h apart inverts x y left new.1 new.2.1 new.2.2)
 
-    pub round_grown : (gates : ℕ) → GivesBack l c b gates → (rows : List Row) (w : Wired) (names left : List (List ℕ)) → Behind l c b w0 w names → AreApart l c b w0 names
+    pub round_grown : (gates : ℕ) → GivesBack l c b gates → (rows : List Row) (w : Wired) (names left : List (List ℕ)) → Behind l c b w0 w names
+        → AreApart l c b w0 names
         → ((row : Row) → In row rows → (length row.names ≡ gates) × ((t : Terminal) → In t row.group → Reads w0 k t))
         → AreNew c (flat_map (λ r. r.names) rows ++ left) w.instances
         → Grown l c b w0 (with_round c w k rows) (names ++ flat_map (λ r. r.names) rows) left
@@ -114,7 +115,8 @@ module _ (l : Library) (c : Cell) (b : IsGateCell l c) where
       let r = sink_reads l w k t.0 ready t.1 in
       subst (λ (x : ℕ). x < w.count) r.class (ready.numbered t.0 r.listed)
 
-pub limited_behind : (l : Library) (limit : ℕ) (r : Repeater) (b : IsGateCell l r.cell) → GivesBack l r.cell b r.gates → (names : List (List ℕ)) (w u : Wired) → IsLimited l limit r names w u
+pub limited_behind : (l : Library) (limit : ℕ) (r : Repeater) (b : IsGateCell l r.cell) → GivesBack l r.cell b r.gates
+    → (names : List (List ℕ)) (w u : Wired) → IsLimited l limit r names w u
     → IsReady l w → AreNew r.cell names w.instances → Behind l r.cell b w u names
 limited_behind l limit r b how names w u (within few) ready new = nothing_behind l r.cell b w ready.numbered
 limited_behind l limit r b how names w u (round {later = later} class rows large earlier groups many rest) ready new =

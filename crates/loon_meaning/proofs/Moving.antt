@@ -102,7 +102,8 @@ module _ (l : Library) (c : Cell) (b : IsGateCell l c) where
   twice_not false = refl
 
   -- what is new behind the first netlist is new to it
-  apart_more : (w0 w : Wired) (names : List (List ℕ)) → Behind l c b w0 w names → AreApart w0 names → (name : List ℕ) → ((i : Instance) → In i w.instances → i.name ≢ name)
+  apart_more : (w0 w : Wired) (names : List (List ℕ)) → Behind l c b w0 w names → AreApart w0 names → (name : List ℕ)
+      → ((i : Instance) → In i w.instances → i.name ≢ name)
       → AreApart w0 (names ++ name ∷ [])
   apart_more w0 w names h apart name new x x_in i i_in = elim (In-split x names (name ∷ []) x_in) [
     | inl old ↦ apart x old i i_in
@@ -111,7 +112,8 @@ module _ (l : Library) (c : Cell) (b : IsGateCell l c) where
         subst (λ (y : List ℕ). i.name ≢ y) (sym (In-one name x last)) (new i there)
   ]
 
-  module _ (w0 w : Wired) (k : ℕ) (low : k < w0.count) (on_vdd : In (port vdd) (all_terminals w0)) (on_vss : In (port vss) (all_terminals w0)) (group : List Terminal)
+  module _ (w0 w : Wired) (k : ℕ) (low : k < w0.count) (on_vdd : In (port vdd) (all_terminals w0)) (on_vss : In (port vss) (all_terminals w0))
+      (group : List Terminal)
       (each : (t : Terminal) → In t group → Reads w0 k t) (names : List (List ℕ)) (h : Behind l c b w0 w names) (apart : AreApart w0 names) where
     low_here : k < w.count
     low_here = let m = h.more in omega (arith, low, m)
@@ -135,7 +137,8 @@ module _ (l : Library) (c : Cell) (b : IsGateCell l c) where
           rest = rest;
         }
 
-    pub two_gates : ((v : Bool) → val b.expr (v ∷ []) ≡ not v) → (first second : List ℕ) (left : List (List ℕ)) → ((i : Instance) → In i w.instances → i.name ≢ first)
+    pub two_gates : ((v : Bool) → val b.expr (v ∷ []) ≡ not v) → (first second : List ℕ) (left : List (List ℕ))
+        → ((i : Instance) → In i w.instances → i.name ≢ first)
         → ((i : Instance) → In i (w.instances ++ gate_named c first ∷ []) → i.name ≢ second)
         → AreNew c left ((w.instances ++ gate_named c first ∷ []) ++ gate_named c second ∷ [])
         → Grown w0 (with_group c w k (first ∷ second ∷ []) group) ((names ++ first ∷ []) ++ second ∷ []) left
