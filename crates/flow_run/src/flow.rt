@@ -29,11 +29,11 @@ use cell_lib::{catal_file, library_law, library_status, named_files, read_librar
 use cell_model::first_missing;
 use fsm_io::read_fsm;
 use loon_drive::Driven;
-use loon_run::loon_law;
 use machine_core::Machine;
 use std::alloc::{AllocError, Global};
 use syf_run::{Encoded, encoded_law, encoded_machine, style_of};
 use tool_drive::{LibraryFault, Product, Refusal, Status, Tool, Wanted, bytes_at, drive, refused};
+use tool_run::loon_law;
 use tool_words::FlowCommand;
 use vbe_few::source_has_few_names;
 use vbe_io::read_vbe;

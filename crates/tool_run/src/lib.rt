@@ -7,6 +7,7 @@
 mod run;
 mod usage;
 
+pub use loon_run::loon_law;
 pub use run::run_tool;
 pub use tool_drive::{FileCause, Kind, LibraryFault, Status, Verdict};
 pub use usage::refuse_words;
