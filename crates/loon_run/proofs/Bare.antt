@@ -3,13 +3,11 @@ use Rattle.std.proofs.Common.{◌≡◌, ℕ, true, false, List, [], ◌∷◌, 
 use Rattle.std.proofs.lemmas.Bool.{eqb-true, eq-eqb}
 use Rattle.cell_model.specs.Library.{Library}
 use Rattle.net_core.specs.Places.{Stands, IsThere}
-use Rattle.cell_checks.specs.Checked.{IsChecked as HasPassed}
-use Rattle.net_core.specs.Netlist.{Netlist, IsNetlist}
+use Rattle.net_core.specs.Netlist.{Netlist}
 use Rattle.loon_fanout.specs.declared.error.BufferError.{BufferError}
-use Rattle.loon_fanout.specs.Limited.{HasFanout, IsOfCells}
+use Rattle.loon_fanout.specs.Limited.{HasFanout}
 use Rattle.loon_drive.specs.declared.drive.Driven.{Driven}
 use Rattle.loon_drive.specs.Driven.{most_sinks, IsDrivenFrom}
-use Rattle.loon_meaning.specs.Laws.{DrivenBehavesAsBefore}
 use Rattle.loon_run.specs.Loon.{IsMade, driven}
 
 pub none_of : {A B : Type 0} (f : A → B) (xs : List A) (ys : List B) → map f xs ≡ ys → nat_eq (length xs) 0 ≡ true → ys ≡ []
@@ -20,9 +18,7 @@ pub some_of : {A B : Type 0} (f : A → B) (xs : List A) (ys : List B) → map f
 some_of f [] ys is empty = let e : true ≡ false = sym (eq-eqb 0 0 refl) ∙ empty in absurd cc
 some_of {A} {B} f (x ∷ xs) ys is empty = (f x, (0, subst (λ (zs : List B). Stands zs 0 (f x)) is refl))
 
-pub made_of : DrivenBehavesAsBefore → (r : Result Driven BufferError) (n : Netlist) (l : Library) (fanout : ℕ) → HasPassed false l → IsNetlist n → IsOfCells n l
-    → IfOk r (λ d. IsNetlist d.netlist) → IfOk r (λ d. IsDrivenFrom n l fanout d.netlist d.delay)
+pub made_of : (r : Result Driven BufferError) (n : Netlist) (l : Library) (fanout : ℕ) → IfOk r (λ d. IsDrivenFrom n l fanout d.netlist d.delay)
     → IfOk r (λ d. HasFanout l (most_sinks fanout) d.netlist) → IfOk r (λ d. IsMade n l fanout d.netlist d.delay)
-made_of law (Ok d) n l fanout passed sound cells whole made few =
-    driven made few (λ y x seen after. law n l fanout d.netlist d.delay y x passed sound whole cells made seen after)
-made_of law (Err e) n l fanout passed sound cells whole made few = made
+made_of (Ok d) n l fanout made few = driven made few
+made_of (Err e) n l fanout made few = made

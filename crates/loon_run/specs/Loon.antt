@@ -11,14 +11,11 @@ use Rattle.cell_lib.specs.Library.{IsLibraryOf, IsRefusedLibrary, status_of}
 use Rattle.cell_pins.specs.Table.{IsTableOf}
 use Rattle.net_core.specs.declared.pins.ModelPins.{ModelPins}
 use Rattle.net_core.specs.Netlist.{Netlist, IsNetlist}
-use Rattle.net_meaning.specs.Netlist.{Netlist as Seen}
-use Rattle.net_view.specs.View.{IsSeenAs}
 use Rattle.loon_fanout.specs.declared.error.BufferError.{BufferError}
 use Rattle.loon_fanout.specs.declared.error.BufferError.TheVariants as error
 use Rattle.loon_fanout.specs.Limited.{IsCrowded, HasFanout, StaysRight}
 use Rattle.loon_fanout.specs.Repeaters.{NoneRepeats}
 use Rattle.loon_drive.specs.Driven.{most_sinks, IsDrivenFrom}
-use Rattle.loon_meaning.specs.Meaning.{BehavesAs}
 use Rattle.spell_theory.specs.Layout.{text_of}
 use Rattle.vst_write.specs.Written.{layout}
 use Rattle.vst_io.specs.Text.{IsVst, IsVstRefusal}
@@ -64,18 +61,12 @@ pub record AreRead (source catal : List ℕ) (cells : List (List ℕ)) (l : Libr
   pub pins : IsTableOf l false table
   pub netlist : IsVst source table n
 
--- however both are seen as netlists of layouts, the second behaves as the first: from the same contents of the instances and under the
--- same vectors all terminals of the first have the same bits, and the instances hold the same behind the clock's rise
-abbrev pub BehavesAsBefore : Library → Netlist → Netlist → Type 0
-BehavesAsBefore l n k = (y x : Seen) → IsSeenAs n y → IsSeenAs k x → BehavesAs l y x
-
 -- A netlist without instances stays as it is, and takes no time. Another gets buffers, and then its cells are exchanged for drives of
--- them: no net has more sinks than asked for, no exchange of one instance's cell makes the longest path, which takes so many
--- femtoseconds and no more than before the exchanges, shorter, and it behaves as before.
+-- them: no net has more sinks than asked for, and no exchange of one instance's cell makes the longest path, which takes so many
+-- femtoseconds and no more than before the exchanges, shorter.
 pub data IsMade (n : Netlist) (l : Library) (fanout : ℕ) : Netlist → ℕ → Type 0 where
   bare : n.instances ≡ [] → IsMade n l fanout n 0
-  driven : {k : Netlist} {delay : ℕ} → IsDrivenFrom n l fanout k delay → HasFanout l (most_sinks fanout) k → BehavesAsBefore l n k
-      → IsMade n l fanout k delay
+  driven : {k : Netlist} {delay : ℕ} → IsDrivenFrom n l fanout k delay → HasFanout l (most_sinks fanout) k → IsMade n l fanout k delay
 
 -- Library and netlist are read, and what is made of it is written; it is right for each machine that the read one is right for.
 pub record IsLimiting (c : LoonCommand) (source catal : List ℕ) (cells : List (List ℕ)) (p : Product) : Type 0 where

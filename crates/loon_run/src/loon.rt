@@ -16,7 +16,6 @@ use cell_lib::{catal_file, library_status, named_files, read_library};
 use cell_pins::pin_table;
 use loon_drive::{Driven, drive_netlist};
 use loon_fanout::BufferError;
-use loon_meaning::driven_behaves_law;
 use net_core::Netlist;
 use std::alloc::{AllocError, Global};
 use tool_drive::{Kind, Over, Product, Refusal, Status, Tool, Wanted, bytes_at, refused};
@@ -79,9 +78,6 @@ fn driven(
         return Ok(Driven { netlist, delay: 0 });
     }
     room(&netlist)?;
-    driven_behaves_law();
-    // The library's cells have passed their checks.
-    let _ = library.cells();
     drive_netlist(alloc, &netlist, library, fanout)
 }
 
