@@ -108,6 +108,7 @@ module _ (n : Netlist) (l : Library) (m o : Machine) (a : IsAlike m o) where
   pub driven_alike : (delay : ℕ) → IsDrivenAs n l o delay → IsDrivenAs n l m delay
   driven_alike delay d = record {
     held = d.held;
+    sound = d.sound;
     ports = subst (λ (ports : List Port). d.held.ports ≡ with_supply vss (with_supply vdd ports)) a.ports d.ports;
     seen = d.seen;
     pins = d.pins;

@@ -188,13 +188,14 @@ fn netlist_within(
     };
     // A machine is checked.
     let _ = made.machine.name();
-    match driven_netlist_of(alloc, &made.machine, library, command.fanout) {
-        Ok(driven) => Ok(Mapped {
-            nodes: made.nodes,
-            driven,
-        }),
-        Err(status) => Err(status),
-    }
+    let driven = match driven_netlist_of(alloc, &made.machine, library, command.fanout) {
+        Ok(driven) => driven,
+        Err(status) => return Err(status),
+    };
+    Ok(Mapped {
+        nodes: made.nodes,
+        driven,
+    })
 }
 
 // What the texts come to.

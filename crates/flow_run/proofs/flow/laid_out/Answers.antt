@@ -1,4 +1,4 @@
-use Rattle.std.proofs.Common.{Err, sym, subst}
+use Rattle.std.proofs.Common.{true, Err, sym, subst}
 use Rattle.tool_drive.specs.declared.tool.Refusal.{Refusal}
 use Rattle.tool_drive.specs.Table.{IsJudged}
 use Rattle.flow_run.specs.View.{origin_view}

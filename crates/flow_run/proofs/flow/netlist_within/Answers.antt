@@ -8,8 +8,8 @@ use Rattle.flow_run.proofs.flow.netlist_within.Goals as goal
 pub driven_netlist_of-requires-clause-ports : goal.driven_netlist_of-requires-clause-ports
 driven_netlist_of-requires-clause-ports c = subst (λ (ports : List Port). length ports ≤ most_ports) (sym c.in-Ok.ensures.made.optimised.alike.ports) c.requires.ports
 
-pub returns-in-Ok-driven_netlist_of-clause-mapped : goal.returns-in-Ok-driven_netlist_of-clause-mapped
-returns-in-Ok-driven_netlist_of-clause-mapped c = record {
+pub returns-clause-mapped : goal.returns-clause-mapped
+returns-clause-mapped c = record {
   o = c.in-Ok.made.machine;
   made = c.in-Ok.ensures.made;
   ordered = c.name.ensures.checked;
