@@ -35,7 +35,7 @@ use crate::widths::width_fault;
 use fsm_code::Statements;
 use fsm_core::StateMachine;
 use fsm_text::StateFile;
-use source_bits::Numbers;
+use source_bits::{Numbers, few_bits};
 use source_meaning::{SymbolTable, repeated};
 use std::alloc::{AllocError, Global};
 use vlsi_base::{
@@ -353,6 +353,7 @@ fn check_named(
     ensures machine { IfOk result (λ f. IsMadeBehind (machine_view file.now) (named_of roles.entry) f) }
     ensures refused { IfErr result (λ e. IsRefusedBehind (machine_view file.now) (named_of roles.entry) e) }
 {
+    few_bits(&table)?;
     let numbers = Numbers::new(alloc, table)?;
     let (list, has_case) = mentions(alloc, &file.step.body)?;
     let checking = Checking {

@@ -10,7 +10,7 @@ ghost use Rattle.fsm_text.specs.Texts.{chain_error, PassesBefore};
 
 use crate::clipping::declared_part;
 use grammar_theory::{CHAIN, DEPTH, Form, Stop};
-use source_bits::{Numbers, target_places};
+use source_bits::{Numbers, few_bits, target_places};
 use source_meaning::{SymbolTable, Target, repeated};
 use std::alloc::{AllocError, Global};
 use vbe_text::target;
@@ -118,6 +118,7 @@ impl Tally {
         ensures known { IfOk result (λ t. t.numbers ≡ table) }
         ensures empty { IfOk result (λ t. IsTally t.numbers t.times.items []) }
     {
+        few_bits(&table)?;
         let numbers = Numbers::new(alloc, table)?;
         let mut times = Vec::new(alloc);
         times.resize(numbers.total() as usize, 0)?;

@@ -17,6 +17,7 @@ use Rattle.vlsi_base.specs.declared.entity.Declarations.{Declarations}
 use Rattle.vlsi_base.specs.Range.{range_bits}
 use Rattle.vlsi_base.proofs.Ranges.{length_of_range}
 use Rattle.vhdl_token.specs.declared.keyword.Keyword.{Keyword}
+use Rattle.vhdl_token.specs.declared.token.Tokens.{Tokens}
 use Rattle.vhdl_token.specs.declared.keyword.Keyword.TheVariants as word
 use Rattle.grammar_theory.specs.declared.form.Form.{Form}
 use Rattle.grammar_theory.specs.declared.refusal.Breach.{Breach}
@@ -30,8 +31,7 @@ use Rattle.source_meaning.specs.declared.symbol_table.Role.{Role}
 use Rattle.source_meaning.specs.declared.symbol_table.Symbol.{Symbol}
 use Rattle.source_meaning.specs.Symbols.{role_of_mode, role_of_word, symbols_named, port_symbols, signal_symbols, symbols, bit_name, names_in, symbol_names, all_names}
 use Rattle.vbe_text.specs.Source.{SourceTree, source_view}
-use Rattle.vbe_text.specs.Vbe.{architecture, source}
-use Rattle.vbe_io.specs.Text.{IsWritten}
+use Rattle.vbe_text.specs.Vbe.{architecture, source, IsSource}
 
 -- ---- what tokens count
 
@@ -291,11 +291,11 @@ weighs_source : (room : ℕ) → Weighs (source room) 0 bits_of_source
 unfolding source
 weighs_source room = weighs_then (weighs_entity room) (λ e k less. weighs_architecture room k e less)
 
-written_few : (bytes : List ℕ) (design : DesignFile) → IsWritten bytes design → bits_of_source (source_view design) ≤ BITS
-written_few bytes design w =
-    let a = w.source.read.0 in
-    let weighs = (weighs_source DEPTH).each a.front (source_view design) a.sentence in
-    let counted = run_adds a.front uncounted w.source.end.state a.clean (omega arith) in
+source_few : (tokens : Tokens) (s : SourceTree) → IsSource tokens s → bits_of_source s ≤ BITS
+source_few tokens s is =
+    let a = is.read.0 in
+    let weighs = (weighs_source DEPTH).each a.front s a.sentence in
+    let counted = run_adds a.front uncounted is.end.state a.clean (omega arith) in
     let bits = counted.0 in
     let most = counted.1 in
     omega (arith, weighs, bits, most)
@@ -354,10 +354,10 @@ signals_long (g ∷ groups) =
     a ∙ (λ j. b j + c j)
 
 -- a text declares no more bits than the limit
-pub declared_few : (bytes : List ℕ) (design : DesignFile) → IsWritten bytes design → length (all_names (symbols design)) ≤ BITS
-declared_few bytes design w =
+pub declared_few : (tokens : Tokens) (design : DesignFile) → IsSource tokens (source_view design) → length (all_names (symbols design)) ≤ BITS
+declared_few tokens design is =
     let all = all_long (port_symbols design.entity.ports) (signal_symbols design.declarations.signals) in
     let ports = ports_long design.entity.ports in
     let signals = signals_long design.declarations.signals in
-    let few = written_few bytes design w in
+    let few = source_few tokens (source_view design) is in
     omega (arith, all, ports, signals, few)
