@@ -1,5 +1,5 @@
 // Counting the assignments of each output bit and of the next state.
-ghost use Rattle.std.specs.Prelude.{◌≡◌, ◌∷◌, [], ◌++◌, List, None, Some, IfOk, MatchOption, true, false, filter, map, replicate, length};
+ghost use Rattle.std.specs.Prelude.{◌≡◌, ◌<◌, ◌^◌, ◌∷◌, [], ◌++◌, List, None, Some, IfOk, MatchOption, true, false, filter, map, replicate, length};
 ghost use Rattle.std.specs.Bool.{OnTrue, OnFalse};
 ghost use Rattle.std.specs.Option.{option_copied};
 ghost use Rattle.vlsi_base.specs.declared.name.Name.{Name};
@@ -10,7 +10,7 @@ ghost use Rattle.fsm_text.specs.Texts.{chain_error, PassesBefore};
 
 use crate::clipping::declared_part;
 use grammar_theory::{CHAIN, DEPTH, Form, Stop};
-use source_bits::{Numbers, few_bits, target_places};
+use source_bits::{Numbers, target_places};
 use source_meaning::{SymbolTable, Target, repeated};
 use std::alloc::{AllocError, Global};
 use vbe_text::target;
@@ -115,10 +115,10 @@ struct Tally {
 impl Tally {
     /// Nothing was assigned so far of what is counted.
     fn new(alloc: Global, table: SymbolTable) -> Result<Tally, AllocError>
+        requires few { length (all_names table) < 2 ^ 32 }
         ensures known { IfOk result (λ t. t.numbers ≡ table) }
         ensures empty { IfOk result (λ t. IsTally t.numbers t.times.items []) }
     {
-        few_bits(&table)?;
         let numbers = Numbers::new(alloc, table)?;
         let mut times = Vec::new(alloc);
         times.resize(numbers.total() as usize, 0)?;

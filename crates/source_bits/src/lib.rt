@@ -12,4 +12,4 @@ mod vectors;
 pub use choices::choice_bits;
 pub use driven::{DrivenBit, StoredBit, driven_bits, stored_bits, target_places};
 pub use formulas::bits;
-pub use numbers::{Numbers, few_bits};
+pub use numbers::Numbers;

@@ -1,5 +1,5 @@
 // Numbers of declared bits: name by name in file order, a vector from the left.
-ghost use Rattle.std.specs.Prelude.{◌≡◌, ◌+◌, ◌<◌, ◌≤◌, ◌^◌, ℕ, List, Option, [], length, map, Some, None, IfOk, IfSome, OnOk, slice_index_or};
+ghost use Rattle.std.specs.Prelude.{◌≡◌, ◌+◌, ◌<◌, ◌≤◌, ◌^◌, ℕ, List, Option, [], length, map, Some, None, IfOk, slice_index_or};
 ghost use Rattle.std.specs.List.{slice_get};
 ghost use Rattle.std.specs.Option.{option_map};
 ghost use Rattle.machine_core.specs.Order.{AllDifferent};
@@ -40,33 +40,6 @@ fn behind(number: u32, bits: u64) -> u32
     ensures { result ≡ number + bits }
 {
     number + bits as u32
-}
-
-/// How many bits the names have; none where numbers of 32 bits can't tell them apart. Takes no memory.
-fn counted(symbols: &[Symbol]) -> Option<u32>
-    ensures { IfSome result (λ total. total ≡ length (all_names symbols.now)) }
-{
-    let mut next = 0u32;
-    for symbol in symbols {
-        let Ok(width) = u32::try_from(width(symbol.range)) else {
-            return None;
-        };
-        let Some(total) = next.checked_add(width) else {
-            return None;
-        };
-        next = total;
-    }
-    Some(next)
-}
-
-/// Bits that numbers of 32 bits can't tell apart are answered as out of memory. Takes no memory.
-pub fn few_bits(table: &SymbolTable) -> Result<(), AllocError>
-    ensures { OnOk result (length (all_names table.now) < 2 ^ 32) }
-{
-    match counted(table.as_slice()) {
-        Some(_) => Ok(()),
-        None => Err(AllocError),
-    }
 }
 
 /// The numbers at which the bits of each name begin, and how many bits all have.
