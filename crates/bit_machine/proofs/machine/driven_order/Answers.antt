@@ -27,7 +27,7 @@ node_order-requires-clause-few c =
     let seen = length-map c.args.system.now.driven.items driven_view in
     let same = ap (λ (ds : List DrivenBit). length ds) c.deref.ensures.value in
     let names = ap length c.as_slice-total.ensures in
-    omega (arith, fit, count, seen, same, names, c.len-total.ensures, c.in_ok-few.ensures)
+    omega (arith, fit, count, seen, same, names, c.in_ok-few.ensures)
 
 pub node_order-requires-clause-over : goal.node_order-requires-clause-over
 node_order-requires-clause-over c = driven_over c.args.system.now c.requires.system c.deref.result.now (length c.as_slice-total.result.now) c.deref.ensures.value (ap length c.as_slice-total.ensures)
