@@ -1,5 +1,5 @@
 // The machine of numbered bits.
-ghost use Rattle.std.specs.Prelude.{◌≡◌, ◌<◌, ◌^◌, ◌++◌, map, length, IfOk};
+ghost use Rattle.std.specs.Prelude.{◌≡◌, ◌<◌, ◌^◌, ◌++◌, map, length, IfOk, OnOk};
 ghost use Rattle.machine_core.specs.Checked.{IsChecked};
 ghost use Rattle.machine_core.specs.View.{machine_of};
 ghost use Rattle.source_bits.specs.Driven.{driven_view, stored_view};
@@ -21,11 +21,11 @@ use vlsi_model::{few, node_order};
 fn driven_order(alloc: Global, system: &BitSystem) -> Result<Vec<u32>, AllocError>
     requires system { IsSystem (system_of system.now) }
     requires falls { Falls (system_of system.now).driven }
-    ensures { IfOk result (λ order. IsLaid (system_of system.now) order.items) }
+    ensures laid { IfOk result (λ order. IsLaid (system_of system.now) order.items) }
+    ensures few { OnOk result (length system.now.names < 2 ^ 32) }
 {
     let total = system.names.as_slice().len();
     few(total)?;
-    few(system.driven.len())?;
     match node_order(alloc, total as u32, &system.driven)? {
         Order::Sorted(order) => Ok(order),
         Order::Ring(_) => unreachable!(),
@@ -53,10 +53,10 @@ fn parts(
     requires system { IsSystem (system_of system.now) }
     requires laid { IsLaid (system_of system.now) order.now }
     requires bits { bits.now ≡ bits_of_names (system_of system.now) order.now }
+    requires few { length system.now.names < 2 ^ 32 }
     ensures { IfOk result (λ made. ArePartsOf (system_of system.now) order.now made.0 made.1) }
 {
     let names = system.names.as_slice();
-    few(bits.len())?;
     let table = places(alloc, names.len(), bits)?;
     let equations = equations(alloc, names, &system.driven, order, &table)?;
     let registers = registers(alloc, names, &system.stored, &table)?;

@@ -60,10 +60,10 @@ length_tokens (i ∷ items) = ap suc (length_tokens items)
 
 -- ---- states and tokens
 
-front_less : {A C : Type 0} {L : Grammar A} {M : A → Grammar C} (items : List Item) {v : C} (s : Then L M items v) → length s.front ≤ length items
+pub front_less : {A C : Type 0} {L : Grammar A} {M : A → Grammar C} (items : List Item) {v : C} (s : Then L M items v) → length s.front ≤ length items
 front_less items s = let all = ap length s.parts in let both = length-append s.front s.back in omega (arith, all, both)
 
-back_less : {A C : Type 0} {L : Grammar A} {M : A → Grammar C} (items : List Item) {v : C} (s : Then L M items v) → length s.back ≤ length items
+pub back_less : {A C : Type 0} {L : Grammar A} {M : A → Grammar C} (items : List Item) {v : C} (s : Then L M items v) → length s.back ≤ length items
 back_less items s = let all = ap length s.parts in let both = length-append s.front s.back in omega (arith, all, both)
 
 another_some : (line : ℕ) (items : List Item) (n : NewName) → another line items n → 0 < length items
@@ -73,7 +73,7 @@ another_some line items n s =
     let less = front_less items s in
     omega (arith, comma, less)
 
-few_others : (line : ℕ) (items : List Item) (names : List NewName) → list (another line) items names → length names ≤ length items
+pub few_others : (line : ℕ) (items : List Item) (names : List NewName) → list (another line) items names → length names ≤ length items
 few_others line items [] s = omega arith
 few_others line items (n ∷ names) s =
     let some = another_some line s.0 n s.3 in
@@ -119,19 +119,26 @@ few_of_architecture room e items m s =
     let b = front_less s.back s.behind in
     omega (arith, few, same, a, b)
 
-few_of_machine : (room : ℕ) (items : List Item) (m : MachineTree) → machine room items m → length m.states.states ≤ length items
+pub few_of_machine : (room : ℕ) (items : List Item) (m : MachineTree) → machine room items m → length m.states.states ≤ length items
 unfolding machine
 few_of_machine room items m s = let few = few_of_architecture room s.value s.back m s.behind in let a = back_less items s in omega (arith, few, a)
+
+-- the tokens of a text are no more than its bytes
+pub few_items : (bytes : List ℕ) (tokens : Tokens) (m : MachineTree) → length bytes ≤ MOST_SOURCE_BYTES → tokens ≡ tokens_in bytes → (h : IsMachine tokens m) → length h.read.0.front ≤ MOST_SOURCE_BYTES
+few_items bytes tokens m short cut h =
+    let a = h.read.0 in
+    let all = ap (λ (ts : List PlacedToken). length ts) a.parts in
+    let both = length-append (tokens_of a.front) h.end.rest in
+    let same = length_tokens a.front in
+    let same_tokens : length tokens.items ≡ length (tokens_in bytes).items = ap (λ (ts : Tokens). length ts.items) cut in
+    let read = tokens_few bytes in
+    omega (arith, all, both, same, same_tokens, read, short)
 
 -- the states of a text can be numbered
 pub few_states : (bytes : List ℕ) (tokens : Tokens) (m : MachineTree) → length bytes ≤ MOST_SOURCE_BYTES → tokens ≡ tokens_in bytes → IsMachine tokens m → length m.states.states ≤ most_numbered
 few_states bytes tokens m short cut h =
     let a = h.read.0 in
     let few = few_of_machine DEPTH a.front m a.sentence in
-    let all = ap (λ (ts : List PlacedToken). length ts) a.parts in
-    let both = length-append (tokens_of a.front) h.end.rest in
-    let same = length_tokens a.front in
-    let same_tokens : length tokens.items ≡ length (tokens_in bytes).items = ap (λ (ts : Tokens). length ts.items) cut in
-    let read = tokens_few bytes in
+    let read = few_items bytes tokens m short cut h in
     let most : MOST_SOURCE_BYTES ≡ 1048576 = refl in
-    omega (arith, few, all, both, same, same_tokens, read, short, most)
+    omega (arith, few, read, most)

@@ -10,6 +10,7 @@ pub mod Fits
 pub mod BodyReads
 pub mod Surely
 pub mod Few
+pub mod Declared
 pub mod StateNames
 pub mod Sounds
 pub mod Listed

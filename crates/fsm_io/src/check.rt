@@ -1,12 +1,12 @@
 // The state machine that a text is, or why it is none.
-ghost use Rattle.std.specs.Prelude.{◌≡◌, ◌<◌, ◌≤◌, [], map, length, None, IfOk, IfErr, MatchOption};
+ghost use Rattle.std.specs.Prelude.{◌≡◌, ◌<◌, ◌≤◌, ◌^◌, [], map, length, None, IfOk, IfErr, MatchOption};
 ghost use Rattle.std.specs.List.Sorted.{IsPermutation};
 ghost use Rattle.machine_core.specs.Checked.{AreInOrder};
 ghost use Rattle.machine_meaning.specs.Machine.{names_of};
 ghost use Rattle.source_meaning.specs.Checks.{if_use, if_line, if_name, most_ports, first_repeated};
 ghost use Rattle.source_meaning.specs.Places.{first_unknown};
 ghost use Rattle.source_meaning.specs.Elaboration.{port_bits};
-ghost use Rattle.source_meaning.specs.Symbols.{scalar};
+ghost use Rattle.source_meaning.specs.Symbols.{scalar, all_names};
 ghost use Rattle.fsm_code.specs.View.{body_view};
 ghost use Rattle.fsm_text.specs.Written.{machine_view};
 ghost use Rattle.fsm_io.specs.Known.{symbols};
@@ -348,6 +348,7 @@ fn check_named(
     requires once { first_repeated [] (symbols (machine_view file.now)) ≡ None }
     requires roles { HasRoles (machine_view file.now) (named_of roles) }
     requires some_state { 0 < length (machine_view file.now).states.states }
+    requires few_bits { length (all_names (symbols (machine_view file.now))) < 2 ^ 32 }
     requires few { length (machine_view file.now).states.states ≤ most_numbered }
     requires listed { HasStates (machine_view file.now).step.body }
     ensures machine { IfOk result (λ f. IsMadeBehind (machine_view file.now) (named_of roles.entry) f) }
@@ -376,6 +377,7 @@ pub fn check_fsm(
     pragmas: &[Pragma],
 ) -> Result<StateMachine, ReadError>
     requires some_state { 0 < length (machine_view file.now).states.states }
+    requires few_bits { length (all_names (symbols (machine_view file.now))) < 2 ^ 32 }
     requires few { length (machine_view file.now).states.states ≤ most_numbered }
     requires listed { HasStates (machine_view file.now).step.body }
     ensures machine { IfOk result (λ f. IsPassed (machine_view file.now) pragmas.now f) }

@@ -123,7 +123,7 @@ pub record Counting (known : List Symbol) (left : ℕ) (before : List Name) (res
 
 -- ---- what the count of a whole text tells
 
-entity_read : (tokens : Tokens) (e : Entity) (behind : At) → entity_at DEPTH (start tokens.items) ≡ Ok (e, behind) → Accepts (entity DEPTH) (start tokens.items) e behind
+pub entity_read : (tokens : Tokens) (e : Entity) (behind : At) → entity_at DEPTH (start tokens.items) ≡ Ok (e, behind) → Accepts (entity DEPTH) (start tokens.items) e behind
 entity_read tokens e behind read = let Right : Outcome Entity → Type 0 = λ o. Answers (entity DEPTH) (start tokens.items) o in subst Right read (entity_answers DEPTH (start tokens.items))
 
 -- where no entity is read, nothing is one too many

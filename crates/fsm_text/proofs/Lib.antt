@@ -10,4 +10,5 @@ pub mod Listing
 pub mod Tally
 pub mod Clipped
 pub mod Chains
+pub mod Counted
 pub mod Laws

@@ -1,5 +1,5 @@
 // Counting the assignments of each output bit and of the next state.
-ghost use Rattle.std.specs.Prelude.{◌≡◌, ◌∷◌, [], ◌++◌, List, None, Some, IfOk, MatchOption, true, false, filter, map, replicate, length};
+ghost use Rattle.std.specs.Prelude.{◌≡◌, ◌<◌, ◌^◌, ◌∷◌, [], ◌++◌, List, None, Some, IfOk, MatchOption, true, false, filter, map, replicate, length};
 ghost use Rattle.std.specs.Bool.{OnTrue, OnFalse};
 ghost use Rattle.std.specs.Option.{option_copied};
 ghost use Rattle.vlsi_base.specs.declared.name.Name.{Name};
@@ -115,6 +115,7 @@ struct Tally {
 impl Tally {
     /// Nothing was assigned so far of what is counted.
     fn new(alloc: Global, table: SymbolTable) -> Result<Tally, AllocError>
+        requires few { length (all_names table) < 2 ^ 32 }
         ensures known { IfOk result (λ t. t.numbers ≡ table) }
         ensures empty { IfOk result (λ t. IsTally t.numbers t.times.items []) }
     {

@@ -1,5 +1,5 @@
 // The reader.
-ghost use Rattle.std.specs.Prelude.{◌≡◌, ◌≤◌, Some, None, ◌∷◌, [], IfOk, IfErr, OnOk, length};
+ghost use Rattle.std.specs.Prelude.{◌≡◌, ◌<◌, ◌≤◌, ◌^◌, Some, None, ◌∷◌, [], IfOk, IfErr, OnOk, length};
 ghost use Rattle.std.specs.Option.{option_copied};
 ghost use Rattle.pat_meaning.specs.Answers.{AreFor};
 ghost use Rattle.pat_lexer.specs.Listing.{tokens_in, refusal_in};
@@ -32,6 +32,7 @@ fn at_line(alloc: Global, kind: FaultKind, line: u32) -> ReadError
 /// Looks for the first fault of what is written.
 #[tactic(auto, unfolding(crate::specs::PatternText::fault_in))]
 fn check(alloc: Global, ports: &[Port], parsed: &PatternFile) -> Result<(), ReadError>
+    requires { length parsed.now.patterns < 2 ^ 32 }
     ensures faultless { OnOk result (fault_in ports.now parsed.now ≡ None) }
     ensures faulty { IfErr result (λ e. OrMemory (fault_in ports.now parsed.now) e) }
 {
@@ -42,7 +43,7 @@ fn check(alloc: Global, ports: &[Port], parsed: &PatternFile) -> Result<(), Read
     if let Some(line) = width_fault(alloc, &index, ports, parsed)? {
         return Err(at_line(alloc, FaultKind::Width, line));
     }
-    match time_fault(parsed.patterns.as_slice())? {
+    match time_fault(parsed.patterns.as_slice()) {
         Some(line) => Err(at_line(alloc, FaultKind::TimeBack, line)),
         None => Ok(()),
     }

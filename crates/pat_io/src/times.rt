@@ -1,15 +1,15 @@
 // Where time goes back.
-ghost use Rattle.std.specs.Prelude.{◌≡◌, ◌+◌, ◌*◌, ◌^◌, ◌<◌, if◌then◌else◌, IfOk, IfSome};
+ghost use Rattle.std.specs.Prelude.{◌≡◌, ◌+◌, ◌*◌, ◌^◌, ◌<◌, ◌≤◌, length};
 ghost use Rattle.pat_io.specs.Fitting.{unit_size, time_behind, time_faults};
 ghost use Rattle.pat_io.specs.PatternText.{first_line};
 
 use pat_meaning::{Time, TimeUnit};
 use pat_text::ParsedPattern;
-use std::alloc::AllocError;
 
 /// A unit in femtoseconds.
 fn unit_size(unit: TimeUnit) -> u64
-    ensures { result ≡ unit_size unit }
+    ensures size { result ≡ unit_size unit }
+    ensures few { result ≤ 10 ^ 12 }
 {
     match unit {
         TimeUnit::Femtosecond => 1,
@@ -20,27 +20,36 @@ fn unit_size(unit: TimeUnit) -> u64
     }
 }
 
-/// The time of a pattern behind one at this time, in femtoseconds, if 128 bits can tell it.
-fn time_behind(before: u128, time: Time) -> Option<u128>
-    ensures { IfSome result (λ t. t ≡ time_behind before time) }
+/// How many femtoseconds a time is by itself.
+fn further(time: Time) -> u128
+    ensures time { result ≡ time.number * unit_size time.unit }
+    ensures few { result ≤ 2 ^ 72 }
 {
-    let base = if time.is_added { before } else { 0 };
-    base.checked_add(u128::from(time.number) * u128::from(unit_size(time.unit)))
+    u128::from(time.number) * u128::from(unit_size(time.unit))
 }
 
-/// The line of the first pattern that is before the one before it. A time over 128 bits is answered as out of memory.
-pub fn time_fault(patterns: &[ParsedPattern]) -> Result<Option<u32>, AllocError>
-    ensures { IfOk result (λ line. line ≡ first_line (time_faults 0 patterns.now)) }
+/// The time of a pattern behind one at this time, in femtoseconds.
+fn time_behind(before: u128, time: Time) -> u128
+    requires { before < 2 ^ 105 }
+    ensures time { result ≡ time_behind before time }
+    ensures few { result ≤ before + 2 ^ 72 }
+{
+    let base = if time.is_added { before } else { 0 };
+    base + further(time)
+}
+
+/// The line of the first pattern that is before the one before it. Takes no memory.
+pub fn time_fault(patterns: &[ParsedPattern]) -> Option<u32>
+    requires { length patterns.now < 2 ^ 32 }
+    ensures { result ≡ first_line (time_faults 0 patterns.now) }
 {
     let mut before = 0u128;
     for pattern in patterns {
-        let Some(now) = time_behind(before, pattern.time) else {
-            return Err(AllocError);
-        };
+        let now = time_behind(before, pattern.time);
         if now < before {
-            return Ok(Some(pattern.line));
+            return Some(pattern.line);
         }
         before = now;
     }
-    Ok(None)
+    None
 }

@@ -1,5 +1,5 @@
 // Numbers of declared bits: name by name in file order, a vector from the left.
-ghost use Rattle.std.specs.Prelude.{◌≡◌, ◌+◌, ◌<◌, ◌≤◌, ℕ, List, Option, [], length, map, Some, None, IfOk, slice_index_or};
+ghost use Rattle.std.specs.Prelude.{◌≡◌, ◌+◌, ◌<◌, ◌≤◌, ◌^◌, ℕ, List, Option, [], length, map, Some, None, IfOk, slice_index_or};
 ghost use Rattle.std.specs.List.{slice_get};
 ghost use Rattle.std.specs.Option.{option_map};
 ghost use Rattle.machine_core.specs.Order.{AllDifferent};
@@ -34,28 +34,24 @@ impl Model for Numbers {
     ghost invariant = { λ a. IsNumbered a.starts.items a.total a.table };
 }
 
-/// The number behind so many further bits. A number over 32 bits is answered as out of memory.
-fn behind(number: u32, bits: u64) -> Result<u32, AllocError>
-    ensures { IfOk result (λ next. next ≡ number + bits) }
+/// The number behind so many further bits.
+fn behind(number: u32, bits: u64) -> u32
+    requires { number + bits < 2 ^ 32 }
+    ensures { result ≡ number + bits }
 {
-    let Some(next) = u64::from(number).checked_add(bits) else {
-        return Err(AllocError);
-    };
-    match u32::try_from(next) {
-        Ok(next) => Ok(next),
-        Err(_) => Err(AllocError),
-    }
+    number + bits as u32
 }
 
 /// The numbers at which the bits of each name begin, and how many bits all have.
 fn starts(alloc: Global, symbols: &[Symbol]) -> Result<(Vec<u32>, u32), AllocError>
+    requires few { length (all_names symbols.now) < 2 ^ 32 }
     ensures { IfOk result (λ made. IsNumbered made.0.items made.1 symbols.now) }
 {
     let mut starts = Vec::new(alloc);
     let mut next = 0u32;
     for symbol in symbols {
         starts.push(next)?;
-        next = behind(next, width(symbol.range))?;
+        next = behind(next, width(symbol.range));
     }
     Ok((starts, next))
 }
@@ -80,8 +76,9 @@ fn place_below(starts: &[u32], number: u32) -> usize
 }
 
 impl Numbers {
-    /// The numbers of these names' bits. 2^32 bits and more are answered as out of memory.
+    /// The numbers of these names' bits. Takes memory for a number of each name.
     pub fn new(alloc: Global, table: SymbolTable) -> Result<Self, AllocError>
+        requires few { length (all_names table) < 2 ^ 32 }
         ensures { IfOk result (λ numbers. numbers ≡ table) }
     {
         let (starts, total) = starts(alloc, table.as_slice())?;

@@ -18,7 +18,7 @@ use Rattle.vlsi_model.proofs.FineSources.{facts}
 use Rattle.vlsi_model.proofs.Assembly.{equation_of, register_of, defined_is, stored_is}
 use Rattle.vbe_io.specs.Text.{IsVbe}
 use Rattle.vbe_few.specs.Law.{SourceHasFewNames}
-use Rattle.vbe_few.proofs.Counted.{declared_few}
+use Rattle.vbe_text.proofs.Counted.{declared_few}
 
 -- ---- different names of a list
 
@@ -74,7 +74,7 @@ few_equations source m is =
     let names = length-map (definitions is.design) (λ (d : Definition). d.name) in
     let all = length-map (definitions is.design) (equation_of m.vars) in
     let same = length_permutation m.equations (map (equation_of m.vars) (definitions is.design)) is.machine.equations in
-    let few = declared_few source is.design is.written in
+    let few = declared_few _ is.design is.written.source in
     omega (arith, fit, names, all, same, few)
 
 few_registers : (source : List ℕ) (m : Machine) → IsVbe source m → length m.registers ≤ BITS
@@ -85,7 +85,7 @@ few_registers source m is =
     let names = length-map (storage is.design) (λ (r : Storage). r.name) in
     let all = length-map (storage is.design) (register_of m.vars) in
     let same = length_permutation m.registers (map (register_of m.vars) (storage is.design)) is.machine.registers in
-    let few = declared_few source is.design is.written in
+    let few = declared_few _ is.design is.written.source in
     omega (arith, fit, names, all, same, few)
 
 few_inputs : (m : Machine) → length (inputs m) ≤ length m.ports

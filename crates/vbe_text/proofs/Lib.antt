@@ -2,3 +2,4 @@ pub mod VbeLanguage
 pub mod Choices
 pub mod Whole
 pub mod Laws
+pub mod Counted

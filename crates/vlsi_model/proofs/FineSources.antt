@@ -154,7 +154,7 @@ none_in look [] st e j = elim j [ ]
 abbrev AllFineStatements : List Symbol → Option (List ℕ) → List Statement → Type 0
 AllFineStatements known ck ss = (st : Statement) → In st ss → IsFineStatement known ck st
 
-In-statements : {A : Type 0} (look : Statement → List A) (ss : List Statement) (x : A) → In x (in_statements look ss) → (st : Statement) × In st ss × In x (look st)
+pub In-statements : {A : Type 0} (look : Statement → List A) (ss : List Statement) (x : A) → In x (in_statements look ss) → (st : Statement) × In st ss × In x (look st)
 In-statements look [] x i = elim i [ ]
 In-statements look (st ∷ ss) x i = elim (In-split x (look st) (in_statements look ss) i) [
   | inl a ↦ (st, here, a)

@@ -17,6 +17,7 @@ pub mod Orders
 pub mod Building
 pub mod SourceBits
 pub mod BuildGoals
+pub mod Counted
 pub mod Refusing
 pub mod Rings
 pub mod Turning

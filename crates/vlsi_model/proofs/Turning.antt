@@ -1,25 +1,27 @@
 -- The ring of a source: its names from the least on, and the line of the first one's assignment.
-use Rattle.std.proofs.Common.{◌≡◌, ◌⊎◌, inl, inr, ℕ, zero, suc, ◌+◌, ◌<◌, Bool, true, false, List, [], ◌∷◌, ◌++◌, map, length, get_or, take, drop, None, refl, sym, ap, ◌∙◌, subst, arith}
+use Rattle.std.proofs.Common.{◌≡◌, ◌⊎◌, inl, inr, ℕ, zero, suc, ◌+◌, ◌<◌, ◌≤◌, Bool, true, false, List, [], ◌∷◌, ◌++◌, map, length, get_or, take, drop, None, refl, sym, ap, ◌∙◌, subst, arith}
 use Rattle.std.specs.Prelude.{slice_index, nat_eq, ◌||◌}
 use Rattle.std.specs.List.{All, list_any}
 use Rattle.std.specs.Ordering.{is_lt, ordering_reverse}
 use Rattle.std.specs.declared.cmp.Ordering.{Ordering}
 use Rattle.std.specs.declared.cmp.Ordering.TheVariants.{Less, Equal, Greater}
+use Rattle.std.proofs.lemmas.Bool.{cases_lt}
 use Rattle.std.proofs.lemmas.Bool.Decides.{nat_tests}
 use Rattle.std.proofs.lemmas.List.{map-append, length-map, get_or-map}
 use Rattle.vlsi_base.specs.declared.name.Name.{Name}
 use Rattle.vlsi_base.specs.Name.{name_cmp}
 use Rattle.machine_core.specs.Order.{In, here, there}
 use Rattle.machine_core.proofs.Values.{In-left, In-right, In-map}
+use Rattle.source_meaning.specs.declared.statement.Assignment.{Assignment}
 use Rattle.source_meaning.specs.declared.statement.Statement.{Statement}
 use Rattle.source_meaning.specs.declared.statement.Statement.TheVariants as statement
 use Rattle.source_meaning.specs.declared.statement.DesignFile.{DesignFile}
 use Rattle.source_meaning.specs.declared.symbol_table.Symbol.{Symbol}
 use Rattle.source_meaning.specs.Symbols.{symbols, all_names}
-use Rattle.source_meaning.specs.Formula.{place}
+use Rattle.source_meaning.specs.Formula.{Formula, place, choice_bits}
 use Rattle.source_meaning.specs.Places.{in_statements}
 use Rattle.source_meaning.specs.Drivers.{driver_at, drivers, statement_drivers, target_names}
-use Rattle.source_meaning.specs.Elaboration.{Definition, definitions}
+use Rattle.source_meaning.specs.Elaboration.{Definition, definitions, defined, statement_definitions}
 use Rattle.source_meaning.specs.Cycles.{Reads, IsRing}
 use Rattle.source_meaning.specs.Checks.{DrivenOn}
 use Rattle.source_bits.specs.declared.driven.DrivenBit.{DrivenBit}
@@ -28,8 +30,8 @@ use Rattle.vlsi_model.specs.Sources.{IsSourceOf}
 use Rattle.vlsi_model.specs.Numbered.{name_at}
 use Rattle.vlsi_model.specs.Laid.{names_defined}
 use Rattle.vlsi_model.specs.Ordered.{IsNodeRing, IsDrivenIn, name_of_node}
-use Rattle.vlsi_model.proofs.Members.{In-map_back}
-use Rattle.vlsi_model.proofs.FineSources.{Facts}
+use Rattle.vlsi_model.proofs.Members.{In-cases, In-map_back}
+use Rattle.vlsi_model.proofs.FineSources.{Facts, In-statements}
 use Rattle.vlsi_base.proofs.NameOrder.{name_total}
 use Rattle.vlsi_model.proofs.Sorting.{In-at, place_of_In}
 use Rattle.vlsi_model.proofs.Numbering.{place_same}
@@ -175,13 +177,13 @@ turned_to_least design nodes names m f ring is within least =
 
 -- the first name of a ring
 
-reads_declared : (design : DesignFile) (a b : Name) → Facts design → Reads (definitions design) a b → In a (all_names (symbols design))
-reads_declared design a b f r = subst (λ (n : Name). In n (all_names (symbols design))) r.2 (defined_declared design f r.0.name (In-map (λ (d : Definition). d.name) r.0 (definitions design) r.1))
+reads_defined : (defs : List Definition) (a b : Name) → Reads defs a b → In a (names_defined defs)
+reads_defined defs a b r = subst (λ (n : Name). In n (names_defined defs)) r.2 (In-map (λ (d : Definition). d.name) r.0 defs r.1)
 
-pub first_declared : (design : DesignFile) (names : List Name) (d : Name) → Facts design → IsRing (definitions design) names → In (get_or names 0 d) (all_names (symbols design))
-first_declared design [] d f h = absurd h
-first_declared design (a ∷ []) d f h = reads_declared design a a f h.1
-first_declared design (a ∷ b ∷ rest) d f h = reads_declared design a b f h.1.0
+pub first_defined : (defs : List Definition) (names : List Name) (d : Name) → IsRing defs names → In (get_or names 0 d) (names_defined defs)
+first_defined defs [] d h = absurd h
+first_defined defs (a ∷ []) d h = reads_defined defs a a h.1
+first_defined defs (a ∷ b ∷ rest) d h = reads_defined defs a b h.1.0
 
 -- what drives it
 
@@ -212,3 +214,69 @@ driven_on design st name number line f i declared is h =
       subst (λ (ns : List Name). In name ns) (sym (f.counted h.assignment among)) (subst (λ (n : Name). In n (target_names known target)) (sym same) m.1),
       h.on,
     )
+
+-- ---- some assignment drives what is defined
+
+pub In_any : (x : ℕ) (xs : List ℕ) → In x xs → list_any (λ y. nat_eq y x) xs ≡ true
+In_any x (y ∷ xs) i = by (nat_eq y x) refl (In-cases x y xs i) (In_any x xs) where
+  by : (b : Bool) → nat_eq y x ≡ b → (y ≡ x) ⊎ In x xs → (In x xs → list_any (λ z. nat_eq z x) xs ≡ true) → (b || list_any (λ z. nat_eq z x) xs) ≡ true
+  by true is h rest = refl
+  by false is (inl same) rest = let t : nat_eq y x ≡ true = grind (arith, nat_tests) in let clash : true ≡ false = sym t ∙ is in absurd (cc clash)
+  by false is (inr i) rest = rest i
+In_any x [] i = elim i [ ]
+
+defined_name : (names : List Name) (formulas : List Formula) (d : Definition) → In d (defined names formulas) → In d.name names
+defined_name [] formulas d i = elim i [ ]
+defined_name (n ∷ names) [] d i = elim i [ ]
+defined_name (n ∷ names) (f ∷ formulas) d i = elim (In-cases d (record { name = n; formula = f }) (defined names formulas) i) [
+  | inl same ↦ subst (λ (e : Definition). In e.name (n ∷ names)) same here
+  | inr j ↦ there (defined_name names formulas d j)
+]
+
+-- an assignment outside of blocks with this name among those of its target
+record Assigns (design : DesignFile) (name : Name) : Type 0 where
+  assignment : Assignment
+  listed : In (statement.Assign assignment) design.statements
+  among : In name (target_names (symbols design) assignment.target)
+
+assigned_by : (design : DesignFile) (name : Name) (st : Statement) (d : Definition) → d.name ≡ name → In st design.statements → In d (statement_definitions (symbols design) st) → Assigns design name
+assigned_by design name (statement.Assert e) d is i j = elim j [ ]
+assigned_by design name (statement.Assign a) d is i j = record {
+  assignment = a;
+  listed = i;
+  among = subst (λ (n : Name). In n (target_names (symbols design) a.target)) is (defined_name (target_names (symbols design) a.target) (choice_bits (symbols design) a.choice) d j);
+}
+assigned_by design name (statement.Block b) d is i j = elim j [ ]
+
+assigned : (design : DesignFile) (name : Name) → In name (names_defined (definitions design)) → Assigns design name
+assigned design name i =
+    let m = In-map_back (λ (d : Definition). d.name) name (definitions design) i in
+    let r = In-statements (statement_definitions (symbols design)) design.statements m.0 m.1 in
+    assigned_by design name r.0 m.0 m.2 r.1 r.2
+
+-- the first statements have no such assignment
+abbrev pub NoneDrives : List Symbol → List Statement → ℕ → ℕ → Type 0
+NoneDrives known ss number k = (j : ℕ) (d : Statement) → j < k → (line : ℕ) → IsDrivenIn known (get_or ss j d) number line → ⊥
+
+pub none_first : (known : List Symbol) (ss : List Statement) (number : ℕ) → NoneDrives known ss number 0
+none_first known ss number j d h line t = absurd (omega (arith, h))
+
+pub none_more : (known : List Symbol) (ss : List Statement) (number k : ℕ) (st : Statement) → k < length ss → st ≡ get_or ss k st → ((line : ℕ) → IsDrivenIn known st number line → ⊥) → NoneDrives known ss number k → NoneDrives known ss number (k + 1)
+none_more known ss number k st within at none before j d h line t = by (cases_lt j k) where
+  by : (j < k) ⊎ (k ≤ j) → ⊥
+  by (inl less) = before j d less line t
+  by (inr same) =
+      let e : j ≡ k = omega (arith, h, same) in
+      let here_is : get_or ss j d ≡ st = ap (λ i. get_or ss i d) e ∙ same_default ss k d st within ∙ sym at in
+      none line (subst (λ (s : Statement). IsDrivenIn known s number line) here_is t)
+
+pub some_drives : (design : DesignFile) (name : Name) (number k : ℕ) → In name (names_defined (definitions design)) → number ≡ place (all_names (symbols design)) name
+    → length design.statements ≤ k → NoneDrives (symbols design) design.statements number k → ⊥
+some_drives design name number k i is whole none =
+    let a = assigned design name i in
+    let st : Statement = statement.Assign a.assignment in
+    let r = place_of_In design.statements st a.listed in
+    let number_among : In number (map (place (all_names (symbols design))) (target_names (symbols design) a.assignment.target)) =
+    subst (λ (n : ℕ). In n (map (place (all_names (symbols design))) (target_names (symbols design) a.assignment.target))) (sym is) (In-map (place (all_names (symbols design))) name (target_names (symbols design) a.assignment.target) a.among) in
+    let found : IsDrivenIn (symbols design) st number a.assignment.target.line = record { assignment = a.assignment; is = refl; among = number_among; on = refl } in
+    none r.0 st (let l = r.1 in omega (arith, l, whole)) a.assignment.target.line (subst (λ (s : Statement). IsDrivenIn (symbols design) s number a.assignment.target.line) (sym (r.2 st)) found)

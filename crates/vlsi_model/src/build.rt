@@ -152,7 +152,6 @@ fn register_order(
     ensures { IfOk result (λ order. Laid design.now ports.now order.items nodes.now) }
 {
     let bits = stored_numbers(alloc, &source.stored)?;
-    few(bits.len())?;
     let order = name_order(alloc, &source.numbers, &bits)?;
     Ok(order)
 }

@@ -1,13 +1,13 @@
 // The machine that a source is, or why it is none.
-ghost use Rattle.std.specs.Prelude.{◌≡◌, None, Some, IfOk, IfErr};
+ghost use Rattle.std.specs.Prelude.{◌≡◌, ◌<◌, ◌^◌, length, None, Some, IfOk, IfErr};
 ghost use Rattle.source_meaning.specs.Checks.{first_fault, HasNoRing, Passes, IsRefused, ports_error};
 ghost use Rattle.source_meaning.specs.Elaboration.{port_bits, IsMachineOf};
-ghost use Rattle.source_meaning.specs.Symbols.{symbols};
+ghost use Rattle.source_meaning.specs.Symbols.{symbols, all_names};
 ghost use Rattle.vlsi_model.specs.Laid.{IsNodeOrder};
 ghost use Rattle.vlsi_model.specs.Ordered.{IsOrderOfSource};
 ghost use Rattle.vlsi_model.specs.Sources.{IsSourceOf};
 
-use crate::build::{build, few};
+use crate::build::build;
 use crate::cycle::cycle;
 use crate::nodes::node_order;
 use crate::ports::ports_in_file_order;
@@ -32,7 +32,6 @@ fn definition_order(
     requires sound { first_fault design.now ≡ None }
     ensures { IfOk result (λ o. IsOrderOfSource design.now o) }
 {
-    few(source.driven.len())?;
     let order = node_order(alloc, source.numbers.total(), &source.driven)?;
     Ok(order)
 }
@@ -97,6 +96,7 @@ fn sound_machine(
     design: &DesignFile,
 ) -> Result<Machine, ReadError>
     requires known { table ≡ symbols design.now }
+    requires few { length (all_names (symbols design.now)) < 2 ^ 32 }
     requires sound { first_fault design.now ≡ None }
     ensures machine { IfOk result (λ m. Passes design.now × IsMachineOf design.now m) }
     ensures refused { IfErr result (λ e. IsRefused design.now e) }
@@ -110,6 +110,7 @@ fn sound_machine(
 /// twice, an unknown name, a width, two drivers of a bit, none, a form that is left out, a guard or the clock, signals that
 /// read each other in a ring, more than 4096 port bits. Takes memory for each declared bit and for each formula.
 pub fn check_machine(alloc: Global, design: DesignFile) -> Result<Machine, ReadError>
+    requires few { length (all_names (symbols design)) < 2 ^ 32 }
     ensures machine { IfOk result (λ m. Passes design × IsMachineOf design m) }
     ensures refused { IfErr result (λ e. IsRefused design e) }
 {

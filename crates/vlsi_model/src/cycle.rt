@@ -1,5 +1,5 @@
 // Rings of definitions.
-ghost use Rattle.std.specs.Prelude.{◌≡◌, ◌<◌, map, length, None, IfOk, IfSome};
+ghost use Rattle.std.specs.Prelude.{◌≡◌, ◌<◌, ℕ, map, length, None, IfOk, MatchOption};
 ghost use Rattle.std.specs.List.{All};
 ghost use Rattle.std.specs.declared.cmp.Ordering.TheVariants.{Greater};
 ghost use Rattle.vlsi_base.specs.Name.{name_cmp};
@@ -8,7 +8,7 @@ ghost use Rattle.source_meaning.specs.Checks.{first_fault, IsCycle, DrivenOn};
 ghost use Rattle.source_meaning.specs.Cycles.{IsRing};
 ghost use Rattle.source_meaning.specs.Drivers.{drivers};
 ghost use Rattle.source_meaning.specs.Elaboration.{definitions};
-ghost use Rattle.source_meaning.specs.Symbols.{symbols, all_names};
+ghost use Rattle.vlsi_model.specs.Laid.{names_defined};
 ghost use Rattle.vlsi_model.specs.Numbered.{name_at};
 ghost use Rattle.vlsi_model.specs.Ordered.{IsNodeRing, IsDrivenIn};
 ghost use Rattle.vlsi_model.specs.Sources.{IsSourceOf};
@@ -64,7 +64,8 @@ fn line_in(
     number: u32,
 ) -> Result<Option<u32>, AllocError>
     requires { AllDifferent (map (λ s. s.text) numbers.now) }
-    ensures { IfOk result (λ found. IfSome found (λ line. IsDrivenIn numbers.now statement.now number line)) }
+    ensures { IfOk result (λ found. MatchOption found ((line : ℕ) → IsDrivenIn numbers.now statement.now number line → ⊥)
+        (λ line. IsDrivenIn numbers.now statement.now number line)) }
 {
     match statement {
         Statement::Assert(_) => Ok(None),
@@ -80,7 +81,7 @@ fn line_in(
     }
 }
 
-/// The line of the assignment outside of blocks that drives a bit. Where there is none, the answer is out of memory.
+/// The line of the assignment outside of blocks that drives a bit.
 fn driver_line(
     alloc: Global,
     source: &Source,
@@ -89,17 +90,18 @@ fn driver_line(
 ) -> Result<u32, AllocError>
     requires source { IsSourceOf design.now source.now }
     requires sound { first_fault design.now ≡ None }
-    requires declared { In name.now (all_names (symbols design.now)) }
+    requires defined { In name.now (names_defined (definitions design.now)) }
     ensures { IfOk result (λ line. DrivenOn (drivers design.now) name.now line) }
 {
     let number = source.numbers.number(name.text.as_bytes(), name.bit);
-    for statement in design.statements.as_slice() {
+    let statements = design.statements.as_slice();
+    for statement in statements {
         let found = line_in(alloc, &source.numbers, statement, number)?;
         if let Some(line) = found {
             return Ok(line);
         }
     }
-    Err(AllocError)
+    unreachable!()
 }
 
 /// The fault of a ring, named from its least name on, at the line of that name's assignment.

@@ -70,16 +70,6 @@ pub fn equations(
     Ok(made)
 }
 
-/// The number, if it has at most 32 bits; a greater one is answered as out of memory.
-fn small(k: usize) -> Result<u32, AllocError>
-    ensures { IfOk result (λ n. n ≡ k) }
-{
-    match u32::try_from(k) {
-        Ok(n) => Ok(n),
-        Err(_) => Err(AllocError),
-    }
-}
-
 /// The number of each of a machine's names, at its number among all bits.
 pub fn var_numbers(alloc: Global, numbers: &Numbers, vars: &[Name]) -> Result<Vec<u32>, AllocError>
     requires texts { AllDifferent (map (λ s. s.text) numbers.now) }
@@ -91,8 +81,7 @@ pub fn var_numbers(alloc: Global, numbers: &Numbers, vars: &[Name]) -> Result<Ve
     for k in 0..vars.len() {
         let name = &vars[k];
         let number = numbers.number(name.text.as_bytes(), name.bit);
-        let place = small(k)?;
-        table[number as usize] = place;
+        table[number as usize] = k as u32;
     }
     Ok(table)
 }

@@ -1,9 +1,9 @@
 // A source, elaborated over the numbers of its declared bits.
-ghost use Rattle.std.specs.Prelude.{◌≡◌, map, option_map, IfOk};
+ghost use Rattle.std.specs.Prelude.{◌≡◌, ◌<◌, ◌^◌, length, map, option_map, IfOk};
 ghost use Rattle.std.specs.Option.{option_copied};
 ghost use Rattle.machine_core.specs.Order.{AllDifferent};
 ghost use Rattle.source_meaning.specs.Clock.{clock_text};
-ghost use Rattle.source_meaning.specs.Symbols.{symbols, scalar};
+ghost use Rattle.source_meaning.specs.Symbols.{symbols, scalar, all_names};
 ghost use Rattle.vlsi_model.specs.Sources.{IsSourceOf};
 
 use source_bits::{DrivenBit, Numbers, StoredBit, driven_bits, stored_bits};
@@ -51,6 +51,7 @@ fn with_clock(
 ) -> Result<Source, AllocError>
     requires known { numbers ≡ symbols design.now }
     requires different { AllDifferent (map (λ s. s.text) (symbols design.now)) }
+    requires few { length (all_names (symbols design.now)) < 2 ^ 32 }
     requires clock { option_copied clock ≡ clock_text design.now }
     ensures { IfOk result (λ s. IsSourceOf design.now s) }
 {
@@ -77,6 +78,7 @@ pub fn elaborated(
     design: &DesignFile,
 ) -> Result<Source, AllocError>
     requires known { table ≡ symbols design.now }
+    requires few { length (all_names (symbols design.now)) < 2 ^ 32 }
     requires different { AllDifferent (map (λ s. s.text) (symbols design.now)) }
     ensures { IfOk result (λ s. IsSourceOf design.now s) }
 {

@@ -1,6 +1,6 @@
-use Rattle.std.proofs.Common.{ℕ, List, length, map, sym, ap, ◌∙◌, subst}
+use Rattle.std.proofs.Common.{ℕ, List, length, map, sym, ap, ◌∙◌, subst, arith}
 use Rattle.vlsi_base.specs.declared.name.Name.{Name}
-use Rattle.machine_core.specs.Order.{AllDifferent}
+use Rattle.machine_core.specs.Order.{In, AllDifferent}
 use Rattle.machine_core.specs.View.{equation_view, register_view}
 use Rattle.source_bits.specs.declared.driven.DrivenBit.{DrivenBit}
 use Rattle.source_bits.specs.declared.driven.StoredBit.{StoredBit}
@@ -10,7 +10,8 @@ use Rattle.vlsi_model.specs.Nodes.{HasNodes}
 use Rattle.vlsi_model.proofs.Building.{map-then}
 use Rattle.bit_machine.specs.System.{system_of}
 use Rattle.bit_machine.specs.Laid.{var_bits}
-use Rattle.bit_machine.proofs.Laying.{bits_different}
+use Rattle.vlsi_model.proofs.Counted.{few_below}
+use Rattle.bit_machine.proofs.Laying.{bits_different, bits_inside}
 use Rattle.bit_machine.proofs.Reaching.{driven_inside, driven_over, stored_inside, stored_next, stored_enable, bits_below}
 use Rattle.bit_machine.proofs.machine.parts.Goals as goal
 
@@ -20,6 +21,14 @@ places-requires-clause-inside c = bits_below (system_of c.args.system.now) c.arg
 pub places-requires-clause-different : goal.places-requires-clause-different
 places-requires-clause-different c =
     subst (λ (xs : List ℕ). AllDifferent xs) (sym c.requires.bits) (bits_different (system_of c.args.system.now) c.args.order.now c.requires.system c.requires.laid)
+
+pub places-requires-clause-few : goal.places-requires-clause-few
+places-requires-clause-few c =
+    let s = system_of c.args.system.now in
+    let bits = c.args.bits.now in
+    let different = subst (λ (xs : List ℕ). AllDifferent xs) (sym c.requires.bits) (bits_different s c.args.order.now c.requires.system c.requires.laid) in
+    let fit = few_below (length s.names) bits different (λ b i. bits_inside s c.args.order.now c.requires.system c.requires.laid b (subst (λ (xs : List ℕ). In b xs) c.requires.bits i)) in
+    omega (arith, fit, c.requires.few)
 
 pub equations-requires-clause-inside : goal.equations-requires-clause-inside
 equations-requires-clause-inside c = driven_inside c.args.system.now c.requires.system c.deref.result.now (length c.as_slice-names.result.now) c.deref.ensures.value (ap length c.as_slice-names.ensures)

@@ -5,6 +5,7 @@ use Rattle.fsm_io.specs.Text.{IsFsm}
 use Rattle.fsm_io.specs.Pieces.{IsPassed}
 use Rattle.fsm_io.proofs.Listed.{has_state, lists_states}
 use Rattle.fsm_io.proofs.Few.{few_states}
+use Rattle.fsm_io.proofs.Declared.{few_declared}
 use Rattle.fsm_io.proofs.Reading.{written, unwritten_refused, is_fsm, faulty_refused, in_err}
 use Rattle.fsm_io.proofs.reader.read_fsm.Goals as goal
 
@@ -16,6 +17,10 @@ returns-in_err-file-clause-refused c =
 
 pub check_fsm-requires-clause-some_state : goal.check_fsm-requires-clause-some_state
 check_fsm-requires-clause-some_state c = has_state c.in_ok-tokens.tokens (machine_view c.in_ok-file.file) c.in_ok-file.ensures.accepted
+
+pub check_fsm-requires-clause-few_bits : goal.check_fsm-requires-clause-few_bits
+check_fsm-requires-clause-few_bits c =
+    few_declared c.args.bytes.now c.in_ok-tokens.tokens (machine_view c.in_ok-file.file) c.in_ok-tokens.ensures.few c.in_ok-tokens.ensures.cut.1 c.in_ok-file.ensures.accepted
 
 pub check_fsm-requires-clause-few : goal.check_fsm-requires-clause-few
 check_fsm-requires-clause-few c =

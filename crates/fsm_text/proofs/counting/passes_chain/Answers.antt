@@ -1,4 +1,4 @@
-use Rattle.std.proofs.Common.{rules, ◌≡◌, ◌∙◌, List, [], None, Some, Ok, Err, true, false, sym, ap, subst, IfOk}
+use Rattle.std.proofs.Common.{rules, ◌≡◌, ◌∙◌, ◌<◌, ◌^◌, List, [], length, None, Some, Ok, Err, true, false, sym, ap, subst, IfOk}
 use Rattle.std.specs.Prelude.{is_none}
 use Rattle.std.specs.Option.{option_copied}
 use Rattle.vhdl_token.specs.declared.token.PlacedToken.{PlacedToken}
@@ -6,12 +6,14 @@ use Rattle.grammar_theory.specs.Outcome.{start}
 use Rattle.grammar_theory.specs.declared.limits.TheConstants.{DEPTH}
 use Rattle.vhdl_front.specs.EntityReading.{entity_at}
 use Rattle.source_meaning.specs.declared.symbol_table.Symbol.{Symbol}
+use Rattle.source_meaning.specs.Symbols.{all_names}
 use Rattle.source_meaning.specs.Checks.{first_repeated}
 use Rattle.vlsi_base.specs.Member.{AllDifferent}
 use Rattle.fsm_text.specs.Chains.{overfull, passes_before}
 use Rattle.fsm_text.specs.Texts.{counted_in, PassesBefore}
 use Rattle.fsm_text.proofs.Tally.{texts, different_texts}
 use Rattle.fsm_text.proofs.Chains.{counted, counted_made, none_unread, none_repeated, one_passes, none_passes, on_true, on_false, some_symbol}
+use Rattle.fsm_text.proofs.Counted.{counted_few}
 use Rattle.fsm_text.proofs.counting.passes_chain.Goals as goal
 
 -- a name is declared twice
@@ -26,6 +28,14 @@ returns-then-is_some-clause-none c =
     none_repeated c.args.tokens.now c.args.left c.in-Ok.entity c.entity.new.self twice.0 read (ap (first_repeated []) (sym made) ∙ twice.1)
 
 -- no name is
+pub new-tally-requires : goal.new-tally-requires
+new-tally-requires c =
+    let read : entity_at DEPTH (start c.args.tokens.now.items) ≡ Ok (c.in-Ok.entity, c.entity.new.self) = ap (entity_at DEPTH) (sym (c.new-cursor.ensures ∙ ap start c.as_slice.ensures)) ∙ c.in-Ok.ensures in
+    let made : c.in_ok-table-in-Ok-2.table ≡ counted_in c.args.tokens.now c.in-Ok.entity =
+    counted_made c.args.tokens.now c.in-Ok.entity c.in_ok-table-in-Ok.table c.in_ok-table-in-Ok-2.table c.as_slice-in-Ok-2.result.now c.as_slice-in-Ok.result.now (option_copied c.named_by-next.result)
+    c.as_slice-in-Ok-2.ensures c.in_ok-table-in-Ok.ensures c.as_slice-in-Ok.ensures c.named_by-next.ensures c.in_ok-table-in-Ok-2.ensures in
+    subst (λ (ks : List Symbol). length (all_names ks) < 2 ^ 32) (sym made) (counted_few c.args.tokens.now c.in-Ok.entity c.entity.new.self read)
+
 pub passes_in-requires-clause-different : goal.passes_in-requires-clause-different
 passes_in-requires-clause-different c =
     let none : first_repeated [] c.in_ok-table-in-Ok-2.table ≡ None = search rules in

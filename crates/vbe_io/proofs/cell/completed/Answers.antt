@@ -7,5 +7,5 @@ use Rattle.vbe_io.proofs.cell.completed.Goals as goal
 
 pub ports_of-requires : goal.ports_of-requires
 ports_of-requires c =
-    subst (λ (ps : List Port). AllDifferent (names_of ps)) (sym c.requires)
+    subst (λ (ps : List Port). AllDifferent (names_of ps)) (sym c.requires.pins)
     (different_pins c.args.design c.in_ok-machine.machine c.in_ok-machine.ensures.machine)

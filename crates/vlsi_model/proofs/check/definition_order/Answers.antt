@@ -1,4 +1,4 @@
-use Rattle.std.proofs.Common.{◌≡◌, ◌<◌, List, length, map, sym, ap, ◌∙◌, subst}
+use Rattle.std.proofs.Common.{◌≡◌, ◌<◌, List, length, map, sym, ap, ◌∙◌, subst, arith}
 use Rattle.std.specs.List.{All}
 use Rattle.bool_expr.specs.Expression.{IsOver}
 use Rattle.bool_expr.specs.View.{view}
@@ -8,6 +8,7 @@ use Rattle.source_meaning.specs.Symbols.{symbols, all_names}
 use Rattle.source_bits.specs.declared.driven.DrivenBit.{DrivenBit}
 use Rattle.vlsi_model.proofs.SourceBits.{sound, driven_inside, driven_over, driven_different}
 use Rattle.vlsi_model.proofs.Refusing.{order_of_source}
+use Rattle.vlsi_model.proofs.Counted.{driven_few}
 use Rattle.vlsi_model.proofs.check.definition_order.Goals as goal
 
 pub node_order-requires-clause-inside : goal.node_order-requires-clause-inside
@@ -19,6 +20,12 @@ node_order-requires-clause-inside c =
 pub node_order-requires-clause-different : goal.node_order-requires-clause-different
 node_order-requires-clause-different c =
     subst (λ (xs : List DrivenBit). AllDifferent (map (λ (d : DrivenBit). d.bit) xs)) (sym c.deref.ensures.value) (driven_different c.args.design.now c.args.source.now (sound c.args.design.now c.requires.sound) c.requires.source)
+
+pub node_order-requires-clause-few : goal.node_order-requires-clause-few
+node_order-requires-clause-few c =
+    let few = driven_few c.args.design.now c.args.source.now (sound c.args.design.now c.requires.sound) c.requires.source in
+    let same = ap (λ (xs : List DrivenBit). length xs) c.deref.ensures.value in
+    omega (arith, few, same)
 
 pub node_order-requires-clause-over : goal.node_order-requires-clause-over
 node_order-requires-clause-over c =

@@ -1,12 +1,12 @@
 use Rattle.std.proofs.Common.{sym, subst}
 use Rattle.vlsi_base.specs.declared.name.Name.{Name}
 use Rattle.machine_core.specs.Order.{In}
-use Rattle.source_meaning.specs.Symbols.{symbols, all_names}
-use Rattle.vlsi_model.proofs.SourceBits.{sound}
-use Rattle.vlsi_model.proofs.Turning.{first_declared}
+use Rattle.source_meaning.specs.Elaboration.{definitions}
+use Rattle.vlsi_model.specs.Laid.{names_defined}
+use Rattle.vlsi_model.proofs.Turning.{first_defined}
 use Rattle.vlsi_model.proofs.cycle.cycle.Goals as goal
 
-pub driver_line-requires-clause-declared : goal.driver_line-requires-clause-declared
-driver_line-requires-clause-declared c =
-    let design = c.args.design.now in
-    subst (λ (n : Name). In n (all_names (symbols design))) (sym c.index.ensures) (first_declared design c.in_ok-names.names.items c.index.result.now (sound design c.requires.sound) c.in_ok-names.ensures)
+pub driver_line-requires-clause-defined : goal.driver_line-requires-clause-defined
+driver_line-requires-clause-defined c =
+    let defs = definitions c.args.design.now in
+    subst (λ (n : Name). In n (names_defined defs)) (sym c.index.ensures) (first_defined defs c.in_ok-names.names.items c.index.result.now c.in_ok-names.ensures)

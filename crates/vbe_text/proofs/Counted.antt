@@ -1,4 +1,4 @@
--- What a data-flow text declares: as many bits as its tokens count, and these are within the limit.
+-- What a text declares: as many bits as its tokens count, and these are within the limit.
 use Rattle.std.proofs.Common.{◌≡◌, ℕ, suc, ◌+◌, ◌-◌, ◌*◌, ◌^◌, ◌==◌, ◌≤◌, ◌<◌, Bool, true, false, cond, min, nat_lt, bytes_eq, List, [], ◌∷◌, ◌++◌, length, Option, None, Some, Result, Ok, Err, inl, inr, refl, sym, ◌∙◌, ap, subst, arith, length-append, if◌then◌else◌}
 use Rattle.std.specs.Prelude.{nat_le}
 use Rattle.std.specs.BTreeSet.{insert_key}
@@ -17,6 +17,7 @@ use Rattle.vlsi_base.specs.declared.entity.Declarations.{Declarations}
 use Rattle.vlsi_base.specs.Range.{range_bits}
 use Rattle.vlsi_base.proofs.Ranges.{length_of_range}
 use Rattle.vhdl_token.specs.declared.keyword.Keyword.{Keyword}
+use Rattle.vhdl_token.specs.declared.token.Tokens.{Tokens}
 use Rattle.vhdl_token.specs.declared.keyword.Keyword.TheVariants as word
 use Rattle.grammar_theory.specs.declared.form.Form.{Form}
 use Rattle.grammar_theory.specs.declared.refusal.Breach.{Breach}
@@ -30,8 +31,7 @@ use Rattle.source_meaning.specs.declared.symbol_table.Role.{Role}
 use Rattle.source_meaning.specs.declared.symbol_table.Symbol.{Symbol}
 use Rattle.source_meaning.specs.Symbols.{role_of_mode, role_of_word, symbols_named, port_symbols, signal_symbols, symbols, bit_name, names_in, symbol_names, all_names}
 use Rattle.vbe_text.specs.Source.{SourceTree, source_view}
-use Rattle.vbe_text.specs.Vbe.{architecture, source}
-use Rattle.vbe_io.specs.Text.{IsWritten}
+use Rattle.vbe_text.specs.Vbe.{architecture, source, IsSource}
 
 -- ---- what tokens count
 
@@ -171,7 +171,7 @@ weighs_list {A} {L} {f} c k one less = record { each = λ items vs h. let rest =
 
 -- ---- types
 
-abbrev width_of : Option Range → ℕ
+abbrev pub width_of : Option Range → ℕ
 width_of None = 1
 width_of (Some r) = width r.left r.falls r.right
 
@@ -291,11 +291,11 @@ weighs_source : (room : ℕ) → Weighs (source room) 0 bits_of_source
 unfolding source
 weighs_source room = weighs_then (weighs_entity room) (λ e k less. weighs_architecture room k e less)
 
-written_few : (bytes : List ℕ) (design : DesignFile) → IsWritten bytes design → bits_of_source (source_view design) ≤ BITS
-written_few bytes design w =
-    let a = w.source.read.0 in
-    let weighs = (weighs_source DEPTH).each a.front (source_view design) a.sentence in
-    let counted = run_adds a.front uncounted w.source.end.state a.clean (omega arith) in
+source_few : (tokens : Tokens) (s : SourceTree) → IsSource tokens s → bits_of_source s ≤ BITS
+source_few tokens s is =
+    let a = is.read.0 in
+    let weighs = (weighs_source DEPTH).each a.front s a.sentence in
+    let counted = run_adds a.front uncounted is.end.state a.clean (omega arith) in
     let bits = counted.0 in
     let most = counted.1 in
     omega (arith, weighs, bits, most)
@@ -318,7 +318,7 @@ names_long : (text : List ℕ) (o : Option Range) → length (names_in text o) �
 names_long text None = refl
 names_long text (Some r) = length-map (range_bits r) (bit_name text) ∙ range_long r
 
-named_long : (r : Role) (o : Option Range) (line : ℕ) (ns : List NewName) → length (all_names (symbols_named r o line ns)) ≡ length ns * width_of o
+pub named_long : (r : Role) (o : Option Range) (line : ℕ) (ns : List NewName) → length (all_names (symbols_named r o line ns)) ≡ length ns * width_of o
 named_long r o line [] = omega arith
 named_long r o line (n ∷ ns) =
     let all = length-append (names_in n.text o) (all_names (symbols_named r o line ns)) in
@@ -329,7 +329,7 @@ named_long r o line (n ∷ ns) =
     one_more : (w n all first rest : ℕ) → all ≡ first + rest → first ≡ w → rest ≡ n * w → all ≡ suc n * w
     one_more w n all first rest a b c = omega (arith, a, b, c)
 
-all_long : (xs ys : List Symbol) → length (all_names (xs ++ ys)) ≡ length (all_names xs) + length (all_names ys)
+pub all_long : (xs ys : List Symbol) → length (all_names (xs ++ ys)) ≡ length (all_names xs) + length (all_names ys)
 all_long [] ys = omega arith
 all_long (s ∷ xs) ys =
     let a = length-append (symbol_names s) (all_names (xs ++ ys)) in
@@ -353,11 +353,34 @@ signals_long (g ∷ groups) =
     let c = signals_long groups in
     a ∙ (λ j. b j + c j)
 
--- a text declares no more bits than the limit
-pub declared_few : (bytes : List ℕ) (design : DesignFile) → IsWritten bytes design → length (all_names (symbols design)) ≤ BITS
-declared_few bytes design w =
+-- a data-flow text declares no more bits than the limit
+pub declared_few : (tokens : Tokens) (design : DesignFile) → IsSource tokens (source_view design) → length (all_names (symbols design)) ≤ BITS
+declared_few tokens design is =
     let all = all_long (port_symbols design.entity.ports) (signal_symbols design.declarations.signals) in
     let ports = ports_long design.entity.ports in
     let signals = signals_long design.declarations.signals in
-    let few = written_few bytes design w in
+    let few = source_few tokens (source_view design) is in
     omega (arith, all, ports, signals, few)
+
+-- nor does an entity that stands in front of what is accepted
+pub entity_few : {A : Type 0} {M : Entity → Grammar A} (items : List Item) (v : A) (s : Then (entity DEPTH) M items v) (t : State) → run items uncounted ≡ Ok t
+    → length (all_names (port_symbols s.value.ports)) ≤ BITS
+entity_few items v s t clean =
+    let weighs = (weighs_entity DEPTH).each s.front s.value s.before in
+    let all = ap bits_in s.parts in
+    let both = bits_in-append s.front s.back in
+    let counted = run_adds items uncounted t clean (omega arith) in
+    let ports = ports_long s.value.ports in
+    let bits = counted.0 in
+    let most = counted.1 in
+    omega (arith, weighs, all, both, ports, bits, most)
+
+-- nor one alone
+pub ports_few : (items : List Item) (e : Entity) (t : State) → entity DEPTH items e → run items uncounted ≡ Ok t → length (all_names (port_symbols e.ports)) ≤ BITS
+ports_few items e t sentence clean =
+    let weighs = (weighs_entity DEPTH).each items e sentence in
+    let counted = run_adds items uncounted t clean (omega arith) in
+    let ports = ports_long e.ports in
+    let bits = counted.0 in
+    let most = counted.1 in
+    omega (arith, weighs, ports, bits, most)
