@@ -21,6 +21,7 @@ pub mod Origins
 pub mod JoinsNothing
 pub mod Remaining
 pub mod Picking
+pub mod Supplies
 pub mod Gates
 pub mod Sinking
 pub mod Following

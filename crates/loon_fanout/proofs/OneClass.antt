@@ -18,13 +18,14 @@ use Rattle.net_core.specs.Netlist.{Instance}
 use Rattle.net_meaning.specs.Netlist.{Member, pin_of}
 use Rattle.net_meaning.specs.Well.{Has, buffer_instance}
 use Rattle.net_view.specs.View.{member_of}
-use Rattle.loon_fanout.specs.Sinks.{Wired, is_sink_of, instance_sinks, sinks, is_same_terminal}
+use Rattle.loon_fanout.specs.Sinks.{Wired, is_sink_of, instance_sinks, is_supply_class, sinks, is_same_terminal}
 use Rattle.loon_fanout.specs.Wired.{pin_class, with_gate, with_moved, with_group}
 use Rattle.loon_fanout.specs.Repeaters.{Repeater}
 use Rattle.loon_fanout.specs.Limited.{AreGroups, last, next, Row, with_round, IsLimited, within, round}
 use Rattle.loon_fanout.specs.Laws.{as_netlist, gate_named}
 use Rattle.net_meaning.specs.Buffers.{AreOne, alike, tied, turned, through}
 use Rattle.loon_fanout.proofs.Terminals.{terminal_same}
+use Rattle.loon_fanout.proofs.Supplies.{readers}
 use Rattle.loon_fanout.proofs.Splitting.{flat_in, any_in, is_false, in_or_out, sink_at}
 use Rattle.loon_fanout.proofs.RightStates.{IsGateCell}
 use Rattle.loon_fanout.proofs.RightPins.{own_class, input, output, in_inputs, in_outputs, input_class, output_class}
@@ -85,7 +86,10 @@ all_differ l (i ∷ is) names pins =
     names.0 (subst (λ (n : List ℕ). In n (map (λ i. i.name) is)) (sym same) (In-map (λ (x : Instance). x.name) r.0 is r.1)))
 
 pub sinks_differ : (l : Library) (w : Wired) → AllDifferent (map (λ i. i.name) w.instances) → ((i : Instance) → In i w.instances → AllDifferent i.pins) → (k : ℕ) → AllDifferent (sinks l w k)
-sinks_differ l w names pins k = differ_filter (λ t. nat_eq (w.class t) k) (flat_map (instance_sinks l) w.instances) (all_differ l w.instances names pins)
+sinks_differ l w names pins k = by (is_supply_class w k) where
+  by : (b : Bool) → AllDifferent (if b then [] else readers l w k)
+  by true = tt
+  by false = differ_filter (λ t. nat_eq (w.class t) k) (flat_map (instance_sinks l) w.instances) (all_differ l w.instances names pins)
 
 -- ---- instances
 

@@ -23,7 +23,8 @@ use Rattle.loon_fanout.specs.Limited.{Row, with_round, IsLimited, within, round}
 use Rattle.loon_fanout.specs.Laws.{as_netlist, gate_named}
 use Rattle.loon_fanout.proofs.Terminals.{terminal_same}
 use Rattle.loon_fanout.proofs.Picking.{any_in, only_one}
-use Rattle.loon_fanout.proofs.Sinking.{all_terminals, eq_itself, eq_not}
+use Rattle.loon_fanout.proofs.Supplies.{eq_itself, eq_not}
+use Rattle.loon_fanout.proofs.Sinking.{all_terminals}
 use Rattle.loon_fanout.proofs.Following.{pin_below}
 use Rattle.loon_fanout.proofs.Splitting.{sink_at}
 use Rattle.loon_fanout.proofs.RightStates.{IsGateCell}

@@ -28,6 +28,7 @@ use Rattle.net_view.specs.View.{member_of}
 use Rattle.loon_fanout.specs.Sinks.{Wired, is_clock_of, is_sink_pin, is_sink_of, instance_sinks, sinks, is_same_owner, is_same_terminal}
 use Rattle.loon_fanout.specs.Wired.{pin_class, with_gate, with_group}
 use Rattle.loon_fanout.specs.Laws.{as_netlist, sourced, IsOneGate, is_in, roots_after, GroupSplits}
+use Rattle.loon_fanout.proofs.Supplies.{sink_reads}
 use Rattle.loon_fanout.proofs.Terminals.{terminal_same, terminal_itself, owner_same}
 
 -- ---- lists
@@ -115,7 +116,7 @@ has_cell (Some c) p h = (c, refl, h)
 
 pub sink_at : (l : Library) (w : Wired) (k : ℕ) (t : Terminal) → In t (sinks l w k) → SinkAt l w k t
 sink_at l w k t h =
-    let f = in_filter (λ (x : Terminal). nat_eq (w.class x) k) (flat_map (instance_sinks l) w.instances) t h in
+    let f = in_filter (λ (x : Terminal). nat_eq (w.class x) k) (flat_map (instance_sinks l) w.instances) t (sink_reads l w k t h) in
     let i = flat_in (instance_sinks l) t w.instances f.0 in
     let p = In-map_back (pin_of i.0.name) t (filter (is_sink_of (cell_of l i.0.model)) i.0.pins) i.2 in
     let s = in_filter (is_sink_of (cell_of l i.0.model)) i.0.pins p.0 p.1 in

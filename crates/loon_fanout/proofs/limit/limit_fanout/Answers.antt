@@ -1,15 +1,26 @@
 use Rattle.std.proofs.Common.{◌<◌, ℕ, List, All, length, ap, sym, subst, None, Some, false}
 use Rattle.std.specs.Global.{Vec}
+use Rattle.vlsi_base.specs.Names.{vdd, vss}
 use Rattle.cell_model.specs.Cell.{Cell}
 use Rattle.cell_model.specs.Library.{Library}
 use Rattle.cell_model.specs.Usable.{IsFormed}
 use Rattle.cell_model.specs.Connectors.{PinsAreConnectors}
 use Rattle.cell_pins.proofs.Sound.{connected}
+use Rattle.net_core.specs.Netlist.{port}
+use Rattle.net_core.proofs.Rings.{class_below}
 use Rattle.loon_fanout.specs.Stages.{all_marks}
 use Rattle.loon_fanout.proofs.Loading.{loads_below}
 use Rattle.loon_fanout.specs.Sinks.{wired_of}
 use Rattle.loon_fanout.proofs.Wholes.{built_gatable, built_fanout, built_cells, start_buffered, limited_buffered, start_few, limited_few, not_none, Calm, calm, crowded, Repeated, repeated, lacking}
 use Rattle.loon_fanout.proofs.limit.limit_fanout.Goals as goal
+
+pub loads-requires-clause-high : goal.loads-requires-clause-high
+loads-requires-clause-high c =
+    class_below c.args.netlist.now c.in_ok-wiring.ensures.sound (port vdd) c.in_ok-wiring.wiring.high c.in_ok-wiring.ensures.start.high
+
+pub loads-requires-clause-low : goal.loads-requires-clause-low
+loads-requires-clause-low c =
+    class_below c.args.netlist.now c.in_ok-wiring.ensures.sound (port vss) c.in_ok-wiring.wiring.low c.in_ok-wiring.ensures.start.low
 
 pub make_repeater-requires-clause-formed : goal.make_repeater-requires-clause-formed
 make_repeater-requires-clause-formed c =
@@ -22,7 +33,7 @@ make_repeater-requires-clause-connectors c =
 pub limit_all-requires-clause-places : goal.limit_all-requires-clause-places
 limit_all-requires-clause-places c =
     subst (λ (ls : List (Vec ℕ)). All (λ sinks. All (λ place. place < length c.in_ok-wiring.wiring.classes.items) sinks.items) ls) (sym c.deref-in-Some.ensures.value)
-    (loads_below (all_marks c.args.library.now c.args.netlist.now) c.args.netlist.now.classes c.args.netlist.now.count (length c.in_ok-wiring.wiring.classes.items) c.in_ok-loads.loads.items
+    (loads_below (all_marks c.args.library.now c.args.netlist.now) c.args.netlist.now.classes c.args.netlist.now.count c.in_ok-wiring.wiring.high c.in_ok-wiring.wiring.low (length c.in_ok-wiring.wiring.classes.items) c.in_ok-loads.loads.items
     c.in_ok-loads.ensures (ap length (sym c.in_ok-wiring.ensures.start.classes)))
 
 calm_then : (c : goal.After-drop-loads-then-not-is_crowded) → Calm c.args.library.now c.args.netlist.now c.in_ok-wiring.wiring c.args.fanout
@@ -119,7 +130,8 @@ returns-in-Some-clause-covered c = λ over lacks. let k = repeated_then c in not
 
 pub returns-clause-refused : goal.returns-clause-refused
 returns-clause-refused c = (
-  crowded c.args.library.now c.args.netlist.now c.args.fanout c.in_ok-wiring.ensures.sound c.in_ok-loads.loads.items c.deref.result.now c.in_ok-loads.ensures
+  crowded c.args.library.now c.args.netlist.now c.in_ok-wiring.wiring c.args.fanout c.in_ok-wiring.ensures.sound c.in_ok-wiring.ensures.start c.in_ok-loads.loads.items
+      c.deref.result.now c.in_ok-loads.ensures
       c.deref.ensures.value c.is_crowded.result c.if-not-is_crowded.false c.is_crowded.ensures,
   lacking c.args.library.now c.cells-cells.result.now c.cells-cells.ensures.value c.in_ok-found.field-0 c.in-None.is c.in_ok-found.ensures.none,
 )
