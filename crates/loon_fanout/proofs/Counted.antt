@@ -14,6 +14,7 @@ use Rattle.loon_fanout.specs.declared.repeater.Repeater.{Repeater as Parts}
 use Rattle.loon_fanout.specs.declared.wiring.Wiring.{Wiring}
 use Rattle.loon_fanout.specs.Sinks.{is_sink_of, instance_sinks, all_sinks}
 use Rattle.loon_fanout.specs.Stages.{tied_class, ends_of, pin_marks, all_marks, marked_places, PutsGate, PutsRow, once, two, set_places, PutsBehind, PutsGroups, none, one, LimitsClass, few, many, LimitsAll, done, more, AreNetLoads}
+use Rattle.loon_fanout.proofs.Loading.{got}
 use Rattle.loon_fanout.proofs.Rounds.{gates_in, below_or}
 
 -- ---- pins by gates
@@ -241,11 +242,6 @@ loads_marked marks classes count high low loads are =
     subst (λ (j : ℕ). length x.items ≤ many_at 0 marks classes j) zero_i (omega (arith, is, most))) in
     let b = marked_few 0 marks classes 0 (length loads) in
     omega (arith, a, b) where
-      got : (xs : List (Vec ℕ)) (k : ℕ) (x : Vec ℕ) → slice_get xs k ≡ Some x → get_or xs k x ≡ x
-      got [] k x e = absurd cc
-      got (y ∷ xs) zero x e = cc
-      got (y ∷ xs) (suc k) x e = got xs k x e
-
       by : (b : Bool) (xs : List ℕ) → length (if b then [] else xs) ≤ length xs
       by true xs = omega arith
       by false xs = omega arith

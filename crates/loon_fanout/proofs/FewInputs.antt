@@ -30,8 +30,8 @@ use Rattle.net_view.proofs.Seen.{seen_class, seen_is_well_formed}
 use Rattle.loon_fanout.specs.Sinks.{is_clock_of, is_sink_of, instance_sinks, is_supply_class, sinks, wired_of}
 use Rattle.loon_fanout.specs.Limited.{HasFanout, IsOfCells}
 use Rattle.loon_fanout.specs.Nets.{IsInputPin, an_input_pin, HasFewInputs, RightHasFewInputs}
+use Rattle.loon_fanout.proofs.Picking.{in_any, is_false}
 use Rattle.loon_fanout.proofs.Supplies.{apart_net, readers, net_sinks}
-use Rattle.loon_fanout.proofs.Splitting.{in_any, is_false}
 use Rattle.loon_fanout.proofs.RightStay.{is_seen}
 
 -- ---- lists

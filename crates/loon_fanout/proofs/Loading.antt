@@ -102,7 +102,7 @@ net_loads marks classes count high down all some loads are first second = record
   by false false xs = refl
 
 -- no class has more sinks where a loop met none
-got : {A : Type 0} (xs : List A) (k : ℕ) (x : A) → slice_get xs k ≡ Some x → get_or xs k x ≡ x
+pub got : {A : Type 0} (xs : List A) (k : ℕ) (x : A) → slice_get xs k ≡ Some x → get_or xs k x ≡ x
 got [] k x e = absurd cc
 got (y ∷ xs) zero x e = cc
 got (y ∷ xs) (suc k) x e = got xs k x e

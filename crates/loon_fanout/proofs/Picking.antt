@@ -1,6 +1,6 @@
 -- Lists that tests pick from, in which nothing stands twice, and what stands at places of them.
 use Rattle.std.proofs.Common.{◌≡◌, inl, inr, ℕ, zero, suc, ◌+◌, Bool, true, false, ◌&&◌, ◌||◌, List, [], ◌∷◌, ◌++◌, map, filter, length, refl, sym, ◌∙◌, ap, subst, arith, if◌then◌else◌}
-use Rattle.std.specs.List.{list_any}
+use Rattle.std.specs.List.{flat_map, list_any}
 use Rattle.vlsi_base.specs.Member.{In, here, there, AllDifferent}
 use Rattle.cell_model.proofs.Members.{In-split, In-left, In-right, In-map_back}
 use Rattle.cell_pins.proofs.Ports.{in_filter}
@@ -85,6 +85,20 @@ map_same f g [] h = refl
 map_same {A} {B} f g (x ∷ xs) h =
     ap (λ (y : B). y ∷ map f xs) (h x here)
     ∙ ap (λ (ys : List B). g x ∷ ys) (map_same f g xs (λ y i. h y (there i)))
+
+-- ---- what functions gather
+
+pub flat_in : {A B : Type 0} (f : A → List B) (y : B) (xs : List A) → In y (flat_map f xs) → (x : A) × In x xs × In y (f x)
+flat_in f y [] h = elim h [ ]
+flat_in f y (x ∷ xs) h = elim (In-split y (f x) (flat_map f xs) h) [
+  | inl front ↦ (x, here, front)
+  | inr later ↦ let r = flat_in f y xs later in (r.0, there r.1, r.2)
+]
+
+pub in_flat : {A B : Type 0} (f : A → List B) (x : A) (y : B) (xs : List A) → In x xs → In y (f x) → In y (flat_map f xs)
+in_flat f x y [] i j = elim i [ ]
+in_flat f x y (z ∷ xs) here j = In-left y (f z) (flat_map f xs) j
+in_flat f x y (z ∷ xs) (there i) j = In-right y (f z) (flat_map f xs) (in_flat f x y xs i j)
 
 -- ---- nothing stands twice
 

@@ -23,8 +23,8 @@ use Rattle.loon_fanout.specs.Sinks.{Wired, is_sink_of, instance_sinks, sinks, wi
 use Rattle.loon_fanout.specs.Limited.{IsNetlistOf, IsBuffered, HasFanout, IsOfCells}
 use Rattle.loon_fanout.specs.Laws.{gate_named}
 use Rattle.loon_fanout.specs.Nets.{BufferedRemains, BufferedHasFewInputs}
+use Rattle.loon_fanout.proofs.Picking.{flat_in}
 use Rattle.loon_fanout.proofs.Terminals.{class_is}
-use Rattle.loon_fanout.proofs.Splitting.{flat_in}
 use Rattle.loon_fanout.proofs.Gating.{has_fanout}
 use Rattle.loon_fanout.proofs.Kept.{limited_stays_beside}
 use Rattle.loon_fanout.proofs.FewInputs.{right_has_few_inputs}

@@ -17,7 +17,7 @@ use Rattle.loon_fanout.specs.Sinks.{Wired, is_sink_of, instance_sinks, is_supply
 use Rattle.loon_fanout.specs.Wired.{pin_class, with_gate, with_moved}
 use Rattle.loon_fanout.specs.Laws.{gate_named}
 use Rattle.loon_fanout.proofs.Terminals.{terminal_same, terminal_itself}
-use Rattle.loon_fanout.proofs.Picking.{is_false, any_in, in_any, filter_append, filter_same, filter_twice, filter_all, filter_none, filter_in, different_filter, different_apart}
+use Rattle.loon_fanout.proofs.Picking.{flat_in, in_flat, is_false, any_in, in_any, filter_append, filter_same, filter_twice, filter_all, filter_none, filter_in, different_filter, different_apart}
 use Rattle.loon_fanout.proofs.Supplies.{eq_itself, eq_not, supply_same, readers, net_sinks}
 use Rattle.loon_fanout.proofs.Gates.{IsGate}
 
@@ -31,18 +31,6 @@ all_sinks l w = flat_map (instance_sinks l) w.instances
 
 abbrev pub names_in : Wired → List (List ℕ)
 names_in w = map (λ i. i.name) w.instances
-
-flat_in : {A B : Type 0} (f : A → List B) (y : B) (xs : List A) → In y (flat_map f xs) → (x : A) × In x xs × In y (f x)
-flat_in f y [] h = elim h [ ]
-flat_in f y (x ∷ xs) h = elim (In-split y (f x) (flat_map f xs) h) [
-  | inl front ↦ (x, here, front)
-  | inr later ↦ let r = flat_in f y xs later in (r.0, there r.1, r.2)
-]
-
-pub in_flat : {A B : Type 0} (f : A → List B) (x : A) (y : B) (xs : List A) → In x xs → In y (f x) → In y (flat_map f xs)
-in_flat f x y [] i j = elim i [ ]
-in_flat f x y (z ∷ xs) here j = In-left y (f z) (flat_map f xs) j
-in_flat f x y (z ∷ xs) (there i) j = In-right y (f z) (flat_map f xs) (in_flat f x y xs i j)
 
 -- a sink belongs to an instance, and is one of its pins
 pub record Owned (l : Library) (w : Wired) (t : Terminal) : Type 0 where

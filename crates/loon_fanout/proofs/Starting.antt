@@ -24,6 +24,7 @@ use Rattle.loon_fanout.specs.Limited.{IsOfCells}
 use Rattle.loon_fanout.specs.Stages.{pin_marks, all_marks, marked_places, AreNetLoads, IsStart}
 use Rattle.loon_fanout.proofs.Terminals.{terminal_same, terminal_itself, class_is}
 use Rattle.loon_fanout.proofs.Picking.{is_false, map_same, different_append, different_left, different_right, different_apart, different_of, AtPlaces}
+use Rattle.loon_fanout.proofs.Loading.{got}
 use Rattle.loon_fanout.proofs.Supplies.{readers}
 use Rattle.loon_fanout.proofs.Sinking.{all_sinks}
 use Rattle.loon_fanout.proofs.Following.{Follows, none_behind}
@@ -177,11 +178,6 @@ places_are_readers l n sound k =
     (marked_at (class_among (terminals n) n.classes) k (all_marks l n) (terminals n) [] 0 refl))
 
 -- ---- loads
-
-got : {A : Type 0} (xs : List A) (k : ℕ) (x : A) → slice_get xs k ≡ Some x → get_or xs k x ≡ x
-got [] k x e = absurd cc
-got (y ∷ xs) zero x e = cc
-got (y ∷ xs) (suc k) x e = got xs k x e
 
 module _ (l : Library) (n : InMemory) (loads : List (Vec ℕ)) (sound : IsNetlist n) (high low : ℕ) (on_high : (wired_of n).class (port vdd) ≡ high) (on_low : (wired_of n).class (port vss) ≡ low)
     (are : AreNetLoads (all_marks l n) n.classes n.count high low loads) where

@@ -1,6 +1,7 @@
 -- The sinks of nets are the inputs that read their classes; the classes of supplies are no nets.
-use Rattle.std.proofs.Common.{◌≡◌, ◌≢◌, ℕ, ◌<◌, Bool, true, false, ◌||◌, List, [], filter, length, refl, ◌∙◌, ap, subst, arith, nat_eq, eqb-true, if◌then◌else◌}
+use Rattle.std.proofs.Common.{◌≡◌, ◌≢◌, ◌⊎◌, inl, inr, ℕ, ◌<◌, Bool, true, false, ◌||◌, List, [], filter, length, refl, sym, ◌∙◌, ap, subst, arith, nat_eq, eqb-true, if◌then◌else◌}
 use Rattle.std.proofs.lemmas.Bool.{eq-eqb}
+use Rattle.vlsi_base.specs.declared.name.Name.{Name}
 use Rattle.vlsi_base.specs.declared.name.Terminal.{Terminal}
 use Rattle.vlsi_base.specs.Names.{vdd, vss}
 use Rattle.vlsi_base.specs.Member.{In}
@@ -21,6 +22,18 @@ eq_not a b differ = is_false (nat_eq a b) (λ e. differ (eqb-true a b e))
 
 pub apart_net : (w : Wired) (k : ℕ) → w.class (port vdd) ≢ k → w.class (port vss) ≢ k → is_supply_class w k ≡ false
 apart_net w k high low = ap (λ (b : Bool). b || nat_eq (w.class (port vss)) k) (eq_not (w.class (port vdd)) k high) ∙ eq_not (w.class (port vss)) k low
+
+-- a net isn't the class of a supply
+pub supply_apart : (w : Wired) (k : ℕ) → is_supply_class w k ≡ false → (supply : Name) → (supply ≡ vdd) ⊎ (supply ≡ vss) → w.class (port supply) ≡ k → ⊥
+supply_apart w k net supply (inl high) e =
+    let is : nat_eq (w.class (port vdd)) k ≡ true = eq-eqb (w.class (port vdd)) k (ap (λ (s : Name). w.class (port s)) (sym high) ∙ e) in
+    let wrong : true ≡ false = sym (ap (λ (b : Bool). b || nat_eq (w.class (port vss)) k) is) ∙ net in cc wrong
+supply_apart w k net supply (inr low) e =
+    let is : nat_eq (w.class (port vss)) k ≡ true = eq-eqb (w.class (port vss)) k (ap (λ (s : Name). w.class (port s)) (sym low) ∙ e) in
+    let wrong : true ≡ false = sym (or_true (nat_eq (w.class (port vdd)) k)) ∙ sym (ap (λ (b : Bool). nat_eq (w.class (port vdd)) k || b) is) ∙ net in cc wrong where
+      or_true : (b : Bool) → (b || true) ≡ true
+      or_true true = refl
+      or_true false = refl
 
 -- where the ports of supplies stay in their classes, so do nets
 pub supply_same : (w u : Wired) (k : ℕ) → u.class (port vdd) ≡ w.class (port vdd) → u.class (port vss) ≡ w.class (port vss) → is_supply_class u k ≡ is_supply_class w k
