@@ -15,7 +15,7 @@ use Rattle.net_core.specs.Frame.{instance_of}
 use Rattle.net_core.specs.Netlist.{Instance, Netlist as InMemory, IsNetlist, AreInOrder, port, pins_of, terminals_of, terminals, HasClass}
 use Rattle.net_core.specs.Places.{Stands, NoneTwice}
 use Rattle.net_core.proofs.Lookups.{itself}
-use Rattle.net_view.proofs.Lists.{map_twice}
+use Rattle.net_view.proofs.Lists.{map_twice, in_place}
 use Rattle.free_names.specs.Free.{is_free}
 use Rattle.free_names.specs.Laws.{TextsAreFree}
 use Rattle.net_theory.proofs.Basics.{length-map}
@@ -29,7 +29,7 @@ use Rattle.loon_fanout.specs.Gated.{gate_names, gates_by, gated, gated_terminals
 use Rattle.loon_fanout.specs.Limited.{IsNetlistOf, HasFanout}
 use Rattle.loon_fanout.specs.Stages.{next_class}
 use Rattle.loon_fanout.proofs.Terminals.{class_of_map, class_is}
-use Rattle.loon_fanout.proofs.Picking.{filter_same, different_append, different_of, twice_of, stands_in}
+use Rattle.loon_fanout.proofs.Picking.{filter_same, different_append, different_of, twice_of}
 use Rattle.loon_fanout.proofs.Supplies.{eq_itself, eq_not, readers, net_sinks, is_net, sink_reads}
 use Rattle.loon_fanout.proofs.Sinking.{all_terminals, all_sinks, names_in, sink_there}
 use Rattle.loon_fanout.proofs.Following.{Follows}
@@ -149,7 +149,7 @@ module _ (l : Library) (limit : ℕ) (k : InMemory) (w : Wired) (of : IsNetlistO
   -- the class of a terminal that is there
   class_at : (t : Terminal) → In t (terminals k) → HasClass k t ((wired_of k).class t)
   class_at t i =
-      let s = stands_in (terminals k) t i in
+      let s = in_place t (terminals k) i in
       let c = there_is (terminals k) k.classes sound.each s.0 t s.1 in
       (s.0, s.1, subst (λ (j : ℕ). Stands k.classes s.0 j) (sym (class_is (terminals k) k.classes t s.0 c.0 once s.1 c.1)) c.1) where
         there_is : (ts : List Terminal) (ks : List ℕ) → length ks ≡ length ts → (p : ℕ) (t : Terminal) → Stands ts p t → (c : ℕ) × Stands ks p c

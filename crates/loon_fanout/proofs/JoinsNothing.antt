@@ -34,7 +34,6 @@ use Rattle.loon_fanout.specs.Limited.{IsBuffered, IsOfCells}
 use Rattle.loon_fanout.specs.Laws.{as_netlist, gate_named}
 use Rattle.loon_fanout.specs.Nets.{BufferedJoinsNothing}
 use Rattle.loon_fanout.proofs.Terminals.{class_is}
-use Rattle.loon_fanout.proofs.Picking.{stands_in}
 use Rattle.loon_fanout.proofs.Sinking.{not_new}
 use Rattle.loon_fanout.proofs.OneClass.{AreGood, good_instances}
 use Rattle.loon_fanout.proofs.Merged.{merged}
@@ -99,7 +98,7 @@ module _ (tracks : Bool) (n : InMemory) (l : Library) (limit : ℕ) (r : InMemor
       let ports = ports_same tracks n l limit r passed is_n is_r of_cells buffered in
       let instances = all_instances tracks n l limit r passed is_n is_r of_cells buffered in
       let still = terminals_still n.ports n.instances (map (gate_named buffered.repeater.cell) buffered.names) t (in_from_place (terminals n) h.0 t h.1) in
-      stands_in (terminals r) t
+      in_place t (terminals r)
       (subst (λ (ps : List Port). In t (terminals_of ps r.instances)) (sym ports)
       (subst (λ (is : List Instance). In t (terminals_of n.ports is)) (sym instances) still))
 

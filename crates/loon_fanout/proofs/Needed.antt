@@ -28,7 +28,6 @@ use Rattle.loon_fanout.specs.Limited.{IsLimited, within, round, IsNetlistOf, IsB
 use Rattle.loon_fanout.specs.Laws.{as_netlist, gate_named}
 use Rattle.net_meaning.specs.Buffers.{AreOne, alike, tied, turned, through}
 use Rattle.loon_fanout.specs.Nets.{IsStaying, staying, IsNet, FitsWithoutBuffers, HasNoBuffer, BuffersAreNeeded}
-use Rattle.loon_fanout.proofs.Picking.{stands_in}
 use Rattle.loon_fanout.proofs.Sinking.{all_sinks, sink_there}
 use Rattle.loon_fanout.proofs.Splitting.{sink_at}
 use Rattle.loon_fanout.proofs.RightMove.{IsSink}
@@ -147,7 +146,7 @@ module _ (tracks : Bool) (n : InMemory) (l : Library) (limit : ℕ) (r : InMemor
     there_n : (t : Terminal) → In t (sinks l (wired_of n) class) → IsThere (terminals n) t
     there_n t h =
         let i = in_filter (λ (u : Terminal). nat_eq ((wired_of n).class u) class) (all_sinks l (wired_of n)) t (sink_reads l (wired_of n) class t h) in
-        stands_in (terminals n) t (sink_there l (wired_of n) t i.0)
+        in_place t (terminals n) (sink_there l (wired_of n) t i.0)
 
     supply_there : (supply : Name) → (supply ≡ vdd) ⊎ (supply ≡ vss) → IsThere (terminals n) (port supply)
     supply_there supply (inl high) = subst (λ (s : Name). IsThere (terminals n) (port s)) (sym high) of_cells.on_vdd

@@ -37,7 +37,7 @@ use Rattle.loon_fanout.specs.Sinks.{Wired, sinks, is_same_terminal, wired_of}
 use Rattle.loon_fanout.specs.Repeaters.{Repeater}
 use Rattle.loon_fanout.specs.Limited.{IsLimited, within, round, IsBuffered, IsOfCells}
 use Rattle.loon_fanout.specs.Laws.{gate_named, IsTied, BufferedPasses}
-use Rattle.loon_fanout.proofs.Picking.{different_of, flat_in}
+use Rattle.loon_fanout.proofs.Picking.{different_of, flat_in, twice_of}
 use Rattle.loon_fanout.proofs.Terminals.{terminal_same, terminal_itself, class_is}
 use Rattle.loon_fanout.proofs.Splitting.{sink_at}
 use Rattle.loon_fanout.proofs.RightStates.{IsGateCell}
@@ -45,7 +45,7 @@ use Rattle.loon_fanout.proofs.RightRounds.{some_of}
 use Rattle.loon_fanout.proofs.RightStay.{repeats, gate_cell, WasLimited, unchanged, by_gates, how, all_instances, ports_same, new_names}
 use Rattle.loon_fanout.proofs.Remaining.{still_of_cells}
 use Rattle.loon_fanout.proofs.OneClass.{AreGood, good_instances}
-use Rattle.loon_fanout.proofs.PassLoops.{Chain, Ring, ring_in, none_twice, chain_next, chain_last, Plus, one, more, HasNoLoop, along}
+use Rattle.loon_fanout.proofs.PassLoops.{Chain, Ring, ring_in, chain_next, chain_last, Plus, one, more, HasNoLoop, along}
 use Rattle.net_view.proofs.Tallies.{input_port, output_port, input_pin, clock_pin}
 use Rattle.loon_fanout.proofs.PassTallies.{Mark, tally_in, Counts, nowhere, somewhere, told_alike, output_pin, input_ports, output_ports, input_pins, clock_pins, output_pins, IsGood, IsFine, no_fault, good_of}
 use Rattle.loon_fanout.proofs.PassPins.{port_mark, pin_mark, instance_marks, marks, pin_marked, IsMade, supply_pin, gate_pin, GatePin, on_supply, reads, drives}
@@ -248,7 +248,7 @@ module _ (tracks all : Bool) (n : InMemory) (l : Library) (table : List ModelPin
   ring_of : Ring (DependsOn table n) → ⊥
   ring_of g = passes.rings (g.start ∷ g.rest) (record {
     some = omega arith;
-    once = none_twice (g.start ∷ g.rest) g.different;
+    once = twice_of (g.start ∷ g.rest) g.different;
     next = λ k a b p q. chain_next (DependsOn table n) g.start g.rest g.start g.round k a b p q;
     close = λ a b p q.
         let e : suc (length g.rest) - 1 ≡ length g.rest = omega arith in

@@ -13,11 +13,12 @@ use Rattle.cell_model.proofs.Members.{In-split, In-left, In-right, In-map, In-ma
 use Rattle.cell_model.proofs.Texts.{text_itself, text_differs}
 use Rattle.cell_pins.proofs.Ports.{in_filter}
 use Rattle.net_core.specs.Netlist.{Instance, port, pin_of, pins_of, terminals_of}
+use Rattle.net_view.proofs.Lists.{filter_in}
 use Rattle.loon_fanout.specs.Sinks.{Wired, is_sink_of, instance_sinks, is_supply_class, sinks, is_same_owner, is_same_terminal}
 use Rattle.loon_fanout.specs.Wired.{pin_class, with_gate, with_moved}
 use Rattle.loon_fanout.specs.Laws.{gate_named}
 use Rattle.loon_fanout.proofs.Terminals.{terminal_same, terminal_itself}
-use Rattle.loon_fanout.proofs.Picking.{flat_in, in_flat, is_false, any_in, in_any, filter_append, filter_same, filter_twice, filter_all, filter_none, filter_in, different_filter, different_apart}
+use Rattle.loon_fanout.proofs.Picking.{flat_in, in_flat, is_false, any_in, in_any, filter_append, filter_same, filter_twice, filter_all, filter_none, different_filter, different_apart}
 use Rattle.loon_fanout.proofs.Supplies.{eq_itself, eq_not, supply_same, readers, net_sinks}
 use Rattle.loon_fanout.proofs.Gates.{IsGate}
 

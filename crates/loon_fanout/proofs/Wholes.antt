@@ -21,6 +21,7 @@ use Rattle.net_core.proofs.Finishing.{netlist_terminals_once}
 use Rattle.net_view.proofs.Ports.{vdd_there}
 use Rattle.free_names.specs.Laws.{TextsAreFree}
 use Rattle.net_theory.proofs.Basics.{length-map}
+use Rattle.net_view.proofs.Lists.{in_place}
 use Rattle.loon_fanout.specs.declared.repeater.Repeater.{Repeater as Parts}
 use Rattle.loon_fanout.specs.declared.wiring.Wiring.{Wiring}
 use Rattle.loon_fanout.specs.Sinks.{Wired, all_sinks, sinks, wired_of}
@@ -30,7 +31,7 @@ use Rattle.loon_fanout.specs.Gated.{gate_names, gated, IsGatable, IsGated}
 use Rattle.loon_fanout.specs.Laws.{gate_named, StaysBeside}
 use Rattle.loon_fanout.specs.Limited.{IsLimited, within, IsCrowded, IsBuffered, HasFanout, HasFewGates, IsOfCells, HasRoomForGates}
 use Rattle.loon_fanout.specs.Stages.{tie_of, all_marks, AreNetLoads, LimitsAll, IsStart, IsPart, IsRepeaterOf, HasLongLoad}
-use Rattle.loon_fanout.proofs.Picking.{map_same, different_of, at_many, stands_in}
+use Rattle.loon_fanout.proofs.Picking.{map_same, different_of, at_many}
 use Rattle.loon_fanout.proofs.Gates.{Chosen, chosen}
 use Rattle.loon_fanout.proofs.Kept.{limited_stays_beside}
 use Rattle.loon_fanout.proofs.Sinking.{all_terminals}
@@ -122,8 +123,8 @@ built_fanout l n r v limit w k b g sound =
 pub built_cells : (l : Library) (n : InMemory) (r : Option Parts) (v : Wiring) (limit : ℕ) (w : Wired) (k : InMemory) → Built l n r v limit w → IsGated n r v k → IsOfCells k l
 built_cells l n r v limit w k b g = record {
   found = λ i there_i. b.cells i (subst (λ (is : List Instance). In i is) (g.instances ∙ sym b.instances) (member_at k.instances there_i.0 i there_i.1));
-  on_vdd = stands_in (terminals k) (port vdd) (subst (λ (ts : List Terminal). In (port vdd) ts) listed b.follows.on_vdd);
-  on_vss = stands_in (terminals k) (port vss) (subst (λ (ts : List Terminal). In (port vss) ts) listed b.follows.on_vss);
+  on_vdd = in_place (port vdd) (terminals k) (subst (λ (ts : List Terminal). In (port vdd) ts) listed b.follows.on_vdd);
+  on_vss = in_place (port vss) (terminals k) (subst (λ (ts : List Terminal). In (port vss) ts) listed b.follows.on_vss);
 } where
   listed : all_terminals w ≡ terminals k
   listed = built_terminals l n r v limit w k b g
@@ -135,7 +136,7 @@ different_names n sound =
     subst (λ (ns : List (List ℕ)). AllDifferent ns) (sym (append-nil (map (λ (i : Instance). i.name) n.instances))) (different_of (map (λ (i : Instance). i.name) n.instances) sound.names)
 
 given_cells : (l : Library) (n : InMemory) → IsOfCells n l → (i : Instance) → In i n.instances → (c : Cell) × (cell_of l i.model ≡ Some c) × IsUsable c × (i.pins ≡ names_of (all_ports c))
-given_cells l n cells i k = let s = stands_in n.instances i k in cells.found i s
+given_cells l n cells i k = let s = in_place i n.instances k in cells.found i s
 
 pub start_built : (l : Library) (n : InMemory) (v : Wiring) (limit : ℕ) → IsNetlist n → IsOfCells n l → HasRoomForGates n → IsStart n v
     → ((class : ℕ) → length (sinks l (wired_of n) class) ≤ limit) → Built l n None v limit (wired_of n)
