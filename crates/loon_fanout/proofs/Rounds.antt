@@ -65,8 +65,8 @@ class_counted c r gates part limit class v u places (many {w = x} {inputs = inpu
 
 all_counted : (c : Cell) (r : Parts) (gates : ℕ) → IsPart c gates r → (limit class : ℕ) (loads : List (Vec ℕ)) (v u : Wiring) → LimitsAll r limit class loads v u → gates_in v ≤ gates_in u
 all_counted c r gates part limit class loads v u done = omega arith
-all_counted c r gates part limit class loads v u (more {w = x} {sinks = places} {rest = rest} here later) =
-    let a = class_counted c r gates part limit class v x places.items here in
+all_counted c r gates part limit class loads v u (more {w = x} {sinks = places} {rest = rest} limited later) =
+    let a = class_counted c r gates part limit class v x places.items limited in
     let b = all_counted c r gates part limit (suc class) rest x u later in
     omega (arith, a, b)
 
