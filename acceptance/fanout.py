@@ -18,8 +18,8 @@ class Put:
 
 
 def is_sink(item, pin):
-    """Input pins are sinks of their nets, but for clocks and supplies."""
-    return item.model.pins[pin] == IN and pin != item.model.clock and pin[0] not in SUPPLIES
+    """Input pins are sinks of their nets, but for clocks, supplies, and those that are tied to a supply."""
+    return item.model.pins[pin] == IN and pin != item.model.clock and pin[0] not in SUPPLIES and item.nets[pin][0] not in SUPPLIES
 
 
 def sinks(items, net):

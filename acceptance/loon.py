@@ -223,11 +223,12 @@ def star(choose, sinks):
     """A net that so many pins read, an output port and flip-flops' pins now and then among them."""
     lines = []
     for k in range(sinks):
-        kind = choose.choice(["inv", "inv", "nand", "flip_flop", "both"])
+        kind = choose.choice(["inv", "inv", "nand", "flip_flop", "both", "tied"])
         net = choose.choice(["s", "s", "s", "i"])
         pins = {
             "inv": f"inv_x1 port map (i => {net}, nq => o({k})", "nand": f"na2_x1 port map (i0 => {net}, i1 => a, nq => o({k})",
             "flip_flop": f"sff1_x4 port map (ck => ck, i => {net}, q => o({k})", "both": f"na2_x1 port map (i0 => {net}, i1 => {net}, nq => o({k})",
+            "tied": f"na2_x1 port map (i0 => {net}, i1 => {choose.choice(['vdd', 'vdd', 'vss'])}, nq => o({k})",
         }[kind]
         lines.append(f"{choose.choice(['g', 'b', 'u'])}{k} : {pins}, vdd => vdd, vss => vss);\n")
     shown = choose.random() < 0.5
@@ -239,7 +240,7 @@ def star(choose, sinks):
 
 
 def check_stars(results, program, seed, numbers):
-    """Nets of 2 to 1,000 sinks with fan-outs 4 to 33, over libraries with and without a buffer and more drives."""
+    """Nets of 2 to 1,000 sinks, and inputs that are tied, with fan-outs 4 to 33, over libraries with and without a buffer and more drives."""
     for number in numbers:
         choose = random.Random(f"{seed} loon star {number}")
         names = ["inv_x1", "na2_x1", "sff1_x4", *choose.sample(["buf_x2", "buf_x4", "inv_x2", "inv_x4", "buf_x8", "sff1_x8"], choose.randrange(4))]

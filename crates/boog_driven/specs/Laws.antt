@@ -21,8 +21,9 @@ use Rattle.loon_fanout.specs.Nets.{HasFewInputs, FitsWithoutBuffers, HasNoBuffer
 use Rattle.loon_drive.specs.Driven.{most_sinks}
 use Rattle.boog_driven.specs.Netlist.{IsDrivenNetlist, IsDrivenAs}
 
--- As a netlist that layouts give: its instances stand in order in one row; it is as lean as the mapped one; few input pins read each
--- class; it has no buffers that it would do without; and no exchange of one cell makes its longest path shorter.
+-- As a netlist that layouts give: its instances stand in order in one row; its gates are as few as those of the mapped one; few input pins read
+-- each class but the clock's and the supplies'; it has no buffer at all where it would do without them; and no exchange of one cell
+-- makes its longest path shorter.
 pub record IsGoodNetlist (l : Library) (m : Machine) (fanout : ℕ) (y : Seen) (delay : ℕ) : Type 0 where
   pub order : (p : Placement) → p.rows ≡ y.instances ∷ [] → (buffers : ℕ) × IsInNetlistOrder y l m p buffers
   pub lean : IsLean y m

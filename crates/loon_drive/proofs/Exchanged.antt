@@ -1,5 +1,5 @@
 -- What exchanges of cells for drives of them keep.
-use Rattle.std.proofs.Common.{◌≡◌, ℕ, zero, suc, Bool, true, false, not, cond, ◌&&◌, List, [], ◌∷◌, ◌++◌, map, filter, length, bytes_eq, nat_eq, Option, Some, refl, sym, ap, ap₂, ◌∙◌, subst, ◌≤◌, arith}
+use Rattle.std.proofs.Common.{◌≡◌, ℕ, zero, suc, Bool, true, false, not, cond, ◌&&◌, ◌||◌, List, [], ◌∷◌, ◌++◌, map, filter, length, bytes_eq, nat_eq, Option, Some, refl, sym, ap, ap₂, ◌∙◌, subst, ◌≤◌, arith, if◌then◌else◌}
 use Rattle.std.specs.List.{flat_map, list_any}
 use Rattle.vlsi_base.specs.declared.name.Name.{Name}
 use Rattle.vlsi_base.specs.declared.name.Port.{Port}
@@ -129,7 +129,7 @@ all_sinks l _ _ (more {i = i} {j = j} {is = is} {js = js} c rest) =
     ∙ ap (λ (ts : List Terminal). instance_sinks l i ++ ts) (all_sinks l is js rest)
 
 abbrev sinks_by : (Terminal → ℕ) → ℕ → List Terminal → List Terminal
-sinks_by at class ts = filter (λ t. nat_eq (at t) class) ts
+sinks_by at class ts = if nat_eq (at (port vdd)) class || nat_eq (at (port vss)) class then [] else filter (λ t. nat_eq (at t) class) ts
 
 pub fanout_stays : FanoutStays
 fanout_stays l n k limit x few class =

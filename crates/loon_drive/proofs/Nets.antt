@@ -32,9 +32,9 @@ module _ (l : Library) (r k : Netlist) (e : AreExchanged l r k) (x : Seen) (seen
   one_again a b h = one l x.class k r (back l r k e x.class) (subst (λ (z : Seen). AreOne z l a b) seen.is h)
 
   fits_before : (limit : ℕ) → FitsWithoutBuffers x l limit → FitsWithoutBuffers before l limit
-  fits_before limit fits class pins different each =
+  fits_before limit fits class pins net different each =
       let now : FitsWithoutBuffers after l limit = subst (λ (z : Seen). FitsWithoutBuffers z l limit) seen.is fits in
-      now class pins different (λ t at.
+      now class pins (λ supply which h. net supply which (one l x.class k r (back l r k e x.class) h)) different (λ t at.
       let h = each t at in (
         stays l x.class r k (forward l r k e x.class) t (clock_pin l x.class k r (back l r k e x.class) t) h.0,
         one l x.class r k (forward l r k e x.class) h.1,

@@ -78,7 +78,7 @@ DrivenHasFewInputs =
     (n : Netlist) (l : Library) (m : Machine) (fanout : ℕ) (k : Netlist) (delay : ℕ) (x : Seen) → HasPassed false l → IsNetlist n → IsNetlist k
     → IsChecked m → IsOfCells n l → IsRightNetlist n l m → IsDrivenFrom n l fanout k delay → IsSeenAs k x → HasFewInputs x l m (most_sinks fanout)
 
--- where it would do without its buffers, it has none
+-- where it would do without all its buffers, it has none
 abbrev pub DrivenNeedsItsBuffers : Type 0
 DrivenNeedsItsBuffers =
     (n : Netlist) (l : Library) (fanout : ℕ) (k : Netlist) (delay : ℕ) (x : Seen) → HasPassed false l → IsNetlist n → IsNetlist k

@@ -70,9 +70,9 @@ fn exchanged(alloc: Global, mut netlist: Netlist, library: &Library) -> Result<D
 /// drives of them until no exchange of one instance's cell makes the longest path shorter.
 ///
 /// It is refused by `NoBuffer` exactly where a net has too many sinks and the library has neither a buffer nor an inverter. The netlist
-/// must be of usable cells, with each instance's vdd and vss at the ports of these names, and pass its checks; with all gates it must
-/// have fewer than 2^32 pins. Takes memory for the netlist, for each terminal and arc, and for each pair of cells of which one can
-/// stand for the other.
+/// must be of usable cells, with each instance's vdd and vss at the ports of these names, and pass its checks; 32 times its ports and
+/// pins must be fewer than 2^32, so that it has fewer pins than that with all gates. Takes memory for the netlist, for each terminal and
+/// arc, and for each pair of cells of which one can stand for the other.
 pub fn drive_netlist(
     alloc: Global,
     netlist: &Netlist,

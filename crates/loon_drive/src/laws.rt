@@ -12,7 +12,8 @@ pub fn exchanged_law()
 }
 
 /// A netlist with buffers and other drives has the instances of the given one, each with a drive of its cell, and buffers behind them;
-/// with these taken out it joins nothing that was apart; few pins read a class; and it has no buffers that it would do without.
+/// with these taken out it joins nothing that was apart; where the given one is right for a machine, few input pins read a class; and it
+/// has no buffer at all where it would do without them.
 pub fn driven_law()
     ensures grown { DrivenIsGrown }
     ensures chosen { DrivenIsChosen }

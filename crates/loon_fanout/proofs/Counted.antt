@@ -1,5 +1,5 @@
 -- How many gates and pins there are with all gates.
-use Rattle.std.proofs.Common.{◌≡◌, ◌⊎◌, inl, inr, ℕ, zero, suc, ◌+◌, ◌*◌, ◌<◌, ◌≤◌, Bool, true, false, List, [], ◌∷◌, ◌++◌, map, filter, length, get_or, Some, refl, sym, ◌∙◌, ap, arith, length-append, nat_eq, eqb-true, if◌then◌else◌}
+use Rattle.std.proofs.Common.{◌≡◌, ◌⊎◌, inl, inr, ℕ, zero, suc, ◌+◌, ◌*◌, ◌<◌, ◌≤◌, Bool, true, false, ◌||◌, List, [], ◌∷◌, ◌++◌, map, filter, length, get_or, Some, refl, sym, ◌∙◌, ap, subst, arith, length-append, nat_eq, eqb-true, if◌then◌else◌}
 use Rattle.std.proofs.lemmas.Option.{slice_get_within}
 use Rattle.std.specs.Prelude.{slice_set, slice_get}
 use Rattle.std.specs.Global.{Vec}
@@ -13,7 +13,8 @@ use Rattle.loon_fanout.specs.declared.repeater.Tie.{Tie}
 use Rattle.loon_fanout.specs.declared.repeater.Repeater.{Repeater as Parts}
 use Rattle.loon_fanout.specs.declared.wiring.Wiring.{Wiring}
 use Rattle.loon_fanout.specs.Sinks.{is_sink_of, instance_sinks, all_sinks}
-use Rattle.loon_fanout.specs.Stages.{tied_class, ends_of, pin_marks, all_marks, marked_places, PutsGate, PutsRow, once, two, set_places, PutsBehind, PutsGroups, none, one, LimitsClass, few, many, LimitsAll, done, more, AreLoads}
+use Rattle.loon_fanout.specs.Stages.{tied_class, ends_of, pin_marks, all_marks, marked_places, PutsGate, PutsRow, once, two, set_places, PutsBehind, PutsGroups, none, one, LimitsClass, few, many, LimitsAll, done, more, AreNetLoads}
+use Rattle.loon_fanout.proofs.Loading.{got}
 use Rattle.loon_fanout.proofs.Rounds.{gates_in, below_or}
 
 -- ---- pins by gates
@@ -221,28 +222,29 @@ marked_few place (m ∷ marks) (c ∷ classes) k n = by m (marked_few (suc place
           one_more false later = omega arith
   by false later = let same : sum_from (many_at place (false ∷ marks) (c ∷ classes)) k n ≤ marked marks = later in omega (arith, same)
 
-total_sum : (f : ℕ → ℕ) (loads : List (Vec ℕ)) (k : ℕ) → ((i : ℕ) (x : Vec ℕ) → Stands loads i x → length x.items ≡ f (k + i)) → total loads ≡ sum_from f k (length loads)
-total_sum f [] k each = refl
-total_sum f (x ∷ loads) k each =
+total_most : (f : ℕ → ℕ) (loads : List (Vec ℕ)) (k : ℕ) → ((i : ℕ) (x : Vec ℕ) → Stands loads i x → length x.items ≤ f (k + i)) → total loads ≤ sum_from f k (length loads)
+total_most f [] k each = omega arith
+total_most f (x ∷ loads) k each =
     let here : k + 0 ≡ k = omega arith in
-    let a = each 0 x refl ∙ ap f here in
-    let b = total_sum f loads (suc k) (λ i y at. let next : k + suc i ≡ suc k + i = omega arith in each (suc i) y at ∙ ap f next) in
+    let a = subst (λ (j : ℕ). length x.items ≤ f j) here (each 0 x refl) in
+    let b = total_most f loads (suc k) (λ i y at. let next : k + suc i ≡ suc k + i = omega arith in subst (λ (j : ℕ). length y.items ≤ f j) next (each (suc i) y at)) in
     omega (arith, a, b)
 
 -- loads are no more than the marks
-pub loads_marked : (marks : List Bool) (classes : List ℕ) (count : ℕ) (loads : List (Vec ℕ)) → AreLoads marks classes count loads → total loads ≤ marked marks
-loads_marked marks classes count loads are =
-    let a = total_sum (many_at 0 marks classes) loads 0 (λ i x at.
+pub loads_marked : (marks : List Bool) (classes : List ℕ) (count high low : ℕ) (loads : List (Vec ℕ)) → AreNetLoads marks classes count high low loads → total loads ≤ marked marks
+loads_marked marks classes count high low loads are =
+    let a = total_most (many_at 0 marks classes) loads 0 (λ i x at.
     let inside = slice_get_within loads i x at in
     let all = are.many in
     let zero_i : i ≡ 0 + i = omega arith in
-    ap (λ (y : Vec ℕ). length y.items) (sym (got loads i x at)) ∙ ap length (are.each i x (omega (arith, inside, all))) ∙ ap (many_at 0 marks classes) zero_i) in
+    let is = ap (λ (y : Vec ℕ). length y.items) (sym (got loads i x at)) ∙ ap length (are.each i x (omega (arith, inside, all))) in
+    let most = by (nat_eq high i || nat_eq low i) (marked_places 0 marks classes i) in
+    subst (λ (j : ℕ). length x.items ≤ many_at 0 marks classes j) zero_i (omega (arith, is, most))) in
     let b = marked_few 0 marks classes 0 (length loads) in
     omega (arith, a, b) where
-      got : (xs : List (Vec ℕ)) (k : ℕ) (x : Vec ℕ) → slice_get xs k ≡ Some x → get_or xs k x ≡ x
-      got [] k x e = absurd cc
-      got (y ∷ xs) zero x e = cc
-      got (y ∷ xs) (suc k) x e = got xs k x e
+      by : (b : Bool) (xs : List ℕ) → length (if b then [] else xs) ≤ length xs
+      by true xs = omega arith
+      by false xs = omega arith
 
 -- ---- marks are as many as sinks
 
@@ -296,5 +298,6 @@ sinks_few l (i ∷ is) =
     omega (arith, a, b, m, n)
 
 -- all loads are no more than the sinks
-pub loads_few : (l : Library) (n : InMemory) (loads : List (Vec ℕ)) → AreLoads (all_marks l n) n.classes n.count loads → total loads ≤ length (all_sinks l n.instances)
-loads_few l n loads are = let a = loads_marked (all_marks l n) n.classes n.count loads are in let b = marked_all l n in omega (arith, a, b)
+pub loads_few : (l : Library) (n : InMemory) (high low : ℕ) (loads : List (Vec ℕ)) → AreNetLoads (all_marks l n) n.classes n.count high low loads
+    → total loads ≤ length (all_sinks l n.instances)
+loads_few l n high low loads are = let a = loads_marked (all_marks l n) n.classes n.count high low loads are in let b = marked_all l n in omega (arith, a, b)

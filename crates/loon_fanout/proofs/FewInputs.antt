@@ -4,6 +4,7 @@ use Rattle.std.specs.List.{flat_map, list_any}
 use Rattle.std.proofs.lemmas.Option.{same_Some}
 use Rattle.vlsi_base.specs.declared.name.Name.{Name}
 use Rattle.vlsi_base.specs.declared.name.Terminal.{Terminal}
+use Rattle.vlsi_base.specs.Names.{vdd, vss}
 use Rattle.vlsi_base.specs.Member.{In, here, there, AllDifferent}
 use Rattle.machine_meaning.specs.Machine.{Machine, is_input, names_of}
 use Rattle.machine_meaning.specs.Named.{is_same_name}
@@ -14,9 +15,9 @@ use Rattle.cell_model.specs.Library.{Library, cell_of, IsUsable, IsPlain}
 use Rattle.cell_model.proofs.Members.{In-left, In-right, In-map, In-map_back}
 use Rattle.cell_pins.specs.Pins.{all_ports}
 use Rattle.net_core.specs.Places.{IsThere}
-use Rattle.net_core.specs.Netlist.{Instance, Netlist as InMemory, IsNetlist}
+use Rattle.net_core.specs.Netlist.{Instance, Netlist as InMemory, IsNetlist, port, terminals}
 use Rattle.net_meaning.specs.Netlist.{Member, Netlist, pin_of, IsTerminal}
-use Rattle.net_meaning.specs.Well.{Has, a_clock_pin, IsSpecial, of_clock, IsFlipFlop, IsWell}
+use Rattle.net_meaning.specs.Well.{Has, a_clock_pin, IsSpecial, of_vdd, of_vss, of_clock, IsFlipFlop, IsWell}
 use Rattle.net_theory.proofs.Basics.{In-names}
 use Rattle.net_theory.proofs.Seats.{input_terminal}
 use Rattle.net_view.specs.View.{member_of, IsSeenAs}
@@ -26,10 +27,11 @@ use Rattle.net_view.proofs.Places.{pin_there}
 use Rattle.net_view.proofs.Ports.{names_to}
 use Rattle.net_view.proofs.Terminals.{seen_instances, IsCelled}
 use Rattle.net_view.proofs.Seen.{seen_class, seen_is_well_formed}
-use Rattle.loon_fanout.specs.Sinks.{is_clock_of, is_sink_of, instance_sinks, sinks, wired_of}
+use Rattle.loon_fanout.specs.Sinks.{is_clock_of, is_sink_of, instance_sinks, is_supply_class, sinks, wired_of}
 use Rattle.loon_fanout.specs.Limited.{HasFanout, IsOfCells}
 use Rattle.loon_fanout.specs.Nets.{IsInputPin, an_input_pin, HasFewInputs, RightHasFewInputs}
-use Rattle.loon_fanout.proofs.Splitting.{in_any, is_false}
+use Rattle.loon_fanout.proofs.Picking.{in_any, is_false}
+use Rattle.loon_fanout.proofs.Supplies.{apart_net, readers, net_sinks}
 use Rattle.loon_fanout.proofs.RightStay.{is_seen}
 
 -- ---- lists
@@ -109,11 +111,13 @@ made n l k of_cells seen i c has =
       pins = d.3 ∙ ap (λ (x : Cell). names_of (all_ports x)) same;
     }
 
--- an input pin that is no clock pin is a sink of its class
+-- an input pin of a net that is no clock pin is a sink of it
 pub made_sink : (n : InMemory) (l : Library) (k : Netlist) → IsNetlist n → (of_cells : IsOfCells n l) → IsSeenAs n k → (i : Member) (c : Cell) → IsMade n l i c
-    → (name : Name) → In name (cell_inputs c) → is_clock_of c.function name ≡ false → In (pin_of i.name name) (sinks l (wired_of n) (k.class (pin_of i.name name)))
-made_sink n l k is of_cells seen i c made name input no_clock =
-    subst (λ (x : Member). In (pin_of x.name name) (sinks l (wired_of n) (k.class (pin_of x.name name)))) made.member sunk where
+    → (name : Name) → In name (cell_inputs c) → is_clock_of c.function name ≡ false
+    → is_supply_class (wired_of n) (k.class (pin_of i.name name)) ≡ false → In (pin_of i.name name) (sinks l (wired_of n) (k.class (pin_of i.name name)))
+made_sink n l k is of_cells seen i c made name input no_clock net =
+    subst (λ (ts : List Terminal). In (pin_of i.name name) ts) (sym (net_sinks l (wired_of n) (k.class (pin_of i.name name)) net))
+    (subst (λ (x : Member). In (pin_of x.name name) (readers l (wired_of n) (k.class (pin_of x.name name)))) made.member sunk) where
       here_pin : In name made.owner.pins
       here_pin = subst (λ (ns : List Name). In name ns) (sym made.pins) (names_to (pin_ports c) name (inr (inr (In-names (λ p. is_input p.dir) (pin_ports c) name input))))
 
@@ -132,7 +136,7 @@ made_sink n l k is of_cells seen i c made name input no_clock =
           let t = pin_there n made.owner name (in_place made.owner n.instances made.listed) (in_place name made.owner.pins here_pin) in
           (is_seen n l is (celled_of n l of_cells)).classes.each (pin_of made.owner.name name) (k.class (pin_of made.owner.name name)) (seen_class n k is seen (pin_of made.owner.name name) t)
 
-      sunk : In (pin_of made.owner.name name) (sinks l (wired_of n) (k.class (pin_of made.owner.name name)))
+      sunk : In (pin_of made.owner.name name) (readers l (wired_of n) (k.class (pin_of made.owner.name name)))
       sunk =
           filter_in (λ t. nat_eq ((wired_of n).class t) (k.class (pin_of made.owner.name name))) (flat_map (instance_sinks l) n.instances) (pin_of made.owner.name name) among
           (eq-eqb ((wired_of n).class (pin_of made.owner.name name)) (k.class (pin_of made.owner.name name)) class)
@@ -161,11 +165,23 @@ module _ (n : InMemory) (l : Library) (m : Machine) (limit : ℕ) (k : Netlist) 
       let wrong : IsPlain c (other machine) = subst (λ (u : Function). IsPlain c u) function usable.function in absurd wrong
   no_clock i c name has usable terminal plain opaque function = refl
 
+  -- a port has one class here and there
+  port_class : (t : Terminal) → IsThere (terminals n) t → (wired_of n).class t ≡ k.class t
+  port_class t h = (is_seen n l is (celled_of n l of_cells)).classes.each t (k.class t) (seen_class n k is seen t h)
+
+  -- a class that isn't that of a supply is a net
+  on_net : (t : Terminal) → (IsSpecial k m t → ⊥) → is_supply_class (wired_of n) (k.class t) ≡ false
+  on_net t plain =
+      apart_net (wired_of n) (k.class t)
+      (λ e. plain (of_vdd (sym e ∙ port_class (port vdd) of_cells.on_vdd)))
+      (λ e. plain (of_vss (sym e ∙ port_class (port vss) of_cells.on_vss)))
+
   sink_in : (t : Terminal) → IsInputPin k l t → (IsSpecial k m t → ⊥) → In t (sinks l (wired_of n) (k.class t))
   sink_in t (an_input_pin {name = name} i c has input) plain =
       let d = made n l k of_cells seen i c has in
       made_sink n l k is of_cells seen i c d name input
       (no_clock i c name has d.usable (input_terminal k l i c name has d.usable input) plain c.function refl)
+      (on_net (pin_of i.name name) plain)
 
   few_inputs : HasFewInputs k l m limit
   few_inputs class pins differ each =

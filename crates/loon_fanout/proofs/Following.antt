@@ -21,13 +21,14 @@ use Rattle.net_core.proofs.Standing.{stands_right}
 use Rattle.net_theory.proofs.Basics.{length-map}
 use Rattle.loon_fanout.specs.declared.repeater.Tie.{Tie}
 use Rattle.loon_fanout.specs.declared.wiring.Wiring.{Wiring}
-use Rattle.loon_fanout.specs.Sinks.{Wired, sinks, is_same_owner}
+use Rattle.loon_fanout.specs.Sinks.{Wired, is_supply_class, sinks, is_same_owner}
 use Rattle.loon_fanout.specs.Wired.{pin_class, with_gate}
 use Rattle.loon_fanout.specs.Laws.{gate_named}
 use Rattle.loon_fanout.specs.Stages.{tie_of, next_class, ends_of, tied_class, read_place, PutsGate}
 use Rattle.loon_fanout.proofs.Picking.{filter_none, map_same, different_append, different_apart, different_map, only_one}
+use Rattle.loon_fanout.proofs.Supplies.{eq_not, apart_net, readers}
 use Rattle.loon_fanout.proofs.Gates.{IsGate}
-use Rattle.loon_fanout.proofs.Sinking.{all_terminals, all_sinks, names_in, sink_there, not_new, its_input, own_class, old_class, sinks_gate, eq_not}
+use Rattle.loon_fanout.proofs.Sinking.{all_terminals, all_sinks, names_in, sink_there, not_new, its_input, own_class, old_class, sinks_gate}
 
 -- The classes by places are those of the terminals, and the names that are left can be given to gates.
 pub record Follows (l : Library) (left : List (List ℕ)) (v : Wiring) (w : Wired) : Type 0 where
@@ -183,11 +184,19 @@ module _ (l : Library) (c : Cell) (input : Name) (g : IsGate l c input) (left : 
       (subst (λ (n : ℕ). Stands (all_terminals w ++ pins) n (pin_of name input)) (sym is)
       (stands_right (all_terminals w) pins r.0 (pin_of name input) (stands_map (pin_of name) (names_of (all_ports c)) r.0 input r.2)))
 
-  pub gate_sinks : (k : ℕ) → sinks l after k ≡ sinks l w k ++ its_input name input read k
-  gate_sinks k = sinks_gate l c input g w read name new k
+  pub gate_sinks : is_supply_class w read ≡ false → (k : ℕ) → sinks l after k ≡ sinks l w k ++ its_input name input read k
+  gate_sinks net k = sinks_gate l c input g w read name new net k
 
--- ---- no sinks behind the classes
+-- ---- behind the classes
 
 pub none_behind : (l : Library) (left : List (List ℕ)) (v : Wiring) (w : Wired) → Follows l left v w → (k : ℕ) → w.count ≤ k → sinks l w k ≡ []
-none_behind l left v w f k over = filter_none (λ t. nat_eq (w.class t) k) (all_sinks l w) (λ t i.
-    eq_not (w.class t) k (λ e. let b = f.below t (sink_there l w t i) in absurd (omega (arith, b, e, over))))
+none_behind l left v w f k over = by (is_supply_class w k) where
+  by : (b : Bool) → (if b then [] else readers l w k) ≡ []
+  by true = refl
+  by false = filter_none (λ t. nat_eq (w.class t) k) (all_sinks l w) (λ t i.
+      eq_not (w.class t) k (λ e. let b = f.below t (sink_there l w t i) in absurd (omega (arith, b, e, over))))
+
+-- a class that is new is a net
+pub behind_net : (l : Library) (left : List (List ℕ)) (v : Wiring) (w : Wired) → Follows l left v w → (k : ℕ) → w.count ≤ k → is_supply_class w k ≡ false
+behind_net l left v w f k over =
+    apart_net w k (λ e. let b = f.below (port vdd) f.on_vdd in absurd (omega (arith, b, e, over))) (λ e. let b = f.below (port vss) f.on_vss in absurd (omega (arith, b, e, over)))

@@ -1,10 +1,11 @@
 -- The netlist that is built of a wiring and of the gates that were put in.
-use Rattle.std.proofs.Common.{◌≡◌, ◌↔◌, ℕ, zero, suc, ◌+◌, ◌^◌, ◌<◌, ◌≤◌, Bool, true, false, not, ◌&&◌, List, [], ◌∷◌, ◌++◌, map, filter, length, Option, Some, codes, bytes_eq, refl, sym, ◌∙◌, ap, subst, arith, append-nil, length-append, nat_eq, eqb-true}
+use Rattle.std.proofs.Common.{◌≡◌, ◌↔◌, ℕ, zero, suc, ◌+◌, ◌^◌, ◌<◌, ◌≤◌, Bool, true, false, not, ◌&&◌, ◌||◌, List, [], ◌∷◌, ◌++◌, map, filter, length, Option, Some, codes, bytes_eq, refl, sym, ◌∙◌, ap, subst, arith, append-nil, length-append, nat_eq, eqb-true}
 use Rattle.std.specs.Prelude.{IfOk, Result, Ok, Err}
 use Rattle.std.specs.List.{All, flat_map}
 use Rattle.vlsi_base.specs.declared.name.Name.{Name}
 use Rattle.vlsi_base.specs.declared.name.Port.{Port}
 use Rattle.vlsi_base.specs.declared.name.Terminal.{Terminal}
+use Rattle.vlsi_base.specs.Names.{vdd, vss}
 use Rattle.vlsi_base.specs.Member.{In, here, there, AllDifferent}
 use Rattle.cell_model.specs.Library.{Library}
 use Rattle.cell_model.proofs.Members.{All-In, All-from, In-map, In-map_back}
@@ -14,7 +15,7 @@ use Rattle.net_core.specs.Frame.{instance_of}
 use Rattle.net_core.specs.Netlist.{Instance, Netlist as InMemory, IsNetlist, AreInOrder, port, pins_of, terminals_of, terminals, HasClass}
 use Rattle.net_core.specs.Places.{Stands, NoneTwice}
 use Rattle.net_core.proofs.Lookups.{itself}
-use Rattle.net_view.proofs.Lists.{map_twice}
+use Rattle.net_view.proofs.Lists.{map_twice, in_place}
 use Rattle.free_names.specs.Free.{is_free}
 use Rattle.free_names.specs.Laws.{TextsAreFree}
 use Rattle.net_theory.proofs.Basics.{length-map}
@@ -22,14 +23,15 @@ use Rattle.loon_fanout.specs.declared.build.Entry.{Entry}
 use Rattle.loon_fanout.specs.declared.build.Sketch.{Sketch}
 use Rattle.loon_fanout.specs.declared.repeater.Repeater.{Repeater as Parts}
 use Rattle.loon_fanout.specs.declared.wiring.Wiring.{Wiring}
-use Rattle.loon_fanout.specs.Sinks.{Wired, sinks, instance_sinks, class_among, wired_of}
+use Rattle.loon_fanout.specs.Sinks.{Wired, is_supply_class, sinks, instance_sinks, class_among, wired_of}
 use Rattle.loon_fanout.specs.Building.{instance_by, IsBuildable, IsBuilt}
 use Rattle.loon_fanout.specs.Gated.{gate_names, gates_by, gated, gated_terminals, IsGatable, IsGated}
 use Rattle.loon_fanout.specs.Limited.{IsNetlistOf, HasFanout}
 use Rattle.loon_fanout.specs.Stages.{next_class}
 use Rattle.loon_fanout.proofs.Terminals.{class_of_map, class_is}
-use Rattle.loon_fanout.proofs.Picking.{filter_same, different_append, different_of, twice_of, stands_in}
-use Rattle.loon_fanout.proofs.Sinking.{all_terminals, all_sinks, names_in, sink_there, eq_itself, eq_not}
+use Rattle.loon_fanout.proofs.Picking.{filter_same, different_append, different_of, twice_of}
+use Rattle.loon_fanout.proofs.Supplies.{eq_itself, eq_not, readers, net_sinks, is_net, sink_reads}
+use Rattle.loon_fanout.proofs.Sinking.{all_terminals, all_sinks, names_in, sink_there}
 use Rattle.loon_fanout.proofs.Following.{Follows}
 
 pub nodes_named : (models : List (List ℕ)) (nodes : List Node) → map (λ i. i.name) (map (instance_of models) nodes) ≡ map (λ i. i.name) nodes
@@ -143,11 +145,11 @@ module _ (l : Library) (n : InMemory) (r : Option Parts) (v : Wiring) (w : Wired
 -- ---- no net has more sinks
 
 module _ (l : Library) (limit : ℕ) (k : InMemory) (w : Wired) (of : IsNetlistOf k w) (sound : IsNetlist k) (once : NoneTwice (terminals k))
-    (few : (class : ℕ) → length (sinks l w class) ≤ limit) where
+    (few : (class : ℕ) → length (sinks l w class) ≤ limit) (on_vdd : In (port vdd) (terminals k)) (on_vss : In (port vss) (terminals k)) where
   -- the class of a terminal that is there
   class_at : (t : Terminal) → In t (terminals k) → HasClass k t ((wired_of k).class t)
   class_at t i =
-      let s = stands_in (terminals k) t i in
+      let s = in_place t (terminals k) i in
       let c = there_is (terminals k) k.classes sound.each s.0 t s.1 in
       (s.0, s.1, subst (λ (j : ℕ). Stands k.classes s.0 j) (sym (class_is (terminals k) k.classes t s.0 c.0 once s.1 c.1)) c.1) where
         there_is : (ts : List Terminal) (ks : List ℕ) → length ks ≡ length ts → (p : ℕ) (t : Terminal) → Stands ts p t → (c : ℕ) × Stands ks p c
@@ -166,18 +168,30 @@ module _ (l : Library) (limit : ℕ) (k : InMemory) (w : Wired) (of : IsNetlistO
     by false e = eq_not ((wired_of k).class u) ((wired_of k).class t) (λ h.
         let wrong : true ≡ false = sym (eq_itself (w.class t)) ∙ ap (λ (x : ℕ). nat_eq x (w.class t)) (sym (same.0 h)) ∙ e in cc wrong)
 
+  -- a terminal's class is a net where it is one there
+  net_at : (t : Terminal) → In t (terminals k) → is_supply_class (wired_of k) ((wired_of k).class t) ≡ is_supply_class w (w.class t)
+  net_at t i =
+      ap (λ (b : Bool). b || nat_eq ((wired_of k).class (port vss)) ((wired_of k).class t)) (agree t (port vdd) i on_vdd)
+      ∙ ap (λ (b : Bool). nat_eq (w.class (port vdd)) (w.class t) || b) (agree t (port vss) i on_vss)
+
   pub has_fanout : HasFanout l limit k
   has_fanout class = by (sinks l (wired_of k) class) refl where
     by : (ts : List Terminal) → sinks l (wired_of k) class ≡ ts → length (sinks l (wired_of k) class) ≤ limit
     by [] e = let n = ap length e in omega (arith, n)
     by (t ∷ ts) e =
-        let i = in_filter (λ (u : Terminal). nat_eq ((wired_of k).class u) class) (all_sinks l (wired_of k)) t (subst (λ (us : List Terminal). In t us) (sym e) here) in
+        let sunk : In t (sinks l (wired_of k) class) = subst (λ (us : List Terminal). In t us) (sym e) here in
+        let net = is_net l (wired_of k) class t sunk in
+        let i = in_filter (λ (u : Terminal). nat_eq ((wired_of k).class u) class) (all_sinks l (wired_of k)) t (sink_reads l (wired_of k) class t sunk) in
         let is : (wired_of k).class t ≡ class = eqb-true ((wired_of k).class t) class i.1 in
+        let i_in = sink_there l (wired_of k) t i.0 in
+        let net_w : is_supply_class w (w.class t) ≡ false = sym (net_at t i_in) ∙ ap (is_supply_class (wired_of k)) is ∙ net in
         let whole : sinks l (wired_of k) class ≡ sinks l w (w.class t) =
-        ap (sinks l (wired_of k)) (sym is)
+        net_sinks l (wired_of k) class net
+        ∙ ap (readers l (wired_of k)) (sym is)
         ∙ filter_same (λ u. nat_eq ((wired_of k).class u) ((wired_of k).class t)) (λ u. nat_eq (w.class u) (w.class t)) (all_sinks l (wired_of k))
-        (λ u j. agree t u (sink_there l (wired_of k) t i.0) (sink_there l (wired_of k) u j))
-        ∙ ap (λ (is : List Instance). filter (λ u. nat_eq (w.class u) (w.class t)) (flat_map (instance_sinks l) is)) of.instances in
+        (λ u j. agree t u i_in (sink_there l (wired_of k) u j))
+        ∙ ap (λ (is : List Instance). filter (λ u. nat_eq (w.class u) (w.class t)) (flat_map (instance_sinks l) is)) of.instances
+        ∙ sym (net_sinks l w (w.class t) net_w) in
         let n = ap length whole in let h = few (w.class t) in omega (arith, n, h)
 
 -- ---- names

@@ -6,11 +6,11 @@ use Rattle.std.specs.List.{list_any}
 use Rattle.vlsi_base.specs.declared.name.Name.{Name}
 use Rattle.vlsi_base.specs.declared.name.Terminal.{Terminal}
 use Rattle.vlsi_base.specs.Names.{vdd, vss}
-use Rattle.vlsi_base.specs.Member.{In, AllDifferent}
+use Rattle.vlsi_base.specs.Member.{In, here, AllDifferent}
 use Rattle.machine_meaning.specs.Machine.{names_of}
 use Rattle.cell_model.specs.Cell.{Cell}
 use Rattle.cell_model.specs.Library.{Library}
-use Rattle.cell_model.proofs.Members.{In-left}
+use Rattle.cell_model.proofs.Members.{In-left, In-right}
 use Rattle.cell_pins.specs.Pins.{all_ports}
 use Rattle.cell_pins.proofs.Ports.{in_filter}
 use Rattle.cell_pins.proofs.Sound.{member_at}
@@ -20,14 +20,15 @@ use Rattle.net_core.proofs.Standing.{stands_left}
 use Rattle.loon_fanout.specs.declared.repeater.Tie.{Tie}
 use Rattle.loon_fanout.specs.declared.repeater.Repeater.{Repeater as Parts}
 use Rattle.loon_fanout.specs.declared.wiring.Wiring.{Wiring}
-use Rattle.loon_fanout.specs.Sinks.{Wired, sinks, is_same_terminal}
+use Rattle.loon_fanout.specs.Sinks.{Wired, is_supply_class, sinks, is_same_terminal}
 use Rattle.loon_fanout.specs.Wired.{with_gate, with_row, with_moved, with_group}
 use Rattle.loon_fanout.specs.Stages.{tie_of, next_class, PutsGate, PutsRow, once, two, set_places, Moves, PutsBehind, IsPart}
 use Rattle.loon_fanout.proofs.Terminals.{terminal_same, terminal_itself}
 use Rattle.loon_fanout.proofs.Picking.{is_false, not_any, map_same, AtPlaces, at_more}
+use Rattle.loon_fanout.proofs.Supplies.{eq_itself, eq_not, is_net, sink_reads}
 use Rattle.loon_fanout.proofs.Gates.{IsGate}
-use Rattle.loon_fanout.proofs.Sinking.{all_terminals, all_sinks, Owned, sink_owned, its_input, Moved, sinks_moved, eq_itself, eq_not}
-use Rattle.loon_fanout.proofs.Following.{Follows, gate_follows, gate_grows, gate_place, gate_sinks, none_behind}
+use Rattle.loon_fanout.proofs.Sinking.{all_terminals, all_sinks, Owned, sink_owned, its_input, Moved, sinks_moved}
+use Rattle.loon_fanout.proofs.Following.{Follows, gate_follows, gate_grows, gate_place, gate_sinks, none_behind, behind_net}
 
 -- ---- the sinks that a gate adds
 
@@ -64,12 +65,13 @@ pub record RowDone (l : Library) (c : Cell) (gates : ℕ) (left : List (List ℕ
   pub old : (k : ℕ) → k ≢ class → k < w.count → sinks l (with_row c w class names) k ≡ sinks l w k
   pub new : (k : ℕ) → w.count ≤ k → length (sinks l (with_row c w class names) k) ≤ 1
   pub empty : sinks l (with_row c w class names) driven ≡ []
+  pub net : is_supply_class (with_row c w class names) driven ≡ false
   pub at : Stands (all_terminals (with_row c w class names)) place first
   pub more : List Terminal
   pub grown : all_terminals (with_row c w class names) ≡ all_terminals w ++ more
 
-module _ (l : Library) (c : Cell) (input : Name) (g : IsGate l c input) (v : Wiring) (w : Wired) (class : ℕ) (low : class < w.count) (ties : List Tie)
-    (are : ties ≡ map tie_of (all_ports c)) where
+module _ (l : Library) (c : Cell) (input : Name) (g : IsGate l c input) (v : Wiring) (w : Wired) (class : ℕ) (low : class < w.count)
+    (net : is_supply_class w class ≡ false) (ties : List Tie) (are : ties ≡ map tie_of (all_ports c)) where
   one_gate : (later : List (List ℕ)) (name : List ℕ) (u : Wiring) (place : ℕ) → Follows l (name ∷ later) v w → PutsGate ties v u class place
       → RowDone l c 1 (name ∷ later) u w class place (next_class v)
   one_gate later name u place f puts = record {
@@ -85,12 +87,13 @@ module _ (l : Library) (c : Cell) (input : Name) (g : IsGate l c input) (v : Wir
     old = λ k differ _. same_still (sinks l w k) (its_input name input class k) (sinks l (with_gate c w class name) k) (its_none name input class k (λ e. differ (sym e))) (step k);
     new = λ k over. let e = ap length (none k over) in omega (arith, e);
     empty = none (next_class v) (let a = f.count in omega (arith, a));
+    net = behind_net l (name ∷ later) v w f (next_class v) (let a = f.count in omega (arith, a));
     at = gate_place l c input g later name v u w class place ties f are puts low;
     more = map (pin_of name) (names_of (all_ports c));
     grown = gate_grows l c input g later name v u w class place ties f are puts low;
   } where
     step : (k : ℕ) → sinks l (with_gate c w class name) k ≡ sinks l w k ++ its_input name input class k
-    step k = gate_sinks l c input g later name v u w class place ties f are puts low k
+    step k = gate_sinks l c input g later name v u w class place ties f are puts low net k
 
     none : (k : ℕ) → w.count ≤ k → sinks l (with_gate c w class name) k ≡ []
     none k over =
@@ -121,6 +124,7 @@ module _ (l : Library) (c : Cell) (input : Name) (g : IsGate l c input) (v : Wir
     empty =
         nothing (sinks l (with_gate c w class name) (next_class m)) (its_input next input w.count (next_class m)) (sinks l (with_gate c (with_gate c w class name) w.count next) (next_class m)) (none (next_class m) (let a = f1.count in omega (arith, a)))
         (its_none next input w.count (next_class m) (λ e. let a = f1.count in omega (arith, a, e))) (second (next_class m));
+    net = behind_net l (name ∷ next ∷ later) v w f (next_class m) (let a = f1.count in omega (arith, a));
     at = subst (λ (ts : List Terminal). Stands ts place (pin_of name input)) (sym grown2)
         (stands_left (all_terminals (with_gate c w class name)) (map (pin_of next) (names_of (all_ports c))) place (pin_of name input) (gate_place l c input g (next ∷ later) name v m w class place ties f are puts low));
     more = map (pin_of name) (names_of (all_ports c)) ++ (map (pin_of next) (names_of (all_ports c)));
@@ -141,10 +145,12 @@ module _ (l : Library) (c : Cell) (input : Name) (g : IsGate l c input) (v : Wir
     grown2 = gate_grows l c input g later next m u (with_gate c w class name) w.count other ties f1 are puts2 low1
 
     step : (k : ℕ) → sinks l (with_gate c w class name) k ≡ sinks l w k ++ its_input name input class k
-    step k = gate_sinks l c input g (next ∷ later) name v m w class place ties f are puts low k
+    step k = gate_sinks l c input g (next ∷ later) name v m w class place ties f are puts low net k
 
     second : (k : ℕ) → sinks l (with_gate c (with_gate c w class name) w.count next) k ≡ sinks l (with_gate c w class name) k ++ its_input next input w.count k
-    second k = gate_sinks l c input g later next m u (with_gate c w class name) w.count other ties f1 are puts2 low1 k
+    second k =
+        gate_sinks l c input g later next m u (with_gate c w class name) w.count other ties f1 are puts2 low1
+        (behind_net l (name ∷ next ∷ later) v w f w.count (omega arith)) k
 
     none : (k : ℕ) → w.count ≤ k → sinks l (with_gate c w class name) k ≡ []
     none k over =
@@ -152,20 +158,20 @@ module _ (l : Library) (c : Cell) (input : Name) (g : IsGate l c input) (v : Wir
         (its_none name input class k (λ e. omega (arith, e, low, over))) (step k)
 
 pub row_done : (l : Library) (c : Cell) (input : Name) → IsGate l c input → (r : Parts) (gates : ℕ) → IsPart c gates r → (left : List (List ℕ)) (v u : Wiring) (w : Wired) (class place driven : ℕ)
-    → class < w.count → gates ≤ length left → Follows l left v w → PutsRow r v u class place driven → RowDone l c gates left u w class place driven
-row_done l c input g r gates part left v u w class place driven low enough f (once single puts) =
+    → class < w.count → is_supply_class w class ≡ false → gates ≤ length left → Follows l left v w → PutsRow r v u class place driven → RowDone l c gates left u w class place driven
+row_done l c input g r gates part left v u w class place driven low net enough f (once single puts) =
     let one : gates ≡ 1 = part.gates ∙ ap (λ (b : Bool). if b then 2 else 1) single in
     subst (λ (n : ℕ). RowDone l c n left u w class place (next_class v)) (sym one) (by left (omega (arith, enough, one)) f) where
       by : (names : List (List ℕ)) → 1 ≤ length names → Follows l names v w → RowDone l c 1 names u w class place (next_class v)
       by [] h f = absurd (omega (arith, h))
-      by (name ∷ later) h f = one_gate l c input g v w class low r.ties.items part.ties later name u place f puts
-row_done l c input g r gates part left v u w class place driven low enough f (two m other double puts again) =
+      by (name ∷ later) h f = one_gate l c input g v w class low net r.ties.items part.ties later name u place f puts
+row_done l c input g r gates part left v u w class place driven low net enough f (two m other double puts again) =
     let both : gates ≡ 2 = part.gates ∙ ap (λ (b : Bool). if b then 2 else 1) double in
     subst (λ (n : ℕ). RowDone l c n left u w class place (next_class m)) (sym both) (by left (omega (arith, enough, both)) f) where
       by : (names : List (List ℕ)) → 2 ≤ length names → Follows l names v w → RowDone l c 2 names u w class place (next_class m)
       by [] h f = absurd (omega (arith, h))
       by (name ∷ []) h f = absurd (omega (arith, h))
-      by (name ∷ next ∷ later) h f = two_gates l c input g v w class low r.ties.items part.ties later name next m u place other f puts again
+      by (name ∷ next ∷ later) h f = two_gates l c input g v w class low net r.ties.items part.ties later name next m u place other f puts again
 
 -- ---- terminals that are moved
 
@@ -237,13 +243,9 @@ module _ (l : Library) (c : Cell) (gates limit : ℕ) (left : List (List ℕ)) (
   apart : class ≢ driven
   apart e = let a = r.behind in omega (arith, a, e, low)
 
-  moved : Moved l row group (rest ++ r.first ∷ []) class driven
-  moved = sinks_moved l row group (rest ++ r.first ∷ []) class driven is_last apart
-      (r.longer ∙ ap (λ (ts : List Terminal). ts ++ r.first ∷ []) has ∙ append_assoc group rest (r.first ∷ [])) r.empty r.follows.sinks_differ
-
   owned : (t : Terminal) → In t group → Owned l w t
   owned t i = sink_owned l w t (in_filter (λ (u : Terminal). nat_eq (w.class u) class) (all_sinks l w) t
-      (subst (λ (ts : List Terminal). In t ts) (sym has) (In-left t group rest i))).0
+      (sink_reads l w class t (subst (λ (ts : List Terminal). In t ts) (sym has) (In-left t group rest i)))).0
 
   no_port : (name : Name) → list_any (is_same_terminal (port name)) group ≡ false
   no_port name = not_any (is_same_terminal (port name)) group (λ t i e.
@@ -253,6 +255,14 @@ module _ (l : Library) (c : Cell) (gates limit : ℕ) (left : List (List ℕ)) (
 
   class_of_port : (name : Name) → (with_moved group row).class (port name) ≡ row.class (port name)
   class_of_port name = ap (λ (b : Bool). if b then row.count - 1 else row.class (port name)) (no_port name)
+
+  row_net : is_supply_class row class ≡ false
+  row_net = is_net l row class r.first (subst (λ (ts : List Terminal). In r.first ts) (sym r.longer) (In-right r.first (sinks l w class) (r.first ∷ []) here))
+
+  moved : Moved l row group (rest ++ r.first ∷ []) class driven
+  moved = sinks_moved l row group (rest ++ r.first ∷ []) class driven is_last apart
+      (r.longer ∙ ap (λ (ts : List Terminal). ts ++ r.first ∷ []) has ∙ append_assoc group rest (r.first ∷ [])) r.empty r.follows.sinks_differ
+      (class_of_port vdd) (class_of_port vss) row_net r.net
 
   placed : AtPlaces (all_terminals row) places group
   placed = subst (λ (ts : List Terminal). AtPlaces ts places group) (sym r.grown) (at_more (all_terminals w) r.more places group at)
@@ -314,10 +324,10 @@ module _ (l : Library) (c : Cell) (gates limit : ℕ) (left : List (List ℕ)) (
   }
 
 pub group_done : (l : Library) (c : Cell) (input : Name) → IsGate l c input → (r : Parts) (gates : ℕ) → IsPart c gates r → (limit : ℕ) (left : List (List ℕ)) (v next : Wiring) (w : Wired)
-    (class place : ℕ) (places : List ℕ) (group rest : List Terminal) → class < w.count → gates ≤ length left → length group ≤ limit → 0 < limit → Follows l left v w
+    (class place : ℕ) (places : List ℕ) (group rest : List Terminal) → class < w.count → is_supply_class w class ≡ false → gates ≤ length left → length group ≤ limit → 0 < limit → Follows l left v w
     → AtPlaces (all_terminals w) places group → sinks l w class ≡ group ++ rest → PutsBehind r v next class places place
     → GroupDone l c gates limit left next w class place group rest
-group_done l c input g r gates part limit left v next w class place places group rest low enough small some f at has behind =
+group_done l c input g r gates part limit left v next w class place places group rest low net enough small some f at has behind =
     moved_group l c gates limit left behind.middle next w class place behind.driven group rest places
-    (row_done l c input g r gates part left v behind.middle w class place behind.driven low enough f behind.row)
+    (row_done l c input g r gates part left v behind.middle w class place behind.driven low net enough f behind.row)
     behind.moved at has low small some

@@ -22,7 +22,7 @@ use Rattle.net_core.proofs.Namings.{turn_below}
 use Rattle.net_core.proofs.Rings.{class_below}
 use Rattle.net_meaning.specs.Netlist.{Member, Netlist, pin_of, a_pin}
 use Rattle.net_meaning.specs.Well.{Has, buffer_instance}
-use Rattle.net_meaning.specs.Buffers.{AreOne, alike, tied, turned, through}
+use Rattle.net_meaning.specs.Buffers.{AreOne}
 use Rattle.net_theory.proofs.Basics.{In-names}
 use Rattle.net_view.specs.View.{member_of, IsSeenAs}
 use Rattle.net_view.proofs.Lists.{in_place}
@@ -34,10 +34,9 @@ use Rattle.loon_fanout.specs.Limited.{IsBuffered, IsOfCells}
 use Rattle.loon_fanout.specs.Laws.{as_netlist, gate_named}
 use Rattle.loon_fanout.specs.Nets.{BufferedJoinsNothing}
 use Rattle.loon_fanout.proofs.Terminals.{class_is}
-use Rattle.loon_fanout.proofs.Picking.{stands_in}
 use Rattle.loon_fanout.proofs.Sinking.{not_new}
-use Rattle.loon_fanout.proofs.OneClass.{AreGood}
-use Rattle.loon_fanout.proofs.Needed.{good_instances}
+use Rattle.loon_fanout.proofs.OneClass.{AreGood, good_instances}
+use Rattle.loon_fanout.proofs.Merged.{merged}
 use Rattle.loon_fanout.proofs.Origins.{HasOrigins, limited_origins}
 use Rattle.loon_fanout.proofs.RightStay.{WasLimited, unchanged, by_gates, how, celled_r, all_instances, ports_same, new_names}
 
@@ -99,7 +98,7 @@ module _ (tracks : Bool) (n : InMemory) (l : Library) (limit : ℕ) (r : InMemor
       let ports = ports_same tracks n l limit r passed is_n is_r of_cells buffered in
       let instances = all_instances tracks n l limit r passed is_n is_r of_cells buffered in
       let still = terminals_still n.ports n.instances (map (gate_named buffered.repeater.cell) buffered.names) t (in_from_place (terminals n) h.0 t h.1) in
-      stands_in (terminals r) t
+      in_place t (terminals r)
       (subst (λ (ps : List Port). In t (terminals_of ps r.instances)) (sym ports)
       (subst (λ (is : List Instance). In t (terminals_of n.ports is)) (sym instances) still))
 
@@ -128,73 +127,30 @@ module _ (tracks : Bool) (n : InMemory) (l : Library) (limit : ℕ) (r : InMemor
         let connected : PinsAreConnectors c = subst (λ (x : Cell). PinsAreConnectors x) (same_Some q.cell c (sym q.found ∙ found)) q.connected in
         terminal_there r l k seen celled (pin_of i.name pin) (a_pin i c has.listed has.found ((connected pin).1 (inr (inr h))))
 
-    -- terminals of two classes, of one origin
-    record Met (a d : ℕ) : Type 0 where
-      first : Terminal
-      second : Terminal
-      first_in : IsThere (terminals r) first
-      second_in : IsThere (terminals r) second
-      first_class : k.class first ≡ a
-      second_class : k.class second ≡ d
-      one : origin_of first ≡ origin_of second
-
-    joined : (a mid d : ℕ) → Met a mid → Met mid d → Met a d
-    joined a mid d x y = record {
-      first = x.first;
-      second = y.second;
-      first_in = x.first_in;
-      second_in = y.second_in;
-      first_class = x.first_class;
-      second_class = y.second_class;
-      one = x.one ∙ same_origin x.second y.first x.second_in y.first_in (x.second_class ∙ sym y.first_class) ∙ y.one;
-    }
-
-    met : (a d : ℕ) → AreOne k l a d → (a ≡ d) ⊎ Met a d
-    met a d alike = inl refl
-    met a d (tied i c j x y has named x_in y_in) = inr (record {
-      first = pin_of i.name x;
-      second = pin_of i.name y;
-      first_in = pin_there i c has x (In-names _ (pin_ports c) x x_in);
-      second_in = pin_there i c has y (In-names _ (pin_ports c) y y_in);
-      first_class = refl;
-      second_class = refl;
-      one = origins.ties i c j x y (has_w i c has) named x_in y_in;
-    })
-    met a d (turned h) = elim (met d a h) [
-      | inl e ↦ inl (sym e)
-      | inr x ↦ inr (record {
-        first = x.second;
-        second = x.first;
-        first_in = x.second_in;
-        second_in = x.first_in;
-        first_class = x.second_class;
-        second_class = x.first_class;
-        one = sym x.one;
-      })
-    ]
-    met a d (through {b = mid} h g) = by (met a mid h) (met mid d g) where
-      by : (a ≡ mid) ⊎ Met a mid → (mid ≡ d) ⊎ Met mid d → (a ≡ d) ⊎ Met a d
-      by (inl x) (inl y) = inl (x ∙ y)
-      by (inl x) (inr y) = inr (subst (λ (z : ℕ). Met z d) (sym x) y)
-      by (inr x) (inl y) = inr (subst (λ (z : ℕ). Met a z) y x)
-      by (inr x) (inr y) = inr (joined a mid d x y)
-
     one_origin : (t u : Terminal) → IsThere (terminals r) t → IsThere (terminals r) u → AreOne k l (k.class t) (k.class u) → origin_of t ≡ origin_of u
-    one_origin t u t_in u_in h = elim (met (k.class t) (k.class u) h) [
-      | inl e ↦ same_origin t u t_in u_in e
-      | inr x ↦ same_origin t x.first t_in x.first_in (sym x.first_class) ∙ x.one ∙ same_origin x.second u x.second_in u_in x.second_class
-    ]
+    one_origin = merged k l (IsThere (terminals r)) (λ t u. origin_of t ≡ origin_of u) (record {
+      in_class = same_origin;
+      back = λ t u e. sym e;
+      chain = λ t u v e d. e ∙ d;
+      pins = pin_there;
+      over = λ i c j x y has named x_in y_in. origins.ties i c j x y (has_w i c has) named x_in y_in;
+    })
 
-    -- a given terminal's class is the origin of its class
-    seen_origin : (y : Netlist) → IsSeenAs n y → (t : Terminal) → IsThere (terminals n) t → y.class t ≡ origin_of t
-    seen_origin y seen_n t h =
-        let c = seen_class n y is_n seen_n t h in
-        sym (class_is (terminals n) n.classes t c.0 (y.class t) (netlist_terminals_once n is_n) c.1 c.2) ∙ sym (origins.each t (in_from_place (terminals n) h.0 t h.1))
+    -- given terminals of classes that are made one were in one class
+    pub given_one : (t u : Terminal) → IsThere (terminals n) t → IsThere (terminals n) u → AreOne k l (k.class t) (k.class u) → given.class t ≡ given.class u
+    given_one t u t_in u_in h =
+        sym (origins.each t (in_from_place (terminals n) t_in.0 t t_in.1))
+        ∙ one_origin t u (there_r t t_in) (there_r u u_in) h
+        ∙ origins.each u (in_from_place (terminals n) u_in.0 u u_in.1)
+
+-- the class of a terminal in memory, and as it is seen
+seen_given : (n : InMemory) (y : Netlist) → IsNetlist n → IsSeenAs n y → (t : Terminal) → IsThere (terminals n) t → y.class t ≡ (wired_of n).class t
+seen_given n y is_n seen t h =
+    let c = seen_class n y is_n seen t h in
+    sym (class_is (terminals n) n.classes t c.0 (y.class t) (netlist_terminals_once n is_n) c.1 c.2)
 
 pub buffered_joins_nothing : BufferedJoinsNothing
 buffered_joins_nothing tracks n l limit r y k passed is_n is_r of_cells no_b buffered seen_n seen_r t u t_in u_in h =
-    let origin = seen_origin tracks n l limit r passed is_n is_r of_cells no_b buffered k seen_r y seen_n in
-    origin t t_in
-    ∙ one_origin tracks n l limit r passed is_n is_r of_cells no_b buffered k seen_r t u (there_r tracks n l limit r passed is_n is_r of_cells no_b buffered t t_in)
-    (there_r tracks n l limit r passed is_n is_r of_cells no_b buffered u u_in) h
-    ∙ sym (origin u u_in)
+    seen_given n y is_n seen_n t t_in
+    ∙ given_one tracks n l limit r passed is_n is_r of_cells no_b buffered k seen_r t u t_in u_in h
+    ∙ sym (seen_given n y is_n seen_n u u_in)

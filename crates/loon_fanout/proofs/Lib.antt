@@ -16,11 +16,13 @@ pub mod RightStay
 pub mod RightPins
 pub mod FewInputs
 pub mod OneClass
-pub mod Needed
+pub mod Merged
 pub mod Origins
 pub mod JoinsNothing
+pub mod Needed
 pub mod Remaining
 pub mod Picking
+pub mod Supplies
 pub mod Gates
 pub mod Sinking
 pub mod Following

@@ -1,12 +1,12 @@
 -- Places by their classes.
-use Rattle.std.proofs.Common.{◌≡◌, ℕ, zero, suc, Some, ◌+◌, ◌<◌, ◌≤◌, Bool, true, false, ◌&&◌, List, [], ◌∷◌, ◌++◌, length, drop, get_or, nat_eq, refl, sym, ◌∙◌, ap, subst, add-one, drop-cons, append_assoc, append-nil, arith, if◌then◌else◌}
+use Rattle.std.proofs.Common.{◌≡◌, ℕ, zero, suc, Some, ◌+◌, ◌<◌, ◌≤◌, Bool, true, false, ◌&&◌, ◌||◌, List, [], ◌∷◌, ◌++◌, length, drop, get_or, nat_eq, refl, sym, ◌∙◌, ap, subst, add-one, drop-cons, append_assoc, append-nil, arith, if◌then◌else◌}
 use Rattle.std.proofs.Math.ListN.{drop_of_length-le}
 use Rattle.std.proofs.lemmas.List.Elements.{All-cons}
 use Rattle.std.specs.List.{All}
 use Rattle.std.specs.Prelude.{slice_get}
 use Rattle.std.proofs.lemmas.Option.{slice_get_within}
 use Rattle.std.specs.Global.{Vec}
-use Rattle.loon_fanout.specs.Stages.{marked_places, AddsLoad, AreLoads, HasLongLoad}
+use Rattle.loon_fanout.specs.Stages.{marked_places, AddsLoad, AreLoads, EmptiesLoad, AreNetLoads, HasLongLoad}
 
 pub record SoFar (marks : List Bool) (classes : List ℕ) (count place : ℕ) (loads : List (Vec ℕ)) : Type 0 where
   pub many : length loads ≡ count
@@ -73,16 +73,36 @@ marked_below place (m ∷ marks) (c ∷ classes) class = by (m && nat_eq c class
   by true h = All-cons (λ k. k < place + length (c ∷ classes)) place (marked_places (suc place) marks classes class) (omega arith) h
   by false h = h
 
-pub loads_below : (marks : List Bool) (classes : List ℕ) (count n : ℕ) (loads : List (Vec ℕ)) → AreLoads marks classes count loads → length classes ≡ n
+pub loads_below : (marks : List Bool) (classes : List ℕ) (count high down n : ℕ) (loads : List (Vec ℕ)) → AreNetLoads marks classes count high down loads → length classes ≡ n
     → All (λ sinks. All (λ place. place < n) sinks.items) loads
-loads_below marks classes count n loads are many k d low =
+loads_below marks classes count high down n loads are many k d low =
     let all = are.many in
-    let one = marked_below 0 marks classes k in
-    subst (λ (xs : List ℕ). All (λ place. place < n) xs) (sym (are.each k d (omega (arith, low, all))))
-    (λ j e below. let r = one j e below in omega (arith, r, many))
+    subst (λ (xs : List ℕ). All (λ place. place < n) xs) (sym (are.each k d (omega (arith, low, all)))) (by (nat_eq high k || nat_eq down k)) where
+      by : (b : Bool) → All (λ place. place < n) (if b then [] else marked_places 0 marks classes k)
+      by true = λ j e below. absurd (omega (arith, below))
+      by false = λ j e below. let r = marked_below 0 marks classes k j e below in omega (arith, r, many)
+
+-- without the loads of the supplies' classes
+pub net_loads : (marks : List Bool) (classes : List ℕ) (count high down : ℕ) (all some loads : List (Vec ℕ)) → AreLoads marks classes count all → EmptiesLoad all some high
+    → EmptiesLoad some loads down → AreNetLoads marks classes count high down loads
+net_loads marks classes count high down all some loads are first second = record {
+  many = second.many ∙ first.many ∙ are.many;
+  each = λ k d low.
+      let many = are.many in
+      let more = first.many in
+      second.each k d (omega (arith, low, many, more))
+      ∙ ap (λ (xs : List ℕ). if nat_eq down k then [] else xs) (first.each k d (omega (arith, low, many)))
+      ∙ ap (λ (xs : List ℕ). if nat_eq down k then [] else if nat_eq high k then [] else xs) (are.each k d low)
+      ∙ by (nat_eq high k) (nat_eq down k) (marked_places 0 marks classes k);
+} where
+  by : (a b : Bool) (xs : List ℕ) → (if b then [] else if a then [] else xs) ≡ (if a || b then [] else xs)
+  by true true xs = refl
+  by true false xs = refl
+  by false true xs = refl
+  by false false xs = refl
 
 -- no class has more sinks where a loop met none
-got : {A : Type 0} (xs : List A) (k : ℕ) (x : A) → slice_get xs k ≡ Some x → get_or xs k x ≡ x
+pub got : {A : Type 0} (xs : List A) (k : ℕ) (x : A) → slice_get xs k ≡ Some x → get_or xs k x ≡ x
 got [] k x e = absurd cc
 got (y ∷ xs) zero x e = cc
 got (y ∷ xs) (suc k) x e = got xs k x e

@@ -1,8 +1,9 @@
 -- A limited netlist that would do without its buffers has none.
-use Rattle.std.proofs.Common.{◌≡◌, ◌≢◌, ◌⊎◌, inl, inr, ℕ, suc, ◌<◌, Bool, true, false, List, [], ◌∷◌, ◌++◌, length, map, Some, refl, sym, ◌∙◌, ap, subst, arith}
+use Rattle.std.proofs.Common.{◌≡◌, ◌≢◌, ◌⊎◌, inl, inr, ℕ, suc, ◌<◌, Bool, true, false, List, [], ◌∷◌, ◌++◌, length, map, Some, refl, sym, ◌∙◌, ap, subst, arith, nat_eq}
 use Rattle.std.proofs.lemmas.Option.{same_Some}
 use Rattle.vlsi_base.specs.declared.name.Name.{Name}
 use Rattle.vlsi_base.specs.declared.name.Terminal.{Terminal}
+use Rattle.vlsi_base.specs.Names.{vdd, vss}
 use Rattle.vlsi_base.specs.Member.{In, AllDifferent}
 use Rattle.machine_meaning.specs.Machine.{names_of}
 use Rattle.machine_core.proofs.Names.{same_name-itself}
@@ -10,9 +11,10 @@ use Rattle.machine_meaning.specs.Named.{is_same_name}
 use Rattle.cell_model.specs.Cell.{Function, Cell, pin_ports}
 use Rattle.cell_model.specs.Library.{Library, cell_of, IsUsable}
 use Rattle.cell_model.proofs.Members.{In-split, In-left, In-map, In-map_back}
+use Rattle.cell_pins.proofs.Ports.{in_filter}
 use Rattle.cell_checks.specs.Checked.{IsChecked as HasPassed}
 use Rattle.net_core.specs.Places.{IsThere, NoneTwice}
-use Rattle.net_core.specs.Netlist.{Instance, Netlist as InMemory, IsNetlist, terminals}
+use Rattle.net_core.specs.Netlist.{Instance, Netlist as InMemory, IsNetlist, port, terminals}
 use Rattle.net_meaning.specs.Netlist.{Member, Netlist, pin_of, a_pin}
 use Rattle.net_meaning.specs.Well.{Has, IsClockPin, a_clock_pin, buffer_instance}
 use Rattle.net_theory.proofs.Basics.{In-names}
@@ -25,11 +27,15 @@ use Rattle.loon_fanout.specs.Repeaters.{Repeater}
 use Rattle.loon_fanout.specs.Limited.{IsLimited, within, round, IsNetlistOf, IsBuffered, IsOfCells}
 use Rattle.loon_fanout.specs.Laws.{as_netlist, gate_named}
 use Rattle.net_meaning.specs.Buffers.{AreOne, alike, tied, turned, through}
-use Rattle.loon_fanout.specs.Nets.{IsStaying, staying, FitsWithoutBuffers, HasNoBuffer, BuffersAreNeeded}
+use Rattle.loon_fanout.specs.Nets.{IsStaying, staying, IsNet, FitsWithoutBuffers, HasNoBuffer, BuffersAreNeeded}
+use Rattle.loon_fanout.proofs.Sinking.{all_sinks, sink_there}
 use Rattle.loon_fanout.proofs.Splitting.{sink_at}
 use Rattle.loon_fanout.proofs.RightMove.{IsSink}
 use Rattle.loon_fanout.proofs.RightRounds.{sink_of, some_of}
-use Rattle.loon_fanout.proofs.OneClass.{AreGood, one_instance, pin_names_differ, sinks_differ, RoundFollows, limited_follows}
+use Rattle.loon_fanout.proofs.OneClass.{AreGood, good_instances, one_instance, sinks_differ, RoundFollows, limited_follows}
+use Rattle.loon_fanout.proofs.Merged.{merged}
+use Rattle.loon_fanout.proofs.JoinsNothing.{given_one}
+use Rattle.loon_fanout.proofs.Supplies.{long_net, sink_reads, supply_apart}
 use Rattle.loon_fanout.proofs.RightStay.{repeats, celled_r, all_instances, new_names}
 
 -- ---- classes of a netlist in memory
@@ -49,86 +55,17 @@ module _ (l : Library) (r : InMemory) (is : IsNetlist r) (celled : (i : Instance
       let listed = subst (λ (all : List Member). In i all) (sym instances_same) has.listed in
       terminal_there r l k seen celled (pin_of i.name pin) (a_pin i c listed has.found ((usable.connectors pin).1 (inr (inr h))))
 
-  -- terminals of two classes that are one
-  record Met (a d : ℕ) : Type 0 where
-    first : Terminal
-    second : Terminal
-    first_in : IsThere (terminals r) first
-    second_in : IsThere (terminals r) second
-    first_class : w.class first ≡ a
-    second_class : w.class second ≡ d
-    one : AreOne k l (k.class first) (k.class second)
-
-  joined : (a mid d : ℕ) → Met a mid → Met mid d → Met a d
-  joined a mid d x y = record {
-    first = x.first;
-    second = y.second;
-    first_in = x.first_in;
-    second_in = y.second_in;
-    first_class = x.first_class;
-    second_class = y.second_class;
-    one = through x.one (subst (λ (z : ℕ). AreOne k l z (k.class y.second)) (same_class y.first x.second y.first_in x.second_in (y.first_class ∙ sym x.second_class)) y.one);
-  }
-
-  met : (a d : ℕ) → AreOne (as_netlist w) l a d → (a ≡ d) ⊎ Met a d
-  met a d alike = inl refl
-  met a d (tied i c j x y has named x_in y_in) = inr (record {
-    first = pin_of i.name x;
-    second = pin_of i.name y;
-    first_in = pin_in i c has x (In-names _ (pin_ports c) x x_in);
-    second_in = pin_in i c has y (In-names _ (pin_ports c) y y_in);
-    first_class = refl;
-    second_class = refl;
-    one = tied i c j x y (record { listed = subst (λ (all : List Member). In i all) (sym instances_same) has.listed; found = has.found }) named x_in y_in;
-  })
-  met a d (turned h) = elim (met d a h) [
-    | inl e ↦ inl (sym e)
-    | inr x ↦ inr (record {
-      first = x.second;
-      second = x.first;
-      first_in = x.second_in;
-      second_in = x.first_in;
-      first_class = x.second_class;
-      second_class = x.first_class;
-      one = turned x.one;
-    })
-  ]
-  met a d (through {b = mid} h g) = by (met a mid h) (met mid d g) where
-    by : (a ≡ mid) ⊎ Met a mid → (mid ≡ d) ⊎ Met mid d → (a ≡ d) ⊎ Met a d
-    by (inl x) (inl y) = inl (x ∙ y)
-    by (inl x) (inr y) = inr (subst (λ (z : ℕ). Met z d) (sym x) y)
-    by (inr x) (inl y) = inr (subst (λ (z : ℕ). Met a z) y x)
-    by (inr x) (inr y) = inr (joined a mid d x y)
-
   pub ones : (t u : Terminal) → IsThere (terminals r) t → IsThere (terminals r) u → AreOne (as_netlist w) l (w.class t) (w.class u) → AreOne k l (k.class t) (k.class u)
-  ones t u t_in u_in h = elim (met (w.class t) (w.class u) h) [
-    | inl e ↦ subst (λ (z : ℕ). AreOne k l (k.class t) z) (same_class t u t_in u_in e) alike
-    | inr x ↦
-        subst (λ (z : ℕ). AreOne k l z (k.class u)) (same_class x.first t x.first_in t_in x.first_class)
-        (subst (λ (z : ℕ). AreOne k l (k.class x.first) z) (same_class x.second u x.second_in u_in x.second_class) x.one)
-  ]
+  ones = merged (as_netlist w) l (IsThere (terminals r)) (λ t u. AreOne k l (k.class t) (k.class u)) (record {
+    in_class = λ t u t_in u_in e. subst (λ (z : ℕ). AreOne k l (k.class t) z) (same_class t u t_in u_in e) alike;
+    back = λ t u h. turned h;
+    chain = λ t u v h g. through h g;
+    pins = pin_in;
+    over = λ i c j x y has named x_in y_in.
+        tied i c j x y (record { listed = subst (λ (all : List Member). In i all) (sym instances_same) has.listed; found = has.found }) named x_in y_in;
+  })
 
 -- ---- the law
-
-pub all_different : (xs : List (List ℕ)) → NoneTwice xs → AllDifferent xs
-all_different [] once_only = tt
-all_different (x ∷ xs) once_only = (not_later, all_different xs later) where
-  not_later : In x xs → ⊥
-  not_later h =
-      let p = in_place x xs h in
-      let wrong : 0 ≡ suc p.0 = once_only 0 (suc p.0) x refl p.1 in
-      absurd (omega (arith, wrong))
-
-  later : NoneTwice xs
-  later a b z p q = let e : suc a ≡ suc b = once_only (suc a) (suc b) z p q in omega (arith, e)
-
--- the instances of the given netlist
-pub good_instances : (l : Library) (n : InMemory) → IsNetlist n → IsOfCells n l → AreGood l n.instances
-good_instances l n is_n of_cells = record {
-  names = all_different (map (λ i. i.name) n.instances) is_n.names;
-  usable = λ i d h found. let c = of_cells.found i (in_place i n.instances h) in subst (λ (x : Cell). IsUsable x) (same_Some c.0 d (sym c.1 ∙ found)) c.2;
-  pins = λ i h. let c = of_cells.found i (in_place i n.instances h) in subst (λ (ns : List Name). AllDifferent ns) (sym c.3) (pin_names_differ c.0 c.2);
-}
 
 -- nothing was put in, or a class had too many sinks
 was_crowded : (l : Library) (limit : ℕ) (b : Repeater) (names : List (List ℕ)) (n k : Wired) → IsLimited l limit b names n k → (names ≡ []) ⊎ ((class : ℕ) × (limit < length (sinks l n class)))
@@ -206,11 +143,25 @@ module _ (tracks : Bool) (n : InMemory) (l : Library) (limit : ℕ) (r : InMemor
     class_at : (t : Terminal) → In t (sinks l (wired_of n) class) → (wired_of n).class t ≡ class
     class_at t h = (sink_at l (wired_of n) class t h).class
 
+    there_n : (t : Terminal) → In t (sinks l (wired_of n) class) → IsThere (terminals n) t
+    there_n t h =
+        let i = in_filter (λ (u : Terminal). nat_eq ((wired_of n).class u) class) (all_sinks l (wired_of n)) t (sink_reads l (wired_of n) class t h) in
+        in_place t (terminals n) (sink_there l (wired_of n) t i.0)
+
+    supply_there : (supply : Name) → (supply ≡ vdd) ⊎ (supply ≡ vss) → IsThere (terminals n) (port supply)
+    supply_there supply (inl high) = subst (λ (s : Name). IsThere (terminals n) (port s)) (sym high) of_cells.on_vdd
+    supply_there supply (inr low) = subst (λ (s : Name). IsThere (terminals n) (port s)) (sym low) of_cells.on_vss
+
+    -- the class isn't made one with that of a supply
+    is_net : (t : Terminal) → In t (sinks l (wired_of n) class) → IsNet k l (k.class t)
+    is_net t h supply which one = supply_apart (wired_of n) class (long_net l (wired_of n) class limit large) supply which
+        (sym (given_one tracks n l limit r passed is_n is_r of_cells no_b buffered k seen t (port supply) (there_n t h) (supply_there supply which) one) ∙ class_at t h)
+
     too_many : ⊥
     too_many =
         let ts = sinks l (wired_of n) class in
         let a = some_of limit ts large in
-        let few = fits (k.class a.0) ts (sinks_differ l (wired_of n) good_n.names good_n.pins class) (λ t h. (
+        let few = fits (k.class a.0) ts (is_net a.0 a.1) (sinks_differ l (wired_of n) good_n.names good_n.pins class) (λ t h. (
           stays t (sunk t h),
           ones l r is_r celled w buffered.is limited.good k seen a.0 t (there_r a.0 (sunk a.0 a.1)) (there_r t (sunk t h))
               (through (turned (limited.follows.moves a.0 (sunk a.0 a.1)))

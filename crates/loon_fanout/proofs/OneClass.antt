@@ -14,58 +14,25 @@ use Rattle.cell_model.proofs.Texts.{text_differs}
 use Rattle.cell_pins.specs.Pins.{with_supply, all_ports}
 use Rattle.cell_pins.proofs.Ports.{in_filter, sorted_of, sorted_supply, sorted_different}
 use Rattle.vlsi_base.specs.Names.{vdd, vss}
-use Rattle.net_core.specs.Netlist.{Instance}
+use Rattle.net_core.specs.Netlist.{Instance, Netlist as InMemory, IsNetlist}
 use Rattle.net_meaning.specs.Netlist.{Member, pin_of}
 use Rattle.net_meaning.specs.Well.{Has, buffer_instance}
 use Rattle.net_view.specs.View.{member_of}
-use Rattle.loon_fanout.specs.Sinks.{Wired, is_sink_of, instance_sinks, sinks, is_same_terminal}
+use Rattle.net_view.proofs.Lists.{in_place}
+use Rattle.loon_fanout.specs.Sinks.{Wired, is_sink_of, instance_sinks, is_supply_class, sinks, is_same_terminal}
 use Rattle.loon_fanout.specs.Wired.{pin_class, with_gate, with_moved, with_group}
 use Rattle.loon_fanout.specs.Repeaters.{Repeater}
-use Rattle.loon_fanout.specs.Limited.{AreGroups, last, next, Row, with_round, IsLimited, within, round}
+use Rattle.loon_fanout.specs.Limited.{AreGroups, last, next, Row, with_round, IsLimited, within, round, IsOfCells}
 use Rattle.loon_fanout.specs.Laws.{as_netlist, gate_named}
 use Rattle.net_meaning.specs.Buffers.{AreOne, alike, tied, turned, through}
+use Rattle.loon_fanout.proofs.Picking.{any_in, different_apart, different_append, different_filter, different_map, different_of, different_right, flat_in, is_false}
 use Rattle.loon_fanout.proofs.Terminals.{terminal_same}
-use Rattle.loon_fanout.proofs.Splitting.{flat_in, any_in, is_false, in_or_out, sink_at}
+use Rattle.loon_fanout.proofs.Supplies.{readers}
+use Rattle.loon_fanout.proofs.Splitting.{in_or_out, sink_at}
 use Rattle.loon_fanout.proofs.RightStates.{IsGateCell}
 use Rattle.loon_fanout.proofs.RightPins.{own_class, input, output, in_inputs, in_outputs, input_class, output_class}
 use Rattle.loon_fanout.proofs.RightMove.{IsSink}
 use Rattle.loon_fanout.proofs.RightRounds.{AreNew, Repeats, once, twice, in_groups, sink_of}
-
--- ---- lists whose members differ
-
-differ_append : {A : Type 0} (xs ys : List A) → AllDifferent xs → AllDifferent ys → ((x : A) → In x xs → In x ys → ⊥) → AllDifferent (xs ++ ys)
-differ_append [] ys d e apart = e
-differ_append (x ∷ xs) ys d e apart = (
-  λ h. elim (In-split x xs ys h) [ inl front ↦ d.0 front | inr later ↦ apart x here later ],
-  differ_append xs ys d.1 e (λ y h g. apart y (there h) g),
-)
-
-pub apart_append : {A : Type 0} (xs ys : List A) → AllDifferent (xs ++ ys) → (x : A) → In x xs → In x ys → ⊥
-apart_append [] ys d x h g = elim h [ ]
-apart_append (y ∷ xs) ys d x here g = d.0 (In-right x xs ys g)
-apart_append (y ∷ xs) ys d x (there h) g = apart_append xs ys d.1 x h g
-
-pub differ_later : {A : Type 0} (xs ys : List A) → AllDifferent (xs ++ ys) → AllDifferent ys
-differ_later [] ys d = d
-differ_later (x ∷ xs) ys d = differ_later xs ys d.1
-
-pub differ_front : {A : Type 0} (xs ys : List A) → AllDifferent (xs ++ ys) → AllDifferent xs
-differ_front [] ys d = tt
-differ_front (x ∷ xs) ys d = (λ h. d.0 (In-left x xs ys h), differ_front xs ys d.1)
-
-differ_filter : {A : Type 0} (test : A → Bool) (xs : List A) → AllDifferent xs → AllDifferent (filter test xs)
-differ_filter test [] d = tt
-differ_filter test (x ∷ xs) d = by (differ_filter test xs d.1) (test x) where
-  by : AllDifferent (filter test xs) → (b : Bool) → AllDifferent (if b then x ∷ filter test xs else filter test xs)
-  by later true = (λ h. d.0 (in_filter test xs x h).0, later)
-  by later false = later
-
-differ_map : {A B : Type 0} (f : A → B) (xs : List A) → ((x y : A) → f x ≡ f y → x ≡ y) → AllDifferent xs → AllDifferent (map f xs)
-differ_map f [] one d = tt
-differ_map {A} f (x ∷ xs) one d = (
-  λ h. let r = In-map_back f (f x) xs h in d.0 (subst (λ (y : A). In y xs) (one r.0 x r.2) r.1),
-  differ_map f xs one d.1,
-)
 
 -- ---- the sinks of a class differ
 
@@ -75,8 +42,8 @@ owned l i t h = let r = In-map_back (pin_of i.name) t (filter (is_sink_of (cell_
 all_differ : (l : Library) (is : List Instance) → AllDifferent (map (λ i. i.name) is) → ((i : Instance) → In i is → AllDifferent i.pins) → AllDifferent (flat_map (instance_sinks l) is)
 all_differ l [] names pins = tt
 all_differ l (i ∷ is) names pins =
-    differ_append (instance_sinks l i) (flat_map (instance_sinks l) is)
-    (differ_map (pin_of i.name) (filter (is_sink_of (cell_of l i.model)) i.pins) (λ x y e. ap (λ (t : Terminal). t.pin) e) (differ_filter (is_sink_of (cell_of l i.model)) i.pins (pins i here)))
+    different_append (instance_sinks l i) (flat_map (instance_sinks l) is)
+    (different_map (pin_of i.name) (filter (is_sink_of (cell_of l i.model)) i.pins) (λ x y e. ap (λ (t : Terminal). t.pin) e) (different_filter (is_sink_of (cell_of l i.model)) i.pins (pins i here)))
     (all_differ l is names.1 (λ x h. pins x (there h)))
     (λ t h g.
     let r = flat_in (instance_sinks l) t is g in
@@ -85,7 +52,10 @@ all_differ l (i ∷ is) names pins =
     names.0 (subst (λ (n : List ℕ). In n (map (λ i. i.name) is)) (sym same) (In-map (λ (x : Instance). x.name) r.0 is r.1)))
 
 pub sinks_differ : (l : Library) (w : Wired) → AllDifferent (map (λ i. i.name) w.instances) → ((i : Instance) → In i w.instances → AllDifferent i.pins) → (k : ℕ) → AllDifferent (sinks l w k)
-sinks_differ l w names pins k = differ_filter (λ t. nat_eq (w.class t) k) (flat_map (instance_sinks l) w.instances) (all_differ l w.instances names pins)
+sinks_differ l w names pins k = by (is_supply_class w k) where
+  by : (b : Bool) → AllDifferent (if b then [] else readers l w k)
+  by true = tt
+  by false = different_filter (λ t. nat_eq (w.class t) k) (flat_map (instance_sinks l) w.instances) (all_differ l w.instances names pins)
 
 -- ---- instances
 
@@ -112,7 +82,7 @@ In-one x y (there h) = elim h [ ]
 pub still_good : (l : Library) (is : List Instance) (c : Cell) → IsGateCell l c → (name : List ℕ) → ((i : Instance) → In i is → i.name ≢ name) → AreGood l is → AreGood l (is ++ gate_named c name ∷ [])
 still_good l is c b name new_name good = record {
   names = subst (λ (ns : List (List ℕ)). AllDifferent ns) (sym (map-append (λ (i : Instance). i.name) is (gate_named c name ∷ [])))
-      (differ_append (map (λ i. i.name) is) (name ∷ []) good.names (λ h. elim h [ ], tt) (λ x h g.
+      (different_append (map (λ i. i.name) is) (name ∷ []) good.names (λ h. elim h [ ], tt) (λ x h g.
       let r = In-map_back (λ (i : Instance). i.name) x is h in new_name r.0 r.1 (r.2 ∙ In-one name x g)));
   usable = λ i d h found. elim (In-split i is (gate_named c name ∷ []) h) [
     | inl old ↦ good.usable i d old found
@@ -352,7 +322,7 @@ after_row l c gates rest row rows w u k r each differ x x_in = (
   (each x (there x_in)).0,
   λ t g.
       let s = (each x (there x_in)).1 t g in
-      (r.follows.kept t s.0, r.stays t s.0 (λ h. apart_append row.group (flat_map group_of rows) differ t h (in_rows x rows x_in t g)) ∙ s.1),
+      (r.follows.kept t s.0, r.stays t s.0 (λ h. different_apart row.group (flat_map group_of rows) differ t h (in_rows x rows x_in t g)) ∙ s.1),
 )
 
 pub round_follows : (l : Library) (c : Cell) (gates : ℕ) → Repeats l c gates → (rows : List Row) (w : Wired) (k : ℕ) → AreGood l w.instances
@@ -365,7 +335,7 @@ round_follows l c gates b (row ∷ rows) w k good each differ later new =
     let u = with_group c w k row.names row.group in
     let r = row_follows l c gates b w k row.group good first.1 row.names (flat_map (λ (x : Row). x.names) rows) later first.0 new in
     let after = after_row l c gates (flat_map (λ (x : Row). x.names) rows ++ later) row rows w u k r each differ in
-    let rest = round_follows l c gates b rows u k r.good after (differ_later row.group (flat_map group_of rows) differ) later r.names in
+    let rest = round_follows l c gates b rows u k r.good after (different_right row.group (flat_map group_of rows) differ) later r.names in
     record { follows = follow_on l w u (with_round c u k rows) r.follows rest.follows; names = rest.names; good = rest.good }
 
 abbrev pub whole : {A : Type 0} → List (List A) → List A
@@ -407,3 +377,12 @@ limited_follows l limit b repeats names w u (round {later = later} class rows la
     let r = round_follows l b.cell b.gates repeats rows w class good each (rows_differ l limit class w rows good groups) later new in
     let f = limited_follows l limit b repeats later (with_round b.cell w class rows) u rest r.good r.names in
     record { follows = follow_on l w (with_round b.cell w class rows) u r.follows f.follows; names = tt; good = f.good }
+
+-- ---- the instances of the given netlist
+
+pub good_instances : (l : Library) (n : InMemory) → IsNetlist n → IsOfCells n l → AreGood l n.instances
+good_instances l n is_n of_cells = record {
+  names = different_of (map (λ i. i.name) n.instances) is_n.names;
+  usable = λ i d h found. let c = of_cells.found i (in_place i n.instances h) in subst (λ (x : Cell). IsUsable x) (same_Some c.0 d (sym c.1 ∙ found)) c.2;
+  pins = λ i h. let c = of_cells.found i (in_place i n.instances h) in subst (λ (ns : List Name). AllDifferent ns) (sym c.3) (pin_names_differ c.0 c.2);
+}

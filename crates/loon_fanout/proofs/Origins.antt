@@ -14,7 +14,6 @@ use Rattle.cell_model.proofs.Texts.{text_differs}
 use Rattle.net_core.specs.Netlist.{Instance, port}
 use Rattle.net_meaning.specs.Netlist.{Member, pin_of}
 use Rattle.net_meaning.specs.Well.{Has, buffer_instance}
-use Rattle.net_meaning.specs.Buffers.{AreOne, alike, tied, turned, through}
 use Rattle.net_view.specs.View.{member_of}
 use Rattle.loon_fanout.specs.Sinks.{Wired, sinks, is_same_owner, is_same_terminal}
 use Rattle.loon_fanout.specs.Wired.{pin_class, with_gate, with_row, with_moved, with_group}
@@ -22,15 +21,16 @@ use Rattle.loon_fanout.specs.Repeaters.{Repeater}
 use Rattle.loon_fanout.specs.Limited.{Row, with_round, IsLimited, within, round}
 use Rattle.loon_fanout.specs.Laws.{as_netlist, gate_named}
 use Rattle.loon_fanout.proofs.Terminals.{terminal_same}
-use Rattle.loon_fanout.proofs.Picking.{any_in, only_one}
-use Rattle.loon_fanout.proofs.Sinking.{all_terminals, eq_itself, eq_not}
+use Rattle.loon_fanout.proofs.Picking.{any_in, only_one, different_right}
+use Rattle.loon_fanout.proofs.Supplies.{eq_itself, eq_not}
+use Rattle.loon_fanout.proofs.Sinking.{all_terminals}
 use Rattle.loon_fanout.proofs.Following.{pin_below}
 use Rattle.loon_fanout.proofs.Splitting.{sink_at}
 use Rattle.loon_fanout.proofs.RightStates.{IsGateCell}
 use Rattle.loon_fanout.proofs.RightPins.{own_class, input_is, output_is, input_class, output_class}
 use Rattle.loon_fanout.proofs.RightMove.{IsSink}
 use Rattle.loon_fanout.proofs.RightRounds.{AreNew, Repeats, once, twice, some_of}
-use Rattle.loon_fanout.proofs.OneClass.{AreGood, sink_class, gate_follows, row_follows, round_follows, after_row, group_of, differ_later, rows_sunk, rows_differ}
+use Rattle.loon_fanout.proofs.OneClass.{AreGood, sink_class, gate_follows, row_follows, round_follows, after_row, group_of, rows_sunk, rows_differ}
 
 -- The given terminals in a class are of its origin, and the two classes that an instance named b ties have one origin.
 pub record HasOrigins (l : Library) (n w : Wired) : Type 0 where
@@ -40,13 +40,6 @@ pub record HasOrigins (l : Library) (n w : Wired) : Type 0 where
   pub ties : (i : Member) (c : Cell) (j : ℕ) (input output : Name) → Has (as_netlist w) l i c → i.name ≡ buffer_instance j → In input (cell_inputs c) → In output (cell_outputs c)
       → origin (w.class (pin_of i.name input)) ≡ origin (w.class (pin_of i.name output))
   pub foreign : (t : Terminal) → In t (all_terminals n) → (name : List ℕ) → ((i : Instance) → In i w.instances → i.name ≢ name) → is_same_owner t.instance (Some name) ≡ false
-
--- classes that are made one have one origin
-pub one_origin : (l : Library) (n w : Wired) (h : HasOrigins l n w) (a d : ℕ) → AreOne (as_netlist w) l a d → h.origin a ≡ h.origin d
-one_origin l n w h a d alike = refl
-one_origin l n w h a d (tied i c j x y has named x_in y_in) = h.ties i c j x y has named x_in y_in
-one_origin l n w h a d (turned g) = sym (one_origin l n w h d a g)
-one_origin l n w h a d (through {b = mid} g k) = one_origin l n w h a mid g ∙ one_origin l n w h mid d k
 
 -- ---- a gate: the class that it drives is of the origin of the class that it reads
 
@@ -205,7 +198,7 @@ round_origins l n c gates b (row ∷ rows) w h k low good each differ later new 
     let after = after_row l c gates (others ++ later) row rows w u k r each differ in
     let new_row = subst (λ (ns : List (List ℕ)). AreNew c ns w.instances) (append_assoc row.names others later) new in
     round_origins l n c gates b rows u (row_origins l n c gates b w h k low row.group first.1 row.names (others ++ later) first.0 new_row) k (row_low c row.names w k k low) r.good after
-    (differ_later row.group (flat_map group_of rows) differ) later r.names
+    (different_right row.group (flat_map group_of rows) differ) later r.names
 
 pub limited_origins : (l : Library) (n : Wired) (limit : ℕ) (b : Repeater) → Repeats l b.cell b.gates → (names : List (List ℕ)) (w u : Wired) → IsLimited l limit b names w u
     → AreGood l w.instances → AreNew b.cell names w.instances → HasOrigins l n w → HasOrigins l n u

@@ -90,18 +90,6 @@ first_is x xs b s = let e : Some x ≡ Some b = s in cc e
 shift : {A : Type 0} (x : A) (xs : List A) (k : ℕ) (b : A) → Stands (x ∷ xs) (k + 1) b → Stands xs k b
 shift {A} x xs k b s = let e : k + 1 ≡ suc k = omega arith in subst (λ j. Stands (x ∷ xs) j b) e s
 
-stands_in : {A : Type 0} (xs : List A) (k : ℕ) (x : A) → Stands xs k x → In x xs
-stands_in [] k x s = absurd (cc s)
-stands_in {A} (y ∷ xs) zero x s = subst (λ (z : A). In z (y ∷ xs)) (first_is y xs x s) here
-stands_in (y ∷ xs) (suc k) x s = there (stands_in xs k x s)
-
-pub none_twice : {A : Type 0} (xs : List A) → AllDifferent xs → NoneTwice xs
-none_twice [] d i j x p q = absurd (cc p)
-none_twice (y ∷ xs) d zero zero x p q = refl
-none_twice {A} (y ∷ xs) d zero (suc j) x p q = absurd (d.0 (subst (λ (z : A). In z xs) (sym (first_is y xs x p)) (stands_in xs j x q)))
-none_twice {A} (y ∷ xs) d (suc i) zero x p q = absurd (d.0 (subst (λ (z : A). In z xs) (sym (first_is y xs x q)) (stands_in xs i x p)))
-none_twice (y ∷ xs) d (suc i) (suc j) x p q = ap suc (none_twice xs d.1 i j x p q)
-
 pub chain_next : {A : Type 0} (R : A → A → Type 0) (a : A) (xs : List A) (z : A) → Chain R a xs z → (k : ℕ) (x y : A) → Stands (a ∷ xs) k x → Stands (a ∷ xs) (k + 1) y → R x y
 chain_next R a [] z way k x y p q = absurd (let s = shift a [] k y q in cc s)
 chain_next {A} R a (b ∷ xs) z way zero x y p q =

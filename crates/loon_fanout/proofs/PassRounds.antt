@@ -25,15 +25,17 @@ use Rattle.loon_fanout.specs.Wired.{pin_class, with_gate, with_moved, with_group
 use Rattle.loon_fanout.specs.Repeaters.{Repeater}
 use Rattle.loon_fanout.specs.Limited.{Row, with_round, IsLimited, within, round}
 use Rattle.loon_fanout.specs.Laws.{gate_named}
+use Rattle.loon_fanout.proofs.Picking.{any_in, different_apart, different_right}
 use Rattle.loon_fanout.proofs.Terminals.{terminal_same}
-use Rattle.loon_fanout.proofs.Splitting.{any_in, sink_at}
+use Rattle.loon_fanout.proofs.Splitting.{sink_at}
 use Rattle.loon_fanout.proofs.RightStates.{IsGateCell}
 use Rattle.loon_fanout.proofs.RightPins.{own_class, input_class, output_class}
 use Rattle.loon_fanout.proofs.RightMove.{IsSink}
 use Rattle.loon_fanout.proofs.RightRounds.{AreNew, Repeats, once, twice, in_groups, some_of, sink_of}
-use Rattle.loon_fanout.proofs.OneClass.{AreGood, still_good, own_kept, row_follows, round_follows, apart_append, differ_later, groups_whole, whole_rows, group_of, sinks_differ}
+use Rattle.loon_fanout.proofs.OneClass.{AreGood, still_good, own_kept, row_follows, round_follows, groups_whole, whole_rows, group_of, sinks_differ}
 use Rattle.loon_fanout.proofs.PassLoops.{HasNoLoop, contracted}
-use Rattle.loon_fanout.proofs.PassTallies.{somewhere, input_pin, input_pins, IsGood, IsFine}
+use Rattle.net_view.proofs.Tallies.{input_pin}
+use Rattle.loon_fanout.proofs.PassTallies.{somewhere, input_pins, IsGood, IsFine}
 use Rattle.loon_fanout.proofs.PassPins.{pin_mark, pin_marked, sink_role, sink_pin, role_out, Arc, gate_arc}
 use Rattle.loon_fanout.proofs.PassSteps.{all_marks, tally_at, IsSane, gate_keeps, gate_fresh, gate_sane, move_keeps, move_sane}
 
@@ -333,11 +335,11 @@ round_passes l table clocks c gates b pins (row ∷ rows) w k p good each differ
       (each x (there x_in)).0,
       λ t g.
           let s = (each x (there x_in)).1 t g in
-          (r.follows.kept t s.0, r.stays t s.0 (λ h. apart_append row.group (flat_map group_of rows) differ t h (in_rows x rows x_in t g)) ∙ s.1),
+          (r.follows.kept t s.0, r.stays t s.0 (λ h. different_apart row.group (flat_map group_of rows) differ t h (in_rows x rows x_in t g)) ∙ s.1),
     ) in
     round_passes l table clocks c gates b pins rows u k
     (row_passes l table clocks c gates b pins w k p good row.group first.1 row.names (flat_map (λ (x : Row). x.names) rows) later first.0 new)
-    r.good after (differ_later row.group (flat_map group_of rows) differ) later r.names
+    r.good after (different_right row.group (flat_map group_of rows) differ) later r.names
 
 -- a class with an input pin has a driver and no clock pins
 pub read_is_fine : (clocks : ℕ) (t : Tally) → IsGood clocks t → 1 ≤ t.input_pins → IsFine t

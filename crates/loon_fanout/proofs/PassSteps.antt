@@ -22,13 +22,14 @@ use Rattle.net_core.specs.Checks.{pins_named}
 use Rattle.loon_fanout.specs.Sinks.{Wired, is_same_terminal}
 use Rattle.loon_fanout.specs.Wired.{pin_class, with_gate, with_moved}
 use Rattle.loon_fanout.specs.Laws.{gate_named}
+use Rattle.loon_fanout.proofs.Picking.{any_in}
 use Rattle.loon_fanout.proofs.Terminals.{terminal_same}
-use Rattle.loon_fanout.proofs.Splitting.{any_in}
 use Rattle.loon_fanout.proofs.RightStates.{IsGateCell}
 use Rattle.loon_fanout.proofs.RightPins.{own_class, input, output, input_class, output_class}
 use Rattle.loon_fanout.proofs.RightMove.{IsSink}
 use Rattle.loon_fanout.proofs.OneClass.{AreGood}
-use Rattle.loon_fanout.proofs.PassTallies.{Mark, Counts, tally_in, joined, nowhere, somewhere, found, unmoved, only, input_port, output_port, input_pin, clock_pin, output_pin, input_ports, output_ports, input_pins, clock_pins, output_pins, output_pin_least, IsGood, IsFine}
+use Rattle.net_view.proofs.Tallies.{input_port, output_port, input_pin, clock_pin}
+use Rattle.loon_fanout.proofs.PassTallies.{Mark, Counts, tally_in, joined, nowhere, somewhere, found, unmoved, only, output_pin, input_ports, output_ports, input_pins, clock_pins, output_pins, output_pin_least, IsGood, IsFine}
 use Rattle.loon_fanout.proofs.PassPins.{instance_marks, pin_mark, marks, marks_push, MarkOf, of_port, of_pin, mark_of, IsMade, sink_role, GatePin, on_supply, reads, drives, gate_pin, gate_output, gate_pins_differ}
 
 abbrev pub all_marks : List ModelPins → Wired → List Mark

@@ -11,15 +11,14 @@ use Rattle.net_core.specs.declared.tally.Role.TheVariants as role
 use Rattle.net_core.specs.declared.tally.Tally.{Tally}
 use Rattle.net_core.specs.declared.tally.ClassFault.{ClassFault}
 use Rattle.net_core.specs.declared.tally.ClassFault.TheVariants as fault
+use Rattle.loon_fanout.proofs.Picking.{is_false}
+use Rattle.net_view.proofs.Tallies.{in_class, input_port, output_port, input_pin, clock_pin}
 use Rattle.net_core.specs.Checks.{with_one, no_terminals, tally_of, drivers, is_unconnected, is_undriven, is_driven_twice, is_misused_clock, has_fault}
 
 -- a terminal with its role
 pub record Mark : Type 0 where
   pub terminal : Terminal
   pub role : Role
-
-abbrev pub in_class : Role → ℕ → Role × ℕ
-in_class r c = (r, c)
 
 abbrev pub members : (Terminal → ℕ) → List Mark → List (Role × ℕ)
 members f ms = map (λ m. in_class m.role (f m.terminal)) ms
@@ -125,34 +124,6 @@ told_alike f g (m ∷ ms) c d each =
     ∙ ap (λ (t : Tally). cond (nat_eq (g m.terminal) d) (with_one m.role t) t) r
 
 -- ---- what is counted
-
-abbrev pub input_port : Role → ℕ
-input_port role.InputPort = 1
-input_port role.OutputPort = 0
-input_port role.InputPin = 0
-input_port role.ClockPin = 0
-input_port role.OutputPin = 0
-
-abbrev pub output_port : Role → ℕ
-output_port role.InputPort = 0
-output_port role.OutputPort = 1
-output_port role.InputPin = 0
-output_port role.ClockPin = 0
-output_port role.OutputPin = 0
-
-abbrev pub input_pin : Role → ℕ
-input_pin role.InputPort = 0
-input_pin role.OutputPort = 0
-input_pin role.InputPin = 1
-input_pin role.ClockPin = 0
-input_pin role.OutputPin = 0
-
-abbrev pub clock_pin : Role → ℕ
-clock_pin role.InputPort = 0
-clock_pin role.OutputPort = 0
-clock_pin role.InputPin = 0
-clock_pin role.ClockPin = 1
-clock_pin role.OutputPin = 0
 
 abbrev pub output_pin : Role → ℕ
 output_pin role.InputPort = 0
@@ -261,10 +232,6 @@ neither : (a b : Bool) → (a || b) ≡ false → (a ≡ false) × (b ≡ false)
 neither true true e = absurd (cc e)
 neither true false e = absurd (cc e)
 neither false b e = (refl, e)
-
-is_false : (b : Bool) → (b ≡ true → ⊥) → b ≡ false
-is_false true never = absurd (never refl)
-is_false false never = refl
 
 le_holds : (a b : ℕ) → nat_le a b ≡ true → a ≤ b
 le_holds a b e = grind (arith, nat_tests)

@@ -37,16 +37,17 @@ use Rattle.loon_fanout.specs.Sinks.{Wired, sinks, is_same_terminal, wired_of}
 use Rattle.loon_fanout.specs.Repeaters.{Repeater}
 use Rattle.loon_fanout.specs.Limited.{IsLimited, within, round, IsBuffered, IsOfCells}
 use Rattle.loon_fanout.specs.Laws.{gate_named, IsTied, BufferedPasses}
+use Rattle.loon_fanout.proofs.Picking.{different_of, flat_in, twice_of}
 use Rattle.loon_fanout.proofs.Terminals.{terminal_same, terminal_itself, class_is}
-use Rattle.loon_fanout.proofs.Splitting.{flat_in, sink_at}
+use Rattle.loon_fanout.proofs.Splitting.{sink_at}
 use Rattle.loon_fanout.proofs.RightStates.{IsGateCell}
 use Rattle.loon_fanout.proofs.RightRounds.{some_of}
 use Rattle.loon_fanout.proofs.RightStay.{repeats, gate_cell, WasLimited, unchanged, by_gates, how, all_instances, ports_same, new_names}
 use Rattle.loon_fanout.proofs.Remaining.{still_of_cells}
-use Rattle.loon_fanout.proofs.OneClass.{AreGood, pin_names_differ}
-use Rattle.loon_fanout.proofs.Needed.{all_different}
-use Rattle.loon_fanout.proofs.PassLoops.{Chain, Ring, ring_in, none_twice, chain_next, chain_last, Plus, one, more, HasNoLoop, along}
-use Rattle.loon_fanout.proofs.PassTallies.{Mark, tally_in, Counts, nowhere, somewhere, told_alike, input_port, output_port, input_pin, clock_pin, output_pin, input_ports, output_ports, input_pins, clock_pins, output_pins, IsGood, IsFine, no_fault, good_of}
+use Rattle.loon_fanout.proofs.OneClass.{AreGood, good_instances}
+use Rattle.loon_fanout.proofs.PassLoops.{Chain, Ring, ring_in, chain_next, chain_last, Plus, one, more, HasNoLoop, along}
+use Rattle.net_view.proofs.Tallies.{input_port, output_port, input_pin, clock_pin}
+use Rattle.loon_fanout.proofs.PassTallies.{Mark, tally_in, Counts, nowhere, somewhere, told_alike, output_pin, input_ports, output_ports, input_pins, clock_pins, output_pins, IsGood, IsFine, no_fault, good_of}
 use Rattle.loon_fanout.proofs.PassPins.{port_mark, pin_mark, instance_marks, marks, pin_marked, IsMade, supply_pin, gate_pin, GatePin, on_supply, reads, drives}
 use Rattle.loon_fanout.proofs.PassSteps.{all_marks, tally_at, IsSane}
 use Rattle.loon_fanout.proofs.PassRounds.{Edge, read_is_fine, Limits, limited_passes}
@@ -147,13 +148,7 @@ module _ (tracks all : Bool) (n : InMemory) (l : Library) (table : List ModelPin
       record { cell = c.0; found = c.1; usable = c.2; signals = formed.signals; row = row_of i.model c.0 c.1 c.2 }
 
   pub good_n : AreGood l n.instances
-  good_n = record {
-    names = all_different (map (λ i. i.name) n.instances) is.names;
-    usable = λ i d h found. let c = of_cells.found i (in_place i n.instances h) in subst (λ (x : Cell). IsUsable x) (same_Some c.0 d (sym c.1 ∙ found)) c.2;
-    pins = λ i h. let c = of_cells.found i (in_place i n.instances h) in pins_apart i c.0 c.2 c.3;
-  } where
-    pins_apart : (i : Instance) (c : Cell) → IsUsable c → i.pins ≡ names_of (all_ports c) → AllDifferent i.pins
-    pins_apart i c usable e = subst (λ (ns : List Name). AllDifferent ns) (sym e) (pin_names_differ c usable)
+  good_n = good_instances l n is of_cells
 
   good_low : (c : ℕ) → c < n.count → IsGood clocks (tally_at table w c)
   good_low c low = subst (λ (t : Tally). IsGood clocks t) (tally_is table n is fits c) (good_of clocks (tally table n c) (λ f. passes.classes f c low))
@@ -253,7 +248,7 @@ module _ (tracks all : Bool) (n : InMemory) (l : Library) (table : List ModelPin
   ring_of : Ring (DependsOn table n) → ⊥
   ring_of g = passes.rings (g.start ∷ g.rest) (record {
     some = omega arith;
-    once = none_twice (g.start ∷ g.rest) g.different;
+    once = twice_of (g.start ∷ g.rest) g.different;
     next = λ k a b p q. chain_next (DependsOn table n) g.start g.rest g.start g.round k a b p q;
     close = λ a b p q.
         let e : suc (length g.rest) - 1 ≡ length g.rest = omega arith in

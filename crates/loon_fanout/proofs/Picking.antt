@@ -1,12 +1,13 @@
 -- Lists that tests pick from, in which nothing stands twice, and what stands at places of them.
 use Rattle.std.proofs.Common.{◌≡◌, inl, inr, ℕ, zero, suc, ◌+◌, Bool, true, false, ◌&&◌, ◌||◌, List, [], ◌∷◌, ◌++◌, map, filter, length, refl, sym, ◌∙◌, ap, subst, arith, if◌then◌else◌}
-use Rattle.std.specs.List.{list_any}
+use Rattle.std.specs.List.{flat_map, list_any}
 use Rattle.vlsi_base.specs.Member.{In, here, there, AllDifferent}
 use Rattle.cell_model.proofs.Members.{In-split, In-left, In-right, In-map_back}
 use Rattle.cell_pins.proofs.Ports.{in_filter}
 use Rattle.cell_pins.proofs.Sound.{member_at}
 use Rattle.net_core.specs.Places.{Stands, NoneTwice}
 use Rattle.net_core.proofs.Standing.{stands_left}
+use Rattle.net_view.proofs.Lists.{in_place}
 
 -- ---- tests
 
@@ -72,19 +73,25 @@ filter_none {A} p (x ∷ xs) h =
     ap (λ (b : Bool). if b then x ∷ filter p xs else filter p xs) (h x here)
     ∙ filter_none p xs (λ y i. h y (there i))
 
-pub filter_in : {A : Type 0} (p : A → Bool) (xs : List A) (x : A) → In x xs → p x ≡ true → In x (filter p xs)
-filter_in p [] x i h = elim i [ ]
-filter_in {A} p (y ∷ xs) x here h = subst (λ (b : Bool). In y (if b then y ∷ filter p xs else filter p xs)) (sym h) here
-filter_in p (y ∷ xs) x (there i) h = by (p y) (filter_in p xs x i h) where
-  by : (b : Bool) → In x (filter p xs) → In x (if b then y ∷ filter p xs else filter p xs)
-  by true r = there r
-  by false r = r
-
 pub map_same : {A B : Type 0} (f g : A → B) (xs : List A) → ((x : A) → In x xs → f x ≡ g x) → map f xs ≡ map g xs
 map_same f g [] h = refl
 map_same {A} {B} f g (x ∷ xs) h =
     ap (λ (y : B). y ∷ map f xs) (h x here)
     ∙ ap (λ (ys : List B). g x ∷ ys) (map_same f g xs (λ y i. h y (there i)))
+
+-- ---- what functions gather
+
+pub flat_in : {A B : Type 0} (f : A → List B) (y : B) (xs : List A) → In y (flat_map f xs) → (x : A) × In x xs × In y (f x)
+flat_in f y [] h = elim h [ ]
+flat_in f y (x ∷ xs) h = elim (In-split y (f x) (flat_map f xs) h) [
+  | inl front ↦ (x, here, front)
+  | inr later ↦ let r = flat_in f y xs later in (r.0, there r.1, r.2)
+]
+
+pub in_flat : {A B : Type 0} (f : A → List B) (x : A) (y : B) (xs : List A) → In x xs → In y (f x) → In y (flat_map f xs)
+in_flat f x y [] i j = elim i [ ]
+in_flat f x y (z ∷ xs) here j = In-left y (f z) (flat_map f xs) j
+in_flat f x y (z ∷ xs) (there i) j = In-right y (f z) (flat_map f xs) (in_flat f x y xs i j)
 
 -- ---- nothing stands twice
 
@@ -122,15 +129,10 @@ different_map {A} f (x ∷ xs) once d = (
   different_map f xs once d.1,
 )
 
-pub stands_in : {A : Type 0} (xs : List A) (x : A) → In x xs → (k : ℕ) × Stands xs k x
-stands_in [] x i = elim i [ ]
-stands_in (y ∷ xs) x here = (0, refl)
-stands_in (y ∷ xs) x (there i) = let r = stands_in xs x i in (suc r.0, r.1)
-
 pub different_of : {A : Type 0} (xs : List A) → NoneTwice xs → AllDifferent xs
 different_of [] once = tt
 different_of {A} (x ∷ xs) once = (
-  λ i. let r = stands_in xs x i in let e : 0 ≡ suc r.0 = once 0 (suc r.0) x refl r.1 in absurd (omega (arith, e)),
+  λ i. let r = in_place x xs i in let e : 0 ≡ suc r.0 = once 0 (suc r.0) x refl r.1 in absurd (omega (arith, e)),
   different_of xs (λ i j y p q. let e : suc i ≡ suc j = once (suc i) (suc j) y p q in omega (arith, e)),
 )
 

@@ -23,60 +23,12 @@ use Rattle.loon_fanout.specs.Sinks.{Wired, is_sink_of, instance_sinks, sinks, wi
 use Rattle.loon_fanout.specs.Limited.{IsNetlistOf, IsBuffered, HasFanout, IsOfCells}
 use Rattle.loon_fanout.specs.Laws.{gate_named}
 use Rattle.loon_fanout.specs.Nets.{BufferedRemains, BufferedHasFewInputs}
+use Rattle.loon_fanout.proofs.Picking.{flat_in}
 use Rattle.loon_fanout.proofs.Terminals.{class_is}
-use Rattle.loon_fanout.proofs.Splitting.{flat_in}
+use Rattle.loon_fanout.proofs.Gating.{has_fanout}
 use Rattle.loon_fanout.proofs.Kept.{limited_stays_beside}
 use Rattle.loon_fanout.proofs.FewInputs.{right_has_few_inputs}
 use Rattle.loon_fanout.proofs.RightStay.{WasLimited, unchanged, by_gates, gate_cell, how, all_instances, ports_same, buffered_stays_right}
-
--- a test that holds wherever another does keeps no fewer
-filter_less : {A : Type 0} (p q : A → Bool) (xs : List A) → ((x : A) → In x xs → p x ≡ true → q x ≡ true) → length (filter p xs) ≤ length (filter q xs)
-filter_less p q [] each = omega arith
-filter_less {A} p q (x ∷ xs) each = by (p x) refl (q x) refl (filter_less p q xs (λ y h. each y (there h))) where
-  by : (a : Bool) → p x ≡ a → (b : Bool) → q x ≡ b → length (filter p xs) ≤ length (filter q xs)
-      → length (if a then x ∷ filter p xs else filter p xs) ≤ length (if b then x ∷ filter q xs else filter q xs)
-  by false e b f rest = more b where
-    more : (b : Bool) → length (filter p xs) ≤ length (if b then x ∷ filter q xs else filter q xs)
-    more true = omega (arith, rest)
-    more false = rest
-  by true e true f rest = omega (arith, rest)
-  by true e false f rest = let wrong : true ≡ false = sym (each x here e) ∙ f in absurd (cc wrong)
-
--- ---- sinks by classes of netlists in memory
-
-module _ (r : InMemory) (l : Library) (is : IsNetlist r) (w : Wired) (of : IsNetlistOf r w) (limit : ℕ) (few : (class : ℕ) → length (sinks l w class) ≤ limit) where
-  abbrev all : List Terminal
-  all = flat_map (instance_sinks l) r.instances
-
-  there_r : (t : Terminal) → In t all → IsThere (terminals r) t
-  there_r t h =
-      let i = flat_in (instance_sinks l) t r.instances h in
-      let p = In-map_back (pin_of i.0.name) t (filter (is_sink_of (cell_of l i.0.model)) i.0.pins) i.2 in
-      let q = in_filter (is_sink_of (cell_of l i.0.model)) i.0.pins p.0 p.1 in
-      subst (λ (x : Terminal). IsThere (terminals r) x) p.2 (pin_there r i.0 p.0 (in_place i.0 r.instances i.1) (in_place p.0 i.0.pins q.0))
-
-  class_here : (t : Terminal) → IsThere (terminals r) t → HasClass r t ((wired_of r).class t)
-  class_here t h =
-      let c = has_class r is t h in
-      subst (λ (x : ℕ). HasClass r t x) (sym (class_is (terminals r) r.classes t c.1.0 c.0 (netlist_terminals_once r is) c.1.1 c.1.2)) c.1
-
-  same : (t u : Terminal) → In t all → In u all → (wired_of r).class t ≡ (wired_of r).class u → w.class t ≡ w.class u
-  same t u t_in u_in e = (of.classes t u ((wired_of r).class t) ((wired_of r).class u) (class_here t (there_r t t_in)) (class_here u (there_r u u_in))).0 e
-
-  fanout : HasFanout l limit r
-  fanout class = by (sinks l (wired_of r) class) refl where
-    by : (ts : List Terminal) → sinks l (wired_of r) class ≡ ts → length ts ≤ limit
-    by [] e = omega arith
-    by (t ∷ ts) e =
-        let first = in_filter (λ u. nat_eq ((wired_of r).class u) class) all t (subst (λ (us : List Terminal). In t us) (sym e) here) in
-        let less : length (filter (λ u. nat_eq ((wired_of r).class u) class) all) ≤ length (filter (λ u. nat_eq (w.class u) (w.class t)) all) =
-        filter_less (λ u. nat_eq ((wired_of r).class u) class) (λ u. nat_eq (w.class u) (w.class t)) all (λ u u_in hit.
-        eq-eqb (w.class u) (w.class t) (same u t u_in first.0 (eqb-true ((wired_of r).class u) class hit ∙ sym (eqb-true ((wired_of r).class t) class first.1)))) in
-        let here_few = few (w.class t) in
-        let moved : length (filter (λ u. nat_eq (w.class u) (w.class t)) all) ≤ limit =
-        subst (λ (is : List Instance). length (filter (λ u. nat_eq (w.class u) (w.class t)) (flat_map (instance_sinks l) is)) ≤ limit) (sym of.instances) here_few in
-        let many : length (sinks l (wired_of r) class) ≡ length (t ∷ ts) = ap length e in
-        omega (arith, less, moved, many)
 
 -- ---- cells
 
@@ -116,7 +68,10 @@ module _ (tracks : Bool) (n : InMemory) (l : Library) (limit : ℕ) (r : InMemor
 
   pub still_fanout : HasFanout l limit r
   still_fanout =
-      fanout r l is_r buffered.wired buffered.is limit (limited_stays_beside l limit buffered.repeater buffered.names (wired_of n) buffered.wired buffered.limited).few
+      let on = still_of_cells in
+      let few = (limited_stays_beside l limit buffered.repeater buffered.names (wired_of n) buffered.wired buffered.limited).few in
+      has_fanout l limit r buffered.wired buffered.is is_r (netlist_terminals_once r is_r) few
+      (in_from_place (terminals r) on.on_vdd.0 (port vdd) on.on_vdd.1) (in_from_place (terminals r) on.on_vss.0 (port vss) on.on_vss.1)
 
 pub buffered_remains : BufferedRemains
 buffered_remains tracks n l limit r passed is_n is_r of_cells buffered = (

@@ -24,7 +24,7 @@ use Rattle.net_view.specs.View.{member_of}
 use Rattle.loon_fanout.specs.Sinks.{Wired, is_same_owner}
 use Rattle.loon_fanout.specs.Wired.{pin_class, with_gate}
 use Rattle.loon_fanout.specs.Laws.{as_netlist, sourced, gate_named}
-use Rattle.loon_fanout.proofs.Splitting.{is_false}
+use Rattle.loon_fanout.proofs.Picking.{is_false}
 use Rattle.loon_fanout.proofs.RightPins.{own_class, input as gate_input, output as gate_output, input_is, output_is, input_class, output_class}
 use Rattle.loon_fanout.proofs.RightStates.{State, IsGateCell, net, fresh, fresh_beyond, seat_low, node_low, terminal_low, load_low, output_low}
 

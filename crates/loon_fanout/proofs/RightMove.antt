@@ -24,8 +24,9 @@ use Rattle.net_view.specs.View.{member_of}
 use Rattle.loon_fanout.specs.Sinks.{Wired, is_clock_of, is_same_owner, is_same_terminal}
 use Rattle.loon_fanout.specs.Wired.{with_moved}
 use Rattle.loon_fanout.specs.Laws.{as_netlist, sourced, roots_after}
+use Rattle.loon_fanout.proofs.Picking.{any_in, in_any, is_false}
 use Rattle.loon_fanout.proofs.Terminals.{terminal_same, terminal_itself, owner_same}
-use Rattle.loon_fanout.proofs.Splitting.{any_in, in_any, is_false, in_or_out}
+use Rattle.loon_fanout.proofs.Splitting.{in_or_out}
 use Rattle.loon_fanout.proofs.RightStates.{State, net, IsRegister, register}
 
 -- an input of an instance's cell, and no clock pin

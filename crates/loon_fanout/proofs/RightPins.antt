@@ -16,7 +16,8 @@ use Rattle.cell_pins.proofs.Ports.{in_filter}
 use Rattle.net_meaning.specs.Netlist.{pin_of}
 use Rattle.loon_fanout.specs.Sinks.{Wired}
 use Rattle.loon_fanout.specs.Wired.{pin_class, with_gate}
-use Rattle.loon_fanout.proofs.Splitting.{any_in, in_any, is_false, one_of, in_or_out}
+use Rattle.loon_fanout.proofs.Picking.{any_in, in_any, is_false}
+use Rattle.loon_fanout.proofs.Splitting.{one_of, in_or_out}
 use Rattle.loon_fanout.proofs.RightStates.{IsGateCell}
 
 -- the class of a pin of the gate

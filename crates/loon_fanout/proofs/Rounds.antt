@@ -1,22 +1,25 @@
 -- Rounds by places are rounds on terminals.
-use Rattle.std.proofs.Common.{◌≡◌, ◌⊎◌, inl, inr, ℕ, zero, suc, ◌+◌, ◌<◌, ◌≤◌, Bool, List, [], ◌∷◌, ◌++◌, map, length, refl, sym, ◌∙◌, ap, subst, arith, append-nil, append_assoc, length-append, if◌then◌else◌}
+use Rattle.std.proofs.Common.{◌≡◌, ◌⊎◌, inl, inr, ℕ, zero, suc, ◌+◌, ◌<◌, ◌≤◌, Bool, false, List, [], ◌∷◌, ◌++◌, map, length, refl, sym, ◌∙◌, ap, subst, arith, append-nil, append_assoc, length-append, if◌then◌else◌}
 use Rattle.std.proofs.lemmas.List.Elements.{All-cons}
 use Rattle.std.proofs.lemmas.Option.{slice_get_within}
 use Rattle.std.specs.Global.{Vec}
 use Rattle.std.specs.List.{All, flat_map}
 use Rattle.vlsi_base.specs.declared.name.Name.{Name}
 use Rattle.vlsi_base.specs.declared.name.Terminal.{Terminal}
+use Rattle.vlsi_base.specs.Member.{In, here}
 use Rattle.cell_model.specs.Cell.{Cell}
 use Rattle.cell_model.specs.Library.{Library}
+use Rattle.cell_model.proofs.Members.{In-right}
 use Rattle.net_core.specs.Places.{Stands}
 use Rattle.loon_fanout.specs.declared.repeater.Repeater.{Repeater as Parts}
 use Rattle.loon_fanout.specs.declared.wiring.Wiring.{Wiring}
-use Rattle.loon_fanout.specs.Sinks.{Wired, sinks}
+use Rattle.loon_fanout.specs.Sinks.{Wired, is_supply_class, sinks}
 use Rattle.loon_fanout.specs.Wired.{with_group}
 use Rattle.loon_fanout.specs.Repeaters.{Repeater}
 use Rattle.loon_fanout.specs.Limited.{Row, with_round, AreGroups, last, next, IsLimited, within, round}
 use Rattle.loon_fanout.specs.Stages.{PutsRow, once, two, PutsBehind, PutsGroups, none, one, LimitsClass, few, many, LimitsAll, done, more, IsPart}
 use Rattle.loon_fanout.proofs.Picking.{AtPlaces, at_more, at_append, at_many, Halves, at_halves}
+use Rattle.loon_fanout.proofs.Supplies.{is_net, long_net}
 use Rattle.loon_fanout.proofs.Gates.{IsGate}
 use Rattle.loon_fanout.proofs.Sinking.{all_terminals}
 use Rattle.loon_fanout.proofs.Following.{Follows, none_behind}
@@ -62,8 +65,8 @@ class_counted c r gates part limit class v u places (many {w = x} {inputs = inpu
 
 all_counted : (c : Cell) (r : Parts) (gates : ℕ) → IsPart c gates r → (limit class : ℕ) (loads : List (Vec ℕ)) (v u : Wiring) → LimitsAll r limit class loads v u → gates_in v ≤ gates_in u
 all_counted c r gates part limit class loads v u done = omega arith
-all_counted c r gates part limit class loads v u (more {w = x} {sinks = places} {rest = rest} here later) =
-    let a = class_counted c r gates part limit class v x places.items here in
+all_counted c r gates part limit class loads v u (more {w = x} {sinks = places} {rest = rest} limited later) =
+    let a = class_counted c r gates part limit class v x places.items limited in
     let b = all_counted c r gates part limit (suc class) rest x u later in
     omega (arith, a, b)
 
@@ -176,15 +179,17 @@ module _ (l : Library) (c : Cell) (input : Name) (g : IsGate l c input) (r : Par
 
   round_done : (left : List (List ℕ)) (v u : Wiring) (w : Wired) (places inputs all : List ℕ) (us is : List Terminal) → PutsGroups r limit class v places inputs u all
       → Follows l left v w → AtPlaces (all_terminals w) places us → AtPlaces (all_terminals w) inputs is → sinks l w class ≡ us ++ is → class < w.count
-      → gates_in u ≤ gates_in v + length left → RoundDone l c gates limit left v u w class all us
-  round_done left v u w places inputs all us is none f at at_is now low enough = no_group left v w inputs us is f at at_is now
-  round_done left v u w places inputs all us is (one {w = x} {group = group} {rest = rest} {input = place} some_group small full behind others) f at at_is now low enough =
+      → is_supply_class w class ≡ false → gates_in u ≤ gates_in v + length left → RoundDone l c gates limit left v u w class all us
+  round_done left v u w places inputs all us is none f at at_is now low net enough = no_group left v w inputs us is f at at_is now
+  round_done left v u w places inputs all us is (one {w = x} {group = group} {rest = rest} {input = place} some_group small full behind others) f at at_is now low net enough =
       one_group left v x u w all us h.front h.back (h.back ++ is) place d low step h.parts few_front some_front full_front
       (round_done d.later x u (with_group c w class d.names h.front) rest (inputs ++ place ∷ []) all h.back (is ++ d.first ∷ []) others d.follows
       (grown rest h.back h.second)
       (at_append (all_terminals (with_group c w class d.names h.front)) inputs (place ∷ []) is (d.first ∷ []) (grown inputs is at_is) (d.at, tt))
       (d.now ∙ append_assoc h.back is (d.first ∷ []))
       (let k = d.kept.more in omega (arith, k, low))
+      (is_net l (with_group c w class d.names h.front) class d.first
+      (subst (λ (ts : List Terminal). In d.first ts) (sym d.now) (In-right d.first (h.back ++ is) (d.first ∷ []) here)))
       (let a = ap length d.parts in let n = length-append d.names d.later in let b = d.many in omega (arith, a, n, b, step, enough)))
     where
       h : Halves (all_terminals w) group rest us
@@ -212,7 +217,7 @@ module _ (l : Library) (c : Cell) (input : Name) (g : IsGate l c input) (r : Par
       ]
 
       d : GroupDone l c gates limit left x w class place h.front (h.back ++ is)
-      d = group_done l c input g r gates part limit left v x w class place group h.front (h.back ++ is) low
+      d = group_done l c input g r gates part limit left v x w class place group h.front (h.back ++ is) low net
           (let a = step in let b = more_gates in omega (arith, a, b, enough)) few_front some f h.first
           (now ∙ ap (λ (ts : List Terminal). ts ++ is) h.parts ∙ append_assoc h.front h.back is) behind
 
@@ -346,7 +351,7 @@ module _ (l : Library) (b : Repeater) (input : Name) (g : IsGate l b.cell input)
 
         d : RoundDone l b.cell b.gates limit left v x w class inputs (sinks l w class)
         d = round_done l b.cell input g r b.gates part limit class some left v x w places [] inputs (sinks l w class) [] puts f at tt (sym (append-nil (sinks l w class))) low
-            (let a = class_counted b.cell r b.gates part limit class x u inputs others in omega (arith, a, enough))
+            (long_net l w class limit long) (let a = class_counted b.cell r b.gates part limit class x u inputs others in omega (arith, a, enough))
 
   pub all_done : (class : ℕ) (loads : List (Vec ℕ)) (left : List (List ℕ)) (v u : Wiring) (w : Wired) → LimitsAll r limit class loads v u → Follows l left v w → AreLeft l limit loads class w
       → gates_in u ≤ gates_in v + length left → AllDone l limit b left v u w

@@ -1,11 +1,11 @@
 -- The sinks of the classes after gates are put in, and after sinks are moved.
 use Rattle.std.proofs.Common.{◌≡◌, ◌≢◌, inl, inr, ℕ, ◌+◌, ◌-◌, Bool, true, false, not, ◌&&◌, List, [], ◌∷◌, ◌++◌, map, filter, Some, refl, sym, ◌∙◌, ap, subst, append-nil, nat_eq, eqb-true, if◌then◌else◌}
-use Rattle.std.proofs.lemmas.Bool.{eq-eqb}
 use Rattle.std.proofs.lemmas.Grind.{flat_map-append}
 use Rattle.std.specs.List.{flat_map, list_any}
 use Rattle.vlsi_base.specs.declared.name.Name.{Name}
 use Rattle.vlsi_base.specs.declared.name.Port.{Port}
 use Rattle.vlsi_base.specs.declared.name.Terminal.{Terminal}
+use Rattle.vlsi_base.specs.Names.{vdd, vss}
 use Rattle.vlsi_base.specs.Member.{In, here, there, AllDifferent}
 use Rattle.cell_model.specs.Cell.{Cell}
 use Rattle.cell_model.specs.Library.{Library, cell_of}
@@ -13,20 +13,14 @@ use Rattle.cell_model.proofs.Members.{In-split, In-left, In-right, In-map, In-ma
 use Rattle.cell_model.proofs.Texts.{text_itself, text_differs}
 use Rattle.cell_pins.proofs.Ports.{in_filter}
 use Rattle.net_core.specs.Netlist.{Instance, port, pin_of, pins_of, terminals_of}
-use Rattle.loon_fanout.specs.Sinks.{Wired, is_sink_of, instance_sinks, sinks, is_same_owner, is_same_terminal}
+use Rattle.net_view.proofs.Lists.{filter_in}
+use Rattle.loon_fanout.specs.Sinks.{Wired, is_sink_of, instance_sinks, is_supply_class, sinks, is_same_owner, is_same_terminal}
 use Rattle.loon_fanout.specs.Wired.{pin_class, with_gate, with_moved}
 use Rattle.loon_fanout.specs.Laws.{gate_named}
 use Rattle.loon_fanout.proofs.Terminals.{terminal_same, terminal_itself}
-use Rattle.loon_fanout.proofs.Picking.{is_false, any_in, in_any, filter_append, filter_same, filter_twice, filter_all, filter_none, filter_in, different_filter, different_apart}
+use Rattle.loon_fanout.proofs.Picking.{flat_in, in_flat, is_false, any_in, in_any, filter_append, filter_same, filter_twice, filter_all, filter_none, different_filter, different_apart}
+use Rattle.loon_fanout.proofs.Supplies.{eq_itself, eq_not, supply_same, readers, net_sinks}
 use Rattle.loon_fanout.proofs.Gates.{IsGate}
-
--- ---- numbers
-
-pub eq_itself : (k : ℕ) → nat_eq k k ≡ true
-eq_itself k = eq-eqb k k refl
-
-pub eq_not : (a b : ℕ) → a ≢ b → nat_eq a b ≡ false
-eq_not a b differ = is_false (nat_eq a b) (λ e. differ (eqb-true a b e))
 
 -- ---- terminals
 
@@ -38,18 +32,6 @@ all_sinks l w = flat_map (instance_sinks l) w.instances
 
 abbrev pub names_in : Wired → List (List ℕ)
 names_in w = map (λ i. i.name) w.instances
-
-flat_in : {A B : Type 0} (f : A → List B) (y : B) (xs : List A) → In y (flat_map f xs) → (x : A) × In x xs × In y (f x)
-flat_in f y [] h = elim h [ ]
-flat_in f y (x ∷ xs) h = elim (In-split y (f x) (flat_map f xs) h) [
-  | inl front ↦ (x, here, front)
-  | inr later ↦ let r = flat_in f y xs later in (r.0, there r.1, r.2)
-]
-
-pub in_flat : {A B : Type 0} (f : A → List B) (x : A) (y : B) (xs : List A) → In x xs → In y (f x) → In y (flat_map f xs)
-in_flat f x y [] i j = elim i [ ]
-in_flat f x y (z ∷ xs) here j = In-left y (f z) (flat_map f xs) j
-in_flat f x y (z ∷ xs) (there i) j = In-right y (f z) (flat_map f xs) (in_flat f x y xs i j)
 
 -- a sink belongs to an instance, and is one of its pins
 pub record Owned (l : Library) (w : Wired) (t : Terminal) : Type 0 where
@@ -98,25 +80,35 @@ old_class c w read name new t i = ap (λ (b : Bool). if b then pin_class w c rea
 abbrev gate_test : Cell → Wired → ℕ → List ℕ → ℕ → Terminal → Bool
 gate_test c w read name k t = nat_eq ((with_gate c w read name).class t) k
 
-pub sinks_gate : (l : Library) (c : Cell) (input : Name) → IsGate l c input → (w : Wired) (read : ℕ) (name : List ℕ) → (In name (names_in w) → ⊥) → (k : ℕ)
-    → sinks l (with_gate c w read name) k ≡ sinks l w k ++ its_input name input read k
-sinks_gate l c input g w read name new k =
+readers_gate : (l : Library) (c : Cell) (input : Name) → IsGate l c input → (w : Wired) (read : ℕ) (name : List ℕ) → (In name (names_in w) → ⊥) → (k : ℕ)
+    → readers l (with_gate c w read name) k ≡ readers l w k ++ its_input name input read k
+readers_gate l c input g w read name new k =
     ap (filter (gate_test c w read name k)) (flat_map-append (instance_sinks l) w.instances (gate_named c name ∷ []))
     ∙ filter_append (gate_test c w read name k) (all_sinks l w) (instance_sinks l (gate_named c name) ++ [])
     ∙ ap (λ (ts : List Terminal). ts ++ filter (gate_test c w read name k) (instance_sinks l (gate_named c name) ++ []))
     (filter_same (gate_test c w read name k) (λ t. nat_eq (w.class t) k) (all_sinks l w) (λ t i. ap (λ (j : ℕ). nat_eq j k) (old_class c w read name new t (sink_there l w t i))))
-    ∙ ap (λ (ns : List Name). sinks l w k ++ filter (gate_test c w read name k) (map (pin_of name) ns ++ [])) g.sinks
-    ∙ ap (λ (j : ℕ). sinks l w k ++ (if nat_eq j k then pin_of name input ∷ [] else [])) (own_class c w read name input ∙ g.reads w read)
+    ∙ ap (λ (ns : List Name). readers l w k ++ filter (gate_test c w read name k) (map (pin_of name) ns ++ [])) g.sinks
+    ∙ ap (λ (j : ℕ). readers l w k ++ (if nat_eq j k then pin_of name input ∷ [] else [])) (own_class c w read name input ∙ g.reads w read)
+
+-- a gate that reads a net adds its input to it
+pub sinks_gate : (l : Library) (c : Cell) (input : Name) → IsGate l c input → (w : Wired) (read : ℕ) (name : List ℕ) → (In name (names_in w) → ⊥) → is_supply_class w read ≡ false
+    → (k : ℕ) → sinks l (with_gate c w read name) k ≡ sinks l w k ++ its_input name input read k
+sinks_gate l c input g w read name new net k = by (is_supply_class w k) refl where
+  by : (b : Bool) → is_supply_class w k ≡ b
+      → (if b then [] else readers l (with_gate c w read name) k) ≡ (if b then [] else readers l w k) ++ its_input name input read k
+  by true e = sym (ap (λ (b : Bool). if b then pin_of name input ∷ [] else []) (eq_not read k (λ same.
+      let wrong : true ≡ false = sym e ∙ ap (is_supply_class w) (sym same) ∙ net in cc wrong)))
+  by false e = readers_gate l c input g w read name new k
 
 -- ---- sinks that are moved
 
-pub record Moved (l : Library) (m : Wired) (group rest : List Terminal) (class last : ℕ) : Type 0 where
-  pub left : sinks l (with_moved group m) class ≡ rest
-  pub gone : sinks l (with_moved group m) last ≡ group
-  pub other : (k : ℕ) → k ≢ class → k ≢ last → sinks l (with_moved group m) k ≡ sinks l m k
+record MovedReaders (l : Library) (m : Wired) (group rest : List Terminal) (class last : ℕ) : Type 0 where
+  left : readers l (with_moved group m) class ≡ rest
+  gone : readers l (with_moved group m) last ≡ group
+  other : (k : ℕ) → k ≢ class → k ≢ last → readers l (with_moved group m) k ≡ readers l m k
 
 module _ (l : Library) (m : Wired) (group rest : List Terminal) (class last : ℕ) (is_last : m.count - 1 ≡ last) (apart : class ≢ last)
-    (has : sinks l m class ≡ group ++ rest) (empty : sinks l m last ≡ []) (different : AllDifferent (all_sinks l m)) where
+    (has : readers l m class ≡ group ++ rest) (empty : readers l m last ≡ []) (different : AllDifferent (all_sinks l m)) where
   abbrev among : Terminal → Bool
   among t = list_any (is_same_terminal t) group
 
@@ -128,7 +120,7 @@ module _ (l : Library) (m : Wired) (group rest : List Terminal) (class last : �
 
   among_class : (t : Terminal) → among t ≡ true → m.class t ≡ class
   among_class t e =
-      let i : In t (sinks l m class) = subst (λ (ts : List Terminal). In t ts) (sym has) (In-left t group rest (among_in t e)) in
+      let i : In t (readers l m class) = subst (λ (ts : List Terminal). In t ts) (sym has) (In-left t group rest (among_in t e)) in
       eqb-true (m.class t) class (in_filter (λ (u : Terminal). nat_eq (m.class u) class) (all_sinks l m) t i).1
 
   parts_differ : AllDifferent (group ++ rest)
@@ -176,8 +168,8 @@ module _ (l : Library) (m : Wired) (group rest : List Terminal) (class last : �
         ∙ sym (ap (λ (j : ℕ). nat_eq j k) (among_class t e) ∙ eq_not class k (λ h. p (sym h)))
     by false e = refl
 
-  pub sinks_moved : Moved l m group rest class last
-  sinks_moved = record {
+  readers_moved : MovedReaders l m group rest class last
+  readers_moved = record {
     left =
         filter_same (λ t. nat_eq (class_after t) class) (λ t. nat_eq (m.class t) class && not (among t)) (all_sinks l m) (λ t i. left_test t)
         ∙ sym (filter_twice (λ t. not (among t)) (λ t. nat_eq (m.class t) class) (all_sinks l m))
@@ -195,3 +187,26 @@ module _ (l : Library) (m : Wired) (group rest : List Terminal) (class last : �
         ∙ append-nil group;
     other = λ k p q. filter_same (λ t. nat_eq (class_after t) k) (λ t. nat_eq (m.class t) k) (all_sinks l m) (λ t i. other_test k p q t);
   }
+
+pub record Moved (l : Library) (m : Wired) (group rest : List Terminal) (class last : ℕ) : Type 0 where
+  pub left : sinks l (with_moved group m) class ≡ rest
+  pub gone : sinks l (with_moved group m) last ≡ group
+  pub other : (k : ℕ) → k ≢ class → k ≢ last → sinks l (with_moved group m) k ≡ sinks l m k
+
+-- from a net to another one, where the ports of supplies stay in their classes
+pub sinks_moved : (l : Library) (m : Wired) (group rest : List Terminal) (class last : ℕ) → m.count - 1 ≡ last → class ≢ last → sinks l m class ≡ group ++ rest → sinks l m last ≡ []
+    → AllDifferent (all_sinks l m) → (with_moved group m).class (port vdd) ≡ m.class (port vdd) → (with_moved group m).class (port vss) ≡ m.class (port vss)
+    → is_supply_class m class ≡ false → is_supply_class m last ≡ false → Moved l m group rest class last
+sinks_moved l m group rest class last is_last apart has empty different high low net net_last = record {
+  left = net_sinks l (with_moved group m) class (still class ∙ net) ∙ moved.left;
+  gone = net_sinks l (with_moved group m) last (still last ∙ net_last) ∙ moved.gone;
+  other = λ k p q.
+      ap (λ (b : Bool). if b then [] else readers l (with_moved group m) k) (still k)
+      ∙ ap (λ (ts : List Terminal). if is_supply_class m k then [] else ts) (moved.other k p q);
+} where
+  still : (k : ℕ) → is_supply_class (with_moved group m) k ≡ is_supply_class m k
+  still k = supply_same m (with_moved group m) k high low
+
+  moved : MovedReaders l m group rest class last
+  moved =
+      readers_moved l m group rest class last is_last apart (sym (net_sinks l m class net) ∙ has) (sym (net_sinks l m last net_last) ∙ empty) different

@@ -28,16 +28,11 @@ use Rattle.net_view.specs.View.{member_of}
 use Rattle.loon_fanout.specs.Sinks.{Wired, is_clock_of, is_sink_pin, is_sink_of, instance_sinks, sinks, is_same_owner, is_same_terminal}
 use Rattle.loon_fanout.specs.Wired.{pin_class, with_gate, with_group}
 use Rattle.loon_fanout.specs.Laws.{as_netlist, sourced, IsOneGate, is_in, roots_after, GroupSplits}
+use Rattle.loon_fanout.proofs.Picking.{flat_in, any_in, in_any, is_false}
+use Rattle.loon_fanout.proofs.Supplies.{sink_reads}
 use Rattle.loon_fanout.proofs.Terminals.{terminal_same, terminal_itself, owner_same}
 
 -- ---- lists
-
-pub flat_in : {A B : Type 0} (f : A → List B) (y : B) (xs : List A) → In y (flat_map f xs) → (x : A) × In x xs × In y (f x)
-flat_in f y [] h = elim h [ ]
-flat_in f y (x ∷ xs) h = elim (In-split y (f x) (flat_map f xs) h) [
-  | inl front ↦ (x, here, front)
-  | inr later ↦ let r = flat_in f y xs later in (r.0, there r.1, r.2)
-]
 
 either : (a b : Bool) → (a || b) ≡ true → (a ≡ true) ⊎ (b ≡ true)
 either true b h = inl refl
@@ -47,25 +42,6 @@ both : (a b : Bool) → (a && b) ≡ true → (a ≡ true) × (b ≡ true)
 both true true h = (refl, refl)
 both true false h = absurd (cc h)
 both false b h = absurd (cc h)
-
-pub any_in : {A : Type 0} (test : A → Bool) (xs : List A) → list_any test xs ≡ true → (x : A) × In x xs × (test x ≡ true)
-any_in test [] h = absurd (cc h)
-any_in test (x ∷ xs) h = elim (either (test x) (list_any test xs) h) [
-  | inl first ↦ (x, here, first)
-  | inr later ↦ let r = any_in test xs later in (r.0, there r.1, r.2)
-]
-
-pub in_any : {A : Type 0} (test : A → Bool) (xs : List A) (x : A) → In x xs → test x ≡ true → list_any test xs ≡ true
-in_any test (y ∷ xs) x here h = ap (λ (b : Bool). b || list_any test xs) h
-in_any test (y ∷ xs) x (there k) h = by (test y) (in_any test xs x k h) where
-  by : (b : Bool) → list_any test xs ≡ true → (b || list_any test xs) ≡ true
-  by true r = refl
-  by false r = r
-in_any test [] x h k = elim h [ ]
-
-pub is_false : (b : Bool) → (b ≡ true → ⊥) → b ≡ false
-is_false true h = absurd (h refl)
-is_false false h = refl
 
 pub one_of : {A : Type 0} (xs : List A) → length xs ≡ 1 → (x : A) × (xs ≡ x ∷ [])
 one_of [] h = absurd (omega (arith, h))
@@ -115,7 +91,7 @@ has_cell (Some c) p h = (c, refl, h)
 
 pub sink_at : (l : Library) (w : Wired) (k : ℕ) (t : Terminal) → In t (sinks l w k) → SinkAt l w k t
 sink_at l w k t h =
-    let f = in_filter (λ (x : Terminal). nat_eq (w.class x) k) (flat_map (instance_sinks l) w.instances) t h in
+    let f = in_filter (λ (x : Terminal). nat_eq (w.class x) k) (flat_map (instance_sinks l) w.instances) t (sink_reads l w k t h) in
     let i = flat_in (instance_sinks l) t w.instances f.0 in
     let p = In-map_back (pin_of i.0.name) t (filter (is_sink_of (cell_of l i.0.model)) i.0.pins) i.2 in
     let s = in_filter (is_sink_of (cell_of l i.0.model)) i.0.pins p.0 p.1 in

@@ -1,5 +1,5 @@
 -- What is known before gates are put in: sinks by places are sinks by terminals.
-use Rattle.std.proofs.Common.{◌≡◌, inl, inr, ℕ, zero, suc, ◌+◌, ◌<◌, Bool, true, false, ◌&&◌, List, [], ◌∷◌, ◌++◌, map, filter, length, get_or, Some, refl, sym, ◌∙◌, ap, subst, arith, append_assoc, length-append, nat_eq, if◌then◌else◌}
+use Rattle.std.proofs.Common.{◌≡◌, inl, inr, ℕ, zero, suc, ◌+◌, ◌<◌, Bool, true, false, ◌&&◌, ◌||◌, List, [], ◌∷◌, ◌++◌, map, filter, length, get_or, Some, refl, sym, ◌∙◌, ap, subst, arith, append_assoc, length-append, nat_eq, if◌then◌else◌}
 use Rattle.std.proofs.lemmas.Option.{slice_get_within}
 use Rattle.std.specs.Prelude.{slice_get}
 use Rattle.std.specs.Global.{Vec}
@@ -19,11 +19,13 @@ use Rattle.net_core.proofs.Namings.{turn_below}
 use Rattle.net_core.proofs.Standing.{stands_right}
 use Rattle.net_theory.proofs.Basics.{length-map}
 use Rattle.loon_fanout.specs.declared.wiring.Wiring.{Wiring}
-use Rattle.loon_fanout.specs.Sinks.{is_sink_of, instance_sinks, sinks, is_same_terminal, class_among, wired_of}
+use Rattle.loon_fanout.specs.Sinks.{is_sink_of, instance_sinks, is_supply_class, sinks, is_same_terminal, class_among, wired_of}
 use Rattle.loon_fanout.specs.Limited.{IsOfCells}
-use Rattle.loon_fanout.specs.Stages.{pin_marks, all_marks, marked_places, AreLoads, IsStart}
+use Rattle.loon_fanout.specs.Stages.{pin_marks, all_marks, marked_places, AreNetLoads, IsStart}
 use Rattle.loon_fanout.proofs.Terminals.{terminal_same, terminal_itself, class_is}
 use Rattle.loon_fanout.proofs.Picking.{is_false, map_same, different_append, different_left, different_right, different_apart, different_of, AtPlaces}
+use Rattle.loon_fanout.proofs.Loading.{got}
+use Rattle.loon_fanout.proofs.Supplies.{readers}
 use Rattle.loon_fanout.proofs.Sinking.{all_sinks}
 use Rattle.loon_fanout.proofs.Following.{Follows, none_behind}
 use Rattle.loon_fanout.proofs.Rounds.{AreLeft}
@@ -74,13 +76,20 @@ sinks_apart l (x ∷ is) d =
 
 -- ---- the start
 
+-- the classes of the supplies
+pub start_high : (n : InMemory) (v : Wiring) → IsNetlist n → IsStart n v → (wired_of n).class (port vdd) ≡ v.high
+start_high n v sound start = class_is (terminals n) n.classes (port vdd) start.high.0 v.high (netlist_terminals_once n sound) start.high.1 start.high.2
+
+pub start_low : (n : InMemory) (v : Wiring) → IsNetlist n → IsStart n v → (wired_of n).class (port vss) ≡ v.low
+start_low n v sound start = class_is (terminals n) n.classes (port vss) start.low.0 v.low (netlist_terminals_once n sound) start.low.1 start.low.2
+
 pub follows_start : (l : Library) (left : List (List ℕ)) (n : InMemory) (v : Wiring) → IsNetlist n → IsOfCells n l → IsStart n v
     → AllDifferent (map (λ i. i.name) n.instances ++ left) → Follows l left v (wired_of n)
 follows_start l left n v sound cells start names = record {
   classes = start.classes ∙ classes;
   count = let a = start.first in let b = ap length start.reads in (let e : n.count ≡ v.first + length v.reads.items = omega (arith, a, b) in e);
-  high = class_is (terminals n) n.classes (port vdd) start.high.0 v.high once start.high.1 start.high.2;
-  low = class_is (terminals n) n.classes (port vss) start.low.0 v.low once start.low.1 start.low.2;
+  high = start_high n v sound start;
+  low = start_low n v sound start;
   below = λ t i. All-In (λ k. k < n.count) n.classes (turn_below 0 n.count n.classes sound.turns) (class_among (terminals n) n.classes t)
       (subst (λ (ks : List ℕ). In (class_among (terminals n) n.classes t) ks) (sym classes) (In-map (class_among (terminals n) n.classes) t (terminals n) i));
   differ = differ;
@@ -160,9 +169,9 @@ marked_at f k (m ∷ marks) (u ∷ us) before place is =
       by true false e h = subst (λ (c : Bool). AtPlaces (before ++ (u ∷ us)) (marked_places (suc place) marks (map f us) k) (if c then u ∷ filter (λ t. nat_eq (f t) k) (keep marks us) else filter (λ t. nat_eq (f t) k) (keep marks us))) (sym e) h
       by false b e h = h
 
-pub places_are_sinks : (l : Library) (n : InMemory) → IsNetlist n → (k : ℕ) → AtPlaces (terminals n) (marked_places 0 (all_marks l n) n.classes k) (sinks l (wired_of n) k)
-places_are_sinks l n sound k =
-    subst (λ (ks : List ℕ). AtPlaces (terminals n) (marked_places 0 (all_marks l n) ks k) (sinks l (wired_of n) k))
+places_are_readers : (l : Library) (n : InMemory) → IsNetlist n → (k : ℕ) → AtPlaces (terminals n) (marked_places 0 (all_marks l n) n.classes k) (readers l (wired_of n) k)
+places_are_readers l n sound k =
+    subst (λ (ks : List ℕ). AtPlaces (terminals n) (marked_places 0 (all_marks l n) ks k) (readers l (wired_of n) k))
     (sym (map_among (terminals n) n.classes (different_of (terminals n) (netlist_terminals_once n sound)) sound.each))
     (subst (λ (ts : List Terminal). AtPlaces (terminals n) (marked_places 0 (all_marks l n) (map (class_among (terminals n) n.classes) (terminals n)) k)
     (filter (λ t. nat_eq (class_among (terminals n) n.classes t) k) ts)) (keep_all l n)
@@ -170,25 +179,34 @@ places_are_sinks l n sound k =
 
 -- ---- loads
 
-got : {A : Type 0} (xs : List A) (k : ℕ) (x : A) → slice_get xs k ≡ Some x → get_or xs k x ≡ x
-got [] k x e = absurd cc
-got (y ∷ xs) zero x e = cc
-got (y ∷ xs) (suc k) x e = got xs k x e
+module _ (l : Library) (n : InMemory) (loads : List (Vec ℕ)) (sound : IsNetlist n) (high low : ℕ) (on_high : (wired_of n).class (port vdd) ≡ high) (on_low : (wired_of n).class (port vss) ≡ low)
+    (are : AreNetLoads (all_marks l n) n.classes n.count high low loads) where
+  supplies : (k : ℕ) → is_supply_class (wired_of n) k ≡ (nat_eq high k || nat_eq low k)
+  supplies k =
+      ap (λ (a : ℕ). nat_eq a k || nat_eq ((wired_of n).class (port vss)) k) on_high
+      ∙ ap (λ (b : ℕ). nat_eq high k || nat_eq b k) on_low
 
-pub load_is : (l : Library) (n : InMemory) (loads : List (Vec ℕ)) → IsNetlist n → AreLoads (all_marks l n) n.classes n.count loads → (k : ℕ) (places : Vec ℕ) → Stands loads k places
-    → AtPlaces (terminals n) places.items (sinks l (wired_of n) k)
-load_is l n loads sound are k places at =
-    let inside = slice_get_within loads k places at in
-    let many = are.many in
-    subst (λ (ps : List ℕ). AtPlaces (terminals n) ps (sinks l (wired_of n) k))
-    (sym (are.each k places (omega (arith, inside, many))) ∙ ap (λ (x : Vec ℕ). x.items) (got loads k places at))
-    (places_are_sinks l n sound k)
+  net_places : (k : ℕ) → AtPlaces (terminals n) (if nat_eq high k || nat_eq low k then [] else marked_places 0 (all_marks l n) n.classes k) (sinks l (wired_of n) k)
+  net_places k =
+      subst (λ (x : Bool). AtPlaces (terminals n) (if nat_eq high k || nat_eq low k then [] else marked_places 0 (all_marks l n) n.classes k) (if x then [] else readers l (wired_of n) k))
+      (sym (supplies k)) (by (nat_eq high k || nat_eq low k)) where
+        by : (b : Bool) → AtPlaces (terminals n) (if b then [] else marked_places 0 (all_marks l n) n.classes k) (if b then [] else readers l (wired_of n) k)
+        by true = tt
+        by false = places_are_readers l n sound k
+
+  pub load_is : (k : ℕ) (places : Vec ℕ) → Stands loads k places → AtPlaces (terminals n) places.items (sinks l (wired_of n) k)
+  load_is k places at =
+      let inside = slice_get_within loads k places at in
+      let many = are.many in
+      subst (λ (ps : List ℕ). AtPlaces (terminals n) ps (sinks l (wired_of n) k))
+      (sym (are.each k places (omega (arith, inside, many))) ∙ ap (λ (x : Vec ℕ). x.items) (got loads k places at))
+      (net_places k)
 
 pub left_start : (l : Library) (limit : ℕ) (left : List (List ℕ)) (n : InMemory) (v : Wiring) (loads : List (Vec ℕ)) → IsNetlist n
-    → AreLoads (all_marks l n) n.classes n.count loads → Follows l left v (wired_of n) → AreLeft l limit loads 0 (wired_of n)
+    → AreNetLoads (all_marks l n) n.classes n.count v.high v.low loads → Follows l left v (wired_of n) → AreLeft l limit loads 0 (wired_of n)
 left_start l limit left n v loads sound are f = record {
   each = λ i places at. let zero_i : i ≡ 0 + i = omega arith in
-      subst (λ (k : ℕ). AtPlaces (terminals n) places.items (sinks l (wired_of n) k)) zero_i (load_is l n loads sound are i places at);
+      subst (λ (k : ℕ). AtPlaces (terminals n) places.items (sinks l (wired_of n) k)) zero_i (load_is l n loads sound v.high v.low f.high f.low are i places at);
   within = let many = are.many in omega (arith, many);
   earlier = λ k low. absurd (omega (arith, low));
   behind = λ k past. let many = are.many in let e = ap length (none_behind l left v (wired_of n) f k (omega (arith, past, many))) in omega (arith, e);

@@ -21,6 +21,7 @@ use Rattle.net_core.proofs.Finishing.{netlist_terminals_once}
 use Rattle.net_view.proofs.Ports.{vdd_there}
 use Rattle.free_names.specs.Laws.{TextsAreFree}
 use Rattle.net_theory.proofs.Basics.{length-map}
+use Rattle.net_view.proofs.Lists.{in_place}
 use Rattle.loon_fanout.specs.declared.repeater.Repeater.{Repeater as Parts}
 use Rattle.loon_fanout.specs.declared.wiring.Wiring.{Wiring}
 use Rattle.loon_fanout.specs.Sinks.{Wired, all_sinks, sinks, wired_of}
@@ -29,14 +30,14 @@ use Rattle.loon_fanout.specs.Building.{gate_by}
 use Rattle.loon_fanout.specs.Gated.{gate_names, gated, IsGatable, IsGated}
 use Rattle.loon_fanout.specs.Laws.{gate_named, StaysBeside}
 use Rattle.loon_fanout.specs.Limited.{IsLimited, within, IsCrowded, IsBuffered, HasFanout, HasFewGates, IsOfCells, HasRoomForGates}
-use Rattle.loon_fanout.specs.Stages.{tie_of, all_marks, AreLoads, LimitsAll, IsStart, IsPart, IsRepeaterOf, HasLongLoad}
-use Rattle.loon_fanout.proofs.Picking.{map_same, different_of, at_many, stands_in}
+use Rattle.loon_fanout.specs.Stages.{tie_of, all_marks, AreNetLoads, LimitsAll, IsStart, IsPart, IsRepeaterOf, HasLongLoad}
+use Rattle.loon_fanout.proofs.Picking.{map_same, different_of, at_many}
 use Rattle.loon_fanout.proofs.Gates.{Chosen, chosen}
 use Rattle.loon_fanout.proofs.Kept.{limited_stays_beside}
 use Rattle.loon_fanout.proofs.Sinking.{all_terminals}
 use Rattle.loon_fanout.proofs.Following.{Follows, none_behind}
 use Rattle.loon_fanout.proofs.Rounds.{below_or, gates_in, AllDone, all_done}
-use Rattle.loon_fanout.proofs.Starting.{follows_start, load_is, left_start}
+use Rattle.loon_fanout.proofs.Starting.{start_high, start_low, follows_start, load_is, left_start}
 use Rattle.loon_fanout.proofs.Counted.{counted, loads_few, sinks_few}
 use Rattle.loon_fanout.proofs.Gating.{can_gate, is_of, instances_few, has_fanout, names_apart}
 
@@ -64,17 +65,23 @@ get_stands [] k low = absurd (omega (arith, low))
 get_stands (x ∷ xs) zero low = (x, refl)
 get_stands (x ∷ xs) (suc k) low = get_stands xs k (omega (arith, low))
 
-pub long_crowded : (l : Library) (limit : ℕ) (n : InMemory) (loads : List (Vec ℕ)) → IsNetlist n → AreLoads (all_marks l n) n.classes n.count loads → HasLongLoad limit loads → IsCrowded l limit n
-long_crowded l limit n loads sound are (k, places, at, long) =
-    (k, let m = at_many (terminals n) places.items (sinks l (wired_of n) k) (load_is l n loads sound are k places at) in omega (arith, m, long))
+load_at : (l : Library) (n : InMemory) (v : Wiring) (loads : List (Vec ℕ)) → IsNetlist n → IsStart n v → AreNetLoads (all_marks l n) n.classes n.count v.high v.low loads
+    → (k : ℕ) (places : Vec ℕ) → Stands loads k places → length places.items ≡ length (sinks l (wired_of n) k)
+load_at l n v loads sound start are k places at =
+    at_many (terminals n) places.items (sinks l (wired_of n) k)
+    (load_is l n loads sound v.high v.low (start_high n v sound start) (start_low n v sound start) are k places at)
+
+pub long_crowded : (l : Library) (limit : ℕ) (n : InMemory) (v : Wiring) (loads : List (Vec ℕ)) → IsNetlist n → IsStart n v
+    → AreNetLoads (all_marks l n) n.classes n.count v.high v.low loads → HasLongLoad limit loads → IsCrowded l limit n
+long_crowded l limit n v loads sound start are (k, places, at, long) = (k, let m = load_at l n v loads sound start are k places at in omega (arith, m, long))
 
 pub crowded_long : (l : Library) (limit : ℕ) (n : InMemory) (v : Wiring) (loads : List (Vec ℕ)) → IsNetlist n → IsOfCells n l → IsStart n v
-    → AreLoads (all_marks l n) n.classes n.count loads → IsCrowded l limit n → HasLongLoad limit loads
+    → AreNetLoads (all_marks l n) n.classes n.count v.high v.low loads → IsCrowded l limit n → HasLongLoad limit loads
 crowded_long l limit n v loads sound cells start are (k, long) = elim (below_or k n.count) [
   | inl low ↦
       let many = are.many in
       let at = get_stands loads k (omega (arith, low, many)) in
-      (k, at.0, at.1, let m = at_many (terminals n) at.0.items (sinks l (wired_of n) k) (load_is l n loads sound are k at.0 at.1) in omega (arith, m, long))
+      (k, at.0, at.1, let m = load_at l n v loads sound start are k at.0 at.1 in omega (arith, m, long))
   | inr over ↦ absurd (let e = ap length (not_behind l n v sound cells start k over) in omega (arith, e, long))
 ]
 
@@ -102,18 +109,25 @@ pub built_gatable : (l : Library) (n : InMemory) (r : Option Parts) (v : Wiring)
 built_gatable l n r v limit w b =
     can_gate l n r v w b.follows b.ports b.instances b.ports_order (λ i k. (b.order i k, let c = b.cells i k in some_pin c.0 i.pins c.3)) b.pins b.gates
 
+-- what is built has these terminals
+built_terminals : (l : Library) (n : InMemory) (r : Option Parts) (v : Wiring) (limit : ℕ) (w : Wired) (k : InMemory) → Built l n r v limit w → IsGated n r v k → all_terminals w ≡ terminals k
+built_terminals l n r v limit w k b g =
+    ap (λ (ps : List Port). terminals_of ps w.instances) (b.ports ∙ sym g.ports) ∙ ap (terminals_of k.ports) (b.instances ∙ sym g.instances)
+
 pub built_fanout : (l : Library) (n : InMemory) (r : Option Parts) (v : Wiring) (limit : ℕ) (w : Wired) (k : InMemory) → Built l n r v limit w → IsGated n r v k → IsNetlist k → HasFanout l limit k
 built_fanout l n r v limit w k b g sound =
+    let listed = built_terminals l n r v limit w k b g in
     has_fanout l limit k w (is_of l n r v w b.follows b.ports b.instances k g) sound (netlist_terminals_once k sound) b.few
+    (subst (λ (ts : List Terminal). In (port vdd) ts) listed b.follows.on_vdd) (subst (λ (ts : List Terminal). In (port vss) ts) listed b.follows.on_vss)
 
 pub built_cells : (l : Library) (n : InMemory) (r : Option Parts) (v : Wiring) (limit : ℕ) (w : Wired) (k : InMemory) → Built l n r v limit w → IsGated n r v k → IsOfCells k l
 built_cells l n r v limit w k b g = record {
   found = λ i there_i. b.cells i (subst (λ (is : List Instance). In i is) (g.instances ∙ sym b.instances) (member_at k.instances there_i.0 i there_i.1));
-  on_vdd = stands_in (terminals k) (port vdd) (subst (λ (ts : List Terminal). In (port vdd) ts) listed b.follows.on_vdd);
-  on_vss = stands_in (terminals k) (port vss) (subst (λ (ts : List Terminal). In (port vss) ts) listed b.follows.on_vss);
+  on_vdd = in_place (port vdd) (terminals k) (subst (λ (ts : List Terminal). In (port vdd) ts) listed b.follows.on_vdd);
+  on_vss = in_place (port vss) (terminals k) (subst (λ (ts : List Terminal). In (port vss) ts) listed b.follows.on_vss);
 } where
   listed : all_terminals w ≡ terminals k
-  listed = ap (λ (ps : List Port). terminals_of ps w.instances) (b.ports ∙ sym g.ports) ∙ ap (terminals_of k.ports) (b.instances ∙ sym g.instances)
+  listed = built_terminals l n r v limit w k b g
 
 -- ---- no gates
 
@@ -122,7 +136,7 @@ different_names n sound =
     subst (λ (ns : List (List ℕ)). AllDifferent ns) (sym (append-nil (map (λ (i : Instance). i.name) n.instances))) (different_of (map (λ (i : Instance). i.name) n.instances) sound.names)
 
 given_cells : (l : Library) (n : InMemory) → IsOfCells n l → (i : Instance) → In i n.instances → (c : Cell) × (cell_of l i.model ≡ Some c) × IsUsable c × (i.pins ≡ names_of (all_ports c))
-given_cells l n cells i k = let s = stands_in n.instances i k in cells.found i s
+given_cells l n cells i k = let s = in_place i n.instances k in cells.found i s
 
 pub start_built : (l : Library) (n : InMemory) (v : Wiring) (limit : ℕ) → IsNetlist n → IsOfCells n l → HasRoomForGates n → IsStart n v
     → ((class : ℕ) → length (sinks l (wired_of n) class) ≤ limit) → Built l n None v limit (wired_of n)
@@ -158,7 +172,7 @@ none_left (x ∷ xs) h = absurd (omega (arith, h))
 
 module _ (law : TextsAreFree) (l : Library) (n : InMemory) (limit : ℕ) (size : 2 ≤ limit) (sound : IsNetlist n) (cells : IsOfCells n l) (room : HasRoomForGates n) (checked : IsChecked false l)
     (b : Repeater) (rep : IsRepeater l.cells b) (r : Parts) (part : IsPart b.cell b.gates r) (v u : Wiring) (start : IsStart n v) (loads : List (Vec ℕ))
-    (are : AreLoads (all_marks l n) n.classes n.count loads) (h : LimitsAll r limit 0 loads v u) where
+    (are : AreNetLoads (all_marks l n) n.classes n.count v.high v.low loads) (h : LimitsAll r limit 0 loads v u) where
   ch : Chosen l b
   ch = chosen l b checked rep
 
@@ -171,7 +185,7 @@ module _ (law : TextsAreFree) (l : Library) (n : InMemory) (limit : ℕ) (size :
   few_gates : gates_in u ≤ 4 * length (terminals n)
   few_gates =
       let a = (counted r limit 0 size few_ties loads v u h).gates in
-      let t = loads_few l n loads are in
+      let t = loads_few l n v.high v.low loads are in
       let p = sinks_few l n.instances in
       let m = length-append (map (λ (q : Port). port q.name) n.ports) (flat_map pins_of n.instances) in
       let z = ap length start.reads in
@@ -234,7 +248,7 @@ module _ (law : TextsAreFree) (l : Library) (n : InMemory) (limit : ℕ) (size :
     limited = limited;
     fewer = λ four.
         let a = (counted r limit 0 size few_ties loads v u h).fewer four in
-        let t = loads_few l n loads are in
+        let t = loads_few l n v.high v.low loads are in
         let z = ap length start.reads in
         omega (arith, a, t, z);
     built = record {
@@ -328,7 +342,7 @@ pub record Calm (l : Library) (n : InMemory) (v : Wiring) (limit : ℕ) : Type 0
   pub built : Built l n None v limit (wired_of n)
 
 pub calm : (l : Library) (n : InMemory) (v : Wiring) (limit : ℕ) → IsNetlist n → IsOfCells n l → HasRoomForGates n → IsStart n v → (loads seen : List (Vec ℕ))
-    → AreLoads (all_marks l n) n.classes n.count loads → seen ≡ loads → (b : Bool) → b ≡ false → (IsTrue b ↔ HasLongLoad limit seen) → Calm l n v limit
+    → AreNetLoads (all_marks l n) n.classes n.count v.high v.low loads → seen ≡ loads → (b : Bool) → b ≡ false → (IsTrue b ↔ HasLongLoad limit seen) → Calm l n v limit
 calm l n v limit sound cells room start loads seen are same b is told = record {
   not_crowded = never;
   built = start_built l n v limit sound cells room start (few_sinks l limit n never);
@@ -338,10 +352,10 @@ calm l n v limit sound cells room start loads seen are same b is told = record {
       let h : b ≡ true = told.1 (subst (λ (ls : List (Vec ℕ)). HasLongLoad limit ls) (sym same) (crowded_long l limit n v loads sound cells start are c)) in
       let wrong : false ≡ true = sym is ∙ h in cc wrong
 
-pub crowded : (l : Library) (n : InMemory) (limit : ℕ) → IsNetlist n → (loads seen : List (Vec ℕ)) → AreLoads (all_marks l n) n.classes n.count loads → seen ≡ loads
-    → (b : Bool) → b ≡ true → (IsTrue b ↔ HasLongLoad limit seen) → IsCrowded l limit n
-crowded l n limit sound loads seen are same b is told =
-    long_crowded l limit n loads sound are (subst (λ (ls : List (Vec ℕ)). HasLongLoad limit ls) same (told.0 is))
+pub crowded : (l : Library) (n : InMemory) (v : Wiring) (limit : ℕ) → IsNetlist n → IsStart n v → (loads seen : List (Vec ℕ))
+    → AreNetLoads (all_marks l n) n.classes n.count v.high v.low loads → seen ≡ loads → (b : Bool) → b ≡ true → (IsTrue b ↔ HasLongLoad limit seen) → IsCrowded l limit n
+crowded l n v limit sound start loads seen are same b is told =
+    long_crowded l limit n v loads sound start are (subst (λ (ls : List (Vec ℕ)). HasLongLoad limit ls) same (told.0 is))
 
 -- where one is, and there is a repeater
 pub record Repeated (l : Library) (n : InMemory) (r : Parts) (u : Wiring) (limit : ℕ) : Type 0 where
@@ -354,7 +368,7 @@ cells_of l cs e = ap (λ (x : Library). x.cells) e
 
 pub repeated : TextsAreFree → (l : Library) (n : InMemory) (limit : ℕ) → 2 ≤ limit → IsNetlist n → IsOfCells n l → HasRoomForGates n → (cs : List Cell) → library_of cs ≡ l → IsChecked false l
     → (o : Option Parts) (r : Parts) → o ≡ Some r → IfSome o (λ x. IsRepeaterOf cs x) → (v u : Wiring) → IsStart n v → (loads seen : List (Vec ℕ))
-    → AreLoads (all_marks l n) n.classes n.count loads → seen ≡ loads → LimitsAll r limit 0 seen v u → Repeated l n r u limit
+    → AreNetLoads (all_marks l n) n.classes n.count v.high v.low loads → seen ≡ loads → LimitsAll r limit 0 seen v u → Repeated l n r u limit
 repeated law l n limit size sound cells room cs same_cells checked o r is found v u start loads seen are same h =
     let q = some_of (λ (x : Parts). IsRepeaterOf cs x) o r is found in
     let rep = subst (λ (xs : List Cell). IsRepeater xs q.repeater) (cells_of l cs same_cells) q.chosen in

@@ -53,7 +53,8 @@ pub record IsNetlistOf (r : InMemory) (n : Wired) : Type 0 where
   pub instances : r.instances ≡ n.instances
   pub classes : (a b : Terminal) (j k : ℕ) → HasClass r a j → HasClass r b k → (j ≡ k) ↔ (n.class a ≡ n.class b)
 
--- The gates are called b0, b1 and so on, where names of old instances are left out. Nothing else is changed.
+-- The gates are called b0, b1 and so on, where names of old instances are left out. Name, ports and the instances that were there are
+-- the same; which models there are beside those of instances is left open.
 pub record IsBuffered (n : InMemory) (l : Library) (limit : ℕ) (r : InMemory) : Type 0 where
   pub name : r.name ≡ n.name
   pub repeater : Repeater
@@ -68,7 +69,7 @@ pub record IsBuffered (n : InMemory) (l : Library) (limit : ℕ) (r : InMemory) 
 abbrev pub HasFanout : Library → ℕ → InMemory → Type 0
 HasFanout l limit n = (class : ℕ) → length (sinks l (wired_of n) class) ≤ limit
 
--- there are at most as many gates as the given netlist has sinks
+-- there are at most as many gates as the given netlist has input pins that are no clock pins
 abbrev pub HasFewGates : InMemory → Library → InMemory → Type 0
 HasFewGates n l r = length r.instances ≤ length n.instances + length (all_sinks l n.instances)
 
@@ -78,7 +79,7 @@ pub record IsOfCells (n : InMemory) (l : Library) : Type 0 where
   pub on_vdd : IsThere (terminals n) (port vdd)
   pub on_vss : IsThere (terminals n) (port vss)
 
--- with all gates that may be put in there are fewer than 2^32 pins
+-- 32 times the ports and pins are fewer than 2^32: so ports and pins are fewer than that with all gates that may be put in
 abbrev pub HasRoomForGates : InMemory → Type 0
 HasRoomForGates n = 32 * length (terminals n) < 2 ^ 32
 

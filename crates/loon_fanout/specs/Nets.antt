@@ -1,7 +1,8 @@
 -- What is true of the nets of a limited netlist, in the terms of a netlist that layouts give.
-use Rattle.std.specs.Prelude.{◌≡◌, ◌≢◌, ℕ, ◌≤◌, Bool, List, length}
+use Rattle.std.specs.Prelude.{◌≡◌, ◌≢◌, ◌⊎◌, ℕ, ◌≤◌, Bool, List, length}
 use Rattle.vlsi_base.specs.declared.name.Name.{Name}
 use Rattle.vlsi_base.specs.declared.name.Terminal.{Terminal}
+use Rattle.vlsi_base.specs.Names.{vdd, vss}
 use Rattle.vlsi_base.specs.Member.{In, AllDifferent}
 use Rattle.machine_meaning.specs.Machine.{Machine}
 use Rattle.machine_core.specs.Checked.{IsChecked}
@@ -10,7 +11,7 @@ use Rattle.cell_model.specs.Library.{Library}
 use Rattle.cell_checks.specs.Checked.{IsChecked as HasPassed}
 use Rattle.net_core.specs.Places.{IsThere}
 use Rattle.net_core.specs.Netlist.{Instance, Netlist as InMemory, IsNetlist, terminals}
-use Rattle.net_meaning.specs.Netlist.{Member, Netlist, pin_of}
+use Rattle.net_meaning.specs.Netlist.{Member, Netlist, port, pin_of}
 use Rattle.net_meaning.specs.Well.{Has, IsClockPin, IsSpecial, buffer_instance}
 use Rattle.net_meaning.specs.Buffers.{AreOne}
 use Rattle.net_view.specs.View.{IsSeenAs}
@@ -54,11 +55,15 @@ pub data IsStaying (n : Netlist) (l : Library) : Terminal → Type 0 where
   staying : {name : Name} (i : Member) (c : Cell) → Has n l i c → In name (cell_inputs c) → ((j : ℕ) → i.name ≢ buffer_instance j)
       → (IsClockPin n l (pin_of i.name name) → ⊥) → IsStaying n l (pin_of i.name name)
 
--- with the instances named b taken out so, no class has more such pins than that
+-- a class that isn't made one with that of a supply when the instances named b are taken out so
+abbrev pub IsNet : Netlist → Library → ℕ → Type 0
+IsNet n l k = (supply : Name) → (supply ≡ vdd) ⊎ (supply ≡ vss) → AreOne n l k (n.class (port supply)) → ⊥
+
+-- with the instances named b taken out so, no such class has more such pins than that
 abbrev pub FitsWithoutBuffers : Netlist → Library → ℕ → Type 0
 FitsWithoutBuffers n l limit =
-    (k : ℕ) (pins : List Terminal) → AllDifferent pins → ((t : Terminal) → In t pins → IsStaying n l t × AreOne n l k (n.class t))
-    → length pins ≤ limit
+    (k : ℕ) (pins : List Terminal) → IsNet n l k → AllDifferent pins
+    → ((t : Terminal) → In t pins → IsStaying n l t × AreOne n l k (n.class t)) → length pins ≤ limit
 
 abbrev pub HasNoBuffer : Netlist → Type 0
 HasNoBuffer n = (i : Member) (j : ℕ) → In i n.instances → i.name ≢ buffer_instance j

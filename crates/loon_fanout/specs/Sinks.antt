@@ -1,14 +1,15 @@
 -- The pins that a net is read by.
-use Rattle.std.specs.Prelude.{◌≡◌, ℕ, Bool, true, false, not, ◌&&◌, List, [], ◌∷◌, map, filter, Option, None, Some, nat_eq, if◌then◌else◌}
+use Rattle.std.specs.Prelude.{◌≡◌, ℕ, Bool, true, false, not, ◌&&◌, ◌||◌, List, [], ◌∷◌, map, filter, Option, None, Some, nat_eq, if◌then◌else◌}
 use Rattle.std.specs.List.{flat_map, list_any}
 use Rattle.vlsi_base.specs.declared.name.Name.{Name}
 use Rattle.vlsi_base.specs.declared.name.Port.{Port}
 use Rattle.vlsi_base.specs.declared.name.Terminal.{Terminal}
+use Rattle.vlsi_base.specs.Names.{vdd, vss}
 use Rattle.machine_meaning.specs.Machine.{is_clock}
 use Rattle.machine_meaning.specs.Named.{is_same_text, is_same_name}
 use Rattle.cell_model.specs.Cell.{Function, gate, flip_flop, other, opaque, Cell, cell_inputs}
 use Rattle.cell_model.specs.Library.{Library, cell_of}
-use Rattle.net_core.specs.Netlist.{Instance, Netlist as InMemory, pin_of, terminals_of, terminals}
+use Rattle.net_core.specs.Netlist.{Instance, Netlist as InMemory, port, pin_of, terminals_of, terminals}
 
 -- a netlist whose classes are told by a function of terminals; they are below `count`
 pub record Wired : Type 0 where
@@ -32,17 +33,21 @@ abbrev pub is_sink_of : Option Cell → Name → Bool
 is_sink_of None name = false
 is_sink_of (Some c) name = is_sink_pin c name
 
--- the pins of an instance that are sinks, by its cell
+-- the pins of an instance that are sinks where they are in nets, by its cell
 abbrev pub instance_sinks : Library → Instance → List Terminal
 instance_sinks l i = map (pin_of i.name) (filter (is_sink_of (cell_of l i.model)) i.pins)
 
--- the sinks of instances: instances in order, pins by name
+-- such pins of all instances: instances in order, pins by name
 abbrev pub all_sinks : Library → List Instance → List Terminal
 all_sinks l instances = flat_map (instance_sinks l) instances
 
--- the sinks of a class, in that order
+-- the class of a supply, which is no net
+abbrev pub is_supply_class : Wired → ℕ → Bool
+is_supply_class n class = nat_eq (n.class (port vdd)) class || nat_eq (n.class (port vss)) class
+
+-- the sinks of a class, in that order; that of a supply has none
 abbrev pub sinks : Library → Wired → ℕ → List Terminal
-sinks l n class = filter (λ t. nat_eq (n.class t) class) (all_sinks l n.instances)
+sinks l n class = if is_supply_class n class then [] else filter (λ t. nat_eq (n.class t) class) (all_sinks l n.instances)
 
 -- ---- a netlist in memory
 

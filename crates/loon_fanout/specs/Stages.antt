@@ -1,5 +1,5 @@
 -- What the stages give: the repeater, the sinks of each class by their places, and the classes of terminals with gates put in.
-use Rattle.std.specs.Prelude.{◌≡◌, ◌⊎◌, ℕ, ◌+◌, ◌<◌, ◌≤◌, Bool, true, false, not, ◌&&◌, List, [], ◌∷◌, ◌++◌, length, map, Option, None, Some, nat_eq, slice_set, slice_get, slice_index_or, if◌then◌else◌}
+use Rattle.std.specs.Prelude.{◌≡◌, ◌⊎◌, ℕ, ◌+◌, ◌<◌, ◌≤◌, Bool, true, false, not, ◌&&◌, ◌||◌, List, [], ◌∷◌, ◌++◌, length, map, Option, None, Some, nat_eq, slice_set, slice_get, slice_index_or, if◌then◌else◌}
 use Prim.Native.Nat.{suc}
 use Rattle.std.specs.Global.{Vec}
 use Rattle.std.specs.List.{flat_map, list_any}
@@ -75,6 +75,17 @@ pub record AddsLoad (old new : List (Vec ℕ)) (mark : Bool) (class place : ℕ)
 pub record AreLoads (marks : List Bool) (classes : List ℕ) (count : ℕ) (loads : List (Vec ℕ)) : Type 0 where
   pub many : length loads ≡ count
   pub each : (class : ℕ) (d : Vec ℕ) → class < count → (slice_index_or loads class d).items ≡ marked_places 0 marks classes class
+
+-- the same, but for a class that has no sinks
+pub record EmptiesLoad (old new : List (Vec ℕ)) (class : ℕ) : Type 0 where
+  pub many : length new ≡ length old
+  pub each : (k : ℕ) (d : Vec ℕ) → k < length old → (slice_index_or new k d).items ≡ (if nat_eq class k then [] else (slice_index_or old k d).items)
+
+-- the loads of nets: the classes of the two supplies have none
+pub record AreNetLoads (marks : List Bool) (classes : List ℕ) (count high low : ℕ) (loads : List (Vec ℕ)) : Type 0 where
+  pub many : length loads ≡ count
+  pub each : (class : ℕ) (d : Vec ℕ) → class < count
+      → (slice_index_or loads class d).items ≡ (if nat_eq high class || nat_eq low class then [] else marked_places 0 marks classes class)
 
 -- ---- gates put in
 

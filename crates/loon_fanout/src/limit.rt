@@ -72,7 +72,7 @@ fn names_of(alloc: Global, nodes: &[Node]) -> Result<Vec<Text>, AllocError>
     Ok(names)
 }
 
-/// Whether a class has more sinks than that.
+/// Whether a net has more sinks than that.
 fn is_crowded(loads: &[Vec<usize>], limit: usize) -> bool
     ensures { IsTrue result ↔ HasLongLoad limit loads.now }
 {
@@ -136,16 +136,17 @@ fn with_gates(
 
 /// Puts buffers into a netlist until no net has more than `fanout` sinks; a netlist in which none has stays as it is.
 ///
-/// The sinks of a net are the input pins of instances in its class, other than clock pins, vdd and vss. While a net has too many,
-/// its sinks in their order (instances in order, pins by name) are cut into groups of `fanout`, the last perhaps smaller, and each
-/// group is put behind a buffer of its own: the first usable cell of the library whose function is its input, or where there is
-/// none two of the first inverter in a row. Buffers stand behind the other instances and are called b0, b1 and so on, without the
-/// names that instances have. Nets are taken in the order of their classes.
+/// The sinks of a net are the input pins of instances in its class, other than clock pins, vdd and vss; the classes of the ports vdd
+/// and vss are no nets, so inputs that are tied to a supply get no buffer. While a net has too many, its sinks in their order
+/// (instances in order, pins by name) are cut into groups of `fanout`, the last perhaps smaller, and each group is put behind a
+/// buffer of its own: the first usable cell of the library whose function is its input, or where there is none two of the first
+/// inverter in a row. Buffers stand behind the other instances and are called b0, b1 and so on, without the names that instances
+/// have. Nets are taken in the order of their classes.
 ///
 /// It is refused by `NoBuffer` exactly where a net has too many sinks and the library has neither a buffer nor an inverter. The
-/// netlist must be of usable cells, with ports vdd and vss, and with all gates it must have fewer than 2^32 pins. Takes memory for
-/// the netlist and for each terminal; time for each terminal with the logarithm of their number, and for each instance once for
-/// each cell of the library.
+/// netlist must be of usable cells, with ports vdd and vss, and 32 times its ports and pins must be fewer than 2^32, so that it has
+/// fewer pins than that with all gates. Takes memory for the netlist and for each terminal; time for each terminal with the logarithm
+/// of their number, and for each instance once for each cell of the library.
 pub fn limit_fanout(
     alloc: Global,
     netlist: &Netlist,
@@ -167,8 +168,8 @@ pub fn limit_fanout(
     texts_are_free();
     stays_right_law();
     let cells = library.cells();
-    let loads = loads(alloc, netlist, library)?;
     let mut wiring = wiring_of(alloc, netlist, library)?;
+    let loads = loads(alloc, netlist, library, wiring.high, wiring.low)?;
     let limit = fanout as usize;
     if !is_crowded(&loads, limit) {
         return Ok(with_gates(alloc, netlist, None, wiring)?);

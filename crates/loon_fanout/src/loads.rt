@@ -1,4 +1,4 @@
-// The sinks of each class of a netlist.
+// The sinks of each net of a netlist.
 ghost use Rattle.std.specs.Prelude.{◌≡◌, ◌<◌, ◌++◌, [], false, map, length, IfOk, OnOk};
 ghost use Rattle.std.specs.List.{All, flat_map, list_any};
 ghost use Rattle.std.specs.Option.{option_copied};
@@ -9,7 +9,7 @@ ghost use Rattle.cell_model.specs.View.{function_view};
 ghost use Rattle.cell_model.specs.Library.{cell_named};
 ghost use Rattle.net_core.specs.Frame.{instance_of};
 ghost use Rattle.loon_fanout.specs.Sinks.{is_clock_of, is_sink_pin, is_sink_of};
-ghost use Rattle.loon_fanout.specs.Stages.{is_input_among, pin_marks, all_marks, AddsLoad, AreLoads};
+ghost use Rattle.loon_fanout.specs.Stages.{is_input_among, pin_marks, all_marks, AddsLoad, AreLoads, EmptiesLoad, AreNetLoads};
 
 use cell_checks::Library;
 use cell_model::{Cell, Function, Pin};
@@ -174,14 +174,29 @@ fn marked_loads(
     Ok(loads)
 }
 
-/// The places of the sinks of each class, in order. Takes memory for them.
+/// Drops the places of a class.
+fn empty_load(loads: &mut Vec<Vec<usize>>, class: usize)
+    requires { class < length loads.old.items }
+    ensures { EmptiesLoad loads.old.items loads.new.items class }
+{
+    loads[class].clear();
+}
+
+/// The places of the sinks of each net, in order; the classes of the two supplies have none. Takes memory for them.
 pub(crate) fn loads(
     alloc: Global,
     netlist: &Netlist,
     library: &Library,
+    high: usize,
+    low: usize,
 ) -> Result<Vec<Vec<usize>>, AllocError>
-    ensures { IfOk result (λ loads. AreLoads (all_marks library.now netlist.now) netlist.now.classes netlist.now.count loads.items) }
+    requires high { high < netlist.now.count }
+    requires low { low < netlist.now.count }
+    ensures { IfOk result (λ loads. AreNetLoads (all_marks library.now netlist.now) netlist.now.classes netlist.now.count high low loads.items) }
 {
     let marks = sink_marks(alloc, netlist, library)?;
-    marked_loads(alloc, netlist.count(), &marks, netlist.classes())
+    let mut loads = marked_loads(alloc, netlist.count(), &marks, netlist.classes())?;
+    empty_load(&mut loads, high);
+    empty_load(&mut loads, low);
+    Ok(loads)
 }

@@ -17,7 +17,7 @@ use Rattle.net_core.specs.Netlist.{Instance, port, pin_of, terminals_of}
 use Rattle.loon_fanout.specs.Sinks.{Wired, is_same_owner}
 use Rattle.loon_fanout.specs.Wired.{pin_class, with_gate}
 use Rattle.loon_fanout.specs.Laws.{gate_named}
-use Rattle.loon_fanout.proofs.Splitting.{is_false}
+use Rattle.loon_fanout.proofs.Picking.{is_false}
 use Rattle.loon_fanout.proofs.RightPins.{own_class, input, output, in_inputs, in_outputs, input_class, output_class}
 use Rattle.loon_fanout.proofs.RightStates.{IsGateCell}
 use Rattle.loon_meaning.proofs.Lists.{In-one, input_pin, output_pin, Origin, of_port, of_pin, origin, port_in, pin_in, more_in}

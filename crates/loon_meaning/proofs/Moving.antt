@@ -13,7 +13,7 @@ use Rattle.net_core.specs.Netlist.{Instance, port, pin_of}
 use Rattle.loon_fanout.specs.Sinks.{Wired, is_same_terminal}
 use Rattle.loon_fanout.specs.Wired.{with_gate, with_moved, with_group}
 use Rattle.loon_fanout.specs.Laws.{gate_named}
-use Rattle.loon_fanout.proofs.Splitting.{is_false, any_in}
+use Rattle.loon_fanout.proofs.Picking.{is_false, any_in}
 use Rattle.loon_fanout.proofs.Terminals.{terminal_same}
 use Rattle.loon_fanout.proofs.RightPins.{input, output}
 use Rattle.loon_fanout.proofs.RightStates.{IsGateCell}
