@@ -1,5 +1,5 @@
 -- A limited netlist joins nothing that was apart, once its buffers are taken out.
-use Rattle.std.proofs.Common.{◌≡◌, ◌≢◌, ◌⊎◌, inl, inr, ℕ, ◌<◌, Bool, true, false, List, [], ◌∷◌, ◌++◌, map, Some, refl, sym, ◌∙◌, ap, subst, arith, if◌then◌else◌}
+use Rattle.std.proofs.Common.{◌≡◌, ◌≢◌, inl, inr, ℕ, ◌<◌, Bool, true, false, List, [], ◌∷◌, ◌++◌, map, Some, refl, sym, ◌∙◌, ap, subst, arith, if◌then◌else◌}
 use Rattle.std.proofs.lemmas.Grind.{flat_map-append}
 use Rattle.std.proofs.lemmas.Option.{same_Some}
 use Rattle.std.specs.List.{flat_map}
@@ -9,21 +9,20 @@ use Rattle.vlsi_base.specs.declared.name.Terminal.{Terminal}
 use Rattle.vlsi_base.specs.Names.{vdd}
 use Rattle.vlsi_base.specs.Member.{In, here, there}
 use Rattle.machine_meaning.specs.Machine.{names_of}
-use Rattle.cell_model.specs.Cell.{Cell, pin_ports, cell_inputs, cell_outputs}
+use Rattle.cell_model.specs.Cell.{Cell, pin_ports}
 use Rattle.cell_model.specs.Library.{Library, cell_of}
 use Rattle.cell_model.specs.Connectors.{PinsAreConnectors}
 use Rattle.cell_model.proofs.Members.{In-split, In-left, In-right, In-map_back, All-In}
 use Rattle.cell_checks.specs.Checked.{IsChecked as HasPassed}
 use Rattle.cell_pins.proofs.Sound.{member_at as in_from_place}
 use Rattle.net_core.specs.Places.{IsThere}
-use Rattle.net_core.specs.Netlist.{Instance, Netlist as InMemory, IsNetlist, port, pins_of, terminals_of, terminals, HasClass}
+use Rattle.net_core.specs.Netlist.{Instance, Netlist as InMemory, IsNetlist, port, pins_of, terminals_of, terminals}
 use Rattle.net_core.proofs.Finishing.{netlist_terminals_once}
 use Rattle.net_core.proofs.Namings.{turn_below}
 use Rattle.net_core.proofs.Rings.{class_below}
 use Rattle.net_meaning.specs.Netlist.{Member, Netlist, pin_of, a_pin}
 use Rattle.net_meaning.specs.Well.{Has, buffer_instance}
 use Rattle.net_meaning.specs.Buffers.{AreOne}
-use Rattle.net_theory.proofs.Basics.{In-names}
 use Rattle.net_view.specs.View.{member_of, IsSeenAs}
 use Rattle.net_view.proofs.Lists.{in_place}
 use Rattle.net_view.proofs.Places.{has_class}
@@ -35,7 +34,7 @@ use Rattle.loon_fanout.specs.Laws.{as_netlist, gate_named}
 use Rattle.loon_fanout.specs.Nets.{BufferedJoinsNothing}
 use Rattle.loon_fanout.proofs.Terminals.{class_is}
 use Rattle.loon_fanout.proofs.Sinking.{not_new}
-use Rattle.loon_fanout.proofs.OneClass.{AreGood, good_instances}
+use Rattle.loon_fanout.proofs.OneClass.{good_instances}
 use Rattle.loon_fanout.proofs.Merged.{merged}
 use Rattle.loon_fanout.proofs.Origins.{HasOrigins, limited_origins}
 use Rattle.loon_fanout.proofs.RightStay.{WasLimited, unchanged, by_gates, how, celled_r, all_instances, ports_same, new_names}

@@ -6,7 +6,7 @@ use Rattle.std.specs.List.{All}
 use Rattle.std.specs.Prelude.{slice_get}
 use Rattle.std.proofs.lemmas.Option.{slice_get_within}
 use Rattle.std.specs.Global.{Vec}
-use Rattle.loon_fanout.specs.Stages.{marked_places, AddsLoad, AreLoads, EmptiesLoad, AreNetLoads, HasLongLoad}
+use Rattle.loon_fanout.specs.Stages.{marked_places, AddsLoad, AreLoads, AreNetLoads, HasLongLoad}
 
 pub record SoFar (marks : List Bool) (classes : List ℕ) (count place : ℕ) (loads : List (Vec ℕ)) : Type 0 where
   pub many : length loads ≡ count
@@ -81,25 +81,6 @@ loads_below marks classes count high down n loads are many k d low =
       by : (b : Bool) → All (λ place. place < n) (if b then [] else marked_places 0 marks classes k)
       by true = λ j e below. absurd (omega (arith, below))
       by false = λ j e below. let r = marked_below 0 marks classes k j e below in omega (arith, r, many)
-
--- without the loads of the supplies' classes
-pub net_loads : (marks : List Bool) (classes : List ℕ) (count high down : ℕ) (all some loads : List (Vec ℕ)) → AreLoads marks classes count all → EmptiesLoad all some high
-    → EmptiesLoad some loads down → AreNetLoads marks classes count high down loads
-net_loads marks classes count high down all some loads are first second = record {
-  many = second.many ∙ first.many ∙ are.many;
-  each = λ k d low.
-      let many = are.many in
-      let more = first.many in
-      second.each k d (omega (arith, low, many, more))
-      ∙ ap (λ (xs : List ℕ). if nat_eq down k then [] else xs) (first.each k d (omega (arith, low, many)))
-      ∙ ap (λ (xs : List ℕ). if nat_eq down k then [] else if nat_eq high k then [] else xs) (are.each k d low)
-      ∙ by (nat_eq high k) (nat_eq down k) (marked_places 0 marks classes k);
-} where
-  by : (a b : Bool) (xs : List ℕ) → (if b then [] else if a then [] else xs) ≡ (if a || b then [] else xs)
-  by true true xs = refl
-  by true false xs = refl
-  by false true xs = refl
-  by false false xs = refl
 
 -- no class has more sinks where a loop met none
 pub got : {A : Type 0} (xs : List A) (k : ℕ) (x : A) → slice_get xs k ≡ Some x → get_or xs k x ≡ x

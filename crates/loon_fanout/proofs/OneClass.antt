@@ -12,7 +12,7 @@ use Rattle.cell_model.specs.Library.{Library, cell_of, IsUsable}
 use Rattle.cell_model.proofs.Members.{In-split, In-left, In-right, In-map, In-map_back, All-In}
 use Rattle.cell_model.proofs.Texts.{text_differs}
 use Rattle.cell_pins.specs.Pins.{with_supply, all_ports}
-use Rattle.cell_pins.proofs.Ports.{in_filter, sorted_of, sorted_supply, sorted_different}
+use Rattle.cell_pins.proofs.Ports.{sorted_of, sorted_supply, sorted_different}
 use Rattle.vlsi_base.specs.Names.{vdd, vss}
 use Rattle.net_core.specs.Netlist.{Instance, Netlist as InMemory, IsNetlist}
 use Rattle.net_meaning.specs.Netlist.{Member, pin_of}

@@ -1,7 +1,7 @@
 -- Numbers that lead to each other, and loops of them.
-use Rattle.std.proofs.Common.{◌≡◌, ◌≢◌, ◌⊎◌, inl, inr, ℕ, zero, suc, ◌+◌, ◌<◌, Bool, true, false, List, [], ◌∷◌, length, Some, refl, sym, ap, ◌∙◌, subst, arith}
+use Rattle.std.proofs.Common.{◌≡◌, ◌≢◌, ◌⊎◌, inl, inr, ℕ, zero, suc, ◌+◌, ◌<◌, Bool, true, false, List, [], ◌∷◌, length, Some, refl, sym, ◌∙◌, subst, arith}
 use Rattle.vlsi_base.specs.Member.{In, here, there, AllDifferent}
-use Rattle.net_core.specs.Places.{Stands, NoneTwice}
+use Rattle.net_core.specs.Places.{Stands}
 
 -- ---- a closed way has a ring of different ones
 

@@ -1,30 +1,26 @@
 -- A limited netlist is of usable cells, and no net of it has too many sinks.
-use Rattle.std.proofs.Common.{◌≡◌, inl, inr, ℕ, ◌≤◌, Bool, true, false, List, [], ◌∷◌, length, map, filter, None, Some, refl, sym, ◌∙◌, ap, subst, arith, nat_eq, eqb-true, eq-eqb, if◌then◌else◌}
-use Rattle.std.specs.List.{flat_map}
+use Rattle.std.proofs.Common.{◌≡◌, inl, inr, ℕ, Bool, List, [], map, None, Some, refl, sym, ap, subst}
 use Rattle.vlsi_base.specs.declared.name.Name.{Name}
 use Rattle.vlsi_base.specs.declared.name.Port.{Port}
 use Rattle.vlsi_base.specs.declared.name.Terminal.{Terminal}
 use Rattle.vlsi_base.specs.Names.{vdd, vss}
-use Rattle.vlsi_base.specs.Member.{In, here, there}
+use Rattle.vlsi_base.specs.Member.{In}
 use Rattle.machine_meaning.specs.Machine.{names_of}
 use Rattle.cell_model.specs.Cell.{Cell}
 use Rattle.cell_model.specs.Library.{Library, cell_of, IsUsable}
 use Rattle.cell_model.proofs.Members.{In-split, In-map_back}
 use Rattle.cell_checks.specs.Checked.{IsChecked as HasPassed}
 use Rattle.cell_pins.specs.Pins.{all_ports}
-use Rattle.cell_pins.proofs.Ports.{in_filter}
 use Rattle.cell_pins.proofs.Sound.{member_at as in_from_place}
 use Rattle.net_core.specs.Places.{IsThere}
-use Rattle.net_core.specs.Netlist.{Instance, Netlist as InMemory, IsNetlist, port, pin_of, terminals, HasClass}
+use Rattle.net_core.specs.Netlist.{Instance, Netlist as InMemory, IsNetlist, port, terminals}
 use Rattle.net_core.proofs.Finishing.{netlist_terminals_once}
 use Rattle.net_view.proofs.Lists.{in_place}
-use Rattle.net_view.proofs.Places.{Which, which_port, which_pin, which, port_there, pin_there, has_class}
-use Rattle.loon_fanout.specs.Sinks.{Wired, is_sink_of, instance_sinks, sinks, wired_of}
-use Rattle.loon_fanout.specs.Limited.{IsNetlistOf, IsBuffered, HasFanout, IsOfCells}
+use Rattle.net_view.proofs.Places.{Which, which_port, which_pin, which, port_there}
+use Rattle.loon_fanout.specs.Sinks.{wired_of}
+use Rattle.loon_fanout.specs.Limited.{IsBuffered, HasFanout, IsOfCells}
 use Rattle.loon_fanout.specs.Laws.{gate_named}
 use Rattle.loon_fanout.specs.Nets.{BufferedRemains, BufferedHasFewInputs}
-use Rattle.loon_fanout.proofs.Picking.{flat_in}
-use Rattle.loon_fanout.proofs.Terminals.{class_is}
 use Rattle.loon_fanout.proofs.Gating.{has_fanout}
 use Rattle.loon_fanout.proofs.Kept.{limited_stays_beside}
 use Rattle.loon_fanout.proofs.FewInputs.{right_has_few_inputs}

@@ -14,7 +14,7 @@ use Rattle.machine_core.proofs.Names.{same_name-true, same_name-itself, same_nam
 use Rattle.cell_model.specs.Cell.{Function, gate, flip_flop, other, opaque, Cell, pin_ports, cell_inputs, cell_outputs}
 use Rattle.cell_model.specs.Library.{Library, cell_of, IsUsable, IsPlain}
 use Rattle.cell_model.proofs.Texts.{text_same, text_itself, text_differs}
-use Rattle.cell_model.proofs.Members.{In-split, In-map, In-map_back}
+use Rattle.cell_model.proofs.Members.{In-map, In-map_back}
 use Rattle.cell_pins.proofs.Ports.{in_filter, sorted_of, sorted_different}
 use Rattle.net_core.specs.Netlist.{Instance, pin_of, port}
 use Rattle.net_meaning.specs.Netlist.{Member, Netlist, IsTerminal, a_port, a_pin}
