@@ -34,7 +34,7 @@ new-requires c =
     let made : c.in_ok-table-in-Ok-2.table ≡ counted_in c.args.tokens.now c.in-Ok.entity =
     counted_made c.args.tokens.now c.in-Ok.entity c.in_ok-table-in-Ok.table c.in_ok-table-in-Ok-2.table c.as_slice-in-Ok-2.result.now c.as_slice-in-Ok.result.now (option_copied c.named_by-next.result)
     c.as_slice-in-Ok-2.ensures c.in_ok-table-in-Ok.ensures c.as_slice-in-Ok.ensures c.named_by-next.ensures c.in_ok-table-in-Ok-2.ensures in
-    subst (λ (ks : List Symbol). length (all_names ks) < 2 ^ 32) (sym made) (counted_few c.args.tokens.now c.in-Ok.entity c.entity.new.self read)
+    record { few = subst (λ (ks : List Symbol). length (all_names ks) < 2 ^ 32) (sym made) (counted_few c.args.tokens.now c.in-Ok.entity c.entity.new.self read) }
 
 pub passes_in-requires-clause-different : goal.passes_in-requires-clause-different
 passes_in-requires-clause-different c =
