@@ -28,13 +28,13 @@ returns-then-is_some-clause-none c =
     none_repeated c.args.tokens.now c.args.left c.in-Ok.entity c.entity.new.self twice.0 read (ap (first_repeated []) (sym made) ∙ twice.1)
 
 -- no name is
-pub new-tally-requires : goal.new-tally-requires
-new-tally-requires c =
+pub new-requires : goal.new-requires
+new-requires c =
     let read : entity_at DEPTH (start c.args.tokens.now.items) ≡ Ok (c.in-Ok.entity, c.entity.new.self) = ap (entity_at DEPTH) (sym (c.new-cursor.ensures ∙ ap start c.as_slice.ensures)) ∙ c.in-Ok.ensures in
     let made : c.in_ok-table-in-Ok-2.table ≡ counted_in c.args.tokens.now c.in-Ok.entity =
     counted_made c.args.tokens.now c.in-Ok.entity c.in_ok-table-in-Ok.table c.in_ok-table-in-Ok-2.table c.as_slice-in-Ok-2.result.now c.as_slice-in-Ok.result.now (option_copied c.named_by-next.result)
     c.as_slice-in-Ok-2.ensures c.in_ok-table-in-Ok.ensures c.as_slice-in-Ok.ensures c.named_by-next.ensures c.in_ok-table-in-Ok-2.ensures in
-    subst (λ (ks : List Symbol). length (all_names ks) < 2 ^ 32) (sym made) (counted_few c.args.tokens.now c.in-Ok.entity c.entity.new.self read)
+    record { few = subst (λ (ks : List Symbol). length (all_names ks) < 2 ^ 32) (sym made) (counted_few c.args.tokens.now c.in-Ok.entity c.entity.new.self read) }
 
 pub passes_in-requires-clause-different : goal.passes_in-requires-clause-different
 passes_in-requires-clause-different c =
