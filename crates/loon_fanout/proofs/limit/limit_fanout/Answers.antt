@@ -42,6 +42,13 @@ calm_then c =
     c.in_ok-wiring.ensures.start c.in_ok-loads.loads.items c.deref.result.now c.in_ok-loads.ensures c.deref.ensures.value c.is_crowded.result
     c.if-not-is_crowded.true c.is_crowded.ensures
 
+repeated_then : (c : goal.After-drop-loads-in-Some-1) → Repeated c.args.library.now c.args.netlist.now c.in-Some.found c.limit_all.new.self c.args.fanout
+repeated_then c =
+    repeated c.texts_are_free.ensures.free c.args.library.now c.args.netlist.now c.args.fanout c.requires.size c.in_ok-wiring.ensures.sound
+    c.requires.cells c.requires.room c.cells-cells.result.now c.cells-cells.ensures.value c.cells-cells.ensures.checked c.in_ok-found.field-0
+    c.in-Some.found c.in-Some.is c.in_ok-found.ensures.found c.in_ok-wiring.wiring c.limit_all.new.self c.in_ok-wiring.ensures.start
+    c.in_ok-loads.loads.items c.deref-in-Some.result.now c.in_ok-loads.ensures c.deref-in-Some.ensures.value c.in_ok-limit_all-in-Some.ensures
+
 pub with_gates-requires : goal.with_gates-requires
 with_gates-requires c =
     let k =
@@ -91,21 +98,13 @@ with_gates-requires-in-Some c =
 
 pub returns-in_ok-with_gates-in-Some-clause-buffered : goal.returns-in_ok-with_gates-in-Some-clause-buffered
 returns-in_ok-with_gates-in-Some-clause-buffered c =
-    let k =
-    repeated c.texts_are_free.ensures.free c.args.library.now c.args.netlist.now c.args.fanout c.requires.size c.in_ok-wiring.ensures.sound
-    c.requires.cells c.requires.room c.cells-cells.result.now c.cells-cells.ensures.value c.cells-cells.ensures.checked c.in_ok-found.field-0
-    c.in-Some.found c.in-Some.is c.in_ok-found.ensures.found c.in_ok-wiring.wiring c.limit_all.new.self c.in_ok-wiring.ensures.start
-    c.in_ok-loads.loads.items c.deref-in-Some.result.now c.in_ok-loads.ensures c.deref-in-Some.ensures.value c.in_ok-limit_all-in-Some.ensures in
+    let k = repeated_then c in
     limited_buffered c.args.library.now c.args.netlist.now c.in-Some.found c.limit_all.new.self c.args.fanout k.b
     c.in_ok-with_gates-in-Some.field-0 k.rep k.done c.in_ok-with_gates-in-Some.ensures.gated
 
 pub returns-in_ok-with_gates-in-Some-clause-fanout : goal.returns-in_ok-with_gates-in-Some-clause-fanout
 returns-in_ok-with_gates-in-Some-clause-fanout c =
-    let k =
-    repeated c.texts_are_free.ensures.free c.args.library.now c.args.netlist.now c.args.fanout c.requires.size c.in_ok-wiring.ensures.sound
-    c.requires.cells c.requires.room c.cells-cells.result.now c.cells-cells.ensures.value c.cells-cells.ensures.checked c.in_ok-found.field-0
-    c.in-Some.found c.in-Some.is c.in_ok-found.ensures.found c.in_ok-wiring.wiring c.limit_all.new.self c.in_ok-wiring.ensures.start
-    c.in_ok-loads.loads.items c.deref-in-Some.result.now c.in_ok-loads.ensures c.deref-in-Some.ensures.value c.in_ok-limit_all-in-Some.ensures in
+    let k = repeated_then c in
     built_fanout c.args.library.now c.args.netlist.now (Some c.in-Some.found) c.limit_all.new.self c.args.fanout k.done.wired
     c.in_ok-with_gates-in-Some.field-0 k.done.built c.in_ok-with_gates-in-Some.ensures.gated c.in_ok-with_gates-in-Some.ensures.sound
 
@@ -116,32 +115,18 @@ returns-in_ok-with_gates-in-Some-clause-right c =
 
 pub returns-in_ok-with_gates-in-Some-clause-cells : goal.returns-in_ok-with_gates-in-Some-clause-cells
 returns-in_ok-with_gates-in-Some-clause-cells c =
-    let k =
-    repeated c.texts_are_free.ensures.free c.args.library.now c.args.netlist.now c.args.fanout c.requires.size c.in_ok-wiring.ensures.sound
-    c.requires.cells c.requires.room c.cells-cells.result.now c.cells-cells.ensures.value c.cells-cells.ensures.checked c.in_ok-found.field-0
-    c.in-Some.found c.in-Some.is c.in_ok-found.ensures.found c.in_ok-wiring.wiring c.limit_all.new.self c.in_ok-wiring.ensures.start
-    c.in_ok-loads.loads.items c.deref-in-Some.result.now c.in_ok-loads.ensures c.deref-in-Some.ensures.value c.in_ok-limit_all-in-Some.ensures in
+    let k = repeated_then c in
     built_cells c.args.library.now c.args.netlist.now (Some c.in-Some.found) c.limit_all.new.self c.args.fanout k.done.wired
     c.in_ok-with_gates-in-Some.field-0 k.done.built c.in_ok-with_gates-in-Some.ensures.gated
 
 pub returns-in_ok-with_gates-in-Some-clause-few : goal.returns-in_ok-with_gates-in-Some-clause-few
 returns-in_ok-with_gates-in-Some-clause-few c =
-    let k =
-    repeated c.texts_are_free.ensures.free c.args.library.now c.args.netlist.now c.args.fanout c.requires.size c.in_ok-wiring.ensures.sound
-    c.requires.cells c.requires.room c.cells-cells.result.now c.cells-cells.ensures.value c.cells-cells.ensures.checked c.in_ok-found.field-0
-    c.in-Some.found c.in-Some.is c.in_ok-found.ensures.found c.in_ok-wiring.wiring c.limit_all.new.self c.in_ok-wiring.ensures.start
-    c.in_ok-loads.loads.items c.deref-in-Some.result.now c.in_ok-loads.ensures c.deref-in-Some.ensures.value c.in_ok-limit_all-in-Some.ensures in
+    let k = repeated_then c in
     limited_few c.args.library.now c.args.netlist.now c.in-Some.found c.limit_all.new.self c.args.fanout k.b c.in_ok-with_gates-in-Some.field-0 k.done
     c.in_ok-with_gates-in-Some.ensures.gated
 
 pub returns-in_ok-with_gates-in-Some-clause-covered : goal.returns-in_ok-with_gates-in-Some-clause-covered
-returns-in_ok-with_gates-in-Some-clause-covered c = λ over lacks.
-    let k =
-    repeated c.texts_are_free.ensures.free c.args.library.now c.args.netlist.now c.args.fanout c.requires.size c.in_ok-wiring.ensures.sound
-    c.requires.cells c.requires.room c.cells-cells.result.now c.cells-cells.ensures.value c.cells-cells.ensures.checked c.in_ok-found.field-0
-    c.in-Some.found c.in-Some.is c.in_ok-found.ensures.found c.in_ok-wiring.wiring c.limit_all.new.self c.in_ok-wiring.ensures.start
-    c.in_ok-loads.loads.items c.deref-in-Some.result.now c.in_ok-loads.ensures c.deref-in-Some.ensures.value c.in_ok-limit_all-in-Some.ensures in
-    not_none c.args.library.now.cells k.b k.rep lacks
+returns-in_ok-with_gates-in-Some-clause-covered c = λ over lacks. let k = repeated_then c in not_none c.args.library.now.cells k.b k.rep lacks
 
 pub returns-in-None-clause-refused : goal.returns-in-None-clause-refused
 returns-in-None-clause-refused c = (
