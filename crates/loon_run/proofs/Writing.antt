@@ -141,4 +141,4 @@ driven_is_writable known catal source files l table n k fanout delay library of 
 
   named : (k : Netlist) (delay : ℕ) → IsMade n l fanout k delay → HasUsableCells l k → CanBeNamed k
   named _ _ (bare none) cells = known.named source table n is met (model_named known.lists catal files l library n given)
-  named k delay (driven h few) cells = driven_named known catal source files l table n k fanout delay library is met h given cells
+  named k delay (driven of_cells h few) cells = driven_named known catal source files l table n k fanout delay library is met h given cells

@@ -13,7 +13,7 @@ use Rattle.net_core.specs.declared.pins.ModelPins.{ModelPins}
 use Rattle.net_core.specs.Netlist.{Netlist, IsNetlist}
 use Rattle.loon_fanout.specs.declared.error.BufferError.{BufferError}
 use Rattle.loon_fanout.specs.declared.error.BufferError.TheVariants as error
-use Rattle.loon_fanout.specs.Limited.{IsCrowded, HasFanout, StaysRight}
+use Rattle.loon_fanout.specs.Limited.{IsCrowded, HasFanout, IsOfCells, StaysRight}
 use Rattle.loon_fanout.specs.Repeaters.{NoneRepeats}
 use Rattle.loon_drive.specs.Driven.{most_sinks, IsDrivenFrom}
 use Rattle.spell_theory.specs.Layout.{text_of}
@@ -61,12 +61,13 @@ pub record AreRead (source catal : List ℕ) (cells : List (List ℕ)) (l : Libr
   pub pins : IsTableOf l false table
   pub netlist : IsVst source table n
 
--- A netlist without instances stays as it is, and takes no time. Another gets buffers, and then its cells are exchanged for drives of
--- them: no net has more sinks than asked for, and no exchange of one instance's cell makes the longest path, which takes so many
--- femtoseconds and no more than before the exchanges, shorter.
+-- A netlist without instances stays as it is, and takes no time. Another, of usable cells, gets buffers, and then
+-- its cells are exchanged for drives of them: no net has more sinks than asked for, and no exchange of one instance's cell makes the
+-- longest path, which takes so many femtoseconds and no more than before the exchanges, shorter.
 pub data IsMade (n : Netlist) (l : Library) (fanout : ℕ) : Netlist → ℕ → Type 0 where
   bare : n.instances ≡ [] → IsMade n l fanout n 0
-  driven : {k : Netlist} {delay : ℕ} → IsDrivenFrom n l fanout k delay → HasFanout l (most_sinks fanout) k → IsMade n l fanout k delay
+  driven : {k : Netlist} {delay : ℕ} → IsOfCells n l → IsDrivenFrom n l fanout k delay → HasFanout l (most_sinks fanout) k
+      → IsMade n l fanout k delay
 
 -- Library and netlist are read, and what is made of it is written; it is right for each machine that the read one is right for.
 pub record IsLimiting (c : LoonCommand) (source catal : List ℕ) (cells : List (List ℕ)) (p : Product) : Type 0 where

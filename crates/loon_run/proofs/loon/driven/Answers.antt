@@ -15,4 +15,6 @@ drive_netlist-requires-clause-cells c =
 
 pub returns-clause-made : goal.returns-clause-made
 returns-clause-made c =
-    made_of c.drive_netlist.result c.args.netlist c.args.library.now c.args.fanout c.drive_netlist.ensures.driven c.drive_netlist.ensures.fanout
+    let i = some_of (instance_of c.args.netlist.models) c.nodes.result.now c.args.netlist.instances c.nodes.ensures.seen (sym c.is_empty.ensures ∙ c.if-is_empty.false) in
+    made_of c.drive_netlist.result c.args.netlist c.args.library.now c.args.fanout (c.requires.drivable.cells i.0 i.1)
+    c.drive_netlist.ensures.driven c.drive_netlist.ensures.fanout
