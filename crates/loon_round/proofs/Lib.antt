@@ -1,0 +1,3 @@
+mod Tied
+mod Passes
+mod Meets
