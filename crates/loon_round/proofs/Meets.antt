@@ -1,5 +1,5 @@
 -- A netlist with buffers and other drives meets what the stages ask.
-use Rattle.std.proofs.Common.{◌≡◌, ◌⊎◌, inl, inr, ℕ, false, List, [], map, Some, None, refl, sym, ap, ◌∙◌, subst}
+use Rattle.std.proofs.Common.{◌≡◌, ◌⊎◌, inl, inr, ℕ, false, List, Some, None, refl, sym, ap, ◌∙◌, subst}
 use Rattle.vlsi_base.specs.declared.name.Name.{Name}
 use Rattle.vlsi_base.specs.declared.name.Port.{Port}
 use Rattle.vlsi_base.specs.declared.name.Terminal.{Terminal}
@@ -31,7 +31,7 @@ use Rattle.loon_fanout.proofs.RightStay.{new_names}
 use Rattle.loon_drive.specs.Driven.{most_sinks, IsDrivenFrom}
 use Rattle.loon_drive.specs.Laws.{CellsStay, DrivenIsGrown}
 use Rattle.loon_drive.proofs.Fitting.{fits_again}
-use Rattle.loon_run.specs.Loon.{IsMade, bare, driven}
+use Rattle.loon_run.specs.Loon.{bare, driven}
 use Rattle.loon_round.specs.Meets.{DrivenMeetsCondition, MadeMeetsCondition}
 use Rattle.loon_round.proofs.Tied.{AreTied, Keeps, limited_keeps}
 use Rattle.loon_round.proofs.Passes.{IsUsed, has_back, origin, passes_again}
@@ -151,3 +151,13 @@ pub made_meets : Known → MadeMeetsCondition
 made_meets known n l table fanout _ _ passed of is_n is_k met (bare none) = met
 made_meets known n l table fanout k delay passed of is_n is_k met (driven of_cells d few) =
     meets known n l table fanout k delay passed of is_n is_k of_cells met d
+
+-- ---- what was used on the way
+
+pub cells_after : Known → (n : Netlist) (l : Library) (fanout : ℕ) (k : Netlist) (delay : ℕ) → HasPassed false l → IsNetlist n → IsOfCells n l → IsDrivenFrom n l fanout k delay
+    → IsOfCells k l
+cells_after known n l fanout k delay passed is_n of_cells d =
+    known.cells l d.buffered k d.exchanged (known.remains false n l (most_sinks fanout) d.buffered passed is_n d.sound of_cells d.is_buffered).0
+
+pub ports_after : Known → (n : Netlist) (l : Library) (fanout : ℕ) (k : Netlist) (delay : ℕ) → IsDrivenFrom n l fanout k delay → k.ports ≡ n.ports
+ports_after known n l fanout k delay d = (known.grown n l fanout k delay d).ports

@@ -1,6 +1,6 @@
 -- A netlist whose cells are exchanged for drives of them passes its checks where it did.
-use Rattle.std.proofs.Common.{◌≡◌, ℕ, ◌<◌, Bool, false, inr, List, [], ◌∷◌, ◌++◌, map, Some, refl, sym, ap, ◌∙◌, subst}
-use Rattle.std.specs.List.{flat_map, zip}
+use Rattle.std.proofs.Common.{◌≡◌, ℕ, ◌<◌, Bool, false, inr, List, ◌++◌, map, Some, refl, sym, ap, ◌∙◌, subst}
+use Rattle.std.specs.List.{zip}
 use Rattle.vlsi_base.specs.declared.name.Name.{Name}
 use Rattle.vlsi_base.specs.declared.name.Port.{Port}
 use Rattle.vlsi_base.specs.declared.name.Terminal.{Terminal}
@@ -20,7 +20,7 @@ use Rattle.net_core.specs.Netlist.{Instance, Netlist, pin_of, terminals, termina
 use Rattle.net_core.specs.Checks.{pins_named, port_role, pin_role, pin_roles, roles, tally_of, all_clocks, has_fault, DependsOn, Passes}
 use Rattle.net_theory.specs.Exchanges.{IsSameFunction}
 use Rattle.net_view.proofs.Lists.{in_place}
-use Rattle.delay_sta.proofs.Tables.{Row, row_of, pins_same}
+use Rattle.delay_sta.proofs.Tables.{row_of, pins_same}
 use Rattle.loon_buffer.specs.Drives.{IsChosenFor, OnlyExchanges}
 use Rattle.loon_meaning.proofs.Exchanging.{AreChosen, none, more, chosen, terminals_same, old_of}
 

@@ -3,4 +3,4 @@
 
 mod laws;
 
-pub use laws::meets_law;
+pub use laws::{meets_law, read_again_law};

@@ -1,4 +1,4 @@
-use Rattle.loon_round.proofs.Meets.{Known, driven_meets, made_meets}
+use Rattle.loon_round.proofs.Meets.{driven_meets, made_meets}
 use Rattle.loon_round.proofs.laws.meets_law.Goals as goal
 
 pub returns-clause-driven : goal.returns-clause-driven
