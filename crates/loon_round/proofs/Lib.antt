@@ -1,0 +1,5 @@
+mod Tied
+mod Passes
+mod Meets
+mod Supplied
+mod Again
