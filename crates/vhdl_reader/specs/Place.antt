@@ -2,7 +2,7 @@
 use Rattle.std.specs.Prelude.{◌≡◌, ℕ, ◌-◌, List, [], ◌∷◌, drop, length, Option, IfSome, Ok, Err}
 use Rattle.vhdl_token.specs.declared.token.PlacedToken.{PlacedToken}
 use Rattle.grammar_theory.specs.Outcome.{At, Outcome, start}
-use Rattle.vhdl_front.specs.Cursor.{at_first}
+use Rattle.vhdl_front.specs.Cursor.{at_first, rest_of}
 use Rattle.vhdl_front.specs.Reading.{expression_at}
 use Rattle.vhdl_front.specs.EntityReading.{entity_at, declarations_at}
 use Rattle.vhdl_reader.specs.declared.done.Kind.{Kind}
@@ -12,6 +12,10 @@ use Rattle.vhdl_reader.specs.declared.done.Step.{Step}
 -- tokens are passed over until so many are left
 abbrev pub with_left : ℕ → At → At
 with_left left here = record { state = here.state; rest = drop (length here.rest - left) here.rest }
+
+-- the next token is passed over
+abbrev pub behind_token : At → At
+behind_token here = record { state = here.state; rest = rest_of here.rest }
 
 -- behind what is read; before what is refused
 abbrev pub behind : {A : Type 0} → At → Outcome A → At

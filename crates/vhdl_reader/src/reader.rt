@@ -1,5 +1,6 @@
 // The reader of tokens, as programs call it.
 ghost use Rattle.std.specs.Prelude.{◌≡◌, ◌≢◌, ◌+◌, ◌-◌, ◌<◌, IsOk, IsNone, IsSome, IfSome, IfOk, OnOk, IfErr, OnErr, Some, None, Ok, Err, length, option_copied};
+ghost use Rattle.std.specs.Option.{option_map};
 ghost use Rattle.vlsi_base.specs.Tree.{view};
 ghost use Rattle.vlsi_base.specs.declared.fault.ReadError.TheVariants.{Memory};
 ghost use Rattle.grammar_theory.specs.Outcome.{start};
@@ -8,7 +9,7 @@ ghost use Rattle.vhdl_front.specs.Expression.{expression as expression_grammar};
 ghost use Rattle.vhdl_front.specs.Entity.{entity as entity_grammar, declarations as declarations_grammar};
 ghost use Rattle.vhdl_front.specs.Front.{line_at, Becomes};
 ghost use Rattle.vhdl_reader.specs.Front.{Keeps, Again, IsRead, next_token, too_deep};
-ghost use Rattle.vhdl_reader.specs.Place.{behind_read};
+ghost use Rattle.vhdl_reader.specs.Place.{behind_read, behind_token};
 
 use crate::copies::{copy_fault, repeat};
 use crate::done::{Kind, Step, read_again};
@@ -20,6 +21,16 @@ use vhdl_token::{PlacedToken, Token, Tokens};
 use vlsi_base::{
     Declarations, Entity, Limit, LimitKind, ParsedExpr, Pragmas, ReadError,
 };
+
+/// Passes over the next token, of which there must be one, with the cursor that is kept, if there is one.
+fn skip_kept(cursor: &mut Option<Cursor>)
+    requires { IfSome cursor.old (λ c. 0 < length c.rest) }
+    ensures { cursor.new ≡ option_map behind_token cursor.old }
+{
+    if let Some(cursor) = cursor {
+        cursor.skip();
+    }
+}
 
 /// Reads entities, declarations of signals and expressions from tokens, as IEEE 1076 has them but for what
 /// `docs/FORMATS.md` says. After a refusal it answers the same refusal again. A call that answers `Memory` leaves the reader
@@ -86,7 +97,7 @@ impl<'a> TokenReader<'a> {
     /// Goes on from where a cursor has read this to.
     fn go_on(&mut self, kind: Kind, cursor: Cursor<'a>) -> Result<(), AllocError>
         requires { cursor ≡ behind_read kind self.old.room self.old.here }
-        ensures ok { OnOk result (self.new ≡ record self.old { here = cursor }) }
+        ensures ok { OnOk result (self.new ≡ record self.old { here = cursor.entry }) }
         ensures err { OnErr result (self.new ≡ self.old) }
     {
         let step = Step {
@@ -226,9 +237,7 @@ impl<'a> TokenReader<'a> {
         ensures { self.new ≡ record self.old { here = record { state = self.old.here.state; rest = rest_of self.old.here.rest } } }
     {
         self.rest = &self.rest[1..];
-        if let Some(cursor) = &mut self.cursor {
-            cursor.skip();
-        }
+        skip_kept(&mut self.cursor);
     }
 
     /// Counts an if or a case into the depth. Refused by `Limit` of `Depth`, with 257 reached, where 256 parentheses, ifs and
