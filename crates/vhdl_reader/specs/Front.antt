@@ -1,5 +1,5 @@
 -- What a reader of tokens is, as its callers see it, and when its answers are right.
-use Rattle.std.specs.Prelude.{◌≡◌, ℕ, ◌+◌, List, [], ◌∷◌, Option, None, Some, Result, Ok, Err}
+use Rattle.std.specs.Prelude.{◌≡◌, ◌≢◌, ℕ, ◌+◌, List, [], ◌∷◌, Option, None, Some, Result, Ok, Err}
 use Rattle.vlsi_base.specs.declared.pragma.Pragma.{Pragma}
 use Rattle.vlsi_base.specs.declared.fault.ReadError.{ReadError}
 use Rattle.vlsi_base.specs.declared.fault.ReadError.TheVariants as errors
@@ -42,10 +42,10 @@ Keeps old errors.Memory new = new ≡ old
 Keeps old (errors.Input f) new = new ≡ record old { refused = Some (errors.Input f) }
 Keeps old (errors.Limit l) new = new ≡ record old { refused = Some (errors.Limit l) }
 
--- the same refusal again, unless memory runs out for it
+-- the refusal that is kept, which isn't want of memory, again, unless memory runs out for it
 abbrev pub Again : {X : Type 0} → ReadError → Result X ReadError → Type 0
 Again k (Ok x) = ⊥
-Again k (Err e) = OrMemory k e
+Again k (Err e) = (k ≢ errors.Memory) × OrMemory k e
 
 -- the refusal where no more parentheses, ifs and cases may be open
 abbrev pub too_deep : ReadError

@@ -51,6 +51,8 @@ pub struct TokenReader<'a> {
 }
 
 impl<'a> Model for TokenReader<'a> {
+    ghost use Rattle.std.specs.Prelude.{◌≢◌, Some};
+    ghost use Rattle.vlsi_base.specs.declared.fault.ReadError.TheVariants.{Memory};
     ghost use Rattle.vhdl_reader.specs.Front.{Front};
     ghost use Rattle.vhdl_reader.specs.Place.{stands, IsStanding};
 
@@ -58,7 +60,7 @@ impl<'a> Model for TokenReader<'a> {
 
     ghost view = { λ r. record { here = stands r.tokens.now r.done.items r.rest.now; room = r.room; last_line = r.last_line; pragmas = r.pragmas.now; refused = r.refused } };
 
-    ghost invariant = { λ r. IsStanding r.tokens.now r.done.items r.rest.now r.cursor };
+    ghost invariant = { λ r. IsStanding r.tokens.now r.done.items r.rest.now r.cursor × (r.refused ≢ Some Memory) };
 }
 
 impl<'a> TokenReader<'a> {
