@@ -81,12 +81,12 @@ next_standing tokens done rest after kept new some same moved standing =
     let Rest : List PlacedToken → Type 0 = λ ts. There ts new in
     let Kept : Option At → Type 0 = λ k. There (rest_of rest) k in
     subst Rest (sym same) (subst Kept (sym moved) (record {
-        left = stands_next (place done (start tokens)) rest some standing.left;
-        live = live kept standing.live;
-      })) where
-  live : (k : Option At) → IfSome k (λ c. c ≡ stands tokens done rest) → IfSome (option_map behind_token k) (λ c. c ≡ stands tokens done (rest_of rest))
-  live None h = tt
-  live (Some c) h = ap behind_token h
+      left = stands_next (place done (start tokens)) rest some standing.left;
+      live = live kept standing.live;
+    })) where
+      live : (k : Option At) → IfSome k (λ c. c ≡ stands tokens done rest) → IfSome (option_map behind_token k) (λ c. c ≡ stands tokens done (rest_of rest))
+      live None h = tt
+      live (Some c) h = ap behind_token h
 
 -- ---- what was read
 
@@ -107,6 +107,6 @@ stands_behind tokens done c e = ap (λ (p : At). at_with p.state c.rest) e
 
 pub standing : (tokens : List PlacedToken) (done : List Step) (c : At) → place done (start tokens) ≡ c → IsStanding tokens done c.rest (Some c)
 standing tokens done c e = record {
-    left = stands_behind tokens done c e ∙ (sym (passed_all (length c.rest) c (at_most (length c.rest))) ∙ ap (with_left (length c.rest)) (sym e));
-    live = sym (stands_behind tokens done c e);
-  }
+  left = stands_behind tokens done c e ∙ (sym (passed_all (length c.rest) c (at_most (length c.rest))) ∙ ap (with_left (length c.rest)) (sym e));
+  live = sym (stands_behind tokens done c e);
+}

@@ -1,5 +1,5 @@
 -- From reading to what the grammar says.
-use Rattle.std.proofs.Common.{◌≡◌, ℕ, List, Some, Result, Ok, Err, refl, sym, subst}
+use Rattle.std.proofs.Common.{◌≡◌, ℕ, List, Ok, Err, refl, sym, subst}
 use Rattle.vlsi_base.specs.declared.fault.ReadError.{ReadError}
 use Rattle.vlsi_base.specs.declared.fault.ReadError.TheVariants as errors
 use Rattle.vhdl_token.specs.declared.token.PlacedToken.{PlacedToken}
@@ -10,7 +10,7 @@ use Rattle.grammar_theory.specs.Grammar.{Grammar}
 use Rattle.grammar_theory.specs.Outcome.{At, Outcome, Reader, Fails}
 use Rattle.grammar_theory.specs.Answers.{Accepts, Refuses, Answers}
 use Rattle.vhdl_front.specs.Front.{error_of, OrMemory, Becomes}
-use Rattle.vhdl_reader.specs.Front.{Front, RefusedAs, IsRefusal, Keeps, IsRead}
+use Rattle.vhdl_reader.specs.Front.{Front, IsRefusal, Keeps, IsRead}
 
 abbrev pub Reads : {A : Type 0} → Grammar A → Reader A → Type 0
 Reads {A} G read = (here : At) → Answers G here (read here)

@@ -18,9 +18,7 @@ use std::alloc::{AllocError, Global};
 use std::marker::Model;
 use vhdl_front::{Cursor, stop_error};
 use vhdl_token::{PlacedToken, Token, Tokens};
-use vlsi_base::{
-    Declarations, Entity, Limit, LimitKind, ParsedExpr, Pragmas, ReadError,
-};
+use vlsi_base::{Declarations, Entity, Limit, LimitKind, ParsedExpr, Pragmas, ReadError};
 
 /// Passes over the next token, of which there must be one, with the cursor that is kept, if there is one.
 fn skip_kept(cursor: &mut Option<Cursor>)
@@ -90,7 +88,12 @@ impl<'a> TokenReader<'a> {
             return Some(cursor);
         }
         // what was read isn't refused when it is read again
-        match read_again(self.alloc, self.tokens, self.done.as_slice(), self.rest.len()) {
+        match read_again(
+            self.alloc,
+            self.tokens,
+            self.done.as_slice(),
+            self.rest.len(),
+        ) {
             Ok(cursor) => Some(cursor),
             Err(_) => None,
         }

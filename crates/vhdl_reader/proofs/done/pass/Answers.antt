@@ -1,4 +1,4 @@
-use Rattle.std.proofs.Common.{◌≡◌, ◌<◌, ◌≤◌, ◌∙◌, length, rules, sym}
+use Rattle.std.proofs.Common.{◌<◌, ◌≤◌, ◌∙◌, length, rules, sym}
 use Rattle.vhdl_reader.proofs.Places.{passed_one, passed_all, shorter}
 use Rattle.vhdl_reader.proofs.done.pass.Goals as goal
 

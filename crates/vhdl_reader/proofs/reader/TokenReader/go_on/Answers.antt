@@ -1,7 +1,7 @@
 use Rattle.std.proofs.Common.{◌≡◌, ◌++◌, ◌∙◌, [], ◌∷◌, length, sym, ap, subst}
-use Rattle.grammar_theory.specs.Outcome.{At, start}
+use Rattle.grammar_theory.specs.Outcome.{At}
 use Rattle.vhdl_reader.specs.Front.{Front}
-use Rattle.vhdl_reader.specs.Place.{behind_read, place, stands}
+use Rattle.vhdl_reader.specs.Place.{behind_read, stands}
 use Rattle.vhdl_reader.proofs.Places.{went_on, stands_behind, standing}
 use Rattle.vhdl_reader.specs.declared.done.Step.{Step}
 use Rattle.vhdl_reader.proofs.reader.TokenReader.go_on.Goals as goal
@@ -21,7 +21,7 @@ returns-clause-ok c =
     let s : Step = record { kind = c.args.kind; room = c.self.inside.room; left = length c.self.inside.rest.now } in
     let there = went_on c.self.inside.tokens.now c.self.inside.done.items c.self.inside.rest.now c.args.kind c.self.inside.room c.args.cursor c.self.invariant.0.left is in
     let at : stands c.self.inside.tokens.now c.push.new.self.items c.rest-self-inside.result.now ≡ c.args.cursor =
-      rw (c.in_ok-push.ensures.items, c.rest-self-inside.ensures) (stands_behind c.self.inside.tokens.now (c.self.inside.done.items ++ s ∷ []) c.args.cursor there) in
+    rw (c.in_ok-push.ensures.items, c.rest-self-inside.ensures) (stands_behind c.self.inside.tokens.now (c.self.inside.done.items ++ s ∷ []) c.args.cursor there) in
     let seen : At → Front = λ h. record { here = h; room = c.self.inside.room; last_line = c.self.inside.last_line; pragmas = c.self.inside.pragmas.now; refused = c.self.inside.refused } in
     let moved : Front → Front = λ f. record f { here = c.args.cursor } in
     ap seen at ∙ ap moved c.self.view_is
