@@ -1,5 +1,5 @@
 // The reader of tokens, as programs call it.
-ghost use Rattle.std.specs.Prelude.{◌≡◌, ◌≢◌, ◌+◌, ◌-◌, ◌<◌, IsOk, IsNone, IsSome, IfSome, IfOk, OnOk, IfErr, OnErr, Some, None, Ok, Err, length, option_copied};
+ghost use Rattle.std.specs.Prelude.{◌≡◌, ◌≢◌, ◌+◌, ◌-◌, ◌<◌, IsOk, IsNone, IsSome, IfSome, OnOk, OnErr, Some, None, Err, length, option_copied};
 ghost use Rattle.std.specs.Option.{option_map};
 ghost use Rattle.vlsi_base.specs.Tree.{view};
 ghost use Rattle.vlsi_base.specs.declared.fault.ReadError.TheVariants.{Memory};
