@@ -1,7 +1,7 @@
 // What is read of a text, as a line.
 use std::alloc::{AllocError, Global};
-use vhdl_front::TokenReader;
 use vhdl_lexer::tokens;
+use vhdl_reader::TokenReader;
 use vhdl_token::{Keyword, Sign, Token};
 use vlsi_base::{FaultKind, InputFault, Name, Names, ReadError, Text, push_u64};
 

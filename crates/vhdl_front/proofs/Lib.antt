@@ -3,4 +3,3 @@ pub mod Bits
 pub mod Language
 pub mod Nested
 pub mod EntityLanguage
-pub mod Right

@@ -6,8 +6,8 @@ mod cursor;
 mod entity;
 mod expression;
 mod laws;
-mod reader;
+mod stops;
 
 pub use cursor::{Cursor, name_bytes};
 pub use laws::one_answer;
-pub use reader::{TokenReader, line_of, stop_error};
+pub use stops::{line_of, stop_error};
