@@ -17,3 +17,4 @@ pub mod Marks
 pub mod Codes
 pub mod Driving
 pub mod DriverFault
+pub mod Operators
