@@ -59,13 +59,26 @@ verdict_text (verdict.Broken lines) = lines
 
 -- what a comparison found is said without the tool's word
 abbrev pub is_finding : Verdict → Bool
+is_finding (verdict.Differs label name) = false
+is_finding (verdict.NoBehaviour cell) = false
+is_finding (verdict.Shorted a b) = false
+is_finding (verdict.Different name) = false
+is_finding (verdict.Names name) = false
 is_finding (verdict.Unequal name) = true
 is_finding (verdict.Broken lines) = true
-is_finding _ = false
 
 abbrev pub says_all : Status → Bool
+says_all status.Accepted = false
+says_all status.Usage = false
+says_all (status.Source file fault) = false
+says_all (status.Library fault) = false
+says_all (status.NoCover which) = false
+says_all (status.Budget equation reached) = false
+says_all (status.NoPath net terminal) = false
+says_all (status.File cause name) = false
+says_all status.Memory = false
+says_all (status.Limit l) = false
 says_all (status.No v) = is_finding v
-says_all _ = false
 
 -- What a refusal says behind the tool's word. Wrong words have a line of their own; what has no line says nothing.
 abbrev pub refusal_text : Status → List ℕ
