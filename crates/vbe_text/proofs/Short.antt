@@ -1,19 +1,29 @@
 -- Each expression of a text that is read has few operators.
-use Rattle.std.proofs.Common.{◌≡◌, ℕ, zero, suc, ◌+◌, ◌-◌, ◌==◌, ◌≤◌, ◌<◌, Bool, true, false, nat_lt, bytes_eq, List, [], ◌∷◌, ◌++◌, Result, Ok, Err, inl, inr, refl, sym, ◌∙◌, ap, subst, arith, if◌then◌else◌}
+use Rattle.std.proofs.Common.{◌≡◌, ℕ, zero, suc, ◌+◌, ◌-◌, ◌==◌, ◌≤◌, ◌<◌, Bool, true, false, nat_lt, bytes_eq, List, [], ◌∷◌, ◌++◌, map, Result, Ok, Err, inl, inr, refl, sym, ◌∙◌, ap, subst, arith, if◌then◌else◌}
 use Rattle.vlsi_base.specs.declared.expression.Operator.{Operator}
 use Rattle.vlsi_base.specs.declared.expression.Operator.TheVariants as operation
 use Rattle.vlsi_base.specs.declared.radix.Radix.TheVariants as radix
 use Rattle.vlsi_base.specs.Tree.{Tree, bit, literal, name, index, slice, stable, inverse, binary, folded}
+use Rattle.vlsi_base.specs.declared.entity.Entity.{Entity}
+use Rattle.vhdl_token.specs.declared.token.Tokens.{Tokens}
 use Rattle.vhdl_token.specs.declared.token.PlacedToken.{PlacedToken}
 use Rattle.grammar_theory.specs.declared.form.Form.{Form}
 use Rattle.grammar_theory.specs.declared.refusal.Breach.{Breach}
 use Rattle.grammar_theory.specs.declared.refusal.Breach.TheVariants as broken
-use Rattle.grammar_theory.specs.declared.limits.TheConstants.{CHAIN}
-use Rattle.grammar_theory.specs.Marks.{Mark, plain, opens, operator, spells, Item, State, acts, checked, step, go_on, run}
+use Rattle.grammar_theory.specs.declared.limits.TheConstants.{CHAIN, DEPTH}
+use Rattle.grammar_theory.specs.Marks.{Mark, plain, opens, operator, spells, Item, State, uncounted, acts, checked, step, go_on, run}
 use Rattle.grammar_theory.specs.Grammar.{Grammar, none, nothing, one, marked, Then, ◌or◌, list, placed}
 use Rattle.vhdl_front.specs.Cursor.{name_of, bit_of, digits_of, radix_of}
 use Rattle.vhdl_front.specs.Expression.{number, closing, direction, slice_of, places, suffix, named, bit_literal, text_literal, string_literal, parenthesized, primary, factor, joined, cat, pair, chain, relation, logical, expression_over, less, nested, expression}
-use Rattle.source_meaning.specs.Operators.{operators, IsShort}
+use Rattle.source_meaning.specs.declared.statement.Guarded.{Guarded}
+use Rattle.source_meaning.specs.declared.statement.Choice.{Choice}
+use Rattle.source_meaning.specs.declared.statement.Assignment.{Assignment}
+use Rattle.source_meaning.specs.declared.statement.Statement.{Statement}
+use Rattle.source_meaning.specs.declared.statement.Statement.TheVariants as kind
+use Rattle.source_meaning.specs.declared.statement.DesignFile.{DesignFile}
+use Rattle.source_meaning.specs.Operators.{operators, IsShort, ShortAlternatives, ShortChoice, ShortAssignments, ShortStatement, ShortStatements, HasShortExpressions}
+use Rattle.vbe_text.specs.Source.{GuardedTree, FurtherTree, ChoiceTree, AssignmentTree, StatementTree, asserted, assigned, blocked, SourceTree, guarded_view, choice_view, assignment_view, statement_view, source_view}
+use Rattle.vbe_text.specs.Vbe.{alternatives_from, last_value, choice_of, further, choice, value, assertion, assignment, guarded_assignment, guarded_assignments, guard, block, labelled, statement, statements, architecture, source, IsSource}
 
 -- ---- runs
 
@@ -73,7 +83,8 @@ abbrev pub Every : {A : Type 0} → (A → Type 0) → List A → Type 0
 Every P [] = Unit {0}
 Every P (x ∷ xs) = P x × Every P xs
 
-list_every : {A : Type 0} (L : Grammar A) (P : A → Type 0) → Has L P → (items : List Item) (vs : List A) → list L items vs → (s t : State) → IsRun (run items s) t → Every P vs
+list_every : {A : Type 0} (L : Grammar A) (P : A → Type 0) → Has L P → (items : List Item) (vs : List A) → list L items vs
+    → (s t : State) → IsRun (run items s) t → Every P vs
 list_every L P one items [] h s t e = tt
 list_every L P one items (v ∷ vs) h s t e =
     let cut = split_at items h.0 h.1 s t h.2 e in
@@ -82,7 +93,8 @@ list_every L P one items (v ∷ vs) h s t e =
 pub has_list : {A : Type 0} {L : Grammar A} {P : A → Type 0} → Has L P → Has (list L) (Every P)
 has_list {A} {L} {P} one = record { each = λ items vs h s t e. list_every L P one items vs h s t e }
 
-placed_each : {A : Type 0} (L : Grammar A) (P : A → Type 0) → Has L P → (items : List Item) (v : ℕ × A) → placed L items v → (s t : State) → IsRun (run items s) t → P v.1
+placed_each : {A : Type 0} (L : Grammar A) (P : A → Type 0) → Has L P → (items : List Item) (v : ℕ × A) → placed L items v
+    → (s t : State) → IsRun (run items s) t → P v.1
 placed_each L P one [] v h s t e = absurd h
 placed_each L P one (i ∷ items) v h s t e = one.each (i ∷ items) v.1 h.0 s t e
 
@@ -141,7 +153,8 @@ below n e = search (arith, e)
 record Costs {A : Type 0} (G : Grammar A) (k : ℕ) (f : A → ℕ) : Type 0 where
   pub each : (items : List Item) (v : A) → G items v → (s t : State) → IsRun (run items s) t → Spent (f v) k s t
 
-costs_marked : (w : Form) (m : PlacedToken → Mark) (c : ℕ) → ((v : PlacedToken) (s t : State) → IsRun (acts (m v) s) t → Spent c 0 s t) → Costs (marked w m) 0 (λ _. c)
+costs_marked : (w : Form) (m : PlacedToken → Mark) (c : ℕ) → ((v : PlacedToken) (s t : State) → IsRun (acts (m v) s) t → Spent c 0 s t)
+    → Costs (marked w m) 0 (λ _. c)
 costs_marked w m c acted = record {
   each = λ items v h s t e.
       let ran : IsRun (go_on (step (m v) s) (run [])) t = subst (λ (is : List Item). IsRun (run is s) t) h.alone e in
@@ -161,7 +174,8 @@ costs_opens w room = costs_marked w (λ _. opens room) 0 (λ v s t e. still 0 0 
 
 costs_spells : (w : Form) (wanted : List ℕ) → Costs (marked w (λ u. spells wanted (name_of u))) 0 (λ _. 0)
 costs_spells w wanted =
-    costs_marked w (λ u. spells wanted (name_of u)) 0 (λ v s t e. still 0 0 s t (omega arith) (where_so (bytes_eq wanted (name_of v)) broken.Spelling (Ok s) t e).1)
+    costs_marked w (λ u. spells wanted (name_of u)) 0 (λ v s t e.
+    still 0 0 s t (omega arith) (where_so (bytes_eq wanted (name_of v)) broken.Spelling (Ok s) t e).1)
 
 then_spent : (a b k : ℕ) (s u t : State) → Spent a k s u → Spent b (k + u.operators - s.operators) u t → Spent b k s t
 then_spent a b k s u t first second =
@@ -194,7 +208,8 @@ within_count a k s u spent =
 more_spent : (c n k : ℕ) (s t : State) → c ≤ k → Spent n 0 s t → Spent (c + n) k s t
 more_spent c n k s t few spent = let covers = spent.covers in record { covers = omega (arith, few, covers); more = spent.more; within = spent.within }
 
-costs_then : {A C : Type 0} {L : Grammar A} {M : A → Grammar C} {k : ℕ} {f : A → ℕ} {g : C → ℕ} → Costs L k f → ((x : A) (n : ℕ) → f x ≤ n → Costs (M x) n g) → Costs (Then L M) k g
+costs_then : {A C : Type 0} {L : Grammar A} {M : A → Grammar C} {k : ℕ} {f : A → ℕ} {g : C → ℕ}
+    → Costs L k f → ((x : A) (n : ℕ) → f x ≤ n → Costs (M x) n g) → Costs (Then L M) k g
 costs_then {A} {C} {L} {M} {k} {f} {g} one two = record {
   each = λ items v h s t e.
       let cut = split_at items h.front h.back s t h.parts e in
@@ -205,7 +220,8 @@ costs_then {A} {C} {L} {M} {k} {f} {g} one two = record {
 }
 
 -- nothing is asked of the first part
-costs_behind : {A C : Type 0} {L : Grammar A} {M : A → Grammar C} {k : ℕ} {f : A → ℕ} {g : C → ℕ} → Costs L 0 f → ((x : A) → Costs (M x) k g) → Costs (Then L M) k g
+costs_behind : {A C : Type 0} {L : Grammar A} {M : A → Grammar C} {k : ℕ} {f : A → ℕ} {g : C → ℕ}
+    → Costs L 0 f → ((x : A) → Costs (M x) k g) → Costs (Then L M) k g
 costs_behind {A} {C} {L} {M} {k} {f} {g} one two = record {
   each = λ items v h s t e.
       let cut = split_at items h.front h.back s t h.parts e in
@@ -218,7 +234,9 @@ costs_or : {A : Type 0} {L M : Grammar A} {k : ℕ} {f : A → ℕ} → Costs L 
 costs_or {A} {L} {M} {k} {f} one two = record { each = λ items v h s t e. elim h [ inl a ↦ one.each items v a s t e | inr b ↦ two.each items v b s t e ] }
 
 costs_nothing : {A : Type 0} (f : A → ℕ) (k : ℕ) (x : A) → f x ≤ k → Costs (nothing x) k f
-costs_nothing {A} f k x few = record { each = λ items v h s t e. subst (λ (y : A). Spent (f y) k s t) (sym h.1) (still (f x) k s t few (no_items items s t h.0 e)) }
+costs_nothing {A} f k x few = record {
+  each = λ items v h s t e. subst (λ (y : A). Spent (f y) k s t) (sym h.1) (still (f x) k s t few (no_items items s t h.0 e));
+}
 
 costs_none : {A : Type 0} (f : A → ℕ) → Costs (none {A = A}) 0 f
 costs_none {A} f = record { each = λ items v h s t e. absurd h }
@@ -231,8 +249,8 @@ abbrev total : {A : Type 0} → (A → ℕ) → List A → ℕ
 total f [] = 0
 total f (x ∷ xs) = f x + total f xs
 
-list_costs : {A : Type 0} (L : Grammar A) (f : A → ℕ) → Costs L 0 f → (items : List Item) (vs : List A) → list L items vs → (s t : State) → IsRun (run items s) t
-    → Spent (total f vs) 0 s t
+list_costs : {A : Type 0} (L : Grammar A) (f : A → ℕ) → Costs L 0 f → (items : List Item) (vs : List A) → list L items vs
+    → (s t : State) → IsRun (run items s) t → Spent (total f vs) 0 s t
 list_costs L f one items [] h s t e = still 0 0 s t (omega arith) (no_items items s t h e)
 list_costs L f one items (v ∷ vs) h s t e =
     let cut = split_at items h.0 h.1 s t h.2 e in
@@ -247,11 +265,13 @@ costs_list {A} {L} {f} one = record { each = λ items vs h s t e. list_costs L f
 abbrev operand_operators : ℕ × Tree → ℕ
 operand_operators p = 1 + operators p.1
 
-folded_operators : (op : Operator) (left : Tree) (others : List (ℕ × Tree)) → operators (folded op left others) ≡ operators left + total operand_operators others
+folded_operators : (op : Operator) (left : Tree) (others : List (ℕ × Tree))
+    → operators (folded op left others) ≡ operators left + total operand_operators others
 folded_operators op left [] = omega arith
 folded_operators op left (e ∷ others) = let rest = folded_operators op (binary op e.0 left e.1) others in omega (arith, rest)
 
-folded_few : (op : Operator) (left : Tree) (others : List (ℕ × Tree)) (n : ℕ) → operators left + total operand_operators others ≤ n → operators (folded op left others) ≤ n
+folded_few : (op : Operator) (left : Tree) (others : List (ℕ × Tree)) (n : ℕ)
+    → operators left + total operand_operators others ≤ n → operators (folded op left others) ≤ n
 folded_few op left others n few = let all = folded_operators op left others in omega (arith, few, all)
 
 costs_number : Costs number 0 (λ _. 0)
@@ -330,13 +350,15 @@ costs_cat room inner deep =
     costs_then (costs_more (operators left) n (costs_list (costs_joined _ (factor room inner) (costs_factor room inner deep))) few) (λ others k all.
     costs_nothing operators k (folded operation.Join left others) (folded_few operation.Join left others k all)))
 
-costs_pair : (f : Form) (op : Operator) (operand : Grammar Tree) (left : Tree) (n : ℕ) → Costs operand 0 operators → operators left ≤ n → Costs (pair f op operand left) n operators
+costs_pair : (f : Form) (op : Operator) (operand : Grammar Tree) (left : Tree) (n : ℕ)
+    → Costs operand 0 operators → operators left ≤ n → Costs (pair f op operand left) n operators
 unfolding pair
 costs_pair f op operand left n each few =
     costs_then (costs_more (operators left) n (costs_joined f operand each) few) (λ right k all.
     costs_nothing operators k (binary op right.0 left right.1) (omega (arith, all)))
 
-costs_chain : (f : Form) (op : Operator) (operand : Grammar Tree) (left : Tree) (n : ℕ) → Costs operand 0 operators → operators left ≤ n → Costs (chain f op operand left) n operators
+costs_chain : (f : Form) (op : Operator) (operand : Grammar Tree) (left : Tree) (n : ℕ)
+    → Costs operand 0 operators → operators left ≤ n → Costs (chain f op operand left) n operators
 unfolding chain
 costs_chain f op operand left n each few =
     costs_then (costs_more (operators left) n (costs_joined f operand each) few) (λ first k some.
@@ -383,3 +405,133 @@ spent_short n s t spent =
 
 pub short_expression : (room : ℕ) → Has (expression room) IsShort
 short_expression room = record { each = λ items v h s t e. spent_short (operators v) s t ((costs_nested h.level room).each items v h.sentence s t e) }
+
+-- ---- statements
+
+abbrev ShortGuarded : GuardedTree → Type 0
+ShortGuarded g = IsShort g.value × IsShort g.condition
+
+abbrev ShortFurther : FurtherTree → Type 0
+ShortFurther f = IsShort f.value × IsShort f.condition
+
+abbrev pub ShortChoiceTree : ChoiceTree → Type 0
+ShortChoiceTree c = Every ShortGuarded c.alternatives × IsShort c.otherwise
+
+abbrev ShortAssignmentTree : AssignmentTree → Type 0
+ShortAssignmentTree a = ShortChoiceTree a.choice
+
+abbrev pub ShortStatementTree : StatementTree → Type 0
+ShortStatementTree (asserted e) = IsShort e
+ShortStatementTree (assigned a) = ShortAssignmentTree a
+ShortStatementTree (blocked b) = IsShort b.guard × Every ShortAssignmentTree b.assignments
+
+abbrev ShortSource : SourceTree → Type 0
+ShortSource s = Every ShortStatementTree s.statements
+
+-- each value stands with the condition behind it, and the last with none
+short_alternatives_from : (v : Tree) (others : List FurtherTree) → IsShort v → Every ShortFurther others → Every ShortGuarded (alternatives_from v others)
+short_alternatives_from v [] first all = tt
+short_alternatives_from v (f ∷ others) first all = ((first, all.0.1), short_alternatives_from f.value others all.0.0 all.1)
+
+short_last : (v : Tree) (others : List FurtherTree) → IsShort v → Every ShortFurther others → IsShort (last_value v others)
+short_last v [] first all = first
+short_last v (f ∷ others) first all = short_last f.value others all.0.0 all.1
+
+short_further : (room : ℕ) → Has (further room) ShortFurther
+unfolding further
+short_further room =
+    has_behind (λ t. has_then (has_placed (short_expression room)) (λ c condition. has_behind (λ u. has_then (short_expression room) (λ v value.
+    has_nothing ShortFurther (record { condition = c.1; line = c.0; value = v }) (value, condition)))))
+
+pub short_choice : (room : ℕ) → Has (choice room) ShortChoiceTree
+unfolding choice
+short_choice room =
+    has_then (short_expression room) (λ v first. has_then (has_list (short_further room)) (λ others all.
+    has_nothing ShortChoiceTree (choice_of v others) (short_alternatives_from v others first all, short_last v others first all)))
+
+pub short_value : (room : ℕ) → Has (value room) ShortChoiceTree
+unfolding value
+short_value room = has_then (short_choice room) (λ c each. has_behind (λ d. has_behind (λ t. has_nothing ShortChoiceTree c each)))
+
+pub short_assertion : (room : ℕ) → Has (assertion room) ShortStatementTree
+unfolding assertion
+short_assertion room = has_behind (λ t. has_then (short_expression room) (λ e few. has_behind (λ r. has_nothing ShortStatementTree (asserted e) few)))
+
+short_assignment : (room : ℕ) (t : PlacedToken) → Has (assignment room t) ShortStatementTree
+unfolding assignment
+short_assignment room t =
+    has_behind (λ x. has_behind (λ u. has_then (short_value room) (λ c each.
+    has_nothing ShortStatementTree (assigned (record { target = x; choice = c })) each)))
+
+short_guarded_assignment : (room : ℕ) → Has (guarded_assignment room) ShortAssignmentTree
+unfolding guarded_assignment
+short_guarded_assignment room =
+    has_behind (λ x. has_behind (λ t. has_behind (λ u. has_then (short_value room) (λ c each.
+    has_nothing ShortAssignmentTree (record { target = x; choice = c }) each))))
+
+short_guarded_assignments : (room : ℕ) → Has (guarded_assignments room) (Every ShortAssignmentTree)
+unfolding guarded_assignments
+short_guarded_assignments room =
+    has_behind (λ t. has_then (has_list (short_guarded_assignment room)) (λ all each. has_behind (λ u. has_nothing (Every ShortAssignmentTree) all each)))
+
+short_guard : (room : ℕ) → Has (guard room) (λ g. IsShort g.1)
+unfolding guard
+short_guard room =
+    has_behind (λ t. has_behind (λ u. has_then (has_placed (short_expression (room - 1))) (λ e few. has_closing (λ (g : ℕ × Tree). IsShort g.1) e few)))
+
+short_block : (room : ℕ) (label : List ℕ) → Has (block room label) ShortStatementTree
+unfolding block
+short_block room label =
+    has_then (short_guard room) (λ g few. has_then (short_guarded_assignments room) (λ all each. has_behind (λ t. has_behind (λ u.
+    has_nothing ShortStatementTree (blocked (record { guard = g.1; line = g.0; assignments = all })) (few, each)))))
+
+short_labelled : (room : ℕ) (label : List ℕ) → Has (labelled room label) ShortStatementTree
+unfolding labelled
+short_labelled room label =
+    has_behind (λ t. has_or (short_assertion room) (has_or (short_block room label) (has_behind (λ u. short_assignment room u))))
+
+short_statement : (room : ℕ) → Has (statement room) ShortStatementTree
+unfolding statement
+short_statement room = has_or (short_assertion room) (has_behind (λ t. has_or (short_labelled room (name_of t)) (short_assignment room t)))
+
+short_statements : (room : ℕ) → Has (statements room) (Every ShortStatementTree)
+unfolding statements
+short_statements room =
+    has_behind (λ t. has_then (has_list (short_statement room)) (λ all each. has_behind (λ u. has_nothing (Every ShortStatementTree) all each)))
+
+short_architecture : (room : ℕ) (e : Entity) → Has (architecture room e) ShortSource
+unfolding architecture
+short_architecture room e =
+    has_behind (λ name. has_behind (λ d. has_then (short_statements room) (λ all each. has_behind (λ u.
+    has_nothing ShortSource (record { entity = e; declarations = d; statements = all }) each))))
+
+short_source : (room : ℕ) → Has (source room) ShortSource
+unfolding source
+short_source room = has_behind (λ e. short_architecture room e)
+
+-- ---- wherever the expressions lie in memory
+
+short_alternatives : (gs : List Guarded) → Every ShortGuarded (map guarded_view gs) → ShortAlternatives gs
+short_alternatives [] h = tt
+short_alternatives (g ∷ gs) h = (h.0, short_alternatives gs h.1)
+
+short_choice_of : (c : Choice) → ShortChoiceTree (choice_view c) → ShortChoice c
+short_choice_of c h = (short_alternatives c.alternatives h.0, h.1)
+
+short_assignments : (all : List Assignment) → Every ShortAssignmentTree (map assignment_view all) → ShortAssignments all
+short_assignments [] h = tt
+short_assignments (a ∷ all) h = (short_choice_of a.choice h.0, short_assignments all h.1)
+
+short_one : (s : Statement) → ShortStatementTree (statement_view s) → ShortStatement s
+short_one (kind.Assert e) h = h
+short_one (kind.Assign a) h = short_choice_of a.choice h
+short_one (kind.Block b) h = (h.0, short_assignments b.assignments h.1)
+
+short_all : (ss : List Statement) → Every ShortStatementTree (map statement_view ss) → ShortStatements ss
+short_all [] h = tt
+short_all (s ∷ ss) h = (short_one s h.0, short_all ss h.1)
+
+pub short_design : (tokens : Tokens) (design : DesignFile) → IsSource tokens (source_view design) → HasShortExpressions design
+short_design tokens design is =
+    let a = is.read.0 in
+    short_all design.statements ((short_source DEPTH).each a.front (source_view design) a.sentence uncounted is.end.state a.clean)
