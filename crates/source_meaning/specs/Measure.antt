@@ -1,8 +1,8 @@
 -- How wide an expression is, together with its first fault.
-use Rattle.std.specs.Prelude.{ℕ, not, ◌&&◌, List, [], ◌∷◌, Option, None, Some}
-use Rattle.vlsi_base.specs.declared.expression.ParsedExpr.{ParsedExpr}
+use Rattle.std.specs.Prelude.{ℕ, ◌+◌, ◌*◌, ◌^◌, ◌<◌, not, ◌&&◌, List, Option, None, Some}
+use Rattle.std.specs.Option.{ForSome}
 use Rattle.vlsi_base.specs.declared.expression.Operator.{Operator}
-use Rattle.vlsi_base.specs.Tree.{Tree, view}
+use Rattle.vlsi_base.specs.Tree.{Tree}
 use Rattle.source_meaning.specs.declared.symbol_table.Symbol.{Symbol}
 use Rattle.source_meaning.specs.declared.widths.Measure.{Measure}
 use Rattle.source_meaning.specs.Lines.{first_line}
@@ -23,7 +23,6 @@ joined_measure op line a b = record {
   fault = or_line a.fault (or_line (first_line (if_not (not (needs_equal op && differ a.width b.width)) line)) b.fault);
 }
 
--- that of operands that are grouped from the left
-abbrev pub folded_measure : List Symbol → Operator → Measure → List (ℕ × ParsedExpr) → Measure
-folded_measure known op m [] = m
-folded_measure known op m (e ∷ others) = folded_measure known op (joined_measure op e.0 m (measure_of known (view e.1))) others
+-- a width that n operators can give: each of their operands has fewer than 2 ^ 66 bits
+abbrev pub IsNarrow : ℕ → Option ℕ → Type 0
+IsNarrow n width = ForSome width (λ bits. bits < (n + 1) * 2 ^ 66)

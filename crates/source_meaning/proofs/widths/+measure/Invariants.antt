@@ -1,7 +1,0 @@
-use Rattle.std.proofs.Common.{◌≡◌, drop}
-use Rattle.source_meaning.specs.Measure.{folded_measure}
-use Rattle.source_meaning.proofs.widths.+measure.Given as goal
-
-abbrev pub invariant-measure_chain-loop-line : goal.invariant-measure_chain-loop-line
-invariant-measure_chain-loop-line l =
-    folded_measure l.table l.operator l.all (drop l.line-index l.others) ≡ folded_measure l.table l.operator l.fn.first l.others
