@@ -21,3 +21,8 @@ measure_of_binary known op line l r =
     let here = if_not (not (needs_equal op && differ (width known l) (width known r))) line in
     let make : Option ℕ → Measure = λ (f : Option ℕ). record { width = w; fault = f } in
     ap make (first_of_two (width_faults known l) (here ++ width_faults known r) ∙ ap (or_line (first_line (width_faults known l))) (first_of_two here (width_faults known r)))
+
+-- of a whole, from those of its two operands
+pub measured_binary : (known : List Symbol) (whole l r : Tree) (op : Operator) (line : ℕ) (a b made : Measure) → whole ≡ binary op line l r → a ≡ measure_of known l → b ≡ measure_of known r → made ≡ joined_measure op line a b → made ≡ measure_of known whole
+measured_binary known whole l r op line a b made is at_left at_right joins =
+    joins ∙ ap (λ (m : Measure). joined_measure op line m b) at_left ∙ ap (joined_measure op line (measure_of known l)) at_right ∙ sym (measure_of_binary known op line l r) ∙ ap (measure_of known) (sym is)

@@ -1,10 +1,10 @@
 // Where widths don't fit.
-ghost use Rattle.std.specs.Prelude.{◌≡◌, ◌<◌, ◌^◌, None, ◌*◌, ◌++◌, ◌&&◌, not, length, map, Some, if◌then◌else◌};
+ghost use Rattle.std.specs.Prelude.{◌≡◌, ◌<◌, ◌^◌, None, ◌*◌, ◌++◌, ◌&&◌, not, length, Some, if◌then◌else◌};
 ghost use Rattle.std.specs.Option.{ForSome};
-ghost use Rattle.vlsi_base.specs.Tree.{view, folded, operand_of};
+ghost use Rattle.vlsi_base.specs.Tree.{Tree, view};
 ghost use Rattle.vlsi_base.specs.Radix.{digit_width};
 ghost use Rattle.source_meaning.specs.Lines.{first_line};
-ghost use Rattle.source_meaning.specs.Measure.{measure_of, joined_measure, IsNarrow};
+ghost use Rattle.source_meaning.specs.Measure.{measure_of, joined_measure, IsNarrow, MeasuredSoFar};
 ghost use Rattle.source_meaning.specs.Operators.{operators, IsShort, ShortAlternatives, ShortChoice, ShortAssignments, ShortStatement, ShortStatements, HasShortExpressions};
 ghost use Rattle.vlsi_base.specs.Range.{is_ordered};
 ghost use Rattle.source_meaning.specs.Symbols.{symbols, find, has_bit};
@@ -204,24 +204,25 @@ fn measure_expression(table: &SymbolTable, e: &ParsedExpr) -> Measure
             joined(*operator, *line, left, right)
         }
         ParsedExpr::Chain(operator, first, others) => {
+            let first = measure_expression(table, first);
             measure_chain(table, *operator, first, others)
         }
     }
 }
 
-/// The measure of operands that one operator joins.
+/// The measure of operands that one operator joins, from that of the first.
 #[cycle(measure)]
 fn measure_chain(
     table: &SymbolTable,
     operator: Operator,
-    first: &ParsedExpr,
+    first: Measure,
     others: &[(u32, ParsedExpr)],
 ) -> Measure
-    requires short { IsShort (folded operator (view first.now) (map operand_of others.now)) }
-    ensures is { result ≡ measure_of table.now (folded operator (view first.now) (map operand_of others.now)) }
-    ensures narrow { IsNarrow (operators (folded operator (view first.now) (map operand_of others.now))) result.width }
+    requires short { (whole : Tree) × MeasuredSoFar table.now operator whole first others.now × IsShort whole }
+    ensures is { (whole : Tree) → MeasuredSoFar table.now operator whole first others.now → result ≡ measure_of table.now whole }
+    ensures narrow { (whole : Tree) → MeasuredSoFar table.now operator whole first others.now → IsNarrow (operators whole) result.width }
 {
-    let mut all = measure_expression(table, first);
+    let mut all = first;
     for (line, e) in others {
         let next = measure_expression(table, e);
         all = joined(operator, *line, all, next);
