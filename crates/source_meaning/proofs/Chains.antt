@@ -3,7 +3,7 @@ use native.Mathlib.Omega.{arith}
 use Rattle.std.proofs.Common.{◌≡◌, ℕ, ◌+◌, ◌*◌, ◌^◌, ◌≤◌, ◌<◌, List, [], ◌∷◌, length, drop, get_or, map, Option, Some, None, Bool, true, false, nat_eq, refl, sym, ap, subst, ◌∙◌}
 use Rattle.std.proofs.lemmas.List.{at_drop_more, at_drop_all}
 use Rattle.std.proofs.lemmas.Option.{none-some, same_Some}
-use Rattle.std.specs.Prelude.{not, ◌||◌, if◌then◌else◌}
+use Rattle.std.specs.Prelude.{if◌then◌else◌}
 use Rattle.std.specs.Option.{ForSome}
 use Rattle.vlsi_base.specs.declared.expression.ParsedExpr.{ParsedExpr}
 use Rattle.vlsi_base.specs.declared.expression.Operator.{Operator}
@@ -13,7 +13,7 @@ use Rattle.source_meaning.specs.declared.symbol_table.Symbol.{Symbol}
 use Rattle.source_meaning.specs.declared.widths.Measure.{Measure}
 use Rattle.source_meaning.specs.Measure.{measure_of, joined_measure, IsNarrow, MeasuredSoFar}
 use Rattle.source_meaning.specs.Operators.{operators, IsShort}
-use Rattle.source_meaning.specs.Widths.{joined_width, needs_equal, operator_width}
+use Rattle.source_meaning.specs.Widths.{joined_width}
 use Rattle.source_meaning.proofs.Measures.{measure_of_binary}
 
 -- the first operand has no more operators than all of them

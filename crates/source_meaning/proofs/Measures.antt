@@ -1,9 +1,8 @@
 -- The measure of operands that are grouped.
-use Rattle.std.proofs.Common.{◌≡◌, ℕ, List, [], ◌∷◌, ◌++◌, map, Option, refl, sym, ap, ◌∙◌}
+use Rattle.std.proofs.Common.{◌≡◌, ℕ, List, [], ◌∷◌, ◌++◌, Option, refl, sym, ap, ◌∙◌}
 use Rattle.std.specs.Prelude.{not, ◌&&◌}
-use Rattle.vlsi_base.specs.declared.expression.ParsedExpr.{ParsedExpr}
 use Rattle.vlsi_base.specs.declared.expression.Operator.{Operator}
-use Rattle.vlsi_base.specs.Tree.{Tree, binary, folded, view, operand_of}
+use Rattle.vlsi_base.specs.Tree.{Tree, binary}
 use Rattle.source_meaning.specs.declared.symbol_table.Symbol.{Symbol}
 use Rattle.source_meaning.specs.declared.widths.Measure.{Measure}
 use Rattle.source_meaning.specs.Lines.{first_line}

@@ -1,9 +1,7 @@
-use native.Mathlib.Omega.{arith}
-use Rattle.std.proofs.Common.{rules, map, ◌≡◌, ◌≤◌, sym, ap, subst, ◌∙◌}
+use Rattle.std.proofs.Common.{rules, map, ◌≡◌, subst}
 use Rattle.vlsi_base.specs.declared.expression.ParsedExpr.TheViews.{the_lemmas}
-use Rattle.vlsi_base.specs.Tree.{Tree, view, operand_of, binary, folded}
+use Rattle.vlsi_base.specs.Tree.{view, operand_of, binary, folded}
 use Rattle.vlsi_base.proofs.Groups.{grouped_is}
-use Rattle.source_meaning.specs.Measure.{measure_of, IsNarrow}
 use Rattle.source_meaning.specs.Operators.{operators, IsShort}
 use Rattle.source_meaning.proofs.Chains.{begins, first_short, operand_short, half, half_so_far, goes_on, all_is, all_narrow}
 use Rattle.source_meaning.proofs.Measures.{measured_binary}

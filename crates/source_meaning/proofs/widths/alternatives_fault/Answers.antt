@@ -1,4 +1,4 @@
-use Rattle.std.proofs.Common.{◌++◌, Some, None, sym, append_assoc, ◌∙◌}
+use Rattle.std.proofs.Common.{◌++◌, Some, None, sym, append_assoc}
 use Rattle.source_meaning.specs.declared.statement.Guarded.{Guarded}
 use Rattle.source_meaning.specs.Lines.{first_line}
 use Rattle.vlsi_base.specs.Tree.{view}

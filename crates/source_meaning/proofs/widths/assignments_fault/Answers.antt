@@ -1,4 +1,4 @@
-use Rattle.std.proofs.Common.{Some, None, refl, sym, ◌∙◌}
+use Rattle.std.proofs.Common.{Some, None, refl}
 use Rattle.source_meaning.specs.Lines.{first_line}
 use Rattle.source_meaning.specs.Places.{in_assignments}
 use Rattle.source_meaning.specs.Widths.{assignment_faults}
@@ -16,4 +16,4 @@ loop-assignment-preserved c =
     turn first_line first_line_append (assignment_faults c.args.table.now) (in_assignments (assignment_faults c.args.table.now)) (λ _ _. refl) c.args.assignments.now c.loop-assignment.assignment-index c.assignment-item.result _ c.loop-assignment-test.true c.assignment-item.is c.loop-assignment.invariant None c.in_default.ensures
 
 pub assignment_fault-requires : goal.assignment_fault-requires
-assignment_fault-requires c = record { short = assignment_short c.args.assignments.now c.loop-assignment.assignment-index c.assignment-item.result c.loop-assignment-test.true c.assignment-item.is c.requires.short; }
+assignment_fault-requires c = record { short = assignment_short c.args.assignments.now c.loop-assignment.assignment-index c.assignment-item.result c.loop-assignment-test.true c.assignment-item.is c.requires.short }

@@ -1,4 +1,4 @@
-use Rattle.std.proofs.Common.{Some, None, refl, sym, ◌∙◌}
+use Rattle.std.proofs.Common.{Some, None, refl}
 use Rattle.source_meaning.specs.Lines.{first_line}
 use Rattle.source_meaning.specs.Places.{in_statements}
 use Rattle.source_meaning.specs.Widths.{statement_faults}
@@ -16,4 +16,4 @@ loop-statement-preserved c =
     turn first_line first_line_append (statement_faults c.args.table.now) (in_statements (statement_faults c.args.table.now)) (λ _ _. refl) c.args.statements.now c.loop-statement.statement-index c.statement-item.result _ c.loop-statement-test.true c.statement-item.is c.loop-statement.invariant None c.in_default.ensures
 
 pub statement_fault-requires : goal.statement_fault-requires
-statement_fault-requires c = record { short = statement_short c.args.statements.now c.loop-statement.statement-index c.statement-item.result c.loop-statement-test.true c.statement-item.is c.requires.short; }
+statement_fault-requires c = record { short = statement_short c.args.statements.now c.loop-statement.statement-index c.statement-item.result c.loop-statement-test.true c.statement-item.is c.requires.short }
