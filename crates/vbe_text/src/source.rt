@@ -2,6 +2,7 @@
 ghost use Rattle.std.specs.Prelude.{◌≡◌, ◌∷◌, [], map, IfOk, IfErr};
 ghost use Rattle.grammar_theory.specs.Tokens.{code, among};
 ghost use Rattle.grammar_theory.specs.Outcome.{Gives, finish};
+ghost use Rattle.source_meaning.specs.Operators.{HasShortExpressions};
 ghost use Rattle.vbe_text.specs.Source.{statement_view, source_view};
 ghost use Rattle.vbe_text.specs.Vbe.{IsSource, IsRefusedSource};
 ghost use Rattle.vbe_text.specs.VbeReading.{labelled_at, unlabelled_at, plain_at, named_at, statement_at, statement_list_at, statements_at, belonging_at, architecture_head_at, architecture_at, source_at};
@@ -150,6 +151,7 @@ fn whole(cursor: &mut Cursor) -> Result<DesignFile, Stop>
 pub fn read_source(alloc: Global, tokens: &Tokens) -> Result<DesignFile, ReadError>
     ensures accepted { IfOk result (λ design. IsSource tokens.now (source_view design)) }
     ensures refused { IfErr result (λ e. IsRefusedSource tokens.now e) }
+    ensures short { IfOk result (λ design. HasShortExpressions design) }
 {
     let mut cursor = Cursor::new(alloc, tokens.items.as_slice());
     match whole(&mut cursor) {
