@@ -1,7 +1,10 @@
 -- The least of some numbers.
-use Rattle.std.proofs.Common.{◌≡◌, ℕ, Bool, true, false, cond, List, ◌∷◌, Option, Some, None, refl, sym, ap, ◌∙◌, arith, length, drop, get_or, ◌+◌, ◌<◌}
+use Rattle.std.proofs.Common.{◌≡◌, ℕ, Bool, true, false, cond, List, [], ◌∷◌, Option, Some, None, refl, sym, ap, ◌∙◌, arith, length, drop, get_or, ◌+◌, ◌<◌, ◌≤◌}
 use Rattle.std.specs.Prelude.{filter}
+use Rattle.std.specs.List.{All}
 use Rattle.std.proofs.lemmas.List.{at_drop_more}
+use Rattle.std.proofs.lemmas.List.Elements.{All-filter}
+use Rattle.std.proofs.lemmas.Option.{none-some, same_Some}
 use Rattle.source_meaning.specs.Codes.{least_with, least_code}
 
 -- what is least so far, together with the least of the others
@@ -24,3 +27,18 @@ least_turn p codes i item least least' total within is taken so_far =
       by : (b : Bool) → together (cond b (Some (least_with item least)) least) (least_code (filter p (drop (i + 1) codes))) ≡ together least (least_code (cond b (item ∷ filter p (drop (i + 1) codes)) (filter p (drop (i + 1) codes))))
       by true = sym (least_code_more least item (least_code (filter p (drop (i + 1) codes))))
       by false = refl
+
+least_with_at_most : (n : ℕ) (o : Option ℕ) → least_with n o ≤ n
+least_with_at_most n None = omega arith
+least_with_at_most n (Some m) = omega arith
+
+-- the least is as small as all are
+pub least_small : (bound : ℕ) (p : ℕ → Bool) (codes : List ℕ) → All (λ c. c ≤ bound) codes → (n : ℕ) → Some n ≡ least_code (filter p codes) → n ≤ bound
+least_small bound p codes small = at_least (filter p codes) (All-filter p (λ c. c ≤ bound) codes small) where
+  at_least : (cs : List ℕ) → All (λ c. c ≤ bound) cs → (n : ℕ) → Some n ≡ least_code cs → n ≤ bound
+  at_least [] low n is = absurd (none-some n (sym is))
+  at_least (c ∷ cs) low n is =
+      let same : n ≡ least_with c (least_code cs) = same_Some n (least_with c (least_code cs)) is in
+      let at_most = least_with_at_most c (least_code cs) in
+      let first : c ≤ bound = low 0 0 (omega arith) in
+      omega arith

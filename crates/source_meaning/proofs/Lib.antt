@@ -4,6 +4,8 @@ pub mod Unknowns
 pub mod Turns
 pub mod FirstLines
 pub mod Measures
+pub mod Chains
+pub mod ShortParts
 pub mod Marking
 pub mod Least
 pub mod Names

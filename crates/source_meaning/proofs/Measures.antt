@@ -1,14 +1,13 @@
 -- The measure of operands that are grouped.
-use Rattle.std.proofs.Common.{◌≡◌, ℕ, List, [], ◌∷◌, ◌++◌, map, Option, refl, sym, ap, ◌∙◌}
+use Rattle.std.proofs.Common.{◌≡◌, ℕ, List, [], ◌∷◌, ◌++◌, Option, refl, sym, ap, ◌∙◌}
 use Rattle.std.specs.Prelude.{not, ◌&&◌}
-use Rattle.vlsi_base.specs.declared.expression.ParsedExpr.{ParsedExpr}
 use Rattle.vlsi_base.specs.declared.expression.Operator.{Operator}
-use Rattle.vlsi_base.specs.Tree.{Tree, binary, folded, view, operand_of}
+use Rattle.vlsi_base.specs.Tree.{Tree, binary}
 use Rattle.source_meaning.specs.declared.symbol_table.Symbol.{Symbol}
 use Rattle.source_meaning.specs.declared.widths.Measure.{Measure}
 use Rattle.source_meaning.specs.Lines.{first_line}
 use Rattle.source_meaning.specs.Widths.{width, width_faults, joined_width, needs_equal, differ, if_not}
-use Rattle.source_meaning.specs.Measure.{measure_of, or_line, joined_measure, folded_measure}
+use Rattle.source_meaning.specs.Measure.{measure_of, or_line, joined_measure}
 
 first_of_two : (xs ys : List ℕ) → first_line (xs ++ ys) ≡ or_line (first_line xs) (first_line ys)
 first_of_two [] ys = refl
@@ -22,12 +21,7 @@ measure_of_binary known op line l r =
     let make : Option ℕ → Measure = λ (f : Option ℕ). record { width = w; fault = f } in
     ap make (first_of_two (width_faults known l) (here ++ width_faults known r) ∙ ap (or_line (first_line (width_faults known l))) (first_of_two here (width_faults known r)))
 
-pub measure_of_folded : (known : List Symbol) (op : Operator) (t : Tree) (es : List (ℕ × ParsedExpr)) → measure_of known (folded op t (map operand_of es)) ≡ folded_measure known op (measure_of known t) es
-measure_of_folded known op t [] = refl
-measure_of_folded known op t (e ∷ es) =
-    measure_of_folded known op (binary op e.0 t (view e.1)) es ∙ ap (λ (m : Measure). folded_measure known op m es) (measure_of_binary known op e.0 t (view e.1))
-
--- of operands that are joined in a chain
-pub measure_in_chain : (known : List Symbol) (whole l : Tree) (op : Operator) (es : List (ℕ × ParsedExpr)) (first all : Measure) → whole ≡ folded op l (map operand_of es) → first ≡ measure_of known l → all ≡ folded_measure known op first es → all ≡ measure_of known whole
-measure_in_chain known whole l op es first all is begins goes =
-    goes ∙ ap (λ (m : Measure). folded_measure known op m es) begins ∙ sym (measure_of_folded known op l es) ∙ ap (measure_of known) (sym is)
+-- of a whole, from those of its two operands
+pub measured_binary : (known : List Symbol) (whole l r : Tree) (op : Operator) (line : ℕ) (a b made : Measure) → whole ≡ binary op line l r → a ≡ measure_of known l → b ≡ measure_of known r → made ≡ joined_measure op line a b → made ≡ measure_of known whole
+measured_binary known whole l r op line a b made is at_left at_right joins =
+    joins ∙ ap (λ (m : Measure). joined_measure op line m b) at_left ∙ ap (joined_measure op line (measure_of known l)) at_right ∙ sym (measure_of_binary known op line l r) ∙ ap (measure_of known) (sym is)

@@ -1,6 +1,7 @@
 -- Bits of one name, by numbers: 0 is the name without a bit, and k + 1 its bit k.
-use Rattle.std.specs.Prelude.{◌≡◌, ℕ, zero, suc, ◌+◌, Bool, true, false, not, List, [], ◌∷◌, map, min, Option, None, Some}
+use Rattle.std.specs.Prelude.{◌≡◌, ℕ, zero, suc, ◌+◌, ◌≤◌, ◌^◌, Bool, true, false, not, List, [], ◌∷◌, map, min, Option, None, Some}
 use Rattle.std.specs.BTreeSet.{BTreeSet}
+use Rattle.std.specs.List.{All}
 use Rattle.vlsi_base.specs.declared.name.Name.{Name}
 use Rattle.vlsi_base.specs.declared.range.Range.{Range}
 use Rattle.source_meaning.specs.declared.statement.Selection.{Selection}
@@ -21,6 +22,10 @@ name_at text code = record { text = text; bit = bit_of code }
 abbrev pub codes_in : Option Range → List ℕ
 codes_in None = 0 ∷ []
 codes_in (Some r) = map (λ k. k + 1) (range_bits r)
+
+-- the bits have numbers of 32 bits
+abbrev pub AreSmall : List ℕ → Type 0
+AreSmall codes = All (λ code. code ≤ 2 ^ 32) codes
 
 abbrev pub selected_codes : Option Range → Selection → List ℕ
 selected_codes range selection.Whole = codes_in range

@@ -1,6 +1,6 @@
 // Bits of one name, by numbers: 0 is the name without a bit, and k + 1 its bit k.
 ghost use Rattle.std.specs.Prelude.{◌≡◌, ◌+◌, map, filter, Some, IfOk, if◌then◌else◌};
-ghost use Rattle.source_meaning.specs.Codes.{codes_in, selected_codes, least_with, least_code, same_bool};
+ghost use Rattle.source_meaning.specs.Codes.{AreSmall, codes_in, selected_codes, least_with, least_code, same_bool};
 ghost use Rattle.source_meaning.specs.Marks.{has};
 
 use crate::Selection;
@@ -10,7 +10,8 @@ use vlsi_base::Range;
 
 /// The codes of bits of these numbers.
 fn codes_of(alloc: Global, bits: &[u32]) -> Result<Vec<u64>, AllocError>
-    ensures { IfOk result (λ codes. codes.items ≡ map (λ k. k + 1) bits.now) }
+    ensures codes { IfOk result (λ codes. codes.items ≡ map (λ k. k + 1) bits.now) }
+    ensures small { IfOk result (λ codes. AreSmall codes.items) }
 {
     let mut codes = Vec::new(alloc);
     for bit in bits {
@@ -21,7 +22,8 @@ fn codes_of(alloc: Global, bits: &[u32]) -> Result<Vec<u64>, AllocError>
 
 /// The codes of a name's bits, from the left.
 pub fn codes_in(alloc: Global, range: Option<Range>) -> Result<Vec<u64>, AllocError>
-    ensures { IfOk result (λ codes. codes.items ≡ codes_in range) }
+    ensures codes { IfOk result (λ codes. codes.items ≡ codes_in range) }
+    ensures small { IfOk result (λ codes. AreSmall codes.items) }
 {
     match range {
         Some(range) => {
@@ -42,7 +44,8 @@ pub fn selected_codes(
     range: Option<Range>,
     selection: Selection,
 ) -> Result<Vec<u64>, AllocError>
-    ensures { IfOk result (λ codes. codes.items ≡ selected_codes range selection) }
+    ensures codes { IfOk result (λ codes. codes.items ≡ selected_codes range selection) }
+    ensures small { IfOk result (λ codes. AreSmall codes.items) }
 {
     match selection {
         Selection::Whole => codes_in(alloc, range),

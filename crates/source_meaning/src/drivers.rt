@@ -1,5 +1,5 @@
 // Which bits are driven: each by exactly one assignment.
-ghost use Rattle.std.specs.Prelude.{◌≡◌, ◌||◌, ℕ, [], ◌∷◌, List, IfOk, OnOk, MatchOption};
+ghost use Rattle.std.specs.Prelude.{◌≡◌, ◌≤◌, ◌^◌, ◌||◌, ℕ, [], ◌∷◌, List, IfOk, OnOk, MatchOption};
 ghost use Rattle.std.specs.List.{list_any};
 ghost use Rattle.vlsi_base.specs.declared.name.Name.{Name};
 ghost use Rattle.source_meaning.specs.Codes.{name_at, Tied};
@@ -37,16 +37,16 @@ pub fn needs_driver(role: Role) -> bool
 
 /// The name with this code.
 fn name_at(alloc: Global, text: &Text, code: u64) -> Result<Name, AllocError>
+    requires { code ≤ 2 ^ 32 }
     ensures { IfOk result (λ name. name ≡ name_at text.now code) }
 {
     let text = text.copy(alloc)?;
-    if code == 0 {
-        return Ok(Name { text, bit: None });
-    }
-    match u32::try_from(code - 1) {
-        Ok(k) => Ok(Name { text, bit: Some(k) }),
-        Err(_) => Err(AllocError),
-    }
+    let bit = if code == 0 {
+        None
+    } else {
+        Some((code - 1) as u32)
+    };
+    Ok(Name { text, bit })
 }
 
 /// Puts all these bits of a name into the set.

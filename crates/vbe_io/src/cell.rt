@@ -4,6 +4,7 @@ ghost use Rattle.std.specs.Option.{option_copied};
 ghost use Rattle.machine_core.specs.Order.{AllDifferent};
 ghost use Rattle.machine_meaning.specs.Machine.{names_of};
 ghost use Rattle.source_meaning.specs.Checks.{IsRefused};
+ghost use Rattle.source_meaning.specs.Operators.{HasShortExpressions};
 ghost use Rattle.source_meaning.specs.Symbols.{symbols, all_names};
 ghost use Rattle.vbe_io.specs.Cell.{pin_bits, generic_values as values_among, leaves_out, pins_error, is_left_out, IsBehaviour, ArePins, IsCellText, IsCellRefusal, IsUnfit, IsPinsRefusal};
 
@@ -63,6 +64,7 @@ fn outlined(alloc: Global, design: &DesignFile) -> Result<Outline, AllocError>
 /// The machine of what is written; none where it has a form that is left out, or a clock that is none.
 fn behaviour(alloc: Global, design: DesignFile) -> Result<Option<Machine>, ReadError>
     requires few { length (all_names (symbols design)) < 2 ^ 32 }
+    requires short { HasShortExpressions design }
     ensures machine { IfOk result (λ machine. IsBehaviour design machine) }
     ensures refused { IfErr result (λ e. IsRefused design e) }
     ensures other { IfErr result (λ e. is_left_out e ≡ false) }
@@ -111,6 +113,7 @@ fn ports_of(
 fn completed(alloc: Global, outline: Outline, design: DesignFile) -> Result<CellText, ReadError>
     requires pins { outline.pins.items ≡ pin_bits (symbols design) }
     requires few { length (all_names (symbols design)) < 2 ^ 32 }
+    requires short { HasShortExpressions design }
     ensures name { IfOk result (λ cell. cell.name ≡ outline.name) }
     ensures generics { IfOk result (λ cell. cell.generics ≡ outline.generics) }
     ensures machine { IfOk result (λ cell. IsBehaviour design cell.machine) }

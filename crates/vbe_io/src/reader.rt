@@ -1,6 +1,7 @@
 // The reader.
 ghost use Rattle.std.specs.Prelude.{◌≡◌, ◌<◌, ◌≤◌, ◌^◌, false, None, IfOk, IfErr, length};
 ghost use Rattle.vhdl_lexer.specs.Listing.{tokens_in, refusal_in};
+ghost use Rattle.source_meaning.specs.Operators.{HasShortExpressions};
 ghost use Rattle.source_meaning.specs.Symbols.{symbols, all_names};
 ghost use Rattle.vbe_io.specs.Text.{IsWritten, IsVbe, IsVbeRefusal};
 ghost use Rattle.vbe_io.specs.Cell.{is_left_out};
@@ -34,6 +35,7 @@ fn tokens_of(alloc: Global, bytes: &[u8]) -> Result<Tokens, ReadError>
 pub(crate) fn written(alloc: Global, bytes: &[u8]) -> Result<DesignFile, ReadError>
     ensures written { IfOk result (λ design. IsWritten bytes.now design) }
     ensures few { IfOk result (λ design. length (all_names (symbols design)) < 2 ^ 32) }
+    ensures short { IfOk result (λ design. HasShortExpressions design) }
     ensures refused { IfErr result (λ e. IsVbeRefusal bytes.now e) }
     ensures other { IfErr result (λ e. is_left_out e ≡ false) }
 {

@@ -2,6 +2,7 @@
 ghost use Rattle.std.specs.Prelude.{◌≡◌, ◌<◌, ◌^◌, length, None, Some, IfOk, IfErr};
 ghost use Rattle.source_meaning.specs.Checks.{first_fault, HasNoRing, Passes, IsRefused, ports_error};
 ghost use Rattle.source_meaning.specs.Elaboration.{port_bits, IsMachineOf};
+ghost use Rattle.source_meaning.specs.Operators.{HasShortExpressions};
 ghost use Rattle.source_meaning.specs.Symbols.{symbols, all_names};
 ghost use Rattle.vlsi_model.specs.Laid.{IsNodeOrder};
 ghost use Rattle.vlsi_model.specs.Ordered.{IsOrderOfSource};
@@ -111,6 +112,7 @@ fn sound_machine(
 /// read each other in a ring, more than 4096 port bits. Takes memory for each declared bit and for each formula.
 pub fn check_machine(alloc: Global, design: DesignFile) -> Result<Machine, ReadError>
     requires few { length (all_names (symbols design)) < 2 ^ 32 }
+    requires short { HasShortExpressions design }
     ensures machine { IfOk result (λ m. Passes design × IsMachineOf design m) }
     ensures refused { IfErr result (λ e. IsRefused design e) }
 {

@@ -1,6 +1,7 @@
 // The checks of a source before that for rings, in their order.
 ghost use Rattle.std.specs.Prelude.{◌≡◌, IfOk};
 ghost use Rattle.source_meaning.specs.Checks.{first_fault};
+ghost use Rattle.source_meaning.specs.Operators.{HasShortExpressions};
 ghost use Rattle.source_meaning.specs.Symbols.{symbols};
 ghost use Rattle.vlsi_model.specs.Stages.{name_fault, driver_fault, shape_fault, form_fault};
 
@@ -62,11 +63,11 @@ fn shapes_fault(
     table: &SymbolTable,
     design: &DesignFile,
 ) -> Result<Option<ReadError>, AllocError>
-    requires { table.now ≡ symbols design.now }
+    requires known { table.now ≡ symbols design.now }
+    requires short { HasShortExpressions design.now }
     ensures { IfOk result (λ e. e ≡ shape_fault design.now) }
 {
-    let line = width_fault(table, design)?;
-    match line_fault(alloc, FaultKind::Width, line) {
+    match line_fault(alloc, FaultKind::Width, width_fault(table, design)) {
         Some(e) => Ok(Some(e)),
         None => drivers_fault(alloc, table, design),
     }
@@ -98,7 +99,8 @@ pub fn refusal(
     table: &SymbolTable,
     design: &DesignFile,
 ) -> Result<Option<ReadError>, AllocError>
-    requires { table.now ≡ symbols design.now }
+    requires known { table.now ≡ symbols design.now }
+    requires short { HasShortExpressions design.now }
     ensures { IfOk result (λ e. e ≡ first_fault design.now) }
 {
     let named = names_fault(alloc, table, design)?;
