@@ -5,3 +5,4 @@ pub mod Standing
 pub mod Leaves
 pub mod Choosing
 pub mod DrivenBits
+pub mod Clocked

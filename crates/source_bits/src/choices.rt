@@ -1,12 +1,12 @@
 // Formulas of choices, one for each bit from the left, and the And of conditions.
-ghost use Rattle.std.specs.Prelude.{◌≡◌, map, IfOk};
+ghost use Rattle.std.specs.Prelude.{◌≡◌, ◌∷◌, [], map, IfOk};
 ghost use Rattle.vlsi_base.specs.Tree.{view as tree};
 ghost use Rattle.bool_expr.specs.View.{view};
 ghost use Rattle.bool_expr.specs.Expression.{choice as choice_of};
 ghost use Rattle.machine_core.specs.Order.{AllDifferent};
 ghost use Rattle.source_meaning.specs.Symbols.{all_names};
 ghost use Rattle.source_meaning.specs.Formula.{numbered, choice_bits};
-ghost use Rattle.source_meaning.specs.Clock.{enable_of};
+ghost use Rattle.source_meaning.specs.Clock.{parts_of, steady_names, enable_of};
 ghost use Rattle.source_bits.specs.Vectors.{each_two};
 ghost use Rattle.source_bits.specs.Formulas.{bits_of, first_of, alternatives_of, grouped_of, all_in, condition_of};
 
@@ -119,14 +119,15 @@ fn all_of(alloc: Global, numbers: &Numbers, conditions: &[&ParsedExpr]) -> Resul
     Ok(all)
 }
 
-/// What a guard adds to the rise of its clock, over the numbers of declared bits.
+/// What a guard with this clock adds to its rise, over the numbers of declared bits.
 pub(crate) fn enable(
     alloc: Global,
     numbers: &Numbers,
     clock: &[u8],
     guard: &ParsedExpr,
 ) -> Result<Expr, AllocError>
-    requires { AllDifferent (map (λ s. s.text) numbers.now) }
+    requires different { AllDifferent (map (λ s. s.text) numbers.now) }
+    requires steady { steady_names (parts_of (tree guard.now)) ≡ clock.now ∷ [] }
     ensures { IfOk result (λ made. view made ≡ numbered (all_names numbers.now) (enable_of numbers.now clock.now (tree guard.now))) }
 {
     let conditions = conditions(alloc, guard, clock)?;

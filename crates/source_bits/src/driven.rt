@@ -1,5 +1,5 @@
 // The bits that a text drives, each with its formulas over numbers, in file order.
-ghost use Rattle.std.specs.Prelude.{◌≡◌, ◌++◌, ℕ, List, Some, map, IfOk, OnOk};
+ghost use Rattle.std.specs.Prelude.{◌≡◌, ◌++◌, ◌∷◌, [], ℕ, List, Some, map, IfOk, OnOk};
 ghost use Rattle.std.specs.Option.{option_copied};
 ghost use Rattle.vlsi_base.specs.Tree.{view as tree};
 ghost use Rattle.bool_expr.specs.View.{view};
@@ -8,7 +8,7 @@ ghost use Rattle.source_meaning.specs.Symbols.{all_names, names_in};
 ghost use Rattle.source_meaning.specs.Formula.{place, numbered};
 ghost use Rattle.source_meaning.specs.Drivers.{target_names};
 ghost use Rattle.source_meaning.specs.Places.{in_assignments, in_statements};
-ghost use Rattle.source_meaning.specs.Clock.{enable_of};
+ghost use Rattle.source_meaning.specs.Clock.{parts_of, steady_names, enable_of, statement_clock_lines};
 ghost use Rattle.source_meaning.specs.Elaboration.{assignment_definitions, statement_definitions, statement_storage, stored};
 ghost use Rattle.source_bits.specs.Numbering.{named_bit};
 ghost use Rattle.source_bits.specs.Driven.{driven_view, stored_view, numbered_definition, numbered_storage, driven_pairs, stored_pairs, stored_in};
@@ -232,7 +232,8 @@ fn store_block(
     clock: &[u8],
     block: &BlockStatement,
 ) -> Result<(), AllocError>
-    requires { AllDifferent (map (λ s. s.text) numbers.now) }
+    requires different { AllDifferent (map (λ s. s.text) numbers.now) }
+    requires steady { steady_names (parts_of (tree block.now.guard)) ≡ clock.now ∷ [] }
     ensures { OnOk result (map stored_view made.new.items ≡ map stored_view made.old.items
         ++ map (numbered_storage (all_names numbers.now)) (stored (enable_of numbers.now clock.now (tree block.now.guard))
         (in_assignments (assignment_definitions numbers.now) block.now.assignments))) }
@@ -249,7 +250,8 @@ fn store_in(
     clock: &[u8],
     statement: &Statement,
 ) -> Result<(), AllocError>
-    requires { AllDifferent (map (λ s. s.text) numbers.now) }
+    requires different { AllDifferent (map (λ s. s.text) numbers.now) }
+    requires clocked { statement_clock_lines numbers.now (Some clock.now) statement.now ≡ [] }
     ensures { OnOk result (map stored_view made.new.items ≡ map stored_view made.old.items
         ++ map (numbered_storage (all_names numbers.now)) (statement_storage numbers.now (Some clock.now) statement.now)) }
 {
@@ -267,7 +269,8 @@ fn stored_under(
     clock: &[u8],
     statements: &[Statement],
 ) -> Result<Vec<StoredBit>, AllocError>
-    requires { AllDifferent (map (λ s. s.text) numbers.now) }
+    requires different { AllDifferent (map (λ s. s.text) numbers.now) }
+    requires clocked { in_statements (statement_clock_lines numbers.now (Some clock.now)) statements.now ≡ [] }
     ensures { IfOk result (λ made. map stored_view made.items
         ≡ map (numbered_storage (all_names numbers.now))
         (in_statements (statement_storage numbers.now (Some clock.now)) statements.now)) }
@@ -280,14 +283,16 @@ fn stored_under(
 }
 
 /// The bits that assignments of blocks drive, in file order, a vector from the left, each with what its block's guard adds
-/// to the rise of the clock: none where there is no clock. Takes memory for each operator of each bit.
+/// to the rise of the clock: none where there is no clock. No line of the statements is at fault for the clock. Takes memory
+/// for each operator of each bit.
 pub fn stored_bits(
     alloc: Global,
     numbers: &Numbers,
     clock: Option<&[u8]>,
     statements: &[Statement],
 ) -> Result<Vec<StoredBit>, AllocError>
-    requires { AllDifferent (map (λ s. s.text) numbers.now) }
+    requires different { AllDifferent (map (λ s. s.text) numbers.now) }
+    requires clocked { in_statements (statement_clock_lines numbers.now (option_copied clock.entry)) statements.now ≡ [] }
     ensures { IfOk result (λ made. map stored_view made.items ≡ map (numbered_storage (all_names numbers.now))
         (in_statements (statement_storage numbers.now (option_copied clock.entry)) statements.now)) }
 {

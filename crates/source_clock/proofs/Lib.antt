@@ -1,3 +1,4 @@
 pub mod Chains
 pub mod Joining
+pub mod Steady
 pub mod Texts

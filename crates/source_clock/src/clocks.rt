@@ -75,7 +75,9 @@ pub fn clock_of<'a>(
 ) -> Result<Option<&'a Text>, AllocError>
     ensures { IfOk result (λ clock. option_copied clock ≡ clock_of table.now (view guard.now)) }
 {
-    let parts = parts(alloc, guard)?;
+    let Some(parts) = parts(alloc, guard)? else {
+        return Ok(None);
+    };
     let Some(clock) = only_steady(&parts) else {
         return Ok(None);
     };

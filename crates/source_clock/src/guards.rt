@@ -1,9 +1,9 @@
 // What a guard joins by `and`, and which of it are further conditions. Operands of one operator that stand in a chain are
 // walked by a loop, so a walk goes only as deep as parentheses nest.
-ghost use Rattle.std.specs.Prelude.{◌≡◌, ◌++◌, ◌&&◌, ◌||◌, not, is_none, map, IfOk, OnOk, if◌then◌else◌};
+ghost use Rattle.std.specs.Prelude.{◌≡◌, ◌++◌, ◌∷◌, [], ◌&&◌, ◌||◌, not, is_none, map, IfOk, OnOk, IfSome, IfNone, if◌then◌else◌};
 ghost use Rattle.std.specs.Option.{option_copied};
 ghost use Rattle.vlsi_base.specs.Tree.{view, operand_of};
-ghost use Rattle.source_meaning.specs.Clock.{without_one, conjuncts, parts_of, is_name, steady_name, conditions_among};
+ghost use Rattle.source_meaning.specs.Clock.{without_one, conjuncts, parts_of, is_name, steady_name, steady_names, conditions_among};
 ghost use Rattle.source_clock.specs.Operands.{is_and, is_equal, is_one, is_plain, stable_name, is_beside_one, conjuncts_of};
 
 use std::alloc::{AllocError, Global};
@@ -113,17 +113,18 @@ pub(crate) fn is_clock(e: &ParsedExpr, clock: &[u8]) -> bool
     }
 }
 
-/// The expression without a relation with '1' on its right. A chain of several relations, which no text has, is answered
-/// as out of memory.
-fn without_one<'a>(e: &'a ParsedExpr) -> Result<&'a ParsedExpr, AllocError>
-    ensures { IfOk result (λ r. view r.now ≡ without_one (view e.now)) }
+/// The expression without a relation with '1' on its right. None for a chain of several relations, as `a = b = c`, which no
+/// text has: what stands before its last operand is no expression in memory. No part of it turns a `stable` round.
+fn without_one<'a>(e: &'a ParsedExpr) -> Option<&'a ParsedExpr>
+    ensures some { IfSome result (λ r. view r.now ≡ without_one (view e.now)) }
+    ensures none { IfNone result (steady_names (parts_of (view e.now)) ≡ []) }
 {
     match e {
         ParsedExpr::Binary(operator, _, left, right) => {
             if is_equal(*operator) && is_one(right) {
-                Ok(left)
+                Some(left)
             } else {
-                Ok(e)
+                Some(e)
             }
         }
         ParsedExpr::Chain(operator, first, others) => {
@@ -131,18 +132,18 @@ fn without_one<'a>(e: &'a ParsedExpr) -> Result<&'a ParsedExpr, AllocError>
                 return without_one(first);
             }
             if !is_equal(*operator) {
-                return Ok(e);
+                return Some(e);
             }
             if others.len() > 1 {
-                return Err(AllocError);
+                return None;
             }
             if is_one(&others[0].1) {
-                Ok(first)
+                Some(first)
             } else {
-                Ok(e)
+                Some(e)
             }
         }
-        _ => Ok(e),
+        _ => Some(e),
     }
 }
 
@@ -199,15 +200,21 @@ fn collect_all<'a>(
     Ok(())
 }
 
-/// What is joined by `and` in a guard, through parentheses, from the left, without an outer `= '1'`. A chain of several
-/// relations, which no text has, is answered as out of memory.
-pub fn parts(alloc: Global, guard: &ParsedExpr) -> Result<Vec<&ParsedExpr>, AllocError>
-    ensures { IfOk result (λ parts. map (λ r. view r.now) parts.items ≡ parts_of (view guard.now)) }
+/// What is joined by `and` in a guard, through parentheses, from the left, without an outer `= '1'`. None for a chain of
+/// several relations: it turns no `stable` round.
+pub(crate) fn parts(
+    alloc: Global,
+    guard: &ParsedExpr,
+) -> Result<Option<Vec<&ParsedExpr>>, AllocError>
+    ensures some { IfOk result (λ o. IfSome o (λ parts. map (λ r. view r.now) parts.items ≡ parts_of (view guard.now))) }
+    ensures none { IfOk result (λ o. IfNone o (steady_names (parts_of (view guard.now)) ≡ [])) }
 {
-    let joined = without_one(guard)?;
+    let Some(joined) = without_one(guard) else {
+        return Ok(None);
+    };
     let mut found = Vec::new(alloc);
     collect(&mut found, joined)?;
-    Ok(found)
+    Ok(Some(found))
 }
 
 /// Those of the parts that are neither the clock nor turn a `stable` round.
@@ -227,14 +234,19 @@ pub(crate) fn further<'a>(
     Ok(found)
 }
 
-/// The parts of a guard that are neither the clock nor turn its `stable` round, from the left.
+/// The parts of a guard with this clock that are neither the clock nor turn its `stable` round, from the left. Takes memory
+/// for the guard's parts.
 pub fn conditions<'a>(
     alloc: Global,
     guard: &'a ParsedExpr,
     clock: &[u8],
 ) -> Result<Vec<&'a ParsedExpr>, AllocError>
+    requires { steady_names (parts_of (view guard.now)) ≡ clock.now ∷ [] }
     ensures { IfOk result (λ found. map (λ r. view r.now) found.items ≡ conditions_among clock.now (parts_of (view guard.now))) }
 {
     let parts = parts(alloc, guard)?;
-    further(alloc, &parts, clock)
+    match parts {
+        Some(parts) => further(alloc, &parts, clock),
+        None => unreachable!(),
+    }
 }

@@ -9,5 +9,5 @@ mod reads;
 
 pub use clocks::{clock, clock_of};
 pub use faults::clock_fault;
-pub use guards::{conditions, parts};
+pub use guards::conditions;
 pub use reads::clock_line;
