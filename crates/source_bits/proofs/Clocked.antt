@@ -1,6 +1,5 @@
 -- Statements in which no line is at fault for the clock: each guard has it.
-use Rattle.std.proofs.Common.{◌≡◌, ℕ, ◌<◌, Bool, true, false, List, [], ◌∷◌, ◌++◌, get_or, length, Option, Some, None, refl, sym, ap, ◌∙◌, arith}
-use Rattle.std.specs.Prelude.{bytes_eq}
+use Rattle.std.proofs.Common.{◌≡◌, ℕ, zero, suc, ◌<◌, Bool, true, false, List, [], ◌∷◌, ◌++◌, get_or, length, Option, Some, None, refl, sym, ap, ◌∙◌, arith}
 use Rattle.vlsi_base.specs.Tree.{view}
 use Rattle.source_meaning.specs.declared.statement.BlockStatement.{BlockStatement}
 use Rattle.source_meaning.specs.declared.statement.Statement.{Statement}

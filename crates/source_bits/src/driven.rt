@@ -292,7 +292,7 @@ pub fn stored_bits(
     statements: &[Statement],
 ) -> Result<Vec<StoredBit>, AllocError>
     requires different { AllDifferent (map (λ s. s.text) numbers.now) }
-    requires clocked { in_statements (statement_clock_lines numbers.now (option_copied clock.entry)) statements.now ≡ [] }
+    requires clocked { in_statements (statement_clock_lines numbers.now (option_copied clock)) statements.now ≡ [] }
     ensures { IfOk result (λ made. map stored_view made.items ≡ map (numbered_storage (all_names numbers.now))
         (in_statements (statement_storage numbers.now (option_copied clock.entry)) statements.now)) }
 {

@@ -1,8 +1,8 @@
 // A source, elaborated over the numbers of its declared bits.
-ghost use Rattle.std.specs.Prelude.{◌≡◌, ◌<◌, ◌^◌, length, map, option_map, IfOk};
+ghost use Rattle.std.specs.Prelude.{◌≡◌, ◌<◌, ◌^◌, [], length, map, option_map, IfOk};
 ghost use Rattle.std.specs.Option.{option_copied};
 ghost use Rattle.machine_core.specs.Order.{AllDifferent};
-ghost use Rattle.source_meaning.specs.Clock.{clock_text};
+ghost use Rattle.source_meaning.specs.Clock.{clock_text, all_clock_lines};
 ghost use Rattle.source_meaning.specs.Symbols.{symbols, scalar, all_names};
 ghost use Rattle.vlsi_model.specs.Sources.{IsSourceOf};
 
@@ -53,6 +53,7 @@ fn with_clock(
     requires different { AllDifferent (map (λ s. s.text) (symbols design.now)) }
     requires few { length (all_names (symbols design.now)) < 2 ^ 32 }
     requires clock { option_copied clock ≡ clock_text design.now }
+    requires clocked { all_clock_lines design.now ≡ [] }
     ensures { IfOk result (λ s. IsSourceOf design.now s) }
 {
     let driven = driven_bits(alloc, &numbers, design.statements.as_slice())?;
@@ -71,7 +72,7 @@ fn with_clock(
     })
 }
 
-/// A source whose declared names are these.
+/// A source whose declared names are these, in which no line is at fault for the clock.
 pub fn elaborated(
     alloc: Global,
     table: SymbolTable,
@@ -80,6 +81,7 @@ pub fn elaborated(
     requires known { table ≡ symbols design.now }
     requires few { length (all_names (symbols design.now)) < 2 ^ 32 }
     requires different { AllDifferent (map (λ s. s.text) (symbols design.now)) }
+    requires clocked { all_clock_lines design.now ≡ [] }
     ensures { IfOk result (λ s. IsSourceOf design.now s) }
 {
     let clock = clock(alloc, &table, design.statements.as_slice())?;
