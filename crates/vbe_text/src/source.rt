@@ -147,7 +147,8 @@ fn whole(cursor: &mut Cursor) -> Result<DesignFile, Stop>
 /// Reads the tokens of a whole data-flow text: an entity, its architecture, and nothing behind them. The answer is what is
 /// written there, in file order, with lines counted from 1; nothing is checked but the grammar, that no name is declared
 /// twice, and the limits of depth, bits, operators and alternatives. Else it is the error of the first token with which
-/// the text goes wrong (of the end, on the last line), or `Memory`. Takes memory in proportion to the text.
+/// the text goes wrong (of the end, on the last line), or `Memory`. No expression of what is read has more operators than the
+/// limit. Takes memory in proportion to the text.
 pub fn read_source(alloc: Global, tokens: &Tokens) -> Result<DesignFile, ReadError>
     ensures accepted { IfOk result (λ design. IsSource tokens.now (source_view design)) }
     ensures refused { IfErr result (λ e. IsRefusedSource tokens.now e) }
