@@ -21,7 +21,7 @@ use Rattle.loon_fanout.specs.Nets.{HasFewInputs, FitsWithoutBuffers, HasNoBuffer
 use Rattle.loon_drive.specs.Driven.{most_sinks}
 use Rattle.boog_driven.specs.Netlist.{IsDrivenNetlist, IsDrivenAs}
 
--- As a netlist that layouts give: its instances stand in order in one row; its gates are as few as those of the mapped one; few input pins read
+-- As a netlist that layouts give: its instances stand in order in one row; its gates are no more than the machine's size and two; few input pins read
 -- each class but the clock's and the supplies'; it has no buffer at all where it would do without them; and no exchange of one cell
 -- makes its longest path shorter.
 pub record IsGoodNetlist (l : Library) (m : Machine) (fanout : ℕ) (y : Seen) (delay : ℕ) : Type 0 where

@@ -19,7 +19,7 @@ use Rattle.loon_run.specs.Laws.{HasUsableCells, NetlistIsDrivable, DrivenIsWrita
 use Rattle.vst_round.specs.Again.{CanBeSaid, CanBeRead, WrittenIsReadAgain, ReadAgain}
 use Rattle.loon_round.specs.Meets.{MadeMeetsCondition}
 use Rattle.loon_round.specs.Again.{ReadMeetsCondition, IsSmall, IsReadAgain, MadeIsReadAgain, LoonIsReadAgain}
-use Rattle.loon_round.proofs.Supplied.{lists_supplies}
+use Rattle.loon_run.proofs.Supplies.{lists_supplies}
 use Rattle.loon_round.proofs.Meets.{Known as Kept, cells_after, ports_after}
 
 -- the pins of the usable cells are a table

@@ -1,5 +1,4 @@
 mod Tied
 mod Passes
 mod Meets
-mod Supplied
 mod Again

@@ -2,6 +2,6 @@ mod Arcs
 mod Lists
 mod Numbered
 mod Refusing
-mod Supplies
+pub mod Supplies
 mod Writing
 mod Bare
