@@ -3,3 +3,4 @@ pub mod Choices
 pub mod Whole
 pub mod Laws
 pub mod Counted
+pub mod Short
