@@ -18,6 +18,7 @@ use std::alloc::{AllocError, Global};
 use vlsi_base::{ParsedExpr, Text};
 
 /// Whether the expression is the rise of this clock, without a further condition. Takes memory for its parts.
+#[tactic(auto, using(source_clock::proofs::Steady::steady_of_clock))]
 fn is_edge(
     alloc: Global,
     table: &SymbolTable,
@@ -27,9 +28,11 @@ fn is_edge(
     ensures { IfOk result (λ edge. edge ≡ is_edge table.now clock.now (view e.now)) }
 {
     let found = clock_of(alloc, table, e)?;
-    let further = conditions(alloc, e, clock.as_bytes())?;
     match found {
-        Some(text) => Ok(same(text, clock) && further.is_empty()),
+        Some(text) => {
+            let further = conditions(alloc, e, text.as_bytes())?;
+            Ok(same(text, clock) && further.is_empty())
+        }
         None => Ok(false),
     }
 }

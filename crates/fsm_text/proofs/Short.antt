@@ -6,10 +6,10 @@ use Rattle.vlsi_base.specs.declared.entity.Entity.{Entity}
 use Rattle.vhdl_token.specs.declared.token.Tokens.{Tokens}
 use Rattle.grammar_theory.specs.declared.limits.TheConstants.{DEPTH}
 use Rattle.grammar_theory.specs.Marks.{Item, State, uncounted, run}
-use Rattle.grammar_theory.specs.Grammar.{Grammar, none, placed, at_some}
+use Rattle.grammar_theory.specs.Grammar.{Grammar, none, at_some}
 use Rattle.vhdl_front.specs.Expression.{expression, less}
 use Rattle.source_meaning.specs.Operators.{IsShort}
-use Rattle.vbe_text.proofs.Short.{Has, EachHas, has_then, has_behind, has_or, has_nothing, has_list, short_expression}
+use Rattle.vbe_text.proofs.Short.{Has, Every, has_then, has_behind, has_or, has_nothing, has_list, has_placed, short_expression}
 use Rattle.fsm_text.specs.declared.file.FirstToken.{FirstToken}
 use Rattle.fsm_text.specs.Written.{StatementTree, asserted, assigned, chosen, selected, BodyTree, PartTree, BranchTree, BranchesTree, StepTree, ClockTree, MachineTree, body_of, parts_of, branched, branches_of}
 use Rattle.fsm_text.specs.Fsm.{headed, assertion, assignment, part, further_part, last_part, behind_if, conditional, listed_branch, led_branch, others_branch, last_branch, branches, behind_case, case_statement, statement, body_over, nested, body, step_process, clock_process, processes, architecture, machine}
@@ -24,14 +24,7 @@ has_none P = record { each = λ items v h s t e. elim h [ ] }
 has_some : {A : Type 0} {G : ℕ → Grammar A} {P : A → Type 0} → ((level : ℕ) → Has (G level) P) → Has (at_some G) P
 has_some {A} {G} {P} all = record { each = λ items v h s t e. (all h.level).each items v h.sentence s t e }
 
--- with the line of the first token
-has_placed : {A : Type 0} {L : Grammar A} {P : A → Type 0} → Has L P → Has (placed L) (λ v. P v.1)
-has_placed {A} {L} {P} one = record { each = λ items v h s t e. in_placed items v h s t e } where
-  in_placed : (items : List Item) (v : ℕ × A) → placed L items v → (s t : State) → run items s ≡ Ok t → P v.1
-  in_placed [] v h s t e = elim h [ ]
-  in_placed (i ∷ items) v h s t e = one.each (i ∷ items) v.1 h.0 s t e
-
--- with what is kept of it
+-- with what is kept of the first token
 has_headed : {A : Type 0} {L : Grammar A} {P : A → Type 0} → Has L P → Has (headed L) (λ v. P v.1)
 has_headed {A} {L} {P} one = record { each = λ items v h s t e. in_headed items v h s t e } where
   in_headed : (items : List Item) (v : FirstToken × A) → headed L items v → (s t : State) → run items s ≡ Ok t → P v.1
@@ -50,20 +43,20 @@ abbrev ShortLast : Option BodyTree → Type 0
 ShortLast None = Unit {0}
 ShortLast (Some a) = ShortBody a
 
-linked_parts : (p : PartTree) (more : List PartTree) (last : Option BodyTree) → ShortPart p → EachHas ShortPart more → ShortLast last → ShortParts (parts_of p more last)
+linked_parts : (p : PartTree) (more : List PartTree) (last : Option BodyTree) → ShortPart p → Every ShortPart more → ShortLast last → ShortParts (parts_of p more last)
 linked_parts p [] None h e l = h
 linked_parts p [] (Some a) h e l = (h.0, (h.1, l))
 linked_parts p (q ∷ more) last h e l = (h.0, (h.1, linked_parts q more last e.0 e.1 l))
 
-linked_branches : (bs : List BranchTree) (rest : BranchesTree) → EachHas ShortBranch bs → ShortBranches rest → ShortBranches (branched bs rest)
+linked_branches : (bs : List BranchTree) (rest : BranchesTree) → Every ShortBranch bs → ShortBranches rest → ShortBranches (branched bs rest)
 linked_branches [] rest e h = h
 linked_branches (b ∷ bs) rest e h = (e.0, linked_branches bs rest e.1 h)
 
-all_branches : (bs : List BranchTree) (last : Option BodyTree) → EachHas ShortBranch bs → ShortLast last → ShortBranches (branches_of bs last)
+all_branches : (bs : List BranchTree) (last : Option BodyTree) → Every ShortBranch bs → ShortLast last → ShortBranches (branches_of bs last)
 all_branches bs None e l = linked_branches bs _ e tt
 all_branches bs (Some a) e l = linked_branches bs _ e l
 
-linked_statements : (all : List StatementTree) → EachHas ShortStatement all → ShortBody (body_of all)
+linked_statements : (all : List StatementTree) → Every ShortStatement all → ShortBody (body_of all)
 linked_statements [] e = tt
 linked_statements (s ∷ all) e = (e.0, linked_statements all e.1)
 

@@ -166,7 +166,8 @@ fn refused(alloc: Global, tokens: &Tokens, stop: Stop) -> Result<ReadError, Allo
 /// written there, in file order, with lines counted from 1; nothing is checked but the grammar, that no name is declared
 /// twice, and the limits of depth, bits, operators, and assignments of one output bit or of the next state. Else it is the
 /// error of the first token with which the text goes wrong (of the end, on the last line), or `Memory`. What is answered has a
-/// state, and no expression with more operators than the limit. Takes memory in proportion to the text and the bits of its outputs, and time for the bits that it assigns beside.
+/// state, and no expression with more operators than the limit. Takes memory in proportion to the text and the bits of its
+/// outputs, and time for the bits that it assigns beside.
 pub fn read_machine(alloc: Global, tokens: &Tokens) -> Result<StateFile, ReadError>
     ensures accepted { IfOk result (λ file. IsMachine tokens.now (machine_view file)) }
     ensures some_state { IfOk result (λ file. 0 < length (machine_view file).states.states) }
