@@ -1,13 +1,12 @@
 -- A state machine that is read has short expressions: each begins its count of operators behind the token before it, and a token
 -- that passes the limit is refused.
-use Rattle.std.proofs.Common.{◌≡◌, ℕ, zero, suc, ◌-◌, List, [], ◌∷◌, Option, None, Some, Ok, absurd}
-use Rattle.vlsi_base.specs.Tree.{Tree}
+use Rattle.std.proofs.Common.{◌≡◌, ℕ, zero, suc, ◌-◌, List, [], ◌∷◌, Option, None, Some, Ok}
 use Rattle.vlsi_base.specs.declared.entity.Entity.{Entity}
 use Rattle.vhdl_token.specs.declared.token.Tokens.{Tokens}
 use Rattle.grammar_theory.specs.declared.limits.TheConstants.{DEPTH}
 use Rattle.grammar_theory.specs.Marks.{Item, State, uncounted, run}
 use Rattle.grammar_theory.specs.Grammar.{Grammar, none, at_some}
-use Rattle.vhdl_front.specs.Expression.{expression, less}
+use Rattle.vhdl_front.specs.Expression.{less}
 use Rattle.source_meaning.specs.Operators.{IsShort}
 use Rattle.vbe_text.proofs.Short.{Has, Every, has_then, has_behind, has_or, has_nothing, has_list, has_placed, short_expression}
 use Rattle.fsm_text.specs.declared.file.FirstToken.{FirstToken}
@@ -62,63 +61,63 @@ linked_statements (s ∷ all) e = (e.0, linked_statements all e.1)
 
 -- ---- ifs
 
-has_part : (room : ℕ) {inner : Grammar BodyTree} → Has inner ShortBody → Has (part room inner) ShortPart
+has_part : (room : ℕ) (inner : Grammar BodyTree) → Has inner ShortBody → Has (part room inner) ShortPart
 unfolding part
-has_part room {inner} h =
+has_part room inner h =
     has_then (has_placed (short_expression room)) (λ c short. has_behind (λ t. has_then h (λ a small.
     has_nothing ShortPart (record { line = c.0; condition = c.1; body = a }) (short, small))))
 
-has_further : (room : ℕ) {inner : Grammar BodyTree} → Has inner ShortBody → Has (further_part room inner) ShortPart
+has_further : (room : ℕ) (inner : Grammar BodyTree) → Has inner ShortBody → Has (further_part room inner) ShortPart
 unfolding further_part
-has_further room h = has_behind (λ t. has_part room h)
+has_further room inner h = has_behind (λ t. has_part room inner h)
 
-has_else : {inner : Grammar BodyTree} → Has inner ShortBody → Has (last_part inner) ShortLast
+has_else : (inner : Grammar BodyTree) → Has inner ShortBody → Has (last_part inner) ShortLast
 unfolding last_part
-has_else h = has_or (has_behind (λ t. has_then h (λ a small. has_nothing ShortLast (Some a) small))) (has_nothing ShortLast None tt)
+has_else inner h = has_or (has_behind (λ t. has_then h (λ a small. has_nothing ShortLast (Some a) small))) (has_nothing ShortLast None tt)
 
-has_if : (room : ℕ) {inner : Grammar BodyTree} → Has inner ShortBody → Has (behind_if room inner) ShortStatement
+has_if : (room : ℕ) (inner : Grammar BodyTree) → Has inner ShortBody → Has (behind_if room inner) ShortStatement
 unfolding behind_if
-has_if room h =
-    has_then (has_part room h) (λ p first. has_then (has_list (has_further room h)) (λ more each. has_then (has_else h) (λ last final.
+has_if room inner h =
+    has_then (has_part room inner h) (λ p first. has_then (has_list (has_further room inner h)) (λ more each. has_then (has_else inner h) (λ last final.
     has_behind (λ u. has_behind (λ v. has_behind (λ w. has_nothing ShortStatement (chosen (parts_of p more last)) (linked_parts p more last first each final)))))))
 
-has_conditional : (room : ℕ) {inner : Grammar BodyTree} → Has inner ShortBody → Has (conditional room inner) ShortStatement
+has_conditional : (room : ℕ) (inner : Grammar BodyTree) → Has inner ShortBody → Has (conditional room inner) ShortStatement
 unfolding conditional
-has_conditional room h = has_behind (λ t. has_if (room - 1) h)
+has_conditional room inner h = has_behind (λ t. has_if (room - 1) inner h)
 
 -- ---- cases
 
-has_branch : {inner : Grammar BodyTree} → Has inner ShortBody → Has (listed_branch inner) ShortBranch
+has_branch : (inner : Grammar BodyTree) → Has inner ShortBody → Has (listed_branch inner) ShortBranch
 unfolding listed_branch
-has_branch h = has_behind (λ states. has_behind (λ t. has_then h (λ a small. has_nothing ShortBranch (record { states = states; body = a }) small)))
+has_branch inner h = has_behind (λ states. has_behind (λ t. has_then h (λ a small. has_nothing ShortBranch (record { states = states; body = a }) small)))
 
-has_led : {inner : Grammar BodyTree} → Has inner ShortBody → Has (led_branch inner) ShortBranch
+has_led : (inner : Grammar BodyTree) → Has inner ShortBody → Has (led_branch inner) ShortBranch
 unfolding led_branch
-has_led h = has_behind (λ t. has_branch h)
+has_led inner h = has_behind (λ t. has_branch inner h)
 
-has_others : {inner : Grammar BodyTree} → Has inner ShortBody → Has (others_branch inner) ShortBody
+has_others : (inner : Grammar BodyTree) → Has inner ShortBody → Has (others_branch inner) ShortBody
 unfolding others_branch
-has_others h = has_behind (λ t. has_behind (λ u. h))
+has_others inner h = has_behind (λ t. has_behind (λ u. h))
 
-has_last : {inner : Grammar BodyTree} → Has inner ShortBody → Has (last_branch inner) ShortLast
+has_last : (inner : Grammar BodyTree) → Has inner ShortBody → Has (last_branch inner) ShortLast
 unfolding last_branch
-has_last h = has_or (has_behind (λ t. has_then (has_others h) (λ a small. has_nothing ShortLast (Some a) small))) (has_nothing ShortLast None tt)
+has_last inner h = has_or (has_behind (λ t. has_then (has_others inner h) (λ a small. has_nothing ShortLast (Some a) small))) (has_nothing ShortLast None tt)
 
-has_branches : {inner : Grammar BodyTree} → Has inner ShortBody → Has (branches inner) ShortBranches
+has_branches : (inner : Grammar BodyTree) → Has inner ShortBody → Has (branches inner) ShortBranches
 unfolding branches
-has_branches h =
-    has_then (has_list (has_led h)) (λ all each. has_then (has_last h) (λ last final.
+has_branches inner h =
+    has_then (has_list (has_led inner h)) (λ all each. has_then (has_last inner h) (λ last final.
     has_nothing ShortBranches (branches_of all last) (all_branches all last each final)))
 
-has_case_behind : (line : ℕ) {inner : Grammar BodyTree} → Has inner ShortBody → Has (behind_case line inner) ShortStatement
+has_case_behind : (line : ℕ) (inner : Grammar BodyTree) → Has inner ShortBody → Has (behind_case line inner) ShortStatement
 unfolding behind_case
-has_case_behind line h =
-    has_behind (λ name. has_behind (λ u. has_then (has_branches h) (λ all small. has_behind (λ v. has_behind (λ w. has_behind (λ x.
+has_case_behind line inner h =
+    has_behind (λ name. has_behind (λ u. has_then (has_branches inner h) (λ all small. has_behind (λ v. has_behind (λ w. has_behind (λ x.
     has_nothing ShortStatement (selected line name all) small))))))
 
-has_case : (room : ℕ) {inner : Grammar BodyTree} → Has inner ShortBody → Has (case_statement room inner) ShortStatement
+has_case : (room : ℕ) (inner : Grammar BodyTree) → Has inner ShortBody → Has (case_statement room inner) ShortStatement
 unfolding case_statement
-has_case room h = has_behind (λ t. has_case_behind t.line h)
+has_case room inner h = has_behind (λ t. has_case_behind t.line inner h)
 
 -- ---- bodies
 
@@ -132,18 +131,18 @@ unfolding assignment
 has_assignment room =
     has_behind (λ x. has_behind (λ t. has_then (has_headed (short_expression room)) (λ e short. has_behind (λ u. has_nothing ShortStatement (assigned x e.0 e.1) short))))
 
-has_statement : (room : ℕ) {inner : Grammar BodyTree} → Has inner ShortBody → Has (statement room inner) ShortStatement
+has_statement : (room : ℕ) (inner : Grammar BodyTree) → Has inner ShortBody → Has (statement room inner) ShortStatement
 unfolding statement
-has_statement room h = has_or (has_assertion room) (has_or (has_conditional room h) (has_or (has_case room h) (has_assignment room)))
+has_statement room inner h = has_or (has_assertion room) (has_or (has_conditional room inner h) (has_or (has_case room inner h) (has_assignment room)))
 
-has_body_over : (room : ℕ) {inner : Grammar BodyTree} → Has inner ShortBody → Has (body_over room inner) ShortBody
+has_body_over : (room : ℕ) (inner : Grammar BodyTree) → Has inner ShortBody → Has (body_over room inner) ShortBody
 unfolding body_over
-has_body_over room h = has_then (has_list (has_statement room h)) (λ all each. has_nothing ShortBody (body_of all) (linked_statements all each))
+has_body_over room inner h = has_then (has_list (has_statement room inner h)) (λ all each. has_nothing ShortBody (body_of all) (linked_statements all each))
 
 has_nested : (deeper room : ℕ) → Has (nested deeper room) ShortBody
 unfolding nested
-has_nested zero room = has_body_over room (has_none ShortBody)
-has_nested (suc deeper) room = has_body_over room (has_nested deeper (less room))
+has_nested zero room = has_body_over room none (has_none ShortBody)
+has_nested (suc deeper) room = has_body_over room (nested deeper (less room)) (has_nested deeper (less room))
 
 has_body : (room : ℕ) → Has (body room) ShortBody
 has_body room = has_some (λ deeper. has_nested deeper room)
