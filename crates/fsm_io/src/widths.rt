@@ -55,7 +55,7 @@ fn assignment_fault(
 }
 
 fn fault_at(table: &SymbolTable, roles: Roles, mention: Mention) -> Option<u32>
-    requires { ShortMention (mention_of mention.entry) }
+    requires { ShortMention (mention_of mention) }
     ensures { result ≡ first_line (widths_at table.now (named_of roles.entry) (mention_of mention.entry)) }
 {
     match mention {
