@@ -18,7 +18,6 @@ use std::alloc::{AllocError, Global};
 use vlsi_base::{ParsedExpr, Text};
 
 /// Whether the expression is the rise of this clock, without a further condition. Takes memory for its parts.
-#[tactic(auto, using(source_clock::proofs::Steady::steady_of_clock))]
 fn is_edge(
     alloc: Global,
     table: &SymbolTable,
