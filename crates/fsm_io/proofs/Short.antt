@@ -44,5 +44,6 @@ held [] h = All-nil (λ (x : Held). ShortMention (mention_of x))
 held (x ∷ ms) h = All-cons (λ (y : Held). ShortMention (mention_of y)) x ms h.0 (held ms h.1)
 
 -- wherever what stands there lies in memory
-pub short_mentions : (m : MachineTree) (ms : List Held) → HasShortExpressions m → map mention_of ms ≡ all_mentions m → All (λ x. ShortMention (mention_of x)) ms
+pub short_mentions : (m : MachineTree) (ms : List Held) → HasShortExpressions m → map mention_of ms ≡ all_mentions m
+    → All (λ x. ShortMention (mention_of x)) ms
 short_mentions m ms h is = held ms (subst (λ (xs : List Mention). Every ShortMention xs) (sym is) (short_body _ m.step.body h.0))

@@ -42,7 +42,8 @@ abbrev ShortLast : Option BodyTree → Type 0
 ShortLast None = Unit {0}
 ShortLast (Some a) = ShortBody a
 
-linked_parts : (p : PartTree) (more : List PartTree) (last : Option BodyTree) → ShortPart p → Every ShortPart more → ShortLast last → ShortParts (parts_of p more last)
+linked_parts : (p : PartTree) (more : List PartTree) (last : Option BodyTree) → ShortPart p → Every ShortPart more → ShortLast last
+    → ShortParts (parts_of p more last)
 linked_parts p [] None h e l = h
 linked_parts p [] (Some a) h e l = (h.0, (h.1, l))
 linked_parts p (q ∷ more) last h e l = (h.0, (h.1, linked_parts q more last e.0 e.1 l))
@@ -79,7 +80,8 @@ has_if : (room : ℕ) (inner : Grammar BodyTree) → Has inner ShortBody → Has
 unfolding behind_if
 has_if room inner h =
     has_then (has_part room inner h) (λ p first. has_then (has_list (has_further room inner h)) (λ more each. has_then (has_else inner h) (λ last final.
-    has_behind (λ u. has_behind (λ v. has_behind (λ w. has_nothing ShortStatement (chosen (parts_of p more last)) (linked_parts p more last first each final)))))))
+    has_behind (λ u. has_behind (λ v. has_behind (λ w.
+    has_nothing ShortStatement (chosen (parts_of p more last)) (linked_parts p more last first each final)))))))
 
 has_conditional : (room : ℕ) (inner : Grammar BodyTree) → Has inner ShortBody → Has (conditional room inner) ShortStatement
 unfolding conditional
@@ -124,12 +126,14 @@ has_case room inner h = has_behind (λ t. has_case_behind t.line inner h)
 has_assertion : (room : ℕ) → Has (assertion room) ShortStatement
 unfolding assertion
 has_assertion room =
-    has_behind (λ t. has_then (short_expression room) (λ e short. has_behind (λ r. has_behind (λ s. has_behind (λ u. has_nothing ShortStatement (asserted e) short)))))
+    has_behind (λ t. has_then (short_expression room) (λ e short. has_behind (λ r. has_behind (λ s. has_behind (λ u.
+    has_nothing ShortStatement (asserted e) short)))))
 
 has_assignment : (room : ℕ) → Has (assignment room) ShortStatement
 unfolding assignment
 has_assignment room =
-    has_behind (λ x. has_behind (λ t. has_then (has_headed (short_expression room)) (λ e short. has_behind (λ u. has_nothing ShortStatement (assigned x e.0 e.1) short))))
+    has_behind (λ x. has_behind (λ t. has_then (has_headed (short_expression room)) (λ e short. has_behind (λ u.
+    has_nothing ShortStatement (assigned x e.0 e.1) short))))
 
 has_statement : (room : ℕ) (inner : Grammar BodyTree) → Has inner ShortBody → Has (statement room inner) ShortStatement
 unfolding statement
@@ -159,7 +163,8 @@ has_clock : (room : ℕ) → Has (clock_process room) (λ p. IsShort p.condition
 unfolding clock_process
 has_clock room =
     has_behind (λ name. has_behind (λ names. has_behind (λ t. has_then (has_placed (short_expression (room - 1))) (λ c short. has_behind (λ l.
-    has_nothing (λ (p : ClockTree). IsShort p.condition) (record { sensitivity = names; condition_line = c.0; condition = c.1; target = l.0; value = l.1 }) short)))))
+    has_nothing (λ (p : ClockTree). IsShort p.condition)
+    (record { sensitivity = names; condition_line = c.0; condition = c.1; target = l.0; value = l.1 }) short)))))
 
 abbrev ShortBoth : StepTree × ClockTree → Type 0
 ShortBoth both = ShortBody both.0.body × IsShort both.1.condition
@@ -167,7 +172,8 @@ ShortBoth both = ShortBody both.0.body × IsShort both.1.condition
 has_processes : (room : ℕ) → Has (processes room) ShortBoth
 unfolding processes
 has_processes room =
-    has_behind (λ t. has_then (has_step room) (λ step small. has_then (has_clock room) (λ clock short. has_behind (λ u. has_nothing ShortBoth (step, clock) (small, short)))))
+    has_behind (λ t. has_then (has_step room) (λ step small. has_then (has_clock room) (λ clock short. has_behind (λ u.
+    has_nothing ShortBoth (step, clock) (small, short)))))
 
 has_architecture : (room : ℕ) (e : Entity) → Has (architecture room e) HasShortExpressions
 unfolding architecture
