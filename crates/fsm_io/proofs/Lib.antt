@@ -1,5 +1,6 @@
 pub mod Once
 pub mod Steps
+pub mod Short
 pub mod Marks
 pub mod Leasts
 pub mod Fine

@@ -1,6 +1,7 @@
 pub mod Known
 pub mod Looks
 pub mod Listed
+pub mod Short
 pub mod Widths
 pub mod Drivers
 pub mod Unsupported

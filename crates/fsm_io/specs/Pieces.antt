@@ -23,6 +23,7 @@ use Rattle.fsm_meaning.specs.Assigned.{sets_next, sets_output}
 use Rattle.machine_meaning.specs.Machine.{names_of}
 use Rattle.vlsi_model.specs.Numbered.{HasVars, name_at}
 use Rattle.fsm_text.specs.Written.{StatementTree, asserted, assigned, chosen, selected, BodyTree, finish, next, PartsTree, only, either, further, BranchesTree, closed, others, listed, MachineTree, machine_view}
+use Rattle.fsm_text.specs.Short.{HasShortExpressions}
 use Rattle.fsm_io.specs.declared.mentions.Mention.{Mention as Held}
 use Rattle.fsm_io.specs.declared.mentions.Mention.TheVariants as held
 use Rattle.fsm_io.specs.declared.known.Roles.{Roles}
@@ -196,6 +197,7 @@ pub record Suits (c : Checking) : Type 0 where
   pub some_state : 0 < length (tree_of c).states.states
   pub few : length (tree_of c).states.states ≤ most_numbered
   pub listed : HasStates (tree_of c).step.body
+  pub short : HasShortExpressions (tree_of c)
 
 -- the checks in three stages
 abbrev pub names_fault : MachineTree → Named → Option ReadError

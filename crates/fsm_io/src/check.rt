@@ -9,6 +9,7 @@ ghost use Rattle.source_meaning.specs.Elaboration.{port_bits};
 ghost use Rattle.source_meaning.specs.Symbols.{scalar, all_names};
 ghost use Rattle.fsm_code.specs.View.{body_view};
 ghost use Rattle.fsm_text.specs.Written.{machine_view};
+ghost use Rattle.fsm_text.specs.Short.{HasShortExpressions};
 ghost use Rattle.fsm_io.specs.Known.{symbols};
 ghost use Rattle.fsm_io.specs.Looks.{all_uses};
 ghost use Rattle.fsm_io.specs.Listed.{HasStates};
@@ -78,12 +79,12 @@ impl Checking<'_> {
     }
 
     /// The first width that doesn't fit.
-    fn widths_fault(&self) -> Result<Option<ReadError>, AllocError>
+    fn widths_fault(&self) -> Option<ReadError>
         requires { Suits self.now }
-        ensures { IfOk result (λ e. e ≡ if_line FaultKind.Width (all_widths (tree_of self.now) (roles_of self.now)) None) }
+        ensures { result ≡ if_line FaultKind.Width (all_widths (tree_of self.now) (roles_of self.now)) None }
     {
-        let line = width_fault(self.numbers.table(), self.roles, self.file, self.mentions)?;
-        Ok(line_fault(self.alloc, FaultKind::Width, line))
+        let line = width_fault(self.numbers.table(), self.roles, self.file, self.mentions);
+        line_fault(self.alloc, FaultKind::Width, line)
     }
 
     /// The first name that isn't declared, or else the first width that doesn't fit.
@@ -94,7 +95,7 @@ impl Checking<'_> {
         let found = self.unknown_fault()?;
         match found {
             Some(e) => Ok(Some(e)),
-            None => self.widths_fault(),
+            None => Ok(self.widths_fault()),
         }
     }
 
@@ -351,6 +352,7 @@ fn check_named(
     requires few_bits { length (all_names (symbols (machine_view file.now))) < 2 ^ 32 }
     requires few { length (machine_view file.now).states.states ≤ most_numbered }
     requires listed { HasStates (machine_view file.now).step.body }
+    requires short { HasShortExpressions (machine_view file.now) }
     ensures machine { IfOk result (λ f. IsMadeBehind (machine_view file.now) (named_of roles.entry) f) }
     ensures refused { IfErr result (λ e. IsRefusedBehind (machine_view file.now) (named_of roles.entry) e) }
 {
@@ -380,6 +382,7 @@ pub fn check_fsm(
     requires few_bits { length (all_names (symbols (machine_view file.now))) < 2 ^ 32 }
     requires few { length (machine_view file.now).states.states ≤ most_numbered }
     requires listed { HasStates (machine_view file.now).step.body }
+    requires short { HasShortExpressions (machine_view file.now) }
     ensures machine { IfOk result (λ f. IsPassed (machine_view file.now) pragmas.now f) }
     ensures refused { IfErr result (λ e. IsRefusedOrMemory (machine_view file.now) pragmas.now e) }
 {

@@ -27,9 +27,11 @@ fn is_edge(
     ensures { IfOk result (λ edge. edge ≡ is_edge table.now clock.now (view e.now)) }
 {
     let found = clock_of(alloc, table, e)?;
-    let further = conditions(alloc, e, clock.as_bytes())?;
     match found {
-        Some(text) => Ok(same(text, clock) && further.is_empty()),
+        Some(text) => {
+            let further = conditions(alloc, e, text.as_bytes())?;
+            Ok(same(text, clock) && further.is_empty())
+        }
         None => Ok(false),
     }
 }

@@ -1,11 +1,14 @@
 // Where widths don't fit.
-ghost use Rattle.std.specs.Prelude.{◌≡◌, map, IfOk};
-ghost use Rattle.std.specs.List.{flat_map};
+ghost use Rattle.std.specs.Prelude.{◌≡◌, map};
+ghost use Rattle.std.specs.List.{All, flat_map};
 ghost use Rattle.vlsi_base.specs.Tree.{view};
 ghost use Rattle.source_meaning.specs.Lines.{first_line};
+ghost use Rattle.source_meaning.specs.Operators.{IsShort};
 ghost use Rattle.fsm_text.specs.Written.{machine_view, clock_view};
+ghost use Rattle.fsm_text.specs.Short.{HasShortExpressions};
 ghost use Rattle.fsm_io.specs.Known.{symbols};
 ghost use Rattle.fsm_io.specs.Looks.{all_mentions};
+ghost use Rattle.fsm_io.specs.Short.{ShortMention};
 ghost use Rattle.fsm_io.specs.Widths.{wide_enough, assignment_widths, widths_at, clock_widths, all_widths};
 ghost use Rattle.fsm_io.specs.Pieces.{mention_of, named_of};
 
@@ -16,11 +19,10 @@ use source_meaning::{
     SymbolTable, Target, condition_fault, differ, found_width, measured, ports_fault, target_fault,
     target_width, value_fault,
 };
-use std::alloc::AllocError;
 use vlsi_base::ParsedExpr;
 
 /// At an assignment: what is assigned to another target than the next state is as wide as the target.
-fn wide_fault(to_next: bool, a: Option<u64>, b: Option<u64>, line: u32) -> Option<u32>
+fn wide_fault(to_next: bool, a: Option<u128>, b: Option<u128>, line: u32) -> Option<u32>
     ensures { result ≡ first_line (wide_enough to_next a b line) }
 {
     if !to_next && differ(a, b) {
@@ -36,70 +38,65 @@ fn assignment_fault(
     roles: Roles,
     target: &Target,
     value: &ParsedExpr,
-) -> Result<Option<u32>, AllocError>
-    ensures { IfOk result (λ line. line ≡ first_line (assignment_widths table.now (named_of roles.entry) target.now (view value.now))) }
+) -> Option<u32>
+    requires { IsShort (view value.now) }
+    ensures { result ≡ first_line (assignment_widths table.now (named_of roles.entry) target.now (view value.now)) }
 {
-    let measure = measured(table, value)?;
+    let measure = measured(table, value);
     let to_next = same(&target.name, roles.next);
     let wide = target_width(table, target);
     if let Some(line) = wide_fault(to_next, measure.width, wide, target.line) {
-        return Ok(Some(line));
+        return Some(line);
     }
     match target_fault(table, target) {
-        Some(line) => Ok(Some(line)),
-        None => Ok(measure.fault),
+        Some(line) => Some(line),
+        None => measure.fault,
     }
 }
 
-fn fault_at(table: &SymbolTable, roles: Roles, mention: Mention) -> Result<Option<u32>, AllocError>
-    ensures { IfOk result (λ line. line ≡ first_line (widths_at table.now (named_of roles.entry) (mention_of mention.entry))) }
+fn fault_at(table: &SymbolTable, roles: Roles, mention: Mention) -> Option<u32>
+    requires { ShortMention (mention_of mention) }
+    ensures { result ≡ first_line (widths_at table.now (named_of roles.entry) (mention_of mention.entry)) }
 {
     match mention {
         Mention::Assertion(e) => value_fault(table, e),
         Mention::Assignment(target, _, e) => assignment_fault(table, roles, target, e),
         Mention::Condition(line, e) => condition_fault(table, line, e),
-        Mention::Case(_, _, _) => Ok(None),
-        Mention::States(_) => Ok(None),
+        Mention::Case(_, _, _) => None,
+        Mention::States(_) => None,
     }
 }
 
-fn fault_in_mentions(
-    table: &SymbolTable,
-    roles: Roles,
-    mentions: &[Mention],
-) -> Result<Option<u32>, AllocError>
-    ensures { IfOk result (λ line. line ≡ first_line (flat_map (widths_at table.now (named_of roles.entry)) (map mention_of mentions.now))) }
+fn fault_in_mentions(table: &SymbolTable, roles: Roles, mentions: &[Mention]) -> Option<u32>
+    requires { All (λ m. ShortMention (mention_of m)) mentions.now }
+    ensures { result ≡ first_line (flat_map (widths_at table.now (named_of roles.entry)) (map mention_of mentions.now)) }
 {
     for mention in mentions {
-        let found = fault_at(table, roles, *mention)?;
-        if let Some(line) = found {
-            return Ok(Some(line));
+        if let Some(line) = fault_at(table, roles, *mention) {
+            return Some(line);
         }
     }
-    Ok(None)
+    None
 }
 
 #[tactic(auto, using(source_meaning::proofs::FirstLines::first_line_append))]
-fn fault_at_clock(
-    table: &SymbolTable,
-    roles: Roles,
-    process: &ClockProcess,
-) -> Result<Option<u32>, AllocError>
-    ensures { IfOk result (λ line. line ≡ first_line (clock_widths table.now (named_of roles.entry) (clock_view process.now))) }
+fn fault_at_clock(table: &SymbolTable, roles: Roles, process: &ClockProcess) -> Option<u32>
+    requires { IsShort (view process.now.condition) }
+    ensures { result ≡ first_line (clock_widths table.now (named_of roles.entry) (clock_view process.now)) }
 {
-    let found = condition_fault(table, process.condition_line, &process.condition)?;
+    let found = condition_fault(table, process.condition_line, &process.condition);
     if let Some(line) = found {
-        return Ok(Some(line));
+        return Some(line);
     }
     let target = &process.target;
     let value = found_width(table, process.value.text.as_bytes());
     let wide = found_width(table, target.text.as_bytes());
-    Ok(wide_fault(
+    wide_fault(
         same(&target.text, roles.next),
         Some(value),
         Some(wide),
         target.line,
-    ))
+    )
 }
 
 /// The first line at fault.
@@ -109,17 +106,17 @@ pub fn width_fault(
     roles: Roles,
     file: &StateFile,
     mentions: &[Mention],
-) -> Result<Option<u32>, AllocError>
+) -> Option<u32>
     requires known { table.now ≡ symbols (machine_view file.now) }
     requires mentions { map mention_of mentions.now ≡ all_mentions (machine_view file.now) }
-    ensures { IfOk result (λ line. line ≡ first_line (all_widths (machine_view file.now) (named_of roles.entry))) }
+    requires short { HasShortExpressions (machine_view file.now) }
+    ensures { result ≡ first_line (all_widths (machine_view file.now) (named_of roles.entry)) }
 {
     if let Some(line) = ports_fault(file.entity.ports.as_slice()) {
-        return Ok(Some(line));
+        return Some(line);
     }
-    let found = fault_in_mentions(table, roles, mentions)?;
-    match found {
-        Some(line) => Ok(Some(line)),
+    match fault_in_mentions(table, roles, mentions) {
+        Some(line) => Some(line),
         None => fault_at_clock(table, roles, &file.clock),
     }
 }

@@ -11,4 +11,5 @@ pub mod Tally
 pub mod Clipped
 pub mod Chains
 pub mod Counted
+pub mod Short
 pub mod Laws

@@ -4,4 +4,5 @@ pub mod FsmReading
 pub mod Pieces
 pub mod Chains
 pub mod Texts
+pub mod Short
 pub mod Laws

@@ -5,6 +5,7 @@ ghost use Rattle.grammar_theory.specs.Outcome.{Gives, finish, list_at, with_fron
 ghost use Rattle.vhdl_front.specs.EntityReading.{declared_at, another_at};
 ghost use Rattle.fsm_text.specs.Written.{step_view, clock_view, machine_view};
 ghost use Rattle.fsm_text.specs.FsmReading.{state_names_at, state_type_at, of_type_at, state_signals_at, processes_at, architecture_at, machine_at};
+ghost use Rattle.fsm_text.specs.Short.{HasShortExpressions};
 ghost use Rattle.fsm_text.specs.Texts.{IsMachine, IsRefusedMachine, StopsText};
 
 use crate::counting::{passes_chain, too_long_chain};
@@ -165,10 +166,12 @@ fn refused(alloc: Global, tokens: &Tokens, stop: Stop) -> Result<ReadError, Allo
 /// written there, in file order, with lines counted from 1; nothing is checked but the grammar, that no name is declared
 /// twice, and the limits of depth, bits, operators, and assignments of one output bit or of the next state. Else it is the
 /// error of the first token with which the text goes wrong (of the end, on the last line), or `Memory`. What is answered has a
-/// state. Takes memory in proportion to the text and the bits of its outputs, and time for the bits that it assigns beside.
+/// state, and no expression with more operators than the limit. Takes memory in proportion to the text and the bits of its
+/// outputs, and time for the bits that it assigns beside.
 pub fn read_machine(alloc: Global, tokens: &Tokens) -> Result<StateFile, ReadError>
     ensures accepted { IfOk result (λ file. IsMachine tokens.now (machine_view file)) }
     ensures some_state { IfOk result (λ file. 0 < length (machine_view file).states.states) }
+    ensures short { IfOk result (λ file. HasShortExpressions (machine_view file)) }
     ensures refused { IfErr result (λ e. IsRefusedMachine tokens.now e) }
 {
     let mut cursor = Cursor::new(alloc, tokens.items.as_slice());
