@@ -86,12 +86,12 @@ pub fn alliance_main<S: Shelf, T: Sink>(
     shelf: &mut S,
     out: &mut T,
 ) -> Status
-    // Usage comes exactly where the words spell no command, and then no call was made on the shelf.
+    // Usage comes only where the words spell no command; there nothing else comes but out of memory, and the shelf is as it was.
     ensures usage { result ≡ Status.Usage → command_of words.now ≡ None }
     ensures words { command_of words.now ≡ None → (result ≡ Status.Usage) ⊎ (result ≡ Status.Memory) }
     ensures nothing { command_of words.now ≡ None → shelf.new ≡ shelf.old }
 
-    // Every status has its cause and leaves the files that its row says. What was printed is as before the line of a refusal.
+    // Every status has its cause and leaves the files that its row says.
     ensures cause { IfSome (flow_of words.now) (λ c. Caused (flow_plan c) (flow_answers c)
         (outside (S.seen shelf.old) (T.seen out.old)) (outside (S.seen shelf.new) (T.seen out.new)) result) }
 

@@ -31,7 +31,7 @@ use vst_io::read_vst;
 /// order: by `Library`, or a limit of CATAL or of a cell, at the first line or cell at fault; by `Source`, or a limit, of SOURCE, in
 /// which cells that aren't usable are unknown; by `NoCover` of an inverter, where a net has too many sinks and the library has neither
 /// a buffer nor an inverter. Memory goes by the files, the netlist, its arcs, and each pair of cells of which one can stand for the
-/// other; a netlist of 2^27 pins or more is answered as out of memory.
+/// other; a netlist that has an instance and 2^27 ports and pins or more is answered as out of memory.
 #[derive(Drop)]
 pub struct Loon<'a> {
     pub command: &'a LoonCommand,

@@ -57,7 +57,7 @@ verdict_text (verdict.Names name) = codes "names " ++ name_text name
 verdict_text (verdict.Unequal name) = codes "differs " ++ name_text name
 verdict_text (verdict.Broken lines) = lines
 
--- what a comparison found is said without the tool's word
+-- breaches, and two functions that differ, are said without the tool's word
 abbrev pub is_finding : Verdict → Bool
 is_finding (verdict.Differs label name) = false
 is_finding (verdict.NoBehaviour cell) = false

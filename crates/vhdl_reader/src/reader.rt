@@ -31,9 +31,9 @@ fn skip_kept(cursor: &mut Option<Cursor>)
 }
 
 /// Reads entities, declarations of signals and expressions from tokens, as IEEE 1076 has them but for what
-/// `docs/FORMATS.md` says. After a refusal it answers the same refusal again. A call that answers `Memory` leaves the reader
-/// as it was, so that the same call can be tried again: the first that is tried then reads the text so far once more. Memory
-/// goes by what is read.
+/// `docs/FORMATS.md` says. After a refusal it answers the same refusal again, unless memory runs out for it. A call that answers
+/// `Memory` leaves the reader as it was, so that the same call can be tried again: the first that is tried then reads the text so
+/// far once more. Memory goes by what is read.
 #[derive(Drop)]
 pub struct TokenReader<'a> {
     alloc: Global,
