@@ -12,7 +12,8 @@ import re
 import sys
 
 TOP = pathlib.Path(__file__).resolve().parent.parent
-PAGES = [TOP / "README.md", *sorted((TOP / "docs").rglob("*.md")), *(TOP / folder / "README.md" for folder in ("cells", "examples/counter"))]
+FOLDERS = ["cells", "examples/counter", "examples/checking"]
+PAGES = [TOP / "README.md", *sorted((TOP / "docs").rglob("*.md")), *(TOP / folder / "README.md" for folder in FOLDERS)]
 CLAUSES = re.compile(r"((?:`\w+`(?:, )?)+) of |the clauses? of ")
 FUNCTION = re.compile(r"`(\w+)::(\w+)`")
 DEFINED = re.compile(r"((?:`\w+`(?:, )?)+) in `(crates/[\w/]+\.antt)`")
