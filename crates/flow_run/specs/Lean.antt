@@ -11,7 +11,7 @@ use Rattle.ocp_rows.specs.Order.{begins_with_g}
 use Rattle.loon_drive.specs.Driven.{most_sinks}
 use Rattle.loon_fanout.specs.Nets.{HasFewInputs, FitsWithoutBuffers, HasNoBuffer}
 
--- The instances named g are at most the size of the machine and 2, where its inner signals count no more than four times the nodes of
+-- The instances named g are at most the size of the machine and 2, its inner signals being counted as at most four times the nodes of
 -- its roots' diagrams, each diagram for itself. No class but those of the clock, vdd and vss has more than so many input pins (4 where
 -- that is less, which words don't ask for); and it has no buffer at all if with all of them taken out no class but those of the supplies
 -- had more sinks than that.
