@@ -92,9 +92,9 @@ if [ $# -gt 0 ]; then
   exit 2
 fi
 
-# Only a proved program is built, so what an earlier run left is taken away first.
-rm -rf build
-mkdir build
+# Only a proved program is left, so that of an earlier run is taken away first; other files stay.
+mkdir -p build
+rm -f build/alliance build/proof.log
 mapfile -t crates < <(stands_on alliance)
 work=$(mktemp -d)
 trap 'rm -rf "$work"' EXIT
