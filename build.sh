@@ -45,7 +45,7 @@ run_unproved() {
     words+=("$word")
     before=$word
   done
-  echo "compiling without proving, about two minutes; nothing is proved"
+  echo "compiling without proving, two to five minutes; nothing is proved"
   mkdir -p build
   (cd crates/alliance && "$rt" try -- "${words[@]}") || status=$?
   echo "build.sh: nothing of this run was proved; ./build.sh proves the program"
