@@ -16,7 +16,7 @@ use Rattle.loon_fanout.specs.Limited.{IsOfCells, HasFewGates}
 use Rattle.loon_drive.specs.Driven.{IsDrivenFrom}
 use Rattle.loon_drive.specs.Laws.{DrivenIsGrown, DrivenIsChosen, BuffersHaveFewPins}
 use Rattle.boog_run.specs.Boog.{IsNetlistFor}
-use Rattle.boog_run.specs.declared.netlist.TheConstants.{MOST_SIZE}
+use Rattle.machine_limit.specs.declared.size.TheConstants.{MOST_SIZE}
 use Rattle.boog_driven.proofs.Counts.{three_then_two}
 use Rattle.boog_driven.proofs.Pins.{signals_few, kind_pins}
 use Rattle.boog_driven.proofs.Mapped.{few_instances, few_ports, of_kind, few_sinks}

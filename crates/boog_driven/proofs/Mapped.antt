@@ -39,7 +39,7 @@ use Rattle.loon_fanout.specs.Limited.{IsOfCells, HasRoomForGates}
 use Rattle.loon_fanout.specs.Laws.{IsTied}
 use Rattle.loon_drive.specs.Laws.{HasNoBufferNames}
 use Rattle.boog_run.specs.Boog.{IsNetlistFor}
-use Rattle.boog_run.specs.declared.netlist.TheConstants.{MOST_SIZE}
+use Rattle.machine_limit.specs.declared.size.TheConstants.{MOST_SIZE}
 use Rattle.boog_run.proofs.Naming.{same_names}
 use Rattle.boog_run.proofs.Sizes.{few_cells}
 use Rattle.boog_driven.proofs.Names.{names_by, no_buffer_name}

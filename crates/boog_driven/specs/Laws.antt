@@ -15,8 +15,8 @@ use Rattle.net_view.specs.Writable.{CanBeNamed, HasShortNames}
 use Rattle.ocp_rows.specs.Placement.{Placement}
 use Rattle.ocp_rows.specs.Order.{IsInNetlistOrder, IsLean}
 use Rattle.route_draw.specs.Law.{HasFewPins}
-use Rattle.boog_run.specs.Laws.{CanBeDeclared}
-use Rattle.boog_run.specs.declared.netlist.TheConstants.{MOST_SIZE}
+use Rattle.machine_declared.specs.Declared.{CanBeDeclared}
+use Rattle.machine_limit.specs.declared.size.TheConstants.{MOST_SIZE}
 use Rattle.loon_fanout.specs.Nets.{HasFewInputs, FitsWithoutBuffers, HasNoBuffer}
 use Rattle.loon_drive.specs.Driven.{most_sinks}
 use Rattle.boog_driven.specs.Netlist.{IsDrivenNetlist, IsDrivenAs}

@@ -5,7 +5,7 @@ ghost use Rattle.source_meaning.specs.Checks.{most_ports};
 ghost use Rattle.delay_sta.specs.Exchanged.{HaveTheirArcs};
 ghost use Rattle.tool_drive.specs.Refusals.{MemoryOr};
 ghost use Rattle.boog_run.specs.Boog.{IsNoNetlist};
-ghost use Rattle.boog_run.specs.declared.netlist.TheConstants.{MOST_SIZE};
+ghost use Rattle.machine_limit.specs.declared.size.TheConstants.{MOST_SIZE};
 ghost use Rattle.boog_driven.specs.Netlist.{IsDrivenNetlist};
 
 use boog_run::netlist_of;

@@ -13,7 +13,7 @@ use Rattle.boog_map.proofs.MachinePorts.{ports_sorted, ports_apart}
 use Rattle.vbe_words.specs.Laws.{MachineIsNamed, MachineIsShort, CatalIsNamed, MachineCanBeWritten, CellCanBeWritten}
 use Rattle.boog_run.specs.Boog.{IsNetlistFor}
 use Rattle.boog_run.specs.Laws.{SourceCanBeDeclared, NetlistIsWritable, NetlistIsSmall}
-use Rattle.boog_run.specs.declared.netlist.TheConstants.{MOST_SIZE}
+use Rattle.machine_limit.specs.declared.size.TheConstants.{MOST_SIZE}
 use Rattle.boog_run.proofs.Naming.{writable}
 use Rattle.boog_run.proofs.Sizes.{few_ports, few_cells}
 

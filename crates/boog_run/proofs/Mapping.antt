@@ -15,8 +15,9 @@ use Rattle.vst_again.specs.Says.{WrittenIsASentence, WrittenSaysTheNetlist}
 use Rattle.tool_words.specs.declared.command.BoogCommand.{BoogCommand}
 use Rattle.tool_drive.specs.declared.tool.Product.{Product}
 use Rattle.boog_run.specs.Boog.{IsNetlistFor, IsWrittenAs, IsMapping}
-use Rattle.boog_run.specs.Laws.{MappingAgrees, IsTextOf, MappingIsSaid}
-use Rattle.boog_run.specs.declared.netlist.TheConstants.{MOST_SIZE}
+use Rattle.boog_run.specs.Laws.{MappingAgrees, MappingIsSaid}
+use Rattle.vst_said.specs.Text.{IsTextOf}
+use Rattle.machine_limit.specs.declared.size.TheConstants.{MOST_SIZE}
 use Rattle.boog_run.proofs.Naming.{writable}
 
 pub mapping : (c : BoogCommand) (source list : List ℕ) (cells : List (List ℕ)) (l : Library) (m : Machine) (n : Netlist) (p : Product) → IsLibraryOf false list cells l

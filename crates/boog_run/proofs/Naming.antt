@@ -36,7 +36,7 @@ use Rattle.ocp_rows.specs.Placement.{Placement}
 use Rattle.vbe_words.specs.Laws.{CatalIsNamed, CellCanBeWritten, with_supplies}
 use Rattle.vst_words.proofs.Pins.{said_in, name_in, table_written}
 use Rattle.boog_run.specs.Boog.{IsNetlistFor, IsWritable}
-use Rattle.boog_run.specs.declared.netlist.TheConstants.{MOST_SIZE}
+use Rattle.machine_limit.specs.declared.size.TheConstants.{MOST_SIZE}
 use Rattle.boog_run.proofs.Sizes.{few_cells}
 
 -- ---- names of instances

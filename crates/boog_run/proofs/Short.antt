@@ -29,7 +29,7 @@ use Rattle.ocp_rows.specs.Placement.{Placement}
 use Rattle.vbe_words.specs.Laws.{CatalIsShort}
 use Rattle.boog_run.specs.Boog.{IsNetlistFor}
 use Rattle.boog_run.specs.Laws.{NetlistIsShort}
-use Rattle.boog_run.specs.declared.netlist.TheConstants.{MOST_SIZE}
+use Rattle.machine_limit.specs.declared.size.TheConstants.{MOST_SIZE}
 use Rattle.vst_words.proofs.Pins.{said_in, name_in}
 use Rattle.boog_run.proofs.Naming.{counted, names_by, same_names, many}
 use Rattle.boog_run.proofs.Sizes.{few_cells}

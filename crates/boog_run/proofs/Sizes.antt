@@ -17,7 +17,7 @@ use Rattle.net_view.specs.Condition.{MeetsConditionIn}
 use Rattle.boog_map.specs.Netlist.{HasRoomForCells, Covers, UsesFirstCells, StandsInOrder, HasOneCellEach, IsLeanFor}
 use Rattle.boog_map.proofs.Rooms.{few_inputs, few_nodes}
 use Rattle.boog_run.specs.Boog.{IsNetlistFor}
-use Rattle.boog_run.specs.declared.netlist.TheConstants.{MOST_SIZE}
+use Rattle.machine_limit.specs.declared.size.TheConstants.{MOST_SIZE}
 
 pub few_ports : (bytes : List ℕ) (m : Machine) → IsVbe bytes m → length m.ports ≤ most_ports
 few_ports bytes m is =

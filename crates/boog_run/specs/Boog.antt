@@ -1,7 +1,6 @@
 -- What `boog` reads and answers.
 use Rattle.std.specs.Prelude.{◌≡◌, ℕ, ◌-◌, ◌^◌, ◌<◌, ◌≤◌, min, false, List, [], ◌∷◌, ◌++◌, length, get_or, codes, None, Some, Result, Ok, Err}
 use Rattle.std.specs.Fmt.{decimal}
-use Rattle.vlsi_base.specs.declared.fault.LimitKind.TheVariants.{Size}
 use Rattle.machine_meaning.specs.Machine.{Machine}
 use Rattle.machine_meaning.specs.Size.{machine_size}
 use Rattle.vbe_io.specs.Text.{IsVbe, IsVbeRefusal}
@@ -31,7 +30,7 @@ use Rattle.tool_drive.specs.declared.tool.Product.{Product}
 use Rattle.tool_drive.specs.declared.tool.Refusal.{Refusal}
 use Rattle.tool_drive.specs.Plan.{Plan, Inputs, limited}
 use Rattle.tool_drive.specs.Refusals.{OfFile}
-use Rattle.boog_run.specs.declared.netlist.TheConstants.{MOST_SIZE}
+use Rattle.machine_limit.specs.declared.size.TheConstants.{MOST_SIZE}
 
 -- SOURCE, then CATAL, and then the files of the cells that CATAL uses
 abbrev pub boog_plan : BoogCommand → Plan
@@ -83,9 +82,6 @@ pub record IsMapping (c : BoogCommand) (source catal : List ℕ) (cells : List (
   pub n : Netlist
   pub netlist : IsNetlistFor l m n
   pub written : IsWrittenAs c.out l n p
-
-abbrev pub size_limit : Machine → Status
-size_limit m = status.Limit (record { which = Size; reached = min (machine_size m) (2 ^ 64 - 1) })
 
 -- why a machine has no netlist: it is too large, or else a kind is the first that no usable cell has
 pub data IsNoNetlist (l : Library) (m : Machine) (s : Status) : Type 0 where

@@ -1,15 +1,10 @@
 -- What follows of a netlist that `boog` writes.
-use Rattle.std.specs.Prelude.{◌≡◌, ℕ, ◌+◌, ◌*◌, ◌^◌, ◌<◌, ◌≤◌, false, List, length, None, IfSome}
-use Rattle.vlsi_base.specs.declared.name.Port.{Port}
-use Rattle.vlsi_base.specs.Member.{In}
-use Rattle.vhdl_lexer.specs.Listing.{tokens_in, refusal_in}
+use Rattle.std.specs.Prelude.{ℕ, ◌+◌, ◌*◌, ◌≤◌, false, List, length, IfSome}
 use Rattle.machine_meaning.specs.Machine.{Machine}
 use Rattle.machine_meaning.specs.Size.{machine_size}
 use Rattle.machine_core.specs.Checked.{IsChecked}
-use Rattle.port_words.specs.Words.{IsIdentifier, CanBePorts}
 use Rattle.source_meaning.specs.Checks.{most_ports}
 use Rattle.vbe_io.specs.Text.{IsVbe}
-use Rattle.vbe_words.specs.Laws.{with_supplies}
 use Rattle.cell_model.specs.Library.{Library}
 use Rattle.cell_lib.specs.Library.{IsLibraryOf}
 use Rattle.net_core.specs.declared.pins.ModelPins.{ModelPins}
@@ -19,13 +14,13 @@ use Rattle.net_meaning.specs.Well.{IsWell}
 use Rattle.net_meaning.specs.Agreement.{Agrees}
 use Rattle.net_view.specs.View.{IsSeenAs}
 use Rattle.net_view.specs.Writable.{HasShortNames}
-use Rattle.vst_text.specs.declared.file.StructuralFile.{StructuralFile}
-use Rattle.vst_text.specs.Vst.{IsStructure}
-use Rattle.vst_again.specs.Says.{Says, IsWithinLimits}
+use Rattle.vst_again.specs.Says.{IsWithinLimits}
+use Rattle.vst_said.specs.Text.{IsTextOf}
+use Rattle.machine_declared.specs.Declared.{CanBeDeclared}
 use Rattle.tool_words.specs.declared.command.BoogCommand.{BoogCommand}
 use Rattle.tool_drive.specs.declared.tool.Product.{Product}
 use Rattle.boog_run.specs.Boog.{IsMapping, IsNetlistFor, IsWritable}
-use Rattle.boog_run.specs.declared.netlist.TheConstants.{MOST_SIZE}
+use Rattle.machine_limit.specs.declared.size.TheConstants.{MOST_SIZE}
 
 -- As every netlist of a layout that it can be seen as, it is well formed for the source's machine and behaves as this does: from all
 -- contents of its registers and for all vectors it runs in exactly one way, and from contents that match those of the machine's
@@ -35,13 +30,6 @@ MappingAgrees =
     (c : BoogCommand) (source catal : List ℕ) (cells : List (List ℕ)) (p : Product) (h : IsMapping c source catal cells p)
     → (k : Seen) → IsSeenAs h.n k → IsWell k h.l h.m × Agrees k h.l h.m
 
--- The bytes are cut into tokens without a refusal, these are a sentence of the grammar of structural texts, and it says the netlist.
-pub record IsTextOf (n : Netlist) (table : List ModelPins) (bytes : List ℕ) : Type 0 where
-  pub cut : refusal_in bytes ≡ None
-  pub file : StructuralFile
-  pub structure : IsStructure (tokens_in bytes) file
-  pub says : Says n table file
-
 -- Where names, numbers and declared bits are within the limits of texts, the file that is written is such a text of it.
 abbrev pub MappingIsSaid : Type 0
 MappingIsSaid =
@@ -49,15 +37,6 @@ MappingIsSaid =
     → IsWithinLimits h.n h.written.table → IfSome p.file (λ bytes. IsTextOf h.n h.written.table bytes)
 
 -- ---- netlists of what is read, for the stages behind
-
--- A machine whose name and ports, with the supplies, an entity of a text can declare: they are identifiers of at most 64 bytes, the
--- numbers of bits have 32 bits, and there are few enough ports.
-pub record CanBeDeclared (m : Machine) : Type 0 where
-  pub name : IsIdentifier m.name
-  pub ports : CanBePorts (with_supplies m.ports)
-  pub short_name : length m.name ≤ 64
-  pub short_ports : (p : Port) → In p m.ports → (length p.name.text ≤ 64) × IfSome p.name.bit (λ k. k < 2 ^ 32)
-  pub few_ports : length m.ports ≤ most_ports
 
 -- The machine of a text is such a machine.
 abbrev pub SourceCanBeDeclared : Type 0

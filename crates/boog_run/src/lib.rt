@@ -10,4 +10,4 @@ mod netlist;
 
 pub use boog::Boog;
 pub use laws::{boog_law, netlist_law};
-pub use netlist::{MOST_SIZE, check_size, netlist_of};
+pub use netlist::netlist_of;

@@ -1,39 +1,23 @@
 // The netlist of a machine, and what is written and printed of it.
-ghost use Rattle.std.specs.Prelude.{◌≡◌, ◌<◌, ◌≤◌, Some, IfOk, OnOk, IfErr, length};
+ghost use Rattle.std.specs.Prelude.{◌≡◌, ◌≤◌, Some, IfOk, OnOk, IfErr, length};
 ghost use Rattle.machine_meaning.specs.Size.{machine_size as size_of};
 ghost use Rattle.source_meaning.specs.Checks.{most_ports};
 ghost use Rattle.tool_drive.specs.Refusals.{MemoryOr};
-ghost use Rattle.boog_run.specs.Boog.{IsNetlistFor, IsNoNetlist, size_limit, IsWritable, IsWrittenAs, report as report_of};
+ghost use Rattle.boog_run.specs.Boog.{IsNetlistFor, IsNoNetlist, IsWritable, IsWrittenAs, report as report_of};
+ghost use Rattle.machine_limit.specs.declared.size.TheConstants.{MOST_SIZE};
 
 use boog_map::{MapError, map};
 use cell_checks::Library;
 use cell_pins::pin_table;
-use machine_core::{Machine, machine_size};
+use machine_core::Machine;
+use machine_limit::check_size;
 use net_core::Netlist;
 use net_view::right_meets_condition;
 use std::alloc::{AllocError, Global};
 use subject_graph::Graph;
 use tool_drive::{Product, Status};
-use vlsi_base::{FileBytes, FileName, Limit, LimitKind, Text, push_u64};
+use vlsi_base::{FileBytes, FileName, Text, push_u64};
 use vst_write::{WriteError, write_vst};
-
-/// The most that a source may weigh: the size of its machine.
-pub const MOST_SIZE: u64 = 16_384;
-
-/// Whether the machine weighs at most `MOST_SIZE`, or the status that tells that it doesn't. Takes no memory.
-pub fn check_size(machine: &Machine) -> Result<(), Status>
-    ensures small { OnOk result (size_of machine.now ≤ MOST_SIZE) }
-    ensures large { IfErr result (λ s. (MOST_SIZE < size_of machine.now) × (s ≡ size_limit machine.now)) }
-{
-    let size = machine_size(machine);
-    if size > MOST_SIZE {
-        return Err(Status::Limit(Limit {
-            which: LimitKind::Size,
-            reached: size,
-        }));
-    }
-    Ok(())
-}
 
 /// A netlist of the library's cells for the machine, or the status that tells why there is none: `Limit` of `Size`, `NoCover`, or out
 /// of memory.

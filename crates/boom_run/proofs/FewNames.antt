@@ -8,7 +8,7 @@ use Rattle.machine_meaning.specs.Machine.{Machine}
 use Rattle.machine_meaning.specs.Size.{machine_size}
 use Rattle.machine_core.specs.Order.{held_names, equation_names}
 use Rattle.boom_opt.specs.Optimised.{IsOptimised, new_names}
-use Rattle.boog_run.specs.declared.netlist.TheConstants.{MOST_SIZE}
+use Rattle.machine_limit.specs.declared.size.TheConstants.{MOST_SIZE}
 
 -- as many names more as a machine weighs that is small enough
 pub few_weighed : (m : Machine) → length m.vars + length m.ports < 2 ^ 22 → machine_size m ≤ MOST_SIZE → length m.vars + length m.ports + machine_size m < 2 ^ 32 - 1

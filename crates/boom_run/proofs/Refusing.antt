@@ -9,8 +9,8 @@ use Rattle.tool_drive.specs.declared.status.Status.{Status}
 use Rattle.tool_drive.specs.declared.status.Status.TheVariants as status
 use Rattle.tool_drive.specs.Table.{IsJudged, IsFair, refusal}
 use Rattle.tool_drive.specs.Refusals.{MemoryOr, OfFile, of_file, judged_file}
-use Rattle.boog_run.specs.Boog.{size_limit}
-use Rattle.boog_run.specs.declared.netlist.TheConstants.{MOST_SIZE}
+use Rattle.machine_limit.specs.Size.{size_limit}
+use Rattle.machine_limit.specs.declared.size.TheConstants.{MOST_SIZE}
 use Rattle.boom_run.specs.Boom.{IsBudgetStatus, bad_source, too_large, over_budget, MakesSmaller}
 
 pub by_source : (c : BoomCommand) (source : List ℕ) (e : ReadError) (s : Status) → IsVbeRefusal source e → MemoryOr s (OfFile c.source (λ x. x ≡ e) s)

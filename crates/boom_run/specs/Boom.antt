@@ -17,8 +17,8 @@ use Rattle.tool_drive.specs.declared.tool.Product.{Product}
 use Rattle.tool_drive.specs.declared.tool.Refusal.{Refusal}
 use Rattle.tool_drive.specs.Plan.{Plan, Inputs, limited}
 use Rattle.tool_drive.specs.Refusals.{OfFile}
-use Rattle.boog_run.specs.Boog.{size_limit}
-use Rattle.boog_run.specs.declared.netlist.TheConstants.{MOST_SIZE}
+use Rattle.machine_limit.specs.Size.{size_limit}
+use Rattle.machine_limit.specs.declared.size.TheConstants.{MOST_SIZE}
 
 -- SOURCE alone
 abbrev pub boom_plan : BoomCommand → Plan

@@ -4,11 +4,11 @@ ghost use Rattle.machine_meaning.specs.Size.{machine_size as size_of};
 ghost use Rattle.machine_roots.specs.Roots.{IsGreatestDcount};
 ghost use Rattle.tool_drive.specs.Refusals.{MemoryOr};
 ghost use Rattle.tool_drive.specs.Table.{IsJudged};
-ghost use Rattle.boog_run.specs.declared.netlist.TheConstants.{MOST_SIZE};
+ghost use Rattle.machine_limit.specs.declared.size.TheConstants.{MOST_SIZE};
 ghost use Rattle.vbe_write.specs.Writable.{CanBeVbe};
 ghost use Rattle.boom_run.specs.Boom.{MakesSmaller, IsWrittenAs, IsWithinBudget, IsBudgetStatus, report as report_of};
 
-use boog_run::check_size;
+use machine_limit::check_size;
 use boom_opt::{BoomError, Optimised, optimise};
 use machine_core::{Machine, machine_size};
 use std::alloc::{AllocError, Global};

@@ -29,7 +29,7 @@ use Rattle.spell_theory.specs.Layout.{text_of}
 use Rattle.vst_write.specs.Written.{layout}
 use Rattle.vst_again.specs.Placed.{file_of}
 use Rattle.vst_again.specs.Says.{WrittenIsASentence, WrittenSaysTheNetlist}
-use Rattle.boog_run.specs.Laws.{IsTextOf}
+use Rattle.vst_said.specs.Text.{IsTextOf}
 use Rattle.cougar_extract.specs.Extracted.{IsExtracted}
 use Rattle.cougar_extract.specs.Refused.{NoShort}
 use Rattle.cougar_extract.specs.Laws.{ExtractedFits, ExtractedIsGiven}

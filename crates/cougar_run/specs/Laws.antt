@@ -3,7 +3,7 @@ use Rattle.std.specs.Prelude.{ℕ, List, IfSome}
 use Rattle.net_meaning.specs.Netlist.{Netlist as Given, Extracts as Gives}
 use Rattle.net_view.specs.View.{IsSeenAs}
 use Rattle.vst_again.specs.Says.{IsWithinLimits}
-use Rattle.boog_run.specs.Laws.{IsTextOf}
+use Rattle.vst_said.specs.Text.{IsTextOf}
 use Rattle.tool_words.specs.declared.command.CougarCommand.{CougarCommand}
 use Rattle.tool_drive.specs.declared.tool.Product.{Product}
 use Rattle.cougar_run.specs.Cougar.{IsExtraction}

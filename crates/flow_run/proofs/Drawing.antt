@@ -29,8 +29,9 @@ use Rattle.vbe_words.specs.Laws.{with_supplies}
 use Rattle.machine_core.specs.Checked.{IsChecked}
 use Rattle.machine_alike.specs.Alike.{IsAlike, AlikeRun, AlikeBothWays}
 use Rattle.machine_roots.specs.Roots.{IsGreatestDcount}
-use Rattle.boog_run.specs.Laws.{CanBeDeclared, SourceCanBeDeclared}
-use Rattle.boog_run.specs.declared.netlist.TheConstants.{MOST_SIZE}
+use Rattle.boog_run.specs.Laws.{SourceCanBeDeclared}
+use Rattle.machine_declared.specs.Declared.{CanBeDeclared}
+use Rattle.machine_limit.specs.declared.size.TheConstants.{MOST_SIZE}
 use Rattle.vbe_few.specs.Law.{SourceHasFewNames}
 use Rattle.syf_run.specs.Syf.{style_of}
 use Rattle.syf_run.specs.Laws.{EncodedCanBeDeclared}

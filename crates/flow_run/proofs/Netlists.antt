@@ -10,7 +10,7 @@ use Rattle.cell_model.specs.Covering.{HasCellOf, needed}
 use Rattle.cell_model.specs.Library.{Library}
 use Rattle.boog_map.specs.Netlist.{has_registers, Covers}
 use Rattle.boog_run.specs.Boog.{IsNoNetlist, too_large, no_cover}
-use Rattle.boog_run.specs.declared.netlist.TheConstants.{MOST_SIZE}
+use Rattle.machine_limit.specs.declared.size.TheConstants.{MOST_SIZE}
 use Rattle.tool_drive.specs.declared.status.Status.{Status}
 use Rattle.tool_drive.specs.declared.status.Status.TheVariants as status
 use Rattle.tool_drive.specs.Refusals.{MemoryOr}

@@ -12,10 +12,10 @@ use Rattle.cell_lib.specs.declared.error.LibError.TheVariants as errors
 use Rattle.cell_lib.specs.Load.{refused}
 use Rattle.cell_lib.specs.Cells.{OrMemory}
 use Rattle.cell_lib.specs.Library.{IsRefusedLibrary, bad_list, bad_cell, status_of}
-use Rattle.boog_run.specs.Boog.{size_limit}
+use Rattle.machine_limit.specs.Size.{size_limit}
 use Rattle.boog_map.specs.Netlist.{Covers}
 use Rattle.boom_run.specs.Boom.{IsBudgetStatus}
-use Rattle.boog_run.specs.declared.netlist.TheConstants.{MOST_SIZE}
+use Rattle.machine_limit.specs.declared.size.TheConstants.{MOST_SIZE}
 use Rattle.tool_words.specs.declared.command.FlowCommand.{FlowCommand}
 use Rattle.tool_drive.specs.declared.status.Status.{Status}
 use Rattle.tool_drive.specs.declared.status.Status.TheVariants as status

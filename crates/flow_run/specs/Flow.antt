@@ -16,8 +16,8 @@ use Rattle.cell_lib.specs.Cells.{sources, IsFirstRefused}
 use Rattle.cell_lib.specs.Library.{IsCell, IsCellRefusal, IsLibraryOf, status_of}
 use Rattle.boog_map.specs.Netlist.{has_registers, Covers}
 use Rattle.machine_roots.specs.Roots.{roots, IsOverBudget}
-use Rattle.boog_run.specs.Boog.{size_limit}
-use Rattle.boog_run.specs.declared.netlist.TheConstants.{MOST_SIZE}
+use Rattle.machine_limit.specs.Size.{size_limit}
+use Rattle.machine_limit.specs.declared.size.TheConstants.{MOST_SIZE}
 use Rattle.boom_run.specs.Boom.{IsBudgetStatus}
 use Rattle.tool_words.specs.declared.command.FlowCommand.{FlowCommand}
 use Rattle.tool_drive.specs.declared.status.Status.{Status}

@@ -14,14 +14,15 @@ ghost use Rattle.tool_drive.specs.Refusals.{MemoryOr};
 ghost use Rattle.tool_drive.specs.Table.{IsJudged, Caused, IsComplete};
 ghost use Rattle.flow_run.specs.Origin.{is_fsm as is_state_machine, IsSourceFor, IsSourceRefusal};
 ghost use Rattle.flow_run.specs.View.{origin_view};
-ghost use Rattle.boog_run.specs.declared.netlist.TheConstants.{MOST_SIZE};
+ghost use Rattle.machine_limit.specs.declared.size.TheConstants.{MOST_SIZE};
 ghost use Rattle.flow_run.specs.Flow.{flow_plan, flow_answers, IsSourceOf, AreRead, IsNoSource, IsUnread, LaysOut};
 ghost use Rattle.flow_run.specs.Mapped.{IsMissingIn, IsMappedFor};
 
 use crate::layout::product;
 use crate::source::{Counted, Origin, Source};
 use boog_driven::{driven_netlist_law, driven_netlist_of};
-use boog_run::{check_size, netlist_law};
+use boog_run::netlist_law;
+use machine_limit::check_size;
 use boom_run::optimise_within;
 use catal::{CatalError, read_catal};
 use cell_checks::Library;

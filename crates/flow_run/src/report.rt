@@ -2,7 +2,7 @@
 ghost use Rattle.std.specs.Prelude.{◌≡◌, ◌≤◌, ◌-◌, ◌++◌, IfOk, OnOk, length, map};
 ghost use Rattle.machine_core.specs.View.{register_view};
 ghost use Rattle.machine_meaning.specs.Size.{machine_size as size_of};
-ghost use Rattle.boog_run.specs.declared.netlist.TheConstants.{MOST_SIZE};
+ghost use Rattle.machine_limit.specs.declared.size.TheConstants.{MOST_SIZE};
 ghost use Rattle.flow_run.specs.View.{origin_view};
 ghost use Rattle.flow_run.specs.Report.{source_line as source_line_of, count_line as count_line_of, register_line as register_line_of};
 ghost use Rattle.flow_run.specs.Report.{register_lines as register_lines_of, held_lines as held_lines_of, report_by};

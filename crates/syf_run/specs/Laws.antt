@@ -4,7 +4,7 @@ use Rattle.machine_meaning.specs.Machine.{Machine}
 use Rattle.fsm_meaning.specs.Fsm.{Fsm}
 use Rattle.fsm_machine.specs.Codes.{Codes}
 use Rattle.syf_encode.specs.declared.style.Style.{Style}
-use Rattle.boog_run.specs.Laws.{CanBeDeclared}
+use Rattle.machine_declared.specs.Declared.{CanBeDeclared}
 use Rattle.syf_run.specs.Syf.{IsEncodedSource}
 
 -- With the supplies, an entity of a text can declare its name and ports, and these are short and few.

@@ -1,0 +1,2 @@
+//! Texts that say a netlist, in `specs/`.
+#![tactic(auto)]
