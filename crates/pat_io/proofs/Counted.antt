@@ -1,4 +1,4 @@
--- Times that are counted up to a greatest number, and the pattern that is before the one before it.
+-- Times that are counted up to a greatest number.
 use Rattle.std.proofs.Common.{◌≡◌, ℕ, ◌+◌, ◌-◌, ◌*◌, ◌^◌, ◌<◌, ◌≤◌, min, Bool, true, false, List, ◌++◌, length, drop, get_or, sym, ap, ◌∙◌, if◌then◌else◌, arith}
 use Rattle.std.proofs.lemmas.Bool.{le-leb}
 use Rattle.pat_text.specs.declared.parsed.ParsedPattern.{ParsedPattern}
