@@ -19,16 +19,16 @@ pub struct Asimut<'a> {
 }
 
 // The label of the pattern with this number from 0, or the number.
-pub(crate) fn label(alloc: Global, patterns: &[Pattern], number: u32) -> Result<Text, AllocError>
+pub(crate) fn label(alloc: Global, patterns: &[Pattern], number: usize) -> Result<Text, AllocError>
     ensures { IfOk result (λ label. label ≡ label_of patterns.now number) }
 {
-    if let Some(pattern) = patterns.get(number as usize) {
+    if let Some(pattern) = patterns.get(number) {
         if let Some(label) = &pattern.label {
             return label.copy(alloc);
         }
     }
     let mut label = Text::new(Vec::new(alloc));
-    push_u64(alloc, &mut label, u64::from(number))?;
+    push_u64(alloc, &mut label, number as u64)?;
     Ok(label)
 }
 

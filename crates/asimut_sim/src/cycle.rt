@@ -44,8 +44,8 @@ fn loaded(load: &Load, bits: &[bool], held: bool) -> bool
     requires { IsLoadBelow (length bits.now) load.now }
     ensures { result ≡ (if bit bits.now load.now.enable then bit bits.now load.now.next else held) }
 {
-    if bits[load.enable as usize] {
-        bits[load.next as usize]
+    if bits[load.enable] {
+        bits[load.next]
     } else {
         held
     }

@@ -14,14 +14,14 @@ use std::alloc::{AllocError, Global};
 #[derive(Drop)]
 pub(crate) struct FlatMachine<'a> {
     pub(crate) machine: &'a Machine,
-    pub(crate) vars: Vec<u32>,
+    pub(crate) vars: Vec<usize>,
     pub(crate) settling: Program,
     pub(crate) loading: Program,
     pub(crate) loads: Vec<Load>,
 }
 
 // So many places behind the constants.
-fn first_places(alloc: Global, count: usize) -> Result<Vec<u32>, AllocError>
+fn first_places(alloc: Global, count: usize) -> Result<Vec<usize>, AllocError>
     ensures { IfOk result (λ v. v.items ≡ rising 2 count) }
 {
     let mut places = Vec::new(alloc);
@@ -31,8 +31,7 @@ fn first_places(alloc: Global, count: usize) -> Result<Vec<u32>, AllocError>
     Ok(places)
 }
 
-/// The flat machine of a machine. It takes memory for each name and each operator; places past 2^32 count as memory that
-/// there isn't.
+/// The flat machine of a machine. It takes memory for each name and each operator.
 pub(crate) fn flatten<'a>(
     alloc: Global,
     machine: &'a Machine,
@@ -62,7 +61,7 @@ pub(crate) fn new_array(alloc: Global, flat: &FlatMachine) -> Result<Vec<bool>, 
     requires { IsFlat flat.now }
     ensures { IfOk result (λ bits. IsArray flat.now bits.items) }
 {
-    let mut bits = zeros(alloc, flat.loading.end()? as usize)?;
+    let mut bits = zeros(alloc, flat.loading.end()?)?;
     bits[1] = true;
     Ok(bits)
 }

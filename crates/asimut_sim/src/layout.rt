@@ -18,11 +18,11 @@ use std::alloc::{AllocError, Global};
 /// The places of what a register loads, and of whether it does.
 #[derive(Clone, Copy)]
 pub(crate) struct Load {
-    pub(crate) next: u32,
-    pub(crate) enable: u32,
+    pub(crate) next: usize,
+    pub(crate) enable: usize,
 }
 
-fn ascend_one(program: &mut Program, step: Step, inner: u32) -> Result<u32, AllocError>
+fn ascend_one(program: &mut Program, step: Step, inner: usize) -> Result<usize, AllocError>
     requires program { IsProgram program.old }
     requires step { StepBelow (extent program.old) step }
     requires inner { inner < extent program.old }
@@ -33,7 +33,7 @@ fn ascend_one(program: &mut Program, step: Step, inner: u32) -> Result<u32, Allo
 }
 
 // The steps' operators, the last one first, from the operand that it lacks.
-fn ascend(program: &mut Program, steps: Vec<Step>, inner: u32) -> Result<u32, AllocError>
+fn ascend(program: &mut Program, steps: Vec<Step>, inner: usize) -> Result<usize, AllocError>
     requires program { IsProgram program.old }
     requires steps { All (StepBelow (extent program.old)) steps.items }
     requires inner { inner < extent program.old }
@@ -49,7 +49,7 @@ fn ascend(program: &mut Program, steps: Vec<Step>, inner: u32) -> Result<u32, Al
 
 // Lays an expression out, and answers the place of its value.
 #[cycle(lay)]
-fn lay(alloc: Global, program: &mut Program, e: &Expr, vars: &[u32]) -> Result<u32, AllocError>
+fn lay(alloc: Global, program: &mut Program, e: &Expr, vars: &[usize]) -> Result<usize, AllocError>
     requires program { IsProgram program.old }
     requires vars { AreBelow (extent program.old) vars.now }
     requires over { IsOver (view e.now) (length vars.now) }
@@ -66,8 +66,8 @@ fn descend(
     alloc: Global,
     program: &mut Program,
     e: &Expr,
-    vars: &[u32],
-) -> Result<(Vec<Step>, u32), AllocError>
+    vars: &[usize],
+) -> Result<(Vec<Step>, usize), AllocError>
     requires program { IsProgram program.old }
     requires vars { AreBelow (extent program.old) vars.now }
     requires over { IsOver (view e.now) (length vars.now) }
@@ -103,7 +103,7 @@ pub(crate) fn lay_equations(
     alloc: Global,
     program: &mut Program,
     equations: &[Equation],
-    vars: &mut Vec<u32>,
+    vars: &mut Vec<usize>,
 ) -> Result<(), AllocError>
     requires program { IsProgram program.old }
     requires vars { AreBelow (extent program.old) vars.old.items }
@@ -121,7 +121,7 @@ fn lay_register(
     alloc: Global,
     program: &mut Program,
     register: &Register,
-    vars: &[u32],
+    vars: &[usize],
 ) -> Result<Load, AllocError>
     requires program { IsProgram program.old }
     requires vars { AreBelow (extent program.old) vars.now }
@@ -138,7 +138,7 @@ pub(crate) fn lay_registers(
     alloc: Global,
     program: &mut Program,
     registers: &[Register],
-    vars: &[u32],
+    vars: &[usize],
 ) -> Result<Vec<Load>, AllocError>
     requires program { IsProgram program.old }
     requires vars { AreBelow (extent program.old) vars.now }

@@ -6,18 +6,18 @@ ghost use Rattle.asimut_sim.specs.Operator.{chosen, ReadsBelow, HasConstants, st
 use bool_expr::Gate;
 
 /// The place of a bit that is always 0.
-const ZERO: u32 = 0;
+const ZERO: usize = 0;
 
 /// The place of a bit that is always 1.
-const ONE: u32 = 1;
+const ONE: usize = 1;
 
 /// A multiplexer: the first bit where the condition is 1, and the second elsewhere, each perhaps inverted. Its three bits go
 /// by their places.
 #[derive(Clone, Copy)]
 pub(crate) struct Operator {
-    pub(crate) condition: u32,
-    pub(crate) first: u32,
-    pub(crate) second: u32,
+    pub(crate) condition: usize,
+    pub(crate) first: usize,
+    pub(crate) second: usize,
     pub(crate) inverts_first: bool,
     pub(crate) inverts_second: bool,
 }
@@ -27,11 +27,11 @@ pub(crate) struct Operator {
 #[derive(Clone, Copy)]
 pub(crate) enum Step {
     Not,
-    Pair(Gate, u32),
-    Choice(u32, u32),
+    Pair(Gate, usize),
+    Choice(usize, usize),
 }
 
-fn choose(condition: u32, first: (u32, bool), second: (u32, bool)) -> Operator
+fn choose(condition: usize, first: (usize, bool), second: (usize, bool)) -> Operator
     ensures { result ≡ record { condition = condition; first = first.0; second = second.0; inverts_first = first.1; inverts_second = second.1 } }
 {
     Operator {
@@ -43,7 +43,7 @@ fn choose(condition: u32, first: (u32, bool), second: (u32, bool)) -> Operator
     }
 }
 
-fn pair(gate: Gate, left: u32, right: u32) -> Operator
+fn pair(gate: Gate, left: usize, right: usize) -> Operator
     ensures value { (a : List Bool) → HasConstants a → chosen a result ≡ gate_value gate (bit_at a left) (bit_at a right) }
     ensures reads { (n : ℕ) → 2 ≤ n → left < n → right < n → ReadsBelow n result }
 {
@@ -58,7 +58,7 @@ fn pair(gate: Gate, left: u32, right: u32) -> Operator
 }
 
 /// The step's operator over the operand that it lacks.
-pub(crate) fn step_operator(step: Step, inner: u32) -> Operator
+pub(crate) fn step_operator(step: Step, inner: usize) -> Operator
     ensures value { (a : List Bool) → HasConstants a → chosen a result ≡ step_value a step (bit_at a inner) }
     ensures reads { (n : ℕ) → 2 ≤ n → StepBelow n step → inner < n → ReadsBelow n result }
 {
@@ -70,7 +70,7 @@ pub(crate) fn step_operator(step: Step, inner: u32) -> Operator
 }
 
 /// The place of a constant.
-pub(crate) fn constant_place(bit: bool) -> u32
+pub(crate) fn constant_place(bit: bool) -> usize
     ensures value { (a : List Bool) → HasConstants a → bit_at a result ≡ bit }
     ensures before { result < 2 }
 {

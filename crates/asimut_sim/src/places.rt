@@ -78,7 +78,7 @@ pub(crate) fn bits_at(
 pub(crate) fn seen_bits(
     alloc: Global,
     bits: &[bool],
-    vars: &[u32],
+    vars: &[usize],
     places: &[Option<usize>],
 ) -> Result<Vec<bool>, AllocError>
     requires { AreBelow (length bits.now) vars.now }
@@ -91,12 +91,12 @@ pub(crate) fn seen_bits(
     Ok(seen)
 }
 
-fn seen_bit(bits: &[bool], vars: &[u32], place: Option<usize>) -> bool
+fn seen_bit(bits: &[bool], vars: &[usize], place: Option<usize>) -> bool
     requires { AreBelow (length bits.now) vars.now }
     ensures { result ≡ bit_of (bits_of bits.now vars.now) place }
 {
     match place {
-        Some(k) if k < vars.len() => bits[vars[k] as usize],
+        Some(k) if k < vars.len() => bits[vars[k]],
         _ => false,
     }
 }

@@ -10,17 +10,15 @@ use std::alloc::{AllocError, Global};
 /// Operators in their order, and the place of the first one's result. The other results stand behind it.
 #[derive(Drop)]
 pub(crate) struct Program {
-    pub(crate) start: u32,
+    pub(crate) start: usize,
     pub(crate) operators: Vec<Operator>,
 }
 
-/// The place that stands so many behind another. Past 2^32 there is none, which counts as memory that there isn't.
-pub(crate) fn place_behind(start: u32, count: usize) -> Result<u32, AllocError>
+/// The place that stands so many behind another. Each place is a byte of the array that a simulation needs, so past 2^64
+/// there is no such memory.
+pub(crate) fn place_behind(start: usize, count: usize) -> Result<usize, AllocError>
     ensures { IfOk result (λ place. place ≡ start + count) }
 {
-    let Ok(count) = u32::try_from(count) else {
-        return Err(AllocError);
-    };
     start.checked_add(count).ok_or(AllocError)
 }
 
@@ -34,9 +32,9 @@ fn value(operator: &Operator, bits: &[bool]) -> bool
     requires { ReadsBelow (length bits.now) operator.now }
     ensures { result ≡ chosen bits.now operator.now }
 {
-    let first = inverted(operator.inverts_first, bits[operator.first as usize]);
-    let second = inverted(operator.inverts_second, bits[operator.second as usize]);
-    if bits[operator.condition as usize] {
+    let first = inverted(operator.inverts_first, bits[operator.first]);
+    let second = inverted(operator.inverts_second, bits[operator.second]);
+    if bits[operator.condition] {
         first
     } else {
         second
@@ -45,7 +43,7 @@ fn value(operator: &Operator, bits: &[bool]) -> bool
 
 impl Program {
     /// A program without operators yet.
-    pub(crate) fn new(alloc: Global, start: u32) -> Program
+    pub(crate) fn new(alloc: Global, start: usize) -> Program
         requires { 2 ≤ start }
         ensures program { IsProgram result }
         ensures start { result.start ≡ start }
@@ -57,9 +55,8 @@ impl Program {
         }
     }
 
-    /// Puts an operator behind the others, and answers the place of its result. Places past 2^32 count as memory that there
-    /// isn't.
-    pub(crate) fn push(&mut self, operator: Operator) -> Result<u32, AllocError>
+    /// Puts an operator behind the others, and answers the place of its result.
+    pub(crate) fn push(&mut self, operator: Operator) -> Result<usize, AllocError>
         requires program { IsProgram self.old }
         requires reads { ReadsBelow (extent self.old) operator }
         ensures place { IfOk result (λ place. place ≡ extent self.old) }
@@ -71,8 +68,8 @@ impl Program {
         Ok(place)
     }
 
-    /// The place behind the last result. Past 2^32 there is none, which counts as memory that there isn't.
-    pub(crate) fn end(&self) -> Result<u32, AllocError>
+    /// The place behind the last result.
+    pub(crate) fn end(&self) -> Result<usize, AllocError>
         ensures { IfOk result (λ place. place ≡ extent self.now) }
     {
         place_behind(self.start, self.operators.len())
@@ -86,9 +83,8 @@ impl Program {
         ensures before { (k : ℕ) → k < self.now.start → bit bits.new k ≡ bit bits.old k }
         ensures obeys { Obeys self.now bits.new }
     {
-        let start = self.start as usize;
         for (k, operator) in self.operators.iter().enumerate() {
-            bits[start + k] = value(operator, bits);
+            bits[self.start + k] = value(operator, bits);
         }
     }
 }

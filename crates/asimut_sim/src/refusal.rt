@@ -13,7 +13,7 @@ pub enum SimError {
     Memory,
     /// The first bit that isn't what a pattern expects, and the number of that pattern from 0.
     #[error("pattern {} differs", .pattern)]
-    Differs { pattern: u32, name: Name },
+    Differs { pattern: usize, name: Name },
 }
 
 impl From<AllocError> for SimError {

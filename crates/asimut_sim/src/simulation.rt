@@ -1,5 +1,5 @@
 // Patterns on a machine, one after another.
-ghost use Rattle.std.specs.Prelude.{◌≡◌, ◌++◌, ◌<◌, ◌≤◌, ◌^◌, false, None, IfOk, IfErr, OnOk, length, replicate, map};
+ghost use Rattle.std.specs.Prelude.{◌≡◌, false, None, IfOk, IfErr, OnOk, length, replicate, map};
 ghost use Rattle.std.specs.List.{All};
 ghost use Rattle.pat_meaning.specs.Columns.{listed, FitsColumns};
 ghost use Rattle.pat_meaning.specs.Simulation.{rises};
@@ -80,7 +80,7 @@ fn compare(
     names: &[Name],
     bits: &[Option<bool>],
     seen: &[bool],
-    number: u32,
+    number: usize,
 ) -> Result<(), SimError>
     requires wanted { length bits.now ≡ length seen.now }
     requires names { length names.now ≡ length seen.now }
@@ -121,7 +121,7 @@ fn pass(
     plan: &Plan,
     columns: &[Column],
     pattern: &Pattern,
-    number: u32,
+    number: usize,
     state: &mut State,
 ) -> Result<Pattern, SimError>
     requires flat { IsFlat flat.now }
@@ -150,7 +150,6 @@ fn fill(
     requires flat { IsFlat flat.now }
     requires plan { IsPlan flat.now.machine.now columns.now plan.now.listed.items plan.now.inputs.items plan.now.clock plan.now.seen.items }
     requires values { All (λ p. FitsColumns columns.now p.values) patterns.now }
-    requires few { length patterns.now < 2 ^ 32 }
     ensures filled { IfOk result (λ made. IsFilled flat.now.machine.now (record { columns = columns.now; patterns = patterns.now })
         (record { columns = columns.now; patterns = made })) }
     ensures differs { IfErr result (λ e. IsRefusal flat.now.machine.now (record { columns = columns.now; patterns = patterns.now }) e) }
@@ -163,7 +162,6 @@ fn fill(
     };
     let mut made = PatternList::new(Vec::new(alloc));
     for (number, pattern) in patterns.iter().enumerate() {
-        let number = number as u32;
         made.push(pass(alloc, flat, plan, columns, pattern, number, &mut state)?)?;
     }
     Ok(made)

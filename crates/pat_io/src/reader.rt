@@ -1,5 +1,5 @@
 // The reader.
-ghost use Rattle.std.specs.Prelude.{◌≡◌, ◌<◌, ◌≤◌, ◌^◌, Some, None, ◌∷◌, [], IfOk, IfErr, OnOk, length};
+ghost use Rattle.std.specs.Prelude.{◌≡◌, Some, None, IfOk, IfErr, OnOk};
 ghost use Rattle.std.specs.Option.{option_copied};
 ghost use Rattle.pat_meaning.specs.Answers.{AreFor};
 ghost use Rattle.pat_lexer.specs.Listing.{tokens_in, refusal_in};
@@ -32,7 +32,6 @@ fn at_line(alloc: Global, kind: FaultKind, line: u32) -> ReadError
 /// Looks for the first fault of what is written.
 #[tactic(auto, unfolding(crate::specs::PatternText::fault_in))]
 fn check(alloc: Global, ports: &[Port], parsed: &PatternFile) -> Result<(), ReadError>
-    requires { length parsed.now.patterns < 2 ^ 32 }
     ensures faultless { OnOk result (fault_in ports.now parsed.now ≡ None) }
     ensures faulty { IfErr result (λ e. OrMemory (fault_in ports.now parsed.now) e) }
 {
@@ -79,9 +78,6 @@ pub fn read_pat(alloc: Global, bytes: &[u8], ports: &Ports) -> Result<Patterns, 
     ensures refused { IfErr result (λ e. IsPatternRefusal bytes.now ports.now e) }
 {
     let parsed = written(alloc, bytes, ports)?;
-    if u32::try_from(parsed.patterns.as_slice().len()).is_err() {
-        return Err(ReadError::Memory);
-    }
     check(alloc, ports.as_slice(), &parsed)?;
     let made = patterns(alloc, &parsed)?;
     Ok(made)

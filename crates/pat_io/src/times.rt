@@ -1,5 +1,5 @@
 // Where time goes back.
-ghost use Rattle.std.specs.Prelude.{◌≡◌, ◌+◌, ◌*◌, ◌^◌, ◌<◌, ◌≤◌, length};
+ghost use Rattle.std.specs.Prelude.{◌≡◌, ◌-◌, ◌*◌, ◌^◌, ◌≤◌, min};
 ghost use Rattle.pat_io.specs.Fitting.{unit_size, time_behind, time_faults};
 ghost use Rattle.pat_io.specs.PatternText.{first_line};
 
@@ -28,19 +28,18 @@ fn further(time: Time) -> u128
     u128::from(time.number) * u128::from(unit_size(time.unit))
 }
 
-/// The time of a pattern behind one at this time, in femtoseconds.
+/// The time of a pattern behind one at this time, in femtoseconds. One past 2^128 stands as 2^128 - 1: no time that is added
+/// to either is before it, and each time by itself is before both.
 fn time_behind(before: u128, time: Time) -> u128
-    requires { before < 2 ^ 105 }
-    ensures time { result ≡ time_behind before time }
-    ensures few { result ≤ before + 2 ^ 72 }
+    ensures time { result ≡ min (time_behind before time) (2 ^ 128 - 1) }
+    ensures few { time.number * unit_size time.unit ≤ 2 ^ 72 }
 {
     let base = if time.is_added { before } else { 0 };
-    base + further(time)
+    base.saturating_add(further(time))
 }
 
 /// The line of the first pattern that is before the one before it. Takes no memory.
 pub fn time_fault(patterns: &[ParsedPattern]) -> Option<u32>
-    requires { length patterns.now < 2 ^ 32 }
     ensures { result ≡ first_line (time_faults 0 patterns.now) }
 {
     let mut before = 0u128;

@@ -1,5 +1,5 @@
 -- Patterns that are for a machine's ports, and what a simulation answers.
-use Rattle.std.specs.Prelude.{◌≡◌, ℕ, ◌^◌, ◌<◌, ◌⊎◌, Bool, List, length, None, Some, codes}
+use Rattle.std.specs.Prelude.{◌≡◌, ℕ, ◌⊎◌, Bool, List, None, Some, codes}
 use Rattle.std.specs.List.{All}
 use Rattle.vlsi_base.specs.declared.name.Name.{Name}
 use Rattle.vlsi_base.specs.declared.name.Port.{Port}
@@ -24,12 +24,11 @@ abbrev pub IsOfPorts : List Port → Column → Type 0
 IsOfPorts ports c = All (λ name. In (record { name = name; dir = c.dir }) ports) (column_names c)
 
 -- The patterns are for these port bits: each column lists bits of ports, or is vdd or vss; no bit is listed twice;
--- each pattern has a value that fits for each column; and the patterns can be numbered.
+-- and each pattern has a value that fits for each column.
 pub record AreFor (ports : List Port) (p : Patterns) : Type 0 where
   pub columns : All (λ c. IsSupplyColumn c ⊎ IsOfPorts ports c) p.columns
   pub different : AllDifferent (listed p.columns)
   pub values : All (λ q. FitsColumns p.columns q.values) p.patterns
-  pub few : length p.patterns < 2 ^ 32
 
 -- The circuit gives what the patterns expect, and `out` are the patterns with every output filled in.
 pub record IsFilledBy (c : Circuit) (p out : Patterns) : Type 0 where
