@@ -1,5 +1,5 @@
 -- From the refusals of readers and of buffering to the tool's.
-use Rattle.std.proofs.Common.{◌≡◌, ℕ, List, None, Result, Err, false, sym, subst, refl}
+use Rattle.std.proofs.Common.{◌≡◌, ℕ, ◌^◌, ◌<◌, ◌≤◌, length, List, None, Result, Err, false, sym, subst, refl}
 use Rattle.vlsi_base.specs.declared.fault.ReadError.{ReadError}
 use Rattle.cell_model.specs.Library.{Library}
 use Rattle.cell_lib.specs.declared.error.LibError.{LibError}
@@ -9,7 +9,7 @@ use Rattle.cell_lib.specs.Cells.{OrMemory}
 use Rattle.cell_lib.specs.Library.{IsLibraryOf, IsRefusedLibrary, status_of}
 use Rattle.cell_pins.specs.Table.{IsTableOf}
 use Rattle.net_core.specs.declared.pins.ModelPins.{ModelPins}
-use Rattle.net_core.specs.Netlist.{Netlist}
+use Rattle.net_core.specs.Netlist.{Netlist, terminals}
 use Rattle.vst_io.specs.Text.{IsVst, IsVstRefusal}
 use Rattle.loon_fanout.specs.declared.error.BufferError.{BufferError}
 use Rattle.loon_fanout.specs.declared.error.BufferError.TheVariants as error
@@ -22,7 +22,7 @@ use Rattle.tool_drive.specs.declared.tool.Product.{Product}
 use Rattle.tool_drive.specs.declared.tool.Refusal.{Refusal}
 use Rattle.tool_drive.specs.Table.{IsJudged, IsFair, refusal}
 use Rattle.tool_drive.specs.Refusals.{MemoryOr, OfFile, of_file, judged_file}
-use Rattle.loon_run.specs.Loon.{no_library, bad_netlist, no_buffer, Limits, IsToldOf}
+use Rattle.loon_run.specs.Loon.{no_library, bad_netlist, many_pins, no_buffer, HasRoom, pins_limit, Limits, IsToldOf}
 
 -- a status for which P holds, or out of memory, is one that a tool may answer
 judged : (A : Result Product Refusal → Type 0) (P : Status → Type 0) → ((t : Status) → P t → IsFair t None (A (Err (refusal t None)))) → (s : Status) → MemoryOr s (P s)
@@ -54,11 +54,16 @@ module _ (c : LoonCommand) (source list : List ℕ) (cells : List (List ℕ)) wh
         judged_file (Limits c source list cells) c.source (IsVstRefusal source table) s (of_file c.source (IsVstRefusal source table) e h s k) (λ o. (refl, bad_netlist l table library pins o))
 
     module _ (n : Netlist) (netlist : IsVst source table n) where
-      told : (e : BufferError) → IsBufferRefusal n l (most_sinks c.fanout) e → (t : Status) → IsToldOf e t → IsFair t None (Limits c source list cells (Err (refusal t None)))
-      told error.Memory h t k = absurd k
-      told error.NoBuffer h t k =
-          subst (λ (s : Status). IsFair s None (Limits c source list cells (Err (refusal s None)))) (sym k)
-          (refl, no_buffer l table n (record { library = library; pins = pins; netlist = netlist }) h.0 h.1 refl)
+      pub by_room : (s : Status) → (0 < length n.instances) × (2 ^ 27 ≤ length (terminals n)) × (s ≡ pins_limit n) → IsJudged (Limits c source list cells) (Err (refusal s None))
+      by_room s h =
+          subst (λ (t : Status). IsJudged (Limits c source list cells) (Err (refusal t None))) (sym h.2)
+          (refl, many_pins l table n (record { library = library; pins = pins; netlist = netlist }) h.0 h.1 refl)
 
-      pub by_drive : (e : BufferError) (s : Status) → IsBufferRefusal n l (most_sinks c.fanout) e → MemoryOr s (IsToldOf e s) → IsJudged (Limits c source list cells) (Err (refusal s None))
-      by_drive e s h k = judged (Limits c source list cells) (IsToldOf e) (told e h) s k
+      told : HasRoom n → (e : BufferError) → IsBufferRefusal n l (most_sinks c.fanout) e → (t : Status) → IsToldOf e t → IsFair t None (Limits c source list cells (Err (refusal t None)))
+      told room error.Memory h t k = absurd k
+      told room error.NoBuffer h t k =
+          subst (λ (s : Status). IsFair s None (Limits c source list cells (Err (refusal s None)))) (sym k)
+          (refl, no_buffer l table n (record { library = library; pins = pins; netlist = netlist }) room h.0 h.1 refl)
+
+      pub by_drive : HasRoom n → (e : BufferError) (s : Status) → IsBufferRefusal n l (most_sinks c.fanout) e → MemoryOr s (IsToldOf e s) → IsJudged (Limits c source list cells) (Err (refusal s None))
+      by_drive room e s h k = judged (Limits c source list cells) (IsToldOf e) (told room e h) s k

@@ -1,12 +1,12 @@
 // `loon` as a tool: what it reads, and what it answers.
-ghost use Rattle.std.specs.Prelude.{◌≡◌, OnOk, IfOk, IfErr};
-ghost use Rattle.net_core.specs.Netlist.{IsNetlist};
+ghost use Rattle.std.specs.Prelude.{◌≡◌, ◌^◌, ◌<◌, ◌≤◌, OnOk, IfOk, IfErr, length};
+ghost use Rattle.net_core.specs.Netlist.{IsNetlist, terminals};
 ghost use Rattle.delay_sta.specs.Exchanged.{HaveTheirArcs};
-ghost use Rattle.loon_fanout.specs.Limited.{HasRoomForGates, StaysRight, IsBufferRefusal};
+ghost use Rattle.loon_fanout.specs.Limited.{StaysRight, IsBufferRefusal};
 ghost use Rattle.loon_drive.specs.Driven.{most_sinks};
 ghost use Rattle.tool_drive.specs.Refusals.{MemoryOr};
 ghost use Rattle.tool_drive.specs.Table.{IsJudged};
-ghost use Rattle.loon_run.specs.Loon.{netlist_file as file_of, IsMade, IsToldOf, Limits};
+ghost use Rattle.loon_run.specs.Loon.{netlist_file as file_of, IsMade, HasRoom, pins_limit, IsToldOf, Limits};
 ghost use Rattle.loon_run.specs.Laws.{HasUsableCells, IsDrivable};
 
 use crate::laws::loon_law;
@@ -20,7 +20,7 @@ use net_core::Netlist;
 use std::alloc::{AllocError, Global};
 use tool_drive::{Kind, Over, Product, Refusal, Status, Tool, Wanted, bytes_at, refused};
 use tool_words::LoonCommand;
-use vlsi_base::{FileBytes, FileName, MOST_NETLIST_BYTES};
+use vlsi_base::{FileBytes, FileName, Limit, LimitKind, MOST_NETLIST_BYTES};
 use vst_io::read_vst;
 
 /// `loon`, with what it is asked: it puts buffers into the netlist in SOURCE until no net has more sinks than asked for, exchanges
@@ -29,9 +29,9 @@ use vst_io::read_vst;
 ///
 /// All files are read first: SOURCE, CATAL, and the behaviour and the layout of each cell that this uses. Then it is refused, in this
 /// order: by `Library`, or a limit of CATAL or of a cell, at the first line or cell at fault; by `Source`, or a limit, of SOURCE, in
-/// which cells that aren't usable are unknown; by `NoCover` of an inverter, where a net has too many sinks and the library has neither
-/// a buffer nor an inverter. Memory goes by the files, the netlist, its arcs, and each pair of cells of which one can stand for the
-/// other; a netlist that has an instance and 2^27 ports and pins or more is answered as out of memory.
+/// which cells that aren't usable are unknown; by `Limit` of `Bits`, with their number, where the netlist has an instance and more than
+/// 134,217,727 ports and pins; by `NoCover` of an inverter, where a net has too many sinks and the library has neither a buffer nor an
+/// inverter. Memory goes by the files, the netlist, its arcs, and each pair of cells of which one can stand for the other.
 #[derive(Drop)]
 pub struct Loon<'a> {
     pub command: &'a LoonCommand,
@@ -48,15 +48,20 @@ fn netlist_file(name: FileName) -> Wanted
     }
 }
 
-// A netlist of so many pins that gates can't be put in is answered as out of memory.
-fn room(netlist: &Netlist) -> Result<(), AllocError>
-    ensures { OnOk result (HasRoomForGates netlist.now) }
+// Whether gates can be put in, or the status that tells that there are too many ports and pins; without instances there are none to put
+// in. Takes no memory.
+fn check_room(netlist: &Netlist) -> Result<(), Status>
+    ensures room { OnOk result (HasRoom netlist.now) }
+    ensures full { IfErr result (λ s. (0 < length netlist.now.instances) × (2 ^ 27 ≤ length (terminals netlist.now)) × (s ≡ pins_limit netlist.now)) }
 {
-    if netlist.classes().len() < 1 << 27 {
-        Ok(())
-    } else {
-        Err(AllocError)
+    let pins = netlist.classes().len();
+    if netlist.nodes().is_empty() || pins < 1 << 27 {
+        return Ok(());
     }
+    Err(Status::Limit(Limit {
+        which: LimitKind::Bits,
+        reached: pins as u64,
+    }))
 }
 
 // What is made of a netlist; one without instances stays as it is.
@@ -68,6 +73,7 @@ fn driven(
 ) -> Result<Driven, BufferError>
     requires drivable { IsDrivable library.now netlist }
     requires arcs { HaveTheirArcs library.now }
+    requires room { HasRoom netlist }
     ensures sound { IfOk result (λ d. IsNetlist d.netlist) }
     ensures made { IfOk result (λ d. IsMade netlist library.now fanout d.netlist d.delay) }
     ensures cells { IfOk result (λ d. HasUsableCells library.now d.netlist) }
@@ -77,7 +83,6 @@ fn driven(
     if netlist.nodes().is_empty() {
         return Ok(Driven { netlist, delay: 0 });
     }
-    room(&netlist)?;
     drive_netlist(alloc, &netlist, library, fanout)
 }
 
@@ -111,6 +116,9 @@ fn limited(
         Ok(netlist) => netlist,
         Err(error) => return Err(Refusal::plain(refused(alloc, &command.source, error))),
     };
+    if let Err(full) = check_room(&netlist) {
+        return Err(Refusal::plain(full));
+    }
     let driven = match driven(alloc, netlist, &library, command.fanout) {
         Ok(driven) => driven,
         Err(error) => return Err(Refusal::plain(drive_status(error))),

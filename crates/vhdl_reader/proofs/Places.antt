@@ -8,7 +8,7 @@ use Rattle.grammar_theory.specs.Outcome.{At, Outcome, start}
 use Rattle.vhdl_front.specs.Cursor.{rest_of}
 use Rattle.vhdl_reader.specs.declared.done.Kind.{Kind}
 use Rattle.vhdl_reader.specs.declared.done.Step.{Step}
-use Rattle.vhdl_reader.specs.Place.{with_left, behind_token, behind, behind_read, behind_step, place, stands, IsStanding}
+use Rattle.vhdl_reader.specs.Place.{with_left, behind_token, behind, behind_read, behind_step, IsAccepted, IsAcceptedStep, AreAccepted, place, stands, IsStanding}
 
 abbrev at_with : State → List PlacedToken → At
 at_with state rest = record { state = state; rest = rest }
@@ -81,6 +81,7 @@ next_standing tokens done rest after kept new some same moved standing =
     let Rest : List PlacedToken → Type 0 = λ ts. There ts new in
     let Kept : Option At → Type 0 = λ k. There (rest_of rest) k in
     subst Rest (sym same) (subst Kept (sym moved) (record {
+      accepted = standing.accepted;
       left = stands_next (place done (start tokens)) rest some standing.left;
       live = live kept standing.live;
     })) where
@@ -105,8 +106,20 @@ went_on tokens done rest k room c left is = place_more done (record { kind = k; 
 pub stands_behind : (tokens : List PlacedToken) (done : List Step) (c : At) → place done (start tokens) ≡ c → stands tokens done c.rest ≡ c
 stands_behind tokens done c e = ap (λ (p : At). at_with p.state c.rest) e
 
-pub standing : (tokens : List PlacedToken) (done : List Step) (c : At) → place done (start tokens) ≡ c → IsStanding tokens done c.rest (Some c)
-standing tokens done c e = record {
+accepted_more : (done : List Step) (s : Step) (here : At) → AreAccepted done here → IsAcceptedStep s (place done here) → AreAccepted (done ++ s ∷ []) here
+accepted_more [] s here all last = (last, tt)
+accepted_more (x ∷ done) s here all last = (all.0, accepted_more done s (behind_step x here) all.1 last)
+
+pub went_on_accepted : (tokens : List PlacedToken) (done : List Step) (rest : List PlacedToken) (k : Kind) (room : ℕ)
+    → stands tokens done rest ≡ with_left (length rest) (place done (start tokens)) → AreAccepted done (start tokens) → IsAccepted k room (stands tokens done rest)
+    → AreAccepted (done ++ record { kind = k; room = room; left = length rest } ∷ []) (start tokens)
+went_on_accepted tokens done rest k room left all last =
+    let From : At → Type 0 = λ h. IsAccepted k room h in
+    accepted_more done (record { kind = k; room = room; left = length rest }) (start tokens) all (subst From left last)
+
+pub standing : (tokens : List PlacedToken) (done : List Step) (c : At) → AreAccepted done (start tokens) → place done (start tokens) ≡ c → IsStanding tokens done c.rest (Some c)
+standing tokens done c all e = record {
+  accepted = all;
   left = stands_behind tokens done c e ∙ (sym (passed_all (length c.rest) c (at_most (length c.rest))) ∙ ap (with_left (length c.rest)) (sym e));
   live = sym (stands_behind tokens done c e);
 }

@@ -1,5 +1,5 @@
 -- Where a reader stands, by what it has read.
-use Rattle.std.specs.Prelude.{◌≡◌, ℕ, ◌-◌, List, [], ◌∷◌, drop, length, Option, IfSome, Ok, Err}
+use Rattle.std.specs.Prelude.{◌≡◌, ℕ, ◌-◌, List, [], ◌∷◌, drop, length, Option, IfSome, IsOk, Ok, Err}
 use Rattle.vhdl_token.specs.declared.token.PlacedToken.{PlacedToken}
 use Rattle.grammar_theory.specs.Outcome.{At, Outcome, start}
 use Rattle.vhdl_front.specs.Cursor.{at_first, rest_of}
@@ -30,6 +30,21 @@ behind_read kind.Declarations room here = behind here (declarations_at room here
 abbrev pub behind_step : Step → At → At
 behind_step s here = behind_read s.kind s.room (with_left s.left here)
 
+-- what is read, where so many parentheses more might be open, is accepted
+abbrev pub IsAccepted : Kind → ℕ → At → Type 0
+IsAccepted kind.Expression room here = IsOk (expression_at room (at_first here))
+IsAccepted kind.Entity room here = IsOk (entity_at room here)
+IsAccepted kind.Declarations room here = IsOk (declarations_at room here)
+
+-- the step is accepted from where it begins
+abbrev pub IsAcceptedStep : Step → At → Type 0
+IsAcceptedStep s here = IsAccepted s.kind s.room (with_left s.left here)
+
+-- each of the steps is, the next from behind the one before it
+abbrev pub AreAccepted : List Step → At → Type 0
+AreAccepted [] here = Unit {0}
+AreAccepted (s ∷ done) here = IsAcceptedStep s here × AreAccepted done (behind_step s here)
+
 -- behind all that was read
 abbrev pub place : List Step → At → At
 place [] here = here
@@ -39,7 +54,8 @@ place (s ∷ done) here = place done (behind_step s here)
 abbrev pub stands : List PlacedToken → List Step → List PlacedToken → At
 stands tokens done rest = record { state = (place done (start tokens)).state; rest = rest }
 
--- The tokens that are left are the last of those behind what was read, and a cursor that is at hand stands there.
+-- What was read was accepted, the tokens that are left are the last of those behind it, and a cursor that is at hand stands there.
 pub record IsStanding (tokens : List PlacedToken) (done : List Step) (rest : List PlacedToken) (cursor : Option At) : Type 0 where
+  pub accepted : AreAccepted done (start tokens)
   pub left : stands tokens done rest ≡ with_left (length rest) (place done (start tokens))
   pub live : IfSome cursor (λ c. c ≡ stands tokens done rest)

@@ -1,10 +1,10 @@
 // What a reader has read so far, so that it can be read again.
-ghost use Rattle.std.specs.Prelude.{◌≡◌, IfOk, OnOk};
+ghost use Rattle.std.specs.Prelude.{◌≡◌, IfOk, OnOk, IfErr};
 ghost use Rattle.grammar_theory.specs.Outcome.{start};
-ghost use Rattle.vhdl_reader.specs.Place.{place, behind_read, behind_step, with_left};
+ghost use Rattle.vhdl_reader.specs.Place.{place, behind_read, behind_step, with_left, IsAccepted, IsAcceptedStep, AreAccepted};
 
 use grammar_theory::Stop;
-use std::alloc::Global;
+use std::alloc::{AllocError, Global};
 use vhdl_front::Cursor;
 use vhdl_token::PlacedToken;
 
@@ -35,7 +35,8 @@ fn pass(cursor: &mut Cursor, left: usize)
 
 /// Reads this, and forgets it.
 fn read(cursor: &mut Cursor, kind: Kind, room: u32) -> Result<(), Stop>
-    ensures { OnOk result (cursor.new ≡ behind_read kind room cursor.old) }
+    ensures ok { OnOk result (cursor.new ≡ behind_read kind room cursor.old) }
+    ensures again { IsAccepted kind room cursor.old → IfErr result (λ e. e ≡ Stop.Memory) }
 {
     match kind {
         Kind::Expression => {
@@ -52,20 +53,27 @@ fn read(cursor: &mut Cursor, kind: Kind, room: u32) -> Result<(), Stop>
     Ok(())
 }
 
-fn step_over(cursor: &mut Cursor, step: Step) -> Result<(), Stop>
+/// Reads again what was accepted, which isn't refused then.
+fn step_over(cursor: &mut Cursor, step: Step) -> Result<(), AllocError>
+    requires { IsAcceptedStep step cursor.old }
     ensures { OnOk result (cursor.new ≡ behind_step step cursor.old) }
 {
     pass(cursor, step.left);
-    read(cursor, step.kind, step.room)
+    match read(cursor, step.kind, step.room) {
+        Ok(()) => Ok(()),
+        Err(Stop::Memory) => Err(AllocError),
+        Err(Stop::Refused(_)) => unreachable!(),
+    }
 }
 
-/// Reads again from the first of these tokens what was read, and passes over tokens until so many are left.
+/// Reads again from the first of these tokens what was accepted, and passes over tokens until so many are left.
 pub fn read_again<'a>(
     alloc: Global,
     tokens: &'a [PlacedToken],
     done: &[Step],
     left: usize,
-) -> Result<Cursor<'a>, Stop>
+) -> Result<Cursor<'a>, AllocError>
+    requires { AreAccepted done.now (start tokens.now) }
     ensures { IfOk result (λ c. c ≡ with_left left (place done.now (start tokens.now))) }
 {
     let mut cursor = Cursor::new(alloc, tokens);

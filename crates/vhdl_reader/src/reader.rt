@@ -1,5 +1,5 @@
 // The reader of tokens, as programs call it.
-ghost use Rattle.std.specs.Prelude.{◌≡◌, ◌≢◌, ◌+◌, ◌-◌, ◌<◌, IsOk, IsNone, IsSome, IfSome, OnOk, OnErr, Some, None, Err, length, option_copied};
+ghost use Rattle.std.specs.Prelude.{◌≡◌, ◌≢◌, ◌+◌, ◌-◌, ◌<◌, IsOk, IsNone, IsSome, IfSome, IfOk, OnOk, OnErr, Some, None, Err, length, option_copied};
 ghost use Rattle.std.specs.Option.{option_map};
 ghost use Rattle.vlsi_base.specs.Tree.{view};
 ghost use Rattle.vlsi_base.specs.declared.fault.ReadError.TheVariants.{Memory};
@@ -9,7 +9,7 @@ ghost use Rattle.vhdl_front.specs.Expression.{expression as expression_grammar};
 ghost use Rattle.vhdl_front.specs.Entity.{entity as entity_grammar, declarations as declarations_grammar};
 ghost use Rattle.vhdl_front.specs.Front.{line_at, Becomes};
 ghost use Rattle.vhdl_reader.specs.Front.{Keeps, Again, IsRead, next_token, too_deep};
-ghost use Rattle.vhdl_reader.specs.Place.{behind_read, behind_token};
+ghost use Rattle.vhdl_reader.specs.Place.{behind_read, behind_token, IsAccepted};
 
 use crate::copies::{copy_fault, repeat};
 use crate::done::{Kind, Step, read_again};
@@ -79,29 +79,26 @@ impl<'a> TokenReader<'a> {
         }
     }
 
-    /// A cursor that stands here, of which the reader keeps none; `None` where memory ran out.
-    fn cursor_here(&mut self) -> Option<Cursor<'a>>
-        ensures here { IfSome result (λ c. c ≡ self.old.here) }
+    /// A cursor that stands here, of which the reader keeps none.
+    fn cursor_here(&mut self) -> Result<Cursor<'a>, AllocError>
+        ensures here { IfOk result (λ c. c ≡ self.old.here) }
         ensures same { self.new ≡ self.old }
     {
         if let Some(cursor) = self.cursor.take() {
-            return Some(cursor);
+            return Ok(cursor);
         }
-        // what was read isn't refused when it is read again
-        match read_again(
+        read_again(
             self.alloc,
             self.tokens,
             self.done.as_slice(),
             self.rest.len(),
-        ) {
-            Ok(cursor) => Some(cursor),
-            Err(_) => None,
-        }
+        )
     }
 
     /// Goes on from where a cursor has read this to.
     fn go_on(&mut self, kind: Kind, cursor: Cursor<'a>) -> Result<(), AllocError>
-        requires { cursor ≡ behind_read kind self.old.room self.old.here }
+        requires read { cursor ≡ behind_read kind self.old.room self.old.here }
+        requires accepted { IsAccepted kind self.old.room self.old.here }
         ensures ok { OnOk result (self.new ≡ record self.old { here = cursor.entry }) }
         ensures err { OnErr result (self.new ≡ self.old) }
     {
@@ -148,7 +145,7 @@ impl<'a> TokenReader<'a> {
             return Err(repeat(self.alloc, error));
         }
         let room = self.room;
-        let Some(mut cursor) = self.cursor_here() else {
+        let Ok(mut cursor) = self.cursor_here() else {
             return Err(ReadError::Memory);
         };
         cursor.restart();
@@ -171,7 +168,7 @@ impl<'a> TokenReader<'a> {
             return Err(repeat(self.alloc, error));
         }
         let room = self.room;
-        let Some(mut cursor) = self.cursor_here() else {
+        let Ok(mut cursor) = self.cursor_here() else {
             return Err(ReadError::Memory);
         };
         match cursor.entity(room) {
@@ -194,7 +191,7 @@ impl<'a> TokenReader<'a> {
             return Err(repeat(self.alloc, error));
         }
         let room = self.room;
-        let Some(mut cursor) = self.cursor_here() else {
+        let Ok(mut cursor) = self.cursor_here() else {
             return Err(ReadError::Memory);
         };
         match cursor.declarations(room) {

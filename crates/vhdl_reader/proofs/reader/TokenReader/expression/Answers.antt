@@ -12,8 +12,8 @@ pub returns-in-Ok-go_on-clause-right : goal.returns-in-Ok-go_on-clause-right
 returns-in-Ok-go_on-clause-right c = λ fresh.
     let room = ap (λ (f : Front). f.room) c.self.view_is in
     let grown : Front → Front = λ f. record f { here = c.expression.new.self } in
-    read_accepts view (expression c.args.self.now.room) (expression_at c.args.self.now.room) (reading_answers c.args.self.now.room) (at_first c.args.self.now.here) c.expression.new.self c.args.self.now c.go_on.new.self c.in-Ok.parsed
-    (moved expression_at c.self.inside.room c.args.self.now.room c.restart.new.self (at_first c.args.self.now.here) _ room (c.restart.ensures ∙ ap at_first c.in-Some-cursor_here.ensures.here) c.in-Ok.ensures)
+    read_accepts view (expression c.args.self.now.room) (expression_at c.args.self.now.room) (reading_answers c.args.self.now.room) (at_first c.args.self.now.here) c.expression.new.self c.args.self.now c.go_on.new.self c.in-Ok-expression.parsed
+    (moved expression_at c.self.inside.room c.args.self.now.room c.restart.new.self (at_first c.args.self.now.here) _ room (c.restart.ensures ∙ ap at_first c.in-Ok.ensures.here) c.in-Ok-expression.ensures)
     (c.in-Ok-go_on.ensures.ok ∙ ap grown c.cursor_here.ensures.same)
 
 pub returns-in-Err-clause-right : goal.returns-in-Err-clause-right
@@ -21,5 +21,5 @@ returns-in-Err-clause-right c = λ fresh.
     let room = ap (λ (f : Front). f.room) c.self.view_is in
     read_refuses view (expression c.args.self.now.room) (expression_at c.args.self.now.room) (reading_answers c.args.self.now.room) (at_first c.args.self.now.here) c.args.self.now c.cursor_here.new.self c.stop.new.self c.in-Err.stop c.stop.result
     c.cursor_here.ensures.same refl
-    (fails_moved expression_at c.self.inside.room c.args.self.now.room c.restart.new.self (at_first c.args.self.now.here) c.in-Err.stop room (c.restart.ensures ∙ ap at_first c.in-Some-cursor_here.ensures.here) c.in-Err.ensures)
+    (fails_moved expression_at c.self.inside.room c.args.self.now.room c.restart.new.self (at_first c.args.self.now.here) c.in-Err.stop room (c.restart.ensures ∙ ap at_first c.in-Ok.ensures.here) c.in-Err.ensures)
     c.stop.ensures.answer c.stop.ensures.kept
