@@ -1,9 +1,5 @@
 pub mod Expanding
 pub mod Members
-pub mod Names
-pub mod Reaching
-pub mod Turns
-pub mod Stacks
 pub mod Binds
 pub mod Outputs
 pub mod Denoting

@@ -17,9 +17,9 @@ use Rattle.bdd_core.specs.Diagram.{Diagram, functions_of, Keeps, IsAnswer}
 use Rattle.bdd_core.specs.Asked.{denoted, asked_of, IsAnswerOf}
 use Rattle.bdd_core.proofs.Asking.{SoFar, after, keeps_then}
 use Rattle.machine_roots.specs.declared.diagram.RootDiagram.{RootDiagram}
-use Rattle.machine_roots.specs.Expansion.{held_count, place_among}
-use Rattle.machine_roots.specs.Roots.{order_of, list_of, lists_of}
-use Rattle.machine_roots.specs.Walk.{AreMet}
+use Rattle.machine_walk.specs.Expansion.{held_count, place_among}
+use Rattle.machine_roots.specs.Roots.{list_of, lists_of}
+use Rattle.machine_walk.specs.Walk.{order_of, AreMet}
 use Rattle.machine_roots.specs.Asked.{HaveAsked, IsRootDiagram}
 use Rattle.machine_roots.specs.Binding.{variable_list, variable_lists, put_variables, bound_lists, asked_by}
 use Rattle.machine_roots.proofs.Members.{CountsIn, holds_same, over_in}

@@ -13,11 +13,11 @@ ghost use Rattle.machine_roots.specs.Roots.{lists_of};
 ghost use Rattle.machine_roots.specs.Asked.{HaveAsked, IsRootDiagram};
 ghost use Rattle.machine_roots.specs.Binding.{AreNodes, variable_lists, put_variables, bound_lists, asked_by};
 
-use crate::walking::walk;
 use bdd_core::{BddError, Diagrams, NodeId};
 use bool_expr::Expr;
 use machine_core::Machine;
 use machine_meaning::Equation;
+use machine_walk::walk;
 use std::alloc::Global;
 
 /// The diagram of all subexpressions of a root's expansion.

@@ -6,8 +6,6 @@
 
 mod diagram;
 mod listing;
-mod walking;
 
 pub use diagram::{RootDiagram, root_diagram};
 pub use listing::{RootExpr, roots};
-pub use walking::{WalkedNames, walk};

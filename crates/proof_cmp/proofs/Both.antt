@@ -12,10 +12,10 @@ use Rattle.bdd_core.specs.Nodes.{raised}
 use Rattle.bdd_core.specs.Diagram.{Diagram, IsNode, function_of, Keeps}
 use Rattle.bdd_core.proofs.Asking.{bound_kept}
 use Rattle.machine_core.specs.Order.{EachReadsBelow}
-use Rattle.machine_roots.specs.declared.walking.WalkedNames.{WalkedNames}
-use Rattle.machine_roots.specs.Expansion.{held_count}
+use Rattle.machine_walk.specs.declared.walking.WalkedNames.{WalkedNames}
+use Rattle.machine_walk.specs.Expansion.{held_count}
 use Rattle.machine_roots.specs.Binding.{AreNodes}
-use Rattle.machine_roots.proofs.Names.{length-vars}
+use Rattle.machine_walk.proofs.Names.{length-vars}
 use Rattle.machine_roots.proofs.Denoting.{length_put}
 use Rattle.machine_roots.proofs.Members.{over_in}
 use Rattle.machine_roots.proofs.Rooted.{order_within}

@@ -13,9 +13,9 @@ use Rattle.bdd_core.specs.Asked.{asked_of, IsAnswerOf}
 use Rattle.bdd_core.proofs.Asking.{SoFar, same_functions, over_sub}
 use Rattle.machine_meaning.specs.Machine.{Machine, Equation}
 use Rattle.machine_core.specs.Order.{IsOrdered}
-use Rattle.machine_roots.specs.Expansion.{held_count, expansion}
+use Rattle.machine_walk.specs.Expansion.{held_count, expansion}
 use Rattle.machine_roots.specs.Roots.{list_by}
-use Rattle.machine_roots.specs.Walk.{AreMet}
+use Rattle.machine_walk.specs.Walk.{AreMet}
 use Rattle.machine_roots.specs.Asked.{HaveAsked}
 use Rattle.machine_roots.specs.Binding.{AreNodes, variable_lists, put_variables, held_lists, bound_lists, asked_by}
 use Rattle.machine_roots.proofs.Members.{CountsIn, over_in}

@@ -9,10 +9,10 @@ use Rattle.bdd_core.specs.Diagram.{IsNode, function_of, functions_of}
 use Rattle.bdd_core.specs.Asked.{denoted, asked_of}
 use Rattle.machine_meaning.specs.Machine.{Machine, Equation}
 use Rattle.machine_core.specs.Checked.{IsChecked}
-use Rattle.machine_roots.specs.declared.walking.WalkedNames.{WalkedNames}
-use Rattle.machine_roots.specs.Expansion.{expansion}
-use Rattle.machine_roots.specs.Roots.{order_of, list_by}
-use Rattle.machine_roots.specs.Walk.{AreMet}
+use Rattle.machine_walk.specs.declared.walking.WalkedNames.{WalkedNames}
+use Rattle.machine_walk.specs.Expansion.{expansion}
+use Rattle.machine_roots.specs.Roots.{list_by}
+use Rattle.machine_walk.specs.Walk.{order_of, AreMet}
 use Rattle.machine_roots.specs.Binding.{AreNodes, variable_lists, held_lists, bound_lists, asked_by}
 use Rattle.proof_cmp.specs.declared.joint.SharedDiagrams.{SharedDiagrams}
 use Rattle.proof_cmp.specs.declared.joint.JointDiagram.{JointDiagram}

@@ -14,7 +14,7 @@ ghost use Rattle.bdd_core.specs.Diagram.{IsNode, function_of, functions_of, IsAs
 ghost use Rattle.bdd_core.specs.Asked.{IsAnswerOf};
 ghost use Rattle.machine_roots.specs.Asked.{HaveAsked};
 ghost use Rattle.machine_roots.specs.Binding.{AreNodes, variable_lists, put_variables, bound_lists, asked_by};
-ghost use Rattle.machine_roots.specs.Expansion.{held_count};
+ghost use Rattle.machine_walk.specs.Expansion.{held_count};
 ghost use Rattle.proof_cmp.specs.Naming.{HaveSameNames};
 ghost use Rattle.proof_cmp.specs.Joint.{shared_lists, AreShared, IsCone, IsWalked, cone_list, cone_lists, AreJoined, cones_order, AreOver};
 
@@ -22,7 +22,7 @@ use bdd_core::{BddError, Diagrams, NodeId};
 use bool_expr::Expr;
 use machine_core::Machine;
 use machine_meaning::Equation;
-use machine_roots::{WalkedNames, walk};
+use machine_walk::{WalkedNames, walk};
 use std::alloc::Global;
 
 /// The logic of a root: an expression over a machine's names, with the equations that it reads.

@@ -2,7 +2,7 @@
 ghost use Rattle.std.specs.Prelude.{◌≡◌, ◌<◌, ◌^◌, ◌++◌, ◌∷◌, [], length, IfOk, IfErr, IfSome, IfNone, List, Bool};
 ghost use Rattle.bool_expr.specs.Expression.{Expression, val};
 ghost use Rattle.machine_meaning.specs.Machine.{Machine as MachineValue};
-ghost use Rattle.machine_roots.specs.Expansion.{expansion};
+ghost use Rattle.machine_walk.specs.Expansion.{expansion};
 ghost use Rattle.machine_roots.specs.Roots.{Root};
 ghost use Rattle.proof_cmp.specs.Naming.{HaveSameNames};
 ghost use Rattle.proof_cmp.specs.Joint.{JoinsRoots};

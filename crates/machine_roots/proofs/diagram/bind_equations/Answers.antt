@@ -5,8 +5,8 @@ use Rattle.bool_expr.specs.Expression.{IsOver}
 use Rattle.bool_expr.specs.View.{view}
 use Rattle.machine_core.specs.View.{equation_view}
 use Rattle.bdd_core.specs.declared.node.NodeId.{NodeId}
-use Rattle.machine_roots.proofs.Reaching.{equation_below}
-use Rattle.machine_roots.proofs.Stacks.{at_equation}
+use Rattle.machine_walk.proofs.Reaching.{equation_below}
+use Rattle.machine_walk.proofs.Stacks.{at_equation}
 use Rattle.machine_roots.proofs.Binds.{IsTying, equation_row, tie_name, name_refused, have_memory, all_tied, have_asked}
 use Rattle.machine_roots.proofs.diagram.bind_equations.Goals as goal
 

@@ -10,13 +10,13 @@ use Rattle.bdd_core.specs.declared.node.NodeId.{NodeId}
 use Rattle.bdd_core.specs.Diagram.{function_of, functions_of}
 use Rattle.bdd_core.specs.Asked.{asked_of, IsAnswerOf}
 use Rattle.bdd_core.proofs.Asking.{SoFar, first, keeps_then}
-use Rattle.machine_roots.specs.Expansion.{held_count}
+use Rattle.machine_walk.specs.Expansion.{held_count}
 use Rattle.machine_roots.specs.Roots.{lists_of}
-use Rattle.machine_roots.specs.Walk.{AreMet}
+use Rattle.machine_walk.specs.Walk.{AreMet}
 use Rattle.machine_roots.specs.Asked.{HaveAsked}
 use Rattle.machine_roots.specs.Binding.{variable_lists, bound_lists, asked_by}
-use Rattle.machine_roots.proofs.Names.{length-vars}
-use Rattle.machine_roots.proofs.Stacks.{frame}
+use Rattle.machine_walk.proofs.Names.{length-vars}
+use Rattle.machine_walk.proofs.Stacks.{frame}
 use Rattle.machine_roots.proofs.Denoting.{length_bound}
 use Rattle.machine_roots.proofs.Sets.{counts_append, counts_constant}
 use Rattle.machine_roots.proofs.Rooted.{rooted, over_then, over_answer, asked_then, are_held, before_counted, held_counted, zero_counted, all_counted, order_few, order_within, root_answer}

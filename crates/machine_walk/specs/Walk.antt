@@ -1,9 +1,14 @@
--- The names that a walk through an expression's expansion meets.
+-- The names that a walk through an expression's expansion meets, and their order.
 use Rattle.std.specs.Prelude.{◌≡◌, ◌↔◌, ℕ, ◌+◌, ◌<◌, Bool, true, List, length, slice_get, Some}
 use Rattle.vlsi_base.specs.Member.{In}
 use Rattle.bool_expr.specs.Expression.{Expression, variables, bit}
+use Rattle.bool_expr.specs.Support.{first_meetings}
 use Rattle.machine_meaning.specs.Machine.{Machine, Equation}
-use Rattle.machine_roots.specs.Expansion.{held_count}
+use Rattle.machine_walk.specs.Expansion.{expansion, held_count}
+
+-- the inputs and registers of an expression's expansion, in the order in which a walk from left to right first meets them
+abbrev pub order_of : Machine → Expression → List ℕ
+order_of m e = first_meetings (variables (expansion m e))
 
 -- an expression reads the name with this number, or an inner signal that it reads has an equation from which the walk goes on
 pub data Meets (m : Machine) : Expression → ℕ → Type 0 where

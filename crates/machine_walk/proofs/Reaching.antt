@@ -10,9 +10,9 @@ use Rattle.bool_expr.specs.Support.{among, meetings_after}
 use Rattle.machine_meaning.specs.Machine.{Machine, Equation}
 use Rattle.machine_core.specs.Order.{EachReadsBelow, IsOrdered}
 use Rattle.machine_core.proofs.Values.{In-left, In-right, In-split}
-use Rattle.machine_roots.specs.Expansion.{with_variables, held_count}
-use Rattle.machine_roots.specs.Walk.{Meets, reads, through}
-use Rattle.machine_roots.proofs.Names.{over_in}
+use Rattle.machine_walk.specs.Expansion.{with_variables, held_count}
+use Rattle.machine_walk.specs.Walk.{Meets, reads, through}
+use Rattle.machine_walk.proofs.Names.{over_in}
 
 -- ---- what a name reaches
 

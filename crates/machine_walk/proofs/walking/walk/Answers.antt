@@ -6,10 +6,10 @@ use Rattle.bool_expr.proofs.Waiting.{walked_constant, walked_inverse, walked_pai
 use Rattle.machine_meaning.specs.declared.equation.Equation.{Equation as EquationParts}
 use Rattle.machine_meaning.specs.Machine.{Equation}
 use Rattle.machine_core.specs.View.{equation_view}
-use Rattle.machine_roots.specs.Expansion.{held_count}
-use Rattle.machine_roots.proofs.Reaching.{marked_set}
-use Rattle.machine_roots.proofs.Stacks.{walk_same, less_same, name_within, walk_met, walk_held, walk_inner, less_held, less_inner, frame, at_equation, bit_at, started, ended}
-use Rattle.machine_roots.proofs.walking.walk.Goals as goal
+use Rattle.machine_walk.specs.Expansion.{held_count}
+use Rattle.machine_walk.proofs.Reaching.{marked_set}
+use Rattle.machine_walk.proofs.Stacks.{walk_same, less_same, name_within, walk_met, walk_held, walk_inner, less_held, less_inner, frame, at_equation, bit_at, started, ended}
+use Rattle.machine_walk.proofs.walking.walk.Goals as goal
 
 pub loop-next-init : goal.loop-next-init
 loop-next-init c =

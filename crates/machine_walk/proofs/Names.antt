@@ -9,7 +9,7 @@ use Rattle.bool_expr.specs.Expression.{Expression, constant, variable, inverse, 
 use Rattle.machine_meaning.specs.Machine.{Machine, Equation}
 use Rattle.machine_core.specs.Order.{EachReadsBelow, held_names, equation_names, IsOrdered}
 use Rattle.machine_core.proofs.Values.{In-left, In-right, In-split}
-use Rattle.machine_roots.specs.Expansion.{with_variables, put_in, expanded, expansions, held_count}
+use Rattle.machine_walk.specs.Expansion.{with_variables, put_in, expanded, expansions, held_count}
 
 -- what an expression reads is below a number
 pub over_in : (e : Expression) (n k : ℕ) → IsOver e n → In k (variables e) → k < n

@@ -2,8 +2,7 @@
 ghost use Rattle.std.specs.Prelude.{◌≡◌, ◌<◌, ◌^◌, length, IfOk};
 ghost use Rattle.bool_expr.specs.Expression.{IsOver};
 ghost use Rattle.bool_expr.specs.View.{view};
-ghost use Rattle.machine_roots.specs.Roots.{order_of};
-ghost use Rattle.machine_roots.specs.Walk.{AreMet};
+ghost use Rattle.machine_walk.specs.Walk.{order_of, AreMet};
 
 use bool_expr::Expr;
 use machine_core::Machine;

@@ -12,12 +12,11 @@ use Rattle.machine_meaning.specs.declared.equation.Equation.{Equation as Equatio
 use Rattle.machine_core.specs.Order.{IsOrdered}
 use Rattle.machine_core.specs.View.{equation_view}
 use Rattle.vlsi_base.specs.Member.{here}
-use Rattle.machine_roots.specs.Expansion.{held_count}
-use Rattle.machine_roots.specs.Roots.{order_of}
-use Rattle.machine_roots.specs.Walk.{AreMet}
-use Rattle.machine_roots.proofs.Names.{length-vars}
-use Rattle.machine_roots.proofs.Reaching.{IsMarked}
-use Rattle.machine_roots.proofs.Turns.{IsWalking, start, finish, step_met, step_held, step_inner, pending, pending_same, pending_less}
+use Rattle.machine_walk.specs.Expansion.{held_count}
+use Rattle.machine_walk.specs.Walk.{order_of, AreMet}
+use Rattle.machine_walk.proofs.Names.{length-vars}
+use Rattle.machine_walk.proofs.Reaching.{IsMarked}
+use Rattle.machine_walk.proofs.Turns.{IsWalking, start, finish, step_met, step_held, step_inner, pending, pending_same, pending_less}
 
 -- what is still to be read stays the same
 pub walk_same : (m : Machine) (e : Expression) (met : List Bool) (order : List ℕ) (old new : List (Bor Expr)) → Walked old new

@@ -9,11 +9,10 @@ use Rattle.bool_expr.proofs.Waiting.{weight}
 use Rattle.machine_meaning.specs.Machine.{Machine, Equation}
 use Rattle.machine_core.specs.Order.{IsOrdered}
 use Rattle.machine_core.proofs.Values.{In-left, In-right, In-split}
-use Rattle.machine_roots.specs.Expansion.{put_in, expansions, held_count}
-use Rattle.machine_roots.specs.Roots.{order_of}
-use Rattle.machine_roots.specs.Walk.{Meets, through, AreMet}
-use Rattle.machine_roots.proofs.Names.{over_in, name_of, expansion_held, expansion_at, length-vars}
-use Rattle.machine_roots.proofs.Reaching.{Reach, only, also_in, reach_itself, meets_by, MetBy, meets_at, reach_held, reach_inner, equation_below, meets_below, From, Known, Ready, ready_sub, ready_append, ready_none, onto, In-onto, IsMarked, marked_cases, still_marked, same_or_not, reads_of, reads_of-append, variables-with, In-reads_split, ReadBy, meetings_skip, among_new, among_old}
+use Rattle.machine_walk.specs.Expansion.{put_in, expansions, held_count}
+use Rattle.machine_walk.specs.Walk.{order_of, Meets, through, AreMet}
+use Rattle.machine_walk.proofs.Names.{over_in, name_of, expansion_held, expansion_at, length-vars}
+use Rattle.machine_walk.proofs.Reaching.{Reach, only, also_in, reach_itself, meets_by, MetBy, meets_at, reach_held, reach_inner, equation_below, meets_below, From, Known, Ready, ready_sub, ready_append, ready_none, onto, In-onto, IsMarked, marked_cases, still_marked, same_or_not, reads_of, reads_of-append, variables-with, In-reads_split, ReadBy, meetings_skip, among_new, among_old}
 use Rattle.std.proofs.lemmas.List.{length-replicate}
 use Rattle.std.proofs.lemmas.Option.{slice_get-get_or}
 
