@@ -1,74 +1,145 @@
 -- The turns of a walk, on the stack of what is still to be walked through.
-use Rattle.std.proofs.Common.{◌≡◌, ℕ, zero, suc, ◌+◌, ◌-◌, ◌<◌, Bool, true, false, List, [], ◌∷◌, ◌++◌, Bor, length, map, replicate, slice_get, Some, sym, ap, subst, ◌∙◌, arith, append-nil}
+use Rattle.std.proofs.Common.{◌≡◌, ℕ, zero, suc, ◌+◌, ◌-◌, ◌<◌, Bool, true, false, List, [], ◌∷◌, ◌++◌, Bor, length, map, replicate, slice_get, slice_set, None, Some, refl, sym, ap, subst, ◌∙◌, arith, append-nil, append_assoc}
 use Rattle.std.specs.List.{slice_index_or}
-use Rattle.std.proofs.lemmas.List.{length-map, get_or_default}
+use Rattle.std.proofs.lemmas.List.{length-map, map-append, get_or_default}
 use Rattle.vlsi_base.specs.declared.name.Name.{Name}
+use Rattle.vlsi_base.specs.Member.{here}
 use Rattle.bool_expr.specs.declared.expr.Expr.{Expr}
-use Rattle.bool_expr.specs.Expression.{Expression, variable, variables, bit, IsOver}
+use Rattle.bool_expr.specs.Expression.{Expression, constant, variable, inverse, pair, choice, variables, bit, IsOver}
 use Rattle.bool_expr.specs.View.{view}
-use Rattle.bool_expr.proofs.Waiting.{weight, weight_of, weight_of_push, still_to_read, still_to_read_push, Walked, less_met}
+use Rattle.bool_expr.proofs.Waiting.{weight}
 use Rattle.machine_meaning.specs.Machine.{Machine, Equation}
 use Rattle.machine_meaning.specs.declared.equation.Equation.{Equation as EquationParts}
 use Rattle.machine_core.specs.Order.{IsOrdered}
 use Rattle.machine_core.specs.View.{equation_view}
-use Rattle.vlsi_base.specs.Member.{here}
+use Rattle.machine_walk.specs.declared.walking.WalkedNames.{WalkedNames}
 use Rattle.machine_walk.specs.Expansion.{held_count}
 use Rattle.machine_walk.specs.Walk.{order_of, AreMet}
+use Rattle.machine_walk.specs.Turn.{views, name_in, operands, IsMeeting, again, held, inner}
 use Rattle.machine_walk.proofs.Names.{length-vars}
-use Rattle.machine_walk.proofs.Reaching.{IsMarked}
+use Rattle.machine_walk.proofs.Reaching.{IsMarked, marked_set}
 use Rattle.machine_walk.proofs.Turns.{IsWalking, start, finish, step_met, step_held, step_inner, pending, pending_same, pending_less}
 
--- what is still to be read stays the same
-pub walk_same : (m : Machine) (e : Expression) (met : List Bool) (order : List ℕ) (old new : List (Bor Expr)) → Walked old new
-    → IsWalking m e met order (still_to_read old) → IsWalking m e met order (still_to_read new)
-walk_same m e met order old new w so_far = subst (λ (R : List ℕ). IsWalking m e met order R) (sym w.same) so_far
+-- the names that are still to be read, the next first
+abbrev pub to_read : List Expression → List ℕ
+to_read [] = []
+to_read (x ∷ xs) = to_read xs ++ variables x
 
-pub less_same : (met : List Bool) (b : ℕ) (es : List Equation) (old new : List (Bor Expr)) → weight_of new < weight_of old
-    → weight_of new + pending met b es < weight_of old + pending met b es
-less_same met b es old new less = omega (arith, less)
+-- how many operators and operands are still to be walked through
+abbrev pub weighing : List Expression → ℕ
+weighing [] = 0
+weighing (x ∷ xs) = weight x + weighing xs
 
--- a name is taken from the stack
-pub popped : (old new : List (Bor Expr)) (x : Bor Expr) (k : ℕ) → old ≡ new ++ x ∷ [] → view x.now ≡ variable k → still_to_read old ≡ k ∷ still_to_read new
-popped old new x k pop is = ap still_to_read pop ∙ still_to_read_push new x ∙ ap (λ (y : Expression). variables y ++ still_to_read new) is
+to_read-append : (xs ys : List Expression) → to_read (xs ++ ys) ≡ to_read ys ++ to_read xs
+to_read-append [] ys = sym (append-nil (to_read ys))
+to_read-append (x ∷ xs) ys = ap (λ (ks : List ℕ). ks ++ variables x) (to_read-append xs ys) ∙ append_assoc (to_read ys) (to_read xs) (variables x)
 
-module _ (m : Machine) (ordered : IsOrdered m) (e : Expression) (met : List Bool) (order : List ℕ) (old new : List (Bor Expr)) (x : Bor Expr) (k : ℕ)
-    (pop : old ≡ new ++ x ∷ []) (is : view x.now ≡ variable k) (so_far : IsWalking m e met order (still_to_read old)) where
-  with_name : IsWalking m e met order (k ∷ still_to_read new)
-  with_name = subst (λ (R : List ℕ). IsWalking m e met order R) (popped old new x k pop is) so_far
+weighing-append : (xs ys : List Expression) → weighing (xs ++ ys) ≡ weighing xs + weighing ys
+weighing-append [] ys = omega arith
+weighing-append (x ∷ xs) ys = omega (arith, weighing-append xs ys)
 
-  -- so it is a name of the machine
-  pub name_within : k < length m.vars
-  name_within = with_name.over k here
+operands_read : (x : Expression) → name_in x ≡ None → to_read (operands x) ≡ variables x
+operands_read (constant b) none = refl
+operands_read (variable k) none = absurd (cc none)
+operands_read (inverse e) none = refl
+operands_read (pair g a b) none = refl
+operands_read (choice c a b) none = append_assoc (variables c) (variables a) (variables b)
 
-  pub walk_met : bit met k ≡ true → IsWalking m e met order (still_to_read new)
-  walk_met marked = step_met m ordered e met order k (still_to_read new) with_name marked
+operands_weigh : (x : Expression) → weighing (operands x) < weight x
+operands_weigh (constant b) = omega arith
+operands_weigh (variable k) = omega arith
+operands_weigh (inverse e) = omega arith
+operands_weigh (pair g a b) = omega arith
+operands_weigh (choice c a b) = omega arith
 
-  pub walk_held : (met' : List Bool) (order' : List ℕ) → IsMarked met k met' → bit met k ≡ false → k < held_count m → order' ≡ order ++ k ∷ []
-      → IsWalking m e met' order' (still_to_read new)
-  walk_held met' order' marks unmarked low last =
-      subst (λ (xs : List ℕ). IsWalking m e met' xs (still_to_read new)) (sym last) (step_held m ordered e met met' order k (still_to_read new) with_name unmarked marks low)
+is_name : (x : Expression) (k : ℕ) → name_in x ≡ Some k → x ≡ variable k
+is_name (constant b) k named = absurd (cc named)
+is_name (variable j) k named = let same : j ≡ k = cc named in ap variable same
+is_name (inverse e) k named = absurd (cc named)
+is_name (pair g a b) k named = absurd (cc named)
+is_name (choice c a b) k named = absurd (cc named)
 
-  pub walk_inner : (met' : List Bool) (n : ℕ) (q : Equation) (a : Bor Expr) (after : List (Bor Expr)) → IsMarked met k met' → bit met k ≡ false → k ≡ held_count m + n
-      → slice_get m.equations n ≡ Some q → view a.now ≡ q.expr → after ≡ new ++ a ∷ [] → IsWalking m e met' order (still_to_read after)
-  walk_inner met' n q a after marks unmarked number at says push =
-      subst (λ (R : List ℕ). IsWalking m e met' order R)
-      (sym (ap still_to_read push ∙ still_to_read_push new a ∙ ap (λ (y : Expression). variables y ++ still_to_read new) says))
-      (step_inner m ordered e met met' order k (still_to_read new) with_name unmarked marks n q number at)
+pub views_push : (waiting : List (Bor Expr)) (x : Bor Expr) → views (waiting ++ x ∷ []) ≡ views waiting ++ view x.now ∷ []
+views_push waiting x = map-append (λ (e : Bor Expr). view e.now) waiting (x ∷ [])
 
--- the measure falls: at an input or register, and at an equation
-pub less_held : (met met' : List Bool) (b k : ℕ) (es : List Equation) (old new : List (Bor Expr)) (x : Bor Expr) → old ≡ new ++ x ∷ [] → IsMarked met k met' → k < b
-    → weight_of new + pending met' b es < weight_of old + pending met b es
-less_held met met' b k es old new x pop marks low =
-    let less = less_met old new x pop in
-    let same : pending met' b es ≡ pending met b es = pending_same met met' b es (λ j h. marks.others j (λ p. omega (arith, p, h, low))) in
-    omega (arith, less, same)
+pub put_behind : (waiting after : List (Bor Expr)) (x : Bor Expr) (e : Expression) → view x.now ≡ e → after ≡ waiting ++ x ∷ [] → views after ≡ views waiting ++ e ∷ []
+put_behind waiting after x e is push = ap views push ∙ views_push waiting x ∙ ap (λ (y : Expression). views waiting ++ y ∷ []) is
 
-pub less_inner : (met met' : List Bool) (b k n : ℕ) (q : Equation) (es : List Equation) (old new after : List (Bor Expr)) (x a : Bor Expr) → old ≡ new ++ x ∷ []
-    → view x.now ≡ variable k → IsMarked met k met' → bit met k ≡ false → k ≡ b + n → slice_get es n ≡ Some q → view a.now ≡ q.expr → after ≡ new ++ a ∷ []
-    → weight_of after + pending met' b es < weight_of old + pending met b es
-less_inner met met' b k n q es old new after x a pop is marks unmarked number at says push =
-    let less = pending_less es met met' b n q (subst (λ (i : ℕ). IsMarked met i met') number marks) (subst (λ (i : ℕ). bit met i ≡ false) number unmarked) at in
-    omega (arith, less, ap weight_of pop, weight_of_push new x, ap weight is, ap weight_of push, weight_of_push new a, ap weight says)
+-- the next expression is taken from the stack, and its operands go there
+module _ (old rest : List (Bor Expr)) (x : Bor Expr) (now : List Expression) (pop : old ≡ rest ++ x ∷ []) (put : now ≡ views rest ++ operands (view x.now)) where
+  popped_read : to_read (views old) ≡ variables (view x.now) ++ to_read (views rest)
+  popped_read = ap (λ (w : List (Bor Expr)). to_read (views w)) pop ∙ ap to_read (views_push rest x) ∙ to_read-append (views rest) (view x.now ∷ [])
+
+  popped_weight : weighing (views old) ≡ weighing (views rest) + weight (view x.now)
+  popped_weight =
+      let one = ap (λ (w : List (Bor Expr)). weighing (views w)) pop ∙ ap weighing (views_push rest x) in
+      omega (arith, one, weighing-append (views rest) (view x.now ∷ []))
+
+  -- so the same is to be read, where it is no name
+  pub walk_opened : (m : Machine) (e : Expression) (met : List Bool) (order : List ℕ) → name_in (view x.now) ≡ None → IsWalking m e met order (to_read (views old))
+      → IsWalking m e met order (to_read now)
+  walk_opened m e met order none so_far =
+      subst (λ (R : List ℕ). IsWalking m e met order R)
+      (popped_read ∙ ap (λ (ks : List ℕ). ks ++ to_read (views rest)) (sym (operands_read (view x.now) none)) ∙ sym (to_read-append (views rest) (operands (view x.now))) ∙ ap to_read (sym put)) so_far
+
+  lighter : weighing now < weighing (views old)
+  lighter = omega (arith, popped_weight, ap weighing put, weighing-append (views rest) (operands (view x.now)), operands_weigh (view x.now))
+
+  pub less_opened : (b : ℕ) → weighing now + b < weighing (views old) + b
+  less_opened b = omega (arith, lighter)
+
+  module _ (m : Machine) (e : Expression) (k : ℕ) (before : WalkedNames) (named : name_in (view x.now) ≡ Some k)
+      (so_far : IsWalking m e before.met.items before.order.items (to_read (views old))) where
+    is : view x.now ≡ variable k
+    is = is_name (view x.now) k named
+
+    alone : now ≡ views rest
+    alone = put ∙ ap (λ (y : Expression). views rest ++ operands y) is ∙ append-nil (views rest)
+
+    with_name : IsWalking m e before.met.items before.order.items (k ∷ to_read now)
+    with_name =
+        subst (λ (R : List ℕ). IsWalking m e before.met.items before.order.items R)
+        (popped_read ∙ ap (λ (y : Expression). variables y ++ to_read (views rest)) is ∙ ap (λ (xs : List Expression). k ∷ to_read xs) (sym alone)) so_far
+
+    -- it is a name of the machine
+    pub name_within : k < length m.vars
+    name_within = with_name.over k here
+
+    marked_now : (after : WalkedNames) → after.met.items ≡ slice_set before.met.items k true → IsMarked before.met.items k after.met.items
+    marked_now after marks =
+        subst (λ (w : List Bool). IsMarked before.met.items k w) (sym marks) (marked_set before.met.items k (omega (arith, name_within, so_far.each)))
+
+    module _ (ordered : IsOrdered m) (after : WalkedNames) (then : List Expression) where
+      pub walk_meeting : IsMeeting m k before after now then → IsWalking m e after.met.items after.order.items (to_read then)
+      walk_meeting (again old_mark same stays) =
+          subst (λ (R : List ℕ). IsWalking m e after.met.items after.order.items R) (ap to_read (sym stays))
+          (subst (λ (w : WalkedNames). IsWalking m e w.met.items w.order.items (to_read now)) (sym same)
+          (step_met m ordered e before.met.items before.order.items k (to_read now) with_name old_mark))
+      walk_meeting (held unmarked low marks last stays) =
+          subst (λ (R : List ℕ). IsWalking m e after.met.items after.order.items R) (ap to_read (sym stays))
+          (subst (λ (xs : List ℕ). IsWalking m e after.met.items xs (to_read now)) (sym last)
+          (step_held m ordered e before.met.items after.met.items before.order.items k (to_read now) with_name unmarked (marked_now after marks) low))
+      walk_meeting (inner n q number at unmarked marks same more) =
+          subst (λ (R : List ℕ). IsWalking m e after.met.items after.order.items R) (sym (to_read-append now (q.expr ∷ [])) ∙ ap to_read (sym more))
+          (subst (λ (xs : List ℕ). IsWalking m e after.met.items xs (variables q.expr ++ to_read now)) (sym same)
+          (step_inner m ordered e before.met.items after.met.items before.order.items k (to_read now) with_name unmarked (marked_now after marks) n q number at))
+
+      -- the measure falls: an equation weighs as much as it did while it wasn't met
+      pub less_meeting : IsMeeting m k before after now then
+          → weighing then + pending after.met.items (held_count m) m.equations < weighing (views old) + pending before.met.items (held_count m) m.equations
+      less_meeting (again old_mark same stays) =
+          let kept : pending after.met.items (held_count m) m.equations ≡ pending before.met.items (held_count m) m.equations =
+          ap (λ (w : WalkedNames). pending w.met.items (held_count m) m.equations) same in
+          omega (arith, lighter, kept, ap weighing stays)
+      less_meeting (held unmarked low marks last stays) =
+          let mark = marked_now after marks in
+          let kept : pending after.met.items (held_count m) m.equations ≡ pending before.met.items (held_count m) m.equations =
+          pending_same before.met.items after.met.items (held_count m) m.equations (λ j h. mark.others j (λ p. omega (arith, p, h, low))) in
+          omega (arith, lighter, kept, ap weighing stays)
+      less_meeting (inner n q number at unmarked marks same more) =
+          let less = pending_less m.equations before.met.items after.met.items (held_count m) n q
+          (subst (λ (i : ℕ). IsMarked before.met.items i after.met.items) number (marked_now after marks)) (subst (λ (i : ℕ). bit before.met.items i ≡ false) number unmarked) at in
+          omega (arith, lighter, less, ap weighing more, weighing-append now (q.expr ∷ []))
 
 -- ---- where a machine's parts stand
 
@@ -89,15 +160,17 @@ bit_at met k b within is = sym (get_or_default met k b false within) ∙ sym is
 
 -- the first turn, and the end
 pub started : (m : Machine) → IsOrdered m → (e : Expression) (n : ℕ) (met : List Bool) (order : List ℕ) (none after : List (Bor Expr)) (a : Bor Expr) → met ≡ replicate n false
-    → n ≡ length m.vars → order ≡ [] → none ≡ [] → after ≡ none ++ a ∷ [] → view a.now ≡ e → IsOver e (length m.vars) → IsWalking m e met order (still_to_read after)
+    → n ≡ length m.vars → order ≡ [] → none ≡ [] → after ≡ none ++ a ∷ [] → view a.now ≡ e → IsOver e (length m.vars) → IsWalking m e met order (to_read (views after))
 started m ordered e n met order none after a marks long empty nothing push is over =
-    let stack : still_to_read after ≡ variables e =
-    ap still_to_read push ∙ still_to_read_push none a ∙ ap (λ (s : List (Bor Expr)). variables (view a.now) ++ still_to_read s) nothing
+    let stack : to_read (views after) ≡ variables e =
+    ap (λ (w : List (Bor Expr)). to_read (views w)) push ∙ ap to_read (views_push none a) ∙ to_read-append (views none) (view a.now ∷ [])
+    ∙ ap (λ (w : List (Bor Expr)). variables (view a.now) ++ to_read (views w)) nothing
     ∙ append-nil (variables (view a.now)) ∙ ap (λ (y : Expression). variables y) is in
     subst (λ (R : List ℕ). IsWalking m e met order R) (sym stack)
     (subst (λ (xs : List ℕ). IsWalking m e met xs (variables e)) (sym empty)
     (subst (λ (w : List Bool). IsWalking m e w [] (variables e)) (sym marks) (start m ordered e n long over)))
 
 pub ended : (m : Machine) → IsOrdered m → (e : Expression) (met : List Bool) (order : List ℕ) (waiting : List (Bor Expr)) → waiting ≡ []
-    → IsWalking m e met order (still_to_read waiting) → (order ≡ order_of m e) × AreMet m e met
-ended m ordered e met order waiting empty so_far = finish m ordered e met order (subst (λ (s : List (Bor Expr)). IsWalking m e met order (still_to_read s)) empty so_far)
+    → IsWalking m e met order (to_read (views waiting)) → (order ≡ order_of m e) × AreMet m e met
+ended m ordered e met order waiting empty so_far =
+    finish m ordered e met order (subst (λ (s : List (Bor Expr)). IsWalking m e met order (to_read (views s))) empty so_far)

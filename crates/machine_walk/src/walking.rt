@@ -1,8 +1,9 @@
 // A walk through an expression's expansion, without the expansion.
-ghost use Rattle.std.specs.Prelude.{◌≡◌, ◌<◌, ◌^◌, length, IfOk};
+ghost use Rattle.std.specs.Prelude.{◌≡◌, ◌<◌, ◌^◌, ◌++◌, length, IfOk, OnOk};
 ghost use Rattle.bool_expr.specs.Expression.{IsOver};
 ghost use Rattle.bool_expr.specs.View.{view};
 ghost use Rattle.machine_walk.specs.Walk.{order_of, AreMet};
+ghost use Rattle.machine_walk.specs.Turn.{views, name_in, operands, IsMeeting};
 
 use bool_expr::Expr;
 use machine_core::Machine;
@@ -17,6 +18,55 @@ pub struct WalkedNames {
     pub met: Vec<bool>,
 }
 
+// Puts the operands of an operator behind those that wait, the first at the end. The name comes back that the expression is, if it
+// is one.
+fn open<'a>(next: &'a Expr, waiting: &mut Vec<&'a Expr>) -> Result<Option<u32>, AllocError>
+    ensures name { IfOk result (λ r. r ≡ name_in (view next.now)) }
+    ensures operands { OnOk result (views waiting.new.items ≡ views waiting.old.items ++ operands (view next.now)) }
+{
+    match next {
+        Expr::Const(_) => {}
+        Expr::Var(name) => return Ok(Some(*name)),
+        Expr::Not(inner) => waiting.push(inner)?,
+        Expr::Pair(_, left, right) => {
+            waiting.push(right)?;
+            waiting.push(left)?;
+        }
+        Expr::Choice(condition, first, second) => {
+            waiting.push(second)?;
+            waiting.push(first)?;
+            waiting.push(condition)?;
+        }
+    }
+    Ok(None)
+}
+
+// Marks a name that wasn't met, and puts an input or register behind the order, and an inner signal's equation behind what waits.
+fn meet<'a>(
+    m: &'a Machine,
+    name: u32,
+    walked: &mut WalkedNames,
+    waiting: &mut Vec<&'a Expr>,
+) -> Result<(), AllocError>
+    requires known { name < length m.now.vars }
+    requires marks { length walked.old.met.items ≡ length m.now.vars }
+    ensures meeting { OnOk result (IsMeeting m.now name walked.old walked.new (views waiting.old.items) (views waiting.new.items)) }
+{
+    let place = name as usize;
+    if walked.met[place] {
+        return Ok(());
+    }
+    walked.met[place] = true;
+    let equations = m.equations().as_slice();
+    let held = m.vars().as_slice().len() - equations.len();
+    if place < held {
+        walked.order.push(name)?;
+    } else {
+        waiting.push(&equations[place - held].expr)?;
+    }
+    Ok(())
+}
+
 /// Walks through the expansion of an expression over a machine's names, from left to right. Each equation is walked through once,
 /// where its name is first met: a second time it holds nothing new. Takes memory for a mark a name, and for what is still to be
 /// walked.
@@ -26,40 +76,18 @@ pub fn walk(alloc: Global, m: &Machine, e: &Expr) -> Result<WalkedNames, AllocEr
     ensures order { IfOk result (λ r. r.order.items ≡ order_of m.now (view e.now)) }
     ensures met { IfOk result (λ r. AreMet m.now (view e.now) r.met.items) }
 {
-    let equations = m.equations().as_slice();
-    let total = m.vars().as_slice().len();
-    let held = total - equations.len();
-    let mut order = Vec::new(alloc);
-    let mut met = vec![in alloc; false; total]?;
+    let met = vec![in alloc; false; m.vars().as_slice().len()]?;
+    let mut walked = WalkedNames {
+        order: Vec::new(alloc),
+        met,
+    };
     // What is still to be walked through, the next at the end.
     let mut waiting = Vec::new(alloc);
     waiting.push(e)?;
     while let Some(next) = waiting.pop() {
-        match next {
-            Expr::Const(_) => {}
-            Expr::Var(k) => {
-                let place = *k as usize;
-                if met[place] {
-                    continue;
-                }
-                met[place] = true;
-                if place < held {
-                    order.push(*k)?;
-                } else {
-                    waiting.push(&equations[place - held].expr)?;
-                }
-            }
-            Expr::Not(inner) => waiting.push(inner)?,
-            Expr::Pair(_, left, right) => {
-                waiting.push(right)?;
-                waiting.push(left)?;
-            }
-            Expr::Choice(condition, first, second) => {
-                waiting.push(second)?;
-                waiting.push(first)?;
-                waiting.push(condition)?;
-            }
+        if let Some(name) = open(next, &mut waiting)? {
+            meet(m, name, &mut walked, &mut waiting)?;
         }
     }
-    Ok(WalkedNames { order, met })
+    Ok(walked)
 }
