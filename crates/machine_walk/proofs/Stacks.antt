@@ -1,21 +1,21 @@
 -- The turns of a walk, on the stack of what is still to be walked through.
-use Rattle.std.proofs.Common.{◌≡◌, ℕ, zero, suc, ◌+◌, ◌-◌, ◌<◌, Bool, true, false, List, [], ◌∷◌, ◌++◌, Bor, length, map, replicate, slice_get, slice_set, None, Some, refl, sym, ap, subst, ◌∙◌, arith, append-nil, append_assoc}
+use Rattle.std.proofs.Common.{◌≡◌, ℕ, zero, suc, ◌+◌, ◌-◌, ◌<◌, Bool, true, false, List, [], ◌∷◌, ◌++◌, Bor, length, map, replicate, slice_get, slice_set, Some, refl, sym, ap, subst, ◌∙◌, arith, append-nil, append_assoc}
 use Rattle.std.specs.List.{slice_index_or}
 use Rattle.std.proofs.lemmas.List.{length-map, map-append, get_or_default}
 use Rattle.vlsi_base.specs.declared.name.Name.{Name}
 use Rattle.vlsi_base.specs.Member.{here}
-use Rattle.bool_expr.specs.declared.expr.Expr.{Expr}
+use Rattle.bool_expr.specs.declared.expr.Expr.{Expr, Const, Var, Not', Pair', Choice'}
 use Rattle.bool_expr.specs.Expression.{Expression, constant, variable, inverse, pair, choice, variables, bit, IsOver}
 use Rattle.bool_expr.specs.View.{view}
 use Rattle.bool_expr.proofs.Waiting.{weight}
-use Rattle.machine_meaning.specs.Machine.{Machine, Equation}
+use Rattle.machine_meaning.specs.Machine.{Machine}
 use Rattle.machine_meaning.specs.declared.equation.Equation.{Equation as EquationParts}
 use Rattle.machine_core.specs.Order.{IsOrdered}
 use Rattle.machine_core.specs.View.{equation_view}
 use Rattle.machine_walk.specs.declared.walking.WalkedNames.{WalkedNames}
 use Rattle.machine_walk.specs.Expansion.{held_count}
 use Rattle.machine_walk.specs.Walk.{order_of, AreMet}
-use Rattle.machine_walk.specs.Turn.{views, name_in, operands, IsMeeting, again, held, inner}
+use Rattle.machine_walk.specs.Turn.{views, operands, IsMeeting, again, held, inner}
 use Rattle.machine_walk.proofs.Names.{length-vars}
 use Rattle.machine_walk.proofs.Reaching.{IsMarked, marked_set}
 use Rattle.machine_walk.proofs.Turns.{IsWalking, start, finish, step_met, step_held, step_inner, pending, pending_same, pending_less}
@@ -38,12 +38,12 @@ weighing-append : (xs ys : List Expression) → weighing (xs ++ ys) ≡ weighing
 weighing-append [] ys = omega arith
 weighing-append (x ∷ xs) ys = omega (arith, weighing-append xs ys)
 
-operands_read : (x : Expression) → name_in x ≡ None → to_read (operands x) ≡ variables x
-operands_read (constant b) none = refl
-operands_read (variable k) none = absurd (cc none)
-operands_read (inverse e) none = refl
-operands_read (pair g a b) none = refl
-operands_read (choice c a b) none = append_assoc (variables c) (variables a) (variables b)
+operands_read : (x : Expr) → ((k : ℕ) → x ≡ Var k → ⊥) → to_read (operands (view x)) ≡ variables (view x)
+operands_read (Const b) other = refl
+operands_read (Var k) other = absurd (other k refl)
+operands_read (Not' p e) other = refl
+operands_read (Pair' g p a q b) other = refl
+operands_read (Choice' p c q a r b) other = append_assoc (variables (view c)) (variables (view a)) (variables (view b))
 
 operands_weigh : (x : Expression) → weighing (operands x) < weight x
 operands_weigh (constant b) = omega arith
@@ -52,21 +52,14 @@ operands_weigh (inverse e) = omega arith
 operands_weigh (pair g a b) = omega arith
 operands_weigh (choice c a b) = omega arith
 
-is_name : (x : Expression) (k : ℕ) → name_in x ≡ Some k → x ≡ variable k
-is_name (constant b) k named = absurd (cc named)
-is_name (variable j) k named = let same : j ≡ k = cc named in ap variable same
-is_name (inverse e) k named = absurd (cc named)
-is_name (pair g a b) k named = absurd (cc named)
-is_name (choice c a b) k named = absurd (cc named)
-
 pub views_push : (waiting : List (Bor Expr)) (x : Bor Expr) → views (waiting ++ x ∷ []) ≡ views waiting ++ view x.now ∷ []
 views_push waiting x = map-append (λ (e : Bor Expr). view e.now) waiting (x ∷ [])
 
 pub put_behind : (waiting after : List (Bor Expr)) (x : Bor Expr) (e : Expression) → view x.now ≡ e → after ≡ waiting ++ x ∷ [] → views after ≡ views waiting ++ e ∷ []
 put_behind waiting after x e is push = ap views push ∙ views_push waiting x ∙ ap (λ (y : Expression). views waiting ++ y ∷ []) is
 
--- the next expression is taken from the stack, and its operands go there
-module _ (old rest : List (Bor Expr)) (x : Bor Expr) (now : List Expression) (pop : old ≡ rest ++ x ∷ []) (put : now ≡ views rest ++ operands (view x.now)) where
+-- the next expression is taken from the stack
+module _ (old rest : List (Bor Expr)) (x : Bor Expr) (pop : old ≡ rest ++ x ∷ []) where
   popped_read : to_read (views old) ≡ variables (view x.now) ++ to_read (views rest)
   popped_read = ap (λ (w : List (Bor Expr)). to_read (views w)) pop ∙ ap to_read (views_push rest x) ∙ to_read-append (views rest) (view x.now ∷ [])
 
@@ -75,71 +68,70 @@ module _ (old rest : List (Bor Expr)) (x : Bor Expr) (now : List Expression) (po
       let one = ap (λ (w : List (Bor Expr)). weighing (views w)) pop ∙ ap weighing (views_push rest x) in
       omega (arith, one, weighing-append (views rest) (view x.now ∷ []))
 
-  -- so the same is to be read, where it is no name
-  pub walk_opened : (m : Machine) (e : Expression) (met : List Bool) (order : List ℕ) → name_in (view x.now) ≡ None → IsWalking m e met order (to_read (views old))
-      → IsWalking m e met order (to_read now)
-  walk_opened m e met order none so_far =
-      subst (λ (R : List ℕ). IsWalking m e met order R)
-      (popped_read ∙ ap (λ (ks : List ℕ). ks ++ to_read (views rest)) (sym (operands_read (view x.now) none)) ∙ sym (to_read-append (views rest) (operands (view x.now))) ∙ ap to_read (sym put)) so_far
+  -- and its operands go there: the same is to be read, where it is no name
+  module _ (now : List Expression) (put : now ≡ views rest ++ operands (view x.now)) where
+    pub walk_opened : (m : Machine) (e : Expression) (met : List Bool) (order : List ℕ) → ((k : ℕ) → x.now ≡ Var k → ⊥) → IsWalking m e met order (to_read (views old))
+        → IsWalking m e met order (to_read now)
+    walk_opened m e met order other so_far =
+        subst (λ (R : List ℕ). IsWalking m e met order R)
+        (popped_read ∙ ap (λ (ks : List ℕ). ks ++ to_read (views rest)) (sym (operands_read x.now other)) ∙ sym (to_read-append (views rest) (operands (view x.now))) ∙ ap to_read (sym put)) so_far
 
-  lighter : weighing now < weighing (views old)
-  lighter = omega (arith, popped_weight, ap weighing put, weighing-append (views rest) (operands (view x.now)), operands_weigh (view x.now))
+    pub less_opened : (b : ℕ) → weighing now + b < weighing (views old) + b
+    less_opened b = omega (arith, popped_weight, ap weighing put, weighing-append (views rest) (operands (view x.now)), operands_weigh (view x.now))
 
-  pub less_opened : (b : ℕ) → weighing now + b < weighing (views old) + b
-  less_opened b = omega (arith, lighter)
+  -- or it is a name
+  module _ (m : Machine) (e : Expression) (k : ℕ) (before : WalkedNames) (is : x.now ≡ Var k) where
+    is_name : view x.now ≡ variable k
+    is_name = ap view is
 
-  module _ (m : Machine) (e : Expression) (k : ℕ) (before : WalkedNames) (named : name_in (view x.now) ≡ Some k)
-      (so_far : IsWalking m e before.met.items before.order.items (to_read (views old))) where
-    is : view x.now ≡ variable k
-    is = is_name (view x.now) k named
+    lighter : weighing (views rest) < weighing (views old)
+    lighter = omega (arith, popped_weight, ap weight is_name)
 
-    alone : now ≡ views rest
-    alone = put ∙ ap (λ (y : Expression). views rest ++ operands y) is ∙ append-nil (views rest)
+    module _ (so_far : IsWalking m e before.met.items before.order.items (to_read (views old))) where
+      with_name : IsWalking m e before.met.items before.order.items (k ∷ to_read (views rest))
+      with_name =
+          subst (λ (R : List ℕ). IsWalking m e before.met.items before.order.items R)
+          (popped_read ∙ ap (λ (y : Expression). variables y ++ to_read (views rest)) is_name) so_far
 
-    with_name : IsWalking m e before.met.items before.order.items (k ∷ to_read now)
-    with_name =
-        subst (λ (R : List ℕ). IsWalking m e before.met.items before.order.items R)
-        (popped_read ∙ ap (λ (y : Expression). variables y ++ to_read (views rest)) is ∙ ap (λ (xs : List Expression). k ∷ to_read xs) (sym alone)) so_far
+      -- of the machine
+      pub name_within : k < length m.vars
+      name_within = with_name.over k here
 
-    -- it is a name of the machine
-    pub name_within : k < length m.vars
-    name_within = with_name.over k here
+      marked_now : (after : WalkedNames) → after.met.items ≡ slice_set before.met.items k true → IsMarked before.met.items k after.met.items
+      marked_now after marks =
+          subst (λ (w : List Bool). IsMarked before.met.items k w) (sym marks) (marked_set before.met.items k (omega (arith, name_within, so_far.each)))
 
-    marked_now : (after : WalkedNames) → after.met.items ≡ slice_set before.met.items k true → IsMarked before.met.items k after.met.items
-    marked_now after marks =
-        subst (λ (w : List Bool). IsMarked before.met.items k w) (sym marks) (marked_set before.met.items k (omega (arith, name_within, so_far.each)))
+      module _ (ordered : IsOrdered m) (after : WalkedNames) (then : List Expression) where
+        pub walk_meeting : IsMeeting m k before after (views rest) then → IsWalking m e after.met.items after.order.items (to_read then)
+        walk_meeting (again old_mark same stays) =
+            subst (λ (R : List ℕ). IsWalking m e after.met.items after.order.items R) (ap to_read (sym stays))
+            (subst (λ (w : WalkedNames). IsWalking m e w.met.items w.order.items (to_read (views rest))) (sym same)
+            (step_met m ordered e before.met.items before.order.items k (to_read (views rest)) with_name old_mark))
+        walk_meeting (held unmarked low marks last stays) =
+            subst (λ (R : List ℕ). IsWalking m e after.met.items after.order.items R) (ap to_read (sym stays))
+            (subst (λ (xs : List ℕ). IsWalking m e after.met.items xs (to_read (views rest))) (sym last)
+            (step_held m ordered e before.met.items after.met.items before.order.items k (to_read (views rest)) with_name unmarked (marked_now after marks) low))
+        walk_meeting (inner n q number at unmarked marks same more) =
+            subst (λ (R : List ℕ). IsWalking m e after.met.items after.order.items R) (sym (to_read-append (views rest) (q.expr ∷ [])) ∙ ap to_read (sym more))
+            (subst (λ (xs : List ℕ). IsWalking m e after.met.items xs (variables q.expr ++ to_read (views rest))) (sym same)
+            (step_inner m ordered e before.met.items after.met.items before.order.items k (to_read (views rest)) with_name unmarked (marked_now after marks) n q number at))
 
-    module _ (ordered : IsOrdered m) (after : WalkedNames) (then : List Expression) where
-      pub walk_meeting : IsMeeting m k before after now then → IsWalking m e after.met.items after.order.items (to_read then)
-      walk_meeting (again old_mark same stays) =
-          subst (λ (R : List ℕ). IsWalking m e after.met.items after.order.items R) (ap to_read (sym stays))
-          (subst (λ (w : WalkedNames). IsWalking m e w.met.items w.order.items (to_read now)) (sym same)
-          (step_met m ordered e before.met.items before.order.items k (to_read now) with_name old_mark))
-      walk_meeting (held unmarked low marks last stays) =
-          subst (λ (R : List ℕ). IsWalking m e after.met.items after.order.items R) (ap to_read (sym stays))
-          (subst (λ (xs : List ℕ). IsWalking m e after.met.items xs (to_read now)) (sym last)
-          (step_held m ordered e before.met.items after.met.items before.order.items k (to_read now) with_name unmarked (marked_now after marks) low))
-      walk_meeting (inner n q number at unmarked marks same more) =
-          subst (λ (R : List ℕ). IsWalking m e after.met.items after.order.items R) (sym (to_read-append now (q.expr ∷ [])) ∙ ap to_read (sym more))
-          (subst (λ (xs : List ℕ). IsWalking m e after.met.items xs (variables q.expr ++ to_read now)) (sym same)
-          (step_inner m ordered e before.met.items after.met.items before.order.items k (to_read now) with_name unmarked (marked_now after marks) n q number at))
-
-      -- the measure falls: an equation weighs as much as it did while it wasn't met
-      pub less_meeting : IsMeeting m k before after now then
-          → weighing then + pending after.met.items (held_count m) m.equations < weighing (views old) + pending before.met.items (held_count m) m.equations
-      less_meeting (again old_mark same stays) =
-          let kept : pending after.met.items (held_count m) m.equations ≡ pending before.met.items (held_count m) m.equations =
-          ap (λ (w : WalkedNames). pending w.met.items (held_count m) m.equations) same in
-          omega (arith, lighter, kept, ap weighing stays)
-      less_meeting (held unmarked low marks last stays) =
-          let mark = marked_now after marks in
-          let kept : pending after.met.items (held_count m) m.equations ≡ pending before.met.items (held_count m) m.equations =
-          pending_same before.met.items after.met.items (held_count m) m.equations (λ j h. mark.others j (λ p. omega (arith, p, h, low))) in
-          omega (arith, lighter, kept, ap weighing stays)
-      less_meeting (inner n q number at unmarked marks same more) =
-          let less = pending_less m.equations before.met.items after.met.items (held_count m) n q
-          (subst (λ (i : ℕ). IsMarked before.met.items i after.met.items) number (marked_now after marks)) (subst (λ (i : ℕ). bit before.met.items i ≡ false) number unmarked) at in
-          omega (arith, lighter, less, ap weighing more, weighing-append now (q.expr ∷ []))
+        -- the measure falls: an equation weighs as much as it did while it wasn't met
+        pub less_meeting : IsMeeting m k before after (views rest) then
+            → weighing then + pending after.met.items (held_count m) m.equations < weighing (views old) + pending before.met.items (held_count m) m.equations
+        less_meeting (again old_mark same stays) =
+            let kept : pending after.met.items (held_count m) m.equations ≡ pending before.met.items (held_count m) m.equations =
+            ap (λ (w : WalkedNames). pending w.met.items (held_count m) m.equations) same in
+            omega (arith, lighter, kept, ap weighing stays)
+        less_meeting (held unmarked low marks last stays) =
+            let mark = marked_now after marks in
+            let kept : pending after.met.items (held_count m) m.equations ≡ pending before.met.items (held_count m) m.equations =
+            pending_same before.met.items after.met.items (held_count m) m.equations (λ j h. mark.others j (λ p. omega (arith, p, h, low))) in
+            omega (arith, lighter, kept, ap weighing stays)
+        less_meeting (inner n q number at unmarked marks same more) =
+            let less = pending_less m.equations before.met.items after.met.items (held_count m) n q
+            (subst (λ (i : ℕ). IsMarked before.met.items i after.met.items) number (marked_now after marks)) (subst (λ (i : ℕ). bit before.met.items i ≡ false) number unmarked) at in
+            omega (arith, lighter, less, ap weighing more, weighing-append (views rest) (q.expr ∷ []))
 
 -- ---- where a machine's parts stand
 

@@ -1,5 +1,5 @@
 -- One turn of a walk: what an expression leaves to be walked through, and what a name does.
-use Rattle.std.specs.Prelude.{◌≡◌, ℕ, ◌+◌, ◌<◌, true, false, List, [], ◌∷◌, ◌++◌, map, slice_get, slice_set, Option, None, Some}
+use Rattle.std.specs.Prelude.{◌≡◌, ℕ, ◌+◌, ◌<◌, true, false, List, [], ◌∷◌, ◌++◌, map, slice_get, slice_set, Some}
 use Rattle.std.specs.Borrow.{Bor}
 use Rattle.bool_expr.specs.declared.expr.Expr.{Expr}
 use Rattle.bool_expr.specs.Expression.{Expression, constant, variable, inverse, pair, choice, bit}
@@ -11,14 +11,6 @@ use Rattle.machine_walk.specs.Expansion.{held_count}
 -- the expressions that are still to be walked through, the next at the end
 abbrev pub views : List (Bor Expr) → List Expression
 views waiting = map (λ e. view e.now) waiting
-
--- the name that an expression is, where it is one
-abbrev pub name_in : Expression → Option ℕ
-name_in (constant b) = None
-name_in (variable k) = Some k
-name_in (inverse e) = None
-name_in (pair g a b) = None
-name_in (choice c a b) = None
 
 -- the operands of an operator, the last first
 abbrev pub operands : Expression → List Expression

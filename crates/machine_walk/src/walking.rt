@@ -3,7 +3,7 @@ ghost use Rattle.std.specs.Prelude.{◌≡◌, ◌<◌, ◌^◌, ◌++◌, lengt
 ghost use Rattle.bool_expr.specs.Expression.{IsOver};
 ghost use Rattle.bool_expr.specs.View.{view};
 ghost use Rattle.machine_walk.specs.Walk.{order_of, AreMet};
-ghost use Rattle.machine_walk.specs.Turn.{views, name_in, operands, IsMeeting};
+ghost use Rattle.machine_walk.specs.Turn.{views, operands, IsMeeting};
 
 use bool_expr::Expr;
 use machine_core::Machine;
@@ -18,27 +18,19 @@ pub struct WalkedNames {
     pub met: Vec<bool>,
 }
 
-// Puts the operands of an operator behind those that wait, the first at the end. The name comes back that the expression is, if it
-// is one.
-fn open<'a>(next: &'a Expr, waiting: &mut Vec<&'a Expr>) -> Result<Option<u32>, AllocError>
-    ensures name { IfOk result (λ r. r ≡ name_in (view next.now)) }
-    ensures operands { OnOk result (views waiting.new.items ≡ views waiting.old.items ++ operands (view next.now)) }
+// Puts the operands of an operator behind those that wait, the first at the end.
+fn open<'a>(operator: &'a Expr, waiting: &mut Vec<&'a Expr>) -> Result<(), AllocError>
+    ensures operands { OnOk result (views waiting.new.items ≡ views waiting.old.items ++ operands (view operator.now)) }
 {
-    match next {
-        Expr::Const(_) => {}
-        Expr::Var(name) => return Ok(Some(*name)),
-        Expr::Not(inner) => waiting.push(inner)?,
-        Expr::Pair(_, left, right) => {
-            waiting.push(right)?;
-            waiting.push(left)?;
-        }
-        Expr::Choice(condition, first, second) => {
-            waiting.push(second)?;
-            waiting.push(first)?;
-            waiting.push(condition)?;
-        }
+    match operator {
+        Expr::Const(_) => Ok(()),
+        Expr::Var(_) => Ok(()),
+        Expr::Not(inner) => waiting.extend_from_slice(&[inner]),
+        Expr::Pair(_, left, right) => waiting.extend_from_slice(&[right, left]),
+        Expr::Choice(condition, first, second) => waiting.extend_from_slice(&[
+            second, first, condition,
+        ]),
     }
-    Ok(None)
 }
 
 // Marks a name that wasn't met, and puts an input or register behind the order, and an inner signal's equation behind what waits.
@@ -85,8 +77,10 @@ pub fn walk(alloc: Global, m: &Machine, e: &Expr) -> Result<WalkedNames, AllocEr
     let mut waiting = Vec::new(alloc);
     waiting.push(e)?;
     while let Some(next) = waiting.pop() {
-        if let Some(name) = open(next, &mut waiting)? {
-            meet(m, name, &mut walked, &mut waiting)?;
+        if let Expr::Var(name) = next {
+            meet(m, *name, &mut walked, &mut waiting)?;
+        } else {
+            open(next, &mut waiting)?;
         }
     }
     Ok(walked)
