@@ -26,7 +26,7 @@ use Rattle.machine_roots.proofs.Sets.{counts_members, counts_append, counts_cons
 use Rattle.proof_cmp.specs.declared.naming.Role.TheVariants.{Input, Clock, Register}
 use Rattle.proof_cmp.specs.Naming.{HaveSameNames}
 use Rattle.proof_cmp.specs.Together.{joint_order, joint_lists}
-use Rattle.proof_cmp.specs.Joint.{shared_lists, root_list, root_lists}
+use Rattle.machine_roots.specs.Shared.{shared_lists, root_list, root_lists}
 use Rattle.proof_cmp.proofs.Ordered.{lists_over, variables_out, root_denotes, variable_inside, root_counted, equations_counted, lists_counted}
 
 -- ---- machines that have the same names
