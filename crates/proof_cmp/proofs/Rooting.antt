@@ -1,25 +1,21 @@
 -- One root after another in shared diagrams, and what is known of both in the end.
-use Rattle.std.proofs.Common.{◌≡◌, ℕ, zero, suc, Bool, false, List, [], ◌∷◌, ◌++◌, length, replicate, None, Result, Ok, Err, refl, sym, ap, subst, ◌∙◌, arith, append_assoc}
-use Rattle.std.proofs.lemmas.List.Elements.{Contains-append_right}
-use Rattle.bool_expr.specs.Expression.{Expression, constant as steady, IsOver as IsWithin}
+use Rattle.std.proofs.Common.{◌≡◌, ℕ, Bool, List, ◌++◌, length, Ok, Err, sym, ap, subst, ◌∙◌}
+use Rattle.bool_expr.specs.Expression.{Expression, IsOver as IsWithin}
 use Rattle.bdd_core.specs.declared.node.NodeId.{NodeId}
 use Rattle.bdd_core.specs.declared.node.BddError.{BddError}
 use Rattle.bdd_core.specs.declared.node.BddError.TheVariants.{Budget}
-use Rattle.bdd_core.specs.Truths.{Truths, constant, IsOver}
-use Rattle.bdd_core.specs.Nodes.{raised}
+use Rattle.bdd_core.specs.Truths.{Truths, IsOver}
 use Rattle.bdd_core.specs.Counting.{Holds}
-use Rattle.bdd_core.specs.Diagram.{Diagram, IsNode, function_of, functions_of, IsAsked, IsAnswer}
-use Rattle.bdd_core.specs.Asked.{asked_of, IsAnswerOf}
-use Rattle.bdd_core.proofs.Asking.{SoFar, same_functions, over_sub}
-use Rattle.machine_meaning.specs.Machine.{Machine, Equation}
+use Rattle.bdd_core.specs.Diagram.{Diagram, IsNode, function_of, functions_of, IsAsked}
+use Rattle.bdd_core.proofs.Asking.{same_functions}
+use Rattle.machine_meaning.specs.Machine.{Machine}
 use Rattle.machine_core.specs.Order.{IsOrdered}
 use Rattle.machine_walk.specs.Expansion.{held_count, expansion}
 use Rattle.machine_roots.specs.Roots.{list_by}
 use Rattle.machine_walk.specs.Walk.{AreMet}
 use Rattle.machine_roots.specs.Asked.{HaveAsked}
-use Rattle.machine_roots.specs.Binding.{AreNodes, variable_lists, put_variables, held_lists, bound_lists, asked_by}
-use Rattle.machine_roots.proofs.Members.{CountsIn, over_in}
-use Rattle.machine_roots.proofs.Sets.{counts_constant}
+use Rattle.machine_roots.specs.Binding.{held_lists}
+use Rattle.machine_roots.proofs.Members.{over_in}
 use Rattle.machine_roots.specs.declared.sharing.SharedDiagrams.{SharedDiagrams}
 use Rattle.proof_cmp.specs.Naming.{HaveSameNames}
 use Rattle.proof_cmp.specs.Together.{joint_order, joint_lists}

@@ -1,19 +1,15 @@
 -- The diagram of two expansions.
-use Rattle.std.specs.Prelude.{◌≡◌, ℕ, ◌<◌, ◌^◌, Bool, false, List, [], ◌∷◌, ◌++◌, length, None}
+use Rattle.std.specs.Prelude.{◌≡◌, ℕ, ◌<◌, ◌^◌, List, length}
 use Rattle.bool_expr.specs.Expression.{Expression, IsOver as IsWithin}
 use Rattle.bool_expr.specs.View.{view}
-use Rattle.bdd_core.specs.Truths.{Truths, constant, IsOver}
-use Rattle.bdd_core.specs.Nodes.{raised}
-use Rattle.bdd_core.specs.Counting.{Holds}
-use Rattle.bdd_core.specs.Diagram.{IsNode, function_of, functions_of}
-use Rattle.bdd_core.specs.Asked.{denoted, asked_of}
-use Rattle.machine_meaning.specs.Machine.{Machine, Equation}
+use Rattle.bdd_core.specs.Truths.{IsOver}
+use Rattle.bdd_core.specs.Diagram.{IsNode, function_of}
+use Rattle.machine_meaning.specs.Machine.{Machine}
 use Rattle.machine_core.specs.Checked.{IsChecked}
 use Rattle.machine_walk.specs.declared.walking.WalkedNames.{WalkedNames}
 use Rattle.machine_walk.specs.Expansion.{expansion}
 use Rattle.machine_roots.specs.Roots.{list_by}
 use Rattle.machine_walk.specs.Walk.{order_of, AreMet}
-use Rattle.machine_roots.specs.Binding.{AreNodes, variable_lists, held_lists, bound_lists, asked_by}
 use Rattle.proof_cmp.specs.declared.joint.JointDiagram.{JointDiagram}
 use Rattle.machine_roots.specs.declared.sharing.Cone.{Cone}
 use Rattle.proof_cmp.specs.Naming.{HaveSameNames}
