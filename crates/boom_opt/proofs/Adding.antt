@@ -10,7 +10,7 @@ use Rattle.bool_expr.specs.Expression.{Expression}
 use Rattle.bool_expr.specs.View.{view}
 use Rattle.machine_meaning.specs.Machine.{Machine, Equation}
 use Rattle.machine_core.specs.Order.{EachReadsBelow}
-use Rattle.machine_roots.specs.Expansion.{held_count}
+use Rattle.machine_walk.specs.Expansion.{held_count}
 use Rattle.machine_roots.specs.Listing.{root_view}
 use Rattle.machine_roots.specs.declared.listing.RootExpr.{RootExpr}
 use Rattle.boom_opt.specs.declared.muxes.Stop.TheVariants.{Large}

@@ -14,7 +14,7 @@ use Rattle.machine_meaning.specs.Named.{value_at, values_at}
 use Rattle.machine_core.specs.Order.{held_names, equation_names, EachReadsBelow, IsOrdered}
 use Rattle.machine_core.specs.Built.{built}
 use Rattle.machine_core.proofs.Values.{bit-value_at}
-use Rattle.machine_roots.specs.Expansion.{held_count}
+use Rattle.machine_walk.specs.Expansion.{held_count}
 use Rattle.machine_roots.specs.Roots.{Root, register_roots}
 use Rattle.boom_opt.specs.declared.literal.Literal.{Literal}
 use Rattle.boom_opt.specs.declared.literal.Literal.TheVariants.{Constant, Name as AName}

@@ -5,7 +5,7 @@ use Rattle.std.specs.List.{All, AllZip, slice_index_or}
 use Rattle.machine_meaning.specs.Machine.{Machine, Register, outputs}
 use Rattle.machine_meaning.specs.Size.{machine_size}
 use Rattle.machine_core.specs.Checked.{IsChecked}
-use Rattle.machine_roots.specs.Expansion.{held_count}
+use Rattle.machine_walk.specs.Expansion.{held_count}
 use Rattle.machine_roots.specs.Roots.{Root, roots, register_roots, expression_of, IsGreatestDcount}
 use Rattle.boom_opt.specs.declared.literal.Literal.{Literal}
 use Rattle.boom_opt.specs.declared.literal.Literal.TheVariants.{Constant}

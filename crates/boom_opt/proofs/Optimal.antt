@@ -20,7 +20,7 @@ use Rattle.machine_core.proofs.Solve.{settles_once_known}
 use Rattle.machine_core.proofs.Built.{built_settles}
 use Rattle.machine_core.proofs.Values.{In-right}
 use Rattle.machine_alike.specs.Alike.{IsAlike}
-use Rattle.machine_roots.specs.Expansion.{held_count}
+use Rattle.machine_walk.specs.Expansion.{held_count}
 use Rattle.machine_roots.specs.Roots.{Root, roots, register_roots, expression_of, IsDag}
 use Rattle.boom_opt.specs.declared.literal.Literal.{Literal}
 use Rattle.boom_opt.specs.declared.literal.Literal.TheVariants.{Constant, Name as AName}

@@ -12,7 +12,7 @@ use Rattle.machine_meaning.specs.Machine.{Machine, Equation, Register, names_of}
 use Rattle.machine_core.specs.Order.{held_names, equation_names, EachReadsBelow}
 use Rattle.machine_core.specs.Checked.{IsChecked}
 use Rattle.machine_core.specs.View.{equation_view, register_view, machine_of}
-use Rattle.machine_roots.specs.Expansion.{held_count}
+use Rattle.machine_walk.specs.Expansion.{held_count}
 use Rattle.boom_opt.specs.declared.mux.Mux.{Mux}
 use Rattle.boom_opt.specs.declared.plan.Plan.{Plan}
 use Rattle.boom_opt.specs.Names.{IsFreshText}

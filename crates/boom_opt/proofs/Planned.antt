@@ -12,8 +12,9 @@ use Rattle.machine_meaning.specs.Machine.{Machine, Equation}
 use Rattle.machine_core.specs.Order.{EachReadsBelow}
 use Rattle.machine_core.specs.Built.{built}
 use Rattle.machine_roots.specs.declared.diagram.RootDiagram.{RootDiagram}
-use Rattle.machine_roots.specs.Expansion.{expansion, held_count, in_order}
-use Rattle.machine_roots.specs.Roots.{order_of, list_of}
+use Rattle.machine_walk.specs.Expansion.{expansion, held_count, in_order}
+use Rattle.machine_roots.specs.Roots.{list_of}
+use Rattle.machine_walk.specs.Walk.{order_of}
 use Rattle.machine_roots.specs.Asked.{IsRootDiagram}
 use Rattle.machine_roots.proofs.Expanding.{value_of_expansion, val-in_order, first_meetings-all}
 use Rattle.boom_opt.specs.declared.literal.Literal.{Literal}

@@ -8,7 +8,7 @@ use Rattle.bool_expr.specs.View.{view}
 use Rattle.machine_meaning.specs.Machine.{Machine, outputs}
 use Rattle.machine_core.specs.Order.{EachReadsBelow}
 use Rattle.machine_core.specs.Built.{built}
-use Rattle.machine_roots.specs.Expansion.{held_count}
+use Rattle.machine_walk.specs.Expansion.{held_count}
 use Rattle.machine_roots.specs.Roots.{Root, IsGreatest}
 use Rattle.machine_roots.specs.Listing.{root_view}
 use Rattle.machine_roots.specs.declared.listing.RootExpr.{RootExpr}

@@ -13,7 +13,7 @@ use Rattle.machine_meaning.specs.Machine.{Machine, Equation, Register, outputs}
 use Rattle.machine_core.specs.Order.{held_names, equation_names, EachReadsBelow}
 use Rattle.machine_core.specs.Checked.{IsChecked}
 use Rattle.machine_core.proofs.Values.{In-split}
-use Rattle.machine_roots.specs.Expansion.{held_count}
+use Rattle.machine_walk.specs.Expansion.{held_count}
 use Rattle.machine_roots.specs.Roots.{Root, roots, register_roots, expression_of, IsOverBudget}
 use Rattle.machine_roots.specs.Listing.{root_view, IsPlaced, AreRoots}
 use Rattle.machine_roots.specs.declared.listing.RootExpr.{RootExpr}

@@ -14,7 +14,7 @@ use Rattle.machine_meaning.specs.Machine.{Machine, Equation, Register, names_of,
 use Rattle.machine_core.specs.Order.{held_names, equation_names, EachReadsBelow, IsOrdered}
 use Rattle.machine_core.specs.Checked.{IsNoSupply, IsClockOf, IsChecked, AreInOrder}
 use Rattle.machine_core.proofs.Values.{In-split, In-left, In-right}
-use Rattle.machine_roots.specs.Expansion.{held_count}
+use Rattle.machine_walk.specs.Expansion.{held_count}
 use Rattle.boom_opt.specs.declared.literal.Literal.{Literal}
 use Rattle.boom_opt.specs.declared.literal.Literal.TheVariants.{Constant, Name as AName}
 use Rattle.boom_opt.specs.declared.mux.Mux.{Mux}

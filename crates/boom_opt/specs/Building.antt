@@ -7,7 +7,7 @@ use Rattle.bool_expr.specs.Renumbering.{renumbered}
 use Rattle.machine_meaning.specs.Machine.{Machine, Equation, Register, names_of}
 use Rattle.machine_core.specs.Order.{held_names, equation_names}
 use Rattle.machine_core.specs.Checked.{IsChecked}
-use Rattle.machine_roots.specs.Expansion.{held_count}
+use Rattle.machine_walk.specs.Expansion.{held_count}
 use Rattle.boom_opt.specs.declared.literal.Literal.{Literal}
 use Rattle.boom_opt.specs.declared.literal.Literal.TheVariants.{Constant}
 use Rattle.boom_opt.specs.declared.mux.Mux.{Mux}

@@ -10,7 +10,7 @@ use Rattle.machine_meaning.specs.Machine.{Machine, Equation, Register, outputs, 
 use Rattle.machine_meaning.specs.Size.{machine_size}
 use Rattle.machine_core.specs.Order.{held_names, equation_names}
 use Rattle.machine_alike.specs.Alike.{IsAlike}
-use Rattle.machine_roots.specs.Expansion.{with_variables, held_count}
+use Rattle.machine_walk.specs.Expansion.{with_variables, held_count}
 use Rattle.machine_roots.specs.Roots.{IsDag, roots, IsFirstOver}
 use Rattle.boom_opt.specs.declared.error.BoomError.{BoomError}
 use Rattle.boom_opt.specs.declared.error.BoomError.TheVariants as error

@@ -3,7 +3,7 @@ use Rattle.std.specs.Prelude.{◌≡◌, ℕ, ◌+◌, ◌<◌, Bool, List, [], 
 use Rattle.bool_expr.specs.Expression.{Expression, variable, bit}
 use Rattle.machine_meaning.specs.Machine.{Machine, Equation}
 use Rattle.machine_core.specs.Built.{built}
-use Rattle.machine_roots.specs.Expansion.{held_count}
+use Rattle.machine_walk.specs.Expansion.{held_count}
 use Rattle.machine_roots.specs.declared.listing.RootExpr.{RootExpr}
 use Rattle.bool_expr.specs.View.{view}
 use Rattle.boom_opt.specs.declared.literal.Literal.{Literal}

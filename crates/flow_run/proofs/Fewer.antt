@@ -11,7 +11,7 @@ use Rattle.machine_meaning.specs.Machine.{Machine, Equation, Register, outputs}
 use Rattle.machine_meaning.specs.Size.{machine_size}
 use Rattle.machine_alike.specs.Alike.{IsAlike}
 use Rattle.machine_alike.proofs.Runs.{outputs_same, registers_same}
-use Rattle.machine_roots.specs.Expansion.{with_variables, held_count}
+use Rattle.machine_walk.specs.Expansion.{with_variables, held_count}
 use Rattle.boom_opt.specs.Optimised.{is_output, inner_size, behind_new, IsGivenOrSmaller, IsOptimised}
 use Rattle.net_meaning.specs.Netlist.{Netlist}
 use Rattle.cell_model.specs.Library.{Library}

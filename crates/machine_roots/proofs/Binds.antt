@@ -20,7 +20,7 @@ use Rattle.machine_meaning.specs.Machine.{Equation}
 use Rattle.machine_core.specs.View.{equation_view}
 use Rattle.machine_roots.specs.Asked.{HaveAsked}
 use Rattle.machine_roots.specs.Binding.{AreNodes, variable_list, variable_lists, put_variables, next_list, bound_lists, asked_by}
-use Rattle.machine_roots.proofs.Reaching.{same_or_not}
+use Rattle.machine_walk.proofs.Reaching.{same_or_not}
 
 abbrev good : NodeId → Result NodeId BddError
 good a = Ok a

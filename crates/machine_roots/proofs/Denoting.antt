@@ -18,14 +18,14 @@ use Rattle.bdd_core.specs.Nodes.{raised, place}
 use Rattle.bdd_core.specs.Diagram.{gate_of, choice_of}
 use Rattle.bdd_core.specs.Asked.{denoted, asked_of}
 use Rattle.bdd_core.proofs.Meaning.{denoted_is}
-use Rattle.machine_roots.specs.Expansion.{with_variables, put_in, expansions, held_count, expansion, place_among, in_order}
-use Rattle.machine_roots.specs.Roots.{order_of, list_by}
-use Rattle.machine_roots.specs.Walk.{Meets, reads, through}
+use Rattle.machine_walk.specs.Expansion.{with_variables, put_in, expansions, held_count, expansion, place_among, in_order}
+use Rattle.machine_roots.specs.Roots.{list_by}
+use Rattle.machine_walk.specs.Walk.{order_of, Meets, reads, through}
 use Rattle.machine_roots.specs.Binding.{variable_list, put_variables, next_list, bound_lists, asked_by}
 use Rattle.machine_roots.proofs.Expanding.{val-with_variables, first_meetings-all}
-use Rattle.machine_roots.proofs.Names.{over_in, name_of, expansion_held, expansion_at}
-use Rattle.machine_roots.proofs.Reaching.{Reach, also_in, meets_by, variables-with, In-reads, In-reads_split, ReadBy, among_new}
-use Rattle.machine_roots.proofs.Turns.{expansion_reach}
+use Rattle.machine_walk.proofs.Names.{over_in, name_of, expansion_held, expansion_at}
+use Rattle.machine_walk.proofs.Reaching.{Reach, also_in, meets_by, variables-with, In-reads, In-reads_split, ReadBy, among_new}
+use Rattle.machine_walk.proofs.Turns.{expansion_reach}
 
 -- ---- the order has each name once
 

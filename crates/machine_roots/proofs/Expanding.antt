@@ -10,8 +10,8 @@ use Rattle.bool_expr.specs.Support.{among, meetings_after, first_meetings}
 use Rattle.machine_meaning.specs.Machine.{Machine, Equation}
 use Rattle.machine_core.specs.Built.{built}
 use Rattle.machine_core.proofs.Values.{In-left, In-right}
-use Rattle.machine_roots.proofs.Reaching.{also_in}
-use Rattle.machine_roots.specs.Expansion.{with_variables, put_in, expanded, expansions, held_count, expansion, place_among, in_order}
+use Rattle.machine_walk.proofs.Reaching.{also_in}
+use Rattle.machine_walk.specs.Expansion.{with_variables, put_in, expanded, expansions, held_count, expansion, place_among, in_order}
 
 -- an expression with others in place of its variables has its value where these have the values of the variables
 pub val-with_variables : (f : ℕ → Expression) (e : Expression) (w v : List Bool) → ((k : ℕ) → In k (variables e) → val (f k) w ≡ bit v k)

@@ -3,7 +3,7 @@ use Rattle.std.proofs.Common.{◌≡◌, ◌⊎◌, inl, inr, ℕ, zero, suc, �
 use Rattle.std.proofs.lemmas.Bool.{cases_lt}
 use Rattle.vlsi_base.specs.Range.{rising}
 use Rattle.vlsi_base.specs.Member.{In, here, there, AllDifferent}
-use Rattle.machine_roots.proofs.Names.{length-rising}
+use Rattle.machine_walk.proofs.Names.{length-rising}
 
 record Cut (x : ℕ) (ys : List ℕ) : Type 0 where
   rest : List ℕ

@@ -1,13 +1,10 @@
 pub mod Expanding
 pub mod Members
-pub mod Names
-pub mod Reaching
-pub mod Turns
-pub mod Stacks
 pub mod Binds
 pub mod Outputs
 pub mod Denoting
 pub mod Sets
+pub mod Rooting
 pub mod Rooted
 pub mod Few
 pub mod Loaded

@@ -8,7 +8,7 @@ use Rattle.bdd_core.specs.Nodes.{raised, Lists}
 use Rattle.bdd_core.specs.Counting.{Holds}
 use Rattle.bdd_core.specs.Asked.{denoted, asked_of}
 use Rattle.bdd_core.proofs.Raised.{part-raised}
-use Rattle.machine_roots.specs.Expansion.{with_variables, subexpressions}
+use Rattle.machine_walk.specs.Expansion.{with_variables, subexpressions}
 
 -- ---- subexpressions
 

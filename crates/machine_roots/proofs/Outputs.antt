@@ -27,7 +27,7 @@ use Rattle.machine_core.proofs.Values.{In-right}
 use Rattle.machine_roots.specs.declared.listing.RootExpr.{RootExpr}
 use Rattle.machine_roots.specs.Roots.{Root, expression_of}
 use Rattle.machine_roots.specs.Listing.{root_view, IsPlaced, AreOutputRoots}
-use Rattle.machine_roots.proofs.Reaching.{also_in}
+use Rattle.machine_walk.proofs.Reaching.{also_in}
 
 -- ---- a name has its place in an index
 

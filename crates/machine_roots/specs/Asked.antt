@@ -10,8 +10,9 @@ use Rattle.bdd_core.specs.Counting.{Holds}
 use Rattle.bdd_core.specs.Diagram.{Diagram, IsNode, function_of, Keeps}
 use Rattle.machine_meaning.specs.Machine.{Machine}
 use Rattle.machine_roots.specs.declared.diagram.RootDiagram.{RootDiagram}
-use Rattle.machine_roots.specs.Expansion.{held_count}
-use Rattle.machine_roots.specs.Roots.{order_of, list_of, lists_of}
+use Rattle.machine_walk.specs.Expansion.{held_count}
+use Rattle.machine_roots.specs.Roots.{list_of, lists_of}
+use Rattle.machine_walk.specs.Walk.{order_of}
 
 -- several questions that were answered, or the first refusal among them
 pub record HaveAsked {A : Type 0} (old new : Diagram) (asked : List Truths) (result : Result A BddError) : Type 0 where

@@ -1,6 +1,5 @@
-pub mod Expansion
 pub mod Roots
-pub mod Walk
 pub mod Asked
 pub mod Binding
+pub mod Shared
 pub mod Listing

@@ -4,12 +4,12 @@
 use Rattle.std.specs.Prelude.{◌≡◌, ℕ, ◌≤◌, false, List, [], ◌∷◌, ◌++◌, map, length, if◌then◌else◌}
 use Rattle.std.specs.List.{All, AllZip, Contains}
 use Rattle.vlsi_base.specs.declared.name.Name.{Name}
-use Rattle.bool_expr.specs.Expression.{Expression, constant, val, variables}
-use Rattle.bool_expr.specs.Support.{first_meetings}
+use Rattle.bool_expr.specs.Expression.{Expression, constant, val}
 use Rattle.bdd_core.specs.Truths.{Truths, truths, IsCountOf, IsOver}
 use Rattle.machine_meaning.specs.Named.{is_same_name}
 use Rattle.machine_meaning.specs.Machine.{Machine, Equation, Register, outputs}
-use Rattle.machine_roots.specs.Expansion.{expansion, subexpressions, in_order}
+use Rattle.machine_walk.specs.Expansion.{expansion, subexpressions, in_order}
+use Rattle.machine_walk.specs.Walk.{order_of}
 
 -- an expression over a machine's names that its outputs show or its registers load, with the output's or the register's name
 pub record Root : Type 0 where
@@ -30,10 +30,6 @@ register_roots (r ∷ rest) =
 -- the outputs in the order of names, then next and enable of each register in the order of names
 abbrev pub roots : Machine → List Root
 roots m = map (λ name. record { name = name; expr = expression_of m.equations name }) (outputs m) ++ register_roots m.registers
-
--- the inputs and registers of an expression's expansion, in the order in which a walk from left to right first meets them
-abbrev pub order_of : Machine → Expression → List ℕ
-order_of m e = first_meetings (variables (expansion m e))
 
 -- the truth list of an expression over inputs and registers, in an order of these
 abbrev pub list_by : List ℕ → Expression → Truths

@@ -6,8 +6,8 @@
 
 mod diagram;
 mod listing;
-mod walking;
+mod sharing;
 
 pub use diagram::{RootDiagram, root_diagram};
 pub use listing::{RootExpr, roots};
-pub use walking::{WalkedNames, walk};
+pub use sharing::{Cone, SharedDiagrams, root_node, share};

@@ -20,7 +20,7 @@ use Rattle.machine_core.proofs.Names.{same_name-true, same_name-itself}
 use Rattle.machine_core.proofs.Known.{known}
 use Rattle.machine_core.proofs.Solve.{settles_once_known}
 use Rattle.machine_core.proofs.Built.{built_settles}
-use Rattle.machine_roots.specs.Expansion.{held_count, expansion}
+use Rattle.machine_walk.specs.Expansion.{held_count, expansion}
 use Rattle.machine_roots.specs.Roots.{Root, roots, register_roots, expression_of}
 use Rattle.machine_roots.proofs.Expanding.{value_of_expansion}
 use Rattle.proof_cmp.specs.declared.naming.Role.TheVariants.{Input, Output, Register as Stored}

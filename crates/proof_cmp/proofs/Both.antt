@@ -12,18 +12,19 @@ use Rattle.bdd_core.specs.Nodes.{raised}
 use Rattle.bdd_core.specs.Diagram.{Diagram, IsNode, function_of, Keeps}
 use Rattle.bdd_core.proofs.Asking.{bound_kept}
 use Rattle.machine_core.specs.Order.{EachReadsBelow}
-use Rattle.machine_roots.specs.declared.walking.WalkedNames.{WalkedNames}
-use Rattle.machine_roots.specs.Expansion.{held_count}
+use Rattle.machine_walk.specs.declared.walking.WalkedNames.{WalkedNames}
+use Rattle.machine_walk.specs.Expansion.{held_count}
 use Rattle.machine_roots.specs.Binding.{AreNodes}
-use Rattle.machine_roots.proofs.Names.{length-vars}
+use Rattle.machine_walk.proofs.Names.{length-vars}
 use Rattle.machine_roots.proofs.Denoting.{length_put}
 use Rattle.machine_roots.proofs.Members.{over_in}
 use Rattle.machine_roots.proofs.Rooted.{order_within}
-use Rattle.proof_cmp.specs.declared.joint.Cone.{Cone}
-use Rattle.proof_cmp.specs.declared.joint.SharedDiagrams.{SharedDiagrams}
+use Rattle.machine_roots.specs.declared.sharing.Cone.{Cone}
+use Rattle.machine_roots.specs.declared.sharing.SharedDiagrams.{SharedDiagrams}
 use Rattle.proof_cmp.specs.Naming.{HaveSameNames}
 use Rattle.proof_cmp.specs.Together.{joint_lists}
-use Rattle.proof_cmp.specs.Joint.{shared_lists, AreShared, IsWalked, cones_order, AreOver}
+use Rattle.machine_roots.specs.Shared.{shared_lists, AreShared}
+use Rattle.proof_cmp.specs.Joint.{IsWalked, cones_order, AreOver}
 use Rattle.proof_cmp.proofs.Joining.{same_count, joined_is, joint_few, joint_within, shared_counted}
 
 pub bound_long : (order : List ℕ) (held most : ℕ) (s : SharedDiagrams) → AreShared order held most s → length s.bound.items ≡ held

@@ -17,11 +17,12 @@ use Rattle.machine_meaning.specs.Machine.{Machine, Equation, Register, outputs}
 use Rattle.machine_core.specs.Order.{EachReadsBelow, held_names}
 use Rattle.machine_core.specs.Checked.{IsChecked}
 use Rattle.machine_core.proofs.Values.{In-split}
-use Rattle.machine_roots.specs.Expansion.{held_count, expansion, in_order, place_among}
-use Rattle.machine_roots.specs.Roots.{Root, roots, register_roots, expression_of, order_of}
+use Rattle.machine_walk.specs.Expansion.{held_count, expansion, in_order, place_among}
+use Rattle.machine_roots.specs.Roots.{Root, roots, register_roots, expression_of}
+use Rattle.machine_walk.specs.Walk.{order_of}
 use Rattle.machine_roots.specs.Listing.{root_view, AreRoots}
 use Rattle.machine_roots.specs.declared.listing.RootExpr.{RootExpr}
-use Rattle.machine_roots.proofs.Names.{length-vars}
+use Rattle.machine_walk.proofs.Names.{length-vars}
 use Rattle.machine_roots.proofs.Expanding.{val-with_variables, val-in_order, first_meetings-all}
 use Rattle.proof_cmp.specs.declared.verdict.ProveError.{ProveError}
 use Rattle.proof_cmp.specs.declared.verdict.ProveError.TheVariants as error

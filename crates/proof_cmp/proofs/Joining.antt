@@ -14,19 +14,19 @@ use Rattle.machine_core.proofs.Values.{In-left, In-right, In-split}
 use Rattle.bdd_core.specs.Truths.{Truths, constant}
 use Rattle.bdd_core.specs.Nodes.{raised, place}
 use Rattle.bdd_core.specs.Asked.{asked_of}
-use Rattle.machine_roots.specs.Expansion.{held_count, expansion, subexpressions, place_among}
-use Rattle.machine_roots.specs.Roots.{order_of, list_by}
-use Rattle.machine_roots.specs.Walk.{AreMet}
+use Rattle.machine_walk.specs.Expansion.{held_count, expansion, subexpressions, place_among}
+use Rattle.machine_roots.specs.Roots.{list_by}
+use Rattle.machine_walk.specs.Walk.{order_of, AreMet}
 use Rattle.machine_roots.specs.Binding.{variable_list, variable_lists, held_lists, bound_lists, asked_by}
 use Rattle.machine_roots.proofs.Members.{CountsIn}
-use Rattle.machine_roots.proofs.Names.{length-vars}
+use Rattle.machine_walk.proofs.Names.{length-vars}
 use Rattle.machine_roots.proofs.Few.{few_below}
 use Rattle.machine_roots.proofs.Denoting.{order_different, place_again, in_order_of, order_in, length_put, put_at}
 use Rattle.machine_roots.proofs.Sets.{counts_members, counts_append, counts_constant, IsVariable}
 use Rattle.proof_cmp.specs.declared.naming.Role.TheVariants.{Input, Clock, Register}
 use Rattle.proof_cmp.specs.Naming.{HaveSameNames}
 use Rattle.proof_cmp.specs.Together.{joint_order, joint_lists}
-use Rattle.proof_cmp.specs.Joint.{shared_lists, root_list, root_lists}
+use Rattle.machine_roots.specs.Shared.{shared_lists, root_list, root_lists}
 use Rattle.proof_cmp.proofs.Ordered.{lists_over, variables_out, root_denotes, variable_inside, root_counted, equations_counted, lists_counted}
 
 -- ---- machines that have the same names

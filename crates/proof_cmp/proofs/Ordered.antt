@@ -13,13 +13,13 @@ use Rattle.machine_core.proofs.Values.{In-left, In-right, In-split, In-map}
 use Rattle.bdd_core.specs.Truths.{Truths}
 use Rattle.bdd_core.specs.Nodes.{place}
 use Rattle.bdd_core.specs.Asked.{denoted, asked_of}
-use Rattle.machine_roots.specs.Expansion.{put_in, expansions, held_count, expansion, place_among, subexpressions}
-use Rattle.machine_roots.specs.Roots.{order_of, list_by}
-use Rattle.machine_roots.specs.Walk.{Meets, reads, through, AreMet}
+use Rattle.machine_walk.specs.Expansion.{put_in, expansions, held_count, expansion, place_among, subexpressions}
+use Rattle.machine_roots.specs.Roots.{list_by}
+use Rattle.machine_walk.specs.Walk.{order_of, Meets, reads, through, AreMet}
 use Rattle.machine_roots.specs.Binding.{variable_list, variable_lists, bound_lists, asked_by}
 use Rattle.machine_roots.proofs.Members.{sub_own, sub_of, FromEither, own, inside, sub_split, asked_each, CountsIn}
-use Rattle.machine_roots.proofs.Names.{over_in, name_of, length-expansions, expansion_held, expansion_at, length-vars}
-use Rattle.machine_roots.proofs.Reaching.{only_in, equation_below}
+use Rattle.machine_walk.proofs.Names.{over_in, name_of, length-expansions, expansion_held, expansion_at, length-vars}
+use Rattle.machine_walk.proofs.Reaching.{only_in, equation_below}
 use Rattle.machine_roots.proofs.Denoting.{place_within, meets_then, in_order_of, order_in, bound_kept, bound_at, AskedBy, asked_by_out, asked_by_in, denoted_put}
 use Rattle.machine_roots.proofs.Sets.{counts_members, IsVariable, DenotedBy, MapBack}
 

@@ -14,8 +14,8 @@ use Rattle.machine_core.specs.Order.{held_names}
 use Rattle.machine_core.specs.Checked.{IsChecked, AreInOrder}
 use Rattle.machine_core.proofs.Names.{same_name-itself, same_name-false, same_name-true}
 use Rattle.machine_core.proofs.Values.{In-left, In-right, In-split}
-use Rattle.machine_roots.specs.Expansion.{place_among, held_count}
-use Rattle.machine_roots.proofs.Reaching.{also_in}
+use Rattle.machine_walk.specs.Expansion.{place_among, held_count}
+use Rattle.machine_walk.proofs.Reaching.{also_in}
 use Rattle.machine_roots.proofs.Denoting.{place_within, place_again}
 use Rattle.proof_cmp.specs.Together.{given_names}
 use Rattle.proof_cmp.specs.Bits.{AreSpread}

@@ -5,7 +5,7 @@ use Rattle.bool_expr.specs.Expression.{bit}
 use Rattle.bdd_core.specs.declared.node.NodeId.{NodeId}
 use Rattle.bdd_core.specs.Truths.{truths}
 use Rattle.bdd_core.specs.Diagram.{Diagram, IsNode, function_of}
-use Rattle.machine_roots.specs.Expansion.{place_among}
+use Rattle.machine_walk.specs.Expansion.{place_among}
 
 -- the node of a function that is known by its values
 pub record Computes (d : Diagram) (a : NodeId) (g : List Bool → Bool) : Type 0 where

@@ -9,8 +9,9 @@ use Rattle.bdd_core.specs.Truths.{Truths, IsOver}
 use Rattle.machine_meaning.specs.Named.{values_at}
 use Rattle.machine_meaning.specs.Machine.{Machine, input_ports, register_names}
 use Rattle.machine_core.specs.Order.{held_names}
-use Rattle.machine_roots.specs.Expansion.{expansion, subexpressions}
-use Rattle.machine_roots.specs.Roots.{Root, roots, order_of, list_by}
+use Rattle.machine_walk.specs.Expansion.{expansion, subexpressions}
+use Rattle.machine_roots.specs.Roots.{Root, roots, list_by}
+use Rattle.machine_walk.specs.Walk.{order_of}
 
 -- each root of the first machine with that of the second which has its place
 abbrev pub root_pairs : Machine → Machine → List (Root × Root)

@@ -6,7 +6,7 @@ ghost use Rattle.vlsi_base.specs.Member.{AllDifferent};
 ghost use Rattle.machine_meaning.specs.Named.{values_at};
 ghost use Rattle.machine_meaning.specs.Machine.{is_clock, register_names as names_of_registers};
 ghost use Rattle.machine_core.specs.Order.{held_names};
-ghost use Rattle.machine_roots.specs.Expansion.{held_count};
+ghost use Rattle.machine_walk.specs.Expansion.{held_count};
 ghost use Rattle.bdd_core.specs.Truths.{Truths, halves};
 ghost use Rattle.bdd_core.specs.Nodes.{raised};
 ghost use Rattle.bdd_core.specs.Diagram.{IsNode, function_of};

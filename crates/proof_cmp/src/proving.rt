@@ -2,7 +2,7 @@
 ghost use Rattle.std.specs.Prelude.{◌≡◌, ◌<◌, ◌^◌, ◌++◌, ◌∷◌, [], length, IfOk, IfErr, IfSome, IfNone, List, Bool};
 ghost use Rattle.bool_expr.specs.Expression.{Expression, val};
 ghost use Rattle.machine_meaning.specs.Machine.{Machine as MachineValue};
-ghost use Rattle.machine_roots.specs.Expansion.{expansion};
+ghost use Rattle.machine_walk.specs.Expansion.{expansion};
 ghost use Rattle.machine_roots.specs.Roots.{Root};
 ghost use Rattle.proof_cmp.specs.Naming.{HaveSameNames};
 ghost use Rattle.proof_cmp.specs.Joint.{JoinsRoots};
@@ -11,12 +11,12 @@ ghost use Rattle.proof_cmp.specs.Verdict.{AreComparable, IsVerdict, IsRefusal};
 ghost use Rattle.proof_cmp.specs.Comparing.{pair_of, HaveDiagram, IsRootOf, IsOverPair, DifferOn, IsFound};
 
 use crate::differing::{differing_bits, given_bits, spread_bits};
-use crate::joint::{Cone, JointDiagram, joint_diagram};
+use crate::joint::{JointDiagram, joint_diagram};
 use crate::naming::least_one_sided;
 use crate::verdict::{ProofVerdict, ProveError};
 use bdd_core::BddError;
 use machine_core::Machine;
-use machine_roots::{RootExpr, roots};
+use machine_roots::{Cone, RootExpr, roots};
 use std::alloc::{AllocError, Global};
 use vlsi_base::Name;
 

@@ -14,10 +14,10 @@ use Rattle.source_meaning.specs.Elaboration.{Definition}
 use Rattle.vlsi_model.proofs.Members.{In-map_back}
 use Rattle.vlsi_model.proofs.Assembly.{In-permutation}
 use Rattle.vlsi_model.proofs.Numbering.{place_In, place_within, place_front}
-use Rattle.machine_roots.specs.Expansion.{expansions, expansion, held_count}
+use Rattle.machine_walk.specs.Expansion.{expansions, expansion, held_count}
 use Rattle.machine_roots.specs.Roots.{expression_of}
-use Rattle.machine_roots.proofs.Names.{name_of, expansion_held, expansion_at}
-use Rattle.machine_roots.proofs.Reaching.{equation_below}
+use Rattle.machine_walk.proofs.Names.{name_of, expansion_held, expansion_at}
+use Rattle.machine_walk.proofs.Reaching.{equation_below}
 use Rattle.vbe_roots.proofs.Readings.{equation_over, AreOfOne}
 use Rattle.vbe_roots.proofs.Numbers.{in_at, stands_at, has_place, place_of_equation, place_in_front, expression_is, same_put}
 

@@ -10,7 +10,7 @@ use Rattle.machine_core.proofs.Names.{same_name-itself, same_name-false}
 use Rattle.machine_core.proofs.Values.{In-right, In-map}
 use Rattle.source_meaning.specs.Formula.{Formula, fixed, named, opposite, joined, chosen, place, numbered}
 use Rattle.vlsi_model.proofs.Members.{In-cases, In-map_back}
-use Rattle.machine_roots.specs.Expansion.{with_variables, held_count}
+use Rattle.machine_walk.specs.Expansion.{with_variables, held_count}
 use Rattle.machine_roots.specs.Roots.{expression_of}
 
 -- ---- the place of an equation

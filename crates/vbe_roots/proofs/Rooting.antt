@@ -10,7 +10,7 @@ use Rattle.machine_meaning.specs.Machine.{Machine, Register, outputs}
 use Rattle.machine_core.proofs.Values.{In-map}
 use Rattle.source_meaning.specs.Elaboration.{Storage}
 use Rattle.vlsi_model.proofs.Sorting.{place_of_In}
-use Rattle.machine_roots.specs.Expansion.{subexpressions}
+use Rattle.machine_walk.specs.Expansion.{subexpressions}
 use Rattle.machine_roots.specs.Roots.{Root, expression_of, register_roots, roots, list_by, IsDcount, IsDag, IsGreatestDcount}
 use Rattle.vbe_roots.specs.Law.{HaveOneExpansion}
 use Rattle.vbe_roots.proofs.Readings.{register_over, AreOfOne}

@@ -3,7 +3,7 @@
 use Rattle.std.specs.Prelude.{◌≡◌, ℕ, List}
 use Rattle.std.specs.List.{AllZip}
 use Rattle.machine_meaning.specs.Machine.{Machine}
-use Rattle.machine_roots.specs.Expansion.{expansion}
+use Rattle.machine_walk.specs.Expansion.{expansion}
 use Rattle.machine_roots.specs.Roots.{Root, roots, IsDag, IsGreatestDcount}
 use Rattle.boom_opt.specs.Optimised.{inner_size}
 use Rattle.vbe_io.specs.Text.{IsVbe}

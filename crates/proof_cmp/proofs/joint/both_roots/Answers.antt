@@ -1,7 +1,7 @@
 use Rattle.std.proofs.Common.{List, Bool, sym, subst, refl, ◌∙◌}
 use Rattle.std.proofs.lemmas.Result.{err_from_is_err_and}
 use Rattle.bool_expr.specs.View.{view}
-use Rattle.machine_roots.specs.Walk.{AreMet}
+use Rattle.machine_walk.specs.Walk.{AreMet}
 use Rattle.proof_cmp.proofs.Both.{bound_long, marks_long, reads_below, root_within, zero_shared, zero_later, again_nodes, again_long}
 use Rattle.proof_cmp.proofs.Rooting.{first_refused, second_refused, both_are}
 use Rattle.proof_cmp.proofs.joint.both_roots.Goals as goal

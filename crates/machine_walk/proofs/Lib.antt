@@ -1,0 +1,4 @@
+pub mod Names
+pub mod Reaching
+pub mod Turns
+pub mod Stacks
