@@ -8,7 +8,7 @@ ghost use Rattle.net_core.specs.Frame.{instance_of};
 ghost use Rattle.net_core.specs.Joins.{draft_terminals};
 ghost use Rattle.loon_fanout.specs.Building.{instance_by, gate_by, with_instances, with_joins, IsAddable, AreHeads, joins_of, IsBuildable, IsBuilt};
 
-use crate::repeater::Repeater;
+use loon_wiring::Repeater;
 use net_core::{BuildError, Builder, Netlist, Node};
 use std::alloc::{AllocError, Global};
 use vlsi_base::{Listed, Name, Names, Port, Terminal, Text};
