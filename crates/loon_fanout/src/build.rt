@@ -50,15 +50,21 @@ fn copied_names(alloc: Global, names: &[Name]) -> Result<Vec<Name>, AllocError>
     Ok(copies)
 }
 
+fn copied_port(alloc: Global, port: &Port) -> Result<Port, AllocError>
+    ensures { IfOk result (λ copy. copy ≡ port.now) }
+{
+    Ok(Port {
+        name: port.name.copy(alloc)?,
+        dir: port.dir,
+    })
+}
+
 fn copied_ports(alloc: Global, ports: &[Port]) -> Result<Vec<Port>, AllocError>
     ensures { IfOk result (λ copies. copies.items ≡ ports.now) }
 {
     let mut copies = Vec::new(alloc);
     for port in ports {
-        copies.push(Port {
-            name: port.name.copy(alloc)?,
-            dir: port.dir,
-        })?;
+        copies.push(copied_port(alloc, port)?)?;
     }
     Ok(copies)
 }

@@ -36,12 +36,18 @@ fn class_of_port(alloc: Global, netlist: &Netlist, text: &[u8]) -> Result<usize,
     }
 }
 
+fn wide_class(class: u32) -> usize
+    ensures { result ≡ class }
+{
+    class as usize
+}
+
 fn widened(alloc: Global, classes: &[u32]) -> Result<Vec<usize>, AllocError>
     ensures { IfOk result (λ wide. wide.items ≡ classes.now) }
 {
     let mut wide = Vec::new(alloc);
     for class in classes {
-        wide.push(*class as usize)?;
+        wide.push(wide_class(*class))?;
     }
     Ok(wide)
 }
