@@ -182,9 +182,9 @@ fn empty_load(loads: &mut Vec<Vec<usize>>, class: usize)
     loads[class].clear();
 }
 
-/// The places of the sinks of each net among the terminals, in order: of the input pins of instances in its class, other than clock
-/// pins. The classes of the two supplies are no nets and have none. Takes memory for a mark for each terminal and for the places;
-/// time for each instance once for each cell of the library.
+/// The places of the sinks of each net among the terminals, in order: of the input pins of instances in its class, other than
+/// clock pins. The classes of the two supplies are no nets and have none. Takes memory for a mark for each terminal and for the
+/// places; time for each instance once for each cell of the library.
 pub fn net_loads(
     alloc: Global,
     netlist: &Netlist,

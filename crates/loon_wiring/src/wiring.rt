@@ -229,9 +229,9 @@ impl Wiring {
         Ok(())
     }
 
-    /// Puts in gates until no class has more than `limit` sinks: class by class, while one has more, its sinks are cut into groups of so
-    /// many, and each group is put behind the repeater's gate, or two of them in a row. `loads` has the places of each class's sinks
-    /// among the terminals. Takes memory for the pins of the gates; time for each sink and pin.
+    /// Puts in gates until no class has more than `limit` sinks: class by class, while one has more, its sinks are cut into groups
+    /// of so many, and each group is put behind the repeater's gate, or two of them in a row. `loads` has the places of each
+    /// class's sinks among the terminals. Takes memory for the pins of the gates; time for each sink and pin.
     pub fn limit_all(
         &mut self,
         alloc: Global,
