@@ -33,8 +33,9 @@ use Rattle.ocp_rows.specs.Order.{IsInNetlistOrder}
 use Rattle.ocp_rows.specs.Placement.{Placement}
 use Rattle.delay_sta.specs.Timed.{CanBeTimed}
 use Rattle.boog_map.proofs.Seating.{cell_found}
-use Rattle.loon_fanout.specs.Sinks.{is_sink_of, instance_sinks, all_sinks}
-use Rattle.loon_fanout.specs.Repeaters.{NoneRepeats}
+use Rattle.loon_loads.specs.Sinks.{is_sink_of}
+use Rattle.loon_fanout.specs.Sinks.{instance_sinks, all_sinks}
+use Rattle.loon_wiring.specs.Repeaters.{NoneRepeats}
 use Rattle.loon_fanout.specs.Limited.{IsOfCells, HasRoomForGates}
 use Rattle.loon_fanout.specs.Laws.{IsTied}
 use Rattle.loon_drive.specs.Laws.{HasNoBufferNames}

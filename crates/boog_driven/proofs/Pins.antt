@@ -25,7 +25,7 @@ use Rattle.net_theory.proofs.Basics.{length-map}
 use Rattle.net_view.proofs.Lists.{filter_in}
 use Rattle.net_view.proofs.Ports.{supplies_differ, names_to}
 use Rattle.ocp_place.specs.Nets.{is_signal}
-use Rattle.loon_fanout.specs.Sinks.{is_clock_of, is_sink_pin, is_sink_of}
+use Rattle.loon_loads.specs.Sinks.{is_clock_of, is_sink_pin, is_sink_of}
 use Rattle.loon_fanout.proofs.FewInputs.{few_members}
 use Rattle.loon_fanout.proofs.Picking.{any_in, different_filter}
 use Rattle.boog_driven.proofs.Counts.{apart_few}

@@ -18,7 +18,8 @@ use Rattle.net_meaning.specs.Netlist.{Member, Netlist as Seen}
 use Rattle.net_theory.specs.Exchanges.{IsSameFunction, IsDrive, IsExchanged, ShownExchanged}
 use Rattle.net_view.specs.View.{member_of, netlist_by}
 use Rattle.loon_buffer.specs.Drives.{IsChosenFor}
-use Rattle.loon_fanout.specs.Sinks.{is_clock_of, is_sink_pin, is_sink_of, instance_sinks, sinks, class_among, wired_of}
+use Rattle.loon_loads.specs.Sinks.{is_clock_of, is_sink_pin, is_sink_of}
+use Rattle.loon_fanout.specs.Sinks.{instance_sinks, sinks, class_among, wired_of}
 use Rattle.loon_drive.specs.Laws.{AreExchanged, CellsStay, RightStays, FanoutStays}
 
 -- ---- two lists of instances, one by one

@@ -10,7 +10,7 @@ use Rattle.net_core.specs.Places.{Stands}
 use Rattle.net_core.specs.Netlist.{Instance, Netlist}
 use Rattle.loon_buffer.specs.Drives.{IsChosenFor}
 use Rattle.loon_fanout.specs.Sinks.{Wired, sinks, wired_of}
-use Rattle.loon_fanout.specs.Repeaters.{Repeater}
+use Rattle.loon_wiring.specs.Repeaters.{Repeater}
 use Rattle.loon_fanout.specs.Limited.{IsLimited, within, round, IsBuffered}
 use Rattle.loon_fanout.specs.Laws.{gate_named, StaysBeside, LimitedStaysBeside}
 use Rattle.loon_drive.specs.Driven.{most_sinks, IsDrivenFrom}

@@ -22,7 +22,7 @@ use Rattle.cell_pins.specs.Pins.{supply, with_supply, all_ports}
 use Rattle.cell_pins.proofs.Ports.{with_cases}
 use Rattle.net_view.proofs.Ports.{supplies_differ}
 use Rattle.net_theory.proofs.Basics.{length-map}
-use Rattle.loon_fanout.specs.Repeaters.{Repeater, IsRepeater, buffer, inverters, GivesItsInput, IsBufferCell, IsInverterCell}
+use Rattle.loon_wiring.specs.Repeaters.{Repeater, IsRepeater, buffer, inverters, GivesItsInput, IsBufferCell, IsInverterCell}
 use Rattle.loon_drive.proofs.Lists.{stands_in}
 
 -- what one of two tests keeps is what the other leaves

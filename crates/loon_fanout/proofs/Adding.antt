@@ -1,6 +1,6 @@
 -- Instances that are put into a draft one by one.
-use Rattle.std.proofs.Common.{◌≡◌, ℕ, zero, suc, ◌+◌, ◌^◌, ◌<◌, ◌≤◌, List, [], ◌∷◌, ◌++◌, length, map, take, get_or, refl, sym, ◌∙◌, ap, subst, arith, append_assoc, append-nil, length-append, Some}
-use Rattle.std.specs.List.{flat_map, All}
+use Rattle.std.proofs.Common.{◌≡◌, ℕ, zero, suc, ◌+◌, ◌^◌, ◌<◌, ◌≤◌, List, [], ◌∷◌, ◌++◌, length, map, take, get_or, refl, sym, ◌∙◌, ap, subst, arith, append_assoc, length-append, Some}
+use Rattle.std.specs.List.{flat_map}
 use Rattle.std.proofs.lemmas.Grind.{flat_map-append}
 use Rattle.std.proofs.lemmas.List.{map-append, take_more}
 use Rattle.vlsi_base.specs.declared.name.Port.{Port}
@@ -9,7 +9,7 @@ use Rattle.net_core.specs.declared.error.BuildError.TheVariants as error
 use Rattle.net_core.specs.Places.{Stands, IsThere}
 use Rattle.net_core.specs.Netlist.{Instance, pin_of, pins_of, terminals_of, port, AreInOrder}
 use Rattle.net_core.specs.Frame.{IsNoPlaceFor}
-use Rattle.net_core.specs.Joins.{Draft, draft_terminals, with_instance, with_join}
+use Rattle.net_core.specs.Joins.{Draft, draft_terminals, with_instance}
 use Rattle.net_core.proofs.Frames.{mapped, unmapped}
 use Rattle.net_theory.proofs.Basics.{length-map}
 use Rattle.loon_fanout.specs.declared.build.Entry.{Entry}

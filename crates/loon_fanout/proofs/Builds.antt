@@ -1,15 +1,14 @@
 -- The netlist of a sketch.
-use Rattle.std.proofs.Common.{◌≡◌, ◌↔◌, ℕ, ◌<◌, List, [], ◌∷◌, ◌++◌, length, map, refl, sym, ◌∙◌, ap, subst}
+use Rattle.std.proofs.Common.{◌≡◌, ℕ, List, [], map, refl, sym, ◌∙◌, ap, subst}
 use Rattle.std.specs.Prelude.{IfOk, Result, Ok, Err}
 use Rattle.vlsi_base.specs.declared.name.Port.{Port}
 use Rattle.vlsi_base.specs.declared.name.Terminal.{Terminal}
 use Rattle.net_core.specs.Places.{IsThere, NoneTwice}
-use Rattle.net_core.specs.Netlist.{Instance, Netlist as InMemory, IsNetlist, terminals, terminals_of, HasClass}
+use Rattle.net_core.specs.Netlist.{Netlist as InMemory, IsNetlist, terminals, terminals_of, HasClass}
 use Rattle.net_core.specs.Joins.{Draft, IsFinished}
 use Rattle.net_core.proofs.Finishing.{netlist_terminals_once}
 use Rattle.loon_fanout.specs.declared.build.Entry.{Entry}
 use Rattle.loon_fanout.specs.declared.build.Sketch.{Sketch}
-use Rattle.loon_fanout.specs.Sinks.{class_among}
 use Rattle.loon_fanout.specs.Building.{instance_by, with_instances, with_joins, IsAddable, AreHeads, joins_of, sketch_terminals, IsBuildable, IsBuilt}
 use Rattle.loon_fanout.proofs.Tying.{star_out, star_back}
 

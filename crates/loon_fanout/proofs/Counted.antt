@@ -9,12 +9,14 @@ use Rattle.cell_model.specs.Library.{Library, cell_of}
 use Rattle.net_core.specs.Netlist.{Instance, Netlist as InMemory, pin_of, pins_of}
 use Rattle.net_core.specs.Places.{Stands}
 use Rattle.net_theory.proofs.Basics.{length-map}
-use Rattle.loon_fanout.specs.declared.repeater.Tie.{Tie}
-use Rattle.loon_fanout.specs.declared.repeater.Repeater.{Repeater as Parts}
-use Rattle.loon_fanout.specs.declared.wiring.Wiring.{Wiring}
-use Rattle.loon_fanout.specs.Sinks.{is_sink_of, instance_sinks, all_sinks}
-use Rattle.loon_fanout.specs.Stages.{tied_class, ends_of, pin_marks, all_marks, marked_places, PutsGate, PutsRow, once, two, set_places, PutsBehind, PutsGroups, none, one, LimitsClass, few, many, LimitsAll, done, more, AreNetLoads}
-use Rattle.loon_fanout.proofs.Loading.{got}
+use Rattle.loon_wiring.specs.declared.repeater.Tie.{Tie}
+use Rattle.loon_wiring.specs.declared.repeater.Repeater.{Repeater as Parts}
+use Rattle.loon_wiring.specs.declared.wiring.Wiring.{Wiring}
+use Rattle.loon_loads.specs.Sinks.{is_sink_of}
+use Rattle.loon_fanout.specs.Sinks.{instance_sinks, all_sinks}
+use Rattle.loon_loads.specs.Loads.{pin_marks, all_marks, marked_places, AreNetLoads}
+use Rattle.loon_wiring.specs.Stages.{tied_class, ends_of, PutsGate, PutsRow, once, two, set_places, PutsBehind, PutsGroups, none, one, LimitsClass, few, many, LimitsAll, done, more}
+use Rattle.loon_loads.proofs.Loading.{got}
 use Rattle.loon_fanout.proofs.Rounds.{gates_in, below_or}
 
 -- ---- pins by gates

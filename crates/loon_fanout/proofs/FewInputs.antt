@@ -27,7 +27,8 @@ use Rattle.net_view.proofs.Places.{pin_there}
 use Rattle.net_view.proofs.Ports.{names_to}
 use Rattle.net_view.proofs.Terminals.{seen_instances, IsCelled}
 use Rattle.net_view.proofs.Seen.{seen_class, seen_is_well_formed}
-use Rattle.loon_fanout.specs.Sinks.{is_clock_of, is_sink_of, instance_sinks, is_supply_class, sinks, wired_of}
+use Rattle.loon_loads.specs.Sinks.{is_clock_of, is_sink_of}
+use Rattle.loon_fanout.specs.Sinks.{instance_sinks, is_supply_class, sinks, wired_of}
 use Rattle.loon_fanout.specs.Limited.{HasFanout, IsOfCells}
 use Rattle.loon_fanout.specs.Nets.{IsInputPin, an_input_pin, HasFewInputs, RightHasFewInputs}
 use Rattle.loon_fanout.proofs.Picking.{in_any, is_false}

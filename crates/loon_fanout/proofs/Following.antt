@@ -1,5 +1,5 @@
 -- A wiring follows a netlist whose classes are a function of terminals, gate by gate and group by group.
-use Rattle.std.proofs.Common.{◌≡◌, inl, inr, ℕ, zero, suc, ◌+◌, ◌-◌, ◌<◌, ◌≤◌, Bool, true, false, List, [], ◌∷◌, ◌++◌, map, length, Some, refl, sym, ◌∙◌, ap, subst, arith, append-nil, append_assoc, length-append, nat_eq, if◌then◌else◌}
+use Rattle.std.proofs.Common.{◌≡◌, inl, inr, ℕ, zero, suc, ◌+◌, ◌<◌, ◌≤◌, Bool, true, false, List, [], ◌∷◌, ◌++◌, map, length, Some, refl, sym, ◌∙◌, ap, subst, arith, append-nil, append_assoc, length-append, nat_eq, if◌then◌else◌}
 use Rattle.std.proofs.lemmas.Grind.{flat_map-append}
 use Rattle.std.proofs.lemmas.List.{map-append}
 use Rattle.std.specs.List.{flat_map, list_any}
@@ -19,12 +19,12 @@ use Rattle.net_core.specs.Netlist.{Instance, port, pin_of, pins_of}
 use Rattle.net_core.specs.Places.{Stands}
 use Rattle.net_core.proofs.Standing.{stands_right}
 use Rattle.net_theory.proofs.Basics.{length-map}
-use Rattle.loon_fanout.specs.declared.repeater.Tie.{Tie}
-use Rattle.loon_fanout.specs.declared.wiring.Wiring.{Wiring}
+use Rattle.loon_wiring.specs.declared.repeater.Tie.{Tie}
+use Rattle.loon_wiring.specs.declared.wiring.Wiring.{Wiring}
 use Rattle.loon_fanout.specs.Sinks.{Wired, is_supply_class, sinks, is_same_owner}
 use Rattle.loon_fanout.specs.Wired.{pin_class, with_gate}
 use Rattle.loon_fanout.specs.Laws.{gate_named}
-use Rattle.loon_fanout.specs.Stages.{tie_of, next_class, ends_of, tied_class, read_place, PutsGate}
+use Rattle.loon_wiring.specs.Stages.{tie_of, next_class, ends_of, tied_class, read_place, PutsGate}
 use Rattle.loon_fanout.proofs.Picking.{filter_none, map_same, different_append, different_apart, different_map, only_one}
 use Rattle.loon_fanout.proofs.Supplies.{eq_not, apart_net, readers}
 use Rattle.loon_fanout.proofs.Gates.{IsGate}

@@ -25,12 +25,13 @@ use Rattle.net_core.specs.Places.{Stands}
 use Rattle.net_view.proofs.Ports.{both_cases, port_stays}
 use Rattle.net_theory.proofs.Basics.{length-map}
 use Rattle.net_view.proofs.Lists.{filter_in}
-use Rattle.loon_fanout.specs.declared.repeater.Tie.TheVariants as tie
-use Rattle.loon_fanout.specs.declared.wiring.Wiring.{Wiring}
-use Rattle.loon_fanout.specs.Sinks.{Wired, is_clock_of, is_sink_of}
+use Rattle.loon_wiring.specs.declared.repeater.Tie.TheVariants as tie
+use Rattle.loon_wiring.specs.declared.wiring.Wiring.{Wiring}
+use Rattle.loon_loads.specs.Sinks.{is_clock_of, is_sink_of}
+use Rattle.loon_fanout.specs.Sinks.{Wired}
 use Rattle.loon_fanout.specs.Wired.{pin_class}
-use Rattle.loon_fanout.specs.Repeaters.{Repeater, IsRepeater, buffer, inverters, GivesItsInput, IsBufferCell, IsInverterCell}
-use Rattle.loon_fanout.specs.Stages.{tie_of, is_read, read_place, ends_of, tied_class, next_class}
+use Rattle.loon_wiring.specs.Repeaters.{Repeater, IsRepeater, buffer, inverters, GivesItsInput, IsBufferCell, IsInverterCell}
+use Rattle.loon_wiring.specs.Stages.{tie_of, is_read, read_place, ends_of, tied_class, next_class}
 use Rattle.loon_fanout.proofs.Picking.{is_false, in_any, not_any, filter_none, filter_same, only_one}
 
 -- what is needed of a cell that is put in

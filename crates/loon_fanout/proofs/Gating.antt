@@ -21,13 +21,13 @@ use Rattle.free_names.specs.Laws.{TextsAreFree}
 use Rattle.net_theory.proofs.Basics.{length-map}
 use Rattle.loon_fanout.specs.declared.build.Entry.{Entry}
 use Rattle.loon_fanout.specs.declared.build.Sketch.{Sketch}
-use Rattle.loon_fanout.specs.declared.repeater.Repeater.{Repeater as Parts}
-use Rattle.loon_fanout.specs.declared.wiring.Wiring.{Wiring}
+use Rattle.loon_wiring.specs.declared.repeater.Repeater.{Repeater as Parts}
+use Rattle.loon_wiring.specs.declared.wiring.Wiring.{Wiring}
 use Rattle.loon_fanout.specs.Sinks.{Wired, is_supply_class, sinks, instance_sinks, class_among, wired_of}
 use Rattle.loon_fanout.specs.Building.{instance_by, IsBuildable, IsBuilt}
 use Rattle.loon_fanout.specs.Gated.{gate_names, gates_by, gated, gated_terminals, IsGatable, IsGated}
 use Rattle.loon_fanout.specs.Limited.{IsNetlistOf, HasFanout}
-use Rattle.loon_fanout.specs.Stages.{next_class}
+use Rattle.loon_wiring.specs.Stages.{next_class}
 use Rattle.loon_fanout.proofs.Terminals.{class_of_map, class_is}
 use Rattle.loon_fanout.proofs.Picking.{filter_same, different_append, different_of, twice_of}
 use Rattle.loon_fanout.proofs.Supplies.{eq_itself, eq_not, readers, net_sinks, is_net, sink_reads}

@@ -17,12 +17,12 @@ use Rattle.cell_pins.proofs.Sound.{member_at}
 use Rattle.net_core.specs.Netlist.{port, pin_of}
 use Rattle.net_core.specs.Places.{Stands}
 use Rattle.net_core.proofs.Standing.{stands_left}
-use Rattle.loon_fanout.specs.declared.repeater.Tie.{Tie}
-use Rattle.loon_fanout.specs.declared.repeater.Repeater.{Repeater as Parts}
-use Rattle.loon_fanout.specs.declared.wiring.Wiring.{Wiring}
+use Rattle.loon_wiring.specs.declared.repeater.Tie.{Tie}
+use Rattle.loon_wiring.specs.declared.repeater.Repeater.{Repeater as Parts}
+use Rattle.loon_wiring.specs.declared.wiring.Wiring.{Wiring}
 use Rattle.loon_fanout.specs.Sinks.{Wired, is_supply_class, sinks, is_same_terminal}
 use Rattle.loon_fanout.specs.Wired.{with_gate, with_row, with_moved, with_group}
-use Rattle.loon_fanout.specs.Stages.{tie_of, next_class, PutsGate, PutsRow, once, two, set_places, Moves, PutsBehind, IsPart}
+use Rattle.loon_wiring.specs.Stages.{tie_of, next_class, PutsGate, PutsRow, once, two, set_places, Moves, PutsBehind, IsPart}
 use Rattle.loon_fanout.proofs.Terminals.{terminal_same, terminal_itself}
 use Rattle.loon_fanout.proofs.Picking.{is_false, not_any, map_same, AtPlaces, at_more}
 use Rattle.loon_fanout.proofs.Supplies.{eq_itself, eq_not, is_net, sink_reads}

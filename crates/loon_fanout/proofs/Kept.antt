@@ -2,16 +2,14 @@
 use Rattle.std.proofs.Common.{◌≡◌, ℕ, ◌≤◌, List, [], ◌∷◌, ◌++◌, length, map, refl, sym, ◌∙◌, ap, append_assoc, append-nil}
 use Rattle.std.proofs.lemmas.List.{map-append}
 use Rattle.std.specs.List.{flat_map}
-use Rattle.vlsi_base.specs.declared.name.Port.{Port}
-use Rattle.vlsi_base.specs.declared.name.Terminal.{Terminal}
 use Rattle.cell_model.specs.Cell.{Cell}
 use Rattle.cell_model.specs.Library.{Library}
 use Rattle.net_core.specs.Netlist.{Instance}
 use Rattle.loon_fanout.specs.Sinks.{Wired, sinks}
 use Rattle.loon_fanout.specs.Wired.{with_gate, with_row, with_group}
-use Rattle.loon_fanout.specs.Repeaters.{Repeater}
+use Rattle.loon_wiring.specs.Repeaters.{Repeater}
 use Rattle.loon_fanout.specs.Limited.{Row, with_round, IsLimited, within, round}
-use Rattle.loon_fanout.specs.Laws.{gate_named, StaysBeside, LimitedStaysBeside}
+use Rattle.loon_fanout.specs.Laws.{gate_named, LimitedStaysBeside}
 
 -- the ports, and the instances with gates behind them
 record Beside (c : Cell) (names : List (List ℕ)) (n k : Wired) : Type 0 where

@@ -1,7 +1,4 @@
-pub mod Marking
-pub mod Loading
-pub mod Cells
-pub mod Putting
+pub mod Long
 pub mod Terminals
 pub mod Adding
 pub mod Tying

@@ -22,8 +22,9 @@ use Rattle.net_view.specs.View.{member_of, IsSeenAs}
 use Rattle.net_view.proofs.Lists.{in_place}
 use Rattle.net_view.proofs.Terminals.{seen_instances, IsCelled, terminal_there}
 use Rattle.net_view.proofs.Seen.{seen_class}
-use Rattle.loon_fanout.specs.Sinks.{Wired, is_clock_of, sinks, wired_of}
-use Rattle.loon_fanout.specs.Repeaters.{Repeater}
+use Rattle.loon_loads.specs.Sinks.{is_clock_of}
+use Rattle.loon_fanout.specs.Sinks.{Wired, sinks, wired_of}
+use Rattle.loon_wiring.specs.Repeaters.{Repeater}
 use Rattle.loon_fanout.specs.Limited.{IsLimited, within, round, IsNetlistOf, IsBuffered, IsOfCells}
 use Rattle.loon_fanout.specs.Laws.{as_netlist, gate_named}
 use Rattle.net_meaning.specs.Buffers.{AreOne, alike, tied, turned, through}

@@ -19,9 +19,10 @@ use Rattle.net_meaning.specs.Netlist.{Member, pin_of}
 use Rattle.net_meaning.specs.Well.{Has, buffer_instance}
 use Rattle.net_view.specs.View.{member_of}
 use Rattle.net_view.proofs.Lists.{in_place}
-use Rattle.loon_fanout.specs.Sinks.{Wired, is_sink_of, instance_sinks, is_supply_class, sinks, is_same_terminal}
+use Rattle.loon_loads.specs.Sinks.{is_sink_of}
+use Rattle.loon_fanout.specs.Sinks.{Wired, instance_sinks, is_supply_class, sinks, is_same_terminal}
 use Rattle.loon_fanout.specs.Wired.{pin_class, with_gate, with_moved, with_group}
-use Rattle.loon_fanout.specs.Repeaters.{Repeater}
+use Rattle.loon_wiring.specs.Repeaters.{Repeater}
 use Rattle.loon_fanout.specs.Limited.{AreGroups, last, next, Row, with_round, IsLimited, within, round, IsOfCells}
 use Rattle.loon_fanout.specs.Laws.{as_netlist, gate_named}
 use Rattle.net_meaning.specs.Buffers.{AreOne, alike, tied, turned, through}

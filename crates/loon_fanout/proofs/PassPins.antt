@@ -33,7 +33,8 @@ use Rattle.net_core.specs.Checks.{pins_named, port_role, pin_role, pin_role_of}
 use Rattle.net_core.proofs.Standing.{stands_same}
 use Rattle.net_view.proofs.Lists.{in_place, filter_in}
 use Rattle.net_view.proofs.Ports.{both_cases, vss_there, vdd_there, port_stays}
-use Rattle.loon_fanout.specs.Sinks.{Wired, is_clock_of}
+use Rattle.loon_loads.specs.Sinks.{is_clock_of}
+use Rattle.loon_fanout.specs.Sinks.{Wired}
 use Rattle.loon_fanout.proofs.Picking.{flat_in}
 use Rattle.loon_fanout.proofs.RightStates.{IsGateCell}
 use Rattle.loon_fanout.proofs.RightPins.{input, input_is, output, output_is, in_outputs}

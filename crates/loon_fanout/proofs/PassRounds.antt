@@ -22,7 +22,7 @@ use Rattle.net_core.specs.Netlist.{Instance, pin_of}
 use Rattle.net_core.specs.Checks.{pins_named, pin_role}
 use Rattle.loon_fanout.specs.Sinks.{Wired, sinks, is_same_terminal}
 use Rattle.loon_fanout.specs.Wired.{pin_class, with_gate, with_moved, with_group}
-use Rattle.loon_fanout.specs.Repeaters.{Repeater}
+use Rattle.loon_wiring.specs.Repeaters.{Repeater}
 use Rattle.loon_fanout.specs.Limited.{Row, with_round, IsLimited, within, round}
 use Rattle.loon_fanout.specs.Laws.{gate_named}
 use Rattle.loon_fanout.proofs.Picking.{any_in, different_apart, different_right}

@@ -33,7 +33,7 @@ use Rattle.net_view.proofs.Lists.{in_place, map_twice}
 use Rattle.net_view.proofs.Places.{has_class}
 use Rattle.net_view.proofs.Models.{named_cell, model_found}
 use Rattle.loon_fanout.specs.Sinks.{Wired, sinks, is_same_terminal, wired_of}
-use Rattle.loon_fanout.specs.Repeaters.{Repeater}
+use Rattle.loon_wiring.specs.Repeaters.{Repeater}
 use Rattle.loon_fanout.specs.Limited.{IsLimited, within, round, IsBuffered, IsOfCells}
 use Rattle.loon_fanout.specs.Laws.{gate_named, IsTied, BufferedPasses}
 use Rattle.loon_fanout.proofs.Picking.{flat_in, twice_of}

@@ -21,7 +21,8 @@ use Rattle.net_theory.specs.Sources.{Source, high, low, ticking, node, Seat, Roo
 use Rattle.net_theory.specs.Meaning.{Means}
 use Rattle.net_theory.proofs.Seats.{In-two, sits, seat_has, input_terminal, pin_source}
 use Rattle.net_view.specs.View.{member_of}
-use Rattle.loon_fanout.specs.Sinks.{Wired, is_clock_of, is_same_owner, is_same_terminal}
+use Rattle.loon_loads.specs.Sinks.{is_clock_of}
+use Rattle.loon_fanout.specs.Sinks.{Wired, is_same_owner, is_same_terminal}
 use Rattle.loon_fanout.specs.Wired.{with_moved}
 use Rattle.loon_fanout.specs.Laws.{as_netlist, sourced, roots_after}
 use Rattle.loon_fanout.proofs.Picking.{any_in, in_any, is_false}

@@ -14,7 +14,7 @@ use Rattle.net_meaning.specs.Well.{buffer_instance}
 use Rattle.net_theory.specs.Sources.{node, Seat}
 use Rattle.loon_fanout.specs.Sinks.{Wired, sinks}
 use Rattle.loon_fanout.specs.Wired.{with_gate, with_moved, with_group}
-use Rattle.loon_fanout.specs.Repeaters.{Repeater}
+use Rattle.loon_wiring.specs.Repeaters.{Repeater}
 use Rattle.loon_fanout.specs.Limited.{AreGroups, last, next, Row, with_round, IsLimited, within, round}
 use Rattle.loon_fanout.specs.Laws.{gate_named}
 use Rattle.loon_fanout.proofs.Splitting.{SinkAt, sink_at}

@@ -36,7 +36,7 @@ use Rattle.net_view.proofs.Terminals.{seen_ports, seen_instances, IsCelled, term
 use Rattle.net_view.proofs.Seen.{seen_class}
 use Rattle.free_names.specs.Free.{free_numbers, free_texts}
 use Rattle.loon_fanout.specs.Sinks.{Wired, sinks, class_among, wired_of}
-use Rattle.loon_fanout.specs.Repeaters.{Repeater, GivesItsInput, IsRepeater, buffer, inverters}
+use Rattle.loon_wiring.specs.Repeaters.{Repeater, GivesItsInput, IsRepeater, buffer, inverters}
 use Rattle.loon_fanout.specs.Limited.{IsLimited, within, round, IsNetlistOf, IsBuffered, IsOfCells}
 use Rattle.loon_fanout.specs.Laws.{as_netlist, sourced, gate_named, BufferedStaysRight}
 use Rattle.loon_fanout.proofs.Terminals.{class_is}

@@ -11,13 +11,13 @@ use Rattle.cell_model.specs.Cell.{Cell}
 use Rattle.cell_model.specs.Library.{Library}
 use Rattle.cell_model.proofs.Members.{In-right}
 use Rattle.net_core.specs.Places.{Stands}
-use Rattle.loon_fanout.specs.declared.repeater.Repeater.{Repeater as Parts}
-use Rattle.loon_fanout.specs.declared.wiring.Wiring.{Wiring}
+use Rattle.loon_wiring.specs.declared.repeater.Repeater.{Repeater as Parts}
+use Rattle.loon_wiring.specs.declared.wiring.Wiring.{Wiring}
 use Rattle.loon_fanout.specs.Sinks.{Wired, is_supply_class, sinks}
 use Rattle.loon_fanout.specs.Wired.{with_group}
-use Rattle.loon_fanout.specs.Repeaters.{Repeater}
+use Rattle.loon_wiring.specs.Repeaters.{Repeater}
 use Rattle.loon_fanout.specs.Limited.{Row, with_round, AreGroups, last, next, IsLimited, within, round}
-use Rattle.loon_fanout.specs.Stages.{PutsRow, once, two, PutsBehind, PutsGroups, none, one, LimitsClass, few, many, LimitsAll, done, more, IsPart}
+use Rattle.loon_wiring.specs.Stages.{PutsRow, once, two, PutsBehind, PutsGroups, none, one, LimitsClass, few, many, LimitsAll, done, more, IsPart}
 use Rattle.loon_fanout.proofs.Picking.{AtPlaces, at_more, at_append, at_many, Halves, at_halves}
 use Rattle.loon_fanout.proofs.Supplies.{is_net, long_net}
 use Rattle.loon_fanout.proofs.Gates.{IsGate}

@@ -1,5 +1,5 @@
 -- The sinks of the classes after gates are put in, and after sinks are moved.
-use Rattle.std.proofs.Common.{◌≡◌, ◌≢◌, inl, inr, ℕ, ◌+◌, ◌-◌, Bool, true, false, not, ◌&&◌, List, [], ◌∷◌, ◌++◌, map, filter, Some, refl, sym, ◌∙◌, ap, subst, append-nil, nat_eq, eqb-true, if◌then◌else◌}
+use Rattle.std.proofs.Common.{◌≡◌, ◌≢◌, inl, inr, ℕ, ◌-◌, Bool, true, false, not, ◌&&◌, List, [], ◌∷◌, ◌++◌, map, filter, Some, refl, sym, ◌∙◌, ap, subst, append-nil, nat_eq, eqb-true, if◌then◌else◌}
 use Rattle.std.proofs.lemmas.Grind.{flat_map-append}
 use Rattle.std.specs.List.{flat_map, list_any}
 use Rattle.vlsi_base.specs.declared.name.Name.{Name}
@@ -14,7 +14,8 @@ use Rattle.cell_model.proofs.Texts.{text_itself, text_differs}
 use Rattle.cell_pins.proofs.Ports.{in_filter}
 use Rattle.net_core.specs.Netlist.{Instance, port, pin_of, pins_of, terminals_of}
 use Rattle.net_view.proofs.Lists.{filter_in}
-use Rattle.loon_fanout.specs.Sinks.{Wired, is_sink_of, instance_sinks, is_supply_class, sinks, is_same_owner, is_same_terminal}
+use Rattle.loon_loads.specs.Sinks.{is_sink_of}
+use Rattle.loon_fanout.specs.Sinks.{Wired, instance_sinks, is_supply_class, sinks, is_same_owner, is_same_terminal}
 use Rattle.loon_fanout.specs.Wired.{pin_class, with_gate, with_moved}
 use Rattle.loon_fanout.specs.Laws.{gate_named}
 use Rattle.loon_fanout.proofs.Terminals.{terminal_same, terminal_itself}

@@ -1,5 +1,5 @@
 -- A group of sinks behind one buffer, as a split of a class.
-use Rattle.std.proofs.Common.{◌≡◌, ◌≢◌, ◌⊎◌, inl, inr, ℕ, zero, suc, ◌+◌, ◌-◌, ◌<◌, ◌≤◌, Bool, true, false, not, ◌&&◌, ◌||◌, List, [], ◌∷◌, ◌++◌, map, filter, length, Option, None, Some, refl, sym, ◌∙◌, ap, subst, arith, nat_eq, eqb-true, if◌then◌else◌}
+use Rattle.std.proofs.Common.{◌≡◌, ◌≢◌, ◌⊎◌, inl, inr, ℕ, suc, ◌-◌, ◌<◌, Bool, true, false, not, ◌&&◌, ◌||◌, List, [], ◌∷◌, map, filter, length, Option, None, Some, refl, sym, ◌∙◌, ap, subst, arith, nat_eq, eqb-true, if◌then◌else◌}
 use Rattle.std.proofs.lemmas.List.{map-append}
 use Rattle.std.specs.List.{flat_map, list_any}
 use Rattle.vlsi_base.specs.declared.name.Name.{Name}
@@ -7,26 +7,26 @@ use Rattle.vlsi_base.specs.declared.name.Port.{Port}
 use Rattle.vlsi_base.specs.declared.name.Terminal.{Terminal}
 use Rattle.vlsi_base.specs.Names.{vdd, vss}
 use Rattle.vlsi_base.specs.Member.{In, here, there, AllDifferent}
-use Rattle.bool_expr.specs.Expression.{Expression, val}
 use Rattle.machine_meaning.specs.Machine.{Machine, is_input, names_of}
 use Rattle.machine_meaning.specs.Named.{is_same_text, is_same_name}
 use Rattle.machine_core.proofs.Names.{same_name-true, same_name-itself, same_name-false}
-use Rattle.cell_model.specs.Cell.{Function, gate, flip_flop, other, opaque, Cell, pin_ports, cell_inputs, cell_outputs}
+use Rattle.cell_model.specs.Cell.{Function, gate, flip_flop, Cell, pin_ports, cell_inputs, cell_outputs}
 use Rattle.cell_model.specs.Library.{Library, cell_of, IsUsable, IsPlain}
-use Rattle.cell_model.proofs.Texts.{text_same, text_itself, text_differs}
+use Rattle.cell_model.proofs.Texts.{text_itself, text_differs}
 use Rattle.cell_model.proofs.Members.{In-map, In-map_back}
 use Rattle.cell_pins.proofs.Ports.{in_filter, sorted_of, sorted_different}
 use Rattle.net_core.specs.Netlist.{Instance, pin_of, port}
-use Rattle.net_meaning.specs.Netlist.{Member, Netlist, IsTerminal, a_port, a_pin}
+use Rattle.net_meaning.specs.Netlist.{Member, IsTerminal, a_port, a_pin}
 use Rattle.net_meaning.specs.Agreement.{register_instance}
 use Rattle.net_meaning.specs.Well.{Has, named_b, buffer_instance}
-use Rattle.net_theory.specs.Sources.{Source, node, Values, Seat, Roots, Sourced, Shows}
+use Rattle.net_theory.specs.Sources.{Source, node, Values, Seat, Roots, Shows}
 use Rattle.cell_pins.specs.Pins.{all_ports}
 use Rattle.net_theory.specs.Split.{IsBuffer, IsSplit}
 use Rattle.net_theory.proofs.Seats.{In-two, Sits, sits}
 use Rattle.net_view.specs.View.{member_of}
-use Rattle.loon_fanout.specs.Sinks.{Wired, is_clock_of, is_sink_pin, is_sink_of, instance_sinks, sinks, is_same_owner, is_same_terminal}
-use Rattle.loon_fanout.specs.Wired.{pin_class, with_gate, with_group}
+use Rattle.loon_loads.specs.Sinks.{is_clock_of, is_sink_pin, is_sink_of}
+use Rattle.loon_fanout.specs.Sinks.{Wired, instance_sinks, sinks, is_same_owner, is_same_terminal}
+use Rattle.loon_fanout.specs.Wired.{pin_class, with_group}
 use Rattle.loon_fanout.specs.Laws.{as_netlist, sourced, IsOneGate, is_in, roots_after, GroupSplits}
 use Rattle.loon_fanout.proofs.Picking.{flat_in, any_in, in_any, is_false}
 use Rattle.loon_fanout.proofs.Supplies.{sink_reads}

@@ -17,13 +17,15 @@ use Rattle.net_core.proofs.Finishing.{netlist_terminals_once}
 use Rattle.net_core.proofs.Namings.{turn_below}
 use Rattle.net_core.proofs.Standing.{stands_right}
 use Rattle.net_theory.proofs.Basics.{length-map}
-use Rattle.loon_fanout.specs.declared.wiring.Wiring.{Wiring}
-use Rattle.loon_fanout.specs.Sinks.{is_sink_of, instance_sinks, is_supply_class, sinks, is_same_terminal, class_among, wired_of}
+use Rattle.loon_wiring.specs.declared.wiring.Wiring.{Wiring}
+use Rattle.loon_loads.specs.Sinks.{is_sink_of}
+use Rattle.loon_fanout.specs.Sinks.{instance_sinks, is_supply_class, sinks, is_same_terminal, class_among, wired_of}
 use Rattle.loon_fanout.specs.Limited.{IsOfCells}
-use Rattle.loon_fanout.specs.Stages.{pin_marks, all_marks, marked_places, AreNetLoads, IsStart}
+use Rattle.loon_loads.specs.Loads.{pin_marks, all_marks, marked_places, AreNetLoads}
+use Rattle.loon_fanout.specs.Starts.{IsStart}
 use Rattle.loon_fanout.proofs.Terminals.{terminal_same, terminal_itself, class_is}
 use Rattle.loon_fanout.proofs.Picking.{is_false, map_same, different_append, different_left, different_right, different_apart, different_of, AtPlaces}
-use Rattle.loon_fanout.proofs.Loading.{got}
+use Rattle.loon_loads.proofs.Loading.{got}
 use Rattle.loon_fanout.proofs.Supplies.{readers}
 use Rattle.loon_fanout.proofs.Sinking.{all_sinks}
 use Rattle.loon_fanout.proofs.Following.{Follows, none_behind}

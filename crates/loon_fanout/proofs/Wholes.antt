@@ -22,15 +22,17 @@ use Rattle.net_view.proofs.Ports.{vdd_there}
 use Rattle.free_names.specs.Laws.{TextsAreFree}
 use Rattle.net_theory.proofs.Basics.{length-map}
 use Rattle.net_view.proofs.Lists.{in_place}
-use Rattle.loon_fanout.specs.declared.repeater.Repeater.{Repeater as Parts}
-use Rattle.loon_fanout.specs.declared.wiring.Wiring.{Wiring}
+use Rattle.loon_wiring.specs.declared.repeater.Repeater.{Repeater as Parts}
+use Rattle.loon_wiring.specs.declared.wiring.Wiring.{Wiring}
 use Rattle.loon_fanout.specs.Sinks.{Wired, all_sinks, sinks, wired_of}
-use Rattle.loon_fanout.specs.Repeaters.{Repeater, IsRepeater, buffer, inverters, NoneRepeats}
+use Rattle.loon_wiring.specs.Repeaters.{Repeater, IsRepeater, buffer, inverters, NoneRepeats}
 use Rattle.loon_fanout.specs.Building.{gate_by}
 use Rattle.loon_fanout.specs.Gated.{gate_names, gated, IsGatable, IsGated}
 use Rattle.loon_fanout.specs.Laws.{gate_named, StaysBeside}
 use Rattle.loon_fanout.specs.Limited.{IsLimited, within, IsCrowded, IsBuffered, HasFanout, HasFewGates, IsOfCells, HasRoomForGates}
-use Rattle.loon_fanout.specs.Stages.{tie_of, all_marks, AreNetLoads, LimitsAll, IsStart, IsPart, IsRepeaterOf, HasLongLoad}
+use Rattle.loon_loads.specs.Loads.{all_marks, AreNetLoads}
+use Rattle.loon_wiring.specs.Stages.{tie_of, LimitsAll, IsPart, IsRepeaterOf}
+use Rattle.loon_fanout.specs.Starts.{IsStart, HasLongLoad}
 use Rattle.loon_fanout.proofs.Picking.{map_same, different_of, at_many}
 use Rattle.loon_fanout.proofs.Gates.{Chosen, chosen}
 use Rattle.loon_fanout.proofs.Kept.{limited_stays_beside}

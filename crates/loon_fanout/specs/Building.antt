@@ -1,11 +1,11 @@
 -- A netlist of instances and of a class for each terminal.
-use Rattle.std.specs.Prelude.{◌≡◌, ◌↔◌, ℕ, ◌^◌, ◌<◌, List, [], ◌∷◌, ◌++◌, map, length, slice_index_or}
+use Rattle.std.specs.Prelude.{◌≡◌, ◌↔◌, ℕ, ◌^◌, ◌<◌, List, [], ◌++◌, map, length, slice_index_or}
 use Rattle.std.specs.List.{All, zip}
 use Rattle.vlsi_base.specs.declared.name.Terminal.{Terminal}
 use Rattle.net_core.specs.Netlist.{Instance, Netlist as InMemory, terminals_of, AreInOrder, HasClass}
 use Rattle.net_core.specs.Places.{NoneTwice}
 use Rattle.net_core.specs.Joins.{Draft, terminal_at}
-use Rattle.loon_fanout.specs.declared.repeater.Repeater.{Repeater as Parts}
+use Rattle.loon_wiring.specs.declared.repeater.Repeater.{Repeater as Parts}
 use Rattle.loon_fanout.specs.declared.build.Entry.{Entry}
 use Rattle.loon_fanout.specs.declared.build.Sketch.{Sketch}
 use Rattle.loon_fanout.specs.Sinks.{class_among}

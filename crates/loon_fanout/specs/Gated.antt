@@ -1,15 +1,15 @@
 -- A netlist with gates behind its instances, by a wiring.
-use Rattle.std.specs.Prelude.{◌≡◌, ◌↔◌, ℕ, ◌+◌, ◌^◌, ◌<◌, List, [], ◌++◌, codes, map, length, Option, None, Some}
+use Rattle.std.specs.Prelude.{◌≡◌, ◌↔◌, ℕ, ◌^◌, ◌<◌, List, [], ◌++◌, codes, map, length, Option, None, Some}
 use Rattle.std.specs.List.{All}
 use Rattle.vlsi_base.specs.declared.name.Terminal.{Terminal}
 use Rattle.net_core.specs.Netlist.{Instance, Netlist as InMemory, terminals_of, AreInOrder, HasClass}
 use Rattle.net_core.specs.Places.{NoneTwice}
 use Rattle.free_names.specs.Free.{free_texts}
-use Rattle.loon_fanout.specs.declared.repeater.Repeater.{Repeater as Parts}
-use Rattle.loon_fanout.specs.declared.wiring.Wiring.{Wiring}
+use Rattle.loon_wiring.specs.declared.repeater.Repeater.{Repeater as Parts}
+use Rattle.loon_wiring.specs.declared.wiring.Wiring.{Wiring}
 use Rattle.loon_fanout.specs.Sinks.{class_among}
 use Rattle.loon_fanout.specs.Building.{gate_by}
-use Rattle.loon_fanout.specs.Stages.{next_class}
+use Rattle.loon_wiring.specs.Stages.{next_class}
 
 -- the names that so many gates are given
 abbrev pub gate_names : InMemory → ℕ → List (List ℕ)

@@ -25,7 +25,7 @@ use Rattle.net_view.specs.View.{member_of}
 use Rattle.net_view.specs.Condition.{AreTogether}
 use Rattle.loon_fanout.specs.Sinks.{Wired, sinks, is_same_owner, is_same_terminal}
 use Rattle.loon_fanout.specs.Wired.{with_group}
-use Rattle.loon_fanout.specs.Repeaters.{Repeater}
+use Rattle.loon_wiring.specs.Repeaters.{Repeater}
 use Rattle.loon_fanout.specs.Limited.{IsLimited, IsBuffered, IsOfCells, StaysRight}
 
 -- a gate of this name, with the pins of its cell

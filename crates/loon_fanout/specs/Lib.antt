@@ -1,8 +1,7 @@
 pub mod Sinks
 pub mod Wired
-pub mod Repeaters
 pub mod Limited
-pub mod Stages
+pub mod Starts
 pub mod Building
 pub mod Laws
 pub mod Nets

@@ -1,5 +1,5 @@
 -- A netlist none of whose nets has more than so many sinks, from one that may have.
-use Rattle.std.specs.Prelude.{◌≡◌, ◌↔◌, ◌⊎◌, ℕ, ◌+◌, ◌*◌, ◌^◌, ◌<◌, ◌≤◌, List, [], ◌∷◌, ◌++◌, codes, length, map, Some}
+use Rattle.std.specs.Prelude.{◌≡◌, ◌↔◌, ℕ, ◌+◌, ◌*◌, ◌^◌, ◌<◌, ◌≤◌, List, [], ◌∷◌, ◌++◌, codes, length, map, Some}
 use Rattle.std.specs.List.{All, flat_map}
 use Rattle.vlsi_base.specs.declared.name.Terminal.{Terminal}
 use Rattle.vlsi_base.specs.Names.{vdd, vss}
@@ -16,7 +16,7 @@ use Rattle.loon_fanout.specs.declared.error.BufferError.{BufferError}
 use Rattle.loon_fanout.specs.declared.error.BufferError.TheVariants as error
 use Rattle.loon_fanout.specs.Sinks.{Wired, all_sinks, sinks, wired_of}
 use Rattle.loon_fanout.specs.Wired.{with_group}
-use Rattle.loon_fanout.specs.Repeaters.{Repeater, IsRepeater, NoneRepeats}
+use Rattle.loon_wiring.specs.Repeaters.{Repeater, IsRepeater, NoneRepeats}
 
 -- A list cut into groups of so many, in their order; the last one may have fewer, but not none.
 pub data AreGroups {A : Type 0} (size : ℕ) : List A → List (List A) → Type 0 where

@@ -6,7 +6,7 @@ use Rattle.vlsi_base.specs.Names.{vdd, vss}
 use Rattle.vlsi_base.specs.Member.{In, AllDifferent}
 use Rattle.machine_meaning.specs.Machine.{Machine}
 use Rattle.machine_core.specs.Checked.{IsChecked}
-use Rattle.cell_model.specs.Cell.{Cell, cell_inputs, cell_outputs}
+use Rattle.cell_model.specs.Cell.{Cell, cell_inputs}
 use Rattle.cell_model.specs.Library.{Library}
 use Rattle.cell_checks.specs.Checked.{IsChecked as HasPassed}
 use Rattle.net_core.specs.Places.{IsThere}

@@ -1,15 +1,13 @@
 -- The pins that a net is read by.
-use Rattle.std.specs.Prelude.{◌≡◌, ℕ, Bool, true, false, not, ◌&&◌, ◌||◌, List, [], ◌∷◌, map, filter, Option, None, Some, nat_eq, if◌then◌else◌}
-use Rattle.std.specs.List.{flat_map, list_any}
-use Rattle.vlsi_base.specs.declared.name.Name.{Name}
+use Rattle.std.specs.Prelude.{ℕ, Bool, true, false, ◌&&◌, ◌||◌, List, [], ◌∷◌, map, filter, Option, None, Some, nat_eq, if◌then◌else◌}
+use Rattle.std.specs.List.{flat_map}
 use Rattle.vlsi_base.specs.declared.name.Port.{Port}
 use Rattle.vlsi_base.specs.declared.name.Terminal.{Terminal}
 use Rattle.vlsi_base.specs.Names.{vdd, vss}
-use Rattle.machine_meaning.specs.Machine.{is_clock}
 use Rattle.machine_meaning.specs.Named.{is_same_text, is_same_name}
-use Rattle.cell_model.specs.Cell.{Function, gate, flip_flop, other, opaque, Cell, cell_inputs}
 use Rattle.cell_model.specs.Library.{Library, cell_of}
-use Rattle.net_core.specs.Netlist.{Instance, Netlist as InMemory, port, pin_of, terminals_of, terminals}
+use Rattle.net_core.specs.Netlist.{Instance, Netlist as InMemory, port, pin_of, terminals}
+use Rattle.loon_loads.specs.Sinks.{is_sink_of}
 
 -- a netlist whose classes are told by a function of terminals; they are below `count`
 pub record Wired : Type 0 where
@@ -17,21 +15,6 @@ pub record Wired : Type 0 where
   pub instances : List Instance
   pub class : Terminal → ℕ
   pub count : ℕ
-
--- a pin at which registers load
-abbrev pub is_clock_of : Function → Name → Bool
-is_clock_of (gate e) name = false
-is_clock_of (flip_flop data_pin clock_pin) name = is_same_name clock_pin name
-is_clock_of (other machine) name = is_clock machine.clock name
-is_clock_of opaque name = false
-
--- an input of a cell that is no clock pin; vdd and vss are no inputs of cells
-abbrev pub is_sink_pin : Cell → Name → Bool
-is_sink_pin c name = list_any (λ pin. is_same_name pin name) (cell_inputs c) && not (is_clock_of c.function name)
-
-abbrev pub is_sink_of : Option Cell → Name → Bool
-is_sink_of None name = false
-is_sink_of (Some c) name = is_sink_pin c name
 
 -- the pins of an instance that are sinks where they are in nets, by its cell
 abbrev pub instance_sinks : Library → Instance → List Terminal

@@ -1,16 +1,15 @@
 -- Gates of one input put into a netlist, and sinks put behind them.
-use Rattle.std.specs.Prelude.{◌≡◌, ℕ, ◌+◌, ◌-◌, ◌*◌, ◌<◌, ◌≤◌, Bool, List, [], ◌∷◌, ◌++◌, length, take, drop, Option, None, Some, if◌then◌else◌}
+use Rattle.std.specs.Prelude.{ℕ, ◌-◌, List, [], ◌∷◌, ◌++◌, Some, if◌then◌else◌}
 use Prim.Native.Nat.{suc}
 use Rattle.std.specs.List.{list_any}
 use Rattle.vlsi_base.specs.declared.name.Name.{Name}
-use Rattle.vlsi_base.specs.declared.name.Port.{Port}
 use Rattle.vlsi_base.specs.declared.name.Terminal.{Terminal}
 use Rattle.vlsi_base.specs.Names.{vdd, vss}
 use Rattle.machine_meaning.specs.Machine.{names_of}
 use Rattle.machine_meaning.specs.Named.{is_same_name}
 use Rattle.cell_model.specs.Cell.{Cell, cell_inputs}
 use Rattle.cell_pins.specs.Pins.{all_ports}
-use Rattle.net_core.specs.Netlist.{Instance, port}
+use Rattle.net_core.specs.Netlist.{port}
 use Rattle.loon_fanout.specs.Sinks.{Wired, is_same_owner, is_same_terminal}
 
 -- The class of a pin of a gate put behind a class: supplies are in the classes of their ports, inputs in the class that is read,

@@ -8,7 +8,7 @@ ghost use Rattle.net_core.specs.Frame.{instance_of};
 ghost use Rattle.net_core.specs.Joins.{draft_terminals};
 ghost use Rattle.loon_fanout.specs.Building.{instance_by, gate_by, with_instances, with_joins, IsAddable, AreHeads, joins_of, IsBuildable, IsBuilt};
 
-use crate::repeater::Repeater;
+use loon_wiring::Repeater;
 use net_core::{BuildError, Builder, Netlist, Node};
 use std::alloc::{AllocError, Global};
 use vlsi_base::{Listed, Name, Names, Port, Terminal, Text};
@@ -50,15 +50,21 @@ fn copied_names(alloc: Global, names: &[Name]) -> Result<Vec<Name>, AllocError>
     Ok(copies)
 }
 
+fn copied_port(alloc: Global, port: &Port) -> Result<Port, AllocError>
+    ensures { IfOk result (λ copy. copy ≡ port.now) }
+{
+    Ok(Port {
+        name: port.name.copy(alloc)?,
+        dir: port.dir,
+    })
+}
+
 fn copied_ports(alloc: Global, ports: &[Port]) -> Result<Vec<Port>, AllocError>
     ensures { IfOk result (λ copies. copies.items ≡ ports.now) }
 {
     let mut copies = Vec::new(alloc);
     for port in ports {
-        copies.push(Port {
-            name: port.name.copy(alloc)?,
-            dir: port.dir,
-        })?;
+        copies.push(copied_port(alloc, port)?)?;
     }
     Ok(copies)
 }

@@ -5,9 +5,6 @@ mod build;
 mod error;
 mod laws;
 mod limit;
-mod loads;
-mod repeater;
-mod wiring;
 
 pub use error::BufferError;
 pub use laws::{

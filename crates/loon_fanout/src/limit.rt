@@ -4,20 +4,19 @@ ghost use Rattle.std.specs.Option.{option_copied};
 ghost use Rattle.vlsi_base.specs.Names.{scalar};
 ghost use Rattle.net_core.specs.Netlist.{IsNetlist, port, terminals, HasClass};
 ghost use Rattle.net_core.specs.Places.{IsThere};
-ghost use Rattle.loon_fanout.specs.Repeaters.{NoneRepeats};
+ghost use Rattle.loon_wiring.specs.Repeaters.{NoneRepeats};
 ghost use Rattle.loon_fanout.specs.Limited.{IsCrowded, IsBuffered, HasFanout, HasFewGates, IsOfCells, HasRoomForGates, StaysRight, IsBufferRefusal};
-ghost use Rattle.loon_fanout.specs.Stages.{HasLongLoad, IsStart};
+ghost use Rattle.loon_fanout.specs.Starts.{HasLongLoad, IsStart};
 ghost use Rattle.loon_fanout.specs.Building.{instance_by};
 ghost use Rattle.loon_fanout.specs.Gated.{gate_names, gates_by, IsGatable, IsGated};
 
 use crate::BufferError;
 use crate::build::{Entry, Sketch, build, push_gates, push_nodes};
 use crate::laws::stays_right_law;
-use crate::loads::loads;
-use crate::repeater::{Repeater, make_repeater};
-use crate::wiring::Wiring;
 use cell_checks::Library;
 use free_names::{free_texts, texts_are_free};
+use loon_loads::net_loads;
+use loon_wiring::{Repeater, Wiring, make_repeater};
 use net_core::{Netlist, Node};
 use std::alloc::{AllocError, Global};
 use vlsi_base::{Name, Terminal, Text};
@@ -37,12 +36,18 @@ fn class_of_port(alloc: Global, netlist: &Netlist, text: &[u8]) -> Result<usize,
     }
 }
 
+fn wide_class(class: u32) -> usize
+    ensures { result ≡ class }
+{
+    class as usize
+}
+
 fn widened(alloc: Global, classes: &[u32]) -> Result<Vec<usize>, AllocError>
     ensures { IfOk result (λ wide. wide.items ≡ classes.now) }
 {
     let mut wide = Vec::new(alloc);
     for class in classes {
-        wide.push(*class as usize)?;
+        wide.push(wide_class(*class))?;
     }
     Ok(wide)
 }
@@ -169,7 +174,7 @@ pub fn limit_fanout(
     stays_right_law();
     let cells = library.cells();
     let mut wiring = wiring_of(alloc, netlist, library)?;
-    let loads = loads(alloc, netlist, library, wiring.high, wiring.low)?;
+    let loads = net_loads(alloc, netlist, library, wiring.high, wiring.low)?;
     let limit = fanout as usize;
     if !is_crowded(&loads, limit) {
         return Ok(with_gates(alloc, netlist, None, wiring)?);

@@ -13,7 +13,7 @@ use Rattle.cell_model.proofs.Members.{In-split, In-map, In-map_back, All-In}
 use Rattle.net_core.specs.Netlist.{Instance, port}
 use Rattle.loon_fanout.specs.Sinks.{Wired, sinks}
 use Rattle.loon_fanout.specs.Wired.{with_group}
-use Rattle.loon_fanout.specs.Repeaters.{Repeater}
+use Rattle.loon_wiring.specs.Repeaters.{Repeater}
 use Rattle.loon_fanout.specs.Limited.{Row, with_round, IsLimited, within, round}
 use Rattle.loon_fanout.specs.Laws.{gate_named}
 use Rattle.loon_fanout.proofs.Splitting.{sink_at}

@@ -12,7 +12,7 @@ use Rattle.cell_model.proofs.Texts.{text_differs}
 use Rattle.net_core.specs.Netlist.{Instance, port, pin_of}
 use Rattle.loon_fanout.specs.Sinks.{Wired, sinks, is_same_terminal}
 use Rattle.loon_fanout.specs.Wired.{pin_class, with_gate, with_row, with_moved, with_group}
-use Rattle.loon_fanout.specs.Repeaters.{Repeater}
+use Rattle.loon_wiring.specs.Repeaters.{Repeater}
 use Rattle.loon_fanout.specs.Limited.{Row, with_round, IsLimited, within, round}
 use Rattle.loon_fanout.specs.Laws.{gate_named}
 use Rattle.loon_fanout.proofs.Picking.{is_false, any_in, only_one}

@@ -15,7 +15,7 @@ use Rattle.net_core.specs.Netlist.{Netlist, IsNetlist, terminals}
 use Rattle.loon_fanout.specs.declared.error.BufferError.{BufferError}
 use Rattle.loon_fanout.specs.declared.error.BufferError.TheVariants as error
 use Rattle.loon_fanout.specs.Limited.{IsCrowded, HasFanout, IsOfCells, StaysRight}
-use Rattle.loon_fanout.specs.Repeaters.{NoneRepeats}
+use Rattle.loon_wiring.specs.Repeaters.{NoneRepeats}
 use Rattle.loon_drive.specs.Driven.{most_sinks, IsDrivenFrom}
 use Rattle.spell_theory.specs.Layout.{text_of}
 use Rattle.vst_write.specs.Written.{layout}

@@ -1,6 +1,6 @@
 use Rattle.std.proofs.Common.{refl, arith}
 use Rattle.loon_fanout.proofs.Adding.{stands_get}
-use Rattle.loon_fanout.proofs.Loading.{none_long}
+use Rattle.loon_fanout.proofs.Long.{none_long}
 use Rattle.loon_fanout.proofs.limit.is_crowded.Goals as goal
 
 pub returns-then-len-limit : goal.returns-then-len-limit

@@ -8,18 +8,18 @@ use Rattle.cell_model.specs.Connectors.{PinsAreConnectors}
 use Rattle.cell_pins.proofs.Sound.{connected}
 use Rattle.net_core.specs.Netlist.{port}
 use Rattle.net_core.proofs.Rings.{class_below}
-use Rattle.loon_fanout.specs.Stages.{all_marks}
-use Rattle.loon_fanout.proofs.Loading.{loads_below}
+use Rattle.loon_loads.specs.Loads.{all_marks}
+use Rattle.loon_loads.proofs.Loading.{loads_below}
 use Rattle.loon_fanout.specs.Sinks.{wired_of}
 use Rattle.loon_fanout.proofs.Wholes.{built_gatable, built_fanout, built_cells, start_buffered, limited_buffered, start_few, limited_few, not_none, Calm, calm, crowded, Repeated, repeated, lacking}
 use Rattle.loon_fanout.proofs.limit.limit_fanout.Goals as goal
 
-pub loads-requires-clause-high : goal.loads-requires-clause-high
-loads-requires-clause-high c =
+pub net_loads-requires-clause-high : goal.net_loads-requires-clause-high
+net_loads-requires-clause-high c =
     class_below c.args.netlist.now c.in_ok-wiring.ensures.sound (port vdd) c.in_ok-wiring.wiring.high c.in_ok-wiring.ensures.start.high
 
-pub loads-requires-clause-low : goal.loads-requires-clause-low
-loads-requires-clause-low c =
+pub net_loads-requires-clause-low : goal.net_loads-requires-clause-low
+net_loads-requires-clause-low c =
     class_below c.args.netlist.now c.in_ok-wiring.ensures.sound (port vss) c.in_ok-wiring.wiring.low c.in_ok-wiring.ensures.start.low
 
 pub make_repeater-requires-clause-formed : goal.make_repeater-requires-clause-formed

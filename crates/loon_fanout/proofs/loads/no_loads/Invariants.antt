@@ -1,6 +1,0 @@
-use Rattle.std.proofs.Common.{[]}
-use Rattle.loon_fanout.specs.Stages.{AreLoads}
-use Rattle.loon_fanout.proofs.loads.no_loads.Given as goal
-
-abbrev pub invariant-loop : goal.invariant-loop
-invariant-loop l = AreLoads [] [] l.counter l.loads.items

@@ -1,0 +1,6 @@
+use Rattle.std.proofs.Common.{◌≡◌, ◌++◌, drop}
+use Rattle.machine_meaning.specs.Machine.{names_of}
+use Rattle.loon_wiring.proofs.repeater.port_names.Given as goal
+
+abbrev pub invariant-loop-port : goal.invariant-loop-port
+invariant-loop-port l = l.names.items ++ names_of (drop l.port-index l.ports) ≡ names_of l.ports

@@ -1,0 +1,2 @@
+pub mod Repeaters
+pub mod Stages
