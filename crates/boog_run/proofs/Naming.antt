@@ -1,27 +1,19 @@
 -- Nothing of its names stands against writing a netlist that was mapped of what was read.
-use Rattle.std.proofs.Common.{◌≡◌, inl, inr, ℕ, zero, suc, ◌+◌, ◌^◌, ◌<◌, ◌≤◌, Bool, false, List, [], ◌∷◌, ◌++◌, map, length, refl, sym, ◌∙◌, ap, ap₂, subst, arith, length-append}
-use Rattle.std.specs.Prelude.{drop}
+use Rattle.std.proofs.Common.{◌≡◌, inl, inr, ℕ, zero, suc, ◌+◌, ◌^◌, ◌<◌, ◌≤◌, false, List, [], ◌∷◌, ◌++◌, map, length, refl, sym, ◌∙◌, ap, subst, arith, length-append}
 use Rattle.vlsi_base.specs.declared.name.Port.{Port}
-use Rattle.vlsi_base.specs.declared.name.Name.{Name}
-use Rattle.vlsi_base.specs.declared.name.Dir.{Dir}
 use Rattle.vlsi_base.specs.Member.{In, here, there}
 use Rattle.machine_meaning.specs.Machine.{Machine}
 use Rattle.machine_meaning.specs.Size.{machine_size}
 use Rattle.port_words.specs.Words.{IsIdentifier, CanBePorts}
 use Rattle.port_words.proofs.Numbered.{numbered}
 use Rattle.cell_model.specs.Access.{count_to}
-use Rattle.cell_model.specs.declared.cell.Pin.{Pin}
-use Rattle.cell_model.specs.Cell.{Cell, Function}
+use Rattle.cell_model.specs.Cell.{Cell}
 use Rattle.cell_model.specs.Library.{Library}
 use Rattle.cell_model.proofs.Members.{In-split, In-map, In-map_back, All-from}
-use Rattle.vbe_io.specs.declared.cell_text.GenericValue.{GenericValue}
-use Rattle.cell_function.specs.Timing.{pin_of}
-use Rattle.cell_lib.specs.Cells.{Source, sources, AreCells, none, next}
-use Rattle.cell_lib.specs.Library.{IsCell, IsLibraryOf}
-use Rattle.cell_pins.specs.Pins.{all_ports}
-use Rattle.cell_pins.specs.Table.{ArePins, no_pins, one_pin, AreModels, no_models, listed, left_out, IsTableOf, IsListed}
+use Rattle.cell_lib.specs.Cells.{sources}
+use Rattle.cell_lib.specs.Library.{IsLibraryOf}
+use Rattle.cell_pins.specs.Table.{IsTableOf}
 use Rattle.cell_pins.proofs.Sound.{member_at}
-use Rattle.net_core.specs.declared.pins.ModelPin.{ModelPin}
 use Rattle.net_core.specs.declared.pins.ModelPins.{ModelPins}
 use Rattle.net_core.specs.Netlist.{Instance, Netlist}
 use Rattle.net_meaning.specs.Netlist.{Member, Netlist as Seen}
@@ -29,7 +21,7 @@ use Rattle.net_meaning.specs.Agreement.{register_instance}
 use Rattle.net_meaning.specs.Well.{gate_instance, buffer_instance}
 use Rattle.net_theory.proofs.Basics.{length-map}
 use Rattle.net_view.specs.View.{member_of}
-use Rattle.net_view.specs.Writable.{port_of, CanBeAnInstance, CanBeNamed, PinsCanBeWritten}
+use Rattle.net_view.specs.Writable.{CanBeAnInstance, CanBeNamed, PinsCanBeWritten}
 use Rattle.net_view.proofs.Lists.{in_place}
 use Rattle.ocp_rows.specs.Order.{IsInNetlistOrder}
 use Rattle.ocp_rows.specs.Placement.{Placement}

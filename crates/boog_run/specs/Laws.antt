@@ -7,7 +7,6 @@ use Rattle.source_meaning.specs.Checks.{most_ports}
 use Rattle.vbe_io.specs.Text.{IsVbe}
 use Rattle.cell_model.specs.Library.{Library}
 use Rattle.cell_lib.specs.Library.{IsLibraryOf}
-use Rattle.net_core.specs.declared.pins.ModelPins.{ModelPins}
 use Rattle.net_core.specs.Netlist.{Netlist}
 use Rattle.net_meaning.specs.Netlist.{Netlist as Seen}
 use Rattle.net_meaning.specs.Well.{IsWell}
