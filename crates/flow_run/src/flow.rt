@@ -28,6 +28,7 @@ use catal::{CatalError, read_catal};
 use cell_checks::Library;
 use cell_lib::{catal_file, library_law, library_status, named_files, read_library};
 use cell_model::first_missing;
+use fsm_few::machine_has_few_signals;
 use fsm_io::read_fsm;
 use loon_drive::Driven;
 use machine_core::Machine;
@@ -91,6 +92,8 @@ fn source_of(alloc: Global, command: &FlowCommand, source: &[u8]) -> Result<Sour
             machine,
         });
     }
+    // What is read has few signals.
+    machine_has_few_signals();
     let states = read_fsm(alloc, source)?;
     let style = style_of(command.encoding, command.seed);
     let Encoded { codes, machine } = encoded_machine(alloc, &states, style)?;

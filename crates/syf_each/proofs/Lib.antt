@@ -1,4 +1,2 @@
-mod Signals
-mod Counted
 mod Free
 mod Encoded

@@ -2,6 +2,7 @@
 ghost use Rattle.syf_each.specs.Law.{EncodedExists};
 
 use free_names::texts_are_free;
+use fsm_few::machine_has_few_signals;
 use fsm_io::fsm_is_checked;
 use fsm_machine::{encodings_are_codes, machine_is_ordered};
 use syf_machine::machine_does_as;
@@ -12,6 +13,7 @@ pub fn each_text_is_encoded()
     ensures { EncodedExists }
 {
     fsm_is_checked();
+    machine_has_few_signals();
     encodings_are_codes();
     texts_are_free();
     machine_is_ordered();

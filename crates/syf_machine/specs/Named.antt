@@ -1,5 +1,5 @@
 -- The machine of a state machine by codes of its states, and the names that are given to what is inside.
-use Rattle.std.specs.Prelude.{◌≡◌, ℕ, ◌+◌, ◌<◌, ◌^◌, Bool, not, ◌&&◌, List, [], ◌∷◌, map, length, codes, if◌then◌else◌}
+use Rattle.std.specs.Prelude.{◌≡◌, ℕ, ◌+◌, ◌-◌, ◌*◌, ◌<◌, ◌^◌, Bool, not, ◌&&◌, List, [], ◌∷◌, map, length, codes, if◌then◌else◌}
 use Rattle.vlsi_base.specs.declared.name.Name.{Name}
 use Rattle.vlsi_base.specs.declared.name.Port.{Port}
 use Rattle.vlsi_base.specs.Names.{scalar}
@@ -27,6 +27,12 @@ names_for ports many = map scalar (free_texts (codes "n") (texts_of ports) many)
 
 abbrev pub inner_names : Fsm → List Name
 inner_names f = names_for f.ports (inner_count f)
+
+-- Numbers of 32 bits count the variables and the ports of a machine by these codes, and leave 65,536 for names of later stages. Each
+-- port counts twice, since most are variables too; the other variables are the bits of a code, one for each state, and the signals of
+-- the statements.
+abbrev pub HasFewSignals : Fsm → Codes → Type 0
+HasFewSignals f c = 2 * length f.ports + c.width + length c.codes + signals f.body < 2 ^ 32 - 2 ^ 16
 
 -- The registers are the bits of the first of st, st0, st1, and so on that no port has. Numbers of 32 bits count the signals inside and
 -- the ports.

@@ -1,5 +1,5 @@
 // The machine of a state machine.
-ghost use Rattle.std.specs.Prelude.{◌≡◌, ◌<◌, ◌≤◌, ◌^◌, ◌+◌, ◌-◌, ◌*◌, ◌++◌, None, false, length, map, IfOk, OnOk, IsTrue};
+ghost use Rattle.std.specs.Prelude.{◌≡◌, ◌<◌, ◌^◌, ◌+◌, ◌-◌, ◌++◌, None, false, length, map, IfOk, OnOk};
 ghost use Rattle.bool_expr.specs.Expression.{constant};
 ghost use Rattle.bool_expr.specs.View.{view};
 ghost use Rattle.machine_core.specs.Checked.{IsChecked};
@@ -12,7 +12,7 @@ ghost use Rattle.fsm_code.specs.Over.{IsBodyOver, numbered_body};
 ghost use Rattle.fsm_code.specs.Sought.{given_to};
 ghost use Rattle.fsm_code.specs.View.{body_view};
 ghost use Rattle.syf_machine.specs.Pieces.{equated, equations_from, machine_with, output_of, register_of, registered};
-ghost use Rattle.syf_machine.specs.Named.{IsMachineOf, names_for};
+ghost use Rattle.syf_machine.specs.Named.{HasFewSignals, IsMachineOf, names_for};
 ghost use Rattle.syf_machine.specs.Meaning.{DoesAs};
 
 use crate::inner::inner_expressions;
@@ -20,16 +20,13 @@ use crate::law::machine_does_as;
 use crate::names::{copied, inner_names, inputs, outputs, port_numbers, register_text};
 use bool_expr::Expr;
 use free_names::texts_are_free;
-use fsm_code::{Codes, Place, Sought, Statements, Target, signals};
+use fsm_code::{Codes, Place, Sought, Statements, Target};
 use fsm_core::StateMachine;
 use fsm_machine::machine_is_ordered;
 use machine_core::Machine;
 use machine_meaning::{Equation, Register};
 use std::alloc::{AllocError, Global};
 use vlsi_base::{Listed, Name, Port, Text};
-
-// Names of a machine have numbers of 32 bits, of which some are left to the stages behind.
-const MOST_NAMES: u64 = 4_294_901_760;
 
 // The statements of a state machine, what stands for their variables, and the numbers of the first register and of their first
 // signal.
@@ -140,17 +137,6 @@ impl Body<'_> {
     }
 }
 
-// Whether all names together with the ports are fewer than this: ports, bits of the code, states, and signals of the statements.
-fn has_room(ports: usize, codes: &Codes, body: &Statements) -> bool
-    ensures { IsTrue result → 2 * ports + codes.now.width + length codes.now.codes + signals (body_view body.now) < 2 ^ 32 - 2 ^ 16 }
-{
-    let states = codes.as_slice().len() as u64;
-    let others = states
-        .saturating_add(u64::from(codes.width()))
-        .saturating_add(signals(body));
-    (ports as u64).saturating_mul(2).saturating_add(others) < MOST_NAMES
-}
-
 // Names and expressions, one beside the other.
 fn equations(alloc: Global, names: &[Name], made: Vec<Expr>) -> Result<Vec<Equation>, AllocError>
     requires { length names.now ≡ length made.items }
@@ -237,15 +223,14 @@ fn machine_with(
 /// The machine of a state machine by codes of its states. Its registers hold the code, bit k of which is bit k of `st`, or of the
 /// first of st0, st1, and so on where ports have that name. Its equations are, for each state, whether it is the one that is held; for
 /// each condition of an `if` its value, and for each part and branch whether it is taken; and for each output what the statements
-/// leave of it. More names than numbers of 32 bits count, 65,536 left free for those
-/// of later stages, are answered as out of memory. Takes memory for them, and time for the
-/// statements at each output and each bit of the code.
+/// leave of it. Takes memory for them, and time for the statements at each output and each bit of the code.
 pub fn machine_of(
     alloc: Global,
     machine: &StateMachine,
     codes: &Codes,
 ) -> Result<Machine, AllocError>
-    requires { AreCodes (length machine.now.states) codes.now }
+    requires codes { AreCodes (length machine.now.states) codes.now }
+    requires few { HasFewSignals machine.now codes.now }
     ensures made { IfOk result (λ m. IsMachineOf machine.now codes.now m) }
     ensures does { IfOk result (λ m. DoesAs machine.now codes.now m) }
     ensures few { IfOk result (λ m. length m.vars + length m.ports < 2 ^ 32 - 2 ^ 16) }
@@ -254,9 +239,6 @@ pub fn machine_of(
     texts_are_free();
     machine_does_as();
     let ports = machine.ports().as_slice();
-    if !has_room(ports.len(), codes, machine.body()) {
-        return Err(AllocError);
-    }
     let inputs = inputs(alloc, ports, machine.clock())?;
     let numbers = port_numbers(alloc, ports, machine.clock())?;
     let base = inputs.len() as u32;

@@ -3,7 +3,7 @@ ghost use Rattle.std.specs.Prelude.{◌≡◌, ◌+◌, ◌-◌, ◌<◌, ◌^�
 ghost use Rattle.fsm_machine.specs.Codes.{AreCodes};
 ghost use Rattle.machine_core.specs.Checked.{IsChecked};
 ghost use Rattle.syf_encode.specs.Codes.{codes_by};
-ghost use Rattle.syf_machine.specs.Named.{IsMachineOf};
+ghost use Rattle.syf_machine.specs.Named.{HasFewSignals, IsMachineOf};
 ghost use Rattle.syf_machine.specs.Meaning.{DoesAs};
 ghost use Rattle.syf_run.specs.Syf.{style_of};
 
@@ -39,6 +39,7 @@ pub fn encoded_machine(
     states: &StateMachine,
     style: Style,
 ) -> Result<Encoded, AllocError>
+    requires few { HasFewSignals states.now (codes_by style states.now) }
     ensures codes { IfOk result (λ e. e.codes ≡ codes_by style states.now) }
     ensures different { IfOk result (λ e. AreCodes (length states.now.states) e.codes) }
     ensures made { IfOk result (λ e. IsMachineOf states.now e.codes e.machine) }

@@ -9,6 +9,7 @@ ghost use Rattle.syf_run.specs.Syf.{code_lines as code_lines_of, text_name, Enco
 use crate::encoded::{Encoded, encoded_machine, style_of};
 use crate::lines::code_lines;
 use fsm_core::StateMachine;
+use fsm_few::machine_has_few_signals;
 use fsm_io::read_fsm;
 use fsm_words::machine_of_fsm_can_be_written;
 use std::alloc::{AllocError, Global};
@@ -54,8 +55,9 @@ fn product(
 fn encodes(alloc: Global, command: &SyfCommand, source: &[u8]) -> Result<Product, Refusal>
     ensures { IsJudged (Encodes command.now source.now) result }
 {
-    // What is read has names that can be written.
+    // What is read has names that can be written, and few signals.
     machine_of_fsm_can_be_written();
+    machine_has_few_signals();
     let states = match read_fsm(alloc, source) {
         Ok(states) => states,
         Err(error) => return Err(Refusal::plain(refused(alloc, &command.source, error))),

@@ -12,7 +12,7 @@ use Rattle.fsm_text.specs.Written.{StatementTree, chosen, selected, asserted, as
 use Rattle.fsm_text.specs.Fsm.{part, further_part, last_part, behind_if, conditional, listed_branch, led_branch, others_branch, last_branch, branches, behind_case, case_statement, assertion, assignment, statement, body_over, nested, body, step_process, processes, architecture, machine}
 use Rattle.fsm_io.specs.Text.{IsWritten}
 use Rattle.fsm_io.proofs.Few.{tokens_few, length_tokens}
-use Rattle.syf_each.proofs.Signals.{in_body, in_statement, in_branches, total, in_further, in_listed, in_last, in_all, in_if, in_case}
+use Rattle.fsm_few.proofs.Signals.{in_body, in_statement, in_branches, total, in_further, in_listed, in_last, in_all, in_if, in_case}
 
 -- ---- grammars
 

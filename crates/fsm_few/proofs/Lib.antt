@@ -1,0 +1,4 @@
+mod Signals
+mod Counted
+pub mod Codes
+mod Few
