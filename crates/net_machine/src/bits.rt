@@ -5,14 +5,15 @@ ghost use Rattle.std.specs.List.{All};
 ghost use Rattle.vlsi_base.specs.Range.{rising};
 ghost use Rattle.bool_expr.specs.Expression.{IsOver};
 ghost use Rattle.bool_expr.specs.View.{view};
+ghost use Rattle.bool_expr.specs.Renumbering.{renumbered as renumbered_by};
 ghost use Rattle.source_bits.specs.Driven.{driven_view, stored_view};
 ghost use Rattle.net_core.specs.Places.{IsThere};
 ghost use Rattle.net_core.specs.Netlist.{pin_of, terminals};
-ghost use Rattle.net_machine.specs.Body.{load_view, shown_view, body_view, width};
+ghost use Rattle.net_machine.specs.Body.{load_view, value_view, shown_view, body_view, width};
 ghost use Rattle.net_machine.specs.Bits.{own_name, is_signal, fixed_bit, port_names, port_inputs, own_of, port_driven, classes_driven, numbers, stored_from, inner_from, shown_from, body_stored, body_driven, instances_stored, instances_driven, widths, first_base, bits_of};
 ghost use Rattle.net_machine.specs.Gathered.{bits_count, HasPins, IsBodyOver, IsLonger, Gathers, ForClasses, ForKnown, AreKnown, AreBitsOf};
 
-use crate::body::{Body, Load, Shown};
+use crate::body::{Body, Load, Shown, Value};
 use crate::clock::class_of;
 use crate::known::Known;
 use bit_machine::{BitSystem, DrivenBit, StoredBit};
@@ -275,6 +276,17 @@ fn push_inner(
     Ok(())
 }
 
+/// What an output pin has the value of, by the numbers of a body's bits.
+fn shown_value(alloc: Global, value: &Value, table: &[u32]) -> Result<Expr, AllocError>
+    requires { IsOver (value_view value.now) (length table.now) }
+    ensures { IfOk result (λ expr. view expr ≡ renumbered_by table.now (value_view value.now)) }
+{
+    match value {
+        Value::Of(expr) => renumbered(alloc, expr, table),
+        Value::Bit(place) => Ok(Expr::Var(table[*place])),
+    }
+}
+
 /// Puts the classes of a body's output pins behind what is there.
 fn push_shown(
     alloc: Global,
@@ -285,13 +297,13 @@ fn push_shown(
     table: &[u32],
 ) -> Result<(), AllocError>
     requires pins { All (λ s. IsThere (terminals netlist.now) (pin_of owner.now s.pin)) shows.now }
-    requires over { All (λ s. IsOver (view s.expr) (length table.now)) shows.now }
+    requires over { All (λ s. IsOver (value_view s.value) (length table.now)) shows.now }
     ensures { OnOk result (ForClasses netlist.now (λ class. map driven_view driven.new.items
         ≡ map driven_view driven.old.items ++ shown_from class owner.now table.now (map shown_view shows.now))) }
 {
     for shown in shows {
         let bit = class_of(alloc, netlist, owner, &shown.pin)?;
-        let expr = renumbered(alloc, &shown.expr, table)?;
+        let expr = shown_value(alloc, &shown.value, table)?;
         driven.push(DrivenBit { bit, expr })?;
     }
     Ok(())
