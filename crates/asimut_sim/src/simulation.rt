@@ -1,5 +1,5 @@
 // Patterns on a machine, one after another.
-ghost use Rattle.std.specs.Prelude.{◌≡◌, ◌++◌, ◌<◌, ◌≤◌, ◌^◌, false, None, IfOk, IfErr, OnOk, length, replicate, map};
+ghost use Rattle.std.specs.Prelude.{◌≡◌, false, None, IfOk, IfErr, OnOk, length, replicate, map};
 ghost use Rattle.std.specs.List.{All};
 ghost use Rattle.pat_meaning.specs.Columns.{listed, FitsColumns};
 ghost use Rattle.pat_meaning.specs.Simulation.{rises};

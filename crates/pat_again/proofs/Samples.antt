@@ -117,4 +117,4 @@ spelled =
 -- The law speaks of them: their text is a pattern file of them.
 pub sample_again : IsPatternText (text_of sample) ports sample
 unfolding text_of digits
-sample_again = written_is_read_again ports sample (record { columns = right; different = different; values = fits; few = omega arith }) free spelled refl (omega arith)
+sample_again = written_is_read_again ports sample (record { columns = right; different = different; values = fits }) free spelled refl (omega arith)

@@ -1,5 +1,5 @@
 -- What is read without a fault is for the ports.
-use Rattle.std.proofs.Common.{◌≡◌, ℕ, zero, suc, ◌+◌, ◌-◌, ◌*◌, ◌/◌, ◌^◌, ◌<◌, ◌≤◌, Bool, true, false, not, ◌&&◌, ◌||◌, nat_eq, bytes_eq, List, [], ◌∷◌, ◌++◌, length, map, take, codes, Option, Some, None, refl, sym, ap, subst, ◌∙◌, ◌⊎◌, inl, inr, arith, length-drop}
+use Rattle.std.proofs.Common.{◌≡◌, ℕ, zero, suc, ◌+◌, ◌-◌, ◌*◌, ◌/◌, ◌≤◌, Bool, true, false, not, ◌&&◌, ◌||◌, nat_eq, bytes_eq, List, [], ◌∷◌, ◌++◌, length, map, take, codes, Option, Some, None, refl, sym, ap, subst, ◌∙◌, ◌⊎◌, inl, inr, arith, length-drop}
 use Rattle.std.specs.List.{All, list_all}
 use Rattle.std.proofs.lemmas.Bool.{eqb-true}
 use Rattle.std.proofs.lemmas.List.{length-append}
@@ -194,19 +194,13 @@ fitting_patterns cs (p ∷ ps) m h =
     let M : ParsedPattern → Type 0 = λ p. Matches cs p.values in
     All-cons (λ q. FitsColumns (map column_of cs) q.values) (pattern_for cs p) (map (pattern_for cs) ps) (fitting_values cs p.values (All-head M p ps m) parts.0) (fitting_patterns cs ps (All-tail M p ps m) parts.1)
 
-length_patterns : (cs : List ParsedColumn) (ps : List ParsedPattern) → length (map (pattern_for cs) ps) ≡ length ps
-length_patterns cs [] = refl
-length_patterns cs (p ∷ ps) = ap suc (length_patterns cs ps)
-
 -- ---- all
 
-pub are_for : (bytes : List ℕ) (ports : List Port) (parsed : PatternFile) → IsWritten bytes parsed → fault_in ports parsed ≡ None → length parsed.patterns < 2 ^ 32 → AreFor ports (patterns_for parsed)
-are_for bytes ports parsed w h few =
+pub are_for : (bytes : List ℕ) (ports : List Port) (parsed : PatternFile) → IsWritten bytes parsed → fault_in ports parsed ≡ None → AreFor ports (patterns_for parsed)
+are_for bytes ports parsed w h =
     let none = no_fault ports parsed h in
-    let count = length_patterns parsed.columns parsed.patterns in
     record {
       columns = fitting_columns ports parsed.columns none.columns;
       different = different ports [] parsed.columns none.known;
       values = fitting_patterns parsed.columns parsed.patterns (matching_file _ parsed w.file) none.values;
-      few = omega (arith, count, few);
     }

@@ -1,5 +1,5 @@
 // The reader.
-ghost use Rattle.std.specs.Prelude.{◌≡◌, ◌<◌, ◌≤◌, ◌^◌, Some, None, ◌∷◌, [], IfOk, IfErr, OnOk, length};
+ghost use Rattle.std.specs.Prelude.{◌≡◌, Some, None, IfOk, IfErr, OnOk};
 ghost use Rattle.std.specs.Option.{option_copied};
 ghost use Rattle.pat_meaning.specs.Answers.{AreFor};
 ghost use Rattle.pat_lexer.specs.Listing.{tokens_in, refusal_in};

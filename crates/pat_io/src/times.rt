@@ -28,10 +28,11 @@ fn further(time: Time) -> u128
     u128::from(time.number) * u128::from(unit_size(time.unit))
 }
 
-/// The time of a pattern behind one at this time, in femtoseconds. From 2^128 on it stays at the greatest number: that a
-/// time by itself is before it, and an added one isn't, is the same there.
+/// The time of a pattern behind one at this time, in femtoseconds. One past 2^128 stands as 2^128 - 1: no time that is added
+/// to either is before it, and each time by itself is before both.
 fn time_behind(before: u128, time: Time) -> u128
-    ensures { result ≡ min (time_behind before time) (2 ^ 128 - 1) }
+    ensures time { result ≡ min (time_behind before time) (2 ^ 128 - 1) }
+    ensures few { time.number * unit_size time.unit ≤ 2 ^ 72 }
 {
     let base = if time.is_added { before } else { 0 };
     base.saturating_add(further(time))

@@ -1,4 +1,4 @@
-use Rattle.std.proofs.Common.{rules, ◌≡◌, ◌<◌, ◌^◌, length, subst, sym}
+use Rattle.std.proofs.Common.{rules, ◌≡◌, subst, sym}
 use Rattle.std.proofs.lemmas.Result.{err_from_is_err_and}
 use Rattle.pat_meaning.specs.declared.patterns.Patterns.{Patterns}
 use Rattle.pat_meaning.specs.Answers.{AreFor}
@@ -13,7 +13,6 @@ returns-in_err-check-clause-refused c =
 
 pub returns-clause-fits : goal.returns-clause-fits
 returns-clause-fits c =
-    let few : length c.in_ok-parsed.parsed.patterns < 2 ^ 32 = search rules in
     let For : Patterns → Type 0 = λ p. AreFor c.args.ports.now p in
     let made : c.in_ok-made.made ≡ patterns_for c.in_ok-parsed.parsed = search rules in
-    subst For (sym made) (are_for c.args.bytes.now c.args.ports.now c.in_ok-parsed.parsed c.in_ok-parsed.ensures.written (search rules) few)
+    subst For (sym made) (are_for c.args.bytes.now c.args.ports.now c.in_ok-parsed.parsed c.in_ok-parsed.ensures.written (search rules))
