@@ -1,6 +1,7 @@
 -- What `asimut` on a netlist reads and answers.
-use Rattle.std.specs.Prelude.{◌≡◌, ℕ, true, false, List, [], ◌∷◌, get_or, None, Result, Ok, Err}
+use Rattle.std.specs.Prelude.{◌≡◌, ℕ, ◌<◌, ◌^◌, true, false, List, [], ◌∷◌, get_or, None, Result, Ok, Err}
 use Rattle.vlsi_base.specs.declared.limits.TheConstants.{MOST_NETLIST_BYTES}
+use Rattle.vlsi_base.specs.declared.fault.LimitKind.TheVariants.{Bits}
 use Rattle.vlsi_base.specs.declared.name.Name.{Name}
 use Rattle.catal.specs.Cells.{cells_in}
 use Rattle.cell_model.specs.Library.{Library}
@@ -11,6 +12,9 @@ use Rattle.cell_pins.specs.Table.{IsTableOf}
 use Rattle.net_core.specs.declared.pins.ModelPins.{ModelPins}
 use Rattle.net_core.specs.Netlist.{Netlist}
 use Rattle.net_machine.specs.Signals.{signal_ports, HasBehaviour, IsFirstOpaque}
+use Rattle.net_machine.specs.Bits.{bits_of}
+use Rattle.net_machine.specs.Answers.{HasTooManyBits}
+use Rattle.net_view.specs.Condition.{MeetsCondition}
 use Rattle.net_sim.specs.declared.error.NetSimError.{NetSimError}
 use Rattle.net_sim.specs.declared.error.NetSimError.TheVariants as net
 use Rattle.net_sim.specs.Circuit.{IsFilledOn, DiffersOnNetlist}
@@ -60,7 +64,8 @@ pub record AreRead (t : Texts) (l : Library) (table : List ModelPins) (n : Netli
   pub netlist : IsVst t.source table n
   pub for_ports : IsPatternText t.patterns (signal_ports n.ports) p
 
--- No cell is opaque, the patterns come out as they expect, and this is their text with every output filled in.
+-- No cell is opaque, 32 bits can number the bits of the netlist's machine, the patterns come out as they expect, and this is their
+-- text with every output filled in.
 pub record IsSimulation (t : Texts) (text : List ℕ) : Type 0 where
   pub l : Library
   pub table : List ModelPins
@@ -69,11 +74,12 @@ pub record IsSimulation (t : Texts) (text : List ℕ) : Type 0 where
   pub out : Patterns
   pub read : AreRead t l table n p
   pub known : HasBehaviour n l
+  pub few : bits_of n l < 2 ^ 32
   pub filled : IsFilledOn n l table p out
   pub text_is : text ≡ text_of out
 
--- What is refused, in this order: the library, the netlist, the patterns, an instance of a cell of which nothing is known, the first
--- bit that isn't what the patterns expect.
+-- What is refused, in this order: the library, the netlist, the patterns, an instance of a cell of which nothing is known, a machine
+-- with more bits than 32 bits can number, the first bit that isn't what the patterns expect.
 pub data IsRefused (c : AsimutNetlistCommand) (t : Texts) (s : Status) : Type 0 where
   no_library : (e : LibError) → IsRefusedLibrary false t.catal t.cells e → s ≡ status_of e → IsRefused c t s
   bad_netlist : (l : Library) (table : List ModelPins) → AreCells t l table → OfFile c.source (IsVstRefusal t.source table) s → IsRefused c t s
@@ -81,8 +87,11 @@ pub data IsRefused (c : AsimutNetlistCommand) (t : Texts) (s : Status) : Type 0 
       → OfFile c.patterns (IsPatternRefusal t.patterns (signal_ports n.ports)) s → IsRefused c t s
   no_behaviour : (l : Library) (table : List ModelPins) (n : Netlist) (p : Patterns) (model : List ℕ) → AreRead t l table n p
       → IsFirstOpaque n l model → s ≡ status.No (NoBehaviour model) → IsRefused c t s
+  many_bits : (l : Library) (table : List ModelPins) (n : Netlist) (p : Patterns) (reached : ℕ) → AreRead t l table n p
+      → HasBehaviour n l → HasTooManyBits n l reached → s ≡ status.Limit (record { which = Bits; reached = reached }) → IsRefused c t s
   differs : (l : Library) (table : List ModelPins) (n : Netlist) (p : Patterns) (number : ℕ) (bit : Name) → AreRead t l table n p
-      → HasBehaviour n l → DiffersOnNetlist n l table p number bit → s ≡ status.No (Differs (label_of p.patterns number) bit) → IsRefused c t s
+      → HasBehaviour n l → bits_of n l < 2 ^ 32 → DiffersOnNetlist n l table p number bit
+      → s ≡ status.No (Differs (label_of p.patterns number) bit) → IsRefused c t s
 
 -- The filled patterns are printed, and no file is written; or one of these refusals.
 abbrev pub Simulates : AsimutNetlistCommand → Texts → Result Product Refusal → Type 0
@@ -96,9 +105,15 @@ texts first more = record { source = get_or first 0 []; patterns = get_or first 
 abbrev pub netlist_answers : AsimutNetlistCommand → Inputs → Result Product Refusal → Type 0
 netlist_answers c i r = Simulates c (texts i.first i.more) r
 
+-- so it is with all texts of these cells, of this netlist of them, and of these patterns
+abbrev pub ForTexts : Library → Netlist → List ℕ → (Texts → Type 0) → Type 0
+ForTexts l n patterns P =
+    (t : Texts) (table : List ModelPins) → AreCells t l table → IsVst t.source table n → MeetsCondition table n → t.patterns ≡ patterns → P t
+
 -- how a simulation's refusal is told
 abbrev pub IsToldOf : List Pattern → NetSimError → Status → Type 0
 IsToldOf patterns e status.Memory = Unit {0}
 IsToldOf patterns (net.NoBehaviour model) (status.No (NoBehaviour cell)) = cell ≡ model
+IsToldOf patterns (net.TooManyBits reached) (status.Limit limit) = limit ≡ record { which = Bits; reached = reached }
 IsToldOf patterns (net.Differs number name) (status.No (Differs label n)) = (label ≡ label_of patterns number) × (n ≡ name)
 IsToldOf patterns e s = ⊥

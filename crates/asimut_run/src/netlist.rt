@@ -1,11 +1,14 @@
 // `asimut` as a tool: patterns run on a netlist of library cells.
 ghost use Rattle.std.specs.Prelude.{◌≡◌, IfOk};
 ghost use Rattle.tool_drive.specs.Table.{IsJudged};
-ghost use Rattle.asimut_run.specs.Netlist.{netlist_file, texts, IsToldOf, Simulates};
+ghost use Rattle.net_machine.specs.Signals.{MeetsConditionWith};
+ghost use Rattle.asimut_run.specs.Netlist.{netlist_file, texts, ForTexts, IsToldOf, Simulates};
 
 use crate::source::label;
+use cell_checks::Library;
 use cell_lib::{catal_file, library_status, named_files, read_library};
 use cell_pins::pin_table;
+use net_core::Netlist;
 use net_machine::signal_ports;
 use net_sim::{NetSimError, simulate_net};
 use pat_io::{read_pat, write_pat};
@@ -13,7 +16,7 @@ use pat_meaning::Pattern;
 use std::alloc::{AllocError, Global};
 use tool_drive::{Over, Product, Refusal, Status, Tool, Verdict, Wanted, bytes_at, refused};
 use tool_words::AsimutNetlistCommand;
-use vlsi_base::{FileBytes, FileName, MOST_NETLIST_BYTES};
+use vlsi_base::{FileBytes, FileName, Limit, LimitKind, MOST_NETLIST_BYTES};
 use vst_io::read_vst;
 
 /// `asimut` on a netlist, with what it is asked: it runs PATTERNS on the netlist in SOURCE and prints them with every output filled
@@ -21,8 +24,8 @@ use vst_io::read_vst;
 ///
 /// All files are read first: SOURCE, PATTERNS, CATAL, and the behaviour and the layout of each cell that this uses. Then it is
 /// refused, in this order: by `Library`, or a limit of CATAL or of a cell; by `Source`, or a limit, of SOURCE, then of PATTERNS; by
-/// `NoBehaviour`, at the first instance whose cell is opaque; by `Differs`, at the first bit. Memory goes by the files, the netlist
-/// and its machine.
+/// `NoBehaviour`, at the first instance whose cell is opaque; by `Limit` of `Bits`, where 32 bits can't number the bits of the netlist's
+/// machine; by `Differs`, at the first bit. Memory goes by the files, the netlist and its machine.
 #[derive(Drop)]
 pub struct AsimutNetlist<'a> {
     pub command: &'a AsimutNetlistCommand,
@@ -45,11 +48,45 @@ fn refusal(alloc: Global, patterns: &[Pattern], error: NetSimError) -> Status
     match error {
         NetSimError::Memory => Status::Memory,
         NetSimError::NoBehaviour(cell) => Status::No(Verdict::NoBehaviour(cell)),
+        NetSimError::TooManyBits(reached) => Status::Limit(Limit {
+            which: LimitKind::Bits,
+            reached,
+        }),
         NetSimError::Differs { pattern, name } => match label(alloc, patterns, pattern) {
             Ok(label) => Status::No(Verdict::Differs { label, name }),
             Err(_) => Status::Memory,
         },
     }
+}
+
+// What the text of PATTERNS comes to on a netlist of these cells.
+fn on_netlist(
+    alloc: Global,
+    command: &AsimutNetlistCommand,
+    patterns: &[u8],
+    library: &Library,
+    netlist: &Netlist,
+) -> Result<Product, Refusal>
+    requires { MeetsConditionWith library.now netlist.now }
+    ensures { ForTexts library.now netlist.now patterns.now (λ t. IsJudged (Simulates command.now t) result) }
+{
+    let ports = signal_ports(alloc, netlist.ports())?;
+    let read = match read_pat(alloc, patterns, &ports) {
+        Ok(read) => read,
+        Err(error) => return Err(Refusal::plain(refused(alloc, &command.patterns, error))),
+    };
+    let filled = match simulate_net(alloc, netlist, library, &read) {
+        Ok(filled) => filled,
+        Err(error) => {
+            let patterns = read.patterns.as_slice();
+            return Err(Refusal::plain(refusal(alloc, patterns, error)));
+        }
+    };
+    Ok(Product {
+        name: command.source.copy(alloc)?,
+        file: None,
+        text: write_pat(alloc, &filled)?,
+    })
 }
 
 // What the texts come to: of SOURCE, PATTERNS and CATAL, and of the cells' files.
@@ -70,23 +107,7 @@ fn simulated(
         Ok(netlist) => netlist,
         Err(error) => return Err(Refusal::plain(refused(alloc, &command.source, error))),
     };
-    let ports = signal_ports(alloc, netlist.ports())?;
-    let read = match read_pat(alloc, bytes_at(first, 1), &ports) {
-        Ok(read) => read,
-        Err(error) => return Err(Refusal::plain(refused(alloc, &command.patterns, error))),
-    };
-    let filled = match simulate_net(alloc, &netlist, &library, &read) {
-        Ok(filled) => filled,
-        Err(error) => {
-            let patterns = read.patterns.as_slice();
-            return Err(Refusal::plain(refusal(alloc, patterns, error)));
-        }
-    };
-    Ok(Product {
-        name: command.source.copy(alloc)?,
-        file: None,
-        text: write_pat(alloc, &filled)?,
-    })
+    on_netlist(alloc, command, bytes_at(first, 1), &library, &netlist)
 }
 
 impl Tool for AsimutNetlist<'_> {

@@ -1,6 +1,7 @@
 -- What is asked where the parts of a machine are made.
-use Rattle.std.proofs.Common.{◌≡◌, ◌<◌, ℕ, List, map, length, refl, sym, subst, arith}
+use Rattle.std.proofs.Common.{◌≡◌, ◌<◌, ◌^◌, ℕ, List, map, length, refl, sym, ap, subst, arith}
 use Rattle.std.specs.List.{All}
+use Rattle.std.proofs.lemmas.List.{length-map}
 use Rattle.vlsi_base.specs.declared.name.Name.{Name}
 use Rattle.vlsi_base.specs.declared.name.Port.{Port}
 use Rattle.std.specs.Prelude.{Option}
@@ -16,12 +17,13 @@ use Rattle.source_bits.specs.declared.driven.DrivenBit.{DrivenBit}
 use Rattle.source_bits.specs.declared.driven.StoredBit.{StoredBit}
 use Rattle.source_bits.specs.Driven.{Numbered, NumberedStorage, driven_view, stored_view}
 use Rattle.vlsi_model.specs.Numbered.{name_at}
+use Rattle.vlsi_model.proofs.Counted.{few_below}
 use Rattle.vlsi_model.proofs.Members.{different_right}
 use Rattle.vlsi_model.proofs.Assembly.{All-from_In}
 use Rattle.bit_machine.specs.declared.system.BitSystem.{BitSystem}
 use Rattle.bit_machine.specs.System.{System, system_of, stored_bits, driven_bits, held_bits, IsSystem, FitsPorts, IsMachineOfBits}
 use Rattle.bit_machine.specs.Laid.{IsLaid, var_bits, ArePartsOf}
-use Rattle.bit_machine.proofs.Laying.{bits_seen, bits_inside}
+use Rattle.bit_machine.proofs.Laying.{bits_seen, bits_different, bits_inside}
 use Rattle.bit_machine.proofs.Built.{Made, checked, is_machine}
 
 pub driven_inside : (sys : BitSystem) → IsSystem (system_of sys) → (ds : List DrivenBit) (n : ℕ) → ds ≡ sys.driven.items → n ≡ length sys.names → All (λ d. d.bit < n) ds
@@ -87,3 +89,12 @@ finished s name ports clock places vars es rs is l fits parts e = (checked made,
     equations = parts.equations_are;
     registers = parts.registers_are;
   }
+
+-- a machine's names are no more than the bits
+pub vars_few : (s : System) (places : List ℕ) (vars : List Name) → IsSystem s → IsLaid s places → length s.names < 2 ^ 32 → vars ≡ map (name_at s.names) (var_bits s places)
+    → length vars < 2 ^ 32
+vars_few s places vars is l few e =
+    let fit = few_below (length s.names) (var_bits s places) (bits_different s places is l) (λ v i. bits_inside s places is l v i) in
+    let count = length-map (var_bits s places) (name_at s.names) in
+    let same = ap (λ (ns : List Name). length ns) e in
+    omega (arith, fit, count, same, few)

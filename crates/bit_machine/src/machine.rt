@@ -1,5 +1,5 @@
 // The machine of numbered bits.
-ghost use Rattle.std.specs.Prelude.{◌≡◌, ◌<◌, ◌^◌, ◌++◌, map, length, IfOk, OnOk};
+ghost use Rattle.std.specs.Prelude.{◌≡◌, ◌<◌, ◌^◌, ◌++◌, map, length, IfOk};
 ghost use Rattle.machine_core.specs.Checked.{IsChecked};
 ghost use Rattle.machine_core.specs.View.{machine_of};
 ghost use Rattle.source_bits.specs.Driven.{driven_view, stored_view};
@@ -15,17 +15,16 @@ use machine_core::Machine;
 use machine_meaning::{Equations, Registers};
 use std::alloc::{AllocError, Global};
 use vlsi_base::{Name, Names, Ports, Text};
-use vlsi_model::{few, node_order};
+use vlsi_model::node_order;
 
 /// The places of the driven bits in an order in which each reads only what is held or stands before it.
 fn driven_order(alloc: Global, system: &BitSystem) -> Result<Vec<u32>, AllocError>
     requires system { IsSystem (system_of system.now) }
     requires falls { Falls (system_of system.now).driven }
-    ensures laid { IfOk result (λ order. IsLaid (system_of system.now) order.items) }
-    ensures few { OnOk result (length system.now.names < 2 ^ 32) }
+    requires few { length system.now.names < 2 ^ 32 }
+    ensures { IfOk result (λ order. IsLaid (system_of system.now) order.items) }
 {
     let total = system.names.as_slice().len();
-    few(total)?;
     match node_order(alloc, total as u32, &system.driven)? {
         Order::Sorted(order) => Ok(order),
         Order::Ring(_) => unreachable!(),
@@ -64,8 +63,7 @@ fn parts(
 }
 
 /// The machine of numbered bits, with these ports and this clock. None of the driven bits may
-/// depend on itself. Takes time for each bit and each operator of the expressions, and memory for them. More bits than 32 bits
-/// can number are answered as out of memory.
+/// depend on itself. Takes time for each bit and each operator of the expressions, and memory for them.
 pub fn machine_of_bits(
     alloc: Global,
     name: Text,
@@ -76,7 +74,9 @@ pub fn machine_of_bits(
     requires system { IsSystem (system_of system.now) }
     requires falls { Falls (system_of system.now).driven }
     requires ports { FitsPorts ports clock (system_of system.now) }
-    ensures { IfOk result (λ m. IsMachineOfBits name ports clock (system_of system.now) m) }
+    requires few { length system.now.names < 2 ^ 32 }
+    ensures machine { IfOk result (λ m. IsMachineOfBits name ports clock (system_of system.now) m) }
+    ensures few { IfOk result (λ m. length m.vars < 2 ^ 32) }
 {
     let order = driven_order(alloc, system)?;
     let bits = var_bits(alloc, system, &order)?;

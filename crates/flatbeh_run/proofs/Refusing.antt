@@ -1,5 +1,5 @@
 -- From the refusals of readers and of the netlist's machine to the tool's.
-use Rattle.std.proofs.Common.{◌≡◌, ℕ, true, List, None, Result, Err, false, sym, subst, refl}
+use Rattle.std.proofs.Common.{◌≡◌, ◌<◌, ◌^◌, ℕ, true, List, None, Result, Err, false, sym, subst, refl}
 use Rattle.vlsi_base.specs.declared.fault.FaultKind.TheVariants as kind
 use Rattle.vlsi_base.specs.declared.fault.ReadError.{ReadError}
 use Rattle.vlsi_base.specs.declared.name.Name.{Name}
@@ -13,6 +13,7 @@ use Rattle.cell_lib.specs.Library.{IsLibraryOf, IsRefusedLibrary, status_of}
 use Rattle.cell_pins.specs.Table.{IsTableOf}
 use Rattle.net_core.specs.declared.pins.ModelPins.{ModelPins}
 use Rattle.net_core.specs.Netlist.{Netlist}
+use Rattle.net_machine.specs.Bits.{bits_of}
 use Rattle.net_flat.specs.declared.error.FlatError.{FlatError}
 use Rattle.net_flat.specs.declared.error.FlatError.TheVariants as flat
 use Rattle.net_flat.specs.Answers.{IsFlatRefusal}
@@ -25,7 +26,7 @@ use Rattle.tool_drive.specs.declared.tool.Product.{Product}
 use Rattle.tool_drive.specs.declared.tool.Refusal.{Refusal}
 use Rattle.tool_drive.specs.Table.{IsJudged, IsFair, refusal}
 use Rattle.tool_drive.specs.Refusals.{MemoryOr, OfFile, of_file, judged_file}
-use Rattle.flatbeh_run.specs.Flatbeh.{HasVectorClock, fault_of, no_library, bad_netlist, no_behaviour, twice, vector_clock, Flattens, IsToldOf}
+use Rattle.flatbeh_run.specs.Flatbeh.{HasVectorClock, fault_of, no_library, bad_netlist, no_behaviour, twice, many_bits, vector_clock, Flattens, IsToldOf}
 
 -- a status for which P holds, or out of memory, is one that a tool may answer
 judged : (A : Result Product Refusal → Type 0) (P : Status → Type 0) → ((t : Status) → P t → IsFair t None (A (Err (refusal t None)))) → (s : Status) → MemoryOr s (P s)
@@ -65,14 +66,17 @@ module _ (c : FlatbehCommand) (source list : List ℕ) (cells : List (List ℕ))
       told_flat (flat.Twice text) h t k =
           subst (λ (s : Status). IsFair s None (Flattens c source list cells (Err (refusal s None)))) (sym k)
           (refl, twice l table n text (record { library = library; pins = pins; netlist = netlist }) h.0 h.1 refl)
+      told_flat (flat.TooManyBits reached) h t k =
+          subst (λ (s : Status). IsFair s None (Flattens c source list cells (Err (refusal s None)))) (sym k)
+          (refl, many_bits l table n reached (record { library = library; pins = pins; netlist = netlist }) h.0 h.1 h.2 refl)
 
       pub by_flat : (e : FlatError) (s : Status) → IsFlatRefusal n l e → MemoryOr s (IsToldOf c e s) → IsJudged (Flattens c source list cells) (Err (refusal s None))
       by_flat e s h k = judged (Flattens c source list cells) (IsToldOf c e) (told_flat e h) s k
 
-      module _ (m : Machine) (plain : IsPlain n l) (apart : AreApart n l) (is : IsFlat n l table m) where
+      module _ (m : Machine) (plain : IsPlain n l) (apart : AreApart n l) (few : bits_of n l < 2 ^ 32) (is : IsFlat n l table m) where
         pub by_clock : (name : Name) (s : Status) → HasVectorClock m name → MemoryOr s (s ≡ fault_of c kind.ClockUse name) → IsJudged (Flattens c source list cells) (Err (refusal s None))
         by_clock name s h k =
             judged (Flattens c source list cells) (λ t. t ≡ fault_of c kind.ClockUse name)
             (λ t e.
             subst (λ (s : Status). IsFair s None (Flattens c source list cells (Err (refusal s None)))) (sym e)
-            (refl, vector_clock l table n m name (record { library = library; pins = pins; netlist = netlist }) plain apart is h refl)) s k
+            (refl, vector_clock l table n m name (record { library = library; pins = pins; netlist = netlist }) plain apart few is h refl)) s k

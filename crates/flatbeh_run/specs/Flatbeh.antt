@@ -1,9 +1,10 @@
 -- What `flatbeh` reads and answers.
-use Rattle.std.specs.Prelude.{◌≡◌, ℕ, ◌-◌, ◌^◌, min, true, false, List, [], ◌∷◌, ◌++◌, get_or, codes, None, Some, Result, Ok, Err}
+use Rattle.std.specs.Prelude.{◌≡◌, ℕ, ◌<◌, ◌-◌, ◌^◌, min, true, false, List, [], ◌∷◌, ◌++◌, get_or, codes, None, Some, Result, Ok, Err}
 use Rattle.std.specs.Fmt.{decimal}
 use Rattle.vlsi_base.specs.declared.limits.TheConstants.{MOST_NETLIST_BYTES}
 use Rattle.vlsi_base.specs.declared.fault.FaultKind.{FaultKind}
 use Rattle.vlsi_base.specs.declared.fault.FaultKind.TheVariants as kind
+use Rattle.vlsi_base.specs.declared.fault.LimitKind.TheVariants.{Bits}
 use Rattle.vlsi_base.specs.declared.name.Name.{Name}
 use Rattle.vlsi_base.specs.Names.{scalar}
 use Rattle.machine_meaning.specs.Machine.{Machine}
@@ -17,6 +18,8 @@ use Rattle.cell_lib.specs.Library.{IsLibraryOf, IsRefusedLibrary, status_of}
 use Rattle.cell_pins.specs.Table.{IsTableOf}
 use Rattle.net_core.specs.declared.pins.ModelPins.{ModelPins}
 use Rattle.net_core.specs.Netlist.{Netlist}
+use Rattle.net_machine.specs.Bits.{bits_of}
+use Rattle.net_machine.specs.Answers.{HasTooManyBits}
 use Rattle.net_flat.specs.declared.error.FlatError.{FlatError}
 use Rattle.net_flat.specs.declared.error.FlatError.TheVariants as flat
 use Rattle.net_flat.specs.Flat.{IsPlain, IsFirstOther, AreApart, IsFirstTwice, IsFlat}
@@ -62,8 +65,8 @@ pub record AreRead (source catal : List ℕ) (cells : List (List ℕ)) (l : Libr
   pub pins : IsTableOf l true table
   pub netlist : IsVst source table n
 
--- Library and netlist are read, each instance is a gate or a plain flip-flop, no flip-flop has the text of a port, and the machine of
--- the netlist by the names of its flip-flops is written.
+-- Library and netlist are read, each instance is a gate or a plain flip-flop, no flip-flop has the text of a port, 32 bits can number
+-- the bits of the netlist's machine, and that machine by the names of its flip-flops is written.
 pub record IsFlattening (c : FlatbehCommand) (source catal : List ℕ) (cells : List (List ℕ)) (p : Product) : Type 0 where
   pub l : Library
   pub table : List ModelPins
@@ -72,6 +75,7 @@ pub record IsFlattening (c : FlatbehCommand) (source catal : List ℕ) (cells : 
   pub read : AreRead source catal cells l table n
   pub plain : IsPlain n l
   pub apart : AreApart n l
+  pub few : bits_of n l < 2 ^ 32
   pub flat : IsFlat n l table m
   pub checked : IsChecked m
   pub names : CanBeVbe m
@@ -87,7 +91,8 @@ abbrev pub fault_of : FlatbehCommand → FaultKind → Name → Status
 fault_of c k name = status.Source c.source (record { line = 1; kind = k; names = name ∷ [] })
 
 -- What is refused, in this order: the library, the netlist, an instance that is neither a gate nor a plain flip-flop, a flip-flop with
--- the text of a port, and a clock that is a bit of a vector, which a data-flow text can't have.
+-- the text of a port, a machine with more bits than 32 bits can number, and a clock that is a bit of a vector, which a data-flow text
+-- can't have.
 pub data IsRefused (c : FlatbehCommand) (source catal : List ℕ) (cells : List (List ℕ)) (s : Status) : Type 0 where
   no_library : (e : LibError) → IsRefusedLibrary false catal cells e → s ≡ status_of e → IsRefused c source catal cells s
   bad_netlist : (l : Library) (table : List ModelPins) → IsLibraryOf false catal cells l → IsTableOf l true table
@@ -96,9 +101,12 @@ pub data IsRefused (c : FlatbehCommand) (source catal : List ℕ) (cells : List 
       → IsFirstOther n l model → s ≡ status.No (NoBehaviour model) → IsRefused c source catal cells s
   twice : (l : Library) (table : List ModelPins) (n : Netlist) (text : List ℕ) → AreRead source catal cells l table n → IsPlain n l
       → IsFirstTwice n l text → s ≡ fault_of c kind.Twice (scalar text) → IsRefused c source catal cells s
-  vector_clock : (l : Library) (table : List ModelPins) (n : Netlist) (m : Machine) (name : Name) → AreRead source catal cells l table n
-      → IsPlain n l → AreApart n l → IsFlat n l table m → HasVectorClock m name → s ≡ fault_of c kind.ClockUse name
+  many_bits : (l : Library) (table : List ModelPins) (n : Netlist) (reached : ℕ) → AreRead source catal cells l table n → IsPlain n l
+      → AreApart n l → HasTooManyBits n l reached → s ≡ status.Limit (record { which = Bits; reached = reached })
       → IsRefused c source catal cells s
+  vector_clock : (l : Library) (table : List ModelPins) (n : Netlist) (m : Machine) (name : Name) → AreRead source catal cells l table n
+      → IsPlain n l → AreApart n l → bits_of n l < 2 ^ 32 → IsFlat n l table m → HasVectorClock m name
+      → s ≡ fault_of c kind.ClockUse name → IsRefused c source catal cells s
 
 -- the machine is written and its size is printed, or one of these refusals
 abbrev pub Flattens : FlatbehCommand → List ℕ → List ℕ → List (List ℕ) → Result Product Refusal → Type 0
@@ -113,3 +121,4 @@ abbrev pub IsToldOf : FlatbehCommand → FlatError → Status → Type 0
 IsToldOf c flat.Memory s = ⊥
 IsToldOf c (flat.NoBehaviour model) s = s ≡ status.No (NoBehaviour model)
 IsToldOf c (flat.Twice text) s = s ≡ fault_of c kind.Twice (scalar text)
+IsToldOf c (flat.TooManyBits reached) s = s ≡ status.Limit (record { which = Bits; reached = reached })

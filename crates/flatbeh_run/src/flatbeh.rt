@@ -16,7 +16,8 @@ use std::alloc::{AllocError, Global};
 use tool_drive::{Over, Product, Refusal, Status, Tool, Verdict, Wanted, bytes_at, refused};
 use tool_words::FlatbehCommand;
 use vlsi_base::{
-    FaultKind, FileBytes, FileName, InputFault, MOST_NETLIST_BYTES, Name, Names, Text,
+    FaultKind, FileBytes, FileName, InputFault, Limit, LimitKind, MOST_NETLIST_BYTES, Name, Names,
+    Text,
 };
 use vst_io::read_vst;
 
@@ -26,8 +27,9 @@ use vst_io::read_vst;
 /// All files are read first: SOURCE, CATAL, and the behaviour and the layout of each cell that this uses. Then it is refused, in
 /// this order: by `Library`, or a limit of CATAL or of a cell, at the first line or cell at fault; by `Source`, or a limit, of
 /// SOURCE; by `NoBehaviour`, at the first instance whose cell is neither a gate nor a plain flip-flop; by `Source` of `Twice`, at the
-/// first flip-flop with the text of a port; by `Source` of `ClockUse`, where the clock is a bit of a vector, which a data-flow text
-/// can't have. Memory goes by the files, the netlist and its machine.
+/// first flip-flop with the text of a port; by `Limit` of `Bits`, where 32 bits can't number the bits of the netlist's machine; by
+/// `Source` of `ClockUse`, where the clock is a bit of a vector, which a data-flow text can't have. Memory goes by the files, the
+/// netlist and its machine.
 #[derive(Drop)]
 pub struct Flatbeh<'a> {
     pub command: &'a FlatbehCommand,
@@ -74,6 +76,10 @@ fn flat_status(alloc: Global, command: &FlatbehCommand, error: FlatError) -> Sta
         FlatError::Memory => Status::Memory,
         FlatError::NoBehaviour(model) => Status::No(Verdict::NoBehaviour(model)),
         FlatError::Twice(text) => fault(alloc, command, FaultKind::Twice, Name::scalar(text)),
+        FlatError::TooManyBits(reached) => Status::Limit(Limit {
+            which: LimitKind::Bits,
+            reached,
+        }),
     }
 }
 

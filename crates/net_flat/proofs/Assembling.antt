@@ -1,5 +1,5 @@
 -- What is put together is the system of a machine with other names.
-use Rattle.std.proofs.Common.{◌≡◌, ℕ, zero, suc, ◌+◌, ◌-◌, ◌<◌, ◌≤◌, Bool, List, [], ◌∷◌, ◌++◌, map, length, take, get_or, Option, Some, refl, sym, ap, ◌∙◌, subst, arith, append_assoc, length-append, cond}
+use Rattle.std.proofs.Common.{◌≡◌, ℕ, zero, suc, ◌+◌, ◌-◌, ◌<◌, ◌≤◌, ◌^◌, Bool, List, [], ◌∷◌, ◌++◌, map, length, take, get_or, Option, Some, refl, sym, ap, ◌∙◌, subst, arith, append_assoc, length-append, cond}
 use Rattle.std.specs.Prelude.{is_some, slice_get}
 use Rattle.std.specs.List.{All, list_any}
 use Rattle.std.specs.List.Sorted.{IsPermutation}
@@ -30,7 +30,7 @@ use Rattle.net_machine.proofs.Local.{take_front}
 use Rattle.bit_machine.specs.System.{System, IsSystem, Falls, FitsPorts, IsMachineOfBits}
 use Rattle.net_flat.specs.declared.renaming.Seat.{Seat}
 use Rattle.net_flat.specs.Renamed.{seat_at, stored_of, driven_from, inner_name, inner_names, is_port, new_names, renamed_system, IsLongerThan, AreAllNames, AreRenamed, AreFree, IsRenamed}
-use Rattle.net_flat.proofs.Bits.{Setting, system, is_system, falls, fits_ports}
+use Rattle.net_flat.proofs.Bits.{Setting, system, names_count, is_system, falls, fits_ports}
 use Rattle.net_flat.proofs.Lists.{names_whole}
 use Rattle.net_flat.proofs.Settled.{is_renamed}
 
@@ -132,6 +132,13 @@ module _ (m : Machine) (names : List Name) (s : System) (checked : IsChecked m) 
 
   pub system_is : IsSystem s
   system_is = subst IsSystem (sym are.is) (is_system this)
+
+  pub system_few : length m.vars < 2 ^ 32 → length s.names < 2 ^ 32
+  system_few few =
+      let same = ap (λ (x : System). length x.names) are.is in
+      let count = names_count this in
+      let vars = vars_are m checked in
+      omega (arith, same, count, vars, few)
 
   pub system_falls : Falls s.driven
   system_falls = subst (λ (x : System). Falls x.driven) (sym are.is) (falls this)

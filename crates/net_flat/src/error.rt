@@ -17,6 +17,9 @@ pub enum FlatError {
     /// A flip-flop and a port have this name.
     #[error("twice")]
     Twice(Text),
+    /// The machine would have so many bits, which is more than 32 bits can number; the greatest number of 64 bits where they are more.
+    #[error("too many bits")]
+    TooManyBits(u64),
 }
 
 impl From<AllocError> for FlatError {

@@ -1,6 +1,7 @@
 // A netlist as a machine whose registers have its instances' names.
-ghost use Rattle.std.specs.Prelude.{◌≡◌, IfOk, IfErr, OnOk};
+ghost use Rattle.std.specs.Prelude.{◌≡◌, ◌<◌, ◌^◌, IfOk, IfErr, OnOk};
 ghost use Rattle.net_machine.specs.Signals.{MeetsConditionWith};
+ghost use Rattle.net_machine.specs.Bits.{bits_of};
 ghost use Rattle.net_flat.specs.Parts.{registers_of};
 ghost use Rattle.net_flat.specs.Flat.{IsPlain, AreApart, IsFlatWith, CanBeText};
 ghost use Rattle.net_flat.specs.Answers.{IsFlatRefusal};
@@ -47,15 +48,17 @@ fn registers(alloc: Global, netlist: &Netlist, library: &Library) -> Result<Vec<
 ///   the order of instances.
 /// - `Twice`: each cell is one of these, and a flip-flop's name is the text of a port; it gives the first such name, in the order of
 ///   instances.
+/// - `TooManyBits`: neither of these, and that machine would have more bits than 32 bits can number; it gives their number, or the
+///   greatest one of 64 bits where they are more.
 ///
-/// Takes the memory and the time of that machine three times over; for each model it looks through the library's cells. More bits than
-/// 32 bits can number are answered as out of memory.
+/// Takes the memory and the time of that machine three times over; for each model it looks through the library's cells.
 pub fn flatbeh(alloc: Global, netlist: &Netlist, library: &Library) -> Result<Machine, FlatError>
     requires { MeetsConditionWith library.now netlist.now }
     ensures machine { IfOk result (λ m. IsFlatWith netlist.now library.now m) }
     ensures text { IfOk result (λ m. CanBeText netlist.now m) }
     ensures plain { OnOk result (IsPlain netlist.now library.now) }
     ensures apart { OnOk result (AreApart netlist.now library.now) }
+    ensures few { OnOk result (bits_of netlist.now library.now < 2 ^ 32) }
     ensures refused { IfErr result (IsFlatRefusal netlist.now library.now) }
 {
     // What is known of each netlist, and of each machine in order.
@@ -66,6 +69,7 @@ pub fn flatbeh(alloc: Global, netlist: &Netlist, library: &Library) -> Result<Ma
         Ok(machine) => machine,
         Err(NetMachineError::Memory) => return Err(FlatError::Memory),
         Err(NetMachineError::NoBehaviour(model)) => return Err(FlatError::NoBehaviour(model)),
+        Err(NetMachineError::TooManyBits(bits)) => return Err(FlatError::TooManyBits(bits)),
     };
     // Its names aren't read here: the call says that the machine is checked.
     let _ = machine.vars();

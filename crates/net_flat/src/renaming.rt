@@ -20,7 +20,6 @@ use machine_core::Machine;
 use machine_meaning::{Equation, Register};
 use std::alloc::{AllocError, Global};
 use vlsi_base::{Name, NameIndex, Names, Port, Ports, Text};
-use vlsi_model::few;
 
 /// A register's new name, and its place among the registers.
 #[derive(Drop)]
@@ -248,13 +247,12 @@ fn copied_name(alloc: Global, name: Option<&Name>) -> Result<Option<Name>, Alloc
 }
 
 /// The machine with these names for its registers, which stand in the order of names, and with other names for its inner equations.
-/// Takes memory for it twice, and time for each operator and, for each register and equation, the logarithm of their number. More
-/// names than 32 bits can number are answered as out of memory.
+/// Takes memory for it twice, and time for each operator and, for each register and equation, the logarithm of their number.
 pub fn named(alloc: Global, machine: &Machine, names: &[Name]) -> Result<Machine, AllocError>
-    requires { AreFree machine.now names.now }
+    requires free { AreFree machine.now names.now }
+    requires few { length machine.now.vars < 2 ^ 32 }
     ensures { IfOk result (λ o. IsRenamed machine.now names.now o) }
 {
-    few(machine.vars().as_slice().len())?;
     let bits = renamed_bits(alloc, machine, names)?;
     let name = machine.name().copy(alloc)?;
     let ports = copied_ports(alloc, machine.ports().as_slice())?;

@@ -1,5 +1,5 @@
 -- The bits of a netlist, one instance after the other.
-use Rattle.std.proofs.Common.{◌≡◌, ℕ, ◌+◌, ◌<◌, List, ◌∷◌, ◌++◌, map, length, drop, Option, sym, ap, ◌∙◌, subst, arith, append_assoc}
+use Rattle.std.proofs.Common.{◌≡◌, ℕ, ◌+◌, ◌-◌, ◌<◌, ◌^◌, min, List, ◌∷◌, ◌++◌, map, length, drop, Option, sym, ap, ◌∙◌, subst, arith, append_assoc}
 use Rattle.std.specs.Prelude.{slice_index_or}
 use Rattle.std.specs.List.{flat_map}
 use Rattle.std.proofs.lemmas.List.{length-map, get_or-map}
@@ -52,6 +52,23 @@ over_here n known nodes k d m are h low is known_at_is =
 pub widths_next : (n : InMemory) (l : Library) (k base next total : ℕ) (b : Body) (i : Instance) → drop k n.instances ≡ i ∷ drop (k + 1) n.instances → b ≡ body_at (cell_of l i.model) → next ≡ base + width b
     → base + widths l (drop k n.instances) ≡ total → next + widths l (drop (k + 1) n.instances) ≡ total
 widths_next n l k base next total b i e body is h =
+    let w = ap (widths l) e in
+    let v = ap width body in
+    omega (arith, w, v, is, h)
+
+-- where all that are left have numbers of 32 bits, so has the first of them
+pub width_few : (n : InMemory) (l : Library) (k base total : ℕ) (b : Body) (i : Instance) → drop k n.instances ≡ i ∷ drop (k + 1) n.instances → b ≡ body_at (cell_of l i.model)
+    → base + widths l (drop k n.instances) ≡ total → total < 2 ^ 32 → base + width b < 2 ^ 32
+width_few n l k base total b i e body h few =
+    let w = ap (widths l) e in
+    let v = ap width body in
+    omega (arith, w, v, h, few)
+
+-- what was counted and what is left, up to the greatest number of 64 bits
+pub count_next : (n : InMemory) (l : Library) (k count next total : ℕ) (b : Body) (i : Instance) → drop k n.instances ≡ i ∷ drop (k + 1) n.instances → b ≡ body_at (cell_of l i.model)
+    → next ≡ min (count + width b) (2 ^ 64 - 1) → min (count + widths l (drop k n.instances)) (2 ^ 64 - 1) ≡ min total (2 ^ 64 - 1)
+    → min (next + widths l (drop (k + 1) n.instances)) (2 ^ 64 - 1) ≡ min total (2 ^ 64 - 1)
+count_next n l k count next total b i e body is h =
     let w = ap (widths l) e in
     let v = ap width body in
     omega (arith, w, v, is, h)

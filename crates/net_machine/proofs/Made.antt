@@ -1,5 +1,5 @@
 -- What machines of netlists rest on, from what is known of the netlist and of the library.
-use Rattle.std.proofs.Common.{◌≡◌, ℕ, zero, suc, Bool, true, false, cond, ◌&&◌, List, [], ◌∷◌, Option, None, Some, refl, sym, ap, ◌∙◌, subst, arith}
+use Rattle.std.proofs.Common.{◌≡◌, ℕ, zero, suc, ◌<◌, ◌^◌, Bool, true, false, cond, ◌&&◌, List, [], ◌∷◌, length, Option, None, Some, refl, sym, ap, ◌∙◌, subst, arith}
 use Rattle.vlsi_base.specs.declared.name.Name.{Name}
 use Rattle.vlsi_base.specs.declared.name.Port.{Port}
 use Rattle.vlsi_base.specs.declared.name.Terminal.{Terminal}
@@ -22,12 +22,12 @@ use Rattle.bit_machine.specs.System.{System, system_of, IsSystem, Falls, FitsPor
 use Rattle.bit_machine.specs.declared.system.BitSystem.{BitSystem}
 use Rattle.net_machine.specs.Signals.{signal_ports, IsClockPort, MeetsConditionWith, HasBehaviour}
 use Rattle.net_machine.specs.Step.{held_by, KeepsStep, IsMachineWith, IsInOrderWith}
-use Rattle.net_machine.specs.Bits.{net_system}
+use Rattle.net_machine.specs.Bits.{net_system, bits_of}
 use Rattle.net_machine.specs.Gathered.{KnowsModels, AreKnown, HasClockOf, AreBitsOf}
 use Rattle.net_machine.specs.declared.known.Known.{Known as KnownParts}
 use Rattle.net_machine.proofs.Cells.{fine, clock_found}
 use Rattle.net_machine.proofs.Scenes.{Scene}
-use Rattle.net_machine.proofs.Whole.{is_system}
+use Rattle.net_machine.proofs.Whole.{is_system, names_count}
 use Rattle.net_machine.proofs.Fitting.{fits_ports}
 use Rattle.net_machine.proofs.Falling.{falls}
 use Rattle.net_machine.proofs.Ranking.{class_ranks}
@@ -139,6 +139,12 @@ module _ (n : InMemory) (l : Library) (clock : Option Name) (b : BitSystem) (g :
 
   pub system_is : IsSystem (system_of b)
   system_is = subst IsSystem (sym same) (is_system this)
+
+  pub system_few : bits_of n l < 2 ^ 32 → length (system_of b).names < 2 ^ 32
+  system_few few =
+      let same_many = ap (λ (s : System). length s.names) same in
+      let many = names_count this in
+      omega (arith, same_many, many, few)
 
   pub system_falls : Falls (system_of b).driven
   system_falls = subst (λ (s : System). Falls s.driven) (sym same) (falls this (class_ranks this))

@@ -12,7 +12,7 @@ use Rattle.source_bits.specs.declared.driven.DrivenBit.{DrivenBit}
 use Rattle.source_bits.specs.Driven.{Numbered, driven_view}
 use Rattle.net_core.specs.Netlist.{Netlist as InMemory, pin_of, HasClass, IsClassFunction}
 use Rattle.net_machine.specs.declared.body.Shown.{Shown as ShownParts}
-use Rattle.net_machine.specs.Body.{shown_view}
+use Rattle.net_machine.specs.Body.{value_view, shown_view}
 use Rattle.net_machine.specs.Bits.{shown_from}
 use Rattle.net_machine.proofs.Turns.{drop_next, piece_turn, map_turn, rising_less}
 
@@ -27,14 +27,14 @@ numbers_turn k end old now total low put h =
     piece_turn old now (k ∷ []) (rising (k + 1) (end - (k + 1))) total put (ap (λ (ks : List ℕ). old ++ ks) (sym (rising_less k end low)) ∙ h)
 
 pub shown_turn : (n : InMemory) (class : Terminal → ℕ) (owner table : List ℕ) (shows : List ShownParts) (k : ℕ) (s : ShownParts) (d : DrivenBit) (old now : List DrivenBit) (total : List Numbered) → IsClassFunction n class
-    → k < length shows → s ≡ get_or shows k s → HasClass n (pin_of owner s.pin) d.bit → view d.expr ≡ renumbered table (view s.expr) → now ≡ old ++ d ∷ []
+    → k < length shows → s ≡ get_or shows k s → HasClass n (pin_of owner s.pin) d.bit → view d.expr ≡ renumbered table (value_view s.value) → now ≡ old ++ d ∷ []
     → map driven_view old ++ shown_from class owner table (map shown_view (drop k shows)) ≡ total
     → map driven_view now ++ shown_from class owner table (map shown_view (drop (k + 1) shows)) ≡ total
 shown_turn n class owner table shows k s d old now total function low is has expr put h =
     let made : ℕ → Expression → Numbered = λ bit expr. record { bit = bit; expr = expr } in
-    let one : driven_view d ≡ made (class (pin_of owner s.pin)) (renumbered table (view s.expr)) =
+    let one : driven_view d ≡ made (class (pin_of owner s.pin)) (renumbered table (value_view s.value)) =
     ap (λ (k : ℕ). made k (view d.expr)) (sym (function.each (pin_of owner s.pin) d.bit has)) ∙ ap (made (class (pin_of owner s.pin))) expr in
-    piece_turn (map driven_view old) (map driven_view now) (made (class (pin_of owner s.pin)) (renumbered table (view s.expr)) ∷ []) (shown_from class owner table (map shown_view (drop (k + 1) shows))) total
+    piece_turn (map driven_view old) (map driven_view now) (made (class (pin_of owner s.pin)) (renumbered table (value_view s.value)) ∷ []) (shown_from class owner table (map shown_view (drop (k + 1) shows))) total
     (ap (λ (ds : List DrivenBit). map driven_view ds) put ∙ map-append driven_view old (d ∷ []) ∙ ap (λ (x : Numbered). map driven_view old ++ x ∷ []) one)
     (ap (λ (ss : List ShownParts). map driven_view old ++ shown_from class owner table (map shown_view ss)) (sym (drop_next shows k s low is)) ∙ h)
 

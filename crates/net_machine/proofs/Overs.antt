@@ -10,7 +10,7 @@ use Rattle.net_core.specs.Netlist.{Netlist as InMemory, pin_of, terminals}
 use Rattle.net_machine.specs.declared.body.Load.{Load as LoadParts}
 use Rattle.net_machine.specs.declared.body.Shown.{Shown as ShownParts}
 use Rattle.net_machine.specs.declared.body.Body.{Body as BodyParts}
-use Rattle.net_machine.specs.Body.{Load, Shown, load_view, shown_view, body_view}
+use Rattle.net_machine.specs.Body.{Load, Shown, load_view, value_view, shown_view, body_view}
 use Rattle.net_machine.specs.Gathered.{bits_count, HasPins, IsBodyOver}
 
 all_map : {A B : Type 0} (f : A → B) (P : B → Type 0) (xs : List A) → All P (map f xs) → All (λ x. P (f x)) xs
@@ -34,10 +34,10 @@ inner_over b inner n h is many =
     (subst (λ (es : List Expr). All (λ (e : Expr). IsOver (view e) (bits_count (body_view b))) es) (sym is)
     (all_map view (λ (e : Expression). IsOver e (bits_count (body_view b))) b.inner.items h.inner))
 
-pub shows_over : (b : BodyParts) (shows : List ShownParts) (n : ℕ) → IsBodyOver (body_view b) → shows ≡ b.shows.items → n ≡ bits_count (body_view b) → All (λ s. IsOver (view s.expr) n) shows
+pub shows_over : (b : BodyParts) (shows : List ShownParts) (n : ℕ) → IsBodyOver (body_view b) → shows ≡ b.shows.items → n ≡ bits_count (body_view b) → All (λ s. IsOver (value_view s.value) n) shows
 shows_over b shows n h is many =
-    subst (λ (m : ℕ). All (λ (s : ShownParts). IsOver (view s.expr) m) shows) (sym many)
-    (subst (λ (ss : List ShownParts). All (λ (s : ShownParts). IsOver (view s.expr) (bits_count (body_view b))) ss) (sym is)
+    subst (λ (m : ℕ). All (λ (s : ShownParts). IsOver (value_view s.value) m) shows) (sym many)
+    (subst (λ (ss : List ShownParts). All (λ (s : ShownParts). IsOver (value_view s.value) (bits_count (body_view b))) ss) (sym is)
     (all_map shown_view (λ (s : Shown). IsOver s.expr (bits_count (body_view b))) b.shows.items h.shows))
 
 pub shows_there : (n : InMemory) (owner : List ℕ) (b : BodyParts) (shows : List ShownParts) → HasPins n owner (body_view b) → shows ≡ b.shows.items → All (λ s. IsThere (terminals n) (pin_of owner s.pin)) shows

@@ -118,6 +118,10 @@ instances_driven l class base is = flat_map (placed_driven class) (placed_from l
 abbrev pub first_base : InMemory → ℕ
 first_base n = n.count + length n.ports
 
+-- how many bits the machine of a netlist is made of: one for each class, one for each port, and those inside its instances
+abbrev pub bits_of : InMemory → Library → ℕ
+bits_of n l = first_base n + widths l n.instances
+
 -- All bits of a netlist, where `class` gives the class of each terminal, and no port has `text`.
 abbrev pub net_system : List ℕ → (Terminal → ℕ) → InMemory → Library → Option Name → System
 net_system text class n l clock = record {

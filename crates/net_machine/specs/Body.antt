@@ -7,6 +7,8 @@ use Rattle.machine_meaning.specs.Machine.{Machine, inputs, outputs}
 use Rattle.source_meaning.specs.Formula.{place}
 use Rattle.cell_model.specs.Cell.{Function, gate, flip_flop, other, opaque, Cell, cell_inputs, cell_outputs}
 use Rattle.net_machine.specs.declared.body.Load.{Load as LoadParts}
+use Rattle.net_machine.specs.declared.body.Value.{Value}
+use Rattle.net_machine.specs.declared.body.Value.TheVariants.{Of, Bit}
 use Rattle.net_machine.specs.declared.body.Shown.{Shown as ShownParts}
 use Rattle.net_machine.specs.declared.body.Body.{Body as BodyParts}
 use Rattle.bool_expr.specs.declared.expr.Expr.{Expr}
@@ -71,8 +73,12 @@ width b = length b.loads + length b.inner
 abbrev pub load_view : LoadParts → Load
 load_view l = record { next = view l.next; enable = view l.enable }
 
+abbrev pub value_view : Value → Expression
+value_view (Of e) = view e
+value_view (Bit k) = variable k
+
 abbrev pub shown_view : ShownParts → Shown
-shown_view s = record { pin = s.pin; expr = view s.expr }
+shown_view s = record { pin = s.pin; expr = value_view s.value }
 
 abbrev pub inner_view : List Expr → List Expression
 inner_view es = map view es

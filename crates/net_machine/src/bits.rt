@@ -5,14 +5,15 @@ ghost use Rattle.std.specs.List.{All};
 ghost use Rattle.vlsi_base.specs.Range.{rising};
 ghost use Rattle.bool_expr.specs.Expression.{IsOver};
 ghost use Rattle.bool_expr.specs.View.{view};
+ghost use Rattle.bool_expr.specs.Renumbering.{renumbered as renumbered_by};
 ghost use Rattle.source_bits.specs.Driven.{driven_view, stored_view};
 ghost use Rattle.net_core.specs.Places.{IsThere};
 ghost use Rattle.net_core.specs.Netlist.{pin_of, terminals};
-ghost use Rattle.net_machine.specs.Body.{load_view, shown_view, body_view, width};
-ghost use Rattle.net_machine.specs.Bits.{own_name, is_signal, fixed_bit, port_names, port_inputs, own_of, port_driven, classes_driven, numbers, stored_from, inner_from, shown_from, body_stored, body_driven, instances_stored, instances_driven, widths, first_base};
+ghost use Rattle.net_machine.specs.Body.{load_view, value_view, shown_view, body_view, width};
+ghost use Rattle.net_machine.specs.Bits.{own_name, is_signal, fixed_bit, port_names, port_inputs, own_of, port_driven, classes_driven, numbers, stored_from, inner_from, shown_from, body_stored, body_driven, instances_stored, instances_driven, widths, first_base, bits_of};
 ghost use Rattle.net_machine.specs.Gathered.{bits_count, HasPins, IsBodyOver, IsLonger, Gathers, ForClasses, ForKnown, AreKnown, AreBitsOf};
 
-use crate::body::{Body, Load, Shown};
+use crate::body::{Body, Load, Shown, Value};
 use crate::clock::class_of;
 use crate::known::Known;
 use bit_machine::{BitSystem, DrivenBit, StoredBit};
@@ -199,17 +200,12 @@ fn push_classes(
     Ok(())
 }
 
-/// The number behind the bits of a body; more than 32 bits can number are answered as out of memory.
-fn next_base(base: u32, body: &Body) -> Result<u32, AllocError>
-    ensures { IfOk result (λ next. next ≡ base + width (body_view body.now)) }
+/// The number behind the bits of a body.
+fn next_base(base: u32, body: &Body) -> u32
+    requires { base + width (body_view body.now) < 2 ^ 32 }
+    ensures { result ≡ base + width (body_view body.now) }
 {
-    match u32::try_from(body.loads.len() + body.inner.len()) {
-        Ok(width) => match base.checked_add(width) {
-            Some(next) => Ok(next),
-            None => Err(AllocError),
-        },
-        Err(_) => Err(AllocError),
-    }
+    base + (body.loads.len() + body.inner.len()) as u32
 }
 
 /// The numbers of the bits of a body: the classes of the pins that it reads, and its own.
@@ -280,6 +276,17 @@ fn push_inner(
     Ok(())
 }
 
+/// What an output pin has the value of, by the numbers of a body's bits.
+fn shown_value(alloc: Global, value: &Value, table: &[u32]) -> Result<Expr, AllocError>
+    requires { IsOver (value_view value.now) (length table.now) }
+    ensures { IfOk result (λ expr. view expr ≡ renumbered_by table.now (value_view value.now)) }
+{
+    match value {
+        Value::Of(expr) => renumbered(alloc, expr, table),
+        Value::Bit(place) => Ok(Expr::Var(table[*place])),
+    }
+}
+
 /// Puts the classes of a body's output pins behind what is there.
 fn push_shown(
     alloc: Global,
@@ -290,13 +297,13 @@ fn push_shown(
     table: &[u32],
 ) -> Result<(), AllocError>
     requires pins { All (λ s. IsThere (terminals netlist.now) (pin_of owner.now s.pin)) shows.now }
-    requires over { All (λ s. IsOver (view s.expr) (length table.now)) shows.now }
+    requires over { All (λ s. IsOver (value_view s.value) (length table.now)) shows.now }
     ensures { OnOk result (ForClasses netlist.now (λ class. map driven_view driven.new.items
         ≡ map driven_view driven.old.items ++ shown_from class owner.now table.now (map shown_view shows.now))) }
 {
     for shown in shows {
         let bit = class_of(alloc, netlist, owner, &shown.pin)?;
-        let expr = renumbered(alloc, &shown.expr, table)?;
+        let expr = shown_value(alloc, &shown.value, table)?;
         driven.push(DrivenBit { bit, expr })?;
     }
     Ok(())
@@ -313,6 +320,7 @@ fn push_instance(
 ) -> Result<u32, AllocError>
     requires pins { HasPins netlist.now owner.now (body_view body.now) }
     requires over { IsBodyOver (body_view body.now) }
+    requires few { base + width (body_view body.now) < 2 ^ 32 }
     ensures next { IfOk result (λ next. next ≡ base + width (body_view body.now)) }
     ensures stored { OnOk result (ForClasses netlist.now (λ class. map stored_view system.new.stored.items
         ≡ map stored_view system.old.stored.items ++ body_stored class owner.now (body_view body.now) base)) }
@@ -321,7 +329,7 @@ fn push_instance(
     ensures inputs { OnOk result (system.new.inputs.items ≡ system.old.inputs.items) }
     ensures names { OnOk result (system.new.names ≡ system.old.names) }
 {
-    let end = next_base(base, body)?;
+    let end = next_base(base, body);
     let table = numbers(alloc, netlist, owner, body, base, end)?;
     push_loads(alloc, &mut system.stored, &body.loads, &table, base)?;
     let first = base + body.loads.len() as u32;
@@ -345,7 +353,8 @@ fn push_instances(
     first: u32,
     system: &mut BitSystem,
 ) -> Result<u32, AllocError>
-    requires { AreKnown netlist.now known.now }
+    requires known { AreKnown netlist.now known.now }
+    requires few { ForKnown netlist.now known.now (λ l. first + widths l netlist.now.instances < 2 ^ 32) }
     ensures end { IfOk result (λ end. ForKnown netlist.now known.now (λ l. end ≡ first + widths l netlist.now.instances)) }
     ensures stored { OnOk result (ForKnown netlist.now known.now (λ l. ForClasses netlist.now (λ class. map stored_view system.new.stored.items
         ≡ map stored_view system.old.stored.items ++ instances_stored l class first netlist.now.instances))) }
@@ -411,17 +420,12 @@ fn bit_names(
     Ok(Names::new(names))
 }
 
-/// The number of the first bit of an instance; more than 32 bits can number are answered as out of memory.
-fn first_base(netlist: &Netlist) -> Result<u32, AllocError>
-    ensures { IfOk result (λ first. first ≡ first_base netlist.now) }
+/// The number of the first bit of an instance.
+fn first_base(netlist: &Netlist) -> u32
+    requires { first_base netlist.now < 2 ^ 32 }
+    ensures { result ≡ first_base netlist.now }
 {
-    match u32::try_from(netlist.ports().len()) {
-        Ok(ports) => match netlist.count().checked_add(ports) {
-            Some(first) => Ok(first),
-            None => Err(AllocError),
-        },
-        Err(_) => Err(AllocError),
-    }
+    netlist.count() + netlist.ports().len() as u32
 }
 
 /// All bits of a netlist: one for each class, one for each port, and those of each instance. Takes memory and time for them, and for
@@ -432,10 +436,11 @@ pub fn gather(
     known: &[Known],
     clock: Option<&Name>,
 ) -> Result<BitSystem, AllocError>
-    requires { AreKnown netlist.now known.now }
+    requires known { AreKnown netlist.now known.now }
+    requires few { ForKnown netlist.now known.now (λ l. bits_of netlist.now l < 2 ^ 32) }
     ensures { IfOk result (λ s. ForKnown netlist.now known.now (λ l. AreBitsOf netlist.now l (option_copied clock.entry) s)) }
 {
-    let first = first_base(netlist)?;
+    let first = first_base(netlist);
     let mut system = port_bits(alloc, netlist, clock)?;
     let end = push_instances(alloc, netlist, known, first, &mut system)?;
     system.names = bit_names(alloc, netlist, clock, first, end)?;

@@ -12,7 +12,6 @@ use machine_core::Machine;
 use machine_meaning::{Equation, Register};
 use std::alloc::{AllocError, Global};
 use vlsi_base::{Dir, Name, Port};
-use vlsi_model::few;
 
 /// What a bit that is held takes at the clock's rise, and when.
 #[derive(Drop)]
@@ -21,11 +20,18 @@ pub struct Load {
     pub enable: Expr,
 }
 
+/// An expression over a body's bits, or one of them by its number.
+#[derive(Drop)]
+pub enum Value {
+    Of(Expr),
+    Bit(usize),
+}
+
 /// An output pin, and what it has the value of.
 #[derive(Drop)]
 pub struct Shown {
     pub pin: Name,
-    pub expr: Expr,
+    pub value: Value,
 }
 
 /// What a cell does, over bits of its own: those of the pins that it reads, then those that it holds, then its inner ones.
@@ -59,8 +65,8 @@ fn shown_pins(alloc: Global, pins: &[Pin], expr: &Expr) -> Result<Vec<Shown>, Al
     for pin in pins {
         if pin.port.dir == Dir::Out {
             let name = pin.port.name.copy(alloc)?;
-            let expr = copy(alloc, expr)?;
-            shows.push(Shown { pin: name, expr })?;
+            let value = Value::Of(copy(alloc, expr)?);
+            shows.push(Shown { pin: name, value })?;
         }
     }
     Ok(shows)
@@ -157,16 +163,12 @@ fn machine_outputs(alloc: Global, vars: &[Name], ports: &[Port]) -> Result<Vec<S
     ensures { IfOk result (λ shows. map shown_view shows.items ≡ map (λ o. record { pin = o; expr = variable (place vars.now o) })
         (names_of (filter (λ p. not (is_input p.dir)) ports.now))) }
 {
-    few(vars.len())?;
     let mut shows = Vec::new(alloc);
     for port in ports {
         if port.dir == Dir::Out {
             let pin = port.name.copy(alloc)?;
-            let number = place(vars, &port.name) as u32;
-            shows.push(Shown {
-                pin,
-                expr: Expr::Var(number),
-            })?;
+            let value = Value::Bit(place(vars, &port.name));
+            shows.push(Shown { pin, value })?;
         }
     }
     Ok(shows)

@@ -14,6 +14,9 @@ pub enum NetMachineError {
     /// Nothing is known of the cell of this name, which an instance has.
     #[error("no behaviour")]
     NoBehaviour(Text),
+    /// The machine would have so many bits, which is more than 32 bits can number; the greatest number of 64 bits where they are more.
+    #[error("too many bits")]
+    TooManyBits(u64),
 }
 
 impl From<AllocError> for NetMachineError {

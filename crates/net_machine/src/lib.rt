@@ -5,6 +5,7 @@
 mod bits;
 mod body;
 mod clock;
+mod count;
 mod error;
 mod known;
 mod law;

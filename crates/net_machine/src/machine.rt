@@ -1,11 +1,13 @@
 // A netlist of cells as a machine.
-ghost use Rattle.std.specs.Prelude.{◌≡◌, IfOk, IfErr, OnOk};
+ghost use Rattle.std.specs.Prelude.{◌≡◌, ◌<◌, ◌^◌, length, IfOk, IfErr, OnOk};
 ghost use Rattle.net_machine.specs.Signals.{signal_ports, MeetsConditionWith, HasBehaviour};
+ghost use Rattle.net_machine.specs.Bits.{bits_of};
 ghost use Rattle.net_machine.specs.Step.{IsMachineWith, IsInOrderWith};
 ghost use Rattle.net_machine.specs.Answers.{IsMachineRefusal};
 
 use crate::bits::gather;
 use crate::clock::clock_port;
+use crate::count::count_bits;
 use crate::error::NetMachineError;
 use crate::known::{first_unknown, known_models};
 use bit_machine::machine_of_bits;
@@ -37,10 +39,12 @@ pub fn signal_ports(alloc: Global, ports: &[Port]) -> Result<Ports, AllocError>
 /// the netlist does, with the same outputs and the same next contents.
 ///
 /// - `NoBehaviour`: the cell of an instance is opaque; it names the cell of the first such instance, in the order of instances.
+/// - `TooManyBits`: no cell of an instance is opaque, and the machine would have more bits than 32 bits can number: one for each class,
+///   one for each port, and those inside its instances. It gives their number, or the greatest one of 64 bits where they are more.
 ///
 /// Takes memory and time for each class and port, and for each bit and each operator of each instance's cell; for each model it
 /// looks through the library's cells, and for each output of another machine's cell through the cell's names; time has the
-/// logarithm of the number of instances beside. More bits than 32 bits can number are answered as out of memory.
+/// logarithm of the number of instances beside.
 pub fn machine_of(
     alloc: Global,
     netlist: &Netlist,
@@ -50,6 +54,8 @@ pub fn machine_of(
     ensures machine { IfOk result (λ m. IsMachineWith netlist.now library.now m) }
     ensures order { IfOk result (λ m. IsInOrderWith netlist.now library.now m) }
     ensures known { OnOk result (HasBehaviour netlist.now library.now) }
+    ensures few { OnOk result (bits_of netlist.now library.now < 2 ^ 32) }
+    ensures numbered { IfOk result (λ m. length m.vars < 2 ^ 32) }
     ensures refused { IfErr result (λ e. IsMachineRefusal netlist.now library.now e) }
 {
     // Its classes aren't read here: the call says that the netlist is sound.
@@ -60,6 +66,10 @@ pub fn machine_of(
     if let Some(place) = first_unknown(nodes, &known) {
         let model = models[nodes[place].model].copy(alloc)?;
         return Err(NetMachineError::NoBehaviour(model));
+    }
+    let bits = count_bits(netlist, &known);
+    if bits > u64::from(u32::MAX) {
+        return Err(NetMachineError::TooManyBits(bits));
     }
     let clock = clock_port(alloc, netlist, &known)?;
     let system = gather(alloc, netlist, &known, clock.as_ref())?;

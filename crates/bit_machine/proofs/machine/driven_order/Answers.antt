@@ -27,7 +27,7 @@ node_order-requires-clause-few c =
     let seen = length-map c.args.system.now.driven.items driven_view in
     let same = ap (λ (ds : List DrivenBit). length ds) c.deref.ensures.value in
     let names = ap length c.as_slice-total.ensures in
-    omega (arith, fit, count, seen, same, names, c.in_ok-few.ensures)
+    omega (arith, fit, count, seen, same, names, c.requires.few)
 
 pub node_order-requires-clause-over : goal.node_order-requires-clause-over
 node_order-requires-clause-over c = driven_over c.args.system.now c.requires.system c.deref.result.now (length c.as_slice-total.result.now) c.deref.ensures.value (ap length c.as_slice-total.ensures)
@@ -39,8 +39,8 @@ unreachable-requires c =
     no_ring (system_of c.args.system.now) c.args.system.now.driven.items total c.in-Ring.field-0 c.requires.system c.requires.falls refl (ap length c.as_slice-total.ensures)
     (subst (λ (ds : List DrivenBit). IsOrderOfBits (map (λ (d : DrivenBit). d.bit) ds) (map (λ (d : DrivenBit). view d.expr) ds) total (Ring c.in-Ring.field-0)) c.deref.ensures.value seen)
 
-pub returns-clause-laid : goal.returns-clause-laid
-returns-clause-laid c =
+pub returns : goal.returns
+returns c =
     let total = length c.as_slice-total.result.now in
     let seen = subst (IsOrderOfBits (map (λ (d : DrivenBit). d.bit) c.deref.result.now) (map (λ (d : DrivenBit). view d.expr) c.deref.result.now) total) c.in-Sorted.is c.in_ok-order.ensures in
     laid (system_of c.args.system.now) c.args.system.now.driven.items total c.in-Sorted.order refl (ap length c.as_slice-total.ensures)

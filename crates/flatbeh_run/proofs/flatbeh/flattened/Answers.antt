@@ -32,7 +32,7 @@ pub returns-in-Some : goal.returns-in-Some
 returns-in-Some c =
     subst (λ (r : Refusal). IsJudged (Flattens c.args.command.now c.args.source.now c.args.catal.now c.args.cells.now) (Err r)) (sym c.plain-in-Some.ensures)
     (by_clock c.args.command.now c.args.source.now c.args.catal.now c.args.cells.now c.in-Ok.library c.in_ok-table.table c.in-Ok.ensures.ok c.in_ok-table.ensures.table c.in-Ok-read_vst.netlist
-    c.in-Ok-read_vst.ensures.accepted c.in-Ok-flatbeh.machine c.in-Ok-flatbeh.ensures.plain c.in-Ok-flatbeh.ensures.apart
+    c.in-Ok-read_vst.ensures.accepted c.in-Ok-flatbeh.machine c.in-Ok-flatbeh.ensures.plain c.in-Ok-flatbeh.ensures.apart c.in-Ok-flatbeh.ensures.few
     (c.in-Ok-flatbeh.ensures.machine c.in_ok-table.table c.in_ok-table.ensures.table (c.in-Ok-read_vst.ensures.condition (lists_supplies c.in-Ok.library true c.in_ok-table.table c.in_ok-table.ensures.table)))
     c.in-Some.name.now c.clock_status.result c.in-Some.ensures c.clock_status.ensures)
 
@@ -45,6 +45,7 @@ returns c = record {
   read = record { library = c.in-Ok.ensures.ok; pins = c.in_ok-table.ensures.table; netlist = c.in-Ok-read_vst.ensures.accepted };
   plain = c.in-Ok-flatbeh.ensures.plain;
   apart = c.in-Ok-flatbeh.ensures.apart;
+  few = c.in-Ok-flatbeh.ensures.few;
   flat = c.in-Ok-flatbeh.ensures.machine c.in_ok-table.table c.in_ok-table.ensures.table
       (c.in-Ok-read_vst.ensures.condition (lists_supplies c.in-Ok.library true c.in_ok-table.table c.in_ok-table.ensures.table));
   checked = subst IsChecked c.machine.view_is c.machine.invariant;

@@ -1,7 +1,8 @@
-use Rattle.std.proofs.Common.{◌≡◌, ◌∙◌, List, sym, subst}
+use Rattle.std.proofs.Common.{◌≡◌, ◌∙◌, List, ap, sym, subst}
 use Rattle.vlsi_base.specs.declared.name.Name.{Name}
 use Rattle.net_machine.specs.Answers.{IsMachineRefusal}
 use Rattle.net_machine.specs.declared.error.NetMachineError.{NetMachineError}
+use Rattle.net_machine.specs.declared.error.NetMachineError.TheVariants as error
 use Rattle.net_flat.specs.Parts.{registers_of}
 use Rattle.net_flat.specs.Renamed.{AreFree, IsRenamed}
 use Rattle.net_flat.proofs.Knowing.{never_opaque}
@@ -15,8 +16,14 @@ returns-in-Err-NoBehaviour-clause-refused c =
     absurd (never_opaque c.args.netlist.now c.args.library.now _ c.in_ok-names.ensures.plain
     (subst (λ (e : NetMachineError). IsMachineRefusal c.args.netlist.now c.args.library.now e) c.in-Err-NoBehaviour.field-0-is c.in-Err-NoBehaviour.ensures.refused))
 
-pub named-requires : goal.named-requires
-named-requires c =
+pub returns-in-Err-TooManyBits-clause-refused : goal.returns-in-Err-TooManyBits-clause-refused
+returns-in-Err-TooManyBits-clause-refused c =
+    let told = c.in-Err-TooManyBits.field-0-is ∙ ap error.TooManyBits (sym c.in-Err-TooManyBits.bits-is) in
+    let h = subst (λ (e : NetMachineError). IsMachineRefusal c.args.netlist.now c.args.library.now e) told c.in-Err-TooManyBits.ensures.refused in
+    (c.in_ok-names.ensures.plain, c.in_ok-names.ensures.apart, h.1)
+
+pub named-requires-clause-free : goal.named-requires-clause-free
+named-requires-clause-free c =
     subst (λ (ns : List Name). AreFree c.in-Ok.machine ns) (sym (c.deref.ensures.value ∙ c.in_ok-names.ensures.names))
     (are_free c.args.netlist.now c.args.library.now c.in-Ok.machine c.classes.ensures.sound c.requires c.in_ok-names.ensures.plain c.in_ok-names.ensures.apart c.in-Ok.ensures.order)
 

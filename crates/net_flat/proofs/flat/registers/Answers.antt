@@ -4,9 +4,7 @@ use Rattle.vlsi_base.specs.declared.name.Name.{Name}
 use Rattle.vlsi_base.specs.declared.name.Port.{Port}
 use Rattle.net_core.specs.declared.frame.Node.{Node}
 use Rattle.net_machine.proofs.Knowing.{AreNodes}
-use Rattle.net_flat.specs.declared.parts.Part.{Part}
 use Rattle.net_flat.specs.Parts.{registers_of}
-use Rattle.net_flat.specs.Nodes.{HasNoOther}
 use Rattle.net_flat.specs.Taken.{is_taken, IsFirst}
 use Rattle.net_flat.proofs.Knowing.{KnowsParts, knows_parts, is_plain, first_is, names_are, are_apart, first_twice}
 use Rattle.net_flat.proofs.flat.registers.Goals as goal
