@@ -1,7 +1,6 @@
 -- A draft that gets its instances one by one and then its pairs, and the netlist that it comes to.
-use Rattle.std.proofs.Common.{◌≡◌, ◌↔◌, ℕ, zero, suc, ◌+◌, ◌<◌, ◌≤◌, ◌^◌, List, [], ◌∷◌, ◌++◌, length, map, take, get_or, Option, Some, All, refl, sym, ◌∙◌, ap, subst, arith, append_assoc, append-nil, length-append}
+use Rattle.std.proofs.Common.{◌≡◌, ◌↔◌, ℕ, zero, suc, ◌+◌, ◌<◌, ◌≤◌, ◌^◌, List, [], ◌∷◌, ◌++◌, length, map, take, get_or, Option, Some, All, refl, sym, ◌∙◌, ap, subst, arith, append_assoc, append-nil}
 use Rattle.std.specs.List.{flat_map}
-use Rattle.std.proofs.lemmas.Grind.{flat_map-append}
 use Rattle.std.proofs.lemmas.List.{map-append, take_more}
 use Rattle.std.proofs.lemmas.Option.{slice_get_within, same_Some, get_or_from_slice_get}
 use Rattle.vlsi_base.specs.declared.name.Name.{Name}
@@ -55,7 +54,7 @@ split_at [] k x h = absurd (cc h)
 split_at {A} (y ∷ xs) zero x h = (xs, ap (λ (z : A). z ∷ xs) (same_Some y x h))
 split_at {A} (y ∷ xs) (suc k) x h = let r = split_at xs k x h in (r.0, ap (λ (zs : List A). y ∷ zs) r.1)
 
-take_next : {A : Type 0} (xs : List A) (k : ℕ) (x : A) → Stands xs k x → take (k + 1) xs ≡ take k xs ++ x ∷ []
+pub take_next : {A : Type 0} (xs : List A) (k : ℕ) (x : A) → Stands xs k x → take (k + 1) xs ≡ take k xs ++ x ∷ []
 take_next {A} xs k x h =
     let at : get_or xs k x ≡ x = get_or_from_slice_get xs k x x h in
     take_more xs k x (slice_get_within xs k x h) ∙ ap (λ (y : A). take k xs ++ y ∷ []) at
@@ -86,19 +85,6 @@ pub memory_left : (instances : List Instance) (name : List ℕ) (e : BuildError)
 memory_left instances name error.Memory new h = refl
 memory_left instances name error.Twice new h = absurd (new h)
 memory_left instances name error.Unknown new h = absurd h
-
--- how many terminals there are with an instance more
-pub count_more : (d : Draft) (i : Instance) → length (draft_terminals (with_instances d (i ∷ []))) ≡ length (draft_terminals d) + length i.pins
-count_more d i =
-    let ports : List Terminal = map (λ (p : Port). port p.name) d.ports in
-    let flat : flat_map pins_of (d.instances ++ i ∷ []) ≡ flat_map pins_of d.instances ++ flat_map pins_of (i ∷ []) = flat_map-append pins_of d.instances (i ∷ []) in
-    let longer = ap (λ (ts : List Terminal). length (ports ++ ts)) flat in
-    let a = length-append ports (flat_map pins_of d.instances ++ flat_map pins_of (i ∷ [])) in
-    let b = length-append (flat_map pins_of d.instances) (flat_map pins_of (i ∷ [])) in
-    let c = length-append (pins_of i) [] in
-    let e = length-append ports (flat_map pins_of d.instances) in
-    let own : length (pins_of i) ≡ length i.pins = length-map (pin_of i.name) i.pins in
-    omega (arith, longer, a, b, c, e, own)
 
 instances_more : (d : Draft) (xs ys : List Instance) → with_instances (with_instances d xs) ys ≡ with_instances d (xs ++ ys)
 instances_more d xs ys = ap (λ (zs : List Instance). record d { instances = zs }) (append_assoc d.instances xs ys)
@@ -229,14 +215,6 @@ added_instance d after l i c pins e is made =
     made ∙ ap (λ (ns : List Name). with_instance d (record { name = i.name; model = i.model; pins = ns })) (is ∙ pins_found l i c e)
 
 -- ---- what an instance is lent
-
--- ports alone
-pub bare_count : (d : Draft) → d.instances ≡ [] → length (draft_terminals d) ≡ length d.ports
-bare_count d none =
-    let all = ap (λ (is : List Instance). length (map (λ (p : Port). port p.name) d.ports ++ flat_map pins_of is)) none in
-    let sum = length-append (map (λ (p : Port). port p.name) d.ports) [] in
-    let own : length (map (λ (p : Port). port p.name) d.ports) ≡ length d.ports = length-map (λ (p : Port). port p.name) d.ports in
-    omega (arith, all, sum, own)
 
 single : (j i : Placed) → In i (j ∷ []) → item.Instance j ≡ item.Instance i
 single j i here = refl

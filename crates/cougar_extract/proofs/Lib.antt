@@ -9,6 +9,8 @@ pub mod LeastPairs
 pub mod Shorted
 pub mod Linking
 pub mod Adding
+pub mod PinCounts
+pub mod Limits
 pub mod Reaches
 pub mod Distinct
 pub mod Given

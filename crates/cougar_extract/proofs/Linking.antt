@@ -75,12 +75,6 @@ links_kept shapes numbers outputs k links s at none are = record {
   ];
 }
 
-pub below_more : (links : List Link) (count : ℕ) (x : Link) → AreBelow links count → x.number < count → AreBelow (links ++ x ∷ []) count
-below_more [] count x all low zero d h = low
-below_more [] count x all low (suc k) d h = absurd (omega (arith, h))
-below_more (y ∷ links) count x all low zero d h = all zero d (omega arith)
-below_more (y ∷ links) count x all low (suc k) d h = below_more links count x (λ j e less. all (suc j) e (omega (arith, less))) low k d (omega (arith, h))
-
 -- ---- leaders
 
 -- each of the first k connectors has a leader
@@ -235,16 +229,3 @@ links_next shapes numbers outputs k links now s at made are = by s.name refl whe
       let more : now ≡ links ++ one name ∷ [] = made ∙ ap (λ (x : Option Name). links ++ map one (label x)) e in
       subst (λ (ls : List Link). AreLinks shapes numbers outputs (k + 1) ls) (sym more)
       (links_more shapes numbers outputs k links s name (one name) at e refl refl refl are)
-
-pub below_next : (links now : List Link) (count number : ℕ) (output : Bool) (s : Shape) → now ≡ links ++ shape_links s number output → number < count → AreBelow links count → AreBelow now count
-below_next links now count number output s made low below = by s.name refl where
-  one : Name → Link
-  one name = record { number = number; terminal = record { instance = s.owner; pin = name }; gives = output }
-
-  by : (o : Option Name) → s.name ≡ o → AreBelow now count
-  by None e =
-      let same : now ≡ links = made ∙ ap (λ (x : Option Name). links ++ map one (label x)) e ∙ append-nil links in
-      subst (λ (ls : List Link). AreBelow ls count) (sym same) below
-  by (Some name) e =
-      let more : now ≡ links ++ one name ∷ [] = made ∙ ap (λ (x : Option Name). links ++ map one (label x)) e in
-      subst (λ (ls : List Link). AreBelow ls count) (sym more) (below_more links count (one name) below low)

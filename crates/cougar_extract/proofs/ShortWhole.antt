@@ -15,10 +15,10 @@ use Rattle.net_core.specs.Netlist.{Netlist, port}
 use Rattle.cougar_extract.specs.declared.links.Link.{Link}
 use Rattle.cougar_extract.specs.declared.error.ExtractError.{ExtractError}
 use Rattle.cougar_extract.specs.Extracted.{IsReadyFigure, AreKnown, IsExtracted}
-use Rattle.cougar_extract.specs.Refused.{NoShort, IsExtractRefusal}
-use Rattle.cougar_extract.specs.Stages.{gives, IsUnknownRefusal, IsPairFrom, AreTerminals, AreConnected, IsBuilt, IsShortRefusal}
+use Rattle.cougar_extract.specs.Refused.{CanBeNumbered, NoShort, IsExtractRefusal}
+use Rattle.cougar_extract.specs.Stages.{gives, IsPairFrom, AreTerminals, AreConnected, IsBuilt, IsShortRefusal}
 use Rattle.cougar_extract.proofs.Steps.{read_stands}
-use Rattle.cougar_extract.proofs.Wholes.{connected, as_many, terminals, unknown_refused, apart, short_refused, whole, pair_joined, pair_low}
+use Rattle.cougar_extract.proofs.Wholes.{connected, as_many, terminals, apart, short_refused, whole, pair_joined, pair_low}
 
 -- ---- the lines of the figure and the cells of the library
 
@@ -31,13 +31,6 @@ of_both items own cells l lines same P h = subst (λ (x : Library). P own x) sam
 module _ (f : Figure) (l : Library) (items : List Item) (cells : List Cell) (lines : items ≡ f.items) (same : library_of cells ≡ l) where
   pub known_of : AreKnown (instances_of items) (library_of cells) → AreKnown (instances_of f.items) l
   known_of h = of_both items f.items cells l lines same (λ (xs : List Item) (x : Library). AreKnown (instances_of xs) x) h
-
-  -- for the netlist, which is made of the figure and the slice of cells
-  pub known_again : AreKnown (instances_of items) (library_of cells) → AreKnown (instances_of f.items) (library_of cells)
-  known_again h = subst (λ (xs : List Item). AreKnown (instances_of xs) (library_of cells)) lines h
-
-  pub refused_of : (e : ExtractError) → IsUnknownRefusal (instances_of items) (library_of cells) e → IsExtractRefusal f l e
-  refused_of e h = unknown_refused f l e (of_both items f.items cells l lines same (λ (xs : List Item) (x : Library). IsUnknownRefusal (instances_of xs) x e) h)
 
   module _ (drawn : List Shape) (marks : List Bool) (shapes_are : drawn ≡ shapes items (library_of cells)) (marks_are : marks ≡ gives items (library_of cells)) where
     pub marks_many : length marks ≡ length drawn
@@ -83,7 +76,8 @@ module _ (f : Figure) (l : Library) (items : List Item) (cells : List Cell) (lin
               subst (λ (ss : List Shape). AreJoined ss (port p.name) (port q.name)) (sym shapes_of_figure)
               (pair_joined f l n i j p q pins is_extracted pair (at_first p first) (at_second q second))
 
-          pub pair_refused : (p q : Port) (e : ExtractError) → p ≡ get_or ports i p → q ≡ get_or ports j q → IsShortRefusal drawn p.name q.name e → IsExtractRefusal f l e
-          pair_refused p q e first second h =
-              short_refused f l n i j p q e pins is_extracted pair (at_first p first) (at_second q second)
+          pub pair_refused : (p q : Port) (e : ExtractError) → CanBeNumbered f.items l → p ≡ get_or ports i p → q ≡ get_or ports j q → IsShortRefusal drawn p.name q.name e
+              → IsExtractRefusal f l e
+          pair_refused p q e few first second h =
+              short_refused f l n i j p q e pins is_extracted few pair (at_first p first) (at_second q second)
               (subst (λ (ss : List Shape). IsShortRefusal ss p.name q.name e) shapes_of_figure h)

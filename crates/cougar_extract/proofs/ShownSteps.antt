@@ -13,18 +13,22 @@ use Rattle.sym_shapes.specs.Chain.{IsChain}
 use Rattle.net_core.specs.Netlist.{Netlist, IsNetlist}
 use Rattle.net_core.proofs.Namings.{turn_below}
 use Rattle.cougar_extract.specs.declared.error.Step.{Step}
+use Rattle.cougar_extract.specs.declared.links.Link.{Link}
 use Rattle.cougar_extract.specs.Refused.{step_of}
+use Rattle.cougar_extract.specs.Stages.{AreBelow}
 
--- ---- numbers
+-- ---- numbers of connectors
 
--- a bound of the first numbers, and of one more
-pub bound_next : (numbers : List ℕ) (k before after : ℕ) → k < length numbers → All (λ (n : ℕ). n < before) (take k numbers) → before ≤ after → get_or numbers k 0 < after
-    → All (λ (n : ℕ). n < after) (take (k + 1) numbers)
-bound_next numbers k before after low so_far more own =
-    All-more (λ (n : ℕ). n < after) numbers k 0 low (All-weaker (λ (n : ℕ). n < before) (λ (n : ℕ). n < after) (λ n h. omega (arith, h, more)) (take k numbers) so_far) own
+-- a bound of the numbers of the first ones, and of one more
+pub bound_next : (links : List Link) (k : ℕ) (x : Link) (before after : ℕ) → k < length links → AreBelow (take k links) before → before ≤ after → x ≡ get_or links k x
+    → x.number < after → AreBelow (take (k + 1) links) after
+bound_next links k x before after low so_far more at own =
+    All-more (λ (y : Link). y.number < after) links k x low
+    (All-weaker (λ (y : Link). y.number < before) (λ (y : Link). y.number < after) (λ y h. omega (arith, h, more)) (take k links) so_far)
+    (subst (λ (y : Link). y.number < after) at own)
 
-pub bound_whole : (numbers : List ℕ) (k bound : ℕ) → length numbers ≤ k → All (λ (n : ℕ). n < bound) (take k numbers) → All (λ (n : ℕ). n < bound) numbers
-bound_whole numbers k bound most h = subst (λ (ns : List ℕ). All (λ (n : ℕ). n < bound) ns) (take_all k numbers most) h
+pub bound_whole : (links : List Link) (k bound : ℕ) → length links ≤ k → AreBelow (take k links) bound → AreBelow links bound
+bound_whole links k bound most h = subst (λ (xs : List Link). AreBelow xs bound) (take_all k links most) h
 
 -- ---- shapes of instances
 

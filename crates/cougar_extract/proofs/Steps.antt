@@ -211,4 +211,5 @@ pub refused_line : (items : List Item) (l : Library) (k : ℕ) (one : Item) (e :
     → IsUnknownRefusal (instances_of (one ∷ [])) l e → IsUnknownRefusal (instances_of items) l e
 refused_line items l k one errors.Memory at known h = tt
 refused_line items l k one (errors.UnknownCell model) at known h = unknown_later items l k one model at known h
+refused_line items l k one (errors.Limit limit) at known h = absurd h
 refused_line items l k one (errors.Shorted a b chain) at known h = absurd h

@@ -21,8 +21,8 @@ use Rattle.cougar_extract.specs.declared.links.Link.{Link}
 use Rattle.cougar_extract.specs.declared.error.ExtractError.{ExtractError}
 use Rattle.cougar_extract.specs.declared.error.ExtractError.TheVariants as error
 use Rattle.cougar_extract.specs.Extracted.{IsReadyFigure, AreKnown, IsExtracted}
-use Rattle.cougar_extract.specs.Refused.{NoShort, IsLeastShort, IsChainOf, IsExtractRefusal}
-use Rattle.cougar_extract.specs.Stages.{is_output, gives, all_instances_give, instance_gives, IsUnknownRefusal, IsPairFrom, AreTerminals, AreConnected, IsBuilt, IsShortRefusal}
+use Rattle.cougar_extract.specs.Refused.{CanBeNumbered, NoShort, IsLeastShort, IsChainOf, IsExtractRefusal}
+use Rattle.cougar_extract.specs.Stages.{is_output, gives, all_instances_give, instance_gives, IsPairFrom, AreTerminals, AreConnected, IsBuilt, IsShortRefusal}
 use Rattle.cougar_extract.proofs.Extracted.{extracted}
 use Rattle.cougar_extract.proofs.Shapes.{whence, shown_terminal}
 use Rattle.cougar_extract.proofs.Shorted.{no_short, least_short}
@@ -64,25 +64,21 @@ terminals items l links ok is x h =
 
 -- ---- answers
 
--- why the shapes aren't known is why there is no netlist
-pub unknown_refused : (f : Figure) (l : Library) (e : ExtractError) → IsUnknownRefusal (instances_of f.items) l e → IsExtractRefusal f l e
-unknown_refused f l error.Memory h = tt
-unknown_refused f l (error.UnknownCell model) h = h
-unknown_refused f l (error.Shorted a b chain) h = absurd h
-
 -- without a pair of one class no ports are joined
 pub apart : (f : Figure) (l : Library) (n : Netlist) → All PinsAreConnectors l.cells → IsExtracted f l n → IsPairFrom (take (length n.ports) n.classes) 0 None → NoShort f.items l
 apart f l n ok is none = no_short f l n ok is none
 
 -- and the least pair is refused
 pub short_refused : (f : Figure) (l : Library) (n : Netlist) (i j : ℕ) (p q : Port) (e : ExtractError) → All PinsAreConnectors l.cells → IsExtracted f l n
-    → IsPairFrom (take (length n.ports) n.classes) 0 (Some (i, j)) → Stands n.ports i p → Stands n.ports j q
+    → CanBeNumbered f.items l → IsPairFrom (take (length n.ports) n.classes) 0 (Some (i, j)) → Stands n.ports i p → Stands n.ports j q
     → IsShortRefusal (shapes f.items l) p.name q.name e → IsExtractRefusal f l e
-short_refused f l n i j p q error.Memory ok is pair at_p at_q h = absurd h
-short_refused f l n i j p q (error.UnknownCell model) ok is pair at_p at_q h = absurd h
-short_refused f l n i j p q (error.Shorted a b chain) ok is pair at_p at_q h =
+short_refused f l n i j p q error.Memory ok is few pair at_p at_q h = absurd h
+short_refused f l n i j p q (error.UnknownCell model) ok is few pair at_p at_q h = absurd h
+short_refused f l n i j p q (error.Limit limit) ok is few pair at_p at_q h = absurd h
+short_refused f l n i j p q (error.Shorted a b chain) ok is few pair at_p at_q h =
     let least = least_short f l n ok is i j p q pair at_p at_q in (
       is.known,
+      few,
       subst (λ (x : Name). IsLeastShort f.items l a x) (sym h.1) (subst (λ (x : Name). IsLeastShort f.items l x q.name) (sym h.0) least),
       subst (λ (x : Name). IsChainOf (shapes f.items l) a x chain) (sym h.1) (subst (λ (x : Name). IsChainOf (shapes f.items l) x q.name chain) (sym h.0) h.2),
     )

@@ -60,6 +60,7 @@ gives items l = replicate (length (drawn items)) false ++ all_instances_give l (
 abbrev pub IsUnknownRefusal : List Placed → Library → ExtractError → Type 0
 IsUnknownRefusal instances l error.Memory = Unit {0}
 IsUnknownRefusal instances l (error.UnknownCell model) = IsFirstUnknown instances l model
+IsUnknownRefusal instances l (error.Limit limit) = ⊥
 IsUnknownRefusal instances l (error.Shorted a b chain) = ⊥
 
 -- an edge of a rectangle that a line draws: at most 100,000,000,000,000 in absolute value

@@ -1,9 +1,11 @@
 // The netlist of a figure's names and instances and of its connectors.
-ghost use Rattle.std.specs.Prelude.{◌≡◌, ◌∷◌, [], ◌<◌, ◌^◌, map, length, Some, IfOk, OnOk};
+ghost use Rattle.std.specs.Prelude.{◌≡◌, ◌↔◌, ◌∷◌, [], ◌+◌, ◌<◌, ◌^◌, map, length, Some, IfOk, OnOk};
 ghost use Rattle.std.specs.List.{All};
-ghost use Rattle.vlsi_base.specs.Member.{In};
+ghost use Rattle.vlsi_base.specs.Member.{In, AllDifferent};
+ghost use Rattle.vlsi_base.specs.declared.name.Name.{Name as PinName};
 ghost use Rattle.machine_meaning.specs.Machine.{names_of};
 ghost use Rattle.sym_geom.specs.declared.item.Instance.{Instance as PlacedInstance};
+ghost use Rattle.sym_shapes.specs.Shape.{connector_names};
 ghost use Rattle.net_core.specs.Places.{IsThere, NoneTwice};
 ghost use Rattle.net_core.specs.Joins.{draft_terminals};
 ghost use Rattle.cell_model.specs.declared.cell.Cell.{Cell as CellParts};
@@ -13,12 +15,12 @@ ghost use Rattle.cell_model.specs.Usable.{IsFormed};
 ghost use Rattle.cell_checks.specs.Checked.{library_of};
 ghost use Rattle.cell_pins.specs.Pins.{all_ports as ports_of_cell};
 ghost use Rattle.cougar_extract.specs.Extracted.{AreKnown, figure_text as text_of_name, instance_of};
-ghost use Rattle.cougar_extract.specs.Stages.{AreBelow, AreTerminals, IsBuilt, with_instances};
+ghost use Rattle.cougar_extract.specs.Refused.{pin_count};
+ghost use Rattle.cougar_extract.specs.Stages.{AreTerminals, IsBuilt, with_instances};
 
 use crate::cells::cell_of;
 use crate::directions::directed_ports;
-use crate::links::{Link, leaders};
-use crate::names::distinct_names;
+use crate::links::{Link, bound, leaders};
 use crate::pairs::{join_links, only_memory};
 use ap_io::Figure;
 use cell_model::Cell;
@@ -40,81 +42,68 @@ fn pin_names(alloc: Global, cell: &Cell) -> Result<Vec<Name>, AllocError>
     Ok(names)
 }
 
-/// Puts an instance of the figure behind the others, where there are `count` terminals; tells how many there are then. More than
-/// 2^32 find no memory.
+/// Puts an instance of the figure behind the others.
 fn add_instance(
     alloc: Global,
     builder: &mut Builder,
     cells: &[Cell],
     instance: &Instance,
-    count: u32,
-) -> Result<u32, AllocError>
+) -> Result<(), AllocError>
     requires known { (c : CellParts) × (cell_in (library_of cells.now) instance.now.model ≡ Some c) }
     requires formed { All IsFormed cells.now }
     requires fresh { IsThere (map (λ i. i.name) builder.old.instances) instance.now.name → ⊥ }
     requires few { length builder.old.instances < 2 ^ 32 }
-    requires count { count ≡ length (draft_terminals builder.old) }
-    ensures added { OnOk result (builder.new ≡ with_instances builder.old (instance_of (library_of cells.now) instance.now ∷ [])) }
-    ensures count { IfOk result (λ n. n ≡ length (draft_terminals builder.new)) }
+    requires room { length (draft_terminals builder.old) + length (instance_of (library_of cells.now) instance.now).pins < 2 ^ 32 }
+    ensures { OnOk result (builder.new ≡ with_instances builder.old (instance_of (library_of cells.now) instance.now ∷ [])) }
 {
     let Some(cell) = cell_of(cells, &instance.model) else {
         unreachable!()
     };
     let pins = pin_names(alloc, cell)?;
-    let Ok(more) = u32::try_from(pins.len()) else {
-        return Err(AllocError);
-    };
-    let Some(total) = count.checked_add(more) else {
-        return Err(AllocError);
-    };
     match builder.add(alloc, &instance.name, &instance.model, &Names::new(pins)) {
-        Ok(_) => Ok(total),
+        Ok(_) => Ok(()),
         Err(error) => Err(only_memory(error)),
     }
 }
 
-/// Puts a line that is an instance behind the others; tells how many terminals there are then.
+/// Puts a line that is an instance behind the others.
 fn add_item(
     alloc: Global,
     builder: &mut Builder,
     cells: &[Cell],
     item: &Item,
-    count: u32,
-) -> Result<u32, AllocError>
+) -> Result<(), AllocError>
     requires known { AreKnown (instances_of (item.now ∷ [])) (library_of cells.now) }
     requires formed { All IsFormed cells.now }
     requires fresh { (i : PlacedInstance) → In i (instances_of (item.now ∷ [])) → IsThere (map (λ j. j.name) builder.old.instances) i.name → ⊥ }
     requires few { length builder.old.instances < 2 ^ 32 }
-    requires count { count ≡ length (draft_terminals builder.old) }
-    ensures added { OnOk result (builder.new ≡ with_instances builder.old
+    requires room { length (draft_terminals builder.old) + pin_count (item.now ∷ []) (library_of cells.now) < 2 ^ 32 }
+    ensures { OnOk result (builder.new ≡ with_instances builder.old
         (map (instance_of (library_of cells.now)) (instances_of (item.now ∷ [])))) }
-    ensures count { IfOk result (λ n. n ≡ length (draft_terminals builder.new)) }
 {
     match item {
-        Item::Instance(instance) => add_instance(alloc, builder, cells, instance, count),
-        _ => Ok(count),
+        Item::Instance(instance) => add_instance(alloc, builder, cells, instance),
+        _ => Ok(()),
     }
 }
 
-/// Puts the instances of a figure into a netlist that has only ports, so many.
+/// Puts the instances of a figure into a netlist that has only ports.
 fn add_instances(
     alloc: Global,
     builder: &mut Builder,
     items: &[Item],
     cells: &[Cell],
-    ports: u32,
 ) -> Result<(), AllocError>
     requires none { builder.old.instances ≡ [] }
-    requires ports { ports ≡ length builder.old.ports }
     requires known { AreKnown (instances_of items.now) (library_of cells.now) }
     requires formed { All IsFormed cells.now }
     requires once { NoneTwice (map (λ i. i.name) (instances_of items.now)) }
     requires few { length items.now < 2 ^ 32 }
+    requires room { length builder.old.ports + pin_count items.now (library_of cells.now) < 2 ^ 32 }
     ensures { OnOk result (builder.new ≡ with_instances builder.old (map (instance_of (library_of cells.now)) (instances_of items.now))) }
 {
-    let mut count = ports;
     for item in items {
-        count = add_item(alloc, builder, cells, item, count)?;
+        add_item(alloc, builder, cells, item)?;
     }
     Ok(())
 }
@@ -129,32 +118,31 @@ fn figure_text(alloc: Global, name: &Option<Name>) -> Result<Text, AllocError>
     }
 }
 
-/// The netlist of a figure whose instances are these cells, where connectors with one number are joined and all numbers are below
-/// `count`. Takes memory for it, for the pairs that are joined, and for `count` places.
+/// The netlist of a figure whose connectors have these names and whose instances are these cells, where connectors with one number
+/// are joined. Takes memory for it, for the pairs that are joined, and for as many places as the greatest number.
 pub(crate) fn netlist_of(
     alloc: Global,
     figure: &Figure,
     cells: &[Cell],
+    names: &[Name],
     links: &[Link],
-    count: usize,
 ) -> Result<Netlist, AllocError>
     requires known { AreKnown (instances_of figure.now.items) (library_of cells.now) }
     requires formed { All IsFormed cells.now }
     requires once { NoneTwice (map (λ i. i.name) (instances_of figure.now.items)) }
     requires few { length figure.now.items < 2 ^ 32 }
-    requires below { AreBelow links.now count }
+    requires different { AllDifferent names.now }
+    requires same { (n : PinName) → In n names.now ↔ In n (connector_names figure.now.items) }
+    requires room { length names.now + pin_count figure.now.items (library_of cells.now) < 2 ^ 32 }
     requires terminals { AreTerminals figure.now.items (library_of cells.now) links.now }
     ensures { IfOk result (λ n. IsBuilt figure.now (library_of cells.now) links.now n) }
 {
-    let names = distinct_names(alloc, figure.items.as_slice())?;
-    let ports = directed_ports(alloc, &names, links, count)?;
+    let count = bound(links);
+    let ports = directed_ports(alloc, names, links, count)?;
     let places = leaders(alloc, links, count)?;
-    let Ok(many) = u32::try_from(ports.len()) else {
-        return Err(AllocError);
-    };
     let name = figure_text(alloc, &figure.name)?;
     let mut builder = Builder::begin(alloc, name, Ports::new(ports))?;
-    add_instances(alloc, &mut builder, figure.items.as_slice(), cells, many)?;
+    add_instances(alloc, &mut builder, figure.items.as_slice(), cells)?;
     join_links(&mut builder, links, &places)?;
     let netlist = builder.finish(alloc)?;
     Ok(netlist)

@@ -4,7 +4,7 @@ ghost use Rattle.cougar_extract.specs.declared.error.ExtractError.TheVariants.{M
 
 use std::alloc::{AllocError, AllocFailed};
 use sym_geom::Rect;
-use vlsi_base::{Listed, Name, Text};
+use vlsi_base::{Limit, Listed, Name, Text};
 
 /// A shape of a chain: its metal, where it lies, and the instance that it belongs to, if any.
 #[derive(Drop)]
@@ -23,6 +23,8 @@ pub enum ExtractError {
     Memory,
     /// The model of the first instance whose model isn't in the library.
     UnknownCell(Text),
+    /// More shapes, or more ports and pins, than 32 bits can number.
+    Limit(Limit),
     /// Two ports that are joined, and the shapes that join them.
     Shorted { a: Name, b: Name, chain: Steps },
 }

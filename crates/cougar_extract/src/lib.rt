@@ -5,6 +5,7 @@
 
 mod build;
 mod cells;
+mod counting;
 mod directions;
 mod drawing;
 mod error;

@@ -1,6 +1,5 @@
 // Connectors, with the numbers of their joined shapes.
-ghost use Rattle.std.specs.Prelude.{◌≡◌, ◌++◌, ◌<◌, length, IfOk, OnOk};
-ghost use Rattle.std.specs.List.{All};
+ghost use Rattle.std.specs.Prelude.{◌≡◌, ◌++◌, length, IfOk, OnOk};
 ghost use Rattle.std.specs.Option.{option_copied};
 ghost use Rattle.cougar_extract.specs.Stages.{shape_links, AreLinks, AreBelow, AreLeaders};
 
@@ -54,31 +53,15 @@ fn push_link(
     Ok(())
 }
 
-/// A number above all of these.
-pub(crate) fn bound(numbers: &[u32]) -> usize
-    ensures { All (λ n. n < result) numbers.now }
-{
-    let mut bound: usize = 0;
-    for number in numbers {
-        if *number as usize >= bound {
-            bound = *number as usize + 1;
-        }
-    }
-    bound
-}
-
-/// The connectors of a layout whose shapes have these numbers below `count`, in the order of shapes. Takes memory for their names.
+/// The connectors of a layout whose shapes have these numbers, in the order of shapes. Takes memory for their names.
 pub(crate) fn links(
     alloc: Global,
     drawing: &Drawing,
     numbers: &[u32],
-    count: usize,
 ) -> Result<Vec<Link>, AllocError>
     requires numbers { length numbers.now ≡ length drawing.now.shapes.items }
     requires gives { length drawing.now.gives.items ≡ length drawing.now.shapes.items }
-    requires below { All (λ n. n < count) numbers.now }
-    ensures links { IfOk result (λ links. AreLinks drawing.now.shapes.items numbers.now drawing.now.gives.items (length drawing.now.shapes.items) links.items) }
-    ensures below { IfOk result (λ links. AreBelow links.items count) }
+    ensures { IfOk result (λ links. AreLinks drawing.now.shapes.items numbers.now drawing.now.gives.items (length drawing.now.shapes.items) links.items) }
 {
     let mut links = Vec::new(alloc);
     for k in 0..drawing.shapes.len() {
@@ -86,6 +69,19 @@ pub(crate) fn links(
         push_link(alloc, &mut links, &drawing.shapes[k], numbers[k], gives)?;
     }
     Ok(links)
+}
+
+/// A number above those of all connectors.
+pub(crate) fn bound(links: &[Link]) -> usize
+    ensures { AreBelow links.now result }
+{
+    let mut bound: usize = 0;
+    for link in links {
+        if link.number as usize >= bound {
+            bound = link.number as usize + 1;
+        }
+    }
+    bound
 }
 
 /// For each number that a connector has the place of the last such. Takes memory for `count` places.

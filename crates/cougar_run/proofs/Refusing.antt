@@ -1,5 +1,5 @@
 -- From the refusals of readers, of extraction and of writing to the tool's.
-use Rattle.std.proofs.Common.{◌≡◌, ℕ, List, None, Result, Err, false, sym, subst, refl}
+use Rattle.std.proofs.Common.{◌≡◌, inl, inr, ℕ, List, None, Result, Err, false, sym, subst, refl}
 use Rattle.vlsi_base.specs.declared.fault.ReadError.{ReadError}
 use Rattle.ap_io.specs.declared.figure.Figure.{Figure}
 use Rattle.ap_io.specs.ApText.{IsApText}
@@ -17,7 +17,7 @@ use Rattle.vst_write.specs.Written.{IsWriteRefusal}
 use Rattle.cougar_extract.specs.declared.error.ExtractError.{ExtractError}
 use Rattle.cougar_extract.specs.declared.error.ExtractError.TheVariants as extracting
 use Rattle.cougar_extract.specs.Extracted.{IsExtracted}
-use Rattle.cougar_extract.specs.Refused.{NoShort, IsExtractRefusal}
+use Rattle.cougar_extract.specs.Refused.{CanBeNumbered, NoShort, IsExtractRefusal}
 use Rattle.tool_words.specs.declared.command.CougarCommand.{CougarCommand}
 use Rattle.tool_drive.specs.declared.status.Status.{Status}
 use Rattle.tool_drive.specs.declared.status.Status.TheVariants as status
@@ -25,7 +25,7 @@ use Rattle.tool_drive.specs.declared.tool.Product.{Product}
 use Rattle.tool_drive.specs.declared.tool.Refusal.{Refusal}
 use Rattle.tool_drive.specs.Table.{IsJudged, IsFair, refusal}
 use Rattle.tool_drive.specs.Refusals.{MemoryOr, OfFile, of_file, judged_file}
-use Rattle.cougar_run.specs.Cougar.{no_library, bad_layout, unknown_cell, shorted, bad_map, Extracts, IsToldOf, IsWriteToldOf}
+use Rattle.cougar_run.specs.Cougar.{no_library, bad_layout, unknown_cell, too_large, many_terminals, shorted, bad_map, Extracts, IsToldOf, IsWriteToldOf}
 
 -- a status for which P holds, or out of memory, is one that a tool may answer
 judged : (A : Result Product Refusal → Type 0) (P : Status → Type 0) → ((t : Status) → P t → IsFair t None (A (Err (refusal t None)))) → (s : Status) → MemoryOr s (P s)
@@ -61,17 +61,25 @@ module _ (c : CougarCommand) (source list : List ℕ) (cells : List (List ℕ)) 
       told_extract extracting.Memory h t k = absurd k
       told_extract (extracting.UnknownCell model) h t k =
           subst (λ (s : Status). IsFair s None (Extracts c source list cells (Err (refusal s None)))) (sym k) (refl, unknown_cell l f model library figure h refl)
+      told_extract (extracting.Limit limit) h t k =
+          subst (λ (s : Status). IsFair s None (Extracts c source list cells (Err (refusal s None)))) (sym k) (
+            refl,
+            elim h.1 [
+              | inl large ↦ too_large l f limit library figure h.0 large refl
+              | inr many ↦ many_terminals l f limit library figure h.0 many.0 many.1 refl
+            ],
+          )
       told_extract (extracting.Shorted a b chain) h t k =
-          subst (λ (s : Status). IsFair s None (Extracts c source list cells (Err (refusal s None)))) (sym k) (refl, shorted l f a b chain library figure h.0 h.1 h.2 refl)
+          subst (λ (s : Status). IsFair s None (Extracts c source list cells (Err (refusal s None)))) (sym k) (refl, shorted l f a b chain library figure h.0 h.1 h.2 h.3 refl)
 
       pub by_extract : (e : ExtractError) (s : Status) → IsExtractRefusal f l e → MemoryOr s (IsToldOf c e s) → IsJudged (Extracts c source list cells) (Err (refusal s None))
       by_extract e s h k = judged (Extracts c source list cells) (IsToldOf c e) (told_extract e h) s k
 
-      module _ (n : Netlist) (extracted : IsExtracted f l n) (apart : NoShort f.items l) where
+      module _ (n : Netlist) (extracted : IsExtracted f l n) (few : CanBeNumbered f.items l) (apart : NoShort f.items l) where
         told_write : (e : WriteError) → IsWriteRefusal n e → (t : Status) → IsWriteToldOf c e t → IsFair t None (Extracts c source list cells (Err (refusal t None)))
         told_write writing.Memory h t k = absurd k
         told_write writing.BadMap h t k =
-            subst (λ (s : Status). IsFair s None (Extracts c source list cells (Err (refusal s None)))) (sym k) (refl, bad_map l f n library figure extracted apart h refl)
+            subst (λ (s : Status). IsFair s None (Extracts c source list cells (Err (refusal s None)))) (sym k) (refl, bad_map l f n library figure extracted few apart h refl)
 
         pub by_write : (e : WriteError) (s : Status) → IsWriteRefusal n e → MemoryOr s (IsWriteToldOf c e s) → IsJudged (Extracts c source list cells) (Err (refusal s None))
         by_write e s h k = judged (Extracts c source list cells) (IsWriteToldOf c e) (told_write e h) s k

@@ -31,7 +31,7 @@ use Rattle.vst_again.specs.Placed.{file_of}
 use Rattle.vst_again.specs.Says.{WrittenIsASentence, WrittenSaysTheNetlist}
 use Rattle.vst_said.specs.Text.{IsTextOf}
 use Rattle.cougar_extract.specs.Extracted.{IsExtracted}
-use Rattle.cougar_extract.specs.Refused.{NoShort}
+use Rattle.cougar_extract.specs.Refused.{CanBeNumbered, NoShort}
 use Rattle.cougar_extract.specs.Laws.{ExtractedFits, ExtractedIsGiven}
 use Rattle.tool_words.specs.declared.command.CougarCommand.{CougarCommand}
 use Rattle.tool_drive.specs.declared.tool.Product.{Product}
@@ -87,15 +87,16 @@ pub writable : CellCanBeWritten → ExtractedFits → (list : List ℕ) (files :
 writable pins fits list files l f n library passed is table is_table sound = (fits f l false table n passed is_table sound is, pins_can pins list files l library table is_table)
 
 pub extraction : (c : CougarCommand) (source list : List ℕ) (cells : List (List ℕ)) (l : Library) (f : Figure) (n : Netlist) (p : Product) → IsLibraryOf false list cells l
-    → IsApText source f → IsExtracted f l n → NoShort f.items l → CanBeNamed n → IsWrittenAs c.out l n p
+    → IsApText source f → IsExtracted f l n → CanBeNumbered f.items l → NoShort f.items l → CanBeNamed n → IsWrittenAs c.out l n p
     → IsExtraction c source list cells p
-extraction c source list cells l f n p library figure is apart named written = record {
+extraction c source list cells l f n p library figure is few apart named written = record {
   l = l;
   library = library;
   f = f;
   figure = figure;
   n = n;
   extracted = is;
+  few = few;
   apart = apart;
   named = named;
   written = written;

@@ -1,9 +1,10 @@
 -- What `cougar` reads and answers.
-use Rattle.std.specs.Prelude.{◌≡◌, ℕ, ◌-◌, Bool, ◌&&◌, true, false, List, [], ◌∷◌, ◌++◌, filter, length, get_or, codes, is_none, None, Some, Result, Ok, Err}
+use Rattle.std.specs.Prelude.{◌≡◌, ℕ, ◌-◌, ◌<◌, ◌^◌, Bool, ◌&&◌, true, false, List, [], ◌∷◌, ◌++◌, filter, length, get_or, codes, is_none, None, Some, Result, Ok, Err}
 use Rattle.std.specs.Fmt.{decimal}
 use Rattle.vlsi_base.specs.declared.limits.TheConstants.{MOST_NETLIST_BYTES}
 use Rattle.vlsi_base.specs.declared.fault.FaultKind.{FaultKind}
 use Rattle.vlsi_base.specs.declared.fault.FaultKind.TheVariants as kind
+use Rattle.vlsi_base.specs.declared.fault.Limit.{Limit}
 use Rattle.vlsi_base.specs.declared.name.Name.{Name}
 use Rattle.vlsi_base.specs.declared.name.Port.{Port}
 use Rattle.vlsi_base.specs.Name.{is_supply}
@@ -30,7 +31,7 @@ use Rattle.cougar_extract.specs.declared.error.Step.{Step}
 use Rattle.cougar_extract.specs.declared.error.ExtractError.{ExtractError}
 use Rattle.cougar_extract.specs.declared.error.ExtractError.TheVariants as extracting
 use Rattle.cougar_extract.specs.Extracted.{AreKnown, IsExtracted}
-use Rattle.cougar_extract.specs.Refused.{IsFirstUnknown, NoShort, IsLeastShort, IsChainOf}
+use Rattle.cougar_extract.specs.Refused.{IsFirstUnknown, IsTooLarge, HasTooManyTerminals, CanBeNumbered, NoShort, IsLeastShort, IsChainOf}
 use Rattle.tool_words.specs.declared.command.CougarCommand.{CougarCommand}
 use Rattle.tool_drive.specs.declared.status.Status.{Status}
 use Rattle.tool_drive.specs.declared.status.Status.TheVariants as status
@@ -82,7 +83,8 @@ pub record IsWrittenAs (out : List ℕ) (l : Library) (n : Netlist) (p : Product
   pub file : p.file ≡ Some (text_of (layout n table))
   pub text : p.text ≡ report n
 
--- Library and layout are read, no two ports of the layout are joined, and the netlist that it gives can be written and is.
+-- Library and layout are read, 32 bits can number the layout's shapes and its ports and pins, no two ports of it are joined, and
+-- the netlist that it gives can be written and is.
 pub record IsExtraction (c : CougarCommand) (source catal : List ℕ) (cells : List (List ℕ)) (p : Product) : Type 0 where
   pub l : Library
   pub library : IsLibraryOf false catal cells l
@@ -90,6 +92,7 @@ pub record IsExtraction (c : CougarCommand) (source catal : List ℕ) (cells : L
   pub figure : IsApText source f
   pub n : Netlist
   pub extracted : IsExtracted f l n
+  pub few : CanBeNumbered f.items l
   pub apart : NoShort f.items l
   pub named : CanBeNamed n
   pub written : IsWrittenAs c.out l n p
@@ -98,18 +101,23 @@ pub record IsExtraction (c : CougarCommand) (source catal : List ℕ) (cells : L
 abbrev pub fault_of : CougarCommand → FaultKind → List Name → Status
 fault_of c k names = status.Source c.source (record { line = 1; kind = k; names = names })
 
--- What is refused, in this order: the library, the layout, an instance of a cell that the library hasn't, joined ports, and names
--- that can't be written.
+-- What is refused, in this order: the library, the layout, an instance of a cell that the library hasn't, more shapes and then more
+-- ports and pins than 32 bits can number, joined ports, and names that can't be written.
 pub data IsRefused (c : CougarCommand) (source catal : List ℕ) (cells : List (List ℕ)) (s : Status) : Type 0 where
   no_library : (e : LibError) → IsRefusedLibrary false catal cells e → s ≡ status_of e → IsRefused c source catal cells s
   bad_layout : (l : Library) → IsLibraryOf false catal cells l → OfFile c.source (IsApRefusal source) s → IsRefused c source catal cells s
   unknown_cell : (l : Library) (f : Figure) (model : List ℕ) → IsLibraryOf false catal cells l → IsApText source f
       → IsFirstUnknown (instances_of f.items) l model → s ≡ fault_of c kind.UnknownCell (scalar model ∷ []) → IsRefused c source catal cells s
+  too_large : (l : Library) (f : Figure) (limit : Limit) → IsLibraryOf false catal cells l → IsApText source f
+      → AreKnown (instances_of f.items) l → IsTooLarge f.items l limit → s ≡ status.Limit limit → IsRefused c source catal cells s
+  many_terminals : (l : Library) (f : Figure) (limit : Limit) → IsLibraryOf false catal cells l → IsApText source f
+      → AreKnown (instances_of f.items) l → length (shapes f.items l) < 2 ^ 32 → HasTooManyTerminals f.items l limit
+      → s ≡ status.Limit limit → IsRefused c source catal cells s
   shorted : (l : Library) (f : Figure) (a b : Name) (chain : List Step) → IsLibraryOf false catal cells l → IsApText source f
-      → AreKnown (instances_of f.items) l → IsLeastShort f.items l a b → IsChainOf (shapes f.items l) a b chain
+      → AreKnown (instances_of f.items) l → CanBeNumbered f.items l → IsLeastShort f.items l a b → IsChainOf (shapes f.items l) a b chain
       → s ≡ status.No (Shorted a b) → IsRefused c source catal cells s
   bad_map : (l : Library) (f : Figure) (n : Netlist) → IsLibraryOf false catal cells l → IsApText source f → IsExtracted f l n
-      → NoShort f.items l → IsBadMap n → s ≡ fault_of c kind.BadMap [] → IsRefused c source catal cells s
+      → CanBeNumbered f.items l → NoShort f.items l → IsBadMap n → s ≡ fault_of c kind.BadMap [] → IsRefused c source catal cells s
 
 -- the netlist is written and the report is printed, or one of these refusals
 abbrev pub Extracts : CougarCommand → List ℕ → List ℕ → List (List ℕ) → Result Product Refusal → Type 0
@@ -127,6 +135,7 @@ IsWritable l n = (table : List ModelPins) → IsTableOf l true table → IsPinTa
 abbrev pub IsToldOf : CougarCommand → ExtractError → Status → Type 0
 IsToldOf c extracting.Memory s = ⊥
 IsToldOf c (extracting.UnknownCell model) s = s ≡ fault_of c kind.UnknownCell (scalar model ∷ [])
+IsToldOf c (extracting.Limit limit) s = s ≡ status.Limit limit
 IsToldOf c (extracting.Shorted a b chain) s = s ≡ status.No (Shorted a b)
 
 abbrev pub IsWriteToldOf : CougarCommand → WriteError → Status → Type 0

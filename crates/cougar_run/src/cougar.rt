@@ -23,8 +23,9 @@ use vst_write::WriteError;
 ///
 /// All files are read first: SOURCE, CATAL, and the behaviour and the layout of each cell that this uses. Then it is refused, in
 /// this order: by `Library`, or a limit of CATAL or of a cell, at the first line or cell at fault; by `Source`, or a limit, of
-/// SOURCE; by `Source` of `UnknownCell`, at the first instance of a cell that the library hasn't; by `Shorted`, where two ports are
-/// joined; by `Source` of `BadMap`, where names can't be written. Memory goes by the files and the shapes of the layout.
+/// SOURCE; by `Source` of `UnknownCell`, at the first instance of a cell that the library hasn't; by `Limit` of `Size`, where there
+/// are 2^32 or more shapes; by `Limit` of `Bits`, where there are 2^32 or more ports and pins of instances; by `Shorted`, where two
+/// ports are joined; by `Source` of `BadMap`, where names can't be written. Memory goes by the files and the shapes of the layout.
 #[derive(Drop)]
 pub struct Cougar<'a> {
     pub command: &'a CougarCommand,
@@ -76,6 +77,7 @@ fn extract_status(alloc: Global, command: &CougarCommand, error: ExtractError) -
     match error {
         ExtractError::Memory => Status::Memory,
         ExtractError::UnknownCell(model) => unknown_cell(alloc, command, model),
+        ExtractError::Limit(limit) => Status::Limit(limit),
         ExtractError::Shorted { a, b, .. } => Status::No(Verdict::Shorted { a, b }),
     }
 }

@@ -1,21 +1,14 @@
 -- The whole list.
-use Rattle.std.proofs.Common.{◌≡◌, ◌⊎◌, inl, inr, ℕ, List, [], ◌∷◌, ◌++◌, map, take, None, Some, refl, sym, ◌∙◌, ap, subst}
-use Rattle.std.specs.Prelude.{slice_get}
-use Rattle.sym_geom.specs.declared.item.Instance.{Instance as Placed}
+use Rattle.std.proofs.Common.{◌≡◌, List, [], ◌∷◌, ◌++◌, map, refl, ◌∙◌, ap, subst}
 use Rattle.sym_geom.specs.declared.item.Item.{Item}
-use Rattle.sym_geom.specs.declared.item.Item.TheVariants as item
 use Rattle.sym_shapes.specs.Shape.{Shape}
-use Rattle.cell_model.specs.Library.{Library, cell_of}
-use Rattle.cell_model.specs.Layout.{instances_of, shapes}
+use Rattle.cell_model.specs.Library.{Library}
+use Rattle.cell_model.specs.Layout.{shapes}
 use Rattle.net_meaning.specs.Breaches.{Breach, width, gap}
-use Rattle.cougar_extract.specs.Extracted.{AreKnown}
-use Rattle.cougar_extract.proofs.Steps.{unknown_one, unknown_later}
 use Rattle.druc_rules.specs.declared.breach.Rules.{Rules}
 use Rattle.druc_rules.specs.declared.breach.Breach.{Breach as Found}
 use Rattle.druc_rules.specs.declared.breach.Breach.TheVariants as breach
-use Rattle.druc_rules.specs.declared.error.DrucError.{DrucError}
-use Rattle.druc_rules.specs.declared.error.DrucError.TheVariants as errors
-use Rattle.druc_rules.specs.Breaches.{breach_of, BreachesBy, AreWidths, AddsGaps, IsUnknownRefusal}
+use Rattle.druc_rules.specs.Breaches.{breach_of, BreachesBy, AreWidths, AddsGaps}
 
 map_both : {A B : Type 0} (f : A → B) (xs ys : List A) → map f (xs ++ ys) ≡ map f xs ++ map f ys
 map_both f [] ys = refl

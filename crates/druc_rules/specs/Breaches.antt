@@ -4,12 +4,12 @@ use Rattle.vlsi_base.specs.Member.{Picks, pairs}
 use Rattle.sym_geom.specs.declared.grid.TheConstants.{LEAST_WIDTH, LEAST_GAP}
 use Rattle.sym_geom.specs.Rect.{Meet, Near}
 use Rattle.sym_geom.specs.declared.item.Item.{Item}
-use Rattle.sym_geom.specs.declared.item.Instance.{Instance as Placed}
 use Rattle.sym_shapes.specs.Shape.{Shape}
 use Rattle.cell_model.specs.Library.{Library}
-use Rattle.cell_model.specs.Layout.{shapes}
+use Rattle.cell_model.specs.Layout.{instances_of, shapes}
 use Rattle.net_meaning.specs.Breaches.{Breach, width, gap, IsExcused, Breaches}
-use Rattle.cougar_extract.specs.Refused.{IsFirstUnknown}
+use Rattle.cougar_extract.specs.Extracted.{AreKnown}
+use Rattle.cougar_extract.specs.Refused.{IsFirstUnknown, IsTooLarge}
 use Rattle.druc_rules.specs.declared.breach.Rules.{Rules}
 use Rattle.druc_rules.specs.declared.breach.Breach.{Breach as Found}
 use Rattle.druc_rules.specs.declared.breach.Breach.TheVariants as breach
@@ -48,9 +48,10 @@ StandardIsMeant = (r : Rules) (items : List Item) (l : Library) (listed : List B
     → r.width ≡ LEAST_WIDTH → r.gap ≡ LEAST_GAP → BreachesBy r items l listed ↔ Breaches items l listed
 
 -- why the breaches aren't known, if memory hasn't run out
-abbrev pub IsUnknownRefusal : List Placed → Library → DrucError → Type 0
-IsUnknownRefusal instances l error.Memory = Unit {0}
-IsUnknownRefusal instances l (error.UnknownCell model) = IsFirstUnknown instances l model
+abbrev pub IsBrokenRefusal : List Item → Library → DrucError → Type 0
+IsBrokenRefusal items l error.Memory = Unit {0}
+IsBrokenRefusal items l (error.UnknownCell model) = IsFirstUnknown (instances_of items) l model
+IsBrokenRefusal items l (error.Limit limit) = AreKnown (instances_of items) l × IsTooLarge items l limit
 
 -- ---- stages
 

@@ -1,9 +1,9 @@
 // The breaches of a layout.
 ghost use Rattle.std.specs.Prelude.{◌≡◌, ◌↔◌, ◌<◌, ◌^◌, length, map, IsTrue, IfOk, OnOk, IfErr};
-ghost use Rattle.cell_model.specs.Layout.{instances_of};
+ghost use Rattle.cell_model.specs.Layout.{instances_of, shapes as shapes_of};
 ghost use Rattle.cougar_extract.specs.Extracted.{IsReadyFigure, AreKnown};
 ghost use Rattle.druc_rules.specs.declared.breach.Breach.TheVariants as breaches;
-ghost use Rattle.druc_rules.specs.Breaches.{breach_of, IsNarrowBy, BreachesBy, AreWidths, AddsGaps, IsUnknownRefusal};
+ghost use Rattle.druc_rules.specs.Breaches.{breach_of, IsNarrowBy, BreachesBy, AreWidths, AddsGaps, IsBrokenRefusal};
 ghost use Rattle.sym_near.specs.Related.{AreRelated, shape_at};
 ghost use Rattle.sym_near.specs.declared.near.Relation.TheVariants as relation;
 ghost use Rattle.druc_rules.specs.Excuses.{IsKnown};
@@ -105,8 +105,8 @@ fn gaps(
 /// connector of the other's instance; where one is of an instance and a chain of shapes joins them; or where one lies within a third
 /// of their metal that touches the other.
 ///
-/// It is refused by `UnknownCell` exactly where the model of an instance isn't in the library, at the first such. More than 2^32
-/// shapes find no memory.
+/// It is refused by `UnknownCell` exactly where the model of an instance isn't in the library, at the first such; and else by
+/// `Limit` of `Size` exactly where there are 2^32 or more shapes, with their number.
 ///
 /// Takes memory for the shapes, for a few entries a shape and for the pairs of near shapes and of those that lie within others;
 /// time for these, times the logarithm of their number, for the pairs of shapes that lie beside one another in one band of their
@@ -120,12 +120,10 @@ pub fn broken(
     requires { IsReadyFigure figure.now }
     ensures breaches { IfOk result (λ found. BreachesBy rules.now figure.now.items library.now (map breach_of found)) }
     ensures known { OnOk result (AreKnown (instances_of figure.now.items) library.now) }
-    ensures refused { IfErr result (λ e. IsUnknownRefusal (instances_of figure.now.items) library.now e) }
+    ensures few { OnOk result (length (shapes_of figure.now.items library.now) < 2 ^ 32) }
+    ensures refused { IfErr result (λ e. IsBrokenRefusal figure.now.items library.now e) }
 {
     let shapes = layout_shapes(alloc, figure.items.as_slice(), library.cells())?;
-    if shapes.len() > u32::MAX as usize {
-        return Err(DrucError::Memory);
-    }
     let mut found = widths(alloc, &shapes, rules.width)?;
     gaps(alloc, &mut found, &shapes, rules.gap)?;
     Ok(Breaches::new(found))

@@ -3,7 +3,7 @@ ghost use Rattle.std.specs.Prelude.{◌≡◌};
 ghost use Rattle.druc_rules.specs.declared.error.DrucError.TheVariants.{Memory};
 
 use std::alloc::{AllocError, AllocFailed};
-use vlsi_base::Text;
+use vlsi_base::{Limit, Text};
 
 /// Why the breaches of a layout aren't known.
 #[derive(Drop)]
@@ -11,6 +11,8 @@ pub enum DrucError {
     Memory,
     /// The model of the first instance whose model isn't in the library.
     UnknownCell(Text),
+    /// More shapes than 32 bits can number.
+    Limit(Limit),
 }
 
 impl From<AllocError> for DrucError {

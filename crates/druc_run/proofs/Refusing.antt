@@ -1,11 +1,11 @@
 -- From the refusals of readers and of the rules' check to the tool's, and from the breaches to its answer.
-use Rattle.std.proofs.Common.{◌≡◌, ℕ, List, map, Option, None, Result, Ok, Err, false, refl, sym, subst}
+use Rattle.std.proofs.Common.{◌≡◌, ℕ, ◌<◌, ◌^◌, List, length, map, Option, None, Result, Ok, Err, false, refl, sym, subst}
 use Rattle.vlsi_base.specs.declared.fault.ReadError.{ReadError}
 use Rattle.ap_io.specs.declared.figure.Figure.{Figure}
 use Rattle.ap_io.specs.ApText.{IsApText}
 use Rattle.ap_io.specs.Refusal.{IsApRefusal}
 use Rattle.cell_model.specs.Library.{Library}
-use Rattle.cell_model.specs.Layout.{instances_of}
+use Rattle.cell_model.specs.Layout.{instances_of, shapes}
 use Rattle.cell_lib.specs.declared.error.LibError.{LibError}
 use Rattle.cell_lib.specs.declared.error.LibError.TheVariants as errors
 use Rattle.cell_lib.proofs.Plain.{never_missing, never_unread}
@@ -16,7 +16,7 @@ use Rattle.cougar_extract.specs.Extracted.{AreKnown}
 use Rattle.druc_rules.specs.declared.breach.Breach.{Breach}
 use Rattle.druc_rules.specs.declared.error.DrucError.{DrucError}
 use Rattle.druc_rules.specs.declared.error.DrucError.TheVariants as ruling
-use Rattle.druc_rules.specs.Breaches.{breach_of, IsUnknownRefusal}
+use Rattle.druc_rules.specs.Breaches.{breach_of, IsBrokenRefusal}
 use Rattle.tool_words.specs.declared.command.DrucCommand.{DrucCommand}
 use Rattle.tool_drive.specs.declared.status.Status.{Status}
 use Rattle.tool_drive.specs.declared.status.Status.TheVariants as status
@@ -25,7 +25,7 @@ use Rattle.tool_drive.specs.declared.tool.Product.{Product}
 use Rattle.tool_drive.specs.declared.tool.Refusal.{Refusal}
 use Rattle.tool_drive.specs.Table.{IsJudged, IsFair, refusal}
 use Rattle.tool_drive.specs.Refusals.{MemoryOr, OfFile, of_file, judged_file}
-use Rattle.druc_run.specs.Druc.{AreListed, no_library, bad_layout, unknown_cell, broken, Checks, IsToldOf, IsAnswerOf}
+use Rattle.druc_run.specs.Druc.{AreListed, no_library, bad_layout, unknown_cell, too_large, broken, Checks, IsToldOf, IsAnswerOf}
 
 module _ (c : DrucCommand) (source list : List ℕ) (cells : List (List ℕ)) where
   pub by_library : (e : LibError) → OrMemory (IsRefusedLibrary false list cells) e → IsJudged (Checks c source list cells) (Err (refusal (status_of e) None))
@@ -42,12 +42,14 @@ module _ (c : DrucCommand) (source list : List ℕ) (cells : List (List ℕ)) wh
         judged_file (Checks c source list cells) c.source (IsApRefusal source) s (of_file c.source (IsApRefusal source) e h s k) (λ o. (refl, bad_layout l library o))
 
     module _ (f : Figure) (figure : IsApText source f) where
-      told : (e : DrucError) (s : Status) → IsUnknownRefusal (instances_of f.items) l e → IsToldOf c e s → IsFair s None (Checks c source list cells (Err (refusal s None)))
+      told : (e : DrucError) (s : Status) → IsBrokenRefusal f.items l e → IsToldOf c e s → IsFair s None (Checks c source list cells (Err (refusal s None)))
       told ruling.Memory s h k = absurd k
       told (ruling.UnknownCell model) s h k =
           subst (λ (t : Status). IsFair t None (Checks c source list cells (Err (refusal t None)))) (sym k) (refl, unknown_cell l f model library figure h refl)
+      told (ruling.Limit limit) s h k =
+          subst (λ (t : Status). IsFair t None (Checks c source list cells (Err (refusal t None)))) (sym k) (refl, too_large l f limit library figure h.0 h.1 refl)
 
-      pub by_rules : (e : DrucError) (s : Status) → IsUnknownRefusal (instances_of f.items) l e → MemoryOr s (IsToldOf c e s) → IsJudged (Checks c source list cells) (Err (refusal s None))
+      pub by_rules : (e : DrucError) (s : Status) → IsBrokenRefusal f.items l e → MemoryOr s (IsToldOf c e s) → IsJudged (Checks c source list cells) (Err (refusal s None))
       by_rules e status.Memory h k = refl
       by_rules e status.Accepted h k = told e status.Accepted h k
       by_rules e status.Usage h k = told e status.Usage h k
@@ -60,9 +62,9 @@ module _ (c : DrucCommand) (source list : List ℕ) (cells : List (List ℕ)) wh
       by_rules e (status.Limit limit) h k = told e (status.Limit limit) h k
       by_rules e (status.No verdict) h k = told e (status.No verdict) h k
 
-      module _ (known : AreKnown (instances_of f.items) l) (found : List Breach) (breaches : Breaches f.items l (map breach_of found)) where
+      module _ (known : AreKnown (instances_of f.items) l) (few : length (shapes f.items l) < 2 ^ 32) (found : List Breach) (breaches : Breaches f.items l (map breach_of found)) where
         listed : AreListed source list cells found
-        listed = record { l = l; library = library; f = f; figure = figure; known = known; breaches = breaches }
+        listed = record { l = l; library = library; f = f; figure = figure; known = known; few = few; breaches = breaches }
 
         pub accepted : (p : Product) → IsAnswerOf found (Ok p) → Checks c source list cells (Ok p)
         accepted p h = record { none = subst (λ (bs : List Breach). AreListed source list cells bs) h.0 listed; file = h.1; text = h.2 }

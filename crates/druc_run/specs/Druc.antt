@@ -1,7 +1,8 @@
 -- What `druc` reads and answers.
-use Rattle.std.specs.Prelude.{◌≡◌, ℕ, ◌<◌, List, [], ◌∷◌, ◌++◌, map, length, get_or, false, None, Result, Ok, Err}
+use Rattle.std.specs.Prelude.{◌≡◌, ℕ, ◌<◌, ◌^◌, List, [], ◌∷◌, ◌++◌, map, length, get_or, false, None, Result, Ok, Err}
 use Rattle.vlsi_base.specs.declared.fault.FaultKind.{FaultKind}
 use Rattle.vlsi_base.specs.declared.fault.FaultKind.TheVariants as kind
+use Rattle.vlsi_base.specs.declared.fault.Limit.{Limit}
 use Rattle.vlsi_base.specs.declared.name.Name.{Name}
 use Rattle.vlsi_base.specs.Names.{scalar}
 use Rattle.ap_io.specs.declared.figure.Figure.{Figure}
@@ -9,13 +10,13 @@ use Rattle.ap_io.specs.ApText.{IsApText}
 use Rattle.ap_io.specs.Refusal.{IsApRefusal}
 use Rattle.catal.specs.Cells.{cells_in}
 use Rattle.cell_model.specs.Library.{Library}
-use Rattle.cell_model.specs.Layout.{instances_of}
+use Rattle.cell_model.specs.Layout.{instances_of, shapes}
 use Rattle.cell_lib.specs.declared.error.LibError.{LibError}
 use Rattle.cell_lib.specs.Files.{catal_name, cell_files}
 use Rattle.cell_lib.specs.Library.{IsLibraryOf, IsRefusedLibrary, status_of}
 use Rattle.net_meaning.specs.Breaches.{Breaches}
 use Rattle.cougar_extract.specs.Extracted.{AreKnown}
-use Rattle.cougar_extract.specs.Refused.{IsFirstUnknown}
+use Rattle.cougar_extract.specs.Refused.{IsFirstUnknown, IsTooLarge}
 use Rattle.cougar_run.specs.Cougar.{layout_file}
 use Rattle.druc_rules.specs.declared.breach.Breach.{Breach}
 use Rattle.druc_rules.specs.declared.error.DrucError.{DrucError}
@@ -38,13 +39,15 @@ druc_plan c = record {
   more = λ read. cell_files c.library (cells_in (get_or read 1 []));
 }
 
--- library and layout are read, the model of each instance is in the library, and these are the layout's breaches
+-- library and layout are read, the model of each instance is in the library, 32 bits can number the shapes, and these are the
+-- layout's breaches
 pub record AreListed (source catal : List ℕ) (cells : List (List ℕ)) (found : List Breach) : Type 0 where
   pub l : Library
   pub library : IsLibraryOf false catal cells l
   pub f : Figure
   pub figure : IsApText source f
   pub known : AreKnown (instances_of f.items) l
+  pub few : length (shapes f.items l) < 2 ^ 32
   pub breaches : Breaches f.items l (map breach_of found)
 
 -- there is no breach, and that is printed
@@ -57,13 +60,15 @@ pub record IsWithoutBreach (source catal : List ℕ) (cells : List (List ℕ)) (
 abbrev pub fault_of : DrucCommand → FaultKind → List Name → Status
 fault_of c k names = status.Source c.source (record { line = 1; kind = k; names = names })
 
--- What is refused, in this order: the library, the layout, an instance of a cell that the library hasn't, and a layout that has
--- breaches, which are listed.
+-- What is refused, in this order: the library, the layout, an instance of a cell that the library hasn't, more shapes than 32 bits
+-- can number, and a layout that has breaches, which are listed.
 pub data IsRefused (c : DrucCommand) (source catal : List ℕ) (cells : List (List ℕ)) (s : Status) : Type 0 where
   no_library : (e : LibError) → IsRefusedLibrary false catal cells e → s ≡ status_of e → IsRefused c source catal cells s
   bad_layout : (l : Library) → IsLibraryOf false catal cells l → OfFile c.source (IsApRefusal source) s → IsRefused c source catal cells s
   unknown_cell : (l : Library) (f : Figure) (model : List ℕ) → IsLibraryOf false catal cells l → IsApText source f
       → IsFirstUnknown (instances_of f.items) l model → s ≡ fault_of c kind.UnknownCell (scalar model ∷ []) → IsRefused c source catal cells s
+  too_large : (l : Library) (f : Figure) (limit : Limit) → IsLibraryOf false catal cells l → IsApText source f
+      → AreKnown (instances_of f.items) l → IsTooLarge f.items l limit → s ≡ status.Limit limit → IsRefused c source catal cells s
   broken : (found : List Breach) → AreListed source catal cells found → 0 < length found → s ≡ status.No (Broken (report found))
       → IsRefused c source catal cells s
 
@@ -79,6 +84,7 @@ druc_answers c i r = Checks c (get_or i.first 0 []) (get_or i.first 1 []) i.more
 abbrev pub IsToldOf : DrucCommand → DrucError → Status → Type 0
 IsToldOf c error.Memory s = ⊥
 IsToldOf c (error.UnknownCell model) s = s ≡ fault_of c kind.UnknownCell (scalar model ∷ [])
+IsToldOf c (error.Limit limit) s = s ≡ status.Limit limit
 
 -- what is answered of breaches that were found
 abbrev pub IsAnswerOf : List Breach → Result Product Refusal → Type 0

@@ -22,8 +22,8 @@ use vlsi_base::{
 ///
 /// All files are read first: SOURCE, CATAL, and the behaviour and the layout of each cell that this uses. Then it is refused, in
 /// this order: by `Library`, or a limit of CATAL or of a cell, at the first line or cell at fault; by `Source`, or a limit, of
-/// SOURCE; by `Source` of `UnknownCell`, at the first instance of a cell that the library hasn't; by `Broken`, where there is a
-/// breach. Memory goes by the files and the shapes of the layout.
+/// SOURCE; by `Source` of `UnknownCell`, at the first instance of a cell that the library hasn't; by `Limit` of `Size`, where there
+/// are 2^32 or more shapes; by `Broken`, where there is a breach. Memory goes by the files and the shapes of the layout.
 #[derive(Drop)]
 pub struct Druc<'a> {
     pub command: &'a DrucCommand,
@@ -68,6 +68,7 @@ fn druc_status(alloc: Global, command: &DrucCommand, error: DrucError) -> Status
     match error {
         DrucError::Memory => Status::Memory,
         DrucError::UnknownCell(model) => unknown_cell(alloc, command, model),
+        DrucError::Limit(limit) => Status::Limit(limit),
     }
 }
 

@@ -1,6 +1,6 @@
-use Rattle.std.proofs.Common.{ℕ, ◌<◌, take}
-use Rattle.std.specs.List.{All}
+use Rattle.std.proofs.Common.{take}
+use Rattle.cougar_extract.specs.Stages.{AreBelow}
 use Rattle.cougar_extract.proofs.links.bound.Given as goal
 
-abbrev pub invariant-loop-number : goal.invariant-loop-number
-invariant-loop-number l = All (λ (n : ℕ). n < l.bound) (take l.number-index l.numbers)
+abbrev pub invariant-loop-link : goal.invariant-loop-link
+invariant-loop-link l = AreBelow (take l.link-index l.links) l.bound

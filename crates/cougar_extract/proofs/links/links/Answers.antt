@@ -1,15 +1,12 @@
 use Rattle.std.proofs.Common.{◌≡◌, ◌∙◌, ◌<◌, ◌++◌, Bool, false, length, get_or, ap, arith}
 use Rattle.std.proofs.lemmas.List.{get_or_read}
 use Rattle.cougar_extract.specs.Stages.{shape_links}
-use Rattle.cougar_extract.proofs.Linking.{no_links, links_next, below_next}
+use Rattle.cougar_extract.proofs.Linking.{no_links, links_next}
 use Rattle.cougar_extract.proofs.Steps.{read_stands}
 use Rattle.cougar_extract.proofs.links.links.Goals as goal
 
 pub loop-k-init : goal.loop-k-init
-loop-k-init c = record {
-  are = rw (c.new-links.ensures.items) (no_links c.args.drawing.now.shapes.items c.args.numbers.now c.args.drawing.now.gives.items);
-  below = rw (c.new-links.ensures.items) (λ k d h. omega (arith, h));
-}
+loop-k-init c = rw (c.new-links.ensures.items) (no_links c.args.drawing.now.shapes.items c.args.numbers.now c.args.drawing.now.gives.items)
 
 pub loop-k-preserved : goal.loop-k-preserved
 loop-k-preserved c =
@@ -24,8 +21,4 @@ loop-k-preserved c =
     get_or_read outputs k c.index-gives.result.now (omega (arith, low, c.requires.gives)) c.index-gives.ensures false in
     let made : c.push_link.new.links.items ≡ links ++ shape_links s (get_or numbers k 0) (get_or outputs k false) =
     c.in_ok-push_link.ensures ∙ ap (λ (b : Bool). links ++ shape_links s (get_or numbers k 0) b) marked in
-    record {
-      are = links_next shapes numbers outputs k links c.push_link.new.links.items s (read_stands shapes k s low c.index.ensures) made c.loop-k.invariant.are;
-      below = below_next links c.push_link.new.links.items c.args.count (get_or numbers k 0) (get_or outputs k false) s made
-          (c.requires.below k 0 (omega (arith, c.requires.numbers, low))) c.loop-k.invariant.below;
-    }
+    links_next shapes numbers outputs k links c.push_link.new.links.items s (read_stands shapes k s low c.index.ensures) made c.loop-k.invariant

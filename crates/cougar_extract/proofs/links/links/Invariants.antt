@@ -1,8 +1,5 @@
-use Rattle.cougar_extract.specs.Stages.{AreLinks, AreBelow}
+use Rattle.cougar_extract.specs.Stages.{AreLinks}
 use Rattle.cougar_extract.proofs.links.links.Given as goal
 
 abbrev pub invariant-loop-k : goal.invariant-loop-k
-invariant-loop-k l = record {
-  are : AreLinks l.drawing.shapes.items l.numbers l.drawing.gives.items l.k l.links.items;
-  below : AreBelow l.links.items l.count;
-}
+invariant-loop-k l = AreLinks l.drawing.shapes.items l.numbers l.drawing.gives.items l.k l.links.items

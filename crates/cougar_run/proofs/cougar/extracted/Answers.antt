@@ -36,9 +36,9 @@ pub returns : goal.returns
 returns c =
     subst (λ (r : Refusal). IsJudged (Extracts c.args.command.now c.args.source.now c.args.catal.now c.args.cells.now) (Err r)) (sym c.plain-in-Err-product.ensures)
     (by_write c.args.command.now c.args.source.now c.args.catal.now c.args.cells.now c.in-Ok.library c.in-Ok.ensures.ok c.in-Ok-read_ap.figure c.in-Ok-read_ap.ensures.accepted
-    c.in-Ok-extract.netlist c.in-Ok-extract.ensures.extracted c.in-Ok-extract.ensures.apart c.in-Err-product.error c.write_status.result c.in-Err-product.ensures.refused c.write_status.ensures)
+    c.in-Ok-extract.netlist c.in-Ok-extract.ensures.extracted c.in-Ok-extract.ensures.few c.in-Ok-extract.ensures.apart c.in-Err-product.error c.write_status.result c.in-Err-product.ensures.refused c.write_status.ensures)
 
 pub returns-in-Ok-product : goal.returns-in-Ok-product
 returns-in-Ok-product c =
     extraction c.args.command.now c.args.source.now c.args.catal.now c.args.cells.now c.in-Ok.library c.in-Ok-read_ap.figure c.in-Ok-extract.netlist c.in-Ok-product.product
-    c.in-Ok.ensures.ok c.in-Ok-read_ap.ensures.accepted c.in-Ok-extract.ensures.extracted c.in-Ok-extract.ensures.apart c.in-Ok-product.ensures.named c.in-Ok-product.ensures.written
+    c.in-Ok.ensures.ok c.in-Ok-read_ap.ensures.accepted c.in-Ok-extract.ensures.extracted c.in-Ok-extract.ensures.few c.in-Ok-extract.ensures.apart c.in-Ok-product.ensures.named c.in-Ok-product.ensures.written

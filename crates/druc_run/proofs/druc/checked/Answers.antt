@@ -31,7 +31,7 @@ returns-in-Err-broken c =
 pub returns : goal.returns
 returns c =
     answered c.args.command.now c.args.source.now c.args.catal.now c.args.cells.now c.in-Ok.library c.in-Ok.ensures.ok c.in-Ok-read_ap.figure c.in-Ok-read_ap.ensures.accepted
-    c.in-Ok-broken.ensures.known c.in-Ok-broken.found
+    c.in-Ok-broken.ensures.known c.in-Ok-broken.ensures.few c.in-Ok-broken.found
     ((c.standard_rules_law.ensures c.standard.result c.in-Ok-read_ap.figure.items c.in-Ok.library (map breach_of c.in-Ok-broken.found) c.standard.ensures.width c.standard.ensures.gap).0 c.in-Ok-broken.ensures.breaches)
     c.answer.result
     (subst (λ (bs : List Breach). IsJudged (IsAnswerOf bs) c.answer.result) c.as_slice.ensures c.answer.ensures)
