@@ -20,14 +20,11 @@ use Rattle.machine_roots.specs.declared.listing.RootExpr.{RootExpr}
 use Rattle.boom_opt.specs.declared.error.BoomError.{BoomError}
 use Rattle.boom_opt.specs.declared.error.BoomError.TheVariants as error
 use Rattle.boom_opt.specs.Optimised.{IsOverIn}
-use Rattle.boom_opt.specs.Planning.{EachLeadsBack}
+use Rattle.boom_muxes.specs.Planning.{EachLeadsBack}
 use Rattle.boom_opt.specs.Rebuilt.{IsRootOf, IsOverRoot, IsNext}
-use Rattle.boom_opt.proofs.Keeping.{over_more}
+use Rattle.boom_muxes.proofs.Numbered.{over_more, all_names}
 
 -- ---- what roots read
-
-pub all_names : (m : Machine) → IsChecked m → length m.vars ≡ held_count m + length m.equations
-all_names m checked = ap length checked.ordered.vars ∙ length-append (held_names m) (equation_names m) ∙ ap (λ (n : ℕ). held_count m + n) (length-map m.equations (λ (e : Equation). e.name))
 
 expression_over : (n total : ℕ) (es : List Equation) (name : Name) → EachReadsBelow n es → n + length es ≤ total → IsOver (expression_of es name) total
 expression_over n total [] name reads room = tt

@@ -30,10 +30,6 @@ behind_new held count e = with_variables (λ k. variable (if nat_lt k held then 
 abbrev pub IsGivenOrSmaller : Expression → Expression → Type 0
 IsGivenOrSmaller given made = (made ≡ given) ⊎ (size_of made < size_of given)
 
--- bits of one name
-abbrev pub new_names : List ℕ → ℕ → List Name
-new_names text count = map (λ k. record { text = text; bit = Some k }) (rising 0 count)
-
 -- The names of the machine stay, in their order; new ones are bits of a vector of a name that it doesn't have, and their equations
 -- stand before the others. There are no more new ones than the given machine weighs. What an equation or a register of the given machine
 -- says is kept, or is strictly smaller.
