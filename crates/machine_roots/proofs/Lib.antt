@@ -4,6 +4,7 @@ pub mod Binds
 pub mod Outputs
 pub mod Denoting
 pub mod Sets
+pub mod Rooting
 pub mod Rooted
 pub mod Few
 pub mod Loaded

@@ -1,11 +1,11 @@
 -- The diagram of a root, once all was asked for, and why there is none.
-use Rattle.std.proofs.Common.{◌≡◌, ◌⊎◌, inl, inr, ℕ, zero, suc, ◌+◌, ◌<◌, ◌≤◌, Bool, false, List, [], ◌∷◌, ◌++◌, length, replicate, None, Result, Ok, Err, refl, sym, ap, subst, ◌∙◌, arith, append_assoc}
+use Rattle.std.proofs.Common.{◌≡◌, ◌⊎◌, inl, inr, ℕ, zero, suc, ◌+◌, ◌<◌, ◌≤◌, Bool, false, List, [], ◌∷◌, ◌++◌, length, replicate, Ok, Err, refl, sym, ap, subst, ◌∙◌, arith, append_assoc, append-nil}
 use Rattle.std.specs.List.{slice_index_or}
-use Rattle.std.proofs.lemmas.List.{length-replicate}
+use Rattle.std.proofs.lemmas.List.{length-map, length-replicate}
 use Rattle.vlsi_base.specs.Member.{In, here, there}
 use Rattle.bool_expr.specs.Expression.{Expression, constant, IsOver as IsWithin}
 use Rattle.machine_meaning.specs.Machine.{Machine}
-use Rattle.machine_core.specs.Order.{IsOrdered}
+use Rattle.machine_core.specs.Order.{EachReadsBelow, IsOrdered}
 use Rattle.machine_core.proofs.Values.{In-left, In-right, In-split}
 use Rattle.bdd_core.specs.declared.node.NodeId.{NodeId}
 use Rattle.bdd_core.specs.declared.node.BddError.{BddError}
@@ -13,68 +13,26 @@ use Rattle.bdd_core.specs.declared.node.BddError.TheVariants.{Budget}
 use Rattle.bdd_core.specs.Truths.{Truths, constant as even, IsOver}
 use Rattle.bdd_core.specs.Nodes.{raised, place}
 use Rattle.bdd_core.specs.Counting.{Holds}
-use Rattle.bdd_core.specs.Diagram.{Diagram, functions_of, Keeps, IsAnswer}
-use Rattle.bdd_core.specs.Asked.{denoted, asked_of, IsAnswerOf}
-use Rattle.bdd_core.proofs.Asking.{SoFar, after, keeps_then}
+use Rattle.bdd_core.specs.Diagram.{Diagram, IsNode, function_of, functions_of, IsAsked}
+use Rattle.bdd_core.specs.Asked.{asked_of}
+use Rattle.machine_walk.proofs.Names.{length-vars}
 use Rattle.machine_roots.specs.declared.diagram.RootDiagram.{RootDiagram}
+use Rattle.machine_roots.specs.declared.sharing.SharedDiagrams.{SharedDiagrams}
 use Rattle.machine_walk.specs.Expansion.{held_count, place_among}
 use Rattle.machine_roots.specs.Roots.{list_of, lists_of}
 use Rattle.machine_walk.specs.Walk.{order_of, AreMet}
 use Rattle.machine_roots.specs.Asked.{HaveAsked, IsRootDiagram}
-use Rattle.machine_roots.specs.Binding.{variable_list, variable_lists, put_variables, bound_lists, asked_by}
+use Rattle.machine_roots.specs.Binding.{variable_list, variable_lists, put_variables, held_lists, bound_lists, asked_by}
+use Rattle.machine_roots.specs.Shared.{shared_lists, AreShared, root_list, root_lists}
 use Rattle.machine_roots.proofs.Members.{CountsIn, holds_same, over_in}
 use Rattle.machine_roots.proofs.Few.{few_below}
 use Rattle.machine_roots.proofs.Denoting.{order_different, order_in, length_put, put_at}
 use Rattle.machine_roots.proofs.Sets.{counts_members, counts_append, counts_constant, root_denotes, variables_counted, root_counted, equations_counted, lists_counted}
 
-abbrev good : NodeId → Result NodeId BddError
-good a = Ok a
-
-abbrev wrong : BddError → Result NodeId BddError
-wrong e = Err e
-
--- further questions after others
-pub asked_then : {A : Type 0} (d0 d1 d2 : Diagram) (xs ys : List Truths) (r : A) → SoFar d0 d1 xs → HaveAsked {A = A} d1 d2 ys (Ok r) → SoFar d0 d2 (ys ++ xs)
-asked_then d0 d1 d2 xs ys r s h = record {
-  vars = h.vars ∙ s.vars;
-  budget = h.budget ∙ s.budget;
-  keeps = keeps_then d0 d1 d2 s.keeps h.keeps;
-  holds = λ fs all. subst (λ (l : List Truths). Holds l d2.table) (sym (append_assoc ys xs fs)) (h.holds (xs ++ fs) (s.holds fs all));
-  live = h.live;
-  was_live = s.was_live;
-}
-
-counts_none : (gs : List Truths) → CountsIn [] gs
-counts_none gs x c = absurd (let w = c.1.1.1 in omega (arith, w))
-
--- a refusal by the budget, after others, says that the root is over it
-pub over_then : {A : Type 0} (m : Machine) (e : Expression) (budget : ℕ) (d0 d1 d2 : Diagram) (xs ys : List Truths) (x : BddError) → d0.table.budget ≡ budget → Holds [] d0.table
-    → SoFar d0 d1 xs → HaveAsked {A = A} d1 d2 ys (Err x) → CountsIn ys (lists_of m e) → CountsIn xs (lists_of m e) → x ≡ Budget → IsOver (lists_of m e) budget
-over_then m e budget d0 d1 d2 xs ys x same none s h county countx is =
-    let o : IsOver (ys ++ (xs ++ [])) d1.table.budget = h.over is (xs ++ []) (s.holds [] none) in
-    over_in (ys ++ (xs ++ [])) (lists_of m e) budget (counts_append ys (xs ++ []) (lists_of m e) county (counts_append xs [] (lists_of m e) countx (counts_none (lists_of m e))))
-    (subst (λ (b : ℕ). IsOver (ys ++ (xs ++ [])) b) (s.budget ∙ same) o)
-
-pub over_answer : (m : Machine) (e : Expression) (budget : ℕ) (d0 d1 : Diagram) (ys : List Truths) (f : Truths) (x : BddError) → d0.table.budget ≡ budget → Holds [] d0.table → d0.refused ≡ None
-    → IsAnswer d0 d1 ys f (wrong x) → CountsIn ys (lists_of m e) → x ≡ Budget → IsOver (lists_of m e) budget
-over_answer m e budget d0 d1 ys f x same none live a county is =
-    let o : IsOver (ys ++ []) d0.table.budget = a.over live (ap wrong is) [] none in
-    over_in (ys ++ []) (lists_of m e) budget (counts_append ys [] (lists_of m e) county (counts_none (lists_of m e)))
-    (subst (λ (b : ℕ). IsOver (ys ++ []) b) same o)
-
 at_in_list : (order : List ℕ) (k c : ℕ) → k < length order → In (slice_index_or order k c) order
 at_in_list [] k c w = absurd (omega arith)
 at_in_list (x ∷ order) zero c w = here
 at_in_list (x ∷ order) (suc k) c w = there (at_in_list order k c (omega arith))
-
--- the answer for the root after all others
-pub root_answer : (d0 d3 d4 : Diagram) (xs : List Truths) (n : ℕ) (e : Expression) (b bs : List NodeId) (T : List Truths) (r : Result NodeId BddError) → SoFar d0 d3 xs → d3.table.vars ≡ n → bs ≡ b
-    → functions_of d3 b ≡ T → IsAnswerOf d3 d4 bs e r → IsAnswer d0 d4 (asked_of n T e ++ xs) (denoted n T e) r
-root_answer d0 d3 d4 xs n e b bs T r s vars same functions a =
-    after d0 d3 d4 xs (asked_of n T e) (denoted n T e) s r
-    (subst (λ (ts : List Truths). IsAnswer d3 d4 (asked_of n ts e) (denoted n ts e) r) functions
-    (subst (λ (i : ℕ). IsAnswer d3 d4 (asked_of i (functions_of d3 b) e) (denoted i (functions_of d3 b) e) r) vars
-    (subst (λ (ns : List NodeId). IsAnswerOf d3 d4 ns e r) same a)))
 
 -- the questions before the root, and the lists that they count
 module _ (m : Machine) (ordered : IsOrdered m) (e : Expression) (over : IsWithin e (length m.vars)) (met : List Bool) (marks : AreMet m e met) where
@@ -149,56 +107,100 @@ module _ (m : Machine) (ordered : IsOrdered m) (e : Expression) (over : IsWithin
       wide : CountsIn (X ++ (Y ++ V)) ((X ++ (Y ++ (V ++ Z))) ++ [])
       wide = counts_members (X ++ (Y ++ V)) ((X ++ (Y ++ (V ++ Z))) ++ []) (λ f h. put f (In-split f X (Y ++ V) h))
 
-  -- all was asked for
-  pub rooted : (budget : ℕ) (d : RootDiagram) (d0 d1 d3 : Diagram) (b : List NodeId) (lists : List Truths) → d.order.items ≡ order_of m e → d0.table.vars ≡ length d.order.items
-      → d0.table.budget ≡ budget → Holds [] d0.table → IsAnswerOf d0 d1 [] (constant false) (good d.zero) → Keeps d1 d3 → AreHeld lists
-      → SoFar d0 d3 (asked_by d0.table.vars met lists m.equations ++ (variable_lists d0.table.vars ++ asked_of d0.table.vars [] (constant false)))
-      → functions_of d3 b ≡ bound_lists d0.table.vars met lists m.equations → IsAnswerOf d3 d.diagrams b e (good d.root) → IsRootDiagram m e budget d
-  rooted budget d d0 d1 d3 b lists is vars same none nought kept held s functions a = record {
-    order = is;
-    vars = total.vars ∙ vars;
-    root_node = total.ok.node;
-    root_is = total.ok.is ∙ says;
-    zero_node = (a.keeps d.zero (kept d.zero nought.ok.node).0).0;
-    zero_is = (a.keeps d.zero (kept d.zero nought.ok.node).0).1 ∙ (kept d.zero nought.ok.node).1 ∙ nought.ok.is ∙ ap (λ (i : ℕ). raised i (even false)) (sym total.vars);
-    holds = holds_same (asks ++ []) (lists_of m e) d.diagrams.table counted (none_missing n d.order.items lists is vars held) (total.ok.holds [] none);
-    within = λ o. total.ok.within [] none (subst (λ (i : ℕ). IsOver (asks ++ []) i) (sym same) (over_in (lists_of m e) (asks ++ []) budget (none_missing n d.order.items lists is vars held) o));
-    held = λ k c w. (order_in m ordered e (slice_index_or d.order.items k c) over (subst (λ (o : List ℕ). In (slice_index_or d.order.items k c) o) is (at_in_list d.order.items k c w))).0;
-  }
-    where
-      n : ℕ
-      n = d0.table.vars
+  -- the root in diagrams whose variables are bound in the order of the walk
+  pub shared_over : (budget : ℕ) (order : List ℕ) → order ≡ order_of m e → IsOver (shared_lists (length order)) budget → IsOver (lists_of m e) budget
+  shared_over budget order is o =
+      over_in (shared_lists (length order)) (lists_of m e) budget
+      (counts_append (variable_lists (length order)) (asked_of (length order) [] (constant false)) (lists_of m e) (held_counted order is) (zero_counted (length order))) o
 
-      T : List Truths
-      T = bound_lists n met lists m.equations
+  module _ (budget : ℕ) (order : List ℕ) (is : order ≡ order_of m e) (s : SharedDiagrams) (shared : AreShared order (held_count m) budget s) where
+    abbrev fs : List Truths
+    fs = held_lists (length order) order (held_count m)
 
-      xs : List Truths
-      xs = asked_by n met lists m.equations ++ (variable_lists n ++ asked_of n [] (constant false))
+    are : AreHeld (held_lists (length order) order (held_count m))
+    are =
+        let none : List Truths = replicate (held_count m) (raised (length order) (even false)) in
+        are_held order (held_lists (length order) order (held_count m)) none is (length-replicate (held_count m) (raised (length order) (even false))) refl
 
-      asks : List Truths
-      asks = asked_of n T e ++ xs
+    lists_are : root_lists s.diagrams.table.vars met (functions_of s.diagrams s.bound.items) m.equations e
+        ≡ root_lists (length order) met (held_lists (length order) order (held_count m)) m.equations e
+    lists_are = λ j. root_lists (shared.vars j) met (shared.functions j) m.equations e
 
-      answer : IsAnswer d3 d.diagrams (asked_of n T e) (denoted n T e) (good d.root)
-      answer =
-          subst (λ (ts : List Truths). IsAnswer d3 d.diagrams (asked_of n ts e) (denoted n ts e) (good d.root)) functions
-          (subst (λ (i : ℕ). IsAnswer d3 d.diagrams (asked_of i (functions_of d3 b) e) (denoted i (functions_of d3 b) e) (good d.root)) s.vars a)
+    list_is : root_list s.diagrams.table.vars met (functions_of s.diagrams s.bound.items) m.equations e ≡ list_of m e
+    list_is =
+        (λ j. root_list (shared.vars j) met (shared.functions j) m.equations e)
+        ∙ ap (λ (i : ℕ). root_list i met (held_lists (length order) order (held_count m)) m.equations e) (ap length is)
+        ∙ root_denotes m ordered e over met marks (held_lists (length order) order (held_count m)) are.long are.variable
 
-      total : IsAnswer d0 d.diagrams asks (denoted n T e) (good d.root)
-      total = after d0 d3 d.diagrams xs (asked_of n T e) (denoted n T e) s (good d.root) answer
+    abbrev asks : List Truths
+    asks = root_lists (length order) met (held_lists (length order) order (held_count m)) m.equations e ++ shared_lists (length order)
 
-      says : denoted n T e ≡ list_of m e
-      says =
-          ap (λ (i : ℕ). denoted i (bound_lists i met lists m.equations) e) (vars ∙ ap length is)
-          ∙ root_denotes m ordered e over met marks lists held.long held.variable
+    counted : CountsIn (root_lists (length order) met (held_lists (length order) order (held_count m)) m.equations e ++ shared_lists (length order)) (lists_of m e)
+    counted =
+        let X : List Truths = asked_of (length order) (bound_lists (length order) met fs m.equations) e in
+        let Y : List Truths = asked_by (length order) met fs m.equations in
+        let V : List Truths = variable_lists (length order) in
+        let Z : List Truths = asked_of (length order) [] (constant false) in
+        counts_append (X ++ Y) (V ++ Z) (lists_of m e)
+        (counts_append X Y (lists_of m e) (all_counted (length order) order fs is refl are) (before_counted (length order) order fs is refl are))
+        (counts_append V Z (lists_of m e) (held_counted order is) (zero_counted (length order)))
 
-      counted : CountsIn (asks ++ []) (lists_of m e)
-      counted =
-          counts_append asks [] (lists_of m e)
-          (counts_append (asked_of n T e) xs (lists_of m e) (all_counted n d.order.items lists is vars held)
-          (counts_append (asked_by n met lists m.equations) (variable_lists n ++ asked_of n [] (constant false)) (lists_of m e) (before_counted n d.order.items lists is vars held)
-          (counts_append (variable_lists n) (asked_of n [] (constant false)) (lists_of m e)
-          (subst (λ (i : ℕ). CountsIn (variable_lists i) (lists_of m e)) (sym vars) (held_counted d.order.items is)) (zero_counted n))))
-          (counts_none (lists_of m e))
+    all_there : CountsIn (lists_of m e) (root_lists (length order) met (held_lists (length order) order (held_count m)) m.equations e ++ shared_lists (length order))
+    all_there =
+        let X : List Truths = asked_of (length order) (bound_lists (length order) met fs m.equations) e in
+        let Y : List Truths = asked_by (length order) met fs m.equations in
+        let V : List Truths = variable_lists (length order) in
+        let Z : List Truths = asked_of (length order) [] (constant false) in
+        subst (λ (l : List Truths). CountsIn (lists_of m e) l) (append-nil (X ++ (Y ++ (V ++ Z))) ∙ sym (append_assoc X Y (V ++ Z)))
+        (none_missing (length order) order fs is refl are)
+
+    bound_long : length s.bound.items ≡ held_count m
+    bound_long = sym (length-map s.bound.items (function_of s.diagrams)) ∙ ap length shared.functions ∙ are.long
+
+    all_long : length m.vars ≡ length s.bound.items + length m.equations
+    all_long = length-vars m ordered ∙ ap (λ (i : ℕ). i + length m.equations) (sym bound_long)
+
+    pub marks_long : length met ≡ length s.bound.items + length m.equations
+    marks_long = marks.each ∙ all_long
+
+    pub reads_below : EachReadsBelow (length s.bound.items) m.equations
+    reads_below = subst (λ (i : ℕ). EachReadsBelow i m.equations) (sym bound_long) ordered.below
+
+    pub root_within : IsWithin e (length s.bound.items + length m.equations)
+    root_within = subst (λ (i : ℕ). IsWithin e i) all_long over
+
+    -- a refusal by the budget says that the root is over it
+    pub root_over : {A : Type 0} (d : Diagram) (x : BddError)
+        → HaveAsked {A = A} s.diagrams d (root_lists s.diagrams.table.vars met (functions_of s.diagrams s.bound.items) m.equations e) (Err x) → x ≡ Budget → IsOver (lists_of m e) budget
+    root_over {A} d x h refused =
+        over_in asks (lists_of m e) budget counted
+        (subst (λ (l : List Truths). IsOver (l ++ shared_lists (length order)) budget) lists_are
+        (subst (λ (k : ℕ). IsOver (root_lists s.diagrams.table.vars met (functions_of s.diagrams s.bound.items) m.equations e ++ shared_lists (length order)) k) shared.budget
+        (h.over refused (shared_lists (length order)) shared.holds)))
+
+    -- and a node that it is the root's
+    pub rooted : (d : RootDiagram) → d.order.items ≡ order → d.zero ≡ s.zero
+        → HaveAsked s.diagrams d.diagrams (root_lists s.diagrams.table.vars met (functions_of s.diagrams s.bound.items) m.equations e) (Ok d.root)
+        → IsAsked s.diagrams d.diagrams (root_lists s.diagrams.table.vars met (functions_of s.diagrams s.bound.items) m.equations e)
+        (root_list s.diagrams.table.vars met (functions_of s.diagrams s.bound.items) m.equations e) d.root → IsRootDiagram m e budget d
+    rooted d same nought h a =
+        let vars : d.diagrams.table.vars ≡ length order = h.vars ∙ shared.vars in
+        let kept = h.keeps s.zero shared.zero_node in
+        record {
+          order = same ∙ is;
+          vars = vars ∙ ap length (sym same);
+          root_node = a.node;
+          root_is = a.is ∙ list_is;
+          zero_node = subst (λ (z : NodeId). IsNode d.diagrams z) (sym nought) kept.0;
+          zero_is = ap (λ (z : NodeId). function_of d.diagrams z) nought ∙ kept.1 ∙ shared.zero_is ∙ ap (λ (i : ℕ). raised i (even false)) (sym vars);
+          holds = holds_same asks (lists_of m e) d.diagrams.table counted all_there
+              (subst (λ (l : List Truths). Holds (l ++ shared_lists (length order)) d.diagrams.table) lists_are (a.holds (shared_lists (length order)) shared.holds));
+          within = λ o. a.within (shared_lists (length order)) shared.holds
+              (subst (λ (l : List Truths). IsOver (l ++ shared_lists (length order)) s.diagrams.table.budget) (sym lists_are)
+              (subst (λ (k : ℕ). IsOver asks k) (sym shared.budget) (over_in (lists_of m e) asks budget all_there o)));
+          held = λ k c w. (order_in m ordered e (slice_index_or d.order.items k c) over
+              (subst (λ (o : List ℕ). In (slice_index_or d.order.items k c) o) (same ∙ is) (at_in_list d.order.items k c w))).0;
+        }
 
 -- the order is no longer than there are inputs and registers
 pub order_few : (m : Machine) → IsOrdered m → (e : Expression) → IsWithin e (length m.vars) → (order : List ℕ) → order ≡ order_of m e → length order ≤ held_count m

@@ -6,6 +6,8 @@
 
 mod diagram;
 mod listing;
+mod sharing;
 
 pub use diagram::{RootDiagram, root_diagram};
 pub use listing::{RootExpr, roots};
+pub use sharing::{Cone, SharedDiagrams, root_node, share};

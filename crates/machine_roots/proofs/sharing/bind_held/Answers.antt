@@ -2,7 +2,7 @@ use Rattle.std.proofs.Common.{arith}
 use Rattle.std.proofs.lemmas.List.{drop_all, get_or_default}
 use Rattle.std.proofs.lemmas.Result.{err_from_is_err_and}
 use Rattle.machine_roots.proofs.Binds.{bind_more, bind_refused, all_bound, have_asked}
-use Rattle.machine_roots.proofs.diagram.bind_held.Goals as goal
+use Rattle.machine_roots.proofs.sharing.bind_held.Goals as goal
 
 pub overflow_cast-k : goal.overflow_cast-k
 overflow_cast-k c = omega (arith, c.requires.few, c.loop-k-test.true)

@@ -1,7 +1,7 @@
 use Rattle.std.proofs.Common.{map}
 use Rattle.machine_core.specs.View.{equation_view}
 use Rattle.machine_roots.proofs.Binds.{IsTying}
-use Rattle.machine_roots.proofs.diagram.bind_equations.Given as goal
+use Rattle.machine_roots.proofs.sharing.bind_equations.Given as goal
 
 abbrev pub invariant-loop-equation : goal.invariant-loop-equation
 invariant-loop-equation l =

@@ -1,5 +1,5 @@
 use Rattle.machine_roots.proofs.Binds.{IsBinding}
-use Rattle.machine_roots.proofs.diagram.bind_held.Given as goal
+use Rattle.machine_roots.proofs.sharing.bind_held.Given as goal
 
 abbrev pub invariant-loop-k : goal.invariant-loop-k
 invariant-loop-k l = IsBinding l.initial.diagrams l.diagrams l.order l.k l.initial.bound.items l.bound.items

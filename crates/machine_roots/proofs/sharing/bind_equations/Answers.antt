@@ -8,7 +8,7 @@ use Rattle.bdd_core.specs.declared.node.NodeId.{NodeId}
 use Rattle.machine_walk.proofs.Reaching.{equation_below}
 use Rattle.machine_walk.proofs.Stacks.{at_equation}
 use Rattle.machine_roots.proofs.Binds.{IsTying, equation_row, tie_name, name_refused, have_memory, all_tied, have_asked}
-use Rattle.machine_roots.proofs.diagram.bind_equations.Goals as goal
+use Rattle.machine_roots.proofs.sharing.bind_equations.Goals as goal
 
 pub name_node-requires-clause-variables : goal.name_node-requires-clause-variables
 name_node-requires-clause-variables c =
