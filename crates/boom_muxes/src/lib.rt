@@ -3,14 +3,14 @@
 //! The nodes of a root's diagram become choices, and a plan says which literal each equation and register has then.
 #![tactic(auto)]
 
-mod build;
+mod building;
 mod mux;
 mod muxes;
 mod names;
 mod plan;
 mod rebuild;
 
-pub use build::build;
+pub use building::build;
 pub use mux::Mux;
 pub use muxes::{Muxes, Stop};
 pub use plan::Plan;

@@ -29,5 +29,6 @@ pub(crate) fn new_text(alloc: Global, ports: &[Port], names: &[Name]) -> Result<
 {
     let taken = texts(alloc, ports, names)?;
     let free = free_texts(alloc, b"n", &taken, 1)?;
-    free[0].copy(alloc)
+    let text = free[0].copy(alloc)?;
+    Ok(text)
 }

@@ -2,7 +2,7 @@ use Rattle.std.proofs.Common.{◌≡◌, ◌++◌, map, drop}
 use Rattle.std.specs.Option.{option_copied}
 use Rattle.machine_core.specs.View.{equation_view}
 use Rattle.boom_muxes.specs.Building.{equations_said}
-use Rattle.boom_muxes.proofs.build.push_equations.Given as goal
+use Rattle.boom_muxes.proofs.building.push_equations.Given as goal
 
 abbrev pub invariant-loop-k : goal.invariant-loop-k
 invariant-loop-k l =

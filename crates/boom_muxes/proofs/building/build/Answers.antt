@@ -8,7 +8,7 @@ use Rattle.boom_muxes.specs.Building.{equations_said, registers_said, mux_equati
 use Rattle.boom_muxes.proofs.Sound.{built_checked}
 use Rattle.boom_muxes.proofs.Parts.{equations_over, nexts_over, enables_over, held_is, built_of, put_together}
 use Rattle.boom_muxes.proofs.Numbered.{length-numbers}
-use Rattle.boom_muxes.proofs.build.build.Goals as goal
+use Rattle.boom_muxes.proofs.building.build.Goals as goal
 
 pub push_equations-requires-clause-over : goal.push_equations-requires-clause-over
 push_equations-requires-clause-over c =

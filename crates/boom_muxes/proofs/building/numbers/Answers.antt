@@ -1,7 +1,7 @@
 use Rattle.std.proofs.Common.{ℕ, ◌∷◌, [], ◌++◌, ◌+◌, ap, ◌∙◌, if◌then◌else◌}
 use Rattle.std.specs.Prelude.{nat_lt}
 use Rattle.boom_muxes.proofs.Turns.{rising_turn}
-use Rattle.boom_muxes.proofs.build.numbers.Goals as goal
+use Rattle.boom_muxes.proofs.building.numbers.Goals as goal
 
 pub loop-k-preserved : goal.loop-k-preserved
 loop-k-preserved c =

@@ -1,7 +1,7 @@
 use Rattle.std.proofs.Common.{◌∷◌, [], ◌++◌, Some, ap, ◌∙◌}
 use Rattle.vlsi_base.specs.declared.name.Name.{Name}
 use Rattle.boom_muxes.proofs.Turns.{rising_turn}
-use Rattle.boom_muxes.proofs.build.all_names.Goals as goal
+use Rattle.boom_muxes.proofs.building.all_names.Goals as goal
 
 pub loop-k-preserved : goal.loop-k-preserved
 loop-k-preserved c =

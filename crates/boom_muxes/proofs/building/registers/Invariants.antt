@@ -2,7 +2,7 @@ use Rattle.std.proofs.Common.{◌≡◌, ◌++◌, map, drop}
 use Rattle.std.specs.Option.{option_copied}
 use Rattle.machine_core.specs.View.{register_view}
 use Rattle.boom_muxes.specs.Building.{registers_said}
-use Rattle.boom_muxes.proofs.build.registers.Given as goal
+use Rattle.boom_muxes.proofs.building.registers.Given as goal
 
 abbrev pub invariant-loop-k : goal.invariant-loop-k
 invariant-loop-k l =
