@@ -1,5 +1,5 @@
 -- What is known of a machine's roots.
-use Rattle.std.proofs.Common.{◌≡◌, ◌⊎◌, inl, inr, ℕ, zero, suc, ◌+◌, ◌*◌, ◌<◌, ◌≤◌, Bool, true, false, List, [], ◌∷◌, ◌++◌, length, map, take, drop, get_or, Some, slice_get, refl, sym, ap, subst, ◌∙◌, arith, length-append, if◌then◌else◌}
+use Rattle.std.proofs.Common.{◌≡◌, ◌⊎◌, inl, inr, ℕ, zero, suc, ◌+◌, ◌*◌, ◌<◌, ◌≤◌, Bool, true, false, List, [], ◌∷◌, ◌++◌, length, map, take, drop, get_or, Some, slice_get, refl, sym, ap, subst, ◌∙◌, arith, if◌then◌else◌}
 use Rattle.std.specs.Prelude.{nat_lt, is_some, replicate}
 use Rattle.std.specs.List.{All}
 use Rattle.std.proofs.lemmas.List.{length-map, length-take, take_more}
@@ -10,7 +10,7 @@ use Rattle.bool_expr.specs.Expression.{Expression, IsOver}
 use Rattle.bool_expr.specs.View.{view}
 use Rattle.machine_meaning.specs.Named.{is_same_name}
 use Rattle.machine_meaning.specs.Machine.{Machine, Equation, Register, outputs}
-use Rattle.machine_core.specs.Order.{held_names, equation_names, EachReadsBelow}
+use Rattle.machine_core.specs.Order.{EachReadsBelow}
 use Rattle.machine_core.specs.Checked.{IsChecked}
 use Rattle.machine_core.proofs.Values.{In-split}
 use Rattle.machine_walk.specs.Expansion.{held_count}
