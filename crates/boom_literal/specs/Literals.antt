@@ -1,5 +1,5 @@
 -- What stands for a function in a machine that is made anew.
-use Rattle.std.specs.Prelude.{ℕ, Bool, List, Option, None, Some, nat_lt, if◌then◌else◌}
+use Rattle.std.specs.Prelude.{ℕ, List, Option, None, Some, nat_lt, if◌then◌else◌}
 use Rattle.bool_expr.specs.Expression.{Expression, constant, variable, size_of}
 use Rattle.bool_expr.specs.Renumbering.{renumbered}
 use Rattle.boom_literal.specs.declared.literal.Literal.{Literal}
