@@ -13,22 +13,22 @@ use Rattle.machine_core.specs.Order.{EachReadsBelow}
 use Rattle.machine_walk.specs.Expansion.{held_count}
 use Rattle.machine_roots.specs.Listing.{root_view}
 use Rattle.machine_roots.specs.declared.listing.RootExpr.{RootExpr}
-use Rattle.boom_opt.specs.declared.muxes.Stop.TheVariants.{Large}
-use Rattle.boom_opt.specs.Planning.{NotedAt}
+use Rattle.boom_muxes.specs.declared.muxes.Stop.TheVariants.{Large}
+use Rattle.boom_muxes.specs.Planning.{NotedAt}
 use Rattle.machine_roots.specs.declared.diagram.RootDiagram.{RootDiagram}
 use Rattle.machine_roots.specs.Roots.{Root, list_of, IsDcount, IsDag, IsGreatest}
 use Rattle.machine_roots.specs.Asked.{IsRootDiagram}
-use Rattle.boom_opt.specs.declared.literal.Literal.{Literal}
-use Rattle.boom_opt.specs.declared.literal.Literal.TheVariants.{Constant}
-use Rattle.boom_opt.specs.declared.muxes.Muxes.{Muxes}
+use Rattle.boom_literal.specs.declared.literal.Literal.{Literal}
+use Rattle.boom_literal.specs.declared.literal.Literal.TheVariants.{Constant}
+use Rattle.boom_muxes.specs.declared.muxes.Muxes.{Muxes}
 use Rattle.boom_opt.specs.declared.optimising.Rebuilt.{Rebuilt}
-use Rattle.boom_opt.specs.Muxes.{IsTable, HasGrownBy}
-use Rattle.boom_opt.specs.Rebuilding.{AreSaid, AreWithin, IsWithin, IsBeyond, HasFound, IsFound, list_at}
+use Rattle.boom_muxes.specs.Muxes.{IsTable, HasGrownBy}
+use Rattle.boom_muxes.specs.Rebuilding.{AreSaid, AreWithin, IsWithin, IsBeyond, HasFound, IsFound, list_at}
 use Rattle.boom_opt.specs.Rebuilt.{expressions_size, IsPlanOf, IsRebuilt, IsNext, IsRootOf}
-use Rattle.boom_opt.proofs.Counted.{known_within, known_beyond}
-use Rattle.boom_opt.proofs.Dags.{dag_of}
-use Rattle.boom_opt.proofs.Finding.{grown_none}
-use Rattle.boom_opt.proofs.Planned.{root_value}
+use Rattle.boom_muxes.proofs.Counted.{known_within, known_beyond}
+use Rattle.boom_muxes.proofs.Dags.{dag_of}
+use Rattle.boom_muxes.proofs.Finding.{grown_none}
+use Rattle.boom_muxes.proofs.Planned.{root_value}
 use Rattle.boom_opt.proofs.Remaking.{zip_push, greatest_more, greatest_same, sum_push, weight_on, planned_next}
 
 -- ---- the nodes of a root's diagram at which something was found

@@ -5,7 +5,6 @@ use Rattle.std.specs.List.{All, AllZip, slice_index_or}
 use Rattle.std.proofs.lemmas.List.{length-map}
 use Rattle.std.proofs.lemmas.Option.{slice_get_within}
 use Rattle.vlsi_base.specs.declared.name.Name.{Name}
-use Rattle.vlsi_base.specs.Range.{rising}
 use Rattle.vlsi_base.specs.Member.{In, here, there, AllDifferent}
 use Rattle.bool_expr.specs.Expression.{Expression, constant, variable, inverse, pair, choice, bit, val, size_of, IsOver}
 use Rattle.bool_expr.specs.Renumbering.{renumbered}
@@ -16,17 +15,19 @@ use Rattle.machine_core.specs.Built.{built}
 use Rattle.machine_core.proofs.Values.{bit-value_at}
 use Rattle.machine_walk.specs.Expansion.{held_count}
 use Rattle.machine_roots.specs.Roots.{Root, register_roots}
-use Rattle.boom_opt.specs.declared.literal.Literal.{Literal}
-use Rattle.boom_opt.specs.declared.literal.Literal.TheVariants.{Constant, Name as AName}
-use Rattle.boom_opt.specs.declared.muxes.Muxes.{Muxes}
-use Rattle.boom_opt.specs.declared.plan.Plan.{Plan}
-use Rattle.boom_opt.specs.Muxes.{literal_expression, literal_value, IsLiteralBelow, mux_values}
-use Rattle.boom_opt.specs.Building.{said, numbers_behind, load_for, equations_said, registers_said}
-use Rattle.boom_opt.specs.Planning.{IsPlan}
+use Rattle.boom_literal.specs.declared.literal.Literal.{Literal}
+use Rattle.boom_literal.specs.declared.literal.Literal.TheVariants.{Constant, Name as AName}
+use Rattle.boom_muxes.specs.declared.muxes.Muxes.{Muxes}
+use Rattle.boom_muxes.specs.declared.plan.Plan.{Plan}
+use Rattle.boom_literal.specs.Literals.{literal_expression, said}
+use Rattle.boom_muxes.specs.Muxes.{literal_value, IsLiteralBelow, mux_values}
+use Rattle.boom_muxes.specs.Building.{numbers_behind, load_for, equations_said, registers_said}
+use Rattle.boom_muxes.specs.Planning.{IsPlan}
 use Rattle.boom_opt.specs.Rebuilt.{IsShown, SaysRoot}
-use Rattle.boom_opt.proofs.Weighing.{length-mux_values, bit-mux_values}
-use Rattle.boom_opt.proofs.Following.{agree_on, IsPlain, a_constant, a_name, plain_of}
-use Rattle.boom_opt.proofs.Sound.{number_at, length-rising}
+use Rattle.boom_muxes.proofs.Weighing.{length-mux_values, bit-mux_values}
+use Rattle.boom_muxes.proofs.Following.{agree_on, IsPlain, a_constant, a_name, plain_of}
+use Rattle.boom_muxes.proofs.Sound.{number_at}
+use Rattle.boom_muxes.proofs.Numbered.{length-numbers}
 
 -- ---- values by name
 
@@ -86,9 +87,6 @@ number_later held count total j room = number_at held count total (held + j) roo
   by : (b : Bool) → nat_lt (held + j) held ≡ b → (if b then held + j else held + j + count) ≡ held + count + j
   by true t = absurd (let q : held + j < held = search (arith, t) in omega (arith, q))
   by false t = omega arith
-
-pub length-numbers : (held count total : ℕ) → length (numbers_behind held count total) ≡ total
-length-numbers held count total = length-map (rising 0 total) (λ (k : ℕ). if nat_lt k held then k else k + count) ∙ length-rising 0 total
 
 -- ---- the two machines
 

@@ -7,13 +7,13 @@ use Rattle.machine_meaning.specs.Size.{machine_size}
 use Rattle.machine_core.specs.Checked.{IsChecked}
 use Rattle.machine_walk.specs.Expansion.{held_count}
 use Rattle.machine_roots.specs.Roots.{Root, roots, register_roots, expression_of, IsGreatestDcount}
-use Rattle.boom_opt.specs.declared.literal.Literal.{Literal}
-use Rattle.boom_opt.specs.declared.literal.Literal.TheVariants.{Constant}
-use Rattle.boom_opt.specs.declared.mux.Mux.{Mux}
+use Rattle.boom_literal.specs.declared.literal.Literal.{Literal}
+use Rattle.boom_literal.specs.declared.literal.Literal.TheVariants.{Constant}
+use Rattle.boom_muxes.specs.declared.mux.Mux.{Mux}
 use Rattle.boom_opt.specs.declared.optimising.Rebuilt.{Rebuilt}
-use Rattle.boom_opt.specs.Muxes.{IsTable, IsLiteralBelow, EachIsBelow, muxes_weight}
+use Rattle.boom_muxes.specs.Muxes.{IsTable, IsLiteralBelow, EachIsBelow, muxes_weight}
 use Rattle.boom_opt.specs.Optimised.{IsOptimised}
-use Rattle.boom_opt.specs.Building.{MayBeBuilt, IsBuilt}
+use Rattle.boom_muxes.specs.Building.{MayBeBuilt, IsBuilt}
 use Rattle.boom_opt.specs.Rebuilt.{expressions_size, IsWeight, IsShown, SaysRoot, IsPlanOf, IsRebuilt}
 use Rattle.boom_opt.proofs.Optimal.{optimised_same, optimised_built, drop_all}
 

@@ -1,24 +1,18 @@
 -- What is said in place of an expression is the one that was given, or strictly smaller.
-use Rattle.std.proofs.Common.{◌≡◌, inl, inr, ℕ, zero, suc, ◌+◌, ◌<◌, ◌≤◌, Bool, true, false, List, [], ◌∷◌, length, map, Option, None, Some, refl, ap, ◌∙◌, arith, if◌then◌else◌}
-use Rattle.std.specs.Prelude.{◌*◌, nat_lt, slice_get, slice_index}
+use Rattle.std.proofs.Common.{◌≡◌, inl, inr, ℕ, zero, suc, ◌+◌, ◌<◌, ◌≤◌, Bool, true, false, List, [], ◌∷◌, length, Option, None, Some, refl, ap, ◌∙◌, arith, if◌then◌else◌}
+use Rattle.std.specs.Prelude.{◌*◌, nat_lt, slice_get}
 use Rattle.std.specs.List.{AllZip}
-use Rattle.vlsi_base.specs.Range.{rising}
 use Rattle.bool_expr.specs.Expression.{Expression, constant, variable, inverse, pair, choice, size_of, IsOver}
 use Rattle.bool_expr.specs.Renumbering.{renumbered}
 use Rattle.machine_meaning.specs.Machine.{Equation, Register}
 use Rattle.machine_core.specs.Order.{EachReadsBelow}
-use Rattle.boom_opt.specs.declared.literal.Literal.{Literal}
-use Rattle.boom_opt.specs.declared.plan.Plan.{Plan}
-use Rattle.boom_opt.specs.Muxes.{literal_expression}
-use Rattle.boom_opt.specs.Building.{said, numbers_behind, literal_for, load_for, equations_said, registers_said}
+use Rattle.boom_literal.specs.declared.literal.Literal.{Literal}
+use Rattle.boom_muxes.specs.declared.plan.Plan.{Plan}
+use Rattle.boom_literal.specs.Literals.{literal_expression, said}
+use Rattle.boom_muxes.specs.Building.{numbers_behind, literal_for, load_for, equations_said, registers_said}
 use Rattle.boom_opt.specs.Optimised.{behind_new, IsGivenOrSmaller}
-use Rattle.boom_opt.proofs.Weighing.{literal_smaller}
-
--- the number at a place of those that rise from n on
-pub index-rising : (f : ℕ → ℕ) (n many k : ℕ) → k < many → slice_index (map f (rising n many)) k ≡ f (n + k)
-index-rising f n zero k h = absurd (omega arith)
-index-rising f n (suc many) zero h = ap f (omega arith)
-index-rising f n (suc many) (suc k) h = index-rising f (n + 1) many k (omega arith) ∙ ap f (omega arith)
+use Rattle.boom_muxes.proofs.Weighing.{literal_smaller}
+use Rattle.boom_muxes.proofs.Numbered.{index-rising, over_more}
 
 -- renumbered by the numbers behind new names, an expression says the same of the names
 pub renumbered_behind : (held count total : ℕ) (e : Expression) → IsOver e total → renumbered (numbers_behind held count total) e ≡ behind_new held count e
@@ -54,13 +48,6 @@ said_kept held count total (Some l) e over = by (nat_lt 0 (size_of e)) refl wher
       let same = size_behind held count e in
       inr (omega (arith, less, same))
   by false t = inl (renumbered_behind held count total e over)
-
-pub over_more : (e : Expression) (n k : ℕ) → n ≤ k → IsOver e n → IsOver e k
-over_more (constant b) n k less h = tt
-over_more (variable x) n k less h = omega (arith, less, h)
-over_more (inverse e) n k less h = over_more e n k less h
-over_more (pair g a b) n k less h = (over_more a n k less h.0, over_more b n k less h.1)
-over_more (choice c a b) n k less h = (over_more c n k less h.0, (over_more a n k less h.1.0, over_more b n k less h.1.1))
 
 -- so is each of the equations, in turn
 pub equations_kept : (held count total n k : ℕ) (plan : Option Plan) (es : List Equation) → EachReadsBelow n es → n + length es ≤ total

@@ -22,19 +22,22 @@ use Rattle.machine_core.proofs.Values.{In-right}
 use Rattle.machine_alike.specs.Alike.{IsAlike}
 use Rattle.machine_walk.specs.Expansion.{held_count}
 use Rattle.machine_roots.specs.Roots.{Root, roots, register_roots, expression_of, IsDag}
-use Rattle.boom_opt.specs.declared.literal.Literal.{Literal}
-use Rattle.boom_opt.specs.declared.literal.Literal.TheVariants.{Constant, Name as AName}
-use Rattle.boom_opt.specs.declared.mux.Mux.{Mux}
-use Rattle.boom_opt.specs.declared.muxes.Muxes.{Muxes}
-use Rattle.boom_opt.specs.declared.plan.Plan.{Plan}
-use Rattle.boom_opt.specs.Muxes.{literal_expression, mux_expression, mux_weight, muxes_weight, IsTable}
-use Rattle.boom_opt.specs.Optimised.{IsKept, IsOptimised, IsGivenOrSmaller, behind_new, inner_size, new_names}
-use Rattle.boom_opt.specs.Building.{said, numbers_behind, literal_for, or_zero, load_for, equations_said, registers_said, mux_equations, MayBeBuilt, IsBuilt}
+use Rattle.boom_literal.specs.declared.literal.Literal.{Literal}
+use Rattle.boom_literal.specs.declared.literal.Literal.TheVariants.{Constant, Name as AName}
+use Rattle.boom_muxes.specs.declared.mux.Mux.{Mux}
+use Rattle.boom_muxes.specs.declared.muxes.Muxes.{Muxes}
+use Rattle.boom_muxes.specs.declared.plan.Plan.{Plan}
+use Rattle.boom_literal.specs.Literals.{literal_expression, said}
+use Rattle.boom_muxes.specs.Muxes.{mux_expression, mux_weight, muxes_weight, IsTable}
+use Rattle.boom_opt.specs.Optimised.{IsKept, IsOptimised, IsGivenOrSmaller, behind_new, inner_size}
+use Rattle.boom_muxes.specs.Names.{new_names}
+use Rattle.boom_muxes.specs.Building.{numbers_behind, literal_for, or_zero, load_for, equations_said, registers_said, mux_equations, MayBeBuilt, IsBuilt}
 use Rattle.boom_opt.specs.Rebuilt.{expressions_size, IsShown, SaysRoot, IsPlanOf}
-use Rattle.boom_opt.proofs.Weighing.{chosen_size, mux_built}
+use Rattle.boom_muxes.proofs.Weighing.{chosen_size, mux_built}
 use Rattle.boom_opt.proofs.Bounds.{sum_by-cons, sum_by-append, inner_when_kept}
-use Rattle.boom_opt.proofs.Keeping.{renumbered_behind, equations_kept, registers_kept, over_more}
-use Rattle.boom_opt.proofs.Sound.{names_new, built_ordered, total, same_registers, same_inputs, same_outputs, length-new_names}
+use Rattle.boom_opt.proofs.Keeping.{renumbered_behind, equations_kept, registers_kept}
+use Rattle.boom_muxes.proofs.Numbered.{over_more}
+use Rattle.boom_muxes.proofs.Sound.{names_new, built_ordered, total, same_registers, same_inputs, same_outputs, length-new_names}
 use Rattle.boom_opt.proofs.Beside.{beside, other, shows_same, loads_same}
 
 -- ---- what is kept

@@ -12,15 +12,15 @@ use Rattle.machine_walk.specs.Expansion.{held_count}
 use Rattle.machine_roots.specs.Roots.{Root, IsGreatest}
 use Rattle.machine_roots.specs.Listing.{root_view}
 use Rattle.machine_roots.specs.declared.listing.RootExpr.{RootExpr}
-use Rattle.boom_opt.specs.declared.literal.Literal.{Literal}
-use Rattle.boom_opt.specs.declared.muxes.Muxes.{Muxes}
-use Rattle.boom_opt.specs.declared.plan.Plan.{Plan}
-use Rattle.boom_opt.specs.Muxes.{IsTable, HasGrownBy, IsLiteralBelow, mux_weight, muxes_weight}
-use Rattle.boom_opt.specs.Planning.{IsFollowed, NotedAt, SaysValue}
+use Rattle.boom_literal.specs.declared.literal.Literal.{Literal}
+use Rattle.boom_muxes.specs.declared.muxes.Muxes.{Muxes}
+use Rattle.boom_muxes.specs.declared.plan.Plan.{Plan}
+use Rattle.boom_muxes.specs.Muxes.{IsTable, HasGrownBy, IsLiteralBelow, mux_weight, muxes_weight}
+use Rattle.boom_muxes.specs.Planning.{IsFollowed, NotedAt, SaysValue}
 use Rattle.boom_opt.specs.Rebuilt.{IsRootOf, IsShown, SaysRoot, IsPlanOf, IsNext}
-use Rattle.boom_opt.proofs.Weighing.{weight_by_count}
+use Rattle.boom_muxes.proofs.Weighing.{weight_by_count}
 use Rattle.boom_opt.proofs.Bounds.{sum_by-cons, sum_by-append}
-use Rattle.boom_opt.proofs.Planned.{below_on, value_on, plan_followed, equation_value}
+use Rattle.boom_muxes.proofs.Planned.{below_on, value_on, plan_followed, equation_value}
 
 -- ---- one more at the end of a list
 

@@ -1,5 +1,5 @@
 -- What is known of a machine's roots.
-use Rattle.std.proofs.Common.{◌≡◌, ◌⊎◌, inl, inr, ℕ, zero, suc, ◌+◌, ◌*◌, ◌<◌, ◌≤◌, Bool, true, false, List, [], ◌∷◌, ◌++◌, length, map, take, drop, get_or, Some, slice_get, refl, sym, ap, subst, ◌∙◌, arith, length-append, if◌then◌else◌}
+use Rattle.std.proofs.Common.{◌≡◌, ◌⊎◌, inl, inr, ℕ, zero, suc, ◌+◌, ◌*◌, ◌<◌, ◌≤◌, Bool, true, false, List, [], ◌∷◌, ◌++◌, length, map, take, drop, get_or, Some, slice_get, refl, sym, ap, subst, ◌∙◌, arith, if◌then◌else◌}
 use Rattle.std.specs.Prelude.{nat_lt, is_some, replicate}
 use Rattle.std.specs.List.{All}
 use Rattle.std.proofs.lemmas.List.{length-map, length-take, take_more}
@@ -10,7 +10,7 @@ use Rattle.bool_expr.specs.Expression.{Expression, IsOver}
 use Rattle.bool_expr.specs.View.{view}
 use Rattle.machine_meaning.specs.Named.{is_same_name}
 use Rattle.machine_meaning.specs.Machine.{Machine, Equation, Register, outputs}
-use Rattle.machine_core.specs.Order.{held_names, equation_names, EachReadsBelow}
+use Rattle.machine_core.specs.Order.{EachReadsBelow}
 use Rattle.machine_core.specs.Checked.{IsChecked}
 use Rattle.machine_core.proofs.Values.{In-split}
 use Rattle.machine_walk.specs.Expansion.{held_count}
@@ -20,14 +20,11 @@ use Rattle.machine_roots.specs.declared.listing.RootExpr.{RootExpr}
 use Rattle.boom_opt.specs.declared.error.BoomError.{BoomError}
 use Rattle.boom_opt.specs.declared.error.BoomError.TheVariants as error
 use Rattle.boom_opt.specs.Optimised.{IsOverIn}
-use Rattle.boom_opt.specs.Planning.{EachLeadsBack}
+use Rattle.boom_muxes.specs.Planning.{EachLeadsBack}
 use Rattle.boom_opt.specs.Rebuilt.{IsRootOf, IsOverRoot, IsNext}
-use Rattle.boom_opt.proofs.Keeping.{over_more}
+use Rattle.boom_muxes.proofs.Numbered.{over_more, all_names}
 
 -- ---- what roots read
-
-pub all_names : (m : Machine) → IsChecked m → length m.vars ≡ held_count m + length m.equations
-all_names m checked = ap length checked.ordered.vars ∙ length-append (held_names m) (equation_names m) ∙ ap (λ (n : ℕ). held_count m + n) (length-map m.equations (λ (e : Equation). e.name))
 
 expression_over : (n total : ℕ) (es : List Equation) (name : Name) → EachReadsBelow n es → n + length es ≤ total → IsOver (expression_of es name) total
 expression_over n total [] name reads room = tt

@@ -1,7 +1,2 @@
 pub mod Optimised
-pub mod Muxes
-pub mod Rebuilding
-pub mod Planning
-pub mod Names
-pub mod Building
 pub mod Rebuilt

@@ -1,9 +1,8 @@
 -- What an optimised machine is.
-use Rattle.std.specs.Prelude.{◌≡◌, ◌⊎◌, ℕ, ◌+◌, ◌*◌, ◌<◌, ◌≤◌, Bool, nat_lt, List, ◌++◌, map, Some, sum, sum_by, if◌then◌else◌}
+use Rattle.std.specs.Prelude.{◌≡◌, ◌⊎◌, ℕ, ◌+◌, ◌*◌, ◌<◌, ◌≤◌, Bool, nat_lt, List, ◌++◌, map, sum, sum_by, if◌then◌else◌}
 use Rattle.std.specs.List.{AllZip, list_any}
 use Rattle.vlsi_base.specs.declared.name.Name.{Name}
 use Rattle.vlsi_base.specs.Member.{In}
-use Rattle.vlsi_base.specs.Range.{rising}
 use Rattle.bool_expr.specs.Expression.{Expression, variable, size_of}
 use Rattle.machine_meaning.specs.Named.{is_same_name}
 use Rattle.machine_meaning.specs.Machine.{Machine, Equation, Register, outputs, names_of}
@@ -12,6 +11,7 @@ use Rattle.machine_core.specs.Order.{held_names, equation_names}
 use Rattle.machine_alike.specs.Alike.{IsAlike}
 use Rattle.machine_walk.specs.Expansion.{with_variables, held_count}
 use Rattle.machine_roots.specs.Roots.{IsDag, roots, IsFirstOver}
+use Rattle.boom_muxes.specs.Names.{new_names}
 use Rattle.boom_opt.specs.declared.error.BoomError.{BoomError}
 use Rattle.boom_opt.specs.declared.error.BoomError.TheVariants as error
 
@@ -29,10 +29,6 @@ behind_new held count e = with_variables (λ k. variable (if nat_lt k held then 
 -- the one that was given, or a strictly smaller one
 abbrev pub IsGivenOrSmaller : Expression → Expression → Type 0
 IsGivenOrSmaller given made = (made ≡ given) ⊎ (size_of made < size_of given)
-
--- bits of one name
-abbrev pub new_names : List ℕ → ℕ → List Name
-new_names text count = map (λ k. record { text = text; bit = Some k }) (rising 0 count)
 
 -- The names of the machine stay, in their order; new ones are bits of a vector of a name that it doesn't have, and their equations
 -- stand before the others. There are no more new ones than the given machine weighs. What an equation or a register of the given machine

@@ -11,12 +11,12 @@ use Rattle.machine_roots.specs.Listing.{IsPlaced}
 use Rattle.machine_roots.specs.declared.listing.RootExpr.{RootExpr}
 use Rattle.boom_opt.specs.declared.error.BoomError.{BoomError}
 use Rattle.boom_opt.specs.declared.error.BoomError.TheVariants as error
-use Rattle.boom_opt.specs.declared.literal.Literal.{Literal}
-use Rattle.boom_opt.specs.declared.muxes.Muxes.{Muxes}
-use Rattle.boom_opt.specs.declared.plan.Plan.{Plan}
+use Rattle.boom_literal.specs.declared.literal.Literal.{Literal}
+use Rattle.boom_muxes.specs.declared.muxes.Muxes.{Muxes}
+use Rattle.boom_muxes.specs.declared.plan.Plan.{Plan}
 use Rattle.boom_opt.specs.declared.optimising.Rebuilt.{Rebuilt}
-use Rattle.boom_opt.specs.Muxes.{IsTable, IsLiteralBelow}
-use Rattle.boom_opt.specs.Planning.{EachLeadsBack, Shows, SaysValue, IsPlan}
+use Rattle.boom_muxes.specs.Muxes.{IsTable, IsLiteralBelow}
+use Rattle.boom_muxes.specs.Planning.{EachLeadsBack, Shows, SaysValue, IsPlan}
 
 -- what all expressions of a machine weigh
 abbrev pub expressions_size : Machine → ℕ

@@ -4,15 +4,8 @@
 //! in `specs/Optimised.antt`; why it meets its bounds, in `optimising.rt`.
 #![tactic(auto)]
 
-mod build;
 mod error;
-mod literal;
-mod mux;
-mod muxes;
-mod names;
 mod optimising;
-mod plan;
-mod rebuild;
 
 pub use error::BoomError;
 pub use optimising::{Optimised, optimise};

@@ -25,16 +25,13 @@ ghost use Rattle.machine_roots.specs.Listing.{root_view};
 ghost use Rattle.machine_roots.specs.Roots.{Root, roots as roots_of, IsOverBudget, IsGreatestDcount};
 ghost use Rattle.machine_core.specs.Checked.{IsChecked};
 ghost use Rattle.boom_opt.specs.Optimised.{IsOptimised, IsOverIn};
-ghost use Rattle.boom_opt.specs.Building.{IsBuilt};
+ghost use Rattle.boom_muxes.specs.Building.{IsBuilt};
 ghost use Rattle.boom_opt.specs.Rebuilt.{IsWeight, IsRootOf, IsOverRoot, IsNext, IsRebuilt, HasRebuilt};
 
-use crate::build::build;
 use crate::error::BoomError;
-use crate::muxes::{Muxes, Stop};
-use crate::plan::Plan;
-use crate::rebuild::literal_of;
 use bdd_core::BddError;
 use bool_expr::size;
+use boom_muxes::{Muxes, Plan, Stop, build, literal_of};
 use indexmap::IndexMap;
 use machine_core::Machine;
 use machine_meaning::{Equation, Register};

@@ -7,7 +7,8 @@ use Rattle.vlsi_base.proofs.Ranges.{length_of_rising}
 use Rattle.machine_meaning.specs.Machine.{Machine}
 use Rattle.machine_meaning.specs.Size.{machine_size}
 use Rattle.machine_core.specs.Order.{held_names, equation_names}
-use Rattle.boom_opt.specs.Optimised.{IsOptimised, new_names}
+use Rattle.boom_opt.specs.Optimised.{IsOptimised}
+use Rattle.boom_muxes.specs.Names.{new_names}
 use Rattle.machine_limit.specs.declared.size.TheConstants.{MOST_SIZE}
 
 -- as many names more as a machine weighs that is small enough

@@ -11,7 +11,8 @@ use Rattle.machine_core.proofs.Names.{same_name-true}
 use Rattle.machine_core.proofs.Values.{In-map, In-left}
 use Rattle.vlsi_model.proofs.Members.{In-map_back}
 use Rattle.vlsi_model.proofs.PortBits.{In-filter}
-use Rattle.boom_opt.specs.Optimised.{is_output, new_names}
+use Rattle.boom_opt.specs.Optimised.{is_output}
+use Rattle.boom_muxes.specs.Names.{new_names}
 
 -- none of these names has the text
 none_same : (names : List Name) (name : Name) → ((n : Name) → In n names → n ≡ name → ⊥) → list_any (λ n. is_same_name n name) names ≡ false

@@ -1,6 +1,6 @@
 use Rattle.std.proofs.Common.{inl, inr, List, length, sym, subst, ap, Some, arith}
-use Rattle.boom_opt.specs.declared.mux.Mux.{Mux}
-use Rattle.boom_opt.specs.Building.{MayBeBuilt}
+use Rattle.boom_muxes.specs.declared.mux.Mux.{Mux}
+use Rattle.boom_muxes.specs.Building.{MayBeBuilt}
 use Rattle.boom_opt.proofs.Finishing.{may_be_built, few_built, smaller_result, kept_result}
 use Rattle.boom_opt.proofs.optimising.smaller.Goals as goal
 

@@ -1,10 +1,10 @@
 use Rattle.std.proofs.Common.{ℕ, Option, None, length, map, arith, refl, sym, ap, ◌∙◌, false}
 use Rattle.std.specs.Prelude.{replicate}
 use Rattle.machine_core.specs.View.{equation_view}
-use Rattle.boom_opt.specs.declared.literal.Literal.{Literal}
+use Rattle.boom_literal.specs.declared.literal.Literal.{Literal}
 use Rattle.std.proofs.lemmas.List.{length-map}
 use Rattle.boom_opt.proofs.Finishing.{rebuilt_none}
-use Rattle.boom_opt.proofs.Rooting.{all_names}
+use Rattle.boom_muxes.proofs.Numbered.{all_names}
 use Rattle.boom_opt.proofs.optimising.Rebuilt.begin.Goals as goal
 
 pub new-requires : goal.new-requires

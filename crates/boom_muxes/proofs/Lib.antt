@@ -1,0 +1,15 @@
+pub mod Numbered
+pub mod Weighing
+pub mod Counted
+pub mod Following
+pub mod Branches
+pub mod Finding
+pub mod Dags
+pub mod Planned
+pub mod Turns
+pub mod Fresh
+pub mod Tabling
+pub mod Sound
+pub mod Same
+pub mod Led
+pub mod Parts

@@ -1,0 +1,5 @@
+pub mod Muxes
+pub mod Rebuilding
+pub mod Planning
+pub mod Names
+pub mod Building

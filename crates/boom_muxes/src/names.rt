@@ -1,0 +1,34 @@
+// A name for new signals.
+ghost use Rattle.std.specs.Prelude.{◌≡◌, ◌++◌, ◌+◌, ◌-◌, ◌<◌, ◌^◌, length, IfOk, OnOk};
+ghost use Rattle.machine_meaning.specs.Machine.{names_of};
+ghost use Rattle.boom_muxes.specs.Names.{IsFreshText, texts_of};
+
+use free_names::free_texts;
+use std::alloc::{AllocError, Global};
+use vlsi_base::{Name, Port, Text};
+
+/// The texts of all these names.
+fn texts(alloc: Global, ports: &[Port], names: &[Name]) -> Result<Vec<Text>, AllocError>
+    ensures { IfOk result (λ texts. texts.items ≡ texts_of (names_of ports.now ++ names.now)) }
+{
+    let mut texts = Vec::new(alloc);
+    for port in ports {
+        texts.push(port.name.text.copy(alloc)?)?;
+    }
+    for name in names {
+        texts.push(name.text.copy(alloc)?)?;
+    }
+    Ok(texts)
+}
+
+/// The first of `n0`, `n1` and so on that isn't the text of any of these names. There are more of these texts than names. Takes
+/// memory for the texts that are used.
+pub(crate) fn new_text(alloc: Global, ports: &[Port], names: &[Name]) -> Result<Text, AllocError>
+    requires { length ports.now + length names.now < 2 ^ 32 - 1 }
+    ensures { IfOk result (λ text. IsFreshText (names_of ports.now ++ names.now) text) }
+{
+    let taken = texts(alloc, ports, names)?;
+    let free = free_texts(alloc, b"n", &taken, 1)?;
+    let text = free[0].copy(alloc)?;
+    Ok(text)
+}
