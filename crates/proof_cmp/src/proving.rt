@@ -13,8 +13,10 @@ ghost use Rattle.proof_cmp.specs.Comparing.{pair_of, HaveDiagram, IsRootOf, IsOv
 use crate::verdict::{ProofVerdict, ProveError};
 use bdd_core::BddError;
 use machine_core::Machine;
-use machine_roots::{RootExpr, roots};
-use proof_joint::{Cone, JointDiagram, differing_bits, given_bits, joint_diagram, least_one_sided, spread_bits};
+use machine_roots::{Cone, RootExpr, roots};
+use proof_joint::{
+    JointDiagram, differing_bits, given_bits, joint_diagram, least_one_sided, spread_bits,
+};
 use std::alloc::{AllocError, Global};
 use vlsi_base::Name;
 

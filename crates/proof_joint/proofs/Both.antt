@@ -19,11 +19,12 @@ use Rattle.machine_walk.proofs.Names.{length-vars}
 use Rattle.machine_roots.proofs.Denoting.{length_put}
 use Rattle.machine_roots.proofs.Members.{over_in}
 use Rattle.machine_roots.proofs.Rooted.{order_within}
-use Rattle.proof_joint.specs.declared.joint.Cone.{Cone}
-use Rattle.proof_joint.specs.declared.joint.SharedDiagrams.{SharedDiagrams}
+use Rattle.machine_roots.specs.declared.sharing.Cone.{Cone}
+use Rattle.machine_roots.specs.declared.sharing.SharedDiagrams.{SharedDiagrams}
+use Rattle.machine_roots.specs.Shared.{shared_lists, AreShared}
 use Rattle.proof_joint.specs.Naming.{HaveSameNames}
 use Rattle.proof_joint.specs.Together.{joint_lists}
-use Rattle.proof_joint.specs.Joint.{shared_lists, AreShared, IsWalked, cones_order, AreOver}
+use Rattle.proof_joint.specs.Joint.{IsWalked, cones_order, AreOver}
 use Rattle.proof_joint.proofs.Joining.{same_count, joined_is, joint_few, joint_within, shared_counted}
 
 pub bound_long : (order : List ℕ) (held most : ℕ) (s : SharedDiagrams) → AreShared order held most s → length s.bound.items ≡ held

@@ -23,10 +23,10 @@ use Rattle.machine_walk.proofs.Names.{length-vars}
 use Rattle.machine_roots.proofs.Few.{few_below}
 use Rattle.machine_roots.proofs.Denoting.{order_different, place_again, in_order_of, order_in, length_put, put_at}
 use Rattle.machine_roots.proofs.Sets.{counts_members, counts_append, counts_constant, IsVariable}
+use Rattle.machine_roots.specs.Shared.{shared_lists, root_list, root_lists}
 use Rattle.proof_joint.specs.declared.naming.Role.TheVariants.{Input, Clock, Register}
 use Rattle.proof_joint.specs.Naming.{HaveSameNames}
 use Rattle.proof_joint.specs.Together.{joint_order, joint_lists}
-use Rattle.proof_joint.specs.Joint.{shared_lists, root_list, root_lists}
 use Rattle.proof_joint.proofs.Ordered.{lists_over, variables_out, root_denotes, variable_inside, root_counted, equations_counted, lists_counted}
 
 -- ---- machines that have the same names

@@ -9,5 +9,5 @@ mod joint;
 mod naming;
 
 pub use differing::{differing_bits, given_bits, spread_bits};
-pub use joint::{Cone, JointDiagram, joint_diagram};
+pub use joint::{JointDiagram, joint_diagram};
 pub use naming::{Role, least_one_sided};

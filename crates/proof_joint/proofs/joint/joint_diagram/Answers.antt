@@ -3,8 +3,8 @@ use Rattle.std.proofs.lemmas.Result.{err_from_is_err_and, IfOk-weaker, IfErr-wea
 use Rattle.machine_core.specs.View.{equation_view}
 use Rattle.machine_walk.specs.Expansion.{held_count}
 use Rattle.machine_walk.proofs.Stacks.{frame}
-use Rattle.proof_joint.specs.declared.joint.Cone.{Cone}
-use Rattle.proof_joint.specs.Joint.{AreShared}
+use Rattle.machine_roots.specs.declared.sharing.Cone.{Cone}
+use Rattle.machine_roots.specs.Shared.{AreShared}
 use Rattle.proof_joint.proofs.Both.{second_within, order_joined, order_few, order_held, shared_over, over_given, names_given}
 use Rattle.proof_joint.proofs.joint.joint_diagram.Goals as goal
 
