@@ -1,5 +1,5 @@
 -- What `proof` reads and answers.
-use Rattle.std.specs.Prelude.{◌≡◌, ℕ, ◌+◌, ◌^◌, ◌<◌, Bool, List, length, [], ◌∷◌, ◌++◌, get_or, codes, None, Result, Ok, Err}
+use Rattle.std.specs.Prelude.{◌≡◌, ℕ, ◌+◌, Bool, List, [], ◌∷◌, ◌++◌, get_or, codes, None, Result, Ok, Err}
 use Rattle.machine_meaning.specs.Machine.{Machine}
 use Rattle.vbe_io.specs.Text.{IsVbe, IsVbeRefusal}
 use Rattle.proof_joint.specs.Naming.{HaveSameNames, IsLeastOneSided}
