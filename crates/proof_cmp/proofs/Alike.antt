@@ -23,13 +23,13 @@ use Rattle.machine_core.proofs.Built.{built_settles}
 use Rattle.machine_walk.specs.Expansion.{held_count, expansion}
 use Rattle.machine_roots.specs.Roots.{Root, roots, register_roots, expression_of}
 use Rattle.machine_roots.proofs.Expanding.{value_of_expansion}
-use Rattle.proof_cmp.specs.declared.naming.Role.TheVariants.{Input, Output, Register as Stored}
-use Rattle.proof_cmp.specs.Naming.{HaveSameNames}
-use Rattle.proof_cmp.specs.Together.{IsOneFunction}
+use Rattle.proof_joint.specs.declared.naming.Role.TheVariants.{Input, Output, Register as Stored}
+use Rattle.proof_joint.specs.Naming.{HaveSameNames}
+use Rattle.proof_joint.specs.Together.{IsOneFunction}
 use Rattle.proof_cmp.specs.Verdict.{AreEqual, EqualAreAlike}
-use Rattle.proof_cmp.proofs.Least.{Rising, rising, less_not_back}
-use Rattle.proof_cmp.proofs.Roles.{kept_port}
-use Rattle.proof_cmp.proofs.Joining.{same_clock}
+use Rattle.proof_joint.proofs.Least.{Rising, rising, less_not_back}
+use Rattle.proof_joint.proofs.Roles.{kept_port}
+use Rattle.proof_joint.proofs.Joining.{same_clock}
 
 -- ---- ports by their names and directions
 

@@ -27,16 +27,16 @@ use Rattle.machine_roots.proofs.Expanding.{val-with_variables, val-in_order, fir
 use Rattle.proof_cmp.specs.declared.verdict.ProveError.{ProveError}
 use Rattle.proof_cmp.specs.declared.verdict.ProveError.TheVariants as error
 use Rattle.proof_cmp.specs.declared.proving.Difference.{Difference}
-use Rattle.proof_cmp.specs.declared.joint.JointDiagram.{JointDiagram}
-use Rattle.proof_cmp.specs.declared.naming.Role.TheVariants.{Input, Output, Register as Stored}
-use Rattle.proof_cmp.specs.Naming.{HaveSameNames}
-use Rattle.proof_cmp.specs.Together.{root_pairs, IsOverTogether, IsOneFunction, given_names, value_on}
+use Rattle.proof_joint.specs.declared.joint.JointDiagram.{JointDiagram}
+use Rattle.proof_joint.specs.declared.naming.Role.TheVariants.{Input, Output, Register as Stored}
+use Rattle.proof_joint.specs.Naming.{HaveSameNames}
+use Rattle.proof_joint.specs.Together.{root_pairs, IsOverTogether, IsOneFunction, given_names, value_on}
 use Rattle.proof_cmp.specs.Verdict.{AreComparable, IsRefusal}
-use Rattle.proof_cmp.specs.Joint.{IsJointDiagram, AreTwoRoots, JoinsRoots}
-use Rattle.proof_cmp.specs.Bits.{Computes, AreSpread}
+use Rattle.proof_joint.specs.Joint.{IsJointDiagram, AreTwoRoots, JoinsRoots}
+use Rattle.proof_joint.specs.Bits.{Computes, AreSpread}
 use Rattle.proof_cmp.specs.Comparing.{IsOverPair, DifferOn, IsFound}
-use Rattle.proof_cmp.proofs.Joining.{has_first, has_second, same_held, joint_few, joint_different, joint_within}
-use Rattle.proof_cmp.proofs.Both.{at_in_list}
+use Rattle.proof_joint.proofs.Joining.{has_first, has_second, same_held, joint_few, joint_different, joint_within}
+use Rattle.proof_joint.proofs.Both.{at_in_list}
 
 -- ---- two functions of one diagram
 

@@ -1,10 +1,2 @@
-pub mod Least
-pub mod Roles
-pub mod Ordered
-pub mod Joining
-pub mod Rooting
-pub mod Both
-pub mod Descent
-pub mod Spreading
 pub mod Alike
 pub mod Comparing

@@ -8,13 +8,13 @@ use Rattle.machine_core.specs.Checked.{IsChecked}
 use Rattle.machine_roots.specs.declared.listing.RootExpr.{RootExpr}
 use Rattle.machine_roots.specs.Listing.{root_view}
 use Rattle.machine_roots.specs.Roots.{Root}
-use Rattle.proof_cmp.specs.declared.joint.JointDiagram.{JointDiagram}
+use Rattle.proof_joint.specs.declared.joint.JointDiagram.{JointDiagram}
 use Rattle.proof_cmp.specs.declared.proving.Machines.{Machines}
 use Rattle.proof_cmp.specs.declared.verdict.ProveError.{ProveError}
 use Rattle.proof_cmp.specs.declared.verdict.ProveError.TheVariants as error
 use Rattle.proof_cmp.specs.declared.proving.Difference.{Difference}
-use Rattle.proof_cmp.specs.Joint.{IsJointDiagram}
-use Rattle.proof_cmp.specs.Together.{IsOverTogether, IsOneFunction, given_names, value_on}
+use Rattle.proof_joint.specs.Joint.{IsJointDiagram}
+use Rattle.proof_joint.specs.Together.{IsOverTogether, IsOneFunction, given_names, value_on}
 use Rattle.proof_cmp.specs.Verdict.{IsFirstDifference}
 
 -- two roots, and their diagram

@@ -1,7 +1,2 @@
-pub mod Naming
-pub mod Apart
-pub mod Together
-pub mod Joint
-pub mod Bits
 pub mod Verdict
 pub mod Comparing

@@ -10,8 +10,8 @@ use Rattle.proof_cmp.specs.declared.verdict.ProofVerdict.{ProofVerdict}
 use Rattle.proof_cmp.specs.declared.verdict.ProofVerdict.TheVariants as verdict
 use Rattle.proof_cmp.specs.declared.verdict.ProveError.{ProveError}
 use Rattle.proof_cmp.specs.declared.verdict.ProveError.TheVariants as error
-use Rattle.proof_cmp.specs.Naming.{HaveSameNames, IsLeastOneSided}
-use Rattle.proof_cmp.specs.Together.{root_pairs, IsOverTogether, IsFirstOver, IsOneFunction, given_names, value_on}
+use Rattle.proof_joint.specs.Naming.{HaveSameNames, IsLeastOneSided}
+use Rattle.proof_joint.specs.Together.{root_pairs, IsOverTogether, IsFirstOver, IsOneFunction, given_names, value_on}
 
 -- every output, next and enable is the same function in both
 abbrev pub AreEqual : Machine → Machine → Type 0

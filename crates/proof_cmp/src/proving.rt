@@ -4,19 +4,19 @@ ghost use Rattle.bool_expr.specs.Expression.{Expression, val};
 ghost use Rattle.machine_meaning.specs.Machine.{Machine as MachineValue};
 ghost use Rattle.machine_walk.specs.Expansion.{expansion};
 ghost use Rattle.machine_roots.specs.Roots.{Root};
-ghost use Rattle.proof_cmp.specs.Naming.{HaveSameNames};
-ghost use Rattle.proof_cmp.specs.Joint.{JoinsRoots};
-ghost use Rattle.proof_cmp.specs.Together.{root_pairs, IsOverTogether};
+ghost use Rattle.proof_joint.specs.Naming.{HaveSameNames};
+ghost use Rattle.proof_joint.specs.Joint.{JoinsRoots};
+ghost use Rattle.proof_joint.specs.Together.{root_pairs, IsOverTogether};
 ghost use Rattle.proof_cmp.specs.Verdict.{AreComparable, IsVerdict, IsRefusal};
 ghost use Rattle.proof_cmp.specs.Comparing.{pair_of, HaveDiagram, IsRootOf, IsOverPair, DifferOn, IsFound};
 
-use crate::differing::{differing_bits, given_bits, spread_bits};
-use crate::joint::{JointDiagram, joint_diagram};
-use crate::naming::least_one_sided;
 use crate::verdict::{ProofVerdict, ProveError};
 use bdd_core::BddError;
 use machine_core::Machine;
 use machine_roots::{Cone, RootExpr, roots};
+use proof_joint::{
+    JointDiagram, differing_bits, given_bits, joint_diagram, least_one_sided, spread_bits,
+};
 use std::alloc::{AllocError, Global};
 use vlsi_base::Name;
 

@@ -1,9 +1,9 @@
 -- What `proof` reads and answers.
-use Rattle.std.specs.Prelude.{◌≡◌, ℕ, ◌+◌, ◌^◌, ◌<◌, Bool, List, length, [], ◌∷◌, ◌++◌, get_or, codes, None, Result, Ok, Err}
+use Rattle.std.specs.Prelude.{◌≡◌, ℕ, ◌+◌, Bool, List, [], ◌∷◌, ◌++◌, get_or, codes, None, Result, Ok, Err}
 use Rattle.machine_meaning.specs.Machine.{Machine}
 use Rattle.vbe_io.specs.Text.{IsVbe, IsVbeRefusal}
-use Rattle.proof_cmp.specs.Naming.{HaveSameNames, IsLeastOneSided}
-use Rattle.proof_cmp.specs.Together.{root_pairs, IsFirstOver}
+use Rattle.proof_joint.specs.Naming.{HaveSameNames, IsLeastOneSided}
+use Rattle.proof_joint.specs.Together.{root_pairs, IsFirstOver}
 use Rattle.proof_cmp.specs.Verdict.{AreComparable, AreEqual, IsFirstDifference}
 use Rattle.tool_words.specs.declared.command.ProofCommand.{ProofCommand}
 use Rattle.tool_drive.specs.declared.status.Status.{Status}

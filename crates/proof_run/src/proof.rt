@@ -1,9 +1,9 @@
 // `proof` as a tool: what it reads, and what it answers.
-ghost use Rattle.std.specs.Prelude.{◌≡◌, ◌<◌, ◌^◌, IfOk, IfErr, length};
+ghost use Rattle.std.specs.Prelude.{◌≡◌, ◌<◌, ◌^◌, ℕ, List, IfOk, IfErr, length};
 ghost use Rattle.vbe_io.specs.Text.{IsVbe, IsVbeRefusal};
 ghost use Rattle.tool_drive.specs.Refusals.{MemoryOr, OfFile};
 ghost use Rattle.tool_drive.specs.Table.{IsJudged};
-ghost use Rattle.proof_run.specs.Proof.{Compares, IsFinding, AreSameFunctions, IsSaidEqual};
+ghost use Rattle.proof_run.specs.Proof.{Compares, IsRefused, IsFinding, AreEqualSources, AreSameFunctions, IsSaidEqual};
 
 use machine_core::Machine;
 use proof_cmp::{ProofVerdict, ProveError, prove};
@@ -65,6 +65,41 @@ fn product(alloc: Global, command: &ProofCommand) -> Result<Product, AllocError>
     })
 }
 
+// Nothing where the second text is a machine of the same functions as the first one; or the status that tells why it isn't.
+fn other_is_equal(
+    alloc: Global,
+    command: &ProofCommand,
+    first: &Machine,
+    other: &[u8],
+) -> Result<(), Status>
+    requires { length first.now.vars < 2 ^ 32 }
+    ensures equal { IfOk result (λ _. (source : List ℕ) → IsVbe source first.now → AreEqualSources command.now source other.now) }
+    ensures refused { IfErr result (λ s. (source : List ℕ) → IsVbe source first.now → MemoryOr s (IsRefused command.now source other.now s)) }
+{
+    source_has_few_names();
+    match machine_in(alloc, &command.other, other) {
+        Ok(second) => equal_within(alloc, first, &second, command.nodes),
+        Err(status) => Err(status),
+    }
+}
+
+// Nothing where the two texts are machines of the same functions; or the status that tells why they aren't.
+fn sources_are_equal(
+    alloc: Global,
+    command: &ProofCommand,
+    source: &[u8],
+    other: &[u8],
+) -> Result<(), Status>
+    ensures equal { IfOk result (λ _. AreEqualSources command.now source.now other.now) }
+    ensures refused { IfErr result (λ s. MemoryOr s (IsRefused command.now source.now other.now s)) }
+{
+    source_has_few_names();
+    match machine_in(alloc, &command.source, source) {
+        Ok(first) => other_is_equal(alloc, command, &first, other),
+        Err(status) => Err(status),
+    }
+}
+
 // What the two texts come to.
 fn compared(
     alloc: Global,
@@ -74,16 +109,7 @@ fn compared(
 ) -> Result<Product, Refusal>
     ensures { IsJudged (Compares command.now source.now other.now) result }
 {
-    source_has_few_names();
-    let first = match machine_in(alloc, &command.source, source) {
-        Ok(machine) => machine,
-        Err(status) => return Err(Refusal::plain(status)),
-    };
-    let second = match machine_in(alloc, &command.other, other) {
-        Ok(machine) => machine,
-        Err(status) => return Err(Refusal::plain(status)),
-    };
-    match equal_within(alloc, &first, &second, command.nodes) {
+    match sources_are_equal(alloc, command, source, other) {
         Ok(()) => {}
         Err(status) => return Err(Refusal::plain(status)),
     }

@@ -3,8 +3,8 @@ use Rattle.std.proofs.lemmas.Result.{err_from_is_err_and}
 use Rattle.bool_expr.specs.View.{view}
 use Rattle.machine_roots.specs.declared.listing.RootExpr.{RootExpr}
 use Rattle.machine_roots.specs.Listing.{AreRoots}
-use Rattle.proof_cmp.specs.Together.{root_pairs}
-use Rattle.proof_cmp.specs.Joint.{JoinsRoots}
+use Rattle.proof_joint.specs.Together.{root_pairs}
+use Rattle.proof_joint.specs.Joint.{JoinsRoots}
 use Rattle.proof_cmp.specs.Comparing.{pair_of}
 use Rattle.proof_cmp.proofs.Comparing.{as_long, listed_over, compared_more, refused_here, all_compared}
 use Rattle.proof_cmp.proofs.proving.compare.Goals as goal

@@ -1,7 +1,7 @@
 use Rattle.std.proofs.Common.{◌≡◌, ◌-◌, ℕ, Bool, List, length, map, ap, subst, ◌∙◌, arith}
 use Rattle.machine_core.specs.View.{equation_view}
 use Rattle.machine_walk.proofs.Stacks.{frame}
-use Rattle.proof_cmp.specs.Bits.{AreSpread}
+use Rattle.proof_joint.specs.Bits.{AreSpread}
 use Rattle.proof_cmp.proofs.Comparing.{one_function, first_value, second_value, first_computes, second_computes, differ_on, order_fits, order_apart, order_inside}
 use Rattle.proof_cmp.proofs.proving.difference_in.Goals as goal
 

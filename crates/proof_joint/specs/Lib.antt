@@ -1,0 +1,5 @@
+pub mod Naming
+pub mod Apart
+pub mod Together
+pub mod Joint
+pub mod Bits
