@@ -1,4 +1,5 @@
 pub mod Instances
+pub mod Ready
 pub mod Drawn
 pub mod Outputs
 pub mod Shapes

@@ -1,5 +1,6 @@
 -- What `druc` reads and answers.
 use Rattle.std.specs.Prelude.{◌≡◌, ℕ, ◌<◌, ◌^◌, List, [], ◌∷◌, ◌++◌, map, length, get_or, false, None, Result, Ok, Err}
+use Rattle.vlsi_base.specs.declared.limits.TheConstants.{MOST_NETLIST_BYTES}
 use Rattle.vlsi_base.specs.declared.fault.FaultKind.{FaultKind}
 use Rattle.vlsi_base.specs.declared.fault.FaultKind.TheVariants as kind
 use Rattle.vlsi_base.specs.declared.fault.Limit.{Limit}
@@ -17,7 +18,6 @@ use Rattle.cell_lib.specs.Library.{IsLibraryOf, IsRefusedLibrary, status_of}
 use Rattle.net_meaning.specs.Breaches.{Breaches}
 use Rattle.cougar_extract.specs.Extracted.{AreKnown}
 use Rattle.cougar_extract.specs.Refused.{IsFirstUnknown, IsTooLarge}
-use Rattle.cougar_run.specs.Cougar.{layout_file}
 use Rattle.druc_rules.specs.declared.breach.Breach.{Breach}
 use Rattle.druc_rules.specs.declared.error.DrucError.{DrucError}
 use Rattle.druc_rules.specs.declared.error.DrucError.TheVariants as error
@@ -26,11 +26,17 @@ use Rattle.tool_words.specs.declared.command.DrucCommand.{DrucCommand}
 use Rattle.tool_drive.specs.declared.status.Status.{Status}
 use Rattle.tool_drive.specs.declared.status.Status.TheVariants as status
 use Rattle.tool_drive.specs.declared.status.Verdict.TheVariants.{Broken}
+use Rattle.tool_drive.specs.declared.tool.Over.TheVariants.{Refused}
+use Rattle.tool_drive.specs.declared.tool.Wanted.{Wanted}
 use Rattle.tool_drive.specs.declared.tool.Product.{Product}
 use Rattle.tool_drive.specs.declared.tool.Refusal.{Refusal}
 use Rattle.tool_drive.specs.Plan.{Plan, Inputs, limited}
 use Rattle.tool_drive.specs.Refusals.{OfFile}
 use Rattle.druc_run.specs.Report.{report}
+
+-- a layout's file
+abbrev pub layout_file : List ℕ → Wanted
+layout_file name = record { name = name; most = MOST_NETLIST_BYTES; over = Refused }
 
 -- SOURCE, then CATAL, and then the files of the cells that CATAL uses
 abbrev pub druc_plan : DrucCommand → Plan

@@ -3,8 +3,7 @@ ghost use Rattle.std.specs.Prelude.{◌≡◌, ◌∷◌, []};
 ghost use Rattle.vlsi_base.specs.Names.{scalar};
 ghost use Rattle.tool_drive.specs.Refusals.{MemoryOr};
 ghost use Rattle.tool_drive.specs.Table.{IsJudged};
-ghost use Rattle.cougar_run.specs.Cougar.{layout_file as file_of};
-ghost use Rattle.druc_run.specs.Druc.{fault_of, IsToldOf, IsAnswerOf, Checks};
+ghost use Rattle.druc_run.specs.Druc.{layout_file as file_of, fault_of, IsToldOf, IsAnswerOf, Checks};
 
 use crate::report::report;
 use ap_io::{read_ap, what_is_read_is_a_figure};

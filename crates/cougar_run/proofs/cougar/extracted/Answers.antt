@@ -2,7 +2,7 @@ use Rattle.std.proofs.Common.{false, Err, sym, subst}
 use Rattle.tool_drive.specs.declared.tool.Refusal.{Refusal}
 use Rattle.tool_drive.specs.Table.{IsJudged}
 use Rattle.cougar_run.specs.Cougar.{Extracts}
-use Rattle.cougar_run.proofs.Ready.{ready_figure}
+use Rattle.cougar_extract.proofs.Ready.{ready_figure}
 use Rattle.cougar_run.proofs.Refusing.{by_library, by_layout, by_extract, by_write}
 use Rattle.cougar_run.proofs.Writing.{writable, extraction}
 use Rattle.cougar_run.proofs.cougar.extracted.Goals as goal

@@ -3,7 +3,7 @@ use Rattle.tool_drive.specs.declared.tool.Refusal.{Refusal}
 use Rattle.tool_drive.specs.Table.{IsJudged}
 use Rattle.druc_rules.specs.declared.breach.Breach.{Breach}
 use Rattle.druc_rules.specs.Breaches.{breach_of}
-use Rattle.cougar_run.proofs.Ready.{ready_figure}
+use Rattle.cougar_extract.proofs.Ready.{ready_figure}
 use Rattle.druc_run.specs.Druc.{Checks, IsAnswerOf}
 use Rattle.druc_run.proofs.Refusing.{by_library, by_layout, by_rules, answered}
 use Rattle.druc_run.proofs.druc.checked.Goals as goal
