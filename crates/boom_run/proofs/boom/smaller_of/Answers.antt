@@ -1,8 +1,6 @@
-use Rattle.std.proofs.Common.{Err, ◌≤◌, sym, subst, arith}
-use Rattle.machine_meaning.specs.Size.{machine_size}
+use Rattle.std.proofs.Common.{Err, sym, subst, arith}
 use Rattle.tool_drive.specs.declared.tool.Refusal.{Refusal}
 use Rattle.tool_drive.specs.Table.{IsJudged}
-use Rattle.boog_run.specs.declared.netlist.TheConstants.{MOST_SIZE}
 use Rattle.boom_run.specs.Boom.{MakesSmaller}
 use Rattle.boom_run.proofs.Declared.{can_be_vbe}
 use Rattle.boom_run.proofs.FewNames.{few_made, few_weighed}
