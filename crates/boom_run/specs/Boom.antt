@@ -1,11 +1,11 @@
 -- What `boom` reads and answers.
-use Rattle.std.specs.Prelude.{◌≡◌, ℕ, ◌+◌, ◌-◌, ◌^◌, ◌<◌, ◌≤◌, List, length, [], ◌∷◌, ◌++◌, get_or, codes, None, Some, Result, Ok, Err}
+use Rattle.std.specs.Prelude.{◌≡◌, ℕ, ◌+◌, ◌<◌, ◌≤◌, List, [], ◌∷◌, ◌++◌, get_or, codes, None, Some, Result, Ok, Err}
 use Rattle.std.specs.List.{All}
 use Rattle.std.specs.Fmt.{decimal}
 use Rattle.vlsi_base.specs.declared.name.Name.{Name}
 use Rattle.machine_meaning.specs.Machine.{Machine}
 use Rattle.machine_meaning.specs.Size.{machine_size}
-use Rattle.machine_roots.specs.Roots.{roots, IsOverBudget, IsFirstOver, IsGreatestDcount}
+use Rattle.machine_roots.specs.Roots.{roots, IsOverBudget, IsFirstOver}
 use Rattle.vbe_io.specs.Text.{IsVbe, IsVbeRefusal}
 use Rattle.boom_opt.specs.Optimised.{IsOptimised}
 use Rattle.spell_theory.specs.Layout.{text_of}

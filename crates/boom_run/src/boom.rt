@@ -1,7 +1,8 @@
 // `boom` as a tool: what it reads, and what it answers.
-ghost use Rattle.std.specs.Prelude.{◌≡◌, ◌≤◌, ◌<◌, ◌+◌, ◌-◌, ◌^◌, IfOk, IfErr, length};
+ghost use Rattle.std.specs.Prelude.{◌≡◌, ◌≤◌, ◌<◌, ◌+◌, ◌-◌, ◌^◌, IfOk, IfErr, List, ℕ, length};
 ghost use Rattle.machine_meaning.specs.Size.{machine_size as size_of};
 ghost use Rattle.machine_roots.specs.Roots.{IsGreatestDcount};
+ghost use Rattle.vbe_io.specs.Text.{IsVbe};
 ghost use Rattle.tool_drive.specs.Refusals.{MemoryOr};
 ghost use Rattle.tool_drive.specs.Table.{IsJudged};
 ghost use Rattle.machine_limit.specs.declared.size.TheConstants.{MOST_SIZE};
@@ -79,29 +80,37 @@ fn product(alloc: Global, command: &BoomCommand, machine: &Machine) -> Result<Pr
     })
 }
 
-// What the text comes to.
-fn made_smaller(alloc: Global, command: &BoomCommand, source: &[u8]) -> Result<Product, Refusal>
-    ensures { IsJudged (MakesSmaller command.now source.now) result }
+// What the machine of a text comes to.
+fn smaller_of(alloc: Global, command: &BoomCommand, machine: &Machine) -> Result<Product, Refusal>
+    requires { (source : List ℕ) × IsVbe source machine.now }
+    ensures { (source : List ℕ) → IsVbe source machine.now → IsJudged (MakesSmaller command.now source) result }
 {
     // What is read, and what is alike, has names that can be written, and few of them.
     source_has_few_names();
     machine_is_named();
     registers_are_named();
     in_order_can_be_written();
-    let machine = match read_vbe(alloc, source) {
-        Ok(machine) => machine,
-        Err(error) => return Err(Refusal::plain(refused(alloc, &command.source, error))),
-    };
-    match check_size(&machine) {
+    match check_size(machine) {
         Ok(()) => {}
         Err(status) => return Err(Refusal::plain(status)),
     }
-    let made = match optimise_within(alloc, &machine, command.nodes) {
+    let made = match optimise_within(alloc, machine, command.nodes) {
         Ok(made) => made,
         Err(status) => return Err(Refusal::plain(status)),
     };
     let written = product(alloc, command, &made.machine)?;
     Ok(written)
+}
+
+// What the text comes to.
+fn made_smaller(alloc: Global, command: &BoomCommand, source: &[u8]) -> Result<Product, Refusal>
+    ensures { IsJudged (MakesSmaller command.now source.now) result }
+{
+    let machine = match read_vbe(alloc, source) {
+        Ok(machine) => machine,
+        Err(error) => return Err(Refusal::plain(refused(alloc, &command.source, error))),
+    };
+    smaller_of(alloc, command, &machine)
 }
 
 impl Tool for Boom<'_> {
