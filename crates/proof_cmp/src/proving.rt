@@ -4,6 +4,7 @@ ghost use Rattle.bool_expr.specs.Expression.{Expression, val};
 ghost use Rattle.machine_meaning.specs.Machine.{Machine as MachineValue};
 ghost use Rattle.machine_walk.specs.Expansion.{expansion};
 ghost use Rattle.machine_roots.specs.Roots.{Root};
+ghost use Rattle.machine_roots.specs.Listing.{AreRoots};
 ghost use Rattle.proof_joint.specs.Naming.{HaveSameNames};
 ghost use Rattle.proof_joint.specs.Joint.{JoinsRoots};
 ghost use Rattle.proof_joint.specs.Together.{root_pairs, IsOverTogether};
@@ -113,6 +114,36 @@ fn found_with<'a>(
     }
 }
 
+// The first of the listed roots that differ, where some do and no diagram is over the budget.
+fn compare_roots<'a>(
+    alloc: Global,
+    machines: Machines<'a>,
+    firsts: &[RootExpr<'a>],
+    others: &[RootExpr<'a>],
+    budget: u32,
+) -> Result<Option<Difference<'a>>, ProveError>
+    requires names { HaveSameNames machines.first.now machines.second.now }
+    requires first { length machines.first.now.vars < 2 ^ 32 }
+    requires second { length machines.second.now.vars < 2 ^ 32 }
+    requires firsts { AreRoots machines.first.now firsts.now }
+    requires others { AreRoots machines.second.now others.now }
+    ensures within { IfOk result (λ _. AreComparable machines.entry.first.now machines.entry.second.now budget) }
+    ensures found { IfOk result (λ o. IsFound machines.entry.first.now machines.entry.second.now
+        (root_pairs machines.entry.first.now machines.entry.second.now) o) }
+    ensures refusal { IfErr result (λ e. IsRefusal machines.entry.first.now machines.entry.second.now budget e) }
+{
+    // Machines are checked.
+    let _ = machines.first.name();
+    let _ = machines.second.name();
+    let mut found = None;
+    for (k, first) in firsts.iter().enumerate() {
+        let second = others[k];
+        let joint = diagram_of(alloc, machines, *first, second, budget)?;
+        found = found_with(alloc, machines.first, found, first.name, &joint)?;
+    }
+    Ok(found)
+}
+
 // The first roots that differ, where some do and no diagram is over the budget.
 fn compare<'a>(
     alloc: Global,
@@ -127,19 +158,9 @@ fn compare<'a>(
         (root_pairs machines.entry.first.now machines.entry.second.now) o) }
     ensures refusal { IfErr result (λ e. IsRefusal machines.entry.first.now machines.entry.second.now budget e) }
 {
-    // Machines are checked.
-    let _ = machines.first.name();
-    let _ = machines.second.name();
     let firsts = roots(alloc, machines.first)?;
     let seconds = roots(alloc, machines.second)?;
-    let others = seconds.as_slice();
-    let mut found = None;
-    for (k, first) in firsts.iter().enumerate() {
-        let second = others[k];
-        let joint = diagram_of(alloc, machines, *first, second, budget)?;
-        found = found_with(alloc, machines.first, found, first.name, &joint)?;
-    }
-    Ok(found)
+    compare_roots(alloc, machines, &firsts, &seconds, budget)
 }
 
 /// Compares two machines, root by root: first their names, then the diagram of each two roots with the budget, and then the two
