@@ -150,9 +150,51 @@ def check_long(results, program):
             results.note(f"a netlist of {length} bytes", got == (status, line), f"came to {shown(*got)}, wanted {line}")
 
 
+LONG = b"""entity long is port (a : in bit; y, z : out bit; vdd, vss : in bit); end long;
+architecture vbe of long is
+signal s : bit_vector(99999 downto 0);
+begin
+s(99999 downto 1) <= s(99998 downto 0);
+s(0) <= a;
+y <= s(99999);
+z <= not a;
+end vbe;
+"""
+
+LONG_LAYOUT = b"""V ALLIANCE : 6
+H long,P,01/01/2000,100
+A 0,0,2000,5000
+S 0,300,2000,300,600,vss,RIGHT,CALU1
+S 0,4700,2000,4700,600,vdd,RIGHT,CALU1
+S 500,1000,500,4000,200,a,UP,CALU1
+S 1000,1000,1000,4000,200,y,UP,CALU1
+S 1500,1000,1500,4000,200,z,UP,CALU1
+EOF
+"""
+
+
+def check_many_bits(results, program):
+    """Instances of a cell with 100,002 equations: their bits, those of the classes (two outputs each, the input and the supplies) and of the
+    four ports are more than 32 bits can number. So they are a limit, and memory isn't asked for."""
+    count = 42949
+    reached = count * 100002 + 2 * count + 3 + 4
+    text = "entity r is port (i : in bit; q : out bit; vdd, vss : in bit); end r;\narchitecture x of r is\n"
+    text += "component long port (a : in bit; y, z : out bit; vdd, vss : in bit); end component;\n"
+    text += "".join(f"signal y{k}, z{k} : bit;\n" for k in range(count)) + "begin\n"
+    for k in range(count):
+        text += f"u{k} : long port map (a => i, y => {f'y{k}' if k else 'q'}, z => z{k}, vdd => vdd, vss => vss);\n"
+    files = {"lib/CATAL": b"long C\n", "lib/long.vbe": LONG, "lib/long.ap": LONG_LAYOUT}
+    with Room() as room:
+        room.write({**files, "r.vst": f"{text}end x;\n".encode(), "t.pat": b"in i; out q; begin < 0 ns> : 0 ?0; end;"})
+        got = room.run(program, WORDS)
+        wanted = 9, b"asimut: limit: bits %d\n" % reached
+        results.note(f"{reached} bits of a netlist's machine", got == wanted, f"came to {shown(*got)}, wanted {wanted}")
+
+
 def jobs(program, seed, times):
     yield check_large, (program, seed, 16000, 12)
     yield check_long, (program,)
+    yield check_many_bits, (program,)
     yield check_chain, (program, 4000)
     yield check_cut, (program,)
     for check, count in ((check_netlists, NETLISTS), (check_rings, RINGS)):
