@@ -9,9 +9,9 @@ ghost use Rattle.machine_limit.specs.declared.size.TheConstants.{MOST_SIZE};
 ghost use Rattle.vbe_write.specs.Writable.{CanBeVbe};
 ghost use Rattle.boom_run.specs.Boom.{MakesSmaller, IsWrittenAs, IsWithinBudget, IsBudgetStatus, report as report_of};
 
-use machine_limit::check_size;
 use boom_opt::{BoomError, Optimised, optimise};
 use machine_core::{Machine, machine_size};
+use machine_limit::check_size;
 use std::alloc::{AllocError, Global};
 use tool_drive::{Product, Refusal, Status, Tool, Wanted, bytes_at, refused};
 use tool_words::BoomCommand;
