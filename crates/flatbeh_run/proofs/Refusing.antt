@@ -1,5 +1,5 @@
 -- From the refusals of readers and of the netlist's machine to the tool's.
-use Rattle.std.proofs.Common.{◌≡◌, ◌<◌, ◌≤◌, ◌^◌, ℕ, true, List, None, Result, Err, false, sym, ap, ◌∙◌, subst, refl}
+use Rattle.std.proofs.Common.{◌≡◌, ◌<◌, ◌≤◌, ◌^◌, ℕ, true, List, length, None, Result, Err, false, sym, ap, ◌∙◌, subst, refl}
 use Rattle.vlsi_base.specs.declared.fault.FaultKind.TheVariants as kind
 use Rattle.vlsi_base.specs.declared.fault.LimitKind.TheVariants.{Bits}
 use Rattle.vlsi_base.specs.declared.fault.ReadError.{ReadError}
@@ -75,12 +75,12 @@ module _ (c : FlatbehCommand) (source list : List ℕ) (cells : List (List ℕ))
       by_flat e s h k = judged (Flattens c source list cells) (IsToldOf c e) (told_flat e h) s k
 
       module _ (m : Machine) (plain : IsPlain n l) (apart : AreApart n l) (few : bits_of n l < 2 ^ 32) (is : IsFlat n l table m) where
-        pub by_names : 2 ^ 32 ≤ names_count m → (reached : ℕ) (s : Status) → reached ≡ names_count m → s ≡ status.Limit (record { which = Bits; reached = reached })
+        pub by_names : length m.vars ≤ bits_of n l → 2 ^ 32 ≤ names_count m → (reached : ℕ) (s : Status) → reached ≡ names_count m → s ≡ status.Limit (record { which = Bits; reached = reached })
             → IsJudged (Flattens c source list cells) (Err (refusal s None))
-        by_names many reached s same e =
+        by_names numbered many reached s same e =
             subst (λ (s : Status). IsJudged (Flattens c source list cells) (Err (refusal s None)))
             (sym (e ∙ ap (λ (k : ℕ). status.Limit (record { which = Bits; reached = k })) same))
-            (refl, many_names l table n m (record { library = library; pins = pins; netlist = netlist }) plain apart few is many refl)
+            (refl, many_names l table n m (record { library = library; pins = pins; netlist = netlist }) plain apart few is numbered many refl)
 
         pub by_clock : names_count m < 2 ^ 32 → (name : Name) (s : Status) → HasVectorClock m name → MemoryOr s (s ≡ fault_of c kind.ClockUse name) → IsJudged (Flattens c source list cells) (Err (refusal s None))
         by_clock countable name s h k =

@@ -34,7 +34,7 @@ returns-then-names-from c =
     (by_names c.args.command.now c.args.source.now c.args.catal.now c.args.cells.now c.in-Ok.library c.in_ok-table.table c.in-Ok.ensures.ok c.in_ok-table.ensures.table c.in-Ok-read_vst.netlist
     c.in-Ok-read_vst.ensures.accepted c.in-Ok-flatbeh.machine c.in-Ok-flatbeh.ensures.plain c.in-Ok-flatbeh.ensures.apart c.in-Ok-flatbeh.ensures.few
     (c.in-Ok-flatbeh.ensures.machine c.in_ok-table.table c.in_ok-table.ensures.table (c.in-Ok-read_vst.ensures.condition (lists_supplies c.in-Ok.library true c.in_ok-table.table c.in_ok-table.ensures.table)))
-    (omega (arith, c.names_count-names.ensures, c.if-names-from.true, c.from.ensures)) c.names_count-names.result c.too_many.result c.names_count-names.ensures c.too_many.ensures)
+    c.in-Ok-flatbeh.ensures.numbered (omega (arith, c.names_count-names.ensures, c.if-names-from.true, c.from.ensures)) c.names_count-names.result c.too_many.result c.names_count-names.ensures c.too_many.ensures)
 
 pub product-requires-clause-few : goal.product-requires-clause-few
 product-requires-clause-few c = omega (arith, c.names_count-names.ensures, c.if-names-from.false, c.from.ensures)
@@ -59,6 +59,7 @@ returns c = record {
   few = c.in-Ok-flatbeh.ensures.few;
   flat = c.in-Ok-flatbeh.ensures.machine c.in_ok-table.table c.in_ok-table.ensures.table
       (c.in-Ok-read_vst.ensures.condition (lists_supplies c.in-Ok.library true c.in_ok-table.table c.in_ok-table.ensures.table));
+  numbered = c.in-Ok-flatbeh.ensures.numbered;
   countable = omega (arith, c.names_count-names.ensures, c.if-names-from.false, c.from.ensures);
   checked = subst IsChecked c.machine.view_is c.machine.invariant;
   names = c.in-Ok-flatbeh.ensures.text (c.netlist_has_words.ensures c.args.source.now c.in_ok-table.table c.in-Ok-read_vst.netlist c.in-Ok-read_vst.ensures.accepted) c.in_default.ensures;
