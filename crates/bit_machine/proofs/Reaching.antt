@@ -1,5 +1,5 @@
 -- What is asked where the parts of a machine are made.
-use Rattle.std.proofs.Common.{◌≡◌, ◌<◌, ◌^◌, ℕ, List, map, length, refl, sym, ap, subst, arith}
+use Rattle.std.proofs.Common.{◌≡◌, ◌<◌, ◌≤◌, ℕ, List, map, length, refl, sym, ap, subst, arith}
 use Rattle.std.specs.List.{All}
 use Rattle.std.proofs.lemmas.List.{length-map}
 use Rattle.vlsi_base.specs.declared.name.Name.{Name}
@@ -91,10 +91,10 @@ finished s name ports clock places vars es rs is l fits parts e = (checked made,
   }
 
 -- a machine's names are no more than the bits
-pub vars_few : (s : System) (places : List ℕ) (vars : List Name) → IsSystem s → IsLaid s places → length s.names < 2 ^ 32 → vars ≡ map (name_at s.names) (var_bits s places)
-    → length vars < 2 ^ 32
-vars_few s places vars is l few e =
+pub vars_few : (s : System) (places : List ℕ) (vars : List Name) → IsSystem s → IsLaid s places → vars ≡ map (name_at s.names) (var_bits s places)
+    → length vars ≤ length s.names
+vars_few s places vars is l e =
     let fit = few_below (length s.names) (var_bits s places) (bits_different s places is l) (λ v i. bits_inside s places is l v i) in
     let count = length-map (var_bits s places) (name_at s.names) in
     let same = ap (λ (ns : List Name). length ns) e in
-    omega (arith, fit, count, same, few)
+    omega (arith, fit, count, same)

@@ -1,5 +1,5 @@
 // The machine of numbered bits.
-ghost use Rattle.std.specs.Prelude.{◌≡◌, ◌<◌, ◌^◌, ◌++◌, map, length, IfOk};
+ghost use Rattle.std.specs.Prelude.{◌≡◌, ◌<◌, ◌≤◌, ◌^◌, ◌++◌, map, length, IfOk};
 ghost use Rattle.machine_core.specs.Checked.{IsChecked};
 ghost use Rattle.machine_core.specs.View.{machine_of};
 ghost use Rattle.source_bits.specs.Driven.{driven_view, stored_view};
@@ -76,7 +76,7 @@ pub fn machine_of_bits(
     requires ports { FitsPorts ports clock (system_of system.now) }
     requires few { length system.now.names < 2 ^ 32 }
     ensures machine { IfOk result (λ m. IsMachineOfBits name ports clock (system_of system.now) m) }
-    ensures few { IfOk result (λ m. length m.vars < 2 ^ 32) }
+    ensures few { IfOk result (λ m. length m.vars ≤ length system.now.names) }
 {
     let order = driven_order(alloc, system)?;
     let bits = var_bits(alloc, system, &order)?;

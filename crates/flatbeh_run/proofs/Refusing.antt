@@ -1,6 +1,7 @@
 -- From the refusals of readers and of the netlist's machine to the tool's.
-use Rattle.std.proofs.Common.{◌≡◌, ◌<◌, ◌^◌, ℕ, true, List, None, Result, Err, false, sym, subst, refl}
+use Rattle.std.proofs.Common.{◌≡◌, ◌<◌, ◌≤◌, ◌^◌, ℕ, true, List, length, None, Result, Err, false, sym, ap, ◌∙◌, subst, refl}
 use Rattle.vlsi_base.specs.declared.fault.FaultKind.TheVariants as kind
+use Rattle.vlsi_base.specs.declared.fault.LimitKind.TheVariants.{Bits}
 use Rattle.vlsi_base.specs.declared.fault.ReadError.{ReadError}
 use Rattle.vlsi_base.specs.declared.name.Name.{Name}
 use Rattle.machine_meaning.specs.Machine.{Machine}
@@ -26,7 +27,7 @@ use Rattle.tool_drive.specs.declared.tool.Product.{Product}
 use Rattle.tool_drive.specs.declared.tool.Refusal.{Refusal}
 use Rattle.tool_drive.specs.Table.{IsJudged, IsFair, refusal}
 use Rattle.tool_drive.specs.Refusals.{MemoryOr, OfFile, of_file, judged_file}
-use Rattle.flatbeh_run.specs.Flatbeh.{HasVectorClock, fault_of, no_library, bad_netlist, no_behaviour, twice, many_bits, vector_clock, Flattens, IsToldOf}
+use Rattle.flatbeh_run.specs.Flatbeh.{HasVectorClock, fault_of, no_library, bad_netlist, no_behaviour, twice, many_bits, many_names, vector_clock, names_count, Flattens, IsToldOf}
 
 -- a status for which P holds, or out of memory, is one that a tool may answer
 judged : (A : Result Product Refusal → Type 0) (P : Status → Type 0) → ((t : Status) → P t → IsFair t None (A (Err (refusal t None)))) → (s : Status) → MemoryOr s (P s)
@@ -74,9 +75,16 @@ module _ (c : FlatbehCommand) (source list : List ℕ) (cells : List (List ℕ))
       by_flat e s h k = judged (Flattens c source list cells) (IsToldOf c e) (told_flat e h) s k
 
       module _ (m : Machine) (plain : IsPlain n l) (apart : AreApart n l) (few : bits_of n l < 2 ^ 32) (is : IsFlat n l table m) where
-        pub by_clock : (name : Name) (s : Status) → HasVectorClock m name → MemoryOr s (s ≡ fault_of c kind.ClockUse name) → IsJudged (Flattens c source list cells) (Err (refusal s None))
-        by_clock name s h k =
+        pub by_names : length m.vars ≤ bits_of n l → 2 ^ 32 ≤ names_count m → (reached : ℕ) (s : Status) → reached ≡ names_count m → s ≡ status.Limit (record { which = Bits; reached = reached })
+            → IsJudged (Flattens c source list cells) (Err (refusal s None))
+        by_names numbered many reached s same e =
+            subst (λ (s : Status). IsJudged (Flattens c source list cells) (Err (refusal s None)))
+            (sym (e ∙ ap (λ (k : ℕ). status.Limit (record { which = Bits; reached = k })) same))
+            (refl, many_names l table n m (record { library = library; pins = pins; netlist = netlist }) plain apart few is numbered many refl)
+
+        pub by_clock : names_count m < 2 ^ 32 → (name : Name) (s : Status) → HasVectorClock m name → MemoryOr s (s ≡ fault_of c kind.ClockUse name) → IsJudged (Flattens c source list cells) (Err (refusal s None))
+        by_clock countable name s h k =
             judged (Flattens c source list cells) (λ t. t ≡ fault_of c kind.ClockUse name)
             (λ t e.
             subst (λ (s : Status). IsFair s None (Flattens c source list cells (Err (refusal s None)))) (sym e)
-            (refl, vector_clock l table n m name (record { library = library; pins = pins; netlist = netlist }) plain apart few is h refl)) s k
+            (refl, vector_clock l table n m name (record { library = library; pins = pins; netlist = netlist }) plain apart few is countable h refl)) s k

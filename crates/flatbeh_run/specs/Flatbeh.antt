@@ -1,5 +1,5 @@
 -- What `flatbeh` reads and answers.
-use Rattle.std.specs.Prelude.{◌≡◌, ℕ, ◌<◌, ◌-◌, ◌^◌, min, true, false, List, [], ◌∷◌, ◌++◌, get_or, codes, None, Some, Result, Ok, Err}
+use Rattle.std.specs.Prelude.{◌≡◌, ℕ, ◌<◌, ◌≤◌, ◌+◌, ◌-◌, ◌^◌, min, length, true, false, List, [], ◌∷◌, ◌++◌, get_or, codes, None, Some, Result, Ok, Err}
 use Rattle.std.specs.Fmt.{decimal}
 use Rattle.vlsi_base.specs.declared.limits.TheConstants.{MOST_NETLIST_BYTES}
 use Rattle.vlsi_base.specs.declared.fault.FaultKind.{FaultKind}
@@ -49,6 +49,10 @@ flatbeh_plan c = record {
   more = λ read. cell_files c.library (cells_in (get_or read 1 []));
 }
 
+-- a machine's names and ports, which a text has to number
+abbrev pub names_count : Machine → ℕ
+names_count m = length m.vars + length m.ports
+
 -- how large a machine is, or the greatest number of 64 bits where that is less
 abbrev pub report : Machine → List ℕ
 report m = codes "size " ++ (decimal (min (machine_size m) (2 ^ 64 - 1)) ++ 10 ∷ [])
@@ -66,7 +70,8 @@ pub record AreRead (source catal : List ℕ) (cells : List (List ℕ)) (l : Libr
   pub netlist : IsVst source table n
 
 -- Library and netlist are read, each instance is a gate or a plain flip-flop, no flip-flop has the text of a port, 32 bits can number
--- the bits of the netlist's machine, and that machine by the names of its flip-flops is written.
+-- the bits of the netlist's machine and its names and ports together, and that machine by the names of its flip-flops, which has no
+-- more names than there are bits, is written.
 pub record IsFlattening (c : FlatbehCommand) (source catal : List ℕ) (cells : List (List ℕ)) (p : Product) : Type 0 where
   pub l : Library
   pub table : List ModelPins
@@ -77,6 +82,8 @@ pub record IsFlattening (c : FlatbehCommand) (source catal : List ℕ) (cells : 
   pub apart : AreApart n l
   pub few : bits_of n l < 2 ^ 32
   pub flat : IsFlat n l table m
+  pub numbered : length m.vars ≤ bits_of n l
+  pub countable : names_count m < 2 ^ 32
   pub checked : IsChecked m
   pub names : CanBeVbe m
   pub written : IsWrittenAs c.out m p
@@ -91,8 +98,9 @@ abbrev pub fault_of : FlatbehCommand → FaultKind → Name → Status
 fault_of c k name = status.Source c.source (record { line = 1; kind = k; names = name ∷ [] })
 
 -- What is refused, in this order: the library, the netlist, an instance that is neither a gate nor a plain flip-flop, a flip-flop with
--- the text of a port, a machine with more bits than 32 bits can number, and a clock that is a bit of a vector, which a data-flow text
--- can't have.
+-- the text of a port, a machine with more bits, or with more names and ports together, than 32 bits can number, and a clock that is a
+-- bit of a vector, which a data-flow text can't have. The machine with more names and ports has no more names than the netlist's
+-- machine has bits: none is padded.
 pub data IsRefused (c : FlatbehCommand) (source catal : List ℕ) (cells : List (List ℕ)) (s : Status) : Type 0 where
   no_library : (e : LibError) → IsRefusedLibrary false catal cells e → s ≡ status_of e → IsRefused c source catal cells s
   bad_netlist : (l : Library) (table : List ModelPins) → IsLibraryOf false catal cells l → IsTableOf l true table
@@ -104,8 +112,11 @@ pub data IsRefused (c : FlatbehCommand) (source catal : List ℕ) (cells : List 
   many_bits : (l : Library) (table : List ModelPins) (n : Netlist) (reached : ℕ) → AreRead source catal cells l table n → IsPlain n l
       → AreApart n l → HasTooManyBits n l reached → s ≡ status.Limit (record { which = Bits; reached = reached })
       → IsRefused c source catal cells s
+  many_names : (l : Library) (table : List ModelPins) (n : Netlist) (m : Machine) → AreRead source catal cells l table n
+      → IsPlain n l → AreApart n l → bits_of n l < 2 ^ 32 → IsFlat n l table m → length m.vars ≤ bits_of n l
+      → 2 ^ 32 ≤ names_count m → s ≡ status.Limit (record { which = Bits; reached = names_count m }) → IsRefused c source catal cells s
   vector_clock : (l : Library) (table : List ModelPins) (n : Netlist) (m : Machine) (name : Name) → AreRead source catal cells l table n
-      → IsPlain n l → AreApart n l → bits_of n l < 2 ^ 32 → IsFlat n l table m → HasVectorClock m name
+      → IsPlain n l → AreApart n l → bits_of n l < 2 ^ 32 → IsFlat n l table m → names_count m < 2 ^ 32 → HasVectorClock m name
       → s ≡ fault_of c kind.ClockUse name → IsRefused c source catal cells s
 
 -- the machine is written and its size is printed, or one of these refusals

@@ -4,7 +4,7 @@ ghost use Rattle.vlsi_base.specs.Names.{scalar};
 ghost use Rattle.tool_drive.specs.Refusals.{MemoryOr};
 ghost use Rattle.tool_drive.specs.Table.{IsJudged};
 ghost use Rattle.net_flat.specs.Flat.{HasScalarClock};
-ghost use Rattle.flatbeh_run.specs.Flatbeh.{netlist_file as file_of, fault_of, HasVectorClock, Flattens, IsToldOf};
+ghost use Rattle.flatbeh_run.specs.Flatbeh.{netlist_file as file_of, names_count as count_of, fault_of, HasVectorClock, Flattens, IsToldOf};
 
 use crate::laws::netlist_has_words;
 use crate::product::product;
@@ -27,9 +27,9 @@ use vst_io::read_vst;
 /// All files are read first: SOURCE, CATAL, and the behaviour and the layout of each cell that this uses. Then it is refused, in
 /// this order: by `Library`, or a limit of CATAL or of a cell, at the first line or cell at fault; by `Source`, or a limit, of
 /// SOURCE; by `NoBehaviour`, at the first instance whose cell is neither a gate nor a plain flip-flop; by `Source` of `Twice`, at the
-/// first flip-flop with the text of a port; by `Limit` of `Bits`, where 32 bits can't number the bits of the netlist's machine; by
-/// `Source` of `ClockUse`, where the clock is a bit of a vector, which a data-flow text can't have. Memory goes by the files, the
-/// netlist and its machine.
+/// first flip-flop with the text of a port; by `Limit` of `Bits`, where 32 bits can't number the bits of the netlist's machine, or its
+/// names and ports together, which a text has to number; by `Source` of `ClockUse`, where the clock is a bit of a vector, which a
+/// data-flow text can't have. Memory goes by the files, the netlist and its machine.
 #[derive(Drop)]
 pub struct Flatbeh<'a> {
     pub command: &'a FlatbehCommand,
@@ -68,6 +68,16 @@ fn fault(alloc: Global, command: &FlatbehCommand, kind: FaultKind, name: Name) -
     }
 }
 
+// The status of more than 32 bits can number.
+fn too_many(reached: u64) -> Status
+    ensures { result ≡ Status.Limit (record { which = LimitKind.Bits; reached = reached }) }
+{
+    Status::Limit(Limit {
+        which: LimitKind::Bits,
+        reached,
+    })
+}
+
 // How a refusal of the netlist is told.
 fn flat_status(alloc: Global, command: &FlatbehCommand, error: FlatError) -> Status
     ensures { MemoryOr result (IsToldOf command.now error result) }
@@ -76,11 +86,15 @@ fn flat_status(alloc: Global, command: &FlatbehCommand, error: FlatError) -> Sta
         FlatError::Memory => Status::Memory,
         FlatError::NoBehaviour(model) => Status::No(Verdict::NoBehaviour(model)),
         FlatError::Twice(text) => fault(alloc, command, FaultKind::Twice, Name::scalar(text)),
-        FlatError::TooManyBits(reached) => Status::Limit(Limit {
-            which: LimitKind::Bits,
-            reached,
-        }),
+        FlatError::TooManyBits(reached) => too_many(reached),
     }
+}
+
+// A machine's names and ports, which a text has to number.
+fn names_count(machine: &Machine) -> u64
+    ensures { result ≡ count_of machine.now }
+{
+    machine.vars().as_slice().len() as u64 + machine.ports().as_slice().len() as u64
 }
 
 // The clock, where it is a bit of a vector.
@@ -128,6 +142,11 @@ fn flattened(
         Ok(machine) => machine,
         Err(error) => return Err(Refusal::plain(flat_status(alloc, command, error))),
     };
+    // More names and ports than a text can number are told before a vector clock.
+    let names = names_count(&machine);
+    if names > u64::from(u32::MAX) {
+        return Err(Refusal::plain(too_many(names)));
+    }
     if let Some(name) = vector_clock(&machine) {
         return Err(Refusal::plain(clock_status(alloc, command, name)));
     }

@@ -1,5 +1,5 @@
 // What is written and printed of a machine.
-ghost use Rattle.std.specs.Prelude.{◌≡◌, IfOk};
+ghost use Rattle.std.specs.Prelude.{◌≡◌, ◌<◌, ◌+◌, ◌^◌, length, IfOk};
 ghost use Rattle.vbe_write.specs.Writable.{CanBeVbe};
 ghost use Rattle.flatbeh_run.specs.Flatbeh.{report as report_of, IsWrittenAs};
 
@@ -8,7 +8,6 @@ use std::alloc::{AllocError, Global};
 use tool_drive::Product;
 use vbe_write::write_vbe;
 use vlsi_base::{FileBytes, FileName, Text, push_u64};
-use vlsi_model::few;
 
 // How large a machine is.
 fn report(alloc: Global, machine: &Machine) -> Result<FileBytes, AllocError>
@@ -22,17 +21,16 @@ fn report(alloc: Global, machine: &Machine) -> Result<FileBytes, AllocError>
     Ok(text)
 }
 
-/// The machine's file, NAME.vbe, and what is printed. More names than 32 bits can number are answered as out of memory.
+/// The machine's file, NAME.vbe, and what is printed.
 pub(crate) fn product(
     alloc: Global,
     out: &FileName,
     machine: &Machine,
 ) -> Result<Product, AllocError>
-    requires { CanBeVbe machine.now }
+    requires names { CanBeVbe machine.now }
+    requires few { length machine.now.vars + length machine.now.ports < 2 ^ 32 }
     ensures { IfOk result (λ p. IsWrittenAs out.now machine.now p) }
 {
-    let names = machine.vars().as_slice().len();
-    few(names + machine.ports().as_slice().len())?;
     let file = write_vbe(alloc, machine)?;
     let mut name = out.copy(alloc)?;
     name.append(b".vbe")?;

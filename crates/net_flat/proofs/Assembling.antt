@@ -133,12 +133,18 @@ module _ (m : Machine) (names : List Name) (s : System) (checked : IsChecked m) 
   pub system_is : IsSystem s
   system_is = subst IsSystem (sym are.is) (is_system this)
 
-  pub system_few : length m.vars < 2 ^ 32 → length s.names < 2 ^ 32
-  system_few few =
+  names_are : length s.names ≡ length m.vars
+  names_are =
       let same = ap (λ (x : System). length x.names) are.is in
       let count = names_count this in
       let vars = vars_are m checked in
-      omega (arith, same, count, vars, few)
+      omega (arith, same, count, vars)
+
+  pub system_few : length m.vars < 2 ^ 32 → length s.names < 2 ^ 32
+  system_few few = subst (λ (k : ℕ). k < 2 ^ 32) (sym names_are) few
+
+  pub vars_few : (o : Machine) → length o.vars ≤ length s.names → length o.vars ≤ length m.vars
+  vars_few o few = subst (λ (k : ℕ). length o.vars ≤ k) names_are few
 
   pub system_falls : Falls s.driven
   system_falls = subst (λ (x : System). Falls x.driven) (sym are.is) (falls this)

@@ -1,5 +1,5 @@
 // A netlist as a machine whose registers have its instances' names.
-ghost use Rattle.std.specs.Prelude.{◌≡◌, ◌<◌, ◌^◌, IfOk, IfErr, OnOk};
+ghost use Rattle.std.specs.Prelude.{◌≡◌, ◌<◌, ◌≤◌, ◌^◌, length, IfOk, IfErr, OnOk};
 ghost use Rattle.net_machine.specs.Signals.{MeetsConditionWith};
 ghost use Rattle.net_machine.specs.Bits.{bits_of};
 ghost use Rattle.net_flat.specs.Parts.{registers_of};
@@ -59,6 +59,7 @@ pub fn flatbeh(alloc: Global, netlist: &Netlist, library: &Library) -> Result<Ma
     ensures plain { OnOk result (IsPlain netlist.now library.now) }
     ensures apart { OnOk result (AreApart netlist.now library.now) }
     ensures few { OnOk result (bits_of netlist.now library.now < 2 ^ 32) }
+    ensures numbered { IfOk result (λ m. length m.vars ≤ bits_of netlist.now library.now) }
     ensures refused { IfErr result (IsFlatRefusal netlist.now library.now) }
 {
     // What is known of each netlist, and of each machine in order.

@@ -251,7 +251,8 @@ fn copied_name(alloc: Global, name: Option<&Name>) -> Result<Option<Name>, Alloc
 pub fn named(alloc: Global, machine: &Machine, names: &[Name]) -> Result<Machine, AllocError>
     requires free { AreFree machine.now names.now }
     requires few { length machine.now.vars < 2 ^ 32 }
-    ensures { IfOk result (λ o. IsRenamed machine.now names.now o) }
+    ensures renamed { IfOk result (λ o. IsRenamed machine.now names.now o) }
+    ensures numbered { IfOk result (λ o. length o.vars ≤ length machine.now.vars) }
 {
     let bits = renamed_bits(alloc, machine, names)?;
     let name = machine.name().copy(alloc)?;

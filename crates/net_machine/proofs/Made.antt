@@ -1,5 +1,5 @@
 -- What machines of netlists rest on, from what is known of the netlist and of the library.
-use Rattle.std.proofs.Common.{◌≡◌, ℕ, zero, suc, ◌<◌, ◌^◌, Bool, true, false, cond, ◌&&◌, List, [], ◌∷◌, length, Option, None, Some, refl, sym, ap, ◌∙◌, subst, arith}
+use Rattle.std.proofs.Common.{◌≡◌, ℕ, zero, suc, ◌<◌, ◌≤◌, ◌^◌, Bool, true, false, cond, ◌&&◌, List, [], ◌∷◌, length, Option, None, Some, refl, sym, ap, ◌∙◌, subst, arith}
 use Rattle.vlsi_base.specs.declared.name.Name.{Name}
 use Rattle.vlsi_base.specs.declared.name.Port.{Port}
 use Rattle.vlsi_base.specs.declared.name.Terminal.{Terminal}
@@ -140,11 +140,14 @@ module _ (n : InMemory) (l : Library) (clock : Option Name) (b : BitSystem) (g :
   pub system_is : IsSystem (system_of b)
   system_is = subst IsSystem (sym same) (is_system this)
 
+  names_are : length (system_of b).names ≡ bits_of n l
+  names_are = ap (λ (s : System). length s.names) same ∙ names_count this
+
   pub system_few : bits_of n l < 2 ^ 32 → length (system_of b).names < 2 ^ 32
-  system_few few =
-      let same_many = ap (λ (s : System). length s.names) same in
-      let many = names_count this in
-      omega (arith, same_many, many, few)
+  system_few few = subst (λ (k : ℕ). k < 2 ^ 32) (sym names_are) few
+
+  pub vars_few : (m : Machine) → length m.vars ≤ length b.names → length m.vars ≤ bits_of n l
+  vars_few m few = subst (λ (k : ℕ). length m.vars ≤ k) names_are few
 
   pub system_falls : Falls (system_of b).driven
   system_falls = subst (λ (s : System). Falls s.driven) (sym same) (falls this (class_ranks this))

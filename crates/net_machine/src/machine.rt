@@ -1,5 +1,5 @@
 // A netlist of cells as a machine.
-ghost use Rattle.std.specs.Prelude.{◌≡◌, ◌<◌, ◌^◌, length, IfOk, IfErr, OnOk};
+ghost use Rattle.std.specs.Prelude.{◌≡◌, ◌<◌, ◌≤◌, ◌^◌, length, IfOk, IfErr, OnOk};
 ghost use Rattle.net_machine.specs.Signals.{signal_ports, MeetsConditionWith, HasBehaviour};
 ghost use Rattle.net_machine.specs.Bits.{bits_of};
 ghost use Rattle.net_machine.specs.Step.{IsMachineWith, IsInOrderWith};
@@ -55,7 +55,7 @@ pub fn machine_of(
     ensures order { IfOk result (λ m. IsInOrderWith netlist.now library.now m) }
     ensures known { OnOk result (HasBehaviour netlist.now library.now) }
     ensures few { OnOk result (bits_of netlist.now library.now < 2 ^ 32) }
-    ensures numbered { IfOk result (λ m. length m.vars < 2 ^ 32) }
+    ensures numbered { IfOk result (λ m. length m.vars ≤ bits_of netlist.now library.now) }
     ensures refused { IfErr result (λ e. IsMachineRefusal netlist.now library.now e) }
 {
     // Its classes aren't read here: the call says that the netlist is sound.

@@ -1,4 +1,4 @@
-use Rattle.std.proofs.Common.{List, ℕ, length, map, ap, subst, refl, arith}
+use Rattle.std.proofs.Common.{List, length, map, ap, subst, refl, arith}
 use Rattle.std.proofs.lemmas.List.{length-map}
 use Rattle.bool_expr.specs.View.{view}
 use Rattle.machine_core.proofs.Values.{In-right}

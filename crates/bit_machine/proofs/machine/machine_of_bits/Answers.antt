@@ -1,4 +1,4 @@
-use Rattle.std.proofs.Common.{◌<◌, ◌^◌, ℕ, List, length, map, sym, ap, ◌∙◌, subst}
+use Rattle.std.proofs.Common.{◌≤◌, ℕ, List, length, map, sym, ap, ◌∙◌, subst}
 use Rattle.vlsi_base.specs.declared.name.Name.{Name}
 use Rattle.machine_meaning.specs.Machine.{Machine}
 use Rattle.vlsi_model.specs.Numbered.{name_at}
@@ -36,7 +36,7 @@ pub returns-clause-few : goal.returns-clause-few
 returns-clause-few c =
     let s = system_of c.args.system.now in
     let order = c.in_ok-order.order.items in
-    subst (λ (m : Machine). length m.vars < 2 ^ 32) (sym c.new-2.ensures)
-    (vars_few s order c.new.result c.requires.system c.in_ok-order.ensures c.requires.few
+    subst (λ (m : Machine). length m.vars ≤ length s.names) (sym c.new-2.ensures)
+    (vars_few s order c.new.result c.requires.system c.in_ok-order.ensures
     (c.new.ensures ∙ c.in_ok-vars.ensures ∙ ap (λ (ns : List Name). map (name_at ns) c.deref-2.result.now) c.as_slice.ensures
     ∙ ap (map (name_at c.args.system.now.names)) (c.deref-2.ensures.value ∙ c.in_ok-bits.ensures ∙ ap (var_bits s) c.deref.ensures.value)))

@@ -1,4 +1,4 @@
-use Rattle.std.proofs.Common.{◌≡◌, ◌∙◌, List, ap, sym, subst}
+use Rattle.std.proofs.Common.{◌≡◌, ◌∙◌, List, ap, sym, subst, arith}
 use Rattle.vlsi_base.specs.declared.name.Name.{Name}
 use Rattle.net_machine.specs.Answers.{IsMachineRefusal}
 use Rattle.net_machine.specs.declared.error.NetMachineError.{NetMachineError}
@@ -27,15 +27,21 @@ named-requires-clause-free c =
     subst (λ (ns : List Name). AreFree c.in-Ok.machine ns) (sym (c.deref.ensures.value ∙ c.in_ok-names.ensures.names))
     (are_free c.args.netlist.now c.args.library.now c.in-Ok.machine c.classes.ensures.sound c.requires c.in_ok-names.ensures.plain c.in_ok-names.ensures.apart c.in-Ok.ensures.order)
 
+pub named-requires-clause-few : goal.named-requires-clause-few
+named-requires-clause-few c = omega (arith, c.in-Ok.ensures.numbered, c.in-Ok.ensures.few)
+
+pub returns-clause-numbered : goal.returns-clause-numbered
+returns-clause-numbered c = omega (arith, c.in_ok-made.ensures.numbered, c.in-Ok.ensures.numbered)
+
 pub returns-clause-machine : goal.returns-clause-machine
 returns-clause-machine c = λ table table_is condition.
     is_flat c.settles_once.ensures c.args.netlist.now c.args.library.now table c.in-Ok.machine c.in_ok-made.made c.vars.ensures.checked c.in_ok-names.ensures.plain
     (c.in-Ok.ensures.order table table_is condition)
-    (subst (λ (ns : List Name). IsRenamed c.in-Ok.machine ns c.in_ok-made.made) (c.deref.ensures.value ∙ c.in_ok-names.ensures.names) c.in_ok-made.ensures)
+    (subst (λ (ns : List Name). IsRenamed c.in-Ok.machine ns c.in_ok-made.made) (c.deref.ensures.value ∙ c.in_ok-names.ensures.names) c.in_ok-made.ensures.renamed)
 
 pub returns-clause-text : goal.returns-clause-text
 returns-clause-text c =
     let table = c.requires.0 in
     let is = c.in-Ok.ensures.order c.requires.0 c.requires.1 c.requires.2 in
     let flat = returns-clause-machine c c.requires.0 c.requires.1 c.requires.2 in
-    can_be_text c.args.netlist.now c.args.library.now c.in_ok-made.made c.in_ok-made.ensures.checked flat.of_netlist.name flat.of_netlist.ports (λ name. (flat.registers name).0) c.in_ok-names.ensures.apart
+    can_be_text c.args.netlist.now c.args.library.now c.in_ok-made.made c.in_ok-made.ensures.renamed.checked flat.of_netlist.name flat.of_netlist.ports (λ name. (flat.registers name).0) c.in_ok-names.ensures.apart

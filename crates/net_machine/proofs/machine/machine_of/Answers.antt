@@ -5,7 +5,7 @@ use Rattle.net_core.specs.declared.frame.Node.{Node}
 use Rattle.net_machine.specs.Signals.{signal_ports}
 use Rattle.net_machine.specs.Gathered.{KnowsModels, AreBitsOf}
 use Rattle.net_machine.proofs.Knowing.{AreNodes, knows_models, has_behaviour, refused}
-use Rattle.net_machine.proofs.Made.{Gathered, all_known, system_is, system_few, system_falls, system_fits, machine_made, in_order_made}
+use Rattle.net_machine.proofs.Made.{Gathered, all_known, system_is, system_few, vars_few, system_falls, system_fits, machine_made, in_order_made}
 use Rattle.net_machine.proofs.machine.machine_of.Goals as goal
 
 pub returns-in-Some-clause-refused : goal.returns-in-Some-clause-refused
@@ -116,6 +116,9 @@ pub returns-clause-order : goal.returns-clause-order
 returns-clause-order c =
     in_order_made c.args.netlist.now c.args.library.now c.in_ok-clock.clock c.in_ok-system.system (gathered_last c) c.in_ok-name.name c.in_ok-ports.ports c.in_ok-machine.machine (c.in_ok-name.ensures ∙ c.name.ensures)
     (c.in_ok-ports.ensures ∙ ap signal_ports c.ports.ensures) c.in_ok-machine.ensures.machine
+
+pub returns-clause-numbered : goal.returns-clause-numbered
+returns-clause-numbered c = vars_few c.args.netlist.now c.args.library.now c.in_ok-clock.clock c.in_ok-system.system (gathered_last c) c.in_ok-machine.machine c.in_ok-machine.ensures.few
 
 pub returns-clause-known : goal.returns-clause-known
 returns-clause-known c = (gathered_last c).known
