@@ -64,7 +64,7 @@ pub record AreRead (t : Texts) (l : Library) (table : List ModelPins) (n : Netli
   pub netlist : IsVst t.source table n
   pub for_ports : IsPatternText t.patterns (signal_ports n.ports) p
 
--- No cell is opaque, 32 bits can number the bits of the netlist's machine, the patterns come out as they expect, and this is their
+-- No cell is opaque, the netlist's machine has fewer than 2^32 bits, the patterns come out as they expect, and this is their
 -- text with every output filled in.
 pub record IsSimulation (t : Texts) (text : List ℕ) : Type 0 where
   pub l : Library
@@ -79,7 +79,7 @@ pub record IsSimulation (t : Texts) (text : List ℕ) : Type 0 where
   pub text_is : text ≡ text_of out
 
 -- What is refused, in this order: the library, the netlist, the patterns, an instance of a cell of which nothing is known, a machine
--- with more bits than 32 bits can number, the first bit that isn't what the patterns expect.
+-- of 2^32 bits or more, the first bit that isn't what the patterns expect.
 pub data IsRefused (c : AsimutNetlistCommand) (t : Texts) (s : Status) : Type 0 where
   no_library : (e : LibError) → IsRefusedLibrary false t.catal t.cells e → s ≡ status_of e → IsRefused c t s
   bad_netlist : (l : Library) (table : List ModelPins) → AreCells t l table → OfFile c.source (IsVstRefusal t.source table) s → IsRefused c t s
@@ -105,7 +105,7 @@ texts first more = record { source = get_or first 0 []; patterns = get_or first 
 abbrev pub netlist_answers : AsimutNetlistCommand → Inputs → Result Product Refusal → Type 0
 netlist_answers c i r = Simulates c (texts i.first i.more) r
 
--- so it is with all texts of these cells, of this netlist of them, and of these patterns
+-- so it is with all texts of these cells, of this netlist of them, and of these patterns, where the netlist meets what the stages ask
 abbrev pub ForTexts : Library → Netlist → List ℕ → (Texts → Type 0) → Type 0
 ForTexts l n patterns P =
     (t : Texts) (table : List ModelPins) → AreCells t l table → IsVst t.source table n → MeetsCondition table n → t.patterns ≡ patterns → P t

@@ -24,8 +24,8 @@ use vst_io::read_vst;
 ///
 /// All files are read first: SOURCE, PATTERNS, CATAL, and the behaviour and the layout of each cell that this uses. Then it is
 /// refused, in this order: by `Library`, or a limit of CATAL or of a cell; by `Source`, or a limit, of SOURCE, then of PATTERNS; by
-/// `NoBehaviour`, at the first instance whose cell is opaque; by `Limit` of `Bits`, where 32 bits can't number the bits of the netlist's
-/// machine; by `Differs`, at the first bit. Memory goes by the files, the netlist and its machine.
+/// `NoBehaviour`, at the first instance whose cell is opaque; by `Limit` of `Bits`, where the netlist's machine has 2^32 bits or
+/// more; by `Differs`, at the first bit. Memory goes by the files, the netlist and its machine.
 #[derive(Drop)]
 pub struct AsimutNetlist<'a> {
     pub command: &'a AsimutNetlistCommand,

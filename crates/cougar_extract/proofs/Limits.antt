@@ -1,4 +1,4 @@
--- That 32 bits can number the shapes and the terminals of a figure whose lines and a library whose cells are read as slices.
+-- Where the counts of slices are below 2^32, so are the shapes and terminals of the figure and the library that they are read from.
 use Rattle.std.proofs.Common.{◌≡◌, ◌↔◌, ℕ, ◌+◌, ◌-◌, ◌<◌, ◌^◌, min, List, length, ap, arith}
 use Rattle.vlsi_base.specs.declared.name.Name.{Name}
 use Rattle.vlsi_base.specs.Member.{In, AllDifferent}

@@ -1,5 +1,5 @@
--- Why a layout has no netlist: an instance of an unknown cell, more shapes or more ports and pins than 32 bits can number, or two
--- ports that are joined.
+-- Why a layout has no netlist: an instance of an unknown cell, 2^32 shapes or more, 2^32 ports and pins or more, or two ports that are
+-- joined.
 use Rattle.std.specs.Prelude.{◌≡◌, ◌≢◌, ◌⊎◌, ◌↔◌, false, ℕ, ◌+◌, ◌-◌, ◌<◌, ◌≤◌, ◌^◌, min, List, ◌∷◌, ◌++◌, length, map, sum_by, option_map, None, Some, slice_get, slice_index_or}
 use Rattle.vlsi_base.specs.declared.fault.Limit.{Limit}
 use Rattle.vlsi_base.specs.declared.fault.LimitKind.TheVariants as kind
@@ -32,7 +32,7 @@ pub record IsFirstUnknown (instances : List Placed) (l : Library) (model : List 
 
 -- ---- limits
 
--- the layout has more shapes than 32 bits can number, so many
+-- the layout has 2^32 shapes or more, so many
 pub record IsTooLarge (items : List Item) (l : Library) (limit : Limit) : Type 0 where
   pub many : 2 ^ 32 ≤ length (shapes items l)
   pub limit_is : limit ≡ record { which = kind.Size; reached = length (shapes items l) }
@@ -48,24 +48,24 @@ pub record HasTerminals (items : List Item) (l : Library) (count : ℕ) : Type 0
   pub same : (name : Name) → In name names ↔ In name (connector_names items)
   pub count_is : count ≡ length names + pin_count items l
 
--- there are more than 32 bits can number: so many, or the greatest number of 64 bits where that is less
+-- there are 2^32 or more: so many, or the greatest number of 64 bits where that is less
 pub record HasTooManyTerminals (items : List Item) (l : Library) (limit : Limit) : Type 0 where
   pub count : ℕ
   pub terminals : HasTerminals items l count
   pub many : 2 ^ 32 ≤ count
   pub limit_is : limit ≡ record { which = kind.Bits; reached = min count (2 ^ 64 - 1) }
 
--- more shapes, or else more ports and pins
+-- too many shapes, or else too many ports and pins
 abbrev pub IsOverLimit : List Item → Library → Limit → Type 0
 IsOverLimit items l limit = IsTooLarge items l limit ⊎ ((length (shapes items l) < 2 ^ 32) × HasTooManyTerminals items l limit)
 
--- 32 bits can number the ports and pins
+-- the ports and pins are fewer than 2^32
 pub record HasFewTerminals (items : List Item) (l : Library) : Type 0 where
   pub count : ℕ
   pub terminals : HasTerminals items l count
   pub few : count < 2 ^ 32
 
--- and the shapes
+-- the shapes are fewer than 2^32, and so are the ports and pins
 abbrev pub CanBeNumbered : List Item → Library → Type 0
 CanBeNumbered items l = (length (shapes items l) < 2 ^ 32) × HasFewTerminals items l
 

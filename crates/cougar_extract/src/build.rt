@@ -119,7 +119,7 @@ fn figure_text(alloc: Global, name: &Option<Name>) -> Result<Text, AllocError>
 }
 
 /// The netlist of a figure whose connectors have these names and whose instances are these cells, where connectors with one number
-/// are joined. Takes memory for it, for the pairs that are joined, and for as many places as the greatest number.
+/// are joined. Takes memory for it, for the pairs that are joined, and for a place for each number up to the greatest.
 pub(crate) fn netlist_of(
     alloc: Global,
     figure: &Figure,

@@ -23,7 +23,7 @@ pub enum ExtractError {
     Memory,
     /// The model of the first instance whose model isn't in the library.
     UnknownCell(Text),
-    /// More shapes, or more ports and pins, than 32 bits can number.
+    /// 2^32 shapes or more, or 2^32 ports and pins or more.
     Limit(Limit),
     /// Two ports that are joined, and the shapes that join them.
     Shorted { a: Name, b: Name, chain: Steps },

@@ -83,8 +83,8 @@ pub record IsWrittenAs (out : List ℕ) (l : Library) (n : Netlist) (p : Product
   pub file : p.file ≡ Some (text_of (layout n table))
   pub text : p.text ≡ report n
 
--- Library and layout are read, 32 bits can number the layout's shapes and its ports and pins, no two ports of it are joined, and
--- the netlist that it gives can be written and is.
+-- Library and layout are read, the layout's shapes are fewer than 2^32, and so are its ports and pins, no two ports of it are joined,
+-- and the netlist that it gives can be written and is.
 pub record IsExtraction (c : CougarCommand) (source catal : List ℕ) (cells : List (List ℕ)) (p : Product) : Type 0 where
   pub l : Library
   pub library : IsLibraryOf false catal cells l
@@ -101,8 +101,8 @@ pub record IsExtraction (c : CougarCommand) (source catal : List ℕ) (cells : L
 abbrev pub fault_of : CougarCommand → FaultKind → List Name → Status
 fault_of c k names = status.Source c.source (record { line = 1; kind = k; names = names })
 
--- What is refused, in this order: the library, the layout, an instance of a cell that the library hasn't, more shapes and then more
--- ports and pins than 32 bits can number, joined ports, and names that can't be written.
+-- What is refused, in this order: the library, the layout, an instance of a cell that the library hasn't, 2^32 shapes or
+-- more, then 2^32 ports and pins or more, joined ports, and names that can't be written.
 pub data IsRefused (c : CougarCommand) (source catal : List ℕ) (cells : List (List ℕ)) (s : Status) : Type 0 where
   no_library : (e : LibError) → IsRefusedLibrary false catal cells e → s ≡ status_of e → IsRefused c source catal cells s
   bad_layout : (l : Library) → IsLibraryOf false catal cells l → OfFile c.source (IsApRefusal source) s → IsRefused c source catal cells s

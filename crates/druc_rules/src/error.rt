@@ -11,7 +11,7 @@ pub enum DrucError {
     Memory,
     /// The model of the first instance whose model isn't in the library.
     UnknownCell(Text),
-    /// More shapes than 32 bits can number.
+    /// 2^32 shapes or more.
     Limit(Limit),
 }
 

@@ -45,7 +45,7 @@ druc_plan c = record {
   more = λ read. cell_files c.library (cells_in (get_or read 1 []));
 }
 
--- library and layout are read, the model of each instance is in the library, 32 bits can number the shapes, and these are the
+-- library and layout are read, the model of each instance is in the library, the shapes are fewer than 2^32, and these are the
 -- layout's breaches
 pub record AreListed (source catal : List ℕ) (cells : List (List ℕ)) (found : List Breach) : Type 0 where
   pub l : Library
@@ -66,8 +66,8 @@ pub record IsWithoutBreach (source catal : List ℕ) (cells : List (List ℕ)) (
 abbrev pub fault_of : DrucCommand → FaultKind → List Name → Status
 fault_of c k names = status.Source c.source (record { line = 1; kind = k; names = names })
 
--- What is refused, in this order: the library, the layout, an instance of a cell that the library hasn't, more shapes than 32 bits
--- can number, and a layout that has breaches, which are listed.
+-- What is refused, in this order: the library, the layout, an instance of a cell that the library hasn't, 2^32 shapes or more,
+-- and a layout that has breaches, which are listed.
 pub data IsRefused (c : DrucCommand) (source catal : List ℕ) (cells : List (List ℕ)) (s : Status) : Type 0 where
   no_library : (e : LibError) → IsRefusedLibrary false catal cells e → s ≡ status_of e → IsRefused c source catal cells s
   bad_layout : (l : Library) → IsLibraryOf false catal cells l → OfFile c.source (IsApRefusal source) s → IsRefused c source catal cells s

@@ -69,8 +69,8 @@ pub record AreRead (source catal : List ℕ) (cells : List (List ℕ)) (l : Libr
   pub pins : IsTableOf l true table
   pub netlist : IsVst source table n
 
--- Library and netlist are read, each instance is a gate or a plain flip-flop, no flip-flop has the text of a port, 32 bits can number
--- the bits of the netlist's machine and its names and ports together, and that machine by the names of its flip-flops, which has no
+-- Library and netlist are read, each instance is a gate or a plain flip-flop, no flip-flop has the text of a port, the netlist's
+-- machine has fewer than 2^32 bits, and fewer names and ports together, and that machine by the names of its flip-flops, which has no
 -- more names than there are bits, is written.
 pub record IsFlattening (c : FlatbehCommand) (source catal : List ℕ) (cells : List (List ℕ)) (p : Product) : Type 0 where
   pub l : Library
@@ -98,7 +98,7 @@ abbrev pub fault_of : FlatbehCommand → FaultKind → Name → Status
 fault_of c k name = status.Source c.source (record { line = 1; kind = k; names = name ∷ [] })
 
 -- What is refused, in this order: the library, the netlist, an instance that is neither a gate nor a plain flip-flop, a flip-flop with
--- the text of a port, a machine with more bits, or with more names and ports together, than 32 bits can number, and a clock that is a
+-- the text of a port, a machine of 2^32 bits or more, or with as many names and ports together, and a clock that is a
 -- bit of a vector, which a data-flow text can't have. The machine with more names and ports has no more names than the netlist's
 -- machine has bits: none is padded.
 pub data IsRefused (c : FlatbehCommand) (source catal : List ℕ) (cells : List (List ℕ)) (s : Status) : Type 0 where

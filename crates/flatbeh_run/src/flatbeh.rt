@@ -27,8 +27,8 @@ use vst_io::read_vst;
 /// All files are read first: SOURCE, CATAL, and the behaviour and the layout of each cell that this uses. Then it is refused, in
 /// this order: by `Library`, or a limit of CATAL or of a cell, at the first line or cell at fault; by `Source`, or a limit, of
 /// SOURCE; by `NoBehaviour`, at the first instance whose cell is neither a gate nor a plain flip-flop; by `Source` of `Twice`, at the
-/// first flip-flop with the text of a port; by `Limit` of `Bits`, where 32 bits can't number the bits of the netlist's machine, or its
-/// names and ports together, which a text has to number; by `Source` of `ClockUse`, where the clock is a bit of a vector, which a
+/// first flip-flop with the text of a port; by `Limit` of `Bits`, where the netlist's machine has 2^32 bits or more, or as
+/// many names and ports together, which a text has to number; by `Source` of `ClockUse`, where the clock is a bit of a vector, which a
 /// data-flow text can't have. Memory goes by the files, the netlist and its machine.
 #[derive(Drop)]
 pub struct Flatbeh<'a> {
@@ -68,7 +68,7 @@ fn fault(alloc: Global, command: &FlatbehCommand, kind: FaultKind, name: Name) -
     }
 }
 
-// The status of more than 32 bits can number.
+// The status of 2^32 or more, so many.
 fn too_many(reached: u64) -> Status
     ensures { result ≡ Status.Limit (record { which = LimitKind.Bits; reached = reached }) }
 {

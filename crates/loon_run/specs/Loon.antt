@@ -70,7 +70,7 @@ pub data IsMade (n : Netlist) (l : Library) (fanout : ℕ) : Netlist → ℕ →
   driven : {k : Netlist} {delay : ℕ} → IsOfCells n l → IsDrivenFrom n l fanout k delay → HasFanout l (most_sinks fanout) k
       → IsMade n l fanout k delay
 
--- a netlist without instances, or with fewer ports and pins than are too many for gates to be put in
+-- a netlist without instances, or with fewer than 2^27 ports and pins
 abbrev pub HasRoom : Netlist → Type 0
 HasRoom n = 0 < length n.instances → length (terminals n) < 2 ^ 27
 

@@ -29,8 +29,8 @@ use vst_io::read_vst;
 ///
 /// All files are read first: SOURCE, CATAL, and the behaviour and the layout of each cell that this uses. Then it is refused, in this
 /// order: by `Library`, or a limit of CATAL or of a cell, at the first line or cell at fault; by `Source`, or a limit, of SOURCE, in
-/// which cells that aren't usable are unknown; by `Limit` of `Bits`, with their number, where the netlist has an instance and more than
-/// 134,217,727 ports and pins; by `NoCover` of an inverter, where a net has too many sinks and the library has neither a buffer nor an
+/// which cells that aren't usable are unknown; by `Limit` of `Bits`, where the netlist has an instance and 2^27 or more
+/// ports and pins, with their number; by `NoCover` of an inverter, where a net has too many sinks and the library has neither a buffer nor an
 /// inverter. Memory goes by the files, the netlist, its arcs, and each pair of cells of which one can stand for the other.
 #[derive(Drop)]
 pub struct Loon<'a> {

@@ -7,7 +7,7 @@ use Rattle.net_machine.specs.Answers.{HasTooManyBits}
 use Rattle.net_flat.specs.Flat.{IsPlain, IsFirstOther, AreApart, IsFirstTwice}
 
 -- the first instance's cell that is neither a gate nor a plain flip-flop; where each is, the first register with the text of a port;
--- where there is none, more bits than 32 bits can number; or memory has run out
+-- where there is none, 2^32 bits or more; or memory has run out
 abbrev pub IsFlatRefusal : InMemory → Library → FlatError → Type 0
 IsFlatRefusal n l error.Memory = Unit {0}
 IsFlatRefusal n l (error.NoBehaviour model) = IsFirstOther n l model

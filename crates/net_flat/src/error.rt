@@ -17,7 +17,7 @@ pub enum FlatError {
     /// A flip-flop and a port have this name.
     #[error("twice")]
     Twice(Text),
-    /// The machine would have so many bits, which is more than 32 bits can number; the greatest number of 64 bits where they are more.
+    /// The machine would have so many bits, 2^32 or more; the greatest number of 64 bits where they are more.
     #[error("too many bits")]
     TooManyBits(u64),
 }

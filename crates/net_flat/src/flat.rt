@@ -48,7 +48,7 @@ fn registers(alloc: Global, netlist: &Netlist, library: &Library) -> Result<Vec<
 ///   the order of instances.
 /// - `Twice`: each cell is one of these, and a flip-flop's name is the text of a port; it gives the first such name, in the order of
 ///   instances.
-/// - `TooManyBits`: neither of these, and that machine would have more bits than 32 bits can number; it gives their number, or the
+/// - `TooManyBits`: neither of these, and that machine would have 2^32 bits or more; it gives their number, or the
 ///   greatest one of 64 bits where they are more.
 ///
 /// Takes the memory and the time of that machine three times over; for each model it looks through the library's cells.

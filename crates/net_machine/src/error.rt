@@ -14,7 +14,7 @@ pub enum NetMachineError {
     /// Nothing is known of the cell of this name, which an instance has.
     #[error("no behaviour")]
     NoBehaviour(Text),
-    /// The machine would have so many bits, which is more than 32 bits can number; the greatest number of 64 bits where they are more.
+    /// The machine would have so many bits, 2^32 or more; the greatest number of 64 bits where they are more.
     #[error("too many bits")]
     TooManyBits(u64),
 }

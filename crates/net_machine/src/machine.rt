@@ -39,7 +39,7 @@ pub fn signal_ports(alloc: Global, ports: &[Port]) -> Result<Ports, AllocError>
 /// the netlist does, with the same outputs and the same next contents.
 ///
 /// - `NoBehaviour`: the cell of an instance is opaque; it names the cell of the first such instance, in the order of instances.
-/// - `TooManyBits`: no cell of an instance is opaque, and the machine would have more bits than 32 bits can number: one for each class,
+/// - `TooManyBits`: no cell of an instance is opaque, and the machine would have 2^32 bits or more: one for each class,
 ///   one for each port, and those inside its instances. It gives their number, or the greatest one of 64 bits where they are more.
 ///
 /// Takes memory and time for each class and port, and for each bit and each operator of each instance's cell; for each model it

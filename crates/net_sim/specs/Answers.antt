@@ -10,7 +10,7 @@ use Rattle.net_sim.specs.Circuit.{DiffersWith}
 use Rattle.net_sim.specs.declared.error.NetSimError.{NetSimError}
 use Rattle.net_sim.specs.declared.error.NetSimError.TheVariants as error
 
--- a cell is opaque; or none is, and 32 bits can't number the bits; or they can, and the patterns differ; or memory has run out
+-- a cell is opaque; or none is, and the bits are 2^32 or more; or fewer, and the patterns differ; or memory has run out
 abbrev pub IsSimRefusal : InMemory → Library → Patterns → NetSimError → Type 0
 IsSimRefusal n l p error.Memory = Unit {0}
 IsSimRefusal n l p (error.NoBehaviour model) = IsFirstOpaque n l model

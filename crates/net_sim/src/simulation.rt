@@ -19,7 +19,7 @@ use std::alloc::Global;
 /// filled in.
 ///
 /// - `NoBehaviour`: the cell of an instance is opaque; it names the cell of the first such instance, before any pattern.
-/// - `TooManyBits`: no cell of an instance is opaque, and the netlist's machine would have more bits than 32 bits can number; it gives
+/// - `TooManyBits`: no cell of an instance is opaque, and the netlist's machine would have 2^32 bits or more; it gives
 ///   their number, or the greatest one of 64 bits where they are more.
 /// - `Differs`: the first bit that isn't what is expected, by pattern, then by column, then from the left.
 ///
