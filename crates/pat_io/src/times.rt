@@ -28,8 +28,9 @@ fn further(time: Time) -> u128
     u128::from(time.number) * u128::from(unit_size(time.unit))
 }
 
-/// The time of a pattern behind one at this time, in femtoseconds. One past 2^128 stands as 2^128 - 1: no time that is added
-/// to either is before it, and each time by itself is before both.
+/// The time of a pattern behind one at this time, in femtoseconds. A time of 2^128 or more stands as
+/// 2^128 - 1. That changes no answer: a time that is added to it isn't before it, and a time by itself, at most 2^72, is before it
+/// either way.
 fn time_behind(before: u128, time: Time) -> u128
     ensures time { result ≡ min (time_behind before time) (2 ^ 128 - 1) }
     ensures few { time.number * unit_size time.unit ≤ 2 ^ 72 }

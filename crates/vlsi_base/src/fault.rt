@@ -112,7 +112,7 @@ pub enum LimitKind {
     Ident,
     /// Parentheses, ifs and cases that are open together.
     Depth,
-    /// Bits of all ports and signals of a source.
+    /// Bits of all ports and signals of a source; of the ports and pins of a netlist; of the machine of a netlist.
     Bits,
     /// Operators of one expression, alternatives of one choice.
     Chain,
@@ -124,7 +124,7 @@ pub enum LimitKind {
     Ports,
     /// States of a state machine.
     States,
-    /// The size of a machine.
+    /// The size of a machine; the shapes of a layout.
     Size,
     /// Cells of a library.
     Cells,
