@@ -52,8 +52,9 @@ fn shorted(alloc: Global, shapes: &[Shape], a: &Port, b: &Port) -> Result<Extrac
 ///
 /// It is refused by `UnknownCell` exactly where the model of an instance isn't in the library, at the first such; else by `Limit`
 /// of `Size` exactly where there are 2^32 or more shapes, with their number; else by `Limit` of `Bits` exactly where there are 2^32
-/// or more ports and pins of instances, with their number, or the greatest one of 64 bits where they are more; and else by `Shorted` exactly where two ports of different names are
-/// joined: the least name of such a port, and the least other name that is joined to it, with a chain of shapes between them.
+/// or more ports and pins of instances, with their number, or the greatest one of 64 bits where they are more; and else by `Shorted`
+/// exactly where two ports of different names are joined: the least name of such a port, and the least other name that is joined to
+/// it, with a chain of shapes between them.
 ///
 /// Takes memory for the shapes and the netlist, and meanwhile for a few entries a shape; time for the shapes, times the logarithm
 /// of their number, and for each instance and each cell.
