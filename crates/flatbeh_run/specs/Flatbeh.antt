@@ -100,7 +100,7 @@ fault_of c k name = status.Source c.source (record { line = 1; kind = k; names =
 -- What is refused, in this order: the library, the netlist, an instance that is neither a gate nor a plain flip-flop, a flip-flop with
 -- the text of a port, a machine of 2^32 bits or more, or with as many names and ports together, and a clock that is a
 -- bit of a vector, which a data-flow text can't have. The machine with more names and ports has no more names than the netlist's
--- machine has bits.
+-- machine has bits: none is padded.
 pub data IsRefused (c : FlatbehCommand) (source catal : List ℕ) (cells : List (List ℕ)) (s : Status) : Type 0 where
   no_library : (e : LibError) → IsRefusedLibrary false catal cells e → s ≡ status_of e → IsRefused c source catal cells s
   bad_netlist : (l : Library) (table : List ModelPins) → IsLibraryOf false catal cells l → IsTableOf l true table
