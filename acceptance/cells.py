@@ -23,17 +23,16 @@ import pathlib
 import random
 import sys
 
-HERE = pathlib.Path(__file__).resolve().parent
-sys.path.insert(0, str(HERE))
-import ap  # noqa: E402
-import ap_maker  # noqa: E402
-import cellcheck  # noqa: E402
-import row_library  # noqa: E402
-from case_file import expanded  # noqa: E402
-from cell_maker import CHANGES, WIDTH, CellMaker, can_change, shift  # noqa: E402
-from results import Results, Room  # noqa: E402
+if __name__ == "__main__":
+    sys.path[0] = str(pathlib.Path(__file__).resolve().parent.parent)
+from acceptance.makers import ap_maker  # noqa: E402
+from acceptance.makers.cell_maker import CHANGES, WIDTH, CellMaker, can_change, shift  # noqa: E402
+from acceptance.readers import ap, cellcheck  # noqa: E402
+from acceptance.running import row_library  # noqa: E402
+from acceptance.running.case_file import expanded  # noqa: E402
+from acceptance.running.places import CELLS, LIBRARIES  # noqa: E402
+from acceptance.running.results import Results, Room  # noqa: E402
 
-CASES = HERE / "cells"
 CHUNK, MOST_SHOWN, COUNT = 250, 40, 1000
 AP, PLAIN, TRACKS = "ap", "library", "tracks"
 
@@ -88,10 +87,10 @@ def ap_cases(title, head, parts):
 
 def worked():
     """The worked cases, and the row library, which passes its checks."""
-    for path in sorted(CASES.glob("*.txt")):
+    for path in sorted(LIBRARIES.glob("*.txt")):
         yield from worked_case(path)
     for kind in (PLAIN, TRACKS):
-        yield "the row library", kind, cellcheck.folder(row_library.LIBRARY), "ok"
+        yield "the row library", kind, cellcheck.folder(CELLS), "ok"
 
 
 def begins(got, wanted):
@@ -103,7 +102,7 @@ def begins(got, wanted):
 
 
 def random_ap(choose, count):
-    library = [path.read_bytes() for path in sorted(row_library.LIBRARY.glob("*.ap"))]
+    library = [path.read_bytes() for path in sorted(CELLS.glob("*.ap"))]
     for data in (choose.choice(library), whole_file(choose)):
         yield from ap_maker.cuts(data)
         yield from ap_maker.cuts(data.replace(b"\n", b"\r\n"))

@@ -1,5 +1,5 @@
 #!/usr/bin/env python3
-"""Writes the machine of a data-flow text as BLIF, which yosys and abc read. The text is read by acceptance/vbe_oracle.py.
+"""Writes the machine of a data-flow text as BLIF, which yosys and abc read. The text is read by acceptance/readers/vbe_oracle.py.
 
 Usage: bench/blif.py SOURCE.vbe     prints the machine
        bench/blif.py --genlib       prints inverter, nand of two inputs and constants as a library for abc's `map`
@@ -7,8 +7,8 @@ Usage: bench/blif.py SOURCE.vbe     prints the machine
 import pathlib
 import sys
 
-sys.path.insert(0, str(pathlib.Path(__file__).resolve().parent.parent / "acceptance"))
-from vbe_oracle import machine  # noqa: E402
+sys.path.append(str(pathlib.Path(__file__).resolve().parent.parent))
+from acceptance.readers.vbe_oracle import machine  # noqa: E402
 
 COVERS = {
     "and": "11 1", "or": "1- 1\n-1 1", "nand": "0- 1\n-0 1", "nor": "00 1", "xor": "10 1\n01 1", "xnor": "00 1\n11 1",

@@ -40,7 +40,7 @@ row='%-10s %6s  %8s %5s %6s %7s   %7s  %8s %7s  %8s %7s  %8s %7s\n'
 printf "$row" source size boom MB B/node after abc0 collapse nodes dc2 nodes yosys cells
 for case in ${CASES:-woven:8 woven:16 woven:32 woven:64 apart:8 apart:10 apart:12 times:2 times:3 times:4 times:5 times:6 parity:64}; do
   python3 "$here/boom_inputs.py" "${case%:*}" "${case#*:}" .
-  size=$(python3 -c 'import sys; sys.path.insert(0, sys.argv[1]); from mapping import machine_size; from vbe_oracle import machine; print(machine_size(machine(open("c.vbe", "rb").read())))' "$here/../acceptance")
+  size=$(python3 -c 'import sys; sys.path.insert(0, sys.argv[1]); from acceptance.meaning.mapping import machine_size; from acceptance.readers.vbe_oracle import machine; print(machine_size(machine(open("c.vbe", "rb").read())))' "$here/..")
   rm -f r.vbe
   read -r took memory < <(measured printed "$program" boom c.vbe -o r --nodes 4000000)
   after=$(sed -n 's/^size //p' printed)

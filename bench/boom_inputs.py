@@ -1,5 +1,5 @@
 #!/usr/bin/env python3
-"""Writes the sources that bench/boom.sh measures; acceptance/boom.py makes them.
+"""Writes the sources that bench/boom.sh measures; acceptance/tools/boom.py makes them.
 
 Usage: bench/boom_inputs.py KIND BITS FOLDER      writes c.vbe into the folder
 
@@ -9,8 +9,8 @@ parity.
 import pathlib
 import sys
 
-sys.path.insert(0, str(pathlib.Path(__file__).resolve().parent.parent / "acceptance"))
-import boom  # noqa: E402
+sys.path.append(str(pathlib.Path(__file__).resolve().parent.parent))
+from acceptance.tools import boom  # noqa: E402
 
 KINDS = {
     "woven": lambda bits: boom.adder(bits, True), "apart": lambda bits: boom.adder(bits, False),

@@ -1,14 +1,14 @@
 #!/usr/bin/env python3
-"""Prints how many nodes the largest diagram of a source's roots has, where that is at least MOST; acceptance/diagrams.py counts them.
+"""Prints how many nodes the largest diagram of a source's roots has, where that is at least MOST; acceptance/meaning/diagrams.py counts them.
 
 Usage: bench/boom_nodes.py SOURCE.vbe MOST
 """
 import pathlib
 import sys
 
-sys.path.insert(0, str(pathlib.Path(__file__).resolve().parent.parent / "acceptance"))
-import diagrams  # noqa: E402
-from vbe_oracle import machine  # noqa: E402
+sys.path.append(str(pathlib.Path(__file__).resolve().parent.parent))
+from acceptance.meaning import diagrams  # noqa: E402
+from acceptance.readers.vbe_oracle import machine  # noqa: E402
 
 sys.setrecursionlimit(100000)
 count = diagrams.greatest(machine(pathlib.Path(sys.argv[1]).read_bytes()))

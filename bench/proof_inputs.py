@@ -1,5 +1,5 @@
 #!/usr/bin/env python3
-"""Writes pairs of sources that bench/proof.sh compares; acceptance/boom.py and acceptance/proof.py make them. Each also as BLIF and as Verilog.
+"""Writes pairs of sources that bench/proof.sh compares; acceptance/tools/boom.py and acceptance/tools/proof.py make them. Each also as BLIF and as Verilog.
 
 Usage: bench/proof_inputs.py KIND BITS FOLDER      writes a, b and c, each .vbe, .blif and .v, into the folder
 
@@ -12,11 +12,10 @@ import subprocess
 import sys
 
 HERE = pathlib.Path(__file__).resolve().parent
-sys.path.insert(0, str(HERE.parent / "acceptance"))
-import boom  # noqa: E402
-import proof  # noqa: E402
-import verilog  # noqa: E402
-from vbe_oracle import Machine, machine  # noqa: E402
+sys.path.append(str(HERE.parent))
+from acceptance.meaning import verilog  # noqa: E402
+from acceptance.readers.vbe_oracle import Machine, machine  # noqa: E402
+from acceptance.tools import boom, proof  # noqa: E402
 
 
 def counter(bits, next_of, signals="", body=""):

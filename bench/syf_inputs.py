@@ -1,5 +1,5 @@
 #!/usr/bin/env python3
-"""Writes the state machines that bench/syf.sh measures; acceptance/syf.py makes them.
+"""Writes the state machines that bench/syf.sh measures; acceptance/tools/syf.py makes them.
 
 Usage: bench/syf_inputs.py KIND STATES FOLDER      writes c.fsm into the folder
 
@@ -8,8 +8,8 @@ KIND is ring (each state leads to the next one) or fork (each leads to one of tw
 import pathlib
 import sys
 
-sys.path.insert(0, str(pathlib.Path(__file__).resolve().parent.parent / "acceptance"))
-import syf  # noqa: E402
+sys.path.append(str(pathlib.Path(__file__).resolve().parent.parent))
+from acceptance.tools import syf  # noqa: E402
 
 KINDS = {"ring": syf.ring, "fork": syf.fork}
 

@@ -13,11 +13,10 @@ import pathlib
 import re
 import sys
 
-sys.path.insert(0, str(pathlib.Path(__file__).resolve().parent.parent / "acceptance"))
-import ap  # noqa: E402
-import cellcheck  # noqa: E402
-from extraction import Flat, instances_of  # noqa: E402
-from vhdl_reader import spelled  # noqa: E402
+sys.path.append(str(pathlib.Path(__file__).resolve().parent.parent))
+from acceptance.meaning.extraction import Flat, instances_of  # noqa: E402
+from acceptance.readers import ap, cellcheck  # noqa: E402
+from acceptance.readers.vhdl_reader import spelled  # noqa: E402
 
 CUT = 50
 # A mirror in CIF is about the axis, and is moved behind it by the cell's width or height.

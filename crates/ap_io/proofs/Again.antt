@@ -11,7 +11,7 @@ use Rattle.sym_geom.specs.declared.item.Side.{Side}
 use Rattle.sym_geom.specs.declared.item.Side.TheVariants.{North, South, East, West}
 use Rattle.sym_geom.specs.declared.rect.Transform.{Transform}
 use Rattle.sym_geom.specs.declared.rect.Transform.TheVariants.{NoSym, SymX, SymY, SymXY}
-use Rattle.text_lines.specs.Lines.{put_before}
+use Rattle.vlsi_base.specs.Lines.{put_before}
 use Rattle.ap_io.specs.Spelling.{layer_text, direction_text, side_text, transform_text}
 use Rattle.ap_io.specs.Fields.{fields_of, is_in_field}
 use Rattle.ap_io.specs.Words.{layer_of, direction_of, side_of, transform_of}

@@ -2,7 +2,7 @@
 use Rattle.std.proofs.Common.{◌≡◌, ℕ, suc, zero, ◌+◌, ◌-◌, ◌<◌, Bool, true, false, not, ◌==◌, List, [], ◌∷◌, length, take, drop, refl, sym, ap, ◌∙◌, arith, if◌then◌else◌}
 use Rattle.std.specs.List.{prefix_len, count_by}
 use Rattle.std.proofs.lemmas.List.Recursion.{is_count_by}
-use Rattle.text_lines.specs.Lines.{put_before}
+use Rattle.vlsi_base.specs.Lines.{put_before}
 use Rattle.ap_io.specs.Fields.{fields_of, at, is_in_field}
 
 abbrev IsCut : List ℕ → Type 0

@@ -30,7 +30,7 @@ use Rattle.sym_geom.specs.declared.item.Instance.{Instance}
 use Rattle.sym_geom.specs.declared.item.Reference.{Reference}
 use Rattle.sym_geom.specs.declared.item.Item.{Item}
 use Rattle.sym_geom.specs.declared.item.Item.TheVariants as item
-use Rattle.text_lines.specs.Lines.{put_before}
+use Rattle.vlsi_base.specs.Lines.{put_before}
 use Rattle.ap_io.specs.declared.scale.Scale.{Scale}
 use Rattle.ap_io.specs.declared.figure.Figure.{Figure}
 use Rattle.ap_io.specs.declared.fault.LineFault.TheVariants.{BadLine}

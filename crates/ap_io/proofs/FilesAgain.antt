@@ -12,7 +12,7 @@ use Rattle.sym_geom.specs.Rect.{IsRect}
 use Rattle.sym_geom.specs.declared.rect.Rect.{Rect}
 use Rattle.sym_geom.specs.declared.item.Item.{Item}
 use Rattle.sym_geom.specs.declared.item.Item.TheVariants as item
-use Rattle.text_lines.specs.Lines.{lines_of}
+use Rattle.vlsi_base.specs.Lines.{lines_of}
 use Rattle.ap_io.specs.declared.figure.Figure.{Figure}
 use Rattle.ap_io.specs.declared.scale.Scale.TheVariants.{Hundred}
 use Rattle.ap_io.specs.declared.fault.LineFault.TheVariants.{BadLine}

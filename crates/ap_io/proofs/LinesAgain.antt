@@ -3,7 +3,7 @@ use Rattle.std.proofs.Common.{◌≡◌, ℕ, ◌-◌, Bool, true, false, not, �
 use Rattle.std.specs.Prelude.{slice_index}
 use Rattle.std.specs.List.{list_all}
 use Rattle.std.proofs.lemmas.Bool.{and_parts}
-use Rattle.text_lines.specs.Lines.{lines_of, without_return, put_before}
+use Rattle.vlsi_base.specs.Lines.{lines_of, without_return, put_before}
 use Rattle.ap_io.specs.Fields.{fields_of, is_text_byte}
 use Rattle.ap_io.specs.ApText.{is_field_byte, lines_in}
 use Rattle.ap_io.proofs.Again.{field_alone, field_first}

@@ -6,7 +6,7 @@ use Rattle.vlsi_base.specs.declared.fault.FaultKind.TheVariants as kind
 use Rattle.vlsi_base.specs.declared.fault.ReadError.{ReadError}
 use Rattle.vlsi_base.specs.declared.fault.ReadError.TheVariants as errors
 use Rattle.sym_geom.specs.declared.item.Item.{Item}
-use Rattle.text_lines.specs.Lines.{without_return}
+use Rattle.vlsi_base.specs.Lines.{without_return}
 use Rattle.ap_io.specs.declared.scale.Scale.{Scale}
 use Rattle.ap_io.specs.declared.body.Body.{Body}
 use Rattle.ap_io.specs.declared.fault.LineFault.{LineFault}

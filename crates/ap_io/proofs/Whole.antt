@@ -3,8 +3,8 @@ use Rattle.std.proofs.Common.{◌≡◌, ℕ, ◌<◌, ◌≤◌, ◌^◌, List,
 use Rattle.vlsi_base.specs.declared.limits.TheConstants.{MOST_NETLIST_BYTES}
 use Rattle.vlsi_base.specs.declared.fault.ReadError.{ReadError}
 use Rattle.vlsi_base.specs.declared.fault.ReadError.TheVariants as errors
-use Rattle.text_lines.specs.Lines.{lines_of, without_return}
-use Rattle.text_lines.proofs.Cutting.{count_lines}
+use Rattle.vlsi_base.specs.Lines.{lines_of, without_return}
+use Rattle.vlsi_base.proofs.Cutting.{count_lines}
 use Rattle.ap_io.specs.declared.figure.Figure.{Figure}
 use Rattle.ap_io.specs.declared.fault.LineFault.{LineFault}
 use Rattle.ap_io.specs.LineFaults.{version_fault}

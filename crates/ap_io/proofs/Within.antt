@@ -19,7 +19,7 @@ use Rattle.sym_geom.specs.declared.item.Instance.{Instance}
 use Rattle.sym_geom.specs.declared.item.Reference.{Reference}
 use Rattle.sym_geom.specs.declared.item.Item.{Item}
 use Rattle.sym_geom.specs.declared.item.Item.TheVariants as item
-use Rattle.text_lines.specs.Lines.{lines_of, put_before, without_return}
+use Rattle.vlsi_base.specs.Lines.{lines_of, put_before, without_return}
 use Rattle.ap_io.specs.declared.scale.Scale.{Scale}
 use Rattle.ap_io.specs.declared.scale.Scale.TheVariants.{One, Ten, Hundred}
 use Rattle.ap_io.specs.declared.figure.Figure.{Figure}

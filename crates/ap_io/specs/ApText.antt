@@ -12,7 +12,7 @@ use Rattle.sym_geom.specs.declared.item.Item.{Item}
 use Rattle.sym_geom.specs.declared.item.Item.TheVariants as item
 use Rattle.ap_io.specs.declared.figure.Figure.{Figure}
 use Rattle.vlsi_base.specs.declared.limits.TheConstants.{MOST_NETLIST_BYTES}
-use Rattle.text_lines.specs.Lines.{lines_of, without_return}
+use Rattle.vlsi_base.specs.Lines.{lines_of, without_return}
 use Rattle.ap_io.specs.declared.scale.Scale.{Scale}
 use Rattle.ap_io.specs.declared.limits.TheConstants.{MOST_NAME_BYTES, MOST_COORDINATE}
 use Rattle.ap_io.specs.Spelling.{text_of, contact_text}

@@ -5,7 +5,7 @@ use Rattle.std.specs.Option.{option_map}
 use Rattle.std.specs.Char.{is_ascii_digit, is_ascii_alphabetic, to_ascii_lowercase}
 use Rattle.vlsi_base.specs.Number.{value_of}
 use Rattle.vlsi_base.specs.declared.name.Name.{Name}
-use Rattle.text_lines.specs.Lines.{put_before}
+use Rattle.vlsi_base.specs.Lines.{put_before}
 use Rattle.ap_io.specs.declared.scale.Scale.{Scale}
 use Rattle.ap_io.specs.declared.scale.Scale.TheVariants.{One, Ten, Hundred}
 

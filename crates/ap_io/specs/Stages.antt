@@ -3,7 +3,7 @@ use Rattle.std.specs.Prelude.{◌≡◌, ℕ, List, [], ◌∷◌, Option, None,
 use Rattle.vlsi_base.specs.declared.name.Name.{Name}
 use Rattle.sym_geom.specs.declared.rect.Rect.{Rect}
 use Rattle.sym_geom.specs.declared.item.Item.{Item}
-use Rattle.text_lines.specs.Lines.{without_return}
+use Rattle.vlsi_base.specs.Lines.{without_return}
 use Rattle.ap_io.specs.declared.scale.Scale.{Scale}
 use Rattle.ap_io.specs.declared.figure.Figure.{Figure}
 use Rattle.ap_io.specs.Fields.{at, label_of}

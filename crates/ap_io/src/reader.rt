@@ -2,7 +2,7 @@
 ghost use Rattle.std.specs.Prelude.{◌≡◌, ◌<◌, ◌+◌, ◌^◌, [], IfOk, IfErr, OnOk, IsTrue, map, length};
 ghost use Rattle.std.specs.List.{list_all};
 ghost use Rattle.vlsi_base.specs.declared.fault.ReadError.TheVariants as errors;
-ghost use Rattle.text_lines.specs.Lines.{without_return};
+ghost use Rattle.vlsi_base.specs.Lines.{without_return};
 ghost use Rattle.ap_io.specs.ApText.{IsApText, AreItems};
 ghost use Rattle.ap_io.specs.Stages.{IsBoxRead, IsHeadRead, IsVersionRead, IsDrawing, IsFigureRead};
 ghost use Rattle.ap_io.specs.Fields.{at, label_of};
@@ -17,9 +17,9 @@ use crate::words::scale_of;
 use crate::{Figure, LineFault, Scale, items};
 use std::alloc::{AllocError, Global};
 use sym_geom::{Items, Rect};
-use text_lines::{Lines, without_return};
 use vlsi_base::{
-    FaultKind, InputFault, Limit, LimitKind, MOST_NETLIST_BYTES, Name, Names, ReadError,
+    FaultKind, InputFault, Limit, LimitKind, Lines, MOST_NETLIST_BYTES, Name, Names, ReadError,
+    without_return,
 };
 
 /// A fault of this kind on a line. Takes no memory.

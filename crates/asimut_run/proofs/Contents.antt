@@ -1,7 +1,7 @@
 -- From what reading comes to, to the files' contents, and what is left of them.
 use Rattle.std.proofs.Common.{◌≡◌, ℕ, List, [], ◌∷◌, get_or, Option, None, Some, IsSome, Result, Ok, Err, subst, inl, inr}
 use Rattle.vlsi_shelf.specs.Files.{Files}
-use Rattle.tool_words.specs.declared.command.AsimutCommand.{AsimutCommand}
+use Rattle.asimut_run.specs.declared.words.AsimutCommand.{AsimutCommand}
 use Rattle.tool_drive.specs.declared.status.Status.{Status}
 use Rattle.tool_drive.specs.declared.status.Status.TheVariants as status
 use Rattle.tool_drive.specs.declared.status.FileCause.TheVariants.{Missing, ReadFault, WriteFault, OutFault}
@@ -55,9 +55,4 @@ changes_no_file c before now s h = by s h where
   by status.Memory h = elim h [ inl same ↦ same | inr w ↦ stored w.0 w.1 w.2 ]
   by status.Usage h = absurd h
   by (status.Limit l) h = elim h [ inl long ↦ long.0 | inr w ↦ left (status.Limit l) w.0 w.1 w.2 ]
-  by (status.NoPath net terminal) h = left (status.NoPath net terminal) h.0 h.1 h.2
-  by (status.Source file fault) h = left (status.Source file fault) h.0 h.1 h.2
-  by (status.Library fault) h = left (status.Library fault) h.0 h.1 h.2
-  by (status.NoCover kind) h = left (status.NoCover kind) h.0 h.1 h.2
-  by (status.Budget equation reached) h = left (status.Budget equation reached) h.0 h.1 h.2
-  by (status.No v) h = left (status.No v) h.0 h.1 h.2
+  by s h = left s h.0 h.1 h.2

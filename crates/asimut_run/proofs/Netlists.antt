@@ -3,13 +3,12 @@ use Rattle.std.proofs.Common.{◌≡◌, ◌<◌, ◌^◌, ℕ, List, None, Ok, 
 use Rattle.vlsi_base.specs.declared.fault.ReadError.{ReadError}
 use Rattle.cell_model.specs.Library.{Library}
 use Rattle.cell_lib.specs.declared.error.LibError.{LibError}
-use Rattle.cell_lib.specs.declared.error.LibError.TheVariants as errors
-use Rattle.cell_lib.proofs.Plain.{never_missing, never_unread}
+use Rattle.cell_lib.proofs.Answering.{refused_library}
 use Rattle.cell_lib.specs.Cells.{OrMemory}
 use Rattle.cell_lib.specs.Library.{IsRefusedLibrary, status_of}
 use Rattle.net_core.specs.declared.pins.ModelPins.{ModelPins}
 use Rattle.net_core.specs.Netlist.{Netlist}
-use Rattle.net_view.specs.Condition.{MeetsCondition}
+use Rattle.net_right.specs.Condition.{MeetsCondition}
 use Rattle.net_machine.specs.Signals.{signal_ports, HasBehaviour}
 use Rattle.net_machine.specs.Bits.{bits_of}
 use Rattle.net_sim.specs.declared.error.NetSimError.{NetSimError}
@@ -20,7 +19,7 @@ use Rattle.pat_meaning.specs.declared.patterns.Patterns.{Patterns}
 use Rattle.pat_io.specs.PatternText.{IsPatternRefusal}
 use Rattle.pat_io.specs.Spelling.{text_of}
 use Rattle.vst_io.specs.Text.{IsVst, IsVstRefusal}
-use Rattle.tool_words.specs.declared.command.AsimutNetlistCommand.{AsimutNetlistCommand}
+use Rattle.asimut_run.specs.declared.words.AsimutNetlistCommand.{AsimutNetlistCommand}
 use Rattle.tool_drive.specs.declared.status.Status.{Status}
 use Rattle.tool_drive.specs.declared.status.Status.TheVariants as status
 use Rattle.tool_drive.specs.declared.status.Verdict.TheVariants.{Differs, NoBehaviour}
@@ -30,12 +29,7 @@ use Rattle.asimut_run.specs.Netlist.{Texts, AreCells, AreRead, no_library, bad_n
 
 pub by_library : (c : AsimutNetlistCommand) (t : Texts) (e : LibError) → OrMemory (IsRefusedLibrary false t.catal t.cells) e
     → IsJudged (Simulates c t) (Err (refusal (status_of e) None))
-by_library c t errors.Memory h = refl
-by_library c t (errors.Limit l) h = (refl, no_library (errors.Limit l) h refl)
-by_library c t (errors.BadCatal line) h = (refl, no_library (errors.BadCatal line) h refl)
-by_library c t (errors.BadCell cell cause) h = (refl, no_library (errors.BadCell cell cause) h refl)
-by_library c t (errors.Missing name) h = absurd (never_missing false t.catal t.cells name h)
-by_library c t (errors.ReadFault name) h = absurd (never_unread false t.catal t.cells name h)
+by_library c t e h = refused_library (Simulates c t) false t.catal t.cells e h (λ x r. (refl, no_library x r refl))
 
 pub by_netlist : (c : AsimutNetlistCommand) (t : Texts) (l : Library) (table : List ModelPins) (e : ReadError) (s : Status) → AreCells t l table
     → IsVstRefusal t.source table e → MemoryOr s (OfFile c.source (λ x. x ≡ e) s) → IsJudged (Simulates c t) (Err (refusal s None))

@@ -1,14 +1,14 @@
 -- From the refusals of readers and simulation to the tool's.
 use Rattle.std.proofs.Common.{◌≡◌, ℕ, List, None, Err, subst, sym, refl, inl, inr}
 use Rattle.vlsi_base.specs.declared.fault.ReadError.{ReadError}
-use Rattle.machine_meaning.specs.Machine.{Machine}
+use Rattle.machine_core.specs.Machine.{Machine}
 use Rattle.pat_meaning.specs.declared.patterns.Patterns.{Patterns}
 use Rattle.asimut_sim.specs.Answers.{IsRefusal}
 use Rattle.pat_io.specs.PatternText.{IsPatternText, IsPatternRefusal}
 use Rattle.vbe_io.specs.Text.{IsVbe, IsVbeRefusal}
 use Rattle.asimut_sim.specs.declared.refusal.SimError.{SimError}
 use Rattle.asimut_sim.specs.declared.refusal.SimError.TheVariants as sim
-use Rattle.tool_words.specs.declared.command.AsimutCommand.{AsimutCommand}
+use Rattle.asimut_run.specs.declared.words.AsimutCommand.{AsimutCommand}
 use Rattle.tool_drive.specs.declared.status.Status.{Status}
 use Rattle.tool_drive.specs.declared.status.Status.TheVariants as status
 use Rattle.tool_drive.specs.declared.status.Verdict.TheVariants.{Differs}

@@ -3,7 +3,7 @@ use Rattle.std.specs.Prelude.{◌≡◌, ◌⊎◌, ℕ, List, [], ◌∷◌, dr
 use Rattle.std.specs.Fmt.{decimal}
 use Rattle.vlsi_base.specs.declared.name.Name.{Name}
 use Rattle.vlsi_base.specs.declared.fault.ReadError.{ReadError}
-use Rattle.machine_meaning.specs.Machine.{Machine}
+use Rattle.machine_core.specs.Machine.{Machine}
 use Rattle.pat_meaning.specs.declared.patterns.Pattern.{Pattern}
 use Rattle.pat_meaning.specs.declared.patterns.Patterns.{Patterns}
 use Rattle.pat_meaning.specs.Answers.{IsFilled, DiffersAt}
@@ -12,7 +12,7 @@ use Rattle.pat_io.specs.Spelling.{text_of}
 use Rattle.vbe_io.specs.Text.{IsVbe, IsVbeRefusal}
 use Rattle.asimut_sim.specs.declared.refusal.SimError.{SimError}
 use Rattle.asimut_sim.specs.declared.refusal.SimError.TheVariants as sim
-use Rattle.tool_words.specs.declared.command.AsimutCommand.{AsimutCommand}
+use Rattle.asimut_run.specs.declared.words.AsimutCommand.{AsimutCommand}
 use Rattle.tool_drive.specs.declared.status.Status.{Status}
 use Rattle.tool_drive.specs.declared.status.Status.TheVariants as status
 use Rattle.tool_drive.specs.declared.status.Verdict.TheVariants.{Differs}

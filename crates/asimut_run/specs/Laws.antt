@@ -1,7 +1,7 @@
 -- What the plan and the answers of `asimut` on a source come to, said of files.
 use Rattle.std.specs.Prelude.{ℕ, List, Option, IfSome, Result}
 use Rattle.vlsi_shelf.specs.Files.{Files}
-use Rattle.tool_words.specs.declared.command.AsimutCommand.{AsimutCommand}
+use Rattle.asimut_run.specs.declared.words.AsimutCommand.{AsimutCommand}
 use Rattle.tool_drive.specs.declared.status.Status.{Status}
 use Rattle.tool_drive.specs.declared.tool.Product.{Product}
 use Rattle.tool_drive.specs.declared.tool.Refusal.{Refusal}

@@ -1,3 +1,4 @@
+pub mod Words
 pub mod Asimut
 pub mod Laws
 pub mod Netlist

@@ -1,6 +1,5 @@
 -- What `asimut` on a netlist reads and answers.
 use Rattle.std.specs.Prelude.{◌≡◌, ℕ, ◌<◌, ◌^◌, true, false, List, [], ◌∷◌, get_or, None, Result, Ok, Err}
-use Rattle.vlsi_base.specs.declared.limits.TheConstants.{MOST_NETLIST_BYTES}
 use Rattle.vlsi_base.specs.declared.fault.LimitKind.TheVariants.{Bits}
 use Rattle.vlsi_base.specs.declared.name.Name.{Name}
 use Rattle.catal.specs.Cells.{cells_in}
@@ -14,7 +13,7 @@ use Rattle.net_core.specs.Netlist.{Netlist}
 use Rattle.net_machine.specs.Signals.{signal_ports, HasBehaviour, IsFirstOpaque}
 use Rattle.net_machine.specs.Bits.{bits_of}
 use Rattle.net_machine.specs.Answers.{HasTooManyBits}
-use Rattle.net_view.specs.Condition.{MeetsCondition}
+use Rattle.net_right.specs.Condition.{MeetsCondition}
 use Rattle.net_sim.specs.declared.error.NetSimError.{NetSimError}
 use Rattle.net_sim.specs.declared.error.NetSimError.TheVariants as net
 use Rattle.net_sim.specs.Circuit.{IsFilledOn, DiffersOnNetlist}
@@ -23,26 +22,20 @@ use Rattle.pat_meaning.specs.declared.patterns.Patterns.{Patterns}
 use Rattle.pat_io.specs.PatternText.{IsPatternText, IsPatternRefusal}
 use Rattle.pat_io.specs.Spelling.{text_of}
 use Rattle.vst_io.specs.Text.{IsVst, IsVstRefusal}
-use Rattle.tool_words.specs.declared.command.AsimutNetlistCommand.{AsimutNetlistCommand}
+use Rattle.asimut_run.specs.declared.words.AsimutNetlistCommand.{AsimutNetlistCommand}
 use Rattle.tool_drive.specs.declared.status.Status.{Status}
 use Rattle.tool_drive.specs.declared.status.Status.TheVariants as status
 use Rattle.tool_drive.specs.declared.status.Verdict.TheVariants.{Differs, NoBehaviour}
-use Rattle.tool_drive.specs.declared.tool.Over.TheVariants.{Refused}
-use Rattle.tool_drive.specs.declared.tool.Wanted.{Wanted}
 use Rattle.tool_drive.specs.declared.tool.Product.{Product}
 use Rattle.tool_drive.specs.declared.tool.Refusal.{Refusal}
-use Rattle.tool_drive.specs.Plan.{Plan, Inputs, limited}
+use Rattle.tool_drive.specs.Plan.{Plan, Inputs, limited, large}
 use Rattle.tool_drive.specs.Refusals.{OfFile}
 use Rattle.asimut_run.specs.Asimut.{label_of}
-
--- a netlist's file
-abbrev pub netlist_file : List ℕ → Wanted
-netlist_file name = record { name = name; most = MOST_NETLIST_BYTES; over = Refused }
 
 -- SOURCE, PATTERNS, CATAL, and then the files of the cells that CATAL uses
 abbrev pub netlist_plan : AsimutNetlistCommand → Plan
 netlist_plan c = record {
-  first = netlist_file c.source ∷ limited c.patterns ∷ limited (catal_name c.library) ∷ [];
+  first = large c.source ∷ limited c.patterns ∷ limited (catal_name c.library) ∷ [];
   more = λ read. cell_files c.library (cells_in (get_or read 2 []));
 }
 

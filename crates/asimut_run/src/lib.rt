@@ -7,7 +7,9 @@
 mod laws;
 mod netlist;
 mod source;
+mod words;
 
 pub use laws::asimut_law;
 pub use netlist::AsimutNetlist;
 pub use source::Asimut;
+pub use words::{ASIMUT_ENTRY, AsimutCommand, AsimutNetlistCommand, AsimutTask, read_asimut};

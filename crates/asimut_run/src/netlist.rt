@@ -2,9 +2,10 @@
 ghost use Rattle.std.specs.Prelude.{◌≡◌, IfOk};
 ghost use Rattle.tool_drive.specs.Table.{IsJudged};
 ghost use Rattle.net_machine.specs.Signals.{MeetsConditionWith};
-ghost use Rattle.asimut_run.specs.Netlist.{netlist_file, texts, ForTexts, IsToldOf, Simulates};
+ghost use Rattle.asimut_run.specs.Netlist.{texts, ForTexts, IsToldOf, Simulates};
 
 use crate::source::label;
+use crate::words::AsimutNetlistCommand;
 use cell_checks::Library;
 use cell_lib::{catal_file, library_status, named_files, read_library};
 use cell_pins::pin_table;
@@ -14,9 +15,8 @@ use net_sim::{NetSimError, simulate_net};
 use pat_io::{read_pat, write_pat};
 use pat_meaning::Pattern;
 use std::alloc::{AllocError, Global};
-use tool_drive::{Over, Product, Refusal, Status, Tool, Verdict, Wanted, bytes_at, refused};
-use tool_words::AsimutNetlistCommand;
-use vlsi_base::{FileBytes, FileName, Limit, LimitKind, MOST_NETLIST_BYTES};
+use tool_drive::{Product, Refusal, Status, Tool, Verdict, Wanted, bytes_at, refused};
+use vlsi_base::{FileBytes, Limit, LimitKind};
 use vst_io::read_vst;
 
 /// `asimut` on a netlist, with what it is asked: it runs PATTERNS on the netlist in SOURCE and prints them with every output filled
@@ -29,17 +29,6 @@ use vst_io::read_vst;
 #[derive(Drop)]
 pub struct AsimutNetlist<'a> {
     pub command: &'a AsimutNetlistCommand,
-}
-
-// A netlist's file, of at most `MOST_NETLIST_BYTES` bytes.
-fn netlist_file(name: FileName) -> Wanted
-    ensures { result ≡ netlist_file name }
-{
-    Wanted {
-        name,
-        most: MOST_NETLIST_BYTES as u64,
-        over: Over::Refused,
-    }
 }
 
 fn refusal(alloc: Global, patterns: &[Pattern], error: NetSimError) -> Status
@@ -119,7 +108,7 @@ impl Tool for AsimutNetlist<'_> {
 
     fn first(&self, alloc: Global) -> Result<Vec<Wanted>, AllocError> {
         let mut wanted = Vec::new(alloc);
-        wanted.push(netlist_file(self.command.source.copy(alloc)?))?;
+        wanted.push(Wanted::large(self.command.source.copy(alloc)?))?;
         wanted.push(Wanted::limited(self.command.patterns.copy(alloc)?))?;
         wanted.push(catal_file(alloc, &self.command.library)?)?;
         Ok(wanted)

@@ -3,12 +3,12 @@ ghost use Rattle.std.specs.Prelude.{◌≡◌, IfOk};
 ghost use Rattle.tool_drive.specs.Table.{IsJudged};
 ghost use Rattle.asimut_run.specs.Asimut.{label_of, IsToldOf, Simulates};
 
+use crate::words::AsimutCommand;
 use asimut_sim::{SimError, simulate};
 use pat_io::{read_pat, write_pat};
 use pat_meaning::Pattern;
 use std::alloc::{AllocError, Global};
 use tool_drive::{Product, Refusal, Status, Tool, Verdict, Wanted, bytes_at, refused};
-use tool_words::AsimutCommand;
 use vbe_io::read_vbe;
 use vlsi_base::{FileBytes, Text, push_u64};
 

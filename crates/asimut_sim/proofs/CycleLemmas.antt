@@ -6,9 +6,9 @@ use Rattle.std.proofs.lemmas.List.Elements.{All-head, All-tail, All-from_get_or}
 use Rattle.vlsi_base.specs.Range.{rising}
 use Rattle.vlsi_base.proofs.Ranges.{length_of_rising}
 use Rattle.bool_expr.specs.Expression.{bit}
-use Rattle.machine_meaning.specs.Named.{value_at, values_at}
-use Rattle.machine_meaning.specs.Machine.{Machine, inputs, register_names}
-use Rattle.machine_meaning.specs.Cycles.{Settles, next}
+use Rattle.machine_core.specs.Named.{value_at, values_at}
+use Rattle.machine_core.specs.Machine.{Machine, inputs, register_names}
+use Rattle.machine_core.specs.Cycles.{Settles, next}
 use Rattle.machine_core.specs.Order.{held_names}
 use Rattle.machine_core.specs.Built.{built, BuiltSettles}
 use Rattle.asimut_sim.specs.Load.{loaded}

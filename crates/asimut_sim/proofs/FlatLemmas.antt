@@ -6,9 +6,9 @@ use Rattle.std.proofs.lemmas.List.{length-map}
 use Rattle.vlsi_base.specs.declared.name.Name.{Name}
 use Rattle.vlsi_base.specs.Range.{rising}
 use Rattle.vlsi_base.proofs.Ranges.{length_of_rising}
-use Rattle.machine_meaning.specs.Machine.{Machine, Equation, Register}
-use Rattle.machine_meaning.specs.declared.equation.Equation.{Equation as EquationParts}
-use Rattle.machine_meaning.specs.declared.equation.Register.{Register as RegisterParts}
+use Rattle.machine_core.specs.Machine.{Machine, Equation, Register}
+use Rattle.machine_core.specs.declared.equation.Equation.{Equation as EquationParts}
+use Rattle.machine_core.specs.declared.equation.Register.{Register as RegisterParts}
 use Rattle.machine_core.specs.Built.{built}
 use Rattle.machine_core.specs.Checked.{IsChecked}
 use Rattle.machine_core.specs.Order.{held_names, equation_names, EachReadsBelow}

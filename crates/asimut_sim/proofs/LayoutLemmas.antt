@@ -6,8 +6,8 @@ use Rattle.std.proofs.lemmas.List.Elements.{All-nil, All-push, All-pop, All-weak
 use Rattle.bool_expr.specs.Expression.{Expression, constant, variable, inverse, pair, choice, bit, val, gate_value, IsOver}
 use Rattle.bool_expr.specs.View.{view}
 use Rattle.bool_expr.specs.declared.expr.Gate.{Gate}
-use Rattle.machine_meaning.specs.Machine.{Equation}
-use Rattle.machine_meaning.specs.declared.equation.Equation.{Equation as EquationParts}
+use Rattle.machine_core.specs.Machine.{Equation}
+use Rattle.machine_core.specs.declared.equation.Equation.{Equation as EquationParts}
 use Rattle.machine_core.specs.Built.{built}
 use Rattle.machine_core.specs.Order.{EachReadsBelow}
 use Rattle.machine_core.specs.View.{equation_view}

@@ -4,9 +4,9 @@ use Rattle.std.specs.List.{slice_index_or, All}
 use Rattle.std.proofs.lemmas.List.Elements.{All-nil, All-cons, All-head, All-tail}
 use Rattle.vlsi_base.specs.declared.name.Name.{Name}
 use Rattle.bool_expr.specs.Expression.{val}
-use Rattle.machine_meaning.specs.Named.{value_at, values_at}
-use Rattle.machine_meaning.specs.Machine.{Register}
-use Rattle.machine_meaning.specs.declared.equation.Register.{Register as Parts}
+use Rattle.machine_core.specs.Named.{value_at, values_at}
+use Rattle.machine_core.specs.Machine.{Register}
+use Rattle.machine_core.specs.declared.equation.Register.{Register as Parts}
 use Rattle.asimut_sim.specs.Load.{loaded, LoadsOver}
 
 pub All-unmap : {X Y : Type 0} (P : X → Type 0) (f : Y → X) (ys : List Y) → All P (map f ys) → All (λ y. P (f y)) ys

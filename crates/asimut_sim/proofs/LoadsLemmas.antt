@@ -4,8 +4,8 @@ use Rattle.std.specs.List.{All}
 use Rattle.std.proofs.lemmas.List.{map_more, take_all, drop_more, take_more_set, drop-set-lt, drop_all}
 use Rattle.std.proofs.lemmas.List.Elements.{All-nil, All-cons, All-append, All-weaker}
 use Rattle.bool_expr.specs.Expression.{bit, val}
-use Rattle.machine_meaning.specs.Machine.{Register}
-use Rattle.machine_meaning.specs.declared.equation.Register.{Register as Parts}
+use Rattle.machine_core.specs.Machine.{Register}
+use Rattle.machine_core.specs.declared.equation.Register.{Register as Parts}
 use Rattle.machine_core.specs.View.{register_view}
 use Rattle.asimut_sim.specs.Load.{loaded}
 use Rattle.asimut_sim.specs.declared.layout.Load.{Load}

@@ -1,9 +1,9 @@
 -- There is exactly one list of observed valuations.
 use Rattle.std.proofs.Common.{◌≡◌, Bool, true, false, List, [], ◌∷◌, length, replicate, refl, ◌∙◌, ap, subst, if◌then◌else◌}
 use Rattle.std.proofs.lemmas.List.{length-replicate, length-map}
-use Rattle.machine_meaning.specs.Named.{value_at}
-use Rattle.machine_meaning.specs.Machine.{Machine, inputs}
-use Rattle.machine_meaning.specs.Cycles.{Settles, next}
+use Rattle.machine_core.specs.Named.{value_at}
+use Rattle.machine_core.specs.Machine.{Machine, inputs}
+use Rattle.machine_core.specs.Cycles.{Settles, next}
 use Rattle.machine_core.specs.Order.{IsOrdered, SettlesOnce}
 use Rattle.pat_meaning.specs.declared.patterns.Column.{Column}
 use Rattle.pat_meaning.specs.declared.patterns.Pattern.{Pattern}

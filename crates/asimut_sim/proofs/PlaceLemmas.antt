@@ -11,7 +11,7 @@ use Rattle.vlsi_base.specs.Name.{name_cmp}
 use Rattle.vlsi_base.specs.NamePlaces.{NamePlaces, last_place}
 use Rattle.vlsi_base.proofs.NameOrder.{name_total, name_exact}
 use Rattle.vlsi_base.specs.declared.name.Name.{Name}
-use Rattle.machine_meaning.specs.Named.{is_same_name, value_at, values_at}
+use Rattle.machine_core.specs.Named.{is_same_name, value_at, values_at}
 use Rattle.machine_core.specs.Order.{In, AllDifferent, here, there}
 use Rattle.machine_core.proofs.Names.{same_name-true, same_name-itself, same_name-false}
 use Rattle.asimut_sim.specs.Places.{place_of, one_on, IsIndexOf, bit_at}

@@ -3,7 +3,7 @@ use Rattle.std.proofs.Common.{◌≡◌, ℕ, suc, ◌+◌, ◌<◌, Bool, true,
 use Rattle.std.specs.List.{slice_index_or}
 use Rattle.vlsi_base.specs.declared.name.Name.{Name}
 use Rattle.vlsi_base.specs.declared.name.Port.{Port}
-use Rattle.machine_meaning.specs.Machine.{is_input, is_clock}
+use Rattle.machine_core.specs.Machine.{is_input, is_clock}
 use Rattle.asimut_sim.specs.Plan.{inputs_among, is_vector_bit}
 
 pub inputs-cons : (clock : Option Name) (p : Port) (ports : List Port) → inputs_among clock (p ∷ ports) ≡ (if is_vector_bit clock p then p.name ∷ inputs_among clock ports else inputs_among clock ports)

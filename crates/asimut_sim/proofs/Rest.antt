@@ -1,7 +1,7 @@
 -- Equations from one of them on.
 use Rattle.std.proofs.Common.{◌≡◌, ℕ, suc, ◌+◌, ◌<◌, List, ◌∷◌, map, length, drop, sym, ◌∙◌, ap, add-one, drop-cons}
 use Rattle.std.specs.List.{slice_index_or}
-use Rattle.machine_meaning.specs.declared.equation.Equation.{Equation}
+use Rattle.machine_core.specs.declared.equation.Equation.{Equation}
 use Rattle.machine_core.specs.View.{equation_view}
 
 pub rest-cons : (equations : List Equation) (i : ℕ) (e : Equation) → i < length equations → e ≡ slice_index_or equations i e

@@ -6,8 +6,8 @@ use Rattle.std.proofs.Math.Seq.{take-append_seam}
 use Rattle.vlsi_base.specs.declared.name.Name.{Name}
 use Rattle.vlsi_base.specs.declared.name.Dir.{Dir}
 use Rattle.vlsi_base.specs.declared.name.Dir.TheVariants.{In, Out}
-use Rattle.machine_meaning.specs.Named.{value_at, values_at}
-use Rattle.machine_meaning.specs.Machine.{Machine, inputs}
+use Rattle.machine_core.specs.Named.{value_at, values_at}
+use Rattle.machine_core.specs.Machine.{Machine, inputs}
 use Rattle.pat_meaning.specs.declared.patterns.Column.{Column}
 use Rattle.pat_meaning.specs.declared.patterns.Value.{Value}
 use Rattle.pat_meaning.specs.declared.patterns.Value.TheVariants.{Digits, Any}

@@ -1,8 +1,8 @@
 -- What one pattern comes to, and why patterns aren't filled in.
 use Rattle.std.specs.Prelude.{◌≡◌, ℕ, Bool, List, Option, None, Some, length, slice_index_or}
 use Rattle.vlsi_base.specs.declared.name.Name.{Name}
-use Rattle.machine_meaning.specs.Named.{value_at}
-use Rattle.machine_meaning.specs.Machine.{Machine, inputs}
+use Rattle.machine_core.specs.Named.{value_at}
+use Rattle.machine_core.specs.Machine.{Machine, inputs}
 use Rattle.pat_meaning.specs.declared.patterns.Column.{Column}
 use Rattle.pat_meaning.specs.declared.patterns.Pattern.{Pattern}
 use Rattle.pat_meaning.specs.declared.patterns.Patterns.{Patterns}

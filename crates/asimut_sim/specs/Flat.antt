@@ -3,7 +3,7 @@ use Rattle.std.specs.Prelude.{◌≡◌, ℕ, ◌+◌, ◌<◌, Bool, List, [], 
 use Rattle.std.specs.List.{All, AllZip}
 use Rattle.vlsi_base.specs.Range.{rising}
 use Rattle.bool_expr.specs.Expression.{bit, val}
-use Rattle.machine_meaning.specs.Machine.{Machine, Register}
+use Rattle.machine_core.specs.Machine.{Machine, Register}
 use Rattle.machine_core.specs.Order.{held_names}
 use Rattle.machine_core.specs.Built.{built}
 use Rattle.machine_core.specs.Checked.{IsChecked}

@@ -2,8 +2,8 @@
 use Rattle.std.specs.Prelude.{ℕ, Bool, List, [], ◌∷◌, if◌then◌else◌}
 use Rattle.bool_expr.specs.Expression.{val, IsOver}
 use Rattle.bool_expr.specs.View.{view}
-use Rattle.machine_meaning.specs.Machine.{Register}
-use Rattle.machine_meaning.specs.declared.equation.Register.{Register as Parts}
+use Rattle.machine_core.specs.Machine.{Register}
+use Rattle.machine_core.specs.declared.equation.Register.{Register as Parts}
 
 -- the next bit where the enable is 1, and the one that was held elsewhere
 abbrev pub loaded_bit : List Bool → Register → Bool → Bool

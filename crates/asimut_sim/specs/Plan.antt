@@ -2,7 +2,7 @@
 use Rattle.std.specs.Prelude.{◌≡◌, ℕ, Bool, ◌&&◌, not, List, map, filter, Option, None, Some}
 use Rattle.vlsi_base.specs.declared.name.Name.{Name}
 use Rattle.vlsi_base.specs.declared.name.Port.{Port}
-use Rattle.machine_meaning.specs.Machine.{Machine, inputs, names_of, is_input, is_clock}
+use Rattle.machine_core.specs.Machine.{Machine, inputs, names_of, is_input, is_clock}
 use Rattle.pat_meaning.specs.declared.patterns.Column.{Column}
 use Rattle.pat_meaning.specs.Columns.{listed}
 use Rattle.asimut_sim.specs.Places.{place_of}

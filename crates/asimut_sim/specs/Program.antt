@@ -2,7 +2,7 @@
 use Rattle.std.specs.Prelude.{◌≡◌, ℕ, ◌+◌, ◌<◌, ◌≤◌, Bool, List, map, length}
 use Rattle.std.specs.List.{All, slice_index_or}
 use Rattle.bool_expr.specs.Expression.{Expression, bit, val}
-use Rattle.machine_meaning.specs.Machine.{Equation}
+use Rattle.machine_core.specs.Machine.{Equation}
 use Rattle.machine_core.specs.Built.{built}
 use Rattle.asimut_sim.specs.declared.operator.Operator.{Operator}
 use Rattle.asimut_sim.specs.declared.operator.Step.{Step}

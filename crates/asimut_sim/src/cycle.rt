@@ -1,9 +1,9 @@
 // One cycle of a flat machine: its names settle, and its registers load.
 ghost use Rattle.std.specs.Prelude.{◌≡◌, ℕ, ◌+◌, ◌<◌, ◌≤◌, length, All, if◌then◌else◌};
 ghost use Rattle.bool_expr.specs.Expression.{bit};
-ghost use Rattle.machine_meaning.specs.Machine.{inputs as input_names, register_names};
-ghost use Rattle.machine_meaning.specs.Named.{values_at};
-ghost use Rattle.machine_meaning.specs.Cycles.{Settles, next};
+ghost use Rattle.machine_core.specs.Machine.{inputs as input_names, register_names};
+ghost use Rattle.machine_core.specs.Named.{values_at};
+ghost use Rattle.machine_core.specs.Cycles.{Settles, next};
 ghost use Rattle.pat_meaning.specs.Circuit.{of_machine};
 ghost use Rattle.pat_meaning.specs.Simulation.{Takes};
 ghost use Rattle.asimut_sim.specs.Program.{bits_of};

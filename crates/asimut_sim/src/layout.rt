@@ -12,7 +12,7 @@ ghost use Rattle.asimut_sim.specs.Flat.{ComputesLoads};
 use crate::operator::{Step, constant_place, step_operator};
 use crate::program::Program;
 use bool_expr::Expr;
-use machine_meaning::{Equation, Register};
+use machine_core::{Equation, Register};
 use std::alloc::{AllocError, Global};
 
 /// The places of what a register loads, and of whether it does.

@@ -2,7 +2,7 @@
 ghost use Rattle.std.specs.Prelude.{◌≡◌, map, IfOk};
 ghost use Rattle.std.specs.FinMap.{get};
 ghost use Rattle.std.specs.Option.{option_copied};
-ghost use Rattle.machine_meaning.specs.Machine.{is_clock as is_clock_name};
+ghost use Rattle.machine_core.specs.Machine.{is_clock as is_clock_name};
 ghost use Rattle.machine_core.specs.Order.{AllDifferent};
 ghost use Rattle.pat_meaning.specs.Columns.{listed};
 ghost use Rattle.asimut_sim.specs.Places.{place_of};

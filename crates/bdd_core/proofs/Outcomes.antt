@@ -7,7 +7,7 @@ use Rattle.bdd_core.specs.declared.operators.Operator.{Operator}
 use Rattle.bdd_core.specs.declared.operators.Triple.{Triple}
 use Rattle.bdd_core.specs.Truths.{Truths, halves, IsPart}
 use Rattle.bdd_core.specs.Nodes.{raised, raised_to, height, place, joined, Lists, IsMade, IsFull}
-use Rattle.bdd_core.specs.Combined.{combined_at, AreFrom, Grown, IsPlaceOf, IsOverBy, IsKnown, AreKnown, IsParted, IsOutcome}
+use Rattle.bdd_core.specs.Combined.{combined_at, AreFrom, Grown, IsPlaceOf, IsOverBy, IsKnown, AreKnown, AreCofactors, IsOutcome}
 use Rattle.bdd_core.proofs.Raised.{part-itself, part-in_raised}
 use Rattle.bdd_core.proofs.Combining.{combined_earlier, from_earlier, from-back, are-grown, known-grown, place_of-grown, combined-grown, grown-none, grown-part, grown-then, over-part, grown-made}
 
@@ -20,7 +20,7 @@ pub record IsLeast (vars : ℕ) (lists : List Truths) (k : Triple) (v : ℕ) : T
   pub are : AreFrom vars lists v k
   pub last : (from : ℕ) → AreFrom vars lists from k → from ≤ v
 
-module _ (o : Operator) (d0 : Lists) (v : ℕ) (k k0 k1 : Triple) (l : IsLeast d0.vars d0.lists k v) (p : IsParted d0.vars d0.lists v k k0 k1) where
+module _ (o : Operator) (d0 : Lists) (v : ℕ) (k k0 k1 : Triple) (l : IsLeast d0.vars d0.lists k v) (p : AreCofactors d0.vars d0.lists v k k0 k1) where
   whole : (from : ℕ) → from ≤ v → combined_at o d0.vars d0.lists from k
       ≡ raised (v - from) (halves (combined_at o d0.vars d0.lists (v + 1) k0) (combined_at o d0.vars d0.lists (v + 1) k1))
   whole from early = combined_earlier o d0.vars from v d0.lists k early l.are ∙ ap (λ (t : Truths). raised (v - from) t) (p.is o)

@@ -4,7 +4,7 @@ use Rattle.bdd_core.specs.declared.operators.Operator.{Operator}
 use Rattle.bdd_core.specs.declared.operators.Triple.{Triple}
 use Rattle.bdd_core.specs.Truths.{Truths, constant}
 use Rattle.bdd_core.specs.Nodes.{raised, raised_to, height, place, joined, IsSon}
-use Rattle.bdd_core.specs.Combined.{operator_value, combined, combined_at, IsFrom, AreFrom, IsPlaceOf, IsParted}
+use Rattle.bdd_core.specs.Combined.{operator_value, combined, combined_at, IsFrom, AreFrom, IsPlaceOf, AreCofactors}
 use Rattle.bdd_core.proofs.Combining.{combined_earlier, from_earlier}
 use Rattle.bdd_core.proofs.Raised.{raised_to-itself}
 
@@ -17,7 +17,7 @@ son_from : (vars : ℕ) (lists : List Truths) (v at : ℕ) → IsSon vars lists 
 son_from vars lists v at s = record { within = s.within; below = omega (arith, s.below) }
 
 pub parted_is : (vars : ℕ) (lists : List Truths) (v : ℕ) (k low high : Triple) → Halved vars lists v k.x low.x high.x → Halved vars lists v k.y low.y high.y → Halved vars lists v k.z low.z high.z
-    → IsParted vars lists v k low high
+    → AreCofactors vars lists v k low high
 unfolding combined_at
 parted_is vars lists v k low high x y z = record {
   low_from = record { x = son_from vars lists v low.x x.low; y = son_from vars lists v low.y y.low; z = son_from vars lists v low.z z.low };

@@ -1,7 +1,7 @@
 // One recursion for the operators.
 ghost use Rattle.std.specs.Prelude.{◌≡◌, ℕ, ◌+◌, ◌≤◌, ◌<◌, ◌⊎◌, IfSome, IfOk, IfErr};
 ghost use Rattle.std.specs.List.{Contains};
-ghost use Rattle.bdd_core.specs.Combined.{operator_value, combined_at, AreFrom, AreKnown, IsPlaceOf, IsParted, IsOutcome};
+ghost use Rattle.bdd_core.specs.Combined.{operator_value, combined_at, AreFrom, AreKnown, IsPlaceOf, AreCofactors, IsOutcome};
 
 use crate::node::BddError;
 use crate::table::Table;
@@ -72,10 +72,10 @@ fn least(x: u32, y: u32, z: u32) -> u32
 }
 
 /// The places of the two halves of each of three functions.
-fn parted(table: &Table, key: Triple, variable: u32) -> (Triple, Triple)
+fn cofactors(table: &Table, key: Triple, variable: u32) -> (Triple, Triple)
     requires key { AreFrom table.now.vars table.now.lists variable key }
     requires variable { variable < table.now.vars }
-    ensures { IsParted table.now.vars table.now.lists variable key result.0 result.1 }
+    ensures { AreCofactors table.now.vars table.now.lists variable key result.0 result.1 }
 {
     let (x0, x1) = table.halves(key.x, variable);
     let (y0, y1) = table.halves(key.y, variable);
@@ -136,7 +136,7 @@ pub(crate) fn combine(
     if let Some(at) = recall(memo, key) {
         return Ok(at);
     }
-    let (below_low, below_high) = parted(table, key, variable);
+    let (below_low, below_high) = cofactors(table, key, variable);
     let low = combine(table, memo, operator, below_low, variable + 1)?;
     let high = combine(table, memo, operator, below_high, variable + 1)?;
     let at = table.make(variable, low, high)?;

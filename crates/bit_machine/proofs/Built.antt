@@ -9,9 +9,9 @@ use Rattle.vlsi_base.specs.declared.name.Dir.{Dir}
 use Rattle.vlsi_base.specs.declared.name.Dir.TheVariants as dir
 use Rattle.bool_expr.specs.Expression.{Expression, IsOver, bit, val}
 use Rattle.bool_expr.specs.Renumbering.{renumbered}
-use Rattle.machine_meaning.specs.Named.{value_at, values_at}
-use Rattle.machine_meaning.specs.Machine.{Machine, Equation, Register, is_input, names_of, inputs, input_ports, outputs, register_names}
-use Rattle.machine_meaning.specs.Cycles.{Settles, next}
+use Rattle.machine_core.specs.Named.{value_at, values_at}
+use Rattle.machine_core.specs.Machine.{Machine, Equation, Register, is_input, names_of, inputs, input_ports, outputs, register_names}
+use Rattle.machine_core.specs.Cycles.{Settles, next}
 use Rattle.machine_core.specs.Order.{In, AllDifferent, held_names, equation_names, EachReadsBelow, IsOrdered}
 use Rattle.machine_core.specs.Checked.{AreInOrder, IsNoSupply, IsChecked}
 use Rattle.machine_core.proofs.Values.{In-split, In-left, In-right, In-map}

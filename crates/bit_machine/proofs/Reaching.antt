@@ -7,8 +7,8 @@ use Rattle.vlsi_base.specs.declared.name.Port.{Port}
 use Rattle.std.specs.Prelude.{Option}
 use Rattle.bool_expr.specs.Expression.{IsOver}
 use Rattle.bool_expr.specs.View.{view}
-use Rattle.machine_meaning.specs.declared.equation.Equation.{Equation as EquationParts}
-use Rattle.machine_meaning.specs.declared.equation.Register.{Register as RegisterParts}
+use Rattle.machine_core.specs.declared.equation.Equation.{Equation as EquationParts}
+use Rattle.machine_core.specs.declared.equation.Register.{Register as RegisterParts}
 use Rattle.machine_core.specs.View.{machine_of}
 use Rattle.machine_core.specs.Checked.{IsChecked}
 use Rattle.machine_core.specs.Order.{In, AllDifferent}

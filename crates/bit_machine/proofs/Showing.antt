@@ -5,10 +5,10 @@ use Rattle.std.proofs.lemmas.List.{length-map, get_or-map}
 use Rattle.vlsi_base.specs.declared.name.Name.{Name}
 use Rattle.bool_expr.specs.Expression.{Expression, constant, variable, inverse, pair, choice, gate_value, variables, IsOver, bit, val}
 use Rattle.bool_expr.specs.Renumbering.{renumbered}
-use Rattle.machine_meaning.specs.Named.{value_at, values_at}
+use Rattle.machine_core.specs.Named.{value_at, values_at}
 use Rattle.machine_core.specs.Order.{In, here, AllDifferent}
 use Rattle.machine_core.proofs.Values.{In-left, In-right, bit-value_at}
-use Rattle.source_meaning.specs.Formula.{place}
+use Rattle.source_checks.specs.Formula.{place}
 use Rattle.vlsi_model.specs.Numbered.{name_at}
 use Rattle.vlsi_model.specs.Nodes.{HasNodes}
 use Rattle.vlsi_model.proofs.Members.{different_map}

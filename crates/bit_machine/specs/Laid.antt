@@ -1,7 +1,7 @@
 -- The bits in the order of a machine's names.
 use Rattle.std.specs.Prelude.{◌≡◌, ℕ, List, ◌++◌, map, length}
-use Rattle.machine_meaning.specs.declared.equation.Equation.{Equation as EquationParts}
-use Rattle.machine_meaning.specs.declared.equation.Register.{Register as RegisterParts}
+use Rattle.machine_core.specs.declared.equation.Equation.{Equation as EquationParts}
+use Rattle.machine_core.specs.declared.equation.Register.{Register as RegisterParts}
 use Rattle.machine_core.specs.View.{equation_view, register_view}
 use Rattle.vlsi_model.specs.Numbered.{driven_at, equation_from, register_from}
 use Rattle.vlsi_model.specs.Nodes.{HasNodes, nodes_read}

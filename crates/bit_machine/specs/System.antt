@@ -4,9 +4,9 @@ use Rattle.vlsi_base.specs.declared.name.Name.{Name}
 use Rattle.vlsi_base.specs.declared.name.Port.{Port}
 use Rattle.vlsi_base.specs.declared.name.Dir.TheVariants as dir
 use Rattle.bool_expr.specs.Expression.{variables, IsOver, bit, val}
-use Rattle.machine_meaning.specs.Named.{values_at}
-use Rattle.machine_meaning.specs.Machine.{Machine, names_of, register_names}
-use Rattle.machine_meaning.specs.Cycles.{Settles, next}
+use Rattle.machine_core.specs.Named.{values_at}
+use Rattle.machine_core.specs.Machine.{Machine, names_of, register_names}
+use Rattle.machine_core.specs.Cycles.{Settles, next}
 use Rattle.machine_core.specs.Order.{In, AllDifferent}
 use Rattle.machine_core.specs.Checked.{AreInOrder, IsNoSupply, IsChecked}
 use Rattle.source_bits.specs.Driven.{Numbered, NumberedStorage, driven_view, stored_view}

@@ -8,7 +8,7 @@ ghost use Rattle.source_bits.specs.Driven.{driven_view, stored_view};
 ghost use Rattle.vlsi_model.specs.Numbered.{name_at, driven_at, equation_from, register_from};
 
 use bool_expr::renumbered;
-use machine_meaning::{Equation, Register};
+use machine_core::{Equation, Register};
 use source_bits::{DrivenBit, StoredBit};
 use std::alloc::{AllocError, Global};
 use vlsi_base::Name;

@@ -1,7 +1,7 @@
 -- The kinds that a cell is needed of.
 use Rattle.std.proofs.Common.{Bool, true}
 use Rattle.vlsi_base.specs.Member.{In, here, there}
-use Rattle.cell_model.specs.declared.kind.Kind.TheVariants as kind
+use Rattle.vlsi_base.specs.declared.kind.Kind.TheVariants as kind
 use Rattle.cell_model.specs.Covering.{needed}
 
 pub needs_inv : (b : Bool) → In kind.Inv (needed b)

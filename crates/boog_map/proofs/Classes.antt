@@ -10,10 +10,10 @@ use Rattle.net_core.specs.Joins.{Joined, same, along, against}
 use Rattle.net_core.proofs.Frames.{mapped}
 use Rattle.net_core.proofs.Standing.{stands_same}
 use Rattle.net_core.proofs.Finishing.{netlist_terminals_once}
-use Rattle.net_meaning.specs.Netlist.{Netlist}
+use Rattle.net_meaning.specs.Netlist.{AbstractNetlist}
 use Rattle.net_theory.specs.Sources.{Sourced, source_of}
 use Rattle.net_theory.proofs.Basics.{In-map, In-map_back, length-map}
-use Rattle.net_view.specs.View.{IsSeenAs}
+use Rattle.net_right.specs.View.{IsSeenAs}
 use Rattle.boog_map.specs.declared.place.Signal.{Signal}
 use Rattle.boog_map.specs.declared.place.Signal.TheVariants as signal
 use Rattle.boog_map.specs.declared.drivers.Drivers.{Drivers}
@@ -80,7 +80,7 @@ unsourced (signal.Node a) signal.Clock e = absurd (cc e)
 unsourced (signal.Node a) (signal.Node b) e = let same_number : a ≡ b = cc e in ap signal.Node same_number
 
 -- the netlist with the sources of its classes
-abbrev pub sourced_by : InMemory → List (Terminal × Signal) → Netlist → Sourced
+abbrev pub sourced_by : InMemory → List (Terminal × Signal) → AbstractNetlist → Sourced
 sourced_by n told k = record { netlist = k; source = λ c. source_of_signal (signal_at n.classes told c); rank = λ a. a }
 
 abbrev first_part : Terminal × Signal → Terminal
@@ -153,7 +153,7 @@ module _ (n : InMemory) (sound : IsNetlist n) (told : List (Terminal × Signal))
       let c = stands_at n.classes r.0 (omega (arith, low, each)) in
       (r.0, c.0, r.1, p, c.1)
 
-  module _ (k : Netlist) (seen : IsSeenAs n k) where
+  module _ (k : AbstractNetlist) (seen : IsSeenAs n k) where
     class_is : (t : Terminal) (s : Signal) (a : At t s) → k.class t ≡ a.1
     class_is t s a = seen.classes.each t a.1 (a.0, a.3, a.4)
 
@@ -163,7 +163,7 @@ module _ (n : InMemory) (sound : IsNetlist n) (told : List (Terminal × Signal))
         ap source_of_signal (ap (signal_at n.classes told) (class_is t s a) ∙ signal_of_class a.1 a.0 (t, s) a.4 a.2)
 
     count_is : k.classes ≡ n.count
-    count_is = ap (λ (x : Netlist). x.classes) seen.is
+    count_is = ap (λ (x : AbstractNetlist). x.classes) seen.is
 
     pub class_told : (t : Terminal) (s : Signal) → In (t, s) told → k.class t < k.classes
     class_told t s h =

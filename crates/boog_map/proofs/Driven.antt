@@ -10,10 +10,10 @@ use Rattle.vlsi_base.specs.declared.name.Terminal.{Terminal}
 use Rattle.vlsi_base.specs.Names.{vdd, vss}
 use Rattle.vlsi_base.specs.Member.{In, here, there}
 use Rattle.bool_expr.specs.Expression.{bit}
-use Rattle.machine_meaning.specs.Machine.{Machine, inputs, outputs, is_clock, is_input, names_of}
+use Rattle.machine_core.specs.Machine.{Machine, inputs, outputs, is_clock, is_input, names_of}
 use Rattle.machine_core.specs.Checked.{IsChecked}
 use Rattle.machine_core.proofs.Names.{same_name-itself}
-use Rattle.cell_model.specs.declared.kind.Kind.{Kind}
+use Rattle.vlsi_base.specs.declared.kind.Kind.{Kind}
 use Rattle.cell_model.specs.Cell.{Cell, cell_outputs}
 use Rattle.cell_model.specs.Library.{Library}
 use Rattle.cell_model.specs.Usable.{IsFormed}

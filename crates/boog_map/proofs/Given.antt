@@ -5,8 +5,8 @@ use Rattle.vlsi_base.specs.declared.name.Name.{Name}
 use Rattle.vlsi_base.specs.declared.name.Port.{Port}
 use Rattle.vlsi_base.specs.declared.name.Terminal.{Terminal}
 use Rattle.vlsi_base.specs.Names.{vdd, vss}
-use Rattle.machine_meaning.specs.Machine.{Machine, inputs, names_of}
-use Rattle.machine_meaning.specs.Named.{is_same_text, is_same_name}
+use Rattle.machine_core.specs.Machine.{Machine, inputs, names_of}
+use Rattle.machine_core.specs.Named.{is_same_text, is_same_name}
 use Rattle.machine_core.specs.Checked.{IsChecked}
 use Rattle.machine_core.proofs.Names.{same_name-true, same_name-itself}
 use Rattle.cell_model.specs.Cell.{Cell}
@@ -19,10 +19,10 @@ use Rattle.net_core.specs.Netlist.{Instance, Netlist as InMemory, IsNetlist, ter
 use Rattle.net_core.specs.Joins.{Joined, IsFinished}
 use Rattle.net_core.proofs.Frames.{unmapped}
 use Rattle.net_core.proofs.Finishing.{netlist_terminals_once}
-use Rattle.net_meaning.specs.Netlist.{Netlist}
+use Rattle.net_meaning.specs.Netlist.{AbstractNetlist}
 use Rattle.net_theory.proofs.Basics.{length-map}
-use Rattle.net_view.specs.View.{IsSeenAs, netlist_by}
-use Rattle.net_view.specs.Right.{IsRightNetlist, HasPinsOfCells}
+use Rattle.net_right.specs.View.{IsSeenAs, netlist_by}
+use Rattle.net_right.specs.Right.{IsRightNetlist, HasPinsOfCells}
 use Rattle.graph_theory.specs.Graph.{Graph, held_count, graph_values, graph_roots}
 use Rattle.graph_theory.specs.Maps.{Maps}
 use Rattle.graph_theory.proofs.Values.{graph_means}
@@ -135,10 +135,10 @@ module _ (m : Machine) (checked : IsChecked m) (g : Graph) (sub : IsSubjectGraph
     few : length spots < 2 ^ 32
     few = few_count m checked g sub l passed ps parts sk.marks sk.reached room
 
-    abbrev source_netlist : Netlist → Type 0
+    abbrev source_netlist : AbstractNetlist → Type 0
     source_netlist x = IsSeenAs n x
 
-    maps_it : (x : Netlist) (seen : IsSeenAs n x)
+    maps_it : (x : AbstractNetlist) (seen : IsSeenAs n x)
         → Maps (sourced m checked g sub l passed ps parts sk.marks sk.reached k.drivers sk.drivers n sound finished.ports instances_is joined x seen) l m g
     maps_it x seen = maps m checked g sub l passed ps parts sk.marks sk.reached k.drivers sk.drivers n sound finished.ports instances_is joined x seen few
 
@@ -185,11 +185,10 @@ module _ (m : Machine) (checked : IsChecked m) (g : Graph) (sub : IsSubjectGraph
         )
 
     order : StandsInOrder n l m
-    order x p seen row =
+    order x seen =
         let z = sourced m checked g sub l passed ps parts sk.marks sk.reached k.drivers sk.drivers n sound finished.ports instances_is joined x seen in
         let is = maps_it x seen in
         record {
-          one_row = row;
           gates = length is.gates;
           names = names z l m g is;
           after = mapped_after z l m g is;

@@ -8,7 +8,7 @@ use Rattle.vlsi_base.specs.declared.name.Port.{Port}
 use Rattle.vlsi_base.specs.Name.{name_cmp}
 use Rattle.vlsi_base.specs.Names.{vdd, vss, comes_before}
 use Rattle.vlsi_base.specs.Member.{In}
-use Rattle.machine_meaning.specs.Machine.{Machine, is_input, names_of}
+use Rattle.machine_core.specs.Machine.{Machine, is_input, names_of}
 use Rattle.machine_core.specs.Checked.{IsChecked, IsNoSupply}
 use Rattle.cell_model.proofs.Members.{All-In, In-left}
 use Rattle.cell_pins.specs.Pins.{with_supply}

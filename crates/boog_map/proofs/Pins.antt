@@ -6,11 +6,11 @@ use Rattle.vlsi_base.specs.declared.name.Terminal.{Terminal}
 use Rattle.vlsi_base.specs.Names.{vdd, vss}
 use Rattle.vlsi_base.specs.Member.{In, here, there}
 use Rattle.bool_expr.specs.Expression.{Expression}
-use Rattle.machine_meaning.specs.Machine.{is_input}
-use Rattle.machine_meaning.specs.Named.{is_same_name}
+use Rattle.machine_core.specs.Machine.{is_input}
+use Rattle.machine_core.specs.Named.{is_same_name}
 use Rattle.machine_core.proofs.Names.{same_name-itself, same_name-false}
-use Rattle.cell_model.specs.declared.kind.Kind.{Kind}
-use Rattle.cell_model.specs.declared.kind.Kind.TheVariants as kind
+use Rattle.vlsi_base.specs.declared.kind.Kind.{Kind}
+use Rattle.vlsi_base.specs.declared.kind.Kind.TheVariants as kind
 use Rattle.cell_model.specs.Cell.{Function, gate, flip_flop, other, opaque, Cell, pin_ports, cell_inputs, cell_outputs}
 use Rattle.cell_model.specs.Usable.{IsFormed}
 use Rattle.cell_model.specs.Covering.{IsGateOf, IsFunctionOf}

@@ -2,7 +2,7 @@
 use Rattle.std.proofs.Common.{◌≡◌, ℕ, ◌+◌, ◌-◌, ◌^◌, ◌<◌, Bool, List, ◌++◌, length, map, take, ◌∙◌, ap, subst, arith}
 use Rattle.vlsi_base.specs.declared.name.Name.{Name}
 use Rattle.vlsi_base.specs.declared.name.Terminal.{Terminal}
-use Rattle.machine_meaning.specs.Machine.{Machine, inputs}
+use Rattle.machine_core.specs.Machine.{Machine, inputs}
 use Rattle.machine_core.specs.Checked.{IsChecked}
 use Rattle.net_core.specs.Netlist.{port}
 use Rattle.net_theory.proofs.Basics.{length-map}

@@ -2,8 +2,8 @@
 use Rattle.std.proofs.Common.{◌+◌, ◌^◌, ◌<◌, ◌≤◌, Bool, not, List, length, filter, refl, arith}
 use Rattle.std.proofs.lemmas.List.Filters.{length-filter_both}
 use Rattle.vlsi_base.specs.declared.name.Port.{Port}
-use Rattle.machine_meaning.specs.Machine.{Machine, inputs, input_ports, is_input, is_clock}
-use Rattle.machine_meaning.specs.Size.{machine_size}
+use Rattle.machine_core.specs.Machine.{Machine, inputs, input_ports, is_input, is_clock}
+use Rattle.machine_core.specs.Size.{machine_size}
 use Rattle.net_theory.proofs.Basics.{length-map}
 use Rattle.graph_theory.specs.Graph.{Graph, held_count}
 use Rattle.subject_table.proofs.Shared.{all_kinds}

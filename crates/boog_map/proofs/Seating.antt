@@ -10,10 +10,10 @@ use Rattle.vlsi_base.specs.declared.name.Terminal.{Terminal}
 use Rattle.vlsi_base.specs.Names.{vdd, vss}
 use Rattle.vlsi_base.specs.Member.{In, here, there, AllDifferent}
 use Rattle.bool_expr.specs.Expression.{Expression}
-use Rattle.machine_meaning.specs.Machine.{Machine, inputs, is_input, names_of}
+use Rattle.machine_core.specs.Machine.{Machine, inputs, is_input, names_of}
 use Rattle.machine_core.specs.Checked.{IsChecked}
-use Rattle.cell_model.specs.declared.kind.Kind.{Kind}
-use Rattle.cell_model.specs.declared.kind.Kind.TheVariants as kind
+use Rattle.vlsi_base.specs.declared.kind.Kind.{Kind}
+use Rattle.vlsi_base.specs.declared.kind.Kind.TheVariants as kind
 use Rattle.cell_model.specs.Cell.{Function, gate, flip_flop, Cell, pin_ports, cell_inputs}
 use Rattle.cell_model.specs.Library.{Library, cell_of, cell_named, IsPlain}
 use Rattle.cell_model.specs.Usable.{IsFormed}
@@ -28,12 +28,12 @@ use Rattle.net_core.specs.Places.{IsThere}
 use Rattle.net_core.specs.Netlist.{Netlist as InMemory, IsNetlist, port, pin_of, terminals, terminals_of, pins_of, HasClass}
 use Rattle.net_core.specs.Joins.{Joined}
 use Rattle.net_core.proofs.Frames.{unmapped}
-use Rattle.net_meaning.specs.Netlist.{Member, Netlist, IsTerminal, a_port, a_pin}
+use Rattle.net_meaning.specs.Netlist.{Member, AbstractNetlist, IsTerminal, a_port, a_pin}
 use Rattle.net_meaning.specs.Agreement.{register_instance}
 use Rattle.net_meaning.specs.Well.{gate_instance}
 use Rattle.net_theory.specs.Sources.{Source, node, IsNumber, Seat, Sourced, source_of, pin_sources, ComesFrom}
 use Rattle.net_theory.proofs.Basics.{In-map, In-map_back, length-map, number_below}
-use Rattle.net_view.specs.View.{IsSeenAs, member_of}
+use Rattle.net_right.specs.View.{IsSeenAs, member_of}
 use Rattle.graph_theory.specs.Graph.{Node, fixed, inv, nand, Graph, held_count}
 use Rattle.graph_theory.specs.Maps.{IsCut, IsPlaced, IsRegisterSeat, IsGateSeat, Maps, Computes}
 use Rattle.graph_theory.proofs.Values.{plain_is_cut}
@@ -128,7 +128,7 @@ module _ (m : Machine) (checked : IsChecked m) (g : Graph) (sub : IsSubjectGraph
 
   -- ---- a netlist that it is seen as
 
-  module _ (k : Netlist) (seen : IsSeenAs n k) where
+  module _ (k : AbstractNetlist) (seen : IsSeenAs n k) where
     abbrev pub sourced : Sourced
     sourced = sourced_by n signals k
 
@@ -272,10 +272,10 @@ module _ (m : Machine) (checked : IsChecked m) (g : Graph) (sub : IsSubjectGraph
     -- ---- parts of the netlist
 
     ports_are : k.ports ≡ names_of ports
-    ports_are = ap (λ (x : Netlist). x.ports) seen.is ∙ ap (λ (xs : List Port). names_of xs) ports_is
+    ports_are = ap (λ (x : AbstractNetlist). x.ports) seen.is ∙ ap (λ (xs : List Port). names_of xs) ports_is
 
     members : k.instances ≡ map (λ (p : Seat). p.member) (map (seat ps) spots)
-    members = ap (λ (x : Netlist). x.instances) seen.is ∙ ap (map member_of) instances_is ∙ members_are ps spots
+    members = ap (λ (x : AbstractNetlist). x.instances) seen.is ∙ ap (map member_of) instances_is ∙ members_are ps spots
 
     instances : k.instances ≡ map (λ (p : Seat). p.member) (map (seat ps) registers ++ map (seat ps) gates)
     instances = members ∙ ap (map (λ (p : Seat). p.member)) (map-append (seat ps) registers gates)

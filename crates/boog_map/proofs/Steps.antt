@@ -4,7 +4,7 @@ use Rattle.vlsi_base.specs.declared.name.Name.{Name}
 use Rattle.vlsi_base.specs.declared.name.Port.{Port}
 use Rattle.vlsi_base.specs.Names.{vss}
 use Rattle.bool_expr.specs.Expression.{bit}
-use Rattle.machine_meaning.specs.Machine.{is_input}
+use Rattle.machine_core.specs.Machine.{is_input}
 use Rattle.net_core.specs.Netlist.{port}
 use Rattle.subject_table.specs.declared.table.Node.{Node as Kind}
 use Rattle.subject_table.specs.View.{node_view}

@@ -8,9 +8,9 @@ use Rattle.vlsi_base.specs.declared.name.Terminal.{Terminal}
 use Rattle.vlsi_base.specs.Names.{vdd, vss}
 use Rattle.vlsi_base.specs.Member.{In}
 use Rattle.bool_expr.specs.Expression.{bit}
-use Rattle.machine_meaning.specs.Machine.{is_input, is_clock}
-use Rattle.machine_meaning.specs.Named.{is_same_name}
-use Rattle.cell_model.specs.declared.kind.Kind.TheVariants as kind
+use Rattle.machine_core.specs.Machine.{is_input, is_clock}
+use Rattle.machine_core.specs.Named.{is_same_name}
+use Rattle.vlsi_base.specs.declared.kind.Kind.TheVariants as kind
 use Rattle.net_core.specs.Places.{IsThere, NoneTwice}
 use Rattle.net_core.specs.Netlist.{Instance, port, pin_of, terminals_of, AreInOrder}
 use Rattle.net_core.specs.Joins.{Draft}

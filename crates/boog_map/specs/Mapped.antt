@@ -2,11 +2,11 @@
 use Rattle.std.specs.Prelude.{◌≡◌, Bool, List, ◌++◌, map, length}
 use Rattle.vlsi_base.specs.declared.name.Terminal.{Terminal}
 use Rattle.vlsi_base.specs.Names.{vdd, vss}
-use Rattle.machine_meaning.specs.Machine.{Machine, inputs}
+use Rattle.machine_core.specs.Machine.{Machine, inputs}
 use Rattle.cell_model.specs.Library.{Library}
 use Rattle.cell_pins.specs.Pins.{with_supply}
 use Rattle.net_core.specs.Netlist.{Netlist as InMemory, IsNetlist, port}
-use Rattle.net_view.specs.Right.{IsRightNetlist, HasPinsOfCells}
+use Rattle.net_right.specs.Right.{IsRightNetlist, HasPinsOfCells}
 use Rattle.graph_theory.specs.Graph.{Graph, held_count}
 use Rattle.boog_map.specs.declared.part.Parts.{Parts}
 use Rattle.boog_map.specs.declared.place.Plan.{Plan}

@@ -1,19 +1,18 @@
 -- What mapping asks of a machine and of a library, and what it gives beside a right netlist.
-use Rattle.std.specs.Prelude.{◌≡◌, ◌==◌, ◌↔◌, ℕ, ◌+◌, ◌*◌, ◌^◌, ◌<◌, Bool, not, List, [], ◌∷◌, length, Some, slice_get, IsTrue, filter}
+use Rattle.std.specs.Prelude.{◌≡◌, ◌==◌, ◌↔◌, ℕ, ◌+◌, ◌*◌, ◌^◌, ◌<◌, Bool, not, List, length, Some, slice_get, IsTrue, filter}
 use Rattle.vlsi_base.specs.Member.{In}
 use Rattle.bool_expr.specs.Expression.{bit}
-use Rattle.machine_meaning.specs.Machine.{Machine}
-use Rattle.machine_meaning.specs.Size.{machine_size}
-use Rattle.cell_model.specs.declared.kind.Kind.{Kind}
+use Rattle.machine_core.specs.Machine.{Machine}
+use Rattle.machine_core.specs.Size.{machine_size}
+use Rattle.vlsi_base.specs.declared.kind.Kind.{Kind}
 use Rattle.cell_model.specs.Cell.{Cell}
 use Rattle.cell_model.specs.Library.{Library, IsUsable}
 use Rattle.cell_model.specs.Covering.{HasKind, HasCellOf, needed, IsFirstMissing}
 use Rattle.net_core.specs.Netlist.{Instance, Netlist as InMemory}
 use Rattle.net_core.specs.Places.{IsThere}
-use Rattle.net_meaning.specs.Netlist.{Netlist}
-use Rattle.net_view.specs.View.{IsSeenAs}
-use Rattle.ocp_rows.specs.Placement.{Placement}
-use Rattle.ocp_rows.specs.Order.{IsInNetlistOrder, IsLean}
+use Rattle.net_meaning.specs.Netlist.{AbstractNetlist}
+use Rattle.net_right.specs.View.{IsSeenAs}
+use Rattle.net_meaning.specs.Order.{IsInNetlistOrder, IsLean}
 use Rattle.graph_theory.specs.Graph.{Graph, held_count}
 use Rattle.boog_map.specs.declared.error.MapError.{MapError}
 use Rattle.boog_map.specs.declared.error.MapError.TheVariants as error
@@ -47,10 +46,10 @@ pub record IsChosen (cells : List Cell) (k : Kind) (c : Cell) : Type 0 where
 abbrev pub UsesFirstCells : InMemory → Library → Type 0
 UsesFirstCells n l = (i : Instance) → IsThere n.instances i → (k : Kind) × (c : Cell) × IsChosen l.cells k c × (i.model ≡ c.name)
 
--- in one row its instances stand in the order of a netlist: q0, q1 and so on, then g0, g1 and so on, each gate after those
+-- its instances stand in the order of a netlist: q0, q1 and so on, then g0, g1 and so on, each gate after those
 -- that it reads
 abbrev pub StandsInOrder : InMemory → Library → Machine → Type 0
-StandsInOrder n l m = (k : Netlist) (p : Placement) → IsSeenAs n k → p.rows ≡ k.instances ∷ [] → IsInNetlistOrder k l m p 0
+StandsInOrder n l m = (k : AbstractNetlist) → IsSeenAs n k → IsInNetlistOrder k l m 0
 
 -- there is one cell for each register and for each node that is reached from a root
 pub record HasOneCellEach (n : InMemory) (m : Machine) (g : Graph) : Type 0 where
@@ -61,4 +60,4 @@ pub record HasOneCellEach (n : InMemory) (m : Machine) (g : Graph) : Type 0 wher
 
 -- so at most 2 more gates than the machine's size
 abbrev pub IsLeanFor : InMemory → Machine → Type 0
-IsLeanFor n m = (k : Netlist) → IsSeenAs n k → IsLean k m
+IsLeanFor n m = (k : AbstractNetlist) → IsSeenAs n k → IsLean k m

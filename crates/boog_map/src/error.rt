@@ -2,9 +2,9 @@
 ghost use Rattle.std.specs.Prelude.{◌≡◌};
 ghost use Rattle.boog_map.specs.declared.error.MapError.TheVariants.{Memory};
 
-use cell_model::Kind;
 use std::alloc::AllocError;
 use thiserror::Error;
+use vlsi_base::Kind;
 
 /// Why a machine isn't mapped.
 #[derive(Debug, Drop, Error)]

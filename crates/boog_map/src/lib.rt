@@ -11,4 +11,4 @@ mod ports;
 mod reach;
 
 pub use error::MapError;
-pub use mapping::map;
+pub use mapping::{map, map_covered};

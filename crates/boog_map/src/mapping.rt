@@ -1,6 +1,6 @@
 // Plain technology mapping.
 ghost use Rattle.std.specs.Prelude.{◌≡◌, ◌++◌, ◌<◌, ◌^◌, map, length, IfOk, OnOk, IfErr};
-ghost use Rattle.net_view.specs.Right.{IsRightNetlist, HasPinsOfCells};
+ghost use Rattle.net_right.specs.Right.{IsRightNetlist, HasPinsOfCells};
 ghost use Rattle.net_core.specs.Netlist.{IsNetlist};
 ghost use Rattle.graph_theory.specs.Graph.{held_count};
 ghost use Rattle.subject_graph.specs.Subject.{IsSubjectGraph};
@@ -86,8 +86,8 @@ fn sketched(
     })
 }
 
-/// The netlist of a machine whose library has a cell of each kind.
-fn mapped(
+/// Maps a machine as `map` does, to cells of a library that has a usable one of each kind. Takes memory and time as `map` does.
+pub fn map_covered(
     alloc: Global,
     machine: &Machine,
     graph: &Graph,
@@ -133,6 +133,6 @@ pub fn map(
     if let Some(kind) = first_missing(library.cells(), has_registers(machine)) {
         return Err(MapError::NoCover(kind));
     }
-    let netlist = mapped(alloc, machine, graph, library)?;
+    let netlist = map_covered(alloc, machine, graph, library)?;
     Ok(netlist)
 }

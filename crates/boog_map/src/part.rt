@@ -3,10 +3,10 @@ ghost use Rattle.std.specs.Prelude.{◌≡◌, ◌↔◌, ◌∷◌, [], map, fi
 ghost use Rattle.std.specs.Option.{option_copied};
 ghost use Rattle.vlsi_base.specs.Member.{In};
 ghost use Rattle.vlsi_base.specs.Names.{scalar};
-ghost use Rattle.machine_meaning.specs.Machine.{is_input, names_of};
-ghost use Rattle.machine_meaning.specs.Named.{is_same_name};
+ghost use Rattle.machine_core.specs.Machine.{is_input, names_of};
+ghost use Rattle.machine_core.specs.Named.{is_same_name};
 ghost use Rattle.cell_model.specs.Cell.{cell_outputs};
-ghost use Rattle.cell_model.specs.declared.kind.Kind.{Kind};
+ghost use Rattle.vlsi_base.specs.declared.kind.Kind.{Kind};
 ghost use Rattle.cell_model.specs.Covering.{HasKind, HasCellOf, needed};
 ghost use Rattle.cell_model.specs.Library.{IsUsable};
 ghost use Rattle.cell_model.specs.Usable.{IsFormed};

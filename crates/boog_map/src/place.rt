@@ -7,10 +7,9 @@ ghost use Rattle.subject_table.specs.View.{node_view};
 ghost use Rattle.boog_map.specs.Draft.{output_terminal, register_spots, gate_spot, gate_spots, gate_drivers};
 
 use crate::part::Parts;
-use cell_model::Kind;
 use std::alloc::{AllocError, Global};
 use subject_graph::Node;
-use vlsi_base::{Name, Terminal, Text, push_u64};
+use vlsi_base::{Kind, Name, Terminal, Text, push_u64};
 
 /// What gives a class its bit: a supply, the clock, or a node.
 #[derive(Clone, Copy)]

@@ -1,7 +1,7 @@
 // What the ports of a netlist show.
 ghost use Rattle.std.specs.Prelude.{◌≡◌, ◌≤◌, ◌+◌, ◌<◌, ◌^◌, length, filter, not, IfOk};
 ghost use Rattle.std.specs.Option.{option_copied};
-ghost use Rattle.machine_meaning.specs.Machine.{is_input, is_clock};
+ghost use Rattle.machine_core.specs.Machine.{is_input, is_clock};
 ghost use Rattle.boog_map.specs.Draft.{port_use, use_signal, inputs_after, outputs_after, HasOutput, tied_ports};
 
 use crate::part::{is_named, is_same};

@@ -1,18 +1,18 @@
 -- A netlist that is mapped of what was read can be written, and it is small.
 use Rattle.std.proofs.Common.{◌+◌, ◌*◌, ◌≤◌, List, length, ap, arith}
 use Rattle.vlsi_base.specs.declared.name.Port.{Port}
-use Rattle.machine_meaning.specs.Machine.{Machine}
-use Rattle.machine_meaning.specs.Size.{machine_size}
+use Rattle.machine_core.specs.Machine.{Machine}
+use Rattle.machine_core.specs.Size.{machine_size}
 use Rattle.machine_core.specs.Checked.{IsChecked}
-use Rattle.source_meaning.specs.Checks.{most_ports}
+use Rattle.source_checks.specs.Checks.{most_ports}
 use Rattle.cell_model.specs.Library.{Library}
 use Rattle.net_core.specs.Netlist.{Netlist}
 use Rattle.boog_map.proofs.Supplied.{two_longer}
 use Rattle.boog_map.proofs.MachinePorts.{ports_sorted, ports_apart}
-use Rattle.vbe_words.specs.Laws.{MachineIsNamed, MachineIsShort, CatalIsNamed, MachineCanBeWritten, CellCanBeWritten}
+use Rattle.vbe_writable.specs.Laws.{MachineIsNamed, MachineIsShort, CatalIsNamed, MachineCanBeWritten, CellCanBeWritten}
 use Rattle.boog_run.specs.Boog.{IsNetlistFor}
 use Rattle.boog_run.specs.Laws.{SourceCanBeDeclared, NetlistIsWritable, NetlistIsSmall}
-use Rattle.machine_limit.specs.declared.size.TheConstants.{MOST_SIZE}
+use Rattle.tool_drive.specs.declared.size.TheConstants.{MOST_SIZE}
 use Rattle.boog_run.proofs.Naming.{writable}
 use Rattle.boog_run.proofs.Sizes.{few_ports, few_cells}
 

@@ -1,23 +1,23 @@
 -- From a netlist that was mapped and written to what `boog` answers, and what follows of it.
 use Rattle.std.proofs.Common.{ℕ, ◌≤◌, false, List, IfSome, Option, sym, subst}
-use Rattle.machine_meaning.specs.Machine.{Machine}
-use Rattle.machine_meaning.specs.Size.{machine_size}
+use Rattle.machine_core.specs.Machine.{Machine}
+use Rattle.machine_core.specs.Size.{machine_size}
 use Rattle.vbe_io.specs.Text.{IsVbe}
 use Rattle.cell_model.specs.Library.{Library}
 use Rattle.cell_lib.specs.Library.{IsLibraryOf}
 use Rattle.net_core.specs.Netlist.{Netlist}
-use Rattle.net_view.specs.Laws.{SeenIsWellFormed}
+use Rattle.net_right.specs.Laws.{SeenIsWellFormed}
 use Rattle.spell_theory.specs.Layout.{text_of}
-use Rattle.vbe_words.specs.Laws.{MachineIsNamed, CatalIsNamed, MachineCanBeWritten, CellCanBeWritten}
-use Rattle.vst_write.specs.Written.{layout}
-use Rattle.vst_again.specs.Placed.{file_of}
-use Rattle.vst_again.specs.Says.{WrittenIsASentence, WrittenSaysTheNetlist}
-use Rattle.tool_words.specs.declared.command.BoogCommand.{BoogCommand}
+use Rattle.vbe_writable.specs.Laws.{MachineIsNamed, CatalIsNamed, MachineCanBeWritten, CellCanBeWritten}
+use Rattle.vst_print.specs.Written.{layout}
+use Rattle.vst_print.specs.Placed.{file_of}
+use Rattle.vst_print.specs.Says.{WrittenIsASentence, WrittenSaysTheNetlist}
+use Rattle.boog_run.specs.declared.words.BoogCommand.{BoogCommand}
 use Rattle.tool_drive.specs.declared.tool.Product.{Product}
 use Rattle.boog_run.specs.Boog.{IsNetlistFor, IsWrittenAs, IsMapping}
 use Rattle.boog_run.specs.Laws.{MappingAgrees, MappingIsSaid}
-use Rattle.vst_said.specs.Text.{IsTextOf}
-use Rattle.machine_limit.specs.declared.size.TheConstants.{MOST_SIZE}
+use Rattle.vst_print.specs.Text.{IsTextOf}
+use Rattle.tool_drive.specs.declared.size.TheConstants.{MOST_SIZE}
 use Rattle.boog_run.proofs.Naming.{writable}
 
 pub mapping : (c : BoogCommand) (source list : List ℕ) (cells : List (List ℕ)) (l : Library) (m : Machine) (n : Netlist) (p : Product) → IsLibraryOf false list cells l

@@ -2,10 +2,10 @@
 use Rattle.std.proofs.Common.{◌≡◌, inl, inr, ℕ, zero, suc, ◌+◌, ◌^◌, ◌<◌, ◌≤◌, false, List, [], ◌∷◌, ◌++◌, map, length, refl, sym, ◌∙◌, ap, subst, arith, length-append}
 use Rattle.vlsi_base.specs.declared.name.Port.{Port}
 use Rattle.vlsi_base.specs.Member.{In, here, there}
-use Rattle.machine_meaning.specs.Machine.{Machine}
-use Rattle.machine_meaning.specs.Size.{machine_size}
-use Rattle.port_words.specs.Words.{IsIdentifier, CanBePorts}
-use Rattle.port_words.proofs.Numbered.{numbered}
+use Rattle.machine_core.specs.Machine.{Machine}
+use Rattle.machine_core.specs.Size.{machine_size}
+use Rattle.text_names.specs.Words.{IsIdentifier, CanBePorts}
+use Rattle.text_names.proofs.Numbered.{numbered}
 use Rattle.cell_model.specs.Access.{count_to}
 use Rattle.cell_model.specs.Cell.{Cell}
 use Rattle.cell_model.specs.Library.{Library}
@@ -16,19 +16,18 @@ use Rattle.cell_pins.specs.Table.{IsTableOf}
 use Rattle.cell_pins.proofs.Sound.{member_at}
 use Rattle.net_core.specs.declared.pins.ModelPins.{ModelPins}
 use Rattle.net_core.specs.Netlist.{Instance, Netlist}
-use Rattle.net_meaning.specs.Netlist.{Member, Netlist as Seen}
+use Rattle.net_meaning.specs.Netlist.{Member, AbstractNetlist as Seen}
 use Rattle.net_meaning.specs.Agreement.{register_instance}
 use Rattle.net_meaning.specs.Well.{gate_instance, buffer_instance}
 use Rattle.net_theory.proofs.Basics.{length-map}
-use Rattle.net_view.specs.View.{member_of}
-use Rattle.net_view.specs.Writable.{CanBeAnInstance, CanBeNamed, PinsCanBeWritten}
-use Rattle.net_view.proofs.Lists.{in_place}
-use Rattle.ocp_rows.specs.Order.{IsInNetlistOrder}
-use Rattle.ocp_rows.specs.Placement.{Placement}
-use Rattle.vbe_words.specs.Laws.{CatalIsNamed, CellCanBeWritten, with_supplies}
-use Rattle.vst_words.proofs.Pins.{said_in, name_in, table_written}
+use Rattle.net_right.specs.View.{member_of}
+use Rattle.net_right.specs.Writable.{CanBeAnInstance, CanBeNamed, PinsCanBeWritten}
+use Rattle.net_right.proofs.Lists.{in_place}
+use Rattle.net_meaning.specs.Order.{IsInNetlistOrder}
+use Rattle.vbe_writable.specs.Laws.{CatalIsNamed, CellCanBeWritten, with_supplies}
+use Rattle.vst_laws.proofs.Pins.{said_in, name_in, table_written}
 use Rattle.boog_run.specs.Boog.{IsNetlistFor, IsWritable}
-use Rattle.machine_limit.specs.declared.size.TheConstants.{MOST_SIZE}
+use Rattle.tool_drive.specs.declared.size.TheConstants.{MOST_SIZE}
 use Rattle.boog_run.proofs.Sizes.{few_cells}
 
 -- ---- names of instances
@@ -110,11 +109,8 @@ module _ (lists : CatalIsNamed) (pins_written : CellCanBeWritten) (list : List �
     abbrev seen : Seen
     seen = netlist.right.sourced.netlist
 
-    abbrev placed : Placement
-    placed = record { rows = seen.instances ∷ []; ports = [] }
-
-    in_order : IsInNetlistOrder seen l m placed 0
-    in_order = netlist.order seen placed netlist.right.seen refl
+    in_order : IsInNetlistOrder seen l m 0
+    in_order = netlist.order seen netlist.right.seen
 
     names_are : map (λ (i : Instance). i.name) n.instances ≡ names_by (length m.registers) in_order.gates 0
     names_are = same_names n.instances ∙ sym (ap (λ (k : Seen). map (λ (i : Member). i.name) k.instances) netlist.right.seen.is) ∙ in_order.names

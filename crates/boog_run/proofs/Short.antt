@@ -1,13 +1,13 @@
 -- The names of a netlist that was mapped of what was read are short.
-use Rattle.std.proofs.Common.{◌≡◌, inl, inr, ℕ, ◌+◌, ◌^◌, ◌<◌, ◌≤◌, false, List, [], ◌∷◌, ◌++◌, map, filter, length, IfSome, refl, sym, ◌∙◌, ap, subst, arith}
+use Rattle.std.proofs.Common.{◌≡◌, inl, inr, ℕ, ◌+◌, ◌^◌, ◌<◌, ◌≤◌, false, List, ◌∷◌, ◌++◌, map, filter, length, IfSome, sym, ◌∙◌, ap, subst, arith}
 use Rattle.std.specs.Fmt.{decimal}
 use Rattle.std.proofs.lemmas.Fmt.{length-decimal-le}
 use Rattle.vlsi_base.specs.declared.name.Port.{Port}
 use Rattle.vlsi_base.specs.declared.name.Name.{Name}
 use Rattle.vlsi_base.specs.Names.{vdd, vss, comes_before}
 use Rattle.vlsi_base.specs.Member.{In, here, there}
-use Rattle.machine_meaning.specs.Machine.{Machine}
-use Rattle.machine_meaning.specs.Size.{machine_size}
+use Rattle.machine_core.specs.Machine.{Machine}
+use Rattle.machine_core.specs.Size.{machine_size}
 use Rattle.cell_model.specs.Access.{count_to}
 use Rattle.cell_model.specs.Cell.{Cell}
 use Rattle.cell_model.specs.Library.{Library}
@@ -18,19 +18,18 @@ use Rattle.cell_pins.specs.Pins.{supply, with_supply}
 use Rattle.cell_pins.proofs.Ports.{in_filter}
 use Rattle.cell_pins.proofs.Sound.{member_at}
 use Rattle.net_core.specs.Netlist.{Instance, Netlist}
-use Rattle.net_meaning.specs.Netlist.{Member, Netlist as Seen}
+use Rattle.net_meaning.specs.Netlist.{Member, AbstractNetlist as Seen}
 use Rattle.net_meaning.specs.Agreement.{register_instance}
 use Rattle.net_meaning.specs.Well.{gate_instance, buffer_instance}
 use Rattle.net_theory.proofs.Basics.{length-map}
-use Rattle.net_view.specs.Writable.{IsShort, HasShortNames}
-use Rattle.net_view.proofs.Lists.{in_place}
-use Rattle.ocp_rows.specs.Order.{IsInNetlistOrder}
-use Rattle.ocp_rows.specs.Placement.{Placement}
-use Rattle.vbe_words.specs.Laws.{CatalIsShort}
+use Rattle.net_right.specs.Writable.{IsShort, HasShortNames}
+use Rattle.net_right.proofs.Lists.{in_place}
+use Rattle.net_meaning.specs.Order.{IsInNetlistOrder}
+use Rattle.vbe_writable.specs.Laws.{CatalIsShort}
 use Rattle.boog_run.specs.Boog.{IsNetlistFor}
 use Rattle.boog_run.specs.Laws.{NetlistIsShort}
-use Rattle.machine_limit.specs.declared.size.TheConstants.{MOST_SIZE}
-use Rattle.vst_words.proofs.Pins.{said_in, name_in}
+use Rattle.tool_drive.specs.declared.size.TheConstants.{MOST_SIZE}
+use Rattle.vst_laws.proofs.Pins.{said_in, name_in}
 use Rattle.boog_run.proofs.Naming.{counted, names_by, same_names, many}
 use Rattle.boog_run.proofs.Sizes.{few_cells}
 
@@ -84,11 +83,8 @@ module _ (list : List ℕ) (files : List (List ℕ)) (l : Library) (library : Is
   abbrev seen : Seen
   seen = netlist.right.sourced.netlist
 
-  abbrev placed : Placement
-  placed = record { rows = seen.instances ∷ []; ports = [] }
-
-  in_order : IsInNetlistOrder seen l m placed 0
-  in_order = netlist.order seen placed netlist.right.seen refl
+  in_order : IsInNetlistOrder seen l m 0
+  in_order = netlist.order seen netlist.right.seen
 
   names_are : map (λ (i : Instance). i.name) n.instances ≡ names_by (length m.registers) in_order.gates 0
   names_are = same_names n.instances ∙ sym (ap (λ (k : Seen). map (λ (i : Member). i.name) k.instances) netlist.right.seen.is) ∙ in_order.names

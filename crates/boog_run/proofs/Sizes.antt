@@ -2,22 +2,22 @@
 use Rattle.std.proofs.Common.{ℕ, ◌+◌, ◌≤◌, Bool, not, List, length, refl, arith}
 use Rattle.std.proofs.lemmas.List.Sorted.{length_permutation}
 use Rattle.std.proofs.lemmas.List.Filters.{length-filter_both}
-use Rattle.machine_meaning.specs.Machine.{Machine}
-use Rattle.machine_meaning.specs.Size.{machine_size}
-use Rattle.source_meaning.specs.Symbols.{symbols}
-use Rattle.source_meaning.specs.Elaboration.{port_bits}
-use Rattle.source_meaning.specs.Checks.{most_ports}
+use Rattle.machine_core.specs.Machine.{Machine}
+use Rattle.machine_core.specs.Size.{machine_size}
+use Rattle.source_checks.specs.Symbols.{symbols}
+use Rattle.source_checks.specs.Elaboration.{port_bits}
+use Rattle.source_checks.specs.Checks.{most_ports}
 use Rattle.vbe_io.specs.Text.{IsVbe}
 use Rattle.cell_model.specs.Library.{Library}
 use Rattle.graph_theory.specs.Graph.{Graph}
 use Rattle.subject_graph.specs.Subject.{IsNumberable, IsSubjectGraph}
 use Rattle.net_core.specs.Netlist.{Netlist, IsNetlist}
-use Rattle.net_view.specs.Right.{IsRightNetlist, HasPinsOfCells}
-use Rattle.net_view.specs.Condition.{MeetsConditionIn}
+use Rattle.net_right.specs.Right.{IsRightNetlist, HasPinsOfCells}
+use Rattle.net_right.specs.Condition.{MeetsConditionIn}
 use Rattle.boog_map.specs.Netlist.{HasRoomForCells, Covers, UsesFirstCells, StandsInOrder, HasOneCellEach, IsLeanFor}
 use Rattle.boog_map.proofs.Rooms.{few_inputs, few_nodes}
 use Rattle.boog_run.specs.Boog.{IsNetlistFor}
-use Rattle.machine_limit.specs.declared.size.TheConstants.{MOST_SIZE}
+use Rattle.tool_drive.specs.declared.size.TheConstants.{MOST_SIZE}
 
 pub few_ports : (bytes : List ℕ) (m : Machine) → IsVbe bytes m → length m.ports ≤ most_ports
 few_ports bytes m is =

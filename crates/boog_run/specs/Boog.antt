@@ -1,17 +1,16 @@
 -- What `boog` reads and answers.
 use Rattle.std.specs.Prelude.{◌≡◌, ℕ, ◌<◌, ◌≤◌, false, List, [], ◌∷◌, ◌++◌, length, get_or, codes, None, Some, Result, Ok, Err}
-use Rattle.std.specs.Fmt.{decimal}
-use Rattle.machine_meaning.specs.Machine.{Machine}
-use Rattle.machine_meaning.specs.Size.{machine_size}
+use Rattle.machine_core.specs.Machine.{Machine}
+use Rattle.machine_core.specs.Size.{machine_size}
 use Rattle.vbe_io.specs.Text.{IsVbe, IsVbeRefusal}
 use Rattle.catal.specs.Cells.{cells_in}
 use Rattle.cell_model.specs.Library.{Library}
-use Rattle.cell_model.specs.declared.kind.Kind.{Kind}
+use Rattle.vlsi_base.specs.declared.kind.Kind.{Kind}
 use Rattle.cell_model.specs.Covering.{needed, IsFirstMissing}
 use Rattle.graph_theory.specs.Graph.{Graph}
 use Rattle.subject_graph.specs.Subject.{IsSubjectGraph}
 use Rattle.boog_map.specs.Netlist.{has_registers, Covers, UsesFirstCells, StandsInOrder, HasOneCellEach, IsLeanFor}
-use Rattle.net_view.specs.Writable.{CanBeNamed, PinsCanBeWritten}
+use Rattle.net_right.specs.Writable.{CanBeNamed, PinsCanBeWritten}
 use Rattle.cell_lib.specs.declared.error.LibError.{LibError}
 use Rattle.cell_lib.specs.Files.{catal_name, cell_files}
 use Rattle.cell_lib.specs.Library.{IsLibraryOf, IsRefusedLibrary, status_of}
@@ -19,19 +18,20 @@ use Rattle.cell_pins.specs.Table.{IsTableOf}
 use Rattle.net_core.specs.declared.pins.ModelPins.{ModelPins}
 use Rattle.net_core.specs.Netlist.{Netlist, IsNetlist}
 use Rattle.net_core.specs.Checks.{IsPinTable}
-use Rattle.net_view.specs.Condition.{MeetsConditionIn}
-use Rattle.net_view.specs.Right.{IsRightNetlist, HasPinsOfCells}
+use Rattle.net_right.specs.Condition.{MeetsConditionIn}
+use Rattle.net_right.specs.Right.{IsRightNetlist, HasPinsOfCells}
 use Rattle.spell_theory.specs.Layout.{text_of}
-use Rattle.vst_write.specs.Written.{layout}
-use Rattle.tool_words.specs.declared.command.BoogCommand.{BoogCommand}
+use Rattle.vst_print.specs.Written.{layout}
+use Rattle.boog_run.specs.declared.words.BoogCommand.{BoogCommand}
 use Rattle.tool_drive.specs.declared.status.Status.{Status}
 use Rattle.tool_drive.specs.declared.status.Status.TheVariants as status
 use Rattle.tool_drive.specs.declared.tool.Product.{Product}
 use Rattle.tool_drive.specs.declared.tool.Refusal.{Refusal}
+use Rattle.tool_drive.specs.Lines.{count_line}
 use Rattle.tool_drive.specs.Plan.{Plan, Inputs, limited}
 use Rattle.tool_drive.specs.Refusals.{OfFile}
-use Rattle.machine_limit.specs.Size.{size_limit}
-use Rattle.machine_limit.specs.declared.size.TheConstants.{MOST_SIZE}
+use Rattle.tool_drive.specs.Size.{size_limit}
+use Rattle.tool_drive.specs.declared.size.TheConstants.{MOST_SIZE}
 
 -- SOURCE, then CATAL, and then the files of the cells that CATAL uses
 abbrev pub boog_plan : BoogCommand → Plan
@@ -45,7 +45,7 @@ netlist_name out = out ++ codes ".vst"
 
 -- how many instances a netlist has
 abbrev pub report : Netlist → List ℕ
-report n = codes "cells " ++ (decimal (length n.instances) ++ 10 ∷ [])
+report n = count_line (codes "cells") (length n.instances)
 
 -- A netlist for a machine. The library has a usable cell of each kind that mapping needs. The netlist is right for the machine, each
 -- instance has the pins of its cell, it meets the condition of the stages behind, has for each kind the first usable cell, stands in

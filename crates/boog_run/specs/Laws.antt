@@ -1,25 +1,25 @@
 -- What follows of a netlist that `boog` writes.
 use Rattle.std.specs.Prelude.{ℕ, ◌+◌, ◌*◌, ◌≤◌, false, List, length, IfSome}
-use Rattle.machine_meaning.specs.Machine.{Machine}
-use Rattle.machine_meaning.specs.Size.{machine_size}
+use Rattle.machine_core.specs.Machine.{Machine}
+use Rattle.machine_core.specs.Size.{machine_size}
 use Rattle.machine_core.specs.Checked.{IsChecked}
-use Rattle.source_meaning.specs.Checks.{most_ports}
+use Rattle.source_checks.specs.Checks.{most_ports}
 use Rattle.vbe_io.specs.Text.{IsVbe}
 use Rattle.cell_model.specs.Library.{Library}
 use Rattle.cell_lib.specs.Library.{IsLibraryOf}
 use Rattle.net_core.specs.Netlist.{Netlist}
-use Rattle.net_meaning.specs.Netlist.{Netlist as Seen}
+use Rattle.net_meaning.specs.Netlist.{AbstractNetlist as Seen}
 use Rattle.net_meaning.specs.Well.{IsWell}
 use Rattle.net_meaning.specs.Agreement.{Agrees}
-use Rattle.net_view.specs.View.{IsSeenAs}
-use Rattle.net_view.specs.Writable.{HasShortNames}
-use Rattle.vst_again.specs.Says.{IsWithinLimits}
-use Rattle.vst_said.specs.Text.{IsTextOf}
-use Rattle.machine_declared.specs.Declared.{CanBeDeclared}
-use Rattle.tool_words.specs.declared.command.BoogCommand.{BoogCommand}
+use Rattle.net_right.specs.View.{IsSeenAs}
+use Rattle.net_right.specs.Writable.{HasShortNames}
+use Rattle.vst_print.specs.Says.{IsWithinLimits}
+use Rattle.vst_print.specs.Text.{IsTextOf}
+use Rattle.vbe_writable.specs.Declared.{CanBeDeclared}
+use Rattle.boog_run.specs.declared.words.BoogCommand.{BoogCommand}
 use Rattle.tool_drive.specs.declared.tool.Product.{Product}
 use Rattle.boog_run.specs.Boog.{IsMapping, IsNetlistFor, IsWritable}
-use Rattle.machine_limit.specs.declared.size.TheConstants.{MOST_SIZE}
+use Rattle.tool_drive.specs.declared.size.TheConstants.{MOST_SIZE}
 
 -- As every netlist of a layout that it can be seen as, it is well formed for the source's machine and behaves as this does: from all
 -- contents of its registers and for all vectors it runs in exactly one way, and from contents that match those of the machine's

@@ -3,12 +3,12 @@ ghost use Rattle.tool_drive.specs.Table.{IsJudged};
 ghost use Rattle.boog_run.specs.Boog.{Maps};
 
 use crate::netlist::{netlist_of, product};
+use crate::words::BoogCommand;
 use cell_lib::{catal_file, library_status, named_files, read_library};
 use std::alloc::{AllocError, Global};
 use tool_drive::{Product, Refusal, Tool, Wanted, bytes_at, refused};
-use tool_words::BoogCommand;
 use vbe_io::read_vbe;
-use vbe_words::{catal_is_named, cell_can_be_written, machine_can_be_written, machine_is_named};
+use vbe_writable::{catal_is_named, cell_can_be_written, machine_can_be_written, machine_is_named};
 use vlsi_base::FileBytes;
 
 /// `boog`, with what it is asked: it maps the machine of SOURCE to usable cells of the library, writes the netlist to NAME.vst, and

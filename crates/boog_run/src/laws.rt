@@ -1,11 +1,11 @@
 // Laws: what follows of a netlist that is written. They cost nothing when they are called.
 ghost use Rattle.boog_run.specs.Laws.{MappingAgrees, MappingIsSaid, SourceCanBeDeclared, NetlistIsWritable, NetlistIsShort, NetlistIsSmall};
 
-use net_view::right_is_well_formed;
-use vbe_words::{
+use net_right::right_is_well_formed;
+use vbe_writable::{
     catal_is_named, cell_can_be_written, machine_can_be_written, machine_is_named, names_are_short,
 };
-use vst_again::{written_is_a_sentence, written_says_the_netlist};
+use vst_print::{written_is_a_sentence, written_says_the_netlist};
 
 /// The netlist that `boog` writes is well formed for the machine of its source and behaves as this does. And its file, where names,
 /// numbers and bits are within the limits of structural texts, is a sentence of their grammar which says the netlist.

@@ -1,23 +1,23 @@
 // The netlist of a machine, and what is written and printed of it.
 ghost use Rattle.std.specs.Prelude.{◌≡◌, ◌≤◌, Some, IfOk, OnOk, IfErr, length};
-ghost use Rattle.machine_meaning.specs.Size.{machine_size as size_of};
-ghost use Rattle.source_meaning.specs.Checks.{most_ports};
+ghost use Rattle.machine_core.specs.Size.{machine_size as size_of};
+ghost use Rattle.source_checks.specs.Checks.{most_ports};
 ghost use Rattle.tool_drive.specs.Refusals.{MemoryOr};
+ghost use Rattle.boog_map.specs.Netlist.{Covers};
 ghost use Rattle.boog_run.specs.Boog.{IsNetlistFor, IsNoNetlist, IsWritable, IsWrittenAs, report as report_of};
-ghost use Rattle.machine_limit.specs.declared.size.TheConstants.{MOST_SIZE};
+ghost use Rattle.tool_drive.specs.declared.size.TheConstants.{MOST_SIZE};
 
-use boog_map::{MapError, map};
+use boog_map::{MapError, map, map_covered};
 use cell_checks::Library;
 use cell_pins::pin_table;
 use machine_core::Machine;
-use machine_limit::check_size;
 use net_core::Netlist;
-use net_view::right_meets_condition;
+use net_right::right_meets_condition;
 use std::alloc::{AllocError, Global};
 use subject_graph::Graph;
-use tool_drive::{Product, Status};
-use vlsi_base::{FileBytes, FileName, Text, push_u64};
-use vst_write::{WriteError, write_vst};
+use tool_drive::{Product, Status, check_size, count_line};
+use vlsi_base::{FileBytes, FileName};
+use vst_print::{WriteError, write_vst};
 
 /// A netlist of the library's cells for the machine, or the status that tells why there is none: `Limit` of `Size`, `NoCover`, or out
 /// of memory.
@@ -42,15 +42,32 @@ pub fn netlist_of(alloc: Global, machine: &Machine, library: &Library) -> Result
     }
 }
 
+/// A netlist of the library's cells for a machine that is small enough and that they cover. Takes memory for graph and netlist.
+pub fn covered_netlist(
+    alloc: Global,
+    machine: &Machine,
+    library: &Library,
+) -> Result<Netlist, AllocError>
+    requires ports { length machine.now.ports ≤ most_ports }
+    requires small { size_of machine.now ≤ MOST_SIZE }
+    requires covered { Covers library.now machine.now }
+    ensures { IfOk result (λ n. IsNetlistFor library.now machine.now n) }
+{
+    // Machine and library are checked, as the law asks.
+    right_meets_condition();
+    let _ = machine.name();
+    let _ = library.cells();
+    let graph = Graph::of_machine(alloc, machine)?;
+    let netlist = map_covered(alloc, machine, &graph, library)?;
+    Ok(netlist)
+}
+
 // How many instances there are.
 fn report(alloc: Global, netlist: &Netlist) -> Result<FileBytes, AllocError>
     ensures { IfOk result (λ text. text ≡ report_of netlist.now) }
 {
-    let mut number = Text::new(Vec::new(alloc));
-    push_u64(alloc, &mut number, netlist.nodes().len() as u64)?;
-    let mut text = FileBytes::from_bytes(alloc, b"cells ")?;
-    text.append(number.as_bytes())?;
-    text.append(b"\n")?;
+    let mut text = FileBytes::new(Vec::new(alloc));
+    count_line(alloc, &mut text, b"cells", netlist.nodes().len() as u128)?;
     Ok(text)
 }
 

@@ -6,7 +6,7 @@ use Rattle.bool_expr.specs.declared.expr.Gate.{Gate}
 use Rattle.bool_expr.specs.declared.expr.Gate.TheVariants.{And, Or, Nand, Nor, Xor, Xnor}
 use Rattle.bool_expr.specs.Expression.{Expression, constant, variable, inverse, pair, choice, bit, val, size_of, gate_size, IsOver}
 use Rattle.bool_expr.specs.Renumbering.{renumbered}
-use Rattle.machine_meaning.specs.Machine.{Equation}
+use Rattle.machine_core.specs.Machine.{Equation}
 use Rattle.machine_core.specs.Built.{built}
 use Rattle.machine_core.specs.Order.{EachReadsBelow}
 use Rattle.boom_literal.specs.declared.literal.Literal.{Literal}

@@ -7,9 +7,9 @@ use Rattle.vlsi_base.specs.declared.name.Name.{Name}
 use Rattle.vlsi_base.specs.declared.name.Port.{Port}
 use Rattle.vlsi_base.specs.Member.{In, here, there}
 use Rattle.vlsi_base.specs.Range.{rising}
-use Rattle.machine_meaning.specs.Machine.{names_of}
-use Rattle.free_names.specs.Free.{is_free, numbered, free_numbers, free_texts}
-use Rattle.free_names.proofs.Enough.{are_free, same_length}
+use Rattle.machine_core.specs.Machine.{names_of}
+use Rattle.text_names.specs.Free.{is_free, numbered, free_numbers, free_texts}
+use Rattle.text_names.proofs.Enough.{are_free, same_length}
 use Rattle.boom_muxes.specs.Names.{IsFreshText, texts_of}
 
 -- the first number from k on that passes a test

@@ -8,8 +8,8 @@ use Rattle.std.proofs.lemmas.List.{length-map}
 use Rattle.bool_expr.specs.declared.expr.Expr.{Expr, Const, Var, Not', Pair', Choice'}
 use Rattle.bool_expr.specs.Expression.{Expression, constant, variable, inverse, pair, choice}
 use Rattle.bool_expr.specs.View.{view}
-use Rattle.machine_meaning.specs.declared.equation.Equation.{Equation as EquationParts}
-use Rattle.machine_meaning.specs.Machine.{Equation}
+use Rattle.machine_core.specs.declared.equation.Equation.{Equation as EquationParts}
+use Rattle.machine_core.specs.Machine.{Equation}
 use Rattle.machine_core.specs.View.{equation_view}
 use Rattle.boom_literal.specs.declared.literal.Literal.{Literal}
 use Rattle.boom_muxes.specs.Planning.{Shows, LeadsTo, at_once, onward, EachLeadsBack, IsFollowed}

@@ -6,9 +6,9 @@ use Rattle.vlsi_base.specs.declared.name.Name.{Name}
 use Rattle.vlsi_base.specs.declared.name.Port.{Port}
 use Rattle.bool_expr.specs.Expression.{IsOver}
 use Rattle.bool_expr.specs.View.{view}
-use Rattle.machine_meaning.specs.declared.equation.Equation.{Equation as EquationParts}
-use Rattle.machine_meaning.specs.declared.equation.Register.{Register as RegisterParts}
-use Rattle.machine_meaning.specs.Machine.{Machine, Equation, Register, names_of}
+use Rattle.machine_core.specs.declared.equation.Equation.{Equation as EquationParts}
+use Rattle.machine_core.specs.declared.equation.Register.{Register as RegisterParts}
+use Rattle.machine_core.specs.Machine.{Machine, Equation, Register, names_of}
 use Rattle.machine_core.specs.Order.{held_names, equation_names, EachReadsBelow}
 use Rattle.machine_core.specs.Checked.{IsChecked}
 use Rattle.machine_core.specs.View.{equation_view, register_view, machine_of}

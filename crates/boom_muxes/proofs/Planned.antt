@@ -8,7 +8,7 @@ use Rattle.bdd_core.specs.Truths.{Truths}
 use Rattle.bdd_core.specs.Branching.{truth_at}
 use Rattle.bdd_core.specs.Nodes.{IsWhole}
 use Rattle.bdd_core.proofs.Held.{truths_value}
-use Rattle.machine_meaning.specs.Machine.{Machine, Equation}
+use Rattle.machine_core.specs.Machine.{Machine, Equation}
 use Rattle.machine_core.specs.Order.{EachReadsBelow}
 use Rattle.machine_core.specs.Built.{built}
 use Rattle.machine_roots.specs.declared.diagram.RootDiagram.{RootDiagram}

@@ -10,7 +10,7 @@ use Rattle.vlsi_base.specs.Range.{rising}
 use Rattle.vlsi_base.specs.Member.{In, here, there, AllDifferent}
 use Rattle.bool_expr.specs.Expression.{Expression, constant, variable, inverse, pair, choice, size_of, IsOver}
 use Rattle.bool_expr.specs.Renumbering.{renumbered}
-use Rattle.machine_meaning.specs.Machine.{Machine, Equation, Register, names_of, input_ports, inputs, outputs, register_names, is_input}
+use Rattle.machine_core.specs.Machine.{Machine, Equation, Register, names_of, input_ports, inputs, outputs, register_names, is_input}
 use Rattle.machine_core.specs.Order.{held_names, equation_names, EachReadsBelow, IsOrdered}
 use Rattle.machine_core.specs.Checked.{IsNoSupply, IsClockOf, IsChecked, AreInOrder}
 use Rattle.machine_core.proofs.Values.{In-split, In-left, In-right}

@@ -2,7 +2,7 @@
 use Rattle.std.specs.Prelude.{◌≡◌, ℕ, suc, ◌+◌, ◌*◌, ◌<◌, ◌^◌, false, nat_lt, List, [], ◌∷◌, ◌++◌, map, length, Option, None, Some, IfSome, if◌then◌else◌}
 use Rattle.std.specs.List.{slice_index_or}
 use Rattle.vlsi_base.specs.Range.{rising}
-use Rattle.machine_meaning.specs.Machine.{Machine, Equation, Register, names_of}
+use Rattle.machine_core.specs.Machine.{Machine, Equation, Register, names_of}
 use Rattle.machine_core.specs.Order.{held_names, equation_names}
 use Rattle.machine_core.specs.Checked.{IsChecked}
 use Rattle.machine_walk.specs.Expansion.{held_count}

@@ -1,7 +1,7 @@
 -- What equations and registers say in a machine that is made anew.
 use Rattle.std.specs.Prelude.{◌≡◌, ℕ, ◌+◌, ◌<◌, Bool, List, [], ◌∷◌, ◌++◌, length, slice_get, Option, None, Some}
 use Rattle.bool_expr.specs.Expression.{Expression, variable, bit}
-use Rattle.machine_meaning.specs.Machine.{Machine, Equation}
+use Rattle.machine_core.specs.Machine.{Machine, Equation}
 use Rattle.machine_core.specs.Built.{built}
 use Rattle.machine_walk.specs.Expansion.{held_count}
 use Rattle.machine_roots.specs.declared.listing.RootExpr.{RootExpr}

@@ -13,8 +13,7 @@ use crate::mux::Mux;
 use crate::names::new_text;
 use crate::plan::Plan;
 use boom_literal::{Literal, said};
-use machine_core::Machine;
-use machine_meaning::{Equation, Equations, Register, Registers};
+use machine_core::{Equation, Equations, Machine, Register, Registers};
 use std::alloc::{AllocError, Global};
 use vlsi_base::{Name, Names, Port, Ports, Text};
 

@@ -1,10 +1,10 @@
 // A name for new signals.
 ghost use Rattle.std.specs.Prelude.{◌≡◌, ◌++◌, ◌+◌, ◌-◌, ◌<◌, ◌^◌, length, IfOk, OnOk};
-ghost use Rattle.machine_meaning.specs.Machine.{names_of};
+ghost use Rattle.machine_core.specs.Machine.{names_of};
 ghost use Rattle.boom_muxes.specs.Names.{IsFreshText, texts_of};
 
-use free_names::free_texts;
 use std::alloc::{AllocError, Global};
+use text_names::free_texts;
 use vlsi_base::{Name, Port, Text};
 
 /// The texts of all these names.

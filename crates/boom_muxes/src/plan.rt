@@ -7,7 +7,7 @@ ghost use Rattle.machine_roots.specs.Listing.{IsPlaced};
 
 use bool_expr::Expr;
 use boom_literal::Literal;
-use machine_meaning::Equation;
+use machine_core::Equation;
 use machine_roots::RootExpr;
 use std::alloc::{AllocError, Global};
 

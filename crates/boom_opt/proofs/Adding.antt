@@ -8,7 +8,7 @@ use Rattle.bdd_core.specs.Nodes.{raised_to, height, IsWhole}
 use Rattle.bdd_core.proofs.Raised.{part-in_raised}
 use Rattle.bool_expr.specs.Expression.{Expression}
 use Rattle.bool_expr.specs.View.{view}
-use Rattle.machine_meaning.specs.Machine.{Machine, Equation}
+use Rattle.machine_core.specs.Machine.{Machine, Equation}
 use Rattle.machine_core.specs.Order.{EachReadsBelow}
 use Rattle.machine_walk.specs.Expansion.{held_count}
 use Rattle.machine_roots.specs.Listing.{root_view}

@@ -8,8 +8,8 @@ use Rattle.vlsi_base.specs.declared.name.Name.{Name}
 use Rattle.vlsi_base.specs.Member.{In, here, there, AllDifferent}
 use Rattle.bool_expr.specs.Expression.{Expression, constant, variable, inverse, pair, choice, bit, val, size_of, IsOver}
 use Rattle.bool_expr.specs.Renumbering.{renumbered}
-use Rattle.machine_meaning.specs.Machine.{Machine, Equation, Register}
-use Rattle.machine_meaning.specs.Named.{value_at, values_at}
+use Rattle.machine_core.specs.Machine.{Machine, Equation, Register}
+use Rattle.machine_core.specs.Named.{value_at, values_at}
 use Rattle.machine_core.specs.Order.{held_names, equation_names, EachReadsBelow, IsOrdered}
 use Rattle.machine_core.specs.Built.{built}
 use Rattle.machine_core.proofs.Values.{bit-value_at}

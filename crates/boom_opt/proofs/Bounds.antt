@@ -2,8 +2,8 @@
 use Rattle.std.proofs.Common.{◌≡◌, ℕ, ◌+◌, ◌*◌, ◌≤◌, Bool, true, false, List, [], ◌∷◌, ◌++◌, length, refl, ◌∙◌, arith, if◌then◌else◌}
 use Rattle.std.specs.List.{AllZip, sum_by, fold}
 use Rattle.bool_expr.specs.Expression.{size_of}
-use Rattle.machine_meaning.specs.Machine.{Machine, Equation, outputs}
-use Rattle.machine_meaning.specs.Size.{machine_size}
+use Rattle.machine_core.specs.Machine.{Machine, Equation, outputs}
+use Rattle.machine_core.specs.Size.{machine_size}
 use Rattle.boom_opt.specs.Optimised.{is_output, inner_size}
 use Rattle.boom_opt.specs.Rebuilt.{expressions_size}
 

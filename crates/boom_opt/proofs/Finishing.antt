@@ -2,8 +2,8 @@
 use Rattle.std.proofs.Common.{◌≡◌, ◌⊎◌, inl, inr, ℕ, zero, suc, ◌+◌, ◌*◌, ◌<◌, ◌≤◌, true, false, List, [], ◌∷◌, length, take, drop, Option, None, Some, slice_get, refl, sym, ap, subst, ◌∙◌, arith}
 use Rattle.std.specs.Prelude.{replicate, sum, Result, Ok, Err, IfOk}
 use Rattle.std.specs.List.{All, AllZip, slice_index_or}
-use Rattle.machine_meaning.specs.Machine.{Machine, Register, outputs}
-use Rattle.machine_meaning.specs.Size.{machine_size}
+use Rattle.machine_core.specs.Machine.{Machine, Register, outputs}
+use Rattle.machine_core.specs.Size.{machine_size}
 use Rattle.machine_core.specs.Checked.{IsChecked}
 use Rattle.machine_walk.specs.Expansion.{held_count}
 use Rattle.machine_roots.specs.Roots.{Root, roots, register_roots, expression_of, IsGreatestDcount}

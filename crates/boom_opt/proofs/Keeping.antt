@@ -4,7 +4,7 @@ use Rattle.std.specs.Prelude.{◌*◌, nat_lt, slice_get}
 use Rattle.std.specs.List.{AllZip}
 use Rattle.bool_expr.specs.Expression.{Expression, constant, variable, inverse, pair, choice, size_of, IsOver}
 use Rattle.bool_expr.specs.Renumbering.{renumbered}
-use Rattle.machine_meaning.specs.Machine.{Equation, Register}
+use Rattle.machine_core.specs.Machine.{Equation, Register}
 use Rattle.machine_core.specs.Order.{EachReadsBelow}
 use Rattle.boom_literal.specs.declared.literal.Literal.{Literal}
 use Rattle.boom_muxes.specs.declared.plan.Plan.{Plan}

@@ -8,10 +8,10 @@ use Rattle.vlsi_base.specs.declared.name.Name.{Name}
 use Rattle.vlsi_base.specs.Member.{In, here, there}
 use Rattle.bool_expr.specs.Expression.{Expression, constant, variable, inverse, pair, choice, val, size_of, IsOver}
 use Rattle.bool_expr.specs.Renumbering.{renumbered}
-use Rattle.machine_meaning.specs.Machine.{Machine, Equation, Register, inputs, outputs, register_names}
-use Rattle.machine_meaning.specs.Named.{value_at, values_at}
-use Rattle.machine_meaning.specs.Cycles.{Settles, outs, next}
-use Rattle.machine_meaning.specs.Size.{machine_size}
+use Rattle.machine_core.specs.Machine.{Machine, Equation, Register, inputs, outputs, register_names}
+use Rattle.machine_core.specs.Named.{value_at, values_at}
+use Rattle.machine_core.specs.Cycles.{Settles, outs, next}
+use Rattle.machine_core.specs.Size.{machine_size}
 use Rattle.machine_core.specs.Order.{EachReadsBelow, IsOrdered}
 use Rattle.machine_core.specs.Checked.{IsChecked}
 use Rattle.machine_core.specs.Built.{built}
@@ -19,7 +19,7 @@ use Rattle.machine_core.proofs.Known.{known}
 use Rattle.machine_core.proofs.Solve.{settles_once_known}
 use Rattle.machine_core.proofs.Built.{built_settles}
 use Rattle.machine_core.proofs.Values.{In-right}
-use Rattle.machine_alike.specs.Alike.{IsAlike}
+use Rattle.machine_core.specs.Alike.{IsAlike}
 use Rattle.machine_walk.specs.Expansion.{held_count}
 use Rattle.machine_roots.specs.Roots.{Root, roots, register_roots, expression_of, IsDag}
 use Rattle.boom_literal.specs.declared.literal.Literal.{Literal}

@@ -5,7 +5,7 @@ use Rattle.std.specs.List.{All, AllZip, slice_index_or}
 use Rattle.std.proofs.lemmas.List.Elements.{Contains-append_left, Contains-append_right, Contains-get_or}
 use Rattle.bool_expr.specs.Expression.{Expression, variable, val}
 use Rattle.bool_expr.specs.View.{view}
-use Rattle.machine_meaning.specs.Machine.{Machine, outputs}
+use Rattle.machine_core.specs.Machine.{Machine, outputs}
 use Rattle.machine_core.specs.Order.{EachReadsBelow}
 use Rattle.machine_core.specs.Built.{built}
 use Rattle.machine_walk.specs.Expansion.{held_count}

@@ -8,8 +8,8 @@ use Rattle.vlsi_base.specs.Member.{In, here, there}
 use Rattle.std.proofs.lemmas.Bool.Decides.{nat_tests}
 use Rattle.bool_expr.specs.Expression.{Expression, IsOver}
 use Rattle.bool_expr.specs.View.{view}
-use Rattle.machine_meaning.specs.Named.{is_same_name}
-use Rattle.machine_meaning.specs.Machine.{Machine, Equation, Register, outputs}
+use Rattle.machine_core.specs.Named.{is_same_name}
+use Rattle.machine_core.specs.Machine.{Machine, Equation, Register, outputs}
 use Rattle.machine_core.specs.Order.{EachReadsBelow}
 use Rattle.machine_core.specs.Checked.{IsChecked}
 use Rattle.machine_core.proofs.Values.{In-split}

@@ -4,11 +4,11 @@ use Rattle.std.specs.List.{AllZip, list_any}
 use Rattle.vlsi_base.specs.declared.name.Name.{Name}
 use Rattle.vlsi_base.specs.Member.{In}
 use Rattle.bool_expr.specs.Expression.{Expression, variable, size_of}
-use Rattle.machine_meaning.specs.Named.{is_same_name}
-use Rattle.machine_meaning.specs.Machine.{Machine, Equation, Register, outputs, names_of}
-use Rattle.machine_meaning.specs.Size.{machine_size}
+use Rattle.machine_core.specs.Named.{is_same_name}
+use Rattle.machine_core.specs.Machine.{Machine, Equation, Register, outputs, names_of}
+use Rattle.machine_core.specs.Size.{machine_size}
 use Rattle.machine_core.specs.Order.{held_names, equation_names}
-use Rattle.machine_alike.specs.Alike.{IsAlike}
+use Rattle.machine_core.specs.Alike.{IsAlike}
 use Rattle.machine_walk.specs.Expansion.{with_variables, held_count}
 use Rattle.machine_roots.specs.Roots.{IsDag, roots, IsFirstOver}
 use Rattle.boom_muxes.specs.Names.{new_names}

@@ -3,7 +3,7 @@ use Rattle.std.specs.Prelude.{◌≡◌, ℕ, ◌+◌, ◌*◌, ◌^◌, ◌≤�
 use Rattle.std.specs.List.{All, AllZip}
 use Rattle.bool_expr.specs.Expression.{val, size_of, IsOver}
 use Rattle.bool_expr.specs.View.{view}
-use Rattle.machine_meaning.specs.Machine.{Machine, Equation, outputs}
+use Rattle.machine_core.specs.Machine.{Machine, Equation, outputs}
 use Rattle.machine_core.specs.Built.{built}
 use Rattle.machine_walk.specs.Expansion.{held_count}
 use Rattle.machine_roots.specs.Roots.{Root, roots, IsDcount, IsDag, IsOverBudget, IsGreatest}

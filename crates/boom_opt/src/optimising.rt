@@ -19,7 +19,7 @@ ghost use Rattle.std.specs.Prelude.{◌≡◌, ℕ, ◌++◌, ◌∷◌, [], ◌
 ghost use Rattle.std.specs.List.{All, sum_by};
 ghost use Rattle.bool_expr.specs.Expression.{size_of};
 ghost use Rattle.bool_expr.specs.View.{view};
-ghost use Rattle.machine_meaning.specs.Size.{machine_size};
+ghost use Rattle.machine_core.specs.Size.{machine_size};
 ghost use Rattle.machine_roots.specs.Asked.{IsRootDiagram};
 ghost use Rattle.machine_roots.specs.Listing.{root_view};
 ghost use Rattle.machine_roots.specs.Roots.{Root, roots as roots_of, IsOverBudget, IsGreatestDcount};
@@ -33,8 +33,7 @@ use bdd_core::BddError;
 use bool_expr::size;
 use boom_muxes::{Muxes, Plan, Stop, build, literal_of};
 use indexmap::IndexMap;
-use machine_core::Machine;
-use machine_meaning::{Equation, Register};
+use machine_core::{Equation, Machine, Register};
 use machine_roots::{RootDiagram, RootExpr, root_diagram, roots};
 use std::alloc::{AllocError, Global};
 

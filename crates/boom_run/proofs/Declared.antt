@@ -5,15 +5,15 @@ use Rattle.std.proofs.lemmas.List.Elements.{All-nil}
 use Rattle.vlsi_base.specs.declared.name.Name.{Name}
 use Rattle.vlsi_base.specs.declared.name.Port.{Port}
 use Rattle.vlsi_base.specs.Member.{In}
-use Rattle.port_words.specs.Words.{IsIdentifier, ArePortsNamed}
-use Rattle.machine_meaning.specs.Machine.{Machine, Register, names_of, register_names}
+use Rattle.text_names.specs.Words.{IsIdentifier, ArePortsNamed}
+use Rattle.machine_core.specs.Machine.{Machine, Register, names_of, register_names}
 use Rattle.machine_core.specs.Checked.{AreInOrder}
 use Rattle.machine_core.proofs.Values.{In-map}
 use Rattle.vlsi_model.proofs.Members.{In-map_back}
 use Rattle.vbe_io.specs.Text.{IsVbe}
-use Rattle.vbe_words.specs.Laws.{MachineIsNamed, RegistersAreNamed, InOrderCanBeWritten, register_ports}
-use Rattle.vbe_write.specs.Writable.{AreDeclared, CanBeVbe}
-use Rattle.machine_alike.specs.Alike.{IsAlike}
+use Rattle.vbe_writable.specs.Laws.{MachineIsNamed, RegistersAreNamed, InOrderCanBeWritten, register_ports}
+use Rattle.vbe_print.specs.Writable.{AreDeclared, CanBeVbe}
+use Rattle.machine_core.specs.Alike.{IsAlike}
 
 -- ports in the order of names that can be declared, perhaps none
 pub declared : InOrderCanBeWritten → (ports : List Port) → ArePortsNamed ports → AreInOrder (names_of ports) → AreDeclared ports

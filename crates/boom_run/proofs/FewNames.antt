@@ -4,12 +4,12 @@ use Rattle.std.proofs.lemmas.List.{length-map}
 use Rattle.vlsi_base.specs.declared.name.Name.{Name}
 use Rattle.vlsi_base.specs.Range.{rising}
 use Rattle.vlsi_base.proofs.Ranges.{length_of_rising}
-use Rattle.machine_meaning.specs.Machine.{Machine}
-use Rattle.machine_meaning.specs.Size.{machine_size}
+use Rattle.machine_core.specs.Machine.{Machine}
+use Rattle.machine_core.specs.Size.{machine_size}
 use Rattle.machine_core.specs.Order.{held_names, equation_names}
 use Rattle.boom_opt.specs.Optimised.{IsOptimised}
 use Rattle.boom_muxes.specs.Names.{new_names}
-use Rattle.machine_limit.specs.declared.size.TheConstants.{MOST_SIZE}
+use Rattle.tool_drive.specs.declared.size.TheConstants.{MOST_SIZE}
 
 -- as many names more as a machine weighs that is small enough
 pub few_weighed : (m : Machine) → length m.vars + length m.ports < 2 ^ 22 → machine_size m ≤ MOST_SIZE → length m.vars + length m.ports + machine_size m < 2 ^ 32 - 1

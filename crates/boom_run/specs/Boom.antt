@@ -1,24 +1,25 @@
 -- What `boom` reads and answers.
 use Rattle.std.specs.Prelude.{◌≡◌, ℕ, ◌+◌, ◌<◌, ◌≤◌, List, [], ◌∷◌, ◌++◌, get_or, codes, None, Some, Result, Ok, Err}
 use Rattle.std.specs.List.{All}
-use Rattle.std.specs.Fmt.{decimal}
 use Rattle.vlsi_base.specs.declared.name.Name.{Name}
-use Rattle.machine_meaning.specs.Machine.{Machine}
-use Rattle.machine_meaning.specs.Size.{machine_size}
+use Rattle.machine_core.specs.Machine.{Machine}
+use Rattle.machine_core.specs.Size.{machine_size}
+use Rattle.machine_core.specs.Checked.{IsChecked}
 use Rattle.machine_roots.specs.Roots.{roots, IsOverBudget, IsFirstOver}
 use Rattle.vbe_io.specs.Text.{IsVbe, IsVbeRefusal}
 use Rattle.boom_opt.specs.Optimised.{IsOptimised}
 use Rattle.spell_theory.specs.Layout.{text_of}
-use Rattle.vbe_write.specs.Written.{layout}
-use Rattle.tool_words.specs.declared.command.BoomCommand.{BoomCommand}
+use Rattle.vbe_print.specs.Written.{layout}
+use Rattle.boom_run.specs.declared.words.BoomCommand.{BoomCommand}
 use Rattle.tool_drive.specs.declared.status.Status.{Status}
 use Rattle.tool_drive.specs.declared.status.Status.TheVariants as status
 use Rattle.tool_drive.specs.declared.tool.Product.{Product}
 use Rattle.tool_drive.specs.declared.tool.Refusal.{Refusal}
+use Rattle.tool_drive.specs.Lines.{count_line}
 use Rattle.tool_drive.specs.Plan.{Plan, Inputs, limited}
 use Rattle.tool_drive.specs.Refusals.{OfFile}
-use Rattle.machine_limit.specs.Size.{size_limit}
-use Rattle.machine_limit.specs.declared.size.TheConstants.{MOST_SIZE}
+use Rattle.tool_drive.specs.Size.{size_limit}
+use Rattle.tool_drive.specs.declared.size.TheConstants.{MOST_SIZE}
 
 -- SOURCE alone
 abbrev pub boom_plan : BoomCommand → Plan
@@ -29,7 +30,7 @@ text_name out = out ++ codes ".vbe"
 
 -- how large a machine is
 abbrev pub report : Machine → List ℕ
-report m = codes "size " ++ (decimal (machine_size m) ++ 10 ∷ [])
+report m = count_line (codes "size") (machine_size m)
 
 -- the text of the machine is that of NAME.vbe, and its size is printed
 pub record IsWrittenAs (c : BoomCommand) (o : Machine) (p : Product) : Type 0 where
@@ -42,13 +43,14 @@ pub record IsWithinBudget (m : Machine) (budget : ℕ) (o : Machine) : Type 0 wh
   pub optimised : IsOptimised m o
   pub within : All (λ r. IsOverBudget m budget r → ⊥) (roots m)
 
--- The source is read, no diagram of its roots is over the budget, and an optimised machine is written to NAME.vbe, whose size is
--- printed.
+-- The source is read, no diagram of its roots is over the budget, and an optimised machine, which passes its checks, is written to
+-- NAME.vbe, whose size is printed.
 pub record IsMadeSmaller (c : BoomCommand) (source : List ℕ) (p : Product) : Type 0 where
   pub m : Machine
   pub machine : IsVbe source m
   pub small : machine_size m ≤ MOST_SIZE
   pub o : Machine
+  pub checked : IsChecked o
   pub made : IsWithinBudget m c.nodes o
   pub written : IsWrittenAs c o p
 

@@ -1,25 +1,26 @@
 // `boom` as a tool: what it reads, and what it answers.
 ghost use Rattle.std.specs.Prelude.{◌≡◌, ◌≤◌, ◌<◌, ◌+◌, ◌-◌, ◌^◌, IfOk, IfErr, List, ℕ, length};
-ghost use Rattle.machine_meaning.specs.Size.{machine_size as size_of};
+ghost use Rattle.machine_core.specs.Size.{machine_size as size_of};
 ghost use Rattle.machine_roots.specs.Roots.{IsGreatestDcount};
 ghost use Rattle.vbe_io.specs.Text.{IsVbe};
 ghost use Rattle.tool_drive.specs.Refusals.{MemoryOr};
 ghost use Rattle.tool_drive.specs.Table.{IsJudged};
-ghost use Rattle.machine_limit.specs.declared.size.TheConstants.{MOST_SIZE};
-ghost use Rattle.vbe_write.specs.Writable.{CanBeVbe};
+ghost use Rattle.tool_drive.specs.declared.size.TheConstants.{MOST_SIZE};
+ghost use Rattle.vbe_print.specs.Writable.{CanBeVbe};
 ghost use Rattle.boom_run.specs.Boom.{MakesSmaller, IsWrittenAs, IsWithinBudget, IsBudgetStatus, report as report_of};
 
+use crate::words::BoomCommand;
 use boom_opt::{BoomError, Optimised, optimise};
 use machine_core::{Machine, machine_size};
-use machine_limit::check_size;
 use std::alloc::{AllocError, Global};
-use tool_drive::{Product, Refusal, Status, Tool, Wanted, bytes_at, refused};
-use tool_words::BoomCommand;
-use vbe_few::source_has_few_names;
+use tool_drive::{
+    Product, Refusal, Status, Tool, Wanted, bytes_at, check_size, count_line, refused,
+};
 use vbe_io::read_vbe;
-use vbe_words::{in_order_can_be_written, machine_is_named, registers_are_named};
-use vbe_write::write_vbe;
-use vlsi_base::{FileBytes, Text, push_u64};
+use vbe_laws::source_has_few_names;
+use vbe_print::write_vbe;
+use vbe_writable::{in_order_can_be_written, machine_is_named, registers_are_named};
+use vlsi_base::FileBytes;
 
 /// `boom`, with what it is asked: it makes the machine of SOURCE smaller, writes it to NAME.vbe, and prints `size` and how large it
 /// is.
@@ -55,11 +56,8 @@ fn report(alloc: Global, machine: &Machine) -> Result<FileBytes, AllocError>
     requires { size_of machine.now ≤ MOST_SIZE }
     ensures { IfOk result (λ text. text ≡ report_of machine.now) }
 {
-    let mut number = Text::new(Vec::new(alloc));
-    push_u64(alloc, &mut number, machine_size(machine))?;
-    let mut text = FileBytes::from_bytes(alloc, b"size ")?;
-    text.append(number.as_bytes())?;
-    text.append(b"\n")?;
+    let mut text = FileBytes::new(Vec::new(alloc));
+    count_line(alloc, &mut text, b"size", u128::from(machine_size(machine)))?;
     Ok(text)
 }
 
@@ -98,6 +96,8 @@ fn smaller_of(alloc: Global, command: &BoomCommand, machine: &Machine) -> Result
         Ok(made) => made,
         Err(status) => return Err(Refusal::plain(status)),
     };
+    // A machine is checked.
+    let _ = made.machine.name();
     let written = product(alloc, command, &made.machine)?;
     Ok(written)
 }

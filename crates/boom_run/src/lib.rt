@@ -5,5 +5,7 @@
 #![tactic(auto)]
 
 mod boom;
+mod words;
 
 pub use boom::{Boom, optimise_within};
+pub use words::{BOOM_ENTRY, BoomCommand, read_boom};

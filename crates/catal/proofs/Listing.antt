@@ -17,7 +17,7 @@ use Rattle.catal.specs.Read.{IsRead}
 use Rattle.catal.specs.Used.{Holds}
 use Rattle.catal.specs.Catal.{Gives, empty, used, unused, Lists, none, more, AreUsed, formless, again, IsLineRefusal, bad, ident, limit_error, at_line, too_many, IsCatalRefusal}
 use Rattle.catal.specs.Lines.{AddsCell, Takes, IsRefusedAt, IsLinesRefusal}
-use Rattle.text_lines.specs.Lines.{lines_of, put_before}
+use Rattle.vlsi_base.specs.Lines.{lines_of, put_before}
 use Rattle.vlsi_base.specs.declared.limits.TheConstants.{MOST_SOURCE_BYTES}
 
 -- ---- one line

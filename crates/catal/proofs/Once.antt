@@ -12,7 +12,7 @@ use Rattle.vlsi_base.specs.declared.limits.TheConstants.{MOST_SOURCE_BYTES}
 use Rattle.vhdl_token.specs.Keyword.{keyword_of}
 use Rattle.lexer_base.specs.declared.piece.TheConstants.{MOST_IDENTIFIER_BYTES}
 use Rattle.lexer_base.specs.Bytes.{is_blank, is_in_word}
-use Rattle.text_lines.specs.Lines.{lines_of}
+use Rattle.vlsi_base.specs.Lines.{lines_of}
 use Rattle.catal.specs.declared.error.CatalError.{CatalError}
 use Rattle.catal.specs.declared.reader.TheConstants.{MOST_CELLS}
 use Rattle.catal.specs.Line.{lower, is_identifier, is_run, IsEntry}

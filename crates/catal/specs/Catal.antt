@@ -5,7 +5,7 @@ use Rattle.vlsi_base.specs.declared.limits.TheConstants.{MOST_SOURCE_BYTES}
 use Rattle.vlsi_base.specs.declared.fault.LimitKind.{LimitKind}
 use Rattle.vlsi_base.specs.declared.fault.LimitKind.TheVariants as kind
 use Rattle.lexer_base.specs.declared.piece.TheConstants.{MOST_IDENTIFIER_BYTES}
-use Rattle.text_lines.specs.Lines.{lines_of}
+use Rattle.vlsi_base.specs.Lines.{lines_of}
 use Rattle.catal.specs.declared.reader.TheConstants.{MOST_CELLS}
 use Rattle.catal.specs.declared.error.CatalError.{CatalError}
 use Rattle.catal.specs.declared.error.CatalError.TheVariants as errors

@@ -1,6 +1,6 @@
 // The reader.
 ghost use Rattle.std.specs.Prelude.{◌≡◌, ◌≤◌, [], List, ℕ, length, IfOk, IfErr, OnOk};
-ghost use Rattle.text_lines.specs.Lines.{lines_of};
+ghost use Rattle.vlsi_base.specs.Lines.{lines_of};
 ghost use Rattle.catal.specs.Used.{Holds};
 ghost use Rattle.catal.specs.Catal.{limit_error, AreUsed, IsCatal, IsCatalRefusal};
 ghost use Rattle.catal.specs.Lines.{AddsCell, Takes, IsRefusedAt, IsLinesRefusal};
@@ -10,8 +10,7 @@ use crate::entry::{Entry, read_line};
 use crate::used::{Used, add, none};
 use lexer_base::MOST_IDENTIFIER_BYTES;
 use std::alloc::{AllocError, Global};
-use text_lines::Lines;
-use vlsi_base::{Limit, LimitKind, MOST_SOURCE_BYTES, Text, Texts};
+use vlsi_base::{Limit, LimitKind, Lines, MOST_SOURCE_BYTES, Text, Texts};
 
 /// The most cells that a library uses.
 pub const MOST_CELLS: usize = 1024;

@@ -9,6 +9,7 @@ pub mod NodeLemmas
 pub mod BareColumns
 pub mod NodeFronts
 pub mod NodeColumns
-pub mod OtherColumns
+pub mod ReachedColumns
+pub mod SharedColumns
 pub mod Tracks
 pub mod PointLists

@@ -12,7 +12,7 @@ use Rattle.vlsi_base.specs.declared.name.Name.{Name}
 use Rattle.vlsi_base.specs.Names.{comes_before}
 use Rattle.cell_model.specs.declared.cell.Pin.{Pin}
 use Rattle.vlsi_base.specs.declared.name.Port.{Port}
-use Rattle.machine_meaning.specs.Machine.{names_of}
+use Rattle.machine_core.specs.Machine.{names_of}
 use Rattle.cell_model.specs.Cell.{Cell, pin_ports, cell_width, cell_height}
 use Rattle.cell_model.specs.Access.{count_to, grid_lines, is_access_node, access_nodes, access_point}
 use Rattle.cell_checks.specs.Checks.{StandsInRow}

@@ -4,3 +4,4 @@ pub mod Verdict
 pub mod Checked
 pub mod Nodes
 pub mod Points
+pub mod Columns

@@ -1,7 +1,7 @@
 -- The columns of a pin's access nodes, in the order of the nodes.
 use Rattle.std.specs.Prelude.{◌≡◌, ◌⊎◌, ℕ, zero, suc, ◌*◌, ◌<◌, ◌≤ℤ◌, ◌+ℤ◌, pos, List, [], ◌∷◌, ◌++◌, length, get_or, Option, Some, option_map, if◌then◌else◌}
 use Rattle.vlsi_base.specs.declared.name.Name.{Name}
-use Rattle.machine_meaning.specs.Machine.{names_of}
+use Rattle.machine_core.specs.Machine.{names_of}
 use Rattle.sym_geom.specs.declared.grid.TheConstants.{PITCH}
 use Rattle.sym_shapes.specs.Shape.{Shape}
 use Rattle.cell_model.specs.Cell.{Cell, pin_ports}
@@ -38,7 +38,3 @@ IsReachedAt c pin column = option_map (λ q. q.0) (access_point c pin) ≡ optio
 pub record AreReachedAt (c : Cell) (columns : List (Option ℕ)) : Type 0 where
   pub many : length columns ≡ length (names_of (pin_ports c))
   pub each : (i : ℕ) (d : Name) (e : Option ℕ) → i < length columns → IsReachedAt c (get_or (names_of (pin_ports c)) i d) (get_or columns i e)
-
--- not one column
-abbrev pub AreOther : Option ℕ → Option ℕ → Type 0
-AreOther a b = (k : ℕ) → a ≡ Some k → b ≡ Some k → ⊥

@@ -2,7 +2,7 @@
 use Rattle.std.specs.Prelude.{◌≡◌, ◌⊎◌, ℕ, ◌<◌, ℤ, pos, ◌+ℤ◌, ◌*ℤ◌, ◌≤ℤ◌, List, ◌∷◌, length, Some, None, slice_index_or, All, Any}
 use Rattle.vlsi_base.specs.declared.name.Name.{Name}
 use Rattle.vlsi_base.specs.Names.{vdd, vss}
-use Rattle.machine_meaning.specs.Machine.{names_of}
+use Rattle.machine_core.specs.Machine.{names_of}
 use Rattle.cell_model.specs.Cell.{Cell, pin_ports}
 use Rattle.sym_geom.specs.declared.grid.TheConstants.{PITCH, LEAST_GAP}
 use Rattle.sym_geom.specs.declared.rect.Rect.{Rect}

@@ -14,6 +14,7 @@ mod shapes;
 mod verdict;
 
 pub use checker::check_cell;
+pub use columns::shared_pin;
 pub use library::Library;
 pub use points::{GridPoint, access_points};
 pub use verdict::{CellVerdict, Check, MOST_COLUMNS};

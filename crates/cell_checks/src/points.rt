@@ -1,6 +1,6 @@
 // The points at which the pins of a cell are reached.
 ghost use Rattle.std.specs.Prelude.{◌≡◌, ◌++◌, ◌*◌, ◌≤◌, map, option_map, pos, IfOk, OnOk};
-ghost use Rattle.machine_meaning.specs.Machine.{names_of};
+ghost use Rattle.machine_core.specs.Machine.{names_of};
 ghost use Rattle.sym_shapes.specs.Shape.{drawn};
 ghost use Rattle.cell_model.specs.Cell.{pin_ports};
 ghost use Rattle.cell_model.specs.Access.{access_nodes, access_point};

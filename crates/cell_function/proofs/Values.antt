@@ -7,11 +7,11 @@ use Rattle.std.proofs.lemmas.List.Elements.{All-head}
 use Rattle.vlsi_base.specs.declared.name.Name.{Name}
 use Rattle.bool_expr.specs.Expression.{Expression, bit, val, constant, IsOver}
 use Rattle.bool_expr.specs.View.{view}
-use Rattle.machine_meaning.specs.declared.equation.Equation.{Equation as EquationParts}
-use Rattle.machine_meaning.specs.declared.equation.Register.{Register as RegisterParts}
-use Rattle.machine_meaning.specs.Named.{is_same_name, value_at}
-use Rattle.machine_meaning.specs.Machine.{Machine, Equation, Register, inputs, input_ports, is_clock, outputs, register_names}
-use Rattle.machine_meaning.specs.Cycles.{Settles}
+use Rattle.machine_core.specs.declared.equation.Equation.{Equation as EquationParts}
+use Rattle.machine_core.specs.declared.equation.Register.{Register as RegisterParts}
+use Rattle.machine_core.specs.Named.{is_same_name, value_at}
+use Rattle.machine_core.specs.Machine.{Machine, Equation, Register, inputs, input_ports, is_clock, outputs, register_names}
+use Rattle.machine_core.specs.Cycles.{Settles}
 use Rattle.machine_core.specs.Built.{built}
 use Rattle.machine_core.specs.Order.{In, here, there, IsOrdered, EachReadsBelow, held_names, equation_names}
 use Rattle.machine_core.specs.Checked.{IsChecked}

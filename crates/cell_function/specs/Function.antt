@@ -4,9 +4,9 @@ use Rattle.vlsi_base.specs.declared.name.Name.{Name}
 use Rattle.vlsi_base.specs.declared.name.Port.{Port}
 use Rattle.bool_expr.specs.Expression.{Expression, val, IsOver}
 use Rattle.bool_expr.specs.View.{view}
-use Rattle.machine_meaning.specs.Machine.{Machine, Register, inputs, outputs}
-use Rattle.machine_meaning.specs.Named.{value_at}
-use Rattle.machine_meaning.specs.Cycles.{Settles}
+use Rattle.machine_core.specs.Machine.{Machine, Register, inputs, outputs}
+use Rattle.machine_core.specs.Named.{value_at}
+use Rattle.machine_core.specs.Cycles.{Settles}
 use Rattle.cell_model.specs.declared.function.Function.{Function}
 use Rattle.cell_model.specs.declared.function.Function.TheVariants as function
 

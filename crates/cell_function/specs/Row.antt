@@ -5,8 +5,8 @@ use Rattle.vlsi_base.specs.declared.name.Port.{Port}
 use Rattle.bool_expr.specs.Expression.{Expression, val}
 use Rattle.bool_expr.specs.View.{view}
 use Rattle.bool_expr.specs.declared.expr.Expr.{Expr}
-use Rattle.machine_meaning.specs.Machine.{Machine, Register, inputs, outputs, is_input, names_of}
-use Rattle.machine_meaning.specs.Named.{value_at}
+use Rattle.machine_core.specs.Machine.{Machine, Register, inputs, outputs, is_input, names_of}
+use Rattle.machine_core.specs.Named.{value_at}
 use Rattle.machine_core.specs.Built.{built}
 use Rattle.cell_function.specs.Function.{most_inputs, AreScalar, IsGate, IsNoGate, IsFlipFlop, IsNoFlipFlop}
 

@@ -2,8 +2,8 @@
 use Rattle.std.specs.Prelude.{ℕ, Bool, false, ◌&&◌, List, [], ◌∷◌, ◌++◌, codes, Option, None, Some, is_none, if◌then◌else◌}
 use Rattle.vlsi_base.specs.declared.name.Name.{Name}
 use Rattle.vlsi_base.specs.declared.name.Port.{Port}
-use Rattle.machine_meaning.specs.Machine.{is_input}
-use Rattle.machine_meaning.specs.Named.{is_same_text, is_same_name}
+use Rattle.machine_core.specs.Machine.{is_input}
+use Rattle.machine_core.specs.Named.{is_same_text, is_same_name}
 use Rattle.vbe_io.specs.declared.cell_text.GenericValue.{GenericValue}
 use Rattle.cell_model.specs.declared.function.Function.{Function}
 use Rattle.cell_model.specs.declared.function.Function.TheVariants as function

@@ -4,7 +4,7 @@ ghost use Rattle.std.specs.Option.{option_copied};
 ghost use Rattle.bool_expr.specs.Expression.{IsOver};
 ghost use Rattle.bool_expr.specs.View.{view};
 ghost use Rattle.machine_core.specs.Checked.{IsChecked};
-ghost use Rattle.machine_meaning.specs.Machine.{inputs};
+ghost use Rattle.machine_core.specs.Machine.{inputs};
 ghost use Rattle.cell_function.specs.Row.{row, HasRows, HasGateShape, IsGateOutput, IsGateOr};
 
 use crate::rows::split;

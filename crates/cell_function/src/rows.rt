@@ -5,15 +5,14 @@ ghost use Rattle.bool_expr.specs.View.{view};
 ghost use Rattle.machine_core.specs.Built.{built};
 ghost use Rattle.machine_core.specs.Order.{EachReadsBelow};
 ghost use Rattle.machine_core.specs.View.{equation_view};
-ghost use Rattle.machine_meaning.specs.Cycles.{Settles};
-ghost use Rattle.machine_meaning.specs.Machine.{inputs as input_names};
+ghost use Rattle.machine_core.specs.Cycles.{Settles};
+ghost use Rattle.machine_core.specs.Machine.{inputs as input_names};
 ghost use Rattle.cell_function.specs.Function.{most_inputs};
 ghost use Rattle.cell_function.specs.Row.{row, HasRows};
 
 use crate::shape::value_at;
 use bool_expr::{Bits, Expr, value};
-use machine_core::{Machine, built_settles};
-use machine_meaning::Equation;
+use machine_core::{Equation, Machine, built_settles};
 use std::alloc::{AllocError, Global};
 use vlsi_base::Name;
 

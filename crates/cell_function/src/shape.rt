@@ -1,8 +1,8 @@
 // How many pins, registers and clocks a machine has.
 ghost use Rattle.std.specs.Prelude.{◌≡◌, length, filter, not};
 ghost use Rattle.std.specs.Option.{option_copied};
-ghost use Rattle.machine_meaning.specs.Machine.{is_input, inputs};
-ghost use Rattle.machine_meaning.specs.Named.{value_at};
+ghost use Rattle.machine_core.specs.Machine.{is_input, inputs};
+ghost use Rattle.machine_core.specs.Named.{value_at};
 ghost use Rattle.cell_function.specs.Function.{are_scalar};
 ghost use Rattle.cell_function.specs.Row.{first, output_names, only_output};
 

@@ -1,7 +1,7 @@
 // The plain flip-flop that a machine is.
 ghost use Rattle.std.specs.Prelude.{◌≡◌, length, IfOk};
 ghost use Rattle.std.specs.Option.{option_copied};
-ghost use Rattle.machine_meaning.specs.Machine.{inputs};
+ghost use Rattle.machine_core.specs.Machine.{inputs};
 ghost use Rattle.cell_function.specs.Row.{HasStorageShape, IsStorageOutput, IsFlipFlopOr, keeps, keeps_always};
 
 use crate::rows::settle;

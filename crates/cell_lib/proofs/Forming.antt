@@ -19,19 +19,19 @@ use Rattle.vlsi_base.specs.Names.{vdd, vss}
 use Rattle.vlsi_base.proofs.NameOrder.{name_total}
 use Rattle.bool_expr.specs.Expression.{Expression, IsOver}
 use Rattle.bool_expr.specs.View.{view}
-use Rattle.machine_meaning.specs.Machine.{Machine, is_input, is_clock, names_of, input_ports, inputs}
-use Rattle.machine_meaning.specs.Named.{is_same_name}
+use Rattle.machine_core.specs.Machine.{Machine, is_input, is_clock, names_of, input_ports, inputs}
+use Rattle.machine_core.specs.Named.{is_same_name}
 use Rattle.machine_core.specs.Checked.{AreInOrder, IsNoSupply, IsChecked}
 use Rattle.machine_core.proofs.Names.{same_name-itself, same_name-false}
-use Rattle.source_meaning.specs.declared.statement.DesignFile.{DesignFile}
-use Rattle.source_meaning.specs.declared.symbol_table.Symbol.{Symbol}
-use Rattle.source_meaning.specs.Symbols.{symbols, symbol_names, names_in, bit_name}
+use Rattle.source_checks.specs.declared.statement.DesignFile.{DesignFile}
+use Rattle.source_checks.specs.declared.symbol_table.Symbol.{Symbol}
+use Rattle.source_checks.specs.Symbols.{symbols, symbol_names, names_in, bit_name}
 use Rattle.vlsi_model.proofs.Members.{In-cases, Sub, none, keep, skip, different_Sub}
 use Rattle.vlsi_model.proofs.Assembly.{In-permutation, supply_not}
 use Rattle.vbe_io.specs.declared.cell_text.GenericValue.{GenericValue}
 use Rattle.vbe_io.specs.declared.cell_text.CellText.{CellText}
 use Rattle.vbe_io.specs.Cell.{pin_dir, pins_towards, symbol_pins, pin_bits, IsBehaviour, ArePins, IsCellText}
-use Rattle.source_meaning.specs.Elaboration.{port_of}
+use Rattle.source_checks.specs.Elaboration.{port_of}
 use Rattle.sym_geom.specs.Rect.{IsRect, IsCoordinate, HasCoordinates}
 use Rattle.sym_geom.specs.declared.rect.Rect.{Rect}
 use Rattle.sym_geom.specs.declared.item.Item.{Item}

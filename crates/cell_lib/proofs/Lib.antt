@@ -5,3 +5,4 @@ mod Making
 mod Telling
 pub mod Plain
 pub mod Lawful
+pub mod Answering

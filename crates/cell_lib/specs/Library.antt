@@ -19,7 +19,7 @@ use Rattle.cell_lib.specs.Cells.{Source, sources, AreCells, IsFirstRefused}
 use Rattle.cell_lib.specs.Causes.{IsVbeRefusal, IsLayout, IsLayoutRefusal}
 use Rattle.cell_model.specs.Library.{Library as CellLibrary}
 use Rattle.catal.specs.declared.error.CatalError.{CatalError}
-use Rattle.catal.specs.Catal.{IsCatal, Refused}
+use Rattle.catal.specs.Catal.{IsCatal, Refused, IsCatalRefusal}
 use Rattle.tool_drive.specs.declared.status.Status.{Status}
 use Rattle.tool_drive.specs.declared.status.Status.TheVariants as status
 use Rattle.tool_drive.specs.declared.status.FileCause.TheVariants as cause
@@ -80,6 +80,12 @@ abbrev pub IsLibraryRefusal : Bool → LibraryFiles → LibError → Type 0
 IsLibraryRefusal tracks files e = IsFirstRefused (IsCell tracks) (IsCellRefusal tracks) (sources files.names files.files.items) e
 
 -- ---- from the bytes of CATAL and of the cells' files
+
+-- CATAL is refused, and so is the library; or memory has run out
+pub record IsRefusedList (catal : List ℕ) (e : LibError) : Type 0 where
+  pub fault : CatalError
+  pub refusal : IsCatalRefusal catal fault
+  pub told : e ≡ refused fault
 
 -- CATAL uses these cells, and each is one: this is the library
 pub record IsLibraryOf (tracks : Bool) (catal : List ℕ) (files : List (List ℕ)) (l : CellLibrary) : Type 0 where

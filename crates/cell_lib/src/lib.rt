@@ -20,5 +20,5 @@ pub use error::LibError;
 pub use files::{catal_file, cell_files, named_files};
 pub use laws::library_law;
 pub use layout::read_layout;
-pub use library::{check_library, library_status, read_library};
+pub use library::{check_library, library_status, listed_library, read_library, read_list};
 pub use load::{LibraryFiles, load_library};

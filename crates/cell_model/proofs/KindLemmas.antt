@@ -2,11 +2,11 @@
 use Rattle.std.proofs.Common.{◌≡◌, ℕ, ◌<◌, Bool, true, false, List, [], ◌∷◌, map, filter, length, get_or, Option, None, Some, IfSome, IfNone, refl, sym, ap, subst, ◌∙◌, cond, arith}
 use Rattle.vlsi_base.specs.declared.name.Port.{Port}
 use Rattle.vlsi_base.specs.Member.{In, here, there}
-use Rattle.machine_meaning.specs.Machine.{is_input, names_of}
+use Rattle.machine_core.specs.Machine.{is_input, names_of}
 use Rattle.bool_expr.specs.Expression.{Expression, IsOver}
 use Rattle.cell_model.specs.declared.cell.Pin.{Pin}
-use Rattle.cell_model.specs.declared.kind.Kind.{Kind}
-use Rattle.cell_model.specs.declared.kind.Kind.TheVariants as kind
+use Rattle.vlsi_base.specs.declared.kind.Kind.{Kind}
+use Rattle.vlsi_base.specs.declared.kind.Kind.TheVariants as kind
 use Rattle.cell_model.specs.Function.{Function, gate, flip_flop, other, opaque}
 use Rattle.cell_model.specs.Cell.{Cell, cell_inputs}
 use Rattle.cell_model.specs.Library.{IsUsable}

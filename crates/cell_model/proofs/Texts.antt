@@ -3,7 +3,7 @@ use Rattle.std.proofs.Common.{◌≡◌, ℕ, Bool, true, false, List, refl, ap}
 use Rattle.std.specs.Prelude.{◌≢◌}
 use Rattle.std.specs.Cmp.Lexicographic.{bytes_decides}
 use Rattle.vlsi_base.specs.declared.name.Name.{Name}
-use Rattle.machine_meaning.specs.Named.{is_same_text, is_same_name}
+use Rattle.machine_core.specs.Named.{is_same_text, is_same_name}
 use Rattle.vlsi_base.specs.Names.{scalar}
 
 pub text_same : (a b : List ℕ) → is_same_text a b ≡ true → a ≡ b

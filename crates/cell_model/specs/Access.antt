@@ -4,7 +4,7 @@ use Rattle.sym_geom.specs.declared.grid.TheConstants.{PITCH, PAD_WIDTH}
 use Prim.Native.Nat.{zero, suc}
 use Rattle.std.specs.List.{flat_map, filter_map, list_any}
 use Rattle.vlsi_base.specs.declared.name.Name.{Name}
-use Rattle.machine_meaning.specs.Named.{is_same_name}
+use Rattle.machine_core.specs.Named.{is_same_name}
 use Rattle.sym_geom.specs.Rect.{square, moved}
 use Rattle.sym_geom.specs.declared.rect.Rect.{Rect}
 use Rattle.sym_shapes.specs.Shape.{drawn}

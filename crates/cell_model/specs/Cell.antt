@@ -2,7 +2,7 @@
 use Rattle.std.specs.Prelude.{ℤ, ◌-ℤ◌, List, map, filter, not}
 use Rattle.vlsi_base.specs.declared.name.Name.{Name}
 use Rattle.vlsi_base.specs.declared.name.Port.{Port}
-use Rattle.machine_meaning.specs.Machine.{is_input, names_of}
+use Rattle.machine_core.specs.Machine.{is_input, names_of}
 pub use Rattle.cell_model.specs.Function.{Function, gate, flip_flop, other, opaque}
 use Rattle.cell_model.specs.declared.cell.Cell.{Cell as CellParts}
 

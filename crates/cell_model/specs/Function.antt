@@ -1,7 +1,7 @@
 -- What cells compute.
 use Rattle.vlsi_base.specs.declared.name.Name.{Name}
 use Rattle.bool_expr.specs.Expression.{Expression}
-use Rattle.machine_meaning.specs.Machine.{Machine}
+use Rattle.machine_core.specs.Machine.{Machine}
 
 -- what a cell computes
 pub data Function : Type 0 where

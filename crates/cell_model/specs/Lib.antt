@@ -6,5 +6,4 @@ pub mod Layout
 pub mod Access
 pub mod Usable
 pub mod Connectors
-pub mod Kind
 pub mod Covering

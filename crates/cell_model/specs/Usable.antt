@@ -4,7 +4,7 @@ use Rattle.vlsi_base.specs.declared.name.Name.{Name}
 use Rattle.vlsi_base.specs.declared.name.Port.{Port}
 use Rattle.vlsi_base.specs.Member.{In}
 use Rattle.vlsi_base.specs.Names.{vdd, vss, comes_before}
-use Rattle.machine_meaning.specs.Machine.{names_of}
+use Rattle.machine_core.specs.Machine.{names_of}
 use Rattle.machine_core.specs.Checked.{IsChecked}
 use Rattle.sym_geom.specs.Rect.{IsRect, HasCoordinates}
 use Rattle.sym_geom.specs.declared.layer.Layer.{Layer}

@@ -3,12 +3,12 @@ ghost use Rattle.std.specs.Prelude.{◌≡◌, ◌↔◌, ◌∷◌, [], Bool, n
 ghost use Rattle.vlsi_base.specs.Member.{In};
 ghost use Rattle.bool_expr.specs.Expression.{val, IsOver};
 ghost use Rattle.bool_expr.specs.View.{view};
-ghost use Rattle.machine_meaning.specs.Machine.{is_input};
+ghost use Rattle.machine_core.specs.Machine.{is_input};
 ghost use Rattle.cell_model.specs.Library.{IsUsable};
 ghost use Rattle.cell_model.specs.Usable.{IsFormed};
 ghost use Rattle.cell_model.specs.Connectors.{PinsAreConnectors};
 ghost use Rattle.cell_model.specs.Covering.{IsGateOf, HasKind, HasCellOf, needed, IsFirstMissing};
-ghost use Rattle.cell_model.specs.declared.kind.Kind.{Kind};
+ghost use Rattle.vlsi_base.specs.declared.kind.Kind.{Kind};
 
 use crate::{Cell, Function, Kind, Pin, usable};
 use bool_expr::{Expr, value_at};

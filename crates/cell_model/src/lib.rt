@@ -4,14 +4,13 @@
 
 mod cell;
 mod function;
-mod kind;
 mod kinds;
 mod rects;
 mod usable_cell;
 
 pub use cell::{Arc, Cell, Pin};
 pub use function::{CellFunction, Function};
-pub use kind::Kind;
 pub use kinds::{first_missing, kind_of};
 pub use rects::{Rects, pin_rects};
 pub use usable_cell::{is_mappable, usable};
+pub use vlsi_base::Kind;

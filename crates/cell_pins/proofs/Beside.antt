@@ -2,7 +2,7 @@
 use Rattle.std.proofs.Common.{◌≡◌, ◌<◌, ℕ, suc, ◌+◌, Bool, true, false, cond, List, ◌∷◌, length, drop, drop-cons, add-one, arith, refl, sym, ap, ◌∙◌}
 use Rattle.std.specs.List.{slice_index_or}
 use Rattle.vlsi_base.specs.declared.name.Name.{Name}
-use Rattle.machine_meaning.specs.Named.{is_same_name, value_at}
+use Rattle.machine_core.specs.Named.{is_same_name, value_at}
 
 value_step : (names : List Name) (bits : List Bool) (name other : Name) (k : ℕ) → k < length names → length bits ≡ length names → other ≡ slice_index_or names k other
     → value_at (drop k names) (drop k bits) name ≡ cond (is_same_name other name) (slice_index_or bits k false) (value_at (drop (k + 1) names) (drop (k + 1) bits) name)

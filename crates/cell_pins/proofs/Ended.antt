@@ -1,9 +1,9 @@
 -- What the marks say when all equations are through.
 use Rattle.std.proofs.Common.{◌≡◌, ◌∙◌, ◌↔◌, ℕ, Bool, true, List, map, length, sym, ap, subst}
 use Rattle.vlsi_base.specs.declared.name.Name.{Name}
-use Rattle.machine_meaning.specs.declared.equation.Equation.{Equation as EquationParts}
-use Rattle.machine_meaning.specs.Machine.{Machine, Equation}
-use Rattle.machine_meaning.specs.Named.{value_at}
+use Rattle.machine_core.specs.declared.equation.Equation.{Equation as EquationParts}
+use Rattle.machine_core.specs.Machine.{Machine, Equation}
+use Rattle.machine_core.specs.Named.{value_at}
 use Rattle.machine_core.specs.Checked.{IsChecked}
 use Rattle.machine_core.specs.Order.{EachReadsBelow}
 use Rattle.machine_core.specs.View.{equation_view}

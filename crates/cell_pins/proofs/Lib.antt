@@ -6,3 +6,5 @@ pub mod Beside
 pub mod Ports
 pub mod Sound
 pub mod Ended
+mod Deciding
+pub mod Tables

@@ -3,8 +3,8 @@ use Rattle.std.proofs.Common.{◌≡◌, ◌↔◌, ℕ, zero, suc, ◌<◌, Boo
 use Rattle.std.specs.List.{list_any}
 use Rattle.vlsi_base.specs.declared.name.Name.{Name}
 use Rattle.bool_expr.specs.Expression.{variables, bit, IsOver}
-use Rattle.machine_meaning.specs.Machine.{Machine, Equation, Register, inputs, register_names}
-use Rattle.machine_meaning.specs.Named.{is_same_name, value_at}
+use Rattle.machine_core.specs.Machine.{Machine, Equation, Register, inputs, register_names}
+use Rattle.machine_core.specs.Named.{is_same_name, value_at}
 use Rattle.machine_core.specs.Order.{In, here, there, AllDifferent, held_names, equation_names, EachReadsBelow, IsOrdered}
 use Rattle.machine_core.proofs.Known.{IsOver-In}
 use Rattle.machine_core.proofs.Names.{same_name-true, same_name-itself}

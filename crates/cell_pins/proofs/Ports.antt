@@ -12,7 +12,7 @@ use Rattle.vlsi_base.specs.Name.{name_cmp}
 use Rattle.vlsi_base.specs.Names.{vdd, vss, comes_before}
 use Rattle.vlsi_base.specs.Member.{In, here, there, AllDifferent}
 use Rattle.vlsi_base.proofs.NameOrder.{name_total}
-use Rattle.machine_meaning.specs.Machine.{names_of}
+use Rattle.machine_core.specs.Machine.{names_of}
 use Rattle.sym_geom.specs.declared.item.Item.{Item}
 use Rattle.sym_geom.specs.declared.item.Item.TheVariants as item
 use Rattle.sym_shapes.specs.Shape.{wire_name, label, connector_name, connector_names}

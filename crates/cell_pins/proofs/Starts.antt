@@ -12,9 +12,9 @@ use Rattle.machine_core.proofs.Names.{same_name-itself, same_name-false}
 use Rattle.cell_pins.proofs.Marked.{any_member}
 use Rattle.vlsi_base.specs.declared.name.Name.{Name}
 use Rattle.bool_expr.specs.Support.{among, first_meetings, meetings_after}
-use Rattle.machine_meaning.specs.declared.equation.Register.{Register as RegisterParts}
-use Rattle.machine_meaning.specs.Machine.{Machine, Register, inputs, register_names}
-use Rattle.machine_meaning.specs.Named.{is_same_name}
+use Rattle.machine_core.specs.declared.equation.Register.{Register as RegisterParts}
+use Rattle.machine_core.specs.Machine.{Machine, Register, inputs, register_names}
+use Rattle.machine_core.specs.Named.{is_same_name}
 use Rattle.machine_core.specs.Checked.{IsChecked}
 use Rattle.machine_core.specs.Order.{equation_names}
 use Rattle.machine_core.specs.View.{register_view}

@@ -6,7 +6,7 @@ use Rattle.vlsi_base.specs.declared.name.Dir.TheVariants as dir
 use Rattle.vlsi_base.specs.Member.{In}
 use Rattle.vlsi_base.specs.Names.{vdd, vss}
 use Rattle.bool_expr.specs.Expression.{Expression, variables}
-use Rattle.machine_meaning.specs.Machine.{Machine, Equation, inputs}
+use Rattle.machine_core.specs.Machine.{Machine, Equation, inputs}
 use Rattle.cell_model.specs.Cell.{Function, gate, flip_flop, other, opaque}
 
 -- an expression of the machine reads a name

@@ -3,8 +3,8 @@ use Rattle.std.specs.Prelude.{Bool, false, List, [], ◌∷◌, ◌++◌, map}
 use Rattle.std.specs.List.{list_any}
 use Rattle.vlsi_base.specs.declared.name.Name.{Name}
 use Rattle.bool_expr.specs.Expression.{Expression, variables, bit}
-use Rattle.machine_meaning.specs.Machine.{Machine, Equation, inputs}
-use Rattle.machine_meaning.specs.Named.{is_same_name}
+use Rattle.machine_core.specs.Machine.{Machine, Equation, inputs}
+use Rattle.machine_core.specs.Named.{is_same_name}
 
 -- a variable of the expression is marked
 abbrev pub reads_mark : List Bool → Expression → Bool

@@ -1,11 +1,13 @@
 -- The table of pins of a library's cells.
-use Rattle.std.specs.Prelude.{◌≡◌, ◌⊎◌, ◌↔◌, IsTrue, Bool, ℕ, suc, zero, List, [], ◌∷◌, ◌++◌, length, slice_get, Some}
+use Rattle.std.specs.Prelude.{◌≡◌, ◌⊎◌, ◌↔◌, IsTrue, Bool, false, ℕ, suc, zero, List, [], ◌∷◌, ◌++◌, length, slice_get, Some}
 use Rattle.vlsi_base.specs.declared.name.Port.{Port}
 use Rattle.vlsi_base.specs.Member.{Picks}
 use Rattle.net_core.specs.declared.pins.ModelPin.{ModelPin}
 use Rattle.net_core.specs.declared.pins.ModelPins.{ModelPins}
 use Rattle.cell_model.specs.Cell.{Cell, Function}
 use Rattle.cell_model.specs.Library.{Library, IsUsable}
+use Rattle.net_core.specs.Checks.{IsPinTable}
+use Rattle.cell_checks.specs.Checked.{IsChecked}
 use Rattle.cell_pins.specs.Pins.{all_ports, IsClockPin}
 use Rattle.cell_pins.specs.Follows.{DependsOn}
 
@@ -55,3 +57,13 @@ IsListed all c = IsTrue all ⊎ IsUsable c
 -- the table lists every cell of the library, or the usable ones alone
 abbrev pub IsTableOf : Library → Bool → List ModelPins → Type 0
 IsTableOf l all table = AreModels (IsListed all) l.cells table
+
+-- the usable cells of a library have a table of their pins
+pub record HasPinTable (l : Library) : Type 0 where
+  pub table : List ModelPins
+  pub listed : IsTableOf l false table
+  pub sound : IsPinTable table
+
+-- so have those of every library that has passed its checks
+abbrev pub LibrariesHaveTables : Type 0
+LibrariesHaveTables = (l : Library) → IsChecked false l → HasPinTable l

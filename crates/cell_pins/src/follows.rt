@@ -4,8 +4,8 @@ ghost use Rattle.std.specs.List.{list_any};
 ghost use Rattle.vlsi_base.specs.Names.{scalar};
 ghost use Rattle.bool_expr.specs.View.{view};
 ghost use Rattle.bool_expr.specs.Expression.{variables, IsOver, bit};
-ghost use Rattle.machine_meaning.specs.Machine.{inputs, is_input};
-ghost use Rattle.machine_meaning.specs.Named.{is_same_name, value_at};
+ghost use Rattle.machine_core.specs.Machine.{inputs, is_input};
+ghost use Rattle.machine_core.specs.Named.{is_same_name, value_at};
 ghost use Rattle.machine_core.specs.Order.{EachReadsBelow};
 ghost use Rattle.machine_core.specs.View.{equation_view};
 ghost use Rattle.cell_model.specs.View.{function_view};
@@ -14,8 +14,7 @@ ghost use Rattle.cell_pins.specs.Marks.{reads_mark, starts, marked};
 
 use bool_expr::{Expr, support};
 use cell_model::Function;
-use machine_core::Machine;
-use machine_meaning::{Equation, Register};
+use machine_core::{Equation, Machine, Register};
 use std::alloc::{AllocError, Global};
 use vlsi_base::{Dir, Name, Port};
 

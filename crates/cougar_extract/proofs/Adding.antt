@@ -7,7 +7,7 @@ use Rattle.vlsi_base.specs.declared.name.Name.{Name}
 use Rattle.vlsi_base.specs.declared.name.Port.{Port}
 use Rattle.vlsi_base.specs.declared.name.Terminal.{Terminal}
 use Rattle.vlsi_base.specs.Member.{In, here, there}
-use Rattle.machine_meaning.specs.Machine.{names_of}
+use Rattle.machine_core.specs.Machine.{names_of}
 use Rattle.ap_io.specs.declared.figure.Figure.{Figure}
 use Rattle.sym_geom.specs.declared.item.Instance.{Instance as Placed}
 use Rattle.sym_geom.specs.declared.item.Item.{Item}
@@ -29,8 +29,8 @@ use Rattle.net_core.specs.Joins.{Draft, draft_terminals, with_instance, with_joi
 use Rattle.net_core.proofs.Frames.{mapped, unmapped}
 use Rattle.net_core.proofs.Standing.{stands_left, stands_right}
 use Rattle.net_theory.proofs.Basics.{length-map}
-use Rattle.net_view.proofs.Lists.{in_place}
-use Rattle.net_view.proofs.Models.{named_cell}
+use Rattle.net_right.proofs.Lists.{in_place}
+use Rattle.net_right.proofs.Models.{named_cell}
 use Rattle.cougar_extract.specs.declared.links.Link.{Link}
 use Rattle.cougar_extract.specs.Extracted.{AreKnown, figure_text, instance_of, pins_of_cell}
 use Rattle.cougar_extract.specs.Stages.{IsTerminalOf, of_figure, of_instance, AreTerminals, AreLeaders, ArePortsBy, IsBuilt, terminal_of, join_of, with_instances, with_joins}

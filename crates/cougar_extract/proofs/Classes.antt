@@ -8,7 +8,7 @@ use Rattle.cell_model.proofs.Members.{In-map, In-map_back}
 use Rattle.cell_pins.proofs.Sound.{member_at}
 use Rattle.net_core.specs.Places.{Stands}
 use Rattle.net_core.specs.Joins.{Joined as JoinedBy, same, along, against}
-use Rattle.net_view.proofs.Lists.{in_place}
+use Rattle.net_right.proofs.Lists.{in_place}
 use Rattle.sym_shapes.specs.Shape.{Shape}
 use Rattle.sym_shapes.specs.Joined.{Joined, itself, through, one_name, Shows, AreJoined}
 use Rattle.sym_shapes.proofs.Joins.{joined_then, linked_back}

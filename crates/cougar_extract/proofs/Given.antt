@@ -22,13 +22,13 @@ use Rattle.net_core.specs.Netlist.{Instance, Netlist as InMemory, HasClass, term
 use Rattle.net_core.specs.Checks.{pins_named, Fits, IsPinTable}
 use Rattle.net_core.proofs.Namings.{turn_reached}
 use Rattle.net_core.proofs.Rings.{at_place, class_below}
-use Rattle.net_meaning.specs.Netlist.{Netlist, IsTerminal, Extracts}
-use Rattle.net_view.specs.View.{member_of, IsSeenAs}
-use Rattle.net_view.specs.Right.{HasPinsOfCells}
-use Rattle.net_view.proofs.Lists.{map_twice, in_place}
-use Rattle.net_view.proofs.Models.{named_cell, HasModel, model_found}
-use Rattle.net_view.proofs.Seen.{seen_class}
-use Rattle.net_view.proofs.Terminals.{IsCelled, seen_ports, seen_instances, seen_classes, terminal_there, there_terminal}
+use Rattle.net_meaning.specs.Netlist.{AbstractNetlist, IsTerminal, Extracts}
+use Rattle.net_right.specs.View.{member_of, IsSeenAs}
+use Rattle.net_right.specs.Right.{HasPinsOfCells}
+use Rattle.net_right.proofs.Lists.{map_twice, in_place}
+use Rattle.net_right.proofs.Models.{named_cell, HasModel, model_found}
+use Rattle.net_right.proofs.Seen.{seen_class}
+use Rattle.net_right.proofs.Terminals.{IsCelled, seen_ports, seen_instances, seen_classes, terminal_there, there_terminal}
 use Rattle.cougar_extract.specs.Extracted.{instance_of, pins_of_cell, IsExtracted}
 use Rattle.cougar_extract.specs.Laws.{ExtractedIsGiven, ExtractedHasPins, ExtractedFits}
 
@@ -68,7 +68,7 @@ module _ (f : Figure) (l : Library) (n : InMemory) (is : IsExtracted f l n) wher
 
   -- ---- the netlist that it is seen as
 
-  module _ (tracks : Bool) (passed : HasPassed tracks l) (k : Netlist) (seen : IsSeenAs n k) where
+  module _ (tracks : Bool) (passed : HasPassed tracks l) (k : AbstractNetlist) (seen : IsSeenAs n k) where
     there_of : (t : Terminal) → IsTerminal k l t → IsThere (terminals n) t
     there_of t h = terminal_there n l k seen (celled tracks passed) t h
 

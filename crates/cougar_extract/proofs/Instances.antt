@@ -8,7 +8,7 @@ use Rattle.cell_model.specs.Layout.{instances_of}
 use Rattle.net_core.specs.Places.{Stands, NoneTwice}
 use Rattle.net_core.proofs.Frames.{mapped}
 use Rattle.net_core.proofs.Standing.{stands_same}
-use Rattle.net_view.proofs.Lists.{in_place}
+use Rattle.net_right.proofs.Lists.{in_place}
 
 -- each is a line of the figure
 pub instance_line : (items : List Item) (i : Placed) → In i (instances_of items) → In (item.Instance i) items

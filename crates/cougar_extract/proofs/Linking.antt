@@ -12,7 +12,7 @@ use Rattle.sym_shapes.specs.Joined.{Shows}
 use Rattle.net_core.specs.Places.{Stands, IsThere}
 use Rattle.net_core.proofs.Joining.{in_left, in_last, in_cases}
 use Rattle.net_core.proofs.Standing.{stands_same}
-use Rattle.net_view.proofs.Lists.{in_place}
+use Rattle.net_right.proofs.Lists.{in_place}
 use Rattle.cougar_extract.specs.declared.links.Link.{Link}
 use Rattle.cougar_extract.specs.Stages.{IsLinkAt, shape_links, AreLinks, AreBelow, HasOutput, AreOutputs, AreDrivenTexts, IsLeader, AreLeaders}
 use Rattle.cougar_extract.proofs.LeastPairs.{cases_eq}

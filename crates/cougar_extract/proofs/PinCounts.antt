@@ -13,7 +13,7 @@ use Rattle.vlsi_base.specs.Name.{name_cmp}
 use Rattle.vlsi_base.specs.Names.{vdd, vss, comes_before}
 use Rattle.vlsi_base.specs.Member.{In, here, there}
 use Rattle.vlsi_base.proofs.NameOrder.{name_total, name_exact}
-use Rattle.machine_meaning.specs.Machine.{names_of}
+use Rattle.machine_core.specs.Machine.{names_of}
 use Rattle.sym_geom.specs.declared.item.Instance.{Instance as Placed}
 use Rattle.sym_geom.specs.declared.item.Item.{Item}
 use Rattle.sym_geom.specs.declared.item.Item.TheVariants as item
@@ -28,7 +28,7 @@ use Rattle.cell_pins.proofs.Ports.{with_cases}
 use Rattle.net_core.specs.Places.{Stands}
 use Rattle.net_core.specs.Netlist.{port, pin_of, pins_of}
 use Rattle.net_core.specs.Joins.{Draft, draft_terminals}
-use Rattle.net_view.proofs.Ports.{supplies_differ}
+use Rattle.net_right.proofs.Ports.{supplies_differ}
 use Rattle.net_theory.proofs.Basics.{length-map}
 use Rattle.cougar_extract.specs.Extracted.{instance_of, pins_of_cell}
 use Rattle.cougar_extract.specs.Refused.{pin_count}

@@ -4,7 +4,7 @@ use Rattle.std.proofs.lemmas.Option.{same_Some}
 use Rattle.vlsi_base.specs.declared.name.Name.{Name}
 use Rattle.vlsi_base.specs.declared.name.Terminal.{Terminal}
 use Rattle.vlsi_base.specs.Member.{In, here, there}
-use Rattle.machine_meaning.specs.Machine.{names_of}
+use Rattle.machine_core.specs.Machine.{names_of}
 use Rattle.sym_geom.specs.declared.item.Instance.{Instance as Placed}
 use Rattle.sym_geom.specs.declared.item.Item.{Item}
 use Rattle.sym_shapes.specs.Shape.{Shape, drawn}
@@ -16,8 +16,8 @@ use Rattle.cell_model.specs.Layout.{instances_of, placed, instance_shapes, all_i
 use Rattle.cell_model.proofs.Members.{All-In}
 use Rattle.cell_pins.specs.Pins.{all_ports}
 use Rattle.net_core.specs.Places.{Stands, NoneTwice}
-use Rattle.net_view.proofs.Ports.{names_to}
-use Rattle.net_view.proofs.Models.{named_cell}
+use Rattle.net_right.proofs.Ports.{names_to}
+use Rattle.net_right.proofs.Models.{named_cell}
 use Rattle.cougar_extract.specs.Extracted.{pins_of_cell}
 use Rattle.cougar_extract.specs.Stages.{is_output, instance_gives, all_instances_give, gives, IsTerminalOf, of_figure, of_instance}
 use Rattle.cougar_extract.proofs.Drawn.{is_drawn}

@@ -27,7 +27,7 @@ use Rattle.net_core.proofs.Rings.{at_place}
 use Rattle.net_core.proofs.Searching.{rises, order_none_twice, not_itself}
 use Rattle.net_core.proofs.Standing.{stands_left, stands_same}
 use Rattle.net_theory.proofs.Basics.{length-map}
-use Rattle.net_view.proofs.Lists.{in_place}
+use Rattle.net_right.proofs.Lists.{in_place}
 use Rattle.cougar_extract.specs.Extracted.{IsExtracted}
 use Rattle.cougar_extract.specs.Refused.{AreShorted, NoShort, IsLeastShort}
 use Rattle.cougar_extract.specs.Stages.{IsLeastPair, NoPair, IsTerminalOf, of_figure, of_instance}

@@ -7,15 +7,15 @@ use Rattle.cell_pins.specs.Table.{IsTableOf}
 use Rattle.net_core.specs.declared.pins.ModelPins.{ModelPins}
 use Rattle.net_core.specs.Netlist.{Netlist as InMemory}
 use Rattle.net_core.specs.Checks.{Fits, IsPinTable}
-use Rattle.net_meaning.specs.Netlist.{Netlist, Extracts}
-use Rattle.net_view.specs.View.{IsSeenAs}
-use Rattle.net_view.specs.Right.{HasPinsOfCells}
+use Rattle.net_meaning.specs.Netlist.{AbstractNetlist, Extracts}
+use Rattle.net_right.specs.View.{IsSeenAs}
+use Rattle.net_right.specs.Right.{HasPinsOfCells}
 use Rattle.cougar_extract.specs.Extracted.{IsExtracted}
 
 -- As every netlist that it can be seen as, it is the one that the layout gives.
 abbrev pub ExtractedIsGiven : Type 0
 ExtractedIsGiven =
-    (f : Figure) (l : Library) (tracks : Bool) (n : InMemory) (k : Netlist) → HasPassed tracks l → IsExtracted f l n → IsSeenAs n k
+    (f : Figure) (l : Library) (tracks : Bool) (n : InMemory) (k : AbstractNetlist) → HasPassed tracks l → IsExtracted f l n → IsSeenAs n k
     → Extracts f.items l k
 
 -- its instances have the pins of their cells

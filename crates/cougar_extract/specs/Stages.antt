@@ -10,8 +10,8 @@ use Rattle.vlsi_base.specs.declared.name.Terminal.{Terminal}
 use Rattle.std.specs.FinMap.{get}
 use Rattle.vlsi_base.specs.NamePlaces.{NamePlaces}
 use Rattle.vlsi_base.specs.Member.{In}
-use Rattle.machine_meaning.specs.Machine.{is_input}
-use Rattle.machine_meaning.specs.Named.{is_same_name}
+use Rattle.machine_core.specs.Machine.{is_input}
+use Rattle.machine_core.specs.Named.{is_same_name}
 use Rattle.sym_geom.specs.Rect.{moved, transformed}
 use Rattle.sym_geom.specs.declared.rect.Rect.{Rect}
 use Rattle.sym_geom.specs.declared.item.Instance.{Instance as Placed}

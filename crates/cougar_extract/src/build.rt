@@ -3,7 +3,7 @@ ghost use Rattle.std.specs.Prelude.{◌≡◌, ◌↔◌, ◌∷◌, [], ◌+◌
 ghost use Rattle.std.specs.List.{All};
 ghost use Rattle.vlsi_base.specs.Member.{In, AllDifferent};
 ghost use Rattle.vlsi_base.specs.declared.name.Name.{Name as PinName};
-ghost use Rattle.machine_meaning.specs.Machine.{names_of};
+ghost use Rattle.machine_core.specs.Machine.{names_of};
 ghost use Rattle.sym_geom.specs.declared.item.Instance.{Instance as PlacedInstance};
 ghost use Rattle.sym_shapes.specs.Shape.{connector_names};
 ghost use Rattle.net_core.specs.Places.{IsThere, NoneTwice};

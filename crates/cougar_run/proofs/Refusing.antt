@@ -1,55 +1,31 @@
 -- From the refusals of readers, of extraction and of writing to the tool's.
-use Rattle.std.proofs.Common.{◌≡◌, inl, inr, ℕ, List, None, Result, Err, false, sym, subst, refl}
+use Rattle.std.proofs.Common.{◌≡◌, inl, inr, ℕ, List, None, Err, false, sym, subst, refl}
 use Rattle.vlsi_base.specs.declared.fault.ReadError.{ReadError}
 use Rattle.ap_io.specs.declared.figure.Figure.{Figure}
 use Rattle.ap_io.specs.ApText.{IsApText}
 use Rattle.ap_io.specs.Refusal.{IsApRefusal}
 use Rattle.cell_model.specs.Library.{Library}
 use Rattle.cell_lib.specs.declared.error.LibError.{LibError}
-use Rattle.cell_lib.specs.declared.error.LibError.TheVariants as errors
-use Rattle.cell_lib.proofs.Plain.{never_missing, never_unread}
+use Rattle.cell_lib.proofs.Answering.{refused_library}
 use Rattle.cell_lib.specs.Cells.{OrMemory}
 use Rattle.cell_lib.specs.Library.{IsLibraryOf, IsRefusedLibrary, status_of}
 use Rattle.net_core.specs.Netlist.{Netlist}
-use Rattle.vst_write.specs.declared.error.WriteError.{WriteError}
-use Rattle.vst_write.specs.declared.error.WriteError.TheVariants as writing
-use Rattle.vst_write.specs.Written.{IsWriteRefusal}
+use Rattle.vst_print.specs.declared.error.WriteError.{WriteError}
+use Rattle.vst_print.specs.declared.error.WriteError.TheVariants as writing
+use Rattle.vst_print.specs.Written.{IsWriteRefusal}
 use Rattle.cougar_extract.specs.declared.error.ExtractError.{ExtractError}
 use Rattle.cougar_extract.specs.declared.error.ExtractError.TheVariants as extracting
 use Rattle.cougar_extract.specs.Extracted.{IsExtracted}
 use Rattle.cougar_extract.specs.Refused.{CanBeNumbered, NoShort, IsExtractRefusal}
-use Rattle.tool_words.specs.declared.command.CougarCommand.{CougarCommand}
+use Rattle.cougar_run.specs.declared.words.CougarCommand.{CougarCommand}
 use Rattle.tool_drive.specs.declared.status.Status.{Status}
-use Rattle.tool_drive.specs.declared.status.Status.TheVariants as status
-use Rattle.tool_drive.specs.declared.tool.Product.{Product}
-use Rattle.tool_drive.specs.declared.tool.Refusal.{Refusal}
 use Rattle.tool_drive.specs.Table.{IsJudged, IsFair, refusal}
-use Rattle.tool_drive.specs.Refusals.{MemoryOr, OfFile, of_file, judged_file}
+use Rattle.tool_drive.specs.Refusals.{MemoryOr, OfFile, of_file, judged_file, judged}
 use Rattle.cougar_run.specs.Cougar.{no_library, bad_layout, unknown_cell, too_large, many_terminals, shorted, bad_map, Extracts, IsToldOf, IsWriteToldOf}
-
--- a status for which P holds, or out of memory, is one that a tool may answer
-judged : (A : Result Product Refusal → Type 0) (P : Status → Type 0) → ((t : Status) → P t → IsFair t None (A (Err (refusal t None)))) → (s : Status) → MemoryOr s (P s)
-    → IsJudged A (Err (refusal s None))
-judged A P told status.Memory k = refl
-judged A P told status.Accepted k = told status.Accepted k
-judged A P told status.Usage k = told status.Usage k
-judged A P told (status.Source file fault) k = told (status.Source file fault) k
-judged A P told (status.Library fault) k = told (status.Library fault) k
-judged A P told (status.NoCover which) k = told (status.NoCover which) k
-judged A P told (status.Budget equation reached) k = told (status.Budget equation reached) k
-judged A P told (status.NoPath net terminal) k = told (status.NoPath net terminal) k
-judged A P told (status.File cause name) k = told (status.File cause name) k
-judged A P told (status.Limit limit) k = told (status.Limit limit) k
-judged A P told (status.No verdict) k = told (status.No verdict) k
 
 module _ (c : CougarCommand) (source list : List ℕ) (cells : List (List ℕ)) where
   pub by_library : (e : LibError) → OrMemory (IsRefusedLibrary false list cells) e → IsJudged (Extracts c source list cells) (Err (refusal (status_of e) None))
-  by_library errors.Memory h = refl
-  by_library (errors.Limit l) h = (refl, no_library (errors.Limit l) h refl)
-  by_library (errors.BadCatal line) h = (refl, no_library (errors.BadCatal line) h refl)
-  by_library (errors.BadCell cell cause) h = (refl, no_library (errors.BadCell cell cause) h refl)
-  by_library (errors.Missing name) h = absurd (never_missing false list cells name h)
-  by_library (errors.ReadFault name) h = absurd (never_unread false list cells name h)
+  by_library e h = refused_library (Extracts c source list cells) false list cells e h (λ x r. (refl, no_library x r refl))
 
   module _ (l : Library) (library : IsLibraryOf false list cells l) where
     pub by_layout : (e : ReadError) (s : Status) → IsApRefusal source e → MemoryOr s (OfFile c.source (λ x. x ≡ e) s) → IsJudged (Extracts c source list cells) (Err (refusal s None))

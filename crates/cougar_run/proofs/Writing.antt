@@ -6,7 +6,7 @@ use Rattle.vlsi_base.specs.Member.{In, here, there}
 use Rattle.ap_io.specs.declared.figure.Figure.{Figure}
 use Rattle.ap_io.specs.ApText.{IsApText}
 use Rattle.vlsi_base.specs.declared.name.Terminal.{Terminal}
-use Rattle.machine_meaning.specs.Named.{is_same_name}
+use Rattle.machine_core.specs.Named.{is_same_name}
 use Rattle.machine_core.proofs.Names.{same_name-true, same_name-itself}
 use Rattle.cell_model.specs.declared.cell.Pin.{Pin}
 use Rattle.cell_model.specs.Cell.{Cell, Function}
@@ -23,17 +23,17 @@ use Rattle.cell_pins.specs.Table.{ArePins, no_pins, one_pin, AreModels, no_model
 use Rattle.net_core.specs.declared.pins.ModelPin.{ModelPin}
 use Rattle.net_core.specs.declared.pins.ModelPins.{ModelPins}
 use Rattle.net_core.specs.Netlist.{Netlist, HasClass, port}
-use Rattle.net_view.specs.Writable.{port_of, CanBePorts, CanBeNamed, PinsCanBeWritten}
-use Rattle.vbe_words.specs.Laws.{CellCanBeWritten, with_supplies}
+use Rattle.net_right.specs.Writable.{port_of, CanBePorts, CanBeNamed, PinsCanBeWritten}
+use Rattle.vbe_writable.specs.Laws.{CellCanBeWritten, with_supplies}
 use Rattle.spell_theory.specs.Layout.{text_of}
-use Rattle.vst_write.specs.Written.{layout}
-use Rattle.vst_again.specs.Placed.{file_of}
-use Rattle.vst_again.specs.Says.{WrittenIsASentence, WrittenSaysTheNetlist}
-use Rattle.vst_said.specs.Text.{IsTextOf}
+use Rattle.vst_print.specs.Written.{layout}
+use Rattle.vst_print.specs.Placed.{file_of}
+use Rattle.vst_print.specs.Says.{WrittenIsASentence, WrittenSaysTheNetlist}
+use Rattle.vst_print.specs.Text.{IsTextOf}
 use Rattle.cougar_extract.specs.Extracted.{IsExtracted}
 use Rattle.cougar_extract.specs.Refused.{CanBeNumbered, NoShort}
 use Rattle.cougar_extract.specs.Laws.{ExtractedFits, ExtractedIsGiven}
-use Rattle.tool_words.specs.declared.command.CougarCommand.{CougarCommand}
+use Rattle.cougar_run.specs.declared.words.CougarCommand.{CougarCommand}
 use Rattle.tool_drive.specs.declared.tool.Product.{Product}
 use Rattle.cougar_run.specs.Cougar.{IsWritable, IsWrittenAs, IsExtraction}
 use Rattle.cougar_run.specs.Laws.{ExtractionIsGiven, ExtractionIsSaid}

@@ -1,7 +1,5 @@
 -- What `cougar` reads and answers.
 use Rattle.std.specs.Prelude.{◌≡◌, ℕ, ◌-◌, ◌<◌, ◌^◌, Bool, ◌&&◌, true, false, List, [], ◌∷◌, ◌++◌, filter, length, get_or, codes, is_none, None, Some, Result, Ok, Err}
-use Rattle.std.specs.Fmt.{decimal}
-use Rattle.vlsi_base.specs.declared.limits.TheConstants.{MOST_NETLIST_BYTES}
 use Rattle.vlsi_base.specs.declared.fault.FaultKind.{FaultKind}
 use Rattle.vlsi_base.specs.declared.fault.FaultKind.TheVariants as kind
 use Rattle.vlsi_base.specs.declared.fault.Limit.{Limit}
@@ -22,35 +20,30 @@ use Rattle.cell_pins.specs.Table.{IsTableOf}
 use Rattle.net_core.specs.declared.pins.ModelPins.{ModelPins}
 use Rattle.net_core.specs.Netlist.{Netlist}
 use Rattle.net_core.specs.Checks.{Fits, IsPinTable}
-use Rattle.net_view.specs.Writable.{CanBeNamed, IsBadMap, PinsCanBeWritten}
+use Rattle.net_right.specs.Writable.{CanBeNamed, IsBadMap, PinsCanBeWritten}
 use Rattle.spell_theory.specs.Layout.{text_of}
-use Rattle.vst_write.specs.declared.error.WriteError.{WriteError}
-use Rattle.vst_write.specs.declared.error.WriteError.TheVariants as writing
-use Rattle.vst_write.specs.Written.{layout}
+use Rattle.vst_print.specs.declared.error.WriteError.{WriteError}
+use Rattle.vst_print.specs.declared.error.WriteError.TheVariants as writing
+use Rattle.vst_print.specs.Written.{layout}
 use Rattle.cougar_extract.specs.declared.error.Step.{Step}
 use Rattle.cougar_extract.specs.declared.error.ExtractError.{ExtractError}
 use Rattle.cougar_extract.specs.declared.error.ExtractError.TheVariants as extracting
 use Rattle.cougar_extract.specs.Extracted.{AreKnown, IsExtracted}
 use Rattle.cougar_extract.specs.Refused.{IsFirstUnknown, IsTooLarge, HasTooManyTerminals, CanBeNumbered, NoShort, IsLeastShort, IsChainOf}
-use Rattle.tool_words.specs.declared.command.CougarCommand.{CougarCommand}
+use Rattle.cougar_run.specs.declared.words.CougarCommand.{CougarCommand}
 use Rattle.tool_drive.specs.declared.status.Status.{Status}
 use Rattle.tool_drive.specs.declared.status.Status.TheVariants as status
 use Rattle.tool_drive.specs.declared.status.Verdict.TheVariants.{Shorted}
-use Rattle.tool_drive.specs.declared.tool.Over.TheVariants.{Refused}
-use Rattle.tool_drive.specs.declared.tool.Wanted.{Wanted}
 use Rattle.tool_drive.specs.declared.tool.Product.{Product}
 use Rattle.tool_drive.specs.declared.tool.Refusal.{Refusal}
-use Rattle.tool_drive.specs.Plan.{Plan, Inputs, limited}
+use Rattle.tool_drive.specs.Lines.{count_line}
+use Rattle.tool_drive.specs.Plan.{Plan, Inputs, limited, large}
 use Rattle.tool_drive.specs.Refusals.{OfFile}
-
--- a layout's file
-abbrev pub layout_file : List ℕ → Wanted
-layout_file name = record { name = name; most = MOST_NETLIST_BYTES; over = Refused }
 
 -- SOURCE, then CATAL, and then the files of the cells that CATAL uses
 abbrev pub cougar_plan : CougarCommand → Plan
 cougar_plan c = record {
-  first = layout_file c.source ∷ limited (catal_name c.library) ∷ [];
+  first = large c.source ∷ limited (catal_name c.library) ∷ [];
   more = λ read. cell_files c.library (cells_in (get_or read 1 []));
 }
 
@@ -66,13 +59,9 @@ is_supply_port p = is_none p.name.bit && is_supply p.name.text
 abbrev pub net_count : Netlist → ℕ
 net_count n = n.count - length (filter is_supply_port n.ports)
 
--- a word and a number
-abbrev pub line_text : List ℕ → ℕ → List ℕ
-line_text word k = word ++ (decimal k ++ 10 ∷ [])
-
 -- how many instances a netlist has, and how many classes without those of the supplies
 abbrev pub report : Netlist → List ℕ
-report n = line_text (codes "cells ") (length n.instances) ++ line_text (codes "nets ") (net_count n)
+report n = count_line (codes "cells") (length n.instances) ++ count_line (codes "nets") (net_count n)
 
 -- the text of the netlist, by a table of the pins of all cells, is that of NAME.vst, and the report is printed
 pub record IsWrittenAs (out : List ℕ) (l : Library) (n : Netlist) (p : Product) : Type 0 where

@@ -1,10 +1,10 @@
 -- What follows of a netlist that `cougar` writes.
 use Rattle.std.specs.Prelude.{ℕ, List, IfSome}
-use Rattle.net_meaning.specs.Netlist.{Netlist as Given, Extracts as Gives}
-use Rattle.net_view.specs.View.{IsSeenAs}
-use Rattle.vst_again.specs.Says.{IsWithinLimits}
-use Rattle.vst_said.specs.Text.{IsTextOf}
-use Rattle.tool_words.specs.declared.command.CougarCommand.{CougarCommand}
+use Rattle.net_meaning.specs.Netlist.{AbstractNetlist as Given, Extracts as Gives}
+use Rattle.net_right.specs.View.{IsSeenAs}
+use Rattle.vst_print.specs.Says.{IsWithinLimits}
+use Rattle.vst_print.specs.Text.{IsTextOf}
+use Rattle.cougar_run.specs.declared.words.CougarCommand.{CougarCommand}
 use Rattle.tool_drive.specs.declared.tool.Product.{Product}
 use Rattle.cougar_run.specs.Cougar.{IsExtraction}
 

@@ -3,20 +3,18 @@ ghost use Rattle.std.specs.Prelude.{◌≡◌, ◌∷◌, []};
 ghost use Rattle.vlsi_base.specs.Names.{scalar};
 ghost use Rattle.tool_drive.specs.Refusals.{MemoryOr};
 ghost use Rattle.tool_drive.specs.Table.{IsJudged};
-ghost use Rattle.cougar_run.specs.Cougar.{layout_file as file_of, fault_of, Extracts, IsToldOf, IsWriteToldOf};
+ghost use Rattle.cougar_run.specs.Cougar.{fault_of, Extracts, IsToldOf, IsWriteToldOf};
 
 use crate::product::product;
+use crate::words::CougarCommand;
 use ap_io::{read_ap, what_is_read_is_a_figure};
 use cell_lib::{catal_file, library_law, library_status, named_files, read_library};
 use cougar_extract::{ExtractError, extract, extracted_fits};
 use std::alloc::{AllocError, Global};
-use tool_drive::{Over, Product, Refusal, Status, Tool, Verdict, Wanted, bytes_at, refused};
-use tool_words::CougarCommand;
-use vbe_words::cell_can_be_written;
-use vlsi_base::{
-    FaultKind, FileBytes, FileName, InputFault, MOST_NETLIST_BYTES, Name, Names, Text,
-};
-use vst_write::WriteError;
+use tool_drive::{Product, Refusal, Status, Tool, Verdict, Wanted, bytes_at, refused};
+use vbe_writable::cell_can_be_written;
+use vlsi_base::{FaultKind, FileBytes, InputFault, Name, Names, Text};
+use vst_print::WriteError;
 
 /// `cougar`, with what it is asked: it takes the netlist out of the layout in SOURCE, writes it to NAME.vst, and prints `cells` and
 /// the number of its instances, and `nets` and that of its classes without those of the supplies.
@@ -29,17 +27,6 @@ use vst_write::WriteError;
 #[derive(Drop)]
 pub struct Cougar<'a> {
     pub command: &'a CougarCommand,
-}
-
-// A layout's file, of at most `MOST_NETLIST_BYTES` bytes.
-fn layout_file(name: FileName) -> Wanted
-    ensures { result ≡ file_of name }
-{
-    Wanted {
-        name,
-        most: MOST_NETLIST_BYTES as u64,
-        over: Over::Refused,
-    }
 }
 
 // The status of a fault of the whole file.
@@ -134,7 +121,7 @@ impl Tool for Cougar<'_> {
 
     fn first(&self, alloc: Global) -> Result<Vec<Wanted>, AllocError> {
         let mut wanted = Vec::new(alloc);
-        wanted.push(layout_file(self.command.source.copy(alloc)?))?;
+        wanted.push(Wanted::large(self.command.source.copy(alloc)?))?;
         wanted.push(catal_file(alloc, &self.command.library)?)?;
         Ok(wanted)
     }

@@ -7,6 +7,8 @@
 mod cougar;
 mod laws;
 mod product;
+mod words;
 
 pub use cougar::Cougar;
 pub use laws::cougar_law;
+pub use words::{COUGAR_ENTRY, CougarCommand, read_cougar};

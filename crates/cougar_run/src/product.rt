@@ -1,16 +1,16 @@
 // What is written and printed of a netlist.
-ghost use Rattle.std.specs.Prelude.{◌≡◌, ◌++◌, IfOk, OnOk, IfErr, filter, length};
-ghost use Rattle.net_view.specs.Writable.{CanBeNamed};
-ghost use Rattle.vst_write.specs.Written.{IsWriteRefusal};
-ghost use Rattle.cougar_run.specs.Cougar.{IsWritable, IsWrittenAs, is_supply_port as is_supply_of, net_count as count_of, line_text, report as report_of};
+ghost use Rattle.std.specs.Prelude.{◌≡◌, IfOk, OnOk, IfErr, filter, length};
+ghost use Rattle.net_right.specs.Writable.{CanBeNamed};
+ghost use Rattle.vst_print.specs.Written.{IsWriteRefusal};
+ghost use Rattle.cougar_run.specs.Cougar.{IsWritable, IsWrittenAs, is_supply_port as is_supply_of, net_count as count_of, report as report_of};
 
 use cell_checks::Library;
 use cell_pins::pin_table;
 use net_core::Netlist;
 use std::alloc::{AllocError, Global};
-use tool_drive::Product;
-use vlsi_base::{FileBytes, FileName, Port, Text, is_supply, push_u64};
-use vst_write::{WriteError, write_vst};
+use tool_drive::{Product, count_line};
+use vlsi_base::{FileBytes, FileName, Port, is_supply};
+use vst_print::{WriteError, write_vst};
 
 fn is_supply_port(port: &Port) -> bool
     ensures { result ≡ is_supply_of port.now }
@@ -32,24 +32,13 @@ fn net_count(netlist: &Netlist) -> u64
     u64::saturating_sub(u64::from(netlist.count()), supplies as u64)
 }
 
-/// Puts a word and a number behind a text.
-fn line(alloc: Global, out: &mut FileBytes, word: &[u8], number: u64) -> Result<(), AllocError>
-    ensures { OnOk result (out.new ≡ out.old ++ line_text word.now number) }
-{
-    let mut digits = Text::new(Vec::new(alloc));
-    push_u64(alloc, &mut digits, number)?;
-    out.append(word)?;
-    out.append(digits.as_bytes())?;
-    out.append(b"\n")
-}
-
 // How many instances there are, and how many classes without those of the supplies.
 fn report(alloc: Global, netlist: &Netlist) -> Result<FileBytes, AllocError>
     ensures { IfOk result (λ text. text ≡ report_of netlist.now) }
 {
     let mut text = FileBytes::new(Vec::new(alloc));
-    line(alloc, &mut text, b"cells ", netlist.nodes().len() as u64)?;
-    line(alloc, &mut text, b"nets ", net_count(netlist))?;
+    count_line(alloc, &mut text, b"cells", netlist.nodes().len() as u128)?;
+    count_line(alloc, &mut text, b"nets", u128::from(net_count(netlist)))?;
     Ok(text)
 }
 

@@ -10,7 +10,7 @@ use Rattle.std.proofs.Common.{append_assoc, append-nil, ◌⊎◌, inl, inr}
 use Rattle.vlsi_base.specs.declared.name.Name.{Name}
 use Rattle.vlsi_base.specs.declared.name.Port.{Port}
 use Rattle.vlsi_base.specs.declared.name.Dir.{Dir}
-use Rattle.machine_meaning.specs.Named.{is_same_text}
+use Rattle.machine_core.specs.Named.{is_same_text}
 use Rattle.cell_model.specs.declared.cell.Pin.{Pin}
 use Rattle.cell_model.specs.Cell.{Cell}
 use Rattle.cell_model.specs.Library.{Library, cell_named, cell_of}

@@ -4,7 +4,7 @@ use Rattle.std.specs.List.{All, zip}
 use Rattle.vlsi_base.specs.declared.name.Name.{Name}
 use Rattle.vlsi_base.specs.declared.name.Dir.TheVariants as dir
 use Rattle.vlsi_base.specs.declared.name.Terminal.{Terminal}
-use Rattle.machine_meaning.specs.Named.{is_same_text}
+use Rattle.machine_core.specs.Named.{is_same_text}
 use Rattle.cell_model.specs.Cell.{Function, Cell}
 use Rattle.cell_model.specs.Library.{Library, cell_named, cell_of}
 use Rattle.cell_model.proofs.Members.{All-In}

@@ -15,8 +15,8 @@ use Rattle.vlsi_base.specs.Name.{name_cmp}
 use Rattle.vlsi_base.specs.Names.{vdd, vss, comes_before}
 use Rattle.vlsi_base.specs.Member.{In, here, there, Picks, done, takes, skips}
 use Rattle.vlsi_base.proofs.NameOrder.{name_total, name_exact}
-use Rattle.machine_meaning.specs.Machine.{names_of}
-use Rattle.machine_meaning.specs.Named.{is_same_text}
+use Rattle.machine_core.specs.Machine.{names_of}
+use Rattle.machine_core.specs.Named.{is_same_text}
 use Rattle.cell_model.specs.Cell.{Function, gate, flip_flop, other, opaque, Cell, pin_ports}
 use Rattle.cell_model.specs.Library.{cell_named}
 use Rattle.cell_model.specs.Usable.{IsFormed}

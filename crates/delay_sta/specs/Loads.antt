@@ -2,8 +2,8 @@
 use Rattle.std.specs.Prelude.{ℕ, ◌&&◌, List, [], ◌∷◌, ◌++◌, map, nat_eq, Option, None, Some, if◌then◌else◌}
 use Rattle.std.specs.List.{flat_map, zip, sum_by}
 use Rattle.vlsi_base.specs.declared.name.Name.{Name}
-use Rattle.machine_meaning.specs.Machine.{is_input}
-use Rattle.machine_meaning.specs.Named.{is_same_name}
+use Rattle.machine_core.specs.Machine.{is_input}
+use Rattle.machine_core.specs.Named.{is_same_name}
 use Rattle.cell_model.specs.declared.cell.Pin.{Pin}
 use Rattle.cell_model.specs.Cell.{Cell}
 use Rattle.cell_model.specs.Library.{Library, cell_of}

@@ -1,8 +1,8 @@
 // The loads of classes, and the cells of models.
 ghost use Rattle.std.specs.Prelude.{◌≡◌, ◌+◌, ◌*◌, ◌^◌, ◌<◌, ◌≤◌, ◌++◌, ◌&&◌, ℕ, map, length, slice_get, slice_index, IfOk, OnOk};
 ghost use Rattle.std.specs.List.{All, zip, sum_by};
-ghost use Rattle.machine_meaning.specs.Machine.{is_input};
-ghost use Rattle.machine_meaning.specs.Named.{is_same_name};
+ghost use Rattle.machine_core.specs.Machine.{is_input};
+ghost use Rattle.machine_core.specs.Named.{is_same_name};
 ghost use Rattle.cell_model.specs.Library.{cell_named};
 ghost use Rattle.delay_sta.specs.Loads.{input_capacitance, pins_at, capacitances, share, load};
 ghost use Rattle.delay_sta.specs.Graph.{AreFound};

@@ -1,5 +1,5 @@
 -- From the refusals of readers and of the rules' check to the tool's, and from the breaches to its answer.
-use Rattle.std.proofs.Common.{◌≡◌, ℕ, ◌<◌, ◌^◌, List, length, map, Option, None, Result, Ok, Err, false, refl, sym, subst}
+use Rattle.std.proofs.Common.{◌≡◌, ℕ, ◌<◌, ◌^◌, List, length, map, None, Result, Ok, Err, false, refl, sym, subst}
 use Rattle.vlsi_base.specs.declared.fault.ReadError.{ReadError}
 use Rattle.ap_io.specs.declared.figure.Figure.{Figure}
 use Rattle.ap_io.specs.ApText.{IsApText}
@@ -7,8 +7,7 @@ use Rattle.ap_io.specs.Refusal.{IsApRefusal}
 use Rattle.cell_model.specs.Library.{Library}
 use Rattle.cell_model.specs.Layout.{instances_of, shapes}
 use Rattle.cell_lib.specs.declared.error.LibError.{LibError}
-use Rattle.cell_lib.specs.declared.error.LibError.TheVariants as errors
-use Rattle.cell_lib.proofs.Plain.{never_missing, never_unread}
+use Rattle.cell_lib.proofs.Answering.{refused_library}
 use Rattle.cell_lib.specs.Cells.{OrMemory}
 use Rattle.cell_lib.specs.Library.{IsLibraryOf, IsRefusedLibrary, status_of}
 use Rattle.net_meaning.specs.Breaches.{Breaches}
@@ -17,24 +16,17 @@ use Rattle.druc_rules.specs.declared.breach.Breach.{Breach}
 use Rattle.druc_rules.specs.declared.error.DrucError.{DrucError}
 use Rattle.druc_rules.specs.declared.error.DrucError.TheVariants as ruling
 use Rattle.druc_rules.specs.Breaches.{breach_of, IsBrokenRefusal}
-use Rattle.tool_words.specs.declared.command.DrucCommand.{DrucCommand}
+use Rattle.druc_run.specs.declared.words.DrucCommand.{DrucCommand}
 use Rattle.tool_drive.specs.declared.status.Status.{Status}
-use Rattle.tool_drive.specs.declared.status.Status.TheVariants as status
-use Rattle.tool_drive.specs.declared.tool.Written.{Written}
 use Rattle.tool_drive.specs.declared.tool.Product.{Product}
 use Rattle.tool_drive.specs.declared.tool.Refusal.{Refusal}
 use Rattle.tool_drive.specs.Table.{IsJudged, IsFair, refusal}
-use Rattle.tool_drive.specs.Refusals.{MemoryOr, OfFile, of_file, judged_file}
+use Rattle.tool_drive.specs.Refusals.{MemoryOr, OfFile, of_file, judged_file, judged, fair_then}
 use Rattle.druc_run.specs.Druc.{AreListed, no_library, bad_layout, unknown_cell, too_large, broken, Checks, IsToldOf, IsAnswerOf}
 
 module _ (c : DrucCommand) (source list : List ℕ) (cells : List (List ℕ)) where
   pub by_library : (e : LibError) → OrMemory (IsRefusedLibrary false list cells) e → IsJudged (Checks c source list cells) (Err (refusal (status_of e) None))
-  by_library errors.Memory h = refl
-  by_library (errors.Limit l) h = (refl, no_library (errors.Limit l) h refl)
-  by_library (errors.BadCatal line) h = (refl, no_library (errors.BadCatal line) h refl)
-  by_library (errors.BadCell cell cause) h = (refl, no_library (errors.BadCell cell cause) h refl)
-  by_library (errors.Missing name) h = absurd (never_missing false list cells name h)
-  by_library (errors.ReadFault name) h = absurd (never_unread false list cells name h)
+  by_library e h = refused_library (Checks c source list cells) false list cells e h (λ x r. (refl, no_library x r refl))
 
   module _ (l : Library) (library : IsLibraryOf false list cells l) where
     pub by_layout : (e : ReadError) (s : Status) → IsApRefusal source e → MemoryOr s (OfFile c.source (λ x. x ≡ e) s) → IsJudged (Checks c source list cells) (Err (refusal s None))
@@ -50,38 +42,16 @@ module _ (c : DrucCommand) (source list : List ℕ) (cells : List (List ℕ)) wh
           subst (λ (t : Status). IsFair t None (Checks c source list cells (Err (refusal t None)))) (sym k) (refl, too_large l f limit library figure h.0 h.1 refl)
 
       pub by_rules : (e : DrucError) (s : Status) → IsBrokenRefusal f.items l e → MemoryOr s (IsToldOf c e s) → IsJudged (Checks c source list cells) (Err (refusal s None))
-      by_rules e status.Memory h k = refl
-      by_rules e status.Accepted h k = told e status.Accepted h k
-      by_rules e status.Usage h k = told e status.Usage h k
-      by_rules e (status.Source file fault) h k = told e (status.Source file fault) h k
-      by_rules e (status.Library fault) h k = told e (status.Library fault) h k
-      by_rules e (status.NoCover which) h k = told e (status.NoCover which) h k
-      by_rules e (status.Budget equation reached) h k = told e (status.Budget equation reached) h k
-      by_rules e (status.NoPath net terminal) h k = told e (status.NoPath net terminal) h k
-      by_rules e (status.File cause name) h k = told e (status.File cause name) h k
-      by_rules e (status.Limit limit) h k = told e (status.Limit limit) h k
-      by_rules e (status.No verdict) h k = told e (status.No verdict) h k
+      by_rules e s h k = judged (Checks c source list cells) (λ t. IsToldOf c e t) (λ t r. told e t h r) s k
 
       module _ (known : AreKnown (instances_of f.items) l) (few : length (shapes f.items l) < 2 ^ 32) (found : List Breach) (breaches : Breaches f.items l (map breach_of found)) where
         listed : AreListed source list cells found
         listed = record { l = l; library = library; f = f; figure = figure; known = known; few = few; breaches = breaches }
 
-        pub accepted : (p : Product) → IsAnswerOf found (Ok p) → Checks c source list cells (Ok p)
-        accepted p h = record { none = subst (λ (bs : List Breach). AreListed source list cells bs) h.0 listed; file = h.1; text = h.2 }
+        pub accepted : (p : Product) → IsAnswerOf c found (Ok p) → Checks c source list cells (Ok p)
+        accepted p h = record { none = subst (λ (bs : List Breach). AreListed source list cells bs) h.0 listed; name = h.1; file = h.2; text = h.3 }
 
-        by_status : (s : Status) (part : Option Written) → IsFair s part (IsAnswerOf found (Err (refusal s part))) → IsFair s part (Checks c source list cells (Err (refusal s part)))
-        by_status status.Memory part h = h
-        by_status status.Accepted part h = absurd h
-        by_status status.Usage part h = absurd h
-        by_status (status.File cause name) part h = absurd h
-        by_status (status.Source file fault) part h = (h.0, broken found listed h.1 h.2)
-        by_status (status.Library fault) part h = (h.0, broken found listed h.1 h.2)
-        by_status (status.NoCover which) part h = (h.0, broken found listed h.1 h.2)
-        by_status (status.Budget equation reached) part h = (h.0, broken found listed h.1 h.2)
-        by_status (status.NoPath net terminal) part h = (h.0, broken found listed h.1 h.2)
-        by_status (status.Limit limit) part h = (h.0, broken found listed h.1 h.2)
-        by_status (status.No verdict) part h = (h.0, broken found listed h.1 h.2)
-
-        pub answered : (r : Result Product Refusal) → IsJudged (IsAnswerOf found) r → IsJudged (Checks c source list cells) r
+        pub answered : (r : Result Product Refusal) → IsJudged (IsAnswerOf c found) r → IsJudged (Checks c source list cells) r
         answered (Ok p) h = accepted p h
-        answered (Err r) h = by_status r.status r.part h
+        answered (Err r) h =
+            fair_then r.status r.part (IsAnswerOf c found (Err r)) (Checks c source list cells (Err r)) (λ a. (a.0, broken found listed a.1 a.2)) h

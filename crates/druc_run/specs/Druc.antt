@@ -1,6 +1,5 @@
 -- What `druc` reads and answers.
 use Rattle.std.specs.Prelude.{◌≡◌, ℕ, ◌<◌, ◌^◌, List, [], ◌∷◌, ◌++◌, map, length, get_or, false, None, Result, Ok, Err}
-use Rattle.vlsi_base.specs.declared.limits.TheConstants.{MOST_NETLIST_BYTES}
 use Rattle.vlsi_base.specs.declared.fault.FaultKind.{FaultKind}
 use Rattle.vlsi_base.specs.declared.fault.FaultKind.TheVariants as kind
 use Rattle.vlsi_base.specs.declared.fault.Limit.{Limit}
@@ -22,26 +21,20 @@ use Rattle.druc_rules.specs.declared.breach.Breach.{Breach}
 use Rattle.druc_rules.specs.declared.error.DrucError.{DrucError}
 use Rattle.druc_rules.specs.declared.error.DrucError.TheVariants as error
 use Rattle.druc_rules.specs.Breaches.{breach_of}
-use Rattle.tool_words.specs.declared.command.DrucCommand.{DrucCommand}
+use Rattle.druc_run.specs.declared.words.DrucCommand.{DrucCommand}
 use Rattle.tool_drive.specs.declared.status.Status.{Status}
 use Rattle.tool_drive.specs.declared.status.Status.TheVariants as status
 use Rattle.tool_drive.specs.declared.status.Verdict.TheVariants.{Broken}
-use Rattle.tool_drive.specs.declared.tool.Over.TheVariants.{Refused}
-use Rattle.tool_drive.specs.declared.tool.Wanted.{Wanted}
 use Rattle.tool_drive.specs.declared.tool.Product.{Product}
 use Rattle.tool_drive.specs.declared.tool.Refusal.{Refusal}
-use Rattle.tool_drive.specs.Plan.{Plan, Inputs, limited}
+use Rattle.tool_drive.specs.Plan.{Plan, Inputs, limited, large}
 use Rattle.tool_drive.specs.Refusals.{OfFile}
 use Rattle.druc_run.specs.Report.{report}
-
--- a layout's file
-abbrev pub layout_file : List ℕ → Wanted
-layout_file name = record { name = name; most = MOST_NETLIST_BYTES; over = Refused }
 
 -- SOURCE, then CATAL, and then the files of the cells that CATAL uses
 abbrev pub druc_plan : DrucCommand → Plan
 druc_plan c = record {
-  first = layout_file c.source ∷ limited (catal_name c.library) ∷ [];
+  first = large c.source ∷ limited (catal_name c.library) ∷ [];
   more = λ read. cell_files c.library (cells_in (get_or read 1 []));
 }
 
@@ -56,8 +49,9 @@ pub record AreListed (source catal : List ℕ) (cells : List (List ℕ)) (found 
   pub few : length (shapes f.items l) < 2 ^ 32
   pub breaches : Breaches f.items l (map breach_of found)
 
--- there is no breach, and that is printed
-pub record IsWithoutBreach (source catal : List ℕ) (cells : List (List ℕ)) (p : Product) : Type 0 where
+-- there is no breach, and that is printed; no file is written
+pub record IsWithoutBreach (c : DrucCommand) (source catal : List ℕ) (cells : List (List ℕ)) (p : Product) : Type 0 where
+  pub name : p.name ≡ c.source
   pub none : AreListed source catal cells []
   pub file : p.file ≡ None
   pub text : p.text ≡ report [] ++ 10 ∷ []
@@ -80,7 +74,7 @@ pub data IsRefused (c : DrucCommand) (source catal : List ℕ) (cells : List (Li
 
 -- there is no breach, or one of these refusals
 abbrev pub Checks : DrucCommand → List ℕ → List ℕ → List (List ℕ) → Result Product Refusal → Type 0
-Checks c source catal cells (Ok p) = IsWithoutBreach source catal cells p
+Checks c source catal cells (Ok p) = IsWithoutBreach c source catal cells p
 Checks c source catal cells (Err r) = (r.part ≡ None) × IsRefused c source catal cells r.status
 
 abbrev pub druc_answers : DrucCommand → Inputs → Result Product Refusal → Type 0
@@ -93,6 +87,6 @@ IsToldOf c (error.UnknownCell model) s = s ≡ fault_of c kind.UnknownCell (scal
 IsToldOf c (error.Limit limit) s = s ≡ status.Limit limit
 
 -- what is answered of breaches that were found
-abbrev pub IsAnswerOf : List Breach → Result Product Refusal → Type 0
-IsAnswerOf found (Ok p) = (found ≡ []) × (p.file ≡ None) × (p.text ≡ report [] ++ 10 ∷ [])
-IsAnswerOf found (Err r) = (r.part ≡ None) × (0 < length found) × (r.status ≡ status.No (Broken (report found)))
+abbrev pub IsAnswerOf : DrucCommand → List Breach → Result Product Refusal → Type 0
+IsAnswerOf c found (Ok p) = (found ≡ []) × (p.name ≡ c.source) × (p.file ≡ None) × (p.text ≡ report [] ++ 10 ∷ [])
+IsAnswerOf c found (Err r) = (r.part ≡ None) × (0 < length found) × (r.status ≡ status.No (Broken (report found)))

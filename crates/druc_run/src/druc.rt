@@ -3,18 +3,16 @@ ghost use Rattle.std.specs.Prelude.{◌≡◌, ◌∷◌, []};
 ghost use Rattle.vlsi_base.specs.Names.{scalar};
 ghost use Rattle.tool_drive.specs.Refusals.{MemoryOr};
 ghost use Rattle.tool_drive.specs.Table.{IsJudged};
-ghost use Rattle.druc_run.specs.Druc.{layout_file as file_of, fault_of, IsToldOf, IsAnswerOf, Checks};
+ghost use Rattle.druc_run.specs.Druc.{fault_of, IsToldOf, IsAnswerOf, Checks};
 
 use crate::report::report;
+use crate::words::DrucCommand;
 use ap_io::{read_ap, what_is_read_is_a_figure};
 use cell_lib::{catal_file, library_status, named_files, read_library};
 use druc_rules::{Breach, DrucError, Rules, broken, standard_rules_law};
 use std::alloc::{AllocError, Global};
-use tool_drive::{Over, Product, Refusal, Status, Tool, Verdict, Wanted, bytes_at, refused};
-use tool_words::DrucCommand;
-use vlsi_base::{
-    FaultKind, FileBytes, FileName, InputFault, MOST_NETLIST_BYTES, Name, Names, Text,
-};
+use tool_drive::{Product, Refusal, Status, Tool, Verdict, Wanted, bytes_at, refused};
+use vlsi_base::{FaultKind, FileBytes, InputFault, Name, Names, Text};
 
 /// `druc`, with what it is asked: it prints a line for each breach of the rules in the layout in SOURCE, and then `breaches` and how
 /// many there are.
@@ -26,17 +24,6 @@ use vlsi_base::{
 #[derive(Drop)]
 pub struct Druc<'a> {
     pub command: &'a DrucCommand,
-}
-
-// A layout's file, of at most `MOST_NETLIST_BYTES` bytes.
-fn layout_file(name: FileName) -> Wanted
-    ensures { result ≡ file_of name }
-{
-    Wanted {
-        name,
-        most: MOST_NETLIST_BYTES as u64,
-        over: Over::Refused,
-    }
 }
 
 // The status of an instance whose cell isn't in the library.
@@ -73,7 +60,7 @@ fn druc_status(alloc: Global, command: &DrucCommand, error: DrucError) -> Status
 
 // What is answered of the breaches that were found.
 fn answer(alloc: Global, command: &DrucCommand, found: &[Breach]) -> Result<Product, Refusal>
-    ensures { IsJudged (IsAnswerOf found.now) result }
+    ensures { IsJudged (IsAnswerOf command.now found.now) result }
 {
     let mut text = report(alloc, found)?;
     if !found.is_empty() {
@@ -125,7 +112,7 @@ impl Tool for Druc<'_> {
 
     fn first(&self, alloc: Global) -> Result<Vec<Wanted>, AllocError> {
         let mut wanted = Vec::new(alloc);
-        wanted.push(layout_file(self.command.source.copy(alloc)?))?;
+        wanted.push(Wanted::large(self.command.source.copy(alloc)?))?;
         wanted.push(catal_file(alloc, &self.command.library)?)?;
         Ok(wanted)
     }

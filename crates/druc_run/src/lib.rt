@@ -6,5 +6,7 @@
 
 mod druc;
 mod report;
+mod words;
 
 pub use druc::Druc;
+pub use words::{DRUC_ENTRY, DrucCommand, read_druc};

@@ -1,4 +1,4 @@
 pub mod Refusing
 pub mod Reading
 pub mod Supplies
-pub mod Words
+pub mod NetlistWords

@@ -1,6 +1,6 @@
 -- What is written is read again.
 use Rattle.std.proofs.Common.{ℕ, List, Option, IfSome, sym, subst}
-use Rattle.vbe_round.specs.Again.{ReadAgain}
+use Rattle.vbe_laws.specs.Again.{ReadAgain}
 use Rattle.flatbeh_run.specs.Laws.{AreReadAs, FlatteningIsRead}
 
 pub is_read : ReadAgain → FlatteningIsRead

@@ -1,14 +1,13 @@
 -- From the refusals of readers and of the netlist's machine to the tool's.
-use Rattle.std.proofs.Common.{◌≡◌, ◌<◌, ◌≤◌, ◌^◌, ℕ, true, List, length, None, Result, Err, false, sym, ap, ◌∙◌, subst, refl}
+use Rattle.std.proofs.Common.{◌≡◌, ◌<◌, ◌≤◌, ◌^◌, ℕ, true, List, length, None, Err, false, sym, ap, ◌∙◌, subst, refl}
 use Rattle.vlsi_base.specs.declared.fault.FaultKind.TheVariants as kind
 use Rattle.vlsi_base.specs.declared.fault.LimitKind.TheVariants.{Bits}
 use Rattle.vlsi_base.specs.declared.fault.ReadError.{ReadError}
 use Rattle.vlsi_base.specs.declared.name.Name.{Name}
-use Rattle.machine_meaning.specs.Machine.{Machine}
+use Rattle.machine_core.specs.Machine.{Machine}
 use Rattle.cell_model.specs.Library.{Library}
 use Rattle.cell_lib.specs.declared.error.LibError.{LibError}
-use Rattle.cell_lib.specs.declared.error.LibError.TheVariants as errors
-use Rattle.cell_lib.proofs.Plain.{never_missing, never_unread}
+use Rattle.cell_lib.proofs.Answering.{refused_library}
 use Rattle.cell_lib.specs.Cells.{OrMemory}
 use Rattle.cell_lib.specs.Library.{IsLibraryOf, IsRefusedLibrary, status_of}
 use Rattle.cell_pins.specs.Table.{IsTableOf}
@@ -20,38 +19,16 @@ use Rattle.net_flat.specs.declared.error.FlatError.TheVariants as flat
 use Rattle.net_flat.specs.Answers.{IsFlatRefusal}
 use Rattle.net_flat.specs.Flat.{IsPlain, AreApart, IsFlat}
 use Rattle.vst_io.specs.Text.{IsVst, IsVstRefusal}
-use Rattle.tool_words.specs.declared.command.FlatbehCommand.{FlatbehCommand}
+use Rattle.flatbeh_run.specs.declared.words.FlatbehCommand.{FlatbehCommand}
 use Rattle.tool_drive.specs.declared.status.Status.{Status}
 use Rattle.tool_drive.specs.declared.status.Status.TheVariants as status
-use Rattle.tool_drive.specs.declared.tool.Product.{Product}
-use Rattle.tool_drive.specs.declared.tool.Refusal.{Refusal}
 use Rattle.tool_drive.specs.Table.{IsJudged, IsFair, refusal}
-use Rattle.tool_drive.specs.Refusals.{MemoryOr, OfFile, of_file, judged_file}
+use Rattle.tool_drive.specs.Refusals.{MemoryOr, OfFile, of_file, judged_file, judged}
 use Rattle.flatbeh_run.specs.Flatbeh.{HasVectorClock, fault_of, no_library, bad_netlist, no_behaviour, twice, many_bits, many_names, vector_clock, names_count, Flattens, IsToldOf}
-
--- a status for which P holds, or out of memory, is one that a tool may answer
-judged : (A : Result Product Refusal → Type 0) (P : Status → Type 0) → ((t : Status) → P t → IsFair t None (A (Err (refusal t None)))) → (s : Status) → MemoryOr s (P s)
-    → IsJudged A (Err (refusal s None))
-judged A P told status.Memory k = refl
-judged A P told status.Accepted k = told status.Accepted k
-judged A P told status.Usage k = told status.Usage k
-judged A P told (status.Source file fault) k = told (status.Source file fault) k
-judged A P told (status.Library fault) k = told (status.Library fault) k
-judged A P told (status.NoCover which) k = told (status.NoCover which) k
-judged A P told (status.Budget equation reached) k = told (status.Budget equation reached) k
-judged A P told (status.NoPath net terminal) k = told (status.NoPath net terminal) k
-judged A P told (status.File cause name) k = told (status.File cause name) k
-judged A P told (status.Limit limit) k = told (status.Limit limit) k
-judged A P told (status.No verdict) k = told (status.No verdict) k
 
 module _ (c : FlatbehCommand) (source list : List ℕ) (cells : List (List ℕ)) where
   pub by_library : (e : LibError) → OrMemory (IsRefusedLibrary false list cells) e → IsJudged (Flattens c source list cells) (Err (refusal (status_of e) None))
-  by_library errors.Memory h = refl
-  by_library (errors.Limit l) h = (refl, no_library (errors.Limit l) h refl)
-  by_library (errors.BadCatal line) h = (refl, no_library (errors.BadCatal line) h refl)
-  by_library (errors.BadCell cell cause) h = (refl, no_library (errors.BadCell cell cause) h refl)
-  by_library (errors.Missing name) h = absurd (never_missing false list cells name h)
-  by_library (errors.ReadFault name) h = absurd (never_unread false list cells name h)
+  by_library e h = refused_library (Flattens c source list cells) false list cells e h (λ x r. (refl, no_library x r refl))
 
   module _ (l : Library) (table : List ModelPins) (library : IsLibraryOf false list cells l) (pins : IsTableOf l true table) where
     pub by_netlist : (e : ReadError) (s : Status) → IsVstRefusal source table e → MemoryOr s (OfFile c.source (λ x. x ≡ e) s) → IsJudged (Flattens c source list cells) (Err (refusal s None))

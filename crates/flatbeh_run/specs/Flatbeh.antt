@@ -1,14 +1,12 @@
 -- What `flatbeh` reads and answers.
 use Rattle.std.specs.Prelude.{◌≡◌, ℕ, ◌<◌, ◌≤◌, ◌+◌, ◌-◌, ◌^◌, min, length, true, false, List, [], ◌∷◌, ◌++◌, get_or, codes, None, Some, Result, Ok, Err}
-use Rattle.std.specs.Fmt.{decimal}
-use Rattle.vlsi_base.specs.declared.limits.TheConstants.{MOST_NETLIST_BYTES}
 use Rattle.vlsi_base.specs.declared.fault.FaultKind.{FaultKind}
 use Rattle.vlsi_base.specs.declared.fault.FaultKind.TheVariants as kind
 use Rattle.vlsi_base.specs.declared.fault.LimitKind.TheVariants.{Bits}
 use Rattle.vlsi_base.specs.declared.name.Name.{Name}
 use Rattle.vlsi_base.specs.Names.{scalar}
-use Rattle.machine_meaning.specs.Machine.{Machine}
-use Rattle.machine_meaning.specs.Size.{machine_size}
+use Rattle.machine_core.specs.Machine.{Machine}
+use Rattle.machine_core.specs.Size.{machine_size}
 use Rattle.machine_core.specs.Checked.{IsChecked}
 use Rattle.catal.specs.Cells.{cells_in}
 use Rattle.cell_model.specs.Library.{Library}
@@ -24,28 +22,23 @@ use Rattle.net_flat.specs.declared.error.FlatError.{FlatError}
 use Rattle.net_flat.specs.declared.error.FlatError.TheVariants as flat
 use Rattle.net_flat.specs.Flat.{IsPlain, IsFirstOther, AreApart, IsFirstTwice, IsFlat}
 use Rattle.spell_theory.specs.Layout.{text_of}
-use Rattle.vbe_write.specs.Written.{layout}
-use Rattle.vbe_write.specs.Writable.{CanBeVbe}
+use Rattle.vbe_print.specs.Written.{layout}
+use Rattle.vbe_print.specs.Writable.{CanBeVbe}
 use Rattle.vst_io.specs.Text.{IsVst, IsVstRefusal}
-use Rattle.tool_words.specs.declared.command.FlatbehCommand.{FlatbehCommand}
+use Rattle.flatbeh_run.specs.declared.words.FlatbehCommand.{FlatbehCommand}
 use Rattle.tool_drive.specs.declared.status.Status.{Status}
 use Rattle.tool_drive.specs.declared.status.Status.TheVariants as status
 use Rattle.tool_drive.specs.declared.status.Verdict.TheVariants.{NoBehaviour}
-use Rattle.tool_drive.specs.declared.tool.Over.TheVariants.{Refused}
-use Rattle.tool_drive.specs.declared.tool.Wanted.{Wanted}
 use Rattle.tool_drive.specs.declared.tool.Product.{Product}
 use Rattle.tool_drive.specs.declared.tool.Refusal.{Refusal}
-use Rattle.tool_drive.specs.Plan.{Plan, Inputs, limited}
+use Rattle.tool_drive.specs.Lines.{count_line}
+use Rattle.tool_drive.specs.Plan.{Plan, Inputs, limited, large}
 use Rattle.tool_drive.specs.Refusals.{OfFile}
-
--- a netlist's file
-abbrev pub netlist_file : List ℕ → Wanted
-netlist_file name = record { name = name; most = MOST_NETLIST_BYTES; over = Refused }
 
 -- SOURCE, CATAL, and then the files of the cells that CATAL uses
 abbrev pub flatbeh_plan : FlatbehCommand → Plan
 flatbeh_plan c = record {
-  first = netlist_file c.source ∷ limited (catal_name c.library) ∷ [];
+  first = large c.source ∷ limited (catal_name c.library) ∷ [];
   more = λ read. cell_files c.library (cells_in (get_or read 1 []));
 }
 
@@ -55,7 +48,7 @@ names_count m = length m.vars + length m.ports
 
 -- how large a machine is, or the greatest number of 64 bits where that is less
 abbrev pub report : Machine → List ℕ
-report m = codes "size " ++ (decimal (min (machine_size m) (2 ^ 64 - 1)) ++ 10 ∷ [])
+report m = count_line (codes "size") (min (machine_size m) (2 ^ 64 - 1))
 
 -- the text of the machine is that of NAME.vbe, and its size is printed
 pub record IsWrittenAs (out : List ℕ) (m : Machine) (p : Product) : Type 0 where

@@ -2,11 +2,11 @@
 use Rattle.std.specs.Prelude.{◌≡◌, ℕ, List, IfSome}
 use Rattle.vlsi_base.specs.declared.fault.ReadError.{ReadError}
 use Rattle.vlsi_base.specs.declared.fault.ReadError.TheVariants as errors
-use Rattle.machine_meaning.specs.Machine.{Machine}
-use Rattle.machine_alike.specs.Alike.{IsAlike}
-use Rattle.vbe_again.specs.Said.{IsWithinLimits}
+use Rattle.machine_core.specs.Machine.{Machine}
+use Rattle.machine_core.specs.Alike.{IsAlike}
+use Rattle.vbe_print.specs.Said.{IsWithinLimits}
 use Rattle.vbe_io.specs.Text.{IsVbe, IsVbeRefusal}
-use Rattle.tool_words.specs.declared.command.FlatbehCommand.{FlatbehCommand}
+use Rattle.flatbeh_run.specs.declared.words.FlatbehCommand.{FlatbehCommand}
 use Rattle.tool_drive.specs.declared.tool.Product.{Product}
 use Rattle.net_core.specs.declared.pins.ModelPins.{ModelPins}
 use Rattle.net_core.specs.Netlist.{Netlist}

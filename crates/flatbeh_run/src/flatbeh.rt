@@ -4,21 +4,18 @@ ghost use Rattle.vlsi_base.specs.Names.{scalar};
 ghost use Rattle.tool_drive.specs.Refusals.{MemoryOr};
 ghost use Rattle.tool_drive.specs.Table.{IsJudged};
 ghost use Rattle.net_flat.specs.Flat.{HasScalarClock};
-ghost use Rattle.flatbeh_run.specs.Flatbeh.{netlist_file as file_of, names_count as count_of, fault_of, HasVectorClock, Flattens, IsToldOf};
+ghost use Rattle.flatbeh_run.specs.Flatbeh.{names_count as count_of, fault_of, HasVectorClock, Flattens, IsToldOf};
 
 use crate::laws::netlist_has_words;
 use crate::product::product;
+use crate::words::FlatbehCommand;
 use cell_lib::{catal_file, library_status, named_files, read_library};
 use cell_pins::pin_table;
 use machine_core::Machine;
 use net_flat::{FlatError, flatbeh};
 use std::alloc::{AllocError, Global};
-use tool_drive::{Over, Product, Refusal, Status, Tool, Verdict, Wanted, bytes_at, refused};
-use tool_words::FlatbehCommand;
-use vlsi_base::{
-    FaultKind, FileBytes, FileName, InputFault, Limit, LimitKind, MOST_NETLIST_BYTES, Name, Names,
-    Text,
-};
+use tool_drive::{Product, Refusal, Status, Tool, Verdict, Wanted, bytes_at, refused};
+use vlsi_base::{FaultKind, FileBytes, InputFault, Limit, LimitKind, Name, Names, Text};
 use vst_io::read_vst;
 
 /// `flatbeh`, with what it is asked: it makes a machine of the netlist in SOURCE, whose registers have the names of its flip-flops,
@@ -33,17 +30,6 @@ use vst_io::read_vst;
 #[derive(Drop)]
 pub struct Flatbeh<'a> {
     pub command: &'a FlatbehCommand,
-}
-
-// A netlist's file, of at most `MOST_NETLIST_BYTES` bytes.
-fn netlist_file(name: FileName) -> Wanted
-    ensures { result ≡ file_of name }
-{
-    Wanted {
-        name,
-        most: MOST_NETLIST_BYTES as u64,
-        over: Over::Refused,
-    }
 }
 
 // The status of a fault of the whole file, with a name.
@@ -163,7 +149,7 @@ impl Tool for Flatbeh<'_> {
 
     fn first(&self, alloc: Global) -> Result<Vec<Wanted>, AllocError> {
         let mut wanted = Vec::new(alloc);
-        wanted.push(netlist_file(self.command.source.copy(alloc)?))?;
+        wanted.push(Wanted::large(self.command.source.copy(alloc)?))?;
         wanted.push(catal_file(alloc, &self.command.library)?)?;
         Ok(wanted)
     }

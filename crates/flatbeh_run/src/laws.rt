@@ -1,9 +1,9 @@
 // Laws: what follows of a machine that is written. They cost nothing when they are called.
 ghost use Rattle.flatbeh_run.specs.Laws.{FlatteningIsRead, NetlistHasWords};
 
-use vbe_round::read_again;
-use vbe_words::in_order_can_be_written;
-use vst_words::netlist_words_law;
+use vbe_laws::read_again;
+use vbe_writable::in_order_can_be_written;
+use vst_laws::netlist_words_law;
 
 /// A netlist that is read has the words that a data-flow text of it needs.
 pub fn netlist_has_words()

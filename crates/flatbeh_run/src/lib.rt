@@ -7,6 +7,8 @@
 mod flatbeh;
 mod laws;
 mod product;
+mod words;
 
 pub use flatbeh::Flatbeh;
 pub use laws::flatbeh_law;
+pub use words::{FLATBEH_ENTRY, FlatbehCommand, read_flatbeh};

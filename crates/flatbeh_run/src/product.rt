@@ -1,23 +1,20 @@
 // What is written and printed of a machine.
 ghost use Rattle.std.specs.Prelude.{◌≡◌, ◌<◌, ◌+◌, ◌^◌, length, IfOk};
-ghost use Rattle.vbe_write.specs.Writable.{CanBeVbe};
+ghost use Rattle.vbe_print.specs.Writable.{CanBeVbe};
 ghost use Rattle.flatbeh_run.specs.Flatbeh.{report as report_of, IsWrittenAs};
 
 use machine_core::{Machine, machine_size};
 use std::alloc::{AllocError, Global};
-use tool_drive::Product;
-use vbe_write::write_vbe;
-use vlsi_base::{FileBytes, FileName, Text, push_u64};
+use tool_drive::{Product, count_line};
+use vbe_print::write_vbe;
+use vlsi_base::{FileBytes, FileName};
 
 // How large a machine is.
 fn report(alloc: Global, machine: &Machine) -> Result<FileBytes, AllocError>
     ensures { IfOk result (λ text. text ≡ report_of machine.now) }
 {
-    let mut number = Text::new(Vec::new(alloc));
-    push_u64(alloc, &mut number, machine_size(machine))?;
-    let mut text = FileBytes::from_bytes(alloc, b"size ")?;
-    text.append(number.as_bytes())?;
-    text.append(b"\n")?;
+    let mut text = FileBytes::new(Vec::new(alloc));
+    count_line(alloc, &mut text, b"size", u128::from(machine_size(machine)))?;
     Ok(text)
 }
 

@@ -6,25 +6,26 @@ use Rattle.vlsi_base.specs.declared.name.Port.{Port}
 use Rattle.vlsi_base.specs.declared.name.Terminal.{Terminal}
 use Rattle.vlsi_base.specs.Member.{In}
 use Rattle.vlsi_base.specs.Names.{vdd, vss}
-use Rattle.machine_meaning.specs.Machine.{Machine, inputs, outputs, names_of}
-use Rattle.machine_meaning.specs.Runs.{Run}
-use Rattle.machine_meaning.specs.Cycles.{AreVectors, RunOf}
+use Rattle.machine_core.specs.Machine.{Machine, inputs, outputs, names_of}
+use Rattle.machine_core.specs.Runs.{Run}
+use Rattle.machine_core.specs.Cycles.{AreVectors, RunOf}
 use Rattle.machine_core.specs.Order.{IsOrdered}
-use Rattle.machine_alike.specs.Alike.{IsAlike, AlikeRun, AlikeBothWays}
-use Rattle.machine_alike.proofs.Runs.{inputs_same, outputs_same, registers_same}
+use Rattle.machine_core.specs.Alike.{IsAlike, AlikeRun, AlikeBothWays}
+use Rattle.machine_core.proofs.Runs.{inputs_same, outputs_same, registers_same}
 use Rattle.cell_model.specs.Library.{Library}
-use Rattle.net_meaning.specs.Netlist.{Netlist}
+use Rattle.net_meaning.specs.Netlist.{AbstractNetlist}
 use Rattle.net_meaning.specs.Behaviour.{Contents, Valuation, NetSettles, NetTrace, net_next, net_outs}
 use Rattle.net_meaning.specs.Agreement.{Agrees, register_instance}
 use Rattle.net_meaning.specs.Well.{IsDriver, an_input, an_output, OneDriver, IsSpecial, of_vdd, of_vss, of_clock, IsWell, gate_instance, buffer_instance}
 use Rattle.cell_model.specs.Access.{count_to}
 use Rattle.ocp_rows.specs.Placement.{Placement}
-use Rattle.ocp_rows.specs.Order.{IsInNetlistOrder}
+use Rattle.net_meaning.specs.Order.{IsInNetlistOrder}
+use Rattle.ocp_rows.specs.Tracks.{IsTrackRow}
 use Rattle.cell_pins.specs.Pins.{with_supply}
 use Rattle.loon_fanout.specs.Nets.{HasFewInputs}
-use Rattle.boog_driven.specs.Netlist.{IsDrivenAs}
+use Rattle.flow_netlist.specs.Netlist.{IsDrivenAs}
 
-module _ (n : Netlist) (l : Library) (m o : Machine) (a : IsAlike m o) where
+module _ (n : AbstractNetlist) (l : Library) (m o : Machine) (a : IsAlike m o) where
   driver_to : (t : Terminal) → IsDriver n l o t → IsDriver n l m t
   driver_to t (an_input {name} h) = an_input (subst (λ (names : List Name). In name names) (inputs_same m o a) h)
   driver_to t (an_output i c has is) = an_output i c has is
@@ -91,14 +92,17 @@ module _ (n : Netlist) (l : Library) (m o : Machine) (a : IsAlike m o) where
   }
 
   -- the order of its instances is one of registers, of which both have the same number
-  pub order_alike : (p : Placement) (buffers : ℕ) → IsInNetlistOrder n l o p buffers → IsInNetlistOrder n l m p buffers
-  order_alike p buffers q = record {
-    one_row = q.one_row;
+  pub order_alike : (buffers : ℕ) → IsInNetlistOrder n l o buffers → IsInNetlistOrder n l m buffers
+  order_alike buffers q = record {
     gates = q.gates;
     names = q.names
         ∙ ap (λ (k : ℕ). map register_instance (count_to k) ++ (map gate_instance (count_to q.gates) ++ map buffer_instance (count_to buffers))) (registers_same m o a);
     after = q.after;
   }
+
+  -- so one row in this order is such a row for both
+  pub row_alike : (p : Placement) (buffers : ℕ) → IsTrackRow n l o p buffers → IsTrackRow n l m p buffers
+  row_alike p buffers q = record { tracks = q.tracks; one_row = q.one_row; order = order_alike buffers q.order }
 
   -- few input pins read each class, since the same classes are left out
   pub inputs_alike : (limit : ℕ) → HasFewInputs n l o limit → HasFewInputs n l m limit

@@ -15,22 +15,22 @@ use Rattle.vlsi_shelf.specs.Files.{Files}
 use Rattle.vlsi_shelf.specs.Counts.{Rose, NoneFalls}
 use Rattle.vlsi_shelf.specs.Shelf.{Writes}
 use Rattle.vlsi_shelf.specs.Sink.{Puts}
-use Rattle.machine_meaning.specs.Machine.{Machine, register_names}
-use Rattle.machine_alike.specs.Alike.{IsAlike, AlikeRun, AlikeBothWays}
+use Rattle.machine_core.specs.Machine.{Machine, register_names}
+use Rattle.machine_core.specs.Alike.{IsAlike, AlikeRun, AlikeBothWays}
 use Rattle.catal.specs.Laws.{NeverBoth as NeverBothLists}
-use Rattle.cell_model.specs.declared.kind.Kind.{Kind}
+use Rattle.vlsi_base.specs.declared.kind.Kind.{Kind}
 use Rattle.cell_model.specs.Covering.{HasCellOf, needed}
 use Rattle.cell_model.specs.Library.{Library}
 use Rattle.cell_lib.specs.Library.{bad_cell, IsLibraryOf}
-use Rattle.lib_same.specs.Law.{LibraryIsNeverRefused, LibrariesCoverTheSame}
+use Rattle.flow_run.specs.OneLibrary.{LibraryIsNeverRefused, LibrariesCoverTheSame}
 use Rattle.boog_map.specs.Netlist.{Covers}
 use Rattle.vbe_io.specs.Text.{IsVbe}
-use Rattle.vbe_same.specs.Law.{MachinesWeighTheSame}
-use Rattle.vbe_roots.specs.Law.{MachinesHaveTheSameDags, MachinesCountTheSame, InnerSignalsWeighTheSame}
+use Rattle.vbe_laws.specs.OneMachine.{MachinesWeighTheSame}
+use Rattle.vbe_roots.specs.Law.{MachinesHaveTheSameDags, MachinesCountTheSame, MachinesAreWithinTheSame, InnerSignalsWeighTheSame}
 use Rattle.gen_circuit.specs.Laws.{CircuitsAreChecked}
 use Rattle.gen_circuit.specs.Written.{IsReadAgain, CircuitsCanBeWritten, CircuitsAreReadAgain}
-use Rattle.tool_words.specs.declared.command.FlowCommand.{FlowCommand}
-use Rattle.tool_words.specs.declared.command.GenCommand.{GenCommand}
+use Rattle.flow_words.specs.declared.words.FlowCommand.{FlowCommand}
+use Rattle.flow_words.specs.declared.words.GenCommand.{GenCommand}
 use Rattle.tool_drive.specs.declared.status.Status.{Status}
 use Rattle.tool_drive.specs.declared.status.Status.TheVariants as status
 use Rattle.tool_drive.specs.declared.status.FileCause.TheVariants.{Missing, ReadFault, WriteFault, OutFault}
@@ -42,7 +42,7 @@ use Rattle.tool_drive.specs.Plan.{Inputs, inputs, Reading, got, reading}
 use Rattle.tool_drive.specs.Refusals.{OfFile}
 use Rattle.tool_drive.specs.Table.{status_of, Follows, IsComplete}
 use Rattle.flow_run.specs.Origin.{Origin, equations, states, is_fsm, IsOf, IsSourceFor, refusal_by}
-use Rattle.flow_run.specs.Flow.{flow_plan, flow_answers, IsNoSource, no_list, no_text, over_size, no_source, no_cell, unread, uncovered, over_budget}
+use Rattle.flow_run.specs.Flow.{flow_plan, flow_answers, IsWithinNodes, IsNoSource, no_list, no_text, over_size, no_source, no_cell, unread, uncovered, over_budget}
 use Rattle.flow_run.specs.Causes.{Stand, IsDrawn}
 use Rattle.flow_run.specs.Drawn.{layout_name}
 use Rattle.flow_run.specs.RightLayout.{IsRightLayout}
@@ -110,26 +110,32 @@ module _ (again : CircuitsAreReadAgain) where
   not_text false c fit e (status.Limit l) h = cc ((fits c fit).accepted (errors.Limit l) h)
   not_text false c fit e _ h = absurd h
 
-module _ (again : CircuitsAreReadAgain) (lists : NeverBothLists) (never : WhatIsReadIsNeverRefused) (libraries : LibraryIsNeverRefused) (cover : LibrariesCoverTheSame) where
-  no_source_never : (c : GenCommand) (catal : List ℕ) (cells : List (List ℕ)) (l : Library) (s : Status) → IsFitting c → IsLibraryOf true catal cells l
-      → IsNoSource c.flow (circuit_text c) catal s → ⊥
-  no_source_never c catal cells l s fit library (no_list fault refused is) = lists catal library.names fault library.uses refused
-  no_source_never c catal cells l s fit library (no_text names uses h) = not_text again (is_fsm c.flow) c fit (is_text c fit) s h
-  no_source_never c catal cells l s fit library (over_size names o m uses machine over is) =
+module _ (again : CircuitsAreReadAgain) (lists : NeverBothLists) (never : WhatIsReadIsNeverRefused) (libraries : LibraryIsNeverRefused) (cover : LibrariesCoverTheSame)
+    (budgets : MachinesAreWithinTheSame) where
+  no_source_never : (c : GenCommand) (s : Status) → IsFitting c → IsNoSource c.flow (circuit_text c) s → ⊥
+  no_source_never c s fit (no_text h) = not_text again (is_fsm c.flow) c fit (is_text c fit) s h
+  no_source_never c s fit (over_size o m machine over is) =
       let small = (fits again c fit).light m (source_read c fit (circuit_text c) o m machine).1 in
       absurd (omega (arith, small, over))
 
+  -- the machine that is read is within the budget, as the circuit is
+  within_read : (c : GenCommand) → IsFitting c → (o : Origin) (m : Machine) → IsSourceFor c.flow (circuit_text c) o m
+      → IsWithinNodes (circuit_of c) c.flow.nodes → IsWithinNodes m c.flow.nodes
+  within_read c fit o m read within =
+      budgets (circuit_text c) (circuit_of c) m (fits again c fit).itself (source_read c fit (circuit_text c) o m read).1 c.flow.nodes within
+
   pub circuits_never : CircuitsAreNeverRefused
-  circuits_never c catal cells l s fit library covered within (unread (no_source h)) = no_source_never c catal cells l s fit library h
+  circuits_never c catal cells l s fit library covered within (unread (no_list fault refused is)) = lists catal library.names fault library.uses refused
+  circuits_never c catal cells l s fit library covered within (unread (no_source names uses h)) = no_source_never c s fit h
   circuits_never c catal cells l s fit library covered within (unread (no_cell o m names e machine uses refused is)) =
       libraries true catal cells l e library (bad_cell names uses refused)
   circuits_never c catal cells l s fit library covered within (uncovered o m own kind read missing is) =
       never c.flow (circuit_text c) catal cells o m own s read
       (((cover true true catal cells l own library read.library).machines m).0
       (covers_alike l (circuit_of c) m ((fits again c fit).alike m (source_read c fit (circuit_text c) o m read.machine).1) covered))
-      (λ x k is. within k (source_read c fit (circuit_text c) x k is).1) (uncovered o m own kind read missing is)
+      (within_read c fit o m read.machine within) (uncovered o m own kind read missing is)
   circuits_never c catal cells l s fit library covered within (over_budget o m own read too b) =
-      never c.flow (circuit_text c) catal cells o m own s read too (λ x k is. within k (source_read c fit (circuit_text c) x k is).1) (over_budget o m own read too b)
+      never c.flow (circuit_text c) catal cells o m own s read too (within_read c fit o m read.machine within) (over_budget o m own read too b)
 
 -- ---- the headline
 

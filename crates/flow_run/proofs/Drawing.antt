@@ -2,20 +2,18 @@
 use Rattle.std.proofs.Common.{◌≡◌, ℕ, ◌+◌, ◌-◌, ◌^◌, ◌<◌, ◌≤◌, Bool, true, false, List, length, Some, refl, sym, ◌∙◌, ap, subst, arith}
 use Rattle.std.proofs.lemmas.List.{length-map}
 use Rattle.vlsi_base.specs.Names.{scalar}
-use Rattle.machine_meaning.specs.Machine.{Machine}
-use Rattle.source_meaning.specs.Checks.{most_ports}
+use Rattle.machine_core.specs.Machine.{Machine}
+use Rattle.source_checks.specs.Checks.{most_ports}
 use Rattle.ap_io.specs.declared.figure.Figure.{Figure}
 use Rattle.ap_io.specs.Spelling.{text_of}
 use Rattle.ap_io.specs.Laws.{WrittenIsReadAgain}
 use Rattle.cell_model.specs.Library.{Library}
 use Rattle.cell_lib.specs.Laws.{LibraryPasses, LibraryNeedsNoTracks}
-use Rattle.cell_pins.specs.Table.{IsTableOf}
-use Rattle.net_core.specs.declared.pins.ModelPins.{ModelPins}
+use Rattle.cell_pins.specs.Table.{LibrariesHaveTables}
 use Rattle.net_core.specs.Netlist.{Netlist}
-use Rattle.net_core.specs.Checks.{IsPinTable}
-use Rattle.net_meaning.specs.Netlist.{Netlist as Seen}
-use Rattle.net_view.specs.View.{IsSeenAs, member_of}
-use Rattle.net_view.specs.Laws.{RightIsWellFormed}
+use Rattle.net_meaning.specs.Netlist.{AbstractNetlist as Seen}
+use Rattle.net_right.specs.View.{IsSeenAs, member_of}
+use Rattle.net_right.specs.Laws.{RightIsWellFormed}
 use Rattle.ocp_rows.specs.Placement.{net_count}
 use Rattle.ocp_place.specs.Law.{row_of, RightMayBeDrawn}
 use Rattle.ocp_place.specs.Drawable.{IsDrawableIn}
@@ -23,19 +21,20 @@ use Rattle.route_draw.specs.Drawn.{IsDrawnInTracks}
 use Rattle.route_draw.specs.Law.{RightDrawingsAreRight, DrawingCanBeWritten}
 use Rattle.vlsi_base.specs.declared.name.Port.{Port}
 use Rattle.vlsi_base.specs.Member.{In}
-use Rattle.port_words.specs.Words.{IsIdentifier, CanBePorts}
-use Rattle.machine_meaning.specs.Size.{machine_size}
-use Rattle.vbe_words.specs.Laws.{with_supplies}
+use Rattle.text_names.specs.Words.{IsIdentifier, CanBePorts}
+use Rattle.machine_core.specs.Size.{machine_size}
+use Rattle.vbe_writable.specs.Laws.{with_supplies}
 use Rattle.machine_core.specs.Checked.{IsChecked}
-use Rattle.machine_alike.specs.Alike.{IsAlike, AlikeRun, AlikeBothWays}
+use Rattle.cell_checks.specs.Checked.{IsChecked as HasPassed}
+use Rattle.machine_core.specs.Alike.{IsAlike, AlikeRun, AlikeBothWays}
 use Rattle.machine_roots.specs.Roots.{IsGreatestDcount}
 use Rattle.boog_run.specs.Laws.{SourceCanBeDeclared}
-use Rattle.machine_declared.specs.Declared.{CanBeDeclared}
-use Rattle.machine_limit.specs.declared.size.TheConstants.{MOST_SIZE}
-use Rattle.vbe_few.specs.Law.{SourceHasFewNames}
+use Rattle.vbe_writable.specs.Declared.{CanBeDeclared}
+use Rattle.tool_drive.specs.declared.size.TheConstants.{MOST_SIZE}
+use Rattle.vbe_laws.specs.FewNames.{SourceHasFewNames}
 use Rattle.syf_run.specs.Syf.{style_of}
 use Rattle.syf_run.specs.Laws.{EncodedCanBeDeclared}
-use Rattle.tool_words.specs.declared.command.FlowCommand.{FlowCommand}
+use Rattle.flow_words.specs.declared.words.FlowCommand.{FlowCommand}
 use Rattle.flow_run.specs.Origin.{Origin, equations, states, is_fsm, IsOf, IsSourceFor}
 use Rattle.flow_run.specs.Report.{report_by, report_of}
 use Rattle.flow_run.specs.RightLayout.{IsRightLayout}
@@ -43,7 +42,7 @@ use Rattle.flow_run.specs.Mapped.{IsMappedFor}
 use Rattle.flow_run.specs.Drawn.{DoesAsOrigin, MayBeDrawn, IsLengthOf}
 use Rattle.flow_run.specs.Flow.{AreRead}
 use Rattle.loon_drive.specs.Driven.{most_sinks}
-use Rattle.boog_driven.specs.Laws.{DrivenIsDrawable, DrivenIsGood}
+use Rattle.flow_netlist.specs.Laws.{DrivenIsDrawable, DrivenIsGood}
 use Rattle.flow_run.proofs.Alike.{well_alike, agrees_alike, order_alike, inputs_alike, driven_alike}
 use Rattle.flow_run.proofs.Fewer.{lean_by}
 use Rattle.flow_run.proofs.States.{by_states}
@@ -112,15 +111,15 @@ may_be_drawn passes plain texts machines drawable c source list cells o m l k de
       checked = checked_as (is_fsm c) c source o m read.machine;
       ordered = h.ordered;
       passed = passes true list cells l read.library;
-      plain = passes false list cells l library;
       small = read.small;
       soon = drawable list cells l h.o c.fanout k delay library h.ordered declared small h.netlist;
     }
 
-pub drawable : RightMayBeDrawn → (l : Library) (o : Origin) (m : Machine) (fanout : ℕ) (n : Netlist) (delay : ℕ) (table : List ModelPins)
-    → IsTableOf l false table → IsPinTable table → MayBeDrawn l o m fanout n delay → IsDrawableIn l n
-drawable may l o m fanout n delay table of_library is_table h =
-    may l n h.o false table h.plain of_library is_table h.netlist.sound h.ordered h.netlist.right h.soon.pins
+pub drawable : RightMayBeDrawn → LibrariesHaveTables → (l : Library) (o : Origin) (m : Machine) (fanout : ℕ) (n : Netlist) (delay : ℕ)
+    → HasPassed false l → MayBeDrawn l o m fanout n delay → IsDrawableIn l n
+drawable may tables l o m fanout n delay passed h =
+    let t = tables l passed in
+    may l n h.o false t.table passed t.listed t.sound h.netlist.sound h.ordered h.netlist.right h.soon.pins
 
 -- the numbers of a netlist in memory are those of the netlist that it is seen as
 report_same : (o : Origin) (m : Machine) (nodes delay : ℕ) (l : Library) (n : Netlist) (k : Seen) (long : ℕ) → IsSeenAs n k → IsLengthOf l n long
@@ -134,9 +133,9 @@ report_same o m nodes delay l n k long seen measured =
 
 pub right_layout : RightIsWellFormed → RightDrawingsAreRight → DrawingCanBeWritten → WrittenIsReadAgain → AlikeRun → AlikeBothWays → DrivenIsGood
     → (l : Library) (o : Origin) (m : Machine) (fanout : ℕ) (n : Netlist) (delay : ℕ) (f : Figure) (long nodes : ℕ) (report : List ℕ)
-    → IsDrawableIn l n → MayBeDrawn l o m fanout n delay → IsDrawnInTracks l n f → IsLengthOf l n long → IsGreatestDcount m nodes
+    → HasPassed false l → IsDrawableIn l n → MayBeDrawn l o m fanout n delay → IsDrawnInTracks l n f → IsLengthOf l n long → IsGreatestDcount m nodes
     → report ≡ report_by o m nodes (length n.instances) (n.count - 2) delay long 0 → IsRightLayout (text_of f) o m l fanout report
-right_layout well extracted written again runs back good l o m fanout n delay f long nodes report given h drawn measured counted reported =
+right_layout well extracted written again runs back good l o m fanout n delay f long nodes report passed given h drawn measured counted reported =
     let right = h.netlist.right in
     let k = right.sourced.netlist in
     let p = row_of k in
@@ -144,24 +143,24 @@ right_layout well extracted written again runs back good l o m fanout n delay f 
     let both = well n l h.o h.ordered right in
     let is_well = well_alike k l m h.o a both.0 in
     let agrees = agrees_alike k l m h.o a runs back h.checked.ordered h.ordered.ordered both.1 in
-    let is_good = good l h.o fanout n delay k h.plain h.ordered h.netlist right.seen in
-    let order = is_good.order p refl in
+    let is_good = good l h.o fanout n delay k passed h.ordered h.netlist right.seen in
+    let order = is_good.order in
     let ports = h.soon.ports in
-    let fits = written l n f h.plain given h.soon.named h.soon.short h.soon.few (omega (arith, ports)) drawn in
+    let fits = written l n f passed given h.soon.named h.soon.short h.soon.few (omega (arith, ports)) drawn in
     record {
       figure = f;
       netlist = k;
       placement = p;
       file = again f fits.0 fits.1;
       named = drawn.named ∙ ap (λ (name : List ℕ). Some (scalar name)) (right.name ∙ a.name);
-      extracts = extracted l n h.o k f h.plain given h.ordered right right.seen drawn;
+      extracts = extracted l n h.o k f passed given h.ordered right right.seen drawn;
       well = is_well;
       agrees = agrees;
       by_states = by_states o k l m is_well h.checked.ordered agrees h.origin;
       lawful = drawn.lawful;
       is_placed = drawn.placed k right.seen;
       many_buffers = order.0;
-      in_order = order_alike k l m h.o a p order.0 order.1;
+      in_order = record { tracks = refl; one_row = refl; order = order_alike k l m h.o a order.0 order.1 };
       lean = lean_by k l m h.o fanout h.optimised is_good.lean (inputs_alike k l m h.o a (most_sinks fanout) is_good.inputs) is_good.buffers;
       delay = delay;
       driven = driven_alike k l m h.o a delay is_good.driven;

@@ -6,16 +6,16 @@ use Rattle.std.proofs.lemmas.List.Sums.{sum_by-append, sum_by-cons}
 use Rattle.vlsi_base.specs.declared.name.Name.{Name}
 use Rattle.vlsi_base.specs.Member.{In, here, there}
 use Rattle.bool_expr.specs.Expression.{Expression, constant, variable, inverse, pair, choice, size_of}
-use Rattle.machine_meaning.specs.Named.{is_same_name}
-use Rattle.machine_meaning.specs.Machine.{Machine, Equation, Register, outputs}
-use Rattle.machine_meaning.specs.Size.{machine_size}
-use Rattle.machine_alike.specs.Alike.{IsAlike}
-use Rattle.machine_alike.proofs.Runs.{outputs_same, registers_same}
+use Rattle.machine_core.specs.Named.{is_same_name}
+use Rattle.machine_core.specs.Machine.{Machine, Equation, Register, outputs}
+use Rattle.machine_core.specs.Size.{machine_size}
+use Rattle.machine_core.specs.Alike.{IsAlike}
+use Rattle.machine_core.proofs.Runs.{outputs_same, registers_same}
 use Rattle.machine_walk.specs.Expansion.{with_variables, held_count}
 use Rattle.boom_opt.specs.Optimised.{is_output, inner_size, behind_new, IsGivenOrSmaller, IsOptimised}
-use Rattle.net_meaning.specs.Netlist.{Netlist}
+use Rattle.net_meaning.specs.Netlist.{AbstractNetlist}
 use Rattle.cell_model.specs.Library.{Library}
-use Rattle.ocp_rows.specs.Order.{IsLean}
+use Rattle.net_meaning.specs.Order.{IsLean}
 use Rattle.loon_fanout.specs.Nets.{HasFewInputs, FitsWithoutBuffers, HasNoBuffer}
 use Rattle.loon_drive.specs.Driven.{most_sinks}
 use Rattle.flow_run.specs.Lean.{IsLeanBy}
@@ -133,7 +133,7 @@ outer_less m o h =
     let held = registers_same m o a in
     omega (arith, shown, none, both, loaded, outs, held)
 
-pub lean_by : (k : Netlist) (l : Library) (m o : Machine) (fanout : ℕ) → IsOptimised m o → IsLean k o → HasFewInputs k l m (most_sinks fanout)
+pub lean_by : (k : AbstractNetlist) (l : Library) (m o : Machine) (fanout : ℕ) → IsOptimised m o → IsLean k o → HasFewInputs k l m (most_sinks fanout)
     → (FitsWithoutBuffers k l (most_sinks fanout) → HasNoBuffer k) → IsLeanBy k l m fanout
 lean_by k l m o fanout h lean inputs buffers =
     let gates = lean.gates in

@@ -14,3 +14,10 @@ pub mod Rows
 pub mod Circuits
 pub mod Spared
 pub mod Words
+mod Steps
+mod Texts
+mod Functions
+mod Checks
+mod Cells
+mod Refusals
+mod Libraries

@@ -1,8 +1,8 @@
 -- Lines behind lines: those of registers from one of them on, and all lines of a report.
 use Rattle.std.proofs.Common.{◌≡◌, ℕ, suc, ◌+◌, ◌<◌, List, [], ◌∷◌, ◌++◌, map, length, drop, drop-cons, sym, ◌∙◌, ap, add-one, append_assoc, append-nil}
 use Rattle.std.specs.List.{slice_index_or}
-use Rattle.machine_meaning.specs.Machine.{Register}
-use Rattle.machine_meaning.specs.declared.equation.Register.{Register as Parts}
+use Rattle.machine_core.specs.Machine.{Register}
+use Rattle.machine_core.specs.declared.equation.Register.{Register as Parts}
 use Rattle.machine_core.specs.View.{register_view}
 use Rattle.ap_io.specs.Spelling.{together}
 use Rattle.flow_run.specs.Report.{register_line, register_lines}

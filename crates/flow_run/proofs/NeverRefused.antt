@@ -7,22 +7,23 @@ use Rattle.machine_core.proofs.Values.{In-right}
 use Rattle.cell_model.proofs.Members.{All-In}
 use Rattle.machine_roots.specs.Roots.{Root, IsOverBudget, IsFirstOver}
 use Rattle.vlsi_base.specs.declared.fault.ReadError.TheVariants as reading
-use Rattle.machine_meaning.specs.Machine.{Machine}
-use Rattle.machine_meaning.specs.Size.{machine_size}
+use Rattle.machine_core.specs.Machine.{Machine}
+use Rattle.machine_core.specs.Size.{machine_size}
 use Rattle.vbe_io.specs.Laws.{NeverBoth}
-use Rattle.vbe_same.specs.Law.{MachinesWeighTheSame}
+use Rattle.vbe_laws.specs.OneMachine.{MachinesWeighTheSame}
+use Rattle.vbe_roots.specs.Law.{MachinesAreWithinTheSame}
 use Rattle.fsm_io.specs.Laws.{NeverBoth as NeverBothStates}
 use Rattle.syf_run.specs.Syf.{style_of}
 use Rattle.syf_run.specs.Laws.{EncodedIsOne}
 use Rattle.catal.specs.Laws.{NeverBoth as NeverBothLists}
-use Rattle.cell_model.specs.declared.kind.Kind.{Kind}
+use Rattle.vlsi_base.specs.declared.kind.Kind.{Kind}
 use Rattle.cell_model.specs.Cell.{Cell}
 use Rattle.cell_model.specs.Covering.{HasCellOf, needed, IsFirstMissing, first, later}
 use Rattle.cell_model.specs.Library.{Library}
 use Rattle.cell_lib.specs.Library.{bad_cell, IsLibraryOf}
-use Rattle.lib_same.specs.Law.{LibraryIsNeverRefused, LibrariesCoverTheSame, CoveredLacksNothing}
+use Rattle.flow_run.specs.OneLibrary.{LibraryIsNeverRefused, LibrariesCoverTheSame, CoveredLacksNothing}
 use Rattle.boog_map.specs.Netlist.{has_registers, Covers}
-use Rattle.tool_words.specs.declared.command.FlowCommand.{FlowCommand}
+use Rattle.flow_words.specs.declared.words.FlowCommand.{FlowCommand}
 use Rattle.tool_drive.specs.declared.status.Status.{Status}
 use Rattle.tool_drive.specs.declared.status.Status.TheVariants as status
 use Rattle.tool_drive.specs.Refusals.{OfFile}
@@ -65,6 +66,17 @@ module _ (weights : MachinesWeighTheSame) (one : EncodedIsOne) where
   size_same true c source (states f i) equations m k h g = absurd g
   size_same true c source equations x m k h g = absurd h
 
+module _ (budgets : MachinesAreWithinTheSame) (one : EncodedIsOne) where
+  within_same : (b : Bool) (c : FlowCommand) (source : List ℕ) (o x : Origin) (m k : Machine) → IsOf b c source o m → IsOf b c source x k
+      → (budget : ℕ) → IsWithinNodes m budget → IsWithinNodes k budget
+  within_same false c source equations equations m k h g budget within = budgets source m k h g budget within
+  within_same false c source equations (states f i) m k h g budget within = absurd g
+  within_same false c source (states f i) x m k h g budget within = absurd h
+  within_same true c source (states f i) (states g j) m k h q budget within =
+      subst (λ (n : Machine). IsWithinNodes n budget) (one source (style_of c.encoding c.seed) f g i j m k h q) within
+  within_same true c source (states f i) equations m k h g budget within = absurd g
+  within_same true c source equations x m k h g budget within = absurd h
+
 module _ (one : EncodedIsOne) (cover : LibrariesCoverTheSame) (lacks : CoveredLacksNothing) where
   lacks_nothing : (b : Bool) (c : FlowCommand) (source catal : List ℕ) (cells : List (List ℕ)) (l own : Library) → IsLibraryOf true catal cells l
       → IsLibraryOf true catal cells own → (o x : Origin) (m k : Machine) → IsOf b c source o m → IsOf b c source x k → Covers l m → (kind : Kind)
@@ -83,26 +95,26 @@ module _ (one : EncodedIsOne) (cover : LibrariesCoverTheSame) (lacks : CoveredLa
 
 -- ---- all refusals
 
-module _ (lists : NeverBothLists) (texts : NeverBoth) (machines : NeverBothStates) (weights : MachinesWeighTheSame) (one : EncodedIsOne)
+module _ (lists : NeverBothLists) (texts : NeverBoth) (machines : NeverBothStates) (weights : MachinesWeighTheSame) (budgets : MachinesAreWithinTheSame) (one : EncodedIsOne)
     (libraries : LibraryIsNeverRefused) (cover : LibrariesCoverTheSame) (lacks : CoveredLacksNothing) where
   source_never : (c : FlowCommand) (source catal : List ℕ) (cells : List (List ℕ)) (o : Origin) (m : Machine) (l : Library) (s : Status)
-      → AreRead c source catal cells o m l → IsNoSource c source catal s → ⊥
-  source_never c source catal cells o m l s read (no_list fault refused is) = lists catal read.library.names fault read.library.uses refused
-  source_never c source catal cells o m l s read (no_text names uses h) = input_never texts machines (is_fsm c) c source o m read.machine s h
-  source_never c source catal cells o m l s read (over_size names x k uses machine over is) =
+      → AreRead c source catal cells o m l → IsNoSource c source s → ⊥
+  source_never c source catal cells o m l s read (no_text h) = input_never texts machines (is_fsm c) c source o m read.machine s h
+  source_never c source catal cells o m l s read (over_size x k machine over is) =
       let same = size_same weights one (is_fsm c) c source o x m k read.machine machine in
       let small = read.small in
       omega (arith, same, small, over)
 
   unread_never : (c : FlowCommand) (source catal : List ℕ) (cells : List (List ℕ)) (o : Origin) (m : Machine) (l : Library) (s : Status)
       → AreRead c source catal cells o m l → IsUnread c source catal cells s → ⊥
-  unread_never c source catal cells o m l s read (no_source h) = source_never c source catal cells o m l s read h
+  unread_never c source catal cells o m l s read (no_list fault refused is) = lists catal read.library.names fault read.library.uses refused
+  unread_never c source catal cells o m l s read (no_source names uses h) = source_never c source catal cells o m l s read h
   unread_never c source catal cells o m l s read (no_cell x k names e machine uses refused is) =
       libraries true catal cells l e read.library (bad_cell names uses refused)
 
   pub never_refused : WhatIsReadIsNeverRefused
   never_refused c source catal cells o m l s read covered within (over_budget x k own others too b) =
-      none_first k c.nodes b.name (within x k others.machine) b.first
+      none_first k c.nodes b.name (within_same budgets one (is_fsm c) c source o x m k read.machine others.machine c.nodes within) b.first
   never_refused c source catal cells o m l s read covered within (unread h) = unread_never c source catal cells o m l s read h
   never_refused c source catal cells o m l s read covered within (uncovered x k own kind others missing is) =
       lacks_nothing one cover lacks (is_fsm c) c source catal cells l own read.library others.library o x m k read.machine others.machine covered kind missing

@@ -5,8 +5,8 @@ use Rattle.vlsi_base.specs.declared.name.Name.{Name}
 use Rattle.vlsi_base.specs.declared.name.Port.{Port}
 use Rattle.vlsi_base.specs.Range.{rising}
 use Rattle.vlsi_base.specs.Member.{In, here, there}
-use Rattle.machine_meaning.specs.Named.{is_same_name}
-use Rattle.machine_meaning.specs.Machine.{Machine, is_input, outputs, names_of}
+use Rattle.machine_core.specs.Named.{is_same_name}
+use Rattle.machine_core.specs.Machine.{Machine, is_input, outputs, names_of}
 use Rattle.machine_core.proofs.Names.{same_name-true}
 use Rattle.machine_core.proofs.Values.{In-map, In-left}
 use Rattle.vlsi_model.proofs.Members.{In-map_back}

@@ -5,22 +5,23 @@ use Rattle.std.specs.List.{AllZip}
 use Prim.Native.Nat.{suc}
 use Rattle.vlsi_base.specs.declared.name.Name.{Name}
 use Rattle.vlsi_base.specs.Names.{scalar}
-use Rattle.machine_meaning.specs.Machine.{Machine, Register}
-use Rattle.machine_meaning.specs.Size.{machine_size}
+use Rattle.machine_core.specs.Machine.{Machine, Register}
+use Rattle.machine_core.specs.Size.{machine_size}
 use Rattle.machine_core.specs.Order.{IsOrdered}
-use Rattle.machine_alike.specs.Alike.{IsAlike, AlikeRun, AlikeBothWays}
+use Rattle.machine_core.specs.Alike.{IsAlike, AlikeRun, AlikeBothWays}
 use Rattle.machine_roots.specs.Roots.{roots, IsDag, IsGreatestDcount}
 use Rattle.boom_opt.specs.Optimised.{inner_size}
 use Rattle.ap_io.specs.Spelling.{together, line_end}
 use Rattle.cell_model.specs.Library.{Library}
-use Rattle.ocp_rows.specs.Order.{begins_with_g}
+use Rattle.net_meaning.specs.Order.{begins_with_g}
 use Rattle.ocp_rows.specs.Placement.{net_count}
 use Rattle.ocp_rows.specs.Length.{half_perimeter}
 use Rattle.loon_drive.specs.Driven.{most_sinks}
 use Rattle.flow_run.specs.Origin.{equations}
-use Rattle.flow_run.specs.Report.{source_line, count_line, register_line, register_lines}
+use Rattle.tool_drive.specs.Lines.{count_line}
+use Rattle.flow_run.specs.Report.{source_line, register_line, register_lines}
 use Rattle.flow_run.specs.RightLayout.{IsRightLayout}
-use Rattle.flow_run.proofs.Alike.{well_alike, agrees_alike, order_alike, inputs_alike, driven_alike}
+use Rattle.flow_run.proofs.Alike.{well_alike, agrees_alike, row_alike, inputs_alike, driven_alike}
 
 -- the lines of registers go by their names
 lines_by : (k : ℕ) (rs qs : List Register) → map (λ (r : Register). r.name) rs ≡ map (λ (r : Register). r.name) qs → register_lines k rs ≡ register_lines k qs
@@ -71,7 +72,7 @@ module _ (l : Library) (k m : Machine) (a : IsAlike k m) (size : machine_size m 
         lawful = r.lawful;
         is_placed = r.is_placed;
         many_buffers = r.many_buffers;
-        in_order = order_alike n l k m a r.placement r.many_buffers r.in_order;
+        in_order = row_alike n l k m a r.placement r.many_buffers r.in_order;
         lean = record {
           dags = lean.dags;
           each = dags lean.dags lean.each;

@@ -10,7 +10,7 @@ use Rattle.cell_lib.specs.Files.{catal_name, cell_files, library_plan}
 use Rattle.cell_lib.specs.Load.{refused}
 use Rattle.cell_lib.specs.Library.{bad_list, bad_cell, IsRefusedLibrary, status_of}
 use Rattle.gen_circuit.specs.Written.{CircuitsCanBeWritten, CircuitsAreReadAgain}
-use Rattle.tool_words.specs.declared.command.GenCommand.{GenCommand}
+use Rattle.flow_words.specs.declared.words.GenCommand.{GenCommand}
 use Rattle.tool_drive.specs.declared.status.Status.{Status}
 use Rattle.tool_drive.specs.declared.status.Status.TheVariants as status
 use Rattle.tool_drive.specs.declared.status.FileCause.TheVariants.{Missing, ReadFault, WriteFault, OutFault}
@@ -66,9 +66,9 @@ of_library c files catal cells h g e s r is = subst (λ (x : Status). IsForLibra
 module _ (again : CircuitsAreReadAgain) (written : CircuitsCanBeWritten) where
   refused_so : (c : GenCommand) → IsFitting c → (files : Files) (catal : List ℕ) (cells : List (List ℕ)) → Holds files (catal_name c.flow.library) catal
       → AreHad files (cell_files c.flow.library (cells_in catal)) cells → (s : Status) → IsRefused c.flow (circuit_text c) catal cells s → IsForLibrary c files s
-  refused_so c fit files catal cells h g s (unread (no_source (no_list fault bad is))) = of_library c files catal cells h g (refused fault) s (bad_list fault bad refl) is
-  refused_so c fit files catal cells h g s (unread (no_source (no_text names uses bad))) = absurd (not_text again (is_fsm c.flow) c fit (is_text c fit) s bad)
-  refused_so c fit files catal cells h g s (unread (no_source (over_size names o m uses machine over is))) =
+  refused_so c fit files catal cells h g s (unread (no_list fault bad is)) = of_library c files catal cells h g (refused fault) s (bad_list fault bad refl) is
+  refused_so c fit files catal cells h g s (unread (no_source names uses (no_text bad))) = absurd (not_text again (is_fsm c.flow) c fit (is_text c fit) s bad)
+  refused_so c fit files catal cells h g s (unread (no_source names uses (over_size o m machine over is))) =
       let small = (fits again c fit).light m (source_read c fit (circuit_text c) o m machine).1 in
       absurd (omega (arith, small, over))
   refused_so c fit files catal cells h g s (unread (no_cell o m names e machine uses bad is)) = of_library c files catal cells h g e s (bad_cell names uses bad) is

@@ -5,7 +5,7 @@ use Rattle.std.specs.FinMap.{get}
 use Rattle.vlsi_shelf.specs.Files.{Files}
 use Rattle.catal.specs.Cells.{cells_in}
 use Rattle.cell_lib.specs.Files.{catal_name, cell_files}
-use Rattle.tool_words.specs.declared.command.FlowCommand.{FlowCommand}
+use Rattle.flow_words.specs.declared.words.FlowCommand.{FlowCommand}
 use Rattle.tool_drive.specs.declared.tool.Wanted.{Wanted}
 use Rattle.tool_drive.specs.Plan.{inputs, got, long, limited, held, gather, reading}
 use Rattle.tool_drive.specs.Held.{Holds, AreHad, are_had, holds}

@@ -3,19 +3,19 @@ use Rattle.std.proofs.Common.{◌≡◌, ℕ, ◌<◌, Bool, false, List, [], �
 use Rattle.std.proofs.lemmas.List.{length-map, length-replicate}
 use Rattle.vlsi_base.specs.Member.{In}
 use Rattle.bool_expr.specs.Expression.{bit}
-use Rattle.machine_meaning.specs.Named.{value_at}
-use Rattle.machine_meaning.specs.Machine.{Machine, Register, inputs, outputs, register_names}
-use Rattle.machine_meaning.specs.Runs.{Trace}
-use Rattle.machine_meaning.specs.Cycles.{Settles, outs, next, RunOf, AreVectors}
+use Rattle.machine_core.specs.Named.{value_at}
+use Rattle.machine_core.specs.Machine.{Machine, Register, inputs, outputs, register_names}
+use Rattle.machine_core.specs.Runs.{Trace}
+use Rattle.machine_core.specs.Cycles.{Settles, outs, next, RunOf, AreVectors}
 use Rattle.machine_core.specs.Order.{IsOrdered}
 use Rattle.machine_core.proofs.Known.{known}
 use Rattle.machine_core.proofs.Solve.{settles_once_known}
-use Rattle.fsm_meaning.specs.Fsm.{Fsm, Resets, FsmRun}
+use Rattle.fsm_machine.specs.Fsm.{Fsm, Resets, FsmRun}
 use Rattle.fsm_machine.specs.Codes.{Codes, code_of}
 use Rattle.syf_machine.specs.Meaning.{DoesAs}
 use Rattle.cell_model.specs.Cell.{Function, gate, flip_flop, other, opaque, Cell}
 use Rattle.cell_model.specs.Library.{Library, cell_of, IsPlain}
-use Rattle.net_meaning.specs.Netlist.{Member, Netlist}
+use Rattle.net_meaning.specs.Netlist.{Member, AbstractNetlist}
 use Rattle.net_meaning.specs.Behaviour.{Contents, Valuation, Drives, NetSettles, NetTrace, net_outs}
 use Rattle.net_meaning.specs.Agreement.{Agrees, IsMatched, register_instance}
 use Rattle.net_meaning.specs.Well.{IsWell}
@@ -73,14 +73,14 @@ held_matched m t = record {
       ap (λ (b : Bool). b ∷ []) (sym (bit-listed (length m.registers) (λ j. bit (t (register_instance j)) 0) k within));
 }
 
-drives_too : (n : Netlist) (w : Valuation) (t : Contents) (owner : List ℕ) (c : Cell) (f : Function) → IsPlain c f → Drives n w t owner c f
+drives_too : (n : AbstractNetlist) (w : Valuation) (t : Contents) (owner : List ℕ) (c : Cell) (f : Function) → IsPlain c f → Drives n w t owner c f
     → Drives n w (one_bit t) owner c f
 drives_too n w t owner c (gate e) plain h = h
 drives_too n w t owner c (flip_flop data_pin clock_pin) plain h = h
 drives_too n w t owner c (other machine) plain h = absurd plain
 drives_too n w t owner c opaque plain h = absurd plain
 
-module _ (n : Netlist) (l : Library) (m : Machine) (well : IsWell n l m) where
+module _ (n : AbstractNetlist) (l : Library) (m : Machine) (well : IsWell n l m) where
   plain : (one : Member) (c : Cell) → In one n.instances → cell_of l one.model ≡ Some c → IsPlain c c.function
   plain one c listed found =
       let model = well.models one listed in
@@ -135,6 +135,6 @@ module _ (n : Netlist) (l : Library) (m : Machine) (well : IsWell n l m) where
     agrees_with : AgreesWithStates n l f k m
     agrees_with = record { matched = from_code; runs = does.each; reset = from_reset }
 
-pub by_states : (o : Origin) (n : Netlist) (l : Library) (m : Machine) → IsWell n l m → IsOrdered m → Agrees n l m → DoesAsOrigin o m → AgreesWith o n l m
+pub by_states : (o : Origin) (n : AbstractNetlist) (l : Library) (m : Machine) → IsWell n l m → IsOrdered m → Agrees n l m → DoesAsOrigin o m → AgreesWith o n l m
 by_states equations n l m well ordered agrees does = tt
 by_states (states f k) n l m well ordered agrees does = agrees_with n l m well f k ordered agrees does

@@ -4,16 +4,16 @@ use Rattle.std.specs.FinMap.{insert}
 use Rattle.vlsi_shelf.specs.Files.{Files}
 use Rattle.vlsi_shelf.specs.Counts.{Rose}
 use Rattle.vlsi_shelf.specs.Sink.{Puts}
-use Rattle.machine_meaning.specs.Machine.{Machine}
+use Rattle.machine_core.specs.Machine.{Machine}
 use Rattle.catal.specs.Cells.{cells_in}
 use Rattle.cell_model.specs.Library.{Library}
 use Rattle.cell_lib.specs.Files.{catal_name, cell_files}
 use Rattle.boog_map.specs.Netlist.{Covers}
-use Rattle.tool_words.specs.declared.command.FlowCommand.{FlowCommand}
+use Rattle.flow_words.specs.declared.words.FlowCommand.{FlowCommand}
 use Rattle.tool_drive.specs.Outside.{Outside, NothingFailed}
 use Rattle.tool_drive.specs.Held.{Holds, AreHad}
 use Rattle.flow_run.specs.Drawn.{layout_name}
-use Rattle.flow_run.specs.Origin.{Origin, IsSourceFor}
+use Rattle.flow_run.specs.Origin.{Origin}
 use Rattle.flow_run.specs.Flow.{AreRead, IsWithinNodes}
 use Rattle.flow_run.specs.RightLayout.{IsRightLayout}
 
@@ -49,7 +49,7 @@ IsHeadline c before now = (report : List ℕ) × Puts before.told now.told repor
 
 -- Nothing stands in the way of a layout: the files are told and all are there; the source is a machine that isn't too large, and the
 -- others are a library, whose cells may be drawn with tracks, with a usable cell of each kind that mapping needs; no diagram of the
--- source's roots is over the budget, in whichever order its equations stand; and no call on the shelf or the sink failed.
+-- machine's roots is over the budget; and no call on the shelf or the sink failed.
 pub record IsFree (c : FlowCommand) (before now : Outside) : Type 0 where
   pub files : Files
   pub told : before.files ≡ Some files
@@ -62,6 +62,6 @@ pub record IsFree (c : FlowCommand) (before now : Outside) : Type 0 where
   pub l : Library
   pub are_read : AreRead c source catal cells o m l
   pub covered : Covers l m
-  pub within : (x : Origin) (k : Machine) → IsSourceFor c source x k → IsWithinNodes k c.nodes
+  pub within : IsWithinNodes m c.nodes
   pub read : NothingFailed before now
   pub printed : Rose before.faults now.faults → ⊥

@@ -1,23 +1,23 @@
 -- What is drawn of a netlist.
 use Rattle.std.specs.Prelude.{◌≡◌, ℕ, ◌*◌, ◌+◌, ◌≤◌, true, false, List, length, ◌++◌, codes, Some}
-use Rattle.machine_meaning.specs.Machine.{Machine}
-use Rattle.machine_meaning.specs.Size.{machine_size}
+use Rattle.machine_core.specs.Machine.{Machine}
+use Rattle.machine_core.specs.Size.{machine_size}
 use Rattle.machine_core.specs.Checked.{IsChecked}
 use Rattle.cell_model.specs.Library.{Library}
 use Rattle.cell_checks.specs.Checked.{IsChecked as HasPassed}
 use Rattle.net_core.specs.Netlist.{Netlist}
-use Rattle.net_meaning.specs.Netlist.{Netlist as Seen}
-use Rattle.net_view.specs.View.{IsSeenAs}
+use Rattle.net_meaning.specs.Netlist.{AbstractNetlist as Seen}
+use Rattle.net_right.specs.View.{IsSeenAs}
 use Rattle.ocp_place.specs.Law.{row_of}
 use Rattle.ocp_rows.specs.Length.{half_perimeter}
 use Rattle.boom_opt.specs.Optimised.{IsOptimised}
-use Rattle.machine_limit.specs.declared.size.TheConstants.{MOST_SIZE}
+use Rattle.tool_drive.specs.declared.size.TheConstants.{MOST_SIZE}
 use Rattle.tool_drive.specs.declared.tool.Product.{Product}
 use Rattle.syf_machine.specs.Meaning.{DoesAs}
 use Rattle.flow_run.specs.Origin.{Origin, equations, states}
 use Rattle.flow_run.specs.RightLayout.{IsRightLayout}
-use Rattle.boog_driven.specs.Netlist.{IsDrivenNetlist}
-use Rattle.boog_driven.specs.Laws.{IsDrawableSoon}
+use Rattle.flow_netlist.specs.Netlist.{IsDrivenNetlist}
+use Rattle.flow_netlist.specs.Laws.{IsDrawableSoon}
 
 abbrev pub layout_name : List ℕ → List ℕ
 layout_name out = out ++ codes ".ap"
@@ -37,7 +37,6 @@ pub record MayBeDrawn (l : Library) (from : Origin) (m : Machine) (fanout : ℕ)
   pub checked : IsChecked m
   pub ordered : IsChecked o
   pub passed : HasPassed true l
-  pub plain : HasPassed false l
   pub small : machine_size m ≤ MOST_SIZE
   pub soon : IsDrawableSoon l k
 

@@ -1,12 +1,12 @@
 -- What `flow` reads and answers.
 use Rattle.std.specs.Prelude.{◌≡◌, ℕ, ◌<◌, ◌≤◌, true, List, [], ◌∷◌, get_or, None, Result, Ok, Err}
 use Rattle.std.specs.List.{All}
-use Rattle.machine_meaning.specs.Machine.{Machine}
-use Rattle.machine_meaning.specs.Size.{machine_size}
+use Rattle.machine_core.specs.Machine.{Machine}
+use Rattle.machine_core.specs.Size.{machine_size}
 use Rattle.catal.specs.declared.error.CatalError.{CatalError}
 use Rattle.catal.specs.Catal.{IsCatal, Refused}
 use Rattle.catal.specs.Cells.{cells_in}
-use Rattle.cell_model.specs.declared.kind.Kind.{Kind}
+use Rattle.vlsi_base.specs.declared.kind.Kind.{Kind}
 use Rattle.cell_model.specs.Library.{Library}
 use Rattle.cell_model.specs.Covering.{needed, IsFirstMissing}
 use Rattle.cell_lib.specs.declared.error.LibError.{LibError}
@@ -16,10 +16,10 @@ use Rattle.cell_lib.specs.Cells.{sources, IsFirstRefused}
 use Rattle.cell_lib.specs.Library.{IsCell, IsCellRefusal, IsLibraryOf, status_of}
 use Rattle.boog_map.specs.Netlist.{has_registers, Covers}
 use Rattle.machine_roots.specs.Roots.{roots, IsOverBudget}
-use Rattle.machine_limit.specs.Size.{size_limit}
-use Rattle.machine_limit.specs.declared.size.TheConstants.{MOST_SIZE}
+use Rattle.tool_drive.specs.Size.{size_limit}
+use Rattle.tool_drive.specs.declared.size.TheConstants.{MOST_SIZE}
 use Rattle.boom_run.specs.Boom.{IsBudgetStatus}
-use Rattle.tool_words.specs.declared.command.FlowCommand.{FlowCommand}
+use Rattle.flow_words.specs.declared.words.FlowCommand.{FlowCommand}
 use Rattle.tool_drive.specs.declared.status.Status.{Status}
 use Rattle.tool_drive.specs.declared.status.Status.TheVariants as status
 use Rattle.tool_drive.specs.declared.tool.Product.{Product}
@@ -36,10 +36,8 @@ flow_plan c = record {
   more = λ read. cell_files c.library (cells_in (get_or read 1 []));
 }
 
--- CATAL lists cells, and the source is this machine, which isn't too large.
-pub record IsSourceOf (c : FlowCommand) (source catal : List ℕ) (o : Origin) (m : Machine) : Type 0 where
-  pub names : List (List ℕ)
-  pub uses : IsCatal catal names
+-- The source is this machine, which isn't too large.
+pub record IsSourceOf (c : FlowCommand) (source : List ℕ) (o : Origin) (m : Machine) : Type 0 where
   pub machine : IsSourceFor c source o m
   pub small : machine_size m ≤ MOST_SIZE
 
@@ -64,18 +62,16 @@ pub record IsLaidOut (c : FlowCommand) (source catal : List ℕ) (cells : List (
   pub within : IsWithinNodes m c.nodes
   pub drawn : IsDrawnAs c.out o m l c.fanout p
 
--- Why there is no source that can be laid out, in this order: the lines of CATAL and their number; the text of the source and its
--- ports; its size.
-pub data IsNoSource (c : FlowCommand) (source catal : List ℕ) (s : Status) : Type 0 where
-  no_list : (fault : CatalError) → Refused catal fault → s ≡ status_of (refused fault) → IsNoSource c source catal s
-  no_text : (names : List (List ℕ)) → IsCatal catal names → OfFile c.source (IsSourceRefusal c source) s → IsNoSource c source catal s
-  over_size : (names : List (List ℕ)) (o : Origin) (m : Machine) → IsCatal catal names → IsSourceFor c source o m
-      → MOST_SIZE < machine_size m → s ≡ size_limit m → IsNoSource c source catal s
+-- Why there is no source that can be laid out: its text and its ports, or else its size.
+pub data IsNoSource (c : FlowCommand) (source : List ℕ) (s : Status) : Type 0 where
+  no_text : OfFile c.source (IsSourceRefusal c source) s → IsNoSource c source s
+  over_size : (o : Origin) (m : Machine) → IsSourceFor c source o m → MOST_SIZE < machine_size m → s ≡ size_limit m → IsNoSource c source s
 
--- What isn't read: the source; or, where this is read, the first cell of the library that is none.
+-- What isn't read, in this order: the lines of CATAL and their number; the source; the first cell of the library that is none.
 pub data IsUnread (c : FlowCommand) (source catal : List ℕ) (cells : List (List ℕ)) (s : Status) : Type 0 where
-  no_source : IsNoSource c source catal s → IsUnread c source catal cells s
-  no_cell : (o : Origin) (m : Machine) (names : List (List ℕ)) (e : LibError) → IsSourceOf c source catal o m → IsCatal catal names
+  no_list : (fault : CatalError) → Refused catal fault → s ≡ status_of (refused fault) → IsUnread c source catal cells s
+  no_source : (names : List (List ℕ)) → IsCatal catal names → IsNoSource c source s → IsUnread c source catal cells s
+  no_cell : (o : Origin) (m : Machine) (names : List (List ℕ)) (e : LibError) → IsSourceOf c source o m → IsCatal catal names
       → IsFirstRefused (IsCell true) (IsCellRefusal true) (sources names cells) e → s ≡ status_of e → IsUnread c source catal cells s
 
 -- Why a source has no layout: something isn't read; or else a kind is the first of those that are asked for which no usable cell has;

@@ -6,7 +6,7 @@ use Rattle.vlsi_shelf.specs.Files.{Files}
 use Rattle.vlsi_shelf.specs.Counts.{Rose, NoneFalls}
 use Rattle.vlsi_shelf.specs.Shelf.{Writes, SameBut}
 use Rattle.vlsi_shelf.specs.Sink.{Puts}
-use Rattle.machine_meaning.specs.Machine.{Machine}
+use Rattle.machine_core.specs.Machine.{Machine}
 use Rattle.vbe_io.specs.Text.{IsVbe}
 use Rattle.catal.specs.Cells.{cells_in}
 use Rattle.cell_model.specs.Library.{Library}
@@ -17,7 +17,7 @@ use Rattle.boog_map.specs.Netlist.{Covers}
 use Rattle.gen_circuit.specs.Generated.{generated}
 use Rattle.gen_circuit.specs.Written.{text}
 use Rattle.gen_circuit.specs.declared.making.TheConstants.{LEAST_SIZE, MOST_SIZE}
-use Rattle.tool_words.specs.declared.command.GenCommand.{GenCommand}
+use Rattle.flow_words.specs.declared.words.GenCommand.{GenCommand}
 use Rattle.tool_drive.specs.declared.status.Status.{Status}
 use Rattle.tool_drive.specs.declared.status.Status.TheVariants as status
 use Rattle.tool_drive.specs.declared.status.FileCause.TheVariants.{WriteFault}
@@ -113,8 +113,8 @@ IsSourceSpared c before s = IfSome before.files (λ old. IsForLibrary c (with_so
 -- ---- completeness
 
 -- Nothing stands in the way: the files are told; with NAME.vbe written, all files of the library are there, and are one whose cells
--- may be drawn with tracks, with a usable cell of each kind that mapping needs; no diagram of the source's roots is over the budget, in
--- whichever order its equations stand; and no call on the shelf or the sink failed.
+-- may be drawn with tracks, with a usable cell of each kind that mapping needs; no diagram of the circuit's roots is over the budget;
+-- and no call on the shelf or the sink failed.
 pub record IsGenFree (c : GenCommand) (before now : Outside) : Type 0 where
   pub files : Files
   pub told : before.files ≡ Some files
@@ -125,7 +125,7 @@ pub record IsGenFree (c : GenCommand) (before now : Outside) : Type 0 where
   pub l : Library
   pub library : IsLibraryOf true catal cells l
   pub covered : Covers l (circuit_of c)
-  pub within : (m : Machine) → IsVbe (circuit_text c) m → IsWithinNodes m c.flow.nodes
+  pub within : IsWithinNodes (circuit_of c) c.flow.nodes
   pub ran : NothingFailed before now
   pub printed : Rose before.faults now.faults → ⊥
 
@@ -136,7 +136,7 @@ abbrev pub CircuitsAreNeverRefused : Type 0
 CircuitsAreNeverRefused =
     (c : GenCommand) (catal : List ℕ) (cells : List (List ℕ)) (l : Library) (s : Status)
     → IsFitting c → IsLibraryOf true catal cells l → Covers l (circuit_of c)
-    → ((m : Machine) → IsVbe (circuit_text c) m → IsWithinNodes m c.flow.nodes) → IsRefused c.flow (circuit_text c) catal cells s → ⊥
+    → IsWithinNodes (circuit_of c) c.flow.nodes → IsRefused c.flow (circuit_text c) catal cells s → ⊥
 
 -- From a run to its headline, to what of its refusals comes, and to an answer of 0.
 abbrev pub RunsHaveHeadlines : Type 0

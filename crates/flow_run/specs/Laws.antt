@@ -1,11 +1,11 @@
 -- What follows from the definitions of what `flow` reads and of its refusals.
 use Rattle.std.specs.Prelude.{ℕ, List}
-use Rattle.machine_meaning.specs.Machine.{Machine}
+use Rattle.machine_core.specs.Machine.{Machine}
 use Rattle.cell_model.specs.Library.{Library}
 use Rattle.boog_map.specs.Netlist.{Covers}
-use Rattle.tool_words.specs.declared.command.FlowCommand.{FlowCommand}
+use Rattle.flow_words.specs.declared.words.FlowCommand.{FlowCommand}
 use Rattle.tool_drive.specs.declared.status.Status.{Status}
-use Rattle.flow_run.specs.Origin.{Origin, IsSourceFor}
+use Rattle.flow_run.specs.Origin.{Origin}
 use Rattle.flow_run.specs.Flow.{AreRead, IsWithinNodes, IsRefused}
 
 -- Where the source is a machine that isn't too large, the files are a library that covers it, and no diagram is over the budget, none
@@ -13,5 +13,4 @@ use Rattle.flow_run.specs.Flow.{AreRead, IsWithinNodes, IsRefused}
 abbrev pub WhatIsReadIsNeverRefused : Type 0
 WhatIsReadIsNeverRefused =
     (c : FlowCommand) (source catal : List ℕ) (cells : List (List ℕ)) (o : Origin) (m : Machine) (l : Library) (s : Status)
-    → AreRead c source catal cells o m l → Covers l m → ((x : Origin) (k : Machine) → IsSourceFor c source x k → IsWithinNodes k c.nodes)
-    → IsRefused c source catal cells s → ⊥
+    → AreRead c source catal cells o m l → Covers l m → IsWithinNodes m c.nodes → IsRefused c source catal cells s → ⊥

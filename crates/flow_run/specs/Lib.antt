@@ -1,3 +1,4 @@
+pub mod Commands
 pub mod Origin
 pub mod States
 pub mod View
@@ -10,3 +11,5 @@ pub mod Flow
 pub mod Causes
 pub mod Laws
 pub mod Generated
+pub mod Same
+pub mod OneLibrary

@@ -1,13 +1,13 @@
 -- The netlist of a source's machine, between reading and drawing.
 use Rattle.std.specs.Prelude.{◌≡◌, ℕ}
-use Rattle.machine_meaning.specs.Machine.{Machine}
+use Rattle.machine_core.specs.Machine.{Machine}
 use Rattle.machine_core.specs.Checked.{IsChecked}
 use Rattle.machine_roots.specs.Roots.{IsGreatestDcount}
-use Rattle.cell_model.specs.declared.kind.Kind.{Kind}
+use Rattle.vlsi_base.specs.declared.kind.Kind.{Kind}
 use Rattle.cell_model.specs.Covering.{needed, IsFirstMissing}
 use Rattle.cell_model.specs.Library.{Library}
 use Rattle.net_core.specs.Netlist.{Netlist}
-use Rattle.boog_driven.specs.Netlist.{IsDrivenNetlist}
+use Rattle.flow_netlist.specs.Netlist.{IsDrivenNetlist}
 use Rattle.boog_map.specs.Netlist.{has_registers}
 use Rattle.boom_run.specs.Boom.{IsWithinBudget}
 use Rattle.tool_drive.specs.declared.status.Status.{Status}

@@ -2,13 +2,13 @@
 use Rattle.std.specs.Prelude.{ℕ, Bool, true, false, List, codes, nat_eq}
 use Rattle.std.specs.List.{ends_with}
 use Rattle.vlsi_base.specs.declared.fault.ReadError.{ReadError}
-use Rattle.machine_meaning.specs.Machine.{Machine}
+use Rattle.machine_core.specs.Machine.{Machine}
 use Rattle.vbe_io.specs.Text.{IsVbe, IsVbeRefusal}
-use Rattle.fsm_meaning.specs.Fsm.{Fsm}
+use Rattle.fsm_machine.specs.Fsm.{Fsm}
 use Rattle.fsm_machine.specs.Codes.{Codes}
 use Rattle.fsm_io.specs.Text.{IsFsmRefusal}
 use Rattle.syf_run.specs.Syf.{style_of, IsEncodedSource}
-use Rattle.tool_words.specs.declared.command.FlowCommand.{FlowCommand}
+use Rattle.flow_words.specs.declared.words.FlowCommand.{FlowCommand}
 
 -- where a machine comes from: a data-flow text, or a state machine with codes of its states
 pub data Origin : Type 0 where

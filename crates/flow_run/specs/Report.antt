@@ -1,27 +1,23 @@
 -- The report of an accepted layout.
 use Rattle.std.specs.Prelude.{ℕ, List, [], ◌∷◌, ◌++◌, length, codes}
 use Prim.Native.Nat.{suc}
-use Rattle.std.specs.Fmt.{decimal}
 use Rattle.vlsi_base.specs.declared.name.Name.{Name}
 use Rattle.vlsi_base.specs.Name.{name_text}
-use Rattle.machine_meaning.specs.Machine.{Machine, Register}
-use Rattle.machine_meaning.specs.Size.{machine_size}
+use Rattle.machine_core.specs.Machine.{Machine, Register}
+use Rattle.machine_core.specs.Size.{machine_size}
 use Rattle.ap_io.specs.Spelling.{together, line_end}
 use Rattle.cell_model.specs.Library.{Library}
-use Rattle.net_meaning.specs.Netlist.{Netlist}
+use Rattle.net_meaning.specs.Netlist.{AbstractNetlist}
 use Rattle.net_meaning.specs.Agreement.{register_instance}
 use Rattle.ocp_rows.specs.Placement.{Placement, net_count}
 use Rattle.ocp_rows.specs.Length.{half_perimeter}
 use Rattle.syf_run.specs.Syf.{code_lines}
+use Rattle.tool_drive.specs.Lines.{count_line}
 use Rattle.flow_run.specs.Origin.{Origin, equations, states}
 
 -- the name of the source's entity on a line
 abbrev pub source_line : List ℕ → List ℕ
 source_line name = codes "source " ++ (name ++ line_end)
-
--- a word and a number on a line
-abbrev pub count_line : List ℕ → ℕ → List ℕ
-count_line word n = word ++ (codes " " ++ (decimal n ++ line_end))
 
 -- which register an instance holds, and so for all instances of registers from number k on
 abbrev pub register_line : ℕ → Name → List ℕ
@@ -52,5 +48,5 @@ report_by o m nodes cells nets delay length breaches = together (
     ∷ (codes "accepted" ++ line_end) ∷ [])
 
 -- The report on a machine's netlist, whose longest path takes so long, and on its placement.
-abbrev pub report_of : Origin → Machine → ℕ → ℕ → Netlist → Library → Placement → ℕ → List ℕ
+abbrev pub report_of : Origin → Machine → ℕ → ℕ → AbstractNetlist → Library → Placement → ℕ → List ℕ
 report_of o m nodes delay n l p breaches = report_by o m nodes (length n.instances) (net_count n) delay (half_perimeter n l p) breaches

@@ -1,23 +1,23 @@
 -- When the bytes of a file are a right layout of a machine.
 use Rattle.std.specs.Prelude.{◌≡◌, ℕ, Bool, List, [], Some, length, map}
-use Rattle.machine_meaning.specs.Machine.{Machine, outputs}
-use Rattle.machine_meaning.specs.Cycles.{RunOf, AreVectors}
+use Rattle.machine_core.specs.Machine.{Machine, outputs}
+use Rattle.machine_core.specs.Cycles.{RunOf, AreVectors}
 use Rattle.ap_io.specs.declared.figure.Figure.{Figure}
 use Rattle.ap_io.specs.ApText.{IsApText}
 use Rattle.cell_model.specs.Library.{Library}
-use Rattle.net_meaning.specs.Netlist.{Netlist, Extracts}
+use Rattle.net_meaning.specs.Netlist.{AbstractNetlist, Extracts}
 use Rattle.vlsi_base.specs.Names.{scalar}
 use Rattle.net_meaning.specs.Well.{IsWell}
 use Rattle.net_meaning.specs.Behaviour.{Contents, NetTrace, net_outs}
 use Rattle.net_meaning.specs.Agreement.{Agrees, IsMatched}
 use Rattle.net_meaning.specs.Breaches.{Breaches}
 use Rattle.ocp_rows.specs.Placement.{Placement, IsPlaced}
-use Rattle.ocp_rows.specs.Order.{IsInNetlistOrder}
+use Rattle.ocp_rows.specs.Tracks.{IsTrackRow}
 use Rattle.machine_roots.specs.Roots.{IsGreatestDcount}
 use Rattle.flow_run.specs.Origin.{Origin}
 use Rattle.flow_run.specs.States.{AgreesWith}
 use Rattle.flow_run.specs.Lean.{IsLeanBy}
-use Rattle.boog_driven.specs.Netlist.{IsDrivenAs}
+use Rattle.flow_netlist.specs.Netlist.{IsDrivenAs}
 use Rattle.flow_run.specs.Report.{report_of}
 
 -- The bytes are the ap file of a figure that has the machine's name. Joined wherever shapes of one metal meet, the figure
@@ -28,7 +28,7 @@ use Rattle.flow_run.specs.Report.{report_of}
 -- report is that of machine, netlist and placement, and has the most nodes of a diagram of the machine's roots and the time of that path.
 pub record IsRightLayout (bytes : List ℕ) (o : Origin) (m : Machine) (l : Library) (fanout : ℕ) (report : List ℕ) : Type 0 where
   pub figure : Figure
-  pub netlist : Netlist
+  pub netlist : AbstractNetlist
   pub placement : Placement
   pub file : IsApText bytes figure
   pub named : figure.name ≡ Some (scalar m.name)
@@ -39,7 +39,7 @@ pub record IsRightLayout (bytes : List ℕ) (o : Origin) (m : Machine) (l : Libr
   pub lawful : Breaches figure.items l []
   pub is_placed : IsPlaced figure.bounds figure.items netlist l placement
   pub many_buffers : ℕ
-  pub in_order : IsInNetlistOrder netlist l m placement many_buffers
+  pub in_order : IsTrackRow netlist l m placement many_buffers
   pub lean : IsLeanBy netlist l m fanout
   pub delay : ℕ
   pub driven : IsDrivenAs netlist l m delay

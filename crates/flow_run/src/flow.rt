@@ -1,12 +1,10 @@
 // `flow` as a tool: what it reads, and what it answers.
 ghost use Rattle.std.specs.Prelude.{◌≡◌, ◌≤◌, ◌<◌, ◌+◌, ◌-◌, ◌^◌, true, IfOk, IfErr, OnOk, length};
-ghost use Rattle.machine_meaning.specs.Size.{machine_size};
-ghost use Rattle.source_meaning.specs.Checks.{most_ports};
+ghost use Rattle.machine_core.specs.Size.{machine_size};
+ghost use Rattle.source_checks.specs.Checks.{most_ports};
 ghost use Rattle.boog_map.specs.Netlist.{Covers};
 ghost use Rattle.boom_run.specs.Boom.{IsBudgetStatus};
 ghost use Rattle.delay_sta.specs.Exchanged.{HaveTheirArcs};
-ghost use Rattle.cell_lib.specs.Library.{status_of};
-ghost use Rattle.cell_lib.specs.Load.{refused as list_refusal};
 ghost use Rattle.tool_drive.specs.Outside.{outside, IsLine};
 ghost use Rattle.tool_drive.specs.Status.{has_line};
 ghost use Rattle.tool_drive.specs.Lines.{line_of};
@@ -14,31 +12,29 @@ ghost use Rattle.tool_drive.specs.Refusals.{MemoryOr};
 ghost use Rattle.tool_drive.specs.Table.{IsJudged, Caused, IsComplete};
 ghost use Rattle.flow_run.specs.Origin.{is_fsm as is_state_machine, IsSourceFor, IsSourceRefusal};
 ghost use Rattle.flow_run.specs.View.{origin_view};
-ghost use Rattle.machine_limit.specs.declared.size.TheConstants.{MOST_SIZE};
+ghost use Rattle.tool_drive.specs.declared.size.TheConstants.{MOST_SIZE};
 ghost use Rattle.flow_run.specs.Flow.{flow_plan, flow_answers, IsSourceOf, AreRead, IsNoSource, IsUnread, LaysOut};
 ghost use Rattle.flow_run.specs.Mapped.{IsMissingIn, IsMappedFor};
 
 use crate::layout::product;
 use crate::source::{Counted, Origin, Source};
-use boog_driven::{driven_netlist_law, driven_netlist_of};
 use boog_run::netlist_law;
 use boom_run::optimise_within;
-use catal::{CatalError, read_catal};
 use cell_checks::Library;
-use cell_lib::{catal_file, library_law, library_status, named_files, read_library};
+use cell_lib::{catal_file, library_law, library_status, listed_library, named_files, read_list};
 use cell_model::first_missing;
-use fsm_few::machine_has_few_signals;
+use flow_netlist::{driven_netlist_law, driven_netlist_of};
+use flow_words::FlowCommand;
 use fsm_io::read_fsm;
+use fsm_laws::machine_has_few_signals;
 use loon_drive::Driven;
 use machine_core::Machine;
-use machine_limit::check_size;
 use std::alloc::{AllocError, Global};
 use syf_run::{Encoded, encoded_law, encoded_machine, style_of};
-use tool_drive::{LibraryFault, Product, Refusal, Status, Tool, Wanted, bytes_at, drive, refused};
+use tool_drive::{Product, Refusal, Status, Tool, Wanted, bytes_at, check_size, drive, refused};
 use tool_run::loon_law;
-use tool_words::FlowCommand;
-use vbe_few::source_has_few_names;
 use vbe_io::read_vbe;
+use vbe_laws::source_has_few_names;
 use vlsi_base::{FileBytes, ReadError};
 use vlsi_shelf::{Shelf, Sink};
 
@@ -69,17 +65,6 @@ fn is_fsm(command: &FlowCommand) -> bool
     command.source.as_bytes().ends_with(b".fsm")
 }
 
-// How it is told that a CATAL is none.
-fn list_status(error: CatalError) -> Status
-    ensures { result ≡ status_of (list_refusal error) }
-{
-    match error {
-        CatalError::Memory => Status::Memory,
-        CatalError::BadLine(line) => Status::Library(LibraryFault::BadCatal(line)),
-        CatalError::Limit(limit) => Status::Limit(limit),
-    }
-}
-
 // The machine of a data-flow text, or of a state machine by codes of its states.
 fn source_of(alloc: Global, command: &FlowCommand, source: &[u8]) -> Result<Source, ReadError>
     ensures accepted { IfOk result (λ r. IsSourceFor command.now source.now (origin_view r.origin) r.machine) }
@@ -103,20 +88,11 @@ fn source_of(alloc: Global, command: &FlowCommand, source: &[u8]) -> Result<Sour
     })
 }
 
-// What SOURCE is, behind the list of the library's cells.
-fn read_source(
-    alloc: Global,
-    command: &FlowCommand,
-    source: &[u8],
-    catal: &[u8],
-) -> Result<Source, Status>
-    ensures accepted { IfOk result (λ r. IsSourceOf command.now source.now catal.now (origin_view r.origin) r.machine) }
-    ensures refused { IfErr result (λ s. MemoryOr s (IsNoSource command.now source.now catal.now s)) }
+// What SOURCE is.
+fn read_source(alloc: Global, command: &FlowCommand, source: &[u8]) -> Result<Source, Status>
+    ensures accepted { IfOk result (λ r. IsSourceOf command.now source.now (origin_view r.origin) r.machine) }
+    ensures refused { IfErr result (λ s. MemoryOr s (IsNoSource command.now source.now s)) }
 {
-    match read_catal(alloc, catal) {
-        Ok(_) => {}
-        Err(error) => return Err(list_status(error)),
-    }
     let read = match source_of(alloc, command, source) {
         Ok(read) => read,
         Err(error) => return Err(refused(alloc, &command.source, error)),
@@ -127,7 +103,8 @@ fn read_source(
     }
 }
 
-// The machine and the library of the texts, or the status that tells what isn't read.
+// The machine and the library of the texts, or the status that tells what isn't read: the list of the library's cells before the
+// source, and this before the cells.
 fn read_all(
     alloc: Global,
     command: &FlowCommand,
@@ -139,11 +116,15 @@ fn read_all(
         r.library) }
     ensures refused { IfErr result (λ s. MemoryOr s (IsUnread command.now source.now catal.now cells.now s)) }
 {
-    let source = match read_source(alloc, command, source, catal) {
+    let names = match read_list(alloc, catal) {
+        Ok(names) => names,
+        Err(error) => return Err(library_status(error)),
+    };
+    let source = match read_source(alloc, command, source) {
         Ok(source) => source,
         Err(status) => return Err(status),
     };
-    match read_library(alloc, catal, cells, true) {
+    match listed_library(alloc, &names, cells, true) {
         Ok(library) => Ok(Read { source, library }),
         Err(error) => Err(library_status(error)),
     }
@@ -170,7 +151,7 @@ struct Mapped {
 }
 
 // The netlist of the machine made smaller, or the status of the first root over the budget. The smaller machine is small enough and
-// covered as the given one is, so that only memory can refuse its netlist.
+// covered as the given one is.
 fn netlist_within(
     alloc: Global,
     machine: &Machine,
@@ -194,7 +175,7 @@ fn netlist_within(
     let _ = made.machine.name();
     let driven = match driven_netlist_of(alloc, &made.machine, library, command.fanout) {
         Ok(driven) => driven,
-        Err(status) => return Err(status),
+        Err(_) => return Err(Status::Memory),
     };
     Ok(Mapped {
         nodes: made.nodes,

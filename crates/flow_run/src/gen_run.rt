@@ -11,18 +11,18 @@ ghost use Rattle.flow_run.specs.Generated.{RunsHaveHeadlines, SourcesAreSpared, 
 
 use crate::flow::run_flow;
 use crate::reading::reading_law;
+use crate::{libraries_are_same, library_is_never_refused};
+use flow_words::GenCommand;
 use gen_circuit::{
     circuit, circuits_are_checked, circuits_are_read_again, circuits_are_small,
     circuits_can_be_written,
 };
-use lib_same::{libraries_are_same, library_is_never_refused};
-use machine_alike::alike_law;
+use machine_core::alike_law;
 use std::alloc::{AllocError, Global};
 use tool_drive::{FileCause, Status, tell};
-use tool_words::GenCommand;
+use vbe_laws::machines_are_the_same;
+use vbe_print::write_vbe_by;
 use vbe_roots::roots_are_the_same;
-use vbe_same::machines_are_the_same;
-use vbe_write::write_vbe_by;
 use vlsi_base::FileBytes;
 use vlsi_shelf::{Shelf, ShelfError, Sink};
 
@@ -36,6 +36,7 @@ pub fn circuit_law()
     circuits_are_read_again();
     library_is_never_refused();
     libraries_are_same();
+    roots_are_the_same();
 }
 
 /// Where a run answers 0, source and layout stand whole; the source that it writes is never refused; and where nothing stands in its

@@ -10,14 +10,14 @@ ghost use Rattle.flow_run.specs.Drawn.{layout_name as layout_name_of, MayBeDrawn
 use crate::report::report;
 use crate::source::Counted;
 use ap_io::{Figure, write_ap, written_is_read_again};
-use boog_driven::driven_netlist_law;
 use cell_checks::Library;
-use cell_pins::pin_table;
+use cell_pins::libraries_have_tables;
+use flow_netlist::driven_netlist_law;
 use loon_drive::Driven;
-use machine_alike::alike_law;
+use machine_core::alike_law;
 use nero_tracks::{TrackError, columns_are_free, route_tracks};
 use net_core::Netlist;
-use net_view::right_is_well_formed;
+use net_right::right_is_well_formed;
 use ocp_place::{half_perimeter, right_may_be_drawn, track_place};
 use route_draw::{draw_tracks, drawing_can_be_written, right_drawings_are_right};
 use std::alloc::{AllocError, Global};
@@ -34,12 +34,13 @@ struct Sheet {
 // The netlist in one row, each net on a track of its own.
 fn drawing(alloc: Global, netlist: &Netlist, library: &Library) -> Result<Sheet, AllocError>
     requires passed { HasPassed true library.now }
-    requires plain { HasPassed false library.now }
     requires netlist { IsDrawableIn library.now netlist.now }
     ensures figure { IfOk result (λ d. IsDrawnInTracks library.now netlist.now d.figure) }
     ensures wire { IfOk result (λ d. IsLengthOf library.now netlist.now d.wire) }
 {
     columns_are_free();
+    // A library has passed its checks but for that of columns.
+    let _ = library.cells();
     let placement = track_place(alloc, netlist, library)?;
     let tracks = match route_tracks(alloc, &placement, netlist, library) {
         Ok(tracks) => tracks,
@@ -59,8 +60,7 @@ fn layout_name(alloc: Global, out: &FileName) -> Result<FileName, AllocError>
     Ok(name)
 }
 
-/// The layout of a machine's netlist, in the file NAME.ap, and the report on it. Memory goes by the lines of the layout and by
-/// the pins of the library's usable cells.
+/// The layout of a machine's netlist, in the file NAME.ap, and the report on it. Memory goes by the lines of the layout.
 pub(crate) fn product(
     alloc: Global,
     out: &FileName,
@@ -80,9 +80,9 @@ pub(crate) fn product(
     alike_law();
     drawing_can_be_written();
     written_is_read_again();
-    // It meets the condition of placing and drawing with these pins.
-    let pins = pin_table(alloc, library, false)?;
-    let _ = pins;
+    // A library has passed its checks, so it has a table of pins, by which it is said what placing and drawing ask.
+    libraries_have_tables();
+    let _ = library.cells();
     let sheet = drawing(alloc, &driven.netlist, library)?;
     let file = write_ap(alloc, &sheet.figure)?;
     let text = report(alloc, counted, driven, sheet.wire)?;

@@ -1,19 +1,19 @@
 // The report on a layout.
 ghost use Rattle.std.specs.Prelude.{◌≡◌, ◌≤◌, ◌-◌, ◌++◌, IfOk, OnOk, length, map};
 ghost use Rattle.machine_core.specs.View.{register_view};
-ghost use Rattle.machine_meaning.specs.Size.{machine_size as size_of};
-ghost use Rattle.machine_limit.specs.declared.size.TheConstants.{MOST_SIZE};
+ghost use Rattle.machine_core.specs.Size.{machine_size as size_of};
+ghost use Rattle.tool_drive.specs.declared.size.TheConstants.{MOST_SIZE};
 ghost use Rattle.flow_run.specs.View.{origin_view};
-ghost use Rattle.flow_run.specs.Report.{source_line as source_line_of, count_line as count_line_of, register_line as register_line_of};
+ghost use Rattle.flow_run.specs.Report.{source_line as source_line_of, register_line as register_line_of};
 ghost use Rattle.flow_run.specs.Report.{register_lines as register_lines_of, held_lines as held_lines_of, report_by};
 
 use crate::source::{Counted, Origin, Source};
 use loon_drive::Driven;
-use machine_core::{Machine, machine_size};
-use machine_meaning::Register;
+use machine_core::{Machine, Register, machine_size};
 use net_core::Netlist;
 use std::alloc::{AllocError, Global};
 use syf_run::code_lines;
+use tool_drive::count_line;
 use vlsi_base::{FileBytes, Name, Text};
 
 fn source_line(alloc: Global, name: &Text) -> Result<FileBytes, AllocError>
@@ -23,22 +23,6 @@ fn source_line(alloc: Global, name: &Text) -> Result<FileBytes, AllocError>
     out.append(name.as_bytes())?;
     out.append(b"\n")?;
     Ok(out)
-}
-
-fn count_line(
-    alloc: Global,
-    out: &mut FileBytes,
-    word: &[u8],
-    count: u128,
-) -> Result<(), AllocError>
-    ensures { OnOk result (out.new ≡ out.old ++ count_line_of word.now count) }
-{
-    let digits = count.to_string(alloc)?;
-    out.append(word)?;
-    out.append(b" ")?;
-    out.append(digits.as_bytes())?;
-    out.append(b"\n")?;
-    Ok(())
 }
 
 fn register_line(

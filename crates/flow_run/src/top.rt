@@ -1,22 +1,23 @@
 // The top call: words, and then the tool that they ask for.
 ghost use Rattle.std.specs.Prelude.{◌≡◌, ◌⊎◌, true, IfSome, Some, None};
-ghost use Rattle.tool_words.specs.Commands.{command_of, as_flow, flow_of, as_gen, gen_of, word_of};
 ghost use Rattle.tool_drive.specs.Outside.{outside, IsLine};
 ghost use Rattle.tool_drive.specs.Status.{has_line};
 ghost use Rattle.tool_drive.specs.Lines.{line_of as line_of_tool};
 ghost use Rattle.tool_drive.specs.Table.{Caused, IsComplete};
 ghost use Rattle.tool_run.specs.Usage.{line_of};
 ghost use Rattle.tool_run.specs.Answers.{IsAnswerTo};
+ghost use Rattle.flow_run.specs.Commands.{command_of, word_of, as_flow, flow_in, as_gen, gen_in, as_tool, tool_in};
 ghost use Rattle.flow_run.specs.Flow.{flow_plan, flow_answers};
 ghost use Rattle.flow_run.specs.Causes.{IsHeadline, IsFree};
 ghost use Rattle.flow_run.specs.Generated.{IsFitting, IsRun, IsGenHeadline, IsSourceSpared, IsGenFree};
 
+use crate::command::{Command, read_words};
 use crate::flow::run_flow;
 use crate::gen_run::{gen_law, run_gen};
 use crate::reading::reading_law;
 use std::alloc::Global;
-use tool_run::{Status, refuse_words, run_tool};
-use tool_words::{Command, Words, read_words, words_law};
+use tool_run::{Status, refuse_words, run_tool, words_law};
+use tool_words::Words;
 use vlsi_shelf::{Shelf, Sink};
 
 // Runs the tool that a command is for.
@@ -28,8 +29,8 @@ fn run<S: Shelf, T: Sink>(alloc: Global, command: &Command, shelf: &mut S, out: 
         (outside (S.seen shelf.old) (T.seen out.old)) (outside (S.seen shelf.new) (T.seen out.new)) result) }
     ensures run { IfSome (as_gen (Some command.now)) (λ c. IsRun c
         (outside (S.seen shelf.old) (T.seen out.old)) (outside (S.seen shelf.new) (T.seen out.new)) result) }
-    ensures answer { IsAnswerTo command.now
-        (outside (S.seen shelf.old) (T.seen out.old)) (outside (S.seen shelf.new) (T.seen out.new)) result }
+    ensures answer { IfSome (as_tool (Some command.now)) (λ k. IsAnswerTo k
+        (outside (S.seen shelf.old) (T.seen out.old)) (outside (S.seen shelf.new) (T.seen out.new)) result) }
     ensures line { has_line result ≡ true
         → IsLine (T.seen out.old) (T.seen out.new) (line_of_tool (word_of command.now) result) }
     ensures never_usage { result ≡ Status.Usage → ⊥ }
@@ -37,17 +38,7 @@ fn run<S: Shelf, T: Sink>(alloc: Global, command: &Command, shelf: &mut S, out: 
     match command {
         Command::Flow(flow) => run_flow(alloc, b"flow", flow, shelf, out),
         Command::Gen(generate) => run_gen(alloc, generate, shelf, out),
-        Command::Syf(_)
-        | Command::Boom(_)
-        | Command::Boog(_)
-        | Command::Loon(_)
-        | Command::Asimut(_)
-        | Command::AsimutNetlist(_)
-        | Command::Cougar(_)
-        | Command::Lvx(_)
-        | Command::Druc(_)
-        | Command::Proof(_)
-        | Command::Flatbeh(_) => run_tool(alloc, command, shelf, out),
+        Command::Tool(tool) => run_tool(alloc, tool, shelf, out),
     }
 }
 
@@ -92,43 +83,43 @@ pub fn alliance_main<S: Shelf, T: Sink>(
     ensures nothing { command_of words.now ≡ None → shelf.new ≡ shelf.old }
 
     // Every status has its cause and leaves the files that its row says.
-    ensures cause { IfSome (flow_of words.now) (λ c. Caused (flow_plan c) (flow_answers c)
+    ensures cause { IfSome (flow_in words.now) (λ c. Caused (flow_plan c) (flow_answers c)
         (outside (S.seen shelf.old) (T.seen out.old)) (outside (S.seen shelf.new) (T.seen out.new)) result) }
 
     // Over told files, where nothing failed, every reading has its one answer.
-    ensures complete { IfSome (flow_of words.now) (λ c. IsComplete (flow_plan c) (flow_answers c)
+    ensures complete { IfSome (flow_in words.now) (λ c. IsComplete (flow_plan c) (flow_answers c)
         (outside (S.seen shelf.old) (T.seen out.old)) (outside (S.seen shelf.new) (T.seen out.new)) result) }
 
     // Where the answer is 0, NAME.ap is a right layout of the source by the library, and the report on it was printed.
-    ensures headline { IfSome (flow_of words.now) (λ c. result ≡ Status.Accepted
+    ensures headline { IfSome (flow_in words.now) (λ c. result ≡ Status.Accepted
         → IsHeadline c (outside (S.seen shelf.old) (T.seen out.old)) (outside (S.seen shelf.new) (T.seen out.new))) }
 
     // Where all files are there, the source is a machine or a state machine within the limits, the others are a library that covers
     // it, no diagram is over the budget, and no call failed, the answer is 0, or out of memory.
-    ensures lays { IfSome (flow_of words.now) (λ c. IsFree c (outside (S.seen shelf.old) (T.seen out.old)) (outside (S.seen shelf.new) (T.seen out.new))
+    ensures lays { IfSome (flow_in words.now) (λ c. IsFree c (outside (S.seen shelf.old) (T.seen out.old)) (outside (S.seen shelf.new) (T.seen out.new))
         → (result ≡ Status.Accepted) ⊎ (result ≡ Status.Memory)) }
 
     // `gen` writes NAME.vbe, the text of the circuit that is made of the seed, and answers from there as `flow` does; or it can't
     // write it.
-    ensures run { IfSome (gen_of words.now) (λ c. IsRun c
+    ensures run { IfSome (gen_in words.now) (λ c. IsRun c
         (outside (S.seen shelf.old) (T.seen out.old)) (outside (S.seen shelf.new) (T.seen out.new)) result) }
 
     // Where it answers 0, NAME.vbe is a text of exactly this circuit, NAME.ap is a right layout of exactly this circuit, and the report
     // on it was printed.
-    ensures generated { IfSome (gen_of words.now) (λ c. result ≡ Status.Accepted
+    ensures generated { IfSome (gen_in words.now) (λ c. result ≡ Status.Accepted
         → IsGenHeadline c (outside (S.seen shelf.old) (T.seen out.old)) (outside (S.seen shelf.new) (T.seen out.new))) }
 
     // Over told files, whatever the library is, status 2 never comes, and 9 comes for a file of the library alone.
-    ensures spared { IfSome (gen_of words.now) (λ c. IsSourceSpared c (outside (S.seen shelf.old) (T.seen out.old)) result) }
+    ensures spared { IfSome (gen_in words.now) (λ c. IsSourceSpared c (outside (S.seen shelf.old) (T.seen out.old)) result) }
 
     // Where all files of the library are there, and are one that covers it, no diagram is over the budget, and no call failed, it
     // answers 0, or out of memory.
-    ensures generates { IfSome (gen_of words.now) (λ c. IsGenFree c (outside (S.seen shelf.old) (T.seen out.old)) (outside (S.seen shelf.new) (T.seen out.new))
+    ensures generates { IfSome (gen_in words.now) (λ c. IsGenFree c (outside (S.seen shelf.old) (T.seen out.old)) (outside (S.seen shelf.new) (T.seen out.new))
         → (result ≡ Status.Accepted) ⊎ (result ≡ Status.Memory)) }
 
     // The answers of every other tool: each has its cause and leaves the files that its row says, and over told files, where nothing
     // failed, it is what the files come to.
-    ensures answer { IfSome (command_of words.now) (λ k. IsAnswerTo k
+    ensures answer { IfSome (tool_in words.now) (λ k. IsAnswerTo k
         (outside (S.seen shelf.old) (T.seen out.old)) (outside (S.seen shelf.new) (T.seen out.new)) result) }
 
     // A refusal prints its line and nothing else, as far as memory and the sink let it.

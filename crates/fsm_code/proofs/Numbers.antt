@@ -4,7 +4,7 @@ use Rattle.std.specs.List.{slice_index_or}
 use Rattle.std.specs.Prelude.{slice_index}
 use Rattle.bool_expr.specs.Expression.{Expression, constant, variable, inverse, pair, choice, IsOver}
 use Rattle.bool_expr.specs.Renumbering.{renumbered}
-use Rattle.fsm_meaning.specs.Statements.{Statements, finish, assign, choose, select, Parts, only, either, further, Branches, closed, others, listed}
+use Rattle.fsm_machine.specs.Statements.{Statements, finish, assign, choose, select, Parts, only, either, further, Branches, closed, others, listed}
 use Rattle.fsm_machine.specs.Moved.{substituted, moved, moved_parts, moved_branches}
 use Rattle.fsm_machine.specs.Signals.{signals, part_signals, branch_signals}
 

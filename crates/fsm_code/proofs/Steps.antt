@@ -3,7 +3,7 @@ use Rattle.std.proofs.Common.{◌≡◌, ℕ, suc, ◌+◌, List, [], ◌∷◌,
 use Rattle.bool_expr.specs.declared.expr.Expr.{Expr}
 use Rattle.bool_expr.specs.View.{view}
 use Rattle.bool_expr.specs.Expression.{Expression, variable, inverse}
-use Rattle.fsm_meaning.specs.Statements.{Assignment, Statements, choose, select, Parts, either, further, Branches, listed}
+use Rattle.fsm_machine.specs.Statements.{Assignment, Statements, choose, select, Parts, either, further, Branches, listed}
 use Rattle.fsm_machine.specs.Moved.{substituted, moved, moved_parts, moved_branches}
 use Rattle.fsm_machine.specs.Signals.{along, any_of, without, signals, part_signals, branch_signals, emitted, emitted_parts, emitted_branches, final, final_parts, final_branches}
 use Rattle.fsm_code.proofs.Numbers.{signals_moved, parts_moved, branches_moved}

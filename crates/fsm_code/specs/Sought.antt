@@ -1,7 +1,7 @@
 -- What is sought of statements: an output bit, or a bit of the next code.
 use Rattle.std.specs.Prelude.{Option}
 use Rattle.bool_expr.specs.Expression.{Expression}
-use Rattle.fsm_meaning.specs.Statements.{Assignment}
+use Rattle.fsm_machine.specs.Statements.{Assignment}
 use Rattle.fsm_machine.specs.MachineOf.{output_given, code_given}
 use Rattle.fsm_code.specs.declared.target.Target.{Target}
 use Rattle.fsm_code.specs.declared.target.Target.TheVariants as target

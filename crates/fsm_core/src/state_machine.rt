@@ -24,7 +24,7 @@ pub struct StateMachine {
 impl Model for StateMachine {
     ghost use Rattle.std.specs.Coded.{codes};
     ghost use Rattle.machine_core.specs.Code.{expression_code};
-    ghost use Rattle.fsm_meaning.specs.Fsm.{Fsm as Meaning};
+    ghost use Rattle.fsm_machine.specs.Fsm.{Fsm as Meaning};
     ghost use Rattle.fsm_core.specs.Code.{statements_code};
     ghost use Rattle.fsm_core.specs.View.{fsm_with};
     ghost use Rattle.fsm_core.specs.Checked.{IsCheckedFsm};

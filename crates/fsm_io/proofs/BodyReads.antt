@@ -9,18 +9,18 @@ use Rattle.vlsi_base.specs.declared.name.Port.{Port}
 use Rattle.vlsi_base.specs.declared.name.Dir.TheVariants as dir
 use Rattle.vlsi_base.specs.Member.{In, here, there}
 use Rattle.machine_core.proofs.Values.{In-left, In-right, In-map}
-use Rattle.machine_meaning.specs.Machine.{names_of, is_input}
-use Rattle.machine_meaning.specs.Named.{is_same_name}
-use Rattle.source_meaning.specs.declared.statement.Target.{Target}
-use Rattle.source_meaning.specs.Symbols.{scalar}
-use Rattle.source_meaning.specs.Drivers.{target_names}
-use Rattle.source_meaning.specs.Formula.{Formula, fixed, named, opposite, joined, chosen as choosing, formulas, formula_names, first_bit, numbered, place}
-use Rattle.source_meaning.specs.Elaboration.{port_bits, port_of}
+use Rattle.machine_core.specs.Machine.{names_of, is_input}
+use Rattle.machine_core.specs.Named.{is_same_name}
+use Rattle.source_checks.specs.declared.statement.Target.{Target}
+use Rattle.source_checks.specs.Symbols.{scalar}
+use Rattle.source_checks.specs.Drivers.{target_names}
+use Rattle.source_checks.specs.Formula.{Formula, fixed, named, opposite, joined, chosen as choosing, formulas, formula_names, first_bit, numbered, place}
+use Rattle.source_checks.specs.Elaboration.{port_bits, port_of}
 use Rattle.vlsi_model.proofs.Sorting.{place_of_In, same_name_decides}
 use Rattle.vlsi_model.proofs.Numbering.{place_within, place_at}
 use Rattle.vlsi_model.proofs.PortBits.{filter-In}
-use Rattle.fsm_meaning.specs.Fsm.{Fsm, fsm_inputs, fsm_outputs}
-use Rattle.fsm_meaning.specs.Statements as s
+use Rattle.fsm_machine.specs.Fsm.{Fsm, fsm_inputs, fsm_outputs}
+use Rattle.fsm_machine.specs.Statements as s
 use Rattle.fsm_core.specs.Checked.{IsInput, ReadsInputs, IsBodyOf, ArePartsOf, AreBranchesOf}
 use Rattle.fsm_text.specs.Written.{StatementTree, asserted, assigned, chosen, selected, BodyTree, finish, next, PartsTree, only, either, further, BranchesTree, closed, others, listed, MachineTree}
 use Rattle.fsm_io.specs.Known.{Named, symbols}

@@ -8,11 +8,11 @@ use Rattle.vlsi_base.specs.declared.entity.NewName.{NewName}
 use Rattle.vlsi_base.specs.declared.name.Name.{Name}
 use Rattle.vlsi_base.specs.Member.{In, here, there, AllDifferent}
 use Rattle.bool_expr.specs.Support.{among}
-use Rattle.source_meaning.specs.Drivers.{target_names}
-use Rattle.source_meaning.specs.Formula.{Formula, formulas}
-use Rattle.source_meaning.proofs.Lookups.{itself}
+use Rattle.source_checks.specs.Drivers.{target_names}
+use Rattle.source_checks.specs.Formula.{Formula, formulas}
+use Rattle.source_checks.proofs.Lookups.{itself}
 use Rattle.vlsi_model.proofs.Expressions.{empty_left, empty_right}
-use Rattle.fsm_meaning.specs.Statements as s
+use Rattle.fsm_machine.specs.Statements as s
 use Rattle.fsm_core.specs.Checked.{cases_in, cases_in_parts, cases_in_branches, ListsStates, PartsListStates, BranchesListStates}
 use Rattle.fsm_text.specs.Written.{StatementTree, asserted, assigned, chosen, selected, BodyTree, finish, next, PartsTree, only, either, further, BranchesTree, closed, others, listed, MachineTree}
 use Rattle.fsm_io.specs.Known.{Named, symbols, texts}

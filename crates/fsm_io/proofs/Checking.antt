@@ -15,20 +15,20 @@ use Rattle.vlsi_base.specs.Name.{is_supply}
 use Rattle.vlsi_base.specs.Member.{In, here, there, AllDifferent}
 use Rattle.machine_core.specs.Checked.{AreInOrder, IsNoSupply}
 use Rattle.machine_core.proofs.Values.{In-map}
-use Rattle.machine_meaning.specs.Machine.{names_of, is_input}
-use Rattle.source_meaning.specs.declared.symbol_table.Role.{Role}
-use Rattle.source_meaning.specs.declared.symbol_table.Role.TheVariants as role
-use Rattle.source_meaning.specs.declared.symbol_table.Symbol.{Symbol}
-use Rattle.source_meaning.specs.Symbols.{scalar, symbol_names, names_in, all_names, port_symbols}
-use Rattle.source_meaning.specs.Checks.{first_repeated}
-use Rattle.source_meaning.specs.Elaboration.{port_bits, port_of}
+use Rattle.machine_core.specs.Machine.{names_of, is_input}
+use Rattle.source_checks.specs.declared.symbol_table.Role.{Role}
+use Rattle.source_checks.specs.declared.symbol_table.Role.TheVariants as role
+use Rattle.source_checks.specs.declared.symbol_table.Symbol.{Symbol}
+use Rattle.source_checks.specs.Symbols.{scalar, symbol_names, names_in, all_names, port_symbols}
+use Rattle.source_checks.specs.Checks.{first_repeated}
+use Rattle.source_checks.specs.Elaboration.{port_bits, port_of}
 use Rattle.vlsi_model.proofs.Members.{In-map_back, different_left, different_right, different_Sub}
 use Rattle.vlsi_model.proofs.Bits.{different_bits, text_in}
 use Rattle.vlsi_model.proofs.Sorting.{In-at, different_names}
 use Rattle.vlsi_model.proofs.PortBits.{role_of_dir, IsPortBit, port_is, is_port_bit, ports_sub, In-filter}
 use Rattle.vlsi_model.proofs.Assembly.{In-permutation, All-from_In, supply_not}
-use Rattle.fsm_meaning.specs.Fsm.{Fsm, fsm_outputs}
-use Rattle.fsm_meaning.specs.Assigned.{sure, sets_next, sets_output}
+use Rattle.fsm_machine.specs.Fsm.{Fsm, fsm_outputs}
+use Rattle.fsm_machine.specs.Assigned.{sure, sets_next, sets_output}
 use Rattle.fsm_machine.specs.MachineOf.{up}
 use Rattle.fsm_machine.specs.Sound.{IsSound}
 use Rattle.fsm_core.specs.Checked.{IsCheckedFsm, IsBodyOf, cases_in, ListsStates}
@@ -38,10 +38,10 @@ use Rattle.fsm_io.specs.Looks.{Mention, asserting, assigning, testing, selecting
 use Rattle.fsm_io.specs.Listed.{HasStates}
 use Rattle.fsm_io.specs.Drivers.{is_output}
 use Rattle.fsm_io.specs.Unsupported.{forms_at, clock_forms}
-use Rattle.source_meaning.specs.Unsupported.{port_forms}
+use Rattle.source_checks.specs.Unsupported.{port_forms}
 use Rattle.vlsi_model.proofs.Expressions.{empty_left, empty_right, no_line}
 use Rattle.fsm_io.specs.Elaboration.{IsMachineOf}
-use Rattle.fsm_meaning.specs.Statements.{Statements}
+use Rattle.fsm_machine.specs.Statements.{Statements}
 use Rattle.fsm_io.specs.Pieces.{HasRoles, PassesBehind, body_over}
 use Rattle.fsm_io.proofs.Fine.{EarlyFine, early_fine, late_fine, IsFine, each_fine}
 use Rattle.fsm_io.proofs.Facts.{Facts, facts, condition_reads, fine_assignment}

@@ -12,8 +12,8 @@ use Rattle.grammar_theory.specs.declared.limits.TheConstants.{BITS, DEPTH}
 use Rattle.grammar_theory.specs.Marks.{Item, State, uncounted, run}
 use Rattle.grammar_theory.specs.Grammar.{list}
 use Rattle.vhdl_front.specs.Entity.{Names, led_names, declared_here, own_names, names, generic, next_generic, generic_clause, closed, ending, entity}
-use Rattle.source_meaning.specs.declared.symbol_table.Role.TheVariants as role
-use Rattle.source_meaning.specs.Symbols.{port_symbols, all_names}
+use Rattle.source_checks.specs.declared.symbol_table.Role.TheVariants as role
+use Rattle.source_checks.specs.Symbols.{port_symbols, all_names}
 use Rattle.vbe_text.proofs.Counted.{all_long, named_long, entity_few}
 use Rattle.fsm_text.specs.Written.{MachineTree}
 use Rattle.fsm_text.specs.Fsm.{architecture, machine}

@@ -5,18 +5,18 @@ use Rattle.vlsi_base.specs.Tree.{Tree}
 use Rattle.vlsi_base.specs.declared.name.Name.{Name}
 use Rattle.vlsi_base.specs.declared.name.Dir.TheVariants as dir
 use Rattle.vlsi_base.specs.Member.{In, here, AllDifferent}
-use Rattle.source_meaning.specs.declared.symbol_table.Role.{Role}
-use Rattle.source_meaning.specs.declared.symbol_table.Role.TheVariants as role
-use Rattle.source_meaning.specs.declared.symbol_table.Symbol.{Symbol}
-use Rattle.source_meaning.specs.declared.statement.Target.{Target}
-use Rattle.source_meaning.specs.Symbols.{find, all_names, port_symbols}
-use Rattle.source_meaning.specs.Clock.{clock_lines}
-use Rattle.source_meaning.specs.Drivers.{target_names}
-use Rattle.source_meaning.specs.Formula.{Formula, formulas, formula_names}
-use Rattle.source_meaning.specs.Checks.{first_repeated}
-use Rattle.source_meaning.specs.Elaboration.{port_bits, port_of}
-use Rattle.source_meaning.specs.Unsupported.{port_forms}
-use Rattle.source_meaning.specs.Widths.{width, differ, target_width, target_faults, width_faults, if_not}
+use Rattle.source_checks.specs.declared.symbol_table.Role.{Role}
+use Rattle.source_checks.specs.declared.symbol_table.Role.TheVariants as role
+use Rattle.source_checks.specs.declared.symbol_table.Symbol.{Symbol}
+use Rattle.source_checks.specs.declared.statement.Target.{Target}
+use Rattle.source_checks.specs.Symbols.{find, all_names, port_symbols}
+use Rattle.source_checks.specs.Clock.{clock_lines}
+use Rattle.source_checks.specs.Drivers.{target_names}
+use Rattle.source_checks.specs.Formula.{Formula, formulas, formula_names}
+use Rattle.source_checks.specs.Checks.{first_repeated}
+use Rattle.source_checks.specs.Elaboration.{port_bits, port_of}
+use Rattle.source_checks.specs.Unsupported.{port_forms}
+use Rattle.source_checks.specs.Widths.{width, differ, target_width, target_faults, width_faults, if_not}
 use Rattle.vlsi_model.proofs.Bits.{different_texts, in_found, found_in, bit_all}
 use Rattle.vlsi_model.proofs.Expressions.{AreKnown, known_right, empty_left, empty_right, no_line, IsScalarClock}
 use Rattle.vlsi_model.proofs.FineAssignments.{and_right}

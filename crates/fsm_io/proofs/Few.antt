@@ -19,7 +19,7 @@ use Rattle.fsm_text.specs.declared.file.StateType.{StateType}
 use Rattle.fsm_text.specs.Written.{MachineTree}
 use Rattle.fsm_text.specs.Fsm.{state_names, state_type, architecture, machine}
 use Rattle.fsm_text.specs.Texts.{IsMachine}
-use Rattle.fsm_io.specs.Pieces.{most_numbered}
+use Rattle.fsm_io.specs.Verdict.{most_numbered}
 
 -- ---- tokens and bytes
 

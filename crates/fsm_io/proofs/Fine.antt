@@ -5,10 +5,10 @@ use Rattle.vlsi_base.specs.Member.{In}
 use Rattle.vlsi_base.specs.declared.fault.FaultKind.{FaultKind}
 use Rattle.vlsi_base.specs.declared.fault.FaultKind.TheVariants as kind
 use Rattle.vlsi_base.specs.declared.fault.ReadError.{ReadError}
-use Rattle.source_meaning.specs.declared.symbol_table.Symbol.{Symbol}
-use Rattle.source_meaning.specs.declared.drivers.NameFault.{NameFault}
-use Rattle.source_meaning.specs.Places.{Use, first_unknown}
-use Rattle.source_meaning.specs.Checks.{if_use, if_line, if_name}
+use Rattle.source_checks.specs.declared.symbol_table.Symbol.{Symbol}
+use Rattle.source_checks.specs.declared.drivers.NameFault.{NameFault}
+use Rattle.source_checks.specs.Places.{Use, first_unknown}
+use Rattle.source_checks.specs.Checks.{if_use, if_line, if_name}
 use Rattle.vlsi_model.proofs.Members.{In-cases}
 use Rattle.vlsi_model.proofs.Expressions.{AreKnown, known_uses, known_left, known_right, empty_left, empty_right}
 use Rattle.fsm_text.specs.Written.{MachineTree}

@@ -4,13 +4,13 @@ use Rattle.std.specs.Prelude.{filter, not, min, option_map}
 use Rattle.std.proofs.lemmas.List.{length-map, get_or-map, drop-map}
 use Rattle.vlsi_base.specs.declared.name.Name.{Name}
 use Rattle.vlsi_base.specs.Member.{In, here, there}
-use Rattle.source_meaning.specs.declared.symbol_table.Symbol.{Symbol}
-use Rattle.source_meaning.specs.Symbols.{symbol_names}
-use Rattle.source_meaning.specs.Codes.{name_at, codes_in, least_code, least_with}
-use Rattle.source_meaning.specs.Drivers.{least, fault_at}
-use Rattle.source_meaning.proofs.Names.{least_name}
-use Rattle.source_meaning.proofs.Driving.{coded_range}
-use Rattle.source_meaning.proofs.Least.{together, least_turn}
+use Rattle.source_checks.specs.declared.symbol_table.Symbol.{Symbol}
+use Rattle.source_checks.specs.Symbols.{symbol_names}
+use Rattle.source_checks.specs.Codes.{name_at, codes_in, least_code, least_with}
+use Rattle.source_checks.specs.Drivers.{least, fault_at}
+use Rattle.source_checks.proofs.Names.{least_name}
+use Rattle.source_checks.proofs.Driving.{coded_range}
+use Rattle.source_checks.proofs.Least.{together, least_turn}
 use Rattle.fsm_io.specs.Drivers.{is_output, unassigned_at, first_of, or_else}
 use Rattle.fsm_io.specs.Pieces.{bit_code, bit_named}
 

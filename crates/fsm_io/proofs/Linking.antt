@@ -2,7 +2,7 @@
 use Rattle.std.proofs.Common.{◌≡◌, ◌<◌, List, [], ◌∷◌, ◌++◌, refl, ap}
 use Rattle.bool_expr.specs.View.{view}
 use Rattle.vlsi_base.specs.Member.{In, here, there}
-use Rattle.fsm_meaning.specs.Statements as s
+use Rattle.fsm_machine.specs.Statements as s
 use Rattle.fsm_code.specs.View.{body_view}
 use Rattle.fsm_text.specs.declared.file.Statement.{Statement, size-Statement}
 use Rattle.fsm_text.specs.declared.file.Body.{Body, size-Body}

@@ -7,12 +7,12 @@ use Rattle.std.specs.List.{flat_map}
 use Rattle.std.proofs.lemmas.Bool.{false≢true}
 use Rattle.vlsi_base.specs.declared.name.Name.{Name}
 use Rattle.vlsi_base.specs.Member.{In}
-use Rattle.machine_meaning.specs.Named.{is_same_name}
-use Rattle.source_meaning.specs.declared.symbol_table.Symbol.{Symbol}
-use Rattle.source_meaning.specs.Symbols.{all_names}
-use Rattle.source_meaning.specs.Drivers.{is_among}
-use Rattle.source_meaning.specs.Formula.{place}
-use Rattle.source_meaning.proofs.Names.{is_among-append}
+use Rattle.machine_core.specs.Named.{is_same_name}
+use Rattle.source_checks.specs.declared.symbol_table.Symbol.{Symbol}
+use Rattle.source_checks.specs.Symbols.{all_names}
+use Rattle.source_checks.specs.Drivers.{is_among}
+use Rattle.source_checks.specs.Formula.{place}
+use Rattle.source_checks.proofs.Names.{is_among-append}
 use Rattle.vlsi_model.proofs.Sorting.{same_name_decides}
 use Rattle.vlsi_model.proofs.Numbering.{place_within, place_same}
 use Rattle.fsm_io.specs.declared.mentions.Mention.{Mention as Held}

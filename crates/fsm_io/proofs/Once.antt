@@ -3,12 +3,12 @@ use Rattle.std.proofs.Common.{◌≡◌, ℕ, List, None, Some, inl, inr, arith,
 use Rattle.vlsi_base.specs.declared.pragma.Pragma.{Pragma}
 use Rattle.vlsi_base.specs.declared.fault.ReadError.{ReadError}
 use Rattle.vhdl_lexer.specs.Listing.{tokens_in, refusal_in}
-use Rattle.fsm_meaning.specs.Fsm.{Fsm}
-use Rattle.fsm_meaning.specs.Statements.{Statements}
+use Rattle.fsm_machine.specs.Fsm.{Fsm}
+use Rattle.fsm_machine.specs.Statements.{Statements}
 use Rattle.vlsi_base.specs.declared.name.Name.{Name}
 use Rattle.vlsi_base.specs.declared.name.Port.{Port}
-use Rattle.machine_meaning.specs.Machine.{names_of}
-use Rattle.source_meaning.specs.Elaboration.{port_bits}
+use Rattle.machine_core.specs.Machine.{names_of}
+use Rattle.source_checks.specs.Elaboration.{port_bits}
 use Rattle.vlsi_model.proofs.OneOrder.{one_order}
 use Rattle.fsm_text.specs.Written.{MachineTree}
 use Rattle.fsm_text.proofs.Laws as text

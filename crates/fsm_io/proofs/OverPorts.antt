@@ -12,10 +12,10 @@ use Rattle.vlsi_model.proofs.Members.{In-map_back}
 use Rattle.vlsi_model.proofs.Sorting.{In-at}
 use Rattle.vlsi_model.proofs.Naming.{take_whole}
 use Rattle.source_bits.specs.Formulas.{first_of}
-use Rattle.source_meaning.specs.Formula.{Formula, formula_names, first_bit, numbered, place}
+use Rattle.source_checks.specs.Formula.{Formula, formula_names, first_bit, numbered, place}
 use Rattle.vlsi_model.specs.Numbered.{HasVars, name_at}
 use Rattle.vlsi_model.proofs.Numbering.{place_within, place_at, In_holds, over_below, renumber}
-use Rattle.fsm_meaning.specs.Statements as s
+use Rattle.fsm_machine.specs.Statements as s
 use Rattle.fsm_io.specs.Elaboration.{assign_bits}
 use Rattle.fsm_io.specs.Pieces.{assign_places}
 

@@ -5,16 +5,16 @@ use Rattle.vlsi_base.specs.declared.name.Name.{Name}
 use Rattle.vlsi_base.specs.declared.name.Dir.TheVariants as dir
 use Rattle.vlsi_base.specs.Name.{is_supply}
 use Rattle.vlsi_base.specs.Member.{In}
-use Rattle.source_meaning.specs.declared.symbol_table.Role.{Role}
-use Rattle.source_meaning.specs.declared.symbol_table.Role.TheVariants as role
-use Rattle.source_meaning.specs.declared.symbol_table.Symbol.{Symbol}
-use Rattle.source_meaning.specs.Symbols.{find, names_in, bit_name}
-use Rattle.source_meaning.specs.Formula.{Formula, formulas, formula_names, literal_bits, names_of_found}
-use Rattle.source_meaning.specs.Clock.{clock_lines}
-use Rattle.source_meaning.specs.Elaboration.{port_bits, port_of}
-use Rattle.source_meaning.specs.Places.{reads}
-use Rattle.source_meaning.specs.Widths.{width_faults}
-use Rattle.source_meaning.proofs.Names.{find_text}
+use Rattle.source_checks.specs.declared.symbol_table.Role.{Role}
+use Rattle.source_checks.specs.declared.symbol_table.Role.TheVariants as role
+use Rattle.source_checks.specs.declared.symbol_table.Symbol.{Symbol}
+use Rattle.source_checks.specs.Symbols.{find, names_in, bit_name}
+use Rattle.source_checks.specs.Formula.{Formula, formulas, formula_names, literal_bits, names_of_found}
+use Rattle.source_checks.specs.Clock.{clock_lines}
+use Rattle.source_checks.specs.Elaboration.{port_bits, port_of}
+use Rattle.source_checks.specs.Places.{reads}
+use Rattle.source_checks.specs.Widths.{width_faults}
+use Rattle.source_checks.proofs.Names.{find_text}
 use Rattle.vlsi_model.proofs.Bits.{text_in, found_in}
 use Rattle.vlsi_model.proofs.Formulas.{Each, Each-operator, Each-fixed, Each-opposite, Each-leaf, Holds-leaf, Each-In}
 use Rattle.vlsi_model.proofs.Numbering.{holds_In}

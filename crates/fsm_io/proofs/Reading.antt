@@ -6,12 +6,12 @@ use Rattle.vlsi_base.specs.declared.fault.ReadError.{ReadError}
 use Rattle.vlsi_base.specs.declared.fault.ReadError.TheVariants as errors
 use Rattle.vhdl_token.specs.declared.token.Tokens.{Tokens}
 use Rattle.vhdl_lexer.specs.Listing.{tokens_in, refusal_in}
-use Rattle.fsm_meaning.specs.Fsm.{Fsm}
+use Rattle.fsm_machine.specs.Fsm.{Fsm}
 use Rattle.fsm_text.specs.Written.{MachineTree}
 use Rattle.fsm_text.specs.Texts.{IsMachine, RefusedAs, IsRefusedMachine}
 use Rattle.fsm_io.specs.Checks.{Passes, IsRefusedFor}
 use Rattle.fsm_io.specs.Text.{IsWritten, IsFsm, Refused, unwritten, faulty, IsFsmRefusal}
-use Rattle.fsm_io.specs.Pieces.{IsPassed, IsRefusedOrMemory}
+use Rattle.fsm_io.specs.Verdict.{IsPassed, IsRefusedOrMemory}
 
 pub written : (bytes : List ℕ) (tokens : Tokens) (m : MachineTree) → length bytes ≤ MOST_SOURCE_BYTES → refusal_in bytes ≡ None → tokens ≡ tokens_in bytes → IsMachine tokens m → IsWritten bytes m
 written bytes tokens m few cut is h = record { few = few; cut = cut; machine = subst (λ (t : Tokens). IsMachine t m) is h }

@@ -9,14 +9,14 @@ use Rattle.vlsi_base.specs.Tree.{Tree}
 use Rattle.vlsi_base.specs.Member.{In, here, there}
 use Rattle.machine_core.proofs.Values.{In-left, In-right}
 use Rattle.bool_expr.specs.Support.{among}
-use Rattle.source_meaning.specs.declared.statement.Target.{Target}
-use Rattle.source_meaning.specs.Symbols.{find}
-use Rattle.source_meaning.specs.Drivers.{target_names}
-use Rattle.source_meaning.specs.Formula.{Formula, formulas}
-use Rattle.source_meaning.specs.Places.{Use}
-use Rattle.source_meaning.specs.Widths.{if_not}
+use Rattle.source_checks.specs.declared.statement.Target.{Target}
+use Rattle.source_checks.specs.Symbols.{find}
+use Rattle.source_checks.specs.Drivers.{target_names}
+use Rattle.source_checks.specs.Formula.{Formula, formulas}
+use Rattle.source_checks.specs.Places.{Use}
+use Rattle.source_checks.specs.Widths.{if_not}
 use Rattle.vlsi_model.proofs.Expressions.{empty_left, empty_right}
-use Rattle.fsm_meaning.specs.Statements as s
+use Rattle.fsm_machine.specs.Statements as s
 use Rattle.fsm_machine.specs.Signals.{without}
 use Rattle.fsm_machine.specs.MachineOf.{up}
 use Rattle.fsm_machine.specs.Sound.{AreLeft, IsSound, ArePartsSound, AreBranchesSound}

@@ -4,18 +4,19 @@ use Rattle.std.specs.Prelude.{◌||◌, ◌&&◌, not, ◌==◌, option_map}
 use Rattle.std.proofs.lemmas.Bool.{eqb-true}
 use Rattle.vlsi_base.specs.declared.entity.NewName.{NewName}
 use Rattle.bool_expr.specs.Support.{among}
-use Rattle.source_meaning.proofs.Lookups.{same_of, itself}
-use Rattle.source_meaning.specs.Places.{Use}
+use Rattle.source_checks.proofs.Lookups.{same_of, itself}
+use Rattle.source_checks.specs.Places.{Use}
 use Rattle.fsm_io.specs.Known.{texts, inner_symbols}
 use Rattle.fsm_io.specs.Looks.{use_of}
 use Rattle.fsm_io.specs.Elaboration.{state_number}
 use Rattle.fsm_io.specs.States.{is_one_of, bad_names, bad_at, bad_states, listed_after}
-use Rattle.fsm_io.specs.Pieces.{symbol_texts, first_use, mention_of, most_numbered}
+use Rattle.fsm_io.specs.Pieces.{symbol_texts, first_use, mention_of}
+use Rattle.fsm_io.specs.Verdict.{most_numbered}
 use Rattle.fsm_io.specs.declared.mentions.Mention.{Mention as Held}
-use Rattle.source_meaning.specs.declared.symbol_table.Symbol.{Symbol}
-use Rattle.source_meaning.specs.Known.{position_of}
-use Rattle.source_meaning.proofs.Knowing.{not_behind}
-use Rattle.source_meaning.proofs.Turns.{or_first}
+use Rattle.source_checks.specs.declared.symbol_table.Symbol.{Symbol}
+use Rattle.source_checks.specs.Known.{position_of}
+use Rattle.source_checks.proofs.Knowing.{not_behind}
+use Rattle.source_checks.proofs.Turns.{or_first}
 use Rattle.std.proofs.lemmas.List.{at_drop_more, length-map}
 use Rattle.std.specs.Option.{is_some}
 

@@ -3,12 +3,12 @@ use Rattle.std.proofs.Common.{◌≡◌, ℕ, ◌+◌, ◌<◌, List, [], ◌∷
 use Rattle.std.specs.List.{flat_map}
 use Rattle.std.proofs.lemmas.List.{at_drop_more}
 use Rattle.vlsi_base.specs.declared.entity.NewName.{NewName}
-use Rattle.source_meaning.specs.declared.symbol_table.Symbol.{Symbol}
-use Rattle.source_meaning.specs.Lines.{first_line}
-use Rattle.source_meaning.specs.Places.{Use, first_unknown}
-use Rattle.source_meaning.proofs.Turns.{or_first}
-use Rattle.source_meaning.proofs.FirstLines.{first_line_append}
-use Rattle.source_meaning.proofs.Unknowns.{first_unknown_append}
+use Rattle.source_checks.specs.declared.symbol_table.Symbol.{Symbol}
+use Rattle.source_checks.specs.Lines.{first_line}
+use Rattle.source_checks.specs.Places.{Use, first_unknown}
+use Rattle.source_checks.proofs.Turns.{or_first}
+use Rattle.source_checks.proofs.FirstLines.{first_line_append}
+use Rattle.source_checks.proofs.Unknowns.{first_unknown_append}
 use Rattle.fsm_io.specs.declared.mentions.Mention.{Mention as Held}
 use Rattle.fsm_io.specs.Looks.{Mention, use_of}
 use Rattle.fsm_io.specs.Drivers.{or_else, first_of}

@@ -4,12 +4,12 @@ use Rattle.std.specs.List.{flat_map, All}
 use Rattle.vlsi_base.specs.declared.name.Name.{Name}
 use Rattle.vlsi_base.specs.declared.name.Port.{Port}
 use Rattle.vlsi_base.specs.Member.{In, AllDifferent}
-use Rattle.machine_meaning.specs.Machine.{names_of}
-use Rattle.source_meaning.specs.declared.symbol_table.Symbol.{Symbol}
-use Rattle.source_meaning.specs.Symbols.{all_names}
-use Rattle.source_meaning.specs.Formula.{place}
-use Rattle.source_meaning.specs.Drivers.{is_among}
-use Rattle.source_meaning.specs.Elaboration.{port_bits}
+use Rattle.machine_core.specs.Machine.{names_of}
+use Rattle.source_checks.specs.declared.symbol_table.Symbol.{Symbol}
+use Rattle.source_checks.specs.Symbols.{all_names}
+use Rattle.source_checks.specs.Formula.{place}
+use Rattle.source_checks.specs.Drivers.{is_among}
+use Rattle.source_checks.specs.Elaboration.{port_bits}
 use Rattle.vlsi_model.proofs.Members.{different_Sub}
 use Rattle.vlsi_model.proofs.Bits.{different_texts, different_bits, bit_all, bit_of_symbol}
 use Rattle.vlsi_model.proofs.PortBits.{ports_sub}
@@ -24,16 +24,17 @@ use Rattle.std.proofs.lemmas.List.Sorted.{IsPermutation-sym, IsPermutation-map}
 use Rattle.vlsi_base.specs.Tree.{Tree}
 use Rattle.vlsi_base.specs.declared.name.Dir.TheVariants as dir
 use Rattle.machine_core.proofs.Values.{In-map}
-use Rattle.source_meaning.specs.Drivers.{target_names}
-use Rattle.source_meaning.specs.Formula.{formulas}
-use Rattle.source_meaning.specs.Elaboration.{port_of}
+use Rattle.source_checks.specs.Drivers.{target_names}
+use Rattle.source_checks.specs.Formula.{formulas}
+use Rattle.source_checks.specs.Elaboration.{port_of}
 use Rattle.vlsi_model.specs.Numbered.{HasVars}
 use Rattle.vlsi_model.proofs.Members.{In-Sub}
 use Rattle.vlsi_model.proofs.Sorting.{different_names}
 use Rattle.vlsi_model.proofs.Assembly.{In-permutation, All-from_In}
 use Rattle.fsm_io.specs.declared.bits.Frame.{Frame as HeldFrame}
 use Rattle.fsm_io.specs.Looks.{asserting, assigning, testing, selecting, listing}
-use Rattle.fsm_io.specs.Pieces.{roles_of, early_fault, most_numbered, IsFrame, CanBeRead, BodyFits}
+use Rattle.fsm_io.specs.Pieces.{roles_of, early_fault, IsFrame, CanBeRead, BodyFits}
+use Rattle.fsm_io.specs.Verdict.{most_numbered}
 use Rattle.fsm_io.proofs.Fine.{early_fine, each_fine}
 use Rattle.fsm_io.proofs.Facts.{Facts, facts, ReadsPorts, condition_reads, fine_assignment}
 use Rattle.fsm_io.proofs.Fits.{Fits, fits_body}

@@ -8,14 +8,14 @@ use Rattle.vlsi_base.specs.declared.name.Name.{Name}
 use Rattle.vlsi_base.specs.Member.{In, here, there}
 use Rattle.bool_expr.specs.Expression.{Expression}
 use Rattle.bool_expr.specs.Support.{among}
-use Rattle.source_meaning.specs.declared.symbol_table.Symbol.{Symbol}
-use Rattle.source_meaning.specs.declared.drivers.NameFault.{NameFault}
-use Rattle.source_meaning.specs.Symbols.{symbol_names, scalar}
+use Rattle.source_checks.specs.declared.symbol_table.Symbol.{Symbol}
+use Rattle.source_checks.specs.declared.drivers.NameFault.{NameFault}
+use Rattle.source_checks.specs.Symbols.{symbol_names, scalar}
 use Rattle.std.proofs.lemmas.Bool.{cases_eq}
-use Rattle.source_meaning.specs.Drivers.{least, fault_at, target_names}
-use Rattle.source_meaning.specs.Formula.{Formula, formulas, numbered}
-use Rattle.fsm_meaning.specs.Statements as s
-use Rattle.fsm_meaning.specs.Assigned.{sure, sure_parts, sure_branches, sets_next, sets_output}
+use Rattle.source_checks.specs.Drivers.{least, fault_at, target_names}
+use Rattle.source_checks.specs.Formula.{Formula, formulas, numbered}
+use Rattle.fsm_machine.specs.Statements as s
+use Rattle.fsm_machine.specs.Assigned.{sure, sure_parts, sure_branches, sets_next, sets_output}
 use Rattle.vlsi_model.proofs.FineAssignments.{and_left, and_right}
 use Rattle.vlsi_model.proofs.Members.{In-cases}
 use Rattle.fsm_text.specs.Written.{StatementTree, asserted, assigned, chosen, selected, BodyTree, finish, next, PartsTree, only, either, further, BranchesTree, closed, others, listed, MachineTree}

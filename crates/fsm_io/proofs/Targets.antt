@@ -15,19 +15,19 @@ use Rattle.vlsi_base.specs.Range.{range_bits}
 use Rattle.vlsi_base.specs.Name.{is_supply}
 use Rattle.vlsi_base.specs.Member.{In, here, there}
 use Rattle.machine_core.proofs.Values.{In-left, In-right, In-split}
-use Rattle.source_meaning.specs.declared.symbol_table.Role.{Role}
-use Rattle.source_meaning.specs.declared.symbol_table.Role.TheVariants as role
-use Rattle.source_meaning.specs.declared.symbol_table.Symbol.{Symbol}
-use Rattle.source_meaning.specs.declared.statement.Target.{Target}
-use Rattle.source_meaning.specs.declared.statement.Selection.{Selection}
-use Rattle.source_meaning.specs.declared.statement.Selection.TheVariants as selection
-use Rattle.source_meaning.specs.Symbols.{find, symbol_names, bit_name, symbols_named, port_symbols, role_of_mode}
-use Rattle.source_meaning.specs.Drivers.{target_names}
-use Rattle.source_meaning.specs.Formula.{formulas, names_of_found}
-use Rattle.source_meaning.specs.Places.{reads}
-use Rattle.source_meaning.specs.Unsupported.{is_in_mode, is_bit_word, supply_faults, port_form, port_forms}
-use Rattle.source_meaning.specs.Widths.{width, differ, found_width, target_width, target_faults, width_faults, index_fits, range_fits, if_not}
-use Rattle.source_meaning.proofs.Lookups.{same_of}
+use Rattle.source_checks.specs.declared.symbol_table.Role.{Role}
+use Rattle.source_checks.specs.declared.symbol_table.Role.TheVariants as role
+use Rattle.source_checks.specs.declared.symbol_table.Symbol.{Symbol}
+use Rattle.source_checks.specs.declared.statement.Target.{Target}
+use Rattle.source_checks.specs.declared.statement.Selection.{Selection}
+use Rattle.source_checks.specs.declared.statement.Selection.TheVariants as selection
+use Rattle.source_checks.specs.Symbols.{find, symbol_names, bit_name, symbols_named, port_symbols, role_of_mode}
+use Rattle.source_checks.specs.Drivers.{target_names}
+use Rattle.source_checks.specs.Formula.{formulas, names_of_found}
+use Rattle.source_checks.specs.Places.{reads}
+use Rattle.source_checks.specs.Unsupported.{is_in_mode, is_bit_word, supply_faults, port_form, port_forms}
+use Rattle.source_checks.specs.Widths.{width, differ, found_width, target_width, target_faults, width_faults, index_fits, range_fits, if_not}
+use Rattle.source_checks.proofs.Lookups.{same_of}
 use Rattle.vlsi_model.proofs.Bits.{IsBit}
 use Rattle.vlsi_model.proofs.Expressions.{AreKnown, empty_left, empty_right, no_line, length-names_in, range_range, width_is}
 use Rattle.vlsi_model.proofs.FineAssignments.{whole_bit, index_bit, range_bit, and_left, and_right}

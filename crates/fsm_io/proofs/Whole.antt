@@ -4,25 +4,26 @@ use Rattle.vlsi_base.specs.declared.pragma.Pragma.{Pragma}
 use Rattle.vlsi_base.specs.declared.fault.FaultKind.TheVariants as kind
 use Rattle.vlsi_base.specs.declared.fault.ReadError.{ReadError}
 use Rattle.vlsi_base.specs.declared.fault.ReadError.TheVariants as errors
-use Rattle.source_meaning.specs.declared.symbol_table.Symbol.{Symbol}
-use Rattle.source_meaning.specs.Symbols.{scalar}
-use Rattle.source_meaning.specs.Checks.{fault, if_symbol, first_repeated}
+use Rattle.source_checks.specs.declared.symbol_table.Symbol.{Symbol}
+use Rattle.source_checks.specs.Symbols.{scalar}
+use Rattle.source_checks.specs.Checks.{fault, if_symbol, first_repeated}
 use Rattle.vhdl_lexer.specs.Listing.{tokens_in}
-use Rattle.fsm_meaning.specs.Fsm.{Fsm}
+use Rattle.fsm_machine.specs.Fsm.{Fsm}
 use Rattle.fsm_text.specs.Written.{MachineTree}
 use Rattle.fsm_io.specs.Known.{Named, symbols, named, named_in, fits_all}
 use Rattle.fsm_io.specs.Checks.{first_fault, fault_of, fault_behind, PassesLimit, IsRefusedFor}
 use Rattle.fsm_io.specs.Elaboration.{IsMachineOf}
 use Rattle.fsm_io.specs.Laws.{FsmIsChecked}
-use Rattle.fsm_io.specs.Pieces.{HasRoles, PassesBehind, IsPassed, IsRefusedBehind, IsRefusedOrMemory}
+use Rattle.fsm_io.specs.Pieces.{HasRoles, PassesBehind, IsRefusedBehind}
+use Rattle.fsm_io.specs.Verdict.{IsPassed, IsRefusedOrMemory}
 use Rattle.std.specs.List.Sorted.{IsPermutation}
 use Rattle.std.proofs.lemmas.List.Sorted.{length_permutation}
 use Rattle.vlsi_base.specs.declared.name.Port.{Port}
-use Rattle.machine_meaning.specs.Machine.{names_of}
-use Rattle.source_meaning.specs.declared.drivers.NameFault.{NameFault}
-use Rattle.source_meaning.specs.Checks.{if_name}
-use Rattle.source_meaning.specs.Elaboration.{port_bits}
-use Rattle.fsm_meaning.specs.Statements.{Statements}
+use Rattle.machine_core.specs.Machine.{names_of}
+use Rattle.source_checks.specs.declared.drivers.NameFault.{NameFault}
+use Rattle.source_checks.specs.Checks.{if_name}
+use Rattle.source_checks.specs.Elaboration.{port_bits}
+use Rattle.fsm_machine.specs.Statements.{Statements}
 use Rattle.fsm_io.specs.Drivers.{or_else}
 use Rattle.fsm_io.specs.Assigned.{left_out, left_out_of}
 use Rattle.fsm_io.specs.Checks.{ports_count}

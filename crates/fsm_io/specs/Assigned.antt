@@ -3,11 +3,11 @@ use Rattle.std.specs.Prelude.{ℕ, Bool, [], length, Option, None, Some, if◌th
 use Rattle.std.specs.List.{list_all}
 use Rattle.vlsi_base.specs.Range.{rising}
 use Rattle.vlsi_base.specs.declared.name.Name.{Name}
-use Rattle.source_meaning.specs.declared.symbol_table.Symbol.{Symbol}
-use Rattle.source_meaning.specs.declared.drivers.NameFault.{NameFault}
-use Rattle.source_meaning.specs.Symbols.{scalar}
-use Rattle.fsm_meaning.specs.Statements.{Assignment, Statements}
-use Rattle.fsm_meaning.specs.Assigned.{sure, sets_next, sets_output}
+use Rattle.source_checks.specs.declared.symbol_table.Symbol.{Symbol}
+use Rattle.source_checks.specs.declared.drivers.NameFault.{NameFault}
+use Rattle.source_checks.specs.Symbols.{scalar}
+use Rattle.fsm_machine.specs.Statements.{Assignment, Statements}
+use Rattle.fsm_machine.specs.Assigned.{sure, sets_next, sets_output}
 use Rattle.fsm_text.specs.Written.{MachineTree}
 use Rattle.fsm_io.specs.Known.{Named, symbols}
 use Rattle.fsm_io.specs.Drivers.{unassigned_at, first_of, or_else}

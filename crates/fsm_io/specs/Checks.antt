@@ -5,10 +5,10 @@ use Rattle.vlsi_base.specs.declared.fault.FaultKind.TheVariants as kind
 use Rattle.vlsi_base.specs.declared.fault.LimitKind.TheVariants as limit
 use Rattle.vlsi_base.specs.declared.fault.ReadError.{ReadError}
 use Rattle.vlsi_base.specs.declared.fault.ReadError.TheVariants as errors
-use Rattle.source_meaning.specs.Symbols.{scalar}
-use Rattle.source_meaning.specs.Places.{Use, first_unknown}
-use Rattle.source_meaning.specs.Elaboration.{port_bits}
-use Rattle.source_meaning.specs.Checks.{most_ports, fault, if_use, if_line, if_name, if_symbol, first_repeated}
+use Rattle.source_checks.specs.Symbols.{scalar}
+use Rattle.source_checks.specs.Places.{Use, first_unknown}
+use Rattle.source_checks.specs.Elaboration.{port_bits}
+use Rattle.source_checks.specs.Checks.{most_ports, fault, if_use, if_line, if_name, if_symbol, first_repeated}
 use Rattle.fsm_text.specs.Written.{MachineTree}
 use Rattle.fsm_io.specs.Known.{Named, symbols, named}
 use Rattle.fsm_io.specs.Looks.{all_uses}

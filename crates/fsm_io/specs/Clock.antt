@@ -1,9 +1,9 @@
 -- Where the clock stands that it mustn't, in file order: the lines of the tokens at fault.
 use Rattle.std.specs.Prelude.{ℕ, Bool, true, false, ◌&&◌, bytes_eq, List, [], ◌∷◌, ◌++◌, Some, if◌then◌else◌}
 use Rattle.vlsi_base.specs.Tree.{Tree}
-use Rattle.source_meaning.specs.declared.symbol_table.Symbol.{Symbol}
-use Rattle.source_meaning.specs.Clock.{clock_of, clock_lines, conditions_among, parts_of, is_same_clock}
-use Rattle.source_meaning.specs.Widths.{if_not}
+use Rattle.source_checks.specs.declared.symbol_table.Symbol.{Symbol}
+use Rattle.source_checks.specs.Clock.{clock_of, clock_lines, conditions_among, parts_of, is_same_clock}
+use Rattle.source_checks.specs.Widths.{if_not}
 use Rattle.fsm_text.specs.Written.{MachineTree}
 use Rattle.fsm_io.specs.Known.{Named, symbols}
 use Rattle.fsm_io.specs.Looks.{Mention, asserting, assigning, testing, selecting, listing, found}

@@ -1,12 +1,12 @@
 -- Outputs that nothing assigns.
 use Rattle.std.specs.Prelude.{Bool, true, false, not, List, [], ◌∷◌, filter, Option, None, Some, if◌then◌else◌}
 use Rattle.vlsi_base.specs.declared.name.Name.{Name}
-use Rattle.source_meaning.specs.declared.symbol_table.Role.{Role}
-use Rattle.source_meaning.specs.declared.symbol_table.Role.TheVariants as role
-use Rattle.source_meaning.specs.declared.symbol_table.Symbol.{Symbol}
-use Rattle.source_meaning.specs.declared.drivers.NameFault.{NameFault}
-use Rattle.source_meaning.specs.Drivers.{is_among, target_names, least, fault_at}
-use Rattle.source_meaning.specs.Symbols.{symbol_names}
+use Rattle.source_checks.specs.declared.symbol_table.Role.{Role}
+use Rattle.source_checks.specs.declared.symbol_table.Role.TheVariants as role
+use Rattle.source_checks.specs.declared.symbol_table.Symbol.{Symbol}
+use Rattle.source_checks.specs.declared.drivers.NameFault.{NameFault}
+use Rattle.source_checks.specs.Drivers.{is_among, target_names, least, fault_at}
+use Rattle.source_checks.specs.Symbols.{symbol_names}
 use Rattle.fsm_text.specs.Written.{MachineTree}
 use Rattle.fsm_io.specs.Known.{symbols}
 use Rattle.fsm_io.specs.Looks.{Mention, asserting, assigning, testing, selecting, listing, found}

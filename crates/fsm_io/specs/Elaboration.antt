@@ -4,17 +4,17 @@ use Rattle.vlsi_base.specs.declared.name.Name.{Name}
 use Rattle.vlsi_base.specs.declared.entity.NewName.{NewName}
 use Rattle.vlsi_base.specs.Tree.{Tree}
 use Rattle.bool_expr.specs.Expression.{Expression}
-use Rattle.machine_meaning.specs.Machine.{names_of}
+use Rattle.machine_core.specs.Machine.{names_of}
 use Rattle.machine_core.specs.Checked.{AreInOrder}
-use Rattle.source_meaning.specs.declared.symbol_table.Symbol.{Symbol}
-use Rattle.source_meaning.specs.Symbols.{scalar}
-use Rattle.source_meaning.specs.declared.statement.Target.{Target}
-use Rattle.source_meaning.specs.Formula.{Formula, formulas, first_bit, numbered}
-use Rattle.source_meaning.specs.Drivers.{target_names}
-use Rattle.source_meaning.specs.Elaboration.{port_bits}
-use Rattle.source_meaning.specs.Places.{Use}
-use Rattle.fsm_meaning.specs.Statements as s
-use Rattle.fsm_meaning.specs.Fsm.{Fsm}
+use Rattle.source_checks.specs.declared.symbol_table.Symbol.{Symbol}
+use Rattle.source_checks.specs.Symbols.{scalar}
+use Rattle.source_checks.specs.declared.statement.Target.{Target}
+use Rattle.source_checks.specs.Formula.{Formula, formulas, first_bit, numbered}
+use Rattle.source_checks.specs.Drivers.{target_names}
+use Rattle.source_checks.specs.Elaboration.{port_bits}
+use Rattle.source_checks.specs.Places.{Use}
+use Rattle.fsm_machine.specs.Statements as s
+use Rattle.fsm_machine.specs.Fsm.{Fsm}
 use Rattle.fsm_text.specs.Written.{StatementTree, asserted, assigned, chosen, selected, BodyTree, finish, next, PartsTree, only, either, further, BranchesTree, closed, others, listed, MachineTree}
 use Rattle.fsm_io.specs.Known.{Named, symbols, texts}
 use Rattle.fsm_io.specs.Looks.{plain_use}

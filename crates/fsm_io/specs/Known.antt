@@ -6,10 +6,10 @@ use Rattle.vlsi_base.specs.declared.entity.Generic.{Generic}
 use Rattle.vlsi_base.specs.declared.entity.PortGroup.{PortGroup}
 use Rattle.vlsi_base.specs.declared.pragma.Pragma.{Pragma}
 use Rattle.vlsi_base.specs.Name.{is_supply}
-use Rattle.source_meaning.specs.declared.symbol_table.Role.TheVariants as role
-use Rattle.source_meaning.specs.declared.symbol_table.Symbol.{Symbol}
-use Rattle.source_meaning.specs.Symbols.{port_symbols, symbols_named}
-use Rattle.source_meaning.specs.Unsupported.{is_in_mode, is_bit_word}
+use Rattle.source_checks.specs.declared.symbol_table.Role.TheVariants as role
+use Rattle.source_checks.specs.declared.symbol_table.Symbol.{Symbol}
+use Rattle.source_checks.specs.Symbols.{port_symbols, symbols_named}
+use Rattle.source_checks.specs.Unsupported.{is_in_mode, is_bit_word}
 use Rattle.fsm_text.specs.Written.{MachineTree}
 use Rattle.fsm_text.specs.Chains.{named_by}
 

@@ -1,7 +1,7 @@
 -- What follows from the definitions of a text and of its refusals.
 use Rattle.std.specs.Prelude.{◌≡◌, ℕ, List}
 use Rattle.vlsi_base.specs.declared.fault.ReadError.{ReadError}
-use Rattle.fsm_meaning.specs.Fsm.{Fsm}
+use Rattle.fsm_machine.specs.Fsm.{Fsm}
 use Rattle.fsm_io.specs.Text.{IsFsm, Refused}
 use Rattle.fsm_core.specs.Checked.{IsCheckedFsm}
 

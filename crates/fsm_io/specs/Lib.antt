@@ -11,6 +11,7 @@ pub mod Elaboration
 pub mod Assigned
 pub mod Checks
 pub mod Text
+pub mod Verdict
 pub mod Pieces
 pub mod Linked
 pub mod Laws

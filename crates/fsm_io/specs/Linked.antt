@@ -2,7 +2,7 @@
 use Rattle.std.specs.Prelude.{◌<◌, List, [], ◌∷◌}
 use Rattle.vlsi_base.specs.Member.{In}
 use Rattle.bool_expr.specs.View.{view}
-use Rattle.fsm_meaning.specs.Statements.{Statements, Parts, further, Branches, listed}
+use Rattle.fsm_machine.specs.Statements.{Statements, Parts, further, Branches, listed}
 use Rattle.fsm_code.specs.View.{body_view}
 use Rattle.fsm_text.specs.declared.file.Statement.{Statement, size-Statement}
 use Rattle.fsm_text.specs.declared.file.Body.{Body, size-Body}

@@ -9,18 +9,18 @@ use Rattle.vlsi_base.specs.declared.fault.FaultKind.TheVariants as kind
 use Rattle.vlsi_base.specs.declared.fault.ReadError.{ReadError}
 use Rattle.vlsi_base.specs.declared.fault.ReadError.TheVariants as errors
 use Rattle.vlsi_base.specs.Member.{In, AllDifferent}
-use Rattle.source_meaning.specs.declared.symbol_table.Symbol.{Symbol}
-use Rattle.source_meaning.specs.declared.statement.Target.{Target}
-use Rattle.source_meaning.specs.Symbols.{find, all_names}
-use Rattle.source_meaning.specs.Drivers.{is_among, target_names}
-use Rattle.source_meaning.specs.Formula.{place, formulas, Formula, formula_names}
-use Rattle.source_meaning.specs.Checks.{fault, most_ports, if_use, if_line, if_name, first_repeated}
-use Rattle.source_meaning.specs.Places.{Use, first_unknown}
+use Rattle.source_checks.specs.declared.symbol_table.Symbol.{Symbol}
+use Rattle.source_checks.specs.declared.statement.Target.{Target}
+use Rattle.source_checks.specs.Symbols.{find, all_names}
+use Rattle.source_checks.specs.Drivers.{is_among, target_names}
+use Rattle.source_checks.specs.Formula.{place, formulas, Formula, formula_names}
+use Rattle.source_checks.specs.Checks.{fault, most_ports, if_use, if_line, if_name, first_repeated}
+use Rattle.source_checks.specs.Places.{Use, first_unknown}
 use Rattle.bool_expr.specs.Expression.{Expression}
-use Rattle.fsm_meaning.specs.Fsm.{Fsm}
-use Rattle.fsm_meaning.specs.Statements.{Assignment, output, Statements, assign}
-use Rattle.fsm_meaning.specs.Assigned.{sets_next, sets_output}
-use Rattle.machine_meaning.specs.Machine.{names_of}
+use Rattle.fsm_machine.specs.Fsm.{Fsm}
+use Rattle.fsm_machine.specs.Statements.{Assignment, output, Statements, assign}
+use Rattle.fsm_machine.specs.Assigned.{sets_next, sets_output}
+use Rattle.machine_core.specs.Machine.{names_of}
 use Rattle.vlsi_model.specs.Numbered.{HasVars, name_at}
 use Rattle.fsm_text.specs.Written.{StatementTree, asserted, assigned, chosen, selected, BodyTree, finish, next, PartsTree, only, either, further, BranchesTree, closed, others, listed, MachineTree, machine_view}
 use Rattle.fsm_text.specs.Short.{HasShortExpressions}
@@ -42,7 +42,8 @@ use Rattle.fsm_io.specs.Unsupported.{may_read, read_forms, all_forms}
 use Rattle.fsm_io.specs.Clock.{all_clock_reads}
 use Rattle.fsm_io.specs.States.{all_bad_states}
 use Rattle.fsm_io.specs.Elaboration.{Frame, body_bits, frame_of, IsMachineOf}
-use Rattle.fsm_io.specs.Checks.{if_state, most_states, fault_behind, ports_count, PassesLimit, IsRefusedFor, Passes}
+use Rattle.fsm_io.specs.Checks.{if_state, most_states, fault_behind, ports_count, PassesLimit}
+use Rattle.fsm_io.specs.Verdict.{most_numbered}
 
 -- what stands there, wherever it lies in memory
 abbrev pub mention_of : Held → Mention
@@ -115,10 +116,6 @@ is_steady (may.Only name) = true
 -- what reads are at fault where these names may be read
 abbrev pub readable_forms : Readable → Tree → List ℕ
 readable_forms r = read_forms (may_be_read r) (is_steady r)
-
--- as many as 32 bits can number
-abbrev pub most_numbered : ℕ
-most_numbered = 4294967295
 
 -- ---- statements over port bits
 
@@ -226,18 +223,6 @@ pub record PassesBehind (m : MachineTree) (n : Named) : Type 0 where
 -- no check behind that of the pragmas fails, and the text is this state machine
 abbrev pub IsMadeBehind : MachineTree → Named → Fsm → Type 0
 IsMadeBehind m n f = PassesBehind m n × IsMachineOf m n f
-
--- the text passes all checks, and is this state machine
-pub record IsPassed (m : MachineTree) (pragmas : List Pragma) (f : Fsm) : Type 0 where
-  pub names : Named
-  pub passes : Passes m pragmas names
-  pub machine : IsMachineOf m names f
-
--- why a text is none, or memory has run out
-abbrev pub IsRefusedOrMemory : MachineTree → List Pragma → ReadError → Type 0
-IsRefusedOrMemory m pragmas errors.Memory = Unit {0}
-IsRefusedOrMemory m pragmas (errors.Input f) = IsRefusedFor m pragmas (errors.Input f)
-IsRefusedOrMemory m pragmas (errors.Limit l) = IsRefusedFor m pragmas (errors.Limit l)
 
 -- why a text whose pragmas name these is none
 abbrev pub IsFaultBehind : MachineTree → Named → ReadError → Type 0

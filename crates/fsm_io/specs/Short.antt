@@ -1,5 +1,5 @@
 -- What stands in statements has few operators.
-use Rattle.source_meaning.specs.Operators.{IsShort}
+use Rattle.source_checks.specs.Operators.{IsShort}
 use Rattle.fsm_io.specs.Looks.{Mention, asserting, assigning, testing, selecting, listing}
 
 -- the expression that stands there, if any, is short

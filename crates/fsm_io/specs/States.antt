@@ -3,7 +3,7 @@ use Rattle.std.specs.Prelude.{ℕ, Bool, not, ◌&&◌, bytes_eq, List, [], ◌�
 use Rattle.std.specs.List.{list_any}
 use Rattle.vlsi_base.specs.Tree.{Tree}
 use Rattle.vlsi_base.specs.declared.entity.NewName.{NewName}
-use Rattle.source_meaning.specs.Places.{Use}
+use Rattle.source_checks.specs.Places.{Use}
 use Rattle.fsm_text.specs.Written.{MachineTree}
 use Rattle.fsm_io.specs.Known.{Named, texts}
 use Rattle.fsm_io.specs.Looks.{Mention, asserting, assigning, testing, selecting, listing, all_mentions, use_of, plain_use}

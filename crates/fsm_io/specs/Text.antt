@@ -5,7 +5,7 @@ use Rattle.vlsi_base.specs.declared.fault.LimitKind.TheVariants as kind
 use Rattle.vlsi_base.specs.declared.fault.ReadError.{ReadError}
 use Rattle.vlsi_base.specs.declared.fault.ReadError.TheVariants as errors
 use Rattle.vhdl_lexer.specs.Listing.{tokens_in, refusal_in}
-use Rattle.fsm_meaning.specs.Fsm.{Fsm}
+use Rattle.fsm_machine.specs.Fsm.{Fsm}
 use Rattle.fsm_text.specs.Written.{MachineTree}
 use Rattle.fsm_text.specs.Texts.{IsMachine, RefusedAs}
 use Rattle.fsm_io.specs.Known.{Named}

@@ -1,12 +1,12 @@
 -- Forms that are left out of state machines, in file order: the lines of the tokens at fault.
 use Rattle.std.specs.Prelude.{ℕ, Bool, true, false, not, ◌||◌, bytes_eq, List, [], ◌∷◌, ◌++◌, Option, None, Some, if◌then◌else◌}
 use Rattle.vlsi_base.specs.Tree.{Tree, bit, literal, name, index, slice, stable, inverse, binary}
-use Rattle.source_meaning.specs.declared.symbol_table.Role.{Role}
-use Rattle.source_meaning.specs.declared.symbol_table.Role.TheVariants as role
-use Rattle.source_meaning.specs.declared.symbol_table.Symbol.{Symbol}
-use Rattle.source_meaning.specs.Symbols.{find}
-use Rattle.source_meaning.specs.Widths.{if_not}
-use Rattle.source_meaning.specs.Unsupported.{literal_faults, supply_faults, port_forms}
+use Rattle.source_checks.specs.declared.symbol_table.Role.{Role}
+use Rattle.source_checks.specs.declared.symbol_table.Role.TheVariants as role
+use Rattle.source_checks.specs.declared.symbol_table.Symbol.{Symbol}
+use Rattle.source_checks.specs.Symbols.{find}
+use Rattle.source_checks.specs.Widths.{if_not}
+use Rattle.source_checks.specs.Unsupported.{literal_faults, supply_faults, port_forms}
 use Rattle.fsm_text.specs.declared.file.FirstToken.{FirstToken}
 use Rattle.fsm_text.specs.Written.{MachineTree, ClockTree}
 use Rattle.fsm_io.specs.Known.{Named, symbols}

@@ -2,10 +2,10 @@
 -- them have one bit.
 use Rattle.std.specs.Prelude.{ℕ, Bool, not, bytes_eq, List, [], ◌++◌, Option, Some, if◌then◌else◌}
 use Rattle.vlsi_base.specs.Tree.{Tree}
-use Rattle.source_meaning.specs.declared.statement.Target.{Target}
-use Rattle.source_meaning.specs.declared.symbol_table.Symbol.{Symbol}
-use Rattle.source_meaning.specs.Symbols.{find}
-use Rattle.source_meaning.specs.Widths.{width, differ, found_width, target_width, target_faults, width_faults, condition_faults, if_not, port_faults}
+use Rattle.source_checks.specs.declared.statement.Target.{Target}
+use Rattle.source_checks.specs.declared.symbol_table.Symbol.{Symbol}
+use Rattle.source_checks.specs.Symbols.{find}
+use Rattle.source_checks.specs.Widths.{width, differ, found_width, target_width, target_faults, width_faults, condition_faults, if_not, port_faults}
 use Rattle.fsm_text.specs.Written.{MachineTree, ClockTree}
 use Rattle.fsm_io.specs.Known.{Named, symbols}
 use Rattle.fsm_io.specs.Looks.{Mention, asserting, assigning, testing, selecting, listing, found}

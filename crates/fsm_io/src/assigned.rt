@@ -2,13 +2,14 @@
 ghost use Rattle.std.specs.Prelude.{◌≡◌, ◌≤◌, filter, map, not, length, IfOk};
 ghost use Rattle.std.specs.Option.{option_map};
 ghost use Rattle.bool_expr.specs.Support.{among};
-ghost use Rattle.source_meaning.specs.Codes.{name_at, least_code};
-ghost use Rattle.fsm_meaning.specs.Assigned.{sure, sure_parts, sure_branches, sets_output};
+ghost use Rattle.source_checks.specs.Codes.{name_at, least_code};
+ghost use Rattle.fsm_machine.specs.Assigned.{sure, sure_parts, sure_branches, sets_output};
 ghost use Rattle.fsm_code.specs.View.{assignment_view, body_view, parts_view, branches_view};
 ghost use Rattle.fsm_text.specs.Written.{machine_view};
 ghost use Rattle.fsm_io.specs.Known.{symbols};
 ghost use Rattle.fsm_io.specs.Assigned.{always, left_out_at, left_out_of};
-ghost use Rattle.fsm_io.specs.Pieces.{sets_of, named_of, bit_code, most_numbered};
+ghost use Rattle.fsm_io.specs.Pieces.{sets_of, named_of, bit_code};
+ghost use Rattle.fsm_io.specs.Verdict.{most_numbered};
 ghost use Rattle.fsm_io.specs.Drivers.{first_of};
 
 use crate::codes::{bits_in, least_with, name_with};
@@ -16,7 +17,7 @@ use crate::drivers::is_output;
 use crate::known::Roles;
 use fsm_code::{Assignment, Branches, Parts, Statements};
 use fsm_text::StateFile;
-use source_meaning::{NameFault, Symbol, SymbolTable};
+use source_checks::{NameFault, Symbol, SymbolTable};
 use std::alloc::{AllocError, Global};
 use vlsi_base::{Name, Text};
 

@@ -2,10 +2,10 @@
 ghost use Rattle.std.specs.Prelude.{◌≡◌, ◌∷◌, map, IfOk};
 ghost use Rattle.bool_expr.specs.View.{view};
 ghost use Rattle.vlsi_base.specs.Tree.{view as tree};
-ghost use Rattle.source_meaning.specs.Formula.{numbered, formulas};
-ghost use Rattle.source_meaning.specs.Drivers.{target_names};
+ghost use Rattle.source_checks.specs.Formula.{numbered, formulas};
+ghost use Rattle.source_checks.specs.Drivers.{target_names};
 ghost use Rattle.source_bits.specs.Formulas.{first_of};
-ghost use Rattle.fsm_meaning.specs.Statements.{assign, output};
+ghost use Rattle.fsm_machine.specs.Statements.{assign, output};
 ghost use Rattle.fsm_code.specs.View as code;
 ghost use Rattle.fsm_text.specs.Written.{statement_view, body_view, parts_view, branches_view};
 ghost use Rattle.fsm_io.specs.Elaboration.{condition_of, assign_bits, assignment_bits, body_bits, statement_bits, parts_bits, branches_bits, state_number, next_number};
@@ -21,7 +21,7 @@ use bool_expr::{Expr, renumbered};
 use fsm_code::{Assignment, Branches as BitBranches, Parts as BitParts, Statements};
 use fsm_text::{Body, Branches, Parts, Statement};
 use source_bits::{Numbers, bits, target_places};
-use source_meaning::{SymbolTable, Target};
+use source_checks::{SymbolTable, Target};
 use std::alloc::{AllocError, Global};
 use vlsi_base::{Name, NewName, ParsedExpr, Text};
 

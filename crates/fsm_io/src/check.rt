@@ -2,11 +2,11 @@
 ghost use Rattle.std.specs.Prelude.{◌≡◌, ◌<◌, ◌≤◌, ◌^◌, [], map, length, None, IfOk, IfErr, MatchOption};
 ghost use Rattle.std.specs.List.Sorted.{IsPermutation};
 ghost use Rattle.machine_core.specs.Checked.{AreInOrder};
-ghost use Rattle.machine_meaning.specs.Machine.{names_of};
-ghost use Rattle.source_meaning.specs.Checks.{if_use, if_line, if_name, most_ports, first_repeated};
-ghost use Rattle.source_meaning.specs.Places.{first_unknown};
-ghost use Rattle.source_meaning.specs.Elaboration.{port_bits};
-ghost use Rattle.source_meaning.specs.Symbols.{scalar, all_names};
+ghost use Rattle.machine_core.specs.Machine.{names_of};
+ghost use Rattle.source_checks.specs.Checks.{if_use, if_line, if_name, most_ports, first_repeated};
+ghost use Rattle.source_checks.specs.Places.{first_unknown};
+ghost use Rattle.source_checks.specs.Elaboration.{port_bits};
+ghost use Rattle.source_checks.specs.Symbols.{scalar, all_names};
 ghost use Rattle.fsm_code.specs.View.{body_view};
 ghost use Rattle.fsm_text.specs.Written.{machine_view};
 ghost use Rattle.fsm_text.specs.Short.{HasShortExpressions};
@@ -21,7 +21,8 @@ ghost use Rattle.fsm_io.specs.States.{all_bad_states};
 ghost use Rattle.fsm_io.specs.Assigned.{left_out_of};
 ghost use Rattle.fsm_io.specs.Checks.{most_states, ports_count, PassesLimit, if_state};
 ghost use Rattle.fsm_io.specs.Elaboration.{IsMachineOf};
-ghost use Rattle.fsm_io.specs.Pieces.{named_of, tree_of, roles_of, HasRoles, Suits, names_fault, forms_fault, states_fault, early_fault, body_over, PassesBehind, IsMadeBehind, IsPassed, IsRefusedOrMemory, IsRefusedBehind, most_numbered};
+ghost use Rattle.fsm_io.specs.Pieces.{named_of, tree_of, roles_of, HasRoles, Suits, names_fault, forms_fault, states_fault, early_fault, body_over, PassesBehind, IsMadeBehind, IsRefusedBehind};
+ghost use Rattle.fsm_io.specs.Verdict.{IsPassed, IsRefusedOrMemory, most_numbered};
 
 use crate::assigned::left_out;
 use crate::bits::Frame;
@@ -37,7 +38,7 @@ use fsm_code::Statements;
 use fsm_core::StateMachine;
 use fsm_text::StateFile;
 use source_bits::Numbers;
-use source_meaning::{SymbolTable, repeated};
+use source_checks::{SymbolTable, repeated};
 use std::alloc::{AllocError, Global};
 use vlsi_base::{
     FaultKind, Limit, LimitKind, Name, Names, NewName, Port, Ports, Pragma, ReadError,
@@ -369,10 +370,11 @@ fn check_named(
     checking.checked()
 }
 
-/// The state machine that a text is, or why it is none: the first check that fails, in this order: a pragma that is missing or
-/// names nothing that fits, an unknown name, a width, an output that nothing assigns, a form that is left out, the clock, a name
-/// that is no state, a target that some state leaves out; then more than 4096 port bits, or more than 256 states. Takes memory for
-/// each declared bit, and for each bit that is assigned.
+/// The state machine that a text is, or why it is none: the first check that fails, in this order: a name that is declared twice, a
+/// pragma that is missing or names nothing that fits, an unknown name, a width, an output that nothing assigns, a form that is left
+/// out, the clock, a name that is no state, a target that some state leaves out; then more than 4096 port bits, or more than 256
+/// states. Each text that `read_machine` of `fsm_text` reads meets what is asked of it. Takes memory for each declared bit, and for
+/// each bit that is assigned.
 pub fn check_fsm(
     alloc: Global,
     file: &StateFile,

@@ -2,7 +2,7 @@
 ghost use Rattle.std.specs.Prelude.{◌≡◌, map, IfOk};
 ghost use Rattle.std.specs.List.{flat_map};
 ghost use Rattle.vlsi_base.specs.Tree.{view};
-ghost use Rattle.source_meaning.specs.Lines.{first_line};
+ghost use Rattle.source_checks.specs.Lines.{first_line};
 ghost use Rattle.fsm_text.specs.Written.{machine_view};
 ghost use Rattle.fsm_io.specs.Known.{symbols};
 ghost use Rattle.fsm_io.specs.Looks.{all_mentions};
@@ -12,8 +12,8 @@ ghost use Rattle.fsm_io.specs.Pieces.{mention_of, named_of};
 use crate::known::{Roles, same};
 use crate::mentions::Mention;
 use fsm_text::StateFile;
+use source_checks::SymbolTable;
 use source_clock::{clock_line, clock_of, conditions};
-use source_meaning::SymbolTable;
 use std::alloc::{AllocError, Global};
 use vlsi_base::{ParsedExpr, Text};
 
@@ -66,7 +66,7 @@ fn fault_in_mentions(roles: Roles, mentions: &[Mention]) -> Option<u32>
 }
 
 /// The first line at fault.
-#[tactic(auto, using(source_meaning::proofs::FirstLines::first_line_append))]
+#[tactic(auto, using(source_checks::proofs::FirstLines::first_line_append))]
 pub fn clock_fault(
     alloc: Global,
     table: &SymbolTable,

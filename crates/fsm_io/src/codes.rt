@@ -2,7 +2,7 @@
 ghost use Rattle.std.specs.Prelude.{◌≡◌, ◌+◌, map, min, Some, IfOk, if◌then◌else◌};
 ghost use Rattle.std.specs.Option.{option_map};
 ghost use Rattle.vlsi_base.specs.Range.{range_bits};
-ghost use Rattle.source_meaning.specs.Codes.{codes_in, least_with};
+ghost use Rattle.source_checks.specs.Codes.{codes_in, least_with};
 ghost use Rattle.fsm_io.specs.Pieces.{bit_code, bit_named};
 
 use std::alloc::{AllocError, Global};

@@ -3,8 +3,8 @@ ghost use Rattle.std.specs.Prelude.{◌≡◌, map, filter, not, IfOk, OnOk};
 ghost use Rattle.std.specs.List.{flat_map};
 ghost use Rattle.std.specs.Option.{option_map};
 ghost use Rattle.machine_core.specs.Order.{AllDifferent};
-ghost use Rattle.source_meaning.specs.Codes.{name_at, least_code};
-ghost use Rattle.source_meaning.specs.Drivers.{target_names};
+ghost use Rattle.source_checks.specs.Codes.{name_at, least_code};
+ghost use Rattle.source_checks.specs.Drivers.{target_names};
 ghost use Rattle.fsm_text.specs.Written.{machine_view};
 ghost use Rattle.fsm_io.specs.Known.{symbols};
 ghost use Rattle.fsm_io.specs.Looks.{all_mentions};
@@ -15,7 +15,7 @@ use crate::codes::{bits_in, least_with, name_with};
 use crate::mentions::Mention;
 use fsm_text::StateFile;
 use source_bits::{Numbers, target_places};
-use source_meaning::{NameFault, Role, Symbol, Target};
+use source_checks::{NameFault, Role, Symbol, Target};
 use std::alloc::{AllocError, Global};
 
 pub fn is_output(role: Role) -> bool

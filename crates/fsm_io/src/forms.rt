@@ -2,10 +2,10 @@
 ghost use Rattle.std.specs.Prelude.{◌≡◌, ◌∷◌, [], ◌++◌, ◌||◌, not, false, bytes_eq, map};
 ghost use Rattle.std.specs.List.{flat_map};
 ghost use Rattle.vlsi_base.specs.Tree.{view, operand_of};
-ghost use Rattle.source_meaning.specs.Lines.{first_line, in_operands};
-ghost use Rattle.source_meaning.specs.Symbols.{find};
-ghost use Rattle.source_meaning.specs.Unsupported.{supply_faults};
-ghost use Rattle.source_meaning.specs.Widths.{if_not};
+ghost use Rattle.source_checks.specs.Lines.{first_line, in_operands};
+ghost use Rattle.source_checks.specs.Symbols.{find};
+ghost use Rattle.source_checks.specs.Unsupported.{supply_faults};
+ghost use Rattle.source_checks.specs.Widths.{if_not};
 ghost use Rattle.fsm_text.specs.Written.{machine_view, clock_view};
 ghost use Rattle.fsm_io.specs.Known.{symbols};
 ghost use Rattle.fsm_io.specs.Looks.{all_mentions, body_has_case, assigning};
@@ -17,7 +17,7 @@ use crate::known::{Roles, same};
 use crate::mentions::Mention;
 use crate::names::is_bare;
 use fsm_text::{ClockProcess, FirstToken, StateFile, StateSignals};
-use source_meaning::{Role, SymbolTable, Target, literal_fault, ports_form};
+use source_checks::{Role, SymbolTable, Target, literal_fault, ports_form};
 use vlsi_base::{NewName, ParsedExpr, Text, is_supply};
 
 /// Which names an expression may read.
@@ -69,7 +69,7 @@ fn is_input(role: Role) -> bool
 
 /// The first line in an expression at which a name is read that may not be, or a literal has too many bits or none.
 #[cycle(forms)]
-#[tactic(auto, using(source_meaning::proofs::FirstLines::first_line_append))]
+#[tactic(auto, using(source_checks::proofs::FirstLines::first_line_append))]
 fn read_fault(readable: Readable, e: &ParsedExpr) -> Option<u32>
     ensures { result ≡ first_line (readable_forms readable.entry (view e.now)) }
 {
@@ -93,7 +93,7 @@ fn read_fault(readable: Readable, e: &ParsedExpr) -> Option<u32>
 }
 
 #[cycle(forms)]
-#[tactic(auto, using(source_meaning::proofs::FirstLines::first_line_append))]
+#[tactic(auto, using(source_checks::proofs::FirstLines::first_line_append))]
 fn read_fault_among(readable: Readable, others: &[(u32, ParsedExpr)]) -> Option<u32>
     ensures { result ≡ first_line (in_operands (readable_forms readable.entry) (map operand_of others.now)) }
 {
@@ -125,7 +125,7 @@ fn next_fault(first: FirstToken, value: &ParsedExpr) -> Option<u32>
     }
 }
 
-#[tactic(auto, using(source_meaning::proofs::FirstLines::first_line_append))]
+#[tactic(auto, using(source_checks::proofs::FirstLines::first_line_append))]
 fn assignment_fault(
     table: &SymbolTable,
     roles: Roles,
@@ -210,7 +210,7 @@ fn load_fault(roles: Roles, process: &ClockProcess) -> Option<u32>
 }
 
 /// In the process at the clock, which names the clock and the two state signals alone.
-#[tactic(auto, using(source_meaning::proofs::FirstLines::first_line_append))]
+#[tactic(auto, using(source_checks::proofs::FirstLines::first_line_append))]
 fn fault_at_clock(roles: Roles, process: &ClockProcess) -> Option<u32>
     ensures { result ≡ first_line (clock_forms (named_of roles.entry) (clock_view process.now)) }
 {
@@ -221,7 +221,7 @@ fn fault_at_clock(roles: Roles, process: &ClockProcess) -> Option<u32>
 }
 
 /// Behind the statements: their end where no case stands among them, and the process at the clock.
-#[tactic(auto, using(source_meaning::proofs::FirstLines::first_line_append))]
+#[tactic(auto, using(source_checks::proofs::FirstLines::first_line_append))]
 fn fault_behind(roles: Roles, file: &StateFile, has_case: bool) -> Option<u32>
     requires { has_case ≡ body_has_case (machine_view file.now).step.body }
     ensures { result ≡ first_line (behind_mentions (machine_view file.now) (named_of roles.entry)) }
@@ -234,7 +234,7 @@ fn fault_behind(roles: Roles, file: &StateFile, has_case: bool) -> Option<u32>
 }
 
 /// The first line at fault; `has_case` says whether there is a case.
-#[tactic(auto, using(source_meaning::proofs::FirstLines::first_line_append))]
+#[tactic(auto, using(source_checks::proofs::FirstLines::first_line_append))]
 pub fn unsupported(
     table: &SymbolTable,
     roles: Roles,

@@ -2,14 +2,14 @@
 ghost use Rattle.std.specs.Prelude.{◌≡◌, ◌++◌, ◌∷◌, ◌&&◌, not, is_none, bytes_eq, [], IfOk};
 ghost use Rattle.std.specs.List.{list_any};
 ghost use Rattle.vlsi_base.specs.Name.{is_supply};
-ghost use Rattle.source_meaning.specs.Unsupported.{is_in_mode, is_bit_word};
+ghost use Rattle.source_checks.specs.Unsupported.{is_in_mode, is_bit_word};
 ghost use Rattle.std.specs.Option.{option_map};
 ghost use Rattle.fsm_text.specs.Written.{machine_view};
 ghost use Rattle.fsm_io.specs.Known.{symbols, generic_symbols, inner_symbols, is_state_signal, is_clock_port, fits_all, named};
 ghost use Rattle.fsm_io.specs.Pieces.{named_of};
 
 use fsm_text::{StateFile, named_by};
-use source_meaning::SymbolTable;
+use source_checks::SymbolTable;
 use std::alloc::{AllocError, Global};
 use vlsi_base::{
     Generic, Mode, NewName, NewNames, PortGroup, Pragma, SignalGroup, SignalType, Text, TypeWord,

@@ -18,6 +18,7 @@ mod states;
 mod uses;
 mod widths;
 
+pub use check::check_fsm;
 pub use fsm_core::StateMachine;
 pub use laws::{fsm_is_checked, never_both, one_fsm, one_refusal};
 pub use reader::read_fsm;

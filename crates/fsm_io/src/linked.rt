@@ -1,7 +1,7 @@
 // What was made of statements, parts and branches, linked from the last on.
 ghost use Rattle.std.specs.Prelude.{◌≡◌, ◌<◌, map, IfOk};
 ghost use Rattle.bool_expr.specs.View.{view};
-ghost use Rattle.fsm_meaning.specs.Statements.{assign, output, only, either, further, listed};
+ghost use Rattle.fsm_machine.specs.Statements.{assign, output, only, either, further, listed};
 ghost use Rattle.fsm_code.specs.View as code;
 ghost use Rattle.fsm_text.specs.Written.{statement_view, body_view, body_of};
 ghost use Rattle.fsm_io.specs.Linked.{AreSmaller, parts_before, branches_before};

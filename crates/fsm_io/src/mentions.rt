@@ -5,7 +5,7 @@ ghost use Rattle.fsm_io.specs.Looks.{body_has_case, holds_case, parts_have_case,
 ghost use Rattle.fsm_io.specs.Pieces.{mention_of};
 
 use fsm_text::{Body, Branches, FirstToken, Parts, Statement};
-use source_meaning::Target;
+use source_checks::Target;
 use std::alloc::{AllocError, Global};
 use vlsi_base::{NewName, ParsedExpr};
 

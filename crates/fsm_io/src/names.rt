@@ -2,11 +2,11 @@
 ghost use Rattle.std.specs.Prelude.{◌≡◌};
 ghost use Rattle.std.specs.Option.{option_map};
 ghost use Rattle.vlsi_base.specs.Tree.{view};
-ghost use Rattle.source_meaning.specs.Uses.{use_of as place_use};
+ghost use Rattle.source_checks.specs.Uses.{use_of as place_use};
 ghost use Rattle.fsm_io.specs.Looks.{plain_use, is_bare};
 
 use fsm_text::FirstToken;
-use source_meaning::Place;
+use source_checks::Place;
 use vlsi_base::ParsedExpr;
 
 /// The name that an expression is, alone, with its line.

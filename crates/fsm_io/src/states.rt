@@ -2,16 +2,17 @@
 ghost use Rattle.std.specs.Prelude.{◌≡◌, ◌≤◌, ◌++◌, [], None, map, length, IfOk};
 ghost use Rattle.std.specs.Option.{option_map};
 ghost use Rattle.vlsi_base.specs.Tree.{view};
-ghost use Rattle.source_meaning.specs.Uses.{use_of as place_use};
+ghost use Rattle.source_checks.specs.Uses.{use_of as place_use};
 ghost use Rattle.fsm_io.specs.Known.{texts};
 ghost use Rattle.fsm_io.specs.Elaboration.{state_number};
 ghost use Rattle.fsm_io.specs.States.{is_one_of, bad_names, bad_value, bad_at, listed_after, bad_states};
-ghost use Rattle.fsm_io.specs.Pieces.{mention_of, first_use, symbol_texts, most_numbered};
+ghost use Rattle.fsm_io.specs.Pieces.{mention_of, first_use, symbol_texts};
+ghost use Rattle.fsm_io.specs.Verdict.{most_numbered};
 
 use crate::known::{Roles, same, with_name, with_names};
 use crate::mentions::Mention;
 use crate::names::plain_name;
-use source_meaning::{Place, SymbolTable};
+use source_checks::{Place, SymbolTable};
 use std::alloc::{AllocError, Global};
 use vlsi_base::{NewName, ParsedExpr, Text};
 

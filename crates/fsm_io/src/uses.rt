@@ -3,8 +3,8 @@ ghost use Rattle.std.specs.Prelude.{◌≡◌, ◌∷◌, [], map};
 ghost use Rattle.std.specs.List.{flat_map};
 ghost use Rattle.std.specs.Option.{option_map};
 ghost use Rattle.vlsi_base.specs.Tree.{view};
-ghost use Rattle.source_meaning.specs.Places.{first_unknown};
-ghost use Rattle.source_meaning.specs.Uses.{use_of as place_use};
+ghost use Rattle.source_checks.specs.Places.{first_unknown};
+ghost use Rattle.source_checks.specs.Uses.{use_of as place_use};
 ghost use Rattle.fsm_text.specs.Written.{machine_view, clock_view};
 ghost use Rattle.fsm_io.specs.Looks.{assigning, uses_at, value_uses, all_uses, clock_uses, use_of, all_mentions};
 ghost use Rattle.fsm_io.specs.Pieces.{mention_of, named_of};
@@ -13,7 +13,7 @@ use crate::known::{Roles, same};
 use crate::mentions::Mention;
 use crate::names::is_bare;
 use fsm_text::{ClockProcess, FirstToken, StateFile};
-use source_meaning::{Place, SymbolTable, Target, unknown_name, unknown_read};
+use source_checks::{Place, SymbolTable, Target, unknown_name, unknown_read};
 use vlsi_base::{NewName, ParsedExpr};
 
 fn unknown_among<'a>(table: &SymbolTable, names: &'a [NewName]) -> Option<Place<'a>>
@@ -28,7 +28,7 @@ fn unknown_among<'a>(table: &SymbolTable, names: &'a [NewName]) -> Option<Place<
 }
 
 /// In what is assigned: a bare name that is assigned to the next state is looked at with the states.
-#[tactic(auto, using(source_meaning::proofs::Unknowns::first_unknown_append))]
+#[tactic(auto, using(source_checks::proofs::Unknowns::first_unknown_append))]
 fn unknown_in_value<'a>(
     table: &SymbolTable,
     to_next: bool,
@@ -44,7 +44,7 @@ fn unknown_in_value<'a>(
     }
 }
 
-#[tactic(auto, using(source_meaning::proofs::Unknowns::first_unknown_append))]
+#[tactic(auto, using(source_checks::proofs::Unknowns::first_unknown_append))]
 fn unknown_in_assignment<'a>(
     table: &SymbolTable,
     roles: Roles,
@@ -60,7 +60,7 @@ fn unknown_in_assignment<'a>(
     }
 }
 
-#[tactic(auto, using(source_meaning::proofs::Unknowns::first_unknown_append))]
+#[tactic(auto, using(source_checks::proofs::Unknowns::first_unknown_append))]
 fn unknown_at<'a>(table: &SymbolTable, roles: Roles, mention: Mention<'a>) -> Option<Place<'a>>
     ensures { option_map place_use result ≡ first_unknown table.now (uses_at (named_of roles.entry) (mention_of mention.entry)) }
 {
@@ -90,7 +90,7 @@ fn unknown_in_mentions<'a>(
     None
 }
 
-#[tactic(auto, using(source_meaning::proofs::Unknowns::first_unknown_append))]
+#[tactic(auto, using(source_checks::proofs::Unknowns::first_unknown_append))]
 fn unknown_in_load<'a>(table: &SymbolTable, process: &'a ClockProcess) -> Option<Place<'a>>
     ensures { option_map place_use result ≡ first_unknown table.now (use_of process.now.target ∷ use_of process.now.value ∷ []) }
 {
@@ -101,7 +101,7 @@ fn unknown_in_load<'a>(table: &SymbolTable, process: &'a ClockProcess) -> Option
     }
 }
 
-#[tactic(auto, using(source_meaning::proofs::Unknowns::first_unknown_append))]
+#[tactic(auto, using(source_checks::proofs::Unknowns::first_unknown_append))]
 fn unknown_in_clock<'a>(table: &SymbolTable, process: &'a ClockProcess) -> Option<Place<'a>>
     ensures { option_map place_use result ≡ first_unknown table.now (clock_uses (clock_view process.now)) }
 {
@@ -115,7 +115,7 @@ fn unknown_in_clock<'a>(table: &SymbolTable, process: &'a ClockProcess) -> Optio
 }
 
 /// The first name that isn't declared.
-#[tactic(auto, using(source_meaning::proofs::Unknowns::first_unknown_append))]
+#[tactic(auto, using(source_checks::proofs::Unknowns::first_unknown_append))]
 pub fn unknown<'a>(
     table: &SymbolTable,
     roles: Roles,

@@ -2,8 +2,8 @@
 ghost use Rattle.std.specs.Prelude.{◌≡◌, map};
 ghost use Rattle.std.specs.List.{All, flat_map};
 ghost use Rattle.vlsi_base.specs.Tree.{view};
-ghost use Rattle.source_meaning.specs.Lines.{first_line};
-ghost use Rattle.source_meaning.specs.Operators.{IsShort};
+ghost use Rattle.source_checks.specs.Lines.{first_line};
+ghost use Rattle.source_checks.specs.Operators.{IsShort};
 ghost use Rattle.fsm_text.specs.Written.{machine_view, clock_view};
 ghost use Rattle.fsm_text.specs.Short.{HasShortExpressions};
 ghost use Rattle.fsm_io.specs.Known.{symbols};
@@ -15,7 +15,7 @@ ghost use Rattle.fsm_io.specs.Pieces.{mention_of, named_of};
 use crate::known::{Roles, same};
 use crate::mentions::Mention;
 use fsm_text::{ClockProcess, StateFile};
-use source_meaning::{
+use source_checks::{
     SymbolTable, Target, condition_fault, differ, found_width, measured, ports_fault, target_fault,
     target_width, value_fault,
 };
@@ -32,7 +32,7 @@ fn wide_fault(to_next: bool, a: Option<u128>, b: Option<u128>, line: u32) -> Opt
     }
 }
 
-#[tactic(auto, using(source_meaning::proofs::FirstLines::first_line_append))]
+#[tactic(auto, using(source_checks::proofs::FirstLines::first_line_append))]
 fn assignment_fault(
     table: &SymbolTable,
     roles: Roles,
@@ -79,7 +79,7 @@ fn fault_in_mentions(table: &SymbolTable, roles: Roles, mentions: &[Mention]) ->
     None
 }
 
-#[tactic(auto, using(source_meaning::proofs::FirstLines::first_line_append))]
+#[tactic(auto, using(source_checks::proofs::FirstLines::first_line_append))]
 fn fault_at_clock(table: &SymbolTable, roles: Roles, process: &ClockProcess) -> Option<u32>
     requires { IsShort (view process.now.condition) }
     ensures { result ≡ first_line (clock_widths table.now (named_of roles.entry) (clock_view process.now)) }
@@ -100,7 +100,7 @@ fn fault_at_clock(table: &SymbolTable, roles: Roles, process: &ClockProcess) -> 
 }
 
 /// The first line at fault.
-#[tactic(auto, using(source_meaning::proofs::FirstLines::first_line_append))]
+#[tactic(auto, using(source_checks::proofs::FirstLines::first_line_append))]
 pub fn width_fault(
     table: &SymbolTable,
     roles: Roles,

@@ -2,9 +2,9 @@
 use Rattle.std.specs.Prelude.{◌≡◌, ℕ, zero, suc, ◌+◌, ◌-◌, ◌/◌, ◌%◌, ◌^◌, ◌==◌, nat_le, nat_lt, Bool, true, false, not, ◌&&◌, ◌||◌, List, [], ◌∷◌, map, length, slice_index, swap, Option, None, Some, if◌then◌else◌}
 use Rattle.std.specs.List.{flat_map, sum_by}
 use Rattle.bool_expr.specs.Support.{among}
-use Rattle.fsm_meaning.specs.Statements.{Assignment, output, next, Statements, finish, assign, choose, select, Parts, only, either, further, Branches, closed, others, listed}
-use Rattle.fsm_meaning.specs.Walk.{assigns}
-use Rattle.fsm_meaning.specs.Fsm.{Fsm}
+use Rattle.fsm_machine.specs.Statements.{Assignment, output, next, Statements, finish, assign, choose, select, Parts, only, either, further, Branches, closed, others, listed}
+use Rattle.fsm_machine.specs.Walk.{assigns}
+use Rattle.fsm_machine.specs.Fsm.{Fsm}
 use Rattle.fsm_machine.specs.Codes.{Codes, AreCodes}
 use Rattle.fsm_machine.specs.MachineOf.{up}
 

@@ -3,10 +3,10 @@ use Rattle.std.specs.Prelude.{ℕ, zero, suc, ◌+◌, Bool, true, false, List, 
 use Rattle.vlsi_base.specs.declared.name.Name.{Name}
 use Rattle.bool_expr.specs.declared.expr.Gate.TheVariants.{And}
 use Rattle.bool_expr.specs.Expression.{Expression, constant, variable, inverse, pair, bit}
-use Rattle.machine_meaning.specs.Named.{is_same_name}
-use Rattle.machine_meaning.specs.Machine.{Machine, Equation, Register, names_of}
-use Rattle.fsm_meaning.specs.Statements.{Assignment, output, next, Statements}
-use Rattle.fsm_meaning.specs.Fsm.{Fsm, fsm_inputs, fsm_outputs}
+use Rattle.machine_core.specs.Named.{is_same_name}
+use Rattle.machine_core.specs.Machine.{Machine, Equation, Register, names_of}
+use Rattle.fsm_machine.specs.Statements.{Assignment, output, next, Statements}
+use Rattle.fsm_machine.specs.Fsm.{Fsm, fsm_inputs, fsm_outputs}
 use Rattle.fsm_machine.specs.Codes.{Codes, code_of}
 use Rattle.fsm_machine.specs.Signals.{emitted, final}
 use Rattle.fsm_machine.specs.Moved.{moved}

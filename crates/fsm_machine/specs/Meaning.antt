@@ -1,9 +1,9 @@
 -- What the machine of a state machine does.
 use Rattle.std.specs.Prelude.{◌≡◌, ℕ, ◌+◌, ◌<◌, Bool, List, ◌∷◌, map, length, Some}
 use Rattle.vlsi_base.specs.declared.name.Name.{Name}
-use Rattle.machine_meaning.specs.Cycles.{Settles, outs, next, RunOf, AreVectors}
+use Rattle.machine_core.specs.Cycles.{Settles, outs, next, RunOf, AreVectors}
 use Rattle.machine_core.specs.Order.{AllDifferent, IsOrdered}
-use Rattle.fsm_meaning.specs.Fsm.{Fsm, fsm_inputs, fsm_outputs, walked_next, walked_output, Resets, FsmRun}
+use Rattle.fsm_machine.specs.Fsm.{Fsm, fsm_inputs, fsm_outputs, walked_next, walked_output, Resets, FsmRun}
 use Rattle.fsm_machine.specs.Codes.{Codes, code_of, AreCodes}
 use Rattle.fsm_machine.specs.Signals.{signals}
 use Rattle.fsm_machine.specs.Sound.{IsSound}

@@ -2,7 +2,7 @@
 use Rattle.std.specs.Prelude.{false, List}
 use Rattle.std.specs.List.{slice_index_or}
 use Rattle.bool_expr.specs.Expression.{Expression, constant, variable, inverse, pair, choice}
-use Rattle.fsm_meaning.specs.Statements.{Assignment, output, next, Statements, finish, assign, choose, select, Parts, only, either, further, Branches, closed, others, listed}
+use Rattle.fsm_machine.specs.Statements.{Assignment, output, next, Statements, finish, assign, choose, select, Parts, only, either, further, Branches, closed, others, listed}
 
 -- in place of variable k number k of the list, and 0 past its end
 abbrev pub substituted : List Expression → Expression → Expression

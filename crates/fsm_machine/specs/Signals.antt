@@ -3,7 +3,7 @@ use Rattle.std.specs.Prelude.{ℕ, suc, ◌+◌, false, not, List, [], ◌∷◌
 use Rattle.bool_expr.specs.declared.expr.Gate.TheVariants.{And, Or}
 use Rattle.bool_expr.specs.Expression.{Expression, constant, variable, inverse, pair, choice}
 use Rattle.bool_expr.specs.Support.{among}
-use Rattle.fsm_meaning.specs.Statements.{Assignment, Statements, finish, assign, choose, select, Parts, only, either, further, Branches, closed, others, listed}
+use Rattle.fsm_machine.specs.Statements.{Assignment, Statements, finish, assign, choose, select, Parts, only, either, further, Branches, closed, others, listed}
 
 -- A path is the number of its signal, or none for 1. This is `p and x`.
 abbrev pub along : Option ℕ → Expression → Expression

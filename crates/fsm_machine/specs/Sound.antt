@@ -1,7 +1,7 @@
 -- Statements whose branches list known states, each once, and whose next states are known.
 use Rattle.std.specs.Prelude.{◌≡◌, ℕ, true, List}
 use Rattle.bool_expr.specs.Support.{among}
-use Rattle.fsm_meaning.specs.Statements.{Assignment, output, next, Statements, finish, assign, choose, select, Parts, only, either, further, Branches, closed, others, listed}
+use Rattle.fsm_machine.specs.Statements.{Assignment, output, next, Statements, finish, assign, choose, select, Parts, only, either, further, Branches, closed, others, listed}
 use Rattle.fsm_machine.specs.Signals.{without}
 
 -- each listed state stands among those that are left

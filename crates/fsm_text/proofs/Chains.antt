@@ -9,7 +9,7 @@ use Rattle.vlsi_base.specs.declared.name.Name.{Name}
 use Rattle.vlsi_base.specs.declared.entity.Entity.{Entity}
 use Rattle.vlsi_base.specs.declared.entity.PortGroup.{PortGroup}
 use Rattle.vlsi_base.specs.declared.pragma.Pragma.{Pragma}
-use Rattle.source_meaning.specs.Symbols.{port_symbols, symbols_named, role_of_mode}
+use Rattle.source_checks.specs.Symbols.{port_symbols, symbols_named, role_of_mode}
 use Rattle.vhdl_token.specs.declared.token.PlacedToken.{PlacedToken}
 use Rattle.vhdl_token.specs.declared.token.Tokens.{Tokens}
 use Rattle.grammar_theory.specs.declared.limits.TheConstants.{DEPTH}
@@ -20,13 +20,13 @@ use Rattle.grammar_theory.specs.Unique.{OneAnswer}
 use Rattle.grammar_theory.proofs.Unique as unique
 use Rattle.grammar_theory.specs.declared.form.Form.TheVariants as form
 use Rattle.vhdl_token.specs.declared.keyword.Keyword.TheVariants as word
-use Rattle.source_meaning.specs.declared.statement.Target.{Target}
+use Rattle.source_checks.specs.declared.statement.Target.{Target}
 use Rattle.vhdl_front.specs.Entity.{entity}
 use Rattle.vhdl_front.specs.EntityReading.{entity_at}
 use Rattle.vhdl_front.proofs.Language.{numbers}
 use Rattle.vhdl_front.proofs.EntityLanguage.{exact_entity, entity_answers}
-use Rattle.source_meaning.specs.declared.symbol_table.Symbol.{Symbol}
-use Rattle.source_meaning.specs.Checks.{first_repeated}
+use Rattle.source_checks.specs.declared.symbol_table.Symbol.{Symbol}
+use Rattle.source_checks.specs.Checks.{first_repeated}
 use Rattle.fsm_text.specs.Chains.{named_by, is_out, next_symbols, assigned_here, counted_bits, taken, behind_bits, behind_target, overfull, passes_before}
 use Rattle.fsm_text.specs.Texts.{counted_in, PassesChain, PassesBefore}
 

@@ -8,16 +8,16 @@ use Rattle.vlsi_base.specs.declared.name.Name.{Name}
 use Rattle.vlsi_base.specs.declared.range.Range.{Range}
 use Rattle.vlsi_base.specs.Range.{rising, falling, range_bits, range_width}
 use Rattle.vlsi_base.proofs.Ranges.{length_of_range}
-use Rattle.machine_meaning.specs.Named.{is_same_bit}
-use Rattle.source_meaning.specs.declared.statement.Target.{Target}
-use Rattle.source_meaning.specs.declared.statement.Selection.{Selection}
-use Rattle.source_meaning.specs.declared.statement.Selection.TheVariants as selection
-use Rattle.source_meaning.specs.declared.symbol_table.Symbol.{Symbol}
-use Rattle.source_meaning.specs.Symbols.{all_names, symbol_names, names_in, bit_name, find, has_bit}
-use Rattle.source_meaning.specs.Formula.{place, names_of_found}
-use Rattle.source_meaning.specs.Drivers.{is_among, target_names}
-use Rattle.source_meaning.proofs.Lookups.{itself, same_of}
-use Rattle.source_meaning.proofs.Names.{is_among-append}
+use Rattle.machine_core.specs.Named.{is_same_bit}
+use Rattle.source_checks.specs.declared.statement.Target.{Target}
+use Rattle.source_checks.specs.declared.statement.Selection.{Selection}
+use Rattle.source_checks.specs.declared.statement.Selection.TheVariants as selection
+use Rattle.source_checks.specs.declared.symbol_table.Symbol.{Symbol}
+use Rattle.source_checks.specs.Symbols.{all_names, symbol_names, names_in, bit_name, find, has_bit}
+use Rattle.source_checks.specs.Formula.{place, names_of_found}
+use Rattle.source_checks.specs.Drivers.{is_among, target_names}
+use Rattle.source_checks.proofs.Lookups.{itself, same_of}
+use Rattle.source_checks.proofs.Names.{is_among-append}
 use Rattle.source_bits.proofs.Ranging.{falls_out, rises_out}
 use Rattle.fsm_text.specs.Chains.{counted_bits, range_found}
 use Rattle.fsm_text.proofs.Tally.{texts, not_counted}

@@ -7,9 +7,9 @@ use Rattle.vhdl_token.specs.declared.token.Tokens.{Tokens}
 use Rattle.grammar_theory.specs.declared.limits.TheConstants.{BITS, DEPTH}
 use Rattle.grammar_theory.specs.Outcome.{At, start}
 use Rattle.vhdl_front.specs.EntityReading.{entity_at}
-use Rattle.source_meaning.specs.declared.symbol_table.Role.TheVariants as role
-use Rattle.source_meaning.specs.declared.symbol_table.Symbol.{Symbol}
-use Rattle.source_meaning.specs.Symbols.{port_symbols, symbols_named, role_of_mode, find, all_names}
+use Rattle.source_checks.specs.declared.symbol_table.Role.TheVariants as role
+use Rattle.source_checks.specs.declared.symbol_table.Symbol.{Symbol}
+use Rattle.source_checks.specs.Symbols.{port_symbols, symbols_named, role_of_mode, find, all_names}
 use Rattle.vbe_text.proofs.Counted.{all_long, ports_few}
 use Rattle.fsm_text.specs.Chains.{named_by, is_out, next_symbols}
 use Rattle.fsm_text.specs.Texts.{counted_in}

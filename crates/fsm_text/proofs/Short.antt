@@ -7,7 +7,7 @@ use Rattle.grammar_theory.specs.declared.limits.TheConstants.{DEPTH}
 use Rattle.grammar_theory.specs.Marks.{Item, State, uncounted, run}
 use Rattle.grammar_theory.specs.Grammar.{Grammar, none, at_some}
 use Rattle.vhdl_front.specs.Expression.{less}
-use Rattle.source_meaning.specs.Operators.{IsShort}
+use Rattle.source_checks.specs.Operators.{IsShort}
 use Rattle.vbe_text.proofs.Short.{Has, Every, has_then, has_behind, has_or, has_nothing, has_list, has_placed, short_expression}
 use Rattle.fsm_text.specs.declared.file.FirstToken.{FirstToken}
 use Rattle.fsm_text.specs.Written.{StatementTree, asserted, assigned, chosen, selected, BodyTree, PartTree, BranchTree, BranchesTree, StepTree, ClockTree, MachineTree, body_of, parts_of, branched, branches_of}

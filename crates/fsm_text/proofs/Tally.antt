@@ -7,15 +7,15 @@ use Rattle.std.proofs.lemmas.Bool.Decides.{nat_tests}
 use Rattle.vlsi_base.specs.Member.{In, here, there, AllDifferent}
 use Rattle.vlsi_base.specs.declared.name.Name.{Name}
 use Rattle.grammar_theory.specs.declared.limits.TheConstants.{CHAIN}
-use Rattle.machine_meaning.specs.Named.{is_same_name}
+use Rattle.machine_core.specs.Named.{is_same_name}
 use Rattle.machine_core.proofs.Names.{same_name-true, same_name-itself, same_name-false}
-use Rattle.source_meaning.specs.declared.statement.Target.{Target}
-use Rattle.source_meaning.specs.declared.symbol_table.Symbol.{Symbol}
-use Rattle.source_meaning.specs.Symbols.{all_names}
-use Rattle.source_meaning.specs.Drivers.{is_among, target_names}
-use Rattle.source_meaning.specs.Formula.{place}
-use Rattle.source_meaning.specs.Checks.{first_repeated}
-use Rattle.source_meaning.proofs.Lookups.{itself}
+use Rattle.source_checks.specs.declared.statement.Target.{Target}
+use Rattle.source_checks.specs.declared.symbol_table.Symbol.{Symbol}
+use Rattle.source_checks.specs.Symbols.{all_names}
+use Rattle.source_checks.specs.Drivers.{is_among, target_names}
+use Rattle.source_checks.specs.Formula.{place}
+use Rattle.source_checks.specs.Checks.{first_repeated}
+use Rattle.source_checks.proofs.Lookups.{itself}
 use Rattle.fsm_text.specs.Chains.{times, taken, counted_bits, IsTally}
 
 -- ---- where no name is declared again, the texts are different

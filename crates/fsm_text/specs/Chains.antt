@@ -14,13 +14,13 @@ use Rattle.grammar_theory.specs.declared.form.Form.TheVariants as form
 use Rattle.grammar_theory.specs.declared.limits.TheConstants.{DEPTH, CHAIN}
 use Rattle.grammar_theory.specs.Tokens.{is_at}
 use Rattle.grammar_theory.specs.Outcome.{Outcome, start}
-use Rattle.machine_meaning.specs.Named.{is_same_name}
-use Rattle.source_meaning.specs.declared.statement.Target.{Target}
-use Rattle.source_meaning.specs.declared.symbol_table.Role.TheVariants as role
-use Rattle.source_meaning.specs.declared.symbol_table.Symbol.{Symbol}
-use Rattle.source_meaning.specs.Symbols.{port_symbols, find, all_names}
-use Rattle.source_meaning.specs.Drivers.{is_among, target_names}
-use Rattle.source_meaning.specs.Formula.{place}
+use Rattle.machine_core.specs.Named.{is_same_name}
+use Rattle.source_checks.specs.declared.statement.Target.{Target}
+use Rattle.source_checks.specs.declared.symbol_table.Role.TheVariants as role
+use Rattle.source_checks.specs.declared.symbol_table.Symbol.{Symbol}
+use Rattle.source_checks.specs.Symbols.{port_symbols, find, all_names}
+use Rattle.source_checks.specs.Drivers.{is_among, target_names}
+use Rattle.source_checks.specs.Formula.{place}
 use Rattle.vbe_text.specs.VbeReading.{target_at}
 
 -- the name in the first of these pragmas that has this key

@@ -1,5 +1,5 @@
 -- Each expression of a state machine has at most as many operators as a text may have in one.
-use Rattle.source_meaning.specs.Operators.{IsShort}
+use Rattle.source_checks.specs.Operators.{IsShort}
 use Rattle.fsm_text.specs.Written.{StatementTree, asserted, assigned, chosen, selected, BodyTree, finish, next, PartsTree, only, either, further, BranchesTree, closed, others, listed, MachineTree}
 
 -- each assertion, each value that is assigned, and each condition is short

@@ -13,8 +13,8 @@ use Rattle.grammar_theory.specs.Outcome.{At, start}
 use Rattle.grammar_theory.specs.Answers.{Accepts, Rejects, AnswersAll}
 use Rattle.vhdl_front.specs.Entity.{entity}
 use Rattle.vhdl_front.specs.Front.{error_of}
-use Rattle.source_meaning.specs.declared.symbol_table.Symbol.{Symbol}
-use Rattle.source_meaning.specs.Checks.{first_repeated}
+use Rattle.source_checks.specs.declared.symbol_table.Symbol.{Symbol}
+use Rattle.source_checks.specs.Checks.{first_repeated}
 use Rattle.fsm_text.specs.Written.{MachineTree}
 use Rattle.fsm_text.specs.Fsm.{fsm}
 use Rattle.fsm_text.specs.Chains.{named_by, counted_symbols, overfull}

@@ -6,7 +6,7 @@ use Rattle.vlsi_base.specs.declared.entity.NewName.{NewName}
 use Rattle.vhdl_token.specs.declared.token.PlacedToken.{PlacedToken}
 use Rattle.grammar_theory.specs.declared.form.Form.TheVariants as form
 use Rattle.grammar_theory.specs.Tokens.{is_of}
-use Rattle.source_meaning.specs.declared.statement.Target.{Target}
+use Rattle.source_checks.specs.declared.statement.Target.{Target}
 use Rattle.fsm_text.specs.declared.file.FirstToken.{FirstToken}
 use Rattle.fsm_text.specs.declared.file.Statement.{Statement, Assert, Assign, If', Case'}
 use Rattle.fsm_text.specs.declared.file.Body.{Body, Finish, Next'}

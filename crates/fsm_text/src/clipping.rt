@@ -2,11 +2,11 @@
 ghost use Rattle.std.specs.Prelude.{◌≡◌, ◌≤◌, ◌+◌, filter, map, length, if◌then◌else◌};
 ghost use Rattle.vlsi_base.specs.Range.{range_bits, range_width};
 ghost use Rattle.machine_core.specs.Order.{AllDifferent};
-ghost use Rattle.source_meaning.specs.Symbols.{all_names, find, has_bit};
-ghost use Rattle.source_meaning.specs.Drivers.{target_names};
+ghost use Rattle.source_checks.specs.Symbols.{all_names, find, has_bit};
+ghost use Rattle.source_checks.specs.Drivers.{target_names};
 ghost use Rattle.fsm_text.specs.Chains.{counted_bits, range_found};
 
-use source_meaning::{Selection, SymbolTable, Target};
+use source_checks::{Selection, SymbolTable, Target};
 use vlsi_base::Range;
 
 /// The least number of a bit that a range may hold.

@@ -4,14 +4,14 @@ ghost use Rattle.std.specs.Bool.{OnTrue, OnFalse};
 ghost use Rattle.std.specs.Option.{option_copied};
 ghost use Rattle.vlsi_base.specs.declared.name.Name.{Name};
 ghost use Rattle.machine_core.specs.Order.{AllDifferent};
-ghost use Rattle.source_meaning.specs.Symbols.{port_symbols, all_names};
+ghost use Rattle.source_checks.specs.Symbols.{port_symbols, all_names};
 ghost use Rattle.fsm_text.specs.Chains.{named_by, assigned_here, is_out, next_symbols, counted_symbols, counted_bits, taken, overfull, passes_before, IsTally};
 ghost use Rattle.fsm_text.specs.Texts.{chain_error, PassesBefore};
 
 use crate::clipping::declared_part;
 use grammar_theory::{CHAIN, DEPTH, Form, Stop};
 use source_bits::{Numbers, target_places};
-use source_meaning::{SymbolTable, Target, repeated};
+use source_checks::{SymbolTable, Target, repeated};
 use std::alloc::{AllocError, Global};
 use vbe_text::target;
 use vhdl_front::Cursor;

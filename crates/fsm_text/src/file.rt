@@ -1,6 +1,6 @@
 // State machines as they are written. All lists are in file order, and lines are counted from 1.
 
-use source_meaning::Target;
+use source_checks::Target;
 use vlsi_base::{Entity, NewName, NewNames, ParsedExpr};
 
 /// The first token of what is assigned: its line, and whether it is a name, and so no parenthesis.

@@ -16,7 +16,7 @@ use Rattle.vlsi_base.specs.Name.{name_cmp}
 use Rattle.vlsi_base.specs.Member.{In, here, there, AllDifferent}
 use Rattle.vlsi_base.specs.Range.{rising}
 use Rattle.bool_expr.specs.Expression.{IsOver, variable}
-use Rattle.machine_meaning.specs.Machine.{Equation, Register, names_of}
+use Rattle.machine_core.specs.Machine.{Equation, Register, names_of}
 use Rattle.machine_core.specs.Order.{EachReadsBelow, IsOrdered}
 use Rattle.machine_core.specs.Checked.{AreInOrder, IsNoSupply, IsClockOf, IsChecked}
 use Rattle.gen_circuit.specs.Generated.{clock, bit_of, four_bits, gate_name, ports, of_gate, choices, operand, gate_by, gates, output, register, circuit_by, words_of, generated}

@@ -10,20 +10,20 @@ use Rattle.vlsi_base.specs.Range.{rising}
 use Rattle.bool_expr.specs.declared.expr.Gate.{Gate}
 use Rattle.bool_expr.specs.declared.expr.Gate.TheVariants as gate
 use Rattle.bool_expr.specs.Expression.{Expression, constant, variable, pair}
-use Rattle.machine_meaning.specs.Machine.{Equation, Register}
+use Rattle.machine_core.specs.Machine.{Equation, Register}
 use Rattle.vhdl_token.specs.Keyword.{keyword_text}
 use Rattle.vhdl_token.specs.declared.keyword.Keyword.TheVariants as word
 use Rattle.vhdl_token.specs.declared.token.Sign.TheVariants as sign
 use Rattle.vhdl_token.specs.declared.token.Token.{Token}
 use Rattle.vhdl_token.specs.declared.token.Token.TheVariants as token
 use Rattle.spell_theory.specs.Layout.{Written, gap, turn, says, spelling, text_of}
-use Rattle.vhdl_again.specs.Outline.{a_word, a_sign, entity_layout}
-use Rattle.vst_write.specs.Groups.{outline}
-use Rattle.vst_write.specs.Structure.{name_layout, signal_layout, signals_layout}
-use Rattle.vst_write.proofs.Texts.{text_append}
-use Rattle.free_names.specs.Free.{is_free, numbered, free_numbers, free_texts}
-use Rattle.vbe_write.specs.Expressions.{gate_word, name_of}
-use Rattle.vbe_write.specs.Written.{with_supply_ports, registers_layout, equation_layout, equations_layout, guard_layout, block_head_layout, block_end, loading_layout, register_layout, storage_layout}
+use Rattle.vhdl_print.specs.Outline.{a_word, a_sign, entity_layout}
+use Rattle.vst_print.specs.Groups.{outline}
+use Rattle.vst_print.specs.Structure.{name_layout, signal_layout, signals_layout}
+use Rattle.vst_print.proofs.Texts.{text_append}
+use Rattle.text_names.specs.Free.{is_free, numbered, free_numbers, free_texts}
+use Rattle.vbe_print.specs.Expressions.{gate_word, name_of}
+use Rattle.vbe_print.specs.Written.{with_supply_ports, registers_layout, equation_layout, equations_layout, guard_layout, block_head_layout, block_end, loading_layout, register_layout, storage_layout}
 use Rattle.gen_circuit.specs.Generated.{clock, bit_of, four_bits, ports, of_gate, kind, choices, operand, gate_by, gates, output, register, circuit_by}
 use Rattle.gen_circuit.proofs.Named.{each_all}
 

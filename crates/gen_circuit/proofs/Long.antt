@@ -9,19 +9,19 @@ use Rattle.vlsi_base.specs.Names.{scalar}
 use Rattle.vlsi_base.specs.Range.{rising}
 use Rattle.bool_expr.specs.declared.expr.Gate.{Gate}
 use Rattle.bool_expr.specs.Expression.{variable, pair}
-use Rattle.machine_meaning.specs.Machine.{Equation, outputs}
+use Rattle.machine_core.specs.Machine.{Equation, outputs}
 use Rattle.machine_core.specs.Order.{equation_names}
 use Rattle.grammar_theory.specs.declared.limits.TheConstants.{DEPTH, CHAIN}
-use Rattle.vhdl_again.specs.Outline.{entity_layout}
-use Rattle.vst_write.specs.Groups.{outline}
-use Rattle.vst_write.specs.Structure.{signals_layout, begin_layout}
-use Rattle.free_names.proofs.Enough.{are_free}
-use Rattle.vst_again.specs.Says.{IsShort, IsSmall, IsSmallPort}
-use Rattle.vbe_write.specs.Expressions.{name_of}
-use Rattle.vbe_write.specs.Written.{is_output, inner_count, taken_texts, signal_texts, written_names, written_vars, with_supply_ports, head_layout, registers_layout, equations_layout, storage_layout, last_layout, layout_by}
-use Rattle.vbe_again.specs.Nesting.{bit_within, shape_of, operand_within, IsWithin, IsValueWithin}
-use Rattle.vbe_again.specs.Said.{text_by, operators, IsFewValues, IsWithinLimitsBy}
-use Rattle.vbe_again.proofs.Known.{all_in, any_in, renamed_all}
+use Rattle.vhdl_print.specs.Outline.{entity_layout}
+use Rattle.vst_print.specs.Groups.{outline}
+use Rattle.vst_print.specs.Structure.{signals_layout, begin_layout}
+use Rattle.text_names.proofs.Enough.{are_free}
+use Rattle.vst_print.specs.Says.{IsShort, IsSmall, IsSmallPort}
+use Rattle.vbe_print.specs.Expressions.{name_of}
+use Rattle.vbe_print.specs.Written.{is_output, inner_count, taken_texts, signal_texts, written_names, written_vars, with_supply_ports, head_layout, registers_layout, equations_layout, storage_layout, last_layout, layout_by}
+use Rattle.vbe_print.specs.Nesting.{bit_within, shape_of, operand_within, IsWithin, IsValueWithin}
+use Rattle.vbe_print.specs.Said.{text_by, operators, IsFewValues, IsWithinLimitsBy}
+use Rattle.vbe_print.proofs.Known.{all_in, any_in, renamed_all}
 use Rattle.gen_circuit.specs.Generated.{clock, four_bits, ports, kind, gates, output, register, circuit_by}
 use Rattle.gen_circuit.proofs.Named.{each_all}
 use Rattle.gen_circuit.proofs.Checking.{length_gates}

@@ -1,8 +1,8 @@
 -- What is made item by item.
 use Rattle.std.proofs.Common.{◌≡◌, ℕ, suc, ◌+◌, List, [], ◌∷◌, ◌++◌, map, sym, ap, ◌∙◌, append_assoc, append-nil}
 use Rattle.rand_core.specs.Steps.{first_words}
-use Rattle.machine_meaning.specs.declared.equation.Equation.{Equation as EquationParts}
-use Rattle.machine_meaning.specs.Machine.{Equation, Register}
+use Rattle.machine_core.specs.declared.equation.Equation.{Equation as EquationParts}
+use Rattle.machine_core.specs.Machine.{Equation, Register}
 use Rattle.machine_core.specs.View.{equation_view}
 use Rattle.vlsi_base.specs.Range.{rising}
 use Rattle.gen_circuit.specs.Generated.{gate_by, gates, output, register, circuit_of, words_of, generated}

@@ -6,11 +6,11 @@ use Rattle.vlsi_base.specs.declared.name.Name.{Name}
 use Rattle.vlsi_base.specs.declared.name.Port.{Port}
 use Rattle.vlsi_base.specs.Member.{In, here, there}
 use Rattle.vlsi_base.specs.Range.{rising}
-use Rattle.machine_meaning.specs.Machine.{Register}
+use Rattle.machine_core.specs.Machine.{Register}
 use Rattle.vhdl_token.specs.Keyword.{keyword_of}
-use Rattle.port_words.specs.Words.{IsIdentifier, GoesOn}
-use Rattle.vbe_write.specs.Written.{as_ports}
-use Rattle.vbe_write.specs.Writable.{AreDeclared, CanBeVbe}
+use Rattle.text_names.specs.Words.{IsIdentifier, GoesOn}
+use Rattle.vbe_print.specs.Written.{as_ports}
+use Rattle.vbe_print.specs.Writable.{AreDeclared, CanBeVbe}
 use Rattle.gen_circuit.specs.Generated.{four_bits, ports, register, circuit_by}
 
 -- what holds of each member, one by one

@@ -3,11 +3,11 @@ use Rattle.std.proofs.Common.{◌≡◌, ℕ, zero, suc, ◌+◌, ◌≤◌, Boo
 use Rattle.vlsi_base.specs.declared.name.Name.{Name}
 use Rattle.vlsi_base.specs.Names.{scalar}
 use Rattle.vlsi_base.specs.Range.{rising}
-use Rattle.machine_meaning.specs.Machine.{Equation}
+use Rattle.machine_core.specs.Machine.{Equation}
 use Rattle.machine_core.specs.Order.{equation_names}
-use Rattle.free_names.specs.Free.{is_free, numbered}
-use Rattle.vbe_write.specs.Written.{is_output, inner_count, renamed, taken_texts, signal_texts, written_names}
-use Rattle.vbe_round.proofs.Itself.{HasNoChoice, IsPlainRegister, IsReadAsItself}
+use Rattle.text_names.specs.Free.{is_free, numbered}
+use Rattle.vbe_print.specs.Written.{is_output, inner_count, renamed, taken_texts, signal_texts, written_names}
+use Rattle.vbe_laws.proofs.Itself.{HasNoChoice, IsPlainRegister, IsReadAsItself}
 use Rattle.gen_circuit.specs.Generated.{gate_name, gates, output, register, circuit_by}
 use Rattle.gen_circuit.proofs.Lists.{map_behind}
 use Rattle.gen_circuit.proofs.Named.{each_all}

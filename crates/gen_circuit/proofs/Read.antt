@@ -11,42 +11,42 @@ use Rattle.vlsi_base.specs.declared.name.Name.{Name}
 use Rattle.vlsi_base.specs.declared.name.Port.{Port}
 use Rattle.vlsi_base.specs.declared.entity.PortGroup.{PortGroup}
 use Rattle.bool_expr.specs.Expression.{Expression, size_of}
-use Rattle.machine_meaning.specs.Machine.{Machine, Equation, Register, is_input, names_of, register_names}
-use Rattle.machine_meaning.specs.Size.{machine_size}
+use Rattle.machine_core.specs.Machine.{Machine, Equation, Register, is_input, names_of, register_names}
+use Rattle.machine_core.specs.Size.{machine_size}
 use Rattle.machine_core.specs.Order.{held_names}
-use Rattle.machine_alike.specs.Alike.{IsAlike}
+use Rattle.machine_core.specs.Alike.{IsAlike}
 use Rattle.vlsi_base.specs.Range.{rising}
 use Rattle.vhdl_lexer.specs.Listing.{tokens_in}
-use Rattle.source_meaning.specs.declared.statement.DesignFile.{DesignFile}
-use Rattle.source_meaning.specs.declared.statement.Statement.{Statement}
-use Rattle.source_meaning.specs.declared.symbol_table.Symbol.{Symbol}
-use Rattle.source_meaning.specs.Symbols.{symbols, port_symbols, signal_symbols}
-use Rattle.source_meaning.specs.Places.{in_statements}
-use Rattle.source_meaning.specs.Clock.{statement_clocks, first_text, clock_text}
-use Rattle.source_meaning.specs.Elaboration.{Definition, Storage, statement_definitions, statement_storage, definitions, storage, IsMachineOf}
-use Rattle.source_meaning.specs.Formula.{numbered}
+use Rattle.source_checks.specs.declared.statement.DesignFile.{DesignFile}
+use Rattle.source_checks.specs.declared.statement.Statement.{Statement}
+use Rattle.source_checks.specs.declared.symbol_table.Symbol.{Symbol}
+use Rattle.source_checks.specs.Symbols.{symbols, port_symbols, signal_symbols}
+use Rattle.source_checks.specs.Places.{in_statements}
+use Rattle.source_checks.specs.Clock.{statement_clocks, first_text, clock_text}
+use Rattle.source_checks.specs.Elaboration.{Definition, Storage, statement_definitions, statement_storage, definitions, storage, IsMachineOf}
+use Rattle.source_checks.specs.Formula.{numbered}
 use Rattle.spell_theory.specs.Layout.{line_behind}
-use Rattle.vhdl_again.specs.Outline.{OnePort, placed_port, placed_ports}
+use Rattle.vhdl_print.specs.Outline.{OnePort, placed_port, placed_ports}
 use Rattle.vbe_text.specs.Source.{SourceTree, StatementTree, statement_view, source_view}
 use Rattle.vbe_text.proofs.Laws as text_laws
-use Rattle.vst_write.specs.Groups.{Group, grouped, declared, outline_of}
-use Rattle.vbe_write.specs.Written.{with_supply_ports, signal_texts, written_names, written_vars}
-use Rattle.vbe_again.specs.Placed.{placed_signals, placed_groups, placed_storage, source_of}
-use Rattle.vbe_again.specs.Said.{IsLetter}
-use Rattle.vbe_again.proofs.Sentence.{written_is_a_sentence}
-use Rattle.vbe_again.proofs.Whole.{declared_on, stored_on, begun_on, blocks_on}
-use Rattle.vbe_again.proofs.Supplied.{supply_groups, groups_supplied}
-use Rattle.vbe_again.proofs.Machines.{parts_of, some_declared, no_port_supply}
-use Rattle.vbe_round.proofs.Trees.{in_each, statements_each, clocks_at, definitions_at, storage_at, clocks_are, definitions_are, storage_is}
-use Rattle.vbe_round.proofs.Formulas.{value_formula}
-use Rattle.vbe_round.proofs.Stated.{AreStated}
-use Rattle.vbe_round.proofs.Rings.{definitions_of}
-use Rattle.vbe_round.proofs.Copies.{equation_over, register_over, stored_as}
-use Rattle.vbe_round.proofs.Declared.{port_symbol, stored_symbol, signal_symbol, on_lines, entity_symbols, signals_both, signals_on, stored_on as symbols_stored}
-use Rattle.vbe_round.proofs.Named.{IsGiven, port_groups, stored_groups, symbols_on, clock_of_text}
-use Rattle.vbe_round.proofs.Passing.{Stores, machine_stated, all_stated}
-use Rattle.vbe_round.proofs.Reading.{read_again_by, itself, not_refused}
-use Rattle.vbe_each.specs.Law.{EachText}
+use Rattle.vst_print.specs.Groups.{Group, grouped, declared, outline_of}
+use Rattle.vbe_print.specs.Written.{with_supply_ports, signal_texts, written_names, written_vars}
+use Rattle.vbe_print.specs.Placed.{placed_signals, placed_groups, placed_storage, source_of}
+use Rattle.vbe_print.specs.Said.{IsLetter}
+use Rattle.vbe_print.proofs.Sentence.{written_is_a_sentence}
+use Rattle.vbe_print.proofs.Whole.{declared_on, stored_on, begun_on, blocks_on}
+use Rattle.vbe_print.proofs.Supplied.{supply_groups, groups_supplied}
+use Rattle.vbe_print.proofs.Machines.{parts_of, some_declared, no_port_supply}
+use Rattle.vbe_laws.proofs.RenamedTrees.{in_each, statements_each, clocks_at, definitions_at, storage_at, clocks_are, definitions_are, storage_is}
+use Rattle.vbe_laws.proofs.Formulas.{value_formula}
+use Rattle.vbe_laws.proofs.Stated.{AreStated}
+use Rattle.vbe_laws.proofs.Rings.{definitions_of}
+use Rattle.vbe_laws.proofs.Copies.{equation_over, register_over, stored_as}
+use Rattle.vbe_laws.proofs.Declared.{port_symbol, stored_symbol, signal_symbol, on_lines, entity_symbols, signals_both, signals_on, stored_on as symbols_stored}
+use Rattle.vbe_laws.proofs.Named.{IsGiven, port_groups, stored_groups, symbols_on, clock_of_text}
+use Rattle.vbe_laws.proofs.Passing.{Stores, machine_stated, all_stated}
+use Rattle.vbe_laws.proofs.Reading.{read_again_by, itself, not_refused}
+use Rattle.vbe_laws.specs.EachText.{EachText}
 use Rattle.gen_circuit.specs.Generated.{register, circuit_by, words_of, generated}
 use Rattle.gen_circuit.specs.Written.{text, CircuitsCanBeWritten, IsReadAgain, CircuitsAreReadAgain}
 use Rattle.gen_circuit.proofs.Checking.{is_checked, words_each}

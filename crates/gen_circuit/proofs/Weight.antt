@@ -5,8 +5,8 @@ use Rattle.rand_pcg.specs.Pcg.{pcg32, pcg32_of_seed}
 use Rattle.vlsi_base.specs.Range.{rising}
 use Rattle.bool_expr.specs.declared.expr.Gate.TheVariants as gate
 use Rattle.bool_expr.specs.Expression.{variable, gate_size, size_of}
-use Rattle.machine_meaning.specs.Machine.{Equation}
-use Rattle.machine_meaning.specs.Size.{machine_size}
+use Rattle.machine_core.specs.Machine.{Equation}
+use Rattle.machine_core.specs.Size.{machine_size}
 use Rattle.gen_circuit.specs.Generated.{of_gate, kind, choices, operand, gate_by, gates, output, circuit_by, words_of, generated}
 use Rattle.gen_circuit.specs.Laws.{IsSmallFor, CircuitsAreSmall}
 use Rattle.gen_circuit.proofs.Checking.{length_vars, words_each}

@@ -13,7 +13,7 @@ use Rattle.vlsi_base.specs.Range.{rising}
 use Rattle.bool_expr.specs.declared.expr.Gate.{Gate}
 use Rattle.bool_expr.specs.declared.expr.Gate.TheVariants as gate
 use Rattle.bool_expr.specs.Expression.{Expression, constant, variable, pair}
-use Rattle.machine_meaning.specs.Machine.{Machine, Equation, Register}
+use Rattle.machine_core.specs.Machine.{Machine, Equation, Register}
 
 -- ---- names: the clock ck, the inputs x(0) to x(3), the outputs y(0) to y(3), the registers r(0) to r(3), the gates g0, g1, and so on
 

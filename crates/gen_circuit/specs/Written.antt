@@ -2,12 +2,12 @@
 use Rattle.std.specs.Prelude.{◌≡◌, ◌≤◌, ℕ, List, codes}
 use Rattle.vlsi_base.specs.declared.fault.ReadError.{ReadError}
 use Rattle.vlsi_base.specs.declared.fault.ReadError.TheVariants as errors
-use Rattle.machine_meaning.specs.Machine.{Machine}
-use Rattle.machine_meaning.specs.Size.{machine_size}
-use Rattle.machine_alike.specs.Alike.{IsAlike}
+use Rattle.machine_core.specs.Machine.{Machine}
+use Rattle.machine_core.specs.Size.{machine_size}
+use Rattle.machine_core.specs.Alike.{IsAlike}
 use Rattle.vbe_io.specs.Text.{IsVbe, IsVbeRefusal}
-use Rattle.vbe_write.specs.Writable.{CanBeVbe}
-use Rattle.vbe_again.specs.Said.{text_by, IsWithinLimitsBy}
+use Rattle.vbe_print.specs.Writable.{CanBeVbe}
+use Rattle.vbe_print.specs.Said.{text_by, IsWithinLimitsBy}
 use Rattle.gen_circuit.specs.Laws.{OfEveryCircuit}
 
 -- the text of a circuit, in which its gates are called g0, g1, and so on

@@ -2,7 +2,7 @@
 ghost use Rattle.gen_circuit.specs.Laws.{CircuitsAreChecked, CircuitsAreSmall};
 ghost use Rattle.gen_circuit.specs.Written.{CircuitsCanBeWritten, CircuitsAreReadAgain};
 
-use vbe_each::each_text_has_an_answer;
+use vbe_laws::each_text_has_an_answer;
 
 /// Every circuit is a checked machine. It costs nothing when it is called.
 pub fn circuits_are_checked()

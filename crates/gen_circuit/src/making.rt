@@ -8,8 +8,7 @@ ghost use Rattle.gen_circuit.specs.Generated.{bit_of, four_bits, gate_name, port
 
 use crate::law::circuits_are_checked;
 use bool_expr::{Expr, Gate};
-use machine_core::Machine;
-use machine_meaning::{Equation, Register};
+use machine_core::{Equation, Machine, Register};
 use rand_core::SeedableRng;
 use rand_core::utils::NextWord;
 use rand_pcg::Pcg32;

@@ -3,7 +3,7 @@ use Rattle.std.proofs.Common.{◌≡◌, ◌⊎◌, inl, inr, ℕ, zero, suc, �
 use Rattle.std.proofs.lemmas.List.Sums.{length-filter, count_by-le-length}
 use Rattle.std.proofs.lemmas.Bool.{cases_lt}
 use Rattle.vlsi_base.specs.declared.name.Name.{Name}
-use Rattle.machine_meaning.specs.Machine.{Machine}
+use Rattle.machine_core.specs.Machine.{Machine}
 use Rattle.vlsi_base.specs.Member.{In, here, there}
 use Rattle.cell_model.specs.Cell.{Cell, cell_inputs, cell_outputs}
 use Rattle.cell_model.specs.Library.{Library, cell_of}
@@ -12,7 +12,7 @@ use Rattle.net_meaning.specs.Agreement.{register_instance}
 use Rattle.net_meaning.specs.Well.{gate_instance, buffer_instance, Has}
 use Rattle.net_meaning.specs.Buffers.{AreOne, alike, tied, turned, through}
 use Rattle.cell_model.specs.Access.{count_to}
-use Rattle.ocp_rows.specs.Order.{Reads, begins_with_g, IsLean}
+use Rattle.net_meaning.specs.Order.{Reads, begins_with_g, IsLean}
 use Rattle.net_theory.specs.Sources.{node, IsNumber, Seat, Sourced, source_of}
 use Rattle.net_theory.proofs.Basics.{number_of, at_number, number_below, number_once, In-map_back, length-map}
 use Rattle.net_theory.proofs.Seats.{only, In-only, pin_source}

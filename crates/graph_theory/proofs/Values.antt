@@ -2,8 +2,8 @@
 use Rattle.std.proofs.Common.{◌≡◌, ℕ, zero, suc, ◌+◌, ◌<◌, Bool, not, List, [], ◌∷◌, ◌++◌, length, map, refl, sym, ◌∙◌, ap, subst, arith, length-append}
 use Rattle.std.specs.List.{slice_index_or}
 use Rattle.bool_expr.specs.Expression.{Expression, bit, val}
-use Rattle.machine_meaning.specs.Machine.{Machine, inputs, outputs}
-use Rattle.machine_meaning.specs.Named.{value_at}
+use Rattle.machine_core.specs.Machine.{Machine, inputs, outputs}
+use Rattle.machine_core.specs.Named.{value_at}
 use Rattle.vlsi_base.specs.Member.{In, here, there}
 use Rattle.net_theory.specs.Sources.{IsNumber}
 use Rattle.net_theory.specs.Meaning.{Means}

@@ -2,9 +2,9 @@
 use Rattle.std.specs.Prelude.{◌≡◌, ℕ, ◌+◌, ◌<◌, ◌≤◌, Bool, true, false, not, ◌&&◌, List, [], ◌∷◌, ◌++◌, map, length, count_by}
 use Rattle.std.specs.List.{slice_index_or}
 use Rattle.bool_expr.specs.Expression.{bit}
-use Rattle.machine_meaning.specs.Machine.{Machine, inputs, outputs}
-use Rattle.machine_meaning.specs.Cycles.{Settles, outs, next}
-use Rattle.machine_meaning.specs.Size.{machine_size}
+use Rattle.machine_core.specs.Machine.{Machine, inputs, outputs}
+use Rattle.machine_core.specs.Cycles.{Settles, outs, next}
+use Rattle.machine_core.specs.Size.{machine_size}
 use Rattle.net_theory.specs.Sources.{IsNumber, Values, Roots}
 
 -- a constant, an inverter, or a gate that is 0 where both of its inputs are 1; each reads nodes by their numbers

@@ -1,13 +1,12 @@
 -- What is true of each netlist that maps the graph of a machine.
-use Rattle.std.specs.Prelude.{ℕ, ◌+◌, List, [], ◌∷◌, ◌≡◌}
+use Rattle.std.specs.Prelude.{ℕ, ◌+◌, List}
 use Rattle.bool_expr.specs.Expression.{Expression}
-use Rattle.machine_meaning.specs.Machine.{Machine}
+use Rattle.machine_core.specs.Machine.{Machine}
 use Rattle.machine_core.specs.Checked.{IsChecked}
 use Rattle.cell_model.specs.Library.{Library}
 use Rattle.net_meaning.specs.Well.{IsWell}
 use Rattle.net_meaning.specs.Agreement.{Agrees}
-use Rattle.ocp_rows.specs.Placement.{Placement}
-use Rattle.ocp_rows.specs.Order.{IsInNetlistOrder, IsLean}
+use Rattle.net_meaning.specs.Order.{IsInNetlistOrder, IsLean}
 use Rattle.net_theory.specs.Sources.{IsNumber, Sourced, Shows}
 use Rattle.net_theory.specs.Meaning.{Means}
 use Rattle.graph_theory.specs.Graph.{Node, Graph, held_count, IsGraphOf, IsApart, IsSmall, graph_values, graph_roots}
@@ -31,8 +30,7 @@ MappedIsRight = (n : Sourced) (l : Library) (m : Machine) (g : Graph) → IsChec
 
 -- its instances stand in the order of a netlist
 abbrev pub MappedIsInOrder : Type 0
-MappedIsInOrder = (n : Sourced) (l : Library) (m : Machine) (g : Graph) (p : Placement) → Maps n l m g
-    → p.rows ≡ n.netlist.instances ∷ [] → IsInNetlistOrder n.netlist l m p 0
+MappedIsInOrder = (n : Sourced) (l : Library) (m : Machine) (g : Graph) → Maps n l m g → IsInNetlistOrder n.netlist l m 0
 
 -- and it is lean
 abbrev pub MappedIsLean : Type 0

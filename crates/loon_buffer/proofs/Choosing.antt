@@ -5,7 +5,7 @@ use Rattle.std.specs.Global.{Vec}
 use Rattle.std.specs.Cmp.Lexicographic.{bytes_decides}
 use Rattle.std.proofs.lemmas.Bool.{cases_lt}
 use Rattle.std.proofs.lemmas.Option.{slice_get_within, get_or_from_slice_get}
-use Rattle.machine_meaning.specs.Named.{is_same_text}
+use Rattle.machine_core.specs.Named.{is_same_text}
 use Rattle.cell_model.specs.Cell.{Function, gate, flip_flop, other, opaque, Cell}
 use Rattle.cell_model.specs.Library.{Library, cell_named, cell_of, IsUsable}
 use Rattle.cell_checks.specs.Checked.{IsChecked}

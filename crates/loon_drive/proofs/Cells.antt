@@ -4,8 +4,8 @@ use Rattle.std.specs.Cmp.Lexicographic.{bytes_decides}
 use Rattle.vlsi_base.specs.declared.name.Name.{Name}
 use Rattle.vlsi_base.specs.declared.name.Port.{Port}
 use Rattle.vlsi_base.specs.Member.{In, here, there}
-use Rattle.machine_meaning.specs.Machine.{names_of}
-use Rattle.machine_meaning.specs.Named.{is_same_text}
+use Rattle.machine_core.specs.Machine.{names_of}
+use Rattle.machine_core.specs.Named.{is_same_text}
 use Rattle.cell_model.specs.Cell.{Cell, Function}
 use Rattle.cell_model.specs.Library.{cell_named, IsUsable}
 use Rattle.cell_pins.specs.Pins.{all_ports}

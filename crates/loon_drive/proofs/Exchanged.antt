@@ -6,17 +6,17 @@ use Rattle.vlsi_base.specs.declared.name.Port.{Port}
 use Rattle.vlsi_base.specs.declared.name.Terminal.{Terminal}
 use Rattle.vlsi_base.specs.Member.{In, here, there}
 use Rattle.vlsi_base.specs.Names.{vdd, vss}
-use Rattle.machine_meaning.specs.Machine.{names_of, is_input}
-use Rattle.machine_meaning.specs.Named.{is_same_name}
+use Rattle.machine_core.specs.Machine.{names_of, is_input}
+use Rattle.machine_core.specs.Named.{is_same_name}
 use Rattle.cell_model.specs.Cell.{Function, gate, flip_flop, other, opaque, Cell, cell_inputs}
 use Rattle.cell_model.specs.Library.{Library, cell_of}
 use Rattle.cell_pins.specs.Pins.{with_supply, all_ports}
 use Rattle.net_core.specs.Places.{Stands, IsThere, NoneTwice}
 use Rattle.net_core.specs.Netlist.{Instance, Netlist, port, pin_of, pins_of, terminals, terminals_of}
 use Rattle.net_core.proofs.Lookups.{same_of, itself}
-use Rattle.net_meaning.specs.Netlist.{Member, Netlist as Seen}
+use Rattle.net_meaning.specs.Netlist.{Member, AbstractNetlist as Seen}
 use Rattle.net_theory.specs.Exchanges.{IsSameFunction, IsDrive, IsExchanged, ShownExchanged}
-use Rattle.net_view.specs.View.{member_of, netlist_by}
+use Rattle.net_right.specs.View.{member_of, netlist_by}
 use Rattle.loon_buffer.specs.Drives.{IsChosenFor}
 use Rattle.loon_loads.specs.Sinks.{is_clock_of, is_sink_pin, is_sink_of}
 use Rattle.loon_fanout.specs.Sinks.{instance_sinks, sinks, class_among, wired_of}

@@ -1,11 +1,11 @@
 -- The nets of a netlist with buffers and other drives, by those of the buffered one.
 use Rattle.std.proofs.Common.{ℕ, false, sym, ◌∙◌, subst}
-use Rattle.machine_meaning.specs.Machine.{Machine}
+use Rattle.machine_core.specs.Machine.{Machine}
 use Rattle.cell_model.specs.Library.{Library}
 use Rattle.net_core.specs.Netlist.{Netlist}
-use Rattle.net_meaning.specs.Netlist.{Netlist as Seen}
+use Rattle.net_meaning.specs.Netlist.{AbstractNetlist as Seen}
 use Rattle.net_meaning.specs.Buffers.{AreOne}
-use Rattle.net_view.specs.View.{netlist_by, IsSeenAs}
+use Rattle.net_right.specs.View.{netlist_by, IsSeenAs}
 use Rattle.loon_fanout.specs.Nets.{HasFewInputs, FitsWithoutBuffers, HasNoBuffer, BufferedHasFewInputs, BuffersAreNeeded, BufferedJoinsNothing}
 use Rattle.loon_drive.specs.Driven.{most_sinks}
 use Rattle.loon_drive.specs.Laws.{AreExchanged, DrivenJoinsNothing, DrivenHasFewInputs, DrivenNeedsItsBuffers}

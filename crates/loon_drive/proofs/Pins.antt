@@ -10,8 +10,8 @@ use Rattle.vlsi_base.specs.Name.{name_cmp}
 use Rattle.vlsi_base.specs.Names.{vdd, vss, comes_before}
 use Rattle.vlsi_base.specs.Member.{In, here, there}
 use Rattle.vlsi_base.proofs.NameOrder.{name_total, name_exact}
-use Rattle.machine_meaning.specs.Machine.{is_input, names_of}
-use Rattle.cell_model.specs.declared.kind.Kind.TheVariants as kind
+use Rattle.machine_core.specs.Machine.{is_input, names_of}
+use Rattle.vlsi_base.specs.declared.kind.Kind.TheVariants as kind
 use Rattle.cell_model.specs.Cell.{Function, gate, flip_flop, other, opaque, Cell, pin_ports, cell_inputs, cell_outputs}
 use Rattle.cell_model.specs.Covering.{IsFunctionOf}
 use Rattle.cell_model.specs.Library.{Library, IsPlain}
@@ -20,7 +20,7 @@ use Rattle.cell_model.proofs.Members.{All-In, In-map}
 use Rattle.cell_checks.specs.Checked.{IsChecked as HasPassed}
 use Rattle.cell_pins.specs.Pins.{supply, with_supply, all_ports}
 use Rattle.cell_pins.proofs.Ports.{with_cases}
-use Rattle.net_view.proofs.Ports.{supplies_differ}
+use Rattle.net_right.proofs.Ports.{supplies_differ}
 use Rattle.net_theory.proofs.Basics.{length-map}
 use Rattle.loon_wiring.specs.Repeaters.{Repeater, IsRepeater, buffer, inverters, GivesItsInput, IsBufferCell, IsInverterCell}
 use Rattle.loon_drive.proofs.Lists.{stands_in}

@@ -4,16 +4,16 @@ use Rattle.vlsi_base.specs.declared.name.Name.{Name}
 use Rattle.vlsi_base.specs.declared.name.Port.{Port}
 use Rattle.vlsi_base.specs.declared.name.Terminal.{Terminal}
 use Rattle.vlsi_base.specs.Member.{In}
-use Rattle.machine_meaning.specs.Machine.{Machine, names_of, is_input}
+use Rattle.machine_core.specs.Machine.{Machine, names_of, is_input}
 use Rattle.cell_model.specs.Cell.{Function, gate, flip_flop, other, opaque, Cell, pin_ports, cell_inputs, cell_outputs}
 use Rattle.cell_model.specs.Library.{Library, cell_of}
 use Rattle.cell_model.proofs.Members.{In-map, In-map_back}
 use Rattle.net_core.specs.Netlist.{Instance, Netlist, terminals}
-use Rattle.net_meaning.specs.Netlist.{Member, Netlist as Seen, pin_of}
+use Rattle.net_meaning.specs.Netlist.{Member, AbstractNetlist as Seen, pin_of}
 use Rattle.net_meaning.specs.Well.{Has, IsClockPin, a_clock_pin, IsSpecial, of_vdd, of_vss, of_clock}
 use Rattle.net_meaning.specs.Buffers.{AreOne, alike, tied, turned, through}
 use Rattle.net_theory.specs.Exchanges.{IsSameFunction}
-use Rattle.net_view.specs.View.{member_of, netlist_by, IsSeenAs}
+use Rattle.net_right.specs.View.{member_of, netlist_by, IsSeenAs}
 use Rattle.loon_buffer.specs.Drives.{IsChosenFor}
 use Rattle.loon_fanout.specs.Nets.{IsInputPin, an_input_pin, IsStaying, staying}
 use Rattle.loon_drive.specs.Laws.{AreExchanged}

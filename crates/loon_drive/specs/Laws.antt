@@ -1,18 +1,18 @@
 -- What a netlist with buffers and other drives has of the one that it was made of.
 use Rattle.std.specs.Prelude.{◌≡◌, ◌≢◌, ℕ, ◌≤◌, ◌++◌, codes, false, map, length}
 use Rattle.vlsi_base.specs.declared.name.Terminal.{Terminal}
-use Rattle.machine_meaning.specs.Machine.{Machine}
+use Rattle.machine_core.specs.Machine.{Machine}
 use Rattle.machine_core.specs.Checked.{IsChecked}
 use Rattle.cell_model.specs.Library.{Library}
 use Rattle.cell_checks.specs.Checked.{IsChecked as HasPassed}
 use Rattle.net_core.specs.Places.{Stands, IsThere}
 use Rattle.net_core.specs.Netlist.{Instance, Netlist, IsNetlist, terminals}
-use Rattle.net_meaning.specs.Netlist.{Netlist as Seen}
+use Rattle.net_meaning.specs.Netlist.{AbstractNetlist as Seen}
 use Rattle.net_meaning.specs.Well.{buffer_instance}
 use Rattle.net_meaning.specs.Buffers.{AreOne}
-use Rattle.net_view.specs.View.{IsSeenAs}
-use Rattle.net_view.specs.Right.{IsRightNetlist}
-use Rattle.free_names.specs.Free.{free_texts}
+use Rattle.net_right.specs.View.{IsSeenAs}
+use Rattle.net_right.specs.Right.{IsRightNetlist}
+use Rattle.text_names.specs.Free.{free_texts}
 use Rattle.loon_buffer.specs.Drives.{IsChosenFor, OnlyExchanges}
 use Rattle.loon_fanout.specs.Limited.{IsOfCells, HasFanout}
 use Rattle.loon_fanout.specs.Nets.{HasFewInputs, FitsWithoutBuffers, HasNoBuffer}

@@ -6,8 +6,8 @@ use Rattle.vlsi_base.specs.declared.name.Name.{Name}
 use Rattle.vlsi_base.specs.declared.name.Terminal.{Terminal}
 use Rattle.vlsi_base.specs.Names.{vdd, vss}
 use Rattle.vlsi_base.specs.Member.{In, here, there, AllDifferent}
-use Rattle.machine_meaning.specs.Machine.{Machine, is_input, names_of}
-use Rattle.machine_meaning.specs.Named.{is_same_name}
+use Rattle.machine_core.specs.Machine.{Machine, is_input, names_of}
+use Rattle.machine_core.specs.Named.{is_same_name}
 use Rattle.machine_core.specs.Checked.{IsChecked}
 use Rattle.machine_core.proofs.Names.{same_name-true, same_name-itself}
 use Rattle.cell_model.specs.Cell.{Function, gate, flip_flop, other, opaque, Cell, pin_ports, cell_inputs}
@@ -16,17 +16,17 @@ use Rattle.cell_model.proofs.Members.{In-left, In-right, In-map, In-map_back}
 use Rattle.cell_pins.specs.Pins.{all_ports}
 use Rattle.net_core.specs.Places.{IsThere}
 use Rattle.net_core.specs.Netlist.{Instance, Netlist as InMemory, IsNetlist, port, terminals}
-use Rattle.net_meaning.specs.Netlist.{Member, Netlist, pin_of, IsTerminal}
+use Rattle.net_meaning.specs.Netlist.{Member, AbstractNetlist, pin_of, IsTerminal}
 use Rattle.net_meaning.specs.Well.{Has, a_clock_pin, IsSpecial, of_vdd, of_vss, of_clock, IsFlipFlop, IsWell}
 use Rattle.net_theory.proofs.Basics.{In-names}
 use Rattle.net_theory.proofs.Seats.{input_terminal}
-use Rattle.net_view.specs.View.{member_of, IsSeenAs}
-use Rattle.net_view.specs.Right.{IsRightNetlist, HasPinsOfCells}
-use Rattle.net_view.proofs.Lists.{in_place, filter_in}
-use Rattle.net_view.proofs.Places.{pin_there}
-use Rattle.net_view.proofs.Ports.{names_to}
-use Rattle.net_view.proofs.Terminals.{seen_instances, IsCelled}
-use Rattle.net_view.proofs.Seen.{seen_class, seen_is_well_formed}
+use Rattle.net_right.specs.View.{member_of, IsSeenAs}
+use Rattle.net_right.specs.Right.{IsRightNetlist, HasPinsOfCells}
+use Rattle.net_right.proofs.Lists.{in_place, filter_in}
+use Rattle.net_right.proofs.Places.{pin_there}
+use Rattle.net_right.proofs.Ports.{names_to}
+use Rattle.net_right.proofs.Terminals.{seen_instances, IsCelled}
+use Rattle.net_right.proofs.Seen.{seen_class, seen_is_well_formed}
 use Rattle.loon_loads.specs.Sinks.{is_clock_of, is_sink_of}
 use Rattle.loon_fanout.specs.Sinks.{instance_sinks, is_supply_class, sinks, wired_of}
 use Rattle.loon_fanout.specs.Limited.{HasFanout, IsOfCells}
@@ -97,7 +97,7 @@ pub record IsMade (n : InMemory) (l : Library) (i : Member) (c : Cell) : Type 0 
   pub usable : IsUsable c
   pub pins : owner.pins ≡ names_of (all_ports c)
 
-pub made : (n : InMemory) (l : Library) (k : Netlist) → IsOfCells n l → IsSeenAs n k → (i : Member) (c : Cell) → Has k l i c → IsMade n l i c
+pub made : (n : InMemory) (l : Library) (k : AbstractNetlist) → IsOfCells n l → IsSeenAs n k → (i : Member) (c : Cell) → Has k l i c → IsMade n l i c
 made n l k of_cells seen i c has =
     let r = In-map_back member_of i n.instances (subst (λ (all : List Member). In i all) (seen_instances n k seen) has.listed) in
     let found : cell_of l r.0.model ≡ Some c = subst (λ (x : Member). cell_of l x.model ≡ Some c) (sym r.2) has.found in
@@ -113,7 +113,7 @@ made n l k of_cells seen i c has =
     }
 
 -- an input pin of a net that is no clock pin is a sink of it
-pub made_sink : (n : InMemory) (l : Library) (k : Netlist) → IsNetlist n → (of_cells : IsOfCells n l) → IsSeenAs n k → (i : Member) (c : Cell) → IsMade n l i c
+pub made_sink : (n : InMemory) (l : Library) (k : AbstractNetlist) → IsNetlist n → (of_cells : IsOfCells n l) → IsSeenAs n k → (i : Member) (c : Cell) → IsMade n l i c
     → (name : Name) → In name (cell_inputs c) → is_clock_of c.function name ≡ false
     → is_supply_class (wired_of n) (k.class (pin_of i.name name)) ≡ false → In (pin_of i.name name) (sinks l (wired_of n) (k.class (pin_of i.name name)))
 made_sink n l k is of_cells seen i c made name input no_clock net =
@@ -142,7 +142,7 @@ made_sink n l k is of_cells seen i c made name input no_clock net =
           filter_in (λ t. nat_eq ((wired_of n).class t) (k.class (pin_of made.owner.name name))) (flat_map (instance_sinks l) n.instances) (pin_of made.owner.name name) among
           (eq-eqb ((wired_of n).class (pin_of made.owner.name name)) (k.class (pin_of made.owner.name name)) class)
 
-module _ (n : InMemory) (l : Library) (m : Machine) (limit : ℕ) (k : Netlist) (is : IsNetlist n) (checked : IsChecked m) (of_cells : IsOfCells n l) (right : IsRightNetlist n l m)
+module _ (n : InMemory) (l : Library) (m : Machine) (limit : ℕ) (k : AbstractNetlist) (is : IsNetlist n) (checked : IsChecked m) (of_cells : IsOfCells n l) (right : IsRightNetlist n l m)
     (fanout : HasFanout l limit n) (seen : IsSeenAs n k) where
   has_pins : HasPinsOfCells n l
   has_pins i c t found = let d = of_cells.found i t in d.3 ∙ ap (λ (x : Cell). names_of (all_ports x)) (same_Some d.0 c (sym d.1 ∙ found))

@@ -6,10 +6,10 @@ use Rattle.vlsi_base.specs.declared.name.Port.{Port}
 use Rattle.vlsi_base.specs.Names.{vdd, vss, comes_before}
 use Rattle.vlsi_base.specs.Member.{In, here, there, AllDifferent}
 use Rattle.bool_expr.specs.Expression.{Expression}
-use Rattle.machine_meaning.specs.Machine.{is_input, names_of}
-use Rattle.machine_meaning.specs.Named.{is_same_name}
+use Rattle.machine_core.specs.Machine.{is_input, names_of}
+use Rattle.machine_core.specs.Named.{is_same_name}
 use Rattle.machine_core.proofs.Names.{same_name-true, same_name-itself, same_name-false}
-use Rattle.cell_model.specs.declared.kind.Kind.TheVariants as kind
+use Rattle.vlsi_base.specs.declared.kind.Kind.TheVariants as kind
 use Rattle.cell_model.specs.Cell.{Function, gate, flip_flop, other, opaque, Cell, pin_ports, cell_inputs}
 use Rattle.cell_model.specs.Covering.{IsFunctionOf}
 use Rattle.cell_model.specs.Library.{Library, cell_of, cell_named, IsUsable, IsPlain}
@@ -22,9 +22,9 @@ use Rattle.cell_pins.proofs.Ports.{in_filter, all_sorted, sorted_of, sorted_pair
 use Rattle.cell_pins.proofs.Sound.{Apart, apart_first, apart_rest, member_at}
 use Rattle.net_core.specs.Netlist.{AreInOrder, port}
 use Rattle.net_core.specs.Places.{Stands}
-use Rattle.net_view.proofs.Ports.{both_cases, port_stays}
+use Rattle.net_right.proofs.Ports.{both_cases, port_stays}
 use Rattle.net_theory.proofs.Basics.{length-map}
-use Rattle.net_view.proofs.Lists.{filter_in}
+use Rattle.net_right.proofs.Lists.{filter_in}
 use Rattle.loon_wiring.specs.declared.repeater.Tie.TheVariants as tie
 use Rattle.loon_wiring.specs.declared.wiring.Wiring.{Wiring}
 use Rattle.loon_loads.specs.Sinks.{is_clock_of, is_sink_of}

@@ -15,9 +15,9 @@ use Rattle.net_core.specs.Frame.{instance_of}
 use Rattle.net_core.specs.Netlist.{Instance, Netlist as InMemory, IsNetlist, AreInOrder, port, pins_of, terminals_of, terminals, HasClass}
 use Rattle.net_core.specs.Places.{Stands, NoneTwice}
 use Rattle.net_core.proofs.Lookups.{itself}
-use Rattle.net_view.proofs.Lists.{map_twice, in_place}
-use Rattle.free_names.specs.Free.{is_free}
-use Rattle.free_names.specs.Laws.{TextsAreFree}
+use Rattle.net_right.proofs.Lists.{map_twice, in_place}
+use Rattle.text_names.specs.Free.{is_free}
+use Rattle.text_names.specs.Laws.{TextsAreFree}
 use Rattle.net_theory.proofs.Basics.{length-map}
 use Rattle.loon_fanout.specs.declared.build.Entry.{Entry}
 use Rattle.loon_fanout.specs.declared.build.Sketch.{Sketch}

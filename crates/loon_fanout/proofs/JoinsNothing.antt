@@ -8,7 +8,7 @@ use Rattle.vlsi_base.specs.declared.name.Port.{Port}
 use Rattle.vlsi_base.specs.declared.name.Terminal.{Terminal}
 use Rattle.vlsi_base.specs.Names.{vdd}
 use Rattle.vlsi_base.specs.Member.{In, here, there}
-use Rattle.machine_meaning.specs.Machine.{names_of}
+use Rattle.machine_core.specs.Machine.{names_of}
 use Rattle.cell_model.specs.Cell.{Cell, pin_ports}
 use Rattle.cell_model.specs.Library.{Library, cell_of}
 use Rattle.cell_model.specs.Connectors.{PinsAreConnectors}
@@ -20,14 +20,14 @@ use Rattle.net_core.specs.Netlist.{Instance, Netlist as InMemory, IsNetlist, por
 use Rattle.net_core.proofs.Finishing.{netlist_terminals_once}
 use Rattle.net_core.proofs.Namings.{turn_below}
 use Rattle.net_core.proofs.Rings.{class_below}
-use Rattle.net_meaning.specs.Netlist.{Member, Netlist, pin_of, a_pin}
+use Rattle.net_meaning.specs.Netlist.{Member, AbstractNetlist, pin_of, a_pin}
 use Rattle.net_meaning.specs.Well.{Has, buffer_instance}
 use Rattle.net_meaning.specs.Buffers.{AreOne}
-use Rattle.net_view.specs.View.{member_of, IsSeenAs}
-use Rattle.net_view.proofs.Lists.{in_place}
-use Rattle.net_view.proofs.Places.{has_class}
-use Rattle.net_view.proofs.Terminals.{seen_instances, IsCelled, terminal_there}
-use Rattle.net_view.proofs.Seen.{seen_class}
+use Rattle.net_right.specs.View.{member_of, IsSeenAs}
+use Rattle.net_right.proofs.Lists.{in_place}
+use Rattle.net_right.proofs.Places.{has_class}
+use Rattle.net_right.proofs.Terminals.{seen_instances, IsCelled, terminal_there}
+use Rattle.net_right.proofs.Seen.{seen_class}
 use Rattle.loon_fanout.specs.Sinks.{Wired, is_same_terminal, class_among, wired_of}
 use Rattle.loon_fanout.specs.Limited.{IsBuffered, IsOfCells}
 use Rattle.loon_fanout.specs.Laws.{as_netlist, gate_named}
@@ -101,7 +101,7 @@ module _ (tracks : Bool) (n : InMemory) (l : Library) (limit : ℕ) (r : InMemor
       (subst (λ (ps : List Port). In t (terminals_of ps r.instances)) (sym ports)
       (subst (λ (is : List Instance). In t (terminals_of n.ports is)) (sym instances) still))
 
-  module _ (k : Netlist) (seen : IsSeenAs r k) where
+  module _ (k : AbstractNetlist) (seen : IsSeenAs r k) where
     celled : (i : Instance) → IsThere r.instances i → IsCelled l i
     celled i h = celled_r tracks n l limit r passed is_n is_r of_cells buffered i h
 
@@ -143,7 +143,7 @@ module _ (tracks : Bool) (n : InMemory) (l : Library) (limit : ℕ) (r : InMemor
         ∙ origins.each u (in_from_place (terminals n) u_in.0 u u_in.1)
 
 -- the class of a terminal in memory, and as it is seen
-seen_given : (n : InMemory) (y : Netlist) → IsNetlist n → IsSeenAs n y → (t : Terminal) → IsThere (terminals n) t → y.class t ≡ (wired_of n).class t
+seen_given : (n : InMemory) (y : AbstractNetlist) → IsNetlist n → IsSeenAs n y → (t : Terminal) → IsThere (terminals n) t → y.class t ≡ (wired_of n).class t
 seen_given n y is_n seen t h =
     let c = seen_class n y is_n seen t h in
     sym (class_is (terminals n) n.classes t c.0 (y.class t) (netlist_terminals_once n is_n) c.1 c.2)

@@ -3,16 +3,16 @@ use Rattle.std.proofs.Common.{◌≡◌, ◌⊎◌, inl, inr, ℕ, refl, sym, �
 use Rattle.vlsi_base.specs.declared.name.Name.{Name}
 use Rattle.vlsi_base.specs.declared.name.Terminal.{Terminal}
 use Rattle.vlsi_base.specs.Member.{In}
-use Rattle.machine_meaning.specs.Machine.{names_of}
+use Rattle.machine_core.specs.Machine.{names_of}
 use Rattle.cell_model.specs.Cell.{Cell, pin_ports, cell_inputs, cell_outputs}
 use Rattle.cell_model.specs.Library.{Library}
-use Rattle.net_meaning.specs.Netlist.{Member, Netlist, pin_of}
+use Rattle.net_meaning.specs.Netlist.{Member, AbstractNetlist, pin_of}
 use Rattle.net_meaning.specs.Well.{Has, buffer_instance}
 use Rattle.net_meaning.specs.Buffers.{AreOne, alike, tied, turned, through}
 use Rattle.net_theory.proofs.Basics.{In-names}
 
 -- a relation of such terminals that holds of those of one class, and of the pins of each instance named b
-pub record Merges (n : Netlist) (l : Library) (There : Terminal → Type 0) (Same : Terminal → Terminal → Type 0) : Type 0 where
+pub record Merges (n : AbstractNetlist) (l : Library) (There : Terminal → Type 0) (Same : Terminal → Terminal → Type 0) : Type 0 where
   pub in_class : (t u : Terminal) → There t → There u → n.class t ≡ n.class u → Same t u
   pub back : (t u : Terminal) → Same t u → Same u t
   pub chain : (t u v : Terminal) → Same t u → Same u v → Same t v
@@ -20,7 +20,7 @@ pub record Merges (n : Netlist) (l : Library) (There : Terminal → Type 0) (Sam
   pub over : (i : Member) (c : Cell) (j : ℕ) (x y : Name) → Has n l i c → i.name ≡ buffer_instance j → In x (cell_inputs c) → In y (cell_outputs c)
       → Same (pin_of i.name x) (pin_of i.name y)
 
-module _ (n : Netlist) (l : Library) (There : Terminal → Type 0) (Same : Terminal → Terminal → Type 0) (h : Merges n l There Same) where
+module _ (n : AbstractNetlist) (l : Library) (There : Terminal → Type 0) (Same : Terminal → Terminal → Type 0) (h : Merges n l There Same) where
   -- two classes with terminals that are related
   record Met (a d : ℕ) : Type 0 where
     first : Terminal

@@ -5,9 +5,9 @@ use Rattle.vlsi_base.specs.declared.name.Name.{Name}
 use Rattle.vlsi_base.specs.declared.name.Terminal.{Terminal}
 use Rattle.vlsi_base.specs.Names.{vdd, vss}
 use Rattle.vlsi_base.specs.Member.{In}
-use Rattle.machine_meaning.specs.Machine.{names_of}
+use Rattle.machine_core.specs.Machine.{names_of}
 use Rattle.machine_core.proofs.Names.{same_name-itself}
-use Rattle.machine_meaning.specs.Named.{is_same_name}
+use Rattle.machine_core.specs.Named.{is_same_name}
 use Rattle.cell_model.specs.Cell.{Function, Cell, pin_ports}
 use Rattle.cell_model.specs.Library.{Library, cell_of}
 use Rattle.cell_model.proofs.Members.{In-split, In-left, In-map, In-map_back}
@@ -15,13 +15,13 @@ use Rattle.cell_pins.proofs.Ports.{in_filter}
 use Rattle.cell_checks.specs.Checked.{IsChecked as HasPassed}
 use Rattle.net_core.specs.Places.{IsThere}
 use Rattle.net_core.specs.Netlist.{Instance, Netlist as InMemory, IsNetlist, port, terminals}
-use Rattle.net_meaning.specs.Netlist.{Member, Netlist, pin_of, a_pin}
+use Rattle.net_meaning.specs.Netlist.{Member, AbstractNetlist, pin_of, a_pin}
 use Rattle.net_meaning.specs.Well.{Has, IsClockPin, a_clock_pin, buffer_instance}
 use Rattle.net_theory.proofs.Basics.{In-names}
-use Rattle.net_view.specs.View.{member_of, IsSeenAs}
-use Rattle.net_view.proofs.Lists.{in_place}
-use Rattle.net_view.proofs.Terminals.{seen_instances, IsCelled, terminal_there}
-use Rattle.net_view.proofs.Seen.{seen_class}
+use Rattle.net_right.specs.View.{member_of, IsSeenAs}
+use Rattle.net_right.proofs.Lists.{in_place}
+use Rattle.net_right.proofs.Terminals.{seen_instances, IsCelled, terminal_there}
+use Rattle.net_right.proofs.Seen.{seen_class}
 use Rattle.loon_loads.specs.Sinks.{is_clock_of}
 use Rattle.loon_fanout.specs.Sinks.{Wired, sinks, wired_of}
 use Rattle.loon_wiring.specs.Repeaters.{Repeater}
@@ -42,7 +42,7 @@ use Rattle.loon_fanout.proofs.RightStay.{repeats, celled_r, all_instances, new_n
 -- ---- classes of a netlist in memory
 
 module _ (l : Library) (r : InMemory) (is : IsNetlist r) (celled : (i : Instance) → IsThere r.instances i → IsCelled l i) (w : Wired) (of : IsNetlistOf r w) (good : AreGood l w.instances)
-    (k : Netlist) (seen : IsSeenAs r k) where
+    (k : AbstractNetlist) (seen : IsSeenAs r k) where
   same_class : (t u : Terminal) → IsThere (terminals r) t → IsThere (terminals r) u → w.class t ≡ w.class u → k.class t ≡ k.class u
   same_class t u t_in u_in e = (of.classes t u (k.class t) (k.class u) (seen_class r k is seen t t_in) (seen_class r k is seen u u_in)).1 e
 
@@ -73,7 +73,7 @@ was_crowded : (l : Library) (limit : ℕ) (b : Repeater) (names : List (List ℕ
 was_crowded l limit b names n k (within few) = inl refl
 was_crowded l limit b names n k (round class rows large earlier groups many rest) = inr (class, large)
 
-module _ (tracks : Bool) (n : InMemory) (l : Library) (limit : ℕ) (r : InMemory) (k : Netlist) (passed : HasPassed tracks l) (is_n : IsNetlist n) (is_r : IsNetlist r) (of_cells : IsOfCells n l)
+module _ (tracks : Bool) (n : InMemory) (l : Library) (limit : ℕ) (r : InMemory) (k : AbstractNetlist) (passed : HasPassed tracks l) (is_n : IsNetlist n) (is_r : IsNetlist r) (of_cells : IsOfCells n l)
     (no_b : (i : Instance) (j : ℕ) → IsThere n.instances i → i.name ≢ buffer_instance j) (buffered : IsBuffered n l limit r) (seen : IsSeenAs r k) (fits : FitsWithoutBuffers k l limit) where
   abbrev w : Wired
   w = buffered.wired

@@ -6,7 +6,7 @@ use Rattle.std.specs.List.{All, flat_map, list_any}
 use Rattle.vlsi_base.specs.declared.name.Name.{Name}
 use Rattle.vlsi_base.specs.declared.name.Terminal.{Terminal}
 use Rattle.vlsi_base.specs.Member.{In, here, there, AllDifferent}
-use Rattle.machine_meaning.specs.Machine.{names_of}
+use Rattle.machine_core.specs.Machine.{names_of}
 use Rattle.cell_model.specs.Cell.{Cell, pin_ports, cell_inputs, cell_outputs}
 use Rattle.cell_model.specs.Library.{Library, cell_of, IsUsable}
 use Rattle.cell_model.proofs.Members.{In-split, In-left, In-right, In-map, In-map_back, All-In}
@@ -17,8 +17,8 @@ use Rattle.vlsi_base.specs.Names.{vdd, vss}
 use Rattle.net_core.specs.Netlist.{Instance, Netlist as InMemory, IsNetlist}
 use Rattle.net_meaning.specs.Netlist.{Member, pin_of}
 use Rattle.net_meaning.specs.Well.{Has, buffer_instance}
-use Rattle.net_view.specs.View.{member_of}
-use Rattle.net_view.proofs.Lists.{in_place}
+use Rattle.net_right.specs.View.{member_of}
+use Rattle.net_right.proofs.Lists.{in_place}
 use Rattle.loon_loads.specs.Sinks.{is_sink_of}
 use Rattle.loon_fanout.specs.Sinks.{Wired, instance_sinks, is_supply_class, sinks, is_same_terminal}
 use Rattle.loon_fanout.specs.Wired.{pin_class, with_gate, with_moved, with_group}

@@ -14,7 +14,7 @@ use Rattle.cell_model.proofs.Texts.{text_differs}
 use Rattle.net_core.specs.Netlist.{Instance, port}
 use Rattle.net_meaning.specs.Netlist.{Member, pin_of}
 use Rattle.net_meaning.specs.Well.{Has, buffer_instance}
-use Rattle.net_view.specs.View.{member_of}
+use Rattle.net_right.specs.View.{member_of}
 use Rattle.loon_fanout.specs.Sinks.{Wired, sinks, is_same_owner, is_same_terminal}
 use Rattle.loon_fanout.specs.Wired.{pin_class, with_gate, with_row, with_moved, with_group}
 use Rattle.loon_wiring.specs.Repeaters.{Repeater}

@@ -11,8 +11,8 @@ use Rattle.vlsi_base.specs.declared.name.Dir.TheVariants as dir
 use Rattle.vlsi_base.specs.declared.name.Terminal.{Terminal}
 use Rattle.vlsi_base.specs.Names.{vdd, vss}
 use Rattle.vlsi_base.specs.Member.{In, here, there, AllDifferent}
-use Rattle.machine_meaning.specs.Machine.{is_input, names_of}
-use Rattle.machine_meaning.specs.Named.{is_same_name}
+use Rattle.machine_core.specs.Machine.{is_input, names_of}
+use Rattle.machine_core.specs.Named.{is_same_name}
 use Rattle.machine_core.proofs.Names.{same_name-itself}
 use Rattle.cell_model.specs.Cell.{Function, gate, flip_flop, other, opaque, Cell, pin_ports, cell_inputs}
 use Rattle.cell_model.specs.Library.{Library, cell_of, IsPlain, IsUsable}
@@ -31,8 +31,8 @@ use Rattle.net_core.specs.Places.{Stands}
 use Rattle.net_core.specs.Netlist.{Instance, port, pin_of}
 use Rattle.net_core.specs.Checks.{pins_named, port_role, pin_role, pin_role_of}
 use Rattle.net_core.proofs.Standing.{stands_same}
-use Rattle.net_view.proofs.Lists.{in_place, filter_in}
-use Rattle.net_view.proofs.Ports.{both_cases, vss_there, vdd_there, port_stays}
+use Rattle.net_right.proofs.Lists.{in_place, filter_in}
+use Rattle.net_right.proofs.Ports.{both_cases, vss_there, vdd_there, port_stays}
 use Rattle.loon_loads.specs.Sinks.{is_clock_of}
 use Rattle.loon_fanout.specs.Sinks.{Wired}
 use Rattle.loon_fanout.proofs.Picking.{flat_in}

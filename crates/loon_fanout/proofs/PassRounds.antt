@@ -34,7 +34,7 @@ use Rattle.loon_fanout.proofs.RightMove.{IsSink}
 use Rattle.loon_fanout.proofs.RightRounds.{AreNew, Repeats, once, twice, in_groups, some_of, sink_of}
 use Rattle.loon_fanout.proofs.OneClass.{AreGood, still_good, own_kept, row_follows, round_follows, groups_whole, whole_rows, group_of, sinks_differ}
 use Rattle.loon_fanout.proofs.PassLoops.{HasNoLoop, contracted}
-use Rattle.net_view.proofs.Tallies.{input_pin}
+use Rattle.net_right.proofs.Tallies.{input_pin}
 use Rattle.loon_fanout.proofs.PassTallies.{somewhere, input_pins, IsGood, IsFine}
 use Rattle.loon_fanout.proofs.PassPins.{pin_mark, pin_marked, sink_role, sink_pin, role_out, Arc, gate_arc}
 use Rattle.loon_fanout.proofs.PassSteps.{all_marks, tally_at, IsSane, gate_keeps, gate_fresh, gate_sane, move_keeps, move_sane}

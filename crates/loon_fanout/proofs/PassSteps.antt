@@ -28,7 +28,7 @@ use Rattle.loon_fanout.proofs.RightStates.{IsGateCell}
 use Rattle.loon_fanout.proofs.RightPins.{own_class, input, output, input_class, output_class}
 use Rattle.loon_fanout.proofs.RightMove.{IsSink}
 use Rattle.loon_fanout.proofs.OneClass.{AreGood}
-use Rattle.net_view.proofs.Tallies.{input_port, output_port, input_pin, clock_pin}
+use Rattle.net_right.proofs.Tallies.{input_port, output_port, input_pin, clock_pin}
 use Rattle.loon_fanout.proofs.PassTallies.{Mark, Counts, tally_in, joined, nowhere, somewhere, found, unmoved, only, output_pin, input_ports, output_ports, input_pins, clock_pins, output_pins, output_pin_least, IsGood, IsFine}
 use Rattle.loon_fanout.proofs.PassPins.{instance_marks, pin_mark, marks, marks_push, MarkOf, of_port, of_pin, mark_of, IsMade, sink_role, GatePin, on_supply, reads, drives, gate_pin, gate_output, gate_pins_differ}
 

@@ -12,7 +12,7 @@ use Rattle.net_core.specs.declared.tally.Tally.{Tally}
 use Rattle.net_core.specs.declared.tally.ClassFault.{ClassFault}
 use Rattle.net_core.specs.declared.tally.ClassFault.TheVariants as fault
 use Rattle.loon_fanout.proofs.Picking.{is_false}
-use Rattle.net_view.proofs.Tallies.{in_class, input_port, output_port, input_pin, clock_pin}
+use Rattle.net_right.proofs.Tallies.{in_class, input_port, output_port, input_pin, clock_pin}
 use Rattle.net_core.specs.Checks.{with_one, no_terminals, tally_of, drivers, is_unconnected, is_undriven, is_driven_twice, is_misused_clock, has_fault}
 
 -- a terminal with its role

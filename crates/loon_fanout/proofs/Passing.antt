@@ -29,9 +29,9 @@ use Rattle.net_core.specs.Checks.{pins_named, Fits, port_role, pin_role, pin_rol
 use Rattle.net_core.proofs.Finishing.{netlist_terminals_once}
 use Rattle.net_core.proofs.Namings.{turn_reached}
 use Rattle.net_core.proofs.Rings.{class_below, at_place}
-use Rattle.net_view.proofs.Lists.{in_place, map_twice}
-use Rattle.net_view.proofs.Places.{has_class}
-use Rattle.net_view.proofs.Models.{named_cell, model_found}
+use Rattle.net_right.proofs.Lists.{in_place, map_twice}
+use Rattle.net_right.proofs.Places.{has_class}
+use Rattle.net_right.proofs.Models.{named_cell, model_found}
 use Rattle.loon_fanout.specs.Sinks.{Wired, sinks, is_same_terminal, wired_of}
 use Rattle.loon_wiring.specs.Repeaters.{Repeater}
 use Rattle.loon_fanout.specs.Limited.{IsLimited, within, round, IsBuffered, IsOfCells}
@@ -45,7 +45,7 @@ use Rattle.loon_fanout.proofs.RightStay.{repeats, gate_cell, WasLimited, unchang
 use Rattle.loon_fanout.proofs.Remaining.{still_of_cells}
 use Rattle.loon_fanout.proofs.OneClass.{AreGood, good_instances}
 use Rattle.loon_fanout.proofs.PassLoops.{Chain, Ring, ring_in, chain_next, chain_last, Plus, one, more, HasNoLoop, along}
-use Rattle.net_view.proofs.Tallies.{input_port, output_port, input_pin, clock_pin}
+use Rattle.net_right.proofs.Tallies.{input_port, output_port, input_pin, clock_pin}
 use Rattle.loon_fanout.proofs.PassTallies.{Mark, tally_in, Counts, nowhere, somewhere, told_alike, output_pin, input_ports, output_ports, input_pins, clock_pins, output_pins, IsGood, IsFine, no_fault, good_of}
 use Rattle.loon_fanout.proofs.PassPins.{port_mark, pin_mark, instance_marks, marks, pin_marked, IsMade, supply_pin, gate_pin, GatePin, on_supply, reads, drives}
 use Rattle.loon_fanout.proofs.PassSteps.{all_marks, tally_at, IsSane}

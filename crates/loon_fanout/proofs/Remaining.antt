@@ -5,7 +5,7 @@ use Rattle.vlsi_base.specs.declared.name.Port.{Port}
 use Rattle.vlsi_base.specs.declared.name.Terminal.{Terminal}
 use Rattle.vlsi_base.specs.Names.{vdd, vss}
 use Rattle.vlsi_base.specs.Member.{In}
-use Rattle.machine_meaning.specs.Machine.{names_of}
+use Rattle.machine_core.specs.Machine.{names_of}
 use Rattle.cell_model.specs.Cell.{Cell}
 use Rattle.cell_model.specs.Library.{Library, cell_of, IsUsable}
 use Rattle.cell_model.proofs.Members.{In-split, In-map_back}
@@ -15,8 +15,8 @@ use Rattle.cell_pins.proofs.Sound.{member_at as in_from_place}
 use Rattle.net_core.specs.Places.{IsThere}
 use Rattle.net_core.specs.Netlist.{Instance, Netlist as InMemory, IsNetlist, port, terminals}
 use Rattle.net_core.proofs.Finishing.{netlist_terminals_once}
-use Rattle.net_view.proofs.Lists.{in_place}
-use Rattle.net_view.proofs.Places.{Which, which_port, which_pin, which, port_there}
+use Rattle.net_right.proofs.Lists.{in_place}
+use Rattle.net_right.proofs.Places.{Which, which_port, which_pin, which, port_there}
 use Rattle.loon_fanout.specs.Sinks.{wired_of}
 use Rattle.loon_fanout.specs.Limited.{IsBuffered, HasFanout, IsOfCells}
 use Rattle.loon_fanout.specs.Laws.{gate_named}

@@ -7,7 +7,7 @@ use Rattle.vlsi_base.specs.declared.name.Terminal.{Terminal}
 use Rattle.vlsi_base.specs.Names.{vdd, vss}
 use Rattle.vlsi_base.specs.Member.{In, here, there}
 use Rattle.bool_expr.specs.Expression.{val}
-use Rattle.machine_meaning.specs.Machine.{Machine, inputs, outputs, names_of}
+use Rattle.machine_core.specs.Machine.{Machine, inputs, outputs, names_of}
 use Rattle.machine_core.specs.Checked.{IsChecked}
 use Rattle.cell_model.specs.Cell.{Function, gate, flip_flop, other, opaque, Cell, pin_ports, cell_inputs, cell_outputs}
 use Rattle.cell_model.specs.Library.{Library, cell_of, IsUsable, IsPlain}
@@ -20,7 +20,7 @@ use Rattle.net_theory.specs.Sources.{Source, high, low, ticking, node, Values, S
 use Rattle.net_theory.specs.Meaning.{Means}
 use Rattle.net_theory.proofs.Basics.{number_in, In-names, In-inputs, In-held, In-pins}
 use Rattle.net_theory.proofs.Seats.{In-only, seat_has, input_terminal, output_terminal}
-use Rattle.net_view.specs.View.{member_of}
+use Rattle.net_right.specs.View.{member_of}
 use Rattle.loon_fanout.specs.Sinks.{Wired, is_same_owner}
 use Rattle.loon_fanout.specs.Wired.{pin_class, with_gate}
 use Rattle.loon_fanout.specs.Laws.{as_netlist, sourced, gate_named}

@@ -6,8 +6,8 @@ use Rattle.vlsi_base.specs.declared.name.Terminal.{Terminal}
 use Rattle.vlsi_base.specs.Names.{vdd, vss}
 use Rattle.vlsi_base.specs.Member.{In, here, there}
 use Rattle.bool_expr.specs.Expression.{val}
-use Rattle.machine_meaning.specs.Machine.{Machine}
-use Rattle.machine_meaning.specs.Named.{is_same_text, is_same_name}
+use Rattle.machine_core.specs.Machine.{Machine}
+use Rattle.machine_core.specs.Named.{is_same_text, is_same_name}
 use Rattle.machine_core.proofs.Names.{same_name-itself}
 use Rattle.cell_model.specs.Cell.{Function, gate, flip_flop, other, opaque, Cell, cell_inputs, cell_outputs}
 use Rattle.cell_model.specs.Library.{Library, cell_of, IsUsable, IsPlain}
@@ -20,7 +20,7 @@ use Rattle.net_meaning.specs.Well.{Has}
 use Rattle.net_theory.specs.Sources.{Source, high, low, ticking, node, Seat, Roots, Sourced, source_of, pin_sources, Plays, IsSeated, Shows}
 use Rattle.net_theory.specs.Meaning.{Means}
 use Rattle.net_theory.proofs.Seats.{In-two, sits, seat_has, input_terminal, pin_source}
-use Rattle.net_view.specs.View.{member_of}
+use Rattle.net_right.specs.View.{member_of}
 use Rattle.loon_loads.specs.Sinks.{is_clock_of}
 use Rattle.loon_fanout.specs.Sinks.{Wired, is_same_owner, is_same_terminal}
 use Rattle.loon_fanout.specs.Wired.{with_moved}

@@ -5,7 +5,7 @@ use Rattle.vlsi_base.specs.declared.name.Terminal.{Terminal}
 use Rattle.vlsi_base.specs.Names.{vdd, vss}
 use Rattle.vlsi_base.specs.Member.{In, here, there}
 use Rattle.bool_expr.specs.Expression.{Expression}
-use Rattle.machine_meaning.specs.Machine.{Machine, inputs, outputs, names_of}
+use Rattle.machine_core.specs.Machine.{Machine, inputs, outputs, names_of}
 use Rattle.cell_model.specs.Cell.{Function, gate, flip_flop, other, opaque, Cell, pin_ports, cell_inputs}
 use Rattle.cell_model.specs.Library.{Library, cell_of, IsUsable, IsPlain}
 use Rattle.net_meaning.specs.Netlist.{port, pin_of, IsTerminal, a_port}

@@ -6,9 +6,9 @@ use Rattle.vlsi_base.specs.declared.name.Port.{Port}
 use Rattle.vlsi_base.specs.declared.name.Terminal.{Terminal}
 use Rattle.vlsi_base.specs.Names.{vdd, vss}
 use Rattle.vlsi_base.specs.Member.{In, here, there}
-use Rattle.machine_meaning.specs.Machine.{Machine}
+use Rattle.machine_core.specs.Machine.{Machine}
 use Rattle.machine_core.specs.Checked.{IsChecked}
-use Rattle.cell_model.specs.declared.kind.Kind.TheVariants as kinds
+use Rattle.vlsi_base.specs.declared.kind.Kind.TheVariants as kinds
 use Rattle.cell_model.specs.Cell.{Function, gate, flip_flop, other, opaque, Cell, cell_inputs}
 use Rattle.cell_model.specs.Library.{Library, cell_named, IsUsable}
 use Rattle.cell_model.specs.Covering.{IsFunctionOf}
@@ -23,18 +23,18 @@ use Rattle.net_core.specs.Netlist.{Instance, Netlist as InMemory, IsNetlist, ter
 use Rattle.net_core.proofs.Finishing.{netlist_terminals_once}
 use Rattle.net_core.proofs.Namings.{turn_reached}
 use Rattle.net_core.proofs.Rings.{at_place, class_below}
-use Rattle.net_meaning.specs.Netlist.{Netlist, IsTerminal, a_port, a_pin}
+use Rattle.net_meaning.specs.Netlist.{AbstractNetlist, IsTerminal, a_port, a_pin}
 use Rattle.net_meaning.specs.Laws.{AreSame}
 use Rattle.net_meaning.specs.Well.{buffer_instance}
 use Rattle.net_theory.specs.Laws.{IsCounted}
 use Rattle.net_theory.proofs.Elsewhere.{moved_source, moved as shown_elsewhere}
-use Rattle.net_view.specs.View.{member_of, netlist_by, IsSeenAs}
-use Rattle.net_view.specs.Right.{IsRightNetlist}
-use Rattle.net_view.proofs.Lists.{in_place}
-use Rattle.net_view.proofs.Places.{has_class}
-use Rattle.net_view.proofs.Terminals.{seen_ports, seen_instances, IsCelled, terminal_there, there_terminal}
-use Rattle.net_view.proofs.Seen.{seen_class}
-use Rattle.free_names.specs.Free.{free_numbers, free_texts}
+use Rattle.net_right.specs.View.{member_of, netlist_by, IsSeenAs}
+use Rattle.net_right.specs.Right.{IsRightNetlist}
+use Rattle.net_right.proofs.Lists.{in_place}
+use Rattle.net_right.proofs.Places.{has_class}
+use Rattle.net_right.proofs.Terminals.{seen_ports, seen_instances, IsCelled, terminal_there, there_terminal}
+use Rattle.net_right.proofs.Seen.{seen_class}
+use Rattle.text_names.specs.Free.{free_numbers, free_texts}
 use Rattle.loon_fanout.specs.Sinks.{Wired, sinks, class_among, wired_of}
 use Rattle.loon_wiring.specs.Repeaters.{Repeater, GivesItsInput, IsRepeater, buffer, inverters}
 use Rattle.loon_fanout.specs.Limited.{IsLimited, within, round, IsNetlistOf, IsBuffered, IsOfCells}
@@ -108,7 +108,7 @@ buffer_names taken many names is name h =
 -- ---- netlists in memory
 
 module _ (n : InMemory) (l : Library) (is : IsNetlist n) (celled : (i : Instance) → IsThere n.instances i → IsCelled l i) where
-  abbrev pub seen_netlist : Netlist
+  abbrev pub seen_netlist : AbstractNetlist
   seen_netlist = netlist_by (class_among (terminals n) n.classes) n
 
   pub is_seen : IsSeenAs n seen_netlist
@@ -134,7 +134,7 @@ module _ (n : InMemory) (l : Library) (is : IsNetlist n) (celled : (i : Instance
 
   -- a right netlist shows its nodes by these classes too
   module _ (m : Machine) (checked : IsChecked m) (right : IsRightNetlist n l m) where
-    abbrev first : Netlist
+    abbrev first : AbstractNetlist
     first = right.sourced.netlist
 
     there_first : (t : Terminal) → IsTerminal first l t → IsThere (terminals n) t
@@ -174,7 +174,7 @@ module _ (n : InMemory) (l : Library) (is : IsNetlist n) (celled : (i : Instance
 
 module _ (r : InMemory) (l : Library) (is : IsNetlist r) (celled : (i : Instance) → IsThere r.instances i → IsCelled l i)
     (w : Wired) (of : IsNetlistOf r w) (m : Machine) (checked : IsChecked m) (s : State l m w) where
-  abbrev seen : Netlist
+  abbrev seen : AbstractNetlist
   seen = seen_netlist r l is celled
 
   seen_is : IsSeenAs r seen

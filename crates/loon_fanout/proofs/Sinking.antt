@@ -13,7 +13,7 @@ use Rattle.cell_model.proofs.Members.{In-split, In-left, In-right, In-map, In-ma
 use Rattle.cell_model.proofs.Texts.{text_itself, text_differs}
 use Rattle.cell_pins.proofs.Ports.{in_filter}
 use Rattle.net_core.specs.Netlist.{Instance, port, pin_of, pins_of, terminals_of}
-use Rattle.net_view.proofs.Lists.{filter_in}
+use Rattle.net_right.proofs.Lists.{filter_in}
 use Rattle.loon_loads.specs.Sinks.{is_sink_of}
 use Rattle.loon_fanout.specs.Sinks.{Wired, instance_sinks, is_supply_class, sinks, is_same_owner, is_same_terminal}
 use Rattle.loon_fanout.specs.Wired.{pin_class, with_gate, with_moved}

@@ -7,8 +7,8 @@ use Rattle.vlsi_base.specs.declared.name.Port.{Port}
 use Rattle.vlsi_base.specs.declared.name.Terminal.{Terminal}
 use Rattle.vlsi_base.specs.Names.{vdd, vss}
 use Rattle.vlsi_base.specs.Member.{In, here, there, AllDifferent}
-use Rattle.machine_meaning.specs.Machine.{Machine, is_input, names_of}
-use Rattle.machine_meaning.specs.Named.{is_same_text, is_same_name}
+use Rattle.machine_core.specs.Machine.{Machine, is_input, names_of}
+use Rattle.machine_core.specs.Named.{is_same_text, is_same_name}
 use Rattle.machine_core.proofs.Names.{same_name-true, same_name-itself, same_name-false}
 use Rattle.cell_model.specs.Cell.{Function, gate, flip_flop, Cell, pin_ports, cell_inputs, cell_outputs}
 use Rattle.cell_model.specs.Library.{Library, cell_of, IsUsable, IsPlain}
@@ -23,7 +23,7 @@ use Rattle.net_theory.specs.Sources.{Source, node, Values, Seat, Roots, Shows}
 use Rattle.cell_pins.specs.Pins.{all_ports}
 use Rattle.net_theory.specs.Split.{IsBuffer, IsSplit}
 use Rattle.net_theory.proofs.Seats.{In-two, Sits, sits}
-use Rattle.net_view.specs.View.{member_of}
+use Rattle.net_right.specs.View.{member_of}
 use Rattle.loon_loads.specs.Sinks.{is_clock_of, is_sink_pin, is_sink_of}
 use Rattle.loon_fanout.specs.Sinks.{Wired, instance_sinks, sinks, is_same_owner, is_same_terminal}
 use Rattle.loon_fanout.specs.Wired.{pin_class, with_group}

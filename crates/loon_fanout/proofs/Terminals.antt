@@ -3,7 +3,7 @@ use Rattle.std.proofs.Common.{◌≡◌, ℕ, zero, suc, Bool, true, false, ◌&
 use Rattle.vlsi_base.specs.declared.name.Name.{Name}
 use Rattle.vlsi_base.specs.declared.name.Terminal.{Terminal}
 use Rattle.machine_core.proofs.Names.{same_name-true, same_name-itself}
-use Rattle.machine_meaning.specs.Named.{is_same_name}
+use Rattle.machine_core.specs.Named.{is_same_name}
 use Rattle.cell_model.proofs.Texts.{text_same, text_itself}
 use Rattle.net_core.specs.Places.{Stands, IsThere, NoneTwice}
 use Rattle.loon_fanout.specs.Sinks.{is_same_owner, is_same_terminal, class_among}

@@ -8,7 +8,7 @@ use Rattle.vlsi_base.specs.declared.name.Port.{Port}
 use Rattle.vlsi_base.specs.declared.name.Terminal.{Terminal}
 use Rattle.vlsi_base.specs.Names.{vdd, vss}
 use Rattle.vlsi_base.specs.Member.{In, AllDifferent}
-use Rattle.machine_meaning.specs.Machine.{names_of}
+use Rattle.machine_core.specs.Machine.{names_of}
 use Rattle.cell_model.specs.Cell.{Cell, pin_ports, opaque}
 use Rattle.cell_model.specs.Library.{Library, cell_of, IsUsable}
 use Rattle.cell_model.proofs.Members.{All-In, In-split, In-map, In-map_back}
@@ -18,10 +18,10 @@ use Rattle.cell_pins.proofs.Sound.{member_at}
 use Rattle.net_core.specs.Netlist.{Instance, Netlist as InMemory, IsNetlist, AreInOrder, port, pins_of, terminals_of, terminals}
 use Rattle.net_core.specs.Places.{Stands}
 use Rattle.net_core.proofs.Finishing.{netlist_terminals_once}
-use Rattle.net_view.proofs.Ports.{vdd_there}
-use Rattle.free_names.specs.Laws.{TextsAreFree}
+use Rattle.net_right.proofs.Ports.{vdd_there}
+use Rattle.text_names.specs.Laws.{TextsAreFree}
 use Rattle.net_theory.proofs.Basics.{length-map}
-use Rattle.net_view.proofs.Lists.{in_place}
+use Rattle.net_right.proofs.Lists.{in_place}
 use Rattle.loon_wiring.specs.declared.repeater.Repeater.{Repeater as Parts}
 use Rattle.loon_wiring.specs.declared.wiring.Wiring.{Wiring}
 use Rattle.loon_fanout.specs.Sinks.{Wired, all_sinks, sinks, wired_of}

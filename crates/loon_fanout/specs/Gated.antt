@@ -4,7 +4,7 @@ use Rattle.std.specs.List.{All}
 use Rattle.vlsi_base.specs.declared.name.Terminal.{Terminal}
 use Rattle.net_core.specs.Netlist.{Instance, Netlist as InMemory, terminals_of, AreInOrder, HasClass}
 use Rattle.net_core.specs.Places.{NoneTwice}
-use Rattle.free_names.specs.Free.{free_texts}
+use Rattle.text_names.specs.Free.{free_texts}
 use Rattle.loon_wiring.specs.declared.repeater.Repeater.{Repeater as Parts}
 use Rattle.loon_wiring.specs.declared.wiring.Wiring.{Wiring}
 use Rattle.loon_fanout.specs.Sinks.{class_among}

@@ -6,7 +6,7 @@ use Rattle.vlsi_base.specs.declared.name.Terminal.{Terminal}
 use Rattle.vlsi_base.specs.Names.{vdd, vss}
 use Rattle.vlsi_base.specs.Member.{In}
 use Rattle.bool_expr.specs.Expression.{Expression, val}
-use Rattle.machine_meaning.specs.Machine.{Machine, names_of}
+use Rattle.machine_core.specs.Machine.{Machine, names_of}
 use Rattle.cell_model.specs.Cell.{Cell, gate, pin_ports, cell_inputs}
 use Rattle.cell_model.specs.Library.{Library, cell_of, IsUsable}
 use Rattle.cell_pins.specs.Pins.{all_ports}
@@ -16,13 +16,13 @@ use Rattle.net_core.specs.declared.pins.ModelPins.{ModelPins}
 use Rattle.net_core.specs.Places.{IsThere}
 use Rattle.net_core.specs.Netlist.{Instance, Netlist as InMemory, IsNetlist}
 use Rattle.net_core.specs.Checks.{Fits, Passes}
-use Rattle.net_meaning.specs.Netlist.{Netlist}
+use Rattle.net_meaning.specs.Netlist.{AbstractNetlist}
 use Rattle.net_meaning.specs.Agreement.{register_instance}
 use Rattle.net_meaning.specs.Well.{buffer_instance}
 use Rattle.net_theory.specs.Sources.{Source, node, Values, Roots, Sourced, Shows}
 use Rattle.net_theory.specs.Split.{IsSplit}
-use Rattle.net_view.specs.View.{member_of}
-use Rattle.net_view.specs.Condition.{AreTogether}
+use Rattle.net_right.specs.View.{member_of}
+use Rattle.net_right.specs.Condition.{AreTogether}
 use Rattle.loon_fanout.specs.Sinks.{Wired, sinks, is_same_owner, is_same_terminal}
 use Rattle.loon_fanout.specs.Wired.{with_group}
 use Rattle.loon_wiring.specs.Repeaters.{Repeater}
@@ -45,7 +45,7 @@ LimitedStaysBeside =
 -- ---- what one buffer keeps
 
 -- a netlist with a class for each terminal, as one that layouts give
-abbrev pub as_netlist : Wired → Netlist
+abbrev pub as_netlist : Wired → AbstractNetlist
 as_netlist w = record { ports = map (λ p. p.name) w.ports; instances = map member_of w.instances; classes = w.count; class = w.class }
 
 abbrev pub sourced : Wired → (ℕ → Source) → (ℕ → ℕ) → Sourced

@@ -3,15 +3,15 @@ use Rattle.std.specs.Prelude.{◌≡◌, ◌↔◌, ℕ, ◌+◌, ◌*◌, ◌^�
 use Rattle.std.specs.List.{All, flat_map}
 use Rattle.vlsi_base.specs.declared.name.Terminal.{Terminal}
 use Rattle.vlsi_base.specs.Names.{vdd, vss}
-use Rattle.machine_meaning.specs.Machine.{names_of, Machine}
+use Rattle.machine_core.specs.Machine.{names_of, Machine}
 use Rattle.machine_core.specs.Checked.{IsChecked}
 use Rattle.cell_model.specs.Cell.{Cell}
 use Rattle.cell_model.specs.Library.{Library, cell_of, IsUsable}
 use Rattle.cell_pins.specs.Pins.{all_ports}
 use Rattle.net_core.specs.Netlist.{Instance, Netlist as InMemory, port, terminals, HasClass}
 use Rattle.net_core.specs.Places.{IsThere}
-use Rattle.net_view.specs.Right.{IsRightNetlist}
-use Rattle.free_names.specs.Free.{free_texts}
+use Rattle.net_right.specs.Right.{IsRightNetlist}
+use Rattle.text_names.specs.Free.{free_texts}
 use Rattle.loon_fanout.specs.declared.error.BufferError.{BufferError}
 use Rattle.loon_fanout.specs.declared.error.BufferError.TheVariants as error
 use Rattle.loon_fanout.specs.Sinks.{Wired, all_sinks, sinks, wired_of}

@@ -4,7 +4,7 @@ use Rattle.std.specs.List.{flat_map}
 use Rattle.vlsi_base.specs.declared.name.Port.{Port}
 use Rattle.vlsi_base.specs.declared.name.Terminal.{Terminal}
 use Rattle.vlsi_base.specs.Names.{vdd, vss}
-use Rattle.machine_meaning.specs.Named.{is_same_text, is_same_name}
+use Rattle.machine_core.specs.Named.{is_same_text, is_same_name}
 use Rattle.cell_model.specs.Library.{Library, cell_of}
 use Rattle.net_core.specs.Netlist.{Instance, Netlist as InMemory, port, pin_of, terminals}
 use Rattle.loon_loads.specs.Sinks.{is_sink_of}

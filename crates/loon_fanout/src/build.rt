@@ -1,7 +1,7 @@
 // The netlist of its parts.
 ghost use Rattle.std.specs.Prelude.{◌≡◌, ◌++◌, ◌<◌, map, length, IfOk, OnOk};
 ghost use Rattle.std.specs.List.{All};
-ghost use Rattle.machine_meaning.specs.Machine.{names_of};
+ghost use Rattle.machine_core.specs.Machine.{names_of};
 ghost use Rattle.net_core.specs.declared.error.BuildError.TheVariants.{Memory};
 ghost use Rattle.net_core.specs.Netlist.{IsNetlist, port, pin_of, terminals_of};
 ghost use Rattle.net_core.specs.Frame.{instance_of};

@@ -14,11 +14,11 @@ use crate::BufferError;
 use crate::build::{Entry, Sketch, build, push_gates, push_nodes};
 use crate::laws::stays_right_law;
 use cell_checks::Library;
-use free_names::{free_texts, texts_are_free};
 use loon_loads::net_loads;
 use loon_wiring::{Repeater, Wiring, make_repeater};
 use net_core::{Netlist, Node};
 use std::alloc::{AllocError, Global};
+use text_names::{free_texts, texts_are_free};
 use vlsi_base::{Name, Terminal, Text};
 
 /// The class of a scalar port.

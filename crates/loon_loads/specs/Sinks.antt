@@ -2,8 +2,8 @@
 use Rattle.std.specs.Prelude.{Bool, false, not, ◌&&◌, Option, None, Some}
 use Rattle.std.specs.List.{list_any}
 use Rattle.vlsi_base.specs.declared.name.Name.{Name}
-use Rattle.machine_meaning.specs.Machine.{is_clock}
-use Rattle.machine_meaning.specs.Named.{is_same_name}
+use Rattle.machine_core.specs.Machine.{is_clock}
+use Rattle.machine_core.specs.Named.{is_same_name}
 use Rattle.cell_model.specs.Cell.{Function, gate, flip_flop, other, opaque, Cell, cell_inputs}
 
 -- a pin at which registers load

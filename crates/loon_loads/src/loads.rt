@@ -2,8 +2,8 @@
 ghost use Rattle.std.specs.Prelude.{◌≡◌, ◌<◌, ◌++◌, [], false, map, length, IfOk, OnOk};
 ghost use Rattle.std.specs.List.{All, flat_map, list_any};
 ghost use Rattle.std.specs.Option.{option_copied};
-ghost use Rattle.machine_meaning.specs.Machine.{is_clock};
-ghost use Rattle.machine_meaning.specs.Named.{is_same_name};
+ghost use Rattle.machine_core.specs.Machine.{is_clock};
+ghost use Rattle.machine_core.specs.Named.{is_same_name};
 ghost use Rattle.cell_model.specs.Cell.{cell_inputs};
 ghost use Rattle.cell_model.specs.View.{function_view};
 ghost use Rattle.cell_model.specs.Library.{cell_named};

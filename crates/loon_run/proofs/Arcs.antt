@@ -7,8 +7,8 @@ use Rattle.vlsi_base.specs.declared.name.Dir.{Dir}
 use Rattle.vlsi_base.specs.declared.name.Dir.TheVariants as dir
 use Rattle.vlsi_base.specs.Member.{In, here, there}
 use Rattle.vlsi_base.specs.Names.{comes_before}
-use Rattle.machine_meaning.specs.Machine.{is_input}
-use Rattle.machine_meaning.specs.Named.{is_same_name, is_same_text}
+use Rattle.machine_core.specs.Machine.{is_input}
+use Rattle.machine_core.specs.Named.{is_same_name, is_same_text}
 use Rattle.machine_core.proofs.Names.{same_name-itself}
 use Rattle.vbe_io.specs.declared.cell_text.GenericValue.{GenericValue}
 use Rattle.vbe_io.specs.declared.cell_text.CellText.{CellText}

@@ -10,7 +10,7 @@ use Rattle.vhdl_token.specs.declared.keyword.Keyword.{Keyword}
 use Rattle.vhdl_token.specs.Keyword.{keyword_text, keyword_among, keyword_of, keywords}
 use Rattle.spell_theory.specs.Words.{is_small_letter, is_in_small_word}
 use Rattle.spell_theory.proofs.Letters.{by_bytes, small_digit, all_implied, both, digit_of_ten}
-use Rattle.port_words.specs.Words.{IsIdentifier}
+use Rattle.text_names.specs.Words.{IsIdentifier}
 
 none_among : (w : List ℕ) (ks : List Keyword) → list_all (λ k. not (is_ascii_digit (slice_index (keyword_text k) 1))) ks ≡ true
     → is_ascii_digit (slice_index w 1) ≡ true → keyword_among w ks ≡ None

@@ -4,7 +4,7 @@ use Rattle.vlsi_base.specs.declared.name.Name.{Name}
 use Rattle.vlsi_base.specs.declared.name.Port.{Port}
 use Rattle.vlsi_base.specs.Member.{In, here, there}
 use Rattle.vlsi_base.specs.Names.{vdd, vss}
-use Rattle.machine_meaning.specs.Machine.{names_of}
+use Rattle.machine_core.specs.Machine.{names_of}
 use Rattle.cell_model.specs.Cell.{Cell, Function, pin_ports}
 use Rattle.cell_model.specs.Library.{Library}
 use Rattle.cell_model.proofs.Members.{In-map, All-from}
@@ -13,8 +13,8 @@ use Rattle.cell_pins.specs.Table.{ArePins, no_pins, one_pin, IsModelOf, AreModel
 use Rattle.net_core.specs.declared.pins.ModelPin.{ModelPin}
 use Rattle.net_core.specs.declared.pins.ModelPins.{ModelPins}
 use Rattle.net_core.specs.Places.{IsThere}
-use Rattle.net_view.proofs.Lists.{in_place}
-use Rattle.net_view.proofs.Ports.{vdd_there, vss_there}
+use Rattle.net_right.proofs.Lists.{in_place}
+use Rattle.net_right.proofs.Ports.{vdd_there, vss_there}
 use Rattle.vst_io.specs.Text.{ListsSupplies}
 
 -- a model has both supplies

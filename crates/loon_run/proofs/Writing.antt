@@ -3,8 +3,8 @@ use Rattle.std.proofs.Common.{◌≡◌, inl, inr, ℕ, zero, suc, ◌<◌, fals
 use Rattle.std.specs.Prelude.{codes}
 use Rattle.vlsi_base.specs.Member.{In}
 use Rattle.vlsi_base.specs.Names.{vdd, vss}
-use Rattle.port_words.specs.Words.{IsIdentifier, CanBePorts}
-use Rattle.free_names.specs.Free.{numbered, free_numbers, free_texts}
+use Rattle.text_names.specs.Words.{IsIdentifier, CanBePorts}
+use Rattle.text_names.specs.Free.{numbered, free_numbers, free_texts}
 use Rattle.cell_model.specs.Library.{Library}
 use Rattle.cell_model.proofs.Members.{In-split, In-map_back, All-In, All-from}
 use Rattle.cell_lib.specs.Cells.{sources}
@@ -13,11 +13,11 @@ use Rattle.cell_lib.specs.Laws.{LibraryPasses}
 use Rattle.net_core.specs.declared.pins.ModelPins.{ModelPins}
 use Rattle.net_core.specs.Places.{Stands}
 use Rattle.net_core.specs.Netlist.{Instance, Netlist}
-use Rattle.net_view.specs.Condition.{MeetsCondition}
-use Rattle.net_view.specs.Writable.{CanBeAnInstance, CanBeNamed}
-use Rattle.net_view.proofs.Lists.{in_place}
-use Rattle.net_view.proofs.Models.{named_cell}
-use Rattle.vbe_words.specs.Laws.{CatalIsNamed}
+use Rattle.net_right.specs.Condition.{MeetsCondition}
+use Rattle.net_right.specs.Writable.{CanBeAnInstance, CanBeNamed}
+use Rattle.net_right.proofs.Lists.{in_place}
+use Rattle.net_right.proofs.Models.{named_cell}
+use Rattle.vbe_writable.specs.Laws.{CatalIsNamed}
 use Rattle.loon_buffer.specs.Drives.{OnlyExchanges}
 use Rattle.loon_fanout.specs.Sinks.{wired_of}
 use Rattle.loon_fanout.specs.Limited.{IsBuffered}
@@ -25,8 +25,8 @@ use Rattle.loon_fanout.specs.Laws.{gate_named, LimitedStaysBeside}
 use Rattle.loon_drive.specs.Driven.{most_sinks, IsDrivenFrom}
 use Rattle.loon_drive.proofs.Fitting.{found, timed, fits_again}
 use Rattle.vst_io.specs.Text.{IsVst}
-use Rattle.vst_words.specs.Laws.{NetlistHasNames, NetlistCanBeNamed, TableCanBeWritten}
-use Rattle.vst_words.proofs.Pins.{said_in, name_in}
+use Rattle.vst_laws.specs.Writable.{NetlistHasNames, NetlistCanBeNamed, TableCanBeWritten}
+use Rattle.vst_laws.proofs.Pins.{said_in, name_in}
 use Rattle.loon_run.specs.Loon.{IsMade, bare, driven}
 use Rattle.loon_run.specs.Laws.{HasUsableCells, NetlistIsDrivable, DrivenIsWritable}
 use Rattle.loon_run.proofs.Lists.{stands_in}

@@ -7,8 +7,8 @@ use Rattle.net_core.specs.declared.pins.ModelPins.{ModelPins}
 use Rattle.net_core.specs.Places.{IsThere}
 use Rattle.net_core.specs.Netlist.{Instance, Netlist, IsNetlist}
 use Rattle.net_core.specs.Checks.{Fits, IsPinTable}
-use Rattle.net_view.specs.Condition.{MeetsCondition}
-use Rattle.net_view.specs.Writable.{CanBeNamed, PinsCanBeWritten}
+use Rattle.net_right.specs.Condition.{MeetsCondition}
+use Rattle.net_right.specs.Writable.{CanBeNamed, PinsCanBeWritten}
 use Rattle.delay_sta.specs.Timed.{CanBeTimed}
 use Rattle.delay_sta.specs.Exchanged.{HaveTheirArcs}
 use Rattle.loon_fanout.specs.Limited.{IsOfCells}

@@ -1,2 +1,3 @@
+pub mod Words
 pub mod Loon
 pub mod Laws

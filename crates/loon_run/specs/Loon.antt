@@ -1,10 +1,8 @@
 -- What `loon` reads and answers.
 use Rattle.std.specs.Prelude.{◌≡◌, ℕ, ◌^◌, ◌<◌, ◌≤◌, false, List, [], ◌∷◌, ◌++◌, length, get_or, codes, None, Some, Result, Ok, Err}
-use Rattle.std.specs.Fmt.{decimal}
-use Rattle.vlsi_base.specs.declared.limits.TheConstants.{MOST_NETLIST_BYTES}
 use Rattle.vlsi_base.specs.declared.fault.LimitKind.TheVariants.{Bits}
 use Rattle.catal.specs.Cells.{cells_in}
-use Rattle.cell_model.specs.declared.kind.Kind.TheVariants as kind
+use Rattle.vlsi_base.specs.declared.kind.Kind.TheVariants as kind
 use Rattle.cell_model.specs.Library.{Library}
 use Rattle.cell_lib.specs.declared.error.LibError.{LibError}
 use Rattle.cell_lib.specs.Files.{catal_name, cell_files}
@@ -18,32 +16,23 @@ use Rattle.loon_fanout.specs.Limited.{IsCrowded, HasFanout, IsOfCells, StaysRigh
 use Rattle.loon_wiring.specs.Repeaters.{NoneRepeats}
 use Rattle.loon_drive.specs.Driven.{most_sinks, IsDrivenFrom}
 use Rattle.spell_theory.specs.Layout.{text_of}
-use Rattle.vst_write.specs.Written.{layout}
+use Rattle.vst_print.specs.Written.{layout}
 use Rattle.vst_io.specs.Text.{IsVst, IsVstRefusal}
-use Rattle.tool_words.specs.declared.command.LoonCommand.{LoonCommand}
+use Rattle.loon_run.specs.declared.words.LoonCommand.{LoonCommand}
 use Rattle.tool_drive.specs.declared.status.Status.{Status}
 use Rattle.tool_drive.specs.declared.status.Status.TheVariants as status
-use Rattle.tool_drive.specs.declared.tool.Over.TheVariants.{Refused}
-use Rattle.tool_drive.specs.declared.tool.Wanted.{Wanted}
 use Rattle.tool_drive.specs.declared.tool.Product.{Product}
 use Rattle.tool_drive.specs.declared.tool.Refusal.{Refusal}
-use Rattle.tool_drive.specs.Plan.{Plan, Inputs, limited}
+use Rattle.tool_drive.specs.Lines.{count_line}
+use Rattle.tool_drive.specs.Plan.{Plan, Inputs, limited, large}
 use Rattle.tool_drive.specs.Refusals.{OfFile}
-
--- a netlist's file
-abbrev pub netlist_file : List ℕ → Wanted
-netlist_file name = record { name = name; most = MOST_NETLIST_BYTES; over = Refused }
 
 -- SOURCE, CATAL, and then the files of the cells that CATAL uses
 abbrev pub loon_plan : LoonCommand → Plan
 loon_plan c = record {
-  first = netlist_file c.source ∷ limited (catal_name c.library) ∷ [];
+  first = large c.source ∷ limited (catal_name c.library) ∷ [];
   more = λ read. cell_files c.library (cells_in (get_or read 1 []));
 }
-
--- a word and a number on a line
-abbrev pub count_line : List ℕ → ℕ → List ℕ
-count_line word n = word ++ (codes " " ++ (decimal n ++ 10 ∷ []))
 
 -- how many instances a netlist has, and how many femtoseconds its longest path takes
 abbrev pub report : Netlist → ℕ → List ℕ

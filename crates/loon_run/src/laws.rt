@@ -3,8 +3,8 @@ ghost use Rattle.loon_run.specs.Laws.{LibraryHasArcs, NetlistIsDrivable, DrivenI
 
 use cell_lib::library_law;
 use loon_fanout::limited_law;
-use vbe_words::catal_is_named;
-use vst_words::netlist_words_law;
+use vbe_writable::catal_is_named;
+use vst_laws::netlist_words_law;
 
 /// The usable cells of a library that is read have their arcs; a netlist that is read with their pins is of them, and can get buffers
 /// and drives; and what is made of it can be written.

@@ -7,6 +7,8 @@
 mod laws;
 mod loon;
 mod product;
+mod words;
 
 pub use laws::loon_law;
 pub use loon::Loon;
+pub use words::{LOON_ENTRY, LoonCommand, read_loon};

@@ -6,11 +6,12 @@ ghost use Rattle.loon_fanout.specs.Limited.{StaysRight, IsBufferRefusal};
 ghost use Rattle.loon_drive.specs.Driven.{most_sinks};
 ghost use Rattle.tool_drive.specs.Refusals.{MemoryOr};
 ghost use Rattle.tool_drive.specs.Table.{IsJudged};
-ghost use Rattle.loon_run.specs.Loon.{netlist_file as file_of, IsMade, HasRoom, pins_limit, IsToldOf, Limits};
+ghost use Rattle.loon_run.specs.Loon.{IsMade, HasRoom, pins_limit, IsToldOf, Limits};
 ghost use Rattle.loon_run.specs.Laws.{HasUsableCells, IsDrivable};
 
 use crate::laws::loon_law;
 use crate::product::product;
+use crate::words::LoonCommand;
 use cell_checks::Library;
 use cell_lib::{catal_file, library_status, named_files, read_library};
 use cell_pins::pin_table;
@@ -18,9 +19,8 @@ use loon_drive::{Driven, drive_netlist};
 use loon_fanout::BufferError;
 use net_core::Netlist;
 use std::alloc::{AllocError, Global};
-use tool_drive::{Kind, Over, Product, Refusal, Status, Tool, Wanted, bytes_at, refused};
-use tool_words::LoonCommand;
-use vlsi_base::{FileBytes, FileName, Limit, LimitKind, MOST_NETLIST_BYTES};
+use tool_drive::{Kind, Product, Refusal, Status, Tool, Wanted, bytes_at, refused};
+use vlsi_base::{FileBytes, Limit, LimitKind};
 use vst_io::read_vst;
 
 /// `loon`, with what it is asked: it puts buffers into the netlist in SOURCE until no net has more sinks than asked for, exchanges
@@ -35,17 +35,6 @@ use vst_io::read_vst;
 #[derive(Drop)]
 pub struct Loon<'a> {
     pub command: &'a LoonCommand,
-}
-
-// A netlist's file, of at most `MOST_NETLIST_BYTES` bytes.
-fn netlist_file(name: FileName) -> Wanted
-    ensures { result ≡ file_of name }
-{
-    Wanted {
-        name,
-        most: MOST_NETLIST_BYTES as u64,
-        over: Over::Refused,
-    }
 }
 
 // Whether gates can be put in, or the status that tells that there are too many ports and pins; without instances there are none to put
@@ -136,7 +125,7 @@ impl Tool for Loon<'_> {
 
     fn first(&self, alloc: Global) -> Result<Vec<Wanted>, AllocError> {
         let mut wanted = Vec::new(alloc);
-        wanted.push(netlist_file(self.command.source.copy(alloc)?))?;
+        wanted.push(Wanted::large(self.command.source.copy(alloc)?))?;
         wanted.push(catal_file(alloc, &self.command.library)?)?;
         Ok(wanted)
     }

@@ -1,43 +1,27 @@
 // What is written and printed of a netlist.
-ghost use Rattle.std.specs.Prelude.{◌≡◌, ◌++◌, IfOk, OnOk};
+ghost use Rattle.std.specs.Prelude.{◌≡◌, IfOk};
 ghost use Rattle.loon_run.specs.Laws.{IsWritable};
-ghost use Rattle.loon_run.specs.Loon.{count_line as count_line_of, report as report_of, IsWrittenAs};
+ghost use Rattle.loon_run.specs.Loon.{report as report_of, IsWrittenAs};
 
 use loon_drive::Driven;
 use net_core::PinTable;
 use std::alloc::{AllocError, Global};
-use tool_drive::Product;
+use tool_drive::{Product, count_line};
 use vlsi_base::{FileBytes, FileName};
-use vst_write::{WriteError, write_vst};
-
-fn push_count(
-    alloc: Global,
-    text: &mut FileBytes,
-    word: &[u8],
-    count: u128,
-) -> Result<(), AllocError>
-    ensures { OnOk result (text.new ≡ text.old ++ count_line_of word.now count) }
-{
-    let digits = count.to_string(alloc)?;
-    text.append(word)?;
-    text.append(b" ")?;
-    text.append(digits.as_bytes())?;
-    text.append(b"\n")?;
-    Ok(())
-}
+use vst_print::{WriteError, write_vst};
 
 // How many instances there are, and how long the longest path takes.
 fn report(alloc: Global, driven: &Driven) -> Result<FileBytes, AllocError>
     ensures { IfOk result (λ text. text ≡ report_of driven.now.netlist driven.now.delay) }
 {
     let mut text = FileBytes::from_bytes(alloc, b"")?;
-    push_count(
+    count_line(
         alloc,
         &mut text,
         b"cells",
         driven.netlist.nodes().len() as u128,
     )?;
-    push_count(alloc, &mut text, b"delay", driven.delay)?;
+    count_line(alloc, &mut text, b"delay", driven.delay)?;
     Ok(text)
 }
 

@@ -2,7 +2,7 @@
 use Rattle.std.specs.Prelude.{◌≡◌, ◌⊎◌, ℕ, ◌<◌, Bool, List, [], ◌∷◌, length, Some, slice_get}
 use Rattle.bool_expr.specs.Expression.{val}
 use Rattle.vlsi_base.specs.Member.{In}
-use Rattle.cell_model.specs.declared.kind.Kind.TheVariants as kind
+use Rattle.vlsi_base.specs.declared.kind.Kind.TheVariants as kind
 use Rattle.cell_model.specs.Function.{Function, gate, flip_flop, other, opaque}
 use Rattle.cell_model.specs.Cell.{Cell, cell_inputs}
 use Rattle.cell_model.specs.Library.{IsUsable}

@@ -4,8 +4,8 @@ use Prim.Native.Nat.{suc}
 use Rattle.std.specs.Global.{Vec}
 use Rattle.vlsi_base.specs.declared.name.Port.{Port}
 use Rattle.vlsi_base.specs.Names.{vdd, vss}
-use Rattle.machine_meaning.specs.Machine.{is_input, names_of}
-use Rattle.machine_meaning.specs.Named.{is_same_name}
+use Rattle.machine_core.specs.Machine.{is_input, names_of}
+use Rattle.machine_core.specs.Named.{is_same_name}
 use Rattle.cell_model.specs.Cell.{Cell}
 use Rattle.cell_pins.specs.Pins.{all_ports}
 use Rattle.loon_wiring.specs.declared.repeater.Tie.{Tie}

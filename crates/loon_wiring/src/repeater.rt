@@ -3,8 +3,8 @@ ghost use Rattle.std.specs.Prelude.{◌≡◌, ◌↔◌, ◌∷◌, [], Bool, m
 ghost use Rattle.vlsi_base.specs.Member.{In};
 ghost use Rattle.bool_expr.specs.Expression.{val, IsOver};
 ghost use Rattle.bool_expr.specs.View.{view};
-ghost use Rattle.machine_meaning.specs.Machine.{is_input, names_of};
-ghost use Rattle.machine_meaning.specs.Named.{is_same_name};
+ghost use Rattle.machine_core.specs.Machine.{is_input, names_of};
+ghost use Rattle.machine_core.specs.Named.{is_same_name};
 ghost use Rattle.vlsi_base.specs.Names.{scalar};
 ghost use Rattle.cell_model.specs.Cell.{cell_inputs};
 ghost use Rattle.cell_model.specs.Usable.{IsFormed};

@@ -21,8 +21,8 @@ use Rattle.net_core.proofs.Standing.{stands_same, position_stands, position_abse
 use Rattle.net_core.proofs.Frames.{mapped, port_terminals, pin_found}
 use Rattle.net_core.proofs.Learning.{AreLearned}
 use Rattle.net_core.proofs.Rings.{at_place}
-use Rattle.net_view.specs.Same.{HasInstance}
-use Rattle.net_view.proofs.Places.{Which, which_port, which_pin, which}
+use Rattle.net_right.specs.Same.{HasInstance}
+use Rattle.net_right.proofs.Places.{Which, which_port, which_pin, which}
 use Rattle.lvx_compare.specs.Compared.{IsLeast}
 use Rattle.lvx_compare.specs.Stages.{AreMarks, AllMarked, IsOddInstance, other_model, other_members, KeepsInstance, IsOdd, IsOddName, IsFirstInstance, name_at, is_before}
 use Rattle.lvx_compare.proofs.Members.{kept_or_other, self_last, less_is, lesser_still}

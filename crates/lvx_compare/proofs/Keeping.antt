@@ -12,7 +12,7 @@ use Rattle.net_core.proofs.Frames.{unmapped}
 use Rattle.net_core.proofs.Finishing.{class_once}
 use Rattle.net_core.proofs.Rings.{at_place, class_below}
 use Rattle.net_core.proofs.Namings.{turn_below}
-use Rattle.net_view.specs.Same.{AreJoined}
+use Rattle.net_right.specs.Same.{AreJoined}
 use Rattle.lvx_compare.specs.declared.images.Image.{Image}
 use Rattle.lvx_compare.specs.declared.images.Image.TheVariants as image
 use Rattle.lvx_compare.specs.Compared.{HasOtherMembers}

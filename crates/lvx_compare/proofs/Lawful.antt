@@ -15,12 +15,12 @@ use Rattle.cell_model.proofs.Members.{In-map, In-map_back}
 use Rattle.cell_checks.specs.Checked.{IsChecked as HasPassed}
 use Rattle.cell_pins.specs.Table.{IsTableOf}
 use Rattle.cell_pins.proofs.Sound.{member_at as in_from_place}
-use Rattle.net_meaning.specs.Netlist.{Member, Netlist, IsTerminal, a_port, a_pin, Extracts}
-use Rattle.net_view.specs.View.{member_of, IsSeenAs}
-use Rattle.net_view.specs.Same.{HasInstance, AreJoined}
-use Rattle.net_view.proofs.Lists.{in_place}
-use Rattle.net_view.proofs.Places.{has_class}
-use Rattle.net_view.proofs.Terminals.{seen_ports, seen_instances, terminals_are_there}
+use Rattle.net_meaning.specs.Netlist.{Member, AbstractNetlist, IsTerminal, a_port, a_pin, Extracts}
+use Rattle.net_right.specs.View.{member_of, IsSeenAs}
+use Rattle.net_right.specs.Same.{HasInstance, AreJoined}
+use Rattle.net_right.proofs.Lists.{in_place}
+use Rattle.net_right.proofs.Places.{has_class}
+use Rattle.net_right.proofs.Terminals.{seen_ports, seen_instances, terminals_are_there}
 use Rattle.lvx_compare.specs.Compared.{HasPort}
 use Rattle.lvx_compare.specs.Laws.{SameIsEquivalence, SameByNameIsSame, OneLayoutIsSame}
 
@@ -54,7 +54,7 @@ same_by_name_is_same a b same = record {
   classes = same.classes;
 }
 
-module _ (items : List Item) (l : Library) (tracks all : Bool) (table : List ModelPins) (a b : InMemory) (k j : Netlist) (passed : HasPassed tracks l) (is_table : IsTableOf l all table)
+module _ (items : List Item) (l : Library) (tracks all : Bool) (table : List ModelPins) (a b : InMemory) (k j : AbstractNetlist) (passed : HasPassed tracks l) (is_table : IsTableOf l all table)
     (is_b : IsNetlist b) (fits_a : Fits a table) (fits_b : Fits b table) (seen_a : IsSeenAs a k) (seen_b : IsSeenAs b j) (first : Extracts items l k) (second : Extracts items l j) where
   port_across : (name : Name) → In name k.ports → In name j.ports
   port_across name h = (second.ports name).1 ((first.ports name).0 h)

@@ -11,7 +11,7 @@ use Rattle.vlsi_base.proofs.NameOrder.{name_total}
 use Rattle.net_core.specs.Places.{IsThere}
 use Rattle.net_core.specs.Netlist.{Netlist, terminals, HasClass}
 use Rattle.net_core.proofs.Searching.{not_itself, name_equal}
-use Rattle.net_view.specs.Same.{AreJoined}
+use Rattle.net_right.specs.Same.{AreJoined}
 use Rattle.lvx_compare.specs.Compared.{HasOtherMembers}
 use Rattle.lvx_compare.specs.Stages.{KeepsMembers}
 

@@ -13,8 +13,8 @@ use Rattle.net_core.specs.Places.{IsThere}
 use Rattle.net_core.specs.Netlist.{Netlist, IsNetlist, port, pin_of, terminals}
 use Rattle.net_core.proofs.Frames.{mapped, unmapped}
 use Rattle.net_core.proofs.Searching.{name_equal}
-use Rattle.net_view.specs.Same.{HasInstance, AreJoined}
-use Rattle.net_view.proofs.Places.{Which, which_port, which_pin, which, port_there, has_class}
+use Rattle.net_right.specs.Same.{HasInstance, AreJoined}
+use Rattle.net_right.proofs.Places.{Which, which_port, which_pin, which, port_there, has_class}
 use Rattle.lvx_compare.specs.declared.comparing.Verdict.{Verdict}
 use Rattle.lvx_compare.specs.declared.comparing.Verdict.TheVariants as verdict
 use Rattle.lvx_compare.specs.Compared as told

@@ -5,7 +5,7 @@ use Rattle.vlsi_base.specs.declared.name.Terminal.{Terminal}
 use Rattle.vlsi_base.specs.Names.{comes_before}
 use Rattle.net_core.specs.Places.{IsThere}
 use Rattle.net_core.specs.Netlist.{Netlist, port, pin_of}
-use Rattle.net_view.specs.Same.{HasInstance, AreJoined}
+use Rattle.net_right.specs.Same.{HasInstance, AreJoined}
 
 -- the netlist has a port of this name, in whatever direction
 abbrev pub HasPort : Netlist → Name → Type 0

@@ -7,9 +7,9 @@ use Rattle.net_core.specs.Checks.{Fits}
 use Rattle.cell_model.specs.Library.{Library}
 use Rattle.cell_checks.specs.Checked.{IsChecked as HasPassed}
 use Rattle.cell_pins.specs.Table.{IsTableOf}
-use Rattle.net_meaning.specs.Netlist.{Netlist, Extracts}
-use Rattle.net_view.specs.View.{IsSeenAs}
-use Rattle.net_view.specs.Same.{AreSameByName, IsEquivalence}
+use Rattle.net_meaning.specs.Netlist.{AbstractNetlist, Extracts}
+use Rattle.net_right.specs.View.{IsSeenAs}
+use Rattle.net_right.specs.Same.{AreSameByName, IsEquivalence}
 use Rattle.lvx_compare.specs.Compared.{AreSame}
 
 abbrev pub SameIsEquivalence : Type 0
@@ -23,6 +23,6 @@ SameByNameIsSame = (a b : InMemory) → AreSameByName a b → AreSame a b
 -- layout is one
 abbrev pub OneLayoutIsSame : Type 0
 OneLayoutIsSame =
-    (items : List Item) (l : Library) (tracks all : Bool) (table : List ModelPins) (a b : InMemory) (k j : Netlist)
+    (items : List Item) (l : Library) (tracks all : Bool) (table : List ModelPins) (a b : InMemory) (k j : AbstractNetlist)
     → HasPassed tracks l → IsTableOf l all table → IsNetlist a → IsNetlist b → Fits a table → Fits b table → IsSeenAs a k → IsSeenAs b j
     → Extracts items l k → Extracts items l j → AreSame a b

@@ -9,7 +9,7 @@ use Rattle.vlsi_base.specs.Names.{comes_before}
 use Rattle.net_core.specs.Places.{Stands, IsThere}
 use Rattle.net_core.specs.Netlist.{Instance, Netlist, IsNetlist, port, pin_of, terminals, HasClass, IsClassOf}
 use Rattle.net_core.specs.declared.frame.Node.{Node}
-use Rattle.net_view.specs.Same.{HasInstance, AreJoined}
+use Rattle.net_right.specs.Same.{HasInstance, AreJoined}
 use Rattle.lvx_compare.specs.declared.images.Image.{Image}
 use Rattle.lvx_compare.specs.declared.images.Image.TheVariants as image
 use Rattle.lvx_compare.specs.Compared.{HasPort, HasOtherMembers, IsLeast}

@@ -2,7 +2,7 @@
 ghost use Rattle.std.specs.Prelude.{◌≡◌, ◌↔◌, ◌<◌, ◌+◌, ◌^◌, ℕ, if◌then◌else◌, IsTrue, IfOk, IfSome, map, length};
 ghost use Rattle.net_core.specs.Netlist.{Instance, Netlist as Meaning};
 ghost use Rattle.net_core.specs.Places.{Stands};
-ghost use Rattle.net_view.specs.Same.{HasInstance};
+ghost use Rattle.net_right.specs.Same.{HasInstance};
 ghost use Rattle.lvx_compare.specs.Stages.{mark_at, AllMarked, AreMarks, IsFirstPort, IsOdd, IsFirstInstance, is_before};
 
 use net_core::{Netlist, Node, Roll};

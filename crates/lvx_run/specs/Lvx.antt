@@ -1,6 +1,5 @@
 -- What `lvx` reads and answers.
 use Rattle.std.specs.Prelude.{◌≡◌, ◌⊎◌, ℕ, true, false, List, [], ◌∷◌, ◌++◌, codes, get_or, None, Result, Ok, Err}
-use Rattle.vlsi_base.specs.declared.limits.TheConstants.{MOST_NETLIST_BYTES}
 use Rattle.vlsi_base.specs.declared.name.Name.{Name}
 use Rattle.catal.specs.Cells.{cells_in}
 use Rattle.cell_model.specs.Library.{Library}
@@ -12,25 +11,19 @@ use Rattle.net_core.specs.declared.pins.ModelPins.{ModelPins}
 use Rattle.net_core.specs.Netlist.{Netlist}
 use Rattle.vst_io.specs.Text.{IsVst, IsVstRefusal}
 use Rattle.lvx_compare.specs.Compared.{AreSame, IsDifference}
-use Rattle.tool_words.specs.declared.command.LvxCommand.{LvxCommand}
+use Rattle.lvx_run.specs.declared.words.LvxCommand.{LvxCommand}
 use Rattle.tool_drive.specs.declared.status.Status.{Status}
 use Rattle.tool_drive.specs.declared.status.Status.TheVariants as status
 use Rattle.tool_drive.specs.declared.status.Verdict.TheVariants.{Different}
-use Rattle.tool_drive.specs.declared.tool.Over.TheVariants.{Refused}
-use Rattle.tool_drive.specs.declared.tool.Wanted.{Wanted}
 use Rattle.tool_drive.specs.declared.tool.Product.{Product}
 use Rattle.tool_drive.specs.declared.tool.Refusal.{Refusal}
-use Rattle.tool_drive.specs.Plan.{Plan, Inputs, limited}
+use Rattle.tool_drive.specs.Plan.{Plan, Inputs, limited, large}
 use Rattle.tool_drive.specs.Refusals.{OfFile}
-
--- a netlist's file
-abbrev pub netlist_file : List ℕ → Wanted
-netlist_file name = record { name = name; most = MOST_NETLIST_BYTES; over = Refused }
 
 -- SOURCE, the second file, CATAL, and then the files of the cells that CATAL uses
 abbrev pub lvx_plan : LvxCommand → Plan
 lvx_plan c = record {
-  first = netlist_file c.source ∷ netlist_file c.other ∷ limited (catal_name c.library) ∷ [];
+  first = large c.source ∷ large c.other ∷ limited (catal_name c.library) ∷ [];
   more = λ read. cell_files c.library (cells_in (get_or read 2 []));
 }
 

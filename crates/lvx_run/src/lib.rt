@@ -5,5 +5,7 @@
 #![tactic(auto)]
 
 mod lvx;
+mod words;
 
 pub use lvx::Lvx;
+pub use words::{LVX_ENTRY, LvxCommand, read_lvx};

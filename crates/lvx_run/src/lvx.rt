@@ -4,16 +4,16 @@ ghost use Rattle.net_core.specs.Checks.{IsPinTable};
 ghost use Rattle.vst_io.specs.Text.{IsVst};
 ghost use Rattle.tool_drive.specs.Refusals.{MemoryOr};
 ghost use Rattle.tool_drive.specs.Table.{IsJudged};
-ghost use Rattle.lvx_run.specs.Lvx.{netlist_file as file_of, texts, IsUnread, Tells, Compares};
+ghost use Rattle.lvx_run.specs.Lvx.{texts, IsUnread, Tells, Compares};
 
+use crate::words::LvxCommand;
 use cell_lib::{catal_file, library_status, named_files, read_library};
 use cell_pins::pin_table;
 use lvx_compare::{Verdict as Compared, compare};
 use net_core::{Netlist, PinTable};
 use std::alloc::{AllocError, Global};
-use tool_drive::{Over, Product, Refusal, Status, Tool, Verdict, Wanted, bytes_at, refused};
-use tool_words::LvxCommand;
-use vlsi_base::{FileBytes, FileName, MOST_NETLIST_BYTES};
+use tool_drive::{Product, Refusal, Status, Tool, Verdict, Wanted, bytes_at, refused};
+use vlsi_base::FileBytes;
 use vst_io::read_vst;
 
 /// `lvx`, with what it is asked: it compares the netlist in SOURCE with the one in the second file, by name, and prints `same`.
@@ -24,17 +24,6 @@ use vst_io::read_vst;
 #[derive(Drop)]
 pub struct Lvx<'a> {
     pub command: &'a LvxCommand,
-}
-
-// A netlist's file, of at most `MOST_NETLIST_BYTES` bytes.
-fn netlist_file(name: FileName) -> Wanted
-    ensures { result ≡ file_of name }
-{
-    Wanted {
-        name,
-        most: MOST_NETLIST_BYTES as u64,
-        over: Over::Refused,
-    }
 }
 
 // The netlists in the bytes of SOURCE and of the second file, or the status of the first that is refused.
@@ -105,8 +94,8 @@ impl Tool for Lvx<'_> {
 
     fn first(&self, alloc: Global) -> Result<Vec<Wanted>, AllocError> {
         let mut wanted = Vec::new(alloc);
-        wanted.push(netlist_file(self.command.source.copy(alloc)?))?;
-        wanted.push(netlist_file(self.command.other.copy(alloc)?))?;
+        wanted.push(Wanted::large(self.command.source.copy(alloc)?))?;
+        wanted.push(Wanted::large(self.command.other.copy(alloc)?))?;
         wanted.push(catal_file(alloc, &self.command.library)?)?;
         Ok(wanted)
     }

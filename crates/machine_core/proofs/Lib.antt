@@ -4,3 +4,4 @@ pub mod Known
 pub mod Solve
 pub mod Built
 pub mod WholeSize
+pub mod Runs

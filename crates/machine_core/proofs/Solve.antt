@@ -5,9 +5,9 @@ use Rattle.std.proofs.lemmas.List.{length-map, length-replicate}
 use Rattle.std.proofs.lemmas.List.Elements.{All-nil, All-cons, All-head, All-tail}
 use Rattle.vlsi_base.specs.declared.name.Name.{Name}
 use Rattle.bool_expr.specs.Expression.{val}
-use Rattle.machine_meaning.specs.Named.{value_at, values_at}
-use Rattle.machine_meaning.specs.Machine.{Machine, Equation, inputs, register_names}
-use Rattle.machine_meaning.specs.Cycles.{Settles}
+use Rattle.machine_core.specs.Named.{value_at, values_at}
+use Rattle.machine_core.specs.Machine.{Machine, Equation, inputs, register_names}
+use Rattle.machine_core.specs.Cycles.{Settles}
 use Rattle.machine_core.specs.Order.{In, here, there, AllDifferent, held_names, equation_names}
 use Rattle.machine_core.proofs.Known.{ReadsKnown, EachReadsKnown, IsKnown}
 use Rattle.machine_core.proofs.Names.{set_at}

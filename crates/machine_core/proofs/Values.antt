@@ -3,7 +3,7 @@ use Rattle.std.proofs.Common.{◌≡◌, ◌≢◌, ◌<◌, ℕ, zero, suc, Boo
 use Rattle.std.specs.List.{slice_index_or}
 use Rattle.vlsi_base.specs.declared.name.Name.{Name}
 use Rattle.bool_expr.specs.Expression.{Expression, constant, variable, inverse, pair, choice, bit, val, variables}
-use Rattle.machine_meaning.specs.Named.{is_same_name, value_at}
+use Rattle.machine_core.specs.Named.{is_same_name, value_at}
 use Rattle.machine_core.specs.Order.{In, here, there, AllDifferent}
 use Rattle.machine_core.proofs.Names.{same_name-true, same_name-itself, same_name-false, set_at}
 

@@ -5,10 +5,10 @@ use Rattle.std.specs.List.{sum_by, fold}
 use Rattle.vlsi_base.specs.declared.name.Port.{Port}
 use Rattle.bool_expr.specs.Expression.{size_of}
 use Rattle.bool_expr.specs.View.{view}
-use Rattle.machine_meaning.specs.Machine.{Machine, Equation, Register, is_input}
-use Rattle.machine_meaning.specs.Size.{machine_size}
-use Rattle.machine_meaning.specs.declared.equation.Equation.{Equation as EquationParts}
-use Rattle.machine_meaning.specs.declared.equation.Register.{Register as RegisterParts}
+use Rattle.machine_core.specs.Machine.{Machine, Equation, Register, is_input}
+use Rattle.machine_core.specs.Size.{machine_size}
+use Rattle.machine_core.specs.declared.equation.Equation.{Equation as EquationParts}
+use Rattle.machine_core.specs.declared.equation.Register.{Register as RegisterParts}
 use Rattle.machine_core.specs.View.{equation_view, register_view}
 
 fold-map : {A B : Type 0} (f : B → ℕ) (g : A → B) (n : ℕ) (xs : List A) → fold (λ a (x : B). a + f x) n (map g xs) ≡ fold (λ a (x : A). a + f (g x)) n xs

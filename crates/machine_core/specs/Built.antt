@@ -1,8 +1,8 @@
 -- The valuation of an ordered machine, computed equation by equation.
 use Rattle.std.specs.Prelude.{◌≡◌, Bool, List, [], ◌∷◌, ◌++◌, length}
 use Rattle.bool_expr.specs.Expression.{val}
-use Rattle.machine_meaning.specs.Machine.{Machine, Equation, inputs}
-use Rattle.machine_meaning.specs.Cycles.{Settles}
+use Rattle.machine_core.specs.Machine.{Machine, Equation, inputs}
+use Rattle.machine_core.specs.Cycles.{Settles}
 use Rattle.machine_core.specs.Order.{IsOrdered}
 
 -- each equation in turn adds its value

@@ -5,7 +5,7 @@ use Rattle.std.specs.declared.cmp.Ordering.TheVariants.{Less}
 use Rattle.vlsi_base.specs.declared.name.Name.{Name}
 use Rattle.vlsi_base.specs.Name.{name_cmp}
 use Rattle.bool_expr.specs.Expression.{IsOver}
-use Rattle.machine_meaning.specs.Machine.{Machine, names_of, input_ports, outputs, register_names}
+use Rattle.machine_core.specs.Machine.{Machine, names_of, input_ports, outputs, register_names}
 use Rattle.machine_core.specs.Order.{In, equation_names, IsOrdered}
 
 -- each name stands before the later ones in the order of names

@@ -3,3 +3,9 @@ pub mod Built
 pub mod Checked
 pub mod Code
 pub mod View
+pub mod Named
+pub mod Machine
+pub mod Runs
+pub mod Cycles
+pub mod Size
+pub mod Alike

@@ -3,8 +3,8 @@ use Rattle.std.specs.Prelude.{◌≡◌, ℕ, ◌+◌, Bool, List, [], ◌∷◌
 pub use Rattle.vlsi_base.specs.Member.{In, here, there, AllDifferent}
 use Rattle.vlsi_base.specs.declared.name.Name.{Name}
 use Rattle.bool_expr.specs.Expression.{IsOver}
-use Rattle.machine_meaning.specs.Machine.{Machine, Equation, inputs, register_names}
-use Rattle.machine_meaning.specs.Cycles.{Settles}
+use Rattle.machine_core.specs.Machine.{Machine, Equation, inputs, register_names}
+use Rattle.machine_core.specs.Cycles.{Settles}
 
 -- the names whose bits are given in each cycle: of inputs and of registers
 abbrev pub held_names : Machine → List Name

@@ -3,9 +3,9 @@ use Rattle.std.specs.Prelude.{ℕ, List, map, Option}
 use Rattle.vlsi_base.specs.declared.name.Name.{Name}
 use Rattle.vlsi_base.specs.declared.name.Port.{Port}
 use Rattle.bool_expr.specs.View.{view}
-use Rattle.machine_meaning.specs.declared.equation.Equation.{Equation as EquationParts}
-use Rattle.machine_meaning.specs.declared.equation.Register.{Register as RegisterParts}
-use Rattle.machine_meaning.specs.Machine.{Machine, Equation, Register}
+use Rattle.machine_core.specs.declared.equation.Equation.{Equation as EquationParts}
+use Rattle.machine_core.specs.declared.equation.Register.{Register as RegisterParts}
+use Rattle.machine_core.specs.Machine.{Machine, Equation, Register}
 
 abbrev pub equation_view : EquationParts → Equation
 equation_view e = record { name = e.name; expr = view e.expr }

@@ -4,7 +4,7 @@ ghost use Rattle.std.specs.Option.{option_copied};
 ghost use Rattle.machine_core.specs.Checked.{IsChecked};
 ghost use Rattle.machine_core.specs.View.{equation_view, register_view, machine_of};
 
-use machine_meaning::{Equations, Registers};
+use crate::{Equations, Registers};
 use std::marker::Model;
 use vlsi_base::{Name, Names, Ports, Text};
 
@@ -23,7 +23,7 @@ pub struct Machine {
 
 impl Model for Machine {
     ghost use Rattle.std.specs.Coded.{codes};
-    ghost use Rattle.machine_meaning.specs.Machine.{Machine as Meaning};
+    ghost use Rattle.machine_core.specs.Machine.{Machine as Meaning};
     ghost use Rattle.machine_core.specs.Code.{expression_code};
 
     ghost Value = { Meaning };

@@ -3,12 +3,11 @@ ghost use Rattle.std.specs.Prelude.{◌≡◌, ◌+◌, ◌*◌, ◌-◌, ◌^�
 ghost use Rattle.std.specs.List.{sum_by};
 ghost use Rattle.bool_expr.specs.Expression.{size_of};
 ghost use Rattle.bool_expr.specs.View.{view};
-ghost use Rattle.machine_meaning.specs.Machine.{is_input};
-ghost use Rattle.machine_meaning.specs.Size.{machine_size};
+ghost use Rattle.machine_core.specs.Machine.{is_input};
+ghost use Rattle.machine_core.specs.Size.{machine_size};
 
-use crate::Machine;
+use crate::{Equation, Machine, Register};
 use bool_expr::size;
-use machine_meaning::{Equation, Register};
 use vlsi_base::{Dir, Port};
 
 /// All expressions of the equations together.

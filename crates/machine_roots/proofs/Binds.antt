@@ -15,8 +15,8 @@ use Rattle.bdd_core.specs.Nodes.{raised}
 use Rattle.bdd_core.specs.Diagram.{Diagram, IsNode, function_of, functions_of, Keeps, IsAnswer}
 use Rattle.bdd_core.specs.Asked.{denoted, asked_of, IsAnswerOf}
 use Rattle.bdd_core.proofs.Asking.{SoFar, first, after, same_functions, bound_kept, over_sub}
-use Rattle.machine_meaning.specs.declared.equation.Equation.{Equation as EquationParts}
-use Rattle.machine_meaning.specs.Machine.{Equation}
+use Rattle.machine_core.specs.declared.equation.Equation.{Equation as EquationParts}
+use Rattle.machine_core.specs.Machine.{Equation}
 use Rattle.machine_core.specs.View.{equation_view}
 use Rattle.machine_roots.specs.Asked.{HaveAsked}
 use Rattle.machine_roots.specs.Binding.{AreNodes, variable_list, variable_lists, put_variables, next_list, bound_lists, asked_by}

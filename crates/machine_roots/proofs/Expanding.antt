@@ -7,7 +7,7 @@ use Rattle.vlsi_base.specs.Range.{rising}
 use Rattle.vlsi_base.specs.Member.{In, here, there}
 use Rattle.bool_expr.specs.Expression.{Expression, constant, variable, inverse, pair, choice, bit, val, variables}
 use Rattle.bool_expr.specs.Support.{among, meetings_after, first_meetings}
-use Rattle.machine_meaning.specs.Machine.{Machine, Equation}
+use Rattle.machine_core.specs.Machine.{Machine, Equation}
 use Rattle.machine_core.specs.Built.{built}
 use Rattle.machine_core.proofs.Values.{In-left, In-right}
 use Rattle.machine_walk.proofs.Reaching.{also_in}

@@ -18,9 +18,9 @@ use Rattle.vlsi_base.specs.Name.{name_cmp}
 use Rattle.vlsi_base.specs.NamePlaces.{NamePlaces, last_place}
 use Rattle.vlsi_base.proofs.NameOrder.{name_total, name_exact}
 use Rattle.bool_expr.specs.View.{view}
-use Rattle.machine_meaning.specs.Named.{is_same_name}
-use Rattle.machine_meaning.specs.declared.equation.Equation.{Equation as EquationParts}
-use Rattle.machine_meaning.specs.Machine.{Equation, is_input, names_of}
+use Rattle.machine_core.specs.Named.{is_same_name}
+use Rattle.machine_core.specs.declared.equation.Equation.{Equation as EquationParts}
+use Rattle.machine_core.specs.Machine.{Equation, is_input, names_of}
 use Rattle.machine_core.specs.View.{equation_view}
 use Rattle.machine_core.proofs.Names.{same_name-itself, same_name-false}
 use Rattle.machine_core.proofs.Values.{In-right}

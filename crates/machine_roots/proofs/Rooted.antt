@@ -4,7 +4,7 @@ use Rattle.std.specs.List.{slice_index_or}
 use Rattle.std.proofs.lemmas.List.{length-map, length-replicate}
 use Rattle.vlsi_base.specs.Member.{In, here, there}
 use Rattle.bool_expr.specs.Expression.{Expression, constant, IsOver as IsWithin}
-use Rattle.machine_meaning.specs.Machine.{Machine}
+use Rattle.machine_core.specs.Machine.{Machine}
 use Rattle.machine_core.specs.Order.{EachReadsBelow, IsOrdered}
 use Rattle.machine_core.proofs.Values.{In-left, In-right, In-split}
 use Rattle.bdd_core.specs.declared.node.NodeId.{NodeId}

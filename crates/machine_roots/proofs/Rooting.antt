@@ -11,7 +11,7 @@ use Rattle.bdd_core.specs.Counting.{Holds}
 use Rattle.bdd_core.specs.Diagram.{Diagram, IsNode, function_of, functions_of, IsAnswer}
 use Rattle.bdd_core.specs.Asked.{asked_of, denoted, IsAnswerOf}
 use Rattle.bdd_core.proofs.Asking.{SoFar, after, over_sub}
-use Rattle.machine_meaning.specs.Machine.{Equation}
+use Rattle.machine_core.specs.Machine.{Equation}
 use Rattle.machine_roots.specs.declared.sharing.SharedDiagrams.{SharedDiagrams}
 use Rattle.machine_roots.specs.Asked.{HaveAsked}
 use Rattle.machine_roots.specs.Binding.{AreNodes, variable_lists, put_variables, held_lists, bound_lists, asked_by}

@@ -7,7 +7,7 @@ use Rattle.std.proofs.lemmas.Option.{slice_get_within, slice_get-get_or}
 use Rattle.vlsi_base.specs.Member.{In, here, there}
 use Rattle.vlsi_base.specs.Range.{falling}
 use Rattle.bool_expr.specs.Expression.{Expression, constant, variable, inverse, pair, choice, variables, bit, IsOver}
-use Rattle.machine_meaning.specs.Machine.{Machine, Equation}
+use Rattle.machine_core.specs.Machine.{Machine, Equation}
 use Rattle.machine_core.specs.Order.{IsOrdered}
 use Rattle.machine_core.proofs.Values.{In-left, In-right, In-split, In-map}
 use Rattle.bdd_core.specs.Truths.{Truths, constant as even, IsPart, IsCounted}

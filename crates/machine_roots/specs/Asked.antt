@@ -8,7 +8,7 @@ use Rattle.bdd_core.specs.Truths.{Truths, constant, IsOver}
 use Rattle.bdd_core.specs.Nodes.{raised}
 use Rattle.bdd_core.specs.Counting.{Holds}
 use Rattle.bdd_core.specs.Diagram.{Diagram, IsNode, function_of, Keeps}
-use Rattle.machine_meaning.specs.Machine.{Machine}
+use Rattle.machine_core.specs.Machine.{Machine}
 use Rattle.machine_roots.specs.declared.diagram.RootDiagram.{RootDiagram}
 use Rattle.machine_walk.specs.Expansion.{held_count}
 use Rattle.machine_roots.specs.Roots.{list_of, lists_of}

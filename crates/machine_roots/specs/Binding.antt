@@ -8,7 +8,7 @@ use Rattle.bdd_core.specs.Truths.{Truths, constant, truths}
 use Rattle.bdd_core.specs.Nodes.{raised}
 use Rattle.bdd_core.specs.Diagram.{Diagram, IsNode}
 use Rattle.bdd_core.specs.Asked.{denoted, asked_of}
-use Rattle.machine_meaning.specs.Machine.{Equation}
+use Rattle.machine_core.specs.Machine.{Equation}
 
 abbrev pub AreNodes : Diagram → List NodeId → Type 0
 AreNodes d nodes = All (λ a. IsNode d a) nodes

@@ -6,8 +6,8 @@ use Rattle.std.specs.List.{All, AllZip, Contains}
 use Rattle.vlsi_base.specs.declared.name.Name.{Name}
 use Rattle.bool_expr.specs.Expression.{Expression, constant, val}
 use Rattle.bdd_core.specs.Truths.{Truths, truths, IsCountOf, IsOver}
-use Rattle.machine_meaning.specs.Named.{is_same_name}
-use Rattle.machine_meaning.specs.Machine.{Machine, Equation, Register, outputs}
+use Rattle.machine_core.specs.Named.{is_same_name}
+use Rattle.machine_core.specs.Machine.{Machine, Equation, Register, outputs}
 use Rattle.machine_walk.specs.Expansion.{expansion, subexpressions, in_order}
 use Rattle.machine_walk.specs.Walk.{order_of}
 

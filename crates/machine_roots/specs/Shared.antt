@@ -7,7 +7,7 @@ use Rattle.bdd_core.specs.Nodes.{raised}
 use Rattle.bdd_core.specs.Counting.{Holds}
 use Rattle.bdd_core.specs.Diagram.{IsNode, function_of, functions_of}
 use Rattle.bdd_core.specs.Asked.{denoted, asked_of}
-use Rattle.machine_meaning.specs.Machine.{Equation}
+use Rattle.machine_core.specs.Machine.{Equation}
 use Rattle.machine_roots.specs.declared.sharing.SharedDiagrams.{SharedDiagrams}
 use Rattle.machine_roots.specs.declared.sharing.Cone.{Cone}
 use Rattle.machine_roots.specs.Binding.{AreNodes, variable_lists, held_lists, bound_lists, asked_by}

@@ -5,13 +5,12 @@ ghost use Rattle.std.specs.FinMap.{get};
 ghost use Rattle.bool_expr.specs.View.{view};
 ghost use Rattle.vlsi_base.specs.declared.name.Name.{Name as NameValue};
 ghost use Rattle.machine_core.specs.View.{equation_view, register_view};
-ghost use Rattle.machine_meaning.specs.Machine.{Equation as EquationValue, names_of, is_input};
+ghost use Rattle.machine_core.specs.Machine.{Equation as EquationValue, names_of, is_input};
 ghost use Rattle.machine_roots.specs.Roots.{register_roots};
 ghost use Rattle.machine_roots.specs.Listing.{root_view, IsPlaced, AreDriven, AreOutputRoots, AreRoots};
 
 use bool_expr::Expr;
-use machine_core::Machine;
-use machine_meaning::{Equation, Register};
+use machine_core::{Equation, Machine, Register};
 use std::alloc::{AllocError, Global};
 use vlsi_base::{Dir, Name, NameIndex, Port};
 

@@ -15,8 +15,7 @@ ghost use Rattle.machine_roots.specs.Shared.{shared_lists, AreShared, cone_list,
 
 use bdd_core::{BddError, Diagrams, NodeId};
 use bool_expr::Expr;
-use machine_core::Machine;
-use machine_meaning::Equation;
+use machine_core::{Equation, Machine};
 use std::alloc::Global;
 
 /// The logic of a root: an expression over a machine's names, with the equations that it reads.

@@ -7,7 +7,7 @@ use Rattle.std.proofs.lemmas.List.{length-set, get_or-set_same, get_or-set_other
 use Rattle.vlsi_base.specs.Member.{In, here, there}
 use Rattle.bool_expr.specs.Expression.{Expression, constant, variable, inverse, pair, choice, variables, bit, IsOver}
 use Rattle.bool_expr.specs.Support.{among, meetings_after}
-use Rattle.machine_meaning.specs.Machine.{Machine, Equation}
+use Rattle.machine_core.specs.Machine.{Machine, Equation}
 use Rattle.machine_core.specs.Order.{EachReadsBelow, IsOrdered}
 use Rattle.machine_core.proofs.Values.{In-left, In-right, In-split}
 use Rattle.machine_walk.specs.Expansion.{with_variables, held_count}

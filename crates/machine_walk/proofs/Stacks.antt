@@ -8,8 +8,8 @@ use Rattle.bool_expr.specs.declared.expr.Expr.{Expr, Const, Var, Not', Pair', Ch
 use Rattle.bool_expr.specs.Expression.{Expression, constant, variable, inverse, pair, choice, variables, bit, IsOver}
 use Rattle.bool_expr.specs.View.{view}
 use Rattle.bool_expr.proofs.Waiting.{weight}
-use Rattle.machine_meaning.specs.Machine.{Machine}
-use Rattle.machine_meaning.specs.declared.equation.Equation.{Equation as EquationParts}
+use Rattle.machine_core.specs.Machine.{Machine}
+use Rattle.machine_core.specs.declared.equation.Equation.{Equation as EquationParts}
 use Rattle.machine_core.specs.Order.{IsOrdered}
 use Rattle.machine_core.specs.View.{equation_view}
 use Rattle.machine_walk.specs.declared.walking.WalkedNames.{WalkedNames}

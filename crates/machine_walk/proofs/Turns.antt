@@ -6,7 +6,7 @@ use Rattle.vlsi_base.specs.Member.{In, here, there}
 use Rattle.bool_expr.specs.Expression.{Expression, variable, variables, bit, IsOver}
 use Rattle.bool_expr.specs.Support.{among, meetings_after, first_meetings}
 use Rattle.bool_expr.proofs.Waiting.{weight}
-use Rattle.machine_meaning.specs.Machine.{Machine, Equation}
+use Rattle.machine_core.specs.Machine.{Machine, Equation}
 use Rattle.machine_core.specs.Order.{IsOrdered}
 use Rattle.machine_core.proofs.Values.{In-left, In-right, In-split}
 use Rattle.machine_walk.specs.Expansion.{put_in, expansions, held_count}

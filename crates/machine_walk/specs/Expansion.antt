@@ -3,7 +3,7 @@ use Rattle.std.specs.Prelude.{ℕ, suc, false, List, [], ◌∷◌, ◌++◌, ma
 use Rattle.std.specs.List.{slice_index_or}
 use Rattle.vlsi_base.specs.Range.{rising}
 use Rattle.bool_expr.specs.Expression.{Expression, constant, variable, inverse, pair, choice}
-use Rattle.machine_meaning.specs.Machine.{Machine, Equation}
+use Rattle.machine_core.specs.Machine.{Machine, Equation}
 use Rattle.machine_core.specs.Order.{held_names}
 
 -- the expression with another one in place of each variable

@@ -4,7 +4,7 @@ use Rattle.std.specs.Borrow.{Bor}
 use Rattle.bool_expr.specs.declared.expr.Expr.{Expr}
 use Rattle.bool_expr.specs.Expression.{Expression, constant, variable, inverse, pair, choice, bit}
 use Rattle.bool_expr.specs.View.{view}
-use Rattle.machine_meaning.specs.Machine.{Machine, Equation}
+use Rattle.machine_core.specs.Machine.{Machine, Equation}
 use Rattle.machine_walk.specs.declared.walking.WalkedNames.{WalkedNames}
 use Rattle.machine_walk.specs.Expansion.{held_count}
 

@@ -3,7 +3,7 @@ use Rattle.std.specs.Prelude.{◌≡◌, ◌↔◌, ℕ, ◌+◌, ◌<◌, Bool,
 use Rattle.vlsi_base.specs.Member.{In}
 use Rattle.bool_expr.specs.Expression.{Expression, variables, bit}
 use Rattle.bool_expr.specs.Support.{first_meetings}
-use Rattle.machine_meaning.specs.Machine.{Machine, Equation}
+use Rattle.machine_core.specs.Machine.{Machine, Equation}
 use Rattle.machine_walk.specs.Expansion.{expansion, held_count}
 
 -- the inputs and registers of an expression's expansion, in the order in which a walk from left to right first meets them

@@ -34,7 +34,7 @@ fn open<'a>(operator: &'a Expr, waiting: &mut Vec<&'a Expr>) -> Result<(), Alloc
 }
 
 // Marks a name that wasn't met, and puts an input or register behind the order, and an inner signal's equation behind what waits.
-fn meet<'a>(
+fn visit<'a>(
     m: &'a Machine,
     name: u32,
     walked: &mut WalkedNames,
@@ -78,7 +78,7 @@ pub fn walk(alloc: Global, m: &Machine, e: &Expr) -> Result<WalkedNames, AllocEr
     waiting.push(e)?;
     while let Some(next) = waiting.pop() {
         if let Expr::Var(name) = next {
-            meet(m, *name, &mut walked, &mut waiting)?;
+            visit(m, *name, &mut walked, &mut waiting)?;
         } else {
             open(next, &mut waiting)?;
         }

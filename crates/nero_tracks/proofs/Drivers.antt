@@ -9,15 +9,15 @@ use Rattle.vlsi_base.specs.declared.name.Port.{Port}
 use Rattle.vlsi_base.specs.declared.name.Terminal.{Terminal}
 use Rattle.vlsi_base.specs.Names.{vdd, vss}
 use Rattle.vlsi_base.specs.Member.{In, here, there, AllDifferent}
-use Rattle.machine_meaning.specs.Machine.{names_of, is_input}
+use Rattle.machine_core.specs.Machine.{names_of, is_input}
 use Rattle.cell_model.specs.Cell.{Function, gate, flip_flop, other, opaque, Cell, pin_ports, cell_outputs}
 use Rattle.cell_model.specs.Library.{Library, cell_of, IsUsable, IsPlain}
 use Rattle.cell_model.proofs.Members.{In-split, In-left, In-right, In-map, In-map_back}
 use Rattle.cell_pins.proofs.Ports.{in_filter}
-use Rattle.net_meaning.specs.Netlist.{Member, Netlist, port, pin_of, IsTerminal, a_port, a_pin}
+use Rattle.net_meaning.specs.Netlist.{Member, AbstractNetlist, port, pin_of, IsTerminal, a_port, a_pin}
 use Rattle.net_theory.proofs.Basics.{In-names}
-use Rattle.net_view.proofs.Lists.{filter_in}
-use Rattle.net_view.proofs.Ports.{supplies_differ}
+use Rattle.net_right.proofs.Lists.{filter_in}
+use Rattle.net_right.proofs.Ports.{supplies_differ}
 use Rattle.net_drawing.proofs.Coding.{same_name_false}
 use Rattle.ocp_place.specs.Nets.{is_signal, signal_ports, port_classes, driven_by, driven, is_among, net_classes}
 use Rattle.net_drawing.specs.Shown.{IsSupplyClass, IsOnNet}
@@ -53,7 +53,7 @@ same_or_not a b = by (nat_eq a b) refl where
   by true e = inl (eqb-true a b e)
   by false e = inr (λ same. let f : true ≡ false = sym (eq-eqb a b same) ∙ e in cc f)
 
-module _ (n : Netlist) (l : Library) (orderly : IsOrderly n l) where
+module _ (n : AbstractNetlist) (l : Library) (orderly : IsOrderly n l) where
   abbrev test : ℕ → Bool
   test class = not (is_among (port_classes n) class)
 

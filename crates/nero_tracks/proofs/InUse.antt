@@ -15,7 +15,7 @@ use Rattle.net_core.specs.Frame.{instance_of}
 use Rattle.net_core.specs.Netlist.{Instance, Netlist as InMemory}
 use Rattle.net_core.specs.Places.{Stands, IsThere}
 use Rattle.net_core.proofs.Frames.{unmapped}
-use Rattle.net_view.proofs.Lists.{in_place}
+use Rattle.net_right.proofs.Lists.{in_place}
 use Rattle.nero_tracks.specs.declared.error.TrackError.{TrackError}
 use Rattle.nero_tracks.specs.declared.error.TrackError.TheVariants as error
 use Rattle.nero_tracks.specs.Columns.{IsModelRefusal, HasOwnColumns, HaveOwnColumns}

@@ -4,5 +4,4 @@ pub mod Numbered
 pub mod Free
 pub mod Marked
 pub mod Routed
-pub mod Shared
 pub mod InUse

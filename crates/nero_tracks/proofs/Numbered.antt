@@ -9,9 +9,9 @@ use Rattle.vlsi_base.specs.Member.{In}
 use Rattle.cell_model.specs.Library.{Library}
 use Rattle.cell_pins.proofs.Ports.{in_filter}
 use Rattle.net_core.proofs.Frames.{mapped, unmapped}
-use Rattle.net_meaning.specs.Netlist.{Netlist, port}
+use Rattle.net_meaning.specs.Netlist.{AbstractNetlist, port}
 use Rattle.net_drawing.specs.Shown.{IsSupplyClass, IsOnNet}
-use Rattle.net_view.proofs.Lists.{filter_in}
+use Rattle.net_right.proofs.Lists.{filter_in}
 use Rattle.ocp_rows.specs.Placement.{net_count}
 use Rattle.net_drawing.proofs.Coding.{In_get}
 use Rattle.net_drawing.proofs.Cells.{names_distinct}
@@ -21,7 +21,7 @@ use Rattle.nero_tracks.specs.Law.{NetsAreNumbered, NetsAreCounted}
 use Rattle.nero_tracks.proofs.Among.{placed, not_placed, one_place, first_at}
 use Rattle.nero_tracks.proofs.Drivers.{signal_true, signal_so, listed, port_free, not_net, not_more, not_fewer}
 
-module _ (n : Netlist) (l : Library) (orderly : IsOrderly n l) where
+module _ (n : AbstractNetlist) (l : Library) (orderly : IsOrderly n l) where
   below : (t : Terminal) → IsOnNet n l t → net_number n l (n.class t) < net_count n
   below t h =
       let less = (placed (net_classes n l) (n.class t) (listed n l orderly t h)).0 in
@@ -52,23 +52,25 @@ module _ (n : Netlist) (l : Library) (orderly : IsOrderly n l) where
 
 pub nets_are_numbered : NetsAreNumbered
 nets_are_numbered n l orderly columns = record {
-  models = orderly.models;
+  nets = record {
+    models = orderly.models;
+    names = orderly.names;
+    order = AllPairs-filter (λ a b. IsTrue (comes_before a b)) is_signal n.ports orderly.order;
+    port_names = λ name. (
+      λ h. let r = in_filter is_signal n.ports name h in let s = signal_so name r.1 in (r.0, s.0, s.1),
+      λ h. filter_in is_signal n.ports name h.0 (signal_true name h.1 h.2),
+    );
+    has_vdd = orderly.has_vdd;
+    has_vss = orderly.has_vss;
+    high = orderly.high;
+    low = orderly.low;
+    free = port_free n l orderly;
+    below = below n l orderly;
+    past = past n l orderly;
+    one_class = λ t u is_t is_u e. one_place (net_classes n l) (n.class t) (n.class u) (listed n l orderly t is_t) (listed n l orderly u is_u) e;
+    port_nets = port_net n l orderly;
+  };
   columns = columns;
-  names = orderly.names;
-  order = AllPairs-filter (λ a b. IsTrue (comes_before a b)) is_signal n.ports orderly.order;
-  port_names = λ name. (
-    λ h. let r = in_filter is_signal n.ports name h in let s = signal_so name r.1 in (r.0, s.0, s.1),
-    λ h. filter_in is_signal n.ports name h.0 (signal_true name h.1 h.2),
-  );
-  has_vdd = orderly.has_vdd;
-  has_vss = orderly.has_vss;
-  high = orderly.high;
-  low = orderly.low;
-  free = port_free n l orderly;
-  below = below n l orderly;
-  past = past n l orderly;
-  one_class = λ t u is_t is_u e. one_place (net_classes n l) (n.class t) (n.class u) (listed n l orderly t is_t) (listed n l orderly u is_u) e;
-  port_nets = port_net n l orderly;
 }
 
 pub nets_are_counted : NetsAreCounted

@@ -1,59 +1,21 @@
 // Whether the pins of the cells in use are reached in different columns.
-ghost use Rattle.std.specs.Prelude.{◌≡◌, ◌<◌, ◌↔◌, IsTrue, Any, map, IfOk, IfErr, OnOk, IfSome, IfNone};
+ghost use Rattle.std.specs.Prelude.{◌≡◌, ◌<◌, map, IfOk, IfErr, OnOk};
 ghost use Rattle.std.specs.List.{All};
 ghost use Rattle.std.specs.Option.{option_copied};
 ghost use Rattle.cell_model.specs.Library.{cell_named};
 ghost use Rattle.cell_model.specs.Usable.{IsFormed};
 ghost use Rattle.cell_checks.specs.Checks.{StandsInRow, ColumnsDiffer};
-ghost use Rattle.nero_tracks.specs.Columns.{ShareColumn, IsSharedAt, AreAllApart, IsSharedPin, HasOwnColumns, IsModelRefusal, HaveOwnColumns};
+ghost use Rattle.nero_tracks.specs.Columns.{IsSharedPin, HasOwnColumns, IsModelRefusal, HaveOwnColumns};
 ghost use Rattle.nero_tracks.specs.Drawable.{IsDrawableIn, IsTrackRefusal};
 ghost use Rattle.nero_tracks.specs.Tracks.{AreMarks};
 
 use crate::TrackError;
 use crate::marks::no_marks;
-use cell_checks::{GridPoint, Library, access_points};
+use cell_checks::{Library, shared_pin};
 use cell_model::{Cell, is_mappable};
 use net_core::{Netlist, Node};
 use std::alloc::{AllocError, Global};
 use vlsi_base::Text;
-
-/// Whether two points are there, in one column.
-fn share_column(one: Option<GridPoint>, other: Option<GridPoint>) -> bool
-    ensures { IsTrue result ↔ ShareColumn one other }
-{
-    let Some(one) = one else {
-        return false;
-    };
-    let Some(other) = other else {
-        return false;
-    };
-    one.x == other.x
-}
-
-/// Whether a point is in the column of one of some others.
-fn is_shared(points: &[Option<GridPoint>], point: Option<GridPoint>) -> bool
-    ensures { IsTrue result ↔ Any (λ q. ShareColumn q point) points.now }
-{
-    for other in points {
-        if share_column(*other, point) {
-            return true;
-        }
-    }
-    false
-}
-
-/// The first pin, by its number, that is reached in the column of an earlier one.
-fn shared(points: &[Option<GridPoint>]) -> Option<usize>
-    ensures some { IfSome result (λ j. IsSharedAt points.now j) }
-    ensures none { IfNone result (AreAllApart points.now) }
-{
-    for j in 0..points.len() {
-        if is_shared(&points[..j], points[j]) {
-            return Some(j);
-        }
-    }
-    None
-}
 
 /// The first cell of a name.
 fn cell_of<'l>(cells: &'l [Cell], model: &Text) -> Option<&'l Cell>
@@ -74,11 +36,10 @@ fn check_cell(alloc: Global, cell: &Cell) -> Result<(), TrackError>
     ensures apart { OnOk result (ColumnsDiffer cell.now) }
     ensures refused { IfErr result (λ e. IsSharedPin cell.now e) }
 {
-    let points = access_points(alloc, cell)?;
-    let Some(j) = shared(&points) else {
+    let Some(place) = shared_pin(alloc, cell)? else {
         return Ok(());
     };
-    let pin = &cell.pins.as_slice()[j].port.name;
+    let pin = &cell.pins.as_slice()[place].port.name;
     Err(TrackError::NoColumn {
         cell: cell.name.copy(alloc)?,
         pin: pin.copy(alloc)?,

@@ -12,7 +12,7 @@ use Rattle.cell_model.specs.Cell.{Cell, cell_width, cell_height, pin_ports}
 use Rattle.cell_model.specs.Access.{Point, count_to, grid_lines, grid_points, holds, is_named, is_access_node, access_nodes, access_point, rank_of}
 use Rattle.sym_shapes.proofs.Tests.{both}
 use Rattle.sym_shapes.proofs.Tests.{within_so, list_any_In}
-use Rattle.machine_meaning.specs.Machine.{names_of}
+use Rattle.machine_core.specs.Machine.{names_of}
 use Rattle.net_drawing.specs.Clean.{IsClean}
 use Rattle.net_drawing.proofs.Coding.{In_get, get_there, same_name_true}
 

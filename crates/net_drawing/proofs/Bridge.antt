@@ -11,14 +11,14 @@ use Rattle.sym_shapes.specs.Joined as joined
 use Rattle.cell_model.specs.Layout as layout
 use Rattle.net_meaning.specs.Breaches as breaches
 use Rattle.sym_shapes.proofs.Labels.{first_In, last_In}
-use Rattle.net_geom.specs.Figure.{Shape, Name, Power, Bit, In}
-use Rattle.net_geom.specs.Joined.{Linked, touching, one_line, one_name, Joined, same, link}
-use Rattle.net_geom.specs.Block.{Block, Terminal, AtPort, AtPin, Exists, net_of, IsOf, AreJoined, shapes, terminal_at}
-use Rattle.net_geom.specs.Breach.{IsExcused, one_instance, in_connector, connector_of, joined_first, joined_second, first_within, second_within, HasNoBreach}
-use Rattle.net_geom.proofs.TracksAll.{IsKnown, known}
-use Rattle.net_geom.specs.Tracks.{block_lines}
-use Rattle.net_geom.proofs.TracksAll.{tracks_join}
-use Rattle.net_geom.proofs.TracksClean.{tracks_clean}
+use Rattle.block_geom.specs.Figure.{Shape, Name, Power, Bit, In}
+use Rattle.block_geom.specs.Joined.{Linked, touching, one_line, one_name, Joined, same, link}
+use Rattle.block_geom.specs.Block.{Block, Terminal, AtPort, AtPin, Exists, net_of, IsOf, AreJoined, shapes, terminal_at}
+use Rattle.block_geom.specs.Breach.{IsExcused, one_instance, in_connector, connector_of, joined_first, joined_second, first_within, second_within, HasNoBreach}
+use Rattle.block_geom.proofs.TracksAll.{IsKnown, known}
+use Rattle.block_geom.specs.Tracks.{block_lines}
+use Rattle.block_geom.proofs.TracksAll.{tracks_join}
+use Rattle.block_geom.proofs.TracksClean.{tracks_clean}
 use Rattle.net_drawing.specs.Picture.{option_map, shown, terminal_of, AreApart, PicturesJoin}
 
 pub In_shown_cases : (g : Shape → shape.Shape) (ys : List Shape) (x : shape.Shape) → member.In x (map g ys) → (s : Shape) × In s ys × (x ≡ g s)

@@ -8,8 +8,8 @@ use Rattle.std.proofs.lemmas.Option.{slice_get_within, get_or_from_slice_get}
 use Rattle.vlsi_base.specs.declared.name.Name as name
 use Rattle.vlsi_base.specs.Name.{name_cmp}
 use Rattle.vlsi_base.proofs.NameOrder.{name_total}
-use Rattle.machine_meaning.specs.Named.{is_same_name}
-use Rattle.machine_meaning.specs.Machine.{names_of}
+use Rattle.machine_core.specs.Named.{is_same_name}
+use Rattle.machine_core.specs.Machine.{names_of}
 use Rattle.sym_geom.specs.Items.{via_pads, segment_rect}
 use Rattle.sym_geom.specs.Rect.{IsRect}
 use Rattle.sym_geom.specs.Metal.{metal_of}
@@ -25,13 +25,13 @@ use Rattle.cell_model.specs.Cell.{pin_ports}
 use Rattle.cell_model.specs.Cell as cells
 use Rattle.cell_model.specs.Library.{IsUsable}
 use Rattle.vlsi_base.specs.Names.{vdd, vss}
-use Rattle.ocp_rows.specs.Length.{natural}
+use Rattle.ocp_rows.specs.Placement.{natural}
 use Rattle.cell_model.specs.Access.{access_point}
-use Rattle.net_geom.specs.Figure.{Vss, Vdd, Shape, Name, Power, Bit, In}
-use Rattle.net_geom.specs.Joined.{Joined}
-use Rattle.net_geom.specs.Block as block
-use Rattle.net_geom.specs.Block.{Cell, cell_shapes, Passes, IsJoinedTo, HasOwnColumns}
-use Rattle.net_geom.proofs.Chains.{Joined_trans, Joined_sym}
+use Rattle.block_geom.specs.Figure.{Vss, Vdd, Shape, Name, Power, Bit, In}
+use Rattle.block_geom.specs.Joined.{Joined}
+use Rattle.block_geom.specs.Block as block
+use Rattle.block_geom.specs.Block.{Cell, cell_shapes, Passes, IsJoinedTo, HasOwnColumns}
+use Rattle.block_geom.proofs.Chains.{Joined_trans, Joined_sym}
 use Rattle.net_drawing.specs.Picture.{option_map}
 use Rattle.net_drawing.specs.Clean as clean
 use Rattle.net_drawing.specs.Clean.{IsClean, PinColumnsDiffer}

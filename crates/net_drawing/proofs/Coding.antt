@@ -5,8 +5,8 @@ use Rattle.std.proofs.lemmas.Bool.{eqb-true, eq-eqb}
 use Rattle.std.proofs.Math.Nat.{mul-div_cancel_left}
 use Rattle.std.specs.Cmp.Lexicographic.{bytes_decides}
 use Rattle.vlsi_base.specs.declared.name.Name as name
-use Rattle.machine_meaning.specs.Named.{is_same_text, is_same_bit, is_same_name}
-use Rattle.machine_meaning.specs.Machine.{names_of}
+use Rattle.machine_core.specs.Named.{is_same_text, is_same_bit, is_same_name}
+use Rattle.machine_core.specs.Machine.{names_of}
 use Rattle.vlsi_base.specs.Member as member
 use Rattle.sym_shapes.specs.Shape as shape
 use Rattle.sym_shapes.specs.Shape.{drawn, connector_names}
@@ -14,13 +14,13 @@ use Rattle.sym_shapes.specs.Joined as joined
 use Rattle.cell_model.specs.Cell.{pin_ports}
 use Rattle.cell_model.specs.Cell as cells
 use Rattle.vlsi_base.specs.Names.{vdd, vss}
-use Rattle.ocp_rows.specs.Length.{natural}
+use Rattle.ocp_rows.specs.Placement.{natural}
 use Rattle.cell_model.specs.Access.{access_point}
 use Rattle.sym_shapes.proofs.Labels.{first_In}
-use Rattle.net_geom.specs.Figure.{Vss, Vdd, Shape, Name, Power, Bit, In}
-use Rattle.net_geom.specs.Joined.{Linked, touching, one_line, one_name, Joined, same, link}
-use Rattle.net_geom.specs.Block.{Cell}
-use Rattle.net_geom.proofs.Lists.{In_map_cases, In_map}
+use Rattle.block_geom.specs.Figure.{Vss, Vdd, Shape, Name, Power, Bit, In}
+use Rattle.block_geom.specs.Joined.{Linked, touching, one_line, one_name, Joined, same, link}
+use Rattle.block_geom.specs.Block.{Cell}
+use Rattle.block_geom.proofs.Lists.{In_map_cases, In_map}
 use Rattle.net_drawing.specs.Picture.{option_map}
 
 -- ---- names

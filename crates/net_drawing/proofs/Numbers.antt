@@ -1,26 +1,26 @@
 -- The block by numbers of a netlist that may be drawn.
-use Rattle.std.proofs.Common.{◌≡◌, ℕ, zero, suc, ◌+◌, ◌*◌, ◌<◌, ◌≤◌, inl, inr, ⊎_elim, Bool, true, false, List, [], ◌∷◌, ◌++◌, length, Option, Some, None, sym, ap, ◌∙◌, subst, arith}
+use Rattle.std.proofs.Common.{◌≡◌, ℕ, zero, suc, ◌+◌, ◌*◌, ◌<◌, ◌≤◌, ⊎_elim, Bool, true, false, List, [], ◌∷◌, ◌++◌, length, Option, Some, None, sym, ap, ◌∙◌, arith}
 use Rattle.std.specs.Prelude.{ℤ, pos, ◌+ℤ◌, ◌-ℤ◌, slice_get, ◌/◌, nat_lt, nat_eq, if◌then◌else◌}
 use Rattle.std.proofs.lemmas.Int.{ints}
 use Rattle.std.proofs.lemmas.Bool.{cases_lt, cond-true, cond-false, eqb-true, false_from_ne_true}
 use Rattle.std.proofs.lemmas.Bool.Decides.{nat_tests}
 use Rattle.vlsi_base.specs.declared.name.Name as name
 use Rattle.vlsi_base.specs.declared.name.Terminal.{Terminal}
-use Rattle.machine_meaning.specs.Machine.{names_of}
+use Rattle.machine_core.specs.Machine.{names_of}
 use Rattle.sym_geom.specs.declared.rect.Rect.{Rect}
 use Rattle.vlsi_base.specs.Member as member
 use Rattle.cell_model.specs.Cell as cells
 use Rattle.cell_model.specs.Cell.{cell_width, pin_ports}
 use Rattle.cell_model.specs.Library.{Library, cell_of, IsUsable}
-use Rattle.net_meaning.specs.Netlist.{Member, Netlist, pin_of}
-use Rattle.ocp_rows.specs.Placement.{model_width, width_of, net_count}
-use Rattle.ocp_rows.specs.Length.{least, greatest, natural}
-use Rattle.net_geom.specs.Figure.{Name}
-use Rattle.net_geom.specs.Block.{Cell, Block, Passes, HasOwnColumns, IsSound, at_x}
+use Rattle.net_meaning.specs.Netlist.{Member, AbstractNetlist, pin_of}
+use Rattle.ocp_rows.specs.Placement.{model_width, width_of, natural}
+use Rattle.ocp_rows.specs.Length.{least, greatest}
+use Rattle.block_geom.specs.Figure.{Name}
+use Rattle.block_geom.specs.Block.{Cell, at_x}
 use Rattle.net_drawing.specs.Clean.{IsClean}
-use Rattle.net_drawing.specs.Drawing.{Numbering, of_pins, port_xs, IsDrawable}
-use Rattle.net_drawing.proofs.Coding.{In_get, get_there, name_or, decode, cell_by}
-use Rattle.net_drawing.proofs.Cells.{passes, own_columns, width_is}
+use Rattle.net_drawing.specs.Drawing.{Numbering, of_pins, port_xs}
+use Rattle.net_drawing.proofs.Coding.{name_or, decode, cell_by}
+use Rattle.net_drawing.proofs.Cells.{width_is}
 use Rattle.net_drawing.proofs.Pieces.{x_at}
 
 abbrev pub signals : Option cells.Cell → List name.Name
@@ -64,26 +64,26 @@ has_some [] = false
 has_some (x ∷ xs) = true
 
 -- the x of the pins on net k
-abbrev pub pin_xs : Netlist → Library → Numbering → ℕ → List ℤ
+abbrev pub pin_xs : AbstractNetlist → Library → Numbering → ℕ → List ℤ
 pin_xs n l net k = of_pins n l net k (λ q. q.0 ∷ [])
 
-abbrev pub low : Netlist → Library → Numbering → List name.Name → ℕ → ℕ
+abbrev pub low : AbstractNetlist → Library → Numbering → List name.Name → ℕ → ℕ
 low n l net ports k = low_of (pin_xs n l net k) (port_xs (slice_get ports k))
 
-abbrev pub high : Netlist → Library → Numbering → List name.Name → ℕ → ℕ
+abbrev pub high : AbstractNetlist → Library → Numbering → List name.Name → ℕ → ℕ
 high n l net ports k = high_of (pin_xs n l net k) (port_xs (slice_get ports k))
 
-abbrev pub own : Netlist → ℕ → List ℕ
+abbrev pub own : AbstractNetlist → ℕ → List ℕ
 own n i = (member_at n.instances i).name
 
-abbrev pub pins_at : Netlist → Library → ℕ → List name.Name
+abbrev pub pins_at : AbstractNetlist → Library → ℕ → List name.Name
 pins_at n l i = signals (cell_of l (member_at n.instances i).model)
 
-abbrev pub call : Netlist → Library → List name.Name → Option ℕ → Name → name.Name
+abbrev pub call : AbstractNetlist → Library → List name.Name → Option ℕ → Name → name.Name
 call n l ports None m = decode ports m
 call n l ports (Some i) m = decode (pins_at n l i) m
 
-abbrev pub pin_terminal : Netlist → Library → ℕ → ℕ → Terminal
+abbrev pub pin_terminal : AbstractNetlist → Library → ℕ → ℕ → Terminal
 pin_terminal n l i p = pin_of (own n i) (name_or (slice_get (pins_at n l i) p))
 
 -- how many signal pins stand before those of instance i, where k stand before the first
@@ -96,32 +96,17 @@ pins_before l k (one ∷ rest) (suc i) = pins_before l (k + (cell_or (cell_of l 
 abbrev pub number_or : ℕ → ℕ → ℕ → ℕ
 number_or nets k own = if nat_lt k nets then k else nets + own
 
-abbrev pub block_of : Netlist → Library → Numbering → List name.Name → Block
-block_of n l net ports = record {
-  count = length n.instances;
-  cell = λ i. cell_or (cell_of l (member_at n.instances i).model);
-  column = λ i. column_at l 3 n.instances i;
-  row = λ i. 0;
-  net = λ i p. number_or (net_count n) (net (n.class (pin_terminal n l i p))) (pins_before l 0 n.instances i + p);
-  ports = length ports;
-  port_net = λ k. k;
-  nets = net_count n;
-  many = λ k. has_some (pin_xs n l net k);
-  rows = 1;
-  columns = all_columns l n.instances;
-}
-
-column_low : (l : Library) (k : ℕ) (ms : List Member) (i : ℕ) → k ≤ column_at l k ms i
+pub column_low : (l : Library) (k : ℕ) (ms : List Member) (i : ℕ) → k ≤ column_at l k ms i
 column_low l k [] i = omega arith
 column_low l k (one ∷ rest) zero = omega arith
 column_low l k (one ∷ rest) (suc i) = let a = column_low l (k + columns_wide l one) rest i in omega arith
 
-column_end : (l : Library) (k : ℕ) (ms : List Member) (i : ℕ) → i < length ms → column_at l k ms i + columns_wide l (member_at ms i) ≤ k + all_columns l ms
+pub column_end : (l : Library) (k : ℕ) (ms : List Member) (i : ℕ) → i < length ms → column_at l k ms i + columns_wide l (member_at ms i) ≤ k + all_columns l ms
 column_end l k [] i lt = absurd (omega arith)
 column_end l k (one ∷ rest) zero lt = omega arith
 column_end l k (one ∷ rest) (suc i) lt = let a = column_end l (k + columns_wide l one) rest i (omega arith) in omega arith
 
-column_step : (l : Library) (k : ℕ) (ms : List Member) (i j : ℕ) → i < j → j < length ms → column_at l k ms i + columns_wide l (member_at ms i) ≤ column_at l k ms j
+pub column_step : (l : Library) (k : ℕ) (ms : List Member) (i j : ℕ) → i < j → j < length ms → column_at l k ms i + columns_wide l (member_at ms i) ≤ column_at l k ms j
 column_step l k [] i j le lt = absurd (omega arith)
 column_step l k (one ∷ rest) i zero le lt = absurd (omega arith)
 column_step l k (one ∷ rest) zero (suc j) le lt = column_low l (k + columns_wide l one) rest j
@@ -210,39 +195,3 @@ x_is l (one ∷ rest) x k e all zero lt = e
 x_is l (one ∷ rest) x k e all (suc i) lt =
     let w = wide_is l one (all one member.here) in
     x_is l rest (x +ℤ model_width l one.model) (k + columns_wide l one) (omega (arith, ints)) (λ one h. all one (member.there h)) i (omega arith)
-
-module _ (n : Netlist) (l : Library) (net : Numbering) (ports : List name.Name) (ok : IsDrawable n l net ports) where
-  pub model_of : (one : Member) → member.In one n.instances → IsModel l one
-  model_of one h = let r = ok.models one h in record { cell = r.0; found = r.1; usable = r.2; clean = r.3 }
-
-  -- instance i
-  pub member_there : (i : ℕ) → i < length n.instances → (one : Member) × (slice_get n.instances i ≡ Some one) × IsModel l one
-  member_there i lt = let r = get_there n.instances i lt in (r.0, r.1, model_of r.0 (In_get n.instances i r.0 r.1))
-
-  pub cell_is : (i : ℕ) (one : Member) (m : IsModel l one) → slice_get n.instances i ≡ Some one → (block_of n l net ports).cell i ≡ cell_by m.cell
-  cell_is i one m e = ap (λ o. cell_or (cell_of l (member_or o).model)) e ∙ ap cell_or m.found
-
-  pub pins_are : (i : ℕ) (one : Member) (m : IsModel l one) → slice_get n.instances i ≡ Some one → pins_at n l i ≡ names_of (pin_ports m.cell)
-  pins_are i one m e = ap (λ o. signals (cell_of l (member_or o).model)) e ∙ ap signals m.found
-
-  pub own_is : (i : ℕ) (one : Member) → slice_get n.instances i ≡ Some one → own n i ≡ one.name
-  own_is i one e = ap (λ o. (member_or o).name) e
-
-  pub sound : IsSound (block_of n l net ports)
-  sound = record {
-    cells = λ i lt. let r = member_there i lt in subst Passes (sym (cell_is i r.0 r.2 r.1)) (passes r.2.cell r.2.usable r.2.clean);
-    start = λ i lt. column_low l 3 n.instances i;
-    end = λ i lt. column_end l 3 n.instances i lt;
-    row = λ i lt. omega arith;
-    abut = λ i j hi hj e.
-        ⊎_elim
-        (λ lt. inr (inl (column_step l 3 n.instances i j lt hj)))
-        (λ ge. ⊎_elim (λ gt. inr (inr (column_step l 3 n.instances j i gt hi))) (λ le. inl (omega arith)) (cases_lt j i))
-        (cases_lt i j);
-  }
-
-  pub cells_own : (i : ℕ) → i < length n.instances → HasOwnColumns ((block_of n l net ports).cell i)
-  cells_own i lt =
-      let r = member_there i lt in
-      let differ = ok.columns r.0 r.2.cell (In_get n.instances i r.0 r.1) r.2.found in
-      subst HasOwnColumns (sym (cell_is i r.0 r.2 r.1)) (own_columns r.2.cell r.2.usable r.2.clean differ)

@@ -20,9 +20,9 @@ use Rattle.cell_model.specs.Layout.{instances_of}
 use Rattle.net_meaning.specs.Netlist.{Member}
 use Rattle.ocp_rows.specs.Placement.{IsWiring, model_width, level_wire, upright_wire, contact_at}
 use Rattle.cell_model.specs.Access.{count_to}
-use Rattle.net_geom.specs.Figure.{Shape, Name, Segment, Via, line_shapes, drawn_shapes, up_to}
-use Rattle.net_geom.specs.Block.{Net, Tagged, at_x}
-use Rattle.net_geom.proofs.Lists.{line_of}
+use Rattle.block_geom.specs.Figure.{Shape, Name, Segment, Via, line_shapes, drawn_shapes, up_to}
+use Rattle.block_geom.specs.Block.{Net, Tagged, at_x}
+use Rattle.block_geom.proofs.Lists.{line_of}
 use Rattle.net_drawing.specs.Picture.{shown}
 use Rattle.net_drawing.specs.Drawing.{along}
 

@@ -6,9 +6,9 @@ use Rattle.std.proofs.lemmas.Int.{ints, by_lt_z, int_min_is, int_max_is}
 use Rattle.vlsi_base.specs.Member.{In, here, there}
 use Rattle.cell_model.specs.Library.{Library}
 use Rattle.net_meaning.specs.Netlist.{Member}
-use Rattle.ocp_rows.specs.Placement.{model_width}
-use Rattle.ocp_rows.specs.Length.{least, greatest, natural}
-use Rattle.net_geom.specs.Block.{at_x}
+use Rattle.ocp_rows.specs.Placement.{model_width, natural}
+use Rattle.ocp_rows.specs.Length.{least, greatest}
+use Rattle.block_geom.specs.Block.{at_x}
 use Rattle.net_drawing.specs.Drawing.{along}
 use Rattle.net_drawing.proofs.Coding.{columns_of}
 use Rattle.net_drawing.proofs.Cells.{In_first, In_last}

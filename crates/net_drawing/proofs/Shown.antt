@@ -5,7 +5,7 @@ use Rattle.std.proofs.lemmas.Int.{ints, int_max_is}
 use Rattle.std.proofs.lemmas.List.{map-append}
 use Rattle.std.proofs.lemmas.Option.{slice_get_within}
 use Rattle.vlsi_base.specs.declared.name.Name as name
-use Rattle.machine_meaning.specs.Machine.{names_of}
+use Rattle.machine_core.specs.Machine.{names_of}
 use Rattle.sym_geom.specs.Rect.{moved}
 use Rattle.sym_geom.specs.declared.rect.Rect.{Rect}
 use Rattle.sym_geom.specs.declared.rect.Transform.TheVariants.{NoSym}
@@ -20,19 +20,21 @@ use Rattle.sym_shapes.specs.Shape.{drawn, connector_names}
 use Rattle.cell_model.specs.Cell.{pin_ports}
 use Rattle.cell_model.specs.Library.{Library, cell_of}
 use Rattle.cell_model.specs.Layout.{instances_of, instance_shapes, all_instances_show, placed}
-use Rattle.net_meaning.specs.Netlist.{Member, Netlist}
+use Rattle.net_meaning.specs.Netlist.{Member, AbstractNetlist}
 use Rattle.vlsi_base.specs.Names.{vdd, vss}
 use Rattle.ocp_rows.specs.Placement.{west_port, model_width, row_width, rows_width, standing, supplies, track_ports, track_y}
-use Rattle.net_geom.specs.Figure.{Vss, Vdd, Shape, Blank, up_to}
-use Rattle.net_geom.specs.Block as block
-use Rattle.net_geom.specs.Block.{Cell, Block, Tagged, PowerNet, Signal, at_x, in_block, cell_shapes, pin_column, pin_row}
-use Rattle.net_geom.specs.Tracks.{track, port_line, supply_lines}
+use Rattle.block_geom.specs.Figure.{Vss, Vdd, Shape, Blank, up_to}
+use Rattle.block_geom.specs.Block as block
+use Rattle.block_geom.specs.Block.{Cell, Block, Tagged, PowerNet, Signal, at_x, in_block, cell_shapes, pin_column, pin_row}
+use Rattle.block_geom.specs.Tracks.{track, port_line, supply_lines}
 use Rattle.net_drawing.specs.Picture.{option_map, shown}
 use Rattle.net_drawing.specs.Drawing.{Numbering, IsDrawable}
 use Rattle.net_drawing.proofs.Coding.{In_get, name_or, code, coded, decode, name_back}
 use Rattle.net_drawing.proofs.Cells.{all_plain}
 use Rattle.net_drawing.proofs.Pieces.{Same, ended, next, Drawn, Drawn_append, one_line, up_to_first, x_at, rail_wire}
-use Rattle.net_drawing.proofs.Numbers.{column_at, all_columns, own, call, block_of, IsModel, wide_is, x_is, model_of, cell_is, pins_are, own_is}
+use Rattle.net_drawing.proofs.Numbers.{column_at, all_columns, own, call, IsModel, wide_is, x_is}
+use Rattle.net_drawing.proofs.Block.{model_of, cell_is, pins_are, own_is}
+use Rattle.net_drawing.proofs.Row.{row_places, block_of}
 
 -- ---- instances
 list_same : {A B : Type 0} (f g : A → B) (xs : List A) → ((x : A) → member.In x xs → f x ≡ g x) → map f xs ≡ map g xs
@@ -102,7 +104,7 @@ ports_named k (m ∷ ms) = ap (λ v. m ∷ v) (ports_named (suc k) ms)
 pub track_at : (k : ℕ) → track_y k ≡ at_x (track k)
 track_at k = let a : 5500 + 500 * k ≡ 500 * (11 + k) = omega arith in ap (λ v. pos v) a
 
-module _ (n : Netlist) (l : Library) (net : Numbering) (ports : List name.Name) (ok : IsDrawable n l net ports) where
+module _ (n : AbstractNetlist) (l : Library) (net : Numbering) (ports : List name.Name) (ok : IsDrawable n l net ports) where
   abbrev g : Shape → shape.Shape
   g = shown (own n) (call n l ports)
 
@@ -110,20 +112,20 @@ module _ (n : Netlist) (l : Library) (net : Numbering) (ports : List name.Name) 
       → instance_shapes (cell_of l one.model) (record { x = x_at l (pos 1500) n.instances i; y = pos 0; model = one.model; name = one.name; transform = NoSym })
       ≡ map (shown (own n) (call n l ports)) (map (in_block (block_of n l net ports) i) (cell_shapes ((block_of n l net ports).cell i)))
   instance_same i one e =
-      let m = model_of n l net ports ok one (In_get n.instances i one e) in
+      let m = model_of n l net ports (row_places n l net ports) ok.nets one (In_get n.instances i one e) in
       let x : Instance = record { x = x_at l (pos 1500) n.instances i; y = pos 0; model = one.model; name = one.name; transform = NoSym } in
       let b = block_of n l net ports in
       let xs = names_of (pin_ports m.cell) in
-      let at = x_is l n.instances (pos 1500) 3 refl (model_of n l net ports ok) i (slice_get_within n.instances i one e) in
+      let at = x_is l n.instances (pos 1500) 3 refl (model_of n l net ports (row_places n l net ports) ok.nets) i (slice_get_within n.instances i one e) in
       ap (λ o. instance_shapes o x) m.found
       ∙ list_same (placed m.cell x) (λ s. shown (own n) (call n l ports) (in_block b i (coded xs s))) (drawn m.cell.items) (λ s h.
       ap (λ r. record s { owner = Some one.name; rect = r }) (placed_rect s.rect m.cell.bounds (x_at l (pos 1500) n.instances i) (column_at l 3 n.instances i) m.clean.columns m.clean.box at)
-      ∙ ap (λ o. record { metal = s.metal; rect = moved s.rect (at_x (column_at l 3 n.instances i)) (pos 0); owner = Some o; line = s.line; name = s.name }) (sym (own_is n l net ports ok i one e))
+      ∙ ap (λ o. record { metal = s.metal; rect = moved s.rect (at_x (column_at l 3 n.instances i)) (pos 0); owner = Some o; line = s.line; name = s.name }) (sym (own_is n l net ports (row_places n l net ports) ok.nets i one e))
       ∙ ap (λ o. record { metal = s.metal; rect = moved s.rect (at_x (column_at l 3 n.instances i)) (pos 0); owner = Some (own n i); line = s.line; name = o })
-      (sym (name_back xs s.name (all_plain m.cell m.usable s h).1) ∙ ap (λ v. option_map (decode v) (option_map (code xs) s.name)) (sym (pins_are n l net ports ok i one m e))))
+      (sym (name_back xs s.name (all_plain m.cell m.usable s h).1) ∙ ap (λ v. option_map (decode v) (option_map (code xs) s.name)) (sym (pins_are n l net ports (row_places n l net ports) ok.nets i one m e))))
       ∙ sym (map_twice (coded xs) (λ s. shown (own n) (call n l ports) (in_block b i s)) (drawn m.cell.items))
       ∙ sym (map_twice (in_block b i) (shown (own n) (call n l ports)) (map (coded xs) (drawn m.cell.items)))
-      ∙ ap (λ (c : Cell). map (shown (own n) (call n l ports)) (map (in_block b i) (cell_shapes c))) (sym (cell_is n l net ports ok i one m e))
+      ∙ ap (λ (c : Cell). map (shown (own n) (call n l ports)) (map (in_block b i) (cell_shapes c))) (sym (cell_is n l net ports (row_places n l net ports) ok.nets i one m e))
 
   pub instances_same : all_instances_show l (standing l NoSym (pos 0) (pos 1500) n.instances) ≡ map (shown (own n) (call n l ports)) (block.instance_shapes (block_of n l net ports))
   instances_same = show_row (shown (own n) (call n l ports)) l n.instances (pos 1500) (λ i. map (in_block (block_of n l net ports) i) (cell_shapes ((block_of n l net ports).cell i))) instance_same
@@ -151,7 +153,7 @@ module _ (n : Netlist) (l : Library) (net : Numbering) (ports : List name.Name) 
   end_is (one ∷ rest) all = let w = wide_is l one (all one member.here) in let r = end_is rest (λ y h. all y (member.there h)) in omega (arith, ints)
 
   row_end : pos 1500 +ℤ rows_width l (n.instances ∷ []) ≡ pos (1500 + 500 * all_columns l n.instances)
-  row_end = let a = end_is n.instances (model_of n l net ports ok) in let b = int_max_is (row_width l n.instances) (pos 0) in omega (arith, ints)
+  row_end = let a = end_is n.instances (model_of n l net ports (row_places n l net ports) ok.nets) in let b = int_max_is (row_width l n.instances) (pos 0) in omega (arith, ints)
 
   pub supplies_drawn : Drawn (shown (own n) (call n l ports)) (supplies l (n.instances ∷ [])) (supply_lines (block_of n l net ports))
   supplies_drawn =

@@ -1,31 +1,31 @@
 -- The tracks of a netlist that may be drawn.
-use Rattle.std.proofs.Common.{◌≡◌, ◌≢◌, ℕ, ◌+◌, ◌*◌, ◌<◌, ◌≤◌, inl, inr, Bool, true, false, List, [], ◌∷◌, ◌++◌, length, Option, Some, None, refl, sym, ap, ◌∙◌, subst, arith, cond, eqb, if◌then◌else◌}
+use Rattle.std.proofs.Common.{◌≡◌, ℕ, ◌+◌, ◌*◌, ◌<◌, ◌≤◌, inl, inr, Bool, true, false, List, [], ◌∷◌, ◌++◌, length, Option, Some, None, refl, sym, ap, ◌∙◌, subst, arith, cond, eqb, if◌then◌else◌}
 use Rattle.std.specs.Prelude.{ℤ, pos, ◌+ℤ◌, slice_get, flat_map, nat_eq, ◌/◌}
 use Rattle.std.proofs.lemmas.Int.{ints}
 use Rattle.std.proofs.lemmas.Bool.{eq-eqb}
 use Rattle.std.proofs.lemmas.Option.{slice_get_within}
 use Rattle.vlsi_base.specs.declared.name.Name as name
-use Rattle.machine_meaning.specs.Machine.{names_of}
+use Rattle.machine_core.specs.Machine.{names_of}
 use Rattle.vlsi_base.specs.Member.{In, here, there}
 use Rattle.cell_model.specs.Cell.{pin_ports}
 use Rattle.cell_model.specs.Library.{Library, cell_of}
-use Rattle.net_meaning.specs.Netlist.{Member, Netlist, port, pin_of, IsTerminal, a_port, a_pin}
-use Rattle.vlsi_base.specs.Names.{vdd, vss}
-use Rattle.ocp_rows.specs.Placement.{track_y, net_count}
-use Rattle.ocp_rows.specs.Length.{least, greatest, natural}
+use Rattle.net_meaning.specs.Netlist.{Member, AbstractNetlist, pin_of}
+use Rattle.ocp_rows.specs.Placement.{track_y, net_count, natural}
+use Rattle.ocp_rows.specs.Length.{least, greatest}
 use Rattle.cell_model.specs.Access.{access_point}
-use Rattle.net_geom.specs.Figure.{Name, up_to}
-use Rattle.net_geom.specs.Block.{Cell, Signal, at_x, pin_column, pin_row}
-use Rattle.net_geom.specs.Tracks.{track, pin_lines, terminal_lines, track_line, drawn_track, HasTracks}
-use Rattle.net_geom.proofs.Tracks.{pin_inside}
+use Rattle.block_geom.specs.Figure.{Name, up_to}
+use Rattle.block_geom.specs.Block.{Cell, Signal, at_x, pin_column, pin_row}
+use Rattle.block_geom.specs.Tracks.{track, pin_lines, terminal_lines, track_line, drawn_track, HasTracks}
+use Rattle.block_geom.proofs.Tracks.{pin_inside}
 use Rattle.net_drawing.specs.Picture.{shown}
-use Rattle.net_drawing.specs.Shown.{IsOnNet}
 use Rattle.net_drawing.specs.Drawing.{Numbering, Point, of_pins, of_cell, of_pin, at_point, riser, port_xs, track_over, net_wiring, IsDrawable}
 use Rattle.net_drawing.proofs.Access.{reached}
-use Rattle.net_drawing.proofs.Coding.{In_get, get_there, name_or, cell_by}
+use Rattle.net_drawing.proofs.Coding.{In_get, get_there, cell_by}
 use Rattle.net_drawing.proofs.Cells.{passes, column_is, row_is}
 use Rattle.net_drawing.proofs.Pieces.{Drawn, nothing, Drawn_append, flat_drawn, x_at, along_drawn, riser_wire, track_wire, low_via, high_via}
-use Rattle.net_drawing.proofs.Numbers.{low_of, high_of, has_some, pin_xs, low, high, own, pins_at, call, pin_terminal, pins_before, number_or, block_of, number_low, number_under, number_past, number_test, places_apart, IsModel, x_is, model_of, member_there, cell_is, pins_are, own_is, sound, cells_own}
+use Rattle.net_drawing.proofs.Numbers.{low_of, high_of, has_some, pin_xs, low, high, own, call, pins_before, number_low, number_under, number_test, IsModel, x_is}
+use Rattle.net_drawing.proofs.Block.{IsPinAt, model_of, cell_is, net_is, pin_there, port_below, past_apart}
+use Rattle.net_drawing.proofs.Row.{row_places, block_of, sound, cells_own}
 use Rattle.net_drawing.proofs.Shown.{track_at}
 use Rattle.net_drawing.proofs.Ranges.{IsGrid, some_of, flat_all, along_all, flat_in, along_in, range_of, both, Spans, spans}
 
@@ -37,25 +37,12 @@ track_drawn own call k nm (x ∷ xs) ps f g =
     let r = range_of x (xs ++ ps) (both x xs ps f g) in
     track_wire own call (Signal k) (natural (least x (xs ++ ps)) / 500) _ (track k) (least x (xs ++ ps)) (greatest x (xs ++ ps)) (track_y k) nm r.low r.high (track_at k) r.order
 
-abbrev pub IsPinAt : Netlist → (l : Library) → ℕ → ℕ → (one : Member) → IsModel l one → name.Name → Type 0
-IsPinAt n l i p one m pin = (slice_get n.instances i ≡ Some one) × (slice_get (names_of (pin_ports m.cell)) p ≡ Some pin)
-
-module _ (n : Netlist) (l : Library) (net : Numbering) (ports : List name.Name) (ok : IsDrawable n l net ports) where
-  pub pin_is : (i p : ℕ) (one : Member) (m : IsModel l one) (pin : name.Name) → IsPinAt n l i p one m pin → pin_terminal n l i p ≡ pin_of one.name pin
-  pin_is i p one m pin h =
-      ap (λ v. pin_of v (name_or (slice_get (pins_at n l i) p))) (own_is n l net ports ok i one h.0)
-      ∙ ap (λ v. pin_of one.name (name_or (slice_get v p))) (pins_are n l net ports ok i one m h.0)
-      ∙ ap (λ v. pin_of one.name (name_or v)) h.1
-
-  pub net_is : (i p : ℕ) (one : Member) (m : IsModel l one) (pin : name.Name) → IsPinAt n l i p one m pin
-      → (block_of n l net ports).net i p ≡ number_or (net_count n) (net (n.class (pin_of one.name pin))) (pins_before l 0 n.instances i + p)
-  net_is i p one m pin h = ap (λ v. number_or (net_count n) (net (n.class v)) (pins_before l 0 n.instances i + p)) (pin_is i p one m pin h)
-
+module _ (n : AbstractNetlist) (l : Library) (net : Numbering) (ports : List name.Name) (ok : IsDrawable n l net ports) where
   -- the number of a pin on a net is that of its class
   on_its_net : (i p : ℕ) (one : Member) (m : IsModel l one) (pin : name.Name) → IsPinAt n l i p one m pin → (block_of n l net ports).net i p < net_count n
       → (block_of n l net ports).net i p ≡ net (n.class (pin_of one.name pin))
   on_its_net i p one m pin h under =
-      let e = net_is i p one m pin h in
+      let e = net_is n l net ports (row_places n l net ports) ok.nets i p one m pin h in
       let lt = number_under (net_count n) (net (n.class (pin_of one.name pin))) (pins_before l 0 n.instances i + p) (subst (λ v. v < net_count n) e under) in
       e ∙ number_low (net_count n) (net (n.class (pin_of one.name pin))) (pins_before l 0 n.instances i + p) lt
 
@@ -64,8 +51,8 @@ module _ (n : Netlist) (l : Library) (net : Numbering) (ports : List name.Name) 
       → (q : Point) × (access_point m.cell pin ≡ Some q) × ((q.0 +ℤ x_at l (pos 1500) n.instances i) ≡ at_x (pin_column (block_of n l net ports) i p)) × (q.1 ≡ at_x (pin_row (block_of n l net ports) i p)) × (pin_row (block_of n l net ports) i p ≤ 10) × (3 ≤ pin_column (block_of n l net ports) i p)
   place_is i p one m pin h =
       let a = reached m.cell m.clean pin (In_get (names_of (pin_ports m.cell)) p pin h.1) in
-      let c = cell_is n l net ports ok i one m h.0 in
-      let at = x_is l n.instances (pos 1500) 3 refl (model_of n l net ports ok) i (slice_get_within n.instances i one h.0) in
+      let c = cell_is n l net ports (row_places n l net ports) ok.nets i one m h.0 in
+      let at = x_is l n.instances (pos 1500) 3 refl (model_of n l net ports (row_places n l net ports) ok.nets) i (slice_get_within n.instances i one h.0) in
       let e : ((block_of n l net ports).cell i).column p ≡ a.column = ap (λ (v : Cell). v.column p) c ∙ column_is m.cell m.usable m.clean p pin h.1 in
       let f : ((block_of n l net ports).cell i).row p ≡ a.row = ap (λ (v : Cell). v.row p) c ∙ row_is m.cell m.usable m.clean p pin h.1 in
       let low = pin_inside (cell_by m.cell) p (passes m.cell m.usable m.clean) (slice_get_within (names_of (pin_ports m.cell)) p pin h.1) in
@@ -97,14 +84,14 @@ module _ (n : Netlist) (l : Library) (net : Numbering) (ports : List name.Name) 
       along_drawn (shown (own n) (call n l ports)) l n.instances (pos 1500) (λ x one. of_cell n net k (riser k nm) x one.name (cell_of l one.model))
       (λ i. up_to ((block_of n l net ports).cell i).pins (λ p. cond (eqb ((block_of n l net ports).net i p) k) (pin_lines (block_of n l net ports) k i p) []))
       (λ i one e.
-      let m = model_of n l net ports ok one (In_get n.instances i one e) in
+      let m = model_of n l net ports (row_places n l net ports) ok.nets one (In_get n.instances i one e) in
       let b = block_of n l net ports in
       let x = x_at l (pos 1500) n.instances i in
-      let c : (b.cell i).pins ≡ length (names_of (pin_ports m.cell)) = ap (λ (v : Cell). v.pins) (cell_is n l net ports ok i one m e) in
+      let c : (b.cell i).pins ≡ length (names_of (pin_ports m.cell)) = ap (λ (v : Cell). v.pins) (cell_is n l net ports (row_places n l net ports) ok.nets i one m e) in
       let d : Drawn (shown (own n) (call n l ports)) (flat_map (of_pin n net k (riser k nm) x one.name m.cell) (names_of (pin_ports m.cell))) (up_to (length (names_of (pin_ports m.cell))) (λ p. cond (eqb (b.net i p) k) (pin_lines b k i p) [])) =
       flat_drawn (shown (own n) (call n l ports)) (names_of (pin_ports m.cell)) (of_pin n net k (riser k nm) x one.name m.cell) (λ p. cond (eqb (b.net i p) k) (pin_lines b k i p) [])
       (λ p pin h. let f : eqb (b.net i p) k ≡ eqb (net (n.class (pin_of one.name pin))) k =
-      ap (λ v. eqb v k) (net_is i p one m pin (e, h)) ∙ number_test (net_count n) (net (n.class (pin_of one.name pin))) (pins_before l 0 n.instances i + p) k low in
+      ap (λ v. eqb v k) (net_is n l net ports (row_places n l net ports) ok.nets i p one m pin (e, h)) ∙ number_test (net_count n) (net (n.class (pin_of one.name pin))) (pins_before l 0 n.instances i + p) k low in
       subst (λ v. Drawn (shown (own n) (call n l ports)) (of_pin n net k (riser k nm) x one.name m.cell pin) (cond v (pin_lines b k i p) [])) (sym f)
       (tested k nm i p one m pin (e, h) (eqb (net (n.class (pin_of one.name pin))) k))) in
       subst (λ o. Drawn (shown (own n) (call n l ports)) (of_cell n net k (riser k nm) x one.name o) (up_to (b.cell i).pins (λ p. cond (eqb (b.net i p) k) (pin_lines b k i p) []))) (sym m.found)
@@ -118,7 +105,7 @@ module _ (n : Netlist) (l : Library) (net : Numbering) (ports : List name.Name) 
   pins_grid : (k : ℕ) (y : ℤ) → In y (pin_xs n l net k) → IsGrid y
   pins_grid k = along_all IsGrid l n.instances (pos 1500) (λ x one. of_cell n net k (λ (q : Point). q.0 ∷ []) x one.name (cell_of l one.model))
       (λ i one e y h.
-      let m = model_of n l net ports ok one (In_get n.instances i one e) in
+      let m = model_of n l net ports (row_places n l net ports) ok.nets one (In_get n.instances i one e) in
       let x = x_at l (pos 1500) n.instances i in
       flat_all IsGrid (names_of (pin_ports m.cell)) (of_pin n net k (λ (q : Point). q.0 ∷ []) x one.name m.cell)
       (λ p pin g z j. if_in IsGrid (nat_eq (net (n.class (pin_of one.name pin))) k) (at_point (λ (q : Point). q.0 ∷ []) x (access_point m.cell pin))
@@ -138,19 +125,6 @@ module _ (n : Netlist) (l : Library) (net : Numbering) (ports : List name.Name) 
   spans_at : (k : ℕ) → Spans (pin_xs n l net k) (port_xs (slice_get ports k))
   spans_at k = spans (pin_xs n l net k) (port_xs (slice_get ports k)) (pins_grid k) (ports_grid (slice_get ports k))
 
-  pub pin_there : (i p : ℕ) → i < length n.instances → p < ((block_of n l net ports).cell i).pins → (one : Member) × (m : IsModel l one) × (pin : name.Name) × IsPinAt n l i p one m pin
-  pin_there i p hi hp =
-      let r = member_there n l net ports ok i hi in
-      let c : ((block_of n l net ports).cell i).pins ≡ length (names_of (pin_ports r.2.cell)) = ap (λ (v : Cell). v.pins) (cell_is n l net ports ok i r.0 r.2 r.1) in
-      let q = get_there (names_of (pin_ports r.2.cell)) p (omega arith) in
-      (r.0, r.2, q.0, (r.1, q.1))
-
-  pub pin_listed : (i p : ℕ) (one : Member) (m : IsModel l one) (pin : name.Name) → IsPinAt n l i p one m pin → IsTerminal n l (pin_of one.name pin)
-  pin_listed i p one m pin h = a_pin one m.cell (In_get n.instances i one h.0) m.found ((m.usable.connectors pin).1 (inr (inr (In_get (names_of (pin_ports m.cell)) p pin h.1))))
-
-  pub pin_signal : (i p : ℕ) (one : Member) (m : IsModel l one) (pin : name.Name) → IsPinAt n l i p one m pin → (pin ≢ vdd) × (pin ≢ vss)
-  pin_signal i p one m pin h = m.clean.signals pin (In_get (names_of (pin_ports m.cell)) p pin h.1)
-
   pin_in_net : (i p : ℕ) (one : Member) (m : IsModel l one) (pin : name.Name) → IsPinAt n l i p one m pin → (block_of n l net ports).net i p < net_count n → In (at_x (pin_column (block_of n l net ports) i p)) (pin_xs n l net ((block_of n l net ports).net i p))
   pin_in_net i p one m pin h under =
       let b = block_of n l net ports in
@@ -168,27 +142,16 @@ module _ (n : Netlist) (l : Library) (net : Numbering) (ports : List name.Name) 
   port_in : (k : ℕ) → k < length ports → In (at_x 3) (port_xs (slice_get ports k))
   port_in k lt = let r = get_there ports k lt in subst (λ o. In (at_x 3) (port_xs o)) (sym r.1) here
 
-  pub port_there : (k : ℕ) (m : name.Name) → slice_get ports k ≡ Some m → IsOnNet n l (port m)
-  port_there k m e = let i = In_get ports k m e in record { terminal = a_port ((ok.port_names m).0 i).0; free = ok.free m i }
-
-  off : (i p j q : ℕ) → i < length n.instances → p < ((block_of n l net ports).cell i).pins → j < length n.instances → q < ((block_of n l net ports).cell j).pins
-      → net_count n ≤ (block_of n l net ports).net i p → (block_of n l net ports).net i p ≡ (block_of n l net ports).net j q → (i ≡ j) × (p ≡ q)
-  off i p j q hi hp hj hq past e =
-      let a = (number_past (net_count n) (net (n.class (pin_terminal n l i p))) (pins_before l 0 n.instances i + p) past).1 in
-      let c = (number_past (net_count n) (net (n.class (pin_terminal n l j q))) (pins_before l 0 n.instances j + q) (subst (λ v. net_count n ≤ v) e past)).1 in
-      let f : net_count n + (pins_before l 0 n.instances i + p) ≡ net_count n + (pins_before l 0 n.instances j + q) = sym a ∙ e ∙ c in
-      places_apart l n.instances i p j q hi hj hp hq (omega (arith, f))
-
   pub has_tracks : HasTracks (block_of n l net ports) (low n l net ports) (high n l net ports)
   has_tracks = record {
     one_row = refl;
     columns = cells_own n l net ports ok;
-    off = off;
-    port_nets = λ k lt. let r = get_there ports k lt in subst (λ v. v < net_count n) (ok.port_nets k r.0 r.1) (ok.below (port r.0) (port_there k r.0 r.1));
+    off = past_apart n l net ports (row_places n l net ports) ok.nets;
+    port_nets = λ k lt. port_below n l net ports (row_places n l net ports) ok.nets k lt;
     order = λ k lt m. (spans_at k).order m;
     start = λ k lt m. (spans_at k).start m;
-    reached = λ i p hi hp under. let r = pin_there i p hi hp in some_of _ _ (pin_in_net i p r.0 r.1 r.2 r.3 under);
-    pins = λ i p hi hp under. let r = pin_there i p hi hp in let h = pin_in_net i p r.0 r.1 r.2 r.3 under in (spans_at ((block_of n l net ports).net i p)).within _ (some_of _ _ h) (inl h);
+    reached = λ i p hi hp under. let r = pin_there n l net ports (row_places n l net ports) ok.nets i p hi hp in some_of _ _ (pin_in_net i p r.0 r.1 r.2 r.3 under);
+    pins = λ i p hi hp under. let r = pin_there n l net ports (row_places n l net ports) ok.nets i p hi hp in let h = pin_in_net i p r.0 r.1 r.2 r.3 under in (spans_at ((block_of n l net ports).net i p)).within _ (some_of _ _ h) (inl h);
     ports = λ k lt m. let s = (spans_at k).start m in let w = (spans_at k).within 3 m (inr (port_in k lt)) in let w0 = w.0 in omega arith;
     alone = λ k q hk hq m e. e;
   }

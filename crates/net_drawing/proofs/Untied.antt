@@ -8,7 +8,7 @@ use Rattle.sym_geom.specs.declared.item.Item.{Item}
 use Rattle.sym_shapes.specs.Joined.{AreJoined}
 use Rattle.cell_model.specs.Layout.{shapes}
 use Rattle.cell_model.specs.Library.{Library}
-use Rattle.net_meaning.specs.Netlist.{Netlist, Extracts, port, IsTerminal}
+use Rattle.net_meaning.specs.Netlist.{AbstractNetlist, Extracts, port, IsTerminal}
 use Rattle.net_drawing.specs.Shown.{ShowsNetlist, HasNoTies}
 use Rattle.net_drawing.specs.Law.{UntiedIsExtracted}
 
@@ -19,7 +19,7 @@ same_or_not a b = by (nat_eq a b) refl
     by true e = inl (eqb-true a b e)
     by false e = inr (λ same. let f : true ≡ false = sym (eq-eqb a b same) ∙ e in cc f)
 
-module _ (items : List Item) (l : Library) (n : Netlist) (shown : ShowsNetlist items l n) (plain : HasNoTies n l) where
+module _ (items : List Item) (l : Library) (n : AbstractNetlist) (shown : ShowsNetlist items l n) (plain : HasNoTies n l) where
   classes : (a b : Terminal) → IsTerminal n l a → IsTerminal n l b → (n.class a ≡ n.class b) ↔ ((a ≡ b) ⊎ AreJoined (shapes items l) a b)
   classes a b ha hb = by (same_or_not (n.class a) (n.class (port vdd))) (same_or_not (n.class a) (n.class (port vss)))
     where

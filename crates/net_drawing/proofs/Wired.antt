@@ -9,23 +9,24 @@ use Rattle.sym_shapes.specs.Shape.{connector_names}
 use Rattle.cell_model.specs.Layout as layout
 use Rattle.cell_model.specs.Library.{Library}
 use Rattle.cell_model.specs.Layout.{instances_of, all_instances_show}
-use Rattle.net_meaning.specs.Netlist.{Netlist}
+use Rattle.net_meaning.specs.Netlist.{AbstractNetlist}
 use Rattle.vlsi_base.specs.Names.{vdd, vss}
 use Rattle.ocp_rows.specs.Placement.{standing, supplies, track_ports, net_count}
-use Rattle.net_geom.specs.Figure.{drawn_shapes}
-use Rattle.net_geom.specs.Block as block
-use Rattle.net_geom.specs.Block.{Tagged}
-use Rattle.net_geom.specs.Tracks.{drawn_track, terminal_lines, blank_lines, supply_lines, net_lines, port_lines, block_lines}
-use Rattle.net_geom.proofs.Lists.{line_of}
+use Rattle.block_geom.specs.Figure.{drawn_shapes}
+use Rattle.block_geom.specs.Block as block
+use Rattle.block_geom.specs.Block.{Tagged}
+use Rattle.block_geom.specs.Tracks.{drawn_track, terminal_lines, blank_lines, supply_lines, net_lines, port_lines, block_lines}
+use Rattle.block_geom.proofs.Lists.{line_of}
 use Rattle.net_drawing.specs.Picture.{shown}
 use Rattle.net_drawing.specs.Drawing.{Numbering, net_wiring, wiring, track_items, IsDrawable}
 use Rattle.net_drawing.proofs.Coding.{name_or}
 use Rattle.net_drawing.proofs.Pieces.{Same, next, Same_append, same_drawn, Wires, Wires_append, Drawn, count_drawn, no_instances, no_names}
-use Rattle.net_drawing.proofs.Numbers.{low, high, own, call, block_of}
+use Rattle.net_drawing.proofs.Numbers.{low, high, own, call}
+use Rattle.net_drawing.proofs.Row.{block_of}
 use Rattle.net_drawing.proofs.Shown.{instances_append, connectors_append, instances_back, instances_quiet, ports_still, ports_named, instances_same, ports_same, blanks_same, supplies_drawn}
 use Rattle.net_drawing.proofs.Tracked.{net_drawn}
 
-module _ (n : Netlist) (l : Library) (net : Numbering) (ports : List name.Name) (ok : IsDrawable n l net ports) where
+module _ (n : AbstractNetlist) (l : Library) (net : Numbering) (ports : List name.Name) (ok : IsDrawable n l net ports) where
   pub wiring_drawn : Drawn (shown (own n) (call n l ports)) (wiring n l net ports) (net_lines (block_of n l net ports) (low n l net ports) (high n l net ports))
   wiring_drawn =
       count_drawn (shown (own n) (call n l ports)) (net_count n) (net_wiring n l net ports)

@@ -9,9 +9,9 @@ use Rattle.cell_model.specs.Layout as layout
 use Rattle.cell_model.specs.Library.{Library}
 use Rattle.net_meaning.specs.Netlist as netlist
 use Rattle.net_meaning.specs.Breaches.{Breaches}
-use Rattle.net_geom.specs.Figure.{Shape, Name}
-use Rattle.net_geom.specs.Block.{Block, IsSound, Terminal, AtPort, AtPin, Exists, net_of, shapes, terminal_at}
-use Rattle.net_geom.specs.Tracks.{HasTracks, block_lines}
+use Rattle.block_geom.specs.Figure.{Shape, Name}
+use Rattle.block_geom.specs.Block.{Block, IsSound, Terminal, AtPort, AtPin, Exists, net_of, shapes, terminal_at}
+use Rattle.block_geom.specs.Tracks.{HasTracks, block_lines}
 
 -- f of the value, if there is one
 abbrev pub option_map : {A B : Type 0} → (A → B) → Option A → Option B

@@ -13,8 +13,8 @@ use Rattle.vlsi_base.specs.declared.name.Dir.TheVariants as dir
 use Rattle.vlsi_base.specs.Range.{rising}
 use Rattle.vlsi_base.specs.Member.{In, here, there, AllDifferent}
 use Rattle.bool_expr.specs.Expression.{Expression, constant, variable, inverse, pair, choice, variables, IsOver}
-use Rattle.machine_meaning.specs.Named.{is_same_name}
-use Rattle.machine_meaning.specs.Machine.{Machine, Equation, Register, is_input, is_clock, names_of, inputs, input_ports, outputs, register_names}
+use Rattle.machine_core.specs.Named.{is_same_name}
+use Rattle.machine_core.specs.Machine.{Machine, Equation, Register, is_input, is_clock, names_of, inputs, input_ports, outputs, register_names}
 use Rattle.machine_core.specs.Order.{held_names, equation_names, EachReadsBelow}
 use Rattle.machine_core.specs.Checked.{IsChecked, IsNoSupply, AreInOrder}
 use Rattle.machine_core.proofs.Names.{same_name-itself}

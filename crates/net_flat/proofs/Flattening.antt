@@ -11,9 +11,9 @@ use Rattle.vlsi_base.specs.Names.{scalar, vdd, vss}
 use Rattle.vlsi_base.specs.Range.{rising}
 use Rattle.vlsi_base.specs.Member.{In, here, there, AllDifferent}
 use Rattle.bool_expr.specs.Expression.{bit}
-use Rattle.machine_meaning.specs.Named.{value_at}
-use Rattle.machine_meaning.specs.Machine.{Machine, Register, inputs, names_of, register_names}
-use Rattle.machine_meaning.specs.Cycles.{Settles, next}
+use Rattle.machine_core.specs.Named.{value_at}
+use Rattle.machine_core.specs.Machine.{Machine, Register, inputs, names_of, register_names}
+use Rattle.machine_core.specs.Cycles.{Settles, next}
 use Rattle.machine_core.specs.Order.{SettlesOnce}
 use Rattle.machine_core.specs.Checked.{IsChecked, IsNoSupply}
 use Rattle.machine_core.proofs.Values.{In-map}
@@ -30,10 +30,10 @@ use Rattle.cell_pins.specs.Table.{IsTableOf}
 use Rattle.net_core.specs.declared.pins.ModelPins.{ModelPins}
 use Rattle.net_core.specs.Places.{Stands, IsThere}
 use Rattle.net_core.specs.Netlist.{Instance, Netlist as InMemory}
-use Rattle.net_meaning.specs.Netlist.{Member, Netlist}
+use Rattle.net_meaning.specs.Netlist.{Member, AbstractNetlist}
 use Rattle.net_meaning.specs.Behaviour.{Contents, Valuation, NetSettles, model_of, cell_at, net_next}
-use Rattle.net_view.specs.Condition.{MeetsCondition}
-use Rattle.net_view.specs.View.{IsSeenAs, member_of}
+use Rattle.net_right.specs.Condition.{MeetsCondition}
+use Rattle.net_right.specs.View.{IsSeenAs, member_of}
 use Rattle.net_machine.specs.Step.{held_in, held_at, held_by, FitsContents, zeros, zeros_of, no_contents, ShowAlike, AreInStep, KeepsStep, IsMachineOfNetlist, IsMachineInOrder, IsInOrderWith}
 use Rattle.net_machine.specs.Signals.{IsClockPort}
 use Rattle.net_machine.proofs.Drivers.{In_there}
@@ -93,12 +93,12 @@ all_false f [] h = refl
 all_false f (x ∷ xs) h = ap (λ b. b ∷ map f xs) (h x) ∙ ap (λ (bs : List Bool). false ∷ bs) (all_false f xs h)
 
 -- there are as many as the machine has registers
-pub names_each : (n : InMemory) (l : Library) (table : List ModelPins) (m : Machine) → IsPlain n l → (is : IsMachineInOrder n l table m) → (k : Netlist) (seen : IsSeenAs n k)
+pub names_each : (n : InMemory) (l : Library) (table : List ModelPins) (m : Machine) → IsPlain n l → (is : IsMachineInOrder n l table m) → (k : AbstractNetlist) (seen : IsSeenAs n k)
     → length (registers_of l n.instances) ≡ length m.registers
 names_each n l table m plain is k seen =
     let none : Contents = λ owner. [] in
     sym (length-map (registers_of l n.instances) (held_bit none)) ∙ sym (ap length (held_are l n.instances none (plain_in n l plain)))
-    ∙ ap (λ (v : Netlist). length (held_by l v.instances none)) (sym seen.is) ∙ sym (ap length (is.holds k seen none)) ∙ KeepsStep.each (is.of_netlist.step k seen) none
+    ∙ ap (λ (v : AbstractNetlist). length (held_by l v.instances none)) (sym seen.is) ∙ sym (ap length (is.holds k seen none)) ∙ KeepsStep.each (is.of_netlist.step k seen) none
 
 -- ---- the machine with the instances' names
 
@@ -110,30 +110,30 @@ module _ (once : SettlesOnce) (n : InMemory) (l : Library) (table : List ModelPi
   inputs_same : inputs o ≡ inputs m
   inputs_same = ap (λ (c : Option Name). inputs_of c o.ports) renamed.clock ∙ ap (inputs_of m.clock) renamed.ports
 
-  fits : (k : Netlist) → IsSeenAs n k → (t : Contents) → FitsContents k l t
+  fits : (k : AbstractNetlist) → IsSeenAs n k → (t : Contents) → FitsContents k l t
   fits k seen t one c x j found is_other =
-      let r = In-map_back member_of one n.instances (subst (λ (v : Netlist). In one v.instances) seen.is j) in
+      let r = In-map_back member_of one n.instances (subst (λ (v : AbstractNetlist). In one v.instances) seen.is j) in
       absurd (plain_in n l plain r.0 r.1 (record { cell = c; found = ap (λ (w : Member). cell_of l w.model) r.2 ∙ found; is = ap part_of is_other }))
 
-  held_names : (k : Netlist) (seen : IsSeenAs n k) (t : Contents) → KeepsStep.held (is.of_netlist.step k seen) t ≡ map (held_bit t) names
+  held_names : (k : AbstractNetlist) (seen : IsSeenAs n k) (t : Contents) → KeepsStep.held (is.of_netlist.step k seen) t ≡ map (held_bit t) names
   held_names k seen t =
-      is.holds k seen t ∙ ap (λ (v : Netlist). held_by l v.instances t) seen.is ∙ held_are l n.instances t (plain_in n l plain)
+      is.holds k seen t ∙ ap (λ (v : AbstractNetlist). held_by l v.instances t) seen.is ∙ held_are l n.instances t (plain_in n l plain)
 
   place_low : (p : ℕ) → In p renamed.places → p < length names
   place_low p i = let l = (In-rising 0 (length names) p (In-permutation renamed.places (rising 0 (length names)) p (IsPermutation-sym (rising 0 (length names)) renamed.places renamed.moved) i)).1 in omega (arith, l)
 
   -- what the registers hold, by their names
-  by_name : (k : Netlist) (seen : IsSeenAs n k) (t : Contents) → map (bit (KeepsStep.held (is.of_netlist.step k seen) t)) renamed.places ≡ held_by_name o t
+  by_name : (k : AbstractNetlist) (seen : IsSeenAs n k) (t : Contents) → map (bit (KeepsStep.held (is.of_netlist.step k seen) t)) renamed.places ≡ held_by_name o t
   by_name k seen t =
       ap (λ (hs : List Bool). map (bit hs) renamed.places) (held_names k seen t)
       ∙ map_same (bit (map (held_bit t) names)) (λ p. held_bit t (name_at names p)) renamed.places
       (λ p i. get_or-map (held_bit t) names p (record { text = []; bit = None }) false (place_low p i))
       ∙ sym (map-then (held_bit t) (name_at names) renamed.places) ∙ ap (map (held_bit t)) (sym renamed.named) ∙ map-then (held_bit t) (λ (r : Register). r.name) o.registers
 
-  count : (k : Netlist) (seen : IsSeenAs n k) (t : Contents) → length (KeepsStep.held (is.of_netlist.step k seen) t) ≡ length m.registers
+  count : (k : AbstractNetlist) (seen : IsSeenAs n k) (t : Contents) → length (KeepsStep.held (is.of_netlist.step k seen) t) ≡ length m.registers
   count k seen t = KeepsStep.each (is.of_netlist.step k seen) t
 
-  module _ (k : Netlist) (seen : IsSeenAs n k) where
+  module _ (k : AbstractNetlist) (seen : IsSeenAs n k) where
     abbrev old : KeepsStep k l m
     old = is.of_netlist.step k seen
 

@@ -9,7 +9,7 @@ use Rattle.vlsi_base.specs.declared.name.Terminal.{Terminal}
 use Rattle.vlsi_base.specs.Name.{is_supply}
 use Rattle.vlsi_base.specs.Names.{scalar, vdd, vss}
 use Rattle.vlsi_base.specs.Member.{In, here, there, AllDifferent}
-use Rattle.machine_meaning.specs.Machine.{Machine}
+use Rattle.machine_core.specs.Machine.{Machine}
 use Rattle.machine_core.specs.Checked.{IsChecked, IsNoSupply}
 use Rattle.machine_core.proofs.Values.{In-split, In-left, In-right, In-map}
 use Rattle.vlsi_model.proofs.Members.{In-map_back, different_append}
@@ -20,10 +20,10 @@ use Rattle.cell_pins.specs.Table.{IsTableOf}
 use Rattle.net_core.specs.declared.pins.ModelPins.{ModelPins}
 use Rattle.net_core.specs.Places.{Stands, IsThere, NoneTwice}
 use Rattle.net_core.specs.Netlist.{Instance, Netlist as InMemory, IsNetlist, port}
-use Rattle.net_meaning.specs.Netlist.{Netlist}
+use Rattle.net_meaning.specs.Netlist.{AbstractNetlist}
 use Rattle.net_meaning.specs.Behaviour.{Contents}
-use Rattle.net_view.specs.Condition.{MeetsCondition}
-use Rattle.net_view.specs.View.{IsSeenAs, netlist_by}
+use Rattle.net_right.specs.Condition.{MeetsCondition}
+use Rattle.net_right.specs.View.{IsSeenAs, netlist_by}
 use Rattle.net_machine.specs.Signals.{signal_ports, MeetsConditionWith}
 use Rattle.net_machine.specs.Step.{KeepsStep, IsMachineInOrder, IsInOrderWith}
 use Rattle.net_machine.proofs.Drivers.{In_there}

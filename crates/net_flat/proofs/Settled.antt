@@ -11,9 +11,9 @@ use Rattle.vlsi_base.specs.declared.name.Dir.TheVariants as dir
 use Rattle.vlsi_base.specs.Range.{rising}
 use Rattle.vlsi_base.specs.Member.{In, here, there, AllDifferent}
 use Rattle.bool_expr.specs.Expression.{constant, bit, val}
-use Rattle.machine_meaning.specs.Named.{value_at, values_at, is_same_name}
-use Rattle.machine_meaning.specs.Machine.{Machine, Equation, Register, is_input, is_clock, names_of, inputs, input_ports, outputs, register_names}
-use Rattle.machine_meaning.specs.Cycles.{Settles, next}
+use Rattle.machine_core.specs.Named.{value_at, values_at, is_same_name}
+use Rattle.machine_core.specs.Machine.{Machine, Equation, Register, is_input, is_clock, names_of, inputs, input_ports, outputs, register_names}
+use Rattle.machine_core.specs.Cycles.{Settles, next}
 use Rattle.machine_core.specs.Order.{held_names, equation_names}
 use Rattle.machine_core.specs.Checked.{IsChecked}
 use Rattle.machine_core.proofs.Names.{same_name-true, same_name-false}

@@ -8,7 +8,7 @@ use Rattle.vlsi_base.specs.declared.name.Port.{Port}
 use Rattle.vlsi_base.specs.NamePlaces.{NamePlaces}
 use Rattle.vlsi_base.specs.Names.{scalar}
 use Rattle.vlsi_base.specs.Member.{In, here, there}
-use Rattle.machine_meaning.specs.Named.{is_same_name}
+use Rattle.machine_core.specs.Named.{is_same_name}
 use Rattle.machine_core.proofs.Names.{same_name-true, same_name-itself}
 use Rattle.net_flat.specs.Taken.{port_texts, is_taken, IsFirst, is_indexed}
 

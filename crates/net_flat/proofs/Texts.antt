@@ -13,7 +13,7 @@ use Rattle.vlsi_base.specs.declared.name.Port.{Port}
 use Rattle.vlsi_base.specs.Name.{name_cmp, bit_cmp, is_supply}
 use Rattle.vlsi_base.specs.Names.{scalar, comes_before}
 use Rattle.vlsi_base.specs.Member.{In, here, there}
-use Rattle.machine_meaning.specs.Machine.{Machine, Register, register_names}
+use Rattle.machine_core.specs.Machine.{Machine, Register, register_names}
 use Rattle.machine_core.specs.Checked.{IsChecked, AreInOrder}
 use Rattle.machine_core.proofs.Values.{In-map}
 use Rattle.net_core.proofs.Lookups.{same_of}
@@ -22,14 +22,14 @@ use Rattle.vlsi_model.proofs.PortBits.{In-filter}
 use Rattle.vlsi_model.proofs.Sorting.{In-at, place_of_In}
 use Rattle.vlsi_model.proofs.Assembly.{All-from_In}
 use Rattle.cell_pins.proofs.Ports.{before_less, before_itself, Sorted, sorted_of}
-use Rattle.port_words.specs.Words.{IsIdentifier, GoesOn}
+use Rattle.text_names.specs.Words.{IsIdentifier, GoesOn}
 use Rattle.cell_model.specs.Library.{Library}
 use Rattle.cell_model.specs.Cell.{Function}
 use Rattle.net_core.specs.Places.{IsThere}
 use Rattle.net_core.specs.Netlist.{Instance, Netlist as InMemory, IsNetlist}
-use Rattle.net_view.specs.Writable.{CanBeAnInstance, CanBeNamed}
-use Rattle.vbe_write.specs.Written.{as_port, as_ports}
-use Rattle.vbe_write.specs.Writable.{AreDeclared, CanBeVbe}
+use Rattle.net_right.specs.Writable.{CanBeAnInstance, CanBeNamed}
+use Rattle.vbe_print.specs.Written.{as_port, as_ports}
+use Rattle.vbe_print.specs.Writable.{AreDeclared, CanBeVbe}
 use Rattle.bit_machine.proofs.Built.{All_In}
 use Rattle.net_machine.specs.Signals.{signal_ports}
 use Rattle.net_flat.specs.declared.parts.Part.{Part}

@@ -5,20 +5,20 @@ use Rattle.vlsi_base.specs.declared.name.Name.{Name}
 use Rattle.vlsi_base.specs.declared.name.Port.{Port}
 use Rattle.vlsi_base.specs.Member.{In}
 use Rattle.bool_expr.specs.Expression.{bit}
-use Rattle.machine_meaning.specs.Machine.{Machine, register_names}
+use Rattle.machine_core.specs.Machine.{Machine, register_names}
 use Rattle.cell_model.specs.Cell.{Cell}
 use Rattle.cell_model.specs.Library.{Library, cell_of}
 use Rattle.cell_pins.specs.Table.{IsTableOf}
 use Rattle.net_core.specs.declared.pins.ModelPins.{ModelPins}
 use Rattle.net_core.specs.Places.{Stands, IsThere}
 use Rattle.net_core.specs.Netlist.{Instance, Netlist as InMemory, IsNetlist}
-use Rattle.net_meaning.specs.Netlist.{Netlist}
+use Rattle.net_meaning.specs.Netlist.{AbstractNetlist}
 use Rattle.net_meaning.specs.Behaviour.{Contents}
-use Rattle.net_view.specs.Condition.{MeetsCondition}
-use Rattle.net_view.specs.View.{IsSeenAs}
-use Rattle.net_view.specs.Writable.{CanBeNamed}
-use Rattle.port_words.specs.Words.{IsIdentifier}
-use Rattle.vbe_write.specs.Writable.{AreDeclared, CanBeVbe}
+use Rattle.net_right.specs.Condition.{MeetsCondition}
+use Rattle.net_right.specs.View.{IsSeenAs}
+use Rattle.net_right.specs.Writable.{CanBeNamed}
+use Rattle.text_names.specs.Words.{IsIdentifier}
+use Rattle.vbe_print.specs.Writable.{AreDeclared, CanBeVbe}
 use Rattle.net_machine.specs.Signals.{signal_ports}
 use Rattle.net_machine.specs.Step.{KeepsStep, FitsContents, IsMachineOfNetlist}
 use Rattle.net_flat.specs.declared.parts.Part.TheVariants as part
@@ -71,8 +71,8 @@ held_by_name m t = map (λ r. bit (t r.name.text) 0) m.registers
 pub record IsFlat (n : InMemory) (l : Library) (table : List ModelPins) (m : Machine) : Type 0 where
   pub of_netlist : IsMachineOfNetlist n l table m
   pub registers : (name : Name) → In name (register_names m) ↔ In name (registers_of l n.instances)
-  pub fits : (k : Netlist) → IsSeenAs n k → (t : Contents) → FitsContents k l t
-  pub holds : (k : Netlist) (seen : IsSeenAs n k) (t : Contents) → KeepsStep.held (of_netlist.step k seen) t ≡ held_by_name m t
+  pub fits : (k : AbstractNetlist) → IsSeenAs n k → (t : Contents) → FitsContents k l t
+  pub holds : (k : AbstractNetlist) (seen : IsSeenAs n k) (t : Contents) → KeepsStep.held (of_netlist.step k seen) t ≡ held_by_name m t
 
 -- it is that with the table of pins of all of the library's cells, where the netlist meets what each stage asks
 abbrev pub IsFlatWith : InMemory → Library → Machine → Type 0

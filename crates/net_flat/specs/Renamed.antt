@@ -7,9 +7,9 @@ use Rattle.vlsi_base.specs.declared.name.Port.{Port}
 use Rattle.vlsi_base.specs.Member.{In, AllDifferent}
 use Rattle.vlsi_base.specs.Range.{rising}
 use Rattle.bool_expr.specs.Expression.{constant, bit}
-use Rattle.machine_meaning.specs.Named.{is_same_name, value_at}
-use Rattle.machine_meaning.specs.Machine.{Machine, Equation, Register, inputs, names_of, register_names}
-use Rattle.machine_meaning.specs.Cycles.{Settles, next}
+use Rattle.machine_core.specs.Named.{is_same_name, value_at}
+use Rattle.machine_core.specs.Machine.{Machine, Equation, Register, inputs, names_of, register_names}
+use Rattle.machine_core.specs.Cycles.{Settles, next}
 use Rattle.machine_core.specs.Checked.{IsChecked, AreInOrder, IsNoSupply}
 use Rattle.machine_core.specs.Order.{equation_names}
 use Rattle.source_bits.specs.Driven.{Numbered, NumberedStorage}

@@ -6,7 +6,7 @@ use Rattle.vlsi_base.specs.declared.name.Name.{Name}
 use Rattle.vlsi_base.specs.declared.name.Port.{Port}
 use Rattle.vlsi_base.specs.NamePlaces.{NamePlaces}
 use Rattle.vlsi_base.specs.Names.{scalar}
-use Rattle.machine_meaning.specs.Named.{is_same_name}
+use Rattle.machine_core.specs.Named.{is_same_name}
 
 -- the ports' texts, as scalars
 abbrev pub port_texts : List Port → List Name

@@ -6,7 +6,7 @@ ghost use Rattle.std.specs.List.Sorted.{IsPermutation};
 ghost use Rattle.std.specs.FinMap.{get};
 ghost use Rattle.vlsi_base.specs.Member.{AllDifferent};
 ghost use Rattle.vlsi_base.specs.Range.{rising};
-ghost use Rattle.machine_meaning.specs.Machine.{names_of};
+ghost use Rattle.machine_core.specs.Machine.{names_of};
 ghost use Rattle.machine_core.specs.Checked.{AreInOrder};
 ghost use Rattle.machine_core.specs.View.{equation_view, register_view};
 ghost use Rattle.source_bits.specs.Driven.{driven_view, stored_view};
@@ -16,8 +16,7 @@ ghost use Rattle.net_flat.specs.Renamed.{seat_at, stored_of, driven_from, inner_
 use crate::taken::index_of;
 use bit_machine::{BitSystem, DrivenBit, StoredBit, machine_of_bits};
 use bool_expr::copy;
-use machine_core::Machine;
-use machine_meaning::{Equation, Register};
+use machine_core::{Equation, Machine, Register};
 use std::alloc::{AllocError, Global};
 use vlsi_base::{Name, NameIndex, Names, Port, Ports, Text};
 

@@ -3,7 +3,7 @@ ghost use Rattle.std.specs.Prelude.{◌≡◌, is_some, IfOk};
 ghost use Rattle.std.specs.List.{list_any};
 ghost use Rattle.std.specs.FinMap.{get};
 ghost use Rattle.vlsi_base.specs.declared.name.Name.{Name};
-ghost use Rattle.machine_meaning.specs.Named.{is_same_name};
+ghost use Rattle.machine_core.specs.Named.{is_same_name};
 ghost use Rattle.net_flat.specs.Taken.{port_texts, is_taken, is_indexed, IsFirst};
 
 use std::alloc::{AllocError, Global};

@@ -15,7 +15,7 @@ use Rattle.vlsi_base.specs.Name.{name_cmp}
 use Rattle.vlsi_base.specs.Names.{vdd, vss, comes_before}
 use Rattle.vlsi_base.specs.Member.{In, here, there}
 use Rattle.vlsi_base.proofs.NameOrder.{name_total, name_exact}
-use Rattle.machine_meaning.specs.Named.{is_same_text}
+use Rattle.machine_core.specs.Named.{is_same_text}
 use Rattle.machine_core.proofs.Values.{In-split, In-left, In-right, In-map}
 use Rattle.vlsi_model.proofs.Members.{In-cases}
 use Rattle.vlsi_model.proofs.PortBits.{In-filter, filter-In}
@@ -37,8 +37,8 @@ use Rattle.net_core.specs.Netlist.{Instance, Netlist as InMemory, IsNetlist, por
 use Rattle.net_core.specs.Checks.{pins_named, port_role, pin_role, tally, roles, all_clocks, is_misused_clock}
 use Rattle.net_core.proofs.Lookups.{same_of, itself}
 use Rattle.net_core.proofs.Rings.{at_place, class_below}
-use Rattle.net_view.proofs.Ports.{supplies_differ}
-use Rattle.net_view.specs.Condition.{MeetsCondition}
+use Rattle.net_right.proofs.Ports.{supplies_differ}
+use Rattle.net_right.specs.Condition.{MeetsCondition}
 use Rattle.net_machine.specs.Signals.{IsClockPort}
 use Rattle.net_machine.specs.Body.{Shown, Body, body_of, body_at}
 use Rattle.net_machine.specs.Known.{clock_pin, clock_at}

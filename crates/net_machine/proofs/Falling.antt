@@ -13,7 +13,7 @@ use Rattle.vlsi_base.specs.Range.{rising}
 use Rattle.vlsi_base.specs.Member.{In, here, there, Picks, done, takes, skips}
 use Rattle.bool_expr.specs.Expression.{Expression, constant, variable, variables, IsOver}
 use Rattle.bool_expr.specs.Renumbering.{renumbered}
-use Rattle.machine_meaning.specs.Machine.{is_input}
+use Rattle.machine_core.specs.Machine.{is_input}
 use Rattle.machine_core.proofs.Values.{In-split, In-left, In-right}
 use Rattle.machine_core.proofs.Known.{IsOver-In}
 use Rattle.source_bits.specs.Driven.{Numbered}

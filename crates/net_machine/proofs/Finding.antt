@@ -4,15 +4,15 @@ use Rattle.vlsi_base.specs.declared.name.Name.{Name}
 use Rattle.vlsi_base.specs.declared.name.Port.{Port}
 use Rattle.bool_expr.specs.Expression.{Expression, variable}
 use Rattle.bool_expr.specs.View.{view}
-use Rattle.machine_meaning.specs.Machine.{Machine, Register, Equation, is_input, names_of, inputs}
-use Rattle.machine_meaning.specs.declared.equation.Equation.{Equation as EquationParts}
-use Rattle.machine_meaning.specs.declared.equation.Register.{Register as RegisterParts}
+use Rattle.machine_core.specs.Machine.{Machine, Register, Equation, is_input, names_of, inputs}
+use Rattle.machine_core.specs.declared.equation.Equation.{Equation as EquationParts}
+use Rattle.machine_core.specs.declared.equation.Register.{Register as RegisterParts}
 use Rattle.machine_core.specs.View.{equation_view, register_view}
 use Rattle.vlsi_model.proofs.Building.{map-then}
 use Rattle.net_machine.specs.declared.body.Body.{Body as BodyParts}
-use Rattle.machine_meaning.specs.Named.{is_same_name, is_same_text}
+use Rattle.machine_core.specs.Named.{is_same_name, is_same_text}
 use Rattle.machine_core.proofs.Names.{same_name-itself, same_name-false}
-use Rattle.source_meaning.specs.Formula.{place}
+use Rattle.source_checks.specs.Formula.{place}
 use Rattle.cell_model.specs.Cell.{Cell}
 use Rattle.cell_model.specs.Library.{cell_named}
 use Rattle.cell_model.proofs.Texts.{text_itself}

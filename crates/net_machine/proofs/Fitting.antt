@@ -17,8 +17,8 @@ use Rattle.vlsi_base.specs.Range.{rising}
 use Rattle.vlsi_base.specs.Name.{name_cmp, is_supply}
 use Rattle.vlsi_base.specs.Names.{vdd, vss, scalar}
 use Rattle.vlsi_base.specs.Member.{In, here, there}
-use Rattle.machine_meaning.specs.Named.{is_same_name}
-use Rattle.machine_meaning.specs.Machine.{Register, is_input, is_clock, names_of}
+use Rattle.machine_core.specs.Named.{is_same_name}
+use Rattle.machine_core.specs.Machine.{Register, is_input, is_clock, names_of}
 use Rattle.machine_core.specs.Checked.{AreInOrder, IsNoSupply}
 use Rattle.machine_core.proofs.Names.{same_name-itself, same_name-false}
 use Rattle.machine_core.proofs.Values.{In-split, In-left, In-right, In-map}

@@ -11,11 +11,11 @@ use Rattle.vlsi_base.specs.Names.{vdd, vss}
 use Rattle.vlsi_base.specs.Member.{In, here, there}
 use Rattle.bool_expr.specs.Expression.{Expression, constant, variable, inverse, pair, choice, variables, IsOver}
 use Rattle.bool_expr.specs.Renumbering.{renumbered}
-use Rattle.machine_meaning.specs.Machine.{Machine, Equation, Register, names_of, inputs, outputs, register_names}
+use Rattle.machine_core.specs.Machine.{Machine, Equation, Register, names_of, inputs, outputs, register_names}
 use Rattle.machine_core.specs.Order.{held_names, equation_names, EachReadsBelow}
 use Rattle.machine_core.proofs.Known.{IsOver-In}
 use Rattle.machine_core.proofs.Values.{In-split, In-left, In-right, In-map}
-use Rattle.source_meaning.specs.Formula.{place}
+use Rattle.source_checks.specs.Formula.{place}
 use Rattle.vlsi_model.proofs.Members.{In-map_back}
 use Rattle.vlsi_model.proofs.Numbering.{place_within, place_at}
 use Rattle.vlsi_model.proofs.Sorting.{In-at}

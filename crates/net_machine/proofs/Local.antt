@@ -7,14 +7,14 @@ use Rattle.std.proofs.lemmas.Option.{slice_get-get_or, slice_get_within, get_or_
 use Rattle.vlsi_base.specs.declared.name.Name.{Name}
 use Rattle.vlsi_base.specs.Member.{In, AllDifferent}
 use Rattle.bool_expr.specs.Expression.{Expression, variable, bit, val}
-use Rattle.machine_meaning.specs.Named.{value_at, values_at}
-use Rattle.machine_meaning.specs.Machine.{Machine, Equation, Register, inputs, outputs, register_names}
-use Rattle.machine_meaning.specs.Cycles.{Settles, outs}
+use Rattle.machine_core.specs.Named.{value_at, values_at}
+use Rattle.machine_core.specs.Machine.{Machine, Equation, Register, inputs, outputs, register_names}
+use Rattle.machine_core.specs.Cycles.{Settles, outs}
 use Rattle.machine_core.specs.Order.{held_names, equation_names}
 use Rattle.machine_core.specs.Checked.{IsChecked}
 use Rattle.machine_core.proofs.Values.{In-right, bit-value_at}
 use Rattle.machine_core.proofs.Built.{values_at-front}
-use Rattle.source_meaning.specs.Formula.{place}
+use Rattle.source_checks.specs.Formula.{place}
 use Rattle.vlsi_model.proofs.Numbering.{place_within, place_at}
 use Rattle.vlsi_model.proofs.Building.{map-then, map_same}
 use Rattle.cell_model.specs.Cell.{other, Cell}

@@ -3,8 +3,8 @@ use Rattle.std.proofs.Common.{◌≡◌, ℕ, zero, suc, ◌<◌, ◌≤◌, ◌
 use Rattle.vlsi_base.specs.declared.name.Name.{Name}
 use Rattle.vlsi_base.specs.declared.name.Port.{Port}
 use Rattle.vlsi_base.specs.declared.name.Terminal.{Terminal}
-use Rattle.machine_meaning.specs.Named.{is_same_text, is_same_name}
-use Rattle.machine_meaning.specs.Machine.{Machine}
+use Rattle.machine_core.specs.Named.{is_same_text, is_same_name}
+use Rattle.machine_core.specs.Machine.{Machine}
 use Rattle.machine_core.proofs.Names.{same_name-true, same_name-itself}
 use Rattle.std.specs.Cmp.Lexicographic.{bytes_decides}
 use Rattle.cell_model.specs.Library.{Library}
@@ -14,10 +14,10 @@ use Rattle.net_core.specs.declared.pins.ModelPins.{ModelPins}
 use Rattle.net_core.specs.Places.{Stands, NoneTwice}
 use Rattle.net_core.specs.Netlist.{Netlist as InMemory, IsNetlist, terminals, IsClassFunction}
 use Rattle.net_core.proofs.Finishing.{netlist_terminals_once}
-use Rattle.net_meaning.specs.Netlist.{Netlist}
+use Rattle.net_meaning.specs.Netlist.{AbstractNetlist}
 use Rattle.net_meaning.specs.Behaviour.{Contents}
-use Rattle.net_view.specs.Condition.{MeetsCondition}
-use Rattle.net_view.specs.View.{IsSeenAs}
+use Rattle.net_right.specs.Condition.{MeetsCondition}
+use Rattle.net_right.specs.View.{IsSeenAs}
 use Rattle.bit_machine.specs.System.{System, system_of, IsSystem, Falls, FitsPorts, IsMachineOfBits}
 use Rattle.bit_machine.specs.declared.system.BitSystem.{BitSystem}
 use Rattle.net_machine.specs.Signals.{signal_ports, IsClockPort, MeetsConditionWith, HasBehaviour}
@@ -163,7 +163,7 @@ module _ (n : InMemory) (l : Library) (clock : Option Name) (b : BitSystem) (g :
     ports = is.ports_are;
     clock = subst (IsClockPort table n) (sym is.clock_is) (clock_found n l table (record { netlist = g.net; condition = condition; table_is = table_is; checked = g.checked }) clock g.clock_is);
     step = λ k seen.
-        subst (λ (x : Netlist). KeepsStep x l m) (sym seen.is)
+        subst (λ (x : AbstractNetlist). KeepsStep x l m) (sym seen.is)
         (keeps_step (scene n l clock b g table table_is condition k.class seen.classes) n.name m
         (subst (λ (s : System). IsMachineOfBits n.name (signal_ports n.ports) clock s m) (g.bits.is k.class seen.classes) is));
   }
@@ -175,7 +175,7 @@ module _ (n : InMemory) (l : Library) (clock : Option Name) (b : BitSystem) (g :
       (subst (λ (ps : List Port). IsMachineOfBits name ps clock (system_of b) m) f is))
 
   -- it keeps step, and holds what the instances hold in their order
-  abbrev StepsInOrder : Machine → Netlist → Type 0
+  abbrev StepsInOrder : Machine → AbstractNetlist → Type 0
   StepsInOrder m k = (step : KeepsStep k l m) × ((t : Contents) → step.held t ≡ held_by l k.instances t)
 
   in_order : (m : Machine) → IsMachineOfBits n.name (signal_ports n.ports) clock (system_of b) m → IsInOrderWith n l m
@@ -188,7 +188,7 @@ module _ (n : InMemory) (l : Library) (clock : Option Name) (b : BitSystem) (g :
     };
     holds = λ k seen t. (both k seen).1 t;
   } where
-    both : (k : Netlist) → IsSeenAs n k → StepsInOrder m k
+    both : (k : AbstractNetlist) → IsSeenAs n k → StepsInOrder m k
     both k seen =
         let s = scene n l clock b g table table_is condition k.class seen.classes in
         let made = subst (λ (x : System). IsMachineOfBits n.name (signal_ports n.ports) clock x m) (g.bits.is k.class seen.classes) is in

@@ -2,23 +2,23 @@
 use Rattle.std.proofs.Common.{◌≡◌, Bool, List, [], ◌∷◌, map, length, refl, sym, ap, ◌∙◌, subst}
 use Rattle.std.specs.List.{AllByRecursion}
 use Rattle.std.proofs.lemmas.List.Elements.{recursion_from_All}
-use Rattle.machine_meaning.specs.Machine.{Machine, inputs}
-use Rattle.machine_meaning.specs.Cycles.{Settles, next, AreVectors}
-use Rattle.machine_meaning.specs.Runs.{Trace}
+use Rattle.machine_core.specs.Machine.{Machine, inputs}
+use Rattle.machine_core.specs.Cycles.{Settles, next, AreVectors}
+use Rattle.machine_core.specs.Runs.{Trace}
 use Rattle.machine_core.specs.Order.{IsOrdered, SettlesOnce}
 use Rattle.cell_model.specs.Library.{Library}
-use Rattle.net_meaning.specs.Netlist.{Netlist}
+use Rattle.net_meaning.specs.Netlist.{AbstractNetlist}
 use Rattle.net_meaning.specs.Behaviour.{Contents, Valuation, NetSettles, net_next, NetTrace}
 use Rattle.net_machine.specs.Step.{FitsContents, KeepsStep, MachineRunsNetlist}
 
-abbrev Traces : Netlist → Library → Machine → Contents → List (List Bool) → List Valuation → Type 0
+abbrev Traces : AbstractNetlist → Library → Machine → Contents → List (List Bool) → List Valuation → Type 0
 Traces k l m t v ws = Trace (NetSettles k l (inputs m) m.clock) (net_next k l) t v ws
 
 abbrev AreLong : Machine → List (List Bool) → Type 0
 AreLong m v = AllByRecursion (λ i. length i ≡ length (inputs m)) v
 
 -- from contents that fit there is a list of valuations
-runs : SettlesOnce → (k : Netlist) (l : Library) (m : Machine) → IsOrdered m → (step : KeepsStep k l m) (v : List (List Bool)) (t : Contents) → FitsContents k l t → AreLong m v
+runs : SettlesOnce → (k : AbstractNetlist) (l : Library) (m : Machine) → IsOrdered m → (step : KeepsStep k l m) (v : List (List Bool)) (t : Contents) → FitsContents k l t → AreLong m v
     → (ws : List Valuation) × Traces k l m t v ws
 runs law k l m ordered step [] t fits long = ([], refl)
 runs law k l m ordered step (i ∷ v) t fits long =
@@ -28,7 +28,7 @@ runs law k l m ordered step (i ∷ v) t fits long =
     (b.0 ∷ r.0, (b.0, b.1.net, (r.0, refl, r.1)))
 
 -- from contents that the machine holds as the same, any two give each class the same bits
-once : SettlesOnce → (k : Netlist) (l : Library) (m : Machine) → IsOrdered m → (step : KeepsStep k l m) (v : List (List Bool)) (t u : Contents) → step.held t ≡ step.held u → AreLong m v
+once : SettlesOnce → (k : AbstractNetlist) (l : Library) (m : Machine) → IsOrdered m → (step : KeepsStep k l m) (v : List (List Bool)) (t u : Contents) → step.held t ≡ step.held u → AreLong m v
     → (ws xs : List Valuation) → Traces k l m t v ws → Traces k l m u v xs → map (λ (w : Valuation). w.classes) ws ≡ map (λ (w : Valuation). w.classes) xs
 once law k l m ordered step [] t u same long ws xs g h = ap (map (λ (w : Valuation). w.classes)) (g ∙ sym h)
 once law k l m ordered step (i ∷ v) t u same long ws xs g h =

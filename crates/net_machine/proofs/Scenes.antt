@@ -11,9 +11,9 @@ use Rattle.vlsi_base.specs.Name.{name_cmp}
 use Rattle.vlsi_base.specs.Names.{comes_before}
 use Rattle.vlsi_base.specs.Member.{In, AllDifferent}
 use Rattle.vlsi_base.proofs.NameOrder.{name_total}
-use Rattle.machine_meaning.specs.Machine.{is_input, names_of, outputs}
+use Rattle.machine_core.specs.Machine.{is_input, names_of, outputs}
 use Rattle.machine_core.proofs.Values.{In-map}
-use Rattle.source_meaning.specs.Formula.{place}
+use Rattle.source_checks.specs.Formula.{place}
 use Rattle.vlsi_model.proofs.Members.{In-map_back, different_Sub}
 use Rattle.vlsi_model.proofs.PortBits.{Sub-map, Sub-filter, filter-In}
 use Rattle.vlsi_model.proofs.Sorting.{different_from_pairs}

@@ -9,9 +9,9 @@ use Rattle.vlsi_base.specs.Range.{rising}
 use Rattle.vlsi_base.specs.Member.{In, here, there}
 use Rattle.bool_expr.specs.Expression.{Expression, variable, IsOver, bit, val}
 use Rattle.bool_expr.specs.Renumbering.{renumbered}
-use Rattle.machine_meaning.specs.Named.{value_at, values_at}
-use Rattle.machine_meaning.specs.Machine.{Machine, Register, inputs, register_names}
-use Rattle.machine_meaning.specs.Cycles.{Settles, outs, next}
+use Rattle.machine_core.specs.Named.{value_at, values_at}
+use Rattle.machine_core.specs.Machine.{Machine, Register, inputs, register_names}
+use Rattle.machine_core.specs.Cycles.{Settles, outs, next}
 use Rattle.machine_core.proofs.Values.{In-left, In-right, In-map, In-split}
 use Rattle.source_bits.specs.Driven.{Numbered, NumberedStorage}
 use Rattle.vlsi_model.proofs.Building.{map-then, map_same}
@@ -20,9 +20,9 @@ use Rattle.cell_model.specs.Library.{cell_of}
 use Rattle.cell_model.specs.Usable.{FitsPins}
 use Rattle.net_core.specs.Places.{Stands}
 use Rattle.net_core.specs.Netlist.{Instance, pin_of}
-use Rattle.net_meaning.specs.Netlist.{Netlist}
+use Rattle.net_meaning.specs.Netlist.{AbstractNetlist}
 use Rattle.net_meaning.specs.Behaviour.{Contents, Valuation, pin_bits, Drives, loaded}
-use Rattle.net_view.specs.View.{netlist_by}
+use Rattle.net_right.specs.View.{netlist_by}
 use Rattle.bit_machine.proofs.Showing.{val_renumbered}
 use Rattle.net_machine.specs.Body.{Load, Shown, Body, body_of, body_at, width}
 use Rattle.net_machine.specs.Bits.{numbers, stored_from, inner_from, shown_from, body_driven}
@@ -37,7 +37,7 @@ use Rattle.net_machine.proofs.Places.{local}
 use Rattle.vlsi_model.proofs.Members.{In-cases, In-map_back}
 
 -- the netlist with this scene's classes
-abbrev pub seen_net : Scene → Netlist
+abbrev pub seen_net : Scene → AbstractNetlist
 seen_net s = netlist_by s.class s.n
 
 -- ---- the bits of a body by their numbers

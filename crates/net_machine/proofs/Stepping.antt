@@ -12,9 +12,9 @@ use Rattle.vlsi_base.specs.Names.{vdd, vss}
 use Rattle.vlsi_base.specs.Range.{rising}
 use Rattle.vlsi_base.specs.Member.{In, here, there, AllDifferent}
 use Rattle.bool_expr.specs.Expression.{constant, variable, IsOver, bit, val}
-use Rattle.machine_meaning.specs.Named.{value_at, is_same_text, is_same_name}
-use Rattle.machine_meaning.specs.Machine.{Machine, is_clock, inputs, Register, register_names}
-use Rattle.machine_meaning.specs.Cycles.{Settles}
+use Rattle.machine_core.specs.Named.{value_at, is_same_text, is_same_name}
+use Rattle.machine_core.specs.Machine.{Machine, is_clock, inputs, Register, register_names}
+use Rattle.machine_core.specs.Cycles.{Settles}
 use Rattle.machine_core.proofs.Names.{same_name-itself, same_name-true, same_name-false}
 use Rattle.machine_core.proofs.Values.{In-split, In-left, In-right, In-map}
 use Rattle.source_bits.specs.Driven.{Numbered, NumberedStorage}
@@ -30,7 +30,7 @@ use Rattle.net_core.specs.Netlist.{Instance, port, pin_of, terminals}
 use Rattle.net_core.specs.Checks.{port_role}
 use Rattle.net_meaning.specs.Netlist.{Member as Layout}
 use Rattle.net_meaning.specs.Behaviour.{Contents, Valuation, Drives, NetSettles, model_of, cell_at, loaded, next_held, net_next, pin_bits}
-use Rattle.net_view.specs.View.{member_of}
+use Rattle.net_right.specs.View.{member_of}
 use Rattle.bit_machine.specs.System.{BitsSettle, bits_next, bits_shown, IsMachineOfBits}
 use Rattle.bit_machine.proofs.Showing.{shown_at}
 use Rattle.net_machine.specs.Signals.{signal_ports, net_inputs}

@@ -8,7 +8,7 @@ use Rattle.vlsi_base.specs.declared.name.Dir.{Dir}
 use Rattle.vlsi_base.specs.declared.name.Dir.TheVariants as dir
 use Rattle.vlsi_base.specs.declared.name.Terminal.{Terminal}
 use Rattle.vlsi_base.specs.Member.{In, here, there, AllDifferent}
-use Rattle.machine_meaning.specs.Machine.{is_input}
+use Rattle.machine_core.specs.Machine.{is_input}
 use Rattle.machine_core.proofs.Values.{In-split, In-left, In-right}
 use Rattle.source_bits.specs.Driven.{Numbered}
 use Rattle.vlsi_model.proofs.Members.{In-cases}

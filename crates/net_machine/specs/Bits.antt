@@ -10,7 +10,7 @@ use Rattle.vlsi_base.specs.Name.{is_supply}
 use Rattle.vlsi_base.specs.Range.{rising}
 use Rattle.bool_expr.specs.Expression.{Expression, constant, variable}
 use Rattle.bool_expr.specs.Renumbering.{renumbered}
-use Rattle.machine_meaning.specs.Machine.{is_input, is_clock}
+use Rattle.machine_core.specs.Machine.{is_input, is_clock}
 use Rattle.source_bits.specs.Driven.{Numbered, NumberedStorage}
 use Rattle.net_core.specs.Netlist.{Instance, Netlist as InMemory, port, pin_of}
 use Rattle.cell_model.specs.Cell.{Cell}

@@ -3,8 +3,8 @@ use Rattle.std.specs.Prelude.{ℕ, ◌+◌, true, List, [], ◌∷◌, map, leng
 use Rattle.vlsi_base.specs.declared.name.Name.{Name}
 use Rattle.bool_expr.specs.Expression.{Expression, constant, variable}
 use Rattle.bool_expr.specs.View.{view}
-use Rattle.machine_meaning.specs.Machine.{Machine, inputs, outputs}
-use Rattle.source_meaning.specs.Formula.{place}
+use Rattle.machine_core.specs.Machine.{Machine, inputs, outputs}
+use Rattle.source_checks.specs.Formula.{place}
 use Rattle.cell_model.specs.Cell.{Function, gate, flip_flop, other, opaque, Cell, cell_inputs, cell_outputs}
 use Rattle.net_machine.specs.declared.body.Load.{Load as LoadParts}
 use Rattle.net_machine.specs.declared.body.Value.{Value}

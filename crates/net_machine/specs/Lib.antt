@@ -5,3 +5,4 @@ pub mod Bits
 pub mod Gathered
 pub mod Step
 pub mod Answers
+pub mod Runs

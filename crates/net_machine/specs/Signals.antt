@@ -4,7 +4,7 @@ use Rattle.vlsi_base.specs.declared.name.Name.{Name}
 use Rattle.vlsi_base.specs.declared.name.Port.{Port}
 use Rattle.vlsi_base.specs.declared.name.Dir.TheVariants as dir
 use Rattle.vlsi_base.specs.Name.{is_supply}
-use Rattle.machine_meaning.specs.Machine.{is_input, is_clock, names_of}
+use Rattle.machine_core.specs.Machine.{is_input, is_clock, names_of}
 use Rattle.net_core.specs.declared.pins.ModelPin.{ModelPin}
 use Rattle.net_core.specs.declared.pins.ModelPins.{ModelPins}
 use Rattle.net_core.specs.Places.{Stands, IsThere}
@@ -13,7 +13,7 @@ use Rattle.net_core.specs.Checks.{pins_named}
 use Rattle.cell_model.specs.Cell.{opaque, Cell}
 use Rattle.cell_model.specs.Library.{Library, cell_of}
 use Rattle.cell_pins.specs.Table.{IsTableOf}
-use Rattle.net_view.specs.Condition.{MeetsCondition}
+use Rattle.net_right.specs.Condition.{MeetsCondition}
 
 -- the ports but vdd and vss, in their order
 abbrev pub signal_ports : List Port → List Port

@@ -5,19 +5,19 @@ use Rattle.vlsi_base.specs.declared.name.Name.{Name}
 use Rattle.vlsi_base.specs.Member.{In}
 use Rattle.vlsi_base.specs.Range.{rising}
 use Rattle.bool_expr.specs.Expression.{bit}
-use Rattle.machine_meaning.specs.Named.{value_at}
-use Rattle.machine_meaning.specs.Machine.{Machine, inputs, names_of}
-use Rattle.machine_meaning.specs.Cycles.{Settles, next, AreVectors}
+use Rattle.machine_core.specs.Named.{value_at}
+use Rattle.machine_core.specs.Machine.{Machine, inputs, names_of}
+use Rattle.machine_core.specs.Cycles.{Settles, next, AreVectors}
 use Rattle.machine_core.specs.Order.{IsOrdered}
 use Rattle.net_core.specs.declared.pins.ModelPins.{ModelPins}
 use Rattle.net_core.specs.Netlist.{Netlist as InMemory}
 use Rattle.cell_model.specs.Cell.{Function, gate, flip_flop, other, opaque, Cell}
 use Rattle.cell_model.specs.Library.{Library, cell_of}
 use Rattle.cell_pins.specs.Table.{IsTableOf}
-use Rattle.net_meaning.specs.Netlist.{Member, Netlist, port}
+use Rattle.net_meaning.specs.Netlist.{Member, AbstractNetlist, port}
 use Rattle.net_meaning.specs.Behaviour.{Contents, Valuation, bit_of, NetSettles, model_of, cell_at, net_next, NetTrace}
-use Rattle.net_view.specs.Condition.{MeetsCondition}
-use Rattle.net_view.specs.View.{IsSeenAs}
+use Rattle.net_right.specs.Condition.{MeetsCondition}
+use Rattle.net_right.specs.View.{IsSeenAs}
 use Rattle.net_machine.specs.Signals.{signal_ports, IsClockPort}
 
 -- what an instance holds, bit for bit: a flip-flop one bit, and another machine one for each of its registers
@@ -36,7 +36,7 @@ abbrev pub held_by : Library → List Member → Contents → List Bool
 held_by l ones t = flat_map (λ one. held_at (cell_of l one.model) (t one.name)) ones
 
 -- an instance of another machine holds a bit for each of its registers
-abbrev pub FitsContents : Netlist → Library → Contents → Type 0
+abbrev pub FitsContents : AbstractNetlist → Library → Contents → Type 0
 FitsContents k l t = (one : Member) (c : Cell) (m : Machine) → In one k.instances → cell_of l one.model ≡ Some c → c.function ≡ other m
     → length (t one.name) ≡ length m.registers
 
@@ -52,16 +52,16 @@ zeros_of None = []
 zeros_of (Some c) = zeros c.function
 
 -- the contents in which all bits are 0
-abbrev pub no_contents : Netlist → Library → Contents
+abbrev pub no_contents : AbstractNetlist → Library → Contents
 no_contents k l owner = zeros_of (cell_at l (model_of k.instances owner))
 
 -- a port has in both valuations the same bit
-abbrev pub ShowAlike : Netlist → Machine → Valuation → List Bool → Type 0
+abbrev pub ShowAlike : AbstractNetlist → Machine → Valuation → List Bool → Type 0
 ShowAlike k m w x = (name : Name) → In name (names_of m.ports) → bit_of k w.classes (port name) ≡ value_at m.vars x name
 
 -- From the contents t and under the vector i, w is a valuation of the netlist and x one of the machine; they give each class and
 -- each port the same bit, and after the clock's rise the registers hold what the instances hold.
-pub record AreInStep (k : Netlist) (l : Library) (m : Machine) (held : Contents → List Bool) (bits : List Bool → List Bool)
+pub record AreInStep (k : AbstractNetlist) (l : Library) (m : Machine) (held : Contents → List Bool) (bits : List Bool → List Bool)
     (t : Contents) (i : List Bool) (w : Valuation) (x : List Bool) : Type 0 where
   pub net : NetSettles k l (inputs m) m.clock t i w
   pub machine : Settles m (held t) i x
@@ -70,7 +70,7 @@ pub record AreInStep (k : Netlist) (l : Library) (m : Machine) (held : Contents 
   pub loads : next m x ≡ held (net_next k l w)
 
 -- Contents and valuations of the netlist and of the machine go together, both ways.
-pub record KeepsStep (k : Netlist) (l : Library) (m : Machine) : Type 0 where
+pub record KeepsStep (k : AbstractNetlist) (l : Library) (m : Machine) : Type 0 where
   -- what the registers hold, where the instances hold these bits
   pub held : Contents → List Bool
   -- the bits of the classes in a valuation of the machine
@@ -90,12 +90,12 @@ pub record IsMachineOfNetlist (n : InMemory) (l : Library) (table : List ModelPi
   pub name : m.name ≡ n.name
   pub ports : m.ports ≡ signal_ports n.ports
   pub clock : IsClockPort table n m.clock
-  pub step : (k : Netlist) → IsSeenAs n k → KeepsStep k l m
+  pub step : (k : AbstractNetlist) → IsSeenAs n k → KeepsStep k l m
 
 -- And its registers are those of the instances in their order: they hold what the instances hold, one after another.
 pub record IsMachineInOrder (n : InMemory) (l : Library) (table : List ModelPins) (m : Machine) : Type 0 where
   pub of_netlist : IsMachineOfNetlist n l table m
-  pub holds : (k : Netlist) (seen : IsSeenAs n k) (t : Contents) → KeepsStep.held (of_netlist.step k seen) t ≡ held_by l k.instances t
+  pub holds : (k : AbstractNetlist) (seen : IsSeenAs n k) (t : Contents) → KeepsStep.held (of_netlist.step k seen) t ≡ held_by l k.instances t
 
 -- it is that with the table of pins of all of the library's cells, where the netlist meets what each stage asks
 abbrev pub IsMachineWith : InMemory → Library → Machine → Type 0
@@ -105,7 +105,7 @@ abbrev pub IsInOrderWith : InMemory → Library → Machine → Type 0
 IsInOrderWith n l m = (table : List ModelPins) → IsTableOf l true table → MeetsCondition table n → IsMachineInOrder n l table m
 
 -- From contents that fit and under a vector the netlist has a valuation, and any two give each class the same bit.
-abbrev pub NetSettlesOnce : Netlist → Library → List Name → Option Name → Contents → List Bool → Type 0
+abbrev pub NetSettlesOnce : AbstractNetlist → Library → List Name → Option Name → Contents → List Bool → Type 0
 NetSettlesOnce k l input_names clock t i =
     (w : Valuation) × NetSettles k l input_names clock t i w
     × ((v : Valuation) → NetSettles k l input_names clock t i v → v.classes ≡ w.classes)
@@ -113,18 +113,18 @@ NetSettlesOnce k l input_names clock t i =
 -- so does each netlist that has a machine
 abbrev pub MachineSettlesNetlist : Type 0
 MachineSettlesNetlist =
-    (n : InMemory) (l : Library) (table : List ModelPins) (m : Machine) (k : Netlist) (t : Contents) (i : List Bool)
+    (n : InMemory) (l : Library) (table : List ModelPins) (m : Machine) (k : AbstractNetlist) (t : Contents) (i : List Bool)
     → IsMachineOfNetlist n l table m → IsOrdered m → IsSeenAs n k → FitsContents k l t → length i ≡ length (inputs m)
     → NetSettlesOnce k l (inputs m) m.clock t i
 
 -- From contents that fit and for every list of vectors, of every length, the netlist has exactly one list of valuations, by the bits
 -- of its classes.
-abbrev pub NetRunsOnce : Netlist → Library → Machine → Contents → List (List Bool) → Type 0
+abbrev pub NetRunsOnce : AbstractNetlist → Library → Machine → Contents → List (List Bool) → Type 0
 NetRunsOnce k l m t v =
     (ws : List (List Bool)) × NetTrace k l m t v ws × ((others : List (List Bool)) → NetTrace k l m t v others → others ≡ ws)
 
 -- so does each netlist that has a machine
 abbrev pub MachineRunsNetlist : Type 0
 MachineRunsNetlist =
-    (n : InMemory) (l : Library) (table : List ModelPins) (m : Machine) (k : Netlist) (t : Contents) (v : List (List Bool))
+    (n : InMemory) (l : Library) (table : List ModelPins) (m : Machine) (k : AbstractNetlist) (t : Contents) (v : List (List Bool))
     → IsMachineOfNetlist n l table m → IsOrdered m → IsSeenAs n k → FitsContents k l t → AreVectors m v → NetRunsOnce k l m t v

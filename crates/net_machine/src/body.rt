@@ -2,14 +2,13 @@
 ghost use Rattle.std.specs.Prelude.{◌≡◌, ◌≤◌, not, map, filter, length, IfOk};
 ghost use Rattle.bool_expr.specs.View.{view};
 ghost use Rattle.bool_expr.specs.Expression.{variable};
-ghost use Rattle.machine_meaning.specs.Machine.{is_input, names_of, inputs, outputs};
-ghost use Rattle.source_meaning.specs.Formula.{place};
+ghost use Rattle.machine_core.specs.Machine.{is_input, names_of, inputs, outputs};
+ghost use Rattle.source_checks.specs.Formula.{place};
 ghost use Rattle.net_machine.specs.Body.{load_view, shown_view, body_view, no_body, gate_body, flip_flop_body, machine_body, body_of};
 
 use bool_expr::{Expr, copy};
 use cell_model::{Cell, Function, Pin};
-use machine_core::Machine;
-use machine_meaning::{Equation, Register};
+use machine_core::{Equation, Machine, Register};
 use std::alloc::{AllocError, Global};
 use vlsi_base::{Dir, Name, Port};
 

@@ -10,7 +10,9 @@ mod error;
 mod known;
 mod law;
 mod machine;
+mod runs_law;
 
 pub use error::NetMachineError;
 pub use law::{machine_runs_netlist, machine_settles_netlist};
 pub use machine::{machine_of, signal_ports};
+pub use runs_law::netlist_runs_as_its_machine;

@@ -4,10 +4,10 @@ use Rattle.vlsi_base.specs.declared.name.Terminal.{Terminal}
 use Rattle.sym_geom.specs.declared.item.Item.{Item}
 use Rattle.vlsi_base.specs.Member.{In}
 use Rattle.cell_model.specs.Library.{Library}
-use Rattle.net_meaning.specs.Netlist.{Member, Netlist, IsTerminal, a_port, a_pin, Extracts}
+use Rattle.net_meaning.specs.Netlist.{Member, AbstractNetlist, IsTerminal, a_port, a_pin, Extracts}
 use Rattle.net_meaning.specs.Laws.{GivesOneNetlist}
 
-carried : (items : List Item) (l : Library) (n k : Netlist) → Extracts items l n → Extracts items l k → (t : Terminal) → IsTerminal n l t → IsTerminal k l t
+carried : (items : List Item) (l : Library) (n k : AbstractNetlist) → Extracts items l n → Extracts items l k → (t : Terminal) → IsTerminal n l t → IsTerminal k l t
 carried items l n k first second t (a_port {name = name} h) = a_port ((second.ports name).1 ((first.ports name).0 h))
 carried items l n k first second t (a_pin i c listed found h) = a_pin i c (subst (λ (all : List Member). In i all) (first.instances ∙ sym second.instances) listed) found h
 

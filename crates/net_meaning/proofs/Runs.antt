@@ -1,7 +1,7 @@
 -- Runs of any two systems that settle.
 use Rattle.std.proofs.Common.{◌≡◌, Bool, List, [], ◌∷◌, map, refl, ◌∙◌, ap, subst}
 use Rattle.std.specs.List.{AllByRecursion}
-use Rattle.machine_meaning.specs.Runs.{Trace, Run}
+use Rattle.machine_core.specs.Runs.{Trace, Run}
 
 -- one valuation, and a good state after it; any other shows the same, and leads to the same state
 pub record StepsOnce {S I W : Type 0} (settles : S → I → W → Type 0) (outs : W → List Bool) (next : W → S) (good : S → Type 0) (s : S) (i : I) : Type 0 where

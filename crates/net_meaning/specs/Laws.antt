@@ -5,10 +5,10 @@ use Rattle.vlsi_base.specs.declared.name.Terminal.{Terminal}
 use Rattle.sym_geom.specs.declared.item.Item.{Item}
 use Rattle.vlsi_base.specs.Member.{In}
 use Rattle.cell_model.specs.Library.{Library}
-use Rattle.net_meaning.specs.Netlist.{Netlist, IsTerminal, Extracts}
+use Rattle.net_meaning.specs.Netlist.{AbstractNetlist, IsTerminal, Extracts}
 
 -- two netlists with the same ports and instances, which tie the same terminals
-pub record AreSame (l : Library) (n k : Netlist) : Type 0 where
+pub record AreSame (l : Library) (n k : AbstractNetlist) : Type 0 where
   pub ports : (name : Name) → In name n.ports ↔ In name k.ports
   pub instances : n.instances ≡ k.instances
   pub terminals : (t : Terminal) → IsTerminal n l t ↔ IsTerminal k l t
@@ -16,4 +16,4 @@ pub record AreSame (l : Library) (n k : Netlist) : Type 0 where
 
 -- a layout gives one netlist, whatever its classes are called
 abbrev pub GivesOneNetlist : Type 0
-GivesOneNetlist = (items : List Item) (l : Library) (n k : Netlist) → Extracts items l n → Extracts items l k → AreSame l n k
+GivesOneNetlist = (items : List Item) (l : Library) (n k : AbstractNetlist) → Extracts items l n → Extracts items l k → AreSame l n k

@@ -3,5 +3,6 @@ pub mod Behaviour
 pub mod Agreement
 pub mod Well
 pub mod Buffers
+pub mod Order
 pub mod Breaches
 pub mod Laws

@@ -3,14 +3,14 @@ use Rattle.std.proofs.Common.{◌≡◌, ◌⊎◌, inl, inr, ℕ, ◌+◌, Bool
 use Rattle.vlsi_base.specs.declared.name.Name.{Name}
 use Rattle.vlsi_base.specs.declared.name.Port.{Port}
 use Rattle.vlsi_base.specs.declared.name.Dir.TheVariants as dir
-use Rattle.machine_meaning.specs.Named.{value_at}
-use Rattle.machine_meaning.specs.Machine.{Machine, inputs, names_of}
-use Rattle.machine_meaning.specs.Cycles.{Settles}
+use Rattle.machine_core.specs.Named.{value_at}
+use Rattle.machine_core.specs.Machine.{Machine, inputs, names_of}
+use Rattle.machine_core.specs.Cycles.{Settles}
 use Rattle.machine_core.specs.Order.{In}
 use Rattle.machine_core.proofs.Values.{In-map}
 use Rattle.cell_model.specs.Library.{Library}
 use Rattle.cell_model.proofs.Members.{All-In}
-use Rattle.net_meaning.specs.Netlist.{Netlist, port}
+use Rattle.net_meaning.specs.Netlist.{AbstractNetlist, port}
 use Rattle.net_meaning.specs.Behaviour.{Contents, Valuation, bit_of, net_next}
 use Rattle.pat_meaning.specs.declared.patterns.Column.{Column}
 use Rattle.pat_meaning.specs.declared.patterns.Pattern.{Pattern}
@@ -25,11 +25,11 @@ use Rattle.net_sim.specs.Circuit.{of_netlist, SimulatesAlike}
 use Rattle.net_sim.proofs.Alike.{AgreeOnOutputs, same_compared, same_filled}
 
 -- a netlist as a circuit, with the inputs and the clock of a machine
-abbrev as_circuit : Netlist → Library → Machine → Circuit
+abbrev as_circuit : AbstractNetlist → Library → Machine → Circuit
 as_circuit k l m = of_netlist k l (inputs m) m.clock
 
 -- valuations of the netlist and of the machine, one for one with the same bits at the ports
-abbrev Together : Netlist → Machine → List Valuation → List (List Bool) → Type 0
+abbrev Together : AbstractNetlist → Machine → List Valuation → List (List Bool) → Type 0
 Together k m [] [] = Unit {0}
 Together k m [] (x ∷ xs) = ⊥
 Together k m (w ∷ ws) [] = ⊥
@@ -37,7 +37,7 @@ Together k m (w ∷ ws) (x ∷ xs) = ShowAlike k m w x × Together k m ws xs
 
 -- ---- from the machine to the netlist
 
-record TakenBy (k : Netlist) (l : Library) (m : Machine) (step : KeepsStep k l m) (r : Bool) (i : List Bool) (t : Contents) (x s : List Bool) : Type 0 where
+record TakenBy (k : AbstractNetlist) (l : Library) (m : Machine) (step : KeepsStep k l m) (r : Bool) (i : List Bool) (t : Contents) (x s : List Bool) : Type 0 where
   w : Valuation
   after : Contents
   takes : Takes r (as_circuit k l m) i t w after
@@ -45,7 +45,7 @@ record TakenBy (k : Netlist) (l : Library) (m : Machine) (step : KeepsStep k l m
   holds : step.held after ≡ s
   same : ShowAlike k m w x
 
-takes_back : (k : Netlist) (l : Library) (m : Machine) (step : KeepsStep k l m) (r : Bool) (i : List Bool) (t : Contents) (x s : List Bool) → FitsContents k l t
+takes_back : (k : AbstractNetlist) (l : Library) (m : Machine) (step : KeepsStep k l m) (r : Bool) (i : List Bool) (t : Contents) (x s : List Bool) → FitsContents k l t
     → Takes r (of_machine m) i (step.held t) x s → TakenBy k l m step r i t x s
 takes_back k l m step false i t x s fits h =
     let b = step.back t i x fits h.0 in
@@ -57,7 +57,7 @@ takes_back k l m step true i t x s fits h =
     let b = step.back u i x (step.stays a.0) (subst (λ (c : List Bool). Settles m c i x) e h.3) in
     record { w = b.0; after = u; takes = (a.0, a.1.net, refl, b.1.net); fits = step.stays a.0; holds = sym e; same = b.1.ports }
 
-observes_back : (k : Netlist) (l : Library) (m : Machine) (step : KeepsStep k l m) (columns : List Column) (patterns : List Pattern) (t : Contents) (before : Bool) (xs : List (List Bool)) → FitsContents k l t
+observes_back : (k : AbstractNetlist) (l : Library) (m : Machine) (step : KeepsStep k l m) (columns : List Column) (patterns : List Pattern) (t : Contents) (before : Bool) (xs : List (List Bool)) → FitsContents k l t
     → Observes (of_machine m) columns (step.held t) before patterns xs → (ws : List Valuation) × Observes (as_circuit k l m) columns t before patterns ws × Together k m ws xs
 observes_back k l m step columns [] t before xs fits h = ([], refl, subst (λ (ys : List (List Bool)). Together k m [] ys) (sym h) tt)
 observes_back k l m step columns (p ∷ rest) t before xs fits h =
@@ -68,12 +68,12 @@ observes_back k l m step columns (p ∷ rest) t before xs fits h =
 
 -- ---- from the netlist to the machine
 
-record TakenOn (k : Netlist) (l : Library) (m : Machine) (step : KeepsStep k l m) (r : Bool) (i : List Bool) (t : Contents) (w : Valuation) (after : Contents) : Type 0 where
+record TakenOn (k : AbstractNetlist) (l : Library) (m : Machine) (step : KeepsStep k l m) (r : Bool) (i : List Bool) (t : Contents) (w : Valuation) (after : Contents) : Type 0 where
   x : List Bool
   takes : Takes r (of_machine m) i (step.held t) x (step.held after)
   same : ShowAlike k m w x
 
-takes_forth : (k : Netlist) (l : Library) (m : Machine) (step : KeepsStep k l m) (r : Bool) (i : List Bool) (t : Contents) (w : Valuation) (u : Contents)
+takes_forth : (k : AbstractNetlist) (l : Library) (m : Machine) (step : KeepsStep k l m) (r : Bool) (i : List Bool) (t : Contents) (w : Valuation) (u : Contents)
     → Takes r (as_circuit k l m) i t w u → TakenOn k l m step r i t w u
 takes_forth k l m step false i t w u h =
     let b = step.forth t i w h.0 in
@@ -83,7 +83,7 @@ takes_forth k l m step true i t w u h =
     let b = step.forth u i w h.3 in
     record { x = b.0; takes = (a.0, a.1.machine, ap step.held h.2 ∙ sym a.1.loads, b.1.machine); same = b.1.ports }
 
-observes_forth : (k : Netlist) (l : Library) (m : Machine) (step : KeepsStep k l m) (columns : List Column) (patterns : List Pattern) (t : Contents) (before : Bool) (ws : List Valuation)
+observes_forth : (k : AbstractNetlist) (l : Library) (m : Machine) (step : KeepsStep k l m) (columns : List Column) (patterns : List Pattern) (t : Contents) (before : Bool) (ws : List Valuation)
     → Observes (as_circuit k l m) columns t before patterns ws → (xs : List (List Bool)) × Observes (of_machine m) columns (step.held t) before patterns xs × Together k m ws xs
 observes_forth k l m step columns [] t before ws h = ([], refl, subst (λ (vs : List Valuation). Together k m vs []) (sym h) tt)
 observes_forth k l m step columns (p ∷ rest) t before ws h =
@@ -94,7 +94,7 @@ observes_forth k l m step columns (p ∷ rest) t before ws h =
 
 -- ---- what is compared and filled in
 
-outputs_agree : (k : Netlist) (m : Machine) (p : Patterns) → AreFor m.ports p → (w : Valuation) (x : List Bool) → ShowAlike k m w x
+outputs_agree : (k : AbstractNetlist) (m : Machine) (p : Patterns) → AreFor m.ports p → (w : Valuation) (x : List Bool) → ShowAlike k m w x
     → AgreeOnOutputs (λ name. bit_of k w.classes (port name)) (value_at m.vars x) p.columns
 outputs_agree k m p for w x e c i out name j =
     elim (All-In (λ (c : Column). IsSupplyColumn c ⊎ IsOfPorts m.ports c) p.columns for.columns c i) [
@@ -105,7 +105,7 @@ outputs_agree k m p for w x e c i out name j =
           e name n
     ]
 
-same_compared_all : (k : Netlist) (l : Library) (m : Machine) (columns : List Column)
+same_compared_all : (k : AbstractNetlist) (l : Library) (m : Machine) (columns : List Column)
     → ((w : Valuation) (x : List Bool) → ShowAlike k m w x → AgreeOnOutputs (λ name. bit_of k w.classes (port name)) (value_at m.vars x) columns)
     → (n : ℕ) (patterns : List Pattern) (ws : List Valuation) (xs : List (List Bool)) → Together k m ws xs
     → compared (as_circuit k l m) columns n patterns ws ≡ compared (of_machine m) columns n patterns xs
@@ -117,7 +117,7 @@ same_compared_all k l m columns agree n (p ∷ rest) (w ∷ ws) (x ∷ xs) t =
     ap (λ (cs : List Compared). cs ++ compared (as_circuit k l m) columns (n + 1) rest ws) (same_compared (λ name. bit_of k w.classes (port name)) (value_at m.vars x) n columns p.values (agree w x t.0))
     ∙ ap (λ (cs : List Compared). compared_values (value_at m.vars x) n columns p.values ++ cs) (same_compared_all k l m columns agree (n + 1) rest ws xs t.1)
 
-same_filled_all : (k : Netlist) (l : Library) (m : Machine) (columns : List Column)
+same_filled_all : (k : AbstractNetlist) (l : Library) (m : Machine) (columns : List Column)
     → ((w : Valuation) (x : List Bool) → ShowAlike k m w x → AgreeOnOutputs (λ name. bit_of k w.classes (port name)) (value_at m.vars x) columns)
     → (patterns : List Pattern) (ws : List Valuation) (xs : List (List Bool)) → Together k m ws xs
     → filled (as_circuit k l m) columns patterns ws ≡ filled (of_machine m) columns patterns xs

@@ -3,7 +3,7 @@ use Rattle.std.proofs.Common.{◌≡◌, ℕ, List, ap, sym, subst, filter}
 use Rattle.std.specs.Prelude.{not}
 use Rattle.vlsi_base.specs.declared.name.Name.{Name}
 use Rattle.vlsi_base.specs.declared.name.Port.{Port}
-use Rattle.machine_meaning.specs.Machine.{Machine, is_input, is_clock, names_of, inputs}
+use Rattle.machine_core.specs.Machine.{Machine, is_input, is_clock, names_of, inputs}
 use Rattle.net_core.specs.declared.pins.ModelPins.{ModelPins}
 use Rattle.net_core.specs.Netlist.{Netlist as InMemory}
 use Rattle.cell_model.specs.Library.{Library}

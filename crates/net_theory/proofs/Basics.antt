@@ -3,7 +3,7 @@ use Rattle.std.proofs.Common.{◌≡◌, ◌⊎◌, inl, inr, ℕ, zero, suc, �
 use Rattle.vlsi_base.specs.declared.name.Name.{Name}
 use Rattle.vlsi_base.specs.declared.name.Port.{Port}
 use Rattle.bool_expr.specs.Expression.{bit}
-use Rattle.machine_meaning.specs.Machine.{is_input, is_clock, names_of}
+use Rattle.machine_core.specs.Machine.{is_input, is_clock, names_of}
 use Rattle.machine_core.proofs.Names.{same_name-true}
 use Rattle.vlsi_base.specs.Member.{In, here, there}
 use Rattle.machine_core.specs.Order.{In as Held, here as held_here, there as held_later}

@@ -2,9 +2,9 @@
 use Rattle.std.proofs.Common.{◌≡◌, inr, ℕ, ◌+◌, ◌<◌, Bool, true, false, List, [], ◌∷◌, length, map, Some, refl, sym, ◌∙◌, ap, subst, arith, if◌then◌else◌}
 use Rattle.std.proofs.lemmas.List.Elements.{recursion_from_All}
 use Rattle.bool_expr.specs.Expression.{bit, val}
-use Rattle.machine_meaning.specs.Named.{is_same_text, value_at}
-use Rattle.machine_meaning.specs.Machine.{Machine, inputs, outputs}
-use Rattle.machine_meaning.specs.Cycles.{Settles, outs, next, AreVectors}
+use Rattle.machine_core.specs.Named.{is_same_text, value_at}
+use Rattle.machine_core.specs.Machine.{Machine, inputs, outputs}
+use Rattle.machine_core.specs.Cycles.{Settles, outs, next, AreVectors}
 use Rattle.machine_core.specs.Checked.{IsChecked}
 use Rattle.machine_core.proofs.Known.{known}
 use Rattle.machine_core.proofs.Solve.{settles_once_known}

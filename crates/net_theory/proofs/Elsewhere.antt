@@ -3,11 +3,11 @@ use Rattle.std.proofs.Common.{◌≡◌, ◌⊎◌, inl, inr, ℕ, ◌<◌, ◌�
 use Rattle.std.proofs.lemmas.Bool.{cases_lt}
 use Rattle.vlsi_base.specs.declared.name.Name.{Name}
 use Rattle.vlsi_base.specs.declared.name.Terminal.{Terminal}
-use Rattle.machine_meaning.specs.Machine.{Machine, inputs, outputs}
+use Rattle.machine_core.specs.Machine.{Machine, inputs, outputs}
 use Rattle.vlsi_base.specs.Member.{In, here, there}
 use Rattle.cell_model.specs.Cell.{Function, gate, flip_flop, other, opaque, Cell, cell_inputs, cell_outputs}
 use Rattle.cell_model.specs.Library.{Library, IsUsable, IsPlain}
-use Rattle.net_meaning.specs.Netlist.{Netlist, port, pin_of, IsTerminal, a_port, a_pin}
+use Rattle.net_meaning.specs.Netlist.{AbstractNetlist, port, pin_of, IsTerminal, a_port, a_pin}
 use Rattle.vlsi_base.specs.Names.{vdd, vss}
 use Rattle.net_meaning.specs.Laws.{AreSame}
 use Rattle.net_meaning.specs.Well.{Has}
@@ -18,7 +18,7 @@ use Rattle.machine_core.specs.Checked.{IsChecked}
 use Rattle.net_theory.proofs.Well.{clock_terminal}
 use Rattle.net_theory.proofs.Seats.{seat_has, input_terminal, output_terminal}
 
-module _ (n : Sourced) (k : Netlist) (l : Library) (m : Machine) (f : Values) (r : Roots) (checked : IsChecked m) (h : Shows n l m f r) (same : AreSame l n.netlist k) (counted : IsCounted l k) where
+module _ (n : Sourced) (k : AbstractNetlist) (l : Library) (m : Machine) (f : Values) (r : Roots) (checked : IsChecked m) (h : Shows n l m f r) (same : AreSame l n.netlist k) (counted : IsCounted l k) where
   abbrev source_at : (c : ℕ) → (c < k.classes) ⊎ (k.classes ≤ c) → Source
   source_at c (inl below) = n.source (n.netlist.class (counted.used c below).0)
   source_at c (inr past) = high

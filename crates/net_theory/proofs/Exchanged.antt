@@ -3,11 +3,11 @@ use Rattle.std.proofs.Common.{◌≡◌, ◌⊎◌, inl, inr, ℕ, ◌+◌, List
 use Rattle.vlsi_base.specs.declared.name.Name.{Name}
 use Rattle.vlsi_base.specs.declared.name.Port.{Port}
 use Rattle.vlsi_base.specs.declared.name.Terminal.{Terminal}
-use Rattle.machine_meaning.specs.Machine.{Machine, inputs, is_input, names_of}
+use Rattle.machine_core.specs.Machine.{Machine, inputs, is_input, names_of}
 use Rattle.vlsi_base.specs.Member.{In}
 use Rattle.cell_model.specs.Cell.{Function, gate, flip_flop, other, opaque, Cell, pin_ports, cell_inputs, cell_outputs}
 use Rattle.cell_model.specs.Library.{Library, cell_of, IsUsable}
-use Rattle.net_meaning.specs.Netlist.{Member, Netlist, port, pin_of, IsTerminal, a_port, a_pin}
+use Rattle.net_meaning.specs.Netlist.{Member, AbstractNetlist, port, pin_of, IsTerminal, a_port, a_pin}
 use Rattle.vlsi_base.specs.Names.{vdd, vss}
 use Rattle.net_meaning.specs.Well.{IsGateName, named_g, named_b}
 use Rattle.net_theory.specs.Sources.{Source, high, low, ticking, node, Values, Seat, Roots, Sourced, source_of, pin_sources, Plays, IsSeated, ComesFrom, Shows}
@@ -23,7 +23,7 @@ means_behind m f r q origin means held output load = record {
   loaded = λ i s w settled k within. ap (f i s) (load k within) ∙ means.loaded i s w settled k within;
 }
 
-module _ (n : Sourced) (k : Netlist) (l : Library) (m : Machine) (f : Values) (r : Roots) (h : Shows n l m f r) (x : IsExchanged l n.netlist k) where
+module _ (n : Sourced) (k : AbstractNetlist) (l : Library) (m : Machine) (f : Values) (r : Roots) (h : Shows n l m f r) (x : IsExchanged l n.netlist k) where
   abbrev there : Sourced
   there = record { netlist = k; source = n.source; rank = n.rank }
 

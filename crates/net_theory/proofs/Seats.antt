@@ -2,11 +2,11 @@
 use Rattle.std.proofs.Common.{◌≡◌, ◌≢◌, ◌⊎◌, inl, inr, ℕ, ◌≤◌, List, [], ◌∷◌, length, map, Some, refl, sym, subst, arith}
 use Rattle.vlsi_base.specs.declared.name.Name.{Name}
 use Rattle.vlsi_base.specs.declared.name.Terminal.{Terminal}
-use Rattle.machine_meaning.specs.Machine.{Machine, inputs, outputs, names_of}
+use Rattle.machine_core.specs.Machine.{Machine, inputs, outputs, names_of}
 use Rattle.vlsi_base.specs.Member.{In, here, there}
 use Rattle.cell_model.specs.Cell.{Function, gate, flip_flop, other, opaque, Cell, pin_ports, cell_inputs, cell_outputs}
 use Rattle.cell_model.specs.Library.{Library, cell_of, IsUsable, IsPlain}
-use Rattle.net_meaning.specs.Netlist.{Member, Netlist, port, pin_of, IsTerminal, a_port, a_pin}
+use Rattle.net_meaning.specs.Netlist.{Member, AbstractNetlist, port, pin_of, IsTerminal, a_port, a_pin}
 use Rattle.vlsi_base.specs.Names.{vdd, vss}
 use Rattle.net_meaning.specs.Well.{Has, IsClockPin, a_clock_pin}
 use Rattle.net_theory.specs.Sources.{Source, high, low, ticking, node, Values, Seat, Roots, Sourced, source_of, pin_sources, Plays, Shows}
@@ -93,13 +93,13 @@ above n m f r p c (other machine) h = absurd h
 above n m f r p c opaque h = absurd h
 
 -- the pins of a cell are terminals
-pub pin_terminal : (n : Netlist) (l : Library) (i : Member) (c : Cell) (name : Name) → Has n l i c → IsUsable c → In name (names_of (pin_ports c)) → IsTerminal n l (pin_of i.name name)
+pub pin_terminal : (n : AbstractNetlist) (l : Library) (i : Member) (c : Cell) (name : Name) → Has n l i c → IsUsable c → In name (names_of (pin_ports c)) → IsTerminal n l (pin_of i.name name)
 pin_terminal n l i c name has usable h = a_pin i c has.listed has.found ((usable.connectors name).1 (inr (inr h)))
 
-pub output_terminal : (n : Netlist) (l : Library) (i : Member) (c : Cell) (name : Name) → Has n l i c → IsUsable c → In name (cell_outputs c) → IsTerminal n l (pin_of i.name name)
+pub output_terminal : (n : AbstractNetlist) (l : Library) (i : Member) (c : Cell) (name : Name) → Has n l i c → IsUsable c → In name (cell_outputs c) → IsTerminal n l (pin_of i.name name)
 output_terminal n l i c name has usable h = pin_terminal n l i c name has usable (In-names _ (pin_ports c) name h)
 
-pub input_terminal : (n : Netlist) (l : Library) (i : Member) (c : Cell) (name : Name) → Has n l i c → IsUsable c → In name (cell_inputs c) → IsTerminal n l (pin_of i.name name)
+pub input_terminal : (n : AbstractNetlist) (l : Library) (i : Member) (c : Cell) (name : Name) → Has n l i c → IsUsable c → In name (cell_inputs c) → IsTerminal n l (pin_of i.name name)
 input_terminal n l i c name has usable h = pin_terminal n l i c name has usable (In-names _ (pin_ports c) name h)
 
 -- what source a terminal has, and why

@@ -3,7 +3,7 @@ use Rattle.std.proofs.Common.{◌≡◌, inl, inr, ℕ, zero, suc, ◌+◌, ◌<
 use Rattle.vlsi_base.specs.declared.name.Name.{Name}
 use Rattle.vlsi_base.specs.declared.name.Terminal.{Terminal}
 use Rattle.bool_expr.specs.Expression.{bit, val}
-use Rattle.machine_meaning.specs.Machine.{Machine, inputs}
+use Rattle.machine_core.specs.Machine.{Machine, inputs}
 use Rattle.machine_core.specs.Checked.{IsChecked}
 use Rattle.vlsi_base.specs.Member.{In, here, there}
 use Rattle.cell_model.specs.Cell.{Function, gate, flip_flop, other, opaque, Cell, cell_inputs, cell_outputs}

@@ -4,13 +4,13 @@ use Rattle.std.proofs.lemmas.Bool.{cases_lt}
 use Rattle.vlsi_base.specs.declared.name.Name.{Name}
 use Rattle.vlsi_base.specs.declared.name.Terminal.{Terminal}
 use Rattle.bool_expr.specs.Expression.{val}
-use Rattle.machine_meaning.specs.Machine.{Machine, inputs, outputs, names_of}
+use Rattle.machine_core.specs.Machine.{Machine, inputs, outputs, names_of}
 use Rattle.machine_core.specs.Checked.{IsChecked}
 use Rattle.sym_shapes.specs.Shape.{connector_names}
 use Rattle.vlsi_base.specs.Member.{In, here, there}
 use Rattle.cell_model.specs.Cell.{Function, gate, flip_flop, other, opaque, Cell, pin_ports, cell_inputs, cell_outputs}
 use Rattle.cell_model.specs.Library.{Library, cell_of, IsUsable, IsPlain}
-use Rattle.net_meaning.specs.Netlist.{Member, Netlist, port, pin_of, IsTerminal, a_port, a_pin}
+use Rattle.net_meaning.specs.Netlist.{Member, AbstractNetlist, port, pin_of, IsTerminal, a_port, a_pin}
 use Rattle.vlsi_base.specs.Names.{vdd, vss}
 use Rattle.net_meaning.specs.Well.{Has}
 use Rattle.net_theory.specs.Sources.{Source, high, low, ticking, node, Values, Seat, Roots, Sourced, source_of, pin_sources, Plays, IsSeated, ComesFrom, Shows}
@@ -47,7 +47,7 @@ not_same x y low_one = by (nat_eq x y) refl where
   by true e = let same = eqb-true x y e in absurd (omega (arith, same, low_one))
   by false e = refl
 
-module _ (n : Sourced) (k : Netlist) (l : Library) (m : Machine) (f : Values) (r q : Roots) (moved : Terminal → Bool) (a fresh : ℕ) (h : Shows n l m f r) (is_fresh : IsFresh n l m f r h fresh) (x : IsSplit n k l m moved a fresh r q) where
+module _ (n : Sourced) (k : AbstractNetlist) (l : Library) (m : Machine) (f : Values) (r q : Roots) (moved : Terminal → Bool) (a fresh : ℕ) (h : Shows n l m f r) (is_fresh : IsFresh n l m f r h fresh) (x : IsSplit n k l m moved a fresh r q) where
   abbrev split : Sourced
   split = split_netlist n k a fresh
 

@@ -1,11 +1,11 @@
 -- Changes of a netlist that keep what it shows: cells of other drives, and nodes behind buffers.
 use Rattle.std.specs.Prelude.{◌≡◌, ℕ, ◌+◌, ◌<◌, Bool, List, map, length, Some}
 use Rattle.bool_expr.specs.Expression.{val}
-use Rattle.machine_meaning.specs.Machine.{Machine, inputs, outputs}
+use Rattle.machine_core.specs.Machine.{Machine, inputs, outputs}
 use Rattle.vlsi_base.specs.Member.{In}
 use Rattle.cell_model.specs.Cell.{Function, gate, flip_flop, Cell, pin_ports}
 use Rattle.cell_model.specs.Library.{Library, cell_of, IsUsable}
-use Rattle.net_meaning.specs.Netlist.{Member, Netlist}
+use Rattle.net_meaning.specs.Netlist.{Member, AbstractNetlist}
 use Rattle.net_theory.specs.Sources.{Values, Roots, Sourced, Shows}
 use Rattle.net_theory.specs.Meaning.{Means}
 
@@ -21,7 +21,7 @@ pub record IsDrive (c d : Cell) : Type 0 where
   pub function : IsSameFunction c.function d.function
 
 -- the second netlist has, for each instance, one of the same name whose cell is a drive of its cell
-pub record IsExchanged (l : Library) (n k : Netlist) : Type 0 where
+pub record IsExchanged (l : Library) (n k : AbstractNetlist) : Type 0 where
   pub ports : k.ports ≡ n.ports
   pub classes : k.classes ≡ n.classes
   pub class : k.class ≡ n.class
@@ -33,7 +33,7 @@ pub record IsExchanged (l : Library) (n k : Netlist) : Type 0 where
 
 -- what a netlist shows, it still shows once cells are exchanged for drives of them
 abbrev pub ShownExchanged : Type 0
-ShownExchanged = (n : Sourced) (k : Netlist) (l : Library) (m : Machine) (f : Values) (r : Roots)
+ShownExchanged = (n : Sourced) (k : AbstractNetlist) (l : Library) (m : Machine) (f : Values) (r : Roots)
     → Shows n l m f r → IsExchanged l n.netlist k
     → Shows (record { netlist = k; source = n.source; rank = n.rank }) l m f r
 

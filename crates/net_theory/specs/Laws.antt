@@ -1,10 +1,10 @@
 -- What is true of each netlist that shows nodes with the meaning of a machine.
 use Rattle.std.specs.Prelude.{◌≡◌, ℕ, ◌<◌}
 use Rattle.vlsi_base.specs.declared.name.Terminal.{Terminal}
-use Rattle.machine_meaning.specs.Machine.{Machine}
+use Rattle.machine_core.specs.Machine.{Machine}
 use Rattle.machine_core.specs.Checked.{IsChecked}
 use Rattle.cell_model.specs.Library.{Library}
-use Rattle.net_meaning.specs.Netlist.{Netlist, IsTerminal}
+use Rattle.net_meaning.specs.Netlist.{AbstractNetlist, IsTerminal}
 use Rattle.net_meaning.specs.Laws.{AreSame}
 use Rattle.net_meaning.specs.Well.{IsWell}
 use Rattle.net_meaning.specs.Agreement.{Agrees}
@@ -22,12 +22,12 @@ ShownAgrees = (n : Sourced) (l : Library) (m : Machine) (f : Values) (r : Roots)
     → IsChecked m → Shows n l m f r → Means m f r → Agrees n.netlist l m
 
 -- the classes of a netlist are numbered without a gap
-pub record IsCounted (l : Library) (n : Netlist) : Type 0 where
+pub record IsCounted (l : Library) (n : AbstractNetlist) : Type 0 where
   pub numbered : (t : Terminal) → IsTerminal n l t → n.class t < n.classes
   pub used : (k : ℕ) → k < n.classes → (t : Terminal) × IsTerminal n l t × (n.class t ≡ k)
 
 -- What a netlist shows doesn't hang on how its classes are numbered: another one that ties the same terminals shows it too.
 abbrev pub ShownElsewhere : Type 0
-ShownElsewhere = (n : Sourced) (k : Netlist) (l : Library) (m : Machine) (f : Values) (r : Roots)
+ShownElsewhere = (n : Sourced) (k : AbstractNetlist) (l : Library) (m : Machine) (f : Values) (r : Roots)
     → IsChecked m → Shows n l m f r → AreSame l n.netlist k → IsCounted l k
     → (source : (ℕ → Source)) × Shows (record { netlist = k; source = source; rank = n.rank }) l m f r

@@ -1,8 +1,8 @@
 -- When nodes have the meaning of a machine.
 use Rattle.std.specs.Prelude.{◌≡◌, ℕ, ◌+◌, ◌<◌, Bool, List, length}
 use Rattle.bool_expr.specs.Expression.{bit}
-use Rattle.machine_meaning.specs.Machine.{Machine, inputs, outputs}
-use Rattle.machine_meaning.specs.Cycles.{Settles, outs, next}
+use Rattle.machine_core.specs.Machine.{Machine, inputs, outputs}
+use Rattle.machine_core.specs.Cycles.{Settles, outs, next}
 use Rattle.net_theory.specs.Sources.{Values, Roots, AreHeld}
 
 -- The first nodes are the inputs and the registers; and wherever the machine settles, the roots have the bits of its

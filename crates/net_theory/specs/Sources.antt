@@ -4,11 +4,11 @@ use Prim.Native.Nat.{zero, suc}
 use Rattle.vlsi_base.specs.declared.name.Name.{Name}
 use Rattle.vlsi_base.specs.declared.name.Terminal.{Terminal}
 use Rattle.bool_expr.specs.Expression.{Expression, val}
-use Rattle.machine_meaning.specs.Machine.{Machine, inputs, outputs, names_of}
+use Rattle.machine_core.specs.Machine.{Machine, inputs, outputs, names_of}
 use Rattle.vlsi_base.specs.Member.{In}
 use Rattle.cell_model.specs.Cell.{Function, gate, flip_flop, other, opaque, Cell, cell_inputs, cell_outputs}
 use Rattle.cell_model.specs.Library.{Library, cell_of, IsUsable}
-use Rattle.net_meaning.specs.Netlist.{Member, Netlist, port, pin_of, IsTerminal}
+use Rattle.net_meaning.specs.Netlist.{Member, AbstractNetlist, port, pin_of, IsTerminal}
 use Rattle.vlsi_base.specs.Names.{vdd, vss}
 use Rattle.net_meaning.specs.Agreement.{register_instance}
 use Rattle.net_meaning.specs.Well.{IsGateName}
@@ -47,7 +47,7 @@ pub record Roots : Type 0 where
 
 -- a netlist whose classes have sources, in an order of the nodes
 pub record Sourced : Type 0 where
-  pub netlist : Netlist
+  pub netlist : AbstractNetlist
   pub source : ℕ → Source
   pub rank : ℕ → ℕ
 

@@ -4,12 +4,12 @@ use Prim.Native.Nat.{suc}
 use Rattle.vlsi_base.specs.declared.name.Name.{Name}
 use Rattle.vlsi_base.specs.declared.name.Terminal.{Terminal}
 use Rattle.bool_expr.specs.Expression.{Expression, val}
-use Rattle.machine_meaning.specs.Machine.{Machine, inputs}
+use Rattle.machine_core.specs.Machine.{Machine, inputs}
 use Rattle.machine_core.specs.Checked.{IsChecked}
 use Rattle.vlsi_base.specs.Member.{In}
 use Rattle.cell_model.specs.Cell.{gate, flip_flop, Cell, cell_inputs, cell_outputs}
 use Rattle.cell_model.specs.Library.{Library, cell_of, IsUsable}
-use Rattle.net_meaning.specs.Netlist.{Member, Netlist, port, pin_of, IsTerminal}
+use Rattle.net_meaning.specs.Netlist.{Member, AbstractNetlist, port, pin_of, IsTerminal}
 use Rattle.vlsi_base.specs.Names.{vdd, vss}
 use Rattle.net_meaning.specs.Agreement.{register_instance}
 use Rattle.net_meaning.specs.Well.{Has, IsGateName}
@@ -31,7 +31,7 @@ pub record IsBuffer (l : Library) (b : Member) (c : Cell) : Type 0 where
 
 -- The second netlist has one buffer more, which reads the class of node a. The sinks that are moved leave that class for
 -- a new one, which the buffer drives; it shows a new node.
-pub record IsSplit (n : Sourced) (k : Netlist) (l : Library) (m : Machine) (moved : Terminal → Bool) (a fresh : ℕ) (r q : Roots)
+pub record IsSplit (n : Sourced) (k : AbstractNetlist) (l : Library) (m : Machine) (moved : Terminal → Bool) (a fresh : ℕ) (r q : Roots)
     : Type 0 where
   pub buffer : Member
   pub cell : Cell
@@ -59,7 +59,7 @@ pub record IsSplit (n : Sourced) (k : Netlist) (l : Library) (m : Machine) (move
 abbrev pub split_origin : ℕ → ℕ → ℕ → ℕ
 split_origin a fresh x = if nat_eq x fresh then a else x
 
-abbrev pub split_netlist : Sourced → Netlist → ℕ → ℕ → Sourced
+abbrev pub split_netlist : Sourced → AbstractNetlist → ℕ → ℕ → Sourced
 split_netlist n k a fresh = record {
   netlist = k;
   source = λ c. if nat_eq c n.netlist.classes then node fresh else n.source c;
@@ -72,7 +72,7 @@ IsFresh n l m f r h fresh = (length (inputs m) + length m.registers ≤ fresh) �
 
 -- a netlist with one buffer more shows the nodes, and one more, which stands for that of the class
 abbrev pub ShownSplit : Type 0
-ShownSplit = (n : Sourced) (k : Netlist) (l : Library) (m : Machine) (f : Values) (r q : Roots)
+ShownSplit = (n : Sourced) (k : AbstractNetlist) (l : Library) (m : Machine) (f : Values) (r q : Roots)
     (moved : Terminal → Bool) (a fresh : ℕ) (h : Shows n l m f r)
     → IsChecked m → IsFresh n l m f r h fresh → IsSplit n k l m moved a fresh r q
     → Shows (split_netlist n k a fresh) l m (standing_for (split_origin a fresh) f) q

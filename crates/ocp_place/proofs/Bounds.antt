@@ -7,7 +7,7 @@ use Rattle.std.proofs.lemmas.Option.{same_Some}
 use Rattle.vlsi_base.specs.declared.name.Name.{Name}
 use Rattle.vlsi_base.specs.declared.name.Port.{Port}
 use Rattle.vlsi_base.specs.Member.{In, here, there}
-use Rattle.machine_meaning.specs.Machine.{names_of, is_input}
+use Rattle.machine_core.specs.Machine.{names_of, is_input}
 use Rattle.sym_geom.specs.declared.grid.TheConstants.{FIRST_CELL_X}
 use Rattle.cell_model.specs.Access.{Point, access_point}
 use Rattle.cell_model.specs.Cell.{Cell, cell_width, pin_ports, cell_outputs}
@@ -17,7 +17,7 @@ use Rattle.cell_model.proofs.Members.{In-split, In-map, In-map_back, All-from}
 use Rattle.cell_checks.specs.Checks.{StandsInRow}
 use Rattle.cell_checks.specs.Checked.{IsChecked as HasPassed}
 use Rattle.cell_pins.proofs.Ports.{in_filter}
-use Rattle.net_meaning.specs.Netlist.{Member, Netlist, pin_of, a_pin}
+use Rattle.net_meaning.specs.Netlist.{Member, AbstractNetlist, pin_of, a_pin}
 use Rattle.ocp_rows.specs.Placement.{model_width, width_of, row_width}
 use Rattle.ocp_place.specs.declared.row.Row.{Row}
 use Rattle.ocp_place.specs.declared.row.Site.{Site as Placed}
@@ -41,7 +41,7 @@ row_up l (one ∷ rest) each =
     sum a b h g = omega (arith, ints)
 
 -- the pin of a site
-pub record IsOwn (k : Netlist) (l : Library) (end : ℤ) (ms : List Member) (s : Site) : Type 0 where
+pub record IsOwn (k : AbstractNetlist) (l : Library) (end : ℤ) (ms : List Member) (s : Site) : Type 0 where
   pub owner : Member
   pub cell : Cell
   pub pin : Name
@@ -54,7 +54,7 @@ pub record IsOwn (k : Netlist) (l : Library) (end : ℤ) (ms : List Member) (s :
   pub is : s ≡ site (k.class (pin_of owner.name pin)) (reached.0 +ℤ start, reached.1)
   pub upto : (start +ℤ cell_width cell) ≤ℤ end
 
-own_here : (k : Netlist) (l : Library) (x : ℤ) (one : Member) (rest : List Member) (s : Site) → ((m : Member) → In m rest → pos 0 ≤ℤ model_width l m.model)
+own_here : (k : AbstractNetlist) (l : Library) (x : ℤ) (one : Member) (rest : List Member) (s : Site) → ((m : Member) → In m rest → pos 0 ≤ℤ model_width l m.model)
     → (o : Option Cell) → cell_of l one.model ≡ o → In s (own_sites k x one.name o) → IsOwn k l (x +ℤ row_width l (one ∷ rest)) (one ∷ rest) s
 own_here k l x one rest s each None found i = elim i [ ]
 own_here k l x one rest s each (Some c) found i =
@@ -85,7 +85,7 @@ own_here k l x one rest s each (Some c) found i =
       upto = up x (cell_width c) (model_width l one.model) (row_width l rest) (ap width_of (sym found)) (row_up l rest each);
     }
 
-pub own_back : (k : Netlist) (l : Library) (x : ℤ) (ms : List Member) (s : Site) → ((m : Member) → In m ms → pos 0 ≤ℤ model_width l m.model) → In s (row_sites k l x ms)
+pub own_back : (k : AbstractNetlist) (l : Library) (x : ℤ) (ms : List Member) (s : Site) → ((m : Member) → In m ms → pos 0 ≤ℤ model_width l m.model) → In s (row_sites k l x ms)
     → IsOwn k l (x +ℤ row_width l ms) ms s
 own_back k l x [] s each i = elim i [ ]
 own_back k l x (one ∷ rest) s each i =
@@ -126,7 +126,7 @@ starts_low l x (one ∷ rest) each z i = by z i (starts_low l (x +ℤ model_widt
   by z here next = up x (row_width l (one ∷ rest)) (row_up l (one ∷ rest) each)
   by z (there j) next = shift z x (model_width l one.model) (row_width l rest) (next z j)
 
-module _ (k : Netlist) (l : Library) (plain : HasPassed false l) (orderly : IsOrderly k l) where
+module _ (k : AbstractNetlist) (l : Library) (plain : HasPassed false l) (orderly : IsOrderly k l) where
   usable : (one : Member) (c : Cell) → In one k.instances → cell_of l one.model ≡ Some c → IsUsable c
   usable one c i found = let r = orderly.models one i in subst (λ (x : Cell). IsUsable x) (same_Some r.0 c (sym r.1 ∙ found)) r.2
 

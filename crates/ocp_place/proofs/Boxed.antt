@@ -7,7 +7,7 @@ use Rattle.std.proofs.lemmas.Option.{same_Some}
 use Rattle.vlsi_base.specs.declared.name.Name.{Name}
 use Rattle.vlsi_base.specs.declared.name.Port.{Port}
 use Rattle.vlsi_base.specs.Member.{In, here, there}
-use Rattle.machine_meaning.specs.Machine.{names_of}
+use Rattle.machine_core.specs.Machine.{names_of}
 use Rattle.sym_geom.specs.declared.grid.TheConstants.{PITCH}
 use Rattle.cell_model.specs.Cell.{Cell, cell_width, cell_height}
 use Rattle.cell_model.specs.Access.{Point, count_to, grid_lines, grid_points, is_access_node, access_nodes, access_point}

@@ -6,7 +6,8 @@ use Rattle.std.proofs.lemmas.Int.{ints, by_lt_z, int_min_is, int_max_is}
 use Rattle.vlsi_base.specs.Member.{In, here, there}
 use Rattle.cell_model.specs.Access.{Point}
 use Rattle.cell_model.proofs.Members.{In-map, In-map_back}
-use Rattle.ocp_rows.specs.Length.{least, greatest, natural, extent, half_box}
+use Rattle.ocp_rows.specs.Placement.{natural}
+use Rattle.ocp_rows.specs.Length.{least, greatest, extent, half_box}
 
 min_is : (x y : ℤ) → (int_min x y ≡ x) ⊎ (int_min x y ≡ y)
 min_is x y = by_lt_z x y (λ a. inl (let b = int_min_is x y in omega (arith, ints))) (λ a. inr (let b = int_min_is x y in omega (arith, ints)))

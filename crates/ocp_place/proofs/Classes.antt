@@ -3,12 +3,12 @@ use Rattle.std.proofs.Common.{◌≡◌, ℕ, zero, suc, Bool, true, false, cond
 use Rattle.std.specs.Cmp.Lexicographic.{bytes_decides}
 use Rattle.vlsi_base.specs.declared.name.Name.{Name}
 use Rattle.vlsi_base.specs.declared.name.Terminal.{Terminal}
-use Rattle.machine_meaning.specs.Named.{is_same_text, is_same_name}
+use Rattle.machine_core.specs.Named.{is_same_text, is_same_name}
 use Rattle.net_core.specs.Places.{Stands, NoneTwice}
 use Rattle.net_core.specs.Netlist.{Netlist as InMemory, IsNetlist, terminals}
 use Rattle.net_core.proofs.Finishing.{netlist_terminals_once}
-use Rattle.net_meaning.specs.Netlist.{Netlist}
-use Rattle.net_view.specs.View.{netlist_by, IsSeenAs}
+use Rattle.net_meaning.specs.Netlist.{AbstractNetlist}
+use Rattle.net_right.specs.View.{netlist_by, IsSeenAs}
 use Rattle.net_drawing.proofs.Coding.{same_name_true, same_name_itself}
 
 abbrev same_owner : Option (List ℕ) → Option (List ℕ) → Bool
@@ -67,7 +67,7 @@ class_in_is (u ∷ ts) (d ∷ cs) h (suc k) t c p q = by (same_terminal u t) ref
       let w = h 0 (suc k) t (ap Some same) p in absurd (omega (arith, w))
 
 -- one of the netlists that it is seen as
-abbrev pub known : InMemory → Netlist
+abbrev pub known : InMemory → AbstractNetlist
 known n = netlist_by (λ t. class_in (terminals n) n.classes t) n
 
 pub known_seen : (n : InMemory) → IsNetlist n → IsSeenAs n (known n)

@@ -18,9 +18,9 @@ use Rattle.net_core.proofs.Finishing.{netlist_terminals_once}
 use Rattle.net_core.proofs.Namings.{turn_reached}
 use Rattle.net_core.proofs.Rings.{class_below, at_place}
 use Rattle.net_core.proofs.Classes.{roles_length}
-use Rattle.net_view.proofs.Lists.{zip_place}
-use Rattle.net_view.proofs.Tallies.{in_class, weighed, drives, output_port, input_pin, clock_pin, drivers_are, output_ports_are, input_pins_are, clock_pins_are, some_weigh, weighs_place}
-use Rattle.net_view.proofs.Places.{Does, Placed, members, member_at, member_place}
+use Rattle.net_right.proofs.Lists.{zip_place}
+use Rattle.net_right.proofs.Tallies.{in_class, weighed, drives, output_port, input_pin, clock_pin, drivers_are, output_ports_are, input_pins_are, clock_pins_are, some_weigh, weighs_place}
+use Rattle.net_right.proofs.Places.{Does, Placed, members, member_at, member_place}
 
 abbrev class_of : Role × ℕ → ℕ
 class_of m = m.1

@@ -8,7 +8,7 @@ use Rattle.std.proofs.lemmas.List.Folds.{length-flat_map-take}
 use Rattle.std.proofs.lemmas.Option.{slice_get_within, slice_get-get_or, get_or_from_slice_get}
 use Rattle.vlsi_base.specs.declared.name.Name.{Name}
 use Rattle.vlsi_base.specs.declared.name.Port.{Port}
-use Rattle.machine_meaning.specs.Machine.{names_of}
+use Rattle.machine_core.specs.Machine.{names_of}
 use Rattle.sym_geom.specs.declared.grid.TheConstants.{FIRST_CELL_X}
 use Rattle.cell_model.specs.Cell.{Cell, pin_ports}
 use Rattle.cell_model.specs.Library.{Library, cell_of}
@@ -25,9 +25,9 @@ use Rattle.net_core.specs.Netlist.{Instance, Netlist as InMemory, IsNetlist, ter
 use Rattle.net_core.specs.Netlist as core
 use Rattle.net_core.specs.Frame.{instance_of, node_pins, AreNumbered}
 use Rattle.net_core.proofs.Frames.{mapped, terminals_count}
-use Rattle.net_meaning.specs.Netlist.{Member, Netlist}
-use Rattle.net_view.specs.View.{IsSeenAs, member_of}
-use Rattle.net_view.proofs.Terminals.{seen_instances}
+use Rattle.net_meaning.specs.Netlist.{Member, AbstractNetlist}
+use Rattle.net_right.specs.View.{IsSeenAs, member_of}
+use Rattle.net_right.proofs.Terminals.{seen_instances}
 use Rattle.ocp_rows.specs.Placement.{width_of, row_width}
 use Rattle.ocp_place.specs.declared.reach.Reach.{Reach}
 use Rattle.ocp_place.specs.declared.reach.PinReach.{PinReach}
@@ -43,7 +43,7 @@ use Rattle.ocp_place.proofs.Seen.{own_cell}
 use Rattle.ocp_place.proofs.RowSteps.{sites_push, starts_push, driven_push, widened, HasClasses, reached_are, drivers_are, class_there}
 
 -- the first so many instances of a netlist, as a row has them
-pub record IsRowTo (k : Netlist) (l : Library) (count : ℕ) (r : Row) : Type 0 where
+pub record IsRowTo (k : AbstractNetlist) (l : Library) (count : ℕ) (r : Row) : Type 0 where
   pub starts : map pos r.starts.items ≡ row_starts l (pos FIRST_CELL_X) (take count k.instances)
   pub sites : map site_of r.sites.items ≡ row_sites k l (pos FIRST_CELL_X) (take count k.instances)
   pub drivers : r.drivers.items ≡ driven k l (take count k.instances)
@@ -146,7 +146,7 @@ module _ (l : Library) (n : InMemory) (plain : HasPassed false l) (given : IsDra
         short_pins has.cell x r.width has.row has.reach.width (omega (arith, low, narrow)) (pin_ports has.cell) r.pins.items has.reach.pins
 
     -- one more instance
-    pub next : (k : Netlist) → IsSeenAs n k → (x : ℕ) (old new : Row) → x ≡ FIRST_CELL_X + old.width → IsPutAt old new r own x → IsRowTo k l i old → IsRowTo k l (i + 1) new
+    pub next : (k : AbstractNetlist) → IsSeenAs n k → (x : ℕ) (old new : Row) → x ≡ FIRST_CELL_X + old.width → IsPutAt old new r own x → IsRowTo k l i old → IsRowTo k l (i + 1) new
     next k seen x old new x_is put so_far =
         let ms = take i k.instances in
         let one : Member = member_of (instance_of n.models node) in

@@ -8,8 +8,8 @@ use Rattle.vlsi_base.specs.declared.name.Name.{Name}
 use Rattle.vlsi_base.specs.declared.name.Terminal.{Terminal}
 use Rattle.vlsi_base.specs.Names.{vdd, vss}
 use Rattle.vlsi_base.specs.Member.{In, here, there}
-use Rattle.machine_meaning.specs.Machine.{names_of}
-use Rattle.machine_meaning.specs.Named.{is_same_text}
+use Rattle.machine_core.specs.Machine.{names_of}
+use Rattle.machine_core.specs.Named.{is_same_text}
 use Rattle.sym_geom.specs.declared.grid.TheConstants.{FIRST_CELL_X}
 use Rattle.sym_geom.specs.declared.rect.Transform.TheVariants.{NoSym}
 use Rattle.sym_shapes.specs.Shape.{connector_names}
@@ -18,7 +18,7 @@ use Rattle.cell_model.specs.Library.{Library, cell_of, IsUsable}
 use Rattle.cell_model.specs.Access.{Point, count_to, access_point}
 use Rattle.cell_model.proofs.Members.{In-split, In-left, In-right, In-map, In-map_back}
 use Rattle.cell_model.proofs.Texts.{text_same, text_itself, text_differs}
-use Rattle.net_meaning.specs.Netlist.{Member, Netlist, port, pin_of, IsTerminal, a_pin}
+use Rattle.net_meaning.specs.Netlist.{Member, AbstractNetlist, port, pin_of, IsTerminal, a_pin}
 use Rattle.ocp_rows.specs.Placement.{model_width, standing}
 use Rattle.ocp_rows.specs.Length.{shown_point, instance_point, pin_point, point_of, cell_terminals, terminals, net_points, half_box, half_perimeter}
 use Rattle.ocp_place.specs.Nets.{is_signal, signal_ports, port_classes}
@@ -43,7 +43,7 @@ shown c x model name a =
 abbrev HasPin : Library → List Member → List ℕ → Name → Type 0
 HasPin l ms owner name = (i : Member) (c : Cell) → In i ms → i.name ≡ owner → cell_of l i.model ≡ Some c → In name (names_of (pin_ports c))
 
-module _ (n : Netlist) (l : Library) where
+module _ (n : AbstractNetlist) (l : Library) where
   -- a pin's point is that of a site
   shown_back : (x : ℤ) (one : Member) (rest : List Member) (name : Name) (q : Point) (o : Option Cell) → cell_of l one.model ≡ o
       → ((c : Cell) → o ≡ Some c → In name (names_of (pin_ports c)))
@@ -144,7 +144,7 @@ module _ (n : Netlist) (l : Library) where
             (text_differs one.name s.owner.name (first_differs one rest names s.owner s.listed)) ∙ s.at;
       }
 
-module _ (n : Netlist) (l : Library) (orderly : IsOrderly n l) where
+module _ (n : AbstractNetlist) (l : Library) (orderly : IsOrderly n l) where
   abbrev sites : List Site
   sites = port_sites 0 (port_classes n) ++ pin_sites n l
 

@@ -8,7 +8,7 @@ use Rattle.vlsi_base.specs.Member.{In, here, there, AllDifferent}
 use Rattle.cell_model.proofs.Members.{In-split, place-In}
 use Rattle.cell_pins.proofs.Ports.{in_filter, before_itself}
 use Rattle.net_meaning.specs.Netlist.{Member}
-use Rattle.net_view.proofs.Lists.{filter_in}
+use Rattle.net_right.proofs.Lists.{filter_in}
 
 pub different_append : {A : Type 0} (xs ys : List A) → AllDifferent xs → AllDifferent ys → ((x : A) → In x xs → In x ys → ⊥) → AllDifferent (xs ++ ys)
 different_append [] ys dx dy apart = dy

@@ -14,7 +14,7 @@ use Rattle.cell_checks.specs.Checks.{StandsInRow}
 use Rattle.cell_checks.specs.Checked.{IsChecked as HasPassed}
 use Rattle.cell_checks.specs.Verdict.{IsVerdict}
 use Rattle.cell_checks.proofs.Tracks.{passes_without_tracks}
-use Rattle.net_view.proofs.Models.{named_cell}
+use Rattle.net_right.proofs.Models.{named_cell}
 
 -- without the check of columns
 pub plain_library : (l : Library) → HasPassed true l → HasPassed false l

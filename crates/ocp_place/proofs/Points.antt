@@ -5,11 +5,11 @@ use Rattle.std.proofs.lemmas.Bool.{cond-true, cond-false, eqb-true, eq-eqb}
 use Rattle.std.proofs.lemmas.Option.{same_Some}
 use Rattle.vlsi_base.specs.declared.name.Name.{Name}
 use Rattle.vlsi_base.specs.Member.{In, here, there, AllDifferent}
-use Rattle.machine_meaning.specs.Named.{is_same_name}
+use Rattle.machine_core.specs.Named.{is_same_name}
 use Rattle.sym_geom.specs.declared.grid.TheConstants.{FIRST_CELL_X}
 use Rattle.cell_model.specs.Access.{Point}
 use Rattle.cell_model.proofs.Members.{In-split, In-left, In-right}
-use Rattle.net_meaning.specs.Netlist.{Netlist, port}
+use Rattle.net_meaning.specs.Netlist.{AbstractNetlist, port}
 use Rattle.ocp_rows.specs.Placement.{track_y}
 use Rattle.ocp_rows.specs.Length.{port_point}
 use Rattle.net_drawing.proofs.Coding.{same_name_true, same_name_itself, same_name_false}
@@ -82,7 +82,7 @@ flat_there f (z ∷ xs) x y (there i) j = In-right y (f z) (flat_map f xs) (flat
 -- ---- ports
 
 -- the point of a port is that of a site of its class
-pub port_back : (n : Netlist) (k : ℕ) (names : List Name) (name : Name) (q : Point) → port_point k names name ≡ Some q
+pub port_back : (n : AbstractNetlist) (k : ℕ) (names : List Name) (name : Name) (q : Point) → port_point k names name ≡ Some q
     → In (n.class (port name), q) (port_sites k (map (λ x. n.class (port x)) names))
 port_back n k [] name q e = absurd (cc e)
 port_back n k (one ∷ rest) name q e = by (is_same_name one name) refl e (port_back n (suc k) rest name q) where
@@ -97,7 +97,7 @@ port_back n k (one ∷ rest) name q e = by (is_same_name one name) refl e (port_
   by false f g next = there (next g)
 
 -- and the other way round, where the names differ
-pub port_there : (n : Netlist) (k class : ℕ) (names : List Name) (q : Point) → AllDifferent names → In (class, q) (port_sites k (map (λ x. n.class (port x)) names))
+pub port_there : (n : AbstractNetlist) (k class : ℕ) (names : List Name) (q : Point) → AllDifferent names → In (class, q) (port_sites k (map (λ x. n.class (port x)) names))
     → (name : Name) × In name names × (n.class (port name) ≡ class) × (port_point k names name ≡ Some q)
 port_there n k class [] q d i = elim i [ ]
 port_there n k class (one ∷ rest) q d i = by (heads (site class q) i) (port_there n (suc k) class rest q d.1) where

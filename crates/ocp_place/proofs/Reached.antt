@@ -14,7 +14,7 @@ use Rattle.vlsi_base.specs.Name.{name_cmp}
 use Rattle.vlsi_base.specs.Names.{vdd, vss, comes_before}
 use Rattle.vlsi_base.specs.Member.{In, there}
 use Rattle.vlsi_base.proofs.NameOrder.{name_total, name_exact}
-use Rattle.machine_meaning.specs.Machine.{names_of, is_input}
+use Rattle.machine_core.specs.Machine.{names_of, is_input}
 use Rattle.cell_model.specs.declared.cell.Pin.{Pin}
 use Rattle.cell_model.specs.Cell.{Cell, pin_ports}
 use Rattle.cell_model.specs.Access.{Point, access_point}
@@ -26,7 +26,7 @@ use Rattle.cell_pins.specs.Pins.{supply, with_supply, all_ports}
 use Rattle.net_core.specs.Places.{IsThere, Stands}
 use Rattle.net_core.proofs.Frames.{unmapped}
 use Rattle.net_drawing.proofs.Coding.{get_In}
-use Rattle.net_view.proofs.Lists.{filter_in}
+use Rattle.net_right.proofs.Lists.{filter_in}
 use Rattle.ocp_place.specs.declared.reach.PinReach.{PinReach}
 use Rattle.ocp_place.specs.Reaches.{IsPinReach, ArePinReaches, no_pins, one_pin}
 

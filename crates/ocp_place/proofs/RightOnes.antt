@@ -7,10 +7,10 @@ use Rattle.vlsi_base.specs.Member.{In}
 use Rattle.cell_model.proofs.Members.{In-map}
 use Rattle.cell_pins.specs.Pins.{supply}
 use Rattle.net_core.specs.Places.{IsThere}
-use Rattle.net_view.proofs.Lists.{in_place}
-use Rattle.net_view.proofs.Meets.{right_meets_condition}
-use Rattle.net_view.proofs.Ports.{with_both, vdd_there, vss_there}
-use Rattle.net_view.proofs.Seen.{right_cell}
+use Rattle.net_right.proofs.Lists.{in_place}
+use Rattle.net_right.proofs.Meets.{right_meets_condition}
+use Rattle.net_right.proofs.Ports.{with_both, vdd_there, vss_there}
+use Rattle.net_right.proofs.Seen.{right_cell}
 use Rattle.ocp_place.specs.Law.{RightMayBeDrawn}
 
 supply_there : (name : Name) (ps all : List Port) → all ≡ with_both ps → In (supply name) (with_both ps) → IsThere (map (λ p. p.name) all) name

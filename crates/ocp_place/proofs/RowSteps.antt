@@ -7,7 +7,7 @@ use Rattle.std.proofs.lemmas.Option.{slice_get_within, slice_get-get_or, get_or_
 use Rattle.vlsi_base.specs.declared.name.Name.{Name}
 use Rattle.vlsi_base.specs.declared.name.Port.{Port}
 use Rattle.vlsi_base.specs.declared.name.Terminal.{Terminal}
-use Rattle.machine_meaning.specs.Machine.{is_input, names_of}
+use Rattle.machine_core.specs.Machine.{is_input, names_of}
 use Rattle.cell_model.specs.Cell.{Cell}
 use Rattle.cell_model.specs.Library.{Library, cell_of}
 use Rattle.cell_model.specs.Access.{access_point}
@@ -19,7 +19,7 @@ use Rattle.net_core.specs.Netlist.{Instance, Netlist as InMemory, IsNetlist, ter
 use Rattle.net_core.specs.Netlist as core
 use Rattle.net_core.specs.Frame.{instance_of, node_pins, AreNumbered}
 use Rattle.net_core.proofs.Frames.{port_terminals, terminals_are, pin_found}
-use Rattle.net_meaning.specs.Netlist.{Member, Netlist, pin_of}
+use Rattle.net_meaning.specs.Netlist.{Member, AbstractNetlist, pin_of}
 use Rattle.ocp_rows.specs.Placement.{model_width, row_width}
 use Rattle.ocp_place.specs.declared.reach.PinReach.{PinReach}
 use Rattle.ocp_place.specs.Nets.{driven_by, driven}
@@ -43,7 +43,7 @@ shift x v r = omega (arith, ints)
 stay : (x : ℤ) → x ≡ x +ℤ pos 0
 stay x = omega (arith, ints)
 
-pub sites_push : (n : Netlist) (l : Library) (x : ℤ) (ms : List Member) (one : Member)
+pub sites_push : (n : AbstractNetlist) (l : Library) (x : ℤ) (ms : List Member) (one : Member)
     → row_sites n l x (ms ++ one ∷ []) ≡ row_sites n l x ms ++ own_sites n (x +ℤ row_width l ms) one.name (cell_of l one.model)
 sites_push n l x [] one =
     append-nil (own_sites n x one.name (cell_of l one.model)) ∙ ap (λ (z : ℤ). own_sites n z one.name (cell_of l one.model)) (stay x)
@@ -59,7 +59,7 @@ starts_push l x (m ∷ ms) one =
     ap (λ (zs : List ℤ). x ∷ zs) (starts_push l (x +ℤ model_width l m.model) ms one)
     ∙ ap (λ (z : ℤ). x ∷ (row_starts l (x +ℤ model_width l m.model) ms ++ z ∷ [])) (shift x (model_width l m.model) (row_width l ms))
 
-pub driven_push : (n : Netlist) (l : Library) (ms : List Member) (one : Member) → driven n l (ms ++ one ∷ []) ≡ driven n l ms ++ driven_by n one.name (cell_of l one.model)
+pub driven_push : (n : AbstractNetlist) (l : Library) (ms : List Member) (one : Member) → driven n l (ms ++ one ∷ []) ≡ driven n l ms ++ driven_by n one.name (cell_of l one.model)
 driven_push n l [] one = append-nil (driven_by n one.name (cell_of l one.model))
 driven_push n l (m ∷ ms) one =
     ap (λ (ks : List ℕ). driven_by n m.name (cell_of l m.model) ++ ks) (driven_push n l ms one)
@@ -73,10 +73,10 @@ widened l ms one w v p q =
 -- ---- the pins of an instance
 
 -- each pin of the cell has the class of its place among the instance's classes
-abbrev pub HasClasses : Netlist → List ℕ → Cell → List ℕ → Type 0
+abbrev pub HasClasses : AbstractNetlist → List ℕ → Cell → List ℕ → Type 0
 HasClasses n owner c classes = (place : ℕ) (name : Name) → Stands (names_of (all_ports c)) place name → slice_index classes place ≡ n.class (pin_of owner name)
 
-pub reached_are : (n : Netlist) (x : ℤ) (owner : List ℕ) (c : Cell) (classes : List ℕ) → HasClasses n owner c classes → (ports : List Port) (pins : List PinReach) → ArePinReaches c ports pins
+pub reached_are : (n : AbstractNetlist) (x : ℤ) (owner : List ℕ) (c : Cell) (classes : List ℕ) → HasClasses n owner c classes → (ports : List Port) (pins : List PinReach) → ArePinReaches c ports pins
     → reached_sites x classes pins ≡ flat_map (λ pin. site_at (n.class (pin_of owner pin)) x (access_point c pin)) (names_of ports)
 reached_are n x owner c classes has [] [] no_pins = refl
 reached_are n x owner c classes has [] (r ∷ pins) are = elim are [ ]
@@ -86,7 +86,7 @@ reached_are n x owner c classes has (p ∷ ports) (r ∷ pins) (one_pin is rest)
     ∙ ap (λ o. site_at (n.class (pin_of owner p.name)) x o ++ reached_sites x classes pins) is.point
     ∙ ap (λ (ss : List Site). site_at (n.class (pin_of owner p.name)) x (access_point c p.name) ++ ss) (reached_are n x owner c classes has ports pins rest)
 
-pub drivers_are : (n : Netlist) (owner : List ℕ) (c : Cell) (classes : List ℕ) → HasClasses n owner c classes → (ports : List Port) (pins : List PinReach) → ArePinReaches c ports pins
+pub drivers_are : (n : AbstractNetlist) (owner : List ℕ) (c : Cell) (classes : List ℕ) → HasClasses n owner c classes → (ports : List Port) (pins : List PinReach) → ArePinReaches c ports pins
     → reached_drivers classes pins ≡ map (λ pin. n.class (pin_of owner pin)) (names_of (filter (λ p. not (is_input p.dir)) ports))
 drivers_are n owner c classes has [] [] no_pins = refl
 drivers_are n owner c classes has [] (r ∷ pins) are = elim are [ ]

@@ -17,9 +17,9 @@ use Rattle.net_core.specs.Netlist as core
 use Rattle.net_core.proofs.Frames.{mapped}
 use Rattle.net_core.proofs.Rings.{at_place}
 use Rattle.net_core.proofs.Standing.{stands_left}
-use Rattle.net_meaning.specs.Netlist.{Netlist, port}
-use Rattle.net_view.specs.View.{IsSeenAs}
-use Rattle.net_view.proofs.Terminals.{seen_ports}
+use Rattle.net_meaning.specs.Netlist.{AbstractNetlist, port}
+use Rattle.net_right.specs.View.{IsSeenAs}
+use Rattle.net_right.proofs.Terminals.{seen_ports}
 use Rattle.ocp_place.specs.declared.row.Site.{Site as Placed}
 use Rattle.ocp_place.specs.declared.row.Row.{Row}
 use Rattle.ocp_place.specs.declared.place.PortClasses.{PortClasses}
@@ -43,23 +43,23 @@ module _ (l : Library) (n : InMemory) (passed : HasPassed false l) (given : IsDr
       omega (arith, each, ports, whole)
 
   -- a port has the class at its place
-  class_of : (k : Netlist) → IsSeenAs n k → (j : ℕ) (p : Port) (c : ℕ) → Stands n.ports j p → Stands n.classes j c → k.class (port p.name) ≡ c
+  class_of : (k : AbstractNetlist) → IsSeenAs n k → (j : ℕ) (p : Port) (c : ℕ) → Stands n.ports j p → Stands n.classes j c → k.class (port p.name) ≡ c
   class_of k seen j p c s t =
       seen.classes.each (port p.name) c (j, stands_left (map (λ q. core.port q.name) n.ports) (flat_map core.pins_of n.instances) j (port p.name) (mapped (λ (q : Port). core.port q.name) n.ports j p s), t)
 
   -- the classes of the ports but for the supplies
-  pub signals_of : (split : PortClasses) → IsSplit n.ports n.classes split → (k : Netlist) → IsSeenAs n k → split.signals.items ≡ port_classes k
+  pub signals_of : (split : PortClasses) → IsSplit n.ports n.classes split → (k : AbstractNetlist) → IsSeenAs n k → split.signals.items ≡ port_classes k
   signals_of split is k seen =
       let f : Name → ℕ = λ name. k.class (port name) in
       is.signals ∙ signals_are f n.ports n.classes ports_many (class_of k seen) ∙ ap (λ (names : List Name). map f (filter is_signal names)) (sym (seen_ports n k seen))
 
 -- what placing comes to: the classes of ports, the row, and all points by their classes
 pub placed_row : (l : Library) (n : InMemory) → HasPassed false l → IsDrawableIn l n → (split : PortClasses) → IsSplit n.ports n.classes split
-    → (row : Row) → ((k : Netlist) → IsSeenAs n k → IsRow k l row) → (all : List Placed) → map site_of all ≡ port_sites 0 split.signals.items ++ map site_of row.sites.items
+    → (row : Row) → ((k : AbstractNetlist) → IsSeenAs n k → IsRow k l row) → (all : List Placed) → map site_of all ≡ port_sites 0 split.signals.items ++ map site_of row.sites.items
     → (ends : List (Vec Placed)) → length ends ≡ n.count → AreEnds all ends
     → IsPlacementOf l n (in_row split.signals.items row.drivers.items ends row.starts.items row.width split.high split.low)
 placed_row l n passed given split is row are all all_is ends many groups = record { passed = passed; drawable = given; row = seen_row } where
-  seen_row : (k : Netlist) → IsSeenAs n k → IsRowOf k l (in_row split.signals.items row.drivers.items ends row.starts.items row.width split.high split.low)
+  seen_row : (k : AbstractNetlist) → IsSeenAs n k → IsRowOf k l (in_row split.signals.items row.drivers.items ends row.starts.items row.width split.high split.low)
   seen_row k seen =
       let r = are k seen in
       let f : Name → ℕ = λ name. k.class (port name) in
@@ -68,7 +68,7 @@ placed_row l n passed given split is row are all all_is ends many groups = recor
       record {
         ports = signals;
         drivers = r.drivers;
-        many = length-map ends points_of ∙ many ∙ sym (ap (λ (x : Netlist). x.classes) seen.is);
+        many = length-map ends points_of ∙ many ∙ sym (ap (λ (x : AbstractNetlist). x.classes) seen.is);
         ends = λ class d low. ends_at k seen class d low signals r.sites;
         starts = r.starts;
         width = r.width;
@@ -76,13 +76,13 @@ placed_row l n passed given split is row are all all_is ends many groups = recor
         low = is.low ∙ named_is f vss 0 n.ports n.classes (ports_many l n passed given) (different_names (map (λ p. p.name) n.ports) given.sound.ports) (has k seen vss o.has_vss) (class_of l n passed given k seen);
       }
     where
-      has : (k : Netlist) → IsSeenAs n k → (name : Name) → In name k.ports → In name (map (λ p. p.name) n.ports)
+      has : (k : AbstractNetlist) → IsSeenAs n k → (name : Name) → In name k.ports → In name (map (λ p. p.name) n.ports)
       has k seen name i = subst (λ (names : List Name). In name names) (seen_ports n k seen) i
 
-      ends_at : (k : Netlist) → IsSeenAs n k → (class : ℕ) (d : List Point) → class < k.classes → split.signals.items ≡ port_classes k → map site_of row.sites.items ≡ pin_sites k l
+      ends_at : (k : AbstractNetlist) → IsSeenAs n k → (class : ℕ) (d : List Point) → class < k.classes → split.signals.items ≡ port_classes k → map site_of row.sites.items ≡ pin_sites k l
           → get_or (map points_of ends) class d ≡ points_in class (port_sites 0 (port_classes k) ++ pin_sites k l)
       ends_at k seen class d low signals sites =
-          let under : class < length ends = let e = ap (λ (x : Netlist). x.classes) seen.is in omega (arith, low, e, many) in
+          let under : class < length ends = let e = ap (λ (x : AbstractNetlist). x.classes) seen.is in omega (arith, low, e, many) in
           let x = at_place ends class under in
           get_or_from_slice_get (map points_of ends) class (points_of x.0) d (mapped points_of ends class x.0 x.1)
           ∙ ap points_of (sym (get_or_from_slice_get ends class x.0 x.0 x.1))

@@ -10,7 +10,7 @@ use Rattle.vlsi_base.specs.declared.name.Terminal.{Terminal}
 use Rattle.vlsi_base.specs.Name.{is_supply}
 use Rattle.vlsi_base.specs.Names.{vdd, vss, comes_before}
 use Rattle.vlsi_base.specs.Member.{In}
-use Rattle.machine_meaning.specs.Machine.{names_of, is_input}
+use Rattle.machine_core.specs.Machine.{names_of, is_input}
 use Rattle.cell_model.specs.Cell.{Cell, pin_ports, cell_outputs}
 use Rattle.cell_model.specs.Library.{Library, cell_of, IsUsable}
 use Rattle.cell_model.specs.Usable.{IsFormed}
@@ -31,17 +31,17 @@ use Rattle.net_core.specs.Checks.{pins_named, port_role, port_role_of, pin_role,
 use Rattle.net_core.proofs.Frames.{mapped, unmapped}
 use Rattle.net_core.proofs.Namings.{turn_reached}
 use Rattle.net_core.proofs.Rings.{at_place, class_below}
-use Rattle.net_meaning.specs.Netlist.{Member, Netlist, port, pin_of, IsTerminal, a_port, a_pin}
+use Rattle.net_meaning.specs.Netlist.{Member, AbstractNetlist, port, pin_of, IsTerminal, a_port, a_pin}
 use Rattle.net_theory.specs.Laws.{IsCounted}
 use Rattle.net_theory.proofs.Basics.{In-names}
-use Rattle.net_view.specs.View.{member_of, IsSeenAs}
-use Rattle.net_view.proofs.Lists.{in_place, filter_in}
-use Rattle.net_view.proofs.Models.{named_cell, HasModel, model_found}
-use Rattle.net_view.proofs.Places.{Which, which_port, which_pin, which, Does, does_port, does_pin, Placed, port_placed, pin_placed}
-use Rattle.net_view.proofs.Tallies.{drives}
-use Rattle.net_view.proofs.Ports.{both_cases, port_stays}
-use Rattle.net_view.proofs.Seen.{seen_class}
-use Rattle.net_view.proofs.Terminals.{seen_ports, seen_instances, seen_classes, IsCelled, terminal_there, there_terminal}
+use Rattle.net_right.specs.View.{member_of, IsSeenAs}
+use Rattle.net_right.proofs.Lists.{in_place, filter_in}
+use Rattle.net_right.proofs.Models.{named_cell, HasModel, model_found}
+use Rattle.net_right.proofs.Places.{Which, which_port, which_pin, which, Does, does_port, does_pin, Placed, port_placed, pin_placed}
+use Rattle.net_right.proofs.Tallies.{drives}
+use Rattle.net_right.proofs.Ports.{both_cases, port_stays}
+use Rattle.net_right.proofs.Seen.{seen_class}
+use Rattle.net_right.proofs.Terminals.{seen_ports, seen_instances, seen_classes, IsCelled, terminal_there, there_terminal}
 use Rattle.net_drawing.specs.Shown.{IsSupplyClass}
 use Rattle.ocp_place.specs.Orderly.{IsOutput, IsSource, from_port, from_output, IsOrderly}
 use Rattle.ocp_place.specs.Drawable.{IsDrawableIn}
@@ -98,7 +98,7 @@ module _ (l : Library) (n : InMemory) (given : IsDrawableIn l n) where
   pub same_driver : (t u : Terminal) (r s : Role) (c : ℕ) → Placed given.table n t r → Placed given.table n u s → 1 ≤ drives r → 1 ≤ drives s → HasClass n t c → HasClass n u c → t ≡ u
   same_driver t u r s c p q a b h g = one_driver given.table n given.sound given.meets.fits given.meets.passes.classes t u r s c p q a b h g
 
-module _ (l : Library) (n : InMemory) (passed : HasPassed false l) (given : IsDrawableIn l n) (k : Netlist) (seen : IsSeenAs n k) where
+module _ (l : Library) (n : InMemory) (passed : HasPassed false l) (given : IsDrawableIn l n) (k : AbstractNetlist) (seen : IsSeenAs n k) where
   formed_cell : (i : Instance) (c : Cell) → cell_of l i.model ≡ Some c → IsFormed c
   formed_cell i c found = All-In IsFormed l.cells passed.formed c (named_cell l.cells i.model c found).0
 

@@ -14,9 +14,9 @@ use Rattle.cell_model.proofs.Members.{In-split, In-map, In-map_back, All-from, A
 use Rattle.cell_checks.specs.Checked.{IsChecked as HasPassed}
 use Rattle.cell_pins.proofs.Ports.{in_filter}
 use Rattle.net_core.specs.Netlist.{Netlist as InMemory}
-use Rattle.net_meaning.specs.Netlist.{Netlist, port, a_port}
-use Rattle.net_view.specs.View.{IsSeenAs}
-use Rattle.net_view.proofs.Terminals.{seen_classes}
+use Rattle.net_meaning.specs.Netlist.{AbstractNetlist, port, a_port}
+use Rattle.net_right.specs.View.{IsSeenAs}
+use Rattle.net_right.proofs.Terminals.{seen_classes}
 use Rattle.ocp_rows.specs.Placement.{track_y}
 use Rattle.ocp_place.specs.declared.row.Site.{Site as Placed}
 use Rattle.ocp_place.specs.declared.row.Row.{Row}
@@ -60,8 +60,8 @@ track_of k (c ∷ cs) s i = by s i (track_of (suc k) cs) where
   by t (there j) next = later t (next t j)
 
 module _ (l : Library) (n : InMemory) (passed : HasPassed false l) (given : IsDrawableIn l n) (split : PortClasses) (is : IsSplit n.ports n.classes split)
-    (row : Row) (are : (k : Netlist) → IsSeenAs n k → IsRow k l row) where
-  abbrev k : Netlist
+    (row : Row) (are : (k : AbstractNetlist) → IsSeenAs n k → IsRow k l row) where
+  abbrev k : AbstractNetlist
   k = known n
 
   abbrev seen : IsSeenAs n k

@@ -6,7 +6,8 @@ use Rattle.std.proofs.lemmas.Int.{ints, int_min_is, int_max_is}
 use Rattle.std.proofs.lemmas.Option.{same_Some}
 use Rattle.std.proofs.lemmas.Simd.{map-map}
 use Rattle.cell_model.specs.Access.{Point}
-use Rattle.ocp_rows.specs.Length.{least, greatest, natural, extent, half_box}
+use Rattle.ocp_rows.specs.Placement.{natural}
+use Rattle.ocp_rows.specs.Length.{least, greatest, extent, half_box}
 use Rattle.ocp_place.specs.declared.row.Site.{Site as Placed}
 use Rattle.ocp_place.specs.Reaches.{site_of}
 use Rattle.ocp_place.specs.Spans.{along_axis, span}

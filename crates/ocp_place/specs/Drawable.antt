@@ -7,7 +7,7 @@ use Rattle.cell_pins.specs.Table.{IsTableOf}
 use Rattle.net_core.specs.declared.pins.ModelPins.{ModelPins}
 use Rattle.net_core.specs.Places.{IsThere}
 use Rattle.net_core.specs.Netlist.{Instance, Netlist as InMemory, IsNetlist}
-use Rattle.net_view.specs.Condition.{MeetsCondition}
+use Rattle.net_right.specs.Condition.{MeetsCondition}
 
 -- It meets the condition of the stages with the pins of the library's cells, all listed or the usable ones alone; each of its models
 -- is a usable cell; and it has the ports vdd and vss, as the condition gives them to each netlist that has an instance.

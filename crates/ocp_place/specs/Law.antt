@@ -1,6 +1,6 @@
 -- Checked cells, and how long the nets of a placement are.
-use Rattle.std.specs.Prelude.{◌≡◌, Bool, false, List, [], ◌∷◌}
-use Rattle.machine_meaning.specs.Machine.{Machine}
+use Rattle.std.specs.Prelude.{◌≡◌, Bool, true, false, List, [], ◌∷◌}
+use Rattle.machine_core.specs.Machine.{Machine}
 use Rattle.machine_core.specs.Checked.{IsChecked}
 use Rattle.cell_model.specs.Cell.{Cell}
 use Rattle.cell_model.specs.Library.{Library, IsUsable}
@@ -13,8 +13,8 @@ use Rattle.net_core.specs.declared.pins.ModelPins.{ModelPins}
 use Rattle.net_core.specs.Netlist.{Netlist as InMemory, IsNetlist}
 use Rattle.net_core.specs.Checks.{IsPinTable}
 use Rattle.net_drawing.specs.Clean.{IsClean}
-use Rattle.net_meaning.specs.Netlist.{Netlist}
-use Rattle.net_view.specs.Right.{IsRightNetlist, HasPinsOfCells}
+use Rattle.net_meaning.specs.Netlist.{AbstractNetlist}
+use Rattle.net_right.specs.Right.{IsRightNetlist, HasPinsOfCells}
 use Rattle.ocp_rows.specs.Placement.{Placement}
 use Rattle.ocp_rows.specs.Length.{half_perimeter}
 use Rattle.ocp_place.specs.Drawable.{IsDrawableIn}
@@ -24,13 +24,13 @@ use Rattle.ocp_place.specs.Placed.{InRow, IsRowOf}
 use Rattle.ocp_place.specs.Orderly.{IsOrderly}
 
 -- the row of a netlist with its ports, as a placement of layouts
-abbrev pub row_of : Netlist → Placement
-row_of n = record { rows = n.instances ∷ []; ports = signal_ports n }
+abbrev pub row_of : AbstractNetlist → Placement
+row_of n = record { rows = n.instances ∷ []; ports = signal_ports n; tracks = true }
 
 -- The half perimeters of all classes but the supplies', as a placement in memory has them, are those of the netlist's nets.
 abbrev pub LengthsAreRight : Type 0
 LengthsAreRight =
-    (n : Netlist) (l : Library) (p : InRow) → IsOrderly n l → IsRowOf n l p
+    (n : AbstractNetlist) (l : Library) (p : InRow) → IsOrderly n l → IsRowOf n l p
     → length_of p.high p.low p.ends ≡ half_perimeter n l (row_of n)
 
 -- A usable cell that has passed its checks is clean, whether or not that of columns is among them.

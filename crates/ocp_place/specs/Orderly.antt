@@ -6,13 +6,13 @@ use Rattle.vlsi_base.specs.Names.{vdd, vss, comes_before}
 use Rattle.vlsi_base.specs.Member.{In}
 use Rattle.cell_model.specs.Cell.{Cell, cell_outputs}
 use Rattle.cell_model.specs.Library.{Library, cell_of, IsUsable}
-use Rattle.net_meaning.specs.Netlist.{Member, Netlist, port, pin_of, IsTerminal}
+use Rattle.net_meaning.specs.Netlist.{Member, AbstractNetlist, port, pin_of, IsTerminal}
 use Rattle.net_theory.specs.Laws.{IsCounted}
 use Rattle.net_drawing.specs.Clean.{IsClean}
 use Rattle.net_drawing.specs.Shown.{IsSupplyClass}
 
 -- an output pin of an instance
-pub record IsOutput (n : Netlist) (l : Library) (t : Terminal) : Type 0 where
+pub record IsOutput (n : AbstractNetlist) (l : Library) (t : Terminal) : Type 0 where
   pub owner : Member
   pub cell : Cell
   pub pin : Name
@@ -22,11 +22,11 @@ pub record IsOutput (n : Netlist) (l : Library) (t : Terminal) : Type 0 where
   pub is : t ≡ pin_of owner.name pin
 
 -- a port, or an output pin
-pub data IsSource (n : Netlist) (l : Library) (t : Terminal) : Type 0 where
+pub data IsSource (n : AbstractNetlist) (l : Library) (t : Terminal) : Type 0 where
   from_port : (name : Name) → In name n.ports → t ≡ port name → IsSource n l t
   from_output : IsOutput n l t → IsSource n l t
 
-pub record IsOrderly (n : Netlist) (l : Library) : Type 0 where
+pub record IsOrderly (n : AbstractNetlist) (l : Library) : Type 0 where
   -- its models are usable and clean cells, and its instances have different names
   pub models : (one : Member) → In one n.instances → (c : Cell) × (cell_of l one.model ≡ Some c) × IsUsable c × IsClean c
   pub names : AllPairs (λ a b. a.name ≢ b.name) n.instances

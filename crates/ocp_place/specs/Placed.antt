@@ -6,8 +6,8 @@ use Rattle.cell_model.specs.Library.{Library}
 use Rattle.cell_model.specs.Access.{Point}
 use Rattle.cell_checks.specs.Checked.{IsChecked as HasPassed}
 use Rattle.net_core.specs.Netlist.{Netlist as InMemory}
-use Rattle.net_meaning.specs.Netlist.{Netlist, port}
-use Rattle.net_view.specs.View.{IsSeenAs}
+use Rattle.net_meaning.specs.Netlist.{AbstractNetlist, port}
+use Rattle.net_right.specs.View.{IsSeenAs}
 use Rattle.ocp_rows.specs.Placement.{row_width}
 use Rattle.ocp_place.specs.Drawable.{IsDrawableIn}
 use Rattle.ocp_place.specs.Nets.{port_classes, driven}
@@ -29,7 +29,7 @@ pub record InRow : Type 0 where
   pub low : ℕ
 
 -- the placement is that of a netlist, as it is seen
-pub record IsRowOf (n : Netlist) (l : Library) (p : InRow) : Type 0 where
+pub record IsRowOf (n : AbstractNetlist) (l : Library) (p : InRow) : Type 0 where
   pub ports : p.ports ≡ port_classes n
   pub drivers : p.drivers ≡ driven n l n.instances
   pub many : length p.ends ≡ n.classes
@@ -44,4 +44,4 @@ pub record IsRowOf (n : Netlist) (l : Library) (p : InRow) : Type 0 where
 pub record IsPlacementOf (l : Library) (n : InMemory) (p : InRow) : Type 0 where
   pub passed : HasPassed false l
   pub drawable : IsDrawableIn l n
-  pub row : (k : Netlist) → IsSeenAs n k → IsRowOf k l p
+  pub row : (k : AbstractNetlist) → IsSeenAs n k → IsRowOf k l p

@@ -5,7 +5,7 @@ use Rattle.std.specs.Global.{Vec}
 use Rattle.vlsi_base.specs.declared.name.Name.{Name}
 use Rattle.vlsi_base.specs.declared.name.Port.{Port}
 use Rattle.vlsi_base.specs.Names.{vdd, vss}
-use Rattle.machine_meaning.specs.Named.{is_same_name}
+use Rattle.machine_core.specs.Named.{is_same_name}
 use Rattle.cell_model.specs.Access.{Point}
 use Rattle.ocp_place.specs.declared.row.Site.{Site as Placed}
 use Rattle.ocp_place.specs.declared.place.PortClasses.{PortClasses}

@@ -1,7 +1,7 @@
 -- The cells of a netlist, as a row of their instances asks for them: how wide they are, and where their pins are reached.
 use Rattle.std.specs.Prelude.{◌≡◌, ◌≤◌, ℕ, ℤ, pos, List, [], ◌∷◌, map, filter, not, flat_map, length, slice_index, slice_index_or, Some, option_map}
 use Rattle.vlsi_base.specs.declared.name.Port.{Port}
-use Rattle.machine_meaning.specs.Machine.{is_input, names_of}
+use Rattle.machine_core.specs.Machine.{is_input, names_of}
 use Rattle.cell_model.specs.Cell.{Cell, pin_ports, cell_width}
 use Rattle.cell_model.specs.Library.{Library, cell_of, IsUsable}
 use Rattle.cell_model.specs.Access.{access_point}

@@ -5,7 +5,7 @@ use Rattle.std.specs.Global.{Vec}
 use Rattle.sym_geom.specs.declared.grid.TheConstants.{FIRST_CELL_X}
 use Rattle.cell_model.specs.Library.{Library}
 use Rattle.cell_checks.specs.declared.points.GridPoint.{GridPoint}
-use Rattle.net_meaning.specs.Netlist.{Netlist}
+use Rattle.net_meaning.specs.Netlist.{AbstractNetlist}
 use Rattle.ocp_rows.specs.Placement.{row_width}
 use Rattle.ocp_place.specs.declared.reach.PinReach.{PinReach}
 use Rattle.ocp_place.specs.declared.reach.Reach.{Reach}
@@ -41,7 +41,7 @@ pub record IsPutAt (old new : Row) (reach : Reach) (classes : List ℕ) (x : ℕ
   pub width : new.width ≡ old.width + reach.width
 
 -- the row of a netlist's instances in their order
-pub record IsRow (n : Netlist) (l : Library) (r : Row) : Type 0 where
+pub record IsRow (n : AbstractNetlist) (l : Library) (r : Row) : Type 0 where
   pub starts : map pos r.starts.items ≡ row_starts l (pos FIRST_CELL_X) n.instances
   pub sites : map site_of r.sites.items ≡ pin_sites n l
   pub drivers : r.drivers.items ≡ driven n l n.instances

@@ -1,12 +1,12 @@
 -- Where the terminals of a netlist lie whose instances stand in one row, with their classes.
 use Rattle.std.specs.Prelude.{ℕ, ℤ, pos, ◌+ℤ◌, not, ◌||◌, nat_eq, List, [], ◌∷◌, ◌++◌, map, flat_map, filter, sum, length, slice_index_or, Option, None, Some, if◌then◌else◌}
 use Prim.Native.Nat.{suc}
-use Rattle.machine_meaning.specs.Machine.{names_of}
+use Rattle.machine_core.specs.Machine.{names_of}
 use Rattle.sym_geom.specs.declared.grid.TheConstants.{FIRST_CELL_X}
 use Rattle.cell_model.specs.Cell.{Cell, pin_ports}
 use Rattle.cell_model.specs.Library.{Library, cell_of}
 use Rattle.cell_model.specs.Access.{Point, access_point, count_to}
-use Rattle.net_meaning.specs.Netlist.{Member, Netlist, pin_of}
+use Rattle.net_meaning.specs.Netlist.{Member, AbstractNetlist, pin_of}
 use Rattle.ocp_rows.specs.Placement.{model_width, track_y}
 use Rattle.ocp_rows.specs.Length.{half_box}
 
@@ -20,12 +20,12 @@ site_at class x None = []
 site_at class x (Some q) = (class, (q.0 +ℤ x, q.1)) ∷ []
 
 -- the signal pins of an instance, in the order of names
-abbrev pub own_sites : Netlist → ℤ → List ℕ → Option Cell → List Site
+abbrev pub own_sites : AbstractNetlist → ℤ → List ℕ → Option Cell → List Site
 own_sites n x owner None = []
 own_sites n x owner (Some c) = flat_map (λ pin. site_at (n.class (pin_of owner pin)) x (access_point c pin)) (names_of (pin_ports c))
 
 -- those of instances that abut, from x on
-abbrev pub row_sites : Netlist → Library → ℤ → List Member → List Site
+abbrev pub row_sites : AbstractNetlist → Library → ℤ → List Member → List Site
 row_sites n l x [] = []
 row_sites n l x (one ∷ rest) = own_sites n x one.name (cell_of l one.model) ++ row_sites n l (x +ℤ model_width l one.model) rest
 
@@ -34,7 +34,7 @@ abbrev pub row_starts : Library → ℤ → List Member → List ℤ
 row_starts l x [] = []
 row_starts l x (one ∷ rest) = x ∷ row_starts l (x +ℤ model_width l one.model) rest
 
-abbrev pub pin_sites : Netlist → Library → List Site
+abbrev pub pin_sites : AbstractNetlist → Library → List Site
 pin_sites n l = row_sites n l (pos FIRST_CELL_X) n.instances
 
 -- ports with these classes, the first of which has number k: each at the left end of its track

@@ -2,8 +2,8 @@
 ghost use Rattle.std.specs.Prelude.{◌≡◌, ◌≤◌, ◌<◌, ◌++◌, ◌∷◌, [], ℤ, List, map, pos, length as list_length, IfSome};
 ghost use Rattle.std.specs.List.{All};
 ghost use Rattle.net_core.specs.Netlist.{Netlist as InMemory};
-ghost use Rattle.net_meaning.specs.Netlist.{Netlist};
-ghost use Rattle.net_view.specs.View.{IsSeenAs};
+ghost use Rattle.net_meaning.specs.Netlist.{AbstractNetlist};
+ghost use Rattle.net_right.specs.View.{IsSeenAs};
 ghost use Rattle.ocp_rows.specs.Length.{extent, half_box, half_perimeter};
 ghost use Rattle.ocp_place.specs.Law.{row_of};
 ghost use Rattle.ocp_place.specs.Placed.{IsPlacementOf};
@@ -95,7 +95,7 @@ fn length(placement: &Placement) -> u128
 /// The sum of half the perimeters of the boxes of all nets of the netlist that a placement is of. Takes no memory, and time for each
 /// terminal.
 pub fn half_perimeter(placement: &Placement, library: &Library) -> u128
-    ensures { (n : InMemory) (k : Netlist) → IsPlacementOf library.now n placement.now → IsSeenAs n k
+    ensures { (n : InMemory) (k : AbstractNetlist) → IsPlacementOf library.now n placement.now → IsSeenAs n k
         → result ≡ half_perimeter k library.now (row_of k) }
 {
     length(placement)

@@ -2,7 +2,7 @@
 ghost use Rattle.std.specs.Prelude.{◌≡◌, ◌≤◌, ◌<◌, ◌^◌, false, [], map, length, slice_index_or, IfOk, OnOk};
 ghost use Rattle.std.specs.List.{All};
 ghost use Rattle.vlsi_base.specs.Names.{scalar};
-ghost use Rattle.machine_meaning.specs.Named.{is_same_name};
+ghost use Rattle.machine_core.specs.Named.{is_same_name};
 ghost use Rattle.ocp_place.specs.Sites.{port_sites};
 ghost use Rattle.ocp_place.specs.Reaches.{site_of};
 ghost use Rattle.cell_checks.specs.Checked.{IsChecked as HasPassed};

@@ -1,7 +1,7 @@
 // Where the pins of the models of a netlist are reached.
 ghost use Rattle.std.specs.Prelude.{◌≡◌, ◌≤ℤ◌, pos, not, Some, IfOk};
 ghost use Rattle.std.specs.Option.{option_copied};
-ghost use Rattle.machine_meaning.specs.Machine.{names_of, is_input};
+ghost use Rattle.machine_core.specs.Machine.{names_of, is_input};
 ghost use Rattle.cell_model.specs.Cell.{Cell, cell_width};
 ghost use Rattle.cell_model.specs.Library.{cell_named, cell_of, IsUsable};
 ghost use Rattle.cell_model.specs.Usable.{IsFormed};

@@ -1,8 +1,8 @@
 // The instances of a netlist in one row, and where their pins then lie.
 ghost use Rattle.std.specs.Prelude.{◌≡◌, ◌++◌, ◌∷◌, ◌+◌, ◌<◌, ◌≤◌, false, [], map, option_map, pos, length, take, drop, IfOk, OnOk};
 ghost use Rattle.std.specs.List.{All};
-ghost use Rattle.net_meaning.specs.Netlist.{Netlist as Seen};
-ghost use Rattle.net_view.specs.View.{IsSeenAs};
+ghost use Rattle.net_meaning.specs.Netlist.{AbstractNetlist as Seen};
+ghost use Rattle.net_right.specs.View.{IsSeenAs};
 ghost use Rattle.cell_checks.specs.Points.{point_of};
 ghost use Rattle.ocp_place.specs.Sites.{site_at};
 ghost use Rattle.ocp_place.specs.Reaches.{site_of, reached_sites, reached_drivers};

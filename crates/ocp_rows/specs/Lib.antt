@@ -1,3 +1,3 @@
 pub mod Placement
 pub mod Length
-pub mod Order
+pub mod Tracks

@@ -1,5 +1,5 @@
--- Placed instances, supplies, ports and box of a block whose nets have private tracks.
-use Rattle.std.specs.Prelude.{◌≡◌, ◌≢◌, ◌↔◌, ℕ, ◌+◌, ◌-◌, ◌*◌, ℤ, pos, ◌+ℤ◌, Bool, false, not, List, [], ◌∷◌, ◌++◌, map, Option, None, Some, AllPairs, IsTrue, if◌then◌else◌}
+-- Placed instances, supplies, ports and box of a block whose nets have private tracks, or routes over a grid.
+use Rattle.std.specs.Prelude.{◌≡◌, ◌≢◌, ◌↔◌, ℕ, ◌+◌, ◌-◌, ◌*◌, ◌/◌, length, ℤ, pos, negsuc, ◌+ℤ◌, Bool, false, not, List, [], ◌∷◌, ◌++◌, map, Option, None, Some, AllPairs, IsTrue, if◌then◌else◌}
 use Rattle.sym_geom.specs.declared.grid.TheConstants.{PITCH, ROW_HEIGHT, WIRE_WIDTH, RAIL_WIDTH, VSS_RAIL_Y, VDD_RAIL_Y, VSS_STRAP_X, VDD_STRAP_X, FIRST_CELL_X, FIRST_TRACK_Y}
 use Prim.Native.Nat.{suc}
 use Rattle.std.specs.Int.{int_max}
@@ -14,7 +14,7 @@ use Rattle.sym_geom.specs.declared.layer.Layer.TheVariants.{Alu}
 use Rattle.sym_geom.specs.declared.layer.Level.TheVariants.{One, Two, Three}
 use Rattle.sym_geom.specs.declared.item.Direction.{Direction}
 use Rattle.sym_geom.specs.declared.item.Direction.TheVariants.{Up, Right}
-use Rattle.sym_geom.specs.declared.item.Side.TheVariants.{West}
+use Rattle.sym_geom.specs.declared.item.Side.TheVariants.{West, North}
 use Rattle.sym_geom.specs.declared.item.Contact.{Contact}
 use Rattle.sym_geom.specs.declared.item.Contact.TheVariants.{Via1, Via2}
 use Rattle.sym_geom.specs.declared.item.Instance.{Instance}
@@ -25,13 +25,14 @@ use Rattle.vlsi_base.specs.Names.{comes_before, vdd, vss}
 use Rattle.sym_shapes.specs.Shape.{wire_name}
 use Rattle.cell_model.specs.Cell.{Cell, cell_width}
 use Rattle.cell_model.specs.Library.{Library, cell_of}
-use Rattle.net_meaning.specs.Netlist.{Member, Netlist}
+use Rattle.net_meaning.specs.Netlist.{Member, AbstractNetlist}
 
--- a placement for private tracks: rows of instances, from the left to the right and from the lowest row up, and the port
--- bits without the supplies in the order of names
+-- a placement: rows of instances, from the left to the right and from the lowest row up, the port bits without the supplies
+-- in the order of names, and whether its nets have private tracks; else they have routes over a grid
 pub record Placement : Type 0 where
   pub rows : List (List Member)
   pub ports : List Name
+  pub tracks : Bool
 
 -- ---- lines that a block has
 
@@ -49,10 +50,14 @@ upright_wire layer width x y1 y2 name = wire Up layer width x y1 x y2 name
 abbrev pub contact_at : Contact → ℤ → ℤ → Option Name → Item
 contact_at contact x y name = item.Via (record { x = x; y = y; contact = contact; name = name })
 
--- a port at the west side
+-- a port at the west side, and one at the north side
 abbrev pub west_port : Layer → ℤ → ℤ → ℤ → Name → Item
 west_port layer width x y name =
     item.Connector (record { x = x; y = y; width = width; name = Some name; index = pos 0; side = West; layer = layer })
+
+abbrev pub north_port : Layer → ℤ → ℤ → ℤ → Name → Item
+north_port layer width x y name =
+    item.Connector (record { x = x; y = y; width = width; name = Some name; index = pos 0; side = North; layer = layer })
 
 -- ---- instances
 
@@ -125,12 +130,16 @@ abbrev pub strap : ℤ → Name → List ℤ → List Item
 strap x name [] = []
 strap x name (y ∷ ys) = upright_wire (Alu Three) (pos WIRE_WIDTH) x y (last_of y ys) (Some name) ∷ strap_vias x name (y ∷ ys)
 
--- rails, the strap of vss and that of vdd
-abbrev pub supplies : Library → List (List Member) → List Item
-supplies l rows =
-    rails (pos FIRST_CELL_X +ℤ rows_width l rows) false (pos 0) rows
+-- rails up to this x, the strap of vss and that of vdd
+abbrev pub supplies_to : ℤ → List (List Member) → List Item
+supplies_to end rows =
+    rails end false (pos 0) rows
     ++ (strap (pos VSS_STRAP_X) vss (centres vss_centre false (pos 0) rows)
     ++ strap (pos VDD_STRAP_X) vdd (centres vdd_centre false (pos 0) rows))
+
+-- and up to the end of the widest row
+abbrev pub supplies : Library → List (List Member) → List Item
+supplies l rows = supplies_to (pos FIRST_CELL_X +ℤ rows_width l rows) rows
 
 abbrev pub supply_ports : List Item
 supply_ports =
@@ -152,8 +161,56 @@ track_ports k (name ∷ rest) =
     west_port (Alu Two) (pos WIRE_WIDTH) (pos FIRST_CELL_X) (track_y k) name ∷ track_ports (suc k) rest
 
 -- the nets are the classes without those of vdd and vss
-abbrev pub net_count : Netlist → ℕ
+abbrev pub net_count : AbstractNetlist → ℕ
 net_count n = n.classes - 2
+
+-- ---- routes over a grid
+
+-- The block is as wide as its widest row; where ports stand above the rows, it has one column more than ports at least.
+abbrev pub block_width : Library → Placement → ℤ
+block_width l p = if p.tracks then rows_width l p.rows else int_max (rows_width l p.rows) (pos (PITCH * (length p.ports + 1)))
+
+abbrev pub natural : ℤ → ℕ
+natural (pos n) = n
+natural (negsuc n) = 0
+
+abbrev pub block_columns : Library → Placement → ℕ
+block_columns l p = natural (block_width l p) / PITCH
+
+-- the column of the port of rank k, of so many in a block of so many columns
+abbrev pub port_column : ℕ → ℕ → ℕ → ℕ
+port_column count columns k = 1 + k * ((columns - 1) / count)
+
+-- the row of the grid above so many rows of cells, in which ports stand
+abbrev pub port_row : ℕ → ℕ
+port_row rows = ROW_HEIGHT / PITCH * rows + 1
+
+-- the place of a column and of a row of the grid
+abbrev pub column_x : ℕ → ℤ
+column_x c = pos (FIRST_CELL_X + PITCH * c)
+
+abbrev pub row_y : ℕ → ℤ
+row_y r = pos (PITCH * r)
+
+-- the ports from rank k on, above so many rows, where the port of a rank has this column
+abbrev pub grid_ports : (ℕ → ℕ) → ℕ → ℕ → List Name → List Item
+grid_ports column rows k [] = []
+grid_ports column rows k (name ∷ rest) =
+    north_port (Alu Three) (pos WIRE_WIDTH) (column_x (column k)) (row_y (port_row rows)) name ∷ grid_ports column rows (suc k) rest
+
+-- ---- for both ways of routing
+
+abbrev pub placed_ports : Library → Placement → List Item
+placed_ports l p =
+    if p.tracks
+    then track_ports 0 p.ports
+    else grid_ports (port_column (length p.ports) (block_columns l p)) (length p.rows) 0 p.ports
+
+abbrev pub block_top : AbstractNetlist → Placement → ℤ
+block_top n p = if p.tracks then track_y (net_count n) else pos (ROW_HEIGHT * length p.rows + 2 * PITCH)
+
+abbrev pub block_box : AbstractNetlist → Library → Placement → Rect
+block_box n l p = record { x1 = pos 0; y1 = pos 0; x2 = pos (FIRST_CELL_X + PITCH) +ℤ block_width l p; y2 = block_top n p }
 
 -- a wire or a via; no connector, which a named wire on CALU is too, and no other line
 abbrev pub IsWiring : Item → Type 0
@@ -164,9 +221,9 @@ IsWiring (item.Instance i) = ⊥
 IsWiring (item.Reference r) = ⊥
 IsWiring (item.Remark text) = ⊥
 
--- The instances, box, supplies and ports of a figure are those of a placement of the netlist for private tracks. The lines
+-- The instances, box, supplies and ports of a figure are those of a placement of the netlist. The lines
 -- stand in this order: the supplies' ports, the others' in the order of names, the instances, rails and straps, the nets.
-pub record IsPlaced (bounds : Rect) (items : List Item) (n : Netlist) (l : Library) (p : Placement) : Type 0 where
+pub record IsPlaced (bounds : Rect) (items : List Item) (n : AbstractNetlist) (l : Library) (p : Placement) : Type 0 where
   pub order : AllPairs (λ a b. IsTrue (comes_before a b)) p.ports
   pub ports : (name : Name) → In name p.ports ↔ (In name n.ports × (name ≢ vdd) × (name ≢ vss))
   -- each instance of the netlist stands in the rows once, and where its line says
@@ -175,6 +232,6 @@ pub record IsPlaced (bounds : Rect) (items : List Item) (n : Netlist) (l : Libra
   pub rows : IsPermutation (standing_rows l false (pos 0) p.rows) instances
   pub wiring : List Item
   pub wires : (one : Item) → In one wiring → IsWiring one
-  pub lines : items ≡ supply_ports ++ (track_ports 0 p.ports ++ (map item.Instance instances ++ (supplies l p.rows ++ wiring)))
-  pub box : bounds
-      ≡ record { x1 = pos 0; y1 = pos 0; x2 = pos (FIRST_CELL_X + PITCH) +ℤ rows_width l p.rows; y2 = track_y (net_count n) }
+  pub lines : items
+      ≡ supply_ports ++ (placed_ports l p ++ (map item.Instance instances ++ (supplies_to (pos FIRST_CELL_X +ℤ block_width l p) p.rows ++ wiring)))
+  pub box : bounds ≡ block_box n l p

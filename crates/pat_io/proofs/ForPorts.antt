@@ -15,7 +15,7 @@ use Rattle.vlsi_base.specs.declared.fault.FaultKind.{FaultKind}
 use Rattle.vlsi_base.specs.declared.fault.FaultKind.TheVariants as kind
 use Rattle.vlsi_base.specs.declared.fault.ReadError.{ReadError}
 use Rattle.vlsi_base.specs.declared.fault.ReadError.TheVariants as error
-use Rattle.machine_meaning.specs.Named.{is_same_name}
+use Rattle.machine_core.specs.Named.{is_same_name}
 use Rattle.machine_core.specs.Order.{In, here, there}
 use Rattle.machine_core.proofs.Names.{same_name-true}
 use Rattle.vlsi_base.specs.declared.radix.Radix.{Radix}

@@ -8,7 +8,7 @@ use Rattle.vlsi_base.specs.declared.name.Port.{Port}
 use Rattle.vlsi_base.specs.declared.fault.InputFault.{InputFault}
 use Rattle.vlsi_base.specs.declared.fault.FaultKind.TheVariants.{Unknown}
 use Rattle.vlsi_base.specs.Name.{is_supply}
-use Rattle.machine_meaning.specs.Named.{is_same_name}
+use Rattle.machine_core.specs.Named.{is_same_name}
 use Rattle.pat_meaning.specs.Columns.{column_names}
 use Rattle.pat_text.specs.declared.parsed.ParsedColumn.{ParsedColumn}
 use Rattle.pat_io.specs.Digits.{column_of}

@@ -1,7 +1,7 @@
 // Ports by their names.
 ghost use Rattle.std.specs.Prelude.{◌≡◌, ◌&&◌, Some, None};
 ghost use Rattle.std.specs.List.{list_any};
-ghost use Rattle.machine_meaning.specs.Named.{is_same_name};
+ghost use Rattle.machine_core.specs.Named.{is_same_name};
 ghost use Rattle.pat_io.specs.Known.{is_same_dir, is_of_port};
 ghost use Rattle.pat_io.specs.Fitting.{is_port};
 

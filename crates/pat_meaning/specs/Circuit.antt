@@ -1,9 +1,9 @@
 -- What a simulation needs to know of a circuit, and a machine as one.
 use Rattle.std.specs.Prelude.{Bool, false, List, length, replicate, Option}
 use Rattle.vlsi_base.specs.declared.name.Name.{Name}
-use Rattle.machine_meaning.specs.Named.{value_at}
-use Rattle.machine_meaning.specs.Machine.{Machine, inputs}
-use Rattle.machine_meaning.specs.Cycles.{Settles, next}
+use Rattle.machine_core.specs.Named.{value_at}
+use Rattle.machine_core.specs.Machine.{Machine, inputs}
+use Rattle.machine_core.specs.Cycles.{Settles, next}
 
 pub record Circuit : Type 1 where
   -- what it holds from one cycle to the next, and what its names have in a cycle

@@ -10,9 +10,9 @@ use Rattle.vlsi_base.specs.declared.name.Dir.{Dir}
 use Rattle.vlsi_base.specs.declared.name.Dir.TheVariants.{In as Inward, Out as Outward}
 use Rattle.vlsi_base.specs.Member.{In, here, there}
 use Rattle.bool_expr.specs.Expression.{Expression, val}
-use Rattle.machine_meaning.specs.Named.{is_same_name, value_at, values_at}
-use Rattle.machine_meaning.specs.Machine.{Machine, Equation, Register, is_input, names_of, inputs, outputs, register_names}
-use Rattle.machine_meaning.specs.Cycles.{Settles, outs, next}
+use Rattle.machine_core.specs.Named.{is_same_name, value_at, values_at}
+use Rattle.machine_core.specs.Machine.{Machine, Equation, Register, is_input, names_of, inputs, outputs, register_names}
+use Rattle.machine_core.specs.Cycles.{Settles, outs, next}
 use Rattle.machine_core.specs.Order.{IsOrdered}
 use Rattle.machine_core.specs.Built.{built}
 use Rattle.machine_core.specs.Checked.{IsChecked}

@@ -6,14 +6,14 @@ use Rattle.std.proofs.lemmas.List.{length-map, take_more}
 use Rattle.std.proofs.lemmas.List.Elements.{All-push, All-nil}
 use Rattle.vlsi_base.specs.declared.name.Name.{Name}
 use Rattle.vlsi_base.specs.Member.{In, here, there, AllDifferent}
-use Rattle.bool_expr.specs.Expression.{Expression, constant, variable, inverse, pair, choice, variables, val, bit, IsOver}
+use Rattle.bool_expr.specs.Expression.{Expression, variable, variables, val, bit, IsOver}
 use Rattle.bool_expr.specs.View.{view}
 use Rattle.bdd_core.specs.Truths.{Truths, truths}
 use Rattle.bdd_core.specs.Branching.{truth_at}
 use Rattle.bdd_core.specs.Diagram.{function_of}
 use Rattle.bdd_core.proofs.Held.{truths_value}
-use Rattle.machine_meaning.specs.Named.{is_same_name, values_at}
-use Rattle.machine_meaning.specs.Machine.{Machine, Equation, Register, outputs}
+use Rattle.machine_core.specs.Named.{is_same_name, values_at}
+use Rattle.machine_core.specs.Machine.{Machine, Equation, Register, outputs}
 use Rattle.machine_core.specs.Order.{EachReadsBelow, held_names}
 use Rattle.machine_core.specs.Checked.{IsChecked}
 use Rattle.machine_core.proofs.Values.{In-split}
@@ -30,11 +30,12 @@ use Rattle.proof_cmp.specs.declared.proving.Difference.{Difference}
 use Rattle.proof_joint.specs.declared.joint.JointDiagram.{JointDiagram}
 use Rattle.proof_joint.specs.declared.naming.Role.TheVariants.{Input, Output, Register as Stored}
 use Rattle.proof_joint.specs.Naming.{HaveSameNames}
+use Rattle.proof_joint.proofs.Clocks.{over_more}
 use Rattle.proof_joint.specs.Together.{root_pairs, IsOverTogether, IsOneFunction, given_names, value_on}
-use Rattle.proof_cmp.specs.Verdict.{AreComparable, IsRefusal}
+use Rattle.proof_cmp.specs.Verdict.{AreComparable}
 use Rattle.proof_joint.specs.Joint.{IsJointDiagram, AreTwoRoots, JoinsRoots}
 use Rattle.proof_joint.specs.Bits.{Computes, AreSpread}
-use Rattle.proof_cmp.specs.Comparing.{IsOverPair, DifferOn, IsFound}
+use Rattle.proof_cmp.specs.Comparing.{IsOverPair, IsOverFirst, DifferOn, IsFound}
 use Rattle.proof_joint.proofs.Joining.{has_first, has_second, same_held, joint_few, joint_different, joint_within}
 use Rattle.proof_joint.proofs.Both.{at_in_list}
 
@@ -93,13 +94,6 @@ module _ (a b : Machine) (x y : Expression) (d : JointDiagram) (two : AreTwoRoot
       one e = ap (val (expansion b y)) (sym same_values) ∙ sym e ∙ ap (val (expansion a x)) values
 
 -- ---- what roots read
-
-over_more : (e : Expression) (n k : ℕ) → n ≤ k → IsOver e n → IsOver e k
-over_more (constant b) n k less h = tt
-over_more (variable x) n k less h = omega (arith, less, h)
-over_more (inverse e) n k less h = over_more e n k less h
-over_more (pair g a b) n k less h = (over_more a n k less h.0, over_more b n k less h.1)
-over_more (choice c a b) n k less h = (over_more c n k less h.0, (over_more a n k less h.1.0, over_more b n k less h.1.1))
 
 expression_over : (n total : ℕ) (es : List Equation) (name : Name) → EachReadsBelow n es → n + length es ≤ total → IsOver (expression_of es name) total
 expression_over n total [] name reads room = tt
@@ -233,20 +227,17 @@ module _ (a b : Machine) (same : HaveSameNames a b) (firsts seconds : List RootE
           found_is = subst (λ (l : List (Root × Root)). IsFound a b l new) (sym more) (found w.found_is);
         }
 
-    pub refused_here : (old : Option Difference) → IsComparing a b budget k old → (e : ProveError) → IsOverPair a b budget the_pair e → IsRefusal a b budget e
+    pub refused_here : (old : Option Difference) → IsComparing a b budget k old → (e : ProveError) → IsOverPair a b budget the_pair e → IsOverFirst a b budget e
     refused_here old w error.Memory over = tt
-    refused_here old w (error.Budget name) over = (
-      same,
-      record {
-        before = take k (root_pairs a b);
-        pair = the_pair;
-        after = drop (suc k) (root_pairs a b);
-        all = split_pairs (root_pairs a b) k the_pair (let l = pairs_long in omega (arith, inside, l)) here_is;
-        named = over.0;
-        over = over.1;
-        first = w.within;
-      },
-    )
+    refused_here old w (error.Budget name) over = record {
+      before = take k (root_pairs a b);
+      pair = the_pair;
+      after = drop (suc k) (root_pairs a b);
+      all = split_pairs (root_pairs a b) k the_pair (let l = pairs_long in omega (arith, inside, l)) here_is;
+      named = over.0;
+      over = over.1;
+      first = w.within;
+    }
 
   pub all_compared : (budget k : ℕ) (found : Option Difference) → length firsts ≤ k → IsComparing a b budget k found → AreComparable a b budget × IsFound a b (root_pairs a b) found
   all_compared budget k found end w =

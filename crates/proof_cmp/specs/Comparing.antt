@@ -3,7 +3,7 @@ use Rattle.std.specs.Prelude.{◌≡◌, ℕ, ◌<◌, ◌^◌, Bool, List, leng
 use Rattle.std.specs.List.{All}
 use Rattle.bool_expr.specs.Expression.{Expression, IsOver as IsWithin}
 use Rattle.bool_expr.specs.View.{view}
-use Rattle.machine_meaning.specs.Machine.{Machine}
+use Rattle.machine_core.specs.Machine.{Machine}
 use Rattle.machine_core.specs.Checked.{IsChecked}
 use Rattle.machine_roots.specs.declared.listing.RootExpr.{RootExpr}
 use Rattle.machine_roots.specs.Listing.{root_view}
@@ -14,7 +14,7 @@ use Rattle.proof_cmp.specs.declared.verdict.ProveError.{ProveError}
 use Rattle.proof_cmp.specs.declared.verdict.ProveError.TheVariants as error
 use Rattle.proof_cmp.specs.declared.proving.Difference.{Difference}
 use Rattle.proof_joint.specs.Joint.{IsJointDiagram}
-use Rattle.proof_joint.specs.Together.{IsOverTogether, IsOneFunction, given_names, value_on}
+use Rattle.proof_joint.specs.Together.{IsOverTogether, IsFirstOver, IsOneFunction, given_names, value_on}
 use Rattle.proof_cmp.specs.Verdict.{IsFirstDifference}
 
 -- two roots, and their diagram
@@ -34,6 +34,11 @@ pub record IsRootOf (m : Machine) (r : RootExpr) : Type 0 where
 abbrev pub IsOverPair : Machine → Machine → ℕ → Root × Root → ProveError → Type 0
 IsOverPair a b budget p error.Memory = Unit {0}
 IsOverPair a b budget p (error.Budget name) = (name ≡ p.0.name) × IsOverTogether a b budget p
+
+-- the name that is refused is that of the first roots over the budget; of memory nothing is said
+abbrev pub IsOverFirst : Machine → Machine → ℕ → ProveError → Type 0
+IsOverFirst a b budget error.Memory = Unit {0}
+IsOverFirst a b budget (error.Budget name) = IsFirstOver a b budget name
 
 -- bits of all given names on which two expressions differ
 pub record DifferOn (a b : Machine) (x y : Expression) (bits : List Bool) : Type 0 where

@@ -1,22 +1,25 @@
 // The comparison of two machines.
 ghost use Rattle.std.specs.Prelude.{◌≡◌, ◌<◌, ◌^◌, ◌++◌, ◌∷◌, [], length, IfOk, IfErr, IfSome, IfNone, List, Bool};
+ghost use Rattle.std.specs.Option.{option_copied};
 ghost use Rattle.bool_expr.specs.Expression.{Expression, val};
-ghost use Rattle.machine_meaning.specs.Machine.{Machine as MachineValue};
+ghost use Rattle.machine_core.specs.Machine.{Machine as MachineValue};
 ghost use Rattle.machine_walk.specs.Expansion.{expansion};
 ghost use Rattle.machine_roots.specs.Roots.{Root};
 ghost use Rattle.machine_roots.specs.Listing.{AreRoots};
 ghost use Rattle.proof_joint.specs.Naming.{HaveSameNames};
+ghost use Rattle.proof_joint.specs.Clock.{as_compared as compared_as};
 ghost use Rattle.proof_joint.specs.Joint.{JoinsRoots};
 ghost use Rattle.proof_joint.specs.Together.{root_pairs, IsOverTogether};
 ghost use Rattle.proof_cmp.specs.Verdict.{AreComparable, IsVerdict, IsRefusal};
-ghost use Rattle.proof_cmp.specs.Comparing.{pair_of, HaveDiagram, IsRootOf, IsOverPair, DifferOn, IsFound};
+ghost use Rattle.proof_cmp.specs.Comparing.{pair_of, HaveDiagram, IsRootOf, IsOverPair, IsOverFirst, DifferOn, IsFound};
 
 use crate::verdict::{ProofVerdict, ProveError};
 use bdd_core::BddError;
 use machine_core::Machine;
 use machine_roots::{Cone, RootExpr, roots};
 use proof_joint::{
-    JointDiagram, differing_bits, given_bits, joint_diagram, least_one_sided, spread_bits,
+    JointDiagram, as_compared, differing_bits, given_bits, joint_diagram, least_one_sided,
+    spread_bits,
 };
 use std::alloc::{AllocError, Global};
 use vlsi_base::Name;
@@ -130,7 +133,7 @@ fn compare_roots<'a>(
     ensures within { IfOk result (λ _. AreComparable machines.entry.first.now machines.entry.second.now budget) }
     ensures found { IfOk result (λ o. IsFound machines.entry.first.now machines.entry.second.now
         (root_pairs machines.entry.first.now machines.entry.second.now) o) }
-    ensures refusal { IfErr result (λ e. IsRefusal machines.entry.first.now machines.entry.second.now budget e) }
+    ensures refusal { IfErr result (λ e. IsOverFirst machines.entry.first.now machines.entry.second.now budget e) }
 {
     // Machines are checked.
     let _ = machines.first.name();
@@ -156,32 +159,50 @@ fn compare<'a>(
     ensures within { IfOk result (λ _. AreComparable machines.entry.first.now machines.entry.second.now budget) }
     ensures found { IfOk result (λ o. IsFound machines.entry.first.now machines.entry.second.now
         (root_pairs machines.entry.first.now machines.entry.second.now) o) }
-    ensures refusal { IfErr result (λ e. IsRefusal machines.entry.first.now machines.entry.second.now budget e) }
+    ensures refusal { IfErr result (λ e. IsOverFirst machines.entry.first.now machines.entry.second.now budget e) }
 {
     let firsts = roots(alloc, machines.first)?;
     let seconds = roots(alloc, machines.second)?;
     compare_roots(alloc, machines, &firsts, &seconds, budget)
 }
 
+// The machine as it is compared: the one that was made of the given one, or this itself where none was.
+fn made_or_given<'a>(made: Option<&'a Machine>, given: &'a Machine) -> &'a Machine
+    requires none { IfNone (option_copied made) (compared_as given.now ≡ given.now) }
+    requires some { IfSome (option_copied made) (λ m. m ≡ compared_as given.now) }
+    ensures { result.now ≡ compared_as given.entry.now }
+{
+    match made {
+        Some(machine) => machine,
+        None => given,
+    }
+}
+
 /// Compares two machines, root by root: first their names, then the diagram of each two roots with the budget, and then the two
-/// functions. Takes time and memory for one diagram at a time, and memory for the machines' names.
+/// functions. A clock that loads nothing, in a machine without registers, is an input like the others. Takes time and memory for one
+/// diagram at a time, and memory for the machines' names, and for a machine whose clock loads nothing.
 pub fn prove(
     alloc: Global,
     a: &Machine,
     b: &Machine,
     budget: u32,
 ) -> Result<ProofVerdict, ProveError>
-    requires first { length a.now.vars < 2 ^ 32 }
-    requires second { length b.now.vars < 2 ^ 32 }
+    requires first { length (compared_as a.now).vars < 2 ^ 32 }
+    requires second { length (compared_as b.now).vars < 2 ^ 32 }
     ensures verdict { IfOk result (λ v. IsVerdict a.now b.now budget v) }
     ensures refusal { IfErr result (λ e. IsRefusal a.now b.now budget e) }
 {
     if let Some(name) = least_one_sided(alloc, a, b)? {
         return Ok(ProofVerdict::Names(name.copy(alloc)?));
     }
+    // Machines are checked.
+    let _ = a.name();
+    let _ = b.name();
+    let first = as_compared(alloc, a)?;
+    let second = as_compared(alloc, b)?;
     let machines = Machines {
-        first: a,
-        second: b,
+        first: made_or_given(first.as_ref(), a),
+        second: made_or_given(second.as_ref(), b),
     };
     match compare(alloc, machines, budget)? {
         Some(difference) => Ok(ProofVerdict::Differs {

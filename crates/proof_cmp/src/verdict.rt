@@ -14,7 +14,8 @@ pub enum ProofVerdict {
     /// The first output or register that differs, and bits on which it does: one for each input port, the clock among them, in the
     /// order of names, and then one for each register in the order of names.
     Differs { name: Name, bits: Vec<bool> },
-    /// The least name that is an input port, an output port, a register or the clock in one of the machines alone.
+    /// The least name that is an input port, an output port or a register of one of the machines alone, or where both have registers
+    /// the clock of one alone.
     Names(Name),
 }
 

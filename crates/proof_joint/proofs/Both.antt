@@ -7,7 +7,7 @@ use Rattle.bool_expr.specs.Expression.{bit, IsOver as IsWithin}
 use Rattle.bool_expr.specs.View.{view}
 use Rattle.bdd_core.specs.declared.node.NodeId.{NodeId}
 use Rattle.bdd_core.specs.Truths.{constant, IsOver}
-use Rattle.machine_meaning.specs.Machine.{Machine}
+use Rattle.machine_core.specs.Machine.{Machine}
 use Rattle.bdd_core.specs.Nodes.{raised}
 use Rattle.bdd_core.specs.Diagram.{Diagram, IsNode, function_of, Keeps}
 use Rattle.bdd_core.proofs.Asking.{bound_kept}

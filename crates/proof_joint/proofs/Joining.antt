@@ -8,7 +8,7 @@ use Rattle.vlsi_base.specs.declared.name.Name.{Name}
 use Rattle.vlsi_base.specs.Member.{In, here, there, AllDifferent}
 use Rattle.bool_expr.specs.Expression.{Expression, bit, IsOver as IsWithin}
 use Rattle.bool_expr.specs.Support.{among}
-use Rattle.machine_meaning.specs.Machine.{Machine, is_clock}
+use Rattle.machine_core.specs.Machine.{Machine, is_clock}
 use Rattle.machine_core.specs.Order.{held_names, IsOrdered}
 use Rattle.machine_core.proofs.Values.{In-left, In-right, In-split}
 use Rattle.bdd_core.specs.Truths.{Truths, constant}

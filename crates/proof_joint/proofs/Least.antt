@@ -9,11 +9,11 @@ use Rattle.vlsi_base.specs.declared.name.Name.{Name}
 use Rattle.vlsi_base.specs.Name.{name_cmp}
 use Rattle.vlsi_base.specs.Member.{In, here, there}
 use Rattle.vlsi_base.proofs.NameOrder.{name_total, name_exact}
-use Rattle.machine_meaning.specs.Machine.{Machine}
+use Rattle.machine_core.specs.Machine.{Machine}
 use Rattle.machine_core.specs.Checked.{AreInOrder}
 use Rattle.proof_joint.specs.declared.naming.Role.{Role}
 use Rattle.proof_joint.specs.declared.naming.Role.TheVariants.{Input, Output, Clock, Register}
-use Rattle.proof_joint.specs.Naming.{names_with, HaveSameNames, IsApart, IsLeastOneSided}
+use Rattle.proof_joint.specs.Naming.{names_with, IsCompared, AgreeByName, IsApart, IsLeastOneSided}
 use Rattle.proof_joint.specs.Apart.{lesser_of, picked, IsLeastApart, IsLeastAmong, IsLeastIn}
 
 -- ---- the order of names
@@ -214,20 +214,50 @@ module _ (a b : Machine) (role : Role) (roles : List Role) where
   none_yet w same r here = sym same
   none_yet w same r (there h) = w r h
 
+abbrev pub plain_roles : List Role
+plain_roles = Register ∷ Output ∷ Input ∷ []
+
 abbrev pub all_roles : List Role
-all_roles = Register ∷ Clock ∷ Output ∷ Input ∷ []
+all_roles = Clock ∷ plain_roles
 
-each_role : (r : Role) → In r all_roles
-each_role Register = here
-each_role Clock = there here
-each_role Output = there (there here)
-each_role Input = there (there (there here))
+-- these are the roles in which the names of the two machines are compared
+pub record AreRoles (a b : Machine) (roles : List Role) : Type 0 where
+  pub each : (r : Role) → IsCompared a b r → In r roles
+  pub only : (r : Role) → In r roles → IsCompared a b r
 
-pub none_at_all : (a b : Machine) → IsLeastIn a b all_roles None → HaveSameNames a b
-none_at_all a b w role = w role (each_role role)
+plain_each : (a b : Machine) (r : Role) → (IsCompared a b Clock → ⊥) → IsCompared a b r → In r plain_roles
+plain_each a b Register none h = here
+plain_each a b Output none h = there here
+plain_each a b Input none h = there (there here)
+plain_each a b Clock none h = absurd (none h)
 
-pub least_of_all : (a b : Machine) (n : Name) → IsLeastIn a b all_roles (Some n) → IsLeastOneSided a b n
-least_of_all a b n w = record { one_sided = (w.role, w.apart); least = λ other o. w.least o.0 (each_role o.0) other o.1 }
+plain_only : (a b : Machine) (r : Role) → In r plain_roles → IsCompared a b r
+plain_only a b _ here = tt
+plain_only a b _ (there here) = tt
+plain_only a b _ (there (there here)) = tt
+plain_only a b r (there (there (there h))) = elim h [ ]
+
+pub are_plain : (a b : Machine) → (IsCompared a b Clock → ⊥) → AreRoles a b plain_roles
+are_plain a b none = record { each = λ r h. plain_each a b r none h; only = plain_only a b }
+
+all_each : (r : Role) → In r all_roles
+all_each Clock = here
+all_each Register = there here
+all_each Output = there (there here)
+all_each Input = there (there (there here))
+
+all_only : (a b : Machine) → IsCompared a b Clock → (r : Role) → In r all_roles → IsCompared a b r
+all_only a b both _ here = both
+all_only a b both r (there h) = plain_only a b r h
+
+pub are_all : (a b : Machine) → IsCompared a b Clock → AreRoles a b all_roles
+are_all a b both = record { each = λ r h. all_each r; only = all_only a b both }
+
+pub none_at_all : (a b : Machine) (roles : List Role) → AreRoles a b roles → IsLeastIn a b roles None → AgreeByName a b
+none_at_all a b roles are w role h = w role (are.each role h)
+
+pub least_of_all : (a b : Machine) (roles : List Role) → AreRoles a b roles → (n : Name) → IsLeastIn a b roles (Some n) → IsLeastOneSided a b n
+least_of_all a b roles are n w = record { one_sided = (w.role, are.only w.role w.listed, w.apart); least = λ other o. w.least o.0 (are.each o.0 o.1) other o.2 }
 
 pub no_role : (a b : Machine) → IsLeastIn a b [] None
 no_role a b r h = elim h [ ]
@@ -244,13 +274,14 @@ one_role a b role roles least apart o none some is w = subst (IsLeastIn a b (rol
   by (Some m) None none some w = only_before a b role roles m w none
   by (Some m) (Some n) none some w = both_roles a b role roles m n w some
 
-pub told_none : (a b : Machine) (o : Option (Bor Name)) → IsLeastIn a b all_roles (option_copied o) → IfNone o (HaveSameNames a b)
-told_none a b None w = none_at_all a b w
-told_none a b (Some n) w = tt
+pub told_none : (a b : Machine) (roles : List Role) → AreRoles a b roles → (o : Option (Bor Name)) → IsLeastIn a b roles (option_copied o) → IfNone o (AgreeByName a b)
+told_none a b roles are None w = none_at_all a b roles are w
+told_none a b roles are (Some n) w = tt
 
-pub told_some : (a b : Machine) (o : Option (Bor Name)) → IsLeastIn a b all_roles (option_copied o) → IfSome o (λ n. IsLeastOneSided a b n.now)
-told_some a b None w = tt
-told_some a b (Some n) w = least_of_all a b n.now w
+pub told_some : (a b : Machine) (roles : List Role) → AreRoles a b roles → (o : Option (Bor Name)) → IsLeastIn a b roles (option_copied o)
+    → IfSome o (λ n. IsLeastOneSided a b n.now)
+told_some a b roles are None w = tt
+told_some a b roles are (Some n) w = least_of_all a b roles are n.now w
 
 -- an option of what is lent, and of the name itself
 pub none_copied : (o : Option (Bor Name)) (P : Type 0) → IfNone o P → IfNone (option_copied o) P

@@ -6,3 +6,5 @@ pub mod Rooting
 pub mod Both
 pub mod Descent
 pub mod Spreading
+pub mod Clocks
+pub mod Comparable

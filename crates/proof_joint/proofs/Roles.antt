@@ -6,8 +6,8 @@ use Rattle.std.proofs.lemmas.List.{length-map, take_more}
 use Rattle.vlsi_base.specs.declared.name.Name.{Name}
 use Rattle.vlsi_base.specs.declared.name.Port.{Port}
 use Rattle.vlsi_base.specs.Member.{In, here, there}
-use Rattle.machine_meaning.specs.declared.equation.Register.{Register as RegisterParts}
-use Rattle.machine_meaning.specs.Machine.{Machine, Register, names_of, is_input}
+use Rattle.machine_core.specs.declared.equation.Register.{Register as RegisterParts}
+use Rattle.machine_core.specs.Machine.{Machine, Register, names_of, is_input}
 use Rattle.machine_core.specs.View.{register_view}
 use Rattle.machine_core.specs.Checked.{IsChecked, AreInOrder}
 use Rattle.proof_joint.specs.declared.naming.Role.{Role}

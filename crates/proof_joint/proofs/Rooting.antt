@@ -8,7 +8,7 @@ use Rattle.bdd_core.specs.Truths.{Truths, IsOver}
 use Rattle.bdd_core.specs.Counting.{Holds}
 use Rattle.bdd_core.specs.Diagram.{Diagram, IsNode, function_of, functions_of, IsAsked}
 use Rattle.bdd_core.proofs.Asking.{same_functions}
-use Rattle.machine_meaning.specs.Machine.{Machine}
+use Rattle.machine_core.specs.Machine.{Machine}
 use Rattle.machine_core.specs.Order.{IsOrdered}
 use Rattle.machine_walk.specs.Expansion.{held_count, expansion}
 use Rattle.machine_roots.specs.Roots.{list_by}

@@ -8,8 +8,8 @@ use Rattle.std.proofs.lemmas.List.{take_all, length-set, get_or-set_same, get_or
 use Rattle.vlsi_base.specs.declared.name.Name.{Name}
 use Rattle.vlsi_base.specs.Member.{In, here, there, AllDifferent}
 use Rattle.bool_expr.specs.Expression.{bit}
-use Rattle.machine_meaning.specs.Named.{value_at, values_at}
-use Rattle.machine_meaning.specs.Machine.{Machine, is_clock, input_ports, inputs, register_names}
+use Rattle.machine_core.specs.Named.{value_at, values_at}
+use Rattle.machine_core.specs.Machine.{Machine, is_clock, input_ports, inputs, register_names}
 use Rattle.machine_core.specs.Order.{held_names}
 use Rattle.machine_core.specs.Checked.{IsChecked, AreInOrder}
 use Rattle.machine_core.proofs.Names.{same_name-itself, same_name-false, same_name-true}
@@ -141,27 +141,27 @@ values_with_clock c (n ∷ names) rest w d e = by (is_clock c n) w e (λ v f. va
 
 -- ---- names that are given bits are different
 
-rising_different : (xs : List Name) → Rising xs → AllDifferent xs
+pub rising_different : (xs : List Name) → Rising xs → AllDifferent xs
 rising_different [] r = tt
 rising_different (x ∷ xs) r = (λ h. less_not_itself x (r.0 x h), rising_different xs r.1)
 
-right_different : (xs ys : List Name) → AllDifferent (xs ++ ys) → AllDifferent ys
+pub right_different : (xs ys : List Name) → AllDifferent (xs ++ ys) → AllDifferent ys
 right_different [] ys d = d
 right_different (x ∷ xs) ys d = right_different xs ys d.1
 
-left_apart : (xs ys : List Name) (n : Name) → AllDifferent (xs ++ ys) → In n xs → In n ys → ⊥
+pub left_apart : (xs ys : List Name) (n : Name) → AllDifferent (xs ++ ys) → In n xs → In n ys → ⊥
 left_apart [] ys n d h i = elim h [ ]
 left_apart (x ∷ xs) ys n d here i = d.0 (In-right x xs ys i)
 left_apart (x ∷ xs) ys n d (there h) i = left_apart xs ys n d.1 h i
 
-both_different : (xs ys : List Name) → AllDifferent xs → AllDifferent ys → ((n : Name) → In n xs → In n ys → ⊥) → AllDifferent (xs ++ ys)
+pub both_different : (xs ys : List Name) → AllDifferent xs → AllDifferent ys → ((n : Name) → In n xs → In n ys → ⊥) → AllDifferent (xs ++ ys)
 both_different [] ys d e apart = e
 both_different (x ∷ xs) ys d e apart = (
   λ h. elim (In-split x xs ys h) [ inl p ↦ d.0 p | inr p ↦ apart x here p ],
   both_different xs ys d.1 e (λ n p q. apart n (there p) q),
 )
 
-kept_name : (t : Name → Bool) (n : Name) (xs : List Name) → In n xs → t n ≡ true → In n (filter t xs)
+pub kept_name : (t : Name → Bool) (n : Name) (xs : List Name) → In n xs → t n ≡ true → In n (filter t xs)
 kept_name t n [] h e = elim h [ ]
 kept_name t n (x ∷ xs) here e = subst (λ (b : Bool). In n (if b then n ∷ filter t xs else filter t xs)) (sym e) here
 kept_name t n (x ∷ xs) (there h) e = by (t x) (kept_name t n xs h e) where
@@ -169,7 +169,7 @@ kept_name t n (x ∷ xs) (there h) e = by (t x) (kept_name t n xs h e) where
   by true p = there p
   by false p = p
 
-clock_is : (c : Option Name) (n : Name) → is_clock c n ≡ true → c ≡ Some n
+pub clock_is : (c : Option Name) (n : Name) → is_clock c n ≡ true → c ≡ Some n
 clock_is None n e = absurd (cc e)
 clock_is (Some c) n e = ap Some (same_name-true c n e)
 

@@ -9,7 +9,7 @@ use Rattle.vlsi_base.specs.declared.name.Dir.{Dir}
 use Rattle.vlsi_base.specs.declared.name.Dir.TheVariants.{In as Inward, Out as Outward}
 use Rattle.vlsi_base.specs.Name.{name_cmp}
 use Rattle.vlsi_base.specs.Member.{In}
-use Rattle.machine_meaning.specs.Machine.{Machine, is_input}
+use Rattle.machine_core.specs.Machine.{Machine, is_input}
 use Rattle.proof_joint.specs.declared.naming.Role.{Role}
 use Rattle.proof_joint.specs.Naming.{names_with, IsApart}
 

@@ -4,7 +4,7 @@ use Rattle.bool_expr.specs.Expression.{Expression, IsOver as IsWithin}
 use Rattle.bool_expr.specs.View.{view}
 use Rattle.bdd_core.specs.Truths.{IsOver}
 use Rattle.bdd_core.specs.Diagram.{IsNode, function_of}
-use Rattle.machine_meaning.specs.Machine.{Machine}
+use Rattle.machine_core.specs.Machine.{Machine}
 use Rattle.machine_core.specs.Checked.{IsChecked}
 use Rattle.machine_walk.specs.declared.walking.WalkedNames.{WalkedNames}
 use Rattle.machine_walk.specs.Expansion.{expansion}

@@ -1,4 +1,5 @@
 pub mod Naming
+pub mod Clock
 pub mod Apart
 pub mod Together
 pub mod Joint

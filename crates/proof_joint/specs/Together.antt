@@ -6,8 +6,8 @@ use Rattle.vlsi_base.specs.declared.name.Name.{Name}
 use Rattle.bool_expr.specs.Expression.{Expression, val}
 use Rattle.bool_expr.specs.Support.{among}
 use Rattle.bdd_core.specs.Truths.{Truths, IsOver}
-use Rattle.machine_meaning.specs.Named.{values_at}
-use Rattle.machine_meaning.specs.Machine.{Machine, input_ports, register_names}
+use Rattle.machine_core.specs.Named.{values_at}
+use Rattle.machine_core.specs.Machine.{Machine, input_ports, register_names}
 use Rattle.machine_core.specs.Order.{held_names}
 use Rattle.machine_walk.specs.Expansion.{expansion, subexpressions}
 use Rattle.machine_roots.specs.Roots.{Root, roots, list_by}

@@ -3,8 +3,8 @@ ghost use Rattle.std.specs.Prelude.{◌≡◌, ℕ, ◌<◌, ◌≤◌, ◌++◌
 ghost use Rattle.std.specs.List.{All};
 ghost use Rattle.std.specs.Option.{option_copied};
 ghost use Rattle.vlsi_base.specs.Member.{AllDifferent};
-ghost use Rattle.machine_meaning.specs.Named.{values_at};
-ghost use Rattle.machine_meaning.specs.Machine.{is_clock, register_names as names_of_registers};
+ghost use Rattle.machine_core.specs.Named.{values_at};
+ghost use Rattle.machine_core.specs.Machine.{is_clock, register_names as names_of_registers};
 ghost use Rattle.machine_core.specs.Order.{held_names};
 ghost use Rattle.machine_walk.specs.Expansion.{held_count};
 ghost use Rattle.bdd_core.specs.Truths.{Truths, halves};

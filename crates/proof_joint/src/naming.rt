@@ -1,14 +1,13 @@
 // Names that have a role in one of two machines alone.
-ghost use Rattle.std.specs.Prelude.{◌≡◌, [], ◌∷◌, ◌++◌, List, map, filter, IfOk, IfSome, IfNone, option_to_list};
+ghost use Rattle.std.specs.Prelude.{◌≡◌, ◌↔◌, ◌<◌, [], ◌∷◌, ◌++◌, List, length, map, filter, IsTrue, IfOk, IfSome, IfNone, option_to_list};
 ghost use Rattle.std.specs.Option.{option_copied};
-ghost use Rattle.machine_meaning.specs.Machine.{names_of};
+ghost use Rattle.machine_core.specs.Machine.{names_of};
 ghost use Rattle.machine_core.specs.Checked.{AreInOrder, IsChecked};
-ghost use Rattle.proof_joint.specs.Naming.{names_with, HaveSameNames, IsLeastOneSided};
+ghost use Rattle.proof_joint.specs.Naming.{names_with, AgreeByName, IsLeastOneSided};
 ghost use Rattle.proof_joint.specs.declared.naming.Role.{Role as RoleValue};
 ghost use Rattle.proof_joint.specs.Apart.{has_direction, lesser_of, picked, IsLeastApart, IsLeastIn};
 
-use machine_core::Machine;
-use machine_meaning::Register;
+use machine_core::{Machine, Register};
 use std::alloc::{AllocError, Global};
 use vlsi_base::{Dir, Name, Port};
 
@@ -126,18 +125,35 @@ fn lesser_with<'a>(
     Ok(lesser_or(least, apart))
 }
 
-/// The least name that has a role in one of the machines alone; `None` exactly where each role has the same names in both. Takes
-/// memory for the names that have a role.
+// Whether a machine has a register.
+fn has_registers(m: &Machine) -> bool
+    ensures { IsTrue result ↔ 0 < length m.now.registers }
+{
+    !m.registers().as_slice().is_empty()
+}
+
+// Whether both machines have registers.
+fn have_registers(a: &Machine, b: &Machine) -> bool
+    ensures { IsTrue result ↔ ((0 < length a.now.registers) × (0 < length b.now.registers)) }
+{
+    has_registers(a) && has_registers(b)
+}
+
+/// The least name that is an input, an output or a register of one of the machines alone, or where both have registers the clock of
+/// one alone; `None` exactly where all these names are the same in both. Takes memory for the names that have a role.
 pub fn least_one_sided<'a>(
     alloc: Global,
     a: &'a Machine,
     b: &'a Machine,
 ) -> Result<Option<&'a Name>, AllocError>
-    ensures none { IfOk result (λ o. IfNone o (HaveSameNames a.entry.now b.entry.now)) }
+    ensures none { IfOk result (λ o. IfNone o (AgreeByName a.entry.now b.entry.now)) }
     ensures some { IfOk result (λ o. IfSome o (λ n. IsLeastOneSided a.entry.now b.entry.now n.now)) }
 {
     let least = lesser_with(alloc, a, b, Role::Input, None)?;
     let least = lesser_with(alloc, a, b, Role::Output, least)?;
-    let least = lesser_with(alloc, a, b, Role::Clock, least)?;
-    lesser_with(alloc, a, b, Role::Register, least)
+    let least = lesser_with(alloc, a, b, Role::Register, least)?;
+    if have_registers(a, b) {
+        return lesser_with(alloc, a, b, Role::Clock, least);
+    }
+    Ok(least)
 }

@@ -1,11 +1,12 @@
 -- What `proof` reads and answers.
 use Rattle.std.specs.Prelude.{◌≡◌, ℕ, ◌+◌, Bool, List, [], ◌∷◌, ◌++◌, get_or, codes, None, Result, Ok, Err}
-use Rattle.machine_meaning.specs.Machine.{Machine}
+use Rattle.machine_core.specs.Machine.{Machine}
 use Rattle.vbe_io.specs.Text.{IsVbe, IsVbeRefusal}
-use Rattle.proof_joint.specs.Naming.{HaveSameNames, IsLeastOneSided}
+use Rattle.proof_joint.specs.Naming.{AgreeByName, IsLeastOneSided}
+use Rattle.proof_joint.specs.Clock.{as_compared}
 use Rattle.proof_joint.specs.Together.{root_pairs, IsFirstOver}
 use Rattle.proof_cmp.specs.Verdict.{AreComparable, AreEqual, IsFirstDifference}
-use Rattle.tool_words.specs.declared.command.ProofCommand.{ProofCommand}
+use Rattle.proof_run.specs.declared.words.ProofCommand.{ProofCommand}
 use Rattle.tool_drive.specs.declared.status.Status.{Status}
 use Rattle.tool_drive.specs.declared.status.Status.TheVariants as status
 use Rattle.tool_drive.specs.declared.status.Verdict.TheVariants as verdict
@@ -24,9 +25,9 @@ pub record IsSaidEqual (c : ProofCommand) (p : Product) : Type 0 where
   pub file : p.file ≡ None
   pub text : p.text ≡ codes "equal" ++ 10 ∷ []
 
--- no diagram of two roots is over the budget, and each two roots are one function
+-- no diagram of two roots is over the budget, and each two roots are one function; a clock that loads nothing is an input like the others
 abbrev pub AreSameFunctions : Machine → Machine → ℕ → Type 0
-AreSameFunctions a b budget = AreComparable a b budget × AreEqual a b
+AreSameFunctions a b budget = AreComparable (as_compared a) (as_compared b) budget × AreEqual (as_compared a) (as_compared b)
 
 -- the two sources are machines of the same functions
 pub record AreEqualSources (c : ProofCommand) (source other : List ℕ) : Type 0 where
@@ -40,9 +41,11 @@ pub record AreEqualSources (c : ProofCommand) (source other : List ℕ) : Type 0
 -- the first roots that are different functions.
 abbrev pub IsFinding : Machine → Machine → ℕ → Status → Type 0
 IsFinding a b budget (status.No (verdict.Names name)) = IsLeastOneSided a b name
-IsFinding a b budget (status.Budget name reached) = HaveSameNames a b × IsFirstOver a b budget name × (reached ≡ budget + 1)
+IsFinding a b budget (status.Budget name reached) =
+    AgreeByName a b × IsFirstOver (as_compared a) (as_compared b) budget name × (reached ≡ budget + 1)
 IsFinding a b budget (status.No (verdict.Unequal name)) =
-    AreComparable a b budget × ((bits : List Bool) × IsFirstDifference a b (root_pairs a b) name bits)
+    AreComparable (as_compared a) (as_compared b) budget
+    × ((bits : List Bool) × IsFirstDifference (as_compared a) (as_compared b) (root_pairs (as_compared a) (as_compared b)) name bits)
 IsFinding a b budget _ = ⊥
 
 -- What is refused, in this order: the source, the second one, and what is found of their machines.

@@ -5,5 +5,7 @@
 #![tactic(auto)]
 
 mod proof;
+mod words;
 
 pub use proof::Proof;
+pub use words::{PROOF_ENTRY, ProofCommand, read_proof};

@@ -1,17 +1,18 @@
 // `proof` as a tool: what it reads, and what it answers.
 ghost use Rattle.std.specs.Prelude.{◌≡◌, ◌<◌, ◌^◌, ℕ, List, IfOk, IfErr, length};
 ghost use Rattle.vbe_io.specs.Text.{IsVbe, IsVbeRefusal};
+ghost use Rattle.proof_joint.specs.Clock.{as_compared};
 ghost use Rattle.tool_drive.specs.Refusals.{MemoryOr, OfFile};
 ghost use Rattle.tool_drive.specs.Table.{IsJudged};
 ghost use Rattle.proof_run.specs.Proof.{Compares, IsRefused, IsFinding, AreEqualSources, AreSameFunctions, IsSaidEqual};
 
+use crate::words::ProofCommand;
 use machine_core::Machine;
 use proof_cmp::{ProofVerdict, ProveError, prove};
 use std::alloc::{AllocError, Global};
 use tool_drive::{Product, Refusal, Status, Tool, Verdict, Wanted, bytes_at, refused};
-use tool_words::ProofCommand;
-use vbe_few::source_has_few_names;
 use vbe_io::read_vbe;
+use vbe_laws::source_has_few_names;
 use vlsi_base::{FileBytes, FileName};
 
 /// `proof`, with what it is asked: it compares the machines of SOURCE and of a second source, and prints `equal`.
@@ -37,8 +38,8 @@ fn machine_in(alloc: Global, file: &FileName, source: &[u8]) -> Result<Machine, 
 
 // Nothing where the machines are equal; or the status that tells how they differ, or why it isn't known.
 fn equal_within(alloc: Global, a: &Machine, b: &Machine, budget: u32) -> Result<(), Status>
-    requires first { length a.now.vars < 2 ^ 32 }
-    requires second { length b.now.vars < 2 ^ 32 }
+    requires first { length (as_compared a.now).vars < 2 ^ 32 }
+    requires second { length (as_compared b.now).vars < 2 ^ 32 }
     ensures equal { IfOk result (λ _. AreSameFunctions a.now b.now budget) }
     ensures refused { IfErr result (λ s. MemoryOr s (IsFinding a.now b.now budget s)) }
 {
@@ -72,7 +73,7 @@ fn other_is_equal(
     first: &Machine,
     other: &[u8],
 ) -> Result<(), Status>
-    requires { length first.now.vars < 2 ^ 32 }
+    requires { length (as_compared first.now).vars < 2 ^ 32 }
     ensures equal { IfOk result (λ _. (source : List ℕ) → IsVbe source first.now → AreEqualSources command.now source other.now) }
     ensures refused { IfErr result (λ s. (source : List ℕ) → IsVbe source first.now → MemoryOr s (IsRefused command.now source other.now s)) }
 {

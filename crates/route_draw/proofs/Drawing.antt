@@ -10,10 +10,10 @@ use Rattle.sym_geom.specs.declared.item.Item.{Item}
 use Rattle.cell_model.specs.Library.{Library}
 use Rattle.cell_checks.specs.Checked.{IsChecked as HasPassed}
 use Rattle.net_core.specs.Netlist.{Netlist as InMemory}
-use Rattle.net_meaning.specs.Netlist.{Member, Netlist, port}
+use Rattle.net_meaning.specs.Netlist.{Member, AbstractNetlist, port}
 use Rattle.net_meaning.specs.Breaches.{Breaches}
-use Rattle.net_view.specs.View.{member_of, IsSeenAs}
-use Rattle.net_view.proofs.Terminals.{seen_instances}
+use Rattle.net_right.specs.View.{member_of, IsSeenAs}
+use Rattle.net_right.proofs.Terminals.{seen_instances}
 use Rattle.ocp_rows.specs.Placement.{IsPlaced, supply_ports, track_ports, track_y, net_count, model_width, rows_width}
 use Rattle.net_drawing.specs.Shown.{ShowsNetlist}
 use Rattle.net_drawing.specs.Drawing.{track_items}
@@ -39,16 +39,16 @@ module _ (l : Library) (n : InMemory) (passed : HasPassed false l) (given : IsDr
   its_lines =
       supply_ports ++ (track_ports 0 (signal_names n.ports) ++ (instance_lines n.instances p.starts ++ (row_supplies p.width ++ all_lines 0 (signal_names n.ports) p tracks)))
 
-  lines : (k : Netlist) → IsSeenAs n k → its_lines ≡ track_items k l (net_number k l) (signal_ports k)
+  lines : (k : AbstractNetlist) → IsSeenAs n k → its_lines ≡ track_items k l (net_number k l) (signal_ports k)
   lines k seen =
       lines_are n l k seen (orderly l n passed given k seen) p (placement.row k seen) tracks are
 
-  count : (k : Netlist) → IsSeenAs n k → length tracks ≡ net_count k
+  count : (k : AbstractNetlist) → IsSeenAs n k → length tracks ≡ net_count k
   count k seen =
       many n l k seen (orderly l n passed given k seen) p (placement.row k seen) tracks are
 
   -- the netlist of layouts that it is known by
-  abbrev its_netlist : Netlist
+  abbrev its_netlist : AbstractNetlist
   its_netlist = known n
 
   its_seen : IsSeenAs n its_netlist
@@ -94,12 +94,12 @@ module _ (l : Library) (n : InMemory) (passed : HasPassed false l) (given : IsDr
         subst (λ (r : Rect). IsPlaced r items k l (one_row k (signal_ports k))) (sym (box k seen))
         (subst (λ (xs : List Item). IsPlaced (track_box k l) xs k l (one_row k (signal_ports k))) (sym (is ∙ lines k seen)) (right k seen).2);
   } where
-    right : (k : Netlist) → IsSeenAs n k → ShowsNetlist (track_items k l (net_number k l) (signal_ports k)) l k
+    right : (k : AbstractNetlist) → IsSeenAs n k → ShowsNetlist (track_items k l (net_number k l) (signal_ports k)) l k
         × Breaches (track_items k l (net_number k l) (signal_ports k)) l []
         × IsPlaced (track_box k l) (track_items k l (net_number k l) (signal_ports k)) k l (one_row k (signal_ports k))
     right k seen = drawings_are_right k l (net_number k l) (signal_ports k) (netlists_are_drawable l n k passed given own seen)
 
-    box : (k : Netlist) → IsSeenAs n k → bounds ≡ track_box k l
+    box : (k : AbstractNetlist) → IsSeenAs n k → bounds ≡ track_box k l
     box k seen =
         let row = placement.row k seen in
         let wide : pos (FIRST_CELL_X + PITCH + p.width) ≡ (pos (FIRST_CELL_X + PITCH) +ℤ rows_width l (k.instances ∷ [])) =

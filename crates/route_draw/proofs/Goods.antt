@@ -14,7 +14,7 @@ use Rattle.sym_geom.specs.declared.item.Instance.{Instance}
 use Rattle.sym_geom.specs.declared.item.Item.{Item}
 use Rattle.sym_geom.specs.declared.item.Item.TheVariants as item
 use Rattle.spell_theory.specs.Words.{is_small_letter, is_in_small_word}
-use Rattle.port_words.specs.Words.{is_word}
+use Rattle.text_names.specs.Words.{is_word}
 use Rattle.ap_io.specs.ApText.{is_letter, is_digit, is_word_byte, IsWord, IsLabel, IsLine, IsNear, IsShort, IsShortLabel, IsItemWithin}
 use Rattle.ap_io.proofs.Brief.{IsBrief}
 use Rattle.ocp_rows.specs.Placement.{level_wire, upright_wire, contact_at, west_port}

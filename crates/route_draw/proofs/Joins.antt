@@ -24,9 +24,9 @@ use Rattle.net_core.specs.Places.{Stands}
 use Rattle.net_core.specs.Netlist.{Instance, Netlist as InMemory}
 use Rattle.net_core.proofs.Frames.{mapped, unmapped}
 use Rattle.net_core.proofs.Standing.{Split, left, right, split}
-use Rattle.net_meaning.specs.Netlist.{Member, Netlist, port}
-use Rattle.net_view.specs.View.{member_of, IsSeenAs}
-use Rattle.net_view.proofs.Terminals.{seen_ports, seen_instances}
+use Rattle.net_meaning.specs.Netlist.{Member, AbstractNetlist, port}
+use Rattle.net_right.specs.View.{member_of, IsSeenAs}
+use Rattle.net_right.proofs.Terminals.{seen_ports, seen_instances}
 use Rattle.ocp_rows.specs.Placement.{model_width, row_width, rows_width, level_wire, standing, rails, strap, centres, vss_centre, vdd_centre, supplies, supply_ports, track_ports, track_y, net_count}
 use Rattle.ocp_rows.specs.Length.{least, greatest}
 use Rattle.net_drawing.specs.Drawing.{of_pins, riser, port_xs, track_over, net_wiring, wiring, track_items}
@@ -152,7 +152,7 @@ not_true : (b : Bool) → not b ≡ true → b ≡ true → ⊥
 not_true true e f = cc e
 not_true false e f = cc f
 
-module _ (n : InMemory) (l : Library) (k : Netlist) (seen : IsSeenAs n k) (orderly : IsOrderly k l)
+module _ (n : InMemory) (l : Library) (k : AbstractNetlist) (seen : IsSeenAs n k) (orderly : IsOrderly k l)
     (p : InRow) (row : IsRowOf k l p) (tracks : List Track) (are : AreTracks p tracks) where
   abbrev names : List Name
   names = signal_ports k

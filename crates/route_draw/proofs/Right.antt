@@ -1,20 +1,20 @@
 -- A netlist may be drawn over a checked library where pins have columns of their own, and the drawing of a right one gives it.
 use Rattle.std.proofs.Common.{◌≡◌, List, Some, sym, ◌∙◌, subst}
 use Rattle.std.proofs.lemmas.Option.{same_Some}
-use Rattle.machine_meaning.specs.Machine.{names_of}
+use Rattle.machine_core.specs.Machine.{names_of}
 use Rattle.cell_model.specs.Cell.{Cell}
 use Rattle.vlsi_base.specs.Member.{In}
 use Rattle.cell_model.specs.Library.{Library, cell_of}
 use Rattle.cell_model.proofs.Members.{In-map_back}
 use Rattle.cell_pins.specs.Pins.{all_ports}
 use Rattle.net_core.specs.Netlist.{Netlist as InMemory}
-use Rattle.net_view.specs.Right.{HasPinsOfCells}
+use Rattle.net_right.specs.Right.{HasPinsOfCells}
 use Rattle.net_meaning.specs.Netlist.{Member}
-use Rattle.net_view.specs.View.{member_of}
-use Rattle.net_view.proofs.Lists.{in_place}
-use Rattle.net_view.proofs.Terminals.{seen_instances}
+use Rattle.net_right.specs.View.{member_of}
+use Rattle.net_right.proofs.Lists.{in_place}
+use Rattle.net_right.proofs.Terminals.{seen_instances}
 use Rattle.net_drawing.specs.Clean.{PinColumnsDiffer}
-use Rattle.net_view.proofs.Seen.{seen_is_well_formed}
+use Rattle.net_right.proofs.Seen.{seen_is_well_formed}
 use Rattle.net_drawing.proofs.Untied.{untied_is_extracted}
 use Rattle.ocp_place.specs.Drawable.{IsDrawableIn}
 use Rattle.ocp_place.proofs.Seen.{own_cell, orderly}

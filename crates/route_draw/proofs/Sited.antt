@@ -6,11 +6,11 @@ use Rattle.std.proofs.lemmas.Grind.{flat_map-append}
 use Rattle.std.proofs.lemmas.Option.{same_Some, slice_get_within}
 use Rattle.vlsi_base.specs.declared.name.Name.{Name}
 use Rattle.vlsi_base.specs.Member.{In, here, there, AllDifferent}
-use Rattle.machine_meaning.specs.Machine.{names_of}
+use Rattle.machine_core.specs.Machine.{names_of}
 use Rattle.cell_model.specs.Cell.{Cell, pin_ports}
 use Rattle.cell_model.specs.Library.{Library, cell_of}
 use Rattle.cell_model.specs.Access.{Point, access_point}
-use Rattle.net_meaning.specs.Netlist.{Member, Netlist, pin_of}
+use Rattle.net_meaning.specs.Netlist.{Member, AbstractNetlist, pin_of}
 use Rattle.ocp_rows.specs.Placement.{model_width}
 use Rattle.net_drawing.specs.Drawing.{along, on_net, at_point, of_pin, of_cell}
 use Rattle.net_drawing.proofs.Coding.{In_get}
@@ -42,7 +42,7 @@ same_test a b c d f g = by (nat_eq a b) refl where
   by true e = e ∙ sym (eq-eqb c d (f (eqb-true a b e)))
   by false e = e ∙ sym (false_from_ne_true (nat_eq c d) (λ t. let n : true ≡ false = sym (eq-eqb a b (g (eqb-true c d t))) ∙ e in cc n))
 
-module _ (n : Netlist) (l : Library) (orderly : IsOrderly n l) where
+module _ (n : AbstractNetlist) (l : Library) (orderly : IsOrderly n l) where
   abbrev order : List ℕ
   order = net_classes n l
 

@@ -11,13 +11,13 @@ use Rattle.sym_geom.specs.declared.rect.Rect.{Rect}
 use Rattle.sym_geom.specs.declared.rect.Transform.{Transform}
 use Rattle.sym_geom.specs.declared.item.Instance.{Instance}
 use Rattle.sym_geom.specs.declared.item.Item.{Item}
-use Rattle.machine_meaning.specs.Machine.{names_of}
+use Rattle.machine_core.specs.Machine.{names_of}
 use Rattle.sym_shapes.specs.Shape.{Shape, drawn}
 use Rattle.cell_model.specs.Cell.{Function, gate, flip_flop, other, opaque, Cell, pin_ports, cell_outputs, cell_width}
 use Rattle.cell_model.specs.Library.{Library, cell_of, IsPlain, IsUsable}
 use Rattle.cell_model.specs.Access.{Point, access_point, count_to}
 use Rattle.cell_model.proofs.Members.{In-split}
-use Rattle.net_meaning.specs.Netlist.{Member, Netlist, pin_of}
+use Rattle.net_meaning.specs.Netlist.{Member, AbstractNetlist, pin_of}
 use Rattle.ocp_rows.specs.Placement.{width_of, model_width, row_width, standing}
 use Rattle.net_drawing.specs.Clean.{IsInside, IsInStrip, IsClean}
 use Rattle.net_drawing.specs.Drawing.{Numbering, along, at_point, of_pin, of_cell, of_pins, riser, port_xs, track_over, net_wiring}
@@ -106,7 +106,7 @@ kept : {A : Type 0} (t : Bool) (xs : List A) (y : A) → In y (cond t xs []) →
 kept true xs y i = i
 kept false xs y i = elim i [ ]
 
-own_pin : {A : Type 0} (P : A → Type 0) (n : Netlist) (net : Numbering) (k : ℕ) (g : Point → List A) (l : Library) (one : Member) (m : IsModelOf l one) (b : ℕ) → b ≤ 1060000000
+own_pin : {A : Type 0} (P : A → Type 0) (n : AbstractNetlist) (net : Numbering) (k : ℕ) (g : Point → List A) (l : Library) (one : Member) (m : IsModelOf l one) (b : ℕ) → b ≤ 1060000000
     → ((q : Point) → IsPinPoint q → (y : A) → In y (g q) → P y) → (owner : List ℕ) (pin : Name) → In pin (names_of (pin_ports m.cell))
     → (y : A) → In y (of_pin n net k g (pos b) owner m.cell pin) → P y
 own_pin P n net k g l one m b near ok owner pin listed y i =
@@ -126,7 +126,7 @@ own_pin P n net k g l one m b near ok owner pin listed y i =
     y h
 
 -- what holds of all that points of pins give
-pub pins_all : {A : Type 0} (P : A → Type 0) (n : Netlist) (l : Library) (net : Numbering) (k : ℕ) (g : Point → List A)
+pub pins_all : {A : Type 0} (P : A → Type 0) (n : AbstractNetlist) (l : Library) (net : Numbering) (k : ℕ) (g : Point → List A)
     → ((one : Member) → In one n.instances → IsModelOf l one) → length n.instances ≤ 65536
     → ((q : Point) → IsPinPoint q → (y : A) → In y (g q) → P y) → (y : A) → In y (of_pins n l net k g) → P y
 pins_all P n l net k g each few ok y i =
@@ -146,7 +146,7 @@ plain_outputs c (flip_flop data_pin clock_pin) h = h.0
 plain_outputs c (other machine) h = elim h [ ]
 plain_outputs c opaque h = elim h [ ]
 
-pub driven_few : (n : Netlist) (l : Library) (ms : List Member) → ((one : Member) → In one ms → IsModelOf l one) → length (driven n l ms) ≤ length ms
+pub driven_few : (n : AbstractNetlist) (l : Library) (ms : List Member) → ((one : Member) → In one ms → IsModelOf l one) → length (driven n l ms) ≤ length ms
 driven_few n l [] each = omega arith
 driven_few n l (one ∷ rest) each =
     let m = each one here in
@@ -182,7 +182,7 @@ along_sum l f b many (one ∷ rest) x each =
     let e = sum_by-cons b one rest in
     omega (arith, a, c, d, e)
 
-module _ (n : Netlist) (l : Library) (net : Numbering) (ports : List Name) (many : ℕ) where
+module _ (n : AbstractNetlist) (l : Library) (net : Numbering) (ports : List Name) (many : ℕ) where
   abbrev rises : ℕ → Point → List Item
   rises k = riser k (slice_get ports k)
 

@@ -24,7 +24,7 @@ use Rattle.ap_io.specs.declared.figure.Figure.{Figure}
 use Rattle.ap_io.specs.ApText.{IsWord, IsLine, IsNear, IsShort, IsItemWithin, IsFigure, IsWithinLimits, instance_names}
 use Rattle.ap_io.specs.Spelling.{head_text, items_text, text_of}
 use Rattle.ap_io.proofs.Brief.{IsBrief, lines_brief, head_brief}
-use Rattle.port_words.specs.Words.{IsIdentifier}
+use Rattle.text_names.specs.Words.{IsIdentifier}
 use Rattle.cell_model.specs.Cell.{Cell, pin_ports}
 use Rattle.cell_model.specs.Library.{Library}
 use Rattle.cell_model.specs.Usable.{IsFormed}
@@ -38,12 +38,12 @@ use Rattle.cell_checks.specs.Verdict.{IsVerdict}
 use Rattle.cell_pins.proofs.Ports.{in_filter}
 use Rattle.net_core.specs.Places.{Stands, NoneTwice}
 use Rattle.net_core.specs.Netlist.{Instance as Node, Netlist as InMemory}
-use Rattle.net_meaning.specs.Netlist.{Member, Netlist, port}
-use Rattle.net_view.specs.View.{member_of, IsSeenAs}
-use Rattle.net_view.specs.Writable.{CanBeAnInstance, CanBeNamed, HasShortNames}
-use Rattle.net_view.proofs.Lists.{in_place, map_twice}
-use Rattle.net_view.proofs.Models.{named_cell}
-use Rattle.net_view.proofs.Terminals.{seen_ports, seen_instances}
+use Rattle.net_meaning.specs.Netlist.{Member, AbstractNetlist, port}
+use Rattle.net_right.specs.View.{member_of, IsSeenAs}
+use Rattle.net_right.specs.Writable.{CanBeAnInstance, CanBeNamed, HasShortNames}
+use Rattle.net_right.proofs.Lists.{in_place, map_twice}
+use Rattle.net_right.proofs.Models.{named_cell}
+use Rattle.net_right.proofs.Terminals.{seen_ports, seen_instances}
 use Rattle.ocp_rows.specs.Placement.{row_width, rows_width, standing, supplies, supply_ports, track_ports, track_y, net_count}
 use Rattle.ocp_rows.specs.Length.{least, greatest}
 use Rattle.net_drawing.specs.Drawing.{Numbering, of_pins, riser, port_xs, track_over, net_wiring, wiring, track_items}
@@ -177,7 +177,7 @@ riser_good k name q high label at =
       (low_via_good q.0 q.1 name x y label, (high_via_good q.0 q.1 name x y label, (high_via_good q.0 (track_y k) name x high label, tt))),
     )
 
-module _ (n : Netlist) (l : Library) (net : Numbering) (ports : List Name) (each : (one : Member) → In one n.instances → IsModelOf l one) (few : length n.instances ≤ 65536)
+module _ (n : AbstractNetlist) (l : Library) (net : Numbering) (ports : List Name) (each : (one : Member) → In one n.instances → IsModelOf l one) (few : length n.instances ≤ 65536)
     (labels : (name : Name) → In name ports → IsGoodLabel (Some name)) where
   net_good : (k : ℕ) → k ≤ 100000 → AreGood (net_wiring n l net ports k)
   net_good k low =
@@ -237,7 +237,7 @@ record IsBoxWithin (b : Rect) : Type 0 where
 module _ (l : Library) (n : InMemory) (f : Figure) (passed : HasPassed false l) (given : IsDrawableIn l n) (named : CanBeNamed n) (short : HasShortNames n)
     (few : HasFewPins n) (few_ports : length n.ports ≤ 8192) (drawn : IsDrawnInTracks l n f) where
   -- the netlist of layouts that it is known by
-  abbrev k : Netlist
+  abbrev k : AbstractNetlist
   k = known n
 
   abbrev seen : IsSeenAs n k

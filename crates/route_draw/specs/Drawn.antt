@@ -3,9 +3,9 @@ use Rattle.std.specs.Prelude.{◌≡◌, [], Some}
 use Rattle.vlsi_base.specs.Names.{scalar}
 use Rattle.cell_model.specs.Library.{Library}
 use Rattle.net_core.specs.Netlist.{Netlist as InMemory}
-use Rattle.net_meaning.specs.Netlist.{Netlist}
+use Rattle.net_meaning.specs.Netlist.{AbstractNetlist}
 use Rattle.net_meaning.specs.Breaches.{Breaches}
-use Rattle.net_view.specs.View.{IsSeenAs}
+use Rattle.net_right.specs.View.{IsSeenAs}
 use Rattle.ap_io.specs.declared.figure.Figure.{Figure}
 use Rattle.ocp_rows.specs.Placement.{IsPlaced}
 use Rattle.net_drawing.specs.Shown.{ShowsNetlist}
@@ -19,8 +19,8 @@ use Rattle.ocp_place.specs.Nets.{signal_ports, net_number}
 -- the netlist.
 pub record IsDrawnInTracks (l : Library) (n : InMemory) (f : Figure) : Type 0 where
   pub named : f.name ≡ Some (scalar n.name)
-  pub lines : (k : Netlist) → IsSeenAs n k → f.items ≡ track_items k l (net_number k l) (signal_ports k)
-  pub box : (k : Netlist) → IsSeenAs n k → f.bounds ≡ track_box k l
-  pub shows : (k : Netlist) → IsSeenAs n k → ShowsNetlist f.items l k
+  pub lines : (k : AbstractNetlist) → IsSeenAs n k → f.items ≡ track_items k l (net_number k l) (signal_ports k)
+  pub box : (k : AbstractNetlist) → IsSeenAs n k → f.bounds ≡ track_box k l
+  pub shows : (k : AbstractNetlist) → IsSeenAs n k → ShowsNetlist f.items l k
   pub lawful : Breaches f.items l []
-  pub placed : (k : Netlist) → IsSeenAs n k → IsPlaced f.bounds f.items k l (one_row k (signal_ports k))
+  pub placed : (k : AbstractNetlist) → IsSeenAs n k → IsPlaced f.bounds f.items k l (one_row k (signal_ports k))

@@ -1,14 +1,14 @@
 -- What is drawn of a netlist is right, and can be written.
 use Rattle.std.specs.Prelude.{◌≤◌, false, filter, length, sum_by}
-use Rattle.machine_meaning.specs.Machine.{Machine}
+use Rattle.machine_core.specs.Machine.{Machine}
 use Rattle.machine_core.specs.Checked.{IsChecked}
 use Rattle.cell_model.specs.Library.{Library}
 use Rattle.cell_checks.specs.Checked.{IsChecked as HasPassed}
 use Rattle.net_core.specs.Netlist.{Netlist as InMemory}
-use Rattle.net_meaning.specs.Netlist.{Netlist, Extracts}
-use Rattle.net_view.specs.Right.{IsRightNetlist}
-use Rattle.net_view.specs.View.{IsSeenAs}
-use Rattle.net_view.specs.Writable.{CanBeNamed, HasShortNames}
+use Rattle.net_meaning.specs.Netlist.{AbstractNetlist, Extracts}
+use Rattle.net_right.specs.Right.{IsRightNetlist}
+use Rattle.net_right.specs.View.{IsSeenAs}
+use Rattle.net_right.specs.Writable.{CanBeNamed, HasShortNames}
 use Rattle.net_drawing.specs.Drawing.{IsDrawable}
 use Rattle.ap_io.specs.declared.figure.Figure.{Figure}
 use Rattle.ap_io.specs.ApText.{IsFigure, IsWithinLimits}
@@ -21,13 +21,13 @@ use Rattle.route_draw.specs.Drawn.{IsDrawnInTracks}
 -- that it is seen as.
 abbrev pub NetlistsAreDrawable : Type 0
 NetlistsAreDrawable =
-    (l : Library) (n : InMemory) (k : Netlist) → HasPassed false l → IsDrawableIn l n → HaveOwnColumns l n → IsSeenAs n k
+    (l : Library) (n : InMemory) (k : AbstractNetlist) → HasPassed false l → IsDrawableIn l n → HaveOwnColumns l n → IsSeenAs n k
     → IsDrawable k l (net_number k l) (signal_ports k)
 
 -- The drawing of a right netlist gives exactly this netlist, since none of its signal pins is tied to a supply.
 abbrev pub RightDrawingsAreRight : Type 0
 RightDrawingsAreRight =
-    (l : Library) (n : InMemory) (m : Machine) (k : Netlist) (f : Figure) → HasPassed false l → IsDrawableIn l n → IsChecked m → IsRightNetlist n l m
+    (l : Library) (n : InMemory) (m : Machine) (k : AbstractNetlist) (f : Figure) → HasPassed false l → IsDrawableIn l n → IsChecked m → IsRightNetlist n l m
     → IsSeenAs n k → IsDrawnInTracks l n f → Extracts f.items l k
 
 -- so few instances, and pins that are no supplies, as a source within the limits gives with all its buffers

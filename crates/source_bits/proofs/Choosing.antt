@@ -6,11 +6,11 @@ use Rattle.vlsi_base.specs.declared.expression.ParsedExpr.{ParsedExpr}
 use Rattle.vlsi_base.specs.Tree.{Tree, view}
 use Rattle.bool_expr.specs.declared.expr.Gate.TheVariants as gate
 use Rattle.bool_expr.specs.Expression.{Expression, choice}
-use Rattle.source_meaning.specs.declared.statement.Guarded.{Guarded}
-use Rattle.source_meaning.specs.declared.symbol_table.Symbol.{Symbol}
-use Rattle.source_meaning.specs.Symbols.{all_names}
-use Rattle.source_meaning.specs.Formula.{Formula, joined, numbered, formulas, first_bit, alternative_bits}
-use Rattle.source_meaning.specs.Clock.{all_of, condition_bits, conditions_among, parts_of, enable_of}
+use Rattle.source_checks.specs.declared.statement.Guarded.{Guarded}
+use Rattle.source_checks.specs.declared.symbol_table.Symbol.{Symbol}
+use Rattle.source_checks.specs.Symbols.{all_names}
+use Rattle.source_checks.specs.Formula.{Formula, joined, numbered, formulas, first_bit, alternative_bits}
+use Rattle.source_checks.specs.Clock.{all_of, condition_bits, conditions_among, parts_of, enable_of}
 use Rattle.source_bits.specs.Vectors.{each_two}
 use Rattle.source_bits.specs.Formulas.{bits_of, first_of, alternatives_of, grouped_of, all_in, condition_of}
 use Rattle.source_bits.proofs.Operators.{numbered_choices}

@@ -1,14 +1,14 @@
 -- Statements in which no line is at fault for the clock: each guard has it.
 use Rattle.std.proofs.Common.{◌≡◌, ℕ, zero, suc, ◌<◌, Bool, true, false, List, [], ◌∷◌, ◌++◌, get_or, length, Option, Some, None, refl, sym, ap, ◌∙◌, arith}
 use Rattle.vlsi_base.specs.Tree.{view}
-use Rattle.source_meaning.specs.declared.statement.BlockStatement.{BlockStatement}
-use Rattle.source_meaning.specs.declared.statement.Statement.{Statement}
-use Rattle.source_meaning.specs.declared.statement.Statement.TheVariants as statement
-use Rattle.source_meaning.specs.declared.symbol_table.Symbol.{Symbol}
-use Rattle.source_meaning.specs.Places.{in_statements, in_assignments}
-use Rattle.source_meaning.specs.Widths.{if_not}
-use Rattle.source_meaning.specs.Clock.{parts_of, steady_names, clock_of, is_same_clock, assignment_clock_lines, statement_clock_lines}
-use Rattle.source_meaning.proofs.Lookups.{same_of}
+use Rattle.source_checks.specs.declared.statement.BlockStatement.{BlockStatement}
+use Rattle.source_checks.specs.declared.statement.Statement.{Statement}
+use Rattle.source_checks.specs.declared.statement.Statement.TheVariants as statement
+use Rattle.source_checks.specs.declared.symbol_table.Symbol.{Symbol}
+use Rattle.source_checks.specs.Places.{in_statements, in_assignments}
+use Rattle.source_checks.specs.Widths.{if_not}
+use Rattle.source_checks.specs.Clock.{parts_of, steady_names, clock_of, is_same_clock, assignment_clock_lines, statement_clock_lines}
+use Rattle.source_checks.proofs.Lookups.{same_of}
 use Rattle.source_clock.proofs.Steady.{steady_of_clock}
 
 empty_left : (xs ys : List ℕ) → xs ++ ys ≡ [] → xs ≡ []

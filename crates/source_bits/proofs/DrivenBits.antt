@@ -2,15 +2,15 @@
 use Rattle.std.proofs.Common.{◌≡◌, ℕ, List, [], ◌∷◌, ◌++◌, map, Option, None, refl, sym, ap, ◌∙◌}
 use Rattle.std.proofs.lemmas.List.{map-append}
 use Rattle.vlsi_base.specs.declared.name.Name.{Name}
-use Rattle.source_meaning.specs.declared.statement.Assignment.{Assignment}
-use Rattle.source_meaning.specs.declared.statement.Statement.{Statement}
-use Rattle.source_meaning.specs.declared.statement.Statement.TheVariants as statement
-use Rattle.source_meaning.specs.declared.symbol_table.Symbol.{Symbol}
-use Rattle.source_meaning.specs.Symbols.{all_names}
-use Rattle.source_meaning.specs.Formula.{Formula, place, numbered, choice_bits}
-use Rattle.source_meaning.specs.Drivers.{target_names}
-use Rattle.source_meaning.specs.Places.{in_assignments, in_statements}
-use Rattle.source_meaning.specs.Elaboration.{Definition, Storage, defined, stored, assignment_definitions, statement_storage}
+use Rattle.source_checks.specs.declared.statement.Assignment.{Assignment}
+use Rattle.source_checks.specs.declared.statement.Statement.{Statement}
+use Rattle.source_checks.specs.declared.statement.Statement.TheVariants as statement
+use Rattle.source_checks.specs.declared.symbol_table.Symbol.{Symbol}
+use Rattle.source_checks.specs.Symbols.{all_names}
+use Rattle.source_checks.specs.Formula.{Formula, place, numbered, choice_bits}
+use Rattle.source_checks.specs.Drivers.{target_names}
+use Rattle.source_checks.specs.Places.{in_assignments, in_statements}
+use Rattle.source_checks.specs.Elaboration.{Definition, Storage, defined, stored, assignment_definitions, statement_storage}
 use Rattle.source_bits.specs.declared.ranges.Declared.{Declared}
 use Rattle.source_bits.specs.Numbering.{named_bit, number_in}
 use Rattle.source_bits.specs.Driven.{Numbered, NumberedStorage, numbered_definition, numbered_storage, driven_pairs, stored_pairs, stored_in}

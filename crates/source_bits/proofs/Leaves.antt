@@ -10,10 +10,10 @@ use Rattle.vlsi_base.specs.Tree.{Tree, binary, inverse, folded, view, operand_of
 use Rattle.bool_expr.specs.declared.expr.Expr.{Expr}
 use Rattle.bool_expr.specs.View.{view as expression}
 use Rattle.bool_expr.specs.Expression.{Expression, constant, variable, inverse as not_of}
-use Rattle.source_meaning.specs.declared.symbol_table.Symbol.{Symbol}
-use Rattle.source_meaning.specs.Symbols.{find, names_in, all_names}
-use Rattle.source_meaning.specs.Formula.{fixed, named, numbered, leaf, names_of_found, place, is_odd, low_bits, formulas}
-use Rattle.source_meaning.proofs.Names.{find_text}
+use Rattle.source_checks.specs.declared.symbol_table.Symbol.{Symbol}
+use Rattle.source_checks.specs.Symbols.{find, names_in, all_names}
+use Rattle.source_checks.specs.Formula.{fixed, named, numbered, leaf, names_of_found, place, is_odd, low_bits, formulas}
+use Rattle.source_checks.proofs.Names.{find_text}
 use Rattle.source_bits.specs.declared.ranges.Declared.{Declared}
 use Rattle.source_bits.specs.Numbering.{named_bit, number_in}
 use Rattle.source_bits.specs.Vectors.{operator_of}

@@ -7,7 +7,7 @@ use Rattle.vlsi_base.specs.declared.expression.Operator.TheVariants as operator
 use Rattle.bool_expr.specs.declared.expr.Gate.{Gate}
 use Rattle.bool_expr.specs.declared.expr.Gate.TheVariants as gate
 use Rattle.bool_expr.specs.Expression.{Expression, pair, choice, inverse}
-use Rattle.source_meaning.specs.Formula.{Formula, numbered, joined, chosen, opposite, each_pair, equal_within, equal_bits, unequal_bits, operator_bits}
+use Rattle.source_checks.specs.Formula.{Formula, numbered, joined, chosen, opposite, each_pair, equal_within, equal_bits, unequal_bits, operator_bits}
 use Rattle.source_bits.specs.Vectors.{each_two, all_within, equal_of, unequal_of, operator_of}
 
 pub numbered_pairs : (vars : List Name) (g : Gate) (xs ys : List Formula) → map (numbered vars) (each_pair (joined g) xs ys) ≡ each_two (pair g) (map (numbered vars) xs) (map (numbered vars) ys)

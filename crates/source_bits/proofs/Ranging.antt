@@ -5,10 +5,10 @@ use Rattle.std.specs.Cmp.Lexicographic.{bytes_decides}
 use Rattle.std.proofs.lemmas.Bool.Decides.{nat_tests}
 use Rattle.vlsi_base.specs.declared.name.Name.{Name}
 use Rattle.vlsi_base.specs.declared.range.Range.{Range}
-use Rattle.machine_meaning.specs.Named.{is_same_name}
+use Rattle.machine_core.specs.Named.{is_same_name}
 use Rattle.vlsi_base.specs.Range.{rising, falling, range_bits}
-use Rattle.source_meaning.specs.Symbols.{bit_name, names_in}
-use Rattle.source_meaning.specs.Formula.{place}
+use Rattle.source_checks.specs.Symbols.{bit_name, names_in}
+use Rattle.source_checks.specs.Formula.{place}
 use Rattle.source_bits.specs.declared.ranges.Declared.{Declared}
 use Rattle.source_bits.specs.Numbering.{named_bit, IsOffset, LiesWithin}
 use Rattle.vlsi_base.proofs.Ranges.{length_of_range}

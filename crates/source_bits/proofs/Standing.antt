@@ -7,15 +7,15 @@ use Rattle.std.proofs.lemmas.Bool.Decides.{nat_tests}
 use Rattle.std.proofs.lemmas.List.{length-append}
 use Rattle.vlsi_base.specs.declared.name.Name.{Name}
 use Rattle.vlsi_base.specs.declared.range.Range.{Range}
-use Rattle.machine_meaning.specs.Named.{is_same_text, is_same_name, is_same_bit}
+use Rattle.machine_core.specs.Named.{is_same_text, is_same_name, is_same_bit}
 use Rattle.machine_core.specs.Order.{In, here, there, AllDifferent}
-use Rattle.source_meaning.specs.declared.symbol_table.Symbol.{Symbol}
+use Rattle.source_checks.specs.declared.symbol_table.Symbol.{Symbol}
 use Rattle.vlsi_base.specs.Range.{range_bits}
-use Rattle.source_meaning.specs.Symbols.{symbol_names, all_names, bit_name, names_in}
-use Rattle.source_meaning.specs.Formula.{place}
-use Rattle.source_meaning.specs.Known.{position_of}
-use Rattle.source_meaning.proofs.Lookups.{same_of, itself}
-use Rattle.source_meaning.proofs.Knowing.{not_behind}
+use Rattle.source_checks.specs.Symbols.{symbol_names, all_names, bit_name, names_in}
+use Rattle.source_checks.specs.Formula.{place}
+use Rattle.source_checks.specs.Known.{position_of}
+use Rattle.source_checks.proofs.Lookups.{same_of, itself}
+use Rattle.source_checks.proofs.Knowing.{not_behind}
 use Rattle.source_bits.specs.declared.ranges.Declared.{Declared}
 use Rattle.source_bits.specs.Numbering.{named_bit, starts_from, Begins, LiesWithin, number_in}
 

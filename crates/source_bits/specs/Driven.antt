@@ -3,12 +3,12 @@ use Rattle.std.specs.Prelude.{ℕ, List, [], ◌∷◌, map}
 use Rattle.vlsi_base.specs.declared.name.Name.{Name}
 use Rattle.bool_expr.specs.Expression.{Expression}
 use Rattle.bool_expr.specs.View.{view}
-use Rattle.source_meaning.specs.declared.statement.Assignment.{Assignment}
-use Rattle.source_meaning.specs.declared.symbol_table.Symbol.{Symbol}
-use Rattle.source_meaning.specs.Symbols.{all_names}
-use Rattle.source_meaning.specs.Formula.{place, numbered, choice_bits}
-use Rattle.source_meaning.specs.Drivers.{target_names}
-use Rattle.source_meaning.specs.Elaboration.{Definition, Storage}
+use Rattle.source_checks.specs.declared.statement.Assignment.{Assignment}
+use Rattle.source_checks.specs.declared.symbol_table.Symbol.{Symbol}
+use Rattle.source_checks.specs.Symbols.{all_names}
+use Rattle.source_checks.specs.Formula.{place, numbered, choice_bits}
+use Rattle.source_checks.specs.Drivers.{target_names}
+use Rattle.source_checks.specs.Elaboration.{Definition, Storage}
 use Rattle.source_bits.specs.declared.driven.DrivenBit.{DrivenBit}
 use Rattle.source_bits.specs.declared.driven.StoredBit.{StoredBit}
 

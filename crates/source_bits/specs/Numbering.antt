@@ -1,9 +1,9 @@
 -- Numbers of declared bits, name by name.
 use Rattle.std.specs.Prelude.{◌≡◌, ℕ, ◌+◌, ◌≤◌, ◌<◌, nat_lt, slice_index_or, List, [], ◌∷◌, length, Option, None, Some, if◌then◌else◌}
 use Rattle.vlsi_base.specs.declared.name.Name.{Name}
-use Rattle.source_meaning.specs.declared.symbol_table.Symbol.{Symbol}
-use Rattle.source_meaning.specs.Symbols.{symbol_names, all_names, names_in}
-use Rattle.source_meaning.specs.Formula.{place}
+use Rattle.source_checks.specs.declared.symbol_table.Symbol.{Symbol}
+use Rattle.source_checks.specs.Symbols.{symbol_names, all_names, names_in}
+use Rattle.source_checks.specs.Formula.{place}
 use Rattle.source_bits.specs.declared.ranges.Declared.{Declared}
 
 abbrev pub named_bit : List ℕ → Option ℕ → Name

@@ -4,9 +4,9 @@ ghost use Rattle.vlsi_base.specs.Tree.{view as tree};
 ghost use Rattle.bool_expr.specs.View.{view};
 ghost use Rattle.bool_expr.specs.Expression.{choice as choice_of};
 ghost use Rattle.machine_core.specs.Order.{AllDifferent};
-ghost use Rattle.source_meaning.specs.Symbols.{all_names};
-ghost use Rattle.source_meaning.specs.Formula.{numbered, choice_bits};
-ghost use Rattle.source_meaning.specs.Clock.{parts_of, steady_names, enable_of};
+ghost use Rattle.source_checks.specs.Symbols.{all_names};
+ghost use Rattle.source_checks.specs.Formula.{numbered, choice_bits};
+ghost use Rattle.source_checks.specs.Clock.{parts_of, steady_names, enable_of};
 ghost use Rattle.source_bits.specs.Vectors.{each_two};
 ghost use Rattle.source_bits.specs.Formulas.{bits_of, first_of, alternatives_of, grouped_of, all_in, condition_of};
 
@@ -14,8 +14,8 @@ use crate::Numbers;
 use crate::formulas::bits;
 use crate::vectors::{choose_bits, pair};
 use bool_expr::{Expr, Gate};
+use source_checks::{Choice, Guarded};
 use source_clock::conditions;
-use source_meaning::{Choice, Guarded};
 use std::alloc::{AllocError, Global};
 use vlsi_base::ParsedExpr;
 

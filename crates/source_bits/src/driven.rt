@@ -4,12 +4,12 @@ ghost use Rattle.std.specs.Option.{option_copied};
 ghost use Rattle.vlsi_base.specs.Tree.{view as tree};
 ghost use Rattle.bool_expr.specs.View.{view};
 ghost use Rattle.machine_core.specs.Order.{AllDifferent};
-ghost use Rattle.source_meaning.specs.Symbols.{all_names, names_in};
-ghost use Rattle.source_meaning.specs.Formula.{place, numbered};
-ghost use Rattle.source_meaning.specs.Drivers.{target_names};
-ghost use Rattle.source_meaning.specs.Places.{in_assignments, in_statements};
-ghost use Rattle.source_meaning.specs.Clock.{parts_of, steady_names, enable_of, statement_clock_lines};
-ghost use Rattle.source_meaning.specs.Elaboration.{assignment_definitions, statement_definitions, statement_storage, stored};
+ghost use Rattle.source_checks.specs.Symbols.{all_names, names_in};
+ghost use Rattle.source_checks.specs.Formula.{place, numbered};
+ghost use Rattle.source_checks.specs.Drivers.{target_names};
+ghost use Rattle.source_checks.specs.Places.{in_assignments, in_statements};
+ghost use Rattle.source_checks.specs.Clock.{parts_of, steady_names, enable_of, statement_clock_lines};
+ghost use Rattle.source_checks.specs.Elaboration.{assignment_definitions, statement_definitions, statement_storage, stored};
 ghost use Rattle.source_bits.specs.Numbering.{named_bit};
 ghost use Rattle.source_bits.specs.Driven.{driven_view, stored_view, numbered_definition, numbered_storage, driven_pairs, stored_pairs, stored_in};
 
@@ -17,7 +17,7 @@ use crate::Numbers;
 use crate::choices::{choice_bits, enable};
 use crate::ranges::{bits_in, number_in};
 use bool_expr::{Expr, copy};
-use source_meaning::{Assignment, BlockStatement, Selection, Statement, Target};
+use source_checks::{Assignment, BlockStatement, Selection, Statement, Target};
 use std::alloc::{AllocError, Global};
 use vlsi_base::Range;
 

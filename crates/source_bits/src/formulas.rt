@@ -4,8 +4,8 @@ ghost use Rattle.vlsi_base.specs.Tree.{view as tree};
 ghost use Rattle.bool_expr.specs.View.{view};
 ghost use Rattle.bool_expr.specs.Expression.{constant};
 ghost use Rattle.machine_core.specs.Order.{AllDifferent};
-ghost use Rattle.source_meaning.specs.Symbols.{all_names, find, names_in};
-ghost use Rattle.source_meaning.specs.Formula.{formulas, numbered, leaf as leaf_of, names_of_found, digit_value, low_bits, literal_bits};
+ghost use Rattle.source_checks.specs.Symbols.{all_names, find, names_in};
+ghost use Rattle.source_checks.specs.Formula.{formulas, numbered, leaf as leaf_of, names_of_found, digit_value, low_bits, literal_bits};
 ghost use Rattle.source_bits.specs.Numbering.{named_bit, LiesWithin};
 ghost use Rattle.source_bits.specs.Formulas.{leaf_in, folded_bits};
 

@@ -3,12 +3,12 @@ ghost use Rattle.std.specs.Prelude.{◌≡◌, ◌+◌, ◌<◌, ◌≤◌, ◌^
 ghost use Rattle.std.specs.List.{slice_get};
 ghost use Rattle.std.specs.Option.{option_map};
 ghost use Rattle.machine_core.specs.Order.{AllDifferent};
-ghost use Rattle.source_meaning.specs.Symbols.{symbol_names, all_names, find};
-ghost use Rattle.source_meaning.specs.Formula.{place};
+ghost use Rattle.source_checks.specs.Symbols.{symbol_names, all_names, find};
+ghost use Rattle.source_checks.specs.Formula.{place};
 ghost use Rattle.source_bits.specs.Numbering.{named_bit, starts_from, IsNumbered, number_in, LiesWithin, Begins};
 
 use crate::ranges::{Declared, bit_at, number_in, width};
-use source_meaning::{Symbol, SymbolTable};
+use source_checks::{Symbol, SymbolTable};
 use std::alloc::{AllocError, Global};
 use std::marker::Model;
 use vlsi_base::{Name, Text};
@@ -24,7 +24,7 @@ pub struct Numbers {
 
 impl Model for Numbers {
     ghost use Rattle.std.specs.Prelude.{List};
-    ghost use Rattle.source_meaning.specs.declared.symbol_table.Symbol.{Symbol};
+    ghost use Rattle.source_checks.specs.declared.symbol_table.Symbol.{Symbol};
     ghost use Rattle.source_bits.specs.Numbering.{IsNumbered};
 
     ghost Value = { List Symbol };

@@ -1,7 +1,7 @@
 // The bits of one name.
 ghost use Rattle.std.specs.Prelude.{◌≡◌, ◌+◌, ◌<◌, ◌≤◌, ◌^◌, ℕ, List, [], length, map, Some, IfOk};
 ghost use Rattle.std.specs.List.{slice_get};
-ghost use Rattle.source_meaning.specs.Symbols.{names_in};
+ghost use Rattle.source_checks.specs.Symbols.{names_in};
 ghost use Rattle.source_bits.specs.Numbering.{named_bit, IsOffset, number_in, LiesWithin};
 
 use std::alloc::{AllocError, Global};

@@ -5,7 +5,7 @@ use Rattle.vlsi_base.specs.declared.expression.ParsedExpr.{ParsedExpr}
 use Rattle.vlsi_base.specs.declared.expression.Operator.{Operator}
 use Rattle.vlsi_base.specs.declared.expression.Operator.TheVariants as operator
 use Rattle.vlsi_base.specs.Tree.{Tree, bit, literal, name, index, slice, stable, inverse, binary, folded, view}
-use Rattle.source_meaning.specs.Clock.{without_one, clock_alone, conjuncts, plain_name, is_name}
+use Rattle.source_checks.specs.Clock.{without_one, clock_alone, conjuncts, plain_name, is_name}
 use Rattle.source_clock.specs.Operands.{is_and, is_equal, is_one, is_plain, is_beside_one, conjuncts_of}
 use Rattle.std.specs.Prelude.{◌&&◌}
 use Rattle.source_clock.proofs.Chains.{IsPair, IsDeep}

@@ -3,8 +3,8 @@ use Rattle.std.proofs.Common.{◌≡◌, ℕ, Bool, true, false, cond, Some, Non
 use Rattle.vlsi_base.specs.declared.expression.Operator.{Operator}
 use Rattle.vlsi_base.specs.declared.expression.Operator.TheVariants as operator
 use Rattle.vlsi_base.specs.Tree.{Tree, bit, literal, name, index, slice, stable, inverse, binary}
-use Rattle.source_meaning.specs.declared.symbol_table.Symbol.{Symbol}
-use Rattle.source_meaning.specs.Clock.{parts_of, steady_names, clock_of_parts, clock_of}
+use Rattle.source_checks.specs.declared.symbol_table.Symbol.{Symbol}
+use Rattle.source_checks.specs.Clock.{parts_of, steady_names, clock_of_parts, clock_of}
 use Rattle.source_clock.specs.Operands.{is_equal}
 use Rattle.source_clock.proofs.Chains.{IsDeep}
 

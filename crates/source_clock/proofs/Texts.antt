@@ -4,14 +4,14 @@ use Rattle.std.specs.Prelude.{IfOk}
 use Rattle.std.specs.declared.alloc.AllocError.{AllocError}
 use Rattle.vlsi_base.specs.declared.expression.ParsedExpr.{ParsedExpr}
 use Rattle.vlsi_base.specs.Tree.{Tree, view}
-use Rattle.source_meaning.specs.declared.statement.Statement.{Statement}
-use Rattle.source_meaning.specs.declared.statement.DesignFile.{DesignFile}
-use Rattle.source_meaning.specs.declared.symbol_table.Symbol.{Symbol}
-use Rattle.source_meaning.specs.Lines.{first_line}
-use Rattle.source_meaning.specs.Places.{in_statements}
-use Rattle.source_meaning.specs.Symbols.{symbols}
-use Rattle.source_meaning.specs.Clock.{first_text, statement_clocks, statement_clock_lines, clock_text, all_clock_lines}
-use Rattle.source_meaning.proofs.Turns.{or_first}
+use Rattle.source_checks.specs.declared.statement.Statement.{Statement}
+use Rattle.source_checks.specs.declared.statement.DesignFile.{DesignFile}
+use Rattle.source_checks.specs.declared.symbol_table.Symbol.{Symbol}
+use Rattle.source_checks.specs.Lines.{first_line}
+use Rattle.source_checks.specs.Places.{in_statements}
+use Rattle.source_checks.specs.Symbols.{symbols}
+use Rattle.source_checks.specs.Clock.{first_text, statement_clocks, statement_clock_lines, clock_text, all_clock_lines}
+use Rattle.source_checks.proofs.Turns.{or_first}
 
 abbrev pub trees : List (Bor ParsedExpr) → List Tree
 trees parts = map (λ (r : Bor ParsedExpr). view r.now) parts

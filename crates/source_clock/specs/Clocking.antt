@@ -1,11 +1,11 @@
 -- The clock in names, among a guard's parts and in a block.
 use Rattle.std.specs.Prelude.{ℕ, bytes_eq, List, [], ◌∷◌, ◌++◌, Option, None, Some, if◌then◌else◌}
 use Rattle.vlsi_base.specs.Tree.{view}
-use Rattle.source_meaning.specs.declared.statement.BlockStatement.{BlockStatement}
-use Rattle.source_meaning.specs.declared.symbol_table.Symbol.{Symbol}
-use Rattle.source_meaning.specs.Places.{in_assignments}
-use Rattle.source_meaning.specs.Widths.{if_not}
-use Rattle.source_meaning.specs.Clock.{clock_of, is_same_clock, assignment_clock_lines}
+use Rattle.source_checks.specs.declared.statement.BlockStatement.{BlockStatement}
+use Rattle.source_checks.specs.declared.symbol_table.Symbol.{Symbol}
+use Rattle.source_checks.specs.Places.{in_assignments}
+use Rattle.source_checks.specs.Widths.{if_not}
+use Rattle.source_checks.specs.Clock.{clock_of, is_same_clock, assignment_clock_lines}
 
 -- the line of a name that is the clock
 abbrev pub clock_lines_of_name : Option (List ℕ) → List ℕ → ℕ → List ℕ

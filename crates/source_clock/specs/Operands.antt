@@ -3,7 +3,7 @@ use Rattle.std.specs.Prelude.{ℕ, Bool, true, false, ◌&&◌, bytes_eq, List, 
 use Rattle.vlsi_base.specs.declared.expression.Operator.{Operator}
 use Rattle.vlsi_base.specs.declared.expression.Operator.TheVariants as operator
 use Rattle.vlsi_base.specs.Tree.{Tree, bit, literal, name, index, slice, stable, inverse, binary}
-use Rattle.source_meaning.specs.Clock.{conjuncts}
+use Rattle.source_checks.specs.Clock.{conjuncts}
 
 abbrev pub is_and : Operator → Bool
 is_and operator.And = true

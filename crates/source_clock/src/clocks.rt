@@ -2,13 +2,13 @@
 ghost use Rattle.std.specs.Prelude.{◌≡◌, Bool, Some, map, length, IfOk};
 ghost use Rattle.std.specs.Option.{option_copied};
 ghost use Rattle.vlsi_base.specs.Tree.{view};
-ghost use Rattle.source_meaning.specs.Places.{in_statements};
-ghost use Rattle.source_meaning.specs.Clock.{may_clock, steady_names, clocks_among, is_single, none_reads, clock_of, statement_clocks, first_text};
+ghost use Rattle.source_checks.specs.Places.{in_statements};
+ghost use Rattle.source_checks.specs.Clock.{may_clock, steady_names, clocks_among, is_single, none_reads, clock_of, statement_clocks, first_text};
 ghost use Rattle.source_clock.specs.Clocking.{only_text};
 
 use crate::guards::{further, is_clock, parts, steady_name};
 use crate::reads::clock_line;
-use source_meaning::{Role, Statement, Symbol, SymbolTable};
+use source_checks::{Role, Statement, Symbol, SymbolTable};
 use std::alloc::{AllocError, Global};
 use vlsi_base::{ParsedExpr, Text, is_supply};
 

@@ -1,15 +1,15 @@
 // Guards without the text's clock, and the clock where it may not stand.
 ghost use Rattle.std.specs.Prelude.{◌≡◌, map, IfOk};
 ghost use Rattle.std.specs.Option.{option_copied};
-ghost use Rattle.source_meaning.specs.Lines.{first_line};
-ghost use Rattle.source_meaning.specs.Places.{in_statements};
-ghost use Rattle.source_meaning.specs.Symbols.{symbols};
-ghost use Rattle.source_meaning.specs.Clock.{is_same_clock, statement_clock_lines, all_clock_lines};
+ghost use Rattle.source_checks.specs.Lines.{first_line};
+ghost use Rattle.source_checks.specs.Places.{in_statements};
+ghost use Rattle.source_checks.specs.Symbols.{symbols};
+ghost use Rattle.source_checks.specs.Clock.{is_same_clock, statement_clock_lines, all_clock_lines};
 ghost use Rattle.source_clock.specs.Clocking.{block_clock_lines};
 
 use crate::clocks::{clock, clock_of};
 use crate::reads::{clock_line, clock_line_in_assignment, clock_line_in_assignments};
-use source_meaning::{BlockStatement, DesignFile, Statement, SymbolTable};
+use source_checks::{BlockStatement, DesignFile, Statement, SymbolTable};
 use std::alloc::{AllocError, Global};
 use vlsi_base::Text;
 

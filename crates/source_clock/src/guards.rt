@@ -3,7 +3,7 @@
 ghost use Rattle.std.specs.Prelude.{◌≡◌, ◌++◌, ◌∷◌, [], ◌&&◌, ◌||◌, not, is_none, map, IfOk, OnOk, IfSome, IfNone, if◌then◌else◌};
 ghost use Rattle.std.specs.Option.{option_copied};
 ghost use Rattle.vlsi_base.specs.Tree.{view, operand_of};
-ghost use Rattle.source_meaning.specs.Clock.{without_one, conjuncts, parts_of, is_name, steady_name, steady_names, conditions_among};
+ghost use Rattle.source_checks.specs.Clock.{without_one, conjuncts, parts_of, is_name, steady_name, steady_names, conditions_among};
 ghost use Rattle.source_clock.specs.Operands.{is_and, is_equal, is_one, is_plain, stable_name, is_beside_one, conjuncts_of};
 
 use std::alloc::{AllocError, Global};

@@ -2,12 +2,12 @@
 ghost use Rattle.std.specs.Prelude.{◌≡◌, ◌++◌, map};
 ghost use Rattle.std.specs.Option.{option_copied};
 ghost use Rattle.vlsi_base.specs.Tree.{view, operand_of};
-ghost use Rattle.source_meaning.specs.Lines.{first_line, in_operands};
-ghost use Rattle.source_meaning.specs.Places.{in_alternatives, in_assignments};
-ghost use Rattle.source_meaning.specs.Clock.{clock_lines, assignment_clock_lines};
+ghost use Rattle.source_checks.specs.Lines.{first_line, in_operands};
+ghost use Rattle.source_checks.specs.Places.{in_alternatives, in_assignments};
+ghost use Rattle.source_checks.specs.Clock.{clock_lines, assignment_clock_lines};
 ghost use Rattle.source_clock.specs.Clocking.{clock_lines_of_name};
 
-use source_meaning::{Assignment, Guarded};
+use source_checks::{Assignment, Guarded};
 use vlsi_base::{ParsedExpr, Text};
 
 /// The line on which this name stands, if it is the clock.
@@ -28,7 +28,7 @@ fn line_of_name(clock: Option<&Text>, text: &Text, line: u32) -> Option<u32>
 
 /// The line of the first read of the clock, or of the first `stable`, in an expression. Takes no memory.
 #[cycle(clock_line)]
-#[tactic(auto, using(source_meaning::proofs::FirstLines::first_line_append))]
+#[tactic(auto, using(source_checks::proofs::FirstLines::first_line_append))]
 pub fn clock_line(clock: Option<&Text>, e: &ParsedExpr) -> Option<u32>
     ensures { result ≡ first_line (clock_lines (option_copied clock.entry) (view e.now)) }
 {
@@ -52,7 +52,7 @@ pub fn clock_line(clock: Option<&Text>, e: &ParsedExpr) -> Option<u32>
 }
 
 #[cycle(clock_line)]
-#[tactic(auto, using(source_meaning::proofs::FirstLines::first_line_append))]
+#[tactic(auto, using(source_checks::proofs::FirstLines::first_line_append))]
 fn clock_line_among(clock: Option<&Text>, others: &[(u32, ParsedExpr)]) -> Option<u32>
     ensures { result ≡ first_line (in_operands (clock_lines (option_copied clock.entry)) (map operand_of others.now)) }
 {
@@ -65,7 +65,7 @@ fn clock_line_among(clock: Option<&Text>, others: &[(u32, ParsedExpr)]) -> Optio
 }
 
 /// The same of an alternative: of its value, then of its condition.
-#[tactic(auto, using(source_meaning::proofs::FirstLines::first_line_append))]
+#[tactic(auto, using(source_checks::proofs::FirstLines::first_line_append))]
 fn clock_line_in_guarded(clock: Option<&Text>, guarded: &Guarded) -> Option<u32>
     ensures { result ≡ first_line (clock_lines (option_copied clock.entry) (view guarded.now.value)
         ++ clock_lines (option_copied clock.entry) (view guarded.now.condition)) }
@@ -89,7 +89,7 @@ fn clock_line_in_alternatives(clock: Option<&Text>, alternatives: &[Guarded]) ->
 }
 
 /// The same of an assignment.
-#[tactic(auto, using(source_meaning::proofs::FirstLines::first_line_append))]
+#[tactic(auto, using(source_checks::proofs::FirstLines::first_line_append))]
 pub(crate) fn clock_line_in_assignment(clock: Option<&Text>, assignment: &Assignment) -> Option<u32>
     ensures { result ≡ first_line (assignment_clock_lines (option_copied clock.entry) assignment.now) }
 {

@@ -2,9 +2,9 @@
 use Rattle.std.proofs.Common.{◌≡◌, ℕ, suc, ◌+◌, ◌-◌, ◌*◌, ◌^◌, ◌<◌, ◌≤◌, Bool, false, true, List, [], ◌∷◌, ◌++◌, map, length, refl, sym, ◌∙◌, ap, subst, arith, length-append}
 use Rattle.std.specs.List.{IsDistinct}
 use Rattle.bool_expr.specs.Expression.{bit}
-use Rattle.machine_meaning.specs.Machine.{Machine, inputs, register_names}
-use Rattle.machine_meaning.specs.Named.{value_at}
-use Rattle.machine_meaning.specs.Cycles.{Settles, outs, next}
+use Rattle.machine_core.specs.Machine.{Machine, inputs, register_names}
+use Rattle.machine_core.specs.Named.{value_at}
+use Rattle.machine_core.specs.Cycles.{Settles, outs, next}
 use Rattle.net_theory.proofs.Basics.{length-map, number_in}
 use Rattle.graph_theory.specs.Graph.{Node, Graph, grown, node_bit, is_logic, is_fixed, held_count, EachReadsEarlier, IsApart, IsSmall}
 use Rattle.graph_theory.proofs.Values.{grown_keeps}

@@ -2,7 +2,7 @@
 use Rattle.std.proofs.Common.{◌≡◌, ◌⊎◌, inl, inr, ℕ, zero, suc, ◌+◌, ◌<◌, ◌≤◌, Bool, true, List, [], ◌∷◌, ◌++◌, map, length, refl, sym, ◌∙◌, ap, subst, arith, append_assoc, append-nil, length-append, if◌then◌else◌}
 use Rattle.bool_expr.specs.Expression.{Expression, constant, val, size_of}
 use Rattle.vlsi_base.specs.Member.{In, here, there}
-use Rattle.machine_meaning.specs.Machine.{Register}
+use Rattle.machine_core.specs.Machine.{Register}
 use Rattle.net_theory.specs.Sources.{IsNumber}
 use Rattle.net_theory.proofs.Basics.{number_below, number_in}
 use Rattle.graph_theory.specs.Graph.{Node}

@@ -14,7 +14,7 @@ use Rattle.vlsi_base.specs.Member.{In, here, there}
 use Rattle.vlsi_base.specs.Name.{name_cmp}
 use Rattle.vlsi_base.specs.NamePlaces.{NamePlaces, last_place}
 use Rattle.vlsi_base.proofs.NameOrder.{name_total, name_exact}
-use Rattle.machine_meaning.specs.Machine.{is_input, names_of}
+use Rattle.machine_core.specs.Machine.{is_input, names_of}
 use Rattle.net_theory.specs.Sources.{IsNumber}
 use Rattle.subject_graph.specs.Stages.{IsNumberOf}
 use Rattle.subject_graph.proofs.Apart.{In-first}

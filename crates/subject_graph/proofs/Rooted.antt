@@ -6,10 +6,10 @@ use Rattle.vlsi_base.specs.declared.name.Name.{Name}
 use Rattle.vlsi_base.specs.declared.name.Port.{Port}
 use Rattle.vlsi_base.specs.Member.{In, here, there}
 use Rattle.bool_expr.specs.Expression.{size_of}
-use Rattle.machine_meaning.specs.Machine.{Machine, Equation, Register, inputs, outputs, names_of, is_input}
-use Rattle.machine_meaning.specs.declared.equation.Register.{Register as RegisterParts}
+use Rattle.machine_core.specs.Machine.{Machine, Equation, Register, inputs, outputs, names_of, is_input}
+use Rattle.machine_core.specs.declared.equation.Register.{Register as RegisterParts}
 use Rattle.machine_core.specs.View.{register_view}
-use Rattle.machine_meaning.specs.Size.{machine_size}
+use Rattle.machine_core.specs.Size.{machine_size}
 use Rattle.machine_core.specs.Built.{built}
 use Rattle.machine_core.specs.Checked.{IsChecked}
 use Rattle.net_theory.specs.Sources.{IsNumber}

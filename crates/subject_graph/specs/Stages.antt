@@ -2,8 +2,8 @@
 use Rattle.std.specs.Prelude.{◌≡◌, ℕ, ◌+◌, ◌*◌, ◌≤◌, Bool, List, [], ◌∷◌, ◌++◌, map, length, count_by, if◌then◌else◌}
 use Rattle.vlsi_base.specs.declared.name.Name.{Name}
 use Rattle.bool_expr.specs.Expression.{val, size_of, IsOver}
-use Rattle.machine_meaning.specs.Machine.{Machine, Register, outputs}
-use Rattle.machine_meaning.specs.Size.{machine_size}
+use Rattle.machine_core.specs.Machine.{Machine, Register, outputs}
+use Rattle.machine_core.specs.Size.{machine_size}
 use Rattle.machine_core.specs.Built.{built}
 use Rattle.net_theory.specs.Sources.{IsNumber}
 use Rattle.graph_theory.specs.Graph.{Node, is_logic, held_count, IsGraphOf}

@@ -1,8 +1,8 @@
 -- The subject graph of a machine: its nodes are shared, and its outputs show different nodes.
 use Rattle.std.specs.Prelude.{◌≡◌, ℕ, ◌+◌, ◌^◌, ◌<◌, Bool, ◌||◌, nat_lt, List, [], ◌∷◌, ◌++◌, length, if◌then◌else◌}
 use Rattle.bool_expr.specs.Support.{among}
-use Rattle.machine_meaning.specs.Machine.{Machine, inputs}
-use Rattle.machine_meaning.specs.Size.{machine_size}
+use Rattle.machine_core.specs.Machine.{Machine, inputs}
+use Rattle.machine_core.specs.Size.{machine_size}
 use Rattle.graph_theory.specs.Graph.{Node, inv, Graph, held_count, IsGraphOf, IsApart, IsSmall}
 use Rattle.subject_table.specs.Grows.{AreBelow}
 use Rattle.subject_table.specs.Shared.{AreShared}

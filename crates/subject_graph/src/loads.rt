@@ -8,7 +8,7 @@ ghost use Rattle.subject_table.specs.Grows.{IsSound, HasRoom, AreBelow, Adds};
 ghost use Rattle.subject_graph.specs.Stages.{LoadsOver, EachLoadsOver, Loads, load_value, load_size, load_weight};
 
 use bool_expr::Expr;
-use machine_meaning::Register;
+use machine_core::Register;
 use std::alloc::{AllocError, Global};
 use subject_table::Table;
 

@@ -2,7 +2,7 @@
 ghost use Rattle.std.specs.Prelude.{◌≡◌, ◌<◌, length, not, filter, IfOk, IsSomeAnd};
 ghost use Rattle.std.specs.List.{AllZip};
 ghost use Rattle.vlsi_base.specs.Member.{In};
-ghost use Rattle.machine_meaning.specs.Machine.{names_of, is_input};
+ghost use Rattle.machine_core.specs.Machine.{names_of, is_input};
 ghost use Rattle.net_theory.specs.Sources.{IsNumber};
 ghost use Rattle.cell_model.specs.Access.{count_to};
 ghost use Rattle.subject_graph.specs.Subject.{IsNumberable};

@@ -3,7 +3,7 @@ use Rattle.std.proofs.Common.{◌≡◌, ℕ, suc, ◌+◌, ◌<◌, ◌≤◌, 
 use Rattle.std.specs.List.{slice_index_or}
 use Rattle.bool_expr.specs.Expression.{val, size_of}
 use Rattle.bool_expr.specs.View.{view}
-use Rattle.machine_meaning.specs.declared.equation.Equation.{Equation}
+use Rattle.machine_core.specs.declared.equation.Equation.{Equation}
 use Rattle.machine_core.specs.Built.{built}
 use Rattle.machine_core.specs.Order.{EachReadsBelow}
 use Rattle.machine_core.specs.View.{equation_view}

@@ -1,7 +1,7 @@
 -- How a table of nodes grows.
 use Rattle.std.specs.Prelude.{◌≡◌, ℕ, ◌+◌, ◌^◌, ◌<◌, ◌≤◌, Bool, not, ◌&&◌, List, [], ◌∷◌, ◌++◌, map, length, count_by}
 use Rattle.bool_expr.specs.Expression.{bit, size_of}
-use Rattle.machine_meaning.specs.Machine.{Equation}
+use Rattle.machine_core.specs.Machine.{Equation}
 use Rattle.machine_core.specs.Built.{built}
 use Rattle.vlsi_base.specs.Member.{In}
 use Rattle.net_theory.specs.Sources.{IsNumber}

@@ -1,8 +1,8 @@
 -- The numbers at which the search ends, as codes.
 use Rattle.std.proofs.Common.{◌≡◌, ℕ, ◌+◌, Bool, List, map, length, take, drop, ◌++◌, Option, sym, ap, ◌∙◌, add-one, append-nil, arith}
 use Rattle.std.proofs.lemmas.List.{take_all, drop_all}
-use Rattle.fsm_meaning.specs.Statements.{Statements}
-use Rattle.fsm_meaning.specs.Fsm.{Fsm}
+use Rattle.fsm_machine.specs.Statements.{Statements}
+use Rattle.fsm_machine.specs.Fsm.{Fsm}
 use Rattle.fsm_machine.specs.Encoding.{leads, cost, Exchange, exchanges, first_lower, lowered, numbered, adjacent_numbers, adjacent_codes}
 use Rattle.fsm_machine.specs.MachineOf.{up}
 use Rattle.syf_encode.specs.Pieces.{neighbours_by, all_neighbours}

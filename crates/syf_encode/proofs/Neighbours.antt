@@ -5,7 +5,7 @@ use Rattle.std.specs.Global.{Vec}
 use Rattle.std.proofs.lemmas.List.{length-append}
 use Rattle.std.proofs.lemmas.List.Elements.{All-append}
 use Rattle.std.proofs.lemmas.Bool.{eq-eqb, ne_eqb}
-use Rattle.fsm_meaning.specs.Statements.{Statements}
+use Rattle.fsm_machine.specs.Statements.{Statements}
 use Rattle.fsm_machine.specs.Encoding.{leads}
 use Rattle.fsm_machine.specs.MachineOf.{up}
 use Rattle.fsm_machine.proofs.Coding.{at_map, at_up}

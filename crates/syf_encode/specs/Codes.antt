@@ -3,7 +3,7 @@ use Rattle.std.specs.Prelude.{ℕ, ◌-◌, List, length}
 use Rattle.rand_core.specs.Pcg32Seed.{pcg32_seed}
 use Rattle.rand_core.specs.Steps.{first_words}
 use Rattle.rand_pcg.specs.Pcg.{pcg32, pcg32_of_seed}
-use Rattle.fsm_meaning.specs.Fsm.{Fsm}
+use Rattle.fsm_machine.specs.Fsm.{Fsm}
 use Rattle.fsm_machine.specs.Codes.{Codes}
 use Rattle.fsm_machine.specs.Encoding.{one_hot, random_codes, adjacent_codes}
 use Rattle.syf_encode.specs.declared.style.Style.{Style}

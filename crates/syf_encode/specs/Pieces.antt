@@ -1,7 +1,7 @@
 -- Parts of the search for adjacent codes.
 use Rattle.std.specs.Prelude.{◌≡◌, ℕ, ◌+◌, ◌==◌, Bool, false, not, ◌&&◌, List, [], ◌++◌, map, filter, length, if◌then◌else◌}
 use Rattle.std.specs.List.{sum_by, slice_index_or}
-use Rattle.fsm_meaning.specs.Statements.{Statements}
+use Rattle.fsm_machine.specs.Statements.{Statements}
 use Rattle.fsm_machine.specs.Encoding.{leads, distance, Exchange}
 use Rattle.fsm_machine.specs.MachineOf.{up}
 use Rattle.syf_encode.specs.declared.adjacent.Pair.{Pair}

@@ -1,7 +1,7 @@
 // Which states lead to which.
 ghost use Rattle.std.specs.Prelude.{◌≡◌, ◌<◌, ◌≤◌, ◌||◌, ℕ, map, length, is_some, IfOk};
 ghost use Rattle.bool_expr.specs.Support.{among};
-ghost use Rattle.fsm_meaning.specs.Walk.{assigns, part_assigns, branch_assigns};
+ghost use Rattle.fsm_machine.specs.Walk.{assigns, part_assigns, branch_assigns};
 ghost use Rattle.fsm_machine.specs.Encoding.{given_state, leads, parts_lead, branches_lead};
 ghost use Rattle.fsm_code.specs.View.{assignment_view, body_view, parts_view, branches_view};
 ghost use Rattle.fsm_core.specs.Checked.{most_states};

@@ -6,15 +6,15 @@ use Rattle.vlsi_base.specs.declared.name.Name.{Name}
 use Rattle.vlsi_base.specs.Member.{In, AllDifferent}
 use Rattle.vlsi_base.specs.Names.{scalar}
 use Rattle.bool_expr.specs.Expression.{IsOver, constant}
-use Rattle.machine_meaning.specs.Named.{is_same_name}
-use Rattle.machine_meaning.specs.Machine.{Machine, Register, is_input, names_of, input_ports}
+use Rattle.machine_core.specs.Named.{is_same_name}
+use Rattle.machine_core.specs.Machine.{Machine, Register, is_input, names_of, input_ports}
 use Rattle.machine_core.specs.Order.{equation_names}
 use Rattle.machine_core.specs.Checked.{IsChecked, IsNoSupply, IsClockOf, AreInOrder}
 use Rattle.machine_core.proofs.Names.{same_name-itself}
-use Rattle.free_names.specs.Free.{IsFirstFree, free_texts, free_numbers, is_free}
-use Rattle.free_names.specs.Laws.{AreFree, TextsAreFree}
-use Rattle.fsm_meaning.specs.Fsm.{Fsm, fsm_inputs, fsm_outputs, walked_next, walked_output, FsmRun}
-use Rattle.fsm_meaning.specs.Assigned.{AssignedIsKnown}
+use Rattle.text_names.specs.Free.{IsFirstFree, free_texts, free_numbers, is_free}
+use Rattle.text_names.specs.Laws.{AreFree, TextsAreFree}
+use Rattle.fsm_machine.specs.Fsm.{Fsm, fsm_inputs, fsm_outputs, walked_next, walked_output, FsmRun}
+use Rattle.fsm_machine.specs.Assigned.{AssignedIsKnown}
 use Rattle.fsm_machine.specs.Codes.{Codes, AreCodes}
 use Rattle.fsm_machine.specs.Signals.{signals}
 use Rattle.fsm_machine.specs.MachineOf.{machine_of, code_names, up, next_bit, body_base, placed_body, inner_expressions, output_expression, port_places}

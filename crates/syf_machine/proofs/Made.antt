@@ -5,12 +5,12 @@ use Rattle.vlsi_base.specs.declared.name.Name.{Name}
 use Rattle.bool_expr.specs.Expression.{Expression}
 use Rattle.bool_expr.specs.declared.expr.Expr.{Expr}
 use Rattle.bool_expr.specs.View.{view}
-use Rattle.machine_meaning.specs.declared.equation.Equation.{Equation as EquationParts}
+use Rattle.machine_core.specs.declared.equation.Equation.{Equation as EquationParts}
 use Rattle.machine_core.specs.View.{equation_view}
-use Rattle.machine_meaning.specs.Machine.{Machine, Equation, Register, names_of}
+use Rattle.machine_core.specs.Machine.{Machine, Equation, Register, names_of}
 use Rattle.machine_core.specs.Order.{equation_names}
-use Rattle.fsm_meaning.specs.Statements.{Statements}
-use Rattle.fsm_meaning.specs.Fsm.{Fsm, fsm_inputs, fsm_outputs}
+use Rattle.fsm_machine.specs.Statements.{Statements}
+use Rattle.fsm_machine.specs.Fsm.{Fsm, fsm_inputs, fsm_outputs}
 use Rattle.fsm_machine.specs.Codes.{Codes, AreCodes}
 use Rattle.fsm_machine.specs.Signals.{emitted}
 use Rattle.fsm_machine.specs.MachineOf.{up, named, at_state, machine_of, register_base, body_base, placed_body, inner_expressions, output_expression, registers_of, code_names}

@@ -15,9 +15,9 @@ use Rattle.vlsi_base.specs.declared.name.Dir.{Dir}
 use Rattle.vlsi_base.specs.Member.{In, there, AllDifferent}
 use Rattle.vlsi_base.specs.Name.{name_cmp}
 use Rattle.vlsi_base.proofs.NameOrder.{name_total}
-use Rattle.machine_meaning.specs.Machine.{is_input, names_of}
+use Rattle.machine_core.specs.Machine.{is_input, names_of}
 use Rattle.machine_core.specs.Checked.{AreInOrder, IsNoSupply}
-use Rattle.free_names.specs.Free.{is_free, numbered, candidate, IsFirstFree}
+use Rattle.text_names.specs.Free.{is_free, numbered, candidate, IsFirstFree}
 use Rattle.fsm_machine.specs.MachineOf.{up, code_names}
 use Rattle.syf_machine.specs.Named.{texts_of}
 use Rattle.syf_machine.proofs.Lists.{in_cons, here_by, in_map, map_in, in_filter, in_contains}

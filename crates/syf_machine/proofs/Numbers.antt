@@ -5,12 +5,12 @@ use Rattle.std.proofs.lemmas.List.{length-map}
 use Rattle.vlsi_base.specs.declared.name.Name.{Name}
 use Rattle.vlsi_base.specs.declared.name.Port.{Port}
 use Rattle.vlsi_base.specs.Member.{In, AllDifferent}
-use Rattle.machine_meaning.specs.Named.{is_same_name}
-use Rattle.machine_meaning.specs.Machine.{is_input, names_of}
+use Rattle.machine_core.specs.Named.{is_same_name}
+use Rattle.machine_core.specs.Machine.{is_input, names_of}
 use Rattle.machine_core.proofs.Names.{same_name-itself, same_name-false}
 use Rattle.bool_expr.specs.Expression.{Expression, constant, variable, inverse, pair, choice, IsOver}
-use Rattle.fsm_meaning.specs.Statements.{Assignment, output, next, Statements, finish, assign, choose, select, Parts, only, either, further, Branches, closed, others, listed}
-use Rattle.fsm_meaning.specs.Fsm.{Fsm, fsm_inputs}
+use Rattle.fsm_machine.specs.Statements.{Assignment, output, next, Statements, finish, assign, choose, select, Parts, only, either, further, Branches, closed, others, listed}
+use Rattle.fsm_machine.specs.Fsm.{Fsm, fsm_inputs}
 use Rattle.fsm_machine.specs.Moved.{substituted, moved_assignment, moved, moved_parts, moved_branches}
 use Rattle.fsm_machine.specs.MachineOf.{port_places, place_of}
 use Rattle.fsm_code.specs.Over.{IsAssignmentOver, IsBodyOver, ArePartsOver, AreBranchesOver}

@@ -4,13 +4,13 @@ use Rattle.std.proofs.lemmas.List.{length-map}
 use Rattle.std.proofs.lemmas.List.Filters.{length-filter_both}
 use Rattle.vlsi_base.specs.declared.name.Name.{Name}
 use Rattle.vlsi_base.specs.declared.name.Port.{Port}
-use Rattle.machine_meaning.specs.Named.{is_same_name}
-use Rattle.machine_meaning.specs.Machine.{Machine, Equation, Register, is_input, names_of}
+use Rattle.machine_core.specs.Named.{is_same_name}
+use Rattle.machine_core.specs.Machine.{Machine, Equation, Register, is_input, names_of}
 use Rattle.machine_core.specs.Checked.{IsChecked}
-use Rattle.free_names.specs.Free.{IsFirstFree}
-use Rattle.free_names.specs.Laws.{TextsAreFree}
-use Rattle.fsm_meaning.specs.Statements.{Statements}
-use Rattle.fsm_meaning.specs.Fsm.{Fsm, fsm_inputs, fsm_outputs}
+use Rattle.text_names.specs.Free.{IsFirstFree}
+use Rattle.text_names.specs.Laws.{TextsAreFree}
+use Rattle.fsm_machine.specs.Statements.{Statements}
+use Rattle.fsm_machine.specs.Fsm.{Fsm, fsm_inputs, fsm_outputs}
 use Rattle.fsm_machine.specs.Codes.{Codes, AreCodes}
 use Rattle.fsm_machine.specs.Signals.{signals}
 use Rattle.fsm_machine.specs.MachineOf.{machine_of, up}

@@ -1,7 +1,7 @@
 -- What the machine of a state machine does, whatever made it.
 use Rattle.std.specs.Prelude.{length}
-use Rattle.machine_meaning.specs.Machine.{Machine}
-use Rattle.fsm_meaning.specs.Fsm.{Fsm}
+use Rattle.machine_core.specs.Machine.{Machine}
+use Rattle.fsm_machine.specs.Fsm.{Fsm}
 use Rattle.fsm_machine.specs.Codes.{Codes, AreCodes}
 use Rattle.fsm_core.specs.Checked.{IsCheckedFsm}
 use Rattle.syf_machine.specs.Named.{IsMachineOf}

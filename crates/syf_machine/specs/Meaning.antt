@@ -1,8 +1,8 @@
 -- What the machine of a state machine does.
 use Rattle.std.specs.Prelude.{◌≡◌, ℕ, ◌<◌, Bool, List, ◌∷◌, map, length, Some}
-use Rattle.machine_meaning.specs.Machine.{Machine}
-use Rattle.machine_meaning.specs.Cycles.{Settles, outs, next, RunOf, AreVectors}
-use Rattle.fsm_meaning.specs.Fsm.{Fsm, fsm_inputs, fsm_outputs, walked_next, walked_output, Resets, FsmRun}
+use Rattle.machine_core.specs.Machine.{Machine}
+use Rattle.machine_core.specs.Cycles.{Settles, outs, next, RunOf, AreVectors}
+use Rattle.fsm_machine.specs.Fsm.{Fsm, fsm_inputs, fsm_outputs, walked_next, walked_output, Resets, FsmRun}
 use Rattle.fsm_machine.specs.Codes.{Codes, code_of}
 
 -- With the code of a state in the registers, the outputs are those that the walk through the statements knows, and the next contents

@@ -3,10 +3,10 @@ use Rattle.std.specs.Prelude.{◌≡◌, ℕ, ◌+◌, ◌-◌, ◌*◌, ◌<◌
 use Rattle.vlsi_base.specs.declared.name.Name.{Name}
 use Rattle.vlsi_base.specs.declared.name.Port.{Port}
 use Rattle.vlsi_base.specs.Names.{scalar}
-use Rattle.machine_meaning.specs.Named.{is_same_name}
-use Rattle.machine_meaning.specs.Machine.{Machine, is_input}
-use Rattle.free_names.specs.Free.{free_texts, IsFirstFree}
-use Rattle.fsm_meaning.specs.Fsm.{Fsm}
+use Rattle.machine_core.specs.Named.{is_same_name}
+use Rattle.machine_core.specs.Machine.{Machine, is_input}
+use Rattle.text_names.specs.Free.{free_texts, IsFirstFree}
+use Rattle.fsm_machine.specs.Fsm.{Fsm}
 use Rattle.fsm_machine.specs.Codes.{Codes}
 use Rattle.fsm_machine.specs.Signals.{signals}
 use Rattle.fsm_machine.specs.MachineOf.{machine_of}

@@ -3,9 +3,9 @@ use Rattle.std.specs.Prelude.{ℕ, ◌+◌, not, true, false, List, ◌++◌, ma
 use Rattle.vlsi_base.specs.declared.name.Name.{Name}
 use Rattle.vlsi_base.specs.declared.name.Port.{Port}
 use Rattle.bool_expr.specs.Expression.{Expression, constant}
-use Rattle.machine_meaning.specs.Machine.{Machine, Equation, Register, is_input, names_of}
-use Rattle.fsm_meaning.specs.Statements.{Statements}
-use Rattle.fsm_meaning.specs.Fsm.{Fsm}
+use Rattle.machine_core.specs.Machine.{Machine, Equation, Register, is_input, names_of}
+use Rattle.fsm_machine.specs.Statements.{Statements}
+use Rattle.fsm_machine.specs.Fsm.{Fsm}
 use Rattle.fsm_machine.specs.Codes.{Codes}
 use Rattle.fsm_machine.specs.Signals.{emitted, final}
 use Rattle.fsm_machine.specs.MachineOf.{up, at_state, named, output_given, code_given}

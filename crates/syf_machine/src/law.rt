@@ -1,9 +1,10 @@
 // What the machine of a state machine does.
 ghost use Rattle.syf_machine.specs.Law.{MachineDoesAs};
 
-use free_names::texts_are_free;
-use fsm_machine::{resets_from_all, runs_after_reset, runs_from_state, steps_with_state};
-use fsm_meaning::assigned_is_known;
+use fsm_machine::{
+    assigned_is_known, resets_from_all, runs_after_reset, runs_from_state, steps_with_state,
+};
+use text_names::texts_are_free;
 
 /// The machine of a state machine by codes of its states does what the state machine does: with the code of a state in the registers
 /// its outputs and next code are those of the walk, and a vector that resets does so from all contents.

@@ -19,13 +19,12 @@ use crate::inner::inner_expressions;
 use crate::law::machine_does_as;
 use crate::names::{copied, inner_names, inputs, outputs, port_numbers, register_text};
 use bool_expr::Expr;
-use free_names::texts_are_free;
 use fsm_code::{Codes, Place, Sought, Statements, Target};
 use fsm_core::StateMachine;
 use fsm_machine::machine_is_ordered;
-use machine_core::Machine;
-use machine_meaning::{Equation, Register};
+use machine_core::{Equation, Machine, Register};
 use std::alloc::{AllocError, Global};
+use text_names::texts_are_free;
 use vlsi_base::{Listed, Name, Port, Text};
 
 // The statements of a state machine, what stands for their variables, and the numbers of the first register and of their first

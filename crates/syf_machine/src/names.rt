@@ -1,11 +1,11 @@
 // The names of a machine.
 ghost use Rattle.std.specs.Prelude.{◌≡◌, ◌<◌, ◌^◌, ◌+◌, codes, filter, not, length, IfOk};
-ghost use Rattle.machine_meaning.specs.Machine.{is_input, names_of};
-ghost use Rattle.free_names.specs.Free.{IsFirstFree};
+ghost use Rattle.machine_core.specs.Machine.{is_input, names_of};
+ghost use Rattle.text_names.specs.Free.{IsFirstFree};
 ghost use Rattle.syf_machine.specs.Named.{is_read, names_for, numbers_from, texts_of};
 
-use free_names::{first_free, free_texts};
 use std::alloc::{AllocError, Global};
+use text_names::{first_free, free_texts};
 use vlsi_base::{Dir, Name, Port, Text};
 
 /// Whether statements can read a port: it is an input, and not the clock.

@@ -8,18 +8,18 @@ use Rattle.vlsi_base.specs.declared.name.Port.{Port}
 use Rattle.vlsi_base.specs.Name.{is_supply}
 use Rattle.vlsi_base.specs.Names.{vdd, vss, comes_before}
 use Rattle.vlsi_base.specs.Member.{In}
-use Rattle.machine_meaning.specs.Machine.{Machine, names_of}
+use Rattle.machine_core.specs.Machine.{Machine, names_of}
 use Rattle.machine_core.specs.Checked.{IsChecked, IsNoSupply}
 use Rattle.machine_core.proofs.Values.{In-left, In-map}
-use Rattle.port_words.specs.Words.{IsIdentifier, ArePortsNamed, CanBePorts}
-use Rattle.source_meaning.specs.Checks.{most_ports}
-use Rattle.fsm_meaning.specs.Fsm.{Fsm}
+use Rattle.text_names.specs.Words.{IsIdentifier, ArePortsNamed, CanBePorts}
+use Rattle.source_checks.specs.Checks.{most_ports}
+use Rattle.fsm_machine.specs.Fsm.{Fsm}
 use Rattle.fsm_io.specs.Text.{IsFsm}
 use Rattle.syf_machine.proofs.Lists.{all_in}
-use Rattle.fsm_words.specs.Laws.{FsmIsNamed, FsmIsShort}
+use Rattle.fsm_laws.specs.Writable.{FsmIsNamed, FsmIsShort}
 use Rattle.cell_pins.specs.Pins.{supply, with_supply}
 use Rattle.cell_pins.proofs.Ports.{Sorted, sorted_of, sorted_supply, sorted_pairs}
-use Rattle.vbe_words.specs.Laws.{NoneIsSupply, PinsAreNamed, InOrderCanBeWritten, with_supplies}
+use Rattle.vbe_writable.specs.Laws.{NoneIsSupply, PinsAreNamed, InOrderCanBeWritten, with_supplies}
 use Rattle.syf_run.specs.Laws.{EncodedCanBeDeclared}
 
 -- a text that is neither of the two

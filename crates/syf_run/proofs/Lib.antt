@@ -2,3 +2,5 @@ mod Printed
 mod Refusing
 mod Declared
 mod Single
+mod Free
+mod EncodedCodes

@@ -2,7 +2,7 @@
 use Rattle.std.proofs.Common.{◌≡◌, ℕ, List, None, Err, refl}
 use Rattle.vlsi_base.specs.declared.fault.ReadError.{ReadError}
 use Rattle.fsm_io.specs.Text.{IsFsmRefusal}
-use Rattle.tool_words.specs.declared.command.SyfCommand.{SyfCommand}
+use Rattle.syf_run.specs.declared.words.SyfCommand.{SyfCommand}
 use Rattle.tool_drive.specs.declared.status.Status.{Status}
 use Rattle.tool_drive.specs.Table.{IsJudged, refusal}
 use Rattle.tool_drive.specs.Refusals.{MemoryOr, OfFile, of_file, judged_file}

@@ -1,9 +1,9 @@
 -- A text is made one machine by one style.
 use Rattle.std.proofs.Common.{◌≡◌, ℕ, ◌<◌, ◌≤◌, Bool, true, false, List, codes, inl, inr, refl, sym, ap, subst, ◌∙◌, arith}
 use Rattle.std.proofs.lemmas.Bool.{cases_lt}
-use Rattle.machine_meaning.specs.Machine.{Machine}
-use Rattle.free_names.specs.Free.{is_free, candidate, IsFirstFree}
-use Rattle.fsm_meaning.specs.Fsm.{Fsm}
+use Rattle.machine_core.specs.Machine.{Machine}
+use Rattle.text_names.specs.Free.{is_free, candidate, IsFirstFree}
+use Rattle.fsm_machine.specs.Fsm.{Fsm}
 use Rattle.fsm_machine.specs.Codes.{Codes}
 use Rattle.fsm_machine.specs.MachineOf.{machine_of}
 use Rattle.fsm_io.specs.Laws.{OneFsm}

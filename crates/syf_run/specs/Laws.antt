@@ -1,10 +1,10 @@
 -- What follows of the machine that a state machine's text is made by codes of its states.
 use Rattle.std.specs.Prelude.{◌≡◌, ℕ, List}
-use Rattle.machine_meaning.specs.Machine.{Machine}
-use Rattle.fsm_meaning.specs.Fsm.{Fsm}
+use Rattle.machine_core.specs.Machine.{Machine}
+use Rattle.fsm_machine.specs.Fsm.{Fsm}
 use Rattle.fsm_machine.specs.Codes.{Codes}
 use Rattle.syf_encode.specs.declared.style.Style.{Style}
-use Rattle.machine_declared.specs.Declared.{CanBeDeclared}
+use Rattle.vbe_writable.specs.Declared.{CanBeDeclared}
 use Rattle.syf_run.specs.Syf.{IsEncodedSource}
 
 -- With the supplies, an entity of a text can declare its name and ports, and these are short and few.

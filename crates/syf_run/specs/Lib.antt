@@ -1,2 +1,4 @@
+pub mod Words
 pub mod Syf
 pub mod Laws
+pub mod EachMachine

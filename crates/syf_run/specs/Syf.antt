@@ -2,9 +2,9 @@
 use Rattle.std.specs.Prelude.{◌≡◌, ◌<◌, ◌^◌, ◌-◌, ◌+◌, ℕ, Bool, true, false, List, [], ◌∷◌, ◌++◌, reverse, length, get_or, codes, None, Some, Result, Ok, Err}
 use Rattle.vlsi_base.specs.declared.name.Name.{Name}
 use Rattle.vlsi_base.specs.Name.{name_text}
-use Rattle.machine_meaning.specs.Machine.{Machine}
+use Rattle.machine_core.specs.Machine.{Machine}
 use Rattle.machine_core.specs.Checked.{IsChecked}
-use Rattle.fsm_meaning.specs.Fsm.{Fsm}
+use Rattle.fsm_machine.specs.Fsm.{Fsm}
 use Rattle.fsm_machine.specs.Codes.{Codes, AreCodes}
 use Rattle.fsm_io.specs.Text.{IsFsm, IsFsmRefusal}
 use Rattle.syf_encode.specs.declared.style.Style.{Style}
@@ -13,10 +13,10 @@ use Rattle.syf_encode.specs.Codes.{codes_by}
 use Rattle.syf_machine.specs.Named.{IsMachineOf}
 use Rattle.syf_machine.specs.Meaning.{DoesAs}
 use Rattle.spell_theory.specs.Layout.{text_of}
-use Rattle.vbe_write.specs.Written.{layout}
-use Rattle.tool_words.specs.declared.command.Encoding.{Encoding}
-use Rattle.tool_words.specs.declared.command.Encoding.TheVariants as encoding
-use Rattle.tool_words.specs.declared.command.SyfCommand.{SyfCommand}
+use Rattle.vbe_print.specs.Written.{layout}
+use Rattle.tool_words.specs.declared.values.Encoding.{Encoding}
+use Rattle.tool_words.specs.declared.values.Encoding.TheVariants as encoding
+use Rattle.syf_run.specs.declared.words.SyfCommand.{SyfCommand}
 use Rattle.tool_drive.specs.declared.status.Status.{Status}
 use Rattle.tool_drive.specs.declared.tool.Product.{Product}
 use Rattle.tool_drive.specs.declared.tool.Refusal.{Refusal}

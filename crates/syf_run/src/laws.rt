@@ -2,8 +2,8 @@
 ghost use Rattle.syf_run.specs.Laws.{EncodedCanBeDeclared, EncodedIsOne};
 
 use fsm_io::one_fsm;
-use fsm_words::fsm_is_named;
-use vbe_words::{in_order_can_be_written, pins_are_named};
+use fsm_laws::fsm_is_named;
+use vbe_writable::{in_order_can_be_written, pins_are_named};
 
 /// The machine that a state machine's text is made can be declared by an entity of a text, its ports with the supplies. And a text is
 /// made one machine by one style. It costs nothing when it is called.

@@ -4,12 +4,16 @@
 //! `specs/Table.antt` of `tool_drive`.
 #![tactic(auto)]
 
+mod each_machine;
 mod encoded;
 mod laws;
 mod lines;
 mod syf;
+mod words;
 
+pub use each_machine::each_text_is_encoded;
 pub use encoded::{Encoded, encoded_machine, style_of};
 pub use laws::encoded_law;
 pub use lines::code_lines;
 pub use syf::Syf;
+pub use words::{SYF_ENTRY, SyfCommand, read_syf};

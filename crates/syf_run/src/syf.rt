@@ -2,20 +2,19 @@
 ghost use Rattle.std.specs.Prelude.{◌≡◌, ◌+◌, ◌<◌, ◌^◌, Some, length, IfOk};
 ghost use Rattle.tool_drive.specs.Table.{IsJudged};
 ghost use Rattle.spell_theory.specs.Layout.{text_of};
-ghost use Rattle.vbe_write.specs.Written.{layout};
-ghost use Rattle.vbe_write.specs.Writable.{CanBeVbe};
+ghost use Rattle.vbe_print.specs.Written.{layout};
+ghost use Rattle.vbe_print.specs.Writable.{CanBeVbe};
 ghost use Rattle.syf_run.specs.Syf.{code_lines as code_lines_of, text_name, Encodes};
 
 use crate::encoded::{Encoded, encoded_machine, style_of};
 use crate::lines::code_lines;
+use crate::words::SyfCommand;
 use fsm_core::StateMachine;
-use fsm_few::machine_has_few_signals;
 use fsm_io::read_fsm;
-use fsm_words::machine_of_fsm_can_be_written;
+use fsm_laws::{machine_has_few_signals, machine_of_fsm_can_be_written};
 use std::alloc::{AllocError, Global};
 use tool_drive::{Product, Refusal, Tool, Wanted, bytes_at, refused};
-use tool_words::SyfCommand;
-use vbe_write::write_vbe;
+use vbe_print::write_vbe;
 use vlsi_base::FileBytes;
 
 /// `syf`, with what it is asked: it gives codes to the states of the state machine of SOURCE, writes its machine as a data-flow text

@@ -46,12 +46,7 @@ follows plan A files counts told faults now s h nothing = by s h where
     | inr c ↦ answered (Err (refusal (status.Limit l) c.0)) c.1
   ]
   by status.Usage h = absurd h
-  by (status.NoPath net terminal) h = answered (Err (refusal (status.NoPath net terminal) h.0)) h.1
-  by (status.Source file fault) h = answered (Err (refusal (status.Source file fault) h.0)) h.1
-  by (status.Library fault) h = answered (Err (refusal (status.Library fault) h.0)) h.1
-  by (status.NoCover kind) h = answered (Err (refusal (status.NoCover kind) h.0)) h.1
-  by (status.Budget equation reached) h = answered (Err (refusal (status.Budget equation reached) h.0)) h.1
-  by (status.No v) h = answered (Err (refusal (status.No v) h.0)) h.1
+  by s h = answered (Err (refusal s h.0)) h.1
 
 complete_of : (plan : Plan) (A : Inputs → Result Product Refusal → Type 0) (files : Option Files) (counts : Counts) (told : Option (List ℕ)) (faults : ℕ) (now : Outside) (s : Status)
     → Caused plan A (at files counts told faults) now s → IsComplete plan A (at files counts told faults) now s

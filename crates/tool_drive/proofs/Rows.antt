@@ -60,13 +60,7 @@ lifts A r judged before now s h = by s h where
   by (status.File Missing name) h = absurd h
   by (status.File ReadFault name) h = absurd h
   by status.Usage h = absurd h
-  by (status.NoPath net terminal) h = (h.0, at (Err (refusal (status.NoPath net terminal) h.0)) h.1, h.2)
-  by (status.Source file fault) h = (h.0, at (Err (refusal (status.Source file fault) h.0)) h.1, h.2)
-  by (status.Library fault) h = (h.0, at (Err (refusal (status.Library fault) h.0)) h.1, h.2)
-  by (status.NoCover kind) h = (h.0, at (Err (refusal (status.NoCover kind) h.0)) h.1, h.2)
-  by (status.Budget equation reached) h = (h.0, at (Err (refusal (status.Budget equation reached) h.0)) h.1, h.2)
-  by (status.Limit l) h = (h.0, at (Err (refusal (status.Limit l) h.0)) h.1, h.2)
-  by (status.No v) h = (h.0, at (Err (refusal (status.No v) h.0)) h.1, h.2)
+  by s h = (h.0, at (Err (refusal s h.0)) h.1, h.2)
 
 -- the same, by the slices that the tool was given
 pub lifts_at : (A : Inputs → Result Product Refusal → Type 0) (a b x y : List (List ℕ)) → a ≡ x → b ≡ y → (r : Result Product Refusal) → IsJudged (A (inputs a b)) r
@@ -98,10 +92,5 @@ caused plan A a b t now first more reads was s h = by s h where
   by (status.File Missing name) h = absurd h
   by (status.File ReadFault name) h = absurd h
   by status.Usage h = absurd h
-  by (status.NoPath net terminal) h = (h.0, comes (Err (refusal (status.NoPath net terminal) h.0)) h.1, left h.0 h.2)
-  by (status.Source file fault) h = (h.0, comes (Err (refusal (status.Source file fault) h.0)) h.1, left h.0 h.2)
-  by (status.Library fault) h = (h.0, comes (Err (refusal (status.Library fault) h.0)) h.1, left h.0 h.2)
-  by (status.NoCover kind) h = (h.0, comes (Err (refusal (status.NoCover kind) h.0)) h.1, left h.0 h.2)
-  by (status.Budget equation reached) h = (h.0, comes (Err (refusal (status.Budget equation reached) h.0)) h.1, left h.0 h.2)
   by (status.Limit l) h = inr (h.0, comes (Err (refusal (status.Limit l) h.0)) h.1, left h.0 h.2)
-  by (status.No v) h = (h.0, comes (Err (refusal (status.No v) h.0)) h.1, left h.0 h.2)
+  by s h = (h.0, comes (Err (refusal s h.0)) h.1, left h.0 h.2)

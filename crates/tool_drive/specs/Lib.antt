@@ -6,3 +6,4 @@ pub mod Table
 pub mod Stops
 pub mod Refusals
 pub mod Lines
+pub mod Size

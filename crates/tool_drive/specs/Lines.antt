@@ -1,4 +1,4 @@
--- The lines that refusals print.
+-- The lines that refusals print, and those with a number that reports have.
 use Rattle.std.specs.Prelude.{ℕ, Bool, true, false, List, [], ◌∷◌, ◌++◌, Option, None, Some, codes, if◌then◌else◌}
 use Rattle.std.specs.Fmt.{decimal}
 use Rattle.vlsi_base.specs.Fault.{fault_text, limit_text}
@@ -11,7 +11,7 @@ use Rattle.tool_drive.specs.declared.status.Status.{Status}
 use Rattle.tool_drive.specs.declared.status.Status.TheVariants as status
 use Rattle.tool_drive.specs.declared.status.FileCause.{FileCause}
 use Rattle.tool_drive.specs.declared.status.FileCause.TheVariants.{Missing, ReadFault, WriteFault, OutFault}
-use Rattle.cell_model.specs.Kind.{kind_text}
+use Rattle.vlsi_base.specs.Kind.{kind_text}
 use Rattle.tool_drive.specs.declared.status.LibraryFault.{LibraryFault}
 use Rattle.tool_drive.specs.declared.status.LibraryFault.TheVariants.{BadCatal, BadCell}
 use Rattle.tool_drive.specs.declared.status.Verdict.{Verdict}
@@ -59,26 +59,13 @@ verdict_text (verdict.Broken lines) = lines
 
 -- breaches, and two functions that differ, are said without the tool's word
 abbrev pub is_finding : Verdict → Bool
-is_finding (verdict.Differs label name) = false
-is_finding (verdict.NoBehaviour cell) = false
-is_finding (verdict.Shorted a b) = false
-is_finding (verdict.Different name) = false
-is_finding (verdict.Names name) = false
 is_finding (verdict.Unequal name) = true
 is_finding (verdict.Broken lines) = true
+is_finding v = false
 
 abbrev pub says_all : Status → Bool
-says_all status.Accepted = false
-says_all status.Usage = false
-says_all (status.Source file fault) = false
-says_all (status.Library fault) = false
-says_all (status.NoCover which) = false
-says_all (status.Budget equation reached) = false
-says_all (status.NoPath net terminal) = false
-says_all (status.File cause name) = false
-says_all status.Memory = false
-says_all (status.Limit l) = false
 says_all (status.No v) = is_finding v
+says_all s = false
 
 -- What a refusal says behind the tool's word. Wrong words have a line of their own; what has no line says nothing.
 abbrev pub refusal_text : Status → List ℕ
@@ -101,3 +88,7 @@ opening word s = if says_all s then [] else word ++ codes ": "
 -- the line that a tool's refusal prints
 abbrev pub line_of : List ℕ → Status → List ℕ
 line_of word s = opening word s ++ (refusal_text s ++ 10 ∷ [])
+
+-- a line of a report: a word and a number
+abbrev pub count_line : List ℕ → ℕ → List ℕ
+count_line word n = word ++ (codes " " ++ (decimal n ++ 10 ∷ []))

@@ -2,7 +2,7 @@
 use Rattle.std.specs.Prelude.{◌≡◌, ◌⊎◌, ℕ, ◌+◌, List, [], ◌∷◌, ◌++◌, Option, None, Some, IfSome, length, take, nat_le, if◌then◌else◌}
 use Rattle.std.specs.FinMap.{get}
 use Rattle.vlsi_shelf.specs.Files.{Files}
-use Rattle.vlsi_base.specs.declared.limits.TheConstants.{MOST_SOURCE_BYTES}
+use Rattle.vlsi_base.specs.declared.limits.TheConstants.{MOST_SOURCE_BYTES, MOST_NETLIST_BYTES}
 use Rattle.tool_drive.specs.declared.tool.Over.{Over}
 use Rattle.tool_drive.specs.declared.tool.Over.TheVariants.{Refused, Cut}
 use Rattle.tool_drive.specs.declared.tool.Wanted.{Wanted}
@@ -15,6 +15,10 @@ pub record Plan : Type 0 where
 -- a file of at most `MOST_SOURCE_BYTES` bytes
 abbrev pub limited : List ℕ → Wanted
 limited name = record { name = name; most = MOST_SOURCE_BYTES; over = Refused }
+
+-- a file of at most `MOST_NETLIST_BYTES` bytes: a netlist's, or a layout's
+abbrev pub large : List ℕ → Wanted
+large name = record { name = name; most = MOST_NETLIST_BYTES; over = Refused }
 
 abbrev pub cut : List ℕ → Wanted
 cut name = record { name = name; most = MOST_SOURCE_BYTES; over = Cut }

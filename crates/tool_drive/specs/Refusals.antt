@@ -1,13 +1,14 @@
 -- Refusals of texts, for the definitions of tools.
-use Rattle.std.specs.Prelude.{◌≡◌, ℕ, List, None, Result, Err, refl}
+use Rattle.std.specs.Prelude.{◌≡◌, ℕ, List, Option, None, Result, Err, refl}
 use Rattle.std.proofs.Common.{sym, subst}
 use Rattle.vlsi_base.specs.declared.fault.ReadError.{ReadError}
 use Rattle.vlsi_base.specs.declared.fault.ReadError.TheVariants as errors
 use Rattle.tool_drive.specs.declared.status.Status.{Status}
 use Rattle.tool_drive.specs.declared.status.Status.TheVariants as status
+use Rattle.tool_drive.specs.declared.tool.Written.{Written}
 use Rattle.tool_drive.specs.declared.tool.Product.{Product}
 use Rattle.tool_drive.specs.declared.tool.Refusal.{Refusal}
-use Rattle.tool_drive.specs.Table.{IsJudged, refusal}
+use Rattle.tool_drive.specs.Table.{IsFair, IsJudged, refusal}
 
 -- out of memory, or this
 abbrev pub MemoryOr : Status → Type 0 → Type 0
@@ -20,7 +21,26 @@ OfFile file R (status.Source name fault) = (name ≡ file) × R (errors.Input fa
 OfFile file R (status.Limit l) = R (errors.Limit l)
 OfFile file R s = ⊥
 
--- ---- lemmas that tools' proofs cite
+-- ---- lemmas that tools' proofs cite: none has a case for each status
+
+-- what follows of a status that may be out of memory
+pub memory_then : (s : Status) (P Q : Type 0) → (P → Q) → MemoryOr s P → MemoryOr s Q
+memory_then status.Memory P Q f h = tt
+memory_then _ P Q f h = f h
+
+-- what follows of a status of judging
+pub fair_then : (s : Status) (part : Option Written) (P Q : Type 0) → (P → Q) → IsFair s part P → IsFair s part Q
+fair_then status.Memory part P Q f h = h
+fair_then status.Accepted part P Q f h = h
+fair_then status.Usage part P Q f h = h
+fair_then (status.File cause name) part P Q f h = h
+fair_then _ part P Q f h = f h
+
+-- a status for which P holds, or out of memory, is one that a tool may answer
+pub judged : (A : Result Product Refusal → Type 0) (P : Status → Type 0) → ((t : Status) → P t → IsFair t None (A (Err (refusal t None)))) → (s : Status) → MemoryOr s (P s)
+    → IsJudged A (Err (refusal s None))
+judged A P told status.Memory k = refl
+judged A P told s k = told s k
 
 -- from one refusal of a reader to its refusals
 pub of_file : (file : List ℕ) (R : ReadError → Type 0) (error : ReadError) → R error → (s : Status)

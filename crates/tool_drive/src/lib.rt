@@ -8,14 +8,18 @@
 mod line;
 mod read;
 mod refusals;
+mod report;
 mod run;
+mod size;
 mod status;
 mod tool;
 
-pub use cell_model::Kind;
 pub use line::tell;
 pub use read::{Stop, read_list};
 pub use refusals::refused;
+pub use report::count_line;
 pub use run::drive;
+pub use size::{MOST_SIZE, check_size};
 pub use status::{FileCause, LibraryFault, Status, Verdict};
 pub use tool::{Over, Product, Refusal, Tool, Wanted, Written, bytes_at};
+pub use vlsi_base::Kind;

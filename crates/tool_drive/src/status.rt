@@ -3,8 +3,7 @@ ghost use Rattle.std.specs.Prelude.{◌≡◌};
 ghost use Rattle.tool_drive.specs.Status.{code_of, has_line as line_wanted};
 ghost use Rattle.tool_drive.specs.Lines.{says_all};
 
-use cell_model::Kind;
-use vlsi_base::{FileBytes, FileName, InputFault, Limit, Name, Terminal, Text};
+use vlsi_base::{FileBytes, FileName, InputFault, Kind, Limit, Name, Terminal, Text};
 
 /// Why a file stopped the run.
 #[derive(Clone, Copy, Debug, PartialEq, Eq)]

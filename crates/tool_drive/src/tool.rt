@@ -1,10 +1,10 @@
 // What a tool says of itself: what it reads, and what it answers to what was read.
 ghost use Rattle.std.specs.Prelude.{◌≡◌, None, IfOk, [], get_or, length};
-ghost use Rattle.tool_drive.specs.Plan.{limited, cut};
+ghost use Rattle.tool_drive.specs.Plan.{limited, large, cut};
 
 use crate::Status;
 use std::alloc::{AllocError, Global};
-use vlsi_base::{FileBytes, FileName, MOST_SOURCE_BYTES};
+use vlsi_base::{FileBytes, FileName, MOST_NETLIST_BYTES, MOST_SOURCE_BYTES};
 
 /// What a file comes to that is longer than it may be.
 #[derive(Clone, Copy, Debug, PartialEq, Eq)]
@@ -31,6 +31,17 @@ impl Wanted {
         Wanted {
             name,
             most: MOST_SOURCE_BYTES as u64,
+            over: Over::Refused,
+        }
+    }
+
+    /// A netlist's or a layout's file, of at most `MOST_NETLIST_BYTES` bytes; a longer one is refused.
+    pub fn large(name: FileName) -> Self
+        ensures { result ≡ large name }
+    {
+        Wanted {
+            name,
+            most: MOST_NETLIST_BYTES as u64,
             over: Over::Refused,
         }
     }

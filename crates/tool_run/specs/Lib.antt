@@ -1,2 +1,4 @@
+pub mod Tools
 pub mod Usage
 pub mod Answers
+pub mod Laws

@@ -2,17 +2,19 @@
 ghost use Rattle.std.specs.Prelude.{◌≡◌};
 ghost use Rattle.tool_drive.specs.Outside.{IsLine};
 ghost use Rattle.tool_words.specs.Usage.{usage_of};
+ghost use Rattle.tool_run.specs.Tools.{entries};
 ghost use Rattle.tool_run.specs.Usage.{tool_of, line_of, status_of};
 
+use crate::words::entries;
 use std::alloc::Global;
 use tool_drive::{Status, tell};
 use tool_words::{Words, WordsError, usage_line};
 use vlsi_shelf::Sink;
 
 fn tell_usage<T: Sink>(alloc: Global, words: &Words, out: &mut T)
-    ensures { IsLine (T.seen out.old) (T.seen out.new) (usage_of words.now) }
+    ensures { IsLine (T.seen out.old) (T.seen out.new) (usage_of entries words.now) }
 {
-    if let Ok(line) = usage_line(alloc, words) {
+    if let Ok(line) = usage_line(alloc, entries(), words) {
         let _ = out.put(line.as_bytes());
     }
 }

@@ -1,6 +1,6 @@
 -- The words behind a tool's, as `clap` takes them: by one simple command with the arguments of the tool's entry.
-use Rattle.std.specs.Prelude.{ℕ, true, List, [], ◌∷◌, ◌++◌, map, None, Some, is_some, if◌then◌else◌, codes}
-use Rattle.clap.specs.Words.{App, Row, Rule, Kinds, new_rule, matches_of, fault_of}
+use Rattle.std.specs.Prelude.{ℕ, Bool, true, List, [], ◌∷◌, ◌++◌, map, None, Some, is_some, if◌then◌else◌, codes}
+use Rattle.clap.specs.Words.{App, Row, Rule, Kinds, new_rule, matches_of, fault_of, is_simple_and_free}
 use Rattle.clap.specs.Simple.{new_shape}
 use Rattle.clap.specs.declared.builder.action.ArgAction.{ArgAction}
 use Rattle.clap.specs.declared.builder.action.ArgAction.TheVariants.{Set, SetTrue}
@@ -39,10 +39,18 @@ command_line e = record {
   subs = [];
 }
 
+-- `clap`'s own clauses are exact for the entry
+abbrev pub is_exact : Entry → Bool
+is_exact e = is_simple_and_free (command_line e)
+
+-- what words give for SOURCE and for each option
+abbrev pub Given : Type 0
+Given = List Row
+
 -- what is wrong with the words
 unfoldable pub faults : Entry → List (List ℕ) → Kinds
 faults e words = fault_of (command_line e) words
 
 -- what they give for each argument, where nothing is wrong
-unfoldable pub given : Entry → List (List ℕ) → List Row
+unfoldable pub given : Entry → List (List ℕ) → Given
 given e words = matches_of (command_line e) words

@@ -2,7 +2,6 @@ pub mod Words
 pub mod Table
 pub mod Arguments
 pub mod Values
-pub mod Commands
+pub mod Spelling
 pub mod Usage
 pub mod View
-pub mod Laws

@@ -1,6 +1,8 @@
--- The usage lines, from the table.
+-- The usage lines, from the table of tools.
+use Rattle.std.specs.List.{find}
 use Rattle.std.specs.Prelude.{ℕ, Bool, List, [], ◌∷◌, ◌++◌, Option, None, Some, if◌then◌else◌, codes}
-use Rattle.tool_words.specs.Table.{Form, Flag, Ending, Setting, Entry, tools, tool_of}
+use Rattle.tool_words.specs.Table.{Form, Flag, Ending, Setting, Entry}
+use Rattle.tool_words.specs.Words.{is_word}
 
 -- each ending behind a bar
 abbrev pub more_endings : List (List ℕ) → List ℕ
@@ -49,14 +51,18 @@ abbrev pub tool_words : List Entry → List ℕ
 tool_words [] = []
 tool_words (e ∷ rest) = e.word ++ more_words rest
 
-abbrev pub usage_by : Option Entry → List ℕ
-usage_by (Some e) = entry_usage e
-usage_by None = tool_words tools ++ codes " ARGUMENTS"
+abbrev pub usage_by : List Entry → Option Entry → List ℕ
+usage_by entries (Some e) = entry_usage e
+usage_by entries None = tool_words entries ++ codes " ARGUMENTS"
 
-abbrev pub of_words : List (List ℕ) → Option Entry
-of_words [] = None
-of_words (word ∷ _) = tool_of word
+-- the entry with this word
+abbrev pub entry_of : List Entry → List ℕ → Option Entry
+entry_of entries word = find (λ (e : Entry). is_word e.word word) entries
+
+abbrev pub of_words : List Entry → List (List ℕ) → Option Entry
+of_words entries [] = None
+of_words entries (word ∷ _) = entry_of entries word
 
 -- the line on wrong words: of the tool that the first word names, or of all tools
-abbrev pub usage_of : List (List ℕ) → List ℕ
-usage_of words = codes "usage: alliance " ++ (usage_by (of_words words) ++ 10 ∷ [])
+abbrev pub usage_of : List Entry → List (List ℕ) → List ℕ
+usage_of entries words = codes "usage: alliance " ++ (usage_by entries (of_words entries words) ++ 10 ∷ [])

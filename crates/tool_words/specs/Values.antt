@@ -1,17 +1,17 @@
 -- What is given for SOURCE and for an option, where it is of the form that the table has.
 use Rattle.std.specs.Prelude.{ℕ, Bool, ◌&&◌, List, length, Option, None, Some, option_map, option_and_then, if◌then◌else◌, codes, nat_eq, nat_le}
 use Rattle.std.specs.List.{ends_with, list_all, list_any}
-use Rattle.clap.specs.Words.{Row, first_of, found_of, rows_of}
+use Rattle.clap.specs.Words.{first_of, found_of, rows_of}
 use Rattle.clap.specs.declared.parser.matches.ArgMatches.{ArgMatches}
 use Rattle.vlsi_base.specs.Number.{is_digit, value_of}
-use Rattle.tool_words.specs.declared.command.Encoding.{Encoding}
-use Rattle.tool_words.specs.declared.command.Encoding.TheVariants as encoding_variant
+use Rattle.tool_words.specs.declared.values.Encoding.{Encoding}
+use Rattle.tool_words.specs.declared.values.Encoding.TheVariants as encoding_variant
 use Rattle.tool_words.specs.Words.{is_word}
 use Rattle.tool_words.specs.Table.{Form, Ending, Number, Setting, encoding}
-use Rattle.tool_words.specs.Arguments.{source}
+use Rattle.tool_words.specs.Arguments.{source, Given}
 
 -- what the code's parse found
-abbrev pub found : ArgMatches → List Row
+abbrev pub found : ArgMatches → Given
 found m = rows_of (found_of m)
 
 -- ---- texts
@@ -27,10 +27,10 @@ text_by (Ending ending) text = if has_ending text ending then Some text else Non
 text_by _ text = Some text
 
 -- SOURCE, with one of the endings
-abbrev pub source_of : List (List ℕ) → List Row → Option (List ℕ)
+abbrev pub source_of : List (List ℕ) → Given → Option (List ℕ)
 source_of endings rows = option_and_then (with_ending endings) (first_of source rows)
 
-abbrev pub text_of : Setting → List Row → Option (List ℕ)
+abbrev pub text_of : Setting → Given → Option (List ℕ)
 text_of s rows = option_and_then (text_by s.form) (first_of s.name rows)
 
 -- ---- numbers
@@ -56,7 +56,7 @@ number_or_default form None = default_of form
 number_or_default form (Some text) = number_by form text
 
 -- the number that is given, or the one that stands for it
-abbrev pub number_of : Setting → List Row → Option ℕ
+abbrev pub number_of : Setting → Given → Option ℕ
 number_of s rows = number_or_default s.form (first_of s.name rows)
 
 abbrev pub number_or_none : Form → Option (List ℕ) → Option (Option ℕ)
@@ -64,7 +64,7 @@ number_or_none form None = Some None
 number_or_none form (Some text) = option_map (λ n. Some n) (number_by form text)
 
 -- the number that is given, if one is
-abbrev pub number_if_given : Setting → List Row → Option (Option ℕ)
+abbrev pub number_if_given : Setting → Given → Option (Option ℕ)
 number_if_given s rows = number_or_none s.form (first_of s.name rows)
 
 -- ---- how states get their codes
@@ -81,5 +81,5 @@ abbrev pub encoding_or_default : Option (List ℕ) → Option Encoding
 encoding_or_default None = Some encoding_variant.Adjacent
 encoding_or_default (Some text) = encoding_by text
 
-abbrev pub encoding_of : List Row → Option Encoding
+abbrev pub encoding_of : Given → Option Encoding
 encoding_of rows = encoding_or_default (first_of encoding.name rows)

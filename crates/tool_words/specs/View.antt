@@ -1,4 +1,4 @@
--- The table of the code, as the definitions see it.
+-- Entries of the code, as the definitions see them.
 use Rattle.std.specs.Prelude.{ℕ, List, map}
 use Rattle.std.specs.Borrow.{Bor}
 use Rattle.tool_words.specs.declared.table.Form.{Form as FormOf}
@@ -23,4 +23,4 @@ abbrev pub texts_view : List (Bor (List ℕ)) → List (List ℕ)
 texts_view texts = map (λ text. text.now) texts
 
 abbrev pub entry_view : EntryOf → Entry
-entry_view e = record { tool = e.tool; word = e.word.now; endings = texts_view e.endings.now; settings = settings_view e.settings.now }
+entry_view e = record { word = e.word.now; endings = texts_view e.endings.now; settings = settings_view e.settings.now }

@@ -2,15 +2,15 @@
 ghost use Rattle.std.specs.Prelude.{◌≡◌, ◌++◌, [], true, false, map, IfOk, IsErrOf};
 ghost use Rattle.std.specs.List.{list_all};
 ghost use Rattle.std.specs.Str.{is_utf8};
-ghost use Rattle.clap.specs.Words.{app_of, rule_of, is_simple_and_free};
+ghost use Rattle.clap.specs.Words.{app_of, rule_of};
 ghost use Rattle.tool_words.specs.declared.words.WordsError.TheVariants.{Usage};
-ghost use Rattle.tool_words.specs.Arguments.{source_rules, action_for, option_rule, command_line, faults, given};
-ghost use Rattle.tool_words.specs.Values.{found};
+ghost use Rattle.tool_words.specs.Arguments.{source_rules, action_for, option_rule, command_line, is_exact, faults, given};
 ghost use Rattle.tool_words.specs.View.{form_view, setting_view, settings_view, texts_view, entry_view};
 
 use crate::table::{Entry, Form, Setting};
+use crate::values::Values;
 use crate::words::WordsError;
-use clap::{Arg, ArgAction, ArgMatches, Command};
+use clap::{Arg, ArgAction, Command};
 use std::alloc::{AllocError, Global};
 use vlsi_base::Text;
 
@@ -78,20 +78,23 @@ fn command_line<'a>(alloc: Global, entry: Entry) -> Result<Command<'a>, AllocErr
     Ok(command.args(arguments)?)
 }
 
-/// What the words give for each argument of the tool. `Usage` exactly where something is wrong with them.
+/// What the words behind a tool's give for each of its arguments. They are spelled as in any program of today: in any order, `-l DIR` or
+/// `-lDIR`, `--nodes 64` or `--nodes=64`, and `--` before a SOURCE that begins with `-`. `Usage` exactly where something is wrong with
+/// them. It takes memory for what they give.
 #[tactic(auto, unfolding(crate::specs::Arguments::faults, crate::specs::Arguments::given))]
-pub(crate) fn arguments<'a>(
+pub fn taken<'a>(
     alloc: Global,
     entry: Entry,
     words: &'a [&'a str],
-) -> Result<ArgMatches<'a>, WordsError>
-    requires { is_simple_and_free (command_line (entry_view entry)) ≡ true }
-    ensures fine { IfOk result (λ m. faults (entry_view entry) (texts_view words.now) ≡ []) }
-    ensures ok { IfOk result (λ m. found m ≡ given (entry_view entry) (texts_view words.now)) }
+) -> Result<Values<'a>, WordsError>
+    requires { is_exact (entry_view entry) ≡ true }
+    ensures fine { IfOk result (λ values. faults (entry_view entry) (texts_view words.now) ≡ []) }
+    ensures ok { IfOk result (λ values. values ≡ given (entry_view entry) (texts_view words.now)) }
     ensures usage { IsErrOf result Usage → faults (entry_view entry) (texts_view words.now) ≡ [] → ⊥ }
 {
     let command = command_line(alloc, entry)?;
-    Ok(command.try_get_matches_from(words)?)
+    let matches = command.try_get_matches_from(words)?;
+    Ok(Values { matches })
 }
 
 fn as_text(word: &[u8]) -> Result<&str, WordsError>
@@ -105,8 +108,8 @@ fn as_text(word: &[u8]) -> Result<&str, WordsError>
     }
 }
 
-/// The words as text. `Usage` exactly where one of them isn't UTF-8.
-pub(crate) fn texts<'a>(alloc: Global, words: &'a [Text]) -> Result<Vec<&'a str>, WordsError>
+/// The words as text. `Usage` exactly where one of them isn't UTF-8. It takes memory for the list of them.
+pub fn texts<'a>(alloc: Global, words: &'a [Text]) -> Result<Vec<&'a str>, WordsError>
     ensures ok { IfOk result (λ texts. texts_view texts.items ≡ words.now) }
     ensures utf8 { IfOk result (λ texts. list_all is_utf8 words.now ≡ true) }
     ensures usage { IsErrOf result Usage → list_all is_utf8 words.now ≡ false }

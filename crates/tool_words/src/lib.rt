@@ -1,19 +1,18 @@
-//! The words of a command line, taken apart before any file is read.
+//! The words of a command line: how a tool's SOURCE and options are spelled, what they give, and how a tool is called.
+//!
+//! What the words of each tool are, and what they ask of it, stands in the tool's own crate.
 #![tactic(auto)]
 
 mod arguments;
-mod command;
-mod laws;
 mod table;
 mod usage;
 mod values;
 mod words;
 
-pub use command::{
-    AsimutCommand, AsimutNetlistCommand, BoogCommand, BoomCommand, Command, CougarCommand,
-    DrucCommand, Encoding, FlatbehCommand, FlowCommand, GenCommand, LoonCommand, LvxCommand,
-    ProofCommand, SyfCommand, read_words,
-};
-pub use laws::words_law;
+pub use arguments::{taken, texts};
+pub use table::{ENCODING, Entry, FANOUT, Form, LIBRARY, NODES, OUT, SEED, Setting};
 pub use usage::usage_line;
+pub use values::{
+    Encoding, Values, encoding_given, given, has_ending, number, number_if_given, source, text,
+};
 pub use words::{Words, WordsError, is_same};

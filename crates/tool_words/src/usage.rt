@@ -1,10 +1,10 @@
-// The usage lines, from the table.
+// The usage lines, from the table of tools.
 ghost use Rattle.std.specs.Prelude.{◌≡◌, ◌++◌, map, OnOk, IfOk, option_map};
-ghost use Rattle.tool_words.specs.Usage.{source_usage, more_endings, value_usage, option_usage, setting_usage, settings_usage, entry_usage, more_words, tool_words, of_words, usage_of};
+ghost use Rattle.tool_words.specs.Usage.{source_usage, more_endings, value_usage, option_usage, setting_usage, settings_usage, entry_usage, more_words, tool_words, entry_of, of_words, usage_of};
 ghost use Rattle.tool_words.specs.View.{form_view, setting_view, settings_view, texts_view, entry_view};
 
-use crate::table::{Entry, Form, Setting, tool_of, tools};
-use crate::words::Words;
+use crate::table::{Entry, Form, Setting};
+use crate::words::{Words, is_same};
 use std::alloc::{AllocError, Global};
 use vlsi_base::FileBytes;
 
@@ -115,24 +115,35 @@ fn more_words(out: &mut FileBytes, entries: &[Entry]) -> Result<(), AllocError>
     Ok(())
 }
 
-fn entry_of(words: &Words) -> Option<Entry>
-    ensures { option_map entry_view result ≡ of_words words.now }
+fn entry_of(entries: &[Entry], word: &[u8]) -> Option<Entry>
+    ensures { option_map entry_view result ≡ entry_of (map entry_view entries.now) word.now }
+{
+    for entry in entries {
+        if is_same(entry.word.as_bytes(), word) {
+            return Some(*entry);
+        }
+    }
+    None
+}
+
+fn of_words(entries: &[Entry], words: &Words) -> Option<Entry>
+    ensures { option_map entry_view result ≡ of_words (map entry_view entries.now) words.now }
 {
     match words.as_slice() {
         [] => None,
-        [tool, ..] => tool_of(tool.as_bytes()),
+        [tool, ..] => entry_of(entries, tool.as_bytes()),
     }
 }
 
-/// The line on wrong words: of the tool that the first word names, or of all tools. It takes memory for the line.
-pub fn usage_line(alloc: Global, words: &Words) -> Result<FileBytes, AllocError>
-    ensures { IfOk result (λ bytes. bytes ≡ usage_of words.now) }
+/// The line on wrong words: of the tool that the first word names, or of all these tools. It takes memory for the line.
+pub fn usage_line(alloc: Global, entries: &[Entry], words: &Words) -> Result<FileBytes, AllocError>
+    ensures { IfOk result (λ bytes. bytes ≡ usage_of (map entry_view entries.now) words.now) }
 {
     let mut line = FileBytes::from_bytes(alloc, b"usage: alliance ")?;
-    match entry_of(words) {
+    match of_words(entries, words) {
         Some(tool) => entry(&mut line, tool)?,
         None => {
-            all_tools(&mut line, tools())?;
+            all_tools(&mut line, entries)?;
             line.append(b" ARGUMENTS")?;
         }
     }

@@ -3,28 +3,55 @@ ghost use Rattle.std.specs.Prelude.{◌≡◌, Some, None, option_map, if◌then
 ghost use Rattle.std.specs.List.{list_any};
 ghost use Rattle.clap.specs.Words.{first_of};
 ghost use Rattle.tool_words.specs.declared.words.WordsError.TheVariants.{Usage};
-ghost use Rattle.tool_words.specs.Values.{found, has_ending, text_by, source_of, text_of, number_within, number_by, default_of, number_of, number_if_given, encoding_by, encoding_of};
+ghost use Rattle.tool_words.specs.Values.{has_ending, text_by, source_of, text_of, number_within, number_by, default_of, number_of, number_if_given, encoding_by, encoding_of};
 ghost use Rattle.tool_words.specs.View.{form_view, setting_view, texts_view};
 
 use crate::arguments::SOURCE;
-use crate::command::Encoding;
 use crate::table::{ENCODING, Form, Setting};
 use crate::words::{WordsError, is_same};
 use clap::ArgMatches;
 use std::alloc::Global;
+use std::marker::Model;
 use vlsi_base::{FileName, read_u64};
 
 // The most digits of a number.
 const MOST_DIGITS: usize = 10;
 
-// The text that is given for an argument.
-pub(crate) fn given<'a>(matches: &ArgMatches<'a>, name: &str) -> Option<&'a str>
-    ensures { option_map (λ text. text.now) result ≡ first_of name.now (found matches.now) }
-{
-    matches.get_str(name)
+/// What the words give for SOURCE and for each option of a tool.
+#[derive(Drop)]
+pub struct Values<'a> {
+    pub(crate) matches: ArgMatches<'a>,
 }
 
-pub(crate) fn has_ending(text: &[u8], ending: &str) -> bool
+impl<'a> Model for Values<'a> {
+    ghost use Rattle.tool_words.specs.Arguments.{Given};
+    ghost use Rattle.tool_words.specs.Values.{found};
+
+    ghost Value = { Given };
+
+    ghost view = { λ a. found a.matches };
+}
+
+/// How the states of a state machine get their codes.
+#[derive(Clone, Copy, PartialEq, Eq)]
+pub enum Encoding {
+    /// One bit for each state.
+    OneHot,
+    /// Numbers shuffled by random words.
+    Random,
+    /// Numbers that bring states near each other of which one leads to the other.
+    Adjacent,
+}
+
+/// The text that is given for an argument.
+pub fn given<'a>(values: &Values<'a>, name: &str) -> Option<&'a str>
+    ensures { option_map (λ text. text.now) result ≡ first_of name.now values.now }
+{
+    values.matches.get_str(name)
+}
+
+/// Whether a text ends so. Takes no memory.
+pub fn has_ending(text: &[u8], ending: &str) -> bool
     ensures { result ≡ has_ending text.now ending.now }
 {
     text.ends_with(ending.as_bytes())
@@ -42,15 +69,15 @@ fn has_any_ending(text: &[u8], endings: &[&'static str]) -> bool
 }
 
 /// SOURCE. `Usage` exactly where it has none of these endings, or isn't given.
-pub(crate) fn source(
+pub fn source(
     alloc: Global,
-    matches: &ArgMatches,
+    values: &Values,
     endings: &[&'static str],
 ) -> Result<FileName, WordsError>
-    ensures ok { IfOk result (λ file. source_of (texts_view endings.now) (found matches.now) ≡ Some file) }
-    ensures usage { IsErrOf result Usage → source_of (texts_view endings.now) (found matches.now) ≡ None }
+    ensures ok { IfOk result (λ file. source_of (texts_view endings.now) values.now ≡ Some file) }
+    ensures usage { IsErrOf result Usage → source_of (texts_view endings.now) values.now ≡ None }
 {
-    let Some(file) = given(matches, SOURCE) else {
+    let Some(file) = given(values, SOURCE) else {
         return Err(WordsError::Usage);
     };
     if !has_any_ending(file.as_bytes(), endings) {
@@ -69,15 +96,11 @@ fn is_of_form(form: Form, text: &[u8]) -> bool
 }
 
 /// The text of an option. `Usage` exactly where it isn't of its form, or isn't given.
-pub(crate) fn text(
-    alloc: Global,
-    matches: &ArgMatches,
-    setting: Setting,
-) -> Result<FileName, WordsError>
-    ensures ok { IfOk result (λ text. text_of (setting_view setting) (found matches.now) ≡ Some text) }
-    ensures usage { IsErrOf result Usage → text_of (setting_view setting) (found matches.now) ≡ None }
+pub fn text(alloc: Global, values: &Values, setting: Setting) -> Result<FileName, WordsError>
+    ensures ok { IfOk result (λ text. text_of (setting_view setting) values.now ≡ Some text) }
+    ensures usage { IsErrOf result Usage → text_of (setting_view setting) values.now ≡ None }
 {
-    let Some(text) = given(matches, setting.name) else {
+    let Some(text) = given(values, setting.name) else {
         return Err(WordsError::Usage);
     };
     if !is_of_form(setting.form, text.as_bytes()) {
@@ -118,26 +141,47 @@ fn default_of(form: Form) -> Option<u32>
     }
 }
 
-/// The number of an option, or the one that stands for it where it is left out.
-pub(crate) fn number(matches: &ArgMatches, setting: Setting) -> Option<u32>
-    ensures { result ≡ number_of (setting_view setting) (found matches.now) }
+fn number_or_default(values: &Values, setting: Setting) -> Option<u32>
+    ensures { result ≡ number_of (setting_view setting) values.now }
 {
-    match given(matches, setting.name) {
+    match given(values, setting.name) {
         Some(text) => number_by(setting.form, text.as_bytes()),
         None => default_of(setting.form),
     }
 }
 
-/// The number of an option, if it is given. None where what is given is no number within its bounds.
-pub(crate) fn number_if_given(matches: &ArgMatches, setting: Setting) -> Option<Option<u32>>
-    ensures { result ≡ number_if_given (setting_view setting) (found matches.now) }
+/// The number of an option, or the one that stands for it where it is left out. `Usage` exactly where there is none, or what is given is
+/// no number within its bounds.
+pub fn number(values: &Values, setting: Setting) -> Result<u32, WordsError>
+    ensures ok { IfOk result (λ n. number_of (setting_view setting) values.now ≡ Some n) }
+    ensures usage { IsErrOf result Usage → number_of (setting_view setting) values.now ≡ None }
 {
-    match given(matches, setting.name) {
+    match number_or_default(values, setting) {
+        Some(n) => Ok(n),
+        None => Err(WordsError::Usage),
+    }
+}
+
+fn number_or_none(values: &Values, setting: Setting) -> Option<Option<u32>>
+    ensures { result ≡ number_if_given (setting_view setting) values.now }
+{
+    match given(values, setting.name) {
         Some(text) => match number_by(setting.form, text.as_bytes()) {
             Some(n) => Some(Some(n)),
             None => None,
         },
         None => Some(None),
+    }
+}
+
+/// The number of an option, if it is given. `Usage` exactly where what is given is no number within its bounds.
+pub fn number_if_given(values: &Values, setting: Setting) -> Result<Option<u32>, WordsError>
+    ensures ok { IfOk result (λ n. number_if_given (setting_view setting) values.now ≡ Some n) }
+    ensures usage { IsErrOf result Usage → number_if_given (setting_view setting) values.now ≡ None }
+{
+    match number_or_none(values, setting) {
+        Some(n) => Ok(n),
+        None => Err(WordsError::Usage),
     }
 }
 
@@ -156,12 +200,22 @@ fn encoding_by(text: &[u8]) -> Option<Encoding>
     None
 }
 
-/// How states get their codes. None where what is given for it is none of its letters.
-pub(crate) fn encoding(matches: &ArgMatches) -> Option<Encoding>
-    ensures { result ≡ encoding_of (found matches.now) }
+fn encoding_or_default(values: &Values) -> Option<Encoding>
+    ensures { result ≡ encoding_of values.now }
 {
-    match given(matches, ENCODING.name) {
+    match given(values, ENCODING.name) {
         Some(text) => encoding_by(text.as_bytes()),
         None => Some(Encoding::Adjacent),
+    }
+}
+
+/// How states get their codes. `Usage` exactly where what is given for it is none of its letters.
+pub fn encoding_given(values: &Values) -> Result<Encoding, WordsError>
+    ensures ok { IfOk result (λ e. encoding_of values.now ≡ Some e) }
+    ensures usage { IsErrOf result Usage → encoding_of values.now ≡ None }
+{
+    match encoding_or_default(values) {
+        Some(encoding) => Ok(encoding),
+        None => Err(WordsError::Usage),
     }
 }

@@ -1,7 +1,6 @@
 // A state machine that is written: no tool writes one yet.
 use fsm_io::read_fsm;
-use fsm_spelled::fsm_can_be_written;
-use fsm_write::write_fsm;
+use fsm_print::{fsm_can_be_written, write_fsm};
 use std::alloc::Global;
 use std::test::Fail;
 use vlsi_base::{FileBytes, ReadError};

@@ -4,18 +4,18 @@ use Rattle.vlsi_base.specs.declared.fault.FaultKind.TheVariants as kind
 use Rattle.vlsi_base.specs.declared.fault.LimitKind.TheVariants as limit
 use Rattle.vlsi_base.specs.declared.fault.ReadError.{ReadError}
 use Rattle.vlsi_base.specs.declared.fault.ReadError.TheVariants as errors
-use Rattle.source_meaning.specs.declared.statement.Statement.{Statement}
-use Rattle.source_meaning.specs.declared.statement.DesignFile.{DesignFile}
-use Rattle.source_meaning.specs.declared.symbol_table.Symbol.{Symbol}
-use Rattle.source_meaning.specs.Symbols.{symbols, port_symbols, signal_symbols}
-use Rattle.source_meaning.specs.Places.{Use, in_statements, statement_uses, first_unknown}
-use Rattle.source_meaning.specs.Widths.{port_faults, signal_faults, statement_faults, all_width_faults}
-use Rattle.source_meaning.specs.Drivers.{Driver, statement_drivers, drivers, all_driven, first_second_driver, first_undriven}
-use Rattle.source_meaning.specs.Unsupported.{port_forms, signal_forms, statement_forms, all_unsupported}
-use Rattle.source_meaning.specs.Clock.{statement_clocks, first_text, clock_text, statement_clock_lines, all_clock_lines}
-use Rattle.source_meaning.specs.Elaboration.{Definition, statement_definitions, definitions, port_bits}
-use Rattle.source_meaning.specs.Cycles.{IsRing}
-use Rattle.source_meaning.specs.Checks.{most_ports, if_use, if_line, if_name, if_symbol, first_repeated, first_fault, DrivenOn, IsCycle, HasNoRing, IsRefusedFor}
+use Rattle.source_checks.specs.declared.statement.Statement.{Statement}
+use Rattle.source_checks.specs.declared.statement.DesignFile.{DesignFile}
+use Rattle.source_checks.specs.declared.symbol_table.Symbol.{Symbol}
+use Rattle.source_checks.specs.Symbols.{symbols, port_symbols, signal_symbols}
+use Rattle.source_checks.specs.Places.{Use, in_statements, statement_uses, first_unknown}
+use Rattle.source_checks.specs.Widths.{port_faults, signal_faults, statement_faults, all_width_faults}
+use Rattle.source_checks.specs.Drivers.{Driver, statement_drivers, drivers, all_driven, first_second_driver, first_undriven}
+use Rattle.source_checks.specs.Unsupported.{port_forms, signal_forms, statement_forms, all_unsupported}
+use Rattle.source_checks.specs.Clock.{statement_clocks, first_text, clock_text, statement_clock_lines, all_clock_lines}
+use Rattle.source_checks.specs.Elaboration.{Definition, statement_definitions, definitions, port_bits}
+use Rattle.source_checks.specs.Cycles.{IsRing}
+use Rattle.source_checks.specs.Checks.{most_ports, if_use, if_line, if_name, if_symbol, first_repeated, first_fault, DrivenOn, IsCycle, HasNoRing, IsRefusedFor}
 use Rattle.vbe_text.specs.Source.{SourceTree, statement_view, source_view}
 use Rattle.vbe_io.proofs.Views.{SeenBy, of_view, of_both, of_each}
 use Rattle.vbe_io.proofs.AlikeStatements.{uses_seen, widths_seen, drivers_seen, forms_seen, clocks_seen, clock_lines_seen, definitions_seen}

@@ -1,21 +1,21 @@
 -- Statements of one tree come to the same: what is made of their expressions is made of the trees.
 use Rattle.std.proofs.Common.{ℕ, Bool, true, false, ◌&&◌, not, List, [], ◌∷◌, ◌++◌, map, Option, None, Some, refl, ap}
 use Rattle.vlsi_base.specs.Tree.{Tree, view}
-use Rattle.source_meaning.specs.declared.statement.Target.{Target}
-use Rattle.source_meaning.specs.declared.statement.Guarded.{Guarded}
-use Rattle.source_meaning.specs.declared.statement.Choice.{Choice}
-use Rattle.source_meaning.specs.declared.statement.Assignment.{Assignment}
-use Rattle.source_meaning.specs.declared.statement.Statement.{Statement}
-use Rattle.source_meaning.specs.declared.statement.Statement.TheVariants as statement
-use Rattle.source_meaning.specs.declared.symbol_table.Symbol.{Symbol}
-use Rattle.source_meaning.specs.Symbols.{find}
-use Rattle.source_meaning.specs.Places.{in_alternatives, in_choice, in_assignments, reads, reads_in_choice, assignment_uses, statement_uses}
-use Rattle.source_meaning.specs.Formula.{Formula, formulas, first_bit, choose_bits, alternative_bits, choice_bits}
-use Rattle.source_meaning.specs.Widths.{if_not, differ, width, width_faults, condition_faults, target_width, target_faults, all_wide, assignment_faults, statement_faults}
-use Rattle.source_meaning.specs.Drivers.{driver_at, driver_of, target_names, statement_drivers}
-use Rattle.source_meaning.specs.Unsupported.{literal_faults, may_drive, assignment_forms, statement_forms}
-use Rattle.source_meaning.specs.Clock.{clock_lines, clock_of, is_same_clock, statement_clocks, assignment_clock_lines, statement_clock_lines}
-use Rattle.source_meaning.specs.Elaboration.{defined, statement_definitions}
+use Rattle.source_checks.specs.declared.statement.Target.{Target}
+use Rattle.source_checks.specs.declared.statement.Guarded.{Guarded}
+use Rattle.source_checks.specs.declared.statement.Choice.{Choice}
+use Rattle.source_checks.specs.declared.statement.Assignment.{Assignment}
+use Rattle.source_checks.specs.declared.statement.Statement.{Statement}
+use Rattle.source_checks.specs.declared.statement.Statement.TheVariants as statement
+use Rattle.source_checks.specs.declared.symbol_table.Symbol.{Symbol}
+use Rattle.source_checks.specs.Symbols.{find}
+use Rattle.source_checks.specs.Places.{in_alternatives, in_choice, in_assignments, reads, reads_in_choice, assignment_uses, statement_uses}
+use Rattle.source_checks.specs.Formula.{Formula, formulas, first_bit, choose_bits, alternative_bits, choice_bits}
+use Rattle.source_checks.specs.Widths.{if_not, differ, width, width_faults, condition_faults, target_width, target_faults, all_wide, assignment_faults, statement_faults}
+use Rattle.source_checks.specs.Drivers.{driver_at, driver_of, target_names, statement_drivers}
+use Rattle.source_checks.specs.Unsupported.{literal_faults, may_drive, assignment_forms, statement_forms}
+use Rattle.source_checks.specs.Clock.{clock_lines, clock_of, is_same_clock, statement_clocks, assignment_clock_lines, statement_clock_lines}
+use Rattle.source_checks.specs.Elaboration.{defined, statement_definitions}
 use Rattle.vbe_text.specs.Source.{BlockTree, guarded_view, choice_view, assignment_view, block_view, statement_view}
 use Rattle.vbe_io.proofs.Views.{SeenBy, of_view, of_both, of_part, of_each}
 

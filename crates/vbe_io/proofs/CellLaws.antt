@@ -4,11 +4,11 @@ use Rattle.std.proofs.lemmas.List.Sorted.{length_permutation}
 use Rattle.vlsi_base.specs.declared.name.Port.{Port}
 use Rattle.vlsi_base.specs.declared.fault.ReadError.{ReadError}
 use Rattle.vlsi_base.specs.declared.fault.ReadError.TheVariants as errors
-use Rattle.machine_meaning.specs.Machine.{Machine}
-use Rattle.source_meaning.specs.declared.statement.DesignFile.{DesignFile}
-use Rattle.source_meaning.specs.declared.symbol_table.Symbol.{Symbol}
-use Rattle.source_meaning.specs.Symbols.{symbols}
-use Rattle.source_meaning.specs.Checks.{most_ports, IsRefusedFor}
+use Rattle.machine_core.specs.Machine.{Machine}
+use Rattle.source_checks.specs.declared.statement.DesignFile.{DesignFile}
+use Rattle.source_checks.specs.declared.symbol_table.Symbol.{Symbol}
+use Rattle.source_checks.specs.Symbols.{symbols}
+use Rattle.source_checks.specs.Checks.{most_ports, IsRefusedFor}
 use Rattle.vbe_io.specs.Text.{IsWritten, Refused, long, uncut, unwritten, faulty}
 use Rattle.vbe_io.specs.Cell.{pin_bits, is_left_out, IsOpaque, IsBehaviour, ArePins, other, wide}
 use Rattle.vbe_io.specs.Laws.{CellIsMachine, CellNeverBoth}

@@ -19,13 +19,13 @@ use Rattle.grammar_theory.specs.declared.refusal.Breach.TheVariants as broken
 use Rattle.grammar_theory.specs.declared.refusal.Reason.{Reason}
 use Rattle.grammar_theory.specs.declared.refusal.Reason.TheVariants as reason
 use Rattle.vhdl_front.specs.Front.{breach_error, reason_error, line_left}
-use Rattle.machine_meaning.specs.Machine.{Machine, names_of}
+use Rattle.machine_core.specs.Machine.{Machine, names_of}
 use Rattle.machine_core.specs.Order.{AllDifferent}
-use Rattle.source_meaning.specs.declared.statement.DesignFile.{DesignFile}
-use Rattle.source_meaning.specs.declared.symbol_table.Symbol.{Symbol}
-use Rattle.source_meaning.specs.Symbols.{symbols, symbol_names, all_names, scalar}
-use Rattle.source_meaning.specs.Elaboration.{port_of}
-use Rattle.source_meaning.specs.Checks.{fault, if_symbol, first_repeated, IsRefused}
+use Rattle.source_checks.specs.declared.statement.DesignFile.{DesignFile}
+use Rattle.source_checks.specs.declared.symbol_table.Symbol.{Symbol}
+use Rattle.source_checks.specs.Symbols.{symbols, symbol_names, all_names, scalar}
+use Rattle.source_checks.specs.Elaboration.{port_of}
+use Rattle.source_checks.specs.Checks.{fault, if_symbol, first_repeated, IsRefused}
 use Rattle.vbe_text.specs.Vbe.{RefusedAs, IsRefusedSource}
 use Rattle.vlsi_model.proofs.Members.{Sub, none, Sub-append, Sub-nothing, Sub-itself, different_Sub}
 use Rattle.vlsi_model.proofs.Bits.{different_texts, different_bits}

@@ -2,8 +2,8 @@
 use Rattle.std.proofs.Common.{ℕ, List, IfErr, Result, Ok, Err}
 use Rattle.vlsi_base.specs.declared.fault.ReadError.{ReadError}
 use Rattle.vlsi_base.specs.declared.fault.ReadError.TheVariants as errors
-use Rattle.source_meaning.specs.declared.statement.DesignFile.{DesignFile}
-use Rattle.source_meaning.specs.Checks.{IsRefused}
+use Rattle.source_checks.specs.declared.statement.DesignFile.{DesignFile}
+use Rattle.source_checks.specs.Checks.{IsRefused}
 use Rattle.vbe_io.specs.Text.{IsWritten, faulty, IsVbeRefusal}
 
 refused : (bytes : List ℕ) (design : DesignFile) → IsWritten bytes design → (e : ReadError) → IsRefused design e → IsVbeRefusal bytes e

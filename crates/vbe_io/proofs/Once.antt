@@ -5,8 +5,8 @@ use Rattle.vlsi_base.specs.declared.fault.Limit.{Limit}
 use Rattle.vlsi_base.specs.declared.fault.ReadError.{ReadError}
 use Rattle.vlsi_base.specs.declared.fault.ReadError.TheVariants as errors
 use Rattle.vhdl_lexer.specs.Listing.{tokens_in, refusal_in}
-use Rattle.source_meaning.specs.declared.statement.DesignFile.{DesignFile}
-use Rattle.source_meaning.specs.Checks.{IsCycle, HasNoRing, Passes, IsRefusedFor}
+use Rattle.source_checks.specs.declared.statement.DesignFile.{DesignFile}
+use Rattle.source_checks.specs.Checks.{IsCycle, HasNoRing, Passes, IsRefusedFor}
 use Rattle.vbe_text.specs.Source.{source_view}
 use Rattle.vbe_text.specs.Vbe.{RefusedAs}
 use Rattle.vbe_text.proofs.Laws as text

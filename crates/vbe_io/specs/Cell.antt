@@ -12,15 +12,15 @@ use Rattle.vlsi_base.specs.declared.fault.LimitKind.TheVariants as limit
 use Rattle.vlsi_base.specs.declared.fault.ReadError.{ReadError}
 use Rattle.vlsi_base.specs.declared.fault.ReadError.TheVariants as errors
 use Rattle.vlsi_base.specs.Name.{is_supply}
-use Rattle.machine_meaning.specs.Machine.{Machine, names_of}
+use Rattle.machine_core.specs.Machine.{Machine, names_of}
 use Rattle.machine_core.specs.Checked.{AreInOrder}
-use Rattle.source_meaning.specs.declared.statement.DesignFile.{DesignFile}
-use Rattle.source_meaning.specs.declared.symbol_table.Role.{Role}
-use Rattle.source_meaning.specs.declared.symbol_table.Role.TheVariants as role
-use Rattle.source_meaning.specs.declared.symbol_table.Symbol.{Symbol}
-use Rattle.source_meaning.specs.Symbols.{symbols, symbol_names}
-use Rattle.source_meaning.specs.Checks.{most_ports, first_fault, Passes, IsRefusedFor}
-use Rattle.source_meaning.specs.Elaboration.{port_of, IsMachineOf}
+use Rattle.source_checks.specs.declared.statement.DesignFile.{DesignFile}
+use Rattle.source_checks.specs.declared.symbol_table.Role.{Role}
+use Rattle.source_checks.specs.declared.symbol_table.Role.TheVariants as role
+use Rattle.source_checks.specs.declared.symbol_table.Symbol.{Symbol}
+use Rattle.source_checks.specs.Symbols.{symbols, symbol_names}
+use Rattle.source_checks.specs.Checks.{most_ports, first_fault, Passes, IsRefusedFor}
+use Rattle.source_checks.specs.Elaboration.{port_of, IsMachineOf}
 use Rattle.vbe_io.specs.Text.{IsWritten, Refused}
 use Rattle.vbe_io.specs.declared.cell_text.GenericValue.{GenericValue}
 use Rattle.vbe_io.specs.declared.cell_text.CellText.{CellText}

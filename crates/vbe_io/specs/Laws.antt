@@ -3,8 +3,8 @@ use Rattle.std.specs.Prelude.{◌≡◌, ◌⊎◌, ℕ, List, Some}
 use Rattle.vlsi_base.specs.declared.name.Name.{Name}
 use Rattle.vlsi_base.specs.declared.fault.FaultKind.TheVariants as kind
 use Rattle.vlsi_base.specs.declared.fault.ReadError.{ReadError}
-use Rattle.machine_meaning.specs.Machine.{Machine}
-use Rattle.source_meaning.specs.Checks.{fault}
+use Rattle.machine_core.specs.Machine.{Machine}
+use Rattle.source_checks.specs.Checks.{fault}
 use Rattle.vbe_io.specs.Text.{IsVbe, Refused}
 use Rattle.vbe_io.specs.Cell.{IsCellText, CellRefused}
 use Rattle.vbe_io.specs.declared.cell_text.CellText.{CellText}

@@ -5,10 +5,10 @@ use Rattle.vlsi_base.specs.declared.fault.LimitKind.TheVariants as kind
 use Rattle.vlsi_base.specs.declared.fault.ReadError.{ReadError}
 use Rattle.vlsi_base.specs.declared.fault.ReadError.TheVariants as errors
 use Rattle.vhdl_lexer.specs.Listing.{tokens_in, refusal_in}
-use Rattle.machine_meaning.specs.Machine.{Machine}
-use Rattle.source_meaning.specs.declared.statement.DesignFile.{DesignFile}
-use Rattle.source_meaning.specs.Checks.{Passes, IsRefusedFor}
-use Rattle.source_meaning.specs.Elaboration.{IsMachineOf}
+use Rattle.machine_core.specs.Machine.{Machine}
+use Rattle.source_checks.specs.declared.statement.DesignFile.{DesignFile}
+use Rattle.source_checks.specs.Checks.{Passes, IsRefusedFor}
+use Rattle.source_checks.specs.Elaboration.{IsMachineOf}
 use Rattle.vbe_text.specs.Source.{source_view}
 use Rattle.vbe_text.specs.Vbe.{IsSource, RefusedAs}
 

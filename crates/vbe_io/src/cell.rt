@@ -2,16 +2,16 @@
 ghost use Rattle.std.specs.Prelude.{◌≡◌, ◌<◌, ◌^◌, length, false, IfOk, IfErr};
 ghost use Rattle.std.specs.Option.{option_copied};
 ghost use Rattle.machine_core.specs.Order.{AllDifferent};
-ghost use Rattle.machine_meaning.specs.Machine.{names_of};
-ghost use Rattle.source_meaning.specs.Checks.{IsRefused};
-ghost use Rattle.source_meaning.specs.Operators.{HasShortExpressions};
-ghost use Rattle.source_meaning.specs.Symbols.{symbols, all_names};
+ghost use Rattle.machine_core.specs.Machine.{names_of};
+ghost use Rattle.source_checks.specs.Checks.{IsRefused};
+ghost use Rattle.source_checks.specs.Operators.{HasShortExpressions};
+ghost use Rattle.source_checks.specs.Symbols.{symbols, all_names};
 ghost use Rattle.vbe_io.specs.Cell.{pin_bits, generic_values as values_among, leaves_out, pins_error, is_left_out, IsBehaviour, ArePins, IsCellText, IsCellRefusal, IsUnfit, IsPinsRefusal};
 
 use crate::cell_text::{CellText, GenericValues, copies, generic_values, in_order, pins};
 use crate::reader::written;
 use machine_core::Machine;
-use source_meaning::DesignFile;
+use source_checks::DesignFile;
 use std::alloc::{AllocError, Global};
 use vlsi_base::{FaultKind, Limit, LimitKind, Port, Ports, ReadError, Text};
 use vlsi_model::check_machine;

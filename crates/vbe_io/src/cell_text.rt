@@ -3,13 +3,13 @@ ghost use Rattle.std.specs.Prelude.{◌≡◌, ◌++◌, ◌∷◌, [], map, IfO
 ghost use Rattle.std.specs.List.Sorted.{IsPermutation};
 ghost use Rattle.machine_core.specs.Checked.{AreInOrder};
 ghost use Rattle.machine_core.specs.Order.{AllDifferent};
-ghost use Rattle.machine_meaning.specs.Machine.{names_of};
-ghost use Rattle.source_meaning.specs.Elaboration.{port_of};
-ghost use Rattle.source_meaning.specs.Symbols.{symbols, symbol_names};
+ghost use Rattle.machine_core.specs.Machine.{names_of};
+ghost use Rattle.source_checks.specs.Elaboration.{port_of};
+ghost use Rattle.source_checks.specs.Symbols.{symbols, symbol_names};
 ghost use Rattle.vbe_io.specs.Cell.{pin_dir, symbol_pins, pin_bits, values_of, generic_values as values_among};
 
 use machine_core::Machine;
-use source_meaning::{DesignFile, Role, Symbol, SymbolTable};
+use source_checks::{DesignFile, Role, Symbol, SymbolTable};
 use std::alloc::{AllocError, Global};
 use vlsi_base::{Dir, Generic, Listed, Name, Port, Ports, Text, is_supply};
 

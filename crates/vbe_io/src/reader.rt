@@ -1,13 +1,13 @@
 // The reader.
 ghost use Rattle.std.specs.Prelude.{◌≡◌, ◌<◌, ◌≤◌, ◌^◌, false, None, IfOk, IfErr, length};
 ghost use Rattle.vhdl_lexer.specs.Listing.{tokens_in, refusal_in};
-ghost use Rattle.source_meaning.specs.Operators.{HasShortExpressions};
-ghost use Rattle.source_meaning.specs.Symbols.{symbols, all_names};
+ghost use Rattle.source_checks.specs.Operators.{HasShortExpressions};
+ghost use Rattle.source_checks.specs.Symbols.{symbols, all_names};
 ghost use Rattle.vbe_io.specs.Text.{IsWritten, IsVbe, IsVbeRefusal};
 ghost use Rattle.vbe_io.specs.Cell.{is_left_out};
 
 use machine_core::Machine;
-use source_meaning::DesignFile;
+use source_checks::DesignFile;
 use std::alloc::Global;
 use vbe_text::read_source;
 use vhdl_lexer::tokens;

@@ -6,11 +6,11 @@ use Rattle.vlsi_base.specs.declared.name.Name.{Name}
 use Rattle.vlsi_base.specs.declared.name.Port.{Port}
 use Rattle.vlsi_base.specs.Member.{In}
 use Rattle.bool_expr.specs.Expression.{Expression, variable, IsOver}
-use Rattle.machine_meaning.specs.Machine.{Machine, Equation, names_of, is_input, is_clock, inputs, outputs, register_names}
+use Rattle.machine_core.specs.Machine.{Machine, Equation, names_of, is_input, is_clock, inputs, outputs, register_names}
 use Rattle.machine_core.specs.Order.{held_names, equation_names, IsOrdered}
 use Rattle.machine_core.proofs.Values.{In-split, In-right, In-map}
-use Rattle.source_meaning.specs.Formula.{Formula, place, numbered}
-use Rattle.source_meaning.specs.Elaboration.{Definition}
+use Rattle.source_checks.specs.Formula.{Formula, place, numbered}
+use Rattle.source_checks.specs.Elaboration.{Definition}
 use Rattle.vlsi_model.proofs.Members.{In-map_back}
 use Rattle.vlsi_model.proofs.Assembly.{In-permutation}
 use Rattle.vlsi_model.proofs.Numbering.{place_In, place_within, place_front}

@@ -3,12 +3,12 @@ use Rattle.std.proofs.Common.{◌≡◌, ◌⊎◌, inl, inr, ℕ, zero, suc, �
 use Rattle.vlsi_base.specs.declared.name.Name.{Name}
 use Rattle.vlsi_base.specs.Member.{In, here, there, AllDifferent}
 use Rattle.bool_expr.specs.Expression.{Expression, inverse, pair, choice, IsOver}
-use Rattle.machine_meaning.specs.Named.{is_same_name}
-use Rattle.machine_meaning.specs.Machine.{Machine, Equation}
+use Rattle.machine_core.specs.Named.{is_same_name}
+use Rattle.machine_core.specs.Machine.{Machine, Equation}
 use Rattle.machine_core.specs.Order.{held_names, equation_names, IsOrdered}
 use Rattle.machine_core.proofs.Names.{same_name-itself, same_name-false}
 use Rattle.machine_core.proofs.Values.{In-right, In-map}
-use Rattle.source_meaning.specs.Formula.{Formula, fixed, named, opposite, joined, chosen, place, numbered}
+use Rattle.source_checks.specs.Formula.{Formula, fixed, named, opposite, joined, chosen, place, numbered}
 use Rattle.vlsi_model.proofs.Members.{In-cases, In-map_back}
 use Rattle.machine_walk.specs.Expansion.{with_variables, held_count}
 use Rattle.machine_roots.specs.Roots.{expression_of}

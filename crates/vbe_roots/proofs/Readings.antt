@@ -5,17 +5,17 @@ use Rattle.std.specs.List.Sorted.{IsPermutation}
 use Rattle.std.proofs.lemmas.List.Sorted.{IsPermutation-sym}
 use Rattle.vlsi_base.specs.Tree.{Tree, view}
 use Rattle.vlsi_base.specs.declared.name.Name.{Name}
-use Rattle.machine_meaning.specs.Machine.{Machine, Equation, Register, register_names}
+use Rattle.machine_core.specs.Machine.{Machine, Equation, Register, register_names}
 use Rattle.machine_core.specs.Checked.{AreInOrder, IsChecked}
-use Rattle.source_meaning.specs.declared.statement.Statement.{Statement}
-use Rattle.source_meaning.specs.declared.statement.Statement.TheVariants as statement
-use Rattle.source_meaning.specs.declared.statement.DesignFile.{DesignFile}
-use Rattle.source_meaning.specs.declared.symbol_table.Symbol.{Symbol}
-use Rattle.source_meaning.specs.Symbols.{symbols}
-use Rattle.source_meaning.specs.Places.{in_assignments, in_statements}
-use Rattle.source_meaning.specs.Formula.{numbered}
-use Rattle.source_meaning.specs.Clock.{statement_clocks, first_text, clock_text, enable_of}
-use Rattle.source_meaning.specs.Elaboration.{Definition, Storage, assignment_definitions, stored, statement_definitions, statement_storage, definitions, storage}
+use Rattle.source_checks.specs.declared.statement.Statement.{Statement}
+use Rattle.source_checks.specs.declared.statement.Statement.TheVariants as statement
+use Rattle.source_checks.specs.declared.statement.DesignFile.{DesignFile}
+use Rattle.source_checks.specs.declared.symbol_table.Symbol.{Symbol}
+use Rattle.source_checks.specs.Symbols.{symbols}
+use Rattle.source_checks.specs.Places.{in_assignments, in_statements}
+use Rattle.source_checks.specs.Formula.{numbered}
+use Rattle.source_checks.specs.Clock.{statement_clocks, first_text, clock_text, enable_of}
+use Rattle.source_checks.specs.Elaboration.{Definition, Storage, assignment_definitions, stored, statement_definitions, statement_storage, definitions, storage}
 use Rattle.vbe_text.specs.Source.{SourceTree, BlockTree, assignment_view, block_view, statement_view, source_view, assigned}
 use Rattle.vlsi_model.proofs.OneOrder.{one_order}
 use Rattle.vbe_io.specs.Text.{IsVbe}
@@ -23,8 +23,8 @@ use Rattle.vbe_io.proofs.Views.{SeenBy, of_both, of_each}
 use Rattle.vbe_io.proofs.AlikeStatements.{clocks_seen, definitions_seen}
 use Rattle.vbe_io.proofs.AlikeSources.{symbols_alike}
 use Rattle.vbe_io.proofs.Once.{written_once}
-use Rattle.vbe_same.specs.Law.{HaveSameParts, MachinesHaveTheSameParts}
-use Rattle.vbe_same.proofs.Ordered.{Moved, moved_map}
+use Rattle.vbe_laws.specs.OneMachine.{HaveSameParts, MachinesHaveTheSameParts}
+use Rattle.vbe_laws.proofs.Ordered.{Moved, moved_map}
 
 -- an equation and a register of a machine with these names
 abbrev pub equation_over : List Name → Definition → Equation

@@ -1,17 +1,18 @@
 -- The roots of two machines of one text, place by place.
-use Rattle.std.proofs.Common.{ℕ, List, [], ◌∷◌, ◌++◌, map, length, refl, sym, subst}
+use Rattle.std.proofs.Common.{ℕ, suc, List, [], ◌∷◌, ◌++◌, map, length, refl, sym, subst, arith}
 use Rattle.std.specs.List.{All, AllZip}
+use Rattle.std.proofs.lemmas.List.Elements.{All-nil, All-cons}
 use Rattle.vlsi_base.specs.declared.name.Name.{Name}
 use Rattle.vlsi_base.specs.Member.{In, here, there}
 use Rattle.bool_expr.specs.Expression.{Expression, variables, IsOver}
 use Rattle.bool_expr.specs.Support.{first_meetings}
-use Rattle.bdd_core.specs.Truths.{IsCountOf}
-use Rattle.machine_meaning.specs.Machine.{Machine, Register, outputs}
+use Rattle.bdd_core.specs.Truths.{IsCountOf, IsOver as IsLarge}
+use Rattle.machine_core.specs.Machine.{Machine, Register, outputs}
 use Rattle.machine_core.proofs.Values.{In-map}
-use Rattle.source_meaning.specs.Elaboration.{Storage}
+use Rattle.source_checks.specs.Elaboration.{Storage}
 use Rattle.vlsi_model.proofs.Sorting.{place_of_In}
 use Rattle.machine_walk.specs.Expansion.{subexpressions}
-use Rattle.machine_roots.specs.Roots.{Root, expression_of, register_roots, roots, list_by, IsDcount, IsDag, IsGreatestDcount}
+use Rattle.machine_roots.specs.Roots.{Root, expression_of, register_roots, roots, list_by, IsDcount, IsDag, IsOverBudget, IsGreatestDcount}
 use Rattle.vbe_roots.specs.Law.{HaveOneExpansion}
 use Rattle.vbe_roots.proofs.Readings.{register_over, AreOfOne}
 use Rattle.vbe_roots.proofs.Meanings.{formula_means, outputs_same, output_means}
@@ -33,6 +34,13 @@ zip_over S P Q f [] (y ∷ ys) bs s p = absurd s
 zip_over S P Q f (x ∷ xs) [] bs s p = absurd s
 zip_over S P Q f (x ∷ xs) (y ∷ ys) [] s p = absurd p
 zip_over S P Q f (x ∷ xs) (y ∷ ys) (b ∷ bs) s p = (f x y s.0 b p.0, zip_over S P Q f xs ys bs s.1 p.1)
+
+-- what holds of each item of one list holds of each of another one, where it goes over from each item to the other one
+all_over : {A : Type 0} (S : A → A → Type 0) (P Q : A → Type 0) → ((x y : A) → S x y → P x → Q y) → (xs ys : List A) → AllZip S xs ys → All P xs → All Q ys
+all_over S P Q f [] [] s p = All-nil Q
+all_over S P Q f [] (y ∷ ys) s p = absurd s
+all_over S P Q f (x ∷ xs) [] s p = absurd s
+all_over S P Q f (x ∷ xs) (y ∷ ys) s p = All-cons Q y ys (f x y s.0 (p 0 x (omega arith))) (all_over S P Q f xs ys s.1 (λ k d h. p (suc k) d (omega arith)))
 
 all_in : {A : Type 0} (P : A → Type 0) (xs : List A) → All P xs → (x : A) → In x xs → P x
 all_in P xs all x h = let r = place_of_In xs x h in let l = r.1 in subst P (r.2 x) (all r.0 x l)
@@ -91,3 +99,11 @@ module _ (m k : Machine) (one : AreOfOne m k) where
     each = zip_over (HaveOneExpansion m k) (IsDcount m) (IsDcount k) same_dcount (roots m) (roots k) g.counts same_roots g.each;
     greatest = g.greatest;
   }
+
+  same_over : (budget : ℕ) (r q : Root) → HaveOneExpansion m k r q → (IsOverBudget m budget r → ⊥) → IsOverBudget k budget q → ⊥
+  same_over budget r q same none h =
+      none (subst (λ (x : Expression). IsLarge (map (list_by (first_meetings (variables x))) (subexpressions x)) budget) (sym same.1) h)
+
+  pub same_within : (budget : ℕ) → All (λ r. IsOverBudget m budget r → ⊥) (roots m) → All (λ r. IsOverBudget k budget r → ⊥) (roots k)
+  same_within budget all =
+      all_over (HaveOneExpansion m k) (λ r. IsOverBudget m budget r → ⊥) (λ r. IsOverBudget k budget r → ⊥) (same_over budget) (roots m) (roots k) same_roots all

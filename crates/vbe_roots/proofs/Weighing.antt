@@ -7,10 +7,10 @@ use Rattle.std.proofs.lemmas.List.Sums.{sum_by-cons}
 use Rattle.std.proofs.lemmas.List.Sorted.{sum_by-IsPermutation}
 use Rattle.vlsi_base.specs.declared.name.Name.{Name}
 use Rattle.bool_expr.specs.Expression.{size_of, gate_size}
-use Rattle.machine_meaning.specs.Named.{is_same_name}
-use Rattle.machine_meaning.specs.Machine.{Machine, Equation, outputs}
-use Rattle.source_meaning.specs.Formula.{Formula, fixed, named, opposite, joined, chosen, numbered}
-use Rattle.source_meaning.specs.Elaboration.{Definition}
+use Rattle.machine_core.specs.Named.{is_same_name}
+use Rattle.machine_core.specs.Machine.{Machine, Equation, outputs}
+use Rattle.source_checks.specs.Formula.{Formula, fixed, named, opposite, joined, chosen, numbered}
+use Rattle.source_checks.specs.Elaboration.{Definition}
 use Rattle.boom_opt.specs.Optimised.{inner_size}
 use Rattle.vbe_roots.proofs.Readings.{equation_over, AreOfOne}
 use Rattle.vbe_roots.proofs.Meanings.{outputs_same}

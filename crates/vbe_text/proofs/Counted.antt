@@ -26,10 +26,10 @@ use Rattle.grammar_theory.specs.declared.limits.TheConstants.{BITS, CHAIN, DEPTH
 use Rattle.grammar_theory.specs.Marks.{Mark, plain, starts, chooses, again, opens, operator, declares, enters, counts, spells, fits, Item, State, uncounted, is_declared, acts, checked, step, go_on, run}
 use Rattle.grammar_theory.specs.Grammar.{Grammar, nothing, marked, Then, ◌or◌, list}
 use Rattle.vhdl_front.specs.Entity.{Names, width, range, scalar, vector, port_type, registered, signal_type, closed, port_behind, port, next_port, port_clause, ending, entity, signal, declarations}
-use Rattle.source_meaning.specs.declared.statement.DesignFile.{DesignFile}
-use Rattle.source_meaning.specs.declared.symbol_table.Role.{Role}
-use Rattle.source_meaning.specs.declared.symbol_table.Symbol.{Symbol}
-use Rattle.source_meaning.specs.Symbols.{role_of_mode, role_of_word, symbols_named, port_symbols, signal_symbols, symbols, bit_name, names_in, symbol_names, all_names}
+use Rattle.source_checks.specs.declared.statement.DesignFile.{DesignFile}
+use Rattle.source_checks.specs.declared.symbol_table.Role.{Role}
+use Rattle.source_checks.specs.declared.symbol_table.Symbol.{Symbol}
+use Rattle.source_checks.specs.Symbols.{role_of_mode, role_of_word, symbols_named, port_symbols, signal_symbols, symbols, bit_name, names_in, symbol_names, all_names}
 use Rattle.vbe_text.specs.Source.{SourceTree, source_view}
 use Rattle.vbe_text.specs.Vbe.{architecture, source, IsSource}
 

@@ -15,13 +15,13 @@ use Rattle.grammar_theory.specs.Marks.{Mark, plain, opens, operator, spells, Ite
 use Rattle.grammar_theory.specs.Grammar.{Grammar, none, nothing, one, marked, Then, ◌or◌, list, placed}
 use Rattle.vhdl_front.specs.Cursor.{name_of, bit_of, digits_of, radix_of}
 use Rattle.vhdl_front.specs.Expression.{number, closing, direction, slice_of, places, suffix, named, bit_literal, text_literal, string_literal, parenthesized, primary, factor, joined, cat, pair, chain, relation, logical, expression_over, less, nested, expression}
-use Rattle.source_meaning.specs.declared.statement.Guarded.{Guarded}
-use Rattle.source_meaning.specs.declared.statement.Choice.{Choice}
-use Rattle.source_meaning.specs.declared.statement.Assignment.{Assignment}
-use Rattle.source_meaning.specs.declared.statement.Statement.{Statement}
-use Rattle.source_meaning.specs.declared.statement.Statement.TheVariants as kind
-use Rattle.source_meaning.specs.declared.statement.DesignFile.{DesignFile}
-use Rattle.source_meaning.specs.Operators.{operators, IsShort, ShortAlternatives, ShortChoice, ShortAssignments, ShortStatement, ShortStatements, HasShortExpressions}
+use Rattle.source_checks.specs.declared.statement.Guarded.{Guarded}
+use Rattle.source_checks.specs.declared.statement.Choice.{Choice}
+use Rattle.source_checks.specs.declared.statement.Assignment.{Assignment}
+use Rattle.source_checks.specs.declared.statement.Statement.{Statement}
+use Rattle.source_checks.specs.declared.statement.Statement.TheVariants as kind
+use Rattle.source_checks.specs.declared.statement.DesignFile.{DesignFile}
+use Rattle.source_checks.specs.Operators.{operators, IsShort, ShortAlternatives, ShortChoice, ShortAssignments, ShortStatement, ShortStatements, HasShortExpressions}
 use Rattle.vbe_text.specs.Source.{GuardedTree, FurtherTree, ChoiceTree, AssignmentTree, StatementTree, asserted, assigned, blocked, SourceTree, guarded_view, choice_view, assignment_view, statement_view, source_view}
 use Rattle.vbe_text.specs.Vbe.{alternatives_from, last_value, choice_of, further, choice, value, assertion, assignment, guarded_assignment, guarded_assignments, guard, block, labelled, statement, statements, architecture, source, IsSource}
 

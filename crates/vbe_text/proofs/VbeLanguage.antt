@@ -21,7 +21,7 @@ use Rattle.vhdl_front.specs.Reading.{expression_at}
 use Rattle.vhdl_front.proofs.Language.{numbers, exact_number, exact_direction, exact_closing, factor_firsts, expression_lasts}
 use Rattle.vhdl_front.proofs.Nested.{exact_expression}
 use Rattle.vhdl_front.proofs.EntityLanguage.{Language, exact_identifier, exact_entity, exact_declarations, item_consumes}
-use Rattle.source_meaning.specs.declared.statement.Selection.TheVariants as selection
+use Rattle.source_checks.specs.declared.statement.Selection.TheVariants as selection
 use Rattle.vbe_text.specs.Source.{AssignmentTree, StatementTree, asserted, assigned, blocked, FurtherTree}
 use Rattle.vbe_text.specs.Vbe.{choice_of, selected, selecting, target_behind, target, further, choice, delay, value, text, report, severity, remarks, assertion, assignment, guarded_assignment, guarded_assignments, guard, repeated, block, labelled, statement, statements, belonging, architecture_head, architecture, source}
 use Rattle.vbe_text.specs.VbeReading.{range_at, selected_at, opened_at, selecting_at, target_behind_at, target_at, further_at, choice_at, delayed_at, delay_at, value_at, text_at, reported_at, report_at, severe_at, severity_at, remarks_at, assertion_at, assignment_at, guarded_assignment_at, guarded_list_at, guarded_assignments_at, guard_at, stop_at, named_stop_at, repeated_at, block_at, plain_at, unlabelled_at, labelled_at, named_at, statement_at, statement_list_at, statements_at, belonging_at, architecture_head_at, architecture_at, source_at}

@@ -3,14 +3,14 @@ use Rattle.std.specs.Prelude.{ℕ, List, map}
 use Rattle.vlsi_base.specs.Tree.{Tree, view}
 use Rattle.vlsi_base.specs.declared.entity.Entity.{Entity}
 use Rattle.vlsi_base.specs.declared.entity.Declarations.{Declarations}
-use Rattle.source_meaning.specs.declared.statement.Target.{Target}
-use Rattle.source_meaning.specs.declared.statement.Guarded.{Guarded}
-use Rattle.source_meaning.specs.declared.statement.Choice.{Choice}
-use Rattle.source_meaning.specs.declared.statement.Assignment.{Assignment}
-use Rattle.source_meaning.specs.declared.statement.BlockStatement.{BlockStatement}
-use Rattle.source_meaning.specs.declared.statement.Statement.{Statement}
-use Rattle.source_meaning.specs.declared.statement.Statement.TheVariants as statement
-use Rattle.source_meaning.specs.declared.statement.DesignFile.{DesignFile}
+use Rattle.source_checks.specs.declared.statement.Target.{Target}
+use Rattle.source_checks.specs.declared.statement.Guarded.{Guarded}
+use Rattle.source_checks.specs.declared.statement.Choice.{Choice}
+use Rattle.source_checks.specs.declared.statement.Assignment.{Assignment}
+use Rattle.source_checks.specs.declared.statement.BlockStatement.{BlockStatement}
+use Rattle.source_checks.specs.declared.statement.Statement.{Statement}
+use Rattle.source_checks.specs.declared.statement.Statement.TheVariants as statement
+use Rattle.source_checks.specs.declared.statement.DesignFile.{DesignFile}
 use Rattle.vbe_text.specs.declared.choice.Further.{Further}
 
 -- a value, the condition under which it is taken, and the line of the condition's first token

@@ -12,9 +12,9 @@ use Rattle.grammar_theory.specs.Outcome.{Reader, ◌>>=◌, take_at, take_marked
 use Rattle.vhdl_front.specs.Cursor.{name_of}
 use Rattle.vhdl_front.specs.Reading.{number_at, direction_at, closing_at, expression_at}
 use Rattle.vhdl_front.specs.EntityReading.{identifier_at, entity_at, declarations_at}
-use Rattle.source_meaning.specs.declared.statement.Selection.{Selection}
-use Rattle.source_meaning.specs.declared.statement.Selection.TheVariants as selection
-use Rattle.source_meaning.specs.declared.statement.Target.{Target}
+use Rattle.source_checks.specs.declared.statement.Selection.{Selection}
+use Rattle.source_checks.specs.declared.statement.Selection.TheVariants as selection
+use Rattle.source_checks.specs.declared.statement.Target.{Target}
 use Rattle.vbe_text.specs.Source.{ChoiceTree, AssignmentTree, StatementTree, asserted, assigned, blocked, SourceTree, FurtherTree}
 use Rattle.vbe_text.specs.Vbe.{choice_of}
 

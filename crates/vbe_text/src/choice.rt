@@ -10,7 +10,7 @@ ghost use Rattle.vbe_text.specs.Vbe.{choice_of};
 ghost use Rattle.vbe_text.specs.VbeReading.{further_at, choice_at, delay_at, value_at};
 
 use grammar_theory::{Form, Stop};
-use source_meaning::{Choice, Guarded, GuardedList};
+use source_checks::{Choice, Guarded, GuardedList};
 use std::alloc::{AllocError, Global};
 use std::mem;
 use vhdl_front::Cursor;

@@ -2,14 +2,14 @@
 ghost use Rattle.std.specs.Prelude.{◌≡◌, ◌∷◌, [], map, IfOk, IfErr};
 ghost use Rattle.grammar_theory.specs.Tokens.{code, among};
 ghost use Rattle.grammar_theory.specs.Outcome.{Gives, finish};
-ghost use Rattle.source_meaning.specs.Operators.{HasShortExpressions};
+ghost use Rattle.source_checks.specs.Operators.{HasShortExpressions};
 ghost use Rattle.vbe_text.specs.Source.{statement_view, source_view};
 ghost use Rattle.vbe_text.specs.Vbe.{IsSource, IsRefusedSource};
 ghost use Rattle.vbe_text.specs.VbeReading.{labelled_at, unlabelled_at, plain_at, named_at, statement_at, statement_list_at, statements_at, belonging_at, architecture_head_at, architecture_at, source_at};
 
 use crate::statement::{assertion, assignment, block, repeated};
 use grammar_theory::{DEPTH, Form, Reason, Stop};
-use source_meaning::{DesignFile, Statement, Statements};
+use source_checks::{DesignFile, Statement, Statements};
 use std::alloc::Global;
 use vhdl_front::{Cursor, name_bytes, stop_error};
 use vhdl_token::{Keyword, Sign, Tokens};

@@ -8,7 +8,7 @@ ghost use Rattle.vbe_text.specs.VbeReading.{report_at, severity_at, remarks_at, 
 use crate::choice::{placed_expression, value};
 use crate::targets::{target, target_behind};
 use grammar_theory::{Form, Stop};
-use source_meaning::{Assignment, Assignments, BlockStatement, Statement};
+use source_checks::{Assignment, Assignments, BlockStatement, Statement};
 use vhdl_front::Cursor;
 use vhdl_token::{Keyword, PlacedToken, Sign};
 use vlsi_base::ParsedExpr;

@@ -4,7 +4,7 @@ ghost use Rattle.grammar_theory.specs.Outcome.{Gives};
 ghost use Rattle.vbe_text.specs.VbeReading.{range_at, selected_at, selecting_at, target_behind_at, target_at};
 
 use grammar_theory::{Form, Stop};
-use source_meaning::{Selection, Target};
+use source_checks::{Selection, Target};
 use vhdl_front::{Cursor, name_bytes};
 use vhdl_token::{PlacedToken, Sign};
 use vlsi_base::{Range, Text};

@@ -3,7 +3,11 @@ pub mod Name
 pub mod Names
 pub mod NamePlaces
 pub mod Number
+pub mod Laws
+pub mod Kind
 pub mod Fault
 pub mod Tree
 pub mod Range
 pub mod Radix
+pub mod LineBytes
+pub mod Lines

@@ -1,10 +1,14 @@
-//! The words that every crate speaks: texts, names with a bit, ports, faults and limits of input, decimal numbers.
+//! The words that every crate speaks: texts and their lines, names with a bit, ports, faults and limits of input, decimal numbers,
+//! the kinds of gates that mapping needs.
 #![tactic(auto)]
 
 mod entity;
 mod expression;
 mod fault;
+mod kind;
+mod laws;
 mod limits;
+mod lines;
 mod listed;
 mod name;
 mod name_index;
@@ -20,7 +24,10 @@ pub use entity::{
 };
 pub use expression::{Operator, ParsedExpr};
 pub use fault::{FaultKind, InputFault, Limit, LimitKind, ReadError};
+pub use kind::Kind;
+pub use laws::numbers_are_read_again;
 pub use limits::{MOST_NETLIST_BYTES, MOST_SOURCE_BYTES};
+pub use lines::{Lines, without_return};
 pub use listed::Listed;
 pub use name::{Dir, Name, Names, Port, Ports, Terminal, is_supply};
 pub use name_index::NameIndex;

@@ -7,26 +7,26 @@ use Rattle.vlsi_base.specs.declared.name.Name.{Name}
 use Rattle.vlsi_base.specs.declared.name.Port.{Port}
 use Rattle.vlsi_base.specs.declared.name.Dir.TheVariants as dir
 use Rattle.bool_expr.specs.Expression.{IsOver}
-use Rattle.machine_meaning.specs.Machine.{Register, is_input, is_clock, names_of, register_names}
+use Rattle.machine_core.specs.Machine.{Register, is_input, is_clock, names_of, register_names}
 use Rattle.machine_core.specs.Order.{In, here, there, AllDifferent, held_names, equation_names, EachReadsBelow, IsOrdered}
 use Rattle.machine_core.specs.Checked.{AreInOrder, IsNoSupply, IsClockOf, IsChecked}
 use Rattle.machine_core.proofs.Names.{same_name-itself}
 use Rattle.machine_core.proofs.Values.{In-split, In-left, In-right, In-map}
-use Rattle.source_meaning.specs.declared.statement.Statement.{Statement}
-use Rattle.source_meaning.specs.declared.statement.Statement.TheVariants as statement
-use Rattle.source_meaning.specs.declared.statement.DesignFile.{DesignFile}
-use Rattle.source_meaning.specs.declared.symbol_table.Role.{Role}
-use Rattle.source_meaning.specs.declared.symbol_table.Role.TheVariants as role
-use Rattle.source_meaning.specs.declared.symbol_table.Symbol.{Symbol}
+use Rattle.source_checks.specs.declared.statement.Statement.{Statement}
+use Rattle.source_checks.specs.declared.statement.Statement.TheVariants as statement
+use Rattle.source_checks.specs.declared.statement.DesignFile.{DesignFile}
+use Rattle.source_checks.specs.declared.symbol_table.Role.{Role}
+use Rattle.source_checks.specs.declared.symbol_table.Role.TheVariants as role
+use Rattle.source_checks.specs.declared.symbol_table.Symbol.{Symbol}
 use Rattle.vlsi_base.specs.Name.{is_supply}
-use Rattle.source_meaning.specs.Symbols.{symbols, scalar, symbol_names, all_names, names_in}
+use Rattle.source_checks.specs.Symbols.{symbols, scalar, symbol_names, all_names, names_in}
 use Rattle.vlsi_base.specs.declared.range.Range.{Range}
-use Rattle.source_meaning.specs.Formula.{Formula, formula_names, place}
-use Rattle.source_meaning.specs.Drivers.{needs_driver}
-use Rattle.source_meaning.specs.Places.{in_statements}
-use Rattle.source_meaning.specs.Clock.{clock_text}
-use Rattle.source_meaning.specs.Elaboration.{Definition, Storage, definitions, storage, statement_storage, port_of, port_bits, clock_name, IsMachineOf}
-use Rattle.source_meaning.proofs.Names.{find_text}
+use Rattle.source_checks.specs.Formula.{Formula, formula_names, place}
+use Rattle.source_checks.specs.Drivers.{needs_driver}
+use Rattle.source_checks.specs.Places.{in_statements}
+use Rattle.source_checks.specs.Clock.{clock_text}
+use Rattle.source_checks.specs.Elaboration.{Definition, Storage, definitions, storage, statement_storage, port_of, port_bits, clock_name, IsMachineOf}
+use Rattle.source_checks.proofs.Names.{find_text}
 use Rattle.vlsi_model.specs.Laid.{EachReadsEarlier, inputs_of, vars_of, names_defined, names_stored}
 use Rattle.vlsi_model.proofs.Members.{In-map_back, different_Sub, different_append}
 use Rattle.vlsi_model.proofs.Bits.{IsBit, found_in, different_bits, text_in}

@@ -9,23 +9,23 @@ use Rattle.vlsi_base.specs.declared.name.Name.{Name}
 use Rattle.vlsi_base.specs.declared.name.Port.{Port}
 use Rattle.vlsi_base.specs.declared.name.Dir.{Dir}
 use Rattle.vlsi_base.specs.declared.name.Dir.TheVariants as dir
-use Rattle.machine_meaning.specs.Machine.{Machine, Equation, Register, is_input, is_clock, names_of}
+use Rattle.machine_core.specs.Machine.{Machine, Equation, Register, is_input, is_clock, names_of}
 use Rattle.machine_core.specs.Order.{In, here, there, AllDifferent}
 use Rattle.machine_core.specs.Checked.{AreInOrder}
 use Rattle.machine_core.proofs.Names.{same_name-false}
 use Rattle.machine_core.proofs.Values.{In-map}
-use Rattle.source_meaning.specs.declared.statement.DesignFile.{DesignFile}
-use Rattle.source_meaning.specs.declared.symbol_table.Role.{Role}
-use Rattle.source_meaning.specs.declared.symbol_table.Role.TheVariants as role
-use Rattle.source_meaning.specs.declared.symbol_table.Symbol.{Symbol}
+use Rattle.source_checks.specs.declared.statement.DesignFile.{DesignFile}
+use Rattle.source_checks.specs.declared.symbol_table.Role.{Role}
+use Rattle.source_checks.specs.declared.symbol_table.Role.TheVariants as role
+use Rattle.source_checks.specs.declared.symbol_table.Symbol.{Symbol}
 use Rattle.vlsi_base.specs.Name.{is_supply}
-use Rattle.source_meaning.specs.Symbols.{symbols, scalar}
-use Rattle.source_meaning.specs.Formula.{numbered}
-use Rattle.source_meaning.specs.Drivers.{needs_driver}
-use Rattle.source_meaning.specs.Clock.{clock_text}
-use Rattle.source_meaning.specs.Elaboration.{Definition, Storage, definitions, storage, port_of, port_bits, clock_name}
-use Rattle.source_meaning.proofs.Lookups.{itself}
-use Rattle.source_meaning.proofs.Names.{find_text}
+use Rattle.source_checks.specs.Symbols.{symbols, scalar}
+use Rattle.source_checks.specs.Formula.{numbered}
+use Rattle.source_checks.specs.Drivers.{needs_driver}
+use Rattle.source_checks.specs.Clock.{clock_text}
+use Rattle.source_checks.specs.Elaboration.{Definition, Storage, definitions, storage, port_of, port_bits, clock_name}
+use Rattle.source_checks.proofs.Lookups.{itself}
+use Rattle.source_checks.proofs.Names.{find_text}
 use Rattle.vlsi_model.specs.Laid.{EachReadsEarlier, inputs_of, vars_of, names_defined, names_stored}
 use Rattle.vlsi_model.proofs.Members.{In-map_back}
 use Rattle.vlsi_model.proofs.Bits.{IsBit, texts, found_in, bit_of_symbol}

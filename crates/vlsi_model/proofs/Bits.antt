@@ -7,11 +7,11 @@ use Rattle.vlsi_base.specs.declared.name.Name.{Name}
 use Rattle.vlsi_base.specs.declared.range.Range.{Range}
 use Rattle.machine_core.specs.Order.{In, here, there, AllDifferent}
 use Rattle.machine_core.proofs.Values.{In-split, In-left, In-right, In-map}
-use Rattle.source_meaning.specs.declared.symbol_table.Symbol.{Symbol}
+use Rattle.source_checks.specs.declared.symbol_table.Symbol.{Symbol}
 use Rattle.vlsi_base.specs.Range.{rising, falling, range_bits}
-use Rattle.source_meaning.specs.Symbols.{find, has_bit, names_in, bit_name, symbol_names, all_names}
-use Rattle.source_meaning.specs.Checks.{first_repeated}
-use Rattle.source_meaning.proofs.Lookups.{same_of, itself}
+use Rattle.source_checks.specs.Symbols.{find, has_bit, names_in, bit_name, symbol_names, all_names}
+use Rattle.source_checks.specs.Checks.{first_repeated}
+use Rattle.source_checks.proofs.Lookups.{same_of, itself}
 use Rattle.vlsi_model.proofs.Members.{In-map_back, different_append, different_map}
 
 -- numbers of bits

@@ -9,12 +9,12 @@ use Rattle.vlsi_base.specs.declared.name.Port.{Port}
 use Rattle.machine_core.specs.Order.{In, AllDifferent}
 use Rattle.machine_core.specs.Checked.{AreInOrder}
 use Rattle.machine_core.proofs.Values.{In-split}
-use Rattle.machine_meaning.specs.Machine.{names_of}
-use Rattle.source_meaning.specs.declared.symbol_table.Symbol.{Symbol}
-use Rattle.source_meaning.specs.declared.statement.DesignFile.{DesignFile}
+use Rattle.machine_core.specs.Machine.{names_of}
+use Rattle.source_checks.specs.declared.symbol_table.Symbol.{Symbol}
+use Rattle.source_checks.specs.declared.statement.DesignFile.{DesignFile}
 use Rattle.vlsi_base.specs.Range.{rising}
-use Rattle.source_meaning.specs.Symbols.{symbols, all_names}
-use Rattle.source_meaning.specs.Elaboration.{Storage, definitions, storage, port_bits, clock_name}
+use Rattle.source_checks.specs.Symbols.{symbols, all_names}
+use Rattle.source_checks.specs.Elaboration.{Storage, definitions, storage, port_bits, clock_name}
 use Rattle.source_bits.specs.declared.driven.DrivenBit.{DrivenBit}
 use Rattle.source_bits.specs.declared.driven.StoredBit.{StoredBit}
 use Rattle.source_bits.specs.Driven.{Numbered, NumberedStorage, driven_view, stored_view, numbered_definition, numbered_storage}

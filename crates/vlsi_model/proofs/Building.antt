@@ -9,14 +9,14 @@ use Rattle.vlsi_base.specs.declared.name.Name.{Name}
 use Rattle.vlsi_base.specs.declared.name.Port.{Port}
 use Rattle.bool_expr.specs.Expression.{Expression, constant}
 use Rattle.bool_expr.specs.Renumbering.{renumbered}
-use Rattle.machine_meaning.specs.Machine.{Machine, Equation, Register, is_input, is_clock, names_of}
+use Rattle.machine_core.specs.Machine.{Machine, Equation, Register, is_input, is_clock, names_of}
 use Rattle.machine_core.specs.Order.{In, here, there}
-use Rattle.source_meaning.specs.declared.statement.DesignFile.{DesignFile}
+use Rattle.source_checks.specs.declared.statement.DesignFile.{DesignFile}
 use Rattle.vlsi_base.specs.Range.{rising}
-use Rattle.source_meaning.specs.Symbols.{symbols, all_names}
-use Rattle.source_meaning.specs.Formula.{Formula, place, numbered}
-use Rattle.source_meaning.specs.Clock.{clock_text}
-use Rattle.source_meaning.specs.Elaboration.{Definition, Storage, definitions, storage, clock_name, IsMachineOf}
+use Rattle.source_checks.specs.Symbols.{symbols, all_names}
+use Rattle.source_checks.specs.Formula.{Formula, place, numbered}
+use Rattle.source_checks.specs.Clock.{clock_text}
+use Rattle.source_checks.specs.Elaboration.{Definition, Storage, definitions, storage, clock_name, IsMachineOf}
 use Rattle.source_bits.specs.Driven.{Numbered, NumberedStorage, numbered_definition, numbered_storage}
 use Rattle.vlsi_model.specs.Numbered.{name_at, driven_at, stored_at, HasVars, equation_from, register_from, input_names}
 use Rattle.vlsi_model.specs.Laid.{no_definition, definition_at, no_storage, storage_at, Laid, inputs_of, vars_of, names_defined, names_stored}

@@ -6,9 +6,9 @@ use Rattle.vlsi_base.specs.Range.{rising}
 use Rattle.vlsi_base.proofs.Ranges.{length_of_rising}
 use Rattle.machine_core.specs.Order.{In, here, there, AllDifferent}
 use Rattle.machine_core.proofs.Values.{In-split, In-left, In-right}
-use Rattle.source_meaning.specs.declared.statement.DesignFile.{DesignFile}
-use Rattle.source_meaning.specs.Symbols.{symbols, all_names}
-use Rattle.source_meaning.specs.Elaboration.{Definition, Storage, definitions, storage}
+use Rattle.source_checks.specs.declared.statement.DesignFile.{DesignFile}
+use Rattle.source_checks.specs.Symbols.{symbols, all_names}
+use Rattle.source_checks.specs.Elaboration.{Definition, Storage, definitions, storage}
 use Rattle.vlsi_model.specs.declared.source.Source.{Source}
 use Rattle.vlsi_model.specs.Sources.{IsSourceOf}
 use Rattle.vlsi_model.specs.Laid.{names_defined, names_stored}

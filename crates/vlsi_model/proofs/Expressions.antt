@@ -9,16 +9,16 @@ use Rattle.vlsi_base.specs.declared.range.Range.{Range}
 use Rattle.vlsi_base.specs.Tree.{Tree, bit, literal, name, index, slice, stable, inverse, binary}
 use Rattle.machine_core.specs.Order.{In, here}
 use Rattle.machine_core.proofs.Values.{In-left, In-right, In-map}
-use Rattle.source_meaning.specs.declared.symbol_table.Symbol.{Symbol}
+use Rattle.source_checks.specs.declared.symbol_table.Symbol.{Symbol}
 use Rattle.vlsi_base.specs.Name.{is_supply}
 use Rattle.vlsi_base.specs.Range.{range_bits, is_ordered}
-use Rattle.source_meaning.specs.Symbols.{find, has_bit, names_in, bit_name, symbol_names}
-use Rattle.source_meaning.specs.Formula.{names_of_found, fixed, opposite, leaf, formulas, literal_bits}
-use Rattle.source_meaning.specs.Places.{Use, reads, first_unknown}
-use Rattle.source_meaning.specs.Widths.{width, width_faults, if_not, differ, needs_equal, joined_width, operator_width, found_width, declared_width, index_fits, range_fits}
-use Rattle.source_meaning.specs.Clock.{clock_lines}
-use Rattle.source_meaning.proofs.Lookups.{itself}
-use Rattle.source_meaning.proofs.Names.{find_text}
+use Rattle.source_checks.specs.Symbols.{find, has_bit, names_in, bit_name, symbol_names}
+use Rattle.source_checks.specs.Formula.{names_of_found, fixed, opposite, leaf, formulas, literal_bits}
+use Rattle.source_checks.specs.Places.{Use, reads, first_unknown}
+use Rattle.source_checks.specs.Widths.{width, width_faults, if_not, differ, needs_equal, joined_width, operator_width, found_width, declared_width, index_fits, range_fits}
+use Rattle.source_checks.specs.Clock.{clock_lines}
+use Rattle.source_checks.proofs.Lookups.{itself}
+use Rattle.source_checks.proofs.Names.{find_text}
 use Rattle.vlsi_model.proofs.Members.{In-map_back, In-cases}
 use Rattle.vlsi_model.proofs.Bits.{IsBit, both_le, le_both, range-has, has-range, text_in}
 use Rattle.vlsi_model.proofs.Formulas.{Each, Each-operator, Each-fixed, Each-opposite, Each-leaf, Holds-leaf, length-operator, length-literal}

@@ -7,25 +7,25 @@ use Rattle.vlsi_base.specs.declared.range.Range.{Range}
 use Rattle.vlsi_base.specs.Tree.{Tree, view}
 use Rattle.machine_core.specs.Order.{In, here, there, AllDifferent}
 use Rattle.machine_core.proofs.Values.{In-map}
-use Rattle.source_meaning.specs.declared.statement.Selection.{Selection}
-use Rattle.source_meaning.specs.declared.statement.Selection.TheVariants as selection
-use Rattle.source_meaning.specs.declared.statement.Target.{Target}
-use Rattle.source_meaning.specs.declared.statement.Guarded.{Guarded}
-use Rattle.source_meaning.specs.declared.statement.Choice.{Choice}
-use Rattle.source_meaning.specs.declared.statement.Assignment.{Assignment}
-use Rattle.source_meaning.specs.declared.symbol_table.Role.{Role}
-use Rattle.source_meaning.specs.declared.symbol_table.Role.TheVariants as role
-use Rattle.source_meaning.specs.declared.symbol_table.Symbol.{Symbol}
+use Rattle.source_checks.specs.declared.statement.Selection.{Selection}
+use Rattle.source_checks.specs.declared.statement.Selection.TheVariants as selection
+use Rattle.source_checks.specs.declared.statement.Target.{Target}
+use Rattle.source_checks.specs.declared.statement.Guarded.{Guarded}
+use Rattle.source_checks.specs.declared.statement.Choice.{Choice}
+use Rattle.source_checks.specs.declared.statement.Assignment.{Assignment}
+use Rattle.source_checks.specs.declared.symbol_table.Role.{Role}
+use Rattle.source_checks.specs.declared.symbol_table.Role.TheVariants as role
+use Rattle.source_checks.specs.declared.symbol_table.Symbol.{Symbol}
 use Rattle.vlsi_base.specs.Range.{range_bits}
-use Rattle.source_meaning.specs.Symbols.{find, names_in, bit_name, symbol_names}
-use Rattle.source_meaning.specs.Formula.{Formula, formulas, choice_bits, alternative_bits, chosen, first_bit, names_of_found}
-use Rattle.source_meaning.specs.Places.{reads, in_choice, in_alternatives, assignment_uses}
-use Rattle.source_meaning.specs.Widths.{width, width_faults, condition_faults, if_not, differ, found_width, index_fits, range_fits, all_wide, target_width, target_faults, assignment_faults}
-use Rattle.source_meaning.specs.Drivers.{target_names, needs_driver, counted_names, driver_at}
-use Rattle.source_meaning.specs.Unsupported.{may_drive, assignment_forms}
-use Rattle.source_meaning.specs.Clock.{clock_lines, assignment_clock_lines}
-use Rattle.source_meaning.specs.Elaboration.{defined}
-use Rattle.source_meaning.proofs.Names.{find_text}
+use Rattle.source_checks.specs.Symbols.{find, names_in, bit_name, symbol_names}
+use Rattle.source_checks.specs.Formula.{Formula, formulas, choice_bits, alternative_bits, chosen, first_bit, names_of_found}
+use Rattle.source_checks.specs.Places.{reads, in_choice, in_alternatives, assignment_uses}
+use Rattle.source_checks.specs.Widths.{width, width_faults, condition_faults, if_not, differ, found_width, index_fits, range_fits, all_wide, target_width, target_faults, assignment_faults}
+use Rattle.source_checks.specs.Drivers.{target_names, needs_driver, counted_names, driver_at}
+use Rattle.source_checks.specs.Unsupported.{may_drive, assignment_forms}
+use Rattle.source_checks.specs.Clock.{clock_lines, assignment_clock_lines}
+use Rattle.source_checks.specs.Elaboration.{defined}
+use Rattle.source_checks.proofs.Names.{find_text}
 use Rattle.vlsi_model.proofs.Members.{In-map_back}
 use Rattle.vlsi_model.proofs.Bits.{IsBit, has-range, text_in, different_names_in}
 use Rattle.vlsi_model.proofs.Formulas.{Each, Each-choose, Holds-first, length-pairs}

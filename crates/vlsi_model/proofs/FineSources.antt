@@ -12,27 +12,27 @@ use Rattle.vlsi_base.specs.declared.entity.TypeWord.TheVariants as word
 use Rattle.vlsi_base.specs.declared.entity.PortGroup.{PortGroup}
 use Rattle.vlsi_base.specs.declared.entity.SignalGroup.{SignalGroup}
 use Rattle.vlsi_base.specs.Tree.{view}
-use Rattle.machine_meaning.specs.Named.{is_same_name}
+use Rattle.machine_core.specs.Named.{is_same_name}
 use Rattle.machine_core.specs.Order.{In, here, there, AllDifferent}
 use Rattle.machine_core.proofs.Names.{same_name-true, same_name-itself}
 use Rattle.machine_core.proofs.Values.{In-split, In-left, In-right}
-use Rattle.source_meaning.specs.declared.statement.Assignment.{Assignment}
-use Rattle.source_meaning.specs.declared.statement.Statement.{Statement}
-use Rattle.source_meaning.specs.declared.statement.Statement.TheVariants as statement
-use Rattle.source_meaning.specs.declared.statement.DesignFile.{DesignFile}
-use Rattle.source_meaning.specs.declared.drivers.NameFault.{NameFault}
-use Rattle.source_meaning.specs.declared.symbol_table.Role.{Role}
-use Rattle.source_meaning.specs.declared.symbol_table.Role.TheVariants as role
-use Rattle.source_meaning.specs.declared.symbol_table.Symbol.{Symbol}
+use Rattle.source_checks.specs.declared.statement.Assignment.{Assignment}
+use Rattle.source_checks.specs.declared.statement.Statement.{Statement}
+use Rattle.source_checks.specs.declared.statement.Statement.TheVariants as statement
+use Rattle.source_checks.specs.declared.statement.DesignFile.{DesignFile}
+use Rattle.source_checks.specs.declared.drivers.NameFault.{NameFault}
+use Rattle.source_checks.specs.declared.symbol_table.Role.{Role}
+use Rattle.source_checks.specs.declared.symbol_table.Role.TheVariants as role
+use Rattle.source_checks.specs.declared.symbol_table.Symbol.{Symbol}
 use Rattle.vlsi_base.specs.Name.{is_supply}
-use Rattle.source_meaning.specs.Symbols.{symbols, find, symbols_named, port_symbols, signal_symbols, role_of_mode, role_of_word, symbol_names}
-use Rattle.source_meaning.specs.Places.{Use, in_statements, statement_uses}
-use Rattle.source_meaning.specs.Widths.{if_not, statement_faults, port_faults, signal_faults}
-use Rattle.source_meaning.specs.Drivers.{Driver, driver_at, target_names, statement_drivers, drivers, all_driven, is_among, least, fault_at, needs_driver, first_second_driver, first_undriven}
-use Rattle.source_meaning.specs.Unsupported.{statement_forms, port_form, port_forms, signal_form, signal_forms, supply_faults, is_in_mode, is_inout, is_bit_word, all_unsupported}
-use Rattle.source_meaning.specs.Clock.{statement_clock_lines, clock_text, first_text, statement_clocks, may_clock, clock_of}
-use Rattle.source_meaning.specs.Elaboration.{Definition, Storage, definitions, storage, statement_definitions, statement_storage}
-use Rattle.source_meaning.proofs.Names.{is_among-append}
+use Rattle.source_checks.specs.Symbols.{symbols, find, symbols_named, port_symbols, signal_symbols, role_of_mode, role_of_word, symbol_names}
+use Rattle.source_checks.specs.Places.{Use, in_statements, statement_uses}
+use Rattle.source_checks.specs.Widths.{if_not, statement_faults, port_faults, signal_faults}
+use Rattle.source_checks.specs.Drivers.{Driver, driver_at, target_names, statement_drivers, drivers, all_driven, is_among, least, fault_at, needs_driver, first_second_driver, first_undriven}
+use Rattle.source_checks.specs.Unsupported.{statement_forms, port_form, port_forms, signal_form, signal_forms, supply_faults, is_in_mode, is_inout, is_bit_word, all_unsupported}
+use Rattle.source_checks.specs.Clock.{statement_clock_lines, clock_text, first_text, statement_clocks, may_clock, clock_of}
+use Rattle.source_checks.specs.Elaboration.{Definition, Storage, definitions, storage, statement_definitions, statement_storage}
+use Rattle.source_checks.proofs.Names.{is_among-append}
 use Rattle.vlsi_model.specs.Laid.{names_defined, names_stored}
 use Rattle.vlsi_model.proofs.Stages.{NoFault}
 use Rattle.vlsi_model.proofs.Members.{In-cases, Sub, none, different_Sub, Sub-append, Sub-nothing, Sub-itself, different_append}

@@ -8,22 +8,22 @@ use Rattle.vlsi_base.specs.Tree.{Tree, binary, bit, view}
 use Rattle.bool_expr.specs.declared.expr.Gate.TheVariants as gate
 use Rattle.machine_core.specs.Order.{In, here, there, AllDifferent}
 use Rattle.machine_core.proofs.Values.{In-split, In-left, In-right}
-use Rattle.source_meaning.specs.declared.statement.Assignment.{Assignment}
-use Rattle.source_meaning.specs.declared.statement.Statement.{Statement}
-use Rattle.source_meaning.specs.declared.statement.Statement.TheVariants as statement
-use Rattle.source_meaning.specs.declared.symbol_table.Role.{Role}
-use Rattle.source_meaning.specs.declared.symbol_table.Role.TheVariants as role
-use Rattle.source_meaning.specs.declared.symbol_table.Symbol.{Symbol}
+use Rattle.source_checks.specs.declared.statement.Assignment.{Assignment}
+use Rattle.source_checks.specs.declared.statement.Statement.{Statement}
+use Rattle.source_checks.specs.declared.statement.Statement.TheVariants as statement
+use Rattle.source_checks.specs.declared.symbol_table.Role.{Role}
+use Rattle.source_checks.specs.declared.symbol_table.Role.TheVariants as role
+use Rattle.source_checks.specs.declared.symbol_table.Symbol.{Symbol}
 use Rattle.vlsi_base.specs.Name.{is_supply}
-use Rattle.source_meaning.specs.Symbols.{find}
-use Rattle.source_meaning.specs.Formula.{Formula, joined, formulas, choice_bits}
-use Rattle.source_meaning.specs.Places.{Use, reads, in_assignments, assignment_uses, statement_uses}
-use Rattle.source_meaning.specs.Widths.{width_faults, if_not, assignment_faults, statement_faults, needs_equal, differ, width}
-use Rattle.source_meaning.specs.Drivers.{Driver, target_names, driver_at, driver_of, statement_drivers, all_driven}
-use Rattle.source_meaning.specs.Unsupported.{assignment_forms, statement_forms, literal_faults}
-use Rattle.source_meaning.specs.Clock.{clock_lines, assignment_clock_lines, statement_clock_lines, is_same_clock, clock_of, clock_of_parts, parts_of, steady_names, conditions_among, clocks_among, condition_bits, none_reads, is_single, may_clock, is_name, steady_name, all_of, enable_of, conjuncts, without_one}
-use Rattle.source_meaning.specs.Elaboration.{Definition, Storage, defined, stored, assignment_definitions, statement_definitions, statement_storage}
-use Rattle.source_meaning.proofs.Lookups.{same_of}
+use Rattle.source_checks.specs.Symbols.{find}
+use Rattle.source_checks.specs.Formula.{Formula, joined, formulas, choice_bits}
+use Rattle.source_checks.specs.Places.{Use, reads, in_assignments, assignment_uses, statement_uses}
+use Rattle.source_checks.specs.Widths.{width_faults, if_not, assignment_faults, statement_faults, needs_equal, differ, width}
+use Rattle.source_checks.specs.Drivers.{Driver, target_names, driver_at, driver_of, statement_drivers, all_driven}
+use Rattle.source_checks.specs.Unsupported.{assignment_forms, statement_forms, literal_faults}
+use Rattle.source_checks.specs.Clock.{clock_lines, assignment_clock_lines, statement_clock_lines, is_same_clock, clock_of, clock_of_parts, parts_of, steady_names, conditions_among, clocks_among, condition_bits, none_reads, is_single, may_clock, is_name, steady_name, all_of, enable_of, conjuncts, without_one}
+use Rattle.source_checks.specs.Elaboration.{Definition, Storage, defined, stored, assignment_definitions, statement_definitions, statement_storage}
+use Rattle.source_checks.proofs.Lookups.{same_of}
 use Rattle.vlsi_model.specs.Laid.{names_defined, names_stored}
 use Rattle.vlsi_model.proofs.Members.{In-cases}
 use Rattle.vlsi_model.proofs.Bits.{IsBit}

@@ -10,8 +10,8 @@ use Rattle.bool_expr.specs.declared.expr.Gate.TheVariants as gate
 use Rattle.machine_core.specs.Order.{In, here, there}
 use Rattle.vlsi_base.specs.Name.{is_supply}
 use Rattle.vlsi_base.specs.Radix.{digit_width}
-use Rattle.source_meaning.specs.Formula.{Formula, fixed, named, opposite, joined, chosen, leaf, each_pair, equal_within, equal_bits, unequal_bits, operator_bits, first_bit, low_bits, literal_bits, digit_value, choose_bits}
-use Rattle.source_meaning.specs.Widths.{needs_equal, operator_width}
+use Rattle.source_checks.specs.Formula.{Formula, fixed, named, opposite, joined, chosen, leaf, each_pair, equal_within, equal_bits, unequal_bits, operator_bits, first_bit, low_bits, literal_bits, digit_value, choose_bits}
+use Rattle.source_checks.specs.Widths.{needs_equal, operator_width}
 
 -- P holds of each name that a formula reads
 abbrev pub Holds : (Name → Type 0) → Formula → Type 0

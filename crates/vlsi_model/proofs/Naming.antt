@@ -17,7 +17,7 @@ use Rattle.std.proofs.lemmas.Bool.Decides.{nat_tests}
 use Rattle.vlsi_base.specs.declared.name.Name.{Name}
 use Rattle.machine_core.specs.Order.{In, here, there, AllDifferent}
 use Rattle.vlsi_base.specs.Range.{rising}
-use Rattle.source_meaning.specs.Formula.{place}
+use Rattle.source_checks.specs.Formula.{place}
 use Rattle.vlsi_model.specs.declared.registers.NamedBit.{NamedBit}
 use Rattle.vlsi_model.specs.Numbered.{name_at, named_at, HasVars}
 use Rattle.vlsi_model.proofs.Sorting.{place_of_In, pairs_from_different}

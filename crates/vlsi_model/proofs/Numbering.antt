@@ -4,11 +4,11 @@ use Rattle.std.specs.Prelude.{slice_index}
 use Rattle.std.proofs.lemmas.List.{map-append}
 use Rattle.vlsi_base.specs.declared.name.Name.{Name}
 use Rattle.bool_expr.specs.Expression.{Expression, variable, inverse, pair, choice, variables, IsOver}
-use Rattle.machine_meaning.specs.Named.{is_same_name}
+use Rattle.machine_core.specs.Named.{is_same_name}
 use Rattle.machine_core.specs.Order.{In, here, AllDifferent}
 use Rattle.machine_core.proofs.Names.{same_name-true, same_name-itself, same_name-false}
 use Rattle.machine_core.proofs.Values.{In-split, In-left, In-right}
-use Rattle.source_meaning.specs.Formula.{Formula, fixed, named, opposite, joined, chosen, formula_names, place, numbered}
+use Rattle.source_checks.specs.Formula.{Formula, fixed, named, opposite, joined, chosen, formula_names, place, numbered}
 use Rattle.bool_expr.specs.Renumbering.{renumbered}
 use Rattle.vlsi_model.proofs.Members.{In-cases}
 use Rattle.vlsi_model.proofs.Formulas.{Holds}

@@ -10,9 +10,9 @@ use Rattle.bit_order.specs.Order as order
 use Rattle.machine_core.specs.Order.{In, AllDifferent}
 use Rattle.machine_core.proofs.Values.{In-map}
 use Rattle.vlsi_base.specs.Range.{rising}
-use Rattle.source_meaning.specs.Formula.{formula_names, place, numbered}
-use Rattle.source_meaning.specs.Elaboration.{Definition}
-use Rattle.source_meaning.specs.Cycles.{Reads, ReadsAlong, IsRing}
+use Rattle.source_checks.specs.Formula.{formula_names, place, numbered}
+use Rattle.source_checks.specs.Elaboration.{Definition}
+use Rattle.source_checks.specs.Cycles.{Reads, ReadsAlong, IsRing}
 use Rattle.vlsi_model.specs.Laid.{EachReadsEarlier, no_definition, definition_at, names_defined}
 use Rattle.vlsi_model.specs.Nodes.{HasNodes, nodes_read}
 use Rattle.vlsi_model.proofs.Members.{In-map_back}

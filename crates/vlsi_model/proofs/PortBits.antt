@@ -8,15 +8,15 @@ use Rattle.vlsi_base.specs.declared.name.Name.{Name}
 use Rattle.vlsi_base.specs.declared.name.Port.{Port}
 use Rattle.vlsi_base.specs.declared.name.Dir.{Dir}
 use Rattle.vlsi_base.specs.declared.name.Dir.TheVariants as dir
-use Rattle.machine_meaning.specs.Machine.{names_of}
+use Rattle.machine_core.specs.Machine.{names_of}
 use Rattle.machine_core.specs.Order.{In, here, there, AllDifferent}
 use Rattle.machine_core.proofs.Values.{In-split, In-left, In-right, In-map}
-use Rattle.source_meaning.specs.declared.symbol_table.Role.{Role}
-use Rattle.source_meaning.specs.declared.symbol_table.Role.TheVariants as role
-use Rattle.source_meaning.specs.declared.symbol_table.Symbol.{Symbol}
+use Rattle.source_checks.specs.declared.symbol_table.Role.{Role}
+use Rattle.source_checks.specs.declared.symbol_table.Role.TheVariants as role
+use Rattle.source_checks.specs.declared.symbol_table.Symbol.{Symbol}
 use Rattle.vlsi_base.specs.Name.{is_supply}
-use Rattle.source_meaning.specs.Symbols.{find, symbol_names, all_names}
-use Rattle.source_meaning.specs.Elaboration.{port_of, ports_of_role, port_bits}
+use Rattle.source_checks.specs.Symbols.{find, symbol_names, all_names}
+use Rattle.source_checks.specs.Elaboration.{port_of, ports_of_role, port_bits}
 use Rattle.vlsi_model.specs.PortNames.{port_of_role, port_of_found, port_named}
 use Rattle.vlsi_model.proofs.Bits.{texts, in_found, text_in}
 use Rattle.vlsi_model.proofs.Members.{In-map_back, In-cases, Sub, none, keep, skip, Sub-append, Sub-nothing, Sub-itself}

@@ -15,20 +15,20 @@ use Rattle.bit_order.specs.declared.outcome.Order.TheVariants.{Sorted, Ring}
 use Rattle.bit_order.specs.Order as order
 use Rattle.bit_order.proofs.Rounds.{sorted_leaves_no_ring}
 use Rattle.machine_core.specs.Order.{In}
-use Rattle.source_meaning.specs.declared.statement.DesignFile.{DesignFile}
-use Rattle.source_meaning.specs.declared.symbol_table.Symbol.{Symbol}
-use Rattle.source_meaning.specs.declared.drivers.NameFault.{NameFault}
-use Rattle.source_meaning.specs.Places.{Use, in_statements, statement_uses, first_unknown}
+use Rattle.source_checks.specs.declared.statement.DesignFile.{DesignFile}
+use Rattle.source_checks.specs.declared.symbol_table.Symbol.{Symbol}
+use Rattle.source_checks.specs.declared.drivers.NameFault.{NameFault}
+use Rattle.source_checks.specs.Places.{Use, in_statements, statement_uses, first_unknown}
 use Rattle.vlsi_base.specs.Range.{rising}
-use Rattle.source_meaning.specs.Symbols.{symbols, all_names}
-use Rattle.source_meaning.specs.Formula.{place, numbered}
-use Rattle.source_meaning.specs.Widths.{all_width_faults}
-use Rattle.source_meaning.specs.Drivers.{drivers, all_driven, first_second_driver, first_undriven}
-use Rattle.source_meaning.specs.Unsupported.{all_unsupported}
-use Rattle.source_meaning.specs.Clock.{all_clock_lines, clock_text}
-use Rattle.source_meaning.specs.Cycles.{Reads}
-use Rattle.source_meaning.specs.Checks.{first_fault, if_use, if_line, if_name, if_symbol, first_repeated, IsRefused}
-use Rattle.source_meaning.specs.Elaboration.{Definition, definitions}
+use Rattle.source_checks.specs.Symbols.{symbols, all_names}
+use Rattle.source_checks.specs.Formula.{place, numbered}
+use Rattle.source_checks.specs.Widths.{all_width_faults}
+use Rattle.source_checks.specs.Drivers.{drivers, all_driven, first_second_driver, first_undriven}
+use Rattle.source_checks.specs.Unsupported.{all_unsupported}
+use Rattle.source_checks.specs.Clock.{all_clock_lines, clock_text}
+use Rattle.source_checks.specs.Cycles.{Reads}
+use Rattle.source_checks.specs.Checks.{first_fault, if_use, if_line, if_name, if_symbol, first_repeated, IsRefused}
+use Rattle.source_checks.specs.Elaboration.{Definition, definitions}
 use Rattle.source_bits.specs.declared.driven.DrivenBit.{DrivenBit}
 use Rattle.source_bits.specs.Driven.{Numbered, driven_view, numbered_definition}
 use Rattle.vlsi_model.specs.declared.source.Source.{Source}

@@ -7,10 +7,10 @@ use Rattle.vlsi_base.specs.declared.name.Name.{Name}
 use Rattle.vlsi_base.specs.Name.{name_cmp}
 use Rattle.machine_core.specs.Order.{In, here, there, AllDifferent}
 use Rattle.machine_core.proofs.Values.{In-left, In-right, In-split, In-map}
-use Rattle.source_meaning.specs.declared.statement.DesignFile.{DesignFile}
-use Rattle.source_meaning.specs.Elaboration.{Definition, definitions}
-use Rattle.source_meaning.specs.Formula.{place}
-use Rattle.source_meaning.specs.Cycles.{Reads, ReadsAlong, IsRing}
+use Rattle.source_checks.specs.declared.statement.DesignFile.{DesignFile}
+use Rattle.source_checks.specs.Elaboration.{Definition, definitions}
+use Rattle.source_checks.specs.Formula.{place}
+use Rattle.source_checks.specs.Cycles.{Reads, ReadsAlong, IsRing}
 use Rattle.vlsi_model.specs.Laid.{names_defined}
 use Rattle.vlsi_model.specs.Ordered.{IsNodeRing, name_of_node}
 use Rattle.vlsi_model.proofs.Members.{different_left, different_right, different_append, different_map, In-map_back}

@@ -16,12 +16,12 @@ use Rattle.std.proofs.lemmas.Map.Text.{is_eq-slice_cmp}
 use Rattle.vlsi_base.specs.declared.name.Name.{Name}
 use Rattle.vlsi_base.specs.Name.{name_cmp, bit_cmp}
 use Rattle.vlsi_base.proofs.NameOrder.{name_total}
-use Rattle.machine_meaning.specs.Named.{is_same_name}
+use Rattle.machine_core.specs.Named.{is_same_name}
 use Rattle.machine_core.specs.Order.{In, here, there, AllDifferent}
 use Rattle.machine_core.specs.Checked.{AreInOrder}
 use Rattle.machine_core.proofs.Names.{same_name-true, same_name-itself}
 use Rattle.machine_core.proofs.Values.{In-split, In-left, In-right}
-use Rattle.source_meaning.proofs.Lookups.{same_of}
+use Rattle.source_checks.proofs.Lookups.{same_of}
 use Rattle.vlsi_model.proofs.Members.{In-cases}
 
 -- members by places

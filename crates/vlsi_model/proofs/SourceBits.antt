@@ -6,13 +6,13 @@ use Rattle.bool_expr.specs.Expression.{IsOver}
 use Rattle.bool_expr.specs.View.{view}
 use Rattle.machine_core.specs.Order.{In, here, there, AllDifferent}
 use Rattle.machine_core.proofs.Values.{In-map}
-use Rattle.machine_meaning.specs.Machine.{names_of}
-use Rattle.source_meaning.specs.declared.statement.DesignFile.{DesignFile}
-use Rattle.source_meaning.specs.Symbols.{symbols, all_names}
-use Rattle.source_meaning.specs.Formula.{Formula, place, numbered}
-use Rattle.source_meaning.specs.Clock.{clock_text}
-use Rattle.source_meaning.specs.Checks.{first_fault}
-use Rattle.source_meaning.specs.Elaboration.{Definition, Storage, definitions, storage, port_bits}
+use Rattle.machine_core.specs.Machine.{names_of}
+use Rattle.source_checks.specs.declared.statement.DesignFile.{DesignFile}
+use Rattle.source_checks.specs.Symbols.{symbols, all_names}
+use Rattle.source_checks.specs.Formula.{Formula, place, numbered}
+use Rattle.source_checks.specs.Clock.{clock_text}
+use Rattle.source_checks.specs.Checks.{first_fault}
+use Rattle.source_checks.specs.Elaboration.{Definition, Storage, definitions, storage, port_bits}
 use Rattle.source_bits.specs.declared.driven.DrivenBit.{DrivenBit}
 use Rattle.source_bits.specs.declared.driven.StoredBit.{StoredBit}
 use Rattle.source_bits.specs.Driven.{Numbered, NumberedStorage, driven_view, stored_view, numbered_definition, numbered_storage}

@@ -3,17 +3,17 @@ use Rattle.std.proofs.Common.{◌≡◌, ℕ, List, [], ◌∷◌, Option, Some,
 use Rattle.vlsi_base.specs.declared.fault.FaultKind.{FaultKind}
 use Rattle.vlsi_base.specs.declared.fault.FaultKind.TheVariants as kind
 use Rattle.vlsi_base.specs.declared.fault.ReadError.{ReadError}
-use Rattle.source_meaning.specs.declared.statement.DesignFile.{DesignFile}
-use Rattle.source_meaning.specs.declared.symbol_table.Symbol.{Symbol}
-use Rattle.source_meaning.specs.declared.drivers.NameFault.{NameFault}
-use Rattle.source_meaning.specs.Symbols.{symbols}
-use Rattle.source_meaning.specs.Places.{Use, in_statements, statement_uses, first_unknown}
-use Rattle.source_meaning.specs.Widths.{all_width_faults}
-use Rattle.source_meaning.specs.Drivers.{drivers, all_driven, first_second_driver, first_undriven}
-use Rattle.source_meaning.specs.Unsupported.{all_unsupported}
-use Rattle.source_meaning.specs.Clock.{all_clock_lines}
-use Rattle.source_meaning.specs.Checks.{first_fault, if_use, if_line, if_name, if_symbol, first_repeated}
-use Rattle.source_meaning.proofs.Turns.{or_first}
+use Rattle.source_checks.specs.declared.statement.DesignFile.{DesignFile}
+use Rattle.source_checks.specs.declared.symbol_table.Symbol.{Symbol}
+use Rattle.source_checks.specs.declared.drivers.NameFault.{NameFault}
+use Rattle.source_checks.specs.Symbols.{symbols}
+use Rattle.source_checks.specs.Places.{Use, in_statements, statement_uses, first_unknown}
+use Rattle.source_checks.specs.Widths.{all_width_faults}
+use Rattle.source_checks.specs.Drivers.{drivers, all_driven, first_second_driver, first_undriven}
+use Rattle.source_checks.specs.Unsupported.{all_unsupported}
+use Rattle.source_checks.specs.Clock.{all_clock_lines}
+use Rattle.source_checks.specs.Checks.{first_fault, if_use, if_line, if_name, if_symbol, first_repeated}
+use Rattle.source_checks.proofs.Turns.{or_first}
 use Rattle.vlsi_model.specs.Stages.{name_fault, driver_fault, shape_fault, form_fault}
 
 symbol_or : (o : Option Symbol) (e later : Option ReadError) → if_symbol o (or_first e later) ≡ or_first (if_symbol o e) later

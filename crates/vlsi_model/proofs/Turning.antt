@@ -12,18 +12,18 @@ use Rattle.vlsi_base.specs.declared.name.Name.{Name}
 use Rattle.vlsi_base.specs.Name.{name_cmp}
 use Rattle.machine_core.specs.Order.{In, here, there}
 use Rattle.machine_core.proofs.Values.{In-left, In-right, In-map}
-use Rattle.source_meaning.specs.declared.statement.Assignment.{Assignment}
-use Rattle.source_meaning.specs.declared.statement.Statement.{Statement}
-use Rattle.source_meaning.specs.declared.statement.Statement.TheVariants as statement
-use Rattle.source_meaning.specs.declared.statement.DesignFile.{DesignFile}
-use Rattle.source_meaning.specs.declared.symbol_table.Symbol.{Symbol}
-use Rattle.source_meaning.specs.Symbols.{symbols, all_names}
-use Rattle.source_meaning.specs.Formula.{Formula, place, choice_bits}
-use Rattle.source_meaning.specs.Places.{in_statements}
-use Rattle.source_meaning.specs.Drivers.{driver_at, drivers, statement_drivers, target_names}
-use Rattle.source_meaning.specs.Elaboration.{Definition, definitions, defined, statement_definitions}
-use Rattle.source_meaning.specs.Cycles.{Reads, IsRing}
-use Rattle.source_meaning.specs.Checks.{DrivenOn}
+use Rattle.source_checks.specs.declared.statement.Assignment.{Assignment}
+use Rattle.source_checks.specs.declared.statement.Statement.{Statement}
+use Rattle.source_checks.specs.declared.statement.Statement.TheVariants as statement
+use Rattle.source_checks.specs.declared.statement.DesignFile.{DesignFile}
+use Rattle.source_checks.specs.declared.symbol_table.Symbol.{Symbol}
+use Rattle.source_checks.specs.Symbols.{symbols, all_names}
+use Rattle.source_checks.specs.Formula.{Formula, place, choice_bits}
+use Rattle.source_checks.specs.Places.{in_statements}
+use Rattle.source_checks.specs.Drivers.{driver_at, drivers, statement_drivers, target_names}
+use Rattle.source_checks.specs.Elaboration.{Definition, definitions, defined, statement_definitions}
+use Rattle.source_checks.specs.Cycles.{Reads, IsRing}
+use Rattle.source_checks.specs.Checks.{DrivenOn}
 use Rattle.source_bits.specs.declared.driven.DrivenBit.{DrivenBit}
 use Rattle.vlsi_model.specs.declared.source.Source.{Source}
 use Rattle.vlsi_model.specs.Sources.{IsSourceOf}

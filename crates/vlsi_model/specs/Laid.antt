@@ -4,14 +4,14 @@ use Rattle.std.specs.List.{slice_index_or}
 use Rattle.std.specs.List.Sorted.{IsPermutation}
 use Rattle.vlsi_base.specs.declared.name.Name.{Name}
 use Rattle.vlsi_base.specs.declared.name.Port.{Port}
-use Rattle.machine_meaning.specs.Machine.{is_input, is_clock, names_of}
+use Rattle.machine_core.specs.Machine.{is_input, is_clock, names_of}
 use Rattle.machine_core.specs.Checked.{AreInOrder}
 use Rattle.machine_core.specs.Order.{In}
-use Rattle.source_meaning.specs.declared.statement.DesignFile.{DesignFile}
+use Rattle.source_checks.specs.declared.statement.DesignFile.{DesignFile}
 use Rattle.vlsi_base.specs.Range.{rising}
-use Rattle.source_meaning.specs.Symbols.{symbols}
-use Rattle.source_meaning.specs.Formula.{fixed, formula_names}
-use Rattle.source_meaning.specs.Elaboration.{Definition, Storage, definitions, storage, port_bits, clock_name}
+use Rattle.source_checks.specs.Symbols.{symbols}
+use Rattle.source_checks.specs.Formula.{fixed, formula_names}
+use Rattle.source_checks.specs.Elaboration.{Definition, Storage, definitions, storage, port_bits, clock_name}
 
 abbrev pub names_defined : List Definition → List Name
 names_defined ds = map (λ d. d.name) ds

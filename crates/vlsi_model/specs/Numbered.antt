@@ -5,9 +5,9 @@ use Rattle.vlsi_base.specs.declared.name.Name.{Name}
 use Rattle.vlsi_base.specs.declared.name.Port.{Port}
 use Rattle.bool_expr.specs.Expression.{constant}
 use Rattle.bool_expr.specs.Renumbering.{renumbered}
-use Rattle.machine_meaning.specs.Machine.{Equation, Register, is_input, is_clock}
+use Rattle.machine_core.specs.Machine.{Equation, Register, is_input, is_clock}
 use Rattle.machine_core.specs.Order.{In}
-use Rattle.source_meaning.specs.Formula.{place}
+use Rattle.source_checks.specs.Formula.{place}
 use Rattle.source_bits.specs.Driven.{Numbered, NumberedStorage}
 use Rattle.vlsi_model.specs.declared.registers.NamedBit.{NamedBit}
 

@@ -6,17 +6,17 @@ use Rattle.bit_order.specs.declared.outcome.Order.{Order}
 use Rattle.bit_order.specs.declared.outcome.Order.TheVariants.{Sorted, Ring}
 use Rattle.bit_order.specs.Order.{NoneTwice}
 use Rattle.machine_core.specs.Order.{In}
-use Rattle.source_meaning.specs.declared.statement.Assignment.{Assignment}
-use Rattle.source_meaning.specs.declared.statement.Statement.{Statement}
-use Rattle.source_meaning.specs.declared.statement.Statement.TheVariants as statement
-use Rattle.source_meaning.specs.declared.statement.DesignFile.{DesignFile}
-use Rattle.source_meaning.specs.declared.symbol_table.Symbol.{Symbol}
-use Rattle.source_meaning.specs.Symbols.{all_names}
-use Rattle.source_meaning.specs.Formula.{place}
-use Rattle.source_meaning.specs.Drivers.{target_names}
-use Rattle.source_meaning.specs.Elaboration.{definitions}
-use Rattle.source_meaning.specs.Checks.{HasNoRing}
-use Rattle.source_meaning.specs.Cycles.{Reads}
+use Rattle.source_checks.specs.declared.statement.Assignment.{Assignment}
+use Rattle.source_checks.specs.declared.statement.Statement.{Statement}
+use Rattle.source_checks.specs.declared.statement.Statement.TheVariants as statement
+use Rattle.source_checks.specs.declared.statement.DesignFile.{DesignFile}
+use Rattle.source_checks.specs.declared.symbol_table.Symbol.{Symbol}
+use Rattle.source_checks.specs.Symbols.{all_names}
+use Rattle.source_checks.specs.Formula.{place}
+use Rattle.source_checks.specs.Drivers.{target_names}
+use Rattle.source_checks.specs.Elaboration.{definitions}
+use Rattle.source_checks.specs.Checks.{HasNoRing}
+use Rattle.source_checks.specs.Cycles.{Reads}
 use Rattle.vlsi_model.specs.Laid.{IsNodeOrder, definition_at}
 
 abbrev pub name_of_node : DesignFile → ℕ → Name

@@ -1,8 +1,8 @@
 -- What a source elaborates to, over the numbers of its declared bits.
 use Rattle.std.specs.Prelude.{◌≡◌, ◌<◌, ◌^◌, map, length}
-use Rattle.source_meaning.specs.declared.statement.DesignFile.{DesignFile}
-use Rattle.source_meaning.specs.Symbols.{symbols, all_names}
-use Rattle.source_meaning.specs.Elaboration.{definitions, storage, clock_name}
+use Rattle.source_checks.specs.declared.statement.DesignFile.{DesignFile}
+use Rattle.source_checks.specs.Symbols.{symbols, all_names}
+use Rattle.source_checks.specs.Elaboration.{definitions, storage, clock_name}
 use Rattle.source_bits.specs.Driven.{driven_view, stored_view, numbered_definition, numbered_storage}
 use Rattle.vlsi_model.specs.declared.source.Source.{Source}
 

@@ -3,14 +3,14 @@ use Rattle.std.specs.Prelude.{ℕ, [], Option, None, Some}
 use Rattle.vlsi_base.specs.declared.fault.FaultKind.{FaultKind}
 use Rattle.vlsi_base.specs.declared.fault.FaultKind.TheVariants as kind
 use Rattle.vlsi_base.specs.declared.fault.ReadError.{ReadError}
-use Rattle.source_meaning.specs.declared.statement.DesignFile.{DesignFile}
-use Rattle.source_meaning.specs.Symbols.{symbols}
-use Rattle.source_meaning.specs.Places.{in_statements, statement_uses, first_unknown}
-use Rattle.source_meaning.specs.Widths.{all_width_faults}
-use Rattle.source_meaning.specs.Drivers.{drivers, all_driven, first_second_driver, first_undriven}
-use Rattle.source_meaning.specs.Unsupported.{all_unsupported}
-use Rattle.source_meaning.specs.Clock.{all_clock_lines}
-use Rattle.source_meaning.specs.Checks.{fault, if_use, if_line, if_name, if_symbol, first_repeated}
+use Rattle.source_checks.specs.declared.statement.DesignFile.{DesignFile}
+use Rattle.source_checks.specs.Symbols.{symbols}
+use Rattle.source_checks.specs.Places.{in_statements, statement_uses, first_unknown}
+use Rattle.source_checks.specs.Widths.{all_width_faults}
+use Rattle.source_checks.specs.Drivers.{drivers, all_driven, first_second_driver, first_undriven}
+use Rattle.source_checks.specs.Unsupported.{all_unsupported}
+use Rattle.source_checks.specs.Clock.{all_clock_lines}
+use Rattle.source_checks.specs.Checks.{fault, if_use, if_line, if_name, if_symbol, first_repeated}
 
 -- the fault at a line, if there is one
 abbrev pub line_fault : FaultKind → Option ℕ → Option ReadError

@@ -1,13 +1,13 @@
 // The machine of a source, put together from its parts.
-ghost use Rattle.std.specs.Prelude.{◌≡◌, ◌<◌, ◌^◌, ◌++◌, map, length, None, IfOk, OnOk};
+ghost use Rattle.std.specs.Prelude.{◌≡◌, ◌<◌, ◌^◌, ◌++◌, map, length, None, IfOk};
 ghost use Rattle.std.specs.Option.{option_copied};
 ghost use Rattle.std.specs.List.Sorted.{IsPermutation};
 ghost use Rattle.machine_core.specs.Checked.{AreInOrder};
 ghost use Rattle.machine_core.specs.View.{machine_of};
-ghost use Rattle.machine_meaning.specs.Machine.{names_of};
-ghost use Rattle.source_meaning.specs.Checks.{first_fault};
-ghost use Rattle.source_meaning.specs.Elaboration.{port_bits, IsMachineOf};
-ghost use Rattle.source_meaning.specs.Symbols.{symbols};
+ghost use Rattle.machine_core.specs.Machine.{names_of};
+ghost use Rattle.source_checks.specs.Checks.{first_fault};
+ghost use Rattle.source_checks.specs.Elaboration.{port_bits, IsMachineOf};
+ghost use Rattle.source_checks.specs.Symbols.{symbols};
 ghost use Rattle.vlsi_model.specs.Laid.{IsNodeOrder, Laid, laid_vars};
 ghost use Rattle.vlsi_model.specs.Sources.{IsSourceOf};
 
@@ -15,10 +15,9 @@ use crate::equations::{equations, push_names, var_numbers};
 use crate::ports::{push_inputs, sorted_ports};
 use crate::registers::{name_order, registers};
 use crate::source::Source;
-use machine_core::Machine;
-use machine_meaning::{Equation, Equations, Register, Registers};
+use machine_core::{Equation, Equations, Machine, Register, Registers};
 use source_bits::{DrivenBit, StoredBit};
-use source_meaning::DesignFile;
+use source_checks::DesignFile;
 use std::alloc::{AllocError, Global};
 use vlsi_base::{Name, Names, Port, Ports};
 
@@ -41,16 +40,6 @@ fn stored_numbers(alloc: Global, stored: &[StoredBit]) -> Result<Vec<u32>, Alloc
         numbers.push(s.bit)?;
     }
     Ok(numbers)
-}
-
-/// More than 32 bits can number are answered as out of memory.
-pub fn few(count: usize) -> Result<(), AllocError>
-    ensures { OnOk result (count < 2 ^ 32) }
-{
-    match u32::try_from(count) {
-        Ok(_) => Ok(()),
-        Err(_) => Err(AllocError),
-    }
 }
 
 fn copied(alloc: Global, name: Option<&Name>) -> Result<Option<Name>, AllocError>

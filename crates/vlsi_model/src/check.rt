@@ -1,9 +1,9 @@
 // The machine that a source is, or why it is none.
 ghost use Rattle.std.specs.Prelude.{◌≡◌, ◌<◌, ◌^◌, length, None, Some, IfOk, IfErr};
-ghost use Rattle.source_meaning.specs.Checks.{first_fault, HasNoRing, Passes, IsRefused, ports_error};
-ghost use Rattle.source_meaning.specs.Elaboration.{port_bits, IsMachineOf};
-ghost use Rattle.source_meaning.specs.Operators.{HasShortExpressions};
-ghost use Rattle.source_meaning.specs.Symbols.{symbols, all_names};
+ghost use Rattle.source_checks.specs.Checks.{first_fault, HasNoRing, Passes, IsRefused, ports_error};
+ghost use Rattle.source_checks.specs.Elaboration.{port_bits, IsMachineOf};
+ghost use Rattle.source_checks.specs.Operators.{HasShortExpressions};
+ghost use Rattle.source_checks.specs.Symbols.{symbols, all_names};
 ghost use Rattle.vlsi_model.specs.Laid.{IsNodeOrder};
 ghost use Rattle.vlsi_model.specs.Ordered.{IsOrderOfSource};
 ghost use Rattle.vlsi_model.specs.Sources.{IsSourceOf};
@@ -16,7 +16,7 @@ use crate::refusals::refusal;
 use crate::source::{Source, elaborated};
 use bit_order::Order;
 use machine_core::Machine;
-use source_meaning::{DesignFile, SymbolTable};
+use source_checks::{DesignFile, SymbolTable};
 use std::alloc::{AllocError, Global};
 use vlsi_base::{Limit, LimitKind, Port, ReadError};
 

@@ -5,12 +5,12 @@ ghost use Rattle.bool_expr.specs.Expression.{IsOver};
 ghost use Rattle.bool_expr.specs.View.{view};
 ghost use Rattle.machine_core.specs.Order.{In, AllDifferent};
 ghost use Rattle.machine_core.specs.View.{equation_view};
-ghost use Rattle.source_meaning.specs.Symbols.{all_names};
+ghost use Rattle.source_checks.specs.Symbols.{all_names};
 ghost use Rattle.source_bits.specs.Driven.{driven_view};
 ghost use Rattle.vlsi_model.specs.Numbered.{name_at, driven_at, equation_from, HasVars};
 
 use bool_expr::renumbered;
-use machine_meaning::Equation;
+use machine_core::Equation;
 use source_bits::{DrivenBit, Numbers};
 use std::alloc::{AllocError, Global};
 use vlsi_base::Name;

@@ -1,6 +1,6 @@
 // Faults of a source.
 ghost use Rattle.std.specs.Prelude.{◌≡◌, ◌∷◌, [], IfOk};
-ghost use Rattle.source_meaning.specs.Checks.{fault};
+ghost use Rattle.source_checks.specs.Checks.{fault};
 ghost use Rattle.vlsi_model.specs.Stages.{line_fault};
 
 use std::alloc::{AllocError, Global};

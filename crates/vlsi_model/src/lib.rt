@@ -12,7 +12,6 @@ mod refusals;
 mod registers;
 mod source;
 
-pub use build::few;
 pub use check::check_machine;
 pub use equations::var_numbers;
 pub use faults::{fault, line_fault, name_fault, text_fault};

@@ -4,13 +4,13 @@ ghost use Rattle.std.specs.List.Sorted.{IsPermutation};
 ghost use Rattle.std.specs.Option.{option_copied, option_to_list};
 ghost use Rattle.machine_core.specs.Checked.{AreInOrder};
 ghost use Rattle.machine_core.specs.Order.{AllDifferent};
-ghost use Rattle.machine_meaning.specs.Machine.{names_of, is_clock};
-ghost use Rattle.source_meaning.specs.Elaboration.{port_bits};
+ghost use Rattle.machine_core.specs.Machine.{names_of, is_clock};
+ghost use Rattle.source_checks.specs.Elaboration.{port_bits};
 ghost use Rattle.vlsi_model.specs.Numbered.{input_names};
 ghost use Rattle.vlsi_model.specs.PortNames.{port_of_role, port_named};
 
 use source_bits::Numbers;
-use source_meaning::{Role, SymbolTable};
+use source_checks::{Role, SymbolTable};
 use std::alloc::{AllocError, Global};
 use vlsi_base::{Dir, Name, Port, is_supply};
 

@@ -1,16 +1,16 @@
 // The checks of a source before that for rings, in their order.
 ghost use Rattle.std.specs.Prelude.{◌≡◌, IfOk};
-ghost use Rattle.source_meaning.specs.Checks.{first_fault};
-ghost use Rattle.source_meaning.specs.Operators.{HasShortExpressions};
-ghost use Rattle.source_meaning.specs.Symbols.{symbols};
+ghost use Rattle.source_checks.specs.Checks.{first_fault};
+ghost use Rattle.source_checks.specs.Operators.{HasShortExpressions};
+ghost use Rattle.source_checks.specs.Symbols.{symbols};
 ghost use Rattle.vlsi_model.specs.Stages.{name_fault, driver_fault, shape_fault, form_fault};
 
 use crate::faults::{line_fault, name_fault, text_fault};
-use source_clock::clock_fault;
-use source_meaning::{
+use source_checks::{
     DesignFile, DriverFault, SymbolTable, driver_fault as find_driver_fault, repeated, unknown,
     unsupported, width_fault,
 };
+use source_clock::clock_fault;
 use std::alloc::{AllocError, Global};
 use vlsi_base::{FaultKind, ReadError};
 

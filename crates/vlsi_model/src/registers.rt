@@ -8,12 +8,12 @@ ghost use Rattle.machine_core.specs.Checked.{AreInOrder};
 ghost use Rattle.machine_core.specs.Order.{AllDifferent};
 ghost use Rattle.machine_core.specs.View.{register_view};
 ghost use Rattle.vlsi_base.specs.Range.{rising};
-ghost use Rattle.source_meaning.specs.Symbols.{all_names};
+ghost use Rattle.source_checks.specs.Symbols.{all_names};
 ghost use Rattle.source_bits.specs.Driven.{stored_view};
 ghost use Rattle.vlsi_model.specs.Numbered.{name_at, named_at, stored_at, register_from};
 
 use bool_expr::renumbered;
-use machine_meaning::Register;
+use machine_core::Register;
 use source_bits::{Numbers, StoredBit};
 use std::alloc::{AllocError, Global};
 use vlsi_base::Name;

@@ -2,13 +2,13 @@
 ghost use Rattle.std.specs.Prelude.{◌≡◌, ◌<◌, ◌^◌, [], length, map, option_map, IfOk};
 ghost use Rattle.std.specs.Option.{option_copied};
 ghost use Rattle.machine_core.specs.Order.{AllDifferent};
-ghost use Rattle.source_meaning.specs.Clock.{clock_text, all_clock_lines};
-ghost use Rattle.source_meaning.specs.Symbols.{symbols, scalar, all_names};
+ghost use Rattle.source_checks.specs.Clock.{clock_text, all_clock_lines};
+ghost use Rattle.source_checks.specs.Symbols.{symbols, scalar, all_names};
 ghost use Rattle.vlsi_model.specs.Sources.{IsSourceOf};
 
 use source_bits::{DrivenBit, Numbers, StoredBit, driven_bits, stored_bits};
+use source_checks::{DesignFile, SymbolTable};
 use source_clock::clock;
-use source_meaning::{DesignFile, SymbolTable};
 use std::alloc::{AllocError, Global};
 use vlsi_base::{Name, Text};
 

@@ -4,7 +4,7 @@ use Rattle.std.specs.List.{All, flat_map, list_any, sum_by}
 use Rattle.std.proofs.lemmas.List.{length-append}
 use Rattle.std.proofs.lemmas.List.Sums.{sum_by-cons}
 use Rattle.vlsi_base.specs.Member.{In, here, there}
-use Rattle.source_meaning.proofs.Lookups.{same_of, itself}
+use Rattle.source_checks.proofs.Lookups.{same_of, itself}
 use Rattle.net_core.specs.declared.pins.ModelPin.{ModelPin}
 use Rattle.net_core.specs.declared.pins.ModelPins.{ModelPins}
 use Rattle.net_core.specs.Places.{Stands, IsThere}

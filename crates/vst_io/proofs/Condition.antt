@@ -14,15 +14,15 @@ use Rattle.vlsi_base.specs.Name.{is_supply}
 use Rattle.vlsi_base.specs.Names.{scalar, vdd, vss}
 use Rattle.vlsi_base.specs.NamePlaces.{name_of, last_place}
 use Rattle.machine_core.proofs.Values.{In-left, In-right, In-split, In-map}
-use Rattle.source_meaning.specs.declared.statement.Selection.{Selection}
-use Rattle.source_meaning.specs.declared.statement.Selection.TheVariants as selection
-use Rattle.source_meaning.specs.declared.symbol_table.Role.{Role}
-use Rattle.source_meaning.specs.declared.symbol_table.Role.TheVariants as role
-use Rattle.source_meaning.specs.declared.symbol_table.Symbol.{Symbol}
-use Rattle.source_meaning.specs.Symbols.{find}
-use Rattle.source_meaning.specs.Elaboration.{port_of, ports_of_role}
-use Rattle.source_meaning.proofs.Lookups.{same_of}
-use Rattle.source_meaning.proofs.Names.{find_text}
+use Rattle.source_checks.specs.declared.statement.Selection.{Selection}
+use Rattle.source_checks.specs.declared.statement.Selection.TheVariants as selection
+use Rattle.source_checks.specs.declared.symbol_table.Role.{Role}
+use Rattle.source_checks.specs.declared.symbol_table.Role.TheVariants as role
+use Rattle.source_checks.specs.declared.symbol_table.Symbol.{Symbol}
+use Rattle.source_checks.specs.Symbols.{find}
+use Rattle.source_checks.specs.Elaboration.{port_of, ports_of_role}
+use Rattle.source_checks.proofs.Lookups.{same_of}
+use Rattle.source_checks.proofs.Names.{find_text}
 use Rattle.vlsi_model.proofs.Members.{In-map_back}
 use Rattle.vlsi_model.proofs.Assembly.{In-permutation}
 use Rattle.vlsi_model.proofs.Bits.{found_in}
@@ -34,7 +34,7 @@ use Rattle.net_core.specs.Netlist.{Instance, Netlist, IsNetlist, port, pin_of, p
 use Rattle.net_core.specs.Checks.{pins_named, Fits, Passes, IsPinTable}
 use Rattle.net_core.proofs.Standing.{position_stands, position_absent}
 use Rattle.net_core.proofs.Tables.{pins_found}
-use Rattle.net_view.specs.Condition.{AreTogether, MeetsCondition}
+use Rattle.net_right.specs.Condition.{AreTogether, MeetsCondition}
 use Rattle.vst_text.specs.declared.file.Component.{Component}
 use Rattle.vst_text.specs.declared.file.Association.{Association}
 use Rattle.vst_text.specs.declared.file.InstanceStatement.{InstanceStatement}

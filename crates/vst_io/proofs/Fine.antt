@@ -11,11 +11,11 @@ use Rattle.vlsi_base.specs.Member.{In, here, there, AllDifferent}
 use Rattle.vlsi_base.specs.Range.{is_ordered, range_bits}
 use Rattle.vlsi_base.specs.NamePlaces.{name_of}
 use Rattle.machine_core.proofs.Values.{In-split, In-left, In-right, In-map}
-use Rattle.source_meaning.specs.declared.statement.Selection.{Selection}
-use Rattle.source_meaning.specs.declared.statement.Selection.TheVariants as selection
-use Rattle.source_meaning.specs.declared.symbol_table.Symbol.{Symbol}
-use Rattle.source_meaning.specs.Symbols.{find, bit_name}
-use Rattle.source_meaning.specs.Widths.{if_not}
+use Rattle.source_checks.specs.declared.statement.Selection.{Selection}
+use Rattle.source_checks.specs.declared.statement.Selection.TheVariants as selection
+use Rattle.source_checks.specs.declared.symbol_table.Symbol.{Symbol}
+use Rattle.source_checks.specs.Symbols.{find, bit_name}
+use Rattle.source_checks.specs.Widths.{if_not}
 use Rattle.vlsi_model.proofs.Members.{different_append, different_map}
 use Rattle.vlsi_model.proofs.Bits.{different_names_in}
 use Rattle.net_core.specs.declared.pins.ModelPin.{ModelPin}

@@ -8,9 +8,9 @@ use Rattle.vlsi_base.specs.declared.fault.LimitKind.TheVariants as limit
 use Rattle.vlsi_base.specs.declared.fault.ReadError.{ReadError}
 use Rattle.vlsi_base.specs.declared.fault.ReadError.TheVariants as errors
 use Rattle.vlsi_base.specs.Names.{scalar}
-use Rattle.source_meaning.specs.declared.symbol_table.Symbol.{Symbol}
-use Rattle.source_meaning.specs.Lines.{first_line}
-use Rattle.source_meaning.specs.Checks.{fault, if_line, if_symbol, first_repeated}
+use Rattle.source_checks.specs.declared.symbol_table.Symbol.{Symbol}
+use Rattle.source_checks.specs.Lines.{first_line}
+use Rattle.source_checks.specs.Checks.{fault, if_line, if_symbol, first_repeated}
 use Rattle.net_core.specs.declared.pins.ModelPins.{ModelPins}
 use Rattle.vst_text.specs.declared.file.Component.{Component}
 use Rattle.vst_text.specs.declared.file.InstanceStatement.{InstanceStatement}

@@ -13,7 +13,7 @@ use Rattle.vlsi_base.specs.Names.{scalar}
 use Rattle.vlsi_base.specs.NamePlaces.{NamePlaces, last_place}
 use Rattle.vlsi_base.proofs.IndexLemmas.{HasPlaces, has_next}
 use Rattle.vlsi_model.proofs.Naming.{take_whole}
-use Rattle.source_meaning.specs.declared.symbol_table.Symbol.{Symbol}
+use Rattle.source_checks.specs.declared.symbol_table.Symbol.{Symbol}
 use Rattle.net_core.specs.declared.pins.ModelPins.{ModelPins}
 use Rattle.net_core.specs.Places.{Stands}
 use Rattle.vst_text.specs.declared.file.Component.{Component}

@@ -7,7 +7,7 @@ use Rattle.vlsi_base.specs.declared.name.Port.{Port}
 use Rattle.vlsi_base.specs.declared.name.Terminal.{Terminal}
 use Rattle.vlsi_base.specs.Member.{In, here, there, AllDifferent}
 use Rattle.machine_core.proofs.Values.{In-split, In-left, In-right, In-map}
-use Rattle.source_meaning.proofs.Lookups.{itself}
+use Rattle.source_checks.proofs.Lookups.{itself}
 use Rattle.vlsi_model.proofs.Members.{In-map_back, different_append, different_map}
 use Rattle.vlsi_model.proofs.Assembly.{In-permutation}
 use Rattle.net_core.specs.declared.pins.ModelPin.{ModelPin}

@@ -1,8 +1,8 @@
 -- A turn of the check of a map.
 use Rattle.std.proofs.Common.{◌≡◌, ℕ, Bool, true, false, cond, List, ◌∷◌, ◌++◌, length, Some, refl, ap, ◌∙◌}
-use Rattle.source_meaning.specs.declared.symbol_table.Symbol.{Symbol}
-use Rattle.source_meaning.specs.Lines.{first_line}
-use Rattle.source_meaning.specs.Widths.{if_not}
+use Rattle.source_checks.specs.declared.symbol_table.Symbol.{Symbol}
+use Rattle.source_checks.specs.Lines.{first_line}
+use Rattle.source_checks.specs.Widths.{if_not}
 use Rattle.vlsi_base.specs.declared.name.Name.{Name}
 use Rattle.net_core.specs.declared.pins.ModelPin.{ModelPin}
 use Rattle.vst_text.specs.declared.file.Association.{Association}

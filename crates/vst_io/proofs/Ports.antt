@@ -7,10 +7,10 @@ use Rattle.vlsi_base.specs.declared.name.Dir.TheVariants as dir
 use Rattle.vlsi_base.specs.Member.{In, AllDifferent}
 use Rattle.vlsi_base.specs.NamePlaces.{name_of}
 use Rattle.machine_core.proofs.Values.{In-map}
-use Rattle.source_meaning.specs.declared.symbol_table.Role.{Role}
-use Rattle.source_meaning.specs.declared.symbol_table.Role.TheVariants as role
-use Rattle.source_meaning.specs.declared.symbol_table.Symbol.{Symbol}
-use Rattle.source_meaning.specs.Elaboration.{port_of, ports_of_role}
+use Rattle.source_checks.specs.declared.symbol_table.Role.{Role}
+use Rattle.source_checks.specs.declared.symbol_table.Role.TheVariants as role
+use Rattle.source_checks.specs.declared.symbol_table.Symbol.{Symbol}
+use Rattle.source_checks.specs.Elaboration.{port_of, ports_of_role}
 use Rattle.vlsi_model.proofs.Members.{In-map_back, different_append}
 use Rattle.vlsi_model.proofs.Bits.{texts}
 use Rattle.vst_io.specs.Nets.{bits_of, names, port_bits}

@@ -8,7 +8,7 @@ use Rattle.net_core.specs.declared.pins.ModelPins.{ModelPins}
 use Rattle.net_core.specs.Places.{IsThere}
 use Rattle.net_core.specs.Netlist.{Netlist}
 use Rattle.net_core.specs.Checks.{IsPinTable, Fits, Passes}
-use Rattle.net_view.specs.Condition.{MeetsCondition}
+use Rattle.net_right.specs.Condition.{MeetsCondition}
 use Rattle.vst_text.specs.declared.file.InstanceStatement.{InstanceStatement}
 use Rattle.vst_text.specs.declared.file.StructuralFile.{StructuralFile}
 use Rattle.vst_text.specs.Vst.{IsRefusedStructure}

@@ -17,13 +17,13 @@ use Rattle.vlsi_base.specs.Member.{In, here, there}
 use Rattle.vlsi_base.specs.Name.{is_supply}
 use Rattle.vlsi_base.specs.NamePlaces.{name_of}
 use Rattle.machine_core.proofs.Values.{In-split}
-use Rattle.source_meaning.specs.declared.symbol_table.Role.{Role}
-use Rattle.source_meaning.specs.declared.symbol_table.Role.TheVariants as role
-use Rattle.source_meaning.specs.declared.symbol_table.Symbol.{Symbol}
-use Rattle.source_meaning.specs.Symbols.{role_of_mode, role_of_word, symbols_named, port_symbols, signal_symbols, is_port}
-use Rattle.source_meaning.specs.Elaboration.{port_of, ports_of_role}
-use Rattle.source_meaning.specs.Widths.{if_not}
-use Rattle.source_meaning.specs.Unsupported.{supply_faults, is_in_mode, is_bit_word}
+use Rattle.source_checks.specs.declared.symbol_table.Role.{Role}
+use Rattle.source_checks.specs.declared.symbol_table.Role.TheVariants as role
+use Rattle.source_checks.specs.declared.symbol_table.Symbol.{Symbol}
+use Rattle.source_checks.specs.Symbols.{role_of_mode, role_of_word, symbols_named, port_symbols, signal_symbols, is_port}
+use Rattle.source_checks.specs.Elaboration.{port_of, ports_of_role}
+use Rattle.source_checks.specs.Widths.{if_not}
+use Rattle.source_checks.specs.Unsupported.{supply_faults, is_in_mode, is_bit_word}
 use Rattle.vst_text.specs.declared.file.StructuralFile.{StructuralFile}
 use Rattle.vst_io.specs.Nets.{nets, signal_groups, bits_of, names, port_bits}
 use Rattle.vst_io.specs.Faults.{is_in_bit, port_form, declaration_forms, all_forms}

@@ -8,9 +8,9 @@ use Rattle.std.proofs.lemmas.List.{at_drop_more, at_drop_all, take_more}
 use Rattle.vlsi_base.specs.declared.name.Name.{Name}
 use Rattle.vlsi_base.specs.NamePlaces.{NamePlaces, name_of, last_place}
 use Rattle.vlsi_model.proofs.Naming.{take_whole}
-use Rattle.source_meaning.specs.declared.symbol_table.Symbol.{Symbol}
-use Rattle.source_meaning.specs.Lines.{first_line}
-use Rattle.source_meaning.specs.Widths.{if_not}
+use Rattle.source_checks.specs.declared.symbol_table.Symbol.{Symbol}
+use Rattle.source_checks.specs.Lines.{first_line}
+use Rattle.source_checks.specs.Widths.{if_not}
 use Rattle.net_core.specs.declared.pins.ModelPin.{ModelPin}
 use Rattle.vst_text.specs.declared.file.Association.{Association}
 use Rattle.vst_io.specs.Nets.{names, pin_bits, pin_names}

@@ -4,7 +4,7 @@ use Rattle.vlsi_base.specs.declared.fault.FaultKind.{FaultKind}
 use Rattle.vlsi_base.specs.declared.fault.ReadError.{ReadError}
 use Rattle.vlsi_base.specs.declared.fault.ReadError.TheVariants as errors
 use Rattle.vlsi_base.specs.declared.name.Name.{Name}
-use Rattle.source_meaning.specs.Checks.{fault, first_repeated}
+use Rattle.source_checks.specs.Checks.{fault, first_repeated}
 use Rattle.net_core.specs.declared.pins.ModelPins.{ModelPins}
 use Rattle.net_core.specs.Netlist.{Netlist}
 use Rattle.net_core.specs.Checks.{IsFault}

@@ -8,7 +8,7 @@ use Rattle.vlsi_base.specs.declared.fault.ReadError.{ReadError}
 use Rattle.vlsi_base.specs.declared.fault.ReadError.TheVariants as errors
 use Rattle.vlsi_base.specs.Names.{scalar}
 use Rattle.vlsi_base.specs.NamePlaces.{last_place}
-use Rattle.source_meaning.specs.Checks.{fault}
+use Rattle.source_checks.specs.Checks.{fault}
 use Rattle.net_core.specs.Netlist.{Instance}
 use Rattle.net_core.specs.Joins.{Draft}
 use Rattle.net_core.specs.declared.error.BuildError.{BuildError}

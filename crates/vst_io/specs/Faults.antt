@@ -14,13 +14,13 @@ use Rattle.vlsi_base.specs.declared.fault.ReadError.TheVariants as error
 use Rattle.vlsi_base.specs.Name.{is_supply}
 use Rattle.vlsi_base.specs.Names.{scalar}
 use Rattle.vlsi_base.specs.NamePlaces.{last_place}
-use Rattle.source_meaning.specs.declared.symbol_table.Role.{Role}
-use Rattle.source_meaning.specs.declared.symbol_table.Role.TheVariants as role
-use Rattle.source_meaning.specs.declared.symbol_table.Symbol.{Symbol}
-use Rattle.source_meaning.specs.Symbols.{find, has_bit, is_port}
-use Rattle.source_meaning.specs.Widths.{if_not, declared_faults, port_faults}
-use Rattle.source_meaning.specs.Unsupported.{supply_faults, is_in_mode, is_bit_word, is_inout, is_resolved}
-use Rattle.source_meaning.specs.Checks.{fault, if_line, if_symbol, first_repeated}
+use Rattle.source_checks.specs.declared.symbol_table.Role.{Role}
+use Rattle.source_checks.specs.declared.symbol_table.Role.TheVariants as role
+use Rattle.source_checks.specs.declared.symbol_table.Symbol.{Symbol}
+use Rattle.source_checks.specs.Symbols.{find, has_bit, is_port}
+use Rattle.source_checks.specs.Widths.{if_not, declared_faults, port_faults}
+use Rattle.source_checks.specs.Unsupported.{supply_faults, is_in_mode, is_bit_word, is_inout, is_resolved}
+use Rattle.source_checks.specs.Checks.{fault, if_line, if_symbol, first_repeated}
 use Rattle.net_core.specs.declared.pins.ModelPin.{ModelPin}
 use Rattle.net_core.specs.declared.pins.ModelPins.{ModelPins}
 use Rattle.net_core.specs.Places.{position_of}

@@ -4,7 +4,7 @@ use Rattle.std.specs.FinMap.{get}
 use Rattle.vlsi_base.specs.declared.name.Name.{Name}
 use Rattle.vlsi_base.specs.Names.{scalar}
 use Rattle.vlsi_base.specs.NamePlaces.{NamePlaces, last_place}
-use Rattle.source_meaning.specs.declared.symbol_table.Symbol.{Symbol}
+use Rattle.source_checks.specs.declared.symbol_table.Symbol.{Symbol}
 use Rattle.net_core.specs.declared.pins.ModelPins.{ModelPins}
 use Rattle.vst_text.specs.declared.file.StructuralFile.{StructuralFile}
 use Rattle.vst_io.specs.Nets.{components, nets, pins}

@@ -9,12 +9,12 @@ use Rattle.vlsi_base.specs.declared.entity.SignalGroup.{SignalGroup}
 use Rattle.vlsi_base.specs.Range.{is_ordered, range_bits}
 use Rattle.vlsi_base.specs.Names.{scalar}
 use Rattle.vlsi_base.specs.NamePlaces.{name_of, last_place}
-use Rattle.source_meaning.specs.declared.statement.Selection.{Selection}
-use Rattle.source_meaning.specs.declared.statement.Selection.TheVariants as selection
-use Rattle.source_meaning.specs.declared.statement.Target.{Target}
-use Rattle.source_meaning.specs.declared.symbol_table.Symbol.{Symbol}
-use Rattle.source_meaning.specs.Symbols.{port_symbols, signal_symbols, find, has_bit}
-use Rattle.source_meaning.specs.Elaboration.{ports_of_role}
+use Rattle.source_checks.specs.declared.statement.Selection.{Selection}
+use Rattle.source_checks.specs.declared.statement.Selection.TheVariants as selection
+use Rattle.source_checks.specs.declared.statement.Target.{Target}
+use Rattle.source_checks.specs.declared.symbol_table.Symbol.{Symbol}
+use Rattle.source_checks.specs.Symbols.{port_symbols, signal_symbols, find, has_bit}
+use Rattle.source_checks.specs.Elaboration.{ports_of_role}
 use Rattle.net_core.specs.declared.pins.ModelPins.{ModelPins}
 use Rattle.net_core.specs.Netlist.{Instance, port, pin_of}
 use Rattle.net_core.specs.Checks.{pins_named}

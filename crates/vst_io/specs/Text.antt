@@ -13,7 +13,7 @@ use Rattle.vlsi_base.specs.Name.{is_supply}
 use Rattle.vlsi_base.specs.Names.{vdd, vss}
 use Rattle.vlsi_base.specs.Member.{In}
 use Rattle.vhdl_lexer.specs.Listing.{tokens_in, refusal_in}
-use Rattle.source_meaning.specs.Checks.{most_ports, fault}
+use Rattle.source_checks.specs.Checks.{most_ports, fault}
 use Rattle.net_core.specs.declared.pins.ModelPins.{ModelPins}
 use Rattle.net_core.specs.Places.{IsThere}
 use Rattle.net_core.specs.Netlist.{Netlist, IsNetlist, HasClass}

@@ -1,11 +1,11 @@
 // Bits of declared names.
 ghost use Rattle.std.specs.Prelude.{◌≡◌, ◌++◌, ◌∷◌, [], ◌&&◌, Some, map, IfOk, OnOk, if◌then◌else◌};
 ghost use Rattle.vlsi_base.specs.Range.{is_ordered};
-ghost use Rattle.source_meaning.specs.Symbols.{find};
-ghost use Rattle.source_meaning.specs.Elaboration.{port_of, ports_of_role};
+ghost use Rattle.source_checks.specs.Symbols.{find};
+ghost use Rattle.source_checks.specs.Elaboration.{port_of, ports_of_role};
 ghost use Rattle.vst_io.specs.Nets.{bits_of, holds, selected, pin_bits, net_bits, names, port_bits};
 
-use source_meaning::{Role, Selection, Symbol, SymbolTable, Target, has_bit};
+use source_checks::{Role, Selection, Symbol, SymbolTable, Target, has_bit};
 use std::alloc::{AllocError, Global};
 use vlsi_base::{Dir, Name, Port, Range, Text};
 use vst_text::PinName;

@@ -2,7 +2,7 @@
 ghost use Rattle.std.specs.Prelude.{◌≡◌, ◌∷◌, [], ◌+◌, ◌-◌, ◌^◌, length, min, IfOk, OnOk, IfErr};
 ghost use Rattle.std.specs.List.{sum_by};
 ghost use Rattle.vlsi_base.specs.Names.{scalar};
-ghost use Rattle.source_meaning.specs.Checks.{fault};
+ghost use Rattle.source_checks.specs.Checks.{fault};
 ghost use Rattle.net_core.specs.Checks.{pins_named};
 ghost use Rattle.vst_io.specs.Nets.{nets, port_bits};
 ghost use Rattle.vst_io.specs.Faults.{bad_maps};
@@ -13,7 +13,7 @@ use crate::components::unlisted;
 use crate::forms::{form_fault, width_fault};
 use crate::known::Known;
 use crate::maps::map_faults;
-use source_meaning::repeated;
+use source_checks::repeated;
 use std::alloc::{AllocError, Global};
 use vlsi_base::{FaultKind, InputFault, Limit, LimitKind, Name, Names, Port, ReadError, Text};
 use vst_text::InstanceStatement;

@@ -2,14 +2,14 @@
 ghost use Rattle.std.specs.Prelude.{◌≡◌, ◌&&◌, IfOk};
 ghost use Rattle.std.specs.List.{flat_map, list_all};
 ghost use Rattle.std.specs.Option.{option_copied};
-ghost use Rattle.source_meaning.specs.Lines.{first_line};
+ghost use Rattle.source_checks.specs.Lines.{first_line};
 ghost use Rattle.vst_io.specs.Nets.{components};
 ghost use Rattle.vst_io.specs.Faults.{first_unlisted, lies_in, goes, is_declared_pin, has_pins, component_faults};
 
 use crate::bits::port_bits;
 use crate::known::Known;
 use net_core::ModelPin;
-use source_meaning::{Role, SymbolTable, has_bit};
+use source_checks::{Role, SymbolTable, has_bit};
 use std::alloc::{AllocError, Global};
 use vlsi_base::{Dir, Range};
 use vst_text::{Component, Declaration};

@@ -1,10 +1,10 @@
 // Faults of declarations.
 ghost use Rattle.std.specs.Prelude.{◌≡◌, ◌&&◌};
 ghost use Rattle.std.specs.List.{flat_map};
-ghost use Rattle.source_meaning.specs.Lines.{first_line};
+ghost use Rattle.source_checks.specs.Lines.{first_line};
 ghost use Rattle.vst_io.specs.Faults.{declaration_widths, all_widths, is_in_bit, port_form, declaration_forms, all_forms};
 
-use source_meaning::{declared_fault, is_resolved, ports_fault, supply_fault};
+use source_checks::{declared_fault, is_resolved, ports_fault, supply_fault};
 use vlsi_base::{Mode, PortGroup, TypeWord};
 use vst_text::{Declaration, StructuralFile};
 
@@ -29,7 +29,7 @@ fn declaration_widths(declarations: &[Declaration]) -> Option<u32>
 }
 
 /// The line of the first range of a declaration whose bounds don't stand in the order of its word.
-#[tactic(auto, using(source_meaning::proofs::FirstLines::first_line_append))]
+#[tactic(auto, using(source_checks::proofs::FirstLines::first_line_append))]
 pub fn width_fault(file: &StructuralFile) -> Option<u32>
     ensures { result ≡ first_line (all_widths file.now) }
 {
@@ -47,7 +47,7 @@ fn is_in_bit(group: &PortGroup) -> bool
 }
 
 /// The first line at fault in a declaration of ports, which may be the entity's own.
-#[tactic(auto, using(source_meaning::proofs::FirstLines::first_line_append))]
+#[tactic(auto, using(source_checks::proofs::FirstLines::first_line_append))]
 fn port_form(own: bool, group: &PortGroup) -> Option<u32>
     ensures { result ≡ first_line (port_form own group.now) }
 {
@@ -101,7 +101,7 @@ fn declaration_forms(declarations: &[Declaration]) -> Option<u32>
 }
 
 /// The line of the first form of a declaration that is left out.
-#[tactic(auto, using(source_meaning::proofs::FirstLines::first_line_append))]
+#[tactic(auto, using(source_checks::proofs::FirstLines::first_line_append))]
 pub fn form_fault(file: &StructuralFile) -> Option<u32>
     ensures { result ≡ first_line (all_forms file.now) }
 {

@@ -7,7 +7,7 @@ ghost use Rattle.net_core.specs.Checks.{pins_named};
 ghost use Rattle.vst_io.specs.Nets.{components, nets, pins, pins_of};
 
 use net_core::{ModelPin, ModelPins, Roll, model_names, pins_of};
-use source_meaning::SymbolTable;
+use source_checks::SymbolTable;
 use std::alloc::{AllocError, Global};
 use std::marker::Model;
 use vlsi_base::{Name, NameIndex, Text};

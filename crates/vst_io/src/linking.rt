@@ -7,7 +7,7 @@ ghost use Rattle.vst_io.specs.Nets.{links_of, instance_links};
 
 use crate::bits::{net_bits, pin_bits};
 use crate::known::Known;
-use source_meaning::SymbolTable;
+use source_checks::SymbolTable;
 use std::alloc::{AllocError, Global};
 use vlsi_base::{Name, Port, Terminal, Text};
 use vst_text::{Association, InstanceStatement};

@@ -5,8 +5,8 @@ ghost use Rattle.std.specs.Option.{option_or};
 ghost use Rattle.std.specs.FinMap.{get};
 ghost use Rattle.vlsi_base.specs.declared.name.Name.{Name};
 ghost use Rattle.vlsi_base.specs.NamePlaces.{name_of, last_place};
-ghost use Rattle.source_meaning.specs.Lines.{first_line};
-ghost use Rattle.source_meaning.specs.Symbols.{find};
+ghost use Rattle.source_checks.specs.Lines.{first_line};
+ghost use Rattle.source_checks.specs.Symbols.{find};
 ghost use Rattle.net_core.specs.Checks.{pins_named};
 ghost use Rattle.vst_io.specs.Nets.{nets, names};
 ghost use Rattle.vst_io.specs.Faults.{is_net_port, is_tied, fits, association_faults, end_faults, instance_faults, bad_maps};
@@ -14,7 +14,7 @@ ghost use Rattle.vst_io.specs.Faults.{is_net_port, is_tied, fits, association_fa
 use crate::bits::{net_bits, pin_bits};
 use crate::components::components_fault;
 use crate::known::{Known, pin_names};
-use source_meaning::{Role, SymbolTable};
+use source_checks::{Role, SymbolTable};
 use std::alloc::{AllocError, Global};
 use vlsi_base::{Name, NameIndex, is_supply};
 use vst_text::{Association, InstanceStatement};
@@ -161,7 +161,7 @@ fn instances_fault<'a>(
 }
 
 /// The line of the first place where a component isn't as its model, or a map doesn't fit.
-#[tactic(auto, using(source_meaning::proofs::FirstLines::first_line_append))]
+#[tactic(auto, using(source_checks::proofs::FirstLines::first_line_append))]
 pub fn map_faults(alloc: Global, known: &Known) -> Result<Option<u32>, AllocError>
     ensures { IfOk result (λ found. found ≡ first_line (bad_maps known.now.table known.now.file)) }
 {

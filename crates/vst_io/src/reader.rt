@@ -3,7 +3,7 @@ ghost use Rattle.std.specs.Prelude.{◌≡◌, ◌≤◌, ◌<◌, None, IfOk, O
 ghost use Rattle.vhdl_lexer.specs.Listing.{tokens_in, refusal_in};
 ghost use Rattle.vlsi_base.specs.Name.{is_supply};
 ghost use Rattle.net_core.specs.Checks.{Fits, Passes, IsPinTable};
-ghost use Rattle.net_view.specs.Condition.{MeetsCondition};
+ghost use Rattle.net_right.specs.Condition.{MeetsCondition};
 ghost use Rattle.net_core.specs.Places.{IsThere};
 ghost use Rattle.vst_text.specs.declared.file.InstanceStatement.{InstanceStatement};
 ghost use Rattle.vst_io.specs.Faults.{first_fault};

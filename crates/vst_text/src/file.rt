@@ -1,6 +1,6 @@
 // Structural texts as they are written. All lists are in file order, and lines are counted from 1.
 
-use source_meaning::Target;
+use source_checks::Target;
 use vlsi_base::{Entity, Listed, PortGroups, SignalGroup, Text};
 
 /// A net as it is named: a port or signal of the text, or a bit or bits of one.

@@ -1,6 +1,6 @@
 use Rattle.std.proofs.Common.{sym, ap, ◌∙◌, refl, ◌≡◌, true, false}
 use Rattle.std.proofs.lemmas.Result.{err_from_is_err_and}
-use Rattle.text_lines.specs.Lines.{without_return}
+use Rattle.vlsi_base.specs.Lines.{without_return}
 use Rattle.ap_io.specs.LineFaults.{is_end}
 use Rattle.ap_io.proofs.Walking.{goes_on, refuses, end_none, end_some, end_items, no_end}
 use Rattle.ap_io.proofs.reader.items.Goals as goal

@@ -1,6 +1,6 @@
 use Rattle.std.proofs.Common.{◌≡◌, ap₂}
 use Rattle.std.proofs.lemmas.Result.{err_from_is_err_and}
-use Rattle.machine_meaning.specs.Named.{values_at}
+use Rattle.machine_core.specs.Named.{values_at}
 use Rattle.pat_meaning.specs.Columns.{listed}
 use Rattle.asimut_sim.specs.Program.{bits_of}
 use Rattle.asimut_sim.proofs.SimLemmas.{seen-is, as-long, agrees-from, disagrees-from, stops-from}

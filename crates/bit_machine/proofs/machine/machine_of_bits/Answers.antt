@@ -1,6 +1,6 @@
 use Rattle.std.proofs.Common.{◌≤◌, ℕ, List, length, map, sym, ap, ◌∙◌, subst}
 use Rattle.vlsi_base.specs.declared.name.Name.{Name}
-use Rattle.machine_meaning.specs.Machine.{Machine}
+use Rattle.machine_core.specs.Machine.{Machine}
 use Rattle.vlsi_model.specs.Numbered.{name_at}
 use Rattle.bit_machine.specs.System.{system_of, IsMachineOfBits}
 use Rattle.bit_machine.specs.Laid.{IsLaid, var_bits, ArePartsOf}

@@ -1,7 +1,7 @@
 use Rattle.std.proofs.Common.{sym, subst, Bool}
 use Rattle.vlsi_base.specs.Member.{In}
-use Rattle.cell_model.specs.declared.kind.Kind.{Kind}
-use Rattle.cell_model.specs.declared.kind.Kind.TheVariants as kind
+use Rattle.vlsi_base.specs.declared.kind.Kind.{Kind}
+use Rattle.vlsi_base.specs.declared.kind.Kind.TheVariants as kind
 use Rattle.cell_model.specs.Covering.{HasCellOf, needed}
 use Rattle.boog_map.proofs.Choosing.{needs_inv, needs_nand, needs_zero, needs_one, needs_dff}
 use Rattle.boog_map.proofs.part.chosen_parts.Goals as goal

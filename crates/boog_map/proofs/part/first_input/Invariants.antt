@@ -1,6 +1,6 @@
 use Rattle.std.proofs.Common.{◌≡◌, map, filter, drop}
 use Rattle.std.specs.Prelude.{slice_get}
-use Rattle.machine_meaning.specs.Machine.{is_input, names_of}
+use Rattle.machine_core.specs.Machine.{is_input, names_of}
 use Rattle.boog_map.proofs.part.first_input.Given as goal
 
 abbrev pub invariant-loop-pin : goal.invariant-loop-pin

@@ -1,5 +1,5 @@
 use Rattle.std.proofs.Common.{◌≡◌, map, filter, drop, not}
-use Rattle.machine_meaning.specs.Machine.{is_input, names_of}
+use Rattle.machine_core.specs.Machine.{is_input, names_of}
 use Rattle.boog_map.proofs.part.output_of.Given as goal
 
 abbrev pub invariant-loop-pin : goal.invariant-loop-pin

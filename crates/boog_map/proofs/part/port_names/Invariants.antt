@@ -1,5 +1,5 @@
 use Rattle.std.proofs.Common.{◌≡◌, ◌++◌, drop}
-use Rattle.machine_meaning.specs.Machine.{names_of}
+use Rattle.machine_core.specs.Machine.{names_of}
 use Rattle.boog_map.proofs.part.port_names.Given as goal
 
 abbrev pub invariant-loop-port : goal.invariant-loop-port

@@ -1,6 +1,6 @@
 use Rattle.std.proofs.Common.{◌≡◌, ◌++◌, ◌+◌, ◌≤◌, drop, length, filter, not}
 use Rattle.std.specs.Option.{option_copied}
-use Rattle.machine_meaning.specs.Machine.{is_input}
+use Rattle.machine_core.specs.Machine.{is_input}
 use Rattle.boog_map.specs.Draft.{tied_ports}
 use Rattle.boog_map.proofs.ports.tied_ports.Given as goal
 

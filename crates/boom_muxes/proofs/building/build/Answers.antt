@@ -1,7 +1,7 @@
 use Rattle.std.proofs.Common.{◌≡◌, ◌++◌, ◌-◌, ℕ, List, length, map, refl, arith, sym, ap, subst, ◌∙◌}
 use Rattle.std.specs.Option.{option_copied}
 use Rattle.vlsi_base.specs.declared.name.Name.{Name}
-use Rattle.machine_meaning.specs.Machine.{Machine, names_of}
+use Rattle.machine_core.specs.Machine.{Machine, names_of}
 use Rattle.machine_core.specs.View.{equation_view, register_view, machine_of}
 use Rattle.boom_muxes.specs.Names.{IsFreshText}
 use Rattle.boom_muxes.specs.Building.{equations_said, registers_said, mux_equations, IsBuilt}

@@ -1,6 +1,6 @@
 use Rattle.std.proofs.Common.{◌≡◌, List, ℕ, codes, subst, sym, ◌∙◌, ap, arith}
 use Rattle.std.specs.List.{slice_index_or}
-use Rattle.free_names.specs.Free.{free_texts}
+use Rattle.text_names.specs.Free.{free_texts}
 use Rattle.boom_muxes.proofs.Fresh.{one_text, is_fresh}
 use Rattle.boom_muxes.proofs.names.new_text.Goals as goal
 

@@ -1,5 +1,5 @@
 use Rattle.std.proofs.Common.{◌≡◌, ◌++◌, take}
-use Rattle.machine_meaning.specs.Machine.{names_of}
+use Rattle.machine_core.specs.Machine.{names_of}
 use Rattle.boom_muxes.specs.Names.{texts_of}
 use Rattle.boom_muxes.proofs.names.texts.Given as goal
 

@@ -45,6 +45,7 @@ returns c = λ source read. record {
   machine = read;
   small = c.in-Ok.ensures.small;
   o = c.in-Ok-optimise_within.made.machine;
+  checked = c.name.ensures.checked;
   made = c.in-Ok-optimise_within.ensures.made;
   written = c.in_ok-written.ensures;
 }

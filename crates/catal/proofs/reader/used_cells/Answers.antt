@@ -1,5 +1,5 @@
 use Rattle.std.proofs.Common.{arith}
-use Rattle.text_lines.specs.Lines.{lines_of}
+use Rattle.vlsi_base.specs.Lines.{lines_of}
 use Rattle.catal.proofs.Listing.{nothing_read, one_line_more, number_fits}
 use Rattle.catal.proofs.reader.used_cells.Goals as goal
 

@@ -1,5 +1,5 @@
 use Rattle.std.proofs.Common.{length}
-use Rattle.text_lines.specs.Lines.{lines_of}
+use Rattle.vlsi_base.specs.Lines.{lines_of}
 use Rattle.catal.proofs.Listing.{HasRead}
 use Rattle.catal.proofs.reader.used_cells.Given as goal
 

@@ -1,5 +1,5 @@
 use Rattle.std.proofs.Common.{◌≡◌, ◌+◌, ℕ, List, Option, length, sym, subst, arith}
-use Rattle.cell_checks.proofs.OtherColumns.{FirstReached, one_more_reached, all_reached}
+use Rattle.cell_checks.proofs.ReachedColumns.{FirstReached, one_more_reached, all_reached}
 use Rattle.cell_checks.proofs.nodes.access_columns.Goals as goal
 
 pub loop-pin-preserved : goal.loop-pin-preserved

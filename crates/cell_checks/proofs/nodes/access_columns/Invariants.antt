@@ -1,4 +1,4 @@
-use Rattle.cell_checks.proofs.OtherColumns.{FirstReached}
+use Rattle.cell_checks.proofs.ReachedColumns.{FirstReached}
 use Rattle.cell_checks.proofs.nodes.access_columns.Given as goal
 
 abbrev pub invariant-loop-pin : goal.invariant-loop-pin

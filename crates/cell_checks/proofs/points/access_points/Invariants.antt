@@ -1,6 +1,6 @@
 use Rattle.std.proofs.Common.{◌≡◌, map, take}
 use Rattle.std.specs.Prelude.{option_map}
-use Rattle.machine_meaning.specs.Machine.{names_of}
+use Rattle.machine_core.specs.Machine.{names_of}
 use Rattle.cell_model.specs.Cell.{pin_ports}
 use Rattle.cell_model.specs.Access.{access_point}
 use Rattle.cell_checks.specs.Points.{point_of}

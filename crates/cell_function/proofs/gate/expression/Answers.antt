@@ -2,7 +2,7 @@ use Rattle.std.proofs.Common.{◌≡◌, IfOk, rules, [], length, map, sym, ap, 
 use Rattle.bool_expr.specs.Expression.{Expression}
 use Rattle.bool_expr.specs.View.{view}
 use Rattle.machine_core.specs.View.{equation_view}
-use Rattle.machine_meaning.specs.Machine.{inputs}
+use Rattle.machine_core.specs.Machine.{inputs}
 use Rattle.cell_function.specs.Row.{row, HasRows}
 use Rattle.cell_function.proofs.Values.{in_ok, copied_rows}
 use Rattle.cell_function.proofs.gate.expression.Goals as goal

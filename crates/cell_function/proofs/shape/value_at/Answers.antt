@@ -1,7 +1,7 @@
 use Rattle.std.proofs.Common.{◌≡◌, rules}
 use Rattle.vlsi_base.specs.declared.name.Name.{Name}
 use Rattle.machine_core.proofs.Names.{same_name-itself, same_name-false}
-use Rattle.machine_meaning.specs.Named.{is_same_name}
+use Rattle.machine_core.specs.Named.{is_same_name}
 use Rattle.std.proofs.Common.{true, ap, sym, ◌∙◌}
 use Rattle.cell_function.proofs.Values.{value_found, value_later}
 use Rattle.cell_function.proofs.shape.value_at.Goals as goal

@@ -1,5 +1,5 @@
 use Rattle.std.proofs.Common.{◌≡◌, ◌++◌, map, drop}
-use Rattle.machine_meaning.specs.Named.{is_same_name}
+use Rattle.machine_core.specs.Named.{is_same_name}
 use Rattle.cell_pins.proofs.follows.marks_of.Given as goal
 
 abbrev pub invariant-loop-name : goal.invariant-loop-name

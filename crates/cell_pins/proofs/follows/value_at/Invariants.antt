@@ -1,5 +1,5 @@
 use Rattle.std.proofs.Common.{◌≡◌, drop}
-use Rattle.machine_meaning.specs.Named.{value_at}
+use Rattle.machine_core.specs.Named.{value_at}
 use Rattle.cell_pins.proofs.follows.value_at.Given as goal
 
 abbrev pub invariant-loop-k : goal.invariant-loop-k

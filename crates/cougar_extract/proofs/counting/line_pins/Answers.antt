@@ -3,7 +3,7 @@ use Rattle.cell_model.specs.declared.cell.Pin.{Pin}
 use Rattle.cell_model.specs.Usable.{IsFormed}
 use Rattle.cell_model.proofs.Members.{All-In}
 use Rattle.cell_checks.specs.Checked.{library_of}
-use Rattle.net_view.proofs.Models.{named_cell}
+use Rattle.net_right.proofs.Models.{named_cell}
 use Rattle.cougar_extract.proofs.PinCounts.{pins_known}
 use Rattle.cougar_extract.proofs.counting.line_pins.Goals as goal
 

@@ -2,7 +2,7 @@ use Rattle.std.proofs.Common.{sym}
 use Rattle.cell_model.proofs.Members.{All-In}
 use Rattle.cell_model.specs.Usable.{IsFormed}
 use Rattle.cell_checks.specs.Checked.{library_of}
-use Rattle.net_view.proofs.Models.{named_cell}
+use Rattle.net_right.proofs.Models.{named_cell}
 use Rattle.cougar_extract.proofs.ShownLine.{placed_known, placed_unknown, placed_near}
 use Rattle.cougar_extract.proofs.drawing.place_item.Goals as goal
 

@@ -34,4 +34,4 @@ returns c =
     c.in-Ok-broken.ensures.known c.in-Ok-broken.ensures.few c.in-Ok-broken.found
     ((c.standard_rules_law.ensures c.standard.result c.in-Ok-read_ap.figure.items c.in-Ok.library (map breach_of c.in-Ok-broken.found) c.standard.ensures.width c.standard.ensures.gap).0 c.in-Ok-broken.ensures.breaches)
     c.answer.result
-    (subst (λ (bs : List Breach). IsJudged (IsAnswerOf bs) c.answer.result) c.as_slice.ensures c.answer.ensures)
+    (subst (λ (bs : List Breach). IsJudged (IsAnswerOf c.args.command.now bs) c.answer.result) c.as_slice.ensures c.answer.ensures)

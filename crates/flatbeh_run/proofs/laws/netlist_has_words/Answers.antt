@@ -1,4 +1,4 @@
-use Rattle.flatbeh_run.proofs.Words.{netlist_words}
+use Rattle.flatbeh_run.proofs.NetlistWords.{netlist_words}
 use Rattle.flatbeh_run.proofs.laws.netlist_has_words.Goals as goal
 
 pub returns : goal.returns

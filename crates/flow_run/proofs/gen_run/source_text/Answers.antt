@@ -1,7 +1,7 @@
 use Rattle.std.proofs.Common.{sym, subst, ap, ◌+◌, ◌<◌, ◌^◌, length, arith, ◌≡◌, ◌∙◌}
 use Rattle.std.proofs.lemmas.Result.{IfOk-weaker}
-use Rattle.machine_meaning.specs.Machine.{Machine}
-use Rattle.vbe_write.specs.Writable.{CanBeVbe}
+use Rattle.machine_core.specs.Machine.{Machine}
+use Rattle.vbe_print.specs.Writable.{CanBeVbe}
 use Rattle.gen_circuit.specs.Written.{text}
 use Rattle.flow_run.specs.Generated.{circuit_text}
 use Rattle.flow_run.proofs.gen_run.source_text.Goals as goal

@@ -6,9 +6,8 @@ use Rattle.flow_run.proofs.layout.product.Goals as goal
 
 pub drawing-requires-clause-netlist : goal.drawing-requires-clause-netlist
 drawing-requires-clause-netlist c =
-    drawable c.right_may_be_drawn.ensures c.args.library.now (origin_view c.args.counted.now.source.origin) c.args.counted.now.source.machine c.args.counted.now.fanout
-    c.args.driven.now.netlist c.args.driven.now.delay
-    c.in_ok-pins.pins c.in_ok-pins.ensures.table c.in_ok-pins.ensures.sound c.requires.netlist
+    drawable c.right_may_be_drawn.ensures c.libraries_have_tables.ensures c.args.library.now (origin_view c.args.counted.now.source.origin) c.args.counted.now.source.machine c.args.counted.now.fanout
+    c.args.driven.now.netlist c.args.driven.now.delay c.cells.ensures.checked c.requires.netlist
 
 pub returns : goal.returns
 returns c =
@@ -24,7 +23,7 @@ returns c =
       file = refl;
       right = subst (λ (bytes : List ℕ). IsRightLayout bytes o m l fanout c.in_ok-text.text) (sym c.in_ok-file.ensures)
           (right_layout c.right_is_well_formed.ensures.known c.right_drawings_are_right.ensures c.drawing_can_be_written.ensures c.written_is_read_again.ensures c.alike_law.ensures.runs c.alike_law.ensures.both_ways
-          c.driven_netlist_law.ensures.good l o m fanout n delay c.in_ok-sheet.sheet.figure c.in_ok-sheet.sheet.wire c.args.counted.now.nodes c.in_ok-text.text
-          (drawable c.right_may_be_drawn.ensures l o m fanout n delay c.in_ok-pins.pins c.in_ok-pins.ensures.table c.in_ok-pins.ensures.sound c.requires.netlist) c.requires.netlist c.in_ok-sheet.ensures.figure
+          c.driven_netlist_law.ensures.good l o m fanout n delay c.in_ok-sheet.sheet.figure c.in_ok-sheet.sheet.wire c.args.counted.now.nodes c.in_ok-text.text c.cells.ensures.checked
+          (drawable c.right_may_be_drawn.ensures c.libraries_have_tables.ensures l o m fanout n delay c.cells.ensures.checked c.requires.netlist) c.requires.netlist c.in_ok-sheet.ensures.figure
           c.in_ok-sheet.ensures.wire c.requires.nodes c.in_ok-text.ensures);
     }

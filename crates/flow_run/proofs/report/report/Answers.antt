@@ -1,8 +1,9 @@
 use Rattle.std.proofs.Common.{[], ◌∷◌, ◌++◌, codes, length, sym}
 use Rattle.std.specs.Prelude.{◌-◌}
-use Rattle.machine_meaning.specs.Size.{machine_size}
+use Rattle.machine_core.specs.Size.{machine_size}
 use Rattle.flow_run.specs.View.{origin_view}
-use Rattle.flow_run.specs.Report.{source_line, held_lines, count_line}
+use Rattle.tool_drive.specs.Lines.{count_line}
+use Rattle.flow_run.specs.Report.{source_line, held_lines}
 use Rattle.flow_run.proofs.Lines.{put_all_is}
 use Rattle.flow_run.proofs.report.report.Goals as goal
 

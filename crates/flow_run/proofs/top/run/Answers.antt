@@ -1,7 +1,8 @@
 use Rattle.std.proofs.Common.{IfSome, Some, sym, subst}
-use Rattle.tool_words.specs.declared.command.Command.{Command}
-use Rattle.tool_words.specs.Commands.{as_gen}
-use Rattle.tool_drive.specs.Outside.{outside}
+use Rattle.flow_run.specs.declared.command.Command.{Command}
+use Rattle.flow_run.specs.Commands.{word_of, as_gen}
+use Rattle.tool_drive.specs.Outside.{outside, IsLine}
+use Rattle.tool_drive.specs.Lines.{line_of}
 use Rattle.flow_run.specs.Generated.{IsRun}
 use Rattle.flow_run.proofs.top.run.Goals as goal
 
@@ -14,3 +15,8 @@ returns-in-Gen-clause-run g c =
     IsRun made (outside (g.S.Shelf.seen c.args.shelf.now) (g.T.Sink.seen c.args.out.now)) (outside (g.S.Shelf.seen c.run_gen.new.shelf) (g.T.Sink.seen c.run_gen.new.out))
     c.run_gen.result))
     (sym c.in-Gen.is) c.run_gen.ensures.run
+
+pub returns-in-Tool-clause-line : goal.returns-in-Tool-clause-line
+returns-in-Tool-clause-line g c lined =
+    subst (λ (k : Command). IsLine (g.T.Sink.seen c.args.out.now) (g.T.Sink.seen c.run_tool.new.out) (line_of (word_of k) c.run_tool.result)) (sym c.in-Tool.is)
+    (c.run_tool.ensures.line lined)

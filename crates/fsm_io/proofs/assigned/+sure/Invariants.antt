@@ -1,5 +1,5 @@
 use Rattle.std.proofs.Common.{◌≡◌, ◌≤◌}
-use Rattle.fsm_meaning.specs.Assigned.{sure, sure_parts, sure_branches}
+use Rattle.fsm_machine.specs.Assigned.{sure, sure_parts, sure_branches}
 use Rattle.fsm_code.specs.View.{body_view, parts_view, branches_view}
 use Rattle.fsm_code.specs.declared.statements.Statements.{size-Statements}
 use Rattle.fsm_code.specs.declared.statements.Parts.{size-Parts}

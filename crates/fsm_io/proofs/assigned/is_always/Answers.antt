@@ -1,6 +1,6 @@
 use Rattle.std.proofs.Common.{◌≡◌, true, ℕ, sym, ◌∙◌, arith}
 use Rattle.std.proofs.lemmas.Grind.{common_steps}
-use Rattle.fsm_meaning.specs.Assigned.{sure}
+use Rattle.fsm_machine.specs.Assigned.{sure}
 use Rattle.fsm_code.specs.View.{body_view}
 use Rattle.fsm_io.specs.Pieces.{sets_of}
 use Rattle.fsm_io.proofs.Surely.{always_step}

@@ -1,7 +1,7 @@
 use Rattle.std.proofs.Common.{◌≡◌, ◌-◌}
 use Rattle.std.specs.List.{list_all}
 use Rattle.vlsi_base.specs.Range.{rising}
-use Rattle.fsm_meaning.specs.Assigned.{sure}
+use Rattle.fsm_machine.specs.Assigned.{sure}
 use Rattle.fsm_code.specs.View.{body_view}
 use Rattle.fsm_io.specs.Assigned.{always}
 use Rattle.fsm_io.specs.Pieces.{sets_of}

@@ -1,6 +1,6 @@
 use Rattle.std.proofs.Common.{get_or, None, refl}
 use Rattle.vlsi_base.specs.declared.name.Name.{Name}
-use Rattle.fsm_meaning.specs.Assigned.{sets_output}
+use Rattle.fsm_machine.specs.Assigned.{sets_output}
 use Rattle.fsm_code.specs.View.{body_view}
 use Rattle.fsm_io.specs.Assigned.{always}
 use Rattle.fsm_io.proofs.Leasts.{bit_step}

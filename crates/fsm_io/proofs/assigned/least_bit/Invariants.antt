@@ -1,8 +1,8 @@
 use Rattle.std.proofs.Common.{◌≡◌, ℕ, map, drop}
 use Rattle.std.specs.Prelude.{filter, not, option_map}
-use Rattle.source_meaning.specs.Codes.{least_code, name_at}
-use Rattle.source_meaning.proofs.Least.{together}
-use Rattle.fsm_meaning.specs.Assigned.{sets_output}
+use Rattle.source_checks.specs.Codes.{least_code, name_at}
+use Rattle.source_checks.proofs.Least.{together}
+use Rattle.fsm_machine.specs.Assigned.{sets_output}
 use Rattle.fsm_code.specs.View.{body_view}
 use Rattle.fsm_io.specs.Assigned.{always}
 use Rattle.fsm_io.specs.Pieces.{bit_code}

@@ -1,8 +1,8 @@
 use Rattle.vlsi_base.specs.declared.name.Name.{Name}
 use Rattle.std.proofs.Common.{◌≡◌, Bool, Option, Some, None, ap, sym, ◌∙◌, List, ℕ, map, true, arith}
 use Rattle.std.specs.Prelude.{filter, not, option_map}
-use Rattle.source_meaning.specs.Codes.{name_at, least_code}
-use Rattle.fsm_meaning.specs.Assigned.{sets_output}
+use Rattle.source_checks.specs.Codes.{name_at, least_code}
+use Rattle.fsm_machine.specs.Assigned.{sets_output}
 use Rattle.fsm_code.specs.View.{body_view}
 use Rattle.fsm_io.specs.Assigned.{always}
 use Rattle.std.proofs.lemmas.Grind.{common_steps}

@@ -1,11 +1,12 @@
 use Rattle.std.proofs.Common.{[], ap, sym, ◌∙◌}
 use Rattle.std.specs.Option.{option_map, option_copied}
 use Rattle.std.proofs.lemmas.Result.{IfOk-weaker}
-use Rattle.source_meaning.specs.Checks.{first_repeated}
-use Rattle.fsm_meaning.specs.Fsm.{Fsm}
+use Rattle.source_checks.specs.Checks.{first_repeated}
+use Rattle.fsm_machine.specs.Fsm.{Fsm}
 use Rattle.fsm_text.specs.Written.{machine_view}
 use Rattle.fsm_io.specs.Elaboration.{IsMachineOf}
-use Rattle.fsm_io.specs.Pieces.{named_of, PassesBehind, IsPassed}
+use Rattle.fsm_io.specs.Pieces.{named_of, PassesBehind}
+use Rattle.fsm_io.specs.Verdict.{IsPassed}
 use Rattle.fsm_io.proofs.Whole.{passed}
 use Rattle.fsm_io.proofs.check.check_fsm.Goals as goal
 

@@ -1,5 +1,5 @@
 use Rattle.std.proofs.Common.{◌≡◌, map, take}
-use Rattle.source_meaning.specs.Symbols.{scalar}
+use Rattle.source_checks.specs.Symbols.{scalar}
 use Rattle.fsm_io.proofs.check.state_names.Given as goal
 
 abbrev pub invariant-loop-state : goal.invariant-loop-state

@@ -1,6 +1,6 @@
 use Rattle.std.proofs.Common.{◌≡◌, map, drop}
 use Rattle.std.specs.List.{flat_map}
-use Rattle.source_meaning.specs.Lines.{first_line}
+use Rattle.source_checks.specs.Lines.{first_line}
 use Rattle.fsm_io.specs.Clock.{clock_reads_at}
 use Rattle.fsm_io.specs.Pieces.{mention_of, named_of}
 use Rattle.fsm_io.proofs.clock.fault_in_mentions.Given as goal

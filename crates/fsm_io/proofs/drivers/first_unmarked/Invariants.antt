@@ -1,6 +1,6 @@
 use Rattle.std.proofs.Common.{◌≡◌, drop}
-use Rattle.source_meaning.specs.Symbols.{all_names}
-use Rattle.source_meaning.specs.Formula.{place}
+use Rattle.source_checks.specs.Symbols.{all_names}
+use Rattle.source_checks.specs.Formula.{place}
 use Rattle.fsm_io.specs.Drivers.{unassigned_at, first_of}
 use Rattle.fsm_io.specs.Pieces.{is_marked}
 use Rattle.fsm_io.proofs.drivers.first_unmarked.Given as goal

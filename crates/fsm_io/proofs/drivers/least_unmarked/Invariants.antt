@@ -1,7 +1,7 @@
 use Rattle.std.proofs.Common.{◌≡◌, ℕ, map, drop}
 use Rattle.std.specs.Prelude.{filter, not, option_map}
-use Rattle.source_meaning.specs.Codes.{least_code, name_at}
-use Rattle.source_meaning.proofs.Least.{together}
+use Rattle.source_checks.specs.Codes.{least_code, name_at}
+use Rattle.source_checks.proofs.Least.{together}
 use Rattle.fsm_io.specs.Pieces.{is_marked_bit, bit_code}
 use Rattle.fsm_io.proofs.drivers.least_unmarked.Given as goal
 

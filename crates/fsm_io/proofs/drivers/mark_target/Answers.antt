@@ -1,6 +1,6 @@
 use Rattle.std.proofs.Common.{◌++◌, List, Bool, sym, ap, subst, ◌∙◌}
 use Rattle.fsm_io.specs.Pieces.{AreMarked, mark_each}
-use Rattle.source_meaning.specs.Drivers.{target_names}
+use Rattle.source_checks.specs.Drivers.{target_names}
 use Rattle.fsm_io.proofs.Marks.{marked_more}
 use Rattle.fsm_io.proofs.drivers.mark_target.Goals as goal
 

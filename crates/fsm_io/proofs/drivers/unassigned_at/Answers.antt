@@ -1,9 +1,9 @@
 use Rattle.vlsi_base.specs.declared.name.Name.{Name}
 use Rattle.std.proofs.Common.{◌≡◌, Bool, Option, Some, None, ap, sym, ◌∙◌, List, ℕ, map, true, arith}
 use Rattle.std.specs.Prelude.{filter, not, option_map}
-use Rattle.source_meaning.specs.Codes.{name_at, least_code}
-use Rattle.source_meaning.specs.Symbols.{all_names}
-use Rattle.source_meaning.specs.Formula.{place}
+use Rattle.source_checks.specs.Codes.{name_at, least_code}
+use Rattle.source_checks.specs.Symbols.{all_names}
+use Rattle.source_checks.specs.Formula.{place}
 use Rattle.fsm_io.specs.Pieces.{is_marked}
 use Rattle.std.proofs.lemmas.Grind.{common_steps}
 use Rattle.fsm_io.specs.Drivers.{is_output}

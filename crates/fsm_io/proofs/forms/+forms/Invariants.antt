@@ -1,6 +1,6 @@
 use Rattle.std.proofs.Common.{◌≡◌, map, drop}
 use Rattle.vlsi_base.specs.Tree.{operand_of}
-use Rattle.source_meaning.specs.Lines.{first_line, in_operands}
+use Rattle.source_checks.specs.Lines.{first_line, in_operands}
 use Rattle.fsm_io.specs.Pieces.{readable_forms}
 use Rattle.fsm_io.proofs.forms.+forms.Given as goal
 

@@ -1,5 +1,5 @@
 use Rattle.std.proofs.Common.{sym, ap, ◌∙◌}
-use Rattle.source_meaning.specs.Lines.{first_line}
+use Rattle.source_checks.specs.Lines.{first_line}
 use Rattle.fsm_io.specs.declared.mentions.Mention.{Mention as Held}
 use Rattle.fsm_io.specs.Unsupported.{forms_at}
 use Rattle.fsm_io.specs.Pieces.{mention_of, named_of}

@@ -1,6 +1,6 @@
 use Rattle.std.proofs.Common.{◌≡◌, map, drop}
 use Rattle.std.specs.List.{flat_map}
-use Rattle.source_meaning.specs.Lines.{first_line}
+use Rattle.source_checks.specs.Lines.{first_line}
 use Rattle.fsm_io.specs.Unsupported.{forms_at}
 use Rattle.fsm_io.specs.Pieces.{mention_of, named_of}
 use Rattle.fsm_io.proofs.forms.fault_in_mentions.Given as goal

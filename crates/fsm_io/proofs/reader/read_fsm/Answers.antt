@@ -1,8 +1,8 @@
 use Rattle.std.proofs.lemmas.Result.{IfOk-weaker, err_from_is_err_and}
-use Rattle.fsm_meaning.specs.Fsm.{Fsm}
+use Rattle.fsm_machine.specs.Fsm.{Fsm}
 use Rattle.fsm_text.specs.Written.{machine_view}
 use Rattle.fsm_io.specs.Text.{IsFsm}
-use Rattle.fsm_io.specs.Pieces.{IsPassed}
+use Rattle.fsm_io.specs.Verdict.{IsPassed}
 use Rattle.fsm_io.proofs.Listed.{has_state, lists_states}
 use Rattle.fsm_io.proofs.Few.{few_states}
 use Rattle.fsm_io.proofs.Declared.{few_declared}

@@ -1,6 +1,6 @@
 use Rattle.std.proofs.Common.{List, ℕ, ap, ◌∙◌}
 use Rattle.std.specs.Option.{is_some}
-use Rattle.source_meaning.specs.Known.{position_of}
+use Rattle.source_checks.specs.Known.{position_of}
 use Rattle.fsm_io.proofs.StateNames.{place_listed}
 use Rattle.fsm_io.proofs.states.is_listed.Goals as goal
 

@@ -1,5 +1,5 @@
 use Rattle.std.proofs.Common.{List, ◌++◌, ap, ◌∙◌}
-use Rattle.source_meaning.specs.declared.symbol_table.Symbol.{Symbol}
+use Rattle.source_checks.specs.declared.symbol_table.Symbol.{Symbol}
 use Rattle.fsm_io.specs.Known.{inner_symbols}
 use Rattle.fsm_io.specs.Pieces.{symbol_texts}
 use Rattle.fsm_io.proofs.StateNames.{texts_inner}

@@ -1,5 +1,5 @@
 use Rattle.std.proofs.Common.{Some, None}
-use Rattle.source_meaning.specs.Uses.{use_of as place_use}
+use Rattle.source_checks.specs.Uses.{use_of as place_use}
 use Rattle.fsm_io.proofs.Steps.{name_step}
 use Rattle.fsm_io.proofs.uses.unknown_among.Goals as goal
 

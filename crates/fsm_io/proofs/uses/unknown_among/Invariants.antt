@@ -1,5 +1,5 @@
 use Rattle.std.proofs.Common.{◌≡◌, map, drop}
-use Rattle.source_meaning.specs.Places.{first_unknown}
+use Rattle.source_checks.specs.Places.{first_unknown}
 use Rattle.fsm_io.specs.Looks.{use_of}
 use Rattle.fsm_io.proofs.uses.unknown_among.Given as goal
 

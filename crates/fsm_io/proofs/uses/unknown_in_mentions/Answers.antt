@@ -1,5 +1,5 @@
 use Rattle.std.proofs.Common.{Some, None}
-use Rattle.source_meaning.specs.Uses.{use_of as place_use}
+use Rattle.source_checks.specs.Uses.{use_of as place_use}
 use Rattle.fsm_io.specs.Looks.{uses_at}
 use Rattle.fsm_io.specs.Pieces.{named_of}
 use Rattle.fsm_io.proofs.Steps.{use_step}

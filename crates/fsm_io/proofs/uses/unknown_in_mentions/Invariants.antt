@@ -1,6 +1,6 @@
 use Rattle.std.proofs.Common.{◌≡◌, map, drop}
 use Rattle.std.specs.List.{flat_map}
-use Rattle.source_meaning.specs.Places.{first_unknown}
+use Rattle.source_checks.specs.Places.{first_unknown}
 use Rattle.fsm_io.specs.Looks.{uses_at}
 use Rattle.fsm_io.specs.Pieces.{mention_of, named_of}
 use Rattle.fsm_io.proofs.uses.unknown_in_mentions.Given as goal

@@ -1,9 +1,9 @@
 use Rattle.std.proofs.Common.{rules, ◌≡◌, ◌∙◌, ◌≤◌, ◌+◌, List, length, None, Some, refl, sym, ap, subst}
 use Rattle.vlsi_base.specs.declared.range.Range.{Range}
-use Rattle.source_meaning.specs.declared.statement.Selection.{Selection}
-use Rattle.source_meaning.specs.declared.statement.Selection.TheVariants as selection
-use Rattle.source_meaning.specs.Symbols.{all_names, find}
-use Rattle.source_meaning.specs.Drivers.{target_names}
+use Rattle.source_checks.specs.declared.statement.Selection.{Selection}
+use Rattle.source_checks.specs.declared.statement.Selection.TheVariants as selection
+use Rattle.source_checks.specs.Symbols.{all_names, find}
+use Rattle.source_checks.specs.Drivers.{target_names}
 use Rattle.fsm_text.specs.Chains.{counted_bits, range_found}
 use Rattle.fsm_text.proofs.Clipped.{selecting, bits_selected, bit_selected, same_counted, neither_counted, few_bits, few_bit, few_other}
 use Rattle.fsm_text.proofs.clipping.declared_part.Goals as goal

@@ -1,5 +1,5 @@
 use Rattle.std.proofs.Common.{rules, arith, ap, ◌-◌, ◌≡◌, ◌∙◌, ◌+◌, ◌++◌, ◌∷◌, true, false, take, drop}
-use Rattle.source_meaning.specs.Symbols.{port_symbols}
+use Rattle.source_checks.specs.Symbols.{port_symbols}
 use Rattle.fsm_text.specs.Chains.{is_out}
 use Rattle.fsm_text.proofs.Chains.{port_at, output_left, output_put}
 use Rattle.fsm_text.proofs.counting.outputs.Goals as goal

@@ -1,5 +1,5 @@
 use Rattle.std.proofs.Common.{◌≡◌, ◌++◌, filter, drop}
-use Rattle.source_meaning.specs.Symbols.{port_symbols}
+use Rattle.source_checks.specs.Symbols.{port_symbols}
 use Rattle.fsm_text.specs.Chains.{is_out}
 use Rattle.fsm_text.proofs.counting.outputs.Given as goal
 

@@ -5,9 +5,9 @@ use Rattle.vhdl_token.specs.declared.token.PlacedToken.{PlacedToken}
 use Rattle.grammar_theory.specs.Outcome.{start}
 use Rattle.grammar_theory.specs.declared.limits.TheConstants.{DEPTH}
 use Rattle.vhdl_front.specs.EntityReading.{entity_at}
-use Rattle.source_meaning.specs.declared.symbol_table.Symbol.{Symbol}
-use Rattle.source_meaning.specs.Symbols.{all_names}
-use Rattle.source_meaning.specs.Checks.{first_repeated}
+use Rattle.source_checks.specs.declared.symbol_table.Symbol.{Symbol}
+use Rattle.source_checks.specs.Symbols.{all_names}
+use Rattle.source_checks.specs.Checks.{first_repeated}
 use Rattle.vlsi_base.specs.Member.{AllDifferent}
 use Rattle.fsm_text.specs.Chains.{overfull, passes_before}
 use Rattle.fsm_text.specs.Texts.{counted_in, PassesBefore}

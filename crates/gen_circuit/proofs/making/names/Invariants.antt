@@ -1,5 +1,5 @@
 use Rattle.std.proofs.Common.{◌≡◌, ◌++◌, map, take}
-use Rattle.machine_meaning.specs.Machine.{Equation}
+use Rattle.machine_core.specs.Machine.{Equation}
 use Rattle.machine_core.specs.View.{equation_view}
 use Rattle.gen_circuit.proofs.making.names.Given as goal
 

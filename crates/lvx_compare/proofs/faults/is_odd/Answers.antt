@@ -1,5 +1,5 @@
 use Rattle.std.proofs.Common.{◌≡◌, ◌<◌, ℕ, true, false, List, length, refl, sym, subst}
-use Rattle.net_view.specs.Same.{HasInstance}
+use Rattle.net_right.specs.Same.{HasInstance}
 use Rattle.lvx_compare.specs.Stages.{AllMarked}
 use Rattle.lvx_compare.proofs.Instances.{NodeRead, node_read, pins_few, odd_model, odd_by}
 use Rattle.lvx_compare.proofs.faults.is_odd.Goals as goal

@@ -1,6 +1,6 @@
 use Rattle.std.proofs.Common.{◌≡◌, ◌∙◌, sym, Bool, true, false, not, refl, map, List, subst, ap, ◌+◌}
 use Rattle.std.proofs.lemmas.List.{drop_all}
-use Rattle.machine_meaning.specs.Machine.{is_input}
+use Rattle.machine_core.specs.Machine.{is_input}
 use Rattle.machine_core.specs.View.{equation_view}
 use Rattle.machine_roots.specs.declared.listing.RootExpr.{RootExpr}
 use Rattle.machine_roots.proofs.Outputs.{IsShowing, Found, found, is_out, in_names, none_shown, output_within, output_found, shows_out, shows_in, shows_end}

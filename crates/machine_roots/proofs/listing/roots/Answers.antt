@@ -3,7 +3,7 @@ use Rattle.std.proofs.lemmas.List.{drop_all, length-map}
 use Rattle.vlsi_base.specs.declared.name.Name.{Name}
 use Rattle.vlsi_base.specs.declared.name.Port.{Port}
 use Rattle.vlsi_base.specs.Member.{In, AllDifferent}
-use Rattle.machine_meaning.specs.Machine.{Equation, is_input, names_of}
+use Rattle.machine_core.specs.Machine.{Equation, is_input, names_of}
 use Rattle.machine_core.specs.Order.{held_names}
 use Rattle.machine_core.specs.View.{equation_view, register_view}
 use Rattle.machine_roots.specs.Listing.{AreOutputRoots}

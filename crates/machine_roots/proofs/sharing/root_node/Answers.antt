@@ -4,7 +4,7 @@ use Rattle.std.proofs.lemmas.Result.{err_from_is_err_and}
 use Rattle.bool_expr.specs.Expression.{IsOver}
 use Rattle.bool_expr.specs.View.{view}
 use Rattle.bdd_core.specs.Diagram.{function_of, functions_of}
-use Rattle.machine_meaning.specs.Machine.{Equation}
+use Rattle.machine_core.specs.Machine.{Equation}
 use Rattle.machine_core.specs.View.{equation_view}
 use Rattle.machine_roots.specs.Asked.{HaveAsked}
 use Rattle.machine_roots.specs.Binding.{bound_lists, asked_by}

@@ -3,8 +3,8 @@ use Rattle.std.specs.Prelude.{is_some}
 use Rattle.std.specs.List.{list_any}
 use Rattle.std.specs.FinMap.{get}
 use Rattle.vlsi_base.specs.declared.name.Name.{Name}
-use Rattle.machine_meaning.specs.Named.{is_same_name}
-use Rattle.machine_meaning.specs.Machine.{names_of}
+use Rattle.machine_core.specs.Named.{is_same_name}
+use Rattle.machine_core.specs.Machine.{names_of}
 use Rattle.machine_core.specs.View.{equation_view}
 use Rattle.net_flat.specs.Renamed.{inner_names, IsLongerThan}
 use Rattle.net_flat.proofs.Assembling.{all_made}

@@ -2,7 +2,7 @@ use Rattle.std.proofs.Common.{◌∙◌, List, map, length, ap, sym, subst}
 use Rattle.std.proofs.lemmas.List.{length-map}
 use Rattle.vlsi_base.specs.declared.name.Name.{Name}
 use Rattle.vlsi_base.specs.Member.{AllDifferent}
-use Rattle.machine_meaning.specs.Machine.{Register}
+use Rattle.machine_core.specs.Machine.{Register}
 use Rattle.machine_core.specs.View.{register_view}
 use Rattle.net_flat.specs.declared.renaming.Seat.{Seat}
 use Rattle.net_flat.proofs.Assembling.{Lows, seats_named, places_low}

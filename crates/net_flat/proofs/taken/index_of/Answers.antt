@@ -1,4 +1,4 @@
-use Rattle.vbe_write.proofs.Naming.{looked_up}
+use Rattle.vbe_print.proofs.Naming.{looked_up}
 use Rattle.net_flat.proofs.taken.index_of.Goals as goal
 
 pub returns : goal.returns

@@ -1,5 +1,5 @@
 use Rattle.std.proofs.Common.{◌≡◌, ◌++◌, map, filter, drop}
-use Rattle.machine_meaning.specs.Machine.{is_input, names_of}
+use Rattle.machine_core.specs.Machine.{is_input, names_of}
 use Rattle.net_machine.proofs.body.input_pins.Given as goal
 
 abbrev pub invariant-loop-pin : goal.invariant-loop-pin

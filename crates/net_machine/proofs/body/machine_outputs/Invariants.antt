@@ -1,7 +1,7 @@
 use Rattle.std.proofs.Common.{◌≡◌, ◌++◌, map, filter, drop, not}
 use Rattle.bool_expr.specs.Expression.{variable}
-use Rattle.machine_meaning.specs.Machine.{is_input, names_of}
-use Rattle.source_meaning.specs.Formula.{place}
+use Rattle.machine_core.specs.Machine.{is_input, names_of}
+use Rattle.source_checks.specs.Formula.{place}
 use Rattle.net_machine.specs.Body.{shown_view}
 use Rattle.net_machine.proofs.body.machine_outputs.Given as goal
 

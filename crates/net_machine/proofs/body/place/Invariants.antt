@@ -1,5 +1,5 @@
 use Rattle.std.proofs.Common.{◌≡◌, ◌+◌, drop}
-use Rattle.source_meaning.specs.Formula.{place}
+use Rattle.source_checks.specs.Formula.{place}
 use Rattle.net_machine.proofs.body.place.Given as goal
 
 abbrev pub invariant-loop-k : goal.invariant-loop-k

@@ -1,5 +1,5 @@
 use Rattle.std.proofs.Common.{◌≡◌, ◌+◌, not, List, [], take, length, sym, subst, ap, ◌∙◌, arith}
-use Rattle.machine_meaning.specs.Machine.{names_of, is_input}
+use Rattle.machine_core.specs.Machine.{names_of, is_input}
 use Rattle.cell_model.specs.declared.cell.Pin.{Pin}
 use Rattle.cell_model.specs.Cell.{pin_ports}
 use Rattle.net_core.specs.Places.{Stands, IsThere}

@@ -3,8 +3,8 @@ use Rattle.std.proofs.lemmas.List.{length-map}
 use Rattle.std.proofs.lemmas.Option.{slice_get_read}
 use Rattle.sym_geom.specs.declared.grid.TheConstants.{FIRST_CELL_X}
 use Rattle.net_core.specs.Frame.{instance_of}
-use Rattle.net_view.specs.View.{member_of}
-use Rattle.net_view.proofs.Terminals.{seen_instances}
+use Rattle.net_right.specs.View.{member_of}
+use Rattle.net_right.proofs.Terminals.{seen_instances}
 use Rattle.ocp_place.specs.Reaches.{AreReaches}
 use Rattle.ocp_place.proofs.Laid.{node_reach, node_fits, few_nodes, inside, short, next}
 use Rattle.ocp_place.proofs.Bounds.{whole_row}

@@ -1,6 +1,6 @@
 use Rattle.std.proofs.Common.{◌≤◌, ◌*◌}
-use Rattle.net_meaning.specs.Netlist.{Netlist as Seen}
-use Rattle.net_view.specs.View.{IsSeenAs}
+use Rattle.net_meaning.specs.Netlist.{AbstractNetlist as Seen}
+use Rattle.net_right.specs.View.{IsSeenAs}
 use Rattle.ocp_place.proofs.Laid.{IsRowTo}
 use Rattle.ocp_place.proofs.row.netlist_row.Given as goal
 

@@ -1,7 +1,7 @@
 use Rattle.std.proofs.Common.{◌≡◌, ◌<◌, ◌+◌, ◌++◌, ℕ, Bool, List, length, map, sym, ap, subst, ◌∙◌, arith}
 use Rattle.std.specs.Option.{option_copied}
 use Rattle.std.proofs.lemmas.List.{drop_all}
-use Rattle.machine_meaning.specs.Machine.{input_ports}
+use Rattle.machine_core.specs.Machine.{input_ports}
 use Rattle.proof_joint.proofs.Roles.{now_at, nows_long}
 use Rattle.proof_joint.proofs.Spreading.{IsGiving, with_clock, counted, drop_taken, gives_clock, gives_bit, has_bit, all_given, taken_within, given_long, given_values}
 use Rattle.proof_joint.proofs.differing.given_bits.Goals.{then-is_clock+in_ok-push, else-is_clock+in_ok-push-2}

@@ -1,6 +1,6 @@
 use Rattle.std.proofs.Common.{IfOk, ◌≡◌, map, sym, ap, subst, ◌∙◌}
 use Rattle.std.proofs.lemmas.Result.{IfOk-weaker}
-use Rattle.machine_meaning.specs.Machine.{Register}
+use Rattle.machine_core.specs.Machine.{Register}
 use Rattle.machine_core.specs.View.{register_view}
 use Rattle.proof_joint.specs.declared.naming.Role.{Role}
 use Rattle.proof_joint.specs.Naming.{names_with}

@@ -1,5 +1,5 @@
 use Rattle.std.proofs.Common.{◌≡◌, ◌++◌, map, filter, drop}
-use Rattle.machine_meaning.specs.Machine.{names_of}
+use Rattle.machine_core.specs.Machine.{names_of}
 use Rattle.proof_joint.specs.Apart.{has_direction}
 use Rattle.proof_joint.proofs.naming.port_names.Given as goal
 

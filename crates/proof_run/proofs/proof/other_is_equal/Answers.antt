@@ -1,6 +1,11 @@
 use Rattle.std.proofs.lemmas.Result.{IfOk-weaker, IfErr-weaker}
+use Rattle.proof_run.proofs.Few.{few_compared}
 use Rattle.proof_run.proofs.Refusing.{by_other, by_finding}
 use Rattle.proof_run.proofs.proof.other_is_equal.Goals as goal
+
+pub equal_within-requires-clause-second : goal.equal_within-requires-clause-second
+equal_within-requires-clause-second c =
+    few_compared c.args.other.now c.in-Ok.second c.in-Ok.ensures.machine (c.source_has_few_names.ensures c.args.other.now c.in-Ok.second c.in-Ok.ensures.machine)
 
 pub returns-in-Ok-clause-equal : goal.returns-in-Ok-clause-equal
 returns-in-Ok-clause-equal c =

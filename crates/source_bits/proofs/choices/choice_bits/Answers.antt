@@ -1,8 +1,8 @@
 use Rattle.std.proofs.Common.{List, map, ap, sym, ◌∙◌}
 use Rattle.vlsi_base.specs.Tree.{view as tree}
 use Rattle.bool_expr.specs.View.{view}
-use Rattle.source_meaning.specs.declared.statement.Guarded.{Guarded}
-use Rattle.source_meaning.specs.Formula.{formulas}
+use Rattle.source_checks.specs.declared.statement.Guarded.{Guarded}
+use Rattle.source_checks.specs.Formula.{formulas}
 use Rattle.source_bits.specs.Formulas.{alternatives_of}
 use Rattle.source_bits.proofs.Choosing.{numbered_alternatives}
 use Rattle.source_bits.proofs.choices.choice_bits.Goals as goal

@@ -1,9 +1,9 @@
 use Rattle.std.proofs.Common.{List, ℕ, map, ap, ◌++◌, ◌∙◌}
 use Rattle.bool_expr.specs.Expression.{Expression}
 use Rattle.bool_expr.specs.View.{view}
-use Rattle.source_meaning.specs.Symbols.{all_names}
-use Rattle.source_meaning.specs.Formula.{place, choice_bits}
-use Rattle.source_meaning.specs.Drivers.{target_names}
+use Rattle.source_checks.specs.Symbols.{all_names}
+use Rattle.source_checks.specs.Formula.{place, choice_bits}
+use Rattle.source_checks.specs.Drivers.{target_names}
 use Rattle.source_bits.specs.Driven.{Numbered, driven_view, driven_pairs}
 use Rattle.source_bits.proofs.DrivenBits.{driven_defined}
 use Rattle.source_bits.proofs.driven.drive.Goals as goal

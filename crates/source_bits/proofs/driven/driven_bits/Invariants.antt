@@ -1,7 +1,7 @@
 use Rattle.std.proofs.Common.{◌≡◌, ◌++◌, map, drop}
-use Rattle.source_meaning.specs.Symbols.{all_names}
-use Rattle.source_meaning.specs.Places.{in_statements}
-use Rattle.source_meaning.specs.Elaboration.{statement_definitions}
+use Rattle.source_checks.specs.Symbols.{all_names}
+use Rattle.source_checks.specs.Places.{in_statements}
+use Rattle.source_checks.specs.Elaboration.{statement_definitions}
 use Rattle.source_bits.specs.Driven.{driven_view, numbered_definition}
 use Rattle.source_bits.proofs.driven.driven_bits.Given as goal
 

@@ -1,6 +1,6 @@
 use Rattle.std.proofs.Common.{◌≡◌, ℕ, map, ap, ◌∙◌, arith}
 use Rattle.std.proofs.lemmas.Grind.{common_steps}
-use Rattle.source_meaning.specs.Symbols.{all_names}
+use Rattle.source_checks.specs.Symbols.{all_names}
 use Rattle.source_bits.specs.Numbering.{named_bit, number_in}
 use Rattle.source_bits.proofs.DrivenBits.{places_of}
 use Rattle.source_bits.proofs.driven.places.Goals as goal

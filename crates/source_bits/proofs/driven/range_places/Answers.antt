@@ -1,7 +1,7 @@
 use Rattle.std.proofs.Common.{List, ℕ, Option, map, ap, ◌∙◌}
 use Rattle.vlsi_base.specs.declared.name.Name.{Name}
-use Rattle.source_meaning.specs.Symbols.{all_names}
-use Rattle.source_meaning.specs.Formula.{place}
+use Rattle.source_checks.specs.Symbols.{all_names}
+use Rattle.source_checks.specs.Formula.{place}
 use Rattle.source_bits.specs.Numbering.{named_bit}
 use Rattle.source_bits.proofs.driven.range_places.Goals as goal
 

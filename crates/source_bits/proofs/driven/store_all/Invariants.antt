@@ -1,6 +1,6 @@
 use Rattle.std.proofs.Common.{◌≡◌, ◌++◌, map, drop}
 use Rattle.bool_expr.specs.View.{view}
-use Rattle.source_meaning.specs.Places.{in_assignments}
+use Rattle.source_checks.specs.Places.{in_assignments}
 use Rattle.source_bits.specs.Driven.{stored_view, stored_in}
 use Rattle.source_bits.proofs.driven.store_all.Given as goal
 

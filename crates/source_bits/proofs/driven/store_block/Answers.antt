@@ -2,9 +2,9 @@ use Rattle.std.proofs.Common.{List, map, ap, ◌++◌, ◌∙◌}
 use Rattle.vlsi_base.specs.Tree.{view as tree}
 use Rattle.bool_expr.specs.Expression.{Expression}
 use Rattle.bool_expr.specs.View.{view}
-use Rattle.source_meaning.specs.declared.statement.Assignment.{Assignment}
-use Rattle.source_meaning.specs.Clock.{enable_of}
-use Rattle.source_meaning.specs.Places.{in_assignments}
+use Rattle.source_checks.specs.declared.statement.Assignment.{Assignment}
+use Rattle.source_checks.specs.Clock.{enable_of}
+use Rattle.source_checks.specs.Places.{in_assignments}
 use Rattle.source_bits.specs.Driven.{NumberedStorage, stored_view, stored_in}
 use Rattle.source_bits.proofs.DrivenBits.{stored_in_all}
 use Rattle.source_bits.proofs.driven.store_block.Goals as goal

@@ -1,5 +1,5 @@
 use Rattle.std.proofs.Common.{Some}
-use Rattle.source_meaning.specs.Clock.{statement_clock_lines}
+use Rattle.source_checks.specs.Clock.{statement_clock_lines}
 use Rattle.source_bits.proofs.Clocked.{nothing_in}
 use Rattle.source_bits.proofs.driven.stored_under.Goals as goal
 

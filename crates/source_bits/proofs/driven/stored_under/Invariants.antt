@@ -1,7 +1,7 @@
 use Rattle.std.proofs.Common.{◌≡◌, ◌++◌, map, drop, Some}
-use Rattle.source_meaning.specs.Symbols.{all_names}
-use Rattle.source_meaning.specs.Places.{in_statements}
-use Rattle.source_meaning.specs.Elaboration.{statement_storage}
+use Rattle.source_checks.specs.Symbols.{all_names}
+use Rattle.source_checks.specs.Places.{in_statements}
+use Rattle.source_checks.specs.Elaboration.{statement_storage}
 use Rattle.source_bits.specs.Driven.{stored_view, numbered_storage}
 use Rattle.source_bits.proofs.driven.stored_under.Given as goal
 

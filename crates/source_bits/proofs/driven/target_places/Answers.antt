@@ -1,8 +1,8 @@
 use Rattle.std.proofs.Common.{rules, ◌≡◌, List, ℕ, map, ap, ◌∙◌}
 use Rattle.vlsi_base.specs.declared.name.Name.{Name}
-use Rattle.source_meaning.specs.Symbols.{all_names, find}
-use Rattle.source_meaning.specs.Formula.{place, names_of_found}
-use Rattle.source_meaning.specs.Drivers.{target_names}
+use Rattle.source_checks.specs.Symbols.{all_names, find}
+use Rattle.source_checks.specs.Formula.{place, names_of_found}
+use Rattle.source_checks.specs.Drivers.{target_names}
 use Rattle.source_bits.proofs.Leaves.{whole_name}
 use Rattle.source_bits.proofs.driven.target_places.Goals as goal
 

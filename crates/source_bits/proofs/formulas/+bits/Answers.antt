@@ -3,8 +3,8 @@ use Rattle.vlsi_base.specs.declared.expression.ParsedExpr.TheViews.{the_lemmas}
 use Rattle.vlsi_base.specs.Tree.{Tree, literal, inverse, binary, view as tree, operand_of, folded}
 use Rattle.vlsi_base.proofs.Groups.{grouped_is}
 use Rattle.bool_expr.specs.View.{view}
-use Rattle.source_meaning.specs.Symbols.{all_names}
-use Rattle.source_meaning.specs.Formula.{fixed, numbered, literal_bits}
+use Rattle.source_checks.specs.Symbols.{all_names}
+use Rattle.source_checks.specs.Formula.{fixed, numbered, literal_bits}
 use Rattle.source_bits.specs.Formulas.{bits_of}
 use Rattle.source_bits.proofs.Leaves.{numbered_fixed, in_inverse, in_binary, bits_in_chain}
 use Rattle.source_bits.proofs.formulas.+bits.Goals as goal

@@ -2,7 +2,7 @@ use Rattle.std.proofs.Common.{◌≡◌, ◌++◌, map, drop}
 use Rattle.bool_expr.specs.View.{view}
 use Rattle.bool_expr.specs.Expression.{constant}
 use Rattle.vlsi_base.specs.Radix.{digit_width}
-use Rattle.source_meaning.specs.Formula.{literal_bits}
+use Rattle.source_checks.specs.Formula.{literal_bits}
 use Rattle.source_bits.proofs.formulas.literal_bits.Given as goal
 
 abbrev pub invariant-loop-digit : goal.invariant-loop-digit

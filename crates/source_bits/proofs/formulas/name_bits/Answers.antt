@@ -1,7 +1,7 @@
 use Rattle.std.proofs.Common.{map, ◌∙◌, ap, List}
 use Rattle.vlsi_base.specs.declared.name.Name.{Name}
-use Rattle.source_meaning.specs.Symbols.{all_names}
-use Rattle.source_meaning.specs.Formula.{numbered, leaf}
+use Rattle.source_checks.specs.Symbols.{all_names}
+use Rattle.source_checks.specs.Formula.{numbered, leaf}
 use Rattle.source_bits.proofs.Leaves.{whole_name}
 use Rattle.source_bits.proofs.formulas.name_bits.Goals as goal
 

@@ -1,7 +1,7 @@
 use Rattle.std.proofs.Common.{map, ◌∙◌, ap, List, ℕ, Option}
 use Rattle.bool_expr.specs.Expression.{Expression}
 use Rattle.bool_expr.specs.View.{view}
-use Rattle.source_meaning.specs.Symbols.{all_names}
+use Rattle.source_checks.specs.Symbols.{all_names}
 use Rattle.source_bits.specs.Numbering.{named_bit}
 use Rattle.source_bits.specs.Formulas.{leaf_in}
 use Rattle.source_bits.proofs.Leaves.{in_range}

@@ -1,6 +1,6 @@
 use Rattle.std.proofs.Common.{◌≡◌, drop}
-use Rattle.source_meaning.specs.Places.{in_statements}
-use Rattle.source_meaning.specs.Clock.{statement_clocks, first_text}
+use Rattle.source_checks.specs.Places.{in_statements}
+use Rattle.source_checks.specs.Clock.{statement_clocks, first_text}
 use Rattle.source_clock.proofs.clocks.clock.Given as goal
 
 abbrev pub invariant-loop-statement : goal.invariant-loop-statement

@@ -1,5 +1,5 @@
 use Rattle.std.proofs.Common.{◌≡◌, ◌+◌, ◌≤◌, drop, length}
-use Rattle.source_meaning.specs.Clock.{clocks_among}
+use Rattle.source_checks.specs.Clock.{clocks_among}
 use Rattle.source_clock.proofs.Texts.{trees}
 use Rattle.source_clock.proofs.clocks.clock_count.Given as goal
 

@@ -1,5 +1,5 @@
 use Rattle.std.proofs.Common.{◌≡◌, Some, drop}
-use Rattle.source_meaning.specs.Clock.{none_reads}
+use Rattle.source_checks.specs.Clock.{none_reads}
 use Rattle.source_clock.proofs.Texts.{trees}
 use Rattle.source_clock.proofs.clocks.none_reads.Given as goal
 

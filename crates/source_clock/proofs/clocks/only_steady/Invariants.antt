@@ -1,6 +1,6 @@
 use Rattle.std.proofs.Common.{◌≡◌, ◌++◌, drop}
 use Rattle.std.specs.Option.{option_copied, option_to_list}
-use Rattle.source_meaning.specs.Clock.{steady_names}
+use Rattle.source_checks.specs.Clock.{steady_names}
 use Rattle.source_clock.proofs.Texts.{trees}
 use Rattle.source_clock.proofs.clocks.only_steady.Given as goal
 

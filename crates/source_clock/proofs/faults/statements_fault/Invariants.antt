@@ -1,8 +1,8 @@
 use Rattle.std.proofs.Common.{◌≡◌, drop}
 use Rattle.std.specs.Option.{option_copied}
-use Rattle.source_meaning.specs.Lines.{first_line}
-use Rattle.source_meaning.specs.Places.{in_statements}
-use Rattle.source_meaning.specs.Clock.{statement_clock_lines}
+use Rattle.source_checks.specs.Lines.{first_line}
+use Rattle.source_checks.specs.Places.{in_statements}
+use Rattle.source_checks.specs.Clock.{statement_clock_lines}
 use Rattle.source_clock.proofs.faults.statements_fault.Given as goal
 
 abbrev pub invariant-loop-statement : goal.invariant-loop-statement

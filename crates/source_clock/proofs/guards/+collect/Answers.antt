@@ -3,7 +3,7 @@ use Rattle.std.specs.Prelude.{OnOk}
 use Rattle.vlsi_base.specs.declared.expression.ParsedExpr.TheViews.{the_lemmas}
 use Rattle.vlsi_base.specs.Tree.{Tree, view, operand_of, folded}
 use Rattle.vlsi_base.proofs.Groups.{grouped_is}
-use Rattle.source_meaning.specs.Clock.{conjuncts}
+use Rattle.source_checks.specs.Clock.{conjuncts}
 use Rattle.source_clock.proofs.Chains.{lone_chain, pair_chain}
 use Rattle.source_clock.proofs.Joining.{walked, pushed, single_pair, seen}
 use Rattle.source_clock.proofs.guards.+collect.Goals as goal

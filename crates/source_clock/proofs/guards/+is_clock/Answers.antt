@@ -3,7 +3,7 @@ use Rattle.vlsi_base.specs.declared.expression.ParsedExpr.{ParsedExpr}
 use Rattle.vlsi_base.specs.declared.expression.ParsedExpr.TheViews.{the_lemmas}
 use Rattle.vlsi_base.specs.Tree.{Tree, view, operand_of, folded}
 use Rattle.vlsi_base.proofs.Groups.{grouped_is}
-use Rattle.source_meaning.specs.Clock.{is_name}
+use Rattle.source_checks.specs.Clock.{is_name}
 use Rattle.source_clock.specs.Operands.{is_beside_one}
 use Rattle.source_clock.proofs.Chains.{lone_chain, pair_chain, two_chain, deep_of}
 use Rattle.source_clock.proofs.Joining.{beside_one, no_clock_pair, no_clock_deep}

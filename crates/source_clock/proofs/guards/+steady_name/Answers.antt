@@ -3,7 +3,7 @@ use Rattle.vlsi_base.specs.declared.expression.ParsedExpr.{ParsedExpr}
 use Rattle.vlsi_base.specs.declared.expression.ParsedExpr.TheViews.{the_lemmas}
 use Rattle.vlsi_base.specs.Tree.{Tree, view, operand_of, folded}
 use Rattle.vlsi_base.proofs.Groups.{grouped_is}
-use Rattle.source_meaning.specs.Clock.{steady_name}
+use Rattle.source_checks.specs.Clock.{steady_name}
 use Rattle.source_clock.proofs.Chains.{lone_chain, pair_chain}
 use Rattle.source_clock.proofs.guards.+steady_name.Goals as goal
 

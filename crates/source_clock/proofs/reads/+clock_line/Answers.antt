@@ -4,10 +4,10 @@ use Rattle.vlsi_base.specs.declared.expression.ParsedExpr.{ParsedExpr}
 use Rattle.vlsi_base.specs.declared.expression.ParsedExpr.TheViews.{the_lemmas}
 use Rattle.vlsi_base.specs.Tree.{view, operand_of, folded}
 use Rattle.vlsi_base.proofs.Groups.{grouped_is}
-use Rattle.source_meaning.specs.Lines.{first_line, in_operands}
-use Rattle.source_meaning.specs.Clock.{clock_lines}
-use Rattle.source_meaning.proofs.Turns.{turn}
-use Rattle.source_meaning.proofs.FirstLines.{first_line_append, line_in_chain}
+use Rattle.source_checks.specs.Lines.{first_line, in_operands}
+use Rattle.source_checks.specs.Clock.{clock_lines}
+use Rattle.source_checks.proofs.Turns.{turn}
+use Rattle.source_checks.proofs.FirstLines.{first_line_append, line_in_chain}
 use Rattle.source_clock.proofs.reads.+clock_line.Goals as goal
 
 pub clock_line-returns-in-Some-clock_line : goal.clock_line-returns-in-Some-clock_line

@@ -1,8 +1,8 @@
 use Rattle.std.proofs.Common.{◌≡◌, map, drop}
 use Rattle.std.specs.Option.{option_copied}
 use Rattle.vlsi_base.specs.Tree.{operand_of}
-use Rattle.source_meaning.specs.Lines.{first_line, in_operands}
-use Rattle.source_meaning.specs.Clock.{clock_lines}
+use Rattle.source_checks.specs.Lines.{first_line, in_operands}
+use Rattle.source_checks.specs.Clock.{clock_lines}
 use Rattle.source_clock.proofs.reads.+clock_line.Given as goal
 
 abbrev pub invariant-clock_line_among-loop-e : goal.invariant-clock_line_among-loop-e

@@ -1,12 +1,12 @@
 use Rattle.std.proofs.Common.{◌++◌, Some, None, sym, append_assoc}
 use Rattle.std.specs.Option.{option_copied}
 use Rattle.vlsi_base.specs.Tree.{view}
-use Rattle.source_meaning.specs.declared.statement.Guarded.{Guarded}
-use Rattle.source_meaning.specs.Lines.{first_line}
-use Rattle.source_meaning.specs.Places.{in_alternatives}
-use Rattle.source_meaning.specs.Clock.{clock_lines}
-use Rattle.source_meaning.proofs.Turns.{turn}
-use Rattle.source_meaning.proofs.FirstLines.{first_line_append}
+use Rattle.source_checks.specs.declared.statement.Guarded.{Guarded}
+use Rattle.source_checks.specs.Lines.{first_line}
+use Rattle.source_checks.specs.Places.{in_alternatives}
+use Rattle.source_checks.specs.Clock.{clock_lines}
+use Rattle.source_checks.proofs.Turns.{turn}
+use Rattle.source_checks.proofs.FirstLines.{first_line_append}
 use Rattle.source_clock.proofs.reads.clock_line_in_alternatives.Goals as goal
 
 pub returns-in-Some : goal.returns-in-Some

@@ -1,8 +1,8 @@
 use Rattle.std.proofs.Common.{◌≡◌, drop}
 use Rattle.std.specs.Option.{option_copied}
-use Rattle.source_meaning.specs.Lines.{first_line}
-use Rattle.source_meaning.specs.Places.{in_alternatives}
-use Rattle.source_meaning.specs.Clock.{clock_lines}
+use Rattle.source_checks.specs.Lines.{first_line}
+use Rattle.source_checks.specs.Places.{in_alternatives}
+use Rattle.source_checks.specs.Clock.{clock_lines}
 use Rattle.source_clock.proofs.reads.clock_line_in_alternatives.Given as goal
 
 abbrev pub invariant-loop-guarded : goal.invariant-loop-guarded

@@ -1,10 +1,10 @@
 use Rattle.std.proofs.Common.{Some, None, refl}
 use Rattle.std.specs.Option.{option_copied}
-use Rattle.source_meaning.specs.Lines.{first_line}
-use Rattle.source_meaning.specs.Places.{in_assignments}
-use Rattle.source_meaning.specs.Clock.{assignment_clock_lines}
-use Rattle.source_meaning.proofs.Turns.{turn}
-use Rattle.source_meaning.proofs.FirstLines.{first_line_append}
+use Rattle.source_checks.specs.Lines.{first_line}
+use Rattle.source_checks.specs.Places.{in_assignments}
+use Rattle.source_checks.specs.Clock.{assignment_clock_lines}
+use Rattle.source_checks.proofs.Turns.{turn}
+use Rattle.source_checks.proofs.FirstLines.{first_line_append}
 use Rattle.source_clock.proofs.reads.clock_line_in_assignments.Goals as goal
 
 pub returns-in-Some : goal.returns-in-Some

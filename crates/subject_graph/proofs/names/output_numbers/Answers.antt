@@ -1,7 +1,7 @@
 use Rattle.std.proofs.Common.{◌≡◌, ◌∙◌, sym, Bool, true, false, not, refl, length}
 use Rattle.std.specs.FinMap.{get}
 use Rattle.std.proofs.lemmas.List.{drop_all}
-use Rattle.machine_meaning.specs.Machine.{is_input}
+use Rattle.machine_core.specs.Machine.{is_input}
 use Rattle.subject_graph.proofs.Looking.{Found, found, is_out, looks_out, looks_end}
 use Rattle.subject_graph.proofs.Solving.{place_below, place_number}
 use Rattle.subject_graph.proofs.names.output_numbers.Goals as goal

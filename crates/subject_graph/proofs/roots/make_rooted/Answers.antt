@@ -2,7 +2,7 @@ use Rattle.std.proofs.Common.{◌∙◌, sym, ap, subst, List, ℕ, length, map,
 use Rattle.vlsi_base.specs.declared.name.Name.{Name}
 use Rattle.vlsi_base.specs.declared.name.Port.{Port}
 use Rattle.vlsi_base.specs.Member.{In}
-use Rattle.machine_meaning.specs.Machine.{is_input, names_of}
+use Rattle.machine_core.specs.Machine.{is_input, names_of}
 use Rattle.machine_core.specs.View.{register_view}
 use Rattle.subject_graph.proofs.Rooted.{rooted_from}
 use Rattle.subject_graph.proofs.Solving.{as_many, loads_fit, outputs_named, over_names}

@@ -1,5 +1,5 @@
 use Rattle.std.proofs.Common.{◌≡◌, ℕ, ◌<◌, ◌≤◌, ◌||◌, length}
-use Rattle.fsm_meaning.specs.Walk.{assigns, part_assigns}
+use Rattle.fsm_machine.specs.Walk.{assigns, part_assigns}
 use Rattle.fsm_machine.specs.Encoding.{given_state}
 use Rattle.fsm_code.specs.View.{body_view, parts_view}
 use Rattle.fsm_code.specs.declared.statements.Statements.{size-Statements}

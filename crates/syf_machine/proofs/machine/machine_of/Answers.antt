@@ -1,5 +1,5 @@
 use Rattle.std.proofs.Common.{◌≡◌, ◌+◌, ◌-◌, ◌<◌, ◌^◌, length, map, sym, ap, subst, ◌∙◌, arith}
-use Rattle.machine_meaning.specs.Machine.{Machine}
+use Rattle.machine_core.specs.Machine.{Machine}
 use Rattle.machine_core.specs.View.{equation_view, register_view}
 use Rattle.fsm_machine.specs.Signals.{signals}
 use Rattle.fsm_code.specs.View.{body_view}

@@ -1,5 +1,5 @@
 use Rattle.std.proofs.Common.{◌≡◌, filter, take}
-use Rattle.machine_meaning.specs.Machine.{names_of}
+use Rattle.machine_core.specs.Machine.{names_of}
 use Rattle.syf_machine.specs.Named.{is_read}
 use Rattle.syf_machine.proofs.names.inputs.Given as goal
 

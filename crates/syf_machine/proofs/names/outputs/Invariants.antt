@@ -1,5 +1,5 @@
 use Rattle.std.proofs.Common.{◌≡◌, not, filter, take}
-use Rattle.machine_meaning.specs.Machine.{is_input, names_of}
+use Rattle.machine_core.specs.Machine.{is_input, names_of}
 use Rattle.syf_machine.proofs.names.outputs.Given as goal
 
 abbrev pub invariant-loop-port : goal.invariant-loop-port

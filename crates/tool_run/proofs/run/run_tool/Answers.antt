@@ -1,8 +1,8 @@
 use Rattle.std.proofs.Common.{sym, subst}
-use Rattle.tool_words.specs.declared.command.Command.{Command}
-use Rattle.tool_words.specs.Commands.{word_of}
 use Rattle.tool_drive.specs.Outside.{IsLine}
 use Rattle.tool_drive.specs.Lines.{line_of}
+use Rattle.tool_run.specs.declared.words.Command.{Command}
+use Rattle.tool_run.specs.Answers.{word_of}
 use Rattle.tool_run.proofs.run.run_tool.Goals as goal
 
 pub returns-in-Syf-clause-line : goal.returns-in-Syf-clause-line
@@ -27,13 +27,8 @@ returns-in-Loon-clause-line g c lined =
 
 pub returns-in-Asimut-clause-line : goal.returns-in-Asimut-clause-line
 returns-in-Asimut-clause-line g c lined =
-    subst (λ (k : Command). IsLine (g.T.Sink.seen c.args.out.now) (g.T.Sink.seen c.drive-in-Asimut.new.out) (line_of (word_of k) c.drive-in-Asimut.result)) (sym c.in-Asimut.is)
-    (c.drive-in-Asimut.ensures.line lined)
-
-pub returns-in-AsimutNetlist-clause-line : goal.returns-in-AsimutNetlist-clause-line
-returns-in-AsimutNetlist-clause-line g c lined =
-    subst (λ (k : Command). IsLine (g.T.Sink.seen c.args.out.now) (g.T.Sink.seen c.drive-in-AsimutNetlist.new.out) (line_of (word_of k) c.drive-in-AsimutNetlist.result)) (sym c.in-AsimutNetlist.is)
-    (c.drive-in-AsimutNetlist.ensures.line lined)
+    subst (λ (k : Command). IsLine (g.T.Sink.seen c.args.out.now) (g.T.Sink.seen c.run_asimut.new.out) (line_of (word_of k) c.run_asimut.result)) (sym c.in-Asimut.is)
+    (c.run_asimut.ensures.line lined)
 
 pub returns-in-Cougar-clause-line : goal.returns-in-Cougar-clause-line
 returns-in-Cougar-clause-line g c lined =

@@ -1,5 +1,5 @@
 use Rattle.std.proofs.lemmas.Str.{is_utf8-from_IsUtf8}
-use Rattle.tool_words.proofs.Texts.{not_text}
+use Rattle.tool_words.proofs.WordTexts.{not_text}
 use Rattle.tool_words.proofs.arguments.as_text.Goals as goal
 
 pub returns-in-Ok-clause-utf8 : goal.returns-in-Ok-clause-utf8

@@ -1,5 +1,5 @@
 use Rattle.std.proofs.Common.{rules, ◌≡◌, ◌+◌, ◌∷◌, drop, sym, ◌∙◌}
-use Rattle.tool_words.proofs.Texts.{from_word, text_here, none_here, one_more}
+use Rattle.tool_words.proofs.WordTexts.{from_word, text_here, none_here, one_more}
 use Rattle.tool_words.proofs.arguments.texts.Goals as goal
 
 pub returns-in_err-text-clause-usage : goal.returns-in_err-text-clause-usage

@@ -1,7 +1,7 @@
 use Rattle.std.proofs.Common.{List, sym, subst}
 use Rattle.vlsi_base.specs.declared.name.Port.{Port}
 use Rattle.machine_core.specs.Order.{AllDifferent}
-use Rattle.machine_meaning.specs.Machine.{names_of}
+use Rattle.machine_core.specs.Machine.{names_of}
 use Rattle.vbe_io.proofs.Cells.{different_pins}
 use Rattle.vbe_io.proofs.cell.completed.Goals as goal
 

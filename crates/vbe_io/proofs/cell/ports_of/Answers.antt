@@ -1,7 +1,7 @@
 use Rattle.std.proofs.Common.{Option, arith, sym, ap, subst}
 use Rattle.std.specs.Option.{option_copied}
 use Rattle.std.proofs.lemmas.List.Sorted.{length_permutation}
-use Rattle.machine_meaning.specs.Machine.{Machine}
+use Rattle.machine_core.specs.Machine.{Machine}
 use Rattle.vbe_io.specs.Cell.{ArePins}
 use Rattle.vbe_io.proofs.cell.ports_of.Goals as goal
 

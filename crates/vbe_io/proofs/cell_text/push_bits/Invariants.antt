@@ -1,6 +1,6 @@
 use Rattle.std.proofs.Common.{◌≡◌, ◌++◌, map, drop}
-use Rattle.source_meaning.specs.Elaboration.{port_of}
-use Rattle.source_meaning.specs.Symbols.{bit_name}
+use Rattle.source_checks.specs.Elaboration.{port_of}
+use Rattle.source_checks.specs.Symbols.{bit_name}
 use Rattle.vbe_io.proofs.cell_text.push_bits.Given as goal
 
 abbrev pub invariant-loop-bit : goal.invariant-loop-bit

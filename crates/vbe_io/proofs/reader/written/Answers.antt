@@ -1,7 +1,7 @@
 use Rattle.std.proofs.Common.{◌≤◌, ◌<◌, ◌^◌, length, arith}
 use Rattle.std.proofs.lemmas.Result.{IfOk-weaker}
-use Rattle.source_meaning.specs.declared.statement.DesignFile.{DesignFile}
-use Rattle.source_meaning.specs.Symbols.{symbols, all_names}
+use Rattle.source_checks.specs.declared.statement.DesignFile.{DesignFile}
+use Rattle.source_checks.specs.Symbols.{symbols, all_names}
 use Rattle.vbe_text.specs.Source.{source_view}
 use Rattle.vbe_text.specs.Vbe.{IsSource}
 use Rattle.vbe_text.proofs.Counted.{declared_few}

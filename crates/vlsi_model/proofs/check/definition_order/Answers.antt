@@ -3,8 +3,8 @@ use Rattle.std.specs.List.{All}
 use Rattle.bool_expr.specs.Expression.{IsOver}
 use Rattle.bool_expr.specs.View.{view}
 use Rattle.machine_core.specs.Order.{AllDifferent}
-use Rattle.source_meaning.specs.declared.symbol_table.Symbol.{Symbol}
-use Rattle.source_meaning.specs.Symbols.{symbols, all_names}
+use Rattle.source_checks.specs.declared.symbol_table.Symbol.{Symbol}
+use Rattle.source_checks.specs.Symbols.{symbols, all_names}
 use Rattle.source_bits.specs.declared.driven.DrivenBit.{DrivenBit}
 use Rattle.vlsi_model.proofs.SourceBits.{sound, driven_inside, driven_over, driven_different}
 use Rattle.vlsi_model.proofs.Refusing.{order_of_source}

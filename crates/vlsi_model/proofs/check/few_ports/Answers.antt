@@ -1,6 +1,6 @@
 use Rattle.std.proofs.Common.{List}
 use Rattle.machine_core.specs.Order.{AllDifferent}
-use Rattle.source_meaning.specs.declared.symbol_table.Symbol.{Symbol}
+use Rattle.source_checks.specs.declared.symbol_table.Symbol.{Symbol}
 use Rattle.vlsi_model.proofs.Bits.{texts}
 use Rattle.vlsi_model.proofs.SourceBits.{sound}
 use Rattle.vlsi_model.proofs.BuildGoals.{over_numbers}

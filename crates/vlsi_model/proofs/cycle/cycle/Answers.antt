@@ -1,7 +1,7 @@
 use Rattle.std.proofs.Common.{sym, subst}
 use Rattle.vlsi_base.specs.declared.name.Name.{Name}
 use Rattle.machine_core.specs.Order.{In}
-use Rattle.source_meaning.specs.Elaboration.{definitions}
+use Rattle.source_checks.specs.Elaboration.{definitions}
 use Rattle.vlsi_model.specs.Laid.{names_defined}
 use Rattle.vlsi_model.proofs.Turning.{first_defined}
 use Rattle.vlsi_model.proofs.cycle.cycle.Goals as goal

@@ -2,16 +2,16 @@ use Rattle.std.proofs.Common.{◌≡◌, ◌≤◌, ℕ, List, length, Option, N
 use Rattle.std.specs.Prelude.{MatchOption}
 use Rattle.machine_core.specs.Order.{In, AllDifferent}
 use Rattle.vlsi_base.specs.declared.name.Name.{Name}
-use Rattle.source_meaning.specs.declared.statement.DesignFile.{DesignFile}
-use Rattle.source_meaning.specs.declared.statement.Statement.{Statement}
-use Rattle.source_meaning.specs.Symbols.{symbols, all_names}
-use Rattle.source_meaning.specs.Formula.{place}
+use Rattle.source_checks.specs.declared.statement.DesignFile.{DesignFile}
+use Rattle.source_checks.specs.declared.statement.Statement.{Statement}
+use Rattle.source_checks.specs.Symbols.{symbols, all_names}
+use Rattle.source_checks.specs.Formula.{place}
 use Rattle.vlsi_model.specs.declared.source.Source.{Source}
 use Rattle.vlsi_model.specs.Sources.{IsSourceOf}
 use Rattle.vlsi_model.specs.Ordered.{IsDrivenIn}
 use Rattle.vlsi_model.proofs.Sorting.{In-at}
 use Rattle.vlsi_model.proofs.Turning.{driven_on}
-use Rattle.source_meaning.specs.declared.symbol_table.Symbol.{Symbol}
+use Rattle.source_checks.specs.declared.symbol_table.Symbol.{Symbol}
 use Rattle.vlsi_model.proofs.Bits.{texts}
 use Rattle.vlsi_model.proofs.SourceBits.{sound}
 use Rattle.vlsi_model.proofs.BuildGoals.{over_numbers}

@@ -1,11 +1,11 @@
 use Rattle.std.proofs.Common.{◌≡◌, true, false, List, map, ℕ, refl, sym, ◌∙◌, subst}
 use Rattle.machine_core.specs.Order.{In}
-use Rattle.source_meaning.specs.declared.statement.Assignment.{Assignment}
-use Rattle.source_meaning.specs.declared.statement.Statement.{Statement}
-use Rattle.source_meaning.specs.declared.statement.Statement.TheVariants as statement
-use Rattle.source_meaning.specs.Symbols.{all_names}
-use Rattle.source_meaning.specs.Formula.{place}
-use Rattle.source_meaning.specs.Drivers.{target_names}
+use Rattle.source_checks.specs.declared.statement.Assignment.{Assignment}
+use Rattle.source_checks.specs.declared.statement.Statement.{Statement}
+use Rattle.source_checks.specs.declared.statement.Statement.TheVariants as statement
+use Rattle.source_checks.specs.Symbols.{all_names}
+use Rattle.source_checks.specs.Formula.{place}
+use Rattle.source_checks.specs.Drivers.{target_names}
 use Rattle.vlsi_model.proofs.Turning.{any_In, In_any}
 use Rattle.vlsi_model.proofs.cycle.line_in.Goals as goal
 

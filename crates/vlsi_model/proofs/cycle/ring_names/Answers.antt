@@ -1,9 +1,9 @@
 use Rattle.std.proofs.Common.{◌≡◌, List, ◌++◌, map, drop, take, sym, ap, ◌∙◌, subst}
 use Rattle.std.specs.Prelude.{slice_index}
 use Rattle.vlsi_base.specs.declared.name.Name.{Name}
-use Rattle.source_meaning.specs.Symbols.{all_names}
-use Rattle.source_meaning.specs.Elaboration.{definitions}
-use Rattle.source_meaning.specs.Cycles.{IsRing}
+use Rattle.source_checks.specs.Symbols.{all_names}
+use Rattle.source_checks.specs.Elaboration.{definitions}
+use Rattle.source_checks.specs.Cycles.{IsRing}
 use Rattle.source_bits.specs.declared.driven.DrivenBit.{DrivenBit}
 use Rattle.vlsi_model.specs.Numbered.{name_at}
 use Rattle.vlsi_model.specs.Ordered.{name_of_node}

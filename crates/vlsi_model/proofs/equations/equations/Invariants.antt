@@ -1,6 +1,6 @@
 use Rattle.std.proofs.Common.{◌≡◌, map, take}
 use Rattle.machine_core.specs.View.{equation_view}
-use Rattle.source_meaning.specs.Symbols.{all_names}
+use Rattle.source_checks.specs.Symbols.{all_names}
 use Rattle.source_bits.specs.Driven.{driven_view}
 use Rattle.vlsi_model.specs.Numbered.{driven_at, equation_from}
 use Rattle.vlsi_model.proofs.equations.equations.Given as goal

@@ -1,6 +1,6 @@
 use Rattle.std.proofs.Common.{◌≡◌, ◌++◌, map, take}
 use Rattle.std.specs.Prelude.{slice_index}
-use Rattle.source_meaning.specs.Symbols.{all_names}
+use Rattle.source_checks.specs.Symbols.{all_names}
 use Rattle.vlsi_model.specs.Numbered.{name_at}
 use Rattle.vlsi_model.proofs.equations.push_names.Given as goal
 

@@ -1,7 +1,7 @@
 use Rattle.std.proofs.Common.{◌≡◌, ℕ, List, refl, sym, ap, ◌∙◌, arith, subst}
 use Rattle.vlsi_base.specs.declared.name.Name.{Name}
-use Rattle.source_meaning.specs.Symbols.{all_names}
-use Rattle.source_meaning.specs.Formula.{place}
+use Rattle.source_checks.specs.Symbols.{all_names}
+use Rattle.source_checks.specs.Formula.{place}
 use Rattle.machine_core.specs.Order.{In}
 use Rattle.vlsi_model.proofs.Numbering.{place_within}
 use Rattle.vlsi_model.proofs.Naming.{vars_more, vars_all}

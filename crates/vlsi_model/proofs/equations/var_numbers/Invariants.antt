@@ -1,4 +1,4 @@
-use Rattle.source_meaning.specs.Symbols.{all_names}
+use Rattle.source_checks.specs.Symbols.{all_names}
 use Rattle.vlsi_model.proofs.Naming.{VarsSoFar}
 use Rattle.vlsi_model.proofs.equations.var_numbers.Given as goal
 

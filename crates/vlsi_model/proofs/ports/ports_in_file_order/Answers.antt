@@ -3,8 +3,8 @@ use Rattle.std.specs.List.{filter_map}
 use Rattle.std.specs.Option.{option_to_list}
 use Rattle.std.specs.Prelude.{Option}
 use Rattle.vlsi_base.specs.declared.name.Port.{Port}
-use Rattle.source_meaning.specs.declared.symbol_table.Symbol.{Symbol}
-use Rattle.source_meaning.specs.Symbols.{all_names}
+use Rattle.source_checks.specs.declared.symbol_table.Symbol.{Symbol}
+use Rattle.source_checks.specs.Symbols.{all_names}
 use Rattle.vlsi_model.specs.PortNames.{port_named}
 use Rattle.vlsi_model.proofs.Naming.{ports_more, take_whole}
 use Rattle.vlsi_model.proofs.PortBits.{all_ports}

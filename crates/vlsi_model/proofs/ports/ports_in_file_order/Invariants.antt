@@ -1,6 +1,6 @@
 use Rattle.std.proofs.Common.{◌≡◌, take}
 use Rattle.std.specs.List.{filter_map}
-use Rattle.source_meaning.specs.Symbols.{all_names}
+use Rattle.source_checks.specs.Symbols.{all_names}
 use Rattle.vlsi_model.specs.PortNames.{port_named}
 use Rattle.vlsi_model.proofs.ports.ports_in_file_order.Given as goal
 

@@ -1,7 +1,7 @@
 use Rattle.std.proofs.Common.{◌∙◌, sym, ap, subst, map, List}
 use Rattle.vlsi_base.specs.declared.name.Name.{Name}
 use Rattle.machine_core.specs.Order.{AllDifferent}
-use Rattle.source_meaning.specs.Symbols.{all_names}
+use Rattle.source_checks.specs.Symbols.{all_names}
 use Rattle.vlsi_model.specs.declared.registers.NamedBit.{NamedBit}
 use Rattle.vlsi_model.proofs.Naming.{names_of_named, order_moved, order_ordered}
 use Rattle.vlsi_model.proofs.registers.name_order.Goals as goal

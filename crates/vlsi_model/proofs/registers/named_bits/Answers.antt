@@ -1,5 +1,5 @@
 use Rattle.std.proofs.Common.{◌∙◌}
-use Rattle.source_meaning.specs.Symbols.{all_names}
+use Rattle.source_checks.specs.Symbols.{all_names}
 use Rattle.vlsi_model.proofs.Naming.{named_more}
 use Rattle.vlsi_model.proofs.registers.named_bits.Goals as goal
 

@@ -1,6 +1,6 @@
 use Rattle.std.proofs.Common.{◌≡◌, map}
 use Rattle.vlsi_base.specs.Range.{rising}
-use Rattle.source_meaning.specs.Symbols.{all_names}
+use Rattle.source_checks.specs.Symbols.{all_names}
 use Rattle.vlsi_model.specs.Numbered.{named_at}
 use Rattle.vlsi_model.proofs.registers.named_bits.Given as goal
 

@@ -1,6 +1,6 @@
 use Rattle.std.proofs.Common.{◌≡◌, map, take}
 use Rattle.machine_core.specs.View.{register_view}
-use Rattle.source_meaning.specs.Symbols.{all_names}
+use Rattle.source_checks.specs.Symbols.{all_names}
 use Rattle.source_bits.specs.Driven.{stored_view}
 use Rattle.vlsi_model.specs.Numbered.{stored_at, register_from}
 use Rattle.vlsi_model.proofs.registers.registers.Given as goal

@@ -1,6 +1,6 @@
 use Rattle.std.proofs.Common.{◌≡◌, ◌++◌, map, drop}
 use Rattle.vlsi_base.specs.NamePlaces.{name_of}
-use Rattle.source_meaning.specs.Elaboration.{port_of}
+use Rattle.source_checks.specs.Elaboration.{port_of}
 use Rattle.vst_io.proofs.bits.push_bits.Given as goal
 
 abbrev pub invariant-loop-bit : goal.invariant-loop-bit

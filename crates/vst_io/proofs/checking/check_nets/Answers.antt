@@ -3,8 +3,8 @@ use Rattle.std.specs.List.{sum_by}
 use Rattle.vlsi_base.specs.declared.fault.ReadError.{ReadError}
 use Rattle.vlsi_base.specs.declared.fault.ReadError.TheVariants as errors
 use Rattle.vlsi_base.specs.declared.fault.LimitKind.TheVariants as limit
-use Rattle.source_meaning.specs.declared.symbol_table.Symbol.{Symbol}
-use Rattle.source_meaning.specs.Checks.{first_repeated}
+use Rattle.source_checks.specs.declared.symbol_table.Symbol.{Symbol}
+use Rattle.source_checks.specs.Checks.{first_repeated}
 use Rattle.vst_text.specs.declared.file.InstanceStatement.{InstanceStatement}
 use Rattle.vst_text.specs.declared.file.StructuralFile.{StructuralFile}
 use Rattle.vst_io.specs.Nets.{nets}

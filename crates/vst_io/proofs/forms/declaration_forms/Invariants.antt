@@ -1,6 +1,6 @@
 use Rattle.std.proofs.Common.{◌≡◌, drop}
 use Rattle.std.specs.List.{flat_map}
-use Rattle.source_meaning.specs.Lines.{first_line}
+use Rattle.source_checks.specs.Lines.{first_line}
 use Rattle.vst_io.specs.Faults.{declaration_forms}
 use Rattle.vst_io.proofs.forms.declaration_forms.Given as goal
 

@@ -1,8 +1,8 @@
 use Rattle.std.proofs.Common.{Some, None, refl}
 use Rattle.std.specs.List.{flat_map}
-use Rattle.source_meaning.specs.Lines.{first_line}
-use Rattle.source_meaning.proofs.Turns.{turn}
-use Rattle.source_meaning.proofs.FirstLines.{first_line_append}
+use Rattle.source_checks.specs.Lines.{first_line}
+use Rattle.source_checks.proofs.Turns.{turn}
+use Rattle.source_checks.proofs.FirstLines.{first_line_append}
 use Rattle.vst_io.specs.Faults.{declaration_widths}
 use Rattle.vst_io.proofs.forms.declaration_widths.Goals as goal
 

@@ -1,5 +1,5 @@
 use Rattle.std.proofs.Common.{◌≡◌, ◌++◌, drop}
-use Rattle.source_meaning.specs.Symbols.{port_symbols, signal_symbols}
+use Rattle.source_checks.specs.Symbols.{port_symbols, signal_symbols}
 use Rattle.vst_io.specs.Nets.{signal_groups}
 use Rattle.vst_io.proofs.known.nets.Given as goal
 

@@ -1,6 +1,6 @@
 use Rattle.std.proofs.Common.{◌≡◌, ◌++◌, [], take, drop}
 use Rattle.std.specs.List.{flat_map}
-use Rattle.source_meaning.specs.Lines.{first_line}
+use Rattle.source_checks.specs.Lines.{first_line}
 use Rattle.net_core.specs.Checks.{pins_named}
 use Rattle.vst_io.specs.Nets.{nets, pin_names}
 use Rattle.vst_io.specs.Faults.{association_faults, end_faults}

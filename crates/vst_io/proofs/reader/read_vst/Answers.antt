@@ -4,7 +4,7 @@ use Rattle.vlsi_base.specs.declared.fault.ReadError.{ReadError}
 use Rattle.vlsi_base.specs.declared.fault.ReadError.TheVariants as errors
 use Rattle.vlsi_base.specs.declared.fault.LimitKind.TheVariants as limit
 use Rattle.vlsi_base.specs.Name.{is_supply}
-use Rattle.source_meaning.specs.Checks.{most_ports}
+use Rattle.source_checks.specs.Checks.{most_ports}
 use Rattle.vst_io.specs.Text.{IsVstRefusal, Says, signal_ports, wide}
 use Rattle.vst_io.proofs.Reading.{each_maps, fault_refused, netlist_refused, netlist_fits, netlist_meets}
 use Rattle.vst_io.proofs.reader.read_vst.Goals as goal

@@ -1,12 +1,12 @@
 use Rattle.std.proofs.Common.{◌≡◌, ℕ, ◌+◌, ◌++◌, ◌∷◌, length, map, rules, arith, ap, subst, ◌∙◌}
 use Rattle.bool_expr.specs.Expression.{variable}
 use Rattle.bool_expr.specs.View.{view}
-use Rattle.fsm_meaning.specs.Statements.{choose, select, either, further, listed}
+use Rattle.fsm_machine.specs.Statements.{choose, select, either, further, listed}
 use Rattle.fsm_machine.specs.Signals.{emitted, emitted_parts, emitted_branches}
 use Rattle.fsm_code.specs.Fits.{Adds}
 use Rattle.fsm_code.specs.Over.{numbered_parts, numbered_branches}
 use Rattle.fsm_code.specs.View.{body_view, parts_view, branches_view}
-use Rattle.fsm_meaning.specs.Statements.{Statements, Parts}
+use Rattle.fsm_machine.specs.Statements.{Statements, Parts}
 use Rattle.fsm_machine.specs.Signals.{signals, part_signals, without}
 use Rattle.fsm_machine.specs.Sound.{IsSound, ArePartsSound}
 use Rattle.fsm_code.specs.Over.{IsBodyOver, ArePartsOver, numbered_body}

@@ -1,10 +1,10 @@
 use Rattle.std.proofs.Common.{◌≡◌, ◌+◌, length, map, rules, arith, ap, subst}
 use Rattle.bool_expr.specs.Expression.{variable}
 use Rattle.bool_expr.specs.View.{view}
-use Rattle.fsm_meaning.specs.Statements.{choose, select, further}
+use Rattle.fsm_machine.specs.Statements.{choose, select, further}
 use Rattle.fsm_code.specs.Sought.{given_to}
 use Rattle.fsm_code.specs.View.{body_view, parts_view, branches_view}
-use Rattle.fsm_meaning.specs.Statements.{Statements, Parts}
+use Rattle.fsm_machine.specs.Statements.{Statements, Parts}
 use Rattle.fsm_machine.specs.Signals.{signals, part_signals}
 use Rattle.fsm_code.specs.Over.{IsBodyOver, ArePartsOver}
 use Rattle.fsm_code.specs.declared.statements.Statements.{the_lemmas}

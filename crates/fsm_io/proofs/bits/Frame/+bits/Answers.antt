@@ -5,7 +5,7 @@ use Rattle.vlsi_base.specs.Member.{In, here}
 use Rattle.vlsi_base.specs.Tree.{view as tree}
 use Rattle.machine_core.proofs.Values.{In-left, In-right}
 use Rattle.bool_expr.specs.Expression.{Expression}
-use Rattle.fsm_meaning.specs.Statements as s
+use Rattle.fsm_machine.specs.Statements as s
 use Rattle.fsm_code.specs.View as code
 use Rattle.fsm_text.specs.declared.file.Statement.{Statement, size-Statement}
 use Rattle.fsm_text.specs.declared.file.Body.{size-Body}

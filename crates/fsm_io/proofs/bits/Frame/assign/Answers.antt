@@ -7,11 +7,11 @@ use Rattle.vlsi_base.specs.Tree.{view as tree}
 use Rattle.machine_core.proofs.Values.{In-left, In-right}
 use Rattle.bool_expr.specs.Expression.{Expression}
 use Rattle.bool_expr.specs.View.{view}
-use Rattle.source_meaning.specs.Symbols.{all_names}
-use Rattle.source_meaning.specs.Drivers.{target_names}
-use Rattle.source_meaning.specs.Formula.{formulas, place}
+use Rattle.source_checks.specs.Symbols.{all_names}
+use Rattle.source_checks.specs.Drivers.{target_names}
+use Rattle.source_checks.specs.Formula.{formulas, place}
 use Rattle.vlsi_model.proofs.Naming.{name_is}
-use Rattle.fsm_meaning.specs.Statements.{Statements as Meaning, assign, output}
+use Rattle.fsm_machine.specs.Statements.{Statements as Meaning, assign, output}
 use Rattle.fsm_code.specs.View.{body_view}
 use Rattle.fsm_io.specs.Pieces.{assign_places}
 use Rattle.fsm_io.proofs.OverPorts.{places_equal, places_below, assign_push, assign_named, nothing_left}

@@ -1,7 +1,7 @@
 use Rattle.std.proofs.Common.{◌≡◌, ◌<◌, ℕ, map, length}
 use Rattle.bool_expr.specs.View.{view}
 use Rattle.vlsi_base.specs.Member.{In}
-use Rattle.source_meaning.specs.Symbols.{all_names}
+use Rattle.source_checks.specs.Symbols.{all_names}
 use Rattle.fsm_code.specs.View.{body_view}
 use Rattle.fsm_io.specs.Pieces.{assign_places}
 use Rattle.fsm_io.proofs.bits.Frame.assign.Given as goal

@@ -1,6 +1,6 @@
 use Rattle.std.proofs.Common.{ap, ◌∙◌}
 use Rattle.source_bits.specs.Formulas.{first_of}
-use Rattle.source_meaning.specs.Formula.{formulas}
+use Rattle.source_checks.specs.Formula.{formulas}
 use Rattle.vlsi_base.specs.Tree.{view as tree}
 use Rattle.fsm_io.proofs.OverPorts.{first_numbered}
 use Rattle.fsm_io.proofs.bits.Frame.condition.Goals as goal

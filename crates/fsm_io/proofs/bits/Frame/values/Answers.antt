@@ -1,7 +1,7 @@
 use Rattle.std.proofs.Common.{map, ap, ◌∙◌}
 use Rattle.bool_expr.specs.View.{view}
-use Rattle.source_meaning.specs.Symbols.{all_names}
-use Rattle.source_meaning.specs.Formula.{formulas}
+use Rattle.source_checks.specs.Symbols.{all_names}
+use Rattle.source_checks.specs.Formula.{formulas}
 use Rattle.vlsi_base.specs.Tree.{view as tree}
 use Rattle.fsm_io.proofs.OverPorts.{item_over, all_made}
 use Rattle.fsm_io.proofs.bits.Frame.values.Goals as goal

@@ -1,6 +1,6 @@
 use Rattle.std.proofs.Common.{ℕ, List, refl, sym, subst, ◌∙◌}
 use Rattle.vlsi_base.specs.declared.name.Name.{Name}
-use Rattle.source_meaning.specs.Symbols.{all_names}
+use Rattle.source_checks.specs.Symbols.{all_names}
 use Rattle.vlsi_model.specs.Numbered.{HasVars}
 use Rattle.fsm_io.proofs.Suiting.{suits_different, vars_declared, vars_differ, frame_ok, fits_ok}
 use Rattle.fsm_io.proofs.StateNames.{few_table}

@@ -1,7 +1,7 @@
 use Rattle.std.proofs.Common.{map, ap, sym, subst, ◌∙◌}
 use Rattle.vlsi_base.specs.declared.entity.NewName.{NewName}
-use Rattle.source_meaning.specs.Symbols.{scalar}
-use Rattle.fsm_meaning.specs.Fsm.{Fsm}
+use Rattle.source_checks.specs.Symbols.{scalar}
+use Rattle.fsm_machine.specs.Fsm.{Fsm}
 use Rattle.fsm_code.specs.View.{body_view}
 use Rattle.fsm_io.specs.Elaboration.{IsMachineOf}
 use Rattle.fsm_io.specs.Pieces.{tree_of, roles_of}

@@ -1,7 +1,7 @@
 use Rattle.std.proofs.Common.{List, sym, subst}
 use Rattle.vlsi_base.specs.declared.name.Port.{Port}
 use Rattle.vlsi_base.specs.Member.{AllDifferent}
-use Rattle.machine_meaning.specs.Machine.{names_of}
+use Rattle.machine_core.specs.Machine.{names_of}
 use Rattle.fsm_io.proofs.Suiting.{suits_different, ports_differ}
 use Rattle.fsm_io.proofs.check.Checking.ports.Goals as goal
 

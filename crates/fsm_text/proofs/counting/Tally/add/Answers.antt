@@ -2,10 +2,10 @@ use Rattle.std.proofs.Common.{rules, ℕ, ◌≡◌, ◌∙◌, ◌+◌, ◌<◌
 use Rattle.std.proofs.lemmas.Grind.{get_or_default_zero}
 use Rattle.std.proofs.lemmas.List.{length-map}
 use Rattle.grammar_theory.specs.declared.limits.TheConstants.{CHAIN}
-use Rattle.source_meaning.specs.declared.symbol_table.Symbol.{Symbol}
-use Rattle.source_meaning.specs.Symbols.{all_names}
-use Rattle.source_meaning.specs.Drivers.{target_names}
-use Rattle.source_meaning.specs.Formula.{place}
+use Rattle.source_checks.specs.declared.symbol_table.Symbol.{Symbol}
+use Rattle.source_checks.specs.Symbols.{all_names}
+use Rattle.source_checks.specs.Drivers.{target_names}
+use Rattle.source_checks.specs.Formula.{place}
 use Rattle.fsm_text.specs.Chains.{IsTally}
 use Rattle.fsm_text.proofs.Tally.{Taking, over, full, on, all_taken}
 use Rattle.fsm_text.proofs.counting.Tally.add.Goals as goal

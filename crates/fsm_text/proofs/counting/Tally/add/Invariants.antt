@@ -1,6 +1,6 @@
 use Rattle.std.proofs.Common.{◌≡◌, List}
 use Rattle.vlsi_base.specs.declared.name.Name.{Name}
-use Rattle.source_meaning.specs.Drivers.{target_names}
+use Rattle.source_checks.specs.Drivers.{target_names}
 use Rattle.fsm_text.specs.Chains.{IsTally}
 use Rattle.fsm_text.proofs.Tally.{Taking}
 use Rattle.fsm_text.proofs.counting.Tally.add.Given as goal

@@ -2,11 +2,11 @@ use Rattle.std.proofs.Common.{rules, arith, ◌≡◌, ◌<◌, List, length, ge
 use Rattle.std.specs.Prelude.{option_map}
 use Rattle.vlsi_base.specs.declared.range.Range.{Range}
 use Rattle.machine_core.specs.Order.{AllDifferent}
-use Rattle.source_meaning.specs.declared.symbol_table.Symbol.{Symbol}
-use Rattle.source_meaning.specs.Symbols.{all_names, find}
-use Rattle.source_meaning.specs.Formula.{place}
-use Rattle.source_meaning.specs.Known.{position_of}
-use Rattle.source_meaning.proofs.Knowing.{found_at, not_found}
+use Rattle.source_checks.specs.declared.symbol_table.Symbol.{Symbol}
+use Rattle.source_checks.specs.Symbols.{all_names, find}
+use Rattle.source_checks.specs.Formula.{place}
+use Rattle.source_checks.specs.Known.{position_of}
+use Rattle.source_checks.proofs.Knowing.{found_at, not_found}
 use Rattle.source_bits.specs.declared.ranges.Declared.{Declared}
 use Rattle.source_bits.specs.Numbering.{named_bit, number_in, LiesWithin}
 use Rattle.source_bits.proofs.Standing.{texts, length_starts, first_at, number_at, lies_within, stands_nowhere}

@@ -1,7 +1,7 @@
 use Rattle.std.proofs.Common.{rules, arith, ◌≡◌, ℕ, ◌<◌, ◌-◌, List, [], length, get_or, Some, sym, ap, subst, ◌∙◌}
 use Rattle.std.specs.List.{slice_get}
-use Rattle.source_meaning.specs.declared.symbol_table.Symbol.{Symbol}
-use Rattle.source_meaning.specs.Symbols.{all_names, symbol_names}
+use Rattle.source_checks.specs.declared.symbol_table.Symbol.{Symbol}
+use Rattle.source_checks.specs.Symbols.{all_names, symbol_names}
 use Rattle.source_bits.specs.Numbering.{named_bit, starts_from, Begins}
 use Rattle.source_bits.proofs.Standing.{length_starts, first_at, some_known, first_zero, nth_name, same_count}
 use Rattle.source_bits.proofs.numbers.Numbers.name.Goals as goal

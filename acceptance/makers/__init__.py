@@ -1,0 +1,1 @@
+"""What is made at random, and what is changed as a hand changes it."""

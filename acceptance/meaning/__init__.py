@@ -1,0 +1,1 @@
+"""Second programs for what the tools compute: codes, graphs, netlists, buffers, delays, layouts, and Verilog."""

@@ -1,0 +1,70 @@
+"""Which buffers and drives the netlists of layouts have, for the second readers of `flow` and `gen`, written from docs/formats/netlists.md
+and measures.md.
+
+`unbuffered(n, models)` gives the netlist as it was mapped: the instances named b taken out, and for each other one the first cell of its
+kind. `faults(n, models, fanout)` says what of its buffers and drives isn't as it has to be.
+"""
+
+from acceptance.meaning.fanout import counts, limited
+from acceptance.readers.models import IN, first_of
+from acceptance.readers.vhdl_reader import SUPPLIES, Refused
+from acceptance.readers.vst import Instance, Netlist
+from acceptance.tools.loon import delay_faults, structure_faults
+
+
+def is_buffer(instance):
+    return instance.name.startswith("b")
+
+
+def ties(n):
+    """The net in front of each net that a buffer drives."""
+    return {i.nets[pin]: i.nets[i.model.inputs[0]] for i in n.instances if is_buffer(i) for pin in i.model.outputs if len(i.model.inputs) == 1}
+
+
+def in_front(tied, net):
+    while net in tied:
+        net = tied[net]
+    return net
+
+
+def unbuffered(n, models):
+    """It raises Refused where what is left is no netlist."""
+    tied = ties(n)
+    left = [
+        Instance(i.name, first_of(models, i.model.kind) if i.model.kind else i.model, {pin: in_front(tied, net) for pin, net in i.nets.items()})
+        for i in n.instances
+        if not is_buffer(i)
+    ]
+    return Netlist(n.name, n.all_ports, left)
+
+
+def input_counts(n):
+    """How many input pins of instances each net has, but for those of the clock, vdd and vss."""
+    found = {}
+    for i in n.instances:
+        for pin, net in i.nets.items():
+            if i.model.pins[pin] == IN and pin[0] not in SUPPLIES and net != n.clock and net[0] not in SUPPLIES:
+                found[net] = found.get(net, 0) + 1
+    return found
+
+
+def faults(n, models, fanout):
+    if any(i.model.kind and not i.model.can_stand_for(first_of(models, i.model.kind)) for i in n.instances if not is_buffer(i)):
+        yield "a cell that is no drive of the first of its kind"
+        return
+    most = max(input_counts(n).values(), default=0)
+    if most > fanout:
+        yield f"{most} input pins read one net"
+    try:
+        plain = unbuffered(n, models)
+    except Refused as refused:
+        yield f"without its buffers it is refused: {refused}"
+        return
+    if any(map(is_buffer, n.instances)) and max(counts(plain.instances).values(), default=0) <= fanout:
+        yield "buffers that it would do without"
+    items = limited(plain, models, fanout)
+    if items is None:
+        yield "buffers, and no cell for them"
+        return
+    found = list(structure_faults(plain, n, items, fanout))
+    yield from found or delay_faults(n, items, models, None)

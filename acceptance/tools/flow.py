@@ -1,0 +1,398 @@
+"""What the second readers say of `flow`, and what no case of it has: random machines and state machines over random libraries, large and
+small sources, nets that many pins read, and the layouts that it writes, read again: extracted, compared with a second drawing, and run
+beside their sources. Of a state machine a layout is run beside the walk too: from the codes of states, and behind a reset from any
+contents. Of each netlist driven.py says which buffers and drives it has to have.
+"""
+
+import random
+import re
+from typing import NamedTuple
+
+from acceptance import cells
+from acceptance.makers.random_sources import Maker, changed
+from acceptance.makers.random_sources import WORDS as SOURCE_WORDS
+from acceptance.makers.random_states import StateMaker
+from acceptance.makers.random_wide import WideMaker, with_drives
+from acceptance.meaning import diagrams, extraction, layout
+from acceptance.meaning.mapping import CHOICE, MOST_SIZE, machine_size
+from acceptance.meaning.state_codes import code_lines
+from acceptance.meaning.state_machine import machine_of as equations_of
+from acceptance.meaning.state_walk import StateMachine
+from acceptance.readers import ap, catal, cellcheck, models
+from acceptance.readers.fsm_oracle import state_machine
+from acceptance.readers.models import IN, Refusal, first_missing
+from acceptance.readers.pat_oracle import machine_of
+from acceptance.readers.vbe_oracle import FILE, Machine, Ring
+from acceptance.readers.vhdl_reader import SUPPLIES, Refused, spelled
+from acceptance.readers.vst import Netlist
+from acceptance.readers.words import TOOLS_LINE, command, held, of_folder, trouble
+from acceptance.running.case_file import Case
+from acceptance.running.places import CELLS, EXAMPLES, ROWS
+from acceptance.running.results import Room, compare, run_in, shown
+from acceptance.tools import driven
+from acceptance.tools.answers import agrees as same_answer
+from acceptance.tools.answers import refusal
+from acceptance.tools.boog import differs_from, of_cells, order_faults
+from acceptance.tools.boom import MOST_NODES, NODES, inner_size
+from acceptance.tools.syf import STYLES, behaviour_faults, codes_of, style_of
+
+ROW = ROWS / "flow-layouts/one-inverter.txt"
+USAGE = "usage: alliance flow SOURCE.vbe|.fsm -l DIR -o NAME [-e o|r|j] --tracks [--rows 1..256] [--metals 4..6] [--seed 0..4294967295] [--moves 0..1000000] [--nodes 1..4000000] [--fanout 4..1000000]\n"
+FIVE = ["inv_x1", "na2_x1", "zero_x0", "one_x0", "sff1_x4"]
+MORE = ["inv_x8", "na3_x1", "sff1_x8", "xr2_x1", "mx2_x2", "buf_x2"]
+WORDS = ["flow", "s.vbe", "-l", "lib", "-o", "r", "--tracks"]
+BOUNDS = {"--rows": (1, 256), "--metals": (4, 6), "--moves": (0, 1000000), "--fanout": (4, 1000000), "--nodes": (1, MOST_NODES)}
+OPTIONS = {"-l": "", "-o": "", "-e": "", "--seed": ""} | dict.fromkeys(BOUNDS, "")
+FANOUT = 32
+# the lines of the report that go by the optimised source: which one comes out is open
+OPEN = ("cells", "nets", "delay", "length")
+MACHINES, STATE_MACHINES, WIDE, CHUNK = 200, 30, 36, 20
+
+
+# ---- the second answer
+
+
+class Flow(NamedTuple):
+    source: str
+    folder: str
+    out: str
+    nodes: int
+    fanout: int
+    style: tuple
+
+
+def parsed(words):
+    """The command, or None. A value doesn't begin with a hyphen, so `--tracks` is none."""
+    at = [k for k, word in enumerate(words) if word == "--tracks"]
+    if len(at) != 1 or words[at[0] - 1] in OPTIONS:
+        return None
+    found = command([word for word in words if word != "--tracks"], (".vbe", ".fsm"), OPTIONS)
+    if not found or "-l" not in found[1] or "-o" not in found[1] or style_of(found[1]) is None:
+        return None
+    for option, (least, most) in BOUNDS.items():
+        number = found[1].get(option, str(least))
+        if not re.fullmatch("[0-9]{1,10}", number) or not least <= int(number) <= most:
+            return None
+    nodes, fanout = int(found[1].get("--nodes", NODES)), int(found[1].get("--fanout", FANOUT))
+    return Flow(found[0], found[1]["-l"], found[1]["-o"], nodes, fanout, style_of(found[1]))
+
+
+class Source(NamedTuple):
+    """The machine, the lines of the report on what its registers hold, and of a state machine that and its codes."""
+
+    machine: Machine
+    held: list
+    states: StateMachine | None = None
+    codes: list | None = None
+
+
+def source_of(found, files):
+    text = held(files, found.source)
+    if found.source.endswith(".vbe"):
+        m = machine_of(text)
+        return Source(m, [f"register q{k} {spelled(bit)}" for k, bit in enumerate(sorted(m.registers))])
+    states = state_machine(text)
+    made = codes_of(states, found.style)
+    return Source(equations_of(states, made, found.style[0] == "o"), code_lines(states.states, made).splitlines(), states, made)
+
+
+def names_read(files, folder):
+    """The cells that CATAL uses, once all their files are there; or Refusal."""
+    of_dir = of_folder(files, folder)
+    try:
+        names = catal.cells(cellcheck.had(of_dir, "CATAL"))
+        for name in names:
+            cellcheck.had(of_dir, f"{name}.vbe")
+            cellcheck.had(of_dir, f"{name}.ap")
+    except ap.Refused as refused:
+        raise models.refusal(folder, str(refused)) from None
+
+
+def checked(files, folder):
+    try:
+        return cellcheck.cells(of_folder(files, folder), True)
+    except ap.Refused as refused:
+        raise models.refusal(folder, str(refused)) from None
+
+
+def of_files(found, files):
+    """The status and the text without its word; (0, the lines of the report, and the most cells) where it is laid out."""
+    names_read(files, found.folder)
+    source = source_of(found, files)
+    m = source.machine
+    size = machine_size(m)
+    if size > MOST_SIZE:
+        return 9, f"flow: limit: size {size}\n"
+    checked(files, found.folder)
+    kind = first_missing(models.library(files, found.folder), bool(m.registers))
+    if kind:
+        return 4, f"flow: no cover: {kind}\n"
+    name = diagrams.first_over(m, found.nodes)
+    return (0, (lines_of(source), most_instances(m))) if name is None else (5, f"flow: budget: {spelled(name)} {found.nodes + 1}\n")
+
+
+def most_gates(m):
+    """The most gates of a layout but for buffers: the size of the source and 2, where its inner signals count no more than four times the
+    nodes of its roots."""
+    inner = inner_size(m)
+    return machine_size(m) - inner + min(inner, CHOICE * sum(s.dag for s in diagrams.sizes(m))) + 2
+
+
+def most_instances(m):
+    """With registers and buffers: there are no more buffers than inputs of gates and registers."""
+    return 3 * most_gates(m) + 2 * len(m.registers)
+
+
+def lines_of(source):
+    """The lines of the report, of those that are open the first word alone."""
+    m = source.machine
+    return [f"source {m.name}", *source.held, f"size {machine_size(m)}", f"nodes {diagrams.greatest(m)}", *OPEN, "breaches 0", "accepted"]
+
+
+def second(words, files):
+    """What the second readers say of a command over files: (status, text), or (2, Ring) where any of some rings may be named. Of a layout it
+    is (0, the lines of its report, and the most cells)."""
+    found = parsed(words)
+    if found is None:
+        return 1, USAGE
+    refused = trouble(files, found.source, FILE)
+    if refused:
+        return refused[0], f"flow: {refused[1]}\n"
+    try:
+        return of_files(found, files)
+    except Refusal as refused:
+        return refused.status, f"flow: {refused.line}\n"
+    except Ring as ring:
+        return 2, ring
+    except Refused as refused:
+        return refusal("flow", found.source, str(refused))
+
+
+def agrees(got, wanted):
+    if wanted[0] != 0:
+        return same_answer(got, wanted)
+    lines, (lines_wanted, most) = bytes(got[1]).decode(errors="replace").split("\n"), wanted[1]
+    told = [re.fullmatch(f"({'|'.join(OPEN)}) (0|[1-9][0-9]*)", line) for line in lines]
+    cells_told = [int(found[2]) for found in told if found and found[1] == "cells"]
+    known = [found[1] if found else line for found, line in zip(told, lines)]
+    return got[0] == 0 and known == [*lines_wanted, ""] and cells_told[0] <= most
+
+
+# ---- the layout that is written
+
+
+def read_again(words, files, text):
+    """The netlist that a layout gives, and its rectangles."""
+    folder = parsed(words).folder
+    figure = ap.read(text)
+    flat = extraction.flat_of(figure, checked(files, folder))
+    n = extraction.extracted(figure, flat, models.library(files, folder))
+    return Netlist(n.name, n.all_ports, n.instances), flat
+
+
+def netlist_faults(m, of_name, n, fanout):
+    """What isn't as it has to be in the netlist of a layout of a machine, but how it behaves."""
+    if n.name != m.name:
+        yield f"the name {n.name}"
+    if n.all_ports != {**m.ports, **{(supply, -1): IN for supply in SUPPLIES}}:
+        yield "the ports"
+    if n.clock != ((m.clock, -1) if m.registers else None):
+        yield f"the clock {n.clock}"
+    plain = [i for i in n.instances if not driven.is_buffer(i)]
+    if len(plain) > len(m.registers) + most_gates(m):
+        yield f"{len(plain)} registers and gates, and not {most_gates(m)} gates at most"
+    if any(i.model.kind is None for i in plain):
+        yield "a cell of no kind"
+        return
+    found = list(driven.faults(n, of_name, fanout))
+    yield from found or order_faults(driven.unbuffered(n, of_name), len(m.registers))
+
+
+def walk_faults(source, n, choose):
+    """Where the netlist of a layout doesn't do what the state machine does; instance qk holds bit k of the code."""
+
+    def settled(inputs, contents):
+        env = n.settle({**inputs, (source.states.clock, -1): 0}, dict(zip(n.registers, contents)))
+        return {bit: env[bit] for bit in source.states.outputs}, list(n.load(env).values())
+
+    return behaviour_faults(source.states, source.codes, n.registers, settled, choose)
+
+
+def written_faults(words, files, text):
+    """What is wrong with the layout that a command wrote, or nothing."""
+    found = parsed(words)
+    source, of_name, cells_found = source_of(found, files), models.library(files, found.folder), checked(files, found.folder)
+    m = source.machine
+    try:
+        n, flat = read_again(words, files, text)
+    except (ap.Refused, extraction.Refused, Refused) as refused:
+        return [f"it is refused: {refused}"]
+    faults = list(netlist_faults(m, of_name, n, found.fanout))
+    breaches = flat.breaches()
+    if breaches:
+        faults.append(f"{breaches} rules are broken")
+    wanted = layout.drawn(n, cells_found).encode()
+    if wanted != text:
+        lines = list(zip(text.split(b"\n"), wanted.split(b"\n")))
+        at = next((k for k, pair in enumerate(lines) if pair[0] != pair[1]), len(lines))
+        faults.append(f"line {at + 1} is {lines[at : at + 1]}")
+    if not faults and differs_from(m, n, random.Random(len(text))):
+        faults.append("it behaves otherwise")
+    if not faults and source.states:
+        faults += walk_faults(source, n, random.Random(len(text)))
+    return faults
+
+
+def writes(words, files):
+    """The file that a command writes, with the check of its text."""
+    return f"{parsed(words).out}.ap", lambda text: written_faults(words, files, text)
+
+
+# ---- what is run
+
+
+def run_laid_out(results, room, program, title, files, words=WORDS):
+    """Runs flow; where it succeeds its layout is read again, and the report that it printed is the one on that layout."""
+    wanted, source = second(words, files), files[words[1]]
+    room.write(files)
+    got = room.run(program, words)
+    results.note(title, agrees(got, wanted), f"{words} came to {shown(*got)}, wanted {wanted} for {source[:2000]!r}")
+    if got[0] or wanted[0]:
+        results.note(f"{title}: files behind a refusal", room.held() == files, "a file changed")
+        return
+    check_laid_out(results, title, words, files, room.held().get("r.ap") or b"", got[1])
+
+
+def check_laid_out(results, title, words, files, text, printed):
+    """The layout that a command wrote, and that the report is the one on it."""
+    source = files[words[1]]
+    faults = written_faults(words, files, text)
+    results.note(f"{title}: the layout", not faults, f"{faults} of {words} in {text[:3000]!r} for {source[:2000]!r}")
+    if not faults:
+        n, _ = read_again(words, files, text)
+        found = source_of(parsed(words), files)
+        report = layout.report(found.machine, found.held, n, checked(files, parsed(words).folder))
+        results.note(f"{title}: the report", bytes(printed) == report.encode(), f"{bytes(printed)!r} is not {report!r}")
+
+
+def random_files(choose):
+    """A library that mostly has a cell of each kind, in any order, now and then with made drives of some, and sometimes a file that is
+    spoilt."""
+    names = [name for name in FIVE if choose.random() < 0.97]
+    names += choose.sample(MORE, choose.randrange(3))
+    choose.shuffle(names)
+    files = with_drives(choose, names) if choose.random() < 0.3 else of_cells(names)
+    if choose.random() < 0.05:
+        cells.spoil(choose, files)
+    return files
+
+
+def words_within(fanout):
+    return [*WORDS, "--fanout", str(fanout)] if fanout else WORDS
+
+
+def check_machines(results, program, seed, numbers):
+    for number in numbers:
+        choose = random.Random(f"{seed} flow {number}")
+        source = Maker(choose).source()
+        source = changed(choose, source, SOURCE_WORDS) if choose.random() < 0.2 else source
+        with Room() as room:
+            files = {**random_files(choose), "s.vbe": source.encode()}
+            run_laid_out(results, room, program, "a random source and library", files, words_within(choose.choice([None, 4, 4, 5])))
+
+
+def words_by(choose):
+    style = ["-e", choose.choice(STYLES), "--seed", str(choose.choice([0, choose.randrange(2**32)]))]
+    return ["flow", "s.fsm", *words_within(choose.choice([None, 4]))[2:], *style]
+
+
+def check_states(results, program, seed, numbers):
+    for number in numbers:
+        choose = random.Random(f"{seed} flow states {number}")
+        files = {**random_files(choose), "s.fsm": StateMaker(choose).source().encode()}
+        with Room() as room:
+            run_laid_out(results, room, program, "a random state machine and library", files, words_by(choose))
+
+
+def check_wide(results, program, seed, numbers):
+    """Nets that 5, 40 and 300 pins read, each with the fan-outs 4, 8 and 33, over libraries with and without a buffer and more drives."""
+    for number in numbers:
+        choose = random.Random(f"{seed} flow wide {number}")
+        readers, fanout = (5, 40, 300)[number % 3], (4, 8, 33)[number // 3 % 3]
+        names = [*FIVE, *choose.sample(["buf_x2", "buf_x4", "inv_x2", "inv_x4", "inv_x8", "sff1_x8"], choose.randrange(5))]
+        choose.shuffle(names)
+        library = with_drives(choose, names) if choose.random() < 0.5 else of_cells(names)
+        files = {**library, "s.vbe": WideMaker(choose, readers).source().encode()}
+        with Room() as room:
+            run_laid_out(results, room, program, f"{readers} readers with {fanout}", files, words_within(fanout))
+
+
+def chain(signals):
+    """Each signal is the inverse of the one before it, and an output."""
+    names = ["i", *(f"s{k}" for k in range(signals))]
+    declared = "".join(f"signal {name} : bit;\n" for name in names[1:])
+    body = "".join(f"{name} <= not {before};\n" for before, name in zip(names, names[1:]))
+    head = "entity chain is port (i : in bit; o : out bit; vdd : in bit; vss : in bit); end chain;\narchitecture vbe of chain is\n"
+    return f"{head}{declared}begin\n{body}o <= {names[-1]};\nend vbe;\n".encode()
+
+
+def check_chain(results, program, signals):
+    """At the limit of size, and one past it."""
+    with Room() as room:
+        run_laid_out(results, room, program, f"a chain of {signals}", {**of_cells(FIVE), "s.vbe": chain(signals)})
+
+
+def check_ports(results, program, bits):
+    """At the limit of port bits, and one past it."""
+    head = f"entity wide is port (i : in bit_vector ({bits - 2} downto 0); o : out bit; vdd : in bit; vss : in bit); end wide;\n"
+    source = f"{head}architecture vbe of wide is begin\no <= not i(0);\nend vbe;\n".encode()
+    with Room() as room:
+        run_laid_out(results, room, program, f"{bits} port bits", {**of_cells(FIVE), "s.vbe": source})
+
+
+def check_examples(results, program):
+    for path in sorted(EXAMPLES.glob("*/*.vbe")):
+        for names in (FIVE, [line.split()[0] for line in (CELLS / "CATAL").read_text().splitlines()]):
+            with Room() as room:
+                files = {**of_cells(names), "s.vbe": path.read_bytes()}
+                for fanout in (None, 4):
+                    run_laid_out(results, room, program, f"the example {path.name}", files, words_within(fanout))
+    for path in sorted(EXAMPLES.glob("*/*.fsm")):
+        for style in STYLES:
+            with Room() as room:
+                files = {**of_cells(FIVE), "s.fsm": path.read_bytes()}
+                run_laid_out(results, room, program, f"the example {path.name}", files, ["flow", "s.fsm", *WORDS[2:], "-e", style])
+
+
+def check_words(results, program):
+    case = Case(ROW)
+    words = case.words[0]
+    with Room() as room:
+        room.write(case.before)
+        status, printed = room.run(program, ["flow", "row1.vbe", "-l", f"{room.folder}/lib", "-o", f"{room.folder}/out", "--tracks"])
+        compare(results, "flow with paths from the root", (status, printed, room.held()), 0, case.printed, {**case.before, **case.after})
+    rows = [
+        ("a word of flow that is no text", case.before, ["flow", b"\xff.vbe", *words[2:]], 1, TOOLS_LINE.encode()),
+        ("a source of 3000000 bytes", {**case.before, "row1.vbe": bytes(3000000)}, words, 9, b"flow: limit: file 1048577\n"),
+        ("an output in a folder that isn't there", case.before, ["flow", "row1.vbe", "-l", "lib", "-o", "nowhere/out", "--tracks"], 7,
+         b"flow: file: write fault nowhere/out.ap\n"),
+    ]
+    for title, files, given, status, line in rows:
+        compare(results, title, run_in(files, program, given), status, line, files)
+
+
+def jobs(program, seed, times):
+    yield check_chain, (program, 16382)
+    yield check_chain, (program, 16383)
+    yield check_ports, (program, 4096)
+    yield check_ports, (program, 4097)
+    numbers = range(MACHINES * times)
+    for at in range(0, len(numbers), CHUNK):
+        yield check_machines, (program, seed, numbers[at : at + CHUNK])
+    numbers = range(STATE_MACHINES * times)
+    for at in range(0, len(numbers), CHUNK):
+        yield check_states, (program, seed, numbers[at : at + CHUNK])
+    for number in range(WIDE * times):
+        yield check_wide, (program, seed, [number])
+    yield check_examples, (program,)
+    yield check_words, (program,)

@@ -1,0 +1,71 @@
+"""The tools, each with its second reader and the checks of its own.
+
+A tool that comes gets a line here. `second` answers words over files as (status, printed text), or None where it has no
+answer; `agrees` says whether an answer (status, printed bytes) is that; `jobs` gives the checks that no case has. Where the
+spelling of the file that a tool writes is open, `writes` gives for words over files its name, and a function from its bytes
+to what is wrong with them.
+"""
+
+from typing import Callable, NamedTuple
+
+from acceptance.tools import (
+    answers,
+    asimut,
+    boog,
+    boom,
+    checked_layouts,
+    checking_orders,
+    cougar,
+    druc,
+    flatbeh,
+    flow,
+    flow_limits,
+    gen,
+    loon,
+    lvx,
+    net_jobs,
+    proof,
+    syf,
+)
+
+
+class Tool(NamedTuple):
+    second: Callable
+    agrees: Callable
+    jobs: Callable
+    writes: Callable | None = None
+
+
+def asimut_jobs(program, seed, times):
+    """Netlists, which take the longest, and then sources."""
+    yield from net_jobs.jobs(program, seed, times)
+    yield from asimut.jobs(program, seed, times)
+
+
+def flow_jobs(program, seed, times):
+    """Limits and orders, and then sources."""
+    yield from flow_limits.jobs(program)
+    yield from flow.jobs(program, seed, times)
+
+
+def lvx_jobs(program, seed, times):
+    """Layouts that all four tools check, which take the longest, the orders of their refusals, and then netlists."""
+    yield from checked_layouts.jobs(program, seed, times)
+    yield from checking_orders.jobs(program)
+    yield from lvx.jobs(program, seed, times)
+
+
+TOOLS = {
+    "asimut": Tool(asimut.second, answers.agrees, asimut_jobs),
+    "boom": Tool(boom.second, boom.agrees, boom.jobs, boom.writes),
+    "boog": Tool(boog.second, answers.agrees, boog.jobs, boog.writes),
+    "cougar": Tool(cougar.second, answers.agrees, cougar.jobs, cougar.writes),
+    "flow": Tool(flow.second, flow.agrees, flow_jobs, flow.writes),
+    "gen": Tool(gen.second, gen.agrees, gen.jobs, gen.writes),
+    "loon": Tool(loon.second, loon.agrees, loon.jobs, loon.writes),
+    "lvx": Tool(lvx.second, lvx.agrees, lvx_jobs),
+    "druc": Tool(druc.second, answers.agrees, druc.jobs),
+    "proof": Tool(proof.second, proof.agrees, proof.jobs),
+    "flatbeh": Tool(flatbeh.second, flatbeh.agrees, flatbeh.jobs, flatbeh.writes),
+    "syf": Tool(syf.second, answers.agrees, syf.jobs, syf.writes),
+}

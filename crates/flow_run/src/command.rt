@@ -1,0 +1,35 @@
+// The commands of all tools.
+ghost use Rattle.std.specs.Prelude.{◌≡◌, Some, None, IfOk, IsErrOf};
+ghost use Rattle.tool_words.specs.declared.words.WordsError.TheVariants.{Usage};
+ghost use Rattle.flow_run.specs.Commands.{command_of};
+
+use flow_words::{FlowCommand, GenCommand, read_flow, read_gen};
+use std::alloc::Global;
+use tool_run::{Command as ToolCommand, read_command};
+use tool_words::{Words, WordsError, is_same};
+
+/// What the words of a command ask for.
+#[derive(Drop)]
+pub enum Command {
+    Flow(FlowCommand),
+    Gen(GenCommand),
+    Tool(ToolCommand),
+}
+
+/// Takes words apart: the tool's word, and then what its entry has. `Usage` exactly where the words are nothing of this form. It reads
+/// no file, and takes memory for what it reads and answers.
+pub fn read_words(alloc: Global, words: &Words) -> Result<Command, WordsError>
+    ensures ok { IfOk result (λ command. command_of words.now ≡ Some command) }
+    ensures usage { IsErrOf result Usage → command_of words.now ≡ None }
+{
+    let Some((tool, rest)) = words.as_slice().split_first() else {
+        return Err(WordsError::Usage);
+    };
+    if is_same(b"flow", tool.as_bytes()) {
+        return Ok(Command::Flow(read_flow(alloc, rest)?));
+    }
+    if is_same(b"gen", tool.as_bytes()) {
+        return Ok(Command::Gen(read_gen(alloc, rest)?));
+    }
+    Ok(Command::Tool(read_command(alloc, words)?))
+}

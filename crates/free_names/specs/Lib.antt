@@ -1,3 +1,0 @@
-pub mod Free
-pub mod Known
-pub mod Laws

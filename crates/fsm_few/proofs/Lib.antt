@@ -1,4 +1,0 @@
-mod Signals
-mod Counted
-pub mod Codes
-mod Few

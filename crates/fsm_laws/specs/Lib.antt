@@ -1,0 +1,3 @@
+pub mod FewSignals
+pub mod EachText
+pub mod Writable

@@ -1,0 +1,9 @@
+pub mod Layout
+pub mod Written
+pub mod Writable
+pub mod Pieces
+pub mod Placed
+pub mod Nesting
+pub mod Said
+pub mod Again
+pub mod Spelled

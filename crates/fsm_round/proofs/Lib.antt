@@ -1,9 +1,0 @@
-pub mod Known
-pub mod Expressions
-pub mod Body
-pub mod Quiet
-pub mod States
-pub mod Assigned
-pub mod Clock
-pub mod Names
-pub mod Reading

@@ -1,4 +1,0 @@
-pub mod Plain
-pub mod States
-pub mod Writing
-pub mod One

@@ -1,3 +1,0 @@
-pub mod Registers
-pub mod Sources
-pub mod Writing

@@ -1,4 +1,0 @@
-pub mod Layout
-pub mod Written
-pub mod Writable
-pub mod Pieces

@@ -1,0 +1,4 @@
+pub mod Grid
+pub mod Numbers
+pub mod Owners
+pub mod Routes

@@ -1,7 +1,0 @@
-mod Steps
-mod Texts
-mod Functions
-mod Checks
-mod Cells
-mod Refusals
-mod Libraries

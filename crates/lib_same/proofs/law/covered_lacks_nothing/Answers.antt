@@ -1,5 +1,0 @@
-use Rattle.lib_same.proofs.Libraries.{lacks_nothing}
-use Rattle.lib_same.proofs.law.covered_lacks_nothing.Goals as goal
-
-pub returns : goal.returns
-returns c = lacks_nothing c.machines_are_the_same.ensures.parts c.libraries_are_same.ensures.covers

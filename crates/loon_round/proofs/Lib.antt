@@ -1,4 +1,0 @@
-mod Tied
-mod Passes
-mod Meets
-mod Again

@@ -1,0 +1,9 @@
+// What is true of machines that are alike.
+ghost use Rattle.machine_core.specs.Alike.{AlikeRun, AlikeBothWays, AlikeItself};
+
+/// Machines that are alike have the same runs. It costs nothing when it is called.
+pub fn alike_law()
+    ensures runs { AlikeRun }
+    ensures both_ways { AlikeBothWays }
+    ensures itself { AlikeItself }
+{}

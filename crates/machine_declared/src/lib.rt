@@ -1,2 +1,0 @@
-//! Machines that an entity of a text can declare, in `specs/`.
-#![tactic(auto)]

@@ -1,0 +1,257 @@
+-- Why a search by levels finds the least cost, and finds that there is no path.
+use Rattle.std.proofs.Common.{ℕ, zero, suc, ◌≡◌, ◌≢◌, ◌+◌, ◌-◌, ◌<◌, ◌≤◌, ◌⊎◌, inl, inr, List, [], ◌∷◌, length, get_or, set, Some, slice_index, arith, sym, ◌∙◌, ap, refl, get_or-set_same, get_or-set_other, length-set, add-one}
+use Rattle.std.proofs.lemmas.Bool.{cases_lt, cases_eq}
+use Rattle.grid_core.specs.declared.grid.Grid.{Grid}
+use Rattle.nero_maze.specs.Ways.{next, weight, opposite}
+use Rattle.nero_maze.specs.Search.{IsFree, LeadsTo, NoneBelow, Trace, Kept, Grown, Reached, zeros}
+
+-- What the search knows before level d: entries below `a` are settled for good, those of a..b, b..c and c..n cost d-3, d-2 and d-1.
+abbrev pub IsAtLevel : ℕ → ℕ → ℕ → ℕ → ℕ → ℕ → Type 0
+IsAtLevel a b c d i e =
+    ((i < a) × (e + 4 ≤ d)) ⊎ (((a ≤ i) × (i < b) × (e + 3 ≡ d)) ⊎ (((b ≤ i) × (i < c) × (e + 2 ≡ d)) ⊎ ((c ≤ i) × (e + 1 ≡ d))))
+
+pub record Settled (g : Grid) (owners : List ℕ) (net target : ℕ) (marks : List ℕ) (a b c d i v : ℕ) : Type 0 where
+  pub cost : ℕ
+  pub back : List ℕ
+  pub trace : Trace g owners net marks target v back cost
+  pub size : length back ≤ i
+  pub least : NoneBelow g owners net target v cost
+  pub level : IsAtLevel a b c d i cost
+
+-- each path of a cost below d ends at a marked node
+abbrev pub AllMarked : Grid → List ℕ → ℕ → ℕ → List ℕ → ℕ → Type 0
+AllMarked g owners net target marks d =
+    (v : ℕ) (back : List ℕ) (e : ℕ) → LeadsTo g owners net target v back e → e < d → slice_index marks v ≢ 0
+
+pub zeros-set : (xs : List ℕ) (i x : ℕ) → get_or xs i 0 ≡ 0 → i < length xs → zeros (set xs i (suc x)) + 1 ≡ zeros xs
+zeros-set [] i x e h = omega arith
+zeros-set (zero ∷ xs) zero x e h = omega arith
+zeros-set (suc y ∷ xs) zero x e h = omega arith
+zeros-set (zero ∷ xs) (suc i) x e h =
+    let h' : i < length xs = omega arith in
+    let r = zeros-set xs i x e h' in omega arith
+zeros-set (suc y ∷ xs) (suc i) x e h =
+    let h' : i < length xs = omega arith in zeros-set xs i x e h'
+
+pub weight_step : (k : ℕ) → k < 2 → weight k ≡ 1
+weight_step zero h = refl
+weight_step (suc zero) h = refl
+weight_step (suc (suc k)) h = omega arith
+
+pub weight_via : (k : ℕ) → 2 ≤ k → weight k ≡ 3
+weight_via zero h = omega arith
+weight_via (suc zero) h = omega arith
+weight_via (suc (suc k)) h = refl
+
+pub weight_most : (k : ℕ) → weight k ≤ 3
+weight_most zero = omega arith
+weight_most (suc zero) = omega arith
+weight_most (suc (suc k)) = omega arith
+
+-- a trace leads to the target, and marks that stay keep it
+pub leads-trace : (g : Grid) (owners : List ℕ) (net target : ℕ) (marks : List ℕ)
+    (v : ℕ) (back : List ℕ) (c : ℕ) → Trace g owners net marks target v back c → LeadsTo g owners net target v back c
+leads-trace g o n z m v [] c t = (t.1, t.2)
+leads-trace g o n z m v (u ∷ back) c (free, (k, below, is, _, _, (b, t, e))) =
+    (free, (k, below, is, (b, leads-trace g o n z m u back b t, e)))
+
+pub Trace-more : (g : Grid) (owners : List ℕ) (net target : ℕ) (marks marks' : List ℕ)
+    → ((v : ℕ) → slice_index marks v ≢ 0 → slice_index marks' v ≡ slice_index marks v)
+    → (v : ℕ) (back : List ℕ) (c : ℕ) → Trace g owners net marks target v back c → Trace g owners net marks' target v back c
+Trace-more g o n z m m' f v [] c t =
+    let t0 = t.0 in
+    let ne : slice_index m v ≢ 0 = omega arith in (f v ne ∙ t0, t.1, t.2)
+Trace-more g o n z m m' f v (u ∷ back) c (free, (k, below, is, mark, from, (b, t, e))) =
+    let ne : slice_index m v ≢ 0 = omega arith in
+    (free, (k, below, is, f v ne ∙ mark, from, (b, Trace-more g o n z m m' f u back b t, e)))
+
+-- where no entry is left to go on from, each path ends at a marked node
+pub closed : (g : Grid) (owners : List ℕ) (net target : ℕ) (order marks : List ℕ) (a b c d n : ℕ)
+    → 1 ≤ d → n ≤ a → a ≤ b → b ≤ c
+    → ((v : ℕ) → slice_index marks v ≢ 0 → (i : ℕ) × (i < n) × (slice_index order i ≡ v))
+    → ((i : ℕ) → i < n → Settled g owners net target marks a b c d i (slice_index order i))
+    → AllMarked g owners net target marks d
+    → (v : ℕ) (back : List ℕ) (e : ℕ) → LeadsTo g owners net target v back e → slice_index marks v ≢ 0
+closed g o t s ord m a b c d n d1 na ab bc found settled all v [] e p =
+    let small : e < d = let z = p.1 in omega arith in all v [] e p small
+closed g o t s ord m a b c d n d1 na ab bc found settled all v (u ∷ back) e (free, (k, below, is, (f, p, _))) =
+    let mu = closed g o t s ord m a b c d n d1 na ab bc found settled all u back f p in
+    let at = found u mu in
+    let set_i = settled at.0 at.1 in
+    let i = at.0 in
+    let lt = at.1 in
+    let x = set_i.cost in
+    let small : x + 4 ≤ d =
+    elim set_i.level [ inl h ↦ h.1 | inr (inl h) ↦ (let h0 = h.0 in let h1 = h.1 in omega arith) | inr (inr (inl h)) ↦ (let h0 = h.0 in omega arith) | inr (inr (inr h)) ↦ (let h0 = h.0 in omega arith) ] in
+    let w = weight_most k in
+    let less : x + weight k < d = omega arith in
+    let path_u = leads-trace g o t s m (slice_index ord i) set_i.back x set_i.trace in
+    let is' : next g (slice_index ord i) k ≡ Some v = rw at.2 is in
+    all v (slice_index ord i ∷ set_i.back) (x + weight k) (free, (k, below, is', (x, path_u, refl))) less
+
+-- a marked node stays marked
+pub mark_stays : (g : Grid) (o : List ℕ) (t from to low high : ℕ) (ord m : List ℕ) (n : ℕ) (ord' m' : List ℕ) (n' : ℕ)
+    → Grown g o t from to low high ord m n ord' m' n' → (v : ℕ) → slice_index m v ≢ 0 → slice_index m' v ≢ 0
+mark_stays g o t from to low high ord m n ord' m' n' h v ne = let e = h.stays v ne in omega arith
+
+pub unmarked_before : (g : Grid) (o : List ℕ) (t from to low high : ℕ) (ord m : List ℕ) (n : ℕ) (ord' m' : List ℕ) (n' : ℕ)
+    → Grown g o t from to low high ord m n ord' m' n' → (v : ℕ) → slice_index m' v ≡ 0 → slice_index m v ≡ 0
+unmarked_before g o t from to low high ord m n ord' m' n' h v z =
+    elim (cases_eq (slice_index m v) 0) [ inl e ↦ e | inr ne ↦ (let e = mark_stays g o t from to low high ord m n ord' m' n' h v ne in absurd (e z)) ]
+
+-- how an entry was reached is told by later arrays too
+pub Reached-more : (g : Grid) (o : List ℕ) (t from to low high f' t' l' h' : ℕ) (ord m : List ℕ) (n : ℕ) (ord' m' : List ℕ) (n' : ℕ)
+    → Grown g o t f' t' l' h' ord m n ord' m' n' → (i : ℕ) → i < n
+    → Reached g o t ord m from to low high i → Reached g o t ord' m' from to low high i
+Reached-more g o t from to low high f' t' l' h' ord m n ord' m' n' grown i lt (j, fj, jt, ji, (k, lk, kh, mark, is, from_is, free)) =
+    let jn : j < n = omega arith in
+    let ei = grown.prefix i lt in
+    let ej = grown.prefix j jn in
+    let ne : slice_index m (slice_index ord i) ≢ 0 = omega arith in
+    let em = grown.stays (slice_index ord i) ne in
+    (j, fj, jt, ji, (k, lk, kh, rw ei (em ∙ mark), rw (ei, ej) is, rw (ei, ej) from_is, rw ei free))
+
+pub Grown-step : (g : Grid) (o : List ℕ) (t from to low high j k : ℕ) (ord m : List ℕ) (n : ℕ) (ord1 m1 : List ℕ) (n1 : ℕ) (ord2 m2 : List ℕ) (n2 : ℕ)
+    → Grown g o t from to low high ord m n ord1 m1 n1 → Grown g o t j (j + 1) k (k + 1) ord1 m1 n1 ord2 m2 n2
+    → from ≤ j → j < to → low ≤ k → k < high → Grown g o t from to low high ord m n ord2 m2 n2
+Grown-step g o t from to low high j k ord m n ord1 m1 n1 ord2 m2 n2 h h2 fj jt lk kh =
+    let more1 = h.more in
+    let more2 = h2.more in
+    record {
+      more = omega arith;
+      size = h2.size ∙ h.size;
+      prefix = λ i lt. let lt1 : i < n1 = omega arith in h2.prefix i lt1 ∙ h.prefix i lt;
+      stays = λ v ne. h2.stays v (mark_stays g o t from to low high ord m n ord1 m1 n1 h v ne) ∙ h.stays v ne;
+      fresh = λ i ni lt. elim (cases_lt i n1) [
+        | inl l1 ↦ rw (h2.prefix i l1) (h.fresh i ni l1)
+        | inr g1 ↦ unmarked_before g o t from to low high ord m n ord1 m1 n1 h (slice_index ord2 i) (h2.fresh i g1 lt)
+      ];
+      reached = λ i ni lt. elim (cases_lt i n1) [
+        | inl l1 ↦ Reached-more g o t from to low high j (j + 1) k (k + 1) ord1 m1 n1 ord2 m2 n2 h2 i l1 (h.reached i ni l1)
+        | inr g1 ↦ (
+            let (j', a1, a2, a3, (k', b1, b2, mark, is, from_is, free)) = h2.reached i g1 lt in
+            (j', omega arith, omega arith, a3, (k', omega arith, omega arith, mark, is, from_is, free)))
+      ];
+    }
+
+-- nothing added
+pub Grown-none : (g : Grid) (o : List ℕ) (t from to low high : ℕ) (ord m : List ℕ) (n : ℕ) → Grown g o t from to low high ord m n ord m n
+Grown-none g o t from to low high ord m n =
+    record {
+      more = omega arith;
+      size = refl;
+      prefix = λ i lt. refl;
+      stays = λ v ne. refl;
+      fresh = λ i ni lt. (let no : ⊥ = omega arith in absurd no);
+      reached = λ i ni lt. (let no : ⊥ = omega arith in absurd no);
+    }
+
+-- one node more
+pub room : (ord m : List ℕ) (n to : ℕ) → Kept ord m n → to < length m → slice_index m to ≡ 0 → n < length m
+room ord m n to kept lt z =
+    let e = zeros-set m to 0 z lt in
+    let f = kept.full in omega arith
+
+pub Kept-more : (ord m : List ℕ) (n to way : ℕ) → Kept ord m n → to < length m → slice_index m to ≡ 0
+    → Kept (set ord n to) (set m to (way + 1)) (n + 1)
+Kept-more ord m n to way kept lt z =
+    let len = kept.same in
+    let n_lt : n < length ord = let r = room ord m n to kept lt z in omega arith in
+    let same_n = get_or-set_same ord n to 0 n_lt in
+    let same_to = get_or-set_same m to (way + 1) 0 lt in
+    let len_m = length-set m to (way + 1) in
+    let len_o = length-set ord n to in
+    record {
+      same = len_o ∙ len ∙ sym len_m;
+      full = (let e = zeros-set m to way z lt in let f = kept.full in rw (len_m, add-one way) (omega arith));
+      listed = λ i below. elim (cases_eq i n) [
+        | inl e ↦ rw (len_m, e, same_n) lt
+        | inr ne ↦ (let below' : i < n = omega arith in rw (len_m, get_or-set_other ord n i to 0 ne) (kept.listed i below'))
+      ];
+      marked = λ i below. elim (cases_eq i n) [
+        | inl e ↦ rw (e, same_n, same_to) (omega arith)
+        | inr ne ↦ (let below' : i < n = omega arith in
+            let old = kept.marked i below' in
+            let other : get_or ord i 0 ≢ to = λ e. old (ap (λ x. slice_index m x) e ∙ z) in
+            rw (get_or-set_other ord n i to 0 ne, get_or-set_other m to (get_or ord i 0) (way + 1) 0 other) old)
+      ];
+      found = λ v ne. elim (cases_eq v to) [
+        | inl e ↦ (n, omega arith, same_n ∙ sym e)
+        | inr other ↦ (
+            let old : slice_index m v ≢ 0 = rw (get_or-set_other m to v (way + 1) 0 other) at ne in
+            let (i, below, at_i) = kept.found v old in
+            let ni : i ≢ n = omega arith in
+            (i, omega arith, get_or-set_other ord n i to 0 ni ∙ at_i))
+      ];
+    }
+
+pub Grown-one : (g : Grid) (o : List ℕ) (t at way : ℕ) (ord m : List ℕ) (n to : ℕ) → Kept ord m n
+    → at < n → to < length m → slice_index m to ≡ 0 → next g (slice_index ord at) way ≡ Some to
+    → next g to (opposite way) ≡ Some (slice_index ord at) → IsFree o t to
+    → Grown g o t at (at + 1) way (way + 1) ord m n (set ord n to) (set m to (way + 1)) (n + 1)
+Grown-one g o t at way ord m n to kept at_lt lt z is back free =
+    let len = kept.same in
+    let n_lt : n < length ord = let r = room ord m n to kept lt z in omega arith in
+    let same_n = get_or-set_same ord n to 0 n_lt in
+    let same_to = get_or-set_same m to (way + 1) 0 lt in
+    let at_ne : at ≢ n = omega arith in
+    let same_at = get_or-set_other ord n at to 0 at_ne in
+    record {
+      more = omega arith;
+      size = length-set m to (way + 1);
+      prefix = λ i below. let ne : i ≢ n = omega arith in get_or-set_other ord n i to 0 ne;
+      stays = λ v ne. let other : v ≢ to = (λ e. ne (ap (λ x. slice_index m x) e ∙ z)) in get_or-set_other m to v (way + 1) 0 other;
+      fresh = λ i ni below. let e : i ≡ n = omega arith in rw (e, same_n) z;
+      reached = λ i ni below. let e : i ≡ n = omega arith in (
+        at,
+        omega arith,
+        omega arith,
+        omega arith,
+        (
+          way,
+          omega arith,
+          omega arith,
+          rw (e, same_n) same_to,
+          rw (e, same_n, same_at) is,
+          rw (e, same_n, same_at) back,
+          rw (e, same_n) free,
+        ),
+      );
+    }
+
+-- where the walk goes from a node that is not the target
+pub trace_step : (g : Grid) (o : List ℕ) (t : ℕ) (m : List ℕ) (z v : ℕ) (rest : List ℕ) (c : ℕ) → Trace g o t m z v rest c → slice_index m v ≢ 5
+    → (u : ℕ) × (q : List ℕ) × (rest ≡ u ∷ q) × (1 ≤ slice_index m v) × (slice_index m v - 1 < 4)
+    × (next g v (opposite (slice_index m v - 1)) ≡ Some u) × (weight (slice_index m v - 1) ≤ c) × Trace g o t m z u q (c - weight (slice_index m v - 1))
+trace_step g o t m z v [] c tr ne = absurd (ne tr.0)
+trace_step g o t m z v (u ∷ q) c (free, (k, k4, is, mark, from_is, (b, tr, e))) ne =
+    let same : slice_index m v - 1 ≡ k = omega arith in
+    let left : c - weight k ≡ b = omega arith in
+    (u, q, refl, omega arith, omega arith, rw same from_is, rw same (omega arith), rw (same, left) tr)
+
+pub weight_least : (k : ℕ) → 1 ≤ weight k
+weight_least zero = omega arith
+weight_least (suc zero) = omega arith
+weight_least (suc (suc k)) = omega arith
+
+all_zero : (m : List ℕ) → ((v : ℕ) → get_or m v 0 ≡ 0) → zeros m ≡ length m
+all_zero [] h = refl
+all_zero (zero ∷ xs) h = ap suc (all_zero xs (λ v. h (suc v)))
+all_zero (suc x ∷ xs) h = let z = h 0 in let no : ⊥ = omega arith in absurd no
+
+pub Kept-none : (ord m : List ℕ) → length ord ≡ length m → ((v : ℕ) → get_or m v 0 ≡ 0) → Kept ord m 0
+Kept-none ord m same h =
+    let z = all_zero m h in
+    record {
+      same = same;
+      full = omega arith;
+      listed = λ i lt. omega arith;
+      marked = λ i lt. (let no : ⊥ = omega arith in absurd no);
+      found = λ v ne. absurd (ne (h v));
+    }
+
+-- what an index reads
+pub read_at : (xs : List ℕ) (i d : ℕ) → i < length xs → d ≡ get_or xs i d → slice_index xs i ≡ d
+read_at [] i d lt e = let impossible : ⊥ = omega arith in absurd impossible
+read_at (x ∷ xs) zero d lt e = sym e
+read_at (x ∷ xs) (suc i) d lt e = let lt' : i < length xs = omega arith in read_at xs i d lt' e

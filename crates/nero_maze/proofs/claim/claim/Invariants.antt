@@ -1,0 +1,8 @@
+use Rattle.nero_maze.proofs.Claiming.{Walk}
+use Rattle.nero_maze.proofs.claim.claim.Given as goal
+
+abbrev pub invariant-loop-node : goal.invariant-loop-node
+invariant-loop-node l = Walk l.net l.target l.fn.meeting.cost l.fn.room l.room l.marks l.node l.left l.joining
+
+abbrev pub decreases-loop-node : goal.decreases-loop-node
+decreases-loop-node l = l.left

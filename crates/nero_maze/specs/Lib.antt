@@ -1,0 +1,5 @@
+pub mod Ways
+pub mod Search
+pub mod Claims
+pub mod Routing
+pub mod Board

@@ -1,0 +1,47 @@
+-- What a router is seen as: who owns each node, and what it did.
+use Rattle.std.specs.Prelude.{ℕ, ◌≡◌, ◌⊎◌, List, [], ◌∷◌, Option, None, Some}
+use Rattle.vlsi_base.specs.Member.{In}
+use Rattle.grid_core.specs.declared.grid.Node.{Node}
+use Rattle.grid_core.specs.Grid.{cost, IsLeastPath}
+use Rattle.grid_core.specs.Owners.{Owners, IsFree, IsTaken}
+use Rattle.grid_core.specs.Routes.{Tree, tree_nodes, with_start, with_path}
+
+-- a net's tree began at a node, or it got a path
+pub data Move : Type 0 where
+  Began : ℕ → Node → Move
+  Joined : ℕ → List Node → Move
+
+-- the trees after these moves, of which the latest stands first
+abbrev pub routes_of : List Move → ℕ → Option Tree
+routes_of [] k = None
+routes_of (Began j q ∷ before) k = with_start (routes_of before) j q k
+routes_of (Joined j path ∷ before) k = with_path (routes_of before) j path k
+
+pub record Routing : Type 0 where
+  pub occupied : Owners
+  pub moves : List Move
+
+abbrev pub tree_of : Routing → ℕ → Option Tree
+tree_of r net = routes_of r.moves net
+
+-- the node is the first point of the tree, or the target of one of its paths
+abbrev pub IsPoint : Option Tree → Node → Type 0
+IsPoint None q = ⊥
+IsPoint (Some t) q = (t.start ≡ q) ⊎ ((rest : List Node) × In (q ∷ rest) t.paths)
+
+-- the router has these owners, and no net has a tree
+pub record IsBare (o : Owners) (r : Routing) : Type 0 where
+  pub occupied : r.occupied ≡ o
+  pub moves : r.moves ≡ []
+
+-- the net's tree began at the node
+pub record Begins (net : ℕ) (node : Node) (old new : Routing) : Type 0 where
+  pub moves : new.moves ≡ Began net node ∷ old.moves
+  pub taken : IsTaken old.occupied net (node ∷ []) new.occupied
+
+-- the net's tree got a least path to the target, over nodes that were free for it
+pub record Connects (net : ℕ) (target : Node) (total : ℕ) (old new : Routing) (path : List Node) : Type 0 where
+  pub least : IsLeastPath (IsFree old.occupied net) (tree_nodes (tree_of old net)) target path
+  pub costs : cost path ≡ total
+  pub moves : new.moves ≡ Joined net path ∷ old.moves
+  pub taken : IsTaken old.occupied net path new.occupied

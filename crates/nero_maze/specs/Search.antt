@@ -1,0 +1,84 @@
+-- What a search by levels knows of the nodes that it has reached.
+use Rattle.std.specs.Prelude.{ℕ, zero, suc, ◌≡◌, ◌≢◌, ◌+◌, ◌<◌, ◌≤◌, ◌⊎◌, List, [], ◌∷◌, length, Some, slice_index}
+use Rattle.grid_core.specs.declared.grid.Grid.{Grid}
+use Rattle.grid_core.specs.Numbers.{nodes}
+use Rattle.nero_maze.specs.declared.frontier.Room.{Room}
+use Rattle.nero_maze.specs.declared.frontier.Marked.{Marked}
+use Rattle.nero_maze.specs.Ways.{weight, opposite, next}
+
+-- free for the net: without an owner, or the net's own
+abbrev pub IsFree : List ℕ → ℕ → ℕ → Type 0
+IsFree owners net v = (slice_index owners v ≡ 4294967295) ⊎ (slice_index owners v ≡ net)
+
+-- The nodes `v ∷ back` lead from `v` to the target, at the cost `c`, over free nodes.
+abbrev pub LeadsTo : Grid → List ℕ → ℕ → ℕ → ℕ → List ℕ → ℕ → Type 0
+LeadsTo g owners net target v [] c = (v ≡ target) × (c ≡ 0)
+LeadsTo g owners net target v (u ∷ back) c =
+    IsFree owners net v × ((k : ℕ) × (k < 4) × (next g u k ≡ Some v)
+    × ((b : ℕ) × LeadsTo g owners net target u back b × (c ≡ b + weight k)))
+
+-- none from `v` costs less than `e`
+abbrev pub NoneBelow : Grid → List ℕ → ℕ → ℕ → ℕ → ℕ → Type 0
+NoneBelow g owners net target v e = (back : List ℕ) (b : ℕ) → LeadsTo g owners net target v back b → e ≤ b
+
+-- The same path as the marks tell it: one more than the way by which each node was reached.
+abbrev pub Trace : Grid → List ℕ → ℕ → List ℕ → ℕ → ℕ → List ℕ → ℕ → Type 0
+Trace g owners net marks target v [] c = (slice_index marks v ≡ 5) × (v ≡ target) × (c ≡ 0)
+Trace g owners net marks target v (u ∷ back) c =
+    IsFree owners net v × ((k : ℕ) × (k < 4) × (next g u k ≡ Some v)
+    × (slice_index marks v ≡ k + 1) × (next g v (opposite k) ≡ Some u)
+    × ((b : ℕ) × Trace g owners net marks target u back b × (c ≡ b + weight k)))
+
+-- how many nodes have no mark
+abbrev pub zeros : List ℕ → ℕ
+zeros [] = 0
+zeros (zero ∷ xs) = suc (zeros xs)
+zeros (suc x ∷ xs) = zeros xs
+
+-- the first `n` of `order` are the marked nodes
+pub record Kept (order marks : List ℕ) (n : ℕ) : Type 0 where
+  pub same : length order ≡ length marks
+  pub full : zeros marks + n ≡ length marks
+  pub listed : (i : ℕ) → i < n → slice_index order i < length marks
+  pub marked : (i : ℕ) → i < n → slice_index marks (slice_index order i) ≢ 0
+  pub found : (v : ℕ) → slice_index marks v ≢ 0 → (i : ℕ) × (i < n) × (slice_index order i ≡ v)
+
+-- Entry `i` was reached from an entry of from..to, on a way of low..high.
+abbrev pub Reached : Grid → List ℕ → ℕ → List ℕ → List ℕ → ℕ → ℕ → ℕ → ℕ → ℕ → Type 0
+Reached g owners net order marks from to low high i =
+    (j : ℕ) × (from ≤ j) × (j < to) × (j < i) × ((k : ℕ) × (low ≤ k) × (k < high)
+    × (slice_index marks (slice_index order i) ≡ k + 1)
+    × (next g (slice_index order j) k ≡ Some (slice_index order i))
+    × (next g (slice_index order i) (opposite k) ≡ Some (slice_index order j))
+    × IsFree owners net (slice_index order i))
+
+-- What a part of the search adds.
+pub record Grown (g : Grid) (owners : List ℕ) (net : ℕ) (from to low high : ℕ)
+    (order marks : List ℕ) (n : ℕ) (order' marks' : List ℕ) (n' : ℕ) : Type 0 where
+  pub more : n ≤ n'
+  pub size : length marks' ≡ length marks
+  pub prefix : (i : ℕ) → i < n → slice_index order' i ≡ slice_index order i
+  pub stays : (v : ℕ) → slice_index marks v ≢ 0 → slice_index marks' v ≡ slice_index marks v
+  pub fresh : (i : ℕ) → n ≤ i → i < n' → slice_index marks (slice_index order' i) ≡ 0
+  pub reached : (i : ℕ) → n ≤ i → i < n' → Reached g owners net order' marks' from to low high i
+
+-- Each free neighbour of entry `j` on way `k` has a mark.
+abbrev pub IsSpread : Grid → List ℕ → ℕ → List ℕ → List ℕ → ℕ → ℕ → Type 0
+IsSpread g owners net order marks j k =
+    (v : ℕ) → next g (slice_index order j) k ≡ Some v → IsFree owners net v → slice_index marks v ≢ 0
+
+-- there is an owner and a link for each node
+pub record IsRoom (r : Room) : Type 0 where
+  pub few : nodes r.grid < 4294967295
+  pub owners : length r.owners.items ≡ nodes r.grid
+  pub links : length r.links.items ≡ nodes r.grid
+
+-- the node is in the net's own tree
+abbrev pub IsOwn : List ℕ → List ℕ → ℕ → ℕ → Type 0
+IsOwn owners links net v = (slice_index links v ≢ 0) × (slice_index owners v ≡ net)
+
+-- there is a place for each of n nodes, and none has a mark
+pub record IsIdle (m : Marked) (n : ℕ) : Type 0 where
+  pub order : length m.order.items ≡ n
+  pub marks : length m.marks.items ≡ n
+  pub clear : (v : ℕ) → slice_index m.marks.items v ≡ 0

@@ -1,0 +1,69 @@
+// The arrays of a router.
+ghost use Rattle.std.specs.Prelude.{◌≡◌, ◌≢◌, ◌<◌, ◌⊎◌, IfNone, IfSome, slice_index, slice_set};
+ghost use Rattle.grid_core.specs.Numbers.{nodes};
+ghost use Rattle.nero_maze.specs.Search.{IsIdle};
+ghost use Rattle.nero_maze.specs.Board.{IsSound, Logs, Touches, Reaches, IsStuck};
+
+use crate::claim::claim;
+use crate::frontier::{Marked, Room, clear, push};
+use crate::search::search;
+use grid_core::NOBODY;
+
+/// The link of a node at which a tree began.
+const ROOT: u8 = 9;
+/// The mark in the log of a node to which a path was claimed, or at which a tree began.
+const REACHED: u8 = 1;
+/// The mark of one that was in the net's tree already.
+const TOUCHED: u8 = 2;
+
+/// All arrays: 15 bytes a node.
+#[derive(Drop)]
+pub(crate) struct Board {
+    pub(crate) room: Room,
+    pub(crate) frontier: Marked,
+    pub(crate) log: Marked,
+}
+
+/// Begins the net's tree at a node that is free for it.
+pub(crate) fn root(board: &mut Board, net: u32, node: u32)
+    requires sound { IsSound board.old }
+    requires node { node < nodes board.old.room.grid }
+    requires bare { slice_index board.old.room.links.items node ≡ 0 }
+    ensures grid { board.new.room.grid ≡ board.old.room.grid }
+    ensures owners { board.new.room.owners.items ≡ slice_set board.old.room.owners.items node net }
+    ensures links { board.new.room.links.items ≡ slice_set board.old.room.links.items node 9 }
+    ensures log { Logs node 1 board.old.log board.new.log }
+    ensures frontier { board.new.frontier ≡ board.old.frontier }
+{
+    board.room.owners[node as usize] = net;
+    board.room.links[node as usize] = ROOT;
+    push(&mut board.log, node, REACHED);
+}
+
+/// Connects the target with the net's tree by a least path, and gives its cost.
+pub(crate) fn join(board: &mut Board, net: u32, target: u32) -> Option<u64>
+    requires sound { IsSound board.old }
+    requires target { target < nodes board.old.room.grid }
+    requires new { (slice_index board.old.log.marks.items target ≡ 0) ⊎ (slice_index board.old.room.owners.items target ≢ net) }
+    ensures idle { IsIdle board.new.frontier (nodes board.old.room.grid) }
+    ensures joins { IfSome result (λ c. Touches net target c board.old board.new ⊎ Reaches net target c board.old board.new) }
+    ensures stuck { IfNone result (IsStuck net target board.old board.new) }
+{
+    let at = target as usize;
+    let owner = board.room.owners[at];
+    if board.room.links[at] != 0 && owner == net {
+        push(&mut board.log, target, TOUCHED);
+        return Some(0);
+    }
+    if owner != NOBODY && owner != net {
+        return None;
+    }
+    let Some(meeting) = search(&board.room, net, target, &mut board.frontier) else {
+        clear(&mut board.frontier);
+        return None;
+    };
+    claim(&mut board.room, net, target, &board.frontier.marks, meeting);
+    clear(&mut board.frontier);
+    push(&mut board.log, target, REACHED);
+    Some(meeting.cost)
+}

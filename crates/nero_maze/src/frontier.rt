@@ -1,0 +1,156 @@
+// The nodes that a search has reached.
+ghost use Rattle.std.specs.Prelude.{◌≡◌, ◌≢◌, ℕ, ◌+◌, ◌<◌, ◌≤◌, IfNone, IfOk, IfSome, length, slice_index, slice_set};
+ghost use Rattle.grid_core.specs.Numbers.{nodes};
+ghost use Rattle.nero_maze.specs.Search.{IsRoom, IsOwn, IsIdle, Kept, Grown, IsSpread};
+
+use crate::way::step;
+use grid_core::{Grid, NOBODY};
+use std::alloc::{AllocError, Global};
+
+/// The mark of the node at which a search begins; other marks are one more than the way by which the node was reached.
+pub(crate) const START: u8 = 5;
+
+/// The grid, the owners of its nodes, and what is not 0 where a node is in a tree.
+#[derive(Drop)]
+pub(crate) struct Room {
+    pub(crate) grid: Grid,
+    pub(crate) owners: Vec<u32>,
+    pub(crate) links: Vec<u8>,
+}
+
+/// Nodes that got a mark, in the order in which they did, and for each node of the grid its mark or 0.
+#[derive(Drop)]
+pub(crate) struct Marked {
+    pub(crate) order: Vec<u32>,
+    pub(crate) marks: Vec<u8>,
+    pub(crate) count: usize,
+}
+
+/// A zero for each node.
+pub(crate) fn zeros(alloc: Global, nodes: usize) -> Result<Vec<u8>, AllocError>
+    ensures size { IfOk result (λ zeros. length zeros.items ≡ nodes) }
+    ensures zero { IfOk result (λ zeros. (v : ℕ) → slice_index zeros.items v ≡ 0) }
+{
+    vec![in alloc; 0; nodes]
+}
+
+/// No node has a mark yet. Takes five bytes for each of so many nodes.
+pub(crate) fn unmarked(alloc: Global, nodes: usize) -> Result<Marked, AllocError>
+    ensures idle { IfOk result (λ m. IsIdle m nodes) }
+    ensures count { IfOk result (λ m. m.count ≡ 0) }
+{
+    Ok(Marked {
+        order: vec![in alloc; 0; nodes]?,
+        marks: zeros(alloc, nodes)?,
+        count: 0,
+    })
+}
+
+/// Gives a node without a mark one. Takes no memory, since no node is there twice.
+pub(crate) fn push(marked: &mut Marked, node: u32, mark: u8)
+    requires kept { Kept marked.old.order.items marked.old.marks.items marked.old.count }
+    requires below { node < length marked.old.marks.items }
+    requires unmarked { slice_index marked.old.marks.items node ≡ 0 }
+    requires mark { 0 < mark }
+    ensures kept { Kept marked.new.order.items marked.new.marks.items marked.new.count }
+    ensures order { marked.new.order.items ≡ slice_set marked.old.order.items marked.old.count node }
+    ensures marks { marked.new.marks.items ≡ slice_set marked.old.marks.items node mark }
+    ensures count { marked.new.count ≡ marked.old.count + 1 }
+{
+    marked.marks[node as usize] = mark;
+    marked.order[marked.count] = node;
+    marked.count += 1;
+}
+
+/// A part of the order.
+#[derive(Clone, Copy, Drop)]
+pub(crate) struct Span {
+    pub(crate) from: usize,
+    pub(crate) to: usize,
+}
+
+/// Marks the neighbour of entry `at` on a way, where it is free and has no mark.
+fn visit(room: &Room, net: u32, frontier: &mut Marked, at: usize, way: u8)
+    requires room { IsRoom room.now }
+    requires size { length frontier.old.marks.items ≡ nodes room.now.grid }
+    requires kept { Kept frontier.old.order.items frontier.old.marks.items frontier.old.count }
+    requires at { at < frontier.old.count }
+    requires way { way < 4 }
+    ensures size { length frontier.new.marks.items ≡ nodes room.now.grid }
+    ensures kept { Kept frontier.new.order.items frontier.new.marks.items frontier.new.count }
+    ensures grown { Grown room.now.grid room.now.owners.items net at (at + 1) way (way + 1)
+        frontier.old.order.items frontier.old.marks.items frontier.old.count
+        frontier.new.order.items frontier.new.marks.items frontier.new.count }
+    ensures spread { IsSpread room.now.grid room.now.owners.items net frontier.old.order.items frontier.new.marks.items at way }
+{
+    let Some(to) = step(&room.grid, frontier.order[at], way) else {
+        return;
+    };
+    let owner = room.owners[to as usize];
+    if frontier.marks[to as usize] != 0 {
+        return;
+    }
+    if owner != NOBODY && owner != net {
+        return;
+    }
+    frontier.marks[to as usize] = way + 1;
+    frontier.order[frontier.count] = to;
+    frontier.count += 1;
+}
+
+/// Marks the free neighbours of some entries on two ways.
+pub(crate) fn expand(room: &Room, net: u32, frontier: &mut Marked, span: Span, way: u8)
+    requires room { IsRoom room.now }
+    requires size { length frontier.old.marks.items ≡ nodes room.now.grid }
+    requires kept { Kept frontier.old.order.items frontier.old.marks.items frontier.old.count }
+    requires range { span.from ≤ span.to }
+    requires to { span.to ≤ frontier.old.count }
+    requires way { way < 3 }
+    ensures size { length frontier.new.marks.items ≡ nodes room.now.grid }
+    ensures kept { Kept frontier.new.order.items frontier.new.marks.items frontier.new.count }
+    ensures grown { Grown room.now.grid room.now.owners.items net span.from span.to way (way + 2)
+        frontier.old.order.items frontier.old.marks.items frontier.old.count
+        frontier.new.order.items frontier.new.marks.items frontier.new.count }
+    ensures spread { (j k : ℕ) → span.from ≤ j → j < span.to → way ≤ k → k < way + 2
+        → IsSpread room.now.grid room.now.owners.items net frontier.old.order.items frontier.new.marks.items j k }
+{
+    for at in span.from..span.to {
+        visit(room, net, frontier, at, way);
+        visit(room, net, frontier, at, way + 1);
+    }
+}
+
+/// The first entry from `from` on that is in the net's own tree.
+pub(crate) fn met(room: &Room, net: u32, frontier: &Marked, from: usize) -> Option<u32>
+    requires room { IsRoom room.now }
+    requires kept { Kept frontier.now.order.items frontier.now.marks.items frontier.now.count }
+    requires size { length frontier.now.marks.items ≡ nodes room.now.grid }
+    ensures own { IfSome result (λ v. IsOwn room.now.owners.items room.now.links.items net v) }
+    ensures within { IfSome result (λ v. v < nodes room.now.grid) }
+    ensures marked { IfSome result (λ v. slice_index frontier.now.marks.items v ≢ 0) }
+    ensures none { IfNone result ((i : ℕ) → from ≤ i → i < frontier.now.count
+        → IsOwn room.now.owners.items room.now.links.items net (slice_index frontier.now.order.items i) → ⊥) }
+{
+    for i in from..frontier.count {
+        let node = frontier.order[i];
+        if room.links[node as usize] != 0 && room.owners[node as usize] == net {
+            return Some(node);
+        }
+    }
+    None
+}
+
+/// Takes all marks away. It goes over the marked nodes alone.
+pub(crate) fn clear(frontier: &mut Marked)
+    requires kept { Kept frontier.old.order.items frontier.old.marks.items frontier.old.count }
+    ensures clear { (v : ℕ) → slice_index frontier.new.marks.items v ≡ 0 }
+    ensures marks { length frontier.new.marks.items ≡ length frontier.old.marks.items }
+    ensures order { length frontier.new.order.items ≡ length frontier.old.order.items }
+    ensures count { frontier.new.count ≡ 0 }
+{
+    for i in 0..frontier.count {
+        let node = frontier.order[i];
+        frontier.marks[node as usize] = 0;
+    }
+    frontier.count = 0;
+}

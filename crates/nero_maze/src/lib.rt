@@ -1,0 +1,11 @@
+//! A maze router: least paths of nets on a grid, one after another, without memory for each.
+#![tactic(auto)]
+
+mod board;
+mod claim;
+mod frontier;
+mod router;
+mod search;
+mod way;
+
+pub use router::{NoPath, Router};

@@ -1,0 +1,90 @@
+// The router.
+ghost use Rattle.std.specs.Prelude.{◌≡◌, ◌≢◌, ◌<◌, ◌∷◌, [], List, None, IfOk, IfErr};
+ghost use Rattle.grid_core.specs.declared.grid.Node.{Node as AnyNode};
+ghost use Rattle.grid_core.specs.Grid.{IsInGrid, IsPath};
+ghost use Rattle.grid_core.specs.Owners.{IsFree};
+ghost use Rattle.grid_core.specs.Routes.{tree_nodes};
+ghost use Rattle.nero_maze.specs.Routing.{tree_of, IsPoint, IsBare, Begins, Connects};
+
+use crate::board::{Board, join, root};
+use crate::frontier::{Room, unmarked, zeros};
+use grid_core::{Node, Occupied, number_of};
+use std::alloc::{AllocError, Global};
+use std::marker::Model;
+
+/// No path of free nodes leads from the net's tree to the target.
+#[derive(Clone, Copy, Debug, Drop)]
+pub struct NoPath;
+
+/// Trees of nets that grow over the free nodes of a grid, each by least paths.
+#[derive(Drop)]
+pub struct Router {
+    board: Board,
+}
+
+impl Model for Router {
+    ghost use Rattle.nero_maze.specs.Routing.{Routing};
+
+    ghost Value = { Routing };
+
+    ghost use Rattle.nero_maze.specs.Board.{routing_of, IsSound};
+
+    ghost view = { λ r. routing_of r.board };
+
+    ghost invariant = { λ r. IsSound r.board };
+}
+
+impl Router {
+    /// No net has a tree. Takes eleven bytes a node beside the table of owners, and all that later calls need.
+    pub fn begin(alloc: Global, occupied: Occupied) -> Result<Self, AllocError>
+        ensures { IfOk result (λ r. IsBare occupied r) }
+    {
+        let grid = occupied.grid();
+        let owners = occupied.into_words();
+        let count = owners.len();
+        let links = zeros(alloc, count)?;
+        let frontier = unmarked(alloc, count)?;
+        let log = unmarked(alloc, count)?;
+        let room = Room {
+            grid,
+            owners,
+            links,
+        };
+        Ok(Router {
+            board: Board {
+                room,
+                frontier,
+                log,
+            },
+        })
+    }
+
+    /// Begins the net's tree at a node that is free for it. Takes no memory.
+    pub fn seat(&mut self, net: u32, node: Node)
+        requires net { net < 4294967295 }
+        requires bare { tree_of self.old net ≡ None }
+        requires free { IsFree self.old.occupied net node }
+        ensures { Begins net node self.old self.new }
+    {
+        let at = number_of(&self.board.room.grid, node);
+        root(&mut self.board, net, at);
+    }
+
+    /// Connects the target with the net's tree by a least path over nodes that are free for the net, and gives its cost. Refused
+    /// exactly where there is no path, and then nothing changes. Takes no memory.
+    pub fn connect(&mut self, net: u32, target: Node) -> Result<u64, NoPath>
+        requires begun { tree_of self.old net ≢ None }
+        requires within { IsInGrid self.old.occupied.grid target }
+        requires new { IsPoint (tree_of self.old net) target → ⊥ }
+        ensures path { IfOk result (λ c. (path : List AnyNode) × Connects net target c self.old self.new path) }
+        ensures none { IfErr result (λ _. (path : List AnyNode)
+            → IsPath (IsFree self.old.occupied net) (tree_nodes (tree_of self.old net)) target path → ⊥) }
+        ensures same { IfErr result (λ _. self.new ≡ self.old) }
+    {
+        let at = number_of(&self.board.room.grid, target);
+        match join(&mut self.board, net, at) {
+            Some(cost) => Ok(cost),
+            None => Err(NoPath),
+        }
+    }
+}

@@ -1,6 +1,0 @@
-//! Runs of a netlist and of its machine.
-#![tactic(auto)]
-
-mod law;
-
-pub use law::netlist_runs_as_its_machine;

@@ -1,5 +1,0 @@
-use Rattle.net_view.proofs.Meets.{right_meets_condition}
-use Rattle.net_view.proofs.right_meets_condition.Goals as goal
-
-pub returns : goal.returns
-returns c = right_meets_condition

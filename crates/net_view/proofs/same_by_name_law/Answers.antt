@@ -1,5 +1,0 @@
-use Rattle.net_view.proofs.Same.{same_by_name}
-use Rattle.net_view.proofs.same_by_name_law.Goals as goal
-
-pub returns : goal.returns
-returns c = same_by_name

@@ -1,0 +1,11 @@
+pub mod Places
+pub mod Sentences
+pub mod Letters
+pub mod Words
+pub mod Columns
+pub mod Values
+pub mod Timed
+pub mod Lines
+pub mod Again
+pub mod Samples
+pub mod PatLexer

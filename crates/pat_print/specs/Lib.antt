@@ -1,0 +1,2 @@
+pub mod WrittenAgain
+pub mod Said

@@ -1,0 +1,17 @@
+use Rattle.std.proofs.Common.{◌++◌, Some, None, sym, append_assoc}
+use Rattle.source_checks.specs.declared.statement.Guarded.{Guarded}
+use Rattle.source_checks.specs.Lines.{first_line}
+use Rattle.vlsi_base.specs.Tree.{view}
+use Rattle.source_checks.specs.Places.{in_alternatives}
+use Rattle.source_checks.specs.Unsupported.{literal_faults}
+use Rattle.source_checks.proofs.Turns.{turn}
+use Rattle.source_checks.proofs.FirstLines.{first_line_append}
+use Rattle.source_checks.proofs.forms.literal_fault_in_alternatives.Goals as goal
+
+pub returns-in-Some : goal.returns-in-Some
+returns-in-Some c =
+    turn first_line first_line_append (λ (g : Guarded). literal_faults (view g.value) ++ literal_faults (view g.condition)) (in_alternatives literal_faults (λ line e. literal_faults e)) (λ g rest. sym (append_assoc (literal_faults (view g.value)) (literal_faults (view g.condition)) (in_alternatives literal_faults (λ line e. literal_faults e) rest))) c.args.alternatives.now c.loop-guarded.guarded-index c.guarded-item.result _ c.loop-guarded-test.true c.guarded-item.is c.loop-guarded.invariant (Some c.in-Some.line) c.in-Some.ensures
+
+pub loop-guarded-preserved : goal.loop-guarded-preserved
+loop-guarded-preserved c =
+    turn first_line first_line_append (λ (g : Guarded). literal_faults (view g.value) ++ literal_faults (view g.condition)) (in_alternatives literal_faults (λ line e. literal_faults e)) (λ g rest. sym (append_assoc (literal_faults (view g.value)) (literal_faults (view g.condition)) (in_alternatives literal_faults (λ line e. literal_faults e) rest))) c.args.alternatives.now c.loop-guarded.guarded-index c.guarded-item.result _ c.loop-guarded-test.true c.guarded-item.is c.loop-guarded.invariant None c.in_default.ensures

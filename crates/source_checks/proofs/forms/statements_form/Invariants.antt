@@ -1,0 +1,8 @@
+use Rattle.std.proofs.Common.{◌≡◌, drop}
+use Rattle.source_checks.specs.Lines.{first_line}
+use Rattle.source_checks.specs.Places.{in_statements}
+use Rattle.source_checks.specs.Unsupported.{statement_forms}
+use Rattle.source_checks.proofs.forms.statements_form.Given as goal
+
+abbrev pub invariant-loop-statement : goal.invariant-loop-statement
+invariant-loop-statement l = first_line ((in_statements (statement_forms l.table)) (drop l.statement-index l.statements)) ≡ first_line ((in_statements (statement_forms l.table)) l.statements)

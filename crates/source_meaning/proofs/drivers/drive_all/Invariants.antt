@@ -1,8 +1,0 @@
-use Rattle.std.proofs.Common.{drop}
-use Rattle.source_meaning.specs.Drivers.{driver_of}
-use Rattle.source_meaning.specs.Places.{in_assignments}
-use Rattle.source_meaning.proofs.DrivenSoFar.{DrivenSoFar}
-use Rattle.source_meaning.proofs.drivers.drive_all.Given as goal
-
-abbrev pub invariant-loop-assignment : goal.invariant-loop-assignment
-invariant-loop-assignment l = DrivenSoFar l.table l.initial.marks l.marks (in_assignments (driver_of l.table) (drop l.assignment-index l.assignments)) (in_assignments (driver_of l.table) l.assignments)

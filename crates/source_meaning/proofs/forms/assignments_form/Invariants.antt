@@ -1,8 +1,0 @@
-use Rattle.std.proofs.Common.{◌≡◌, drop}
-use Rattle.source_meaning.specs.Lines.{first_line}
-use Rattle.source_meaning.specs.Places.{in_assignments}
-use Rattle.source_meaning.specs.Unsupported.{assignment_forms}
-use Rattle.source_meaning.proofs.forms.assignments_form.Given as goal
-
-abbrev pub invariant-loop-assignment : goal.invariant-loop-assignment
-invariant-loop-assignment l = first_line ((in_assignments (assignment_forms l.table l.in_block)) (drop l.assignment-index l.assignments)) ≡ first_line ((in_assignments (assignment_forms l.table l.in_block)) l.assignments)

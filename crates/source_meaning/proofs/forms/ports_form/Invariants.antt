@@ -1,7 +1,0 @@
-use Rattle.std.proofs.Common.{◌≡◌, drop}
-use Rattle.source_meaning.specs.Lines.{first_line}
-use Rattle.source_meaning.specs.Unsupported.{port_forms}
-use Rattle.source_meaning.proofs.forms.ports_form.Given as goal
-
-abbrev pub invariant-loop-group : goal.invariant-loop-group
-invariant-loop-group l = first_line ((port_forms) (drop l.group-index l.groups)) ≡ first_line ((port_forms) l.groups)

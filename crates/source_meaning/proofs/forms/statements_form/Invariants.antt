@@ -1,8 +1,0 @@
-use Rattle.std.proofs.Common.{◌≡◌, drop}
-use Rattle.source_meaning.specs.Lines.{first_line}
-use Rattle.source_meaning.specs.Places.{in_statements}
-use Rattle.source_meaning.specs.Unsupported.{statement_forms}
-use Rattle.source_meaning.proofs.forms.statements_form.Given as goal
-
-abbrev pub invariant-loop-statement : goal.invariant-loop-statement
-invariant-loop-statement l = first_line ((in_statements (statement_forms l.table)) (drop l.statement-index l.statements)) ≡ first_line ((in_statements (statement_forms l.table)) l.statements)

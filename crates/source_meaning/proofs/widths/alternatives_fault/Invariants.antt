@@ -1,8 +1,0 @@
-use Rattle.std.proofs.Common.{◌≡◌, drop}
-use Rattle.source_meaning.specs.Lines.{first_line}
-use Rattle.source_meaning.specs.Places.{in_alternatives}
-use Rattle.source_meaning.specs.Widths.{width_faults, condition_faults}
-use Rattle.source_meaning.proofs.widths.alternatives_fault.Given as goal
-
-abbrev pub invariant-loop-guarded : goal.invariant-loop-guarded
-invariant-loop-guarded l = first_line ((in_alternatives (width_faults l.table) (condition_faults l.table)) (drop l.guarded-index l.alternatives)) ≡ first_line ((in_alternatives (width_faults l.table) (condition_faults l.table)) l.alternatives)

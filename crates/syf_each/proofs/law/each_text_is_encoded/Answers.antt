@@ -1,7 +1,0 @@
-use Rattle.syf_each.proofs.Encoded.{encoded}
-use Rattle.syf_each.proofs.law.each_text_is_encoded.Goals as goal
-
-pub returns : goal.returns
-returns c =
-    encoded c.fsm_is_checked.ensures c.machine_has_few_signals.ensures.styles c.encodings_are_codes.ensures c.texts_are_free.ensures.free
-    c.machine_is_ordered.ensures c.machine_does_as.ensures

@@ -1,5 +1,0 @@
-use Rattle.text_lines.proofs.Cutting.{ends_exactly}
-use Rattle.text_lines.proofs.lines.Lines.is_empty.Goals as goal
-
-pub returns : goal.returns
-returns c = ends_exactly c.self.inside.text.now c.is_empty.result c.args.self.now c.self.view_is c.is_empty.ensures

@@ -1,6 +1,0 @@
-//! The lines of a text.
-#![tactic(auto)]
-
-mod lines;
-
-pub use lines::{Lines, without_return};

@@ -1,0 +1,4 @@
+pub mod Free
+pub mod Known
+pub mod Laws
+pub mod Words

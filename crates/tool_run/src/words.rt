@@ -1,0 +1,114 @@
+// The table of tools, and the commands of those beside `flow` and `gen`.
+ghost use Rattle.std.specs.Prelude.{◌≡◌, Some, None, IfOk, IsErrOf, map};
+ghost use Rattle.tool_words.specs.declared.words.WordsError.TheVariants.{Usage};
+ghost use Rattle.tool_words.specs.Spelling.{tool_named, command_by};
+ghost use Rattle.tool_words.specs.View.{entry_view};
+ghost use Rattle.tool_run.specs.Tools.{tools, entries, command_of};
+ghost use Rattle.tool_run.specs.Laws.{ToolComesFirst};
+
+use asimut_run::{ASIMUT_ENTRY, AsimutTask, read_asimut};
+use boog_run::{BOOG_ENTRY, BoogCommand, read_boog};
+use boom_run::{BOOM_ENTRY, BoomCommand, read_boom};
+use cougar_run::{COUGAR_ENTRY, CougarCommand, read_cougar};
+use druc_run::{DRUC_ENTRY, DrucCommand, read_druc};
+use flatbeh_run::{FLATBEH_ENTRY, FlatbehCommand, read_flatbeh};
+use flow_words::{FLOW_ENTRY, GEN_ENTRY};
+use loon_run::{LOON_ENTRY, LoonCommand, read_loon};
+use lvx_run::{LVX_ENTRY, LvxCommand, read_lvx};
+use proof_run::{PROOF_ENTRY, ProofCommand, read_proof};
+use std::alloc::Global;
+use syf_run::{SYF_ENTRY, SyfCommand, read_syf};
+use tool_words::{Entry, Words, WordsError, is_same};
+use vlsi_base::Text;
+
+/// What the words of a command ask for, of the tools beside `flow` and `gen`.
+#[derive(Drop)]
+pub enum Command {
+    Syf(SyfCommand),
+    Boom(BoomCommand),
+    Boog(BoogCommand),
+    Loon(LoonCommand),
+    Asimut(AsimutTask),
+    Cougar(CougarCommand),
+    Lvx(LvxCommand),
+    Druc(DrucCommand),
+    Proof(ProofCommand),
+    Flatbeh(FlatbehCommand),
+}
+
+const ENTRIES: &[Entry] = &[
+    FLOW_ENTRY,
+    GEN_ENTRY,
+    SYF_ENTRY,
+    BOOM_ENTRY,
+    BOOG_ENTRY,
+    LOON_ENTRY,
+    ASIMUT_ENTRY,
+    COUGAR_ENTRY,
+    LVX_ENTRY,
+    DRUC_ENTRY,
+    PROOF_ENTRY,
+    FLATBEH_ENTRY,
+];
+
+/// How all tools are called, in the order of the usage line.
+pub(crate) fn entries() -> &'static [Entry]
+    ensures { map entry_view result.now ≡ entries }
+{
+    ENTRIES
+}
+
+// The command of the tool with this word that the words behind it spell.
+fn read_behind(alloc: Global, tool: &[u8], words: &[Text]) -> Result<Command, WordsError>
+    ensures ok { IfOk result (λ c. command_by (tool_named tools tool.now) words.now ≡ Some c) }
+    ensures usage { IsErrOf result Usage → command_by (tool_named tools tool.now) words.now ≡ None }
+{
+    if is_same(b"syf", tool) {
+        return Ok(Command::Syf(read_syf(alloc, words)?));
+    }
+    if is_same(b"boom", tool) {
+        return Ok(Command::Boom(read_boom(alloc, words)?));
+    }
+    if is_same(b"boog", tool) {
+        return Ok(Command::Boog(read_boog(alloc, words)?));
+    }
+    if is_same(b"loon", tool) {
+        return Ok(Command::Loon(read_loon(alloc, words)?));
+    }
+    if is_same(b"asimut", tool) {
+        return Ok(Command::Asimut(read_asimut(alloc, words)?));
+    }
+    if is_same(b"cougar", tool) {
+        return Ok(Command::Cougar(read_cougar(alloc, words)?));
+    }
+    if is_same(b"lvx", tool) {
+        return Ok(Command::Lvx(read_lvx(alloc, words)?));
+    }
+    if is_same(b"druc", tool) {
+        return Ok(Command::Druc(read_druc(alloc, words)?));
+    }
+    if is_same(b"proof", tool) {
+        return Ok(Command::Proof(read_proof(alloc, words)?));
+    }
+    if is_same(b"flatbeh", tool) {
+        return Ok(Command::Flatbeh(read_flatbeh(alloc, words)?));
+    }
+    Err(WordsError::Usage)
+}
+
+/// Takes words apart: the word of one of these tools, and then what its entry has. `Usage` exactly where they spell no command of
+/// theirs. It reads no file, and takes memory for what it reads and answers.
+pub fn read_command(alloc: Global, words: &Words) -> Result<Command, WordsError>
+    ensures ok { IfOk result (λ c. command_of words.now ≡ Some c) }
+    ensures usage { IsErrOf result Usage → command_of words.now ≡ None }
+{
+    match words.as_slice().split_first() {
+        Some((tool, rest)) => read_behind(alloc, tool.as_bytes(), rest),
+        None => Err(WordsError::Usage),
+    }
+}
+
+/// A law, erased at run time: the first of the words that spell a command is the word of the command's tool.
+pub fn words_law()
+    ensures { ToolComesFirst }
+{}

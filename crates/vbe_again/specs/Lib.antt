@@ -1,3 +1,0 @@
-pub mod Nesting
-pub mod Placed
-pub mod Said

@@ -1,0 +1,4 @@
+pub mod OneMachine
+pub mod EachText
+pub mod FewNames
+pub mod Again

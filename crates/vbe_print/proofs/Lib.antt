@@ -1,0 +1,14 @@
+pub mod Texts
+pub mod Operands
+pub mod Lines
+pub mod Naming
+pub mod Spelling
+pub mod Values
+pub mod Statements
+pub mod Declared
+pub mod Whole
+pub mod Fits
+pub mod Supplied
+pub mod Known
+pub mod Machines
+pub mod Sentence

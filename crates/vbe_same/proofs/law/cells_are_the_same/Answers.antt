@@ -1,5 +1,0 @@
-use Rattle.vbe_same.proofs.Cells.{cells_say_the_same}
-use Rattle.vbe_same.proofs.law.cells_are_the_same.Goals as goal
-
-pub returns : goal.returns
-returns c = cells_say_the_same

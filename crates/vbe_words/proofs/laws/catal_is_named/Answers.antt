@@ -1,5 +1,0 @@
-use Rattle.vbe_words.proofs.Named.{catal_is_named}
-use Rattle.vbe_words.proofs.laws.catal_is_named.Goals as goal
-
-pub returns : goal.returns
-returns c = catal_is_named

@@ -1,5 +1,0 @@
-use Rattle.vbe_words.proofs.Named.{cell_is_named}
-use Rattle.vbe_words.proofs.laws.cell_is_named.Goals as goal
-
-pub returns : goal.returns
-returns c = cell_is_named

@@ -1,5 +1,0 @@
-use Rattle.vbe_words.proofs.Running.{in_order}
-use Rattle.vbe_words.proofs.laws.in_order_can_be_written.Goals as goal
-
-pub returns : goal.returns
-returns c = in_order

@@ -1,5 +1,0 @@
-use Rattle.vbe_words.proofs.Named.{machine_can_be_written}
-use Rattle.vbe_words.proofs.laws.machine_can_be_written.Goals as goal
-
-pub returns : goal.returns
-returns c = machine_can_be_written

@@ -1,5 +1,0 @@
-use Rattle.vbe_words.proofs.Named.{machine_is_named}
-use Rattle.vbe_words.proofs.laws.machine_is_named.Goals as goal
-
-pub returns : goal.returns
-returns c = machine_is_named

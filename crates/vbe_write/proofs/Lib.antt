@@ -1,4 +1,0 @@
-pub mod Texts
-pub mod Operands
-pub mod Lines
-pub mod Naming

@@ -1,5 +1,0 @@
-use Rattle.vbe_write.proofs.Naming.{looked_up}
-use Rattle.vbe_write.proofs.names.index_of.Goals as goal
-
-pub returns : goal.returns
-returns c = looked_up c.args.names.now _ _ c.new-index.ensures c.in_ok-insert_all.ensures

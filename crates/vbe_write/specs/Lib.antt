@@ -1,4 +1,0 @@
-pub mod Expressions
-pub mod Written
-pub mod Writable
-pub mod Pieces

@@ -1,5 +1,0 @@
-use Rattle.vst_again.proofs.Saying.{written_says_the_netlist}
-use Rattle.vst_again.proofs.law.written_says_the_netlist.Goals as goal
-
-pub returns : goal.returns
-returns c = written_says_the_netlist

@@ -1,0 +1,16 @@
+pub mod Texts
+pub mod Runs
+pub mod Once
+pub mod Signals
+pub mod Joined
+pub mod Tested
+pub mod Whole
+pub mod Parts
+pub mod Entries
+pub mod WholeText
+pub mod Fits
+pub mod Grouped
+pub mod Names
+pub mod Netlists
+pub mod Sentence
+pub mod Saying

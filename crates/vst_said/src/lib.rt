@@ -1,2 +1,0 @@
-//! Texts that say a netlist, in `specs/`.
-#![tactic(auto)]

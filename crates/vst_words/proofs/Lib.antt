@@ -1,3 +1,0 @@
-pub mod HasPort
-pub mod Pins
-pub mod Words

@@ -1,6 +1,0 @@
-use Rattle.std.proofs.Common.{◌≡◌, take, map}
-use Rattle.net_view.specs.Writable.{port_of}
-use Rattle.vst_write.proofs.groups.pin_ports.Given as goal
-
-abbrev pub invariant-loop-pin : goal.invariant-loop-pin
-invariant-loop-pin l = l.ports.items ≡ map port_of (take l.pin-index l.pins)

@@ -1,5 +1,0 @@
-use Rattle.vst_write.proofs.Joined.{Maps}
-use Rattle.vst_write.proofs.instances.mappings.Given as goal
-
-abbrev pub invariant-loop-k : goal.invariant-loop-k
-invariant-loop-k l = Maps l.fn.out l.nets l.pins l.classes l.k l.out

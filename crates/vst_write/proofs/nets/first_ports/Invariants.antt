@@ -1,5 +1,0 @@
-use Rattle.vst_write.proofs.Signals.{Firsts}
-use Rattle.vst_write.proofs.nets.first_ports.Given as goal
-
-abbrev pub invariant-loop-k : goal.invariant-loop-k
-invariant-loop-k l = Firsts l.ports l.classes l.k l.names.items

@@ -1,6 +1,0 @@
-use Rattle.std.proofs.Common.{take}
-use Rattle.vst_write.specs.Pieces.{AreTaken}
-use Rattle.vst_write.proofs.nets.port_texts.Given as goal
-
-abbrev pub invariant-loop-port : goal.invariant-loop-port
-invariant-loop-port l = AreTaken (take l.port-index l.ports) l.taken

@@ -1,5 +1,0 @@
-pub mod Groups
-pub mod Structure
-pub mod Nets
-pub mod Written
-pub mod Pieces
