@@ -1,2 +1,4 @@
+pub mod Lists
 pub mod Numbers
 pub mod Owners
+pub mod Growing

@@ -2,3 +2,4 @@ pub mod Grid
 pub mod Numbers
 pub mod Owners
 pub mod Routes
+pub mod Trees

@@ -2,7 +2,9 @@
 #![tactic(auto)]
 
 mod grid;
+mod law;
 mod occupied;
 
 pub use grid::{Grid, Node, node_at, number_of};
+pub use law::routes_grow;
 pub use occupied::{NOBODY, Occupied};

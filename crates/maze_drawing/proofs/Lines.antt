@@ -25,7 +25,7 @@ use Rattle.net_drawing.proofs.Pieces.{Same, next, Same_append, same_drawn, Wires
 use Rattle.net_drawing.proofs.Shown.{instances_append, connectors_append, instances_back, instances_quiet}
 use Rattle.net_drawing.proofs.Numbers.{own, call}
 use Rattle.maze_geom.specs.Maze.{net_lines, maze_nets, maze_ports, row_supplies, maze_lines}
-use Rattle.maze_drawing.specs.Grid.{Routes}
+use Rattle.grid_core.specs.Routes.{NetRoutes}
 use Rattle.maze_drawing.specs.Wiring.{Wiring, net_items}
 use Rattle.maze_drawing.specs.Law.{IsRouted, maze_wiring, maze_items}
 use Rattle.maze_drawing.proofs.Stands.{block_at, as_many}
@@ -44,7 +44,7 @@ ports_named : (at : ℕ → ℕ) (rows k : ℕ) (names : List name.Name) → con
 ports_named at rows k [] = refl
 ports_named at rows k (m ∷ ms) = ap (λ v. m ∷ v) (ports_named at rows (suc k) ms)
 
-module _ (n : AbstractNetlist) (l : Library) (net : Numbering) (p : Placement) (instances : List Instance) (metals : ℕ) (routes : Routes) (w : Wiring) (ok : IsRouted n l net p instances metals routes w) where
+module _ (n : AbstractNetlist) (l : Library) (net : Numbering) (p : Placement) (instances : List Instance) (metals : ℕ) (routes : NetRoutes) (w : Wiring) (ok : IsRouted n l net p instances metals routes w) where
   -- all lines, where ports stand above the rows
   abbrev lines : List Item
   lines = supply_ports ++ (grid_of l p ++ (map item.Instance instances ++ (supplies_to (pos 1500 +ℤ block_width l p) p.rows ++ maze_wiring n p.ports w)))

@@ -30,7 +30,9 @@ use Rattle.net_drawing.proofs.Pieces.{wires_all}
 use Rattle.net_drawing.proofs.Shown.{instances_append, connectors_append}
 use Rattle.maze_geom.specs.Maze.{maze_lines}
 use Rattle.maze_geom.proofs.Joins.{maze_known, maze_clean, keeps_nets, maze_join}
-use Rattle.maze_drawing.specs.Grid.{AreWhole, Node, Routes}
+use Rattle.grid_core.specs.declared.grid.Node.{Node}
+use Rattle.grid_core.specs.Routes.{NetRoutes}
+use Rattle.grid_core.specs.Trees.{AreWhole}
 use Rattle.maze_drawing.specs.Wiring.{Wiring}
 use Rattle.maze_drawing.specs.Points.{net_nodes}
 use Rattle.maze_drawing.specs.Law.{IsRouted, maze_wiring, maze_items, mark, marks, part_items, RoutesKeepNets, MarkedRoutesKeepNets, RoutesShowNetlist, RoutesGiveNetlist}
@@ -74,7 +76,7 @@ quiet_drawn : (k : ℕ) (items more : List Item) → Quiet more → drawn_from k
 quiet_drawn k [] more h = nothing_drawn k more h
 quiet_drawn k (one ∷ rest) more h = ap (λ v. item_shapes k one ++ v) (quiet_drawn (suc k) rest more h)
 
-module _ (n : AbstractNetlist) (l : Library) (net : Numbering) (p : Placement) (instances : List Instance) (metals : ℕ) (routes : Routes) (w : Wiring) (ok : IsRouted n l net p instances metals routes w) where
+module _ (n : AbstractNetlist) (l : Library) (net : Numbering) (p : Placement) (instances : List Instance) (metals : ℕ) (routes : NetRoutes) (w : Wiring) (ok : IsRouted n l net p instances metals routes w) where
   abbrev ys : List Shape
   ys = shapes (block_at n l net p instances) (maze_lines (block_at n l net p instances) (routes_of l p routes w))
 

@@ -23,7 +23,9 @@ use Rattle.net_drawing.specs.Picture.{shown}
 use Rattle.net_drawing.proofs.Pieces.{Drawn, nothing, Drawn_append, one_line, min_low, max_high, unnamed_shape}
 use Rattle.maze_geom.specs.Maze as maze
 use Rattle.maze_geom.specs.Maze.{wire_line, via_line}
-use Rattle.maze_drawing.specs.Grid.{Node, Routes, is_level, ahead, tree_nodes}
+use Rattle.grid_core.specs.declared.grid.Node.{Node}
+use Rattle.grid_core.specs.Grid.{is_level, ahead}
+use Rattle.grid_core.specs.Routes.{NetRoutes, tree_nodes}
 use Rattle.maze_drawing.specs.Wiring.{Wire, Wiring, NetWiring, level_of, contact_of, wire_item, via_item, net_items}
 use Rattle.maze_drawing.specs.Points.{port_nodes}
 
@@ -36,7 +38,7 @@ wire_to a b = record { metal = a.metal; c1 = 3 + a.column; r1 = a.row; c2 = 3 + 
 abbrev pub as_wire : Wire → maze.Wire
 as_wire w = wire_to w.from (ahead w.from w.steps)
 
-abbrev pub routes_of : Library → Placement → Routes → Wiring → maze.Routes
+abbrev pub routes_of : Library → Placement → NetRoutes → Wiring → maze.Routes
 routes_of l p routes w = record {
   wires = λ k. map as_wire (w k).wires;
   vias = λ k. map as_node (w k).vias;

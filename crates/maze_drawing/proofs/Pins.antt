@@ -25,12 +25,14 @@ use Rattle.net_drawing.proofs.Coding.{In_get, get_there, columns_of, cell_by}
 use Rattle.net_drawing.proofs.Cells.{passes, column_is, row_is, In_first, In_last}
 use Rattle.net_drawing.proofs.Numbers.{pins_before, number_low, number_under}
 use Rattle.maze_geom.specs.Maze as maze
-use Rattle.maze_drawing.specs.Grid.{Node, Routes}
+use Rattle.grid_core.specs.declared.grid.Node.{Node}
+use Rattle.grid_core.specs.Routes.{NetRoutes}
 use Rattle.maze_drawing.specs.Wiring.{Wiring}
 use Rattle.maze_drawing.specs.Points.{node_at, signal_names, pin_nodes, instance_nodes, terminal_nodes, has_two}
 use Rattle.maze_drawing.specs.Law.{IsRouted}
 use Rattle.net_drawing.proofs.Block.{cell_is, net_is}
-use Rattle.maze_drawing.proofs.Rows.{In_either, member_of}
+use Rattle.grid_core.proofs.Lists.{In_either}
+use Rattle.maze_drawing.proofs.Rows.{member_of}
 use Rattle.maze_drawing.proofs.Stands as stands
 use Rattle.maze_drawing.proofs.Stands.{put_of, block_at, Site, site, site_of}
 use Rattle.maze_drawing.proofs.Nodes.{as_node}
@@ -117,7 +119,7 @@ node_is c r le =
 pub as_pin : (c r : ℕ) → 3 ≤ c → as_node (grid_node c r) ≡ (λ (v : maze.Node). v) (record { metal = 2; column = c; row = r })
 as_pin c r le = let a : 3 + (c - 3) ≡ c = omega arith in ap (λ v. record { metal = 2; column = v; row = r }) a
 
-module _ (n : AbstractNetlist) (l : Library) (net : Numbering) (p : Placement) (instances : List Instance) (metals : ℕ) (routes : Routes) (w : Wiring) (ok : IsRouted n l net p instances metals routes w) where
+module _ (n : AbstractNetlist) (l : Library) (net : Numbering) (p : Placement) (instances : List Instance) (metals : ℕ) (routes : NetRoutes) (w : Wiring) (ok : IsRouted n l net p instances metals routes w) where
   -- pin q of instance i, and the node where it stands
   pub record PinSpot (i q : ℕ) (one : Instance) (pin : name.Name) : Type 0 where
     pub at : slice_get instances i ≡ Some one

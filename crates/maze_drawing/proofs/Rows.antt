@@ -12,16 +12,12 @@ use Rattle.net_meaning.specs.Netlist.{Member}
 use Rattle.ocp_rows.specs.Placement.{standing, standing_rows, turn_of, model_width, row_width, rows_width}
 use Rattle.block_geom.specs.Figure.{Supply, Vss, Vdd}
 use Rattle.block_geom.specs.Block.{at_x, supply_at, other, is_vdd, flip_of}
+use Rattle.grid_core.proofs.Lists.{In_either}
 use Rattle.net_drawing.proofs.Coding.{In_get, get_In, get_there}
 use Rattle.net_drawing.proofs.Cells.{In_first, In_last}
 use Rattle.net_drawing.proofs.Numbers.{IsModel, columns_wide, all_columns, wide_is}
 
 -- ---- lists
-pub In_either : {A : Type 0} (xs ys : List A) (x : A) → In x (xs ++ ys) → In x xs ⊎ In x ys
-In_either [] ys x h = inr h
-In_either (y ∷ xs) ys x here = inl here
-In_either (y ∷ xs) ys x (there h) = ⊎_elim (λ g. inl (there g)) (λ g. inr g) (In_either xs ys x h)
-
 pub In_contains : {A : Type 0} (xs : List A) (x : A) → In x xs → Contains xs x
 In_contains xs x h = let r = get_In xs x h in (r.0, slice_get_within xs r.0 x r.1, get_or_from_slice_get xs r.0 x x r.1)
 

@@ -36,7 +36,7 @@ use Rattle.net_drawing.proofs.Pieces.{Same, ended, next, Drawn, nothing, Drawn_a
 use Rattle.net_drawing.proofs.Numbers.{own, call}
 use Rattle.maze_geom.specs.Maze.{maze_port, rail_line_at, rail_vias, strap_lines, row_supplies}
 use Rattle.maze_geom.proofs.Maze.{rail_order}
-use Rattle.maze_drawing.specs.Grid.{Routes}
+use Rattle.grid_core.specs.Routes.{NetRoutes}
 use Rattle.maze_drawing.specs.Wiring.{Wiring}
 use Rattle.maze_drawing.specs.Law.{IsRouted}
 use Rattle.net_drawing.proofs.Block.{own_is, pins_are, cell_is}
@@ -164,7 +164,7 @@ placed_rect r b one v c j w e ex ey et =
     ∙ ap (λ u. moved (rect.turned u (moved r (pos 0) (pos 0)) (pos (500 * w) -ℤ pos 0) (pos 5000 -ℤ pos 0)) (at_x c) (pos (5000 * j))) et
     ∙ turned_rect v r c j (pos (500 * w) -ℤ pos 0)
 
-module _ (n : AbstractNetlist) (l : Library) (net : Numbering) (p : Placement) (instances : List Instance) (metals : ℕ) (routes : Routes) (w : Wiring) (ok : IsRouted n l net p instances metals routes w) where
+module _ (n : AbstractNetlist) (l : Library) (net : Numbering) (p : Placement) (instances : List Instance) (metals : ℕ) (routes : NetRoutes) (w : Wiring) (ok : IsRouted n l net p instances metals routes w) where
   instance_same : (i : ℕ) (one : Instance) → slice_get instances i ≡ Some one
       → instance_shapes (cell_of l one.model) one
       ≡ map (shown (own n) (call n l p.ports)) (map (in_block (block_at n l net p instances) i) (cell_shapes ((block_at n l net p instances).cell i)))

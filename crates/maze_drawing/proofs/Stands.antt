@@ -17,7 +17,7 @@ use Rattle.block_geom.specs.Block.{Block, IsSound, flip_of}
 use Rattle.net_drawing.specs.Drawing.{Numbering}
 use Rattle.net_drawing.proofs.Coding.{In_get, get_there, columns_of}
 use Rattle.net_drawing.proofs.Numbers.{columns_wide, member_or, cell_or, IsModel}
-use Rattle.maze_drawing.specs.Grid.{Routes}
+use Rattle.grid_core.specs.Routes.{NetRoutes}
 use Rattle.maze_drawing.specs.Wiring.{Wiring}
 use Rattle.maze_drawing.specs.Law.{IsRouted}
 use Rattle.net_drawing.proofs.Block.{Places, block_with, model_of, own_is, cell_passes}
@@ -43,7 +43,7 @@ block_at n l net p instances = block_with n l net p.ports (put_of l p instances)
 pub rows_of : (k : ℕ) → natural (pos (5000 * k)) / 5000 ≡ k
 rows_of k = mul-div_cancel_left k (omega arith)
 
-module _ (n : AbstractNetlist) (l : Library) (net : Numbering) (p : Placement) (instances : List Instance) (metals : ℕ) (routes : Routes) (w : Wiring) (ok : IsRouted n l net p instances metals routes w) where
+module _ (n : AbstractNetlist) (l : Library) (net : Numbering) (p : Placement) (instances : List Instance) (metals : ℕ) (routes : NetRoutes) (w : Wiring) (ok : IsRouted n l net p instances metals routes w) where
   pub models : (one : Member) → In one n.instances → IsModel l one
   models one h = model_of n l net p.ports (put_of l p instances) ok.nets one h
 

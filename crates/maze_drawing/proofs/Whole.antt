@@ -18,8 +18,11 @@ use Rattle.net_drawing.proofs.Coding.{In_list}
 use Rattle.net_drawing.proofs.Cells.{In_first, In_last}
 use Rattle.maze_geom.specs.Maze as maze
 use Rattle.maze_geom.specs.Maze.{IsStep, along, up, down, IsWay, stay, step, IsAttachedAt, port_attached, pin_attached, AreConnected, IsComplete, pin_foot}
-use Rattle.maze_drawing.specs.Grid.{AreWhole, Node, Routes, Tree, ahead, above, tree_nodes, IsNext, IsFree}
-use Rattle.maze_drawing.specs.Grid as grid
+use Rattle.grid_core.specs.declared.grid.Node.{Node}
+use Rattle.grid_core.specs.Grid.{ahead, above, IsNext}
+use Rattle.grid_core.specs.Routes.{NetRoutes, Tree, tree_nodes}
+use Rattle.grid_core.specs.Trees.{AreWhole, IsFreeFor}
+use Rattle.grid_core.specs.Grid as grid
 use Rattle.maze_drawing.specs.Wiring.{Wire, Wiring, AreBeside, AreNeighbours, HasStep, HasVia, IsOnWire, IsWiringOf, in_tree, at_terminal}
 use Rattle.maze_drawing.specs.Wiring as wiring
 use Rattle.maze_drawing.specs.Points.{grid_over, signal_names, pin_nodes, instance_nodes, terminal_nodes, port_node, port_nodes, net_nodes, reserved, has_two, via_nodes}
@@ -54,7 +57,7 @@ beside_turned p q path (wiring.later {rest = rest} h) = wiring.later (beside_tur
 neighbours_turned : (t : Option Tree) (p q : Node) → AreNeighbours t p q → AreNeighbours t q p
 neighbours_turned t p q f = record { path = f.path; listed = f.listed; beside = beside_turned p q f.path f.beside }
 
-module _ (n : AbstractNetlist) (l : Library) (net : Numbering) (p : Placement) (instances : List Instance) (metals : ℕ) (routes : Routes) (w : Wiring) (ok : IsRouted n l net p instances metals routes w) where
+module _ (n : AbstractNetlist) (l : Library) (net : Numbering) (p : Placement) (instances : List Instance) (metals : ℕ) (routes : NetRoutes) (w : Wiring) (ok : IsRouted n l net p instances metals routes w) where
   -- ---- from neighbour to neighbour of a tree there is a step
   ahead_step : (k : ℕ) → k < net_count n → (x : Node) → HasStep (routes k) x → IsStep (routes_of l p routes w) k (as_node x) (as_node (ahead x 1))
   ahead_step k lt x h =
@@ -95,12 +98,12 @@ module _ (n : AbstractNetlist) (l : Library) (net : Numbering) (p : Placement) (
   from_start k lt t e x h =
       tree_all t (λ v. IsWay (routes_of l p routes w) k (as_node t.start) (as_node v))
       (λ a b f g z. way_then (routes_of l p routes w) k (as_node t.start) (as_node a) (as_node b) z (step (goes k lt a b (subst (λ v. AreNeighbours v a b) (sym e) f) g) stay))
-      (IsFree (grid_over metals l p) (reserved n l net p instances) routes (net_count n) k) (net_nodes n l net p instances k)
-      (subst (λ v. grid.IsTreeOver (IsFree (grid_over metals l p) (reserved n l net p instances) routes (net_count n) k) (net_nodes n l net p instances k) v) e (ok.trees k lt)) stay x h
+      (IsFreeFor (grid_over metals l p) (reserved n l net p instances) routes (net_count n) k) (net_nodes n l net p instances k)
+      (subst (λ v. grid.IsTreeOver (IsFreeFor (grid_over metals l p) (reserved n l net p instances) routes (net_count n) k) (net_nodes n l net p instances k) v) e (ok.trees k lt)) stay x h
 
   module _ (whole : AreWhole (net_nodes n l net p instances) (net_count n) routes) where
     point_in : (k : ℕ) → k < net_count n → (x : Node) → In x (net_nodes n l net p instances k) → (t : Tree) × (routes k ≡ Some t) × In x (tree_nodes (routes k))
-    point_in k lt x h = whole_points (IsFree (grid_over metals l p) (reserved n l net p instances) routes (net_count n) k) (net_nodes n l net p instances k) (routes k) (ok.trees k lt) (whole k lt) x h
+    point_in k lt x h = whole_points (IsFreeFor (grid_over metals l p) (reserved n l net p instances) routes (net_count n) k) (net_nodes n l net p instances k) (routes k) (ok.trees k lt) (whole k lt) x h
 
     between_points : (k : ℕ) → k < net_count n → (x y : Node) → In x (net_nodes n l net p instances k) → In y (net_nodes n l net p instances k) → IsWay (routes_of l p routes w) k (as_node x) (as_node y)
     between_points k lt x y hx hy =

@@ -18,12 +18,16 @@ use Rattle.net_drawing.proofs.Coding.{In_list, In_member}
 use Rattle.net_drawing.proofs.Cells.{In_first, In_last}
 use Rattle.maze_geom.specs.Maze as maze
 use Rattle.maze_geom.specs.Maze.{IsWired, IsOnNodes, IsVia, between, at_pin}
-use Rattle.maze_drawing.specs.Grid.{Node, Routes, is_level, ahead, above, tree_nodes, IsFree}
+use Rattle.grid_core.specs.declared.grid.Node.{Node}
+use Rattle.grid_core.specs.Grid.{is_level, ahead, above}
+use Rattle.grid_core.specs.Routes.{NetRoutes, tree_nodes}
+use Rattle.grid_core.specs.Trees.{IsFreeFor}
 use Rattle.maze_drawing.specs.Wiring.{Wire, Wiring, HasVia, in_tree, at_terminal}
 use Rattle.maze_drawing.specs.Points.{grid_over, terminal_nodes, port_node, port_nodes, net_nodes, reserved, has_two, via_nodes}
 use Rattle.maze_drawing.specs.Law.{IsRouted}
 use Rattle.net_drawing.proofs.Block.{port_below}
-use Rattle.maze_drawing.proofs.Rows.{In_either}
+use Rattle.grid_core.proofs.Lists.{In_either}
+
 use Rattle.maze_drawing.proofs.Stands.{put_of, block_at, columns_are}
 use Rattle.maze_drawing.proofs.Nodes.{as_node, as_wire, routes_of}
 use Rattle.maze_drawing.proofs.Trees.{neighbours_in, run_in, tree_free}
@@ -76,15 +80,15 @@ bounds_by false a r j s le = (omega arith, omega arith, omega arith, omega arith
 pub bounds_of : (p : Node) (j s : ℕ) → j ≤ s → (p.column ≤ (ahead p j).column) × ((ahead p j).column ≤ (ahead p s).column) × (p.row ≤ (ahead p j).row) × ((ahead p j).row ≤ (ahead p s).row)
 bounds_of p j s le = bounds_by (is_level p.metal) p.column p.row j s le
 
-module _ (n : AbstractNetlist) (l : Library) (net : Numbering) (p : Placement) (instances : List Instance) (metals : ℕ) (routes : Routes) (w : Wiring) (ok : IsRouted n l net p instances metals routes w) where
+module _ (n : AbstractNetlist) (l : Library) (net : Numbering) (p : Placement) (instances : List Instance) (metals : ℕ) (routes : NetRoutes) (w : Wiring) (ok : IsRouted n l net p instances metals routes w) where
   abbrev R : maze.Routes
   R = routes_of l p routes w
 
   abbrev Free : ℕ → Node → Type 0
-  Free k = IsFree (grid_over metals l p) (reserved n l net p instances) routes (net_count n) k
+  Free k = IsFreeFor (grid_over metals l p) (reserved n l net p instances) routes (net_count n) k
 
-  pub free_in : (k : ℕ) → k < net_count n → (x : Node) → In x (tree_nodes (routes k)) → IsFree (grid_over metals l p) (reserved n l net p instances) routes (net_count n) k x
-  free_in k lt x h = tree_free (IsFree (grid_over metals l p) (reserved n l net p instances) routes (net_count n) k) (net_nodes n l net p instances k) (routes k) (ok.trees k lt) x h
+  pub free_in : (k : ℕ) → k < net_count n → (x : Node) → In x (tree_nodes (routes k)) → IsFreeFor (grid_over metals l p) (reserved n l net p instances) routes (net_count n) k x
+  free_in k lt x h = tree_free (IsFreeFor (grid_over metals l p) (reserved n l net p instances) routes (net_count n) k) (net_nodes n l net p instances k) (routes k) (ok.trees k lt) x h
 
   port_is : (k : ℕ) (x : Node) → In x (port_nodes l p k) → (k < length p.ports) × (x ≡ port_node l p k)
   port_is k x h = let a = if_cases (nat_lt k (length p.ports)) (port_node l p k ∷ []) x h in (is_less k (length p.ports) a.0, only x (port_node l p k) a.1)

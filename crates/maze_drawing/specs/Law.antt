@@ -15,7 +15,9 @@ use Rattle.net_meaning.specs.Breaches.{Breaches}
 use Rattle.ocp_rows.specs.Placement.{Placement, IsPlaced, standing_rows, supplies_to, supply_ports, placed_ports, block_width, block_box, column_x, row_y, net_count}
 use Rattle.net_drawing.specs.Shown.{ShowsNetlist, KeepsNetlist, HasNoTies}
 use Rattle.net_drawing.specs.Drawing.{Numbering, HasNumberedNets}
-use Rattle.maze_drawing.specs.Grid.{Node, Tree, Routes, AreRoutes, AreWhole}
+use Rattle.grid_core.specs.declared.grid.Node.{Node}
+use Rattle.grid_core.specs.Routes.{Tree, NetRoutes}
+use Rattle.grid_core.specs.Trees.{AreRoutes, AreWhole}
 use Rattle.maze_drawing.specs.Wiring.{NetWiring, Wiring, IsWiringOf, net_items}
 use Rattle.maze_drawing.specs.Points.{grid_over, net_nodes, reserved, via_nodes}
 
@@ -48,7 +50,7 @@ part_items n l net p instances w = maze_items n l p instances w ++ marks n l net
 -- The netlist is placed in rows, its nets have trees on the grid over them, each on nodes that are free for it, and the wiring is
 -- that of the trees.
 pub record IsRouted (n : AbstractNetlist) (l : Library) (net : Numbering) (p : Placement) (instances : List Instance) (metals : ℕ)
-    (routes : Routes) (w : Wiring) : Type 0 where
+    (routes : NetRoutes) (w : Wiring) : Type 0 where
   pub nets : HasNumberedNets n l net p.ports
   pub no_tracks : p.tracks ≡ false
   pub rows : 1 ≤ length p.rows
@@ -65,7 +67,7 @@ pub record IsRouted (n : AbstractNetlist) (l : Library) (net : Numbering) (p : P
 -- The drawing of routes, complete or not, joins no two classes, breaks no rule, and is that of the placement.
 abbrev pub RoutesKeepNets : Type 0
 RoutesKeepNets =
-    (n : AbstractNetlist) (l : Library) (net : Numbering) (p : Placement) (instances : List Instance) (metals : ℕ) (routes : Routes) (w : Wiring)
+    (n : AbstractNetlist) (l : Library) (net : Numbering) (p : Placement) (instances : List Instance) (metals : ℕ) (routes : NetRoutes) (w : Wiring)
     → IsRouted n l net p instances metals routes w
     → KeepsNetlist (maze_items n l p instances w) l n × Breaches (maze_items n l p instances w) l []
     × IsPlaced (block_box n l p) (maze_items n l p instances w) n l p
@@ -73,21 +75,21 @@ RoutesKeepNets =
 -- With marks at the points of nets it joins no two classes and breaks no rule either.
 abbrev pub MarkedRoutesKeepNets : Type 0
 MarkedRoutesKeepNets =
-    (n : AbstractNetlist) (l : Library) (net : Numbering) (p : Placement) (instances : List Instance) (metals : ℕ) (routes : Routes) (w : Wiring)
+    (n : AbstractNetlist) (l : Library) (net : Numbering) (p : Placement) (instances : List Instance) (metals : ℕ) (routes : NetRoutes) (w : Wiring)
     → IsRouted n l net p instances metals routes w
     → KeepsNetlist (part_items n l net p instances w) l n × Breaches (part_items n l net p instances w) l []
 
 -- That of complete routes shows the netlist.
 abbrev pub RoutesShowNetlist : Type 0
 RoutesShowNetlist =
-    (n : AbstractNetlist) (l : Library) (net : Numbering) (p : Placement) (instances : List Instance) (metals : ℕ) (routes : Routes) (w : Wiring)
+    (n : AbstractNetlist) (l : Library) (net : Numbering) (p : Placement) (instances : List Instance) (metals : ℕ) (routes : NetRoutes) (w : Wiring)
     → IsRouted n l net p instances metals routes w → AreWhole (net_nodes n l net p instances) (net_count n) routes
     → ShowsNetlist (maze_items n l p instances w) l n
 
 -- So they give it, where no signal pin is tied to a supply.
 abbrev pub RoutesGiveNetlist : Type 0
 RoutesGiveNetlist =
-    (n : AbstractNetlist) (l : Library) (net : Numbering) (p : Placement) (instances : List Instance) (metals : ℕ) (routes : Routes) (w : Wiring)
+    (n : AbstractNetlist) (l : Library) (net : Numbering) (p : Placement) (instances : List Instance) (metals : ℕ) (routes : NetRoutes) (w : Wiring)
     → IsRouted n l net p instances metals routes w → AreWhole (net_nodes n l net p instances) (net_count n) routes → HasNoTies n l
     → Extracts (maze_items n l p instances w) l n
 

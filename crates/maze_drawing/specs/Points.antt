@@ -12,7 +12,9 @@ use Rattle.net_meaning.specs.Netlist.{AbstractNetlist, pin_of}
 use Rattle.ocp_rows.specs.Placement.{Placement, natural, block_columns, port_column, port_row}
 use Rattle.ocp_rows.specs.Length.{instance_point}
 use Rattle.net_drawing.specs.Drawing.{Numbering, on_net}
-use Rattle.maze_drawing.specs.Grid.{Node, Grid, above}
+use Rattle.grid_core.specs.declared.grid.Grid.{Grid}
+use Rattle.grid_core.specs.declared.grid.Node.{Node}
+use Rattle.grid_core.specs.Grid.{above}
 
 -- The grid over a block: columns from where cells begin to the end of the widest row, and rows from the block's foot to that of the
 -- ports.

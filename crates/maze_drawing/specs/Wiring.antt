@@ -10,7 +10,9 @@ use Rattle.sym_geom.specs.declared.item.Contact.{Contact}
 use Rattle.sym_geom.specs.declared.item.Contact.TheVariants.{Via1, Via2, Via3, Via4, Via5}
 use Rattle.sym_geom.specs.declared.item.Item.{Item}
 use Rattle.ocp_rows.specs.Placement.{level_wire, upright_wire, contact_at, column_x, row_y}
-use Rattle.maze_drawing.specs.Grid.{Node, Tree, is_level, ahead, above, tree_paths, tree_nodes}
+use Rattle.grid_core.specs.declared.grid.Node.{Node}
+use Rattle.grid_core.specs.Grid.{is_level, ahead, above}
+use Rattle.grid_core.specs.Routes.{Tree, tree_paths, tree_nodes}
 
 -- p and q stand side by side on the path
 pub data AreBeside (p q : Node) : List Node → Type 0 where
