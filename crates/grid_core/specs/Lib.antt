@@ -3,3 +3,4 @@ pub mod Numbers
 pub mod Owners
 pub mod Routes
 pub mod Trees
+pub mod Shown

@@ -4,7 +4,9 @@
 mod grid;
 mod law;
 mod occupied;
+mod routes;
 
 pub use grid::{Grid, Node, node_at, number_of};
 pub use law::routes_grow;
 pub use occupied::{NOBODY, Occupied};
+pub use routes::{NetTree, Routes};
